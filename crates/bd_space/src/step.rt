@@ -1,0 +1,163 @@
+//! Requests and steps, their answers, and records of histories.
+
+use crate::bytes::{Bytes, Notes};
+use bd_uapi::{Cause, Command, Fault, Note};
+
+/// An identity: the place of the step that made a thing in the history, and which of that step's things of its
+/// kind it is, from 0.
+#[derive(Clone, Copy, Debug, PartialEq, Eq)]
+pub struct ObjectId {
+    /// The place of the step, from 0.
+    pub place: u32,
+    /// Which of that step's objects it is, from 0.
+    pub index: u32,
+}
+
+/// What a transaction or reply carries, cut from the area of its write.
+#[derive(Drop, Debug)]
+pub struct Parcel {
+    /// The data.
+    pub bytes: Bytes,
+    /// The offsets of the objects in the data, 8 bytes each.
+    pub offsets: Bytes,
+}
+
+/// What a seat asks of the driver.
+#[derive(Drop, Debug)]
+pub enum Request {
+    /// Opens a process with one thread, the seat's.
+    Open {
+        /// Its pid, 1 to 2147483647.
+        pid: u32,
+        /// Its effective user id.
+        euid: u32,
+        /// The size of its window in bytes, a multiple of 4096 from 4096 to 4194304.
+        window: u32,
+    },
+    /// Makes the seat a further thread of a live process.
+    Attach {
+        /// The process's pid.
+        pid: u32,
+    },
+    /// Makes the seat's process the context manager.
+    SetManager,
+    /// Runs the commands of a stream.
+    Write {
+        /// The commands, one after the other, at most 4096 bytes.
+        stream: Bytes,
+        /// The bytes that the commands' parcels are cut from.
+        area: Bytes,
+    },
+    /// Reads returns.
+    Read {
+        /// The greatest length of the stream of returns, at least 72.
+        limit: u32,
+    },
+    /// Ends the seat's thread.
+    ExitThread,
+    /// Ends the seat's process with all its threads.
+    ExitProcess,
+}
+
+/// Why a write stopped before the end of its stream.
+#[derive(Clone, Copy, Debug, PartialEq, Eq)]
+pub enum Stop {
+    /// The next command couldn't be read, or memory or the history ended.
+    Fault(Fault),
+    /// The last command run was refused.
+    Cause(Cause),
+}
+
+/// The answer to a request.
+#[derive(Drop, Debug)]
+pub enum Answer {
+    /// The process is open, or the thread attached.
+    Opened,
+    /// The process is the context manager.
+    Set,
+    /// The thread or the process has ended.
+    Exited,
+    /// Commands were run.
+    Wrote {
+        /// The bytes of the commands that were run, a refused one among them.
+        consumed: u32,
+        /// The commands that changed nothing, and why.
+        notes: Notes,
+        /// Why it stopped, if before the end of the stream.
+        stop: Option<Stop>,
+    },
+    /// What was read.
+    Got {
+        /// The returns' bytes.
+        stream: Bytes,
+        /// The data of the transaction or reply among them, if any.
+        bytes: Bytes,
+        /// Its offsets.
+        offsets: Bytes,
+    },
+    /// The request was refused.
+    Refused(Fault),
+}
+
+/// One step of a history.
+#[derive(Drop, Debug)]
+pub enum Step {
+    /// As the request of that name.
+    Open { pid: u32, euid: u32, window: u32 },
+    /// As the request of that name.
+    Attach { pid: u32 },
+    /// As the request of that name.
+    SetManager,
+    /// One command of a write.
+    Command {
+        /// The command.
+        command: Command,
+        /// The parcel of a transaction or reply, if its area has it.
+        parcel: Option<Parcel>,
+    },
+    /// As the request of that name.
+    Read { limit: u32 },
+    /// As the request of that name.
+    ExitThread,
+    /// As the request of that name.
+    ExitProcess,
+}
+
+/// The answer to a step.
+#[derive(Drop, Debug)]
+pub enum StepAnswer {
+    /// The process is open, or the thread attached.
+    Opened,
+    /// The process is the context manager.
+    Set,
+    /// The thread or the process has ended.
+    Exited,
+    /// The command was run.
+    Accepted,
+    /// The command changed nothing.
+    Noted(Note),
+    /// The command was refused, and what follows it isn't run.
+    Stopped(Cause),
+    /// What was read.
+    Got {
+        /// The returns' bytes.
+        stream: Bytes,
+        /// The data of the transaction or reply among them, if any.
+        bytes: Bytes,
+        /// Its offsets.
+        offsets: Bytes,
+    },
+    /// The step was refused, and changed nothing.
+    Refused(Fault),
+}
+
+/// One step of a history, by a seat, with its answer.
+#[derive(Drop, Debug)]
+pub struct Entry {
+    /// The seat.
+    pub seat: u32,
+    /// What it did.
+    pub step: Step,
+    /// What came back.
+    pub answer: StepAnswer,
+}
