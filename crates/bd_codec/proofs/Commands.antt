@@ -14,7 +14,7 @@ use Rattle.bd_uapi.specs.declared.fault.Fault.{Fault}
 use Rattle.bd_uapi.specs.declared.fault.Fault.TheVariants.{ShortCommand, UnknownCommand, RefusedCommand}
 use Rattle.bd_uapi.specs.Bytes.{word, long, number}
 use Rattle.bd_uapi.specs.Records.{record_bytes, IsRecord}
-use Rattle.bd_codec.specs.Spelling.{code_of, payload_of, spelling, IsCommand, Found}
+use Rattle.bd_codec.specs.Spelling.{command_code, command_payload, command_bytes, IsCommand, Found}
 use Rattle.bd_codec.specs.Faults.{is_in, command_codes, refused_codes, payload_size, fault_by, fault_of}
 use Rattle.bd_uapi.specs.Bytes.{word_at, long_at}
 use Rattle.bd_codec.specs.Reading.{record_at, sized, Row, rows, row_in, by_row, with_code, command_at}
@@ -63,7 +63,7 @@ record_fits bytes h = record {
 
 -- what a row reads is spelled so
 record Right (row : Row) : Type 0 where
-  pub spelled : (bytes : List ℕ) → IsBytes bytes → row.size ≤ length bytes → word_at 0 bytes ≡ row.code → spelling (row.value bytes) ≡ take row.size bytes
+  pub spelled : (bytes : List ℕ) → IsBytes bytes → row.size ≤ length bytes → word_at 0 bytes ≡ row.code → command_bytes (row.value bytes) ≡ take row.size bytes
   pub fits : (bytes : List ℕ) → IsBytes bytes → IsCommand (row.value bytes)
 
 -- the code, and then the payload
@@ -165,7 +165,7 @@ long_at_8 : (code m n : ℕ) (rest : List ℕ) → n < 2 ^ 64 → long_at 8 (wor
 unfolding long_at
 long_at_8 code m n rest lt = long_again n rest lt
 
-code_fits : (c : Command) → code_of c < 2 ^ 32
+code_fits : (c : Command) → command_code c < 2 ^ 32
 code_fits (Transaction t) = lit< tt
 code_fits (Reply t) = lit< tt
 code_fits (FreeBuffer p) = lit< tt
@@ -185,28 +185,28 @@ code_fits (DeadBinderDone p) = lit< tt
 sized_again : {A : Type 0} (n : ℕ) (bytes : List ℕ) (x y : A) → n ≤ length bytes → x ≡ y → sized n bytes x ≡ Ok y
 sized_again n bytes x y le e = rw (le-ltb _ _ le, e) refl
 
-with_code_again : (c : Command) (rest : List ℕ) → IsCommand c → with_code (code_of c) (spelling c ++ rest) ≡ Ok (c, length (spelling c))
+with_code_again : (c : Command) (rest : List ℕ) → IsCommand c → with_code (command_code c) (command_bytes c ++ rest) ≡ Ok (c, length (command_bytes c))
 unfolding with_code
-with_code_again (Transaction t) rest fits = sized_again 68 (spelling (Transaction t) ++ rest) _ _ (omega arith) (ap (λ t. (Transaction t, 68)) (record_again 0x40406300 t rest fits))
-with_code_again (Reply t) rest fits = sized_again 68 (spelling (Reply t) ++ rest) _ _ (omega arith) (ap (λ t. (Reply t, 68)) (record_again 0x40406301 t rest fits))
-with_code_again (FreeBuffer p) rest fits = sized_again 12 (spelling (FreeBuffer p) ++ rest) _ _ (omega arith) (ap (λ p. (FreeBuffer p, 12)) (long_at_again 0x40086303 p rest fits))
-with_code_again (Increfs n) rest fits = sized_again 8 (spelling (Increfs n) ++ rest) _ _ (omega arith) (ap (λ n. (Increfs n, 8)) (word_at_again 0x40046304 n rest fits))
-with_code_again (Acquire n) rest fits = sized_again 8 (spelling (Acquire n) ++ rest) _ _ (omega arith) (ap (λ n. (Acquire n, 8)) (word_at_again 0x40046305 n rest fits))
-with_code_again (Release n) rest fits = sized_again 8 (spelling (Release n) ++ rest) _ _ (omega arith) (ap (λ n. (Release n, 8)) (word_at_again 0x40046306 n rest fits))
-with_code_again (Decrefs n) rest fits = sized_again 8 (spelling (Decrefs n) ++ rest) _ _ (omega arith) (ap (λ n. (Decrefs n, 8)) (word_at_again 0x40046307 n rest fits))
-with_code_again (IncrefsDone p q) rest fits = sized_again 20 (spelling (IncrefsDone p q) ++ rest) _ _ (omega arith) (rw (long_at_again 0x40106308 p (long q ++ rest) fits.0, long_at_12 0x40106308 p q rest fits.1) refl)
-with_code_again (AcquireDone p q) rest fits = sized_again 20 (spelling (AcquireDone p q) ++ rest) _ _ (omega arith) (rw (long_at_again 0x40106309 p (long q ++ rest) fits.0, long_at_12 0x40106309 p q rest fits.1) refl)
-with_code_again EnterLooper rest fits = sized_again 4 (spelling EnterLooper ++ rest) _ _ (omega arith) (refl)
-with_code_again ExitLooper rest fits = sized_again 4 (spelling ExitLooper ++ rest) _ _ (omega arith) (refl)
-with_code_again (RequestDeathNotification n q) rest fits = sized_again 16 (spelling (RequestDeathNotification n q) ++ rest) _ _ (omega arith) (rw (word_at_again 0x400c630e n (long q ++ rest) fits.0, long_at_8 0x400c630e n q rest fits.1) refl)
-with_code_again (ClearDeathNotification n q) rest fits = sized_again 16 (spelling (ClearDeathNotification n q) ++ rest) _ _ (omega arith) (rw (word_at_again 0x400c630f n (long q ++ rest) fits.0, long_at_8 0x400c630f n q rest fits.1) refl)
-with_code_again (DeadBinderDone p) rest fits = sized_again 12 (spelling (DeadBinderDone p) ++ rest) _ _ (omega arith) (ap (λ p. (DeadBinderDone p, 12)) (long_at_again 0x40086310 p rest fits))
+with_code_again (Transaction t) rest fits = sized_again 68 (command_bytes (Transaction t) ++ rest) _ _ (omega arith) (ap (λ t. (Transaction t, 68)) (record_again 0x40406300 t rest fits))
+with_code_again (Reply t) rest fits = sized_again 68 (command_bytes (Reply t) ++ rest) _ _ (omega arith) (ap (λ t. (Reply t, 68)) (record_again 0x40406301 t rest fits))
+with_code_again (FreeBuffer p) rest fits = sized_again 12 (command_bytes (FreeBuffer p) ++ rest) _ _ (omega arith) (ap (λ p. (FreeBuffer p, 12)) (long_at_again 0x40086303 p rest fits))
+with_code_again (Increfs n) rest fits = sized_again 8 (command_bytes (Increfs n) ++ rest) _ _ (omega arith) (ap (λ n. (Increfs n, 8)) (word_at_again 0x40046304 n rest fits))
+with_code_again (Acquire n) rest fits = sized_again 8 (command_bytes (Acquire n) ++ rest) _ _ (omega arith) (ap (λ n. (Acquire n, 8)) (word_at_again 0x40046305 n rest fits))
+with_code_again (Release n) rest fits = sized_again 8 (command_bytes (Release n) ++ rest) _ _ (omega arith) (ap (λ n. (Release n, 8)) (word_at_again 0x40046306 n rest fits))
+with_code_again (Decrefs n) rest fits = sized_again 8 (command_bytes (Decrefs n) ++ rest) _ _ (omega arith) (ap (λ n. (Decrefs n, 8)) (word_at_again 0x40046307 n rest fits))
+with_code_again (IncrefsDone p q) rest fits = sized_again 20 (command_bytes (IncrefsDone p q) ++ rest) _ _ (omega arith) (rw (long_at_again 0x40106308 p (long q ++ rest) fits.0, long_at_12 0x40106308 p q rest fits.1) refl)
+with_code_again (AcquireDone p q) rest fits = sized_again 20 (command_bytes (AcquireDone p q) ++ rest) _ _ (omega arith) (rw (long_at_again 0x40106309 p (long q ++ rest) fits.0, long_at_12 0x40106309 p q rest fits.1) refl)
+with_code_again EnterLooper rest fits = sized_again 4 (command_bytes EnterLooper ++ rest) _ _ (omega arith) (refl)
+with_code_again ExitLooper rest fits = sized_again 4 (command_bytes ExitLooper ++ rest) _ _ (omega arith) (refl)
+with_code_again (RequestDeathNotification n q) rest fits = sized_again 16 (command_bytes (RequestDeathNotification n q) ++ rest) _ _ (omega arith) (rw (word_at_again 0x400c630e n (long q ++ rest) fits.0, long_at_8 0x400c630e n q rest fits.1) refl)
+with_code_again (ClearDeathNotification n q) rest fits = sized_again 16 (command_bytes (ClearDeathNotification n q) ++ rest) _ _ (omega arith) (rw (word_at_again 0x400c630f n (long q ++ rest) fits.0, long_at_8 0x400c630f n q rest fits.1) refl)
+with_code_again (DeadBinderDone p) rest fits = sized_again 12 (command_bytes (DeadBinderDone p) ++ rest) _ _ (omega arith) (ap (λ p. (DeadBinderDone p, 12)) (long_at_again 0x40086310 p rest fits))
 
-pub command_again : (c : Command) (rest : List ℕ) → IsCommand c → command_at (spelling c ++ rest) ≡ Ok (c, length (spelling c))
+pub command_again : (c : Command) (rest : List ℕ) → IsCommand c → command_at (command_bytes c ++ rest) ≡ Ok (c, length (command_bytes c))
 unfolding word_at
 command_again c rest fits =
-    let short : ltb (length (spelling c ++ rest)) 4 ≡ false = le-ltb _ _ (omega arith) in
-    rw (short, word_again (code_of c) (payload_of c ++ rest) (code_fits c)) (with_code_again c rest fits)
+    let short : ltb (length (command_bytes c ++ rest)) 4 ≡ false = le-ltb _ _ (omega arith) in
+    rw (short, word_again (command_code c) (command_payload c ++ rest) (code_fits c)) (with_code_again c rest fits)
 
 -- ---- faults
 
@@ -268,10 +268,10 @@ ok_is : (x y : Command × ℕ) → done x ≡ done y → x ≡ y
 ok_is x y e = cc
 
 -- no spelling begins another
-pub one_spelling : (c d : Command) (x y : List ℕ) → IsCommand c → IsCommand d → spelling c ++ x ≡ spelling d ++ y → (c ≡ d) × (x ≡ y)
+pub one_spelling : (c d : Command) (x y : List ℕ) → IsCommand c → IsCommand d → command_bytes c ++ x ≡ command_bytes d ++ y → (c ≡ d) × (x ≡ y)
 one_spelling c d x y fc fd e =
-    let same : c ≡ d = ap (λ (p : Command × ℕ). p.0) (ok_is (c, length (spelling c)) (d, length (spelling d)) (sym (command_again c x fc) ∙ ap command_at e ∙ command_again d y fd)) in
-    (same, append_cancel_left (spelling d) x y (ap (λ (k : Command). spelling k ++ x) (sym same) ∙ e))
+    let same : c ≡ d = ap (λ (p : Command × ℕ). p.0) (ok_is (c, length (command_bytes c)) (d, length (command_bytes d)) (sym (command_again c x fc) ∙ ap command_at e ∙ command_again d y fd)) in
+    (same, append_cancel_left (command_bytes d) x y (ap (λ (k : Command). command_bytes k ++ x) (sym same) ∙ e))
 
 -- what a function that reads so returns
 pub found_in : (bytes : List ℕ) (r : Result (Command × ℕ) Fault) → IsBytes bytes → r ≡ command_at bytes → IfOk r (λ x. Found bytes x.0 x.1)

@@ -2,7 +2,7 @@
 
 ghost use Rattle.std.specs.Prelude.{◌≡◌, ◌≤◌, ◌+◌, ◌++◌, ℕ, List, length, take, Ok, Some, None, IfOk, MatchResult};
 ghost use Rattle.bd_uapi.specs.declared.command.Command.{Command};
-ghost use Rattle.bd_codec.specs.Spelling.{spelling, IsCommand, Found};
+ghost use Rattle.bd_codec.specs.Spelling.{command_bytes, IsCommand, Found};
 ghost use Rattle.bd_codec.specs.Faults.{fault_of};
 ghost use Rattle.bd_uapi.specs.Bytes.{word_at, long_at};
 ghost use Rattle.bd_codec.specs.Reading.{record_at, sized, command_at, with_code};
@@ -111,8 +111,8 @@ pub fn read_command(bytes: &[u8]) -> Result<(Command, usize), Fault>
     // The first bytes are the command's spelling.
     ensures found { IfOk result (λ r. Found bytes.now r.0 r.1) }
     // A command whose spelling begins the bytes is read, so there is at most one.
-    ensures only { (c : Command) (rest : List ℕ) → IsCommand c → bytes.now ≡ spelling c ++ rest
-        → result ≡ Ok (c, length (spelling c)) }
+    ensures only { (c : Command) (rest : List ℕ) → IsCommand c → bytes.now ≡ command_bytes c ++ rest
+        → result ≡ Ok (c, length (command_bytes c)) }
     // Which fault it is.
     ensures fault { MatchResult result (λ _. fault_of bytes.now ≡ None) (λ f. fault_of bytes.now ≡ Some f) }
 {
@@ -121,6 +121,6 @@ pub fn read_command(bytes: &[u8]) -> Result<(Command, usize), Fault>
 
 /// No spelling begins another.
 pub fn one_spelling()
-    ensures { (c d : Command) (x y : List ℕ) → IsCommand c → IsCommand d → spelling c ++ x ≡ spelling d ++ y
+    ensures { (c d : Command) (x y : List ℕ) → IsCommand c → IsCommand d → command_bytes c ++ x ≡ command_bytes d ++ y
         → (c ≡ d) × (x ≡ y) }
 {}

@@ -2,7 +2,7 @@
 
 ghost use Rattle.std.specs.Prelude.{◌≡◌, ◌≤◌, ◌+◌, ◌++◌, length, take, Ok, Err, MatchResult, OnOk, OnErr, IfErr};
 ghost use Rattle.bd_uapi.specs.declared.fault.Fault.TheVariants.{NoMemory};
-ghost use Rattle.bd_codec.specs.Spelling.{spelling};
+ghost use Rattle.bd_codec.specs.Spelling.{command_bytes};
 
 use crate::fields::{put_record, put_u32, put_u64};
 use bd_uapi::codes::*;
@@ -14,7 +14,7 @@ const LONGEST: usize = 68;
 fn spell(c: &Command, out: &mut [u8]) -> usize
     requires { 68 ≤ length out.old }
     ensures within { result ≤ 68 }
-    ensures spelled { take result out.new ≡ spelling c.now }
+    ensures spelled { take result out.new ≡ command_bytes c.now }
 {
     match c {
         Command::Transaction(t) => {
@@ -94,7 +94,7 @@ fn spell(c: &Command, out: &mut [u8]) -> usize
 
 /// Appends the command's spelling. An `Err` is want of memory, and appends nothing.
 pub fn write_command(c: &Command, out: &mut Vec<u8>) -> Result<(), Fault>
-    ensures ok { OnOk result (out.new.items ≡ out.old.items ++ spelling c.now) }
+    ensures ok { OnOk result (out.new.items ≡ out.old.items ++ command_bytes c.now) }
     ensures err { OnErr result (out.new.items ≡ out.old.items) }
     ensures memory { IfErr result (λ f. f ≡ NoMemory) }
 {
