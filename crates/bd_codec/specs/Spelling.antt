@@ -41,6 +41,7 @@ command_payload (RequestDeathNotification n cookie) = word n ++ long cookie
 command_payload (ClearDeathNotification n cookie) = word n ++ long cookie
 command_payload (DeadBinderDone cookie) = long cookie
 
+-- how a command is spelled
 abbrev pub command_bytes : Command → List ℕ
 command_bytes c = word (command_code c) ++ command_payload c
 
@@ -110,8 +111,8 @@ IsReturn (returned.DeadBinder cookie) = cookie < 2 ^ 64
 IsReturn (returned.ClearDeathNotificationDone cookie) = cookie < 2 ^ 64
 IsReturn returned.FailedReply = Unit {0}
 
--- the first n bytes are the spelling of a command
-pub record Found (bytes : List ℕ) (c : Command) (n : ℕ) : Type 0 where
+-- the first n bytes are the spelling of x
+pub record Found {A : Type 0} (spelling : A → List ℕ) (IsValue : A → Type 0) (bytes : List ℕ) (x : A) (n : ℕ) : Type 0 where
   pub within : n ≤ length bytes
-  pub spelled : take n bytes ≡ command_bytes c
-  pub fits : IsCommand c
+  pub spelled : take n bytes ≡ spelling x
+  pub fits : IsValue x
