@@ -8,7 +8,7 @@ use Rattle.bd_uapi.specs.declared.fault.Fault.{Fault}
 use Rattle.bd_uapi.proofs.Pieces.{IsBytes}
 use Rattle.bd_codec.specs.Spelling.{command_code, command_payload, command_bytes, IsCommand, Found}
 use Rattle.bd_codec.specs.Faults.{refused_codes, command_fault}
-use Rattle.bd_codec.specs.Reading.{command_rows, command_of, command_at, sized}
+use Rattle.bd_codec.specs.Reading.{command_rows, command_of, command_at}
 use Rattle.bd_codec.proofs.Shapes.{Right, bare_right, record_right, handle_right, pointer_right, pointer_and_cookie_right, handle_and_cookie_right, bare_again, record_again, handle_again, pointer_again, pointer_and_cookie_again, handle_and_cookie_again}
 use Rattle.bd_codec.proofs.Tables.{found_in, code_again, apart, Says, Plain, table_says}
 

@@ -8,7 +8,7 @@ use Rattle.bd_uapi.specs.declared.fault.Fault.{Fault}
 use Rattle.bd_uapi.proofs.Pieces.{IsBytes}
 use Rattle.bd_codec.specs.Spelling.{return_code, return_payload, return_bytes, IsReturn, Found}
 use Rattle.bd_codec.specs.Faults.{return_fault}
-use Rattle.bd_codec.specs.Reading.{return_rows, return_of, return_at, sized}
+use Rattle.bd_codec.specs.Reading.{return_rows, return_of, return_at}
 use Rattle.bd_codec.proofs.Shapes.{Right, bare_right, record_right, pointer_right, pointer_and_cookie_right, bare_again, record_again, pointer_again, pointer_and_cookie_again}
 use Rattle.bd_codec.proofs.Tables.{found_in, code_again, apart, Says, Plain, table_says}
 
