@@ -1,6 +1,6 @@
 //! Reading and writing commands.
 
-ghost use Rattle.std.specs.Prelude.{◌≡◌, ◌≤◌, ◌++◌, ℕ, List, length, take, Ok, Some, None, IfOk, MatchResult, OnOk, OnErr, IfErr};
+ghost use Rattle.std.specs.Prelude.{◌≡◌, ◌≤◌, ◌<◌, ◌+◌, ◌++◌, ℕ, List, length, take, Ok, Some, None, IfOk, MatchResult, OnOk, OnErr, IfErr, vec_len, vec_capacity};
 ghost use Rattle.bd_uapi.specs.declared.command.Command.{Command};
 ghost use Rattle.bd_uapi.specs.declared.fault.Fault.TheVariants.{NoMemory};
 ghost use Rattle.bd_codec.specs.Spelling.{command_bytes, IsCommand, Found};
@@ -130,6 +130,8 @@ pub fn write_command(c: &Command, out: &mut Vec<u8>) -> Result<(), Fault>
     ensures ok { OnOk result (out.new.items ≡ out.old.items ++ command_bytes c.now) }
     ensures err { OnErr result (out.new.items ≡ out.old.items) }
     ensures memory { IfErr result (λ f. f ≡ NoMemory) }
+    // Memory was asked for: there was no room.
+    ensures grown { OnErr result (vec_capacity out.old < vec_len out.old + length (command_bytes c.now)) }
 {
     let mut buffer = [0u8; LONGEST];
     let len = spell(c, &mut buffer);

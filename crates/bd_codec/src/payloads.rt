@@ -1,6 +1,6 @@
 //! The payloads of commands and returns, read and written behind a code.
 
-ghost use Rattle.std.specs.Prelude.{◌≡◌, ◌≤◌, ◌+◌, ◌++◌, length, take, OnOk, OnErr, IfErr, vec_len, vec_capacity};
+ghost use Rattle.std.specs.Prelude.{◌≡◌, ◌≤◌, ◌<◌, ◌+◌, ◌++◌, length, take, OnOk, OnErr, IfErr, vec_len, vec_capacity};
 ghost use Rattle.bd_uapi.specs.Bytes.{word, long, word_at, long_at};
 ghost use Rattle.bd_uapi.specs.Records.{record_bytes};
 ghost use Rattle.bd_uapi.specs.declared.fault.Fault.TheVariants.{NoMemory};
@@ -125,6 +125,7 @@ pub fn append(bytes: &[u8], out: &mut Vec<u8>) -> Result<(), Fault>
     ensures ok { OnOk result (out.new.items ≡ out.old.items ++ bytes.now) }
     ensures err { OnErr result (out.new.items ≡ out.old.items) }
     ensures memory { IfErr result (λ f. f ≡ NoMemory) }
+    ensures grown { OnErr result (vec_capacity out.old < vec_len out.old + length bytes.now) }
 {
     match out.extend_from_slice(bytes) {
         Ok(()) => Ok(()),

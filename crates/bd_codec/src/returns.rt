@@ -1,6 +1,6 @@
 //! Reading and writing returns.
 
-ghost use Rattle.std.specs.Prelude.{◌≡◌, ◌≤◌, ◌+◌, ◌++◌, ℕ, List, length, take, Ok, Some, None, IfOk, MatchResult, OnOk, OnErr, IfErr, vec_len, vec_capacity};
+ghost use Rattle.std.specs.Prelude.{◌≡◌, ◌≤◌, ◌<◌, ◌+◌, ◌++◌, ℕ, List, length, take, Ok, Some, None, IfOk, MatchResult, OnOk, OnErr, IfErr, vec_len, vec_capacity};
 ghost use Rattle.bd_uapi.specs.declared.command.Return.{Return};
 ghost use Rattle.bd_uapi.specs.declared.fault.Fault.TheVariants.{NoMemory};
 ghost use Rattle.bd_codec.specs.Spelling.{return_bytes, IsReturn, Found};
@@ -122,6 +122,8 @@ pub fn write_return(r: &Return, out: &mut Vec<u8>) -> Result<(), Fault>
     ensures ok { OnOk result (out.new.items ≡ out.old.items ++ return_bytes r.now) }
     ensures err { OnErr result (out.new.items ≡ out.old.items) }
     ensures memory { IfErr result (λ f. f ≡ NoMemory) }
+    // Memory was asked for: there was no room.
+    ensures grown { OnErr result (vec_capacity out.old < vec_len out.old + length (return_bytes r.now)) }
 {
     let mut buffer = [0u8; LONGEST];
     let len = spell(r, &mut buffer);
