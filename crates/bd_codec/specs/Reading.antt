@@ -1,13 +1,15 @@
--- Reading a command, on lists of bytes.
+-- Reading a command or a return, on lists of bytes.
 use Rattle.std.specs.Prelude.{◌+◌, ℕ, List, [], ◌∷◌, length, Result, Ok, Err, nat_lt, ◌==◌, if◌then◌else◌, Option, Some, None}
 use Rattle.std.specs.Int.{w32, cast_signed}
 use Rattle.bd_uapi.specs.Bytes.{word_at, long_at}
-use Rattle.bd_codec.specs.Faults.{is_in, refused_codes}
 use Rattle.bd_uapi.specs.declared.command.TransactionData.{TransactionData}
 use Rattle.bd_uapi.specs.declared.command.Command.{Command}
-use Rattle.bd_uapi.specs.declared.command.Command.TheVariants.{Transaction, Reply, FreeBuffer, Increfs, Acquire, Release, Decrefs, IncrefsDone, AcquireDone, EnterLooper, ExitLooper, RequestDeathNotification, ClearDeathNotification, DeadBinderDone}
+use Rattle.bd_uapi.specs.declared.command.Command.TheVariants as command
+use Rattle.bd_uapi.specs.declared.command.Return.{Return}
+use Rattle.bd_uapi.specs.declared.command.Return.TheVariants as returned
 use Rattle.bd_uapi.specs.declared.fault.Fault.{Fault}
 use Rattle.bd_uapi.specs.declared.fault.Fault.TheVariants.{ShortCommand, UnknownCommand, RefusedCommand}
+use Rattle.bd_codec.specs.Faults.{is_in, refused_codes}
 
 -- the record that stands at a place
 unfoldable pub record_at : ℕ → List ℕ → TransactionData
@@ -28,41 +30,91 @@ record_at i bytes = record {
 abbrev pub sized : {A : Type 0} → ℕ → List ℕ → A → Result A Fault
 sized n bytes x = if nat_lt (length bytes) n then Err ShortCommand else Ok x
 
--- a row of the table of commands: its code, how long it is, and what it reads as
-pub record Row : Type 0 where
+-- a row of a table: a code, how long its spellings are, and what they read as
+pub record Row (A : Type 0) : Type 0 where
   pub code : ℕ
   pub size : ℕ
-  pub value : List ℕ → Command
+  pub value : List ℕ → A
 
-abbrev pub rows : List Row
-rows =
-    record { code = 0x40406300; size = 68; value = λ b. Transaction (record_at 4 b) }
-    ∷ record { code = 0x40406301; size = 68; value = λ b. Reply (record_at 4 b) }
-    ∷ record { code = 0x40086303; size = 12; value = λ b. FreeBuffer (long_at 4 b) }
-    ∷ record { code = 0x40046304; size = 8; value = λ b. Increfs (word_at 4 b) }
-    ∷ record { code = 0x40046305; size = 8; value = λ b. Acquire (word_at 4 b) }
-    ∷ record { code = 0x40046306; size = 8; value = λ b. Release (word_at 4 b) }
-    ∷ record { code = 0x40046307; size = 8; value = λ b. Decrefs (word_at 4 b) }
-    ∷ record { code = 0x40106308; size = 20; value = λ b. IncrefsDone (long_at 4 b) (long_at 12 b) }
-    ∷ record { code = 0x40106309; size = 20; value = λ b. AcquireDone (long_at 4 b) (long_at 12 b) }
-    ∷ record { code = 0x0000630c; size = 4; value = λ b. EnterLooper }
-    ∷ record { code = 0x0000630d; size = 4; value = λ b. ExitLooper }
-    ∷ record { code = 0x400c630e; size = 16; value = λ b. RequestDeathNotification (word_at 4 b) (long_at 8 b) }
-    ∷ record { code = 0x400c630f; size = 16; value = λ b. ClearDeathNotification (word_at 4 b) (long_at 8 b) }
-    ∷ record { code = 0x40086310; size = 12; value = λ b. DeadBinderDone (long_at 4 b) }
+-- the rows by their payload
+abbrev pub bare_row : {A : Type 0} → ℕ → A → Row A
+bare_row code x = record { code = code; size = 4; value = λ bytes. x }
+
+abbrev pub record_row : {A : Type 0} → ℕ → (TransactionData → A) → Row A
+record_row code f = record { code = code; size = 68; value = λ bytes. f (record_at 4 bytes) }
+
+abbrev pub handle_row : {A : Type 0} → ℕ → (ℕ → A) → Row A
+handle_row code f = record { code = code; size = 8; value = λ bytes. f (word_at 4 bytes) }
+
+abbrev pub pointer_row : {A : Type 0} → ℕ → (ℕ → A) → Row A
+pointer_row code f = record { code = code; size = 12; value = λ bytes. f (long_at 4 bytes) }
+
+abbrev pub pointer_and_cookie_row : {A : Type 0} → ℕ → (ℕ → ℕ → A) → Row A
+pointer_and_cookie_row code f = record { code = code; size = 20; value = λ bytes. f (long_at 4 bytes) (long_at 12 bytes) }
+
+abbrev pub handle_and_cookie_row : {A : Type 0} → ℕ → (ℕ → ℕ → A) → Row A
+handle_and_cookie_row code f = record { code = code; size = 16; value = λ bytes. f (word_at 4 bytes) (long_at 8 bytes) }
+
+abbrev pub command_rows : List (Row Command)
+command_rows =
+    record_row 0x40406300 command.Transaction
+    ∷ record_row 0x40406301 command.Reply
+    ∷ pointer_row 0x40086303 command.FreeBuffer
+    ∷ handle_row 0x40046304 command.Increfs
+    ∷ handle_row 0x40046305 command.Acquire
+    ∷ handle_row 0x40046306 command.Release
+    ∷ handle_row 0x40046307 command.Decrefs
+    ∷ pointer_and_cookie_row 0x40106308 command.IncrefsDone
+    ∷ pointer_and_cookie_row 0x40106309 command.AcquireDone
+    ∷ bare_row 0x0000630c command.EnterLooper
+    ∷ bare_row 0x0000630d command.ExitLooper
+    ∷ handle_and_cookie_row 0x400c630e command.RequestDeathNotification
+    ∷ handle_and_cookie_row 0x400c630f command.ClearDeathNotification
+    ∷ pointer_row 0x40086310 command.DeadBinderDone
     ∷ []
 
-abbrev pub row_in : List Row → ℕ → Option Row
+abbrev pub return_rows : List (Row Return)
+return_rows =
+    record_row 0x80407202 returned.Transaction
+    ∷ record_row 0x80407203 returned.Reply
+    ∷ bare_row 0x00007205 returned.DeadReply
+    ∷ bare_row 0x00007206 returned.TransactionComplete
+    ∷ pointer_and_cookie_row 0x80107207 returned.Increfs
+    ∷ pointer_and_cookie_row 0x80107208 returned.Acquire
+    ∷ pointer_and_cookie_row 0x80107209 returned.Release
+    ∷ pointer_and_cookie_row 0x8010720a returned.Decrefs
+    ∷ bare_row 0x0000720c returned.Noop
+    ∷ pointer_row 0x8008720f returned.DeadBinder
+    ∷ pointer_row 0x80087210 returned.ClearDeathNotificationDone
+    ∷ bare_row 0x00007211 returned.FailedReply
+    ∷ []
+
+abbrev pub row_in : {A : Type 0} → List (Row A) → ℕ → Option (Row A)
 row_in [] code = None
 row_in (row ∷ rows) code = if code == row.code then Some row else row_in rows code
 
-abbrev pub by_row : Option Row → ℕ → List ℕ → Result (Command × ℕ) Fault
-by_row None code bytes = Err (if is_in refused_codes code then RefusedCommand else UnknownCommand)
-by_row (Some row) code bytes = sized row.size bytes (row.value bytes, row.size)
+abbrev pub by_row : {A : Type 0} → List ℕ → Option (Row A) → ℕ → List ℕ → Result (A × ℕ) Fault
+by_row refused None code bytes = Err (if is_in refused code then RefusedCommand else UnknownCommand)
+by_row refused (Some row) code bytes = sized row.size bytes (row.value bytes, row.size)
 
-unfoldable pub with_code : ℕ → List ℕ → Result (Command × ℕ) Fault
-with_code code bytes = by_row (row_in rows code) code bytes
+-- what bytes with this code read as, by a table of rows and the codes that are refused
+abbrev pub by_table : {A : Type 0} → List ℕ → List (Row A) → ℕ → List ℕ → Result (A × ℕ) Fault
+by_table refused rows code bytes = by_row refused (row_in rows code) code bytes
 
--- what reading a command gives
+unfoldable pub command_of : ℕ → List ℕ → Result (Command × ℕ) Fault
+command_of code bytes = by_table refused_codes command_rows code bytes
+
+unfoldable pub return_of : ℕ → List ℕ → Result (Return × ℕ) Fault
+return_of code bytes = by_table [] return_rows code bytes
+
+-- what bytes read as, by the code in the first four
+abbrev pub by_code : {A : Type 0} → (ℕ → List ℕ → Result (A × ℕ) Fault) → List ℕ → Result (A × ℕ) Fault
+by_code of_code bytes = if nat_lt (length bytes) 4 then Err ShortCommand else of_code (word_at 0 bytes) bytes
+
+-- the command at the front, and how many bytes it takes, or why there is none
 abbrev pub command_at : List ℕ → Result (Command × ℕ) Fault
-command_at bytes = if nat_lt (length bytes) 4 then Err ShortCommand else with_code (word_at 0 bytes) bytes
+command_at bytes = by_code command_of bytes
+
+-- the return at the front, and how many bytes it takes, or why there is none
+abbrev pub return_at : List ℕ → Result (Return × ℕ) Fault
+return_at bytes = by_code return_of bytes

@@ -4,43 +4,46 @@ use Rattle.bd_uapi.specs.Bytes.{word, long}
 use Rattle.bd_uapi.specs.Records.{record_bytes, IsRecord}
 use Rattle.bd_uapi.specs.declared.command.Command.{Command}
 use Rattle.bd_uapi.specs.declared.command.Command.TheVariants.{Transaction, Reply, FreeBuffer, Increfs, Acquire, Release, Decrefs, IncrefsDone, AcquireDone, EnterLooper, ExitLooper, RequestDeathNotification, ClearDeathNotification, DeadBinderDone}
+use Rattle.bd_uapi.specs.declared.command.Return.{Return}
+use Rattle.bd_uapi.specs.declared.command.Return.TheVariants as returned
 
 -- the code of a command
-abbrev pub code_of : Command → ℕ
-code_of (Transaction t) = 0x40406300
-code_of (Reply t) = 0x40406301
-code_of (FreeBuffer buffer) = 0x40086303
-code_of (Increfs number) = 0x40046304
-code_of (Acquire number) = 0x40046305
-code_of (Release number) = 0x40046306
-code_of (Decrefs number) = 0x40046307
-code_of (IncrefsDone ptr cookie) = 0x40106308
-code_of (AcquireDone ptr cookie) = 0x40106309
-code_of EnterLooper = 0x0000630c
-code_of ExitLooper = 0x0000630d
-code_of (RequestDeathNotification number cookie) = 0x400c630e
-code_of (ClearDeathNotification number cookie) = 0x400c630f
-code_of (DeadBinderDone cookie) = 0x40086310
+abbrev pub command_code : Command → ℕ
+command_code (Transaction t) = 0x40406300
+command_code (Reply t) = 0x40406301
+command_code (FreeBuffer buffer) = 0x40086303
+command_code (Increfs number) = 0x40046304
+command_code (Acquire number) = 0x40046305
+command_code (Release number) = 0x40046306
+command_code (Decrefs number) = 0x40046307
+command_code (IncrefsDone ptr cookie) = 0x40106308
+command_code (AcquireDone ptr cookie) = 0x40106309
+command_code EnterLooper = 0x0000630c
+command_code ExitLooper = 0x0000630d
+command_code (RequestDeathNotification number cookie) = 0x400c630e
+command_code (ClearDeathNotification number cookie) = 0x400c630f
+command_code (DeadBinderDone cookie) = 0x40086310
 
 -- what follows the code
-abbrev pub payload_of : Command → List ℕ
-payload_of (Transaction t) = record_bytes t
-payload_of (Reply t) = record_bytes t
-payload_of (FreeBuffer buffer) = long buffer
-payload_of (Increfs n) = word n
-payload_of (Acquire n) = word n
-payload_of (Release n) = word n
-payload_of (Decrefs n) = word n
-payload_of (IncrefsDone ptr cookie) = long ptr ++ long cookie
-payload_of (AcquireDone ptr cookie) = long ptr ++ long cookie
-payload_of EnterLooper = []
-payload_of ExitLooper = []
-payload_of (RequestDeathNotification n cookie) = word n ++ long cookie
-payload_of (ClearDeathNotification n cookie) = word n ++ long cookie
-payload_of (DeadBinderDone cookie) = long cookie
+abbrev pub command_payload : Command → List ℕ
+command_payload (Transaction t) = record_bytes t
+command_payload (Reply t) = record_bytes t
+command_payload (FreeBuffer buffer) = long buffer
+command_payload (Increfs n) = word n
+command_payload (Acquire n) = word n
+command_payload (Release n) = word n
+command_payload (Decrefs n) = word n
+command_payload (IncrefsDone ptr cookie) = long ptr ++ long cookie
+command_payload (AcquireDone ptr cookie) = long ptr ++ long cookie
+command_payload EnterLooper = []
+command_payload ExitLooper = []
+command_payload (RequestDeathNotification n cookie) = word n ++ long cookie
+command_payload (ClearDeathNotification n cookie) = word n ++ long cookie
+command_payload (DeadBinderDone cookie) = long cookie
 
-abbrev pub spelling : Command → List ℕ
-spelling c = word (code_of c) ++ payload_of c
+-- how a command is spelled
+abbrev pub command_bytes : Command → List ℕ
+command_bytes c = word (command_code c) ++ command_payload c
 
 -- a command whose numbers have their widths, as each value of the type has
 abbrev pub IsCommand : Command → Type 0
@@ -59,8 +62,57 @@ IsCommand (RequestDeathNotification n cookie) = (n < 2 ^ 32) × (cookie < 2 ^ 64
 IsCommand (ClearDeathNotification n cookie) = (n < 2 ^ 32) × (cookie < 2 ^ 64)
 IsCommand (DeadBinderDone cookie) = cookie < 2 ^ 64
 
--- the first n bytes are the spelling of a command
-pub record Found (bytes : List ℕ) (c : Command) (n : ℕ) : Type 0 where
+-- the code of a return
+abbrev pub return_code : Return → ℕ
+return_code (returned.Transaction t) = 0x80407202
+return_code (returned.Reply t) = 0x80407203
+return_code returned.DeadReply = 0x00007205
+return_code returned.TransactionComplete = 0x00007206
+return_code (returned.Increfs ptr cookie) = 0x80107207
+return_code (returned.Acquire ptr cookie) = 0x80107208
+return_code (returned.Release ptr cookie) = 0x80107209
+return_code (returned.Decrefs ptr cookie) = 0x8010720a
+return_code returned.Noop = 0x0000720c
+return_code (returned.DeadBinder cookie) = 0x8008720f
+return_code (returned.ClearDeathNotificationDone cookie) = 0x80087210
+return_code returned.FailedReply = 0x00007211
+
+-- what follows the code
+abbrev pub return_payload : Return → List ℕ
+return_payload (returned.Transaction t) = record_bytes t
+return_payload (returned.Reply t) = record_bytes t
+return_payload returned.DeadReply = []
+return_payload returned.TransactionComplete = []
+return_payload (returned.Increfs ptr cookie) = long ptr ++ long cookie
+return_payload (returned.Acquire ptr cookie) = long ptr ++ long cookie
+return_payload (returned.Release ptr cookie) = long ptr ++ long cookie
+return_payload (returned.Decrefs ptr cookie) = long ptr ++ long cookie
+return_payload returned.Noop = []
+return_payload (returned.DeadBinder cookie) = long cookie
+return_payload (returned.ClearDeathNotificationDone cookie) = long cookie
+return_payload returned.FailedReply = []
+
+-- how a return is spelled
+abbrev pub return_bytes : Return → List ℕ
+return_bytes r = word (return_code r) ++ return_payload r
+
+-- a return whose numbers have their widths, as each value of the type has
+abbrev pub IsReturn : Return → Type 0
+IsReturn (returned.Transaction t) = IsRecord t
+IsReturn (returned.Reply t) = IsRecord t
+IsReturn returned.DeadReply = Unit {0}
+IsReturn returned.TransactionComplete = Unit {0}
+IsReturn (returned.Increfs ptr cookie) = (ptr < 2 ^ 64) × (cookie < 2 ^ 64)
+IsReturn (returned.Acquire ptr cookie) = (ptr < 2 ^ 64) × (cookie < 2 ^ 64)
+IsReturn (returned.Release ptr cookie) = (ptr < 2 ^ 64) × (cookie < 2 ^ 64)
+IsReturn (returned.Decrefs ptr cookie) = (ptr < 2 ^ 64) × (cookie < 2 ^ 64)
+IsReturn returned.Noop = Unit {0}
+IsReturn (returned.DeadBinder cookie) = cookie < 2 ^ 64
+IsReturn (returned.ClearDeathNotificationDone cookie) = cookie < 2 ^ 64
+IsReturn returned.FailedReply = Unit {0}
+
+-- the first n bytes are the spelling of x
+pub record Found {A : Type 0} (spelling : A → List ℕ) (IsValue : A → Type 0) (bytes : List ℕ) (x : A) (n : ℕ) : Type 0 where
   pub within : n ≤ length bytes
-  pub spelled : take n bytes ≡ spelling c
-  pub fits : IsCommand c
+  pub spelled : take n bytes ≡ spelling x
+  pub fits : IsValue x

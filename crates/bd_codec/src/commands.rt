@@ -1,0 +1,145 @@
+//! Reading and writing commands.
+
+ghost use Rattle.std.specs.Prelude.{◌≡◌, ◌≤◌, ◌<◌, ◌+◌, ◌++◌, ℕ, List, length, take, Ok, Some, None, IfOk, MatchResult, OnOk, OnErr, IfErr, vec_len, vec_capacity};
+ghost use Rattle.bd_uapi.specs.declared.command.Command.{Command};
+ghost use Rattle.bd_uapi.specs.declared.fault.Fault.TheVariants.{NoMemory};
+ghost use Rattle.bd_codec.specs.Spelling.{command_bytes, IsCommand, Found};
+ghost use Rattle.bd_codec.specs.Faults.{command_fault};
+ghost use Rattle.bd_codec.specs.Reading.{command_at, command_of};
+
+use crate::fields::u32_at;
+use crate::payloads::{
+    LONGEST, append, handle, handle_and_cookie, pointer, pointer_and_cookie, put_bare, put_handle,
+    put_handle_and_cookie, put_pointer, put_pointer_and_cookie, put_record, record,
+};
+use bd_uapi::codes::*;
+use bd_uapi::{Command, Fault};
+
+#[tactic(auto, unfolding(crate::specs::Reading::command_of))]
+fn command_with(code: u32, bytes: &[u8]) -> Result<(Command, usize), Fault>
+    requires { 4 ≤ length bytes.now }
+    ensures { result ≡ command_of code bytes.now }
+{
+    match code {
+        BC_TRANSACTION => Ok((Command::Transaction(record(bytes)?), 68)),
+        BC_REPLY => Ok((Command::Reply(record(bytes)?), 68)),
+        BC_FREE_BUFFER => Ok((Command::FreeBuffer(pointer(bytes)?), 12)),
+        BC_INCREFS => Ok((Command::Increfs(handle(bytes)?), 8)),
+        BC_ACQUIRE => Ok((Command::Acquire(handle(bytes)?), 8)),
+        BC_RELEASE => Ok((Command::Release(handle(bytes)?), 8)),
+        BC_DECREFS => Ok((Command::Decrefs(handle(bytes)?), 8)),
+        BC_INCREFS_DONE => {
+            let (pointer, cookie) = pointer_and_cookie(bytes)?;
+            Ok((Command::IncrefsDone(pointer, cookie), 20))
+        }
+        BC_ACQUIRE_DONE => {
+            let (pointer, cookie) = pointer_and_cookie(bytes)?;
+            Ok((Command::AcquireDone(pointer, cookie), 20))
+        }
+        BC_ENTER_LOOPER => Ok((Command::EnterLooper, 4)),
+        BC_EXIT_LOOPER => Ok((Command::ExitLooper, 4)),
+        BC_REQUEST_DEATH_NOTIFICATION => {
+            let (handle, cookie) = handle_and_cookie(bytes)?;
+            Ok((Command::RequestDeathNotification(handle, cookie), 16))
+        }
+        BC_CLEAR_DEATH_NOTIFICATION => {
+            let (handle, cookie) = handle_and_cookie(bytes)?;
+            Ok((Command::ClearDeathNotification(handle, cookie), 16))
+        }
+        BC_DEAD_BINDER_DONE => Ok((Command::DeadBinderDone(pointer(bytes)?), 12)),
+        BC_ACQUIRE_RESULT
+        | BC_ATTEMPT_ACQUIRE
+        | BC_REGISTER_LOOPER
+        | BC_TRANSACTION_SG
+        | BC_REPLY_SG => Err(Fault::RefusedCommand),
+        _ => Err(Fault::UnknownCommand),
+    }
+}
+
+fn first_command(bytes: &[u8]) -> Result<(Command, usize), Fault>
+    ensures { result ≡ command_at bytes.now }
+{
+    if bytes.len() < 4 {
+        return Err(Fault::ShortCommand);
+    }
+    command_with(u32_at(bytes, 0), bytes)
+}
+
+/// The command at the front of the bytes, and how many bytes it takes. Bytes may follow it.
+///
+/// # Errors
+/// `ShortCommand` (F1) where the bytes end before the code or before its payload does, `RefusedCommand` (F3) for the
+/// five codes that are known and not supported, `UnknownCommand` (F2) for every other code.
+pub fn read_command(bytes: &[u8]) -> Result<(Command, usize), Fault>
+    // The first bytes are the command's spelling.
+    ensures found { IfOk result (λ r. Found command_bytes IsCommand bytes.now r.0 r.1) }
+    // A command whose spelling begins the bytes is read, so there is at most one.
+    ensures only { (c : Command) (rest : List ℕ) → IsCommand c → bytes.now ≡ command_bytes c ++ rest
+        → result ≡ Ok (c, length (command_bytes c)) }
+    // Which fault it is.
+    ensures fault { MatchResult result (λ _. command_fault bytes.now ≡ None) (λ f. command_fault bytes.now ≡ Some f) }
+    // All of it at once, by a function that computes.
+    ensures computed { result ≡ command_at bytes.now }
+{
+    first_command(bytes)
+}
+
+// Spells the command from the front of a buffer on, and answers its length.
+fn spell(c: &Command, out: &mut [u8]) -> usize
+    requires { 68 ≤ length out.old }
+    ensures within { result ≤ 68 }
+    ensures spelled { take result out.new ≡ command_bytes c.now }
+{
+    match c {
+        Command::Transaction(t) => put_record(out, BC_TRANSACTION, t),
+        Command::Reply(t) => put_record(out, BC_REPLY, t),
+        Command::FreeBuffer(pointer) => put_pointer(out, BC_FREE_BUFFER, *pointer),
+        Command::Increfs(handle) => put_handle(out, BC_INCREFS, *handle),
+        Command::Acquire(handle) => put_handle(out, BC_ACQUIRE, *handle),
+        Command::Release(handle) => put_handle(out, BC_RELEASE, *handle),
+        Command::Decrefs(handle) => put_handle(out, BC_DECREFS, *handle),
+        Command::IncrefsDone(pointer, cookie) => put_pointer_and_cookie(
+            out,
+            BC_INCREFS_DONE,
+            *pointer,
+            *cookie,
+        ),
+        Command::AcquireDone(pointer, cookie) => put_pointer_and_cookie(
+            out,
+            BC_ACQUIRE_DONE,
+            *pointer,
+            *cookie,
+        ),
+        Command::EnterLooper => put_bare(out, BC_ENTER_LOOPER),
+        Command::ExitLooper => put_bare(out, BC_EXIT_LOOPER),
+        Command::RequestDeathNotification(handle, cookie) => {
+            put_handle_and_cookie(out, BC_REQUEST_DEATH_NOTIFICATION, *handle, *cookie)
+        }
+        Command::ClearDeathNotification(handle, cookie) => {
+            put_handle_and_cookie(out, BC_CLEAR_DEATH_NOTIFICATION, *handle, *cookie)
+        }
+        Command::DeadBinderDone(cookie) => put_pointer(out, BC_DEAD_BINDER_DONE, *cookie),
+    }
+}
+
+/// Appends the command's spelling.
+///
+/// # Errors
+/// `NoMemory` (F14), and then nothing is appended.
+pub fn write_command(c: &Command, out: &mut Vec<u8>) -> Result<(), Fault>
+    ensures ok { OnOk result (out.new.items ≡ out.old.items ++ command_bytes c.now) }
+    ensures err { OnErr result (out.new.items ≡ out.old.items) }
+    ensures memory { IfErr result (λ f. f ≡ NoMemory) }
+    // Memory was asked for: there was no room.
+    ensures grown { OnErr result (vec_capacity out.old < vec_len out.old + length (command_bytes c.now)) }
+{
+    let mut buffer = [0u8; LONGEST];
+    let len = spell(c, &mut buffer);
+    append(&buffer[..len], out)
+}
+
+/// No command's spelling begins another's.
+pub fn no_command_begins_another()
+    ensures { (c d : Command) (x y : List ℕ) → IsCommand c → IsCommand d → command_bytes c ++ x ≡ command_bytes d ++ y
+        → (c ≡ d) × (x ≡ y) }
+{}
