@@ -103,9 +103,15 @@ pub enum Answer {
 #[derive(Drop, Debug)]
 pub enum Step {
     /// As the request of that name.
-    Open { pid: u32, euid: u32, window: u32 },
+    Open {
+        pid: u32,
+        euid: u32,
+        window: u32,
+    },
     /// As the request of that name.
-    Attach { pid: u32 },
+    Attach {
+        pid: u32,
+    },
     /// As the request of that name.
     SetManager,
     /// One command of a write.
@@ -116,7 +122,9 @@ pub enum Step {
         parcel: Option<Parcel>,
     },
     /// As the request of that name.
-    Read { limit: u32 },
+    Read {
+        limit: u32,
+    },
     /// As the request of that name.
     ExitThread,
     /// As the request of that name.

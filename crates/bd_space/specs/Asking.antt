@@ -1,0 +1,84 @@
+-- The steps of BC_INCREFS, BC_ACQUIRE, BC_RELEASE, BC_DECREFS, BC_INCREFS_DONE and BC_ACQUIRE_DONE.
+use Rattle.std.specs.Prelude.{ℕ, ◌==◌, Bool, not, ◌&&◌, List, [], ◌∷◌, ◌++◌, Option, Some, None, Result, Ok, Err, find, if◌then◌else◌}
+use Rattle.std.specs.List.{list_any}
+use Rattle.bd_uapi.specs.declared.fault.Note.{Note}
+use Rattle.bd_uapi.specs.declared.fault.Note.TheVariants.{NoSuchNumber, NothingAsked, NotStrong, OwnManager, NoSuchObject, NoHandshake}
+use Rattle.bd_space.specs.declared.step.ObjectId.{ObjectId}
+use Rattle.bd_space.specs.declared.space.Object.{Object}
+use Rattle.bd_space.specs.declared.space.Holder.TheVariants.{Asked}
+use Rattle.bd_space.specs.Words.{when, first_of, found_or, unless, and_then, without_first}
+use Rattle.bd_space.specs.Space.{Space}
+use Rattle.bd_space.specs.References.{reference_of, strong_in, owned_in, is_asking, is_shaking}
+use Rattle.bd_space.specs.Names.{named, assign_numbers}
+use Rattle.bd_space.specs.Outcomes.{Outcome, accepted, noted}
+
+-- ---- asking
+
+-- 0 means the context manager's object while there is one
+abbrev pub asked_of : Space → ℕ → ℕ → Option ObjectId
+asked_of s p n = if n == 0 then first_of (s.manager ∷ named s p 0 ∷ []) else named s p n
+
+-- a strong reference is to be had only while somebody has one; nobody asks for his own
+abbrev pub ask_note : Space → ℕ → Bool → ObjectId → Option Note
+ask_note s p strong o =
+    first_of (
+    when (strong && not (strong_in s.references o)) NotStrong
+    ∷ when (owned_in s.objects p o) OwnManager
+    ∷ [])
+
+-- the object that is asked for, or the first note against it
+unfoldable pub ask_check : Space → ℕ → ℕ → Bool → Result ObjectId Note
+ask_check s p n strong = and_then (found_or (asked_of s p n) NoSuchNumber) (λ o. unless (ask_note s p strong o) o)
+
+-- the reference comes in, and the name with it
+unfoldable pub ask : Space → ℕ → ObjectId → Bool → Space
+ask s p o strong = assign_numbers (record s { references = s.references ++ reference_of s.steps 0 o strong (Asked p) ∷ [] }) p (o ∷ [])
+
+abbrev pub ask_outcome : Space → ℕ → Bool → Result ObjectId Note → Outcome
+ask_outcome s p strong (Err n) = noted s n
+ask_outcome s p strong (Ok o) = accepted (ask s p o strong)
+
+unfoldable pub ask_step : Space → ℕ → ℕ → Bool → Outcome
+ask_step s p n strong = ask_outcome s p strong (ask_check s p n strong)
+
+-- ---- dropping
+
+abbrev pub drop_note : Space → ℕ → Bool → ObjectId → Option Note
+drop_note s p strong o = when (not (list_any (is_asking p o strong) s.references)) NothingAsked
+
+unfoldable pub drop_check : Space → ℕ → ℕ → Bool → Result ObjectId Note
+drop_check s p n strong = and_then (found_or (named s p n) NoSuchNumber) (λ o. unless (drop_note s p strong o) o)
+
+-- the least reference of that strength that the process asked for goes
+unfoldable pub drop_asked : Space → ℕ → ObjectId → Bool → Space
+drop_asked s p o strong = record s { references = without_first (is_asking p o strong) s.references }
+
+abbrev pub drop_outcome : Space → ℕ → Bool → Result ObjectId Note → Outcome
+drop_outcome s p strong (Err n) = noted s n
+drop_outcome s p strong (Ok o) = accepted (drop_asked s p o strong)
+
+unfoldable pub drop_step : Space → ℕ → ℕ → Bool → Outcome
+drop_step s p n strong = drop_outcome s p strong (drop_check s p n strong)
+
+-- ---- acknowledging
+
+abbrev pub is_own_with : ℕ → ℕ → ℕ → Object → Bool
+is_own_with p ptr cookie x = (x.owner == p) && (x.ptr == ptr) && (x.cookie == cookie)
+
+abbrev pub done_note : Space → Bool → Object → Option Note
+done_note s strong x = when (not (list_any (is_shaking x.id strong) s.references)) NoHandshake
+
+unfoldable pub done_check : Space → ℕ → ℕ → ℕ → Bool → Result Object Note
+done_check s p ptr cookie strong =
+    and_then (found_or (find (is_own_with p ptr cookie) s.objects) NoSuchObject) (λ x. unless (done_note s strong x) x)
+
+-- the reference that stood for the acknowledgement goes
+unfoldable pub acknowledge : Space → ObjectId → Bool → Space
+acknowledge s o strong = record s { references = without_first (is_shaking o strong) s.references }
+
+abbrev pub done_outcome : Space → Bool → Result Object Note → Outcome
+done_outcome s strong (Err n) = noted s n
+done_outcome s strong (Ok x) = accepted (acknowledge s x.id strong)
+
+unfoldable pub done_step : Space → ℕ → ℕ → ℕ → Bool → Outcome
+done_step s p ptr cookie strong = done_outcome s strong (done_check s p ptr cookie strong)

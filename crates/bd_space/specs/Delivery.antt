@@ -1,0 +1,124 @@
+-- What a transaction and a reply have in common: what they deliver.
+use Rattle.std.specs.Prelude.{ℕ, ◌+◌, ◌==◌, Bool, true, false, not, ◌&&◌, List, [], ◌∷◌, ◌++◌, map, Option, Some, None, find, filter, fold, option_map, unwrap_or, if◌then◌else◌}
+use Rattle.bd_uapi.specs.declared.command.TransactionData.{TransactionData}
+use Rattle.bd_uapi.specs.declared.object.FlatObject.{FlatObject}
+use Rattle.bd_uapi.specs.declared.object.ObjectKind.TheVariants.{Binder, WeakBinder, Handle, WeakHandle}
+use Rattle.bd_uapi.specs.Records.{object_bytes}
+use Rattle.bd_space.specs.declared.step.ObjectId.{ObjectId}
+use Rattle.bd_space.specs.declared.space.Process.{Process}
+use Rattle.bd_space.specs.declared.space.Object.{Object}
+use Rattle.bd_space.specs.declared.space.Reference.{Reference}
+use Rattle.bd_space.specs.declared.space.Name.{Name}
+use Rattle.bd_space.specs.declared.space.Buffer.{Buffer}
+use Rattle.bd_space.specs.declared.space.Work.{Work}
+use Rattle.bd_space.specs.declared.space.Holder.TheVariants.{Carried, Target}
+use Rattle.bd_space.specs.declared.space.TodoList.TheVariants.{OfThread}
+use Rattle.bd_space.specs.Words.{is_some_and, same, overwritten}
+use Rattle.bd_space.specs.Space.{Space}
+use Rattle.bd_space.specs.Seats.{Actor}
+use Rattle.bd_space.specs.References.{reference_of, object_in}
+use Rattle.bd_space.specs.Names.{number_in, assign_numbers}
+use Rattle.bd_space.specs.Room.{needed}
+use Rattle.bd_space.specs.Todo.{is_notice}
+use Rattle.bd_space.specs.Notices.{with_notice}
+use Rattle.bd_space.specs.Parcels.{Item, Sending, object_of_item, is_own, is_strong_kind}
+
+-- what is delivered: to which process, on which object, whether one-way, what, and where in the receiver's window
+pub record Delivery : Type 0 where
+  pub receiver : Process
+  pub target : Option ObjectId
+  pub one_way : Bool
+  pub sending : Sending
+  pub start : ℕ
+
+-- the sender's new objects come in
+unfoldable pub make_objects : Space → List Object → Space
+make_objects s made = record s { objects = s.objects ++ made }
+
+-- the references of the buffer made at b in q's window, numbered from k: one an object of the parcel, and then the target's
+abbrev pub buffer_references : ℕ → ℕ → ℕ → List Item → Option ObjectId → List Reference
+buffer_references b q k [] None = []
+buffer_references b q k [] (Some o) = reference_of b k o true (Target b q) ∷ []
+buffer_references b q k (x ∷ xs) target =
+    reference_of b k x.object (is_strong_kind x.flat.kind) (Carried b q) ∷ buffer_references b q (k + 1) xs target
+
+unfoldable pub refer : Space → ℕ → List Item → Option ObjectId → Space
+refer s q items target = record s { references = s.references ++ buffer_references s.steps q 0 items target }
+
+-- ---- translation: the objects as the receiver is to see them
+
+-- the receiver's own object, and anybody else's
+abbrev pub as_own : FlatObject → Object → FlatObject
+as_own x o = record x { kind = if is_strong_kind x.kind then Binder else WeakBinder; binder = o.ptr; cookie = o.cookie }
+
+abbrev pub as_handle : FlatObject → ℕ → FlatObject
+as_handle x n = record x { kind = if is_strong_kind x.kind then Handle else WeakHandle; binder = n; cookie = 0 }
+
+abbrev pub translated : List Object → List Name → ℕ → Item → FlatObject
+translated objects names q x =
+    elim (find (λ o. same o.id x.object && (o.owner == q)) objects) [
+      | Some o ↦ as_own x.flat o
+      | None ↦ as_handle x.flat (unwrap_or (number_in names q x.object) 0)
+    ]
+
+abbrev pub translate_item : List Object → List Name → ℕ → List ℕ → Item → List ℕ
+translate_item objects names q bytes x = overwritten bytes x.at (object_bytes (translated objects names q x))
+
+-- the data with each object translated
+unfoldable pub translation : Space → ℕ → List ℕ → List Item → List ℕ
+translation s q bytes items = fold (translate_item s.objects s.names q) bytes items
+
+-- ---- the buffer
+
+-- the buffer that this actor's step makes, where the receiver's names are those of s
+abbrev pub buffer_of : Space → Actor → TransactionData → Delivery → Buffer
+buffer_of s a d v = record {
+  made = s.steps;
+  receiver = v.receiver.made;
+  start = v.start;
+  size = needed d.data_size d.offsets_size;
+  one_way = v.one_way;
+  handed = false;
+  target = v.target;
+  code = d.code;
+  flags = d.flags;
+  euid = a.process.euid;
+  bytes = translation s v.receiver.made v.sending.bytes v.sending.items;
+  offsets = v.sending.offsets;
+}
+
+unfoldable pub add_buffer : Space → Buffer → Space
+add_buffer s b = record s { buffers = s.buffers ++ b ∷ [] }
+
+-- ---- the notices of the sender's own objects
+
+-- sending an object strongly that its owner isn't told strong takes a standing notice away
+abbrev pub withdraw_notice : List Object → List Work → Item → List Work
+withdraw_notice objects todo x =
+    if is_own x.flat.kind && is_strong_kind x.flat.kind && is_some_and (object_in objects x.object) (λ o. not o.told_strong)
+    then filter (λ w. not (is_notice x.object w.kind)) todo
+    else todo
+
+-- a notice that is missing is made on the sending thread's list
+abbrev pub add_notice : Space → ℕ → List Work → Item → List Work
+add_notice s seat todo x =
+    if is_own x.flat.kind
+    then (elim (object_in s.objects x.object) [ None ↦ todo | Some o ↦ with_notice s.steps s.processes s.references (OfThread seat) todo o ])
+    else todo
+
+-- all standing ones first, and then the new ones in the order of the parcel
+unfoldable pub own_notices : Space → ℕ → List Item → Space
+own_notices s seat items = record s { todo = fold (add_notice s seat) (fold (withdraw_notice s.objects) s.todo items) items }
+
+-- ---- the whole delivery
+
+-- the objects, the references and the names
+unfoldable pub known_by : Space → Delivery → Space
+known_by s v =
+    assign_numbers (refer (make_objects s v.sending.made) v.receiver.made v.sending.items v.target) v.receiver.made (map object_of_item v.sending.items)
+
+-- and then the buffer with the translated data, and the notices
+unfoldable pub delivered : Space → Actor → TransactionData → Delivery → Space
+delivered s a d v =
+    let z = known_by s v in
+    own_notices (add_buffer z (buffer_of z a d v)) a.thread.seat v.sending.items

@@ -1,0 +1,82 @@
+-- Histories: lists of steps in which each answer follows from the steps before.
+use Rattle.std.specs.Prelude.{ℕ, zero, suc, ◌+◌, ◌^◌, ◌≡◌, ◌≤◌, nat_lt, nat_le, Bool, true, false, not, ◌||◌, List, [], ◌∷◌, ◌++◌, length, Option, if◌then◌else◌}
+use Rattle.std.specs.List.{list_all}
+use Rattle.bd_space.specs.declared.step.Step.{Step}
+use Rattle.bd_space.specs.declared.step.StepAnswer.{StepAnswer}
+use Rattle.bd_space.specs.declared.step.Entry.{Entry}
+use Rattle.bd_space.specs.Words.{is_some_and}
+use Rattle.bd_space.specs.Space.{Space, opening}
+use Rattle.bd_space.specs.Seats.{thread_in}
+use Rattle.bd_space.specs.Names.{has_number_past_limit}
+use Rattle.bd_space.specs.Todo.{list_to_read}
+use Rattle.bd_space.specs.Reading.{is_empty}
+use Rattle.bd_space.specs.Steps.{step}
+
+-- the seats of a driver, and what has happened
+pub record History : Type 0 where
+  pub seats : ℕ
+  pub entries : List Entry
+
+-- the space after one entry's step, and after a list of them
+abbrev pub next : Space → Entry → Space
+next s e = (step s e.seat e.step).space
+
+abbrev pub after : Space → List Entry → Space
+after s [] = s
+after s (e ∷ es) = after (next s e) es
+
+unfoldable pub space_after : History → Space
+space_after h = after opening h.entries
+
+-- an entry's answer follows from the space before it, and no number past the limit is needed
+pub record EntryFollows (s : Space) (e : Entry) : Type 0 where
+  pub answer : (step s e.seat e.step).answer ≡ e.answer
+  pub numbers : has_number_past_limit (next s e).names ≡ false
+
+abbrev pub Follows : Space → List Entry → Type 0
+Follows s [] = Unit {0}
+Follows s (e ∷ es) = EntryFollows s e × Follows (next s e) es
+
+-- the most steps that a history has
+abbrev pub most_steps : ℕ
+most_steps = 4294967295
+
+pub record IsHistory (h : History) : Type 0 where
+  pub short : length h.entries ≤ 4294967295
+  pub seats : list_all (λ e. nat_lt e.seat h.seats) h.entries ≡ true
+  pub follows : Follows opening h.entries
+
+-- one entry more
+abbrev pub extended : History → ℕ → Step → StepAnswer → History
+extended h seat x answer = record { seats = h.seats; entries = h.entries ++ record { seat = seat; step = x; answer = answer } ∷ [] }
+
+-- ---- the page of a history
+
+-- a seat is ready when it has a live thread whose list to read isn't empty
+abbrev pub is_ready : Space → ℕ → Bool
+is_ready s seat = is_some_and (thread_in s.threads seat) (λ t. not (is_empty (list_to_read s t)))
+
+-- the ready seats below n, bit i for seat i
+abbrev pub ready_below : Space → ℕ → ℕ
+ready_below s zero = 0
+ready_below s (suc n) = ready_below s n + (if is_ready s n then 2 ^ n else 0)
+
+unfoldable pub ready_bits : History → ℕ
+ready_bits h = ready_below (space_after h) h.seats
+
+-- ---- limits
+
+-- the history is full, or this step would need a number past the limit
+unfoldable pub is_at_limit : History → ℕ → Option Step → Bool
+is_at_limit h seat x =
+    nat_le 4294967295 (length h.entries) || is_some_and x (λ y. has_number_past_limit (step (space_after h) seat y).space.names)
+
+-- ---- lists of steps, for worked examples
+
+abbrev pub answers : Space → List (ℕ × Step) → List StepAnswer
+answers s [] = []
+answers s (x ∷ xs) = let o = step s x.0 x.1 in o.answer ∷ answers o.space xs
+
+abbrev pub ends : Space → List (ℕ × Step) → Space
+ends s [] = s
+ends s (x ∷ xs) = ends (step s x.0 x.1).space xs

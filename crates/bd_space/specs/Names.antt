@@ -1,0 +1,65 @@
+-- Names: the numbers (handles) by which processes know the objects of others.
+use Rattle.std.specs.Prelude.{ℕ, suc, ◌==◌, nat_lt, Bool, not, ◌&&◌, List, [], ◌∷◌, ◌++◌, length, Option, Some, None, find, filter, fold, is_some, option_map, option_and_then, unwrap_or, if◌then◌else◌}
+use Rattle.std.specs.List.{list_any}
+use Rattle.bd_space.specs.declared.step.ObjectId.{ObjectId}
+use Rattle.bd_space.specs.declared.space.Object.{Object}
+use Rattle.bd_space.specs.declared.space.Reference.{Reference}
+use Rattle.bd_space.specs.declared.space.Name.{Name}
+use Rattle.bd_space.specs.Words.{same, is_some_and, least}
+use Rattle.bd_space.specs.Space.{Space}
+use Rattle.bd_space.specs.References.{names_for, owned_in}
+
+-- p has a name for o exactly where it doesn't own o and has asked for it or a buffer in its window carries it
+abbrev pub is_named_in : List Object → List Reference → ℕ → ObjectId → Bool
+is_named_in objects references p o = not (owned_in objects p o) && list_any (λ r. same r.object o && names_for p r.holder) references
+
+-- strongly where one of these is a strong reference
+abbrev pub is_strongly_named_in : List Object → List Reference → ℕ → ObjectId → Bool
+is_strongly_named_in objects references p o =
+    not (owned_in objects p o) && list_any (λ r. r.strong && same r.object o && names_for p r.holder) references
+
+-- what the number names for p, and p's number of o
+abbrev pub named_in : List Name → ℕ → ℕ → Option ObjectId
+named_in names p n = option_map (λ m. m.object) (find (λ m. (m.process == p) && (m.number == n)) names)
+
+abbrev pub number_in : List Name → ℕ → ObjectId → Option ℕ
+number_in names p o = option_map (λ m. m.number) (find (λ m. (m.process == p) && same m.object o) names)
+
+unfoldable pub named : Space → ℕ → ℕ → Option ObjectId
+named s p n = named_in s.names p n
+
+abbrev pub if_strongly_named : List Object → List Reference → ℕ → ObjectId → Option ObjectId
+if_strongly_named objects references p o = if is_strongly_named_in objects references p o then Some o else None
+
+unfoldable pub strongly_named : Space → ℕ → ℕ → Option ObjectId
+strongly_named s p n = option_and_then (if_strongly_named s.objects s.references p) (named_in s.names p n)
+
+abbrev pub is_object : Option ObjectId → ObjectId → Bool
+is_object manager o = is_some_and manager (λ m. same m o)
+
+-- the least number that p doesn't use, from 0 for the context manager's object and else from 1; one of so many is free
+abbrev pub free_number : Option ObjectId → List Name → ℕ → ObjectId → ℕ
+free_number manager names p o =
+    unwrap_or (least (suc (length names)) (if is_object manager o then 0 else 1) (λ n. not (list_any (λ m. (m.process == p) && (m.number == n)) names))) 0
+
+-- p gets a number for o, if it is to have one and has none
+abbrev pub with_name : Option ObjectId → List Object → List Reference → ℕ → List Name → ObjectId → List Name
+with_name manager objects references p names o =
+    if is_named_in objects references p o && not (is_some (number_in names p o))
+    then names ++ record { process = p; number = free_number manager names p o; object = o } ∷ []
+    else names
+
+-- and for each of these, in their order
+abbrev pub with_names : Option ObjectId → List Object → List Reference → ℕ → List Name → List ObjectId → List Name
+with_names manager objects references p names os = fold (with_name manager objects references p) names os
+
+unfoldable pub assign_numbers : Space → ℕ → List ObjectId → Space
+assign_numbers s p os = record s { names = with_names s.manager s.objects s.references p s.names os }
+
+-- a name goes with the last reference that it rests on
+unfoldable pub names_go : Space → Space
+names_go s = record s { names = filter (λ m. is_named_in s.objects s.references m.process m.object) s.names }
+
+-- a number that no history may need
+abbrev pub has_number_past_limit : List Name → Bool
+has_number_past_limit names = list_any (λ m. nat_lt 4294967294 m.number) names

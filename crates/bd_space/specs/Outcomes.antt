@@ -1,0 +1,33 @@
+-- What a step answers, and the space after it.
+use Rattle.bd_uapi.specs.declared.fault.Note.{Note}
+use Rattle.bd_uapi.specs.declared.fault.Fault.{Fault}
+use Rattle.bd_uapi.specs.declared.fault.Cause.{Cause}
+use Rattle.bd_space.specs.declared.step.StepAnswer.{StepAnswer}
+use Rattle.bd_space.specs.declared.step.StepAnswer.TheVariants.{Accepted, Noted, Stopped, Refused}
+use Rattle.bd_space.specs.Space.{Space}
+use Rattle.bd_space.specs.Turns.{ripen}
+use Rattle.bd_space.specs.Notices.{follow}
+use Rattle.bd_space.specs.Settle.{settle}
+
+pub record Outcome : Type 0 where
+  pub answer : StepAnswer
+  pub space : Space
+
+-- what follows from an accepted command's change
+unfoldable pub completed : Space → Space
+completed s = settle (follow (ripen s))
+
+abbrev pub accepted : Space → Outcome
+accepted s = record { answer = Accepted; space = completed s }
+
+-- a note changes nothing
+abbrev pub noted : Space → Note → Outcome
+noted s n = record { answer = Noted n; space = s }
+
+-- a cause leaves what it leaves
+abbrev pub stopped : Cause → Space → Outcome
+stopped x s = record { answer = Stopped x; space = settle s }
+
+-- a refused step changes nothing
+abbrev pub refused : Space → Fault → Outcome
+refused s x = record { answer = Refused x; space = s }

@@ -1,0 +1,114 @@
+-- What a parcel sends: its objects, each known to the sender or made by the sending, or the first cause against it.
+use Rattle.std.specs.Prelude.{ℕ, ◌%◌, ◌^◌, ◌==◌, Bool, true, false, not, ◌&&◌, List, [], ◌∷◌, ◌++◌, length, Option, Some, None, Result, Ok, Err, if◌then◌else◌}
+use Rattle.bd_uapi.specs.declared.command.TransactionData.{TransactionData}
+use Rattle.bd_uapi.specs.declared.object.FlatObject.{FlatObject}
+use Rattle.bd_uapi.specs.declared.object.ObjectKind.{ObjectKind}
+use Rattle.bd_uapi.specs.declared.object.ObjectKind.TheVariants.{Binder, WeakBinder, Handle, WeakHandle}
+use Rattle.bd_uapi.specs.declared.fault.Cause.{Cause}
+use Rattle.bd_uapi.specs.declared.fault.Cause.TheVariants.{OutsideArea, OffsetsSize, BadObject, UnsupportedObject, OtherCookie, NotHeld}
+use Rattle.bd_parcel.specs.declared.fault.WalkFault.{WalkFault}
+use Rattle.bd_parcel.specs.declared.fault.WalkFault.TheVariants.{Size, Bad, Unsupported}
+use Rattle.bd_parcel.specs.Parcels.{offsets_in, fault_in}
+use Rattle.bd_parcel.specs.Reading.{object_at}
+use Rattle.bd_space.specs.declared.step.ObjectId.{ObjectId}
+use Rattle.bd_space.specs.declared.step.Parcel.{Parcel}
+use Rattle.bd_space.specs.declared.space.Object.{Object}
+use Rattle.bd_space.specs.Words.{and_then}
+use Rattle.bd_space.specs.Space.{Space}
+use Rattle.bd_space.specs.References.{own_in}
+use Rattle.bd_space.specs.Names.{named, strongly_named}
+
+-- the sender's own object
+abbrev pub is_own : ObjectKind → Bool
+is_own Binder = true
+is_own WeakBinder = true
+is_own Handle = false
+is_own WeakHandle = false
+
+abbrev pub is_strong_kind : ObjectKind → Bool
+is_strong_kind Binder = true
+is_strong_kind WeakBinder = false
+is_strong_kind Handle = true
+is_strong_kind WeakHandle = false
+
+-- an object of a parcel: its offset, what stands there, and which object it is
+pub record Item : Type 0 where
+  pub at : ℕ
+  pub flat : FlatObject
+  pub object : ObjectId
+
+abbrev pub object_of_item : Item → ObjectId
+object_of_item x = x.object
+
+-- what is sent: the parcel's bytes, the objects that its sender makes by it, and all its objects in their order
+pub record Sending : Type 0 where
+  pub bytes : List ℕ
+  pub offsets : List ℕ
+  pub made : List Object
+  pub items : List Item
+
+-- which object it is, and that object where it is made
+pub record Resolved : Type 0 where
+  pub object : ObjectId
+  pub new : List Object
+
+-- an object that the step at this place makes after these
+abbrev pub new_object : ℕ → ℕ → List Object → FlatObject → Object
+new_object place p made x = record {
+  id = record { place = place; index = length made };
+  owner = p;
+  ptr = x.binder;
+  cookie = x.cookie;
+  told_weak = false;
+  told_strong = false;
+}
+
+-- an own object is known by its ptr, and then has to have the same cookie; else it is made
+abbrev pub resolve_own : Space → ℕ → List Object → FlatObject → Result Resolved Cause
+resolve_own s p made x =
+    elim (own_in (s.objects ++ made) p x.binder) [
+      | None ↦ let o = new_object s.steps p made x in Ok (record { object = o.id; new = o ∷ [] })
+      | Some o ↦ if o.cookie == x.cookie then Ok (record { object = o.id; new = [] }) else Err OtherCookie
+    ]
+
+abbrev pub resolve_handle : Option ObjectId → Result Resolved Cause
+resolve_handle None = Err NotHeld
+resolve_handle (Some o) = Ok (record { object = o; new = [] })
+
+-- the object that p sends, where it has made these already; a strong handle has to be strongly named
+unfoldable pub resolve : Space → ℕ → List Object → FlatObject → Result Resolved Cause
+resolve s p made x =
+    elim x.kind [
+      | Binder ↦ resolve_own s p made x
+      | WeakBinder ↦ resolve_own s p made x
+      | Handle ↦ resolve_handle (strongly_named s p (x.binder % 2 ^ 32))
+      | WeakHandle ↦ resolve_handle (named s p (x.binder % 2 ^ 32))
+    ]
+
+-- the objects at the offsets, one after the other
+abbrev pub resolve_all : Space → ℕ → List ℕ → List ℕ → List Object → List Item → List ℕ → Result Sending Cause
+resolve_all s p bytes offsets made items [] = Ok (record { bytes = bytes; offsets = offsets; made = made; items = items })
+resolve_all s p bytes offsets made items (at ∷ ats) =
+    and_then (resolve s p made (object_at at bytes))
+    (λ r. resolve_all s p bytes offsets (made ++ r.new) (items ++ record { at = at; flat = object_at at bytes; object = r.object } ∷ []) ats)
+
+abbrev pub cause_of_walk : WalkFault → Cause
+cause_of_walk Size = OffsetsSize
+cause_of_walk (Bad index) = BadObject
+cause_of_walk (Unsupported index) = UnsupportedObject
+
+-- the parcel has the sizes that its record says
+abbrev pub is_cut : TransactionData → Parcel → Bool
+is_cut d q = (length q.bytes == d.data_size) && (length q.offsets == d.offsets_size)
+
+abbrev pub resolve_walked : Space → ℕ → Parcel → Option WalkFault → Result Sending Cause
+resolve_walked s p q (Some fault) = Err (cause_of_walk fault)
+resolve_walked s p q None = resolve_all s p q.bytes q.offsets [] [] (offsets_in q.offsets)
+
+-- what p sends by this parcel, or the first cause against it
+unfoldable pub sending_of : Space → ℕ → TransactionData → Option Parcel → Result Sending Cause
+sending_of s p d None = Err OutsideArea
+sending_of s p d (Some q) =
+    if not (is_cut d q) then Err OutsideArea
+    else (if not (length q.offsets % 8 == 0) then Err OffsetsSize
+    else resolve_walked s p q (fault_in q.bytes (offsets_in q.offsets)))

@@ -1,0 +1,91 @@
+-- References to objects: what each is for, and which objects they keep.
+use Rattle.std.specs.Prelude.{ℕ, ◌==◌, Bool, true, false, not, ◌&&◌, ◌||◌, List, find, filter, Option, Some, None}
+use Rattle.std.specs.List.{list_any}
+use Rattle.bd_space.specs.declared.step.ObjectId.{ObjectId}
+use Rattle.bd_space.specs.declared.space.Process.{Process}
+use Rattle.bd_space.specs.declared.space.Object.{Object}
+use Rattle.bd_space.specs.declared.space.Reference.{Reference}
+use Rattle.bd_space.specs.declared.space.Holder.{Holder}
+use Rattle.bd_space.specs.declared.space.Holder.TheVariants.{Asked, Carried, Target, Handshake, Manager}
+use Rattle.bd_space.specs.Words.{same, is_some_and}
+use Rattle.bd_space.specs.Space.{Space}
+use Rattle.bd_space.specs.Seats.{lives_in}
+
+-- what the step at this place refers to is counted from 0
+abbrev pub reference_of : ℕ → ℕ → ObjectId → Bool → Holder → Reference
+reference_of place index o strong holder = record { id = record { place = place; index = index }; object = o; strong = strong; holder = holder }
+
+-- an object is held with any reference, and strong with a strong one
+abbrev pub held_in : List Reference → ObjectId → Bool
+held_in references o = list_any (λ r. same r.object o) references
+
+abbrev pub strong_in : List Reference → ObjectId → Bool
+strong_in references o = list_any (λ r. r.strong && same r.object o) references
+
+abbrev pub object_in : List Object → ObjectId → Option Object
+object_in objects o = find (λ x. same x.id o) objects
+
+-- p owns the object
+abbrev pub owned_in : List Object → ℕ → ObjectId → Bool
+owned_in objects p o = list_any (λ x. same x.id o && (x.owner == p)) objects
+
+-- p's object with this ptr
+abbrev pub own_in : List Object → ℕ → ℕ → Option Object
+own_in objects p ptr = find (λ x. (x.owner == p) && (x.ptr == ptr)) objects
+
+-- an object stays as long as it is held, or its owner lives and is told that it is held, weakly or strongly
+abbrev pub stays_in : List Process → List Reference → Object → Bool
+stays_in processes references x = held_in references x.id || (lives_in processes x.owner && (x.told_weak || x.told_strong))
+
+unfoldable pub objects_go : Space → Space
+objects_go s = record s { objects = filter (stays_in s.processes s.references) s.objects }
+
+-- ---- what a reference is for
+
+-- p asked for it
+abbrev pub is_asked_by : ℕ → Holder → Bool
+is_asked_by p (Asked q) = q == p
+is_asked_by p _ = false
+
+-- it is p's own asking, or is carried by a buffer in p's window
+abbrev pub names_for : ℕ → Holder → Bool
+names_for p (Asked q) = q == p
+names_for p (Carried b q) = q == p
+names_for p _ = false
+
+-- the buffer with which it ends
+abbrev pub buffer_of_holder : Holder → Option ℕ
+buffer_of_holder (Carried b q) = Some b
+buffer_of_holder (Target b q) = Some b
+buffer_of_holder _ = None
+
+abbrev pub is_of_buffer : ℕ → Holder → Bool
+is_of_buffer b h = is_some_and (buffer_of_holder h) (λ c. c == b)
+
+-- that buffer lies in p's window
+abbrev pub is_in_window : ℕ → Holder → Bool
+is_in_window p (Carried b q) = q == p
+is_in_window p (Target b q) = q == p
+is_in_window p _ = false
+
+abbrev pub is_handshake : Holder → Bool
+is_handshake Handshake = true
+is_handshake _ = false
+
+-- the owner's own: what it was told and hasn't acknowledged, and the context manager's
+abbrev pub is_of_owner : Holder → Bool
+is_of_owner Handshake = true
+is_of_owner Manager = true
+is_of_owner _ = false
+
+abbrev pub same_strength : Bool → Reference → Bool
+same_strength true r = r.strong
+same_strength false r = not r.strong
+
+-- p asked for the object, in this strength
+abbrev pub is_asking : ℕ → ObjectId → Bool → Reference → Bool
+is_asking p o strong r = same_strength strong r && same r.object o && is_asked_by p r.holder
+
+-- the owner is to acknowledge the object, in this strength
+abbrev pub is_shaking : ObjectId → Bool → Reference → Bool
+is_shaking o strong r = same_strength strong r && same r.object o && is_handshake r.holder

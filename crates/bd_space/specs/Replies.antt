@@ -1,0 +1,56 @@
+-- The step of BC_REPLY.
+use Rattle.std.specs.Prelude.{ℕ, false, Option, Some, None, Result, Ok, Err, option_and_then}
+use Rattle.bd_uapi.specs.declared.command.TransactionData.{TransactionData}
+use Rattle.bd_uapi.specs.declared.command.Return.TheVariants.{FailedReply, TransactionComplete}
+use Rattle.bd_uapi.specs.declared.fault.Cause.{Cause}
+use Rattle.bd_uapi.specs.declared.fault.Cause.TheVariants.{NoCall, CallerGone}
+use Rattle.bd_space.specs.declared.step.Parcel.{Parcel}
+use Rattle.bd_space.specs.declared.space.Frame.{Frame}
+use Rattle.bd_space.specs.declared.space.TodoList.TheVariants.{OfThread}
+use Rattle.bd_space.specs.declared.space.WorkKind.TheVariants as work
+use Rattle.bd_space.specs.Words.{found_or, and_then}
+use Rattle.bd_space.specs.Space.{Space}
+use Rattle.bd_space.specs.Seats.{Actor, actor}
+use Rattle.bd_space.specs.Room.{needed, buffers_of, place_for}
+use Rattle.bd_space.specs.Frames.{served_innermost, closed}
+use Rattle.bd_space.specs.Todo.{owe, tell_caller}
+use Rattle.bd_space.specs.Parcels.{Sending, sending_of}
+use Rattle.bd_space.specs.Delivery.{Delivery, delivered}
+use Rattle.bd_space.specs.Outcomes.{Outcome, accepted, stopped}
+
+-- the live thread that made the call, and its process
+unfoldable pub caller_of : Space → Frame → Option Actor
+caller_of s f = option_and_then (actor s) f.caller
+
+abbrev pub reply_placed : Space → TransactionData → Actor → Sending → Result Delivery Cause
+reply_placed s d c x =
+    and_then (place_for c.process.window (buffers_of s.buffers c.process.made) false (needed d.data_size d.offsets_size))
+    (λ start. Ok (record { receiver = c.process; target = None; one_way = false; sending = x; start = start }))
+
+abbrev pub reply_sent_to : Space → Actor → TransactionData → Option Parcel → Actor → Result Delivery Cause
+reply_sent_to s a d parcel c = and_then (sending_of s a.process.made d parcel) (reply_placed s d c)
+
+-- what is to be delivered to the caller of the frame, or the first cause against it
+unfoldable pub reply_check : Space → Actor → TransactionData → Option Parcel → Frame → Result Delivery Cause
+reply_check s a d parcel f = and_then (found_or (caller_of s f) CallerGone) (reply_sent_to s a d parcel)
+
+-- the frame closes, and the caller has a reply to read
+unfoldable pub replied : Space → Actor → TransactionData → Frame → Delivery → Space
+replied s a d f v =
+    tell_caller (owe (delivered (closed s f.made) a d v) (OfThread a.thread.seat) work.Complete) f (work.Reply s.steps)
+
+-- a refused reply closes the frame too, and a caller that lives is told
+unfoldable pub reply_refused : Space → ℕ → Frame → Space
+reply_refused s seat f = tell_caller (closed (owe s (OfThread seat) (work.Refusal TransactionComplete)) f.made) f (work.Verdict FailedReply)
+
+abbrev pub reply_outcome : Space → Actor → TransactionData → Frame → Result Delivery Cause → Outcome
+reply_outcome s a d f (Err x) = stopped x (reply_refused s a.thread.seat f)
+reply_outcome s a d f (Ok v) = accepted (replied s a d f v)
+
+-- a reply answers the thread's innermost frame, if the thread serves it
+abbrev pub reply_to : Space → Actor → TransactionData → Option Parcel → Option Frame → Outcome
+reply_to s a d parcel None = stopped NoCall (owe s (OfThread a.thread.seat) (work.Refusal FailedReply))
+reply_to s a d parcel (Some f) = reply_outcome s a d f (reply_check s a d parcel f)
+
+unfoldable pub reply_step : Space → Actor → TransactionData → Option Parcel → Outcome
+reply_step s a d parcel = reply_to s a d parcel (served_innermost s a.thread.seat)

@@ -1,0 +1,30 @@
+-- The object space: finite sets of what there is, each kept as the list of its members in the order in which they were
+-- made, which is the order of their identities.
+use Rattle.std.specs.Prelude.{ℕ, List, [], Option, None}
+use Rattle.bd_space.specs.declared.step.ObjectId.{ObjectId}
+use Rattle.bd_space.specs.declared.space.Process.{Process}
+use Rattle.bd_space.specs.declared.space.Thread.{Thread}
+use Rattle.bd_space.specs.declared.space.Object.{Object}
+use Rattle.bd_space.specs.declared.space.Reference.{Reference}
+use Rattle.bd_space.specs.declared.space.Name.{Name}
+use Rattle.bd_space.specs.declared.space.Frame.{Frame}
+use Rattle.bd_space.specs.declared.space.Buffer.{Buffer}
+use Rattle.bd_space.specs.declared.space.Work.{Work}
+use Rattle.bd_space.specs.declared.space.DeathNotification.{DeathNotification}
+
+pub record Space : Type 0 where
+  pub steps : ℕ  -- how many there were: the place of the next
+  pub processes : List Process
+  pub threads : List Thread
+  pub manager : Option ObjectId  -- the context manager's object
+  pub objects : List Object
+  pub references : List Reference
+  pub names : List Name
+  pub frames : List Frame
+  pub buffers : List Buffer
+  pub todo : List Work
+  pub deaths : List DeathNotification
+
+-- the space before the first step
+abbrev pub opening : Space
+opening = record { steps = 0; processes = []; threads = []; manager = None; objects = []; references = []; names = []; frames = []; buffers = []; todo = []; deaths = [] }

@@ -1,0 +1,108 @@
+-- Every step of a space.
+use Rattle.std.specs.Prelude.{ℕ, suc, ◌%◌, ◌==◌, nat_le, Bool, true, false, not, ◌&&◌, ◌||◌, List, [], ◌∷◌, ◌++◌, Option, Some, None, is_some, if◌then◌else◌}
+use Rattle.std.specs.List.{list_any}
+use Rattle.bd_uapi.specs.declared.fault.Fault.{Fault}
+use Rattle.bd_uapi.specs.declared.fault.Fault.TheVariants.{NoProcess, HasProcess, PidTaken, PidRange, WindowSize, NoSuchPid, ManagerBusy}
+use Rattle.bd_space.specs.declared.step.ObjectId.{ObjectId}
+use Rattle.bd_space.specs.declared.step.Step.{Step}
+use Rattle.bd_space.specs.declared.step.Step.TheVariants.{Open, Attach, SetManager, Command, Read, ExitThread, ExitProcess}
+use Rattle.bd_space.specs.declared.step.StepAnswer.{StepAnswer}
+use Rattle.bd_space.specs.declared.step.StepAnswer.TheVariants.{Opened, Set}
+use Rattle.bd_space.specs.declared.space.Process.{Process}
+use Rattle.bd_space.specs.declared.space.Object.{Object}
+use Rattle.bd_space.specs.declared.space.Holder.TheVariants.{Manager}
+use Rattle.bd_space.specs.Words.{when, first_of}
+use Rattle.bd_space.specs.Space.{Space}
+use Rattle.bd_space.specs.Seats.{Actor, actor, thread_in, process_with_pid}
+use Rattle.bd_space.specs.References.{reference_of, own_in}
+use Rattle.bd_space.specs.Commands.{command_step}
+use Rattle.bd_space.specs.Reading.{read_step}
+use Rattle.bd_space.specs.Exits.{exit_thread_step, exit_process_step}
+use Rattle.bd_space.specs.Outcomes.{Outcome, refused}
+
+-- ---- opening
+
+abbrev pub is_pid : ℕ → Bool
+is_pid pid = nat_le 1 pid && nat_le pid 2147483647
+
+abbrev pub is_window : ℕ → Bool
+is_window n = (n % 4096 == 0) && nat_le 4096 n && nat_le n 4194304
+
+abbrev pub open_fault : Space → ℕ → ℕ → ℕ → Option Fault
+open_fault s seat pid window =
+    first_of (
+    when (not (is_pid pid)) PidRange
+    ∷ when (not (is_window window)) WindowSize
+    ∷ when (is_some (thread_in s.threads seat)) HasProcess
+    ∷ when (is_some (process_with_pid s.processes pid)) PidTaken
+    ∷ [])
+
+unfoldable pub with_thread : Space → ℕ → ℕ → Space
+with_thread s seat p = record s { threads = s.threads ++ record { made = s.steps; seat = seat; process = p; looping = false } ∷ [] }
+
+unfoldable pub with_process : Space → ℕ → ℕ → ℕ → Space
+with_process s pid euid window =
+    record s { processes = s.processes ++ record { made = s.steps; pid = pid; euid = euid; window = window } ∷ [] }
+
+abbrev pub open_outcome : Space → ℕ → ℕ → ℕ → ℕ → Option Fault → Outcome
+open_outcome s seat pid euid window (Some x) = refused s x
+open_outcome s seat pid euid window None = record { answer = Opened; space = with_thread (with_process s pid euid window) seat s.steps }
+
+unfoldable pub open_step : Space → ℕ → ℕ → ℕ → ℕ → Outcome
+open_step s seat pid euid window = open_outcome s seat pid euid window (open_fault s seat pid window)
+
+-- ---- attaching
+
+abbrev pub attach_outcome : Space → ℕ → Option Process → Bool → Outcome
+attach_outcome s seat q true = refused s HasProcess
+attach_outcome s seat None false = refused s NoSuchPid
+attach_outcome s seat (Some q) false = record { answer = Opened; space = with_thread s seat q.made }
+
+unfoldable pub attach_step : Space → ℕ → ℕ → Outcome
+attach_step s seat pid = attach_outcome s seat (process_with_pid s.processes pid) (is_some (thread_in s.threads seat))
+
+-- ---- the context manager
+
+-- there is one, or the process has an object with ptr 0
+abbrev pub is_manager_busy : Space → ℕ → Bool
+is_manager_busy s p = is_some s.manager || is_some (own_in s.objects p 0)
+
+-- its object has ptr 0 and cookie 0, and is told
+unfoldable pub with_manager : Space → ℕ → Space
+with_manager s p =
+    let o : ObjectId = record { place = s.steps; index = 0 } in
+    record s {
+      manager = Some o;
+      objects = s.objects ++ record { id = o; owner = p; ptr = 0; cookie = 0; told_weak = true; told_strong = true } ∷ [];
+      references = s.references ++ reference_of s.steps 0 o true Manager ∷ [];
+    }
+
+abbrev pub manager_outcome : Space → ℕ → Bool → Outcome
+manager_outcome s p true = refused s ManagerBusy
+manager_outcome s p false = record { answer = Set; space = with_manager s p }
+
+unfoldable pub manager_step : Space → Actor → Outcome
+manager_step s a = manager_outcome s a.process.made (is_manager_busy s a.process.made)
+
+-- ---- all steps
+
+-- the step of a live thread; a seat without one is refused
+abbrev pub by_actor : Space → Option Actor → (Actor → Outcome) → Outcome
+by_actor s None f = refused s NoProcess
+by_actor s (Some a) f = f a
+
+unfoldable pub change : Space → ℕ → Step → Outcome
+change s seat (Open pid euid window) = open_step s seat pid euid window
+change s seat (Attach pid) = attach_step s seat pid
+change s seat SetManager = by_actor s (actor s seat) (manager_step s)
+change s seat (Command c parcel) = by_actor s (actor s seat) (λ a. command_step s a c parcel)
+change s seat (Read limit) = by_actor s (actor s seat) (λ a. read_step s a limit)
+change s seat ExitThread = by_actor s (actor s seat) (exit_thread_step s)
+change s seat ExitProcess = by_actor s (actor s seat) (exit_process_step s)
+
+unfoldable pub counted : Space → Space
+counted s = record s { steps = suc s.steps }
+
+-- the answer of a step, and the space after it
+abbrev pub step : Space → ℕ → Step → Outcome
+step s seat x = let o = change s seat x in record { answer = o.answer; space = counted o.space }

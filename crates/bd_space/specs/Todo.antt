@@ -1,0 +1,90 @@
+-- Work items: what is still to be read, and by whom.
+use Rattle.std.specs.Prelude.{ℕ, ◌+◌, ◌==◌, Bool, true, false, not, ◌&&◌, List, [], ◌∷◌, ◌++◌, Option, Some, None, filter, count_by, is_none, filter_map, if◌then◌else◌}
+use Rattle.std.specs.List.{list_any}
+use Rattle.bd_uapi.specs.declared.command.Return.{Return}
+use Rattle.bd_space.specs.declared.step.ObjectId.{ObjectId}
+use Rattle.bd_space.specs.declared.space.Thread.{Thread}
+use Rattle.bd_space.specs.declared.space.Frame.{Frame}
+use Rattle.bd_space.specs.declared.space.Work.{Work}
+use Rattle.bd_space.specs.declared.space.TodoList.{TodoList}
+use Rattle.bd_space.specs.declared.space.TodoList.TheVariants.{OfThread, OfProcess}
+use Rattle.bd_space.specs.declared.space.WorkKind.{WorkKind}
+use Rattle.bd_space.specs.declared.space.WorkKind.TheVariants as work
+use Rattle.bd_space.specs.Words.{same, same_identity}
+use Rattle.bd_space.specs.Space.{Space}
+use Rattle.bd_space.specs.Seats.{thread_in}
+use Rattle.bd_space.specs.Frames.{innermost_in}
+
+-- one work item more, named by its step's place and by how many of that step's items stand before it
+abbrev pub with_work : ℕ → List Work → TodoList → WorkKind → List Work
+with_work place todo list kind =
+    todo ++ record { id = record { place = place; index = count_by (λ w. w.id.place == place) todo }; list = list; kind = kind } ∷ []
+
+unfoldable pub owe : Space → TodoList → WorkKind → Space
+owe s list kind = record s { todo = with_work s.steps s.todo list kind }
+
+-- the caller of a frame, if it lives, has something to read
+abbrev pub tell_caller : Space → Frame → WorkKind → Space
+tell_caller s f kind = elim f.caller [ None ↦ s | Some t ↦ owe s (OfThread t) kind ]
+
+abbrev pub same_list : TodoList → TodoList → Bool
+same_list (OfThread t) (OfThread u) = t == u
+same_list (OfThread t) (OfProcess q) = false
+same_list (OfProcess p) (OfThread u) = false
+same_list (OfProcess p) (OfProcess q) = p == q
+
+abbrev pub is_on : TodoList → Work → Bool
+is_on list w = same_list list w.list
+
+abbrev pub has_work_in : List Work → TodoList → Bool
+has_work_in todo list = list_any (is_on list) todo
+
+-- which list a thread reads: its own if anything is on it; else its process's if it is in no call and has entered the loop
+abbrev pub reads_in : List Frame → List Work → Thread → Option TodoList
+reads_in frames todo t =
+    if has_work_in todo (OfThread t.seat) then Some (OfThread t.seat)
+    else (if t.looping && is_none (innermost_in frames t.seat) then Some (OfProcess t.process) else None)
+
+abbrev pub work_on : List Work → Option TodoList → List Work
+work_on todo None = []
+work_on todo (Some list) = filter (is_on list) todo
+
+-- the thread's list to read
+unfoldable pub list_to_read : Space → Thread → List Work
+list_to_read s t = work_on s.todo (reads_in s.frames s.todo t)
+
+-- a call, a reply or a verdict on its own list keeps a thread from calling
+abbrev pub stands_in_way : WorkKind → Bool
+stands_in_way (work.Call b) = true
+stands_in_way (work.Reply b) = true
+stands_in_way (work.Verdict r) = true
+stands_in_way _ = false
+
+unfoldable pub has_unread : Space → ℕ → Bool
+has_unread s seat = list_any (λ w. is_on (OfThread seat) w && stands_in_way w.kind) s.todo
+
+abbrev pub is_call : ℕ → WorkKind → Bool
+is_call b (work.Call c) = c == b
+is_call b _ = false
+
+abbrev pub is_notice : ObjectId → WorkKind → Bool
+is_notice o (work.Notice p) = same p o
+is_notice o _ = false
+
+abbrev pub notice_of : WorkKind → Option ObjectId
+notice_of (work.Notice o) = Some o
+notice_of _ = None
+
+abbrev pub death_of : WorkKind → Option ℕ
+death_of (work.Death n) = Some n
+death_of _ = None
+
+-- the buffer that is handed over by reading it
+abbrev pub handed_over : WorkKind → Option ℕ
+handed_over (work.Call b) = Some b
+handed_over (work.Reply b) = Some b
+handed_over _ = None
+
+-- the items that were taken go
+abbrev pub without_taken : List Work → List Work → List Work
+without_taken taken todo = filter (λ w. not (list_any (λ d. same_identity w.id d.id) taken)) todo

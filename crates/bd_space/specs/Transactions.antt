@@ -1,0 +1,110 @@
+-- The step of BC_TRANSACTION.
+use Rattle.std.specs.Prelude.{ℕ, ◌%◌, ◌^◌, ◌==◌, Bool, true, false, not, ◌&&◌, [], ◌∷◌, ◌++◌, Option, Some, None, Result, Ok, Err, is_some, is_none, option_map, option_and_then, if◌then◌else◌}
+use Rattle.bd_uapi.specs.declared.command.TransactionData.{TransactionData}
+use Rattle.bd_uapi.specs.declared.command.Return.{Return}
+use Rattle.bd_uapi.specs.declared.command.Return.TheVariants.{DeadReply, FailedReply, TransactionComplete}
+use Rattle.bd_uapi.specs.declared.fault.Cause.{Cause}
+use Rattle.bd_uapi.specs.declared.fault.Cause.TheVariants.{NotStronglyNamed, NoManager, OwnManager, DeadOwner, NotServing, Unread, CallerGone}
+use Rattle.bd_space.specs.declared.step.ObjectId.{ObjectId}
+use Rattle.bd_space.specs.declared.step.Parcel.{Parcel}
+use Rattle.bd_space.specs.declared.space.Process.{Process}
+use Rattle.bd_space.specs.declared.space.Server.TheVariants.{Pending}
+use Rattle.bd_space.specs.declared.space.TodoList.TheVariants.{OfThread}
+use Rattle.bd_space.specs.declared.space.WorkKind.TheVariants.{Complete, Refusal, Call}
+use Rattle.bd_space.specs.Words.{when, first_of, found_or, unless, and_then}
+use Rattle.bd_space.specs.Space.{Space}
+use Rattle.bd_space.specs.Seats.{Actor, process_in}
+use Rattle.bd_space.specs.References.{object_in, owned_in}
+use Rattle.bd_space.specs.Names.{strongly_named}
+use Rattle.bd_space.specs.Room.{needed, buffers_of, place_for}
+use Rattle.bd_space.specs.Frames.{innermost, served_innermost, goes_to, made_of}
+use Rattle.bd_space.specs.Todo.{owe, has_unread}
+use Rattle.bd_space.specs.Parcels.{Sending, sending_of}
+use Rattle.bd_space.specs.Delivery.{Delivery, delivered}
+use Rattle.bd_space.specs.Outcomes.{Outcome, accepted, stopped}
+
+abbrev pub is_one_way : TransactionData → Bool
+is_one_way d = d.flags.0 % 2 == 1
+
+-- the handle is the low half of the target
+abbrev pub handle_of : TransactionData → ℕ
+handle_of d = d.target % 2 ^ 32
+
+-- ---- whom it goes to
+
+-- 0 is the context manager's object, which its own process may not call; else the handle has to be strongly named
+abbrev pub not_own : Space → ℕ → ObjectId → Result ObjectId Cause
+not_own s p o = unless (when (owned_in s.objects p o) OwnManager) o
+
+unfoldable pub target_of : Space → ℕ → ℕ → Result ObjectId Cause
+target_of s p handle =
+    if handle == 0 then and_then (found_or s.manager NoManager) (not_own s p) else found_or (strongly_named s p handle) NotStronglyNamed
+
+-- the object and the live process that owns it
+pub record Callee : Type 0 where
+  pub object : ObjectId
+  pub process : Process
+
+unfoldable pub owner_of : Space → ObjectId → Option Process
+owner_of s o = option_and_then (λ x. process_in s.processes x.owner) (object_in s.objects o)
+
+abbrev pub with_owner : Space → ObjectId → Result Callee Cause
+with_owner s o = found_or (option_map (λ q. record { object = o; process = q }) (owner_of s o)) DeadOwner
+
+unfoldable pub callee_of : Space → ℕ → ℕ → Result Callee Cause
+callee_of s p handle = and_then (target_of s p handle) (with_owner s)
+
+-- ---- whether the caller may call and wait
+
+unfoldable pub caller_cause : Space → ℕ → Option Cause
+caller_cause s seat =
+    first_of (
+    when (is_some (innermost s seat) && is_none (served_innermost s seat)) NotServing
+    ∷ when (has_unread s seat) Unread
+    ∷ [])
+
+-- ---- the whole test: what is to be delivered, or the first cause against it
+
+abbrev pub placed : Space → TransactionData → Callee → Sending → Result Delivery Cause
+placed s d c x =
+    and_then (place_for c.process.window (buffers_of s.buffers c.process.made) (is_one_way d) (needed d.data_size d.offsets_size))
+    (λ start. Ok (record { receiver = c.process; target = Some c.object; one_way = is_one_way d; sending = x; start = start }))
+
+abbrev pub sent_to : Space → Actor → TransactionData → Option Parcel → Callee → Result Delivery Cause
+sent_to s a d parcel c = and_then (sending_of s a.process.made d parcel) (placed s d c)
+
+unfoldable pub transaction_check : Space → Actor → TransactionData → Option Parcel → Result Delivery Cause
+transaction_check s a d parcel =
+    and_then (callee_of s a.process.made (handle_of d))
+    (λ c. and_then (unless (if is_one_way d then None else caller_cause s a.thread.seat) c) (sent_to s a d parcel))
+
+-- ---- what changes
+
+-- a two-way call makes a frame and is due at once
+unfoldable pub call_out : Space → ℕ → ℕ → Space
+call_out s seat p =
+    record (owe s (goes_to s seat p) (Call s.steps)) {
+      frames = s.frames ++ record { made = s.steps; caller = Some seat; server = Pending; parent = option_map made_of (innermost s seat) } ∷ [];
+    }
+
+-- a one-way call is due once it is ripe
+abbrev pub called : Space → ℕ → ℕ → Bool → Space
+called s seat p true = s
+called s seat p false = call_out s seat p
+
+unfoldable pub transacted : Space → Actor → TransactionData → Delivery → Space
+transacted s a d v = called (owe (delivered s a d v) (OfThread a.thread.seat) Complete) a.thread.seat v.receiver.made v.one_way
+
+-- what is left for the writer of a refused transaction
+abbrev pub refusal : Cause → Return
+refusal NoManager = DeadReply
+refusal DeadOwner = DeadReply
+refusal CallerGone = TransactionComplete
+refusal _ = FailedReply
+
+abbrev pub transaction_outcome : Space → Actor → TransactionData → Result Delivery Cause → Outcome
+transaction_outcome s a d (Err x) = stopped x (owe s (OfThread a.thread.seat) (Refusal (refusal x)))
+transaction_outcome s a d (Ok v) = accepted (transacted s a d v)
+
+unfoldable pub transaction_step : Space → Actor → TransactionData → Option Parcel → Outcome
+transaction_step s a d parcel = transaction_outcome s a d (transaction_check s a d parcel)

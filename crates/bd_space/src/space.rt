@@ -1,0 +1,233 @@
+//! The members of the object space, as plain data.
+
+use crate::bytes::Bytes;
+use crate::step::ObjectId;
+use bd_uapi::{Return, TransactionFlags};
+
+/// A live process, named by the place of the step that opened it.
+#[derive(Clone, Copy, Debug, PartialEq, Eq)]
+pub struct Process {
+    /// The place of its Open.
+    pub made: u32,
+    /// Its pid, 1 to 2147483647.
+    pub pid: u32,
+    /// Its effective user id.
+    pub euid: u32,
+    /// The size of its window in bytes.
+    pub window: u32,
+}
+
+/// The live thread of a seat.
+#[derive(Clone, Copy, Debug, PartialEq, Eq)]
+pub struct Thread {
+    /// The place of its Open or Attach.
+    pub made: u32,
+    /// Its seat.
+    pub seat: u32,
+    /// Its process.
+    pub process: u32,
+    /// Whether it has entered the loop.
+    pub looping: bool,
+}
+
+/// An object (node), with what its owner was told.
+#[derive(Clone, Copy, Debug, PartialEq, Eq)]
+pub struct Object {
+    /// Its identity.
+    pub id: ObjectId,
+    /// The process that owns it, live or not.
+    pub owner: u32,
+    /// By which its owner knows it.
+    pub ptr: u64,
+    /// What its owner gave with it.
+    pub cookie: u64,
+    /// Whether its owner was told that it is referred to.
+    pub told_weak: bool,
+    /// Whether its owner was told that it is referred to strongly.
+    pub told_strong: bool,
+}
+
+/// The place of the step that made a reference or a work item, and which of that step's it is, from 0.
+#[derive(Clone, Copy, Debug, PartialEq, Eq)]
+pub struct Identity {
+    /// The place of the step.
+    pub place: u32,
+    /// Which of that step's it is.
+    pub index: u64,
+}
+
+/// Who refers to an object, and why.
+#[derive(Clone, Copy, Debug, PartialEq, Eq)]
+pub enum Holder {
+    /// The process asked for it.
+    Asked(u32),
+    /// The buffer made there carries it, in the window of a process.
+    Carried(u32, u32),
+    /// The buffer made there was sent to it, in the window of a process.
+    Target(u32, u32),
+    /// The owner was told of it, and hasn't acknowledged that.
+    Handshake,
+    /// It is the context manager's.
+    Manager,
+}
+
+/// A reference to an object.
+#[derive(Clone, Copy, Debug, PartialEq, Eq)]
+pub struct Reference {
+    /// Its identity.
+    pub id: Identity,
+    /// The object.
+    pub object: ObjectId,
+    /// Whether it is a strong one.
+    pub strong: bool,
+    /// Who refers to it.
+    pub holder: Holder,
+}
+
+/// The number (handle) by which a process that isn't the owner knows an object.
+#[derive(Clone, Copy, Debug, PartialEq, Eq)]
+pub struct Name {
+    /// The process.
+    pub process: u32,
+    /// The number.
+    pub number: u32,
+    /// The object.
+    pub object: ObjectId,
+}
+
+/// Who serves an open call.
+#[derive(Clone, Copy, Debug, PartialEq, Eq)]
+pub enum Server {
+    /// Nobody yet: the call is unread.
+    Pending,
+    /// The thread of this seat.
+    Serving(u32),
+    /// The one that would have, or had begun to, has ended.
+    Gone,
+}
+
+/// An open two-way call, named by the place of its transaction.
+#[derive(Clone, Copy, Debug, PartialEq, Eq)]
+pub struct Frame {
+    /// The place of its transaction.
+    pub made: u32,
+    /// The seat of the calling thread, unless that has ended.
+    pub caller: Option<u32>,
+    /// Who serves it.
+    pub server: Server,
+    /// The frame that its caller was in.
+    pub parent: Option<u32>,
+}
+
+/// A live buffer, named by the place of its transaction or reply, with what it hands over.
+#[derive(Drop, Debug)]
+pub struct Buffer {
+    /// The place of its transaction or reply.
+    pub made: u32,
+    /// The process whose window it lies in.
+    pub receiver: u32,
+    /// Where it begins in the window.
+    pub start: u32,
+    /// How much of the window it takes.
+    pub size: u32,
+    /// Whether it is a one-way call's.
+    pub one_way: bool,
+    /// Whether it was handed out.
+    pub handed: bool,
+    /// The object that a transaction goes to.
+    pub target: Option<ObjectId>,
+    /// The code, as written.
+    pub code: u32,
+    /// The flags, as written.
+    pub flags: TransactionFlags,
+    /// The sender's effective user id.
+    pub euid: u32,
+    /// The data, as the receiver is to see it.
+    pub bytes: Bytes,
+    /// The offsets of the objects in it.
+    pub offsets: Bytes,
+}
+
+/// A one-way call whose buffer lives, named by the place of its transaction.
+#[derive(Clone, Copy, Debug, PartialEq, Eq)]
+pub struct Turn {
+    /// The place of its transaction.
+    pub made: u32,
+    /// The process whose window its buffer lies in.
+    pub receiver: u32,
+    /// The object that it goes to.
+    pub target: ObjectId,
+    /// Whether it was handed out.
+    pub handed: bool,
+}
+
+/// Whose list of work items it is.
+#[derive(Clone, Copy, Debug, PartialEq, Eq)]
+pub enum TodoList {
+    /// The thread's of this seat.
+    OfThread(u32),
+    /// The process's.
+    OfProcess(u32),
+}
+
+/// What is still to be read.
+#[derive(Clone, Copy, Debug, PartialEq, Eq)]
+pub enum WorkKind {
+    /// The references to an own object have changed: `BR_INCREFS` and so on.
+    Notice(ObjectId),
+    /// The transaction or reply was accepted: `BR_TRANSACTION_COMPLETE`.
+    Complete,
+    /// The transaction or reply was refused.
+    Refusal(Return),
+    /// A call, by its buffer: `BR_TRANSACTION`.
+    Call(u32),
+    /// A reply, by its buffer: `BR_REPLY`.
+    Reply(u32),
+    /// An accepted call failed: `BR_DEAD_REPLY` or `BR_FAILED_REPLY`.
+    Verdict(Return),
+    /// The owner of an object has ended, by the notification: `BR_DEAD_BINDER`.
+    Death(u32),
+    /// A death notification was cleared, by its cookie: `BR_CLEAR_DEATH_NOTIFICATION_DONE`.
+    Cleared(u64),
+}
+
+/// A work item.
+#[derive(Clone, Copy, Debug, PartialEq, Eq)]
+pub struct Work {
+    /// Its identity.
+    pub id: Identity,
+    /// Where it is read.
+    pub list: TodoList,
+    /// What it is.
+    pub kind: WorkKind,
+}
+
+/// How far a death notification is.
+#[derive(Clone, Copy, Debug, PartialEq, Eq)]
+pub enum Phase {
+    /// The owner lives.
+    Armed,
+    /// The owner has ended, and a work item says so.
+    Queued,
+    /// That was read.
+    Told,
+    /// And acknowledged.
+    Done,
+}
+
+/// A death notification, named by the place of its request.
+#[derive(Clone, Copy, Debug, PartialEq, Eq)]
+pub struct DeathNotification {
+    /// The place of its request.
+    pub made: u32,
+    /// The process that asked for it.
+    pub process: u32,
+    /// The object.
+    pub object: ObjectId,
+    /// What the process gave with it.
+    pub cookie: u64,
+    /// How far it is.
+    pub phase: Phase,
+    /// Whether it was cleared while it was queued or told.
+    pub cleared: bool,
+}
