@@ -5,7 +5,7 @@ use Rattle.bd_uapi.specs.declared.command.Command.TheVariants.{Transaction, Repl
 use Rattle.bd_space.specs.declared.step.Parcel.{Parcel}
 use Rattle.bd_space.specs.Words.{changed}
 use Rattle.bd_space.specs.Space.{Space}
-use Rattle.bd_space.specs.Seats.{Actor}
+use Rattle.bd_space.specs.declared.space.Actor.{Actor}
 use Rattle.bd_space.specs.Transactions.{transaction_step}
 use Rattle.bd_space.specs.Replies.{reply_step}
 use Rattle.bd_space.specs.Freeing.{free_step}

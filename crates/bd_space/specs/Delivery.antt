@@ -15,13 +15,14 @@ use Rattle.bd_space.specs.declared.space.Holder.TheVariants.{Carried, Target}
 use Rattle.bd_space.specs.declared.space.TodoList.TheVariants.{OfThread}
 use Rattle.bd_space.specs.Words.{is_some_and, same, overwritten}
 use Rattle.bd_space.specs.Space.{Space}
-use Rattle.bd_space.specs.Seats.{Actor}
+use Rattle.bd_space.specs.declared.space.Actor.{Actor}
 use Rattle.bd_space.specs.References.{reference_of, object_in}
 use Rattle.bd_space.specs.Names.{number_in, assign_numbers}
 use Rattle.bd_space.specs.Room.{needed}
 use Rattle.bd_space.specs.Todo.{is_notice}
 use Rattle.bd_space.specs.Notices.{with_notice}
-use Rattle.bd_space.specs.Parcels.{Item, Sending, object_of_item, is_own, is_strong_kind}
+use Rattle.bd_space.specs.declared.space.Item.{Item}
+use Rattle.bd_space.specs.Parcels.{Sending, object_of_item, is_own, is_strong_kind}
 
 -- what is delivered: to which process, on which object, whether one-way, what, and where in the receiver's window
 pub record Delivery : Type 0 where

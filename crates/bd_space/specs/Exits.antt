@@ -21,7 +21,7 @@ use Rattle.bd_space.specs.declared.space.Phase.{Phase}
 use Rattle.bd_space.specs.declared.space.Phase.TheVariants.{Armed, Queued}
 use Rattle.bd_space.specs.Words.{is_some_and}
 use Rattle.bd_space.specs.Space.{Space}
-use Rattle.bd_space.specs.Seats.{Actor}
+use Rattle.bd_space.specs.declared.space.Actor.{Actor}
 use Rattle.bd_space.specs.References.{owned_in, buffer_of_holder, is_asked_by, is_in_window, is_of_owner}
 use Rattle.bd_space.specs.Todo.{owe, is_on, is_call, handed_over}
 use Rattle.bd_space.specs.Notices.{follow}

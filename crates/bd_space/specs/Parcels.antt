@@ -13,6 +13,9 @@ use Rattle.bd_parcel.specs.Reading.{object_at}
 use Rattle.bd_space.specs.declared.step.ObjectId.{ObjectId}
 use Rattle.bd_space.specs.declared.step.Parcel.{Parcel}
 use Rattle.bd_space.specs.declared.space.Object.{Object}
+use Rattle.bd_space.specs.declared.space.Item.{Item}
+use Rattle.bd_space.specs.declared.space.Resolved.{Resolved}
+use Rattle.std.specs.Option.{option_to_list}
 use Rattle.bd_space.specs.Words.{and_then}
 use Rattle.bd_space.specs.Space.{Space}
 use Rattle.bd_space.specs.References.{own_in}
@@ -31,12 +34,6 @@ is_strong_kind WeakBinder = false
 is_strong_kind Handle = true
 is_strong_kind WeakHandle = false
 
--- an object of a parcel: its offset, what stands there, and which object it is
-pub record Item : Type 0 where
-  pub at : ℕ
-  pub flat : FlatObject
-  pub object : ObjectId
-
 abbrev pub object_of_item : Item → ObjectId
 object_of_item x = x.object
 
@@ -46,11 +43,6 @@ pub record Sending : Type 0 where
   pub offsets : List ℕ
   pub made : List Object
   pub items : List Item
-
--- which object it is, and that object where it is made
-pub record Resolved : Type 0 where
-  pub object : ObjectId
-  pub new : List Object
 
 -- an object that the step at this place makes after these
 abbrev pub new_object : ℕ → ℕ → List Object → FlatObject → Object
@@ -67,13 +59,13 @@ new_object place p made x = record {
 abbrev pub resolve_own : Space → ℕ → List Object → FlatObject → Result Resolved Cause
 resolve_own s p made x =
     elim (own_in (s.objects ++ made) p x.binder) [
-      | None ↦ let o = new_object s.steps p made x in Ok (record { object = o.id; new = o ∷ [] })
-      | Some o ↦ if o.cookie == x.cookie then Ok (record { object = o.id; new = [] }) else Err OtherCookie
+      | None ↦ let o = new_object s.steps p made x in Ok (record { object = o.id; new = Some o })
+      | Some o ↦ if o.cookie == x.cookie then Ok (record { object = o.id; new = None }) else Err OtherCookie
     ]
 
 abbrev pub resolve_handle : Option ObjectId → Result Resolved Cause
 resolve_handle None = Err NotHeld
-resolve_handle (Some o) = Ok (record { object = o; new = [] })
+resolve_handle (Some o) = Ok (record { object = o; new = None })
 
 -- the object that p sends, where it has made these already; a strong handle has to be strongly named
 unfoldable pub resolve : Space → ℕ → List Object → FlatObject → Result Resolved Cause
@@ -90,7 +82,7 @@ abbrev pub resolve_all : Space → ℕ → List ℕ → List ℕ → List Object
 resolve_all s p bytes offsets made items [] = Ok (record { bytes = bytes; offsets = offsets; made = made; items = items })
 resolve_all s p bytes offsets made items (at ∷ ats) =
     and_then (resolve s p made (object_at at bytes))
-    (λ r. resolve_all s p bytes offsets (made ++ r.new) (items ++ record { at = at; flat = object_at at bytes; object = r.object } ∷ []) ats)
+    (λ r. resolve_all s p bytes offsets (made ++ option_to_list r.new) (items ++ record { at = at; flat = object_at at bytes; object = r.object } ∷ []) ats)
 
 abbrev pub cause_of_walk : WalkFault → Cause
 cause_of_walk Size = OffsetsSize

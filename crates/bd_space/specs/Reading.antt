@@ -24,7 +24,8 @@ use Rattle.bd_space.specs.declared.space.WorkKind.TheVariants as work
 use Rattle.bd_space.specs.declared.space.Phase.TheVariants.{Told}
 use Rattle.bd_space.specs.Words.{when, first_of, is_some_and, same, changed, round_up}
 use Rattle.bd_space.specs.Space.{Space}
-use Rattle.bd_space.specs.Seats.{Actor, actor}
+use Rattle.bd_space.specs.declared.space.Actor.{Actor}
+use Rattle.bd_space.specs.Seats.{actor}
 use Rattle.bd_space.specs.References.{reference_of, held_in, strong_in, object_in}
 use Rattle.bd_space.specs.Frames.{is_frame}
 use Rattle.bd_space.specs.Todo.{list_to_read, notice_of, death_of, handed_over, is_call, without_taken}

@@ -10,7 +10,8 @@ use Rattle.bd_space.specs.declared.space.TodoList.TheVariants.{OfThread}
 use Rattle.bd_space.specs.declared.space.WorkKind.TheVariants as work
 use Rattle.bd_space.specs.Words.{found_or, and_then}
 use Rattle.bd_space.specs.Space.{Space}
-use Rattle.bd_space.specs.Seats.{Actor, actor}
+use Rattle.bd_space.specs.declared.space.Actor.{Actor}
+use Rattle.bd_space.specs.Seats.{actor}
 use Rattle.bd_space.specs.Room.{needed, buffers_of, place_for}
 use Rattle.bd_space.specs.Frames.{served_innermost, closed}
 use Rattle.bd_space.specs.Todo.{owe, tell_caller}

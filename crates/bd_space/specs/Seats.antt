@@ -3,6 +3,7 @@ use Rattle.std.specs.Prelude.{ℕ, ◌==◌, Bool, List, Option, Some, None, fin
 use Rattle.std.specs.List.{list_any}
 use Rattle.bd_space.specs.declared.space.Process.{Process}
 use Rattle.bd_space.specs.declared.space.Thread.{Thread}
+use Rattle.bd_space.specs.declared.space.Actor.{Actor}
 use Rattle.bd_space.specs.Space.{Space}
 
 -- the process lives
@@ -24,10 +25,6 @@ abbrev pub thread_in : List Thread → ℕ → Option Thread
 thread_in threads seat = find (λ t. t.seat == seat) threads
 
 -- who makes a step: a live thread and its process
-pub record Actor : Type 0 where
-  pub thread : Thread
-  pub process : Process
-
 abbrev pub actor_of : Space → Thread → Option Actor
 actor_of s t = option_map (λ q. record { thread = t; process = q }) (process_in s.processes t.process)
 

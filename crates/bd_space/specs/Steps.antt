@@ -13,7 +13,8 @@ use Rattle.bd_space.specs.declared.space.Object.{Object}
 use Rattle.bd_space.specs.declared.space.Holder.TheVariants.{Manager}
 use Rattle.bd_space.specs.Words.{when, first_of}
 use Rattle.bd_space.specs.Space.{Space}
-use Rattle.bd_space.specs.Seats.{Actor, actor, thread_in, process_with_pid}
+use Rattle.bd_space.specs.declared.space.Actor.{Actor}
+use Rattle.bd_space.specs.Seats.{actor, thread_in, process_with_pid}
 use Rattle.bd_space.specs.References.{reference_of, own_in}
 use Rattle.bd_space.specs.Commands.{command_step}
 use Rattle.bd_space.specs.Reading.{read_step}

@@ -8,12 +8,14 @@ use Rattle.bd_uapi.specs.declared.fault.Cause.TheVariants.{NotStronglyNamed, NoM
 use Rattle.bd_space.specs.declared.step.ObjectId.{ObjectId}
 use Rattle.bd_space.specs.declared.step.Parcel.{Parcel}
 use Rattle.bd_space.specs.declared.space.Process.{Process}
+use Rattle.bd_space.specs.declared.space.Callee.{Callee}
 use Rattle.bd_space.specs.declared.space.Server.TheVariants.{Pending}
 use Rattle.bd_space.specs.declared.space.TodoList.TheVariants.{OfThread}
 use Rattle.bd_space.specs.declared.space.WorkKind.TheVariants.{Complete, Refusal, Call}
 use Rattle.bd_space.specs.Words.{when, first_of, found_or, unless, and_then}
 use Rattle.bd_space.specs.Space.{Space}
-use Rattle.bd_space.specs.Seats.{Actor, process_in}
+use Rattle.bd_space.specs.declared.space.Actor.{Actor}
+use Rattle.bd_space.specs.Seats.{process_in}
 use Rattle.bd_space.specs.References.{object_in, owned_in}
 use Rattle.bd_space.specs.Names.{strongly_named}
 use Rattle.bd_space.specs.Room.{needed, buffers_of, place_for}
@@ -39,11 +41,6 @@ not_own s p o = unless (when (owned_in s.objects p o) OwnManager) o
 unfoldable pub target_of : Space → ℕ → ℕ → Result ObjectId Cause
 target_of s p handle =
     if handle == 0 then and_then (found_or s.manager NoManager) (not_own s p) else found_or (strongly_named s p handle) NotStronglyNamed
-
--- the object and the live process that owns it
-pub record Callee : Type 0 where
-  pub object : ObjectId
-  pub process : Process
 
 unfoldable pub owner_of : Space → ObjectId → Option Process
 owner_of s o = option_and_then (λ x. process_in s.processes x.owner) (object_in s.objects o)

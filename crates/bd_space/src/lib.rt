@@ -9,7 +9,7 @@ mod step;
 pub use bytes::{Bytes, Notes};
 pub use record::{Entries, Record};
 pub use space::{
-    Buffer, DeathNotification, Frame, Holder, Identity, Name, Object, Phase, Process, Reference,
-    Server, Thread, TodoList, Turn, Work, WorkKind,
+    Actor, Buffer, Callee, DeathNotification, Frame, Holder, Identity, Item, Name, Object, Phase,
+    Process, Reference, Resolved, Server, Thread, TodoList, Turn, Work, WorkKind,
 };
 pub use step::{Answer, Entry, ObjectId, Parcel, Request, Step, StepAnswer, Stop};

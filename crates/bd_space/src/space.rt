@@ -2,7 +2,7 @@
 
 use crate::bytes::Bytes;
 use crate::step::ObjectId;
-use bd_uapi::{Return, TransactionFlags};
+use bd_uapi::{FlatObject, Return, TransactionFlags};
 
 /// A live process, named by the place of the step that opened it.
 #[derive(Clone, Copy, Debug, PartialEq, Eq)]
@@ -230,4 +230,42 @@ pub struct DeathNotification {
     pub phase: Phase,
     /// Whether it was cleared while it was queued or told.
     pub cleared: bool,
+}
+
+/// Who makes a step: a live thread and its process.
+#[derive(Clone, Copy, Debug, PartialEq, Eq)]
+pub struct Actor {
+    /// The thread.
+    pub thread: Thread,
+    /// Its process.
+    pub process: Process,
+}
+
+/// Whom a transaction goes to: an object and the live process that owns it.
+#[derive(Clone, Copy, Debug, PartialEq, Eq)]
+pub struct Callee {
+    /// The object.
+    pub object: ObjectId,
+    /// Its owner.
+    pub process: Process,
+}
+
+/// An object of a parcel on its way.
+#[derive(Clone, Copy, Debug, PartialEq, Eq)]
+pub struct Item {
+    /// Its offset in the data.
+    pub at: u64,
+    /// What stands there.
+    pub flat: FlatObject,
+    /// Which object it is.
+    pub object: ObjectId,
+}
+
+/// Which object is sent, and that object itself where the sending makes it.
+#[derive(Clone, Copy, Debug, PartialEq, Eq)]
+pub struct Resolved {
+    /// The object.
+    pub object: ObjectId,
+    /// The object that is to be made, if it is.
+    pub new: Option<Object>,
 }
