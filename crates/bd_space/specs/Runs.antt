@@ -21,7 +21,7 @@ use Rattle.bd_space.specs.declared.step.Answer.{Answer}
 use Rattle.bd_space.specs.declared.step.Answer.TheVariants.{Opened, Set, Exited, Wrote, Got, Refused}
 use Rattle.bd_space.specs.Space.{Space}
 use Rattle.bd_space.specs.Steps.{step}
-use Rattle.bd_space.specs.Histories.{History, space_after, is_at_limit}
+use Rattle.bd_space.specs.Histories.{History, after, space_after, is_at_limit}
 
 -- ---- the commands of a stream
 
@@ -198,3 +198,9 @@ first_step ExitProcess = Some step_of.ExitProcess
 -- the history is full, or the request's first step would need a number past the limit
 abbrev pub IsAtLimit : History → ℕ → Request → Type 0
 IsAtLimit h seat request = is_at_limit h seat (first_step request) ≡ true
+
+-- ---- lists of requests, for worked examples: each answer, and how long the history is then
+
+abbrev pub runs : Space → List (ℕ × Request) → List (Answer × ℕ)
+runs s [] = []
+runs s (x ∷ xs) = let r = run s x.0 x.1 in let z = after s r.entries in (r.answer, z.steps) ∷ runs z xs

@@ -1,0 +1,4 @@
+pub mod Script
+pub mod Worked
+pub mod Small
+pub mod Writes

@@ -1,0 +1,38 @@
+-- Worked examples of requests.
+use Rattle.std.specs.Prelude.{ℕ, ◌≡◌, List, [], ◌∷◌, ◌++◌, Some, None}
+use Rattle.bd_uapi.specs.declared.fault.Note.TheVariants as note
+use Rattle.bd_uapi.specs.declared.fault.Cause.TheVariants as cause
+use Rattle.bd_uapi.specs.declared.fault.Fault.TheVariants as fault
+use Rattle.bd_uapi.specs.declared.command.Command.TheVariants as bc
+use Rattle.bd_codec.specs.Spelling.{command_bytes}
+use Rattle.bd_space.specs.declared.step.Request.{Request}
+use Rattle.bd_space.specs.declared.step.Request.TheVariants.{Open, SetManager, Write}
+use Rattle.bd_space.specs.declared.step.Stop.TheVariants as stop
+use Rattle.bd_space.specs.declared.step.Answer.{Answer}
+use Rattle.bd_space.specs.declared.step.Answer.TheVariants.{Opened, Set, Wrote, Refused}
+use Rattle.bd_space.specs.Space.{opening}
+use Rattle.bd_space.specs.Runs.{runs}
+use Rattle.bd_examples.specs.Script.{hex, sending}
+
+abbrev pub base_requests : List (ℕ × Request)
+base_requests = (0, Open 100 1000 4096) ∷ (0, SetManager) ∷ (0, Write (hex "0c630000") []) ∷ (1, Open 200 2000 4096) ∷ []
+
+abbrev pub base_answers : List (Answer × ℕ)
+base_answers = (Opened, 1) ∷ (Set, 2) ∷ (Wrote 4 [] None, 3) ∷ (Opened, 4) ∷ []
+
+abbrev pub Answers : List (ℕ × Request) → List (Answer × ℕ) → Type 0
+Answers requests found = runs opening (base_requests ++ requests) ≡ base_answers ++ found
+
+-- unreadable commands, and a stream of two commands whose first is refused
+abbrev pub unreadable : Type 0
+unreadable =
+    Answers ((1, Write [] []) ∷ (1, Write (hex "0c6300") []) ∷ (1, Write (hex "11634840") []) ∷ (1, Write (hex "0d720000") []) ∷ (1, Write (command_bytes (bc.Transaction (sending 5 1 1 [] [])) ++ hex "0c630000") []) ∷ [])
+    ((Wrote 0 [] None, 4) ∷ (Wrote 0 [] (Some (stop.Fault fault.ShortCommand)), 4) ∷ (Wrote 0 [] (Some (stop.Fault fault.RefusedCommand)), 4) ∷ (Wrote 0 [] (Some (stop.Fault fault.UnknownCommand)), 4)
+    ∷ (Wrote 68 [] (Some (stop.Cause cause.NotStronglyNamed)), 5) ∷ [])
+
+-- three commands of one stream, two of them with notes; a seat without a process; areas that fall short
+abbrev pub several : Type 0
+several =
+    Answers ((1, Write (hex "0563044000000000 0663044001000000 0463044007000000") []) ∷ (2, Write (hex "0c630000 0c630000") [])
+    ∷ (1, Write (command_bytes (bc.Transaction (record (sending 0 1 1 [] []) { data_size = 2; buffer = 18446744073709551615 }))) (hex "6869")) ∷ (1, Write (command_bytes (bc.Transaction (sending 4294967296 1 1 [] []))) []) ∷ [])
+    ((Wrote 24 ((1, note.NoSuchNumber) ∷ (2, note.NoSuchNumber) ∷ []) None, 7) ∷ (Refused fault.NoProcess, 8) ∷ (Wrote 68 [] (Some (stop.Cause cause.OutsideArea)), 9) ∷ (Wrote 68 [] None, 10) ∷ [])
