@@ -78,18 +78,18 @@ abbrev pub returns_of_object : List Reference → Option Object → List Return
 returns_of_object references None = []
 returns_of_object references (Some x) = notice_returns references x
 
-unfoldable pub returns : Space → WorkKind → List Return
-returns s (work.Notice o) = returns_of_object s.references (object_in s.objects o)
-returns s work.Complete = br.TransactionComplete ∷ []
-returns s (work.Refusal r) = r ∷ []
-returns s (work.Call b) = one (option_map (λ x. br.Transaction (record_of s x)) (buffer_in s.buffers b))
-returns s (work.Reply b) = one (option_map (λ x. br.Reply (record_of s x)) (buffer_in s.buffers b))
-returns s (work.Verdict r) = r ∷ []
-returns s (work.Death n) = one (option_map (λ x. br.DeadBinder x.cookie) (find (is_notification n) s.deaths))
-returns s (work.Cleared cookie) = br.ClearDeathNotificationDone cookie ∷ []
+unfoldable pub returns_of : Space → WorkKind → List Return
+returns_of s (work.Notice o) = returns_of_object s.references (object_in s.objects o)
+returns_of s work.Complete = br.TransactionComplete ∷ []
+returns_of s (work.Refusal r) = r ∷ []
+returns_of s (work.Call b) = one (option_map (λ x. br.Transaction (record_of s x)) (buffer_in s.buffers b))
+returns_of s (work.Reply b) = one (option_map (λ x. br.Reply (record_of s x)) (buffer_in s.buffers b))
+returns_of s (work.Verdict r) = r ∷ []
+returns_of s (work.Death n) = one (option_map (λ x. br.DeadBinder x.cookie) (find (is_notification n) s.deaths))
+returns_of s (work.Cleared cookie) = br.ClearDeathNotificationDone cookie ∷ []
 
 abbrev pub bytes_read : Space → Work → List ℕ
-bytes_read s w = concat (map return_bytes (returns s w.kind))
+bytes_read s w = concat (map return_bytes (returns_of s w.kind))
 
 -- ---- the items that a read takes
 
@@ -128,7 +128,7 @@ handshakes_for place k o [] = []
 handshakes_for place k o (strong ∷ rest) = reference_of place k o strong Handshake ∷ handshakes_for place (k + 1) o rest
 
 abbrev pub handshakes_of : Space → ℕ → WorkKind → List Reference
-handshakes_of s k kind = elim (notice_of kind) [ None ↦ [] | Some o ↦ handshakes_for s.steps k o (flat_map shakes (returns s kind)) ]
+handshakes_of s k kind = elim (notice_of kind) [ None ↦ [] | Some o ↦ handshakes_for s.steps k o (flat_map shakes (returns_of s kind)) ]
 
 -- numbered from k in the order of the reading
 abbrev pub handshakes : Space → ℕ → List Work → List Reference
