@@ -81,9 +81,13 @@ is_out Done = false
 unfoldable pub mark_cleared : Space → ℕ → Space
 mark_cleared s made = record s { deaths = changed (is_notification made) (λ x. record x { cleared = true }) s.deaths }
 
--- and else it goes, and the thread is told
+-- it goes, and the thread is told
+unfoldable pub death_ended : Space → ℕ → DeathNotification → Space
+death_ended s seat x = owe (without_death s x.made) (OfThread seat) (Cleared x.cookie)
+
+-- armed or done it goes
 unfoldable pub cleared : Space → ℕ → DeathNotification → Space
-cleared s seat x = if is_out x.phase then mark_cleared s x.made else owe (without_death s x.made) (OfThread seat) (Cleared x.cookie)
+cleared s seat x = if is_out x.phase then mark_cleared s x.made else death_ended s seat x
 
 abbrev pub clear_outcome : Space → ℕ → Result DeathNotification Note → Outcome
 clear_outcome s seat (Err n) = noted s n
@@ -110,7 +114,7 @@ with_phase s made phase = record s { deaths = changed (is_notification made) (λ
 
 -- a marked one goes, and the thread is told; else it is done
 unfoldable pub death_done : Space → ℕ → DeathNotification → Space
-death_done s seat x = if x.cleared then owe (without_death s x.made) (OfThread seat) (Cleared x.cookie) else with_phase s x.made Done
+death_done s seat x = if x.cleared then death_ended s seat x else with_phase s x.made Done
 
 abbrev pub death_done_outcome : Space → ℕ → Option DeathNotification → Outcome
 death_done_outcome s seat None = noted s NoneTold
