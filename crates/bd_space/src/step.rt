@@ -1,7 +1,10 @@
 //! Requests and steps, their answers, and records of histories.
 
+ghost use Rattle.std.specs.Prelude.{◌≡◌, IfOk};
+
 use crate::bytes::{Bytes, Notes};
 use bd_uapi::{Cause, Command, Fault, Note};
+use std::alloc::AllocError;
 
 /// An identity: the place of the step that made a thing in the history, and which of that step's things of its
 /// kind it is, from 0.
@@ -20,6 +23,18 @@ pub struct Parcel {
     pub bytes: Bytes,
     /// The offsets of the objects in the data, 8 bytes each.
     pub offsets: Bytes,
+}
+
+impl Parcel {
+    /// The same parcel again, in memory of its own.
+    pub fn copied(&self) -> Result<Parcel, AllocError>
+        ensures { IfOk result (λ p. p ≡ self.now) }
+    {
+        Ok(Parcel {
+            bytes: self.bytes.copied()?,
+            offsets: self.offsets.copied()?,
+        })
+    }
 }
 
 /// What a seat asks of the driver.
@@ -157,6 +172,32 @@ pub enum StepAnswer {
     },
     /// The step was refused, and changed nothing.
     Refused(Fault),
+}
+
+impl StepAnswer {
+    /// The same answer again, in memory of its own.
+    pub fn copied(&self) -> Result<StepAnswer, AllocError>
+        ensures { IfOk result (λ a. a ≡ self.now) }
+    {
+        Ok(match self {
+            StepAnswer::Opened => StepAnswer::Opened,
+            StepAnswer::Set => StepAnswer::Set,
+            StepAnswer::Exited => StepAnswer::Exited,
+            StepAnswer::Accepted => StepAnswer::Accepted,
+            StepAnswer::Noted(note) => StepAnswer::Noted(*note),
+            StepAnswer::Stopped(cause) => StepAnswer::Stopped(*cause),
+            StepAnswer::Got {
+                stream,
+                bytes,
+                offsets,
+            } => StepAnswer::Got {
+                stream: stream.copied()?,
+                bytes: bytes.copied()?,
+                offsets: offsets.copied()?,
+            },
+            StepAnswer::Refused(fault) => StepAnswer::Refused(*fault),
+        })
+    }
 }
 
 /// One step of a history, by a seat, with its answer.
