@@ -1,0 +1,11 @@
+//! The table of threads, open calls (frames), work items and one-way calls.
+#![tactic(auto)]
+
+mod frames;
+mod reading;
+mod table;
+mod threads;
+mod todo;
+mod turns;
+
+pub use table::CallTable;
