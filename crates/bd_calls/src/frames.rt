@@ -2,7 +2,7 @@
 #![tactic(auto, unfolding(bd_space::specs::Frames::innermost, bd_space::specs::Frames::served_innermost, bd_space::specs::Frames::goes_to, bd_space::specs::Frames::closed, crate::specs::Room::thread_room, crate::specs::Room::frame_room, crate::specs::Room::turn_room, crate::specs::Room::work_room, crate::specs::Room::frame_count, crate::specs::Room::turn_count))]
 
 ghost use Rattle.std.specs.Prelude.{ℕ, ◌≡◌, ◌==◌, ◌||◌, ◌<◌, ◌≤◌, ◌^◌, length, vec_len, vec_capacity, not, nat_le, find, filter, reverse, option_map};
-ghost use Rattle.std.specs.List.{list_all};
+ghost use Rattle.std.specs.List.{list_all, list_any};
 ghost use Rattle.std.specs.Slice.Iter.{iter_rest};
 ghost use Rattle.std.specs.Iterator.{YieldsFirst, item_count};
 ghost use Rattle.bd_space.specs.Frames as spec;
@@ -20,6 +20,30 @@ pub(crate) fn serves(server: Server, seat: u32) -> bool
         Server::Serving(t) => t == seat,
         _ => false,
     }
+}
+
+pub(crate) fn is_gone(server: Server) -> bool
+    ensures { result ≡ spec.is_gone server }
+{
+    match server {
+        Server::Gone => true,
+        _ => false,
+    }
+}
+
+fn is_child_of(frame: &Frame, child: &Frame) -> bool
+    ensures { result ≡ spec.is_child_of frame.now child.now }
+{
+    match child.parent {
+        Some(made) => made == frame.made,
+        None => false,
+    }
+}
+
+pub(crate) fn has_child(frames: &[Frame], frame: &Frame) -> bool
+    ensures { result ≡ list_any (spec.is_child_of frame.now) frames.now }
+{
+    frames.iter().any(|f| is_child_of(frame, f))
 }
 
 fn calls(frame: &Frame, seat: u32) -> bool
@@ -124,7 +148,7 @@ fn waits(threads: &[Thread], process: u32, frame: &Frame) -> bool
     }
 }
 
-fn innermost_made(frames: &[Frame], seat: u32) -> Option<u32>
+pub(crate) fn innermost_made(frames: &[Frame], seat: u32) -> Option<u32>
     ensures { result ≡ option_map spec.made_of (spec.innermost_in frames.now seat) }
 {
     innermost_of(frames, seat).map(|f| f.made)

@@ -1,6 +1,8 @@
 //! The table of threads, open calls (frames), work items and one-way calls.
 #![tactic(auto)]
 
+mod calls;
+mod exits;
 mod frames;
 mod reading;
 mod table;

@@ -69,7 +69,8 @@ fn handed_by(taken: &[Work]) -> Option<u32>
     None
 }
 
-fn handed_over(kind: WorkKind) -> Option<u32>
+/// The buffer that is handed over by reading a work item of this kind.
+pub(crate) fn handed_over(kind: WorkKind) -> Option<u32>
     ensures { result ≡ works.handed_over kind }
 {
     match kind {
