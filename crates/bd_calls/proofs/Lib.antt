@@ -1,0 +1,6 @@
+pub mod Ancestry
+pub mod Changed
+pub mod OneWay
+pub mod Plain
+pub mod Rooms
+pub mod Settling

@@ -1,0 +1,132 @@
+-- The one-way calls of changed buffers.
+use Rattle.std.proofs.Common.{◌≡◌, ◌==◌, ℕ, Bool, true, false, cond, not, List, [], ◌∷◌, ◌++◌, Option, Some, None, refl, ap, sym, ◌∙◌, filter, find, arith}
+use Rattle.std.specs.Option.{option_map, option_to_list, option_and_then}
+use Rattle.std.specs.List.{cons_option}
+use Rattle.bd_space.specs.declared.step.ObjectId.{ObjectId}
+use Rattle.bd_space.specs.declared.space.Buffer.{Buffer}
+use Rattle.bd_space.specs.declared.space.Turn.{Turn}
+use Rattle.bd_space.specs.Words.{changed}
+use Rattle.bd_space.specs.Turns.{turn_of, turns_of}
+use Rattle.bd_space.specs.Freeing.{is_made_at}
+use Rattle.bd_space.specs.Reading.{buffer_in, hand_out, handed_buffers}
+use Rattle.bd_calls.specs.Handing.{hand_turn, handed_turns}
+
+-- ---- one more
+
+cons-append : (o : Option Turn) (ts us : List Turn) → cons_option o (ts ++ us) ≡ cons_option o ts ++ us
+cons-append None ts us = refl
+cons-append (Some t) ts us = refl
+
+pub turns-add : (bs : List Buffer) (b : Buffer) → turns_of (bs ++ b ∷ []) ≡ turns_of bs ++ option_to_list (turn_of b)
+turns-add [] b = single (turn_of b)
+  where
+    single : (o : Option Turn) → cons_option o [] ≡ option_to_list o
+    single None = refl
+    single (Some t) = refl
+turns-add (x ∷ bs) b = ap (cons_option (turn_of x)) (turns-add bs b) ∙ cons-append (turn_of x) (turns_of bs) (option_to_list (turn_of b))
+
+-- ---- some go
+
+kept : (p : Bool) (b : Buffer) (bs : List Buffer) → turns_of (cond p (b ∷ bs) bs) ≡ cond p (cons_option (turn_of b) (turns_of bs)) (turns_of bs)
+kept true b bs = refl
+kept false b bs = refl
+
+module _ (p : Buffer → Bool) (q : Turn → Bool) where
+  kept-turn : (o : Option Turn) (stays : Bool) (ts : List Turn) → ((t : Turn) → o ≡ Some t → q t ≡ stays)
+      → cond stays (cons_option o (filter q ts)) (filter q ts) ≡ filter q (cons_option o ts)
+  kept-turn None true ts h = refl
+  kept-turn None false ts h = refl
+  kept-turn (Some t) stays ts h = ap (λ b. cond b (t ∷ filter q ts) (filter q ts)) (sym (h t refl))
+
+  pub turns-filter : ((b : Buffer) (t : Turn) → turn_of b ≡ Some t → q t ≡ p b) → (bs : List Buffer) → turns_of (filter p bs) ≡ filter q (turns_of bs)
+  turns-filter h [] = refl
+  turns-filter h (b ∷ bs) =
+      kept (p b) b (filter p bs) ∙ ap (λ ts. cond (p b) (cons_option (turn_of b) ts) ts) (turns-filter h bs) ∙ kept-turn (turn_of b) (p b) (turns_of bs) (h b)
+
+-- ---- some change
+
+changed-cons : (p : Bool) (b c : Buffer) (bs : List Buffer) → turns_of (cond p b c ∷ bs) ≡ cons_option (cond p (turn_of b) (turn_of c)) (turns_of bs)
+changed-cons true b c bs = refl
+changed-cons false b c bs = refl
+
+module _ (p : Buffer → Bool) (f : Buffer → Buffer) (q : Turn → Bool) (g : Turn → Turn) where
+  changed-turn : (o : Option Turn) (is : Bool) (ts : List Turn) → ((t : Turn) → o ≡ Some t → q t ≡ is)
+      → cons_option (cond is (option_map g o) o) (changed q g ts) ≡ changed q g (cons_option o ts)
+  changed-turn None true ts h = refl
+  changed-turn None false ts h = refl
+  changed-turn (Some t) true ts h = ap (λ b. cond b (g t) t ∷ changed q g ts) (sym (h t refl))
+  changed-turn (Some t) false ts h = ap (λ b. cond b (g t) t ∷ changed q g ts) (sym (h t refl))
+
+  pub turns-changed : ((b : Buffer) → turn_of (f b) ≡ option_map g (turn_of b)) → ((b : Buffer) (t : Turn) → turn_of b ≡ Some t → q t ≡ p b)
+      → (bs : List Buffer) → turns_of (changed p f bs) ≡ changed q g (turns_of bs)
+  turns-changed k h [] = refl
+  turns-changed k h (b ∷ bs) =
+      changed-cons (p b) (f b) b (changed p f bs) ∙ ap (λ o. cons_option (cond (p b) o (turn_of b)) (turns_of (changed p f bs))) (k b)
+      ∙ ap (cons_option (cond (p b) (option_map g (turn_of b)) (turn_of b))) (turns-changed k h bs) ∙ changed-turn (turn_of b) (p b) (turns_of bs) (h b)
+
+-- ---- what a one-way call has of its buffer
+
+as_handed : (w : Bool) (o : Option ObjectId) (b : Buffer) → cond w (option_map (λ x. let t : Turn = record { made = b.made; receiver = b.receiver; target = x; handed = true } in t) o) None
+    ≡ option_map hand_turn (cond w (option_map (λ x. let t : Turn = record { made = b.made; receiver = b.receiver; target = x; handed = b.handed } in t) o) None)
+as_handed true (Some x) b = refl
+as_handed true None b = refl
+as_handed false o b = refl
+
+pub turn-handed : (b : Buffer) → turn_of (hand_out b) ≡ option_map hand_turn (turn_of b)
+turn-handed b = as_handed b.one_way b.target b
+
+pub turn-made : (b : Buffer) (t : Turn) → turn_of b ≡ Some t → t.made ≡ b.made
+turn-made b t h = of b.one_way b.target h
+  where
+    of : (w : Bool) (o : Option ObjectId) → cond w (option_map (λ x. record { made = b.made; receiver = b.receiver; target = x; handed = b.handed }) o) None ≡ Some t → t.made ≡ b.made
+    of true (Some x) e = cc
+    of true None e = cc
+    of false o e = cc
+
+pub turn-receiver : (b : Buffer) (t : Turn) → turn_of b ≡ Some t → t.receiver ≡ b.receiver
+turn-receiver b t h = of b.one_way b.target h
+  where
+    of : (w : Bool) (o : Option ObjectId) → cond w (option_map (λ x. record { made = b.made; receiver = b.receiver; target = x; handed = b.handed }) o) None ≡ Some t → t.receiver ≡ b.receiver
+    of true (Some x) e = cc
+    of true None e = cc
+    of false o e = cc
+
+-- the buffer made here goes
+pub turns-without : (made : ℕ) (bs : List Buffer) → turns_of (filter (λ b. not (is_made_at made b)) bs) ≡ filter (λ t. not (t.made == made)) (turns_of bs)
+turns-without made bs = turns-filter (λ b. not (is_made_at made b)) (λ t. not (t.made == made)) (λ b t h. ap (λ m. not (m == made)) (turn-made b t h)) bs
+
+-- the buffers in a process's window go
+pub turns-received : (p : ℕ) (bs : List Buffer) → turns_of (filter (λ b. not (b.receiver == p)) bs) ≡ filter (λ t. not (t.receiver == p)) (turns_of bs)
+turns-received p bs = turns-filter (λ b. not (b.receiver == p)) (λ t. not (t.receiver == p)) (λ b t h. ap (λ m. not (m == p)) (turn-receiver b t h)) bs
+
+-- the buffers that are lost go
+pub turns-lost : (lost : ℕ → Bool) (bs : List Buffer) → turns_of (filter (λ b. not (lost b.made)) bs) ≡ filter (λ t. not (lost t.made)) (turns_of bs)
+turns-lost lost bs = turns-filter (λ b. not (lost b.made)) (λ t. not (lost t.made)) (λ b t h. ap (λ m. not (lost m)) (turn-made b t h)) bs
+
+-- ---- the buffer that is handed out
+
+changed-none : (p : Buffer → Bool) (f : Buffer → Buffer) (bs : List Buffer) → find p bs ≡ None → bs ≡ changed p f bs
+changed-none p f [] h = refl
+changed-none p f (b ∷ bs) h = first (p b) (changed-none p f bs) h
+  where
+    first : (is : Bool) → (find p bs ≡ None → bs ≡ changed p f bs) → cond is (Some b) (find p bs) ≡ None → b ∷ bs ≡ cond is (f b) b ∷ changed p f bs
+    first true k e = cc
+    first false k e = ap (λ cs. b ∷ cs) (k e)
+
+found-made : (made : ℕ) (bs : List Buffer) (b : Buffer) → buffer_in bs made ≡ Some b → b.made ≡ made
+found-made made [] b h = cc
+found-made made (x ∷ bs) b h = first (x.made == made) refl (found-made made bs b) h
+  where
+    first : (is : Bool) → (x.made == made) ≡ is → (buffer_in bs made ≡ Some b → b.made ≡ made) → cond is (Some x) (buffer_in bs made) ≡ Some b → b.made ≡ made
+    first true t k e = grind (arith, e, t)
+    first false t k e = k e
+
+handed-in : (bs : List Buffer) (made : ℕ) (o : Option Buffer) → buffer_in bs made ≡ o → handed_buffers bs o ≡ changed (is_made_at made) hand_out bs
+handed-in bs made None h = changed-none (is_made_at made) hand_out bs h
+handed-in bs made (Some b) h = ap (λ m. changed (is_made_at m) hand_out bs) (found-made made bs b h)
+
+pub turns-handed : (bs : List Buffer) (made : Option ℕ) → turns_of (handed_buffers bs (option_and_then (buffer_in bs) made)) ≡ handed_turns made (turns_of bs)
+turns-handed bs None = refl
+turns-handed bs (Some made) =
+    ap turns_of (handed-in bs made (buffer_in bs made) refl)
+    ∙ turns-changed (is_made_at made) hand_out (λ t. t.made == made) hand_turn turn-handed (λ b t h. ap (λ m. m == made) (turn-made b t h)) bs

@@ -1,0 +1,16 @@
+use Rattle.std.proofs.Common.{◌∙◌, ap, sym, ◌++◌}
+use Rattle.std.specs.Option.{option_to_list}
+use Rattle.bd_space.specs.Turns.{turns_of}
+use Rattle.bd_space.specs.Delivery.{add_buffer}
+use Rattle.bd_calls.proofs.OneWay.{turns-add}
+use Rattle.bd_calls.proofs.table.CallTable.add_turn.Goals as goal
+
+pub returns-clause-stands : goal.returns-clause-stands
+unfolding add_buffer
+returns-clause-stands c =
+    λ s b stands is. record {
+      threads_are = stands.threads_are;
+      frames_are = stands.frames_are;
+      todo_are = stands.todo_are;
+      turns_are = c.push_turn.ensures.turns ∙ ap (λ ts. ts ++ option_to_list c.args.turn) stands.turns_are ∙ ap (λ o. turns_of s.buffers ++ option_to_list o) is ∙ sym (turns-add s.buffers b);
+    }

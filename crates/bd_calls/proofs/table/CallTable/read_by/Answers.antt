@@ -1,0 +1,20 @@
+use Rattle.std.proofs.Common.{◌∙◌, ap, sym, map}
+use Rattle.bd_space.specs.declared.space.Work.{Work}
+use Rattle.bd_space.specs.Words.{first_of}
+use Rattle.bd_space.specs.Todo.{handed_over, without_taken}
+use Rattle.bd_space.specs.Reading.{read_by, served_frames, buffer_taken}
+use Rattle.bd_calls.specs.Handing.{handed_turns}
+use Rattle.bd_calls.proofs.OneWay.{turns-handed}
+use Rattle.bd_calls.proofs.table.CallTable.read_by.Goals as goal
+
+pub returns-clause-stands : goal.returns-clause-stands
+unfolding read_by buffer_taken
+returns-clause-stands c =
+    λ s stands.
+    let made = first_of (map (λ (w : Work). handed_over w.kind) c.args.taken.now) in
+    record {
+      threads_are = stands.threads_are;
+      frames_are = c.serve.ensures.frames ∙ ap (served_frames c.args.seat c.args.taken.now) stands.frames_are;
+      todo_are = c.remove_taken.ensures.todo ∙ ap (without_taken c.args.taken.now) stands.todo_are;
+      turns_are = c.hand_out_taken.ensures.turns ∙ ap (handed_turns made) stands.turns_are ∙ sym (turns-handed s.buffers made);
+    }

@@ -1,0 +1,3 @@
+pub mod Handing
+pub mod Stands
+pub mod Room

@@ -1,0 +1,18 @@
+-- What a call table stands for: the threads, frames, work items and one-way calls of the object space.
+use Rattle.std.specs.Prelude.{◌≡◌, List}
+use Rattle.bd_space.specs.declared.space.Thread.{Thread}
+use Rattle.bd_space.specs.declared.space.Frame.{Frame}
+use Rattle.bd_space.specs.declared.space.Work.{Work}
+use Rattle.bd_space.specs.declared.space.Turn.{Turn}
+use Rattle.bd_space.specs.Space.{Space}
+use Rattle.bd_space.specs.Turns.{turns_of}
+use Rattle.bd_calls.specs.declared.table.CallTable.{CallTable}
+
+pub record Stands (t : CallTable) (threads : List Thread) (frames : List Frame) (todo : List Work) (turns : List Turn) : Type 0 where
+  pub threads_are : t.threads.items ≡ threads
+  pub frames_are : t.frames.items ≡ frames
+  pub todo_are : t.todo.items ≡ todo
+  pub turns_are : t.turns.items ≡ turns
+
+abbrev pub StandsFor : CallTable → Space → Type 0
+StandsFor t s = Stands t s.threads s.frames s.todo (turns_of s.buffers)
