@@ -1,0 +1,5 @@
+pub mod Filters
+pub mod Changed
+pub mod FreeNumbers
+pub mod Firsts
+pub mod Giving

@@ -1,0 +1,185 @@
+//! What a process asks for itself: `BC_INCREFS`, `BC_ACQUIRE`, `BC_RELEASE`, `BC_DECREFS`, and its acknowledgements.
+
+ghost use Rattle.std.specs.Prelude.{◌≡◌, ◌==◌, ◌≤◌, ◌&&◌, find, vec_len, vec_capacity, Option, Result, OnOk, OnErr, true};
+ghost use Rattle.bd_space.specs.Words.{without_first};
+ghost use Rattle.bd_space.specs.References as references;
+ghost use Rattle.bd_space.specs.Asking as asking;
+ghost use Rattle.std.specs.Prelude.{position, [], ◌∷◌, if◌then◌else◌};
+ghost use Rattle.std.specs.List.{list_any};
+ghost use Rattle.bd_space.specs.Words.{first_of};
+ghost use Rattle.bd_space.specs.Names.{named_in as named_in_list};
+
+use crate::names::named_in;
+use crate::objects::{owned_in, same};
+use crate::references::strong_in;
+use crate::table::ObjectTable;
+use bd_space::{Holder, Name, Object, ObjectId, Reference};
+use bd_uapi::Note;
+
+fn is_asked_by(p: u32, holder: Holder) -> bool
+    ensures { result ≡ references.is_asked_by p holder }
+{
+    match holder {
+        Holder::Asked(q) => q == p,
+        _ => false,
+    }
+}
+
+fn is_handshake(holder: Holder) -> bool
+    ensures { result ≡ references.is_handshake holder }
+{
+    match holder {
+        Holder::Handshake => true,
+        _ => false,
+    }
+}
+
+fn same_strength(strong: bool, r: &Reference) -> bool
+    ensures { result ≡ references.same_strength strong r.now }
+{
+    if strong { r.strong } else { !r.strong }
+}
+
+/// Whether the process asked for the object, in this strength.
+fn is_asking(p: u32, o: ObjectId, strong: bool, r: &Reference) -> bool
+    ensures { result ≡ references.is_asking p o strong r.now }
+{
+    same_strength(strong, r) && same(r.object, o) && is_asked_by(p, r.holder)
+}
+
+/// Whether the owner is to acknowledge the object, in this strength.
+fn is_shaking(o: ObjectId, strong: bool, r: &Reference) -> bool
+    ensures { result ≡ references.is_shaking o strong r.now }
+{
+    same_strength(strong, r) && same(r.object, o) && is_handshake(r.holder)
+}
+
+fn first_asking(refs: &[Reference], p: u32, o: ObjectId, strong: bool) -> Option<usize>
+    ensures { result ≡ position (references.is_asking p o strong) refs.now }
+{
+    refs.iter().position(|r| is_asking(p, o, strong, r))
+}
+
+fn first_shaking(refs: &[Reference], o: ObjectId, strong: bool) -> Option<usize>
+    ensures { result ≡ position (references.is_shaking o strong) refs.now }
+{
+    refs.iter().position(|r| is_shaking(o, strong, r))
+}
+
+fn is_asked(refs: &[Reference], p: u32, o: ObjectId, strong: bool) -> bool
+    ensures { result ≡ list_any (references.is_asking p o strong) refs.now }
+{
+    refs.iter().any(|r| is_asking(p, o, strong, r))
+}
+
+fn is_shaken(refs: &[Reference], o: ObjectId, strong: bool) -> bool
+    ensures { result ≡ list_any (references.is_shaking o strong) refs.now }
+{
+    refs.iter().any(|r| is_shaking(o, strong, r))
+}
+
+/// Drops the least reference of this strength that the process asked for, if there is one.
+fn drop_asking(refs: &mut Vec<Reference>, p: u32, o: ObjectId, strong: bool)
+    ensures items { refs.new.items ≡ without_first (references.is_asking p o strong) refs.old.items }
+    ensures len { vec_len refs.new ≤ vec_len refs.old }
+    ensures capacity { vec_capacity refs.new ≡ vec_capacity refs.old }
+{
+    if let Some(i) = first_asking(refs.as_slice(), p, o, strong) {
+        let _dropped = refs.remove(i);
+    }
+}
+
+fn drop_shaking(refs: &mut Vec<Reference>, o: ObjectId, strong: bool)
+    ensures items { refs.new.items ≡ without_first (references.is_shaking o strong) refs.old.items }
+    ensures len { vec_len refs.new ≤ vec_len refs.old }
+    ensures capacity { vec_capacity refs.new ≡ vec_capacity refs.old }
+{
+    if let Some(i) = first_shaking(refs.as_slice(), o, strong) {
+        let _dropped = refs.remove(i);
+    }
+}
+
+/// The object that the process means by the number: 0 is the context manager's while there is one.
+fn asked_in(manager: Option<ObjectId>, names: &[Name], p: u32, n: u32) -> Option<ObjectId>
+    ensures { result ≡ (if n == 0 then first_of (manager ∷ named_in_list names.now p 0 ∷ []) else named_in_list names.now p n) }
+{
+    match manager {
+        Some(o) if n == 0 => Some(o),
+        _ => named_in(names, p, n),
+    }
+}
+
+fn own_with(objects: &[Object], p: u32, ptr: u64, cookie: u64) -> Option<Object>
+    ensures { result ≡ find (asking.is_own_with p ptr cookie) objects.now }
+{
+    objects
+        .iter()
+        .copied()
+        .find(|x| x.owner == p && x.ptr == ptr && x.cookie == cookie)
+}
+
+impl ObjectTable {
+    ghost use Rattle.bd_space.specs.Space.{Space};
+    ghost use Rattle.bd_space.specs.Names as names_of;
+    ghost use Rattle.bd_objects.specs.Stands.{StandsFor};
+    ghost use Rattle.bd_objects.specs.Room.{Takes, reference_room, name_room};
+
+    /// The object that the process asks for by this number, weakly or strongly. Errors, the first that holds: no such
+    /// number, nobody refers to it strongly, it is the process's own.
+    #[tactic(auto, unfolding(bd_space::specs::Asking::ask_check, bd_space::specs::Names::named))]
+    pub fn ask_check(&self, manager: Option<ObjectId>, p: u32, n: u32, strong: bool) -> Result<ObjectId, Note>
+        ensures { (s : Space) → StandsFor self.now s → s.manager ≡ manager → result ≡ asking.ask_check s p n strong }
+    {
+        let o = asked_in(manager, self.names.as_slice(), p, n).ok_or(Note::NoSuchNumber)?;
+        if strong && !strong_in(self.references.as_slice(), o) {
+            return Err(Note::NotStrong);
+        }
+        if owned_in(self.objects.as_slice(), p, o) {
+            return Err(Note::OwnManager);
+        }
+        Ok(o)
+    }
+
+    /// The object of which the process drops a reference of this strength. Errors: no such number, or it asked for none.
+    #[tactic(auto, unfolding(bd_space::specs::Asking::drop_check, bd_space::specs::Names::named))]
+    pub fn drop_check(&self, p: u32, n: u32, strong: bool) -> Result<ObjectId, Note>
+        ensures { (s : Space) → StandsFor self.now s → result ≡ asking.drop_check s p n strong }
+    {
+        let o = named_in(self.names.as_slice(), p, n).ok_or(Note::NoSuchNumber)?;
+        if !is_asked(self.references.as_slice(), p, o, strong) {
+            return Err(Note::NothingAsked);
+        }
+        Ok(o)
+    }
+
+    /// The least reference of this strength goes that the process asked for.
+    #[tactic(auto, unfolding(bd_space::specs::Asking::drop_asked, crate::specs::Room::object_room, crate::specs::Room::reference_room, crate::specs::Room::name_room, crate::specs::Room::death_room, crate::specs::Room::object_count, crate::specs::Room::death_count))]
+    pub fn drop_asked(&mut self, p: u32, o: ObjectId, strong: bool)
+        ensures stands { (s : Space) → StandsFor self.old s → StandsFor self.new (asking.drop_asked s p o strong) }
+        ensures takes { Takes self.old self.new 0 0 0 0 }
+    {
+        drop_asking(&mut self.references, p, o, strong);
+    }
+
+    /// The own object that the process acknowledges, by ptr and cookie. Errors: it has no such object, or that waits for
+    /// no acknowledgement of this strength.
+    #[tactic(auto, unfolding(bd_space::specs::Asking::done_check))]
+    pub fn done_check(&self, p: u32, ptr: u64, cookie: u64, strong: bool) -> Result<Object, Note>
+        ensures { (s : Space) → StandsFor self.now s → result ≡ asking.done_check s p ptr cookie strong }
+    {
+        let x = own_with(self.objects.as_slice(), p, ptr, cookie).ok_or(Note::NoSuchObject)?;
+        if !is_shaken(self.references.as_slice(), x.id, strong) {
+            return Err(Note::NoHandshake);
+        }
+        Ok(x)
+    }
+
+    /// The reference goes that stood for the acknowledgement.
+    #[tactic(auto, unfolding(bd_space::specs::Asking::acknowledge, crate::specs::Room::object_room, crate::specs::Room::reference_room, crate::specs::Room::name_room, crate::specs::Room::death_room, crate::specs::Room::object_count, crate::specs::Room::death_count))]
+    pub fn acknowledge(&mut self, o: ObjectId, strong: bool)
+        ensures stands { (s : Space) → StandsFor self.old s → StandsFor self.new (asking.acknowledge s o strong) }
+        ensures takes { Takes self.old self.new 0 0 0 0 }
+    {
+        drop_shaking(&mut self.references, o, strong);
+    }
+}

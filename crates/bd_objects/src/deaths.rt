@@ -1,0 +1,244 @@
+//! Death notifications.
+
+ghost use Rattle.std.specs.Prelude.{◌≡◌, ◌==◌, ◌≤◌, ◌||◌, ◌&&◌, not, filter, find, length, slice_get, vec_len, vec_capacity, Option, true};
+ghost use Rattle.std.specs.List.{list_any};
+ghost use Rattle.bd_space.specs.Deaths as deaths_of;
+ghost use Rattle.bd_space.specs.Notices as notices;
+ghost use Rattle.bd_space.specs.Exits as exits;
+ghost use Rattle.bd_space.specs.Words.{changed};
+
+use crate::names::named_in;
+use crate::objects::{lives_in, object_in, owned_in, same};
+use crate::table::ObjectTable;
+use bd_space::{DeathNotification, Name, ObjectId, Phase, Process};
+use bd_uapi::Note;
+
+/// Whether the process has a name for the object.
+fn is_name_of(names: &[Name], p: u32, o: ObjectId) -> bool
+    ensures { result ≡ notices.is_name_of names.now p o }
+{
+    names.iter().any(|m| m.process == p && same(m.object, o))
+}
+
+pub(crate) fn is_death_in(deaths: &[DeathNotification], made: u32) -> bool
+    ensures { result ≡ list_any (λ x. x.made == made) deaths.now }
+{
+    deaths.iter().any(|x| x.made == made)
+}
+
+fn death_in(deaths: &[DeathNotification], made: u32) -> Option<DeathNotification>
+    ensures { result ≡ find (deaths_of.is_notification made) deaths.now }
+{
+    deaths.iter().copied().find(|x| x.made == made)
+}
+
+fn uncleared_in(deaths: &[DeathNotification], p: u32, o: ObjectId) -> Option<DeathNotification>
+    ensures { result ≡ deaths_of.uncleared_in deaths.now p o }
+{
+    deaths
+        .iter()
+        .copied()
+        .find(|x| !x.cleared && x.process == p && same(x.object, o))
+}
+
+fn is_told(phase: Phase) -> bool
+    ensures { result ≡ deaths_of.is_told phase }
+{
+    match phase {
+        Phase::Told => true,
+        _ => false,
+    }
+}
+
+fn is_armed(phase: Phase) -> bool
+    ensures { result ≡ exits.is_armed phase }
+{
+    match phase {
+        Phase::Armed => true,
+        _ => false,
+    }
+}
+
+fn told_death_in(deaths: &[DeathNotification], p: u32, cookie: u64) -> Option<DeathNotification>
+    ensures { result ≡ find (deaths_of.is_told_with p cookie) deaths.now }
+{
+    deaths.iter().copied().find(|x| is_told(x.phase) && x.process == p && x.cookie == cookie)
+}
+
+fn keep_deaths(deaths: &mut Vec<DeathNotification>, names: &[Name])
+    ensures items { deaths.new.items ≡ filter (λ x. x.cleared || notices.is_name_of names.now x.process x.object) deaths.old.items }
+    ensures len { vec_len deaths.new ≤ vec_len deaths.old }
+    ensures capacity { vec_capacity deaths.new ≡ vec_capacity deaths.old }
+{
+    deaths.retain(|x| x.cleared || is_name_of(names, x.process, x.object));
+}
+
+fn drop_death(deaths: &mut Vec<DeathNotification>, made: u32)
+    ensures items { deaths.new.items ≡ filter (λ x. not (deaths_of.is_notification made x)) deaths.old.items }
+    ensures len { vec_len deaths.new ≤ vec_len deaths.old }
+    ensures capacity { vec_capacity deaths.new ≡ vec_capacity deaths.old }
+{
+    deaths.retain(|x| x.made != made);
+}
+
+fn mark(deaths: &mut Vec<DeathNotification>, made: u32)
+    ensures items { deaths.new.items ≡ changed (deaths_of.is_notification made) (λ x. record x { cleared = true }) deaths.old.items }
+    ensures len { vec_len deaths.new ≡ vec_len deaths.old }
+    ensures capacity { vec_capacity deaths.new ≡ vec_capacity deaths.old }
+{
+    for x in deaths.iter_mut() {
+        if x.made == made {
+            x.cleared = true;
+        }
+    }
+}
+
+fn set_phase(deaths: &mut Vec<DeathNotification>, made: u32, phase: Phase)
+    ensures items { deaths.new.items ≡ changed (deaths_of.is_notification made) (λ x. record x { phase = phase }) deaths.old.items }
+    ensures len { vec_len deaths.new ≡ vec_len deaths.old }
+    ensures capacity { vec_capacity deaths.new ≡ vec_capacity deaths.old }
+{
+    for x in deaths.iter_mut() {
+        if x.made == made {
+            x.phase = phase;
+        }
+    }
+}
+
+impl ObjectTable {
+    ghost use Rattle.bd_space.specs.Space.{Space};
+    ghost use Rattle.bd_space.specs.References as references;
+    ghost use Rattle.bd_objects.specs.Stands.{StandsFor};
+    ghost use Rattle.bd_objects.specs.Room.{Takes, death_room, death_count};
+
+    /// The uncleared notifications go whose name is gone.
+    #[tactic(auto, unfolding(bd_space::specs::Notices::deaths_go, crate::specs::Room::object_room, crate::specs::Room::reference_room, crate::specs::Room::name_room, crate::specs::Room::death_room, crate::specs::Room::object_count, crate::specs::Room::death_count))]
+    pub fn deaths_go(&mut self)
+        ensures stands { (s : Space) → StandsFor self.old s → StandsFor self.new (notices.deaths_go s) }
+        ensures takes { Takes self.old self.new 0 0 0 0 }
+    {
+        keep_deaths(&mut self.deaths, self.names.as_slice());
+    }
+
+    /// The object that the process asks to be told of, by its number. Errors: no such number, or an uncleared
+    /// notification stands on the name already.
+    #[tactic(auto, unfolding(bd_space::specs::Deaths::request_check, bd_space::specs::Names::named))]
+    pub fn request_check(&self, p: u32, n: u32) -> Result<ObjectId, Note>
+        ensures { (s : Space) → StandsFor self.now s → result ≡ deaths_of.request_check s p n }
+    {
+        let o = named_in(self.names.as_slice(), p, n).ok_or(Note::NoSuchNumber)?;
+        if uncleared_in(self.deaths.as_slice(), p, o).is_some() {
+            return Err(Note::AlreadyAsked);
+        }
+        Ok(o)
+    }
+
+    /// Whether the object's owner lives. Takes the live processes.
+    pub fn owner_lives(&self, processes: &[Process], o: ObjectId) -> bool
+        ensures { (s : Space) → StandsFor self.now s → s.processes ≡ processes.now
+            → result ≡ deaths_of.owner_lives_in s.processes s.objects o }
+    {
+        match object_in(self.objects.as_slice(), o) {
+            Some(x) => lives_in(processes, x.owner),
+            None => false,
+        }
+    }
+
+    /// A new notification of the process on its name of the object, made by the step of this place.
+    #[tactic(auto, unfolding(bd_space::specs::Deaths::with_death, crate::specs::Room::object_room, crate::specs::Room::reference_room, crate::specs::Room::name_room, crate::specs::Room::death_room, crate::specs::Room::object_count, crate::specs::Room::death_count))]
+    pub fn with_death(&mut self, place: u32, p: u32, o: ObjectId, cookie: u64, phase: Phase)
+        requires { 1 ≤ death_room self.old }
+        ensures stands { (s : Space) → StandsFor self.old s → s.steps ≡ place
+            → StandsFor self.new (deaths_of.with_death s p o cookie phase) }
+        ensures takes { Takes self.old self.new 0 0 0 1 }
+    {
+        self.deaths.push_reserved(DeathNotification {
+            made: place,
+            process: p,
+            object: o,
+            cookie,
+            phase,
+            cleared: false,
+        });
+    }
+
+    /// The uncleared notification on the process's name with this number. Errors: no such number, or no notification with
+    /// this cookie.
+    #[tactic(auto, unfolding(bd_space::specs::Deaths::clear_check, bd_space::specs::Names::named))]
+    pub fn clear_check(&self, p: u32, n: u32, cookie: u64) -> Result<DeathNotification, Note>
+        ensures { (s : Space) → StandsFor self.now s → result ≡ deaths_of.clear_check s p n cookie }
+    {
+        let o = named_in(self.names.as_slice(), p, n).ok_or(Note::NoSuchNumber)?;
+        let x = uncleared_in(self.deaths.as_slice(), p, o).ok_or(Note::NoneAsked)?;
+        if x.cookie != cookie {
+            return Err(Note::NoneAsked);
+        }
+        Ok(x)
+    }
+
+    /// Marks the notification as cleared.
+    #[tactic(auto, unfolding(bd_space::specs::Deaths::mark_cleared, crate::specs::Room::object_room, crate::specs::Room::reference_room, crate::specs::Room::name_room, crate::specs::Room::death_room, crate::specs::Room::object_count, crate::specs::Room::death_count))]
+    pub fn mark_cleared(&mut self, made: u32)
+        ensures stands { (s : Space) → StandsFor self.old s → StandsFor self.new (deaths_of.mark_cleared s made) }
+        ensures takes { Takes self.old self.new 0 0 0 0 }
+    {
+        mark(&mut self.deaths, made);
+    }
+
+    /// The notification goes.
+    #[tactic(auto, unfolding(bd_space::specs::Deaths::without_death, crate::specs::Room::object_room, crate::specs::Room::reference_room, crate::specs::Room::name_room, crate::specs::Room::death_room, crate::specs::Room::object_count, crate::specs::Room::death_count))]
+    pub fn without_death(&mut self, made: u32)
+        ensures stands { (s : Space) → StandsFor self.old s → StandsFor self.new (deaths_of.without_death s made) }
+        ensures takes { Takes self.old self.new 0 0 0 0 }
+    {
+        drop_death(&mut self.deaths, made);
+    }
+
+    /// The notification is this far.
+    #[tactic(auto, unfolding(bd_space::specs::Deaths::with_phase, crate::specs::Room::object_room, crate::specs::Room::reference_room, crate::specs::Room::name_room, crate::specs::Room::death_room, crate::specs::Room::object_count, crate::specs::Room::death_count))]
+    pub fn with_phase(&mut self, made: u32, phase: Phase)
+        ensures stands { (s : Space) → StandsFor self.old s → StandsFor self.new (deaths_of.with_phase s made phase) }
+        ensures takes { Takes self.old self.new 0 0 0 0 }
+    {
+        set_phase(&mut self.deaths, made, phase);
+    }
+
+    /// The least told notification of the process with this cookie.
+    #[tactic(auto, unfolding(bd_space::specs::Deaths::told_death))]
+    pub fn told_death(&self, p: u32, cookie: u64) -> Option<DeathNotification>
+        ensures { (s : Space) → StandsFor self.now s → result ≡ deaths_of.told_death s p cookie }
+    {
+        told_death_in(self.deaths.as_slice(), p, cookie)
+    }
+
+    /// The notification of this place.
+    pub fn death(&self, made: u32) -> Option<DeathNotification>
+        ensures { (s : Space) → StandsFor self.now s → result ≡ find (deaths_of.is_notification made) s.deaths }
+    {
+        death_in(self.deaths.as_slice(), made)
+    }
+
+    /// How many notifications there are.
+    #[tactic(auto, unfolding(crate::specs::Room::death_count))]
+    pub fn death_count(&self) -> usize
+        ensures count { (s : Space) → StandsFor self.now s → result ≡ length s.deaths }
+        ensures counted { result ≡ death_count self.now }
+    {
+        self.deaths.len()
+    }
+
+    /// The notification of an index, in the order in which they were made.
+    pub fn death_at(&self, k: usize) -> Option<DeathNotification>
+        ensures { (s : Space) → StandsFor self.now s → result ≡ slice_get s.deaths k }
+    {
+        self.deaths.get(k).copied()
+    }
+
+    /// Whether the end of the process is to be told by this notification.
+    pub fn tells_death(&self, p: u32, x: &DeathNotification) -> bool
+        ensures { (s : Space) → StandsFor self.now s
+            → result ≡ (exits.is_armed x.now.phase && references.owned_in s.objects p x.now.object) }
+    {
+        is_armed(x.phase) && owned_in(self.objects.as_slice(), p, x.object)
+    }
+}

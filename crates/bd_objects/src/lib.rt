@@ -1,0 +1,14 @@
+//! Objects, the references to them, their names, and death notifications.
+#![tactic(auto)]
+
+mod asking;
+mod deaths;
+mod names;
+mod notices;
+mod numbers;
+mod objects;
+mod references;
+mod table;
+
+pub use numbers::NumbersFull;
+pub use table::ObjectTable;

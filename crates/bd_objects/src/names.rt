@@ -1,0 +1,122 @@
+//! Names: the numbers (handles) by which processes know the objects of others.
+
+ghost use Rattle.std.specs.Prelude.{◌≡◌, ◌==◌, ◌≤◌, ◌&&◌, filter, find, vec_len, vec_capacity, Option};
+ghost use Rattle.std.specs.List.{list_any};
+ghost use Rattle.bd_space.specs.Words as words;
+ghost use Rattle.bd_space.specs.References as references;
+ghost use Rattle.bd_space.specs.Names as names_of;
+
+use crate::objects::{owned_in, same};
+use crate::references::names_for;
+use crate::table::ObjectTable;
+use bd_space::{Name, Object, ObjectId, Reference};
+
+fn is_referred_by(refs: &[Reference], p: u32, o: ObjectId) -> bool
+    ensures { result ≡ list_any (λ r. words.same r.object o && references.names_for p r.holder) refs.now }
+{
+    refs.iter()
+        .any(|r| same(r.object, o) && names_for(p, r.holder))
+}
+
+fn is_referred_strongly_by(refs: &[Reference], p: u32, o: ObjectId) -> bool
+    ensures { result ≡ list_any (λ r. r.strong && words.same r.object o && references.names_for p r.holder) refs.now }
+{
+    refs.iter().any(|r| r.strong && same(r.object, o) && names_for(p, r.holder))
+}
+
+pub(crate) fn is_named_in(objects: &[Object], refs: &[Reference], p: u32, o: ObjectId) -> bool
+    ensures { result ≡ names_of.is_named_in objects.now refs.now p o }
+{
+    !owned_in(objects, p, o) && is_referred_by(refs, p, o)
+}
+
+fn is_strongly_named_in(objects: &[Object], refs: &[Reference], p: u32, o: ObjectId) -> bool
+    ensures { result ≡ names_of.is_strongly_named_in objects.now refs.now p o }
+{
+    !owned_in(objects, p, o) && is_referred_strongly_by(refs, p, o)
+}
+
+fn name_with_number(names: &[Name], p: u32, n: u32) -> Option<Name>
+    ensures { result ≡ find (λ m. (m.process == p) && (m.number == n)) names.now }
+{
+    names
+        .iter()
+        .copied()
+        .find(|m| m.process == p && m.number == n)
+}
+
+fn name_of(names: &[Name], p: u32, o: ObjectId) -> Option<Name>
+    ensures { result ≡ find (λ m. (m.process == p) && words.same m.object o) names.now }
+{
+    names
+        .iter()
+        .copied()
+        .find(|m| m.process == p && same(m.object, o))
+}
+
+pub(crate) fn named_in(names: &[Name], p: u32, n: u32) -> Option<ObjectId>
+    ensures { result ≡ names_of.named_in names.now p n }
+{
+    name_with_number(names, p, n).map(|m| m.object)
+}
+
+pub(crate) fn number_in(names: &[Name], p: u32, o: ObjectId) -> Option<u32>
+    ensures { result ≡ names_of.number_in names.now p o }
+{
+    name_of(names, p, o).map(|m| m.number)
+}
+
+fn keep_named(names: &mut Vec<Name>, objects: &[Object], refs: &[Reference])
+    ensures items { names.new.items ≡ filter (λ m. names_of.is_named_in objects.now refs.now m.process m.object) names.old.items }
+    ensures capacity { vec_capacity names.new ≡ vec_capacity names.old }
+    ensures len { vec_len names.new ≤ vec_len names.old }
+{
+    names.retain(|m| is_named_in(objects, refs, m.process, m.object));
+}
+
+impl ObjectTable {
+    ghost use Rattle.bd_space.specs.Space.{Space};
+    ghost use Rattle.bd_objects.specs.Stands.{StandsFor};
+    ghost use Rattle.bd_objects.specs.Room.{Takes};
+
+    /// The object that the number names for the process.
+    #[tactic(auto, unfolding(bd_space::specs::Names::named))]
+    pub fn named(&self, p: u32, n: u32) -> Option<ObjectId>
+        ensures { (s : Space) → StandsFor self.now s → result ≡ names_of.named s p n }
+    {
+        named_in(self.names.as_slice(), p, n)
+    }
+
+    /// The same, where the process refers to it strongly.
+    #[tactic(auto, unfolding(bd_space::specs::Names::strongly_named))]
+    pub fn strongly_named(&self, p: u32, n: u32) -> Option<ObjectId>
+        ensures { (s : Space) → StandsFor self.now s → result ≡ names_of.strongly_named s p n }
+    {
+        let o = named_in(self.names.as_slice(), p, n)?;
+        if is_strongly_named_in(self.objects.as_slice(), self.references.as_slice(), p, o) {
+            Some(o)
+        } else {
+            None
+        }
+    }
+
+    /// The process's number of the object.
+    pub fn number_of(&self, p: u32, o: ObjectId) -> Option<u32>
+        ensures { (s : Space) → StandsFor self.now s → result ≡ names_of.number_in s.names p o }
+    {
+        number_in(self.names.as_slice(), p, o)
+    }
+
+    /// The names go that no reference carries any more.
+    #[tactic(auto, unfolding(bd_space::specs::Names::names_go, crate::specs::Room::object_room, crate::specs::Room::reference_room, crate::specs::Room::name_room, crate::specs::Room::death_room, crate::specs::Room::object_count, crate::specs::Room::death_count))]
+    pub fn names_go(&mut self)
+        ensures stands { (s : Space) → StandsFor self.old s → StandsFor self.new (names_of.names_go s) }
+        ensures takes { Takes self.old self.new 0 0 0 0 }
+    {
+        keep_named(
+            &mut self.names,
+            self.objects.as_slice(),
+            self.references.as_slice(),
+        );
+    }
+}

@@ -1,0 +1,116 @@
+//! The numbers (handles) that new names get.
+
+ghost use Rattle.std.specs.Prelude.{◌≡◌, ◌==◌, ◌≤◌, ◌<◌, ◌+◌, ◌&&◌, not, is_some, suc, length, filter, fold, false, true, List, vec_len, vec_capacity, OnOk, OnErr, MatchOption, Option, unwrap_or, ◌++◌};
+ghost use Rattle.std.specs.List.{list_any};
+ghost use Rattle.bd_space.specs.Words as words;
+ghost use Rattle.bd_space.specs.Names as names_of;
+ghost use Rattle.bd_space.specs.declared.space.Name.{Name};
+
+use crate::names::{is_named_in, number_in};
+use crate::objects::same;
+use bd_space::{Item, Name, Object, ObjectId, Reference};
+
+/// A number above 4294967294 would be needed.
+#[derive(Clone, Copy, Debug, PartialEq, Eq)]
+pub struct NumbersFull;
+
+fn is_used(names: &[Name], p: u32, n: u32) -> bool
+    ensures { result ≡ list_any (λ m. (m.process == p) && (m.number == n)) names.now }
+{
+    names.iter().any(|m| m.process == p && m.number == n)
+}
+
+fn is_object(manager: Option<ObjectId>, o: ObjectId) -> bool
+    ensures { result ≡ names_of.is_object manager o }
+{
+    match manager {
+        Some(m) => same(m, o),
+        None => false,
+    }
+}
+
+/// The least number from the first on that the process doesn't use, if it is within the limit.
+fn free_number_from(names: &[Name], p: u32, first: u32) -> Option<u32>
+    ensures { let free = unwrap_or (words.least (suc (length names.now)) first (λ n. not (list_any (λ m. (m.process == p) && (m.number == n)) names.now))) 0 in
+        MatchOption result (4294967294 < free) (λ n. (n ≡ free) × (n ≤ 4294967294)) }
+{
+    for n in first..u32::MAX {
+        if !is_used(names, p, n) {
+            return Some(n);
+        }
+    }
+    None
+}
+
+/// The number for a new name, if it is within the limit: 0 is for the context manager's object.
+fn free_number(manager: Option<ObjectId>, names: &[Name], p: u32, o: ObjectId) -> Option<u32>
+    ensures { MatchOption result (4294967294 < names_of.free_number manager names.now p o)
+        (λ n. (n ≡ names_of.free_number manager names.now p o) × (n ≤ 4294967294)) }
+{
+    if is_object(manager, o) {
+        free_number_from(names, p, 0)
+    } else {
+        free_number_from(names, p, 1)
+    }
+}
+
+/// Whether the process is to have a name for the object, and has none.
+fn lacks_name(objects: &[Object], refs: &[Reference], names: &[Name], p: u32, o: ObjectId) -> bool
+    ensures { result ≡ (names_of.is_named_in objects.now refs.now p o && not (is_some (names_of.number_in names.now p o))) }
+{
+    is_named_in(objects, refs, p, o) && number_in(names, p, o).is_none()
+}
+
+/// Gives the process a number for the object, if it is to have one and has none. Needs room for one name.
+fn give_name(
+    names: &mut Vec<Name>,
+    manager: Option<ObjectId>,
+    objects: &[Object],
+    refs: &[Reference],
+    p: u32,
+    o: ObjectId,
+) -> Result<(), NumbersFull>
+    requires { vec_len names.old < vec_capacity names.old }
+    ensures ok { OnOk result (names.new.items ≡ names_of.with_name manager objects.now refs.now p names.old.items o) }
+    ensures fits { names_of.has_number_past_limit names.old.items ≡ false → names_of.has_number_past_limit names.new.items ≡ false }
+    ensures err { OnErr result (names.new.items ≡ names.old.items) }
+    ensures full { OnErr result (names_of.has_number_past_limit
+        (filter (λ m. names_of.is_named_in objects.now refs.now m.process m.object) (names_of.with_name manager objects.now refs.now p names.old.items o)) ≡ true) }
+    ensures grows { (added : List Name) × (names.new.items ≡ names.old.items ++ added) }
+    ensures len { vec_len names.new ≤ vec_len names.old + 1 }
+    ensures capacity { vec_capacity names.new ≡ vec_capacity names.old }
+{
+    if lacks_name(objects, refs, names.as_slice(), p, o) {
+        let number = free_number(manager, names.as_slice(), p, o).ok_or(NumbersFull)?;
+        names.push_reserved(Name {
+            process: p,
+            number,
+            object: o,
+        });
+    }
+    Ok(())
+}
+
+/// Gives the process a number for the object of each item, in their order. Needs room for as many names.
+fn give_each(
+    names: &mut Vec<Name>,
+    manager: Option<ObjectId>,
+    objects: &[Object],
+    refs: &[Reference],
+    p: u32,
+    items: &[Item],
+) -> Result<(), NumbersFull>
+    requires { vec_len names.old + length items.now ≤ vec_capacity names.old }
+    ensures ok { OnOk result (names.new.items ≡ fold (λ ns x. names_of.with_name manager objects.now refs.now p ns x.object) names.old.items items.now) }
+    ensures fits { names_of.has_number_past_limit names.old.items ≡ false → names_of.has_number_past_limit names.new.items ≡ false }
+    ensures grows { (added : List Name) × (names.new.items ≡ names.old.items ++ added) }
+    ensures full { OnErr result (names_of.has_number_past_limit (filter (λ m. names_of.is_named_in objects.now refs.now m.process m.object)
+        (fold (λ ns x. names_of.with_name manager objects.now refs.now p ns x.object) names.old.items items.now)) ≡ true) }
+    ensures len { vec_len names.new ≤ vec_len names.old + length items.now }
+    ensures capacity { vec_capacity names.new ≡ vec_capacity names.old }
+{
+    for x in items {
+        give_name(names, manager, objects, refs, p, x.object)?;
+    }
+    Ok(())
+}

@@ -1,0 +1,156 @@
+//! Objects (nodes), and who owns them.
+
+ghost use Rattle.std.specs.Prelude.{◌≡◌, ◌==◌, ◌≤◌, ◌<◌, ◌+◌, ◌++◌, ◌∷◌, [], length, filter, slice_get, vec_len, vec_capacity, Option};
+ghost use Rattle.bd_space.specs.Words as words;
+ghost use Rattle.bd_space.specs.Seats as seats;
+ghost use Rattle.bd_space.specs.References as references;
+ghost use Rattle.bd_space.specs.Exits as exits;
+
+use crate::references::held_in;
+use crate::table::ObjectTable;
+use bd_space::{Holder, Identity, Object, ObjectId, Process, Reference};
+
+/// Whether the two are one object.
+pub(crate) fn same(a: ObjectId, b: ObjectId) -> bool
+    ensures { result ≡ words.same a b }
+{
+    a.place == b.place && a.index == b.index
+}
+
+/// Whether the process lives.
+pub(crate) fn lives_in(processes: &[Process], p: u32) -> bool
+    ensures { result ≡ seats.lives_in processes.now p }
+{
+    processes.iter().any(|q| q.made == p)
+}
+
+pub(crate) fn object_in(objects: &[Object], o: ObjectId) -> Option<Object>
+    ensures { result ≡ references.object_in objects.now o }
+{
+    objects.iter().copied().find(|x| same(x.id, o))
+}
+
+pub(crate) fn owned_in(objects: &[Object], p: u32, o: ObjectId) -> bool
+    ensures { result ≡ references.owned_in objects.now p o }
+{
+    objects.iter().any(|x| same(x.id, o) && x.owner == p)
+}
+
+pub(crate) fn own_in(objects: &[Object], p: u32, ptr: u64) -> Option<Object>
+    ensures { result ≡ references.own_in objects.now p ptr }
+{
+    objects
+        .iter()
+        .copied()
+        .find(|x| x.owner == p && x.ptr == ptr)
+}
+
+/// Whether the object stays: it is held, or its owner lives and was told that it is.
+fn stays_in(processes: &[Process], refs: &[Reference], x: &Object) -> bool
+    ensures { result ≡ references.stays_in processes.now refs.now x.now }
+{
+    held_in(refs, x.id) || (lives_in(processes, x.owner) && (x.told_weak || x.told_strong))
+}
+
+fn keep_objects(objects: &mut Vec<Object>, processes: &[Process], refs: &[Reference])
+    ensures items { objects.new.items ≡ filter (references.stays_in processes.now refs.now) objects.old.items }
+    ensures len { vec_len objects.new ≤ vec_len objects.old }
+    ensures capacity { vec_capacity objects.new ≡ vec_capacity objects.old }
+{
+    objects.retain(|x| stays_in(processes, refs, x));
+}
+
+fn managed(place: u32) -> ObjectId
+    ensures { result ≡ record { place = place; index = 0 } }
+{
+    ObjectId { place, index: 0 }
+}
+
+impl ObjectTable {
+    ghost use Rattle.bd_space.specs.Space.{Space};
+    ghost use Rattle.bd_space.specs.Steps as steps;
+    ghost use Rattle.bd_objects.specs.Stands.{StandsFor};
+    ghost use Rattle.bd_objects.specs.Room.{Takes, object_room, reference_room, object_count};
+
+    /// How many objects there are.
+    #[tactic(auto, unfolding(crate::specs::Room::object_count))]
+    pub fn object_count(&self) -> usize
+        ensures count { (s : Space) → StandsFor self.now s → result ≡ length s.objects }
+        ensures counted { result ≡ object_count self.now }
+    {
+        self.objects.len()
+    }
+
+    /// The object of an index, in the order in which they were made.
+    pub fn object_at(&self, k: usize) -> Option<Object>
+        ensures { (s : Space) → StandsFor self.now s → result ≡ slice_get s.objects k }
+    {
+        self.objects.get(k).copied()
+    }
+
+    /// The object with this identity.
+    pub fn object(&self, o: ObjectId) -> Option<Object>
+        ensures { (s : Space) → StandsFor self.now s → result ≡ references.object_in s.objects o }
+    {
+        object_in(self.objects.as_slice(), o)
+    }
+
+    /// Whether the process owns the object.
+    pub fn owns(&self, p: u32, o: ObjectId) -> bool
+        ensures { (s : Space) → StandsFor self.now s → result ≡ references.owned_in s.objects p o }
+    {
+        owned_in(self.objects.as_slice(), p, o)
+    }
+
+    /// The process's own object with this ptr.
+    pub fn own_with_ptr(&self, p: u32, ptr: u64) -> Option<Object>
+        ensures { (s : Space) → StandsFor self.now s → result ≡ references.own_in s.objects p ptr }
+    {
+        own_in(self.objects.as_slice(), p, ptr)
+    }
+
+    /// The objects go that nothing keeps. Takes the live processes.
+    #[tactic(auto, unfolding(bd_space::specs::References::objects_go, crate::specs::Room::object_room, crate::specs::Room::reference_room, crate::specs::Room::name_room, crate::specs::Room::death_room, crate::specs::Room::object_count, crate::specs::Room::death_count))]
+    pub fn objects_go(&mut self, processes: &[Process])
+        ensures stands { (s : Space) → StandsFor self.old s → s.processes ≡ processes.now → StandsFor self.new (references.objects_go s) }
+        ensures takes { Takes self.old self.new 0 0 0 0 }
+    {
+        keep_objects(&mut self.objects, processes, self.references.as_slice());
+    }
+
+    /// The context manager's object, with its reference: the object has ptr 0 and cookie 0, and its owner counts as
+    /// told. Who the manager is, is the caller's to keep.
+    #[tactic(auto, unfolding(bd_space::specs::Steps::with_manager, crate::specs::Room::object_room, crate::specs::Room::reference_room, crate::specs::Room::name_room, crate::specs::Room::death_room, crate::specs::Room::object_count, crate::specs::Room::death_count))]
+    pub fn with_manager(&mut self, place: u32, p: u32)
+        requires objects { 1 ≤ object_room self.old }
+        requires references { 1 ≤ reference_room self.old }
+        ensures stands { (s : Space) → StandsFor self.old s → s.steps ≡ place → StandsFor self.new (steps.with_manager s p) }
+        ensures takes { Takes self.old self.new 1 1 0 0 }
+    {
+        let id = managed(place);
+        self.objects.push_reserved(Object {
+            id,
+            owner: p,
+            ptr: 0,
+            cookie: 0,
+            told_weak: true,
+            told_strong: true,
+        });
+        self.references.push_reserved(Reference {
+            id: Identity { place, index: 0 },
+            object: id,
+            strong: true,
+            holder: Holder::Manager,
+        });
+    }
+
+    /// The context manager's object that is left when the process has ended.
+    pub fn manager_without(&self, manager: Option<ObjectId>, p: u32) -> Option<ObjectId>
+        ensures { (s : Space) → StandsFor self.now s → result ≡ exits.manager_without s.objects p manager }
+    {
+        match manager {
+            Some(o) if owned_in(self.objects.as_slice(), p, o) => None,
+            _ => manager,
+        }
+    }
+}
