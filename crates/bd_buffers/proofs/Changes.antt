@@ -1,0 +1,109 @@
+-- Lists with some elements changed or left out.
+use Rattle.std.proofs.Common.{◌≡◌, ℕ, zero, suc, ◌+◌, ◌<◌, ◌≤◌, Bool, true, false, cond, List, [], ◌∷◌, ◌++◌, length, get_or, set, take, drop, refl, ap, sym, ◌∙◌, arith, add-one, All, subst}
+use Rattle.std.specs.Prelude.{AllPairs, find, Some, None}
+use Rattle.std.proofs.lemmas.List.Elements.{All-cons, All-head, All-tail}
+use Rattle.std.specs.List.{items_where_true}
+use Rattle.bd_space.specs.Words.{changed}
+
+-- ---- one more element of `changed`, as a loop that writes in place meets it
+
+module _ {A : Type 0} (p : A → Bool) (f : A → A) where
+  here : (xs : List A) (i : ℕ) (d : A) → i < length xs → get_or (changed p f (take i xs) ++ drop i xs) i d ≡ get_or xs i d
+  here [] i d h = absurd (omega arith)
+  here (x ∷ xs) zero d h = refl
+  here (x ∷ xs) (suc i) d h = here xs i d (omega arith)
+
+  changed-suc : (xs : List A) (i : ℕ) (d : A) → i < length xs
+      → set (changed p f (take i xs) ++ drop i xs) i (cond (p (get_or xs i d)) (f (get_or xs i d)) (get_or xs i d)) ≡ changed p f (take (suc i) xs) ++ drop (suc i) xs
+  changed-suc [] i d h = absurd (omega arith)
+  changed-suc (x ∷ xs) zero d h = refl
+  changed-suc (x ∷ xs) (suc i) d h = ap (λ ys. cond (p x) (f x) x ∷ ys) (changed-suc xs i d (omega arith))
+
+  one_more : (xs ys : List A) (i : ℕ) (d : A) (b : Bool) → ys ≡ changed p f (take i xs) ++ drop i xs → i < length xs → p (get_or ys i d) ≡ b
+      → set ys i (cond b (f (get_or ys i d)) (get_or ys i d)) ≡ changed p f (take (i + 1) xs) ++ drop (i + 1) xs
+  one_more xs ys i d b e h t =
+      let same : get_or ys i d ≡ get_or xs i d = ap (λ zs. get_or zs i d) e ∙ here xs i d h in
+      rw (sym t, same, e, add-one) (changed-suc xs i d h)
+
+  -- an element that passes, as it is changed
+  pub changed-then : (xs ys : List A) (i : ℕ) (d : A) → ys ≡ changed p f (take i xs) ++ drop i xs → i < length xs → p (get_or ys i d) ≡ true
+      → set ys i (f (get_or ys i d)) ≡ changed p f (take (i + 1) xs) ++ drop (i + 1) xs
+  changed-then xs ys i d e h t = one_more xs ys i d true e h t
+
+  -- an element that doesn't, as it stays
+  pub changed-else : (xs ys : List A) (i : ℕ) (d : A) → ys ≡ changed p f (take i xs) ++ drop i xs → i < length xs → p (get_or ys i d) ≡ false
+      → set ys i (get_or ys i d) ≡ changed p f (take (i + 1) xs) ++ drop (i + 1) xs
+  changed-else xs ys i d e h t = one_more xs ys i d false e h t
+
+  -- the whole list, at the end of the loop
+  pub changed-all : (xs : List A) (i : ℕ) → length xs ≤ i → changed p f (take i xs) ++ drop i xs ≡ changed p f xs
+  changed-all [] zero h = refl
+  changed-all [] (suc i) h = refl
+  changed-all (x ∷ xs) zero h = absurd (omega arith)
+  changed-all (x ∷ xs) (suc i) h = ap (λ ys. cond (p x) (f x) x ∷ ys) (changed-all xs i (omega arith))
+
+  -- what each element keeps under the change
+  pub All-changed : (P : A → Type 0) → ((x : A) → P x → P (f x)) → (xs : List A) → All P xs → All P (changed p f xs)
+  All-changed P k [] all = all
+  All-changed P k (x ∷ xs) all =
+      let head : P (cond (p x) (f x) x) = elim (p x) as (λ b. P (cond b (f x) x)) [ true ↦ k x (All-head P x xs all) | false ↦ All-head P x xs all ] in
+      All-cons P (cond (p x) (f x) x) (changed p f xs) head (All-changed P k xs (All-tail P x xs all))
+
+-- ---- what is left where some elements go
+
+pub All-picked : {A : Type 0} (P : A → Type 0) (bs : List Bool) (xs : List A) → All P xs → All P (items_where_true bs xs)
+All-picked P [] xs all = λ k d h. absurd (omega arith)
+All-picked P (b ∷ bs) [] all = all
+All-picked P (true ∷ bs) (x ∷ xs) all = All-cons P x (items_where_true bs xs) (All-head P x xs all) (All-picked P bs xs (All-tail P x xs all))
+All-picked P (false ∷ bs) (x ∷ xs) all = All-picked P bs xs (All-tail P x xs all)
+
+first_found : {A : Type 0} (P : A → Type 0) (q : A → Bool) (y : A) (xs : List A) (x : A) (b : Bool) → q y ≡ b
+    → (find q xs ≡ Some x → All P xs → P x × (q x ≡ true)) → All P (y ∷ xs) → cond b (Some y) (find q xs) ≡ Some x → P x × (q x ≡ true)
+first_found P q y xs x true t rest all f = let same : y ≡ x = cc in (subst P same (All-head P y xs all), ap q (sym same) ∙ t)
+first_found P q y xs x false t rest all f = rest f (All-tail P y xs all)
+
+first_missed : {A : Type 0} (q : A → Bool) (x : A) (xs : List A) (b : Bool) → q x ≡ b → (find q xs ≡ None → All (λ y. q y ≡ false) xs)
+    → cond b (Some x) (find q xs) ≡ None → All (λ y. q y ≡ false) (x ∷ xs)
+first_missed q x xs true t rest f = cc
+first_missed q x xs false t rest f = All-cons (λ y. q y ≡ false) x xs t (rest f)
+
+-- what is found passes the test, and has what all have
+pub found_has : {A : Type 0} (P : A → Type 0) (q : A → Bool) (xs : List A) (x : A) → find q xs ≡ Some x → All P xs → P x × (q x ≡ true)
+found_has P q [] x e all = cc
+found_has P q (y ∷ xs) x e all = first_found P q y xs x (q y) refl (found_has P q xs x) all e
+
+pub none_found : {A : Type 0} (q : A → Bool) (xs : List A) → find q xs ≡ None → All (λ x. q x ≡ false) xs
+none_found q [] e = λ k d h. absurd (omega arith)
+none_found q (x ∷ xs) e = first_missed q x xs (q x) refl (none_found q xs) e
+
+-- ---- pairs
+
+module _ {A : Type 0} (R : A → A → Type 0) where
+  pub pairs_head : (x : A) (xs : List A) → AllPairs R (x ∷ xs) → All (R x) xs
+  pairs_head x xs pairs = λ k d h. pairs zero (suc k) d (omega arith) (omega arith)
+
+  pub pairs_tail : (x : A) (xs : List A) → AllPairs R (x ∷ xs) → AllPairs R xs
+  pairs_tail x xs pairs = λ i j d lt h. pairs (suc i) (suc j) d (omega arith) (omega arith)
+
+  pub pairs_cons : (x : A) (xs : List A) → All (R x) xs → AllPairs R xs → AllPairs R (x ∷ xs)
+  pairs_cons x xs all pairs zero zero d lt h = absurd (omega arith)
+  pairs_cons x xs all pairs zero (suc j) d lt h = all j d (omega arith)
+  pairs_cons x xs all pairs (suc i) zero d lt h = absurd (omega arith)
+  pairs_cons x xs all pairs (suc i) (suc j) d lt h = pairs i j d (omega arith) (omega arith)
+
+  pub pairs_picked : (bs : List Bool) (xs : List A) → AllPairs R xs → AllPairs R (items_where_true bs xs)
+  pairs_picked [] xs pairs = λ i j d lt h. absurd (omega arith)
+  pairs_picked (b ∷ bs) [] pairs = pairs
+  pairs_picked (true ∷ bs) (x ∷ xs) pairs =
+      pairs_cons x (items_where_true bs xs) (All-picked (R x) bs xs (pairs_head x xs pairs)) (pairs_picked bs xs (pairs_tail x xs pairs))
+  pairs_picked (false ∷ bs) (x ∷ xs) pairs = pairs_picked bs xs (pairs_tail x xs pairs)
+
+  pub pairs_changed : (p : A → Bool) (f : A → A) → ((x y : A) → R x y → R (f x) y) → ((x y : A) → R x y → R x (f y)) → (xs : List A) → AllPairs R xs → AllPairs R (changed p f xs)
+  pairs_changed p f left right [] pairs = pairs
+  pairs_changed p f left right (x ∷ xs) pairs =
+      let rest = pairs_changed p f left right xs (pairs_tail x xs pairs) in
+      let all = All-changed p f (R x) (right x) xs (pairs_head x xs pairs) in
+      let front : All (R (cond (p x) (f x) x)) (changed p f xs) =
+      elim (p x) as (λ b. All (R (cond b (f x) x)) (changed p f xs)) [ true ↦ (λ k d h. left x _ (all k d h)) | false ↦ all ]
+      in
+      pairs_cons (cond (p x) (f x) x) (changed p f xs) front rest

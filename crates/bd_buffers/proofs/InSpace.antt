@@ -1,0 +1,145 @@
+-- How the live buffers of one window go with all those of a space, for a table in which the window of each live process p
+-- stands for `buffers_of buffers p`.
+use Rattle.std.proofs.Common.{◌≡◌, ◌≢◌, ℕ, Bool, true, false, cond, List, [], ◌∷◌, ◌++◌, Some, None, refl, ap, sym, ◌∙◌, eq-eqb, ne_eqb}
+use Rattle.std.specs.Prelude.{◌==◌, ◌&&◌, not, find, filter}
+use Rattle.std.proofs.lemmas.List.{append-nil}
+use Rattle.std.proofs.lemmas.Bool.{false≢true, eqb-true}
+use Rattle.std.proofs.lemmas.List.Elements.{filter-append}
+use Rattle.bd_space.specs.declared.space.Buffer.{Buffer}
+use Rattle.bd_space.specs.Words.{changed}
+use Rattle.bd_space.specs.Room.{buffers_of}
+use Rattle.bd_space.specs.Freeing.{is_buffer_at, is_made_at}
+use Rattle.bd_space.specs.Reading.{buffer_in, hand_out}
+use Rattle.bd_buffers.specs.Windows.{at_pointer}
+
+abbrev is_in : ℕ → Buffer → Bool
+is_in p b = b.receiver == p
+
+-- ---- lists
+
+module _ {A : Type 0} where
+  find_filter : (q r : A → Bool) (xs : List A) → find r (filter q xs) ≡ find (λ x. q x && r x) xs
+  find_filter q r [] = refl
+  find_filter q r (x ∷ xs) =
+      elim (q x) as (λ b. find r (cond b (x ∷ filter q xs) (filter q xs)) ≡ cond (b && r x) (Some x) (find (λ y. q y && r y) xs)) [
+        | true ↦ ap (cond (r x) (Some x)) (find_filter q r xs)
+        | false ↦ find_filter q r xs
+      ]
+
+  filter_at : (q : A → Bool) (x : A) (xs : List A) (b : Bool) → q x ≡ b → filter q (x ∷ xs) ≡ cond b (x ∷ filter q xs) (filter q xs)
+  filter_at q x xs b e = ap (λ c. cond c (x ∷ filter q xs) (filter q xs)) e
+
+  swap_first : (q r : A → Bool) (x : A) (xs : List A) (a b : Bool) → q x ≡ a → r x ≡ b → filter q (filter r xs) ≡ filter r (filter q xs)
+      → filter q (filter r (x ∷ xs)) ≡ filter r (filter q (x ∷ xs))
+  swap_first q r x xs true true e f rest =
+      ap (filter q) (filter_at r x xs true f) ∙ filter_at q x (filter r xs) true e ∙ ap (λ ys. x ∷ ys) rest
+      ∙ sym (ap (filter r) (filter_at q x xs true e) ∙ filter_at r x (filter q xs) true f)
+  swap_first q r x xs true false e f rest =
+      ap (filter q) (filter_at r x xs false f) ∙ rest ∙ sym (ap (filter r) (filter_at q x xs true e) ∙ filter_at r x (filter q xs) false f)
+  swap_first q r x xs false true e f rest =
+      ap (filter q) (filter_at r x xs true f) ∙ filter_at q x (filter r xs) false e ∙ rest ∙ sym (ap (filter r) (filter_at q x xs false e))
+  swap_first q r x xs false false e f rest = ap (filter q) (filter_at r x xs false f) ∙ rest ∙ sym (ap (filter r) (filter_at q x xs false e))
+
+  missed_first : (q : A → Bool) (x : A) (xs : List A) (b : Bool) → q x ≡ b → (find q xs ≡ None → filter (λ y. not (q y)) xs ≡ xs)
+      → cond b (Some x) (find q xs) ≡ None → filter (λ y. not (q y)) (x ∷ xs) ≡ x ∷ xs
+  missed_first q x xs true t rest e = cc
+  missed_first q x xs false t rest e = filter_at (λ y. not (q y)) x xs true (ap not t) ∙ ap (λ ys. x ∷ ys) (rest e)
+
+  unchanged_first : (q : A → Bool) (f : A → A) (x : A) (xs : List A) (b : Bool) → q x ≡ b → (find q xs ≡ None → changed q f xs ≡ xs)
+      → cond b (Some x) (find q xs) ≡ None → changed q f (x ∷ xs) ≡ x ∷ xs
+  unchanged_first q f x xs true t rest e = cc
+  unchanged_first q f x xs false t rest e = ap (λ c. cond c (f x) x ∷ changed q f xs) t ∙ ap (λ ys. x ∷ ys) (rest e)
+
+  -- what is found among all is found among those that pass, if it passes
+  found_first : (q r : A → Bool) (x : A) (xs : List A) (y : A) (b : Bool) → r x ≡ b → (find r xs ≡ Some y → find r (filter q xs) ≡ Some y)
+      → cond b (Some x) (find r xs) ≡ Some y → q y ≡ true → find r (filter q (x ∷ xs)) ≡ Some y
+  found_first q r x xs y true t rest e pass =
+      let same : x ≡ y = cc in
+      ap (find r) (filter_at q x xs true (ap q same ∙ pass)) ∙ ap (λ c. cond c (Some x) (find r (filter q xs))) t ∙ e
+  found_first q r x xs y false t rest e pass =
+      elim (q x) as (λ c. find r (cond c (x ∷ filter q xs) (filter q xs)) ≡ Some y) [
+        | true ↦ ap (λ c. cond c (Some x) (find r (filter q xs))) t ∙ rest e
+        | false ↦ rest e
+      ]
+
+  found_in_filter : (q r : A → Bool) (xs : List A) (y : A) → find r xs ≡ Some y → q y ≡ true → find r (filter q xs) ≡ Some y
+  found_in_filter q r [] y e pass = cc
+  found_in_filter q r (x ∷ xs) y e pass = found_first q r x xs y (r x) refl (λ f. found_in_filter q r xs y f pass) e pass
+
+  filter_swap : (q r : A → Bool) (xs : List A) → filter q (filter r xs) ≡ filter r (filter q xs)
+  filter_swap q r [] = refl
+  filter_swap q r (x ∷ xs) = swap_first q r x xs (q x) (r x) refl refl (filter_swap q r xs)
+
+  filter_changed : (q p : A → Bool) (f : A → A) → ((x : A) → q (f x) ≡ q x) → (xs : List A) → filter q (changed p f xs) ≡ changed p f (filter q xs)
+  filter_changed q p f same [] = refl
+  filter_changed q p f same (x ∷ xs) =
+      let rest = filter_changed q p f same xs in
+      let y = cond (p x) (f x) x in
+      let stays : q y ≡ q x = elim (p x) as (λ b. q (cond b (f x) x) ≡ q x) [ true ↦ same x | false ↦ refl ] in
+      filter_at q y (changed p f xs) (q x) stays
+      ∙ elim (q x) as (λ b. cond b (y ∷ filter q (changed p f xs)) (filter q (changed p f xs)) ≡ changed p f (cond b (x ∷ filter q xs) (filter q xs))) [
+        | true ↦ ap (λ zs. y ∷ zs) rest
+        | false ↦ rest
+      ]
+
+  -- what goes, goes where the others don't pass anyway
+  kept_first : (q r : A → Bool) (x : A) (xs : List A) (a b : Bool) → q x ≡ a → r x ≡ b → (a ≡ true → b ≡ true) → filter q (filter r xs) ≡ filter q xs
+      → filter q (filter r (x ∷ xs)) ≡ filter q (x ∷ xs)
+  kept_first q r x xs true true e f both rest =
+      ap (filter q) (filter_at r x xs true f) ∙ filter_at q x (filter r xs) true e ∙ ap (λ ys. x ∷ ys) rest ∙ sym (filter_at q x xs true e)
+  kept_first q r x xs false true e f both rest =
+      ap (filter q) (filter_at r x xs true f) ∙ filter_at q x (filter r xs) false e ∙ rest ∙ sym (filter_at q x xs false e)
+  kept_first q r x xs false false e f both rest = ap (filter q) (filter_at r x xs false f) ∙ rest ∙ sym (filter_at q x xs false e)
+  kept_first q r x xs true false e f both rest = absurd (false≢true (both refl))
+
+  filter_kept : (q r : A → Bool) → ((x : A) → q x ≡ true → r x ≡ true) → (xs : List A) → filter q (filter r xs) ≡ filter q xs
+  filter_kept q r both [] = refl
+  filter_kept q r both (x ∷ xs) = kept_first q r x xs (q x) (r x) refl refl (both x) (filter_kept q r both xs)
+
+  -- nothing is found, so nothing goes and nothing is changed
+  filter_missed : (q : A → Bool) (xs : List A) → find q xs ≡ None → filter (λ x. not (q x)) xs ≡ xs
+  filter_missed q [] e = refl
+  filter_missed q (x ∷ xs) e = missed_first q x xs (q x) refl (filter_missed q xs) e
+
+  changed_missed : (q : A → Bool) (f : A → A) (xs : List A) → find q xs ≡ None → changed q f xs ≡ xs
+  changed_missed q f [] e = refl
+  changed_missed q f (x ∷ xs) e = unchanged_first q f x xs (q x) refl (changed_missed q f xs) e
+
+-- ---- what is found in a window
+
+-- by the pointer
+pub at_pointer_in : (buffers : List Buffer) (p ptr : ℕ) → find (at_pointer ptr) (buffers_of buffers p) ≡ find (is_buffer_at p ptr) buffers
+at_pointer_in buffers p ptr = find_filter (is_in p) (at_pointer ptr) buffers
+
+-- by the step that made it, where that is this process's
+pub made_in : (buffers : List Buffer) (p made : ℕ) (b : Buffer) → buffer_in buffers made ≡ Some b → b.receiver ≡ p → buffer_in (buffers_of buffers p) made ≡ Some b
+made_in buffers p made b e own = found_in_filter (is_in p) (is_made_at made) buffers b e (eq-eqb b.receiver p own)
+
+-- ---- one more buffer
+
+pub added : (buffers : List Buffer) (b : Buffer) (p : ℕ) → b.receiver ≡ p → buffers_of (buffers ++ b ∷ []) p ≡ buffers_of buffers p ++ b ∷ []
+added buffers b p own = filter-append (is_in p) buffers (b ∷ []) ∙ ap (λ xs. buffers_of buffers p ++ xs) (filter_at (is_in p) b [] true (eq-eqb b.receiver p own))
+
+pub added_elsewhere : (buffers : List Buffer) (b : Buffer) (p : ℕ) → b.receiver ≢ p → buffers_of (buffers ++ b ∷ []) p ≡ buffers_of buffers p
+added_elsewhere buffers b p other =
+    filter-append (is_in p) buffers (b ∷ []) ∙ ap (λ xs. buffers_of buffers p ++ xs) (filter_at (is_in p) b [] false (ne_eqb b.receiver p other)) ∙ append-nil (buffers_of buffers p)
+
+-- ---- buffers that go, and one that is handed out
+
+pub kept_in : (keep : Buffer → Bool) (buffers : List Buffer) (p : ℕ) → buffers_of (filter keep buffers) p ≡ filter keep (buffers_of buffers p)
+kept_in keep buffers p = filter_swap (is_in p) keep buffers
+
+pub handed_in : (buffers : List Buffer) (p made : ℕ) → buffers_of (changed (is_made_at made) hand_out buffers) p ≡ changed (is_made_at made) hand_out (buffers_of buffers p)
+handed_in buffers p made = filter_changed (is_in p) (is_made_at made) hand_out (λ b. refl) buffers
+
+-- a window without the buffer stays as it is
+pub none_freed : (buffers : List Buffer) (made : ℕ) → buffer_in buffers made ≡ None → filter (λ b. not (is_made_at made b)) buffers ≡ buffers
+none_freed buffers made e = filter_missed (is_made_at made) buffers e
+
+pub none_handed : (buffers : List Buffer) (made : ℕ) → buffer_in buffers made ≡ None → changed (is_made_at made) hand_out buffers ≡ buffers
+none_handed buffers made e = changed_missed (is_made_at made) hand_out buffers e
+
+-- the window of one process goes, and the others stay
+pub others_stay : (buffers : List Buffer) (p q : ℕ) → q ≢ p → buffers_of (filter (λ b. not (b.receiver == p)) buffers) q ≡ buffers_of buffers q
+others_stay buffers p q other =
+    filter_kept (is_in q) (λ b. not (is_in p b)) (λ b e. ap not (ne_eqb b.receiver p (λ same. other (sym (eqb-true b.receiver q e) ∙ same)))) buffers

@@ -1,0 +1,12 @@
+use Rattle.std.proofs.Common.{rules, tests, not}
+use Rattle.std.proofs.lemmas.Fn.{filter_same}
+use Rattle.bd_space.specs.declared.space.Buffer.{Buffer}
+use Rattle.bd_space.specs.Freeing.{is_made_at}
+use Rattle.bd_buffers.proofs.Kept.{window_retained}
+use Rattle.bd_buffers.proofs.spans.end.Goals as goal
+
+pub returns-clause-left : goal.returns-clause-left
+returns-clause-left c = filter_same _ (λ (b : Buffer). not (is_made_at c.args.made b)) _ (λ x b f' k. search (rules, tests)) _ _ c.retain.ensures.filtered
+
+pub returns-clause-window : goal.returns-clause-window
+returns-clause-window c = λ size is. window_retained _ _ size _ _ c.retain.ensures.filtered is

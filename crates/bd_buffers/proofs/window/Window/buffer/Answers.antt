@@ -1,0 +1,9 @@
+use Rattle.std.proofs.Common.{◌∙◌, ap, find}
+use Rattle.bd_space.specs.Freeing.{is_made_at}
+use Rattle.bd_buffers.proofs.Kept.{found_placed}
+use Rattle.bd_buffers.proofs.window.Window.buffer.Goals as goal
+
+pub returns-clause-placed : goal.returns-clause-placed
+returns-clause-placed c =
+    found_placed c.self.inside.size (is_made_at c.args.made) c.self.inside.buffers.items c.made_at.result c.self.invariant
+    (c.made_at.ensures ∙ ap (find (is_made_at c.args.made)) c.deref.ensures.value)

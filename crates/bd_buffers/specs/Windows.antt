@@ -1,0 +1,75 @@
+-- Windows: room for a buffer, the budget of one-way buffers, and what is so of every window.
+use Rattle.std.specs.Prelude.{ℕ, ◌≡◌, ◌+◌, ◌*◌, ◌%◌, ◌<◌, ◌≤◌, ◌==◌, ◌⊎◌, Bool, IsTrue, List, Option, Some, None, Result, Ok, Err, All, AllPairs, find, filter, sum_by, length, if◌then◌else◌}
+use Rattle.bd_uapi.specs.declared.fault.Cause.{Cause}
+use Rattle.bd_uapi.specs.declared.fault.Cause.TheVariants.{NoRoom, OverBudget}
+use Rattle.bd_uapi.specs.declared.fault.Note.{Note}
+use Rattle.bd_uapi.specs.declared.fault.Note.TheVariants.{NoSuchBuffer, NotHandedOut}
+use Rattle.bd_space.specs.declared.space.Buffer.{Buffer}
+use Rattle.bd_space.specs.Words.{round_up}
+use Rattle.bd_space.specs.Room.{needed}
+use Rattle.bd_space.specs.Freeing.{pointer}
+
+-- the span of n bytes at p and that of a buffer do not meet
+abbrev pub IsApart : ℕ → ℕ → Buffer → Type 0
+IsApart p n b = (p + n ≤ b.start) ⊎ (b.start + b.size ≤ p)
+
+-- n bytes at p are free, in a window of this size with these live buffers
+pub record IsRoom (size : ℕ) (buffers : List Buffer) (n p : ℕ) : Type 0 where
+  pub aligned : p % 8 ≡ 0
+  pub inside : p + n ≤ size
+  pub free : All (IsApart p n) buffers
+
+-- and no lower place has room
+pub record IsLeastRoom (size : ℕ) (buffers : List Buffer) (n p : ℕ) : Type 0 where
+  pub room : IsRoom size buffers n p
+  pub least : (q : ℕ) → IsRoom size buffers n q → p ≤ q
+
+-- the sizes of the one-way buffers together
+abbrev pub one_way_size : List Buffer → ℕ
+one_way_size buffers = sum_by (λ b. b.size) (filter (λ b. b.one_way) buffers)
+
+-- with so much more, the one-way buffers take at most half of the window
+abbrev pub IsInBudget : ℕ → List Buffer → ℕ → Type 0
+IsInBudget size buffers more = 2 * (one_way_size buffers + more) ≤ size
+
+-- when a buffer is refused, by the cause: want of room is found first
+abbrev pub Refuses : ℕ → List Buffer → Bool → ℕ → Cause → Type 0
+Refuses size buffers one_way n NoRoom = (p : ℕ) → IsRoom size buffers n p → ⊥
+Refuses size buffers one_way n OverBudget =
+    IsTrue one_way × ((p : ℕ) × IsRoom size buffers n p) × (size < 2 * (one_way_size buffers + n))
+Refuses size buffers one_way n _ = ⊥
+
+-- what is so of each live buffer of a window of this size
+pub record IsPlaced (size : ℕ) (b : Buffer) : Type 0 where
+  pub aligned : b.start % 8 ≡ 0
+  pub sized : b.size ≡ needed (length b.bytes) (length b.offsets)
+  pub inside : b.start + b.size ≤ size
+  pub parts : round_up (length b.bytes) + round_up (length b.offsets) ≤ b.size
+  pub bytes_fit : length b.bytes ≤ b.size
+  pub offsets_fit : length b.offsets ≤ b.size
+
+-- what is so of every window
+pub record IsWindow (size : ℕ) (buffers : List Buffer) : Type 0 where
+  pub whole : size % 8 ≡ 0
+  pub small : size ≤ 4194304
+  pub placed : All (IsPlaced size) buffers
+  pub apart : AllPairs (λ a b. IsApart b.start b.size a) buffers
+  pub budget : IsInBudget size buffers 0
+
+-- the receiver knows the buffer by this pointer
+abbrev pub at_pointer : ℕ → Buffer → Bool
+at_pointer ptr b = pointer b == ptr
+
+-- the place at which a buffer that may be freed was made, or why there is none
+abbrev pub freed_buffer : Option Buffer → Result ℕ Note
+freed_buffer None = Err NoSuchBuffer
+freed_buffer (Some b) = if b.handed then Ok b.made else Err NotHandedOut
+
+abbrev pub free_check : List Buffer → ℕ → Result ℕ Note
+free_check buffers ptr = freed_buffer (find (at_pointer ptr) buffers)
+
+-- a window as contracts see it: its size, its live buffers, oldest first, and how many more it has room to note
+pub record WindowView : Type 0 where
+  pub size : ℕ
+  pub buffers : List Buffer
+  pub room : ℕ

@@ -1,0 +1,7 @@
+//! Windows: the memory of a process that its transactions' buffers lie in.
+#![tactic(auto)]
+
+mod spans;
+mod window;
+
+pub use window::Window;

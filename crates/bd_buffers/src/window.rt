@@ -1,0 +1,165 @@
+//! A window.
+
+ghost use Rattle.std.specs.Prelude.{◌≡◌, ◌+◌, ◌*◌, ◌%◌, ◌≤◌, ◌==◌, [], ◌∷◌, ◌++◌, not, ℕ, Bool, List, length, filter, find, IsTrue, IfOk, IfErr, IfSome, OnOk, option_map, option_copied};
+ghost use Rattle.bd_space.specs.declared.space.Buffer.{Buffer};
+ghost use Rattle.bd_space.specs.Words.{changed};
+ghost use Rattle.bd_space.specs.Room.{needed, place_for};
+ghost use Rattle.bd_space.specs.Freeing.{is_made_at};
+ghost use Rattle.bd_space.specs.Reading.{hand_out, buffer_in};
+
+use crate::spans;
+use bd_space::{Buffer, Bytes};
+use bd_uapi::{Cause, Note};
+use std::alloc::{AllocError, Global};
+use std::marker::Model;
+
+/// The window of a process: its live buffers, of which no two meet, and of which the one-way ones take at most
+/// half of it.
+#[derive(Drop)]
+pub struct Window {
+    size: u32,
+    buffers: Vec<Buffer>,
+}
+
+impl Model for Window {
+    ghost use Rattle.std.specs.Prelude.{◌-◌, vec_len, vec_capacity};
+    ghost use Rattle.bd_buffers.specs.Windows.{WindowView, IsWindow};
+
+    ghost Value = { WindowView };
+
+    ghost view = { λ w. record { size = w.size; buffers = w.buffers.items; room = vec_capacity w.buffers - vec_len w.buffers } };
+
+    ghost invariant = { λ w. IsWindow w.size w.buffers.items };
+}
+
+impl Window {
+    ghost use Rattle.bd_buffers.specs.Windows.{IsLeastRoom, IsInBudget, Refuses, IsPlaced, IsWindow, at_pointer, free_check};
+    ghost use Rattle.bd_buffers.specs.Stands.{Stands, CanTake};
+
+    /// An empty window of a size in bytes, a multiple of 8 of at most 4194304.
+    pub fn new(alloc: Global, size: u32) -> Result<Window, AllocError>
+        requires { (size % 8 ≡ 0) × (size ≤ 4194304) }
+        ensures { IfOk result (λ w. Stands w size []) }
+    {
+        Ok(Window {
+            size,
+            buffers: Vec::new(alloc),
+        })
+    }
+
+    /// Where a buffer for data and offsets of these sizes in bytes would begin: at the least multiple of 8 with
+    /// room for both, each rounded up to a multiple of 8, and for 8 bytes at least. `NoRoom` where there is none;
+    /// then `OverBudget` where one-way buffers would take more than half of the window.
+    pub fn place(&self, one_way: bool, data_size: u64, offsets_size: u64) -> Result<u32, Cause>
+        ensures computed { (size : ℕ) (bs : List Buffer) → Stands self.now size bs
+            → result ≡ place_for size bs one_way (needed data_size offsets_size) }
+        ensures can_take { IfOk result (λ p. CanTake self.now one_way (needed data_size offsets_size) p) }
+        ensures least { (size : ℕ) (bs : List Buffer) → Stands self.now size bs
+            → IfOk result (λ p. IsLeastRoom size bs (needed data_size offsets_size) p) }
+        ensures budget { (size : ℕ) (bs : List Buffer) → Stands self.now size bs
+            → IfOk result (λ p. IsTrue one_way → IsInBudget size bs (needed data_size offsets_size)) }
+        ensures cause { (size : ℕ) (bs : List Buffer) → Stands self.now size bs
+            → IfErr result (λ x. Refuses size bs one_way (needed data_size offsets_size) x) }
+    {
+        spans::place_for(self.size, &self.buffers, one_way, data_size, offsets_size)
+    }
+
+    /// Makes room to note one more buffer. The window stays as it was, also on an `Err`.
+    pub fn reserve(&mut self) -> Result<(), AllocError>
+        ensures stands { (size : ℕ) (bs : List Buffer) → Stands self.old size bs → Stands self.new size bs }
+        ensures can_take { (one_way : Bool) (size start : ℕ) → CanTake self.old one_way size start
+            → CanTake self.new one_way size start }
+        ensures room { OnOk result (1 ≤ self.new.room) }
+        ensures kept { self.old.room ≤ self.new.room }
+    {
+        self.buffers.reserve(1)
+    }
+
+    /// Takes a buffer in, at a place that the window can take it at. Takes no memory.
+    pub fn commit(&mut self, buffer: Buffer)
+        requires room { 1 ≤ self.old.room }
+        requires sized { buffer.size ≡ needed (length buffer.bytes) (length buffer.offsets) }
+        requires can_take { CanTake self.old buffer.one_way buffer.size buffer.start }
+        ensures stands { (size : ℕ) (bs : List Buffer) → Stands self.old size bs → Stands self.new size (bs ++ buffer ∷ []) }
+        ensures room { self.old.room ≤ self.new.room + 1 }
+    {
+        self.buffers.push_reserved(buffer);
+    }
+
+    /// The live buffer made there.
+    pub fn buffer(&self, made: u32) -> Option<&Buffer>
+        ensures found { (size : ℕ) (bs : List Buffer) → Stands self.now size bs → option_copied result ≡ buffer_in bs made }
+        ensures placed { IfSome result (λ b. IsPlaced 4194304 b.now) }
+    {
+        spans::made_at(&self.buffers, made)
+    }
+
+    /// The live buffer that the process knows by a pointer, handed out or not.
+    pub fn buffer_at_pointer(&self, pointer: u64) -> Option<&Buffer>
+        ensures found { (size : ℕ) (bs : List Buffer) → Stands self.now size bs
+            → option_copied result ≡ find (at_pointer pointer) bs }
+        ensures placed { IfSome result (λ b. IsPlaced 4194304 b.now) }
+    {
+        spans::at(&self.buffers, pointer)
+    }
+
+    /// Where the buffer at a pointer was made, if the process may free it: there has to be one
+    /// (`NoSuchBuffer`), and it has to be handed out (`NotHandedOut`).
+    pub fn free_check(&self, pointer: u64) -> Result<u32, Note>
+        ensures { (size : ℕ) (bs : List Buffer) → Stands self.now size bs → result ≡ free_check bs pointer }
+    {
+        match spans::at(&self.buffers, pointer) {
+            None => Err(Note::NoSuchBuffer),
+            Some(b) if b.handed => Ok(b.made),
+            Some(_) => Err(Note::NotHandedOut),
+        }
+    }
+
+    /// Ends the buffer made there.
+    pub fn free(&mut self, made: u32)
+        ensures stands { (size : ℕ) (bs : List Buffer) → Stands self.old size bs
+            → Stands self.new size (filter (λ b. not (is_made_at made b)) bs) }
+        ensures room { self.old.room ≤ self.new.room }
+    {
+        spans::end(&mut self.buffers, made);
+    }
+
+    /// Marks the buffer made there as handed out.
+    pub fn hand_out(&mut self, made: u32)
+        ensures stands { (size : ℕ) (bs : List Buffer) → Stands self.old size bs
+            → Stands self.new size (changed (is_made_at made) hand_out bs) }
+        ensures room { self.old.room ≤ self.new.room }
+    {
+        spans::hand_out(&mut self.buffers, made);
+    }
+
+    /// The data and the offsets of the live buffer made there, in memory of their own.
+    pub fn bytes(&self, made: u32) -> Result<Option<(Bytes, Bytes)>, AllocError>
+        ensures { (size : ℕ) (bs : List Buffer) → Stands self.now size bs
+            → IfOk result (λ r. r ≡ option_map (λ b. (b.bytes, b.offsets)) (buffer_in bs made)) }
+    {
+        match spans::made_at(&self.buffers, made) {
+            None => Ok(None),
+            Some(b) => Ok(Some((b.bytes.copied()?, b.offsets.copied()?))),
+        }
+    }
+
+    /// Ends the buffers whose making step is lost.
+    pub fn drop_lost<F: Fn(u32) -> bool>(&mut self, is_lost: F)
+        requires { F.IsAlwaysCallable is_lost }
+        ensures stands { (size : ℕ) (bs : List Buffer) (lost : ℕ → Bool) → Stands self.old size bs
+            → ((made : ℕ) (b : Bool) → F.post is_lost made b → b ≡ lost made)
+            → Stands self.new size (filter (λ b. not (lost b.made)) bs) }
+        ensures room { self.old.room ≤ self.new.room }
+    {
+        spans::end_lost(&mut self.buffers, is_lost);
+    }
+
+    /// What is so of every window: no two live buffers meet, each lies inside and is as large as its data and
+    /// offsets need, and the one-way ones take at most half of the window.
+    pub fn check(&self)
+        ensures { (size : ℕ) (bs : List Buffer) → Stands self.now size bs → IsWindow size bs }
+    {
+        let _size = self.size;
+    }
+}
