@@ -2,6 +2,7 @@
 #![tactic(auto)]
 
 mod edges;
+mod histories;
 mod small;
 mod worked;
 mod writes;
@@ -17,6 +18,12 @@ pub use edges::{
     pid_of_a_caller_that_ended_holds, reply_outside_the_area_to_a_caller_that_ended_holds,
     strong_handle_of_a_weak_name_holds, target_held_holds, thread_ends_with_a_call_unread_holds,
     thread_ends_with_a_reply_unread_holds, unread_verdict_holds, waiting_with_a_call_to_read_holds,
+};
+pub use histories::{
+    calls_without_a_manager_hold, dead_objects_hold, deep_calls_hold, exits_hold,
+    faulty_parcels_of_two_hold, finished_notifications_hold, full_windows_hold,
+    hostile_writes_hold, notifications_of_one_cookie_hold, seats_without_a_process_hold,
+    weak_handles_of_the_dead_hold, weak_objects_and_verdicts_hold,
 };
 pub use small::{
     asking_for_the_manager_holds, death_asked_holds, falling_offsets_holds, faulty_reply_holds,
