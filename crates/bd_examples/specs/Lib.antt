@@ -2,3 +2,17 @@ pub mod Script
 pub mod Worked
 pub mod Small
 pub mod Writes
+pub mod Edges
+pub mod Histories
+pub mod WeakObjectsAndVerdicts
+pub mod DeadObjects
+pub mod FullWindows
+pub mod FaultyParcelsOfTwo
+pub mod FinishedNotifications
+pub mod HostileWrites
+pub mod NotificationsOfOneCookie
+pub mod WeakHandlesOfTheDead
+pub mod DeepCalls
+pub mod CallsWithoutAManager
+pub mod Exits
+pub mod SeatsWithoutAProcess

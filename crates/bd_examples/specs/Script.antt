@@ -72,7 +72,17 @@ HOBJ = hex "852a6873000000000100000000000000 0000000000000000"
 abbrev pub OBJ2 : List ℕ
 OBJ2 = hex "852a6273000000000810000000000000 0820000000000000"
 
--- a weak binder of the same object, and a weak handle of number 1
+abbrev pub HOBJ2 : List ℕ
+HOBJ2 = hex "852a6873000000000200000000000000 0000000000000000"
+
+abbrev pub OBJ3 : List ℕ
+OBJ3 = hex "852a6273000000001010000000000000 1020000000000000"
+
+-- a binder with ptr 0
+abbrev pub OBJ0 : List ℕ
+OBJ0 = hex "852a6273000000000000000000000000 0000000000000000"
+
+-- a weak binder of the same object as the first, and a weak handle of number 1
 abbrev pub WOBJ : List ℕ
 WOBJ = hex "852a6277000000000010000000000000 0020000000000000"
 

@@ -1,5 +1,6 @@
 -- Worked examples of requests.
-use Rattle.std.specs.Prelude.{ℕ, ◌≡◌, List, [], ◌∷◌, ◌++◌, Some, None}
+use Rattle.std.specs.Prelude.{ℕ, ◌≡◌, List, [], ◌∷◌, ◌++◌, Some, None, replicate}
+use Rattle.std.specs.List.{concat}
 use Rattle.bd_uapi.specs.declared.fault.Note.TheVariants as note
 use Rattle.bd_uapi.specs.declared.fault.Cause.TheVariants as cause
 use Rattle.bd_uapi.specs.declared.fault.Fault.TheVariants as fault
@@ -30,9 +31,30 @@ unreadable =
     ((Wrote 0 [] None, 4) ∷ (Wrote 0 [] (Some (stop.Fault fault.ShortCommand)), 4) ∷ (Wrote 0 [] (Some (stop.Fault fault.RefusedCommand)), 4) ∷ (Wrote 0 [] (Some (stop.Fault fault.UnknownCommand)), 4)
     ∷ (Wrote 68 [] (Some (stop.Cause cause.NotStronglyNamed)), 5) ∷ [])
 
--- three commands of one stream, two of them with notes; a seat without a process; areas that fall short
+-- three commands of one stream, two of them with notes; a seat without a process
 abbrev pub several : Type 0
 several =
-    Answers ((1, Write (hex "0563044000000000 0663044001000000 0463044007000000") []) ∷ (2, Write (hex "0c630000 0c630000") [])
-    ∷ (1, Write (command_bytes (bc.Transaction (record (sending 0 1 1 [] []) { data_size = 2; buffer = 18446744073709551615 }))) (hex "6869")) ∷ (1, Write (command_bytes (bc.Transaction (sending 4294967296 1 1 [] []))) []) ∷ [])
-    ((Wrote 24 ((1, note.NoSuchNumber) ∷ (2, note.NoSuchNumber) ∷ []) None, 7) ∷ (Refused fault.NoProcess, 8) ∷ (Wrote 68 [] (Some (stop.Cause cause.OutsideArea)), 9) ∷ (Wrote 68 [] None, 10) ∷ [])
+    Answers ((1, Write (hex "0563044000000000 0663044001000000 0463044007000000") []) ∷ (2, Write (hex "0c630000 0c630000") []) ∷ [])
+    ((Wrote 24 ((1, note.NoSuchNumber) ∷ (2, note.NoSuchNumber) ∷ []) None, 7) ∷ (Refused fault.NoProcess, 8) ∷ [])
+
+-- a one-way call of that many bytes from that place in the area on
+abbrev pub cut : ℕ → ℕ → ℕ → List ℕ
+cut target size from = command_bytes (bc.Transaction (record (sending target 0 1 [] []) { data_size = size; buffer = from; offsets = 0 }))
+
+abbrev pub outside : ℕ → Answer × ℕ
+outside steps = (Wrote 68 [] (Some (stop.Cause cause.OutsideArea)), steps)
+
+-- Sums don't wrap: each of these parcels ends outside its area, also the empty one at index 1 of an empty area. The last is a call to
+-- handle 0, since only the low 32 bits of the target are the handle.
+abbrev pub pointers_past_the_area : Type 0
+pointers_past_the_area =
+    Answers ((1, Write (cut 0 2 18446744073709551615) (hex "6869")) ∷ (1, Write (cut 0 18446744073709551615 1) (hex "6869")) ∷ (1, Write (cut 0 0 1) []) ∷ (1, Write (cut 4294967296 0 0) []) ∷ [])
+    (outside 5 ∷ outside 6 ∷ outside 7 ∷ (Wrote 68 [] None, 8) ∷ [])
+
+-- 4097 bytes are no write
+abbrev pub stream_too_long : Type 0
+stream_too_long = Answers ((1, Write (concat (replicate 1024 (hex "0c630000")) ++ hex "00") []) ∷ []) ((Refused fault.StreamTooLong, 4) ∷ [])
+
+-- and 4096 are 1024 steps
+abbrev pub full_stream : Type 0
+full_stream = Answers ((1, Write (concat (replicate 1024 (hex "0c630000"))) []) ∷ []) ((Wrote 4096 [] None, 1028) ∷ [])

@@ -1,10 +1,30 @@
 //! Worked examples of the object space: theorems that the check closes by computation.
 #![tactic(auto)]
 
+mod edges;
+mod histories;
 mod small;
 mod worked;
 mod writes;
 
+pub use edges::{
+    acquire_through_a_weak_name_holds, budget_of_one_way_calls_alone_holds,
+    clearing_a_done_notification_holds, dead_owner_of_a_weak_name_holds,
+    death_before_notices_holds, handshakes_end_with_the_process_holds, least_free_handle_holds,
+    least_told_notification_holds, manager_with_a_known_ptr_0_holds,
+    notice_moves_with_binder_holds, notice_stays_with_weak_binder_holds,
+    notification_gone_with_its_name_holds, number_0_as_a_name_and_as_the_manager_holds,
+    object_flags_holds, one_list_a_read_holds, order_of_the_refusals_of_opening_holds,
+    pid_of_a_caller_that_ended_holds, reply_outside_the_area_to_a_caller_that_ended_holds,
+    strong_handle_of_a_weak_name_holds, target_held_holds, thread_ends_with_a_call_unread_holds,
+    thread_ends_with_a_reply_unread_holds, unread_verdict_holds, waiting_with_a_call_to_read_holds,
+};
+pub use histories::{
+    calls_without_a_manager_hold, dead_objects_hold, deep_calls_hold, exits_hold,
+    faulty_parcels_of_two_hold, finished_notifications_hold, full_windows_hold,
+    hostile_writes_hold, notifications_of_one_cookie_hold, seats_without_a_process_hold,
+    weak_handles_of_the_dead_hold, weak_objects_and_verdicts_hold,
+};
 pub use small::{
     asking_for_the_manager_holds, death_asked_holds, falling_offsets_holds, faulty_reply_holds,
     first_fit_holds, handshakes_holds, held_by_handshakes_holds, leaves_the_loop_holds,
@@ -18,4 +38,7 @@ pub use worked::{
     no_room_holds, object_comes_home_holds, object_sent_holds, one_way_call_holds,
     one_way_turns_holds, other_cookie_holds, weak_object_holds,
 };
-pub use writes::{several_holds, unreadable_holds};
+pub use writes::{
+    full_stream_holds, pointers_past_the_area_holds, several_holds, stream_too_long_holds,
+    unreadable_holds,
+};
