@@ -101,10 +101,10 @@ module _ (p : ℕ) where
       let same : r.0 ≡ n = elim (cases_lt r.0 n) [
         | inl lt ↦ absurd (false≢true (ap not (sym (before r.0 f.from lt)) ∙ f.passes))
         | inr ge ↦ elim (cases_lt n r.0) [
-            | inl gt ↦ absurd (false≢true (sym (f.before n h gt) ∙ ap not e))
-            | inr le ↦ omega arith
-          ]
-        ] in
+          | inl gt ↦ absurd (false≢true (sym (f.before n h gt) ∙ ap not e))
+          | inr le ↦ omega arith
+        ]
+      ] in
       rw r.1 (sym same)
 
   -- no number below the limit is free

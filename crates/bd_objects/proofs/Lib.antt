@@ -3,3 +3,4 @@ pub mod Changed
 pub mod FreeNumbers
 pub mod Firsts
 pub mod Giving
+pub mod Carried

@@ -127,7 +127,13 @@ impl ObjectTable {
     /// The object that the process asks for by this number, weakly or strongly. Errors, the first that holds: no such
     /// number, nobody refers to it strongly, it is the process's own.
     #[tactic(auto, unfolding(bd_space::specs::Asking::ask_check, bd_space::specs::Names::named))]
-    pub fn ask_check(&self, manager: Option<ObjectId>, p: u32, n: u32, strong: bool) -> Result<ObjectId, Note>
+    pub fn ask_check(
+        &self,
+        manager: Option<ObjectId>,
+        p: u32,
+        n: u32,
+        strong: bool,
+    ) -> Result<ObjectId, Note>
         ensures { (s : Space) → StandsFor self.now s → s.manager ≡ manager → result ≡ asking.ask_check s p n strong }
     {
         let o = asked_in(manager, self.names.as_slice(), p, n).ok_or(Note::NoSuchNumber)?;

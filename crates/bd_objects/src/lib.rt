@@ -8,6 +8,7 @@ mod notices;
 mod numbers;
 mod objects;
 mod references;
+mod sending;
 mod table;
 
 pub use numbers::NumbersFull;
