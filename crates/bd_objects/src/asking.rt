@@ -16,7 +16,7 @@ use crate::table::ObjectTable;
 use bd_space::{Holder, Name, Object, ObjectId, Reference};
 use bd_uapi::Note;
 
-fn is_asked_by(p: u32, holder: Holder) -> bool
+pub(crate) fn is_asked_by(p: u32, holder: Holder) -> bool
     ensures { result ≡ references.is_asked_by p holder }
 {
     match holder {

@@ -3,6 +3,7 @@
 
 mod asking;
 mod deaths;
+mod exits;
 mod names;
 mod notices;
 mod numbers;
@@ -10,6 +11,7 @@ mod objects;
 mod references;
 mod sending;
 mod table;
+mod told;
 
 pub use numbers::NumbersFull;
 pub use table::ObjectTable;
