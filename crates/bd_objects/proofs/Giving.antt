@@ -50,10 +50,6 @@ module _ (manager : Option ObjectId) (objects : List Object) (refs : List Refere
   past-at xs ns ms i d h e past =
       rw (fold-at xs ns i d h) (past-fold (drop (suc i) xs) _ (subst (λ ks. has_number_past_limit (filter q (give ks (get_or xs i d))) ≡ true) e past))
 
--- names that came in twice
-pub grown-twice : (xs ys zs : List Name) → (added : List Name) × (ys ≡ xs ++ added) → (added : List Name) × (zs ≡ ys ++ added) → (added : List Name) × (zs ≡ xs ++ added)
-grown-twice xs ys zs a b = (a.0 ++ b.0, b.1 ∙ ap (λ ws. ws ++ b.0) a.1 ∙ append_assoc xs a.0 b.0)
-
 pub on-err : {T E : Type 0} (r : Result T E) {P : Type 0} → P → OnErr r P
 on-err (Ok x) h = tt
 on-err (Err e) h = h

@@ -4,3 +4,5 @@ pub mod FreeNumbers
 pub mod Firsts
 pub mod Giving
 pub mod Carried
+pub mod Grown
+pub mod Handshakes

@@ -1,6 +1,6 @@
 //! What owners are told of their objects by reading.
 
-ghost use Rattle.std.specs.Prelude.{◌≡◌, ◌==◌, ◌≤◌, ◌<◌, ◌+◌, ◌-◌, ◌*◌, ◌++◌, ◌∷◌, [], ℕ, Bool, length, take, vec_len, vec_capacity, Option};
+ghost use Rattle.std.specs.Prelude.{◌≡◌, ◌==◌, ◌≤◌, ◌<◌, ◌+◌, ◌-◌, ◌*◌, ◌++◌, ◌∷◌, [], ℕ, Bool, true, false, List, if◌then◌else◌, length, take, vec_len, vec_capacity, Option};
 ghost use Rattle.std.specs.List.{flat_map};
 ghost use Rattle.bd_space.specs.Words.{changed, when, is_some_and, same as same_object};
 ghost use Rattle.bd_space.specs.Todo.{notice_of, death_of};
@@ -8,6 +8,8 @@ ghost use Rattle.bd_space.specs.References as references;
 ghost use Rattle.bd_space.specs.Reading as reading;
 ghost use Rattle.bd_space.specs.declared.space.Phase.TheVariants.{Told};
 ghost use Rattle.bd_space.specs.Space.{Space};
+ghost use Rattle.bd_space.specs.declared.space.Reference.{Reference};
+ghost use Rattle.bd_space.specs.declared.space.Holder.TheVariants.{Handshake};
 
 use crate::objects::{object_in, same};
 use crate::references::{held_in, strong_in};
@@ -103,6 +105,100 @@ fn mark_told(deaths: &mut Vec<DeathNotification>, taken: &[Work])
     }
 }
 
+/// Whether the owner is to acknowledge the object weakly, and strongly, once it has read what it is to be told.
+fn acknowledgements(objects: &[Object], refs: &[Reference], o: ObjectId) -> (bool, bool)
+    ensures { flat_map reading.shakes (reading.returns_of_object refs.now (references.object_in objects.now o))
+        ≡ (if result.0 then (false ∷ []) else []) ++ (if result.1 then (true ∷ []) else []) }
+{
+    match object_in(objects, o) {
+        Some(x) => (
+            held_in(refs, x.id) && !x.told_weak,
+            strong_in(refs, x.id) && !x.told_strong,
+        ),
+        None => (false, false),
+    }
+}
+
+fn add_handshake(refs: &mut Vec<Reference>, before: usize, place: u32, o: ObjectId, strong: bool)
+    requires inside { before ≤ length refs.old.items }
+    requires room { vec_len refs.old < vec_capacity refs.old }
+    ensures items { refs.new.items ≡ refs.old.items ++ references.reference_of place (length refs.old.items - before) o strong Handshake ∷ [] }
+    ensures len { vec_len refs.new ≡ vec_len refs.old + 1 }
+    ensures capacity { vec_capacity refs.new ≡ vec_capacity refs.old }
+{
+    let index = (refs.len() - before) as u64;
+    refs.push_reserved(Reference {
+        id: Identity { place, index },
+        object: o,
+        strong,
+        holder: Holder::Handshake,
+    });
+}
+
+/// The references that stand for these acknowledgements.
+fn add_acknowledgements(
+    refs: &mut Vec<Reference>,
+    before: usize,
+    place: u32,
+    o: ObjectId,
+    weak: bool,
+    strong: bool,
+)
+    requires inside { before ≤ length refs.old.items }
+    requires room { vec_len refs.old + 2 ≤ vec_capacity refs.old }
+    ensures items { refs.new.items ≡ refs.old.items ++ reading.handshakes_for place (length refs.old.items - before) o
+        ((if weak then (false ∷ []) else []) ++ (if strong then (true ∷ []) else [])) }
+    ensures len { vec_len refs.new ≤ vec_len refs.old + 2 }
+    ensures capacity { vec_capacity refs.new ≡ vec_capacity refs.old }
+{
+    if weak {
+        add_handshake(refs, before, place, o, false);
+    }
+    if strong {
+        add_handshake(refs, before, place, o, true);
+    }
+}
+
+/// The references that stand for what a work item leaves to be acknowledged. The first ones are those that stood before the
+/// reading.
+#[tactic(auto, unfolding(bd_space::specs::Reading::returns))]
+fn add_handshakes_of(
+    refs: &mut Vec<Reference>,
+    before: usize,
+    place: u32,
+    objects: &[Object],
+    kind: WorkKind,
+)
+    requires inside { before ≤ length refs.old.items }
+    requires room { vec_len refs.old + 2 ≤ vec_capacity refs.old }
+    ensures items { (s : Space) → s.references ≡ take before refs.old.items → s.objects ≡ objects.now → s.steps ≡ place
+        → refs.new.items ≡ refs.old.items ++ reading.handshakes_of s (length refs.old.items - before) kind }
+    ensures grows { (added : List Reference) × (refs.new.items ≡ refs.old.items ++ added) }
+    ensures len { vec_len refs.new ≤ vec_len refs.old + 2 }
+    ensures capacity { vec_capacity refs.new ≡ vec_capacity refs.old }
+{
+    let WorkKind::Notice(o) = kind else {
+        return;
+    };
+    let (weak, strong) = acknowledgements(objects, &refs[..before], o);
+    add_acknowledgements(refs, before, place, o, weak, strong);
+}
+
+/// The references that stand for what is left to be acknowledged.
+fn add_handshakes(refs: &mut Vec<Reference>, place: u32, objects: &[Object], taken: &[Work])
+    requires { vec_len refs.old + 2 * length taken.now ≤ vec_capacity refs.old }
+    ensures items { (s : Space) → s.references ≡ refs.old.items → s.objects ≡ objects.now → s.steps ≡ place
+        → refs.new.items ≡ refs.old.items ++ reading.handshakes s 0 taken.now }
+    ensures grows { (added : List Reference) × (refs.new.items ≡ refs.old.items ++ added) }
+    ensures len { vec_len refs.new ≤ vec_len refs.old + 2 * length taken.now }
+    ensures capacity { vec_capacity refs.new ≡ vec_capacity refs.old }
+{
+    let before = refs.len();
+    for w in taken {
+        add_handshakes_of(refs, before, place, objects, w.kind);
+    }
+}
+
 impl ObjectTable {
     ghost use Rattle.bd_objects.specs.Stands.{StandsFor};
     ghost use Rattle.bd_objects.specs.Room.{Takes, reference_room};
@@ -117,5 +213,19 @@ impl ObjectTable {
             Some(x) => notice_returns_of(self.references.as_slice(), &x),
             None => [None, None, None, None],
         }
+    }
+
+    /// The references, told values and death notifications after these work items were read by the step of this place: a
+    /// reference stands for each acknowledgement that is owed, owners know what is so, and the deaths are told.
+    #[tactic(auto, unfolding(bd_space::specs::Reading::read_by, crate::specs::Room::object_room, crate::specs::Room::reference_room, crate::specs::Room::name_room, crate::specs::Room::death_room, crate::specs::Room::object_count, crate::specs::Room::death_count))]
+    pub fn read_by(&mut self, place: u32, taken: &[Work])
+        requires { 2 * length taken.now ≤ reference_room self.old }
+        ensures stands { (s : Space) (seat : ℕ) → StandsFor self.old s → s.steps ≡ place → StandsFor self.new (reading.read_by s seat taken.now) }
+        ensures takes { Takes self.old self.new 0 (2 * length taken.now) 0 0 }
+    {
+        let before = self.references.len();
+        add_handshakes(&mut self.references, place, self.objects.as_slice(), taken);
+        tell_owners(&mut self.objects, &self.references[..before], taken);
+        mark_told(&mut self.deaths, taken);
     }
 }
