@@ -1,5 +1,5 @@
 -- The references of a buffer, one item after the other.
-use Rattle.std.proofs.Common.{◌≡◌, ℕ, suc, ◌+◌, ◌<◌, ◌≤◌, Bool, List, [], ◌∷◌, ◌++◌, Option, take, drop, length, get_or, refl, ap, subst, sym, ◌∙◌, append_assoc, arith, rules, add-one, drop-cons}
+use Rattle.std.proofs.Common.{◌≡◌, ℕ, ◌+◌, ◌<◌, ◌≤◌, Bool, List, [], ◌∷◌, ◌++◌, Option, drop, length, get_or, refl, ap, subst, sym, ◌∙◌, append_assoc, arith, add-one, drop-cons}
 use Rattle.std.proofs.Math.ListN.{drop_of_length-le}
 use Rattle.bd_space.specs.declared.step.ObjectId.{ObjectId}
 use Rattle.bd_space.specs.declared.space.Item.{Item}

@@ -6,3 +6,4 @@ pub mod Giving
 pub mod Carried
 pub mod Grown
 pub mod Handshakes
+pub mod Telling

@@ -161,7 +161,7 @@ fn add_acknowledgements(
 
 /// The references that stand for what a work item leaves to be acknowledged. The first ones are those that stood before the
 /// reading.
-#[tactic(auto, unfolding(bd_space::specs::Reading::returns))]
+#[tactic(auto, unfolding(bd_space::specs::Reading::returns_of))]
 fn add_handshakes_of(
     refs: &mut Vec<Reference>,
     before: usize,

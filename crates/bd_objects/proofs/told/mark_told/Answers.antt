@@ -1,4 +1,4 @@
-use Rattle.std.proofs.Common.{rules, tests, ◌∙◌, sym, arith}
+use Rattle.std.proofs.Common.{◌∙◌, sym, arith}
 use Rattle.bd_space.specs.declared.space.DeathNotification.{DeathNotification}
 use Rattle.bd_space.specs.declared.space.Phase.TheVariants.{Told}
 use Rattle.bd_space.specs.Reading.{is_told_of_death}

@@ -1,4 +1,4 @@
-use Rattle.std.proofs.Common.{rules, tests, ◌∙◌, sym, ap, arith, set}
+use Rattle.std.proofs.Common.{◌∙◌, sym, ap, arith, set}
 use Rattle.bd_space.specs.declared.space.Object.{Object}
 use Rattle.bd_space.specs.Reading.{is_told_by, told_of}
 use Rattle.bd_objects.proofs.Changed.{changed-then, changed-else}

@@ -1,4 +1,3 @@
-use Rattle.std.proofs.Common.{rules, ◌∙◌, ap, sym}
 use Rattle.bd_space.specs.Exits.{thread_goes, is_lost_with}
 use Rattle.bd_space.specs.declared.space.TodoList.TheVariants.{OfThread}
 use Rattle.bd_objects.proofs.table.ObjectTable.thread_goes.Goals as goal
