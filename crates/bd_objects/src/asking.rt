@@ -159,7 +159,7 @@ impl ObjectTable {
     }
 
     /// The least reference of this strength goes that the process asked for.
-    #[tactic(auto, unfolding(bd_space::specs::Asking::drop_asked, crate::specs::Room::object_room, crate::specs::Room::reference_room, crate::specs::Room::name_room, crate::specs::Room::death_room, crate::specs::Room::object_count, crate::specs::Room::death_count))]
+    #[tactic(auto, unfolding(bd_space::specs::Asking::drop_asked, crate::specs::Room::rooms))]
     pub fn drop_asked(&mut self, p: u32, o: ObjectId, strong: bool)
         ensures stands { (s : Space) → StandsFor self.old s → StandsFor self.new (asking.drop_asked s p o strong) }
         ensures takes { Takes self.old self.new 0 0 0 0 }
@@ -181,7 +181,7 @@ impl ObjectTable {
     }
 
     /// The reference goes that stood for the acknowledgement.
-    #[tactic(auto, unfolding(bd_space::specs::Asking::acknowledge, crate::specs::Room::object_room, crate::specs::Room::reference_room, crate::specs::Room::name_room, crate::specs::Room::death_room, crate::specs::Room::object_count, crate::specs::Room::death_count))]
+    #[tactic(auto, unfolding(bd_space::specs::Asking::acknowledge, crate::specs::Room::rooms))]
     pub fn acknowledge(&mut self, o: ObjectId, strong: bool)
         ensures stands { (s : Space) → StandsFor self.old s → StandsFor self.new (asking.acknowledge s o strong) }
         ensures takes { Takes self.old self.new 0 0 0 0 }

@@ -136,7 +136,7 @@ impl ObjectTable {
     ghost use Rattle.bd_objects.specs.Room.{Takes, death_room, death_count};
 
     /// The uncleared notifications go whose name is gone.
-    #[tactic(auto, unfolding(bd_space::specs::Notices::deaths_go, crate::specs::Room::object_room, crate::specs::Room::reference_room, crate::specs::Room::name_room, crate::specs::Room::death_room, crate::specs::Room::object_count, crate::specs::Room::death_count))]
+    #[tactic(auto, unfolding(bd_space::specs::Notices::deaths_go, crate::specs::Room::rooms))]
     pub fn deaths_go(&mut self)
         ensures stands { (s : Space) → StandsFor self.old s → StandsFor self.new (notices.deaths_go s) }
         ensures takes { Takes self.old self.new 0 0 0 0 }
@@ -169,7 +169,7 @@ impl ObjectTable {
     }
 
     /// A new notification of the process on its name of the object, made by the step of this place.
-    #[tactic(auto, unfolding(bd_space::specs::Deaths::with_death, crate::specs::Room::object_room, crate::specs::Room::reference_room, crate::specs::Room::name_room, crate::specs::Room::death_room, crate::specs::Room::object_count, crate::specs::Room::death_count))]
+    #[tactic(auto, unfolding(bd_space::specs::Deaths::with_death, crate::specs::Room::rooms))]
     pub fn with_death(&mut self, place: u32, p: u32, o: ObjectId, cookie: u64, phase: Phase)
         requires { 1 ≤ death_room self.old }
         ensures stands { (s : Space) → StandsFor self.old s → s.steps ≡ place
@@ -201,7 +201,7 @@ impl ObjectTable {
     }
 
     /// Marks the notification as cleared.
-    #[tactic(auto, unfolding(bd_space::specs::Deaths::mark_cleared, crate::specs::Room::object_room, crate::specs::Room::reference_room, crate::specs::Room::name_room, crate::specs::Room::death_room, crate::specs::Room::object_count, crate::specs::Room::death_count))]
+    #[tactic(auto, unfolding(bd_space::specs::Deaths::mark_cleared, crate::specs::Room::rooms))]
     pub fn mark_cleared(&mut self, made: u32)
         ensures stands { (s : Space) → StandsFor self.old s → StandsFor self.new (deaths_of.mark_cleared s made) }
         ensures takes { Takes self.old self.new 0 0 0 0 }
@@ -210,7 +210,7 @@ impl ObjectTable {
     }
 
     /// The notification goes.
-    #[tactic(auto, unfolding(bd_space::specs::Deaths::without_death, crate::specs::Room::object_room, crate::specs::Room::reference_room, crate::specs::Room::name_room, crate::specs::Room::death_room, crate::specs::Room::object_count, crate::specs::Room::death_count))]
+    #[tactic(auto, unfolding(bd_space::specs::Deaths::without_death, crate::specs::Room::rooms))]
     pub fn without_death(&mut self, made: u32)
         ensures stands { (s : Space) → StandsFor self.old s → StandsFor self.new (deaths_of.without_death s made) }
         ensures takes { Takes self.old self.new 0 0 0 0 }
@@ -219,7 +219,7 @@ impl ObjectTable {
     }
 
     /// The notification is this far.
-    #[tactic(auto, unfolding(bd_space::specs::Deaths::with_phase, crate::specs::Room::object_room, crate::specs::Room::reference_room, crate::specs::Room::name_room, crate::specs::Room::death_room, crate::specs::Room::object_count, crate::specs::Room::death_count))]
+    #[tactic(auto, unfolding(bd_space::specs::Deaths::with_phase, crate::specs::Room::rooms))]
     pub fn with_phase(&mut self, made: u32, phase: Phase)
         ensures stands { (s : Space) → StandsFor self.old s → StandsFor self.new (deaths_of.with_phase s made phase) }
         ensures takes { Takes self.old self.new 0 0 0 0 }
@@ -243,7 +243,7 @@ impl ObjectTable {
     }
 
     /// How many notifications there are.
-    #[tactic(auto, unfolding(crate::specs::Room::death_count))]
+    #[tactic(auto, unfolding(crate::specs::Room::rooms))]
     pub fn death_count(&self) -> usize
         ensures count { (s : Space) → StandsFor self.now s → result ≡ length s.deaths }
         ensures counted { result ≡ death_count self.now }
@@ -267,7 +267,7 @@ impl ObjectTable {
     }
 
     /// Queues the notifications by which the end of the process is to be told. Their work items are the caller's to make.
-    #[tactic(auto, unfolding(crate::specs::Room::object_room, crate::specs::Room::reference_room, crate::specs::Room::name_room, crate::specs::Room::death_room, crate::specs::Room::object_count, crate::specs::Room::death_count))]
+    #[tactic(auto, unfolding(crate::specs::Room::rooms))]
     pub fn tell_deaths(&mut self, p: u32)
         ensures stands { (s : Space) → StandsFor self.old s → StandsFor self.new (exits.tell_deaths s p) }
         ensures takes { Takes self.old self.new 0 0 0 0 }

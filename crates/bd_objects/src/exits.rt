@@ -96,7 +96,7 @@ impl ObjectTable {
     ghost use Rattle.bd_objects.specs.Room.{Takes};
 
     /// The references go of the buffers that are lost with the thread of a seat; the caller says which those are.
-    #[tactic(auto, unfolding(bd_space::specs::Exits::thread_goes, crate::specs::Room::object_room, crate::specs::Room::reference_room, crate::specs::Room::name_room, crate::specs::Room::death_room, crate::specs::Room::object_count, crate::specs::Room::death_count))]
+    #[tactic(auto, unfolding(bd_space::specs::Exits::thread_goes, crate::specs::Room::rooms))]
     pub fn thread_goes<F: Fn(u32) -> bool>(&mut self, lost: F)
         requires { F.IsAlwaysCallable lost }
         ensures stands { (s : Space) (seat : ℕ) → StandsFor self.old s
@@ -108,7 +108,7 @@ impl ObjectTable {
     }
 
     /// The references, names and death notifications go that go with the process.
-    #[tactic(auto, unfolding(bd_space::specs::Exits::without_process, crate::specs::Room::object_room, crate::specs::Room::reference_room, crate::specs::Room::name_room, crate::specs::Room::death_room, crate::specs::Room::object_count, crate::specs::Room::death_count))]
+    #[tactic(auto, unfolding(bd_space::specs::Exits::without_process, crate::specs::Room::rooms))]
     pub fn without_process(&mut self, p: u32)
         ensures stands { (s : Space) → StandsFor self.old s → StandsFor self.new (exits.without_process s p) }
         ensures takes { Takes self.old self.new 0 0 0 0 }

@@ -248,7 +248,7 @@ impl ObjectTable {
     /// item and one to the target, held by the buffer of this place, and a number for each object that the receiver is to
     /// name and has no name for. All of it, or nothing where a number past the limit would be needed. Takes the context
     /// manager's object.
-    #[tactic(auto, unfolding(bd_space::specs::Delivery::make_objects, bd_space::specs::Delivery::refer, bd_space::specs::Names::assign_numbers, bd_space::specs::Names::names_go, crate::specs::Room::object_room, crate::specs::Room::reference_room, crate::specs::Room::name_room, crate::specs::Room::death_room, crate::specs::Room::object_count, crate::specs::Room::death_count))]
+    #[tactic(auto, unfolding(bd_space::specs::Delivery::make_objects, bd_space::specs::Delivery::refer, bd_space::specs::Names::assign_numbers, bd_space::specs::Names::names_go, crate::specs::Room::rooms))]
     pub fn deliver(
         &mut self,
         place: u32,
@@ -289,7 +289,7 @@ impl ObjectTable {
 
     /// The reference that the process asks for, with a name for the object if it has none. All of it, or nothing where a
     /// number past the limit would be needed. Takes the context manager's object.
-    #[tactic(auto, unfolding(bd_space::specs::Asking::ask, bd_space::specs::Names::assign_numbers, bd_space::specs::Names::names_go, crate::specs::Room::object_room, crate::specs::Room::reference_room, crate::specs::Room::name_room, crate::specs::Room::death_room, crate::specs::Room::object_count, crate::specs::Room::death_count))]
+    #[tactic(auto, unfolding(bd_space::specs::Asking::ask, bd_space::specs::Names::assign_numbers, bd_space::specs::Names::names_go, crate::specs::Room::rooms))]
     pub fn ask(
         &mut self,
         place: u32,

@@ -217,7 +217,7 @@ impl ObjectTable {
 
     /// The references, told values and death notifications after these work items were read by the step of this place: a
     /// reference stands for each acknowledgement that is owed, owners know what is so, and the deaths are told.
-    #[tactic(auto, unfolding(bd_space::specs::Reading::read_by, crate::specs::Room::object_room, crate::specs::Room::reference_room, crate::specs::Room::name_room, crate::specs::Room::death_room, crate::specs::Room::object_count, crate::specs::Room::death_count))]
+    #[tactic(auto, unfolding(bd_space::specs::Reading::read_by, crate::specs::Room::rooms))]
     pub fn read_by(&mut self, place: u32, taken: &[Work])
         requires { 2 * length taken.now ≤ reference_room self.old }
         ensures stands { (s : Space) (seat : ℕ) → StandsFor self.old s → s.steps ≡ place → StandsFor self.new (reading.read_by s seat taken.now) }
