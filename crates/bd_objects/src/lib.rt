@@ -15,3 +15,6 @@ mod told;
 
 pub use numbers::NumbersFull;
 pub use table::ObjectTable;
+
+#[cfg(test)]
+mod tests;

@@ -86,9 +86,9 @@ fn as_own(x: &FlatObject, o: &Object) -> FlatObject
         } else {
             ObjectKind::WeakBinder
         },
-        flags: x.flags,
         binder: o.ptr,
         cookie: o.cookie,
+        ..*x
     }
 }
 
@@ -102,9 +102,9 @@ fn as_handle(x: &FlatObject, n: u32) -> FlatObject
         } else {
             ObjectKind::WeakHandle
         },
-        flags: x.flags,
         binder: u64::from(n),
         cookie: 0,
+        ..*x
     }
 }
 
