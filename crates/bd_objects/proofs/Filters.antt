@@ -1,10 +1,9 @@
 -- A test that no element passes, after a filter.
-use Rattle.std.proofs.Common.{◌≡◌, Bool, true, false, ◌||◌, cond, List, [], ◌∷◌, refl, filter, arith}
+use Rattle.std.proofs.Common.{◌≡◌, Bool, true, false, ◌||◌, cond, List, [], ◌∷◌, refl, filter}
 use Rattle.std.specs.Prelude.{nat_lt}
 use Rattle.std.specs.List.{list_any}
 use Rattle.bd_space.specs.declared.space.Name.{Name}
 use Rattle.bd_space.specs.Names.{has_number_past_limit}
-use Rattle.std.proofs.lemmas.Bool.{false≢true}
 
 neither : (a b : Bool) → (a || b) ≡ false → (a ≡ false) × (b ≡ false)
 neither false b h = (refl, h)

@@ -1,5 +1,5 @@
 -- Of as many numbers as there are names, and one more, one is free. So the least free one is the first that a loop finds.
-use Rattle.std.proofs.Common.{◌≡◌, ℕ, zero, suc, ◌+◌, ◌<◌, ◌≤◌, Bool, true, false, not, cond, ◌||◌, ◌&&◌, List, [], ◌∷◌, length, Option, Some, None, refl, ap, sym, ◌∙◌, subst, inl, inr, ◌⊎◌, arith, unwrap_or}
+use Rattle.std.proofs.Common.{◌≡◌, ℕ, zero, suc, ◌+◌, ◌<◌, ◌≤◌, Bool, true, false, not, cond, ◌||◌, ◌&&◌, List, [], ◌∷◌, length, Some, refl, ap, sym, ◌∙◌, subst, inl, inr, ◌⊎◌, arith, unwrap_or}
 use Rattle.std.specs.Prelude.{◌==◌, nat_le}
 use Rattle.std.specs.List.{list_any}
 use Rattle.std.proofs.lemmas.Bool.{cases_lt, false≢true}
@@ -101,10 +101,10 @@ module _ (p : ℕ) where
       let same : r.0 ≡ n = elim (cases_lt r.0 n) [
         | inl lt ↦ absurd (false≢true (ap not (sym (before r.0 f.from lt)) ∙ f.passes))
         | inr ge ↦ elim (cases_lt n r.0) [
-            | inl gt ↦ absurd (false≢true (sym (f.before n h gt) ∙ ap not e))
-            | inr le ↦ omega arith
-          ]
-        ] in
+          | inl gt ↦ absurd (false≢true (sym (f.before n h gt) ∙ ap not e))
+          | inr le ↦ omega arith
+        ]
+      ] in
       rw r.1 (sym same)
 
   -- no number below the limit is free

@@ -1,7 +1,6 @@
 -- Names that come in one after the other: none goes, and a number past the limit stays.
-use Rattle.std.proofs.Common.{◌≡◌, ℕ, zero, suc, ◌+◌, ◌<◌, Bool, true, false, cond, ◌||◌, ◌&&◌, not, List, [], ◌∷◌, ◌++◌, Option, Result, Ok, Err, OnErr, take, drop, length, get_or, fold, filter, is_some, refl, ap, sym, ◌∙◌, subst, append-nil, append_assoc, arith, rules, add-one}
+use Rattle.std.proofs.Common.{◌≡◌, ℕ, zero, suc, ◌+◌, ◌<◌, Bool, true, false, cond, List, [], ◌∷◌, ◌++◌, Option, Result, Ok, Err, OnErr, take, drop, length, get_or, fold, filter, refl, ap, sym, ◌∙◌, subst, append-nil, arith}
 use Rattle.std.specs.Prelude.{nat_lt}
-use Rattle.std.specs.List.{list_any}
 use Rattle.std.proofs.lemmas.List.Folds.{list_any-append}
 use Rattle.std.proofs.lemmas.List.Sums.{fold_more}
 use Rattle.std.proofs.lemmas.List.Elements.{filter-append}
@@ -49,10 +48,6 @@ module _ (manager : Option ObjectId) (objects : List Object) (refs : List Refere
       → has_number_past_limit (filter q (give ms (get_or xs i d))) ≡ true → has_number_past_limit (filter q (fold give ns xs)) ≡ true
   past-at xs ns ms i d h e past =
       rw (fold-at xs ns i d h) (past-fold (drop (suc i) xs) _ (subst (λ ks. has_number_past_limit (filter q (give ks (get_or xs i d))) ≡ true) e past))
-
--- names that came in twice
-pub grown-twice : (xs ys zs : List Name) → (added : List Name) × (ys ≡ xs ++ added) → (added : List Name) × (zs ≡ ys ++ added) → (added : List Name) × (zs ≡ xs ++ added)
-grown-twice xs ys zs a b = (a.0 ++ b.0, b.1 ∙ ap (λ ws. ws ++ b.0) a.1 ∙ append_assoc xs a.0 b.0)
 
 pub on-err : {T E : Type 0} (r : Result T E) {P : Type 0} → P → OnErr r P
 on-err (Ok x) h = tt

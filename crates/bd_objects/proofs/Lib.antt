@@ -3,3 +3,7 @@ pub mod Changed
 pub mod FreeNumbers
 pub mod Firsts
 pub mod Giving
+pub mod Carried
+pub mod Grown
+pub mod Handshakes
+pub mod Telling

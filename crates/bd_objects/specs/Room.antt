@@ -2,24 +2,42 @@
 use Rattle.std.specs.Prelude.{ℕ, ◌+◌, ◌-◌, ◌≤◌, vec_len, vec_capacity}
 use Rattle.bd_objects.specs.declared.table.ObjectTable.{ObjectTable}
 
-unfoldable pub object_room : ObjectTable → ℕ
-object_room t = vec_capacity t.objects - vec_len t.objects
+-- room for more of each, and how many there are of those that others count
+pub record Rooms : Type 0 where
+  pub objects : ℕ
+  pub references : ℕ
+  pub names : ℕ
+  pub deaths : ℕ
+  pub object_count : ℕ
+  pub death_count : ℕ
 
-unfoldable pub reference_room : ObjectTable → ℕ
-reference_room t = vec_capacity t.references - vec_len t.references
+unfoldable pub rooms : ObjectTable → Rooms
+rooms t = record {
+  objects = vec_capacity t.objects - vec_len t.objects;
+  references = vec_capacity t.references - vec_len t.references;
+  names = vec_capacity t.names - vec_len t.names;
+  deaths = vec_capacity t.deaths - vec_len t.deaths;
+  object_count = vec_len t.objects;
+  death_count = vec_len t.deaths;
+}
 
-unfoldable pub name_room : ObjectTable → ℕ
-name_room t = vec_capacity t.names - vec_len t.names
+abbrev pub object_room : ObjectTable → ℕ
+object_room t = (rooms t).objects
 
-unfoldable pub death_room : ObjectTable → ℕ
-death_room t = vec_capacity t.deaths - vec_len t.deaths
+abbrev pub reference_room : ObjectTable → ℕ
+reference_room t = (rooms t).references
 
--- how many objects and death notifications there are
-unfoldable pub object_count : ObjectTable → ℕ
-object_count t = vec_len t.objects
+abbrev pub name_room : ObjectTable → ℕ
+name_room t = (rooms t).names
 
-unfoldable pub death_count : ObjectTable → ℕ
-death_count t = vec_len t.deaths
+abbrev pub death_room : ObjectTable → ℕ
+death_room t = (rooms t).deaths
+
+abbrev pub object_count : ObjectTable → ℕ
+object_count t = (rooms t).object_count
+
+abbrev pub death_count : ObjectTable → ℕ
+death_count t = (rooms t).death_count
 
 -- a change takes room for at most so many of each, and adds at most so many objects and death notifications
 pub record Takes (old new : ObjectTable) (objects references names deaths : ℕ) : Type 0 where

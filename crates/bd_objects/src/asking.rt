@@ -16,7 +16,7 @@ use crate::table::ObjectTable;
 use bd_space::{Holder, Name, Object, ObjectId, Reference};
 use bd_uapi::Note;
 
-fn is_asked_by(p: u32, holder: Holder) -> bool
+pub(crate) fn is_asked_by(p: u32, holder: Holder) -> bool
     ensures { result ≡ references.is_asked_by p holder }
 {
     match holder {
@@ -127,7 +127,13 @@ impl ObjectTable {
     /// The object that the process asks for by this number, weakly or strongly. Errors, the first that holds: no such
     /// number, nobody refers to it strongly, it is the process's own.
     #[tactic(auto, unfolding(bd_space::specs::Asking::ask_check, bd_space::specs::Names::named))]
-    pub fn ask_check(&self, manager: Option<ObjectId>, p: u32, n: u32, strong: bool) -> Result<ObjectId, Note>
+    pub fn ask_check(
+        &self,
+        manager: Option<ObjectId>,
+        p: u32,
+        n: u32,
+        strong: bool,
+    ) -> Result<ObjectId, Note>
         ensures { (s : Space) → StandsFor self.now s → s.manager ≡ manager → result ≡ asking.ask_check s p n strong }
     {
         let o = asked_in(manager, self.names.as_slice(), p, n).ok_or(Note::NoSuchNumber)?;
@@ -153,7 +159,7 @@ impl ObjectTable {
     }
 
     /// The least reference of this strength goes that the process asked for.
-    #[tactic(auto, unfolding(bd_space::specs::Asking::drop_asked, crate::specs::Room::object_room, crate::specs::Room::reference_room, crate::specs::Room::name_room, crate::specs::Room::death_room, crate::specs::Room::object_count, crate::specs::Room::death_count))]
+    #[tactic(auto, unfolding(bd_space::specs::Asking::drop_asked, crate::specs::Room::rooms))]
     pub fn drop_asked(&mut self, p: u32, o: ObjectId, strong: bool)
         ensures stands { (s : Space) → StandsFor self.old s → StandsFor self.new (asking.drop_asked s p o strong) }
         ensures takes { Takes self.old self.new 0 0 0 0 }
@@ -175,7 +181,7 @@ impl ObjectTable {
     }
 
     /// The reference goes that stood for the acknowledgement.
-    #[tactic(auto, unfolding(bd_space::specs::Asking::acknowledge, crate::specs::Room::object_room, crate::specs::Room::reference_room, crate::specs::Room::name_room, crate::specs::Room::death_room, crate::specs::Room::object_count, crate::specs::Room::death_count))]
+    #[tactic(auto, unfolding(bd_space::specs::Asking::acknowledge, crate::specs::Room::rooms))]
     pub fn acknowledge(&mut self, o: ObjectId, strong: bool)
         ensures stands { (s : Space) → StandsFor self.old s → StandsFor self.new (asking.acknowledge s o strong) }
         ensures takes { Takes self.old self.new 0 0 0 0 }

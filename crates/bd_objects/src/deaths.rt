@@ -6,11 +6,13 @@ ghost use Rattle.bd_space.specs.Deaths as deaths_of;
 ghost use Rattle.bd_space.specs.Notices as notices;
 ghost use Rattle.bd_space.specs.Exits as exits;
 ghost use Rattle.bd_space.specs.Words.{changed};
+ghost use Rattle.bd_space.specs.References.{owned_in as owned_in_list};
+ghost use Rattle.bd_space.specs.declared.space.Phase.TheVariants.{Queued};
 
 use crate::names::named_in;
 use crate::objects::{lives_in, object_in, owned_in, same};
 use crate::table::ObjectTable;
-use bd_space::{DeathNotification, Name, ObjectId, Phase, Process};
+use bd_space::{DeathNotification, Name, Object, ObjectId, Phase, Process};
 use bd_uapi::Note;
 
 /// Whether the process has a name for the object.
@@ -105,6 +107,28 @@ fn set_phase(deaths: &mut Vec<DeathNotification>, made: u32, phase: Phase)
     }
 }
 
+/// Whether the end of the process is to be told by this notification.
+fn is_due(objects: &[Object], p: u32, x: &DeathNotification) -> bool
+    ensures { result ≡ (exits.is_armed x.now.phase && owned_in_list objects.now p x.now.object) }
+{
+    is_armed(x.phase) && owned_in(objects, p, x.object)
+}
+
+/// Queues the notifications with the name of one by which the end of the process is to be told.
+fn queue_due(deaths: &mut Vec<DeathNotification>, objects: &[Object], p: u32)
+    ensures items { deaths.new.items ≡ changed (λ y. list_any (λ x. (exits.is_armed x.phase && owned_in_list objects.now p x.object) && (y.made == x.made)) deaths.old.items)
+        (λ x. record x { phase = Queued }) deaths.old.items }
+    ensures len { vec_len deaths.new ≡ vec_len deaths.old }
+    ensures capacity { vec_capacity deaths.new ≡ vec_capacity deaths.old }
+{
+    for k in 0..deaths.len() {
+        let x = deaths[k];
+        if is_due(objects, p, &x) {
+            set_phase(deaths, x.made, Phase::Queued);
+        }
+    }
+}
+
 impl ObjectTable {
     ghost use Rattle.bd_space.specs.Space.{Space};
     ghost use Rattle.bd_space.specs.References as references;
@@ -112,7 +136,7 @@ impl ObjectTable {
     ghost use Rattle.bd_objects.specs.Room.{Takes, death_room, death_count};
 
     /// The uncleared notifications go whose name is gone.
-    #[tactic(auto, unfolding(bd_space::specs::Notices::deaths_go, crate::specs::Room::object_room, crate::specs::Room::reference_room, crate::specs::Room::name_room, crate::specs::Room::death_room, crate::specs::Room::object_count, crate::specs::Room::death_count))]
+    #[tactic(auto, unfolding(bd_space::specs::Notices::deaths_go, crate::specs::Room::rooms))]
     pub fn deaths_go(&mut self)
         ensures stands { (s : Space) → StandsFor self.old s → StandsFor self.new (notices.deaths_go s) }
         ensures takes { Takes self.old self.new 0 0 0 0 }
@@ -145,7 +169,7 @@ impl ObjectTable {
     }
 
     /// A new notification of the process on its name of the object, made by the step of this place.
-    #[tactic(auto, unfolding(bd_space::specs::Deaths::with_death, crate::specs::Room::object_room, crate::specs::Room::reference_room, crate::specs::Room::name_room, crate::specs::Room::death_room, crate::specs::Room::object_count, crate::specs::Room::death_count))]
+    #[tactic(auto, unfolding(bd_space::specs::Deaths::with_death, crate::specs::Room::rooms))]
     pub fn with_death(&mut self, place: u32, p: u32, o: ObjectId, cookie: u64, phase: Phase)
         requires { 1 ≤ death_room self.old }
         ensures stands { (s : Space) → StandsFor self.old s → s.steps ≡ place
@@ -177,7 +201,7 @@ impl ObjectTable {
     }
 
     /// Marks the notification as cleared.
-    #[tactic(auto, unfolding(bd_space::specs::Deaths::mark_cleared, crate::specs::Room::object_room, crate::specs::Room::reference_room, crate::specs::Room::name_room, crate::specs::Room::death_room, crate::specs::Room::object_count, crate::specs::Room::death_count))]
+    #[tactic(auto, unfolding(bd_space::specs::Deaths::mark_cleared, crate::specs::Room::rooms))]
     pub fn mark_cleared(&mut self, made: u32)
         ensures stands { (s : Space) → StandsFor self.old s → StandsFor self.new (deaths_of.mark_cleared s made) }
         ensures takes { Takes self.old self.new 0 0 0 0 }
@@ -186,7 +210,7 @@ impl ObjectTable {
     }
 
     /// The notification goes.
-    #[tactic(auto, unfolding(bd_space::specs::Deaths::without_death, crate::specs::Room::object_room, crate::specs::Room::reference_room, crate::specs::Room::name_room, crate::specs::Room::death_room, crate::specs::Room::object_count, crate::specs::Room::death_count))]
+    #[tactic(auto, unfolding(bd_space::specs::Deaths::without_death, crate::specs::Room::rooms))]
     pub fn without_death(&mut self, made: u32)
         ensures stands { (s : Space) → StandsFor self.old s → StandsFor self.new (deaths_of.without_death s made) }
         ensures takes { Takes self.old self.new 0 0 0 0 }
@@ -195,7 +219,7 @@ impl ObjectTable {
     }
 
     /// The notification is this far.
-    #[tactic(auto, unfolding(bd_space::specs::Deaths::with_phase, crate::specs::Room::object_room, crate::specs::Room::reference_room, crate::specs::Room::name_room, crate::specs::Room::death_room, crate::specs::Room::object_count, crate::specs::Room::death_count))]
+    #[tactic(auto, unfolding(bd_space::specs::Deaths::with_phase, crate::specs::Room::rooms))]
     pub fn with_phase(&mut self, made: u32, phase: Phase)
         ensures stands { (s : Space) → StandsFor self.old s → StandsFor self.new (deaths_of.with_phase s made phase) }
         ensures takes { Takes self.old self.new 0 0 0 0 }
@@ -219,7 +243,7 @@ impl ObjectTable {
     }
 
     /// How many notifications there are.
-    #[tactic(auto, unfolding(crate::specs::Room::death_count))]
+    #[tactic(auto, unfolding(crate::specs::Room::rooms))]
     pub fn death_count(&self) -> usize
         ensures count { (s : Space) → StandsFor self.now s → result ≡ length s.deaths }
         ensures counted { result ≡ death_count self.now }
@@ -239,6 +263,15 @@ impl ObjectTable {
         ensures { (s : Space) → StandsFor self.now s
             → result ≡ (exits.is_armed x.now.phase && references.owned_in s.objects p x.now.object) }
     {
-        is_armed(x.phase) && owned_in(self.objects.as_slice(), p, x.object)
+        is_due(self.objects.as_slice(), p, x)
+    }
+
+    /// Queues the notifications by which the end of the process is to be told. Their work items are the caller's to make.
+    #[tactic(auto, unfolding(crate::specs::Room::rooms))]
+    pub fn tell_deaths(&mut self, p: u32)
+        ensures stands { (s : Space) → StandsFor self.old s → StandsFor self.new (exits.tell_deaths s p) }
+        ensures takes { Takes self.old self.new 0 0 0 0 }
+    {
+        queue_due(&mut self.deaths, self.objects.as_slice(), p);
     }
 }

@@ -3,12 +3,18 @@
 
 mod asking;
 mod deaths;
+mod exits;
 mod names;
 mod notices;
 mod numbers;
 mod objects;
 mod references;
+mod sending;
 mod table;
+mod told;
 
 pub use numbers::NumbersFull;
 pub use table::ObjectTable;
+
+#[cfg(test)]
+mod tests;

@@ -108,7 +108,7 @@ impl ObjectTable {
     }
 
     /// The names go that no reference carries any more.
-    #[tactic(auto, unfolding(bd_space::specs::Names::names_go, crate::specs::Room::object_room, crate::specs::Room::reference_room, crate::specs::Room::name_room, crate::specs::Room::death_room, crate::specs::Room::object_count, crate::specs::Room::death_count))]
+    #[tactic(auto, unfolding(bd_space::specs::Names::names_go, crate::specs::Room::rooms))]
     pub fn names_go(&mut self)
         ensures stands { (s : Space) → StandsFor self.old s → StandsFor self.new (names_of.names_go s) }
         ensures takes { Takes self.old self.new 0 0 0 0 }

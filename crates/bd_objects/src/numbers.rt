@@ -1,9 +1,10 @@
 //! The numbers (handles) that new names get.
 
-ghost use Rattle.std.specs.Prelude.{◌≡◌, ◌==◌, ◌≤◌, ◌<◌, ◌+◌, ◌&&◌, not, is_some, suc, length, filter, fold, false, true, List, vec_len, vec_capacity, OnOk, OnErr, MatchOption, Option, unwrap_or, ◌++◌};
+ghost use Rattle.std.specs.Prelude.{◌≡◌, ◌==◌, ◌≤◌, ◌<◌, ◌+◌, ◌&&◌, not, is_some, suc, length, filter, fold, false, true, List, vec_len, vec_capacity, OnOk, OnErr, MatchOption, Option, unwrap_or, map, ◌++◌};
 ghost use Rattle.std.specs.List.{list_any};
 ghost use Rattle.bd_space.specs.Words as words;
 ghost use Rattle.bd_space.specs.Names as names_of;
+ghost use Rattle.bd_space.specs.Parcels.{object_of_item};
 ghost use Rattle.bd_space.specs.declared.space.Name.{Name};
 
 use crate::names::{is_named_in, number_in};
@@ -62,7 +63,7 @@ fn lacks_name(objects: &[Object], refs: &[Reference], names: &[Name], p: u32, o:
 }
 
 /// Gives the process a number for the object, if it is to have one and has none. Needs room for one name.
-fn give_name(
+pub(crate) fn give_name(
     names: &mut Vec<Name>,
     manager: Option<ObjectId>,
     objects: &[Object],
@@ -113,4 +114,30 @@ fn give_each(
         give_name(names, manager, objects, refs, p, x.object)?;
     }
     Ok(())
+}
+
+/// The same, or nothing where a number past the limit would be needed.
+pub(crate) fn give_names(
+    names: &mut Vec<Name>,
+    manager: Option<ObjectId>,
+    objects: &[Object],
+    refs: &[Reference],
+    p: u32,
+    items: &[Item],
+) -> Result<(), NumbersFull>
+    requires { vec_len names.old + length items.now ≤ vec_capacity names.old }
+    ensures ok { OnOk result (names.new.items ≡ names_of.with_names manager objects.now refs.now p names.old.items (map object_of_item items.now)) }
+    ensures fits { names_of.has_number_past_limit names.old.items ≡ false → names_of.has_number_past_limit names.new.items ≡ false }
+    ensures err { OnErr result (names.new.items ≡ names.old.items) }
+    ensures full { OnErr result (names_of.has_number_past_limit (filter (λ m. names_of.is_named_in objects.now refs.now m.process m.object)
+        (names_of.with_names manager objects.now refs.now p names.old.items (map object_of_item items.now))) ≡ true) }
+    ensures len { vec_len names.new ≤ vec_len names.old + length items.now }
+    ensures capacity { vec_capacity names.new ≡ vec_capacity names.old }
+{
+    let before = names.len();
+    let given = give_each(names, manager, objects, refs, p, items);
+    if given.is_err() {
+        names.truncate(before);
+    }
+    given
 }

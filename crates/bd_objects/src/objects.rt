@@ -73,7 +73,7 @@ impl ObjectTable {
     ghost use Rattle.bd_objects.specs.Room.{Takes, object_room, reference_room, object_count};
 
     /// How many objects there are.
-    #[tactic(auto, unfolding(crate::specs::Room::object_count))]
+    #[tactic(auto, unfolding(crate::specs::Room::rooms))]
     pub fn object_count(&self) -> usize
         ensures count { (s : Space) → StandsFor self.now s → result ≡ length s.objects }
         ensures counted { result ≡ object_count self.now }
@@ -110,7 +110,7 @@ impl ObjectTable {
     }
 
     /// The objects go that nothing keeps. Takes the live processes.
-    #[tactic(auto, unfolding(bd_space::specs::References::objects_go, crate::specs::Room::object_room, crate::specs::Room::reference_room, crate::specs::Room::name_room, crate::specs::Room::death_room, crate::specs::Room::object_count, crate::specs::Room::death_count))]
+    #[tactic(auto, unfolding(bd_space::specs::References::objects_go, crate::specs::Room::rooms))]
     pub fn objects_go(&mut self, processes: &[Process])
         ensures stands { (s : Space) → StandsFor self.old s → s.processes ≡ processes.now → StandsFor self.new (references.objects_go s) }
         ensures takes { Takes self.old self.new 0 0 0 0 }
@@ -120,7 +120,7 @@ impl ObjectTable {
 
     /// The context manager's object, with its reference: the object has ptr 0 and cookie 0, and its owner counts as
     /// told. Who the manager is, is the caller's to keep.
-    #[tactic(auto, unfolding(bd_space::specs::Steps::with_manager, crate::specs::Room::object_room, crate::specs::Room::reference_room, crate::specs::Room::name_room, crate::specs::Room::death_room, crate::specs::Room::object_count, crate::specs::Room::death_count))]
+    #[tactic(auto, unfolding(bd_space::specs::Steps::with_manager, crate::specs::Room::rooms))]
     pub fn with_manager(&mut self, place: u32, p: u32)
         requires objects { 1 ≤ object_room self.old }
         requires references { 1 ≤ reference_room self.old }

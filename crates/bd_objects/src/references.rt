@@ -79,7 +79,7 @@ impl ObjectTable {
     }
 
     /// The references go that a buffer held.
-    #[tactic(auto, unfolding(bd_space::specs::Freeing::without_buffer, crate::specs::Room::object_room, crate::specs::Room::reference_room, crate::specs::Room::name_room, crate::specs::Room::death_room, crate::specs::Room::object_count, crate::specs::Room::death_count))]
+    #[tactic(auto, unfolding(bd_space::specs::Freeing::without_buffer, crate::specs::Room::rooms))]
     pub fn without_buffer(&mut self, made: u32)
         ensures stands { (s : Space) → StandsFor self.old s → StandsFor self.new (freeing.without_buffer s made) }
         ensures takes { Takes self.old self.new 0 0 0 0 }

@@ -32,7 +32,7 @@ impl ObjectTable {
     }
 
     /// Makes room for so many of each, and for one death notification. Changes nothing else.
-    #[tactic(auto, unfolding(crate::specs::Room::object_room, crate::specs::Room::reference_room, crate::specs::Room::name_room, crate::specs::Room::death_room, crate::specs::Room::object_count, crate::specs::Room::death_count))]
+    #[tactic(auto, unfolding(crate::specs::Room::rooms))]
     pub fn reserve(
         &mut self,
         objects: usize,

@@ -1,7 +1,8 @@
 use Rattle.std.proofs.Common.{arith, ◌∙◌}
 use Rattle.bd_space.specs.declared.space.Name.{Name}
 use Rattle.bd_space.specs.Names.{is_named_in}
-use Rattle.bd_objects.proofs.Giving.{give-more, grown-twice, past-at, on-err}
+use Rattle.bd_objects.proofs.Giving.{give-more, past-at, on-err}
+use Rattle.bd_objects.proofs.Grown.{grown-twice}
 use Rattle.bd_objects.proofs.numbers.give_each.Goals as goal
 
 pub loop-x-preserved : goal.loop-x-preserved

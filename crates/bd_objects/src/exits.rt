@@ -1,0 +1,120 @@
+//! What goes when a thread or a process ends.
+
+ghost use Rattle.std.specs.Prelude.{◌≡◌, ◌==◌, ◌≤◌, ◌||◌, ◌&&◌, ℕ, Bool, not, filter, vec_len, vec_capacity, Option};
+ghost use Rattle.bd_space.specs.Words.{is_some_and};
+ghost use Rattle.bd_space.specs.References as references;
+ghost use Rattle.bd_space.specs.Exits as exits;
+
+use crate::asking::is_asked_by;
+use crate::objects::owned_in;
+use crate::references::buffer_of_holder;
+use crate::table::ObjectTable;
+use bd_space::{DeathNotification, Holder, Name, Object, Reference};
+
+/// Whether its buffer lies in the process's window.
+fn is_in_window(p: u32, holder: Holder) -> bool
+    ensures { result ≡ references.is_in_window p holder }
+{
+    match holder {
+        Holder::Carried(_, q) => q == p,
+        Holder::Target(_, q) => q == p,
+        _ => false,
+    }
+}
+
+/// Whether it is the owner's own: unacknowledged, or the context manager's.
+fn is_of_owner(holder: Holder) -> bool
+    ensures { result ≡ references.is_of_owner holder }
+{
+    match holder {
+        Holder::Handshake => true,
+        Holder::Manager => true,
+        _ => false,
+    }
+}
+
+/// Whether it goes with the process.
+fn is_dropped_with(objects: &[Object], p: u32, r: &Reference) -> bool
+    ensures { result ≡ exits.is_dropped_with objects.now p r.now }
+{
+    is_asked_by(p, r.holder)
+        || is_in_window(p, r.holder)
+        || (owned_in(objects, p, r.object) && is_of_owner(r.holder))
+}
+
+fn drop_references_of(refs: &mut Vec<Reference>, objects: &[Object], p: u32)
+    ensures items { refs.new.items ≡ filter (λ r. not (exits.is_dropped_with objects.now p r)) refs.old.items }
+    ensures len { vec_len refs.new ≤ vec_len refs.old }
+    ensures capacity { vec_capacity refs.new ≡ vec_capacity refs.old }
+{
+    refs.retain(|r| !is_dropped_with(objects, p, r));
+}
+
+fn drop_names_of(names: &mut Vec<Name>, p: u32)
+    ensures items { names.new.items ≡ filter (λ m. not (m.process == p)) names.old.items }
+    ensures len { vec_len names.new ≤ vec_len names.old }
+    ensures capacity { vec_capacity names.new ≡ vec_capacity names.old }
+{
+    names.retain(|m| m.process != p);
+}
+
+fn drop_deaths_of(deaths: &mut Vec<DeathNotification>, p: u32)
+    ensures items { deaths.new.items ≡ filter (λ x. not (x.process == p)) deaths.old.items }
+    ensures len { vec_len deaths.new ≤ vec_len deaths.old }
+    ensures capacity { vec_capacity deaths.new ≡ vec_capacity deaths.old }
+{
+    deaths.retain(|x| x.process != p);
+}
+
+/// Whether its buffer is lost.
+fn is_lost_with<F: Fn(u32) -> bool>(lost: &F, holder: Holder) -> bool
+    requires { F.IsAlwaysCallable lost.now }
+    ensures { (is_lost : ℕ → Bool) → ((b : ℕ) (r : Bool) → F.post lost.now b r → r ≡ is_lost b)
+        → result ≡ is_some_and (references.buffer_of_holder holder) is_lost }
+{
+    match buffer_of_holder(holder) {
+        Some(b) => lost(b),
+        None => false,
+    }
+}
+
+/// Drops the references of the buffers that are lost.
+fn drop_lost<F: Fn(u32) -> bool>(refs: &mut Vec<Reference>, lost: F)
+    requires { F.IsAlwaysCallable lost }
+    ensures items { (is_lost : ℕ → Bool) → ((b : ℕ) (r : Bool) → F.post lost b r → r ≡ is_lost b)
+        → refs.new.items ≡ filter (λ r. not (is_some_and (references.buffer_of_holder r.holder) is_lost)) refs.old.items }
+    ensures len { vec_len refs.new ≤ vec_len refs.old }
+    ensures capacity { vec_capacity refs.new ≡ vec_capacity refs.old }
+{
+    refs.retain(|r| !is_lost_with(&lost, r.holder));
+}
+
+impl ObjectTable {
+    ghost use Rattle.bd_space.specs.Space.{Space};
+    ghost use Rattle.bd_space.specs.declared.space.TodoList.TheVariants.{OfThread};
+    ghost use Rattle.bd_objects.specs.Stands.{StandsFor};
+    ghost use Rattle.bd_objects.specs.Room.{Takes};
+
+    /// The references go of the buffers that are lost with the thread of a seat; the caller says which those are.
+    #[tactic(auto, unfolding(bd_space::specs::Exits::thread_goes, crate::specs::Room::rooms))]
+    pub fn thread_goes<F: Fn(u32) -> bool>(&mut self, lost: F)
+        requires { F.IsAlwaysCallable lost }
+        ensures stands { (s : Space) (seat : ℕ) → StandsFor self.old s
+            → ((b : ℕ) (r : Bool) → F.post lost b r → r ≡ exits.is_lost_with s.todo (OfThread seat) b)
+            → StandsFor self.new (exits.thread_goes s seat) }
+        ensures takes { Takes self.old self.new 0 0 0 0 }
+    {
+        drop_lost(&mut self.references, lost);
+    }
+
+    /// The references, names and death notifications go that go with the process.
+    #[tactic(auto, unfolding(bd_space::specs::Exits::without_process, crate::specs::Room::rooms))]
+    pub fn without_process(&mut self, p: u32)
+        ensures stands { (s : Space) → StandsFor self.old s → StandsFor self.new (exits.without_process s p) }
+        ensures takes { Takes self.old self.new 0 0 0 0 }
+    {
+        drop_references_of(&mut self.references, self.objects.as_slice(), p);
+        drop_names_of(&mut self.names, p);
+        drop_deaths_of(&mut self.deaths, p);
+    }
+}
