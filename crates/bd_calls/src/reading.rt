@@ -53,7 +53,7 @@ fn has_to_read(frames: &[Frame], todo: &[Work], thread: &Thread) -> bool
 fn same_identity(a: Identity, b: Identity) -> bool
     ensures { result ≡ words.same_identity a b }
 {
-    a.place == b.place && a.index == b.index
+    a == b
 }
 
 // The buffer that is handed over by reading these.

@@ -14,17 +14,13 @@ use bd_space::{Frame, Identity, ObjectId, TodoList, Work, WorkKind};
 pub(crate) fn same(a: ObjectId, b: ObjectId) -> bool
     ensures { result ≡ words.same a b }
 {
-    a.place == b.place && a.index == b.index
+    a == b
 }
 
 pub(crate) fn is_on(list: TodoList, work: &Work) -> bool
     ensures { result ≡ spec.is_on list work.now }
 {
-    match (list, work.list) {
-        (TodoList::OfThread(a), TodoList::OfThread(b)) => a == b,
-        (TodoList::OfProcess(a), TodoList::OfProcess(b)) => a == b,
-        _ => false,
-    }
+    work.list == list
 }
 
 pub(crate) fn has_work(todo: &[Work], list: TodoList) -> bool
@@ -37,10 +33,10 @@ pub(crate) fn has_work(todo: &[Work], list: TodoList) -> bool
 fn stands_in_way(kind: WorkKind) -> bool
     ensures { result ≡ spec.stands_in_way kind }
 {
-    match kind {
-        WorkKind::Call(_) | WorkKind::Reply(_) | WorkKind::Verdict(_) => true,
-        _ => false,
-    }
+    matches!(
+        kind,
+        WorkKind::Call(_) | WorkKind::Reply(_) | WorkKind::Verdict(_)
+    )
 }
 
 fn has_in_way(todo: &[Work], list: TodoList) -> bool
@@ -52,10 +48,7 @@ fn has_in_way(todo: &[Work], list: TodoList) -> bool
 fn is_notice(object: ObjectId, kind: WorkKind) -> bool
     ensures { result ≡ spec.is_notice object kind }
 {
-    match kind {
-        WorkKind::Notice(o) => same(o, object),
-        _ => false,
-    }
+    matches!(kind, WorkKind::Notice(o) if same(o, object))
 }
 
 fn has_notice(todo: &[Work], object: ObjectId) -> bool

@@ -16,10 +16,7 @@ use bd_space::{ObjectId, TodoList, Turn, Work, WorkKind};
 pub(crate) fn is_call(buffer: u32, kind: WorkKind) -> bool
     ensures { result ≡ works.is_call buffer kind }
 {
-    match kind {
-        WorkKind::Call(b) => b == buffer,
-        _ => false,
-    }
+    matches!(kind, WorkKind::Call(b) if b == buffer)
 }
 
 fn has_call(todo: &[Work], buffer: u32) -> bool
