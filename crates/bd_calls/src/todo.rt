@@ -4,18 +4,11 @@
 ghost use Rattle.std.specs.Prelude.{ℕ, Bool, ◌≡◌, ◌==◌, ◌+◌, ◌<◌, ◌≤◌, ◌&&◌, not, filter, count_by, vec_len, vec_capacity};
 ghost use Rattle.std.specs.List.{list_any};
 ghost use Rattle.bd_space.specs.declared.space.WorkKind.{WorkKind};
-ghost use Rattle.bd_space.specs.Words as words;
 ghost use Rattle.bd_space.specs.Todo as spec;
 ghost use Rattle.bd_space.specs.Notices as notices;
 
 use crate::table::CallTable;
 use bd_space::{Frame, Identity, ObjectId, TodoList, Work, WorkKind};
-
-pub(crate) fn same(a: ObjectId, b: ObjectId) -> bool
-    ensures { result ≡ words.same a b }
-{
-    a == b
-}
 
 pub(crate) fn is_on(list: TodoList, work: &Work) -> bool
     ensures { result ≡ spec.is_on list work.now }
@@ -48,7 +41,7 @@ fn has_in_way(todo: &[Work], list: TodoList) -> bool
 fn is_notice(object: ObjectId, kind: WorkKind) -> bool
     ensures { result ≡ spec.is_notice object kind }
 {
-    matches!(kind, WorkKind::Notice(o) if same(o, object))
+    matches!(kind, WorkKind::Notice(o) if o == object)
 }
 
 fn has_notice(todo: &[Work], object: ObjectId) -> bool

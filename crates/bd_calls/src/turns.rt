@@ -9,7 +9,7 @@ ghost use Rattle.bd_space.specs.Todo as works;
 ghost use Rattle.bd_space.specs.Turns as spec;
 
 use crate::table::CallTable;
-use crate::todo::{push_work, same};
+use crate::todo::push_work;
 use bd_space::{ObjectId, TodoList, Turn, Work, WorkKind};
 
 /// A work item is the call of this buffer.
@@ -28,7 +28,7 @@ fn has_call(todo: &[Work], buffer: u32) -> bool
 fn has_turn_on(turns: &[Turn], object: ObjectId) -> bool
     ensures { result ≡ list_any (λ t. words.same t.target object) turns.now }
 {
-    turns.iter().any(|t| same(t.target, object))
+    turns.iter().any(|t| t.target == object)
 }
 
 fn is_ripe(todo: &[Work], older: &[Turn], turn: &Turn) -> bool
