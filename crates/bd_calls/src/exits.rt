@@ -1,5 +1,5 @@
 //! What goes with a thread and with a process.
-#![tactic(auto, unfolding(bd_space::specs::Exits::thread_goes, bd_space::specs::Exits::without_process, crate::specs::Room::thread_room, crate::specs::Room::frame_room, crate::specs::Room::turn_room, crate::specs::Room::work_room, crate::specs::Room::frame_count, crate::specs::Room::turn_count))]
+#![tactic(auto, unfolding(crate::specs::Room::thread_room, crate::specs::Room::frame_room, crate::specs::Room::turn_room, crate::specs::Room::work_room, crate::specs::Room::frame_count, crate::specs::Room::turn_count))]
 
 ghost use Rattle.std.specs.Prelude.{ℕ, ◌≡◌, ◌==◌, ◌+◌, ◌≤◌, not, map, filter, Option, vec_len, vec_capacity};
 ghost use Rattle.std.specs.List.{list_any};

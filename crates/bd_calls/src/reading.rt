@@ -1,5 +1,5 @@
 //! What a read takes and changes.
-#![tactic(auto, unfolding(bd_space::specs::Todo::list_to_read, bd_space::specs::Reading::read_by, crate::specs::Room::thread_room, crate::specs::Room::frame_room, crate::specs::Room::turn_room, crate::specs::Room::work_room, crate::specs::Room::frame_count, crate::specs::Room::turn_count))]
+#![tactic(auto, unfolding(bd_space::specs::Todo::list_to_read, crate::specs::Room::thread_room, crate::specs::Room::frame_room, crate::specs::Room::turn_room, crate::specs::Room::work_room, crate::specs::Room::frame_count, crate::specs::Room::turn_count))]
 
 ghost use Rattle.std.specs.Prelude.{ℕ, ◌≡◌, ◌==◌, ◌+◌, ◌≤◌, not, map, filter, Option, Some, None, vec_len, vec_capacity};
 ghost use Rattle.std.specs.List.{list_any, slice_get};

@@ -1,5 +1,5 @@
 //! One-way calls: of one object's, one is due or handed out at a time, in the order in which they were made.
-#![tactic(auto, unfolding(bd_space::specs::Turns::ripen, bd_space::specs::Delivery::add_buffer, bd_space::specs::Freeing::without_buffer, crate::specs::Room::thread_room, crate::specs::Room::frame_room, crate::specs::Room::turn_room, crate::specs::Room::work_room, crate::specs::Room::frame_count, crate::specs::Room::turn_count))]
+#![tactic(auto, unfolding(bd_space::specs::Turns::ripen, crate::specs::Room::thread_room, crate::specs::Room::frame_room, crate::specs::Room::turn_room, crate::specs::Room::work_room, crate::specs::Room::frame_count, crate::specs::Room::turn_count))]
 
 ghost use Rattle.std.specs.Prelude.{ℕ, ◌≡◌, ◌==◌, ◌+◌, ◌<◌, ◌≤◌, ◌++◌, [], not, filter, length, vec_len, vec_capacity};
 ghost use Rattle.std.specs.Option.{option_to_list};
