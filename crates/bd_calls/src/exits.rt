@@ -1,5 +1,5 @@
 //! What goes with a thread and with a process.
-#![tactic(auto, unfolding(bd_space::specs::Exits::thread_goes, bd_space::specs::Exits::without_process, crate::specs::Room::thread_room, crate::specs::Room::frame_room, crate::specs::Room::turn_room, crate::specs::Room::work_room, crate::specs::Room::frame_count, crate::specs::Room::turn_count))]
+#![tactic(auto, unfolding(crate::specs::Room::thread_room, crate::specs::Room::frame_room, crate::specs::Room::turn_room, crate::specs::Room::work_room, crate::specs::Room::frame_count, crate::specs::Room::turn_count))]
 
 ghost use Rattle.std.specs.Prelude.{ℕ, ◌≡◌, ◌==◌, ◌+◌, ◌≤◌, not, map, filter, Option, vec_len, vec_capacity};
 ghost use Rattle.std.specs.List.{list_any};
@@ -24,40 +24,24 @@ fn unread_server(todo: &[Work], list: TodoList, made: u32, server: Server) -> Se
     ensures { result ≡ spec.unread_server todo.now list made server }
 {
     match server {
-        Server::Pending => {
-            if is_unread_on(todo, list, made) {
-                Server::Gone
-            } else {
-                Server::Pending
-            }
-        }
-        Server::Serving(seat) => Server::Serving(seat),
-        Server::Gone => Server::Gone,
+        Server::Pending if is_unread_on(todo, list, made) => Server::Gone,
+        _ => server,
     }
 }
 
 fn gone_caller(seat: u32, caller: Option<u32>) -> Option<u32>
     ensures { result ≡ spec.gone_caller seat caller }
 {
-    match caller {
-        Some(c) => { if c == seat { None } else { Some(c) } }
-        None => None,
-    }
+    caller.filter(|c| *c != seat)
 }
 
 fn gone_server(seat: u32, server: Server) -> Server
     ensures { result ≡ spec.gone_server seat server }
 {
-    match server {
-        Server::Pending => Server::Pending,
-        Server::Serving(t) => {
-            if t == seat {
-                Server::Gone
-            } else {
-                Server::Serving(t)
-            }
-        }
-        Server::Gone => Server::Gone,
+    if serves(server, seat) {
+        Server::Gone
+    } else {
+        server
     }
 }
 
@@ -66,10 +50,9 @@ fn frame_without(todo: &[Work], seat: u32, frame: Frame) -> Frame
 {
     let unread = unread_server(todo, TodoList::OfThread(seat), frame.made, frame.server);
     Frame {
-        made: frame.made,
         caller: gone_caller(seat, frame.caller),
         server: gone_server(seat, unread),
-        parent: frame.parent,
+        ..frame
     }
 }
 
@@ -77,10 +60,8 @@ fn unread_frame(todo: &[Work], list: TodoList, frame: Frame) -> Frame
     ensures { result ≡ spec.unread_frame todo.now list frame }
 {
     Frame {
-        made: frame.made,
-        caller: frame.caller,
         server: unread_server(todo, list, frame.made, frame.server),
-        parent: frame.parent,
+        ..frame
     }
 }
 
@@ -109,10 +90,7 @@ fn lose_unread(frames: &mut Vec<Frame>, todo: &[Work], list: TodoList)
 fn hands_over(work: &Work, buffer: u32) -> bool
     ensures { result ≡ words.is_some_and (works.handed_over work.now.kind) (λ m. m == buffer) }
 {
-    match handed_over(work.kind) {
-        Some(made) => made == buffer,
-        None => false,
-    }
+    handed_over(work.kind) == Some(buffer)
 }
 
 fn is_lost_with(todo: &[Work], list: TodoList, buffer: u32) -> bool

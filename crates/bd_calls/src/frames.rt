@@ -16,28 +16,19 @@ use std::slice::Iter;
 pub(crate) fn serves(server: Server, seat: u32) -> bool
     ensures { result ≡ spec.serves seat server }
 {
-    match server {
-        Server::Serving(t) => t == seat,
-        _ => false,
-    }
+    matches!(server, Server::Serving(t) if t == seat)
 }
 
 pub(crate) fn is_gone(server: Server) -> bool
     ensures { result ≡ spec.is_gone server }
 {
-    match server {
-        Server::Gone => true,
-        _ => false,
-    }
+    matches!(server, Server::Gone)
 }
 
 fn is_child_of(frame: &Frame, child: &Frame) -> bool
     ensures { result ≡ spec.is_child_of frame.now child.now }
 {
-    match child.parent {
-        Some(made) => made == frame.made,
-        None => false,
-    }
+    child.parent == Some(frame.made)
 }
 
 pub(crate) fn has_child(frames: &[Frame], frame: &Frame) -> bool
@@ -49,10 +40,7 @@ pub(crate) fn has_child(frames: &[Frame], frame: &Frame) -> bool
 fn calls(frame: &Frame, seat: u32) -> bool
     ensures { result ≡ spec.calls seat frame.now }
 {
-    match frame.caller {
-        Some(t) => t == seat,
-        None => false,
-    }
+    frame.caller == Some(seat)
 }
 
 fn takes_part(frame: &Frame, seat: u32) -> bool
@@ -139,13 +127,10 @@ fn frame_made_at(frames: &[Frame], made: u32) -> Option<Frame>
 fn waits(threads: &[Thread], process: u32, frame: &Frame) -> bool
     ensures { result ≡ spec.waits_in threads.now process frame.now }
 {
-    match frame.caller {
-        Some(seat) => match thread_of(threads, seat) {
-            Some(thread) => thread.process == process,
-            None => false,
-        },
-        None => false,
-    }
+    frame
+        .caller
+        .and_then(|seat| thread_of(threads, seat))
+        .is_some_and(|thread| thread.process == process)
 }
 
 pub(crate) fn innermost_made(frames: &[Frame], seat: u32) -> Option<u32>
@@ -169,11 +154,8 @@ fn first_waiting(
 fn list_of_caller(process: u32, frame: Option<Frame>) -> TodoList
     ensures { result ≡ spec.list_of_caller process frame }
 {
-    match frame {
-        Some(f) => match f.caller {
-            Some(seat) => TodoList::OfThread(seat),
-            None => TodoList::OfProcess(process),
-        },
+    match frame.and_then(|f| f.caller) {
+        Some(seat) => TodoList::OfThread(seat),
         None => TodoList::OfProcess(process),
     }
 }

@@ -6,6 +6,8 @@ mod exits;
 mod frames;
 mod reading;
 mod table;
+#[cfg(test)]
+mod tests;
 mod threads;
 mod todo;
 mod turns;

@@ -1,5 +1,5 @@
 //! What a read takes and changes.
-#![tactic(auto, unfolding(bd_space::specs::Todo::list_to_read, bd_space::specs::Reading::read_by, crate::specs::Room::thread_room, crate::specs::Room::frame_room, crate::specs::Room::turn_room, crate::specs::Room::work_room, crate::specs::Room::frame_count, crate::specs::Room::turn_count))]
+#![tactic(auto, unfolding(bd_space::specs::Todo::list_to_read, crate::specs::Room::thread_room, crate::specs::Room::frame_room, crate::specs::Room::turn_room, crate::specs::Room::work_room, crate::specs::Room::frame_count, crate::specs::Room::turn_count))]
 
 ghost use Rattle.std.specs.Prelude.{ℕ, ◌≡◌, ◌==◌, ◌+◌, ◌≤◌, not, map, filter, Option, Some, None, vec_len, vec_capacity};
 ghost use Rattle.std.specs.List.{list_any, slice_get};
@@ -14,7 +14,7 @@ use crate::table::CallTable;
 use crate::threads::thread_of;
 use crate::todo::{has_work, is_on};
 use crate::turns::is_call;
-use bd_space::{Frame, Identity, Server, Thread, TodoList, Turn, Work, WorkKind};
+use bd_space::{Frame, Server, Thread, TodoList, Turn, Work, WorkKind};
 
 fn reads_in(frames: &[Frame], todo: &[Work], thread: &Thread) -> Option<TodoList>
     ensures { result ≡ works.reads_in frames.now todo.now thread.now }
@@ -50,12 +50,6 @@ fn has_to_read(frames: &[Frame], todo: &[Work], thread: &Thread) -> bool
     has_on(todo, reads_in(frames, todo, thread))
 }
 
-fn same_identity(a: Identity, b: Identity) -> bool
-    ensures { result ≡ words.same_identity a b }
-{
-    a.place == b.place && a.index == b.index
-}
-
 // The buffer that is handed over by reading these.
 fn handed_by(taken: &[Work]) -> Option<u32>
     ensures { result ≡ words.first_of (map (λ w. works.handed_over w.kind) taken.now) }
@@ -82,7 +76,7 @@ pub(crate) fn handed_over(kind: WorkKind) -> Option<u32>
 fn is_taken(taken: &[Work], work: &Work) -> bool
     ensures { result ≡ list_any (λ t. words.same_identity work.now.id t.id) taken.now }
 {
-    taken.iter().any(|t| same_identity(work.id, t.id))
+    taken.iter().any(|t| work.id == t.id)
 }
 
 fn remove_taken(todo: &mut Vec<Work>, taken: &[Work])

@@ -1,30 +1,19 @@
 //! Work items: what is still to be read, and by whom.
-#![tactic(auto, unfolding(bd_space::specs::Todo::owe, bd_space::specs::Todo::has_unread, bd_space::specs::Notices::work_goes, crate::specs::Room::thread_room, crate::specs::Room::frame_room, crate::specs::Room::turn_room, crate::specs::Room::work_room, crate::specs::Room::frame_count, crate::specs::Room::turn_count))]
+#![tactic(auto, unfolding(bd_space::specs::Todo::owe, bd_space::specs::Todo::has_unread, crate::specs::Room::thread_room, crate::specs::Room::frame_room, crate::specs::Room::turn_room, crate::specs::Room::work_room, crate::specs::Room::frame_count, crate::specs::Room::turn_count))]
 
 ghost use Rattle.std.specs.Prelude.{ℕ, Bool, ◌≡◌, ◌==◌, ◌+◌, ◌<◌, ◌≤◌, ◌&&◌, not, filter, count_by, vec_len, vec_capacity};
 ghost use Rattle.std.specs.List.{list_any};
 ghost use Rattle.bd_space.specs.declared.space.WorkKind.{WorkKind};
-ghost use Rattle.bd_space.specs.Words as words;
 ghost use Rattle.bd_space.specs.Todo as spec;
 ghost use Rattle.bd_space.specs.Notices as notices;
 
 use crate::table::CallTable;
 use bd_space::{Frame, Identity, ObjectId, TodoList, Work, WorkKind};
 
-pub(crate) fn same(a: ObjectId, b: ObjectId) -> bool
-    ensures { result ≡ words.same a b }
-{
-    a.place == b.place && a.index == b.index
-}
-
 pub(crate) fn is_on(list: TodoList, work: &Work) -> bool
     ensures { result ≡ spec.is_on list work.now }
 {
-    match (list, work.list) {
-        (TodoList::OfThread(a), TodoList::OfThread(b)) => a == b,
-        (TodoList::OfProcess(a), TodoList::OfProcess(b)) => a == b,
-        _ => false,
-    }
+    work.list == list
 }
 
 pub(crate) fn has_work(todo: &[Work], list: TodoList) -> bool
@@ -37,10 +26,10 @@ pub(crate) fn has_work(todo: &[Work], list: TodoList) -> bool
 fn stands_in_way(kind: WorkKind) -> bool
     ensures { result ≡ spec.stands_in_way kind }
 {
-    match kind {
-        WorkKind::Call(_) | WorkKind::Reply(_) | WorkKind::Verdict(_) => true,
-        _ => false,
-    }
+    matches!(
+        kind,
+        WorkKind::Call(_) | WorkKind::Reply(_) | WorkKind::Verdict(_)
+    )
 }
 
 fn has_in_way(todo: &[Work], list: TodoList) -> bool
@@ -52,10 +41,7 @@ fn has_in_way(todo: &[Work], list: TodoList) -> bool
 fn is_notice(object: ObjectId, kind: WorkKind) -> bool
     ensures { result ≡ spec.is_notice object kind }
 {
-    match kind {
-        WorkKind::Notice(o) => same(o, object),
-        _ => false,
-    }
+    matches!(kind, WorkKind::Notice(o) if o == object)
 }
 
 fn has_notice(todo: &[Work], object: ObjectId) -> bool

@@ -1,5 +1,5 @@
 //! One-way calls: of one object's, one is due or handed out at a time, in the order in which they were made.
-#![tactic(auto, unfolding(bd_space::specs::Turns::ripen, bd_space::specs::Delivery::add_buffer, bd_space::specs::Freeing::without_buffer, crate::specs::Room::thread_room, crate::specs::Room::frame_room, crate::specs::Room::turn_room, crate::specs::Room::work_room, crate::specs::Room::frame_count, crate::specs::Room::turn_count))]
+#![tactic(auto, unfolding(bd_space::specs::Turns::ripen, crate::specs::Room::thread_room, crate::specs::Room::frame_room, crate::specs::Room::turn_room, crate::specs::Room::work_room, crate::specs::Room::frame_count, crate::specs::Room::turn_count))]
 
 ghost use Rattle.std.specs.Prelude.{ℕ, ◌≡◌, ◌==◌, ◌+◌, ◌<◌, ◌≤◌, ◌++◌, [], not, filter, length, vec_len, vec_capacity};
 ghost use Rattle.std.specs.Option.{option_to_list};
@@ -9,17 +9,14 @@ ghost use Rattle.bd_space.specs.Todo as works;
 ghost use Rattle.bd_space.specs.Turns as spec;
 
 use crate::table::CallTable;
-use crate::todo::{push_work, same};
+use crate::todo::push_work;
 use bd_space::{ObjectId, TodoList, Turn, Work, WorkKind};
 
 /// A work item is the call of this buffer.
 pub(crate) fn is_call(buffer: u32, kind: WorkKind) -> bool
     ensures { result ≡ works.is_call buffer kind }
 {
-    match kind {
-        WorkKind::Call(b) => b == buffer,
-        _ => false,
-    }
+    matches!(kind, WorkKind::Call(b) if b == buffer)
 }
 
 fn has_call(todo: &[Work], buffer: u32) -> bool
@@ -31,7 +28,7 @@ fn has_call(todo: &[Work], buffer: u32) -> bool
 fn has_turn_on(turns: &[Turn], object: ObjectId) -> bool
     ensures { result ≡ list_any (λ t. words.same t.target object) turns.now }
 {
-    turns.iter().any(|t| same(t.target, object))
+    turns.iter().any(|t| t.target == object)
 }
 
 fn is_ripe(todo: &[Work], older: &[Turn], turn: &Turn) -> bool
