@@ -1,20 +1,19 @@
 -- What a window keeps through each change.
-use Rattle.std.proofs.Common.{◌≡◌, ℕ, ◌+◌, ◌*◌, ◌%◌, ◌<◌, ◌≤◌, Bool, true, false, cond, List, [], ◌∷◌, ◌++◌, length, get_or, refl, ap, sym, ◌∙◌, arith, All, inl, inr, subst}
-use Rattle.std.specs.Prelude.{Ok, Option, Some, None, IsTrue, IfSome, AllPairs, filter, find, sum_by, not, option_copied}
+use Rattle.std.proofs.Common.{◌≡◌, ℕ, ◌+◌, ◌%◌, ◌≤◌, Bool, true, false, cond, List, [], ◌∷◌, ◌++◌, length, refl, ap, sym, ◌∙◌, arith, subst}
+use Rattle.std.specs.Prelude.{Ok, Option, Some, None, IsTrue, IfSome, filter, find, option_copied}
 use denote.Ref.{Bor}
 use Rattle.std.proofs.lemmas.List.Elements.{All-push}
 use Rattle.std.proofs.lemmas.List.Quantifiers.{all_pairs_push}
-use Rattle.std.proofs.lemmas.List.Sums.{sum_by-cons, sum_by-append}
+use Rattle.std.proofs.lemmas.List.Sums.{sum_by-cons}
 use Rattle.std.specs.List.{items_where_true}
 use Rattle.std.specs.List.Retain.{IsFiltered}
 use Rattle.bd_space.specs.declared.space.Buffer.{Buffer}
-use Rattle.bd_space.specs.Words.{changed, round_up}
+use Rattle.bd_space.specs.Words.{changed}
 use Rattle.bd_space.specs.Room.{needed, place_for}
-use Rattle.bd_space.specs.Freeing.{is_made_at}
 use Rattle.bd_space.specs.Reading.{hand_out}
-use Rattle.bd_buffers.specs.Windows.{IsApart, IsRoom, IsLeastRoom, IsInBudget, IsPlaced, IsWindow, one_way_size}
+use Rattle.bd_buffers.specs.Windows.{IsApart, IsInBudget, IsPlaced, IsWindow, one_way_size}
 use Rattle.bd_buffers.proofs.Changes.{All-changed, All-picked, pairs_picked, pairs_changed, found_has}
-use Rattle.bd_buffers.proofs.Places.{IsGiven, given_says}
+use Rattle.bd_buffers.proofs.Places.{given_says}
 
 -- ---- the one-way sizes
 

@@ -1,6 +1,6 @@
 -- The least place that fits.
-use Rattle.std.proofs.Common.{subst, ◌≡◌, ℕ, zero, suc, ◌+◌, ◌-◌, ◌*◌, ◌/◌, ◌%◌, ◌<◌, ◌≤◌, Bool, true, false, cond, List, [], ◌∷◌, refl, ap, sym, ◌∙◌, arith, All, inl, inr, rules, tests, nat_le, nat_lt}
-use Rattle.std.specs.Prelude.{Option, Some, None, Result, Ok, Err, option_map, find, not, ◌&&◌, ◌||◌, IsTrue, IfOk, IfErr, if◌then◌else◌}
+use Rattle.std.proofs.Common.{subst, ◌≡◌, ℕ, zero, suc, ◌+◌, ◌*◌, ◌/◌, ◌%◌, ◌<◌, ◌≤◌, Bool, true, false, List, refl, ap, sym, ◌∙◌, arith, inl, inr, rules, tests, nat_le}
+use Rattle.std.specs.Prelude.{Option, Some, None, Result, Ok, Err, option_map, find, not, ◌&&◌, IsTrue, IfOk, IfErr}
 use Rattle.std.specs.List.{list_all}
 use Rattle.std.proofs.lemmas.List.Sums.{AllPass-from_list_all, list_all-from_AllPass}
 use Rattle.std.proofs.lemmas.List.Elements.{All-weaker}

@@ -5,3 +5,6 @@ mod spans;
 mod window;
 
 pub use window::Window;
+
+#[cfg(test)]
+mod tests;

@@ -1,4 +1,4 @@
-use Rattle.std.proofs.Common.{rules, tests, not, ap, refl}
+use Rattle.std.proofs.Common.{rules, tests, not}
 use Rattle.std.proofs.lemmas.Fn.{filter_same}
 use Rattle.bd_space.specs.declared.space.Buffer.{Buffer}
 use Rattle.bd_buffers.proofs.Kept.{window_retained}

@@ -1,5 +1,4 @@
-use Rattle.std.proofs.Common.{rules, tests, ◌∙◌, arith, List}
-use Rattle.bd_space.specs.declared.space.Buffer.{Buffer}
+use Rattle.std.proofs.Common.{rules, tests, ◌∙◌, arith}
 use Rattle.bd_space.specs.Freeing.{is_made_at}
 use Rattle.bd_space.specs.Reading.{hand_out}
 use Rattle.bd_buffers.proofs.Changes.{changed-then, changed-else, changed-all}

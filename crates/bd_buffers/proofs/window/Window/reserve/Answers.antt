@@ -1,4 +1,3 @@
-use Rattle.std.proofs.Common.{◌≡◌}
 use Rattle.bd_buffers.specs.Stands.{CanTake}
 use Rattle.bd_buffers.proofs.window.Window.reserve.Goals as goal
 
