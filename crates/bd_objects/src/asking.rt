@@ -2,7 +2,7 @@
 
 ghost use Rattle.std.specs.Prelude.{◌≡◌, ◌==◌, ◌≤◌, ◌&&◌, find, vec_len, vec_capacity, Option, Result, OnOk, OnErr, true};
 ghost use Rattle.bd_space.specs.Words.{without_first};
-ghost use Rattle.bd_space.specs.References as references;
+ghost use Rattle.bd_space.specs.References as refer;
 ghost use Rattle.bd_space.specs.Asking as asking;
 ghost use Rattle.std.specs.Prelude.{position, [], ◌∷◌, if◌then◌else◌};
 ghost use Rattle.std.specs.List.{list_any};
@@ -17,7 +17,7 @@ use bd_space::{Holder, Name, Object, ObjectId, Reference};
 use bd_uapi::Note;
 
 pub(crate) fn is_asked_by(p: u32, holder: Holder) -> bool
-    ensures { result ≡ references.is_asked_by p holder }
+    ensures { result ≡ refer.is_asked_by p holder }
 {
     match holder {
         Holder::Asked(q) => q == p,
@@ -26,7 +26,7 @@ pub(crate) fn is_asked_by(p: u32, holder: Holder) -> bool
 }
 
 fn is_handshake(holder: Holder) -> bool
-    ensures { result ≡ references.is_handshake holder }
+    ensures { result ≡ refer.is_handshake holder }
 {
     match holder {
         Holder::Handshake => true,
@@ -35,67 +35,67 @@ fn is_handshake(holder: Holder) -> bool
 }
 
 fn same_strength(strong: bool, r: &Reference) -> bool
-    ensures { result ≡ references.same_strength strong r.now }
+    ensures { result ≡ refer.same_strength strong r.now }
 {
     if strong { r.strong } else { !r.strong }
 }
 
 /// Whether the process asked for the object, in this strength.
 fn is_asking(p: u32, o: ObjectId, strong: bool, r: &Reference) -> bool
-    ensures { result ≡ references.is_asking p o strong r.now }
+    ensures { result ≡ refer.is_asking p o strong r.now }
 {
     same_strength(strong, r) && same(r.object, o) && is_asked_by(p, r.holder)
 }
 
 /// Whether the owner is to acknowledge the object, in this strength.
 fn is_shaking(o: ObjectId, strong: bool, r: &Reference) -> bool
-    ensures { result ≡ references.is_shaking o strong r.now }
+    ensures { result ≡ refer.is_shaking o strong r.now }
 {
     same_strength(strong, r) && same(r.object, o) && is_handshake(r.holder)
 }
 
-fn first_asking(refs: &[Reference], p: u32, o: ObjectId, strong: bool) -> Option<usize>
-    ensures { result ≡ position (references.is_asking p o strong) refs.now }
+fn first_asking(references: &[Reference], p: u32, o: ObjectId, strong: bool) -> Option<usize>
+    ensures { result ≡ position (refer.is_asking p o strong) references.now }
 {
-    refs.iter().position(|r| is_asking(p, o, strong, r))
+    references.iter().position(|r| is_asking(p, o, strong, r))
 }
 
-fn first_shaking(refs: &[Reference], o: ObjectId, strong: bool) -> Option<usize>
-    ensures { result ≡ position (references.is_shaking o strong) refs.now }
+fn first_shaking(references: &[Reference], o: ObjectId, strong: bool) -> Option<usize>
+    ensures { result ≡ position (refer.is_shaking o strong) references.now }
 {
-    refs.iter().position(|r| is_shaking(o, strong, r))
+    references.iter().position(|r| is_shaking(o, strong, r))
 }
 
-fn is_asked(refs: &[Reference], p: u32, o: ObjectId, strong: bool) -> bool
-    ensures { result ≡ list_any (references.is_asking p o strong) refs.now }
+fn is_asked(references: &[Reference], p: u32, o: ObjectId, strong: bool) -> bool
+    ensures { result ≡ list_any (refer.is_asking p o strong) references.now }
 {
-    refs.iter().any(|r| is_asking(p, o, strong, r))
+    references.iter().any(|r| is_asking(p, o, strong, r))
 }
 
-fn is_shaken(refs: &[Reference], o: ObjectId, strong: bool) -> bool
-    ensures { result ≡ list_any (references.is_shaking o strong) refs.now }
+fn is_shaken(references: &[Reference], o: ObjectId, strong: bool) -> bool
+    ensures { result ≡ list_any (refer.is_shaking o strong) references.now }
 {
-    refs.iter().any(|r| is_shaking(o, strong, r))
+    references.iter().any(|r| is_shaking(o, strong, r))
 }
 
 /// Drops the least reference of this strength that the process asked for, if there is one.
-fn drop_asking(refs: &mut Vec<Reference>, p: u32, o: ObjectId, strong: bool)
-    ensures items { refs.new.items ≡ without_first (references.is_asking p o strong) refs.old.items }
-    ensures len { vec_len refs.new ≤ vec_len refs.old }
-    ensures capacity { vec_capacity refs.new ≡ vec_capacity refs.old }
+fn drop_asking(references: &mut Vec<Reference>, p: u32, o: ObjectId, strong: bool)
+    ensures items { references.new.items ≡ without_first (refer.is_asking p o strong) references.old.items }
+    ensures len { vec_len references.new ≤ vec_len references.old }
+    ensures capacity { vec_capacity references.new ≡ vec_capacity references.old }
 {
-    if let Some(i) = first_asking(refs.as_slice(), p, o, strong) {
-        let _dropped = refs.remove(i);
+    if let Some(i) = first_asking(references.as_slice(), p, o, strong) {
+        let _dropped = references.remove(i);
     }
 }
 
-fn drop_shaking(refs: &mut Vec<Reference>, o: ObjectId, strong: bool)
-    ensures items { refs.new.items ≡ without_first (references.is_shaking o strong) refs.old.items }
-    ensures len { vec_len refs.new ≤ vec_len refs.old }
-    ensures capacity { vec_capacity refs.new ≡ vec_capacity refs.old }
+fn drop_shaking(references: &mut Vec<Reference>, o: ObjectId, strong: bool)
+    ensures items { references.new.items ≡ without_first (refer.is_shaking o strong) references.old.items }
+    ensures len { vec_len references.new ≤ vec_len references.old }
+    ensures capacity { vec_capacity references.new ≡ vec_capacity references.old }
 {
-    if let Some(i) = first_shaking(refs.as_slice(), o, strong) {
-        let _dropped = refs.remove(i);
+    if let Some(i) = first_shaking(references.as_slice(), o, strong) {
+        let _dropped = references.remove(i);
     }
 }
 

@@ -131,7 +131,7 @@ fn queue_due(deaths: &mut Vec<DeathNotification>, objects: &[Object], p: u32)
 
 impl ObjectTable {
     ghost use Rattle.bd_space.specs.Space.{Space};
-    ghost use Rattle.bd_space.specs.References as references;
+    ghost use Rattle.bd_space.specs.References as refer;
     ghost use Rattle.bd_objects.specs.Stands.{StandsFor};
     ghost use Rattle.bd_objects.specs.Room.{Takes, death_room, death_count};
 
@@ -261,7 +261,7 @@ impl ObjectTable {
     /// Whether the end of the process is to be told by this notification.
     pub fn tells_death(&self, p: u32, x: &DeathNotification) -> bool
         ensures { (s : Space) → StandsFor self.now s
-            → result ≡ (exits.is_armed x.now.phase && references.owned_in s.objects p x.now.object) }
+            → result ≡ (exits.is_armed x.now.phase && refer.owned_in s.objects p x.now.object) }
     {
         is_due(self.objects.as_slice(), p, x)
     }

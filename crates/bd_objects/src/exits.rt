@@ -2,7 +2,7 @@
 
 ghost use Rattle.std.specs.Prelude.{◌≡◌, ◌==◌, ◌≤◌, ◌||◌, ◌&&◌, ℕ, Bool, not, filter, vec_len, vec_capacity, Option};
 ghost use Rattle.bd_space.specs.Words.{is_some_and};
-ghost use Rattle.bd_space.specs.References as references;
+ghost use Rattle.bd_space.specs.References as refer;
 ghost use Rattle.bd_space.specs.Exits as exits;
 
 use crate::asking::is_asked_by;
@@ -13,7 +13,7 @@ use bd_space::{DeathNotification, Holder, Name, Object, Reference};
 
 /// Whether its buffer lies in the process's window.
 fn is_in_window(p: u32, holder: Holder) -> bool
-    ensures { result ≡ references.is_in_window p holder }
+    ensures { result ≡ refer.is_in_window p holder }
 {
     match holder {
         Holder::Carried(_, q) => q == p,
@@ -24,7 +24,7 @@ fn is_in_window(p: u32, holder: Holder) -> bool
 
 /// Whether it is the owner's own: unacknowledged, or the context manager's.
 fn is_of_owner(holder: Holder) -> bool
-    ensures { result ≡ references.is_of_owner holder }
+    ensures { result ≡ refer.is_of_owner holder }
 {
     match holder {
         Holder::Handshake => true,
@@ -42,12 +42,12 @@ fn is_dropped_with(objects: &[Object], p: u32, r: &Reference) -> bool
         || (owned_in(objects, p, r.object) && is_of_owner(r.holder))
 }
 
-fn drop_references_of(refs: &mut Vec<Reference>, objects: &[Object], p: u32)
-    ensures items { refs.new.items ≡ filter (λ r. not (exits.is_dropped_with objects.now p r)) refs.old.items }
-    ensures len { vec_len refs.new ≤ vec_len refs.old }
-    ensures capacity { vec_capacity refs.new ≡ vec_capacity refs.old }
+fn drop_references_of(references: &mut Vec<Reference>, objects: &[Object], p: u32)
+    ensures items { references.new.items ≡ filter (λ r. not (exits.is_dropped_with objects.now p r)) references.old.items }
+    ensures len { vec_len references.new ≤ vec_len references.old }
+    ensures capacity { vec_capacity references.new ≡ vec_capacity references.old }
 {
-    refs.retain(|r| !is_dropped_with(objects, p, r));
+    references.retain(|r| !is_dropped_with(objects, p, r));
 }
 
 fn drop_names_of(names: &mut Vec<Name>, p: u32)
@@ -70,7 +70,7 @@ fn drop_deaths_of(deaths: &mut Vec<DeathNotification>, p: u32)
 fn is_lost_with<F: Fn(u32) -> bool>(lost: &F, holder: Holder) -> bool
     requires { F.IsAlwaysCallable lost.now }
     ensures { (is_lost : ℕ → Bool) → ((b : ℕ) (r : Bool) → F.post lost.now b r → r ≡ is_lost b)
-        → result ≡ is_some_and (references.buffer_of_holder holder) is_lost }
+        → result ≡ is_some_and (refer.buffer_of_holder holder) is_lost }
 {
     match buffer_of_holder(holder) {
         Some(b) => lost(b),
@@ -79,14 +79,14 @@ fn is_lost_with<F: Fn(u32) -> bool>(lost: &F, holder: Holder) -> bool
 }
 
 /// Drops the references of the buffers that are lost.
-fn drop_lost<F: Fn(u32) -> bool>(refs: &mut Vec<Reference>, lost: F)
+fn drop_lost<F: Fn(u32) -> bool>(references: &mut Vec<Reference>, lost: F)
     requires { F.IsAlwaysCallable lost }
     ensures items { (is_lost : ℕ → Bool) → ((b : ℕ) (r : Bool) → F.post lost b r → r ≡ is_lost b)
-        → refs.new.items ≡ filter (λ r. not (is_some_and (references.buffer_of_holder r.holder) is_lost)) refs.old.items }
-    ensures len { vec_len refs.new ≤ vec_len refs.old }
-    ensures capacity { vec_capacity refs.new ≡ vec_capacity refs.old }
+        → references.new.items ≡ filter (λ r. not (is_some_and (refer.buffer_of_holder r.holder) is_lost)) references.old.items }
+    ensures len { vec_len references.new ≤ vec_len references.old }
+    ensures capacity { vec_capacity references.new ≡ vec_capacity references.old }
 {
-    refs.retain(|r| !is_lost_with(&lost, r.holder));
+    references.retain(|r| !is_lost_with(&lost, r.holder));
 }
 
 impl ObjectTable {

@@ -3,7 +3,7 @@
 ghost use Rattle.std.specs.Prelude.{◌≡◌, ◌==◌, ◌≤◌, ◌&&◌, filter, find, vec_len, vec_capacity, Option};
 ghost use Rattle.std.specs.List.{list_any};
 ghost use Rattle.bd_space.specs.Words as words;
-ghost use Rattle.bd_space.specs.References as references;
+ghost use Rattle.bd_space.specs.References as refer;
 ghost use Rattle.bd_space.specs.Names as names_of;
 
 use crate::objects::{owned_in, same};
@@ -11,29 +11,30 @@ use crate::references::names_for;
 use crate::table::ObjectTable;
 use bd_space::{Name, Object, ObjectId, Reference};
 
-fn is_referred_by(refs: &[Reference], p: u32, o: ObjectId) -> bool
-    ensures { result ≡ list_any (λ r. words.same r.object o && references.names_for p r.holder) refs.now }
+fn is_referred_by(references: &[Reference], p: u32, o: ObjectId) -> bool
+    ensures { result ≡ list_any (λ r. words.same r.object o && refer.names_for p r.holder) references.now }
 {
-    refs.iter()
+    references
+        .iter()
         .any(|r| same(r.object, o) && names_for(p, r.holder))
 }
 
-fn is_referred_strongly_by(refs: &[Reference], p: u32, o: ObjectId) -> bool
-    ensures { result ≡ list_any (λ r. r.strong && words.same r.object o && references.names_for p r.holder) refs.now }
+fn is_referred_strongly_by(references: &[Reference], p: u32, o: ObjectId) -> bool
+    ensures { result ≡ list_any (λ r. r.strong && words.same r.object o && refer.names_for p r.holder) references.now }
 {
-    refs.iter().any(|r| r.strong && same(r.object, o) && names_for(p, r.holder))
+    references.iter().any(|r| r.strong && same(r.object, o) && names_for(p, r.holder))
 }
 
-pub(crate) fn is_named_in(objects: &[Object], refs: &[Reference], p: u32, o: ObjectId) -> bool
-    ensures { result ≡ names_of.is_named_in objects.now refs.now p o }
+pub(crate) fn is_named_in(objects: &[Object], references: &[Reference], p: u32, o: ObjectId) -> bool
+    ensures { result ≡ names_of.is_named_in objects.now references.now p o }
 {
-    !owned_in(objects, p, o) && is_referred_by(refs, p, o)
+    !owned_in(objects, p, o) && is_referred_by(references, p, o)
 }
 
-fn is_strongly_named_in(objects: &[Object], refs: &[Reference], p: u32, o: ObjectId) -> bool
-    ensures { result ≡ names_of.is_strongly_named_in objects.now refs.now p o }
+fn is_strongly_named_in(objects: &[Object], references: &[Reference], p: u32, o: ObjectId) -> bool
+    ensures { result ≡ names_of.is_strongly_named_in objects.now references.now p o }
 {
-    !owned_in(objects, p, o) && is_referred_strongly_by(refs, p, o)
+    !owned_in(objects, p, o) && is_referred_strongly_by(references, p, o)
 }
 
 fn name_with_number(names: &[Name], p: u32, n: u32) -> Option<Name>
@@ -66,12 +67,12 @@ pub(crate) fn number_in(names: &[Name], p: u32, o: ObjectId) -> Option<u32>
     name_of(names, p, o).map(|m| m.number)
 }
 
-fn keep_named(names: &mut Vec<Name>, objects: &[Object], refs: &[Reference])
-    ensures items { names.new.items ≡ filter (λ m. names_of.is_named_in objects.now refs.now m.process m.object) names.old.items }
+fn keep_named(names: &mut Vec<Name>, objects: &[Object], references: &[Reference])
+    ensures items { names.new.items ≡ filter (λ m. names_of.is_named_in objects.now references.now m.process m.object) names.old.items }
     ensures capacity { vec_capacity names.new ≡ vec_capacity names.old }
     ensures len { vec_len names.new ≤ vec_len names.old }
 {
-    names.retain(|m| is_named_in(objects, refs, m.process, m.object));
+    names.retain(|m| is_named_in(objects, references, m.process, m.object));
 }
 
 impl ObjectTable {

@@ -11,16 +11,16 @@ use crate::table::ObjectTable;
 use bd_space::{Object, ObjectId, Process, Reference, WorkKind};
 
 /// Whether what the owner was told isn't what is so.
-fn differs_in(refs: &[Reference], x: &Object) -> bool
-    ensures { result ≡ notices.differs_in refs.now x.now }
+fn differs_in(references: &[Reference], x: &Object) -> bool
+    ensures { result ≡ notices.differs_in references.now x.now }
 {
-    x.told_weak != held_in(refs, x.id) || x.told_strong != strong_in(refs, x.id)
+    x.told_weak != held_in(references, x.id) || x.told_strong != strong_in(references, x.id)
 }
 
-fn wants_notice_in(processes: &[Process], refs: &[Reference], x: &Object) -> bool
-    ensures { result ≡ notices.wants_notice processes.now refs.now x.now }
+fn wants_notice_in(processes: &[Process], references: &[Reference], x: &Object) -> bool
+    ensures { result ≡ notices.wants_notice processes.now references.now x.now }
 {
-    lives_in(processes, x.owner) && differs_in(refs, x)
+    lives_in(processes, x.owner) && differs_in(references, x)
 }
 
 impl ObjectTable {

@@ -56,10 +56,16 @@ fn free_number(manager: Option<ObjectId>, names: &[Name], p: u32, o: ObjectId) -
 }
 
 /// Whether the process is to have a name for the object, and has none.
-fn lacks_name(objects: &[Object], refs: &[Reference], names: &[Name], p: u32, o: ObjectId) -> bool
-    ensures { result ≡ (names_of.is_named_in objects.now refs.now p o && not (is_some (names_of.number_in names.now p o))) }
+fn lacks_name(
+    objects: &[Object],
+    references: &[Reference],
+    names: &[Name],
+    p: u32,
+    o: ObjectId,
+) -> bool
+    ensures { result ≡ (names_of.is_named_in objects.now references.now p o && not (is_some (names_of.number_in names.now p o))) }
 {
-    is_named_in(objects, refs, p, o) && number_in(names, p, o).is_none()
+    is_named_in(objects, references, p, o) && number_in(names, p, o).is_none()
 }
 
 /// Gives the process a number for the object, if it is to have one and has none. Needs room for one name.
@@ -67,21 +73,21 @@ pub(crate) fn give_name(
     names: &mut Vec<Name>,
     manager: Option<ObjectId>,
     objects: &[Object],
-    refs: &[Reference],
+    references: &[Reference],
     p: u32,
     o: ObjectId,
 ) -> Result<(), NumbersFull>
     requires { vec_len names.old < vec_capacity names.old }
-    ensures ok { OnOk result (names.new.items ≡ names_of.with_name manager objects.now refs.now p names.old.items o) }
+    ensures ok { OnOk result (names.new.items ≡ names_of.with_name manager objects.now references.now p names.old.items o) }
     ensures fits { names_of.has_number_past_limit names.old.items ≡ false → names_of.has_number_past_limit names.new.items ≡ false }
     ensures err { OnErr result (names.new.items ≡ names.old.items) }
     ensures full { OnErr result (names_of.has_number_past_limit
-        (filter (λ m. names_of.is_named_in objects.now refs.now m.process m.object) (names_of.with_name manager objects.now refs.now p names.old.items o)) ≡ true) }
+        (filter (λ m. names_of.is_named_in objects.now references.now m.process m.object) (names_of.with_name manager objects.now references.now p names.old.items o)) ≡ true) }
     ensures grows { (added : List Name) × (names.new.items ≡ names.old.items ++ added) }
     ensures len { vec_len names.new ≤ vec_len names.old + 1 }
     ensures capacity { vec_capacity names.new ≡ vec_capacity names.old }
 {
-    if lacks_name(objects, refs, names.as_slice(), p, o) {
+    if lacks_name(objects, references, names.as_slice(), p, o) {
         let number = free_number(manager, names.as_slice(), p, o).ok_or(NumbersFull)?;
         names.push_reserved(Name {
             process: p,
@@ -97,21 +103,21 @@ fn give_each(
     names: &mut Vec<Name>,
     manager: Option<ObjectId>,
     objects: &[Object],
-    refs: &[Reference],
+    references: &[Reference],
     p: u32,
     items: &[Item],
 ) -> Result<(), NumbersFull>
     requires { vec_len names.old + length items.now ≤ vec_capacity names.old }
-    ensures ok { OnOk result (names.new.items ≡ fold (λ ns x. names_of.with_name manager objects.now refs.now p ns x.object) names.old.items items.now) }
+    ensures ok { OnOk result (names.new.items ≡ fold (λ ns x. names_of.with_name manager objects.now references.now p ns x.object) names.old.items items.now) }
     ensures fits { names_of.has_number_past_limit names.old.items ≡ false → names_of.has_number_past_limit names.new.items ≡ false }
     ensures grows { (added : List Name) × (names.new.items ≡ names.old.items ++ added) }
-    ensures full { OnErr result (names_of.has_number_past_limit (filter (λ m. names_of.is_named_in objects.now refs.now m.process m.object)
-        (fold (λ ns x. names_of.with_name manager objects.now refs.now p ns x.object) names.old.items items.now)) ≡ true) }
+    ensures full { OnErr result (names_of.has_number_past_limit (filter (λ m. names_of.is_named_in objects.now references.now m.process m.object)
+        (fold (λ ns x. names_of.with_name manager objects.now references.now p ns x.object) names.old.items items.now)) ≡ true) }
     ensures len { vec_len names.new ≤ vec_len names.old + length items.now }
     ensures capacity { vec_capacity names.new ≡ vec_capacity names.old }
 {
     for x in items {
-        give_name(names, manager, objects, refs, p, x.object)?;
+        give_name(names, manager, objects, references, p, x.object)?;
     }
     Ok(())
 }
@@ -121,21 +127,21 @@ pub(crate) fn give_names(
     names: &mut Vec<Name>,
     manager: Option<ObjectId>,
     objects: &[Object],
-    refs: &[Reference],
+    references: &[Reference],
     p: u32,
     items: &[Item],
 ) -> Result<(), NumbersFull>
     requires { vec_len names.old + length items.now ≤ vec_capacity names.old }
-    ensures ok { OnOk result (names.new.items ≡ names_of.with_names manager objects.now refs.now p names.old.items (map object_of_item items.now)) }
+    ensures ok { OnOk result (names.new.items ≡ names_of.with_names manager objects.now references.now p names.old.items (map object_of_item items.now)) }
     ensures fits { names_of.has_number_past_limit names.old.items ≡ false → names_of.has_number_past_limit names.new.items ≡ false }
     ensures err { OnErr result (names.new.items ≡ names.old.items) }
-    ensures full { OnErr result (names_of.has_number_past_limit (filter (λ m. names_of.is_named_in objects.now refs.now m.process m.object)
-        (names_of.with_names manager objects.now refs.now p names.old.items (map object_of_item items.now))) ≡ true) }
+    ensures full { OnErr result (names_of.has_number_past_limit (filter (λ m. names_of.is_named_in objects.now references.now m.process m.object)
+        (names_of.with_names manager objects.now references.now p names.old.items (map object_of_item items.now))) ≡ true) }
     ensures len { vec_len names.new ≤ vec_len names.old + length items.now }
     ensures capacity { vec_capacity names.new ≡ vec_capacity names.old }
 {
     let before = names.len();
-    let given = give_each(names, manager, objects, refs, p, items);
+    let given = give_each(names, manager, objects, references, p, items);
     if given.is_err() {
         names.truncate(before);
     }

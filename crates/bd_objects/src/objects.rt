@@ -3,7 +3,7 @@
 ghost use Rattle.std.specs.Prelude.{◌≡◌, ◌==◌, ◌≤◌, ◌<◌, ◌+◌, ◌++◌, ◌∷◌, [], length, filter, slice_get, vec_len, vec_capacity, Option};
 ghost use Rattle.bd_space.specs.Words as words;
 ghost use Rattle.bd_space.specs.Seats as seats;
-ghost use Rattle.bd_space.specs.References as references;
+ghost use Rattle.bd_space.specs.References as refer;
 ghost use Rattle.bd_space.specs.Exits as exits;
 
 use crate::references::held_in;
@@ -25,19 +25,19 @@ pub(crate) fn lives_in(processes: &[Process], p: u32) -> bool
 }
 
 pub(crate) fn object_in(objects: &[Object], o: ObjectId) -> Option<Object>
-    ensures { result ≡ references.object_in objects.now o }
+    ensures { result ≡ refer.object_in objects.now o }
 {
     objects.iter().copied().find(|x| same(x.id, o))
 }
 
 pub(crate) fn owned_in(objects: &[Object], p: u32, o: ObjectId) -> bool
-    ensures { result ≡ references.owned_in objects.now p o }
+    ensures { result ≡ refer.owned_in objects.now p o }
 {
     objects.iter().any(|x| same(x.id, o) && x.owner == p)
 }
 
 pub(crate) fn own_in(objects: &[Object], p: u32, ptr: u64) -> Option<Object>
-    ensures { result ≡ references.own_in objects.now p ptr }
+    ensures { result ≡ refer.own_in objects.now p ptr }
 {
     objects
         .iter()
@@ -46,18 +46,18 @@ pub(crate) fn own_in(objects: &[Object], p: u32, ptr: u64) -> Option<Object>
 }
 
 /// Whether the object stays: it is held, or its owner lives and was told that it is.
-fn stays_in(processes: &[Process], refs: &[Reference], x: &Object) -> bool
-    ensures { result ≡ references.stays_in processes.now refs.now x.now }
+fn stays_in(processes: &[Process], references: &[Reference], x: &Object) -> bool
+    ensures { result ≡ refer.stays_in processes.now references.now x.now }
 {
-    held_in(refs, x.id) || (lives_in(processes, x.owner) && (x.told_weak || x.told_strong))
+    held_in(references, x.id) || (lives_in(processes, x.owner) && (x.told_weak || x.told_strong))
 }
 
-fn keep_objects(objects: &mut Vec<Object>, processes: &[Process], refs: &[Reference])
-    ensures items { objects.new.items ≡ filter (references.stays_in processes.now refs.now) objects.old.items }
+fn keep_objects(objects: &mut Vec<Object>, processes: &[Process], references: &[Reference])
+    ensures items { objects.new.items ≡ filter (refer.stays_in processes.now references.now) objects.old.items }
     ensures len { vec_len objects.new ≤ vec_len objects.old }
     ensures capacity { vec_capacity objects.new ≡ vec_capacity objects.old }
 {
-    objects.retain(|x| stays_in(processes, refs, x));
+    objects.retain(|x| stays_in(processes, references, x));
 }
 
 fn managed(place: u32) -> ObjectId
@@ -90,21 +90,21 @@ impl ObjectTable {
 
     /// The object with this identity.
     pub fn object(&self, o: ObjectId) -> Option<Object>
-        ensures { (s : Space) → StandsFor self.now s → result ≡ references.object_in s.objects o }
+        ensures { (s : Space) → StandsFor self.now s → result ≡ refer.object_in s.objects o }
     {
         object_in(self.objects.as_slice(), o)
     }
 
     /// Whether the process owns the object.
     pub fn owns(&self, p: u32, o: ObjectId) -> bool
-        ensures { (s : Space) → StandsFor self.now s → result ≡ references.owned_in s.objects p o }
+        ensures { (s : Space) → StandsFor self.now s → result ≡ refer.owned_in s.objects p o }
     {
         owned_in(self.objects.as_slice(), p, o)
     }
 
     /// The process's own object with this ptr.
     pub fn own_with_ptr(&self, p: u32, ptr: u64) -> Option<Object>
-        ensures { (s : Space) → StandsFor self.now s → result ≡ references.own_in s.objects p ptr }
+        ensures { (s : Space) → StandsFor self.now s → result ≡ refer.own_in s.objects p ptr }
     {
         own_in(self.objects.as_slice(), p, ptr)
     }
@@ -112,7 +112,7 @@ impl ObjectTable {
     /// The objects go that nothing keeps. Takes the live processes.
     #[tactic(auto, unfolding(bd_space::specs::References::objects_go, crate::specs::Room::rooms))]
     pub fn objects_go(&mut self, processes: &[Process])
-        ensures stands { (s : Space) → StandsFor self.old s → s.processes ≡ processes.now → StandsFor self.new (references.objects_go s) }
+        ensures stands { (s : Space) → StandsFor self.old s → s.processes ≡ processes.now → StandsFor self.new (refer.objects_go s) }
         ensures takes { Takes self.old self.new 0 0 0 0 }
     {
         keep_objects(&mut self.objects, processes, self.references.as_slice());

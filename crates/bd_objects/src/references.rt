@@ -1,27 +1,27 @@
 //! References to objects.
 
 ghost use Rattle.std.specs.Prelude.{◌≡◌, ◌==◌, ◌≤◌, not, filter, vec_len, vec_capacity, Option};
-ghost use Rattle.bd_space.specs.References as references;
+ghost use Rattle.bd_space.specs.References as refer;
 
 use crate::objects::same;
 use crate::table::ObjectTable;
 use bd_space::{Holder, ObjectId, Reference};
 
-pub(crate) fn held_in(refs: &[Reference], o: ObjectId) -> bool
-    ensures { result ≡ references.held_in refs.now o }
+pub(crate) fn held_in(references: &[Reference], o: ObjectId) -> bool
+    ensures { result ≡ refer.held_in references.now o }
 {
-    refs.iter().any(|r| same(r.object, o))
+    references.iter().any(|r| same(r.object, o))
 }
 
-pub(crate) fn strong_in(refs: &[Reference], o: ObjectId) -> bool
-    ensures { result ≡ references.strong_in refs.now o }
+pub(crate) fn strong_in(references: &[Reference], o: ObjectId) -> bool
+    ensures { result ≡ refer.strong_in references.now o }
 {
-    refs.iter().any(|r| r.strong && same(r.object, o))
+    references.iter().any(|r| r.strong && same(r.object, o))
 }
 
 /// Whether it is the process's own asking, or is carried by a buffer in its window.
 pub(crate) fn names_for(p: u32, holder: Holder) -> bool
-    ensures { result ≡ references.names_for p holder }
+    ensures { result ≡ refer.names_for p holder }
 {
     match holder {
         Holder::Asked(q) => q == p,
@@ -32,7 +32,7 @@ pub(crate) fn names_for(p: u32, holder: Holder) -> bool
 
 /// The buffer with which it ends.
 pub(crate) fn buffer_of_holder(holder: Holder) -> Option<u32>
-    ensures { result ≡ references.buffer_of_holder holder }
+    ensures { result ≡ refer.buffer_of_holder holder }
 {
     match holder {
         Holder::Carried(b, _) => Some(b),
@@ -42,7 +42,7 @@ pub(crate) fn buffer_of_holder(holder: Holder) -> Option<u32>
 }
 
 fn is_of_buffer(b: u32, holder: Holder) -> bool
-    ensures { result ≡ references.is_of_buffer b holder }
+    ensures { result ≡ refer.is_of_buffer b holder }
 {
     match buffer_of_holder(holder) {
         Some(c) => c == b,
@@ -50,12 +50,12 @@ fn is_of_buffer(b: u32, holder: Holder) -> bool
     }
 }
 
-fn drop_buffer(refs: &mut Vec<Reference>, b: u32)
-    ensures items { refs.new.items ≡ filter (λ r. not (references.is_of_buffer b r.holder)) refs.old.items }
-    ensures capacity { vec_capacity refs.new ≡ vec_capacity refs.old }
-    ensures len { vec_len refs.new ≤ vec_len refs.old }
+fn drop_buffer(references: &mut Vec<Reference>, b: u32)
+    ensures items { references.new.items ≡ filter (λ r. not (refer.is_of_buffer b r.holder)) references.old.items }
+    ensures capacity { vec_capacity references.new ≡ vec_capacity references.old }
+    ensures len { vec_len references.new ≤ vec_len references.old }
 {
-    refs.retain(|r| !is_of_buffer(b, r.holder));
+    references.retain(|r| !is_of_buffer(b, r.holder));
 }
 
 impl ObjectTable {
@@ -66,14 +66,14 @@ impl ObjectTable {
 
     /// Whether anything refers to the object.
     pub fn is_held(&self, o: ObjectId) -> bool
-        ensures { (s : Space) → StandsFor self.now s → result ≡ references.held_in s.references o }
+        ensures { (s : Space) → StandsFor self.now s → result ≡ refer.held_in s.references o }
     {
         held_in(self.references.as_slice(), o)
     }
 
     /// Whether anything refers to it strongly.
     pub fn is_strong(&self, o: ObjectId) -> bool
-        ensures { (s : Space) → StandsFor self.now s → result ≡ references.strong_in s.references o }
+        ensures { (s : Space) → StandsFor self.now s → result ≡ refer.strong_in s.references o }
     {
         strong_in(self.references.as_slice(), o)
     }

@@ -2,7 +2,7 @@
 
 ghost use Rattle.std.specs.Prelude.{◌≡◌, ◌==◌, ◌≤◌, ◌<◌, ◌+◌, ◌%◌, ◌^◌, ◌&&◌, ◌++◌, ◌∷◌, [], true, find, filter, length, map, vec_len, vec_capacity, Option, Result, OnOk, OnErr};
 ghost use Rattle.bd_space.specs.Words as words;
-ghost use Rattle.bd_space.specs.References as references;
+ghost use Rattle.bd_space.specs.References as refer;
 ghost use Rattle.bd_space.specs.Parcels as parcels;
 ghost use Rattle.bd_space.specs.Delivery as delivery;
 ghost use Rattle.bd_space.specs.declared.step.ObjectId.{ObjectId};
@@ -32,7 +32,7 @@ fn handle_in(binder: u64) -> u32
 
 /// The process's own object with this ptr, one of these or one of those that are being made.
 fn own_or_made(objects: &[Object], made: &[Object], p: u32, ptr: u64) -> Option<Object>
-    ensures { result ≡ references.own_in (objects.now ++ made.now) p ptr }
+    ensures { result ≡ refer.own_in (objects.now ++ made.now) p ptr }
 {
     match own_in(objects, p, ptr) {
         Some(x) => Some(x),
@@ -120,15 +120,15 @@ fn add_objects(objects: &mut Vec<Object>, made: &[Object])
 }
 
 /// One reference an item, held by the buffer of this place in the process's window.
-fn add_carried(refs: &mut Vec<Reference>, place: u32, q: u32, items: &[Item])
-    requires { vec_len refs.old + length items.now ≤ vec_capacity refs.old }
-    ensures items { (target : Option ObjectId) → refs.new.items ++ delivery.buffer_references place q (length items.now) [] target
-        ≡ refs.old.items ++ delivery.buffer_references place q 0 items.now target }
-    ensures len { vec_len refs.new ≡ vec_len refs.old + length items.now }
-    ensures capacity { vec_capacity refs.new ≡ vec_capacity refs.old }
+fn add_carried(references: &mut Vec<Reference>, place: u32, q: u32, items: &[Item])
+    requires { vec_len references.old + length items.now ≤ vec_capacity references.old }
+    ensures items { (target : Option ObjectId) → references.new.items ++ delivery.buffer_references place q (length items.now) [] target
+        ≡ references.old.items ++ delivery.buffer_references place q 0 items.now target }
+    ensures len { vec_len references.new ≡ vec_len references.old + length items.now }
+    ensures capacity { vec_capacity references.new ≡ vec_capacity references.old }
 {
     for (i, x) in items.iter().enumerate() {
-        refs.push_reserved(Reference {
+        references.push_reserved(Reference {
             id: Identity {
                 place,
                 index: i as u64,
@@ -141,14 +141,20 @@ fn add_carried(refs: &mut Vec<Reference>, place: u32, q: u32, items: &[Item])
 }
 
 /// The reference to the object that a transaction goes to.
-fn add_target(refs: &mut Vec<Reference>, place: u32, q: u32, index: usize, target: Option<ObjectId>)
-    requires { vec_len refs.old < vec_capacity refs.old }
-    ensures items { refs.new.items ≡ refs.old.items ++ delivery.buffer_references place q index [] target }
-    ensures len { vec_len refs.new ≤ vec_len refs.old + 1 }
-    ensures capacity { vec_capacity refs.new ≡ vec_capacity refs.old }
+fn add_target(
+    references: &mut Vec<Reference>,
+    place: u32,
+    q: u32,
+    index: usize,
+    target: Option<ObjectId>,
+)
+    requires { vec_len references.old < vec_capacity references.old }
+    ensures items { references.new.items ≡ references.old.items ++ delivery.buffer_references place q index [] target }
+    ensures len { vec_len references.new ≤ vec_len references.old + 1 }
+    ensures capacity { vec_capacity references.new ≡ vec_capacity references.old }
 {
     if let Some(o) = target {
-        refs.push_reserved(Reference {
+        references.push_reserved(Reference {
             id: Identity {
                 place,
                 index: index as u64,
@@ -161,19 +167,19 @@ fn add_target(refs: &mut Vec<Reference>, place: u32, q: u32, index: usize, targe
 }
 
 fn add_references(
-    refs: &mut Vec<Reference>,
+    references: &mut Vec<Reference>,
     place: u32,
     q: u32,
     items: &[Item],
     target: Option<ObjectId>,
 )
-    requires { vec_len refs.old + length items.now < vec_capacity refs.old }
-    ensures items { refs.new.items ≡ refs.old.items ++ delivery.buffer_references place q 0 items.now target }
-    ensures len { vec_len refs.new ≤ vec_len refs.old + length items.now + 1 }
-    ensures capacity { vec_capacity refs.new ≡ vec_capacity refs.old }
+    requires { vec_len references.old + length items.now < vec_capacity references.old }
+    ensures items { references.new.items ≡ references.old.items ++ delivery.buffer_references place q 0 items.now target }
+    ensures len { vec_len references.new ≤ vec_len references.old + length items.now + 1 }
+    ensures capacity { vec_capacity references.new ≡ vec_capacity references.old }
 {
-    add_carried(refs, place, q, items);
-    add_target(refs, place, q, items.len(), target);
+    add_carried(references, place, q, items);
+    add_target(references, place, q, items.len(), target);
 }
 
 impl ObjectTable {

@@ -4,7 +4,7 @@ ghost use Rattle.std.specs.Prelude.{◌≡◌, ◌==◌, ◌≤◌, ◌<◌, ◌
 ghost use Rattle.std.specs.List.{flat_map};
 ghost use Rattle.bd_space.specs.Words.{changed, when, is_some_and, same as same_object};
 ghost use Rattle.bd_space.specs.Todo.{notice_of, death_of};
-ghost use Rattle.bd_space.specs.References as references;
+ghost use Rattle.bd_space.specs.References as refer;
 ghost use Rattle.bd_space.specs.Reading as reading;
 ghost use Rattle.bd_space.specs.declared.space.Phase.TheVariants.{Told};
 ghost use Rattle.bd_space.specs.Space.{Space};
@@ -27,11 +27,11 @@ fn return_when(test: bool, r: Return) -> Option<Return>
 }
 
 /// What the owner of this object is told, by the references as they stand.
-fn notice_returns_of(refs: &[Reference], x: &Object) -> [Option<Return>; 4]
-    ensures { flat_map reading.one result ≡ reading.notice_returns refs.now x.now }
+fn notice_returns_of(references: &[Reference], x: &Object) -> [Option<Return>; 4]
+    ensures { flat_map reading.one result ≡ reading.notice_returns references.now x.now }
 {
-    let held = held_in(refs, x.id);
-    let strong = strong_in(refs, x.id);
+    let held = held_in(references, x.id);
+    let strong = strong_in(references, x.id);
     [
         return_when(held && !x.told_weak, Return::Increfs(x.ptr, x.cookie)),
         return_when(strong && !x.told_strong, Return::Acquire(x.ptr, x.cookie)),
@@ -71,24 +71,24 @@ fn is_told_of_death(taken: &[Work], x: &DeathNotification) -> bool
 }
 
 /// The object whose owner knows what is so.
-fn told_of(refs: &[Reference], x: Object) -> Object
-    ensures { result ≡ reading.told_of refs.now x }
+fn told_of(references: &[Reference], x: Object) -> Object
+    ensures { result ≡ reading.told_of references.now x }
 {
     Object {
-        told_weak: held_in(refs, x.id),
-        told_strong: strong_in(refs, x.id),
+        told_weak: held_in(references, x.id),
+        told_strong: strong_in(references, x.id),
         ..x
     }
 }
 
-fn tell_owners(objects: &mut Vec<Object>, refs: &[Reference], taken: &[Work])
-    ensures items { objects.new.items ≡ changed (λ x. reading.is_told_by taken.now x.id) (reading.told_of refs.now) objects.old.items }
+fn tell_owners(objects: &mut Vec<Object>, references: &[Reference], taken: &[Work])
+    ensures items { objects.new.items ≡ changed (λ x. reading.is_told_by taken.now x.id) (reading.told_of references.now) objects.old.items }
     ensures len { vec_len objects.new ≡ vec_len objects.old }
     ensures capacity { vec_capacity objects.new ≡ vec_capacity objects.old }
 {
     for x in objects.iter_mut() {
         if is_told_by(taken, x.id) {
-            *x = told_of(refs, *x);
+            *x = told_of(references, *x);
         }
     }
 }
@@ -106,28 +106,34 @@ fn mark_told(deaths: &mut Vec<DeathNotification>, taken: &[Work])
 }
 
 /// Whether the owner is to acknowledge the object weakly, and strongly, once it has read what it is to be told.
-fn acknowledgements(objects: &[Object], refs: &[Reference], o: ObjectId) -> (bool, bool)
-    ensures { flat_map reading.shakes (reading.returns_of_object refs.now (references.object_in objects.now o))
+fn acknowledgements(objects: &[Object], references: &[Reference], o: ObjectId) -> (bool, bool)
+    ensures { flat_map reading.shakes (reading.returns_of_object references.now (refer.object_in objects.now o))
         ≡ (if result.0 then (false ∷ []) else []) ++ (if result.1 then (true ∷ []) else []) }
 {
     match object_in(objects, o) {
         Some(x) => (
-            held_in(refs, x.id) && !x.told_weak,
-            strong_in(refs, x.id) && !x.told_strong,
+            held_in(references, x.id) && !x.told_weak,
+            strong_in(references, x.id) && !x.told_strong,
         ),
         None => (false, false),
     }
 }
 
-fn add_handshake(refs: &mut Vec<Reference>, before: usize, place: u32, o: ObjectId, strong: bool)
-    requires inside { before ≤ length refs.old.items }
-    requires room { vec_len refs.old < vec_capacity refs.old }
-    ensures items { refs.new.items ≡ refs.old.items ++ references.reference_of place (length refs.old.items - before) o strong Handshake ∷ [] }
-    ensures len { vec_len refs.new ≡ vec_len refs.old + 1 }
-    ensures capacity { vec_capacity refs.new ≡ vec_capacity refs.old }
+fn add_handshake(
+    references: &mut Vec<Reference>,
+    before: usize,
+    place: u32,
+    o: ObjectId,
+    strong: bool,
+)
+    requires inside { before ≤ length references.old.items }
+    requires room { vec_len references.old < vec_capacity references.old }
+    ensures items { references.new.items ≡ references.old.items ++ refer.reference_of place (length references.old.items - before) o strong Handshake ∷ [] }
+    ensures len { vec_len references.new ≡ vec_len references.old + 1 }
+    ensures capacity { vec_capacity references.new ≡ vec_capacity references.old }
 {
-    let index = (refs.len() - before) as u64;
-    refs.push_reserved(Reference {
+    let index = (references.len() - before) as u64;
+    references.push_reserved(Reference {
         id: Identity { place, index },
         object: o,
         strong,
@@ -137,25 +143,25 @@ fn add_handshake(refs: &mut Vec<Reference>, before: usize, place: u32, o: Object
 
 /// The references that stand for these acknowledgements.
 fn add_acknowledgements(
-    refs: &mut Vec<Reference>,
+    references: &mut Vec<Reference>,
     before: usize,
     place: u32,
     o: ObjectId,
     weak: bool,
     strong: bool,
 )
-    requires inside { before ≤ length refs.old.items }
-    requires room { vec_len refs.old + 2 ≤ vec_capacity refs.old }
-    ensures items { refs.new.items ≡ refs.old.items ++ reading.handshakes_for place (length refs.old.items - before) o
+    requires inside { before ≤ length references.old.items }
+    requires room { vec_len references.old + 2 ≤ vec_capacity references.old }
+    ensures items { references.new.items ≡ references.old.items ++ reading.handshakes_for place (length references.old.items - before) o
         ((if weak then (false ∷ []) else []) ++ (if strong then (true ∷ []) else [])) }
-    ensures len { vec_len refs.new ≤ vec_len refs.old + 2 }
-    ensures capacity { vec_capacity refs.new ≡ vec_capacity refs.old }
+    ensures len { vec_len references.new ≤ vec_len references.old + 2 }
+    ensures capacity { vec_capacity references.new ≡ vec_capacity references.old }
 {
     if weak {
-        add_handshake(refs, before, place, o, false);
+        add_handshake(references, before, place, o, false);
     }
     if strong {
-        add_handshake(refs, before, place, o, true);
+        add_handshake(references, before, place, o, true);
     }
 }
 
@@ -163,39 +169,39 @@ fn add_acknowledgements(
 /// reading.
 #[tactic(auto, unfolding(bd_space::specs::Reading::returns_of))]
 fn add_handshakes_of(
-    refs: &mut Vec<Reference>,
+    references: &mut Vec<Reference>,
     before: usize,
     place: u32,
     objects: &[Object],
     kind: WorkKind,
 )
-    requires inside { before ≤ length refs.old.items }
-    requires room { vec_len refs.old + 2 ≤ vec_capacity refs.old }
-    ensures items { (s : Space) → s.references ≡ take before refs.old.items → s.objects ≡ objects.now → s.steps ≡ place
-        → refs.new.items ≡ refs.old.items ++ reading.handshakes_of s (length refs.old.items - before) kind }
-    ensures grows { (added : List Reference) × (refs.new.items ≡ refs.old.items ++ added) }
-    ensures len { vec_len refs.new ≤ vec_len refs.old + 2 }
-    ensures capacity { vec_capacity refs.new ≡ vec_capacity refs.old }
+    requires inside { before ≤ length references.old.items }
+    requires room { vec_len references.old + 2 ≤ vec_capacity references.old }
+    ensures items { (s : Space) → s.references ≡ take before references.old.items → s.objects ≡ objects.now → s.steps ≡ place
+        → references.new.items ≡ references.old.items ++ reading.handshakes_of s (length references.old.items - before) kind }
+    ensures grows { (added : List Reference) × (references.new.items ≡ references.old.items ++ added) }
+    ensures len { vec_len references.new ≤ vec_len references.old + 2 }
+    ensures capacity { vec_capacity references.new ≡ vec_capacity references.old }
 {
     let WorkKind::Notice(o) = kind else {
         return;
     };
-    let (weak, strong) = acknowledgements(objects, &refs[..before], o);
-    add_acknowledgements(refs, before, place, o, weak, strong);
+    let (weak, strong) = acknowledgements(objects, &references[..before], o);
+    add_acknowledgements(references, before, place, o, weak, strong);
 }
 
 /// The references that stand for what is left to be acknowledged.
-fn add_handshakes(refs: &mut Vec<Reference>, place: u32, objects: &[Object], taken: &[Work])
-    requires { vec_len refs.old + 2 * length taken.now ≤ vec_capacity refs.old }
-    ensures items { (s : Space) → s.references ≡ refs.old.items → s.objects ≡ objects.now → s.steps ≡ place
-        → refs.new.items ≡ refs.old.items ++ reading.handshakes s 0 taken.now }
-    ensures grows { (added : List Reference) × (refs.new.items ≡ refs.old.items ++ added) }
-    ensures len { vec_len refs.new ≤ vec_len refs.old + 2 * length taken.now }
-    ensures capacity { vec_capacity refs.new ≡ vec_capacity refs.old }
+fn add_handshakes(references: &mut Vec<Reference>, place: u32, objects: &[Object], taken: &[Work])
+    requires { vec_len references.old + 2 * length taken.now ≤ vec_capacity references.old }
+    ensures items { (s : Space) → s.references ≡ references.old.items → s.objects ≡ objects.now → s.steps ≡ place
+        → references.new.items ≡ references.old.items ++ reading.handshakes s 0 taken.now }
+    ensures grows { (added : List Reference) × (references.new.items ≡ references.old.items ++ added) }
+    ensures len { vec_len references.new ≤ vec_len references.old + 2 * length taken.now }
+    ensures capacity { vec_capacity references.new ≡ vec_capacity references.old }
 {
-    let before = refs.len();
+    let before = references.len();
     for w in taken {
-        add_handshakes_of(refs, before, place, objects, w.kind);
+        add_handshakes_of(references, before, place, objects, w.kind);
     }
 }
 
@@ -207,7 +213,7 @@ impl ObjectTable {
     /// be told that.
     pub fn notice_returns(&self, o: ObjectId) -> [Option<Return>; 4]
         ensures { (s : Space) → StandsFor self.now s → flat_map reading.one result
-            ≡ reading.returns_of_object s.references (references.object_in s.objects o) }
+            ≡ reading.returns_of_object s.references (refer.object_in s.objects o) }
     {
         match object_in(self.objects.as_slice(), o) {
             Some(x) => notice_returns_of(self.references.as_slice(), &x),

@@ -5,7 +5,7 @@ use Rattle.bd_objects.proofs.numbers.give_each.Given as goal
 
 abbrev pub invariant-loop-x : goal.invariant-loop-x
 invariant-loop-x l = record {
-  so_far : l.names.items ≡ fold (λ ns x. with_name l.manager l.objects l.refs l.p ns x.object) l.fn.names.items (take l.x-index l.items);
+  so_far : l.names.items ≡ fold (λ ns x. with_name l.manager l.objects l.references l.p ns x.object) l.fn.names.items (take l.x-index l.items);
   fits : has_number_past_limit l.fn.names.items ≡ false → has_number_past_limit l.names.items ≡ false;
   grows : (added : List Name) × (l.names.items ≡ l.fn.names.items ++ added);
   len : vec_len l.names ≤ vec_len l.fn.names + l.x-index;

@@ -5,4 +5,4 @@ use Rattle.bd_space.specs.References.{stays_in}
 use Rattle.bd_objects.proofs.objects.keep_objects.Goals as goal
 
 pub returns-clause-items : goal.returns-clause-items
-returns-clause-items c = filter_same _ (λ (x : Object). stays_in c.args.processes.now c.args.refs.now x) _ (λ x b f' k. search (rules, tests)) _ _ c.retain.ensures.filtered
+returns-clause-items c = filter_same _ (λ (x : Object). stays_in c.args.processes.now c.args.references.now x) _ (λ x b f' k. search (rules, tests)) _ _ c.retain.ensures.filtered

@@ -5,7 +5,7 @@ use Rattle.bd_objects.proofs.sending.add_carried.Given as goal
 
 abbrev pub invariant-loop-i : goal.invariant-loop-i
 invariant-loop-i l = record {
-  so_far : (target : Option ObjectId) → l.refs.items ++ buffer_references l.place l.q l.i (drop l.i l.items) target ≡ l.fn.refs.items ++ buffer_references l.place l.q 0 l.items target;
-  len : vec_len l.refs ≡ vec_len l.fn.refs + l.i;
-  capacity : vec_capacity l.refs ≡ vec_capacity l.fn.refs;
+  so_far : (target : Option ObjectId) → l.references.items ++ buffer_references l.place l.q l.i (drop l.i l.items) target ≡ l.fn.references.items ++ buffer_references l.place l.q 0 l.items target;
+  len : vec_len l.references ≡ vec_len l.fn.references + l.i;
+  capacity : vec_capacity l.references ≡ vec_capacity l.fn.references;
 }

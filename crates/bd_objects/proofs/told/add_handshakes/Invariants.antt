@@ -6,10 +6,10 @@ use Rattle.bd_objects.proofs.told.add_handshakes.Given as goal
 
 abbrev pub invariant-loop-w : goal.invariant-loop-w
 invariant-loop-w l = record {
-  so_far : (s : Space) → s.references ≡ l.fn.refs.items → s.objects ≡ l.objects → s.steps ≡ l.place
-      → l.refs.items ++ handshakes s (length l.refs.items - l.before) (drop l.w-index l.taken) ≡ l.fn.refs.items ++ handshakes s 0 l.taken;
-  before : l.before ≡ length l.fn.refs.items;
-  grows : (added : List Reference) × (l.refs.items ≡ l.fn.refs.items ++ added);
-  len : vec_len l.refs ≤ vec_len l.fn.refs + 2 * l.w-index;
-  capacity : vec_capacity l.refs ≡ vec_capacity l.fn.refs;
+  so_far : (s : Space) → s.references ≡ l.fn.references.items → s.objects ≡ l.objects → s.steps ≡ l.place
+      → l.references.items ++ handshakes s (length l.references.items - l.before) (drop l.w-index l.taken) ≡ l.fn.references.items ++ handshakes s 0 l.taken;
+  before : l.before ≡ length l.fn.references.items;
+  grows : (added : List Reference) × (l.references.items ≡ l.fn.references.items ++ added);
+  len : vec_len l.references ≤ vec_len l.fn.references + 2 * l.w-index;
+  capacity : vec_capacity l.references ≡ vec_capacity l.fn.references;
 }
