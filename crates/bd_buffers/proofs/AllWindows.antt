@@ -425,9 +425,9 @@ can_take_nowhere t p one_way size start missed can =
 pub room_of_none : (t : Windows) (p : ℕ) → find (is_owned_by p) t.windows.items ≡ None → 1 ≤ room_of (find (is_owned_by p) t.windows.items)
 room_of_none t p e = let is : room_of (find (is_owned_by p) t.windows.items) ≡ 1 = ap room_of e in omega (arith, is)
 
-pub fits_in : (size : ℕ) (bs : List Buffer) (n : ℕ) (r : Result ℕ Cause) → single.IsWindow size bs → IfOk r (λ p. single.IsLeastRoom size bs n p) → IfOk r (λ p. n ≤ 4194304)
-fits_in size bs n (Ok p) is least = let inside = least.room.inside in let small = is.small in omega (arith, inside, small)
-fits_in size bs n (Err x) is least = tt
+pub fits_whole : (size : ℕ) (bs : List Buffer) (n : ℕ) (r : Result ℕ Cause) → single.IsWindow size bs → IfOk r (λ p. single.IsLeastRoom size bs n p) → IfOk r (λ p. n ≤ 4194304)
+fits_whole size bs n (Ok p) is least = let inside = least.room.inside in let small = is.small in omega (arith, inside, small)
+fits_whole size bs n (Err x) is least = tt
 
 -- what is read hands over the buffer that was made there
 pub handed_by : (t u : Windows) (bound : ℕ) (ps : List Process) (bs : List Buffer) (o : Option Buffer) (made : ℕ) → Some made ≡ option_map made_of_buffer o

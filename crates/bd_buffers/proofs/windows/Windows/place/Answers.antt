@@ -6,7 +6,7 @@ use Rattle.bd_buffers.specs.Stands.{CanTake}
 use Rattle.bd_buffers.specs.declared.windows.OwnedWindow.{OwnedWindow}
 use Rattle.bd_buffers.specs.declared.windows.Windows.{Windows}
 use Rattle.bd_buffers.specs.WindowsStand.{is_owned_by, CanAdd}
-use Rattle.bd_buffers.proofs.AllWindows.{owner_found, owner_missed, is_process, can_take_back, fits_in}
+use Rattle.bd_buffers.proofs.AllWindows.{owner_found, owner_missed, is_process, can_take_back, fits_whole}
 use Rattle.bd_buffers.proofs.windows.Windows.place.Goals as goal
 
 can_add_of : (t : Windows) (p : ℕ) (w : OwnedWindow) (one_way : Bool) (n : ℕ) (r : Result ℕ Cause) → find (is_owned_by p) t.windows.items ≡ Some w
@@ -35,6 +35,6 @@ returns-in-Some-clause-can_add c =
 pub returns-in-Some-clause-fits : goal.returns-in-Some-clause-fits
 returns-in-Some-clause-fits c =
     let w = c.in-Some.w.now.window in
-    fits_in w.size w.buffers (needed c.args.data_size c.args.offsets_size) c.place.result
+    fits_whole w.size w.buffers (needed c.args.data_size c.args.offsets_size) c.place.result
     (c.check.ensures w.size w.buffers (record { size_is = refl; buffers_are = refl }))
     (c.place.ensures.least w.size w.buffers (record { size_is = refl; buffers_are = refl }))
