@@ -1,12 +1,11 @@
 -- The windows of all live processes through each change.
 use Rattle.std.proofs.Common.{◌≡◌, ◌≢◌, ℕ, zero, suc, ◌+◌, ◌<◌, ◌≤◌, Bool, true, false, cond, List, [], ◌∷◌, ◌++◌, length, get_or, set, take, drop, map, refl, ap, sym, ◌∙◌, arith, add-one, subst, All, eq-eqb, ne_eqb, Some, None, Ok, Err, nat_lt, rules, tests}
-use Rattle.std.specs.Prelude.{◌==◌, ◌||◌, not, filter, find, Option, AllPairs, option_map, IfSome, IfOk, option_copied, Result}
+use Rattle.std.specs.Prelude.{◌==◌, ◌||◌, not, filter, find, Option, AllPairs, option_map, IfOk, Result}
 use Rattle.std.specs.List.{position, position_or_len}
-use denote.Ref.{Bor}
 use Rattle.bd_uapi.specs.declared.fault.Cause.{Cause}
 use Rattle.std.proofs.lemmas.Bool.{false≢true, eqb-true}
 use Rattle.std.proofs.lemmas.List.{map_push, map-set, get_or-map, length-map}
-use Rattle.std.proofs.lemmas.List.Elements.{All-cons, All-head, All-tail}
+use Rattle.std.proofs.lemmas.List.Elements.{All-head, All-tail}
 use Rattle.std.proofs.lemmas.List.Folds.{find-set}
 use Rattle.std.proofs.lemmas.List.Sums.{position_or_len_is}
 use Rattle.std.proofs.lemmas.List.Quantifiers.{position-Some}
@@ -19,14 +18,13 @@ use Rattle.bd_space.specs.Seats.{lives_in, process_in}
 use Rattle.bd_space.specs.Room.{buffers_of}
 use Rattle.bd_space.specs.Freeing.{is_made_at}
 use Rattle.bd_space.specs.Reading.{buffer_in, hand_out, handed_buffers}
-use Rattle.bd_buffers.specs.declared.window.Window.{Window}
 use Rattle.bd_buffers.specs.declared.windows.OwnedWindow.{OwnedWindow}
 use Rattle.bd_buffers.specs.declared.windows.Windows.{Windows}
 use Rattle.bd_buffers.specs.Windows as single
-use Rattle.bd_buffers.specs.WindowsStand.{ProcessWindow, seen, window_of, with_buffers, is_owned_by, is_of, AreMade, WindowsOf, Stands, IsPlaced, room_of, CanTakeIn, made_of_buffer}
+use Rattle.bd_buffers.specs.WindowsStand.{ProcessWindow, seen, window_of, with_buffers, is_owned_by, is_of, WindowsOf, Stands, room_of, CanTakeIn, made_of_buffer}
 use Rattle.bd_buffers.proofs.Changes.{pairs_head, pairs_tail, found_has}
 use Rattle.bd_buffers.proofs.InSpace.{added, added_elsewhere, kept_in, handed_in, others_stay, made_in}
-use Rattle.bd_buffers.proofs.Order.{lives_below, none_made, process_made, buffer_made, made_kept, made_handed, process_gone}
+use Rattle.bd_buffers.proofs.Order.{lives_below, process_made, buffer_made, made_kept, made_handed, process_gone}
 
 -- ---- each element of a list in its turn
 

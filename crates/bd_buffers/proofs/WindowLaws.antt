@@ -1,9 +1,9 @@
 -- Before a step, within it and after it.
-use Rattle.std.proofs.Common.{ℕ, ◌+◌, ◌≤◌, suc, arith}
+use Rattle.std.proofs.Common.{◌+◌, suc, arith}
 use Rattle.bd_space.specs.Space.{Space}
 use Rattle.bd_space.specs.Steps.{counted}
 use Rattle.bd_buffers.specs.declared.windows.Windows.{Windows}
-use Rattle.bd_buffers.specs.WindowsStand.{WindowsOf, StandsFor, StandsIn}
+use Rattle.bd_buffers.specs.WindowsStand.{StandsFor, StandsIn}
 use Rattle.bd_buffers.proofs.Order.{made_wider}
 
 -- what stands before a step stands within it

@@ -1,4 +1,4 @@
-use Rattle.std.proofs.Common.{None, refl, arith, sym, ap, ◌∙◌}
+use Rattle.std.proofs.Common.{refl, arith, sym, ap, ◌∙◌}
 use Rattle.std.specs.Option.{option_copied}
 use Rattle.bd_space.specs.Reading.{buffer_in}
 use Rattle.bd_buffers.specs.declared.windows.OwnedWindow.{OwnedWindow}

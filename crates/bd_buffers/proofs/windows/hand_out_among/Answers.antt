@@ -1,5 +1,4 @@
 use Rattle.std.proofs.Common.{List, refl, arith, get_or}
-use Rattle.std.specs.Prelude.{not, filter}
 use Rattle.bd_space.specs.declared.space.Buffer.{Buffer}
 use Rattle.bd_space.specs.Words.{changed}
 use Rattle.bd_space.specs.Freeing.{is_made_at}

@@ -1,5 +1,4 @@
 use Rattle.std.proofs.Common.{◌≡◌, ◌++◌, map, take, drop}
-use Rattle.std.specs.Prelude.{not, filter}
 use Rattle.bd_space.specs.Words.{changed}
 use Rattle.bd_space.specs.Freeing.{is_made_at}
 use Rattle.bd_space.specs.Reading.{hand_out}

@@ -1,10 +1,10 @@
-use Rattle.std.proofs.Common.{ℕ, ◌≤◌, ◌≡◌, Some, refl, sym, ap, ◌∙◌, subst}
+use Rattle.std.proofs.Common.{ℕ, ◌≤◌, refl, sym, ap, ◌∙◌, subst}
 use Rattle.std.specs.List.{position}
 use Rattle.bd_space.specs.Delivery.{add_buffer}
 use Rattle.bd_buffers.specs.Stands.{CanTake}
 use Rattle.bd_buffers.specs.declared.windows.OwnedWindow.{OwnedWindow}
 use Rattle.bd_buffers.specs.WindowsStand.{is_owned_by, buffer_room, CanAdd}
-use Rattle.bd_buffers.proofs.AllWindows.{IsAt, is_at, room_at, can_take_at, can_take_nowhere, none_at, buffer_added}
+use Rattle.bd_buffers.proofs.AllWindows.{is_at, room_at, can_take_at, can_take_nowhere, none_at, buffer_added}
 use Rattle.bd_buffers.proofs.windows.Windows.add.Goals as goal
 
 pub commit-requires-clause-room : goal.commit-requires-clause-room

@@ -1,4 +1,4 @@
-use Rattle.std.proofs.Common.{ℕ, sym, ap, ◌∙◌, ◌+◌, find}
+use Rattle.std.proofs.Common.{sym, ap, ◌∙◌, ◌+◌, find}
 use Rattle.bd_space.specs.Room.{buffers_of}
 use Rattle.bd_space.specs.Freeing.{buffer_at_pointer, is_buffer_at}
 use Rattle.bd_buffers.specs.WindowsStand.{is_owned_by}

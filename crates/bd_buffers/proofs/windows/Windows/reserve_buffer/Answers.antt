@@ -1,8 +1,8 @@
-use Rattle.std.proofs.Common.{ℕ, ◌≤◌, ◌≡◌, List, map, find, refl, sym, ap, ◌∙◌, subst}
+use Rattle.std.proofs.Common.{ℕ, ◌≤◌, List, find, refl, sym, ap, ◌∙◌, subst}
 use Rattle.std.specs.Prelude.{OnOk}
 use Rattle.std.specs.List.{position}
 use Rattle.bd_buffers.specs.declared.windows.OwnedWindow.{OwnedWindow}
-use Rattle.bd_buffers.specs.WindowsStand.{ProcessWindow, seen, is_owned_by, is_of, buffer_room, CanAdd, CanTakeIn}
+use Rattle.bd_buffers.specs.WindowsStand.{ProcessWindow, is_owned_by, is_of, buffer_room, CanAdd, CanTakeIn}
 use Rattle.bd_buffers.proofs.AllWindows.{is_at, room_left, room_of_none, none_at, stay, stay_seen, seen_as}
 use Rattle.bd_buffers.proofs.windows.Windows.reserve_buffer.Goals as goal
 
