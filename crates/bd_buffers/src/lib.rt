@@ -3,8 +3,10 @@
 
 mod spans;
 mod window;
+mod windows;
 
 pub use window::Window;
+pub use windows::Windows;
 
 #[cfg(test)]
 mod tests;

@@ -112,3 +112,49 @@ fn copies_what_was_sent(rt: HostRuntime) -> Result<(), Fail> {
     assert!(rt; window.buffer(4).is_some());
     Ok(())
 }
+
+// As the engine does it for a process: the check, then the growth, then the commit.
+fn add(
+    windows: &mut Windows,
+    alloc: Global,
+    receiver: u32,
+    made: u32,
+    size: usize,
+) -> Result<Result<u32, Cause>, AllocError>
+    requires { size ≤ 4096 }
+{
+    let bytes = vec![in alloc; 0; size]?;
+    match windows.place(receiver, false, bytes.len() as u64, 0) {
+        Err(cause) => Ok(Err(cause)),
+        Ok(start) => {
+            windows.reserve_buffer(receiver)?;
+            let buffer = buffer_at(made, start, false, bytes, Vec::new(alloc));
+            windows.add(Buffer { receiver, ..buffer });
+            Ok(Ok(start))
+        }
+    }
+}
+
+#[test]
+fn keeps_processes_apart(rt: HostRuntime) -> Result<(), Fail> {
+    let mut windows = Windows::new(rt.alloc());
+    for place in 0..2 {
+        windows.reserve()?;
+        windows.open(place, Window::new(rt.alloc(), 4096)?);
+    }
+    assert_eq!(rt; add(&mut windows, rt.alloc(), 0, 4, 4096)?, Ok(0));
+    assert_eq!(rt; add(&mut windows, rt.alloc(), 0, 5, 8)?, Err(Cause::NoRoom));
+    assert_eq!(rt; add(&mut windows, rt.alloc(), 1, 6, 8)?, Ok(0));
+    assert_eq!(rt; add(&mut windows, rt.alloc(), 1, 7, 8)?, Ok(8));
+    windows.hand_out(Some(7));
+    assert_eq!(rt; windows.buffer(7).map(|b| b.handed), Some(true));
+    assert_eq!(rt; windows.at_pointer(1, 65536).map(|b| b.made), Some(6));
+    windows.free(6);
+    assert!(rt; windows.at_pointer(1, 65536).is_none());
+    windows.drop_lost(|made| made == 4);
+    assert_eq!(rt; add(&mut windows, rt.alloc(), 0, 9, 8)?, Ok(0));
+    windows.close(1);
+    assert!(rt; windows.buffer(7).is_none());
+    assert!(rt; windows.buffer(9).is_some());
+    Ok(())
+}

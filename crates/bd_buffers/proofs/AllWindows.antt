@@ -1,0 +1,443 @@
+-- The windows of all live processes through each change.
+use Rattle.std.proofs.Common.{◌≡◌, ◌≢◌, ℕ, zero, suc, ◌+◌, ◌<◌, ◌≤◌, Bool, true, false, cond, List, [], ◌∷◌, ◌++◌, length, get_or, set, take, drop, map, refl, ap, sym, ◌∙◌, arith, add-one, subst, All, eq-eqb, ne_eqb, Some, None, Ok, Err, nat_lt, rules, tests}
+use Rattle.std.specs.Prelude.{◌==◌, ◌||◌, not, filter, find, Option, AllPairs, option_map, IfOk, Result}
+use Rattle.std.specs.List.{position, position_or_len}
+use Rattle.bd_uapi.specs.declared.fault.Cause.{Cause}
+use Rattle.std.proofs.lemmas.Bool.{false≢true, eqb-true}
+use Rattle.std.proofs.lemmas.List.{map_push, map-set, get_or-map, length-map}
+use Rattle.std.proofs.lemmas.List.Elements.{All-head, All-tail}
+use Rattle.std.proofs.lemmas.List.Folds.{find-set}
+use Rattle.std.proofs.lemmas.List.Sums.{position_or_len_is}
+use Rattle.std.proofs.lemmas.List.Quantifiers.{position-Some}
+use Rattle.std.proofs.Math.Seq.{map-set_same}
+use Rattle.std.proofs.Math.ListN as list
+use Rattle.bd_space.specs.declared.space.Process.{Process}
+use Rattle.bd_space.specs.declared.space.Buffer.{Buffer}
+use Rattle.bd_space.specs.Words.{changed, first_of}
+use Rattle.bd_space.specs.Seats.{lives_in, process_in}
+use Rattle.bd_space.specs.Room.{buffers_of}
+use Rattle.bd_space.specs.Freeing.{is_made_at}
+use Rattle.bd_space.specs.Reading.{buffer_in, hand_out, handed_buffers}
+use Rattle.bd_buffers.specs.declared.windows.OwnedWindow.{OwnedWindow}
+use Rattle.bd_buffers.specs.declared.windows.Windows.{Windows}
+use Rattle.bd_buffers.specs.Windows as single
+use Rattle.bd_buffers.specs.WindowsStand.{ProcessWindow, seen, window_of, with_buffers, is_owned_by, is_of, WindowsOf, Stands, room_of, CanTakeIn, made_of_buffer}
+use Rattle.bd_buffers.proofs.Changes.{pairs_head, pairs_tail, found_has}
+use Rattle.bd_buffers.proofs.InSpace.{added, added_elsewhere, kept_in, handed_in, others_stay, made_in}
+use Rattle.bd_buffers.proofs.Order.{lives_below, process_made, buffer_made, made_kept, made_handed, process_gone}
+
+-- ---- each element of a list in its turn
+
+module _ {A : Type 0} (f : A → A) where
+  there : (xs : List A) (i : ℕ) (d : A) → i < length xs → get_or (map f (take i xs) ++ drop i xs) i d ≡ get_or xs i d
+  there [] i d h = absurd (omega arith)
+  there (x ∷ xs) zero d h = refl
+  there (x ∷ xs) (suc i) d h = there xs i d (omega arith)
+
+  mapped-suc : (xs : List A) (i : ℕ) (d : A) → i < length xs → set (map f (take i xs) ++ drop i xs) i (f (get_or xs i d)) ≡ map f (take (suc i) xs) ++ drop (suc i) xs
+  mapped-suc [] i d h = absurd (omega arith)
+  mapped-suc (x ∷ xs) zero d h = refl
+  mapped-suc (x ∷ xs) (suc i) d h = ap (λ ys. f x ∷ ys) (mapped-suc xs i d (omega arith))
+
+  mapped-next : (xs ys : List A) (i : ℕ) (d x : A) → ys ≡ map f (take i xs) ++ drop i xs → i < length xs → x ≡ f (get_or ys i d)
+      → set ys i x ≡ map f (take (i + 1) xs) ++ drop (i + 1) xs
+  mapped-next xs ys i d x e h k =
+      let same : get_or ys i d ≡ get_or xs i d = ap (λ zs. get_or zs i d) e ∙ there xs i d h in
+      rw (k, same, e, add-one) (mapped-suc xs i d h)
+
+  pub mapped-all : (xs : List A) (i : ℕ) → length xs ≤ i → map f (take i xs) ++ drop i xs ≡ map f xs
+  mapped-all [] zero h = refl
+  mapped-all [] (suc i) h = refl
+  mapped-all (x ∷ xs) zero h = absurd (omega arith)
+  mapped-all (x ∷ xs) (suc i) h = ap (λ ys. f x ∷ ys) (mapped-all xs i (omega arith))
+
+first_passes : {A : Type 0} (q : A → Bool) (y : A) (xs : List A) (x : A) (b : Bool) → q y ≡ b → (find q xs ≡ Some x → q x ≡ true) → cond b (Some y) (find q xs) ≡ Some x → q x ≡ true
+first_passes q y xs x true t rest e = let same : y ≡ x = cc in ap q (sym same) ∙ t
+first_passes q y xs x false t rest e = rest e
+
+found_passes : {A : Type 0} (q : A → Bool) (xs : List A) (x : A) → find q xs ≡ Some x → q x ≡ true
+found_passes q [] x e = cc
+found_passes q (y ∷ xs) x e = first_passes q y xs x (q y) refl (found_passes q xs x) e
+
+-- a window that stands for these buffers now
+pub seen_as : (w old : OwnedWindow) (f : List Buffer → List Buffer) → w.owner ≡ old.owner → Stands w.window old.window.size (f old.window.buffers) → seen w ≡ with_buffers f (seen old)
+seen_as w old f e is = let size = is.size_is in let buffers = is.buffers_are in cc
+
+pub each_next : (f : ProcessWindow → ProcessWindow) (init ws : List OwnedWindow) (i : ℕ) (d w : OwnedWindow)
+    → map seen ws ≡ map f (take i (map seen init)) ++ drop i (map seen init) → i < length init → seen w ≡ f (seen (get_or ws i d))
+    → map seen (set ws i w) ≡ map f (take (i + 1) (map seen init)) ++ drop (i + 1) (map seen init)
+each_next f init ws i d w e h is =
+    map-set seen ws i w
+    ∙ mapped-next f (map seen init) (map seen ws) i (seen d) (seen w) e (omega (arith, length-map init seen)) (is ∙ ap f (sym (list.get_or-map seen ws i d)))
+
+-- ---- what the windows are after each change
+
+pub each_is : (f : List Buffer → List Buffer) (bs new : List Buffer) → ((p : ℕ) → f (buffers_of bs p) ≡ buffers_of new p) → (ps : List Process)
+    → map (with_buffers f) (map (window_of bs) ps) ≡ map (window_of new) ps
+each_is f bs new same [] = refl
+each_is f bs new same (q ∷ ps) =
+    let head : with_buffers f (window_of bs q) ≡ window_of new q = ap (λ xs. record { owner = q.made; size = q.window; buffers = xs }) (same q.made) in
+    let rest = each_is f bs new same ps in
+    cc
+
+module _ {A B : Type 0} (f : A → B) (r : B → Bool) where
+  find_first : (x : A) (xs : List A) (b : Bool) → r (f x) ≡ b → find r (map f xs) ≡ option_map f (find (λ y. r (f y)) xs)
+      → cond b (Some (f x)) (find r (map f xs)) ≡ option_map f (cond b (Some x) (find (λ y. r (f y)) xs))
+  find_first x xs true e rest = refl
+  find_first x xs false e rest = rest
+
+  find_map : (xs : List A) → find r (map f xs) ≡ option_map f (find (λ y. r (f y)) xs)
+  find_map [] = refl
+  find_map (x ∷ xs) = find_first x xs (r (f x)) refl (find_map xs)
+
+  filter_first : (x : A) (xs : List A) (b : Bool) → map f (filter (λ y. r (f y)) xs) ≡ filter r (map f xs)
+      → map f (cond b (x ∷ filter (λ y. r (f y)) xs) (filter (λ y. r (f y)) xs)) ≡ cond b (f x ∷ filter r (map f xs)) (filter r (map f xs))
+  filter_first x xs true rest = ap (λ ys. f x ∷ ys) rest
+  filter_first x xs false rest = rest
+
+  filter_map_same : (xs : List A) → map f (filter (λ y. r (f y)) xs) ≡ filter r (map f xs)
+  filter_map_same [] = refl
+  filter_map_same (x ∷ xs) = filter_first x xs (r (f x)) (filter_map_same xs)
+
+-- ---- a process more
+
+not_received : (b : Buffer) (p : ℕ) → b.receiver < p → (b.receiver == p) ≡ false
+not_received b p lt = ne_eqb b.receiver p (λ e. absurd (omega (arith, e)))
+
+none_for : (ps : List Process) (bound : ℕ) (bs : List Buffer) → All (λ q. q.made < bound) ps → All (λ (b : Buffer). lives_in ps b.receiver ≡ true) bs → buffers_of bs bound ≡ []
+none_for ps bound [] before all = refl
+none_for ps bound (b ∷ bs) before all =
+    let P : Buffer → Type 0 = λ x. lives_in ps x.receiver ≡ true in
+    ap (λ k. cond k (b ∷ buffers_of bs bound) (buffers_of bs bound)) (not_received b bound (lives_below ps bound b.receiver before (All-head P b bs all)))
+    ∙ none_for ps bound bs before (All-tail P b bs all)
+
+pub opened : (t u : Windows) (bound : ℕ) (ps : List Process) (bs : List Buffer) (q : Process) (w : OwnedWindow) → q.made ≡ bound → w.owner ≡ q.made → Stands w.window q.window []
+    → u.windows.items ≡ t.windows.items ++ w ∷ [] → WindowsOf t bound ps bs → WindowsOf u (bound + 1) (ps ++ q ∷ []) bs
+opened t u bound ps bs q w e own is pushed stands =
+    let made = stands.made in
+    let none : buffers_of bs q.made ≡ [] = ap (buffers_of bs) e ∙ none_for ps bound bs made.processes_before made.received in
+    let size = is.size_is in
+    let buffers = is.buffers_are in
+    let last : seen w ≡ window_of bs q = cc in
+    record {
+      windows_are = ap (map seen) pushed ∙ map_push seen t.windows.items w ∙ ap (λ xs. xs ++ seen w ∷ []) stands.windows_are
+          ∙ ap (λ x. map (window_of bs) ps ++ x ∷ []) last ∙ sym (map_push (window_of bs) ps q);
+      made = process_made bound ps bs q e made;
+    }
+
+-- ---- buffers that go, and one that is handed out
+
+pub kept : (t u : Windows) (bound : ℕ) (ps : List Process) (bs : List Buffer) (keep : Buffer → Bool)
+    → map seen u.windows.items ≡ map (with_buffers (filter keep)) (map seen t.windows.items) → WindowsOf t bound ps bs → WindowsOf u bound ps (filter keep bs)
+kept t u bound ps bs keep e stands = record {
+  windows_are = e ∙ ap (map (with_buffers (filter keep))) stands.windows_are ∙ each_is (filter keep) bs (filter keep bs) (λ p. sym (kept_in keep bs p)) ps;
+  made = made_kept bound ps keep bs stands.made;
+}
+
+pub handed : (t u : Windows) (bound : ℕ) (ps : List Process) (bs : List Buffer) (made : ℕ)
+    → map seen u.windows.items ≡ map (with_buffers (changed (is_made_at made) hand_out)) (map seen t.windows.items) → WindowsOf t bound ps bs
+    → WindowsOf u bound ps (changed (is_made_at made) hand_out bs)
+handed t u bound ps bs made e stands = record {
+  windows_are = e ∙ ap (map (with_buffers (changed (is_made_at made) hand_out))) stands.windows_are
+      ∙ each_is (changed (is_made_at made) hand_out) bs (changed (is_made_at made) hand_out bs) (λ p. sym (handed_in bs p made)) ps;
+  made = made_handed bound ps (is_made_at made) bs stands.made;
+}
+
+-- ---- a process that ends
+
+close_first : (bs : List Buffer) (p : ℕ) (q : Process) (ps : List Process) (b : Bool) → (q.made == p) ≡ b
+    → filter (λ x. not (is_of p x)) (map (window_of bs) ps) ≡ map (window_of (filter (λ b. not (b.receiver == p)) bs)) (filter (λ q. not (q.made == p)) ps)
+    → cond (not b) (window_of bs q ∷ filter (λ x. not (is_of p x)) (map (window_of bs) ps)) (filter (λ x. not (is_of p x)) (map (window_of bs) ps))
+    ≡ map (window_of (filter (λ b. not (b.receiver == p)) bs)) (cond (not b) (q ∷ filter (λ q. not (q.made == p)) ps) (filter (λ q. not (q.made == p)) ps))
+close_first bs p q ps true e rest = rest
+close_first bs p q ps false e rest =
+    let other : q.made ≢ p = λ same. absurd (false≢true (sym e ∙ eq-eqb q.made p same)) in
+    let head : window_of bs q ≡ window_of (filter (λ b. not (b.receiver == p)) bs) q =
+    ap (λ xs. record { owner = q.made; size = q.window; buffers = xs }) (sym (others_stay bs p q.made other)) in
+    cc
+
+close_all : (bs : List Buffer) (p : ℕ) (ps : List Process) → filter (λ x. not (is_of p x)) (map (window_of bs) ps)
+    ≡ map (window_of (filter (λ b. not (b.receiver == p)) bs)) (filter (λ q. not (q.made == p)) ps)
+close_all bs p [] = refl
+close_all bs p (q ∷ ps) = close_first bs p q ps (q.made == p) refl (close_all bs p ps)
+
+pub closed : (t u : Windows) (bound p : ℕ) (ps : List Process) (bs : List Buffer) → u.windows.items ≡ filter (λ w. not (is_owned_by p w)) t.windows.items
+    → WindowsOf t bound ps bs → WindowsOf u bound (filter (λ q. not (q.made == p)) ps) (filter (λ b. not (b.receiver == p)) bs)
+closed t u bound p ps bs e stands = record {
+  windows_are = ap (map seen) e ∙ filter_map_same seen (λ x. not (is_of p x)) t.windows.items ∙ ap (filter (λ x. not (is_of p x))) stands.windows_are ∙ close_all bs p ps;
+  made = process_gone bound p ps bs stands.made;
+}
+
+-- ---- one window of them
+
+owned : (t : Windows) (bound p : ℕ) (ps : List Process) (bs : List Buffer) → WindowsOf t bound ps bs
+    → option_map seen (find (is_owned_by p) t.windows.items) ≡ option_map (window_of bs) (process_in ps p)
+owned t bound p ps bs stands =
+    sym (find_map seen (is_of p) t.windows.items) ∙ ap (find (is_of p)) stands.windows_are ∙ find_map (window_of bs) (is_of p) ps
+
+-- the window of a live process is found
+pub owner_found : (t : Windows) (bound p : ℕ) (ps : List Process) (bs : List Buffer) (q : Process) (w : OwnedWindow) → WindowsOf t bound ps bs
+    → process_in ps p ≡ Some q → find (is_owned_by p) t.windows.items ≡ Some w → Stands w.window q.window (buffers_of bs q.made)
+owner_found t bound p ps bs q w stands lives found =
+    let both : Some (seen w) ≡ Some (window_of bs q) = sym (ap (option_map seen) found) ∙ owned t bound p ps bs stands ∙ ap (option_map (window_of bs)) lives in
+    let same : seen w ≡ window_of bs q = cc in
+    record { size_is = ap (λ (x : ProcessWindow). x.size) same; buffers_are = ap (λ (x : ProcessWindow). x.buffers) same }
+
+pub owner_missed : (t : Windows) (bound p : ℕ) (ps : List Process) (bs : List Buffer) (q : Process) → WindowsOf t bound ps bs
+    → process_in ps p ≡ Some q → find (is_owned_by p) t.windows.items ≡ None → ⊥
+owner_missed t bound p ps bs q stands lives found =
+    let both : None ≡ Some (window_of bs q) = sym (ap (option_map seen) found) ∙ owned t bound p ps bs stands ∙ ap (option_map (window_of bs)) lives in
+    cc
+
+pub is_process : (ps : List Process) (p : ℕ) (q : Process) → process_in ps p ≡ Some q → q.made ≡ p
+is_process ps p q e = eqb-true q.made p (found_passes (λ (x : Process). x.made == p) ps q e)
+
+-- the window at the place that is found
+pub record IsAt (t : Windows) (p i : ℕ) (w : OwnedWindow) : Type 0 where
+  pub within : i < length t.windows.items
+  pub owner_is : w.owner ≡ p
+  pub found : find (is_owned_by p) t.windows.items ≡ Some w
+  pub at : w ≡ get_or t.windows.items i w
+  pub first : i ≡ position_or_len (is_owned_by p) t.windows.items
+
+find_at : {A : Type 0} (r : A → Bool) (xs : List A) (i : ℕ) (d : A) → i < length xs → r (get_or xs i d) ≡ true → ((k : ℕ) → k < i → r (get_or xs k d) ≡ false)
+    → find r xs ≡ Some (get_or xs i d)
+find_at r [] i d h passes below = absurd (omega arith)
+find_at r (x ∷ xs) zero d h passes below = ap (λ b. cond b (Some x) (find r xs)) passes
+find_at r (x ∷ xs) (suc i) d h passes below =
+    ap (λ b. cond b (Some x) (find r xs)) (below zero (omega arith)) ∙ find_at r xs i d (omega arith) passes (λ k lt. below (suc k) (omega arith))
+
+pub is_at : (t : Windows) (p i : ℕ) (w : OwnedWindow) → position (is_owned_by p) t.windows.items ≡ Some i → w ≡ get_or t.windows.items i w → IsAt t p i w
+is_at t p i w e at =
+    let is = position-Some (is_owned_by p) t.windows.items i w e in
+    let within = is.0 in
+    record {
+      within = within;
+      owner_is = eqb-true w.owner p (ap (is_owned_by p) at ∙ is.1);
+      found = find_at (is_owned_by p) t.windows.items i w is.0 is.1 is.2 ∙ ap (λ x. Some x) (sym at);
+      at = at;
+      first = sym (position_or_len_is (is_owned_by p) t.windows.items i w (omega arith) is.2 (λ h. is.1));
+    }
+
+pub room_at : (t : Windows) (p i : ℕ) (w : OwnedWindow) → IsAt t p i w → room_of (find (is_owned_by p) t.windows.items) ≡ w.window.room
+room_at t p i w is = ap room_of is.found
+
+pub room_left : (t : Windows) (p i : ℕ) (w x : OwnedWindow) → IsAt t p i w → x.owner ≡ w.owner → room_of (find (is_owned_by p) (set t.windows.items i x)) ≡ x.window.room
+room_left t p i w x is own =
+    ap room_of (find-set (is_owned_by p) t.windows.items i x is.first is.within (eq-eqb x.owner p (own ∙ is.owner_is)))
+
+-- the windows are seen as before
+pub stay_seen : (t : Windows) (p i : ℕ) (w x : OwnedWindow) → IsAt t p i w → seen x ≡ seen w → map seen (set t.windows.items i x) ≡ map seen t.windows.items
+stay_seen t p i w x is same = map-set_same seen t.windows.items i x w (same ∙ ap seen is.at)
+
+pub stay : (t u : Windows) (bound : ℕ) (ps : List Process) (bs : List Buffer) → map seen u.windows.items ≡ map seen t.windows.items → WindowsOf t bound ps bs → WindowsOf u bound ps bs
+stay t u bound ps bs e stands = record { windows_are = e ∙ stands.windows_are; made = stands.made }
+
+pub can_take_at : (t : Windows) (p i : ℕ) (w : OwnedWindow) (one_way : Bool) (size start : ℕ) → find (is_owned_by p) t.windows.items ≡ Some w
+    → CanTakeIn (find (is_of p) (map seen t.windows.items)) one_way size start → CanTakeIn (Some (seen w)) one_way size start
+can_take_at t p i w one_way size start found can =
+    let P : Option ProcessWindow → Type 0 = λ o. CanTakeIn o one_way size start in
+    subst P (find_map seen (is_of p) t.windows.items ∙ ap (option_map seen) found) can
+
+pub can_take_back : (t : Windows) (p : ℕ) (w : OwnedWindow) (one_way : Bool) (size start : ℕ) → find (is_owned_by p) t.windows.items ≡ Some w
+    → CanTakeIn (Some (seen w)) one_way size start → CanTakeIn (find (is_of p) (map seen t.windows.items)) one_way size start
+can_take_back t p w one_way size start found can =
+    let P : Option ProcessWindow → Type 0 = λ o. CanTakeIn o one_way size start in
+    subst P (sym (find_map seen (is_of p) t.windows.items ∙ ap (option_map seen) found)) can
+
+-- ---- a buffer more
+
+others_same : (ps : List Process) (bs : List Buffer) (b : Buffer) → All (λ q. b.receiver < q.made) ps → map (window_of bs) ps ≡ map (window_of (bs ++ b ∷ [])) ps
+others_same [] bs b later = refl
+others_same (q ∷ ps) bs b later =
+    let P : Process → Type 0 = λ x. b.receiver < x.made in
+    let lt = All-head P q ps later in
+    let head : window_of bs q ≡ window_of (bs ++ b ∷ []) q =
+    ap (λ xs. record { owner = q.made; size = q.window; buffers = xs }) (sym (added_elsewhere bs b q.made (λ e. absurd (omega (arith, e, lt))))) in
+    let rest = others_same ps bs b (All-tail P q ps later) in
+    cc
+
+abbrev with_added : Buffer → ProcessWindow → ProcessWindow
+with_added b x = with_buffers (λ xs. xs ++ b ∷ []) x
+
+set_added : (ps : List Process) (i : ℕ) (d : Process) (bs : List Buffer) (b : Buffer) (x : ProcessWindow) → AllPairs (λ a c. a.made < c.made) ps → i < length ps
+    → (get_or ps i d).made ≡ b.receiver → x ≡ with_added b (window_of bs (get_or ps i d)) → set (map (window_of bs) ps) i x ≡ map (window_of (bs ++ b ∷ [])) ps
+set_added [] i d bs b x order h own is = absurd (omega arith)
+set_added (q ∷ ps) zero d bs b x order h own is =
+    let P : Process → Type 0 = λ y. b.receiver < y.made in
+    let later : All P ps = λ k e lt. (let first = pairs_head (λ (a : Process) (c : Process). a.made < c.made) q ps order k e lt in omega (arith, first, own)) in
+    let head : x ≡ window_of (bs ++ b ∷ []) q = is ∙ ap (λ xs. record { owner = q.made; size = q.window; buffers = xs }) (sym (added bs b q.made (sym own))) in
+    let rest = others_same ps bs b later in
+    cc
+set_added (q ∷ ps) (suc i) d bs b x order h own is =
+    let lt = pairs_head (λ (a : Process) (c : Process). a.made < c.made) q ps order i d (omega arith) in
+    let head : window_of bs q ≡ window_of (bs ++ b ∷ []) q =
+    ap (λ xs. record { owner = q.made; size = q.window; buffers = xs }) (sym (added_elsewhere bs b q.made (λ e. absurd (omega (arith, e, lt, own))))) in
+    let rest = set_added ps i d bs b x (pairs_tail (λ (a : Process) (c : Process). a.made < c.made) q ps order) (omega arith) own is in
+    cc
+
+no_process : Process
+no_process = record { made = 0; pid = 0; euid = 0; window = 0 }
+
+lives_at : (ps : List Process) (i : ℕ) (d : Process) (r : ℕ) → i < length ps → (get_or ps i d).made ≡ r → lives_in ps r ≡ true
+lives_at [] i d r h e = absurd (omega arith)
+lives_at (q ∷ ps) zero d r h e = ap (λ b. b || lives_in ps r) (eq-eqb q.made r e)
+lives_at (q ∷ ps) (suc i) d r h e =
+    elim (q.made == r) as (λ b. (b || lives_in ps r) ≡ true) [ true ↦ refl | false ↦ lives_at ps i d r (omega arith) e ]
+
+pub buffer_added : (t u : Windows) (bound i : ℕ) (ps : List Process) (bs : List Buffer) (b : Buffer) (w x : OwnedWindow) → b.made ≡ bound → IsAt t b.receiver i w
+    → x.owner ≡ w.owner → Stands x.window w.window.size (w.window.buffers ++ b ∷ []) → u.windows.items ≡ set t.windows.items i x → WindowsOf t bound ps bs
+    → WindowsOf u (bound + 1) ps (bs ++ b ∷ [])
+buffer_added t u bound i ps bs b w x e is own as_one is_set stands =
+    let within = is.within in
+    let h : i < length ps = omega (arith, length-map t.windows.items seen, ap length stands.windows_are, length-map ps (window_of bs)) in
+    let q = get_or ps i no_process in
+    let at : seen w ≡ window_of bs q =
+    ap seen is.at ∙ sym (list.get_or-map seen t.windows.items i w) ∙ ap (λ xs. get_or xs i (seen w)) stands.windows_are
+    ∙ get_or-map (window_of bs) ps i no_process (seen w) h in
+    let made : q.made ≡ b.receiver = sym (ap (λ (y : ProcessWindow). y.owner) at) ∙ is.owner_is in
+    let new : seen x ≡ with_added b (window_of bs q) = seen_as x w (λ xs. xs ++ b ∷ []) own as_one ∙ ap (with_added b) at in
+    record {
+      windows_are = ap (map seen) is_set ∙ map-set seen t.windows.items i x ∙ ap (λ xs. set xs i (seen x)) stands.windows_are
+          ∙ set_added ps i no_process bs b (seen x) stands.made.processes_in_order h made new;
+      made = buffer_made bound ps bs b e (lives_at ps i no_process b.receiver h made) stands.made;
+    }
+
+-- ---- the buffer that a step made
+
+first_none : (made : ℕ) (x : Buffer) (xs : List Buffer) (p : ℕ) (b : Bool) → (x.made == made) ≡ false → buffer_in (buffers_of xs p) made ≡ None
+    → buffer_in (cond b (x ∷ buffers_of xs p) (buffers_of xs p)) made ≡ None
+first_none made x xs p true e rest = ap (λ c. cond c (Some x) (buffer_in (buffers_of xs p) made)) e ∙ rest
+first_none made x xs p false e rest = rest
+
+-- no later buffer was made there
+none_later : (bs : List Buffer) (made p : ℕ) → All (λ (b : Buffer). made < b.made) bs → buffer_in (buffers_of bs p) made ≡ None
+none_later [] made p later = refl
+none_later (b ∷ bs) made p later =
+    let P : Buffer → Type 0 = λ x. made < x.made in
+    let lt = All-head P b bs later in
+    first_none made b bs p (b.receiver == p) (ne_eqb b.made made (λ e. absurd (omega (arith, e, lt)))) (none_later bs made p (All-tail P b bs later))
+
+missed_first : (made : ℕ) (x : Buffer) (xs : List Buffer) (p : ℕ) (b : Bool) → (x.made == made) ≡ b → (buffer_in xs made ≡ None → buffer_in (buffers_of xs p) made ≡ None)
+    → cond b (Some x) (buffer_in xs made) ≡ None → buffer_in (buffers_of (x ∷ xs) p) made ≡ None
+missed_first made x xs p true e rest f = cc
+missed_first made x xs p false e rest f = first_none made x xs p (x.receiver == p) e (rest f)
+
+none_in : (bs : List Buffer) (made p : ℕ) → buffer_in bs made ≡ None → buffer_in (buffers_of bs p) made ≡ None
+none_in [] made p e = refl
+none_in (b ∷ bs) made p e = missed_first made b bs p (b.made == made) refl (none_in bs made p) e
+
+else_first : (made : ℕ) (x : Buffer) (xs : List Buffer) (y : Buffer) (p : ℕ) (b : Bool) → (x.made == made) ≡ b → All (λ (z : Buffer). x.made < z.made) xs → y.receiver ≢ p
+    → (buffer_in xs made ≡ Some y → buffer_in (buffers_of xs p) made ≡ None) → cond b (Some x) (buffer_in xs made) ≡ Some y → buffer_in (buffers_of (x ∷ xs) p) made ≡ None
+else_first made x xs y p true e later other rest f =
+    let same : x ≡ y = cc in
+    let here = eqb-true x.made made e in
+    ap (λ c. buffer_in (cond c (x ∷ buffers_of xs p) (buffers_of xs p)) made) (ne_eqb x.receiver p (λ r. other (sym (ap (λ (z : Buffer). z.receiver) same) ∙ r)))
+    ∙ none_later xs made p (λ k d h. (let lt = later k d h in omega (arith, lt, here)))
+else_first made x xs y p false e later other rest f = first_none made x xs p (x.receiver == p) e (rest f)
+
+-- it lies in no other process's window
+elsewhere : (bs : List Buffer) (made p : ℕ) (b : Buffer) → AllPairs (λ a c. a.made < c.made) bs → buffer_in bs made ≡ Some b → b.receiver ≢ p
+    → buffer_in (buffers_of bs p) made ≡ None
+elsewhere [] made p b order e other = cc
+elsewhere (x ∷ bs) made p b order e other =
+    else_first made x bs b p (x.made == made) refl (pairs_head (λ (a : Buffer) (c : Buffer). a.made < c.made) x bs order) other
+    (λ f. elsewhere bs made p b (pairs_tail (λ (a : Buffer) (c : Buffer). a.made < c.made) x bs order) f other) e
+
+abbrev look : List Buffer → ℕ → List Process → Option Buffer
+look bs made ps = first_of (map (λ q. buffer_in (buffers_of bs q.made) made) ps)
+
+look_none : (bs : List Buffer) (made : ℕ) (ps : List Process) → buffer_in bs made ≡ None → look bs made ps ≡ None
+look_none bs made [] e = refl
+look_none bs made (q ∷ ps) e =
+    ap (λ o. first_of (o ∷ map (λ (q : Process). buffer_in (buffers_of bs q.made) made) ps)) (none_in bs made q.made e) ∙ look_none bs made ps e
+
+look_first : (bs : List Buffer) (made : ℕ) (b : Buffer) (q : Process) (ps : List Process) (k : Bool) → (q.made == b.receiver) ≡ k → AllPairs (λ a c. a.made < c.made) bs
+    → buffer_in bs made ≡ Some b → (lives_in ps b.receiver ≡ true → look bs made ps ≡ Some b) → (k || lives_in ps b.receiver) ≡ true → look bs made (q ∷ ps) ≡ Some b
+look_first bs made b q ps true e order f rest lives =
+    ap (λ o. first_of (o ∷ map (λ (q : Process). buffer_in (buffers_of bs q.made) made) ps)) (made_in bs q.made made b f (sym (eqb-true q.made b.receiver e)))
+look_first bs made b q ps false e order f rest lives =
+    ap (λ o. first_of (o ∷ map (λ (q : Process). buffer_in (buffers_of bs q.made) made) ps))
+    (elsewhere bs made q.made b order f (λ same. absurd (false≢true (sym e ∙ eq-eqb q.made b.receiver (sym same)))))
+    ∙ rest lives
+
+look_some : (bs : List Buffer) (made : ℕ) (b : Buffer) (ps : List Process) → AllPairs (λ a c. a.made < c.made) bs → buffer_in bs made ≡ Some b
+    → lives_in ps b.receiver ≡ true → look bs made ps ≡ Some b
+look_some bs made b [] order e lives = absurd (false≢true lives)
+look_some bs made b (q ∷ ps) order e lives =
+    look_first bs made b q ps (q.made == b.receiver) refl order e (look_some bs made b ps order e) lives
+
+look_is : (bs : List Buffer) (made : ℕ) (ps : List Process) (o : Option Buffer) → AllPairs (λ a c. a.made < c.made) bs
+    → All (λ (b : Buffer). lives_in ps b.receiver ≡ true) bs → buffer_in bs made ≡ o → look bs made ps ≡ o
+look_is bs made ps None order received e = look_none bs made ps e
+look_is bs made ps (Some b) order received e =
+    look_some bs made b ps order e (found_has (λ (b : Buffer). lives_in ps b.receiver ≡ true) (is_made_at made) bs b e received).0
+
+seen_buffers : (made : ℕ) (ws : List OwnedWindow) → map (λ (w : OwnedWindow). buffer_in w.window.buffers made) ws ≡ map (λ (x : ProcessWindow). buffer_in x.buffers made) (map seen ws)
+seen_buffers made [] = refl
+seen_buffers made (w ∷ ws) = ap (λ os. buffer_in w.window.buffers made ∷ os) (seen_buffers made ws)
+
+of_processes : (made : ℕ) (bs : List Buffer) (ps : List Process) → map (λ (x : ProcessWindow). buffer_in x.buffers made) (map (window_of bs) ps) ≡ map (λ (q : Process). buffer_in (buffers_of bs q.made) made) ps
+of_processes made bs [] = refl
+of_processes made bs (q ∷ ps) = ap (λ os. buffer_in (buffers_of bs q.made) made ∷ os) (of_processes made bs ps)
+
+pub looked_up : (t : Windows) (bound made : ℕ) (ps : List Process) (bs : List Buffer) → WindowsOf t bound ps bs
+    → first_of (map (λ (w : OwnedWindow). buffer_in w.window.buffers made) t.windows.items) ≡ buffer_in bs made
+looked_up t bound made ps bs stands =
+    ap first_of (seen_buffers made t.windows.items ∙ ap (map (λ (x : ProcessWindow). buffer_in x.buffers made)) stands.windows_are ∙ of_processes made bs ps)
+    ∙ look_is bs made ps (buffer_in bs made) stands.made.buffers_in_order stands.made.received refl
+
+-- ---- the answers of the table
+
+look_on : {A B : Type 0} (f : A → Option B) (xs : List A) (i : ℕ) (d : A) → i < length xs → f (get_or xs i d) ≡ None → first_of (map f (drop i xs)) ≡ first_of (map f (drop (suc i) xs))
+look_on f [] i d h e = absurd (omega arith)
+look_on f (x ∷ xs) zero d h e = ap (λ o. first_of (o ∷ map f xs)) e
+look_on f (x ∷ xs) (suc i) d h e = look_on f xs i d (omega arith) e
+
+pub look_next : {A B : Type 0} (f : A → Option B) (xs : List A) (i : ℕ) (d : A) → i < length xs → f (get_or xs i d) ≡ None → first_of (map f (drop i xs)) ≡ first_of (map f (drop (i + 1) xs))
+look_next f xs i d h e = rw add-one (look_on f xs i d h e)
+
+module _ {A : Type 0} (p : A → Bool) where
+  pass_first : (x : A) (xs : List A) (b : Bool) → (length xs ≤ position_or_len p xs → find p xs ≡ None) → suc (length xs) ≤ cond (not b) (1 + position_or_len p xs) 0
+      → cond b (Some x) (find p xs) ≡ None
+  pass_first x xs true rest h = absurd (omega arith)
+  pass_first x xs false rest h = rest (omega arith)
+
+  past_all : (xs : List A) → length xs ≤ position_or_len p xs → find p xs ≡ None
+  past_all [] h = refl
+  past_all (x ∷ xs) h = pass_first x xs (p x) (past_all xs) h
+
+  none_before : (k n : ℕ) (b : Bool) → nat_lt k n ≡ b → cond b (Some k) None ≡ None → n ≤ k
+  none_before k n true e f = cc
+  none_before k n false e f = search (rules, tests)
+
+  pub none_at : (xs : List A) → position p xs ≡ None → find p xs ≡ None
+  none_at xs e = past_all xs (none_before (position_or_len p xs) (length xs) (nat_lt (position_or_len p xs) (length xs)) refl e)
+
+pub can_take_nowhere : (t : Windows) (p : ℕ) (one_way : Bool) (size start : ℕ) → find (is_owned_by p) t.windows.items ≡ None
+    → CanTakeIn (find (is_of p) (map seen t.windows.items)) one_way size start → ⊥
+can_take_nowhere t p one_way size start missed can =
+    let P : Option ProcessWindow → Type 0 = λ o. CanTakeIn o one_way size start in
+    subst P (find_map seen (is_of p) t.windows.items ∙ ap (option_map seen) missed) can
+
+pub room_of_none : (t : Windows) (p : ℕ) → find (is_owned_by p) t.windows.items ≡ None → 1 ≤ room_of (find (is_owned_by p) t.windows.items)
+room_of_none t p e = let is : room_of (find (is_owned_by p) t.windows.items) ≡ 1 = ap room_of e in omega (arith, is)
+
+pub fits_whole : (size : ℕ) (bs : List Buffer) (n : ℕ) (r : Result ℕ Cause) → single.IsWindow size bs → IfOk r (λ p. single.IsLeastRoom size bs n p) → IfOk r (λ p. n ≤ 4194304)
+fits_whole size bs n (Ok p) is least = let inside = least.room.inside in let small = is.small in omega (arith, inside, small)
+fits_whole size bs n (Err x) is least = tt
+
+-- what is read hands over the buffer that was made there
+pub handed_by : (t u : Windows) (bound : ℕ) (ps : List Process) (bs : List Buffer) (o : Option Buffer) (made : ℕ) → Some made ≡ option_map made_of_buffer o
+    → map seen u.windows.items ≡ map (with_buffers (changed (is_made_at made) hand_out)) (map seen t.windows.items) → WindowsOf t bound ps bs
+    → WindowsOf u bound ps (handed_buffers bs o)
+handed_by t u bound ps bs None made e f stands = cc
+handed_by t u bound ps bs (Some b) made e f stands =
+    let same : made ≡ b.made = cc in
+    let P : ℕ → Type 0 = λ m. WindowsOf u bound ps (changed (is_made_at m) hand_out bs) in
+    subst P same (handed t u bound ps bs made f stands)
+
+pub none_handed_by : (t : Windows) (bound : ℕ) (ps : List Process) (bs : List Buffer) (o : Option Buffer) → None ≡ option_map made_of_buffer o → WindowsOf t bound ps bs
+    → WindowsOf t bound ps (handed_buffers bs o)
+none_handed_by t bound ps bs None e stands = stands
+none_handed_by t bound ps bs (Some b) e stands = cc

@@ -1,0 +1,44 @@
+use Rattle.std.proofs.Common.{ℕ, ◌≤◌, refl, sym, ap, ◌∙◌, subst}
+use Rattle.std.specs.List.{position}
+use Rattle.bd_space.specs.Delivery.{add_buffer}
+use Rattle.bd_buffers.specs.Stands.{CanTake}
+use Rattle.bd_buffers.specs.declared.windows.OwnedWindow.{OwnedWindow}
+use Rattle.bd_buffers.specs.WindowsStand.{is_owned_by, buffer_room, CanAdd}
+use Rattle.bd_buffers.proofs.AllWindows.{is_at, room_at, can_take_at, can_take_nowhere, none_at, buffer_added}
+use Rattle.bd_buffers.proofs.windows.Windows.add.Goals as goal
+
+pub commit-requires-clause-room : goal.commit-requires-clause-room
+unfolding buffer_room
+commit-requires-clause-room c =
+    let t = c.args.self.now in
+    let p = c.args.buffer.receiver in
+    let is = is_at t p c.in-Some.at c.index_mut.result.now (sym (c.in-Some.ensures ∙ ap (position (is_owned_by p)) c.deref.ensures.value)) c.index_mut.ensures.value in
+    let P : ℕ → Type 0 = λ k. 1 ≤ k in
+    subst P (room_at t p c.in-Some.at c.index_mut.result.now is) c.requires.room
+
+pub commit-requires-clause-can_take : goal.commit-requires-clause-can_take
+unfolding CanAdd CanTake
+commit-requires-clause-can_take c =
+    let t = c.args.self.now in
+    let p = c.args.buffer.receiver in
+    let is = is_at t p c.in-Some.at c.index_mut.result.now (sym (c.in-Some.ensures ∙ ap (position (is_owned_by p)) c.deref.ensures.value)) c.index_mut.ensures.value in
+    can_take_at t p c.in-Some.at c.index_mut.result.now c.args.buffer.one_way c.args.buffer.size c.args.buffer.start is.found c.requires.can_add
+
+pub returns-in-Some : goal.returns-in-Some
+unfolding add_buffer
+returns-in-Some c = λ s stands e.
+    let t = c.args.self.now in
+    let p = c.args.buffer.receiver in
+    let w = c.index_mut.result.now in
+    let is = is_at t p c.in-Some.at w (sym (c.in-Some.ensures ∙ ap (position (is_owned_by p)) c.deref.ensures.value)) c.index_mut.ensures.value in
+    let x : OwnedWindow = record { owner = w.owner; window = c.commit.new.self } in
+    buffer_added t _ s.steps c.in-Some.at s.processes s.buffers c.args.buffer w x (sym e) is refl
+    (c.commit.ensures.stands w.window.size w.window.buffers (record { size_is = refl; buffers_are = refl })) refl stands
+
+pub returns-in_default : goal.returns-in_default
+unfolding CanAdd
+returns-in_default c = λ s stands e.
+    let t = c.args.self.now in
+    let p = c.args.buffer.receiver in
+    let missed = none_at (is_owned_by p) t.windows.items (sym (ap (position (is_owned_by p)) c.deref.ensures.value) ∙ sym c.position_of.ensures ∙ c.in_default.is) in
+    absurd (can_take_nowhere t p c.args.buffer.one_way c.args.buffer.size c.args.buffer.start missed c.requires.can_add)

@@ -1,0 +1,40 @@
+use Rattle.std.proofs.Common.{ℕ, Bool, ◌≡◌, ◌+◌, Some, Ok, Err, sym, ap, ◌∙◌, find, refl}
+use Rattle.std.specs.Prelude.{Result, IfOk}
+use Rattle.bd_uapi.specs.declared.fault.Cause.{Cause}
+use Rattle.bd_space.specs.Room.{buffers_of, place_for, needed}
+use Rattle.bd_buffers.specs.Stands.{CanTake}
+use Rattle.bd_buffers.specs.declared.windows.OwnedWindow.{OwnedWindow}
+use Rattle.bd_buffers.specs.declared.windows.Windows.{Windows}
+use Rattle.bd_buffers.specs.WindowsStand.{is_owned_by, CanAdd}
+use Rattle.bd_buffers.proofs.AllWindows.{owner_found, owner_missed, is_process, can_take_back, fits_whole}
+use Rattle.bd_buffers.proofs.windows.Windows.place.Goals as goal
+
+can_add_of : (t : Windows) (p : ℕ) (w : OwnedWindow) (one_way : Bool) (n : ℕ) (r : Result ℕ Cause) → find (is_owned_by p) t.windows.items ≡ Some w
+    → IfOk r (λ start. CanTake w.window one_way n start) → IfOk r (λ start. CanAdd t p one_way n start)
+unfolding CanAdd CanTake
+can_add_of t p w one_way n (Ok start) found can = can_take_back t p w one_way n start found can
+can_add_of t p w one_way n (Err x) found can = tt
+
+pub returns-in-None-clause-computed : goal.returns-in-None-clause-computed
+returns-in-None-clause-computed c = λ s q stands lives.
+    absurd (owner_missed c.args.self.now (s.steps + 1) c.args.p s.processes s.buffers q stands lives
+    (sym (c.in-None.ensures ∙ ap (find (is_owned_by c.args.p)) c.deref.ensures.value)))
+
+pub returns-in-Some-clause-computed : goal.returns-in-Some-clause-computed
+returns-in-Some-clause-computed c = λ s q stands lives.
+    let found = sym (c.in-Some.ensures ∙ ap (find (is_owned_by c.args.p)) c.deref.ensures.value) in
+    let own = owner_found c.args.self.now (s.steps + 1) c.args.p s.processes s.buffers q c.in-Some.w.now stands lives found in
+    c.place.ensures.computed q.window (buffers_of s.buffers q.made) own
+    ∙ ap (λ m. place_for q.window (buffers_of s.buffers m) c.args.one_way (needed c.args.data_size c.args.offsets_size)) (is_process s.processes c.args.p q lives)
+
+pub returns-in-Some-clause-can_add : goal.returns-in-Some-clause-can_add
+returns-in-Some-clause-can_add c =
+    can_add_of c.args.self.now c.args.p c.in-Some.w.now c.args.one_way (needed c.args.data_size c.args.offsets_size) c.place.result
+    (sym (c.in-Some.ensures ∙ ap (find (is_owned_by c.args.p)) c.deref.ensures.value)) c.place.ensures.can_take
+
+pub returns-in-Some-clause-fits : goal.returns-in-Some-clause-fits
+returns-in-Some-clause-fits c =
+    let w = c.in-Some.w.now.window in
+    fits_whole w.size w.buffers (needed c.args.data_size c.args.offsets_size) c.place.result
+    (c.check.ensures w.size w.buffers (record { size_is = refl; buffers_are = refl }))
+    (c.place.ensures.least w.size w.buffers (record { size_is = refl; buffers_are = refl }))

@@ -1,0 +1,89 @@
+-- What the windows of all live processes stand for.
+use Rattle.std.specs.Prelude.{ℕ, ◌≡◌, ◌+◌, ◌-◌, ◌<◌, ◌≤◌, ◌==◌, Bool, true, List, map, find, length, Option, Some, None, Ok, All, AllPairs, vec_len, vec_capacity}
+use Rattle.bd_space.specs.declared.space.Process.{Process}
+use Rattle.bd_space.specs.declared.space.Buffer.{Buffer}
+use Rattle.bd_space.specs.Space.{Space}
+use Rattle.bd_space.specs.Seats.{lives_in}
+use Rattle.bd_space.specs.Room.{buffers_of, place_for}
+use Rattle.bd_buffers.specs.declared.windows.OwnedWindow.{OwnedWindow}
+use Rattle.bd_buffers.specs.declared.windows.Windows.{Windows}
+pub use Rattle.bd_buffers.specs.Stands.{Stands}
+
+-- ---- the window of one process
+
+pub record ProcessWindow : Type 0 where
+  pub owner : ℕ
+  pub size : ℕ
+  pub buffers : List Buffer
+
+-- as the table has it
+abbrev pub seen : OwnedWindow → ProcessWindow
+seen w = record { owner = w.owner; size = w.window.size; buffers = w.window.buffers }
+
+-- as a space with these live buffers has it
+abbrev pub window_of : List Buffer → Process → ProcessWindow
+window_of buffers q = record { owner = q.made; size = q.window; buffers = buffers_of buffers q.made }
+
+abbrev pub with_buffers : (List Buffer → List Buffer) → ProcessWindow → ProcessWindow
+with_buffers f x = record { owner = x.owner; size = x.size; buffers = f x.buffers }
+
+abbrev pub is_owned_by : ℕ → OwnedWindow → Bool
+is_owned_by p w = w.owner == p
+
+abbrev pub is_of : ℕ → ProcessWindow → Bool
+is_of p x = x.owner == p
+
+-- ---- all of them
+
+-- processes and buffers as steps before this place made them: in order, and each buffer for a process that lives
+pub record AreMade (bound : ℕ) (processes : List Process) (buffers : List Buffer) : Type 0 where
+  pub processes_in_order : AllPairs (λ a b. a.made < b.made) processes
+  pub processes_before : All (λ q. q.made < bound) processes
+  pub buffers_in_order : AllPairs (λ a b. a.made < b.made) buffers
+  pub buffers_before : All (λ b. b.made < bound) buffers
+  pub received : All (λ b. lives_in processes b.receiver ≡ true) buffers
+
+pub record WindowsOf (t : Windows) (bound : ℕ) (processes : List Process) (buffers : List Buffer) : Type 0 where
+  pub windows_are : map seen t.windows.items ≡ map (window_of buffers) processes
+  pub made : AreMade bound processes buffers
+
+-- before a step
+abbrev pub StandsFor : Windows → Space → Type 0
+StandsFor t s = WindowsOf t s.steps s.processes s.buffers
+
+-- within one, which may have made a process or a buffer
+abbrev pub StandsIn : Windows → Space → Type 0
+StandsIn t s = WindowsOf t (s.steps + 1) s.processes s.buffers
+
+-- ---- room
+
+-- how many more processes may be opened
+unfoldable pub window_room : Windows → ℕ
+window_room t = vec_capacity t.windows - vec_len t.windows
+
+abbrev pub room_of : Option OwnedWindow → ℕ
+room_of None = 1
+room_of (Some w) = w.window.room
+
+-- how many more buffers may be added to the window of a process; nothing is added where there is none
+unfoldable pub buffer_room : Windows → ℕ → ℕ
+buffer_room t p = room_of (find (is_owned_by p) t.windows.items)
+
+abbrev pub CanTakeIn : Option ProcessWindow → Bool → ℕ → ℕ → Type 0
+CanTakeIn None one_way size start = ⊥
+CanTakeIn (Some x) one_way size start = place_for x.size x.buffers one_way size ≡ Ok start
+
+-- the window of this process can take a buffer of this size there now
+unfoldable pub CanAdd : Windows → ℕ → Bool → ℕ → ℕ → Type 0
+CanAdd t p one_way size start = CanTakeIn (find (is_of p) (map seen t.windows.items)) one_way size start
+
+-- ---- buffers
+
+-- what is so of every live buffer
+pub record IsPlaced (b : Buffer) : Type 0 where
+  pub inside : b.start + b.size ≤ 4194304
+  pub bytes_fit : length b.bytes ≤ b.size
+  pub offsets_fit : length b.offsets ≤ b.size
+
+abbrev pub made_of_buffer : Buffer → ℕ
+made_of_buffer b = b.made

@@ -1,0 +1,234 @@
+//! The windows of all live processes.
+
+ghost use Rattle.std.specs.Prelude.{◌≡◌, ◌≤◌, ◌<◌, ◌+◌, ◌==◌, not, ℕ, Bool, IfOk, IfSome, OnOk, Some, length, map, filter, find, List, [], vec_len, vec_capacity, option_map};
+ghost use Rattle.std.specs.List.{position};
+ghost use Rattle.std.specs.Option.{option_copied};
+ghost use Rattle.bd_space.specs.declared.space.Process.{Process};
+ghost use Rattle.bd_space.specs.declared.space.Buffer.{Buffer};
+ghost use Rattle.bd_space.specs.declared.space.Work.{Work};
+ghost use Rattle.bd_space.specs.declared.space.TodoList.TheVariants.{OfThread};
+ghost use Rattle.bd_space.specs.Words.{first_of, changed};
+ghost use Rattle.bd_space.specs.Space.{Space, opening};
+ghost use Rattle.bd_space.specs.Seats.{process_in};
+ghost use Rattle.bd_space.specs.Room.{needed, place_for, buffers_of};
+ghost use Rattle.bd_space.specs.Delivery.{add_buffer};
+ghost use Rattle.bd_space.specs.Freeing.{without_buffer, buffer_at_pointer, is_made_at};
+ghost use Rattle.bd_space.specs.Reading.{buffer_in, buffer_taken, hand_out, read_by};
+ghost use Rattle.bd_space.specs.Steps.{with_process};
+ghost use Rattle.bd_space.specs.Exits.{thread_goes, without_process, is_lost_with};
+ghost use Rattle.bd_buffers.specs.WindowsStand.{StandsFor, StandsIn, Stands, window_room, buffer_room, made_of_buffer, CanAdd, IsPlaced, is_owned_by, seen, with_buffers};
+
+use crate::window::Window;
+use bd_space::Buffer;
+use bd_uapi::Cause;
+use std::alloc::{AllocError, Global};
+
+// The window of a live process.
+#[derive(Drop)]
+struct OwnedWindow {
+    owner: u32,
+    window: Window,
+}
+
+/// The windows of all live processes, in the order in which these were opened.
+#[derive(Drop)]
+pub struct Windows {
+    windows: Vec<OwnedWindow>,
+}
+
+// Where the window of a process stands.
+fn position_of(windows: &[OwnedWindow], p: u32) -> Option<usize>
+    ensures { result ≡ position (is_owned_by p) windows.now }
+{
+    windows.iter().position(|w| w.owner == p)
+}
+
+// The window of a process.
+fn owned_by(windows: &[OwnedWindow], p: u32) -> Option<&OwnedWindow>
+    ensures { option_copied result ≡ find (is_owned_by p) windows.now }
+{
+    windows.iter().find(|w| w.owner == p)
+}
+
+// The live buffer made there, in whichever window it lies.
+fn buffer_among(windows: &[OwnedWindow], made: u32) -> Option<&Buffer>
+    ensures found { option_copied result ≡ first_of (map (λ w. buffer_in w.window.buffers made) windows.now) }
+    ensures placed { IfSome result (λ b. IsPlaced b.now) }
+{
+    for w in windows {
+        if let Some(b) = w.window.buffer(made) {
+            return Some(b);
+        }
+    }
+    None
+}
+
+// Ends the buffer made there.
+fn free_among(windows: &mut Vec<OwnedWindow>, made: u32)
+    ensures { map seen windows.new.items ≡ map (with_buffers (filter (λ b. not (is_made_at made b)))) (map seen windows.old.items) }
+{
+    for w in windows.iter_mut() {
+        w.window.free(made);
+    }
+}
+
+// Marks the buffer made there as handed out.
+fn hand_out_among(windows: &mut Vec<OwnedWindow>, made: u32)
+    ensures { map seen windows.new.items ≡ map (with_buffers (changed (is_made_at made) hand_out)) (map seen windows.old.items) }
+{
+    for w in windows.iter_mut() {
+        w.window.hand_out(made);
+    }
+}
+
+// Ends the buffers whose making step is lost.
+fn drop_lost_among<F: Fn(u32) -> bool>(windows: &mut Vec<OwnedWindow>, is_lost: F)
+    requires { F.IsAlwaysCallable is_lost }
+    ensures { (lost : ℕ → Bool) → ((made : ℕ) (b : Bool) → F.post is_lost made b → b ≡ lost made)
+        → map seen windows.new.items ≡ map (with_buffers (filter (λ b. not (lost b.made)))) (map seen windows.old.items) }
+{
+    for w in windows.iter_mut() {
+        w.window.drop_lost(&is_lost);
+    }
+}
+
+// Ends the window of a process.
+fn close_among(windows: &mut Vec<OwnedWindow>, p: u32)
+    ensures { windows.new.items ≡ filter (λ w. not (is_owned_by p w)) windows.old.items }
+{
+    windows.retain(|w| w.owner != p);
+}
+
+impl Windows {
+    /// No window. Takes no memory.
+    pub fn new(alloc: Global) -> Windows
+        ensures { StandsFor result opening }
+    {
+        Windows {
+            windows: Vec::new(alloc),
+        }
+    }
+
+    /// Makes room for one more window. All stays as it was, also on an `Err`.
+    #[tactic(auto, unfolding(crate::specs::WindowsStand::window_room))]
+    pub fn reserve(&mut self) -> Result<(), AllocError>
+        ensures stands { (s : Space) → StandsFor self.old s → StandsFor self.new s }
+        ensures room { OnOk result (1 ≤ window_room self.new) }
+    {
+        self.windows.reserve(1)
+    }
+
+    /// Takes in the empty window of the process that the step at this place opens. Takes no memory.
+    pub fn open(&mut self, place: u32, window: Window)
+        requires room { 1 ≤ window_room self.old }
+        ensures { (s : Space) (pid euid size : ℕ) → StandsFor self.old s → s.steps ≡ place → Stands window size []
+            → StandsIn self.new (with_process s pid euid size) }
+    {
+        self.windows.push_reserved(OwnedWindow {
+            owner: place,
+            window,
+        });
+    }
+
+    /// Where a buffer for data and offsets of these sizes in bytes would begin in the window of a process.
+    /// `NoRoom` where there is no room or no such process; `OverBudget` where one-way buffers would take more than
+    /// half of the window.
+    pub fn place(
+        &self,
+        p: u32,
+        one_way: bool,
+        data_size: u64,
+        offsets_size: u64,
+    ) -> Result<u32, Cause>
+        ensures computed { (s : Space) (q : Process) → StandsIn self.now s → process_in s.processes p ≡ Some q
+            → result ≡ place_for q.window (buffers_of s.buffers p) one_way (needed data_size offsets_size) }
+        ensures can_add { IfOk result (λ start. CanAdd self.now p one_way (needed data_size offsets_size) start) }
+        ensures fits { IfOk result (λ start. needed data_size offsets_size ≤ 4194304) }
+    {
+        match owned_by(&self.windows, p) {
+            None => Err(Cause::NoRoom),
+            Some(w) => {
+                w.window.check();
+                w.window.place(one_way, data_size, offsets_size)
+            }
+        }
+    }
+
+    /// Makes room for one more buffer in the window of a process. All stays as it was, also on an `Err`.
+    pub fn reserve_buffer(&mut self, p: u32) -> Result<(), AllocError>
+        ensures stands { (s : Space) → StandsFor self.old s → StandsFor self.new s }
+        ensures can_add { (q : ℕ) (one_way : Bool) (size start : ℕ) → CanAdd self.old q one_way size start
+            → CanAdd self.new q one_way size start }
+        ensures room { OnOk result (1 ≤ buffer_room self.new p) }
+    {
+        match position_of(&self.windows, p) {
+            None => Ok(()),
+            Some(at) => self.windows[at].window.reserve(),
+        }
+    }
+
+    /// Takes a buffer into its receiver's window, at a place that it can take it at. Takes no memory.
+    pub fn add(&mut self, buffer: Buffer)
+        requires room { 1 ≤ buffer_room self.old buffer.receiver }
+        requires sized { buffer.size ≡ needed (length buffer.bytes) (length buffer.offsets) }
+        requires can_add { CanAdd self.old buffer.receiver buffer.one_way buffer.size buffer.start }
+        ensures { (s : Space) → StandsFor self.old s → s.steps ≡ buffer.made → StandsIn self.new (add_buffer s buffer) }
+    {
+        if let Some(at) = position_of(&self.windows, buffer.receiver) {
+            self.windows[at].window.commit(buffer);
+        }
+    }
+
+    /// The live buffer made there.
+    pub fn buffer(&self, made: u32) -> Option<&Buffer>
+        ensures found { (s : Space) → StandsIn self.now s → option_copied result ≡ buffer_in s.buffers made }
+        ensures placed { IfSome result (λ b. IsPlaced b.now) }
+    {
+        buffer_among(&self.windows, made)
+    }
+
+    /// The live buffer that a process knows by a pointer, handed out or not.
+    pub fn at_pointer(&self, p: u32, pointer: u64) -> Option<&Buffer>
+        ensures found { (s : Space) (q : Process) → StandsIn self.now s → process_in s.processes p ≡ Some q
+            → option_copied result ≡ buffer_at_pointer s p pointer }
+        ensures placed { IfSome result (λ b. IsPlaced b.now) }
+    {
+        match owned_by(&self.windows, p) {
+            None => None,
+            Some(w) => w.window.buffer_at_pointer(pointer),
+        }
+    }
+
+    /// Ends the buffer made there.
+    pub fn free(&mut self, made: u32)
+        ensures { (s : Space) → StandsIn self.old s → StandsIn self.new (without_buffer s made) }
+    {
+        free_among(&mut self.windows, made);
+    }
+
+    /// Marks the buffer that is handed over by reading these work items, if any.
+    pub fn hand_out(&mut self, made: Option<u32>)
+        ensures { (s : Space) (seat : ℕ) (ws : List Work) → StandsIn self.old s
+            → made ≡ option_map made_of_buffer (buffer_taken s ws) → StandsIn self.new (read_by s seat ws) }
+    {
+        if let Some(made) = made {
+            hand_out_among(&mut self.windows, made);
+        }
+    }
+
+    /// Ends the buffers that are lost with a thread's work items.
+    pub fn drop_lost<F: Fn(u32) -> bool>(&mut self, lost: F)
+        requires callable { F.IsAlwaysCallable lost }
+        ensures { (s : Space) (seat : ℕ) → StandsIn self.old s
+            → ((b : ℕ) (r : Bool) → F.post lost b r → r ≡ is_lost_with s.todo (OfThread seat) b) → StandsIn self.new (thread_goes s seat) }
+    {
+        drop_lost_among(&mut self.windows, lost);
+    }
+
+    /// Ends the window of a process, with its buffers.
+    pub fn close(&mut self, p: u32)
+        ensures { (s : Space) → StandsIn self.old s → StandsIn self.new (without_process s p) }
+    {
+        close_among(&mut self.windows, p);
+    }
+}
