@@ -1,0 +1,3 @@
+pub mod Stands
+pub mod Refusals
+pub mod Meets

@@ -1,0 +1,33 @@
+-- What a step of the tables meets: the definition, on every space that they stand for.
+use Rattle.std.specs.Prelude.{ℕ, ◌≡◌, true, Some}
+use Rattle.bd_space.specs.declared.step.StepAnswer.{StepAnswer}
+use Rattle.bd_space.specs.declared.space.Actor.{Actor}
+use Rattle.bd_space.specs.Space.{Space}
+use Rattle.bd_space.specs.Seats.{actor}
+use Rattle.bd_space.specs.Names.{has_number_past_limit}
+use Rattle.bd_space.specs.Outcomes.{Outcome}
+use Rattle.bd_engine.specs.declared.tables.Tables.{Tables}
+use Rattle.bd_engine.specs.declared.why.Why.{Why}
+use Rattle.bd_engine.specs.Refusals.{FullOnly}
+use Rattle.bd_engine.specs.Stands.{Before, Within}
+
+-- the step's maker is this live thread, with its process
+abbrev pub IsBy : Actor → Space → Type 0
+IsBy a s = actor s a.thread.seat ≡ Some a
+
+-- it may be anybody's
+abbrev pub IsAny : Space → Type 0
+IsAny s = Unit {0}
+
+-- the step was taken: its answer and the space after it are those of the definition
+pub record Meets (old new : Tables) (P : Space → Type 0) (f : Space → Outcome) (answer : StepAnswer) : Type 0 where
+  pub answered : (s : Space) → Before old s → P s → answer ≡ (f s).answer
+  pub stands : (s : Space) → Before old s → P s → Within new (f s).space
+
+-- the step was not taken: a full history is the reason only where it would need a number past the limit
+abbrev pub IsRefused : Tables → (Space → Type 0) → (Space → Outcome) → Why → Type 0
+IsRefused old P f why = (s : Space) → Before old s → P s → FullOnly why (has_number_past_limit (f s).space.names ≡ true)
+
+-- it left all as it was
+abbrev pub IsKept : Tables → Tables → Type 0
+IsKept old new = (s : Space) → Before old s → Before new s

@@ -1,0 +1,48 @@
+-- What the tables of an engine stand for: a space.
+use Rattle.std.specs.Prelude.{ℕ, ◌≡◌, ◌+◌, ◌≤◌}
+use Rattle.bd_space.specs.Space.{Space}
+use Rattle.bd_objects.specs.Stands as objects
+use Rattle.bd_objects.specs.Room as object_rooms
+use Rattle.bd_calls.specs.Stands as calls
+use Rattle.bd_calls.specs.Room as call_rooms
+use Rattle.bd_buffers.specs.WindowsStand.{WindowsOf}
+use Rattle.bd_engine.specs.declared.tables.Tables.{Tables}
+
+-- every member was made by a step before this place
+pub record StandsAt (bound : ℕ) (t : Tables) (s : Space) : Type 0 where
+  pub steps_are : s.steps ≡ t.steps
+  pub processes_are : s.processes ≡ t.processes.items
+  pub manager_is : s.manager ≡ t.manager
+  pub objects_stand : objects.StandsFor t.objects s
+  pub calls_stand : calls.StandsFor t.calls s
+  pub windows_stand : WindowsOf t.windows bound s.processes s.buffers
+
+-- before a step
+abbrev pub Before : Tables → Space → Type 0
+Before t s = StandsAt s.steps t s
+
+-- within one, which may have made a process or a buffer
+abbrev pub Within : Tables → Space → Type 0
+Within t s = StandsAt (s.steps + 1) t s
+
+-- ---- room
+
+-- a change makes at most so many work items, and adds at most so many objects, frames and one-way calls
+pub record Takes (old new : Tables) (objects frames turns works : ℕ) : Type 0 where
+  pub works_fit : call_rooms.work_room old.calls ≤ call_rooms.work_room new.calls + works
+  pub objects_count : object_rooms.object_count new.objects ≤ object_rooms.object_count old.objects + objects
+  pub frames_count : call_rooms.frame_count new.calls ≤ call_rooms.frame_count old.calls + frames
+  pub turns_count : call_rooms.turn_count new.calls ≤ call_rooms.turn_count old.calls + turns
+
+-- room for the work items that follow from a change, and for so many more
+abbrev pub CanFollow : Tables → ℕ → Type 0
+CanFollow t works = call_rooms.frame_count t.calls + call_rooms.turn_count t.calls + object_rooms.object_count t.objects + works ≤ call_rooms.work_room t.calls
+
+-- room for a step: for so many objects, references, names and work items, a thread, a frame, a one-way call and a death
+-- notification, and for the work items that follow from them all
+pub record HasRoom (t : Tables) (objects references names works : ℕ) : Type 0 where
+  pub in_objects : object_rooms.HasRoom t.objects objects references names
+  pub threads_fit : 1 ≤ call_rooms.thread_room t.calls
+  pub frames_fit : 1 ≤ call_rooms.frame_room t.calls
+  pub turns_fit : 1 ≤ call_rooms.turn_room t.calls
+  pub can_follow : CanFollow t (objects + works + 2)

@@ -1,0 +1,93 @@
+//! What follows from a change: names, objects, death notifications and notices go or come, and calls are settled.
+
+ghost use Rattle.std.specs.Prelude.{ℕ, ◌≡◌, ◌+◌, ◌≤◌};
+ghost use Rattle.bd_space.specs.Space.{Space};
+ghost use Rattle.bd_space.specs.Names.{names_go};
+ghost use Rattle.bd_space.specs.References.{objects_go};
+ghost use Rattle.bd_space.specs.Notices.{deaths_go, work_goes, with_notice, notify, follow};
+ghost use Rattle.bd_space.specs.declared.space.TodoList.TheVariants.{OfProcess};
+ghost use Rattle.bd_space.specs.Settle.{settle};
+ghost use Rattle.bd_space.specs.Outcomes.{completed};
+ghost use Rattle.bd_objects.specs.Room.{object_count};
+ghost use Rattle.bd_calls.specs.Room.{work_room, frame_count};
+ghost use Rattle.bd_engine.specs.Stands.{StandsAt, Within, Takes, CanFollow};
+
+use crate::tables::Tables;
+use bd_space::{Object, TodoList};
+
+impl Tables {
+    // Names go with the references that they rest on, objects that nothing keeps, and death notifications with their names.
+    fn shed(&mut self)
+        ensures stands { (s : Space) → Within self.old s → Within self.new (deaths_go (objects_go (names_go s))) }
+        ensures takes { Takes self.old self.new 0 0 0 0 }
+    {
+        self.objects.names_go();
+        self.objects.objects_go(self.processes.as_slice());
+        self.objects.deaths_go();
+    }
+
+    // Work items go of which nothing is left to say.
+    fn work_goes(&mut self)
+        ensures stands { (s : Space) → Within self.old s → Within self.new (work_goes s) }
+        ensures takes { Takes self.old self.new 0 0 0 0 }
+    {
+        let objects = &self.objects;
+        let processes = self.processes.as_slice();
+        self.calls.retain_work(|kind| objects.still_due(processes, &kind));
+    }
+
+    // The notice that is missing of this object is made on its owner's list.
+    fn notify_one(&mut self, x: &Object)
+        requires { 1 ≤ work_room self.old.calls }
+        ensures stands { (n : ℕ) (s : Space) → StandsAt n self.old s → StandsAt n self.new
+            (record s { todo = with_notice s.steps s.processes s.references (OfProcess x.now.owner) s.todo x.now }) }
+        ensures takes { Takes self.old self.new 0 0 0 1 }
+    {
+        let wanted = self.objects.wants_notice(self.processes.as_slice(), x);
+        let list = TodoList::OfProcess(x.owner);
+        self.calls.add_notice(self.steps, list, x.id, wanted);
+    }
+
+    // Each notice that is missing is made on its owner's list.
+    fn notify(&mut self)
+        requires { object_count self.old.objects ≤ work_room self.old.calls }
+        ensures stands { (s : Space) → Within self.old s → Within self.new (notify s) }
+        ensures takes { Takes self.old self.new 0 0 0 (object_count self.old.objects) }
+    {
+        for k in 0..self.objects.object_count() {
+            if let Some(x) = self.objects.object_at(k) {
+                self.notify_one(&x);
+            }
+        }
+    }
+
+    /// Names, objects, death notifications and notices follow from a change.
+    pub(crate) fn follow(&mut self)
+        requires { object_count self.old.objects ≤ work_room self.old.calls }
+        ensures stands { (s : Space) → Within self.old s → Within self.new (follow s) }
+        ensures takes { Takes self.old self.new 0 0 0 (object_count self.old.objects) }
+    {
+        self.shed();
+        self.work_goes();
+        self.notify();
+    }
+
+    /// Abandoned calls close.
+    pub(crate) fn settle(&mut self)
+        requires { frame_count self.old.calls ≤ work_room self.old.calls }
+        ensures stands { (s : Space) → Within self.old s → Within self.new (settle s) }
+        ensures takes { Takes self.old self.new 0 0 0 (frame_count self.old.calls) }
+    {
+        self.calls.settle(self.steps);
+    }
+
+    /// All that follows from an accepted command's change.
+    pub(crate) fn complete(&mut self)
+        requires { CanFollow self.old 0 }
+        ensures stands { (s : Space) → Within self.old s → Within self.new (completed s) }
+    {
+        self.calls.ripen(self.steps);
+        self.follow();
+        self.settle();
+    }
+}

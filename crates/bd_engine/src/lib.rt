@@ -1,0 +1,10 @@
+//! The step of the object space, over the three tables, and the run of a request.
+#![tactic(auto)]
+
+mod following;
+mod opening;
+mod seats;
+mod tables;
+mod why;
+
+pub use why::Why;

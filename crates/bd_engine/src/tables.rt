@@ -1,0 +1,72 @@
+//! The tables that a space is kept in, and room in them.
+
+ghost use Rattle.std.specs.Prelude.{◌≡◌, ◌+◌, ◌<◌, ◌≤◌, IfOk, OnOk};
+
+use bd_buffers::Windows;
+use bd_calls::CallTable;
+use bd_objects::ObjectTable;
+use bd_space::{ObjectId, Process};
+use std::alloc::{AllocError, Global};
+
+/// The tables of an engine.
+#[derive(Drop)]
+pub(crate) struct Tables {
+    /// How many steps there were: the place of the next.
+    pub(crate) steps: u32,
+    pub(crate) processes: Vec<Process>,
+    pub(crate) manager: Option<ObjectId>,
+    pub(crate) objects: ObjectTable,
+    pub(crate) calls: CallTable,
+    pub(crate) windows: Windows,
+    pub(crate) alloc: Global,
+}
+
+impl Tables {
+    ghost use Rattle.bd_space.specs.Space.{Space, opening};
+    ghost use Rattle.bd_objects.specs.Room as object_rooms;
+    ghost use Rattle.bd_engine.specs.Stands.{Before, HasRoom};
+    ghost use Rattle.bd_engine.specs.Meets.{IsKept};
+
+    /// The tables of a new engine. Takes no memory.
+    pub(crate) fn new(alloc: Global) -> Tables
+        ensures { Before result opening }
+    {
+        Tables {
+            steps: 0,
+            processes: Vec::new(alloc),
+            manager: None,
+            objects: ObjectTable::new(alloc),
+            calls: CallTable::new(alloc),
+            windows: Windows::new(alloc),
+            alloc,
+        }
+    }
+
+    // The work items that may follow from a step that adds so many objects and makes so many work items.
+    fn works_to_reserve(&self, objects: usize, works: usize) -> Result<usize, AllocError>
+        ensures { IfOk result (λ n. n ≡ object_rooms.object_count self.now.objects + objects + works) }
+    {
+        self.objects
+            .object_count()
+            .checked_add(objects)
+            .and_then(|n| n.checked_add(works))
+            .ok_or(AllocError)
+    }
+
+    /// Makes room for a step: for so many objects, references, names and work items, and for all that may follow. Changes
+    /// nothing else, also where memory is refused.
+    pub(crate) fn reserve(
+        &mut self,
+        objects: usize,
+        references: usize,
+        names: usize,
+        works: usize,
+    ) -> Result<(), AllocError>
+        ensures stands { IsKept self.old self.new }
+        ensures room { OnOk result (HasRoom self.new objects references names works) }
+    {
+        let more = self.works_to_reserve(objects, works)?;
+        self.objects.reserve(objects, references, names)?;
+        self.calls.reserve(more)
+    }
+}

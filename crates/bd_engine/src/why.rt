@@ -1,0 +1,10 @@
+//! Why a step or a run was refused.
+
+/// Why a step or a run was refused. The engine is then as it was.
+#[derive(Clone, Copy, Debug, PartialEq, Eq)]
+pub enum Why {
+    /// F14: memory was refused.
+    NoMemory,
+    /// F13: the history is full, or a number above 4294967294 would be needed.
+    HistoryFull,
+}
