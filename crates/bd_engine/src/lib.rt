@@ -3,7 +3,9 @@
 
 mod following;
 mod opening;
+mod pending;
 mod seats;
+mod step;
 mod tables;
 mod why;
 
