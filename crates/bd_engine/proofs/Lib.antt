@@ -1,3 +1,4 @@
 pub mod Standing
 pub mod Notifying
 pub mod Meeting
+pub mod Seating
