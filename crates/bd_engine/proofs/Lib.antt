@@ -2,3 +2,8 @@ pub mod Standing
 pub mod Notifying
 pub mod Meeting
 pub mod Seating
+pub mod Places
+pub mod Keeping
+pub mod Commands
+pub mod Courses
+pub mod Runs

@@ -8,6 +8,9 @@ use Rattle.bd_space.specs.Space.{Space}
 use Rattle.bd_space.specs.Names.{has_number_past_limit}
 use Rattle.bd_space.specs.Outcomes.{Outcome, noted, refused}
 use Rattle.bd_engine.specs.declared.tables.Tables.{Tables}
+use Rattle.bd_engine.specs.declared.plain.Plain.{Plain}
+use Rattle.bd_engine.specs.declared.plain.Twice.{Twice}
+use Rattle.bd_engine.specs.Plain.{answer_of, both}
 use Rattle.bd_engine.specs.Stands.{Before, Within}
 use Rattle.bd_engine.specs.declared.why.Why.{Why}
 use Rattle.bd_engine.specs.Refusals.{FullOnly}
@@ -43,10 +46,28 @@ module _ (old : Tables) (P Q : Space → Type 0) (f g : Space → Outcome) (same
     stands = λ s h q. let k = same s h q in subst (λ (o : Outcome). Within new o.space) (sym k.1) (m.stands s h k.0);
   }
 
-  pub as-ok : (new : Tables) (r : Result StepAnswer Why) → IfOk r (Meets old new P f) → IfOk r (Meets old new Q g)
-  as-ok new (Ok answer) m = as_meets new answer m
-  as-ok new (Err why) m = m
+  pub as-ok : {A : Type 0} (of : A → StepAnswer) (new : Tables) (r : Result A Why) → IfOk r (λ x. Meets old new P f (of x)) → IfOk r (λ x. Meets old new Q g (of x))
+  as-ok of new (Ok x) m = as_meets new (of x) m
+  as-ok of new (Err why) m = m
 
-  pub as-full : (r : Result StepAnswer Why) → IfErr r (IsRefused old P f) → IfErr r (IsRefused old Q g)
-  as-full (Ok answer) m = m
+  pub as-full : {A : Type 0} (r : Result A Why) → IfErr r (IsRefused old P f) → IfErr r (IsRefused old Q g)
+  as-full (Ok x) m = m
   as-full (Err why) m = λ s h q. let k = same s h q in subst (λ (o : Outcome). FullOnly why (has_number_past_limit o.space.names ≡ true)) (sym k.1) (m s h k.0)
+
+-- ---- answers twice
+
+pub twice-ok : (old new : Tables) (P : Space → Type 0) (f : Space → Outcome) (r : Result Plain Why) (t : Result Twice Why) → t ≡ both r
+    → IfOk r (λ x. Meets old new P f (answer_of x)) → IfOk t (λ x. Meets old new P f x.answer)
+twice-ok old new P f r t e m = subst (λ y. IfOk y (λ x. Meets old new P f x.answer)) (sym e) (go r m)
+  where
+    go : (r : Result Plain Why) → IfOk r (λ x. Meets old new P f (answer_of x)) → IfOk (both r) (λ x. Meets old new P f x.answer)
+    go (Ok x) m = m
+    go (Err why) m = m
+
+pub twice-full : (old : Tables) (P : Space → Type 0) (f : Space → Outcome) (r : Result Plain Why) (t : Result Twice Why) → t ≡ both r
+    → IfErr r (IsRefused old P f) → IfErr t (IsRefused old P f)
+twice-full old P f r t e m = subst (λ y. IfErr y (IsRefused old P f)) (sym e) (go r m)
+  where
+    go : (r : Result Plain Why) → IfErr r (IsRefused old P f) → IfErr (both r) (IsRefused old P f)
+    go (Ok x) m = m
+    go (Err why) m = m

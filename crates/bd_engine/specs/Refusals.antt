@@ -1,4 +1,7 @@
--- Why a step or a run is refused.
+-- Why an engine, a step or a run is refused.
+use Rattle.std.specs.Prelude.{ℕ, ◌≤◌}
+use Rattle.bd_uapi.specs.declared.fault.Fault.{Fault}
+use Rattle.bd_uapi.specs.declared.fault.Fault.TheVariants as fault
 use Rattle.bd_engine.specs.declared.why.Why.{Why}
 use Rattle.bd_engine.specs.declared.why.Why.TheVariants.{NoMemory, HistoryFull}
 
@@ -6,3 +9,13 @@ use Rattle.bd_engine.specs.declared.why.Why.TheVariants.{NoMemory, HistoryFull}
 abbrev pub FullOnly : Why → Type 0 → Type 0
 FullOnly NoMemory P = Unit {0}
 FullOnly HistoryFull P = P
+
+-- a driver has 1 to 16 seats
+abbrev pub IsSeats : ℕ → Type 0
+IsSeats n = (1 ≤ n) × (n ≤ 16)
+
+-- the fault is that of the number of seats, and that is outside, or memory was refused
+abbrev pub IsSeatFault : ℕ → Fault → Type 0
+IsSeatFault n fault.SeatCount = IsSeats n → ⊥
+IsSeatFault n fault.NoMemory = IsSeats n
+IsSeatFault n _ = ⊥

@@ -7,12 +7,14 @@ ghost use Rattle.bd_objects.specs.Room.{object_room, reference_room};
 ghost use Rattle.bd_calls.specs.Room.{thread_room};
 ghost use Rattle.bd_buffers.specs.WindowsStand.{Stands, window_room};
 ghost use Rattle.bd_engine.specs.Stands.{StandsAt, Before, Within};
+ghost use Rattle.bd_engine.specs.Plain.{answer_of};
 ghost use Rattle.bd_engine.specs.Meets.{Meets, IsAny, IsBy, IsKept, IsRefused};
 
+use crate::plain::Plain;
 use crate::tables::Tables;
 use crate::why::Why;
 use bd_buffers::Window;
-use bd_space::{Actor, ObjectId, Process, StepAnswer};
+use bd_space::{Actor, ObjectId, Process};
 use bd_uapi::Fault;
 use std::alloc::AllocError;
 
@@ -88,39 +90,39 @@ impl Tables {
     }
 
     /// The step that opens a process with one thread.
-    pub(crate) fn open(&mut self, seat: u32, pid: u32, euid: u32, size: u32) -> Result<StepAnswer, Why>
-        ensures ok { IfOk result (Meets self.old self.new IsAny (λ s. steps.open_step s seat pid euid size)) }
+    pub(crate) fn open(&mut self, seat: u32, pid: u32, euid: u32, size: u32) -> Result<Plain, Why>
+        ensures ok { IfOk result (λ x. Meets self.old self.new IsAny (λ s. steps.open_step s seat pid euid size) (answer_of x)) }
         ensures err { OnErr result (IsKept self.old self.new) }
         ensures full { IfErr result (IsRefused self.old IsAny (λ s. steps.open_step s seat pid euid size)) }
     {
         if let Some(fault) = self.open_fault(seat, pid, size) {
-            return Ok(StepAnswer::Refused(fault));
+            return Ok(Plain::Refused(fault));
         }
         let Ok(window) = self.reserve_process(size) else {
             return Err(Why::NoMemory);
         };
         self.with_process(pid, euid, size, window);
         self.with_thread(seat, self.steps);
-        Ok(StepAnswer::Opened)
+        Ok(Plain::Opened)
     }
 
     /// The step that makes the seat a further thread of a live process.
-    pub(crate) fn attach(&mut self, seat: u32, pid: u32) -> Result<StepAnswer, Why>
-        ensures ok { IfOk result (Meets self.old self.new IsAny (λ s. steps.attach_step s seat pid)) }
+    pub(crate) fn attach(&mut self, seat: u32, pid: u32) -> Result<Plain, Why>
+        ensures ok { IfOk result (λ x. Meets self.old self.new IsAny (λ s. steps.attach_step s seat pid) (answer_of x)) }
         ensures err { OnErr result (IsKept self.old self.new) }
         ensures full { IfErr result (IsRefused self.old IsAny (λ s. steps.attach_step s seat pid)) }
     {
         if self.calls.thread(seat).is_some() {
-            return Ok(StepAnswer::Refused(Fault::HasProcess));
+            return Ok(Plain::Refused(Fault::HasProcess));
         }
         let Some(process) = self.process_with_pid(pid) else {
-            return Ok(StepAnswer::Refused(Fault::NoSuchPid));
+            return Ok(Plain::Refused(Fault::NoSuchPid));
         };
         if self.reserve(0, 0, 0, 0).is_err() {
             return Err(Why::NoMemory);
         }
         self.with_thread(seat, process.made);
-        Ok(StepAnswer::Opened)
+        Ok(Plain::Opened)
     }
 
     // Whether there is a context manager, or the process has an object with ptr 0.
@@ -144,18 +146,18 @@ impl Tables {
     }
 
     /// The step that makes the process the context manager.
-    pub(crate) fn set_manager(&mut self, a: Actor) -> Result<StepAnswer, Why>
-        ensures ok { IfOk result (Meets self.old self.new (IsBy a) (λ s. steps.manager_step s a)) }
+    pub(crate) fn set_manager(&mut self, a: Actor) -> Result<Plain, Why>
+        ensures ok { IfOk result (λ x. Meets self.old self.new (IsBy a) (λ s. steps.manager_step s a) (answer_of x)) }
         ensures err { OnErr result (IsKept self.old self.new) }
         ensures full { IfErr result (IsRefused self.old (IsBy a) (λ s. steps.manager_step s a)) }
     {
         if self.is_manager_busy(a.process.made) {
-            return Ok(StepAnswer::Refused(Fault::ManagerBusy));
+            return Ok(Plain::Refused(Fault::ManagerBusy));
         }
         if self.reserve(1, 1, 0, 0).is_err() {
             return Err(Why::NoMemory);
         }
         self.with_manager(a.process.made);
-        Ok(StepAnswer::Set)
+        Ok(Plain::Set)
     }
 }

@@ -5,12 +5,24 @@ ghost use Rattle.bd_space.specs.Space.{Space};
 ghost use Rattle.bd_space.specs.Seats.{actor};
 ghost use Rattle.bd_space.specs.Steps.{change};
 ghost use Rattle.bd_space.specs.Commands.{command_step};
+ghost use Rattle.bd_engine.specs.Plain.{answer_of, both};
 ghost use Rattle.bd_engine.specs.Meets.{Meets, IsAny, IsBy, IsNobody, IsKept, IsRefused};
 
+use crate::plain::{Plain, Twice};
 use crate::tables::Tables;
 use crate::why::Why;
-use bd_space::{Actor, Parcel, Step, StepAnswer};
+use bd_space::{Actor, Parcel, Step};
 use bd_uapi::{Command, Fault};
+
+// The answer, twice, or the refusal.
+fn twice(taken: Result<Plain, Why>) -> Result<Twice, Why>
+    ensures { result ≡ both taken }
+{
+    match taken {
+        Ok(plain) => Ok(plain.twice()),
+        Err(why) => Err(why),
+    }
+}
 
 impl Tables {
     // The step of a command.
@@ -20,8 +32,8 @@ impl Tables {
         a: Actor,
         command: &Command,
         parcel: &Option<Parcel>,
-    ) -> Result<StepAnswer, Why>
-        ensures ok { IfOk result (Meets self.old self.new (IsBy a) (λ s. command_step s a command.now parcel.now)) }
+    ) -> Result<Plain, Why>
+        ensures ok { IfOk result (λ x. Meets self.old self.new (IsBy a) (λ s. command_step s a command.now parcel.now) (answer_of x)) }
         ensures err { OnErr result (IsKept self.old self.new) }
         ensures full { IfErr result (IsRefused self.old (IsBy a) (λ s. command_step s a command.now parcel.now)) }
     {
@@ -44,44 +56,46 @@ impl Tables {
     }
 
     // The step of a live thread.
-    fn change_by(&mut self, a: Actor, step: &Step) -> Result<StepAnswer, Why>
-        ensures ok { IfOk result (Meets self.old self.new (IsBy a) (λ s. change s a.thread.seat step.now)) }
+    fn change_by(&mut self, a: Actor, step: &Step) -> Result<Twice, Why>
+        ensures ok { IfOk result (λ x. Meets self.old self.new (IsBy a) (λ s. change s a.thread.seat step.now) x.answer) }
+        ensures twice { IfOk result (λ x. x.again ≡ x.answer) }
         ensures err { OnErr result (IsKept self.old self.new) }
         ensures full { IfErr result (IsRefused self.old (IsBy a) (λ s. change s a.thread.seat step.now)) }
     {
         match step {
-            Step::Open { pid, euid, window } => self.open(a.thread.seat, *pid, *euid, *window),
-            Step::Attach { pid } => self.attach(a.thread.seat, *pid),
-            Step::SetManager => self.set_manager(a),
-            Step::Command { command, parcel } => self.command(a, command, parcel),
+            Step::Open { pid, euid, window } => twice(self.open(a.thread.seat, *pid, *euid, *window)),
+            Step::Attach { pid } => twice(self.attach(a.thread.seat, *pid)),
+            Step::SetManager => twice(self.set_manager(a)),
+            Step::Command { command, parcel } => twice(self.command(a, command, parcel)),
             Step::Read { limit } => self.read(a, *limit),
-            Step::ExitThread => self.exit_thread(a),
-            Step::ExitProcess => self.exit_process(a),
+            Step::ExitThread => twice(self.exit_thread(a)),
+            Step::ExitProcess => twice(self.exit_process(a)),
         }
     }
 
     // The step of a seat without a live thread.
-    fn change_alone(&mut self, seat: u32, step: &Step) -> Result<StepAnswer, Why>
-        ensures ok { IfOk result (Meets self.old self.new (IsNobody seat) (λ s. change s seat step.now)) }
+    fn change_alone(&mut self, seat: u32, step: &Step) -> Result<Plain, Why>
+        ensures ok { IfOk result (λ x. Meets self.old self.new (IsNobody seat) (λ s. change s seat step.now) (answer_of x)) }
         ensures err { OnErr result (IsKept self.old self.new) }
         ensures full { IfErr result (IsRefused self.old (IsNobody seat) (λ s. change s seat step.now)) }
     {
         match step {
             Step::Open { pid, euid, window } => self.open(seat, *pid, *euid, *window),
             Step::Attach { pid } => self.attach(seat, *pid),
-            _ => Ok(StepAnswer::Refused(Fault::NoProcess)),
+            _ => Ok(Plain::Refused(Fault::NoProcess)),
         }
     }
 
     /// The step of a seat.
-    pub(crate) fn change(&mut self, seat: u32, step: &Step) -> Result<StepAnswer, Why>
-        ensures ok { IfOk result (Meets self.old self.new IsAny (λ s. change s seat step.now)) }
+    pub(crate) fn change(&mut self, seat: u32, step: &Step) -> Result<Twice, Why>
+        ensures ok { IfOk result (λ x. Meets self.old self.new IsAny (λ s. change s seat step.now) x.answer) }
+        ensures twice { IfOk result (λ x. x.again ≡ x.answer) }
         ensures err { OnErr result (IsKept self.old self.new) }
         ensures full { IfErr result (IsRefused self.old IsAny (λ s. change s seat step.now)) }
     {
         match self.actor(seat) {
             Some(a) => self.change_by(a, step),
-            None => self.change_alone(seat, step),
+            None => twice(self.change_alone(seat, step)),
         }
     }
 }

@@ -1,0 +1,109 @@
+-- How a write goes on: with the next command, or not at all.
+use Rattle.std.proofs.Common.{◌≡◌, ◌==◌, ℕ, zero, suc, ◌+◌, ◌-◌, ◌<◌, ◌≤◌, List, [], ◌∷◌, length, length-drop, take, drop, Some, Result, Ok, Err, true, cond, refl, sym, ap, subst, ◌∙◌, arith, add-zero}
+use Rattle.std.specs.Prelude.{MatchResult}
+use Rattle.std.proofs.Math.Dec.{eqb-suc-zero}
+use Rattle.std.proofs.Math.Seq.{take-length}
+use Rattle.std.proofs.lemmas.List.{append-nil}
+use Rattle.bd_uapi.specs.declared.command.Command.{Command}
+use Rattle.bd_uapi.specs.declared.fault.Note.{Note}
+use Rattle.bd_uapi.specs.declared.fault.Fault.{Fault}
+use Rattle.bd_codec.specs.Reading.{command_at}
+use Rattle.bd_codec.specs.Spelling.{command_bytes, IsCommand, Found}
+use Rattle.bd_space.specs.declared.step.StepAnswer.{StepAnswer}
+use Rattle.bd_space.specs.declared.step.StepAnswer.TheVariants as gave
+use Rattle.bd_space.specs.declared.step.Stop.TheVariants as stop
+use Rattle.bd_space.specs.declared.step.Answer.{Answer}
+use Rattle.bd_space.specs.declared.step.Request.TheVariants.{Write}
+use Rattle.bd_space.specs.Steps.{step}
+use Rattle.bd_space.specs.Histories.{History, space_after, extended, is_at_limit}
+use Rattle.bd_space.specs.Runs.{step_of_command, HasRun, IsAtLimit}
+use Rattle.bd_engine.specs.declared.why.Why.{Why}
+use Rattle.bd_engine.specs.declared.writing.Progress.{Progress}
+use Rattle.bd_engine.specs.declared.writing.Course.{Course}
+use Rattle.bd_engine.specs.declared.writing.Course.TheVariants.{GoesOn, Ends}
+use Rattle.bd_engine.specs.Refusals.{FullOnly}
+use Rattle.bd_engine.specs.Writing.{IsSame, GoesTo, IsAfter, IsCutAt, IsProgress, HasCome, IsNext, IsCourse, fault_of, stopped}
+use Rattle.bd_engine.proofs.Commands.{is_at_limit-first, cut_short, ended, went_on}
+
+pub by_count : {A : Type 0} (P : A → Type 0) (n : ℕ) (a b : A) → (n ≡ 0 → P a) → (0 < n → P b) → P (cond (n == 0) a b)
+by_count P zero a b first later = first refl
+by_count P (suc n) a b first later = rw eqb-suc-zero (later (omega arith))
+
+HasCome-same : (old now : History) (seat : ℕ) (stream area : List ℕ) (p q : Progress) → IsSame p q → HasCome old now seat stream area p → HasCome old now seat stream area q
+HasCome-same old now seat stream area p q is h = rw (is.consumed, is.count, is.notes) h
+
+goes : (old new : History) (seat : ℕ) (stream area : List ℕ) (r : Course) (consumed count : ℕ) (notes : List (ℕ × Note)) → GoesTo r consumed count notes
+    → IsProgress old new seat stream area consumed count notes → IsCourse old new seat stream area consumed r
+goes old new seat stream area (GoesOn p) consumed count notes is h = (rw (is.consumed_is, is.count_is, is.notes_are) h, is.consumed_is)
+goes old new seat stream area (Ends answer) consumed count notes is h = absurd is
+
+module _ (old now : History) (seat : ℕ) (stream area : List ℕ) (p : Progress) (come : HasCome old now seat stream area p) (c : Command) (size : ℕ) (is_next : IsNext stream p.consumed c size) where
+  -- its step wasn't taken
+  cut : (why : Why) (r : Result Course Why) → IsCutAt p why r → FullOnly why (is_at_limit now seat (Some (step_of_command area c)) ≡ true)
+      → MatchResult r (λ course. IsCourse old now seat stream area (p.consumed + size) course) (λ w. (now ≡ old) × FullOnly w (IsAtLimit old seat (Write stream area)))
+  cut why r is full =
+      let P : Result Course Why → Type 0 = λ r. MatchResult r (λ course. IsCourse old now seat stream area (p.consumed + size) course) (λ w. (now ≡ old) × FullOnly w (IsAtLimit old seat (Write stream area))) in
+      subst P (sym is) (by_count P p.count (Err why) (Ok (Ends (stopped p 0 (fault_of why))))
+      (λ none. is_at_limit-first old now seat stream area p.consumed p.count p.notes.items come c size is_next none why full)
+      (λ some. rw add-zero (cut_short old now seat stream area p.consumed p.count p.notes.items come c size is_next some why full)))
+
+  module _ (new : History) where
+    on : (a : StepAnswer) (r : Course) → IsAfter p a size r → a ≡ (step (space_after now) seat (step_of_command area c)).answer → new ≡ extended now seat (step_of_command area c) a
+        → IsCourse old new seat stream area (p.consumed + size) r
+    on (gave.Stopped x) r after is grown =
+        subst (IsCourse old new seat stream area (p.consumed + size)) (sym after)
+        (ended old now seat stream area p.consumed p.count p.notes.items come c size is_next new (gave.Stopped x) is grown (stop.Cause x) (λ w. refl) _ (λ h. refl) (λ h. refl))
+    on (gave.Refused x) r after is grown =
+        let P : Answer → Type 0 = λ answer. HasRun old new seat (Write stream area) answer (length old.entries) (length new.entries) in
+        let last = ended old now seat stream area p.consumed p.count p.notes.items come c size is_next new (gave.Refused x) is grown (stop.Fault x) (λ w. refl) in
+        subst (IsCourse old new seat stream area (p.consumed + size)) (sym after)
+        (by_count P p.count _ (stopped p size x) (λ none. last _ (λ h. refl) (λ h. absurd (omega (arith, come.entries_counted)))) (λ some. last _ (λ h. absurd (omega (arith, come.entries_counted))) (λ h. refl)))
+    on (gave.Noted n) r after is grown =
+        goes old new seat stream area r _ _ _ after
+        (went_on old now seat stream area p.consumed p.count p.notes.items come c size is_next new (gave.Noted n) is grown ((p.count, n) ∷ []) (λ w. refl) (λ w. refl))
+    on a r after is grown =
+        goes old new seat stream area r _ _ _ after
+        (rw (← append-nil p.notes.items) (went_on old now seat stream area p.consumed p.count p.notes.items come c size is_next new a is grown [] (λ w. refl) (λ w. refl)))
+
+-- ---- the command that was read
+
+no-command : (bytes : List ℕ) (c : Command) (n : ℕ) → take n bytes ≡ command_bytes c → 0 < n
+no-command bytes c zero e = absurd (cc)
+no-command bytes c (suc n) e = omega arith
+
+-- the rest of the stream, as it is sliced
+rest_is : (stream : List ℕ) (at : ℕ) → take (length stream - at) (drop at stream) ≡ drop at stream
+rest_is stream at = ap (λ n. take n (drop at stream)) (sym (length-drop at stream)) ∙ take-length (drop at stream)
+
+pub next-read : (stream : List ℕ) (at : ℕ) (c : Command) (size : ℕ) → at < length stream
+    → Found command_bytes IsCommand (take (length stream - at) (drop at stream)) c size
+    → command_at (take (length stream - at) (drop at stream)) ≡ Ok (c, size) → IsNext stream at c size
+next-read stream at c size within found read =
+    let rest = rest_is stream at in
+    let enough : size ≤ length (drop at stream) = rw (← rest) found.within in
+    record {
+      read = ap command_at (sym rest) ∙ read;
+      some = no-command (take (length stream - at) (drop at stream)) c size found.spelled;
+      fits = omega (arith, enough, length-drop at stream);
+    }
+
+pub next-fault : (stream : List ℕ) (at : ℕ) (x : Fault) → command_at (take (length stream - at) (drop at stream)) ≡ Err x → command_at (drop at stream) ≡ Err x
+next-fault stream at x e = ap command_at (sym (rest_is stream at)) ∙ e
+
+-- ---- the same, with room made for a note
+
+pub course-cut : (old now new : History) (seat : ℕ) (stream area : List ℕ) (p q : Progress) (c : Command) (size : ℕ) (why : Why) (r : Result Course Why)
+    → HasCome old now seat stream area p → IsNext stream p.consumed c size → IsSame p q → new ≡ now → IsCutAt q why r
+    → FullOnly why (is_at_limit now seat (Some (step_of_command area c)) ≡ true)
+    → MatchResult r (λ course. IsCourse old new seat stream area (p.consumed + size) course) (λ w. (new ≡ old) × FullOnly w (IsAtLimit old seat (Write stream area)))
+course-cut old now new seat stream area p q c size why r come is_next same kept is full =
+    let next : IsNext stream q.consumed c size = rw same.consumed is_next in
+    rw (kept, ← same.consumed) (cut old now seat stream area q (HasCome-same old now seat stream area p q same come) c size next why r is full)
+
+pub course-on : (old now new : History) (seat : ℕ) (stream area : List ℕ) (p q : Progress) (c : Command) (size : ℕ) (a : StepAnswer) (r : Course)
+    → HasCome old now seat stream area p → IsNext stream p.consumed c size → IsSame p q → IsAfter q a size r
+    → a ≡ (step (space_after now) seat (step_of_command area c)).answer → new ≡ extended now seat (step_of_command area c) a
+    → IsCourse old new seat stream area (p.consumed + size) r
+course-on old now new seat stream area p q c size a r come is_next same after is grown =
+    let next : IsNext stream q.consumed c size = rw same.consumed is_next in
+    rw (← same.consumed) (on old now seat stream area q (HasCome-same old now seat stream area p q same come) c size next new a r after is grown)

@@ -1,0 +1,100 @@
+-- What an engine keeps, from step to step.
+use Rattle.std.proofs.Common.{◌≡◌, ℕ, suc, ◌+◌, ◌<◌, ◌≤◌, Bool, true, false, List, [], ◌∷◌, ◌++◌, length, refl, ap, sym, subst, ◌∙◌, arith, length-append}
+use Rattle.std.specs.Prelude.{nat_lt, nat_le, ◌&&◌, ◌||◌, Some}
+use Rattle.std.specs.List.{list_all}
+use Rattle.std.proofs.lemmas.List.Folds.{list_all-append}
+use Rattle.std.proofs.lemmas.Bool.{lt-ltb, le-leb}
+use Rattle.bd_space.specs.declared.step.Step.{Step}
+use Rattle.bd_space.specs.declared.step.StepAnswer.{StepAnswer}
+use Rattle.bd_space.specs.declared.step.Entry.{Entry}
+use Rattle.bd_space.specs.Space.{Space, opening}
+use Rattle.bd_space.specs.Names.{has_number_past_limit}
+use Rattle.bd_space.specs.Steps.{change, step, counted}
+use Rattle.bd_space.specs.Histories.{History, IsHistory, Follows, EntryFollows, next, after, space_after, extended, is_at_limit}
+use Rattle.bd_buffers.specs.WindowsStand.{WindowsOf}
+use Rattle.bd_engine.specs.declared.tables.Tables.{Tables}
+use Rattle.bd_engine.specs.Stands.{StandsAt, Before, Within}
+use Rattle.bd_engine.specs.Keeps.{Keeps, history_of}
+use Rattle.bd_engine.proofs.Places.{change-steps}
+
+pub keeps-new : (seats : ℕ) (t : Tables) → 1 ≤ seats → seats ≤ 16 → Before t opening → Keeps (history_of seats []) t
+unfolding space_after
+keeps-new seats t some few stands = record {
+  some = some;
+  few = few;
+  lawful = record { short = omega arith; seats = refl; follows = tt };
+  stands = stands;
+}
+
+-- ---- one entry more
+
+after-more : (s : Space) (es : List Entry) (e : Entry) → after s (es ++ e ∷ []) ≡ next (after s es) e
+after-more s [] e = refl
+after-more s (x ∷ xs) e = after-more (next s x) xs e
+
+follows-more : (s : Space) (es : List Entry) (e : Entry) → Follows s es → EntryFollows (after s es) e → Follows s (es ++ e ∷ [])
+follows-more s [] e f k = (k, tt)
+follows-more s (x ∷ xs) e f k = (f.0, follows-more (next s x) xs e f.1 k)
+
+-- ---- the place of the next step
+
+after-steps : (s : Space) (es : List Entry) → (after s es).steps ≡ s.steps + length es
+unfolding counted
+after-steps s [] = omega arith
+after-steps s (e ∷ es) =
+    let one = change-steps s e.seat e.step in
+    let all = after-steps (next s e) es in
+    omega (arith, one, all)
+
+pub place : (h : History) → (space_after h).steps ≡ length h.entries
+unfolding space_after
+place h = let zero_more : 0 + length h.entries ≡ length h.entries = omega arith in after-steps opening h.entries ∙ zero_more
+
+-- ---- after a step
+
+counted-stands : (t : Tables) (z : Space) → Within t z → Before (record t { steps = t.steps + 1 }) (counted z)
+unfolding counted
+counted-stands t z h =
+    let more : z.steps + 1 ≡ suc z.steps = omega arith in
+    record {
+      steps_are = sym more ∙ ap (λ n. n + 1) h.steps_are;
+      processes_are = h.processes_are;
+      manager_is = h.manager_is;
+      objects_stand = h.objects_stand;
+      calls_stand = h.calls_stand;
+      windows_stand = subst (λ n. WindowsOf t.windows n z.processes z.buffers) more h.windows_stand;
+    }
+
+pub keeps-more : (h : History) (old new : Tables) (seat : ℕ) (x : Step) (answer : StepAnswer) → Keeps h old → seat < h.seats → length h.entries < 4294967295
+    → answer ≡ (change (space_after h) seat x).answer → Within new (change (space_after h) seat x).space
+    → Keeps (extended h seat x answer) (record new { steps = new.steps + 1 })
+unfolding space_after counted change
+keeps-more h old new seat x answer k seated short answered stands =
+    let s = space_after h in
+    let z = (change s seat x).space in
+    let e : Entry = record { seat = seat; step = x; answer = answer } in
+    let lt = lt-ltb seat h.seats seated in
+    record {
+      some = k.some;
+      few = k.few;
+      lawful = record {
+        short = omega (arith, length-append h.entries (e ∷ []));
+        seats = list_all-append (λ (y : Entry). nat_lt y.seat h.seats) h.entries (e ∷ []) ∙ ap (λ b. b && (nat_lt seat h.seats && true)) k.lawful.seats ∙ ap (λ b. b && true) lt;
+        follows = follows-more opening h.entries e k.lawful.follows (record { answer = sym answered; numbers = stands.objects_stand.numbers_fit });
+      };
+      stands = subst (Before (record new { steps = new.steps + 1 })) (sym (after-more opening h.entries e)) (counted-stands new z stands);
+    }
+
+-- ---- a step that is refused
+
+pub full-at-length : (h : History) (seat : ℕ) (x : Step) → 4294967295 ≤ length h.entries → is_at_limit h seat (Some x) ≡ true
+unfolding is_at_limit
+full-at-length h seat x le = ap (λ b. b || has_number_past_limit (step (space_after h) seat x).space.names) (le-leb 4294967295 (length h.entries) le)
+
+pub full-by-number : (h : History) (seat : ℕ) (x : Step) → has_number_past_limit (change (space_after h) seat x).space.names ≡ true → is_at_limit h seat (Some x) ≡ true
+unfolding is_at_limit counted
+full-by-number h seat x e = ap (λ b. nat_le 4294967295 (length h.entries) || b) e ∙ or-true (nat_le 4294967295 (length h.entries))
+  where
+    or-true : (b : Bool) → (b || true) ≡ true
+    or-true true = refl
+    or-true false = refl

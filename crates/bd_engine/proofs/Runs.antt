@@ -1,0 +1,51 @@
+-- A run of one step, and a write of none.
+use Rattle.std.proofs.Common.{◌≡◌, ℕ, List, [], ◌∷◌, length, refl, sym, ap, ◌∙◌, inl, ◌<◌, true, ltb}
+use Rattle.std.proofs.lemmas.Bool.{lt-ltb}
+use Rattle.std.proofs.lemmas.List.{append-nil}
+use Rattle.bd_uapi.specs.declared.fault.Fault.TheVariants.{StreamTooLong}
+use Rattle.bd_space.specs.declared.step.Step.{Step}
+use Rattle.bd_space.specs.declared.step.StepAnswer.{StepAnswer}
+use Rattle.bd_space.specs.declared.step.Entry.{Entry}
+use Rattle.bd_space.specs.declared.step.Request.{Request}
+use Rattle.bd_space.specs.declared.step.Request.TheVariants.{Write}
+use Rattle.bd_space.specs.declared.step.Answer.{Answer}
+use Rattle.bd_space.specs.declared.step.Answer.TheVariants.{Refused}
+use Rattle.bd_space.specs.Space.{Space}
+use Rattle.bd_space.specs.Steps.{step}
+use Rattle.bd_space.specs.Histories.{History, space_after, extended}
+use Rattle.bd_space.specs.Runs.{Run, run, single, write, answered, IsRun, HasRun}
+
+pub single-has_run : (old new : History) (seat : ℕ) (x : Step) (a : StepAnswer) (said : Answer) (from to : ℕ) (request : Request)
+    → new ≡ extended old seat x a → a ≡ (step (space_after old) seat x).answer → said ≡ answered a → from ≡ length old.entries → to ≡ length new.entries
+    → ((s : Space) → run s seat request ≡ single s seat x) → HasRun old new seat request said from to
+unfolding IsRun
+single-has_run old new seat x a said from to request grown is said_is starts ends one =
+    let e : Entry = record { seat = seat; step = x; answer = a } in
+    let same : run (space_after old) seat request ≡ record { entries = e ∷ []; answer = answered a } =
+    one (space_after old) ∙ ap (λ b. let r : Run = record { entries = record { seat = seat; step = x; answer = b } ∷ []; answer = answered b } in r) (sym is) in
+    record {
+      seats = ap (λ (h : History). h.seats) grown;
+      run = e ∷ [];
+      grown = ap (λ (h : History). h.entries) grown;
+      by_seat = (refl, tt);
+      is_run = inl (record { all = sym (ap (λ (r : Run). r.entries) same); said = said_is ∙ sym (ap (λ (r : Run). r.answer) same) });
+      starts = starts;
+      ends = ends;
+    }
+
+pub too_long-has_run : (h : History) (seat : ℕ) (stream area : List ℕ) (at : ℕ) → 4096 < length stream → at ≡ length h.entries
+    → HasRun h h seat (Write stream area) (Refused StreamTooLong) at at
+unfolding IsRun run write
+too_long-has_run h seat stream area at long here =
+    let is_long : ltb 4096 (length stream) ≡ true = lt-ltb _ _ long in
+    let none : Run = record { entries = []; answer = Refused StreamTooLong } in
+    let same : write (space_after h) seat stream area ≡ none = rw is_long refl in
+    record {
+      seats = refl;
+      run = [];
+      grown = sym (append-nil h.entries);
+      by_seat = tt;
+      is_run = inl (record { all = sym (ap (λ (r : Run). r.entries) same); said = sym (ap (λ (r : Run). r.answer) same) });
+      starts = here;
+      ends = here;
+    }

@@ -1,0 +1,9 @@
+use Rattle.std.proofs.Common.{◌-◌, length}
+use Rattle.bd_engine.specs.Writing.{HasCome}
+use Rattle.bd_engine.proofs.engine.Engine.run_commands.Given as goal
+
+abbrev pub invariant-commands : goal.invariant-commands
+invariant-commands l = HasCome l.fn.self l.self l.seat l.stream l.area l.progress
+
+abbrev pub decreases-commands : goal.decreases-commands
+decreases-commands l = length l.stream - l.progress.consumed

@@ -1,0 +1,108 @@
+-- How far a write has come, and how it goes on.
+use Rattle.std.specs.Prelude.{ℕ, ◌+◌, ◌≡◌, ◌≤◌, ◌<◌, ◌==◌, List, [], ◌∷◌, ◌++◌, length, drop, Option, Some, Result, Ok, Err, if◌then◌else◌}
+use Rattle.bd_uapi.specs.declared.command.Command.{Command}
+use Rattle.bd_uapi.specs.declared.fault.Note.{Note}
+use Rattle.bd_uapi.specs.declared.fault.Fault.{Fault}
+use Rattle.bd_uapi.specs.declared.fault.Fault.TheVariants as fault
+use Rattle.bd_codec.specs.Reading.{command_at}
+use Rattle.bd_space.specs.declared.step.StepAnswer.{StepAnswer}
+use Rattle.bd_space.specs.declared.step.StepAnswer.TheVariants as gave
+use Rattle.bd_space.specs.declared.step.Entry.{Entry}
+use Rattle.bd_space.specs.declared.step.Stop.TheVariants as stop
+use Rattle.bd_space.specs.declared.step.Answer.{Answer}
+use Rattle.bd_space.specs.declared.step.Answer.TheVariants.{Wrote, Refused}
+use Rattle.bd_space.specs.declared.step.Request.TheVariants.{Write}
+use Rattle.bd_space.specs.Histories.{History, space_after}
+use Rattle.bd_space.specs.Runs.{readable, commands_of, Written, written, wrote, AllBy, HasRun}
+use Rattle.bd_engine.specs.declared.why.Why.{Why}
+use Rattle.bd_engine.specs.declared.why.Why.TheVariants.{NoMemory, HistoryFull}
+use Rattle.bd_engine.specs.declared.writing.Progress.{Progress}
+use Rattle.bd_engine.specs.declared.writing.Course.{Course}
+use Rattle.bd_engine.specs.declared.writing.Course.TheVariants.{GoesOn, Ends}
+
+-- ---- what is answered
+
+pub record IsSame (old new : Progress) : Type 0 where
+  pub consumed : new.consumed ≡ old.consumed
+  pub count : new.count ≡ old.count
+  pub notes : new.notes.items ≡ old.notes.items
+
+pub record IsAt (p : Progress) (consumed count : ℕ) (notes : List (ℕ × Note)) : Type 0 where
+  pub consumed_is : p.consumed ≡ consumed
+  pub count_is : p.count ≡ count
+  pub notes_are : p.notes.items ≡ notes
+
+abbrev pub stopped : Progress → ℕ → Fault → Answer
+stopped p size x = Wrote (p.consumed + size) p.notes.items (Some (stop.Fault x))
+
+-- a step was refused: the first, without a process
+abbrev pub refused : Progress → ℕ → Fault → Answer
+refused p size x = if p.count == 0 then Refused x else stopped p size x
+
+abbrev pub GoesTo : Course → ℕ → ℕ → List (ℕ × Note) → Type 0
+GoesTo (GoesOn p) consumed count notes = IsAt p consumed count notes
+GoesTo (Ends a) consumed count notes = ⊥
+
+-- how it goes on after a command of this size with this answer
+abbrev pub IsAfter : Progress → StepAnswer → ℕ → Course → Type 0
+IsAfter p (gave.Stopped x) size r = r ≡ Ends (Wrote (p.consumed + size) p.notes.items (Some (stop.Cause x)))
+IsAfter p (gave.Refused x) size r = r ≡ Ends (refused p size x)
+IsAfter p (gave.Noted n) size r = GoesTo r (p.consumed + size) (p.count + 1) (p.notes.items ++ (p.count, n) ∷ [])
+IsAfter p _ size r = GoesTo r (p.consumed + size) (p.count + 1) p.notes.items
+
+abbrev pub fault_of : Why → Fault
+fault_of NoMemory = fault.NoMemory
+fault_of HistoryFull = fault.HistoryFull
+
+-- how it goes on where a step wasn't taken
+abbrev pub IsCutAt : Progress → Why → Result Course Why → Type 0
+IsCutAt p why r = r ≡ (if p.count == 0 then Err why else Ok (Ends (stopped p 0 (fault_of why))))
+
+-- ---- what was done
+
+-- with what was done before
+abbrev pub joined : List Entry → ℕ → List (ℕ × Note) → Written → Written
+joined run consumed notes w = record { entries = run ++ w.entries; consumed = consumed + w.consumed; notes = notes ++ w.notes; stop = w.stop }
+
+-- the first of them wasn't refused
+abbrev pub IsUnrefused : List Entry → Type 0
+IsUnrefused [] = Unit {0}
+IsUnrefused (e ∷ es) = (w : Written) → wrote w (e ∷ []) ≡ Wrote w.consumed w.notes w.stop
+
+-- the first commands of the stream were run, and whatever follows them goes on from here
+pub record IsProgress (old now : History) (seat : ℕ) (stream area : List ℕ) (consumed count : ℕ) (notes : List (ℕ × Note)) : Type 0 where
+  -- the entries so far, the commands that they are of, and how many more may be looked for
+  pub run : List Entry
+  pub done : List (Command × ℕ)
+  pub fuel : ℕ
+  -- the history is longer by the entries
+  pub seats : now.seats ≡ old.seats
+  pub grown : now.entries ≡ old.entries ++ run
+  pub by_seat : AllBy seat run
+  pub unrefused : IsUnrefused run
+  pub entries_counted : length run ≡ count
+  pub commands_counted : length done ≡ count
+  -- what the whole write has done is what was done so far, joined with what the rest does
+  pub goes_on : (cs : List (Command × ℕ)) (fault : Option Fault) → written (space_after old) seat area 0 (done ++ cs) fault
+      ≡ joined run consumed notes (written (space_after now) seat area count cs fault)
+  -- the stream's commands are those, and then those that the rest of it begins with
+  pub commands : (commands_of stream).commands ≡ done ++ (readable fuel (drop consumed stream)).commands
+  pub fault : (commands_of stream).fault ≡ (readable fuel (drop consumed stream)).fault
+  pub enough : length stream ≤ consumed + fuel
+  pub within : consumed ≤ length stream
+  pub few : count ≤ consumed
+  pub short : length stream ≤ 4096
+
+abbrev pub HasCome : History → History → ℕ → List ℕ → List ℕ → Progress → Type 0
+HasCome old now seat stream area p = IsProgress old now seat stream area p.consumed p.count p.notes.items
+
+-- the command at a place of a stream
+pub record IsNext (stream : List ℕ) (at : ℕ) (c : Command) (size : ℕ) : Type 0 where
+  pub read : command_at (drop at stream) ≡ Ok (c, size)
+  pub some : 0 < size
+  pub fits : at + size ≤ length stream
+
+-- the write goes on from a place, or has ended
+abbrev pub IsCourse : History → History → ℕ → List ℕ → List ℕ → ℕ → Course → Type 0
+IsCourse old new seat stream area at (GoesOn p) = HasCome old new seat stream area p × (p.consumed ≡ at)
+IsCourse old new seat stream area at (Ends a) = HasRun old new seat (Write stream area) a (length old.entries) (length new.entries)

@@ -1,0 +1,127 @@
+//! The engine: a history, and the tables that its space is kept in.
+
+ghost use Rattle.std.specs.Prelude.{◌≡◌, ◌≤◌, ◌<◌, ◌^◌, true, [], length, IfOk, IfErr, OnErr, MatchResult, Some};
+ghost use Rattle.bd_space.specs.Histories as histories;
+ghost use Rattle.bd_space.specs.Steps as steps;
+ghost use Rattle.bd_engine.specs.Refusals.{FullOnly, IsSeats, IsSeatFault};
+
+use crate::tables::Tables;
+use crate::why::Why;
+use bd_space::{Entries, Entry, Record, Step, StepAnswer};
+use bd_uapi::Fault;
+use std::alloc::Global;
+use std::marker::Model;
+
+/// The most steps that a history has.
+const MOST_STEPS: usize = 4294967295;
+
+/// The history of a driver's steps, and what it has come to.
+#[derive(Drop)]
+pub struct Engine {
+    seats: u32,
+    entries: Vec<Entry>,
+    tables: Tables,
+}
+
+impl Model for Engine {
+    ghost use Rattle.bd_space.specs.Histories.{History};
+    ghost use Rattle.bd_engine.specs.Keeps.{history_of, Keeps};
+
+    ghost Value = { History };
+
+    ghost view = { λ e. history_of e.seats e.entries.items };
+
+    ghost invariant = { λ e. Keeps (history_of e.seats e.entries.items) e.tables };
+}
+
+impl Engine {
+    /// An engine for so many seats, whose history is empty. Takes no memory.
+    pub fn new(alloc: Global, seats: u32) -> Result<Engine, Fault>
+        ensures ok { IfOk result (λ e. e ≡ record { seats = seats; entries = [] }) }
+        ensures fault { MatchResult result (λ _. IsSeats seats) (λ f. IsSeatFault seats f) }
+    {
+        if seats < 1 || 16 < seats {
+            return Err(Fault::SeatCount);
+        }
+        Ok(Engine {
+            seats,
+            entries: Vec::new(alloc),
+            tables: Tables::new(alloc),
+        })
+    }
+
+    // What its memory comes from.
+    pub(crate) fn alloc(&self) -> Global {
+        *self.entries.allocator()
+    }
+
+    /// How many seats there are, 1 to 16.
+    pub fn seats(&self) -> u32
+        ensures count { result ≡ self.now.seats }
+        ensures some { 1 ≤ result }
+        ensures few { result ≤ 16 }
+    {
+        self.seats
+    }
+
+    /// How many steps there were.
+    pub fn len(&self) -> u32
+        ensures { result ≡ length self.now.entries }
+    {
+        self.entries.len() as u32
+    }
+
+    /// The ready seats, bit i for seat i: those that have something to read.
+    pub fn ready(&self) -> u32
+        ensures page { result ≡ histories.ready_bits self.now }
+        ensures bits { result < 2 ^ 16 }
+    {
+        self.tables.ready_below(self.seats)
+    }
+
+    /// The history.
+    pub fn into_record(self) -> Record
+        ensures seats { result.seats ≡ self.seats }
+        ensures entries { result.entries ≡ self.entries }
+        ensures lawful { histories.IsHistory (record { seats = result.seats; entries = result.entries }) }
+    {
+        let Engine { seats, entries, .. } = self;
+        Record {
+            seats,
+            entries: Entries::new(entries),
+        }
+    }
+
+    /// Makes one step, and answers it. Errors: memory was refused, the history is full, or a number above 4294967294
+    /// would be needed.
+    pub fn step(&mut self, seat: u32, step: Step) -> Result<StepAnswer, Why>
+        requires { seat < self.old.seats }
+        // The answer is the space's.
+        ensures answer { IfOk result (λ a. a ≡ (steps.step (histories.space_after self.old) seat step).answer) }
+        // The history then has this step more.
+        ensures history { IfOk result (λ a. self.new ≡ histories.extended self.old seat step a) }
+        // A step refused leaves the engine equal.
+        ensures err { OnErr result (self.new ≡ self.old) }
+        // When a full history is the reason.
+        ensures full { IfErr result (λ why. FullOnly why (histories.is_at_limit self.old seat (Some step) ≡ true)) }
+    {
+        if self.entries.len() >= MOST_STEPS {
+            return Err(Why::HistoryFull);
+        }
+        if self.entries.reserve(1).is_err() {
+            return Err(Why::NoMemory);
+        }
+        match self.tables.change(seat, &step) {
+            Ok(taken) => {
+                self.tables.steps += 1;
+                self.entries.push_reserved(Entry {
+                    seat,
+                    step,
+                    answer: taken.again,
+                });
+                Ok(taken.answer)
+            }
+            Err(why) => Err(why),
+        }
+    }
+}

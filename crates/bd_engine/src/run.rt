@@ -1,0 +1,118 @@
+//! The run of a request: one step, or for a write one for each of its commands.
+
+ghost use Rattle.std.specs.Prelude.{◌≡◌, ◌≤◌, ◌<◌, true, Some, length, IfOk, IfErr, OnErr};
+ghost use Rattle.bd_space.specs.declared.step.Request.{Request};
+ghost use Rattle.bd_space.specs.declared.step.Request.TheVariants.{Write};
+ghost use Rattle.bd_space.specs.Space.{Space};
+ghost use Rattle.bd_space.specs.Histories.{is_at_limit};
+ghost use Rattle.bd_space.specs.Runs as runs;
+ghost use Rattle.bd_space.specs.Runs.{HasRun, IsAtLimit, answered};
+ghost use Rattle.bd_engine.specs.Refusals.{FullOnly};
+
+use crate::engine::Engine;
+use crate::why::Why;
+use bd_space::{Answer, Request, Step, StepAnswer};
+use bd_uapi::Fault;
+
+/// What a run answered, and the places of its steps: from `from` up to and without `to`.
+#[derive(Drop, Debug)]
+pub struct Ran {
+    /// The answer to the request.
+    pub answer: Answer,
+    /// The place of the first step.
+    pub from: u32,
+    /// The place after the last step.
+    pub to: u32,
+}
+
+// What the only step of a request answers it.
+fn answered(answer: StepAnswer) -> Answer
+    ensures { result ≡ answered answer }
+{
+    match answer {
+        StepAnswer::Opened => Answer::Opened,
+        StepAnswer::Exited => Answer::Exited,
+        StepAnswer::Set | StepAnswer::Accepted | StepAnswer::Noted(_) | StepAnswer::Stopped(_) =>
+            Answer::Set,
+        StepAnswer::Got {
+            stream,
+            bytes,
+            offsets,
+        } => Answer::Got {
+            stream,
+            bytes,
+            offsets,
+        },
+        StepAnswer::Refused(fault) => Answer::Refused(fault),
+    }
+}
+
+impl Engine {
+    // A request that is one step.
+    fn single(&mut self, seat: u32, step: Step) -> Result<Ran, Why>
+        requires { seat < self.old.seats }
+        ensures ok { (request : Request) → ((s : Space) → runs.run s seat request ≡ runs.single s seat step)
+            → IfOk result (λ r. HasRun self.old self.new seat request r.answer r.from r.to) }
+        ensures err { OnErr result (self.new ≡ self.old) }
+        ensures full { IfErr result (λ why. FullOnly why (is_at_limit self.old seat (Some step) ≡ true)) }
+    {
+        let from = self.len();
+        match self.step(seat, step) {
+            Err(why) => Err(why),
+            Ok(answer) => Ok(Ran {
+                answer: answered(answer),
+                from,
+                to: self.len(),
+            }),
+        }
+    }
+
+    // A write: its commands, each one step.
+    fn write(&mut self, seat: u32, stream: &[u8], area: &[u8]) -> Result<Ran, Why>
+        requires { seat < self.old.seats }
+        ensures ok { IfOk result (λ r. HasRun self.old self.new seat (Write stream.now area.now) r.answer r.from r.to) }
+        ensures err { OnErr result (self.new ≡ self.old) }
+        ensures full { IfErr result (λ why. FullOnly why (IsAtLimit self.old seat (Write stream.now area.now))) }
+    {
+        let from = self.len();
+        if stream.len() > 4096 {
+            return Ok(Ran {
+                answer: Answer::Refused(Fault::StreamTooLong),
+                from,
+                to: from,
+            });
+        }
+        match self.run_commands(seat, stream, area) {
+            Err(why) => Err(why),
+            Ok(answer) => Ok(Ran {
+                answer,
+                from,
+                to: self.len(),
+            }),
+        }
+    }
+
+    /// Runs a request: makes its steps, and says what they answer it and where they stand. A write that memory or the
+    /// full history stops after some of its commands answers those; refused before its first step, the engine is as it
+    /// was.
+    #[tactic(auto, unfolding(bd_space::specs::Runs::run))]
+    pub fn run(&mut self, seat: u32, request: &Request) -> Result<Ran, Why>
+        requires { seat < self.old.seats }
+        ensures ok { IfOk result (λ r. HasRun self.old self.new seat request.now r.answer r.from r.to) }
+        ensures err { OnErr result (self.new ≡ self.old) }
+        ensures full { IfErr result (λ why. FullOnly why (IsAtLimit self.old seat request.now)) }
+    {
+        match request {
+            Request::Open { pid, euid, window } => {
+                let (pid, euid, window) = (*pid, *euid, *window);
+                self.single(seat, Step::Open { pid, euid, window })
+            }
+            Request::Attach { pid } => self.single(seat, Step::Attach { pid: *pid }),
+            Request::SetManager => self.single(seat, Step::SetManager),
+            Request::Write { stream, area } => self.write(seat, stream.as_slice(), area.as_slice()),
+            Request::Read { limit } => self.single(seat, Step::Read { limit: *limit }),
+            Request::ExitThread => self.single(seat, Step::ExitThread),
+            Request::ExitProcess => self.single(seat, Step::ExitProcess),
+        }
+    }
+}
