@@ -1,3 +1,4 @@
 pub mod Stands
 pub mod Refusals
 pub mod Meets
+pub mod Notified

@@ -1,0 +1,18 @@
+use Rattle.std.proofs.Common.{◌≡◌, ◌+◌, Option, Some, None, refl, ap, sym, ◌∙◌}
+use Rattle.bd_uapi.specs.declared.fault.Fault.{Fault}
+use Rattle.bd_space.specs.Steps.{open_step, open_outcome, with_thread, with_process, is_window}
+use Rattle.bd_engine.proofs.Standing.{within}
+use Rattle.bd_engine.proofs.Meeting.{meets, in-case, is-refused}
+use Rattle.bd_engine.proofs.tables.Tables.open.Goals as goal
+
+pub returns-in-Some-clause-ok : goal.returns-in-Some-clause-ok
+unfolding open_step
+returns-in-Some-clause-ok c = meets _ _ _ _ _ (λ s h by.
+    in-case _ _ (open_outcome s c.args.seat c.args.pid c.args.euid c.args.size) _ _ (sym (c.open_fault.ensures.fault s h) ∙ c.in-Some.is)
+    (is-refused _ s c.in-Some.fault h))
+
+pub returns-clause-ok : goal.returns-clause-ok
+unfolding open_step with_thread with_process
+returns-clause-ok c = meets _ _ _ _ _ (λ s h by.
+    in-case _ _ (open_outcome s c.args.seat c.args.pid c.args.euid c.args.size) _ _ (sym (c.open_fault.ensures.fault s h) ∙ ?)
+    (record { answered = refl; stands = ? }))
