@@ -1,7 +1,6 @@
 -- Steps that are accepted, and steps that get a note.
-use Rattle.std.proofs.Common.{◌≡◌, ℕ, refl, sym, ap, subst}
+use Rattle.std.proofs.Common.{◌≡◌, sym, ap, subst}
 use Rattle.bd_uapi.specs.declared.fault.Note.{Note}
-use Rattle.bd_space.specs.declared.step.StepAnswer.{StepAnswer}
 use Rattle.bd_space.specs.declared.step.StepAnswer.TheVariants.{Accepted, Noted}
 use Rattle.bd_space.specs.Space.{Space}
 use Rattle.bd_space.specs.Outcomes.{Outcome, completed, accepted, noted}

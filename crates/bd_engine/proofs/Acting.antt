@@ -1,6 +1,5 @@
 -- Who makes a step.
-use Rattle.std.proofs.Common.{ℕ, ◌≡◌, ◌==◌, List, Option, Some, None, refl, ap, sym, subst, ◌∙◌}
-use Rattle.std.specs.List.{find}
+use Rattle.std.proofs.Common.{ℕ, ◌≡◌, List, Option, Some, None, refl, sym, subst, ◌∙◌}
 use Rattle.bd_space.specs.declared.space.Process.{Process}
 use Rattle.bd_space.specs.declared.space.Thread.{Thread}
 use Rattle.bd_space.specs.declared.space.Actor.{Actor}
@@ -25,6 +24,7 @@ as_found s seat = go (thread_in s.threads seat)
     with : (t : Thread) (o : Option Process) → option_map (λ q. record { thread = t; process = q }) o ≡ actor_with t o
     with t None = refl
     with t (Some q) = refl
+
     go : (t : Option Thread) → option_and_then (actor_of s) t ≡ actor_of_thread s.processes t
     go None = refl
     go (Some t) = with t (process_in s.processes t.process)

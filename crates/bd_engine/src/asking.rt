@@ -40,7 +40,10 @@ impl Tables {
         ensures err { OnErr result (IsKept self.old self.new) }
         ensures full { IfErr result (IsRefused self.old (IsBy a) (λ s. asking.ask_step s a.process.made n strong)) }
     {
-        let o = match self.objects.ask_check(self.manager, a.process.made, n, strong) {
+        let o = match self
+            .objects
+            .ask_check(self.manager, a.process.made, n, strong)
+        {
             Ok(o) => o,
             Err(note) => return Ok(StepAnswer::Noted(note)),
         };

@@ -1,6 +1,6 @@
 //! The steps that open a process, attach a thread, and make the context manager.
 
-ghost use Rattle.std.specs.Prelude.{ℕ, ◌≡◌, ◌≤◌, ◌<◌, true, [], IfOk, IfErr, OnOk, OnErr, OnNone, vec_len, vec_capacity};
+ghost use Rattle.std.specs.Prelude.{ℕ, ◌≡◌, ◌≤◌, ◌<◌, true, [], IfOk, IfErr, OnOk, OnErr, None, vec_len, vec_capacity};
 ghost use Rattle.bd_space.specs.Space.{Space};
 ghost use Rattle.bd_space.specs.Steps as steps;
 ghost use Rattle.bd_objects.specs.Room.{object_room, reference_room};
@@ -31,7 +31,7 @@ fn is_window(window: u32) -> bool
 impl Tables {
     fn open_fault(&self, seat: u32, pid: u32, window: u32) -> Option<Fault>
         ensures fault { (s : Space) → Before self.now s → result ≡ steps.open_fault s seat pid window }
-        ensures window { OnNone result (steps.is_window window ≡ true) }
+        ensures window { result ≡ None → steps.is_window window ≡ true }
     {
         if !is_pid(pid) {
             return Some(Fault::PidRange);
@@ -88,7 +88,13 @@ impl Tables {
     }
 
     /// The step that opens a process with one thread.
-    pub(crate) fn open(&mut self, seat: u32, pid: u32, euid: u32, size: u32) -> Result<StepAnswer, Why>
+    pub(crate) fn open(
+        &mut self,
+        seat: u32,
+        pid: u32,
+        euid: u32,
+        size: u32,
+    ) -> Result<StepAnswer, Why>
         ensures ok { IfOk result (Meets self.old self.new IsAny (λ s. steps.open_step s seat pid euid size)) }
         ensures err { OnErr result (IsKept self.old self.new) }
         ensures full { IfErr result (IsRefused self.old IsAny (λ s. steps.open_step s seat pid euid size)) }

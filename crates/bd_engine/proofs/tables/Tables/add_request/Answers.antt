@@ -1,4 +1,4 @@
-use Rattle.std.proofs.Common.{Bool, ◌∙◌, sym, subst}
+use Rattle.std.proofs.Common.{ℕ, Bool, ◌∙◌, sym, subst}
 use Rattle.std.specs.Prelude.{if◌then◌else◌}
 use Rattle.bd_space.specs.declared.space.Phase.TheVariants.{Armed, Queued}
 use Rattle.bd_space.specs.declared.space.TodoList.TheVariants.{OfProcess}
@@ -7,7 +7,6 @@ use Rattle.bd_space.specs.declared.step.ObjectId.{ObjectId}
 use Rattle.bd_space.specs.Space.{Space}
 use Rattle.bd_space.specs.Todo.{owe}
 use Rattle.bd_space.specs.Deaths.{requested, with_death}
-use Rattle.std.proofs.Common.{ℕ}
 use Rattle.bd_engine.specs.Stands.{Within}
 use Rattle.bd_engine.proofs.tables.Tables.add_request.Goals as goal
 
