@@ -1,6 +1,4 @@
-pub mod Accepting
-pub mod Acting
-pub mod Changing
-pub mod Meeting
-pub mod Notifying
 pub mod Standing
+pub mod Notifying
+pub mod Meeting
+pub mod Seating

@@ -7,7 +7,9 @@ mod following;
 mod freeing;
 mod looping;
 mod opening;
+mod pending;
 mod seats;
+mod step;
 mod tables;
 mod why;
 
