@@ -88,13 +88,7 @@ impl Tables {
     }
 
     /// The step that opens a process with one thread.
-    pub(crate) fn open(
-        &mut self,
-        seat: u32,
-        pid: u32,
-        euid: u32,
-        size: u32,
-    ) -> Result<StepAnswer, Why>
+    pub(crate) fn open(&mut self, seat: u32, pid: u32, euid: u32, size: u32) -> Result<StepAnswer, Why>
         ensures ok { IfOk result (Meets self.old self.new IsAny (λ s. steps.open_step s seat pid euid size)) }
         ensures err { OnErr result (IsKept self.old self.new) }
         ensures full { IfErr result (IsRefused self.old IsAny (λ s. steps.open_step s seat pid euid size)) }
