@@ -71,3 +71,10 @@ twice-full old P f r t e m = subst (λ y. IfErr y (IsRefused old P f)) (sym e) (
     go : (r : Result Plain Why) → IfErr r (IsRefused old P f) → IfErr (both r) (IsRefused old P f)
     go (Ok x) m = m
     go (Err why) m = m
+
+pub twice-same : (r : Result Plain Why) (t : Result Twice Why) → t ≡ both r → IfOk t (λ x. x.again ≡ x.answer)
+twice-same r t e = subst (λ y. IfOk y (λ x. x.again ≡ x.answer)) (sym e) (go r)
+  where
+    go : (r : Result Plain Why) → IfOk (both r) (λ x. x.again ≡ x.answer)
+    go (Ok x) = refl
+    go (Err why) = tt

@@ -3,11 +3,6 @@
 ghost use Rattle.std.specs.Prelude.{◌≡◌, IfOk, IfErr, OnErr};
 ghost use Rattle.bd_space.specs.Transactions as transactions;
 ghost use Rattle.bd_space.specs.Replies as replies;
-ghost use Rattle.bd_space.specs.Asking as asking;
-ghost use Rattle.bd_space.specs.Freeing as freeing;
-ghost use Rattle.bd_space.specs.Deaths as deaths;
-ghost use Rattle.bd_space.specs.Outcomes as outcomes;
-ghost use Rattle.bd_space.specs.Commands as commands;
 ghost use Rattle.bd_space.specs.Reading as reading;
 ghost use Rattle.bd_space.specs.Exits as exits;
 ghost use Rattle.bd_engine.specs.Plain.{answer_of};
@@ -32,70 +27,6 @@ impl Tables {
         ensures ok { IfOk result (λ x. Meets self.old self.new (IsBy a) (λ s. replies.reply_step s a d.now parcel.now) (answer_of x)) }
         ensures err { OnErr result (IsKept self.old self.new) }
         ensures full { IfErr result (IsRefused self.old (IsBy a) (λ s. replies.reply_step s a d.now parcel.now)) }
-    {
-        Err(Why::NoMemory)
-    }
-
-    pub(crate) fn ask(&mut self, a: Actor, n: u32, strong: bool) -> Result<Plain, Why>
-        ensures ok { IfOk result (λ x. Meets self.old self.new (IsBy a) (λ s. asking.ask_step s a.process.made n strong) (answer_of x)) }
-        ensures err { OnErr result (IsKept self.old self.new) }
-        ensures full { IfErr result (IsRefused self.old (IsBy a) (λ s. asking.ask_step s a.process.made n strong)) }
-    {
-        Err(Why::NoMemory)
-    }
-
-    pub(crate) fn drop_asked(&mut self, a: Actor, n: u32, strong: bool) -> Result<Plain, Why>
-        ensures ok { IfOk result (λ x. Meets self.old self.new (IsBy a) (λ s. asking.drop_step s a.process.made n strong) (answer_of x)) }
-        ensures err { OnErr result (IsKept self.old self.new) }
-        ensures full { IfErr result (IsRefused self.old (IsBy a) (λ s. asking.drop_step s a.process.made n strong)) }
-    {
-        Err(Why::NoMemory)
-    }
-
-    pub(crate) fn acknowledge(&mut self, a: Actor, ptr: u64, cookie: u64, strong: bool) -> Result<Plain, Why>
-        ensures ok { IfOk result (λ x. Meets self.old self.new (IsBy a) (λ s. asking.done_step s a.process.made ptr cookie strong) (answer_of x)) }
-        ensures err { OnErr result (IsKept self.old self.new) }
-        ensures full { IfErr result (IsRefused self.old (IsBy a) (λ s. asking.done_step s a.process.made ptr cookie strong)) }
-    {
-        Err(Why::NoMemory)
-    }
-
-    pub(crate) fn free(&mut self, a: Actor, pointer: u64) -> Result<Plain, Why>
-        ensures ok { IfOk result (λ x. Meets self.old self.new (IsBy a) (λ s. freeing.free_step s a.process.made pointer) (answer_of x)) }
-        ensures err { OnErr result (IsKept self.old self.new) }
-        ensures full { IfErr result (IsRefused self.old (IsBy a) (λ s. freeing.free_step s a.process.made pointer)) }
-    {
-        Err(Why::NoMemory)
-    }
-
-    pub(crate) fn request_death(&mut self, a: Actor, n: u32, cookie: u64) -> Result<Plain, Why>
-        ensures ok { IfOk result (λ x. Meets self.old self.new (IsBy a) (λ s. deaths.request_step s a.process.made n cookie) (answer_of x)) }
-        ensures err { OnErr result (IsKept self.old self.new) }
-        ensures full { IfErr result (IsRefused self.old (IsBy a) (λ s. deaths.request_step s a.process.made n cookie)) }
-    {
-        Err(Why::NoMemory)
-    }
-
-    pub(crate) fn clear_death(&mut self, a: Actor, n: u32, cookie: u64) -> Result<Plain, Why>
-        ensures ok { IfOk result (λ x. Meets self.old self.new (IsBy a) (λ s. deaths.clear_step s a.thread.seat a.process.made n cookie) (answer_of x)) }
-        ensures err { OnErr result (IsKept self.old self.new) }
-        ensures full { IfErr result (IsRefused self.old (IsBy a) (λ s. deaths.clear_step s a.thread.seat a.process.made n cookie)) }
-    {
-        Err(Why::NoMemory)
-    }
-
-    pub(crate) fn death_done(&mut self, a: Actor, cookie: u64) -> Result<Plain, Why>
-        ensures ok { IfOk result (λ x. Meets self.old self.new (IsBy a) (λ s. deaths.death_done_step s a.thread.seat a.process.made cookie) (answer_of x)) }
-        ensures err { OnErr result (IsKept self.old self.new) }
-        ensures full { IfErr result (IsRefused self.old (IsBy a) (λ s. deaths.death_done_step s a.thread.seat a.process.made cookie)) }
-    {
-        Err(Why::NoMemory)
-    }
-
-    pub(crate) fn set_looping(&mut self, a: Actor, looping: bool) -> Result<Plain, Why>
-        ensures ok { IfOk result (λ x. Meets self.old self.new (IsBy a) (λ s. outcomes.accepted (commands.with_looping s a.thread.seat looping)) (answer_of x)) }
-        ensures err { OnErr result (IsKept self.old self.new) }
-        ensures full { IfErr result (IsRefused self.old (IsBy a) (λ s. outcomes.accepted (commands.with_looping s a.thread.seat looping))) }
     {
         Err(Why::NoMemory)
     }

@@ -5,7 +5,7 @@ use Rattle.bd_space.specs.Steps.{change}
 use Rattle.bd_engine.specs.Stands.{Before}
 use Rattle.bd_engine.specs.Plain.{answer_of}
 use Rattle.bd_engine.specs.Meets.{IsAny, IsNobody, IsBy}
-use Rattle.bd_engine.proofs.Meeting.{as-ok, as-full, twice-ok, twice-full}
+use Rattle.bd_engine.proofs.Meeting.{as-ok, as-full, twice-ok, twice-full, twice-same}
 use Rattle.bd_engine.proofs.Seating.{acting-seat}
 use Rattle.bd_engine.proofs.tables.Tables.change.Goals as goal
 
@@ -26,3 +26,6 @@ pub returns-in-None-clause-full : goal.returns-in-None-clause-full
 returns-in-None-clause-full c = twice-full _ IsAny (λ s. change s c.args.seat c.args.step.now) _ _ c.twice.ensures
     (as-full c.args.self.now (IsNobody c.args.seat) IsAny (λ s. change s c.args.seat c.args.step.now) (λ s. change s c.args.seat c.args.step.now)
     (λ s h q. (sym (c.actor.ensures s.steps s h) ∙ c.in-None.is, refl)) _ c.change_alone.ensures.full)
+
+pub returns-in-None-clause-twice : goal.returns-in-None-clause-twice
+returns-in-None-clause-twice c = twice-same _ _ c.twice.ensures

@@ -5,7 +5,7 @@ use Rattle.bd_space.specs.Reading.{read_step}
 use Rattle.bd_space.specs.Exits.{exit_thread_step, exit_process_step}
 use Rattle.bd_engine.specs.Plain.{answer_of}
 use Rattle.bd_engine.specs.Meets.{IsAny, IsBy}
-use Rattle.bd_engine.proofs.Meeting.{as-ok, as-full, twice-ok, twice-full}
+use Rattle.bd_engine.proofs.Meeting.{as-ok, as-full, twice-ok, twice-full, twice-same}
 use Rattle.bd_engine.proofs.tables.Tables.change_by.Goals as goal
 
 pub returns-in-Open-clause-ok : goal.returns-in-Open-clause-ok
@@ -89,3 +89,21 @@ unfolding change
 returns-in-ExitProcess-clause-full c = twice-full _ (IsBy c.args.a) (λ s. change s c.args.a.thread.seat c.args.step.now) _ _ c.twice-in-ExitProcess.ensures
     (as-full c.args.self.now (IsBy c.args.a) (IsBy c.args.a) (λ s. exit_process_step s c.args.a) (λ s. change s c.args.a.thread.seat c.args.step.now)
     (λ s h by. let e = ap (change s c.args.a.thread.seat) c.in-ExitProcess.is in (by, e ∙ ap (λ o. by_actor s o (exit_process_step s)) by)) _ c.exit_process.ensures.full)
+
+pub returns-in-Open-clause-twice : goal.returns-in-Open-clause-twice
+returns-in-Open-clause-twice c = twice-same _ _ c.twice.ensures
+
+pub returns-in-Attach-clause-twice : goal.returns-in-Attach-clause-twice
+returns-in-Attach-clause-twice c = twice-same _ _ c.twice-in-Attach.ensures
+
+pub returns-in-SetManager-clause-twice : goal.returns-in-SetManager-clause-twice
+returns-in-SetManager-clause-twice c = twice-same _ _ c.twice-in-SetManager.ensures
+
+pub returns-in-Command-clause-twice : goal.returns-in-Command-clause-twice
+returns-in-Command-clause-twice c = twice-same _ _ c.twice-in-Command.ensures
+
+pub returns-in-ExitThread-clause-twice : goal.returns-in-ExitThread-clause-twice
+returns-in-ExitThread-clause-twice c = twice-same _ _ c.twice-in-ExitThread.ensures
+
+pub returns-in-ExitProcess-clause-twice : goal.returns-in-ExitProcess-clause-twice
+returns-in-ExitProcess-clause-twice c = twice-same _ _ c.twice-in-ExitProcess.ensures

@@ -1,0 +1,27 @@
+-- Steps that are accepted, and steps that get a note.
+use Rattle.std.proofs.Common.{◌≡◌, sym, ap, subst}
+use Rattle.bd_uapi.specs.declared.fault.Note.{Note}
+use Rattle.bd_space.specs.declared.step.StepAnswer.TheVariants.{Accepted, Noted}
+use Rattle.bd_space.specs.Space.{Space}
+use Rattle.bd_space.specs.Outcomes.{Outcome, completed, accepted, noted}
+use Rattle.bd_engine.specs.declared.tables.Tables.{Tables}
+use Rattle.bd_engine.specs.Stands.{Before, Within}
+use Rattle.bd_engine.specs.Meets.{Meets, IsKept}
+use Rattle.bd_engine.proofs.Standing.{within}
+
+-- room was made, and then the change was made with what follows from it
+pub accepts : (old mid new : Tables) (P : Space → Type 0) (f : Space → Outcome) (g : Space → Space)
+    → IsKept old mid → ((s : Space) → Within mid s → Within new (completed (g s))) → ((s : Space) → Before old s → P s → f s ≡ accepted (g s))
+    → Meets old new P f Accepted
+accepts old mid new P f g kept changed is = record {
+  answered = λ s h p. sym (ap (λ (o : Outcome). o.answer) (is s h p));
+  stands = λ s h p. subst (λ (o : Outcome). Within new o.space) (sym (is s h p)) (changed s (within mid s (kept s h)));
+}
+
+-- nothing was changed
+pub notes : (t : Tables) (P : Space → Type 0) (f : Space → Outcome) (n : Note)
+    → ((s : Space) → Before t s → P s → f s ≡ noted s n) → Meets t t P f (Noted n)
+notes t P f n is = record {
+  answered = λ s h p. sym (ap (λ (o : Outcome). o.answer) (is s h p));
+  stands = λ s h p. subst (λ (o : Outcome). Within t o.space) (sym (is s h p)) (within t s h);
+}

@@ -1,0 +1,118 @@
+//! The steps of `BC_INCREFS`, `BC_ACQUIRE`, `BC_RELEASE`, `BC_DECREFS`, `BC_INCREFS_DONE` and `BC_ACQUIRE_DONE`.
+
+ghost use Rattle.std.specs.Prelude.{ℕ, ◌≡◌, ◌≤◌, true, IfOk, IfErr, OnOk, OnErr};
+ghost use Rattle.bd_space.specs.Space.{Space};
+ghost use Rattle.bd_space.specs.Names.{has_number_past_limit};
+ghost use Rattle.bd_space.specs.Asking as asking;
+ghost use Rattle.bd_space.specs.Outcomes.{completed};
+ghost use Rattle.bd_objects.specs.Room.{reference_room, name_room};
+ghost use Rattle.bd_engine.specs.Stands.{Before, Within, Takes, CanFollow};
+ghost use Rattle.bd_engine.specs.Plain.{answer_of};
+ghost use Rattle.bd_engine.specs.Meets.{Meets, IsBy, IsKept, IsRefused};
+
+use crate::plain::Plain;
+use crate::tables::Tables;
+use crate::why::Why;
+use bd_objects::NumbersFull;
+use bd_space::{Actor, ObjectId};
+
+impl Tables {
+    // The reference comes in that the process asks for, and a name with it, and what follows from that; or nothing, where a
+    // number past the limit would be needed.
+    fn add_asked(&mut self, p: u32, o: ObjectId, strong: bool) -> Result<(), NumbersFull>
+        requires references { 1 ≤ reference_room self.old.objects }
+        requires names { 1 ≤ name_room self.old.objects }
+        requires works { CanFollow self.old 0 }
+        ensures stands { OnOk result ((s : Space) → Within self.old s → Within self.new (completed (asking.ask s p o strong))) }
+        ensures kept { OnErr result (IsKept self.old self.new) }
+        ensures full { OnErr result ((s : Space) → Before self.old s → has_number_past_limit (completed (asking.ask s p o strong)).names ≡ true) }
+    {
+        match self.objects.ask(self.steps, self.manager, p, o, strong) {
+            Ok(()) => {
+                self.complete();
+                Ok(())
+            }
+            Err(full) => Err(full),
+        }
+    }
+
+    /// The step by which a process asks for an object, weakly or strongly.
+    pub(crate) fn ask(&mut self, a: Actor, n: u32, strong: bool) -> Result<Plain, Why>
+        ensures ok { IfOk result (λ x. Meets self.old self.new (IsBy a) (λ s. asking.ask_step s a.process.made n strong) (answer_of x)) }
+        ensures err { OnErr result (IsKept self.old self.new) }
+        ensures full { IfErr result (IsRefused self.old (IsBy a) (λ s. asking.ask_step s a.process.made n strong)) }
+    {
+        let o = match self
+            .objects
+            .ask_check(self.manager, a.process.made, n, strong)
+        {
+            Ok(o) => o,
+            Err(note) => return Ok(Plain::Noted(note)),
+        };
+        if self.reserve(0, 1, 1, 0).is_err() {
+            return Err(Why::NoMemory);
+        }
+        match self.add_asked(a.process.made, o, strong) {
+            Ok(()) => Ok(Plain::Accepted),
+            Err(_full) => Err(Why::HistoryFull),
+        }
+    }
+
+    // The reference goes that the process asked for, and what follows from that.
+    fn lose_asked(&mut self, p: u32, o: ObjectId, strong: bool)
+        requires { CanFollow self.old 0 }
+        ensures stands { (s : Space) → Within self.old s → Within self.new (completed (asking.drop_asked s p o strong)) }
+    {
+        self.objects.drop_asked(p, o, strong);
+        self.complete();
+    }
+
+    /// The step by which a process drops a reference that it asked for.
+    pub(crate) fn drop_asked(&mut self, a: Actor, n: u32, strong: bool) -> Result<Plain, Why>
+        ensures ok { IfOk result (λ x. Meets self.old self.new (IsBy a) (λ s. asking.drop_step s a.process.made n strong) (answer_of x)) }
+        ensures err { OnErr result (IsKept self.old self.new) }
+        ensures full { IfErr result (IsRefused self.old (IsBy a) (λ s. asking.drop_step s a.process.made n strong)) }
+    {
+        let o = match self.objects.drop_check(a.process.made, n, strong) {
+            Ok(o) => o,
+            Err(note) => return Ok(Plain::Noted(note)),
+        };
+        if self.reserve(0, 0, 0, 0).is_err() {
+            return Err(Why::NoMemory);
+        }
+        self.lose_asked(a.process.made, o, strong);
+        Ok(Plain::Accepted)
+    }
+
+    // The reference goes that stood for an acknowledgement, and what follows from that.
+    fn lose_handshake(&mut self, o: ObjectId, strong: bool)
+        requires { CanFollow self.old 0 }
+        ensures stands { (s : Space) → Within self.old s → Within self.new (completed (asking.acknowledge s o strong)) }
+    {
+        self.objects.acknowledge(o, strong);
+        self.complete();
+    }
+
+    /// The step by which a process acknowledges what it was told of an own object.
+    pub(crate) fn acknowledge(
+        &mut self,
+        a: Actor,
+        ptr: u64,
+        cookie: u64,
+        strong: bool,
+    ) -> Result<Plain, Why>
+        ensures ok { IfOk result (λ x. Meets self.old self.new (IsBy a) (λ s. asking.done_step s a.process.made ptr cookie strong) (answer_of x)) }
+        ensures err { OnErr result (IsKept self.old self.new) }
+        ensures full { IfErr result (IsRefused self.old (IsBy a) (λ s. asking.done_step s a.process.made ptr cookie strong)) }
+    {
+        let x = match self.objects.done_check(a.process.made, ptr, cookie, strong) {
+            Ok(x) => x,
+            Err(note) => return Ok(Plain::Noted(note)),
+        };
+        if self.reserve(0, 0, 0, 0).is_err() {
+            return Err(Why::NoMemory);
+        }
+        self.lose_handshake(x.id, strong);
+        Ok(Plain::Accepted)
+    }
+}

@@ -1,0 +1,192 @@
+//! The steps of `BC_REQUEST_DEATH_NOTIFICATION`, `BC_CLEAR_DEATH_NOTIFICATION` and `BC_DEAD_BINDER_DONE`.
+
+ghost use Rattle.std.specs.Prelude.{ℕ, ◌≡◌, ◌≤◌, IfOk, IfErr, OnErr};
+ghost use Rattle.bd_space.specs.declared.space.Phase.TheVariants.{Queued};
+ghost use Rattle.bd_space.specs.declared.space.TodoList.TheVariants.{OfProcess};
+ghost use Rattle.bd_space.specs.declared.space.WorkKind.TheVariants.{Death};
+ghost use Rattle.bd_space.specs.Space.{Space};
+ghost use Rattle.bd_space.specs.Todo as todo;
+ghost use Rattle.bd_space.specs.Deaths as deaths;
+ghost use Rattle.bd_space.specs.Outcomes.{completed};
+ghost use Rattle.bd_objects.specs.Room.{death_room};
+ghost use Rattle.bd_calls.specs.Room.{work_room};
+ghost use Rattle.bd_engine.specs.Stands.{Within, Takes, CanFollow};
+ghost use Rattle.bd_engine.specs.Plain.{answer_of};
+ghost use Rattle.bd_engine.specs.Meets.{Meets, IsBy, IsKept, IsRefused};
+
+use crate::plain::Plain;
+use crate::tables::Tables;
+use crate::why::Why;
+use bd_space::{Actor, DeathNotification, ObjectId, Phase, TodoList, WorkKind};
+use bd_uapi::Note;
+
+fn is_out(phase: Phase) -> bool
+    ensures { result ≡ deaths.is_out phase }
+{
+    match phase {
+        Phase::Queued | Phase::Told => true,
+        Phase::Armed | Phase::Done => false,
+    }
+}
+
+impl Tables {
+    // A notification comes in, this far.
+    fn add_death(&mut self, p: u32, o: ObjectId, cookie: u64, phase: Phase)
+        requires { 1 ≤ death_room self.old.objects }
+        ensures stands { (s : Space) → Within self.old s → Within self.new (deaths.with_death s p o cookie phase) }
+        ensures takes { Takes self.old self.new 0 0 0 0 }
+    {
+        self.objects.with_death(self.steps, p, o, cookie, phase);
+    }
+
+    // A work item comes onto a list.
+    fn add_work(&mut self, list: TodoList, kind: WorkKind)
+        requires { 1 ≤ work_room self.old.calls }
+        ensures stands { (s : Space) → Within self.old s → Within self.new (todo.owe s list kind) }
+        ensures takes { Takes self.old self.new 0 0 0 1 }
+    {
+        self.calls.owe(self.steps, list, kind);
+    }
+
+    // A notification comes in whose process is told at once.
+    fn add_told_death(&mut self, p: u32, o: ObjectId, cookie: u64)
+        requires deaths { 1 ≤ death_room self.old.objects }
+        requires works { 1 ≤ work_room self.old.calls }
+        ensures stands { (s : Space) → Within self.old s
+            → Within self.new (todo.owe (deaths.with_death s p o cookie Queued) (OfProcess p) (Death s.steps)) }
+        ensures takes { Takes self.old self.new 0 0 0 1 }
+    {
+        let place = self.steps;
+        self.add_death(p, o, cookie, Phase::Queued);
+        self.add_work(TodoList::OfProcess(p), WorkKind::Death(place));
+    }
+
+    // A notification comes in: armed while the object's owner lives; else the process is told at once.
+    fn add_request(&mut self, p: u32, o: ObjectId, cookie: u64)
+        requires deaths { 1 ≤ death_room self.old.objects }
+        requires works { 1 ≤ work_room self.old.calls }
+        ensures stands { (s : Space) → Within self.old s → Within self.new (deaths.requested s p o cookie) }
+        ensures takes { Takes self.old self.new 0 0 0 1 }
+    {
+        if self.objects.owner_lives(self.processes.as_slice(), o) {
+            self.add_death(p, o, cookie, Phase::Armed);
+        } else {
+            self.add_told_death(p, o, cookie);
+        }
+    }
+
+    // A notification comes in, and what follows from that.
+    fn arm(&mut self, p: u32, o: ObjectId, cookie: u64)
+        requires deaths { 1 ≤ death_room self.old.objects }
+        requires works { CanFollow self.old 1 }
+        ensures stands { (s : Space) → Within self.old s → Within self.new (completed (deaths.requested s p o cookie)) }
+    {
+        self.add_request(p, o, cookie);
+        self.complete();
+    }
+
+    /// The step by which a process asks to be told of an owner's end.
+    pub(crate) fn request_death(&mut self, a: Actor, n: u32, cookie: u64) -> Result<Plain, Why>
+        ensures ok { IfOk result (λ x. Meets self.old self.new (IsBy a) (λ s. deaths.request_step s a.process.made n cookie) (answer_of x)) }
+        ensures err { OnErr result (IsKept self.old self.new) }
+        ensures full { IfErr result (IsRefused self.old (IsBy a) (λ s. deaths.request_step s a.process.made n cookie)) }
+    {
+        let o = match self.objects.request_check(a.process.made, n) {
+            Ok(o) => o,
+            Err(note) => return Ok(Plain::Noted(note)),
+        };
+        if self.reserve(0, 0, 0, 1).is_err() {
+            return Err(Why::NoMemory);
+        }
+        self.arm(a.process.made, o, cookie);
+        Ok(Plain::Accepted)
+    }
+
+    // A notification goes, and the thread is told.
+    fn end_death(&mut self, seat: u32, x: DeathNotification)
+        requires { 1 ≤ work_room self.old.calls }
+        ensures stands { (s : Space) → Within self.old s → Within self.new (deaths.death_ended s seat x) }
+        ensures takes { Takes self.old self.new 0 0 0 1 }
+    {
+        self.objects.without_death(x.made);
+        self.add_work(TodoList::OfThread(seat), WorkKind::Cleared(x.cookie));
+    }
+
+    // A notification is cleared: marked where it is queued or told; else it goes.
+    fn drop_request(&mut self, seat: u32, x: DeathNotification)
+        requires { 1 ≤ work_room self.old.calls }
+        ensures stands { (s : Space) → Within self.old s → Within self.new (deaths.cleared s seat x) }
+        ensures takes { Takes self.old self.new 0 0 0 1 }
+    {
+        if is_out(x.phase) {
+            self.objects.mark_cleared(x.made);
+        } else {
+            self.end_death(seat, x);
+        }
+    }
+
+    // A notification is cleared, and what follows from that.
+    fn disarm(&mut self, seat: u32, x: DeathNotification)
+        requires { CanFollow self.old 1 }
+        ensures stands { (s : Space) → Within self.old s → Within self.new (completed (deaths.cleared s seat x)) }
+    {
+        self.drop_request(seat, x);
+        self.complete();
+    }
+
+    /// The step by which a process takes back that it asked to be told of an owner's end.
+    pub(crate) fn clear_death(&mut self, a: Actor, n: u32, cookie: u64) -> Result<Plain, Why>
+        ensures ok { IfOk result (λ x. Meets self.old self.new (IsBy a) (λ s. deaths.clear_step s a.thread.seat a.process.made n cookie) (answer_of x)) }
+        ensures err { OnErr result (IsKept self.old self.new) }
+        ensures full { IfErr result (IsRefused self.old (IsBy a) (λ s. deaths.clear_step s a.thread.seat a.process.made n cookie)) }
+    {
+        let x = match self.objects.clear_check(a.process.made, n, cookie) {
+            Ok(x) => x,
+            Err(note) => return Ok(Plain::Noted(note)),
+        };
+        if self.reserve(0, 0, 0, 1).is_err() {
+            return Err(Why::NoMemory);
+        }
+        self.disarm(a.thread.seat, x);
+        Ok(Plain::Accepted)
+    }
+
+    // The process knows of the owner's end: a marked notification goes; else it is done.
+    fn know_death(&mut self, seat: u32, x: DeathNotification)
+        requires { 1 ≤ work_room self.old.calls }
+        ensures stands { (s : Space) → Within self.old s → Within self.new (deaths.death_done s seat x) }
+        ensures takes { Takes self.old self.new 0 0 0 1 }
+    {
+        if x.cleared {
+            self.end_death(seat, x);
+        } else {
+            self.objects.with_phase(x.made, Phase::Done);
+        }
+    }
+
+    // The process knows of the owner's end, and what follows from that.
+    fn finish_death(&mut self, seat: u32, x: DeathNotification)
+        requires { CanFollow self.old 1 }
+        ensures stands { (s : Space) → Within self.old s → Within self.new (completed (deaths.death_done s seat x)) }
+    {
+        self.know_death(seat, x);
+        self.complete();
+    }
+
+    /// The step by which a process acknowledges that it was told of an owner's end.
+    pub(crate) fn death_done(&mut self, a: Actor, cookie: u64) -> Result<Plain, Why>
+        ensures ok { IfOk result (λ x. Meets self.old self.new (IsBy a) (λ s. deaths.death_done_step s a.thread.seat a.process.made cookie) (answer_of x)) }
+        ensures err { OnErr result (IsKept self.old self.new) }
+        ensures full { IfErr result (IsRefused self.old (IsBy a) (λ s. deaths.death_done_step s a.thread.seat a.process.made cookie)) }
+    {
+        let x = match self.objects.told_death(a.process.made, cookie) {
+            Some(x) => x,
+            None => return Ok(Plain::Noted(Note::NoneTold)),
+        };
+        if self.reserve(0, 0, 0, 1).is_err() {
+            return Err(Why::NoMemory);
+        }
+        self.finish_death(a.thread.seat, x);
+        Ok(Plain::Accepted)
+    }
+}
