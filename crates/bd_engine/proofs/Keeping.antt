@@ -15,6 +15,9 @@ use Rattle.bd_buffers.specs.WindowsStand.{WindowsOf}
 use Rattle.bd_engine.specs.declared.tables.Tables.{Tables}
 use Rattle.bd_engine.specs.Stands.{StandsAt, Before, Within}
 use Rattle.bd_engine.specs.Keeps.{Keeps, history_of}
+use Rattle.bd_engine.specs.declared.why.Why.{Why}
+use Rattle.bd_engine.specs.declared.why.Why.TheVariants.{NoMemory, HistoryFull}
+use Rattle.bd_engine.specs.Refusals.{FullOnly}
 use Rattle.bd_engine.proofs.Places.{change-steps}
 
 pub keeps-new : (seats : ℕ) (t : Tables) → 1 ≤ seats → seats ≤ 16 → Before t opening → Keeps (history_of seats []) t
@@ -98,3 +101,7 @@ full-by-number h seat x e = ap (λ b. nat_le 4294967295 (length h.entries) || b)
     or-true : (b : Bool) → (b || true) ≡ true
     or-true true = refl
     or-true false = refl
+
+pub full-as : (why : Why) (A B : Type 0) → (A → B) → FullOnly why A → FullOnly why B
+full-as NoMemory A B f x = x
+full-as HistoryFull A B f x = f x

@@ -1,12 +1,9 @@
 //! The step of the object space, over the three tables, and the run of a request.
 #![tactic(auto)]
 
-<<<<<<< HEAD
 mod engine;
-=======
 mod asking;
 mod deaths;
->>>>>>> 771ee19ab3b82711213fc8c25860518dcff29d43
 mod following;
 mod freeing;
 mod looping;
