@@ -1,3 +1,6 @@
 pub mod Stands
 pub mod Refusals
 pub mod Meets
+pub mod Notified
+pub mod Telling
+pub mod Taking

@@ -1,8 +1,11 @@
 //! The step of the object space, over the three tables, and the run of a request.
 #![tactic(auto)]
 
+mod exits;
 mod following;
 mod opening;
+mod reading;
+mod returns;
 mod seats;
 mod tables;
 mod why;

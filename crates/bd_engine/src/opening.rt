@@ -1,6 +1,6 @@
 //! The steps that open a process, attach a thread, and make the context manager.
 
-ghost use Rattle.std.specs.Prelude.{ℕ, ◌≡◌, ◌≤◌, ◌<◌, true, [], IfOk, IfErr, OnOk, OnErr, vec_len, vec_capacity};
+ghost use Rattle.std.specs.Prelude.{ℕ, ◌≡◌, ◌≤◌, ◌<◌, true, [], IfOk, IfErr, OnOk, OnErr, None, vec_len, vec_capacity};
 ghost use Rattle.bd_space.specs.Space.{Space};
 ghost use Rattle.bd_space.specs.Steps as steps;
 ghost use Rattle.bd_objects.specs.Room.{object_room, reference_room};
@@ -30,7 +30,8 @@ fn is_window(window: u32) -> bool
 
 impl Tables {
     fn open_fault(&self, seat: u32, pid: u32, window: u32) -> Option<Fault>
-        ensures { (s : Space) → Before self.now s → result ≡ steps.open_fault s seat pid window }
+        ensures fault { (s : Space) → Before self.now s → result ≡ steps.open_fault s seat pid window }
+        ensures window { result ≡ None → steps.is_window window ≡ true }
     {
         if !is_pid(pid) {
             return Some(Fault::PidRange);
@@ -80,7 +81,7 @@ impl Tables {
         ensures windows { OnOk result (1 ≤ window_room self.new.windows) }
         ensures threads { OnOk result (1 ≤ thread_room self.new.calls) }
     {
-        self.calls.reserve(0)?;
+        self.reserve(0, 0, 0, 0)?;
         self.processes.reserve(1)?;
         self.windows.reserve()?;
         Window::new(self.alloc, size)
@@ -115,7 +116,7 @@ impl Tables {
         let Some(process) = self.process_with_pid(pid) else {
             return Ok(StepAnswer::Refused(Fault::NoSuchPid));
         };
-        if self.calls.reserve(0).is_err() {
+        if self.reserve(0, 0, 0, 0).is_err() {
             return Err(Why::NoMemory);
         }
         self.with_thread(seat, process.made);
@@ -151,7 +152,7 @@ impl Tables {
         if self.is_manager_busy(a.process.made) {
             return Ok(StepAnswer::Refused(Fault::ManagerBusy));
         }
-        if self.objects.reserve(1, 1, 0).is_err() {
+        if self.reserve(1, 1, 0, 0).is_err() {
             return Err(Why::NoMemory);
         }
         self.with_manager(a.process.made);

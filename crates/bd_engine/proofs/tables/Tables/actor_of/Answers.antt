@@ -1,0 +1,15 @@
+use Rattle.std.proofs.Common.{ap, sym, ◌∙◌}
+use Rattle.std.specs.Prelude.{option_map}
+use Rattle.bd_space.specs.declared.space.Process.{Process}
+use Rattle.bd_space.specs.declared.space.Thread.{Thread}
+use Rattle.bd_space.specs.declared.space.Actor.{Actor}
+use Rattle.bd_engine.proofs.tables.Tables.actor_of.Goals as goal
+
+abbrev with_process : Thread → Process → Actor
+with_process t q = record { thread = t; process = q }
+
+pub returns-in-Some : goal.returns-in-Some
+returns-in-Some c = λ n s h. ap (option_map (with_process c.args.thread)) (sym c.in-Some.is ∙ c.process.ensures n s h)
+
+pub returns-in-None : goal.returns-in-None
+returns-in-None c = λ n s h. ap (option_map (with_process c.args.thread)) (sym c.in-None.is ∙ c.process.ensures n s h)
