@@ -77,11 +77,11 @@ fn begin(alloc: Global) -> Result<Taking, AllocError>
 }
 
 impl Taking {
-    // At least so many bytes are left.
-    fn has_room(&self, limit: u32) -> bool
-        ensures { result ≡ not (nat_lt (limit - length self.now.stream.items) 68) }
+    // Fewer bytes are left than the longest return has.
+    fn is_full(&self, limit: u32) -> bool
+        ensures { result ≡ nat_lt (limit - length self.now.stream.items) 68 }
     {
-        (limit as usize).saturating_sub(self.stream.len()) >= 68
+        (limit as usize).saturating_sub(self.stream.len()) < 68
     }
 }
 
@@ -120,7 +120,7 @@ impl Tables {
             let Some(work) = self.calls.work_at(list, k) else {
                 return Ok(taking);
             };
-            if !taking.has_room(limit) {
+            if taking.is_full(limit) {
                 return Ok(taking);
             }
             self.take_one(work, &mut taking)?;
