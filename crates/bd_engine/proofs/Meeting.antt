@@ -1,14 +1,17 @@
 -- A step meets its definition, space by space.
-use Rattle.std.proofs.Common.{◌≡◌, refl, sym, subst}
+use Rattle.std.proofs.Common.{◌≡◌, true, Result, Ok, Err, IfOk, IfErr, refl, ap, sym, subst, ◌∙◌}
 use Rattle.bd_uapi.specs.declared.fault.Fault.{Fault}
 use Rattle.bd_uapi.specs.declared.fault.Note.{Note}
 use Rattle.bd_space.specs.declared.step.StepAnswer.{StepAnswer}
 use Rattle.bd_space.specs.declared.step.StepAnswer.TheVariants.{Noted, Refused}
 use Rattle.bd_space.specs.Space.{Space}
+use Rattle.bd_space.specs.Names.{has_number_past_limit}
 use Rattle.bd_space.specs.Outcomes.{Outcome, noted, refused}
 use Rattle.bd_engine.specs.declared.tables.Tables.{Tables}
 use Rattle.bd_engine.specs.Stands.{Before, Within}
-use Rattle.bd_engine.specs.Meets.{Meets}
+use Rattle.bd_engine.specs.declared.why.Why.{Why}
+use Rattle.bd_engine.specs.Refusals.{FullOnly}
+use Rattle.bd_engine.specs.Meets.{Meets, IsRefused}
 use Rattle.bd_engine.proofs.Standing.{within}
 
 -- the tables stand for this outcome's space, and the answer is its answer
@@ -30,3 +33,20 @@ is-noted t s n h = record { answered = refl; stands = within t s h }
 -- what the definition does by cases, in the case that is so
 pub in-case : {B : Type 0} (new : Tables) (answer : StepAnswer) (f : B → Outcome) (x y : B) → x ≡ y → IsOutcome new answer (f y) → IsOutcome new answer (f x)
 in-case new answer f x y e k = subst (λ b. IsOutcome new answer (f b)) (sym e) k
+
+-- ---- one definition said as another
+
+module _ (old : Tables) (P Q : Space → Type 0) (f g : Space → Outcome) (same : (s : Space) → Before old s → Q s → P s × (g s ≡ f s)) where
+  as_meets : (new : Tables) (answer : StepAnswer) → Meets old new P f answer → Meets old new Q g answer
+  as_meets new answer m = record {
+    answered = λ s h q. let k = same s h q in m.answered s h k.0 ∙ ap (λ (o : Outcome). o.answer) (sym k.1);
+    stands = λ s h q. let k = same s h q in subst (λ (o : Outcome). Within new o.space) (sym k.1) (m.stands s h k.0);
+  }
+
+  pub as-ok : (new : Tables) (r : Result StepAnswer Why) → IfOk r (Meets old new P f) → IfOk r (Meets old new Q g)
+  as-ok new (Ok answer) m = as_meets new answer m
+  as-ok new (Err why) m = m
+
+  pub as-full : (r : Result StepAnswer Why) → IfErr r (IsRefused old P f) → IfErr r (IsRefused old Q g)
+  as-full (Ok answer) m = m
+  as-full (Err why) m = λ s h q. let k = same s h q in subst (λ (o : Outcome). FullOnly why (has_number_past_limit o.space.names ≡ true)) (sym k.1) (m s h k.0)

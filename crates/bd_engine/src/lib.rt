@@ -4,9 +4,11 @@
 mod exits;
 mod following;
 mod opening;
+mod pending;
 mod reading;
 mod returns;
 mod seats;
+mod step;
 mod tables;
 mod why;
 

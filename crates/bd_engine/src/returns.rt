@@ -77,7 +77,7 @@ fn offsets_start(b: &Buffer) -> u64
 
 impl Tables {
     // The seat of the thread that called, if the call is two-way and the thread still lives.
-    fn caller_of(&self, made: u32) -> Option<u32>
+    fn waiting_seat(&self, made: u32) -> Option<u32>
         ensures { (s : Space) → Before self.now s → result ≡ option_and_then (λ f. f.caller) (find (is_frame made) s.frames) }
     {
         match self.calls.frame(made) {
@@ -87,11 +87,11 @@ impl Tables {
     }
 
     // That thread, with its process.
-    fn sender(&self, made: u32) -> Option<Actor>
+    fn waiting_actor(&self, made: u32) -> Option<Actor>
         ensures { (s : Space) → Before self.now s
             → result ≡ option_and_then (seats.actor s) (option_and_then (λ f. f.caller) (find (is_frame made) s.frames)) }
     {
-        match self.caller_of(made) {
+        match self.waiting_seat(made) {
             Some(seat) => self.actor(seat),
             None => None,
         }
@@ -102,14 +102,14 @@ impl Tables {
     fn sender_pid(&self, made: u32) -> u32
         ensures { (s : Space) → Before self.now s → result ≡ spec.sender_pid s made }
     {
-        match self.sender(made) {
+        match self.waiting_actor(made) {
             Some(a) => a.process.pid,
             None => 0,
         }
     }
 
     // The object that a call is on, if it is one.
-    fn target_of(&self, b: &Buffer) -> Option<Object>
+    fn called_object(&self, b: &Buffer) -> Option<Object>
         ensures { (s : Space) → Before self.now s → result ≡ spec.target_in s.objects b.now }
     {
         match b.target {
@@ -119,11 +119,11 @@ impl Tables {
     }
 
     // The ptr and the cookie of that object, else 0.
-    fn target_words(&self, b: &Buffer) -> (u64, u64)
+    fn called_words(&self, b: &Buffer) -> (u64, u64)
         ensures target { (s : Space) → Before self.now s → result.0 ≡ unwrap_or (option_map (λ o. o.ptr) (spec.target_in s.objects b.now)) 0 }
         ensures cookie { (s : Space) → Before self.now s → result.1 ≡ unwrap_or (option_map (λ o. o.cookie) (spec.target_in s.objects b.now)) 0 }
     {
-        match self.target_of(b) {
+        match self.called_object(b) {
             Some(o) => (o.ptr, o.cookie),
             None => (0, 0),
         }
@@ -135,7 +135,7 @@ impl Tables {
         requires { IsPlaced b.now }
         ensures { IfOk result (λ r. (s : Space) → Before self.now s → r ≡ spec.record_of s b.now) }
     {
-        let (target, cookie) = self.target_words(b);
+        let (target, cookie) = self.called_words(b);
         let sender_pid = signed(self.sender_pid(b.made))?;
         Ok(TransactionData {
             target,

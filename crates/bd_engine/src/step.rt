@@ -1,0 +1,87 @@
+//! Every step of the tables.
+
+ghost use Rattle.std.specs.Prelude.{ℕ, ◌≡◌, IfOk, IfErr, OnErr};
+ghost use Rattle.bd_space.specs.Space.{Space};
+ghost use Rattle.bd_space.specs.Seats.{actor};
+ghost use Rattle.bd_space.specs.Steps.{change};
+ghost use Rattle.bd_space.specs.Commands.{command_step};
+ghost use Rattle.bd_engine.specs.Meets.{Meets, IsAny, IsBy, IsNobody, IsKept, IsRefused};
+
+use crate::tables::Tables;
+use crate::why::Why;
+use bd_space::{Actor, Parcel, Step, StepAnswer};
+use bd_uapi::{Command, Fault};
+
+impl Tables {
+    // The step of a command.
+    #[tactic(auto, unfolding(bd_space::specs::Commands::command_step))]
+    fn command(
+        &mut self,
+        a: Actor,
+        command: &Command,
+        parcel: &Option<Parcel>,
+    ) -> Result<StepAnswer, Why>
+        ensures ok { IfOk result (Meets self.old self.new (IsBy a) (λ s. command_step s a command.now parcel.now)) }
+        ensures err { OnErr result (IsKept self.old self.new) }
+        ensures full { IfErr result (IsRefused self.old (IsBy a) (λ s. command_step s a command.now parcel.now)) }
+    {
+        match command {
+            Command::Transaction(d) => self.transaction(a, d, parcel),
+            Command::Reply(d) => self.reply(a, d, parcel),
+            Command::FreeBuffer(pointer) => self.free(a, *pointer),
+            Command::Increfs(n) => self.ask(a, *n, false),
+            Command::Acquire(n) => self.ask(a, *n, true),
+            Command::Release(n) => self.drop_asked(a, *n, true),
+            Command::Decrefs(n) => self.drop_asked(a, *n, false),
+            Command::IncrefsDone(ptr, cookie) => self.acknowledge(a, *ptr, *cookie, false),
+            Command::AcquireDone(ptr, cookie) => self.acknowledge(a, *ptr, *cookie, true),
+            Command::EnterLooper => self.set_looping(a, true),
+            Command::ExitLooper => self.set_looping(a, false),
+            Command::RequestDeathNotification(n, cookie) => self.request_death(a, *n, *cookie),
+            Command::ClearDeathNotification(n, cookie) => self.clear_death(a, *n, *cookie),
+            Command::DeadBinderDone(cookie) => self.death_done(a, *cookie),
+        }
+    }
+
+    // The step of a live thread.
+    fn change_by(&mut self, a: Actor, step: &Step) -> Result<StepAnswer, Why>
+        ensures ok { IfOk result (Meets self.old self.new (IsBy a) (λ s. change s a.thread.seat step.now)) }
+        ensures err { OnErr result (IsKept self.old self.new) }
+        ensures full { IfErr result (IsRefused self.old (IsBy a) (λ s. change s a.thread.seat step.now)) }
+    {
+        match step {
+            Step::Open { pid, euid, window } => self.open(a.thread.seat, *pid, *euid, *window),
+            Step::Attach { pid } => self.attach(a.thread.seat, *pid),
+            Step::SetManager => self.set_manager(a),
+            Step::Command { command, parcel } => self.command(a, command, parcel),
+            Step::Read { limit } => self.read(a, *limit),
+            Step::ExitThread => self.exit_thread(a),
+            Step::ExitProcess => self.exit_process(a),
+        }
+    }
+
+    // The step of a seat without a live thread.
+    fn change_alone(&mut self, seat: u32, step: &Step) -> Result<StepAnswer, Why>
+        ensures ok { IfOk result (Meets self.old self.new (IsNobody seat) (λ s. change s seat step.now)) }
+        ensures err { OnErr result (IsKept self.old self.new) }
+        ensures full { IfErr result (IsRefused self.old (IsNobody seat) (λ s. change s seat step.now)) }
+    {
+        match step {
+            Step::Open { pid, euid, window } => self.open(seat, *pid, *euid, *window),
+            Step::Attach { pid } => self.attach(seat, *pid),
+            _ => Ok(StepAnswer::Refused(Fault::NoProcess)),
+        }
+    }
+
+    /// The step of a seat.
+    pub(crate) fn change(&mut self, seat: u32, step: &Step) -> Result<StepAnswer, Why>
+        ensures ok { IfOk result (Meets self.old self.new IsAny (λ s. change s seat step.now)) }
+        ensures err { OnErr result (IsKept self.old self.new) }
+        ensures full { IfErr result (IsRefused self.old IsAny (λ s. change s seat step.now)) }
+    {
+        match self.actor(seat) {
+            Some(a) => self.change_by(a, step),
+            None => self.change_alone(seat, step),
+        }
+    }
+}
