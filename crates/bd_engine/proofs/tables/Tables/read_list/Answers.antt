@@ -13,7 +13,7 @@ returns-clause-ok c = meets _ _ _ _ _ (λ s h by.
     let all = taken s (c.args.limit - 4) (work_on s.todo (Some c.args.list)) in
     let t = c.in_ok-works.ensures s h in
     let read = subst (λ (ws : List Work). Within c.read_by.new.self (read_by s c.args.seat ws)) (c.as_slice-2.ensures.value ∙ t.works_are)
-        (c.read_by.ensures.stands s (within _ s (c.in_ok-reserve_read.ensures.stands s h))) in
+    (c.read_by.ensures.stands s (within _ s (c.in_ok-reserve_read.ensures.stands s h))) in
     record {
       answered = c.in_ok-answer.ensures s (within _ s h) ∙ ap (λ bs. got bs (buffer_taken s c.as_slice.result.now)) t.stream_is
           ∙ ap (λ (ws : List Work). got (stream_of s all) (buffer_taken s ws)) (c.as_slice.ensures.value ∙ t.works_are);
