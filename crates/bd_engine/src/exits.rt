@@ -2,6 +2,8 @@
 
 ghost use Rattle.std.specs.Prelude.{ℕ, ◌≡◌, ◌==◌, ◌+◌, ◌≤◌, not, map, filter, fold, IfOk, IfErr, OnOk, OnErr};
 ghost use Rattle.bd_space.specs.Space.{Space};
+ghost use Rattle.bd_space.specs.Notices.{follow};
+ghost use Rattle.bd_space.specs.Settle.{settle};
 ghost use Rattle.bd_space.specs.Exits as spec;
 ghost use Rattle.bd_objects.specs.Room.{death_count, object_count};
 ghost use Rattle.bd_calls.specs.Room.{work_room, frame_count};
@@ -116,6 +118,15 @@ impl Tables {
         Ok(seats)
     }
 
+    // Names, objects, death notifications and notices follow from an exit, and the calls close that it abandoned.
+    fn after_exit(&mut self)
+        requires { frame_count self.old.calls + object_count self.old.objects ≤ work_room self.old.calls }
+        ensures { (s : Space) → Within self.old s → Within self.new (settle (follow s)) }
+    {
+        self.follow();
+        self.settle();
+    }
+
     /// The step that ends a thread.
     pub(crate) fn exit_thread(&mut self, a: Actor) -> Result<StepAnswer, Why>
         ensures ok { IfOk result (Meets self.old self.new (IsBy a) (λ s. spec.exit_thread_step s a)) }
@@ -126,8 +137,7 @@ impl Tables {
             return Err(Why::NoMemory);
         }
         self.thread_goes(a.thread.seat);
-        self.follow();
-        self.settle();
+        self.after_exit();
         Ok(StepAnswer::Exited)
     }
 
@@ -154,8 +164,7 @@ impl Tables {
             return Err(Why::NoMemory);
         };
         self.process_goes(seats.as_slice(), p);
-        self.follow();
-        self.settle();
+        self.after_exit();
         Ok(StepAnswer::Exited)
     }
 }

@@ -8,5 +8,5 @@ pub returns-clause-ok : goal.returns-clause-ok
 unfolding exit_process_step
 returns-clause-ok c = meets _ _ _ _ _ (λ s h by. record {
   answered = refl;
-  stands = c.settle.ensures.stands _ (c.follow.ensures.stands _ (c.process_goes.ensures.stands s (within _ s (c.reserve_exit.ensures.stands s h)) (c.as_slice.ensures.value ∙ c.in-Ok.ensures.seats s h)));
+  stands = c.after_exit.ensures _ (c.process_goes.ensures.stands s (within _ s (c.reserve_exit.ensures.stands s h)) (c.as_slice.ensures.value ∙ c.in-Ok.ensures.seats s h));
 })

@@ -8,5 +8,5 @@ pub returns-clause-ok : goal.returns-clause-ok
 unfolding exit_thread_step
 returns-clause-ok c = meets _ _ _ _ _ (λ s h by. record {
   answered = refl;
-  stands = c.settle.ensures.stands _ (c.follow.ensures.stands _ (c.thread_goes.ensures.stands s (within _ s (c.reserve.ensures.stands s h))));
+  stands = c.after_exit.ensures _ (c.thread_goes.ensures.stands s (within _ s (c.reserve.ensures.stands s h)));
 })
