@@ -10,3 +10,7 @@ pub mod Runs
 pub mod Acting
 pub mod Changing
 pub mod Accepting
+pub mod Folds
+pub mod Owing
+pub mod Spelt
+pub mod TakingItems

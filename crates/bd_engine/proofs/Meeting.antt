@@ -78,3 +78,6 @@ twice-same r t e = subst (λ y. IfOk y (λ x. x.again ≡ x.answer)) (sym e) (go
     go : (r : Result Plain Why) → IfOk (both r) (λ x. x.again ≡ x.answer)
     go (Ok x) = refl
     go (Err why) = tt
+
+pub answer-is : (old new : Tables) (P : Space → Type 0) (f : Space → Outcome) (a b : StepAnswer) → a ≡ b → Meets old new P f b → Meets old new P f a
+answer-is old new P f a b e m = subst (Meets old new P f) (sym e) m

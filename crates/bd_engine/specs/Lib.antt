@@ -5,3 +5,5 @@ pub mod Notified
 pub mod Plain
 pub mod Keeps
 pub mod Writing
+pub mod Telling
+pub mod Taking

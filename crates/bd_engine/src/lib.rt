@@ -4,6 +4,7 @@
 mod engine;
 mod asking;
 mod deaths;
+mod exits;
 mod following;
 mod freeing;
 mod looping;
@@ -13,6 +14,8 @@ mod pending;
 mod plain;
 mod readiness;
 mod run;
+mod reading;
+mod returns;
 mod seats;
 mod step;
 mod tables;

@@ -1,14 +1,12 @@
 //! Steps that stand in for those being written.
 
-ghost use Rattle.std.specs.Prelude.{◌≡◌, IfOk, IfErr, OnErr};
+ghost use Rattle.std.specs.Prelude.{IfOk, IfErr, OnErr};
 ghost use Rattle.bd_space.specs.Transactions as transactions;
 ghost use Rattle.bd_space.specs.Replies as replies;
-ghost use Rattle.bd_space.specs.Reading as reading;
-ghost use Rattle.bd_space.specs.Exits as exits;
 ghost use Rattle.bd_engine.specs.Plain.{answer_of};
 ghost use Rattle.bd_engine.specs.Meets.{Meets, IsBy, IsKept, IsRefused};
 
-use crate::plain::{Plain, Twice};
+use crate::plain::Plain;
 use crate::tables::Tables;
 use crate::why::Why;
 use bd_space::{Actor, Parcel};
@@ -30,30 +28,4 @@ impl Tables {
     {
         Err(Why::NoMemory)
     }
-
-    pub(crate) fn read(&mut self, a: Actor, limit: u32) -> Result<Twice, Why>
-        ensures ok { IfOk result (λ x. Meets self.old self.new (IsBy a) (λ s. reading.read_step s a limit) x.answer) }
-        ensures twice { IfOk result (λ x. x.again ≡ x.answer) }
-        ensures err { OnErr result (IsKept self.old self.new) }
-        ensures full { IfErr result (IsRefused self.old (IsBy a) (λ s. reading.read_step s a limit)) }
-    {
-        Err(Why::NoMemory)
-    }
-
-    pub(crate) fn exit_thread(&mut self, a: Actor) -> Result<Plain, Why>
-        ensures ok { IfOk result (λ x. Meets self.old self.new (IsBy a) (λ s. exits.exit_thread_step s a) (answer_of x)) }
-        ensures err { OnErr result (IsKept self.old self.new) }
-        ensures full { IfErr result (IsRefused self.old (IsBy a) (λ s. exits.exit_thread_step s a)) }
-    {
-        Err(Why::NoMemory)
-    }
-
-    pub(crate) fn exit_process(&mut self, a: Actor) -> Result<Plain, Why>
-        ensures ok { IfOk result (λ x. Meets self.old self.new (IsBy a) (λ s. exits.exit_process_step s a) (answer_of x)) }
-        ensures err { OnErr result (IsKept self.old self.new) }
-        ensures full { IfErr result (IsRefused self.old (IsBy a) (λ s. exits.exit_process_step s a)) }
-    {
-        Err(Why::NoMemory)
-    }
-
 }

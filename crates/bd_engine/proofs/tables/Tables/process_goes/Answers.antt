@@ -1,0 +1,11 @@
+use Rattle.std.proofs.Common.{subst}
+use Rattle.std.specs.List.{fold}
+use Rattle.bd_space.specs.Exits.{threads_go, thread_goes}
+use Rattle.bd_engine.specs.Stands.{Within}
+use Rattle.bd_engine.proofs.tables.Tables.process_goes.Goals as goal
+
+pub returns-clause-stands : goal.returns-clause-stands
+unfolding threads_go
+returns-clause-stands c = λ s h seats.
+    let gone = subst (λ ts. Within c.threads_go.new.self (fold thread_goes s ts)) seats (c.threads_go.ensures.stands s h) in
+    c.tell_deaths.ensures.stands _ (c.without_process.ensures.stands _ gone)

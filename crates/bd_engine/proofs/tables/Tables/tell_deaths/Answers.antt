@@ -1,0 +1,7 @@
+use Rattle.bd_engine.proofs.Owing.{told-stands}
+use Rattle.bd_engine.proofs.tables.Tables.tell_deaths.Goals as goal
+
+pub returns-clause-stands : goal.returns-clause-stands
+returns-clause-stands c = λ s h.
+    let owing = c.owe_deaths.ensures.stands s h in
+    told-stands c.owe_deaths.new.self _ s c.args.p owing (c.tell_deaths.ensures.stands s owing.objects_stand)

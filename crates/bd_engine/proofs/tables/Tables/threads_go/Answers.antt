@@ -1,0 +1,15 @@
+use Rattle.std.proofs.Common.{◌+◌, sym, subst, arith, rules}
+use Rattle.std.proofs.lemmas.List.Sums.{fold_more}
+use Rattle.bd_space.specs.Space.{Space}
+use Rattle.bd_space.specs.Exits.{thread_goes}
+use Rattle.bd_engine.specs.Stands.{StandsAt}
+use Rattle.bd_engine.proofs.tables.Tables.threads_go.Goals as goal
+
+pub loop-seat-preserved : goal.loop-seat-preserved
+loop-seat-preserved c = record {
+  stands = λ s h.
+      subst (λ (z : Space). StandsAt (z.steps + 1) c.thread_goes.new.self z) (sym (fold_more thread_goes s c.args.seats.now c.loop-seat.seat-index 0 c.loop-seat-test.true))
+      (c.thread_goes.ensures.stands _ (c.loop-seat.invariant.stands s h));
+  takes = search rules;
+  deaths = omega arith;
+}

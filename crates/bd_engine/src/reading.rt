@@ -1,0 +1,229 @@
+//! The step that reads.
+
+ghost use Rattle.std.specs.Prelude.{ℕ, ◌≡◌, ◌+◌, ◌-◌, ◌*◌, ◌≤◌, ◌++◌, ◌∷◌, [], map, false, None, Some, length, option_map, IfOk, IfErr, IfSome, OnOk, OnErr, not, nat_lt};
+ghost use Rattle.std.specs.Option.{option_copied};
+ghost use Rattle.bd_uapi.specs.declared.command.Return.TheVariants.{Noop};
+ghost use Rattle.bd_codec.specs.Spelling.{return_bytes};
+ghost use Rattle.bd_space.specs.Space.{Space};
+ghost use Rattle.bd_space.specs.Words.{first_of};
+ghost use Rattle.bd_space.specs.Todo as todo;
+ghost use Rattle.bd_space.specs.Reading as spec;
+ghost use Rattle.bd_buffers.specs.WindowsStand.{made_of_buffer};
+ghost use Rattle.bd_objects.specs.Room.{reference_room, object_count};
+ghost use Rattle.bd_calls.specs.Room.{work_room};
+ghost use Rattle.bd_engine.specs.Stands.{StandsAt, Before, Within, Takes};
+ghost use Rattle.bd_engine.specs.Meets.{Meets, IsAny, IsBy, IsKept, IsRefused};
+ghost use Rattle.bd_engine.specs.Taking.{AreTaken};
+
+use crate::plain::{Plain, Twice};
+use crate::tables::Tables;
+use crate::why::Why;
+use bd_codec::write_return;
+use bd_space::{Actor, Buffer, Bytes, StepAnswer, Thread, TodoList, Work, WorkKind};
+use bd_uapi::{Fault, Return};
+use std::alloc::{AllocError, Global};
+
+// What a read takes: the work items, and the bytes of their returns after those of a BR_NOOP.
+#[derive(Drop)]
+struct Taking {
+    works: Vec<Work>,
+    stream: Vec<u8>,
+}
+
+// Nothing is read after it.
+fn ends_read(kind: WorkKind) -> bool
+    ensures { result ≡ spec.ends_read kind }
+{
+    matches!(
+        kind,
+        WorkKind::Call(_) | WorkKind::Reply(_) | WorkKind::Death(_)
+    )
+}
+
+fn handed_over(kind: WorkKind) -> Option<u32>
+    ensures { result ≡ todo.handed_over kind }
+{
+    match kind {
+        WorkKind::Call(buffer) | WorkKind::Reply(buffer) => Some(buffer),
+        _ => None,
+    }
+}
+
+// The buffer that is handed over by reading these.
+fn handed_by(works: &[Work]) -> Option<u32>
+    ensures { result ≡ first_of (map (λ w. todo.handed_over w.kind) works.now) }
+{
+    for work in works {
+        let buffer = handed_over(work.kind);
+        if buffer.is_some() {
+            return buffer;
+        }
+    }
+    None
+}
+
+// Nothing is taken yet.
+fn begin(alloc: Global) -> Result<Taking, AllocError>
+    ensures works { IfOk result (λ t. t.works.items ≡ []) }
+    ensures stream { IfOk result (λ t. t.stream.items ≡ return_bytes Noop) }
+{
+    let mut stream = Vec::new(alloc);
+    if write_return(&Return::Noop, &mut stream).is_err() {
+        return Err(AllocError);
+    }
+    Ok(Taking {
+        works: Vec::new(alloc),
+        stream,
+    })
+}
+
+impl Taking {
+    // Fewer bytes are left than the longest return has.
+    fn is_full(&self, limit: u32) -> bool
+        ensures { result ≡ nat_lt (limit - length self.now.stream.items) 68 }
+    {
+        (limit as usize).saturating_sub(self.stream.len()) < 68
+    }
+}
+
+impl Tables {
+    // The list that a thread reads, if anything is on it.
+    fn list_to_read(&self, thread: &Thread) -> Option<TodoList>
+        ensures some { IfSome result (λ list. (s : Space) → Before self.now s → todo.list_to_read s thread.now ≡ todo.work_on s.todo (Some list)) }
+        ensures filled { IfSome result (λ list. (s : Space) → Before self.now s → spec.is_empty (todo.list_to_read s thread.now) ≡ false) }
+        ensures none { result ≡ None → (s : Space) → Before self.now s → todo.list_to_read s thread.now ≡ [] }
+    {
+        match self.calls.reads(thread) {
+            Some(list) => match self.calls.work_at(list, 0) {
+                Some(_) => Some(list),
+                None => None,
+            },
+            None => None,
+        }
+    }
+
+    // One work item more is taken.
+    fn take_one(&self, work: Work, taking: &mut Taking) -> Result<(), AllocError>
+        ensures works { OnOk result (taking.new.works.items ≡ taking.old.works.items ++ work ∷ []) }
+        ensures stream { OnOk result ((s : Space) → Before self.now s → taking.new.stream.items ≡ taking.old.stream.items ++ spec.bytes_read s work) }
+    {
+        self.append_work(work.kind, &mut taking.stream)?;
+        taking.works.push(work)?;
+        Ok(())
+    }
+
+    // What a read takes off a list: item after item, while at least 68 bytes are left and none ends the read.
+    fn take(&self, list: TodoList, limit: u32) -> Result<Taking, AllocError>
+        ensures { IfOk result (λ t. (s : Space) → Before self.now s → AreTaken s limit (todo.work_on s.todo (Some list)) t.works.items t.stream.items) }
+    {
+        let mut taking = begin(self.alloc)?;
+        for k in 0..usize::MAX {
+            let Some(work) = self.calls.work_at(list, k) else {
+                return Ok(taking);
+            };
+            if taking.is_full(limit) {
+                return Ok(taking);
+            }
+            self.take_one(work, &mut taking)?;
+            if ends_read(work.kind) {
+                return Ok(taking);
+            }
+        }
+        // No memory holds so many.
+        Err(AllocError)
+    }
+
+    // The buffer that is handed over by reading these.
+    fn buffer_taken(&self, works: &[Work]) -> Option<&Buffer>
+        ensures { (s : Space) → Within self.now s → option_copied result ≡ spec.buffer_taken s works.now }
+    {
+        match handed_by(works) {
+            Some(made) => self.windows.buffer(made),
+            None => None,
+        }
+    }
+
+    // Where that buffer was made.
+    fn made_taken(&self, works: &[Work]) -> Option<u32>
+        ensures { (s : Space) → Within self.now s → result ≡ option_map made_of_buffer (spec.buffer_taken s works.now) }
+    {
+        match self.buffer_taken(works) {
+            Some(b) => Some(b.made),
+            None => None,
+        }
+    }
+
+    // The answer of a read: the bytes, and copies of the data and offsets that are handed over.
+    fn got(&self, works: &[Work], stream: Vec<u8>) -> Result<StepAnswer, AllocError>
+        ensures { IfOk result (λ answer. (s : Space) → Within self.now s → answer ≡ spec.got stream.items (spec.buffer_taken s works.now)) }
+    {
+        match self.buffer_taken(works) {
+            Some(b) => Ok(StepAnswer::Got {
+                stream: Bytes::new(stream),
+                bytes: b.bytes.copied()?,
+                offsets: b.offsets.copied()?,
+            }),
+            None => Ok(StepAnswer::Got {
+                stream: Bytes::new(stream),
+                bytes: Bytes::new(Vec::new(self.alloc)),
+                offsets: Bytes::new(Vec::new(self.alloc)),
+            }),
+        }
+    }
+
+    // Makes room for the reading of so many work items.
+    fn reserve_read(&mut self, works: usize) -> Result<(), AllocError>
+        ensures stands { IsKept self.old self.new }
+        ensures references { OnOk result (2 * works ≤ reference_room self.new.objects) }
+        ensures works { OnOk result (object_count self.new.objects ≤ work_room self.new.calls) }
+    {
+        let references = works.checked_mul(2).ok_or(AllocError)?;
+        self.reserve(0, references, 0, 0)
+    }
+
+    // The thread of a seat has read these work items.
+    fn read_by(&mut self, seat: u32, works: &[Work])
+        requires { 2 * length works.now ≤ reference_room self.old.objects }
+        ensures stands { (s : Space) → Within self.old s → Within self.new (spec.read_by s seat works.now) }
+        ensures takes { Takes self.old self.new 0 0 0 0 }
+    {
+        let made = self.made_taken(works);
+        self.objects.read_by(self.steps, works);
+        self.calls.read_by(seat, works);
+        self.windows.hand_out(made);
+    }
+
+    // The thread of a seat reads a list.
+    fn read_list(&mut self, seat: u32, list: TodoList, limit: u32) -> Result<Twice, AllocError>
+        ensures ok { IfOk result (λ x. Meets self.old self.new IsAny (λ s. spec.read_taking s seat (spec.taken s (limit - 4) (todo.work_on s.todo (Some list)))) x.answer) }
+        ensures twice { IfOk result (λ x. x.again ≡ x.answer) }
+        ensures err { OnErr result (IsKept self.old self.new) }
+    {
+        let Taking { works, stream } = self.take(list, limit)?;
+        let answer = self.got(works.as_slice(), stream)?;
+        let again = answer.copied()?;
+        self.reserve_read(works.len())?;
+        self.read_by(seat, works.as_slice());
+        self.follow();
+        Ok(Twice { answer, again })
+    }
+
+    /// The step that reads.
+    pub(crate) fn read(&mut self, a: Actor, limit: u32) -> Result<Twice, Why>
+        ensures ok { IfOk result (λ x. Meets self.old self.new (IsBy a) (λ s. spec.read_step s a limit) x.answer) }
+        ensures twice { IfOk result (λ x. x.again ≡ x.answer) }
+        ensures err { OnErr result (IsKept self.old self.new) }
+        ensures full { IfErr result (IsRefused self.old (IsBy a) (λ s. spec.read_step s a limit)) }
+    {
+        if limit < 72 {
+            return Ok(Plain::Refused(Fault::ReadTooSmall).twice());
+        }
+        let Some(list) = self.list_to_read(&a.thread) else {
+            return Ok(Plain::Refused(Fault::Again).twice());
+        };
+        match self.read_list(a.thread.seat, list, limit) {
+            Ok(taken) => Ok(taken),
+            Err(AllocError) => Err(Why::NoMemory),
+        }
+    }
+}

@@ -1,0 +1,236 @@
+//! What a work item gives to be read: its returns, and their bytes.
+
+ghost use Rattle.std.specs.Prelude.{ℕ, pos, ◌≡◌, ◌+◌, ◌*◌, ◌/◌, ◌≤◌, ◌++◌, ◌∷◌, [], find, map, length, option_and_then, option_map, unwrap_or, IfOk, OnOk};
+ghost use Rattle.std.specs.List.{flat_map, concat};
+ghost use Rattle.std.specs.Option.{option_copied};
+ghost use Rattle.bd_codec.specs.Spelling.{return_bytes};
+ghost use Rattle.bd_space.specs.Space.{Space};
+ghost use Rattle.bd_space.specs.Words.{round_up as rounded};
+ghost use Rattle.bd_space.specs.Seats as seats;
+ghost use Rattle.bd_space.specs.Frames.{is_frame};
+ghost use Rattle.bd_space.specs.Freeing.{pointer};
+ghost use Rattle.bd_space.specs.Reading as spec;
+ghost use Rattle.bd_space.specs.declared.space.WorkKind.TheVariants as work;
+ghost use Rattle.bd_buffers.specs.WindowsStand.{IsPlaced};
+ghost use Rattle.bd_engine.specs.Stands.{Before};
+
+use crate::tables::Tables;
+use bd_codec::write_return;
+use bd_space::{Actor, Buffer, Object, WorkKind};
+use bd_uapi::{Return, TransactionData};
+use std::alloc::AllocError;
+
+// One return, if there is one.
+fn alone(r: Option<Return>) -> [Option<Return>; 4]
+    ensures { flat_map spec.one result ≡ spec.one r }
+{
+    [r, None, None, None]
+}
+
+// Appends the spelling of a return, if there is one.
+fn append_one(r: &Option<Return>, out: &mut Vec<u8>) -> Result<(), AllocError>
+    ensures { OnOk result (out.new.items ≡ out.old.items ++ concat (map return_bytes (spec.one r.now))) }
+{
+    match r {
+        Some(r) => match write_return(r, out) {
+            Ok(()) => Ok(()),
+            Err(_) => Err(AllocError),
+        },
+        None => Ok(()),
+    }
+}
+
+/// Appends the spelling of returns.
+pub(crate) fn append_returns(rs: &[Option<Return>], out: &mut Vec<u8>) -> Result<(), AllocError>
+    ensures { OnOk result (out.new.items ≡ out.old.items ++ concat (map return_bytes (flat_map spec.one rs.now))) }
+{
+    for r in rs {
+        append_one(r, out)?;
+    }
+    Ok(())
+}
+
+// A pid as it is read.
+fn signed(pid: u32) -> Result<i32, AllocError>
+    ensures { IfOk result (λ n. n ≡ pos pid) }
+{
+    match i32::try_from(pid) {
+        Ok(n) => Ok(n),
+        Err(_) => Err(AllocError),
+    }
+}
+
+// Where a buffer's data begins, as its receiver sees it.
+fn data_start(b: &Buffer) -> u64
+    ensures { result ≡ pointer b.now }
+{
+    65536 + b.start as u64
+}
+
+// Where its offsets begin.
+fn offsets_start(b: &Buffer) -> u64
+    requires { IsPlaced b.now }
+    ensures { result ≡ pointer b.now + rounded (length b.now.bytes) }
+{
+    data_start(b) + 8 * ((b.bytes.len() as u64 + 7) / 8)
+}
+
+impl Tables {
+    // The seat of the thread that called, if the call is two-way and the thread still lives.
+    fn waiting_seat(&self, made: u32) -> Option<u32>
+        ensures { (s : Space) → Before self.now s → result ≡ option_and_then (λ f. f.caller) (find (is_frame made) s.frames) }
+    {
+        match self.calls.frame(made) {
+            Some(frame) => frame.caller,
+            None => None,
+        }
+    }
+
+    // That thread, with its process.
+    fn waiting_actor(&self, made: u32) -> Option<Actor>
+        ensures { (s : Space) → Before self.now s
+            → result ≡ option_and_then (seats.actor s) (option_and_then (λ f. f.caller) (find (is_frame made) s.frames)) }
+    {
+        match self.waiting_seat(made) {
+            Some(seat) => self.actor(seat),
+            None => None,
+        }
+    }
+
+    // Its pid, else 0.
+    #[tactic(auto, unfolding(bd_space::specs::Reading::sender_pid))]
+    fn sender_pid(&self, made: u32) -> u32
+        ensures { (s : Space) → Before self.now s → result ≡ spec.sender_pid s made }
+    {
+        match self.waiting_actor(made) {
+            Some(a) => a.process.pid,
+            None => 0,
+        }
+    }
+
+    // The object that a call is on, if it is one.
+    fn called_object(&self, b: &Buffer) -> Option<Object>
+        ensures { (s : Space) → Before self.now s → result ≡ spec.target_in s.objects b.now }
+    {
+        match b.target {
+            Some(o) => self.objects.object(o),
+            None => None,
+        }
+    }
+
+    // The ptr and the cookie of that object, else 0.
+    fn called_words(&self, b: &Buffer) -> (u64, u64)
+        ensures target { (s : Space) → Before self.now s → result.0 ≡ unwrap_or (option_map (λ o. o.ptr) (spec.target_in s.objects b.now)) 0 }
+        ensures cookie { (s : Space) → Before self.now s → result.1 ≡ unwrap_or (option_map (λ o. o.cookie) (spec.target_in s.objects b.now)) 0 }
+    {
+        match self.called_object(b) {
+            Some(o) => (o.ptr, o.cookie),
+            None => (0, 0),
+        }
+    }
+
+    // What the receiver of a buffer reads of it.
+    #[tactic(auto, unfolding(bd_space::specs::Reading::record_of))]
+    fn record_of(&self, b: &Buffer) -> Result<TransactionData, AllocError>
+        requires { IsPlaced b.now }
+        ensures { IfOk result (λ r. (s : Space) → Before self.now s → r ≡ spec.record_of s b.now) }
+    {
+        let (target, cookie) = self.called_words(b);
+        let sender_pid = signed(self.sender_pid(b.made))?;
+        Ok(TransactionData {
+            target,
+            cookie,
+            code: b.code,
+            flags: b.flags,
+            sender_pid,
+            sender_euid: b.euid,
+            data_size: b.bytes.len() as u64,
+            offsets_size: b.offsets.len() as u64,
+            buffer: data_start(b),
+            offsets: offsets_start(b),
+        })
+    }
+
+    // The record of the buffer made there, if it lives.
+    fn record_at(&self, made: u32) -> Result<Option<TransactionData>, AllocError>
+        ensures { IfOk result (λ r. (s : Space) → Before self.now s → r ≡ option_map (spec.record_of s) (spec.buffer_in s.buffers made)) }
+    {
+        match self.windows.buffer(made) {
+            Some(b) => match self.record_of(b) {
+                Ok(r) => Ok(Some(r)),
+                Err(why) => Err(why),
+            },
+            None => Ok(None),
+        }
+    }
+
+    // A call.
+    #[tactic(auto, unfolding(bd_space::specs::Reading::returns_of))]
+    fn call_return(&self, made: u32) -> Result<Option<Return>, AllocError>
+        ensures { IfOk result (λ r. (s : Space) → Before self.now s → spec.one r ≡ spec.returns_of s (work.Call made)) }
+    {
+        match self.record_at(made) {
+            Ok(Some(r)) => Ok(Some(Return::Transaction(r))),
+            Ok(None) => Ok(None),
+            Err(why) => Err(why),
+        }
+    }
+
+    // A reply.
+    #[tactic(auto, unfolding(bd_space::specs::Reading::returns_of))]
+    fn reply_return(&self, made: u32) -> Result<Option<Return>, AllocError>
+        ensures { IfOk result (λ r. (s : Space) → Before self.now s → spec.one r ≡ spec.returns_of s (work.Reply made)) }
+    {
+        match self.record_at(made) {
+            Ok(Some(r)) => Ok(Some(Return::Reply(r))),
+            Ok(None) => Ok(None),
+            Err(why) => Err(why),
+        }
+    }
+
+    // The end of an object's owner.
+    #[tactic(auto, unfolding(bd_space::specs::Reading::returns_of))]
+    fn death_return(&self, made: u32) -> Option<Return>
+        ensures { (s : Space) → Before self.now s → spec.one result ≡ spec.returns_of s (work.Death made) }
+    {
+        match self.objects.death(made) {
+            Some(x) => Some(Return::DeadBinder(x.cookie)),
+            None => None,
+        }
+    }
+
+    // The returns that a work item gives.
+    #[tactic(auto, unfolding(bd_space::specs::Reading::returns_of))]
+    fn returns_of(&self, kind: WorkKind) -> Result<[Option<Return>; 4], AllocError>
+        ensures { IfOk result (λ rs. (s : Space) → Before self.now s → flat_map spec.one rs ≡ spec.returns_of s kind) }
+    {
+        match kind {
+            WorkKind::Notice(o) => Ok(self.objects.notice_returns(o)),
+            WorkKind::Complete => Ok(alone(Some(Return::TransactionComplete))),
+            WorkKind::Refusal(r) => Ok(alone(Some(r))),
+            WorkKind::Verdict(r) => Ok(alone(Some(r))),
+            WorkKind::Call(b) => match self.call_return(b) {
+                Ok(r) => Ok(alone(r)),
+                Err(why) => Err(why),
+            },
+            WorkKind::Reply(b) => match self.reply_return(b) {
+                Ok(r) => Ok(alone(r)),
+                Err(why) => Err(why),
+            },
+            WorkKind::Death(n) => Ok(alone(self.death_return(n))),
+            WorkKind::Cleared(cookie) => {
+                Ok(alone(Some(Return::ClearDeathNotificationDone(cookie))))
+            }
+        }
+    }
+
+    /// Appends the bytes of the returns that a work item gives.
+    pub(crate) fn append_work(&self, kind: WorkKind, out: &mut Vec<u8>) -> Result<(), AllocError>
+        ensures { OnOk result ((s : Space) → Before self.now s → out.new.items ≡ out.old.items ++ concat (map return_bytes (spec.returns_of s kind))) }
+    {
+        match self.returns_of(kind) {
+            Ok(rs) => append_returns(&rs, out),
+            Err(why) => Err(why),
+        }
+    }
+}
