@@ -15,7 +15,7 @@ returns-then-limit-lt72-clause-ok c = answer-is _ _ _ _ _ _ c.twice.ensures.answ
 
 pub returns-in_default-clause-ok : goal.returns-in_default-clause-ok
 unfolding read_step
-returns-in_default-clause-ok c = answer-is _ _ _ _ _ _ c.twice.ensures.answer (meets _ _ _ _ _ (λ s h by.
+returns-in_default-clause-ok c = answer-is _ _ _ _ _ _ c.twice-in_default.ensures.answer (meets _ _ _ _ _ (λ s h by.
     let ws = list_to_read s c.args.a.thread in
     in-case _ _ (read_outcome s c.args.a.thread.seat c.args.limit ws) _ _
     (nothing c.args.limit ws c.if-limit-lt72.false (ap is_empty (c.list_to_read.ensures.none c.in_default.is s h))) (is-refused _ s Again h)))
