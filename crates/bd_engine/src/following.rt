@@ -4,16 +4,16 @@ ghost use Rattle.std.specs.Prelude.{ℕ, ◌≡◌, ◌+◌, ◌≤◌};
 ghost use Rattle.bd_space.specs.Space.{Space};
 ghost use Rattle.bd_space.specs.Names.{names_go};
 ghost use Rattle.bd_space.specs.References.{objects_go};
-ghost use Rattle.bd_space.specs.Notices.{deaths_go, work_goes, with_notice, notify, follow};
-ghost use Rattle.bd_space.specs.declared.space.TodoList.TheVariants.{OfProcess};
+ghost use Rattle.bd_space.specs.Notices.{deaths_go, work_goes, notify, follow};
 ghost use Rattle.bd_space.specs.Settle.{settle};
 ghost use Rattle.bd_space.specs.Outcomes.{completed};
 ghost use Rattle.bd_objects.specs.Room.{object_count};
 ghost use Rattle.bd_calls.specs.Room.{work_room, frame_count};
 ghost use Rattle.bd_engine.specs.Stands.{StandsAt, Within, Takes, CanFollow};
+ghost use Rattle.bd_engine.specs.Notified.{notified};
 
 use crate::tables::Tables;
-use bd_space::{Object, TodoList};
+use bd_space::TodoList;
 
 impl Tables {
     // Names go with the references that they rest on, objects that nothing keeps, and death notifications with their names.
@@ -36,16 +36,17 @@ impl Tables {
         self.calls.retain_work(|kind| objects.still_due(processes, &kind));
     }
 
-    // The notice that is missing of this object is made on its owner's list.
-    fn notify_one(&mut self, x: &Object)
+    // The notice that is missing of the object of an index is made on its owner's list.
+    fn notify_at(&mut self, k: usize)
         requires { 1 ≤ work_room self.old.calls }
-        ensures stands { (n : ℕ) (s : Space) → StandsAt n self.old s → StandsAt n self.new
-            (record s { todo = with_notice s.steps s.processes s.references (OfProcess x.now.owner) s.todo x.now }) }
+        ensures stands { (n : ℕ) (s : Space) → StandsAt n self.old (notified s k) → StandsAt n self.new (notified s (k + 1)) }
         ensures takes { Takes self.old self.new 0 0 0 1 }
     {
-        let wanted = self.objects.wants_notice(self.processes.as_slice(), x);
-        let list = TodoList::OfProcess(x.owner);
-        self.calls.add_notice(self.steps, list, x.id, wanted);
+        if let Some(x) = self.objects.object_at(k) {
+            let wanted = self.objects.wants_notice(self.processes.as_slice(), &x);
+            let list = TodoList::OfProcess(x.owner);
+            self.calls.add_notice(self.steps, list, x.id, wanted);
+        }
     }
 
     // Each notice that is missing is made on its owner's list.
@@ -55,9 +56,7 @@ impl Tables {
         ensures takes { Takes self.old self.new 0 0 0 (object_count self.old.objects) }
     {
         for k in 0..self.objects.object_count() {
-            if let Some(x) = self.objects.object_at(k) {
-                self.notify_one(&x);
-            }
+            self.notify_at(k);
         }
     }
 

@@ -1,9 +1,11 @@
 //! The step of the object space, over the three tables, and the run of a request.
 #![tactic(auto)]
 
+mod delivery;
 mod following;
 mod opening;
 mod seats;
+mod sending;
 mod tables;
 mod why;
 

@@ -1,0 +1,95 @@
+-- How tables go on standing for a space.
+use Rattle.std.proofs.Common.{◌≡◌, ℕ, zero, suc, ◌+◌, ◌<◌, true, List, [], length, Option, Some, None, refl, ap, sym, subst, ◌∙◌, arith}
+use Rattle.std.proofs.lemmas.List.Elements.{All-weaker}
+use Rattle.std.specs.List.{find}
+use Rattle.bd_uapi.specs.declared.command.Return.TheVariants.{DeadReply}
+use Rattle.bd_space.specs.declared.space.Process.{Process}
+use Rattle.bd_space.specs.declared.space.Buffer.{Buffer}
+use Rattle.bd_space.specs.declared.space.Frame.{Frame}
+use Rattle.bd_space.specs.declared.space.WorkKind.{WorkKind}
+use Rattle.bd_space.specs.declared.space.WorkKind.TheVariants.{Verdict}
+use Rattle.bd_space.specs.declared.space.TodoList.TheVariants.{OfThread}
+use Rattle.bd_space.specs.Space.{Space}
+use Rattle.bd_space.specs.Frames.{closed}
+use Rattle.bd_space.specs.Todo.{owe}
+use Rattle.bd_space.specs.References.{objects_go}
+use Rattle.bd_space.specs.Names.{names_go, has_number_past_limit}
+use Rattle.bd_space.specs.Turns.{ripen}
+use Rattle.bd_space.specs.Notices.{follow, notify, work_goes, deaths_go}
+use Rattle.bd_space.specs.Settle.{settle, settle_one, settle_times, is_abandoned}
+use Rattle.bd_space.specs.Outcomes.{completed}
+use Rattle.bd_objects.specs.Stands as objects
+use Rattle.bd_calls.specs.declared.table.CallTable.{CallTable}
+use Rattle.bd_calls.specs.Stands as calls
+use Rattle.bd_buffers.specs.WindowsStand.{AreMade, WindowsOf}
+use Rattle.bd_engine.specs.declared.tables.Tables.{Tables}
+use Rattle.bd_engine.specs.Stands.{StandsAt, Before, Within}
+
+-- ---- from before a step into it
+
+made_wider : (bound : ℕ) (ps : List Process) (bs : List Buffer) → AreMade bound ps bs → AreMade (bound + 1) ps bs
+made_wider bound ps bs is = record {
+  processes_in_order = is.processes_in_order;
+  processes_before = All-weaker (λ (q : Process). q.made < bound) (λ q. q.made < bound + 1) (λ q h. omega arith) ps is.processes_before;
+  buffers_in_order = is.buffers_in_order;
+  buffers_before = All-weaker (λ (b : Buffer). b.made < bound) (λ b. b.made < bound + 1) (λ b h. omega arith) bs is.buffers_before;
+  received = is.received;
+}
+
+pub within : (t : Tables) (s : Space) → Before t s → Within t s
+within t s h = record {
+  steps_are = h.steps_are;
+  processes_are = h.processes_are;
+  manager_is = h.manager_is;
+  objects_stand = h.objects_stand;
+  calls_stand = h.calls_stand;
+  windows_stand = record {
+    windows_are = h.windows_stand.windows_are;
+    made = made_wider s.steps s.processes s.buffers h.windows_stand.made;
+  };
+}
+
+-- ---- settling changes frames and work items alone
+
+rest : Space → Space
+rest s = record s { frames = []; todo = [] }
+
+told_rest : (s : Space) (made : ℕ) (caller : Option ℕ) (kind : WorkKind) → rest (elim caller as (λ (o : Option ℕ). Space) [ None ↦ closed s made | Some t ↦ owe (closed s made) (OfThread t) kind ]) ≡ rest s
+unfolding rest closed owe
+told_rest s made None kind = refl
+told_rest s made (Some t) kind = refl
+
+one_rest : (s : Space) (o : Option Frame) → rest (settle_one s o) ≡ rest s
+one_rest s None = refl
+one_rest s (Some f) = told_rest s f.made f.caller (Verdict DeadReply)
+
+times_rest : (n : ℕ) (s : Space) → rest (settle_times n s) ≡ rest s
+times_rest zero s = refl
+times_rest (suc n) s = one_rest (settle_times n s) (find (is_abandoned (settle_times n s).frames) (settle_times n s).frames) ∙ times_rest n s
+
+settle_rest : (s : Space) → rest (settle s) ≡ rest s
+unfolding settle
+settle_rest s = times_rest (length s.frames) s
+
+-- tables whose calls were settled
+pub settled-stands : (t : Tables) (cs : CallTable) (s : Space) → Within t s → calls.StandsFor cs (settle s) → Within (record t { calls = cs }) (settle s)
+unfolding rest
+settled-stands t cs s h k =
+    let e = sym (settle_rest s) in
+    record {
+      steps_are = subst (λ z. z.steps ≡ t.steps) e h.steps_are;
+      processes_are = subst (λ z. z.processes ≡ t.processes.items) e h.processes_are;
+      manager_is = subst (λ z. z.manager ≡ t.manager) e h.manager_is;
+      objects_stand = subst (objects.StandsFor t.objects) e h.objects_stand;
+      calls_stand = k;
+      windows_stand = subst (λ z. WindowsOf t.windows (z.steps + 1) z.processes z.buffers) e h.windows_stand;
+    }
+
+-- ---- numbers past the limit
+
+names-completed : (s : Space) → (completed s).names ≡ (names_go s).names
+unfolding completed follow notify work_goes deaths_go objects_go names_go ripen rest
+names-completed s = ap (λ (z : Space). z.names) (settle_rest (follow (ripen s)))
+
+pub numbers-completed : (s : Space) → has_number_past_limit (names_go s).names ≡ true → has_number_past_limit (completed s).names ≡ true
+numbers-completed s e = ap has_number_past_limit (names-completed s) ∙ e

@@ -1,0 +1,17 @@
+use Rattle.std.proofs.Common.{ap, Some}
+use Rattle.bd_space.specs.Steps.{with_manager}
+use Rattle.bd_space.specs.declared.step.ObjectId.{ObjectId}
+use Rattle.bd_engine.proofs.tables.Tables.with_manager.Goals as goal
+
+pub returns : goal.returns
+unfolding with_manager
+returns c = record {
+  stands = λ n s h. record {
+    steps_are = h.steps_are;
+    processes_are = h.processes_are;
+    manager_is = ap (λ place. let o : ObjectId = record { place = place; index = 0 } in Some o) h.steps_are;
+    objects_stand = c.with_manager.ensures.stands s h.objects_stand h.steps_are;
+    calls_stand = h.calls_stand;
+    windows_stand = h.windows_stand;
+  };
+}

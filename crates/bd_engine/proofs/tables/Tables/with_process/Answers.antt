@@ -1,0 +1,18 @@
+use Rattle.std.proofs.Common.{ℕ, ◌++◌, ◌∷◌, [], ◌∙◌, ap, sym}
+use Rattle.bd_space.specs.declared.space.Process.{Process}
+use Rattle.bd_space.specs.Steps.{with_process}
+use Rattle.bd_engine.proofs.tables.Tables.with_process.Goals as goal
+
+abbrev process : ℕ → ℕ → ℕ → ℕ → Process
+process place pid euid size = record { made = place; pid = pid; euid = euid; window = size }
+
+pub returns-clause-stands : goal.returns-clause-stands
+unfolding with_process
+returns-clause-stands c = λ s h w. record {
+  steps_are = h.steps_are;
+  processes_are = ap (λ qs. qs ++ process s.steps c.args.pid c.args.euid c.args.size ∷ []) h.processes_are ∙ ap (λ place. c.args.self.now.processes.items ++ process place c.args.pid c.args.euid c.args.size ∷ []) h.steps_are ∙ sym c.push_reserved.ensures.items;
+  manager_is = h.manager_is;
+  objects_stand = h.objects_stand;
+  calls_stand = h.calls_stand;
+  windows_stand = c.open.ensures s _ _ _ h.windows_stand h.steps_are w;
+}
