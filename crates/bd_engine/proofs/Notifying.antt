@@ -1,9 +1,9 @@
 -- Notices made one object after the other.
-use Rattle.std.proofs.Common.{◌≡◌, ℕ, ◌+◌, ◌≤◌, ◌⊎◌, inl, inr, List, take, length, Option, Some, None, refl, ap, sym, ◌∙◌, arith}
+use Rattle.std.proofs.Common.{◌≡◌, ℕ, ◌+◌, ◌<◌, ◌≤◌, ◌⊎◌, get_or, inl, inr, List, take, length, Option, Some, None, refl, ap, sym, ◌∙◌, arith}
 use Rattle.std.specs.List.{fold, slice_get}
 use Rattle.std.proofs.lemmas.List.{take_all}
 use Rattle.std.proofs.lemmas.List.Sums.{fold_more}
-use Rattle.std.proofs.lemmas.Option.{slice_get_cases, slice_get_within, get_or_from_slice_get}
+use Rattle.std.proofs.lemmas.Option.{none-some, slice_get_cases, slice_get_within, get_or_from_slice_get}
 use Rattle.bd_space.specs.declared.space.Object.{Object}
 use Rattle.bd_space.specs.declared.space.Work.{Work}
 use Rattle.bd_space.specs.declared.space.TodoList.TheVariants.{OfProcess}
@@ -28,7 +28,7 @@ past : (xs : List Object) (k : ℕ) → slice_get xs k ≡ None → length xs �
 past xs k e = go (slice_get_cases xs k).1
   where
     go : (((x : Object) × (k < length xs) × (slice_get xs k ≡ Some x) × (get_or xs k x ≡ x)) ⊎ ((length xs ≤ k) × (slice_get xs k ≡ None))) → length xs ≤ k
-    go (inl (x, lt, is, at)) = absurd (none_some (sym e ∙ is))
+    go (inl (x, lt, is, at)) = absurd (none-some x (sym e ∙ is))
     go (inr (le, is)) = le
 
 pub notified-past : (s : Space) (k : ℕ) → slice_get s.objects k ≡ None → notified s (k + 1) ≡ notified s k

@@ -71,6 +71,10 @@ settle_rest : (s : Space) → rest (settle s) ≡ rest s
 unfolding settle
 settle_rest s = times_rest (length s.frames) s
 
+pub settle-steps : (s : Space) → (settle s).steps ≡ s.steps
+unfolding rest
+settle-steps s = ap (λ (z : Space). z.steps) (settle_rest s)
+
 -- tables whose calls were settled
 pub settled-stands : (t : Tables) (cs : CallTable) (s : Space) → Within t s → calls.StandsFor cs (settle s) → Within (record t { calls = cs }) (settle s)
 unfolding rest

@@ -1,5 +1,5 @@
 pub mod Stands
 pub mod Refusals
 pub mod Meets
-pub mod Deliveries
 pub mod Notified
+pub mod Deliveries

@@ -1,5 +1,5 @@
 -- What a step of the tables meets: the definition, on every space that they stand for.
-use Rattle.std.specs.Prelude.{ℕ, ◌≡◌, true, Some}
+use Rattle.std.specs.Prelude.{ℕ, ◌≡◌, true, Some, None}
 use Rattle.bd_space.specs.declared.step.StepAnswer.{StepAnswer}
 use Rattle.bd_space.specs.declared.space.Actor.{Actor}
 use Rattle.bd_space.specs.Space.{Space}
@@ -14,6 +14,10 @@ use Rattle.bd_engine.specs.Stands.{Before, Within}
 -- the step's maker is this live thread, with its process
 abbrev pub IsBy : Actor → Space → Type 0
 IsBy a s = actor s a.thread.seat ≡ Some a
+
+-- it is a seat without a live thread
+abbrev pub IsNobody : ℕ → Space → Type 0
+IsNobody seat s = actor s seat ≡ None
 
 -- it may be anybody's
 abbrev pub IsAny : Space → Type 0

@@ -5,10 +5,11 @@ ghost use Rattle.bd_space.specs.Space.{Space};
 ghost use Rattle.bd_space.specs.Names.{names_go};
 ghost use Rattle.bd_space.specs.References.{objects_go};
 ghost use Rattle.bd_space.specs.Notices.{deaths_go, work_goes, notify, follow};
+ghost use Rattle.bd_space.specs.Turns.{ripen};
 ghost use Rattle.bd_space.specs.Settle.{settle};
 ghost use Rattle.bd_space.specs.Outcomes.{completed};
 ghost use Rattle.bd_objects.specs.Room.{object_count};
-ghost use Rattle.bd_calls.specs.Room.{work_room, frame_count};
+ghost use Rattle.bd_calls.specs.Room.{work_room, frame_count, turn_count};
 ghost use Rattle.bd_engine.specs.Stands.{StandsAt, Within, Takes, CanFollow};
 ghost use Rattle.bd_engine.specs.Notified.{notified};
 
@@ -80,12 +81,22 @@ impl Tables {
         self.calls.settle(self.steps);
     }
 
+    // One-way calls that are ripe become due.
+    fn ripen(&mut self)
+        requires { turn_count self.old.calls ≤ work_room self.old.calls }
+        ensures stands { (s : Space) → Within self.old s → Within self.new (ripen s) }
+        ensures takes { Takes self.old self.new 0 0 0 (turn_count self.old.calls) }
+    {
+        self.calls.ripen(self.steps);
+    }
+
     /// All that follows from an accepted command's change.
     pub(crate) fn complete(&mut self)
         requires { CanFollow self.old 0 }
         ensures stands { (s : Space) → Within self.old s → Within self.new (completed s) }
+        ensures takes { Takes self.old self.new 0 0 0 (turn_count self.old.calls + object_count self.old.objects + frame_count self.old.calls) }
     {
-        self.calls.ripen(self.steps);
+        self.ripen();
         self.follow();
         self.settle();
     }

@@ -1,6 +1,7 @@
 //! The step of the object space, over the three tables, and the run of a request.
 #![tactic(auto)]
 
+mod calling;
 mod delivery;
 mod following;
 mod opening;

@@ -13,6 +13,7 @@ loop-k-preserved c = record {
 }
 
 pub returns-clause-stands : goal.returns-clause-stands
+unfolding notify
 returns-clause-stands c = λ s h.
     let all : length s.objects ≤ c.loop-k.k = omega (arith, c.object_count-k-end.ensures.count s h.objects_stand) in
     subst (StandsAt (s.steps + 1) c.loop-k.self) (notified-all s c.loop-k.k all) (c.loop-k.invariant.stands s h)
