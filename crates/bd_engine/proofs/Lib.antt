@@ -4,3 +4,4 @@ pub mod Meeting
 pub mod Sendings
 pub mod Deliveries
 pub mod Telling
+pub mod Stepping

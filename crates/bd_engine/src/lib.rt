@@ -8,6 +8,7 @@ mod opening;
 mod seats;
 mod sending;
 mod tables;
+mod transactions;
 mod why;
 
 pub use why::Why;
