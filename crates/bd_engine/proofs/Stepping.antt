@@ -6,24 +6,30 @@ use Rattle.std.proofs.lemmas.Option.{none-some}
 use Rattle.bd_uapi.specs.declared.command.TransactionData.{TransactionData}
 use Rattle.bd_uapi.specs.declared.command.Return.{Return}
 use Rattle.bd_uapi.specs.declared.fault.Cause.{Cause}
-use Rattle.bd_uapi.specs.declared.fault.Cause.TheVariants.{NoManager, DeadOwner}
+use Rattle.bd_uapi.specs.declared.fault.Cause.TheVariants.{NoManager, DeadOwner, CallerGone}
+use Rattle.bd_uapi.specs.declared.command.Return.TheVariants.{FailedReply, TransactionComplete}
 use Rattle.bd_space.specs.declared.step.ObjectId.{ObjectId}
 use Rattle.bd_space.specs.declared.step.Parcel.{Parcel}
 use Rattle.bd_space.specs.declared.step.StepAnswer.{StepAnswer}
 use Rattle.bd_space.specs.declared.space.Process.{Process}
+use Rattle.bd_space.specs.declared.space.Thread.{Thread}
+use Rattle.bd_space.specs.declared.space.Frame.{Frame}
+use Rattle.bd_space.specs.declared.space.WorkKind.{WorkKind}
 use Rattle.bd_space.specs.declared.space.Callee.{Callee}
 use Rattle.bd_space.specs.declared.space.Actor.{Actor}
 use Rattle.bd_space.specs.declared.space.TodoList.TheVariants.{OfThread}
-use Rattle.bd_space.specs.declared.space.WorkKind.TheVariants.{Complete, Refusal}
+use Rattle.bd_space.specs.declared.space.WorkKind.TheVariants.{Complete, Refusal, Reply, Verdict}
 use Rattle.bd_space.specs.Words.{found_or, unless, and_then}
 use Rattle.bd_space.specs.Space.{Space}
-use Rattle.bd_space.specs.Seats.{process_in}
-use Rattle.bd_space.specs.Names.{names_go, has_number_past_limit}
-use Rattle.bd_space.specs.Todo.{owe}
+use Rattle.bd_space.specs.Seats.{process_in, thread_in, actor, actor_of}
+use Rattle.bd_space.specs.Names.{names_go, has_number_past_limit, assign_numbers}
+use Rattle.bd_space.specs.Todo.{owe, tell_caller}
+use Rattle.bd_space.specs.Frames.{closed, served_innermost}
 use Rattle.bd_space.specs.Parcels.{sending_of}
-use Rattle.bd_space.specs.Delivery.{Delivery, delivered, known_by, own_notices, add_buffer}
+use Rattle.bd_space.specs.Delivery.{Delivery, delivered, known_by, own_notices, add_buffer, refer, make_objects, translation}
 use Rattle.bd_space.specs.Outcomes.{Outcome, accepted, stopped}
 use Rattle.bd_space.specs.Transactions.{is_one_way, handle_of, not_own, target_of, owner_of, with_owner, callee_of, caller_cause, sent_to, transaction_check, call_out, called, transacted, refusal, transaction_step, transaction_outcome}
+use Rattle.bd_space.specs.Replies.{caller_of, reply_sent_to, reply_check, replied, reply_refused, reply_outcome, reply_to, reply_step}
 use Rattle.bd_engine.specs.declared.tables.Tables.{Tables}
 use Rattle.bd_engine.specs.declared.why.Why.{Why}
 use Rattle.bd_engine.specs.Refusals.{FullOnly}
@@ -152,3 +158,79 @@ pub transaction-sends : (s : Space) (a : Actor) (d : TransactionData) (parcel : 
     → transaction_step s a d parcel ≡ accepted (transacted s a d v)
 unfolding transaction_step
 transaction-sends s a d parcel v e = ap (transaction_outcome s a d) (sym e)
+
+-- ---- whom a reply goes to
+
+with_process : (ps : List Process) (t : Thread) (o : Option Process) (c : Actor) → process_in ps t.process ≡ o → Some c ≡ option_map (λ q. record { thread = t; process = q }) o → process_in ps c.process.made ≡ Some c.process
+with_process ps t None c e k = absurd (none-some c (sym k))
+with_process ps t (Some q) c e k = let is : q ≡ c.process = cc in subst (λ (x : Process). process_in ps x.made ≡ Some x) is (found-lives ps t.process q e)
+
+with_thread : (s : Space) (o : Option Thread) (c : Actor) → Some c ≡ option_and_then (actor_of s) o → process_in s.processes c.process.made ≡ Some c.process
+with_thread s None c e = absurd (none-some c (sym e))
+with_thread s (Some t) c e = with_process s.processes t (process_in s.processes t.process) c refl e
+
+pub actor-lives : (s : Space) (seat : ℕ) (r : Option Actor) → r ≡ actor s seat → IfSome r (λ c. process_in s.processes c.process.made ≡ Some c.process)
+unfolding actor
+actor-lives s seat None e = tt
+actor-lives s seat (Some c) e = with_thread s (thread_in s.threads seat) c e
+
+pub caller-is : (s : Space) (f : Frame) (seat : ℕ) → f.caller ≡ Some seat → actor s seat ≡ caller_of s f
+unfolding caller_of
+caller-is s f seat e = ap (λ (o : Option ℕ). option_and_then (actor s) o) (sym e)
+
+module _ (s : Space) (a : Actor) (d : TransactionData) (parcel : Option Parcel) (f : Frame) where
+  pub caller-gone : None ≡ caller_of s f → Err CallerGone ≡ reply_check s a d parcel f
+  unfolding reply_check
+  caller-gone e = ap (λ (o : Option Actor). and_then (found_or o CallerGone) (reply_sent_to s a d parcel)) e
+
+  pub caller-there : (c : Actor) → Some c ≡ caller_of s f → and_then (sending_of s a.process.made d parcel) (placed_for s d c.process None false) ≡ reply_check s a d parcel f
+  unfolding reply_check
+  caller-there c e = ap (λ (o : Option Actor). and_then (found_or o CallerGone) (reply_sent_to s a d parcel)) e
+
+  pub reply-stops : (x : Cause) → Err x ≡ reply_check s a d parcel f → reply_to s a d parcel (Some f) ≡ stopped x (reply_refused s a.thread.seat f)
+  reply-stops x e = ap (reply_outcome s a d f) (sym e)
+
+  pub reply-answers : (v : Delivery) → Ok v ≡ reply_check s a d parcel f → reply_to s a d parcel (Some f) ≡ accepted (replied s a d f v)
+  reply-answers v e = ap (reply_outcome s a d f) (sym e)
+
+pub reply-by-frame : (s : Space) (a : Actor) (d : TransactionData) (parcel : Option Parcel) (o : Option Frame) → o ≡ served_innermost s a.thread.seat → reply_step s a d parcel ≡ reply_to s a d parcel o
+unfolding reply_step
+reply-by-frame s a d parcel o e = ap (reply_to s a d parcel) (sym e)
+
+-- ---- the change of a reply
+
+told_names : (z : Space) (caller : Option ℕ) (kind : WorkKind)
+    → (names_go (elim caller as (λ (o : Option ℕ). Space) [ None ↦ z | Some u ↦ owe z (OfThread u) kind ])).names ≡ (names_go z).names
+unfolding owe names_go
+told_names z None kind = refl
+told_names z (Some u) kind = refl
+
+pub replied-full : (s : Space) (a : Actor) (d : TransactionData) (f : Frame) (v : Delivery) → has_number_past_limit (names_go (known_by s v)).names ≡ true
+    → has_number_past_limit (names_go (replied s a d f v)).names ≡ true
+unfolding replied owe closed delivered known_by assign_numbers refer make_objects own_notices add_buffer names_go
+replied-full s a d f v e =
+    ap has_number_past_limit (told_names (owe (delivered (closed s f.made) a d v) (OfThread a.thread.seat) Complete) f.caller (Reply s.steps)) ∙ e
+
+told_at : (n : ℕ) (t : Tables) (z : Space) (caller : Option ℕ) (kind : WorkKind) → n ≡ z.steps + 1
+    → StandsAt n t (elim caller as (λ (o : Option ℕ). Space) [ None ↦ z | Some u ↦ owe z (OfThread u) kind ])
+    → Within t (elim caller as (λ (o : Option ℕ). Space) [ None ↦ z | Some u ↦ owe z (OfThread u) kind ])
+unfolding owe
+told_at n t z None kind e h = subst (λ (m : ℕ). StandsAt m t z) e h
+told_at n t z (Some u) kind e h = subst (λ (m : ℕ). StandsAt m t (owe z (OfThread u) kind)) e h
+
+-- a frame closes before or after a delivery
+closed_first : (s : Space) (a : Actor) (d : TransactionData) (made : ℕ) (v : Delivery) → closed (delivered s a d v) made ≡ delivered (closed s made) a d v
+unfolding closed delivered known_by assign_numbers refer make_objects own_notices add_buffer translation
+closed_first s a d made v = refl
+
+pub replied-stands : (t : Tables) (s : Space) (a : Actor) (d : TransactionData) (f : Frame) (v : Delivery)
+    → StandsAt ((delivered s a d v).steps + 1) t (tell_caller (owe (closed (delivered s a d v) f.made) (OfThread a.thread.seat) Complete) f (Reply (delivered s a d v).steps))
+    → Within t (replied s a d f v)
+unfolding replied owe closed delivered known_by assign_numbers refer make_objects own_notices add_buffer translation
+replied-stands t s a d f v h =
+    told_at _ t (owe (closed (delivered s a d v) f.made) (OfThread a.thread.seat) Complete) f.caller (Reply s.steps) refl h
+
+pub refused-stands : (t : Tables) (s : Space) (seat : ℕ) (f : Frame) → StandsAt (s.steps + 1) t (reply_refused s seat f) → Within t (reply_refused s seat f)
+unfolding reply_refused owe closed
+refused-stands t s seat f h =
+    told_at (s.steps + 1) t (closed (owe s (OfThread seat) (Refusal TransactionComplete)) f.made) f.caller (Verdict FailedReply) refl h

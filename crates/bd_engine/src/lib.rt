@@ -5,6 +5,7 @@ mod calling;
 mod delivery;
 mod following;
 mod opening;
+mod replies;
 mod seats;
 mod sending;
 mod tables;

@@ -1,5 +1,5 @@
 use Rattle.bd_engine.specs.Meets.{IsBy}
-use Rattle.std.proofs.Common.{◌∙◌, sym, ap}
+use Rattle.std.proofs.Common.{◌∙◌, sym}
 use Rattle.bd_engine.proofs.Stepping.{meets-also, refused-also, transaction-stops, transaction-sends}
 use Rattle.bd_engine.proofs.tables.Tables.transaction.Goals as goal
 
