@@ -174,9 +174,9 @@ unfolding actor
 actor-lives s seat None e = tt
 actor-lives s seat (Some c) e = with_thread s (thread_in s.threads seat) c e
 
-pub caller-is : (s : Space) (f : Frame) (seat : ℕ) → f.caller ≡ Some seat → actor s seat ≡ caller_of s f
+pub caller-is : (s : Space) (f : Frame) (o : Option ℕ) → f.caller ≡ o → option_and_then (actor s) o ≡ caller_of s f
 unfolding caller_of
-caller-is s f seat e = ap (λ (o : Option ℕ). option_and_then (actor s) o) (sym e)
+caller-is s f o e = ap (λ (x : Option ℕ). option_and_then (actor s) x) (sym e)
 
 module _ (s : Space) (a : Actor) (d : TransactionData) (parcel : Option Parcel) (f : Frame) where
   pub caller-gone : None ≡ caller_of s f → Err CallerGone ≡ reply_check s a d parcel f

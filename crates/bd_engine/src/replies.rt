@@ -29,8 +29,10 @@ impl Tables {
         ensures caller { (n : ℕ) (s : Space) → StandsAt n self.now s → result ≡ spec.caller_of s f.now }
         ensures lives { (n : ℕ) (s : Space) → StandsAt n self.now s → IfSome result (λ c. process_in s.processes c.process.made ≡ Some c.process) }
     {
-        let seat = f.caller?;
-        self.actor(seat)
+        match f.caller {
+            None => None,
+            Some(seat) => self.actor(seat),
+        }
     }
 
     // What is to be delivered to the caller of the frame, or the first cause against it.

@@ -6,7 +6,7 @@ ghost use Rattle.bd_space.specs.Seats as seats;
 ghost use Rattle.bd_engine.specs.Stands.{StandsAt};
 
 use crate::tables::Tables;
-use bd_space::{Actor, Process};
+use bd_space::{Actor, Process, Thread};
 
 fn process_in(processes: &[Process], made: u32) -> Option<Process>
     ensures { result ≡ seats.process_in processes.now made }
@@ -35,13 +35,24 @@ impl Tables {
         process_with_pid(self.processes.as_slice(), pid)
     }
 
+    // The thread with its process.
+    fn actor_of(&self, thread: Thread) -> Option<Actor>
+        ensures { (n : ℕ) (s : Space) → StandsAt n self.now s → result ≡ seats.actor_of s thread }
+    {
+        match self.process(thread.process) {
+            Some(process) => Some(Actor { thread, process }),
+            None => None,
+        }
+    }
+
     /// The live thread of a seat, with its process.
     #[tactic(auto, unfolding(bd_space::specs::Seats::actor))]
     pub(crate) fn actor(&self, seat: u32) -> Option<Actor>
         ensures { (n : ℕ) (s : Space) → StandsAt n self.now s → result ≡ seats.actor s seat }
     {
-        let thread = self.calls.thread(seat)?;
-        let process = self.process(thread.process)?;
-        Some(Actor { thread, process })
+        match self.calls.thread(seat) {
+            None => None,
+            Some(thread) => self.actor_of(thread),
+        }
     }
 }
