@@ -14,3 +14,7 @@ pub mod Folds
 pub mod Owing
 pub mod Spelt
 pub mod TakingItems
+pub mod Sendings
+pub mod Deliveries
+pub mod Telling
+pub mod Stepping

@@ -7,3 +7,4 @@ pub mod Keeps
 pub mod Writing
 pub mod Telling
 pub mod Taking
+pub mod Deliveries

@@ -1,24 +1,28 @@
 //! The step of the object space, over the three tables, and the run of a request.
 #![tactic(auto)]
 
-mod engine;
 mod asking;
+mod calling;
 mod deaths;
+mod delivery;
+mod engine;
 mod exits;
 mod following;
 mod freeing;
 mod looping;
 mod opening;
 mod parcels;
-mod pending;
 mod plain;
 mod readiness;
-mod run;
 mod reading;
+mod replies;
 mod returns;
+mod run;
 mod seats;
+mod sending;
 mod step;
 mod tables;
+mod transactions;
 mod why;
 mod writing;
 

@@ -64,6 +64,7 @@ impl Tables {
     ) -> Result<(), AllocError>
         ensures stands { IsKept self.old self.new }
         ensures room { OnOk result (HasRoom self.new objects references names works) }
+        ensures windows { self.new.windows ≡ self.old.windows }
     {
         let more = self.works_to_reserve(objects, works)?;
         self.objects.reserve(objects, references, names)?;

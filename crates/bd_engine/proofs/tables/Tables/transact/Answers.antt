@@ -1,0 +1,6 @@
+use Rattle.bd_space.specs.Transactions.{transacted}
+use Rattle.bd_engine.proofs.Standing.{numbers-completed}
+use Rattle.bd_engine.proofs.tables.Tables.transact.Goals as goal
+
+pub returns-in-Err-clause-full : goal.returns-in-Err-clause-full
+returns-in-Err-clause-full c = λ s h p. numbers-completed (transacted s c.args.a c.args.d.now c.args.v) (c.in-Err.ensures.full s (c.make_ready.ensures.stands s h))

@@ -1,0 +1,65 @@
+-- What is so of a sending that was read, and of a delivery that its receiver's window can take.
+use Rattle.std.specs.Prelude.{ℕ, ◌≡◌, ◌+◌, ◌≤◌, Bool, List, Option, Result, Ok, All, length}
+use Rattle.bd_uapi.specs.declared.command.TransactionData.{TransactionData}
+use Rattle.bd_uapi.specs.declared.fault.Cause.{Cause}
+use Rattle.bd_space.specs.declared.step.ObjectId.{ObjectId}
+use Rattle.bd_space.specs.declared.space.Process.{Process}
+use Rattle.bd_space.specs.declared.space.Item.{Item}
+use Rattle.bd_space.specs.Words.{and_then}
+use Rattle.bd_space.specs.Space.{Space}
+use Rattle.bd_space.specs.Room.{needed, buffers_of, place_for}
+use Rattle.bd_space.specs.Parcels.{Sending}
+use Rattle.bd_space.specs.Delivery.{Delivery}
+use Rattle.bd_objects.specs.Room as object_rooms
+use Rattle.bd_calls.specs.Room as call_rooms
+use Rattle.bd_buffers.specs.WindowsStand.{CanAdd, buffer_room}
+use Rattle.bd_engine.specs.declared.tables.Tables.{Tables}
+use Rattle.bd_engine.specs.Stands.{HasRoom}
+
+-- the item's 24 bytes lie inside the data
+abbrev pub IsInside : List ℕ → Item → Type 0
+IsInside bytes x = x.at + 24 ≤ length bytes
+
+-- the sizes are those of the record, and each object lies inside the data
+pub record IsSound (d : TransactionData) (x : Sending) : Type 0 where
+  pub bytes_sized : length x.bytes ≡ d.data_size
+  pub offsets_sized : length x.offsets ≡ d.offsets_size
+  pub inside : All (IsInside x.bytes) x.items
+
+-- the room that its buffer takes
+abbrev pub size_of : TransactionData → ℕ
+size_of d = needed d.data_size d.offsets_size
+
+-- the receiver's window can take it now
+pub record IsDeliverable (t : Tables) (d : TransactionData) (v : Delivery) : Type 0 where
+  pub sound : IsSound d v.sending
+  pub can_add : CanAdd t.windows v.receiver.made v.one_way (size_of d) v.start
+  pub fits : size_of d ≤ 4194304
+
+-- what is delivered to this process, on this object, where its window has a place
+abbrev pub placed_for : Space → TransactionData → Process → Option ObjectId → Bool → Sending → Result Delivery Cause
+placed_for s d receiver target one_way x =
+    and_then (place_for receiver.window (buffers_of s.buffers receiver.made) one_way (size_of d))
+    (λ start. Ok (record { receiver = receiver; target = target; one_way = one_way; sending = x; start = start }))
+
+-- memory for all that a delivery and what follows from it take
+pub record IsReady (t : Tables) (v : Delivery) : Type 0 where
+  pub room : HasRoom t (length v.sending.made) (length v.sending.items + 1) (length v.sending.items) (length v.sending.items + 2)
+  pub buffer : 1 ≤ buffer_room t.windows v.receiver.made
+
+-- a change takes room for so many frames, one-way calls and work items, and adds at most so many objects
+pub record Spends (old new : Tables) (objects frames turns works : ℕ) : Type 0 where
+  pub calls : call_rooms.Takes old.calls new.calls 0 frames turns works
+  pub objects_count : object_rooms.object_count new.objects ≤ object_rooms.object_count old.objects + objects
+
+-- a change of work items alone takes room for at most so many
+pub record OnlyWorks (old new : Tables) (works : ℕ) : Type 0 where
+  pub calls : call_rooms.Takes old.calls new.calls 0 0 0 works
+  pub objects_are : new.objects ≡ old.objects
+  pub windows_are : new.windows ≡ old.windows
+
+-- a change of objects, references and names alone adds at most so many objects
+pub record OnlyObjects (old new : Tables) (objects : ℕ) : Type 0 where
+  pub count : object_rooms.object_count new.objects ≤ object_rooms.object_count old.objects + objects
+  pub calls_are : new.calls ≡ old.calls
+  pub windows_are : new.windows ≡ old.windows

@@ -1,0 +1,381 @@
+//! Delivery: the objects, references and names of a parcel, its buffer with the translated data, and the notices of its
+//! sender's own objects.
+
+ghost use Rattle.std.specs.Prelude.{ℕ, ◌≡◌, ◌+◌, ◌≤◌, ◌<◌, Bool, true, IfOk, OnOk, OnErr, All, length, Some, fold, not, ◌&&◌};
+ghost use Rattle.bd_space.specs.References.{object_in};
+ghost use Rattle.bd_space.specs.Space.{Space};
+ghost use Rattle.bd_space.specs.Seats.{process_in};
+ghost use Rattle.bd_space.specs.Room as room;
+ghost use Rattle.bd_space.specs.Words as words;
+ghost use Rattle.bd_space.specs.Parcels as parcels;
+ghost use Rattle.bd_space.specs.Names.{names_go, has_number_past_limit};
+ghost use Rattle.bd_space.specs.Turns as turns;
+ghost use Rattle.bd_space.specs.Delivery as spec;
+ghost use Rattle.bd_objects.specs.Room as object_rooms;
+ghost use Rattle.bd_calls.specs.Room as call_rooms;
+ghost use Rattle.bd_buffers.specs.WindowsStand.{CanAdd, buffer_room};
+ghost use Rattle.bd_engine.specs.Stands.{StandsAt, Before, Within};
+ghost use Rattle.bd_engine.specs.Meets.{IsKept};
+ghost use Rattle.bd_engine.specs.Deliveries.{IsInside, IsSound, IsDeliverable, IsReady, Spends, OnlyWorks, OnlyObjects, placed_for, size_of};
+
+use crate::sending::Sending;
+use crate::tables::Tables;
+use bd_objects::NumbersFull;
+use bd_parcel::put_object;
+use bd_space::{Actor, Buffer, Bytes, Item, Object, ObjectId, Parcel, Process, TodoList, Turn};
+use bd_uapi::{Cause, ObjectKind, TransactionData};
+use std::alloc::AllocError;
+use std::marker::Model;
+
+/// What is delivered: to which process, on which object, whether one-way, what, and where in the receiver's window.
+#[derive(Drop)]
+pub(crate) struct Delivery {
+    receiver: Process,
+    target: Option<ObjectId>,
+    one_way: bool,
+    sending: Sending,
+    start: u32,
+}
+
+impl Model for Delivery {
+    ghost Value = { spec.Delivery };
+
+    ghost view = { λ v. record { receiver = v.receiver; target = v.target; one_way = v.one_way; sending = v.sending; start = v.start } };
+}
+
+impl Delivery {
+    /// To which process.
+    pub(crate) fn receiver(&self) -> u32
+        ensures { result ≡ self.now.receiver.made }
+    {
+        self.receiver.made
+    }
+
+    /// On which object.
+    pub(crate) fn target(&self) -> Option<ObjectId>
+        ensures { result ≡ self.now.target }
+    {
+        self.target
+    }
+
+    /// Whether one-way.
+    pub(crate) fn is_one_way(&self) -> bool
+        ensures { result ≡ self.now.one_way }
+    {
+        self.one_way
+    }
+
+    /// The objects that the sender makes.
+    pub(crate) fn made(&self) -> &[Object]
+        ensures { result.now ≡ self.now.sending.made }
+    {
+        self.sending.made()
+    }
+
+    /// All its objects.
+    pub(crate) fn items(&self) -> &[Item]
+        ensures { result.now ≡ self.now.sending.items }
+    {
+        self.sending.items()
+    }
+}
+
+// The room that data and offsets of these sizes take.
+fn needed(data_size: u64, offsets_size: u64) -> u32
+    requires { room.needed data_size offsets_size ≤ 4194304 }
+    ensures { result ≡ room.needed data_size offsets_size }
+{
+    (data_size.next_multiple_of(8) + offsets_size.next_multiple_of(8)).max(8) as u32
+}
+
+// A one-way call, by its buffer.
+fn turn_of(b: &Buffer) -> Option<Turn>
+    ensures { result ≡ turns.turn_of b.now }
+{
+    if !b.one_way {
+        return None;
+    }
+    let target = b.target?;
+    Some(Turn {
+        made: b.made,
+        receiver: b.receiver,
+        target,
+        handed: b.handed,
+    })
+}
+
+fn is_own(kind: ObjectKind) -> bool
+    ensures { result ≡ parcels.is_own kind }
+{
+    match kind {
+        ObjectKind::Binder | ObjectKind::WeakBinder => true,
+        ObjectKind::Handle | ObjectKind::WeakHandle => false,
+    }
+}
+
+fn is_strong_kind(kind: ObjectKind) -> bool
+    ensures { result ≡ parcels.is_strong_kind kind }
+{
+    match kind {
+        ObjectKind::Binder | ObjectKind::Handle => true,
+        ObjectKind::WeakBinder | ObjectKind::WeakHandle => false,
+    }
+}
+
+impl Tables {
+    // Where the sending goes in its receiver's window.
+    fn placed_for(
+        &self,
+        d: &TransactionData,
+        receiver: Process,
+        target: Option<ObjectId>,
+        one_way: bool,
+        sending: Sending,
+    ) -> Result<Delivery, Cause>
+        requires { IsSound d.now sending }
+        ensures computed { (s : Space) → Before self.now s → process_in s.processes receiver.made ≡ Some receiver
+            → result ≡ placed_for s d.now receiver target one_way sending }
+        ensures deliverable { IfOk result (IsDeliverable self.now d.now) }
+    {
+        match self
+            .windows
+            .place(receiver.made, one_way, d.data_size, d.offsets_size)
+        {
+            Err(cause) => Err(cause),
+            Ok(start) => Ok(Delivery {
+                receiver,
+                target,
+                one_way,
+                sending,
+                start,
+            }),
+        }
+    }
+
+    /// What the actor sends to the receiver by this parcel, or the first cause against it.
+    pub(crate) fn sent_to(
+        &self,
+        a: Actor,
+        d: &TransactionData,
+        parcel: &Option<Parcel>,
+        receiver: Process,
+        target: Option<ObjectId>,
+        one_way: bool,
+    ) -> Result<Result<Delivery, Cause>, AllocError>
+        ensures computed { IfOk result (λ r. (s : Space) → Before self.now s → process_in s.processes receiver.made ≡ Some receiver
+            → r ≡ words.and_then (parcels.sending_of s a.process.made d.now parcel.now) (placed_for s d.now receiver target one_way)) }
+        ensures deliverable { IfOk result (λ r. IfOk r (IsDeliverable self.now d.now)) }
+    {
+        match self.sending_of(a.process.made, d, parcel)? {
+            Err(cause) => Ok(Err(cause)),
+            Ok(sending) => Ok(self.placed_for(d, receiver, target, one_way, sending)),
+        }
+    }
+
+    /// Makes room for a delivery and for what follows from it. Changes nothing else, also where memory is refused.
+    pub(crate) fn make_ready(&mut self, v: &Delivery) -> Result<(), AllocError>
+        ensures stands { IsKept self.old self.new }
+        ensures deliverable { (d : TransactionData) → IsDeliverable self.old d v.now → IsDeliverable self.new d v.now }
+        ensures ready { OnOk result (IsReady self.new v.now) }
+    {
+        let items = v.items().len();
+        let references = items.checked_add(1).ok_or(AllocError)?;
+        let works = items.checked_add(2).ok_or(AllocError)?;
+        self.windows.reserve_buffer(v.receiver())?;
+        self.reserve(v.made().len(), references, items, works)
+    }
+
+    // The items' objects as the process is to see them, written over the data.
+    fn translate(&self, q: u32, bytes: &mut [u8], items: &[Item])
+        requires { All (IsInside bytes.old) items.now }
+        ensures { (n : ℕ) (s : Space) → StandsAt n self.now s → bytes.new ≡ spec.translation s q bytes.old items.now }
+    {
+        for x in items {
+            let flat = self.objects.translated(q, x);
+            put_object(bytes, x.at as usize, &flat);
+        }
+    }
+
+    // The data as the process is to see it.
+    fn translation(&self, q: u32, bytes: Bytes, items: &[Item]) -> Bytes
+        requires { All (IsInside bytes) items.now }
+        ensures translated { (n : ℕ) (s : Space) → StandsAt n self.now s → result ≡ spec.translation s q bytes items.now }
+        ensures len { length result ≡ length bytes }
+    {
+        let mut bytes = bytes.into_vec();
+        self.translate(q, bytes.as_mut_slice(), items);
+        Bytes::new(bytes)
+    }
+
+    // The buffer of a delivery.
+    fn buffer_of(&self, a: Actor, d: &TransactionData, v: Delivery) -> Buffer
+        requires { IsDeliverable self.now d.now v }
+        ensures buffer { (n : ℕ) (s : Space) → StandsAt n self.now s → result ≡ spec.buffer_of s a d.now v }
+        ensures receiver { result.receiver ≡ v.receiver.made }
+        ensures sized { result.size ≡ room.needed (length result.bytes) (length result.offsets) }
+        ensures can_add { CanAdd self.now.windows result.receiver result.one_way result.size result.start }
+    {
+        let Delivery {
+            receiver,
+            target,
+            one_way,
+            sending,
+            start,
+        } = v;
+        let (bytes, offsets, items) = sending.into_parts();
+        Buffer {
+            made: self.steps,
+            receiver: receiver.made,
+            start,
+            size: needed(d.data_size, d.offsets_size),
+            one_way,
+            handed: false,
+            target,
+            code: d.code,
+            flags: d.flags,
+            euid: a.process.euid,
+            bytes: self.translation(receiver.made, bytes, items.as_slice()),
+            offsets,
+        }
+    }
+
+    // The buffer comes in, and a one-way call with it.
+    fn add_buffer(&mut self, buffer: Buffer)
+        requires turns { 1 ≤ call_rooms.turn_room self.old.calls }
+        requires room { 1 ≤ buffer_room self.old.windows buffer.receiver }
+        requires sized { buffer.size ≡ room.needed (length buffer.bytes) (length buffer.offsets) }
+        requires can_add { CanAdd self.old.windows buffer.receiver buffer.one_way buffer.size buffer.start }
+        ensures stands { (s : Space) → Before self.old s → s.steps ≡ buffer.made → Within self.new (spec.add_buffer s buffer) }
+        ensures spends { Spends self.old self.new 0 0 1 0 }
+    {
+        self.calls.add_turn(turn_of(&buffer));
+        self.windows.add(buffer);
+    }
+
+    // Sending an object strongly that its owner isn't told strong takes a standing notice away.
+    fn takes_notice(&self, x: &Item) -> bool
+        ensures { (n : ℕ) (s : Space) → StandsAt n self.now s → result ≡ (parcels.is_own x.now.flat.kind && parcels.is_strong_kind x.now.flat.kind
+            && words.is_some_and (object_in s.objects x.now.object) (λ o. not o.told_strong)) }
+    {
+        is_own(x.flat.kind)
+            && is_strong_kind(x.flat.kind)
+            && self
+                .objects
+                .object(x.object)
+                .is_some_and(|o| !o.told_strong)
+    }
+
+    fn withdraw_notice(&mut self, x: &Item)
+        ensures stands { (n : ℕ) (s : Space) → StandsAt n self.old s → StandsAt n self.new
+            (record s { todo = spec.withdraw_notice s.objects s.todo x.now }) }
+        ensures works { OnlyWorks self.old self.new 0 }
+    {
+        if self.takes_notice(x) {
+            self.calls.withdraw_notice(x.object);
+        }
+    }
+
+    fn withdraw_notices(&mut self, items: &[Item])
+        ensures stands { (n : ℕ) (s : Space) → StandsAt n self.old s → StandsAt n self.new
+            (record s { todo = fold (spec.withdraw_notice s.objects) s.todo items.now }) }
+        ensures works { OnlyWorks self.old self.new 0 }
+    {
+        for x in items {
+            self.withdraw_notice(x);
+        }
+    }
+
+    // A notice that is missing is made on the sending thread's list.
+    fn add_notice(&mut self, seat: u32, x: &Item)
+        requires { 1 ≤ call_rooms.work_room self.old.calls }
+        ensures stands { (n : ℕ) (s : Space) → StandsAt n self.old s → StandsAt n self.new
+            (record s { todo = spec.add_notice s seat s.todo x.now }) }
+        ensures works { OnlyWorks self.old self.new 1 }
+    {
+        if !is_own(x.flat.kind) {
+            return;
+        }
+        if let Some(o) = self.objects.object(x.object) {
+            let wanted = self.objects.wants_notice(self.processes.as_slice(), &o);
+            let list = TodoList::OfThread(seat);
+            self.calls.add_notice(self.steps, list, o.id, wanted);
+        }
+    }
+
+    fn add_notices(&mut self, seat: u32, items: &[Item])
+        requires { length items.now ≤ call_rooms.work_room self.old.calls }
+        ensures stands { (n : ℕ) (s : Space) → StandsAt n self.old s → StandsAt n self.new
+            (record s { todo = fold (spec.add_notice s seat) s.todo items.now }) }
+        ensures works { OnlyWorks self.old self.new (length items.now) }
+    {
+        for x in items {
+            self.add_notice(seat, x);
+        }
+    }
+
+    // All standing ones first, and then the new ones in the order of the parcel.
+    fn own_notices(&mut self, seat: u32, items: &[Item])
+        requires { length items.now ≤ call_rooms.work_room self.old.calls }
+        ensures stands { (n : ℕ) (s : Space) → StandsAt n self.old s → StandsAt n self.new (spec.own_notices s seat items.now) }
+        ensures works { OnlyWorks self.old self.new (length items.now) }
+    {
+        self.withdraw_notices(items);
+        self.add_notices(seat, items);
+    }
+
+    // The objects, the references and the names.
+    fn known_by(&mut self, v: &Delivery) -> Result<(), NumbersFull>
+        requires { object_rooms.HasRoom self.old.objects (length v.now.sending.made) (length v.now.sending.items + 1) (length v.now.sending.items) }
+        ensures ok { OnOk result ((s : Space) → Before self.old s → Before self.new (spec.known_by s v.now)) }
+        ensures err { OnErr result (IsKept self.old self.new) }
+        ensures full { OnErr result ((s : Space) → Before self.old s → has_number_past_limit (names_go (spec.known_by s v.now)).names ≡ true) }
+        ensures objects { OnlyObjects self.old self.new (length v.now.sending.made) }
+    {
+        self.objects.deliver(
+            self.steps,
+            self.manager,
+            v.receiver(),
+            v.made(),
+            v.items(),
+            v.target(),
+        )
+    }
+
+    // The notices and the buffer, where the names are known.
+    fn fill(&mut self, a: Actor, d: &TransactionData, v: Delivery)
+        requires deliverable { IsDeliverable self.old d.now v }
+        requires turns { 1 ≤ call_rooms.turn_room self.old.calls }
+        requires works { length v.sending.items ≤ call_rooms.work_room self.old.calls }
+        requires room { 1 ≤ buffer_room self.old.windows v.receiver.made }
+        ensures stands { (s : Space) → Before self.old s → Within self.new
+            (spec.own_notices (spec.add_buffer s (spec.buffer_of s a d.now v)) a.thread.seat v.sending.items) }
+        ensures spends { Spends self.old self.new 0 0 1 (length v.sending.items) }
+    {
+        self.own_notices(a.thread.seat, v.items());
+        let buffer = self.buffer_of(a, d, v);
+        self.add_buffer(buffer);
+    }
+
+    /// The whole delivery; nothing where a number past the limit would be needed. Takes no memory.
+    pub(crate) fn delivered(
+        &mut self,
+        a: Actor,
+        d: &TransactionData,
+        v: Delivery,
+    ) -> Result<(), NumbersFull>
+        requires deliverable { IsDeliverable self.old d.now v }
+        requires ready { IsReady self.old v }
+        ensures ok { OnOk result ((s : Space) → Before self.old s → Within self.new (spec.delivered s a d.now v)) }
+        ensures err { OnErr result (IsKept self.old self.new) }
+        ensures full { OnErr result ((s : Space) → Before self.old s → has_number_past_limit (names_go (spec.known_by s v)).names ≡ true) }
+        ensures spends { OnOk result (Spends self.old self.new (length v.sending.made) 0 1 (length v.sending.items)) }
+    {
+        match self.known_by(&v) {
+            Err(full) => Err(full),
+            Ok(()) => {
+                self.fill(a, d, v);
+                Ok(())
+            }
+        }
+    }
+}

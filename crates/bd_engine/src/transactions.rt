@@ -1,0 +1,227 @@
+//! The step of BC_TRANSACTION.
+
+ghost use Rattle.std.specs.Prelude.{ℕ, ◌≡◌, ◌≤◌, ◌+◌, Some, None, true, if◌then◌else◌, length, IfOk, IfErr, IfSome, OnOk, OnErr};
+ghost use Rattle.bd_space.specs.Space.{Space};
+ghost use Rattle.bd_space.specs.Seats.{process_in};
+ghost use Rattle.bd_space.specs.declared.space.TodoList.TheVariants.{OfThread};
+ghost use Rattle.bd_space.specs.declared.space.WorkKind.TheVariants as kinds;
+ghost use Rattle.bd_space.specs.Todo as todo;
+ghost use Rattle.bd_space.specs.Names.{names_go, has_number_past_limit};
+ghost use Rattle.bd_space.specs.Outcomes as outcomes;
+ghost use Rattle.bd_space.specs.Transactions as spec;
+ghost use Rattle.bd_calls.specs.Room.{work_room, frame_room};
+ghost use Rattle.bd_engine.specs.Stands.{StandsAt, Before, Within, CanFollow};
+ghost use Rattle.bd_engine.specs.Plain.{answer_of};
+ghost use Rattle.bd_engine.specs.Meets.{Meets, IsAny, IsBy, IsKept, IsRefused};
+ghost use Rattle.bd_engine.specs.Deliveries.{IsDeliverable, IsReady, Spends};
+
+use crate::delivery::Delivery;
+use crate::plain::Plain;
+use crate::tables::Tables;
+use crate::why::Why;
+use bd_objects::NumbersFull;
+use bd_space::{Actor, Callee, ObjectId, Parcel, Process, WorkKind};
+use bd_uapi::{Cause, Return, TransactionData};
+use std::alloc::AllocError;
+
+fn is_one_way(d: &TransactionData) -> bool
+    ensures { result ≡ spec.is_one_way d.now }
+{
+    d.flags.is_one_way()
+}
+
+// The handle is the low half of the target.
+fn handle_of(d: &TransactionData) -> u32
+    ensures { result ≡ spec.handle_of d.now }
+{
+    (d.target % 0x1_0000_0000) as u32
+}
+
+// What is left for the writer of a refused transaction.
+fn refusal(cause: Cause) -> Return
+    ensures { result ≡ spec.refusal cause }
+{
+    match cause {
+        Cause::NoManager | Cause::DeadOwner => Return::DeadReply,
+        Cause::CallerGone => Return::TransactionComplete,
+        _ => Return::FailedReply,
+    }
+}
+
+impl Tables {
+    // The context manager's own process may not call its object 0.
+    fn not_own(&self, p: u32, o: ObjectId) -> Result<ObjectId, Cause>
+        ensures { (n : ℕ) (s : Space) → StandsAt n self.now s → result ≡ spec.not_own s p o }
+    {
+        if self.objects.owns(p, o) {
+            Err(Cause::OwnManager)
+        } else {
+            Ok(o)
+        }
+    }
+
+    // The object that a handle calls.
+    #[tactic(auto, unfolding(bd_space::specs::Transactions::target_of))]
+    fn target_of(&self, p: u32, handle: u32) -> Result<ObjectId, Cause>
+        ensures { (n : ℕ) (s : Space) → StandsAt n self.now s → result ≡ spec.target_of s p handle }
+    {
+        if handle == 0 {
+            match self.manager {
+                None => Err(Cause::NoManager),
+                Some(o) => self.not_own(p, o),
+            }
+        } else {
+            match self.objects.strongly_named(p, handle) {
+                None => Err(Cause::NotStronglyNamed),
+                Some(o) => Ok(o),
+            }
+        }
+    }
+
+    // The live process that owns an object.
+    #[tactic(auto, unfolding(bd_space::specs::Transactions::owner_of))]
+    fn owner_of(&self, o: ObjectId) -> Option<Process>
+        ensures owner { (n : ℕ) (s : Space) → StandsAt n self.now s → result ≡ spec.owner_of s o }
+        ensures lives { (n : ℕ) (s : Space) → StandsAt n self.now s → IfSome result (λ q. process_in s.processes q.made ≡ Some q) }
+    {
+        let x = self.objects.object(o)?;
+        self.process(x.owner)
+    }
+
+    // Whom a transaction goes to.
+    #[tactic(auto, unfolding(bd_space::specs::Transactions::callee_of))]
+    fn callee_of(&self, p: u32, handle: u32) -> Result<Callee, Cause>
+        ensures callee { (n : ℕ) (s : Space) → StandsAt n self.now s → result ≡ spec.callee_of s p handle }
+        ensures lives { (n : ℕ) (s : Space) → StandsAt n self.now s → IfOk result (λ c. process_in s.processes c.process.made ≡ Some c.process) }
+    {
+        match self.target_of(p, handle) {
+            Err(cause) => Err(cause),
+            Ok(object) => match self.owner_of(object) {
+                None => Err(Cause::DeadOwner),
+                Some(process) => Ok(Callee { object, process }),
+            },
+        }
+    }
+
+    // Why the thread may not call and wait.
+    #[tactic(auto, unfolding(bd_space::specs::Transactions::caller_cause))]
+    fn caller_cause(&self, seat: u32) -> Option<Cause>
+        ensures { (n : ℕ) (s : Space) → StandsAt n self.now s → result ≡ spec.caller_cause s seat }
+    {
+        if self.calls.innermost(seat).is_some() && self.calls.served_innermost(seat).is_none() {
+            return Some(Cause::NotServing);
+        }
+        if self.calls.has_unread(seat) {
+            return Some(Cause::Unread);
+        }
+        None
+    }
+
+    // Why the thread may not call: a one-way call waits for nothing.
+    fn call_cause(&self, seat: u32, one_way: bool) -> Option<Cause>
+        ensures { (n : ℕ) (s : Space) → StandsAt n self.now s → result ≡ (if one_way then None else spec.caller_cause s seat) }
+    {
+        if one_way {
+            None
+        } else {
+            self.caller_cause(seat)
+        }
+    }
+
+    // What is to be delivered, or the first cause against it.
+    fn transaction_check(
+        &self,
+        a: Actor,
+        d: &TransactionData,
+        parcel: &Option<Parcel>,
+    ) -> Result<Result<Delivery, Cause>, AllocError>
+        ensures computed { IfOk result (λ r. (s : Space) → Before self.now s → r ≡ spec.transaction_check s a d.now parcel.now) }
+        ensures deliverable { IfOk result (λ r. IfOk r (IsDeliverable self.now d.now)) }
+    {
+        let callee = match self.callee_of(a.process.made, handle_of(d)) {
+            Err(cause) => return Ok(Err(cause)),
+            Ok(callee) => callee,
+        };
+        let one_way = is_one_way(d);
+        match self.call_cause(a.thread.seat, one_way) {
+            Some(cause) => Ok(Err(cause)),
+            None => self.sent_to(a, d, parcel, callee.process, Some(callee.object), one_way),
+        }
+    }
+
+    // A two-way call is due at once, a one-way call once it is ripe; its writer reads that it was taken.
+    fn called(&mut self, seat: u32, receiver: u32, one_way: bool)
+        requires frames { 1 ≤ frame_room self.old.calls }
+        requires works { 2 ≤ work_room self.old.calls }
+        ensures stands { (n : ℕ) (s : Space) → StandsAt n self.old s
+            → StandsAt n self.new (spec.called (todo.owe s (OfThread seat) kinds.Complete) seat receiver one_way) }
+        ensures spends { Spends self.old self.new 0 1 0 2 }
+    {
+        self.owe(seat, WorkKind::Complete);
+        if !one_way {
+            self.call_out(seat, receiver);
+        }
+    }
+
+    // All that changes.
+    fn transacted(
+        &mut self,
+        a: Actor,
+        d: &TransactionData,
+        v: Delivery,
+    ) -> Result<(), NumbersFull>
+        requires deliverable { IsDeliverable self.old d.now v }
+        requires ready { IsReady self.old v }
+        ensures ok { OnOk result ((s : Space) → Before self.old s → Within self.new (spec.transacted s a d.now v)) }
+        ensures err { OnErr result (IsKept self.old self.new) }
+        ensures full { OnErr result ((s : Space) → Before self.old s → has_number_past_limit (names_go (spec.transacted s a d.now v)).names ≡ true) }
+        ensures follow { OnOk result (CanFollow self.new 0) }
+    {
+        let receiver = v.receiver();
+        let one_way = v.is_one_way();
+        match self.delivered(a, d, v) {
+            Err(full) => Err(full),
+            Ok(()) => {
+                self.called(a.thread.seat, receiver, one_way);
+                Ok(())
+            }
+        }
+    }
+
+    // The step of a transaction that nothing stands against.
+    fn transact(&mut self, a: Actor, d: &TransactionData, v: Delivery) -> Result<Plain, Why>
+        requires { IsDeliverable self.old d.now v }
+        ensures ok { IfOk result (λ x. Meets self.old self.new IsAny (λ s. outcomes.accepted (spec.transacted s a d.now v)) (answer_of x)) }
+        ensures err { OnErr result (IsKept self.old self.new) }
+        ensures full { IfErr result (IsRefused self.old IsAny (λ s. outcomes.accepted (spec.transacted s a d.now v))) }
+    {
+        if self.make_ready(&v).is_err() {
+            return Err(Why::NoMemory);
+        }
+        match self.transacted(a, d, v) {
+            Err(_) => Err(Why::HistoryFull),
+            Ok(()) => {
+                self.complete();
+                Ok(Plain::Accepted)
+            }
+        }
+    }
+
+    /// The step of BC_TRANSACTION.
+    pub(crate) fn transaction(
+        &mut self,
+        a: Actor,
+        d: &TransactionData,
+        parcel: &Option<Parcel>,
+    ) -> Result<Plain, Why>
+        ensures ok { IfOk result (λ x. Meets self.old self.new (IsBy a) (λ s. spec.transaction_step s a d.now parcel.now) (answer_of x)) }
+        ensures err { OnErr result (IsKept self.old self.new) }
+        ensures full { IfErr result (IsRefused self.old (IsBy a) (λ s. spec.transaction_step s a d.now parcel.now)) }
+    {
+        match self.transaction_check(a, d, parcel) {
+            Err(_) => Err(Why::NoMemory),
+            Ok(Err(cause)) => self.stop(a.thread.seat, cause, refusal(cause)),
+            Ok(Ok(v)) => self.transact(a, d, v),
+        }
+    }
+}
