@@ -1,5 +1,5 @@
 -- How tables go on standing through the parts of a delivery.
-use Rattle.std.proofs.Common.{◌≡◌, ℕ, true, false, ◌+◌, ◌<◌, ◌≤◌, ◌&&◌, not, Bool, cond, List, ◌++◌, Option, take, drop, length, get_or, refl, ap, sym, subst, ◌∙◌, arith, filter, map}
+use Rattle.std.proofs.Common.{◌≡◌, ℕ, true, false, ◌+◌, ◌<◌, ◌≤◌, ◌&&◌, not, Bool, cond, List, ◌++◌, Option, take, drop, length, get_or, ap, sym, subst, ◌∙◌, arith, filter, map}
 use Rattle.std.proofs.lemmas.List.{take_all}
 use Rattle.std.specs.List.{fold}
 use Rattle.bd_uapi.specs.declared.command.TransactionData.{TransactionData}
@@ -128,8 +128,18 @@ only-works a b c m n k h i e = record {
 
 abbrev buffer : TransactionData → Actor → Delivery → ℕ → ℕ → List ℕ → List ℕ → Buffer
 buffer d a w made size bytes offsets = record {
-  made = made; receiver = w.receiver.made; start = w.start; size = size; one_way = w.one_way; handed = false; target = w.target;
-  code = d.code; flags = d.flags; euid = a.process.euid; bytes = bytes; offsets = offsets;
+  made = made;
+  receiver = w.receiver.made;
+  start = w.start;
+  size = size;
+  one_way = w.one_way;
+  handed = false;
+  target = w.target;
+  code = d.code;
+  flags = d.flags;
+  euid = a.process.euid;
+  bytes = bytes;
+  offsets = offsets;
 }
 
 pub buffer-is : (s : Space) (a : Actor) (d : TransactionData) (v w : Delivery) (made size : ℕ) (bytes offsets : List ℕ) → w ≡ v

@@ -1,7 +1,6 @@
 -- What an engine keeps, from step to step.
 use Rattle.std.proofs.Common.{◌≡◌, ℕ, suc, ◌+◌, ◌<◌, ◌≤◌, Bool, true, false, List, [], ◌∷◌, ◌++◌, length, refl, ap, sym, subst, ◌∙◌, arith, length-append}
 use Rattle.std.specs.Prelude.{nat_lt, nat_le, ◌&&◌, ◌||◌, Some}
-use Rattle.std.specs.List.{list_all}
 use Rattle.std.proofs.lemmas.List.Folds.{list_all-append}
 use Rattle.std.proofs.lemmas.Bool.{lt-ltb, le-leb}
 use Rattle.bd_space.specs.declared.step.Step.{Step}
@@ -10,10 +9,10 @@ use Rattle.bd_space.specs.declared.step.Entry.{Entry}
 use Rattle.bd_space.specs.Space.{Space, opening}
 use Rattle.bd_space.specs.Names.{has_number_past_limit}
 use Rattle.bd_space.specs.Steps.{change, step, counted}
-use Rattle.bd_space.specs.Histories.{History, IsHistory, Follows, EntryFollows, next, after, space_after, extended, is_at_limit}
+use Rattle.bd_space.specs.Histories.{History, Follows, EntryFollows, next, after, space_after, extended, is_at_limit}
 use Rattle.bd_buffers.specs.WindowsStand.{WindowsOf}
 use Rattle.bd_engine.specs.declared.tables.Tables.{Tables}
-use Rattle.bd_engine.specs.Stands.{StandsAt, Before, Within}
+use Rattle.bd_engine.specs.Stands.{Before, Within}
 use Rattle.bd_engine.specs.Keeps.{Keeps, history_of}
 use Rattle.bd_engine.specs.declared.why.Why.{Why}
 use Rattle.bd_engine.specs.declared.why.Why.TheVariants.{NoMemory, HistoryFull}

@@ -1,5 +1,5 @@
 -- A step is made at one place: its changes count no step.
-use Rattle.std.proofs.Common.{◌≡◌, ℕ, zero, suc, Bool, true, false, List, [], ◌∷◌, map, length, Option, Some, None, Result, Ok, Err, refl, ap, sym, ◌∙◌}
+use Rattle.std.proofs.Common.{◌≡◌, ℕ, Bool, true, false, List, [], ◌∷◌, map, Option, Some, None, Result, Ok, Err, refl, ◌∙◌}
 use Rattle.std.specs.Prelude.{◌-◌, ◌==◌, ◌&&◌, fold, filter, is_some, if◌then◌else◌}
 use Rattle.bd_uapi.specs.declared.command.TransactionData.{TransactionData}
 use Rattle.bd_uapi.specs.declared.command.Command.{Command}
@@ -28,8 +28,7 @@ use Rattle.bd_space.specs.Space.{Space}
 use Rattle.bd_space.specs.Seats.{actor, thread_in, process_with_pid}
 use Rattle.bd_space.specs.Todo.{owe, tell_caller, list_to_read}
 use Rattle.bd_space.specs.Frames.{closed, served_innermost}
-use Rattle.bd_space.specs.Settle.{settle}
-use Rattle.bd_space.specs.Outcomes.{Outcome, completed, accepted, noted, stopped, refused}
+use Rattle.bd_space.specs.Outcomes.{Outcome, completed, accepted, noted, refused}
 use Rattle.bd_space.specs.Turns.{ripen}
 use Rattle.bd_space.specs.Notices.{follow, notify, work_goes, deaths_go}
 use Rattle.bd_space.specs.Names.{names_go, assign_numbers}
@@ -41,7 +40,7 @@ use Rattle.bd_space.specs.Freeing.{free_step, free_outcome, buffer_at_pointer, w
 use Rattle.bd_space.specs.Asking.{ask_step, ask_outcome, ask_check, ask, drop_step, drop_outcome, drop_check, drop_asked, done_step, done_outcome, done_check, acknowledge}
 use Rattle.bd_space.specs.Deaths.{request_step, request_outcome, request_check, requested, with_death, clear_step, clear_outcome, clear_check, cleared, mark_cleared, death_ended, without_death, death_done_step, death_done_outcome, told_death, death_done, with_phase, owner_lives_in, is_out}
 use Rattle.bd_space.specs.Commands.{command_step, with_looping}
-use Rattle.bd_space.specs.Reading.{read_step, read_list, read_fault, read_taking, read_by, taken}
+use Rattle.bd_space.specs.Reading.{read_step, read_fault, read_taking, read_by, taken}
 use Rattle.bd_space.specs.Exits.{exit_thread_step, thread_goes, exit_process_step, threads_go, without_process, tell_deaths, tell_death, is_armed, seat_of}
 use Rattle.bd_space.specs.Steps.{change, by_actor, open_step, open_outcome, open_fault, attach_step, attach_outcome, manager_step, manager_outcome, is_manager_busy, with_thread, with_process, with_manager}
 use Rattle.bd_engine.proofs.Standing.{settle-steps}

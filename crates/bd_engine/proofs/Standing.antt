@@ -23,7 +23,7 @@ use Rattle.bd_calls.specs.declared.table.CallTable.{CallTable}
 use Rattle.bd_calls.specs.Stands as calls
 use Rattle.bd_buffers.specs.WindowsStand.{AreMade, WindowsOf}
 use Rattle.bd_engine.specs.declared.tables.Tables.{Tables}
-use Rattle.bd_engine.specs.Stands.{StandsAt, Before, Within}
+use Rattle.bd_engine.specs.Stands.{Before, Within}
 
 -- ---- from before a step into it
 

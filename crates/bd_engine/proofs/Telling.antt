@@ -1,5 +1,5 @@
 -- How tables go on standing while frames close and callers and senders are told.
-use Rattle.std.proofs.Common.{◌≡◌, ℕ, List, Option, None, Some, subst, sym, refl, ap, ◌∙◌}
+use Rattle.std.proofs.Common.{ℕ, List, Option, None, Some}
 use Rattle.bd_space.specs.declared.space.Frame.{Frame}
 use Rattle.bd_space.specs.declared.space.Work.{Work}
 use Rattle.bd_space.specs.declared.space.WorkKind.{WorkKind}

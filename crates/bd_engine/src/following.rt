@@ -34,7 +34,8 @@ impl Tables {
     {
         let objects = &self.objects;
         let processes = self.processes.as_slice();
-        self.calls.retain_work(|kind| objects.still_due(processes, &kind));
+        self.calls
+            .retain_work(|kind| objects.still_due(processes, &kind));
     }
 
     // The notice that is missing of the object of an index is made on its owner's list.

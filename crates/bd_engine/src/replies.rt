@@ -91,13 +91,7 @@ impl Tables {
     }
 
     // The step of a reply that nothing stands against.
-    fn answer(
-        &mut self,
-        a: Actor,
-        d: &TransactionData,
-        f: Frame,
-        v: Delivery,
-    ) -> Result<Plain, Why>
+    fn answer(&mut self, a: Actor, d: &TransactionData, f: Frame, v: Delivery) -> Result<Plain, Why>
         requires { IsDeliverable self.old d.now v }
         ensures ok { IfOk result (λ x. Meets self.old self.new IsAny (λ s. outcomes.accepted (spec.replied s a d.now f v)) (answer_of x)) }
         ensures err { OnErr result (IsKept self.old self.new) }

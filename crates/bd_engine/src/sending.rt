@@ -146,11 +146,7 @@ impl Tables {
     }
 
     // A parcel whose offsets are whole.
-    fn resolve_walked(
-        &self,
-        p: u32,
-        q: &Parcel,
-    ) -> Result<Result<Sending, Cause>, AllocError>
+    fn resolve_walked(&self, p: u32, q: &Parcel) -> Result<Result<Sending, Cause>, AllocError>
         requires { length q.now.offsets % 8 ≡ 0 }
         ensures computed { IfOk result (λ r. (n : ℕ) (s : Space) → StandsAt n self.now s
             → r ≡ parcels.resolve_walked s p q.now (fault_in q.now.bytes (offsets_in q.now.offsets))) }

@@ -63,7 +63,12 @@ impl Tables {
         ensures full { IfErr result (IsRefused self.old (IsBy a) (λ s. change s a.thread.seat step.now)) }
     {
         match step {
-            Step::Open { pid, euid, window } => twice(self.open(a.thread.seat, *pid, *euid, *window)),
+            Step::Open { pid, euid, window } => twice(self.open(
+                a.thread.seat,
+                *pid,
+                *euid,
+                *window,
+            )),
             Step::Attach { pid } => twice(self.attach(a.thread.seat, *pid)),
             Step::SetManager => twice(self.set_manager(a)),
             Step::Command { command, parcel } => twice(self.command(a, command, parcel)),

@@ -164,12 +164,7 @@ impl Tables {
     }
 
     // All that changes.
-    fn transacted(
-        &mut self,
-        a: Actor,
-        d: &TransactionData,
-        v: Delivery,
-    ) -> Result<(), NumbersFull>
+    fn transacted(&mut self, a: Actor, d: &TransactionData, v: Delivery) -> Result<(), NumbersFull>
         requires deliverable { IsDeliverable self.old d.now v }
         requires ready { IsReady self.old v }
         ensures ok { OnOk result ((s : Space) → Before self.old s → Within self.new (spec.transacted s a d.now v)) }

@@ -1,4 +1,4 @@
-use Rattle.std.proofs.Common.{ap, sym, ◌∙◌}
+use Rattle.std.proofs.Common.{ap, ◌∙◌}
 use Rattle.bd_space.specs.Histories.{ready_bits}
 use Rattle.bd_engine.proofs.engine.Engine.ready.Goals as goal
 

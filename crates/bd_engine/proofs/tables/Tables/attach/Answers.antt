@@ -1,11 +1,11 @@
-use Rattle.std.proofs.Common.{◌≡◌, ◌+◌, Bool, true, false, Option, Some, None, refl, ap, sym, ◌∙◌}
+use Rattle.std.proofs.Common.{◌+◌, false, Option, refl, ap, sym, ◌∙◌}
 use Rattle.std.specs.Prelude.{is_some}
 use Rattle.bd_uapi.specs.declared.fault.Fault.TheVariants.{HasProcess, NoSuchPid}
 use Rattle.bd_space.specs.declared.space.Process.{Process}
 use Rattle.bd_space.specs.Seats.{process_with_pid}
 use Rattle.bd_space.specs.Steps.{attach_step, attach_outcome, with_thread}
 use Rattle.bd_engine.proofs.Standing.{within}
-use Rattle.bd_engine.proofs.Meeting.{IsOutcome, meets, in-case, is-refused}
+use Rattle.bd_engine.proofs.Meeting.{meets, in-case, is-refused}
 use Rattle.bd_engine.proofs.tables.Tables.attach.Goals as goal
 
 pub returns-then-is_some-clause-ok : goal.returns-then-is_some-clause-ok

@@ -1,8 +1,5 @@
-use Rattle.std.proofs.Common.{◌≡◌, ap, refl, sym, subst, Some, ◌∙◌}
-use Rattle.bd_space.specs.Space.{Space}
-use Rattle.bd_space.specs.Seats.{actor}
+use Rattle.std.proofs.Common.{refl, sym, ◌∙◌}
 use Rattle.bd_space.specs.Steps.{change}
-use Rattle.bd_engine.specs.Stands.{Before}
 use Rattle.bd_engine.specs.Plain.{answer_of}
 use Rattle.bd_engine.specs.Meets.{IsAny, IsNobody, IsBy}
 use Rattle.bd_engine.proofs.Meeting.{as-ok, as-full, twice-ok, twice-full, twice-same}

@@ -1,8 +1,6 @@
-use Rattle.std.proofs.Common.{◌≡◌, ◌+◌, ◌∙◌, arith, rules, ap, subst, sym, length, ◌≤◌}
-use Rattle.bd_space.specs.Space.{Space}
+use Rattle.std.proofs.Common.{◌+◌, arith, rules, subst, length, ◌≤◌}
 use Rattle.bd_space.specs.Notices.{notify}
 use Rattle.bd_engine.specs.Stands.{StandsAt}
-use Rattle.bd_engine.specs.Notified.{notified}
 use Rattle.bd_engine.proofs.Notifying.{notified-all}
 use Rattle.bd_engine.proofs.tables.Tables.notify.Goals as goal
 

@@ -1,6 +1,5 @@
-use Rattle.std.proofs.Common.{ℕ}
 use Rattle.bd_space.specs.Space.{Space}
-use Rattle.bd_engine.specs.Stands.{Within, StandsAt, Takes}
+use Rattle.bd_engine.specs.Stands.{Within, Takes}
 use Rattle.bd_engine.specs.Notified.{notified}
 use Rattle.bd_engine.proofs.tables.Tables.notify.Given as goal
 

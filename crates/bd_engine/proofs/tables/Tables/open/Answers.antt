@@ -1,6 +1,5 @@
-use Rattle.std.proofs.Common.{◌≡◌, ◌+◌, Option, Some, None, refl, sym, subst, ◌∙◌}
-use Rattle.bd_uapi.specs.declared.fault.Fault.{Fault}
-use Rattle.bd_space.specs.Steps.{open_step, open_outcome, with_thread, with_process, is_window}
+use Rattle.std.proofs.Common.{◌+◌, refl, sym, subst, ◌∙◌}
+use Rattle.bd_space.specs.Steps.{open_step, open_outcome, with_thread, with_process}
 use Rattle.bd_engine.specs.Stands.{StandsAt}
 use Rattle.bd_engine.proofs.Meeting.{meets, in-case, is-refused}
 use Rattle.bd_engine.proofs.tables.Tables.open.Goals as goal

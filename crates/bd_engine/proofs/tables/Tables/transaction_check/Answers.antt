@@ -28,5 +28,5 @@ returns-in-None-clause-computed c =
     let Q : Result Delivery Cause → Type 0 = λ r. (s : Space) → Before c.args.self.now s → r ≡ transaction_check s c.args.a c.args.d.now c.args.parcel.now in
     IfOk-weaker c.sent_to.result P Q
     (λ r f s h. f s h (c.in-Ok.ensures.lives s.steps s h)
-        ∙ may-call s c.args.a c.args.d.now c.args.parcel.now _ c.handle_of.ensures _ _ (c.in-Ok.ensures.callee s.steps s h) c.is_one_way-one_way.ensures (c.in-None.ensures s.steps s h))
+    ∙ may-call s c.args.a c.args.d.now c.args.parcel.now _ c.handle_of.ensures _ _ (c.in-Ok.ensures.callee s.steps s h) c.is_one_way-one_way.ensures (c.in-None.ensures s.steps s h))
     c.sent_to.ensures.computed

@@ -1,4 +1,4 @@
-use Rattle.std.proofs.Common.{◌∙◌, sym, rules}
+use Rattle.std.proofs.Common.{rules}
 use Rattle.bd_space.specs.Notices.{work_goes}
 use Rattle.bd_engine.proofs.tables.Tables.work_goes.Goals as goal
 
