@@ -1,0 +1,121 @@
+-- The calls on the own mailbox, at a seat between two calls.
+use Rattle.std.proofs.Common.{◌≡◌, ℕ, suc, Bool, true, false, eqb, List, [], ◌∷◌, true≢false, refl, sym, ap, ◌∙◌, subst}
+use mathlib.Core.Option.{none}
+use prog.Atomic.{either}
+use Rattle.atomic_table.specs.Table.{step, rest, Allows}
+use Rattle.bd_space.specs.declared.step.Entry.{Entry}
+use Rattle.bd_space.specs.declared.step.Request.{Request}
+use Rattle.bd_driver.specs.declared.view.View.{View}
+use Rattle.bd_driver.specs.declared.view.Handover.{Handover}
+use Rattle.bd_driver.specs.declared.view.Handover.TheVariants.{Shut, Open, Waiting}
+use Rattle.bd_driver.specs.declared.slot.Slot.{Slot}
+use Rattle.bd_driver.specs.declared.slot.Slot.TheVariants.{Home, Posted, Answered, Empty}
+use Rattle.bd_driver.specs.declared.outcome.Outcome.{Outcome}
+use Rattle.bd_driver.specs.declared.outcome.Outcome.TheVariants.{Done, Back, Handed}
+use Rattle.bd_driver.specs.Views.{StartsWith, view_of}
+use Rattle.bd_driver.specs.Rule.{Kept}
+use Rattle.bd_driver.specs.Mailboxes.{IsTold}
+use Rattle.bd_driver.specs.Steps.{Hands, opened, closed, posted_at, posted_as, withdrew, collected_at, collected_as}
+use Rattle.bd_driver.specs.Rest.{is_waiting, held_of, IsReady, IsAtRest}
+use Rattle.bd_driver.specs.Handing.{IsCollected, Collects}
+use Rattle.bd_driver.proofs.MailboxSteps.{posts, withdraws, collects, opens_mailbox, closes_mailbox}
+use Rattle.bd_driver.specs.Together.{closed_hand, closed_view}
+
+pub open_hand : (h : Handover) → IsReady h → is_waiting h ≡ false → h ≡ Open
+open_hand Shut r e = absurd r
+open_hand Open r e = refl
+open_hand (Waiting q since) r e = absurd (true≢false e)
+
+pub waiting_hand : (h : Handover) → is_waiting h ≡ true → (r : Request) × (since : ℕ) × (h ≡ Waiting r since)
+waiting_hand Shut e = absurd (true≢false (sym e))
+waiting_hand Open e = absurd (true≢false (sym e))
+waiting_hand (Waiting q since) e = (q, since, refl)
+
+-- the slots of a seat that has handed nothing over, and of one that waits
+pub open_me : (words : ℕ) (me : Hands) (number : ℕ) (waiting : Bool) → IsAtRest words me number waiting → is_waiting (view_of me.0).handover ≡ false → me ≡ (view_of me.0 ∷ [], (suc (view_of me.0).who, Empty) ∷ [])
+open_me words me number waiting r e = λ i. (r.one i, (r.held ∙ ap (λ h. held_of h (view_of me.0).who) (open_hand (view_of me.0).handover r.ready e)) i)
+
+pub waiting_me : (words : ℕ) (me : Hands) (number : ℕ) (waiting : Bool) → IsAtRest words me number waiting → is_waiting (view_of me.0).handover ≡ true → me ≡ (view_of me.0 ∷ [], [])
+waiting_me words me number waiting r e = let h = waiting_hand (view_of me.0).handover e in λ i. (r.one i, (r.held ∙ ap (λ h. held_of h (view_of me.0).who) h.2) i)
+
+pub posts_at : (seats slots id : ℕ) (me : Hands) (v : View) (xs : List (ℕ × Slot)) (r : Request) (word : ℕ) → me ≡ (v ∷ [], (word, Posted r) ∷ xs) → word ≡ suc v.who → v.handover ≡ Open
+    → Allows (Kept seats) slots id me word (λ _. 1) (posted_as (step slots word 1 0 none) me)
+posts_at seats slots id me v xs r word is at free =
+    subst (λ (z : Hands × ℕ). Allows (Kept seats) slots id z.0 z.1 (λ _. 1) (posted_as (step slots z.1 1 0 none) z.0)) (λ i. (sym (is ∙ ap (λ (w : ℕ). (v ∷ [], (w, Posted r) ∷ xs)) at) i, sym at i))
+    (posts seats slots id (v ∷ [], (suc v.who, Posted r) ∷ xs) refl r free refl)
+
+abbrev asked : Request → Slot → Request
+asked d (Home e) = d
+asked d (Posted r) = r
+asked d (Answered o) = d
+asked d Empty = d
+
+abbrev asked_in : Request → List (ℕ × Slot) → Request
+asked_in d [] = d
+asked_in d (x ∷ xs) = asked d x.1
+
+pub after_post : (slots word n : ℕ) (m m' : Hands) (v : View) (xs : List (ℕ × Slot)) (r : Request) → m ≡ (v ∷ [], (word, Posted r) ∷ xs) → posted_as (step slots word 1 0 none) m n m' → m' ≡ (posted_at v n r ∷ [], xs)
+after_post slots word n m m' v xs r is t =
+    let same : t.0 ≡ r = sym (ap (asked_in r) t.1) ∙ ap (λ (x : Hands). asked_in r x.1) is in
+    t.2 ∙ (λ i. (posted_at (view_of (is i).0) n (same i) ∷ [], rest (is i).1))
+
+pub posted_rests : (words n : ℕ) (me m' : Hands) (number : ℕ) (waiting : Bool) (r : Request) → IsAtRest words me number waiting → m' ≡ (posted_at (view_of me.0) n r ∷ [], []) → IsAtRest words m' number true
+posted_rests words n me m' number waiting r s is = subst (λ m. IsAtRest words m number true) (sym is) (record { one = refl; held = refl; idle = s.idle; number_is = s.number_is; none_picked = s.none_picked; waits = refl; ready = tt; below = s.below; wide = s.wide })
+
+pub withdraws_at : (seats slots id : ℕ) (me : Hands) (v : View) (xs : List (ℕ × Slot)) (r : Request) (since word : ℕ) → me ≡ (v ∷ [], xs) → word ≡ suc v.who → v.handover ≡ Waiting r since
+    → Allows (Kept seats) slots id me word (λ n. either (eqb n 1) 0 n) (withdrew (step slots word 1 0 none) me)
+withdraws_at seats slots id me v xs r since word is at waits =
+    subst (λ (z : Hands × ℕ). Allows (Kept seats) slots id z.0 z.1 (λ n. either (eqb n 1) 0 n) (withdrew (step slots z.1 1 0 none) z.0)) (λ i. (sym is i, sym at i))
+    (withdraws seats slots id (v ∷ [], xs) refl r since waits)
+
+pub collects_at : (seats slots id : ℕ) (me : Hands) (v : View) (xs : List (ℕ × Slot)) (r : Request) (since word : ℕ) → me ≡ (v ∷ [], xs) → word ≡ suc v.who → v.handover ≡ Waiting r since → v.taker ≡ false
+    → Allows (Kept seats) slots id me word (λ n. either (eqb n 3) 0 n) (collected_as (step slots word 3 0 none) me)
+collects_at seats slots id me v xs r since word is at waits idle =
+    subst (λ (z : Hands × ℕ). Allows (Kept seats) slots id z.0 z.1 (λ n. either (eqb n 3) 0 n) (collected_as (step slots z.1 3 0 none) z.0)) (λ i. (sym is i, sym at i))
+    (collects seats slots id (v ∷ [], xs) refl r since waits idle)
+
+-- a plain exchange in the one slot that is held, where its number is known by arithmetic
+pub refill : (me m : Hands) (v : View) (xs : List (ℕ × Slot)) (slot : ℕ) (x y : Slot) → me ≡ (v ∷ [], xs) → m ≡ (me.0, (slot, y) ∷ rest me.1) → m ≡ (v ∷ [], (slot, y) ∷ rest xs)
+refill me m v xs slot x y is e = e ∙ ap (λ (z : Hands). (z.0, (slot, y) ∷ rest z.1)) is
+
+told_at : (v w : View) (o : Outcome) (entries : List Entry) (r : Request) (since : ℕ) → StartsWith entries v.seen → v.handover ≡ Waiting r since → IsTold v.seats entries v.who r since o → w ≡ collected_at v 3 entries o → IsCollected v w o
+told_at v w o entries r since begins handover told is =
+    subst (λ (x : View). IsCollected v x o) (sym is) (record { request = r; since = since; handed = handover; begins = begins; only = refl; is_told = told })
+
+pub told_collects : (v w : View) (o : Outcome) (entries : List Entry) (r : Request) (since : ℕ) → StartsWith entries v.seen → v.handover ≡ Waiting r since → IsTold v.seats entries v.who r since o → w ≡ collected_at v 3 entries o → Collects v w o
+told_collects v w (Done answer start end) entries r since a b c d = told_at v w (Done answer start end) entries r since a b c d
+told_collects v w (Back back why) entries r since a b c d = told_at v w (Back back why) entries r since a b c d
+told_collects v w Handed entries r since a b c d = absurd c
+
+-- the outcome that a slot has
+abbrev told_of : Outcome → Slot → Outcome
+told_of d (Home e) = d
+told_of d (Posted r) = d
+told_of d (Answered o) = o
+told_of d Empty = d
+
+abbrev told_in : Outcome → List (ℕ × Slot) → Outcome
+told_in d [] = d
+told_in d (x ∷ xs) = told_of d x.1
+
+pub same_told : (slot other : ℕ) (o p : Outcome) (xs ys : List (ℕ × Slot)) → (slot, Answered o) ∷ xs ≡ (other, Answered p) ∷ ys → o ≡ p
+same_told slot other o p xs ys e = ap (told_in o) e
+
+pub opens_at : (seats slots id : ℕ) (me : Hands) (v : View) (xs : List (ℕ × Slot)) (word : ℕ) → me ≡ (v ∷ [], xs) → word ≡ suc v.who → v.handover ≡ Shut → Allows (Kept seats) slots id me word (λ n. n) (opened (step slots word 0 0 none) me)
+opens_at seats slots id me v xs word is at handover =
+    subst (λ (z : Hands × ℕ). Allows (Kept seats) slots id z.0 z.1 (λ n. n) (opened (step slots z.1 0 0 none) z.0)) (λ i. (sym is i, sym at i)) (opens_mailbox seats slots id (v ∷ [], xs) refl handover)
+
+pub closes_at : (seats slots id : ℕ) (me : Hands) (v : View) (xs : List (ℕ × Slot)) (word : ℕ) → me ≡ (v ∷ [], (suc v.who, Empty) ∷ xs) → word ≡ suc v.who → v.handover ≡ Open → Allows (Kept seats) slots id me word (λ n. n) (closed (step slots word 0 0 none) me)
+closes_at seats slots id me v xs word is at handover =
+    subst (λ (z : Hands × ℕ). Allows (Kept seats) slots id z.0 z.1 (λ n. n) (closed (step slots z.1 0 0 none) z.0)) (λ i. (sym is i, sym at i)) (closes_mailbox seats slots id (v ∷ [], (suc v.who, Empty) ∷ xs) refl handover refl)
+
+-- the views of seats that give their slots back
+pub open_closed : (words : ℕ) (me m' : Hands) (number : ℕ) (waiting : Bool) → IsAtRest words me number waiting → is_waiting (view_of me.0).handover ≡ false → m' ≡ (record (view_of me.0) { handover = Shut } ∷ [], rest me.1) → m' ≡ (closed_view (view_of me.0) ∷ [], [])
+open_closed words me m' number waiting r e is =
+    let h = open_hand (view_of me.0).handover r.ready e in
+    is ∙ (λ i. (record (view_of me.0) { handover = closed_hand (sym h i) } ∷ [], rest (ap (λ (m : Hands). m.1) (open_me words me number waiting r e) i)))
+
+pub waiting_closed : (words : ℕ) (me : Hands) (number : ℕ) (waiting : Bool) → IsAtRest words me number waiting → is_waiting (view_of me.0).handover ≡ true → me ≡ (closed_view (view_of me.0) ∷ [], [])
+waiting_closed words me number waiting r e =
+    let h = waiting_hand (view_of me.0).handover e in
+    waiting_me words me number waiting r e ∙ (λ i. (record (view_of me.0) { handover = ((h.2 ∙ sym (ap closed_hand h.2)) i) } ∷ [], []))

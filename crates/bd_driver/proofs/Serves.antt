@@ -1,0 +1,270 @@
+-- The steps of serving, at a seat whose view and slots are known.
+use Rattle.std.proofs.Common.{◌≡◌, ◌≢◌, ℕ, suc, ◌+◌, ◌-◌, ◌<◌, Bool, true, false, eqb, List, [], ◌∷◌, ◌++◌, length, refl, sym, ap, ◌∙◌, subst, arith, length-append, append_assoc, cond, eq-eqb, ne_eqb, ◌==◌, ◌%◌, Some}
+use mathlib.Core.Option.{none}
+use prog.Atomic.{either}
+use Rattle.atomic_table.specs.Table.{step, rest, Allows}
+use Rattle.bd_space.specs.declared.step.Entry.{Entry}
+use Rattle.bd_space.specs.declared.step.Request.{Request}
+use Rattle.bd_space.specs.declared.step.Answer.{Answer}
+use Rattle.bd_space.specs.Histories.{History}
+use Rattle.bd_space.specs.Runs.{IsAtLimit, HasRun, IsRun}
+use Rattle.bd_driver.specs.Views.{ready_of, StartsWith, places, tick, view_of, history}
+use Rattle.bd_driver.specs.Words.{page_word}
+use Rattle.bd_driver.specs.Rule.{Kept}
+use Rattle.bd_engine.specs.declared.why.Why.{Why as Refused}
+use Rattle.bd_engine.specs.declared.why.Why.TheVariants.{NoMemory as Memory, HistoryFull as Full}
+use Rattle.bd_engine.specs.Refusals.{FullOnly}
+use Rattle.bd_driver.specs.declared.outcome.Outcome.TheVariants.{Done, Back, Handed}
+use Rattle.bd_driver.specs.Reasons.{reason_of}
+use Rattle.bd_driver.proofs.Mailboxes.{nil_right}
+use Rattle.bd_driver.specs.declared.view.View.{View}
+use Rattle.bd_driver.specs.declared.view.Pick.TheVariants.{Nothing}
+use Rattle.bd_driver.specs.declared.slot.Slot.{Slot}
+use Rattle.bd_driver.specs.declared.slot.Slot.TheVariants.{Home, Posted, Answered, Empty}
+use Rattle.bd_driver.specs.declared.outcome.Outcome.{Outcome}
+use Rattle.bd_driver.specs.Mailboxes.{RunAt, IsReason}
+use Rattle.bd_driver.specs.Steps.{Hands, entries_in, picked_as, with_places, served_at, served, answered_as}
+use Rattle.std.specs.Prelude.{slice_set, MatchBool, if◌then◌else◌}
+use Rattle.bd_driver.specs.declared.view.Tally.{Tally}
+use Rattle.bd_driver.specs.declared.view.Letter.{Letter}
+use Rattle.bd_driver.specs.Steps.{tally_at}
+use Rattle.bd_driver.specs.Steps.{took_at, put_at}
+use Rattle.bd_driver.specs.Driver.{Takes}
+use Rattle.bd_driver.specs.Served.{Serves}
+use Rattle.bd_driver.specs.declared.outcome.Served.TheVariants.{Ran}
+use Rattle.bd_driver.specs.Serve.{Serving, IsPicked, FollowsFor, AnswersPick, RunsAs, AnswersOne, done_among, OnlyServes, ServedOne, AnswersAll, ServedAll, ticks, ones}
+use Rattle.bd_driver.proofs.Views.{starts_all}
+use Rattle.bd_driver.proofs.MailboxSteps.{picks, serves, answers}
+
+pub picks_at : (seats slots id : ℕ) (me : Hands) (i word : ℕ) → word ≡ suc i → me.0 ≡ view_of me.0 ∷ [] → (view_of me.0).taker ≡ true → (view_of me.0).pick ≡ Nothing → i < seats
+    → Allows (Kept seats) slots id me word (λ n. either (eqb n 1) 2 n) (picked_as (step slots word 1 2 none) me)
+picks_at seats slots id me i word at one on none_yet below =
+    subst (λ (w : ℕ). Allows (Kept seats) slots id me w (λ n. either (eqb n 1) 2 n) (picked_as (step slots w 1 2 none) me)) (sym at) (picks seats slots id me one on i below none_yet)
+
+pub serves_at : (seats slots id : ℕ) (me : Hands) (v : View) (xs : List (ℕ × Slot)) (slot i : ℕ) (e : History) (new : ℕ) → me ≡ (v ∷ [], (slot, Home e) ∷ xs) → v.taker ≡ true → FollowsFor v i e
+    → new ≡ page_word v.seats 1 e.entries → (length e.entries < 4294967296) × (ready_of v.seats e.entries < 2147483648) → Allows (Kept seats) slots id me 0 (λ _. new) (served (step slots 0 new 0 none) me)
+serves_at seats slots id me v xs slot i e new is on f page fits =
+    subst (λ (m : Hands). Allows (Kept seats) slots id m 0 (λ _. new) (served (step slots 0 new 0 none) m)) (sym is)
+    (serves seats slots id (v ∷ [], (slot, Home e) ∷ xs) refl on i f.request f.since f.run new f.answer f.pick f.grown f.by_seat f.run_at page fits)
+
+pub after_serve : (m m' : Hands) (v : View) (xs : List (ℕ × Slot)) (slot : ℕ) (e : History) (n : ℕ) → m ≡ (v ∷ [], (slot, Home e) ∷ xs) → m' ≡ (served_at (view_of m.0) n (entries_in m.1) ∷ [], m.1)
+    → m' ≡ (served_at v n e.entries ∷ [], (slot, Home e) ∷ xs)
+after_serve m m' v xs slot e n is after = after ∙ ap (λ (x : Hands). (served_at (view_of x.0) n (entries_in x.1) ∷ [], x.1)) is
+
+pub answers_at : (seats slots id : ℕ) (me : Hands) (v : View) (xs : List (ℕ × Slot)) (i word : ℕ) (o : Outcome) → me ≡ (v ∷ [], (word, Answered o) ∷ xs) → word ≡ suc i → v.taker ≡ true → AnswersPick v i o
+    → Allows (Kept seats) slots id me word (λ _. 3) (answered_as (step slots word 3 0 none) me)
+answers_at seats slots id me v xs i word o is at on a =
+    subst (λ (z : Hands × ℕ). Allows (Kept seats) slots id z.0 z.1 (λ _. 3) (answered_as (step slots z.1 3 0 none) z.0)) (λ j. (sym (is ∙ ap (λ (w : ℕ). (v ∷ [], (w, Answered o) ∷ xs)) at) j, sym at j))
+    (answers seats slots id (v ∷ [], (suc i, Answered o) ∷ xs) refl on i a.request a.since a.start a.count o a.pick a.is_told a.same_places refl)
+
+-- the engine that a slot has
+abbrev engine_of : History → Slot → History
+engine_of d (Home e) = e
+engine_of d (Posted r) = d
+engine_of d (Answered o) = d
+engine_of d Empty = d
+
+abbrev engine_in : History → List (ℕ × Slot) → History
+engine_in d [] = d
+engine_in d (x ∷ xs) = engine_of d x.1
+
+pub same_engine : (slot other : ℕ) (e f : History) (xs ys : List (ℕ × Slot)) → (slot, Home e) ∷ xs ≡ (other, Home f) ∷ ys → e ≡ f
+same_engine slot other e f xs ys h = ap (engine_in e) h
+
+-- what a run says of what was picked
+module _ (m : Hands) (i : ℕ) (r : Request) (e0 : History) (p : IsPicked m i r e0) where
+  abbrev v : View
+  v = view_of m.0
+
+  entries_are : e0.entries ≡ v.seen
+  entries_are = ap (λ (e : History). e.entries) p.stands
+
+  run_here : (e1 : History) (answer : Answer) (start end : ℕ) → HasRun e0 e1 i r answer start end → RunAt v.seats e1.entries i r p.since answer start end
+  run_here e1 answer start end h = record {
+    before = e0.entries;
+    run = h.run;
+    after = [];
+    parts = h.grown ∙ sym (nil_right (e0.entries ++ h.run));
+    starts = h.starts;
+    ends = let a = ap (length {A = Entry}) h.grown in let b = length-append e0.entries h.run in let c = h.starts in let d = h.ends in omega arith;
+    late = let a : length e0.entries ≡ length v.seen = ap length entries_are in let c = h.starts in let d = p.early in omega arith;
+    by_seat = h.by_seat;
+    is_run = subst (λ z. IsRun z i r h.run answer) (p.stands ∙ ap (history v.seats) (sym entries_are)) h.is_run;
+  }
+
+  pub follows_for : (e1 : History) (answer : Answer) (start end : ℕ) → HasRun e0 e1 i r answer start end → FollowsFor v i e1
+  follows_for e1 answer start end h =
+      let st : start ≡ length v.seen = h.starts ∙ ap length entries_are in
+      let en : end ≡ length v.seen + length h.run = let a = ap (length {A = Entry}) h.grown in let b = length-append e0.entries h.run in let c = ap (length {A = Entry}) entries_are in let d = h.ends in omega arith in
+      record {
+        request = r;
+        since = p.since;
+        pick = p.pick;
+        seats = h.seats ∙ ap (λ (e : History). e.seats) p.stands;
+        run = h.run;
+        grown = h.grown ∙ ap (λ l. l ++ h.run) entries_are;
+        by_seat = h.by_seat;
+        answer = answer;
+        run_at = subst (λ (z : ℕ × ℕ). RunAt v.seats e1.entries i r p.since answer z.0 z.1) (λ j. (st j, en j)) (run_here e1 answer start end h);
+      }
+
+  pub answers_done : (e1 : History) (answer : Answer) (start end n : ℕ) (m' : Hands) → HasRun e0 e1 i r answer start end → m' ≡ (served_at v n e1.entries ∷ [], (i + 1, Empty) ∷ rest m.1) → AnswersPick (view_of m'.0) i (Done answer start end)
+  answers_done e1 answer start end n m' h after =
+      let now : view_of m'.0 ≡ served_at v n e1.entries = ap (λ (x : Hands). view_of x.0) after in
+      let st : length v.seen ≡ start = sym (h.starts ∙ ap length entries_are) in
+      let co : length e1.entries - length v.seen ≡ end - start = λ j. sym h.ends j - st j in
+      subst (λ x. AnswersPick x i (Done answer start end)) (sym now) (record {
+        request = r;
+        since = p.since;
+        start = length v.seen;
+        count = length e1.entries - length v.seen;
+        pick = ap (λ q. with_places q (length v.seen) (length e1.entries - length v.seen)) p.pick;
+        is_told = run_here e1 answer start end h;
+        same_places = λ j. places (st j) (co j);
+      })
+
+  reason_is : (why : Refused) → FullOnly why (IsAtLimit e0 i r) → IsReason v.seats v.seen i r (reason_of why)
+  reason_is Memory full = tt
+  reason_is Full full = (v.seen, starts_all v.seen, subst (λ z. IsAtLimit z i r) p.stands full)
+
+  pub answers_back : (why : Refused) → FullOnly why (IsAtLimit e0 i r) → AnswersPick v i (Back r (reason_of why))
+  answers_back why full = record { request = r; since = p.since; start = 0; count = 0; pick = p.pick; is_told = (refl, reason_is why full); same_places = refl }
+
+ticks_more : (ts : List Tally) (k : ℕ) (xs : List ℕ) (x : ℕ) → ticks ts k (xs ++ x ∷ []) ≡ slice_set (ticks ts k xs) (k + length xs) (tick (tally_at (ticks ts k xs) (k + length xs)) x)
+ticks_more ts k [] x = let e : k ≡ k + 0 = omega arith in ap (λ (n : ℕ). slice_set ts n (tick (tally_at ts n) x)) e
+ticks_more ts k (y ∷ ys) x =
+    let now = slice_set ts k (tick (tally_at ts k) y) in
+    let e : k + 1 + length ys ≡ k + suc (length ys) = omega arith in
+    ticks_more now (k + 1) ys x ∙ ap (λ (n : ℕ). slice_set (ticks now (k + 1) ys) n (tick (tally_at (ticks now (k + 1) ys) n) x)) e
+
+ones_more : (xs : List ℕ) (x : ℕ) → ones (xs ++ x ∷ []) ≡ ones xs + (if x == 1 then 1 else 0)
+ones_more [] x = omega arith
+ones_more (y ∷ ys) x = let h = ones_more ys x in omega arith
+
+one_of : (b : Bool) (x n : ℕ) → MatchBool b (x ≡ 1) (x ≢ 1) → MatchBool b (n ≡ 1) (n ≡ 0) → n ≡ (if x == 1 then 1 else 0)
+one_of true x n hit is = is ∙ sym (ap (λ c. cond c 1 0) (eq-eqb x 1 hit))
+one_of false x n hit is = is ∙ sym (ap (λ c. cond c 1 0) (ne_eqb x 1 hit))
+
+same_only : (v : View) → OnlyServes v v
+same_only v = record { seats = refl; who = refl; own = refl; handover = refl; takes = refl; puts = refl; looks = refl; posts = refl; withdraws = refl; collects = refl }
+
+then_only : (u v w : View) → OnlyServes u v → OnlyServes v w → OnlyServes u w
+then_only u v w a b = record {
+  seats = b.seats ∙ a.seats;
+  who = b.who ∙ a.who;
+  own = b.own ∙ a.own;
+  handover = b.handover ∙ a.handover;
+  takes = b.takes ∙ a.takes;
+  puts = b.puts ∙ a.puts;
+  looks = b.looks ∙ a.looks;
+  posts = b.posts ∙ a.posts;
+  withdraws = b.withdraws ∙ a.withdraws;
+  collects = b.collects ∙ a.collects;
+}
+
+answers_more : (seats k : ℕ) (xs : List ℕ) (x : ℕ) (ls l : List Letter) (a b c : List Entry) → AnswersAll seats k xs ls a b → AnswersOne seats (k + length xs) (x == 1) l b c → AnswersAll seats k (xs ++ x ∷ []) (ls ++ l) a c
+answers_more seats k [] x ls l a b c h one =
+    let e : k + 0 ≡ k = omega arith in
+    (l, [], c, ap (λ z. z ++ l) h.0 ∙ sym (nil_right l), subst (λ (z : ℕ × List Entry). AnswersOne seats z.0 (x == 1) l z.1 c) (λ i. (e i, h.1 i)) one, (refl, refl))
+answers_more seats k (y ∷ ys) x ls l a b c h one =
+    let e : k + suc (length ys) ≡ k + 1 + length ys = omega arith in
+    (h.0, h.1 ++ l, h.2, ap (λ z. z ++ l) h.3 ∙ append_assoc h.0 h.1 l, h.4, answers_more seats (k + 1) ys x h.1 l h.2 b c h.5 (subst (λ (z : ℕ). AnswersOne seats z (x == 1) l b c) e one))
+
+done_more : (ls l : List Letter) → done_among (ls ++ l) ≡ done_among ls + done_among l
+done_more [] l = omega arith
+done_more (x ∷ xs) l = let h = done_more xs l in omega arith
+
+hit_is : (b : Bool) (x : ℕ) → MatchBool b (x ≡ 1) (x ≢ 1) → b ≡ (x == 1)
+hit_is true x hit = sym (eq-eqb x 1 hit)
+hit_is false x hit = sym (ne_eqb x 1 hit)
+
+grows : (seats i : ℕ) (done : Bool) (letters : List Letter) (seen now : List Entry) → AnswersOne seats i done letters seen now → StartsWith now seen
+grows seats i false letters seen now h = subst (λ l. StartsWith l seen) (sym h.1) (starts_all seen)
+grows seats i true letters seen now h = go h.1 h.3
+  where
+    go : (o : Outcome) → RunsAs seats i h.0 o seen now → StartsWith now seen
+    go (Done answer start end) r = (r.run, r.grown)
+    go (Back back why) r = subst (λ l. StartsWith l seen) (sym r.1) (starts_all seen)
+    go Handed r = absurd r
+
+starts_later : (seen more entries : List Entry) → StartsWith more seen → StartsWith entries more → StartsWith entries seen
+starts_later seen more entries h g = (h.0 ++ g.0, g.1 ∙ (ap (λ l. l ++ g.0) h.1 ∙ append_assoc seen h.0 g.0))
+
+all_grow : (seats k : ℕ) (xs : List ℕ) (ls : List Letter) (seen now : List Entry) → AnswersAll seats k xs ls seen now → StartsWith now seen
+all_grow seats k [] ls seen now h = subst (λ l. StartsWith l seen) (sym h.1) (starts_all seen)
+all_grow seats k (x ∷ xs) ls seen now h = starts_later seen h.2 now (grows seats k (x == 1) h.0 seen h.2 h.4) (all_grow seats (k + 1) xs h.1 h.2 now h.5)
+
+pub served_none : (m : Hands) → ServedAll (view_of m.0) (rest m.1) 0 m 0
+served_none m = record {
+  found = [];
+  all = refl;
+  picks = refl;
+  picked = refl;
+  letters = [];
+  answers = sym (nil_right (view_of m.0).answers);
+  answered = (refl, refl);
+  publishes = omega arith;
+  only = same_only (view_of m.0);
+  slots = refl;
+}
+
+pub served_more : (v : View) (xs : List (ℕ × Slot)) (k : ℕ) (m m' : Hands) (d n : ℕ) (b : Bool) → ServedAll v xs k m d → ServedOne (view_of m.0) (rest m.1) k m' b → MatchBool b (n ≡ 1) (n ≡ 0) → ServedAll v xs (k + 1) m' (d + n)
+served_more v xs k m m' d n b a s is =
+    let at : 0 + length a.found ≡ k = omega (arith, a.all) in
+    let one : AnswersOne v.seats (0 + length a.found) (s.word == 1) s.letters (view_of m.0).seen (view_of m'.0).seen =
+    subst (λ (z : (ℕ × ℕ) × Bool). AnswersOne z.0.0 z.0.1 z.1 s.letters (view_of m.0).seen (view_of m'.0).seen) (λ i. ((a.only.seats i, sym at i), hit_is b s.word s.hit i)) s.answered in
+    record {
+      found = a.found ++ s.word ∷ [];
+      all = let e = length-append a.found (s.word ∷ []) in let f = a.all in omega arith;
+      picks = s.picks ∙ ((λ i. slice_set (a.picks i) (sym at i) (tick (tally_at (a.picks i) (sym at i)) s.word)) ∙ sym (ticks_more v.picks 0 a.found s.word));
+      picked = (λ i. a.picked i + one_of b s.word n s.hit is i) ∙ sym (ones_more a.found s.word);
+      letters = a.letters ++ s.letters;
+      answers = s.answers ∙ (ap (λ l. l ++ s.letters) a.answers ∙ append_assoc v.answers a.letters s.letters);
+      answered = answers_more v.seats 0 a.found s.word a.letters s.letters v.seen (view_of m.0).seen (view_of m'.0).seen a.answered one;
+      publishes = let e = a.publishes in let f = s.publishes in let g = done_more a.letters s.letters in omega arith;
+      only = then_only v (view_of m.0) (view_of m'.0) a.only s.only;
+      slots = s.slots ∙ a.slots;
+    }
+
+pub takes_serving : (v : View) (xs : List (ℕ × Slot)) (m : Hands) (e : History) (none_picked : v.pick ≡ Nothing) → Takes v xs m (Some e) → Serving m e
+takes_serving v xs m e none_picked t =
+    let is : view_of m.0 ≡ took_at v t.word t.entries = ap view_of t.view in
+    record {
+      one = t.view ∙ ap (λ l. view_of l ∷ []) (sym t.view);
+      on = ap (λ (x : View). x.taker) is ∙ eq-eqb (t.word % 2) 0 t.engine.0;
+      none_picked = ap (λ (x : View). x.pick) is ∙ none_picked;
+      held = t.engine.2 ∙ ap (λ l. (0, Empty) ∷ rest l) (sym t.engine.2);
+      stands = t.engine.1 ∙ (λ i. history (sym is i).seats (sym is i).seen);
+    }
+
+pub all_serves : (seats : ℕ) (v : View) (xs : List (ℕ × Slot)) (m m' m'' : Hands) (e : History) (d word : ℕ) → Takes v xs m (Some e) → ServedAll (view_of m.0) (rest m.1) seats m' d → m'' ≡ (put_at (view_of m'.0) word ∷ [], rest m'.1) → Serves seats v (view_of m''.0) (Ran d)
+all_serves seats v xs m m' m'' e d word t a p =
+    let is : view_of m.0 ≡ took_at v t.word t.entries = ap view_of t.view in
+    let now : view_of m''.0 ≡ put_at (view_of m'.0) word = ap (λ (x : Hands). view_of x.0) p in
+    let began : StartsWith (view_of m.0).seen v.seen = subst (λ l. StartsWith l v.seen) (sym (ap (λ (x : View). x.seen) is)) t.begins in
+    let grown = all_grow (view_of m.0).seats 0 a.found a.letters (view_of m.0).seen (view_of m'.0).seen a.answered in
+    let o = a.only in
+    let seats_is : (view_of m.0).seats ≡ v.seats = ap (λ (x : View). x.seats) is in
+    subst (λ w. Serves seats v w (Ran d)) (sym now) (record {
+      who = (o.seats ∙ seats_is, o.who ∙ ap (λ (x : View). x.who) is);
+      one_take = ap (λ (x : Tally). x.count) o.takes ∙ ap (λ (x : View). x.takes.count) is;
+      no_look = o.looks ∙ ap (λ (x : View). x.looks) is;
+      no_mail = (o.posts ∙ ap (λ (x : View). x.posts) is, o.withdraws ∙ ap (λ (x : View). x.withdraws) is, o.collects ∙ ap (λ (x : View). x.collects) is);
+      begins = starts_later v.seen (view_of m.0).seen (view_of m'.0).seen began grown;
+      own = o.own ∙ ap (λ (x : View). x.own) is;
+      handover = o.handover ∙ ap (λ (x : View). x.handover) is;
+      outcome = record {
+        was_free = ap (λ (x : Tally). x.found % 2) o.takes ∙ (ap (λ (x : View). x.takes.found % 2) is ∙ t.engine.0);
+        found = a.found;
+        all = a.all;
+        picks = a.picks ∙ ap (λ (x : View). ticks x.picks 0 a.found) is;
+        count = a.picked;
+        letters = a.letters;
+        answers = a.answers ∙ ap (λ (x : View). x.answers ++ a.letters) is;
+        before = (view_of m.0).seen;
+        begins = began;
+        answered = subst (λ z. AnswersAll z 0 a.found a.letters (view_of m.0).seen (view_of m'.0).seen) seats_is a.answered;
+        publishes = a.publishes ∙ ap (λ (x : View). x.publishes.count + done_among a.letters) is;
+        puts = ap (λ (x : Tally). x.count + 1) o.puts ∙ ap (λ (x : View). x.puts.count + 1) is;
+      };
+    })

@@ -1,0 +1,66 @@
+-- Views in their places.
+use Rattle.std.proofs.Common.{◌≡◌, ◌≢◌, ℕ, zero, suc, ◌<◌, true, List, [], ◌∷◌, ◌++◌, length, set, refl, sym, ap, ◌∙◌, subst, ⊎_elim, arith, append_assoc}
+use mathlib.Core.Option.{Option, none, some, some-ne-none, some-injective}
+use mathlib.Core.Logic.{dite}
+use native.Mathlib.Decide.{ℕ_discrete}
+use lib.ListN.{get_elem?}
+use Rattle.atomic_table.proofs.Lists.{at_set, set_here, set_else}
+use Rattle.bd_space.specs.declared.step.Entry.{Entry}
+use Rattle.bd_driver.specs.declared.view.View.{View}
+use Rattle.bd_driver.specs.declared.view.Pick.{Pick}
+use Rattle.bd_driver.specs.declared.view.Pick.TheVariants.{Nothing}
+use Rattle.bd_driver.specs.Mailboxes.{Mailbox, PickedAs}
+use Rattle.bd_driver.specs.Views.{StartsWith, Each}
+use Rattle.bd_driver.specs.Rule.{HasTaker}
+
+pub inside : {A : Type 0} (l : List A) (i : ℕ) (a : A) → get_elem? l i ≡ some a → i < length l
+inside [] i a e = absurd (some-ne-none a (sym e))
+inside (x ∷ xs) zero a e = omega arith
+inside (x ∷ xs) (suc i) a e = let h = inside xs i a e in omega arith
+
+-- a change of one seat's views
+pub each_set : (P : ℕ → View → Type 0) (views : List (List View)) (id : ℕ) (new : List View)
+    → ((j : ℕ) (vs : List View) → j ≢ id → get_elem? views j ≡ some vs → Each (P j) vs) → Each (P id) new
+    → (j : ℕ) (vs : List View) → get_elem? (set views id new) j ≡ some vs → Each (P j) vs
+each_set P views id new others mine j vs e =
+    ⊎_elim
+    (λ (x : (j ≡ id) × (new ≡ vs)). subst (λ (y : ℕ × List View). Each (P y.0) y.1) (λ i. (sym x.0 i, x.1 i)) mine)
+    (λ (x : (j ≢ id) × (get_elem? views j ≡ some vs)). others j vs x.0 x.1)
+    (at_set views id j new vs e)
+
+-- a taker stays one where its seat's view stays a taker's with the same pick, and what is picked stays so
+pub keeps_taker : (views : List (List View)) (id : ℕ) (v w : View) (mailboxes now : List Mailbox) (taken_by : Option ℕ) → get_elem? views id ≡ some (v ∷ []) → (v.taker ≡ true → w.taker ≡ true) → w.pick ≡ v.pick
+    → ((p : Pick) → PickedAs mailboxes p → PickedAs now p) → HasTaker views mailboxes taken_by → HasTaker (set views id (w ∷ [])) now taken_by
+keeps_taker views id v w mailboxes now none at same pick_is picks h = picks Nothing h
+keeps_taker views id v w mailboxes now (some t) at same pick_is picks h =
+    dite (ℕ_discrete t id)
+    (λ (e : t ≡ id).
+    let both : v ∷ [] ≡ h.0 ∷ [] = some-injective _ _ (sym at ∙ (ap (get_elem? views) (sym e) ∙ h.1)) in
+    let is : v ≡ h.0 = ap (λ (l : List View). view_or v l) both in
+    let pick : w.pick ≡ h.0.pick = pick_is ∙ ap (λ (u : View). u.pick) is in
+    (w, ap (get_elem? (set views id (w ∷ []))) e ∙ set_here views id (w ∷ []) (inside views id (v ∷ []) at), same (ap (λ (u : View). u.taker) is ∙ h.2), picks w.pick (subst (PickedAs mailboxes) (sym pick) h.3)))
+    (λ (n : t ≢ id). (h.0, set_else views id t (w ∷ []) n ∙ h.1, h.2, picks h.0.pick h.3))
+  where
+    view_or : View → List View → View
+    view_or d [] = d
+    view_or d (x ∷ xs) = x
+
+-- what is picked is the taker's
+pub taker_has : (views : List (List View)) (id : ℕ) (v : View) (mailboxes : List Mailbox) → get_elem? views id ≡ some (v ∷ []) → HasTaker views mailboxes (some id) → PickedAs mailboxes v.pick
+taker_has views id v mailboxes at h =
+    let both : v ∷ [] ≡ h.0 ∷ [] = some-injective _ _ (sym at ∙ h.1) in
+    subst (PickedAs mailboxes) (sym (ap (λ (l : List View). pick_or v.pick l) both)) h.3
+  where
+    pick_or : Pick → List View → Pick
+    pick_or p [] = p
+    pick_or p (x ∷ xs) = x.pick
+
+pub starts_all : (entries : List Entry) → StartsWith entries entries
+starts_all entries = ([], sym (nil_right entries))
+  where
+    nil_right : (l : List Entry) → l ++ [] ≡ l
+    nil_right [] = refl
+    nil_right (x ∷ xs) = ap (λ (t : List Entry). x ∷ t) (nil_right xs)
+
+pub starts_longer : (entries run seen : List Entry) → StartsWith entries seen → StartsWith (entries ++ run) seen
+starts_longer entries run seen h = (h.0 ++ run, ap (λ l. l ++ run) h.1 ∙ append_assoc seen h.0 run)

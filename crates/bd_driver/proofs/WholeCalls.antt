@@ -1,0 +1,93 @@
+-- What a whole call says, from what its parts say.
+use Rattle.std.proofs.Common.{◌≡◌, ℕ, ◌-◌, ◌≤◌, List, ◌++◌, length, Some, refl, sym, ap, ◌∙◌, subst, arith, length-append}
+use Rattle.bd_space.specs.declared.step.Entry.{Entry}
+use Rattle.bd_space.specs.declared.step.Request.{Request}
+use Rattle.bd_space.specs.declared.step.Answer.{Answer}
+use Rattle.bd_space.specs.Histories.{History}
+use Rattle.bd_space.specs.Runs.{AllBy, HasRun, IsRun, IsAtLimit}
+use Rattle.bd_driver.specs.Views.{StartsWith, history, places, view_of}
+use Rattle.std.specs.Prelude.{Result, Ok, Err, MatchResult, IfOk, IfErr, OnErr}
+use Rattle.bd_engine.specs.declared.run.Ran.{Ran}
+use Rattle.bd_engine.specs.declared.why.Why.{Why as Refused}
+use Rattle.bd_engine.specs.declared.why.Why.TheVariants.{NoMemory as Memory, HistoryFull as Full}
+use Rattle.bd_engine.specs.Refusals.{FullOnly}
+use Rattle.bd_driver.specs.declared.view.View.{View}
+use Rattle.bd_driver.specs.declared.outcome.Why.{Why}
+use Rattle.bd_driver.specs.declared.outcome.Outcome.{Outcome}
+use Rattle.bd_driver.specs.declared.outcome.Outcome.TheVariants.{Done, Back}
+use Rattle.bd_driver.specs.declared.slot.Slot.{Slot}
+use Rattle.bd_driver.specs.Reasons.{reason_of}
+use Rattle.bd_driver.specs.Steps.{Hands, took_at, published_at, put_at}
+use Rattle.bd_driver.specs.Driver.{Takes, Gives, IsWhy, Calls}
+use Rattle.bd_driver.proofs.Mailboxes.{nil_right}
+use Rattle.bd_driver.proofs.Views.{starts_longer}
+
+module _ (v : View) (number : ℕ) (me : number ≡ v.who) (m m' : Hands) (e0 e1 : History) (request : Request) (xs : List (ℕ × Slot)) (t : Takes v xs m (Some e0)) (g : Gives (view_of m.0) xs e1.entries m') where
+  abbrev w : View
+  w = put_at (published_at (took_at v t.word t.entries) g.0 e1.entries) g.1
+
+  w_is : view_of m'.0 ≡ w
+  w_is = ap view_of g.2 ∙ ap (λ l. put_at (published_at (view_of l) g.0 e1.entries) g.1) t.view
+
+  entries_are : e0.entries ≡ t.entries
+  entries_are = ap (λ (e : History). e.entries) t.engine.1
+
+  -- the engine's history before the run
+  history_is : e0 ≡ history v.seats t.entries
+  history_is = t.engine.1
+
+  done_calls : (answer : Answer) (start end : ℕ) → HasRun e0 e1 number request answer start end → Calls v (view_of m'.0) request (Done answer start end)
+  done_calls answer start end r =
+      let run = r.run in
+      let grown : e1.entries ≡ t.entries ++ run = r.grown ∙ ap (λ l. l ++ run) entries_are in
+      let starts : start ≡ length t.entries = r.starts ∙ ap length entries_are in
+      let count : length e1.entries - length t.entries ≡ length run = let a = ap (length {A = Entry}) grown in let b = length-append t.entries run in omega arith in
+      let own : w.own ≡ v.own ++ places start (length run) = (λ i. v.own ++ places (sym starts i) (count i)) in
+      let seen_first : length v.seen ≤ start = let a = ap (length {A = Entry}) t.begins.1 in let b = length-append v.seen t.begins.0 in omega arith in
+      subst (λ x. Calls v x request (Done answer start end)) (sym w_is) (record {
+        who = (refl, refl);
+        one_take = refl;
+        no_look = refl;
+        no_mail = (refl, refl, refl, refl, refl);
+        handover = refl;
+        begins = subst (λ l. StartsWith l v.seen) (sym grown) (starts_longer t.entries run v.seen t.begins);
+        outcome = record {
+          was_free = t.engine.0;
+          before = t.entries;
+          run = run;
+          seen = grown;
+          starts = starts;
+          ends = r.ends;
+          after_seen = seen_first;
+          by_seat = subst (λ z. AllBy z run) me r.by_seat;
+          is_run = subst (λ (z : History × ℕ). IsRun z.0 z.1 request run answer) (λ i. (history_is i, me i)) r.is_run;
+          own = own;
+        };
+      })
+
+  back_calls : (why : Why) → e1 ≡ e0 → IsWhy w request why → Calls v (view_of m'.0) request (Back request why)
+  back_calls why same is =
+      let entries : e1.entries ≡ t.entries = ap (λ (e : History). e.entries) same ∙ entries_are in
+      let none_more : length e1.entries - length t.entries ≡ 0 = let a = ap (length {A = Entry}) entries in omega arith in
+      subst (λ x. Calls v x request (Back request why)) (sym w_is) (record {
+        who = (refl, refl);
+        one_take = refl;
+        no_look = refl;
+        no_mail = (refl, refl, refl, refl, refl);
+        handover = refl;
+        begins = subst (λ l. StartsWith l v.seen) (sym entries) t.begins;
+        outcome = (refl, ap (λ c. v.own ++ places (length t.entries) c) none_more ∙ nil_right v.own, is);
+      })
+
+  is_why : (why : Refused) → e1 ≡ e0 → FullOnly why (IsAtLimit e0 number request) → IsWhy w request (reason_of why)
+  is_why Memory same full = t.engine.0
+  is_why Full same full = (t.engine.0, subst (λ (z : History × ℕ). IsAtLimit z.0 z.1 request) (λ i. (history_then i, me i)) full)
+    where
+      history_then : e0 ≡ history v.seats e1.entries
+      history_then = history_is ∙ ap (history v.seats) (sym entries_are ∙ ap (λ (e : History). e.entries) (sym same))
+
+  -- a call that ran, or was refused
+  pub call_ends : (ran : Result Ran Refused) (o : Outcome) → MatchResult ran (λ r. o ≡ Done r.answer r.from r.to) (λ why. o ≡ Back request (reason_of why)) → IfOk ran (λ r. HasRun e0 e1 number request r.answer r.from r.to)
+      → OnErr ran (e1 ≡ e0) → IfErr ran (λ why. FullOnly why (IsAtLimit e0 number request)) → Calls v (view_of m'.0) request o
+  call_ends (Ok r) o is run same full = subst (Calls v (view_of m'.0) request) (sym is) (done_calls r.answer r.from r.to run)
+  call_ends (Err why) o is run same full = subst (Calls v (view_of m'.0) request) (sym is) (back_calls (reason_of why) same (is_why why same full))

@@ -1,0 +1,27 @@
+use Rattle.std.proofs.Common.{[], rules, ap}
+use Rattle.bd_driver.specs.States.{DriverState}
+use Rattle.bd_driver.specs.Steps.{Hands}
+use Rattle.bd_driver.proofs.Deals.{enters}
+use Rattle.bd_driver.proofs.Ends.{ends_at, final_record}
+use Rattle.bd_driver.proofs.driver.Driver.finish.Goals as goal
+
+pub load_new_seat-keeper-requires : goal.load_new_seat-keeper-requires
+load_new_seat-keeper-requires c = (search rules, enters _ _ [])
+
+pub returns-in-Home : goal.returns-in-Home
+returns-in-Home c = record {
+  history = λ all.
+      let key = ap (λ (d : DriverState). d.seats) c.self.view_is in
+      let vs = ap (λ (m : Hands). m.0) c.gather.ensures.keeper.1 in
+      let h = ends_at _ _ _ _ c.args.seats.items _ _ _ key vs c.close_with-closed.ensures.values.2 c.in-Home.ensures.value c.gather.ensures.idle all in
+      final_record c.args.self.seats c.args.seats.items c.in-Home.engine _ _ h (c.into_record.ensures.seats, c.into_record.ensures.entries) c.into_record.ensures.lawful;
+}
+
+pub returns : goal.returns
+returns c = record {
+  history = λ all.
+      let key = ap (λ (d : DriverState). d.seats) c.self.view_is in
+      let vs = ap (λ (m : Hands). m.0) c.gather.ensures.keeper.1 in
+      let h = ends_at _ _ _ _ c.args.seats.items _ _ _ key vs c.close_with-closed.ensures.values.2 c.take-slot.ensures.value c.gather.ensures.idle all in
+      absurd (c.in_default.not-Home _ h.1);
+}

@@ -1,0 +1,6 @@
+use Rattle.std.proofs.Common.{rules}
+use Rattle.bd_driver.proofs.Looks.{looks}
+use Rattle.bd_driver.proofs.driver.Driver.look.Goals as goal
+
+pub load-requires : goal.load-requires
+load-requires c = (search rules, search rules, looks _ _ _ _ c.seat.invariant.one)

@@ -1,0 +1,19 @@
+use Rattle.std.proofs.Common.{rules, ◌≡◌, ℕ, suc, ◌+◌, ◌∷◌, List, sym, ap, ◌∙◌, arith}
+use Rattle.atomic_table.specs.Table.{rest}
+use Rattle.bd_driver.specs.declared.slot.Slot.{Slot}
+use Rattle.bd_driver.specs.declared.slot.Slot.TheVariants.{Posted}
+use Rattle.bd_driver.specs.Steps.{Hands}
+use Rattle.bd_driver.proofs.Serves.{picks_at}
+use Rattle.bd_driver.proofs.driver.Driver.pick.Goals as goal
+
+pub compare_exchange-requires : goal.compare_exchange-requires
+compare_exchange-requires c =
+    let r = c.requires in
+    let word : c.args.number + 1 ≡ suc c.args.number = omega arith in
+    (search rules, search rules, picks_at _ _ _ c.args.table_seat.now.me c.args.number _ word r.one r.on r.unpicked (search rules))
+
+pub exchange-requires : goal.exchange-requires
+exchange-requires c =
+    let hit = c.compare_exchange.ensures.2.0 c.if-compare_exchange-ne1.false in
+    let is = ap (λ (m : Hands). m.1) hit.3 in
+    (search rules, (Posted hit.0, is ∙ ap (λ (l : List (ℕ × Slot)). (c.args.number + 1, Posted hit.0) ∷ rest l) (sym is)))

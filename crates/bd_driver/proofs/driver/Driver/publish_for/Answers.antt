@@ -1,0 +1,31 @@
+use Rattle.std.proofs.Common.{subst, rules, ℕ, ◌+◌, ◌<◌, ◌∷◌, List, length, sym, ap, ◌∙◌}
+use Rattle.atomic_table.specs.Table.{rest}
+use Rattle.bd_driver.specs.Views.{ready_of, view_of}
+use Rattle.bd_driver.specs.Words.{page_word}
+use Rattle.bd_driver.specs.declared.slot.Slot.{Slot}
+use Rattle.bd_driver.specs.declared.slot.Slot.TheVariants.{Home, Empty}
+use Rattle.bd_driver.specs.Steps.{Hands}
+use Rattle.bd_driver.proofs.OwnMailbox.{refill}
+use Rattle.bd_driver.proofs.Serves.{serves_at, after_serve}
+use Rattle.bd_driver.proofs.driver.Driver.publish_for.Goals as goal
+
+pub swap-requires : goal.swap-requires
+swap-requires c =
+    let r = c.requires in
+    let e = c.args.engine in
+    let v = view_of c.args.table_seat.now.me.0 in
+    let held = refill c.args.table_seat.now.me c.exchange.new.seat.me v _ (c.args.number + 1) Empty (Home e) r.held c.exchange.ensures.3 in
+    let seats = c.requires.engine.seats in
+    let p = c.taken_page-page.ensures in
+    let page = p.page ∙ ap (λ (z : ℕ). page_word z 1 e.entries) seats in
+    let fits : (length e.entries < 4294967296) × (ready_of v.seats e.entries < 2147483648) = (p.length, subst (λ (z : ℕ). ready_of z e.entries < 2147483648) seats p.bits) in
+    (search rules, search rules, serves_at _ _ _ _ v (rest c.args.table_seat.now.me.1) _ c.args.number e _ held r.on c.requires.engine page fits)
+
+pub exchange-requires-2 : goal.exchange-requires-2
+exchange-requires-2 c =
+    let r = c.requires in
+    let e = c.args.engine in
+    let v = view_of c.args.table_seat.now.me.0 in
+    let held = refill c.args.table_seat.now.me c.exchange.new.seat.me v _ (c.args.number + 1) Empty (Home e) r.held c.exchange.ensures.3 in
+    let is = ap (λ (m : Hands). m.1) (after_serve _ _ v (rest c.args.table_seat.now.me.1) _ e _ held c.swap.ensures.2) in
+    (search rules, (Home e, is ∙ ap (λ (l : List (ℕ × Slot)). (c.args.number + 1, Home e) ∷ rest l) (sym is)))

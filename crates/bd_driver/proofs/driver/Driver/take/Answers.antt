@@ -1,0 +1,18 @@
+use Rattle.std.proofs.Common.{rules, ◌≡◌, ℕ, ◌%◌, List, ◌∷◌, sym, ap, ◌∙◌, arith}
+use Rattle.atomic_table.specs.Table.{rest}
+use Rattle.bd_driver.specs.declared.slot.Slot.{Slot}
+use Rattle.bd_driver.specs.declared.slot.Slot.TheVariants.{Home}
+use Rattle.bd_driver.specs.Views.{view_of, history}
+use Rattle.bd_driver.proofs.driver.Driver.take.Goals as goal
+use Rattle.bd_driver.proofs.Takes.{takes_once}
+
+pub fetch_or-word-requires : goal.fetch_or-word-requires
+fetch_or-word-requires c = (search rules, search rules, takes_once _ _ _ _ c.requires.one c.requires.idle)
+
+pub exchange-requires : goal.exchange-requires
+exchange-requires c =
+    let t = c.fetch_or-word.ensures.2 in
+    let clear : c.fetch_or-word.result % 2 ≡ 0 = omega arith in
+    let held = t.4 clear in
+    let engine = Home (history (view_of c.args.table_seat.now.me.0).seats t.0) in
+    (search rules, (engine, held ∙ ap (λ (l : List (ℕ × Slot)). (0, engine) ∷ rest l) (sym held)))

@@ -1,0 +1,14 @@
+pub mod Views
+pub mod Words
+pub mod Mailboxes
+pub mod Rule
+pub mod Steps
+pub mod Rest
+pub mod States
+pub mod Together
+pub mod Driver
+pub mod Handing
+pub mod Serve
+pub mod Served
+pub mod Reasons
+pub mod Faults

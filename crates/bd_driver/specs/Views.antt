@@ -1,0 +1,96 @@
+-- Views of seats, and what a history says of them.
+use Rattle.std.specs.Prelude.{◌≡◌, ℕ, zero, suc, ◌+◌, ◌/◌, ◌%◌, ◌==◌, false, cond, List, [], ◌∷◌, ◌++◌, length}
+use Rattle.bd_space.specs.declared.step.Entry.{Entry}
+use Rattle.bd_space.specs.Histories.{History, ready_bits}
+use Rattle.bd_driver.specs.declared.view.View.{View}
+use Rattle.bd_driver.specs.declared.view.Tally.{Tally}
+use Rattle.bd_driver.specs.declared.view.Handover.TheVariants.{Shut, Open}
+use Rattle.bd_driver.specs.declared.view.Pick.TheVariants.{Nothing}
+
+-- the history of so many seats with these entries
+abbrev pub history : ℕ → List Entry → History
+history seats entries = record { seats = seats; entries = entries }
+
+-- its ready seats
+abbrev pub ready_of : ℕ → List Entry → ℕ
+ready_of seats entries = ready_bits (history seats entries)
+
+-- the history begins with what was seen
+abbrev pub StartsWith : List Entry → List Entry → Type 0
+StartsWith entries seen = (rest : List Entry) × (entries ≡ seen ++ rest)
+
+-- the places of a seat's entries in a list whose first table_seat is n
+abbrev pub places_from : ℕ → ℕ → List Entry → List ℕ
+places_from who n [] = []
+places_from who n (e ∷ es) = cond (e.seat == who) (n ∷ places_from who (n + 1) es) (places_from who (n + 1) es)
+
+-- the places of a seat's entries
+abbrev pub places_of : ℕ → List Entry → List ℕ
+places_of who entries = places_from who 0 entries
+
+-- so many places, from n on
+abbrev pub places : ℕ → ℕ → List ℕ
+places n zero = []
+places n (suc k) = n ∷ places (n + 1) k
+
+-- the stamp and the ready bits of the word are the page of the history
+abbrev pub IsPage : ℕ → ℕ → List Entry → Type 0
+IsPage seats word entries = (word / 4294967296 ≡ length entries) × (word / 2 % 2147483648 ≡ ready_of seats entries)
+
+-- one more step, which found this word
+abbrev pub tick : Tally → ℕ → Tally
+tick t word = record { count = t.count + 1; found = word }
+
+abbrev pub no_steps : Tally
+no_steps = record { count = 0; found = 0 }
+
+abbrev pub no_picks : ℕ → List Tally
+no_picks zero = []
+no_picks (suc k) = no_steps ∷ no_picks k
+
+abbrev pub fresh : ℕ → ℕ → View
+fresh seats who = record {
+  seats = seats;
+  who = who;
+  seen = [];
+  own = [];
+  taker = false;
+  handover = Shut;
+  pick = Nothing;
+  takes = no_steps;
+  publishes = no_steps;
+  puts = no_steps;
+  looks = no_steps;
+  posts = no_steps;
+  withdraws = no_steps;
+  collects = no_steps;
+  picks = no_picks seats;
+  answers = [];
+}
+
+-- the view of a new seat, which has its mailbox's slot
+abbrev pub seated : ℕ → ℕ → View
+seated seats who = record (fresh seats who) { handover = Open }
+
+-- fresh views of so many seats, from one seat on
+abbrev pub newcomers : ℕ → ℕ → ℕ → List View
+newcomers seats who zero = []
+newcomers seats who (suc k) = fresh seats who ∷ newcomers seats (who + 1) k
+
+-- the first view, where there is one
+abbrev pub view_of : List View → View
+view_of [] = fresh 0 0
+view_of (v ∷ vs) = v
+
+abbrev pub others_of : List View → List View
+others_of [] = []
+others_of (v ∷ vs) = vs
+
+-- P holds of each view
+abbrev pub Each : (View → Type 0) → List View → Type 0
+Each P [] = Unit {0}
+Each P (v ∷ vs) = P v × Each P vs
+
+-- a view whose seat does not have the engine
+abbrev pub Idle : View → Type 0
+Idle v = v.taker ≡ false

@@ -1,0 +1,99 @@
+//! Calls: a seat takes the engine, runs its request, publishes, and puts the engine home.
+ghost use Rattle.std.specs.Prelude.{◌≡◌, ◌<◌, [], ◌∷◌, true, false};
+ghost use Rattle.atomic_table.specs.Table.{rest};
+ghost use Rattle.bd_driver.specs.Views.{view_of};
+ghost use Rattle.bd_driver.specs.Rest.{is_waiting};
+ghost use Rattle.bd_driver.specs.declared.view.Handover.TheVariants.{Open};
+ghost use Rattle.bd_driver.specs.declared.view.Pick.TheVariants.{Nothing};
+ghost use Rattle.bd_driver.specs.declared.slot.Slot.TheVariants.{Empty};
+
+use crate::driver::Driver;
+use crate::outcome::{Outcome, Why};
+use crate::page::{Page, taken_page};
+use crate::plays::{Look, Publish, Put, Take};
+use crate::refusals::outcome_of;
+use crate::seat::{Seat, TableSeat};
+use crate::slot::Slot;
+use bd_engine::Engine;
+use bd_space::Request;
+
+impl Driver {
+    ghost use Rattle.bd_driver.specs.Driver.{LooksOnce, Takes, Follows, Gives, Calls};
+
+    /// Runs a request, if the engine is free.
+    ///
+    /// One take is made (`calls`: `one_take`). Taken is answered exactly where it found bit 0 of the page set. Done: the
+    /// entries from `from` up to and without `to` are the request's run, all of this seat; `from` isn't below the length
+    /// seen before, the seat has then seen a history of length `to`, and its own places grow by just these. Back: the
+    /// request comes back equal, and its own places stay; HistoryFull only where the history that the seat then has
+    /// seen is full or the request's first step would need a handle past the limit; NoMemory only where the engine
+    /// answers so, which it does where a growth was refused. What the seat has then seen begins with what it had seen
+    /// (`begins`). After the call the seat holds nothing. Taken takes no memory.
+    pub fn call(&self, seat: &mut Seat, request: Request) -> Outcome
+        requires table { seat.old.table ≡ self.now.table }
+        requires free { is_waiting seat.old.view.handover ≡ false }
+        ensures same { seat.new.table ≡ seat.old.table }
+        ensures calls { Calls seat.old.view seat.new.view request result }
+    {
+        let Some(mut engine) = self.take(&mut seat.table_seat) else {
+            return Outcome::Back {
+                request,
+                why: Why::Taken,
+            };
+        };
+        let ran = engine.run(seat.number, &request);
+        self.give(&mut seat.table_seat, engine);
+        outcome_of(ran, request)
+    }
+
+    /// The page as one load finds it, which is made in this call (`looks`: `only`, `is_found`): stamp and ready seats
+    /// are those of a history that begins with all that the seat had seen, and that is from then on what it has seen
+    /// (`begins`, `is_page`). Takes no memory.
+    pub fn look(&self, seat: &mut Seat) -> Page
+        requires { seat.old.table ≡ self.now.table }
+        ensures same { seat.new.table ≡ seat.old.table }
+        ensures looks { LooksOnce seat.old.view seat.new.view result }
+    {
+        Page::of_word(self.table.shared.load::<Look>(&mut seat.table_seat, 0))
+    }
+
+    // The engine, where the take finds bit 0 clear.
+    pub(crate) fn take(&self, table_seat: &mut TableSeat) -> Option<Engine>
+        requires table { table_seat.old.table_id ≡ self.now.table }
+        requires one { table_seat.old.me.0 ≡ view_of table_seat.old.me.0 ∷ [] }
+        requires idle { (view_of table_seat.old.me.0).taker ≡ false }
+        requires wide { 0 < table_seat.old.table_id.words }
+        ensures same { table_seat.new.table_id ≡ table_seat.old.table_id }
+        ensures takes { Takes (view_of table_seat.old.me.0) table_seat.old.me.1 table_seat.new.me result }
+    {
+        let shared = &self.table.shared;
+        let word = shared.fetch_or::<Take>(table_seat, 0, 1);
+        if word % 2 == 1 {
+            return None;
+        }
+        match shared.exchange(table_seat, 0, Slot::Empty) {
+            Slot::Home(engine) => Some(engine),
+            _ => unreachable!(),
+        }
+    }
+
+    // Publishes the engine's history, and puts the engine home.
+    pub(crate) fn give(&self, table_seat: &mut TableSeat, engine: Engine)
+        requires table { table_seat.old.table_id ≡ self.now.table }
+        requires one { table_seat.old.me.0 ≡ view_of table_seat.old.me.0 ∷ [] }
+        requires held { table_seat.old.me.1 ≡ (0, Empty) ∷ rest table_seat.old.me.1 }
+        requires on { (view_of table_seat.old.me.0).taker ≡ true }
+        requires open { (view_of table_seat.old.me.0).handover ≡ Open }
+        requires unpicked { (view_of table_seat.old.me.0).pick ≡ Nothing }
+        requires wide { 0 < table_seat.old.table_id.words }
+        requires engine { Follows (view_of table_seat.old.me.0) engine }
+        ensures same { table_seat.new.table_id ≡ table_seat.old.table_id }
+        ensures gives { Gives (view_of table_seat.old.me.0) (rest table_seat.old.me.1) engine.entries table_seat.new.me }
+    {
+        let shared = &self.table.shared;
+        let page = taken_page(&engine);
+        shared.exchange(table_seat, 0, Slot::Home(engine));
+        shared.swap::<Publish>(table_seat, 0, page);
+        shared.fetch_and::<Put>(table_seat, 0, u64::MAX - 1);
+    }
+}

@@ -1,0 +1,89 @@
+//! The end of a driver: its history.
+ghost use Rattle.std.specs.Prelude.{◌≡◌, ◌<◌, [], ◌∷◌, false, ℕ, IsTrue, slice_index_or};
+ghost use Rattle.std.specs.Slots.{slots_len, slots_filled};
+ghost use Rattle.bd_driver.specs.Views.{Each, Idle};
+ghost use Rattle.bd_driver.specs.Together.{AllOf, views_of, closed_view};
+
+use crate::driver::{Driver, DriverTable};
+use crate::plays::{Enter, Gather, Shut};
+use crate::seat::{Seat, TableSeat};
+use crate::slot::Slot;
+use atomic_table::Closed;
+use bd_space::{Entries, Record};
+use std::alloc::Global;
+
+impl Driver {
+    ghost use Rattle.bd_driver.specs.Together.{AllSeats, IsFinal};
+
+    /// The history, where all seats are there, in any order: it begins with what each seat has seen, and a seat's
+    /// entries are exactly its own places. A seat that still waits may have beside these the entries of one run of what
+    /// it handed over (`history`). With fewer seats the call is only safe and total. Takes no memory.
+    pub fn finish(self, seats: Vec<Seat>) -> Record
+        requires { AllOf self.table seats.items }
+        ensures history { AllSeats self.seats seats.items → IsFinal self.seats seats.items result.seats result.entries }
+    {
+        let Driver { table, alloc } = self;
+        let (_, mut keeper) = table.shared.load_new_seat::<Enter>(0);
+        gather(&table, &mut keeper, seats);
+        let mut closed = table.close_with(keeper);
+        let slot = closed.take(0);
+        drain(&mut closed);
+        closed.free();
+        match slot {
+            Slot::Home(engine) => engine.into_record(),
+            _ => Record {
+                seats: 0,
+                entries: Entries::new(Vec::new(alloc)),
+            },
+        }
+    }
+}
+
+// All views go to the keeper.
+fn gather(table: &DriverTable, keeper: &mut TableSeat, mut seats: Vec<Seat>)
+    requires table { keeper.old.table_id ≡ table.now.shared.table_id }
+    requires wide { 0 < table.now.shared.table_id.words }
+    requires keeper { keeper.old.me ≡ ([], []) }
+    requires seats { AllOf table.now.shared.table_id seats.items }
+    ensures keeper { (keeper.new.table_id ≡ keeper.old.table_id) × (keeper.new.me ≡ (views_of seats.items, [])) }
+    ensures idle { Each Idle (views_of seats.items) }
+{
+    while let Some(seat) = seats.pop() {
+        let table_seat = shut(table, seat);
+        table.shared.join_seat::<Gather>(keeper, table_seat);
+    }
+}
+
+// A seat gives its own mailbox's slot back, where it has it.
+fn shut(table: &DriverTable, seat: Seat) -> TableSeat
+    requires { seat.table ≡ table.now.shared.table_id }
+    ensures table { result.table_id ≡ table.now.shared.table_id }
+    ensures view { result.me ≡ (closed_view seat.view ∷ [], []) }
+    ensures idle { seat.view.taker ≡ false }
+{
+    let Seat {
+        mut table_seat,
+        number,
+        waiting,
+    } = seat;
+    if waiting {
+        return table_seat;
+    }
+    table
+        .shared
+        .load::<Shut>(&mut table_seat, number as usize + 1);
+    table_seat
+}
+
+// Takes each slot but the first.
+fn drain(closed: &mut Closed<Slot, Global>)
+    requires some { 0 < slots_len closed.old.slots }
+    requires filled { (k : ℕ) → 0 < k → k < slots_len closed.old.slots → IsTrue (slice_index_or (slots_filled closed.old.slots) k false) }
+    requires first { slice_index_or (slots_filled closed.old.slots) 0 false ≡ false }
+    ensures { (k : ℕ) → k < slots_len closed.new.slots → slice_index_or (slots_filled closed.new.slots) k false ≡ false }
+{
+    let count = closed.slot_count();
+    for at in 1..count {
+        drop(closed.take(at));
+    }
+}

@@ -1,0 +1,83 @@
+//! Handing a request over: one step each on the seat's own mailbox, and none on the page.
+ghost use Rattle.std.specs.Prelude.{◌≡◌, true, false};
+ghost use Rattle.bd_driver.specs.Rest.{is_waiting};
+
+use crate::driver::Driver;
+use crate::outcome::{Outcome, Why};
+use crate::plays::{Collect, Post, Withdraw};
+use crate::seat::Seat;
+use crate::slot::Slot;
+use bd_space::Request;
+
+impl Driver {
+    ghost use Rattle.bd_driver.specs.Handing.{Posts, Withdraws, Collects};
+
+    /// Hands a request over to whoever serves next. It is then handed over, with the length seen, until Done or Back.
+    /// One step is made, on the own mailbox, and nothing else of the view changes (`posts`). Takes no memory.
+    pub fn post(&self, seat: &mut Seat, request: Request)
+        requires table { seat.old.table ≡ self.now.table }
+        requires free { is_waiting seat.old.view.handover ≡ false }
+        ensures same { seat.new.table ≡ seat.old.table }
+        ensures posts { Posts seat.old.view seat.new.view request }
+    {
+        let shared = &self.table.shared;
+        let word = seat.number as usize + 1;
+        shared.exchange(&mut seat.table_seat, word, Slot::Posted(request));
+        shared.swap::<Post>(&mut seat.table_seat, word, 1);
+        seat.waiting = true;
+    }
+
+    /// Takes back what was handed over, if nobody has picked it.
+    ///
+    /// One step is made, on the own mailbox (`withdraws`). Back with Withdrawn: the request comes back equal, and
+    /// nothing of it stands in the history, nor ever will: the own places stay, and nothing is handed over. Handed
+    /// exactly where the step found the mailbox other than posted. Takes no memory.
+    pub fn withdraw(&self, seat: &mut Seat) -> Outcome
+        requires table { seat.old.table ≡ self.now.table }
+        requires waiting { is_waiting seat.old.view.handover ≡ true }
+        ensures same { seat.new.table ≡ seat.old.table }
+        ensures withdraws { Withdraws seat.old.view seat.new.view result }
+    {
+        let shared = &self.table.shared;
+        let word = seat.number as usize + 1;
+        let found = shared.compare_exchange::<Withdraw>(&mut seat.table_seat, word, 1, 0);
+        if found != 1 {
+            return Outcome::Handed;
+        }
+        let Slot::Posted(request) = shared.exchange(&mut seat.table_seat, word, Slot::Empty) else {
+            unreachable!()
+        };
+        seat.waiting = false;
+        Outcome::Back {
+            request,
+            why: Why::Withdrawn,
+        }
+    }
+
+    /// The answer to what was handed over, if it is there.
+    ///
+    /// One step is made, on the own mailbox (`collects`). Done: the entries from `from` up to and without `to` are the
+    /// run of what was posted; `from` isn't below the length seen when it was posted; the own places grow by just
+    /// these; what the seat then has seen is at least `to` long. Back: the equal request, as in `call`, with NoMemory
+    /// or with HistoryFull, the latter said of a beginning of what the seat then has seen. Handed exactly where the
+    /// step found the mailbox other than answered. Takes no memory.
+    pub fn collect(&self, seat: &mut Seat) -> Outcome
+        requires table { seat.old.table ≡ self.now.table }
+        requires waiting { is_waiting seat.old.view.handover ≡ true }
+        ensures same { seat.new.table ≡ seat.old.table }
+        ensures collects { Collects seat.old.view seat.new.view result }
+    {
+        let shared = &self.table.shared;
+        let word = seat.number as usize + 1;
+        let found = shared.compare_exchange::<Collect>(&mut seat.table_seat, word, 3, 0);
+        if found != 3 {
+            return Outcome::Handed;
+        }
+        let Slot::Answered(outcome) = shared.exchange(&mut seat.table_seat, word, Slot::Empty)
+        else {
+            unreachable!()
+        };
+        seat.waiting = false;
+        outcome
+    }
+}

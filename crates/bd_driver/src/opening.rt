@@ -1,0 +1,114 @@
+//! A new driver, and its seats.
+ghost use Rattle.std.specs.Prelude.{◌≡◌, ◌+◌, ◌<◌, ◌≤◌, [], ◌∷◌, suc, IfOk, IfErr, vec_len, vec_capacity, replicate};
+ghost use Rattle.bd_driver.specs.Views.{fresh, seated, newcomers};
+ghost use Rattle.bd_driver.specs.Together.{seat_state, new_seats};
+ghost use Rattle.bd_driver.specs.declared.slot.Slot.TheVariants.{Home, Empty};
+
+use crate::driver::{Driver, DriverTable};
+use crate::page::taken_page;
+use crate::plays::{Deal, Open};
+use crate::seat::{Seat, TableSeat};
+use crate::slot::Slot;
+use atomic_table::Table;
+use bd_engine::Engine;
+use bd_uapi::Fault;
+use std::alloc::{AllocError, Global};
+
+/// The most seats that a driver has.
+const MOST_SEATS: u32 = 16;
+
+impl Driver {
+    ghost use Rattle.bd_driver.specs.Faults.{FaultFits};
+
+    /// A driver with so many seats, which are numbered from 0, in this order. Each has seen the empty history (`ok`).
+    /// Refused with F16 exactly where `seats` is 0 or above 16, and else with F14 alone (`fault`).
+    pub fn new(alloc: Global, seats: u32) -> Result<(Driver, Vec<Seat>), Fault>
+        ensures within { IfOk result (λ _. (1 ≤ seats) × (seats ≤ 16)) }
+        ensures count { IfOk result (λ r. r.0.seats ≡ seats) }
+        ensures seats { IfOk result (λ r. r.1.items ≡ new_seats r.0.table seats 0 seats) }
+        ensures fault { IfErr result (λ f. FaultFits f seats) }
+    {
+        if seats == 0 || seats > MOST_SEATS {
+            return Err(Fault::SeatCount);
+        }
+        let Ok(mut dealt) = Vec::with_capacity(alloc, seats as usize) else {
+            return Err(Fault::NoMemory);
+        };
+        let Ok(engine) = Engine::new(alloc, seats) else {
+            return Err(Fault::NoMemory);
+        };
+        let page = taken_page(&engine) - 1;
+        let Ok(words) = lay_words(alloc, page, seats as usize) else {
+            return Err(Fault::NoMemory);
+        };
+        let Ok(slots) = lay_slots(alloc, engine, seats as usize) else {
+            return Err(Fault::NoMemory);
+        };
+        let Ok((table, mut keeper)) = Table::new(alloc, words.as_slice(), slots, &seats) else {
+            return Err(Fault::NoMemory);
+        };
+        deal(&table, &mut keeper, &mut dealt, seats);
+        Ok((Driver { table, alloc }, dealt))
+    }
+}
+
+// The page, and an empty mailbox for each seat.
+fn lay_words(alloc: Global, page: u64, seats: usize) -> Result<Vec<u64>, AllocError>
+    requires { seats < 32 }
+    ensures { IfOk result (λ v. v.items ≡ page ∷ replicate seats 0) }
+{
+    let mut words = Vec::new(alloc);
+    words.push(page)?;
+    for done in 0..seats {
+        words.push(0)?;
+    }
+    Ok(words)
+}
+
+// The engine, and an empty slot for each seat.
+fn lay_slots(alloc: Global, engine: Engine, seats: usize) -> Result<Vec<Slot>, AllocError>
+    requires { seats < 32 }
+    ensures { IfOk result (λ v. v.items ≡ Home engine ∷ replicate seats Empty) }
+{
+    let mut slots = Vec::new(alloc);
+    slots.push(Slot::Home(engine))?;
+    for done in 0..seats {
+        slots.push(Slot::Empty)?;
+    }
+    Ok(slots)
+}
+
+// Each seat gets its view, and its mailbox's slot.
+fn deal(table: &DriverTable, keeper: &mut TableSeat, dealt: &mut Vec<Seat>, seats: u32)
+    requires table { keeper.old.table_id ≡ table.now.shared.table_id }
+    requires wide { table.now.shared.table_id.words ≡ suc seats }
+    requires key { table.now.shared.key ≡ seats }
+    requires keeper { keeper.old.me ≡ (newcomers seats 0 seats, []) }
+    requires dealt { dealt.old.items ≡ [] }
+    requires room { vec_len dealt.old + seats ≤ vec_capacity dealt.old }
+    ensures keeper { (keeper.new.table_id ≡ keeper.old.table_id) × (keeper.new.me ≡ ([], [])) }
+    ensures dealt { dealt.new.items ≡ new_seats table.now.shared.table_id seats 0 seats }
+{
+    for number in 0..seats {
+        let table_seat = table.shared.split_seat::<Deal>(keeper);
+        dealt.push_reserved(open(table, table_seat, number, seats));
+    }
+}
+
+// A seat takes its own mailbox's slot.
+fn open(table: &DriverTable, mut table_seat: TableSeat, number: u32, seats: u32) -> Seat
+    requires table { table_seat.table_id ≡ table.now.shared.table_id }
+    requires wide { table.now.shared.table_id.words ≡ suc seats }
+    requires number { number < seats }
+    requires fresh { table_seat.me ≡ (fresh seats number ∷ [], []) }
+    ensures { result ≡ seat_state table.now.shared.table_id (seated seats number) }
+{
+    table
+        .shared
+        .load::<Open>(&mut table_seat, number as usize + 1);
+    Seat {
+        table_seat,
+        number,
+        waiting: false,
+    }
+}
