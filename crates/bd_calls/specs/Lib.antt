@@ -1,3 +1,4 @@
 pub mod Handing
 pub mod Stands
 pub mod Room
+pub mod Replies

@@ -6,6 +6,7 @@ ghost use Rattle.std.specs.List.{list_any, slice_get};
 ghost use Rattle.bd_space.specs.Words as words;
 ghost use Rattle.bd_space.specs.Words.{changed};
 ghost use Rattle.bd_calls.specs.Handing.{hand_turn, handed_turns};
+ghost use Rattle.bd_calls.specs.Replies as replies;
 ghost use Rattle.bd_space.specs.Todo as works;
 ghost use Rattle.bd_space.specs.Reading as spec;
 
@@ -71,6 +72,30 @@ pub(crate) fn handed_over(kind: WorkKind) -> Option<u32>
         WorkKind::Call(buffer) | WorkKind::Reply(buffer) => Some(buffer),
         _ => None,
     }
+}
+
+// Where the reply of this kind was made.
+fn reply_of(kind: WorkKind) -> Option<u32>
+    ensures { result ≡ replies.reply_of kind }
+{
+    match kind {
+        WorkKind::Reply(buffer) => Some(buffer),
+        _ => None,
+    }
+}
+
+fn first_reply_on(todo: &[Work], list: TodoList) -> Option<u32>
+    ensures { result ≡ replies.first_reply_in (works.work_on todo.now (Some list)) }
+{
+    for work in todo {
+        if is_on(list, work) {
+            let reply = reply_of(work.kind);
+            if reply.is_some() {
+                return reply;
+            }
+        }
+    }
+    None
 }
 
 fn is_taken(taken: &[Work], work: &Work) -> bool
@@ -147,6 +172,13 @@ impl CallTable {
         ensures { (s : Space) → StandsFor self.now s → result ≡ slice_get (works.work_on s.todo (Some list)) k }
     {
         work_on(&self.todo, list, k)
+    }
+
+    /// Where the first reply on a list was made.
+    pub fn first_reply(&self, list: TodoList) -> Option<u32>
+        ensures { (s : Space) → StandsFor self.now s → result ≡ replies.first_reply_in (works.work_on s.todo (Some list)) }
+    {
+        first_reply_on(&self.todo, list)
     }
 
     /// Whether a seat's thread has anything to read.

@@ -2,6 +2,7 @@
 #![tactic(auto)]
 
 mod asking;
+mod carrying;
 mod deaths;
 mod exits;
 mod names;
@@ -13,6 +14,7 @@ mod sending;
 mod table;
 mod told;
 
+pub use carrying::CarriedObjects;
 pub use numbers::NumbersFull;
 pub use table::ObjectTable;
 

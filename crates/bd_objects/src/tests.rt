@@ -41,6 +41,9 @@ fn an_object_is_sent(rt: HostRuntime) -> Result<(), Fail> {
     assert_eq!(rt; object, SENT);
     let given = table.deliver(4, Some(MANAGER), 0, &[made], &[ITEM], Some(MANAGER));
     assert!(rt; given.is_ok());
+    let mut carried = table.carried(4);
+    assert_eq!(rt; carried.next(), Some(SENT));
+    assert_eq!(rt; carried.next(), None);
     let seen = table.translated(0, &ITEM);
     assert_eq!(rt;
         seen,

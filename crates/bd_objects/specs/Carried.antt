@@ -1,0 +1,16 @@
+-- The objects that a buffer carries.
+use Rattle.std.specs.Prelude.{ℕ, ◌==◌, Bool, false, List, map, filter}
+use Rattle.bd_space.specs.declared.step.ObjectId.{ObjectId}
+use Rattle.bd_space.specs.declared.space.Reference.{Reference}
+use Rattle.bd_space.specs.declared.space.Holder.{Holder}
+use Rattle.bd_space.specs.declared.space.Holder.TheVariants.{Carried}
+
+-- the buffer made there carries the object
+abbrev pub is_carried_by : ℕ → Holder → Bool
+is_carried_by made (Carried b q) = b == made
+is_carried_by made _ = false
+
+-- the objects that the buffer made there carries, by their references in the order of their identities: one for each
+-- object of its parcel, in the parcel's order
+abbrev pub carried_in : List Reference → ℕ → List ObjectId
+carried_in references made = map (λ r. r.object) (filter (λ r. is_carried_by made r.holder) references)
