@@ -23,23 +23,8 @@ use Rattle.bd_space.specs.Todo.{is_notice}
 use Rattle.bd_space.specs.Delivery.{Delivery, make_objects, refer, known_by, withdraw_notice, translate_item, translated, translation, buffer_of, add_buffer, own_notices}
 use Rattle.bd_objects.specs.declared.table.ObjectTable.{ObjectTable}
 use Rattle.bd_objects.specs.Stands as objects
-use Rattle.bd_calls.specs.declared.table.CallTable.{CallTable}
-use Rattle.bd_calls.specs.Stands as calls
 use Rattle.bd_engine.specs.declared.tables.Tables.{Tables}
 use Rattle.bd_engine.specs.Stands.{StandsAt, Before}
-
--- ---- a change of work items alone
-
-pub works-stand : (n : ℕ) (t : Tables) (cs : CallTable) (s : Space) (todo : List Work) → StandsAt n t s → calls.StandsFor cs (record s { todo = todo })
-    → StandsAt n (record t { calls = cs }) (record s { todo = todo })
-works-stand n t cs s todo h k = record {
-  steps_are = h.steps_are;
-  processes_are = h.processes_are;
-  manager_is = h.manager_is;
-  objects_stand = h.objects_stand;
-  calls_stand = k;
-  windows_stand = h.windows_stand;
-}
 
 -- ---- notices
 

@@ -18,3 +18,4 @@ pub mod Sendings
 pub mod Deliveries
 pub mod Telling
 pub mod Stepping
+pub mod Finding

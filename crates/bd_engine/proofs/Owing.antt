@@ -65,7 +65,7 @@ told-stands t os s p h k =
     let todo = sym all.todo_is in
     record {
       steps_are = subst (λ z. z.steps ≡ t.steps) e h.steps_are;
-      processes_are = subst (λ z. z.processes ≡ t.processes.items) e h.processes_are;
+      processes_are = subst (λ z. z.processes ≡ t.processes.list.items) e h.processes_are;
       manager_is = subst (λ z. z.manager ≡ t.manager) e h.manager_is;
       objects_stand = k;
       calls_stand = subst (λ z. calls.Stands t.calls z.threads z.frames (tell_deaths s p).todo (turns_of z.buffers)) e

@@ -1,6 +1,6 @@
 -- The seat of a step.
-use Rattle.std.proofs.Common.{◌≡◌, ℕ, Bool, true, false, cond, List, [], ◌∷◌, Option, Some, None, refl, ap, sym, subst, ◌∙◌}
-use Rattle.std.specs.Prelude.{◌==◌, option_and_then, option_map, find}
+use Rattle.std.proofs.Common.{◌≡◌, ℕ, Option, Some, None, refl, ap, sym, subst, ◌∙◌}
+use Rattle.std.specs.Prelude.{◌==◌, option_and_then, option_map}
 use Rattle.std.proofs.lemmas.Bool.{eqb-true}
 use Rattle.std.proofs.lemmas.Option.{none-some}
 use Rattle.bd_uapi.specs.declared.fault.Fault.TheVariants.{NoProcess}
@@ -12,6 +12,7 @@ use Rattle.bd_space.specs.declared.space.Actor.{Actor}
 use Rattle.bd_space.specs.Space.{Space}
 use Rattle.bd_space.specs.Seats.{actor, actor_of, thread_in, process_in}
 use Rattle.bd_engine.specs.Meets.{IsBy}
+use Rattle.bd_engine.proofs.Finding.{found_passes}
 use Rattle.bd_space.specs.Steps.{change, by_actor, manager_step}
 use Rattle.bd_space.specs.Commands.{command_step}
 use Rattle.bd_space.specs.Reading.{read_step}
@@ -31,15 +32,6 @@ nobody-changes s seat ExitThread k l e = ap (λ o. by_actor s o (exit_thread_ste
 nobody-changes s seat ExitProcess k l e = ap (λ o. by_actor s o (exit_process_step s)) e
 
 -- ---- the actor of a seat sits there
-
-module _ {X : Type 0} (p : X → Bool) where
-  first_passes : (y x : X) (b : Bool) (rest : Option X) → p y ≡ b → (rest ≡ Some x → p x ≡ true) → cond b (Some y) rest ≡ Some x → p x ≡ true
-  first_passes y x true rest e k f = let same : y ≡ x = cc in ap p (sym same) ∙ e
-  first_passes y x false rest e k f = k f
-
-  found_passes : (xs : List X) (x : X) → find p xs ≡ Some x → p x ≡ true
-  found_passes [] x e = absurd (none-some x e)
-  found_passes (y ∷ ys) x e = first_passes y x (p y) (find p ys) refl (found_passes ys x) e
 
 with_process : (t : Thread) (o : Option Process) (a : Actor) → option_map (λ q. record { thread = t; process = q }) o ≡ Some a → a.thread ≡ t
 with_process t None a e = absurd (none-some a e)

@@ -82,7 +82,7 @@ settled-stands t cs s h k =
     let e = sym (settle_rest s) in
     record {
       steps_are = subst (λ z. z.steps ≡ t.steps) e h.steps_are;
-      processes_are = subst (λ z. z.processes ≡ t.processes.items) e h.processes_are;
+      processes_are = subst (λ z. z.processes ≡ t.processes.list.items) e h.processes_are;
       manager_is = subst (λ z. z.manager ≡ t.manager) e h.manager_is;
       objects_stand = subst (objects.StandsFor t.objects) e h.objects_stand;
       calls_stand = k;

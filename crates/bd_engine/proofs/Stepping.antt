@@ -1,7 +1,6 @@
 -- The steps of BC_TRANSACTION and BC_REPLY, by what was checked.
-use Rattle.std.proofs.Common.{◌≡◌, ℕ, ◌+◌, Bool, true, false, cond, List, [], ◌∷◌, Option, Some, None, Result, Ok, Err, IfOk, IfErr, refl, ap, sym, subst, ◌∙◌}
-use Rattle.std.specs.Prelude.{◌==◌, IfSome, find, option_and_then, option_map, if◌then◌else◌}
-use Rattle.std.proofs.lemmas.Bool.{eqb-true}
+use Rattle.std.proofs.Common.{◌≡◌, ℕ, ◌+◌, Bool, true, false, List, Option, Some, None, Result, Ok, Err, refl, ap, sym, subst, ◌∙◌}
+use Rattle.std.specs.Prelude.{IfSome, option_and_then, option_map, if◌then◌else◌}
 use Rattle.std.proofs.lemmas.Option.{none-some}
 use Rattle.bd_uapi.specs.declared.command.TransactionData.{TransactionData}
 use Rattle.bd_uapi.specs.declared.command.Return.{Return}
@@ -10,7 +9,6 @@ use Rattle.bd_uapi.specs.declared.fault.Cause.TheVariants.{NoManager, DeadOwner,
 use Rattle.bd_uapi.specs.declared.command.Return.TheVariants.{FailedReply, TransactionComplete}
 use Rattle.bd_space.specs.declared.step.ObjectId.{ObjectId}
 use Rattle.bd_space.specs.declared.step.Parcel.{Parcel}
-use Rattle.bd_space.specs.declared.step.StepAnswer.{StepAnswer}
 use Rattle.bd_space.specs.declared.space.Process.{Process}
 use Rattle.bd_space.specs.declared.space.Thread.{Thread}
 use Rattle.bd_space.specs.declared.space.Frame.{Frame}
@@ -27,48 +25,15 @@ use Rattle.bd_space.specs.Todo.{owe, tell_caller}
 use Rattle.bd_space.specs.Frames.{closed, served_innermost}
 use Rattle.bd_space.specs.Parcels.{sending_of}
 use Rattle.bd_space.specs.Delivery.{Delivery, delivered, known_by, own_notices, add_buffer, refer, make_objects, translation}
-use Rattle.bd_space.specs.Outcomes.{Outcome, accepted, stopped}
+use Rattle.bd_space.specs.Outcomes.{accepted, stopped}
 use Rattle.bd_space.specs.Transactions.{is_one_way, handle_of, not_own, target_of, owner_of, with_owner, callee_of, caller_cause, sent_to, transaction_check, call_out, called, transacted, refusal, transaction_step, transaction_outcome}
 use Rattle.bd_space.specs.Replies.{caller_of, reply_sent_to, reply_check, replied, reply_refused, reply_outcome, reply_to, reply_step}
 use Rattle.bd_engine.specs.declared.tables.Tables.{Tables}
-use Rattle.bd_engine.specs.declared.plain.Plain.{Plain}
-use Rattle.bd_engine.specs.Plain.{answer_of}
-use Rattle.bd_engine.specs.declared.why.Why.{Why}
-use Rattle.bd_engine.specs.Refusals.{FullOnly}
-use Rattle.bd_engine.specs.Stands.{StandsAt, Before, Within}
-use Rattle.bd_engine.specs.Meets.{Meets, IsAny, IsRefused}
+use Rattle.bd_engine.specs.Stands.{StandsAt, Within}
 use Rattle.bd_engine.specs.Deliveries.{placed_for}
-
--- ---- a step that does what another definition says
-
-module _ (old : Tables) (P : Space → Type 0) (f g : Space → Outcome) (same : (s : Space) → Before old s → g s ≡ f s) where
-  one_meets : (new : Tables) (answer : StepAnswer) → Meets old new IsAny f answer → Meets old new P g answer
-  one_meets new answer m = record {
-    answered = λ s h p. m.answered s h tt ∙ ap (λ (o : Outcome). o.answer) (sym (same s h));
-    stands = λ s h p. subst (λ (o : Outcome). Within new o.space) (sym (same s h)) (m.stands s h tt);
-  }
-
-  pub meets-also : (new : Tables) (r : Result Plain Why) → IfOk r (λ x. Meets old new IsAny f (answer_of x)) → IfOk r (λ x. Meets old new P g (answer_of x))
-  meets-also new (Ok x) m = one_meets new (answer_of x) m
-  meets-also new (Err why) m = m
-
-  pub refused-also : (r : Result Plain Why) → IfErr r (IsRefused old IsAny f) → IfErr r (IsRefused old P g)
-  refused-also (Ok answer) m = m
-  refused-also (Err why) m = λ s h p. subst (λ (o : Outcome). FullOnly why (has_number_past_limit o.space.names ≡ true)) (sym (same s h)) (m s h tt)
+use Rattle.bd_engine.proofs.Finding.{found-lives}
 
 -- ---- processes that are found live
-
-module _ {X : Type 0} (p : X → Bool) where
-  first_passes : (y x : X) (b : Bool) (rest : Option X) → p y ≡ b → (rest ≡ Some x → p x ≡ true) → cond b (Some y) rest ≡ Some x → p x ≡ true
-  first_passes y x true rest e k f = let same : y ≡ x = cc in ap p (sym same) ∙ e
-  first_passes y x false rest e k f = k f
-
-  found_passes : (xs : List X) (x : X) → find p xs ≡ Some x → p x ≡ true
-  found_passes [] x e = absurd (none-some x e)
-  found_passes (y ∷ ys) x e = first_passes y x (p y) (find p ys) refl (found_passes ys x) e
-
-pub found-lives : (ps : List Process) (made : ℕ) (q : Process) → process_in ps made ≡ Some q → process_in ps q.made ≡ Some q
-found-lives ps made q e = ap (process_in ps) (eqb-true q.made made (found_passes (λ (x : Process). x.made == made) ps q e)) ∙ e
 
 pub if-lives : (ps : List Process) (made : ℕ) (r : Option Process) → r ≡ process_in ps made → IfSome r (λ q. process_in ps q.made ≡ Some q)
 if-lives ps made None e = tt

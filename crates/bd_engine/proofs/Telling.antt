@@ -1,7 +1,6 @@
 -- How tables go on standing while frames close and callers and senders are told.
-use Rattle.std.proofs.Common.{ℕ, List, Option, None, Some}
+use Rattle.std.proofs.Common.{ℕ, Option, None, Some}
 use Rattle.bd_space.specs.declared.space.Frame.{Frame}
-use Rattle.bd_space.specs.declared.space.Work.{Work}
 use Rattle.bd_space.specs.declared.space.WorkKind.{WorkKind}
 use Rattle.bd_space.specs.declared.space.TodoList.TheVariants.{OfThread}
 use Rattle.bd_space.specs.Space.{Space}
@@ -10,24 +9,14 @@ use Rattle.bd_calls.specs.declared.table.CallTable.{CallTable}
 use Rattle.bd_calls.specs.Stands as calls
 use Rattle.bd_engine.specs.declared.tables.Tables.{Tables}
 use Rattle.bd_engine.specs.Stands.{StandsAt}
-
-pub calls-stand : (n : ℕ) (t : Tables) (cs : CallTable) (s : Space) (frames : List Frame) (todo : List Work) → StandsAt n t s
-    → calls.StandsFor cs (record s { frames = frames; todo = todo }) → StandsAt n (record t { calls = cs }) (record s { frames = frames; todo = todo })
-calls-stand n t cs s frames todo h k = record {
-  steps_are = h.steps_are;
-  processes_are = h.processes_are;
-  manager_is = h.manager_is;
-  objects_stand = h.objects_stand;
-  calls_stand = k;
-  windows_stand = h.windows_stand;
-}
+use Rattle.bd_engine.proofs.Changing.{with-calls}
 
 told : (n : ℕ) (t : Tables) (cs : CallTable) (s : Space) (caller : Option ℕ) (kind : WorkKind) → StandsAt n t s
     → calls.StandsFor cs (elim caller as (λ (o : Option ℕ). Space) [ None ↦ s | Some u ↦ owe s (OfThread u) kind ])
     → StandsAt n (record t { calls = cs }) (elim caller as (λ (o : Option ℕ). Space) [ None ↦ s | Some u ↦ owe s (OfThread u) kind ])
 unfolding owe
-told n t cs s None kind h k = calls-stand n t cs s s.frames s.todo h k
-told n t cs s (Some u) kind h k = calls-stand n t cs s s.frames _ h k
+told n t cs s None kind h k = with-calls n t s cs s.threads s.frames s.todo h k
+told n t cs s (Some u) kind h k = with-calls n t s cs s.threads s.frames _ h k
 
 pub told-stands : (n : ℕ) (t : Tables) (cs : CallTable) (s : Space) (f : Frame) (kind : WorkKind) → StandsAt n t s
     → calls.StandsFor cs (tell_caller s f kind) → StandsAt n (record t { calls = cs }) (tell_caller s f kind)

@@ -8,3 +8,4 @@ pub mod Writing
 pub mod Telling
 pub mod Taking
 pub mod Deliveries
+pub mod Looks

@@ -11,7 +11,7 @@ use Rattle.bd_engine.specs.declared.tables.Tables.{Tables}
 -- every member was made by a step before this place
 pub record StandsAt (bound : ℕ) (t : Tables) (s : Space) : Type 0 where
   pub steps_are : s.steps ≡ t.steps
-  pub processes_are : s.processes ≡ t.processes.items
+  pub processes_are : s.processes ≡ t.processes.list.items
   pub manager_is : s.manager ≡ t.manager
   pub objects_stand : objects.StandsFor t.objects s
   pub calls_stand : calls.StandsFor t.calls s

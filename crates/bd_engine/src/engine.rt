@@ -3,6 +3,7 @@
 ghost use Rattle.std.specs.Prelude.{◌≡◌, ◌≤◌, ◌<◌, ◌^◌, true, [], length, IfOk, IfErr, OnErr, MatchResult, Some};
 ghost use Rattle.bd_space.specs.Histories as histories;
 ghost use Rattle.bd_space.specs.Steps as steps;
+ghost use Rattle.bd_engine.specs.Stands.{Before};
 ghost use Rattle.bd_engine.specs.Refusals.{FullOnly, IsSeats, IsSeatFault};
 
 use crate::tables::Tables;
@@ -53,6 +54,13 @@ impl Engine {
     // What its memory comes from.
     pub(crate) fn alloc(&self) -> Global {
         *self.entries.allocator()
+    }
+
+    // The tables, which stand for the space after the history.
+    pub(crate) fn tables(&self) -> &Tables
+        ensures { Before result.now (histories.space_after self.now) }
+    {
+        &self.tables
     }
 
     /// How many seats there are, 1 to 16.

@@ -15,14 +15,8 @@ ghost use Rattle.bd_engine.specs.Telling.{owed, owed_deaths};
 use crate::plain::Plain;
 use crate::tables::Tables;
 use crate::why::Why;
-use bd_space::{Actor, Process, TodoList, WorkKind};
+use bd_space::{Actor, TodoList, WorkKind};
 use std::alloc::AllocError;
-
-fn remove_process(processes: &mut Vec<Process>, p: u32)
-    ensures { processes.new.items ≡ filter (λ q. not (q.made == p)) processes.old.items }
-{
-    processes.retain(|q| q.made != p);
-}
 
 impl Tables {
     // The thread of a seat ends; what is lost with its list is told by the list, which goes last.
@@ -59,7 +53,7 @@ impl Tables {
         self.objects.without_process(p);
         self.calls.process_goes(p);
         self.windows.close(p);
-        remove_process(&mut self.processes, p);
+        self.processes.remove(p);
     }
 
     // If the end of the process is to be told by the notification of an index, a work item says so.

@@ -34,6 +34,7 @@ impl Tables {
     fn open_fault(&self, seat: u32, pid: u32, window: u32) -> Option<Fault>
         ensures fault { (s : Space) → Before self.now s → result ≡ steps.open_fault s seat pid window }
         ensures window { result ≡ None → steps.is_window window ≡ true }
+        ensures pid { result ≡ None → steps.is_pid pid ≡ true }
     {
         if !is_pid(pid) {
             return Some(Fault::PidRange);
@@ -52,12 +53,13 @@ impl Tables {
 
     // A process comes in, with its window.
     fn with_process(&mut self, pid: u32, euid: u32, size: u32, window: Window)
-        requires processes { vec_len self.old.processes < vec_capacity self.old.processes }
+        requires processes { vec_len self.old.processes.list < vec_capacity self.old.processes.list }
         requires windows { 1 ≤ window_room self.old.windows }
+        requires pid { steps.is_pid pid ≡ true }
         ensures stands { (s : Space) → Before self.old s → Stands window size [] → Within self.new (steps.with_process s pid euid size) }
         ensures threads { thread_room self.new.calls ≡ thread_room self.old.calls }
     {
-        self.processes.push_reserved(Process {
+        self.processes.add(Process {
             made: self.steps,
             pid,
             euid,
@@ -79,12 +81,12 @@ impl Tables {
         requires { steps.is_window size ≡ true }
         ensures stands { IsKept self.old self.new }
         ensures window { IfOk result (λ w. Stands w size []) }
-        ensures processes { OnOk result (vec_len self.new.processes < vec_capacity self.new.processes) }
+        ensures processes { OnOk result (vec_len self.new.processes.list < vec_capacity self.new.processes.list) }
         ensures windows { OnOk result (1 ≤ window_room self.new.windows) }
         ensures threads { OnOk result (1 ≤ thread_room self.new.calls) }
     {
         self.reserve(0, 0, 0, 0)?;
-        self.processes.reserve(1)?;
+        self.processes.reserve()?;
         self.windows.reserve()?;
         Window::new(self.alloc, size)
     }

@@ -1,6 +1,6 @@
 //! What a work item gives to be read: its returns, and their bytes.
 
-ghost use Rattle.std.specs.Prelude.{ℕ, pos, ◌≡◌, ◌+◌, ◌*◌, ◌/◌, ◌≤◌, ◌++◌, ◌∷◌, [], find, map, length, option_and_then, option_map, unwrap_or, IfOk, OnOk};
+ghost use Rattle.std.specs.Prelude.{ℕ, pos, true, ◌≡◌, ◌+◌, ◌*◌, ◌/◌, ◌≤◌, ◌++◌, ◌∷◌, [], find, map, length, option_and_then, option_map, unwrap_or, IfSome, OnOk};
 ghost use Rattle.std.specs.List.{flat_map, concat};
 ghost use Rattle.std.specs.Option.{option_copied};
 ghost use Rattle.bd_codec.specs.Spelling.{return_bytes};
@@ -10,6 +10,7 @@ ghost use Rattle.bd_space.specs.Seats as seats;
 ghost use Rattle.bd_space.specs.Frames.{is_frame};
 ghost use Rattle.bd_space.specs.Freeing.{pointer};
 ghost use Rattle.bd_space.specs.Reading as spec;
+ghost use Rattle.bd_space.specs.Steps.{is_pid};
 ghost use Rattle.bd_space.specs.declared.space.WorkKind.TheVariants as work;
 ghost use Rattle.bd_buffers.specs.WindowsStand.{IsPlaced};
 ghost use Rattle.bd_engine.specs.Stands.{Before};
@@ -51,13 +52,11 @@ pub(crate) fn append_returns(rs: &[Option<Return>], out: &mut Vec<u8>) -> Result
 }
 
 // A pid as it is read.
-fn signed(pid: u32) -> Result<i32, AllocError>
-    ensures { IfOk result (λ n. n ≡ pos pid) }
+fn signed(pid: u32) -> i32
+    requires { pid ≤ 2147483647 }
+    ensures { result ≡ pos pid }
 {
-    match i32::try_from(pid) {
-        Ok(n) => Ok(n),
-        Err(_) => Err(AllocError),
-    }
+    pid as i32
 }
 
 // Where a buffer's data begins, as its receiver sees it.
@@ -88,8 +87,9 @@ impl Tables {
 
     // That thread, with its process.
     fn waiting_actor(&self, made: u32) -> Option<Actor>
-        ensures { (s : Space) → Before self.now s
+        ensures found { (s : Space) → Before self.now s
             → result ≡ option_and_then (seats.actor s) (option_and_then (λ f. f.caller) (find (is_frame made) s.frames)) }
+        ensures pid { IfSome result (λ a. is_pid a.process.pid ≡ true) }
     {
         match self.waiting_seat(made) {
             Some(seat) => self.actor(seat),
@@ -100,7 +100,8 @@ impl Tables {
     // Its pid, else 0.
     #[tactic(auto, unfolding(bd_space::specs::Reading::sender_pid))]
     fn sender_pid(&self, made: u32) -> u32
-        ensures { (s : Space) → Before self.now s → result ≡ spec.sender_pid s made }
+        ensures found { (s : Space) → Before self.now s → result ≡ spec.sender_pid s made }
+        ensures fits { result ≤ 2147483647 }
     {
         match self.waiting_actor(made) {
             Some(a) => a.process.pid,
@@ -131,60 +132,54 @@ impl Tables {
 
     // What the receiver of a buffer reads of it.
     #[tactic(auto, unfolding(bd_space::specs::Reading::record_of))]
-    fn record_of(&self, b: &Buffer) -> Result<TransactionData, AllocError>
+    fn record_of(&self, b: &Buffer) -> TransactionData
         requires { IsPlaced b.now }
-        ensures { IfOk result (λ r. (s : Space) → Before self.now s → r ≡ spec.record_of s b.now) }
+        ensures { (s : Space) → Before self.now s → result ≡ spec.record_of s b.now }
     {
         let (target, cookie) = self.called_words(b);
-        let sender_pid = signed(self.sender_pid(b.made))?;
-        Ok(TransactionData {
+        TransactionData {
             target,
             cookie,
             code: b.code,
             flags: b.flags,
-            sender_pid,
+            sender_pid: signed(self.sender_pid(b.made)),
             sender_euid: b.euid,
             data_size: b.bytes.len() as u64,
             offsets_size: b.offsets.len() as u64,
             buffer: data_start(b),
             offsets: offsets_start(b),
-        })
+        }
     }
 
     // The record of the buffer made there, if it lives.
-    fn record_at(&self, made: u32) -> Result<Option<TransactionData>, AllocError>
-        ensures { IfOk result (λ r. (s : Space) → Before self.now s → r ≡ option_map (spec.record_of s) (spec.buffer_in s.buffers made)) }
+    fn record_at(&self, made: u32) -> Option<TransactionData>
+        ensures { (s : Space) → Before self.now s → result ≡ option_map (spec.record_of s) (spec.buffer_in s.buffers made) }
     {
         match self.windows.buffer(made) {
-            Some(b) => match self.record_of(b) {
-                Ok(r) => Ok(Some(r)),
-                Err(why) => Err(why),
-            },
-            None => Ok(None),
+            Some(b) => Some(self.record_of(b)),
+            None => None,
         }
     }
 
     // A call.
     #[tactic(auto, unfolding(bd_space::specs::Reading::returns_of))]
-    fn call_return(&self, made: u32) -> Result<Option<Return>, AllocError>
-        ensures { IfOk result (λ r. (s : Space) → Before self.now s → spec.one r ≡ spec.returns_of s (work.Call made)) }
+    fn call_return(&self, made: u32) -> Option<Return>
+        ensures { (s : Space) → Before self.now s → spec.one result ≡ spec.returns_of s (work.Call made) }
     {
         match self.record_at(made) {
-            Ok(Some(r)) => Ok(Some(Return::Transaction(r))),
-            Ok(None) => Ok(None),
-            Err(why) => Err(why),
+            Some(r) => Some(Return::Transaction(r)),
+            None => None,
         }
     }
 
     // A reply.
     #[tactic(auto, unfolding(bd_space::specs::Reading::returns_of))]
-    fn reply_return(&self, made: u32) -> Result<Option<Return>, AllocError>
-        ensures { IfOk result (λ r. (s : Space) → Before self.now s → spec.one r ≡ spec.returns_of s (work.Reply made)) }
+    fn reply_return(&self, made: u32) -> Option<Return>
+        ensures { (s : Space) → Before self.now s → spec.one result ≡ spec.returns_of s (work.Reply made) }
     {
         match self.record_at(made) {
-            Ok(Some(r)) => Ok(Some(Return::Reply(r))),
-            Ok(None) => Ok(None),
-            Err(why) => Err(why),
+            Some(r) => Some(Return::Reply(r)),
+            None => None,
         }
     }
 
@@ -201,26 +196,18 @@ impl Tables {
 
     // The returns that a work item gives.
     #[tactic(auto, unfolding(bd_space::specs::Reading::returns_of))]
-    fn returns_of(&self, kind: WorkKind) -> Result<[Option<Return>; 4], AllocError>
-        ensures { IfOk result (λ rs. (s : Space) → Before self.now s → flat_map spec.one rs ≡ spec.returns_of s kind) }
+    fn returns_of(&self, kind: WorkKind) -> [Option<Return>; 4]
+        ensures { (s : Space) → Before self.now s → flat_map spec.one result ≡ spec.returns_of s kind }
     {
         match kind {
-            WorkKind::Notice(o) => Ok(self.objects.notice_returns(o)),
-            WorkKind::Complete => Ok(alone(Some(Return::TransactionComplete))),
-            WorkKind::Refusal(r) => Ok(alone(Some(r))),
-            WorkKind::Verdict(r) => Ok(alone(Some(r))),
-            WorkKind::Call(b) => match self.call_return(b) {
-                Ok(r) => Ok(alone(r)),
-                Err(why) => Err(why),
-            },
-            WorkKind::Reply(b) => match self.reply_return(b) {
-                Ok(r) => Ok(alone(r)),
-                Err(why) => Err(why),
-            },
-            WorkKind::Death(n) => Ok(alone(self.death_return(n))),
-            WorkKind::Cleared(cookie) => {
-                Ok(alone(Some(Return::ClearDeathNotificationDone(cookie))))
-            }
+            WorkKind::Notice(o) => self.objects.notice_returns(o),
+            WorkKind::Complete => alone(Some(Return::TransactionComplete)),
+            WorkKind::Refusal(r) => alone(Some(r)),
+            WorkKind::Verdict(r) => alone(Some(r)),
+            WorkKind::Call(b) => alone(self.call_return(b)),
+            WorkKind::Reply(b) => alone(self.reply_return(b)),
+            WorkKind::Death(n) => alone(self.death_return(n)),
+            WorkKind::Cleared(cookie) => alone(Some(Return::ClearDeathNotificationDone(cookie))),
         }
     }
 
@@ -228,9 +215,6 @@ impl Tables {
     pub(crate) fn append_work(&self, kind: WorkKind, out: &mut Vec<u8>) -> Result<(), AllocError>
         ensures { OnOk result ((s : Space) → Before self.now s → out.new.items ≡ out.old.items ++ concat (map return_bytes (spec.returns_of s kind))) }
     {
-        match self.returns_of(kind) {
-            Ok(rs) => append_returns(&rs, out),
-            Err(why) => Err(why),
-        }
+        append_returns(&self.returns_of(kind), out)
     }
 }

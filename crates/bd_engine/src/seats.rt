@@ -1,43 +1,34 @@
 //! Processes and threads.
 
-ghost use Rattle.std.specs.Prelude.{ℕ, ◌≡◌, ◌==◌, find};
+ghost use Rattle.std.specs.Prelude.{ℕ, true, ◌≡◌, IfSome};
 ghost use Rattle.bd_space.specs.Space.{Space};
 ghost use Rattle.bd_space.specs.Seats as seats;
+ghost use Rattle.bd_space.specs.Steps.{is_pid};
 ghost use Rattle.bd_engine.specs.Stands.{StandsAt};
 
 use crate::tables::Tables;
 use bd_space::{Actor, Process, Thread};
 
-fn process_in(processes: &[Process], made: u32) -> Option<Process>
-    ensures { result ≡ seats.process_in processes.now made }
-{
-    processes.iter().copied().find(|q| q.made == made)
-}
-
-fn process_with_pid(processes: &[Process], pid: u32) -> Option<Process>
-    ensures { result ≡ seats.process_with_pid processes.now pid }
-{
-    processes.iter().copied().find(|q| q.pid == pid)
-}
-
 impl Tables {
     /// The live process with this identity.
     pub(crate) fn process(&self, made: u32) -> Option<Process>
-        ensures { (n : ℕ) (s : Space) → StandsAt n self.now s → result ≡ seats.process_in s.processes made }
+        ensures found { (n : ℕ) (s : Space) → StandsAt n self.now s → result ≡ seats.process_in s.processes made }
+        ensures pid { IfSome result (λ q. is_pid q.pid ≡ true) }
     {
-        process_in(self.processes.as_slice(), made)
+        self.processes.made_at(made)
     }
 
     /// The live process with this pid.
     pub(crate) fn process_with_pid(&self, pid: u32) -> Option<Process>
         ensures { (n : ℕ) (s : Space) → StandsAt n self.now s → result ≡ seats.process_with_pid s.processes pid }
     {
-        process_with_pid(self.processes.as_slice(), pid)
+        self.processes.with_pid(pid)
     }
 
     // The thread with its process.
     fn actor_of(&self, thread: Thread) -> Option<Actor>
-        ensures { (n : ℕ) (s : Space) → StandsAt n self.now s → result ≡ seats.actor_of s thread }
+        ensures found { (n : ℕ) (s : Space) → StandsAt n self.now s → result ≡ seats.actor_of s thread }
+        ensures pid { IfSome result (λ a. is_pid a.process.pid ≡ true) }
     {
         match self.process(thread.process) {
             Some(process) => Some(Actor { thread, process }),
@@ -48,7 +39,8 @@ impl Tables {
     /// The live thread of a seat, with its process.
     #[tactic(auto, unfolding(bd_space::specs::Seats::actor))]
     pub(crate) fn actor(&self, seat: u32) -> Option<Actor>
-        ensures { (n : ℕ) (s : Space) → StandsAt n self.now s → result ≡ seats.actor s seat }
+        ensures found { (n : ℕ) (s : Space) → StandsAt n self.now s → result ≡ seats.actor s seat }
+        ensures pid { IfSome result (λ a. is_pid a.process.pid ≡ true) }
     {
         match self.calls.thread(seat) {
             None => None,

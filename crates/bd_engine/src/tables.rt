@@ -2,10 +2,11 @@
 
 ghost use Rattle.std.specs.Prelude.{◌≡◌, ◌+◌, ◌<◌, ◌≤◌, IfOk, OnOk};
 
+use crate::processes::Processes;
 use bd_buffers::Windows;
 use bd_calls::CallTable;
 use bd_objects::ObjectTable;
-use bd_space::{ObjectId, Process};
+use bd_space::ObjectId;
 use std::alloc::{AllocError, Global};
 
 /// The tables of an engine.
@@ -13,7 +14,7 @@ use std::alloc::{AllocError, Global};
 pub(crate) struct Tables {
     /// How many steps there were: the place of the next.
     pub(crate) steps: u32,
-    pub(crate) processes: Vec<Process>,
+    pub(crate) processes: Processes,
     pub(crate) manager: Option<ObjectId>,
     pub(crate) objects: ObjectTable,
     pub(crate) calls: CallTable,
@@ -33,7 +34,7 @@ impl Tables {
     {
         Tables {
             steps: 0,
-            processes: Vec::new(alloc),
+            processes: Processes::new(alloc),
             manager: None,
             objects: ObjectTable::new(alloc),
             calls: CallTable::new(alloc),

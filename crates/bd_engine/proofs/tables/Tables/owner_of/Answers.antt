@@ -9,7 +9,7 @@ use Rattle.bd_engine.proofs.tables.Tables.owner_of.Goals as goal
 pub returns-clause-owner : goal.returns-clause-owner
 unfolding owner_of
 returns-clause-owner c = λ n s h.
-    c.process.ensures n s h ∙ ap (λ (y : Option Object). option_and_then (λ (x : Object). process_in s.processes x.owner) y) (c.in_ok-x.ensures s h.objects_stand)
+    c.process.ensures.found n s h ∙ ap (λ (y : Option Object). option_and_then (λ (x : Object). process_in s.processes x.owner) y) (c.in_ok-x.ensures s h.objects_stand)
 
 pub returns-clause-lives : goal.returns-clause-lives
-returns-clause-lives c = λ n s h. if-lives s.processes c.in_ok-x.x.owner c.process.result (c.process.ensures n s h)
+returns-clause-lives c = λ n s h. if-lives s.processes c.in_ok-x.x.owner c.process.result (c.process.ensures.found n s h)

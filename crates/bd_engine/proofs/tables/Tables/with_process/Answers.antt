@@ -10,7 +10,7 @@ pub returns-clause-stands : goal.returns-clause-stands
 unfolding with_process
 returns-clause-stands c = λ s h w. record {
   steps_are = h.steps_are;
-  processes_are = ap (λ qs. qs ++ process s.steps c.args.pid c.args.euid c.args.size ∷ []) h.processes_are ∙ ap (λ place. c.args.self.now.processes.items ++ process place c.args.pid c.args.euid c.args.size ∷ []) h.steps_are ∙ sym c.push_reserved.ensures.items;
+  processes_are = ap (λ qs. qs ++ process s.steps c.args.pid c.args.euid c.args.size ∷ []) h.processes_are ∙ ap (λ place. c.args.self.now.processes.list.items ++ process place c.args.pid c.args.euid c.args.size ∷ []) h.steps_are ∙ sym c.add.ensures.items;
   manager_is = h.manager_is;
   objects_stand = h.objects_stand;
   calls_stand = h.calls_stand;

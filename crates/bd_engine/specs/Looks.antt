@@ -1,0 +1,44 @@
+-- What the calls that read an engine answer of the space of its history.
+use Rattle.std.specs.Prelude.{ℕ, Bool, List, Option, Some, is_some, option_map, option_and_then}
+use Rattle.bd_space.specs.declared.step.ObjectId.{ObjectId}
+use Rattle.bd_space.specs.declared.space.TodoList.TheVariants.{OfThread}
+use Rattle.bd_space.specs.Space.{Space}
+use Rattle.bd_space.specs.Seats.{thread_in, process_with_pid}
+use Rattle.bd_space.specs.References.{object_in}
+use Rattle.bd_space.specs.Names.{named, number_in}
+use Rattle.bd_space.specs.Frames.{innermost, serves}
+use Rattle.bd_space.specs.Todo.{work_on}
+use Rattle.bd_objects.specs.Carried.{carried_in}
+use Rattle.bd_calls.specs.Replies.{first_reply_in}
+
+-- the process of the live thread of a seat
+abbrev pub process_of : Space → ℕ → Option ℕ
+process_of s seat = option_map (λ t. t.process) (thread_in s.threads seat)
+
+-- the live process with this pid
+abbrev pub process_of_pid : Space → ℕ → Option ℕ
+process_of_pid s pid = option_map (λ q. q.made) (process_with_pid s.processes pid)
+
+-- what the number names for the live process with this pid
+abbrev pub named_by : Space → ℕ → ℕ → Option ObjectId
+named_by s pid n = option_and_then (λ q. named s q.made n) (process_with_pid s.processes pid)
+
+-- the process that owns an object of the space
+abbrev pub owner_of : Space → ObjectId → Option ℕ
+owner_of s o = option_map (λ x. x.owner) (object_in s.objects o)
+
+-- where the innermost frame of a thread was made, and whether the thread serves it
+abbrev pub innermost_of : Space → ℕ → Option (ℕ × Bool)
+innermost_of s seat = option_map (λ f. (f.made, serves seat f.server)) (innermost s seat)
+
+-- where the first reply on a thread's own list was made
+abbrev pub first_reply : Space → ℕ → Option ℕ
+first_reply s seat = first_reply_in (work_on s.todo (Some (OfThread seat)))
+
+-- whether the process has a name for the object
+abbrev pub knows : Space → ℕ → ObjectId → Bool
+knows s p o = is_some (number_in s.names p o)
+
+-- the objects that the live buffer made there carries
+abbrev pub carried : Space → ℕ → List ObjectId
+carried s made = carried_in s.references made

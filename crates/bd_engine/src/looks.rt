@@ -1,0 +1,153 @@
+//! What the space of the history holds.
+
+ghost use Rattle.std.specs.Prelude.{ℕ, ◌≡◌};
+ghost use Rattle.std.specs.Option.{option_copied};
+ghost use Rattle.bd_space.specs.Space.{Space};
+ghost use Rattle.bd_space.specs.Frames.{serves};
+ghost use Rattle.bd_space.specs.Histories.{space_after};
+ghost use Rattle.bd_space.specs.Reading.{buffer_in};
+ghost use Rattle.bd_engine.specs.Looks as looks;
+ghost use Rattle.bd_engine.specs.Stands.{StandsAt, Within};
+
+use crate::engine::Engine;
+use crate::tables::Tables;
+use bd_objects::CarriedObjects;
+use bd_space::{Buffer, ObjectId, Server, TodoList};
+
+fn serves(seat: u32, server: Server) -> bool
+    ensures { result ≡ serves seat server }
+{
+    matches!(server, Server::Serving(t) if t == seat)
+}
+
+impl Tables {
+    pub(crate) fn process_of(&self, seat: u32) -> Option<u32>
+        ensures { (n : ℕ) (s : Space) → StandsAt n self.now s → result ≡ looks.process_of s seat }
+    {
+        match self.calls.thread(seat) {
+            Some(t) => Some(t.process),
+            None => None,
+        }
+    }
+
+    pub(crate) fn process_of_pid(&self, pid: u32) -> Option<u32>
+        ensures { (n : ℕ) (s : Space) → StandsAt n self.now s → result ≡ looks.process_of_pid s pid }
+    {
+        match self.process_with_pid(pid) {
+            Some(q) => Some(q.made),
+            None => None,
+        }
+    }
+
+    pub(crate) fn named_by(&self, pid: u32, number: u32) -> Option<ObjectId>
+        ensures { (n : ℕ) (s : Space) → StandsAt n self.now s → result ≡ looks.named_by s pid number }
+    {
+        match self.process_with_pid(pid) {
+            Some(q) => self.objects.named(q.made, number),
+            None => None,
+        }
+    }
+
+    pub(crate) fn owner_of_object(&self, o: ObjectId) -> Option<u32>
+        ensures { (n : ℕ) (s : Space) → StandsAt n self.now s → result ≡ looks.owner_of s o }
+    {
+        match self.objects.object(o) {
+            Some(x) => Some(x.owner),
+            None => None,
+        }
+    }
+
+    pub(crate) fn innermost_of(&self, seat: u32) -> Option<(u32, bool)>
+        ensures { (n : ℕ) (s : Space) → StandsAt n self.now s → result ≡ looks.innermost_of s seat }
+    {
+        match self.calls.innermost(seat) {
+            Some(f) => Some((f.made, serves(seat, f.server))),
+            None => None,
+        }
+    }
+
+    pub(crate) fn first_reply_of(&self, seat: u32) -> Option<u32>
+        ensures { (n : ℕ) (s : Space) → StandsAt n self.now s → result ≡ looks.first_reply s seat }
+    {
+        self.calls.first_reply(TodoList::OfThread(seat))
+    }
+
+    pub(crate) fn is_known_to(&self, process: u32, o: ObjectId) -> bool
+        ensures { (n : ℕ) (s : Space) → StandsAt n self.now s → result ≡ looks.knows s process o }
+    {
+        self.objects.number_of(process, o).is_some()
+    }
+}
+
+impl Engine {
+    /// The process of the live thread of a seat, by the place of its Open. Takes no memory.
+    pub fn process_of(&self, seat: u32) -> Option<u32>
+        ensures { result ≡ looks.process_of (space_after self.now) seat }
+    {
+        self.tables().process_of(seat)
+    }
+
+    /// The live process with this pid, by the place of its Open. Takes no memory.
+    pub fn process_of_pid(&self, pid: u32) -> Option<u32>
+        ensures { result ≡ looks.process_of_pid (space_after self.now) pid }
+    {
+        self.tables().process_of_pid(pid)
+    }
+
+    /// The context manager's object. Takes no memory.
+    pub fn manager(&self) -> Option<ObjectId>
+        ensures { result ≡ (space_after self.now).manager }
+    {
+        self.tables().manager
+    }
+
+    /// What the number (handle) names for the live process with this pid. Takes no memory.
+    pub fn named(&self, pid: u32, number: u32) -> Option<ObjectId>
+        ensures { result ≡ looks.named_by (space_after self.now) pid number }
+    {
+        self.tables().named_by(pid, number)
+    }
+
+    /// The process that owns an object of the space, by the place of its Open. Takes no memory.
+    pub fn owner(&self, o: ObjectId) -> Option<u32>
+        ensures { result ≡ looks.owner_of (space_after self.now) o }
+    {
+        self.tables().owner_of_object(o)
+    }
+
+    /// Where the innermost frame of a seat's thread was made, and whether the thread serves it. Takes no memory.
+    pub fn innermost(&self, seat: u32) -> Option<(u32, bool)>
+        ensures { result ≡ looks.innermost_of (space_after self.now) seat }
+    {
+        self.tables().innermost_of(seat)
+    }
+
+    /// Where the first reply on the own list of a seat's thread was made. Takes no memory.
+    pub fn first_reply(&self, seat: u32) -> Option<u32>
+        ensures { result ≡ looks.first_reply (space_after self.now) seat }
+    {
+        self.tables().first_reply_of(seat)
+    }
+
+    /// Whether a process, told by the place of its Open, has a name (handle) for the object. Takes no memory.
+    pub fn knows(&self, process: u32, o: ObjectId) -> bool
+        ensures { result ≡ looks.knows (space_after self.now) process o }
+    {
+        self.tables().is_known_to(process, o)
+    }
+
+    /// The live buffer made there. Takes no memory.
+    pub fn buffer(&self, made: u32) -> Option<&Buffer>
+        ensures { option_copied result ≡ buffer_in (space_after self.now).buffers made }
+    {
+        self.tables().windows.buffer(made)
+    }
+
+    /// The objects that the live buffer made there carries, one for each object of its parcel, in their order. Takes no
+    /// memory.
+    pub fn carried(&self, made: u32) -> CarriedObjects<'_>
+        ensures { result ≡ looks.carried (space_after self.now) made }
+    {
+        self.tables().objects.carried(made)
+    }
+}
