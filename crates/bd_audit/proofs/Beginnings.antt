@@ -1,0 +1,123 @@
+-- A beginning of a history is one; what its last entry has to meet.
+use Rattle.std.proofs.Common.{◌≡◌, ◌≤◌, ◌<◌, ◌+◌, ℕ, Bool, true, false, ◌&&◌, ◌||◌, List, [], ◌∷◌, ◌++◌, length, take, drop, get_or, Some, refl, ap, sym, ◌∙◌, subst, arith, length-append}
+use Rattle.std.specs.Prelude.{nat_lt, nat_le}
+use Rattle.std.specs.List.{list_all}
+use Rattle.std.proofs.lemmas.Bool.{lt-leb}
+use Rattle.std.proofs.lemmas.List.{take-append-drop, take_more, length-take-le}
+use Rattle.bd_space.specs.declared.step.Entry.{Entry}
+use Rattle.bd_space.specs.Space.{Space, opening}
+use Rattle.bd_space.specs.declared.step.StepAnswer.{StepAnswer}
+use Rattle.bd_space.specs.Steps.{step}
+use Rattle.bd_space.specs.Histories.{History, IsHistory, EntryFollows, Follows, after, next, space_after, is_at_limit}
+use Rattle.bd_audit.specs.declared.judging.AuditFault.{AuditFault}
+use Rattle.bd_audit.specs.declared.judging.AuditFault.TheVariants.{Unlawful, NoMemory}
+use Rattle.bd_audit.specs.Replays.{with_entry, beginning, Begins, IfUnlawful, StopsAt}
+
+pub follows-front : (s : Space) (es fs : List Entry) → Follows s (es ++ fs) → Follows s es
+follows-front s [] fs h = tt
+follows-front s (e ∷ es) fs h = (h.0, follows-front (next s e) es fs h.1)
+
+pub follows-rest : (s : Space) (es fs : List Entry) → Follows s (es ++ fs) → Follows (after s es) fs
+follows-rest s [] fs h = h
+follows-rest s (e ∷ es) fs h = follows-rest (next s e) es fs h.1
+
+pub after-append : (s : Space) (es fs : List Entry) → after s (es ++ fs) ≡ after (after s es) fs
+after-append s [] fs = refl
+after-append s (e ∷ es) fs = after-append (next s e) es fs
+
+both : (a b : Bool) → (a && b) ≡ true → (a ≡ true) × (b ≡ true)
+both true b h = (refl, h)
+both false b h = absurd (cc)
+
+join : (a b : Bool) → a ≡ true → b ≡ true → (a && b) ≡ true
+join a b h k = rw (h, k) refl
+
+module _ {A : Type 0} (p : A → Bool) where
+  pub all-front : (xs ys : List A) → list_all p (xs ++ ys) ≡ true → list_all p xs ≡ true
+  all-front [] ys h = refl
+  all-front (x ∷ xs) ys h = let k = both (p x) (list_all p (xs ++ ys)) h in join (p x) (list_all p xs) k.0 (all-front xs ys k.1)
+
+  pub all-rest : (xs ys : List A) → list_all p (xs ++ ys) ≡ true → list_all p ys ≡ true
+  all-rest [] ys h = h
+  all-rest (x ∷ xs) ys h = all-rest xs ys (both (p x) (list_all p (xs ++ ys)) h).1
+
+  pub all-first : (x : A) (ys : List A) → list_all p (x ∷ ys) ≡ true → p x ≡ true
+  all-first x ys h = (both (p x) (list_all p ys) h).0
+
+pub history-front : (n : ℕ) (es fs : List Entry) → IsHistory (record { seats = n; entries = es ++ fs }) → IsHistory (record { seats = n; entries = es })
+history-front n es fs h = record {
+  short = let l = length-append es fs in omega (arith, l, h.short);
+  seats = all-front (λ e. nat_lt e.seat n) es fs h.seats;
+  follows = follows-front opening es fs h.follows;
+}
+
+-- what the last entry has to meet
+pub record LastFollows (h : History) (e : Entry) : Type 0 where
+  pub room : length h.entries < 4294967295
+  pub seat : nat_lt e.seat h.seats ≡ true
+  pub follows : EntryFollows (after opening h.entries) e
+
+pub last-follows : (h : History) (e : Entry) → IsHistory (with_entry h e) → LastFollows h e
+last-follows h e k = record {
+  room = let l = length-append h.entries (e ∷ []) in omega (arith, l, k.short);
+  seat = all-first (λ (x : Entry). nat_lt x.seat h.seats) e [] (all-rest (λ (x : Entry). nat_lt x.seat h.seats) h.entries (e ∷ []) k.seats);
+  follows = (follows-rest opening h.entries (e ∷ []) k.follows).0;
+}
+
+-- ---- an entry that doesn't follow
+
+pub wrong-answer : (h : History) (e : Entry) (a : StepAnswer) → a ≡ (step (space_after h) e.seat e.step).answer → (a ≡ e.answer → ⊥) → IsHistory (with_entry h e) → ⊥
+unfolding space_after
+wrong-answer h e a is not k = not (is ∙ (last-follows h e k).follows.answer)
+
+either-case : (a b : Bool) → (a || b) ≡ true → a ≡ false → b ≡ true
+either-case true b h k = absurd (cc)
+either-case false b h k = h
+
+pub past-limit : (h : History) (e : Entry) → is_at_limit h e.seat (Some e.step) ≡ true → IsHistory (with_entry h e) → ⊥
+unfolding space_after is_at_limit
+past-limit h e limit k =
+    let l = last-follows h e k in
+    let room : nat_le 4294967295 (length h.entries) ≡ false = lt-leb _ _ l.room in
+    let past = either-case _ _ limit room in
+    let fits = l.follows.numbers in
+    absurd (cc)
+
+-- ---- places
+
+pub take-history : (n : ℕ) (h : History) → IsHistory h → IsHistory (beginning n h)
+take-history n h k = history-front h.seats (take n h.entries) (drop n h.entries) (subst (λ es. IsHistory (record { seats = h.seats; entries = es })) (sym (take-append-drop n h.entries)) k)
+
+-- the entry at this place, one more than those before it
+pub one_more : (h : History) (i : ℕ) (e : Entry) → i < length h.entries → e ≡ get_or h.entries i e → with_entry (beginning i h) e ≡ beginning (i + 1) h
+one_more h i e lt is = ap (λ es. let k : History = record { seats = h.seats; entries = es } in k) (ap (λ x. take i h.entries ++ x ∷ []) is ∙ sym (take_more h.entries i e lt))
+
+pub not-history : (f : AuditFault) (h g : History) (i : ℕ) (e : Entry) → g ≡ beginning i h → (es : List Entry) → es ≡ h.entries → i < length es → e ≡ get_or es i e
+    → IfUnlawful f (λ at. IsHistory (with_entry g e) → ⊥) → IfUnlawful f (λ at. IsHistory h → ⊥)
+not-history (Unlawful at) h g i e at_i es same_es below found not =
+    let lt : i < length h.entries = subst (λ xs. i < length xs) same_es below in
+    let is : e ≡ get_or h.entries i e = subst (λ xs. e ≡ get_or xs i e) same_es found in
+    λ k. not (subst IsHistory (sym (ap (λ x. with_entry x e) at_i ∙ one_more h i e lt is)) (take-history (i + 1) h k))
+not-history NoMemory h g i e at_i es same_es below found not = tt
+
+begun : (g k : History) → Begins g k → IsHistory k → IsHistory g
+begun g k b h = history-front g.seats g.entries b.0 (subst IsHistory b.1 h)
+
+pub stops-there : (f : AuditFault) (h g k : History) (i : ℕ) (e : Entry) → g ≡ beginning i h → (es : List Entry) → es ≡ h.entries → i < length es → e ≡ get_or es i e
+    → Begins g k → IsHistory k → IfUnlawful f (λ at. at ≡ length g.entries)
+    → IfUnlawful f (λ at. IsHistory (with_entry g e) → ⊥) → IfUnlawful f (StopsAt h)
+stops-there (Unlawful at) h g k i e at_i es same_es below found b l place not =
+    let lt : i < length h.entries = subst (λ xs. i < length xs) same_es below in
+    let is : e ≡ get_or h.entries i e = subst (λ xs. e ≡ get_or xs i e) same_es found in
+    let le : i ≤ length h.entries = omega arith in
+    let here : at ≡ i = place ∙ ap (λ (x : History). length x.entries) at_i ∙ length-take-le i h.entries le in
+    subst (StopsAt h) (sym here) (record {
+      inside = lt;
+      before = subst IsHistory at_i (begun g k b l);
+      stops = λ s. not (subst IsHistory (sym (ap (λ x. with_entry x e) at_i ∙ one_more h i e lt is)) s);
+    })
+stops-there NoMemory h g k i e at_i es same_es below found b l place not = tt
+
+pub next-beginning : (h g k : History) (i : ℕ) (e : Entry) (es : List Entry) → g ≡ beginning i h → es ≡ h.entries → i < length es → e ≡ get_or es i e → k ≡ with_entry g e → k ≡ beginning (i + 1) h
+next-beginning h g k i e es at_i same_es below found is =
+    is ∙ ap (λ (x : History). with_entry x e) at_i ∙ one_more h i e (subst (λ xs. i < length xs) same_es below) (subst (λ xs. e ≡ get_or xs i e) same_es found)

@@ -1,0 +1,145 @@
+-- What the calls that look for the answered call find.
+use Rattle.std.proofs.Common.{◌≡◌, ◌≤◌, ◌<◌, ◌==◌, ℕ, zero, suc, Bool, true, false, List, [], ◌∷◌, length, get_or, Option, Some, None, Result, inl, inr, refl, ap, sym, subst, ◌∙◌, arith}
+use Rattle.std.specs.Prelude.{MatchResult}
+use Rattle.std.specs.List.{slice_get}
+use Rattle.bd_uapi.specs.declared.fault.Fault.{Fault}
+use Rattle.bd_uapi.specs.declared.fault.Fault.TheVariants.{NoMemory}
+use Rattle.std.specs.Option.{option_eq, option_map, option_and_then}
+use Rattle.std.proofs.lemmas.Bool.{eqb-true, eq-eqb}
+use Rattle.bd_space.specs.declared.step.Step.{Step}
+use Rattle.bd_space.specs.declared.step.Step.TheVariants.{Open, Attach, SetManager, Command, Read, ExitThread, ExitProcess}
+use Rattle.bd_space.specs.declared.step.Entry.{Entry}
+use Rattle.bd_space.specs.Space.{Space, opening}
+use Rattle.bd_space.specs.declared.space.Frame.{Frame}
+use Rattle.bd_space.specs.Frames.{innermost, serves}
+use Rattle.bd_space.specs.Histories.{History, next, space_after}
+use Rattle.bd_calls.specs.Replies.{first_reply_in}
+use Rattle.bd_engine.specs.Looks.{first_reply, innermost_of}
+use Rattle.bd_audit.specs.Replays.{with_entry, beginning}
+use Rattle.bd_audit.specs.Laws.{space_at}
+use Rattle.bd_audit.specs.Replies.{items_taken, reply_taken, reply_taken_at, frame_of, call_closed_at, call_answered}
+use Rattle.bd_audit.proofs.Beginnings.{after-append}
+use Rattle.bd_audit.proofs.RepliesDue.{always-owed}
+use Rattle.bd_audit.proofs.ReplyTaken.{taken-or-not, first-stands}
+
+-- ---- one step
+
+-- a step that is no reading takes nothing
+pub unread : (s : Space) (e : Entry) → ((limit : ℕ) → e.step ≡ Read limit → ⊥) → None ≡ reply_taken s e
+unfolding reply_taken
+unread s e never = at e.step refl
+  where
+    at : (x : Step) → e.step ≡ x → None ≡ first_reply_in (items_taken s e.seat x)
+    at (Open pid euid window) k = refl
+    at (Attach pid) k = refl
+    at SetManager k = refl
+    at (Command c parcel) k = refl
+    at (Read limit) k = absurd (never limit k)
+    at ExitThread k = refl
+    at ExitProcess k = refl
+
+same-option : (a b : Option ℕ) → option_eq (λ x y. x == y) a b ≡ true → a ≡ b
+same-option None None h = refl
+same-option None (Some y) h = absurd (cc)
+same-option (Some x) None h = absurd (cc)
+same-option (Some x) (Some y) h = ap (λ n. Some n) (eqb-true x y h)
+
+option-same : (a b : Option ℕ) → option_eq (λ x y. x == y) a b ≡ false → a ≡ b → ⊥
+option-same a None h e = let wrong : option_eq (λ x y. x == y) None None ≡ false = subst (λ o. option_eq (λ x y. x == y) o None ≡ false) e h in absurd (cc)
+option-same a (Some y) h e =
+    let wrong : (y == y) ≡ false = subst (λ o. option_eq (λ x y. x == y) o (Some y) ≡ false) e h in
+    let right = eq-eqb y y refl in absurd (cc)
+
+-- the space of one entry more
+next-space : (g k : History) (e : Entry) → k ≡ with_entry g e → space_after k ≡ next (space_after g) e
+unfolding space_after
+next-space g k e is = ap (λ (h : History). space_after h) is ∙ after-append opening g.entries (e ∷ [])
+
+module _ (g k : History) (e : Entry) (limit : ℕ) (reading : e.step ≡ Read limit) (is : k ≡ with_entry g e) (before now : Option ℕ)
+    (was : before ≡ first_reply (space_after g) e.seat) (then : now ≡ first_reply (space_after k) e.seat) where
+  found : now ≡ first_reply (next (space_after g) e) e.seat
+  found = then ∙ ap (λ z. first_reply z e.seat) (next-space g k e is)
+
+  -- the first reply is still the first
+  pub still-first : option_eq (λ x y. x == y) now before ≡ true → None ≡ reply_taken (space_after g) e
+  still-first h = elim (taken-or-not (space_after g) (always-owed g) e limit reading) [
+    | inl n ↦ sym n.0
+    | inr r ↦ (let w = first-stands (next (space_after g) e) e.seat r.0 (sym found ∙ same-option now before h ∙ was ∙ r.2) in absurd (r.3 w.0 w.1 w.2))
+  ]
+
+  pub first-taken : option_eq (λ x y. x == y) now before ≡ false → before ≡ reply_taken (space_after g) e
+  first-taken h = elim (taken-or-not (space_after g) (always-owed g) e limit reading) [
+    | inl n ↦ absurd (option-same now before h (found ∙ n.1 ∙ sym was))
+    | inr r ↦ was ∙ r.2 ∙ sym r.1
+  ]
+
+-- ---- the entry at a place
+
+stands-at : (es : List Entry) (i : ℕ) (e : Entry) → i < length es → e ≡ get_or es i e → slice_get es i ≡ Some e
+stands-at [] i e h is = absurd (omega arith)
+stands-at (x ∷ es) zero e h is = ap (λ y. Some y) (sym is)
+stands-at (x ∷ es) (suc i) e h is = stands-at es i e (omega arith) is
+
+pub got : (h : History) (es : List Entry) (i : ℕ) (e : Entry) → es ≡ h.entries → i < length es → e ≡ get_or es i e → slice_get h.entries i ≡ Some e
+got h es i e same_es lt is = subst (λ xs. slice_get xs i ≡ Some e) same_es (stands-at es i e lt is)
+
+past : (es : List Entry) (i : ℕ) → length es ≤ i → slice_get es i ≡ None
+past [] i h = refl
+past (x ∷ es) zero h = absurd (omega arith)
+past (x ∷ es) (suc i) h = past es i (omega arith)
+
+pub got-none : (h : History) (es : List Entry) (i : ℕ) → es ≡ h.entries → length es ≤ i → slice_get h.entries i ≡ None
+got-none h es i same_es le = subst (λ xs. slice_get xs i ≡ None) same_es (past es i le)
+
+-- the same answer by another name
+pub by_name : (r : Result (Option ℕ) Fault) (x y : Option ℕ) → x ≡ y → MatchResult r (λ v. v ≡ x) (λ f. f ≡ NoMemory) → MatchResult r (λ v. v ≡ y) (λ f. f ≡ NoMemory)
+by_name r x y e h = subst (λ (z : Option ℕ). MatchResult r (λ v. v ≡ z) (λ f. f ≡ NoMemory)) e h
+
+pub past-taken : (h : History) (place : ℕ) → slice_get h.entries place ≡ None → None ≡ reply_taken_at h place
+unfolding reply_taken_at
+past-taken h place e = sym (ap (λ o. option_and_then (reply_taken (space_at h place)) o) e)
+
+pub there-taken : (h g : History) (place : ℕ) (e : Entry) → g ≡ beginning place h → slice_get h.entries place ≡ Some e → reply_taken (space_after g) e ≡ reply_taken_at h place
+unfolding reply_taken_at
+there-taken h g place e is at = ap (λ (x : History). reply_taken (space_after x) e) is ∙ sym (ap (λ o. option_and_then (reply_taken (space_at h place)) o) at)
+
+pub past-closed : (h : History) (place : ℕ) → slice_get h.entries place ≡ None → None ≡ call_closed_at h place
+unfolding call_closed_at
+past-closed h place e = sym (ap (λ o. option_and_then (frame_of (space_at h place)) o) e)
+
+there-closed : (h g : History) (place : ℕ) (e : Entry) → g ≡ beginning place h → slice_get h.entries place ≡ Some e → frame_of (space_after g) e ≡ call_closed_at h place
+unfolding call_closed_at
+there-closed h g place e is at = ap (λ (x : History). frame_of (space_after x) e) is ∙ sym (ap (λ o. option_and_then (frame_of (space_at h place)) o) at)
+
+-- ---- the innermost frame
+
+first-part : (o : Option (ℕ × Bool)) → Option ℕ
+first-part o = option_map (λ (p : ℕ × Bool). p.0) o
+
+frame-is : (s : Space) (e : Entry) → frame_of s e ≡ first-part (innermost_of s e.seat)
+unfolding frame_of first-part
+frame-is s e = at (innermost s e.seat)
+  where
+    at : (o : Option Frame) → option_map (λ (f : Frame). f.made) o ≡ option_map (λ (p : ℕ × Bool). p.0) (option_map (λ (f : Frame). (f.made, serves e.seat f.server)) o)
+    at None = refl
+    at (Some f) = refl
+
+pub closed-some : (h g : History) (place : ℕ) (e : Entry) (made : ℕ) (serving : Bool) → g ≡ beginning place h → slice_get h.entries place ≡ Some e
+    → Some (made, serving) ≡ innermost_of (space_after g) e.seat → Some made ≡ call_closed_at h place
+unfolding first-part
+closed-some h g place e made serving is at inner = ap first-part inner ∙ sym (frame-is (space_after g) e) ∙ there-closed h g place e is at
+
+pub closed-none : (h g : History) (place : ℕ) (e : Entry) → g ≡ beginning place h → slice_get h.entries place ≡ Some e
+    → None ≡ innermost_of (space_after g) e.seat → None ≡ call_closed_at h place
+unfolding first-part
+closed-none h g place e is at inner = ap first-part inner ∙ sym (frame-is (space_after g) e) ∙ there-closed h g place e is at
+
+-- ---- both
+
+pub answered-none : (h : History) (place : ℕ) → None ≡ reply_taken_at h place → None ≡ call_answered h place
+unfolding call_answered
+answered-none h place e = ap (λ o. option_and_then (call_closed_at h) o) e
+
+pub answered-some : (h : History) (place reply : ℕ) → Some reply ≡ reply_taken_at h place → call_closed_at h reply ≡ call_answered h place
+unfolding call_answered
+answered-some h place reply e = ap (λ o. option_and_then (call_closed_at h) o) e

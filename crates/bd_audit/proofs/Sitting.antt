@@ -1,0 +1,435 @@
+-- A Notice stands where threads of the process that owns its object read it.
+use Rattle.std.proofs.Common.{◌≡◌, ℕ, ◌==◌, Bool, true, false, cond, not, ◌&&◌, List, [], ◌∷◌, ◌++◌, Option, Some, None, Ok, inl, inr, refl, ap, sym, subst, ◌∙◌, map, filter, find, arith}
+use Rattle.std.specs.List.{list_any}
+use Rattle.std.proofs.lemmas.Bool.{eqb-true, eq-eqb}
+use Rattle.bd_uapi.specs.declared.command.TransactionData.{TransactionData}
+use Rattle.bd_space.specs.declared.step.ObjectId.{ObjectId}
+use Rattle.bd_space.specs.declared.step.Parcel.{Parcel}
+use Rattle.bd_space.specs.declared.step.Step.{Step}
+use Rattle.bd_space.specs.declared.step.Entry.{Entry}
+use Rattle.bd_space.specs.declared.space.Process.{Process}
+use Rattle.bd_space.specs.declared.space.Thread.{Thread}
+use Rattle.bd_space.specs.declared.space.Object.{Object}
+use Rattle.bd_space.specs.declared.space.Reference.{Reference}
+use Rattle.bd_space.specs.declared.space.Frame.{Frame}
+use Rattle.bd_space.specs.declared.space.Turn.{Turn}
+use Rattle.bd_space.specs.declared.space.Actor.{Actor}
+use Rattle.bd_space.specs.declared.space.Item.{Item}
+use Rattle.bd_space.specs.declared.space.DeathNotification.{DeathNotification}
+use Rattle.bd_space.specs.declared.space.Phase.TheVariants.{Queued}
+use Rattle.bd_space.specs.declared.space.Work.{Work}
+use Rattle.bd_space.specs.declared.space.WorkKind.{WorkKind}
+use Rattle.bd_space.specs.declared.space.WorkKind.TheVariants as work
+use Rattle.bd_space.specs.declared.space.TodoList.{TodoList}
+use Rattle.bd_space.specs.declared.space.TodoList.TheVariants.{OfThread, OfProcess}
+use Rattle.bd_space.specs.Words.{same, changed, same_identity}
+use Rattle.bd_space.specs.Space.{Space, opening}
+use Rattle.bd_space.specs.Seats.{thread_in, actor}
+use Rattle.bd_space.specs.References.{object_in, owned_in, objects_go, stays_in}
+use Rattle.bd_space.specs.Names.{names_go, assign_numbers}
+use Rattle.bd_space.specs.Frames.{goes_to, closed}
+use Rattle.bd_space.specs.Todo.{with_work, owe, is_on, same_list, notice_of}
+use Rattle.bd_space.specs.Turns.{ripen, ripened, is_ripe, turns_of}
+use Rattle.bd_space.specs.Notices.{with_notice, wants_notice, has_notice_in, still_due, work_goes, deaths_go, notify, follow}
+use Rattle.bd_space.specs.Parcels.{is_own}
+use Rattle.bd_space.specs.Delivery.{Delivery, delivered, own_notices, add_buffer, known_by, refer, make_objects, buffer_of, add_notice, withdraw_notice}
+use Rattle.bd_space.specs.Transactions.{transaction_check, transacted, called, call_out}
+use Rattle.bd_space.specs.Replies.{reply_check, replied}
+use Rattle.bd_space.specs.Freeing.{without_buffer}
+use Rattle.bd_space.specs.Asking.{ask, drop_asked, acknowledge}
+use Rattle.bd_space.specs.Commands.{with_looping}
+use Rattle.bd_space.specs.Deaths.{with_phase, with_death, without_death, mark_cleared, requested, death_ended, cleared, death_done, owner_lives_in, is_out}
+use Rattle.bd_space.specs.Reading.{read_by, told_of, is_told_by}
+use Rattle.bd_space.specs.Exits.{thread_goes, threads_go, without_process, tell_death, tell_deaths, seat_of, is_armed}
+use Rattle.bd_space.specs.Steps.{change, counted, with_thread, with_process, with_manager}
+use Rattle.bd_space.specs.Histories.{next}
+use Rattle.bd_audit.proofs.Lists.{In, Pairs, in-append, in-push, in-filter, in-changed, find-in, pairs-either, pairs-filter, fold-keeps}
+use Rattle.bd_audit.proofs.Tests.{same-eq}
+use Rattle.bd_audit.proofs.EveryStep.{Keeps, every_step}
+use Rattle.bd_audit.proofs.Checks.{transaction-checked, reply-checked, actor-lives}
+use Rattle.bd_audit.proofs.Sendings.{Here, Differ, Sends, sending-sends}
+use Rattle.bd_audit.proofs.Objects.{KeptBefore, IsKept, IsKeptWhole, kept-step, step-kept, opening-kept, closed-before, closed-sends, delivered-kept, told-id}
+use Rattle.bd_audit.proofs.Noticing.{Noticing, closed-noticing, step-noticing, opening-noticing}
+
+-- threads of q read the list
+abbrev pub Reaches : List Thread → TodoList → ℕ → Type 0
+Reaches threads (OfProcess p) q = p ≡ q
+Reaches threads (OfThread t) q = (x : Thread) × (thread_in threads t ≡ Some x) × (x.process ≡ q)
+
+-- each Notice stands where its object's owner reads
+abbrev pub Sits : List Thread → List Object → List Work → Type 0
+Sits threads objects todo = (w : Work) (o : ObjectId) (x : Object) → In w todo → notice_of w.kind ≡ Some o → In x objects → x.id ≡ o → Reaches threads w.list x.owner
+
+abbrev pub SitsIn : Space → Type 0
+SitsIn z = Sits z.threads z.objects z.todo
+
+-- ---- work items
+
+sits-other : (place : ℕ) (threads : List Thread) (objects : List Object) (todo : List Work) (list : TodoList) (kind : WorkKind) → notice_of kind ≡ None → Sits threads objects todo
+    → Sits threads objects (with_work place todo list kind)
+sits-other place threads objects todo list kind none h = λ w o x l e i is.
+    elim (in-push w _ todo l) [ inl k ↦ h w o x k e i is | inr new ↦ (let same_kind : kind ≡ w.kind = ap (λ (v : Work). v.kind) new in absurd (cc)) ]
+
+owe-sits : (z : Space) (list : TodoList) (kind : WorkKind) → notice_of kind ≡ None → SitsIn z → SitsIn (owe z list kind)
+unfolding owe
+owe-sits z list kind none h = sits-other z.steps z.threads z.objects z.todo list kind none h
+
+sits-filter : (threads : List Thread) (objects : List Object) (p : Work → Bool) (todo : List Work) → Sits threads objects todo → Sits threads objects (filter p todo)
+sits-filter threads objects p todo h = λ w o x l e i is. h w o x (in-filter p w todo l).0 e i is
+
+-- a Notice of an object that q owns, on a list of q's
+sits-notice : (place : ℕ) (processes : List Process) (references : List Reference) (threads : List Thread) (objects : List Object) (list : TodoList) (todo : List Work) (y : Object)
+    → ((x : Object) → In x objects → x.id ≡ y.id → Reaches threads list x.owner) → Sits threads objects todo → Sits threads objects (with_notice place processes references list todo y)
+sits-notice place processes references threads objects list todo y reach h = at (wants_notice processes references y && not (has_notice_in todo y.id))
+  where
+    at : (b : Bool) → Sits threads objects (cond b (with_work place todo list (work.Notice y.id)) todo)
+    at false = h
+    at true = λ w o x l e i is. elim (in-push w _ todo l) [
+      | inl k ↦ h w o x k e i is
+      | inr new ↦ (
+          let same_kind : notice_of (work.Notice y.id) ≡ notice_of w.kind = ap (λ (v : Work). notice_of v.kind) new in
+          let id : y.id ≡ o = cc in
+          subst (λ (v : Work). Reaches threads v.list x.owner) new (reach x i (is ∙ sym id)))
+    ]
+
+-- ---- transactions and replies
+
+pub actor-process : (s : Space) (seat : ℕ) (a : Actor) → actor s seat ≡ Some a → a.thread.process ≡ a.process.made
+actor-process s seat a e =
+    let l = find-in (λ (q : Process). q.made == a.thread.process) a.process s.processes (actor-lives s seat a e).1 in
+    sym (eqb-true a.process.made a.thread.process l.1)
+
+pub actor-seat : (s : Space) (seat : ℕ) (a : Actor) → actor s seat ≡ Some a → thread_in s.threads a.thread.seat ≡ Some a.thread
+actor-seat s seat a e =
+    let found = (actor-lives s seat a e).0 in
+    let l = find-in (λ (t : Thread). t.seat == seat) a.thread s.threads found in
+    subst (λ n. thread_in s.threads n ≡ Some a.thread) (sym (eqb-true a.thread.seat seat l.1)) found
+
+withdrawn-sits : (threads : List Thread) (objects : List Object) (b : Bool) (p : Work → Bool) (todo : List Work) → Sits threads objects todo → Sits threads objects (cond b (filter p todo) todo)
+withdrawn-sits threads objects true p todo h = sits-filter threads objects p todo h
+withdrawn-sits threads objects false p todo h = h
+
+-- the objects that p sends as its own are p's
+own_notices-sits : (z : Space) (seat p : ℕ) (items : List Item) → Reaches z.threads (OfThread seat) p
+    → ((i : Item) → In i items → is_own i.flat.kind ≡ true → (x : Object) → In x z.objects → x.id ≡ i.object → x.owner ≡ p) → SitsIn z → SitsIn (own_notices z seat items)
+unfolding own_notices
+own_notices-sits z seat p items reach owned h =
+    fold-keeps (Sits z.threads z.objects) (add_notice z seat) items (λ todo i l k. at i l todo k (is_own i.flat.kind) refl (object_in z.objects i.object) refl) _
+    (fold-keeps (Sits z.threads z.objects) (withdraw_notice z.objects) items (λ todo i l k. withdrawn-sits z.threads z.objects _ _ todo k) z.todo h)
+  where
+    at : (i : Item) → In i items → (todo : List Work) → Sits z.threads z.objects todo → (own : Bool) → is_own i.flat.kind ≡ own → (f : Option Object) → object_in z.objects i.object ≡ f
+        → Sits z.threads z.objects (cond own (elim f as (λ (x : Option Object). List Work) [ None ↦ todo | Some x ↦ with_notice z.steps z.processes z.references (OfThread seat) todo x ]) todo)
+    at i l todo k false e f g = k
+    at i l todo k true e None g = k
+    at i l todo k true e (Some y) g =
+        let id = same-eq y.id i.object (find-in (λ (x : Object). same x.id i.object) y z.objects g).1 in
+        sits-notice z.steps z.processes z.references z.threads z.objects (OfThread seat) todo y
+        (λ x m is. (reach.0, reach.1, reach.2 ∙ sym (owned i l e x m (is ∙ id)))) k
+
+delivered-sits : (s : Space) (a : Actor) (d : TransactionData) (v : Delivery) → KeptBefore s → Noticing s → Sends s a.process.made v.sending.made v.sending.items
+    → Pairs Differ (delivered s a d v).objects → Reaches s.threads (OfThread a.thread.seat) a.process.made → SitsIn s → SitsIn (delivered s a d v)
+unfolding delivered add_buffer known_by assign_numbers refer make_objects own_notices
+delivered-sits s a d v kept noticing sends differ reach h =
+    own_notices-sits (add_buffer (known_by s v) (buffer_of (known_by s v) a d v)) a.thread.seat a.process.made v.sending.items reach
+    (λ i l own x m is.
+    let w = sends.owned i l own in
+    elim (pairs-either Differ (s.objects ++ v.sending.made) differ x w.0 m w.1) [
+      | inl e ↦ ap (λ (y : Object). y.owner) e ∙ w.3
+      | inr e ↦ elim e [ inl f ↦ absurd (f (is ∙ sym w.2)) | inr f ↦ absurd (f (w.2 ∙ sym is)) ]
+    ])
+    (λ w o x l e i is. elim (in-append x s.objects v.sending.made i) [
+      | inl k ↦ h w o x l e k is
+      | inr k ↦ (
+          let old = noticing.live w o l e in
+          let lt = kept.kept.below old.0 old.1 in
+          let at = sends.makes.place x k in
+          let place : x.id.place ≡ old.0.id.place = ap (λ (j : ObjectId). j.place) (is ∙ sym old.2) in absurd (omega arith))
+    ])
+
+called-sits : (z : Space) (seat p : ℕ) (one_way : Bool) → SitsIn z → SitsIn (called z seat p one_way)
+unfolding call_out
+called-sits z seat p true h = h
+called-sits z seat p false h = owe-sits _ (goes_to z seat p) (work.Call z.steps) refl h
+
+-- what the delivery makes differs from what there was
+delivered-differ : (s : Space) (a : Actor) (d : TransactionData) (v : Delivery) → KeptBefore s → Sends s a.process.made v.sending.made v.sending.items → ((o : ObjectId) → v.target ≡ Some o → Here s.objects o)
+    → Pairs Differ (delivered s a d v).objects
+delivered-differ s a d v kept sends target = (delivered-kept s a d v kept sends target).differ
+
+transacted-sits : (s : Space) (seat : ℕ) (a : Actor) (d : TransactionData) (parcel : Option Parcel) (v : Delivery) → KeptBefore s → Noticing s → actor s seat ≡ Some a → transaction_check s a d parcel ≡ Ok v
+    → SitsIn s → SitsIn (transacted s a d v)
+unfolding transacted
+transacted-sits s seat a d parcel v kept noticing e check h =
+    let t = transaction-checked s a d parcel v check in
+    let z = delivered s a d v in
+    let sends = sending-sends s a.process.made d parcel v.sending t.sends in
+    let differ = delivered-differ s a d v kept sends (λ o f. let is : t.object ≡ o = (let k = t.target in cc) in (t.owned.object, t.owned.here, t.owned.id ∙ is)) in
+    called-sits (owe z (OfThread a.thread.seat) work.Complete) a.thread.seat v.receiver.made v.one_way
+    (owe-sits z (OfThread a.thread.seat) work.Complete refl (delivered-sits s a d v kept noticing sends differ (a.thread, actor-seat s seat a e, actor-process s seat a e) h))
+
+answered-sits : (z : Space) (caller : Option ℕ) (n : ℕ) → SitsIn z → SitsIn (elim caller as (λ (o : Option ℕ). Space) [ None ↦ z | Some t ↦ owe z (OfThread t) (work.Reply n) ])
+answered-sits z None n h = h
+answered-sits z (Some t) n h = owe-sits z (OfThread t) (work.Reply n) refl h
+
+closed-sits : (z : Space) (made : ℕ) → SitsIn z → SitsIn (closed z made)
+unfolding closed
+closed-sits z made h = h
+
+closed-reaches : (z : Space) (made seat p : ℕ) → Reaches z.threads (OfThread seat) p → Reaches (closed z made).threads (OfThread seat) p
+unfolding closed
+closed-reaches z made seat p h = h
+
+replied-sits : (s : Space) (seat : ℕ) (a : Actor) (d : TransactionData) (parcel : Option Parcel) (f : Frame) (v : Delivery) → KeptBefore s → Noticing s → actor s seat ≡ Some a → reply_check s a d parcel f ≡ Ok v
+    → SitsIn s → SitsIn (replied s a d f v)
+unfolding replied
+replied-sits s seat a d parcel f v kept noticing e check h =
+    let t = reply-checked s a d parcel f v check in
+    let x = closed s f.made in
+    let z = delivered x a d v in
+    let before = closed-before s f.made kept in
+    let sends = closed-sends s f.made a.process.made v.sending.made v.sending.items (sending-sends s a.process.made d parcel v.sending t.sends) in
+    let differ = delivered-differ x a d v before sends (λ o g. let none = t.target in absurd (cc)) in
+    answered-sits (owe z (OfThread a.thread.seat) work.Complete) f.caller s.steps
+    (owe-sits z (OfThread a.thread.seat) work.Complete refl
+    (delivered-sits x a d v before (closed-noticing s f.made noticing) sends differ
+    (closed-reaches s f.made a.thread.seat a.process.made (a.thread, actor-seat s seat a e, actor-process s seat a e)) (closed-sits s f.made h)))
+
+-- ---- deaths
+
+if-sits : (z y : Space) (b : Bool) → SitsIn z → SitsIn y → SitsIn (cond b z y)
+if-sits z y true h k = h
+if-sits z y false h k = k
+
+requested-sits : (z : Space) (p : ℕ) (o : ObjectId) (cookie : ℕ) → SitsIn z → SitsIn (requested z p o cookie)
+unfolding requested with_death
+requested-sits z p o cookie h =
+    if-sits _ _ (owner_lives_in z.processes z.objects o) h (owe-sits (with_death z p o cookie Queued) (OfProcess p) (work.Death z.steps) refl h)
+
+death_ended-sits : (z : Space) (seat : ℕ) (x : DeathNotification) → SitsIn z → SitsIn (death_ended z seat x)
+unfolding death_ended without_death
+death_ended-sits z seat x h = owe-sits (without_death z x.made) (OfThread seat) (work.Cleared x.cookie) refl h
+
+cleared-sits : (z : Space) (seat : ℕ) (x : DeathNotification) → SitsIn z → SitsIn (cleared z seat x)
+unfolding cleared mark_cleared
+cleared-sits z seat x h = if-sits _ _ (is_out x.phase) h (death_ended-sits z seat x h)
+
+death_done-sits : (z : Space) (seat : ℕ) (x : DeathNotification) → SitsIn z → SitsIn (death_done z seat x)
+unfolding death_done with_phase
+death_done-sits z seat x h = if-sits _ _ x.cleared (death_ended-sits z seat x h) h
+
+tell_death-sits : (p : ℕ) (z : Space) (x : DeathNotification) → SitsIn z → SitsIn (tell_death p z x)
+unfolding with_phase
+tell_death-sits p z x h =
+    if-sits _ z (is_armed x.phase && owned_in z.objects p x.object) (owe-sits (with_phase z x.made Queued) (OfProcess x.process) (work.Death x.made) refl h) h
+
+tell_deaths-sits : (z : Space) (p : ℕ) → SitsIn z → SitsIn (tell_deaths z p)
+unfolding tell_deaths
+tell_deaths-sits z p h = fold-keeps SitsIn (tell_death p) z.deaths (λ y x l k. tell_death-sits p y x k) z h
+
+-- ---- threads
+
+-- the same threads are found, or more
+reaches-more : (threads more : List Thread) (list : TodoList) (q : ℕ) → ((t : ℕ) (x : Thread) → thread_in threads t ≡ Some x → (y : Thread) × (thread_in more t ≡ Some y) × (y.process ≡ x.process))
+    → Reaches threads list q → Reaches more list q
+reaches-more threads more (OfProcess p) q k h = h
+reaches-more threads more (OfThread t) q k h = let y = k t h.0 h.1 in (y.0, y.1, y.2 ∙ h.2)
+
+find-front : {A : Type 0} (p : A → Bool) (x : A) (xs ys : List A) → find p xs ≡ Some x → find p (xs ++ ys) ≡ Some x
+find-front p x [] ys h = absurd (cc)
+find-front p x (y ∷ xs) ys h = at (p y) h (find-front p x xs ys)
+  where
+    at : (b : Bool) → cond b (Some y) (find p xs) ≡ Some x → (find p xs ≡ Some x → find p (xs ++ ys) ≡ Some x) → cond b (Some y) (find p (xs ++ ys)) ≡ Some x
+    at true e k = e
+    at false e k = k e
+
+with_thread-sits : (z : Space) (seat p : ℕ) → SitsIn z → SitsIn (with_thread z seat p)
+unfolding with_thread
+with_thread-sits z seat p h = λ w o x l e i is.
+    reaches-more z.threads _ w.list x.owner (λ t y f. (y, find-front (λ (u : Thread). u.seat == t) y z.threads _ f, refl)) (h w o x l e i is)
+
+opened-sits : (z : Space) (seat pid euid window : ℕ) → SitsIn z → SitsIn (with_thread (with_process z pid euid window) seat z.steps)
+unfolding with_process
+opened-sits z seat pid euid window h = with_thread-sits _ seat z.steps h
+
+-- a thread that changes, but for its seat and its process
+find-changed : (t : ℕ) (p : Thread → Bool) (f : Thread → Thread) (x : Thread) (xs : List Thread) → ((y : Thread) → (f y).seat ≡ y.seat) → ((y : Thread) → (f y).process ≡ y.process) → thread_in xs t ≡ Some x
+    → (y : Thread) × (thread_in (changed p f xs) t ≡ Some y) × (y.process ≡ x.process)
+find-changed t p f x [] seat process h = absurd (cc)
+find-changed t p f x (z ∷ zs) seat process h = at (p z) (z.seat == t) refl h (find-changed t p f x zs seat process)
+  where
+    at : (b c : Bool) → (z.seat == t) ≡ c → cond c (Some z) (thread_in zs t) ≡ Some x → (thread_in zs t ≡ Some x → (y : Thread) × (thread_in (changed p f zs) t ≡ Some y) × (y.process ≡ x.process))
+        → (y : Thread) × (cond ((cond b (f z) z).seat == t) (Some (cond b (f z) z)) (thread_in (changed p f zs) t) ≡ Some y) × (y.process ≡ x.process)
+    at true true e g k = let is : z ≡ x = cc in (f z, ap (λ n. cond (n == t) (Some (f z)) (thread_in (changed p f zs) t)) (seat z) ∙ ap (λ c. cond c (Some (f z)) (thread_in (changed p f zs) t)) e, process z ∙ ap (λ (y : Thread). y.process) is)
+    at true false e g k = let r = k g in (r.0, ap (λ n. cond (n == t) (Some (f z)) (thread_in (changed p f zs) t)) (seat z) ∙ ap (λ c. cond c (Some (f z)) (thread_in (changed p f zs) t)) e ∙ r.1, r.2)
+    at false true e g k = let is : z ≡ x = cc in (z, ap (λ c. cond c (Some z) (thread_in (changed p f zs) t)) e, ap (λ (y : Thread). y.process) is)
+    at false false e g k = let r = k g in (r.0, ap (λ c. cond c (Some z) (thread_in (changed p f zs) t)) e ∙ r.1, r.2)
+
+with_looping-sits : (z : Space) (seat : ℕ) (looping : Bool) → SitsIn z → SitsIn (with_looping z seat looping)
+unfolding with_looping
+with_looping-sits z seat looping h = λ w o x l e i is.
+    reaches-more z.threads _ w.list x.owner (λ t y f. find-changed t (λ (u : Thread). u.seat == seat) (λ (u : Thread). record u { looping = looping }) y z.threads (λ u. refl) (λ u. refl) f) (h w o x l e i is)
+
+-- a thread of another seat is still found
+find-others : (t seat : ℕ) (x : Thread) (xs : List Thread) → (t == seat) ≡ false → thread_in xs t ≡ Some x → thread_in (filter (λ u. not (u.seat == seat)) xs) t ≡ Some x
+find-others t seat x [] other h = absurd (cc)
+find-others t seat x (y ∷ ys) other h = at (y.seat == seat) (y.seat == t) refl refl h (find-others t seat x ys other)
+  where
+    at : (b c : Bool) → (y.seat == seat) ≡ b → (y.seat == t) ≡ c → cond c (Some y) (thread_in ys t) ≡ Some x
+        → (thread_in ys t ≡ Some x → thread_in (filter (λ u. not (u.seat == seat)) ys) t ≡ Some x)
+        → thread_in (cond (not b) (y ∷ filter (λ u. not (u.seat == seat)) ys) (filter (λ u. not (u.seat == seat)) ys)) t ≡ Some x
+    at true true f e g k =
+        let is : t ≡ seat = sym (eqb-true y.seat t e) ∙ eqb-true y.seat seat f in
+        let wrong = eq-eqb t seat is in absurd (cc)
+    at true false f e g k = k g
+    at false true f e g k = ap (λ c. cond c (Some y) (thread_in (filter (λ u. not (u.seat == seat)) ys) t)) e ∙ g
+    at false false f e g k = ap (λ c. cond c (Some y) (thread_in (filter (λ u. not (u.seat == seat)) ys) t)) e ∙ k g
+
+thread_goes-sits : (z : Space) (seat : ℕ) → SitsIn z → SitsIn (thread_goes z seat)
+unfolding thread_goes
+thread_goes-sits z seat h = λ w o x l e i is.
+    let k = in-filter (λ (v : Work). not (is_on (OfThread seat) v)) w z.todo l in
+    elsewhere w.list x.owner k.1 (h w o x k.0 e i is)
+  where
+    elsewhere : (list : TodoList) (q : ℕ) → not (same_list (OfThread seat) list) ≡ true → Reaches z.threads list q → Reaches (filter (λ t. not (t.seat == seat)) z.threads) list q
+    elsewhere (OfProcess p) q f r = r
+    elsewhere (OfThread t) q f r = (r.0, find-others t seat r.0 z.threads (at (t == seat) refl f) r.1, r.2)
+      where
+        at : (b : Bool) → (t == seat) ≡ b → not (seat == t) ≡ true → b ≡ false
+        at false g m = refl
+        at true g m = let yes = eq-eqb seat t (sym (eqb-true t seat g)) in absurd (cc)
+
+threads_go-sits : (z : Space) (p : ℕ) → SitsIn z → SitsIn (threads_go z p)
+unfolding threads_go
+threads_go-sits z p h = fold-keeps SitsIn thread_goes (map seat_of (filter (λ (t : Thread). t.process == p) z.threads)) (λ y t l k. thread_goes-sits y t k) z h
+
+without_process-sits : (z : Space) (p : ℕ) → SitsIn z → SitsIn (without_process z p)
+unfolding without_process
+without_process-sits z p h = sits-filter z.threads z.objects (λ (w : Work). not (is_on (OfProcess p) w)) z.todo h
+
+-- ---- reading and ripening
+
+told-owner : (references : List Reference) (b : Bool) (x : Object) → (cond b (told_of references x) x).owner ≡ x.owner
+told-owner references true x = refl
+told-owner references false x = refl
+
+read-sits : (s : Space) (seat : ℕ) (ws : List Work) → SitsIn s → SitsIn (read_by s seat ws)
+unfolding read_by
+read-sits s seat ws h = λ w o x l e i is.
+    let y = in-changed (λ (x : Object). is_told_by ws x.id) (told_of s.references) x s.objects i in
+    let id : y.0.id ≡ o = sym (told-id s.references (is_told_by ws y.0.id) y.0) ∙ sym (ap (λ (z : Object). z.id) y.2) ∙ is in
+    let owner : y.0.owner ≡ x.owner = sym (told-owner s.references (is_told_by ws y.0.id) y.0) ∙ sym (ap (λ (z : Object). z.owner) y.2) in
+    subst (Reaches s.threads w.list) owner (h w o y.0 (in-filter (λ (w : Work). not (list_any (λ (d : Work). same_identity w.id d.id) ws)) w s.todo l).0 e y.1 id)
+
+ripens-if : (place : ℕ) (threads : List Thread) (objects : List Object) (b : Bool) (todo : List Work) (t : Turn) → Sits threads objects todo
+    → Sits threads objects (cond b (with_work place todo (OfProcess t.receiver) (work.Call t.made)) todo)
+ripens-if place threads objects true todo t h = sits-other place threads objects todo (OfProcess t.receiver) (work.Call t.made) refl h
+ripens-if place threads objects false todo t h = h
+
+ripened-sits : (place : ℕ) (threads : List Thread) (objects : List Object) (ts older : List Turn) (todo : List Work) → Sits threads objects todo → Sits threads objects (ripened place older todo ts)
+ripened-sits place threads objects [] older todo h = h
+ripened-sits place threads objects (t ∷ ts) older todo h = ripened-sits place threads objects ts (older ++ t ∷ []) _ (ripens-if place threads objects (is_ripe todo older t) todo t h)
+
+ripen-sits : (z : Space) → SitsIn z → SitsIn (ripen z)
+unfolding ripen
+ripen-sits z h = ripened-sits z.steps z.threads z.objects (turns_of z.buffers) [] z.todo h
+
+-- ---- what follows
+
+notify-sits : (z : Space) → Pairs Differ z.objects → SitsIn z → SitsIn (notify z)
+unfolding notify
+notify-sits z differ h =
+    fold-keeps (Sits z.threads z.objects) (λ todo (x : Object). with_notice z.steps z.processes z.references (OfProcess x.owner) todo x) z.objects
+    (λ todo y l k. sits-notice z.steps z.processes z.references z.threads z.objects (OfProcess y.owner) todo y
+    (λ x i is. elim (pairs-either Differ z.objects differ y x l i) [
+      | inl e ↦ ap (λ (v : Object). v.owner) e
+      | inr e ↦ elim e [ inl f ↦ absurd (f (sym is)) | inr f ↦ absurd (f is) ]
+    ]) k) z.todo h
+
+objects_go-sits : (z : Space) → SitsIn z → SitsIn (objects_go z)
+unfolding objects_go
+objects_go-sits z h = λ w o x l e i is. h w o x l e (in-filter (stays_in z.processes z.references) x z.objects i).0 is
+
+objects_go-differ : (z : Space) → Pairs Differ z.objects → Pairs Differ (objects_go z).objects
+unfolding objects_go
+objects_go-differ z h = pairs-filter Differ (stays_in z.processes z.references) z.objects h
+
+work_goes-sits : (z : Space) → SitsIn z → SitsIn (work_goes z)
+unfolding work_goes
+work_goes-sits z h = sits-filter z.threads z.objects (λ (w : Work). still_due z.processes z.objects z.references z.deaths w.kind) z.todo h
+
+follow-sits : (z : Space) → Pairs Differ z.objects → SitsIn z → SitsIn (follow z)
+unfolding follow names_go deaths_go work_goes
+follow-sits z differ h =
+    let y = objects_go (names_go z) in
+    notify-sits (work_goes (deaths_go y)) (objects_go-differ (names_go z) differ) (work_goes-sits (deaths_go y) (objects_go-sits (names_go z) h))
+
+-- ---- every step
+
+managed-sits : (s : Space) (p : ℕ) → KeptBefore s → Noticing s → SitsIn s → SitsIn (with_manager s p)
+unfolding with_manager
+managed-sits s p kept noticing h = λ w o x l e i is. elim (in-push x _ s.objects i) [
+  | inl k ↦ h w o x l e k is
+  | inr new ↦ (
+      let old = noticing.live w o l e in
+      let lt = kept.kept.below old.0 old.1 in
+      let place : s.steps ≡ old.0.id.place = ap (λ (y : Object). y.id.place) new ∙ ap (λ (j : ObjectId). j.place) (is ∙ sym old.2) in absurd (omega arith))
+]
+
+abbrev Within : Space → Type 0
+Within z = IsKept z × SitsIn z
+
+abbrev After : Space → Type 0
+After z = IsKeptWhole z × SitsIn z
+
+sitting-step : (s : Space) (seat : ℕ) (x : Step) → KeptBefore s → Noticing s → SitsIn s → Keeps s seat x Within After
+unfolding without_buffer ask assign_numbers drop_asked acknowledge
+sitting-step s seat x kept noticing h =
+    let k = kept-step s seat x kept in
+    record {
+      same = (k.same, h);
+      opened = λ pid euid window. (k.opened pid euid window, opened-sits s seat pid euid window h);
+      attached = λ p. (k.attached p, with_thread-sits s seat p h);
+      managed = λ a e b. (k.managed a e b, managed-sits s a.process.made kept noticing h);
+      transacts = λ a d parcel v e i t. (k.transacts a d parcel v e i t, transacted-sits s seat a d parcel v kept noticing i t h);
+      replies = λ a d parcel f v e i g t. (k.replies a d parcel f v e i g t, replied-sits s seat a d parcel f v kept noticing i t h);
+      frees = λ p ptr b e t. (k.frees p ptr b e t, h);
+      asks = λ a n strong o e i t. (k.asks a n strong o e i t, h);
+      drops = λ p o strong. (k.drops p o strong, h);
+      acknowledges = λ o strong i. (k.acknowledges o strong i, h);
+      loops = λ t looping. (k.loops t looping, with_looping-sits s t looping h);
+      requests = λ p o cookie. (k.requests p o cookie, requested-sits s p o cookie h);
+      clears = λ t y. (k.clears t y, cleared-sits s t y h);
+      is_done = λ t y. (k.is_done t y, death_done-sits s t y h);
+      reads = λ a limit e i n. (k.reads a limit e i n, read-sits s a.thread.seat _ h);
+      leaves = λ a e. (k.leaves a e, thread_goes-sits s a.thread.seat h);
+      ends = λ a e. (
+        k.ends a e,
+        tell_deaths-sits (without_process (threads_go s a.process.made) a.process.made) a.process.made
+            (without_process-sits (threads_go s a.process.made) a.process.made (threads_go-sits s a.process.made h)),
+      );
+      ripens = λ z l. (k.ripens z l.0, ripen-sits z l.1);
+      follows = λ z l. (k.follows z l.0, follow-sits z l.0.differ l.1);
+      closes = λ z made l. (k.closes z made l.0, closed-sits z made l.1);
+      refuses = λ z t r l. (k.refuses z t r l.0, owe-sits z (OfThread t) (work.Refusal r) refl l.1);
+      tells = λ z t r l. (k.tells z t r l.0, owe-sits z (OfThread t) (work.Verdict r) refl l.1);
+    }
+
+-- what holds before each step
+pub record Placed (s : Space) : Type 0 where
+  pub kept : KeptBefore s
+  pub noticing : Noticing s
+  pub sits : SitsIn s
+
+counted-sits : (z : Space) → SitsIn z → SitsIn (counted z)
+unfolding counted
+counted-sits z h = h
+
+pub step-placed : (s : Space) (e : Entry) → Placed s → Placed (next s e)
+step-placed s e h = record {
+  kept = step-kept s e h.kept;
+  noticing = step-noticing s e h.noticing;
+  sits = counted-sits (change s e.seat e.step).space (every_step s e.seat e.step Within After (sitting-step s e.seat e.step h.kept h.noticing h.sits)).1;
+}
+
+pub opening-placed : Placed opening
+opening-placed = record { kept = opening-kept; noticing = opening-noticing; sits = λ w o x l e i is. absurd l }

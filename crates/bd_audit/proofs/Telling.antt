@@ -1,0 +1,420 @@
+-- What an owner was told of an object agrees with what it has heard of it.
+use Rattle.std.proofs.Common.{◌≡◌, ℕ, ◌+◌, ◌≤◌, ◌==◌, Bool, true, false, cond, not, ◌&&◌, ◌||◌, List, [], ◌∷◌, ◌++◌, Option, Some, None, Ok, ◌⊎◌, inl, inr, refl, ap, sym, subst, ◌∙◌, map, filter, arith}
+use Rattle.std.proofs.lemmas.Bool.{eqb-true}
+use Rattle.bd_uapi.specs.declared.command.TransactionData.{TransactionData}
+use Rattle.bd_space.specs.declared.step.ObjectId.{ObjectId}
+use Rattle.bd_space.specs.declared.step.Parcel.{Parcel}
+use Rattle.bd_space.specs.declared.step.Step.{Step}
+use Rattle.bd_space.specs.declared.space.Process.{Process}
+use Rattle.bd_space.specs.declared.space.Thread.{Thread}
+use Rattle.bd_space.specs.declared.space.Actor.{Actor}
+use Rattle.bd_space.specs.declared.space.Frame.{Frame}
+use Rattle.bd_space.specs.declared.space.Object.{Object}
+use Rattle.bd_space.specs.declared.space.Reference.{Reference}
+use Rattle.bd_space.specs.declared.space.Holder.{Holder}
+use Rattle.bd_space.specs.declared.space.Holder.TheVariants.{Asked, Carried, Target, Handshake, Manager}
+use Rattle.bd_space.specs.declared.space.Item.{Item}
+use Rattle.bd_space.specs.declared.space.WorkKind.TheVariants as work
+use Rattle.bd_space.specs.declared.space.TodoList.TheVariants.{OfThread}
+use Rattle.bd_space.specs.Words.{same, without_first}
+use Rattle.bd_space.specs.Space.{Space}
+use Rattle.bd_space.specs.Seats.{lives_in}
+use Rattle.bd_space.specs.References.{reference_of, held_in, owned_in, stays_in, objects_go, is_asking, is_asked_by, is_shaking, is_of_buffer, is_in_window, is_handshake, is_of_owner, buffer_of_holder, same_strength}
+use Rattle.bd_space.specs.Names.{names_go, assign_numbers}
+use Rattle.bd_space.specs.Frames.{closed}
+use Rattle.bd_space.specs.Todo.{owe}
+use Rattle.bd_space.specs.Turns.{ripen}
+use Rattle.bd_space.specs.Notices.{follow, notify, work_goes, deaths_go}
+use Rattle.bd_space.specs.Delivery.{Delivery, delivered, own_notices, add_buffer, known_by, refer, make_objects, buffer_references}
+use Rattle.bd_space.specs.Transactions.{transaction_check, transacted, called}
+use Rattle.bd_space.specs.Replies.{reply_check, replied}
+use Rattle.bd_space.specs.Asking.{ask, drop_asked}
+use Rattle.bd_space.specs.Freeing.{without_buffer}
+use Rattle.bd_space.specs.Exits.{thread_goes, threads_go, without_process, is_lost_reference, is_dropped_with, seat_of}
+use Rattle.bd_space.specs.Steps.{with_thread, with_process, with_manager}
+use Rattle.bd_audit.proofs.Orders.{Hearing, unheard, weakly, strongly, ended}
+use Rattle.bd_audit.proofs.Lists.{In, Pairs, in-left, in-append, in-push, in-last, in-filter, filter-in, without-in, any-found, any-in, pairs-either, fold-keeps}
+use Rattle.bd_audit.proofs.Tests.{both, not-true, same-eq}
+use Rattle.bd_audit.proofs.Tallies.{tally, tally-more, tally-none, tally-filter, tally-without}
+use Rattle.bd_audit.proofs.EveryStep.{Keeps, IsReading, IsAcknowledging}
+use Rattle.bd_audit.proofs.Untouched.{Untouched, owe-untouched, told-untouched, called-untouched, closed-untouched, ripen-untouched, with_looping-untouched, requested-untouched, cleared-untouched, death_done-untouched, tell_deaths-untouched}
+use Rattle.bd_audit.proofs.Checks.{transaction-checked, reply-checked}
+use Rattle.bd_audit.proofs.Sendings.{Differ, Sends, sending-sends}
+use Rattle.bd_audit.proofs.Objects.{KeptBefore, and-false, closed-before, closed-sends, later, threads_go-kept}
+use Rattle.bd_audit.proofs.TurnLog.{Before}
+
+-- ---- what has been heard
+
+abbrev pub is_weak : Hearing → Bool
+is_weak unheard = false
+is_weak (weakly i) = true
+is_weak (strongly i a) = true
+is_weak ended = false
+
+abbrev pub is_strong : Hearing → Bool
+is_strong unheard = false
+is_strong (weakly i) = false
+is_strong (strongly i a) = true
+is_strong ended = false
+
+-- whether the acknowledgement of this strength is waited for
+abbrev pub waits : Hearing → Bool → Bool
+waits unheard strong = false
+waits (weakly i) strong = cond strong false i
+waits (strongly i a) strong = cond strong a i
+waits ended strong = false
+
+abbrev pub number : Bool → ℕ
+number b = cond b 1 0
+
+-- ---- what was told
+
+-- the Handshake references on the object in this strength
+abbrev pub shaken : List Reference → ObjectId → Bool → ℕ
+shaken references o strong = tally (is_shaking o strong) references
+
+-- the object's told values are what was heard, and its Handshakes what is waited for; if it is over, E
+pub record Told (E : Type 0) (references : List Reference) (o : ObjectId) (x : Object) (st : Hearing) : Type 0 where
+  pub weak : x.told_weak ≡ is_weak st
+  pub strong : x.told_strong ≡ is_strong st
+  pub shakes : (b : Bool) → shaken references o b ≡ number (waits st b)
+  pub over : st ≡ ended → E
+
+-- the context manager's object is told both, and its owner hears nothing of it
+pub record Managed (references : List Reference) (o : ObjectId) (x : Object) (st : Hearing) : Type 0 where
+  pub start : st ≡ unheard
+  pub weak : x.told_weak ≡ true
+  pub strong : x.told_strong ≡ true
+  pub manager : (r : Reference) × In r references × (r.object ≡ o) × (r.holder ≡ Manager) × (r.strong ≡ true)
+  pub shakes : (b : Bool) → shaken references o b ≡ 0
+
+abbrev pub Tells : Type 0 → List Reference → ObjectId → Object → Hearing → Type 0
+Tells E references o x st = Managed references o x st ⊎ Told E references o x st
+
+-- so it is with the object as long as its owner lives
+abbrev pub Tracks : Type 0 → ObjectId → Hearing → Space → Type 0
+Tracks E o st z = (x : Object) → In x z.objects → x.id ≡ o → lives_in z.processes x.owner ≡ true → Tells E z.references o x st
+
+-- what holds before each step
+pub record HeardBefore (o : ObjectId) (st : Hearing) (s : Space) : Type 0 where
+  pub tracks : Tracks ⊥ o st s
+  pub fresh : s.steps ≤ o.place → st ≡ unheard
+
+-- ---- references
+
+pub shaking-parts : (o : ObjectId) (b : Bool) (r : Reference) → is_shaking o b r ≡ true → (r.object ≡ o) × (is_handshake r.holder ≡ true) × (same_strength b r ≡ true)
+shaking-parts o b r h =
+    let k = both (same_strength b r && same r.object o) (is_handshake r.holder) h in
+    let l = both (same_strength b r) (same r.object o) k.0 in
+    (same-eq r.object o l.1, k.1, l.0)
+
+handshake-own : (h : Holder) → is_handshake h ≡ true → is_of_owner h ≡ true
+handshake-own Handshake e = refl
+handshake-own Manager e = absurd (cc)
+handshake-own (Asked q) e = absurd (cc)
+handshake-own (Carried b q) e = absurd (cc)
+handshake-own (Target b q) e = absurd (cc)
+
+own-unasked : (h : Holder) (p : ℕ) → is_of_owner h ≡ true → is_asked_by p h ≡ false
+own-unasked Handshake p e = refl
+own-unasked Manager p e = refl
+own-unasked (Asked q) p e = absurd (cc)
+own-unasked (Carried b q) p e = absurd (cc)
+own-unasked (Target b q) p e = absurd (cc)
+
+own-window : (h : Holder) (p : ℕ) → is_of_owner h ≡ true → is_in_window p h ≡ false
+own-window Handshake p e = refl
+own-window Manager p e = refl
+own-window (Asked q) p e = absurd (cc)
+own-window (Carried b q) p e = absurd (cc)
+own-window (Target b q) p e = absurd (cc)
+
+own-buffer : (h : Holder) → is_of_owner h ≡ true → buffer_of_holder h ≡ None
+own-buffer Handshake e = refl
+own-buffer Manager e = refl
+own-buffer (Asked q) e = absurd (cc)
+own-buffer (Carried b q) e = absurd (cc)
+own-buffer (Target b q) e = absurd (cc)
+
+-- the owner's own references on the object are the same
+pub record Same (o : ObjectId) (more references : List Reference) : Type 0 where
+  pub shakes : (b : Bool) → shaken references o b ≡ shaken more o b
+  pub manages : (r : Reference) → In r more → r.object ≡ o → r.holder ≡ Manager → In r references
+
+pub tells-same : (E D : Type 0) (o : ObjectId) (more references : List Reference) (x : Object) (st : Hearing) → Same o more references → (E → D) → Tells E more o x st → Tells D references o x st
+tells-same E D o more references x st k f (inl m) = inl (record {
+  start = m.start;
+  weak = m.weak;
+  strong = m.strong;
+  manager = let r = m.manager in (r.0, k.manages r.0 r.1 r.2 r.3, r.2, r.3, r.4);
+  shakes = λ b. k.shakes b ∙ m.shakes b;
+})
+tells-same E D o more references x st k f (inr t) =
+    inr (record { weak = t.weak; strong = t.strong; shakes = λ b. k.shakes b ∙ t.shakes b; over = λ e. f (t.over e) })
+
+pub same-more : (o : ObjectId) (references new : List Reference) → ((r : Reference) → In r new → is_handshake r.holder ≡ false) → Same o references (references ++ new)
+same-more o references new none = record {
+  shakes = λ b. tally-more (is_shaking o b) references new (λ r l. and-false (same_strength b r) (same r.object o) (is_handshake r.holder) (none r l));
+  manages = λ r l e m. in-left r references new l;
+}
+
+same-filter : (o : ObjectId) (references : List Reference) (p : Reference → Bool) → ((r : Reference) → r.object ≡ o → is_of_owner r.holder ≡ true → p r ≡ true)
+    → Same o references (filter p references)
+same-filter o references p stay = record {
+  shakes = λ b. tally-filter (is_shaking o b) p references (λ r l h. let k = shaking-parts o b r h in stay r k.0 (handshake-own r.holder k.1));
+  manages = λ r l e m. filter-in p r references l (stay r e (rw m refl));
+}
+
+same-without : (o : ObjectId) (references : List Reference) (p : Reference → Bool) → ((r : Reference) → is_of_owner r.holder ≡ true → p r ≡ false)
+    → Same o references (without_first p references)
+same-without o references p stay = record {
+  shakes = λ b. tally-without (is_shaking o b) p references (λ r h. stay r (handshake-own r.holder (shaking-parts o b r h).1));
+  manages = λ r l e m. without-in p r references l (stay r (rw m refl));
+}
+
+-- ---- parts of a step
+
+module _ (o : ObjectId) (st : Hearing) where
+  abbrev pub H : Space → Type 0
+  H z = Tracks ⊥ o st z
+
+  pub tracks-untouched : (E : Type 0) (z y : Space) → Untouched z y → Tracks E o st y → Tracks E o st z
+  tracks-untouched E z y u h = λ x l e live.
+      subst (λ rs. Tells E rs o x st) (sym u.references)
+      (h x (subst (In x) u.objects l) e (subst (λ ps. lives_in ps x.owner ≡ true) u.processes live))
+
+  pub tracks-weaker : (E : Type 0) (z : Space) → H z → Tracks E o st z
+  tracks-weaker E z h x l e live = elim (h x l e live) [
+    | inl m ↦ inl m
+    | inr t ↦ inr (record { weak = t.weak; strong = t.strong; shakes = t.shakes; over = λ is. absurd (t.over is) })
+  ]
+
+  -- where only references change
+  same-told : (objects : List Object) (processes : List Process) (more references : List Reference) → Same o more references
+      → ((x : Object) → In x objects → x.id ≡ o → lives_in processes x.owner ≡ true → Tells ⊥ more o x st)
+      → (x : Object) → In x objects → x.id ≡ o → lives_in processes x.owner ≡ true → Tells ⊥ references o x st
+  same-told objects processes more references k h x l e live = tells-same ⊥ ⊥ o more references x st k (λ n. n) (h x l e live)
+
+  without_buffer-told : (z : Space) (made : ℕ) → H z → H (without_buffer z made)
+  unfolding without_buffer
+  without_buffer-told z made h =
+      same-told z.objects z.processes z.references _ (same-filter o z.references (λ (r : Reference). not (is_of_buffer made r.holder)) (λ r e own. rw (own-buffer r.holder own) refl)) h
+
+  drop_asked-told : (z : Space) (p : ℕ) (i : ObjectId) (strong : Bool) → H z → H (drop_asked z p i strong)
+  unfolding drop_asked
+  drop_asked-told z p i strong h =
+      same-told z.objects z.processes z.references _
+      (same-without o z.references (is_asking p i strong) (λ r own. and-false (same_strength strong r) (same r.object i) _ (own-unasked r.holder p own))) h
+
+  ask-told : (z : Space) (p : ℕ) (i : ObjectId) (strong : Bool) → H z → H (ask z p i strong)
+  unfolding ask assign_numbers
+  ask-told z p i strong h =
+      same-told z.objects z.processes z.references _
+      (same-more o z.references (reference_of z.steps 0 i strong (Asked p) ∷ [])
+      (λ r l. elim l [ inl e ↦ (let is = ap (λ (q : Reference). is_handshake q.holder) e in sym is) | inr none ↦ absurd none ])) h
+
+  thread_goes-told : (z : Space) (seat : ℕ) → H z → H (thread_goes z seat)
+  unfolding thread_goes
+  thread_goes-told z seat h =
+      same-told z.objects z.processes z.references _
+      (same-filter o z.references (λ (r : Reference). not (is_lost_reference z.todo (OfThread seat) r)) (λ r e own. rw (own-buffer r.holder own) refl)) h
+
+  threads_go-told : (z : Space) (p : ℕ) → H z → H (threads_go z p)
+  unfolding threads_go
+  threads_go-told z p h = fold-keeps H thread_goes (map seat_of (filter (λ (t : Thread). t.process == p) z.threads)) (λ y t l k. thread_goes-told y t k) z h
+
+  -- ---- a process ends
+
+  -- an object of another process isn't p's
+  unowned : (objects : List Object) (p : ℕ) (x : Object) → Pairs Differ objects → In x objects → x.id ≡ o → (x.owner ≡ p → ⊥) → owned_in objects p o ≡ false
+  unowned objects p x differ l e other = at (owned_in objects p o) refl
+    where
+      at : (b : Bool) → owned_in objects p o ≡ b → b ≡ false
+      at false f = refl
+      at true f =
+          let y = any-found (λ (y : Object). same y.id o && (y.owner == p)) objects f in
+          let k = both (same y.0.id o) (y.0.owner == p) y.2 in
+          let is = e ∙ sym (same-eq y.0.id o k.0) in
+          let owner : y.0.owner ≡ p = eqb-true y.0.owner p k.1 in
+          elim (pairs-either Differ objects differ x y.0 l y.1) [
+            | inl q ↦ absurd (other (ap (λ (w : Object). w.owner) q ∙ owner))
+            | inr q ↦ elim q [ inl d ↦ absurd (d is) | inr d ↦ absurd (d (sym is)) ]
+          ]
+
+  -- a process that lives after p has ended lived before, and isn't p
+  outlives : (processes : List Process) (p q : ℕ) → lives_in (filter (λ y. not (y.made == p)) processes) q ≡ true → (lives_in processes q ≡ true) × (q ≡ p → ⊥)
+  outlives processes p q h =
+      let test = λ (y : Process). not (y.made == p) in
+      let y = any-found (λ (y : Process). y.made == q) (filter test processes) h in
+      let l = in-filter test y.0 processes y.1 in
+      let is : y.0.made ≡ q = eqb-true y.0.made q y.2 in
+      (any-in (λ (y : Process). y.made == q) y.0 processes l.0 y.2, λ e. let no = not-true (y.0.made == p) l.1 in let yes = subst (λ n. (y.0.made == n) ≡ true) e y.2 in absurd (cc))
+
+  without_process-told : (z : Space) (p : ℕ) → Pairs Differ z.objects → H z → H (without_process z p)
+  unfolding without_process
+  without_process-told z p differ h x l e live =
+      let k = outlives z.processes p x.owner live in
+      let other = unowned z.objects p x differ l e k.1 in
+      tells-same ⊥ ⊥ o z.references _ x st
+      (same-filter o z.references (λ (r : Reference). not (is_dropped_with z.objects p r))
+      (λ r is own. let not_owned : owned_in z.objects p r.object ≡ false = subst (λ i. owned_in z.objects p i ≡ false) (sym is) other in
+      rw (own-unasked r.holder p own, own-window r.holder p own, not_owned) refl))
+      (λ n. n) (h x l e k.0)
+
+  -- ---- objects that come
+
+  -- nothing refers to an object that isn't there yet
+  pub unreferred : (s : Space) → KeptBefore s → s.steps ≤ o.place → (b : Bool) → shaken s.references o b ≡ 0
+  unreferred s k new b = tally-none (is_shaking o b) s.references (λ r l. at r l (is_shaking o b r) refl)
+    where
+      at : (r : Reference) → In r s.references → (c : Bool) → is_shaking o b r ≡ c → c ≡ false
+      at r l false e = refl
+      at r l true e =
+          let x = k.kept.refs r l in
+          let lt = k.kept.below x.0 x.1 in
+          let is : x.0.id.place ≡ o.place = ap (λ (i : ObjectId). i.place) (x.2 ∙ (shaking-parts o b r e).0) in
+          absurd (omega arith)
+
+  opened-told : (s : Space) (seat pid euid window : ℕ) → Before s → H s → H (with_thread (with_process s pid euid window) seat s.steps)
+  unfolding with_thread with_process
+  opened-told s seat pid euid window before h x l e live =
+      let q = any-found (λ (y : Process). y.made == x.owner) _ live in
+      let is : q.0.made ≡ x.owner = eqb-true q.0.made x.owner q.2 in
+      h x l e (elim (in-push q.0 _ s.processes q.1) [
+        | inl i ↦ any-in (λ (y : Process). y.made == x.owner) q.0 s.processes i q.2
+        | inr new ↦ (let made : s.steps ≡ q.0.made = ap (λ (y : Process). y.made) new in let lt = before.received.owners x l in absurd (omega arith))
+      ])
+
+  attached-told : (s : Space) (seat p : ℕ) → H s → H (with_thread s seat p)
+  unfolding with_thread
+  attached-told s seat p h = h
+
+  managed-told : (s : Space) (p : ℕ) → Before s → HeardBefore o st s → H (with_manager s p)
+  unfolding with_manager
+  managed-told s p before h x l e live =
+      let r = reference_of s.steps 0 (record { place = s.steps; index = 0 }) true Manager in
+      let k = same-more o s.references (r ∷ []) (λ q i. elim i [ inl f ↦ (let is = ap (λ (y : Reference). is_handshake y.holder) f in sym is) | inr none ↦ absurd none ]) in
+      elim (in-push x _ s.objects l) [
+        | inl i ↦ tells-same ⊥ ⊥ o s.references _ x st k (λ n. n) (h.tracks x i e live)
+        | inr is ↦ (
+            let id : r.object ≡ o = ap (λ (y : Object). y.id) is ∙ e in
+            let place : s.steps ≡ o.place = ap (λ (i : ObjectId). i.place) id in
+            let new : s.steps ≤ o.place = omega arith in
+            inl (record {
+              start = h.fresh new;
+              weak = sym (ap (λ (y : Object). y.told_weak) is);
+              strong = sym (ap (λ (y : Object). y.told_strong) is);
+              manager = (r, in-last r s.references, id, refl, refl);
+              shakes = λ b. k.shakes b ∙ unreferred s before.objects new b;
+            }))
+      ]
+
+  not-ended : st ≡ unheard → st ≡ ended → ⊥
+  not-ended h k = absurd (cc)
+
+  buffer-unshaken : (b q : ℕ) (items : List Item) (target : Option ObjectId) (k : ℕ) (r : Reference) → In r (buffer_references b q k items target) → is_handshake r.holder ≡ false
+  buffer-unshaken b q [] None k r l = absurd l
+  buffer-unshaken b q [] (Some i) k r (inl e) = sym (ap (λ (y : Reference). is_handshake y.holder) e)
+  buffer-unshaken b q [] (Some i) k r (inr l) = absurd l
+  buffer-unshaken b q (x ∷ xs) target k r (inl e) = sym (ap (λ (y : Reference). is_handshake y.holder) e)
+  buffer-unshaken b q (x ∷ xs) target k r (inr l) = buffer-unshaken b q xs target (k + 1) r l
+
+  delivered-told : (s : Space) (a : Actor) (d : TransactionData) (v : Delivery) → KeptBefore s → HeardBefore o st s → Sends s a.process.made v.sending.made v.sending.items → H (delivered s a d v)
+  unfolding delivered own_notices add_buffer known_by assign_numbers refer make_objects
+  delivered-told s a d v kept h sends x l e live =
+      let k = same-more o s.references (buffer_references s.steps v.receiver.made 0 v.sending.items v.target) (buffer-unshaken s.steps v.receiver.made v.sending.items v.target 0) in
+      elim (in-append x s.objects v.sending.made l) [
+        | inl i ↦ tells-same ⊥ ⊥ o s.references _ x st k (λ n. n) (h.tracks x i e live)
+        | inr i ↦ (
+            let at : x.id.place ≡ s.steps = sends.makes.place x i in
+            let place : x.id.place ≡ o.place = ap (λ (j : ObjectId). j.place) e in
+            let new : s.steps ≤ o.place = omega arith in
+            let start = h.fresh new in
+            let untold = sends.makes.untold x i in
+            inr (record {
+              weak = untold.0 ∙ sym (ap is_weak start);
+              strong = untold.1 ∙ sym (ap is_strong start);
+              shakes = λ b. k.shakes b ∙ unreferred s kept new b ∙ sym (ap (λ (y : Hearing). number (waits y b)) start);
+              over = not-ended start;
+            }))
+      ]
+
+  transacted-told : (s : Space) (a : Actor) (d : TransactionData) (parcel : Option Parcel) (v : Delivery) → KeptBefore s → HeardBefore o st s → transaction_check s a d parcel ≡ Ok v → H (transacted s a d v)
+  unfolding transacted
+  transacted-told s a d parcel v kept h check =
+      let t = transaction-checked s a d parcel v check in
+      let z = delivered s a d v in
+      let y = owe z (OfThread a.thread.seat) work.Complete in
+      tracks-untouched ⊥ (called y a.thread.seat v.receiver.made v.one_way) y (called-untouched y a.thread.seat v.receiver.made v.one_way)
+      (tracks-untouched ⊥ y z (owe-untouched z (OfThread a.thread.seat) work.Complete)
+      (delivered-told s a d v kept h (sending-sends s a.process.made d parcel v.sending t.sends)))
+
+  closed-heard : (s : Space) (made : ℕ) → HeardBefore o st s → HeardBefore o st (closed s made)
+  unfolding closed
+  closed-heard s made h = record { tracks = h.tracks; fresh = h.fresh }
+
+  replied-told : (s : Space) (a : Actor) (d : TransactionData) (parcel : Option Parcel) (f : Frame) (v : Delivery) → KeptBefore s → HeardBefore o st s → reply_check s a d parcel f ≡ Ok v
+      → H (replied s a d f v)
+  unfolding replied
+  replied-told s a d parcel f v kept h check =
+      let t = reply-checked s a d parcel f v check in
+      let x = closed s f.made in
+      let z = delivered x a d v in
+      let y = owe z (OfThread a.thread.seat) work.Complete in
+      tracks-untouched ⊥ _ y (told-untouched y f.caller (work.Reply s.steps))
+      (tracks-untouched ⊥ y z (owe-untouched z (OfThread a.thread.seat) work.Complete)
+      (delivered-told x a d v (closed-before s f.made kept) (closed-heard s f.made h)
+      (closed-sends s f.made a.process.made v.sending.made v.sending.items (sending-sends s a.process.made d parcel v.sending t.sends))))
+
+  -- ---- what follows
+
+  goes : (a b c d : Bool) → a ≡ false → c ≡ false → d ≡ false → (a || b && (c || d)) ≡ true → ⊥
+  goes a true c d h k l t = absurd (let f : (a || true && (c || d)) ≡ false = rw (h, k, l) refl in cc)
+  goes a false c d h k l t = absurd (let f : (a || false && (c || d)) ≡ false = rw h refl in cc)
+
+  -- an object of which all was heard, and that nothing refers to, goes
+  pub follow-told : (z : Space) → Tracks (held_in z.references o ≡ false) o st z → H (follow z)
+  unfolding follow notify work_goes deaths_go objects_go names_go
+  follow-told z h x l e live =
+      let k = in-filter (stays_in z.processes z.references) x z.objects l in
+      elim (h x k.0 e live) [
+        | inl m ↦ inl m
+        | inr t ↦ inr (record {
+          weak = t.weak;
+          strong = t.strong;
+          shakes = t.shakes;
+          over = λ is. goes (held_in z.references x.id) (lives_in z.processes x.owner) x.told_weak x.told_strong
+              (subst (λ i. held_in z.references i ≡ false) (sym e) (t.over is)) (t.weak ∙ ap is_weak is) (t.strong ∙ ap is_strong is) k.1;
+        })
+      ]
+
+  -- ---- a step that neither reads nor acknowledges
+
+  pub quiet-step : (s : Space) (seat : ℕ) (x : Step) → Before s → HeardBefore o st s → (IsReading x → ⊥) → ((b : Bool) → IsAcknowledging x b → ⊥) → Keeps s seat x H H
+  quiet-step s seat x before h no_read no_done =
+      let kept = before.objects in
+      record {
+        same = h.tracks;
+        opened = λ pid euid window. opened-told s seat pid euid window before h.tracks;
+        attached = λ p. attached-told s seat p h.tracks;
+        managed = λ a e b. managed-told s a.process.made before h;
+        transacts = λ a d parcel v e i t. transacted-told s a d parcel v kept h t;
+        replies = λ a d parcel f v e i g t. replied-told s a d parcel f v kept h t;
+        frees = λ p ptr b e t. without_buffer-told s b.made h.tracks;
+        asks = λ a n strong i e j t. ask-told s a.process.made i strong h.tracks;
+        drops = λ p i strong. drop_asked-told s p i strong h.tracks;
+        acknowledges = λ i strong done. absurd (no_done strong done);
+        loops = λ t looping. tracks-untouched ⊥ _ s (with_looping-untouched s t looping) h.tracks;
+        requests = λ p i cookie. tracks-untouched ⊥ _ s (requested-untouched s p i cookie) h.tracks;
+        clears = λ t y. tracks-untouched ⊥ _ s (cleared-untouched s t y) h.tracks;
+        is_done = λ t y. tracks-untouched ⊥ _ s (death_done-untouched s t y) h.tracks;
+        reads = λ a limit e i n. absurd (no_read (limit, i));
+        leaves = λ a e. thread_goes-told s a.thread.seat h.tracks;
+        ends = λ a e. tracks-untouched ⊥ _ (without_process (threads_go s a.process.made) a.process.made) (tell_deaths-untouched (without_process (threads_go s a.process.made) a.process.made) a.process.made)
+            (without_process-told (threads_go s a.process.made) a.process.made (threads_go-kept s a.process.made (later s kept).kept).differ (threads_go-told s a.process.made h.tracks));
+        ripens = λ z k. tracks-untouched ⊥ (ripen z) z (ripen-untouched z) k;
+        follows = λ z k. follow-told z (tracks-weaker _ z k);
+        closes = λ z made k. tracks-untouched ⊥ (closed z made) z (closed-untouched z made) k;
+        refuses = λ z t r k. tracks-untouched ⊥ _ z (owe-untouched z (OfThread t) (work.Refusal r)) k;
+        tells = λ z t r k. tracks-untouched ⊥ _ z (owe-untouched z (OfThread t) (work.Verdict r)) k;
+      }

@@ -1,0 +1,529 @@
+-- One-way calls are taken in their turns.
+use Rattle.std.proofs.Common.{◌≡◌, ℕ, zero, suc, ◌<◌, Bool, true, false, not, ◌&&◌, List, [], ◌∷◌, ◌++◌, Option, Some, None, ◌⊎◌, inl, inr, refl, ap, sym, subst, ◌∙◌, map, length, get_or, arith}
+use Rattle.std.specs.List.{filter_map, cons_option, AllPairs}
+use Rattle.std.specs.Option.{is_some}
+use Rattle.std.proofs.lemmas.Bool.{eqb-true, eq-eqb}
+use Rattle.bd_space.specs.declared.step.ObjectId.{ObjectId}
+use Rattle.bd_space.specs.declared.step.Entry.{Entry}
+use Rattle.bd_space.specs.declared.space.Process.{Process}
+use Rattle.bd_space.specs.declared.space.Object.{Object}
+use Rattle.bd_space.specs.declared.space.Buffer.{Buffer}
+use Rattle.bd_space.specs.Words.{same, when, is_some_and}
+use Rattle.bd_space.specs.Space.{Space, opening}
+use Rattle.bd_space.specs.Freeing.{is_made_at}
+use Rattle.bd_space.specs.Steps.{change, counted}
+use Rattle.bd_space.specs.Histories.{History, next, space_after}
+use Rattle.bd_audit.proofs.EveryStep.{every_list}
+use Rattle.bd_audit.specs.declared.turns.Turn.{Turn}
+use Rattle.bd_audit.specs.OneWayTurns.{is_call_on, is_live, is_handed, noted_at, marked, turn_made, next_turns, turns_from, turns_on, IsTakenBefore}
+use Rattle.bd_audit.proofs.Lists.{In, Pairs, in-append, in-map, any-found, any-in, in-filter_map, pairs-either, pairs-at}
+use Rattle.bd_audit.proofs.Tests.{both, and-both, same-eq, eq-same, not-true}
+use Rattle.bd_audit.proofs.OneWay.{Due, Rivals, Waits}
+use Rattle.bd_audit.proofs.InTurn.{IsInTurn, Turning, step-in_turn, opening-in_turn}
+use Rattle.bd_audit.proofs.Sendings.{Differ}
+use Rattle.bd_audit.proofs.Objects.{KeptBefore, step-kept, opening-kept}
+use Rattle.bd_audit.proofs.Passing.{On, Lives, Became, Ended, Passed, OnLists, step-passes, on-turn}
+
+-- ---- an object's one-way calls have one receiver
+
+pub record Received (s : Space) : Type 0 where
+  pub lists : OnLists s
+  pub own : (o : ObjectId) (b : Buffer) (x : Object) → In b s.buffers → On o b → In x s.objects → x.id ≡ o → x.owner ≡ b.receiver
+  pub one : (o : ObjectId) (b c : Buffer) → In b s.buffers → In c s.buffers → On o b → On o c → b.receiver ≡ c.receiver
+  pub old : (o : ObjectId) (b : Buffer) → In b s.buffers → On o b → o.place < s.steps
+  pub born : (q : Process) → In q s.processes → q.made < s.steps
+  pub owners : (x : Object) → In x s.objects → x.owner < s.steps
+
+-- what holds before each step
+pub record Before (s : Space) : Type 0 where
+  pub turns : IsInTurn s
+  pub objects : KeptBefore s
+  pub received : Received s
+
+on-before : (s : Space) (o : ObjectId) (b c : Buffer) → Became s b c → On o c → On o b
+on-before s o b c k on = (sym k.one_way ∙ on.0, sym k.target ∙ on.1)
+
+on-after : (s : Space) (o : ObjectId) (b c : Buffer) → Became s b c → On o b → On o c
+on-after s o b c k on = (k.one_way ∙ on.0, k.target ∙ on.1)
+
+pub one-object : (s : Space) → KeptBefore s → (x y : Object) → In x s.objects → In y s.objects → x.id ≡ y.id → x ≡ y
+one-object s h x y i j e =
+    elim (pairs-either Differ s.objects h.kept.differ x y i j) [ inl k ↦ k | inr k ↦ elim k [ inl d ↦ absurd (d e) | inr d ↦ absurd (d (sym e)) ] ]
+
+pub one-buffer : (s : Space) → IsInTurn s → (b c : Buffer) → In b s.buffers → In c s.buffers → b.made ≡ c.made → b ≡ c
+one-buffer s h b c i j e =
+    elim (pairs-either (Waits s.todo) s.buffers h.waits b c i j) [
+      | inl k ↦ k
+      | inr k ↦ elim k [ inl w ↦ (let lt = w.earlier in absurd (omega arith)) | inr w ↦ (let lt = w.earlier in absurd (omega arith)) ]
+    ]
+
+module _ (s z : Space) (h : Before s) (p : Passed s z) where
+  -- the owner of an object that was there
+  abbrev WasOwned : ObjectId → ℕ → Type 0
+  WasOwned o q = (x : Object) × In x s.objects × (x.id ≡ o) × (x.owner ≡ q)
+
+  below : (o : ObjectId) (q : ℕ) → WasOwned o q → o.place < s.steps
+  below o q w = let lt = h.objects.kept.below w.0 w.1 in let e : w.0.id.place ≡ o.place = ap (λ (i : ObjectId). i.place) w.2 in omega arith
+
+  same-owner : (o : ObjectId) (q r : ℕ) → WasOwned o q → WasOwned o r → q ≡ r
+  same-owner o q r v w = sym v.3 ∙ ap (λ (x : Object). x.owner) (one-object s h.objects v.0 w.0 v.1 w.1 (v.2 ∙ sym w.2)) ∙ w.3
+
+  -- an object of before this step was there before it
+  was : (o : ObjectId) (x : Object) → o.place < s.steps → In x z.objects → x.id ≡ o → WasOwned o x.owner
+  was o x lt i e = elim (p.objects x i) [
+    | inl y ↦ (y.0, y.1, sym y.2 ∙ e, sym y.3)
+    | inr n ↦ (let at = n.0 in let f : x.id.place ≡ o.place = ap (λ (k : ObjectId). k.place) e in absurd (omega arith))
+  ]
+
+  old-before : (o : ObjectId) (c : Buffer) → In c z.buffers → On o c → o.place < s.steps
+  old-before o c i on = elim (p.from c i) [
+    | inl b ↦ h.received.old o b.0 b.1 (on-before s o b.0 c b.2 on)
+    | inr n ↦ (let x = n.owned o on in below o c.receiver (x.0, x.1, x.2, x.3))
+  ]
+
+  own-after : (o : ObjectId) (c : Buffer) (x : Object) → In c z.buffers → On o c → In x z.objects → x.id ≡ o → x.owner ≡ c.receiver
+  own-after o c x i on j e =
+      let w = was o x (old-before o c i on) j e in
+      elim (p.from c i) [
+        | inl b ↦ sym w.3 ∙ h.received.own o b.0 w.0 b.1 (on-before s o b.0 c b.2 on) w.1 w.2 ∙ sym b.2.receiver
+        | inr n ↦ (let y = n.owned o on in same-owner o x.owner c.receiver w (y.0, y.1, y.2, y.3))
+      ]
+
+  one-after : (o : ObjectId) (c d : Buffer) → In c z.buffers → In d z.buffers → On o c → On o d → c.receiver ≡ d.receiver
+  one-after o c d i j on ond = elim (p.from c i) [
+    | inl b ↦ elim (p.from d j) [
+      | inl e ↦ b.2.receiver ∙ h.received.one o b.0 e.0 b.1 e.1 (on-before s o b.0 c b.2 on) (on-before s o e.0 d e.2 ond) ∙ sym e.2.receiver
+      | inr n ↦ (let y = n.owned o ond in b.2.receiver ∙ sym (h.received.own o b.0 y.0 b.1 (on-before s o b.0 c b.2 on) y.1 y.2) ∙ y.3)
+    ]
+    | inr m ↦ (let x = m.owned o on in elim (p.from d j) [
+      | inl e ↦ sym x.3 ∙ h.received.own o e.0 x.0 e.1 (on-before s o e.0 d e.2 ond) x.1 x.2 ∙ sym e.2.receiver
+      | inr n ↦ (let y = n.owned o ond in same-owner o c.receiver d.receiver (x.0, x.1, x.2, x.3) (y.0, y.1, y.2, y.3))
+    ])
+  ]
+
+  lives-before : (q : ℕ) → Lives s.processes q → q < s.steps
+  lives-before q l = let lt = h.received.born l.0 l.1 in let e = l.2 in omega arith
+
+  pub received-after : Received (counted z)
+  unfolding counted
+  received-after =
+      let steps = p.steps in
+      record {
+        lists = p.lists;
+        own = own-after;
+        one = one-after;
+        old = λ o c i on. let lt = old-before o c i on in omega arith;
+        born = λ q i. elim (p.processes q i) [ inl k ↦ (let lt = h.received.born q k in omega arith) | inr e ↦ omega arith ];
+        owners = λ x i. elim (p.objects x i) [
+          | inl y ↦ (let lt = h.received.owners y.0 y.1 in let e = y.3 in omega arith)
+          | inr n ↦ (let lt = lives-before x.owner n.1 in omega arith)
+        ];
+      }
+
+pub step-before : (s : Space) (e : Entry) → Before s → Before (next s e)
+step-before s e h = record {
+  turns = step-in_turn s e h.turns;
+  objects = step-kept s e h.objects;
+  received = received-after s (change s e.seat e.step).space h (step-passes s e h.turns h.received.lists).passed;
+}
+
+pub opening-before : Before opening
+opening-before = record {
+  turns = opening-in_turn;
+  objects = opening-kept;
+  received = record {
+    lists = λ w c o i e j on. absurd i;
+    own = λ o b x i on j e. absurd i;
+    one = λ o b c i j on ond. absurd i;
+    old = λ o b i on. absurd i;
+    born = λ q i. absurd i;
+    owners = λ x i. absurd i;
+  };
+}
+
+-- ---- the turns of an object
+
+-- no live process owns the object, and none of its one-way calls has a buffer
+pub record Over (o : ObjectId) (s : Space) : Type 0 where
+  pub old : o.place < s.steps
+  pub owner : (x : Object) → In x s.objects → x.id ≡ o → Lives s.processes x.owner → ⊥
+  pub none : (b : Buffer) → In b s.buffers → On o b → ⊥
+
+-- the turn's buffer lives
+pub record Open (o : ObjectId) (t : Turn) (s : Space) (b : Buffer) : Type 0 where
+  pub here : In b s.buffers
+  pub made : b.made ≡ t.made
+  pub on : On o b
+  pub handed : b.handed ≡ is_some t.handed
+
+pub record InOrder (t u : Turn) : Type 0 where
+  pub earlier : t.made < u.made
+  pub taken : IsTakenBefore t u
+
+pub record Past (n : ℕ) (t : Turn) : Type 0 where
+  pub made : t.made < n
+  pub handed : (p : ℕ) → t.handed ≡ Some p → p < n
+  pub ended : (p : ℕ) → t.ended ≡ Some p → p < n
+
+pub record Logged (o : ObjectId) (ts : List Turn) (s : Space) : Type 0 where
+  pub past : (t : Turn) → In t ts → Past s.steps t
+  pub live : (t : Turn) → In t ts → t.ended ≡ None → (b : Buffer) × Open o t s b
+  pub gone : (t : Turn) → In t ts → (p : ℕ) → t.ended ≡ Some p → (b : Buffer) → In b s.buffers → b.made ≡ t.made → ⊥
+  pub over : (t : Turn) → In t ts → (p : ℕ) → t.ended ≡ Some p → t.handed ≡ None → Over o s
+  pub order : Pairs InOrder ts
+
+live-found : (buffers : List Buffer) (made : ℕ) → is_live buffers made ≡ true → (c : Buffer) × In c buffers × (c.made ≡ made)
+live-found buffers made h = let c = any-found (is_made_at made) buffers h in (c.0, c.1, eqb-true c.0.made made c.2)
+
+live-in : (buffers : List Buffer) (c : Buffer) (made : ℕ) → In c buffers → c.made ≡ made → is_live buffers made ≡ true
+live-in buffers c made i e = any-in (is_made_at made) c buffers i (eq-eqb c.made made e)
+
+handed-found : (buffers : List Buffer) (made : ℕ) → is_handed buffers made ≡ true → (c : Buffer) × In c buffers × (c.made ≡ made) × (c.handed ≡ true)
+handed-found buffers made h =
+    let c = any-found (λ b. is_made_at made b && b.handed) buffers h in
+    let k = both (is_made_at made c.0) c.0.handed c.2 in
+    (c.0, c.1, eqb-true c.0.made made k.0, k.1)
+
+handed-in : (buffers : List Buffer) (c : Buffer) (made : ℕ) → In c buffers → c.made ≡ made → c.handed ≡ true → is_handed buffers made ≡ true
+handed-in buffers c made i e t = any-in (λ b. is_made_at made b && b.handed) c buffers i (and-both (is_made_at made c) c.handed (eq-eqb c.made made e) t)
+
+-- what was noted now, or before
+noted-some : (o : Option ℕ) (n : ℕ) (now : Bool) (p : ℕ) → noted_at o n now ≡ Some p → (o ≡ Some p) ⊎ ((o ≡ None) × (now ≡ true) × (p ≡ n))
+noted-some (Some q) n now p h = inl h
+noted-some None n true p h = inr (refl, refl, cc)
+noted-some None n false p h = absurd (cc)
+
+noted-none : (o : Option ℕ) (n : ℕ) (now : Bool) → noted_at o n now ≡ None → (o ≡ None) × (now ≡ false)
+noted-none (Some q) n now h = absurd (cc)
+noted-none None n true h = absurd (cc)
+noted-none None n false h = (refl, refl)
+
+noted-kept : (o : Option ℕ) (n : ℕ) (now : Bool) (p : ℕ) → o ≡ Some p → noted_at o n now ≡ Some p
+noted-kept o n now p h = rw h refl
+
+some-case : (o : Option ℕ) → (o ≡ None) ⊎ ((p : ℕ) × (o ≡ Some p))
+some-case None = inl refl
+some-case (Some p) = inr (p, refl)
+
+bool-case : (b : Bool) → (b ≡ true) ⊎ (b ≡ false)
+bool-case true = inl refl
+bool-case false = inr refl
+
+module _ (s z : Space) (h : Before s) (turns : Turning z) (p : Passed s z) (o : ObjectId) where
+  -- the buffer of a turn that was open, after the step
+  stays-open : (b c : Buffer) → In b s.buffers → In c z.buffers → c.made ≡ b.made → Became s b c
+  stays-open b c i j e = elim (p.from c j) [
+    | inl d ↦ subst (λ x. Became s x c) (one-buffer s h.turns d.0 b d.1 i (sym d.2.made ∙ e)) d.2
+    | inr n ↦ (let lt = h.turns.below b i in let m = n.made in absurd (omega arith))
+  ]
+
+  over-after : Over o s → Over o z
+  over-after k = record {
+    old = let lt = k.old in let e = p.steps in omega arith;
+    owner = λ x i e l.
+        let w = was s z h p o x k.old i e in
+        elim (p.processes l.0 l.1) [
+          | inl j ↦ k.owner w.0 w.1 w.2 (l.0, j, l.2 ∙ sym w.3)
+          | inr n ↦ (let lt = h.received.owners w.0 w.1 in let a = w.3 in let m = l.2 in absurd (omega arith))
+        ];
+    none = λ c i on. elim (p.from c i) [
+      | inl b ↦ k.none b.0 b.1 (on-before s o b.0 c b.2 on)
+      | inr n ↦ (let x = n.owned o on in k.owner x.0 x.1 x.2 x.4)
+    ];
+  }
+
+  -- a receiver that ends takes all one-way calls on its objects along
+  ended-over : (b : Buffer) → In b s.buffers → On o b → Ended z b.receiver → Over o z
+  ended-over b i on k = record {
+    old = let lt = h.received.old o b i on in let e = p.steps in omega arith;
+    owner = λ x j e l.
+        let w = was s z h p o x (h.received.old o b i on) j e in
+        k.process (l.0, l.1, l.2 ∙ sym w.3 ∙ h.received.own o b w.0 i on w.1 w.2);
+    none = λ c j onc. elim (p.from c j) [
+      | inl d ↦ k.buffers c j (d.2.receiver ∙ h.received.one o d.0 b d.1 i (on-before s o d.0 c d.2 onc) on)
+      | inr n ↦ (let x = n.owned o onc in k.buffers c j (sym x.3 ∙ h.received.own o b x.0 i on x.1 x.2))
+    ];
+  }
+
+  -- ---- turns that were there
+
+  module _ (ts : List Turn) (log : Logged o ts s) where
+    live-after : (t : Turn) → In t ts → (marked s.steps z.buffers t).ended ≡ None → (c : Buffer) × Open o (marked s.steps z.buffers t) z c
+    live-after t i e =
+        let k = noted-none t.ended s.steps (not (is_live z.buffers t.made)) e in
+        let b = log.live t i k.0 in
+        let c = live-found z.buffers t.made (unnot (is_live z.buffers t.made) k.1) in
+        let became = stays-open b.0 c.0 b.1.here c.1 (c.2 ∙ sym b.1.made) in (
+          c.0,
+          record {
+            here = c.1;
+            made = c.2;
+            on = on-after s o b.0 c.0 became b.1.on;
+            handed = handed-after c.0 c.1 c.2 (some-case t.handed) (λ q f. handed-stays b.0 c.0 became (b.1.handed ∙ ap is_some f));
+          },
+        )
+      where
+        unnot : (b : Bool) → not b ≡ false → b ≡ true
+        unnot true e = refl
+        unnot false e = absurd (cc)
+
+        handed-stays : (b c : Buffer) → Became s b c → b.handed ≡ true → c.handed ≡ true
+        handed-stays b c k e = elim k.handed [ inl f ↦ f ∙ e | inr f ↦ f.0 ]
+
+        now : (c : Buffer) → In c z.buffers → c.made ≡ t.made → (x : Bool) → is_handed z.buffers t.made ≡ x → c.handed ≡ is_some (noted_at None s.steps x)
+        now c j e true f =
+            let d = handed-found z.buffers t.made f in
+            let same_buffer : d.0 ≡ c = elim (pairs-either (Waits z.todo) z.buffers turns.waits d.0 c d.1 j) [
+              | inl k ↦ k
+              | inr k ↦ elim k [ inl w ↦ (let lt = w.earlier in let m = d.2 in absurd (omega arith)) | inr w ↦ (let lt = w.earlier in let m = d.2 in absurd (omega arith)) ]
+            ] in
+            ap (λ (x : Buffer). x.handed) (sym same_buffer) ∙ d.3
+        now c j e false f = elim (bool-case c.handed) [
+          | inl k ↦ (let wrong = handed-in z.buffers c t.made j e k in absurd (cc))
+          | inr k ↦ k
+        ]
+
+        handed-after : (c : Buffer) → In c z.buffers → c.made ≡ t.made → (t.handed ≡ None) ⊎ ((q : ℕ) × (t.handed ≡ Some q)) → ((q : ℕ) → t.handed ≡ Some q → c.handed ≡ true)
+            → c.handed ≡ is_some (noted_at t.handed s.steps (is_handed z.buffers t.made))
+        handed-after c j e (inr q) f = f q.0 q.1 ∙ sym (ap is_some (noted-kept t.handed s.steps (is_handed z.buffers t.made) q.0 q.1))
+        handed-after c j e (inl n) f = now c j e (is_handed z.buffers t.made) refl ∙ ap (λ q. is_some (noted_at q s.steps (is_handed z.buffers t.made))) (sym n)
+
+    gone-after : (t : Turn) → In t ts → (q : ℕ) → (marked s.steps z.buffers t).ended ≡ Some q → (c : Buffer) → In c z.buffers → c.made ≡ t.made → ⊥
+    gone-after t i q e c j m =
+        elim (noted-some t.ended s.steps (not (is_live z.buffers t.made)) q e) [
+          | inl k ↦ elim (p.from c j) [
+            | inl b ↦ log.gone t i q k b.0 b.1 (sym b.2.made ∙ m)
+            | inr n ↦ (let lt = (log.past t i).made in let at = n.made in absurd (omega arith))
+          ]
+          | inr k ↦ (let yes = live-in z.buffers c t.made j m in let none = not-true (is_live z.buffers t.made) k.1 in absurd (cc))
+        ]
+
+    over-turn : (t : Turn) → In t ts → (q : ℕ) → (marked s.steps z.buffers t).ended ≡ Some q → (marked s.steps z.buffers t).handed ≡ None → Over o z
+    over-turn t i q e f =
+        let unhanded = (noted-none t.handed s.steps (is_handed z.buffers t.made) f).0 in
+        elim (noted-some t.ended s.steps (not (is_live z.buffers t.made)) q e) [
+          | inl k ↦ over-after (log.over t i q k unhanded)
+          | inr k ↦ (
+              let b = log.live t i k.0 in
+              elim (p.to o b.0 b.1.here b.1.on) [
+                | inl c ↦ (
+                    let yes = live-in z.buffers c.0 t.made c.1 (c.2.made ∙ b.1.made) in
+                    let none = not-true (is_live z.buffers t.made) k.1 in
+                    absurd (cc))
+                | inr l ↦ elim l [
+                  | inl handed ↦ (let is = b.1.handed ∙ ap is_some unhanded in absurd (cc))
+                  | inr ended ↦ ended-over b.0 b.1.here b.1.on ended
+                ]
+              ])
+        ]
+
+    past-after : (t : Turn) → In t ts → Past (suc s.steps) (marked s.steps z.buffers t)
+    past-after t i =
+        let k = log.past t i in
+        record {
+          made = let lt = k.made in omega arith;
+          handed = λ q e. elim (noted-some t.handed s.steps (is_handed z.buffers t.made) q e) [ inl f ↦ (let lt = k.handed q f in omega arith) | inr f ↦ (let at = f.2 in omega arith) ];
+          ended = λ q e. elim (noted-some t.ended s.steps (not (is_live z.buffers t.made)) q e) [ inl f ↦ (let lt = k.ended q f in omega arith) | inr f ↦ (let at = f.2 in omega arith) ];
+        }
+
+    -- who is handed out by this step was open, and due
+    due-now : (u : Turn) → In u ts → u.handed ≡ None → is_handed z.buffers u.made ≡ true → (b : Buffer) × Open o u s b × Due s.todo b.made
+    due-now u i n now =
+        let c = handed-found z.buffers u.made now in
+        elim (some-case u.ended) [
+          | inr e ↦ elim (p.from c.0 c.1) [
+            | inl b ↦ absurd (log.gone u i e.0 e.1 b.0 b.1 (sym b.2.made ∙ c.2))
+            | inr k ↦ (let lt = (log.past u i).made in let at = k.made in let m = c.2 in absurd (omega arith))
+          ]
+          | inl e ↦ (
+              let b = log.live u i e in
+              let became = stays-open b.0 c.0 b.1.here c.1 (c.2 ∙ sym b.1.made) in (
+                b.0,
+                b.1,
+                elim became.handed [
+                  | inl f ↦ (let unhanded = b.1.handed ∙ ap is_some n in let handed = c.3 in absurd (cc))
+                  | inr f ↦ f.1
+                ],
+              ))
+        ]
+
+    rivals : (b c : Buffer) → On o b → On o c → Rivals b c
+    rivals b c i j = (
+      record { made = b.made; receiver = b.receiver; target = o; handed = b.handed },
+      record { made = c.made; receiver = c.receiver; target = o; handed = c.handed },
+      on-turn o b i,
+      on-turn o c j,
+      eq-same o o refl,
+    )
+
+    in_order-after : (t u : Turn) → In t ts → In u ts → InOrder t u → InOrder (marked s.steps z.buffers t) (marked s.steps z.buffers u)
+    in_order-after t u i j k = record {
+      earlier = k.earlier;
+      taken = λ q e. elim (noted-some u.handed s.steps (is_handed z.buffers u.made) q e) [
+        | inl f ↦ (
+            let l = k.taken q f in
+            (l.0, l.1, noted-kept t.handed s.steps (is_handed z.buffers t.made) l.0 l.2, noted-kept t.ended s.steps (not (is_live z.buffers t.made)) l.1 l.3, l.4, l.5))
+        | inr f ↦ (
+            let c = due-now u j f.0 f.1 in
+            elim (some-case t.ended) [
+              | inl n ↦ (
+                  let b = log.live t i n in
+                  let lt = k.earlier in
+                  let bm = b.1.made in
+                  let cm = c.1.made in
+                  elim (pairs-either (Waits s.todo) s.buffers h.turns.waits b.0 c.0 b.1.here c.1.here) [
+                    | inl e ↦ (let m : b.0.made ≡ c.0.made = ap (λ (x : Buffer). x.made) e in absurd (omega arith))
+                    | inr w ↦ elim w [
+                      | inl v ↦ absurd (v.alone (inr c.2) (rivals b.0 c.0 b.1.on c.1.on))
+                      | inr v ↦ (let gt = v.earlier in absurd (omega arith))
+                    ]
+                  ])
+              | inr e ↦ elim (some-case t.handed) [
+                | inl n ↦ absurd ((log.over t i e.0 e.1 n).none c.0 c.1.here c.1.on)
+                | inr d ↦ (
+                    let past = log.past t i in
+                    let a = past.handed d.0 d.1 in
+                    let b = past.ended e.0 e.1 in
+                    let at = f.2 in
+                    (d.0, e.0, noted-kept t.handed s.steps (is_handed z.buffers t.made) d.0 d.1, noted-kept t.ended s.steps (not (is_live z.buffers t.made)) e.0 e.1, omega arith, omega arith))
+              ]
+            ])
+      ];
+    }
+
+    -- ---- the turn that the step makes
+
+    abbrev NewTurn : Turn → Buffer → Type 0
+    NewTurn t c = In c z.buffers × (t.made ≡ s.steps) × (t.handed ≡ None) × (t.ended ≡ None) × (c.made ≡ s.steps) × On o c × (c.handed ≡ false)
+
+    made-when : (b : Bool) (t u : Turn) → when b t ≡ Some u → (b ≡ true) × (t ≡ u)
+    made-when true t u e = (refl, cc)
+    made-when false t u e = absurd (cc)
+
+    targets : (target : Option ObjectId) → is_some_and target (λ x. same x o) ≡ true → target ≡ Some o
+    targets None e = absurd (cc)
+    targets (Some x) e = ap (λ y. Some y) (same-eq x o e)
+
+    new-turn : (t : Turn) → In t (filter_map (turn_made o s.steps) z.buffers) → (c : Buffer) × NewTurn t c
+    new-turn t i =
+        let c = in-filter_map (turn_made o s.steps) t z.buffers i in
+        let w = made-when (is_made_at s.steps c.0 && is_call_on o c.0) (record { made = s.steps; handed = None; ended = None }) t c.2 in
+        let k = both (is_made_at s.steps c.0) (is_call_on o c.0) w.0 in
+        let on = both c.0.one_way (is_some_and c.0.target (λ x. same x o)) k.1 in
+        let at = eqb-true c.0.made s.steps k.0 in (
+          c.0,
+          (
+            c.1,
+            sym (ap (λ (x : Turn). x.made) w.1),
+            sym (ap (λ (x : Turn). x.handed) w.1),
+            sym (ap (λ (x : Turn). x.ended) w.1),
+            at,
+            (on.0, targets c.0.target on.1),
+            elim (p.from c.0 c.1) [
+              | inl b ↦ (let lt = h.turns.below b.0 b.1 in let m = b.2.made in absurd (omega arith))
+              | inr n ↦ n.handed
+            ],
+          ),
+        )
+
+    -- there is one at most
+    new-pairs : (bs : List Buffer) → Pairs (Waits z.todo) bs → Pairs InOrder (filter_map (turn_made o s.steps) bs)
+    new-pairs [] w = tt
+    new-pairs (b ∷ bs) w = cons (is_made_at s.steps b && is_call_on o b) refl (new-pairs bs w.1)
+      where
+        cons : (x : Bool) → (is_made_at s.steps b && is_call_on o b) ≡ x → Pairs InOrder (filter_map (turn_made o s.steps) bs)
+            → Pairs InOrder (cons_option (when x (record { made = s.steps; handed = None; ended = None })) (filter_map (turn_made o s.steps) bs))
+        cons false e k = k
+        cons true e k = (
+          (λ u i.
+              let c = in-filter_map (turn_made o s.steps) u bs i in
+              let v = made-when (is_made_at s.steps c.0 && is_call_on o c.0) (record { made = s.steps; handed = None; ended = None }) u c.2 in
+              let cm = eqb-true c.0.made s.steps (both (is_made_at s.steps c.0) (is_call_on o c.0) v.0).0 in
+              let bm = eqb-true b.made s.steps (both (is_made_at s.steps b) (is_call_on o b) e).0 in
+              let lt = (w.0 c.0 c.1).earlier in
+              absurd (omega arith)),
+          k,
+        )
+
+    -- ---- all turns
+
+    all-pairs : (us : List Turn) → ((t : Turn) → In t us → In t ts) → Pairs InOrder us → (vs : List Turn) → Pairs InOrder vs
+        → ((t v : Turn) → In t us → In v vs → InOrder (marked s.steps z.buffers t) v) → Pairs InOrder (map (marked s.steps z.buffers) us ++ vs)
+    all-pairs [] l k vs m n = m
+    all-pairs (u ∷ us) l k vs m n = (
+      (λ v i. elim (in-append v (map (marked s.steps z.buffers) us) vs i) [
+        | inl j ↦ (let x = in-map (marked s.steps z.buffers) v us j in subst (InOrder (marked s.steps z.buffers u)) x.2 (in_order-after u x.0 (l u (inl refl)) (l x.0 (inr x.1)) (k.0 x.0 x.1)))
+        | inr j ↦ n u v (inl refl) j
+      ]),
+      all-pairs us (λ t i. l t (inr i)) k.1 vs m (λ t v i j. n t v (inr i) j),
+    )
+
+    turn-of : (t : Turn) → In t (next_turns o s.steps z.buffers ts) → ((u : Turn) × In u ts × (marked s.steps z.buffers u ≡ t)) ⊎ ((c : Buffer) × NewTurn t c)
+    turn-of t i = elim (in-append t (map (marked s.steps z.buffers) ts) (filter_map (turn_made o s.steps) z.buffers) i) [
+      | inl j ↦ inl (in-map (marked s.steps z.buffers) t ts j)
+      | inr j ↦ inr (new-turn t j)
+    ]
+
+    pub log-after : Logged o (next_turns o s.steps z.buffers ts) (counted z)
+    unfolding counted
+    log-after =
+        let steps = p.steps in
+        record {
+          past = λ t i. subst (λ n. Past (suc n) t) (sym p.steps) (elim (turn-of t i) [
+            | inl u ↦ subst (Past (suc s.steps)) u.2 (past-after u.0 u.1)
+            | inr c ↦ (let m = c.1.1 in record {
+              made = omega arith;
+              handed = λ q e. let n = c.1.2 in absurd (cc);
+              ended = λ q e. let n = c.1.3 in absurd (cc);
+            })
+          ]);
+          live = λ t i e. elim (turn-of t i) [
+            | inl u ↦ (let b = live-after u.0 u.1 (ap (λ (x : Turn). x.ended) u.2 ∙ e) in
+                (b.0, record { here = b.1.here; made = b.1.made ∙ ap (λ (x : Turn). x.made) u.2; on = b.1.on; handed = b.1.handed ∙ ap (λ (x : Turn). is_some x.handed) u.2 }))
+            | inr c ↦ (c.0, record { here = c.1.0; made = c.1.4 ∙ sym c.1.1; on = c.1.5; handed = c.1.6 ∙ sym (ap is_some c.1.2) })
+          ];
+          gone = λ t i q e b j m. elim (turn-of t i) [
+            | inl u ↦ gone-after u.0 u.1 q (ap (λ (x : Turn). x.ended) u.2 ∙ e) b j (m ∙ sym (ap (λ (x : Turn). x.made) u.2))
+            | inr c ↦ (let n = c.1.3 in absurd (cc))
+          ];
+          over = λ t i q e f. elim (turn-of t i) [
+            | inl u ↦ counted-over (over-turn u.0 u.1 q (ap (λ (x : Turn). x.ended) u.2 ∙ e) (ap (λ (x : Turn). x.handed) u.2 ∙ f))
+            | inr c ↦ (let n = c.1.3 in absurd (cc))
+          ];
+          order = all-pairs ts (λ t i. i) log.order (filter_map (turn_made o s.steps) z.buffers) (new-pairs z.buffers turns.waits)
+              (λ t v i j. let c = new-turn v j in record {
+                earlier = let lt = (log.past t i).made in let m = c.1.1 in omega arith;
+                taken = λ q e. let n = c.1.2 in absurd (cc);
+              });
+        }
+      where
+        counted-over : Over o z → Over o (counted z)
+        counted-over k = record { old = let lt = k.old in omega arith; owner = k.owner; none = k.none }
+
+-- ---- every history
+
+counted-buffers : (z : Space) → (counted z).buffers ≡ z.buffers
+unfolding counted
+counted-buffers z = refl
+
+log-step : (o : ObjectId) (s : Space) (e : Entry) (ts : List Turn) → Before s → Logged o ts s → Logged o (next_turns o s.steps (next s e).buffers ts) (next s e)
+log-step o s e ts h log =
+    let z = (change s e.seat e.step).space in
+    let k = step-passes s e h.turns h.received.lists in
+    subst (λ bs. Logged o (next_turns o s.steps bs ts) (counted z)) (sym (counted-buffers z)) (log-after s z h k.turns k.passed o ts log)
+
+log-all : (o : ObjectId) (es : List Entry) (s : Space) (ts : List Turn) → Before s → Logged o ts s → (z : Space) × Logged o (turns_from o s ts es) z
+log-all o [] s ts h log = (s, log)
+log-all o (e ∷ es) s ts h log = log-all o es (next s e) (next_turns o s.steps (next s e).buffers ts) (step-before s e h) (log-step o s e ts h log)
+
+no-turns : (o : ObjectId) → Logged o [] opening
+no-turns o = record { past = λ t i. absurd i; live = λ t i e. absurd i; gone = λ t i q e b j m. absurd i; over = λ t i q e f. absurd i; order = tt }
+
+-- what holds before each step holds after every history
+pub always-before : (h : History) → Before (space_after h)
+unfolding space_after
+always-before h = every_list Before step-before h.entries opening opening-before
+
+pub taken-in_turn : (o : ObjectId) (h : History) → AllPairs IsTakenBefore (turns_on o h)
+unfolding turns_on
+taken-in_turn o h = λ i j d lt le. (pairs-at InOrder (turns_on o h) (log-all o h.entries opening [] opening-before (no-turns o)).1.order i j d lt le).taken

@@ -1,0 +1,11 @@
+use Rattle.std.proofs.Common.{subst}
+use Rattle.bd_space.specs.Histories.{History, space_after}
+use Rattle.bd_audit.specs.Replays.{history_of}
+use Rattle.bd_audit.specs.GiftSearch.{IsHolder}
+use Rattle.bd_audit.proofs.GiftSteps.{holder-knows}
+use Rattle.bd_audit.proofs.gifts.gift_chain.Goals as goal
+
+pub chain_to-requires-clause-named : goal.chain_to-requires-clause-named
+chain_to-requires-clause-named c =
+    holder-knows (history_of c.args.record.now) c.args.pid c.args.number c.in-Some.holder.process c.in-Some.holder.object
+    (subst (λ (h : History). IsHolder (space_after h) c.args.pid c.args.number c.in-Some.holder.process c.in-Some.holder.object) c.in_ok-engine.ensures c.in-Some.ensures.some)

@@ -1,0 +1,5 @@
+use Rattle.bd_audit.proofs.Due.{notices-due}
+use Rattle.bd_audit.proofs.laws.notices_are_due.Goals as goal
+
+pub returns : goal.returns
+returns c = λ h lawful. notices-due h

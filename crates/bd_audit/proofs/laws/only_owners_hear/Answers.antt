@@ -1,0 +1,5 @@
+use Rattle.bd_audit.proofs.Owners.{only-owners}
+use Rattle.bd_audit.proofs.laws.only_owners_hear.Goals as goal
+
+pub returns : goal.returns
+returns c = λ h lawful o front back e is. only-owners front o e

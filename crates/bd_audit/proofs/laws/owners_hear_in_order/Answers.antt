@@ -1,0 +1,5 @@
+use Rattle.bd_audit.proofs.Heard.{hears-in-order}
+use Rattle.bd_audit.proofs.laws.owners_hear_in_order.Goals as goal
+
+pub returns : goal.returns
+returns c = λ h lawful o. hears-in-order h lawful o

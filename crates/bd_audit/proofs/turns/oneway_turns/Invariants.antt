@@ -1,0 +1,10 @@
+use Rattle.std.proofs.Common.{◌≡◌}
+use Rattle.bd_audit.specs.Replays.{history_of, beginning}
+use Rattle.bd_audit.specs.OneWayTurns.{turns_on}
+use Rattle.bd_audit.proofs.turns.oneway_turns.Given as goal
+
+abbrev pub invariant-loop-entry : goal.invariant-loop-entry
+invariant-loop-entry l = record {
+  engine : l.engine ≡ beginning l.entry-index (history_of l.fn.record);
+  turns : l.turns.items ≡ turns_on l.object l.engine;
+}

@@ -1,0 +1,60 @@
+-- The one-way calls on an object, turn by turn: when each was made, handed out and ended.
+use Rattle.std.specs.Prelude.{ℕ, ◌≡◌, ◌<◌, Bool, true, false, not, ◌&&◌, List, [], ◌∷◌, ◌++◌, Option, Some, None, map}
+use Rattle.std.specs.List.{list_any, filter_map, AllPairs}
+use Rattle.bd_space.specs.declared.step.ObjectId.{ObjectId}
+use Rattle.bd_space.specs.declared.step.Entry.{Entry}
+use Rattle.bd_space.specs.declared.space.Buffer.{Buffer}
+use Rattle.bd_space.specs.Words.{when, is_some_and, same}
+use Rattle.bd_space.specs.Space.{Space, opening}
+use Rattle.bd_space.specs.Freeing.{is_made_at}
+use Rattle.bd_space.specs.Histories.{History, IsHistory, next}
+use Rattle.bd_audit.specs.declared.turns.Turn.{Turn}
+
+-- the buffer is a one-way call's on this object
+abbrev pub is_call_on : ObjectId → Buffer → Bool
+is_call_on o b = b.one_way && is_some_and b.target (λ x. same x o)
+
+-- the buffer made there lives, and was handed out
+abbrev pub is_live : List Buffer → ℕ → Bool
+is_live buffers made = list_any (is_made_at made) buffers
+
+abbrev pub is_handed : List Buffer → ℕ → Bool
+is_handed buffers made = list_any (λ b. is_made_at made b && b.handed) buffers
+
+-- the place of what has happened, or this one if it happens now
+abbrev pub noted_at : Option ℕ → ℕ → Bool → Option ℕ
+noted_at (Some p) place now = Some p
+noted_at None place true = Some place
+noted_at None place false = None
+
+-- a turn after the step at this place, which leaves these buffers
+abbrev pub marked : ℕ → List Buffer → Turn → Turn
+marked place buffers t = record {
+  made = t.made;
+  handed = noted_at t.handed place (is_handed buffers t.made);
+  ended = noted_at t.ended place (not (is_live buffers t.made));
+}
+
+-- the turn whose buffer the step at this place made
+abbrev pub turn_made : ObjectId → ℕ → Buffer → Option Turn
+turn_made o place b = when (is_made_at place b && is_call_on o b) (record { made = place; handed = None; ended = None })
+
+-- the turns after one step more, and after a list of them
+abbrev pub next_turns : ObjectId → ℕ → List Buffer → List Turn → List Turn
+next_turns o place buffers ts = map (marked place buffers) ts ++ filter_map (turn_made o place) buffers
+
+abbrev pub turns_from : ObjectId → Space → List Turn → List Entry → List Turn
+turns_from o s ts [] = ts
+turns_from o s ts (e ∷ es) = turns_from o (next s e) (next_turns o s.steps (next s e).buffers ts) es
+
+-- the turns of an object, in the order in which they were made
+unfoldable pub turns_on : ObjectId → History → List Turn
+turns_on o h = turns_from o opening [] h.entries
+
+-- if the later was handed out, the earlier was handed out before it, and its buffer had ended before
+abbrev pub IsTakenBefore : Turn → Turn → Type 0
+IsTakenBefore t u = (p : ℕ) → u.handed ≡ Some p → (q : ℕ) × (e : ℕ) × (t.handed ≡ Some q) × (t.ended ≡ Some e) × (q < p) × (e < p)
+
+-- of the turns of an object, each earlier one was handed out, and its buffer had ended, before a later one was handed out
+abbrev pub TurnsAreTaken : Type 0
+TurnsAreTaken = (h : History) → IsHistory h → (o : ObjectId) → AllPairs IsTakenBefore (turns_on o h)

@@ -1,0 +1,76 @@
+//! Whether a record is a history.
+
+ghost use Rattle.std.specs.Prelude.{◌≡◌, ◌≤◌, length, IfOk, IfErr, MatchResult};
+ghost use Rattle.bd_space.specs.Histories.{IsHistory};
+ghost use Rattle.bd_audit.specs.Replays.{history_of, with_entry, Begins, IfUnlawful, StopsAt};
+
+use crate::answers::{is_same_answer, step_copied};
+use bd_engine::{Engine, Why};
+use bd_space::{Entry, Record};
+use std::alloc::Global;
+
+/// Why a record isn't accepted.
+#[derive(Clone, Copy, Debug, PartialEq, Eq)]
+pub enum AuditFault {
+    /// At this place is the first entry that doesn't follow from those before.
+    Unlawful {
+        /// The place, from 0.
+        at: u32,
+    },
+    /// Memory ran out.
+    NoMemory,
+}
+
+/// The engine's entries are a history: it ends as the record of one.
+fn end(engine: Engine)
+    ensures { IsHistory engine }
+{
+    let _ = engine.into_record();
+}
+
+/// Makes the entry's step, if its answer is then the entry's.
+pub(crate) fn accept(engine: &mut Engine, entry: &Entry) -> Result<(), AuditFault>
+    ensures ok { IfOk result (λ _. engine.new ≡ with_entry engine.old entry.now) }
+    ensures begins { Begins engine.old engine.new }
+    ensures place { IfErr result (λ f. IfUnlawful f (λ at. at ≡ length engine.old.entries)) }
+    ensures unlawful { IfErr result (λ f. IfUnlawful f (λ at. IsHistory (with_entry engine.old entry.now) → ⊥)) }
+{
+    let at = engine.len();
+    if entry.seat >= engine.seats() {
+        return Err(AuditFault::Unlawful { at });
+    }
+    let Ok(step) = step_copied(&entry.step) else {
+        return Err(AuditFault::NoMemory);
+    };
+    match engine.step(entry.seat, step) {
+        Ok(answer) => {
+            if is_same_answer(&answer, &entry.answer) {
+                Ok(())
+            } else {
+                Err(AuditFault::Unlawful { at })
+            }
+        }
+        Err(Why::HistoryFull) => Err(AuditFault::Unlawful { at }),
+        Err(Why::NoMemory) => Err(AuditFault::NoMemory),
+    }
+}
+
+/// Judges a record: Ok exactly where it is a history, and `Unlawful` with the place of the first entry at which it
+/// stops being one.
+pub fn replay(alloc: Global, record: &Record) -> Result<(), AuditFault>
+    requires seats { (1 ≤ «record».now.seats) × («record».now.seats ≤ 16) }
+    ensures history { MatchResult result (λ _. IsHistory (history_of «record».now)) (λ f. IfUnlawful f (λ at. IsHistory (history_of «record».now) → ⊥)) }
+    ensures first { IfErr result (λ f. IfUnlawful f (StopsAt (history_of «record».now))) }
+{
+    let Ok(mut engine) = Engine::new(alloc, record.seats) else {
+        return Err(AuditFault::NoMemory);
+    };
+    for entry in record.entries.as_slice() {
+        if let Err(fault) = accept(&mut engine, entry) {
+            end(engine);
+            return Err(fault);
+        }
+    }
+    end(engine);
+    Ok(())
+}

@@ -1,0 +1,63 @@
+//! The laws of every history: each is the contract of a function that does nothing.
+
+ghost use Rattle.bd_audit.specs.Laws.{OneAtATime, ObjectsAreKept, GoneUnheld, OneWayCallsAreDueInTurn};
+ghost use Rattle.bd_audit.specs.Gifts.{NamesHaveGiftChains};
+ghost use Rattle.bd_audit.specs.Replies.{RepliesReachTheirCallers};
+ghost use Rattle.bd_audit.specs.OneWayTurns.{TurnsAreTaken};
+ghost use Rattle.bd_audit.specs.Hearing.{NoticesAreDue, OnlyOwnersHear, OwnersHearInOrder};
+
+/// Of the one-way calls of one object whose buffers live, one at most is due or handed out.
+pub fn one_at_a_time()
+    ensures { OneAtATime }
+{}
+
+/// A one-way call that is due stands on the list of its receiver's process, never on a thread's; and while a one-way call
+/// has a buffer, no later one on its object is due or handed out.
+pub fn one_way_calls_are_due_in_turn()
+    ensures { OneWayCallsAreDueInTurn }
+{}
+
+/// In the space of every beginning of a history, the object of each reference and of each name is in the space.
+pub fn objects_are_kept()
+    ensures { ObjectsAreKept }
+{}
+
+/// An object that a step takes out of the space has no reference after that step.
+pub fn gone_unheld()
+    ensures { GoneUnheld }
+{}
+
+/// If a later one-way call on an object was handed out, each earlier one was handed out before it, and its buffer had
+/// ended before.
+pub fn turns_are_taken()
+    ensures { TurnsAreTaken }
+{}
+
+/// Each name of a live process has a gift chain: rising places at which the object was given on, first by its owner or
+/// as the context manager's, then by the receiver before, and last to the process.
+pub fn names_have_gift_chains()
+    ensures { NamesHaveGiftChains }
+{}
+
+/// A reading that takes a reply answers exactly one call: its thread made that call, the thread that replied was the one to
+/// which it was handed out, the four stand in this order, and no other reading answers it.
+pub fn replies_reach_their_callers()
+    ensures { RepliesReachTheirCallers }
+{}
+
+/// What the owner of an object is told of it, and acknowledges, is a beginning of: BR_INCREFS, then BR_ACQUIRE and
+/// BR_RELEASE by turns, then, with none open, BR_DECREFS. No BR_RELEASE comes before an accepted BC_ACQUIRE_DONE for the
+/// BR_ACQUIRE before it, and no BR_DECREFS before an accepted BC_INCREFS_DONE.
+pub fn owners_hear_in_order()
+    ensures { OwnersHearInOrder }
+{}
+
+/// Only threads of the process that owns an object read these returns of it, and only theirs are the acknowledgements.
+pub fn only_owners_hear()
+    ensures { OnlyOwnersHear }
+{}
+
+/// A Notice of an object is due exactly while its owner lives and was told other than what is so; there is one at most.
+pub fn notices_are_due()
+    ensures { NoticesAreDue }
+{}

@@ -1,0 +1,21 @@
+//! Replay of a record, certificates, and the laws of every history.
+#![tactic(auto)]
+
+mod answers;
+mod gifts;
+mod judging;
+mod laws;
+mod replies;
+#[cfg(test)]
+mod reply_tests;
+mod turns;
+
+pub use gifts::gift_chain;
+pub use judging::{AuditFault, replay};
+pub use laws::{
+    gone_unheld, names_have_gift_chains, notices_are_due, objects_are_kept, one_at_a_time,
+    one_way_calls_are_due_in_turn, only_owners_hear, owners_hear_in_order,
+    replies_reach_their_callers, turns_are_taken,
+};
+pub use replies::call_of_reply;
+pub use turns::{Turn, oneway_turns};

@@ -1,0 +1,92 @@
+//! The call that a reading answers.
+
+ghost use Rattle.std.specs.Prelude.{◌≡◌, ◌≤◌, length, IfOk, IfErr, MatchResult};
+ghost use Rattle.bd_uapi.specs.declared.fault.Fault.TheVariants as faults;
+ghost use Rattle.bd_space.specs.Histories.{IsHistory, space_after};
+ghost use Rattle.bd_audit.specs.Replays.{history_of, beginning};
+ghost use Rattle.bd_audit.specs.Replies as spec;
+
+use crate::turns::advance;
+use bd_engine::Engine;
+use bd_space::{Entry, Record, Step};
+use bd_uapi::Fault;
+use std::alloc::Global;
+
+// The engine before the entry at this place.
+fn played_to(alloc: Global, record: &Record, place: usize) -> Result<Engine, Fault>
+    requires seats { (1 ≤ «record».now.seats) × («record».now.seats ≤ 16) }
+    requires inside { place ≤ length «record».now.entries }
+    ensures ok { IfOk result (λ e. e ≡ beginning place (history_of «record».now)) }
+    ensures fault { IfErr result (λ f. f ≡ faults.NoMemory) }
+{
+    let Ok(mut engine) = Engine::new(alloc, record.seats) else {
+        return Err(Fault::NoMemory);
+    };
+    let entries = &record.entries.as_slice()[..place];
+    for entry in entries {
+        advance(&mut engine, entry)?;
+    }
+    Ok(engine)
+}
+
+// The reply that the entry's reading takes: the first on the thread's list, if it is not the first any more after it.
+fn take_reply(engine: &mut Engine, entry: &Entry) -> Result<Option<u32>, Fault>
+    ensures { MatchResult result (λ r. r ≡ spec.reply_taken (space_after engine.old) entry.now) (λ f. f ≡ faults.NoMemory) }
+{
+    match &entry.step {
+        Step::Read { .. } => {
+            let before = engine.first_reply(entry.seat);
+            advance(engine, entry)?;
+            if engine.first_reply(entry.seat) == before {
+                Ok(None)
+            } else {
+                Ok(before)
+            }
+        }
+        _ => Ok(None),
+    }
+}
+
+// The reply that the reading at this place took.
+fn reply_taken_at(alloc: Global, record: &Record, place: u32) -> Result<Option<u32>, Fault>
+    requires seats { (1 ≤ «record».now.seats) × («record».now.seats ≤ 16) }
+    ensures { MatchResult result (λ r. r ≡ spec.reply_taken_at (history_of «record».now) place) (λ f. f ≡ faults.NoMemory) }
+{
+    match record.entries.as_slice().get(place as usize) {
+        Some(entry) => {
+            let mut engine = played_to(alloc, record, place as usize)?;
+            take_reply(&mut engine, entry)
+        }
+        None => Ok(None),
+    }
+}
+
+// The call that the reply at this place answers.
+fn call_closed_at(alloc: Global, record: &Record, place: u32) -> Result<Option<u32>, Fault>
+    requires seats { (1 ≤ «record».now.seats) × («record».now.seats ≤ 16) }
+    ensures { MatchResult result (λ r. r ≡ spec.call_closed_at (history_of «record».now) place) (λ f. f ≡ faults.NoMemory) }
+{
+    match record.entries.as_slice().get(place as usize) {
+        Some(entry) => {
+            let engine = played_to(alloc, record, place as usize)?;
+            match engine.innermost(entry.seat) {
+                Some((made, _)) => Ok(Some(made)),
+                None => Ok(None),
+            }
+        }
+        None => Ok(None),
+    }
+}
+
+/// The call that is answered by the reading at a place: where it was made. `None` where that reading handed out no reply,
+/// and where no reading stands at the place. The record is a history; the only fault is `NoMemory`.
+pub fn call_of_reply(alloc: Global, record: &Record, step: u32) -> Result<Option<u32>, Fault>
+    requires seats { (1 ≤ «record».now.seats) × («record».now.seats ≤ 16) }
+    requires lawful { IsHistory (history_of «record».now) }
+    ensures { MatchResult result (λ found. found ≡ spec.call_answered (history_of «record».now) step) (λ f. f ≡ faults.NoMemory) }
+{
+    match reply_taken_at(alloc, record, step)? {
+        Some(reply) => call_closed_at(alloc, record, reply),
+        None => Ok(None),
+    }
+}

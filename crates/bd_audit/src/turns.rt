@@ -1,0 +1,144 @@
+//! The one-way calls on an object, turn by turn.
+
+ghost use Rattle.std.specs.Prelude.{◌≡◌, ◌≤◌, map, IfOk, IfErr, MatchResult};
+ghost use Rattle.std.specs.List.{filter_map};
+ghost use Rattle.std.specs.Option.{option_to_list};
+ghost use Rattle.bd_uapi.specs.declared.fault.Fault.TheVariants as faults;
+ghost use Rattle.bd_space.specs.Histories.{IsHistory, space_after};
+ghost use Rattle.bd_audit.specs.Replays.{history_of, with_entry};
+ghost use Rattle.bd_audit.specs.OneWayTurns as spec;
+
+use crate::judging::accept;
+use bd_engine::Engine;
+use bd_space::{Buffer, Entry, ObjectId, Record};
+use bd_uapi::Fault;
+use std::alloc::Global;
+
+/// A one-way call: where it was made, where it was handed out, and where its buffer ended, if they did.
+#[derive(Clone, Copy, Debug, PartialEq, Eq)]
+pub struct Turn {
+    /// The place of its transaction.
+    pub made: u32,
+    /// The place where its call was read.
+    pub handed: Option<u32>,
+    /// The place where its buffer ended.
+    pub ended: Option<u32>,
+}
+
+// The place of what has happened, or this one if it happens now.
+fn noted_at(earlier: Option<u32>, place: u32, now: bool) -> Option<u32>
+    ensures { result ≡ spec.noted_at earlier place now }
+{
+    match earlier {
+        Some(place) => Some(place),
+        None => { if now { Some(place) } else { None } }
+    }
+}
+
+fn is_live(engine: &Engine, made: u32) -> bool
+    ensures { result ≡ spec.is_live (space_after engine.now).buffers made }
+{
+    match engine.buffer(made) {
+        Some(_) => true,
+        None => false,
+    }
+}
+
+fn is_handed(engine: &Engine, made: u32) -> bool
+    ensures { result ≡ spec.is_handed (space_after engine.now).buffers made }
+{
+    match engine.buffer(made) {
+        Some(buffer) => buffer.handed,
+        None => false,
+    }
+}
+
+fn is_call_on(buffer: &Buffer, object: ObjectId) -> bool
+    ensures { result ≡ spec.is_call_on object buffer.now }
+{
+    buffer.one_way && matches!(buffer.target, Some(target) if target == object)
+}
+
+// The turn after the engine's last step, which stands at this place.
+fn marked(engine: &Engine, place: u32, turn: Turn) -> Turn
+    ensures { result ≡ spec.marked place (space_after engine.now).buffers turn }
+{
+    Turn {
+        made: turn.made,
+        handed: noted_at(turn.handed, place, is_handed(engine, turn.made)),
+        ended: noted_at(turn.ended, place, !is_live(engine, turn.made)),
+    }
+}
+
+fn mark(turns: &mut [Turn], engine: &Engine, place: u32)
+    ensures { turns.new ≡ map (spec.marked place (space_after engine.now).buffers) turns.old }
+{
+    for turn in turns.iter_mut() {
+        *turn = marked(engine, place, *turn);
+    }
+}
+
+// The turn that the step at this place made, if it did.
+fn turn_made(engine: &Engine, place: u32, object: ObjectId) -> Option<Turn>
+    ensures { option_to_list result ≡ filter_map (spec.turn_made object place) (space_after engine.now).buffers }
+{
+    match engine.buffer(place) {
+        Some(buffer) => {
+            if is_call_on(buffer, object) {
+                Some(Turn {
+                    made: place,
+                    handed: None,
+                    ended: None,
+                })
+            } else {
+                None
+            }
+        }
+        None => None,
+    }
+}
+
+// Makes the step of an entry of a history.
+pub(crate) fn advance(engine: &mut Engine, entry: &Entry) -> Result<(), Fault>
+    ensures ok { IfOk result (λ _. engine.new ≡ with_entry engine.old entry.now) }
+    ensures fault { IfErr result (λ f. f ≡ faults.NoMemory) }
+{
+    match accept(engine, entry) {
+        Ok(()) => Ok(()),
+        Err(_) => Err(Fault::NoMemory),
+    }
+}
+
+// Notes the engine's last step, which stands at this place.
+fn note(turns: &mut Vec<Turn>, engine: &Engine, place: u32, object: ObjectId) -> Result<(), Fault>
+    ensures ok { IfOk result (λ _. turns.new.items ≡ spec.next_turns object place (space_after engine.now).buffers turns.old.items) }
+    ensures fault { IfErr result (λ f. f ≡ faults.NoMemory) }
+{
+    mark(turns, engine, place);
+    match turn_made(engine, place, object) {
+        Some(turn) => match turns.push(turn) {
+            Ok(()) => Ok(()),
+            Err(_) => Err(Fault::NoMemory),
+        },
+        None => Ok(()),
+    }
+}
+
+/// The one-way calls on an object, in the order in which they were made. The record is a history; the only fault is
+/// `NoMemory`.
+pub fn oneway_turns(alloc: Global, record: &Record, object: ObjectId) -> Result<Vec<Turn>, Fault>
+    requires seats { (1 ≤ «record».now.seats) × («record».now.seats ≤ 16) }
+    requires lawful { IsHistory (history_of «record».now) }
+    ensures { MatchResult result (λ v. v.items ≡ spec.turns_on object (history_of «record».now)) (λ f. f ≡ faults.NoMemory) }
+{
+    let Ok(mut engine) = Engine::new(alloc, record.seats) else {
+        return Err(Fault::NoMemory);
+    };
+    let mut turns = Vec::new(alloc);
+    for entry in record.entries.as_slice() {
+        let place = engine.len();
+        advance(&mut engine, entry)?;
+        note(&mut turns, &engine, place, object)?;
+    }
+    Ok(turns)
+}
