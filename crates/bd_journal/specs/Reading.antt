@@ -1,0 +1,175 @@
+-- Reading a journal from left to right, on lists of bytes.
+use Rattle.std.specs.Prelude.{◌≡◌, ℕ, zero, suc, nat_lt, nat_le, ◌==◌, Bool, true, false, ◌&&◌, not, List, [], ◌∷◌, length, take, drop, Option, Some, None, Result, Ok, Err, if◌then◌else◌}
+use Rattle.bd_uapi.specs.Bytes.{word_at}
+use Rattle.bd_uapi.specs.declared.fault.Fault.{Fault}
+use Rattle.bd_uapi.specs.declared.command.Command.{Command}
+use Rattle.bd_codec.specs.Reading.{command_at}
+use Rattle.bd_space.specs.declared.step.Parcel.{Parcel}
+use Rattle.bd_space.specs.declared.step.Step.{Step}
+use Rattle.bd_space.specs.declared.step.Step.TheVariants as step
+use Rattle.bd_space.specs.declared.step.StepAnswer.{StepAnswer}
+use Rattle.bd_space.specs.declared.step.StepAnswer.TheVariants as answer
+use Rattle.bd_space.specs.declared.step.Entry.{Entry}
+use Rattle.bd_space.specs.declared.record.Record.{Record}
+use Rattle.bd_journal.specs.declared.fault.ReadError.{ReadError}
+use Rattle.bd_journal.specs.declared.fault.ReadError.TheVariants as errors
+use Rattle.bd_journal.specs.Codes.{numbered, note_rows, cause_rows, fault_rows}
+use Rattle.bd_journal.specs.Spelling.{carries}
+
+infixl 10 ◌>>=◌
+abbrev pub ◌>>=◌ : {A B : Type 0} → Option A → (A → Option B) → Option B
+(Some x) >>= f = f x
+None >>= f = None
+
+-- What a function returned, seen by view, is what reading gives, unless memory ran out.
+abbrev pub Fails : {Y : Type 0} → ReadError → Option Y → Type 0
+Fails errors.Memory read = Unit {0}
+Fails errors.Malformed read = read ≡ None
+
+abbrev pub Gives : {X Y : Type 0} → (X → Y) → Result X ReadError → Option Y → Type 0
+Gives view (Ok x) read = read ≡ Some (view x)
+Gives view (Err e) read = Fails e read
+
+-- ---- fields: each is a value and the bytes after it
+
+unfoldable pub byte_from : List ℕ → Option (ℕ × List ℕ)
+byte_from [] = None
+byte_from (b ∷ rest) = Some (b, rest)
+
+unfoldable pub word_from : List ℕ → Option (ℕ × List ℕ)
+word_from bytes = if nat_lt (length bytes) 4 then None else Some (word_at 0 bytes, drop 4 bytes)
+
+unfoldable pub block_from : List ℕ → Option (List ℕ × List ℕ)
+block_from bytes = do
+  n ← word_from bytes
+  if nat_lt (length n.1) n.0 then None else Some (take n.0 n.1, drop n.0 n.1)
+
+-- a value that takes all of the bytes
+abbrev pub whole : {A : Type 0} → (List ℕ → Option (A × List ℕ)) → List ℕ → Option A
+whole read bytes = read bytes >>= λ x. if length x.1 == 0 then Some x.0 else None
+
+-- a block that is all of one value
+abbrev pub whole_block_from : {A : Type 0} → (List ℕ → Option (A × List ℕ)) → List ℕ → Option (A × List ℕ)
+whole_block_from read bytes = block_from bytes >>= λ b. whole read b.0 >>= λ x. Some (x, b.1)
+
+-- ---- steps
+
+abbrev pub spelled_by : ℕ → Result (Command × ℕ) Fault → Option Command
+spelled_by len (Ok c) = if c.1 == len then Some c.0 else None
+spelled_by len (Err f) = None
+
+-- the command whose spelling the bytes are
+unfoldable pub command_in : List ℕ → Option Command
+command_in bytes = spelled_by (length bytes) (command_at bytes)
+
+abbrev pub blocks_from : List ℕ → Option (Option Parcel × List ℕ)
+blocks_from bytes = do
+  carried ← block_from bytes
+  offsets ← block_from carried.1
+  Some (Some (record { bytes = carried.0; offsets = offsets.0 }), offsets.1)
+
+abbrev pub parcel_by : Bool → ℕ → List ℕ → Option (Option Parcel × List ℕ)
+parcel_by carrying flag rest = if flag == 0 then Some (None, rest) else if (flag == 1) && carrying then blocks_from rest else None
+
+unfoldable pub parcel_from : Command → List ℕ → Option (Option Parcel × List ℕ)
+parcel_from c bytes = byte_from bytes >>= λ flag. parcel_by (carries c) flag.0 flag.1
+
+unfoldable pub command_step_from : List ℕ → Option (Step × List ℕ)
+command_step_from bytes = do
+  spelled ← block_from bytes
+  command ← command_in spelled.0
+  parcel ← parcel_from command spelled.1
+  Some (step.Command command parcel.0, parcel.1)
+
+unfoldable pub open_from : List ℕ → Option (Step × List ℕ)
+open_from bytes = do
+  pid ← word_from bytes
+  euid ← word_from pid.1
+  window ← word_from euid.1
+  Some (step.Open pid.0 euid.0 window.0, window.1)
+
+-- a step of one number
+abbrev pub number_step_from : (ℕ → Step) → List ℕ → Option (Step × List ℕ)
+number_step_from make bytes = word_from bytes >>= λ n. Some (make n.0, n.1)
+
+-- what the first byte says how to read, by a table
+abbrev pub tagged : {A : Type 0} → List (ℕ × (List ℕ → Option (A × List ℕ))) → ℕ → List ℕ → Option (A × List ℕ)
+tagged [] tag rest = None
+tagged (row ∷ rows) tag rest = if tag == row.0 then row.1 rest else tagged rows tag rest
+
+-- a value without more bytes
+abbrev pub bare : {A : Type 0} → A → List ℕ → Option (A × List ℕ)
+bare x rest = Some (x, rest)
+
+abbrev pub step_rows : List (ℕ × (List ℕ → Option (Step × List ℕ)))
+step_rows =
+    (0, open_from)
+    ∷ (1, number_step_from step.Attach)
+    ∷ (2, bare step.SetManager)
+    ∷ (3, command_step_from)
+    ∷ (4, number_step_from step.Read)
+    ∷ (5, bare step.ExitThread)
+    ∷ (6, bare step.ExitProcess)
+    ∷ []
+
+unfoldable pub step_from : List ℕ → Option (Step × List ℕ)
+step_from bytes = byte_from bytes >>= λ tag. tagged step_rows tag.0 tag.1
+
+-- ---- answers
+
+-- an answer with a number out of a table
+abbrev pub numbered_from : {A : Type 0} → List (ℕ × A) → (A → StepAnswer) → List ℕ → Option (StepAnswer × List ℕ)
+numbered_from rows make bytes = byte_from bytes >>= λ n. numbered rows n.0 >>= λ x. Some (make x, n.1)
+
+unfoldable pub got_from : List ℕ → Option (StepAnswer × List ℕ)
+got_from bytes = do
+  stream ← block_from bytes
+  carried ← block_from stream.1
+  offsets ← block_from carried.1
+  Some (answer.Got stream.0 carried.0 offsets.0, offsets.1)
+
+abbrev pub answer_rows : List (ℕ × (List ℕ → Option (StepAnswer × List ℕ)))
+answer_rows =
+    (0, bare answer.Opened)
+    ∷ (1, bare answer.Set)
+    ∷ (2, bare answer.Exited)
+    ∷ (3, bare answer.Accepted)
+    ∷ (4, numbered_from note_rows answer.Noted)
+    ∷ (5, numbered_from cause_rows answer.Stopped)
+    ∷ (6, got_from)
+    ∷ (7, numbered_from fault_rows answer.Refused)
+    ∷ []
+
+unfoldable pub answer_from : List ℕ → Option (StepAnswer × List ℕ)
+answer_from bytes = byte_from bytes >>= λ tag. tagged answer_rows tag.0 tag.1
+
+-- ---- the journal
+
+unfoldable pub entry_from : ℕ → List ℕ → Option (Entry × List ℕ)
+entry_from seats bytes = do
+  seat ← word_from bytes
+  done ← whole_block_from step_from seat.1
+  given ← whole_block_from answer_from done.1
+  if nat_lt seat.0 seats then Some (record { seat = seat.0; step = done.0; answer = given.0 }, given.1) else None
+
+unfoldable pub entries_from : ℕ → ℕ → List ℕ → Option (List Entry × List ℕ)
+entries_from seats zero bytes = Some ([], bytes)
+entries_from seats (suc n) bytes = do
+  first ← entry_from seats bytes
+  others ← entries_from seats n first.1
+  Some (first.0 ∷ others.0, others.1)
+
+-- the number of seats, behind what each journal begins with
+unfoldable pub seats_from : List ℕ → Option (ℕ × List ℕ)
+seats_from bytes = do
+  kind ← word_from bytes
+  version ← word_from kind.1
+  seats ← word_from version.1
+  if (kind.0 == 0x4a444e42) && (version.0 == 0x31303030) && nat_le 1 seats.0 && nat_le seats.0 16 then Some seats else None
+
+unfoldable pub journal_in : List ℕ → Option Record
+journal_in bytes = do
+  seats ← seats_from bytes
+  count ← word_from seats.1
+  entries ← entries_from seats.0 count.0 count.1
+  if length entries.1 == 0 then Some (record { seats = seats.0; entries = entries.0 }) else None

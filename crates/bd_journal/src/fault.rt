@@ -1,0 +1,48 @@
+//! Why a journal can't be read or written.
+
+ghost use Rattle.std.specs.Prelude.{◌≡◌};
+ghost use Rattle.bd_journal.specs.declared.fault.ReadError.TheVariants.{Memory};
+
+use std::alloc::{AllocError, AllocFailed};
+use thiserror::Error;
+
+/// Why bytes give no record.
+#[derive(Clone, Copy, Debug, PartialEq, Eq, Error)]
+pub enum ReadError {
+    /// They are no journal.
+    #[error("the bytes are no journal")]
+    Malformed,
+    /// Memory was refused.
+    #[error("out of memory")]
+    Memory,
+}
+
+impl From<AllocError> for ReadError {
+    ghost from_gives = { λ _ e. e ≡ Memory };
+
+    fn from(_e: AllocError) -> ReadError {
+        ReadError::Memory
+    }
+}
+
+impl<T: Drop> From<AllocFailed<T>> for ReadError {
+    ghost from_gives = { λ _ e. e ≡ Memory };
+
+    fn from(_e: AllocFailed<T>) -> ReadError {
+        ReadError::Memory
+    }
+}
+
+/// Why a record wasn't written.
+#[derive(Clone, Copy, Debug, PartialEq, Eq, Error)]
+pub enum WriteError {
+    /// No journal spells it: a seat or a length is out of its range, or a parcel stands beside a command without one.
+    #[error("no journal spells the record")]
+    Unspellable,
+    /// Memory was refused.
+    #[error("out of memory")]
+    Memory,
+    /// The writer refused bytes.
+    #[error("the journal can't be written")]
+    Refused,
+}

@@ -1,0 +1,13 @@
+//! Journals: records of histories as bytes, written and read.
+#![tactic(auto)]
+
+mod codes;
+mod fault;
+mod fields;
+mod reading;
+mod writing;
+
+pub use codes::{cause_number, fault_number, note_number};
+pub use fault::{ReadError, WriteError};
+pub use reading::read_journal;
+pub use writing::write_journal;

@@ -1,0 +1,260 @@
+//! Reading a journal.
+
+ghost use Rattle.std.specs.Prelude.{◌≡◌, List, ℕ, length, IfOk, Some};
+ghost use Rattle.bd_space.specs.declared.record.Record.{Record};
+ghost use Rattle.bd_journal.specs.Spelling.{IsJournal, journal_bytes, carries};
+ghost use Rattle.bd_journal.specs.Reading.{Gives, command_in, parcel_from, command_step_from, open_from, step_from, got_from, answer_from, whole_block_from, entry_from, entries_from, seats_from, journal_in};
+
+use crate::codes::{cause_with, fault_with, note_with};
+use crate::fault::ReadError;
+use crate::fields::{block_at, byte_at, bytes_at, word_at};
+use bd_codec::read_command;
+use bd_space::{Entries, Entry, Parcel, Record, Step, StepAnswer};
+use bd_uapi::Command;
+use std::alloc::Global;
+
+// What a journal begins with, as two numbers: BNDJ, and 0001.
+pub const KIND: u32 = 0x4a44_4e42;
+
+pub const VERSION: u32 = 0x3130_3030;
+
+// The most seats of a driver.
+pub const MOST_SEATS: u32 = 16;
+
+// Whether a parcel can stand beside the command.
+pub fn carries_parcel(command: &Command) -> bool
+    ensures { result ≡ carries command.now }
+{
+    matches!(command, Command::Transaction(_) | Command::Reply(_))
+}
+
+// The command that the bytes spell, all of them.
+#[tactic(auto, unfolding(crate::specs::Reading::command_in))]
+fn command_of(bytes: &[u8]) -> Result<Command, ReadError>
+    ensures { Gives (λ c. c) result (command_in bytes.now) }
+{
+    match read_command(bytes) {
+        Ok((command, len)) if len == bytes.len() => Ok(command),
+        _ => Err(ReadError::Malformed),
+    }
+}
+
+#[tactic(auto, unfolding(crate::specs::Reading::parcel_from))]
+fn parcel_at<'a>(
+    alloc: Global,
+    command: &Command,
+    bytes: &'a [u8],
+) -> Result<(Option<Parcel>, &'a [u8]), ReadError>
+    ensures { Gives (λ x. (x.0, x.1.now)) result (parcel_from command.now bytes.now) }
+{
+    let (flag, rest) = byte_at(bytes)?;
+    if flag == 0 {
+        return Ok((None, rest));
+    }
+    if flag != 1 || !carries_parcel(command) {
+        return Err(ReadError::Malformed);
+    }
+    let (data, rest) = bytes_at(alloc, rest)?;
+    let (offsets, rest) = bytes_at(alloc, rest)?;
+    let parcel = Parcel {
+        bytes: data,
+        offsets,
+    };
+    Ok((Some(parcel), rest))
+}
+
+#[tactic(auto, unfolding(crate::specs::Reading::command_step_from))]
+fn command_at(alloc: Global, bytes: &[u8]) -> Result<(Step, &[u8]), ReadError>
+    ensures { Gives (λ x. (x.0, x.1.now)) result (command_step_from bytes.now) }
+{
+    let (spelled, rest) = block_at(bytes)?;
+    let command = command_of(spelled)?;
+    let (parcel, rest) = parcel_at(alloc, &command, rest)?;
+    Ok((Step::Command { command, parcel }, rest))
+}
+
+#[tactic(auto, unfolding(crate::specs::Reading::open_from))]
+fn open_at(bytes: &[u8]) -> Result<(Step, &[u8]), ReadError>
+    ensures { Gives (λ x. (x.0, x.1.now)) result (open_from bytes.now) }
+{
+    let (pid, rest) = word_at(bytes)?;
+    let (euid, rest) = word_at(rest)?;
+    let (window, rest) = word_at(rest)?;
+    Ok((Step::Open { pid, euid, window }, rest))
+}
+
+#[tactic(auto, unfolding(crate::specs::Reading::step_from))]
+fn step_at(alloc: Global, bytes: &[u8]) -> Result<(Step, &[u8]), ReadError>
+    ensures { Gives (λ x. (x.0, x.1.now)) result (step_from bytes.now) }
+{
+    let (tag, rest) = byte_at(bytes)?;
+    match tag {
+        0 => open_at(rest),
+        1 => {
+            let (pid, rest) = word_at(rest)?;
+            Ok((Step::Attach { pid }, rest))
+        }
+        2 => Ok((Step::SetManager, rest)),
+        3 => command_at(alloc, rest),
+        4 => {
+            let (limit, rest) = word_at(rest)?;
+            Ok((Step::Read { limit }, rest))
+        }
+        5 => Ok((Step::ExitThread, rest)),
+        6 => Ok((Step::ExitProcess, rest)),
+        _ => Err(ReadError::Malformed),
+    }
+}
+
+#[tactic(auto, unfolding(crate::specs::Reading::got_from))]
+fn got_at(alloc: Global, bytes: &[u8]) -> Result<(StepAnswer, &[u8]), ReadError>
+    ensures { Gives (λ x. (x.0, x.1.now)) result (got_from bytes.now) }
+{
+    let (stream, rest) = bytes_at(alloc, bytes)?;
+    let (data, rest) = bytes_at(alloc, rest)?;
+    let (offsets, rest) = bytes_at(alloc, rest)?;
+    let got = StepAnswer::Got {
+        stream,
+        bytes: data,
+        offsets,
+    };
+    Ok((got, rest))
+}
+
+// What a number out of a table says.
+fn numbered<T>(found: Option<T>) -> Result<T, ReadError>
+    ensures { Gives (λ x. x) result found }
+{
+    match found {
+        Some(x) => Ok(x),
+        None => Err(ReadError::Malformed),
+    }
+}
+
+#[tactic(auto, unfolding(crate::specs::Reading::answer_from))]
+fn answer_at(alloc: Global, bytes: &[u8]) -> Result<(StepAnswer, &[u8]), ReadError>
+    ensures { Gives (λ x. (x.0, x.1.now)) result (answer_from bytes.now) }
+{
+    let (tag, rest) = byte_at(bytes)?;
+    match tag {
+        0 => Ok((StepAnswer::Opened, rest)),
+        1 => Ok((StepAnswer::Set, rest)),
+        2 => Ok((StepAnswer::Exited, rest)),
+        3 => Ok((StepAnswer::Accepted, rest)),
+        4 => {
+            let (number, rest) = byte_at(rest)?;
+            Ok((StepAnswer::Noted(numbered(note_with(number))?), rest))
+        }
+        5 => {
+            let (number, rest) = byte_at(rest)?;
+            Ok((StepAnswer::Stopped(numbered(cause_with(number))?), rest))
+        }
+        6 => got_at(alloc, rest),
+        7 => {
+            let (number, rest) = byte_at(rest)?;
+            Ok((StepAnswer::Refused(numbered(fault_with(number))?), rest))
+        }
+        _ => Err(ReadError::Malformed),
+    }
+}
+
+// A step that takes a whole block.
+fn step_in(alloc: Global, bytes: &[u8]) -> Result<(Step, &[u8]), ReadError>
+    ensures { Gives (λ x. (x.0, x.1.now)) result (whole_block_from step_from bytes.now) }
+{
+    let (block, rest) = block_at(bytes)?;
+    let (step, after) = step_at(alloc, block)?;
+    if !after.is_empty() {
+        return Err(ReadError::Malformed);
+    }
+    Ok((step, rest))
+}
+
+// An answer that takes a whole block.
+fn answer_in(alloc: Global, bytes: &[u8]) -> Result<(StepAnswer, &[u8]), ReadError>
+    ensures { Gives (λ x. (x.0, x.1.now)) result (whole_block_from answer_from bytes.now) }
+{
+    let (block, rest) = block_at(bytes)?;
+    let (answer, after) = answer_at(alloc, block)?;
+    if !after.is_empty() {
+        return Err(ReadError::Malformed);
+    }
+    Ok((answer, rest))
+}
+
+#[tactic(auto, unfolding(crate::specs::Reading::entry_from))]
+fn entry_at(alloc: Global, seats: u32, bytes: &[u8]) -> Result<(Entry, &[u8]), ReadError>
+    ensures { Gives (λ x. (x.0, x.1.now)) result (entry_from seats bytes.now) }
+{
+    let (seat, rest) = word_at(bytes)?;
+    let (step, rest) = step_in(alloc, rest)?;
+    let (answer, rest) = answer_in(alloc, rest)?;
+    if seat >= seats {
+        return Err(ReadError::Malformed);
+    }
+    Ok((Entry { seat, step, answer }, rest))
+}
+
+// Nothing is asked for by the count: an entry is stored once its bytes were there.
+fn entries_at(
+    alloc: Global,
+    seats: u32,
+    count: u32,
+    bytes: &[u8],
+) -> Result<(Vec<Entry>, &[u8]), ReadError>
+    ensures { Gives (λ x. (x.0.items, x.1.now)) result (entries_from seats count bytes.now) }
+{
+    let mut entries = Vec::new(alloc);
+    let mut rest = bytes;
+    for _ in 0..count {
+        let (entry, after) = entry_at(alloc, seats, rest)?;
+        entries.push(entry)?;
+        rest = after;
+    }
+    Ok((entries, rest))
+}
+
+#[tactic(auto, unfolding(crate::specs::Reading::seats_from))]
+fn seats_at(bytes: &[u8]) -> Result<(u32, &[u8]), ReadError>
+    ensures { Gives (λ x. (x.0, x.1.now)) result (seats_from bytes.now) }
+{
+    let (kind, rest) = word_at(bytes)?;
+    let (version, rest) = word_at(rest)?;
+    let (seats, rest) = word_at(rest)?;
+    if kind != KIND || version != VERSION || seats < 1 || seats > MOST_SEATS {
+        return Err(ReadError::Malformed);
+    }
+    Ok((seats, rest))
+}
+
+#[tactic(auto, unfolding(crate::specs::Reading::journal_in))]
+fn journal_of(alloc: Global, bytes: &[u8]) -> Result<Record, ReadError>
+    ensures { Gives (λ r. r) result (journal_in bytes.now) }
+{
+    let (seats, rest) = seats_at(bytes)?;
+    let (count, rest) = word_at(rest)?;
+    let (entries, rest) = entries_at(alloc, seats, count, rest)?;
+    if !rest.is_empty() {
+        return Err(ReadError::Malformed);
+    }
+    Ok(Record {
+        seats,
+        entries: Entries::new(entries),
+    })
+}
+
+/// The record that the bytes spell, all of the bytes. Nothing is asked for by a count or a length that the bytes
+/// don't bear out.
+///
+/// # Errors
+/// `Malformed` where no record is spelled so, `Memory` where memory was refused.
+pub fn read_journal(alloc: Global, bytes: &[u8]) -> Result<Record, ReadError>
+    // What is read is spelled so, each byte of it.
+    ensures found { IfOk result (λ r. IsJournal r × (bytes.now ≡ journal_bytes r)) }
+    // What is spelled so is read, unless memory runs out: what was written is read again.
+    ensures only { (r : Record) → IsJournal r → bytes.now ≡ journal_bytes r → Gives (λ x. x) result (Some r) }
+    // All of it at once, by a function that computes.
+    ensures computed { Gives (λ x. x) result (journal_in bytes.now) }
+{
+    journal_of(alloc, bytes)
+}

@@ -1,0 +1,75 @@
+//! Bytes in hex: lower-case pairs of digits, or `-` for none.
+
+ghost use Rattle.std.specs.Prelude.{◌≡◌, ◌↔◌, ◌<◌, [], ◌∷◌, IsTrue, IfOk, IfSome};
+ghost use Rattle.std.specs.List.{flat_map};
+ghost use Rattle.bd_script.specs.Hex.{digit_of, hex_digit, hex_pair, hex_word};
+
+use std::alloc::{AllocError, Global};
+
+// The most bytes that a word spells.
+const MOST_BYTES: usize = 4_194_304;
+
+// What a digit stands for.
+fn digit_value(byte: u8) -> Option<u8>
+    ensures { result ≡ digit_of byte }
+{
+    match byte {
+        b'0'..=b'9' => Some(byte - b'0'),
+        b'a'..=b'f' => Some(byte - b'a' + 10),
+        _ => None,
+    }
+}
+
+/// The digit for a number below 16.
+pub fn hex_digit(number: u8) -> u8
+    requires { number < 16 }
+    ensures { result ≡ hex_digit number }
+{
+    if number < 10 {
+        b'0' + number
+    } else {
+        b'a' - 10 + number
+    }
+}
+
+// Whether a word stands for nothing.
+pub fn is_nothing(word: &[u8]) -> bool
+    ensures { IsTrue result ↔ (word.now ≡ 45 ∷ []) }
+{
+    matches!(word, [b'-'])
+}
+
+// The bytes that pairs of digits spell.
+fn pairs_in(alloc: Global, word: &[u8]) -> Result<Option<Vec<u8>>, AllocError>
+    ensures { IfOk result (λ found. IfSome found (λ bytes. word.now ≡ flat_map hex_pair bytes.items)) }
+{
+    let mut bytes = Vec::new(alloc);
+    let mut rest = word;
+    for _ in 0..MOST_BYTES {
+        match rest {
+            [] => return Ok(Some(bytes)),
+            [high, low, after @ ..] => {
+                let (Some(high), Some(low)) = (digit_value(*high), digit_value(*low)) else {
+                    return Ok(None);
+                };
+                bytes.push(high * 16 + low)?;
+                rest = after;
+            }
+            [_] => return Ok(None),
+        }
+    }
+    Ok(if rest.is_empty() { Some(bytes) } else { None })
+}
+
+/// The bytes that a word spells, if it spells at most 4194304.
+pub fn bytes_in(alloc: Global, word: &[u8]) -> Result<Option<Vec<u8>>, AllocError>
+    ensures { IfOk result (λ found. IfSome found (λ bytes. word.now ≡ hex_word bytes.items)) }
+{
+    if is_nothing(word) {
+        return Ok(Some(Vec::new(alloc)));
+    }
+    if word.is_empty() {
+        return Ok(None);
+    }
+    pairs_in(alloc, word)
+}

@@ -1,0 +1,174 @@
+//! Whole scripts.
+
+ghost use Rattle.std.specs.Prelude.{◌≡◌};
+ghost use Rattle.bd_script.specs.declared.script.Trouble.TheVariants.{Memory};
+
+use crate::requests::verb_of;
+use crate::words::{number_in, words_of};
+use bd_space::Request;
+use std::alloc::{AllocError, AllocFailed, Global};
+use thiserror::Error;
+
+/// The most seats of a driver.
+const MOST_SEATS: u32 = 16;
+
+/// What a line does.
+#[derive(Drop, Debug)]
+pub enum Verb {
+    /// Calls the driver.
+    Call(Request),
+    /// Hands a request over.
+    Post(Request),
+    /// Looks at the driver's page once.
+    Look,
+    /// Looks until the stamp is at least this.
+    Await(u32),
+    /// Serves all mailboxes once.
+    Serve,
+    /// Takes the answer to what was handed over.
+    Collect,
+    /// Takes back what was handed over.
+    Withdraw,
+}
+
+/// A line that runs.
+#[derive(Drop, Debug)]
+pub struct Line {
+    /// Its number in the script, from 1.
+    pub number: u64,
+    /// The seat that it is for.
+    pub seat: u32,
+    /// What it does.
+    pub verb: Verb,
+}
+
+/// What a script says.
+#[derive(Drop, Debug)]
+pub struct Script {
+    /// How many seats there are, 1 to 16.
+    pub seats: u32,
+    /// The lines that run, in the script's order.
+    pub lines: Vec<Line>,
+}
+
+/// Why there is no script.
+#[derive(Clone, Copy, Debug, PartialEq, Eq, Error)]
+pub enum ScriptError {
+    /// The first bad line, from 1; 0 where no line says how many seats there are.
+    #[error("line {0} is bad")]
+    Line(u64),
+    /// Memory was refused.
+    #[error("out of memory")]
+    Memory,
+}
+
+/// Why a line's words say nothing.
+#[derive(Clone, Copy, Debug, PartialEq, Eq)]
+pub enum Trouble {
+    /// They make no sense.
+    Bad,
+    /// Memory was refused.
+    Memory,
+}
+
+impl From<AllocError> for Trouble {
+    ghost from_gives = { λ _ e. e ≡ Memory };
+
+    fn from(_e: AllocError) -> Trouble {
+        Trouble::Memory
+    }
+}
+
+impl<T: Drop> From<AllocFailed<T>> for Trouble {
+    ghost from_gives = { λ _ e. e ≡ Memory };
+
+    fn from(_e: AllocFailed<T>) -> Trouble {
+        Trouble::Memory
+    }
+}
+
+impl Trouble {
+    // The trouble of the line with this number.
+    fn at(self, number: u64) -> ScriptError {
+        match self {
+            Trouble::Bad => ScriptError::Line(number),
+            Trouble::Memory => ScriptError::Memory,
+        }
+    }
+}
+
+// Whether the line does nothing. A byte outside ASCII, a TAB or a CR is bad in a comment too.
+fn is_idle(text: &[u8]) -> Result<bool, Trouble> {
+    if text.iter().any(|b| *b >= 128 || *b == b'\t' || *b == b'\r') {
+        return Err(Trouble::Bad);
+    }
+    Ok(matches!(text, [] | [b'#', ..]))
+}
+
+// The number of seats in the first line that isn't idle.
+fn seats_in(alloc: Global, text: &[u8]) -> Result<u32, Trouble> {
+    let words = words_of(alloc, text)?;
+    match words.as_slice() {
+        [name, count] if *name == b"seats".as_slice() => {
+            let seats = number_in(count, MOST_SEATS)?;
+            if seats == 0 {
+                Err(Trouble::Bad)
+            } else {
+                Ok(seats)
+            }
+        }
+        _ => Err(Trouble::Bad),
+    }
+}
+
+// A seat below the number of seats, and its verb.
+fn line_in(alloc: Global, seats: u32, number: u64, text: &[u8]) -> Result<Line, Trouble> {
+    let words = words_of(alloc, text)?;
+    match words.as_slice() {
+        [seat, verb, args @ ..] => {
+            let seat = number_in(seat, MOST_SEATS)?;
+            if seat >= seats {
+                return Err(Trouble::Bad);
+            }
+            let verb = verb_of(alloc, verb, args)?;
+            Ok(Line { number, seat, verb })
+        }
+        _ => Err(Trouble::Bad),
+    }
+}
+
+// Adds what the line with this number says.
+fn add_line(alloc: Global, script: &mut Script, number: u64, text: &[u8]) -> Result<(), Trouble> {
+    if is_idle(text)? {
+        return Ok(());
+    }
+    if script.seats == 0 {
+        script.seats = seats_in(alloc, text)?;
+        return Ok(());
+    }
+    let line = line_in(alloc, script.seats, number, text)?;
+    script.lines.push(line)?;
+    Ok(())
+}
+
+/// What a script's bytes say.
+///
+/// # Errors
+/// `Line` with the number of the first bad line, `Memory` where memory was refused.
+pub fn read_script(alloc: Global, bytes: &[u8]) -> Result<Script, ScriptError> {
+    let mut script = Script {
+        seats: 0,
+        lines: Vec::new(alloc),
+    };
+    let mut number = 0u64;
+    for text in bytes.split(|b| *b == b'\n') {
+        number = number.saturating_add(1);
+        if let Err(trouble) = add_line(alloc, &mut script, number, text) {
+            return Err(trouble.at(number));
+        }
+    }
+    if script.seats == 0 {
+        return Err(ScriptError::Line(0));
+    }
+    Ok(script)
+}
