@@ -1,0 +1,189 @@
+//! The program's words.
+
+use crate::faults::Fault;
+use clap::error::ErrorKind;
+use clap::{Arg, ArgAction, ArgMatches, Command, Error, value_parser};
+use std::alloc::{AllocError, Global};
+
+/// The turns of a line where none are given.
+const TURNS: u32 = 100_000_000;
+
+const ABOUT: &str = "Plays scripts against a driver of Binder transactions, and judges journals";
+
+const PROGRAM_HELP: &str = "\
+With no words at all a script is played from standard input.
+
+A script has one line a request: the first says how many seats there are, each other line names a seat and what it
+does. A seat opens a process (pid 100, euid 1000, a window of 4096 bytes), becomes the context manager and enters the
+loop; another makes a one-way call with code 7 and the bytes 6869 to handle 0, and both read:
+
+    seats 2
+    0 open 100 1000 4096
+    0 manager
+    0 enter
+    1 open 200 2000 4096
+    1 tx 0 7 1 6869 -
+    1 read 256
+    0 read 256
+
+Statuses: 0 done, or lawful; 1 a fault, or unlawful; 2 turns used up; 3 memory refused.";
+
+const RUN_HELP: &str = "\
+A script has one line a request: the first says how many seats there are, each other line names a seat and what it
+does. Here seat 0 opens a process and becomes the context manager:
+
+    seats 1
+    0 open 100 1000 4096
+    0 manager
+
+Each line that runs prints its number and what came of it, here `2: opened 0 1` and `3: set 1 2`: the manager was set
+by the steps of the history from 1 up to and without 2. A refusal says which: `stop X1`, a note `0:N1`, `refused F12`.
+A try that finds the driver taken, and a look of an `await` that doesn't pass, is one turn.
+
+Statuses: 0 all lines are done; 1 a fault, told on standard error; 2 turns used up; 3 memory refused.";
+
+const CHECK_HELP: &str = "\
+A journal is the history of a run, which `bplay run script --journal journal` writes. Then `bplay check journal` prints
+`lawful N`, where all N entries are a history, or `unlawful K` with the place of the first entry that doesn't follow
+from those before, from 0.
+
+Statuses: 0 lawful; 1 unlawful, or a fault, told on standard error; 3 memory refused.";
+
+/// How a script is played.
+#[derive(Clone, Copy, Debug, PartialEq, Eq)]
+pub struct Manner {
+    /// Whether each seat's lines run on a thread of their own.
+    pub threads: bool,
+    /// How many turns a line has.
+    pub turns: u32,
+}
+
+/// What the words ask for.
+#[derive(Clone, Copy, Debug)]
+pub enum Order<'a> {
+    /// Plays a script, and writes the journal of the run.
+    Run {
+        file: &'a str,
+        manner: Manner,
+        journal: Option<&'a str>,
+    },
+    /// Judges a journal.
+    Check {
+        file: &'a str,
+    },
+}
+
+/// Why there is no order.
+#[derive(Drop)]
+pub enum Refused {
+    /// The words make no sense, or memory was refused.
+    Fault(Fault),
+    /// Help was asked for.
+    Help(Error),
+}
+
+impl From<AllocError> for Refused {
+    fn from(_e: AllocError) -> Refused {
+        Refused::Fault(Fault::Memory)
+    }
+}
+
+fn run_command<'a>(alloc: Global) -> Result<Command<'a>, Error> {
+    let file = Arg::new(alloc, "file")
+        .value_name("FILE")
+        .required(true)
+        .help("The script, or - for standard input");
+    let threads = Arg::new(alloc, "threads")
+        .long("threads")
+        .action(ArgAction::SetTrue)
+        .help("Run each seat's lines on a thread of their own, and print seat by seat");
+    let turns = Arg::new(alloc, "turns")
+        .long("turns")
+        .value_name("N")
+        .value_parser(value_parser!(u32).range(1..))
+        .help("How many turns a line has, 1 to 4294967295 [default: 100000000]");
+    let journal = Arg::new(alloc, "journal")
+        .long("journal")
+        .value_name("OUT")
+        .help("Write the journal of the run here");
+    let command = Command::new(alloc, "run")
+        .about("Plays a script")
+        .after_help(RUN_HELP)
+        .arg(file)?
+        .arg(threads)?
+        .arg(turns)?
+        .arg(journal)?;
+    Ok(command)
+}
+
+fn check_command<'a>(alloc: Global) -> Result<Command<'a>, Error> {
+    let file = Arg::new(alloc, "file")
+        .value_name("FILE")
+        .required(true)
+        .help("The journal, or - for standard input");
+    let command = Command::new(alloc, "check")
+        .about("Judges a journal")
+        .after_help(CHECK_HELP)
+        .arg(file)?;
+    Ok(command)
+}
+
+fn matches_of<'a>(alloc: Global, words: &'a [String]) -> Result<ArgMatches<'a>, Error> {
+    let command = Command::new(alloc, "bplay")
+        .bin_name("bplay")?
+        .about(ABOUT)
+        .after_help(PROGRAM_HELP)
+        .subcommand_required(true)
+        .subcommand(run_command(alloc)?)?
+        .subcommand(check_command(alloc)?)?;
+    command.try_get_matches_from(words)
+}
+
+fn run_order<'a>(matches: &ArgMatches<'a>) -> Option<Order<'a>> {
+    let manner = Manner {
+        threads: matches.get_flag("threads"),
+        turns: matches.get_one::<u32>("turns").unwrap_or(TURNS),
+    };
+    Some(Order::Run {
+        file: matches.get_str("file")?,
+        manner,
+        journal: matches.get_str("journal"),
+    })
+}
+
+fn order_in<'a>(matches: &ArgMatches<'a>) -> Option<Order<'a>> {
+    let (name, inner) = matches.subcommand()?;
+    if name == "run" {
+        run_order(inner)
+    } else {
+        Some(Order::Check {
+            file: inner.get_str("file")?,
+        })
+    }
+}
+
+fn refusal(error: Error) -> Refused {
+    match error.kind() {
+        ErrorKind::DisplayHelp => Refused::Help(error),
+        ErrorKind::OutOfMemory => Refused::Fault(Fault::Memory),
+        _ => Refused::Fault(Fault::Arguments),
+    }
+}
+
+/// What the words ask for, the program's name first. With no other word it is to play standard input.
+pub fn order_of<'a>(alloc: Global, words: &'a [String]) -> Result<Order<'a>, Refused> {
+    if words.len() < 2 {
+        return Ok(Order::Run {
+            file: "-",
+            manner: Manner {
+                threads: false,
+                turns: TURNS,
+            },
+            journal: None,
+        });
+    }
+    match matches_of(alloc, words) {
+        Ok(matches) => order_in(&matches).ok_or(Refused::Fault(Fault::Arguments)),
+        Err(error) => Err(refusal(error)),
+    }
+}

@@ -1,0 +1,83 @@
+//! The program's files.
+
+use crate::arguments::Manner;
+use crate::faults::{FAULT, Fault, tell};
+use crate::journals::{check_journal, write_journal};
+use crate::play::{Played, play};
+use crate::threads::play_threads;
+use bd_space::Record;
+use std::fs::File;
+use std::io::{BufWriter, Read, Write};
+use std::rt::Files;
+use std::sync::Wait;
+use std::thread::Threads;
+
+// Standard input.
+const INPUT: &str = "-";
+
+fn play_from<H: AllocGlobal + Threads + Wait + Sync, R: Read, W: Write, E: Write>(
+    rt: &H,
+    script: &mut R,
+    manner: Manner,
+    out: &mut W,
+    err: &mut E,
+) -> Played {
+    if manner.threads {
+        play_threads(rt, rt.alloc(), script, manner.turns, out, err)
+    } else {
+        play(rt.alloc(), script, manner.turns, out, err)
+    }
+}
+
+// Whether the journal is written.
+fn write_file<H: AllocGlobal + Files>(rt: &H, history: &Record, name: &str) -> bool {
+    let Ok(file) = File::create(rt, name) else {
+        return false;
+    };
+    match BufWriter::new(rt.alloc(), file) {
+        Ok(mut out) => write_journal(rt.alloc(), history, &mut out),
+        Err(_) => false,
+    }
+}
+
+/// Plays the script in a file, and writes the journal of the run where one is asked for.
+pub fn run_file<H: AllocGlobal + Files + Input + Threads + Wait + Sync, W: Write, E: Write>(
+    rt: &H,
+    name: &str,
+    manner: Manner,
+    journal: Option<&str>,
+    out: &mut W,
+    err: &mut E,
+) -> u8 {
+    let played = if name == INPUT {
+        play_from(rt, &mut rt.reader(), manner, out, err)
+    } else {
+        match File::open(rt, name) {
+            Ok(mut file) => play_from(rt, &mut file, manner, out, err),
+            Err(error) => return tell(Fault::of_read(&error), err),
+        }
+    };
+    let mut status = played.status;
+    if let (Some(history), Some(name)) = (&played.history, journal) {
+        if !write_file(rt, history, name) {
+            status = status.max(tell(Fault::File, err));
+        }
+    }
+    status
+}
+
+/// Judges the journal in a file.
+pub fn check_file<H: AllocGlobal + Files + Input, W: Write, E: Write>(
+    rt: &H,
+    name: &str,
+    out: &mut W,
+    err: &mut E,
+) -> u8 {
+    if name == INPUT {
+        return check_journal(rt.alloc(), &mut rt.reader(), out, err);
+    }
+    match File::open(rt, name) {
+        Ok(mut file) => check_journal(rt.alloc(), &mut file, out, err),
+        Err(error) => tell(Fault::of_read(&error), err),
+    }
+}

@@ -1,0 +1,75 @@
+//! `bplay`: plays scripts against a driver, and judges journals.
+#![tactic(auto)]
+
+mod arguments;
+#[cfg(test)]
+mod certificates;
+mod faults;
+mod files;
+mod journals;
+mod play;
+mod said;
+#[cfg(test)]
+mod tests;
+mod threads;
+mod worker;
+
+use arguments::{Order, Refused, order_of};
+use faults::{DONE, FAULT, Fault, tell};
+use files::{check_file, run_file};
+use std::alloc::Global;
+use std::io::{BufWriter, Write};
+use std::process::ExitCode;
+use std::rt::{Files, Runtime};
+use std::sync::Wait;
+use std::thread::Threads;
+use std::{env, io};
+
+// Does what the words ask for.
+fn obey<H: AllocGlobal + Files + Input + Threads + Wait + Sync, W: Write, E: Write>(
+    rt: &H,
+    order: Order<'_>,
+    out: &mut W,
+    err: &mut E,
+) -> u8 {
+    let status = match order {
+        Order::Run {
+            file,
+            manner,
+            journal,
+        } => run_file(rt, file, manner, journal, out, err),
+        Order::Check { file } => check_file(rt, file, out, err),
+    };
+    match out.flush() {
+        Ok(()) => status,
+        Err(_) => status.max(FAULT),
+    }
+}
+
+fn run<H: Runtime<A = Global> + Threads + Wait + Sync, E: Write>(rt: &H, err: &mut E) -> u8 {
+    let Ok(args) = env::args(rt) else {
+        return tell(Fault::Arguments, err);
+    };
+    let Ok(words) = args.collect::<Vec<String>>(rt.alloc()) else {
+        return tell(Fault::Memory, err);
+    };
+    let order = match order_of(rt.alloc(), words.as_slice()) {
+        Ok(order) => order,
+        Err(Refused::Fault(fault)) => return tell(fault, err),
+        Err(Refused::Help(help)) => {
+            return match help.print(rt) {
+                Ok(()) => DONE,
+                Err(_) => FAULT,
+            };
+        }
+    };
+    match BufWriter::new(rt.alloc(), io::writer(rt)) {
+        Ok(mut out) => obey(rt, order, &mut out, err),
+        Err(_) => tell(Fault::Memory, err),
+    }
+}
+
+fn main(rt: HostRuntime) -> ExitCode {
+    let mut err = rt.stderr();
+    ExitCode::from(run(&rt, &mut err))
+}

@@ -1,0 +1,15 @@
+//! Tests of the program: the worked examples of docs/EXAMPLES.md, its words and files, script errors and journals.
+
+mod arguments;
+mod buffers;
+mod calls;
+mod deaths;
+mod examples;
+mod files;
+mod handing;
+mod journals;
+mod objects;
+mod open_endings;
+mod open_points;
+mod scripts;
+mod writing;
