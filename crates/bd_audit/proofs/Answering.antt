@@ -23,10 +23,9 @@ use Rattle.bd_space.specs.declared.space.TodoList.{TodoList}
 use Rattle.bd_space.specs.declared.space.TodoList.TheVariants.{OfThread}
 use Rattle.bd_space.specs.declared.space.WorkKind.{WorkKind}
 use Rattle.bd_space.specs.declared.space.WorkKind.TheVariants as work
-use Rattle.bd_space.specs.Words.{same_identity}
 use Rattle.bd_space.specs.Space.{Space, opening}
 use Rattle.bd_space.specs.Seats.{actor}
-use Rattle.bd_space.specs.Todo.{owe, is_call, list_to_read}
+use Rattle.bd_space.specs.Todo.{owe, is_call, list_to_read, is_item}
 use Rattle.bd_space.specs.Frames.{closed, goes_to, is_frame, serves, innermost, innermost_in, served_innermost, if_served, made_of, is_deepest_in}
 use Rattle.bd_space.specs.Turns.{ripen}
 use Rattle.bd_space.specs.Notices.{follow}
@@ -58,7 +57,7 @@ at-more es fs i P h =
     let k = h.2 in
     (h.0, h.1, record { rest = k.rest ++ fs; all = ap (λ xs. xs ++ fs) k.all ∙ append_assoc h.0 (h.1 ∷ k.rest) fs; at = k.at }, h.3)
 
-at-here : (es : List Entry) (e : Entry) (P : Space → Entry → Type 0) → P (after opening es) e → At (es ++ e ∷ []) (length es) P
+pub at-here : (es : List Entry) (e : Entry) (P : Space → Entry → Type 0) → P (after opening es) e → At (es ++ e ∷ []) (length es) P
 at-here es e P h = (es, e, record { rest = []; all = refl; at = refl }, h)
 
 pub at-below : (es : List Entry) (i : ℕ) (P : Space → Entry → Type 0) → At es i P → i < length es
@@ -154,7 +153,7 @@ completed-quiet z =
 -- ---- accepted commands
 
 module _ (s : Space) (seat : ℕ) (a : Actor) (d : TransactionData) (parcel : Option Parcel) (v : Delivery) (acts : actor s seat ≡ Some a) where
-  transaction-accepted : transaction_check s a d parcel ≡ Ok v → (change s seat (Command (bc.Transaction d) parcel)).answer ≡ Accepted
+  pub transaction-accepted : transaction_check s a d parcel ≡ Ok v → (change s seat (Command (bc.Transaction d) parcel)).answer ≡ Accepted
   unfolding change command_step transaction_step
   transaction-accepted h =
       ap (λ o. (by_actor s o (λ b. command_step s b (bc.Transaction d) parcel)).answer) acts ∙ ap (λ r. (transaction_outcome s a d r).answer) h
@@ -172,12 +171,12 @@ module _ (s : Space) (seat : ℕ) (a : Actor) (d : TransactionData) (parcel : Op
         ap (λ o. (by_actor s o (λ b. command_step s b (bc.Reply d) parcel)).space) acts
         ∙ ap (λ o. (reply_to s a d parcel o).space) g ∙ ap (λ r. (reply_outcome s a d f r).space) h
 
-actor-made : (s : Space) (seat : ℕ) (a : Actor) → actor s seat ≡ Some a → (a.thread.seat ≡ seat) × (thread_made s seat ≡ Some a.thread.made)
+pub actor-made : (s : Space) (seat : ℕ) (a : Actor) → actor s seat ≡ Some a → (a.thread.seat ≡ seat) × (thread_made s seat ≡ Some a.thread.made)
 actor-made s seat a h =
     let k = (actor-lives s seat a h).0 in
     (eqb-true a.thread.seat seat (find-in (λ (t : Thread). t.seat == seat) a.thread s.threads k).1, ap (λ o. option_map (λ (t : Thread). t.made) o) k)
 
-served-is : (s : Space) (seat : ℕ) (f : Frame) → served_innermost s seat ≡ Some f → (innermost_in s.frames seat ≡ Some f) × (f.server ≡ Serving seat)
+pub served-is : (s : Space) (seat : ℕ) (f : Frame) → served_innermost s seat ≡ Some f → (innermost_in s.frames seat ≡ Some f) × (f.server ≡ Serving seat)
 unfolding served_innermost
 served-is s seat f h = option_and_then_some (if_served seat) (innermost_in s.frames seat) f h (λ g e k. at g e (serves seat g.server) refl k)
   where
@@ -247,14 +246,14 @@ answering es y t m n h by answer = record {
 
 -- ---- one entry more
 
-absent : (c : ℕ) (frames : List Frame) → ((g : Frame) → In g frames → g.made ≡ c → ⊥) → list_any (is_frame c) frames ≡ false
+pub absent : (c : ℕ) (frames : List Frame) → ((g : Frame) → In g frames → g.made ≡ c → ⊥) → list_any (is_frame c) frames ≡ false
 absent c frames h = at (list_any (is_frame c) frames) refl
   where
     at : (b : Bool) → list_any (is_frame c) frames ≡ b → b ≡ false
     at true e = let g = any-found (is_frame c) frames e in absurd (h g.0 g.1 (eqb-true g.0.made c g.2))
     at false e = refl
 
-closed-absent : (z : Space) (c : ℕ) (g : Frame) → In g (closed z c).frames → g.made ≡ c → ⊥
+pub closed-absent : (z : Space) (c : ℕ) (g : Frame) → In g (closed z c).frames → g.made ≡ c → ⊥
 unfolding closed
 closed-absent z c g l e =
     let out = not-true (is_frame c g) (in-filter (λ (f : Frame). not (is_frame c f)) g z.frames l).1 in
@@ -404,7 +403,7 @@ module _ (es : List Entry) (e : Entry) (h : Traced es (after opening es)) where
       abbrev items : List Work
       items = taken s (limit - 4) (list_to_read s a.thread)
 
-      takes-items : items_taken s e.seat e.step ≡ items
+      pub takes-items : items_taken s e.seat e.step ≡ items
       takes-items =
           ap (λ y. items_taken s e.seat y) x ∙ ap (λ o. items_read s limit o) acts ∙ ap (λ o. items_unless o items) n
 
@@ -437,7 +436,7 @@ module _ (es : List Entry) (e : Entry) (h : Traced es (after opening es)) where
             let m : f.made ≡ g.0.made = ap (λ (y : Frame). y.made) g.2 ∙ serve-made a.thread.seat (served g.0) g.0 in
             let c = serve-server (served g.0) g.0 t refl g.1 (sym (ap (λ (y : Frame). y.server) g.2) ∙ k) in
             (c.0, c.1, subst (λ i. Handed more i c.0) (sym m) c.2);
-        replies = λ w b t l k o. now.replies w b t (in-filter (λ (w : Work). not (list_any (λ (d : Work). same_identity w.id d.id) items)) w s.todo l).0 k o;
+        replies = λ w b t l k o. now.replies w b t (in-filter (λ (w : Work). not (list_any (λ (d : Work). is_item w d) items)) w s.todo l).0 k o;
       }
         where
           served : Frame → Bool
@@ -446,7 +445,7 @@ module _ (es : List Entry) (e : Entry) (h : Traced es (after opening es)) where
           was : (f : Frame) → In f (served_frames a.thread.seat items s.frames) → (g : Frame) × In g s.frames × (f ≡ cond (list_any (λ (w : Work). is_call g.made w.kind) items) (serve a.thread.seat g) g)
           was f l = in-changed (λ (g : Frame). list_any (λ (w : Work). is_call g.made w.kind) items) (serve a.thread.seat) f s.frames l
 
-  kept : Keeps s e.seat e.step (Traced more) (Traced more)
+  pub kept : Keeps s e.seat e.step (Traced more) (Traced more)
   kept = record {
     same = now;
     opened = λ pid euid window. quietly _ (quiet.opened-quiet s e.seat pid euid window);

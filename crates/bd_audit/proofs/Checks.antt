@@ -46,6 +46,7 @@ owned s o q h =
 pub record Transacts (s : Space) (a : Actor) (d : TransactionData) (parcel : Option Parcel) (v : Delivery) : Type 0 where
   pub object : ObjectId
   pub target : v.target ≡ Some object
+  pub named : target_of s a.process.made (handle_of d) ≡ Ok object
   pub owned : Owned s object v.receiver
   pub sends : sending_of s a.process.made d parcel ≡ Ok v.sending
   pub one_way : v.one_way ≡ is_one_way d
@@ -63,6 +64,17 @@ callee-owned s p handle c h =
     let t = and_then-ok (target_of s p handle) (with_owner s) c h in
     found-callee s t.0 (owner_of s t.0) c refl t.2
 
+found-object : (o : ObjectId) (q : Option Process) (c : Callee)
+    → found_or (option_map (λ (p : Process). let x : Callee = record { object = o; process = p } in x) q) DeadOwner ≡ Ok c → o ≡ c.object
+found-object o None c h = absurd (cc)
+found-object o (Some q) c h = let is : (let x : Callee = record { object = o; process = q } in x) ≡ c = cc in ap (λ (x : Callee). x.object) is
+
+callee-named : (s : Space) (p handle : ℕ) (c : Callee) → callee_of s p handle ≡ Ok c → target_of s p handle ≡ Ok c.object
+unfolding callee_of
+callee-named s p handle c h =
+    let t = and_then-ok (target_of s p handle) (with_owner s) c h in
+    t.1 ∙ ap (λ (o : ObjectId). Ok o) (found-object t.0 (owner_of s t.0) c t.2)
+
 delivery : Result Delivery Cause → Delivery → Delivery
 delivery (Ok v) w = v
 delivery (Err x) w = w
@@ -72,17 +84,30 @@ unfolding transaction_check delivery
 transaction-checked s a d parcel v h =
     let c = and_then-ok (callee_of s a.process.made (handle_of d)) _ v h in
     let u = and_then-ok (unless (cond (is_one_way d) None (caller_cause s a.thread.seat)) c.0) (sent_to s a d parcel) v c.2 in
-    let own = callee-owned s a.process.made (handle_of d) u.0 (subst (λ (x : Callee). callee_of s a.process.made (handle_of d) ≡ Ok x) (unless-ok (cond (is_one_way d) None (caller_cause s a.thread.seat)) c.0 u.0 u.1).1 c.1) in
+    let found = subst (λ (x : Callee). callee_of s a.process.made (handle_of d) ≡ Ok x) (unless-ok (cond (is_one_way d) None (caller_cause s a.thread.seat)) c.0 u.0 u.1).1 c.1 in
+    let own = callee-owned s a.process.made (handle_of d) u.0 found in
     let x = and_then-ok (sending_of s a.process.made d parcel) (placed s d u.0) v u.2 in
-    let p = and_then-ok (place_for u.0.process.window (buffers_of s.buffers u.0.process.made) (is_one_way d) (needed d.data_size d.offsets_size)) _ v x.2 in
+    let p = and_then-ok (place_for u.0.process.window (buffers_of s.buffers u.0.process.made) (is_one_way d) (needed d.data_size d.offsets_size))
+    (λ (start : ℕ). Ok (record { receiver = u.0.process; target = Some u.0.object; one_way = is_one_way d; sending = x.0; start = start })) v x.2 in
     let is = ap (λ r. delivery r v) p.2 in
     record {
       object = u.0.object;
       target = sym (ap (λ (w : Delivery). w.target) is);
+      named = callee-named s a.process.made (handle_of d) u.0 found;
       owned = subst (Owned s u.0.object) (ap (λ (w : Delivery). w.receiver) is) own;
       sends = x.1 ∙ ap (λ (w : Delivery). Ok w.sending) is;
       one_way = sym (ap (λ (w : Delivery). w.one_way) is);
     }
+
+-- a two-way call has no cause against its caller
+pub transaction-may_call : (s : Space) (a : Actor) (d : TransactionData) (parcel : Option Parcel) (v : Delivery) → transaction_check s a d parcel ≡ Ok v → is_one_way d ≡ false
+    → caller_cause s a.thread.seat ≡ None
+unfolding transaction_check
+transaction-may_call s a d parcel v h two_way =
+    let c = and_then-ok (callee_of s a.process.made (handle_of d)) _ v h in
+    let u = and_then-ok (unless (cond (is_one_way d) None (caller_cause s a.thread.seat)) c.0) (sent_to s a d parcel) v c.2 in
+    let none = (unless-ok (cond (is_one_way d) None (caller_cause s a.thread.seat)) c.0 u.0 u.1).0 in
+    ap (λ b. cond b None (caller_cause s a.thread.seat)) (sym two_way) ∙ none
 
 pub record RepliesTo (s : Space) (a : Actor) (d : TransactionData) (parcel : Option Parcel) (f : Frame) (v : Delivery) : Type 0 where
   pub caller : Actor

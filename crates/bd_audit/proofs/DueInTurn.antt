@@ -1,16 +1,15 @@
 -- One-way calls that are due stand on their receivers' lists, and wait for older ones on their objects.
-use Rattle.std.proofs.Common.{◌≡◌, ℕ, Bool, true, false, not, ◌||◌, List, Some, refl, ap, sym, subst, ◌∙◌}
+use Rattle.std.proofs.Common.{◌≡◌, ℕ, Bool, true, false, not, ◌||◌, Some, refl, ap, sym, subst, ◌∙◌}
 use Rattle.std.specs.List.{list_all, AllPairs}
 use Rattle.std.proofs.lemmas.Bool.{eq-eqb}
 use Rattle.bd_space.specs.declared.space.Turn.{Turn}
 use Rattle.bd_space.specs.declared.space.Work.{Work}
 use Rattle.bd_space.specs.declared.space.TodoList.{TodoList}
 use Rattle.bd_space.specs.declared.space.TodoList.TheVariants.{OfProcess}
-use Rattle.bd_space.specs.Words.{same}
 use Rattle.bd_space.specs.Space.{Space}
 use Rattle.bd_space.specs.Todo.{is_call, same_list}
 use Rattle.bd_space.specs.Turns.{turn_of, turns_of}
-use Rattle.bd_audit.specs.Laws.{is_out, stands_with_receiver, WaitsFor}
+use Rattle.bd_audit.specs.Laws.{stands_with_receiver, WaitsFor}
 use Rattle.bd_audit.proofs.Lists.{In, all-in, in-filter_map, pairs-at}
 use Rattle.bd_audit.proofs.Ripening.{turn-parts}
 use Rattle.bd_audit.proofs.InTurn.{IsInTurn, Alone, turns-alone, is_call-hands}

@@ -10,6 +10,7 @@ use Rattle.bd_uapi.specs.declared.command.Return.TheVariants.{DeadReply, FailedR
 use Rattle.bd_uapi.specs.declared.fault.Fault.{Fault}
 use Rattle.bd_uapi.specs.declared.fault.Note.{Note}
 use Rattle.bd_uapi.specs.declared.fault.Cause.{Cause}
+use Rattle.bd_uapi.specs.declared.fault.Cause.TheVariants.{NoCall}
 use Rattle.bd_space.specs.declared.step.ObjectId.{ObjectId}
 use Rattle.bd_space.specs.declared.step.Parcel.{Parcel}
 use Rattle.bd_space.specs.declared.step.Step.{Step}
@@ -26,7 +27,7 @@ use Rattle.bd_space.specs.declared.space.WorkKind.TheVariants as work
 use Rattle.bd_space.specs.Space.{Space}
 use Rattle.bd_space.specs.Seats.{actor, thread_in, process_with_pid}
 use Rattle.bd_space.specs.Frames.{served_innermost, closed}
-use Rattle.bd_space.specs.Todo.{owe, list_to_read}
+use Rattle.bd_space.specs.Todo.{owe, tell_caller, list_to_read}
 use Rattle.bd_space.specs.Settle.{settle, settle_one, settle_times, is_abandoned}
 use Rattle.bd_space.specs.Delivery.{Delivery}
 use Rattle.bd_space.specs.Transactions.{transaction_step, transaction_outcome, transaction_check, transacted, refusal}
@@ -57,8 +58,9 @@ abbrev pub IsReading : Step → Type 0
 IsReading x = (limit : ℕ) × (x ≡ Read limit)
 
 -- What the parts of a step by this seat keep: M holds after a change and while buffers' turns ripen, and F from what
--- follows on. Each part is said with what its step has tested.
-pub record Keeps (s : Space) (seat : ℕ) (x : Step) (M F : Space → Type 0) : Type 0 where
+-- follows on. Each part is said with what its step has tested, a refusal with its cause, and a frame closes together with what
+-- its caller is told.
+pub record KeepsWhole (s : Space) (seat : ℕ) (x : Step) (M F : Space → Type 0) : Type 0 where
   pub same : F s
   pub opened : (pid euid window : ℕ) → F (with_thread (with_process s pid euid window) seat s.steps)
   pub attached : (p : ℕ) → F (with_thread s seat p)
@@ -81,22 +83,19 @@ pub record Keeps (s : Space) (seat : ℕ) (x : Step) (M F : Space → Type 0) : 
   pub ends : (a : Actor) → actor s seat ≡ Some a → M (tell_deaths (without_process (threads_go s a.process.made) a.process.made) a.process.made)
   pub ripens : (z : Space) → M z → M (ripen z)
   pub follows : (z : Space) → M z → F (follow z)
-  pub closes : (z : Space) (made : ℕ) → F z → F (closed z made)
-  pub refuses : (z : Space) (t : ℕ) (r : Return) → F z → F (owe z (OfThread t) (work.Refusal r))
-  pub tells : (z : Space) (t : ℕ) (r : Return) → F z → F (owe z (OfThread t) (work.Verdict r))
+  pub refuses : (t : ℕ) (c : Cause) → F (owe s (OfThread t) (work.Refusal (refusal c)))
+  pub fails : (a : Actor) (d : TransactionData) (parcel : Option Parcel) (f : Frame) → x ≡ Command (bc.Reply d) parcel → actor s seat ≡ Some a
+      → served_innermost s a.thread.seat ≡ Some f → F (reply_refused s a.thread.seat f)
+  pub abandons : (z : Space) (f : Frame) → find (is_abandoned z.frames) z.frames ≡ Some f → F z → F (tell_caller (closed z f.made) f (work.Verdict DeadReply))
 
-module _ (s : Space) (seat : ℕ) (x : Step) (M F : Space → Type 0) (k : Keeps s seat x M F) where
-  told : (z : Space) (caller : Option ℕ) (r : Return) → F z → F (elim caller as (λ (o : Option ℕ). Space) [ None ↦ z | Some t ↦ owe z (OfThread t) (work.Verdict r) ])
-  told z None r h = h
-  told z (Some t) r h = k.tells z t r h
-
-  settles-one : (z : Space) (o : Option Frame) → F z → F (settle_one z o)
-  settles-one z None h = h
-  settles-one z (Some f) h = told (closed z f.made) f.caller DeadReply (k.closes z f.made h)
+module _ (s : Space) (seat : ℕ) (x : Step) (M F : Space → Type 0) (k : KeepsWhole s seat x M F) where
+  settles-one : (z : Space) (o : Option Frame) → find (is_abandoned z.frames) z.frames ≡ o → F z → F (settle_one z o)
+  settles-one z None e h = h
+  settles-one z (Some f) e h = k.abandons z f e h
 
   settles-times : (n : ℕ) (z : Space) → F z → F (settle_times n z)
   settles-times zero z h = h
-  settles-times (suc n) z h = settles-one (settle_times n z) (find (is_abandoned (settle_times n z).frames) (settle_times n z).frames) (settles-times n z h)
+  settles-times (suc n) z h = settles-one (settle_times n z) (find (is_abandoned (settle_times n z).frames) (settle_times n z).frames) refl (settles-times n z h)
 
   settles : (z : Space) → F z → F (settle z)
   unfolding settle
@@ -125,21 +124,17 @@ module _ (s : Space) (seat : ℕ) (x : Step) (M F : Space → Type 0) (k : Keeps
 
   transacts-to : (a : Actor) (d : TransactionData) (parcel : Option Parcel) (r : Result Delivery Cause) → x ≡ Command (bc.Transaction d) parcel → actor s seat ≡ Some a
       → transaction_check s a d parcel ≡ r → F (transaction_outcome s a d r).space
-  transacts-to a d parcel (Err c) e h t = settles _ (k.refuses s a.thread.seat (refusal c) k.same)
+  transacts-to a d parcel (Err c) e h t = settles _ (k.refuses a.thread.seat c)
   transacts-to a d parcel (Ok v) e h t = completes _ (k.transacts a d parcel v e h t)
-
-  refuses-reply : (t : ℕ) (f : Frame) → F (reply_refused s t f)
-  unfolding reply_refused
-  refuses-reply t f = told _ f.caller FailedReply (k.closes _ f.made (k.refuses s t TransactionComplete k.same))
 
   replies-with : (a : Actor) (d : TransactionData) (parcel : Option Parcel) (f : Frame) (r : Result Delivery Cause) → x ≡ Command (bc.Reply d) parcel → actor s seat ≡ Some a
       → served_innermost s a.thread.seat ≡ Some f → reply_check s a d parcel f ≡ r → F (reply_outcome s a d f r).space
-  replies-with a d parcel f (Err c) e h i t = settles _ (refuses-reply a.thread.seat f)
+  replies-with a d parcel f (Err c) e h i t = settles _ (k.fails a d parcel f e h i)
   replies-with a d parcel f (Ok v) e h i t = completes _ (k.replies a d parcel f v e h i t)
 
   replies-to : (a : Actor) (d : TransactionData) (parcel : Option Parcel) (o : Option Frame) → x ≡ Command (bc.Reply d) parcel → actor s seat ≡ Some a
       → served_innermost s a.thread.seat ≡ o → F (reply_to s a d parcel o).space
-  replies-to a d parcel None e h i = settles _ (k.refuses s a.thread.seat FailedReply k.same)
+  replies-to a d parcel None e h i = settles _ (k.refuses a.thread.seat NoCall)
   replies-to a d parcel (Some f) e h i = replies-with a d parcel f (reply_check s a d parcel f) e h i refl
 
   frees-if : (p ptr : ℕ) (b : Buffer) → buffer_at_pointer s p ptr ≡ Some b → (handed : Bool) → b.handed ≡ handed
@@ -210,8 +205,74 @@ module _ (s : Space) (seat : ℕ) (x : Step) (M F : Space → Type 0) (k : Keeps
   changes ExitProcess e = acts (actor s seat) _ refl (λ a h. settles _ (k.follows _ (k.ends a h)))
 
   -- what the parts keep, the step keeps
+  pub every_whole_step : F (change s seat x).space
+  every_whole_step = changes x refl
+
+-- The same, where closing a frame and telling its caller keep F each by itself.
+pub record Keeps (s : Space) (seat : ℕ) (x : Step) (M F : Space → Type 0) : Type 0 where
+  pub same : F s
+  pub opened : (pid euid window : ℕ) → F (with_thread (with_process s pid euid window) seat s.steps)
+  pub attached : (p : ℕ) → F (with_thread s seat p)
+  pub managed : (a : Actor) → actor s seat ≡ Some a → is_manager_busy s a.process.made ≡ false → F (with_manager s a.process.made)
+  pub transacts : (a : Actor) (d : TransactionData) (parcel : Option Parcel) (v : Delivery) → x ≡ Command (bc.Transaction d) parcel → actor s seat ≡ Some a
+      → transaction_check s a d parcel ≡ Ok v → M (transacted s a d v)
+  pub replies : (a : Actor) (d : TransactionData) (parcel : Option Parcel) (f : Frame) (v : Delivery) → x ≡ Command (bc.Reply d) parcel → actor s seat ≡ Some a
+      → served_innermost s a.thread.seat ≡ Some f → reply_check s a d parcel f ≡ Ok v → M (replied s a d f v)
+  pub frees : (p ptr : ℕ) (b : Buffer) → buffer_at_pointer s p ptr ≡ Some b → b.handed ≡ true → M (without_buffer s b.made)
+  pub asks : (a : Actor) (n : ℕ) (strong : Bool) (o : ObjectId) → actor s seat ≡ Some a → IsAsking x n strong → ask_check s a.process.made n strong ≡ Ok o → M (ask s a.process.made o strong)
+  pub drops : (p : ℕ) (o : ObjectId) (strong : Bool) → M (drop_asked s p o strong)
+  pub acknowledges : (o : ObjectId) (strong : Bool) → IsAcknowledging x strong → M (acknowledge s o strong)
+  pub loops : (t : ℕ) (looping : Bool) → M (with_looping s t looping)
+  pub requests : (p : ℕ) (o : ObjectId) (cookie : ℕ) → M (requested s p o cookie)
+  pub clears : (t : ℕ) (y : DeathNotification) → M (cleared s t y)
+  pub is_done : (t : ℕ) (y : DeathNotification) → M (death_done s t y)
+  pub reads : (a : Actor) (limit : ℕ) → actor s seat ≡ Some a → x ≡ Read limit → read_fault limit (list_to_read s a.thread) ≡ None
+      → M (read_by s a.thread.seat (taken s (limit - 4) (list_to_read s a.thread)))
+  pub leaves : (a : Actor) → actor s seat ≡ Some a → M (thread_goes s a.thread.seat)
+  pub ends : (a : Actor) → actor s seat ≡ Some a → M (tell_deaths (without_process (threads_go s a.process.made) a.process.made) a.process.made)
+  pub ripens : (z : Space) → M z → M (ripen z)
+  pub follows : (z : Space) → M z → F (follow z)
+  pub closes : (z : Space) (made : ℕ) → F z → F (closed z made)
+  pub refuses : (z : Space) (t : ℕ) (r : Return) → F z → F (owe z (OfThread t) (work.Refusal r))
+  pub tells : (z : Space) (t : ℕ) (r : Return) → F z → F (owe z (OfThread t) (work.Verdict r))
+
+module _ (s : Space) (seat : ℕ) (x : Step) (M F : Space → Type 0) (k : Keeps s seat x M F) where
+  told : (z : Space) (caller : Option ℕ) (r : Return) → F z → F (elim caller as (λ (o : Option ℕ). Space) [ None ↦ z | Some t ↦ owe z (OfThread t) (work.Verdict r) ])
+  told z None r h = h
+  told z (Some t) r h = k.tells z t r h
+
+  refuses-reply : (t : ℕ) (f : Frame) → F (reply_refused s t f)
+  unfolding reply_refused
+  refuses-reply t f = told _ f.caller FailedReply (k.closes _ f.made (k.refuses s t TransactionComplete k.same))
+
+  pub whole : KeepsWhole s seat x M F
+  whole = record {
+    same = k.same;
+    opened = k.opened;
+    attached = k.attached;
+    managed = k.managed;
+    transacts = k.transacts;
+    replies = k.replies;
+    frees = k.frees;
+    asks = k.asks;
+    drops = k.drops;
+    acknowledges = k.acknowledges;
+    loops = k.loops;
+    requests = k.requests;
+    clears = k.clears;
+    is_done = k.is_done;
+    reads = k.reads;
+    leaves = k.leaves;
+    ends = k.ends;
+    ripens = k.ripens;
+    follows = k.follows;
+    refuses = λ t c. k.refuses s t (refusal c) k.same;
+    fails = λ a d parcel f e h i. refuses-reply a.thread.seat f;
+    abandons = λ z f e h. told (closed z f.made) f.caller DeadReply (k.closes z f.made h);
+  }
+
   pub every_step : F (change s seat x).space
-  every_step = changes x refl
+  every_step = every_whole_step s seat x M F whole
 
 -- an invariant of every step is one of every list of steps
 pub every_list : (P : Space → Type 0) → ((s : Space) (e : Entry) → P s → P (next s e)) → (es : List Entry) (s : Space) → P s → P (after s es)

@@ -20,13 +20,13 @@ use Rattle.bd_space.specs.declared.space.WorkKind.{WorkKind}
 use Rattle.bd_space.specs.declared.space.WorkKind.TheVariants as work
 use Rattle.bd_space.specs.declared.space.TodoList.{TodoList}
 use Rattle.bd_space.specs.declared.space.TodoList.TheVariants.{OfThread, OfProcess}
-use Rattle.bd_space.specs.Words.{same, is_some_and, same_identity}
+use Rattle.bd_space.specs.Words.{same, is_some_and}
 use Rattle.bd_space.specs.Space.{Space, opening}
 use Rattle.bd_space.specs.Seats.{lives_in}
 use Rattle.bd_space.specs.References.{object_in, objects_go, owned_in}
 use Rattle.bd_space.specs.Names.{names_go, assign_numbers}
 use Rattle.bd_space.specs.Frames.{goes_to, closed}
-use Rattle.bd_space.specs.Todo.{with_work, owe, is_on, is_notice, notice_of}
+use Rattle.bd_space.specs.Todo.{with_work, owe, is_on, is_notice, notice_of, is_item}
 use Rattle.bd_space.specs.Turns.{ripen, ripened, is_ripe, turns_of}
 use Rattle.bd_space.specs.Notices.{with_notice, wants_notice, differs_in, has_notice_in, still_due, work_goes, deaths_go, notify, follow}
 use Rattle.bd_space.specs.Parcels.{is_own}
@@ -201,7 +201,7 @@ tell_deaths-once z p h = fold-keeps OnceIn (tell_death p) z.deaths (λ y x l k. 
 
 read-once : (s : Space) (seat : ℕ) (ws : List Work) → Once s.todo → Once (read_by s seat ws).todo
 unfolding read_by
-read-once s seat ws h = pairs-filter Apart (λ (w : Work). not (list_any (λ (d : Work). same_identity w.id d.id) ws)) s.todo h
+read-once s seat ws h = pairs-filter Apart (λ (w : Work). not (list_any (λ (d : Work). is_item w d) ws)) s.todo h
 
 ripens-if : (place : ℕ) (b : Bool) (todo : List Work) (t : Turn) → Once todo → Once (cond b (with_work place todo (OfProcess t.receiver) (work.Call t.made)) todo)
 ripens-if place true todo t h = once-other place todo (OfProcess t.receiver) (work.Call t.made) refl h

@@ -19,12 +19,12 @@ use Rattle.bd_space.specs.declared.space.TodoList.{TodoList}
 use Rattle.bd_space.specs.declared.space.TodoList.TheVariants.{OfThread, OfProcess}
 use Rattle.bd_space.specs.declared.space.WorkKind.{WorkKind}
 use Rattle.bd_space.specs.declared.space.WorkKind.TheVariants as work
-use Rattle.bd_space.specs.Words.{is_some_and, same_identity}
+use Rattle.bd_space.specs.Words.{is_some_and}
 use Rattle.bd_space.specs.Space.{Space}
 use Rattle.bd_space.specs.Seats.{actor}
 use Rattle.bd_space.specs.References.{objects_go, stays_in}
 use Rattle.bd_space.specs.Names.{names_go, assign_numbers}
-use Rattle.bd_space.specs.Todo.{owe, with_work, handed_over, is_on, list_to_read}
+use Rattle.bd_space.specs.Todo.{owe, with_work, handed_over, is_on, list_to_read, is_item}
 use Rattle.bd_space.specs.Frames.{closed, goes_to}
 use Rattle.bd_space.specs.Turns.{turn_of, turns_of, is_ripe, ripened, ripen}
 use Rattle.bd_space.specs.Notices.{follow, notify, work_goes, deaths_go}
@@ -432,7 +432,7 @@ read-passed s t seat left l =
       to = λ o b i on. inl (handed-to s (buffer_taken s ws) due b i);
       lists = λ w c o i e j on.
           let b = handed-from s (buffer_taken s ws) due c j in
-          let k = (in-filter (λ (w : Work). not (list_any (λ (d : Work). same_identity w.id d.id) ws)) w s.todo i).0 in
+          let k = (in-filter (λ (w : Work). not (list_any (λ (d : Work). is_item w d) ws)) w s.todo i).0 in
           l w b.0 o k (e ∙ ap (λ m. Some m) b.2.made) b.1 (sym b.2.one_way ∙ on.0, sym b.2.target ∙ on.1) ∙ ap OfProcess (sym b.2.receiver);
     }
 
@@ -477,7 +477,7 @@ ripen-passed s z turns h =
 
 -- ---- ends of threads and processes
 
-lost-on : (todo : List Work) (list : TodoList) (m : ℕ) → is_lost_with todo list m ≡ true → (w : Work) × In w todo × (is_on list w ≡ true) × (handed_over w.kind ≡ Some m)
+pub lost-on : (todo : List Work) (list : TodoList) (m : ℕ) → is_lost_with todo list m ≡ true → (w : Work) × In w todo × (is_on list w ≡ true) × (handed_over w.kind ≡ Some m)
 lost-on todo list m h =
     let test = λ (w : Work). is_on list w && is_some_and (handed_over w.kind) (λ i. i == m) in
     let w = any-found test todo h in
@@ -488,7 +488,7 @@ lost-on todo list m h =
     hands None k = absurd (cc)
     hands (Some i) k = ap (λ j. Some j) (eqb-true i m k)
 
-not-on : (seat : ℕ) (w : Work) (p : ℕ) → w.list ≡ OfProcess p → is_on (OfThread seat) w ≡ true → ⊥
+pub not-on : (seat : ℕ) (w : Work) (p : ℕ) → w.list ≡ OfProcess p → is_on (OfThread seat) w ≡ true → ⊥
 not-on seat w p e h = let f : is_on (OfThread seat) w ≡ false = rw e refl in absurd (cc)
 
 pub thread_goes-passed : (s z : Space) (seat : ℕ) → Passed s z → Passed s (thread_goes z seat)
@@ -570,7 +570,7 @@ ends-passed s p l =
 
 -- ---- every step
 
-at_pointer-in : (s : Space) (p ptr : ℕ) (b : Buffer) → buffer_at_pointer s p ptr ≡ Some b → In b s.buffers
+pub at_pointer-in : (s : Space) (p ptr : ℕ) (b : Buffer) → buffer_at_pointer s p ptr ≡ Some b → In b s.buffers
 unfolding buffer_at_pointer
 at_pointer-in s p ptr b h = (find-in (is_buffer_at p ptr) b s.buffers h).0
 

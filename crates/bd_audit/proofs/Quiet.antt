@@ -220,7 +220,7 @@ made-push (x ∷ ts) u t m h = at (x.seat == t) (made-push ts u t m) h
     at true k h = h
     at false k h = k h
 
-made-changed : (p : Thread → Bool) (looping : Bool) (ts : List Thread) (t : ℕ) → made_in (changed p (λ v. record v { looping = looping }) ts) t ≡ made_in ts t
+pub made-changed : (p : Thread → Bool) (looping : Bool) (ts : List Thread) (t : ℕ) → made_in (changed p (λ v. record v { looping = looping }) ts) t ≡ made_in ts t
 made-changed p looping [] t = refl
 made-changed p looping (x ∷ ts) t = at (p x) (made-changed p looping ts t)
   where
@@ -234,7 +234,7 @@ made-changed p looping (x ∷ ts) t = at (p x) (made-changed p looping ts t)
     at true k = found (x.seat == t) (record x { looping = looping }) refl k
     at false k = found (x.seat == t) x refl k
 
-made-kept : (ts : List Thread) (gone t : ℕ) → (t == gone) ≡ false → made_in (filter (λ (v : Thread). not (v.seat == gone)) ts) t ≡ made_in ts t
+pub made-kept : (ts : List Thread) (gone t : ℕ) → (t == gone) ≡ false → made_in (filter (λ (v : Thread). not (v.seat == gone)) ts) t ≡ made_in ts t
 made-kept [] gone t h = refl
 made-kept (x ∷ ts) gone t h = at (x.seat == gone) refl (made-kept ts gone t h)
   where
@@ -285,7 +285,7 @@ closed-quiet z made = record {
   threads = λ t m h u. h;
 }
 
-caller-stays : (seat : ℕ) (c : Option ℕ) (t : ℕ) → gone_caller seat c ≡ Some t → (c ≡ Some t) × ((t == seat) ≡ false)
+pub caller-stays : (seat : ℕ) (c : Option ℕ) (t : ℕ) → gone_caller seat c ≡ Some t → (c ≡ Some t) × ((t == seat) ≡ false)
 caller-stays seat None t h = absurd (cc)
 caller-stays seat (Some c) t h = at (c == seat) refl h
   where
@@ -293,7 +293,7 @@ caller-stays seat (Some c) t h = at (c == seat) refl h
     at true e h = absurd (cc)
     at false e h = let is : c ≡ t = cc in (h, subst (λ n. (n == seat) ≡ false) is e)
 
-unread-serving : (todo : List Work) (list : TodoList) (n : ℕ) (v : Server) (t : ℕ) → unread_server todo list n v ≡ Serving t → v ≡ Serving t
+pub unread-serving : (todo : List Work) (list : TodoList) (n : ℕ) (v : Server) (t : ℕ) → unread_server todo list n v ≡ Serving t → v ≡ Serving t
 unread-serving todo list n Pending t h = at (is_unread_on todo list n) h
   where
     at : (b : Bool) → cond b Gone Pending ≡ Serving t → Pending ≡ Serving t
@@ -302,7 +302,7 @@ unread-serving todo list n Pending t h = at (is_unread_on todo list n) h
 unread-serving todo list n (Serving u) t h = h
 unread-serving todo list n Gone t h = absurd (cc)
 
-server-stays : (seat : ℕ) (v : Server) (t : ℕ) → gone_server seat v ≡ Serving t → (v ≡ Serving t) × ((t == seat) ≡ false)
+pub server-stays : (seat : ℕ) (v : Server) (t : ℕ) → gone_server seat v ≡ Serving t → (v ≡ Serving t) × ((t == seat) ≡ false)
 server-stays seat Pending t h = absurd (cc)
 server-stays seat (Serving u) t h = at (u == seat) refl h
   where

@@ -22,10 +22,10 @@ use Rattle.bd_space.specs.declared.space.TodoList.{TodoList}
 use Rattle.bd_space.specs.declared.space.TodoList.TheVariants.{OfThread, OfProcess}
 use Rattle.bd_space.specs.declared.space.WorkKind.{WorkKind}
 use Rattle.bd_space.specs.declared.space.WorkKind.TheVariants as work
-use Rattle.bd_space.specs.Words.{same, is_some_and, same_identity}
+use Rattle.bd_space.specs.Words.{same, is_some_and}
 use Rattle.bd_space.specs.Space.{Space, opening}
 use Rattle.bd_space.specs.Seats.{lives_in}
-use Rattle.bd_space.specs.Todo.{with_work, owe, is_notice, notice_of, death_of}
+use Rattle.bd_space.specs.Todo.{with_work, owe, is_notice, notice_of, death_of, is_item}
 use Rattle.bd_space.specs.Turns.{turns_of, ripen, ripened, is_ripe}
 use Rattle.bd_space.specs.Notices.{with_notice, wants_notice, has_notice_in, follow, notify, work_goes, deaths_go, still_due}
 use Rattle.bd_space.specs.Names.{names_go, assign_numbers}
@@ -106,7 +106,7 @@ module _ (n : ℕ) (more todo : List Work) (k : Adds n more todo) (h : Owed (suc
 count-push : (p : Work → Bool) (xs : List Work) (y : Work) → p y ≡ true → count_by p (xs ++ y ∷ []) ≡ count_by p xs + 1
 count-push p xs y h = sum_by-append (λ x. cond (p x) 1 0) xs (y ∷ []) ∙ ap (λ b. count_by p xs + (0 + cond b 1 0)) h
 
-count-filter : (p q : Work → Bool) (xs : List Work) → ((w : Work) → In w xs → q w ≡ true → p w ≡ true) → count_by q (filter p xs) ≡ count_by q xs
+pub count-filter : (p q : Work → Bool) (xs : List Work) → ((w : Work) → In w xs → q w ≡ true → p w ≡ true) → count_by q (filter p xs) ≡ count_by q xs
 count-filter p q [] h = refl
 count-filter p q (x ∷ xs) h = at (p x) refl (count-filter p q xs (λ w l e. h w (inr l) e))
   where
@@ -118,7 +118,7 @@ count-filter p q (x ∷ xs) h = at (p x) refl (count-filter p q xs (λ w l e. h 
     at true e k = sum_by-cons (λ y. cond (q y) 1 0) x (filter p xs) ∙ ap (λ n. cond (q x) 1 0 + n) k ∙ sym (sum_by-cons (λ y. cond (q y) 1 0) x xs)
     at false e k = k ∙ none (q x) e refl
 
-count-work : (n : ℕ) (todo : List Work) (list : TodoList) (kind : WorkKind) → count_at n (with_work n todo list kind) ≡ count_at n todo + 1
+pub count-work : (n : ℕ) (todo : List Work) (list : TodoList) (kind : WorkKind) → count_at n (with_work n todo list kind) ≡ count_at n todo + 1
 count-work n todo list kind = count-push (λ w. w.id.place == n) todo _ (eq-eqb n n refl)
 
 -- each item of this step is numbered below their count
@@ -284,7 +284,7 @@ plain-due processes objects references deaths (work.Verdict r) h k = refl
 plain-due processes objects references deaths (work.Death n) h k = absurd (cc)
 plain-due processes objects references deaths (work.Cleared n) h k = refl
 
-wanted-due : (processes : List Process) (objects : List Object) (references : List Reference) (deaths : List DeathNotification) (kind : WorkKind)
+pub wanted-due : (processes : List Process) (objects : List Object) (references : List Reference) (deaths : List DeathNotification) (kind : WorkKind)
     → Wanted processes objects references kind → still_due processes (filter (stays_in processes references) objects) references deaths kind ≡ true
 wanted-due processes objects references deaths kind (inr k) = plain-due processes _ references deaths kind k.0 k.1
 wanted-due processes objects references deaths kind (inl k) =
@@ -298,7 +298,7 @@ pub record Fresh (n : ℕ) (processes : List Process) (objects : List Object) (r
   pub wanted : (w : Work) → In w todo → w.id.place ≡ n → Wanted processes objects references w.kind
 
 module _ (n : ℕ) (processes : List Process) (objects : List Object) (references : List Reference) where
-  wanted-push : (todo : List Work) (list : TodoList) (kind : WorkKind) → Wanted processes objects references kind
+  pub wanted-push : (todo : List Work) (list : TodoList) (kind : WorkKind) → Wanted processes objects references kind
       → ((w : Work) → In w todo → w.id.place ≡ n → Wanted processes objects references w.kind)
       → (w : Work) → In w (with_work n todo list kind) → w.id.place ≡ n → Wanted processes objects references w.kind
   wanted-push todo list kind k h w l at = elim (in-push w _ todo l) [
@@ -342,7 +342,7 @@ module _ (n : ℕ) (processes : List Process) (objects : List Object) (reference
   added-fresh list todo true i None e h = h
   added-fresh list todo true i (Some x) e h = noticed-fresh list todo i x e h
 
-items-fresh : (z : Space) (seat : ℕ) (items : List Item) (todo : List Work) → Fresh z.steps z.processes z.objects z.references todo
+pub items-fresh : (z : Space) (seat : ℕ) (items : List Item) (todo : List Work) → Fresh z.steps z.processes z.objects z.references todo
     → Fresh z.steps z.processes z.objects z.references (fold (add_notice z seat) todo items)
 items-fresh z seat [] todo h = h
 items-fresh z seat (x ∷ xs) todo h =
@@ -472,7 +472,7 @@ transacted-goes s a d v h =
 
 read-goes : (s : Space) (seat : ℕ) (ws : List Work) → IsOwed s → Goes (read_by s seat ws)
 unfolding read_by
-read-goes s seat ws h = inl (adds-early-owed (read_by s seat ws) s h refl (λ w l. inl (in-filter (λ (w : Work). not (list_any (λ (d : Work). same_identity w.id d.id) ws)) w s.todo l).0))
+read-goes s seat ws h = inl (adds-early-owed (read_by s seat ws) s h refl (λ w l. inl (in-filter (λ (w : Work). not (list_any (λ (d : Work). is_item w d) ws)) w s.todo l).0))
 
 ripen-goes : (z : Space) → Goes z → Goes (ripen z)
 unfolding ripen

@@ -13,9 +13,8 @@ use Rattle.bd_space.specs.declared.space.Frame.{Frame}
 use Rattle.bd_space.specs.declared.space.Actor.{Actor}
 use Rattle.bd_space.specs.declared.space.TodoList.TheVariants.{OfThread}
 use Rattle.bd_space.specs.declared.space.WorkKind.TheVariants as work
-use Rattle.bd_space.specs.Words.{same_identity}
 use Rattle.bd_space.specs.Space.{Space, opening}
-use Rattle.bd_space.specs.Todo.{owe, is_call, same_list}
+use Rattle.bd_space.specs.Todo.{owe, is_call, same_list, is_item}
 use Rattle.bd_space.specs.Frames.{closed, goes_to, is_frame, innermost, innermost_in, is_deepest_in, made_of}
 use Rattle.bd_space.specs.Turns.{ripen}
 use Rattle.bd_space.specs.Notices.{follow}
@@ -42,10 +41,10 @@ use Rattle.bd_audit.proofs.Answering.{Answers, answers-more, sent-quiet, serve-m
 
 -- ---- what a step makes: frames and replies of its own place
 
-record From (s z : Space) : Type 0 where
-  steps : z.steps ≡ s.steps
-  frames : (f : Frame) → In f z.frames → ((g : Frame) × In g s.frames × (f.made ≡ g.made)) ⊎ (f.made ≡ s.steps)
-  replies : (w : Work) (b : ℕ) → In w z.todo → reply_of w.kind ≡ Some b → In w s.todo ⊎ (b ≡ s.steps)
+pub record From (s z : Space) : Type 0 where
+  pub steps : z.steps ≡ s.steps
+  pub frames : (f : Frame) → In f z.frames → ((g : Frame) × In g s.frames × (f.made ≡ g.made)) ⊎ (f.made ≡ s.steps)
+  pub replies : (w : Work) (b : ℕ) → In w z.todo → reply_of w.kind ≡ Some b → In w s.todo ⊎ (b ≡ s.steps)
 
 from-quiet : (s z y : Space) → Quiet z y → From s y → From s z
 from-quiet s z y k h = record {
@@ -101,7 +100,7 @@ from-read s seat ws = record {
   frames = λ f l.
       let g = in-changed (λ (g : Frame). list_any (λ (w : Work). is_call g.made w.kind) ws) (serve seat) f s.frames l in
       inl (g.0, g.1, ap (λ (x : Frame). x.made) g.2 ∙ serve-made seat (list_any (λ (w : Work). is_call g.0.made w.kind) ws) g.0);
-  replies = λ w b l e. inl (in-filter (λ (w : Work). not (list_any (λ (d : Work). same_identity w.id d.id) ws)) w s.todo l).0;
+  replies = λ w b l e. inl (in-filter (λ (w : Work). not (list_any (λ (d : Work). is_item w d) ws)) w s.todo l).0;
 }
 
 from-kept : (s : Space) (seat : ℕ) (x : Step) → Keeps s seat x (From s) (From s)
@@ -130,26 +129,27 @@ from-kept s seat x = record {
   tells = λ z t r. from-quiet s (owe z (OfThread t) (work.Verdict r)) z (quiet.owe-quiet z (OfThread t) (work.Verdict r) refl);
 }
 
-step-from : (s : Space) (e : Entry) → From s (change s e.seat e.step).space
+pub step-from : (s : Space) (e : Entry) → From s (change s e.seat e.step).space
 step-from s e = every_step s e.seat e.step (From s) (From s) (from-kept s e.seat e.step)
 
 -- ---- what is gone never comes again
 
-NoFrame : ℕ → Space → Type 0
+-- no frame made there
+abbrev pub NoFrame : ℕ → Space → Type 0
 NoFrame c z = (f : Frame) → In f z.frames → f.made ≡ c → ⊥
 
 next-steps : (s : Space) (e : Entry) → (next s e).steps ≡ suc s.steps
 unfolding counted
 next-steps s e = ap suc (step-from s e).steps
 
-step-no_frame : (s : Space) (e : Entry) (c : ℕ) → c < s.steps → NoFrame c s → NoFrame c (next s e)
-unfolding counted NoFrame
+pub step-no_frame : (s : Space) (e : Entry) (c : ℕ) → c < s.steps → NoFrame c s → NoFrame c (next s e)
+unfolding counted
 step-no_frame s e c lt h f l is = elim ((step-from s e).frames f l) [
   | inl g ↦ h g.0 g.1 (sym g.2 ∙ is)
   | inr at ↦ absurd (omega arith)
 ]
 
-step-no_reply : (s : Space) (e : Entry) (b : ℕ) → b < s.steps → NoReply b s → NoReply b (next s e)
+pub step-no_reply : (s : Space) (e : Entry) (b : ℕ) → b < s.steps → NoReply b s → NoReply b (next s e)
 unfolding counted
 step-no_reply s e b lt h w l is = elim ((step-from s e).replies w b l is) [ inl i ↦ h w i is | inr at ↦ absurd (omega arith) ]
 
@@ -168,18 +168,18 @@ standing [] i e h = absurd (cc)
 standing (x ∷ es) zero e h = record { rest = es; all = ap (λ y. y ∷ es) (let is : x ≡ e = cc in is); at = refl }
 standing (x ∷ es) (suc i) e h = let k = standing es i e h in record { rest = k.rest; all = ap (λ ys. x ∷ ys) k.all; at = let a = k.at in omega arith }
 
-placed : (before : List Entry) (e : Entry) (rest : List Entry) (i : ℕ) → length before ≡ i
+pub placed : (before : List Entry) (e : Entry) (rest : List Entry) (i : ℕ) → length before ≡ i
     → (slice_get (before ++ e ∷ rest) i ≡ Some e) × (take i (before ++ e ∷ rest) ≡ before)
 placed [] e rest zero at = (refl, refl)
 placed [] e rest (suc i) at = absurd (omega arith)
 placed (x ∷ before) e rest zero at = absurd (omega arith)
 placed (x ∷ before) e rest (suc i) at = let k = placed before e rest i (omega arith) in (k.0, ap (λ ys. x ∷ ys) k.1)
 
-stood : (es : List Entry) (i : ℕ) (before : List Entry) (e : Entry) → Stands es i before e → (slice_get es i ≡ Some e) × (take i es ≡ before)
+pub stood : (es : List Entry) (i : ℕ) (before : List Entry) (e : Entry) → Stands es i before e → (slice_get es i ≡ Some e) × (take i es ≡ before)
 stood es i before e k = subst (λ xs. (slice_get xs i ≡ Some e) × (take i xs ≡ before)) (sym k.all) (placed before e k.rest i k.at)
 
 -- the later of two places has the earlier one before it
-between : (before later : List Entry) (e f : Entry) (rest more : List Entry) → before ++ e ∷ rest ≡ later ++ f ∷ more → length before < length later
+pub between : (before later : List Entry) (e f : Entry) (rest more : List Entry) → before ++ e ∷ rest ≡ later ++ f ∷ more → length before < length later
     → (mid : List Entry) × (later ≡ before ++ e ∷ mid)
 between before [] e f rest more is lt = absurd (omega arith)
 between [] (x ∷ later) e f rest more is lt = let head : e ≡ x = cc in (later, ap (λ y. y ∷ later) (sym head))
@@ -200,10 +200,10 @@ module _ (es : List Entry) (i j : ℕ) (before later : List Entry) (e f : Entry)
   next-place : (next (after opening before) e).steps ≡ suc i
   next-place = next-steps (after opening before) e ∙ ap suc (always-steps before ∙ at.at)
 
-  no_frame-later : (c : ℕ) → c < i → NoFrame c (next (after opening before) e) → NoFrame c (after opening later)
+  pub no_frame-later : (c : ℕ) → c < i → NoFrame c (next (after opening before) e) → NoFrame c (after opening later)
   no_frame-later c below h = subst (NoFrame c) (sym later-space) (later-no_frame mid.0 (next (after opening before) e) c (let n = next-place in omega arith) h)
 
-  no_reply-later : (b : ℕ) → b < i → NoReply b (next (after opening before) e) → NoReply b (after opening later)
+  pub no_reply-later : (b : ℕ) → b < i → NoReply b (next (after opening before) e) → NoReply b (after opening later)
   no_reply-later b below h = subst (NoReply b) (sym later-space) (later-no_reply mid.0 (next (after opening before) e) b (let n = next-place in omega arith) h)
 
 -- ---- a call is closed once, and a reply taken once
@@ -216,22 +216,20 @@ open-frame s e c h = at (innermost_in s.frames e.seat) refl h
     at None k h = absurd (cc)
     at (Some f) k h = (f, (find-in (is_deepest_in s.frames e.seat) f s.frames k).0, (let j : Some f.made ≡ Some c = h in cc))
 
-closed-no_frame : (s : Space) (c : ℕ) → list_any (is_frame c) s.frames ≡ false → NoFrame c s
-unfolding NoFrame
+pub closed-no_frame : (s : Space) (c : ℕ) → list_any (is_frame c) s.frames ≡ false → NoFrame c s
 closed-no_frame s c h f l is = let yes = any-in (is_frame c) f s.frames l (eq-eqb f.made c is) in absurd (cc)
 
 abbrev Closes : List Entry → ℕ → ℕ → Type 0
 Closes es w c = (n : ℕ) × (c < w) × At es w (λ z e. AnswersCall z e c n)
 
 closed-once : (es : List Entry) (c w v : ℕ) → Closes es w c → Closes es v c → w < v → ⊥
-unfolding NoFrame
 closed-once es c w v h k lt =
     let p = h.2 in
     let q = k.2 in
     let f = open-frame (after opening q.0) q.1 c q.3.innermost in
     no_frame-later es w v p.0 q.0 p.1 q.1 p.2 q.2 lt c h.1 (closed-no_frame (next (after opening p.0) p.1) c p.3.closes) f.0 f.1 f.2
 
-is-reading : (s : Space) (e : Entry) (r : ℕ) → reply_taken s e ≡ Some r → (limit : ℕ) × (e.step ≡ Read limit)
+pub is-reading : (s : Space) (e : Entry) (r : ℕ) → reply_taken s e ≡ Some r → (limit : ℕ) × (e.step ≡ Read limit)
 unfolding reply_taken
 is-reading s e r h = at e.step refl h
   where
@@ -245,14 +243,14 @@ is-reading s e r h = at e.step refl h
     at ExitProcess k h = absurd (cc)
 
 -- the item that a reading takes stood on its thread's list, and has gone
-record Took (s : Space) (e : Entry) (r : ℕ) : Type 0 where
-  item : Work
-  here : In item s.todo
-  reply : reply_of item.kind ≡ Some r
-  list : item.list ≡ OfThread e.seat
-  gone : NoReply r (next s e)
+pub record Took (s : Space) (e : Entry) (r : ℕ) : Type 0 where
+  pub item : Work
+  pub here : In item s.todo
+  pub reply : reply_of item.kind ≡ Some r
+  pub list : item.list ≡ OfThread e.seat
+  pub gone : NoReply r (next s e)
 
-took : (s : Space) → IsOwed s → (e : Entry) (r : ℕ) → reply_taken s e ≡ Some r → Took s e r
+pub took : (s : Space) → IsOwed s → (e : Entry) (r : ℕ) → reply_taken s e ≡ Some r → Took s e r
 took s h e r t =
     let reading = is-reading s e r t in
     elim (taken-or-not s h e reading.0 reading.1) [
@@ -271,14 +269,14 @@ took s h e r t =
           })
     ]
 
-owed-after : (es : List Entry) → IsOwed (after opening es)
+pub owed-after : (es : List Entry) → IsOwed (after opening es)
 unfolding space_after
 owed-after es = always-owed (record { seats = 0; entries = es })
 
 abbrev Reads : List Entry → ℕ → ℕ → Type 0
 Reads es s w = At es s (λ z e. reply_taken z e ≡ Some w)
 
-taken-once : (es : List Entry) (w s r : ℕ) → Reads es s w → Reads es r w → w < s → s < r → ⊥
+pub taken-once : (es : List Entry) (w s r : ℕ) → Reads es s w → Reads es r w → w < s → s < r → ⊥
 taken-once es w s r p q below lt =
     let k = took (after opening p.0) (owed-after p.0) p.1 w p.3 in
     let l = took (after opening q.0) (owed-after q.0) q.1 w q.3 in
@@ -293,7 +291,7 @@ record Found (h : History) (s w : ℕ) : Type 0 where
   read : At h.entries s (λ z e. thread_made z e.seat ≡ Some caller)
   reply_next : w < s
 
-at-place : (h : History) (s w : ℕ) → reply_taken_at h s ≡ Some w → Reads h.entries s w
+pub at-place : (h : History) (s w : ℕ) → reply_taken_at h s ≡ Some w → Reads h.entries s w
 unfolding reply_taken_at space_after
 at-place h s w e =
     option_and_then_some (reply_taken (space_at h s)) (slice_get h.entries s) w e (λ x g t. (take s h.entries, x, standing h.entries s x g, t))

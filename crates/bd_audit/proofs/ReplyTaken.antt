@@ -16,13 +16,14 @@ use Rattle.bd_space.specs.declared.space.Work.{Work}
 use Rattle.bd_space.specs.declared.space.Actor.{Actor}
 use Rattle.bd_space.specs.declared.space.Identity.{Identity}
 use Rattle.bd_space.specs.declared.space.DeathNotification.{DeathNotification}
+use Rattle.bd_space.specs.declared.space.TodoList.{TodoList}
 use Rattle.bd_space.specs.declared.space.TodoList.TheVariants.{OfThread, OfProcess}
 use Rattle.bd_space.specs.declared.space.WorkKind.{WorkKind}
 use Rattle.bd_space.specs.declared.space.WorkKind.TheVariants as work
 use Rattle.bd_space.specs.Words.{first_of, same_identity}
 use Rattle.bd_space.specs.Space.{Space}
 use Rattle.bd_space.specs.Seats.{actor}
-use Rattle.bd_space.specs.Todo.{with_work, is_on, same_list, work_on, has_work_in, list_to_read}
+use Rattle.bd_space.specs.Todo.{with_work, is_on, same_list, work_on, has_work_in, list_to_read, is_item}
 use Rattle.bd_space.specs.Notices.{with_notice, wants_notice, has_notice_in, follow, notify, work_goes, deaths_go, still_due}
 use Rattle.bd_space.specs.Names.{names_go}
 use Rattle.bd_space.specs.References.{objects_go}
@@ -50,6 +51,18 @@ identity-eq a b h =
 
 eq-identity : (a b : Identity) → a ≡ b → same_identity a b ≡ true
 eq-identity a b e = and-both (a.place == b.place) (a.index == b.index) (eq-eqb a.place b.place (ap (λ (x : Identity). x.place) e)) (eq-eqb a.index b.index (ap (λ (x : Identity). x.index) e))
+
+same_list-same : (l : TodoList) → same_list l l ≡ true
+same_list-same (OfThread t) = eq-eqb t t refl
+same_list-same (OfProcess p) = eq-eqb p p refl
+
+pub item-id : (v w : Work) → is_item v w ≡ true → v.id ≡ w.id
+item-id v w h = identity-eq v.id w.id (both (same_identity v.id w.id) (is_on w.list v) h).0
+
+pub same-item : (v w : Work) → v ≡ w → is_item v w ≡ true
+same-item v w e =
+    and-both (same_identity v.id w.id) (is_on w.list v) (eq-identity v.id w.id (ap (λ (x : Work). x.id) e))
+    (ap (λ (x : Work). is_on w.list x) e ∙ same_list-same w.list)
 
 -- ---- the first reply of a list
 
@@ -145,30 +158,30 @@ first-stands z seat r e =
     (w.0, i.0, w.2, i.1)
 
 module _ (s : Space) (h : IsOwed s) (seat reader : ℕ) (ws : List Work) (sub : (w : Work) → In w ws → In w s.todo) where
-  untaken : first_reply_in ws ≡ None → (w : Work) (b : ℕ) → In w s.todo → reply_of w.kind ≡ Some b → not (list_any (λ (d : Work). same_identity w.id d.id) ws) ≡ true
-  untaken e w b l f = at (list_any (λ (d : Work). same_identity w.id d.id) ws) refl
+  untaken : first_reply_in ws ≡ None → (w : Work) (b : ℕ) → In w s.todo → reply_of w.kind ≡ Some b → not (list_any (λ (d : Work). is_item w d) ws) ≡ true
+  untaken e w b l f = at (list_any (λ (d : Work). is_item w d) ws) refl
     where
-      at : (c : Bool) → list_any (λ (d : Work). same_identity w.id d.id) ws ≡ c → not c ≡ true
+      at : (c : Bool) → list_any (λ (d : Work). is_item w d) ws ≡ c → not c ≡ true
       at false g = refl
       at true g =
-          let d = any-found (λ (d : Work). same_identity w.id d.id) ws g in
-          let is = h.one w d.0 b l (sub d.0 d.1) f (inl (identity-eq w.id d.0.id d.2)) in
+          let d = any-found (λ (d : Work). is_item w d) ws g in
+          let is = h.one w d.0 b l (sub d.0 d.1) f (inl (item-id w d.0 d.2)) in
           absurd (none-in ws e d.0 b d.1 (ap (λ (x : Work). reply_of x.kind) (sym is) ∙ f))
 
   none-taken : first_reply_in ws ≡ None → first_reply (follow (read_by s reader ws)) seat ≡ first_reply s seat
   unfolding read_by
   none-taken e =
       follow-first (read_by s reader ws) seat
-      ∙ kept-first (λ w. not (list_any (λ (d : Work). same_identity w.id d.id) ws)) (is_on (OfThread seat)) s.todo (untaken e)
+      ∙ kept-first (λ w. not (list_any (λ (d : Work). is_item w d) ws)) (is_on (OfThread seat)) s.todo (untaken e)
 
   taken-away : (r : ℕ) → first_reply_in ws ≡ Some r → NoReply r (read_by s reader ws)
   unfolding read_by
   taken-away r e v l f =
-      let i = in-filter (λ (w : Work). not (list_any (λ (d : Work). same_identity w.id d.id) ws)) v s.todo l in
+      let i = in-filter (λ (w : Work). not (list_any (λ (d : Work). is_item w d) ws)) v s.todo l in
       let w = first-in ws r e in
       let is : v ≡ w.0 = h.one v w.0 r i.0 (sub w.0 w.1) f (inr w.2) in
-      let yes = any-in (λ (d : Work). same_identity v.id d.id) w.0 ws w.1 (eq-identity v.id w.0.id (ap (λ (x : Work). x.id) is)) in
-      let no = not-true (list_any (λ (d : Work). same_identity v.id d.id) ws) i.1 in
+      let yes = any-in (λ (d : Work). is_item v d) w.0 ws w.1 (same-item v w.0 is) in
+      let no = not-true (list_any (λ (d : Work). is_item v d) ws) i.1 in
       absurd (cc)
 
   some-taken : (r : ℕ) → first_reply_in ws ≡ Some r → NoReply r (follow (read_by s reader ws))

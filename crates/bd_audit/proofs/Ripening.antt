@@ -13,9 +13,9 @@ use Rattle.bd_space.specs.declared.space.Work.{Work}
 use Rattle.bd_space.specs.declared.space.TodoList.{TodoList}
 use Rattle.bd_space.specs.declared.space.TodoList.TheVariants.{OfProcess}
 use Rattle.bd_space.specs.declared.space.WorkKind.TheVariants as work
-use Rattle.bd_space.specs.Words.{same, changed, first_of, same_identity}
+use Rattle.bd_space.specs.Words.{same, changed, first_of}
 use Rattle.bd_space.specs.Space.{Space}
-use Rattle.bd_space.specs.Todo.{with_work, handed_over, is_call, is_on, work_on, reads_in, list_to_read, without_taken}
+use Rattle.bd_space.specs.Todo.{with_work, handed_over, is_call, is_on, work_on, reads_in, list_to_read, without_taken, is_item}
 use Rattle.bd_space.specs.Turns.{turn_of, turns_of, is_ripe, ripened, ripen}
 use Rattle.bd_space.specs.Freeing.{is_made_at}
 use Rattle.bd_space.specs.Reading.{buffer_in, bytes_read, ends_read, taken, buffer_taken, hand_out, handed_buffers, read_by}
@@ -218,4 +218,4 @@ read-in_turn s t seat left h =
     let ws = taken s left (list_to_read s t) in
     handed-in_turn (suc s.steps) s.buffers (without_taken ws s.todo) s.todo (buffer_taken s ws)
     (λ b e. let d = (taken-due s ws b e).1 in (d.0, read-in s t left d.0 d.1, d.2))
-    (λ m d. (d.0, (in-filter (λ (w : Work). not (list_any (λ (d : Work). same_identity w.id d.id) ws)) d.0 s.todo d.1).0, d.2)) h
+    (λ m d. (d.0, (in-filter (λ (w : Work). not (list_any (λ (d : Work). is_item w d) ws)) d.0 s.todo d.1).0, d.2)) h

@@ -22,13 +22,13 @@ use Rattle.bd_space.specs.declared.space.WorkKind.{WorkKind}
 use Rattle.bd_space.specs.declared.space.WorkKind.TheVariants as work
 use Rattle.bd_space.specs.declared.space.TodoList.{TodoList}
 use Rattle.bd_space.specs.declared.space.TodoList.TheVariants.{OfThread, OfProcess}
-use Rattle.bd_space.specs.Words.{same, changed, same_identity}
+use Rattle.bd_space.specs.Words.{same, changed}
 use Rattle.bd_space.specs.Space.{Space, opening}
 use Rattle.bd_space.specs.Seats.{thread_in, actor}
 use Rattle.bd_space.specs.References.{object_in, owned_in, objects_go, stays_in}
 use Rattle.bd_space.specs.Names.{names_go, assign_numbers}
 use Rattle.bd_space.specs.Frames.{goes_to, closed}
-use Rattle.bd_space.specs.Todo.{with_work, owe, is_on, same_list, notice_of}
+use Rattle.bd_space.specs.Todo.{with_work, owe, is_on, same_list, notice_of, is_item}
 use Rattle.bd_space.specs.Turns.{ripen, ripened, is_ripe, turns_of}
 use Rattle.bd_space.specs.Notices.{with_notice, wants_notice, has_notice_in, still_due, work_goes, deaths_go, notify, follow}
 use Rattle.bd_space.specs.Parcels.{is_own}
@@ -318,7 +318,7 @@ read-sits s seat ws h = λ w o x l e i is.
     let y = in-changed (λ (x : Object). is_told_by ws x.id) (told_of s.references) x s.objects i in
     let id : y.0.id ≡ o = sym (told-id s.references (is_told_by ws y.0.id) y.0) ∙ sym (ap (λ (z : Object). z.id) y.2) ∙ is in
     let owner : y.0.owner ≡ x.owner = sym (told-owner s.references (is_told_by ws y.0.id) y.0) ∙ sym (ap (λ (z : Object). z.owner) y.2) in
-    subst (Reaches s.threads w.list) owner (h w o y.0 (in-filter (λ (w : Work). not (list_any (λ (d : Work). same_identity w.id d.id) ws)) w s.todo l).0 e y.1 id)
+    subst (Reaches s.threads w.list) owner (h w o y.0 (in-filter (λ (w : Work). not (list_any (λ (d : Work). is_item w d) ws)) w s.todo l).0 e y.1 id)
 
 ripens-if : (place : ℕ) (threads : List Thread) (objects : List Object) (b : Bool) (todo : List Work) (t : Turn) → Sits threads objects todo
     → Sits threads objects (cond b (with_work place todo (OfProcess t.receiver) (work.Call t.made)) todo)

@@ -1,5 +1,5 @@
 -- One-way calls are taken in their turns.
-use Rattle.std.proofs.Common.{◌≡◌, ℕ, zero, suc, ◌<◌, Bool, true, false, not, ◌&&◌, List, [], ◌∷◌, ◌++◌, Option, Some, None, ◌⊎◌, inl, inr, refl, ap, sym, subst, ◌∙◌, map, length, get_or, arith}
+use Rattle.std.proofs.Common.{◌≡◌, ℕ, suc, ◌<◌, Bool, true, false, not, ◌&&◌, List, [], ◌∷◌, ◌++◌, Option, Some, None, ◌⊎◌, inl, inr, refl, ap, sym, subst, ◌∙◌, map, arith}
 use Rattle.std.specs.List.{filter_map, cons_option, AllPairs}
 use Rattle.std.specs.Option.{is_some}
 use Rattle.std.proofs.lemmas.Bool.{eqb-true, eq-eqb}
@@ -175,20 +175,20 @@ pub record Logged (o : ObjectId) (ts : List Turn) (s : Space) : Type 0 where
 live-found : (buffers : List Buffer) (made : ℕ) → is_live buffers made ≡ true → (c : Buffer) × In c buffers × (c.made ≡ made)
 live-found buffers made h = let c = any-found (is_made_at made) buffers h in (c.0, c.1, eqb-true c.0.made made c.2)
 
-live-in : (buffers : List Buffer) (c : Buffer) (made : ℕ) → In c buffers → c.made ≡ made → is_live buffers made ≡ true
+pub live-in : (buffers : List Buffer) (c : Buffer) (made : ℕ) → In c buffers → c.made ≡ made → is_live buffers made ≡ true
 live-in buffers c made i e = any-in (is_made_at made) c buffers i (eq-eqb c.made made e)
 
-handed-found : (buffers : List Buffer) (made : ℕ) → is_handed buffers made ≡ true → (c : Buffer) × In c buffers × (c.made ≡ made) × (c.handed ≡ true)
+pub handed-found : (buffers : List Buffer) (made : ℕ) → is_handed buffers made ≡ true → (c : Buffer) × In c buffers × (c.made ≡ made) × (c.handed ≡ true)
 handed-found buffers made h =
     let c = any-found (λ b. is_made_at made b && b.handed) buffers h in
     let k = both (is_made_at made c.0) c.0.handed c.2 in
     (c.0, c.1, eqb-true c.0.made made k.0, k.1)
 
-handed-in : (buffers : List Buffer) (c : Buffer) (made : ℕ) → In c buffers → c.made ≡ made → c.handed ≡ true → is_handed buffers made ≡ true
+pub handed-in : (buffers : List Buffer) (c : Buffer) (made : ℕ) → In c buffers → c.made ≡ made → c.handed ≡ true → is_handed buffers made ≡ true
 handed-in buffers c made i e t = any-in (λ b. is_made_at made b && b.handed) c buffers i (and-both (is_made_at made c) c.handed (eq-eqb c.made made e) t)
 
 -- what was noted now, or before
-noted-some : (o : Option ℕ) (n : ℕ) (now : Bool) (p : ℕ) → noted_at o n now ≡ Some p → (o ≡ Some p) ⊎ ((o ≡ None) × (now ≡ true) × (p ≡ n))
+pub noted-some : (o : Option ℕ) (n : ℕ) (now : Bool) (p : ℕ) → noted_at o n now ≡ Some p → (o ≡ Some p) ⊎ ((o ≡ None) × (now ≡ true) × (p ≡ n))
 noted-some (Some q) n now p h = inl h
 noted-some None n true p h = inr (refl, refl, cc)
 noted-some None n false p h = absurd (cc)
@@ -198,10 +198,10 @@ noted-none (Some q) n now h = absurd (cc)
 noted-none None n true h = absurd (cc)
 noted-none None n false h = (refl, refl)
 
-noted-kept : (o : Option ℕ) (n : ℕ) (now : Bool) (p : ℕ) → o ≡ Some p → noted_at o n now ≡ Some p
+pub noted-kept : (o : Option ℕ) (n : ℕ) (now : Bool) (p : ℕ) → o ≡ Some p → noted_at o n now ≡ Some p
 noted-kept o n now p h = rw h refl
 
-some-case : (o : Option ℕ) → (o ≡ None) ⊎ ((p : ℕ) × (o ≡ Some p))
+pub some-case : (o : Option ℕ) → (o ≡ None) ⊎ ((p : ℕ) × (o ≡ Some p))
 some-case None = inl refl
 some-case (Some p) = inr (p, refl)
 
@@ -393,7 +393,7 @@ module _ (s z : Space) (h : Before s) (turns : Turning z) (p : Passed s z) (o : 
 
     -- ---- the turn that the step makes
 
-    abbrev NewTurn : Turn → Buffer → Type 0
+    abbrev pub NewTurn : Turn → Buffer → Type 0
     NewTurn t c = In c z.buffers × (t.made ≡ s.steps) × (t.handed ≡ None) × (t.ended ≡ None) × (c.made ≡ s.steps) × On o c × (c.handed ≡ false)
 
     made-when : (b : Bool) (t u : Turn) → when b t ≡ Some u → (b ≡ true) × (t ≡ u)
@@ -458,7 +458,7 @@ module _ (s z : Space) (h : Before s) (turns : Turning z) (p : Passed s z) (o : 
       all-pairs us (λ t i. l t (inr i)) k.1 vs m (λ t v i j. n t v (inr i) j),
     )
 
-    turn-of : (t : Turn) → In t (next_turns o s.steps z.buffers ts) → ((u : Turn) × In u ts × (marked s.steps z.buffers u ≡ t)) ⊎ ((c : Buffer) × NewTurn t c)
+    pub turn-of : (t : Turn) → In t (next_turns o s.steps z.buffers ts) → ((u : Turn) × In u ts × (marked s.steps z.buffers u ≡ t)) ⊎ ((c : Buffer) × NewTurn t c)
     turn-of t i = elim (in-append t (map (marked s.steps z.buffers) ts) (filter_map (turn_made o s.steps) z.buffers) i) [
       | inl j ↦ inl (in-map (marked s.steps z.buffers) t ts j)
       | inr j ↦ inr (new-turn t j)
@@ -502,7 +502,7 @@ module _ (s z : Space) (h : Before s) (turns : Turning z) (p : Passed s z) (o : 
 
 -- ---- every history
 
-counted-buffers : (z : Space) → (counted z).buffers ≡ z.buffers
+pub counted-buffers : (z : Space) → (counted z).buffers ≡ z.buffers
 unfolding counted
 counted-buffers z = refl
 
@@ -516,7 +516,7 @@ log-all : (o : ObjectId) (es : List Entry) (s : Space) (ts : List Turn) → Befo
 log-all o [] s ts h log = (s, log)
 log-all o (e ∷ es) s ts h log = log-all o es (next s e) (next_turns o s.steps (next s e).buffers ts) (step-before s e h) (log-step o s e ts h log)
 
-no-turns : (o : ObjectId) → Logged o [] opening
+pub no-turns : (o : ObjectId) → Logged o [] opening
 no-turns o = record { past = λ t i. absurd i; live = λ t i e. absurd i; gone = λ t i q e b j m. absurd i; over = λ t i q e f. absurd i; order = tt }
 
 -- what holds before each step holds after every history

@@ -1,7 +1,12 @@
 pub mod Replays
 pub mod Laws
 pub mod OneWayTurns
+pub mod TurnCalls
 pub mod Gifts
 pub mod GiftSearch
 pub mod Replies
+pub mod Paths
+pub mod Latest
+pub mod Ending
 pub mod Hearing
+pub mod HandedReplies

@@ -8,7 +8,7 @@ ghost use Rattle.bd_audit.specs.Replays.{history_of, with_entry};
 ghost use Rattle.bd_audit.specs.Gifts.{IsGiftChain, IsChainOf};
 ghost use Rattle.bd_audit.specs.GiftSearch as spec;
 
-use crate::turns::advance;
+use crate::playing::{advance, played};
 use bd_engine::Engine;
 use bd_space::{Entry, ObjectId, Record};
 use bd_uapi::Fault;
@@ -124,20 +124,6 @@ fn chain_to(
     Ok(places)
 }
 
-// An engine that has made the steps of a record.
-fn replayed(alloc: Global, record: &Record) -> Result<Engine, Fault>
-    requires { (1 ≤ «record».now.seats) × («record».now.seats ≤ 16) }
-    ensures { MatchResult result (λ e. e ≡ history_of «record».now) (λ f. f ≡ faults.NoMemory) }
-{
-    let Ok(mut engine) = Engine::new(alloc, record.seats) else {
-        return Err(Fault::NoMemory);
-    };
-    for entry in record.entries.as_slice() {
-        advance(&mut engine, entry)?;
-    }
-    Ok(engine)
-}
-
 // The live process with this pid, with what the number names for it.
 fn holder_in(engine: &Engine, pid: u32, number: u32) -> Option<Holder>
     ensures some { IfSome result (λ k. spec.IsHolder (space_after engine.now) pid number k.process k.object) }
@@ -164,7 +150,7 @@ pub fn gift_chain(
     ensures none { IfOk result (λ c. is_some c ≡ is_some (looks.named_by (space_after (history_of «record».now)) pid number)) }
     ensures fault { IfErr result (λ f. f ≡ faults.NoMemory) }
 {
-    let engine = replayed(alloc, record)?;
+    let engine = played(alloc, record.seats, record.entries.as_slice())?;
     let Some(holder) = holder_in(&engine, pid, number) else {
         return Ok(None);
     };

@@ -3,7 +3,12 @@
 ghost use Rattle.bd_audit.specs.Laws.{OneAtATime, ObjectsAreKept, GoneUnheld, OneWayCallsAreDueInTurn};
 ghost use Rattle.bd_audit.specs.Gifts.{NamesHaveGiftChains};
 ghost use Rattle.bd_audit.specs.Replies.{RepliesReachTheirCallers};
+ghost use Rattle.bd_audit.specs.Paths.{FramesLieOnOnePath};
+ghost use Rattle.bd_audit.specs.Latest.{RepliesAnswerTheLatestOpenCall};
+ghost use Rattle.bd_audit.specs.Ending.{CallsEndLatestFirst};
 ghost use Rattle.bd_audit.specs.OneWayTurns.{TurnsAreTaken};
+ghost use Rattle.bd_audit.specs.HandedReplies.{RepliesAreHandedOut};
+ghost use Rattle.bd_audit.specs.TurnCalls.{TurnsTellOfCalls};
 ghost use Rattle.bd_audit.specs.Hearing.{NoticesAreDue, OnlyOwnersHear, OwnersHearInOrder};
 
 /// Of the one-way calls of one object whose buffers live, one at most is due or handed out.
@@ -33,6 +38,12 @@ pub fn turns_are_taken()
     ensures { TurnsAreTaken }
 {}
 
+/// The turns of an object are the accepted one-way transactions on it, each with the places at which its call was handed
+/// out and its buffer went.
+pub fn turns_tell_of_calls()
+    ensures { TurnsTellOfCalls }
+{}
+
 /// Each name of a live process has a gift chain: rising places at which the object was given on, first by its owner or
 /// as the context manager's, then by the receiver before, and last to the process.
 pub fn names_have_gift_chains()
@@ -43,6 +54,30 @@ pub fn names_have_gift_chains()
 /// which it was handed out, the four stand in this order, and no other reading answers it.
 pub fn replies_reach_their_callers()
     ensures { RepliesReachTheirCallers }
+{}
+
+/// What a reading hands out has a BR_REPLY exactly where the reading takes a reply.
+pub fn replies_are_handed_out()
+    ensures { RepliesAreHandedOut }
+{}
+
+/// Open calls lie on paths: each frame has one open child at most, and of two frames in which a thread takes part, one is
+/// on the way from the other by parents.
+pub fn frames_lie_on_one_path()
+    ensures { FramesLieOnOnePath }
+{}
+
+/// The call that a reading answers is the latest of its thread's calls whose Reply or Verdict isn't read yet: it was the
+/// latest open one when the reply was made; each later call of that thread, up to the reading, had ended before that, and
+/// what the thread was told of it was read before this reply, by an earlier reading or earlier by the same one; and of what
+/// the thread was told of the call itself it had read nothing before.
+pub fn replies_answer_the_latest_open_call()
+    ensures { RepliesAnswerTheLatestOpenCall }
+{}
+
+/// Of the open calls of a thread that lives on, a step ends the latest only.
+pub fn calls_end_latest_first()
+    ensures { CallsEndLatestFirst }
 {}
 
 /// What the owner of an object is told of it, and acknowledges, is a beginning of: BR_INCREFS, then BR_ACQUIRE and

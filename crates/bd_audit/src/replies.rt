@@ -6,7 +6,7 @@ ghost use Rattle.bd_space.specs.Histories.{IsHistory, space_after};
 ghost use Rattle.bd_audit.specs.Replays.{history_of, beginning};
 ghost use Rattle.bd_audit.specs.Replies as spec;
 
-use crate::turns::advance;
+use crate::playing::{advance, played};
 use bd_engine::Engine;
 use bd_space::{Entry, Record, Step};
 use bd_uapi::Fault;
@@ -19,14 +19,7 @@ fn played_to(alloc: Global, record: &Record, place: usize) -> Result<Engine, Fau
     ensures ok { IfOk result (λ e. e ≡ beginning place (history_of «record».now)) }
     ensures fault { IfErr result (λ f. f ≡ faults.NoMemory) }
 {
-    let Ok(mut engine) = Engine::new(alloc, record.seats) else {
-        return Err(Fault::NoMemory);
-    };
-    let entries = &record.entries.as_slice()[..place];
-    for entry in entries {
-        advance(&mut engine, entry)?;
-    }
-    Ok(engine)
+    played(alloc, record.seats, &record.entries.as_slice()[..place])
 }
 
 // The reply that the entry's reading takes: the first on the thread's list, if it is not the first any more after it.

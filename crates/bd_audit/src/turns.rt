@@ -5,10 +5,10 @@ ghost use Rattle.std.specs.List.{filter_map};
 ghost use Rattle.std.specs.Option.{option_to_list};
 ghost use Rattle.bd_uapi.specs.declared.fault.Fault.TheVariants as faults;
 ghost use Rattle.bd_space.specs.Histories.{IsHistory, space_after};
-ghost use Rattle.bd_audit.specs.Replays.{history_of, with_entry};
+ghost use Rattle.bd_audit.specs.Replays.{history_of};
 ghost use Rattle.bd_audit.specs.OneWayTurns as spec;
 
-use crate::judging::accept;
+use crate::playing::advance;
 use bd_engine::Engine;
 use bd_space::{Buffer, Entry, ObjectId, Record};
 use bd_uapi::Fault;
@@ -95,17 +95,6 @@ fn turn_made(engine: &Engine, place: u32, object: ObjectId) -> Option<Turn>
             }
         }
         None => None,
-    }
-}
-
-// Makes the step of an entry of a history.
-pub(crate) fn advance(engine: &mut Engine, entry: &Entry) -> Result<(), Fault>
-    ensures ok { IfOk result (λ _. engine.new ≡ with_entry engine.old entry.now) }
-    ensures fault { IfErr result (λ f. f ≡ faults.NoMemory) }
-{
-    match accept(engine, entry) {
-        Ok(()) => Ok(()),
-        Err(_) => Err(Fault::NoMemory),
     }
 }
 

@@ -99,9 +99,9 @@ fn first_reply_on(todo: &[Work], list: TodoList) -> Option<u32>
 }
 
 fn is_taken(taken: &[Work], work: &Work) -> bool
-    ensures { result ≡ list_any (λ t. words.same_identity work.now.id t.id) taken.now }
+    ensures { result ≡ list_any (λ t. works.is_item work.now t) taken.now }
 {
-    taken.iter().any(|t| work.id == t.id)
+    taken.iter().any(|t| work.id == t.id && is_on(t.list, work))
 }
 
 fn remove_taken(todo: &mut Vec<Work>, taken: &[Work])

@@ -85,6 +85,10 @@ handed_over (work.Call b) = Some b
 handed_over (work.Reply b) = Some b
 handed_over _ = None
 
+-- one item: an item is told by its list and its identity
+abbrev pub is_item : Work → Work → Bool
+is_item v w = same_identity v.id w.id && is_on w.list v
+
 -- the items that were taken go
 abbrev pub without_taken : List Work → List Work → List Work
-without_taken taken todo = filter (λ w. not (list_any (λ d. same_identity w.id d.id) taken)) todo
+without_taken taken todo = filter (λ w. not (list_any (λ d. is_item w d) taken)) todo

@@ -1,0 +1,258 @@
+-- What a refusal or a verdict tells its reader is never a BR_REPLY.
+use Rattle.std.proofs.Common.{◌≡◌, ℕ, ◌-◌, ◌==◌, Bool, true, false, cond, not, ◌&&◌, List, [], ◌∷◌, ◌++◌, Option, Some, None, inl, inr, refl, ap, sym, ◌∙◌, map, filter}
+use Rattle.std.specs.List.{fold, list_any}
+use Rattle.bd_uapi.specs.declared.command.TransactionData.{TransactionData}
+use Rattle.bd_uapi.specs.declared.command.Return.TheVariants.{DeadReply, FailedReply, TransactionComplete}
+use Rattle.bd_uapi.specs.declared.fault.Cause.{Cause}
+use Rattle.bd_uapi.specs.declared.fault.Cause.TheVariants as cause
+use Rattle.bd_space.specs.declared.step.ObjectId.{ObjectId}
+use Rattle.bd_space.specs.declared.step.Step.{Step}
+use Rattle.bd_space.specs.declared.step.Entry.{Entry}
+use Rattle.bd_space.specs.declared.space.Object.{Object}
+use Rattle.bd_space.specs.declared.space.Thread.{Thread}
+use Rattle.bd_space.specs.declared.space.Frame.{Frame}
+use Rattle.bd_space.specs.declared.space.Turn.{Turn}
+use Rattle.bd_space.specs.declared.space.Work.{Work}
+use Rattle.bd_space.specs.declared.space.Item.{Item}
+use Rattle.bd_space.specs.declared.space.Actor.{Actor}
+use Rattle.bd_space.specs.declared.space.DeathNotification.{DeathNotification}
+use Rattle.bd_space.specs.declared.space.Phase.TheVariants.{Armed, Queued}
+use Rattle.bd_space.specs.declared.space.TodoList.{TodoList}
+use Rattle.bd_space.specs.declared.space.TodoList.TheVariants.{OfThread, OfProcess}
+use Rattle.bd_space.specs.declared.space.WorkKind.{WorkKind}
+use Rattle.bd_space.specs.declared.space.WorkKind.TheVariants as work
+use Rattle.bd_space.specs.Words.{is_some_and}
+use Rattle.bd_space.specs.Space.{Space, opening}
+use Rattle.bd_space.specs.Todo.{with_work, owe, is_on, is_notice, is_item, list_to_read}
+use Rattle.bd_space.specs.Turns.{turns_of, ripen, ripened, is_ripe}
+use Rattle.bd_space.specs.Notices.{with_notice, wants_notice, has_notice_in, follow, notify, work_goes, deaths_go, still_due}
+use Rattle.bd_space.specs.Names.{names_go, assign_numbers}
+use Rattle.bd_space.specs.References.{objects_go, object_in, owned_in}
+use Rattle.bd_space.specs.Frames.{closed, goes_to}
+use Rattle.bd_space.specs.Parcels.{is_own, is_strong_kind}
+use Rattle.bd_space.specs.Delivery.{Delivery, delivered, own_notices, add_buffer, known_by, refer, make_objects, buffer_of, add_notice, withdraw_notice}
+use Rattle.bd_space.specs.Transactions.{transacted, called, call_out, refusal}
+use Rattle.bd_space.specs.Replies.{replied, reply_refused}
+use Rattle.bd_space.specs.Freeing.{without_buffer}
+use Rattle.bd_space.specs.Reading.{taken, read_by}
+use Rattle.bd_space.specs.Exits.{thread_goes, threads_go, without_process, tell_death, tell_deaths, seat_of, is_armed}
+use Rattle.bd_space.specs.Steps.{counted, with_thread, with_process, with_manager}
+use Rattle.bd_space.specs.Asking.{ask, drop_asked, acknowledge}
+use Rattle.bd_space.specs.Commands.{with_looping}
+use Rattle.bd_space.specs.Deaths.{with_phase, with_death, without_death, mark_cleared, requested, death_ended, cleared, death_done, owner_lives_in, is_out}
+use Rattle.bd_space.specs.Histories.{after, next}
+use Rattle.bd_audit.specs.HandedReplies.{is_reply}
+use Rattle.bd_audit.proofs.EveryStep.{KeepsWhole, every_whole_step, every_list}
+use Rattle.bd_audit.proofs.Lists.{In, in-push, in-filter, fold-keeps}
+
+-- a return that the item itself carries is no BR_REPLY
+abbrev pub is_plain : WorkKind → Bool
+is_plain (work.Refusal r) = not (is_reply r)
+is_plain (work.Verdict r) = not (is_reply r)
+is_plain _ = true
+
+abbrev pub Plain : List Work → Type 0
+Plain todo = (w : Work) → In w todo → is_plain w.kind ≡ true
+
+abbrev pub IsPlain : Space → Type 0
+IsPlain z = Plain z.todo
+
+refusal-plain : (c : Cause) → is_plain (work.Refusal (refusal c)) ≡ true
+refusal-plain cause.NotStronglyNamed = refl
+refusal-plain cause.NoManager = refl
+refusal-plain cause.OwnManager = refl
+refusal-plain cause.DeadOwner = refl
+refusal-plain cause.NotServing = refl
+refusal-plain cause.Unread = refl
+refusal-plain cause.OutsideArea = refl
+refusal-plain cause.OffsetsSize = refl
+refusal-plain cause.BadObject = refl
+refusal-plain cause.UnsupportedObject = refl
+refusal-plain cause.OtherCookie = refl
+refusal-plain cause.NotHeld = refl
+refusal-plain cause.NoRoom = refl
+refusal-plain cause.OverBudget = refl
+refusal-plain cause.NoCall = refl
+refusal-plain cause.CallerGone = refl
+
+-- ---- one item more, and fewer
+
+push-plain : (place : ℕ) (todo : List Work) (list : TodoList) (kind : WorkKind) → is_plain kind ≡ true → Plain todo → Plain (with_work place todo list kind)
+push-plain place todo list kind k h w l = elim (in-push w _ todo l) [ inl i ↦ h w i | inr is ↦ ap (λ (x : Work). is_plain x.kind) (sym is) ∙ k ]
+
+push-if : (b : Bool) (place : ℕ) (todo : List Work) (list : TodoList) (kind : WorkKind) → is_plain kind ≡ true → Plain todo → Plain (cond b (with_work place todo list kind) todo)
+push-if true place todo list kind k h = push-plain place todo list kind k h
+push-if false place todo list kind k h = h
+
+filter-plain : (p : Work → Bool) (todo : List Work) → Plain todo → Plain (filter p todo)
+filter-plain p todo h w l = h w (in-filter p w todo l).0
+
+filter-if : (b : Bool) (p : Work → Bool) (todo : List Work) → Plain todo → Plain (cond b (filter p todo) todo)
+filter-if true p todo h = filter-plain p todo h
+filter-if false p todo h = h
+
+owed : (z : Space) (list : TodoList) (kind : WorkKind) → is_plain kind ≡ true → IsPlain z → IsPlain (owe z list kind)
+unfolding owe
+owed z list kind k h = push-plain z.steps z.todo list kind k h
+
+either : (b : Bool) (z y : Space) → IsPlain z → IsPlain y → IsPlain (cond b z y)
+either true z y h k = h
+either false z y h k = k
+
+told : (z : Space) (caller : Option ℕ) (kind : WorkKind) → is_plain kind ≡ true → IsPlain z
+    → IsPlain (elim caller as (λ (o : Option ℕ). Space) [ None ↦ z | Some t ↦ owe z (OfThread t) kind ])
+told z None kind k h = h
+told z (Some t) kind k h = owed z (OfThread t) kind k h
+
+closes : (z : Space) (made : ℕ) → IsPlain z → IsPlain (closed z made)
+unfolding closed
+closes z made h = h
+
+-- ---- transactions and replies
+
+adds-notice : (z : Space) (seat : ℕ) (todo : List Work) (x : Item) → Plain todo → Plain (add_notice z seat todo x)
+adds-notice z seat todo x h = at (is_own x.flat.kind) (object_in z.objects x.object)
+  where
+    at : (b : Bool) (o : Option Object)
+        → Plain (cond b (elim o as (λ (o : Option Object). List Work) [ None ↦ todo | Some y ↦ with_notice z.steps z.processes z.references (OfThread seat) todo y ]) todo)
+    at true None = h
+    at true (Some y) = push-if (wants_notice z.processes z.references y && not (has_notice_in todo y.id)) z.steps todo (OfThread seat) (work.Notice y.id) refl h
+    at false o = h
+
+withdraws-notice : (objects : List Object) (todo : List Work) (x : Item) → Plain todo → Plain (withdraw_notice objects todo x)
+withdraws-notice objects todo x h =
+    filter-if (is_own x.flat.kind && is_strong_kind x.flat.kind && is_some_and (object_in objects x.object) (λ o. not o.told_strong))
+    (λ (w : Work). not (is_notice x.object w.kind)) todo h
+
+delivers : (s : Space) (a : Actor) (d : TransactionData) (v : Delivery) → IsPlain s → IsPlain (delivered s a d v)
+unfolding delivered own_notices add_buffer known_by assign_numbers refer make_objects
+delivers s a d v h =
+    let z = add_buffer (known_by s v) (buffer_of (known_by s v) a d v) in
+    fold-keeps Plain (add_notice z a.thread.seat) v.sending.items (λ todo x l k. adds-notice z a.thread.seat todo x k) (fold (withdraw_notice z.objects) s.todo v.sending.items)
+    (fold-keeps Plain (withdraw_notice z.objects) v.sending.items (λ todo x l k. withdraws-notice z.objects todo x k) s.todo h)
+
+sends : (s : Space) (a : Actor) (d : TransactionData) (v : Delivery) → IsPlain s → IsPlain (owe (delivered s a d v) (OfThread a.thread.seat) work.Complete)
+sends s a d v h = owed (delivered s a d v) (OfThread a.thread.seat) work.Complete refl (delivers s a d v h)
+
+calls-out : (y : Space) (seat p : ℕ) (one_way : Bool) → IsPlain y → IsPlain (called y seat p one_way)
+unfolding call_out owe
+calls-out y seat p true h = h
+calls-out y seat p false h = push-plain y.steps y.todo (goes_to y seat p) (work.Call y.steps) refl h
+
+transacts : (s : Space) (a : Actor) (d : TransactionData) (v : Delivery) → IsPlain s → IsPlain (transacted s a d v)
+unfolding transacted
+transacts s a d v h = calls-out (owe (delivered s a d v) (OfThread a.thread.seat) work.Complete) a.thread.seat v.receiver.made v.one_way (sends s a d v h)
+
+replies : (s : Space) (a : Actor) (d : TransactionData) (f : Frame) (v : Delivery) → IsPlain s → IsPlain (replied s a d f v)
+unfolding replied
+replies s a d f v h =
+    let x = closed s f.made in
+    told (owe (delivered x a d v) (OfThread a.thread.seat) work.Complete) f.caller (work.Reply s.steps) refl (sends x a d v (closes s f.made h))
+
+fails : (s : Space) (seat : ℕ) (f : Frame) → IsPlain s → IsPlain (reply_refused s seat f)
+unfolding reply_refused
+fails s seat f h =
+    let x = owe s (OfThread seat) (work.Refusal TransactionComplete) in
+    told (closed x f.made) f.caller (work.Verdict FailedReply) refl (closes x f.made (owed s (OfThread seat) (work.Refusal TransactionComplete) refl h))
+
+-- ---- death notifications
+
+with_phase-plain : (z : Space) (made : ℕ) → IsPlain z → IsPlain (with_phase z made Queued)
+unfolding with_phase
+with_phase-plain z made h = h
+
+requests : (z : Space) (p : ℕ) (o : ObjectId) (cookie : ℕ) → IsPlain z → IsPlain (requested z p o cookie)
+unfolding requested with_death
+requests z p o cookie h =
+    either (owner_lives_in z.processes z.objects o) (with_death z p o cookie Armed) (owe (with_death z p o cookie Queued) (OfProcess p) (work.Death z.steps)) h
+    (owed (with_death z p o cookie Queued) (OfProcess p) (work.Death z.steps) refl h)
+
+ends-death : (z : Space) (t : ℕ) (x : DeathNotification) → IsPlain z → IsPlain (death_ended z t x)
+unfolding death_ended without_death
+ends-death z t x h = owed (without_death z x.made) (OfThread t) (work.Cleared x.cookie) refl h
+
+clears : (z : Space) (t : ℕ) (x : DeathNotification) → IsPlain z → IsPlain (cleared z t x)
+unfolding cleared mark_cleared
+clears z t x h = either (is_out x.phase) (mark_cleared z x.made) (death_ended z t x) h (ends-death z t x h)
+
+is_done : (z : Space) (t : ℕ) (x : DeathNotification) → IsPlain z → IsPlain (death_done z t x)
+unfolding death_done with_phase
+is_done z t x h = either x.cleared (death_ended z t x) _ (ends-death z t x h) h
+
+-- ---- exits
+
+goes : (z : Space) (seat : ℕ) → IsPlain z → IsPlain (thread_goes z seat)
+unfolding thread_goes
+goes z seat h = filter-plain (λ (w : Work). not (is_on (OfThread seat) w)) z.todo h
+
+all-go : (z : Space) (p : ℕ) → IsPlain z → IsPlain (threads_go z p)
+unfolding threads_go
+all-go z p h = fold-keeps IsPlain thread_goes (map seat_of (filter (λ (t : Thread). t.process == p) z.threads)) (λ y t l k. goes y t k) z h
+
+process-goes : (z : Space) (p : ℕ) → IsPlain z → IsPlain (without_process z p)
+unfolding without_process
+process-goes z p h = filter-plain (λ (w : Work). not (is_on (OfProcess p) w)) z.todo h
+
+tells-death : (p : ℕ) (z : Space) (x : DeathNotification) → IsPlain z → IsPlain (tell_death p z x)
+tells-death p z x h =
+    either (is_armed x.phase && owned_in z.objects p x.object) (owe (with_phase z x.made Queued) (OfProcess x.process) (work.Death x.made)) z
+    (owed (with_phase z x.made Queued) (OfProcess x.process) (work.Death x.made) refl (with_phase-plain z x.made h)) h
+
+tells-deaths : (z : Space) (p : ℕ) → IsPlain z → IsPlain (tell_deaths z p)
+unfolding tell_deaths
+tells-deaths z p h = fold-keeps IsPlain (tell_death p) z.deaths (λ y x l k. tells-death p y x k) z h
+
+-- ---- what follows
+
+ripens-all : (place : ℕ) (ts older : List Turn) (todo : List Work) → Plain todo → Plain (ripened place older todo ts)
+ripens-all place [] older todo h = h
+ripens-all place (t ∷ ts) older todo h =
+    ripens-all place ts (older ++ t ∷ []) _ (push-if (is_ripe todo older t) place todo (OfProcess t.receiver) (work.Call t.made) refl h)
+
+ripens : (z : Space) → IsPlain z → IsPlain (ripen z)
+unfolding ripen
+ripens z h = ripens-all z.steps (turns_of z.buffers) [] z.todo h
+
+follows : (z : Space) → IsPlain z → IsPlain (follow z)
+unfolding follow notify work_goes deaths_go objects_go names_go
+follows z h =
+    let c = deaths_go (objects_go (names_go z)) in
+    fold-keeps Plain (λ todo (x : Object). with_notice z.steps z.processes z.references (OfProcess x.owner) todo x) c.objects
+    (λ todo x l k. push-if (wants_notice z.processes z.references x && not (has_notice_in todo x.id)) z.steps todo (OfProcess x.owner) (work.Notice x.id) refl k)
+    (work_goes c).todo (filter-plain (λ (w : Work). still_due c.processes c.objects c.references c.deaths w.kind) z.todo h)
+
+-- ---- every step
+
+kept : (s : Space) (seat : ℕ) (x : Step) → IsPlain s → KeepsWhole s seat x IsPlain IsPlain
+unfolding with_thread with_process with_manager without_buffer ask assign_numbers drop_asked acknowledge with_looping read_by
+kept s seat x h = record {
+  same = h;
+  opened = λ pid euid window. h;
+  attached = λ p. h;
+  managed = λ a e b. h;
+  transacts = λ a d parcel v e i t. transacts s a d v h;
+  replies = λ a d parcel f v e i g t. replies s a d f v h;
+  frees = λ p ptr b e t. h;
+  asks = λ a n strong o e i t. h;
+  drops = λ p o strong. h;
+  acknowledges = λ o strong i. h;
+  loops = λ t looping. h;
+  requests = λ p o cookie. requests s p o cookie h;
+  clears = λ t y. clears s t y h;
+  is_done = λ t y. is_done s t y h;
+  reads = λ a limit e i n. filter-plain (λ (w : Work). not (list_any (λ (d : Work). is_item w d) (taken s (limit - 4) (list_to_read s a.thread)))) s.todo h;
+  leaves = λ a e. goes s a.thread.seat h;
+  ends = λ a e. let p = a.process.made in tells-deaths (without_process (threads_go s p) p) p (process-goes (threads_go s p) p (all-go s p h));
+  ripens = ripens;
+  follows = follows;
+  refuses = λ t c. owed s (OfThread t) (work.Refusal (refusal c)) (refusal-plain c) h;
+  fails = λ a d parcel f e i g. fails s a.thread.seat f h;
+  abandons = λ z f e k. told (closed z f.made) f.caller (work.Verdict DeadReply) refl (closes z f.made k);
+}
+
+step-plain : (s : Space) (e : Entry) → IsPlain s → IsPlain (next s e)
+unfolding counted
+step-plain s e h = every_whole_step s e.seat e.step IsPlain IsPlain (kept s e.seat e.step h)
+
+pub always-plain : (es : List Entry) → IsPlain (after opening es)
+always-plain es = every_list IsPlain step-plain es opening (λ w l. absurd l)

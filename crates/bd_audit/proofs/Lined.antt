@@ -1,0 +1,403 @@
+-- Work items stand in the order in which they were made, and on threads' own lists an identity names one item.
+use Rattle.std.proofs.Common.{◌≡◌, ℕ, suc, ◌-◌, ◌<◌, ◌≤◌, ◌==◌, Bool, true, false, cond, not, ◌&&◌, List, [], ◌∷◌, ◌++◌, Option, Some, None, ◌⊎◌, inl, inr, refl, ap, sym, ◌∙◌, map, filter, arith}
+use Rattle.std.specs.List.{fold, list_any}
+use Rattle.std.proofs.lemmas.Bool.{eqb-true}
+use Rattle.bd_uapi.specs.declared.command.TransactionData.{TransactionData}
+use Rattle.bd_space.specs.declared.step.ObjectId.{ObjectId}
+use Rattle.bd_space.specs.declared.step.Step.{Step}
+use Rattle.bd_space.specs.declared.step.Entry.{Entry}
+use Rattle.bd_space.specs.declared.space.Object.{Object}
+use Rattle.bd_space.specs.declared.space.Process.{Process}
+use Rattle.bd_space.specs.declared.space.Thread.{Thread}
+use Rattle.bd_space.specs.declared.space.Reference.{Reference}
+use Rattle.bd_space.specs.declared.space.Turn.{Turn}
+use Rattle.bd_space.specs.declared.space.Work.{Work}
+use Rattle.bd_space.specs.declared.space.Item.{Item}
+use Rattle.bd_space.specs.declared.space.Frame.{Frame}
+use Rattle.bd_space.specs.declared.space.Actor.{Actor}
+use Rattle.bd_space.specs.declared.space.Identity.{Identity}
+use Rattle.bd_space.specs.declared.space.DeathNotification.{DeathNotification}
+use Rattle.bd_space.specs.declared.space.Phase.TheVariants.{Armed, Queued, Done}
+use Rattle.bd_space.specs.declared.space.TodoList.{TodoList}
+use Rattle.bd_space.specs.declared.space.TodoList.TheVariants.{OfThread, OfProcess}
+use Rattle.bd_space.specs.declared.space.WorkKind.{WorkKind}
+use Rattle.bd_space.specs.declared.space.WorkKind.TheVariants as work
+use Rattle.bd_space.specs.Space.{Space, opening}
+use Rattle.bd_space.specs.Todo.{with_work, owe, is_on, notice_of, death_of, list_to_read, is_item}
+use Rattle.bd_space.specs.Turns.{turns_of, ripen, ripened, is_ripe}
+use Rattle.bd_space.specs.Notices.{with_notice, follow, notify, work_goes, deaths_go, still_due}
+use Rattle.bd_space.specs.Names.{names_go, assign_numbers}
+use Rattle.bd_space.specs.References.{objects_go, object_in, owned_in}
+use Rattle.bd_space.specs.Frames.{closed, goes_to}
+use Rattle.bd_space.specs.Parcels.{is_own}
+use Rattle.bd_space.specs.Delivery.{Delivery, delivered, own_notices, add_buffer, known_by, refer, make_objects, buffer_of, add_notice, withdraw_notice}
+use Rattle.bd_space.specs.Transactions.{transacted, called, call_out}
+use Rattle.bd_space.specs.Replies.{replied}
+use Rattle.bd_space.specs.Freeing.{without_buffer}
+use Rattle.bd_space.specs.Reading.{read_by, taken}
+use Rattle.bd_space.specs.Exits.{thread_goes, threads_go, without_process, tell_death, tell_deaths, seat_of, is_armed}
+use Rattle.bd_space.specs.Steps.{counted, with_thread, with_process, with_manager}
+use Rattle.bd_space.specs.Asking.{ask, drop_asked, acknowledge}
+use Rattle.bd_space.specs.Commands.{with_looping}
+use Rattle.bd_space.specs.Deaths.{with_phase, with_death, without_death, mark_cleared, requested, death_ended, cleared, death_done, owner_lives_in, is_out}
+use Rattle.bd_space.specs.Histories.{after, next}
+use Rattle.bd_audit.proofs.EveryStep.{Keeps, every_step, every_list}
+use Rattle.bd_audit.proofs.Lists.{In, Pairs, in-push, in-filter, pairs-push, pairs-filter, fold-keeps}
+use Rattle.bd_audit.proofs.RepliesDue.{count_at, count-work, count-filter, Lasts, wanted-due, wanted-push, items-fresh}
+
+-- no later item was made before
+abbrev pub NotLater : Work → Work → Type 0
+NotLater v w = v.id.place ≤ w.id.place
+
+pub record Lined (s : Space) : Type 0 where
+  pub place : (w : Work) → In w s.todo → w.id.place < s.steps
+  pub sorted : Pairs NotLater s.todo
+  pub one : (v w : Work) (t u : ℕ) → In v s.todo → In w s.todo → v.list ≡ OfThread t → w.list ≡ OfThread u → v.id ≡ w.id → v ≡ w
+
+-- The same before the step at n ends. An item of this step on a thread's list is numbered below the count of this step's
+-- items, so that the next one has another identity. It isn't said of processes' lists: whether each Death of this step stays
+-- through what follows is left open here, and what goes lowers the count.
+record Line (n : ℕ) (todo : List Work) : Type 0 where
+  place : (w : Work) → In w todo → w.id.place < suc n
+  sorted : Pairs NotLater todo
+  one : (v w : Work) (t u : ℕ) → In v todo → In w todo → v.list ≡ OfThread t → w.list ≡ OfThread u → v.id ≡ w.id → v ≡ w
+  numbered : (w : Work) (t : ℕ) → In w todo → w.list ≡ OfThread t → w.id.place ≡ n → w.id.index < count_at n todo
+
+-- no item of this step stands on a thread's list
+abbrev Bare : ℕ → List Work → Type 0
+Bare n todo = (w : Work) (t : ℕ) → In w todo → w.list ≡ OfThread t → w.id.place ≡ n → ⊥
+
+-- ---- one item more
+
+module _ (n : ℕ) (todo : List Work) (list : TodoList) (kind : WorkKind) where
+  new-id : (w : Work) → (let r : Work = record { id = record { place = n; index = count_at n todo }; list = list; kind = kind } in r) ≡ w
+      → (w.id.place ≡ n) × (w.id.index ≡ count_at n todo) × (w.list ≡ list)
+  new-id w is = (ap (λ (x : Work). x.id.place) (sym is), ap (λ (x : Work). x.id.index) (sym is), ap (λ (x : Work). x.list) (sym is))
+
+  -- an item that stood before the new one has another identity
+  other : (v w : Work) (t : ℕ) → Line n todo → In v todo → v.list ≡ OfThread t
+      → (w.id.place ≡ n) × (w.id.index ≡ count_at n todo) × (w.list ≡ list) → v.id ≡ w.id → ⊥
+  other v w t h i on k same =
+      let p : v.id.place ≡ w.id.place = ap (λ (x : Identity). x.place) same in
+      let q : v.id.index ≡ w.id.index = ap (λ (x : Identity). x.index) same in
+      let lt = h.numbered v t i on (p ∙ k.0) in
+      let r = k.1 in absurd (omega arith)
+
+  push-line : Line n todo → Line n (with_work n todo list kind)
+  push-line h = record {
+    place = λ w l. elim (in-push w _ todo l) [ inl i ↦ h.place w i | inr is ↦ (let k = (new-id w is).0 in omega arith) ];
+    sorted = pairs-push NotLater _ todo h.sorted (λ v l. let lt = h.place v l in omega arith);
+    one = λ v w t u i j on off same. elim (in-push v _ todo i) [
+      | inl l ↦ elim (in-push w _ todo j) [
+        | inl m ↦ h.one v w t u l m on off same
+        | inr is ↦ absurd (other v w t h l on (new-id w is) same)
+      ]
+      | inr was ↦ elim (in-push w _ todo j) [
+        | inl m ↦ absurd (other w v u h m off (new-id v was) (sym same))
+        | inr is ↦ sym was ∙ is
+      ]
+    ];
+    numbered = λ w t l on at.
+        let c = count-work n todo list kind in
+        elim (in-push w _ todo l) [
+          | inl i ↦ (let lt = h.numbered w t i on at in omega arith)
+          | inr is ↦ (let e = (new-id w is).1 in omega arith)
+        ];
+  }
+
+push-bare : (n : ℕ) (todo : List Work) (p : ℕ) (kind : WorkKind) → Bare n todo → Bare n (with_work n todo (OfProcess p) kind)
+push-bare n todo p kind h w t l on at = elim (in-push w _ todo l) [
+  | inl i ↦ h w t i on at
+  | inr is ↦ (let off = (new-id n todo (OfProcess p) kind w is).2 in absurd (cc))
+]
+
+push-if : (n : ℕ) (b : Bool) (todo : List Work) (list : TodoList) (kind : WorkKind) → Line n todo → Line n (cond b (with_work n todo list kind) todo)
+push-if n true todo list kind h = push-line n todo list kind h
+push-if n false todo list kind h = h
+
+-- ---- what goes
+
+-- either nothing of this step stands on a thread's list, or nothing of this step goes
+filter-line : (n : ℕ) (todo : List Work) (p : Work → Bool) → Bare n todo ⊎ ((w : Work) → In w todo → w.id.place ≡ n → p w ≡ true) → Line n todo
+    → Line n (filter p todo)
+filter-line n todo p k h = record {
+  place = λ w l. h.place w (in-filter p w todo l).0;
+  sorted = pairs-filter NotLater p todo h.sorted;
+  one = λ v w t u i j. h.one v w t u (in-filter p v todo i).0 (in-filter p w todo j).0;
+  numbered = λ w t l on at. elim k [
+    | inl bare ↦ absurd (bare w t (in-filter p w todo l).0 on at)
+    | inr stays ↦ (
+        let lt = h.numbered w t (in-filter p w todo l).0 on at in
+        let c = count-filter p (λ (x : Work). x.id.place == n) todo (λ x i f. stays x i (eqb-true x.id.place n f)) in
+        omega arith)
+  ];
+}
+
+filter-bare : (n : ℕ) (todo : List Work) (p : Work → Bool) → Bare n todo → Bare n (filter p todo)
+filter-bare n todo p h w t l = h w t (in-filter p w todo l).0
+
+-- ---- the two ways of a change
+
+-- What follows takes items away. Either they are none of this step's, and the count stays; or this step's items are all on
+-- processes' lists, and nothing rests on the count.
+
+abbrev InLine : Space → Type 0
+InLine z = Line z.steps z.todo
+
+-- before the first item of the step
+abbrev Begun : ℕ → List Work → Type 0
+Begun n todo = Line n todo × ((w : Work) → In w todo → w.id.place < n)
+
+-- items of this step on processes' lists alone, which may go
+abbrev Plain : Space → Type 0
+Plain z = InLine z × Bare z.steps z.todo
+
+-- items of this step that all stay through what follows
+abbrev Sent : Space → Type 0
+Sent z = InLine z × Lasts z
+
+abbrev Stands : Space → Type 0
+Stands z = InLine z × (Bare z.steps z.todo ⊎ Lasts z)
+
+plain-stands : (z : Space) → Plain z → Stands z
+plain-stands z h = (h.0, inl h.1)
+
+sent-stands : (z : Space) → Sent z → Stands z
+sent-stands z h = (h.0, inr h.1)
+
+begun-plain : (n : ℕ) (todo : List Work) → Begun n todo → Line n todo × Bare n todo
+begun-plain n todo h = (h.0, λ w t l on at. let lt = h.1 w l in absurd (omega arith))
+
+lined-begun : (s : Space) → Lined s → Begun s.steps s.todo
+lined-begun s h = (
+  record {
+    place = λ w l. let lt = h.place w l in omega arith;
+    sorted = h.sorted;
+    one = h.one;
+    numbered = λ w t l on at. let lt = h.place w l in absurd (omega arith);
+  },
+  h.place,
+)
+
+chosen : (P : Space → Type 0) (b : Bool) (z y : Space) → P z → P y → P (cond b z y)
+chosen P true z y h k = h
+chosen P false z y h k = k
+
+owe-plain : (z : Space) (p : ℕ) (kind : WorkKind) → Plain z → Plain (owe z (OfProcess p) kind)
+unfolding owe
+owe-plain z p kind h = (push-line z.steps z.todo (OfProcess p) kind h.0, push-bare z.steps z.todo p kind h.1)
+
+owe-sent : (z : Space) (list : TodoList) (kind : WorkKind) → notice_of kind ≡ None → death_of kind ≡ None → Sent z → Sent (owe z list kind)
+unfolding owe
+owe-sent z list kind a b h = (
+  push-line z.steps z.todo list kind h.0,
+  wanted-push z.steps z.processes z.objects z.references z.todo list kind (inr (a, b)) h.1,
+)
+
+-- so far none is of this step
+begun-sent : (z : Space) → Begun z.steps z.todo → Sent z
+begun-sent z h = (h.0, λ w l at. let lt = h.1 w l in absurd (omega arith))
+
+-- ---- deliveries
+
+withdrawn-begun : (n : ℕ) (b : Bool) (p : Work → Bool) (todo : List Work) → Begun n todo → Begun n (cond b (filter p todo) todo)
+withdrawn-begun n true p todo h = (filter-line n todo p (inl (begun-plain n todo h).1) h.0, λ w l. h.1 w (in-filter p w todo l).0)
+withdrawn-begun n false p todo h = h
+
+added-line : (n : ℕ) (processes : List Process) (references : List Reference) (list : TodoList) (todo : List Work) (own : Bool) (o : Option Object)
+    → Line n todo → Line n (cond own (elim o as (λ (x : Option Object). List Work) [ None ↦ todo | Some x ↦ with_notice n processes references list todo x ]) todo)
+added-line n processes references list todo false o h = h
+added-line n processes references list todo true None h = h
+added-line n processes references list todo true (Some x) h = push-if n _ todo list (work.Notice x.id) h
+
+notices-sent : (z : Space) (seat : ℕ) (items : List Item) → Begun z.steps z.todo → Sent (own_notices z seat items)
+unfolding own_notices
+notices-sent z seat items h =
+    let todo = fold (withdraw_notice z.objects) z.todo items in
+    let k : Begun z.steps todo = fold-keeps (Begun z.steps) (withdraw_notice z.objects) items (λ v x l g. withdrawn-begun z.steps _ _ v g) z.todo h in (
+      fold-keeps (Line z.steps) (add_notice z seat) items
+          (λ v x l g. added-line z.steps z.processes z.references (OfThread seat) v (is_own x.flat.kind) (object_in z.objects x.object) g) todo k.0,
+      (items-fresh z seat items todo (record {
+        numbered = λ w l at. let lt = k.1 w l in absurd (omega arith);
+        wanted = λ w l at. let lt = k.1 w l in absurd (omega arith);
+      })).wanted,
+    )
+
+delivered-sent : (s : Space) (a : Actor) (d : TransactionData) (v : Delivery) → Begun s.steps s.todo → Sent (delivered s a d v)
+unfolding delivered add_buffer known_by assign_numbers refer make_objects
+delivered-sent s a d v h = notices-sent (add_buffer (known_by s v) (buffer_of (known_by s v) a d v)) a.thread.seat v.sending.items h
+
+called-sent : (z : Space) (seat p : ℕ) (one_way : Bool) → Sent z → Sent (called z seat p one_way)
+unfolding call_out owe
+called-sent z seat p true h = h
+called-sent z seat p false h = owe-sent z (goes_to z seat p) (work.Call z.steps) refl refl h
+
+transacted-sent : (s : Space) (a : Actor) (d : TransactionData) (v : Delivery) → Begun s.steps s.todo → Sent (transacted s a d v)
+unfolding transacted
+transacted-sent s a d v h =
+    called-sent (owe (delivered s a d v) (OfThread a.thread.seat) work.Complete) a.thread.seat v.receiver.made v.one_way
+    (owe-sent (delivered s a d v) (OfThread a.thread.seat) work.Complete refl refl (delivered-sent s a d v h))
+
+answered-sent : (z : Space) (caller : Option ℕ) (n : ℕ) → Sent z → Sent (elim caller as (λ (o : Option ℕ). Space) [ None ↦ z | Some t ↦ owe z (OfThread t) (work.Reply n) ])
+answered-sent z None n h = h
+answered-sent z (Some t) n h = owe-sent z (OfThread t) (work.Reply n) refl refl h
+
+closed-begun : (s : Space) (made : ℕ) → Begun s.steps s.todo → (let z = closed s made in Begun z.steps z.todo)
+unfolding closed
+closed-begun s made h = h
+
+replied-sent : (s : Space) (a : Actor) (d : TransactionData) (f : Frame) (v : Delivery) → Begun s.steps s.todo → Sent (replied s a d f v)
+unfolding replied
+replied-sent s a d f v h =
+    let z = delivered (closed s f.made) a d v in
+    answered-sent (owe z (OfThread a.thread.seat) work.Complete) f.caller s.steps
+    (owe-sent z (OfThread a.thread.seat) work.Complete refl refl (delivered-sent (closed s f.made) a d v (closed-begun s f.made h)))
+
+-- ---- death notifications
+
+requested-plain : (z : Space) (p : ℕ) (o : ObjectId) (cookie : ℕ) → Plain z → Plain (requested z p o cookie)
+unfolding requested with_death
+requested-plain z p o cookie h =
+    chosen Plain (owner_lives_in z.processes z.objects o) (with_death z p o cookie Armed) (owe (with_death z p o cookie Queued) (OfProcess p) (work.Death z.steps)) h
+    (owe-plain (with_death z p o cookie Queued) p (work.Death z.steps) h)
+
+death_ended-stands : (z : Space) (seat : ℕ) (x : DeathNotification) → Begun z.steps z.todo → Stands (death_ended z seat x)
+unfolding death_ended without_death
+death_ended-stands z seat x h =
+    sent-stands (owe (without_death z x.made) (OfThread seat) (work.Cleared x.cookie))
+    (owe-sent (without_death z x.made) (OfThread seat) (work.Cleared x.cookie) refl refl (begun-sent (without_death z x.made) h))
+
+cleared-stands : (z : Space) (seat : ℕ) (x : DeathNotification) → Begun z.steps z.todo → Stands (cleared z seat x)
+unfolding cleared mark_cleared
+cleared-stands z seat x h =
+    chosen Stands (is_out x.phase) (mark_cleared z x.made) (death_ended z seat x)
+    (plain-stands (mark_cleared z x.made) (begun-plain z.steps z.todo h)) (death_ended-stands z seat x h)
+
+death_done-stands : (z : Space) (seat : ℕ) (x : DeathNotification) → Begun z.steps z.todo → Stands (death_done z seat x)
+unfolding death_done with_phase
+death_done-stands z seat x h =
+    chosen Stands x.cleared (death_ended z seat x) (with_phase z x.made Done)
+    (death_ended-stands z seat x h) (plain-stands (with_phase z x.made Done) (begun-plain z.steps z.todo h))
+
+-- ---- readings and exits
+
+filter-plain : (n : ℕ) (todo : List Work) (p : Work → Bool) → Line n todo × Bare n todo → Line n (filter p todo) × Bare n (filter p todo)
+filter-plain n todo p h = (filter-line n todo p (inl h.1) h.0, filter-bare n todo p h.1)
+
+read-plain : (z : Space) (seat : ℕ) (ws : List Work) → Plain z → Plain (read_by z seat ws)
+unfolding read_by
+read-plain z seat ws h = filter-plain z.steps z.todo (λ (w : Work). not (list_any (λ (d : Work). is_item w d) ws)) h
+
+thread_goes-plain : (z : Space) (seat : ℕ) → Plain z → Plain (thread_goes z seat)
+unfolding thread_goes
+thread_goes-plain z seat h = filter-plain z.steps z.todo (λ (w : Work). not (is_on (OfThread seat) w)) h
+
+threads_go-plain : (z : Space) (p : ℕ) → Plain z → Plain (threads_go z p)
+unfolding threads_go
+threads_go-plain z p h = fold-keeps Plain thread_goes (map seat_of (filter (λ (t : Thread). t.process == p) z.threads)) (λ y t l. thread_goes-plain y t) z h
+
+without_process-plain : (z : Space) (p : ℕ) → Plain z → Plain (without_process z p)
+unfolding without_process
+without_process-plain z p h = filter-plain z.steps z.todo (λ (w : Work). not (is_on (OfProcess p) w)) h
+
+tell_death-plain : (p : ℕ) (z : Space) (x : DeathNotification) → Plain z → Plain (tell_death p z x)
+unfolding with_phase
+tell_death-plain p z x h =
+    chosen Plain (is_armed x.phase && owned_in z.objects p x.object) (owe (with_phase z x.made Queued) (OfProcess x.process) (work.Death x.made)) z
+    (owe-plain (with_phase z x.made Queued) x.process (work.Death x.made) h) h
+
+tell_deaths-plain : (z : Space) (p : ℕ) → Plain z → Plain (tell_deaths z p)
+unfolding tell_deaths
+tell_deaths-plain z p h = fold-keeps Plain (tell_death p) z.deaths (λ y x l. tell_death-plain p y x) z h
+
+ends-plain : (z : Space) (p : ℕ) → Plain z → Plain (tell_deaths (without_process (threads_go z p) p) p)
+ends-plain z p h = tell_deaths-plain (without_process (threads_go z p) p) p (without_process-plain (threads_go z p) p (threads_go-plain z p h))
+
+-- ---- what follows
+
+-- one-way calls that become due are items of this step on processes' lists, and stay
+ripens-one : (z : Space) (b : Bool) (todo : List Work) (p m : ℕ) → (let y = record z { todo = todo } in Stands y)
+    → (let y = record z { todo = cond b (with_work z.steps todo (OfProcess p) (work.Call m)) todo } in Stands y)
+ripens-one z true todo p m h = (
+  push-line z.steps todo (OfProcess p) (work.Call m) h.0,
+  elim h.1 [
+    | inl bare ↦ inl (push-bare z.steps todo p (work.Call m) bare)
+    | inr lasts ↦ inr (wanted-push z.steps z.processes z.objects z.references todo (OfProcess p) (work.Call m) (inr (refl, refl)) lasts)
+  ],
+)
+ripens-one z false todo p m h = h
+
+ripened-stands : (z : Space) (ts older : List Turn) (todo : List Work) → (let y = record z { todo = todo } in Stands y)
+    → (let y = record z { todo = ripened z.steps older todo ts } in Stands y)
+ripened-stands z [] older todo h = h
+ripened-stands z (t ∷ ts) older todo h = ripened-stands z ts (older ++ t ∷ []) _ (ripens-one z (is_ripe todo older t) todo t.receiver t.made h)
+
+ripen-stands : (z : Space) → Stands z → Stands (ripen z)
+unfolding ripen
+ripen-stands z h = ripened-stands z (turns_of z.buffers) [] z.todo h
+
+follow-line : (z : Space) → Stands z → InLine (follow z)
+unfolding follow notify work_goes deaths_go objects_go names_go
+follow-line z h =
+    let c = deaths_go (objects_go (names_go z)) in
+    let goes = filter-line z.steps z.todo (λ w. still_due c.processes c.objects c.references c.deaths w.kind) (elim h.1 [
+      | inl bare ↦ inl bare
+      | inr lasts ↦ inr (λ w l at. wanted-due z.processes z.objects z.references c.deaths w.kind (lasts w l at))
+    ]) h.0 in
+    fold-keeps (Line z.steps) (λ todo (x : Object). with_notice z.steps z.processes z.references (OfProcess x.owner) todo x) c.objects
+    (λ todo x l g. push-if z.steps _ todo (OfProcess x.owner) (work.Notice x.id) g) (work_goes c).todo goes
+
+closed-line : (z : Space) (made : ℕ) → InLine z → InLine (closed z made)
+unfolding closed
+closed-line z made h = h
+
+owe-line : (z : Space) (list : TodoList) (kind : WorkKind) → InLine z → InLine (owe z list kind)
+unfolding owe
+owe-line z list kind h = push-line z.steps z.todo list kind h
+
+-- ---- every step
+
+module _ (s : Space) (h : Lined s) where
+  begun : Begun s.steps s.todo
+  begun = lined-begun s h
+
+  plain : Plain s
+  plain = begun-plain s.steps s.todo begun
+
+  kept : (seat : ℕ) (x : Step) → Keeps s seat x Stands InLine
+  unfolding with_thread with_process with_manager without_buffer ask assign_numbers drop_asked acknowledge with_looping
+  kept seat x = record {
+    same = begun.0;
+    opened = λ pid euid window. begun.0;
+    attached = λ p. begun.0;
+    managed = λ a e b. begun.0;
+    transacts = λ a d parcel v e i t. sent-stands (transacted s a d v) (transacted-sent s a d v begun);
+    replies = λ a d parcel f v e i g t. sent-stands (replied s a d f v) (replied-sent s a d f v begun);
+    frees = λ p ptr b e t. plain-stands (without_buffer s b.made) plain;
+    asks = λ a n strong o e i t. plain-stands (ask s a.process.made o strong) plain;
+    drops = λ p o strong. plain-stands (drop_asked s p o strong) plain;
+    acknowledges = λ o strong i. plain-stands (acknowledge s o strong) plain;
+    loops = λ t looping. plain-stands (with_looping s t looping) plain;
+    requests = λ p o cookie. plain-stands (requested s p o cookie) (requested-plain s p o cookie plain);
+    clears = λ t y. cleared-stands s t y begun;
+    is_done = λ t y. death_done-stands s t y begun;
+    reads = λ a limit e i n. (
+        let ws = taken s (limit - 4) (list_to_read s a.thread) in plain-stands (read_by s a.thread.seat ws) (read-plain s a.thread.seat ws plain));
+    leaves = λ a e. plain-stands (thread_goes s a.thread.seat) (thread_goes-plain s a.thread.seat plain);
+    ends = λ a e. plain-stands (tell_deaths (without_process (threads_go s a.process.made) a.process.made) a.process.made) (ends-plain s a.process.made plain);
+    ripens = ripen-stands;
+    follows = follow-line;
+    closes = closed-line;
+    refuses = λ z t r. owe-line z (OfThread t) (work.Refusal r);
+    tells = λ z t r. owe-line z (OfThread t) (work.Verdict r);
+  }
+
+pub step-lined : (s : Space) (e : Entry) → Lined s → Lined (next s e)
+unfolding counted
+step-lined s e h = let k = every_step s e.seat e.step Stands InLine (kept s h e.seat e.step) in record { place = k.place; sorted = k.sorted; one = k.one }
+
+pub opening-lined : Lined opening
+opening-lined = record { place = λ w l. absurd l; sorted = tt; one = λ v w t u i j on off same. absurd i }
+
+pub always-lined : (es : List Entry) → Lined (after opening es)
+always-lined es = every_list Lined step-lined es opening opening-lined

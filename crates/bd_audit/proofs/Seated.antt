@@ -1,0 +1,223 @@
+-- Each live thread was made by a step of its seat.
+use Rattle.std.proofs.Common.{◌≡◌, ℕ, zero, suc, ◌-◌, ◌==◌, Bool, true, false, cond, not, ◌&&◌, List, [], ◌∷◌, ◌++◌, append_assoc, length, Option, Some, None, ◌⊎◌, inl, inr, refl, ap, sym, subst, ◌∙◌, map, filter}
+use Rattle.std.specs.List.{fold, slice_get}
+use Rattle.std.specs.Option.{option_map}
+use Rattle.std.proofs.lemmas.Bool.{eqb-true}
+use Rattle.std.proofs.lemmas.List.{append-nil}
+use Rattle.bd_uapi.specs.declared.command.TransactionData.{TransactionData}
+use Rattle.bd_space.specs.declared.step.ObjectId.{ObjectId}
+use Rattle.bd_space.specs.declared.step.Entry.{Entry}
+use Rattle.bd_space.specs.declared.space.Thread.{Thread}
+use Rattle.bd_space.specs.declared.space.Frame.{Frame}
+use Rattle.bd_space.specs.declared.space.Actor.{Actor}
+use Rattle.bd_space.specs.declared.space.DeathNotification.{DeathNotification}
+use Rattle.bd_space.specs.declared.space.Phase.TheVariants.{Queued}
+use Rattle.bd_space.specs.declared.space.TodoList.{TodoList}
+use Rattle.bd_space.specs.declared.space.TodoList.TheVariants.{OfThread, OfProcess}
+use Rattle.bd_space.specs.declared.space.WorkKind.{WorkKind}
+use Rattle.bd_space.specs.declared.space.WorkKind.TheVariants as work
+use Rattle.bd_space.specs.Space.{Space, opening}
+use Rattle.bd_space.specs.Seats.{thread_in}
+use Rattle.bd_space.specs.Frames.{closed}
+use Rattle.bd_space.specs.Todo.{owe, list_to_read}
+use Rattle.bd_space.specs.Turns.{ripen}
+use Rattle.bd_space.specs.Notices.{follow, notify, work_goes, deaths_go}
+use Rattle.bd_space.specs.Names.{names_go, assign_numbers}
+use Rattle.bd_space.specs.References.{objects_go, owned_in}
+use Rattle.bd_space.specs.Delivery.{Delivery, delivered, own_notices, add_buffer, known_by, refer, make_objects}
+use Rattle.bd_space.specs.Transactions.{transacted, called, call_out}
+use Rattle.bd_space.specs.Replies.{replied}
+use Rattle.bd_space.specs.Freeing.{without_buffer}
+use Rattle.bd_space.specs.Reading.{read_by, taken}
+use Rattle.bd_space.specs.Exits.{thread_goes, threads_go, without_process, tell_death, tell_deaths, seat_of, is_armed}
+use Rattle.bd_space.specs.Steps.{counted, with_thread, with_process, with_manager}
+use Rattle.bd_space.specs.Asking.{ask, drop_asked, acknowledge}
+use Rattle.bd_space.specs.Commands.{with_looping}
+use Rattle.bd_space.specs.Deaths.{with_phase, with_death, without_death, mark_cleared, requested, death_ended, cleared, death_done, owner_lives_in, is_out}
+use Rattle.bd_space.specs.Histories.{after}
+use Rattle.bd_audit.specs.Replies.{made_in, thread_made}
+use Rattle.bd_audit.proofs.EveryStep.{Keeps, every_step}
+use Rattle.bd_audit.proofs.Beginnings.{after-append}
+use Rattle.bd_audit.proofs.Chains.{always-steps}
+use Rattle.bd_audit.proofs.Quiet.{made-kept, made-changed}
+use Rattle.bd_audit.proofs.ReplyLaw.{placed}
+use Rattle.bd_audit.proofs.Paths.{one-of}
+
+abbrev pub seat_at : List Entry → ℕ → Option ℕ
+seat_at es m = option_map (λ e. e.seat) (slice_get es m)
+
+abbrev pub Seated : List Entry → Space → Type 0
+Seated es z = (t m : ℕ) → thread_made z t ≡ Some m → seat_at es m ≡ Some t
+
+seat-more : (es fs : List Entry) (m t : ℕ) → seat_at es m ≡ Some t → seat_at (es ++ fs) m ≡ Some t
+seat-more [] fs m t h = absurd (cc)
+seat-more (e ∷ es) fs zero t h = h
+seat-more (e ∷ es) fs (suc m) t h = seat-more es fs m t h
+
+same-threads : (es : List Entry) (z y : Space) → z.threads ≡ y.threads → Seated es y → Seated es z
+same-threads es z y e h t m k = h t m (ap (λ ts. made_in ts t) (sym e) ∙ k)
+
+-- ---- threads that come and go
+
+pub made-pushed : (ts : List Thread) (u : Thread) (t m : ℕ) → made_in (ts ++ u ∷ []) t ≡ Some m → (made_in ts t ≡ Some m) ⊎ ((t ≡ u.seat) × (m ≡ u.made))
+made-pushed [] u t m h = at (u.seat == t) refl h
+  where
+    at : (b : Bool) → (u.seat == t) ≡ b → option_map (λ (v : Thread). v.made) (cond b (Some u) None) ≡ Some m → (made_in [] t ≡ Some m) ⊎ ((t ≡ u.seat) × (m ≡ u.made))
+    at true e k = inr (sym (eqb-true u.seat t e), (let j : Some u.made ≡ Some m = k in let i : u.made ≡ m = cc in sym i))
+    at false e k = inl k
+made-pushed (x ∷ ts) u t m h = at (x.seat == t) (made-pushed ts u t m) h
+  where
+    at : (b : Bool) → (made_in (ts ++ u ∷ []) t ≡ Some m → (made_in ts t ≡ Some m) ⊎ ((t ≡ u.seat) × (m ≡ u.made)))
+        → option_map (λ (v : Thread). v.made) (cond b (Some x) (thread_in (ts ++ u ∷ []) t)) ≡ Some m
+        → (option_map (λ (v : Thread). v.made) (cond b (Some x) (thread_in ts t)) ≡ Some m) ⊎ ((t ≡ u.seat) × (m ≡ u.made))
+    at true k h = inl h
+    at false k h = k h
+
+pub none-left : (ts : List Thread) (gone : ℕ) → made_in (filter (λ (v : Thread). not (v.seat == gone)) ts) gone ≡ None
+none-left [] gone = refl
+none-left (x ∷ ts) gone = at (x.seat == gone) refl (none-left ts gone)
+  where
+    at : (b : Bool) → (x.seat == gone) ≡ b → made_in (filter (λ (v : Thread). not (v.seat == gone)) ts) gone ≡ None
+        → made_in (cond (not b) (x ∷ filter (λ (v : Thread). not (v.seat == gone)) ts) (filter (λ (v : Thread). not (v.seat == gone)) ts)) gone ≡ None
+    at true e k = k
+    at false e k = ap (λ c. option_map (λ (v : Thread). v.made) (cond c (Some x) (thread_in (filter (λ (v : Thread). not (v.seat == gone)) ts) gone))) e ∙ k
+
+pub made-before : (ts : List Thread) (gone t m : ℕ) → made_in (filter (λ (v : Thread). not (v.seat == gone)) ts) t ≡ Some m → made_in ts t ≡ Some m
+made-before ts gone t m h = at (t == gone) refl
+  where
+    at : (b : Bool) → (t == gone) ≡ b → made_in ts t ≡ Some m
+    at true e =
+        let none = none-left ts gone in
+        let some : made_in (filter (λ (v : Thread). not (v.seat == gone)) ts) gone ≡ Some m = subst (λ n. made_in (filter (λ (v : Thread). not (v.seat == gone)) ts) n ≡ Some m) (eqb-true t gone e) h in
+        absurd (cc)
+    at false e = sym (made-kept ts gone t e) ∙ h
+
+goes : (es : List Entry) (z : Space) (seat : ℕ) → Seated es z → Seated es (thread_goes z seat)
+unfolding thread_goes
+goes es z seat h t m k = h t m (made-before z.threads seat t m k)
+
+all-go : (es : List Entry) (seats : List ℕ) (z : Space) → Seated es z → Seated es (fold thread_goes z seats)
+all-go es [] z h = h
+all-go es (t ∷ ts) z h = all-go es ts (thread_goes z t) (goes es z t h)
+
+deaths-threads : (p : ℕ) (xs : List DeathNotification) (z : Space) → (fold (tell_death p) z xs).threads ≡ z.threads
+unfolding owe with_phase
+deaths-threads p [] z = refl
+deaths-threads p (x ∷ xs) z =
+    deaths-threads p xs (tell_death p z x)
+    ∙ one-of (λ (y : Space). y.threads) (is_armed x.phase && owned_in z.objects p x.object) (owe (with_phase z x.made Queued) (OfProcess x.process) (work.Death x.made)) z z.threads refl refl
+
+pub tell_deaths-threads : (z : Space) (p : ℕ) → (tell_deaths z p).threads ≡ z.threads
+unfolding tell_deaths
+tell_deaths-threads z p = deaths-threads p z.deaths z
+
+without-threads : (z : Space) (p : ℕ) → (without_process z p).threads ≡ z.threads
+unfolding without_process
+without-threads z p = refl
+
+ends : (es : List Entry) (z : Space) (p : ℕ) → Seated es z → Seated es (tell_deaths (without_process (threads_go z p) p) p)
+unfolding threads_go
+ends es z p h =
+    let a = fold thread_goes z (map seat_of (filter (λ (t : Thread). t.process == p) z.threads)) in
+    let b = without_process a p in
+    same-threads es (tell_deaths b p) a (tell_deaths-threads b p ∙ without-threads a p) (all-go es (map seat_of (filter (λ (t : Thread). t.process == p) z.threads)) z h)
+
+-- ---- the other parts
+
+called-threads : (z : Space) (seat p : ℕ) (one_way : Bool) → (called z seat p one_way).threads ≡ z.threads
+unfolding call_out owe
+called-threads z seat p true = refl
+called-threads z seat p false = refl
+
+pub sent-threads : (s : Space) (a : Actor) (d : TransactionData) (v : Delivery) → (owe (delivered s a d v) (OfThread a.thread.seat) work.Complete).threads ≡ s.threads
+unfolding owe delivered own_notices add_buffer known_by assign_numbers refer make_objects
+sent-threads s a d v = refl
+
+transacted-threads : (s : Space) (a : Actor) (d : TransactionData) (v : Delivery) → (transacted s a d v).threads ≡ s.threads
+unfolding transacted owe delivered own_notices add_buffer known_by assign_numbers refer make_objects
+transacted-threads s a d v = called-threads _ a.thread.seat v.receiver.made v.one_way
+
+told-threads : (z : Space) (caller : Option ℕ) (n : ℕ) → (elim caller as (λ (o : Option ℕ). Space) [ None ↦ z | Some t ↦ owe z (OfThread t) (work.Reply n) ]).threads ≡ z.threads
+unfolding owe
+told-threads z None n = refl
+told-threads z (Some t) n = refl
+
+replied-threads : (s : Space) (a : Actor) (d : TransactionData) (f : Frame) (v : Delivery) → (replied s a d f v).threads ≡ s.threads
+unfolding replied closed owe delivered own_notices add_buffer known_by assign_numbers refer make_objects
+replied-threads s a d f v = told-threads _ f.caller s.steps
+
+pub owe-threads : (z : Space) (list : TodoList) (kind : WorkKind) → (owe z list kind).threads ≡ z.threads
+unfolding owe
+owe-threads z list kind = refl
+
+pub requested-threads : (z : Space) (p : ℕ) (o : ObjectId) (cookie : ℕ) → (requested z p o cookie).threads ≡ z.threads
+unfolding requested with_death owe
+requested-threads z p o cookie = one-of (λ (y : Space). y.threads) (owner_lives_in z.processes z.objects o) _ _ z.threads refl refl
+
+pub cleared-threads : (z : Space) (t : ℕ) (x : DeathNotification) → (cleared z t x).threads ≡ z.threads
+unfolding cleared mark_cleared death_ended without_death owe
+cleared-threads z t x = one-of (λ (y : Space). y.threads) (is_out x.phase) _ _ z.threads refl refl
+
+pub death_done-threads : (z : Space) (t : ℕ) (x : DeathNotification) → (death_done z t x).threads ≡ z.threads
+unfolding death_done with_phase death_ended without_death owe
+death_done-threads z t x = one-of (λ (y : Space). y.threads) x.cleared _ _ z.threads refl refl
+
+module _ (es : List Entry) (e : Entry) (h : Seated es (after opening es)) where
+  abbrev s : Space
+  s = after opening es
+
+  abbrev more : List Entry
+  more = es ++ e ∷ []
+
+  now : Seated more s
+  now t m k = seat-more es (e ∷ []) m t (h t m k)
+
+  same : (z : Space) → z.threads ≡ s.threads → Seated more z
+  same z k = same-threads more z s k now
+
+  attached : (p : ℕ) (z : Space) → z.threads ≡ s.threads → z.steps ≡ s.steps → Seated more (with_thread z e.seat p)
+  unfolding with_thread
+  attached p z k n t m i = elim (made-pushed z.threads _ t m i) [
+    | inl j ↦ now t m (ap (λ ts. made_in ts t) (sym k) ∙ j)
+    | inr is ↦ (
+        let place : m ≡ length es = is.1 ∙ n ∙ always-steps es in
+        ap (λ o. option_map (λ (x : Entry). x.seat) o) (ap (slice_get more) place ∙ (placed es e [] (length es) refl).0) ∙ ap (λ i. Some i) (sym is.0))
+  ]
+
+  kept : Keeps s e.seat e.step (Seated more) (Seated more)
+  unfolding with_process with_manager without_buffer ask assign_numbers drop_asked acknowledge with_looping read_by ripen follow notify work_goes deaths_go objects_go names_go closed
+  kept = record {
+    same = now;
+    opened = λ pid euid window. attached s.steps (with_process s pid euid window) refl refl;
+    attached = λ p. attached p s refl refl;
+    managed = λ a i b. same (with_manager s a.process.made) refl;
+    transacts = λ a d parcel v x i t. same (transacted s a d v) (transacted-threads s a d v);
+    replies = λ a d parcel f v x i g t. same (replied s a d f v) (replied-threads s a d f v);
+    frees = λ p ptr b i t. same (without_buffer s b.made) refl;
+    asks = λ a n strong o x i t. same (ask s a.process.made o strong) refl;
+    drops = λ p o strong. same (drop_asked s p o strong) refl;
+    acknowledges = λ o strong i. same (acknowledge s o strong) refl;
+    loops = λ t looping u m k. now u m (sym (made-changed (λ (v : Thread). v.seat == t) looping s.threads u) ∙ k);
+    requests = λ p o cookie. same (requested s p o cookie) (requested-threads s p o cookie);
+    clears = λ t y. same (cleared s t y) (cleared-threads s t y);
+    is_done = λ t y. same (death_done s t y) (death_done-threads s t y);
+    reads = λ a limit i x n. same (read_by s a.thread.seat (taken s (limit - 4) (list_to_read s a.thread))) refl;
+    leaves = λ a i. goes more s a.thread.seat now;
+    ends = λ a i. ends more s a.process.made now;
+    ripens = λ z. same-threads more (ripen z) z refl;
+    follows = λ z. same-threads more (follow z) z refl;
+    closes = λ z made. same-threads more (closed z made) z refl;
+    refuses = λ z t r. same-threads more (owe z (OfThread t) (work.Refusal r)) z (owe-threads z (OfThread t) (work.Refusal r));
+    tells = λ z t r. same-threads more (owe z (OfThread t) (work.Verdict r)) z (owe-threads z (OfThread t) (work.Verdict r));
+  }
+
+  step-seated : Seated more (after opening more)
+  unfolding counted
+  step-seated = subst (Seated more) (sym (after-append opening es (e ∷ []))) (every_step s e.seat e.step (Seated more) (Seated more) kept)
+
+from-here : (rest before : List Entry) → Seated before (after opening before) → Seated (before ++ rest) (after opening (before ++ rest))
+from-here [] before h = subst (λ es. Seated es (after opening es)) (sym (append-nil before)) h
+from-here (e ∷ rest) before h = subst (λ es. Seated es (after opening es)) (append_assoc before (e ∷ []) rest) (from-here rest (before ++ e ∷ []) (step-seated before e h))
+
+pub always-seated : (es : List Entry) → Seated es (after opening es)
+always-seated es = from-here es [] (λ t m k. absurd (cc))

@@ -1,0 +1,5 @@
+use Rattle.bd_audit.proofs.LatestFirst.{latest-first}
+use Rattle.bd_audit.proofs.laws.calls_end_latest_first.Goals as goal
+
+pub returns : goal.returns
+returns c = λ h lawful i j m p. latest-first h.entries i j m p

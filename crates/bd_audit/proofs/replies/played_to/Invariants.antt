@@ -1,6 +1,0 @@
-use Rattle.std.proofs.Common.{◌≡◌}
-use Rattle.bd_audit.specs.Replays.{history_of, beginning}
-use Rattle.bd_audit.proofs.replies.played_to.Given as goal
-
-abbrev pub invariant-loop-entry : goal.invariant-loop-entry
-invariant-loop-entry l = l.engine ≡ beginning l.entry-index (beginning l.place (history_of l.fn.record))
