@@ -45,11 +45,11 @@ impl Fault {
         }
     }
 
-    /// Why a file couldn't be read.
-    pub fn of_read(error: &io::Error) -> Fault {
+    /// This fault, or want of memory, if that is what the error says.
+    pub fn or_memory(self, error: &io::Error) -> Fault {
         match error.kind() {
             ErrorKind::OutOfMemory => Fault::Memory,
-            _ => Fault::File,
+            _ => self,
         }
     }
 }

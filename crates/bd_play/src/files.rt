@@ -54,7 +54,7 @@ pub fn run_file<H: AllocGlobal + Files + Input + Threads + Wait + Sync, W: Write
     } else {
         match File::open(rt, name) {
             Ok(mut file) => play_from(rt, &mut file, manner, out, err),
-            Err(error) => return tell(Fault::of_read(&error), err),
+            Err(error) => return tell(Fault::File.or_memory(&error), err),
         }
     };
     let mut status = played.status;
@@ -78,6 +78,6 @@ pub fn check_file<H: AllocGlobal + Files + Input, W: Write, E: Write>(
     }
     match File::open(rt, name) {
         Ok(mut file) => check_journal(rt.alloc(), &mut file, out, err),
-        Err(error) => tell(Fault::of_read(&error), err),
+        Err(error) => tell(Fault::File.or_memory(&error), err),
     }
 }

@@ -47,8 +47,9 @@ fn obey<H: AllocGlobal + Files + Input + Threads + Wait + Sync, W: Write, E: Wri
 }
 
 fn run<H: Runtime<A = Global> + Threads + Wait + Sync, E: Write>(rt: &H, err: &mut E) -> u8 {
-    let Ok(args) = env::args(rt) else {
-        return tell(Fault::Arguments, err);
+    let args = match env::args(rt) {
+        Ok(args) => args,
+        Err(error) => return tell(Fault::Arguments.or_memory(&error), err),
     };
     let Ok(words) = args.collect::<Vec<String>>(rt.alloc()) else {
         return tell(Fault::Memory, err);

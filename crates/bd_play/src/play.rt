@@ -35,7 +35,7 @@ pub fn read_all<R: Read>(alloc: Global, reader: &mut R) -> Result<Vec<u8>, Fault
     let mut bytes = Vec::new(alloc);
     match reader.read_to_end(&mut bytes) {
         Ok(_) => Ok(bytes),
-        Err(error) => Err(Fault::of_read(&error)),
+        Err(error) => Err(Fault::File.or_memory(&error)),
     }
 }
 
