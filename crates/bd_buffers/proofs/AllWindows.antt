@@ -18,46 +18,15 @@ use Rattle.bd_space.specs.Seats.{lives_in, process_in}
 use Rattle.bd_space.specs.Room.{buffers_of}
 use Rattle.bd_space.specs.Freeing.{is_made_at}
 use Rattle.bd_space.specs.Reading.{buffer_in, hand_out, handed_buffers}
+use Rattle.bd_buffers.specs.declared.window.Window.{Window}
 use Rattle.bd_buffers.specs.declared.windows.OwnedWindow.{OwnedWindow}
 use Rattle.bd_buffers.specs.declared.windows.Windows.{Windows}
 use Rattle.bd_buffers.specs.Windows as single
 use Rattle.bd_buffers.specs.WindowsStand.{ProcessWindow, seen, window_of, with_buffers, is_owned_by, is_of, WindowsOf, Stands, room_of, CanTakeIn, made_of_buffer}
+use Rattle.bd_space.proofs.Changed.{mapped-next}
 use Rattle.bd_buffers.proofs.Changes.{pairs_head, pairs_tail, found_has}
 use Rattle.bd_buffers.proofs.InSpace.{added, added_elsewhere, kept_in, handed_in, others_stay, made_in}
 use Rattle.bd_buffers.proofs.Order.{lives_below, process_made, buffer_made, made_kept, made_handed, process_gone}
-
--- ---- each element of a list in its turn
-
-module _ {A : Type 0} (f : A → A) where
-  there : (xs : List A) (i : ℕ) (d : A) → i < length xs → get_or (map f (take i xs) ++ drop i xs) i d ≡ get_or xs i d
-  there [] i d h = absurd (omega arith)
-  there (x ∷ xs) zero d h = refl
-  there (x ∷ xs) (suc i) d h = there xs i d (omega arith)
-
-  mapped-suc : (xs : List A) (i : ℕ) (d : A) → i < length xs → set (map f (take i xs) ++ drop i xs) i (f (get_or xs i d)) ≡ map f (take (suc i) xs) ++ drop (suc i) xs
-  mapped-suc [] i d h = absurd (omega arith)
-  mapped-suc (x ∷ xs) zero d h = refl
-  mapped-suc (x ∷ xs) (suc i) d h = ap (λ ys. f x ∷ ys) (mapped-suc xs i d (omega arith))
-
-  mapped-next : (xs ys : List A) (i : ℕ) (d x : A) → ys ≡ map f (take i xs) ++ drop i xs → i < length xs → x ≡ f (get_or ys i d)
-      → set ys i x ≡ map f (take (i + 1) xs) ++ drop (i + 1) xs
-  mapped-next xs ys i d x e h k =
-      let same : get_or ys i d ≡ get_or xs i d = ap (λ zs. get_or zs i d) e ∙ there xs i d h in
-      rw (k, same, e, add-one) (mapped-suc xs i d h)
-
-  pub mapped-all : (xs : List A) (i : ℕ) → length xs ≤ i → map f (take i xs) ++ drop i xs ≡ map f xs
-  mapped-all [] zero h = refl
-  mapped-all [] (suc i) h = refl
-  mapped-all (x ∷ xs) zero h = absurd (omega arith)
-  mapped-all (x ∷ xs) (suc i) h = ap (λ ys. f x ∷ ys) (mapped-all xs i (omega arith))
-
-first_passes : {A : Type 0} (q : A → Bool) (y : A) (xs : List A) (x : A) (b : Bool) → q y ≡ b → (find q xs ≡ Some x → q x ≡ true) → cond b (Some y) (find q xs) ≡ Some x → q x ≡ true
-first_passes q y xs x true t rest e = let same : y ≡ x = cc in ap q (sym same) ∙ t
-first_passes q y xs x false t rest e = rest e
-
-found_passes : {A : Type 0} (q : A → Bool) (xs : List A) (x : A) → find q xs ≡ Some x → q x ≡ true
-found_passes q [] x e = cc
-found_passes q (y ∷ xs) x e = first_passes q y xs x (q y) refl (found_passes q xs x) e
 
 -- a window that stands for these buffers now
 pub seen_as : (w old : OwnedWindow) (f : List Buffer → List Buffer) → w.owner ≡ old.owner → Stands w.window old.window.size (f old.window.buffers) → seen w ≡ with_buffers f (seen old)
@@ -190,7 +159,7 @@ owner_missed t bound p ps bs q stands lives found =
     cc
 
 pub is_process : (ps : List Process) (p : ℕ) (q : Process) → process_in ps p ≡ Some q → q.made ≡ p
-is_process ps p q e = eqb-true q.made p (found_passes (λ (x : Process). x.made == p) ps q e)
+is_process ps p q e = eqb-true q.made p (found_has (λ x. Unit) (λ (x : Process). x.made == p) ps q e (λ k d h. tt)).1
 
 -- the window at the place that is found
 pub record IsAt (t : Windows) (p i : ℕ) (w : OwnedWindow) : Type 0 where
@@ -226,9 +195,13 @@ pub room_left : (t : Windows) (p i : ℕ) (w x : OwnedWindow) → IsAt t p i w �
 room_left t p i w x is own =
     ap room_of (find-set (is_owned_by p) t.windows.items i x is.first is.within (eq-eqb x.owner p (own ∙ is.owner_is)))
 
--- the windows are seen as before
-pub stay_seen : (t : Windows) (p i : ℕ) (w x : OwnedWindow) → IsAt t p i w → seen x ≡ seen w → map seen (set t.windows.items i x) ≡ map seen t.windows.items
-stay_seen t p i w x is same = map-set_same seen t.windows.items i x w (same ∙ ap seen is.at)
+-- the windows are seen as before where one is changed that still stands for the same
+pub stay_seen : (t : Windows) (p i : ℕ) (w : OwnedWindow) (new : Window) → position (is_owned_by p) t.windows.items ≡ Some i → w ≡ get_or t.windows.items i w
+    → ((size : ℕ) (bs : List Buffer) → Stands w.window size bs → Stands new size bs) → map seen (set t.windows.items i (record { owner = w.owner; window = new })) ≡ map seen t.windows.items
+stay_seen t p i w new e at kept =
+    let x : OwnedWindow = record { owner = w.owner; window = new } in
+    let same : seen x ≡ seen w = seen_as x w (λ bs. bs) refl (kept w.window.size w.window.buffers (record { size_is = refl; buffers_are = refl })) in
+    map-set_same seen t.windows.items i x w (same ∙ ap seen at)
 
 pub stay : (t u : Windows) (bound : ℕ) (ps : List Process) (bs : List Buffer) → map seen u.windows.items ≡ map seen t.windows.items → WindowsOf t bound ps bs → WindowsOf u bound ps bs
 stay t u bound ps bs e stands = record { windows_are = e ∙ stands.windows_are; made = stands.made }

@@ -1,53 +1,16 @@
 -- Lists with some elements changed or left out.
-use Rattle.std.proofs.Common.{◌≡◌, ℕ, zero, suc, ◌+◌, ◌<◌, ◌≤◌, Bool, true, false, cond, List, [], ◌∷◌, ◌++◌, length, get_or, set, take, drop, refl, ap, sym, ◌∙◌, arith, add-one, All, subst}
+use Rattle.std.proofs.Common.{◌≡◌, zero, suc, Bool, true, false, cond, List, [], ◌∷◌, refl, ap, sym, ◌∙◌, arith, All, subst}
 use Rattle.std.specs.Prelude.{AllPairs, find, Some, None}
 use Rattle.std.proofs.lemmas.List.Elements.{All-cons, All-head, All-tail}
 use Rattle.std.specs.List.{items_where_true}
 use Rattle.bd_space.specs.Words.{changed}
 
--- ---- one more element of `changed`, as a loop that writes in place meets it
-
-module _ {A : Type 0} (p : A → Bool) (f : A → A) where
-  here : (xs : List A) (i : ℕ) (d : A) → i < length xs → get_or (changed p f (take i xs) ++ drop i xs) i d ≡ get_or xs i d
-  here [] i d h = absurd (omega arith)
-  here (x ∷ xs) zero d h = refl
-  here (x ∷ xs) (suc i) d h = here xs i d (omega arith)
-
-  changed-suc : (xs : List A) (i : ℕ) (d : A) → i < length xs
-      → set (changed p f (take i xs) ++ drop i xs) i (cond (p (get_or xs i d)) (f (get_or xs i d)) (get_or xs i d)) ≡ changed p f (take (suc i) xs) ++ drop (suc i) xs
-  changed-suc [] i d h = absurd (omega arith)
-  changed-suc (x ∷ xs) zero d h = refl
-  changed-suc (x ∷ xs) (suc i) d h = ap (λ ys. cond (p x) (f x) x ∷ ys) (changed-suc xs i d (omega arith))
-
-  one_more : (xs ys : List A) (i : ℕ) (d : A) (b : Bool) → ys ≡ changed p f (take i xs) ++ drop i xs → i < length xs → p (get_or ys i d) ≡ b
-      → set ys i (cond b (f (get_or ys i d)) (get_or ys i d)) ≡ changed p f (take (i + 1) xs) ++ drop (i + 1) xs
-  one_more xs ys i d b e h t =
-      let same : get_or ys i d ≡ get_or xs i d = ap (λ zs. get_or zs i d) e ∙ here xs i d h in
-      rw (sym t, same, e, add-one) (changed-suc xs i d h)
-
-  -- an element that passes, as it is changed
-  pub changed-then : (xs ys : List A) (i : ℕ) (d : A) → ys ≡ changed p f (take i xs) ++ drop i xs → i < length xs → p (get_or ys i d) ≡ true
-      → set ys i (f (get_or ys i d)) ≡ changed p f (take (i + 1) xs) ++ drop (i + 1) xs
-  changed-then xs ys i d e h t = one_more xs ys i d true e h t
-
-  -- an element that doesn't, as it stays
-  pub changed-else : (xs ys : List A) (i : ℕ) (d : A) → ys ≡ changed p f (take i xs) ++ drop i xs → i < length xs → p (get_or ys i d) ≡ false
-      → set ys i (get_or ys i d) ≡ changed p f (take (i + 1) xs) ++ drop (i + 1) xs
-  changed-else xs ys i d e h t = one_more xs ys i d false e h t
-
-  -- the whole list, at the end of the loop
-  pub changed-all : (xs : List A) (i : ℕ) → length xs ≤ i → changed p f (take i xs) ++ drop i xs ≡ changed p f xs
-  changed-all [] zero h = refl
-  changed-all [] (suc i) h = refl
-  changed-all (x ∷ xs) zero h = absurd (omega arith)
-  changed-all (x ∷ xs) (suc i) h = ap (λ ys. cond (p x) (f x) x ∷ ys) (changed-all xs i (omega arith))
-
-  -- what each element keeps under the change
-  pub All-changed : (P : A → Type 0) → ((x : A) → P x → P (f x)) → (xs : List A) → All P xs → All P (changed p f xs)
-  All-changed P k [] all = all
-  All-changed P k (x ∷ xs) all =
-      let head : P (cond (p x) (f x) x) = elim (p x) as (λ b. P (cond b (f x) x)) [ true ↦ k x (All-head P x xs all) | false ↦ All-head P x xs all ] in
-      All-cons P (cond (p x) (f x) x) (changed p f xs) head (All-changed P k xs (All-tail P x xs all))
+-- what each element keeps where those that pass are changed
+pub All-changed : {A : Type 0} (p : A → Bool) (f : A → A) (P : A → Type 0) → ((x : A) → P x → P (f x)) → (xs : List A) → All P xs → All P (changed p f xs)
+All-changed p f P k [] all = all
+All-changed p f P k (x ∷ xs) all =
+    let head : P (cond (p x) (f x) x) = elim (p x) as (λ b. P (cond b (f x) x)) [ true ↦ k x (All-head P x xs all) | false ↦ All-head P x xs all ] in
+    All-cons P (cond (p x) (f x) x) (changed p f xs) head (All-changed p f P k xs (All-tail P x xs all))
 
 -- ---- what is left where some elements go
 

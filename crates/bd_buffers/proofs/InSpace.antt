@@ -1,6 +1,6 @@
 -- How the live buffers of one window go with all those of a space, for a table in which the window of each live process p
 -- stands for `buffers_of buffers p`.
-use Rattle.std.proofs.Common.{◌≡◌, ◌≢◌, ℕ, Bool, true, false, cond, List, [], ◌∷◌, ◌++◌, Some, None, refl, ap, sym, ◌∙◌, eq-eqb, ne_eqb}
+use Rattle.std.proofs.Common.{◌≡◌, ◌≢◌, ℕ, Bool, true, false, cond, List, [], ◌∷◌, ◌++◌, Some, refl, ap, sym, ◌∙◌, eq-eqb, ne_eqb}
 use Rattle.std.specs.Prelude.{◌==◌, ◌&&◌, not, find, filter}
 use Rattle.std.proofs.lemmas.List.{append-nil}
 use Rattle.std.proofs.lemmas.Bool.{false≢true, eqb-true}
@@ -39,16 +39,6 @@ module _ {A : Type 0} where
   swap_first q r x xs false true e f rest =
       ap (filter q) (filter_at r x xs true f) ∙ filter_at q x (filter r xs) false e ∙ rest ∙ sym (ap (filter r) (filter_at q x xs false e))
   swap_first q r x xs false false e f rest = ap (filter q) (filter_at r x xs false f) ∙ rest ∙ sym (ap (filter r) (filter_at q x xs false e))
-
-  missed_first : (q : A → Bool) (x : A) (xs : List A) (b : Bool) → q x ≡ b → (find q xs ≡ None → filter (λ y. not (q y)) xs ≡ xs)
-      → cond b (Some x) (find q xs) ≡ None → filter (λ y. not (q y)) (x ∷ xs) ≡ x ∷ xs
-  missed_first q x xs true t rest e = cc
-  missed_first q x xs false t rest e = filter_at (λ y. not (q y)) x xs true (ap not t) ∙ ap (λ ys. x ∷ ys) (rest e)
-
-  unchanged_first : (q : A → Bool) (f : A → A) (x : A) (xs : List A) (b : Bool) → q x ≡ b → (find q xs ≡ None → changed q f xs ≡ xs)
-      → cond b (Some x) (find q xs) ≡ None → changed q f (x ∷ xs) ≡ x ∷ xs
-  unchanged_first q f x xs true t rest e = cc
-  unchanged_first q f x xs false t rest e = ap (λ c. cond c (f x) x ∷ changed q f xs) t ∙ ap (λ ys. x ∷ ys) (rest e)
 
   -- what is found among all is found among those that pass, if it passes
   found_first : (q r : A → Bool) (x : A) (xs : List A) (y : A) (b : Bool) → r x ≡ b → (find r xs ≡ Some y → find r (filter q xs) ≡ Some y)
@@ -96,15 +86,6 @@ module _ {A : Type 0} where
   filter_kept q r both [] = refl
   filter_kept q r both (x ∷ xs) = kept_first q r x xs (q x) (r x) refl refl (both x) (filter_kept q r both xs)
 
-  -- nothing is found, so nothing goes and nothing is changed
-  filter_missed : (q : A → Bool) (xs : List A) → find q xs ≡ None → filter (λ x. not (q x)) xs ≡ xs
-  filter_missed q [] e = refl
-  filter_missed q (x ∷ xs) e = missed_first q x xs (q x) refl (filter_missed q xs) e
-
-  changed_missed : (q : A → Bool) (f : A → A) (xs : List A) → find q xs ≡ None → changed q f xs ≡ xs
-  changed_missed q f [] e = refl
-  changed_missed q f (x ∷ xs) e = unchanged_first q f x xs (q x) refl (changed_missed q f xs) e
-
 -- ---- what is found in a window
 
 -- by the pointer
@@ -131,13 +112,6 @@ kept_in keep buffers p = filter_swap (is_in p) keep buffers
 
 pub handed_in : (buffers : List Buffer) (p made : ℕ) → buffers_of (changed (is_made_at made) hand_out buffers) p ≡ changed (is_made_at made) hand_out (buffers_of buffers p)
 handed_in buffers p made = filter_changed (is_in p) (is_made_at made) hand_out (λ b. refl) buffers
-
--- a window without the buffer stays as it is
-pub none_freed : (buffers : List Buffer) (made : ℕ) → buffer_in buffers made ≡ None → filter (λ b. not (is_made_at made b)) buffers ≡ buffers
-none_freed buffers made e = filter_missed (is_made_at made) buffers e
-
-pub none_handed : (buffers : List Buffer) (made : ℕ) → buffer_in buffers made ≡ None → changed (is_made_at made) hand_out buffers ≡ buffers
-none_handed buffers made e = changed_missed (is_made_at made) hand_out buffers e
 
 -- the window of one process goes, and the others stay
 pub others_stay : (buffers : List Buffer) (p q : ℕ) → q ≢ p → buffers_of (filter (λ b. not (b.receiver == p)) buffers) q ≡ buffers_of buffers q

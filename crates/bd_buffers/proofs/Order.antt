@@ -55,15 +55,6 @@ made_wider bound more ps bs le is = record {
   received = is.received;
 }
 
-pub none_made : (bound : ℕ) → AreMade bound [] []
-none_made bound = record {
-  processes_in_order = λ i j d lt h. absurd (omega arith);
-  processes_before = λ i d h. absurd (omega arith);
-  buffers_in_order = λ i j d lt h. absurd (omega arith);
-  buffers_before = λ i d h. absurd (omega arith);
-  received = λ i d h. absurd (omega arith);
-}
-
 pub process_made : (bound : ℕ) (ps : List Process) (bs : List Buffer) (q : Process) → q.made ≡ bound → AreMade bound ps bs → AreMade (bound + 1) (ps ++ q ∷ []) bs
 process_made bound ps bs q e is =
     let wide = made_wider bound (bound + 1) ps bs (omega arith) is in

@@ -1,7 +1,6 @@
--- Before a step, within it and after it.
-use Rattle.std.proofs.Common.{◌+◌, suc, arith}
+-- From before a step into it.
+use Rattle.std.proofs.Common.{◌+◌, arith}
 use Rattle.bd_space.specs.Space.{Space}
-use Rattle.bd_space.specs.Steps.{counted}
 use Rattle.bd_buffers.specs.declared.windows.Windows.{Windows}
 use Rattle.bd_buffers.specs.WindowsStand.{StandsFor, StandsIn}
 use Rattle.bd_buffers.proofs.Order.{made_wider}
@@ -10,9 +9,3 @@ use Rattle.bd_buffers.proofs.Order.{made_wider}
 pub stands_in : (t : Windows) (s : Space) → StandsFor t s → StandsIn t s
 stands_in t s is =
     record { windows_are = is.windows_are; made = made_wider s.steps (s.steps + 1) s.processes s.buffers (omega arith) is.made }
-
--- and what stands within it, before the next
-pub stands_for : (t : Windows) (s : Space) → StandsIn t s → StandsFor t (counted s)
-unfolding counted
-stands_for t s is =
-    record { windows_are = is.windows_are; made = made_wider (s.steps + 1) (suc s.steps) s.processes s.buffers (omega arith) is.made }

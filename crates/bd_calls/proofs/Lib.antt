@@ -1,5 +1,4 @@
 pub mod Ancestry
-pub mod Changed
 pub mod OneWay
 pub mod Plain
 pub mod Rooms

@@ -75,21 +75,17 @@ as_handed false o b = refl
 pub turn-handed : (b : Buffer) → turn_of (hand_out b) ≡ option_map hand_turn (turn_of b)
 turn-handed b = as_handed b.one_way b.target b
 
-pub turn-made : (b : Buffer) (t : Turn) → turn_of b ≡ Some t → t.made ≡ b.made
-turn-made b t h = of b.one_way b.target h
+turn-of : (b : Buffer) (t : Turn) → turn_of b ≡ Some t → (t.made ≡ b.made) × (t.receiver ≡ b.receiver)
+turn-of b t h = of b.one_way b.target h
   where
-    of : (w : Bool) (o : Option ObjectId) → cond w (option_map (λ x. record { made = b.made; receiver = b.receiver; target = x; handed = b.handed }) o) None ≡ Some t → t.made ≡ b.made
-    of true (Some x) e = cc
-    of true None e = cc
-    of false o e = cc
+    of : (w : Bool) (o : Option ObjectId) → cond w (option_map (λ x. record { made = b.made; receiver = b.receiver; target = x; handed = b.handed }) o) None ≡ Some t
+        → (t.made ≡ b.made) × (t.receiver ≡ b.receiver)
+    of true (Some x) e = (cc, cc)
+    of true None e = (cc, cc)
+    of false o e = (cc, cc)
 
-pub turn-receiver : (b : Buffer) (t : Turn) → turn_of b ≡ Some t → t.receiver ≡ b.receiver
-turn-receiver b t h = of b.one_way b.target h
-  where
-    of : (w : Bool) (o : Option ObjectId) → cond w (option_map (λ x. record { made = b.made; receiver = b.receiver; target = x; handed = b.handed }) o) None ≡ Some t → t.receiver ≡ b.receiver
-    of true (Some x) e = cc
-    of true None e = cc
-    of false o e = cc
+turn-made : (b : Buffer) (t : Turn) → turn_of b ≡ Some t → t.made ≡ b.made
+turn-made b t h = (turn-of b t h).0
 
 -- the buffer made here goes
 pub turns-without : (made : ℕ) (bs : List Buffer) → turns_of (filter (λ b. not (is_made_at made b)) bs) ≡ filter (λ t. not (t.made == made)) (turns_of bs)
@@ -97,7 +93,7 @@ turns-without made bs = turns-filter (λ b. not (is_made_at made b)) (λ t. not 
 
 -- the buffers in a process's window go
 pub turns-received : (p : ℕ) (bs : List Buffer) → turns_of (filter (λ b. not (b.receiver == p)) bs) ≡ filter (λ t. not (t.receiver == p)) (turns_of bs)
-turns-received p bs = turns-filter (λ b. not (b.receiver == p)) (λ t. not (t.receiver == p)) (λ b t h. ap (λ m. not (m == p)) (turn-receiver b t h)) bs
+turns-received p bs = turns-filter (λ b. not (b.receiver == p)) (λ t. not (t.receiver == p)) (λ b t h. ap (λ m. not (m == p)) (turn-of b t h).1) bs
 
 -- the buffers that are lost go
 pub turns-lost : (lost : ℕ → Bool) (bs : List Buffer) → turns_of (filter (λ b. not (lost b.made)) bs) ≡ filter (λ t. not (lost t.made)) (turns_of bs)

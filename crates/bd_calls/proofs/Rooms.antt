@@ -1,20 +1,10 @@
 -- What two changes take one after the other.
-use Rattle.std.proofs.Common.{ℕ, ◌+◌, ◌≤◌, arith}
+use Rattle.std.proofs.Common.{ℕ, ◌+◌, arith}
 use Rattle.bd_calls.specs.declared.table.CallTable.{CallTable}
 use Rattle.bd_calls.specs.Room.{Takes}
 
 pub takes-one_more : (a b c : CallTable) (n : ℕ) → Takes a b 0 0 0 n → Takes b c 0 0 0 1 → Takes a c 0 0 0 (n + 1)
 takes-one_more a b c n h k = record {
-  threads_fit = omega arith;
-  frames_fit = omega arith;
-  turns_fit = omega arith;
-  works_fit = omega arith;
-  frames_count = omega arith;
-  turns_count = omega arith;
-}
-
-pub takes-at_most : (a b : CallTable) (n m : ℕ) → n ≤ m → Takes a b 0 0 0 n → Takes a b 0 0 0 m
-takes-at_most a b n m e h = record {
   threads_fit = omega arith;
   frames_fit = omega arith;
   turns_fit = omega arith;

@@ -1,5 +1,4 @@
 pub mod Filters
-pub mod Changed
 pub mod FreeNumbers
 pub mod Firsts
 pub mod Giving

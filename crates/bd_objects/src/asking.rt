@@ -28,10 +28,7 @@ pub(crate) fn is_asked_by(p: u32, holder: Holder) -> bool
 fn is_handshake(holder: Holder) -> bool
     ensures { result ≡ refer.is_handshake holder }
 {
-    match holder {
-        Holder::Handshake => true,
-        _ => false,
-    }
+    matches!(holder, Holder::Handshake)
 }
 
 fn same_strength(strong: bool, r: &Reference) -> bool

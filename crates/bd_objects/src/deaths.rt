@@ -46,19 +46,13 @@ fn uncleared_in(deaths: &[DeathNotification], p: u32, o: ObjectId) -> Option<Dea
 fn is_told(phase: Phase) -> bool
     ensures { result ≡ deaths_of.is_told phase }
 {
-    match phase {
-        Phase::Told => true,
-        _ => false,
-    }
+    matches!(phase, Phase::Told)
 }
 
 fn is_armed(phase: Phase) -> bool
     ensures { result ≡ exits.is_armed phase }
 {
-    match phase {
-        Phase::Armed => true,
-        _ => false,
-    }
+    matches!(phase, Phase::Armed)
 }
 
 fn told_death_in(deaths: &[DeathNotification], p: u32, cookie: u64) -> Option<DeathNotification>

@@ -26,11 +26,7 @@ fn is_in_window(p: u32, holder: Holder) -> bool
 fn is_of_owner(holder: Holder) -> bool
     ensures { result ≡ refer.is_of_owner holder }
 {
-    match holder {
-        Holder::Handshake => true,
-        Holder::Manager => true,
-        _ => false,
-    }
+    matches!(holder, Holder::Handshake | Holder::Manager)
 }
 
 /// Whether it goes with the process.

@@ -1,6 +1,5 @@
 -- The steps of BC_REQUEST_DEATH_NOTIFICATION, BC_CLEAR_DEATH_NOTIFICATION and BC_DEAD_BINDER_DONE.
 use Rattle.std.specs.Prelude.{ℕ, ◌==◌, Bool, true, false, not, ◌&&◌, List, [], ◌∷◌, ◌++◌, Option, Some, None, Result, Ok, Err, find, filter, is_some, if◌then◌else◌}
-use Rattle.std.specs.List.{list_any}
 use Rattle.bd_uapi.specs.declared.fault.Note.{Note}
 use Rattle.bd_uapi.specs.declared.fault.Note.TheVariants.{NoSuchNumber, AlreadyAsked, NoneAsked, NoneTold}
 use Rattle.bd_space.specs.declared.step.ObjectId.{ObjectId}

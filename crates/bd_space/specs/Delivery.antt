@@ -1,5 +1,5 @@
 -- What a transaction and a reply have in common: what they deliver.
-use Rattle.std.specs.Prelude.{ℕ, ◌+◌, ◌==◌, Bool, true, false, not, ◌&&◌, List, [], ◌∷◌, ◌++◌, map, Option, Some, None, find, filter, fold, option_map, unwrap_or, if◌then◌else◌}
+use Rattle.std.specs.Prelude.{ℕ, ◌+◌, ◌==◌, Bool, true, false, not, ◌&&◌, List, [], ◌∷◌, ◌++◌, map, Option, Some, None, find, filter, fold, unwrap_or, if◌then◌else◌}
 use Rattle.bd_uapi.specs.declared.command.TransactionData.{TransactionData}
 use Rattle.bd_uapi.specs.declared.object.FlatObject.{FlatObject}
 use Rattle.bd_uapi.specs.declared.object.ObjectKind.TheVariants.{Binder, WeakBinder, Handle, WeakHandle}

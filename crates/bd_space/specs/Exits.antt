@@ -9,13 +9,10 @@ use Rattle.bd_space.specs.declared.space.Reference.{Reference}
 use Rattle.bd_space.specs.declared.space.Frame.{Frame}
 use Rattle.bd_space.specs.declared.space.Work.{Work}
 use Rattle.bd_space.specs.declared.space.DeathNotification.{DeathNotification}
-use Rattle.bd_space.specs.declared.space.Holder.{Holder}
-use Rattle.bd_space.specs.declared.space.Holder.TheVariants.{Carried, Target}
 use Rattle.bd_space.specs.declared.space.Server.{Server}
 use Rattle.bd_space.specs.declared.space.Server.TheVariants.{Pending, Serving, Gone}
 use Rattle.bd_space.specs.declared.space.TodoList.{TodoList}
 use Rattle.bd_space.specs.declared.space.TodoList.TheVariants.{OfThread, OfProcess}
-use Rattle.bd_space.specs.declared.space.WorkKind.{WorkKind}
 use Rattle.bd_space.specs.declared.space.WorkKind.TheVariants.{Death}
 use Rattle.bd_space.specs.declared.space.Phase.{Phase}
 use Rattle.bd_space.specs.declared.space.Phase.TheVariants.{Armed, Queued}

@@ -1,5 +1,5 @@
 -- The step of a read.
-use Rattle.std.specs.Prelude.{ℕ, ◌+◌, ◌-◌, ◌==◌, nat_lt, Bool, true, false, not, ◌&&◌, List, [], ◌∷◌, ◌++◌, length, map, Option, Some, None, find, is_none, option_map, option_and_then, unwrap_or, if◌then◌else◌, pos}
+use Rattle.std.specs.Prelude.{ℕ, ◌+◌, ◌-◌, ◌==◌, nat_lt, Bool, true, false, not, ◌&&◌, List, [], ◌∷◌, ◌++◌, length, map, Option, Some, None, find, option_map, option_and_then, unwrap_or, if◌then◌else◌, pos}
 use Rattle.std.specs.List.{list_any, concat, flat_map}
 use Rattle.bd_uapi.specs.declared.command.TransactionData.{TransactionData}
 use Rattle.bd_uapi.specs.declared.command.Return.{Return}
@@ -9,8 +9,7 @@ use Rattle.bd_uapi.specs.declared.fault.Fault.TheVariants.{ReadTooSmall, Again}
 use Rattle.bd_codec.specs.Spelling.{return_bytes}
 use Rattle.bd_space.specs.declared.step.ObjectId.{ObjectId}
 use Rattle.bd_space.specs.declared.step.StepAnswer.{StepAnswer}
-use Rattle.bd_space.specs.declared.step.StepAnswer.TheVariants.{Got, Refused}
-use Rattle.bd_space.specs.declared.space.Thread.{Thread}
+use Rattle.bd_space.specs.declared.step.StepAnswer.TheVariants.{Got}
 use Rattle.bd_space.specs.declared.space.Object.{Object}
 use Rattle.bd_space.specs.declared.space.Reference.{Reference}
 use Rattle.bd_space.specs.declared.space.Frame.{Frame}

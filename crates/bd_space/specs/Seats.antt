@@ -1,5 +1,5 @@
 -- Processes and threads.
-use Rattle.std.specs.Prelude.{ℕ, ◌==◌, Bool, List, Option, Some, None, find, option_and_then, option_map}
+use Rattle.std.specs.Prelude.{ℕ, ◌==◌, Bool, List, Option, find, option_and_then, option_map}
 use Rattle.std.specs.List.{list_any}
 use Rattle.bd_space.specs.declared.space.Process.{Process}
 use Rattle.bd_space.specs.declared.space.Thread.{Thread}

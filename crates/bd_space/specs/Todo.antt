@@ -1,7 +1,6 @@
 -- Work items: what is still to be read, and by whom.
-use Rattle.std.specs.Prelude.{ℕ, ◌+◌, ◌==◌, Bool, true, false, not, ◌&&◌, List, [], ◌∷◌, ◌++◌, Option, Some, None, filter, count_by, is_none, filter_map, if◌then◌else◌}
+use Rattle.std.specs.Prelude.{ℕ, ◌+◌, ◌==◌, Bool, true, false, not, ◌&&◌, List, [], ◌∷◌, ◌++◌, Option, Some, None, filter, count_by, is_none, if◌then◌else◌}
 use Rattle.std.specs.List.{list_any}
-use Rattle.bd_uapi.specs.declared.command.Return.{Return}
 use Rattle.bd_space.specs.declared.step.ObjectId.{ObjectId}
 use Rattle.bd_space.specs.declared.space.Thread.{Thread}
 use Rattle.bd_space.specs.declared.space.Frame.{Frame}
@@ -12,7 +11,6 @@ use Rattle.bd_space.specs.declared.space.WorkKind.{WorkKind}
 use Rattle.bd_space.specs.declared.space.WorkKind.TheVariants as work
 use Rattle.bd_space.specs.Words.{same, same_identity}
 use Rattle.bd_space.specs.Space.{Space}
-use Rattle.bd_space.specs.Seats.{thread_in}
 use Rattle.bd_space.specs.Frames.{innermost_in}
 
 -- one work item more, named by its step's place and by how many of that step's items stand before it

@@ -1,7 +1,6 @@
 -- One-way calls: of one object's, one is due or handed out at a time, in the order in which they were made.
-use Rattle.std.specs.Prelude.{ℕ, ◌==◌, Bool, not, ◌&&◌, List, [], ◌∷◌, ◌++◌, Option, Some, None, option_map, if◌then◌else◌}
+use Rattle.std.specs.Prelude.{ℕ, Bool, not, ◌&&◌, List, [], ◌∷◌, ◌++◌, Option, None, option_map, if◌then◌else◌}
 use Rattle.std.specs.List.{list_any, filter_map}
-use Rattle.bd_space.specs.declared.step.ObjectId.{ObjectId}
 use Rattle.bd_space.specs.declared.space.Buffer.{Buffer}
 use Rattle.bd_space.specs.declared.space.Turn.{Turn}
 use Rattle.bd_space.specs.declared.space.Work.{Work}

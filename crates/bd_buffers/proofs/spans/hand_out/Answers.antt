@@ -1,7 +1,7 @@
 use Rattle.std.proofs.Common.{rules, tests, ◌∙◌, arith}
 use Rattle.bd_space.specs.Freeing.{is_made_at}
 use Rattle.bd_space.specs.Reading.{hand_out}
-use Rattle.bd_buffers.proofs.Changes.{changed-then, changed-else, changed-all}
+use Rattle.bd_space.proofs.Changed.{changed-then, changed-else, changed-all}
 use Rattle.bd_buffers.proofs.Kept.{window_handed}
 use Rattle.bd_buffers.proofs.spans.hand_out.Goals as goal
 use Rattle.bd_buffers.proofs.spans.hand_out.Goals.{then-b-made, else-b-made}

@@ -1,7 +1,7 @@
 use Rattle.std.proofs.Common.{rules, tests, ◌==◌, ◌∙◌, arith}
 use Rattle.bd_space.specs.declared.space.Turn.{Turn}
 use Rattle.bd_calls.specs.Handing.{hand_turn}
-use Rattle.bd_calls.proofs.Changed.{changed-then, changed-else}
+use Rattle.bd_space.proofs.Changed.{changed-then, changed-else}
 use Rattle.bd_calls.proofs.reading.hand_out.Goals as goal
 use Rattle.bd_calls.proofs.reading.hand_out.Goals.{then-turn-made, else-turn-made}
 

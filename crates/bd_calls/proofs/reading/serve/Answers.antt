@@ -3,7 +3,7 @@ use Rattle.std.specs.List.{list_any}
 use Rattle.bd_space.specs.declared.space.Frame.{Frame}
 use Rattle.bd_space.specs.Todo.{is_call}
 use Rattle.bd_space.specs.Reading as spec
-use Rattle.bd_calls.proofs.Changed.{changed-then, changed-else}
+use Rattle.bd_space.proofs.Changed.{changed-then, changed-else}
 use Rattle.bd_calls.proofs.reading.serve.Goals as goal
 use Rattle.bd_calls.proofs.reading.serve.Goals.{then-is_call_of, else-is_call_of}
 

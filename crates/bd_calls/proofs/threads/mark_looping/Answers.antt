@@ -1,6 +1,6 @@
 use Rattle.std.proofs.Common.{rules, tests, ◌==◌, ◌∙◌, arith}
 use Rattle.bd_space.specs.declared.space.Thread.{Thread}
-use Rattle.bd_calls.proofs.Changed.{changed-then, changed-else}
+use Rattle.bd_space.proofs.Changed.{changed-then, changed-else}
 use Rattle.bd_calls.proofs.threads.mark_looping.Goals as goal
 use Rattle.bd_calls.proofs.threads.mark_looping.Goals.{then-t-seat, else-t-seat}
 

@@ -1,7 +1,7 @@
 use Rattle.std.proofs.Common.{rules, tests, ◌∙◌, arith}
 use Rattle.bd_space.specs.declared.space.DeathNotification.{DeathNotification}
 use Rattle.bd_space.specs.Deaths.{is_notification}
-use Rattle.bd_objects.proofs.Changed.{changed-then, changed-else}
+use Rattle.bd_space.proofs.Changed.{changed-then, changed-else}
 use Rattle.bd_objects.proofs.deaths.set_phase.Goals as goal
 use Rattle.bd_objects.proofs.deaths.set_phase.Goals.{then-x-made, else-x-made}
 

@@ -3,7 +3,7 @@ use Rattle.std.specs.Prelude.{OnOk}
 use Rattle.std.specs.List.{position}
 use Rattle.bd_buffers.specs.declared.windows.OwnedWindow.{OwnedWindow}
 use Rattle.bd_buffers.specs.WindowsStand.{ProcessWindow, is_owned_by, is_of, buffer_room, CanAdd, CanTakeIn}
-use Rattle.bd_buffers.proofs.AllWindows.{is_at, room_left, room_of_none, none_at, stay, stay_seen, seen_as}
+use Rattle.bd_buffers.proofs.AllWindows.{is_at, room_left, room_of_none, none_at, stay, stay_seen}
 use Rattle.bd_buffers.proofs.windows.Windows.reserve_buffer.Goals as goal
 
 pub returns-in-None-clause-room : goal.returns-in-None-clause-room
@@ -14,25 +14,15 @@ returns-in-None-clause-room c =
 
 pub returns-in-Some-clause-stands : goal.returns-in-Some-clause-stands
 returns-in-Some-clause-stands c = λ s stands.
-    let t = c.args.self.now in
-    let p = c.args.p in
-    let w = c.index_mut.result.now in
-    let is = is_at t p c.in-Some.at w (sym (c.in-Some.ensures ∙ ap (position (is_owned_by p)) c.deref.ensures.value)) c.index_mut.ensures.value in
-    let x : OwnedWindow = record { owner = w.owner; window = c.reserve.new.self } in
-    let same = seen_as x w (λ bs. bs) refl (c.reserve.ensures.stands w.window.size w.window.buffers (record { size_is = refl; buffers_are = refl })) in
-    stay t _ s.steps s.processes s.buffers (stay_seen t p c.in-Some.at w x is same) stands
+    let found = sym (c.in-Some.ensures ∙ ap (position (is_owned_by c.args.p)) c.deref.ensures.value) in
+    stay c.args.self.now _ s.steps s.processes s.buffers (stay_seen c.args.self.now c.args.p c.in-Some.at c.index_mut.result.now c.reserve.new.self found c.index_mut.ensures.value c.reserve.ensures.stands) stands
 
 pub returns-in-Some-clause-can_add : goal.returns-in-Some-clause-can_add
 unfolding CanAdd
 returns-in-Some-clause-can_add c = λ q one_way size start can.
-    let t = c.args.self.now in
-    let p = c.args.p in
-    let w = c.index_mut.result.now in
-    let is = is_at t p c.in-Some.at w (sym (c.in-Some.ensures ∙ ap (position (is_owned_by p)) c.deref.ensures.value)) c.index_mut.ensures.value in
-    let x : OwnedWindow = record { owner = w.owner; window = c.reserve.new.self } in
-    let same = seen_as x w (λ bs. bs) refl (c.reserve.ensures.stands w.window.size w.window.buffers (record { size_is = refl; buffers_are = refl })) in
+    let found = sym (c.in-Some.ensures ∙ ap (position (is_owned_by c.args.p)) c.deref.ensures.value) in
     let P : List ProcessWindow → Type 0 = λ xs. CanTakeIn (find (is_of q) xs) one_way size start in
-    subst P (sym (stay_seen t p c.in-Some.at w x is same)) can
+    subst P (sym (stay_seen c.args.self.now c.args.p c.in-Some.at c.index_mut.result.now c.reserve.new.self found c.index_mut.ensures.value c.reserve.ensures.stands)) can
 
 pub returns-in-Some-clause-room : goal.returns-in-Some-clause-room
 unfolding buffer_room
