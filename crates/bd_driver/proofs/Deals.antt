@@ -1,6 +1,6 @@
 -- The opening, and the dealing of seats.
 use Rattle.std.specs.Prelude.{replicate}
-use Rattle.std.proofs.Common.{map, ◌≡◌, ◌≢◌, ◌⊎◌, ℕ, zero, suc, ◌+◌, ◌<◌, ◌≤◌, true, cond, eqb, List, [], ◌∷◌, ◌++◌, length, set, true≢false, refl, sym, ap, ◌∙◌, subst, inl, inr, ⊎_elim, arith, eq-eqb, ne_eqb}
+use Rattle.std.proofs.Common.{map, ◌≡◌, ◌≢◌, ◌⊎◌, ℕ, zero, suc, ◌+◌, ◌<◌, ◌≤◌, true, cond, eqb, List, [], ◌∷◌, ◌++◌, length, set, true≢false, refl, sym, ap, ◌∙◌, subst, inl, inr, ⊎_elim, arith, length-set, eq-eqb, ne_eqb}
 use mathlib.Core.Option.{Option, none, some, some-injective, some-ne-none}
 use lib.ListN.{get_elem?}
 use Rattle.atomic_table.specs.Seated.{TableId}
@@ -16,7 +16,8 @@ use Rattle.bd_driver.specs.Steps.{entered}
 use Rattle.bd_driver.specs.Together.{new_seats}
 use Rattle.bd_driver.specs.Mailboxes.{Mailbox, shut, picked, mark, inside_of, since_of}
 use Rattle.bd_driver.proofs.Picked.{is_picked}
-use Rattle.bd_driver.proofs.Takes.{each_map, rehold}
+use Rattle.bd_driver.proofs.Views.{each_map, each_both}
+use Rattle.bd_driver.proofs.Keeping.{reseat, recarry}
 
 pub new_idle : (seats who k : ℕ) → Each Idle (newcomers seats who k)
 new_idle seats who zero = tt
@@ -34,19 +35,10 @@ at_snoc_here [] a b (suc j) e = absurd (some-ne-none b (sym e))
 at_snoc_here (x ∷ xs) a b zero e = inl e
 at_snoc_here (x ∷ xs) a b (suc j) e = ⊎_elim (λ h. inl h) (λ (h : (j ≡ length xs) × (a ≡ b)). inr (ap suc h.0, h.1)) (at_snoc_here xs a b j e)
 
-length_set : {A : Type 0} (l : List A) (i : ℕ) (a : A) → length (set l i a) ≡ length l
-length_set [] i a = refl
-length_set (x ∷ xs) zero a = refl
-length_set (x ∷ xs) (suc i) a = ap suc (length_set xs i a)
-
 -- later newcomers have later numbers
 later : (P : View → Type 0) (seats who k : ℕ) → ((v : View) → who ≤ v.who → P v) → Each P (newcomers seats who k)
 later P seats who zero f = tt
 later P seats who (suc k) f = (f (fresh seats who) (omega arith), later P seats (who + 1) k (λ v h. f v (omega arith)))
-
-each_both : (P Q : View → Type 0) (vs : List View) → Each P vs → Each Q vs → Each (λ v. P v × Q v) vs
-each_both P Q [] h i = tt
-each_both P Q (v ∷ vs) h i = ((h.0, i.0), each_both P Q vs h.1 i.1)
 
 pub deals : (seats id who k : ℕ) → Splits (Kept seats) id (newcomers seats who (suc k)) (newcomers seats (who + 1) k) (fresh seats who ∷ [])
 deals seats id who k s h at =
@@ -59,32 +51,20 @@ deals seats id who k s h at =
     let mine = h.each id (newcomers seats who (suc k)) at in
     let head = mine.0 in
     let goes : (j : ℕ) (u : View) → u.who ≢ who → Fits seats h.entries h.carrier h.taken_by h.mailboxes j u → Fits seats h.entries carrier h.taken_by h.mailboxes j u =
-    λ j u apart f. rehold seats h.entries h.carrier carrier h.taken_by h.mailboxes j j u f (stays u.who apart ∙ f.held) f.takes in
-    record {
-      entries = h.entries;
-      carrier = carrier;
-      taken_by = h.taken_by;
-      words = h.words;
-      homes = h.homes;
-      mailboxes = h.mailboxes;
-      all_mailboxes = h.all_mailboxes;
-      early = h.early;
-      small = h.small;
-      has_taker = taker_stays h.taken_by h.has_taker;
-      each = λ j vs e. ⊎_elim
-          (λ (was : get_elem? (set s.views id left) j ≡ some vs). ⊎_elim
-          (λ (x : (j ≡ id) × (left ≡ vs)). subst (λ (y : ℕ × List View). Each (Fits seats h.entries carrier h.taken_by h.mailboxes y.0) y.1) (λ i. (sym x.0 i, x.1 i))
-          (each_map (λ u. (who + 1 ≤ u.who) × Fits seats h.entries h.carrier h.taken_by h.mailboxes id u) (Fits seats h.entries carrier h.taken_by h.mailboxes id) (λ u f. goes id u (λ same. absurd (omega (arith, f.0))) f.1) left
-          (each_both (λ u. who + 1 ≤ u.who) (Fits seats h.entries h.carrier h.taken_by h.mailboxes id) left (later (λ u. who + 1 ≤ u.who) seats (who + 1) k (λ v l. l)) mine.1)))
-          (λ (x : (j ≢ id) × (get_elem? s.views j ≡ some vs)).
-          each_map (Fits seats h.entries h.carrier h.taken_by h.mailboxes j) (Fits seats h.entries carrier h.taken_by h.mailboxes j) (λ u f. goes j u (λ same. x.0 (sym f.held ∙ (ap h.carrier same ∙ head.held))) f) vs (h.each j vs x.1))
-          (at_set s.views id j left vs was))
-          (λ (x : (j ≡ length (set s.views id left)) × (right ≡ vs)).
-          let here : n ≡ j = sym (length_set s.views id left) ∙ sym x.0 in
-          subst (λ (y : ℕ × List View). Each (Fits seats h.entries carrier h.taken_by h.mailboxes y.0) y.1) (λ i. (here i, x.1 i))
-          (rehold seats h.entries h.carrier carrier h.taken_by h.mailboxes id n (fresh seats who) head moved (λ on. absurd (true≢false (sym on))), tt))
-          (at_snoc_here (set s.views id left) right vs j e);
-    }
+    λ j u apart f. reseat seats h.entries h.carrier carrier h.taken_by h.taken_by h.mailboxes j j u f (stays u.who apart ∙ f.held) f.takes in
+    recarry seats s h carrier (set s.views id left ++ right ∷ []) (taker_stays h.taken_by h.has_taker) (λ j vs e. ⊎_elim
+    (λ (was : get_elem? (set s.views id left) j ≡ some vs). ⊎_elim
+    (λ (x : (j ≡ id) × (left ≡ vs)). subst (λ (y : ℕ × List View). Each (Fits seats h.entries carrier h.taken_by h.mailboxes y.0) y.1) (λ i. (sym x.0 i, x.1 i))
+    (each_map (λ u. (who + 1 ≤ u.who) × Fits seats h.entries h.carrier h.taken_by h.mailboxes id u) (Fits seats h.entries carrier h.taken_by h.mailboxes id) (λ u f. goes id u (λ same. absurd (omega (arith, f.0))) f.1) left
+    (each_both (λ u. who + 1 ≤ u.who) (Fits seats h.entries h.carrier h.taken_by h.mailboxes id) left (later (λ u. who + 1 ≤ u.who) seats (who + 1) k (λ v l. l)) mine.1)))
+    (λ (x : (j ≢ id) × (get_elem? s.views j ≡ some vs)).
+    each_map (Fits seats h.entries h.carrier h.taken_by h.mailboxes j) (Fits seats h.entries carrier h.taken_by h.mailboxes j) (λ u f. goes j u (λ same. x.0 (sym f.held ∙ (ap h.carrier same ∙ head.held))) f) vs (h.each j vs x.1))
+    (at_set s.views id j left vs was))
+    (λ (x : (j ≡ length (set s.views id left)) × (right ≡ vs)).
+    let here : n ≡ j = sym (length-set s.views id left) ∙ sym x.0 in
+    subst (λ (y : ℕ × List View). Each (Fits seats h.entries carrier h.taken_by h.mailboxes y.0) y.1) (λ i. (here i, x.1 i))
+    (reseat seats h.entries h.carrier carrier h.taken_by h.taken_by h.mailboxes id n (fresh seats who) head moved (λ on. absurd (true≢false (sym on))), tt))
+    (at_snoc_here (set s.views id left) right vs j e))
   where
     taker_stays : (taken_by : Option ℕ) → HasTaker s.views h.mailboxes taken_by → HasTaker (set s.views id (newcomers seats (who + 1) k) ++ (fresh seats who ∷ []) ∷ []) h.mailboxes taken_by
     taker_stays none t = t
@@ -171,19 +151,8 @@ opens seats word e stands page bits = record {
 pub enters : (seats slots : ℕ) (v : List View) → Enters (Kept seats) slots 0 (λ n w. entered (step slots 0 0 0 none) (v, []) n (w, []))
 enters seats slots v s h len small = (
   [],
-  record {
-    entries = h.entries;
-    carrier = h.carrier;
-    taken_by = h.taken_by;
-    words = h.words;
-    homes = h.homes;
-    mailboxes = h.mailboxes;
-    all_mailboxes = h.all_mailboxes;
-    early = h.early;
-    small = h.small;
-    has_taker = taker_stays h.taken_by h.has_taker;
-    each = λ j vs e. ⊎_elim (λ (was : get_elem? s.views j ≡ some vs). h.each j vs was) (λ (x : (j ≡ length s.views) × ([] ≡ vs)). subst (Each (Fits seats h.entries h.carrier h.taken_by h.mailboxes j)) x.1 tt) (at_snoc_here s.views [] vs j e);
-  },
+  recarry seats s h h.carrier (s.views ++ [] ∷ []) (taker_stays h.taken_by h.has_taker)
+      (λ j vs e. ⊎_elim (λ (was : get_elem? s.views j ≡ some vs). h.each j vs was) (λ (x : (j ≡ length s.views) × ([] ≡ vs)). subst (Each (Fits seats h.entries h.carrier h.taken_by h.mailboxes j)) x.1 tt) (at_snoc_here s.views [] vs j e)),
   refl,
 )
   where

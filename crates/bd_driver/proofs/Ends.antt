@@ -1,5 +1,5 @@
 -- The gathering of all seats, and what the last state says.
-use Rattle.std.proofs.Common.{arith, ◌+◌, inl, inr, map, ◌-◌, ◌≡◌, ◌≢◌, ℕ, zero, suc, cond, eqb, List, [], ◌∷◌, ◌++◌, set, true≢false, refl, sym, ap, ◌∙◌, subst, ⊎_elim, eq-eqb, ne_eqb}
+use Rattle.std.proofs.Common.{arith, ◌+◌, inl, inr, map, ◌-◌, ◌≡◌, ◌≢◌, ℕ, zero, suc, cond, eqb, List, [], ◌∷◌, ◌++◌, set, true≢false, refl, sym, ap, ◌∙◌, subst, ⊎_elim, append-nil, eq-eqb, ne_eqb}
 use mathlib.Core.Option.{Option, none, some, some-injective, some-ne-none}
 use lib.ListN.{get_elem?}
 use Rattle.atomic_table.specs.Table.{State, Joins, Final, Seen}
@@ -19,13 +19,9 @@ use Rattle.bd_driver.specs.States.{SeatState}
 use Rattle.bd_driver.specs.Together.{closed_hand, closed_view, views_of, AllSeats, OwnEntries, IsFinal}
 use Rattle.bd_driver.specs.declared.outcome.Outcome.TheVariants.{Done, Back, Handed}
 use Rattle.bd_driver.specs.Mailboxes.{Mailbox, shut, empty, posted, picked, answered, inside_of, pending, MailboxFits, RunAt}
-use Rattle.bd_driver.proofs.Mailboxes.{nil_right}
-use Rattle.bd_driver.proofs.Takes.{each_map, rehold}
+use Rattle.bd_driver.proofs.Views.{each_map, each_both, each_append}
+use Rattle.bd_driver.proofs.Keeping.{reseat, recarry}
 use Rattle.bd_driver.proofs.Deals.{not_taker}
-
-each_append : (P : View → Type 0) (vs ws : List View) → Each P vs → Each P ws → Each P (vs ++ ws)
-each_append P [] ws h i = i
-each_append P (v ∷ vs) ws h i = (h.0, each_append P vs ws h.1 i)
 
 pub gathers : (seats id other : ℕ) (vs ws : List View) → Each Idle vs → Each Idle ws → Joins (Kept seats) id vs other ws (ws ++ vs) []
 gathers seats id other vs ws idle idle' s h at apart at' =
@@ -34,36 +30,20 @@ gathers seats id other vs ws idle idle' s h at apart at' =
     let carrier : ℕ → ℕ = λ x. cond (eqb (h.carrier x) other) id (h.carrier x) in
     let stays : (x j : ℕ) → h.carrier x ≡ j → j ≢ other → carrier x ≡ j = λ x j is ne. ap (λ b. cond b id (h.carrier x)) (ne_eqb (h.carrier x) other (λ e. ne (sym is ∙ e))) ∙ is in
     let moves : (x : ℕ) → h.carrier x ≡ other → carrier x ≡ id = λ x is. ap (λ b. cond b id (h.carrier x)) (eq-eqb (h.carrier x) other is) in
-    record {
-      entries = h.entries;
-      carrier = carrier;
-      taken_by = h.taken_by;
-      words = h.words;
-      homes = h.homes;
-      mailboxes = h.mailboxes;
-      all_mailboxes = h.all_mailboxes;
-      early = h.early;
-      small = h.small;
-      has_taker = taker_stays h.taken_by there h.has_taker;
-      each = λ j us e. ⊎_elim
-          (λ (x : (j ≡ other) × ([] ≡ us)). subst (λ (y : ℕ × List View). Each (Fits seats h.entries carrier h.taken_by h.mailboxes y.0) y.1) (λ i. (sym x.0 i, x.1 i)) tt)
-          (λ (x : (j ≢ other) × (get_elem? (set s.views id both) j ≡ some us)). ⊎_elim
-          (λ (y : (j ≡ id) × (both ≡ us)). subst (λ (z : ℕ × List View). Each (Fits seats h.entries carrier h.taken_by h.mailboxes z.0) z.1) (λ i. (sym y.0 i, y.1 i))
-          (each_append (Fits seats h.entries carrier h.taken_by h.mailboxes id) ws vs
-          (each_map (λ u. Idle u × Fits seats h.entries h.carrier h.taken_by h.mailboxes other u) (Fits seats h.entries carrier h.taken_by h.mailboxes id)
-          (λ u f. rehold seats h.entries h.carrier carrier h.taken_by h.mailboxes other id u f.1 (moves u.who f.1.held) (λ on. absurd (true≢false (sym on ∙ f.0)))) ws (each_both ws idle' (h.each other ws there)))
-          (each_map (Fits seats h.entries h.carrier h.taken_by h.mailboxes id) (Fits seats h.entries carrier h.taken_by h.mailboxes id)
-          (λ u f. rehold seats h.entries h.carrier carrier h.taken_by h.mailboxes id id u f (stays u.who id f.held (λ e. apart (sym e))) f.takes) vs (h.each id vs at))))
-          (λ (y : (j ≢ id) × (get_elem? s.views j ≡ some us)).
-          each_map (Fits seats h.entries h.carrier h.taken_by h.mailboxes j) (Fits seats h.entries carrier h.taken_by h.mailboxes j) (λ u f. rehold seats h.entries h.carrier carrier h.taken_by h.mailboxes j j u f (stays u.who j f.held x.0) f.takes) us (h.each j us y.1))
-          (at_set s.views id j both us x.1))
-          (at_set (set s.views id both) other j [] us e);
-    }
+    recarry seats s h carrier (set (set s.views id both) other []) (taker_stays h.taken_by there h.has_taker) (λ j us e. ⊎_elim
+    (λ (x : (j ≡ other) × ([] ≡ us)). subst (λ (y : ℕ × List View). Each (Fits seats h.entries carrier h.taken_by h.mailboxes y.0) y.1) (λ i. (sym x.0 i, x.1 i)) tt)
+    (λ (x : (j ≢ other) × (get_elem? (set s.views id both) j ≡ some us)). ⊎_elim
+    (λ (y : (j ≡ id) × (both ≡ us)). subst (λ (z : ℕ × List View). Each (Fits seats h.entries carrier h.taken_by h.mailboxes z.0) z.1) (λ i. (sym y.0 i, y.1 i))
+    (each_append (Fits seats h.entries carrier h.taken_by h.mailboxes id) ws vs
+    (each_map (λ u. Idle u × Fits seats h.entries h.carrier h.taken_by h.mailboxes other u) (Fits seats h.entries carrier h.taken_by h.mailboxes id)
+    (λ u f. reseat seats h.entries h.carrier carrier h.taken_by h.taken_by h.mailboxes other id u f.1 (moves u.who f.1.held) (λ on. absurd (true≢false (sym on ∙ f.0)))) ws (each_both Idle (Fits seats h.entries h.carrier h.taken_by h.mailboxes other) ws idle' (h.each other ws there)))
+    (each_map (Fits seats h.entries h.carrier h.taken_by h.mailboxes id) (Fits seats h.entries carrier h.taken_by h.mailboxes id)
+    (λ u f. reseat seats h.entries h.carrier carrier h.taken_by h.taken_by h.mailboxes id id u f (stays u.who id f.held (λ e. apart (sym e))) f.takes) vs (h.each id vs at))))
+    (λ (y : (j ≢ id) × (get_elem? s.views j ≡ some us)).
+    each_map (Fits seats h.entries h.carrier h.taken_by h.mailboxes j) (Fits seats h.entries carrier h.taken_by h.mailboxes j) (λ u f. reseat seats h.entries h.carrier carrier h.taken_by h.taken_by h.mailboxes j j u f (stays u.who j f.held x.0) f.takes) us (h.each j us y.1))
+    (at_set s.views id j both us x.1))
+    (at_set (set s.views id both) other j [] us e))
   where
-    each_both : (us : List View) → Each Idle us → Each (Fits seats h.entries h.carrier h.taken_by h.mailboxes other) us → Each (λ u. Idle u × Fits seats h.entries h.carrier h.taken_by h.mailboxes other u) us
-    each_both [] a b = tt
-    each_both (u ∷ us) a b = ((a.0, b.0), each_both us a.1 b.1)
-
     taker_stays : (taken_by : Option ℕ) → get_elem? s.views other ≡ some ws → HasTaker s.views h.mailboxes taken_by → HasTaker (set (set s.views id (ws ++ vs)) other []) h.mailboxes taken_by
     taker_stays none there t = t
     taker_stays (some j) there t =
@@ -101,15 +81,15 @@ entries_are seats entries carrier taken_by mailboxes id v f = go f.mailbox f.fit
     here r n answer start end h = subst (λ z. RunAt z entries v.who r n answer start end) (sym f.seats_are) h
 
     go : (b : Mailbox) → MailboxFits seats entries v.who v.handover b → v.own ++ pending b ≡ places_of v.who entries → OwnEntries entries v
-    go shut x o = inl (sym o ∙ nil_right v.own)
-    go empty x o = inl (sym o ∙ nil_right v.own)
-    go (posted r n) x o = inl (sym o ∙ nil_right v.own)
+    go shut x o = inl (sym o ∙ append-nil v.own)
+    go empty x o = inl (sym o ∙ append-nil v.own)
+    go (posted r n) x o = inl (sym o ∙ append-nil v.own)
     go (picked r n start count) x o = ⊎_elim
-        (λ (e : count ≡ 0). inl (sym o ∙ (ap (λ c. v.own ++ places start c) e ∙ nil_right v.own)))
+        (λ (e : count ≡ 0). inl (sym o ∙ (ap (λ c. v.own ++ places start c) e ∙ append-nil v.own)))
         (λ (y : (answer : Answer) × RunAt seats entries v.who r n answer start (start + count)). inr (r, n, y.0, start, start + count, x.0, here r n y.0 start (start + count) y.1, sym o ∙ ap (λ c. v.own ++ places start c) (omega arith)))
         x.2
     go (answered r n (Done answer start end)) x o = inr (r, n, answer, start, end, x.0, here r n answer start end x.1, sym o)
-    go (answered r n (Back back why)) x o = inl (sym o ∙ nil_right v.own)
+    go (answered r n (Back back why)) x o = inl (sym o ∙ append-nil v.own)
     go (answered r n Handed) x o = absurd x.1
 
 -- closing the mailbox says nothing else of the entries

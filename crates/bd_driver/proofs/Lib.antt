@@ -3,6 +3,7 @@ pub mod Places
 pub mod Views
 pub mod Picked
 pub mod Mailboxes
+pub mod Keeping
 pub mod Looks
 pub mod Takes
 pub mod MailboxSteps

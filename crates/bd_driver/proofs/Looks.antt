@@ -1,5 +1,5 @@
 -- A look keeps the rule.
-use Rattle.std.proofs.Common.{◌≡◌, ℕ, ◌/◌, ◌%◌, ◌<◌, List, [], ◌∷◌, length, set, get_or, refl, ap, sym, ◌∙◌, subst, arith}
+use Rattle.std.proofs.Common.{◌≡◌, ℕ, ◌/◌, ◌%◌, ◌<◌, List, [], ◌∷◌, length, get_or, refl, ap, sym, ◌∙◌, subst, arith}
 use mathlib.Core.Option.{Option, none, some}
 use lib.ListN.{get_elem?}
 use Rattle.atomic_table.specs.Table.{State, step, keeps, Allows}
@@ -10,18 +10,21 @@ use Rattle.bd_driver.specs.declared.view.View.{View}
 use Rattle.bd_driver.specs.declared.slot.Slot.{Slot}
 use Rattle.bd_driver.specs.Steps.{Hands, looked, looked_at}
 use Rattle.bd_driver.proofs.Words.{page_parts}
-use Rattle.bd_driver.proofs.Views.{each_set, keeps_taker, starts_all}
+use Rattle.bd_driver.proofs.Keeping.{review, repage}
+use Rattle.bd_driver.proofs.Views.{keeps_taker, starts_all}
 
 pub bit_small : (taken_by : Option ℕ) → bit_of taken_by < 2
 bit_small none = omega arith
 bit_small (some t) = omega arith
 
 -- the word that a step finds is the page of the published history
+pub found_word : (seats : ℕ) (s : State Slot (List View)) (k : Kept seats s) → get_or s.words 0 0 ≡ page_word seats (bit_of k.taken_by) k.entries
+found_word seats s k = ap (λ ws. get_or ws 0 0) k.words
+
 pub found_page : (seats : ℕ) (s : State Slot (List View)) (k : Kept seats s) → IsPage seats (get_or s.words 0 0) k.entries
 found_page seats s k =
-    let is : get_or s.words 0 0 ≡ page_word seats (bit_of k.taken_by) k.entries = ap (λ ws. get_or ws 0 0) k.words in
     let parts = page_parts (bit_of k.taken_by) (ready_of seats k.entries) (length k.entries) (bit_small k.taken_by) k.small.1 in
-    (ap (λ (n : ℕ). n / 4294967296) is ∙ parts.0, ap (λ (n : ℕ). n / 2 % 2147483648) is ∙ parts.1)
+    (ap (λ (n : ℕ). n / 4294967296) (found_word seats s k) ∙ parts.0, ap (λ (n : ℕ). n / 2 % 2147483648) (found_word seats s k) ∙ parts.1)
 
 -- what the rule says of the one view of a seat
 pub of_one : (seats : ℕ) (s : State Slot (List View)) (k : Kept seats s) (id : ℕ) (vs : List View) → get_elem? s.views id ≡ some vs → vs ≡ view_of vs ∷ [] → Fits seats k.entries k.carrier k.taken_by k.mailboxes id (view_of vs)
@@ -36,33 +39,9 @@ looks seats slots id me one s k len at small =
       w ∷ [],
       keeps,
       tt,
-      record {
-        entries = k.entries;
-        carrier = k.carrier;
-        taken_by = k.taken_by;
-        words = ap (λ ws. set ws 0 (get_or ws 0 0)) k.words;
-        homes = k.homes;
-        mailboxes = k.mailboxes;
-        all_mailboxes = k.all_mailboxes;
-        early = k.early;
-        small = k.small;
-        has_taker = keeps_taker s.views id v w k.mailboxes k.mailboxes k.taken_by (at ∙ ap some one) (λ t. t) refl (λ p h. h) k.has_taker;
-        each = each_set (Fits seats k.entries k.carrier k.taken_by k.mailboxes) s.views id (w ∷ []) (λ j vs _ e. k.each j vs e) (
-          record {
-            seats_are = mine.seats_are;
-            below = mine.below;
-            held = mine.held;
-            begins = starts_all k.entries;
-            mailbox = mine.mailbox;
-            has_mailbox = mine.has_mailbox;
-            fits_mailbox = mine.fits_mailbox;
-            own = mine.own;
-            takes = λ t. ((mine.takes t).0, refl);
-            picks = mine.picks;
-            idle = mine.idle;
-          },
-          tt,
-        );
-      },
+      repage seats s k id me w n keeps k.taken_by (found_word seats s k) k.homes
+          (keeps_taker s.views id v w k.mailboxes k.mailboxes k.taken_by (at ∙ ap some one) (λ t. t) refl (λ p h. h) k.has_taker)
+          (review seats k.entries k.carrier k.carrier k.taken_by k.taken_by k.mailboxes id id v w mine (refl, refl, refl, refl) mine.held (starts_all k.entries) (λ t. ((mine.takes t).0, refl)) mine.picks mine.idle)
+          (λ j u _ f. f),
       (k.entries, mine.begins, subst (λ z. IsPage z n k.entries) (sym mine.seats_are) (found_page seats s k), refl),
     )

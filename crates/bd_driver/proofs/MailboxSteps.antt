@@ -1,13 +1,12 @@
 -- The steps on mailboxes keep the rule.
-use Rattle.std.proofs.Common.{◌≡◌, ◌≢◌, ◌⊎◌, ℕ, zero, suc, ◌+◌, ◌-◌, ◌<◌, ◌≤◌, Bool, true, false, eqb, List, [], ◌∷◌, ◌++◌, map, length, set, get_or, true≢false, refl, sym, ap, ◌∙◌, subst, inl, inr, ⊎_elim, arith, length-append, ne_eqb}
-use Rattle.std.proofs.lemmas.List.{map-set}
+use Rattle.std.proofs.Common.{◌≡◌, ◌≢◌, ◌⊎◌, ℕ, zero, suc, ◌+◌, ◌-◌, ◌<◌, ◌≤◌, Bool, true, false, eqb, List, [], ◌∷◌, ◌++◌, map, length, set, get_or, true≢false, refl, sym, ap, ◌∙◌, subst, inl, inr, ⊎_elim, arith, length-append, length-set, append-nil, ne_eqb}
+use Rattle.std.proofs.lemmas.List.{map-set, set-get_or}
 use mathlib.Core.Option.{none, some, some-injective, some-ne-none}
 use mathlib.Core.Logic.{dite}
 use native.Mathlib.Decide.{ℕ_discrete}
 use prog.Atomic.{either}
 use lib.ListN.{get_elem?}
-use Rattle.std.specs.Prelude.{slice_index}
-use Rattle.atomic_table.specs.Table.{State, Act, step, keeps, takes, gives, rest, put_back, homes_after, carried_after, Valid, stepped, Allows}
+use Rattle.atomic_table.specs.Table.{State, Act, step, keeps, takes, gives, rest, put_back, homes_after, stepped, Allows}
 use Rattle.atomic_table.proofs.Lists.{at_set, at_map, set_here, set_else, set_again}
 use Rattle.bd_space.specs.declared.step.Entry.{Entry}
 use Rattle.bd_space.specs.declared.step.Request.{Request}
@@ -27,17 +26,20 @@ use Rattle.bd_driver.specs.declared.slot.Slot.TheVariants.{Posted, Answered, Emp
 use Rattle.bd_driver.specs.Mailboxes.{Mailbox, shut, empty, posted, picked, answered, mark, inside_of, answer_places, pending, since_of, RunAt, IsTold, MailboxFits, PickFits, PickedAs}
 use Rattle.bd_driver.specs.Steps.{Hands, entries_in, posted_at, posted_as, withdrawn_at, kept_at, withdrew, picked_at, tried_at, picked_as, with_places, served_at, served, outcome_in, answered_at, answered_as, collected_at, missed_at, collected_as, opened, closed}
 use Rattle.bd_driver.proofs.Places.{own_grow, others_stay}
-use Rattle.bd_driver.proofs.Views.{inside, each_set, keeps_taker, taker_has, starts_all, starts_longer}
+use Rattle.bd_driver.proofs.Views.{inside, keeps_taker, taker_has, starts_all, starts_longer}
 use Rattle.bd_driver.proofs.Picked.{is_picked, none_else, one_else, picked_else, picked_gone, picked_set}
-use Rattle.bd_driver.proofs.Mailboxes.{nil_right, longer, fits_longer, open_mailbox}
+use Rattle.bd_driver.proofs.Mailboxes.{longer, fits_longer, open_mailbox}
 use Rattle.bd_driver.proofs.Looks.{of_one}
-use Rattle.bd_driver.proofs.Takes.{each_map}
+use Rattle.bd_driver.proofs.Keeping.{Granted, review, restate}
 
 -- what is picked stays so where another mailbox changes
 pick_else : (mailboxes : List Mailbox) (i : ℕ) (b new : Mailbox) (p : Pick) → get_elem? mailboxes i ≡ some b → is_picked b ≡ false → PickFits mailboxes p → PickFits (set mailboxes i new) p
 pick_else mailboxes i b new Nothing at off h = tt
 pick_else mailboxes i b new (Picked j r since start count) at off h =
     set_else mailboxes i j new (λ (e : j ≡ i). let same : b ≡ picked r since start count = some-injective _ _ (sym at ∙ (ap (get_elem? mailboxes) (sym e) ∙ h)) in true≢false (sym (ap is_picked same) ∙ off)) ∙ h
+
+still_early : (mailboxes : List Mailbox) (m : ℕ) → ((j : ℕ) (b : Mailbox) → get_elem? mailboxes j ≡ some b → since_of b ≤ m) → (i : ℕ) (new : Mailbox) → since_of new ≤ m → (j : ℕ) (b : Mailbox) → get_elem? (set mailboxes i new) j ≡ some b → since_of b ≤ m
+still_early mailboxes m h i new late j b e = ⊎_elim (λ (y : (j ≡ i) × (new ≡ b)). subst (λ c. since_of c ≤ m) y.1 late) (λ (y : (j ≢ i) × (get_elem? mailboxes j ≡ some b)). h j b y.1) (at_set mailboxes i j new b e)
 
 bool_cases : (b : Bool) → (b ≡ true) ⊎ (b ≡ false)
 bool_cases true = inl refl
@@ -91,47 +93,17 @@ module _ (seats : ℕ) (s : State Slot (List View)) (k : Kept seats s) where
         → HasTaker (set s.views id (w ∷ [])) (set k.mailboxes i new) k.taken_by → Fits seats k.entries k.carrier k.taken_by (set k.mailboxes i new) id w
         → ((j : ℕ) (u : View) → j ≢ id → Fits seats k.entries k.carrier k.taken_by k.mailboxes j u → Fits seats k.entries k.carrier k.taken_by (set k.mailboxes i new) j u)
         → Kept seats (stepped s (suc i) n id me.1 (w ∷ []) a)
-    remailbox w i new n a late word home has now others = record {
-      entries = k.entries;
-      carrier = k.carrier;
-      taken_by = k.taken_by;
-      mailboxes = set k.mailboxes i new;
-      words = ap (λ ws. set ws (suc i) n) k.words ∙ ap (λ l. page_word seats (bit_of k.taken_by) k.entries ∷ l) (ap (set (map mark k.mailboxes) i) word ∙ sym (map-set mark k.mailboxes i new));
-      homes = home ∙ (ap (λ hs. set hs (suc i) (inside_of new)) k.homes ∙ ap (λ l. home_of seats k.entries k.taken_by ∷ l) (sym (map-set inside_of k.mailboxes i new)));
-      small = k.small;
-      all_mailboxes = length_set k.mailboxes i new ∙ k.all_mailboxes;
-      early = λ j b e. ⊎_elim (λ (y : (j ≡ i) × (new ≡ b)). subst (λ c. since_of c ≤ length k.entries) y.1 late) (λ (y : (j ≢ i) × (get_elem? k.mailboxes j ≡ some b)). k.early j b y.1) (at_set k.mailboxes i j new b e);
-      has_taker = has;
-      each = each_set (Fits seats k.entries k.carrier k.taken_by (set k.mailboxes i new)) s.views id (w ∷ [])
-          (λ j vs apart e. each_map (Fits seats k.entries k.carrier k.taken_by k.mailboxes j) (Fits seats k.entries k.carrier k.taken_by (set k.mailboxes i new) j) (λ u f. others j u apart f) vs (k.each j vs e)) (now, tt);
-    }
-      where
-        length_set : {A : Type 0} (l : List A) (i : ℕ) (a : A) → length (set l i a) ≡ length l
-        length_set [] i a = refl
-        length_set (x ∷ xs) zero a = refl
-        length_set (x ∷ xs) (suc i) a = ap suc (length_set xs i a)
+    remailbox w i new n a late word home has now others =
+        restate seats s k id me w (suc i) n a k.entries k.taken_by (set k.mailboxes i new) (ap (λ ws. set ws (suc i) n) k.words ∙ ap (λ l. page_word seats (bit_of k.taken_by) k.entries ∷ l) (ap (set (map mark k.mailboxes) i) word ∙ sym (map-set mark k.mailboxes i new)))
+        (home ∙ (ap (λ hs. set hs (suc i) (inside_of new)) k.homes ∙ ap (λ l. home_of seats k.entries k.taken_by ∷ l) (sym (map-set inside_of k.mailboxes i new)))) k.small (length-set k.mailboxes i new ∙ k.all_mailboxes)
+        (still_early k.mailboxes (length k.entries) k.early i new late) has now others
 
     -- a step that finds a mailbox and changes nothing but the seat's view
     unmoved : (w : View) (i : ℕ) (b : Mailbox) → get_elem? k.mailboxes i ≡ some b → (v.taker ≡ true → w.taker ≡ true) → w.pick ≡ v.pick → Fits seats k.entries k.carrier k.taken_by k.mailboxes id w
         → Kept seats (stepped s (suc i) (get_or s.words (suc i) 0) id me.1 (w ∷ []) keeps)
-    unmoved w i b is stays pick_is now = record {
-      entries = k.entries;
-      carrier = k.carrier;
-      taken_by = k.taken_by;
-      mailboxes = k.mailboxes;
-      words = ap (λ ws. set ws (suc i) (get_or ws (suc i) 0)) k.words ∙ ap (λ l. page_word seats (bit_of k.taken_by) k.entries ∷ l) (set_self (map mark k.mailboxes) i 0);
-      homes = k.homes;
-      small = k.small;
-      all_mailboxes = k.all_mailboxes;
-      early = k.early;
-      has_taker = keeps_taker s.views id v w k.mailboxes k.mailboxes k.taken_by (at ∙ ap some one) stays pick_is (λ p h. h) k.has_taker;
-      each = each_set (Fits seats k.entries k.carrier k.taken_by k.mailboxes) s.views id (w ∷ []) (λ j vs _ e. k.each j vs e) (now, tt);
-    }
-      where
-        set_self : (l : List ℕ) (i d : ℕ) → set l i (get_or l i d) ≡ l
-        set_self [] i d = refl
-        set_self (x ∷ xs) zero d = refl
-        set_self (x ∷ xs) (suc i) d = ap (λ t. x ∷ t) (set_self xs i d)
+    unmoved w i b is stays pick_is now =
+        restate seats s k id me w (suc i) (get_or s.words (suc i) 0) keeps k.entries k.taken_by k.mailboxes (ap (λ ws. set ws (suc i) (get_or ws (suc i) 0)) k.words ∙ ap (λ l. page_word seats (bit_of k.taken_by) k.entries ∷ l) (set-get_or (map mark k.mailboxes) i 0)) k.homes k.small k.all_mailboxes k.early
+        (keeps_taker s.views id v w k.mailboxes k.mailboxes k.taken_by (at ∙ ap some one) stays pick_is (λ p h. h) k.has_taker) now (λ j u _ f. f)
 
     -- the taker is as it was where a mailbox changes to one that isn't picked
     own_taker : (w : View) (i : ℕ) (new : Mailbox) → (v.taker ≡ true → w.taker ≡ true) → w.pick ≡ v.pick → is_picked new ≡ false → HasTaker (set s.views id (w ∷ [])) (set k.mailboxes i new) k.taken_by
@@ -173,19 +145,8 @@ module _ (seats : ℕ) (s : State Slot (List View)) (k : Kept seats s) where
 
     -- another view of a seat in whose view nothing changes that the rule speaks of
     same_fits : (w : View) → w.seats ≡ v.seats → w.who ≡ v.who → w.seen ≡ v.seen → w.handover ≡ v.handover → w.own ≡ v.own → w.taker ≡ v.taker → w.pick ≡ v.pick → Fits seats k.entries k.carrier k.taken_by k.mailboxes id w
-    same_fits w a b c d e f g = record {
-      seats_are = a ∙ mine.seats_are;
-      below = subst (λ z. z < seats) (sym b) mine.below;
-      held = ap k.carrier b ∙ mine.held;
-      begins = subst (StartsWith k.entries) (sym c) mine.begins;
-      mailbox = mine.mailbox;
-      has_mailbox = ap (get_elem? k.mailboxes) b ∙ mine.has_mailbox;
-      fits_mailbox = subst (λ (z : ℕ × Handover). MailboxFits seats k.entries z.0 z.1 mine.mailbox) (λ i. (sym b i, sym d i)) mine.fits_mailbox;
-      own = ap (λ l. l ++ pending mine.mailbox) e ∙ (mine.own ∙ ap (λ z. places_of z k.entries) (sym b));
-      takes = λ t. ((mine.takes (sym f ∙ t)).0, c ∙ (mine.takes (sym f ∙ t)).1);
-      picks = subst (PickFits k.mailboxes) (sym g) mine.picks;
-      idle = λ t. g ∙ mine.idle (sym f ∙ t);
-    }
+    same_fits w a b c d e f g =
+        review seats k.entries k.carrier k.carrier k.taken_by k.taken_by k.mailboxes id id v w mine (a, b, d, e) mine.held (subst (StartsWith k.entries) (sym c) mine.begins) (λ t. ((mine.takes (sym f ∙ t)).0, c ∙ (mine.takes (sym f ∙ t)).1)) (subst (PickFits k.mailboxes) (sym g) mine.picks) (λ t. g ∙ mine.idle (sym f ∙ t))
 
 seen_short : (entries seen : List Entry) → StartsWith entries seen → length seen ≤ length entries
 seen_short entries seen h = let a = ap (length {A = Entry}) h.1 in let b = length-append seen h.0 in omega arith
@@ -193,10 +154,6 @@ seen_short entries seen h = let a = ap (length {A = Entry}) h.1 in let b = lengt
 module _ (seats slots id : ℕ) (me : Hands) (one : me.0 ≡ view_of me.0 ∷ []) where
   abbrev x : View
   x = view_of me.0
-
-  abbrev Granted : State Slot (List View) → ℕ → (ℕ → ℕ) → (ℕ → Hands → Type 0) → Type 0
-  Granted s word f then =
-      (w : List View) × (a : Act Slot) × Valid s.homes me.1 a × Kept seats (stepped s word (f (slice_index s.words word)) id me.1 w a) × then (slice_index s.words word) (w, carried_after me.1 a)
 
   pub posts : (r : Request) → x.handover ≡ Open → me.1 ≡ (suc x.who, Posted r) ∷ rest me.1 → Allows (Kept seats) slots id me (suc x.who) (λ _. 1) (posted_as (step slots (suc x.who) 1 0 none) me)
   posts r free held s k len at small =
@@ -215,9 +172,23 @@ module _ (seats slots id : ℕ) (me : Hands) (one : me.0 ≡ view_of me.0 ∷ []
         (r, held, refl),
       )
 
+  -- a compare and exchange that finds another word than it looks for, and so changes nothing but the seat's view
+  missed : (s : State Slot (List View)) (k : Kept seats s) → get_elem? s.views id ≡ some me.0 → (i old new : ℕ) (b : Mailbox) (w : View) → get_elem? k.mailboxes i ≡ some b → get_or s.words (suc i) 0 ≢ old → w.pick ≡ x.pick → (x.taker ≡ true → w.taker ≡ true)
+      → Fits seats k.entries k.carrier k.taken_by k.mailboxes id w → Kept seats (stepped s (suc i) (either (eqb (get_or s.words (suc i) 0) old) new (get_or s.words (suc i) 0)) id me.1 (w ∷ []) keeps)
+  missed s k at i old new b w there ne pick stays fits =
+      subst (λ hit. Kept seats (stepped s (suc i) (either hit new (get_or s.words (suc i) 0)) id me.1 (w ∷ []) keeps)) (sym (ne_eqb (get_or s.words (suc i) 0) old ne)) (unmoved seats s k id me at one w i b there stays pick fits)
+
+  withdraw_miss : (s : State Slot (List View)) (k : Kept seats s) (at : get_elem? s.views id ≡ some me.0) (b : Mailbox) → (mine seats s k id me at one).mailbox ≡ b → mark b ≢ 1 → Granted seats id me s (suc x.who) (λ n. either (eqb n 1) 0 n) (withdrew (step slots (suc x.who) 1 0 none) me)
+  withdraw_miss s k at b is low =
+      let there = (mine seats s k id me at one).has_mailbox ∙ ap some is in
+      let n : ℕ = get_or s.words (suc x.who) 0 in
+      let ne : n ≢ 1 = λ e. low (sym (found_mark seats s k id me at one x.who b there) ∙ e) in
+      let w = kept_at x n in
+      (w ∷ [], keeps, tt, missed s k at x.who 1 0 b w there ne refl (λ t. t) (same_fits seats s k id me at one w refl refl refl refl refl refl refl), ((λ e. absurd (ne e)), (λ _. refl)))
+
   -- a withdrawal, by the state of the mailbox
   withdraw_case : (s : State Slot (List View)) (k : Kept seats s) (at : get_elem? s.views id ≡ some me.0) (r : Request) (since : ℕ) → x.handover ≡ Waiting r since → (b : Mailbox) → (mine seats s k id me at one).mailbox ≡ b
-      → MailboxFits seats k.entries x.who x.handover b → Granted s (suc x.who) (λ n. either (eqb n 1) 0 n) (withdrew (step slots (suc x.who) 1 0 none) me)
+      → MailboxFits seats k.entries x.who x.handover b → Granted seats id me s (suc x.who) (λ n. either (eqb n 1) 0 n) (withdrew (step slots (suc x.who) 1 0 none) me)
   withdraw_case s k at r since waits shut is fits_mailbox = absurd (cc)
   withdraw_case s k at r since waits empty is fits_mailbox = absurd (cc)
   withdraw_case s k at r since waits (posted q n) is fits_mailbox =
@@ -233,34 +204,10 @@ module _ (seats slots id : ℕ) (me : Hands) (one : me.0 ≡ view_of me.0 ∷ []
         subst (λ (m : ℕ). Kept seats (stepped s (suc x.who) m id me.1 (w ∷ []) (takes (suc x.who) (Posted q)))) (sym (ap (λ (z : ℕ). either (eqb z 1) 0 z) found))
             (remailbox seats s k id me at one w x.who empty 0 (takes (suc x.who) (Posted q)) (omega arith) refl refl (own_taker seats s k id me at one w x.who empty (λ t. t) refl refl)
             (own_fits seats s k id me at one w empty refl refl f.begins refl own f.takes refl refl off) (own_others seats s k id me at one empty off)),
-        ((λ _. (q, n, fits_mailbox.0, (k.entries, f.begins, sym own ∙ nil_right x.own), refl)), (λ ne. absurd (ne found))),
+        ((λ _. (q, n, fits_mailbox.0, (k.entries, f.begins, sym own ∙ append-nil x.own), refl)), (λ ne. absurd (ne found))),
       )
-  withdraw_case s k at r since waits (picked q n start count) is fits_mailbox =
-      let f = mine seats s k id me at one in
-      let there = f.has_mailbox ∙ ap some is in
-      let found : get_or s.words (suc x.who) 0 ≡ 2 = found_mark seats s k id me at one x.who (picked q n start count) there in
-      let w = kept_at x (get_or s.words (suc x.who) 0) in
-      let ne : get_or s.words (suc x.who) 0 ≢ 1 = λ e. absurd (omega arith) in (
-        w ∷ [],
-        keeps,
-        tt,
-        subst (λ b. Kept seats (stepped s (suc x.who) (either b 0 (get_or s.words (suc x.who) 0)) id me.1 (w ∷ []) keeps)) (sym (ne_eqb (get_or s.words (suc x.who) 0) 1 ne))
-            (unmoved seats s k id me at one w x.who (picked q n start count) there (λ t. t) refl (same_fits seats s k id me at one w refl refl refl refl refl refl refl)),
-        ((λ e. absurd (ne e)), (λ _. refl)),
-      )
-  withdraw_case s k at r since waits (answered q n o) is fits_mailbox =
-      let f = mine seats s k id me at one in
-      let there = f.has_mailbox ∙ ap some is in
-      let found : get_or s.words (suc x.who) 0 ≡ 3 = found_mark seats s k id me at one x.who (answered q n o) there in
-      let w = kept_at x (get_or s.words (suc x.who) 0) in
-      let ne : get_or s.words (suc x.who) 0 ≢ 1 = λ e. absurd (omega arith) in (
-        w ∷ [],
-        keeps,
-        tt,
-        subst (λ b. Kept seats (stepped s (suc x.who) (either b 0 (get_or s.words (suc x.who) 0)) id me.1 (w ∷ []) keeps)) (sym (ne_eqb (get_or s.words (suc x.who) 0) 1 ne))
-            (unmoved seats s k id me at one w x.who (answered q n o) there (λ t. t) refl (same_fits seats s k id me at one w refl refl refl refl refl refl refl)),
-        ((λ e. absurd (ne e)), (λ _. refl)),
-      )
+  withdraw_case s k at r since waits (picked q n start count) is fits_mailbox = withdraw_miss s k at (picked q n start count) is (λ e. absurd (omega arith))
+  withdraw_case s k at r since waits (answered q n o) is fits_mailbox = withdraw_miss s k at (answered q n o) is (λ e. absurd (omega arith))
 
   pub withdraws : (r : Request) (since : ℕ) → x.handover ≡ Waiting r since → Allows (Kept seats) slots id me (suc x.who) (λ n. either (eqb n 1) 0 n) (withdrew (step slots (suc x.who) 1 0 none) me)
   withdraws r since waits s k len at small = let f = mine seats s k id me at one in withdraw_case s k at r since waits f.mailbox refl f.fits_mailbox
@@ -269,7 +216,7 @@ module _ (seats slots id : ℕ) (me : Hands) (one : me.0 ≡ view_of me.0 ∷ []
   pub opens_mailbox : x.handover ≡ Shut → Allows (Kept seats) slots id me (suc x.who) (λ n. n) (opened (step slots (suc x.who) 0 0 none) me)
   opens_mailbox handover s k len at small = go (mine seats s k id me at one).mailbox refl (mine seats s k id me at one).fits_mailbox
     where
-      go : (b : Mailbox) → (mine seats s k id me at one).mailbox ≡ b → MailboxFits seats k.entries x.who x.handover b → Granted s (suc x.who) (λ n. n) (opened (step slots (suc x.who) 0 0 none) me)
+      go : (b : Mailbox) → (mine seats s k id me at one).mailbox ≡ b → MailboxFits seats k.entries x.who x.handover b → Granted seats id me s (suc x.who) (λ n. n) (opened (step slots (suc x.who) 0 0 none) me)
       go shut is fits_mailbox =
           let f = mine seats s k id me at one in
           let there : get_elem? k.mailboxes x.who ≡ some shut = f.has_mailbox ∙ ap some is in
@@ -308,22 +255,16 @@ module _ (seats slots id : ℕ) (me : Hands) (one : me.0 ≡ view_of me.0 ∷ []
   pub collects : (r : Request) (since : ℕ) → x.handover ≡ Waiting r since → x.taker ≡ false → Allows (Kept seats) slots id me (suc x.who) (λ n. either (eqb n 3) 0 n) (collected_as (step slots (suc x.who) 3 0 none) me)
   collects r since waits idle s k len at small = go (mine seats s k id me at one).mailbox refl (mine seats s k id me at one).fits_mailbox
     where
-      miss : (b : Mailbox) → (mine seats s k id me at one).mailbox ≡ b → mark b ≢ 3 → Granted s (suc x.who) (λ n. either (eqb n 3) 0 n) (collected_as (step slots (suc x.who) 3 0 none) me)
+      miss : (b : Mailbox) → (mine seats s k id me at one).mailbox ≡ b → mark b ≢ 3 → Granted seats id me s (suc x.who) (λ n. either (eqb n 3) 0 n) (collected_as (step slots (suc x.who) 3 0 none) me)
       miss b is low =
           let f = mine seats s k id me at one in
           let there = f.has_mailbox ∙ ap some is in
           let n : ℕ = get_or s.words (suc x.who) 0 in
           let ne : n ≢ 3 = λ e. low (sym (found_mark seats s k id me at one x.who b there) ∙ e) in
-          let w = missed_at x n in (
-            w ∷ [],
-            keeps,
-            tt,
-            subst (λ b. Kept seats (stepped s (suc x.who) (either b 0 n) id me.1 (w ∷ []) keeps)) (sym (ne_eqb n 3 ne))
-                (unmoved seats s k id me at one w x.who b there (λ t. t) refl (same_fits seats s k id me at one w refl refl refl refl refl refl refl)),
-            ((λ e. absurd (ne e)), (λ _. refl)),
-          )
+          let w = missed_at x n in
+          (w ∷ [], keeps, tt, missed s k at x.who 3 0 b w there ne refl (λ t. t) (same_fits seats s k id me at one w refl refl refl refl refl refl refl), ((λ e. absurd (ne e)), (λ _. refl)))
 
-      go : (b : Mailbox) → (mine seats s k id me at one).mailbox ≡ b → MailboxFits seats k.entries x.who x.handover b → Granted s (suc x.who) (λ n. either (eqb n 3) 0 n) (collected_as (step slots (suc x.who) 3 0 none) me)
+      go : (b : Mailbox) → (mine seats s k id me at one).mailbox ≡ b → MailboxFits seats k.entries x.who x.handover b → Granted seats id me s (suc x.who) (λ n. either (eqb n 3) 0 n) (collected_as (step slots (suc x.who) 3 0 none) me)
       go shut is fits_mailbox = miss shut is (λ e. absurd (omega arith))
       go empty is fits_mailbox = miss empty is (λ e. absurd (omega arith))
       go (posted q n) is fits_mailbox = miss (posted q n) is (λ e. absurd (omega arith))
@@ -334,7 +275,7 @@ module _ (seats slots id : ℕ) (me : Hands) (one : me.0 ≡ view_of me.0 ∷ []
           let found : get_or s.words (suc x.who) 0 ≡ 3 = found_mark seats s k id me at one x.who (answered q n o) there in
           let w = collected_at x (get_or s.words (suc x.who) 0) k.entries o in
           let off : is_picked f.mailbox ≡ false = ap is_picked is in
-          let own : w.own ++ [] ≡ places_of x.who k.entries = nil_right w.own ∙ (ap (λ l. x.own ++ l) (sym (ap pending is)) ∙ f.own) in (
+          let own : w.own ++ [] ≡ places_of x.who k.entries = append-nil w.own ∙ (ap (λ l. x.own ++ l) (sym (ap pending is)) ∙ f.own) in (
             w ∷ [],
             takes (suc x.who) (Answered o),
             found_inside seats s k id me at one x.who (answered q n o) there,
@@ -371,19 +312,8 @@ module _ (seats slots id : ℕ) (me : Hands) (one : me.0 ≡ view_of me.0 ∷ []
     -- the same view with another pick
     repick : (s : State Slot (List View)) (k : Kept seats s) (mailboxes : List Mailbox) (w : View) → Fits seats k.entries k.carrier k.taken_by mailboxes id x → w.seats ≡ x.seats → w.who ≡ x.who → w.seen ≡ x.seen → w.handover ≡ x.handover → w.own ≡ x.own → w.taker ≡ x.taker
         → PickFits mailboxes w.pick → Fits seats k.entries k.carrier k.taken_by mailboxes id w
-    repick s k mailboxes w m a b c d e f p = record {
-      seats_are = a ∙ m.seats_are;
-      below = subst (λ z. z < seats) (sym b) m.below;
-      held = ap k.carrier b ∙ m.held;
-      begins = subst (StartsWith k.entries) (sym c) m.begins;
-      mailbox = m.mailbox;
-      has_mailbox = ap (get_elem? mailboxes) b ∙ m.has_mailbox;
-      fits_mailbox = subst (λ (z : ℕ × Handover). MailboxFits seats k.entries z.0 z.1 m.mailbox) (λ i. (sym b i, sym d i)) m.fits_mailbox;
-      own = ap (λ l. l ++ pending m.mailbox) e ∙ (m.own ∙ ap (λ z. places_of z k.entries) (sym b));
-      takes = λ t. ((m.takes (sym f ∙ t)).0, c ∙ (m.takes (sym f ∙ t)).1);
-      picks = p;
-      idle = λ t. absurd (true≢false (sym (f ∙ on) ∙ t));
-    }
+    repick s k mailboxes w m a b c d e f p =
+        review seats k.entries k.carrier k.carrier k.taken_by k.taken_by mailboxes id id x w m (a, b, d, e) m.held (subst (StartsWith k.entries) (sym c) m.begins) (λ t. ((m.takes (sym f ∙ t)).0, c ∙ (m.takes (sym f ∙ t)).1)) p (λ t. absurd (true≢false (sym (f ∙ on) ∙ t)))
 
     pub picks : (i : ℕ) → i < seats → x.pick ≡ Nothing → Allows (Kept seats) slots id me (suc i) (λ n. either (eqb n 1) 2 n) (picked_as (step slots (suc i) 1 2 none) me)
     picks i below none_yet s k len at small = let b = box_at k.mailboxes i (subst (λ z. i < z) (sym k.all_mailboxes) below) in go b.0 b.1
@@ -393,20 +323,14 @@ module _ (seats slots id : ℕ) (me : Hands) (one : me.0 ≡ view_of me.0 ∷ []
         box_at (y ∷ ys) zero h = (y, refl)
         box_at (y ∷ ys) (suc i) h = box_at ys i (omega arith)
 
-        miss : (b : Mailbox) → get_elem? k.mailboxes i ≡ some b → mark b ≢ 1 → Granted s (suc i) (λ n. either (eqb n 1) 2 n) (picked_as (step slots (suc i) 1 2 none) me)
+        miss : (b : Mailbox) → get_elem? k.mailboxes i ≡ some b → mark b ≢ 1 → Granted seats id me s (suc i) (λ n. either (eqb n 1) 2 n) (picked_as (step slots (suc i) 1 2 none) me)
         miss b there low =
             let n : ℕ = get_or s.words (suc i) 0 in
             let ne : n ≢ 1 = λ e. low (sym (found_mark seats s k id me at one i b there) ∙ e) in
-            let w = tried_at x (suc i - 1) n in (
-              w ∷ [],
-              keeps,
-              tt,
-              subst (λ b. Kept seats (stepped s (suc i) (either b 2 n) id me.1 (w ∷ []) keeps)) (sym (ne_eqb n 1 ne))
-                  (unmoved seats s k id me at one w i b there (λ t. t) refl (same_fits seats s k id me at one w refl refl refl refl refl refl refl)),
-              ((λ e. absurd (ne e)), (λ _. refl)),
-            )
+            let w = tried_at x (suc i - 1) n in
+            (w ∷ [], keeps, tt, missed s k at i 1 2 b w there ne refl (λ t. t) (same_fits seats s k id me at one w refl refl refl refl refl refl refl), ((λ e. absurd (ne e)), (λ _. refl)))
 
-        go : (b : Mailbox) → get_elem? k.mailboxes i ≡ some b → Granted s (suc i) (λ n. either (eqb n 1) 2 n) (picked_as (step slots (suc i) 1 2 none) me)
+        go : (b : Mailbox) → get_elem? k.mailboxes i ≡ some b → Granted seats id me s (suc i) (λ n. either (eqb n 1) 2 n) (picked_as (step slots (suc i) 1 2 none) me)
         go shut there = miss shut there (λ e. absurd (omega arith))
         go empty there = miss empty there (λ e. absurd (omega arith))
         go (picked q n start count) there = miss (picked q n start count) there (λ e. absurd (omega arith))
@@ -475,7 +399,7 @@ module _ (seats slots id : ℕ) (me : Hands) (one : me.0 ≡ view_of me.0 ∷ []
         let there : get_elem? k.mailboxes i ≡ some old = subst (PickFits k.mailboxes) pick f.picks in
         let w_pick : w.pick ≡ Picked i r since (length x.seen) (length run) = ap (λ p. with_places p (length x.seen) (length entries - length x.seen)) pick ∙ ap (Picked i r since (length x.seen)) count in
         let grow : (who : ℕ) (own : List ℕ) → who ≡ i → own ++ [] ≡ places_of who k.entries → own ++ places (length x.seen) (length run) ≡ places_of who entries = λ who own e o.
-        ap (λ l. l ++ places (length x.seen) (length run)) (sym (nil_right own) ∙ o)
+        ap (λ l. l ++ places (length x.seen) (length run)) (sym (append-nil own) ∙ o)
         ∙ (ap (λ (z : List Entry). places_of who k.entries ++ places (length z) (length run)) seen ∙ (sym (own_grow who k.entries run (subst (λ z. AllBy z run) (sym e) by)) ∙ ap (places_of who) (sym more))) in
         let fits : (j : ℕ) (u y : View) → y.seats ≡ u.seats → y.who ≡ u.who → y.own ≡ u.own → y.handover ≡ u.handover → StartsWith entries y.seen → (y.taker ≡ true → (some id ≡ some j) × (y.seen ≡ entries)) → PickFits (set k.mailboxes i mailbox) y.pick → (y.taker ≡ false → y.pick ≡ Nothing)
         → Fits seats k.entries k.carrier k.taken_by k.mailboxes j u → Fits seats entries k.carrier (some id) (set k.mailboxes i mailbox) j y = λ j u y a b c d e t p q g.
@@ -513,29 +437,13 @@ module _ (seats slots id : ℕ) (me : Hands) (one : me.0 ≡ view_of me.0 ∷ []
           w ∷ [],
           keeps,
           tt,
-          record {
-            entries = entries;
-            carrier = k.carrier;
-            taken_by = some id;
-            mailboxes = set k.mailboxes i mailbox;
-            words = ap (λ ws. set ws 0 new) k.words ∙ (λ m. (page ∙ ap (λ z. page_word z 1 entries) f.seats_are) m ∷ (sym (map-set mark k.mailboxes i mailbox ∙ set_again (map mark k.mailboxes) i 2 (at_map mark k.mailboxes i old there))) m);
-            homes = k.homes ∙ (λ m. home_of seats k.entries (taken_by m) ∷ (sym (map-set inside_of k.mailboxes i mailbox ∙ set_again (map inside_of k.mailboxes) i none (at_map inside_of k.mailboxes i old there))) m);
-            small = (small_enough.0, subst (λ z. ready_of z entries < 2147483648) f.seats_are small_enough.1);
-            all_mailboxes = set_length k.mailboxes i mailbox ∙ k.all_mailboxes;
-            early = λ j b e. subst (λ l. since_of b ≤ length l) (sym more) (longer k.entries run (since_of b) (still_early k.mailboxes (length k.entries) k.early i mailbox (omega arith) j b e));
-            has_taker = (w, set_here s.views id (w ∷ []) (inside s.views id me.0 at), on, picked_set k.mailboxes i r since (length x.seen) (length run) w.pick (one_else k.mailboxes i r since 0 0 (subst (PickedAs k.mailboxes) pick (picked_by_me s k at))) w_pick);
-            each = each_set (Fits seats entries k.carrier (some id) (set k.mailboxes i mailbox)) s.views id (w ∷ [])
-                (λ j vs apart e. each_map (Fits seats k.entries k.carrier k.taken_by k.mailboxes j) (Fits seats entries k.carrier (some id) (set k.mailboxes i mailbox) j)
-                (λ u g. fits j u u refl refl refl refl (subst (λ l. StartsWith l u.seen) (sym more) (starts_longer k.entries run u.seen g.begins)) (λ t. absurd (apart (some-injective j id (sym (g.takes t).0 ∙ taken_by)))) (unpicked s k at (set k.mailboxes i mailbox) j u apart g) g.idle g) vs (k.each j vs e))
-                (fits id x w refl refl refl refl (starts_all entries) (λ _. (refl, refl)) (subst (PickFits (set k.mailboxes i mailbox)) (sym w_pick) (set_here k.mailboxes i mailbox (inside k.mailboxes i old there))) (λ t. absurd (true≢false (sym on ∙ t))) f, tt);
-          },
+          restate seats s k id me w 0 new keeps entries (some id) (set k.mailboxes i mailbox)
+              (ap (λ ws. set ws 0 new) k.words ∙ (λ m. (page ∙ ap (λ z. page_word z 1 entries) f.seats_are) m ∷ (sym (map-set mark k.mailboxes i mailbox ∙ set_again (map mark k.mailboxes) i 2 (at_map mark k.mailboxes i old there))) m))
+              (k.homes ∙ (λ m. home_of seats k.entries (taken_by m) ∷ (sym (map-set inside_of k.mailboxes i mailbox ∙ set_again (map inside_of k.mailboxes) i none (at_map inside_of k.mailboxes i old there))) m))
+              (small_enough.0, subst (λ z. ready_of z entries < 2147483648) f.seats_are small_enough.1) (length-set k.mailboxes i mailbox ∙ k.all_mailboxes)
+              (λ j b e. subst (λ l. since_of b ≤ length l) (sym more) (longer k.entries run (since_of b) (still_early k.mailboxes (length k.entries) k.early i mailbox (omega arith) j b e)))
+              (w, set_here s.views id (w ∷ []) (inside s.views id me.0 at), on, picked_set k.mailboxes i r since (length x.seen) (length run) w.pick (one_else k.mailboxes i r since 0 0 (subst (PickedAs k.mailboxes) pick (picked_by_me s k at))) w_pick)
+              (fits id x w refl refl refl refl (starts_all entries) (λ _. (refl, refl)) (subst (PickFits (set k.mailboxes i mailbox)) (sym w_pick) (set_here k.mailboxes i mailbox (inside k.mailboxes i old there))) (λ t. absurd (true≢false (sym on ∙ t))) f)
+              (λ j u apart g. fits j u u refl refl refl refl (subst (λ l. StartsWith l u.seen) (sym more) (starts_longer k.entries run u.seen g.begins)) (λ t. absurd (apart (some-injective j id (sym (g.takes t).0 ∙ taken_by)))) (unpicked s k at (set k.mailboxes i mailbox) j u apart g) g.idle g),
           refl,
         )
-      where
-        set_length : {A : Type 0} (l : List A) (i : ℕ) (a : A) → length (set l i a) ≡ length l
-        set_length [] i a = refl
-        set_length (y ∷ ys) zero a = refl
-        set_length (y ∷ ys) (suc i) a = ap suc (set_length ys i a)
-
-        still_early : (mailboxes : List Mailbox) (m : ℕ) → ((j : ℕ) (b : Mailbox) → get_elem? mailboxes j ≡ some b → since_of b ≤ m) → (i : ℕ) (new : Mailbox) → since_of new ≤ m → (j : ℕ) (b : Mailbox) → get_elem? (set mailboxes i new) j ≡ some b → since_of b ≤ m
-        still_early mailboxes m h i new late j b e = ⊎_elim (λ (y : (j ≡ i) × (new ≡ b)). subst (λ c. since_of c ≤ m) y.1 late) (λ (y : (j ≢ i) × (get_elem? mailboxes j ≡ some b)). h j b y.1) (at_set mailboxes i j new b e)

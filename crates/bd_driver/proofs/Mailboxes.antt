@@ -1,5 +1,5 @@
 -- Mailboxes while the history grows.
-use Rattle.std.proofs.Common.{◌≡◌, ◌≢◌, ℕ, ◌+◌, ◌≤◌, true, List, [], ◌∷◌, ◌++◌, length, refl, sym, ap, ◌∙◌, subst, inl, inr, ⊎_elim, arith, length-append, append_assoc}
+use Rattle.std.proofs.Common.{◌≡◌, ◌≢◌, ℕ, ◌+◌, ◌≤◌, true, List, ◌++◌, length, refl, sym, ap, ◌∙◌, subst, inl, inr, ⊎_elim, arith, length-append, append_assoc}
 use mathlib.Core.Option.{Option, some}
 use Rattle.bd_space.specs.declared.step.Entry.{Entry}
 use Rattle.bd_space.specs.declared.step.Request.{Request}
@@ -17,10 +17,6 @@ use Rattle.bd_driver.specs.declared.outcome.Outcome.TheVariants.{Done, Back, Han
 use Rattle.bd_driver.specs.Mailboxes.{Mailbox, shut, empty, posted, picked, answered, RunAt, IsReason, IsTold, MailboxFits}
 use Rattle.bd_driver.proofs.Places.{others_stay}
 use Rattle.bd_driver.proofs.Views.{starts_longer}
-
-pub nil_right : {A : Type 0} (l : List A) → l ++ [] ≡ l
-nil_right [] = refl
-nil_right (x ∷ xs) = ap (λ t. x ∷ t) (nil_right xs)
 
 pub run_longer : (seats : ℕ) (entries run : List Entry) (who : ℕ) (r : Request) (n : ℕ) (answer : Answer) (start end : ℕ) → RunAt seats entries who r n answer start end → RunAt seats (entries ++ run) who r n answer start end
 run_longer seats entries run who r n answer start end h = record {

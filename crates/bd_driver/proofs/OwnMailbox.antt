@@ -1,5 +1,5 @@
 -- The calls on the own mailbox, at a seat between two calls.
-use Rattle.std.proofs.Common.{◌≡◌, ℕ, suc, Bool, true, false, eqb, List, [], ◌∷◌, true≢false, refl, sym, ap, ◌∙◌, subst}
+use Rattle.std.proofs.Common.{◌≡◌, ℕ, suc, ◌+◌, Bool, true, false, eqb, List, [], ◌∷◌, true≢false, refl, sym, ap, ◌∙◌, subst, arith}
 use mathlib.Core.Option.{none}
 use prog.Atomic.{either}
 use Rattle.atomic_table.specs.Table.{step, rest, Allows}
@@ -38,11 +38,28 @@ open_me words me number waiting r e = λ i. (r.one i, (r.held ∙ ap (λ h. held
 pub waiting_me : (words : ℕ) (me : Hands) (number : ℕ) (waiting : Bool) → IsAtRest words me number waiting → is_waiting (view_of me.0).handover ≡ true → me ≡ (view_of me.0 ∷ [], [])
 waiting_me words me number waiting r e = let h = waiting_hand (view_of me.0).handover e in λ i. (r.one i, (r.held ∙ ap (λ h. held_of h (view_of me.0).who) h.2) i)
 
-pub posts_at : (seats slots id : ℕ) (me : Hands) (v : View) (xs : List (ℕ × Slot)) (r : Request) (word : ℕ) → me ≡ (v ∷ [], (word, Posted r) ∷ xs) → word ≡ suc v.who → v.handover ≡ Open
-    → Allows (Kept seats) slots id me word (λ _. 1) (posted_as (step slots word 1 0 none) me)
-posts_at seats slots id me v xs r word is at free =
-    subst (λ (z : Hands × ℕ). Allows (Kept seats) slots id z.0 z.1 (λ _. 1) (posted_as (step slots z.1 1 0 none) z.0)) (λ i. (sym (is ∙ ap (λ (w : ℕ). (v ∷ [], (w, Posted r) ∷ xs)) at) i, sym at i))
-    (posts seats slots id (v ∷ [], (suc v.who, Posted r) ∷ xs) refl r free refl)
+-- the slot that is held first, and the others
+pub first_held : (xs ys : List (ℕ × Slot)) (slot : ℕ) (x : Slot) → xs ≡ (slot, x) ∷ ys → xs ≡ (slot, x) ∷ rest xs
+first_held xs ys slot x is = is ∙ ap (λ (l : List (ℕ × Slot)). (slot, x) ∷ rest l) (sym is)
+
+-- a plain exchange in the one slot that is held, where its number is known by arithmetic
+pub refill : (me m : Hands) (v : View) (xs : List (ℕ × Slot)) (slot : ℕ) (x y : Slot) → me ≡ (v ∷ [], xs) → m ≡ (me.0, (slot, y) ∷ rest me.1) → m ≡ (v ∷ [], (slot, y) ∷ rest xs)
+refill me m v xs slot x y is e = e ∙ ap (λ (z : Hands). (z.0, (slot, y) ∷ rest z.1)) is
+
+-- the seat's hands once the request lies in its mailbox's slot
+laid : (words : ℕ) (me m : Hands) (number : ℕ) (waiting : Bool) (r : Request) → IsAtRest words me number waiting → is_waiting (view_of me.0).handover ≡ false → m ≡ (me.0, (number + 1, Posted r) ∷ rest me.1) → m ≡ (view_of me.0 ∷ [], (number + 1, Posted r) ∷ [])
+laid words me m number waiting r s free is = refill me m (view_of me.0) _ (number + 1) Empty (Posted r) (open_me words me number waiting s free) is
+
+own_word : (words : ℕ) (me : Hands) (number : ℕ) (waiting : Bool) → IsAtRest words me number waiting → number + 1 ≡ suc (view_of me.0).who
+own_word words me number waiting r = omega (arith, r.number_is)
+
+pub posts_at : (seats slots id words : ℕ) (me m : Hands) (number : ℕ) (waiting : Bool) (r : Request) → IsAtRest words me number waiting → is_waiting (view_of me.0).handover ≡ false → m ≡ (me.0, (number + 1, Posted r) ∷ rest me.1)
+    → Allows (Kept seats) slots id m (number + 1) (λ _. 1) (posted_as (step slots (number + 1) 1 0 none) m)
+posts_at seats slots id words me m number waiting r s free is =
+    let v = view_of me.0 in
+    let at = own_word words me number waiting s in
+    subst (λ (z : Hands × ℕ). Allows (Kept seats) slots id z.0 z.1 (λ _. 1) (posted_as (step slots z.1 1 0 none) z.0)) (λ i. (sym (laid words me m number waiting r s free is ∙ ap (λ (w : ℕ). (v ∷ [], (w, Posted r) ∷ [])) at) i, sym at i))
+    (posts seats slots id (v ∷ [], (suc v.who, Posted r) ∷ []) refl r (open_hand v.handover s.ready free) refl)
 
 abbrev asked : Request → Slot → Request
 asked d (Home e) = d
@@ -54,29 +71,27 @@ abbrev asked_in : Request → List (ℕ × Slot) → Request
 asked_in d [] = d
 asked_in d (x ∷ xs) = asked d x.1
 
-pub after_post : (slots word n : ℕ) (m m' : Hands) (v : View) (xs : List (ℕ × Slot)) (r : Request) → m ≡ (v ∷ [], (word, Posted r) ∷ xs) → posted_as (step slots word 1 0 none) m n m' → m' ≡ (posted_at v n r ∷ [], xs)
-after_post slots word n m m' v xs r is t =
+pub after_post : (slots words n : ℕ) (me m m' : Hands) (number : ℕ) (waiting : Bool) (r : Request) → IsAtRest words me number waiting → is_waiting (view_of me.0).handover ≡ false → m ≡ (me.0, (number + 1, Posted r) ∷ rest me.1) → posted_as (step slots (number + 1) 1 0 none) m n m'
+    → m' ≡ (posted_at (view_of me.0) n r ∷ [], [])
+after_post slots words n me m m' number waiting r s free after t =
+    let is = laid words me m number waiting r s free after in
     let same : t.0 ≡ r = sym (ap (asked_in r) t.1) ∙ ap (λ (x : Hands). asked_in r x.1) is in
     t.2 ∙ (λ i. (posted_at (view_of (is i).0) n (same i) ∷ [], rest (is i).1))
 
 pub posted_rests : (words n : ℕ) (me m' : Hands) (number : ℕ) (waiting : Bool) (r : Request) → IsAtRest words me number waiting → m' ≡ (posted_at (view_of me.0) n r ∷ [], []) → IsAtRest words m' number true
 posted_rests words n me m' number waiting r s is = subst (λ m. IsAtRest words m number true) (sym is) (record { one = refl; held = refl; idle = s.idle; number_is = s.number_is; none_picked = s.none_picked; waits = refl; ready = tt; below = s.below; wide = s.wide })
 
-pub withdraws_at : (seats slots id : ℕ) (me : Hands) (v : View) (xs : List (ℕ × Slot)) (r : Request) (since word : ℕ) → me ≡ (v ∷ [], xs) → word ≡ suc v.who → v.handover ≡ Waiting r since
-    → Allows (Kept seats) slots id me word (λ n. either (eqb n 1) 0 n) (withdrew (step slots word 1 0 none) me)
-withdraws_at seats slots id me v xs r since word is at waits =
-    subst (λ (z : Hands × ℕ). Allows (Kept seats) slots id z.0 z.1 (λ n. either (eqb n 1) 0 n) (withdrew (step slots z.1 1 0 none) z.0)) (λ i. (sym is i, sym at i))
-    (withdraws seats slots id (v ∷ [], xs) refl r since waits)
+pub withdraws_at : (seats slots id words : ℕ) (me : Hands) (number : ℕ) (waiting : Bool) → IsAtRest words me number waiting → is_waiting (view_of me.0).handover ≡ true → Allows (Kept seats) slots id me (number + 1) (λ n. either (eqb n 1) 0 n) (withdrew (step slots (number + 1) 1 0 none) me)
+withdraws_at seats slots id words me number waiting r waits =
+    let h = waiting_hand (view_of me.0).handover waits in
+    subst (λ (z : Hands × ℕ). Allows (Kept seats) slots id z.0 z.1 (λ n. either (eqb n 1) 0 n) (withdrew (step slots z.1 1 0 none) z.0)) (λ i. (sym (waiting_me words me number waiting r waits) i, sym (own_word words me number waiting r) i))
+    (withdraws seats slots id (view_of me.0 ∷ [], []) refl h.0 h.1 h.2)
 
-pub collects_at : (seats slots id : ℕ) (me : Hands) (v : View) (xs : List (ℕ × Slot)) (r : Request) (since word : ℕ) → me ≡ (v ∷ [], xs) → word ≡ suc v.who → v.handover ≡ Waiting r since → v.taker ≡ false
-    → Allows (Kept seats) slots id me word (λ n. either (eqb n 3) 0 n) (collected_as (step slots word 3 0 none) me)
-collects_at seats slots id me v xs r since word is at waits idle =
-    subst (λ (z : Hands × ℕ). Allows (Kept seats) slots id z.0 z.1 (λ n. either (eqb n 3) 0 n) (collected_as (step slots z.1 3 0 none) z.0)) (λ i. (sym is i, sym at i))
-    (collects seats slots id (v ∷ [], xs) refl r since waits idle)
-
--- a plain exchange in the one slot that is held, where its number is known by arithmetic
-pub refill : (me m : Hands) (v : View) (xs : List (ℕ × Slot)) (slot : ℕ) (x y : Slot) → me ≡ (v ∷ [], xs) → m ≡ (me.0, (slot, y) ∷ rest me.1) → m ≡ (v ∷ [], (slot, y) ∷ rest xs)
-refill me m v xs slot x y is e = e ∙ ap (λ (z : Hands). (z.0, (slot, y) ∷ rest z.1)) is
+pub collects_at : (seats slots id words : ℕ) (me : Hands) (number : ℕ) (waiting : Bool) → IsAtRest words me number waiting → is_waiting (view_of me.0).handover ≡ true → Allows (Kept seats) slots id me (number + 1) (λ n. either (eqb n 3) 0 n) (collected_as (step slots (number + 1) 3 0 none) me)
+collects_at seats slots id words me number waiting r waits =
+    let h = waiting_hand (view_of me.0).handover waits in
+    subst (λ (z : Hands × ℕ). Allows (Kept seats) slots id z.0 z.1 (λ n. either (eqb n 3) 0 n) (collected_as (step slots z.1 3 0 none) z.0)) (λ i. (sym (waiting_me words me number waiting r waits) i, sym (own_word words me number waiting r) i))
+    (collects seats slots id (view_of me.0 ∷ [], []) refl h.0 h.1 h.2 r.idle)
 
 told_at : (v w : View) (o : Outcome) (entries : List Entry) (r : Request) (since : ℕ) → StartsWith entries v.seen → v.handover ≡ Waiting r since → IsTold v.seats entries v.who r since o → w ≡ collected_at v 3 entries o → IsCollected v w o
 told_at v w o entries r since begins handover told is =
@@ -86,20 +101,6 @@ pub told_collects : (v w : View) (o : Outcome) (entries : List Entry) (r : Reque
 told_collects v w (Done answer start end) entries r since a b c d = told_at v w (Done answer start end) entries r since a b c d
 told_collects v w (Back back why) entries r since a b c d = told_at v w (Back back why) entries r since a b c d
 told_collects v w Handed entries r since a b c d = absurd c
-
--- the outcome that a slot has
-abbrev told_of : Outcome → Slot → Outcome
-told_of d (Home e) = d
-told_of d (Posted r) = d
-told_of d (Answered o) = o
-told_of d Empty = d
-
-abbrev told_in : Outcome → List (ℕ × Slot) → Outcome
-told_in d [] = d
-told_in d (x ∷ xs) = told_of d x.1
-
-pub same_told : (slot other : ℕ) (o p : Outcome) (xs ys : List (ℕ × Slot)) → (slot, Answered o) ∷ xs ≡ (other, Answered p) ∷ ys → o ≡ p
-same_told slot other o p xs ys e = ap (told_in o) e
 
 pub opens_at : (seats slots id : ℕ) (me : Hands) (v : View) (xs : List (ℕ × Slot)) (word : ℕ) → me ≡ (v ∷ [], xs) → word ≡ suc v.who → v.handover ≡ Shut → Allows (Kept seats) slots id me word (λ n. n) (opened (step slots word 0 0 none) me)
 opens_at seats slots id me v xs word is at handover =

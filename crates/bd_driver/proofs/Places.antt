@@ -1,5 +1,5 @@
 -- The places of a seat's entries after a run.
-use Rattle.std.proofs.Common.{◌≡◌, ◌≢◌, ℕ, ◌+◌, Bool, true, false, cond, eqb, List, [], ◌∷◌, ◌++◌, length, refl, sym, ap, ◌∙◌, arith, eq-eqb, ne_eqb}
+use Rattle.std.proofs.Common.{◌≡◌, ◌≢◌, ℕ, ◌+◌, Bool, true, false, cond, eqb, List, [], ◌∷◌, ◌++◌, length, refl, sym, ap, ◌∙◌, arith, eq-eqb, ne_eqb, append-nil}
 use Rattle.bd_space.specs.declared.step.Entry.{Entry}
 use Rattle.bd_space.specs.Runs.{AllBy}
 use Rattle.bd_driver.specs.Views.{places_from, places_of, places}
@@ -29,8 +29,4 @@ pub own_grow : (who : ℕ) (entries run : List Entry) → AllBy who run → plac
 own_grow who entries run h = append_places who 0 entries run ∙ ap (λ l. places_of who entries ++ l) (ap (λ (k : ℕ). places_from who k run) (omega arith) ∙ all_places who (length entries) run h)
 
 pub others_stay : (who by : ℕ) (entries run : List Entry) → AllBy by run → who ≢ by → places_of who (entries ++ run) ≡ places_of who entries
-others_stay who by entries run h apart = append_places who 0 entries run ∙ (ap (λ l. places_of who entries ++ l) (no_places who by (0 + length entries) run h apart) ∙ nil_right (places_of who entries))
-  where
-    nil_right : (l : List ℕ) → l ++ [] ≡ l
-    nil_right [] = refl
-    nil_right (x ∷ xs) = ap (λ (t : List ℕ). x ∷ t) (nil_right xs)
+others_stay who by entries run h apart = append_places who 0 entries run ∙ (ap (λ l. places_of who entries ++ l) (no_places who by (0 + length entries) run h apart) ∙ append-nil (places_of who entries))

@@ -1,5 +1,5 @@
 -- The steps of serving, at a seat whose view and slots are known.
-use Rattle.std.proofs.Common.{◌≡◌, ◌≢◌, ℕ, suc, ◌+◌, ◌-◌, ◌<◌, Bool, true, false, eqb, List, [], ◌∷◌, ◌++◌, length, refl, sym, ap, ◌∙◌, subst, arith, length-append, append_assoc, cond, eq-eqb, ne_eqb, ◌==◌, ◌%◌, Some}
+use Rattle.std.proofs.Common.{◌≡◌, ◌≢◌, ℕ, suc, ◌+◌, ◌-◌, ◌<◌, Bool, true, false, eqb, List, [], ◌∷◌, ◌++◌, length, refl, sym, ap, ◌∙◌, subst, arith, length-append, append_assoc, cond, eq-eqb, ne_eqb, ◌==◌, ◌%◌, Some, append-nil}
 use mathlib.Core.Option.{none}
 use prog.Atomic.{either}
 use Rattle.atomic_table.specs.Table.{step, rest, Allows}
@@ -16,11 +16,10 @@ use Rattle.bd_engine.specs.declared.why.Why.TheVariants.{NoMemory as Memory, His
 use Rattle.bd_engine.specs.Refusals.{FullOnly}
 use Rattle.bd_driver.specs.declared.outcome.Outcome.TheVariants.{Done, Back, Handed}
 use Rattle.bd_driver.specs.Reasons.{reason_of}
-use Rattle.bd_driver.proofs.Mailboxes.{nil_right}
 use Rattle.bd_driver.specs.declared.view.View.{View}
 use Rattle.bd_driver.specs.declared.view.Pick.TheVariants.{Nothing}
 use Rattle.bd_driver.specs.declared.slot.Slot.{Slot}
-use Rattle.bd_driver.specs.declared.slot.Slot.TheVariants.{Home, Posted, Answered, Empty}
+use Rattle.bd_driver.specs.declared.slot.Slot.TheVariants.{Home, Answered, Empty}
 use Rattle.bd_driver.specs.declared.outcome.Outcome.{Outcome}
 use Rattle.bd_driver.specs.Mailboxes.{RunAt, IsReason}
 use Rattle.bd_driver.specs.Steps.{Hands, entries_in, picked_as, with_places, served_at, served, answered_as}
@@ -57,20 +56,6 @@ answers_at seats slots id me v xs i word o is at on a =
     subst (λ (z : Hands × ℕ). Allows (Kept seats) slots id z.0 z.1 (λ _. 3) (answered_as (step slots z.1 3 0 none) z.0)) (λ j. (sym (is ∙ ap (λ (w : ℕ). (v ∷ [], (w, Answered o) ∷ xs)) at) j, sym at j))
     (answers seats slots id (v ∷ [], (suc i, Answered o) ∷ xs) refl on i a.request a.since a.start a.count o a.pick a.is_told a.same_places refl)
 
--- the engine that a slot has
-abbrev engine_of : History → Slot → History
-engine_of d (Home e) = e
-engine_of d (Posted r) = d
-engine_of d (Answered o) = d
-engine_of d Empty = d
-
-abbrev engine_in : History → List (ℕ × Slot) → History
-engine_in d [] = d
-engine_in d (x ∷ xs) = engine_of d x.1
-
-pub same_engine : (slot other : ℕ) (e f : History) (xs ys : List (ℕ × Slot)) → (slot, Home e) ∷ xs ≡ (other, Home f) ∷ ys → e ≡ f
-same_engine slot other e f xs ys h = ap (engine_in e) h
-
 -- what a run says of what was picked
 module _ (m : Hands) (i : ℕ) (r : Request) (e0 : History) (p : IsPicked m i r e0) where
   abbrev v : View
@@ -84,7 +69,7 @@ module _ (m : Hands) (i : ℕ) (r : Request) (e0 : History) (p : IsPicked m i r 
     before = e0.entries;
     run = h.run;
     after = [];
-    parts = h.grown ∙ sym (nil_right (e0.entries ++ h.run));
+    parts = h.grown ∙ sym (append-nil (e0.entries ++ h.run));
     starts = h.starts;
     ends = let a = ap (length {A = Entry}) h.grown in let b = length-append e0.entries h.run in let c = h.starts in let d = h.ends in omega arith;
     late = let a : length e0.entries ≡ length v.seen = ap length entries_are in let c = h.starts in let d = p.early in omega arith;
@@ -165,7 +150,7 @@ then_only u v w a b = record {
 answers_more : (seats k : ℕ) (xs : List ℕ) (x : ℕ) (ls l : List Letter) (a b c : List Entry) → AnswersAll seats k xs ls a b → AnswersOne seats (k + length xs) (x == 1) l b c → AnswersAll seats k (xs ++ x ∷ []) (ls ++ l) a c
 answers_more seats k [] x ls l a b c h one =
     let e : k + 0 ≡ k = omega arith in
-    (l, [], c, ap (λ z. z ++ l) h.0 ∙ sym (nil_right l), subst (λ (z : ℕ × List Entry). AnswersOne seats z.0 (x == 1) l z.1 c) (λ i. (e i, h.1 i)) one, (refl, refl))
+    (l, [], c, ap (λ z. z ++ l) h.0 ∙ sym (append-nil l), subst (λ (z : ℕ × List Entry). AnswersOne seats z.0 (x == 1) l z.1 c) (λ i. (e i, h.1 i)) one, (refl, refl))
 answers_more seats k (y ∷ ys) x ls l a b c h one =
     let e : k + suc (length ys) ≡ k + 1 + length ys = omega arith in
     (h.0, h.1 ++ l, h.2, ap (λ z. z ++ l) h.3 ∙ append_assoc h.0 h.1 l, h.4, answers_more seats (k + 1) ys x h.1 l h.2 b c h.5 (subst (λ (z : ℕ). AnswersOne seats z (x == 1) l b c) e one))
@@ -201,7 +186,7 @@ served_none m = record {
   picks = refl;
   picked = refl;
   letters = [];
-  answers = sym (nil_right (view_of m.0).answers);
+  answers = sym (append-nil (view_of m.0).answers);
   answered = (refl, refl);
   publishes = omega arith;
   only = same_only (view_of m.0);

@@ -1,70 +1,31 @@
 -- A take, a publish and a put keep the rule.
-use Rattle.std.proofs.Common.{◌≡◌, ◌⊎◌, ℕ, ◌+◌, ◌-◌, ◌%◌, ◌<◌, ◌≤◌, Bool, true, false, List, [], ◌∷◌, ◌++◌, map, length, set, get_or, bit_and, bit_or, true≢false, refl, sym, ap, ◌∙◌, subst, inl, inr, ⊎_elim, arith, length-append, eq-eqb, ne_eqb}
+use Rattle.std.proofs.Common.{◌≡◌, ◌⊎◌, ℕ, ◌+◌, ◌-◌, ◌%◌, ◌<◌, ◌≤◌, Bool, true, false, List, [], ◌∷◌, ◌++◌, map, length, set, get_or, bit_and, bit_or, true≢false, refl, sym, ap, ◌∙◌, subst, inl, inr, ⊎_elim, arith, length-append, append-nil, eq-eqb, ne_eqb}
 use mathlib.Core.Option.{Option, none, some, some-injective, some-ne-none}
 use lib.ListN.{get_elem?}
-use Rattle.std.specs.Prelude.{slice_index}
 use Rattle.atomic_table.proofs.Lists.{set_here}
-use Rattle.atomic_table.specs.Table.{State, step, Act, keeps, takes, gives, rest, put_back, carried_after, Valid, stepped, Allows}
+use Rattle.atomic_table.specs.Table.{State, step, keeps, takes, gives, rest, put_back, Allows}
 use Rattle.bd_space.specs.declared.step.Entry.{Entry}
-use Rattle.bd_driver.specs.Views.{IsPage, ready_of, places_of, places, view_of, Each, history}
+use Rattle.bd_driver.specs.Views.{IsPage, ready_of, places_of, places, view_of, history}
 use Rattle.bd_space.specs.Runs.{AllBy}
 use Rattle.bd_driver.specs.Words.{page_word}
-use Rattle.bd_driver.specs.Rule.{bit_of, home_of, HasTaker, Fits, Kept}
+use Rattle.bd_driver.specs.Rule.{bit_of, home_of, HasTaker, Kept}
 use Rattle.bd_driver.specs.declared.view.View.{View}
 use Rattle.bd_driver.specs.declared.slot.Slot.{Slot}
 use Rattle.bd_driver.specs.declared.slot.Slot.TheVariants.{Home}
 use Rattle.bd_driver.specs.Steps.{Hands, entries_in, took_at, took, published_at, published, put_at, put}
 use Rattle.bd_driver.proofs.Words.{or_one_even, or_one_odd, clear_odd}
 use Rattle.bd_driver.proofs.Places.{own_grow}
-use Rattle.bd_driver.proofs.Views.{inside, each_set, keeps_taker, taker_has, starts_all}
+use Rattle.bd_driver.proofs.Keeping.{Granted, review, reseat, restate, repage}
+use Rattle.bd_driver.proofs.Views.{inside, keeps_taker, taker_has, starts_all}
 use Rattle.bd_driver.specs.declared.view.Handover.TheVariants.{Open}
 use Rattle.bd_driver.specs.declared.view.Pick.TheVariants.{Nothing}
-use Rattle.bd_driver.specs.Mailboxes.{Mailbox, PickedAs, mark, inside_of, pending, since_of, MailboxFits}
-use Rattle.bd_driver.proofs.Mailboxes.{nil_right, longer, fits_longer, open_mailbox, relog}
-use Rattle.bd_driver.proofs.Looks.{found_page, of_one}
+use Rattle.bd_driver.specs.Mailboxes.{PickedAs, mark, inside_of, pending, since_of, MailboxFits}
+use Rattle.bd_driver.proofs.Mailboxes.{longer, fits_longer, open_mailbox, relog}
+use Rattle.bd_driver.proofs.Looks.{found_word, found_page, of_one}
 
 turn_cases : (o : Option ℕ) → (o ≡ none) ⊎ ((t : ℕ) × (o ≡ some t))
 turn_cases none = inl refl
 turn_cases (some t) = inr (t, refl)
-
-pub each_map : (P Q : View → Type 0) → ((v : View) → P v → Q v) → (vs : List View) → Each P vs → Each Q vs
-each_map P Q f [] h = tt
-each_map P Q f (v ∷ vs) h = (f v h.0, each_map P Q f vs h.1)
-
-found_word : (seats : ℕ) (s : State Slot (List View)) (k : Kept seats s) → get_or s.words 0 0 ≡ page_word seats (bit_of k.taken_by) k.entries
-found_word seats s k = ap (λ ws. get_or ws 0 0) k.words
-
--- the same view under another taken_by
-pub retake : (seats : ℕ) (entries : List Entry) (carrier : ℕ → ℕ) (taken_by now : Option ℕ) (mailboxes : List Mailbox) (id : ℕ) (v : View) → Fits seats entries carrier taken_by mailboxes id v → (v.taker ≡ true → (now ≡ some id) × (v.seen ≡ entries)) → Fits seats entries carrier now mailboxes id v
-retake seats entries carrier taken_by now mailboxes id v f t = record {
-  seats_are = f.seats_are;
-  below = f.below;
-  held = f.held;
-  begins = f.begins;
-  mailbox = f.mailbox;
-  has_mailbox = f.has_mailbox;
-  fits_mailbox = f.fits_mailbox;
-  own = f.own;
-  takes = t;
-  picks = f.picks;
-  idle = f.idle;
-}
-
--- the same view carried by another seat of the table
-pub rehold : (seats : ℕ) (entries : List Entry) (carrier now : ℕ → ℕ) (taken_by : Option ℕ) (mailboxes : List Mailbox) (id j : ℕ) (v : View) → Fits seats entries carrier taken_by mailboxes id v → now v.who ≡ j → (v.taker ≡ true → (taken_by ≡ some j) × (v.seen ≡ entries)) → Fits seats entries now taken_by mailboxes j v
-rehold seats entries carrier now taken_by mailboxes id j v f h t = record {
-  seats_are = f.seats_are;
-  below = f.below;
-  held = h;
-  begins = f.begins;
-  mailbox = f.mailbox;
-  has_mailbox = f.has_mailbox;
-  fits_mailbox = f.fits_mailbox;
-  own = f.own;
-  takes = t;
-  picks = f.picks;
-  idle = f.idle;
-}
 
 even : (seats : ℕ) (entries : List Entry) → page_word seats 0 entries % 2 ≡ 0
 even seats entries = omega arith
@@ -76,14 +37,10 @@ true_off : (b : Bool) → b ≡ false → b ≡ true → ⊥
 true_off b f t = true≢false (sym t ∙ f)
 
 module _ (seats slots id : ℕ) (me : Hands) (one : me.0 ≡ view_of me.0 ∷ []) where
-  abbrev Granted : State Slot (List View) → (ℕ → ℕ) → (ℕ → Hands → Type 0) → Type 0
-  Granted s f then =
-      (w : List View) × (a : Act Slot) × Valid s.homes me.1 a × Kept seats (stepped s 0 (f (slice_index s.words 0)) id me.1 w a) × then (slice_index s.words 0) (w, carried_after me.1 a)
-
   abbrev v : View
   v = view_of me.0
 
-  takes_free : (s : State Slot (List View)) (k : Kept seats s) → get_elem? s.views id ≡ some me.0 → v.taker ≡ false → k.taken_by ≡ none → Granted s (λ n. bit_or n 1) (took (step slots 0 1 0 none) me)
+  takes_free : (s : State Slot (List View)) (k : Kept seats s) → get_elem? s.views id ≡ some me.0 → v.taker ≡ false → k.taken_by ≡ none → Granted seats id me s 0 (λ n. bit_or n 1) (took (step slots 0 1 0 none) me)
   takes_free s k at idle free =
       let n : ℕ = get_or s.words 0 0 in
       let is : n ≡ page_word seats 0 k.entries = found_word seats s k ∙ ap (λ o. page_word seats (bit_of o) k.entries) free in
@@ -96,40 +53,14 @@ module _ (seats slots id : ℕ) (me : Hands) (one : me.0 ≡ view_of me.0 ∷ []
         w ∷ [],
         takes 0 engine,
         ap (λ hs. get_elem? hs 0) home,
-        record {
-          entries = k.entries;
-          carrier = k.carrier;
-          mailboxes = k.mailboxes;
-          all_mailboxes = k.all_mailboxes;
-          early = k.early;
-          taken_by = some id;
-          words = ap (λ ws. set ws 0 (bit_or (get_or ws 0 0) 1)) k.words ∙ ap (λ (m : ℕ). m ∷ map mark k.mailboxes) (ap (λ m. bit_or m 1) (sym (found_word seats s k)) ∙ (or_one_even n low ∙ (ap (λ (m : ℕ). m + 1) is ∙ omega arith)));
-          homes = ap (λ hs. set hs 0 none) home;
-          small = k.small;
-          has_taker = (w, set_here s.views id (w ∷ []) (inside s.views id me.0 at), on, subst (PickedAs k.mailboxes) (sym (mine.idle idle)) (subst (HasTaker s.views k.mailboxes) free k.has_taker));
-          each = each_set (Fits seats k.entries k.carrier (some id) k.mailboxes) s.views id (w ∷ [])
-              (λ j vs _ e. each_map (Fits seats k.entries k.carrier k.taken_by k.mailboxes j) (Fits seats k.entries k.carrier (some id) k.mailboxes j)
-              (λ u f. retake seats k.entries k.carrier k.taken_by (some id) k.mailboxes j u f (λ t. absurd (some-ne-none j (sym ((f.takes t).0) ∙ free)))) vs (k.each j vs e)) (
-                record {
-                  seats_are = mine.seats_are;
-                  below = mine.below;
-                  held = mine.held;
-                  begins = starts_all k.entries;
-                  mailbox = mine.mailbox;
-                  has_mailbox = mine.has_mailbox;
-                  fits_mailbox = mine.fits_mailbox;
-                  own = mine.own;
-                  takes = λ t. (refl, refl);
-                  picks = mine.picks;
-                  idle = λ off. absurd (true_off w.taker off on);
-                },
-                tt,
-              );
-        },
+        repage seats s k id me w (bit_or n 1) (takes 0 engine) (some id) (or_one_even n low ∙ (ap (λ (m : ℕ). m + 1) is ∙ omega arith)) (ap (λ hs. set hs 0 none) home)
+            (w, set_here s.views id (w ∷ []) (inside s.views id me.0 at), on, subst (PickedAs k.mailboxes) (sym (mine.idle idle)) (subst (HasTaker s.views k.mailboxes) free k.has_taker))
+            (review seats k.entries k.carrier k.carrier k.taken_by (some id) k.mailboxes id id v w mine (refl, refl, refl, refl) mine.held (starts_all k.entries) (λ t. (refl, refl)) mine.picks (λ off. absurd (true_off w.taker off on)))
+            (λ j u _ f. reseat seats k.entries k.carrier k.carrier k.taken_by (some id) k.mailboxes j j u f f.held (λ t. absurd (some-ne-none j (sym ((f.takes t).0) ∙ free)))),
         (k.entries, mine.begins, subst (λ z. IsPage z n k.entries) (sym mine.seats_are) (found_page seats s k), refl, (λ _. ap (λ z. (0, Home (history z k.entries)) ∷ me.1) (sym mine.seats_are)), (λ h. absurd (omega arith)), subst (λ z. v.who < z) (sym mine.seats_are) mine.below),
       )
 
-  takes_taken : (s : State Slot (List View)) (k : Kept seats s) → get_elem? s.views id ≡ some me.0 → v.taker ≡ false → (t : ℕ) → k.taken_by ≡ some t → Granted s (λ n. bit_or n 1) (took (step slots 0 1 0 none) me)
+  takes_taken : (s : State Slot (List View)) (k : Kept seats s) → get_elem? s.views id ≡ some me.0 → v.taker ≡ false → (t : ℕ) → k.taken_by ≡ some t → Granted seats id me s 0 (λ n. bit_or n 1) (took (step slots 0 1 0 none) me)
   takes_taken s k at idle t busy =
       let n : ℕ = get_or s.words 0 0 in
       let is : n ≡ page_word seats 1 k.entries = found_word seats s k ∙ ap (λ o. page_word seats (bit_of o) k.entries) busy in
@@ -140,34 +71,10 @@ module _ (seats slots id : ℕ) (me : Hands) (one : me.0 ≡ view_of me.0 ∷ []
         w ∷ [],
         keeps,
         tt,
-        record {
-          entries = k.entries;
-          carrier = k.carrier;
-          mailboxes = k.mailboxes;
-          all_mailboxes = k.all_mailboxes;
-          early = k.early;
-          taken_by = k.taken_by;
-          words = ap (λ ws. set ws 0 (bit_or (get_or ws 0 0) 1)) k.words ∙ ap (λ (m : ℕ). m ∷ map mark k.mailboxes) (ap (λ m. bit_or m 1) (sym (found_word seats s k)) ∙ (or_one_odd n high ∙ found_word seats s k));
-          homes = k.homes;
-          small = k.small;
-          has_taker = keeps_taker s.views id v w k.mailboxes k.mailboxes k.taken_by (at ∙ ap some one) (λ on. absurd (true_off v.taker idle on)) refl (λ p h. h) k.has_taker;
-          each = each_set (Fits seats k.entries k.carrier k.taken_by k.mailboxes) s.views id (w ∷ []) (λ j vs _ e. k.each j vs e) (
-            record {
-              seats_are = mine.seats_are;
-              below = mine.below;
-              held = mine.held;
-              begins = starts_all k.entries;
-              mailbox = mine.mailbox;
-              has_mailbox = mine.has_mailbox;
-              fits_mailbox = mine.fits_mailbox;
-              own = mine.own;
-              takes = λ on. absurd (true_off w.taker off on);
-              picks = mine.picks;
-              idle = λ _. mine.idle idle;
-            },
-            tt,
-          );
-        },
+        repage seats s k id me w (bit_or n 1) keeps k.taken_by (or_one_odd n high ∙ found_word seats s k) k.homes
+            (keeps_taker s.views id v w k.mailboxes k.mailboxes k.taken_by (at ∙ ap some one) (λ on. absurd (true_off v.taker idle on)) refl (λ p h. h) k.has_taker)
+            (review seats k.entries k.carrier k.carrier k.taken_by k.taken_by k.mailboxes id id v w mine (refl, refl, refl, refl) mine.held (starts_all k.entries) (λ on. absurd (true_off w.taker off on)) mine.picks (λ _. mine.idle idle))
+            (λ j u _ f. f),
         (k.entries, mine.begins, subst (λ z. IsPage z n k.entries) (sym mine.seats_are) (found_page seats s k), refl, (λ h. absurd (omega arith)), (λ _. refl), subst (λ z. v.who < z) (sym mine.seats_are) mine.below),
       )
 
@@ -188,44 +95,32 @@ module _ (seats slots id : ℕ) (me : Hands) (one : me.0 ≡ view_of me.0 ∷ []
       let more : entries ≡ k.entries ++ run = grown ∙ ap (λ l. l ++ run) seen in
       let count : length entries - length v.seen ≡ length run = let a = ap (length {A = Entry}) grown in let b = length-append v.seen run in omega arith in
       let none_pending : pending mine.mailbox ≡ [] = ap pending (open_mailbox seats k.entries v.who v.handover mine.mailbox mine.fits_mailbox free) in
-      let before : v.own ≡ places_of v.who k.entries = sym (nil_right v.own) ∙ (ap (λ l. v.own ++ l) (sym none_pending) ∙ mine.own) in
+      let before : v.own ≡ places_of v.who k.entries = sym (append-nil v.own) ∙ (ap (λ l. v.own ++ l) (sym none_pending) ∙ mine.own) in
       let own : w.own ++ pending mine.mailbox ≡ places_of v.who entries =
-      ap (λ l. w.own ++ l) none_pending ∙ (nil_right w.own ∙ (ap (λ c. v.own ++ places (length v.seen) c) count ∙ (ap (λ l. l ++ places (length v.seen) (length run)) before
+      ap (λ l. w.own ++ l) none_pending ∙ (append-nil w.own ∙ (ap (λ c. v.own ++ places (length v.seen) c) count ∙ (ap (λ l. l ++ places (length v.seen) (length run)) before
       ∙ (ap (λ l. places_of v.who k.entries ++ places (length l) (length run)) seen ∙ (sym (own_grow v.who k.entries run by) ∙ ap (places_of v.who) (sym more)))))) in (
         w ∷ [],
         keeps,
         tt,
-        record {
-          entries = entries;
-          carrier = k.carrier;
-          mailboxes = k.mailboxes;
-          all_mailboxes = k.all_mailboxes;
-          early = λ i b e. subst (λ l. since_of b ≤ length l) (sym more) (longer k.entries run (since_of b) (k.early i b e));
-          taken_by = some id;
-          words = ap (λ ws. set ws 0 new) k.words ∙ ap (λ (m : ℕ). m ∷ map mark k.mailboxes) (page ∙ ap (λ z. page_word z 1 entries) mine.seats_are);
-          homes = k.homes ∙ ap (λ o. home_of seats k.entries o ∷ map inside_of k.mailboxes) taken_by;
-          small = (fits.0, subst (λ z. ready_of z entries < 2147483648) mine.seats_are fits.1);
-          has_taker = keeps_taker s.views id v w k.mailboxes k.mailboxes (some id) (at ∙ ap some one) (λ t. t) refl (λ p h. h) (subst (HasTaker s.views k.mailboxes) taken_by k.has_taker);
-          each = each_set (Fits seats entries k.carrier (some id) k.mailboxes) s.views id (w ∷ [])
-              (λ j vs apart e. each_map (Fits seats k.entries k.carrier k.taken_by k.mailboxes j) (Fits seats entries k.carrier (some id) k.mailboxes j)
-              (λ u f. relog seats k.entries k.carrier k.taken_by (some id) k.mailboxes j u v.who run entries more by (λ same. apart (sym f.held ∙ (ap k.carrier same ∙ mine.held))) f
-              (λ t. absurd (apart (some-injective j id (sym (f.takes t).0 ∙ taken_by))))) vs (k.each j vs e)) (
-                record {
-                  seats_are = mine.seats_are;
-                  below = mine.below;
-                  held = mine.held;
-                  begins = starts_all entries;
-                  mailbox = mine.mailbox;
-                  has_mailbox = mine.has_mailbox;
-                  fits_mailbox = subst (λ l. MailboxFits seats l v.who v.handover mine.mailbox) (sym more) (fits_longer seats k.entries run v.who v.handover mine.mailbox mine.fits_mailbox);
-                  own = own;
-                  takes = λ t. (refl, refl);
-                  picks = mine.picks;
-                  idle = mine.idle;
-                },
-                tt,
-              );
-        },
+        restate seats s k id me w 0 new keeps entries (some id) k.mailboxes (ap (λ ws. set ws 0 new) k.words ∙ ap (λ (m : ℕ). m ∷ map mark k.mailboxes) (page ∙ ap (λ z. page_word z 1 entries) mine.seats_are))
+            (k.homes ∙ ap (λ o. home_of seats k.entries o ∷ map inside_of k.mailboxes) taken_by) (fits.0, subst (λ z. ready_of z entries < 2147483648) mine.seats_are fits.1) k.all_mailboxes
+            (λ i b e. subst (λ l. since_of b ≤ length l) (sym more) (longer k.entries run (since_of b) (k.early i b e)))
+            (keeps_taker s.views id v w k.mailboxes k.mailboxes (some id) (at ∙ ap some one) (λ t. t) refl (λ p h. h) (subst (HasTaker s.views k.mailboxes) taken_by k.has_taker))
+            (record {
+              seats_are = mine.seats_are;
+              below = mine.below;
+              held = mine.held;
+              begins = starts_all entries;
+              mailbox = mine.mailbox;
+              has_mailbox = mine.has_mailbox;
+              fits_mailbox = subst (λ l. MailboxFits seats l v.who v.handover mine.mailbox) (sym more) (fits_longer seats k.entries run v.who v.handover mine.mailbox mine.fits_mailbox);
+              own = own;
+              takes = λ t. (refl, refl);
+              picks = mine.picks;
+              idle = mine.idle;
+            })
+            (λ j u apart f. relog seats k.entries k.carrier k.taken_by (some id) k.mailboxes j u v.who run entries more by (λ same. apart (sym f.held ∙ (ap k.carrier same ∙ mine.held))) f
+            (λ t. absurd (apart (some-injective j id (sym (f.takes t).0 ∙ taken_by))))),
         refl,
       )
 
@@ -242,35 +137,9 @@ module _ (seats slots id : ℕ) (me : Hands) (one : me.0 ≡ view_of me.0 ∷ []
         w ∷ [],
         gives,
         tt,
-        record {
-          entries = k.entries;
-          carrier = k.carrier;
-          mailboxes = k.mailboxes;
-          all_mailboxes = k.all_mailboxes;
-          early = k.early;
-          taken_by = none;
-          words = ap (λ ws. set ws 0 (bit_and (get_or ws 0 0) 18446744073709551614)) k.words ∙ ap (λ (m : ℕ). m ∷ map mark k.mailboxes) (ap (λ m. bit_and m 18446744073709551614) (sym (found_word seats s k)) ∙ cleared);
-          homes = (λ i. put_back (away i) (holds i)) ∙ (λ i. some (Home (history (mine.seats_are i) (seen i))) ∷ map inside_of k.mailboxes);
-          small = k.small;
-          has_taker = subst (PickedAs k.mailboxes) unpicked (taker_has s.views id v k.mailboxes (at ∙ ap some one) (subst (HasTaker s.views k.mailboxes) taken_by k.has_taker));
-          each = each_set (Fits seats k.entries k.carrier none k.mailboxes) s.views id (w ∷ [])
-              (λ j vs apart e. each_map (Fits seats k.entries k.carrier k.taken_by k.mailboxes j) (Fits seats k.entries k.carrier none k.mailboxes j)
-              (λ u f. retake seats k.entries k.carrier k.taken_by none k.mailboxes j u f (λ t. absurd (apart (some-injective j id (sym (f.takes t).0 ∙ taken_by))))) vs (k.each j vs e)) (
-                record {
-                  seats_are = mine.seats_are;
-                  below = mine.below;
-                  held = mine.held;
-                  begins = mine.begins;
-                  mailbox = mine.mailbox;
-                  has_mailbox = mine.has_mailbox;
-                  fits_mailbox = mine.fits_mailbox;
-                  own = mine.own;
-                  takes = λ t. absurd (true≢false (sym t));
-                  picks = mine.picks;
-                  idle = λ _. unpicked;
-                },
-                tt,
-              );
-        },
+        repage seats s k id me w (bit_and n 18446744073709551614) gives none cleared ((λ i. put_back (away i) (holds i)) ∙ (λ i. some (Home (history (mine.seats_are i) (seen i))) ∷ map inside_of k.mailboxes))
+            (subst (PickedAs k.mailboxes) unpicked (taker_has s.views id v k.mailboxes (at ∙ ap some one) (subst (HasTaker s.views k.mailboxes) taken_by k.has_taker)))
+            (review seats k.entries k.carrier k.carrier k.taken_by none k.mailboxes id id v w mine (refl, refl, refl, refl) mine.held mine.begins (λ t. absurd (true≢false (sym t))) mine.picks (λ _. unpicked))
+            (λ j u apart f. reseat seats k.entries k.carrier k.carrier k.taken_by none k.mailboxes j j u f f.held (λ t. absurd (apart (some-injective j id (sym (f.takes t).0 ∙ taken_by))))),
         refl,
       )

@@ -1,5 +1,5 @@
 -- Views in their places.
-use Rattle.std.proofs.Common.{◌≡◌, ◌≢◌, ℕ, zero, suc, ◌<◌, true, List, [], ◌∷◌, ◌++◌, length, set, refl, sym, ap, ◌∙◌, subst, ⊎_elim, arith, append_assoc}
+use Rattle.std.proofs.Common.{◌≡◌, ◌≢◌, ℕ, zero, suc, ◌<◌, true, List, [], ◌∷◌, ◌++◌, length, set, sym, ap, ◌∙◌, subst, ⊎_elim, arith, append_assoc, append-nil}
 use mathlib.Core.Option.{Option, none, some, some-ne-none, some-injective}
 use mathlib.Core.Logic.{dite}
 use native.Mathlib.Decide.{ℕ_discrete}
@@ -17,6 +17,18 @@ pub inside : {A : Type 0} (l : List A) (i : ℕ) (a : A) → get_elem? l i ≡ s
 inside [] i a e = absurd (some-ne-none a (sym e))
 inside (x ∷ xs) zero a e = omega arith
 inside (x ∷ xs) (suc i) a e = let h = inside xs i a e in omega arith
+
+pub each_map : (P Q : View → Type 0) → ((v : View) → P v → Q v) → (vs : List View) → Each P vs → Each Q vs
+each_map P Q f [] h = tt
+each_map P Q f (v ∷ vs) h = (f v h.0, each_map P Q f vs h.1)
+
+pub each_both : (P Q : View → Type 0) (vs : List View) → Each P vs → Each Q vs → Each (λ v. P v × Q v) vs
+each_both P Q [] h i = tt
+each_both P Q (v ∷ vs) h i = ((h.0, i.0), each_both P Q vs h.1 i.1)
+
+pub each_append : (P : View → Type 0) (vs ws : List View) → Each P vs → Each P ws → Each P (vs ++ ws)
+each_append P [] ws h i = i
+each_append P (v ∷ vs) ws h i = (h.0, each_append P vs ws h.1 i)
 
 -- a change of one seat's views
 pub each_set : (P : ℕ → View → Type 0) (views : List (List View)) (id : ℕ) (new : List View)
@@ -56,11 +68,7 @@ taker_has views id v mailboxes at h =
     pick_or p (x ∷ xs) = x.pick
 
 pub starts_all : (entries : List Entry) → StartsWith entries entries
-starts_all entries = ([], sym (nil_right entries))
-  where
-    nil_right : (l : List Entry) → l ++ [] ≡ l
-    nil_right [] = refl
-    nil_right (x ∷ xs) = ap (λ (t : List Entry). x ∷ t) (nil_right xs)
+starts_all entries = ([], sym (append-nil entries))
 
 pub starts_longer : (entries run seen : List Entry) → StartsWith entries seen → StartsWith (entries ++ run) seen
 starts_longer entries run seen h = (h.0 ++ run, ap (λ l. l ++ run) h.1 ∙ append_assoc seen h.0 run)

@@ -1,5 +1,5 @@
 -- What a whole call says, from what its parts say.
-use Rattle.std.proofs.Common.{◌≡◌, ℕ, ◌-◌, ◌≤◌, List, ◌++◌, length, Some, refl, sym, ap, ◌∙◌, subst, arith, length-append}
+use Rattle.std.proofs.Common.{◌≡◌, ℕ, ◌-◌, ◌≤◌, List, ◌++◌, length, Some, refl, sym, ap, ◌∙◌, subst, arith, length-append, append-nil}
 use Rattle.bd_space.specs.declared.step.Entry.{Entry}
 use Rattle.bd_space.specs.declared.step.Request.{Request}
 use Rattle.bd_space.specs.declared.step.Answer.{Answer}
@@ -19,7 +19,6 @@ use Rattle.bd_driver.specs.declared.slot.Slot.{Slot}
 use Rattle.bd_driver.specs.Reasons.{reason_of}
 use Rattle.bd_driver.specs.Steps.{Hands, took_at, published_at, put_at}
 use Rattle.bd_driver.specs.Driver.{Takes, Gives, IsWhy, Calls}
-use Rattle.bd_driver.proofs.Mailboxes.{nil_right}
 use Rattle.bd_driver.proofs.Views.{starts_longer}
 
 module _ (v : View) (number : ℕ) (me : number ≡ v.who) (m m' : Hands) (e0 e1 : History) (request : Request) (xs : List (ℕ × Slot)) (t : Takes v xs m (Some e0)) (g : Gives (view_of m.0) xs e1.entries m') where
@@ -76,7 +75,7 @@ module _ (v : View) (number : ℕ) (me : number ≡ v.who) (m m' : Hands) (e0 e1
         no_mail = (refl, refl, refl, refl, refl);
         handover = refl;
         begins = subst (λ l. StartsWith l v.seen) (sym entries) t.begins;
-        outcome = (refl, ap (λ c. v.own ++ places (length t.entries) c) none_more ∙ nil_right v.own, is);
+        outcome = (refl, ap (λ c. v.own ++ places (length t.entries) c) none_more ∙ append-nil v.own, is);
       })
 
   is_why : (why : Refused) → e1 ≡ e0 → FullOnly why (IsAtLimit e0 number request) → IsWhy w request (reason_of why)

@@ -4,7 +4,10 @@ use Rattle.bd_uapi.specs.declared.fault.Fault.{Fault}
 use Rattle.bd_uapi.specs.declared.fault.Note.{Note}
 use Rattle.bd_space.specs.declared.step.StepAnswer.{StepAnswer}
 use Rattle.bd_space.specs.declared.step.StepAnswer.TheVariants.{Noted, Refused}
+use Rattle.bd_space.specs.declared.space.Actor.{Actor}
 use Rattle.bd_space.specs.Space.{Space}
+use Rattle.bd_space.specs.Seats.{actor}
+use Rattle.bd_space.specs.Steps.{by_actor}
 use Rattle.bd_space.specs.Names.{has_number_past_limit}
 use Rattle.bd_space.specs.Outcomes.{Outcome, noted, refused}
 use Rattle.bd_engine.specs.declared.tables.Tables.{Tables}
@@ -14,7 +17,7 @@ use Rattle.bd_engine.specs.Plain.{answer_of, both}
 use Rattle.bd_engine.specs.Stands.{Before, Within}
 use Rattle.bd_engine.specs.declared.why.Why.{Why}
 use Rattle.bd_engine.specs.Refusals.{FullOnly}
-use Rattle.bd_engine.specs.Meets.{Meets, IsRefused}
+use Rattle.bd_engine.specs.Meets.{Meets, IsRefused, IsAny, IsBy}
 use Rattle.bd_engine.proofs.Standing.{within}
 
 -- the tables stand for this outcome's space, and the answer is its answer
@@ -78,6 +81,27 @@ twice-same r t e = subst (λ y. IfOk y (λ x. x.again ≡ x.answer)) (sym e) (go
     go : (r : Result Plain Why) → IfOk (both r) (λ x. x.again ≡ x.answer)
     go (Ok x) = refl
     go (Err why) = tt
+
+-- ---- the step of a live thread, said as one of the thread's, and answered twice
+
+module _ (old : Tables) (a : Actor) (f : Space → Outcome) where
+  -- where the definition asks for no live thread
+  module _ (g : Space → Outcome) (same : (s : Space) → f s ≡ g s) where
+    pub any-ok : (new : Tables) (r : Result Plain Why) (t : Result Twice Why) → t ≡ both r → IfOk r (λ x. Meets old new IsAny g (answer_of x)) → IfOk t (λ x. Meets old new (IsBy a) f x.answer)
+    any-ok new r t e m = twice-ok old new (IsBy a) f r t e (as-ok old IsAny (IsBy a) g f (λ s h by. (tt, same s)) answer_of new r m)
+
+    pub any-full : (r : Result Plain Why) (t : Result Twice Why) → t ≡ both r → IfErr r (IsRefused old IsAny g) → IfErr t (IsRefused old (IsBy a) f)
+    any-full r t e m = twice-full old (IsBy a) f r t e (as-full old IsAny (IsBy a) g f (λ s h by. (tt, same s)) r m)
+
+  module _ (g : Space → Actor → Outcome) (same : (s : Space) → f s ≡ by_actor s (actor s a.thread.seat) (g s)) where
+    pub by-same : (s : Space) → Before old s → IsBy a s → IsBy a s × (f s ≡ g s a)
+    by-same s h by = (by, same s ∙ ap (λ o. by_actor s o (g s)) by)
+
+    pub by-ok : (new : Tables) (r : Result Plain Why) (t : Result Twice Why) → t ≡ both r → IfOk r (λ x. Meets old new (IsBy a) (λ s. g s a) (answer_of x)) → IfOk t (λ x. Meets old new (IsBy a) f x.answer)
+    by-ok new r t e m = twice-ok old new (IsBy a) f r t e (as-ok old (IsBy a) (IsBy a) (λ s. g s a) f by-same answer_of new r m)
+
+    pub by-full : (r : Result Plain Why) (t : Result Twice Why) → t ≡ both r → IfErr r (IsRefused old (IsBy a) (λ s. g s a)) → IfErr t (IsRefused old (IsBy a) f)
+    by-full r t e m = twice-full old (IsBy a) f r t e (as-full old (IsBy a) (IsBy a) (λ s. g s a) f by-same r m)
 
 pub answer-is : (old new : Tables) (P : Space → Type 0) (f : Space → Outcome) (a b : StepAnswer) → a ≡ b → Meets old new P f b → Meets old new P f a
 answer-is old new P f a b e m = subst (Meets old new P f) (sym e) m

@@ -1,10 +1,7 @@
 -- How tables go on standing for a space.
-use Rattle.std.proofs.Common.{◌≡◌, ℕ, zero, suc, ◌+◌, ◌<◌, true, List, [], length, Option, Some, None, refl, ap, sym, subst, ◌∙◌, arith}
-use Rattle.std.proofs.lemmas.List.Elements.{All-weaker}
+use Rattle.std.proofs.Common.{◌≡◌, ℕ, zero, suc, ◌+◌, true, [], length, Option, Some, None, refl, ap, sym, subst, ◌∙◌}
 use Rattle.std.specs.List.{find}
 use Rattle.bd_uapi.specs.declared.command.Return.TheVariants.{DeadReply}
-use Rattle.bd_space.specs.declared.space.Process.{Process}
-use Rattle.bd_space.specs.declared.space.Buffer.{Buffer}
 use Rattle.bd_space.specs.declared.space.Frame.{Frame}
 use Rattle.bd_space.specs.declared.space.WorkKind.{WorkKind}
 use Rattle.bd_space.specs.declared.space.WorkKind.TheVariants.{Verdict}
@@ -21,20 +18,12 @@ use Rattle.bd_space.specs.Outcomes.{completed}
 use Rattle.bd_objects.specs.Stands as objects
 use Rattle.bd_calls.specs.declared.table.CallTable.{CallTable}
 use Rattle.bd_calls.specs.Stands as calls
-use Rattle.bd_buffers.specs.WindowsStand.{AreMade, WindowsOf}
+use Rattle.bd_buffers.specs.WindowsStand.{WindowsOf}
+use Rattle.bd_buffers.proofs.WindowLaws.{stands_in}
 use Rattle.bd_engine.specs.declared.tables.Tables.{Tables}
 use Rattle.bd_engine.specs.Stands.{Before, Within}
 
 -- ---- from before a step into it
-
-made_wider : (bound : ℕ) (ps : List Process) (bs : List Buffer) → AreMade bound ps bs → AreMade (bound + 1) ps bs
-made_wider bound ps bs is = record {
-  processes_in_order = is.processes_in_order;
-  processes_before = All-weaker (λ (q : Process). q.made < bound) (λ q. q.made < bound + 1) (λ q h. omega arith) ps is.processes_before;
-  buffers_in_order = is.buffers_in_order;
-  buffers_before = All-weaker (λ (b : Buffer). b.made < bound) (λ b. b.made < bound + 1) (λ b h. omega arith) bs is.buffers_before;
-  received = is.received;
-}
 
 pub within : (t : Tables) (s : Space) → Before t s → Within t s
 within t s h = record {
@@ -43,10 +32,7 @@ within t s h = record {
   manager_is = h.manager_is;
   objects_stand = h.objects_stand;
   calls_stand = h.calls_stand;
-  windows_stand = record {
-    windows_are = h.windows_stand.windows_are;
-    made = made_wider s.steps s.processes s.buffers h.windows_stand.made;
-  };
+  windows_stand = stands_in t.windows s h.windows_stand;
 }
 
 -- ---- settling changes frames and work items alone

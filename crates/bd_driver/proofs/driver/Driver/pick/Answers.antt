@@ -1,9 +1,8 @@
-use Rattle.std.proofs.Common.{rules, ◌≡◌, ℕ, suc, ◌+◌, ◌∷◌, List, sym, ap, ◌∙◌, arith}
-use Rattle.atomic_table.specs.Table.{rest}
-use Rattle.bd_driver.specs.declared.slot.Slot.{Slot}
+use Rattle.std.proofs.Common.{rules, ◌≡◌, suc, ◌+◌, ap, arith}
 use Rattle.bd_driver.specs.declared.slot.Slot.TheVariants.{Posted}
 use Rattle.bd_driver.specs.Steps.{Hands}
 use Rattle.bd_driver.proofs.Serves.{picks_at}
+use Rattle.bd_driver.proofs.OwnMailbox.{first_held}
 use Rattle.bd_driver.proofs.driver.Driver.pick.Goals as goal
 
 pub compare_exchange-requires : goal.compare_exchange-requires
@@ -16,4 +15,4 @@ pub exchange-requires : goal.exchange-requires
 exchange-requires c =
     let hit = c.compare_exchange.ensures.2.0 c.if-compare_exchange-ne1.false in
     let is = ap (λ (m : Hands). m.1) hit.3 in
-    (search rules, (Posted hit.0, is ∙ ap (λ (l : List (ℕ × Slot)). (c.args.number + 1, Posted hit.0) ∷ rest l) (sym is)))
+    (search rules, (Posted hit.0, first_held _ _ (c.args.number + 1) (Posted hit.0) is))

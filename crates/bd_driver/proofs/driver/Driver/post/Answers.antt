@@ -1,46 +1,31 @@
-use Rattle.std.proofs.Common.{rules, ◌≡◌, suc, ◌+◌, [], refl, sym, ap, ◌∙◌, subst, true, arith}
+use Rattle.std.proofs.Common.{rules, refl, sym, ap, ◌∙◌, subst, true}
 use Rattle.atomic_table.specs.Seated.{TableId}
 use Rattle.bd_driver.specs.declared.view.View.{View}
-use Rattle.bd_driver.specs.declared.slot.Slot.TheVariants.{Posted, Empty}
 use Rattle.bd_driver.specs.Views.{view_of}
 use Rattle.bd_driver.specs.States.{SeatState}
 use Rattle.bd_driver.specs.Rest.{is_waiting, IsAtRest}
 use Rattle.bd_driver.specs.Steps.{Hands}
 use Rattle.bd_driver.specs.Handing.{Posts}
-use Rattle.bd_driver.proofs.OwnMailbox.{open_hand, open_me, posts_at, after_post, posted_rests, refill}
+use Rattle.bd_driver.proofs.OwnMailbox.{posts_at, after_post, posted_rests}
 use Rattle.bd_driver.proofs.driver.Driver.post.Goals as goal
 
 pub swap-requires : goal.swap-requires
 swap-requires c =
-    let r = c.seat.invariant in
-    let me = c.seat.inside.table_seat.me in
-    let old = ap (λ (s : SeatState). s.view) c.seat.view_is in
-    let free = ap (λ (v : View). is_waiting v.handover) old ∙ c.requires.free in
-    let is = open_me _ me _ _ r free in
-    let word : c.seat.inside.number + 1 ≡ suc (view_of me.0).who = omega (arith, r.number_is) in
-    let held = refill me c.exchange.new.seat.me (view_of me.0) _ (c.seat.inside.number + 1) Empty (Posted c.args.request) is c.exchange.ensures.3 in
-    (search rules, search rules, posts_at _ _ _ _ (view_of me.0) [] c.args.request _ held word (open_hand (view_of me.0).handover r.ready free))
+    let free = ap (λ (s : SeatState). is_waiting s.view.handover) c.seat.view_is ∙ c.requires.free in
+    (search rules, search rules, posts_at _ _ _ _ c.seat.inside.table_seat.me _ _ _ c.args.request c.seat.invariant free c.exchange.ensures.3)
 
 pub invariant_of-seat : goal.invariant_of-seat
 invariant_of-seat c =
-    let r = c.seat.invariant in
     let me = c.seat.inside.table_seat.me in
-    let old = ap (λ (s : SeatState). s.view) c.seat.view_is in
-    let free = ap (λ (v : View). is_waiting v.handover) old ∙ c.requires.free in
-    let is = open_me _ me _ _ r free in
-    let held = refill me c.exchange.new.seat.me (view_of me.0) _ (c.seat.inside.number + 1) Empty (Posted c.args.request) is c.exchange.ensures.3 in
-    let then = after_post 0 _ _ _ _ (view_of me.0) [] c.args.request held c.swap.ensures.2 in
+    let free = ap (λ (s : SeatState). is_waiting s.view.handover) c.seat.view_is ∙ c.requires.free in
+    let then = after_post 0 _ _ me _ _ _ _ c.args.request c.seat.invariant free c.exchange.ensures.3 c.swap.ensures.2 in
     let table = c.swap.ensures.0 ∙ c.exchange.ensures.0 in
-    subst (λ (z : TableId). IsAtRest z.words c.swap.new.seat.me c.seat.inside.number true) (sym table) (posted_rests _ _ me _ _ _ c.args.request r then)
+    subst (λ (z : TableId). IsAtRest z.words c.swap.new.seat.me c.seat.inside.number true) (sym table) (posted_rests _ _ me _ _ _ c.args.request c.seat.invariant then)
 
 pub returns-clause-posts : goal.returns-clause-posts
 returns-clause-posts c =
-    let r = c.seat.invariant in
     let me = c.seat.inside.table_seat.me in
     let old = ap (λ (s : SeatState). s.view) c.seat.view_is in
     let free = ap (λ (v : View). is_waiting v.handover) old ∙ c.requires.free in
-    let is = open_me _ me _ _ r free in
-    let held = refill me c.exchange.new.seat.me (view_of me.0) _ (c.seat.inside.number + 1) Empty (Posted c.args.request) is c.exchange.ensures.3 in
-    let then = after_post 0 _ _ _ _ (view_of me.0) [] c.args.request held c.swap.ensures.2 in
-    let new = ap (λ (m : Hands). view_of m.0) then in
+    let new = ap (λ (m : Hands). view_of m.0) (after_post 0 _ _ me _ _ _ _ c.args.request c.seat.invariant free c.exchange.ensures.3 c.swap.ensures.2) in
     subst (λ (v : View). Posts v (view_of c.swap.new.seat.me.0) c.args.request) old (subst (λ (w : View). Posts (view_of me.0) w c.args.request) (sym new) refl)

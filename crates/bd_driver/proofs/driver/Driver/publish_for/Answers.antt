@@ -1,11 +1,10 @@
-use Rattle.std.proofs.Common.{subst, rules, ℕ, ◌+◌, ◌<◌, ◌∷◌, List, length, sym, ap, ◌∙◌}
+use Rattle.std.proofs.Common.{subst, rules, ℕ, ◌+◌, ◌<◌, length, ap, ◌∙◌}
 use Rattle.atomic_table.specs.Table.{rest}
 use Rattle.bd_driver.specs.Views.{ready_of, view_of}
 use Rattle.bd_driver.specs.Words.{page_word}
-use Rattle.bd_driver.specs.declared.slot.Slot.{Slot}
 use Rattle.bd_driver.specs.declared.slot.Slot.TheVariants.{Home, Empty}
 use Rattle.bd_driver.specs.Steps.{Hands}
-use Rattle.bd_driver.proofs.OwnMailbox.{refill}
+use Rattle.bd_driver.proofs.OwnMailbox.{refill, first_held}
 use Rattle.bd_driver.proofs.Serves.{serves_at, after_serve}
 use Rattle.bd_driver.proofs.driver.Driver.publish_for.Goals as goal
 
@@ -28,4 +27,4 @@ exchange-requires-2 c =
     let v = view_of c.args.table_seat.now.me.0 in
     let held = refill c.args.table_seat.now.me c.exchange.new.seat.me v _ (c.args.number + 1) Empty (Home e) r.held c.exchange.ensures.3 in
     let is = ap (λ (m : Hands). m.1) (after_serve _ _ v (rest c.args.table_seat.now.me.1) _ e _ held c.swap.ensures.2) in
-    (search rules, (Home e, is ∙ ap (λ (l : List (ℕ × Slot)). (c.args.number + 1, Home e) ∷ rest l) (sym is)))
+    (search rules, (Home e, first_held _ _ (c.args.number + 1) (Home e) is))
