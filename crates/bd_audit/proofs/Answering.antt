@@ -49,6 +49,7 @@ use Rattle.bd_audit.proofs.Checks.{actor-lives, transaction-checked}
 use Rattle.bd_audit.proofs.Chains.{always-steps}
 use Rattle.bd_audit.proofs.Quiet as quiet
 use Rattle.bd_audit.proofs.Quiet.{Quiet, with_work-quiet, quiet-trans}
+use Rattle.bd_audit.proofs.Deaths.{on-mapped}
 
 -- ---- places
 
@@ -451,20 +452,20 @@ module _ (es : List Entry) (e : Entry) (h : Traced es (after opening es)) where
     opened = λ pid euid window. quietly _ (quiet.opened-quiet s e.seat pid euid window);
     attached = λ p. quietly _ (quiet.attached-quiet s e.seat p);
     managed = λ a i b. quietly _ (quiet.managed-quiet s a.process.made);
-    transacts = λ a d parcel v x i t. transacted-traced a i d parcel v x t;
-    replies = λ a d parcel f v x i g t. replied-traced a i d parcel f v x g t;
-    frees = λ p ptr b i t. quietly _ (quiet.without_buffer-quiet s b.made);
-    asks = λ a n strong o x i t. quietly _ (quiet.ask-quiet s a.process.made o strong);
-    drops = λ p o strong. quietly _ (quiet.drop_asked-quiet s p o strong);
-    acknowledges = λ o strong i. quietly _ (quiet.acknowledge-quiet s o strong);
-    loops = λ t looping. quietly _ (quiet.with_looping-quiet s t looping);
-    requests = λ p o cookie. quietly _ (quiet.requested-quiet s p o cookie);
-    clears = λ t y. quietly _ (quiet.cleared-quiet s t y);
-    is_done = λ t y. quietly _ (quiet.death_done-quiet s t y);
-    reads = λ a limit i x n. read-traced a i limit x n;
-    leaves = λ a i. quietly _ (quiet.thread_goes-quiet s a.thread.seat);
-    ends = λ a i. quietly _ (quiet.ends-quiet s a.process.made);
-    ripens = λ z. traced-quiet more (ripen z) z (quiet.ripen-quiet z);
+    changes = record {
+      transacts = λ a d parcel v x i t. transacted-traced a i d parcel v x t;
+      replies = λ a d parcel f v x i g t. replied-traced a i d parcel f v x g t;
+      frees = λ p ptr b i t. quietly _ (quiet.without_buffer-quiet s b.made);
+      asks = λ a n strong o x i t. quietly _ (quiet.ask-quiet s a.process.made o strong);
+      drops = λ p o strong. quietly _ (quiet.drop_asked-quiet s p o strong);
+      acknowledges = λ o strong i. quietly _ (quiet.acknowledge-quiet s o strong);
+      loops = λ t looping. quietly _ (quiet.with_looping-quiet s t looping);
+      on_deaths = on-mapped s _ _ quietly (quiet.on_deaths-quiet s);
+      reads = λ a limit i x n. read-traced a i limit x n;
+      leaves = λ a i. quietly _ (quiet.thread_goes-quiet s a.thread.seat);
+      ends = λ a i. quietly _ (quiet.ends-quiet s a.process.made);
+      ripens = λ z. traced-quiet more (ripen z) z (quiet.ripen-quiet z);
+    };
     follows = λ z. traced-quiet more (follow z) z (quiet.follow-quiet z);
     closes = λ z made. traced-quiet more (closed z made) z (quiet.closed-quiet z made);
     refuses = λ z t r. traced-quiet more (owe z (OfThread t) (work.Refusal r)) z (quiet.owe-quiet z (OfThread t) (work.Refusal r) refl);

@@ -41,7 +41,7 @@ use Rattle.bd_audit.proofs.EveryStep.{Keeps, every_step}
 use Rattle.bd_audit.proofs.Lists.{In, in-left, in-push, in-filter, filter-in, in-changed, changed-in, in-filter_map, any-in, fold-keeps}
 use Rattle.bd_audit.proofs.Tests.{not-true}
 use Rattle.bd_audit.proofs.OneWay
-use Rattle.bd_audit.proofs.OneWay.{Due, Less, own_notices-less}
+use Rattle.bd_audit.proofs.OneWay.{Less, own_notices-less}
 use Rattle.bd_audit.proofs.Untouched
 use Rattle.bd_audit.proofs.Untouched.{Untouched}
 use Rattle.bd_audit.proofs.Ripening.{turn-parts, taken-due, read-in, made-kept}
@@ -51,6 +51,7 @@ use Rattle.bd_audit.proofs.Passing.{On, After, lost-on, not-on, at_pointer-in, a
 use Rattle.bd_audit.proofs.TurnLog.{one-buffer}
 use Rattle.bd_audit.proofs.ReplyTaken.{same-item}
 use Rattle.bd_audit.proofs.Answering.{transaction-accepted}
+use Rattle.bd_audit.proofs.Deaths.{on-mapped, on-both}
 
 -- ---- the item of one call
 
@@ -91,19 +92,25 @@ pub record Treats (s : Space) (e : Entry) (m : ℕ) (z : Space) : Type 0 where
 -- ---- parts that leave the buffers, and no more items that hand over
 
 module _ (s : Space) (e : Entry) (m : ℕ) where
-  once-less : (bs cs : List Buffer) (more todo : List Work) → ((b : Buffer) → In b bs → In b cs) → ((w : Work) → Hands m more w → In w todo) → DueOnce m bs todo → DueOnce m cs more
-  once-less bs cs more todo stay due h = record {
+  -- what is due was due, and its buffer stays
+  once-less : (bs cs : List Buffer) (more todo : List Work) → ((w : Work) → Hands m more w → In w todo)
+      → ((w : Work) → Hands m more w → (u : Unread m bs w) → In u.buffer cs) → DueOnce m bs todo → DueOnce m cs more
+  once-less bs cs more todo due stay h = record {
     one = λ v w i j. h.one v w (due v i, i.1) (due w j, j.1);
     call = λ w i. h.call w (due w i, i.1);
-    unread = λ w i. let u = h.unread w (due w i, i.1) in record { buffer = u.buffer; here = stay u.buffer u.here; made = u.made; handed = u.handed; list = u.list };
+    unread = λ w i. let u = h.unread w (due w i, i.1) in record { buffer = u.buffer; here = stay w i u; made = u.made; handed = u.handed; list = u.list };
+  }
+
+  treats-less : (z y : Space) → ((c : Buffer) → In c z.buffers → In c y.buffers) → ((w : Work) → Hands m z.todo w → In w y.todo)
+      → (DueOnce m y.buffers y.todo → (w : Work) → Hands m z.todo w → (u : Unread m y.buffers w) → In u.buffer z.buffers) → Treats s e m y → Treats s e m z
+  treats-less z y had due stay h = record {
+    once = λ fits. let k = h.once fits in once-less y.buffers z.buffers z.todo y.todo due (stay k) k;
+    handed = λ c i. h.handed c (had c i);
+    made = λ o c i. h.made o c (had c i);
   }
 
   treats-same : (z y : Space) → z.buffers ≡ y.buffers → ((w : Work) → Hands m z.todo w → In w y.todo) → Treats s e m y → Treats s e m z
-  treats-same z y same due h = record {
-    once = λ fits. once-less y.buffers z.buffers z.todo y.todo (λ b i. subst (In b) (sym same) i) due (h.once fits);
-    handed = λ c i. h.handed c (subst (In c) same i);
-    made = λ o c i. h.made o c (subst (In c) same i);
-  }
+  treats-same z y same due h = treats-less z y (λ c i. subst (In c) same i) due (λ k w i u. subst (In u.buffer) (sym same) u.here) h
 
   treats-after : (z y : Space) → After z y → Treats s e m y → Treats s e m z
   treats-after z y a h = treats-same z y a.buffers (λ w i. a.due w m i.0 i.1) h
@@ -127,21 +134,9 @@ module _ (s : Space) (e : Entry) (m : ℕ) where
 
   gone-buffer : (b : Buffer) → IsInTurn s → In b s.buffers → b.handed ≡ true → Treats s e m s → Treats s e m (without_buffer s b.made)
   unfolding without_buffer
-  gone-buffer b turns here handed h = record {
-    once = λ fits. let k = h.once fits in record {
-      one = k.one;
-      call = k.call;
-      unread = λ w i. let u = k.unread w i in record {
-        buffer = u.buffer;
-        here = filter-in stays u.buffer s.buffers u.here (other u.buffer u.here u.handed (is_made_at b.made u.buffer) refl);
-        made = u.made;
-        handed = u.handed;
-        list = u.list;
-      };
-    };
-    handed = λ c i. h.handed c (in-filter stays c s.buffers i).0;
-    made = λ o c i. h.made o c (in-filter stays c s.buffers i).0;
-  }
+  gone-buffer b turns here handed h =
+      treats-less _ s (λ c i. (in-filter stays c s.buffers i).0) (λ w i. i.0)
+      (λ k w i u. filter-in stays u.buffer s.buffers u.here (other u.buffer u.here u.handed (is_made_at b.made u.buffer) refl)) h
     where
       stays : Buffer → Bool
       stays c = not (is_made_at b.made c)
@@ -152,21 +147,9 @@ module _ (s : Space) (e : Entry) (m : ℕ) where
 
   gone-thread : (z : Space) (seat : ℕ) → Treats s e m z → Treats s e m (thread_goes z seat)
   unfolding thread_goes
-  gone-thread z seat h = record {
-    once = λ fits. let k = h.once fits in record {
-      one = λ v w i j. k.one v w (was v i) (was w j);
-      call = λ w i. k.call w (was w i);
-      unread = λ w i. let u = k.unread w (was w i) in record {
-        buffer = u.buffer;
-        here = filter-in keeps u.buffer z.buffers u.here (stays k w i u (is_lost_with z.todo (OfThread seat) u.buffer.made) refl);
-        made = u.made;
-        handed = u.handed;
-        list = u.list;
-      };
-    };
-    handed = λ c i. h.handed c (in-filter keeps c z.buffers i).0;
-    made = λ o c i. h.made o c (in-filter keeps c z.buffers i).0;
-  }
+  gone-thread z seat h =
+      treats-less _ z (λ c i. (in-filter keeps c z.buffers i).0) (λ w i. (was w i).0)
+      (λ k w i u. filter-in keeps u.buffer z.buffers u.here (stays k w i u (is_lost_with z.todo (OfThread seat) u.buffer.made) refl)) h
     where
       keeps : Buffer → Bool
       keeps b = not (is_lost_with z.todo (OfThread seat) b.made)
@@ -192,21 +175,9 @@ module _ (s : Space) (e : Entry) (m : ℕ) where
 
   gone-process : (z : Space) (p : ℕ) → Treats s e m z → Treats s e m (without_process z p)
   unfolding without_process
-  gone-process z p h = record {
-    once = λ fits. let k = h.once fits in record {
-      one = λ v w i j. k.one v w (was v i) (was w j);
-      call = λ w i. k.call w (was w i);
-      unread = λ w i. let u = k.unread w (was w i) in record {
-        buffer = u.buffer;
-        here = filter-in keeps u.buffer z.buffers u.here (stays w i u (u.buffer.receiver == p) refl);
-        made = u.made;
-        handed = u.handed;
-        list = u.list;
-      };
-    };
-    handed = λ c i. h.handed c (in-filter keeps c z.buffers i).0;
-    made = λ o c i. h.made o c (in-filter keeps c z.buffers i).0;
-  }
+  gone-process z p h =
+      treats-less _ z (λ c i. (in-filter keeps c z.buffers i).0) (λ w i. (was w i).0)
+      (λ k w i u. filter-in keeps u.buffer z.buffers u.here (stays w i u (u.buffer.receiver == p) refl)) h
     where
       keeps : Buffer → Bool
       keeps b = not (b.receiver == p)
@@ -316,8 +287,8 @@ module _ (s : Space) (e : Entry) (m : ℕ) where
   unfolding delivered own_notices add_buffer known_by assign_numbers refer make_objects
   delivers y a d v calls h = record {
     once = λ fits.
-        once-less y.buffers _ _ y.todo (λ b i. in-left b y.buffers (buffer_of (known_by y v) a d v ∷ []) i)
-        (λ w i. own_notices-less (add_buffer (known_by y v) (buffer_of (known_by y v) a d v)) a.thread.seat v.sending.items w m i.0 i.1) (h.once fits);
+        once-less y.buffers _ _ y.todo (λ w i. own_notices-less (add_buffer (known_by y v) (buffer_of (known_by y v) a d v)) a.thread.seat v.sending.items w m i.0 i.1)
+        (λ w i u. in-left u.buffer y.buffers (buffer_of (known_by y v) a d v ∷ []) u.here) (h.once fits);
     handed = λ c i made handed. elim (in-push c (buffer_of (known_by y v) a d v) y.buffers i) [
       | inl k ↦ h.handed c k made handed
       | inr is ↦ (let no : false ≡ c.handed = ap (λ (x : Buffer). x.handed) is in absurd (cc))
@@ -333,7 +304,7 @@ module _ (s : Space) (e : Entry) (m : ℕ) where
       → z.todo ≡ with_work y.steps y.todo list kind → Treats s e m y → Treats s e m z
   hands-other z y list kind hands none buffers more h = record {
     once = λ fits. elim fits [
-      | inl lt ↦ once-less y.buffers z.buffers z.todo y.todo (λ b i. subst (In b) (sym buffers) i) (was lt) (h.once (inl lt))
+      | inl lt ↦ once-less y.buffers z.buffers z.todo y.todo (was lt) (λ w i u. subst (In u.buffer) (sym buffers) u.here) (h.once (inl lt))
       | inr call ↦ absurd (none call)
     ];
     handed = λ c i. h.handed c (subst (In c) buffers i);
@@ -511,20 +482,20 @@ module _ (s : Space) (e : Entry) (m : ℕ) where
       opened = λ pid euid window. treats-opened pid euid window at-start;
       attached = λ p. treats-attached p at-start;
       managed = λ a i b. treats-managed a.process.made at-start;
-      transacts = λ a d parcel v x i t. transacts a i d parcel v x t at-start;
-      replies = λ a d parcel f v x i g t. replies a i d parcel f v x t at-start;
-      frees = λ p ptr b i t. gone-buffer b turns (at_pointer-in s p ptr b i) t at-start;
-      asks = λ a n strong o x i t. treats-after _ s (ask-after s a.process.made o strong) at-start;
-      drops = λ p o strong. treats-after _ s (drop_asked-after s p o strong) at-start;
-      acknowledges = λ o strong i. treats-after _ s (acknowledge-after s o strong) at-start;
-      loops = λ t looping. treats-untouched _ s (Untouched.with_looping-untouched s t looping) (OneWay.with_looping-less s t looping) at-start;
-      requests = λ p o cookie. treats-untouched _ s (Untouched.requested-untouched s p o cookie) (OneWay.requested-less s p o cookie) at-start;
-      clears = λ t y. treats-untouched _ s (Untouched.cleared-untouched s t y) (OneWay.cleared-less s t y) at-start;
-      is_done = λ t y. treats-untouched _ s (Untouched.death_done-untouched s t y) (OneWay.death_done-less s t y) at-start;
-      reads = λ a limit i x n. reads a limit i x n;
-      leaves = λ a i. gone-thread s a.thread.seat at-start;
-      ends = λ a i. gone-ends a.process.made at-start;
-      ripens = λ z h. ripens z h;
+      changes = record {
+        transacts = λ a d parcel v x i t. transacts a i d parcel v x t at-start;
+        replies = λ a d parcel f v x i g t. replies a i d parcel f v x t at-start;
+        frees = λ p ptr b i t. gone-buffer b turns (at_pointer-in s p ptr b i) t at-start;
+        asks = λ a n strong o x i t. treats-after _ s (ask-after s a.process.made o strong) at-start;
+        drops = λ p o strong. treats-after _ s (drop_asked-after s p o strong) at-start;
+        acknowledges = λ o strong i. treats-after _ s (acknowledge-after s o strong) at-start;
+        loops = λ t looping. treats-untouched _ s (Untouched.with_looping-untouched s t looping) (OneWay.with_looping-less s t looping) at-start;
+        on_deaths = on-mapped s _ _ (λ y k. treats-untouched y s k.0 k.1 at-start) (on-both s _ _ (Untouched.on_deaths-untouched s) (OneWay.on_deaths-less s));
+        reads = λ a limit i x n. reads a limit i x n;
+        leaves = λ a i. gone-thread s a.thread.seat at-start;
+        ends = λ a i. gone-ends a.process.made at-start;
+        ripens = λ z h. ripens z h;
+      };
       follows = λ z h. treats-after (follow z) z (follow-after z) h;
       closes = λ z made h. treats-untouched (closed z made) z (Untouched.closed-untouched z made) (OneWay.closed-less z made) h;
       refuses = λ z t r h. owes z (OfThread t) (work.Refusal r) refl h;

@@ -28,7 +28,6 @@ use Rattle.bd_space.specs.Exits.{thread_goes, threads_go, without_process, tell_
 use Rattle.bd_space.specs.Steps.{counted, with_thread, with_process, with_manager}
 use Rattle.bd_space.specs.Asking.{ask, drop_asked, acknowledge}
 use Rattle.bd_space.specs.Commands.{with_looping}
-use Rattle.bd_space.specs.Deaths.{requested, cleared, death_done}
 use Rattle.bd_space.specs.Histories.{after}
 use Rattle.bd_audit.specs.Replies.{made_in, thread_made}
 use Rattle.bd_audit.proofs.EveryStep.{Keeps, every_step}
@@ -41,6 +40,8 @@ use Rattle.bd_audit.proofs.ReplyLaw.{between, stood, placed}
 use Rattle.bd_audit.proofs.Seated as seated
 use Rattle.bd_audit.proofs.Seated.{seat_at, always-seated, made-pushed, made-before, none-left}
 use Rattle.bd_audit.proofs.Paths as path
+use Rattle.bd_audit.proofs.PathCalls as path_call
+use Rattle.bd_audit.proofs.Deaths.{tell_deaths-aside, on-mapped, on_deaths-aside}
 
 abbrev pub HasCallers : List Entry → Space → Type 0
 HasCallers es z = (f : Frame) (m t : ℕ) → In f z.frames → Called es f.made m → thread_made z t ≡ Some m → f.caller ≡ Some t
@@ -95,7 +96,7 @@ unfolding threads_go
 ends es z p h =
     let a = fold thread_goes z (map seat_of (filter (λ (t : Thread). t.process == p) z.threads)) in
     let b = without_process a p in
-    same es (tell_deaths b p) b (path.tell_deaths-frames b p) (seated.tell_deaths-threads b p)
+    same es (tell_deaths b p) b (tell_deaths-aside b p).frames (tell_deaths-aside b p).threads
     (process-goes es a p (all-go es (map seat_of (filter (λ (t : Thread). t.process == p) z.threads)) z h))
 
 reads : (es : List Entry) (z : Space) (seat : ℕ) (ws : List Work) → HasCallers es z → HasCallers es (read_by z seat ws)
@@ -171,15 +172,15 @@ module _ (es : List Entry) (e : Entry) (h : HasCallers es (after opening es)) wh
       let y = owe (delivered s a d v) (OfThread a.thread.seat) work.Complete in
       let threads = seated.sent-threads s a d v in
       calls more y a.thread.seat v.receiver.made v.one_way
-      (λ m t c i. own m t (subst (λ n. Called more n m) (path.sent-place s a d v) c) (ap (λ ts. made_in ts t) (sym threads) ∙ i) ∙ sym (actor-made s e.seat a acts).0)
-      (stays y (path.sent-frames s a d v) threads)
+      (λ m t c i. own m t (subst (λ n. Called more n m) (path_call.sent-place s a d v) c) (ap (λ ts. made_in ts t) (sym threads) ∙ i) ∙ sym (actor-made s e.seat a acts).0)
+      (stays y (path_call.sent-frames s a d v) threads)
 
   replies : (a : Actor) (d : TransactionData) (f : Frame) (v : Delivery) → HasCallers more (replied s a d f v)
   unfolding replied
   replies a d f v =
       let x = closed s f.made in
       answers more (owe (delivered x a d v) (OfThread a.thread.seat) work.Complete) f.caller s.steps
-      (same more (owe (delivered x a d v) (OfThread a.thread.seat) work.Complete) x (path.sent-frames x a d v) (seated.sent-threads x a d v) (closes more s f.made now))
+      (same more (owe (delivered x a d v) (OfThread a.thread.seat) work.Complete) x (path_call.sent-frames x a d v) (seated.sent-threads x a d v) (closes more s f.made now))
 
   pub kept : Keeps s e.seat e.step (HasCallers more) (HasCallers more)
   unfolding with_process with_manager without_buffer ask assign_numbers drop_asked acknowledge with_looping ripen follow notify work_goes deaths_go objects_go names_go
@@ -188,20 +189,20 @@ module _ (es : List Entry) (e : Entry) (h : HasCallers es (after opening es)) wh
     opened = λ pid euid window. attaches s.steps (with_process s pid euid window) refl refl refl;
     attached = λ p. attaches p s refl refl refl;
     managed = λ a i b. stays (with_manager s a.process.made) refl refl;
-    transacts = λ a d parcel v x i t. transacts a d v i;
-    replies = λ a d parcel f v x i g t. replies a d f v;
-    frees = λ p ptr b i t. stays (without_buffer s b.made) refl refl;
-    asks = λ a n strong o x i t. stays (ask s a.process.made o strong) refl refl;
-    drops = λ p o strong. stays (drop_asked s p o strong) refl refl;
-    acknowledges = λ o strong i. stays (acknowledge s o strong) refl refl;
-    loops = λ t looping f m u l c k. now f m u l c (sym (made-changed (λ (v : Thread). v.seat == t) looping s.threads u) ∙ k);
-    requests = λ p o cookie. stays (requested s p o cookie) (path.requested-frames s p o cookie) (seated.requested-threads s p o cookie);
-    clears = λ t y. stays (cleared s t y) (path.cleared-frames s t y) (seated.cleared-threads s t y);
-    is_done = λ t y. stays (death_done s t y) (path.death_done-frames s t y) (seated.death_done-threads s t y);
-    reads = λ a limit i x n. reads more s a.thread.seat (taken s (limit - 4) (list_to_read s a.thread)) now;
-    leaves = λ a i. goes more s a.thread.seat now;
-    ends = λ a i. ends more s a.process.made now;
-    ripens = λ z. same more (ripen z) z refl refl;
+    changes = record {
+      transacts = λ a d parcel v x i t. transacts a d v i;
+      replies = λ a d parcel f v x i g t. replies a d f v;
+      frees = λ p ptr b i t. stays (without_buffer s b.made) refl refl;
+      asks = λ a n strong o x i t. stays (ask s a.process.made o strong) refl refl;
+      drops = λ p o strong. stays (drop_asked s p o strong) refl refl;
+      acknowledges = λ o strong i. stays (acknowledge s o strong) refl refl;
+      loops = λ t looping f m u l c k. now f m u l c (sym (made-changed (λ (v : Thread). v.seat == t) looping s.threads u) ∙ k);
+      on_deaths = on-mapped s _ _ (λ y k. stays y k.frames k.threads) (on_deaths-aside s);
+      reads = λ a limit i x n. reads more s a.thread.seat (taken s (limit - 4) (list_to_read s a.thread)) now;
+      leaves = λ a i. goes more s a.thread.seat now;
+      ends = λ a i. ends more s a.process.made now;
+      ripens = λ z. same more (ripen z) z refl refl;
+    };
     follows = λ z. same more (follow z) z refl refl;
     closes = λ z made. closes more z made;
     refuses = λ z t r. same more (owe z (OfThread t) (work.Refusal r)) z (path.owe-frames z (OfThread t) (work.Refusal r)) (seated.owe-threads z (OfThread t) (work.Refusal r));

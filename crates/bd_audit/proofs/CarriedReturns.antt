@@ -5,7 +5,6 @@ use Rattle.bd_uapi.specs.declared.command.TransactionData.{TransactionData}
 use Rattle.bd_uapi.specs.declared.command.Return.TheVariants.{DeadReply, FailedReply, TransactionComplete}
 use Rattle.bd_uapi.specs.declared.fault.Cause.{Cause}
 use Rattle.bd_uapi.specs.declared.fault.Cause.TheVariants as cause
-use Rattle.bd_space.specs.declared.step.ObjectId.{ObjectId}
 use Rattle.bd_space.specs.declared.step.Step.{Step}
 use Rattle.bd_space.specs.declared.step.Entry.{Entry}
 use Rattle.bd_space.specs.declared.space.Object.{Object}
@@ -15,8 +14,6 @@ use Rattle.bd_space.specs.declared.space.Turn.{Turn}
 use Rattle.bd_space.specs.declared.space.Work.{Work}
 use Rattle.bd_space.specs.declared.space.Item.{Item}
 use Rattle.bd_space.specs.declared.space.Actor.{Actor}
-use Rattle.bd_space.specs.declared.space.DeathNotification.{DeathNotification}
-use Rattle.bd_space.specs.declared.space.Phase.TheVariants.{Armed, Queued}
 use Rattle.bd_space.specs.declared.space.TodoList.{TodoList}
 use Rattle.bd_space.specs.declared.space.TodoList.TheVariants.{OfThread, OfProcess}
 use Rattle.bd_space.specs.declared.space.WorkKind.{WorkKind}
@@ -27,7 +24,7 @@ use Rattle.bd_space.specs.Todo.{with_work, owe, is_on, is_notice, is_item, list_
 use Rattle.bd_space.specs.Turns.{turns_of, ripen, ripened, is_ripe}
 use Rattle.bd_space.specs.Notices.{with_notice, wants_notice, has_notice_in, follow, notify, work_goes, deaths_go, still_due}
 use Rattle.bd_space.specs.Names.{names_go, assign_numbers}
-use Rattle.bd_space.specs.References.{objects_go, object_in, owned_in}
+use Rattle.bd_space.specs.References.{objects_go, object_in}
 use Rattle.bd_space.specs.Frames.{closed, goes_to}
 use Rattle.bd_space.specs.Parcels.{is_own, is_strong_kind}
 use Rattle.bd_space.specs.Delivery.{Delivery, delivered, own_notices, add_buffer, known_by, refer, make_objects, buffer_of, add_notice, withdraw_notice}
@@ -35,15 +32,15 @@ use Rattle.bd_space.specs.Transactions.{transacted, called, call_out, refusal}
 use Rattle.bd_space.specs.Replies.{replied, reply_refused}
 use Rattle.bd_space.specs.Freeing.{without_buffer}
 use Rattle.bd_space.specs.Reading.{taken, read_by}
-use Rattle.bd_space.specs.Exits.{thread_goes, threads_go, without_process, tell_death, tell_deaths, seat_of, is_armed}
+use Rattle.bd_space.specs.Exits.{thread_goes, threads_go, without_process, tell_deaths, seat_of}
 use Rattle.bd_space.specs.Steps.{counted, with_thread, with_process, with_manager}
 use Rattle.bd_space.specs.Asking.{ask, drop_asked, acknowledge}
 use Rattle.bd_space.specs.Commands.{with_looping}
-use Rattle.bd_space.specs.Deaths.{with_phase, with_death, without_death, mark_cleared, requested, death_ended, cleared, death_done, owner_lives_in, is_out}
 use Rattle.bd_space.specs.Histories.{after, next}
 use Rattle.bd_audit.specs.HandedReplies.{is_reply}
 use Rattle.bd_audit.proofs.EveryStep.{KeepsWhole, every_whole_step, every_list}
 use Rattle.bd_audit.proofs.Lists.{In, in-push, in-filter, fold-keeps}
+use Rattle.bd_audit.proofs.Deaths.{KeptOnDeaths, on-kept, on-told}
 
 -- a return that the item itself carries is no BR_REPLY
 abbrev pub is_plain : WorkKind → Bool
@@ -157,28 +154,6 @@ fails s seat f h =
 
 -- ---- death notifications
 
-with_phase-plain : (z : Space) (made : ℕ) → IsPlain z → IsPlain (with_phase z made Queued)
-unfolding with_phase
-with_phase-plain z made h = h
-
-requests : (z : Space) (p : ℕ) (o : ObjectId) (cookie : ℕ) → IsPlain z → IsPlain (requested z p o cookie)
-unfolding requested with_death
-requests z p o cookie h =
-    either (owner_lives_in z.processes z.objects o) (with_death z p o cookie Armed) (owe (with_death z p o cookie Queued) (OfProcess p) (work.Death z.steps)) h
-    (owed (with_death z p o cookie Queued) (OfProcess p) (work.Death z.steps) refl h)
-
-ends-death : (z : Space) (t : ℕ) (x : DeathNotification) → IsPlain z → IsPlain (death_ended z t x)
-unfolding death_ended without_death
-ends-death z t x h = owed (without_death z x.made) (OfThread t) (work.Cleared x.cookie) refl h
-
-clears : (z : Space) (t : ℕ) (x : DeathNotification) → IsPlain z → IsPlain (cleared z t x)
-unfolding cleared mark_cleared
-clears z t x h = either (is_out x.phase) (mark_cleared z x.made) (death_ended z t x) h (ends-death z t x h)
-
-is_done : (z : Space) (t : ℕ) (x : DeathNotification) → IsPlain z → IsPlain (death_done z t x)
-unfolding death_done with_phase
-is_done z t x h = either x.cleared (death_ended z t x) _ (ends-death z t x h) h
-
 -- ---- exits
 
 goes : (z : Space) (seat : ℕ) → IsPlain z → IsPlain (thread_goes z seat)
@@ -193,14 +168,15 @@ process-goes : (z : Space) (p : ℕ) → IsPlain z → IsPlain (without_process 
 unfolding without_process
 process-goes z p h = filter-plain (λ (w : Work). not (is_on (OfProcess p) w)) z.todo h
 
-tells-death : (p : ℕ) (z : Space) (x : DeathNotification) → IsPlain z → IsPlain (tell_death p z x)
-tells-death p z x h =
-    either (is_armed x.phase && owned_in z.objects p x.object) (owe (with_phase z x.made Queued) (OfProcess x.process) (work.Death x.made)) z
-    (owed (with_phase z x.made Queued) (OfProcess x.process) (work.Death x.made) refl (with_phase-plain z x.made h)) h
+plain-on_deaths : KeptOnDeaths IsPlain
+plain-on_deaths = record {
+  others = λ z ds h. h;
+  dies = λ z p made h. owed z (OfProcess p) (work.Death made) refl h;
+  clears = λ z t cookie h. owed z (OfThread t) (work.Cleared cookie) refl h;
+}
 
 tells-deaths : (z : Space) (p : ℕ) → IsPlain z → IsPlain (tell_deaths z p)
-unfolding tell_deaths
-tells-deaths z p h = fold-keeps IsPlain (tell_death p) z.deaths (λ y x l k. tells-death p y x k) z h
+tells-deaths z p h = on-told IsPlain plain-on_deaths z p h
 
 -- ---- what follows
 
@@ -230,20 +206,20 @@ kept s seat x h = record {
   opened = λ pid euid window. h;
   attached = λ p. h;
   managed = λ a e b. h;
-  transacts = λ a d parcel v e i t. transacts s a d v h;
-  replies = λ a d parcel f v e i g t. replies s a d f v h;
-  frees = λ p ptr b e t. h;
-  asks = λ a n strong o e i t. h;
-  drops = λ p o strong. h;
-  acknowledges = λ o strong i. h;
-  loops = λ t looping. h;
-  requests = λ p o cookie. requests s p o cookie h;
-  clears = λ t y. clears s t y h;
-  is_done = λ t y. is_done s t y h;
-  reads = λ a limit e i n. filter-plain (λ (w : Work). not (list_any (λ (d : Work). is_item w d) (taken s (limit - 4) (list_to_read s a.thread)))) s.todo h;
-  leaves = λ a e. goes s a.thread.seat h;
-  ends = λ a e. let p = a.process.made in tells-deaths (without_process (threads_go s p) p) p (process-goes (threads_go s p) p (all-go s p h));
-  ripens = ripens;
+  changes = record {
+    transacts = λ a d parcel v e i t. transacts s a d v h;
+    replies = λ a d parcel f v e i g t. replies s a d f v h;
+    frees = λ p ptr b e t. h;
+    asks = λ a n strong o e i t. h;
+    drops = λ p o strong. h;
+    acknowledges = λ o strong i. h;
+    loops = λ t looping. h;
+    on_deaths = on-kept IsPlain plain-on_deaths s h;
+    reads = λ a limit e i n. filter-plain (λ (w : Work). not (list_any (λ (d : Work). is_item w d) (taken s (limit - 4) (list_to_read s a.thread)))) s.todo h;
+    leaves = λ a e. goes s a.thread.seat h;
+    ends = λ a e. let p = a.process.made in tells-deaths (without_process (threads_go s p) p) p (process-goes (threads_go s p) p (all-go s p h));
+    ripens = ripens;
+  };
   follows = follows;
   refuses = λ t c. owed s (OfThread t) (work.Refusal (refusal c)) (refusal-plain c) h;
   fails = λ a d parcel f e i g. fails s a.thread.seat f h;

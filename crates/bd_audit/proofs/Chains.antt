@@ -25,7 +25,7 @@ use Rattle.bd_space.specs.Commands.{command_step}
 use Rattle.bd_space.specs.Steps.{change, counted}
 use Rattle.bd_space.specs.Histories.{History, after, next, space_after}
 use Rattle.bd_audit.specs.Gifts as gifts
-use Rattle.bd_audit.specs.Gifts.{is_by, is_carried_to, is_sent_to, is_asking_0, AsksManager, Stands, Gives, OwnerGives, ManagerGives, IsChainFrom, IsGiftChain}
+use Rattle.bd_audit.specs.Gifts.{is_by, is_carried_to, is_asking_0, AsksManager, Stands, Gives, OwnerGives, ManagerGives, IsChainFrom, IsGiftChain}
 use Rattle.bd_audit.proofs.Lists.{In, any-in}
 use Rattle.bd_audit.proofs.Tests.{and-both, eq-same}
 use Rattle.bd_audit.proofs.Beginnings.{after-append}

@@ -13,8 +13,6 @@ use Rattle.bd_space.specs.declared.step.Parcel.{Parcel}
 use Rattle.bd_space.specs.declared.step.Step.TheVariants.{Command, Read}
 use Rattle.bd_space.specs.declared.step.StepAnswer.TheVariants.{Accepted}
 use Rattle.bd_space.specs.declared.step.Entry.{Entry}
-use Rattle.bd_space.specs.declared.step.ObjectId.{ObjectId}
-use Rattle.bd_space.specs.declared.space.DeathNotification.{DeathNotification}
 use Rattle.bd_space.specs.declared.space.Thread.{Thread}
 use Rattle.bd_space.specs.declared.space.Work.{Work}
 use Rattle.bd_space.specs.declared.space.Frame.{Frame}
@@ -39,7 +37,6 @@ use Rattle.bd_space.specs.Replies.{replied, reply_refused}
 use Rattle.bd_space.specs.Freeing.{without_buffer}
 use Rattle.bd_space.specs.Asking.{ask, drop_asked, acknowledge}
 use Rattle.bd_space.specs.Commands.{command_step, with_looping}
-use Rattle.bd_space.specs.Deaths.{with_phase, with_death, without_death, mark_cleared, requested, death_ended, cleared, death_done, owner_lives_in, is_out}
 use Rattle.bd_space.specs.Reading.{read_by, read_fault, taken, serve}
 use Rattle.bd_space.specs.Steps.{change, counted, by_actor, with_process, with_manager}
 use Rattle.bd_space.specs.Histories.{after}
@@ -60,10 +57,12 @@ use Rattle.bd_audit.proofs.ReplyLaw.{NoFrame, stood, placed}
 use Rattle.bd_audit.proofs.Seated as seated
 use Rattle.bd_audit.proofs.Seated.{always-seated}
 use Rattle.bd_audit.proofs.Paths as path
+use Rattle.bd_audit.proofs.PathCalls as path_call
 use Rattle.bd_audit.proofs.Callers as callers
 use Rattle.bd_audit.proofs.Callers.{HasCallers, always-callers, called-before, seat-below}
 use Rattle.bd_audit.proofs.Lined.{always-lined}
-use Rattle.bd_audit.proofs.Unread.{Holds, Leaves, holds-trans, holds-owe, holds-follow, holds-ripen, sent-holds, leaves-same, attached-leaves, transacted-leaves, goes-leaves, ends-leaves, requested-holds, cleared-holds, death_done-holds}
+use Rattle.bd_audit.proofs.Unread.{Holds, Leaves, holds-trans, holds-owe, holds-follow, holds-ripen, sent-holds, leaves-same, attached-leaves, transacted-leaves, goes-leaves, ends-leaves, on_deaths-leaves}
+use Rattle.bd_audit.proofs.Deaths.{on-mapped, on-both}
 
 abbrev pub StandsIn : Space → ℕ → Type 0
 StandsIn z j = (f : Frame) × In f z.frames × (f.made ≡ j)
@@ -183,8 +182,8 @@ transacted-open s a d v two_way below = at v.one_way two_way
     at : (b : Bool) → b ≡ false → Open (called (owe (delivered s a d v) (OfThread a.thread.seat) work.Complete) a.thread.seat v.receiver.made b) s.steps
     at true e = absurd (cc)
     at false e =
-        framed-open (owe (delivered s a d v) (OfThread a.thread.seat) work.Complete) a.thread.seat v.receiver.made s.steps (path.sent-place s a d v)
-        (λ g l. below g (subst (In g) (path.sent-frames s a d v) l))
+        framed-open (owe (delivered s a d v) (OfThread a.thread.seat) work.Complete) a.thread.seat v.receiver.made s.steps (path_call.sent-place s a d v)
+        (λ g l. below g (subst (In g) (path_call.sent-frames s a d v) l))
 
 called-stands : (s : Space) (seat : ℕ) (d : TransactionData) (parcel : Option Parcel) → ((f : Frame) → In f s.frames → f.made < s.steps) → is_one_way d ≡ false
     → (change s seat (Command (bc.Transaction d) parcel)).answer ≡ Accepted → StandsIn (change s seat (Command (bc.Transaction d) parcel)).space s.steps
@@ -213,20 +212,6 @@ read-on s th left w t l on = at (has_work_in s.todo (OfThread th.seat)) (th.loop
     at true c i = sym (eqb-true th.seat t (own (OfThread th.seat) i))
     at false true i = let wrong = own (OfProcess th.process) i in absurd (cc)
     at false false i = absurd i
-
--- ---- places of a step's parts
-
-requested-steps : (z : Space) (p : ℕ) (o : ObjectId) (cookie : ℕ) → (requested z p o cookie).steps ≡ z.steps
-unfolding requested with_death owe
-requested-steps z p o cookie = path.one-of (λ (y : Space). y.steps) (owner_lives_in z.processes z.objects o) _ _ z.steps refl refl
-
-cleared-steps : (z : Space) (t : ℕ) (x : DeathNotification) → (cleared z t x).steps ≡ z.steps
-unfolding cleared mark_cleared death_ended without_death owe
-cleared-steps z t x = path.one-of (λ (y : Space). y.steps) (is_out x.phase) _ _ z.steps refl refl
-
-death_done-steps : (z : Space) (t : ℕ) (x : DeathNotification) → (death_done z t x).steps ≡ z.steps
-unfolding death_done with_phase death_ended without_death owe
-death_done-steps z t x = path.one-of (λ (y : Space). y.steps) x.cleared _ _ z.steps refl refl
 
 -- ---- one step
 
@@ -323,9 +308,9 @@ module _ (es : List Entry) (e : Entry) (h : Answered es (after opening es)) wher
   replies a d f v g =
       let x = closed s f.made in
       let y = owe (delivered x a d v) (OfThread a.thread.seat) work.Complete in
-      let steps : y.steps ≡ s.steps = path.sent-place x a d v in
+      let steps : y.steps ≡ s.steps = path_call.sent-place x a d v in
       closes (replied s a d f v) s f (told-steps y f.caller (work.Reply s.steps) ∙ steps) (told-threads y f.caller (work.Reply s.steps) ∙ seated.sent-threads x a d v)
-      (told-frames y f.caller (work.Reply s.steps) ∙ path.sent-frames x a d v)
+      (told-frames y f.caller (work.Reply s.steps) ∙ path_call.sent-frames x a d v)
       (holds-trans _ y.todo s.todo (told-holds y f.caller (work.Reply s.steps)) (sent-holds x a d v))
       (told-waits y f.caller (work.Reply s.steps) (length es) refl (steps ∙ always-steps es)) (served-in a.thread.seat f g) callers-now now
 
@@ -417,29 +402,29 @@ module _ (es : List Entry) (e : Entry) (h : Answered es (after opening es)) wher
         opened = λ pid euid window. (k.opened pid euid window, leaves _ s (attached-leaves s (with_process s pid euid window) e.seat s.steps refl refl refl refl) now);
         attached = λ p. (k.attached p, leaves _ s (attached-leaves s s e.seat p refl refl refl refl) now);
         managed = λ a i b. (k.managed a i b, same (with_manager s a.process.made) refl refl refl (λ w q l. l));
-        transacts = λ a d parcel v x i t. (k.transacts a d parcel v x i t, leaves _ s (transacted-leaves s a d v) now);
-        replies = λ a d parcel f v x i g t. (k.replies a d parcel f v x i g t, replies a d f v g);
-        frees = λ p ptr b i t. (k.frees p ptr b i t, same (without_buffer s b.made) refl refl refl (λ w q l. l));
-        asks = λ a n strong o i x t. (k.asks a n strong o i x t, same (ask s a.process.made o strong) refl refl refl (λ w q l. l));
-        drops = λ p o strong. (k.drops p o strong, same (drop_asked s p o strong) refl refl refl (λ w q l. l));
-        acknowledges = λ o strong i. (k.acknowledges o strong i, same (acknowledge s o strong) refl refl refl (λ w q l. l));
-        loops = λ t looping. (
-          k.loops t looping,
-          leaves (with_looping s t looping) s (record {
-            steps = refl;
-            threads = λ u m lt i. sym (made-changed (λ (v : Thread). v.seat == t) looping s.threads u) ∙ i;
-            stay = λ f l. (f, l, refl);
-            came = λ f l. inl (f, l, refl);
-            answers = λ w u m lt i on q l. l;
-          }) now,
-        );
-        requests = λ p o cookie. (k.requests p o cookie, same (requested s p o cookie) (requested-steps s p o cookie) (seated.requested-threads s p o cookie) (path.requested-frames s p o cookie) (requested-holds s p o cookie));
-        clears = λ t y. (k.clears t y, same (cleared s t y) (cleared-steps s t y) (seated.cleared-threads s t y) (path.cleared-frames s t y) (cleared-holds s t y));
-        is_done = λ t y. (k.is_done t y, same (death_done s t y) (death_done-steps s t y) (seated.death_done-threads s t y) (path.death_done-frames s t y) (death_done-holds s t y));
-        reads = λ a limit i x n. (k.reads a limit i x n, reads a limit i x n);
-        leaves = λ a i. (k.leaves a i, leaves _ s (goes-leaves s a.thread.seat) now);
-        ends = λ a i. (k.ends a i, leaves _ s (ends-leaves s a.process.made) now);
-        ripens = λ z b. (k.ripens z b.0, leaves (ripen z) z (leaves-same (ripen z) z refl refl refl (holds-ripen z)) b.1);
+        changes = record {
+          transacts = λ a d parcel v x i t. (k.changes.transacts a d parcel v x i t, leaves _ s (transacted-leaves s a d v) now);
+          replies = λ a d parcel f v x i g t. (k.changes.replies a d parcel f v x i g t, replies a d f v g);
+          frees = λ p ptr b i t. (k.changes.frees p ptr b i t, same (without_buffer s b.made) refl refl refl (λ w q l. l));
+          asks = λ a n strong o i x t. (k.changes.asks a n strong o i x t, same (ask s a.process.made o strong) refl refl refl (λ w q l. l));
+          drops = λ p o strong. (k.changes.drops p o strong, same (drop_asked s p o strong) refl refl refl (λ w q l. l));
+          acknowledges = λ o strong i. (k.changes.acknowledges o strong i, same (acknowledge s o strong) refl refl refl (λ w q l. l));
+          loops = λ t looping. (
+            k.changes.loops t looping,
+            leaves (with_looping s t looping) s (record {
+              steps = refl;
+              threads = λ u m lt i. sym (made-changed (λ (v : Thread). v.seat == t) looping s.threads u) ∙ i;
+              stay = λ f l. (f, l, refl);
+              came = λ f l. inl (f, l, refl);
+              answers = λ w u m lt i on q l. l;
+            }) now,
+          );
+          on_deaths = on-both s _ _ k.changes.on_deaths (on-mapped s _ _ (λ y l. leaves y s l now) (on_deaths-leaves s));
+          reads = λ a limit i x n. (k.changes.reads a limit i x n, reads a limit i x n);
+          leaves = λ a i. (k.changes.leaves a i, leaves _ s (goes-leaves s a.thread.seat) now);
+          ends = λ a i. (k.changes.ends a i, leaves _ s (ends-leaves s a.process.made) now);
+          ripens = λ z b. (k.changes.ripens z b.0, leaves (ripen z) z (leaves-same (ripen z) z refl refl refl (holds-ripen z)) b.1);
+        };
         follows = λ z b. (k.follows z b.0, leaves (follow z) z (leaves-same (follow z) z refl refl refl (holds-follow z)) b.1);
         refuses = λ t c. (k.refuses t c, same (owe s (OfThread t) (work.Refusal (refusal c))) (owe-steps s (OfThread t) (work.Refusal (refusal c))) (seated.owe-threads s (OfThread t) (work.Refusal (refusal c))) (path.owe-frames s (OfThread t) (work.Refusal (refusal c))) (holds-owe s (OfThread t) (work.Refusal (refusal c))));
         fails = λ a d parcel f x i g. (k.fails a d parcel f x i g, fails a f g);

@@ -34,7 +34,7 @@ use Rattle.bd_space.specs.Transactions.{transaction_step, transaction_outcome, t
 use Rattle.bd_space.specs.Replies.{reply_step, reply_to, reply_outcome, reply_check, replied, reply_refused}
 use Rattle.bd_space.specs.Freeing.{free_step, free_outcome, buffer_at_pointer, without_buffer}
 use Rattle.bd_space.specs.Asking.{ask_step, ask_outcome, ask_check, ask, drop_step, drop_outcome, drop_asked, done_step, done_outcome, acknowledge}
-use Rattle.bd_space.specs.Deaths.{request_step, request_outcome, requested, clear_step, clear_outcome, cleared, death_done_step, death_done_outcome, death_done}
+use Rattle.bd_space.specs.Deaths.{request_step, request_outcome, clear_step, clear_outcome, death_done_step, death_done_outcome}
 use Rattle.bd_space.specs.Commands.{command_step, with_looping}
 use Rattle.bd_space.specs.Notices.{follow}
 use Rattle.bd_space.specs.Turns.{ripen}
@@ -45,6 +45,7 @@ use Rattle.bd_uapi.specs.declared.fault.Note.TheVariants.{NotHandedOut}
 use Rattle.bd_space.specs.Outcomes.{Outcome, completed, refused}
 use Rattle.bd_space.specs.Steps.{change, open_step, open_outcome, open_fault, attach_step, attach_outcome, manager_step, manager_outcome, is_manager_busy, by_actor, with_thread, with_process, with_manager}
 use Rattle.bd_space.specs.Histories.{after, next}
+use Rattle.bd_audit.proofs.Deaths.{OnDeaths, on-requested, on-cleared, on-done}
 
 -- a step that asks for a reference through this handle
 abbrev pub IsAsking : Step → ℕ → Bool → Type 0
@@ -57,14 +58,9 @@ IsAcknowledging x strong = (ptr : ℕ) × (cookie : ℕ) × (parcel : Option Par
 abbrev pub IsReading : Step → Type 0
 IsReading x = (limit : ℕ) × (x ≡ Read limit)
 
--- What the parts of a step by this seat keep: M holds after a change and while buffers' turns ripen, and F from what
--- follows on. Each part is said with what its step has tested, a refusal with its cause, and a frame closes together with what
--- its caller is told.
-pub record KeepsWhole (s : Space) (seat : ℕ) (x : Step) (M F : Space → Type 0) : Type 0 where
-  pub same : F s
-  pub opened : (pid euid window : ℕ) → F (with_thread (with_process s pid euid window) seat s.steps)
-  pub attached : (p : ℕ) → F (with_thread s seat p)
-  pub managed : (a : Actor) → actor s seat ≡ Some a → is_manager_busy s a.process.made ≡ false → F (with_manager s a.process.made)
+-- What the parts of a step by this seat make of its space, up to what follows on: M holds after each, and while buffers'
+-- turns ripen. Each part is said with what its step has tested.
+pub record Changes (s : Space) (seat : ℕ) (x : Step) (M : Space → Type 0) : Type 0 where
   pub transacts : (a : Actor) (d : TransactionData) (parcel : Option Parcel) (v : Delivery) → x ≡ Command (bc.Transaction d) parcel → actor s seat ≡ Some a
       → transaction_check s a d parcel ≡ Ok v → M (transacted s a d v)
   pub replies : (a : Actor) (d : TransactionData) (parcel : Option Parcel) (f : Frame) (v : Delivery) → x ≡ Command (bc.Reply d) parcel → actor s seat ≡ Some a
@@ -74,14 +70,21 @@ pub record KeepsWhole (s : Space) (seat : ℕ) (x : Step) (M F : Space → Type 
   pub drops : (p : ℕ) (o : ObjectId) (strong : Bool) → M (drop_asked s p o strong)
   pub acknowledges : (o : ObjectId) (strong : Bool) → IsAcknowledging x strong → M (acknowledge s o strong)
   pub loops : (t : ℕ) (looping : Bool) → M (with_looping s t looping)
-  pub requests : (p : ℕ) (o : ObjectId) (cookie : ℕ) → M (requested s p o cookie)
-  pub clears : (t : ℕ) (y : DeathNotification) → M (cleared s t y)
-  pub is_done : (t : ℕ) (y : DeathNotification) → M (death_done s t y)
+  pub on_deaths : OnDeaths s M
   pub reads : (a : Actor) (limit : ℕ) → actor s seat ≡ Some a → x ≡ Read limit → read_fault limit (list_to_read s a.thread) ≡ None
       → M (read_by s a.thread.seat (taken s (limit - 4) (list_to_read s a.thread)))
   pub leaves : (a : Actor) → actor s seat ≡ Some a → M (thread_goes s a.thread.seat)
   pub ends : (a : Actor) → actor s seat ≡ Some a → M (tell_deaths (without_process (threads_go s a.process.made) a.process.made) a.process.made)
   pub ripens : (z : Space) → M z → M (ripen z)
+
+-- What the parts of a step by this seat keep: M up to what follows on, and F from there. A refusal is said with its cause,
+-- and a frame closes together with what its caller is told.
+pub record KeepsWhole (s : Space) (seat : ℕ) (x : Step) (M F : Space → Type 0) : Type 0 where
+  pub same : F s
+  pub opened : (pid euid window : ℕ) → F (with_thread (with_process s pid euid window) seat s.steps)
+  pub attached : (p : ℕ) → F (with_thread s seat p)
+  pub managed : (a : Actor) → actor s seat ≡ Some a → is_manager_busy s a.process.made ≡ false → F (with_manager s a.process.made)
+  pub changes : Changes s seat x M
   pub follows : (z : Space) → M z → F (follow z)
   pub refuses : (t : ℕ) (c : Cause) → F (owe s (OfThread t) (work.Refusal (refusal c)))
   pub fails : (a : Actor) (d : TransactionData) (parcel : Option Parcel) (f : Frame) → x ≡ Command (bc.Reply d) parcel → actor s seat ≡ Some a
@@ -103,7 +106,7 @@ module _ (s : Space) (seat : ℕ) (x : Step) (M F : Space → Type 0) (k : Keeps
 
   completes : (z : Space) → M z → F (completed z)
   unfolding completed
-  completes z h = settles (follow (ripen z)) (k.follows (ripen z) (k.ripens z h))
+  completes z h = settles (follow (ripen z)) (k.follows (ripen z) (k.changes.ripens z h))
 
   opens : (pid euid window : ℕ) (o : Option Fault) → F (open_outcome s seat pid euid window o).space
   opens pid euid window None = k.opened pid euid window
@@ -125,12 +128,12 @@ module _ (s : Space) (seat : ℕ) (x : Step) (M F : Space → Type 0) (k : Keeps
   transacts-to : (a : Actor) (d : TransactionData) (parcel : Option Parcel) (r : Result Delivery Cause) → x ≡ Command (bc.Transaction d) parcel → actor s seat ≡ Some a
       → transaction_check s a d parcel ≡ r → F (transaction_outcome s a d r).space
   transacts-to a d parcel (Err c) e h t = settles _ (k.refuses a.thread.seat c)
-  transacts-to a d parcel (Ok v) e h t = completes _ (k.transacts a d parcel v e h t)
+  transacts-to a d parcel (Ok v) e h t = completes _ (k.changes.transacts a d parcel v e h t)
 
   replies-with : (a : Actor) (d : TransactionData) (parcel : Option Parcel) (f : Frame) (r : Result Delivery Cause) → x ≡ Command (bc.Reply d) parcel → actor s seat ≡ Some a
       → served_innermost s a.thread.seat ≡ Some f → reply_check s a d parcel f ≡ r → F (reply_outcome s a d f r).space
   replies-with a d parcel f (Err c) e h i t = settles _ (k.fails a d parcel f e h i)
-  replies-with a d parcel f (Ok v) e h i t = completes _ (k.replies a d parcel f v e h i t)
+  replies-with a d parcel f (Ok v) e h i t = completes _ (k.changes.replies a d parcel f v e h i t)
 
   replies-to : (a : Actor) (d : TransactionData) (parcel : Option Parcel) (o : Option Frame) → x ≡ Command (bc.Reply d) parcel → actor s seat ≡ Some a
       → served_innermost s a.thread.seat ≡ o → F (reply_to s a d parcel o).space
@@ -139,7 +142,7 @@ module _ (s : Space) (seat : ℕ) (x : Step) (M F : Space → Type 0) (k : Keeps
 
   frees-if : (p ptr : ℕ) (b : Buffer) → buffer_at_pointer s p ptr ≡ Some b → (handed : Bool) → b.handed ≡ handed
       → F (cond {A = Outcome} handed (record { answer = Accepted; space = completed (without_buffer s b.made) }) (record { answer = Noted NotHandedOut; space = s })).space
-  frees-if p ptr b e true h = completes _ (k.frees p ptr b e h)
+  frees-if p ptr b e true h = completes _ (k.changes.frees p ptr b e h)
   frees-if p ptr b e false h = k.same
 
   frees-at : (p ptr : ℕ) (o : Option Buffer) → buffer_at_pointer s p ptr ≡ o → F (free_outcome s o).space
@@ -149,27 +152,27 @@ module _ (s : Space) (seat : ℕ) (x : Step) (M F : Space → Type 0) (k : Keeps
   asks-for : (a : Actor) (n : ℕ) (strong : Bool) (r : Result ObjectId Note) → actor s seat ≡ Some a → IsAsking x n strong → ask_check s a.process.made n strong ≡ r
       → F (ask_outcome s a.process.made strong r).space
   asks-for a n strong (Err m) e i t = k.same
-  asks-for a n strong (Ok o) e i t = completes _ (k.asks a n strong o e i t)
+  asks-for a n strong (Ok o) e i t = completes _ (k.changes.asks a n strong o e i t)
 
   drops-of : (p : ℕ) (strong : Bool) (r : Result ObjectId Note) → F (drop_outcome s p strong r).space
   drops-of p strong (Err m) = k.same
-  drops-of p strong (Ok o) = completes _ (k.drops p o strong)
+  drops-of p strong (Ok o) = completes _ (k.changes.drops p o strong)
 
   acknowledges-of : (strong : Bool) (r : Result Object Note) → IsAcknowledging x strong → F (done_outcome s strong r).space
   acknowledges-of strong (Err m) i = k.same
-  acknowledges-of strong (Ok o) i = completes _ (k.acknowledges o.id strong i)
+  acknowledges-of strong (Ok o) i = completes _ (k.changes.acknowledges o.id strong i)
 
   requests-of : (p cookie : ℕ) (r : Result ObjectId Note) → F (request_outcome s p cookie r).space
   requests-of p cookie (Err m) = k.same
-  requests-of p cookie (Ok o) = completes _ (k.requests p o cookie)
+  requests-of p cookie (Ok o) = completes _ (on-requested s M k.changes.on_deaths p o cookie)
 
   clears-of : (t : ℕ) (r : Result DeathNotification Note) → F (clear_outcome s t r).space
   clears-of t (Err m) = k.same
-  clears-of t (Ok y) = completes _ (k.clears t y)
+  clears-of t (Ok y) = completes _ (on-cleared s M k.changes.on_deaths t y)
 
   is_done-of : (t : ℕ) (o : Option DeathNotification) → F (death_done_outcome s t o).space
   is_done-of t None = k.same
-  is_done-of t (Some y) = completes _ (k.is_done t y)
+  is_done-of t (Some y) = completes _ (on-done s M k.changes.on_deaths t y)
 
   commands : (a : Actor) (c : command.Command) (parcel : Option Parcel) → x ≡ Command c parcel → actor s seat ≡ Some a → F (command_step s a c parcel).space
   unfolding command_step transaction_step reply_step free_step ask_step drop_step done_step request_step clear_step death_done_step
@@ -182,8 +185,8 @@ module _ (s : Space) (seat : ℕ) (x : Step) (M F : Space → Type 0) (k : Keeps
   commands a (bc.Decrefs n) parcel e h = drops-of a.process.made false _
   commands a (bc.IncrefsDone ptr cookie) parcel e h = acknowledges-of false _ (ptr, cookie, parcel, e)
   commands a (bc.AcquireDone ptr cookie) parcel e h = acknowledges-of true _ (ptr, cookie, parcel, e)
-  commands a bc.EnterLooper parcel e h = completes _ (k.loops a.thread.seat true)
-  commands a bc.ExitLooper parcel e h = completes _ (k.loops a.thread.seat false)
+  commands a bc.EnterLooper parcel e h = completes _ (k.changes.loops a.thread.seat true)
+  commands a bc.ExitLooper parcel e h = completes _ (k.changes.loops a.thread.seat false)
   commands a (bc.RequestDeathNotification n cookie) parcel e h = requests-of a.process.made cookie _
   commands a (bc.ClearDeathNotification n cookie) parcel e h = clears-of a.thread.seat _
   commands a (bc.DeadBinderDone cookie) parcel e h = is_done-of a.thread.seat _
@@ -192,7 +195,7 @@ module _ (s : Space) (seat : ℕ) (x : Step) (M F : Space → Type 0) (k : Keeps
       → F (elim o as (λ (o : Option Fault). Outcome) [ Some y ↦ refused s y | None ↦ read_taking s a.thread.seat (taken s (limit - 4) (list_to_read s a.thread)) ]).space
   unfolding read_taking
   reads-list a limit (Some y) i e h = k.same
-  reads-list a limit None i e h = k.follows _ (k.reads a limit e i h)
+  reads-list a limit None i e h = k.follows _ (k.changes.reads a limit e i h)
 
   changes : (y : Step) → x ≡ y → F (change s seat y).space
   unfolding change open_step attach_step manager_step read_step exit_thread_step exit_process_step
@@ -201,8 +204,8 @@ module _ (s : Space) (seat : ℕ) (x : Step) (M F : Space → Type 0) (k : Keeps
   changes SetManager e = acts (actor s seat) _ refl (λ a h. manages a h (is_manager_busy s a.process.made) refl)
   changes (Command c parcel) e = acts (actor s seat) _ refl (λ a h. commands a c parcel e h)
   changes (Read limit) e = acts (actor s seat) _ refl (λ a h. reads-list a limit (read_fault limit (list_to_read s a.thread)) e h refl)
-  changes ExitThread e = acts (actor s seat) _ refl (λ a h. settles _ (k.follows _ (k.leaves a h)))
-  changes ExitProcess e = acts (actor s seat) _ refl (λ a h. settles _ (k.follows _ (k.ends a h)))
+  changes ExitThread e = acts (actor s seat) _ refl (λ a h. settles _ (k.follows _ (k.changes.leaves a h)))
+  changes ExitProcess e = acts (actor s seat) _ refl (λ a h. settles _ (k.follows _ (k.changes.ends a h)))
 
   -- what the parts keep, the step keeps
   pub every_whole_step : F (change s seat x).space
@@ -214,23 +217,7 @@ pub record Keeps (s : Space) (seat : ℕ) (x : Step) (M F : Space → Type 0) : 
   pub opened : (pid euid window : ℕ) → F (with_thread (with_process s pid euid window) seat s.steps)
   pub attached : (p : ℕ) → F (with_thread s seat p)
   pub managed : (a : Actor) → actor s seat ≡ Some a → is_manager_busy s a.process.made ≡ false → F (with_manager s a.process.made)
-  pub transacts : (a : Actor) (d : TransactionData) (parcel : Option Parcel) (v : Delivery) → x ≡ Command (bc.Transaction d) parcel → actor s seat ≡ Some a
-      → transaction_check s a d parcel ≡ Ok v → M (transacted s a d v)
-  pub replies : (a : Actor) (d : TransactionData) (parcel : Option Parcel) (f : Frame) (v : Delivery) → x ≡ Command (bc.Reply d) parcel → actor s seat ≡ Some a
-      → served_innermost s a.thread.seat ≡ Some f → reply_check s a d parcel f ≡ Ok v → M (replied s a d f v)
-  pub frees : (p ptr : ℕ) (b : Buffer) → buffer_at_pointer s p ptr ≡ Some b → b.handed ≡ true → M (without_buffer s b.made)
-  pub asks : (a : Actor) (n : ℕ) (strong : Bool) (o : ObjectId) → actor s seat ≡ Some a → IsAsking x n strong → ask_check s a.process.made n strong ≡ Ok o → M (ask s a.process.made o strong)
-  pub drops : (p : ℕ) (o : ObjectId) (strong : Bool) → M (drop_asked s p o strong)
-  pub acknowledges : (o : ObjectId) (strong : Bool) → IsAcknowledging x strong → M (acknowledge s o strong)
-  pub loops : (t : ℕ) (looping : Bool) → M (with_looping s t looping)
-  pub requests : (p : ℕ) (o : ObjectId) (cookie : ℕ) → M (requested s p o cookie)
-  pub clears : (t : ℕ) (y : DeathNotification) → M (cleared s t y)
-  pub is_done : (t : ℕ) (y : DeathNotification) → M (death_done s t y)
-  pub reads : (a : Actor) (limit : ℕ) → actor s seat ≡ Some a → x ≡ Read limit → read_fault limit (list_to_read s a.thread) ≡ None
-      → M (read_by s a.thread.seat (taken s (limit - 4) (list_to_read s a.thread)))
-  pub leaves : (a : Actor) → actor s seat ≡ Some a → M (thread_goes s a.thread.seat)
-  pub ends : (a : Actor) → actor s seat ≡ Some a → M (tell_deaths (without_process (threads_go s a.process.made) a.process.made) a.process.made)
-  pub ripens : (z : Space) → M z → M (ripen z)
+  pub changes : Changes s seat x M
   pub follows : (z : Space) → M z → F (follow z)
   pub closes : (z : Space) (made : ℕ) → F z → F (closed z made)
   pub refuses : (z : Space) (t : ℕ) (r : Return) → F z → F (owe z (OfThread t) (work.Refusal r))
@@ -251,20 +238,7 @@ module _ (s : Space) (seat : ℕ) (x : Step) (M F : Space → Type 0) (k : Keeps
     opened = k.opened;
     attached = k.attached;
     managed = k.managed;
-    transacts = k.transacts;
-    replies = k.replies;
-    frees = k.frees;
-    asks = k.asks;
-    drops = k.drops;
-    acknowledges = k.acknowledges;
-    loops = k.loops;
-    requests = k.requests;
-    clears = k.clears;
-    is_done = k.is_done;
-    reads = k.reads;
-    leaves = k.leaves;
-    ends = k.ends;
-    ripens = k.ripens;
+    changes = k.changes;
     follows = k.follows;
     refuses = λ t c. k.refuses s t (refusal c) k.same;
     fails = λ a d parcel f e h i. refuses-reply a.thread.seat f;

@@ -67,26 +67,9 @@ abbrev pub Kept : List Buffer → List Buffer → Type 0
 Kept cs bs = (c : Buffer) → In c cs → (b : Buffer) × In b bs × (b.made ≡ c.made) × (b.one_way ≡ c.one_way)
 
 module _ (n : ℕ) (root : ℕ → ℕ) (fs : List Frame) (bs : List Buffer) (td : List Work) (h : Forest n root fs bs td) where
-  pub forest-same : (cs : List Buffer) (ud : List Work) → Kept cs bs → Calls ud td → Forest n root fs cs ud
-  forest-same cs ud k c = record {
-    below = h.below;
-    rooted = h.rooted;
-    sorted = h.sorted;
-    parents = h.parents;
-    linked = h.linked;
-    leaf = h.leaf;
-    shared = h.shared;
-    waiting = λ w t f l e o i. h.waiting w t f (c w f.made l e) e o i;
-    childless = λ w f l e i. h.childless w f (c w f.made l e) e i;
-    unserved = λ w f t l e i s. h.unserved w f t (c w f.made l e) e i s;
-    one = λ v w b l m e o. h.one v w b (c v b l e) (c w b m o) e o;
-    due = λ w b l e. h.due w b (c w b l e) e;
-    buffers = λ x l. let b = k x l in let lt = h.buffers b.0 b.1 in let e = b.2 in omega arith;
-    turns = λ x f l o i e. let b = k x l in h.turns b.0 f b.1 (b.3 ∙ o) i (e ∙ sym b.2);
-  }
-
-  pub forest-buffer : (cs : List Buffer) (ud : List Work) → ((c : Buffer) → In c cs → In c bs ⊎ (c.made ≡ n)) → Calls ud td → Forest (suc n) root fs cs ud
-  forest-buffer cs ud k c = record {
+  forest-on : (m : ℕ) (cs : List Buffer) (ud : List Work) → n ≤ m → Calls ud td → ((c : Buffer) → In c cs → c.made < m)
+      → ((c : Buffer) (f : Frame) → In c cs → c.one_way ≡ true → In f fs → f.made ≡ c.made → ⊥) → Forest m root fs cs ud
+  forest-on m cs ud le c buffers turns = record {
     below = λ f l. let lt = h.below f l in omega arith;
     rooted = h.rooted;
     sorted = h.sorted;
@@ -97,11 +80,23 @@ module _ (n : ℕ) (root : ℕ → ℕ) (fs : List Frame) (bs : List Buffer) (td
     waiting = λ w t f l e o i. h.waiting w t f (c w f.made l e) e o i;
     childless = λ w f l e i. h.childless w f (c w f.made l e) e i;
     unserved = λ w f t l e i s. h.unserved w f t (c w f.made l e) e i s;
-    one = λ v w b l m e o. h.one v w b (c v b l e) (c w b m o) e o;
+    one = λ v w b l k e o. h.one v w b (c v b l e) (c w b k o) e o;
     due = λ w b l e. let lt = h.due w b (c w b l e) e in omega arith;
-    buffers = λ x l. elim (k x l) [ inl i ↦ (let lt = h.buffers x i in omega arith) | inr e ↦ omega arith ];
-    turns = λ x f l o i e. elim (k x l) [ inl j ↦ h.turns x f j o i e | inr m ↦ (let lt = h.below f i in absurd (omega arith)) ];
+    buffers = buffers;
+    turns = turns;
   }
+
+  pub forest-same : (cs : List Buffer) (ud : List Work) → Kept cs bs → Calls ud td → Forest n root fs cs ud
+  forest-same cs ud k c =
+      forest-on n cs ud (omega arith) c
+      (λ x l. let b = k x l in let lt = h.buffers b.0 b.1 in let e = b.2 in omega arith)
+      (λ x f l o i e. let b = k x l in h.turns b.0 f b.1 (b.3 ∙ o) i (e ∙ sym b.2))
+
+  pub forest-buffer : (cs : List Buffer) (ud : List Work) → ((c : Buffer) → In c cs → In c bs ⊎ (c.made ≡ n)) → Calls ud td → Forest (suc n) root fs cs ud
+  forest-buffer cs ud k c =
+      forest-on (suc n) cs ud (omega arith) c
+      (λ x l. elim (k x l) [ inl i ↦ (let lt = h.buffers x i in omega arith) | inr e ↦ omega arith ])
+      (λ x f l o i e. elim (k x l) [ inl j ↦ h.turns x f j o i e | inr m ↦ (let lt = h.below f i in absurd (omega arith)) ])
 
   pub forest-more : Forest (suc n) root fs bs td
   forest-more = forest-buffer bs td (λ c l. inl l) (λ w b l e. l)

@@ -33,9 +33,10 @@ use Rattle.bd_audit.proofs.Lists.{In, Pairs, in-filter, any-found, in-filter_map
 use Rattle.bd_audit.proofs.Tests.{both, same-eq, eq-same, and_then-ok}
 use Rattle.bd_audit.proofs.EveryStep.{Keeps, every_step, every_list}
 use Rattle.bd_audit.proofs.OneWay
-use Rattle.bd_audit.proofs.OneWay.{Due, Out, Rivals, Waits, InTurn, Less, in_turn-less, more-steps}
+use Rattle.bd_audit.proofs.OneWay.{Out, Waits, InTurn, in_turn-less, more-steps}
 use Rattle.bd_audit.proofs.Ripening.{ripen-in_turn, read-in_turn, turn-parts}
 use Rattle.std.proofs.lemmas.Bool.{eqb-true}
+use Rattle.bd_audit.proofs.Deaths.{on-mapped}
 
 -- ---- a reply is no one-way call
 
@@ -64,20 +65,20 @@ kept s seat x h =
       opened = λ pid euid window. in_turn-less _ s (OneWay.opened-less s seat pid euid window) now;
       attached = λ p. in_turn-less _ s (OneWay.attached-less s seat p) now;
       managed = λ a e b. in_turn-less _ s (OneWay.managed-less s a.process.made) now;
-      transacts = λ a d parcel v e i t. OneWay.transacted-in_turn s a d v h;
-      replies = λ a d parcel f v e i g t. OneWay.replied-in_turn s a d f v (reply-two_way s a d parcel f v t) h;
-      frees = λ p ptr b e t. in_turn-less _ s (OneWay.without_buffer-less s b.made) now;
-      asks = λ a n strong o e i t. in_turn-less _ s (OneWay.ask-less s a.process.made o strong) now;
-      drops = λ p o strong. in_turn-less _ s (OneWay.drop_asked-less s p o strong) now;
-      acknowledges = λ o strong i. in_turn-less _ s (OneWay.acknowledge-less s o strong) now;
-      loops = λ t looping. in_turn-less _ s (OneWay.with_looping-less s t looping) now;
-      requests = λ p o cookie. in_turn-less _ s (OneWay.requested-less s p o cookie) now;
-      clears = λ t y. in_turn-less _ s (OneWay.cleared-less s t y) now;
-      is_done = λ t y. in_turn-less _ s (OneWay.death_done-less s t y) now;
-      reads = λ a limit e i n. read-in_turn s a.thread a.thread.seat _ now;
-      leaves = λ a e. in_turn-less _ s (OneWay.thread_goes-less s a.thread.seat) now;
-      ends = λ a e. in_turn-less _ s (OneWay.ends-less s a.process.made) now;
-      ripens = λ z. ripen-in_turn z;
+      changes = record {
+        transacts = λ a d parcel v e i t. OneWay.transacted-in_turn s a d v h;
+        replies = λ a d parcel f v e i g t. OneWay.replied-in_turn s a d f v (reply-two_way s a d parcel f v t) h;
+        frees = λ p ptr b e t. in_turn-less _ s (OneWay.without_buffer-less s b.made) now;
+        asks = λ a n strong o e i t. in_turn-less _ s (OneWay.ask-less s a.process.made o strong) now;
+        drops = λ p o strong. in_turn-less _ s (OneWay.drop_asked-less s p o strong) now;
+        acknowledges = λ o strong i. in_turn-less _ s (OneWay.acknowledge-less s o strong) now;
+        loops = λ t looping. in_turn-less _ s (OneWay.with_looping-less s t looping) now;
+        on_deaths = on-mapped s _ _ (λ y k. in_turn-less y s k now) (OneWay.on_deaths-less s);
+        reads = λ a limit e i n. read-in_turn s a.thread a.thread.seat _ now;
+        leaves = λ a e. in_turn-less _ s (OneWay.thread_goes-less s a.thread.seat) now;
+        ends = λ a e. in_turn-less _ s (OneWay.ends-less s a.process.made) now;
+        ripens = λ z. ripen-in_turn z;
+      };
       follows = λ z. in_turn-less (follow z) z (OneWay.follow-less z);
       closes = λ z made. in_turn-less (closed z made) z (OneWay.closed-less z made);
       refuses = λ z t r. in_turn-less _ z (OneWay.owe-less z (OfThread t) (work.Refusal r) refl);

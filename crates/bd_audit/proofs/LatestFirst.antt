@@ -33,7 +33,6 @@ use Rattle.bd_space.specs.Exits.{thread_goes, threads_go, without_process, tell_
 use Rattle.bd_space.specs.Steps.{counted, with_thread, with_process, with_manager}
 use Rattle.bd_space.specs.Asking.{ask, drop_asked, acknowledge}
 use Rattle.bd_space.specs.Commands.{with_looping}
-use Rattle.bd_space.specs.Deaths.{requested, cleared, death_done}
 use Rattle.bd_space.specs.Histories.{after, next}
 use Rattle.bd_audit.specs.Replies.{made_in, thread_made, At}
 use Rattle.bd_audit.specs.Latest.{IsLatest}
@@ -45,9 +44,13 @@ use Rattle.bd_audit.proofs.Ripening.{read-in}
 use Rattle.bd_audit.proofs.Forests.{NoChild, Nested, one-frame}
 use Rattle.bd_audit.proofs.Innermost.{differ, true-calls}
 use Rattle.bd_audit.proofs.Paths as path
-use Rattle.bd_audit.proofs.Paths.{OnPaths, abandoned-childless, served-childless, kind-called, always-on_paths}
+use Rattle.bd_audit.proofs.PathCalls as path_call
+use Rattle.bd_audit.proofs.Paths.{OnPaths, abandoned-childless, served-childless}
+use Rattle.bd_audit.proofs.PathReadings.{kind-called}
+use Rattle.bd_audit.proofs.EveryPath.{always-on_paths}
 use Rattle.bd_audit.proofs.Seated as seated
 use Rattle.bd_audit.proofs.Seated.{made-before, none-left}
+use Rattle.bd_audit.proofs.Deaths.{tell_deaths-aside, on-mapped, on_deaths-aside}
 
 -- a frame made there, with the same parent, is among these
 abbrev Stays : Frame → List Frame → Type 0
@@ -185,7 +188,7 @@ module _ (s : Space) (h : OnPaths s.steps s) (top child : Frame) (here : In top 
       let x = closed s f.made in
       let y = owe (delivered x a d v) (OfThread a.thread.seat) work.Complete in
       let k = served-childless s.steps s a.thread.seat f h e in
-      tells y f.caller (work.Reply s.steps) (same y x (path.sent-frames x a d v) (seated.sent-threads x a d v) (closes s f.made (λ x. leaf-off f k.0 k.1) (calm s refl)))
+      tells y f.caller (work.Reply s.steps) (same y x (path_call.sent-frames x a d v) (seated.sent-threads x a d v) (closes s f.made (λ x. leaf-off f k.0 k.1) (calm s refl)))
 
   -- ---- the other parts
 
@@ -205,7 +208,7 @@ module _ (s : Space) (h : OnPaths s.steps s) (top child : Frame) (here : In top 
   transacts : (a : Actor) (d : TransactionData) (v : Delivery) → While (transacted s a d v)
   unfolding transacted
   transacts a d v =
-      calls-out (owe (delivered s a d v) (OfThread a.thread.seat) work.Complete) a.thread.seat v.receiver.made v.one_way (path.sent-frames s a d v) (path.sent-place s a d v)
+      calls-out (owe (delivered s a d v) (OfThread a.thread.seat) work.Complete) a.thread.seat v.receiver.made v.one_way (path_call.sent-frames s a d v) (path_call.sent-place s a d v)
 
   -- the top's call was read before, so that no other thread comes to serve it
   module _ (u : Thread) (left : ℕ) where
@@ -274,7 +277,7 @@ module _ (s : Space) (h : OnPaths s.steps s) (top child : Frame) (here : In top 
   ends p =
       let a = fold thread_goes s (map seat_of (filter (λ (u : Thread). u.process == p) s.threads)) in
       let b = without_process a p in
-      same (tell_deaths b p) b (path.tell_deaths-frames b p) (seated.tell_deaths-threads b p)
+      same (tell_deaths b p) b (tell_deaths-aside b p).frames (tell_deaths-aside b p).threads
       (process-goes a p (all-go (map seat_of (filter (λ (u : Thread). u.process == p) s.threads)) s (calm s refl)))
 
   -- ---- the step
@@ -286,20 +289,20 @@ module _ (s : Space) (h : OnPaths s.steps s) (top child : Frame) (here : In top 
     opened = λ pid euid window. calm (with_thread (with_process s pid euid window) seat s.steps) refl;
     attached = λ p. calm (with_thread s seat p) refl;
     managed = λ a i b. calm (with_manager s a.process.made) refl;
-    transacts = λ a d parcel v e i g. transacts a d v;
-    replies = λ a d parcel f v e i g c. replies a d f v g;
-    frees = λ p ptr b i e. calm (without_buffer s b.made) refl;
-    asks = λ a n strong o e i c. calm (ask s a.process.made o strong) refl;
-    drops = λ p o strong. calm (drop_asked s p o strong) refl;
-    acknowledges = λ o strong i. calm (acknowledge s o strong) refl;
-    loops = λ u looping. calm (with_looping s u looping) refl;
-    requests = λ p o cookie. calm (requested s p o cookie) (path.requested-frames s p o cookie);
-    clears = λ u y. calm (cleared s u y) (path.cleared-frames s u y);
-    is_done = λ u y. calm (death_done s u y) (path.death_done-frames s u y);
-    reads = λ a limit i e n. reads a.thread (limit - 4);
-    leaves = λ a i. goes s a.thread.seat (calm s refl);
-    ends = λ a i. ends a.process.made;
-    ripens = λ z. same (ripen z) z refl refl;
+    changes = record {
+      transacts = λ a d parcel v e i g. transacts a d v;
+      replies = λ a d parcel f v e i g c. replies a d f v g;
+      frees = λ p ptr b i e. calm (without_buffer s b.made) refl;
+      asks = λ a n strong o e i c. calm (ask s a.process.made o strong) refl;
+      drops = λ p o strong. calm (drop_asked s p o strong) refl;
+      acknowledges = λ o strong i. calm (acknowledge s o strong) refl;
+      loops = λ u looping. calm (with_looping s u looping) refl;
+      on_deaths = on-mapped s _ _ (λ y k. calm y k.frames) (on_deaths-aside s);
+      reads = λ a limit i e n. reads a.thread (limit - 4);
+      leaves = λ a i. goes s a.thread.seat (calm s refl);
+      ends = λ a i. ends a.process.made;
+      ripens = λ z. same (ripen z) z refl refl;
+    };
     follows = λ z. same (follow z) z refl refl;
     refuses = λ u c. calm (owe s (OfThread u) (work.Refusal (refusal c))) (path.owe-frames s (OfThread u) (work.Refusal (refusal c)));
     fails = λ a d parcel f e i g. fails a.thread.seat f g;
@@ -347,20 +350,24 @@ each-kept s seat x P k = record {
   opened = λ pid euid window i. (k i).opened pid euid window;
   attached = λ p i. (k i).attached p;
   managed = λ a e b i. (k i).managed a e b;
-  transacts = λ a d parcel v e g c i. (k i).transacts a d parcel v e g c;
-  replies = λ a d parcel f v e g c r i. (k i).replies a d parcel f v e g c r;
-  frees = λ p ptr b e c i. (k i).frees p ptr b e c;
-  asks = λ a n strong o e g c i. (k i).asks a n strong o e g c;
-  drops = λ p o strong i. (k i).drops p o strong;
-  acknowledges = λ o strong e i. (k i).acknowledges o strong e;
-  loops = λ u looping i. (k i).loops u looping;
-  requests = λ p o cookie i. (k i).requests p o cookie;
-  clears = λ u y i. (k i).clears u y;
-  is_done = λ u y i. (k i).is_done u y;
-  reads = λ a limit e g n i. (k i).reads a limit e g n;
-  leaves = λ a e i. (k i).leaves a e;
-  ends = λ a e i. (k i).ends a e;
-  ripens = λ z h i. (k i).ripens z (h i);
+  changes = record {
+    transacts = λ a d parcel v e g c i. (k i).changes.transacts a d parcel v e g c;
+    replies = λ a d parcel f v e g c r i. (k i).changes.replies a d parcel f v e g c r;
+    frees = λ p ptr b e c i. (k i).changes.frees p ptr b e c;
+    asks = λ a n strong o e g c i. (k i).changes.asks a n strong o e g c;
+    drops = λ p o strong i. (k i).changes.drops p o strong;
+    acknowledges = λ o strong e i. (k i).changes.acknowledges o strong e;
+    loops = λ u looping i. (k i).changes.loops u looping;
+    on_deaths = record {
+      others = λ ds i. (k i).changes.on_deaths.others ds;
+      dies = λ ds p made i. (k i).changes.on_deaths.dies ds p made;
+      clears = λ ds t cookie i. (k i).changes.on_deaths.clears ds t cookie;
+    };
+    reads = λ a limit e g n i. (k i).changes.reads a limit e g n;
+    leaves = λ a e i. (k i).changes.leaves a e;
+    ends = λ a e i. (k i).changes.ends a e;
+    ripens = λ z h i. (k i).changes.ripens z (h i);
+  };
   follows = λ z h i. (k i).follows z (h i);
   refuses = λ u r i. (k i).refuses u r;
   fails = λ a d parcel f e g c i. (k i).fails a d parcel f e g c;

@@ -39,7 +39,7 @@ use Rattle.bd_audit.proofs.Checks.{reply-checked, transaction-may_call}
 use Rattle.bd_audit.proofs.Answering.{Called, Answers, answers-more, at-more, served-is, actor-made, always-traced, absent}
 use Rattle.bd_audit.proofs.ReplyLaw.{reaches, stood, took, at-place, owed-after, no_reply-later, step-no_reply}
 use Rattle.bd_audit.proofs.Innermost.{innermost-is, innermost-childless, calls-true, true-calls, all-true}
-use Rattle.bd_audit.proofs.Paths.{always-on_paths}
+use Rattle.bd_audit.proofs.EveryPath.{always-on_paths}
 use Rattle.bd_audit.proofs.Seated.{seat_at, always-seated}
 use Rattle.bd_audit.proofs.Callers.{called-before, always-callers}
 

@@ -1,5 +1,6 @@
 pub mod Beginnings
 pub mod Lists
+pub mod Deaths
 pub mod EveryStep
 pub mod OneWay
 pub mod Ripening
@@ -27,6 +28,10 @@ pub mod FrameChanges
 pub mod NewFrames
 pub mod Innermost
 pub mod Paths
+pub mod PathCalls
+pub mod PathReadings
+pub mod PathExits
+pub mod EveryPath
 pub mod PathLaw
 pub mod Seated
 pub mod Callers

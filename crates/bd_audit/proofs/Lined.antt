@@ -3,7 +3,6 @@ use Rattle.std.proofs.Common.{◌≡◌, ℕ, suc, ◌-◌, ◌<◌, ◌≤◌, 
 use Rattle.std.specs.List.{fold, list_any}
 use Rattle.std.proofs.lemmas.Bool.{eqb-true}
 use Rattle.bd_uapi.specs.declared.command.TransactionData.{TransactionData}
-use Rattle.bd_space.specs.declared.step.ObjectId.{ObjectId}
 use Rattle.bd_space.specs.declared.step.Step.{Step}
 use Rattle.bd_space.specs.declared.step.Entry.{Entry}
 use Rattle.bd_space.specs.declared.space.Object.{Object}
@@ -17,7 +16,7 @@ use Rattle.bd_space.specs.declared.space.Frame.{Frame}
 use Rattle.bd_space.specs.declared.space.Actor.{Actor}
 use Rattle.bd_space.specs.declared.space.Identity.{Identity}
 use Rattle.bd_space.specs.declared.space.DeathNotification.{DeathNotification}
-use Rattle.bd_space.specs.declared.space.Phase.TheVariants.{Armed, Queued, Done}
+use Rattle.bd_space.specs.declared.space.Phase.TheVariants.{Queued}
 use Rattle.bd_space.specs.declared.space.TodoList.{TodoList}
 use Rattle.bd_space.specs.declared.space.TodoList.TheVariants.{OfThread, OfProcess}
 use Rattle.bd_space.specs.declared.space.WorkKind.{WorkKind}
@@ -39,7 +38,7 @@ use Rattle.bd_space.specs.Exits.{thread_goes, threads_go, without_process, tell_
 use Rattle.bd_space.specs.Steps.{counted, with_thread, with_process, with_manager}
 use Rattle.bd_space.specs.Asking.{ask, drop_asked, acknowledge}
 use Rattle.bd_space.specs.Commands.{with_looping}
-use Rattle.bd_space.specs.Deaths.{with_phase, with_death, without_death, mark_cleared, requested, death_ended, cleared, death_done, owner_lives_in, is_out}
+use Rattle.bd_space.specs.Deaths.{with_phase}
 use Rattle.bd_space.specs.Histories.{after, next}
 use Rattle.bd_audit.proofs.EveryStep.{Keeps, every_step, every_list}
 use Rattle.bd_audit.proofs.Lists.{In, Pairs, in-push, in-filter, pairs-push, pairs-filter, fold-keeps}
@@ -253,32 +252,6 @@ replied-sent s a d f v h =
     answered-sent (owe z (OfThread a.thread.seat) work.Complete) f.caller s.steps
     (owe-sent z (OfThread a.thread.seat) work.Complete refl refl (delivered-sent (closed s f.made) a d v (closed-begun s f.made h)))
 
--- ---- death notifications
-
-requested-plain : (z : Space) (p : ℕ) (o : ObjectId) (cookie : ℕ) → Plain z → Plain (requested z p o cookie)
-unfolding requested with_death
-requested-plain z p o cookie h =
-    chosen Plain (owner_lives_in z.processes z.objects o) (with_death z p o cookie Armed) (owe (with_death z p o cookie Queued) (OfProcess p) (work.Death z.steps)) h
-    (owe-plain (with_death z p o cookie Queued) p (work.Death z.steps) h)
-
-death_ended-stands : (z : Space) (seat : ℕ) (x : DeathNotification) → Begun z.steps z.todo → Stands (death_ended z seat x)
-unfolding death_ended without_death
-death_ended-stands z seat x h =
-    sent-stands (owe (without_death z x.made) (OfThread seat) (work.Cleared x.cookie))
-    (owe-sent (without_death z x.made) (OfThread seat) (work.Cleared x.cookie) refl refl (begun-sent (without_death z x.made) h))
-
-cleared-stands : (z : Space) (seat : ℕ) (x : DeathNotification) → Begun z.steps z.todo → Stands (cleared z seat x)
-unfolding cleared mark_cleared
-cleared-stands z seat x h =
-    chosen Stands (is_out x.phase) (mark_cleared z x.made) (death_ended z seat x)
-    (plain-stands (mark_cleared z x.made) (begun-plain z.steps z.todo h)) (death_ended-stands z seat x h)
-
-death_done-stands : (z : Space) (seat : ℕ) (x : DeathNotification) → Begun z.steps z.todo → Stands (death_done z seat x)
-unfolding death_done with_phase
-death_done-stands z seat x h =
-    chosen Stands x.cleared (death_ended z seat x) (with_phase z x.made Done)
-    (death_ended-stands z seat x h) (plain-stands (with_phase z x.made Done) (begun-plain z.steps z.todo h))
-
 -- ---- readings and exits
 
 filter-plain : (n : ℕ) (todo : List Work) (p : Work → Bool) → Line n todo × Bare n todo → Line n (filter p todo) × Bare n (filter p todo)
@@ -371,21 +344,26 @@ module _ (s : Space) (h : Lined s) where
     opened = λ pid euid window. begun.0;
     attached = λ p. begun.0;
     managed = λ a e b. begun.0;
-    transacts = λ a d parcel v e i t. sent-stands (transacted s a d v) (transacted-sent s a d v begun);
-    replies = λ a d parcel f v e i g t. sent-stands (replied s a d f v) (replied-sent s a d f v begun);
-    frees = λ p ptr b e t. plain-stands (without_buffer s b.made) plain;
-    asks = λ a n strong o e i t. plain-stands (ask s a.process.made o strong) plain;
-    drops = λ p o strong. plain-stands (drop_asked s p o strong) plain;
-    acknowledges = λ o strong i. plain-stands (acknowledge s o strong) plain;
-    loops = λ t looping. plain-stands (with_looping s t looping) plain;
-    requests = λ p o cookie. plain-stands (requested s p o cookie) (requested-plain s p o cookie plain);
-    clears = λ t y. cleared-stands s t y begun;
-    is_done = λ t y. death_done-stands s t y begun;
-    reads = λ a limit e i n. (
-        let ws = taken s (limit - 4) (list_to_read s a.thread) in plain-stands (read_by s a.thread.seat ws) (read-plain s a.thread.seat ws plain));
-    leaves = λ a e. plain-stands (thread_goes s a.thread.seat) (thread_goes-plain s a.thread.seat plain);
-    ends = λ a e. plain-stands (tell_deaths (without_process (threads_go s a.process.made) a.process.made) a.process.made) (ends-plain s a.process.made plain);
-    ripens = ripen-stands;
+    changes = record {
+      transacts = λ a d parcel v e i t. sent-stands (transacted s a d v) (transacted-sent s a d v begun);
+      replies = λ a d parcel f v e i g t. sent-stands (replied s a d f v) (replied-sent s a d f v begun);
+      frees = λ p ptr b e t. plain-stands (without_buffer s b.made) plain;
+      asks = λ a n strong o e i t. plain-stands (ask s a.process.made o strong) plain;
+      drops = λ p o strong. plain-stands (drop_asked s p o strong) plain;
+      acknowledges = λ o strong i. plain-stands (acknowledge s o strong) plain;
+      loops = λ t looping. plain-stands (with_looping s t looping) plain;
+      on_deaths = record {
+        others = λ ds. plain-stands (record s { deaths = ds }) plain;
+        dies = λ ds p made. let z = record s { deaths = ds } in plain-stands (owe z (OfProcess p) (work.Death made)) (owe-plain z p (work.Death made) plain);
+        clears = λ ds t cookie. let z = record s { deaths = ds } in
+            sent-stands (owe z (OfThread t) (work.Cleared cookie)) (owe-sent z (OfThread t) (work.Cleared cookie) refl refl (begun-sent z begun));
+      };
+      reads = λ a limit e i n. (
+          let ws = taken s (limit - 4) (list_to_read s a.thread) in plain-stands (read_by s a.thread.seat ws) (read-plain s a.thread.seat ws plain));
+      leaves = λ a e. plain-stands (thread_goes s a.thread.seat) (thread_goes-plain s a.thread.seat plain);
+      ends = λ a e. plain-stands (tell_deaths (without_process (threads_go s a.process.made) a.process.made) a.process.made) (ends-plain s a.process.made plain);
+      ripens = ripen-stands;
+    };
     follows = follow-line;
     closes = closed-line;
     refuses = λ z t r. owe-line z (OfThread t) (work.Refusal r);

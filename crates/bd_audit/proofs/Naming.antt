@@ -44,6 +44,7 @@ use Rattle.bd_audit.proofs.Untouched.{Untouched}
 use Rattle.bd_audit.proofs.Sendings.{Owns, HasName, Sent, Sends, sending-sends}
 use Rattle.bd_audit.proofs.Checks.{transaction-checked, reply-checked, asked-checked}
 use Rattle.bd_audit.proofs.Objects.{stays}
+use Rattle.bd_audit.proofs.Deaths.{on-mapped}
 
 -- the name is new, since the acting process sent the object on
 pub record ByHand (s : Space) (seat : ℕ) (m : Name) (z : Space) : Type 0 where
@@ -314,20 +315,20 @@ naming-step s seat x =
       opened = λ pid euid window. fewer-names s seat x _ (opened-names s seat pid euid window);
       attached = λ p. fewer-names s seat x _ (attached-names s seat p);
       managed = λ a e b. fewer-names s seat x _ (managed-names s a.process.made);
-      transacts = λ a d parcel v e i t. transacted-naming s seat x a d parcel v i t;
-      replies = λ a d parcel f v e i g t. replied-naming s seat x a d parcel f v i t;
-      frees = λ p ptr b e t. fewer-names s seat x _ (freed-names s b.made);
-      asks = λ a n strong o e i t. ask-naming s seat x a n strong o e i t;
-      drops = λ p o strong. fewer-names s seat x _ (dropped-names s p o strong);
-      acknowledges = λ o strong i. fewer-names s seat x _ (acknowledged-names s o strong);
-      loops = λ t looping. naming-untouched s seat x _ s (Untouched.with_looping-untouched s t looping) none;
-      requests = λ p o cookie. naming-untouched s seat x _ s (Untouched.requested-untouched s p o cookie) none;
-      clears = λ t y. naming-untouched s seat x _ s (Untouched.cleared-untouched s t y) none;
-      is_done = λ t y. naming-untouched s seat x _ s (Untouched.death_done-untouched s t y) none;
-      reads = λ a limit e i n. fewer-names s seat x _ (read-names s a.thread.seat _);
-      leaves = λ a e. fewer-names s seat x _ (left-names s a.thread.seat);
-      ends = λ a e. ends-naming s seat x a.process.made;
-      ripens = λ z. naming-untouched s seat x (ripen z) z (Untouched.ripen-untouched z);
+      changes = record {
+        transacts = λ a d parcel v e i t. transacted-naming s seat x a d parcel v i t;
+        replies = λ a d parcel f v e i g t. replied-naming s seat x a d parcel f v i t;
+        frees = λ p ptr b e t. fewer-names s seat x _ (freed-names s b.made);
+        asks = λ a n strong o e i t. ask-naming s seat x a n strong o e i t;
+        drops = λ p o strong. fewer-names s seat x _ (dropped-names s p o strong);
+        acknowledges = λ o strong i. fewer-names s seat x _ (acknowledged-names s o strong);
+        loops = λ t looping. naming-untouched s seat x _ s (Untouched.with_looping-untouched s t looping) none;
+        on_deaths = on-mapped s _ _ (λ y k. naming-untouched s seat x y s k none) (Untouched.on_deaths-untouched s);
+        reads = λ a limit e i n. fewer-names s seat x _ (read-names s a.thread.seat _);
+        leaves = λ a e. fewer-names s seat x _ (left-names s a.thread.seat);
+        ends = λ a e. ends-naming s seat x a.process.made;
+        ripens = λ z. naming-untouched s seat x (ripen z) z (Untouched.ripen-untouched z);
+      };
       follows = λ z. follow-naming s seat x z;
       closes = λ z made. naming-untouched s seat x (closed z made) z (Untouched.closed-untouched z made);
       refuses = λ z t r. naming-untouched s seat x _ z (Untouched.owe-untouched z (OfThread t) (work.Refusal r));

@@ -1,8 +1,7 @@
 -- Parts of a step that make no reply or verdict.
-use Rattle.std.proofs.Common.{◌≡◌, ℕ, ◌==◌, Bool, true, false, cond, not, ◌&&◌, List, [], ◌∷◌, ◌++◌, Option, Some, None, inl, inr, refl, ap, sym, ◌∙◌, map, filter}
+use Rattle.std.proofs.Common.{◌≡◌, ℕ, ◌==◌, Bool, true, false, cond, not, List, [], ◌∷◌, ◌++◌, Option, Some, None, inl, inr, refl, ap, sym, ◌∙◌, map, filter}
 use Rattle.std.specs.List.{fold, list_any}
 use Rattle.bd_uapi.specs.declared.command.TransactionData.{TransactionData}
-use Rattle.bd_space.specs.declared.step.ObjectId.{ObjectId}
 use Rattle.bd_space.specs.declared.space.Process.{Process}
 use Rattle.bd_space.specs.declared.space.Object.{Object}
 use Rattle.bd_space.specs.declared.space.Reference.{Reference}
@@ -11,8 +10,6 @@ use Rattle.bd_space.specs.declared.space.Turn.{Turn}
 use Rattle.bd_space.specs.declared.space.Work.{Work}
 use Rattle.bd_space.specs.declared.space.Item.{Item}
 use Rattle.bd_space.specs.declared.space.Actor.{Actor}
-use Rattle.bd_space.specs.declared.space.DeathNotification.{DeathNotification}
-use Rattle.bd_space.specs.declared.space.Phase.TheVariants.{Armed, Queued, Done}
 use Rattle.bd_space.specs.declared.space.TodoList.{TodoList}
 use Rattle.bd_space.specs.declared.space.TodoList.TheVariants.{OfThread, OfProcess}
 use Rattle.bd_space.specs.declared.space.WorkKind.{WorkKind}
@@ -22,16 +19,16 @@ use Rattle.bd_space.specs.Todo.{with_work, owe, is_on, is_item}
 use Rattle.bd_space.specs.Turns.{turns_of, ripen, ripened, is_ripe}
 use Rattle.bd_space.specs.Notices.{with_notice, follow, notify, work_goes, deaths_go, still_due}
 use Rattle.bd_space.specs.Names.{names_go, assign_numbers}
-use Rattle.bd_space.specs.References.{objects_go, object_in, owned_in}
+use Rattle.bd_space.specs.References.{objects_go, object_in}
 use Rattle.bd_space.specs.Frames.{goes_to}
 use Rattle.bd_space.specs.Parcels.{is_own}
 use Rattle.bd_space.specs.Delivery.{Delivery, delivered, own_notices, add_buffer, known_by, refer, make_objects, buffer_of, add_notice, withdraw_notice}
 use Rattle.bd_space.specs.Transactions.{transacted, called, call_out}
 use Rattle.bd_space.specs.Reading.{read_by}
-use Rattle.bd_space.specs.Exits.{thread_goes, threads_go, without_process, tell_death, tell_deaths, seat_of, is_armed}
-use Rattle.bd_space.specs.Deaths.{with_phase, with_death, without_death, mark_cleared, requested, death_ended, cleared, death_done, owner_lives_in, is_out}
+use Rattle.bd_space.specs.Exits.{thread_goes, threads_go, without_process, tell_deaths, seat_of}
 use Rattle.bd_audit.specs.Latest.{is_answer}
 use Rattle.bd_audit.proofs.Lists.{In, in-push, in-filter}
+use Rattle.bd_audit.proofs.Deaths.{OnDeaths, KeptOnDeaths, on-kept, on-told}
 
 -- no reply or verdict comes
 abbrev pub NoneNew : List Work → List Work → Type 0
@@ -141,49 +138,20 @@ process-none : (z : Space) (p : ℕ) → NoneNew (without_process z p).todo z.to
 unfolding without_process
 process-none z p = none-filter (λ (w : Work). not (is_on (OfProcess p) w)) z.todo
 
-told-none : (p : ℕ) (xs : List DeathNotification) (z : Space) → NoneNew (fold (tell_death p) z xs).todo z.todo
-unfolding owe with_phase
-told-none p [] z = none-same z.todo
-told-none p (x ∷ xs) z = none-trans _ (tell_death p z x).todo z.todo (told-none p xs (tell_death p z x)) (at (is_armed x.phase && owned_in z.objects p x.object))
-  where
-    at : (b : Bool) → NoneNew (cond b (owe (with_phase z x.made Queued) (OfProcess x.process) (work.Death x.made)) z).todo z.todo
-    at true = none-push z.todo _ refl
-    at false = none-same z.todo
+kept-on_deaths : (z : Space) → KeptOnDeaths (λ y. NoneNew y.todo z.todo)
+kept-on_deaths z = record {
+  others = λ y ds h. h;
+  dies = λ y p made h. none-trans _ y.todo z.todo (none-owe y (OfProcess p) (work.Death made) refl) h;
+  clears = λ y t cookie h. none-trans _ y.todo z.todo (none-owe y (OfThread t) (work.Cleared cookie) refl) h;
+}
+
+pub none-on_deaths : (z : Space) → OnDeaths z (λ y. NoneNew y.todo z.todo)
+none-on_deaths z = on-kept _ (kept-on_deaths z) z (none-same z.todo)
 
 pub none-ends : (z : Space) (p : ℕ) → NoneNew (tell_deaths (without_process (threads_go z p) p) p).todo z.todo
-unfolding threads_go tell_deaths
+unfolding threads_go
 none-ends z p =
     let a = fold thread_goes z (map seat_of (filter (λ (t : Thread). t.process == p) z.threads)) in
     let b = without_process a p in
-    none-trans _ b.todo z.todo (told-none p b.deaths b)
+    none-trans _ b.todo z.todo (on-told _ (kept-on_deaths b) b p (none-same b.todo))
     (none-trans b.todo a.todo z.todo (process-none a p) (all-go-none (map seat_of (filter (λ (t : Thread). t.process == p) z.threads)) z))
-
--- ---- death notifications
-
-pub none-requested : (z : Space) (p : ℕ) (o : ObjectId) (cookie : ℕ) → NoneNew (requested z p o cookie).todo z.todo
-unfolding requested with_death owe
-none-requested z p o cookie = at (owner_lives_in z.processes z.objects o)
-  where
-    at : (b : Bool) → NoneNew (cond b (with_death z p o cookie Armed) (owe (with_death z p o cookie Queued) (OfProcess p) (work.Death z.steps))).todo z.todo
-    at true = none-same z.todo
-    at false = none-push z.todo _ refl
-
-ended-none : (z : Space) (t : ℕ) (x : DeathNotification) → NoneNew (death_ended z t x).todo z.todo
-unfolding death_ended without_death owe
-ended-none z t x = none-push z.todo _ refl
-
-pub none-cleared : (z : Space) (t : ℕ) (x : DeathNotification) → NoneNew (cleared z t x).todo z.todo
-unfolding cleared mark_cleared
-none-cleared z t x = at (is_out x.phase)
-  where
-    at : (b : Bool) → NoneNew (cond b (mark_cleared z x.made) (death_ended z t x)).todo z.todo
-    at true = none-same z.todo
-    at false = ended-none z t x
-
-pub none-is_done : (z : Space) (t : ℕ) (x : DeathNotification) → NoneNew (death_done z t x).todo z.todo
-unfolding death_done with_phase
-none-is_done z t x = at x.cleared
-  where
-    at : (b : Bool) → NoneNew (cond b (death_ended z t x) (with_phase z x.made Done)).todo z.todo
-    at true = ended-none z t x
-    at false = none-same z.todo

@@ -14,7 +14,6 @@ use Rattle.bd_space.specs.declared.space.Turn.{Turn}
 use Rattle.bd_space.specs.declared.space.Actor.{Actor}
 use Rattle.bd_space.specs.declared.space.Item.{Item}
 use Rattle.bd_space.specs.declared.space.DeathNotification.{DeathNotification}
-use Rattle.bd_space.specs.declared.space.Phase.TheVariants.{Queued}
 use Rattle.bd_space.specs.declared.space.Work.{Work}
 use Rattle.bd_space.specs.declared.space.WorkKind.{WorkKind}
 use Rattle.bd_space.specs.declared.space.WorkKind.TheVariants as work
@@ -23,7 +22,7 @@ use Rattle.bd_space.specs.declared.space.TodoList.TheVariants.{OfThread, OfProce
 use Rattle.bd_space.specs.Words.{same, is_some_and}
 use Rattle.bd_space.specs.Space.{Space, opening}
 use Rattle.bd_space.specs.Seats.{lives_in}
-use Rattle.bd_space.specs.References.{object_in, objects_go, owned_in}
+use Rattle.bd_space.specs.References.{object_in, objects_go}
 use Rattle.bd_space.specs.Names.{names_go, assign_numbers}
 use Rattle.bd_space.specs.Frames.{goes_to, closed}
 use Rattle.bd_space.specs.Todo.{with_work, owe, is_on, is_notice, notice_of, is_item}
@@ -36,14 +35,14 @@ use Rattle.bd_space.specs.Replies.{replied}
 use Rattle.bd_space.specs.Freeing.{without_buffer}
 use Rattle.bd_space.specs.Asking.{ask, drop_asked, acknowledge}
 use Rattle.bd_space.specs.Commands.{with_looping}
-use Rattle.bd_space.specs.Deaths.{with_phase, with_death, without_death, mark_cleared, requested, death_ended, cleared, death_done, owner_lives_in, is_out}
 use Rattle.bd_space.specs.Reading.{read_by}
-use Rattle.bd_space.specs.Exits.{thread_goes, threads_go, without_process, tell_death, tell_deaths, seat_of, is_armed}
+use Rattle.bd_space.specs.Exits.{thread_goes, threads_go, without_process, tell_deaths, seat_of}
 use Rattle.bd_space.specs.Steps.{change, counted, with_thread, with_process, with_manager}
 use Rattle.bd_space.specs.Histories.{next}
 use Rattle.bd_audit.proofs.Lists.{In, Pairs, in-left, in-push, in-filter, any-found, any-in, find-in, pairs-filter, pairs-push, fold-keeps}
 use Rattle.bd_audit.proofs.Tests.{both, not-true, same-eq, eq-same}
 use Rattle.bd_audit.proofs.EveryStep.{Keeps, every_step}
+use Rattle.bd_audit.proofs.Deaths.{KeptOnDeaths, on-kept, on-told}
 
 -- two work items are no Notices of one object
 abbrev pub Apart : Work → Work → Type 0
@@ -155,26 +154,12 @@ replied-once s a d f v h =
 
 -- ---- deaths and exits
 
-if-once : (z y : Space) (b : Bool) → Once z.todo → Once y.todo → Once (cond b z y).todo
-if-once z y true h k = h
-if-once z y false h k = k
-
-requested-once : (z : Space) (p : ℕ) (o : ObjectId) (cookie : ℕ) → Once z.todo → Once (requested z p o cookie).todo
-unfolding requested with_death
-requested-once z p o cookie h =
-    if-once _ _ (owner_lives_in z.processes z.objects o) h (owe-once (with_death z p o cookie Queued) (OfProcess p) (work.Death z.steps) refl h)
-
-death_ended-once : (z : Space) (seat : ℕ) (x : DeathNotification) → Once z.todo → Once (death_ended z seat x).todo
-unfolding death_ended without_death
-death_ended-once z seat x h = owe-once (without_death z x.made) (OfThread seat) (work.Cleared x.cookie) refl h
-
-cleared-once : (z : Space) (seat : ℕ) (x : DeathNotification) → Once z.todo → Once (cleared z seat x).todo
-unfolding cleared mark_cleared
-cleared-once z seat x h = if-once _ _ (is_out x.phase) h (death_ended-once z seat x h)
-
-death_done-once : (z : Space) (seat : ℕ) (x : DeathNotification) → Once z.todo → Once (death_done z seat x).todo
-unfolding death_done with_phase
-death_done-once z seat x h = if-once _ _ x.cleared (death_ended-once z seat x h) h
+once-on_deaths : KeptOnDeaths OnceIn
+once-on_deaths = record {
+  others = λ z ds h. h;
+  dies = λ z p made h. owe-once z (OfProcess p) (work.Death made) refl h;
+  clears = λ z t cookie h. owe-once z (OfThread t) (work.Cleared cookie) refl h;
+}
 
 thread_goes-once : (z : Space) (seat : ℕ) → Once z.todo → Once (thread_goes z seat).todo
 unfolding thread_goes
@@ -188,14 +173,8 @@ without_process-once : (z : Space) (p : ℕ) → Once z.todo → Once (without_p
 unfolding without_process
 without_process-once z p h = pairs-filter Apart (λ (w : Work). not (is_on (OfProcess p) w)) z.todo h
 
-tell_death-once : (p : ℕ) (z : Space) (x : DeathNotification) → Once z.todo → Once (tell_death p z x).todo
-unfolding with_phase
-tell_death-once p z x h =
-    if-once _ z (is_armed x.phase && owned_in z.objects p x.object) (owe-once (with_phase z x.made Queued) (OfProcess x.process) (work.Death x.made) refl h) h
-
 tell_deaths-once : (z : Space) (p : ℕ) → Once z.todo → Once (tell_deaths z p).todo
-unfolding tell_deaths
-tell_deaths-once z p h = fold-keeps OnceIn (tell_death p) z.deaths (λ y x l k. tell_death-once p y x k) z h
+tell_deaths-once z p h = on-told OnceIn once-on_deaths z p h
 
 -- ---- reading and ripening
 
@@ -318,21 +297,21 @@ noticing-step s seat x h = record {
   opened = λ pid euid window. opened-noticing s seat pid euid window h;
   attached = λ p. attached-noticing s seat p h;
   managed = λ a e b. managed-noticing s a.process.made h;
-  transacts = λ a d parcel v e i t. transacted-once s a d v h.once;
-  replies = λ a d parcel f v e i g t. replied-once s a d f v h.once;
-  frees = λ p ptr b e t. h.once;
-  asks = λ a n strong o e i t. h.once;
-  drops = λ p o strong. h.once;
-  acknowledges = λ o strong i. h.once;
-  loops = λ t looping. h.once;
-  requests = λ p o cookie. requested-once s p o cookie h.once;
-  clears = λ t y. cleared-once s t y h.once;
-  is_done = λ t y. death_done-once s t y h.once;
-  reads = λ a limit e i n. read-once s a.thread.seat _ h.once;
-  leaves = λ a e. thread_goes-once s a.thread.seat h.once;
-  ends = λ a e. tell_deaths-once (without_process (threads_go s a.process.made) a.process.made) a.process.made
-      (without_process-once (threads_go s a.process.made) a.process.made (threads_go-once s a.process.made h.once));
-  ripens = λ z k. ripen-once z k;
+  changes = record {
+    transacts = λ a d parcel v e i t. transacted-once s a d v h.once;
+    replies = λ a d parcel f v e i g t. replied-once s a d f v h.once;
+    frees = λ p ptr b e t. h.once;
+    asks = λ a n strong o e i t. h.once;
+    drops = λ p o strong. h.once;
+    acknowledges = λ o strong i. h.once;
+    loops = λ t looping. h.once;
+    on_deaths = on-kept OnceIn once-on_deaths s h.once;
+    reads = λ a limit e i n. read-once s a.thread.seat _ h.once;
+    leaves = λ a e. thread_goes-once s a.thread.seat h.once;
+    ends = λ a e. tell_deaths-once (without_process (threads_go s a.process.made) a.process.made) a.process.made
+        (without_process-once (threads_go s a.process.made) a.process.made (threads_go-once s a.process.made h.once));
+    ripens = λ z k. ripen-once z k;
+  };
   follows = λ z k. follow-noticing z k;
   closes = λ z made k. closed-noticing z made k;
   refuses = λ z t r k. owe-noticing z (OfThread t) (work.Refusal r) refl k;

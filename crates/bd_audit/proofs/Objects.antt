@@ -44,8 +44,9 @@ use Rattle.bd_space.specs.Steps.{change, counted}
 use Rattle.bd_space.specs.Histories.{History, next, space_after}
 use Rattle.bd_audit.proofs.EveryStep.{Keeps, every_step, every_list}
 use Rattle.bd_audit.proofs.Checks.{transaction-checked, reply-checked, asked-checked}
-use Rattle.bd_audit.proofs.Untouched.{Untouched, owe-untouched, told-untouched, called-untouched, closed-untouched, ripen-untouched, notify-untouched, work_goes-untouched, deaths_go-untouched, with_looping-untouched, requested-untouched, cleared-untouched, death_done-untouched, tell_deaths-untouched}
+use Rattle.bd_audit.proofs.Untouched.{Untouched, owe-untouched, told-untouched, called-untouched, closed-untouched, ripen-untouched, notify-untouched, work_goes-untouched, deaths_go-untouched, with_looping-untouched, on_deaths-untouched, tell_deaths-untouched}
 use Rattle.bd_audit.proofs.Sendings.{Here, HasName, Differ, Sent, Sends, sending-sends}
+use Rattle.bd_audit.proofs.Deaths.{on-mapped}
 
 -- something refers to the object
 abbrev pub Held : List Reference → ObjectId → Type 0
@@ -411,21 +412,21 @@ kept-step s seat x h =
       opened = λ pid euid window. opened-kept s seat pid euid window now;
       attached = λ p. attached-kept s seat p now;
       managed = λ a e b. managed-kept s a.process.made h;
-      transacts = λ a d parcel v e i t. transacted-kept s a d parcel v h t;
-      replies = λ a d parcel f v e i g t. replied-kept s a d parcel f v h t;
-      frees = λ p ptr b e t. without_buffer-kept s b.made now.kept;
-      asks = λ a n strong o e i t. ask-kept s a.process.made n strong o h t;
-      drops = λ p o strong. drop_asked-kept s p o strong now.kept;
-      acknowledges = λ o strong i. acknowledge-kept s o strong now.kept;
-      loops = λ t looping. kept-untouched _ s (with_looping-untouched s t looping) now.kept;
-      requests = λ p o cookie. kept-untouched _ s (requested-untouched s p o cookie) now.kept;
-      clears = λ t y. kept-untouched _ s (cleared-untouched s t y) now.kept;
-      is_done = λ t y. kept-untouched _ s (death_done-untouched s t y) now.kept;
-      reads = λ a limit e i n. read-kept s a.thread.seat _ now.kept;
-      leaves = λ a e. thread_goes-kept s a.thread.seat now.kept;
-      ends = λ a e. kept-untouched _ (without_process (threads_go s a.process.made) a.process.made) (tell_deaths-untouched (without_process (threads_go s a.process.made) a.process.made) a.process.made)
-          (without_process-kept (threads_go s a.process.made) a.process.made (threads_go-kept s a.process.made now.kept));
-      ripens = λ z k. kept-untouched (ripen z) z (ripen-untouched z) k;
+      changes = record {
+        transacts = λ a d parcel v e i t. transacted-kept s a d parcel v h t;
+        replies = λ a d parcel f v e i g t. replied-kept s a d parcel f v h t;
+        frees = λ p ptr b e t. without_buffer-kept s b.made now.kept;
+        asks = λ a n strong o e i t. ask-kept s a.process.made n strong o h t;
+        drops = λ p o strong. drop_asked-kept s p o strong now.kept;
+        acknowledges = λ o strong i. acknowledge-kept s o strong now.kept;
+        loops = λ t looping. kept-untouched _ s (with_looping-untouched s t looping) now.kept;
+        on_deaths = on-mapped s _ _ (λ y k. kept-untouched y s k now.kept) (on_deaths-untouched s);
+        reads = λ a limit e i n. read-kept s a.thread.seat _ now.kept;
+        leaves = λ a e. thread_goes-kept s a.thread.seat now.kept;
+        ends = λ a e. kept-untouched _ (without_process (threads_go s a.process.made) a.process.made) (tell_deaths-untouched (without_process (threads_go s a.process.made) a.process.made) a.process.made)
+            (without_process-kept (threads_go s a.process.made) a.process.made (threads_go-kept s a.process.made now.kept));
+        ripens = λ z k. kept-untouched (ripen z) z (ripen-untouched z) k;
+      };
       follows = λ z k. follow-whole z k;
       closes = λ z made k. whole-untouched (closed z made) z (closed-untouched z made) k;
       refuses = λ z t r k. whole-untouched _ z (owe-untouched z (OfThread t) (work.Refusal r)) k;

@@ -1,5 +1,5 @@
 -- One-way calls whose buffers live: a buffer that is due or handed out has no older rival.
-use Rattle.std.proofs.Common.{◌≡◌, ℕ, suc, ◌<◌, ◌≤◌, ◌==◌, Bool, true, false, cond, not, ◌&&◌, List, [], ◌∷◌, ◌++◌, Option, Some, None, ◌⊎◌, inl, inr, refl, ap, sym, subst, ◌∙◌, map, filter, arith}
+use Rattle.std.proofs.Common.{◌≡◌, ℕ, suc, ◌<◌, ◌≤◌, ◌==◌, Bool, true, false, cond, not, List, [], ◌∷◌, ◌++◌, Option, Some, None, ◌⊎◌, inl, inr, refl, ap, sym, subst, ◌∙◌, map, filter, arith}
 use Rattle.std.specs.List.{fold}
 use Rattle.bd_space.specs.declared.step.ObjectId.{ObjectId}
 use Rattle.bd_space.specs.declared.space.Object.{Object}
@@ -12,7 +12,6 @@ use Rattle.bd_space.specs.declared.space.Item.{Item}
 use Rattle.bd_space.specs.declared.space.TodoList.{TodoList}
 use Rattle.bd_space.specs.declared.space.WorkKind.{WorkKind}
 use Rattle.bd_space.specs.declared.space.WorkKind.TheVariants as work
-use Rattle.bd_space.specs.declared.space.DeathNotification.{DeathNotification}
 use Rattle.bd_space.specs.Words.{same}
 use Rattle.bd_space.specs.Space.{Space}
 use Rattle.bd_space.specs.Todo.{with_work, handed_over, owe, is_on}
@@ -28,17 +27,15 @@ use Rattle.bd_space.specs.Parcels.{is_own}
 use Rattle.bd_space.specs.Delivery.{Delivery, delivered, own_notices, add_buffer, known_by, refer, make_objects, buffer_of, add_notice, withdraw_notice}
 use Rattle.bd_space.specs.Transactions.{transacted, called, call_out}
 use Rattle.bd_space.specs.Replies.{replied}
-use Rattle.bd_space.specs.References.{objects_go, object_in, owned_in}
+use Rattle.bd_space.specs.References.{objects_go, object_in}
 use Rattle.bd_space.specs.declared.space.Thread.{Thread}
-use Rattle.bd_space.specs.declared.space.Phase.{Phase}
-use Rattle.bd_space.specs.declared.space.Phase.TheVariants.{Armed, Queued, Done}
 use Rattle.bd_space.specs.Freeing.{without_buffer, is_made_at}
-use Rattle.bd_space.specs.Exits.{thread_goes, threads_go, without_process, tell_death, tell_deaths, is_lost_with, seat_of, is_armed}
+use Rattle.bd_space.specs.Exits.{thread_goes, threads_go, without_process, tell_deaths, is_lost_with, seat_of}
 use Rattle.bd_space.specs.Steps.{with_thread, with_process, with_manager}
 use Rattle.bd_space.specs.Asking.{ask, drop_asked, acknowledge}
 use Rattle.bd_space.specs.Commands.{with_looping}
-use Rattle.bd_space.specs.Deaths.{with_phase, with_death, without_death, mark_cleared, requested, death_ended, cleared, death_done, owner_lives_in, is_out}
 use Rattle.bd_audit.proofs.Lists.{In, Pairs, in-push, in-filter, pairs-map, pairs-filter, pairs-push}
+use Rattle.bd_audit.proofs.Deaths.{OnDeaths, KeptOnDeaths, on-kept, on-told}
 
 -- a work item that hands this buffer over
 abbrev pub Due : List Work → ℕ → Type 0
@@ -64,14 +61,14 @@ pub record InTurn (n : ℕ) (buffers : List Buffer) (todo : List Work) : Type 0 
 
 -- ---- a space with no more buffers, and no more that are due
 
-pub record Less (z y : Space) : Type 1 where
+pub record Less (z y : Space) : Type 0 where
   pub steps : z.steps ≡ y.steps
   pub buffers : (b : Buffer) → In b z.buffers → In b y.buffers
-  pub pairs : (R : Buffer → Buffer → Type 0) → Pairs R y.buffers → Pairs R z.buffers
+  pub pairs : (todo : List Work) → Pairs (Waits todo) y.buffers → Pairs (Waits todo) z.buffers
   pub due : (w : Work) (m : ℕ) → In w z.todo → handed_over w.kind ≡ Some m → In w y.todo
 
 pub less-same : (z y : Space) → z.steps ≡ y.steps → z.buffers ≡ y.buffers → ((w : Work) (m : ℕ) → In w z.todo → handed_over w.kind ≡ Some m → In w y.todo) → Less z y
-less-same z y e d k = record { steps = e; buffers = λ b l. subst (In b) d l; pairs = λ R h. subst (Pairs R) (sym d) h; due = k }
+less-same z y e d k = record { steps = e; buffers = λ b l. subst (In b) d l; pairs = λ todo h. subst (Pairs (Waits todo)) (sym d) h; due = k }
 
 pub less-refl : (z : Space) → Less z z
 less-refl z = less-same z z refl refl (λ w m l e. l)
@@ -80,7 +77,7 @@ pub less-trans : (z y x : Space) → Less z y → Less y x → Less z x
 less-trans z y x h k = record {
   steps = h.steps ∙ k.steps;
   buffers = λ b l. k.buffers b (h.buffers b l);
-  pairs = λ R p. h.pairs R (k.pairs R p);
+  pairs = λ todo p. h.pairs todo (k.pairs todo p);
   due = λ w m l e. k.due w m (h.due w m l e) e;
 }
 
@@ -100,7 +97,7 @@ in_turn-less z y l h =
     subst (λ n. InTurn (suc n) z.buffers z.todo) (sym l.steps) (record {
       below = λ b i. h.below b (l.buffers b i);
       fresh = λ m d. h.fresh m (due m d);
-      waits = pairs-map (Waits y.todo) (Waits z.todo) z.buffers (λ b c i j w. waits-less z.todo y.todo due b c w) (l.pairs (Waits y.todo) h.waits);
+      waits = pairs-map (Waits y.todo) (Waits z.todo) z.buffers (λ b c i j w. waits-less z.todo y.todo due b c w) (l.pairs y.todo h.waits);
     })
 
 -- ---- the parts of a step
@@ -303,7 +300,7 @@ filtered-less : (z y : Space) (p : Buffer → Bool) → z.steps ≡ y.steps → 
 filtered-less z y p e d k = record {
   steps = e;
   buffers = λ b l. (in-filter p b y.buffers (subst (In b) d l)).0;
-  pairs = λ R h. subst (Pairs R) (sym d) (pairs-filter R p y.buffers h);
+  pairs = λ todo h. subst (Pairs (Waits todo)) (sym d) (pairs-filter (Waits todo) p y.buffers h);
   due = k;
 }
 
@@ -331,22 +328,18 @@ without_process-less z p =
     filtered-less _ z (λ (b : Buffer). not (b.receiver == p)) refl refl
     (λ w m l e. (in-filter (λ (x : Work). not (is_on (OfProcess p) x)) w z.todo l).0)
 
-with_phase-less : (z : Space) (made : ℕ) (phase : Phase) → Less (with_phase z made phase) z
-unfolding with_phase
-with_phase-less z made phase = same-less _ z refl refl refl
+kept-on_deaths : (z : Space) → KeptOnDeaths (λ y. Less y z)
+kept-on_deaths z = record {
+  others = λ y ds h. less-trans _ y z (same-less _ y refl refl refl) h;
+  dies = λ y p made h. less-trans _ y z (owe-less y (OfProcess p) (work.Death made) refl) h;
+  clears = λ y t cookie h. less-trans _ y z (owe-less y (OfThread t) (work.Cleared cookie) refl) h;
+}
 
-tell_death-less : (p : ℕ) (z : Space) (x : DeathNotification) (b : Bool)
-    → Less (cond b (owe (with_phase z x.made Queued) (OfProcess x.process) (work.Death x.made)) z) z
-tell_death-less p z x true = less-trans _ (with_phase z x.made Queued) z (owe-less _ (OfProcess x.process) (work.Death x.made) refl) (with_phase-less z x.made Queued)
-tell_death-less p z x false = less-refl z
-
-each-told : (p : ℕ) (xs : List DeathNotification) (z : Space) → Less (fold (tell_death p) z xs) z
-each-told p [] z = less-refl z
-each-told p (x ∷ xs) z = less-trans _ (tell_death p z x) z (each-told p xs (tell_death p z x)) (tell_death-less p z x (is_armed x.phase && owned_in z.objects p x.object))
+pub on_deaths-less : (z : Space) → OnDeaths z (λ y. Less y z)
+on_deaths-less z = on-kept _ (kept-on_deaths z) z (less-refl z)
 
 pub tell_deaths-less : (z : Space) (p : ℕ) → Less (tell_deaths z p) z
-unfolding tell_deaths
-tell_deaths-less z p = each-told p z.deaths z
+tell_deaths-less z p = on-told _ (kept-on_deaths z) z p (less-refl z)
 
 pub ends-less : (z : Space) (p : ℕ) → Less (tell_deaths (without_process (threads_go z p) p) p) z
 ends-less z p =
@@ -387,37 +380,3 @@ with_looping-less z t looping = same-less _ z refl refl refl
 pub closed-less : (z : Space) (made : ℕ) → Less (closed z made) z
 unfolding closed
 closed-less z made = same-less _ z refl refl refl
-
-with_death-less : (z : Space) (p : ℕ) (o : ObjectId) (cookie : ℕ) (phase : Phase) → Less (with_death z p o cookie phase) z
-unfolding with_death
-with_death-less z p o cookie phase = same-less _ z refl refl refl
-
-without_death-less : (z : Space) (made : ℕ) → Less (without_death z made) z
-unfolding without_death
-without_death-less z made = same-less _ z refl refl refl
-
-mark_cleared-less : (z : Space) (made : ℕ) → Less (mark_cleared z made) z
-unfolding mark_cleared
-mark_cleared-less z made = same-less _ z refl refl refl
-
-if-less : (z y : Space) (b : Bool) (x : Space) → Less z x → Less y x → Less (cond b z y) x
-if-less z y true x h k = h
-if-less z y false x h k = k
-
-pub requested-less : (z : Space) (p : ℕ) (o : ObjectId) (cookie : ℕ) → Less (requested z p o cookie) z
-unfolding requested
-requested-less z p o cookie =
-    if-less _ _ (owner_lives_in z.processes z.objects o) z (with_death-less z p o cookie Armed)
-    (less-trans _ (with_death z p o cookie Queued) z (owe-less _ (OfProcess p) (work.Death z.steps) refl) (with_death-less z p o cookie Queued))
-
-death_ended-less : (z : Space) (seat : ℕ) (x : DeathNotification) → Less (death_ended z seat x) z
-unfolding death_ended
-death_ended-less z seat x = less-trans _ (without_death z x.made) z (owe-less _ (OfThread seat) (work.Cleared x.cookie) refl) (without_death-less z x.made)
-
-pub cleared-less : (z : Space) (seat : ℕ) (x : DeathNotification) → Less (cleared z seat x) z
-unfolding cleared
-cleared-less z seat x = if-less _ _ (is_out x.phase) z (mark_cleared-less z x.made) (death_ended-less z seat x)
-
-pub death_done-less : (z : Space) (seat : ℕ) (x : DeathNotification) → Less (death_done z seat x) z
-unfolding death_done
-death_done-less z seat x = if-less _ _ x.cleared z (death_ended-less z seat x) (with_phase-less z x.made Done)

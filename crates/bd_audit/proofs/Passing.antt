@@ -40,13 +40,14 @@ use Rattle.bd_audit.proofs.Lists.{In, Pairs, in-left, in-append, in-push, in-fil
 use Rattle.bd_audit.proofs.Tests.{both, not-true, not-false}
 use Rattle.bd_audit.proofs.EveryStep.{Keeps, every_step}
 use Rattle.bd_audit.proofs.OneWay
-use Rattle.bd_audit.proofs.OneWay.{Due, Out, Rivals, Waits, InTurn, Less}
+use Rattle.bd_audit.proofs.OneWay.{Due, Waits, InTurn, Less}
 use Rattle.bd_audit.proofs.Ripening.{turn-parts, taken-due, read-in}
 use Rattle.bd_audit.proofs.InTurn.{Turning, kept}
 use Rattle.bd_audit.proofs.Untouched
 use Rattle.bd_audit.proofs.Untouched.{Untouched}
 use Rattle.bd_audit.proofs.Sendings.{Made, sending-sends}
 use Rattle.bd_audit.proofs.Checks.{Owned, transaction-checked, reply-checked, actor-lives}
+use Rattle.bd_audit.proofs.Deaths.{on-mapped, on-both}
 
 -- a one-way call on this object
 abbrev pub On : ObjectId → Buffer → Type 0
@@ -593,20 +594,20 @@ passing-step s seat x turns l =
       opened = λ pid euid window. record { turns = k.opened pid euid window; passed = opened-passed s seat pid euid window l };
       attached = λ p. record { turns = k.attached p; passed = attached-passed s seat p l };
       managed = λ a e b. record { turns = k.managed a e b; passed = managed-passed s seat a e l };
-      transacts = λ a d parcel v e i t. record { turns = k.transacts a d parcel v e i t; passed = transacted-passed s seat a d parcel v turns l i t };
-      replies = λ a d parcel f v e i g t. record { turns = k.replies a d parcel f v e i g t; passed = replied-passed s seat a d parcel f v turns l i t };
-      frees = λ p ptr b e t. record { turns = k.frees p ptr b e t; passed = freed-passed s b turns l (at_pointer-in s p ptr b e) t };
-      asks = λ a n strong o e i t. passing-after s _ s (ask-after s a.process.made o strong) (OneWay.ask-less s a.process.made o strong) none;
-      drops = λ p o strong. passing-after s _ s (drop_asked-after s p o strong) (OneWay.drop_asked-less s p o strong) none;
-      acknowledges = λ o strong i. passing-after s _ s (acknowledge-after s o strong) (OneWay.acknowledge-less s o strong) none;
-      loops = λ t looping. passing-untouched s _ s (Untouched.with_looping-untouched s t looping) (OneWay.with_looping-less s t looping) none;
-      requests = λ p o cookie. passing-untouched s _ s (Untouched.requested-untouched s p o cookie) (OneWay.requested-less s p o cookie) none;
-      clears = λ t y. passing-untouched s _ s (Untouched.cleared-untouched s t y) (OneWay.cleared-less s t y) none;
-      is_done = λ t y. passing-untouched s _ s (Untouched.death_done-untouched s t y) (OneWay.death_done-less s t y) none;
-      reads = λ a limit e i n. record { turns = k.reads a limit e i n; passed = read-passed s a.thread a.thread.seat _ l };
-      leaves = λ a e. record { turns = k.leaves a e; passed = thread_goes-passed s s a.thread.seat (passed-none s l) };
-      ends = λ a e. record { turns = k.ends a e; passed = ends-passed s a.process.made l };
-      ripens = λ z h. record { turns = k.ripens z h.turns; passed = ripen-passed s z h.turns h.passed };
+      changes = record {
+        transacts = λ a d parcel v e i t. record { turns = k.changes.transacts a d parcel v e i t; passed = transacted-passed s seat a d parcel v turns l i t };
+        replies = λ a d parcel f v e i g t. record { turns = k.changes.replies a d parcel f v e i g t; passed = replied-passed s seat a d parcel f v turns l i t };
+        frees = λ p ptr b e t. record { turns = k.changes.frees p ptr b e t; passed = freed-passed s b turns l (at_pointer-in s p ptr b e) t };
+        asks = λ a n strong o e i t. passing-after s _ s (ask-after s a.process.made o strong) (OneWay.ask-less s a.process.made o strong) none;
+        drops = λ p o strong. passing-after s _ s (drop_asked-after s p o strong) (OneWay.drop_asked-less s p o strong) none;
+        acknowledges = λ o strong i. passing-after s _ s (acknowledge-after s o strong) (OneWay.acknowledge-less s o strong) none;
+        loops = λ t looping. passing-untouched s _ s (Untouched.with_looping-untouched s t looping) (OneWay.with_looping-less s t looping) none;
+        on_deaths = on-mapped s _ _ (λ y k. passing-untouched s y s k.0 k.1 none) (on-both s _ _ (Untouched.on_deaths-untouched s) (OneWay.on_deaths-less s));
+        reads = λ a limit e i n. record { turns = k.changes.reads a limit e i n; passed = read-passed s a.thread a.thread.seat _ l };
+        leaves = λ a e. record { turns = k.changes.leaves a e; passed = thread_goes-passed s s a.thread.seat (passed-none s l) };
+        ends = λ a e. record { turns = k.changes.ends a e; passed = ends-passed s a.process.made l };
+        ripens = λ z h. record { turns = k.changes.ripens z h.turns; passed = ripen-passed s z h.turns h.passed };
+      };
       follows = λ z. passing-after s (follow z) z (follow-after z) (OneWay.follow-less z);
       closes = λ z made. passing-untouched s (closed z made) z (Untouched.closed-untouched z made) (OneWay.closed-less z made);
       refuses = λ z t r. passing-untouched s _ z (Untouched.owe-untouched z (OfThread t) (work.Refusal r)) (OneWay.owe-less z (OfThread t) (work.Refusal r) refl);

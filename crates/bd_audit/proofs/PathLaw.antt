@@ -14,7 +14,7 @@ use Rattle.bd_audit.specs.Paths.{is_on_way, is_one_path}
 use Rattle.bd_audit.proofs.Lists.{In, Pairs, in-filter, all-in, pairs-filter}
 use Rattle.bd_audit.proofs.Forests.{Forest, Older}
 use Rattle.bd_audit.proofs.Innermost.{Newer, differ, in-reverse, reverse-in, newest-first, true-part}
-use Rattle.bd_audit.proofs.Paths.{always-on_paths}
+use Rattle.bd_audit.proofs.EveryPath.{always-on_paths}
 
 -- ---- one open child
 

@@ -1,5 +1,5 @@
 -- Parts of a step that make no frame and no reply.
-use Rattle.std.proofs.Common.{◌≡◌, ℕ, ◌==◌, Bool, true, false, cond, not, ◌&&◌, List, [], ◌∷◌, ◌++◌, Option, Some, None, ◌⊎◌, inl, inr, refl, ap, sym, subst, ◌∙◌, map, filter}
+use Rattle.std.proofs.Common.{◌≡◌, ℕ, ◌==◌, Bool, true, false, cond, not, List, [], ◌∷◌, ◌++◌, Option, Some, None, ◌⊎◌, inl, inr, refl, ap, sym, subst, ◌∙◌, map, filter}
 use Rattle.std.specs.List.{fold}
 use Rattle.std.specs.Option.{option_map}
 use Rattle.std.proofs.lemmas.Bool.{eqb-true, eq-eqb}
@@ -20,9 +20,6 @@ use Rattle.bd_space.specs.declared.space.TodoList.{TodoList}
 use Rattle.bd_space.specs.declared.space.TodoList.TheVariants.{OfThread, OfProcess}
 use Rattle.bd_space.specs.declared.space.WorkKind.{WorkKind}
 use Rattle.bd_space.specs.declared.space.WorkKind.TheVariants as work
-use Rattle.bd_space.specs.declared.space.DeathNotification.{DeathNotification}
-use Rattle.bd_space.specs.declared.space.Phase.{Phase}
-use Rattle.bd_space.specs.declared.space.Phase.TheVariants.{Armed, Queued, Done}
 use Rattle.bd_space.specs.Words.{changed}
 use Rattle.bd_space.specs.Space.{Space}
 use Rattle.bd_space.specs.Seats.{thread_in}
@@ -30,20 +27,20 @@ use Rattle.bd_space.specs.Todo.{with_work, owe, is_on, same_list}
 use Rattle.bd_space.specs.Turns.{turns_of, ripen, ripened, is_ripe}
 use Rattle.bd_space.specs.Notices.{with_notice, follow, notify, work_goes, deaths_go, still_due}
 use Rattle.bd_space.specs.Names.{names_go, assign_numbers}
-use Rattle.bd_space.specs.References.{objects_go, object_in, owned_in}
+use Rattle.bd_space.specs.References.{objects_go, object_in}
 use Rattle.bd_space.specs.Frames.{closed, is_frame}
 use Rattle.bd_space.specs.Parcels.{is_own}
 use Rattle.bd_space.specs.Delivery.{Delivery, delivered, own_notices, add_buffer, known_by, refer, make_objects, buffer_of, add_notice, withdraw_notice}
 use Rattle.bd_space.specs.Freeing.{without_buffer}
-use Rattle.bd_space.specs.Exits.{thread_goes, threads_go, without_process, tell_death, tell_deaths, seat_of, is_armed, gone_caller, gone_server, unread_server, is_unread_on, frame_without, unread_frame}
+use Rattle.bd_space.specs.Exits.{thread_goes, threads_go, without_process, tell_deaths, seat_of, gone_caller, gone_server, unread_server, is_unread_on, frame_without, unread_frame}
 use Rattle.bd_space.specs.Steps.{with_thread, with_process, with_manager}
 use Rattle.bd_space.specs.Asking.{ask, drop_asked, acknowledge}
 use Rattle.bd_space.specs.Commands.{with_looping}
-use Rattle.bd_space.specs.Deaths.{with_phase, with_death, without_death, mark_cleared, requested, death_ended, cleared, death_done, owner_lives_in, is_out}
 use Rattle.bd_calls.specs.Replies.{reply_of}
 use Rattle.bd_audit.specs.Replies.{made_in}
 use Rattle.bd_audit.proofs.Lists.{In, in-push, in-filter, in-map}
 use Rattle.bd_audit.proofs.Tests.{not-true}
+use Rattle.bd_audit.proofs.Deaths.{OnDeaths, KeptOnDeaths, on-kept, on-told}
 
 -- a frame of this thread, or a reply that it is to read
 abbrev pub Uses : Space → ℕ → Type 0
@@ -373,21 +370,18 @@ without_process-quiet z p = record {
   threads = λ t m h u. h;
 }
 
-with_phase-quiet : (z : Space) (made : ℕ) (phase : Phase) → Quiet (with_phase z made phase) z
-unfolding with_phase
-with_phase-quiet z made phase = quiet-same _ z refl refl refl refl
+kept-on_deaths : (z : Space) → KeptOnDeaths (λ y. Quiet y z)
+kept-on_deaths z = record {
+  others = λ y ds h. quiet-trans _ y z (quiet-same _ y refl refl refl refl) h;
+  dies = λ y p made h. quiet-trans _ y z (owe-quiet y (OfProcess p) (work.Death made) refl) h;
+  clears = λ y t cookie h. quiet-trans _ y z (owe-quiet y (OfThread t) (work.Cleared cookie) refl) h;
+}
 
-tell_death-quiet : (p : ℕ) (z : Space) (x : DeathNotification) (b : Bool) → Quiet (cond b (owe (with_phase z x.made Queued) (OfProcess x.process) (work.Death x.made)) z) z
-tell_death-quiet p z x true = quiet-trans _ (with_phase z x.made Queued) z (owe-quiet _ (OfProcess x.process) (work.Death x.made) refl) (with_phase-quiet z x.made Queued)
-tell_death-quiet p z x false = quiet-refl z
-
-each-told : (p : ℕ) (xs : List DeathNotification) (z : Space) → Quiet (fold (tell_death p) z xs) z
-each-told p [] z = quiet-refl z
-each-told p (x ∷ xs) z = quiet-trans _ (tell_death p z x) z (each-told p xs (tell_death p z x)) (tell_death-quiet p z x (is_armed x.phase && owned_in z.objects p x.object))
+pub on_deaths-quiet : (z : Space) → OnDeaths z (λ y. Quiet y z)
+on_deaths-quiet z = on-kept _ (kept-on_deaths z) z (quiet-refl z)
 
 tell_deaths-quiet : (z : Space) (p : ℕ) → Quiet (tell_deaths z p) z
-unfolding tell_deaths
-tell_deaths-quiet z p = each-told p z.deaths z
+tell_deaths-quiet z p = on-told _ (kept-on_deaths z) z p (quiet-refl z)
 
 pub ends-quiet : (z : Space) (p : ℕ) → Quiet (tell_deaths (without_process (threads_go z p) p) p) z
 ends-quiet z p =
@@ -416,37 +410,3 @@ drop_asked-quiet z p o strong = quiet-same _ z refl refl refl refl
 pub acknowledge-quiet : (z : Space) (o : ObjectId) (strong : Bool) → Quiet (acknowledge z o strong) z
 unfolding acknowledge
 acknowledge-quiet z o strong = quiet-same _ z refl refl refl refl
-
-with_death-quiet : (z : Space) (p : ℕ) (o : ObjectId) (cookie : ℕ) (phase : Phase) → Quiet (with_death z p o cookie phase) z
-unfolding with_death
-with_death-quiet z p o cookie phase = quiet-same _ z refl refl refl refl
-
-without_death-quiet : (z : Space) (made : ℕ) → Quiet (without_death z made) z
-unfolding without_death
-without_death-quiet z made = quiet-same _ z refl refl refl refl
-
-mark_cleared-quiet : (z : Space) (made : ℕ) → Quiet (mark_cleared z made) z
-unfolding mark_cleared
-mark_cleared-quiet z made = quiet-same _ z refl refl refl refl
-
-if-quiet : (z y : Space) (b : Bool) (x : Space) → Quiet z x → Quiet y x → Quiet (cond b z y) x
-if-quiet z y true x h k = h
-if-quiet z y false x h k = k
-
-pub requested-quiet : (z : Space) (p : ℕ) (o : ObjectId) (cookie : ℕ) → Quiet (requested z p o cookie) z
-unfolding requested
-requested-quiet z p o cookie =
-    if-quiet _ _ (owner_lives_in z.processes z.objects o) z (with_death-quiet z p o cookie Armed)
-    (quiet-trans _ (with_death z p o cookie Queued) z (owe-quiet _ (OfProcess p) (work.Death z.steps) refl) (with_death-quiet z p o cookie Queued))
-
-death_ended-quiet : (z : Space) (seat : ℕ) (x : DeathNotification) → Quiet (death_ended z seat x) z
-unfolding death_ended
-death_ended-quiet z seat x = quiet-trans _ (without_death z x.made) z (owe-quiet _ (OfThread seat) (work.Cleared x.cookie) refl) (without_death-quiet z x.made)
-
-pub cleared-quiet : (z : Space) (seat : ℕ) (x : DeathNotification) → Quiet (cleared z seat x) z
-unfolding cleared
-cleared-quiet z seat x = if-quiet _ _ (is_out x.phase) z (mark_cleared-quiet z x.made) (death_ended-quiet z seat x)
-
-pub death_done-quiet : (z : Space) (seat : ℕ) (x : DeathNotification) → Quiet (death_done z seat x) z
-unfolding death_done
-death_done-quiet z seat x = if-quiet _ _ x.cleared z (death_ended-quiet z seat x) (with_phase-quiet z x.made Done)

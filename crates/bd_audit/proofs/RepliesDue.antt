@@ -44,6 +44,7 @@ use Rattle.bd_audit.proofs.Lists.{In, in-push, in-filter, find-in, any-found, an
 use Rattle.bd_audit.proofs.Tests.{both, same-eq}
 use Rattle.bd_audit.proofs.Quiet as quiet
 use Rattle.bd_audit.proofs.Quiet.{Quiet, Adds, with_work-quiet, adds-trans}
+use Rattle.bd_audit.proofs.Deaths.{on-mapped}
 
 pub record Owed (n : ℕ) (todo : List Work) : Type 0 where
   pub place : (w : Work) → In w todo → w.id.place < n
@@ -511,20 +512,20 @@ kept s seat x h = record {
   opened = λ pid euid window. quiet-ends _ s h (quiet.opened-quiet s seat pid euid window);
   attached = λ p. quiet-ends _ s h (quiet.attached-quiet s seat p);
   managed = λ a e b. quiet-ends _ s h (quiet.managed-quiet s a.process.made);
-  transacts = λ a d parcel v e i t. transacted-goes s a d v h;
-  replies = λ a d parcel f v e i g t. replied-goes s a d f v h;
-  frees = λ p ptr b e t. quiet-goes _ s h (quiet.without_buffer-quiet s b.made);
-  asks = λ a n strong o e i t. quiet-goes _ s h (quiet.ask-quiet s a.process.made o strong);
-  drops = λ p o strong. quiet-goes _ s h (quiet.drop_asked-quiet s p o strong);
-  acknowledges = λ o strong i. quiet-goes _ s h (quiet.acknowledge-quiet s o strong);
-  loops = λ t looping. quiet-goes _ s h (quiet.with_looping-quiet s t looping);
-  requests = λ p o cookie. quiet-goes _ s h (quiet.requested-quiet s p o cookie);
-  clears = λ t y. quiet-goes _ s h (quiet.cleared-quiet s t y);
-  is_done = λ t y. quiet-goes _ s h (quiet.death_done-quiet s t y);
-  reads = λ a limit e i n. read-goes s a.thread.seat _ h;
-  leaves = λ a e. quiet-goes _ s h (quiet.thread_goes-quiet s a.thread.seat);
-  ends = λ a e. quiet-goes _ s h (quiet.ends-quiet s a.process.made);
-  ripens = ripen-goes;
+  changes = record {
+    transacts = λ a d parcel v e i t. transacted-goes s a d v h;
+    replies = λ a d parcel f v e i g t. replied-goes s a d f v h;
+    frees = λ p ptr b e t. quiet-goes _ s h (quiet.without_buffer-quiet s b.made);
+    asks = λ a n strong o e i t. quiet-goes _ s h (quiet.ask-quiet s a.process.made o strong);
+    drops = λ p o strong. quiet-goes _ s h (quiet.drop_asked-quiet s p o strong);
+    acknowledges = λ o strong i. quiet-goes _ s h (quiet.acknowledge-quiet s o strong);
+    loops = λ t looping. quiet-goes _ s h (quiet.with_looping-quiet s t looping);
+    on_deaths = on-mapped s _ _ (λ y k. quiet-goes y s h k) (quiet.on_deaths-quiet s);
+    reads = λ a limit e i n. read-goes s a.thread.seat _ h;
+    leaves = λ a e. quiet-goes _ s h (quiet.thread_goes-quiet s a.thread.seat);
+    ends = λ a e. quiet-goes _ s h (quiet.ends-quiet s a.process.made);
+    ripens = ripen-goes;
+  };
   follows = follow-ends;
   closes = closed-ends;
   refuses = λ z t r. owe-ends z (OfThread t) (work.Refusal r) refl;

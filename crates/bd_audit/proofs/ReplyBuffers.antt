@@ -4,7 +4,6 @@ use Rattle.std.specs.List.{fold, list_any}
 use Rattle.std.specs.Option.{option_and_then}
 use Rattle.std.proofs.lemmas.Bool.{eqb-true, eq-eqb}
 use Rattle.bd_uapi.specs.declared.command.TransactionData.{TransactionData}
-use Rattle.bd_space.specs.declared.step.ObjectId.{ObjectId}
 use Rattle.bd_space.specs.declared.step.Parcel.{Parcel}
 use Rattle.bd_space.specs.declared.step.Step.{Step}
 use Rattle.bd_space.specs.declared.step.Entry.{Entry}
@@ -15,8 +14,6 @@ use Rattle.bd_space.specs.declared.space.Frame.{Frame}
 use Rattle.bd_space.specs.declared.space.Turn.{Turn}
 use Rattle.bd_space.specs.declared.space.Work.{Work}
 use Rattle.bd_space.specs.declared.space.Actor.{Actor}
-use Rattle.bd_space.specs.declared.space.DeathNotification.{DeathNotification}
-use Rattle.bd_space.specs.declared.space.Phase.TheVariants.{Queued}
 use Rattle.bd_space.specs.declared.space.TodoList.{TodoList}
 use Rattle.bd_space.specs.declared.space.TodoList.TheVariants.{OfThread, OfProcess}
 use Rattle.bd_space.specs.declared.space.WorkKind.{WorkKind}
@@ -28,18 +25,17 @@ use Rattle.bd_space.specs.Todo.{with_work, owe, is_on, same_list, is_item, hande
 use Rattle.bd_space.specs.Turns.{turn_of, turns_of, ripen, ripened, is_ripe}
 use Rattle.bd_space.specs.Notices.{follow, notify, work_goes, deaths_go}
 use Rattle.bd_space.specs.Names.{names_go, assign_numbers}
-use Rattle.bd_space.specs.References.{objects_go, owned_in}
+use Rattle.bd_space.specs.References.{objects_go}
 use Rattle.bd_space.specs.Frames.{closed, goes_to}
 use Rattle.bd_space.specs.Delivery.{Delivery, delivered, own_notices, add_buffer, known_by, refer, make_objects, buffer_of}
 use Rattle.bd_space.specs.Transactions.{transacted, called, call_out}
 use Rattle.bd_space.specs.Replies.{caller_of, reply_check, replied}
 use Rattle.bd_space.specs.Freeing.{without_buffer, is_made_at, buffer_at_pointer, is_buffer_at}
 use Rattle.bd_space.specs.Reading.{taken, read_by, buffer_taken, handed_buffers, hand_out}
-use Rattle.bd_space.specs.Exits.{thread_goes, threads_go, without_process, tell_death, tell_deaths, is_lost_with, seat_of, is_armed}
+use Rattle.bd_space.specs.Exits.{thread_goes, threads_go, without_process, tell_deaths, is_lost_with, seat_of}
 use Rattle.bd_space.specs.Steps.{counted, with_thread, with_process, with_manager}
 use Rattle.bd_space.specs.Asking.{ask, drop_asked, acknowledge}
 use Rattle.bd_space.specs.Commands.{with_looping}
-use Rattle.bd_space.specs.Deaths.{with_phase, with_death, without_death, mark_cleared, requested, death_ended, cleared, death_done, owner_lives_in, is_out}
 use Rattle.bd_space.specs.Histories.{after, next}
 use Rattle.bd_calls.specs.Replies.{reply_of}
 use Rattle.bd_audit.proofs.EveryStep.{Keeps, every_step, every_list}
@@ -47,14 +43,14 @@ use Rattle.bd_audit.proofs.Lists.{In, in-left, in-last, in-push, in-filter, filt
 use Rattle.bd_audit.proofs.Tests.{both, not-true}
 use Rattle.bd_audit.proofs.Checks.{actor-lives, reply-checked}
 use Rattle.bd_audit.proofs.OneWay as one_way
-use Rattle.bd_audit.proofs.OneWay.{InTurn, Waits, Less, less-refl, owe-less, own_notices-less}
+use Rattle.bd_audit.proofs.OneWay.{InTurn, Waits, Less, owe-less, own_notices-less}
 use Rattle.bd_audit.proofs.InTurn as turn
-use Rattle.bd_audit.proofs.InTurn.{Turning, IsInTurn, step-in_turn, opening-in_turn}
+use Rattle.bd_audit.proofs.InTurn.{Turning, IsInTurn, opening-in_turn}
 use Rattle.bd_audit.proofs.Ripening.{taken-due, read-in, turn-parts}
 use Rattle.bd_audit.proofs.ReplyTaken.{same-item}
-use Rattle.bd_audit.proofs.Paths as path
-use Rattle.bd_audit.proofs.Paths.{one-of}
+use Rattle.bd_audit.proofs.PathCalls as path_call
 use Rattle.bd_audit.proofs.Seated as seated
+use Rattle.bd_audit.proofs.Deaths.{tell_deaths-aside, on-mapped, on-both, on_deaths-aside}
 
 -- the buffer of the reply made at b, which stands on this list: one of a thread of the process that receives it
 pub record HasBuffer (threads : List Thread) (buffers : List Buffer) (list : TodoList) (b : ℕ) : Type 0 where
@@ -188,29 +184,6 @@ owe-buffers : (z : Space) (list : TodoList) (kind : WorkKind) → (owe z list ki
 unfolding owe
 owe-buffers z list kind = refl
 
-requested-buffers : (z : Space) (p : ℕ) (o : ObjectId) (cookie : ℕ) → (requested z p o cookie).buffers ≡ z.buffers
-unfolding requested with_death owe
-requested-buffers z p o cookie = one-of (λ (y : Space). y.buffers) (owner_lives_in z.processes z.objects o) _ _ z.buffers refl refl
-
-cleared-buffers : (z : Space) (t : ℕ) (x : DeathNotification) → (cleared z t x).buffers ≡ z.buffers
-unfolding cleared mark_cleared death_ended without_death owe
-cleared-buffers z t x = one-of (λ (y : Space). y.buffers) (is_out x.phase) _ _ z.buffers refl refl
-
-death_done-buffers : (z : Space) (t : ℕ) (x : DeathNotification) → (death_done z t x).buffers ≡ z.buffers
-unfolding death_done with_phase death_ended without_death owe
-death_done-buffers z t x = one-of (λ (y : Space). y.buffers) x.cleared _ _ z.buffers refl refl
-
-told-buffers : (p : ℕ) (xs : List DeathNotification) (z : Space) → (fold (tell_death p) z xs).buffers ≡ z.buffers
-unfolding owe with_phase
-told-buffers p [] z = refl
-told-buffers p (x ∷ xs) z =
-    let told = owe (with_phase z x.made Queued) (OfProcess x.process) (work.Death x.made) in
-    told-buffers p xs (tell_death p z x) ∙ one-of (λ (y : Space). y.buffers) (is_armed x.phase && owned_in z.objects p x.object) told z z.buffers refl refl
-
-tell_deaths-buffers : (z : Space) (p : ℕ) → (tell_deaths z p).buffers ≡ z.buffers
-unfolding tell_deaths
-tell_deaths-buffers z p = told-buffers p z.deaths z
-
 owed : (z : Space) (list : TodoList) (kind : WorkKind) → handed_over kind ≡ None → RepliesHeld z → RepliesHeld (owe z list kind)
 owed z list kind none h = calm (owe z list kind) z (owe-less z list kind none) (owe-buffers z list kind) (seated.owe-threads z list kind) h
 
@@ -252,7 +225,7 @@ unfolding transacted
 transacts s a d v turns h =
     calls-out (sent s a d v) a.thread.seat v.receiver.made v.one_way
     (λ w l e.
-    let k = reply-hands w.kind s.steps (e ∙ ap (λ n. Some n) (path.sent-place s a d v)) in
+    let k = reply-hands w.kind s.steps (e ∙ ap (λ n. Some n) (path_call.sent-place s a d v)) in
     unmade s turns w (sent-due s a d v w s.steps l k) k)
     (sends s a d v h)
 
@@ -483,7 +456,7 @@ ends : (z : Space) (p : ℕ) → RepliesHeld z → RepliesHeld (tell_deaths (wit
 ends z p h =
     let a = threads_go z p in
     let b = without_process a p in
-    calm (tell_deaths b p) b (one_way.tell_deaths-less b p) (tell_deaths-buffers b p) (seated.tell_deaths-threads b p) (process-goes a p (none-left z p) (threads-end z p h))
+    calm (tell_deaths b p) b (one_way.tell_deaths-less b p) (tell_deaths-aside b p).buffers (tell_deaths-aside b p).threads (process-goes a p (none-left z p) (threads-end z p h))
 
 -- ---- every step
 
@@ -523,23 +496,20 @@ kept s seat x turns h =
       opened = λ pid euid window. (k.opened pid euid window, opened s seat pid euid window h);
       attached = λ p. (k.attached p, attached s seat p h);
       managed = λ a e b. (k.managed a e b, h);
-      transacts = λ a d parcel v e i t. (k.transacts a d parcel v e i t, transacts s a d v turns h);
-      replies = λ a d parcel f v e i g t. (k.replies a d parcel f v e i g t, replies s a d parcel f v turns t h);
-      frees = λ p ptr b e t. (k.frees p ptr b e t, frees s b turns (at_pointer-in s p ptr b e) t h);
-      asks = λ a n strong o e i t. (k.asks a n strong o e i t, h);
-      drops = λ p o strong. (k.drops p o strong, h);
-      acknowledges = λ o strong i. (k.acknowledges o strong i, h);
-      loops = λ t looping. (k.loops t looping, loops s t looping h);
-      requests = λ p o cookie. (
-        k.requests p o cookie,
-        calm (requested s p o cookie) s (one_way.requested-less s p o cookie) (requested-buffers s p o cookie) (seated.requested-threads s p o cookie) h,
-      );
-      clears = λ t y. (k.clears t y, calm (cleared s t y) s (one_way.cleared-less s t y) (cleared-buffers s t y) (seated.cleared-threads s t y) h);
-      is_done = λ t y. (k.is_done t y, calm (death_done s t y) s (one_way.death_done-less s t y) (death_done-buffers s t y) (seated.death_done-threads s t y) h);
-      reads = λ a limit e i n. (k.reads a limit e i n, reads s h a.thread (limit - 4));
-      leaves = λ a e. (k.leaves a e, goes s a.thread.seat h);
-      ends = λ a e. (k.ends a e, ends s a.process.made h);
-      ripens = λ z b. (k.ripens z b.0, ripens z b.0 b.1);
+      changes = record {
+        transacts = λ a d parcel v e i t. (k.changes.transacts a d parcel v e i t, transacts s a d v turns h);
+        replies = λ a d parcel f v e i g t. (k.changes.replies a d parcel f v e i g t, replies s a d parcel f v turns t h);
+        frees = λ p ptr b e t. (k.changes.frees p ptr b e t, frees s b turns (at_pointer-in s p ptr b e) t h);
+        asks = λ a n strong o e i t. (k.changes.asks a n strong o e i t, h);
+        drops = λ p o strong. (k.changes.drops p o strong, h);
+        acknowledges = λ o strong i. (k.changes.acknowledges o strong i, h);
+        loops = λ t looping. (k.changes.loops t looping, loops s t looping h);
+        on_deaths = on-both s _ _ k.changes.on_deaths (on-mapped s _ _ (λ y l. calm y s l.0 l.1.buffers l.1.threads h) (on-both s _ _ (one_way.on_deaths-less s) (on_deaths-aside s)));
+        reads = λ a limit e i n. (k.changes.reads a limit e i n, reads s h a.thread (limit - 4));
+        leaves = λ a e. (k.changes.leaves a e, goes s a.thread.seat h);
+        ends = λ a e. (k.changes.ends a e, ends s a.process.made h);
+        ripens = λ z b. (k.changes.ripens z b.0, ripens z b.0 b.1);
+      };
       follows = λ z b. (k.follows z b.0, calm (follow z) z (one_way.follow-less z) refl refl b.1);
       closes = λ z made b. (k.closes z made b.0, closes z made b.1);
       refuses = λ z t r b. (k.refuses z t r b.0, owed z (OfThread t) (work.Refusal r) refl b.1);

@@ -38,6 +38,7 @@ use Rattle.bd_audit.proofs.Quiet.{Quiet, with_work-quiet, quiet-trans}
 use Rattle.bd_audit.proofs.RepliesDue.{IsOwed, always-owed}
 use Rattle.bd_audit.proofs.ReplyTaken.{taken-or-not, first-stands, NoReply}
 use Rattle.bd_audit.proofs.Answering.{Answers, answers-more, sent-quiet, serve-made, always-traced}
+use Rattle.bd_audit.proofs.Deaths.{on-mapped}
 
 -- ---- what a step makes: frames and replies of its own place
 
@@ -109,20 +110,20 @@ from-kept s seat x = record {
   opened = λ pid euid window. from-quietly s _ (quiet.opened-quiet s seat pid euid window);
   attached = λ p. from-quietly s _ (quiet.attached-quiet s seat p);
   managed = λ a i b. from-quietly s _ (quiet.managed-quiet s a.process.made);
-  transacts = λ a d parcel v e i t. from-transacted s a d v;
-  replies = λ a d parcel f v e i g t. from-replied s a d f v;
-  frees = λ p ptr b i t. from-quietly s _ (quiet.without_buffer-quiet s b.made);
-  asks = λ a n strong o e i t. from-quietly s _ (quiet.ask-quiet s a.process.made o strong);
-  drops = λ p o strong. from-quietly s _ (quiet.drop_asked-quiet s p o strong);
-  acknowledges = λ o strong i. from-quietly s _ (quiet.acknowledge-quiet s o strong);
-  loops = λ t looping. from-quietly s _ (quiet.with_looping-quiet s t looping);
-  requests = λ p o cookie. from-quietly s _ (quiet.requested-quiet s p o cookie);
-  clears = λ t y. from-quietly s _ (quiet.cleared-quiet s t y);
-  is_done = λ t y. from-quietly s _ (quiet.death_done-quiet s t y);
-  reads = λ a limit i e n. from-read s a.thread.seat _;
-  leaves = λ a i. from-quietly s _ (quiet.thread_goes-quiet s a.thread.seat);
-  ends = λ a i. from-quietly s _ (quiet.ends-quiet s a.process.made);
-  ripens = λ z. from-quiet s (ripen z) z (quiet.ripen-quiet z);
+  changes = record {
+    transacts = λ a d parcel v e i t. from-transacted s a d v;
+    replies = λ a d parcel f v e i g t. from-replied s a d f v;
+    frees = λ p ptr b i t. from-quietly s _ (quiet.without_buffer-quiet s b.made);
+    asks = λ a n strong o e i t. from-quietly s _ (quiet.ask-quiet s a.process.made o strong);
+    drops = λ p o strong. from-quietly s _ (quiet.drop_asked-quiet s p o strong);
+    acknowledges = λ o strong i. from-quietly s _ (quiet.acknowledge-quiet s o strong);
+    loops = λ t looping. from-quietly s _ (quiet.with_looping-quiet s t looping);
+    on_deaths = on-mapped s _ _ (from-quietly s) (quiet.on_deaths-quiet s);
+    reads = λ a limit i e n. from-read s a.thread.seat _;
+    leaves = λ a i. from-quietly s _ (quiet.thread_goes-quiet s a.thread.seat);
+    ends = λ a i. from-quietly s _ (quiet.ends-quiet s a.process.made);
+    ripens = λ z. from-quiet s (ripen z) z (quiet.ripen-quiet z);
+  };
   follows = λ z. from-quiet s (follow z) z (quiet.follow-quiet z);
   closes = λ z made. from-quiet s (closed z made) z (quiet.closed-quiet z made);
   refuses = λ z t r. from-quiet s (owe z (OfThread t) (work.Refusal r)) z (quiet.owe-quiet z (OfThread t) (work.Refusal r) refl);

@@ -1,19 +1,16 @@
 -- Each live thread was made by a step of its seat.
-use Rattle.std.proofs.Common.{◌≡◌, ℕ, zero, suc, ◌-◌, ◌==◌, Bool, true, false, cond, not, ◌&&◌, List, [], ◌∷◌, ◌++◌, append_assoc, length, Option, Some, None, ◌⊎◌, inl, inr, refl, ap, sym, subst, ◌∙◌, map, filter}
+use Rattle.std.proofs.Common.{◌≡◌, ℕ, zero, suc, ◌-◌, ◌==◌, Bool, true, false, cond, not, List, [], ◌∷◌, ◌++◌, append_assoc, length, Option, Some, None, ◌⊎◌, inl, inr, refl, ap, sym, subst, ◌∙◌, map, filter}
 use Rattle.std.specs.List.{fold, slice_get}
 use Rattle.std.specs.Option.{option_map}
 use Rattle.std.proofs.lemmas.Bool.{eqb-true}
 use Rattle.std.proofs.lemmas.List.{append-nil}
 use Rattle.bd_uapi.specs.declared.command.TransactionData.{TransactionData}
-use Rattle.bd_space.specs.declared.step.ObjectId.{ObjectId}
 use Rattle.bd_space.specs.declared.step.Entry.{Entry}
 use Rattle.bd_space.specs.declared.space.Thread.{Thread}
 use Rattle.bd_space.specs.declared.space.Frame.{Frame}
 use Rattle.bd_space.specs.declared.space.Actor.{Actor}
-use Rattle.bd_space.specs.declared.space.DeathNotification.{DeathNotification}
-use Rattle.bd_space.specs.declared.space.Phase.TheVariants.{Queued}
 use Rattle.bd_space.specs.declared.space.TodoList.{TodoList}
-use Rattle.bd_space.specs.declared.space.TodoList.TheVariants.{OfThread, OfProcess}
+use Rattle.bd_space.specs.declared.space.TodoList.TheVariants.{OfThread}
 use Rattle.bd_space.specs.declared.space.WorkKind.{WorkKind}
 use Rattle.bd_space.specs.declared.space.WorkKind.TheVariants as work
 use Rattle.bd_space.specs.Space.{Space, opening}
@@ -23,17 +20,16 @@ use Rattle.bd_space.specs.Todo.{owe, list_to_read}
 use Rattle.bd_space.specs.Turns.{ripen}
 use Rattle.bd_space.specs.Notices.{follow, notify, work_goes, deaths_go}
 use Rattle.bd_space.specs.Names.{names_go, assign_numbers}
-use Rattle.bd_space.specs.References.{objects_go, owned_in}
+use Rattle.bd_space.specs.References.{objects_go}
 use Rattle.bd_space.specs.Delivery.{Delivery, delivered, own_notices, add_buffer, known_by, refer, make_objects}
 use Rattle.bd_space.specs.Transactions.{transacted, called, call_out}
 use Rattle.bd_space.specs.Replies.{replied}
 use Rattle.bd_space.specs.Freeing.{without_buffer}
 use Rattle.bd_space.specs.Reading.{read_by, taken}
-use Rattle.bd_space.specs.Exits.{thread_goes, threads_go, without_process, tell_death, tell_deaths, seat_of, is_armed}
+use Rattle.bd_space.specs.Exits.{thread_goes, threads_go, without_process, tell_deaths, seat_of}
 use Rattle.bd_space.specs.Steps.{counted, with_thread, with_process, with_manager}
 use Rattle.bd_space.specs.Asking.{ask, drop_asked, acknowledge}
 use Rattle.bd_space.specs.Commands.{with_looping}
-use Rattle.bd_space.specs.Deaths.{with_phase, with_death, without_death, mark_cleared, requested, death_ended, cleared, death_done, owner_lives_in, is_out}
 use Rattle.bd_space.specs.Histories.{after}
 use Rattle.bd_audit.specs.Replies.{made_in, thread_made}
 use Rattle.bd_audit.proofs.EveryStep.{Keeps, every_step}
@@ -41,7 +37,7 @@ use Rattle.bd_audit.proofs.Beginnings.{after-append}
 use Rattle.bd_audit.proofs.Chains.{always-steps}
 use Rattle.bd_audit.proofs.Quiet.{made-kept, made-changed}
 use Rattle.bd_audit.proofs.ReplyLaw.{placed}
-use Rattle.bd_audit.proofs.Paths.{one-of}
+use Rattle.bd_audit.proofs.Deaths.{tell_deaths-aside, on-mapped, on_deaths-aside}
 
 abbrev pub seat_at : List Entry → ℕ → Option ℕ
 seat_at es m = option_map (λ e. e.seat) (slice_get es m)
@@ -100,17 +96,6 @@ all-go : (es : List Entry) (seats : List ℕ) (z : Space) → Seated es z → Se
 all-go es [] z h = h
 all-go es (t ∷ ts) z h = all-go es ts (thread_goes z t) (goes es z t h)
 
-deaths-threads : (p : ℕ) (xs : List DeathNotification) (z : Space) → (fold (tell_death p) z xs).threads ≡ z.threads
-unfolding owe with_phase
-deaths-threads p [] z = refl
-deaths-threads p (x ∷ xs) z =
-    deaths-threads p xs (tell_death p z x)
-    ∙ one-of (λ (y : Space). y.threads) (is_armed x.phase && owned_in z.objects p x.object) (owe (with_phase z x.made Queued) (OfProcess x.process) (work.Death x.made)) z z.threads refl refl
-
-pub tell_deaths-threads : (z : Space) (p : ℕ) → (tell_deaths z p).threads ≡ z.threads
-unfolding tell_deaths
-tell_deaths-threads z p = deaths-threads p z.deaths z
-
 without-threads : (z : Space) (p : ℕ) → (without_process z p).threads ≡ z.threads
 unfolding without_process
 without-threads z p = refl
@@ -120,7 +105,7 @@ unfolding threads_go
 ends es z p h =
     let a = fold thread_goes z (map seat_of (filter (λ (t : Thread). t.process == p) z.threads)) in
     let b = without_process a p in
-    same-threads es (tell_deaths b p) a (tell_deaths-threads b p ∙ without-threads a p) (all-go es (map seat_of (filter (λ (t : Thread). t.process == p) z.threads)) z h)
+    same-threads es (tell_deaths b p) a ((tell_deaths-aside b p).threads ∙ without-threads a p) (all-go es (map seat_of (filter (λ (t : Thread). t.process == p) z.threads)) z h)
 
 -- ---- the other parts
 
@@ -149,18 +134,6 @@ replied-threads s a d f v = told-threads _ f.caller s.steps
 pub owe-threads : (z : Space) (list : TodoList) (kind : WorkKind) → (owe z list kind).threads ≡ z.threads
 unfolding owe
 owe-threads z list kind = refl
-
-pub requested-threads : (z : Space) (p : ℕ) (o : ObjectId) (cookie : ℕ) → (requested z p o cookie).threads ≡ z.threads
-unfolding requested with_death owe
-requested-threads z p o cookie = one-of (λ (y : Space). y.threads) (owner_lives_in z.processes z.objects o) _ _ z.threads refl refl
-
-pub cleared-threads : (z : Space) (t : ℕ) (x : DeathNotification) → (cleared z t x).threads ≡ z.threads
-unfolding cleared mark_cleared death_ended without_death owe
-cleared-threads z t x = one-of (λ (y : Space). y.threads) (is_out x.phase) _ _ z.threads refl refl
-
-pub death_done-threads : (z : Space) (t : ℕ) (x : DeathNotification) → (death_done z t x).threads ≡ z.threads
-unfolding death_done with_phase death_ended without_death owe
-death_done-threads z t x = one-of (λ (y : Space). y.threads) x.cleared _ _ z.threads refl refl
 
 module _ (es : List Entry) (e : Entry) (h : Seated es (after opening es)) where
   abbrev s : Space
@@ -191,20 +164,20 @@ module _ (es : List Entry) (e : Entry) (h : Seated es (after opening es)) where
     opened = λ pid euid window. attached s.steps (with_process s pid euid window) refl refl;
     attached = λ p. attached p s refl refl;
     managed = λ a i b. same (with_manager s a.process.made) refl;
-    transacts = λ a d parcel v x i t. same (transacted s a d v) (transacted-threads s a d v);
-    replies = λ a d parcel f v x i g t. same (replied s a d f v) (replied-threads s a d f v);
-    frees = λ p ptr b i t. same (without_buffer s b.made) refl;
-    asks = λ a n strong o x i t. same (ask s a.process.made o strong) refl;
-    drops = λ p o strong. same (drop_asked s p o strong) refl;
-    acknowledges = λ o strong i. same (acknowledge s o strong) refl;
-    loops = λ t looping u m k. now u m (sym (made-changed (λ (v : Thread). v.seat == t) looping s.threads u) ∙ k);
-    requests = λ p o cookie. same (requested s p o cookie) (requested-threads s p o cookie);
-    clears = λ t y. same (cleared s t y) (cleared-threads s t y);
-    is_done = λ t y. same (death_done s t y) (death_done-threads s t y);
-    reads = λ a limit i x n. same (read_by s a.thread.seat (taken s (limit - 4) (list_to_read s a.thread))) refl;
-    leaves = λ a i. goes more s a.thread.seat now;
-    ends = λ a i. ends more s a.process.made now;
-    ripens = λ z. same-threads more (ripen z) z refl;
+    changes = record {
+      transacts = λ a d parcel v x i t. same (transacted s a d v) (transacted-threads s a d v);
+      replies = λ a d parcel f v x i g t. same (replied s a d f v) (replied-threads s a d f v);
+      frees = λ p ptr b i t. same (without_buffer s b.made) refl;
+      asks = λ a n strong o x i t. same (ask s a.process.made o strong) refl;
+      drops = λ p o strong. same (drop_asked s p o strong) refl;
+      acknowledges = λ o strong i. same (acknowledge s o strong) refl;
+      loops = λ t looping u m k. now u m (sym (made-changed (λ (v : Thread). v.seat == t) looping s.threads u) ∙ k);
+      on_deaths = on-mapped s _ _ (λ y k. same y k.threads) (on_deaths-aside s);
+      reads = λ a limit i x n. same (read_by s a.thread.seat (taken s (limit - 4) (list_to_read s a.thread))) refl;
+      leaves = λ a i. goes more s a.thread.seat now;
+      ends = λ a i. ends more s a.process.made now;
+      ripens = λ z. same-threads more (ripen z) z refl;
+    };
     follows = λ z. same-threads more (follow z) z refl;
     closes = λ z made. same-threads more (closed z made) z refl;
     refuses = λ z t r. same-threads more (owe z (OfThread t) (work.Refusal r)) z (owe-threads z (OfThread t) (work.Refusal r));

@@ -28,7 +28,6 @@ use Rattle.bd_space.specs.Replies.{replied, reply_refused}
 use Rattle.bd_space.specs.Freeing.{without_buffer}
 use Rattle.bd_space.specs.Asking.{ask, drop_asked, acknowledge}
 use Rattle.bd_space.specs.Commands.{with_looping}
-use Rattle.bd_space.specs.Deaths.{requested, cleared, death_done}
 use Rattle.bd_space.specs.Reading.{read_by, taken, serve}
 use Rattle.bd_space.specs.Exits.{thread_goes, threads_go, without_process, tell_deaths}
 use Rattle.bd_space.specs.Steps.{counted, with_thread, with_process, with_manager}
@@ -43,13 +42,15 @@ use Rattle.bd_audit.proofs.Quiet as quiet
 use Rattle.bd_audit.proofs.Quiet.{Quiet}
 use Rattle.bd_audit.proofs.Answering as answering
 use Rattle.bd_audit.proofs.Answering.{Traced, served-is, closed-absent, always-traced}
-use Rattle.bd_audit.proofs.Paths as path
-use Rattle.bd_audit.proofs.Paths.{OnPaths, always-on_paths}
+use Rattle.bd_audit.proofs.PathCalls as path_call
+use Rattle.bd_audit.proofs.Paths.{OnPaths}
+use Rattle.bd_audit.proofs.EveryPath.{always-on_paths}
 use Rattle.bd_audit.proofs.Lined.{always-lined}
 use Rattle.bd_audit.proofs.Unread.{transacted-leaves}
 use Rattle.bd_audit.proofs.LatestFirst as latest
 use Rattle.bd_audit.proofs.LatestFirst.{EarlierStay, earlier-kept, earlier-open}
-use Rattle.bd_audit.proofs.NoNewAnswers.{NoneNew, none-same, none-owe, none-follow, none-ripen, none-sent, none-transacted, none-read, none-goes, none-ends, none-requested, none-cleared, none-is_done}
+use Rattle.bd_audit.proofs.NoNewAnswers.{NoneNew, none-same, none-owe, none-follow, none-ripen, none-sent, none-transacted, none-read, none-goes, none-ends, none-on_deaths}
+use Rattle.bd_audit.proofs.Deaths.{on-mapped, on-both}
 
 abbrev pub Single : List Work → Type 0
 Single todo =
@@ -174,7 +175,7 @@ module _ (es : List Entry) (e : Entry) (h : Single (after opening es).todo) wher
   replies a d f v g =
       let x = closed s f.made in
       let y = owe (delivered x a d v) (OfThread a.thread.seat) work.Complete in
-      first-tells y f (work.Reply s.steps) refl (served-in a.thread.seat f g) (path.sent-place x a d v) (path.sent-frames x a d v) (none-sent x a d v)
+      first-tells y f (work.Reply s.steps) refl (served-in a.thread.seat f g) (path_call.sent-place x a d v) (path_call.sent-frames x a d v) (none-sent x a d v)
 
   fails : (a : Actor) (f : Frame) → served_innermost s a.thread.seat ≡ Some f → Now (reply_refused s a.thread.seat f)
   unfolding reply_refused closed owe
@@ -249,7 +250,7 @@ module _ (es : List Entry) (e : Entry) (h : Single (after opening es).todo) wher
   unfolding transacted
   transacts a d v =
       begins (transacted s a d v) (transacted-leaves s a d v).steps
-      (calls-out (owe (delivered s a d v) (OfThread a.thread.seat) work.Complete) a.thread.seat v.receiver.made v.one_way (path.sent-frames s a d v))
+      (calls-out (owe (delivered s a d v) (OfThread a.thread.seat) work.Complete) a.thread.seat v.receiver.made v.one_way (path_call.sent-frames s a d v))
       (none-transacted s a d v)
 
   reads : (seat : ℕ) (ws : List Work) → Now (read_by s seat ws)
@@ -294,24 +295,26 @@ module _ (es : List Entry) (e : Entry) (h : Single (after opening es).todo) wher
         );
         attached = λ p. (k.attached p, l.attached p, q (with_thread s e.seat p) (quiet.attached-quiet s e.seat p) same);
         managed = λ a i b. (k.managed a i b, l.managed a i b, q (with_manager s a.process.made) (quiet.managed-quiet s a.process.made) same);
-        transacts = λ a d parcel v x i t. (k.transacts a d parcel v x i t, l.transacts a d parcel v x i t, transacts a d v);
-        replies = λ a d parcel f v x i g t. (k.replies a d parcel f v x i g t, l.replies a d parcel f v x i g t, replies a d f v g);
-        frees = λ p ptr b i t. (k.frees p ptr b i t, l.frees p ptr b i t, q (without_buffer s b.made) (quiet.without_buffer-quiet s b.made) same);
-        asks = λ a n strong o x i t. (k.asks a n strong o x i t, l.asks a n strong o x i t, q (ask s a.process.made o strong) (quiet.ask-quiet s a.process.made o strong) same);
-        drops = λ p o strong. (k.drops p o strong, l.drops p o strong, q (drop_asked s p o strong) (quiet.drop_asked-quiet s p o strong) same);
-        acknowledges = λ o strong i. (k.acknowledges o strong i, l.acknowledges o strong i, q (acknowledge s o strong) (quiet.acknowledge-quiet s o strong) same);
-        loops = λ t looping. (k.loops t looping, l.loops t looping, q (with_looping s t looping) (quiet.with_looping-quiet s t looping) same);
-        requests = λ p o cookie. (k.requests p o cookie, l.requests p o cookie, q (requested s p o cookie) (quiet.requested-quiet s p o cookie) (none-requested s p o cookie));
-        clears = λ t y. (k.clears t y, l.clears t y, q (cleared s t y) (quiet.cleared-quiet s t y) (none-cleared s t y));
-        is_done = λ t y. (k.is_done t y, l.is_done t y, q (death_done s t y) (quiet.death_done-quiet s t y) (none-is_done s t y));
-        reads = λ a limit i x n. (k.reads a limit i x n, l.reads a limit i x n, reads a.thread.seat (taken s (limit - 4) (list_to_read s a.thread)));
-        leaves = λ a i. (k.leaves a i, l.leaves a i, q (thread_goes s a.thread.seat) (quiet.thread_goes-quiet s a.thread.seat) (none-goes s a.thread.seat));
-        ends = λ a i. (
-          k.ends a i,
-          l.ends a i,
-          q (tell_deaths (without_process (threads_go s a.process.made) a.process.made) a.process.made) (quiet.ends-quiet s a.process.made) (none-ends s a.process.made),
-        );
-        ripens = λ z b. (k.ripens z b.0, l.ripens z b.1, fewer (ripen z) z refl (λ f i. i) (none-ripen z) b.2);
+        changes = record {
+          transacts = λ a d parcel v x i t. (k.changes.transacts a d parcel v x i t, l.changes.transacts a d parcel v x i t, transacts a d v);
+          replies = λ a d parcel f v x i g t. (k.changes.replies a d parcel f v x i g t, l.changes.replies a d parcel f v x i g t, replies a d f v g);
+          frees = λ p ptr b i t. (k.changes.frees p ptr b i t, l.changes.frees p ptr b i t, q (without_buffer s b.made) (quiet.without_buffer-quiet s b.made) same);
+          asks = λ a n strong o x i t. (k.changes.asks a n strong o x i t, l.changes.asks a n strong o x i t, q (ask s a.process.made o strong) (quiet.ask-quiet s a.process.made o strong) same);
+          drops = λ p o strong. (k.changes.drops p o strong, l.changes.drops p o strong, q (drop_asked s p o strong) (quiet.drop_asked-quiet s p o strong) same);
+          acknowledges = λ o strong i. (k.changes.acknowledges o strong i, l.changes.acknowledges o strong i, q (acknowledge s o strong) (quiet.acknowledge-quiet s o strong) same);
+          loops = λ t looping. (k.changes.loops t looping, l.changes.loops t looping, q (with_looping s t looping) (quiet.with_looping-quiet s t looping) same);
+          on_deaths =
+              let apart = on-both s (λ y. Quiet y s) (λ y. NoneNew y.todo s.todo) (quiet.on_deaths-quiet s) (none-on_deaths s) in
+              on-mapped s _ All (λ y u. (u.0, u.1.0, q y u.1.1.0 u.1.1.1)) (on-both s _ _ k.changes.on_deaths (on-both s _ _ l.changes.on_deaths apart));
+          reads = λ a limit i x n. (k.changes.reads a limit i x n, l.changes.reads a limit i x n, reads a.thread.seat (taken s (limit - 4) (list_to_read s a.thread)));
+          leaves = λ a i. (k.changes.leaves a i, l.changes.leaves a i, q (thread_goes s a.thread.seat) (quiet.thread_goes-quiet s a.thread.seat) (none-goes s a.thread.seat));
+          ends = λ a i. (
+            k.changes.ends a i,
+            l.changes.ends a i,
+            q (tell_deaths (without_process (threads_go s a.process.made) a.process.made) a.process.made) (quiet.ends-quiet s a.process.made) (none-ends s a.process.made),
+          );
+          ripens = λ z b. (k.changes.ripens z b.0, l.changes.ripens z b.1, fewer (ripen z) z refl (λ f i. i) (none-ripen z) b.2);
+        };
         follows = λ z b. (k.follows z b.0, l.follows z b.1, fewer (follow z) z refl (λ f i. i) (none-follow z) b.2);
         refuses = λ t c. (
           k.refuses t c,

@@ -15,8 +15,6 @@ use Rattle.bd_space.specs.declared.space.Frame.{Frame}
 use Rattle.bd_space.specs.declared.space.Turn.{Turn}
 use Rattle.bd_space.specs.declared.space.Actor.{Actor}
 use Rattle.bd_space.specs.declared.space.Item.{Item}
-use Rattle.bd_space.specs.declared.space.DeathNotification.{DeathNotification}
-use Rattle.bd_space.specs.declared.space.Phase.TheVariants.{Queued}
 use Rattle.bd_space.specs.declared.space.Work.{Work}
 use Rattle.bd_space.specs.declared.space.WorkKind.{WorkKind}
 use Rattle.bd_space.specs.declared.space.WorkKind.TheVariants as work
@@ -25,7 +23,7 @@ use Rattle.bd_space.specs.declared.space.TodoList.TheVariants.{OfThread, OfProce
 use Rattle.bd_space.specs.Words.{same, changed}
 use Rattle.bd_space.specs.Space.{Space, opening}
 use Rattle.bd_space.specs.Seats.{thread_in, actor}
-use Rattle.bd_space.specs.References.{object_in, owned_in, objects_go, stays_in}
+use Rattle.bd_space.specs.References.{object_in, objects_go, stays_in}
 use Rattle.bd_space.specs.Names.{names_go, assign_numbers}
 use Rattle.bd_space.specs.Frames.{goes_to, closed}
 use Rattle.bd_space.specs.Todo.{with_work, owe, is_on, same_list, notice_of, is_item}
@@ -38,9 +36,8 @@ use Rattle.bd_space.specs.Replies.{reply_check, replied}
 use Rattle.bd_space.specs.Freeing.{without_buffer}
 use Rattle.bd_space.specs.Asking.{ask, drop_asked, acknowledge}
 use Rattle.bd_space.specs.Commands.{with_looping}
-use Rattle.bd_space.specs.Deaths.{with_phase, with_death, without_death, mark_cleared, requested, death_ended, cleared, death_done, owner_lives_in, is_out}
 use Rattle.bd_space.specs.Reading.{read_by, told_of, is_told_by}
-use Rattle.bd_space.specs.Exits.{thread_goes, threads_go, without_process, tell_death, tell_deaths, seat_of, is_armed}
+use Rattle.bd_space.specs.Exits.{thread_goes, threads_go, without_process, tell_deaths, seat_of}
 use Rattle.bd_space.specs.Steps.{change, counted, with_thread, with_process, with_manager}
 use Rattle.bd_space.specs.Histories.{next}
 use Rattle.bd_audit.proofs.Lists.{In, Pairs, in-append, in-push, in-filter, in-changed, find-in, pairs-either, pairs-filter, fold-keeps}
@@ -50,6 +47,7 @@ use Rattle.bd_audit.proofs.Checks.{transaction-checked, reply-checked, actor-liv
 use Rattle.bd_audit.proofs.Sendings.{Here, Differ, Sends, sending-sends}
 use Rattle.bd_audit.proofs.Objects.{KeptBefore, IsKept, IsKeptWhole, kept-step, step-kept, opening-kept, closed-before, closed-sends, delivered-kept, told-id}
 use Rattle.bd_audit.proofs.Noticing.{Noticing, closed-noticing, step-noticing, opening-noticing}
+use Rattle.bd_audit.proofs.Deaths.{KeptOnDeaths, on-kept, on-told, on-both}
 
 -- threads of q read the list
 abbrev pub Reaches : List Thread → TodoList → ℕ → Type 0
@@ -196,35 +194,15 @@ replied-sits s seat a d parcel f v kept noticing e check h =
 
 -- ---- deaths
 
-if-sits : (z y : Space) (b : Bool) → SitsIn z → SitsIn y → SitsIn (cond b z y)
-if-sits z y true h k = h
-if-sits z y false h k = k
-
-requested-sits : (z : Space) (p : ℕ) (o : ObjectId) (cookie : ℕ) → SitsIn z → SitsIn (requested z p o cookie)
-unfolding requested with_death
-requested-sits z p o cookie h =
-    if-sits _ _ (owner_lives_in z.processes z.objects o) h (owe-sits (with_death z p o cookie Queued) (OfProcess p) (work.Death z.steps) refl h)
-
-death_ended-sits : (z : Space) (seat : ℕ) (x : DeathNotification) → SitsIn z → SitsIn (death_ended z seat x)
-unfolding death_ended without_death
-death_ended-sits z seat x h = owe-sits (without_death z x.made) (OfThread seat) (work.Cleared x.cookie) refl h
-
-cleared-sits : (z : Space) (seat : ℕ) (x : DeathNotification) → SitsIn z → SitsIn (cleared z seat x)
-unfolding cleared mark_cleared
-cleared-sits z seat x h = if-sits _ _ (is_out x.phase) h (death_ended-sits z seat x h)
-
-death_done-sits : (z : Space) (seat : ℕ) (x : DeathNotification) → SitsIn z → SitsIn (death_done z seat x)
-unfolding death_done with_phase
-death_done-sits z seat x h = if-sits _ _ x.cleared (death_ended-sits z seat x h) h
-
-tell_death-sits : (p : ℕ) (z : Space) (x : DeathNotification) → SitsIn z → SitsIn (tell_death p z x)
-unfolding with_phase
-tell_death-sits p z x h =
-    if-sits _ z (is_armed x.phase && owned_in z.objects p x.object) (owe-sits (with_phase z x.made Queued) (OfProcess x.process) (work.Death x.made) refl h) h
+sits-on_deaths : KeptOnDeaths SitsIn
+sits-on_deaths = record {
+  others = λ z ds h. h;
+  dies = λ z p made h. owe-sits z (OfProcess p) (work.Death made) refl h;
+  clears = λ z t cookie h. owe-sits z (OfThread t) (work.Cleared cookie) refl h;
+}
 
 tell_deaths-sits : (z : Space) (p : ℕ) → SitsIn z → SitsIn (tell_deaths z p)
-unfolding tell_deaths
-tell_deaths-sits z p h = fold-keeps SitsIn (tell_death p) z.deaths (λ y x l k. tell_death-sits p y x k) z h
+tell_deaths-sits z p h = on-told SitsIn sits-on_deaths z p h
 
 -- ---- threads
 
@@ -390,24 +368,24 @@ sitting-step s seat x kept noticing h =
       opened = λ pid euid window. (k.opened pid euid window, opened-sits s seat pid euid window h);
       attached = λ p. (k.attached p, with_thread-sits s seat p h);
       managed = λ a e b. (k.managed a e b, managed-sits s a.process.made kept noticing h);
-      transacts = λ a d parcel v e i t. (k.transacts a d parcel v e i t, transacted-sits s seat a d parcel v kept noticing i t h);
-      replies = λ a d parcel f v e i g t. (k.replies a d parcel f v e i g t, replied-sits s seat a d parcel f v kept noticing i t h);
-      frees = λ p ptr b e t. (k.frees p ptr b e t, h);
-      asks = λ a n strong o e i t. (k.asks a n strong o e i t, h);
-      drops = λ p o strong. (k.drops p o strong, h);
-      acknowledges = λ o strong i. (k.acknowledges o strong i, h);
-      loops = λ t looping. (k.loops t looping, with_looping-sits s t looping h);
-      requests = λ p o cookie. (k.requests p o cookie, requested-sits s p o cookie h);
-      clears = λ t y. (k.clears t y, cleared-sits s t y h);
-      is_done = λ t y. (k.is_done t y, death_done-sits s t y h);
-      reads = λ a limit e i n. (k.reads a limit e i n, read-sits s a.thread.seat _ h);
-      leaves = λ a e. (k.leaves a e, thread_goes-sits s a.thread.seat h);
-      ends = λ a e. (
-        k.ends a e,
-        tell_deaths-sits (without_process (threads_go s a.process.made) a.process.made) a.process.made
-            (without_process-sits (threads_go s a.process.made) a.process.made (threads_go-sits s a.process.made h)),
-      );
-      ripens = λ z l. (k.ripens z l.0, ripen-sits z l.1);
+      changes = record {
+        transacts = λ a d parcel v e i t. (k.changes.transacts a d parcel v e i t, transacted-sits s seat a d parcel v kept noticing i t h);
+        replies = λ a d parcel f v e i g t. (k.changes.replies a d parcel f v e i g t, replied-sits s seat a d parcel f v kept noticing i t h);
+        frees = λ p ptr b e t. (k.changes.frees p ptr b e t, h);
+        asks = λ a n strong o e i t. (k.changes.asks a n strong o e i t, h);
+        drops = λ p o strong. (k.changes.drops p o strong, h);
+        acknowledges = λ o strong i. (k.changes.acknowledges o strong i, h);
+        loops = λ t looping. (k.changes.loops t looping, with_looping-sits s t looping h);
+        on_deaths = on-both s _ _ k.changes.on_deaths (on-kept SitsIn sits-on_deaths s h);
+        reads = λ a limit e i n. (k.changes.reads a limit e i n, read-sits s a.thread.seat _ h);
+        leaves = λ a e. (k.changes.leaves a e, thread_goes-sits s a.thread.seat h);
+        ends = λ a e. (
+          k.changes.ends a e,
+          tell_deaths-sits (without_process (threads_go s a.process.made) a.process.made) a.process.made
+              (without_process-sits (threads_go s a.process.made) a.process.made (threads_go-sits s a.process.made h)),
+        );
+        ripens = λ z l. (k.changes.ripens z l.0, ripen-sits z l.1);
+      };
       follows = λ z l. (k.follows z l.0, follow-sits z l.0.differ l.1);
       closes = λ z made l. (k.closes z made l.0, closed-sits z made l.1);
       refuses = λ z t r l. (k.refuses z t r l.0, owe-sits z (OfThread t) (work.Refusal r) refl l.1);

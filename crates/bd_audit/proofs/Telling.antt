@@ -37,11 +37,12 @@ use Rattle.bd_audit.proofs.Lists.{In, Pairs, in-left, in-append, in-push, in-las
 use Rattle.bd_audit.proofs.Tests.{both, not-true, same-eq}
 use Rattle.bd_audit.proofs.Tallies.{tally, tally-more, tally-none, tally-filter, tally-without}
 use Rattle.bd_audit.proofs.EveryStep.{Keeps, IsReading, IsAcknowledging}
-use Rattle.bd_audit.proofs.Untouched.{Untouched, owe-untouched, told-untouched, called-untouched, closed-untouched, ripen-untouched, with_looping-untouched, requested-untouched, cleared-untouched, death_done-untouched, tell_deaths-untouched}
+use Rattle.bd_audit.proofs.Untouched.{Untouched, owe-untouched, told-untouched, called-untouched, closed-untouched, ripen-untouched, with_looping-untouched, on_deaths-untouched, tell_deaths-untouched}
 use Rattle.bd_audit.proofs.Checks.{transaction-checked, reply-checked}
 use Rattle.bd_audit.proofs.Sendings.{Differ, Sends, sending-sends}
 use Rattle.bd_audit.proofs.Objects.{KeptBefore, and-false, closed-before, closed-sends, later, threads_go-kept}
 use Rattle.bd_audit.proofs.TurnLog.{Before}
+use Rattle.bd_audit.proofs.Deaths.{on-mapped}
 
 -- ---- what has been heard
 
@@ -398,21 +399,21 @@ module _ (o : ObjectId) (st : Hearing) where
         opened = λ pid euid window. opened-told s seat pid euid window before h.tracks;
         attached = λ p. attached-told s seat p h.tracks;
         managed = λ a e b. managed-told s a.process.made before h;
-        transacts = λ a d parcel v e i t. transacted-told s a d parcel v kept h t;
-        replies = λ a d parcel f v e i g t. replied-told s a d parcel f v kept h t;
-        frees = λ p ptr b e t. without_buffer-told s b.made h.tracks;
-        asks = λ a n strong i e j t. ask-told s a.process.made i strong h.tracks;
-        drops = λ p i strong. drop_asked-told s p i strong h.tracks;
-        acknowledges = λ i strong done. absurd (no_done strong done);
-        loops = λ t looping. tracks-untouched ⊥ _ s (with_looping-untouched s t looping) h.tracks;
-        requests = λ p i cookie. tracks-untouched ⊥ _ s (requested-untouched s p i cookie) h.tracks;
-        clears = λ t y. tracks-untouched ⊥ _ s (cleared-untouched s t y) h.tracks;
-        is_done = λ t y. tracks-untouched ⊥ _ s (death_done-untouched s t y) h.tracks;
-        reads = λ a limit e i n. absurd (no_read (limit, i));
-        leaves = λ a e. thread_goes-told s a.thread.seat h.tracks;
-        ends = λ a e. tracks-untouched ⊥ _ (without_process (threads_go s a.process.made) a.process.made) (tell_deaths-untouched (without_process (threads_go s a.process.made) a.process.made) a.process.made)
-            (without_process-told (threads_go s a.process.made) a.process.made (threads_go-kept s a.process.made (later s kept).kept).differ (threads_go-told s a.process.made h.tracks));
-        ripens = λ z k. tracks-untouched ⊥ (ripen z) z (ripen-untouched z) k;
+        changes = record {
+          transacts = λ a d parcel v e i t. transacted-told s a d parcel v kept h t;
+          replies = λ a d parcel f v e i g t. replied-told s a d parcel f v kept h t;
+          frees = λ p ptr b e t. without_buffer-told s b.made h.tracks;
+          asks = λ a n strong i e j t. ask-told s a.process.made i strong h.tracks;
+          drops = λ p i strong. drop_asked-told s p i strong h.tracks;
+          acknowledges = λ i strong done. absurd (no_done strong done);
+          loops = λ t looping. tracks-untouched ⊥ _ s (with_looping-untouched s t looping) h.tracks;
+          on_deaths = on-mapped s _ _ (λ y k. tracks-untouched ⊥ y s k h.tracks) (on_deaths-untouched s);
+          reads = λ a limit e i n. absurd (no_read (limit, i));
+          leaves = λ a e. thread_goes-told s a.thread.seat h.tracks;
+          ends = λ a e. tracks-untouched ⊥ _ (without_process (threads_go s a.process.made) a.process.made) (tell_deaths-untouched (without_process (threads_go s a.process.made) a.process.made) a.process.made)
+              (without_process-told (threads_go s a.process.made) a.process.made (threads_go-kept s a.process.made (later s kept).kept).differ (threads_go-told s a.process.made h.tracks));
+          ripens = λ z k. tracks-untouched ⊥ (ripen z) z (ripen-untouched z) k;
+        };
         follows = λ z k. follow-told z (tracks-weaker _ z k);
         closes = λ z made k. tracks-untouched ⊥ (closed z made) z (closed-untouched z made) k;
         refuses = λ z t r k. tracks-untouched ⊥ _ z (owe-untouched z (OfThread t) (work.Refusal r)) k;

@@ -1,8 +1,8 @@
 -- The turns of an object as they are noted step by step, by the buffer made at each place.
-use Rattle.std.proofs.Common.{◌≡◌, ℕ, zero, suc, ◌+◌, ◌<◌, ◌==◌, Bool, true, false, cond, not, ◌&&◌, ◌||◌, List, [], ◌∷◌, ◌++◌, Option, Some, None, ◌⊎◌, inl, inr, refl, ap, sym, subst, ◌∙◌, map, find, length, take, drop, set, get_or, arith}
-use Rattle.std.specs.List.{list_any, filter_map, cons_option}
-use Rattle.std.specs.Option.{is_some, option_to_list}
-use Rattle.std.proofs.lemmas.Bool.{eqb-true, eq-eqb}
+use Rattle.std.proofs.Common.{◌≡◌, ℕ, ◌+◌, ◌<◌, Bool, true, false, cond, ◌&&◌, ◌||◌, List, [], ◌∷◌, ◌++◌, Option, Some, None, inl, inr, refl, ap, sym, ◌∙◌, map, length, take, drop, set, get_or, arith}
+use Rattle.std.specs.List.{filter_map, cons_option}
+use Rattle.std.specs.Option.{is_some}
+use Rattle.std.proofs.lemmas.Bool.{eqb-true}
 use Rattle.std.proofs.lemmas.List.Edits.{map_over_more}
 use Rattle.std.proofs.lemmas.List.{get_or_default}
 use Rattle.bd_space.specs.declared.step.ObjectId.{ObjectId}
@@ -18,7 +18,7 @@ use Rattle.bd_audit.specs.Replays.{with_entry}
 use Rattle.bd_audit.specs.OneWayTurns.{is_call_on, is_live, is_handed, turn_made, next_turns, turns_from, turns_on}
 use Rattle.bd_audit.proofs.Lists.{In, Pairs, pairs-map}
 use Rattle.bd_audit.proofs.Beginnings.{after-append}
-use Rattle.bd_audit.proofs.OneWay.{Waits, InTurn}
+use Rattle.bd_audit.proofs.OneWay.{Waits}
 use Rattle.bd_audit.proofs.InTurn.{always-in_turn}
 use Rattle.bd_audit.proofs.Chains.{always-steps}
 

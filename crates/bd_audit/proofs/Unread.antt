@@ -1,5 +1,5 @@
 -- What a step leaves as it was: the frames, the threads, and what threads are still to read of their own calls.
-use Rattle.std.proofs.Common.{◌≡◌, ℕ, ◌<◌, ◌==◌, Bool, true, false, cond, not, ◌&&◌, List, [], ◌∷◌, ◌++◌, map, Option, Some, None, ◌⊎◌, inl, inr, refl, ap, sym, subst, ◌∙◌, filter, arith}
+use Rattle.std.proofs.Common.{◌≡◌, ℕ, ◌<◌, ◌==◌, Bool, true, false, cond, not, List, [], ◌∷◌, ◌++◌, map, Option, Some, None, ◌⊎◌, inl, inr, refl, ap, sym, subst, ◌∙◌, filter, arith}
 use Rattle.std.specs.List.{fold}
 use Rattle.std.proofs.lemmas.Bool.{eqb-true}
 use Rattle.bd_uapi.specs.declared.command.TransactionData.{TransactionData}
@@ -14,7 +14,6 @@ use Rattle.bd_space.specs.declared.space.Item.{Item}
 use Rattle.bd_space.specs.declared.space.Frame.{Frame}
 use Rattle.bd_space.specs.declared.space.Actor.{Actor}
 use Rattle.bd_space.specs.declared.space.DeathNotification.{DeathNotification}
-use Rattle.bd_space.specs.declared.space.Phase.TheVariants.{Armed, Queued, Done}
 use Rattle.bd_space.specs.declared.space.TodoList.{TodoList}
 use Rattle.bd_space.specs.declared.space.TodoList.TheVariants.{OfThread, OfProcess}
 use Rattle.bd_space.specs.declared.space.WorkKind.{WorkKind}
@@ -24,21 +23,20 @@ use Rattle.bd_space.specs.Todo.{with_work, owe, is_on, is_notice, same_list}
 use Rattle.bd_space.specs.Turns.{turns_of, ripen, ripened, is_ripe}
 use Rattle.bd_space.specs.Notices.{with_notice, follow, notify, work_goes, deaths_go, still_due}
 use Rattle.bd_space.specs.Names.{names_go, assign_numbers}
-use Rattle.bd_space.specs.References.{objects_go, object_in, owned_in}
+use Rattle.bd_space.specs.References.{objects_go, object_in}
 use Rattle.bd_space.specs.Parcels.{is_own}
 use Rattle.bd_space.specs.Delivery.{Delivery, delivered, own_notices, add_buffer, known_by, refer, make_objects, buffer_of, add_notice, withdraw_notice}
 use Rattle.bd_space.specs.Transactions.{transacted, called, call_out}
-use Rattle.bd_space.specs.Exits.{thread_goes, threads_go, without_process, tell_death, tell_deaths, seat_of, frame_without, unread_frame, is_armed}
+use Rattle.bd_space.specs.Exits.{thread_goes, threads_go, without_process, tell_deaths, seat_of, frame_without, unread_frame}
 use Rattle.bd_space.specs.Steps.{with_thread}
-use Rattle.bd_space.specs.Deaths.{with_phase, with_death, without_death, mark_cleared, requested, death_ended, cleared, death_done, owner_lives_in, is_out}
 use Rattle.bd_audit.specs.Replies.{made_in, thread_made}
 use Rattle.bd_audit.specs.Latest.{is_answer}
 use Rattle.bd_audit.proofs.Lists.{In, in-left, in-push, in-map, map-in, filter-in, fold-keeps}
 use Rattle.bd_audit.proofs.Tests.{not-false}
 use Rattle.bd_audit.proofs.Seated as seated
 use Rattle.bd_audit.proofs.Seated.{made-pushed, made-before, none-left}
-use Rattle.bd_audit.proofs.Paths as path
-use Rattle.bd_audit.proofs.Paths.{one-of}
+use Rattle.bd_audit.proofs.PathCalls as path_call
+use Rattle.bd_audit.proofs.Deaths.{OnDeaths, KeptOnDeaths, on-kept, on-told}
 
 -- no reply or verdict goes
 abbrev pub Holds : List Work → List Work → Type 0
@@ -193,7 +191,7 @@ unfolding transacted
 transacted-leaves s a d v =
     let y = owe (delivered s a d v) (OfThread a.thread.seat) work.Complete in
     leaves-trans _ y s (called-leaves y a.thread.seat v.receiver.made v.one_way)
-    (leaves-same y s (path.sent-place s a d v) (seated.sent-threads s a d v) (path.sent-frames s a d v) (sent-holds s a d v))
+    (leaves-same y s (path_call.sent-place s a d v) (seated.sent-threads s a d v) (path_call.sent-frames s a d v) (sent-holds s a d v))
 
 -- ---- threads and processes that end
 
@@ -235,48 +233,25 @@ process-leaves z p = record {
   answers = λ w t m lt i on a l. filter-in (λ (w : Work). not (is_on (OfProcess p) w)) w z.todo l (ap (λ x. not (same_list (OfProcess p) x)) on);
 }
 
-told-leaves : (p : ℕ) (xs : List DeathNotification) (z : Space) → Leaves (fold (tell_death p) z xs) z
-unfolding owe with_phase
-told-leaves p [] z = leaves-refl z
-told-leaves p (x ∷ xs) z = leaves-trans _ (tell_death p z x) z (told-leaves p xs (tell_death p z x)) (at (is_armed x.phase && owned_in z.objects p x.object))
-  where
-    at : (b : Bool) → Leaves (cond b (owe (with_phase z x.made Queued) (OfProcess x.process) (work.Death x.made)) z) z
-    at true = leaves-same _ z refl refl refl (holds-push z.todo _)
-    at false = leaves-refl z
+leaves-owe : (z : Space) (list : TodoList) (kind : WorkKind) → Leaves (owe z list kind) z
+unfolding owe
+leaves-owe z list kind = leaves-same _ z refl refl refl (holds-push z.todo _)
+
+kept-on_deaths : (z : Space) → KeptOnDeaths (λ y. Leaves y z)
+kept-on_deaths z = record {
+  others = λ y ds h. leaves-trans _ y z (leaves-same _ y refl refl refl (λ w a l. l)) h;
+  dies = λ y p made h. leaves-trans _ y z (leaves-owe y (OfProcess p) (work.Death made)) h;
+  clears = λ y t cookie h. leaves-trans _ y z (leaves-owe y (OfThread t) (work.Cleared cookie)) h;
+}
+
+pub on_deaths-leaves : (z : Space) → OnDeaths z (λ y. Leaves y z)
+on_deaths-leaves z = on-kept _ (kept-on_deaths z) z (leaves-refl z)
 
 pub ends-leaves : (z : Space) (p : ℕ) → Leaves (tell_deaths (without_process (threads_go z p) p) p) z
-unfolding threads_go tell_deaths
+unfolding threads_go
 ends-leaves z p =
     let a = fold thread_goes z (map seat_of (filter (λ (t : Thread). t.process == p) z.threads)) in
     let b = without_process a p in
-    leaves-trans _ b z (told-leaves p b.deaths b) (leaves-trans b a z (process-leaves a p) (all-go-leaves (map seat_of (filter (λ (t : Thread). t.process == p) z.threads)) z))
+    leaves-trans _ b z (on-told _ (kept-on_deaths b) b p (leaves-refl b)) (leaves-trans b a z (process-leaves a p) (all-go-leaves (map seat_of (filter (λ (t : Thread). t.process == p) z.threads)) z))
 
 -- ---- death notifications
-
-pub requested-holds : (z : Space) (p : ℕ) (o : ObjectId) (cookie : ℕ) → Holds (requested z p o cookie).todo z.todo
-unfolding requested with_death owe
-requested-holds z p o cookie = at (owner_lives_in z.processes z.objects o)
-  where
-    at : (b : Bool) → Holds (cond b (with_death z p o cookie Armed) (owe (with_death z p o cookie Queued) (OfProcess p) (work.Death z.steps))).todo z.todo
-    at true = λ w a l. l
-    at false = holds-push z.todo _
-
-ended-holds : (z : Space) (t : ℕ) (x : DeathNotification) → Holds (death_ended z t x).todo z.todo
-unfolding death_ended without_death owe
-ended-holds z t x = holds-push z.todo _
-
-pub cleared-holds : (z : Space) (t : ℕ) (x : DeathNotification) → Holds (cleared z t x).todo z.todo
-unfolding cleared mark_cleared
-cleared-holds z t x = at (is_out x.phase)
-  where
-    at : (b : Bool) → Holds (cond b (mark_cleared z x.made) (death_ended z t x)).todo z.todo
-    at true = λ w a l. l
-    at false = ended-holds z t x
-
-pub death_done-holds : (z : Space) (t : ℕ) (x : DeathNotification) → Holds (death_done z t x).todo z.todo
-unfolding death_done with_phase
-death_done-holds z t x = at x.cleared
-  where
-    at : (b : Bool) → Holds (cond b (death_ended z t x) (with_phase z x.made Done)).todo z.todo
-    at true = ended-holds z t x
-    at false = λ w a l. l
