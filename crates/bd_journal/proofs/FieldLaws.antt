@@ -1,8 +1,8 @@
 -- A field that is read is the field that was written, and what was written is read again.
-use Rattle.std.proofs.Common.{◌≡◌, ℕ, zero, suc, ◌+◌, ◌^◌, ◌<◌, ◌≤◌, Bool, true, false, cond, ltb, List, [], ◌∷◌, ◌++◌, length, take, drop, Option, Some, None, refl, sym, ap, subst, ◌∙◌, append_assoc, arith}
+use Rattle.std.proofs.Common.{◌≡◌, ℕ, suc, ◌+◌, ◌^◌, ◌<◌, ◌≤◌, Bool, true, false, cond, ltb, List, [], ◌∷◌, ◌++◌, length, take, drop, Option, Some, None, refl, sym, ap, subst, ◌∙◌, append_assoc, arith}
 use Rattle.std.proofs.lemmas.Bool.{ltb-false, le-ltb}
 use Rattle.std.proofs.lemmas.List.{take_at, drop_at, take-append-drop, length-append, length-take}
-use Rattle.bd_uapi.specs.Bytes.{IsBytes, word, word_at, number_from}
+use Rattle.bd_uapi.specs.Bytes.{IsBytes, word, word_at}
 use Rattle.bd_uapi.proofs.Pieces.{IsBytes-take, IsBytes-drop, word_takes, word_fits, word_again}
 use Rattle.bd_journal.specs.Spelling.{block, IsBlock}
 use Rattle.bd_journal.specs.Reading.{◌>>=◌, byte_from, word_from, block_from}

@@ -19,9 +19,6 @@ use Rattle.bd_space.specs.declared.step.StepAnswer.{StepAnswer}
 use Rattle.bd_space.specs.declared.step.StepAnswer.TheVariants as answer
 use Rattle.bd_space.specs.declared.step.Entry.{Entry}
 use Rattle.bd_space.specs.declared.record.Record.{Record}
-use Rattle.bd_uapi.specs.declared.fault.Note.TheVariants as note
-use Rattle.bd_uapi.specs.declared.fault.Cause.TheVariants as cause
-use Rattle.bd_uapi.specs.declared.fault.Fault.TheVariants as fault
 use Rattle.bd_uapi.specs.declared.fault.Note.{Note}
 use Rattle.bd_uapi.specs.declared.fault.Cause.{Cause}
 use Rattle.bd_journal.specs.declared.fault.ReadError.{ReadError}
@@ -187,53 +184,13 @@ fault_right : AllByRecursion (λ row. fault_number row.1 ≡ row.0) fault_rows
 fault_right = (refl, (refl, (refl, (refl, (refl, (refl, (refl, (refl, (refl, (refl, (refl, (refl, (refl, (refl, (refl, (refl, tt))))))))))))))))
 
 note_again : (n : Note) → numbered note_rows (note_number n) ≡ Some n
-note_again note.NoSuchNumber = refl
-note_again note.NothingAsked = refl
-note_again note.NotStrong = refl
-note_again note.OwnManager = refl
-note_again note.NoSuchBuffer = refl
-note_again note.NotHandedOut = refl
-note_again note.NoSuchObject = refl
-note_again note.NoHandshake = refl
-note_again note.AlreadyAsked = refl
-note_again note.NoneAsked = refl
-note_again note.NoneTold = refl
+note_again n = grind arith
 
 cause_again : (x : Cause) → numbered cause_rows (cause_number x) ≡ Some x
-cause_again cause.NotStronglyNamed = refl
-cause_again cause.NoManager = refl
-cause_again cause.OwnManager = refl
-cause_again cause.DeadOwner = refl
-cause_again cause.NotServing = refl
-cause_again cause.Unread = refl
-cause_again cause.OutsideArea = refl
-cause_again cause.OffsetsSize = refl
-cause_again cause.BadObject = refl
-cause_again cause.UnsupportedObject = refl
-cause_again cause.OtherCookie = refl
-cause_again cause.NotHeld = refl
-cause_again cause.NoRoom = refl
-cause_again cause.OverBudget = refl
-cause_again cause.NoCall = refl
-cause_again cause.CallerGone = refl
+cause_again x = grind arith
 
 fault_again : (f : Fault) → numbered fault_rows (fault_number f) ≡ Some f
-fault_again fault.ShortCommand = refl
-fault_again fault.UnknownCommand = refl
-fault_again fault.RefusedCommand = refl
-fault_again fault.NoProcess = refl
-fault_again fault.HasProcess = refl
-fault_again fault.PidTaken = refl
-fault_again fault.PidRange = refl
-fault_again fault.WindowSize = refl
-fault_again fault.NoSuchPid = refl
-fault_again fault.ManagerBusy = refl
-fault_again fault.ReadTooSmall = refl
-fault_again fault.Again = refl
-fault_again fault.HistoryFull = refl
-fault_again fault.NoMemory = refl
-fault_again fault.StreamTooLong = refl
-fault_again fault.SeatCount = refl
+fault_again f = grind arith
 
 got_row : Row answer_bytes IsAnswer 6 got_from
 unfolding got_from

@@ -1,9 +1,8 @@
 -- A value behind a byte that says which kind it is.
-use Rattle.std.proofs.Common.{◌≡◌, ℕ, Bool, true, false, cond, eqb, List, [], ◌∷◌, ◌++◌, Option, Some, None, refl, sym, ap, subst, ◌∙◌, append_assoc, inl, inr, ◌⊎◌}
+use Rattle.std.proofs.Common.{◌≡◌, ℕ, Bool, true, false, cond, eqb, List, [], ◌∷◌, ◌++◌, Option, Some, refl, sym, ap, subst, ◌∙◌, append_assoc}
 use Rattle.std.specs.List.{AllByRecursion}
 use Rattle.std.proofs.lemmas.Bool.{eqb-true}
 use Rattle.bd_uapi.specs.Bytes.{IsBytes}
-use Rattle.bd_space.specs.declared.step.StepAnswer.{StepAnswer}
 use Rattle.bd_journal.specs.Codes.{numbered}
 use Rattle.bd_journal.specs.Reading.{◌>>=◌, byte_from, tagged, bare}
 use Rattle.bd_journal.proofs.FieldLaws.{bind_some, some_is, Takes, Takes-then, Takes-behind, IsBytes-rest, Reads, byte_takes}

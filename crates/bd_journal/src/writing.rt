@@ -15,7 +15,7 @@ use bd_codec::write_command;
 use bd_space::{Entry, Parcel, Record, Step, StepAnswer};
 use bd_uapi::Command;
 use std::alloc::Global;
-use std::io::Write;
+use std::io::{ErrorKind, Write};
 
 fn put_slice(bytes: &[u8], out: &mut Vec<u8>) -> Result<(), WriteError>
     ensures ok { OnOk result (out.new.items ≡ out.old.items ++ bytes.now) }
@@ -177,7 +177,10 @@ fn send<W: Write>(bytes: &[u8], out: &mut W) -> Result<(), WriteError>
 {
     match out.write_all(bytes) {
         Ok(()) => Ok(()),
-        Err(_) => Err(WriteError::Refused),
+        Err(error) => match error.kind() {
+            ErrorKind::OutOfMemory => Err(WriteError::Memory),
+            _ => Err(WriteError::Refused),
+        },
     }
 }
 
@@ -226,8 +229,8 @@ fn send_entries<W: Write>(
 /// Writes the one spelling of the record, entry by entry.
 ///
 /// # Errors
-/// `Unspellable` where the record has none, `Memory` where memory was refused, `Refused` where the writer fails. A
-/// part of the journal may then be written.
+/// `Unspellable` where the record has none, `Memory` where memory was refused, `Refused` where the writer fails for
+/// another cause. A part of the journal may then be written.
 pub fn write_journal<W: Write>(
     alloc: Global,
     history: &Record,

@@ -36,6 +36,12 @@ pub enum Fault {
     Thread,
 }
 
+impl From<io::Error> for Fault {
+    fn from(error: io::Error) -> Fault {
+        Fault::File.or_memory(&error)
+    }
+}
+
 impl Fault {
     /// The status that the program ends with.
     pub fn status(self) -> u8 {

@@ -29,15 +29,11 @@ fn play_from<H: AllocGlobal + Threads + Wait + Sync, R: Read, W: Write, E: Write
     }
 }
 
-// Whether the journal is written.
-fn write_file<H: AllocGlobal + Files>(rt: &H, history: &Record, name: &str) -> bool {
-    let Ok(file) = File::create(rt, name) else {
-        return false;
-    };
-    match BufWriter::new(rt.alloc(), file) {
-        Ok(mut out) => write_journal(rt.alloc(), history, &mut out),
-        Err(_) => false,
-    }
+// Writes the journal of a run.
+fn write_file<H: AllocGlobal + Files>(rt: &H, history: &Record, name: &str) -> Result<(), Fault> {
+    let file = File::create(rt, name)?;
+    let mut out = BufWriter::new(rt.alloc(), file)?;
+    write_journal(rt.alloc(), history, &mut out)
 }
 
 /// Plays the script in a file, and writes the journal of the run where one is asked for.
@@ -54,13 +50,13 @@ pub fn run_file<H: AllocGlobal + Files + Input + Threads + Wait + Sync, W: Write
     } else {
         match File::open(rt, name) {
             Ok(mut file) => play_from(rt, &mut file, manner, out, err),
-            Err(error) => return tell(Fault::File.or_memory(&error), err),
+            Err(error) => return tell(Fault::from(error), err),
         }
     };
     let mut status = played.status;
     if let (Some(history), Some(name)) = (&played.history, journal) {
-        if !write_file(rt, history, name) {
-            status = status.max(tell(Fault::File, err));
+        if let Err(fault) = write_file(rt, history, name) {
+            status = status.max(tell(fault, err));
         }
     }
     status
@@ -78,6 +74,6 @@ pub fn check_file<H: AllocGlobal + Files + Input, W: Write, E: Write>(
     }
     match File::open(rt, name) {
         Ok(mut file) => check_journal(rt.alloc(), &mut file, out, err),
-        Err(error) => tell(Fault::File.or_memory(&error), err),
+        Err(error) => tell(Fault::from(error), err),
     }
 }

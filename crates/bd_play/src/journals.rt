@@ -1,29 +1,26 @@
 //! Writing and judging journals.
 
-ghost use Rattle.std.specs.Prelude.{◌≤◌, IfOk};
+ghost use Rattle.std.specs.Prelude.{OnOk};
+ghost use Rattle.std.specs.Io.KnownBytes.{Appends};
+ghost use Rattle.bd_journal.specs.Spelling.{journal_bytes};
 
 use crate::faults::{DONE, FAULT, Fault, tell};
 use crate::play::read_all;
-use bd_audit::{AuditFault, replay};
-use bd_journal::ReadError;
+use crate::verdicts::{Verdict, verdict_on};
+use bd_journal::WriteError;
 use bd_space::Record;
 use std::alloc::Global;
 use std::io::{Read, Write};
 
-/// Whether every byte of the record's journal was written.
-pub fn write_journal<W: Write>(alloc: Global, history: &Record, out: &mut W) -> bool {
-    bd_journal::write_journal(alloc, history, out).is_ok() && out.flush().is_ok()
-}
-
-// The record that a journal spells.
-fn record_from<R: Read>(alloc: Global, journal: &mut R) -> Result<Record, Fault>
-    ensures { IfOk result (λ r. (1 ≤ r.seats) × (r.seats ≤ 16)) }
+/// Writes every byte of the record's journal. Where that fails a part of it may be written.
+#[tactic(auto, using(crate::proofs::Kept::appended_kept))]
+pub fn write_journal<W: Write>(alloc: Global, history: &Record, out: &mut W) -> Result<(), Fault>
+    ensures { OnOk result (Appends (W.contents out.old) (W.contents out.new) (journal_bytes history.now)) }
 {
-    let bytes = read_all(alloc, journal)?;
-    match bd_journal::read_journal(alloc, &bytes) {
-        Ok(history) => Ok(history),
-        Err(ReadError::Malformed) => Err(Fault::Journal),
-        Err(ReadError::Memory) => Err(Fault::Memory),
+    match bd_journal::write_journal(alloc, history, out) {
+        Ok(()) => Ok(out.flush()?),
+        Err(WriteError::Memory) => Err(Fault::Memory),
+        Err(WriteError::Unspellable | WriteError::Refused) => Err(Fault::File),
     }
 }
 
@@ -42,13 +39,13 @@ pub fn check_journal<R: Read, W: Write, E: Write>(
     out: &mut W,
     err: &mut E,
 ) -> u8 {
-    let history = match record_from(alloc, journal) {
-        Ok(history) => history,
+    let bytes = match read_all(alloc, journal) {
+        Ok(bytes) => bytes,
         Err(fault) => return tell(fault, err),
     };
-    match replay(alloc, &history) {
-        Ok(()) => print("lawful", history.entries.as_slice().len(), out, DONE),
-        Err(AuditFault::Unlawful { at }) => print("unlawful", at as usize, out, FAULT),
-        Err(AuditFault::NoMemory) => tell(Fault::Memory, err),
+    match verdict_on(alloc, &bytes) {
+        Ok(Verdict::Lawful { entries }) => print("lawful", entries, out, DONE),
+        Ok(Verdict::Unlawful { at }) => print("unlawful", at as usize, out, FAULT),
+        Err(fault) => tell(fault, err),
     }
 }

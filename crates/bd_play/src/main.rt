@@ -2,8 +2,6 @@
 #![tactic(auto)]
 
 mod arguments;
-#[cfg(test)]
-mod certificates;
 mod faults;
 mod files;
 mod journals;
@@ -12,6 +10,7 @@ mod said;
 #[cfg(test)]
 mod tests;
 mod threads;
+mod verdicts;
 mod worker;
 
 use arguments::{Order, Refused, order_of};

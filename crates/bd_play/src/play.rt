@@ -1,6 +1,6 @@
 //! Playing a script line by line.
 
-ghost use Rattle.std.specs.Prelude.{◌≡◌, All};
+ghost use Rattle.std.specs.Prelude.{◌≡◌, All, IfOk};
 
 use crate::faults::{DONE, FAULT, Fault, tell};
 use crate::said::Said;
@@ -33,10 +33,8 @@ impl Played {
 /// All that a reader has.
 pub fn read_all<R: Read>(alloc: Global, reader: &mut R) -> Result<Vec<u8>, Fault> {
     let mut bytes = Vec::new(alloc);
-    match reader.read_to_end(&mut bytes) {
-        Ok(_) => Ok(bytes),
-        Err(error) => Err(Fault::File.or_memory(&error)),
-    }
+    reader.read_to_end(&mut bytes)?;
+    Ok(bytes)
 }
 
 /// The script that a reader has.
@@ -46,6 +44,17 @@ pub fn script_from<R: Read>(alloc: Global, reader: &mut R) -> Result<Script, Fau
         Ok(script) => Ok(script),
         Err(ScriptError::Line(number)) => Err(Fault::Line(number)),
         Err(ScriptError::Memory) => Err(Fault::Memory),
+    }
+}
+
+/// A driver with its seats, and the script that a reader has.
+pub fn laid<R: Read>(alloc: Global, script: &mut R) -> Result<(Driver, Vec<Seat>, Script), Fault>
+    ensures { IfOk result (λ r. All (λ s. s.table ≡ r.0.table) r.1.items) }
+{
+    let script = script_from(alloc, script)?;
+    match Driver::new(alloc, script.seats) {
+        Ok((driver, seats)) => Ok((driver, seats, script)),
+        Err(_) => Err(Fault::Memory),
     }
 }
 
@@ -92,12 +101,9 @@ pub fn play<R: Read, W: Write, E: Write>(
     out: &mut W,
     err: &mut E,
 ) -> Played {
-    let script = match script_from(alloc, script) {
-        Ok(script) => script,
+    let (driver, mut seats, script) = match laid(alloc, script) {
+        Ok(parts) => parts,
         Err(fault) => return Played::fault(fault, err),
-    };
-    let Ok((driver, mut seats)) = Driver::new(alloc, script.seats) else {
-        return Played::fault(Fault::Memory, err);
     };
     let status = play_lines(&driver, &mut seats, script.lines, turns, out);
     Played {

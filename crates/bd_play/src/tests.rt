@@ -1,8 +1,10 @@
-//! Tests of the program: the worked examples of docs/EXAMPLES.md, its words and files, script errors and journals.
+//! Tests of the program: the worked examples of docs/EXAMPLES.md, certificates, its words and files, script errors
+//! and journals.
 
 mod arguments;
 mod buffers;
 mod calls;
+mod certificates;
 mod deaths;
 mod examples;
 mod files;

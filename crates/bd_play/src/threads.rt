@@ -4,10 +4,10 @@ ghost use Rattle.std.specs.Prelude.{◌≡◌, All, IfOk, IfSome};
 ghost use Rattle.atomic_table.specs.Seated.{TableId};
 
 use crate::faults::{DONE, Fault, tell};
-use crate::play::{Played, print, script_from};
+use crate::play::{Played, laid, print};
 use crate::said::Said;
 use crate::worker::act;
-use bd_driver::{Desk, Driver, Seat};
+use bd_driver::{Desk, Seat};
 use bd_script::{Line, Script};
 use std::alloc::{AllocError, Global};
 use std::io::{Read, Write};
@@ -245,12 +245,9 @@ pub fn play_threads<H: Threads + Wait + Sync, R: Read, W: Write, E: Write>(
     out: &mut W,
     err: &mut E,
 ) -> Played {
-    let script = match script_from(alloc, script) {
-        Ok(script) => script,
+    let (driver, seats, script) = match laid(alloc, script) {
+        Ok(parts) => parts,
         Err(fault) => return Played::fault(fault, err),
-    };
-    let Ok((driver, seats)) = Driver::new(alloc, script.seats) else {
-        return Played::fault(Fault::Memory, err);
     };
     match play_at(rt, alloc, &driver, seats, script, turns, out, err) {
         Ok((seats, status)) => Played {

@@ -1,12 +1,41 @@
 //! Worked examples of buffers and of the turns of one-way calls.
 
-use super::examples::{Example, play_each};
-use std::test::Fail;
+use super::examples::{Example, Start};
 
-static EXAMPLES: [Example; 8] = [
+/// Three one-way calls on the manager's object, each handed out when the one before is freed.
+pub const ONE_WAY_TURNS: Example = Example {
+    name: "one-way turns",
+    seats: 2,
+    start: Start::Base,
+    lines: "\
+1 tx 0 1 1 6869 -
+1 tx 0 1 1 6869 -
+1 tx 0 1 1 6869 -
+0 read 256
+0 read 256
+0 free 65536
+0 read 256
+0 free 65544
+0 read 256
+",
+    prints: "\
+6: wrote 68 4 5
+7: wrote 68 5 6
+8: wrote 68 6 7
+9: got 0c7200000272408000000000000000000000000000000000010000000100000000000000d00700000200000000000000000000000000000000000100000000000800010000000000 6869 - 7 8
+10: refused F12 8 9
+11: wrote 12 9 10
+12: got 0c7200000272408000000000000000000000000000000000010000000100000000000000d00700000200000000000000000000000000000008000100000000001000010000000000 6869 - 10 11
+13: wrote 12 11 12
+14: got 0c7200000272408000000000000000000000000000000000010000000100000000000000d00700000200000000000000000000000000000010000100000000001800010000000000 6869 - 12 13
+",
+};
+
+pub static EXAMPLES: [Example; 8] = [
     Example {
         name: "one-way budget",
         seats: 2,
+        start: Start::Base,
         lines: "\
 1 tx 0 1 1 ZEROS -
 1 tx 0 1 1 - -
@@ -21,6 +50,7 @@ static EXAMPLES: [Example; 8] = [
     Example {
         name: "no room",
         seats: 2,
+        start: Start::Base,
         lines: "\
 1 tx 0 1 1 ZEROS -
 1 tx 0 1 1 - -
@@ -43,6 +73,7 @@ static EXAMPLES: [Example; 8] = [
     Example {
         name: "not handed out",
         seats: 2,
+        start: Start::Base,
         lines: "\
 1 tx 0 7 1 6869 -
 0 free 65536
@@ -55,10 +86,8 @@ static EXAMPLES: [Example; 8] = [
     Example {
         name: "released in the end",
         seats: 2,
+        start: Start::ObjectSent,
         lines: "\
-1 tx 0 1 1 852a62730000000000100000000000000020000000000000 0
-1 read 256
-0 read 256
 1 increfsdone 4096 8192
 1 acquiredone 4096 8192
 0 free 65536
@@ -68,9 +97,6 @@ static EXAMPLES: [Example; 8] = [
 0 free 65536
 ",
         prints: "\
-6: wrote 68 4 5
-7: got 0c7200000772108000100000000000000020000000000000087210800010000000000000002000000000000006720000 - - 5 6
-8: got 0c7200000272408000000000000000000000000000000000010000000100000000000000d00700001800000000000000080000000000000000000100000000001800010000000000 852a68730000000001000000000000000000000000000000 0000000000000000 6 7
 9: wrote 20 7 8
 10: wrote 20 8 9
 11: wrote 12 9 10
@@ -83,18 +109,13 @@ static EXAMPLES: [Example; 8] = [
     Example {
         name: "held by handshakes",
         seats: 2,
+        start: Start::ObjectSent,
         lines: "\
-1 tx 0 1 1 852a62730000000000100000000000000020000000000000 0
-1 read 256
-0 read 256
 0 free 65536
 1 enter
 1 read 256
 ",
         prints: "\
-6: wrote 68 4 5
-7: got 0c7200000772108000100000000000000020000000000000087210800010000000000000002000000000000006720000 - - 5 6
-8: got 0c7200000272408000000000000000000000000000000000010000000100000000000000d00700001800000000000000080000000000000000000100000000001800010000000000 852a68730000000001000000000000000000000000000000 0000000000000000 6 7
 9: wrote 12 7 8
 10: wrote 4 8 9
 11: refused F12 9 10
@@ -103,6 +124,7 @@ static EXAMPLES: [Example; 8] = [
     Example {
         name: "first fit",
         seats: 2,
+        start: Start::Base,
         lines: "\
 1 tx 0 1 1 0000000000000000 -
 1 tx 0 1 1 0000000000000000 -
@@ -138,35 +160,11 @@ static EXAMPLES: [Example; 8] = [
 20: wrote 12 18 19
 ",
     },
-    Example {
-        name: "one-way turns",
-        seats: 2,
-        lines: "\
-1 tx 0 1 1 6869 -
-1 tx 0 1 1 6869 -
-1 tx 0 1 1 6869 -
-0 read 256
-0 read 256
-0 free 65536
-0 read 256
-0 free 65544
-0 read 256
-",
-        prints: "\
-6: wrote 68 4 5
-7: wrote 68 5 6
-8: wrote 68 6 7
-9: got 0c7200000272408000000000000000000000000000000000010000000100000000000000d00700000200000000000000000000000000000000000100000000000800010000000000 6869 - 7 8
-10: refused F12 8 9
-11: wrote 12 9 10
-12: got 0c7200000272408000000000000000000000000000000000010000000100000000000000d00700000200000000000000000000000000000008000100000000001000010000000000 6869 - 10 11
-13: wrote 12 11 12
-14: got 0c7200000272408000000000000000000000000000000000010000000100000000000000d00700000200000000000000000000000000000010000100000000001800010000000000 6869 - 12 13
-",
-    },
+    ONE_WAY_TURNS,
     Example {
         name: "turns by object",
         seats: 2,
+        start: Start::Base,
         lines: "\
 1 enter
 1 tx 0 1 1 852a62730000000000100000000000000020000000000000852a62730000000008100000000000000820000000000000 0,24
@@ -197,8 +195,3 @@ static EXAMPLES: [Example; 8] = [
 ",
     },
 ];
-
-#[test]
-fn prints_them(rt: HostRuntime) -> Result<(), Fail> {
-    play_each(&rt, rt.alloc(), &EXAMPLES)
-}

@@ -1,105 +1,13 @@
 //! Worked examples of calls and replies.
 
-use super::examples::{Example, play_each};
-use std::test::Fail;
+use super::examples::{Example, Start};
 
-static EXAMPLES: [Example; 9] = [
-    Example {
-        name: "one-way call",
-        seats: 2,
-        lines: "\
-1 tx 0 7 1 6869 -
-1 read 256
-0 read 256
-",
-        prints: "\
-6: wrote 68 4 5
-7: got 0c72000006720000 - - 5 6
-8: got 0c7200000272408000000000000000000000000000000000070000000100000000000000d00700000200000000000000000000000000000000000100000000000800010000000000 6869 - 6 7
-",
-    },
-    Example {
-        name: "call and reply",
-        seats: 2,
-        lines: "\
-1 tx 0 9 0 01020304 -
-1 read 256
-0 read 256
-0 reply 0 0 2a -
-1 read 256
-0 read 256
-1 look
-",
-        prints: "\
-6: wrote 68 4 5
-7: got 0c72000006720000 - - 5 6
-8: got 0c72000002724080000000000000000000000000000000000900000000000000c8000000d00700000400000000000000000000000000000000000100000000000800010000000000 01020304 - 6 7
-9: wrote 68 7 8
-10: got 0c7200000372408000000000000000000000000000000000000000000000000000000000e80300000100000000000000000000000000000000000100000000000800010000000000 2a - 8 9
-11: got 0c72000006720000 - - 9 10
-12: page 10 0 0
-",
-    },
-    Example {
-        name: "reply before refusal",
-        seats: 2,
-        lines: "\
-1 tx 0 1 0 - -
-0 read 256
-0 reply 0 0 2a -
-1 tx 0 2 0 - -
-1 read 256
-1 read 256
-",
-        prints: "\
-6: wrote 68 4 5
-7: got 0c72000002724080000000000000000000000000000000000100000000000000c8000000d00700000000000000000000000000000000000000000100000000000000010000000000 - - 5 6
-8: wrote 68 6 7
-9: wrote 68 7 8 stop X6
-10: got 0c720000067200000372408000000000000000000000000000000000000000000000000000000000e80300000100000000000000000000000000000000000100000000000800010000000000 2a - 8 9
-11: got 0c72000011720000 - - 9 10
-",
-    },
-    Example {
-        name: "leaves the loop",
-        seats: 2,
-        lines: "\
-0 exitloop
-1 tx 0 1 1 - -
-0 read 256
-",
-        prints: "\
-6: wrote 4 4 5
-7: wrote 68 5 6
-8: refused F12 6 7
-",
-    },
-    Example {
-        name: "nested call back",
-        seats: 3,
-        lines: "\
-2 attach 200
-2 enter
-1 tx 0 1 0 852a62730000000000100000000000000020000000000000 0
-0 read 256
-0 tx 1 2 0 - -
-2 read 256
-1 read 256
-",
-        prints: "\
-6: opened 4 5
-7: wrote 4 5 6
-8: wrote 68 6 7
-9: got 0c72000002724080000000000000000000000000000000000100000000000000c8000000d00700001800000000000000080000000000000000000100000000001800010000000000 852a68730000000001000000000000000000000000000000 0000000000000000 7 8
-10: wrote 68 8 9
-11: refused F12 9 10
-12: got 0c72000007721080001000000000000000200000000000000872108000100000000000000020000000000000067200000272408000100000000000000020000000000000020000000000000064000000e80300000000000000000000000000000000000000000100000000000000010000000000 - - 10 11
-",
-    },
-    Example {
-        name: "dead server over an open child",
-        seats: 3,
-        lines: "\
+/// A server's object comes to a third process by a reply of the manager's.
+pub const DEAD_SERVER: Example = Example {
+    name: "dead server over an open child",
+    seats: 3,
+    start: Start::Base,
+    lines: "\
 2 open 300 3000 4096
 2 enter
 2 tx 0 1 1 852a62730000000000100000000000000020000000000000 0
@@ -123,7 +31,7 @@ static EXAMPLES: [Example; 9] = [
 0 read 256
 1 read 256
 ",
-        prints: "\
+    prints: "\
 6: opened 4 5
 7: wrote 4 5 6
 8: wrote 68 6 7
@@ -147,10 +55,101 @@ static EXAMPLES: [Example; 9] = [
 26: got 0c72000006720000 - - 24 25
 27: got 0c72000005720000 - - 25 26
 ",
+};
+
+pub static EXAMPLES: [Example; 9] = [
+    Example {
+        name: "one-way call",
+        seats: 2,
+        start: Start::Base,
+        lines: "\
+1 tx 0 7 1 6869 -
+1 read 256
+0 read 256
+",
+        prints: "\
+6: wrote 68 4 5
+7: got 0c72000006720000 - - 5 6
+8: got 0c7200000272408000000000000000000000000000000000070000000100000000000000d00700000200000000000000000000000000000000000100000000000800010000000000 6869 - 6 7
+",
     },
+    Example {
+        name: "call and reply",
+        seats: 2,
+        start: Start::Base,
+        lines: "\
+1 tx 0 9 0 01020304 -
+1 read 256
+0 read 256
+0 reply 0 0 2a -
+1 read 256
+0 read 256
+1 look
+",
+        prints: "\
+6: wrote 68 4 5
+7: got 0c72000006720000 - - 5 6
+8: got 0c72000002724080000000000000000000000000000000000900000000000000c8000000d00700000400000000000000000000000000000000000100000000000800010000000000 01020304 - 6 7
+9: wrote 68 7 8
+10: got 0c7200000372408000000000000000000000000000000000000000000000000000000000e80300000100000000000000000000000000000000000100000000000800010000000000 2a - 8 9
+11: got 0c72000006720000 - - 9 10
+12: page 10 0 0
+",
+    },
+    Example {
+        name: "reply before refusal",
+        seats: 2,
+        start: Start::Base,
+        lines: "\
+1 tx 0 1 0 - -
+0 read 256
+0 reply 0 0 2a -
+1 tx 0 2 0 - -
+1 read 256
+1 read 256
+",
+        prints: "\
+6: wrote 68 4 5
+7: got 0c72000002724080000000000000000000000000000000000100000000000000c8000000d00700000000000000000000000000000000000000000100000000000000010000000000 - - 5 6
+8: wrote 68 6 7
+9: wrote 68 7 8 stop X6
+10: got 0c720000067200000372408000000000000000000000000000000000000000000000000000000000e80300000100000000000000000000000000000000000100000000000800010000000000 2a - 8 9
+11: got 0c72000011720000 - - 9 10
+",
+    },
+    Example {
+        name: "leaves the loop",
+        seats: 2,
+        start: Start::Base,
+        lines: "\
+0 exitloop
+1 tx 0 1 1 - -
+0 read 256
+",
+        prints: "\
+6: wrote 4 4 5
+7: wrote 68 5 6
+8: refused F12 6 7
+",
+    },
+    Example {
+        name: "nested call back",
+        seats: 3,
+        start: Start::CalledBack,
+        lines: "\
+2 read 256
+1 read 256
+",
+        prints: "\
+11: refused F12 9 10
+12: got 0c72000007721080001000000000000000200000000000000872108000100000000000000020000000000000067200000272408000100000000000000020000000000000020000000000000064000000e80300000000000000000000000000000000000000000100000000000000010000000000 - - 10 11
+",
+    },
+    DEAD_SERVER,
     Example {
         name: "own manager, nothing to reply to",
         seats: 2,
+        start: Start::Base,
         lines: "\
 0 tx 0 1 1 - -
 1 reply 0 0 - -
@@ -165,6 +164,7 @@ static EXAMPLES: [Example; 9] = [
     Example {
         name: "descending offsets, second call",
         seats: 2,
+        start: Start::Base,
         lines: "\
 1 tx 0 1 1 852a62730000000000100000000000000020000000000000852a62730000000008100000000000000820000000000000 24,0
 1 tx 0 1 0 - -
@@ -179,6 +179,7 @@ static EXAMPLES: [Example; 9] = [
     Example {
         name: "reply with a bad object",
         seats: 2,
+        start: Start::Base,
         lines: "\
 1 tx 0 1 0 - -
 0 read 256
@@ -195,8 +196,3 @@ static EXAMPLES: [Example; 9] = [
 ",
     },
 ];
-
-#[test]
-fn prints_them(rt: HostRuntime) -> Result<(), Fail> {
-    play_each(&rt, rt.alloc(), &EXAMPLES)
-}

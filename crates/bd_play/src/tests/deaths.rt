@@ -1,16 +1,13 @@
 //! Worked examples of deaths, exits and openings.
 
-use super::examples::{Example, play_each};
-use std::test::Fail;
+use super::examples::{Example, Start};
 
-static EXAMPLES: [Example; 4] = [
+pub static EXAMPLES: [Example; 4] = [
     Example {
         name: "death notice",
         seats: 2,
+        start: Start::ObjectSent,
         lines: "\
-1 tx 0 1 1 852a62730000000000100000000000000020000000000000 0
-1 read 256
-0 read 256
 0 askdeath 1 77
 1 exitprocess
 0 read 256
@@ -22,9 +19,6 @@ static EXAMPLES: [Example; 4] = [
 0 read 256
 ",
         prints: "\
-6: wrote 68 4 5
-7: got 0c7200000772108000100000000000000020000000000000087210800010000000000000002000000000000006720000 - - 5 6
-8: got 0c7200000272408000000000000000000000000000000000010000000100000000000000d00700001800000000000000080000000000000000000100000000001800010000000000 852a68730000000001000000000000000000000000000000 0000000000000000 6 7
 9: wrote 16 7 8
 10: exited 8 9
 11: got 0c7200000f7208804d00000000000000 - - 9 10
@@ -39,10 +33,8 @@ static EXAMPLES: [Example; 4] = [
     Example {
         name: "death asked",
         seats: 2,
+        start: Start::ObjectSent,
         lines: "\
-1 tx 0 1 1 852a62730000000000100000000000000020000000000000 0
-1 read 256
-0 read 256
 0 askdeath 1 77
 0 askdeath 1 78
 0 cleardeath 1 78
@@ -51,9 +43,6 @@ static EXAMPLES: [Example; 4] = [
 0 read 256
 ",
         prints: "\
-6: wrote 68 4 5
-7: got 0c7200000772108000100000000000000020000000000000087210800010000000000000002000000000000006720000 - - 5 6
-8: got 0c7200000272408000000000000000000000000000000000010000000100000000000000d00700001800000000000000080000000000000000000100000000001800010000000000 852a68730000000001000000000000000000000000000000 0000000000000000 6 7
 9: wrote 16 7 8
 10: wrote 16 8 9 0:N9
 11: wrote 16 9 10 0:N10
@@ -65,6 +54,7 @@ static EXAMPLES: [Example; 4] = [
     Example {
         name: "manager ends",
         seats: 2,
+        start: Start::Base,
         lines: "\
 1 tx 0 1 0 - -
 0 exitprocess
@@ -85,6 +75,7 @@ static EXAMPLES: [Example; 4] = [
     Example {
         name: "refusals of opening",
         seats: 3,
+        start: Start::Base,
         lines: "\
 1 manager
 2 read 256
@@ -105,8 +96,3 @@ static EXAMPLES: [Example; 4] = [
 ",
     },
 ];
-
-#[test]
-fn prints_them(rt: HostRuntime) -> Result<(), Fail> {
-    play_each(&rt, rt.alloc(), &EXAMPLES)
-}

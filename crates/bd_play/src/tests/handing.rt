@@ -1,11 +1,10 @@
 //! Worked examples of what threads hand over, and of threads that wait for one another.
 
-ghost use Rattle.std.specs.Prelude.{◌≡◌};
-
-use super::examples::play_one;
-use crate::play::play;
+use super::examples::{Printed, play_one, played};
 use crate::threads::play_threads;
 use std::test::Fail;
+
+const TURNS: u32 = 100_000_000;
 
 const HAND_OVER: (&str, &str) = (
     "\
@@ -100,26 +99,14 @@ fn two_threads_wait_for_one_another(rt: HostRuntime) {
     let (script, prints) = TWO_THREADS;
     let mut out = Vec::new(rt.alloc());
     let mut err = Vec::new(rt.alloc());
-    let played = play_threads(
-        &rt,
-        rt.alloc(),
-        &mut script.as_bytes(),
-        100_000_000,
-        &mut out,
-        &mut err,
-    );
-    assert_eq!(rt; out.as_slice(), prints.as_bytes());
-    assert_eq!(rt; played.status, 0);
-    assert!(rt; err.is_empty());
+    let mut bytes = script.as_bytes();
+    let status = play_threads(&rt, rt.alloc(), &mut bytes, TURNS, &mut out, &mut err).status;
+    Printed { out, err, status }.expect(&rt, "two threads", prints, "", 0);
 }
 
 #[test]
 fn one_thread_waits_in_vain(rt: HostRuntime) {
     let (script, _) = TWO_THREADS;
-    let mut out = Vec::new(rt.alloc());
-    let mut err = Vec::new(rt.alloc());
-    let played = play(rt.alloc(), &mut script.as_bytes(), 1000, &mut out, &mut err);
-    assert_eq!(rt; out.as_slice(), b"2: opened 0 1\n3: turns\n".as_slice());
-    assert_eq!(rt; played.status, 2);
-    assert!(rt; err.is_empty());
+    let (printed, _) = played(rt.alloc(), script);
+    printed.expect(&rt, "one thread", "2: opened 0 1\n3: turns\n", "", 2);
 }

@@ -1,12 +1,12 @@
 //! What the other worked examples leave open of notices, death notifications, reads and exits.
 
-use super::examples::{Example, play_each};
-use std::test::Fail;
+use super::examples::{Example, Start};
 
-static EXAMPLES: [Example; 12] = [
+pub static EXAMPLES: [Example; 12] = [
     Example {
         name: "notice moves with BINDER",
         seats: 3,
+        start: Start::Base,
         lines: "\
 2 attach 200
 1 tx 0 1 1 852a62770000000000100000000000000020000000000000 0
@@ -25,6 +25,7 @@ static EXAMPLES: [Example; 12] = [
     Example {
         name: "notice stays with WEAK_BINDER",
         seats: 3,
+        start: Start::Base,
         lines: "\
 2 attach 200
 1 tx 0 1 1 852a62730000000000100000000000000020000000000000 0
@@ -43,6 +44,7 @@ static EXAMPLES: [Example; 12] = [
     Example {
         name: "death before notices",
         seats: 2,
+        start: Start::Base,
         lines: "\
 1 enter
 1 increfs 0
@@ -71,6 +73,7 @@ static EXAMPLES: [Example; 12] = [
     Example {
         name: "notification gone with its name",
         seats: 2,
+        start: Start::Base,
         lines: "\
 1 tx 0 1 1 852a62730000000000100000000000000020000000000000 0
 0 read 256
@@ -91,6 +94,7 @@ static EXAMPLES: [Example; 12] = [
     Example {
         name: "clearing a done notification",
         seats: 2,
+        start: Start::Base,
         lines: "\
 1 tx 0 1 1 852a62730000000000100000000000000020000000000000 0
 0 read 256
@@ -119,6 +123,7 @@ static EXAMPLES: [Example; 12] = [
     Example {
         name: "least told notification",
         seats: 2,
+        start: Start::Base,
         lines: "\
 1 tx 0 1 1 852a62730000000000100000000000000020000000000000852a62730000000008100000000000000820000000000000 0,24
 0 read 256
@@ -151,6 +156,7 @@ static EXAMPLES: [Example; 12] = [
     Example {
         name: "pid of a caller that ended",
         seats: 3,
+        start: Start::Base,
         lines: "\
 2 attach 200
 1 tx 0 1 0 - -
@@ -167,6 +173,7 @@ static EXAMPLES: [Example; 12] = [
     Example {
         name: "one list a read",
         seats: 2,
+        start: Start::Base,
         lines: "\
 1 tx 0 1 0 - -
 0 read 256
@@ -189,12 +196,8 @@ static EXAMPLES: [Example; 12] = [
     Example {
         name: "thread ends with a call unread",
         seats: 3,
+        start: Start::CalledBack,
         lines: "\
-2 attach 200
-2 enter
-1 tx 0 1 0 852a62730000000000100000000000000020000000000000 0
-0 read 256
-0 tx 1 2 0 - -
 1 exitthread
 0 read 256
 2 read 256
@@ -203,11 +206,6 @@ static EXAMPLES: [Example; 12] = [
 2 read 256
 ",
         prints: "\
-6: opened 4 5
-7: wrote 4 5 6
-8: wrote 68 6 7
-9: got 0c72000002724080000000000000000000000000000000000100000000000000c8000000d00700001800000000000000080000000000000000000100000000001800010000000000 852a68730000000001000000000000000000000000000000 0000000000000000 7 8
-10: wrote 68 8 9
 11: exited 9 10
 12: got 0c7200000672000005720000 - - 10 11
 13: got 0c72000007721080001000000000000000200000000000000872108000100000000000000020000000000000 - - 11 12
@@ -219,6 +217,7 @@ static EXAMPLES: [Example; 12] = [
     Example {
         name: "thread ends with a reply unread",
         seats: 3,
+        start: Start::Base,
         lines: "\
 2 attach 200
 2 enter
@@ -249,19 +248,14 @@ static EXAMPLES: [Example; 12] = [
     Example {
         name: "handshakes end with the process",
         seats: 2,
+        start: Start::ObjectSent,
         lines: "\
-1 tx 0 1 1 852a62730000000000100000000000000020000000000000 0
-1 read 256
-0 read 256
 0 increfs 1
 0 free 65536
 1 exitprocess
 0 acquire 1
 ",
         prints: "\
-6: wrote 68 4 5
-7: got 0c7200000772108000100000000000000020000000000000087210800010000000000000002000000000000006720000 - - 5 6
-8: got 0c7200000272408000000000000000000000000000000000010000000100000000000000d00700001800000000000000080000000000000000000100000000001800010000000000 852a68730000000001000000000000000000000000000000 0000000000000000 6 7
 9: wrote 8 7 8
 10: wrote 12 8 9
 11: exited 9 10
@@ -271,6 +265,7 @@ static EXAMPLES: [Example; 12] = [
     Example {
         name: "order of the refusals of opening",
         seats: 2,
+        start: Start::Base,
         lines: "\
 1 open 0 1 1
 1 open 100 1 1
@@ -283,8 +278,3 @@ static EXAMPLES: [Example; 12] = [
 ",
     },
 ];
-
-#[test]
-fn prints_them(rt: HostRuntime) -> Result<(), Fail> {
-    play_each(&rt, rt.alloc(), &EXAMPLES)
-}

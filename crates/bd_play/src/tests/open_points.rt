@@ -1,12 +1,12 @@
 //! What the other worked examples leave open of objects, names, calls and buffers.
 
-use super::examples::{Example, play_each};
-use std::test::Fail;
+use super::examples::{Example, Start};
 
-static EXAMPLES: [Example; 12] = [
+pub static EXAMPLES: [Example; 12] = [
     Example {
         name: "least free handle",
         seats: 2,
+        start: Start::Base,
         lines: "\
 1 tx 0 1 1 852a62730000000000100000000000000020000000000000 0
 1 tx 0 1 1 852a62730000000008100000000000000820000000000000 0
@@ -33,6 +33,7 @@ static EXAMPLES: [Example; 12] = [
     Example {
         name: "0 as a name and as the manager",
         seats: 3,
+        start: Start::Base,
         lines: "\
 1 acquire 0
 0 exitprocess
@@ -59,6 +60,7 @@ static EXAMPLES: [Example; 12] = [
     Example {
         name: "strong handle of a weak name",
         seats: 3,
+        start: Start::Base,
         lines: "\
 1 tx 0 1 1 852a62770000000000100000000000000020000000000000 0
 2 open 300 3000 4096
@@ -77,10 +79,8 @@ static EXAMPLES: [Example; 12] = [
     Example {
         name: "acquire through a weak name",
         seats: 2,
+        start: Start::ObjectSent,
         lines: "\
-1 tx 0 1 1 852a62730000000000100000000000000020000000000000 0
-1 read 256
-0 read 256
 0 increfs 1
 0 free 65536
 0 tx 1 1 1 - -
@@ -88,9 +88,6 @@ static EXAMPLES: [Example; 12] = [
 0 tx 1 1 1 - -
 ",
         prints: "\
-6: wrote 68 4 5
-7: got 0c7200000772108000100000000000000020000000000000087210800010000000000000002000000000000006720000 - - 5 6
-8: got 0c7200000272408000000000000000000000000000000000010000000100000000000000d00700001800000000000000080000000000000000000100000000001800010000000000 852a68730000000001000000000000000000000000000000 0000000000000000 6 7
 9: wrote 8 7 8
 10: wrote 12 8 9
 11: wrote 68 9 10 stop X1
@@ -101,6 +98,7 @@ static EXAMPLES: [Example; 12] = [
     Example {
         name: "object flags",
         seats: 2,
+        start: Start::Base,
         lines: "\
 1 tx 0 1 1 852a62737f00000000100000000000000020000000000000 0
 0 read 256
@@ -113,6 +111,7 @@ static EXAMPLES: [Example; 12] = [
     Example {
         name: "target held",
         seats: 2,
+        start: Start::Base,
         lines: "\
 1 tx 0 1 1 852a62730000000000100000000000000020000000000000 0
 1 read 256
@@ -149,6 +148,7 @@ static EXAMPLES: [Example; 12] = [
     Example {
         name: "manager with a known ptr 0",
         seats: 2,
+        start: Start::Base,
         lines: "\
 1 tx 0 1 1 852a62730000000000000000000000000000000000000000 0
 1 read 256
@@ -175,6 +175,7 @@ static EXAMPLES: [Example; 12] = [
     Example {
         name: "dead owner of a weak name",
         seats: 2,
+        start: Start::Base,
         lines: "\
 1 tx 0 1 1 852a62770000000000100000000000000020000000000000 0
 0 read 256
@@ -191,6 +192,7 @@ static EXAMPLES: [Example; 12] = [
     Example {
         name: "waiting with a call to read",
         seats: 2,
+        start: Start::Base,
         lines: "\
 1 tx 0 1 0 852a62730000000000100000000000000020000000000000 0
 0 read 256
@@ -207,6 +209,7 @@ static EXAMPLES: [Example; 12] = [
     Example {
         name: "unread verdict",
         seats: 3,
+        start: Start::Base,
         lines: "\
 1 tx 0 1 0 - -
 0 exitprocess
@@ -227,6 +230,7 @@ static EXAMPLES: [Example; 12] = [
     Example {
         name: "reply outside the area to a caller that ended",
         seats: 2,
+        start: Start::Base,
         lines: "\
 1 tx 0 1 0 - -
 0 read 256
@@ -243,6 +247,7 @@ static EXAMPLES: [Example; 12] = [
     Example {
         name: "budget of one-way calls alone",
         seats: 2,
+        start: Start::Base,
         lines: "\
 1 tx 0 1 0 ZEROS -
 1 tx 0 1 1 ZEROS -
@@ -253,8 +258,3 @@ static EXAMPLES: [Example; 12] = [
 ",
     },
 ];
-
-#[test]
-fn prints_them(rt: HostRuntime) -> Result<(), Fail> {
-    play_each(&rt, rt.alloc(), &EXAMPLES)
-}

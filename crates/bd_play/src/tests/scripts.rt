@@ -1,8 +1,6 @@
 //! Scripts with a bad line.
 
-ghost use Rattle.std.specs.Prelude.{◌≡◌};
-
-use crate::play::play;
+use super::examples::played;
 
 // A script, and the fault.
 static BAD_SCRIPTS: [(&str, &str); 8] = [
@@ -22,11 +20,8 @@ static BAD_SCRIPTS: [(&str, &str); 8] = [
 #[test]
 fn tells_the_first_bad_line(rt: HostRuntime) {
     for (script, want) in BAD_SCRIPTS {
-        let mut out = Vec::new(rt.alloc());
-        let mut err = Vec::new(rt.alloc());
-        let played = play(rt.alloc(), &mut script.as_bytes(), 1000, &mut out, &mut err);
-        assert_eq!(rt; err.as_slice(), want.as_bytes());
-        assert_eq!(rt; played.status, 1);
-        assert!(rt; out.is_empty() && played.history.is_none());
+        let (printed, history) = played(rt.alloc(), script);
+        printed.expect(&rt, script, "", want, 1);
+        assert!(rt; history.is_none());
     }
 }

@@ -1,12 +1,12 @@
 //! Worked examples of writes.
 
-use super::examples::{Example, play_each};
-use std::test::Fail;
+use super::examples::{Example, Start};
 
-static EXAMPLES: [Example; 5] = [
+pub static EXAMPLES: [Example; 5] = [
     Example {
         name: "unreadable commands",
         seats: 2,
+        start: Start::Base,
         lines: "\
 1 write - -
 1 write 0c6300 -
@@ -25,6 +25,7 @@ static EXAMPLES: [Example; 5] = [
     Example {
         name: "several commands",
         seats: 3,
+        start: Start::Base,
         lines: "\
 1 write 056304400000000006630440010000000463044007000000 -
 2 write 0c6300000c630000 -
@@ -37,6 +38,7 @@ static EXAMPLES: [Example; 5] = [
     Example {
         name: "pointers past the area",
         seats: 2,
+        start: Start::Base,
         lines: "\
 1 write 00634040000000000000000000000000000000000000000001000000000000000000000002000000000000000000000000000000ffffffffffffffff0000000000000000 6869
 1 write 006340400000000000000000000000000000000000000000010000000000000000000000ffffffffffffffff000000000000000001000000000000000000000000000000 6869
@@ -53,6 +55,7 @@ static EXAMPLES: [Example; 5] = [
     Example {
         name: "a full stream",
         seats: 2,
+        start: Start::Base,
         lines: "\
 1 write FULL -
 ",
@@ -63,6 +66,7 @@ static EXAMPLES: [Example; 5] = [
     Example {
         name: "a full stream, one byte more",
         seats: 2,
+        start: Start::Base,
         lines: "\
 1 write FULL00 -
 ",
@@ -71,8 +75,3 @@ static EXAMPLES: [Example; 5] = [
 ",
     },
 ];
-
-#[test]
-fn prints_them(rt: HostRuntime) -> Result<(), Fail> {
-    play_each(&rt, rt.alloc(), &EXAMPLES)
-}

@@ -5,7 +5,7 @@ ghost use Rattle.std.specs.Prelude.{◌≡◌, All, IfOk};
 
 use super::play_at;
 use crate::faults::DONE;
-use crate::play::script_from;
+use crate::play::laid;
 use bd_driver::{Desk, Driver, Outcome, Page, Seat, Served};
 use bd_script::Script;
 use bd_space::Request;
@@ -96,19 +96,16 @@ impl Desk for TwoFlags {
 }
 
 // A desk, its seats, and the script.
-fn laid(alloc: Global) -> Result<(TwoFlags, Vec<Seat>, Script), Fail>
+fn two_flags(alloc: Global) -> Result<(TwoFlags, Vec<Seat>, Script), Fail>
     ensures { IfOk result (λ r. All (λ s. s.table ≡ r.0.driver.table) r.1.items) }
 {
-    let script = script_from(alloc, &mut SCRIPT.as_bytes())?;
-    match Driver::new(alloc, script.seats) {
-        Ok((driver, seats)) => Ok((TwoFlags::new(driver), seats, script)),
-        Err(_) => Err(Fail::from("no driver")),
-    }
+    let (driver, seats, script) = laid(alloc, &mut SCRIPT.as_bytes())?;
+    Ok((TwoFlags::new(driver), seats, script))
 }
 
 #[test]
 fn threads_meet(rt: HostRuntime) -> Result<(), Fail> {
-    let (desk, seats, script) = laid(rt.alloc())?;
+    let (desk, seats, script) = two_flags(rt.alloc())?;
     let mut out = Vec::new(rt.alloc());
     let mut err = Vec::new(rt.alloc());
     let (_, status) = play_at(

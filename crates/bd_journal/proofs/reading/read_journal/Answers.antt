@@ -1,4 +1,4 @@
-use Rattle.std.proofs.Common.{ap, sym, subst, ◌∙◌, arith, Some}
+use Rattle.std.proofs.Common.{ap, subst, ◌∙◌, arith}
 use Rattle.bd_journal.specs.Reading.{Gives, journal_in}
 use Rattle.bd_journal.proofs.Laws.{is_found, journal_again}
 use Rattle.bd_journal.proofs.reading.read_journal.Goals as goal
