@@ -3,9 +3,9 @@ use Rattle.std.specs.Prelude.{◌≡◌, ℕ, ◌+◌, ◌/◌, ◌%◌, ◌<◌
 use Rattle.bd_space.specs.declared.step.Entry.{Entry}
 use Rattle.bd_space.specs.declared.step.Request.{Request}
 use Rattle.bd_space.specs.declared.step.Answer.{Answer}
-use Rattle.bd_space.specs.Histories.{History}
+use Rattle.bd_space.specs.Histories.{History, HasPlace}
 use Rattle.bd_driver.specs.Views.{ready_of, StartsWith, places, history}
-use Rattle.bd_space.specs.Runs.{AllBy, IsRun, IsAtLimit}
+use Rattle.bd_space.specs.Runs.{AllBy, IsRun, HasEntry, IsAtLimit}
 use Rattle.bd_driver.specs.declared.view.View.{View}
 use Rattle.bd_driver.specs.declared.slot.Slot.{Slot}
 use Rattle.bd_driver.specs.declared.slot.Slot.TheVariants.{Empty}
@@ -59,9 +59,9 @@ pub record Stands (v w : View) (request : Request) (answer : Answer) (start end 
 -- why it comes back
 abbrev pub IsWhy : View → Request → Why → Type 0
 IsWhy w request Taken = w.takes.found % 2 ≡ 1
-IsWhy w request NoMemory = w.takes.found % 2 ≡ 0
+IsWhy w request NoMemory = (w.takes.found % 2 ≡ 0) × HasPlace (history w.seats w.seen) × HasEntry (history w.seats w.seen) w.who request
 IsWhy w request Withdrawn = ⊥
-IsWhy w request HistoryFull = (w.takes.found % 2 ≡ 0) × IsAtLimit (history w.seats w.seen) w.who request
+IsWhy w request HistoryFull = (w.takes.found % 2 ≡ 0) × IsAtLimit (history w.seats w.seen) w.who request × HasEntry (history w.seats w.seen) w.who request
 
 -- the request was answered, or comes back equal and stands nowhere
 abbrev pub IsOutcome : View → View → Request → Outcome → Type 0

@@ -5,7 +5,8 @@ use lib.ListN.{get_elem?}
 use Rattle.bd_space.specs.declared.step.Entry.{Entry}
 use Rattle.bd_space.specs.declared.step.Request.{Request}
 use Rattle.bd_space.specs.declared.step.Answer.{Answer}
-use Rattle.bd_space.specs.Runs.{AllBy, IsRun, IsAtLimit}
+use Rattle.bd_space.specs.Histories.{HasPlace}
+use Rattle.bd_space.specs.Runs.{AllBy, IsRun, HasEntry, IsAtLimit}
 use Rattle.bd_driver.specs.Views.{StartsWith, history, places}
 use Rattle.bd_driver.specs.declared.view.Handover.{Handover}
 use Rattle.bd_driver.specs.declared.view.Handover.TheVariants.{Shut, Open, Waiting}
@@ -78,8 +79,8 @@ pub record RunAt (seats : ℕ) (entries : List Entry) (who : ℕ) (r : Request) 
 -- why a handed-over request comes back
 abbrev pub IsReason : ℕ → List Entry → ℕ → Request → Why → Type 0
 IsReason seats entries who r Taken = ⊥
-IsReason seats entries who r NoMemory = Unit {0}
-IsReason seats entries who r HistoryFull = (before : List Entry) × StartsWith entries before × IsAtLimit (history seats before) who r
+IsReason seats entries who r NoMemory = (before : List Entry) × StartsWith entries before × HasPlace (history seats before) × HasEntry (history seats before) who r
+IsReason seats entries who r HistoryFull = (before : List Entry) × StartsWith entries before × IsAtLimit (history seats before) who r × HasEntry (history seats before) who r
 IsReason seats entries who r Withdrawn = ⊥
 
 abbrev pub IsTold : ℕ → List Entry → ℕ → Request → ℕ → Outcome → Type 0

@@ -10,6 +10,11 @@ abbrev pub FullOnly : Why → Type 0 → Type 0
 FullOnly NoMemory P = Unit {0}
 FullOnly HistoryFull P = P
 
+-- want of memory is answered only where P holds
+abbrev pub MemoryOnly : Why → Type 0 → Type 0
+MemoryOnly NoMemory P = P
+MemoryOnly HistoryFull P = Unit {0}
+
 -- a driver has 1 to 16 seats
 abbrev pub IsSeats : ℕ → Type 0
 IsSeats n = (1 ≤ n) × (n ≤ 16)

@@ -4,7 +4,7 @@ ghost use Rattle.std.specs.Prelude.{◌≡◌, ◌≤◌, ◌<◌, ◌^◌, true
 ghost use Rattle.bd_space.specs.Histories as histories;
 ghost use Rattle.bd_space.specs.Steps as steps;
 ghost use Rattle.bd_engine.specs.Stands.{Before};
-ghost use Rattle.bd_engine.specs.Refusals.{FullOnly, IsSeats, IsSeatFault};
+ghost use Rattle.bd_engine.specs.Refusals.{FullOnly, MemoryOnly, IsSeats, IsSeatFault};
 
 use crate::tables::Tables;
 use crate::why::Why;
@@ -112,6 +112,8 @@ impl Engine {
         ensures err { OnErr result (self.new ≡ self.old) }
         // When a full history is the reason.
         ensures full { IfErr result (λ why. FullOnly why (histories.is_at_limit self.old seat (Some step) ≡ true)) }
+        // Want of memory isn't said of a full history.
+        ensures memory { IfErr result (λ why. MemoryOnly why (histories.HasPlace self.old)) }
     {
         if self.entries.len() >= MOST_STEPS {
             return Err(Why::HistoryFull);

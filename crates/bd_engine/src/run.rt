@@ -4,10 +4,10 @@ ghost use Rattle.std.specs.Prelude.{◌≡◌, ◌≤◌, ◌<◌, true, Some, l
 ghost use Rattle.bd_space.specs.declared.step.Request.{Request};
 ghost use Rattle.bd_space.specs.declared.step.Request.TheVariants.{Write};
 ghost use Rattle.bd_space.specs.Space.{Space};
-ghost use Rattle.bd_space.specs.Histories.{is_at_limit};
+ghost use Rattle.bd_space.specs.Histories.{HasPlace, is_at_limit};
 ghost use Rattle.bd_space.specs.Runs as runs;
-ghost use Rattle.bd_space.specs.Runs.{HasRun, IsAtLimit, answered};
-ghost use Rattle.bd_engine.specs.Refusals.{FullOnly};
+ghost use Rattle.bd_space.specs.Runs.{HasRun, HasEntry, IsAtLimit, answered};
+ghost use Rattle.bd_engine.specs.Refusals.{FullOnly, MemoryOnly};
 
 use crate::engine::Engine;
 use crate::why::Why;
@@ -101,6 +101,10 @@ impl Engine {
         ensures ok { IfOk result (λ r. HasRun self.old self.new seat request.now r.answer r.from r.to) }
         ensures err { OnErr result (self.new ≡ self.old) }
         ensures full { IfErr result (λ why. FullOnly why (IsAtLimit self.old seat request.now)) }
+        // Want of memory isn't said of a full history.
+        ensures memory { IfErr result (λ why. MemoryOnly why (HasPlace self.old)) }
+        // Only a run that has an entry is refused.
+        ensures some { IfErr result (λ _. HasEntry self.old seat request.now) }
     {
         match request {
             Request::Open { pid, euid, window } => {

@@ -1,5 +1,5 @@
 -- Histories: lists of steps in which each answer follows from the steps before.
-use Rattle.std.specs.Prelude.{ℕ, zero, suc, ◌+◌, ◌^◌, ◌≡◌, ◌≤◌, nat_lt, nat_le, Bool, true, false, not, ◌||◌, List, [], ◌∷◌, ◌++◌, length, Option, if◌then◌else◌}
+use Rattle.std.specs.Prelude.{ℕ, zero, suc, ◌+◌, ◌^◌, ◌≡◌, ◌≤◌, ◌<◌, nat_lt, nat_le, Bool, true, false, not, ◌||◌, List, [], ◌∷◌, ◌++◌, length, Option, if◌then◌else◌}
 use Rattle.std.specs.List.{list_all}
 use Rattle.bd_space.specs.declared.step.Step.{Step}
 use Rattle.bd_space.specs.declared.step.StepAnswer.{StepAnswer}
@@ -65,6 +65,10 @@ unfoldable pub ready_bits : History → ℕ
 ready_bits h = ready_below (space_after h) h.seats
 
 -- ---- limits
+
+-- one step more has a place
+abbrev pub HasPlace : History → Type 0
+HasPlace h = length h.entries < most_steps
 
 -- the history is full, or this step would need a number past the limit
 unfoldable pub is_at_limit : History → ℕ → Option Step → Bool

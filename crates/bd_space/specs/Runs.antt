@@ -1,5 +1,5 @@
 -- The run of a request: the entries that it makes, and its answer.
-use Rattle.std.specs.Prelude.{ℕ, zero, suc, ◌+◌, ◌≡◌, ◌<◌, ◌⊎◌, nat_lt, nat_le, true, ◌&&◌, List, [], ◌∷◌, ◌++◌, length, take, drop, Option, Some, None, Ok, Err, option_map, if◌then◌else◌}
+use Rattle.std.specs.Prelude.{ℕ, zero, suc, ◌+◌, ◌≡◌, ◌≢◌, ◌<◌, ◌⊎◌, nat_lt, nat_le, true, ◌&&◌, List, [], ◌∷◌, ◌++◌, length, take, drop, Option, Some, None, Ok, Err, option_map, if◌then◌else◌}
 use Rattle.bd_uapi.specs.declared.command.TransactionData.{TransactionData}
 use Rattle.bd_uapi.specs.declared.command.Command.{Command}
 use Rattle.bd_uapi.specs.declared.command.Command.TheVariants as bc
@@ -21,7 +21,7 @@ use Rattle.bd_space.specs.declared.step.Answer.{Answer}
 use Rattle.bd_space.specs.declared.step.Answer.TheVariants.{Opened, Set, Exited, Wrote, Got, Refused}
 use Rattle.bd_space.specs.Space.{Space}
 use Rattle.bd_space.specs.Steps.{step}
-use Rattle.bd_space.specs.Histories.{History, after, space_after, is_at_limit}
+use Rattle.bd_space.specs.Histories.{History, after, space_after, HasPlace, is_at_limit}
 
 -- ---- the commands of a stream
 
@@ -141,9 +141,9 @@ step_after area n [] = None
 step_after area zero (c ∷ cs) = Some (step_of_command area c.0)
 step_after area (suc n) (c ∷ cs) = step_after area n cs
 
--- memory may stop it anywhere, the history only where it has reached its limits
+-- memory may stop it where the history has a place left, the history only where it has reached its limits
 abbrev pub MayStop : Fault → History → ℕ → Option Step → Type 0
-MayStop NoMemory h seat x = Unit {0}
+MayStop NoMemory h seat x = HasPlace h
 MayStop HistoryFull h seat x = is_at_limit h seat x ≡ true
 MayStop _ h seat x = ⊥
 
@@ -194,6 +194,10 @@ first_step (Write stream area) = step_after area 0 (commands_of stream).commands
 first_step (Read limit) = Some (step_of.Read limit)
 first_step ExitThread = Some step_of.ExitThread
 first_step ExitProcess = Some step_of.ExitProcess
+
+-- the request's run after this history has an entry
+abbrev pub HasEntry : History → ℕ → Request → Type 0
+HasEntry h seat request = (run (space_after h) seat request).entries ≢ []
 
 -- the history is full, or the request's first step would need a number past the limit
 abbrev pub IsAtLimit : History → ℕ → Request → Type 0
