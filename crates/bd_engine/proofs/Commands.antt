@@ -19,12 +19,12 @@ use Rattle.bd_space.specs.declared.step.Answer.TheVariants.{Wrote}
 use Rattle.bd_space.specs.declared.step.Request.TheVariants.{Write}
 use Rattle.bd_space.specs.Space.{Space, opening}
 use Rattle.bd_space.specs.Steps.{step}
-use Rattle.bd_space.specs.Histories.{History, next, after, space_after, extended, is_at_limit}
-use Rattle.bd_space.specs.Runs.{Readable, readable, commands_of, step_of_command, Written, written, ends_here, goes_on, wrote, run_of_written, Run, run, write, write_first, step_after, MayStop, IsRun, AllBy, HasRun, IsAtLimit}
+use Rattle.bd_space.specs.Histories.{History, next, after, space_after, extended, HasPlace, is_at_limit}
+use Rattle.bd_space.specs.Runs.{Readable, readable, commands_of, step_of_command, Written, written, ends_here, goes_on, wrote, run_of_written, Run, run, write, write_first, step_after, MayStop, IsRun, AllBy, HasRun}
 use Rattle.bd_engine.specs.declared.why.Why.{Why}
 use Rattle.bd_engine.specs.declared.why.Why.TheVariants.{NoMemory, HistoryFull}
-use Rattle.bd_engine.specs.Refusals.{FullOnly}
-use Rattle.bd_engine.specs.Writing.{IsProgress, IsNext, IsUnrefused, joined, fault_of}
+use Rattle.bd_engine.specs.Refusals.{FullOnly, MemoryOnly}
+use Rattle.bd_engine.specs.Writing.{IsProgress, IsNext, IsUnrefused, IsTurnedAway, joined, fault_of}
 
 -- ---- one entry more
 
@@ -129,9 +129,9 @@ same-history h k seats entries =
     let f : ℕ → List Entry → History = λ n es. record { seats = n; entries = es } in
     ap (λ n. f n h.entries) seats ∙ ap (f k.seats) entries
 
-may_stop : (why : Why) (h : History) (seat : ℕ) (x : Option Step) → FullOnly why (is_at_limit h seat x ≡ true) → MayStop (fault_of why) h seat x
-may_stop NoMemory h seat x full = tt
-may_stop HistoryFull h seat x full = full
+may_stop : (why : Why) (h : History) (seat : ℕ) (x : Option Step) → FullOnly why (is_at_limit h seat x ≡ true) → MemoryOnly why (HasPlace h) → MayStop (fault_of why) h seat x
+may_stop NoMemory h seat x full place = place
+may_stop HistoryFull h seat x full place = full
 
 -- ---- the run of a write so far
 
@@ -227,16 +227,6 @@ module _ (old now : History) (seat : ℕ) (stream area : List ℕ) (consumed cou
     next-step : step_after area count (commands_of stream).commands ≡ Some (step_of_command area c)
     next-step = ap (step_after area count) cs_are ∙ step_after-done area h.done (c, size) others.commands count h.commands_counted
 
-    -- the first command's step wasn't taken
-    pub is_at_limit-first : count ≡ 0 → (why : Why) → FullOnly why (is_at_limit now seat (Some (step_of_command area c)) ≡ true)
-        → (now ≡ old) × FullOnly why (IsAtLimit old seat (Write stream area))
-    is_at_limit-first none why full =
-        let grown : now.entries ≡ old.entries = h.grown ∙ ap (λ es. old.entries ++ es) (no-entries h.run (h.entries_counted ∙ none)) ∙ append-nil old.entries in
-        let same : now ≡ old = same-history now old h.seats grown in
-        let is_next_step : step_after area 0 (commands_of stream).commands ≡ Some (step_of_command area c) = ap (λ n. step_after area n (commands_of stream).commands) (sym none) ∙ next-step in
-        let P : History → Option Step → Type 0 = λ k x. FullOnly why (is_at_limit k seat x ≡ true) in
-        (same, subst (P old) (sym is_next_step) (subst (λ k. P k (Some (step_of_command area c))) same full))
-
     -- those so far, with this fault as the stop
     cut_here : Fault → Written
     cut_here x = record { entries = h.run; consumed = consumed; notes = notes; stop = Some (stop.Fault x) }
@@ -262,11 +252,28 @@ module _ (old now : History) (seat : ℕ) (stream area : List ℕ) (consumed cou
         ap (λ (r : Run). length r.entries) all ∙ length-append h.run rest.entries in
         omega (arith, n, some, h.entries_counted)
 
+    -- the first command's step wasn't taken
+    pub turned_away : count ≡ 0 → (why : Why) → FullOnly why (is_at_limit now seat (Some (step_of_command area c)) ≡ true) → MemoryOnly why (HasPlace now)
+        → (now ≡ old) × IsTurnedAway old seat (Write stream area) why
+    unfolding run
+    turned_away none why full place =
+        let grown : now.entries ≡ old.entries = h.grown ∙ ap (λ es. old.entries ++ es) (no-entries h.run (h.entries_counted ∙ none)) ∙ append-nil old.entries in
+        let same : now ≡ old = same-history now old h.seats grown in
+        let is_next_step : step_after area 0 (commands_of stream).commands ≡ Some (step_of_command area c) = ap (λ n. step_after area n (commands_of stream).commands) (sym none) ∙ next-step in
+        let P : History → Option Step → Type 0 = λ k x. FullOnly why (is_at_limit k seat x ≡ true) in (
+          same,
+          record {
+            full = subst (P old) (sym is_next_step) (subst (λ k. P k (Some (step_of_command area c))) same full);
+            memory = subst (λ k. MemoryOnly why (HasPlace k)) same place;
+            some = λ e. absurd (omega (arith, more, none, ap length e));
+          },
+        )
+
     -- a later one's wasn't
-    pub cut_short : 0 < count → (why : Why) → FullOnly why (is_at_limit now seat (Some (step_of_command area c)) ≡ true)
+    pub cut_short : 0 < count → (why : Why) → FullOnly why (is_at_limit now seat (Some (step_of_command area c)) ≡ true) → MemoryOnly why (HasPlace now)
         → HasRun old now seat (Write stream area) (Wrote consumed notes (Some (stop.Fault (fault_of why)))) (length old.entries) (length now.entries)
     unfolding IsRun cut_here
-    cut_short some why full =
+    cut_short some why full place =
         let so_far : History = record { seats = old.seats; entries = old.entries ++ h.run } in
         let same : now ≡ so_far = same-history now so_far h.seats h.grown in
         let P : History → Option Step → Type 0 = λ k x. FullOnly why (is_at_limit k seat x ≡ true) in
@@ -284,7 +291,7 @@ module _ (old now : History) (seat : ℕ) (stream area : List ℕ) (consumed cou
             fewer = more;
             entries = sym (ap (λ (r : Run). r.entries) is);
             answered = sym (ap (λ (r : Run). r.answer) is ∙ wrote-unrefused h.run (cut_here (fault_of why)) h.unrefused);
-            why = may_stop why so_far seat _ limit;
+            why = may_stop why so_far seat _ limit (subst (λ k. MemoryOnly why (HasPlace k)) same place);
           });
           starts = refl;
           ends = refl;

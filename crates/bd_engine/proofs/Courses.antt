@@ -15,15 +15,15 @@ use Rattle.bd_space.specs.declared.step.Stop.TheVariants as stop
 use Rattle.bd_space.specs.declared.step.Answer.{Answer}
 use Rattle.bd_space.specs.declared.step.Request.TheVariants.{Write}
 use Rattle.bd_space.specs.Steps.{step}
-use Rattle.bd_space.specs.Histories.{History, space_after, extended, is_at_limit}
-use Rattle.bd_space.specs.Runs.{step_of_command, HasRun, IsAtLimit}
+use Rattle.bd_space.specs.Histories.{History, space_after, extended, HasPlace, is_at_limit}
+use Rattle.bd_space.specs.Runs.{step_of_command, HasRun}
 use Rattle.bd_engine.specs.declared.why.Why.{Why}
 use Rattle.bd_engine.specs.declared.writing.Progress.{Progress}
 use Rattle.bd_engine.specs.declared.writing.Course.{Course}
 use Rattle.bd_engine.specs.declared.writing.Course.TheVariants.{GoesOn, Ends}
-use Rattle.bd_engine.specs.Refusals.{FullOnly}
-use Rattle.bd_engine.specs.Writing.{IsSame, GoesTo, IsAfter, IsCutAt, IsProgress, HasCome, IsNext, IsCourse, fault_of, stopped}
-use Rattle.bd_engine.proofs.Commands.{is_at_limit-first, cut_short, ended, went_on}
+use Rattle.bd_engine.specs.Refusals.{FullOnly, MemoryOnly}
+use Rattle.bd_engine.specs.Writing.{IsSame, GoesTo, IsAfter, IsCutAt, IsProgress, IsTurnedAway, HasCome, IsNext, IsCourse, fault_of, stopped}
+use Rattle.bd_engine.proofs.Commands.{turned_away, cut_short, ended, went_on}
 
 pub by_count : {A : Type 0} (P : A → Type 0) (n : ℕ) (a b : A) → (n ≡ 0 → P a) → (0 < n → P b) → P (cond (n == 0) a b)
 by_count P zero a b first later = first refl
@@ -39,13 +39,13 @@ goes old new seat stream area (Ends answer) consumed count notes is h = absurd i
 
 module _ (old now : History) (seat : ℕ) (stream area : List ℕ) (p : Progress) (come : HasCome old now seat stream area p) (c : Command) (size : ℕ) (is_next : IsNext stream p.consumed c size) where
   -- its step wasn't taken
-  cut : (why : Why) (r : Result Course Why) → IsCutAt p why r → FullOnly why (is_at_limit now seat (Some (step_of_command area c)) ≡ true)
-      → MatchResult r (λ course. IsCourse old now seat stream area (p.consumed + size) course) (λ w. (now ≡ old) × FullOnly w (IsAtLimit old seat (Write stream area)))
-  cut why r is full =
-      let P : Result Course Why → Type 0 = λ r. MatchResult r (λ course. IsCourse old now seat stream area (p.consumed + size) course) (λ w. (now ≡ old) × FullOnly w (IsAtLimit old seat (Write stream area))) in
+  cut : (why : Why) (r : Result Course Why) → IsCutAt p why r → FullOnly why (is_at_limit now seat (Some (step_of_command area c)) ≡ true) → MemoryOnly why (HasPlace now)
+      → MatchResult r (λ course. IsCourse old now seat stream area (p.consumed + size) course) (λ w. (now ≡ old) × IsTurnedAway old seat (Write stream area) w)
+  cut why r is full place =
+      let P : Result Course Why → Type 0 = λ r. MatchResult r (λ course. IsCourse old now seat stream area (p.consumed + size) course) (λ w. (now ≡ old) × IsTurnedAway old seat (Write stream area) w) in
       subst P (sym is) (by_count P p.count (Err why) (Ok (Ends (stopped p 0 (fault_of why))))
-      (λ none. is_at_limit-first old now seat stream area p.consumed p.count p.notes.items come c size is_next none why full)
-      (λ some. rw add-zero (cut_short old now seat stream area p.consumed p.count p.notes.items come c size is_next some why full)))
+      (λ none. turned_away old now seat stream area p.consumed p.count p.notes.items come c size is_next none why full place)
+      (λ some. rw add-zero (cut_short old now seat stream area p.consumed p.count p.notes.items come c size is_next some why full place)))
 
   module _ (new : History) where
     on : (a : StepAnswer) (r : Course) → IsAfter p a size r → a ≡ (step (space_after now) seat (step_of_command area c)).answer → new ≡ extended now seat (step_of_command area c) a
@@ -94,11 +94,11 @@ next-fault stream at x e = ap command_at (sym (rest_is stream at)) ∙ e
 
 pub course-cut : (old now new : History) (seat : ℕ) (stream area : List ℕ) (p q : Progress) (c : Command) (size : ℕ) (why : Why) (r : Result Course Why)
     → HasCome old now seat stream area p → IsNext stream p.consumed c size → IsSame p q → new ≡ now → IsCutAt q why r
-    → FullOnly why (is_at_limit now seat (Some (step_of_command area c)) ≡ true)
-    → MatchResult r (λ course. IsCourse old new seat stream area (p.consumed + size) course) (λ w. (new ≡ old) × FullOnly w (IsAtLimit old seat (Write stream area)))
-course-cut old now new seat stream area p q c size why r come is_next same kept is full =
+    → FullOnly why (is_at_limit now seat (Some (step_of_command area c)) ≡ true) → MemoryOnly why (HasPlace now)
+    → MatchResult r (λ course. IsCourse old new seat stream area (p.consumed + size) course) (λ w. (new ≡ old) × IsTurnedAway old seat (Write stream area) w)
+course-cut old now new seat stream area p q c size why r come is_next same kept is full place =
     let next : IsNext stream q.consumed c size = rw same.consumed is_next in
-    rw (kept, ← same.consumed) (cut old now seat stream area q (HasCome-same old now seat stream area p q same come) c size next why r is full)
+    rw (kept, ← same.consumed) (cut old now seat stream area q (HasCome-same old now seat stream area p q same come) c size next why r is full place)
 
 pub course-on : (old now new : History) (seat : ℕ) (stream area : List ℕ) (p q : Progress) (c : Command) (size : ℕ) (a : StepAnswer) (r : Course)
     → HasCome old now seat stream area p → IsNext stream p.consumed c size → IsSame p q → IsAfter q a size r

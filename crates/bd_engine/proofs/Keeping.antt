@@ -2,7 +2,7 @@
 use Rattle.std.proofs.Common.{◌≡◌, ℕ, suc, ◌+◌, ◌<◌, ◌≤◌, Bool, true, false, List, [], ◌∷◌, ◌++◌, length, refl, ap, sym, subst, ◌∙◌, arith, length-append}
 use Rattle.std.specs.Prelude.{nat_lt, nat_le, ◌&&◌, ◌||◌, Some}
 use Rattle.std.proofs.lemmas.List.Folds.{list_all-append}
-use Rattle.std.proofs.lemmas.Bool.{lt-ltb, le-leb}
+use Rattle.std.proofs.lemmas.Bool.{lt-ltb, leb-false}
 use Rattle.bd_space.specs.declared.step.Step.{Step}
 use Rattle.bd_space.specs.declared.step.StepAnswer.{StepAnswer}
 use Rattle.bd_space.specs.declared.step.Entry.{Entry}
@@ -89,9 +89,12 @@ keeps-more h old new seat x answer k seated short answered stands =
 
 -- ---- a step that is refused
 
-pub full-at-length : (h : History) (seat : ℕ) (x : Step) → 4294967295 ≤ length h.entries → is_at_limit h seat (Some x) ≡ true
+pub full-at-length : (h : History) (seat : ℕ) (x : Step) → nat_le 4294967295 (length h.entries) ≡ true → is_at_limit h seat (Some x) ≡ true
 unfolding is_at_limit
-full-at-length h seat x le = ap (λ b. b || has_number_past_limit (step (space_after h) seat x).space.names) (le-leb 4294967295 (length h.entries) le)
+full-at-length h seat x e = ap (λ b. b || has_number_past_limit (step (space_after h) seat x).space.names) e
+
+pub short-of-full : (h k : History) (b : Bool) → b ≡ nat_le 4294967295 (length k.entries) → b ≡ false → h ≡ k → length h.entries < 4294967295
+short-of-full h k b is fewer same = leb-false _ _ (ap (λ (z : History). nat_le 4294967295 (length z.entries)) same ∙ sym is ∙ fewer)
 
 pub full-by-number : (h : History) (seat : ℕ) (x : Step) → has_number_past_limit (change (space_after h) seat x).space.names ≡ true → is_at_limit h seat (Some x) ≡ true
 unfolding is_at_limit counted

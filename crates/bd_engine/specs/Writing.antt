@@ -11,11 +11,13 @@ use Rattle.bd_space.specs.declared.step.Entry.{Entry}
 use Rattle.bd_space.specs.declared.step.Stop.TheVariants as stop
 use Rattle.bd_space.specs.declared.step.Answer.{Answer}
 use Rattle.bd_space.specs.declared.step.Answer.TheVariants.{Wrote, Refused}
+use Rattle.bd_space.specs.declared.step.Request.{Request}
 use Rattle.bd_space.specs.declared.step.Request.TheVariants.{Write}
-use Rattle.bd_space.specs.Histories.{History, space_after}
-use Rattle.bd_space.specs.Runs.{readable, commands_of, Written, written, wrote, AllBy, HasRun}
+use Rattle.bd_space.specs.Histories.{History, space_after, HasPlace}
+use Rattle.bd_space.specs.Runs.{readable, commands_of, Written, written, wrote, AllBy, HasRun, HasEntry, IsAtLimit}
 use Rattle.bd_engine.specs.declared.why.Why.{Why}
 use Rattle.bd_engine.specs.declared.why.Why.TheVariants.{NoMemory, HistoryFull}
+use Rattle.bd_engine.specs.Refusals.{FullOnly, MemoryOnly}
 use Rattle.bd_engine.specs.declared.writing.Progress.{Progress}
 use Rattle.bd_engine.specs.declared.writing.Course.{Course}
 use Rattle.bd_engine.specs.declared.writing.Course.TheVariants.{GoesOn, Ends}
@@ -57,6 +59,12 @@ fault_of HistoryFull = fault.HistoryFull
 -- how it goes on where a step wasn't taken
 abbrev pub IsCutAt : Progress → Why → Result Course Why → Type 0
 IsCutAt p why r = r ≡ (if p.count == 0 then Err why else Ok (Ends (stopped p 0 (fault_of why))))
+
+-- a write was refused before its first step: only one that has an entry is, and want of memory isn't said of a full history
+pub record IsTurnedAway (h : History) (seat : ℕ) (request : Request) (why : Why) : Type 0 where
+  pub full : FullOnly why (IsAtLimit h seat request)
+  pub memory : MemoryOnly why (HasPlace h)
+  pub some : HasEntry h seat request
 
 -- ---- what was done
 

@@ -1,7 +1,8 @@
 //! The engine: a history, and the tables that its space is kept in.
 
-ghost use Rattle.std.specs.Prelude.{◌≡◌, ◌≤◌, ◌<◌, ◌^◌, true, [], length, IfOk, IfErr, OnErr, MatchResult, Some};
+ghost use Rattle.std.specs.Prelude.{◌≡◌, ◌≤◌, ◌<◌, ◌^◌, true, [], length, nat_le, IfOk, IfErr, OnErr, MatchResult, Some};
 ghost use Rattle.bd_space.specs.Histories as histories;
+ghost use Rattle.bd_space.specs.Histories.{most_steps};
 ghost use Rattle.bd_space.specs.Steps as steps;
 ghost use Rattle.bd_engine.specs.Stands.{Before};
 ghost use Rattle.bd_engine.specs.Refusals.{FullOnly, MemoryOnly, IsSeats, IsSeatFault};
@@ -44,11 +45,19 @@ impl Engine {
         if seats < 1 || 16 < seats {
             return Err(Fault::SeatCount);
         }
-        Ok(Engine {
+        Ok(Engine::for_seats(alloc, seats))
+    }
+
+    /// The same for a number of seats that was tested before.
+    pub fn for_seats(alloc: Global, seats: u32) -> Engine
+        requires { IsSeats seats }
+        ensures { result ≡ record { seats = seats; entries = [] } }
+    {
+        Engine {
             seats,
             entries: Vec::new(alloc),
             tables: Tables::new(alloc),
-        })
+        }
     }
 
     // What its memory comes from.
@@ -77,6 +86,13 @@ impl Engine {
         ensures { result ≡ length self.now.entries }
     {
         self.entries.len() as u32
+    }
+
+    // No step more has a place. It is asked before any growth is, so that a full history is always told as such.
+    pub(crate) fn is_full(&self) -> bool
+        ensures { result ≡ nat_le most_steps (length self.now.entries) }
+    {
+        self.entries.len() >= MOST_STEPS
     }
 
     /// The ready seats, bit i for seat i: those that have something to read.
@@ -115,7 +131,7 @@ impl Engine {
         // Want of memory isn't said of a full history.
         ensures memory { IfErr result (λ why. MemoryOnly why (histories.HasPlace self.old)) }
     {
-        if self.entries.len() >= MOST_STEPS {
+        if self.is_full() {
             return Err(Why::HistoryFull);
         }
         if self.entries.reserve(1).is_err() {

@@ -8,6 +8,7 @@ ghost use Rattle.bd_space.specs.Histories.{HasPlace, is_at_limit};
 ghost use Rattle.bd_space.specs.Runs as runs;
 ghost use Rattle.bd_space.specs.Runs.{HasRun, HasEntry, IsAtLimit, answered};
 ghost use Rattle.bd_engine.specs.Refusals.{FullOnly, MemoryOnly};
+ghost use Rattle.bd_engine.specs.Writing.{IsTurnedAway};
 
 use crate::engine::Engine;
 use crate::why::Why;
@@ -55,6 +56,7 @@ impl Engine {
             → IfOk result (λ r. HasRun self.old self.new seat request r.answer r.from r.to) }
         ensures err { OnErr result (self.new ≡ self.old) }
         ensures full { IfErr result (λ why. FullOnly why (is_at_limit self.old seat (Some step) ≡ true)) }
+        ensures memory { IfErr result (λ why. MemoryOnly why (HasPlace self.old)) }
     {
         let from = self.len();
         match self.step(seat, step) {
@@ -72,7 +74,7 @@ impl Engine {
         requires { seat < self.old.seats }
         ensures ok { IfOk result (λ r. HasRun self.old self.new seat (Write stream.now area.now) r.answer r.from r.to) }
         ensures err { OnErr result (self.new ≡ self.old) }
-        ensures full { IfErr result (λ why. FullOnly why (IsAtLimit self.old seat (Write stream.now area.now))) }
+        ensures away { IfErr result (IsTurnedAway self.old seat (Write stream.now area.now)) }
     {
         let from = self.len();
         if stream.len() > 4096 {

@@ -5,11 +5,11 @@ ghost use Rattle.bd_uapi.specs.declared.command.Command.{Command};
 ghost use Rattle.bd_codec.specs.Reading.{command_at};
 ghost use Rattle.bd_space.specs.declared.step.Request.TheVariants.{Write};
 ghost use Rattle.bd_space.specs.declared.step.Answer.TheVariants.{Wrote};
-ghost use Rattle.bd_space.specs.Histories.{History, space_after, extended, is_at_limit};
+ghost use Rattle.bd_space.specs.Histories.{History, space_after, extended, HasPlace, is_at_limit};
 ghost use Rattle.bd_space.specs.Steps as steps;
-ghost use Rattle.bd_space.specs.Runs.{HasRun, IsAtLimit, step_of_command};
-ghost use Rattle.bd_engine.specs.Refusals.{FullOnly};
-ghost use Rattle.bd_engine.specs.Writing.{HasCome, IsSame, IsAfter, IsCourse, IsCutAt, IsNext, refused};
+ghost use Rattle.bd_space.specs.Runs.{HasRun, step_of_command};
+ghost use Rattle.bd_engine.specs.Refusals.{FullOnly, MemoryOnly};
+ghost use Rattle.bd_engine.specs.Writing.{HasCome, IsSame, IsAfter, IsCourse, IsCutAt, IsTurnedAway, IsNext, refused};
 
 use crate::engine::Engine;
 use crate::parcels::parcel_for;
@@ -161,7 +161,11 @@ impl Engine {
         ensures history { IfOk result (λ a. self.new ≡ extended self.old seat (step_of_command area.now command) a) }
         ensures err { OnErr result (self.new ≡ self.old) }
         ensures full { IfErr result (λ why. FullOnly why (is_at_limit self.old seat (Some (step_of_command area.now command)) ≡ true)) }
+        ensures memory { IfErr result (λ why. MemoryOnly why (HasPlace self.old)) }
     {
+        if self.is_full() {
+            return Err(Why::HistoryFull);
+        }
         if progress.reserve().is_err() {
             return Err(Why::NoMemory);
         }
@@ -186,7 +190,7 @@ impl Engine {
         ensures { (old : History) (stream : List ℕ) → HasCome old self.old seat stream area.now progress
             → IsNext stream progress.consumed command size
             → MatchResult result (λ course. IsCourse old self.new seat stream area.now (progress.consumed + size) course)
-            (λ why. (self.new ≡ old) × FullOnly why (IsAtLimit old seat (Write stream area.now))) }
+            (λ why. (self.new ≡ old) × IsTurnedAway old seat (Write stream area.now) why) }
     {
         match self.attempt(seat, area, command, &mut progress) {
             Err(why) => progress.cut_short(why),
@@ -206,7 +210,7 @@ impl Engine {
         ensures ok { IfOk result (λ a. HasRun self.old self.new seat (Write stream.now area.now) a
             (length self.old.entries) (length self.new.entries)) }
         ensures err { OnErr result (self.new ≡ self.old) }
-        ensures full { IfErr result (λ why. FullOnly why (IsAtLimit self.old seat (Write stream.now area.now))) }
+        ensures away { IfErr result (IsTurnedAway self.old seat (Write stream.now area.now)) }
     {
         let mut progress = Progress::new(self.alloc());
         'commands: while (progress.consumed as usize) < stream.len() {

@@ -3,7 +3,7 @@ use Rattle.bd_engine.proofs.engine.Engine.run_command.Goals as goal
 
 pub returns-in-Err : goal.returns-in-Err
 returns-in-Err c = λ old stream come is_next.
-    course-cut old _ c.attempt.new.self _ _ _ _ _ _ _ _ _ come is_next c.in-Err.ensures.same c.in-Err.ensures.err c.cut_short.ensures c.in-Err.ensures.full
+    course-cut old _ c.attempt.new.self _ _ _ _ _ _ _ _ _ come is_next c.in-Err.ensures.same c.in-Err.ensures.err c.cut_short.ensures c.in-Err.ensures.full c.in-Err.ensures.memory
 
 pub returns-in-Ok : goal.returns-in-Ok
 returns-in-Ok c = λ old stream come is_next.

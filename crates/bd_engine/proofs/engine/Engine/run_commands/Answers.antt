@@ -11,6 +11,9 @@ returns-in-Err-clause-ok c = rw c.wrote.ensures (finished-fault _ _ _ _ _ _ _ _ 
 pub returns-in-Err-run_command-clause-err : goal.returns-in-Err-run_command-clause-err
 returns-in-Err-run_command-clause-err c = (c.in-Err-run_command.ensures _ _ c.commands.invariant c.in-Ok.ensures.read).0
 
+pub returns-in-Err-run_command-clause-away : goal.returns-in-Err-run_command-clause-away
+returns-in-Err-run_command-clause-away c = (c.in-Err-run_command.ensures _ _ c.commands.invariant c.in-Ok.ensures.read).1
+
 pub returns-in-Ok-Ends-clause-ok : goal.returns-in-Ok-Ends-clause-ok
 returns-in-Ok-Ends-clause-ok c = rw c.in-Ok-Ends.field-0-is at (c.in-Ok-Ends.ensures _ _ c.commands.invariant c.in-Ok.ensures.read)
 

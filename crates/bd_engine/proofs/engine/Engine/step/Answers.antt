@@ -1,23 +1,21 @@
-use Rattle.std.proofs.Common.{◌≡◌, ◌+◌, ◌≤◌, ◌<◌, ◌++◌, ◌∷◌, [], List, true, length, arith, ap, sym, subst, ◌∙◌, Some}
+use Rattle.std.proofs.Common.{◌≡◌, ◌+◌, ◌<◌, ◌++◌, ◌∷◌, [], List, true, length, arith, ap, sym, subst, ◌∙◌, Some}
 use Rattle.bd_space.specs.declared.step.Entry.{Entry}
 use Rattle.bd_space.specs.Histories.{History, space_after, is_at_limit}
 use Rattle.bd_engine.specs.Keeps.{Keeps, history_of}
 use Rattle.bd_engine.proofs.Places.{change-steps}
-use Rattle.bd_engine.proofs.Keeping.{keeps-more, place, full-at-length, full-by-number, full-as}
+use Rattle.bd_engine.proofs.Keeping.{keeps-more, place, full-at-length, short-of-full, full-by-number, full-as}
 use Rattle.bd_engine.proofs.engine.Engine.step.Goals as goal
 
-pub returns-then-len-ge-MOST_STEPS-clause-full : goal.returns-then-len-ge-MOST_STEPS-clause-full
-returns-then-len-ge-MOST_STEPS-clause-full c =
-    let h = history_of c.self.inside.seats c.self.inside.entries.items in
-    let long : 4294967295 ≤ length h.entries = omega (arith, c.len.ensures, c.if-len-ge-MOST_STEPS.true, c.self.inside.entries.ok.0) in
-    subst (λ (z : History). is_at_limit z c.args.seat (Some c.args.step) ≡ true) c.self.view_is (full-at-length h c.args.seat c.args.step long)
+pub returns-then-is_full-clause-full : goal.returns-then-is_full-clause-full
+returns-then-is_full-clause-full c = full-at-length _ _ _ (sym c.is_full.ensures ∙ c.if-is_full.true)
 
 pub overflow_add-self : goal.overflow_add-self
 overflow_add-self c =
     let h = history_of c.self.inside.seats c.self.inside.entries.items in
     let s = space_after h in
     let stands = c.in-Ok.ensures.ok.stands s c.self.invariant.stands tt in
-    omega (arith, stands.steps_are, change-steps s c.args.seat c.args.step, place h, c.len.ensures, c.if-len-ge-MOST_STEPS.false, c.self.inside.entries.ok.0)
+    let short : length h.entries < 4294967295 = short-of-full h _ _ c.is_full.ensures c.if-is_full.false c.self.view_is in
+    omega (arith, stands.steps_are, change-steps s c.args.seat c.args.step, place h, short)
 
 pub invariant_of-self-in-Ok : goal.invariant_of-self-in-Ok
 invariant_of-self-in-Ok c =
@@ -26,7 +24,7 @@ invariant_of-self-in-Ok c =
     let met = c.in-Ok.ensures.ok in
     let e : Entry = record { seat = c.args.seat; step = c.args.step; answer = c.in-Ok.taken.again } in
     let seated = subst (λ (z : History). c.args.seat < z.seats) (sym c.self.view_is) c.requires in
-    let short : length h.entries < 4294967295 = omega (arith, c.len.ensures, c.if-len-ge-MOST_STEPS.false, c.self.inside.entries.ok.0) in
+    let short : length h.entries < 4294967295 = short-of-full h _ _ c.is_full.ensures c.if-is_full.false c.self.view_is in
     let answered = c.in-Ok.ensures.twice ∙ met.answered s c.self.invariant.stands tt in
     let t = c.change.new.self in
     subst (λ es. Keeps (history_of c.self.inside.seats es) (record t { steps = t.steps + 1 })) (sym (c.push_reserved.ensures.items ∙ ap (λ (es : List Entry). es ++ e ∷ []) c.reserve.ensures.items))
