@@ -107,3 +107,7 @@ full-by-number h seat x e = ap (λ b. nat_le 4294967295 (length h.entries) || b)
 pub full-as : (why : Why) (A B : Type 0) → (A → B) → FullOnly why A → FullOnly why B
 full-as NoMemory A B f x = x
 full-as HistoryFull A B f x = f x
+
+pub full-if : (why : Why) (A : Type 0) → A → FullOnly why A
+full-if NoMemory A x = tt
+full-if HistoryFull A x = x

@@ -19,20 +19,22 @@ use bd_space::{Actor, ObjectId};
 impl Tables {
     // The reference comes in that the process asks for, and a name with it, and what follows from that; or nothing, where a
     // number past the limit would be needed.
-    fn add_asked(&mut self, p: u32, o: ObjectId, strong: bool) -> Result<(), NumbersFull>
+    fn add_asked(&mut self, p: u32, o: ObjectId, strong: bool) -> Result<(), Why>
         requires references { 1 ≤ reference_room self.old.objects }
         requires names { 1 ≤ name_room self.old.objects }
         requires works { CanFollow self.old 0 }
         ensures stands { OnOk result ((s : Space) → Within self.old s → Within self.new (completed (asking.ask s p o strong))) }
         ensures kept { OnErr result (IsKept self.old self.new) }
         ensures full { OnErr result ((s : Space) → Before self.old s → has_number_past_limit (completed (asking.ask s p o strong)).names ≡ true) }
+        // There is room by then, so that nothing else is a reason.
+        ensures limit { IfErr result (λ why. why ≡ Why.HistoryFull) }
     {
         match self.objects.ask(self.steps, self.manager, p, o, strong) {
             Ok(()) => {
                 self.complete();
                 Ok(())
             }
-            Err(full) => Err(full),
+            Err(NumbersFull) => Err(Why::HistoryFull),
         }
     }
 
@@ -54,7 +56,7 @@ impl Tables {
         }
         match self.add_asked(a.process.made, o, strong) {
             Ok(()) => Ok(Plain::Accepted),
-            Err(_full) => Err(Why::HistoryFull),
+            Err(why) => Err(why),
         }
     }
 

@@ -67,22 +67,18 @@ impl Tables {
     }
 
     // All that changes.
-    fn replied(
-        &mut self,
-        a: Actor,
-        d: &TransactionData,
-        f: Frame,
-        v: Delivery,
-    ) -> Result<(), NumbersFull>
+    fn replied(&mut self, a: Actor, d: &TransactionData, f: Frame, v: Delivery) -> Result<(), Why>
         requires deliverable { IsDeliverable self.old d.now v }
         requires ready { IsReady self.old v }
         ensures ok { OnOk result ((s : Space) → Before self.old s → Within self.new (spec.replied s a d.now f v)) }
         ensures err { OnErr result (IsKept self.old self.new) }
         ensures full { OnErr result ((s : Space) → Before self.old s → has_number_past_limit (names_go (spec.replied s a d.now f v)).names ≡ true) }
         ensures follow { OnOk result (CanFollow self.new 0) }
+        // There is room by then, so that nothing else is a reason.
+        ensures limit { IfErr result (λ why. why ≡ Why.HistoryFull) }
     {
         match self.delivered(a, d, v) {
-            Err(full) => Err(full),
+            Err(NumbersFull) => Err(Why::HistoryFull),
             Ok(()) => {
                 self.answered(a.thread.seat, f);
                 Ok(())
@@ -101,7 +97,7 @@ impl Tables {
             return Err(Why::NoMemory);
         }
         match self.replied(a, d, f, v) {
-            Err(_) => Err(Why::HistoryFull),
+            Err(why) => Err(why),
             Ok(()) => {
                 self.complete();
                 Ok(Plain::Accepted)

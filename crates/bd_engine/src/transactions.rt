@@ -164,18 +164,20 @@ impl Tables {
     }
 
     // All that changes.
-    fn transacted(&mut self, a: Actor, d: &TransactionData, v: Delivery) -> Result<(), NumbersFull>
+    fn transacted(&mut self, a: Actor, d: &TransactionData, v: Delivery) -> Result<(), Why>
         requires deliverable { IsDeliverable self.old d.now v }
         requires ready { IsReady self.old v }
         ensures ok { OnOk result ((s : Space) → Before self.old s → Within self.new (spec.transacted s a d.now v)) }
         ensures err { OnErr result (IsKept self.old self.new) }
         ensures full { OnErr result ((s : Space) → Before self.old s → has_number_past_limit (names_go (spec.transacted s a d.now v)).names ≡ true) }
         ensures follow { OnOk result (CanFollow self.new 0) }
+        // There is room by then, so that nothing else is a reason.
+        ensures limit { IfErr result (λ why. why ≡ Why.HistoryFull) }
     {
         let receiver = v.receiver();
         let one_way = v.is_one_way();
         match self.delivered(a, d, v) {
-            Err(full) => Err(full),
+            Err(NumbersFull) => Err(Why::HistoryFull),
             Ok(()) => {
                 self.called(a.thread.seat, receiver, one_way);
                 Ok(())
@@ -194,7 +196,7 @@ impl Tables {
             return Err(Why::NoMemory);
         }
         match self.transacted(a, d, v) {
-            Err(_) => Err(Why::HistoryFull),
+            Err(why) => Err(why),
             Ok(()) => {
                 self.complete();
                 Ok(Plain::Accepted)

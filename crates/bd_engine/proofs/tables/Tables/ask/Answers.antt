@@ -3,6 +3,7 @@ use Rattle.bd_space.specs.Outcomes.{Outcome}
 use Rattle.bd_space.specs.Names.{has_number_past_limit}
 use Rattle.bd_space.specs.Asking.{ask_step, ask_outcome, ask}
 use Rattle.bd_engine.proofs.Accepting.{accepts, notes}
+use Rattle.bd_engine.proofs.Keeping.{full-if}
 use Rattle.bd_engine.proofs.tables.Tables.ask.Goals as goal
 
 pub returns-in-Err-clause-ok : goal.returns-in-Err-clause-ok
@@ -19,6 +20,6 @@ returns-in-Ok-add_asked-clause-ok c =
 pub returns-in-Err-add_asked-clause-full : goal.returns-in-Err-add_asked-clause-full
 unfolding ask_step
 returns-in-Err-add_asked-clause-full c = λ s h by.
-    subst (λ (o : Outcome). has_number_past_limit o.space.names ≡ true)
+    full-if _ _ (subst (λ (o : Outcome). has_number_past_limit o.space.names ≡ true)
     (ap (ask_outcome s c.args.a.process.made c.args.strong) (c.in-Ok.ensures s h.objects_stand h.manager_is))
-    (c.in-Err-add_asked.ensures.full s (c.reserve.ensures.stands s h))
+    (c.in-Err-add_asked.ensures.full s (c.reserve.ensures.stands s h)))
