@@ -153,7 +153,7 @@ enters seats slots v s h len small = (
   [],
   recarry seats s h h.carrier (s.views ++ [] ∷ []) (taker_stays h.taken_by h.has_taker)
       (λ j vs e. ⊎_elim (λ (was : get_elem? s.views j ≡ some vs). h.each j vs was) (λ (x : (j ≡ length s.views) × ([] ≡ vs)). subst (Each (Fits seats h.entries h.carrier h.taken_by h.mailboxes j)) x.1 tt) (at_snoc_here s.views [] vs j e)),
-  refl,
+  ((refl, refl, refl), refl),
 )
   where
     taker_stays : (taken_by : Option ℕ) → HasTaker s.views h.mailboxes taken_by → HasTaker (s.views ++ [] ∷ []) h.mailboxes taken_by

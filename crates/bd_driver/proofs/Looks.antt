@@ -43,5 +43,5 @@ looks seats slots id me one s k len at small =
           (keeps_taker s.views id v w k.mailboxes k.mailboxes k.taken_by (at ∙ ap some one) (λ t. t) refl (λ p h. h) k.has_taker)
           (review seats k.entries k.carrier k.carrier k.taken_by k.taken_by k.mailboxes id id v w mine (refl, refl, refl, refl) mine.held (starts_all k.entries) (λ t. ((mine.takes t).0, refl)) mine.picks mine.idle)
           (λ j u _ f. f),
-      (k.entries, mine.begins, subst (λ z. IsPage z n k.entries) (sym mine.seats_are) (found_page seats s k), refl),
+      ((refl, refl, refl), k.entries, mine.begins, subst (λ z. IsPage z n k.entries) (sym mine.seats_are) (found_page seats s k), refl),
     )

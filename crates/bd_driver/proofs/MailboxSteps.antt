@@ -24,7 +24,7 @@ use Rattle.bd_driver.specs.declared.outcome.Outcome.{Outcome}
 use Rattle.bd_driver.specs.declared.slot.Slot.{Slot}
 use Rattle.bd_driver.specs.declared.slot.Slot.TheVariants.{Posted, Answered, Empty}
 use Rattle.bd_driver.specs.Mailboxes.{Mailbox, shut, empty, posted, picked, answered, mark, inside_of, answer_places, pending, since_of, RunAt, IsTold, MailboxFits, PickFits, PickedAs}
-use Rattle.bd_driver.specs.Steps.{Hands, entries_in, posted_at, posted_as, withdrawn_at, kept_at, withdrew, picked_at, tried_at, picked_as, with_places, served_at, served, outcome_in, answered_at, answered_as, collected_at, missed_at, collected_as, opened, closed}
+use Rattle.bd_driver.specs.Steps.{Hands, entries_in, posted_at, posted_as, withdrawn_at, kept_at, withdrew, picked_at, tried_at, picked_as, with_places, served_at, served, outcome_in, picked_word, answered_at, answered_as, collected_at, missed_at, collected_as, opened_at, opened, closed_at, closed}
 use Rattle.bd_driver.proofs.Places.{own_grow, others_stay}
 use Rattle.bd_driver.proofs.Views.{inside, keeps_taker, taker_has, starts_all, starts_longer}
 use Rattle.bd_driver.proofs.Picked.{is_picked, none_else, one_else, picked_else, picked_gone, picked_set}
@@ -169,7 +169,7 @@ module _ (seats slots id : ℕ) (me : Hands) (one : me.0 ≡ view_of me.0 ∷ []
         tt,
         remailbox seats s k id me at one w x.who new 1 gives (seen_short k.entries x.seen f.begins) refl (ap (put_back s.homes) held) (own_taker seats s k id me at one w x.who new (λ t. t) refl refl)
             (own_fits seats s k id me at one w new refl refl f.begins (refl, seen_short k.entries x.seen f.begins) own f.takes refl refl off) (own_others seats s k id me at one new off),
-        (r, held, refl),
+        ((refl, refl, refl), r, held, refl),
       )
 
   -- a compare and exchange that finds another word than it looks for, and so changes nothing but the seat's view
@@ -184,7 +184,7 @@ module _ (seats slots id : ℕ) (me : Hands) (one : me.0 ≡ view_of me.0 ∷ []
       let n : ℕ = get_or s.words (suc x.who) 0 in
       let ne : n ≢ 1 = λ e. low (sym (found_mark seats s k id me at one x.who b there) ∙ e) in
       let w = kept_at x n in
-      (w ∷ [], keeps, tt, missed s k at x.who 1 0 b w there ne refl (λ t. t) (same_fits seats s k id me at one w refl refl refl refl refl refl refl), ((λ e. absurd (ne e)), (λ _. refl)))
+      (w ∷ [], keeps, tt, missed s k at x.who 1 0 b w there ne refl (λ t. t) (same_fits seats s k id me at one w refl refl refl refl refl refl refl), ((refl, refl, refl), (λ e. absurd (ne e)), (λ _. refl)))
 
   -- a withdrawal, by the state of the mailbox
   withdraw_case : (s : State Slot (List View)) (k : Kept seats s) (at : get_elem? s.views id ≡ some me.0) (r : Request) (since : ℕ) → x.handover ≡ Waiting r since → (b : Mailbox) → (mine seats s k id me at one).mailbox ≡ b
@@ -204,7 +204,7 @@ module _ (seats slots id : ℕ) (me : Hands) (one : me.0 ≡ view_of me.0 ∷ []
         subst (λ (m : ℕ). Kept seats (stepped s (suc x.who) m id me.1 (w ∷ []) (takes (suc x.who) (Posted q)))) (sym (ap (λ (z : ℕ). either (eqb z 1) 0 z) found))
             (remailbox seats s k id me at one w x.who empty 0 (takes (suc x.who) (Posted q)) (omega arith) refl refl (own_taker seats s k id me at one w x.who empty (λ t. t) refl refl)
             (own_fits seats s k id me at one w empty refl refl f.begins refl own f.takes refl refl off) (own_others seats s k id me at one empty off)),
-        ((λ _. (q, n, fits_mailbox.0, (k.entries, f.begins, sym own ∙ append-nil x.own), refl)), (λ ne. absurd (ne found))),
+        ((refl, refl, refl), (λ _. (q, n, fits_mailbox.0, (k.entries, f.begins, sym own ∙ append-nil x.own), refl)), (λ ne. absurd (ne found))),
       )
   withdraw_case s k at r since waits (picked q n start count) is fits_mailbox = withdraw_miss s k at (picked q n start count) is (λ e. absurd (omega arith))
   withdraw_case s k at r since waits (answered q n o) is fits_mailbox = withdraw_miss s k at (answered q n o) is (λ e. absurd (omega arith))
@@ -220,15 +220,16 @@ module _ (seats slots id : ℕ) (me : Hands) (one : me.0 ≡ view_of me.0 ∷ []
       go shut is fits_mailbox =
           let f = mine seats s k id me at one in
           let there : get_elem? k.mailboxes x.who ≡ some shut = f.has_mailbox ∙ ap some is in
-          let w = record x { handover = Open } in
+          let found : get_or s.words (suc x.who) 0 ≡ 0 = found_mark seats s k id me at one x.who shut there in
+          let w = opened_at x 0 in
           let off : is_picked f.mailbox ≡ false = ap is_picked is in
           let own : w.own ++ [] ≡ places_of x.who k.entries = ap (λ l. x.own ++ l) (sym (ap pending is)) ∙ f.own in (
             w ∷ [],
             takes (suc x.who) Empty,
             found_inside seats s k id me at one x.who shut there,
-            remailbox seats s k id me at one w x.who empty (get_or s.words (suc x.who) 0) (takes (suc x.who) Empty) (omega arith) (found_mark seats s k id me at one x.who shut there) refl (own_taker seats s k id me at one w x.who empty (λ t. t) refl refl)
+            remailbox seats s k id me at one w x.who empty (get_or s.words (suc x.who) 0) (takes (suc x.who) Empty) (omega arith) found refl (own_taker seats s k id me at one w x.who empty (λ t. t) refl refl)
                 (own_fits seats s k id me at one w empty refl refl f.begins refl own f.takes refl refl off) (own_others seats s k id me at one empty off),
-            refl,
+            ((refl, refl, refl), found, refl),
           )
       go empty is fits_mailbox = absurd (cc)
       go (posted q n) is fits_mailbox = let y = fits_mailbox.0 in absurd (cc)
@@ -240,15 +241,16 @@ module _ (seats slots id : ℕ) (me : Hands) (one : me.0 ≡ view_of me.0 ∷ []
       let f = mine seats s k id me at one in
       let is : f.mailbox ≡ empty = open_mailbox seats k.entries x.who x.handover f.mailbox f.fits_mailbox handover in
       let there : get_elem? k.mailboxes x.who ≡ some empty = f.has_mailbox ∙ ap some is in
-      let w = record x { handover = Shut } in
+      let found : get_or s.words (suc x.who) 0 ≡ 0 = found_mark seats s k id me at one x.who empty there in
+      let w = closed_at x 0 in
       let off : is_picked f.mailbox ≡ false = ap is_picked is in
       let own : w.own ++ [] ≡ places_of x.who k.entries = ap (λ l. x.own ++ l) (sym (ap pending is)) ∙ f.own in (
         w ∷ [],
         gives,
         tt,
-        remailbox seats s k id me at one w x.who shut (get_or s.words (suc x.who) 0) gives (omega arith) (found_mark seats s k id me at one x.who empty there) (ap (put_back s.homes) held) (own_taker seats s k id me at one w x.who shut (λ t. t) refl refl)
+        remailbox seats s k id me at one w x.who shut (get_or s.words (suc x.who) 0) gives (omega arith) found (ap (put_back s.homes) held) (own_taker seats s k id me at one w x.who shut (λ t. t) refl refl)
             (own_fits seats s k id me at one w shut refl refl f.begins refl own f.takes refl refl off) (own_others seats s k id me at one shut off),
-        refl,
+        ((refl, refl, refl), found, refl),
       )
 
   -- a look into the own mailbox for an answer
@@ -262,7 +264,7 @@ module _ (seats slots id : ℕ) (me : Hands) (one : me.0 ≡ view_of me.0 ∷ []
           let n : ℕ = get_or s.words (suc x.who) 0 in
           let ne : n ≢ 3 = λ e. low (sym (found_mark seats s k id me at one x.who b there) ∙ e) in
           let w = missed_at x n in
-          (w ∷ [], keeps, tt, missed s k at x.who 3 0 b w there ne refl (λ t. t) (same_fits seats s k id me at one w refl refl refl refl refl refl refl), ((λ e. absurd (ne e)), (λ _. refl)))
+          (w ∷ [], keeps, tt, missed s k at x.who 3 0 b w there ne refl (λ t. t) (same_fits seats s k id me at one w refl refl refl refl refl refl refl), ((refl, refl, refl), (λ e. absurd (ne e)), (λ _. refl)))
 
       go : (b : Mailbox) → (mine seats s k id me at one).mailbox ≡ b → MailboxFits seats k.entries x.who x.handover b → Granted seats id me s (suc x.who) (λ n. either (eqb n 3) 0 n) (collected_as (step slots (suc x.who) 3 0 none) me)
       go shut is fits_mailbox = miss shut is (λ e. absurd (omega arith))
@@ -282,7 +284,7 @@ module _ (seats slots id : ℕ) (me : Hands) (one : me.0 ≡ view_of me.0 ∷ []
             subst (λ (m : ℕ). Kept seats (stepped s (suc x.who) m id me.1 (w ∷ []) (takes (suc x.who) (Answered o)))) (sym (ap (λ (z : ℕ). either (eqb z 3) 0 z) found))
                 (remailbox seats s k id me at one w x.who empty 0 (takes (suc x.who) (Answered o)) (omega arith) refl refl (own_taker seats s k id me at one w x.who empty (λ t. t) refl refl)
                 (own_fits seats s k id me at one w empty refl refl (starts_all k.entries) refl own (λ t. absurd (true≢false (sym t ∙ idle))) refl refl off) (own_others seats s k id me at one empty off)),
-            ((λ _. (k.entries, q, n, o, f.begins, fits_mailbox.0, subst (λ z. IsTold z k.entries x.who q n o) (sym f.seats_are) fits_mailbox.1, refl)), (λ ne. absurd (ne found))),
+            ((refl, refl, refl), (λ _. (k.entries, q, n, o, f.begins, fits_mailbox.0, subst (λ z. IsTold z k.entries x.who q n o) (sym f.seats_are) fits_mailbox.1, refl)), (λ ne. absurd (ne found))),
           )
 
   -- the steps of a taker on any mailbox
@@ -323,12 +325,15 @@ module _ (seats slots id : ℕ) (me : Hands) (one : me.0 ≡ view_of me.0 ∷ []
         box_at (y ∷ ys) zero h = (y, refl)
         box_at (y ∷ ys) (suc i) h = box_at ys i (omega arith)
 
+        same_word : suc i ≡ suc (suc i - 1)
+        same_word = omega arith
+
         miss : (b : Mailbox) → get_elem? k.mailboxes i ≡ some b → mark b ≢ 1 → Granted seats id me s (suc i) (λ n. either (eqb n 1) 2 n) (picked_as (step slots (suc i) 1 2 none) me)
         miss b there low =
             let n : ℕ = get_or s.words (suc i) 0 in
             let ne : n ≢ 1 = λ e. low (sym (found_mark seats s k id me at one i b there) ∙ e) in
             let w = tried_at x (suc i - 1) n in
-            (w ∷ [], keeps, tt, missed s k at i 1 2 b w there ne refl (λ t. t) (same_fits seats s k id me at one w refl refl refl refl refl refl refl), ((λ e. absurd (ne e)), (λ _. refl)))
+            (w ∷ [], keeps, tt, missed s k at i 1 2 b w there ne refl (λ t. t) (same_fits seats s k id me at one w refl refl refl refl refl refl refl), ((same_word, refl, refl), (λ e. absurd (ne e)), (λ _. refl)))
 
         go : (b : Mailbox) → get_elem? k.mailboxes i ≡ some b → Granted seats id me s (suc i) (λ n. either (eqb n 1) 2 n) (picked_as (step slots (suc i) 1 2 none) me)
         go shut there = miss shut there (λ e. absurd (omega arith))
@@ -353,7 +358,7 @@ module _ (seats slots id : ℕ) (me : Hands) (one : me.0 ≡ view_of me.0 ∷ []
                   (remailbox seats s k id me at one w i new 2 (takes (suc i) (Posted q)) (omega arith) refl refl (taker_now s k at w i new on now_picked)
                   (repick s k (set k.mailboxes i new) w base refl refl refl refl refl refl set_in)
                   (λ j u apart g. passed s k i (posted q n) new j u there boxing refl (unpicked s k at (set k.mailboxes i new) j u apart g) g)),
-              ((λ _. (q, n, since, refl)), (λ ne. absurd (ne found))),
+              ((same_word, refl, refl), (λ _. (q, n, since, refl)), (λ ne. absurd (ne found))),
             )
 
     -- the answer to what was picked
@@ -363,7 +368,8 @@ module _ (seats slots id : ℕ) (me : Hands) (one : me.0 ≡ view_of me.0 ∷ []
         let f = mine seats s k id me at one in
         let there : get_elem? k.mailboxes i ≡ some (picked r since start count) = subst (PickFits k.mailboxes) pick f.picks in
         let new = answered r since o in
-        let w = answered_at x (outcome_in me.1) in
+        let found : get_or s.words (suc i) 0 ≡ 2 = found_mark seats s k id me at one i (picked r since start count) there in
+        let w = answered_at x 2 (outcome_in me.1) in
         let now : IsTold seats k.entries i r since o = subst (λ (z : ℕ × List Entry). IsTold z.0 z.1 i r since o) (λ m. (f.seats_are m, (f.takes on).1 m)) is_told in
         let boxing : (who : ℕ) (h : Handover) → who ≡ i → MailboxFits seats k.entries who h (picked r since start count) → MailboxFits seats k.entries who h new = λ who h e y. (y.0, subst (λ z. IsTold seats k.entries z r since o) (sym e) now) in
         let none_picked = picked_gone k.mailboxes i new w.pick refl (one_else k.mailboxes i r since start count (subst (PickedAs k.mailboxes) pick (picked_by_me s k at))) in
@@ -373,19 +379,19 @@ module _ (seats slots id : ℕ) (me : Hands) (one : me.0 ≡ view_of me.0 ∷ []
           tt,
           remailbox seats s k id me at one w i new 3 gives (omega arith) refl (ap (put_back s.homes) held) (taker_now s k at w i new on none_picked) base
               (λ j u apart g. passed s k i (picked r since start count) new j u there boxing same (unpicked s k at (set k.mailboxes i new) j u apart g) g),
-          refl,
+          ((sym (ap picked_word pick), refl, refl), found, refl),
         )
       where
         rechosen : (s : State Slot (List View)) (k : Kept seats s) (i : ℕ) (b new : Mailbox) → get_elem? k.mailboxes i ≡ some b → ((who : ℕ) (h : Handover) → who ≡ i → MailboxFits seats k.entries who h b → MailboxFits seats k.entries who h new) → pending b ≡ pending new
-            → Fits seats k.entries k.carrier k.taken_by k.mailboxes id x → Fits seats k.entries k.carrier k.taken_by (set k.mailboxes i new) id (answered_at x (outcome_in me.1))
+            → Fits seats k.entries k.carrier k.taken_by k.mailboxes id x → Fits seats k.entries k.carrier k.taken_by (set k.mailboxes i new) id (answered_at x 2 (outcome_in me.1))
         rechosen s k i b new is boxing same f =
-            passed s k i b new id (answered_at x (outcome_in me.1)) is boxing same tt (repick s k k.mailboxes (answered_at x (outcome_in me.1)) f refl refl refl refl refl refl tt)
+            passed s k i b new id (answered_at x 2 (outcome_in me.1)) is boxing same tt (repick s k k.mailboxes (answered_at x 2 (outcome_in me.1)) f refl refl refl refl refl refl tt)
 
     -- what is published for a picked request is its seat's
-    pub serves : (i : ℕ) (r : Request) (since : ℕ) (run : List Entry) (new : ℕ) (answer : Answer) → x.pick ≡ Picked i r since 0 0 → entries_in me.1 ≡ x.seen ++ run → AllBy i run
-        → RunAt x.seats (entries_in me.1) i r since answer (length x.seen) (length x.seen + length run) → new ≡ page_word x.seats 1 (entries_in me.1) → (length (entries_in me.1) < 4294967296) × (ready_of x.seats (entries_in me.1) < 2147483648)
+    pub serves : (i : ℕ) (r : Request) (since : ℕ) (run : List Entry) (new : ℕ) → x.pick ≡ Picked i r since 0 0 → entries_in me.1 ≡ x.seen ++ run → AllBy i run
+        → (length run ≡ 0) ⊎ ((answer : Answer) × RunAt x.seats (entries_in me.1) i r since answer (length x.seen) (length x.seen + length run)) → new ≡ page_word x.seats 1 (entries_in me.1) → (length (entries_in me.1) < 4294967296) × (ready_of x.seats (entries_in me.1) < 2147483648)
         → Allows (Kept seats) slots id me 0 (λ _. new) (served (step slots 0 new 0 none) me)
-    serves i r since run new answer pick grown by at_run page small_enough s k len at small =
+    serves i r since run new pick grown by at_run page small_enough s k len at small =
         let f = mine seats s k id me at one in
         let n : ℕ = get_or s.words 0 0 in
         let entries = entries_in me.1 in
@@ -407,7 +413,7 @@ module _ (seats slots id : ℕ) (me : Hands) (one : me.0 ≡ view_of me.0 ∷ []
         (λ (here : u.who ≡ i).
         let is : g.mailbox ≡ old = some-injective _ _ (sym g.has_mailbox ∙ (ap (get_elem? k.mailboxes) here ∙ there)) in
         let was : MailboxFits seats k.entries u.who u.handover old = subst (MailboxFits seats k.entries u.who u.handover) is g.fits_mailbox in
-        let run_there : RunAt seats entries y.who r since answer (length x.seen) (length x.seen + length run) = subst (λ (z : ℕ × ℕ). RunAt z.0 entries z.1 r since answer (length x.seen) (length x.seen + length run)) (λ m. (f.seats_are m, sym (b ∙ here) m)) at_run in
+        let run_there = subst (λ (z : ℕ × ℕ). (length run ≡ 0) ⊎ ((answer : Answer) × RunAt z.0 entries z.1 r since answer (length x.seen) (length x.seen + length run))) (λ m. (f.seats_are m, sym (b ∙ here) m)) at_run in
         record {
           seats_are = a ∙ g.seats_are;
           below = subst (λ z. z < seats) (sym b) g.below;
@@ -415,7 +421,7 @@ module _ (seats slots id : ℕ) (me : Hands) (one : me.0 ≡ view_of me.0 ∷ []
           begins = e;
           mailbox = mailbox;
           has_mailbox = ap (get_elem? (set k.mailboxes i mailbox)) (b ∙ here) ∙ set_here k.mailboxes i mailbox (inside k.mailboxes i old there);
-          fits_mailbox = (d ∙ was.0, subst (λ l. since ≤ length l) (sym more) (longer k.entries run since was.1), inr (answer, run_there));
+          fits_mailbox = (d ∙ was.0, subst (λ l. since ≤ length l) (sym more) (longer k.entries run since was.1), run_there);
           own = ap (λ l. l ++ places (length x.seen) (length run)) c ∙ (grow u.who u.own here (ap (λ z. u.own ++ pending z) (sym is) ∙ g.own) ∙ ap (λ z. places_of z entries) (sym b));
           takes = t;
           picks = p;
@@ -445,5 +451,5 @@ module _ (seats slots id : ℕ) (me : Hands) (one : me.0 ≡ view_of me.0 ∷ []
               (w, set_here s.views id (w ∷ []) (inside s.views id me.0 at), on, picked_set k.mailboxes i r since (length x.seen) (length run) w.pick (one_else k.mailboxes i r since 0 0 (subst (PickedAs k.mailboxes) pick (picked_by_me s k at))) w_pick)
               (fits id x w refl refl refl refl (starts_all entries) (λ _. (refl, refl)) (subst (PickFits (set k.mailboxes i mailbox)) (sym w_pick) (set_here k.mailboxes i mailbox (inside k.mailboxes i old there))) (λ t. absurd (true≢false (sym on ∙ t))) f)
               (λ j u apart g. fits j u u refl refl refl refl (subst (λ l. StartsWith l u.seen) (sym more) (starts_longer k.entries run u.seen g.begins)) (λ t. absurd (apart (some-injective j id (sym (g.takes t).0 ∙ taken_by)))) (unpicked s k at (set k.mailboxes i mailbox) j u apart g) g.idle g),
-          refl,
+          ((refl, page, refl), refl),
         )

@@ -36,8 +36,8 @@ longer entries run n h = let a = length-append entries run in omega arith
 
 reason_longer : (seats : ℕ) (entries run : List Entry) (who : ℕ) (r : Request) (why : Why) → IsReason seats entries who r why → IsReason seats (entries ++ run) who r why
 reason_longer seats entries run who r Taken h = h
-reason_longer seats entries run who r NoMemory h = h
-reason_longer seats entries run who r HistoryFull h = (h.0, starts_longer entries run h.0 h.1, h.2)
+reason_longer seats entries run who r NoMemory h = (h.0, starts_longer entries run h.0 h.1, h.2, h.3)
+reason_longer seats entries run who r HistoryFull h = (h.0, starts_longer entries run h.0 h.1, h.2, h.3)
 reason_longer seats entries run who r Withdrawn h = h
 
 told_longer : (seats : ℕ) (entries run : List Entry) (who : ℕ) (r : Request) (n : ℕ) (o : Outcome) → IsTold seats entries who r n o → IsTold seats (entries ++ run) who r n o

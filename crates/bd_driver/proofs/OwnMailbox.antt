@@ -15,11 +15,11 @@ use Rattle.bd_driver.specs.declared.outcome.Outcome.TheVariants.{Done, Back, Han
 use Rattle.bd_driver.specs.Views.{StartsWith, view_of}
 use Rattle.bd_driver.specs.Rule.{Kept}
 use Rattle.bd_driver.specs.Mailboxes.{IsTold}
-use Rattle.bd_driver.specs.Steps.{Hands, opened, closed, posted_at, posted_as, withdrew, collected_at, collected_as}
+use Rattle.bd_driver.specs.Steps.{Hands, opened, closed_at, closed, posted_at, posted_as, withdrew, collected_at, collected_as}
 use Rattle.bd_driver.specs.Rest.{is_waiting, held_of, IsReady, IsAtRest}
 use Rattle.bd_driver.specs.Handing.{IsCollected, Collects}
 use Rattle.bd_driver.proofs.MailboxSteps.{posts, withdraws, collects, opens_mailbox, closes_mailbox}
-use Rattle.bd_driver.specs.Together.{closed_hand, closed_view}
+use Rattle.bd_driver.specs.Together.{closed_hand, shut_tally, closed_view}
 
 pub open_hand : (h : Handover) → IsReady h → is_waiting h ≡ false → h ≡ Open
 open_hand Shut r e = absurd r
@@ -75,8 +75,8 @@ pub after_post : (slots words n : ℕ) (me m m' : Hands) (number : ℕ) (waiting
     → m' ≡ (posted_at (view_of me.0) n r ∷ [], [])
 after_post slots words n me m m' number waiting r s free after t =
     let is = laid words me m number waiting r s free after in
-    let same : t.0 ≡ r = sym (ap (asked_in r) t.1) ∙ ap (λ (x : Hands). asked_in r x.1) is in
-    t.2 ∙ (λ i. (posted_at (view_of (is i).0) n (same i) ∷ [], rest (is i).1))
+    let same : t.1 ≡ r = sym (ap (asked_in r) t.2) ∙ ap (λ (x : Hands). asked_in r x.1) is in
+    t.3 ∙ (λ i. (posted_at (view_of (is i).0) n (same i) ∷ [], rest (is i).1))
 
 pub posted_rests : (words n : ℕ) (me m' : Hands) (number : ℕ) (waiting : Bool) (r : Request) → IsAtRest words me number waiting → m' ≡ (posted_at (view_of me.0) n r ∷ [], []) → IsAtRest words m' number true
 posted_rests words n me m' number waiting r s is = subst (λ m. IsAtRest words m number true) (sym is) (record { one = refl; held = refl; idle = s.idle; number_is = s.number_is; none_picked = s.none_picked; waits = refl; ready = tt; below = s.below; wide = s.wide })
@@ -111,12 +111,12 @@ closes_at seats slots id me v xs word is at handover =
     subst (λ (z : Hands × ℕ). Allows (Kept seats) slots id z.0 z.1 (λ n. n) (closed (step slots z.1 0 0 none) z.0)) (λ i. (sym is i, sym at i)) (closes_mailbox seats slots id (v ∷ [], (suc v.who, Empty) ∷ xs) refl handover refl)
 
 -- the views of seats that give their slots back
-pub open_closed : (words : ℕ) (me m' : Hands) (number : ℕ) (waiting : Bool) → IsAtRest words me number waiting → is_waiting (view_of me.0).handover ≡ false → m' ≡ (record (view_of me.0) { handover = Shut } ∷ [], rest me.1) → m' ≡ (closed_view (view_of me.0) ∷ [], [])
+pub open_closed : (words : ℕ) (me m' : Hands) (number : ℕ) (waiting : Bool) → IsAtRest words me number waiting → is_waiting (view_of me.0).handover ≡ false → m' ≡ (closed_at (view_of me.0) 0 ∷ [], rest me.1) → m' ≡ (closed_view (view_of me.0) ∷ [], [])
 open_closed words me m' number waiting r e is =
     let h = open_hand (view_of me.0).handover r.ready e in
-    is ∙ (λ i. (record (view_of me.0) { handover = closed_hand (sym h i) } ∷ [], rest (ap (λ (m : Hands). m.1) (open_me words me number waiting r e) i)))
+    is ∙ (λ i. (record (view_of me.0) { handover = closed_hand (sym h i); shuts = shut_tally (sym h i) (view_of me.0).shuts } ∷ [], rest (ap (λ (m : Hands). m.1) (open_me words me number waiting r e) i)))
 
 pub waiting_closed : (words : ℕ) (me : Hands) (number : ℕ) (waiting : Bool) → IsAtRest words me number waiting → is_waiting (view_of me.0).handover ≡ true → me ≡ (closed_view (view_of me.0) ∷ [], [])
 waiting_closed words me number waiting r e =
     let h = waiting_hand (view_of me.0).handover e in
-    waiting_me words me number waiting r e ∙ (λ i. (record (view_of me.0) { handover = ((h.2 ∙ sym (ap closed_hand h.2)) i) } ∷ [], []))
+    waiting_me words me number waiting r e ∙ (λ i. (record (view_of me.0) { handover = ((h.2 ∙ sym (ap closed_hand h.2)) i); shuts = shut_tally (sym h.2 i) (view_of me.0).shuts } ∷ [], []))

@@ -1,29 +1,31 @@
 -- The steps of serving, at a seat whose view and slots are known.
-use Rattle.std.proofs.Common.{◌≡◌, ◌≢◌, ℕ, suc, ◌+◌, ◌-◌, ◌<◌, Bool, true, false, eqb, List, [], ◌∷◌, ◌++◌, length, refl, sym, ap, ◌∙◌, subst, arith, length-append, append_assoc, cond, eq-eqb, ne_eqb, ◌==◌, ◌%◌, Some, append-nil}
+use Rattle.std.proofs.Common.{◌≡◌, ◌≢◌, ℕ, suc, ◌+◌, ◌-◌, ◌<◌, Bool, true, false, eqb, List, [], ◌∷◌, ◌++◌, length, refl, sym, ap, ◌∙◌, subst, inl, inr, arith, length-append, append_assoc, cond, eq-eqb, ne_eqb, ◌==◌, ◌%◌, Some, append-nil}
 use mathlib.Core.Option.{none}
 use prog.Atomic.{either}
 use Rattle.atomic_table.specs.Table.{step, rest, Allows}
 use Rattle.bd_space.specs.declared.step.Entry.{Entry}
 use Rattle.bd_space.specs.declared.step.Request.{Request}
 use Rattle.bd_space.specs.declared.step.Answer.{Answer}
-use Rattle.bd_space.specs.Histories.{History}
-use Rattle.bd_space.specs.Runs.{IsAtLimit, HasRun, IsRun}
+use Rattle.bd_space.specs.Histories.{History, HasPlace}
+use Rattle.bd_space.specs.Runs.{IsAtLimit, HasEntry, HasRun, IsRun}
 use Rattle.bd_driver.specs.Views.{ready_of, StartsWith, places, tick, view_of, history}
 use Rattle.bd_driver.specs.Words.{page_word}
 use Rattle.bd_driver.specs.Rule.{Kept}
 use Rattle.bd_engine.specs.declared.why.Why.{Why as Refused}
 use Rattle.bd_engine.specs.declared.why.Why.TheVariants.{NoMemory as Memory, HistoryFull as Full}
-use Rattle.bd_engine.specs.Refusals.{FullOnly}
+use Rattle.bd_engine.specs.Refusals.{FullOnly, MemoryOnly}
+use Rattle.bd_engine.specs.declared.run.Ran.{Ran as HasRan}
 use Rattle.bd_driver.specs.declared.outcome.Outcome.TheVariants.{Done, Back, Handed}
 use Rattle.bd_driver.specs.Reasons.{reason_of}
 use Rattle.bd_driver.specs.declared.view.View.{View}
-use Rattle.bd_driver.specs.declared.view.Pick.TheVariants.{Nothing}
+use Rattle.bd_driver.specs.declared.view.Pick.{Pick}
+use Rattle.bd_driver.specs.declared.view.Pick.TheVariants.{Nothing, Picked}
 use Rattle.bd_driver.specs.declared.slot.Slot.{Slot}
 use Rattle.bd_driver.specs.declared.slot.Slot.TheVariants.{Home, Answered, Empty}
 use Rattle.bd_driver.specs.declared.outcome.Outcome.{Outcome}
 use Rattle.bd_driver.specs.Mailboxes.{RunAt, IsReason}
-use Rattle.bd_driver.specs.Steps.{Hands, entries_in, picked_as, with_places, served_at, served, answered_as}
-use Rattle.std.specs.Prelude.{slice_set, MatchBool, if◌then◌else◌}
+use Rattle.bd_driver.specs.Steps.{Hands, entries_in, picked_as, with_places, served_at, served, letter_to, answered_at, answered_as}
+use Rattle.std.specs.Prelude.{slice_set, MatchBool, if◌then◌else◌, Result, Ok, Err, MatchResult, IfOk, IfErr, OnErr}
 use Rattle.bd_driver.specs.declared.view.Tally.{Tally}
 use Rattle.bd_driver.specs.declared.view.Letter.{Letter}
 use Rattle.bd_driver.specs.Steps.{tally_at}
@@ -31,7 +33,7 @@ use Rattle.bd_driver.specs.Steps.{took_at, put_at}
 use Rattle.bd_driver.specs.Driver.{Takes}
 use Rattle.bd_driver.specs.Served.{Serves}
 use Rattle.bd_driver.specs.declared.outcome.Served.TheVariants.{Ran}
-use Rattle.bd_driver.specs.Serve.{Serving, IsPicked, FollowsFor, AnswersPick, RunsAs, AnswersOne, done_among, OnlyServes, ServedOne, AnswersAll, ServedAll, ticks, ones}
+use Rattle.bd_driver.specs.Serve.{Serving, IsPicked, FollowsFor, AnswersPick, RunsAs, AnswersOne, letter_ticks, OnlyServes, RanPicked, ServedOne, AnswersAll, ServedAll, ticks, ones}
 use Rattle.bd_driver.proofs.Views.{starts_all}
 use Rattle.bd_driver.proofs.MailboxSteps.{picks, serves, answers}
 
@@ -44,7 +46,7 @@ pub serves_at : (seats slots id : ℕ) (me : Hands) (v : View) (xs : List (ℕ �
     → new ≡ page_word v.seats 1 e.entries → (length e.entries < 4294967296) × (ready_of v.seats e.entries < 2147483648) → Allows (Kept seats) slots id me 0 (λ _. new) (served (step slots 0 new 0 none) me)
 serves_at seats slots id me v xs slot i e new is on f page fits =
     subst (λ (m : Hands). Allows (Kept seats) slots id m 0 (λ _. new) (served (step slots 0 new 0 none) m)) (sym is)
-    (serves seats slots id (v ∷ [], (slot, Home e) ∷ xs) refl on i f.request f.since f.run new f.answer f.pick f.grown f.by_seat f.run_at page fits)
+    (serves seats slots id (v ∷ [], (slot, Home e) ∷ xs) refl on i f.request f.since f.run new f.pick f.grown f.by_seat f.runs page fits)
 
 pub after_serve : (m m' : Hands) (v : View) (xs : List (ℕ × Slot)) (slot : ℕ) (e : History) (n : ℕ) → m ≡ (v ∷ [], (slot, Home e) ∷ xs) → m' ≡ (served_at (view_of m.0) n (entries_in m.1) ∷ [], m.1)
     → m' ≡ (served_at v n e.entries ∷ [], (slot, Home e) ∷ xs)
@@ -55,6 +57,9 @@ pub answers_at : (seats slots id : ℕ) (me : Hands) (v : View) (xs : List (ℕ 
 answers_at seats slots id me v xs i word o is at on a =
     subst (λ (z : Hands × ℕ). Allows (Kept seats) slots id z.0 z.1 (λ _. 3) (answered_as (step slots z.1 3 0 none) z.0)) (λ j. (sym (is ∙ ap (λ (w : ℕ). (v ∷ [], (w, Answered o) ∷ xs)) at) j, sym at j))
     (answers seats slots id (v ∷ [], (suc i, Answered o) ∷ xs) refl on i a.request a.since a.start a.count o a.pick a.is_told a.same_places refl)
+
+same_only : (v : View) → OnlyServes v v
+same_only v = record { seats = refl; who = refl; own = refl; handover = refl; takes = refl; puts = refl; looks = refl; posts = refl; withdraws = refl; collects = refl; opens = refl; shuts = refl }
 
 -- what a run says of what was picked
 module _ (m : Hands) (i : ℕ) (r : Request) (e0 : History) (p : IsPicked m i r e0) where
@@ -77,10 +82,11 @@ module _ (m : Hands) (i : ℕ) (r : Request) (e0 : History) (p : IsPicked m i r 
     is_run = subst (λ z. IsRun z i r h.run answer) (p.stands ∙ ap (history v.seats) (sym entries_are)) h.is_run;
   }
 
-  pub follows_for : (e1 : History) (answer : Answer) (start end : ℕ) → HasRun e0 e1 i r answer start end → FollowsFor v i e1
-  follows_for e1 answer start end h =
-      let st : start ≡ length v.seen = h.starts ∙ ap length entries_are in
-      let en : end ≡ length v.seen + length h.run = let a = ap (length {A = Entry}) h.grown in let b = length-append e0.entries h.run in let c = ap (length {A = Entry}) entries_are in let d = h.ends in omega arith in
+  -- the engine has run what was picked, or refused it and is as it was
+  pub follows_for : (e1 : History) (ran : Result HasRan Refused) → IfOk ran (λ x. HasRun e0 e1 i r x.answer x.from x.to) → OnErr ran (e1 ≡ e0) → FollowsFor v i e1
+  follows_for e1 (Ok x) h same =
+      let st : x.from ≡ length v.seen = h.starts ∙ ap length entries_are in
+      let en : x.to ≡ length v.seen + length h.run = let a = ap (length {A = Entry}) h.grown in let b = length-append e0.entries h.run in let c = h.ends in let d : length e0.entries ≡ length v.seen = ap length entries_are in omega arith in
       record {
         request = r;
         since = p.since;
@@ -89,31 +95,79 @@ module _ (m : Hands) (i : ℕ) (r : Request) (e0 : History) (p : IsPicked m i r 
         run = h.run;
         grown = h.grown ∙ ap (λ l. l ++ h.run) entries_are;
         by_seat = h.by_seat;
-        answer = answer;
-        run_at = subst (λ (z : ℕ × ℕ). RunAt v.seats e1.entries i r p.since answer z.0 z.1) (λ j. (st j, en j)) (run_here e1 answer start end h);
+        runs = inr (x.answer, subst (λ (z : ℕ × ℕ). RunAt v.seats e1.entries i r p.since x.answer z.0 z.1) (λ j. (st j, en j)) (run_here e1 x.answer x.from x.to h));
       }
+  follows_for e1 (Err why) h same = record {
+    request = r;
+    since = p.since;
+    pick = p.pick;
+    seats = ap (λ (e : History). e.seats) same ∙ ap (λ (e : History). e.seats) p.stands;
+    run = [];
+    grown = ap (λ (e : History). e.entries) same ∙ (entries_are ∙ sym (append-nil v.seen));
+    by_seat = tt;
+    runs = inl refl;
+  }
 
-  pub answers_done : (e1 : History) (answer : Answer) (start end n : ℕ) (m' : Hands) → HasRun e0 e1 i r answer start end → m' ≡ (served_at v n e1.entries ∷ [], (i + 1, Empty) ∷ rest m.1) → AnswersPick (view_of m'.0) i (Done answer start end)
-  answers_done e1 answer start end n m' h after =
-      let now : view_of m'.0 ≡ served_at v n e1.entries = ap (λ (x : Hands). view_of x.0) after in
-      let st : length v.seen ≡ start = sym (h.starts ∙ ap length entries_are) in
-      let co : length e1.entries - length v.seen ≡ end - start = λ j. sym h.ends j - st j in
-      subst (λ x. AnswersPick x i (Done answer start end)) (sym now) (record {
-        request = r;
-        since = p.since;
-        start = length v.seen;
-        count = length e1.entries - length v.seen;
-        pick = ap (λ q. with_places q (length v.seen) (length e1.entries - length v.seen)) p.pick;
-        is_told = run_here e1 answer start end h;
-        same_places = λ j. places (st j) (co j);
+  reason_is : (why : Refused) → FullOnly why (IsAtLimit e0 i r) → MemoryOnly why (HasPlace e0) → HasEntry e0 i r → IsReason v.seats v.seen i r (reason_of why)
+  reason_is Memory full place some = (v.seen, starts_all v.seen, subst HasPlace p.stands place, subst (λ z. HasEntry z i r) p.stands some)
+  reason_is Full full place some = (v.seen, starts_all v.seen, subst (λ z. IsAtLimit z i r) p.stands full, subst (λ z. HasEntry z i r) p.stands some)
+
+  -- what came of it, and what is then published
+  pub runs_as : (e1 : History) (ran : Result HasRan Refused) (o : Outcome) → MatchResult ran (λ x. o ≡ Done x.answer x.from x.to) (λ why. o ≡ Back r (reason_of why)) → IfOk ran (λ x. HasRun e0 e1 i r x.answer x.from x.to)
+      → OnErr ran (e1 ≡ e0) → IfErr ran (λ why. FullOnly why (IsAtLimit e0 i r)) → IfErr ran (λ why. MemoryOnly why (HasPlace e0)) → IfErr ran (λ _. HasEntry e0 i r) → RunsAs v.seats i r o v.seen e1.entries
+  runs_as e1 (Ok x) o is h same full place some =
+      let now : e1 ≡ history v.seats e1.entries = λ j. history ((h.seats ∙ ap (λ (e : History). e.seats) p.stands) j) e1.entries in
+      subst (λ z. RunsAs v.seats i r z v.seen e1.entries) (sym is) (subst (λ (z : History × History). HasRun z.0 z.1 i r x.answer x.from x.to) (λ j. (p.stands j, now j)) h)
+  runs_as e1 (Err why) o is h same full place some =
+      subst (λ z. RunsAs v.seats i r z v.seen e1.entries) (sym is) (refl, ap (λ (e : History). e.entries) same ∙ entries_are, reason_is why full place some)
+
+  -- once it is published, the outcome answers what was picked
+  pub answers_ran : (e1 : History) (ran : Result HasRan Refused) (o : Outcome) (n : ℕ) (m' : Hands) → MatchResult ran (λ x. o ≡ Done x.answer x.from x.to) (λ why. o ≡ Back r (reason_of why)) → IfOk ran (λ x. HasRun e0 e1 i r x.answer x.from x.to)
+      → OnErr ran (e1 ≡ e0) → IfErr ran (λ why. FullOnly why (IsAtLimit e0 i r)) → IfErr ran (λ why. MemoryOnly why (HasPlace e0)) → IfErr ran (λ _. HasEntry e0 i r) → m' ≡ (served_at v n e1.entries ∷ [], (i + 1, Empty) ∷ rest m.1) → AnswersPick (view_of m'.0) i o
+  answers_ran e1 ran o n m' is h same full place some after =
+      subst (λ x. AnswersPick x i o) (sym (ap (λ (x : Hands). view_of x.0) after)) (subst (AnswersPick (served_at v n e1.entries) i) refl (go ran is h same full place some))
+    where
+      go : (ran : Result HasRan Refused) → MatchResult ran (λ x. o ≡ Done x.answer x.from x.to) (λ why. o ≡ Back r (reason_of why)) → IfOk ran (λ x. HasRun e0 e1 i r x.answer x.from x.to)
+          → OnErr ran (e1 ≡ e0) → IfErr ran (λ why. FullOnly why (IsAtLimit e0 i r)) → IfErr ran (λ why. MemoryOnly why (HasPlace e0)) → IfErr ran (λ _. HasEntry e0 i r) → AnswersPick (served_at v n e1.entries) i o
+      go (Ok x) is h same full place some =
+          let st : length v.seen ≡ x.from = sym (h.starts ∙ ap length entries_are) in
+          let co : length e1.entries - length v.seen ≡ x.to - x.from = λ j. sym h.ends j - st j in
+          subst (AnswersPick (served_at v n e1.entries) i) (sym is) (record {
+            request = r;
+            since = p.since;
+            start = length v.seen;
+            count = length e1.entries - length v.seen;
+            pick = ap (λ q. with_places q (length v.seen) (length e1.entries - length v.seen)) p.pick;
+            is_told = run_here e1 x.answer x.from x.to h;
+            same_places = λ j. places (st j) (co j);
+          })
+      go (Err why) is h same full place some =
+          let entries : e1.entries ≡ v.seen = ap (λ (e : History). e.entries) same ∙ entries_are in
+          let none_more : length e1.entries - length v.seen ≡ 0 = let a = ap (length {A = Entry}) entries in omega arith in
+          subst (AnswersPick (served_at v n e1.entries) i) (sym is) (record {
+            request = r;
+            since = p.since;
+            start = length v.seen;
+            count = length e1.entries - length v.seen;
+            pick = ap (λ q. with_places q (length v.seen) (length e1.entries - length v.seen)) p.pick;
+            is_told = (refl, subst (λ l. IsReason v.seats l i r (reason_of why)) (sym entries) (reason_is why full place some));
+            same_places = ap (places (length v.seen)) none_more;
+          })
+
+  -- the whole of it, once answered
+  pub ran_picked : (e1 : History) (o : Outcome) (n : ℕ) (m' m'' : Hands) → RunsAs v.seats i r o v.seen e1.entries → m' ≡ (served_at v n e1.entries ∷ [], (i + 1, Empty) ∷ rest m.1) → m'' ≡ (answered_at (view_of m'.0) 2 o ∷ [], rest m'.1) → RanPicked m i r m''
+  ran_picked e1 o n m' m'' runs after last =
+      let pick : with_places v.pick (length v.seen) (length e1.entries - length v.seen) ≡ Picked i r p.since (length v.seen) (length e1.entries - length v.seen) = ap (λ q. with_places q (length v.seen) (length e1.entries - length v.seen)) p.pick in
+      subst (RanPicked m i r) (sym (last ∙ ap (λ (x : Hands). (answered_at (view_of x.0) 2 o ∷ [], rest x.1)) after)) (record {
+        outcome = o;
+        runs = runs;
+        answers = ap (λ (q : Pick). v.answers ++ letter_to (served_at v n e1.entries) q o) pick;
+        answer_step = refl;
+        publishes = refl;
+        picks = refl;
+        only = record { seats = refl; who = refl; own = refl; handover = refl; takes = refl; puts = refl; looks = refl; posts = refl; withdraws = refl; collects = refl; opens = refl; shuts = refl };
+        slots = refl;
       })
-
-  reason_is : (why : Refused) → FullOnly why (IsAtLimit e0 i r) → IsReason v.seats v.seen i r (reason_of why)
-  reason_is Memory full = tt
-  reason_is Full full = (v.seen, starts_all v.seen, subst (λ z. IsAtLimit z i r) p.stands full)
-
-  pub answers_back : (why : Refused) → FullOnly why (IsAtLimit e0 i r) → AnswersPick v i (Back r (reason_of why))
-  answers_back why full = record { request = r; since = p.since; start = 0; count = 0; pick = p.pick; is_told = (refl, reason_is why full); same_places = refl }
 
 ticks_more : (ts : List Tally) (k : ℕ) (xs : List ℕ) (x : ℕ) → ticks ts k (xs ++ x ∷ []) ≡ slice_set (ticks ts k xs) (k + length xs) (tick (tally_at (ticks ts k xs) (k + length xs)) x)
 ticks_more ts k [] x = let e : k ≡ k + 0 = omega arith in ap (λ (n : ℕ). slice_set ts n (tick (tally_at ts n) x)) e
@@ -130,9 +184,6 @@ one_of : (b : Bool) (x n : ℕ) → MatchBool b (x ≡ 1) (x ≢ 1) → MatchBoo
 one_of true x n hit is = is ∙ sym (ap (λ c. cond c 1 0) (eq-eqb x 1 hit))
 one_of false x n hit is = is ∙ sym (ap (λ c. cond c 1 0) (ne_eqb x 1 hit))
 
-same_only : (v : View) → OnlyServes v v
-same_only v = record { seats = refl; who = refl; own = refl; handover = refl; takes = refl; puts = refl; looks = refl; posts = refl; withdraws = refl; collects = refl }
-
 then_only : (u v w : View) → OnlyServes u v → OnlyServes v w → OnlyServes u w
 then_only u v w a b = record {
   seats = b.seats ∙ a.seats;
@@ -145,27 +196,31 @@ then_only u v w a b = record {
   posts = b.posts ∙ a.posts;
   withdraws = b.withdraws ∙ a.withdraws;
   collects = b.collects ∙ a.collects;
+  opens = b.opens ∙ a.opens;
+  shuts = b.shuts ∙ a.shuts;
 }
 
-answers_more : (seats k : ℕ) (xs : List ℕ) (x : ℕ) (ls l : List Letter) (a b c : List Entry) → AnswersAll seats k xs ls a b → AnswersOne seats (k + length xs) (x == 1) l b c → AnswersAll seats k (xs ++ x ∷ []) (ls ++ l) a c
-answers_more seats k [] x ls l a b c h one =
+answers_more : (seats k : ℕ) (xs : List ℕ) (x p : ℕ) (ls l : List Letter) (a b c : List Entry) → AnswersAll seats k xs p ls a b → AnswersOne seats (k + length xs) (x == 1) (p + length ls) l b c → AnswersAll seats k (xs ++ x ∷ []) p (ls ++ l) a c
+answers_more seats k [] x p ls l a b c h one =
     let e : k + 0 ≡ k = omega arith in
-    (l, [], c, ap (λ z. z ++ l) h.0 ∙ sym (append-nil l), subst (λ (z : ℕ × List Entry). AnswersOne seats z.0 (x == 1) l z.1 c) (λ i. (e i, h.1 i)) one, (refl, refl))
-answers_more seats k (y ∷ ys) x ls l a b c h one =
+    let q : p + length ls ≡ p = let n = ap (length {A = Letter}) h.0 in omega arith in
+    (l, [], c, ap (λ z. z ++ l) h.0 ∙ sym (append-nil l), subst (λ (z : (ℕ × ℕ) × List Entry). AnswersOne seats z.0.0 (x == 1) z.0.1 l z.1 c) (λ i. ((e i, q i), h.1 i)) one, (refl, refl))
+answers_more seats k (y ∷ ys) x p ls l a b c h one =
     let e : k + suc (length ys) ≡ k + 1 + length ys = omega arith in
-    (h.0, h.1 ++ l, h.2, ap (λ z. z ++ l) h.3 ∙ append_assoc h.0 h.1 l, h.4, answers_more seats (k + 1) ys x h.1 l h.2 b c h.5 (subst (λ (z : ℕ). AnswersOne seats z (x == 1) l b c) e one))
+    let q : p + length ls ≡ p + length h.0 + length h.1 = let n = ap (length {A = Letter}) h.3 in let m = length-append h.0 h.1 in omega arith in
+    (h.0, h.1 ++ l, h.2, ap (λ z. z ++ l) h.3 ∙ append_assoc h.0 h.1 l, h.4, answers_more seats (k + 1) ys x (p + length h.0) h.1 l h.2 b c h.5 (subst (λ (z : ℕ × ℕ). AnswersOne seats z.0 (x == 1) z.1 l b c) (λ i. (e i, q i)) one))
 
-done_more : (ls l : List Letter) → done_among (ls ++ l) ≡ done_among ls + done_among l
-done_more [] l = omega arith
-done_more (x ∷ xs) l = let h = done_more xs l in omega arith
+letter_ticks_more : (t : Tally) (ls l : List Letter) → letter_ticks t (ls ++ l) ≡ letter_ticks (letter_ticks t ls) l
+letter_ticks_more t [] l = refl
+letter_ticks_more t (x ∷ xs) l = letter_ticks_more (tick t 2) xs l
 
 hit_is : (b : Bool) (x : ℕ) → MatchBool b (x ≡ 1) (x ≢ 1) → b ≡ (x == 1)
 hit_is true x hit = sym (eq-eqb x 1 hit)
 hit_is false x hit = sym (ne_eqb x 1 hit)
 
-grows : (seats i : ℕ) (done : Bool) (letters : List Letter) (seen now : List Entry) → AnswersOne seats i done letters seen now → StartsWith now seen
-grows seats i false letters seen now h = subst (λ l. StartsWith l seen) (sym h.1) (starts_all seen)
-grows seats i true letters seen now h = go h.1 h.3
+grows : (seats i : ℕ) (done : Bool) (p : ℕ) (letters : List Letter) (seen now : List Entry) → AnswersOne seats i done p letters seen now → StartsWith now seen
+grows seats i false p letters seen now h = subst (λ l. StartsWith l seen) (sym h.1) (starts_all seen)
+grows seats i true p letters seen now h = go h.1 h.3
   where
     go : (o : Outcome) → RunsAs seats i h.0 o seen now → StartsWith now seen
     go (Done answer start end) r = (r.run, r.grown)
@@ -175,9 +230,9 @@ grows seats i true letters seen now h = go h.1 h.3
 starts_later : (seen more entries : List Entry) → StartsWith more seen → StartsWith entries more → StartsWith entries seen
 starts_later seen more entries h g = (h.0 ++ g.0, g.1 ∙ (ap (λ l. l ++ g.0) h.1 ∙ append_assoc seen h.0 g.0))
 
-all_grow : (seats k : ℕ) (xs : List ℕ) (ls : List Letter) (seen now : List Entry) → AnswersAll seats k xs ls seen now → StartsWith now seen
-all_grow seats k [] ls seen now h = subst (λ l. StartsWith l seen) (sym h.1) (starts_all seen)
-all_grow seats k (x ∷ xs) ls seen now h = starts_later seen h.2 now (grows seats k (x == 1) h.0 seen h.2 h.4) (all_grow seats (k + 1) xs h.1 h.2 now h.5)
+all_grow : (seats k : ℕ) (xs : List ℕ) (p : ℕ) (ls : List Letter) (seen now : List Entry) → AnswersAll seats k xs p ls seen now → StartsWith now seen
+all_grow seats k [] p ls seen now h = subst (λ l. StartsWith l seen) (sym h.1) (starts_all seen)
+all_grow seats k (x ∷ xs) p ls seen now h = starts_later seen h.2 now (grows seats k (x == 1) p h.0 seen h.2 h.4) (all_grow seats (k + 1) xs (p + length h.0) h.1 h.2 now h.5)
 
 pub served_none : (m : Hands) → ServedAll (view_of m.0) (rest m.1) 0 m 0
 served_none m = record {
@@ -188,6 +243,7 @@ served_none m = record {
   letters = [];
   answers = sym (append-nil (view_of m.0).answers);
   answered = (refl, refl);
+  answer_steps = refl;
   publishes = omega arith;
   only = same_only (view_of m.0);
   slots = refl;
@@ -196,8 +252,8 @@ served_none m = record {
 pub served_more : (v : View) (xs : List (ℕ × Slot)) (k : ℕ) (m m' : Hands) (d n : ℕ) (b : Bool) → ServedAll v xs k m d → ServedOne (view_of m.0) (rest m.1) k m' b → MatchBool b (n ≡ 1) (n ≡ 0) → ServedAll v xs (k + 1) m' (d + n)
 served_more v xs k m m' d n b a s is =
     let at : 0 + length a.found ≡ k = omega (arith, a.all) in
-    let one : AnswersOne v.seats (0 + length a.found) (s.word == 1) s.letters (view_of m.0).seen (view_of m'.0).seen =
-    subst (λ (z : (ℕ × ℕ) × Bool). AnswersOne z.0.0 z.0.1 z.1 s.letters (view_of m.0).seen (view_of m'.0).seen) (λ i. ((a.only.seats i, sym at i), hit_is b s.word s.hit i)) s.answered in
+    let one : AnswersOne v.seats (0 + length a.found) (s.word == 1) (v.publishes.count + length a.letters) s.letters (view_of m.0).seen (view_of m'.0).seen =
+    subst (λ (z : (ℕ × ℕ) × (Bool × ℕ)). AnswersOne z.0.0 z.0.1 z.1.0 z.1.1 s.letters (view_of m.0).seen (view_of m'.0).seen) (λ i. ((a.only.seats i, sym at i), (hit_is b s.word s.hit i, a.publishes i))) s.answered in
     record {
       found = a.found ++ s.word ∷ [];
       all = let e = length-append a.found (s.word ∷ []) in let f = a.all in omega arith;
@@ -205,8 +261,9 @@ served_more v xs k m m' d n b a s is =
       picked = (λ i. a.picked i + one_of b s.word n s.hit is i) ∙ sym (ones_more a.found s.word);
       letters = a.letters ++ s.letters;
       answers = s.answers ∙ (ap (λ l. l ++ s.letters) a.answers ∙ append_assoc v.answers a.letters s.letters);
-      answered = answers_more v.seats 0 a.found s.word a.letters s.letters v.seen (view_of m.0).seen (view_of m'.0).seen a.answered one;
-      publishes = let e = a.publishes in let f = s.publishes in let g = done_more a.letters s.letters in omega arith;
+      answered = answers_more v.seats 0 a.found s.word v.publishes.count a.letters s.letters v.seen (view_of m.0).seen (view_of m'.0).seen a.answered one;
+      answer_steps = s.answer_steps ∙ (ap (λ (z : Tally). letter_ticks z s.letters) a.answer_steps ∙ sym (letter_ticks_more v.answered a.letters s.letters));
+      publishes = let e = a.publishes in let f = s.publishes in let g = length-append a.letters s.letters in omega arith;
       only = then_only v (view_of m.0) (view_of m'.0) a.only s.only;
       slots = s.slots ∙ a.slots;
     }
@@ -227,7 +284,7 @@ all_serves seats v xs m m' m'' e d word t a p =
     let is : view_of m.0 ≡ took_at v t.word t.entries = ap view_of t.view in
     let now : view_of m''.0 ≡ put_at (view_of m'.0) word = ap (λ (x : Hands). view_of x.0) p in
     let began : StartsWith (view_of m.0).seen v.seen = subst (λ l. StartsWith l v.seen) (sym (ap (λ (x : View). x.seen) is)) t.begins in
-    let grown = all_grow (view_of m.0).seats 0 a.found a.letters (view_of m.0).seen (view_of m'.0).seen a.answered in
+    let grown = all_grow (view_of m.0).seats 0 a.found (view_of m.0).publishes.count a.letters (view_of m.0).seen (view_of m'.0).seen a.answered in
     let o = a.only in
     let seats_is : (view_of m.0).seats ≡ v.seats = ap (λ (x : View). x.seats) is in
     subst (λ w. Serves seats v w (Ran d)) (sym now) (record {
@@ -235,6 +292,7 @@ all_serves seats v xs m m' m'' e d word t a p =
       one_take = ap (λ (x : Tally). x.count) o.takes ∙ ap (λ (x : View). x.takes.count) is;
       no_look = o.looks ∙ ap (λ (x : View). x.looks) is;
       no_mail = (o.posts ∙ ap (λ (x : View). x.posts) is, o.withdraws ∙ ap (λ (x : View). x.withdraws) is, o.collects ∙ ap (λ (x : View). x.collects) is);
+      no_door = (o.opens ∙ ap (λ (x : View). x.opens) is, o.shuts ∙ ap (λ (x : View). x.shuts) is);
       begins = starts_later v.seen (view_of m.0).seen (view_of m'.0).seen began grown;
       own = o.own ∙ ap (λ (x : View). x.own) is;
       handover = o.handover ∙ ap (λ (x : View). x.handover) is;
@@ -248,8 +306,9 @@ all_serves seats v xs m m' m'' e d word t a p =
         answers = a.answers ∙ ap (λ (x : View). x.answers ++ a.letters) is;
         before = (view_of m.0).seen;
         begins = began;
-        answered = subst (λ z. AnswersAll z 0 a.found a.letters (view_of m.0).seen (view_of m'.0).seen) seats_is a.answered;
-        publishes = a.publishes ∙ ap (λ (x : View). x.publishes.count + done_among a.letters) is;
+        answered = subst (λ (z : ℕ × ℕ). AnswersAll z.0 0 a.found z.1 a.letters (view_of m.0).seen (view_of m'.0).seen) (λ i. (seats_is i, (is i).publishes.count)) a.answered;
+        answer_steps = a.answer_steps ∙ ap (λ (x : View). letter_ticks x.answered a.letters) is;
+        publishes = a.publishes ∙ ap (λ (x : View). x.publishes.count + length a.letters) is;
         puts = ap (λ (x : Tally). x.count + 1) o.puts ∙ ap (λ (x : View). x.puts.count + 1) is;
       };
     })

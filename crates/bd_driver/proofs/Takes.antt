@@ -57,7 +57,7 @@ module _ (seats slots id : ℕ) (me : Hands) (one : me.0 ≡ view_of me.0 ∷ []
             (w, set_here s.views id (w ∷ []) (inside s.views id me.0 at), on, subst (PickedAs k.mailboxes) (sym (mine.idle idle)) (subst (HasTaker s.views k.mailboxes) free k.has_taker))
             (review seats k.entries k.carrier k.carrier k.taken_by (some id) k.mailboxes id id v w mine (refl, refl, refl, refl) mine.held (starts_all k.entries) (λ t. (refl, refl)) mine.picks (λ off. absurd (true_off w.taker off on)))
             (λ j u _ f. reseat seats k.entries k.carrier k.carrier k.taken_by (some id) k.mailboxes j j u f f.held (λ t. absurd (some-ne-none j (sym ((f.takes t).0) ∙ free)))),
-        (k.entries, mine.begins, subst (λ z. IsPage z n k.entries) (sym mine.seats_are) (found_page seats s k), refl, (λ _. ap (λ z. (0, Home (history z k.entries)) ∷ me.1) (sym mine.seats_are)), (λ h. absurd (omega arith)), subst (λ z. v.who < z) (sym mine.seats_are) mine.below),
+        ((refl, refl, refl), k.entries, mine.begins, subst (λ z. IsPage z n k.entries) (sym mine.seats_are) (found_page seats s k), refl, (λ _. ap (λ z. (0, Home (history z k.entries)) ∷ me.1) (sym mine.seats_are)), (λ h. absurd (omega arith)), subst (λ z. v.who < z) (sym mine.seats_are) mine.below),
       )
 
   takes_taken : (s : State Slot (List View)) (k : Kept seats s) → get_elem? s.views id ≡ some me.0 → v.taker ≡ false → (t : ℕ) → k.taken_by ≡ some t → Granted seats id me s 0 (λ n. bit_or n 1) (took (step slots 0 1 0 none) me)
@@ -75,7 +75,7 @@ module _ (seats slots id : ℕ) (me : Hands) (one : me.0 ≡ view_of me.0 ∷ []
             (keeps_taker s.views id v w k.mailboxes k.mailboxes k.taken_by (at ∙ ap some one) (λ on. absurd (true_off v.taker idle on)) refl (λ p h. h) k.has_taker)
             (review seats k.entries k.carrier k.carrier k.taken_by k.taken_by k.mailboxes id id v w mine (refl, refl, refl, refl) mine.held (starts_all k.entries) (λ on. absurd (true_off w.taker off on)) mine.picks (λ _. mine.idle idle))
             (λ j u _ f. f),
-        (k.entries, mine.begins, subst (λ z. IsPage z n k.entries) (sym mine.seats_are) (found_page seats s k), refl, (λ h. absurd (omega arith)), (λ _. refl), subst (λ z. v.who < z) (sym mine.seats_are) mine.below),
+        ((refl, refl, refl), k.entries, mine.begins, subst (λ z. IsPage z n k.entries) (sym mine.seats_are) (found_page seats s k), refl, (λ h. absurd (omega arith)), (λ _. refl), subst (λ z. v.who < z) (sym mine.seats_are) mine.below),
       )
 
   pub takes_once : v.taker ≡ false → Allows (Kept seats) slots id me 0 (λ n. bit_or n 1) (took (step slots 0 1 0 none) me)
@@ -121,7 +121,7 @@ module _ (seats slots id : ℕ) (me : Hands) (one : me.0 ≡ view_of me.0 ∷ []
             })
             (λ j u apart f. relog seats k.entries k.carrier k.taken_by (some id) k.mailboxes j u v.who run entries more by (λ same. apart (sym f.held ∙ (ap k.carrier same ∙ mine.held))) f
             (λ t. absurd (apart (some-injective j id (sym (f.takes t).0 ∙ taken_by))))),
-        refl,
+        ((refl, page, refl), refl),
       )
 
   pub puts : v.taker ≡ true → v.pick ≡ Nothing → me.1 ≡ (0, Home (history v.seats v.seen)) ∷ rest me.1 → Allows (Kept seats) slots id me 0 (λ n. bit_and n 18446744073709551614) (put (step slots 0 18446744073709551614 0 none) me)
@@ -141,5 +141,5 @@ module _ (seats slots id : ℕ) (me : Hands) (one : me.0 ≡ view_of me.0 ∷ []
             (subst (PickedAs k.mailboxes) unpicked (taker_has s.views id v k.mailboxes (at ∙ ap some one) (subst (HasTaker s.views k.mailboxes) taken_by k.has_taker)))
             (review seats k.entries k.carrier k.carrier k.taken_by none k.mailboxes id id v w mine (refl, refl, refl, refl) mine.held mine.begins (λ t. absurd (true≢false (sym t))) mine.picks (λ _. unpicked))
             (λ j u apart f. reseat seats k.entries k.carrier k.carrier k.taken_by none k.mailboxes j j u f f.held (λ t. absurd (apart (some-injective j id (sym (f.takes t).0 ∙ taken_by))))),
-        refl,
+        ((refl, refl, refl), refl),
       )

@@ -3,22 +3,21 @@ use Rattle.std.proofs.Common.{◌≡◌, ℕ, ◌-◌, ◌≤◌, List, ◌++◌
 use Rattle.bd_space.specs.declared.step.Entry.{Entry}
 use Rattle.bd_space.specs.declared.step.Request.{Request}
 use Rattle.bd_space.specs.declared.step.Answer.{Answer}
-use Rattle.bd_space.specs.Histories.{History}
-use Rattle.bd_space.specs.Runs.{AllBy, HasRun, IsRun, IsAtLimit}
+use Rattle.bd_space.specs.Histories.{History, HasPlace}
+use Rattle.bd_space.specs.Runs.{AllBy, HasRun, IsRun, HasEntry, IsAtLimit}
 use Rattle.bd_driver.specs.Views.{StartsWith, history, places, view_of}
 use Rattle.std.specs.Prelude.{Result, Ok, Err, MatchResult, IfOk, IfErr, OnErr}
 use Rattle.bd_engine.specs.declared.run.Ran.{Ran}
 use Rattle.bd_engine.specs.declared.why.Why.{Why as Refused}
 use Rattle.bd_engine.specs.declared.why.Why.TheVariants.{NoMemory as Memory, HistoryFull as Full}
-use Rattle.bd_engine.specs.Refusals.{FullOnly}
+use Rattle.bd_engine.specs.Refusals.{FullOnly, MemoryOnly}
 use Rattle.bd_driver.specs.declared.view.View.{View}
-use Rattle.bd_driver.specs.declared.outcome.Why.{Why}
 use Rattle.bd_driver.specs.declared.outcome.Outcome.{Outcome}
 use Rattle.bd_driver.specs.declared.outcome.Outcome.TheVariants.{Done, Back}
 use Rattle.bd_driver.specs.declared.slot.Slot.{Slot}
 use Rattle.bd_driver.specs.Reasons.{reason_of}
 use Rattle.bd_driver.specs.Steps.{Hands, took_at, published_at, put_at}
-use Rattle.bd_driver.specs.Driver.{Takes, Gives, IsWhy, Calls}
+use Rattle.bd_driver.specs.Driver.{Takes, Gives, IsWhy, PageSteps, Calls}
 use Rattle.bd_driver.proofs.Views.{starts_longer}
 
 module _ (v : View) (number : ℕ) (me : number ≡ v.who) (m m' : Hands) (e0 e1 : History) (request : Request) (xs : List (ℕ × Slot)) (t : Takes v xs m (Some e0)) (g : Gives (view_of m.0) xs e1.entries m') where
@@ -47,7 +46,9 @@ module _ (v : View) (number : ℕ) (me : number ≡ v.who) (m m' : Hands) (e0 e1
         who = (refl, refl);
         one_take = refl;
         no_look = refl;
-        no_mail = (refl, refl, refl, refl, refl);
+        no_mail = (refl, refl, refl, refl, refl, refl);
+        no_door = (refl, refl);
+        page = (refl, refl);
         handover = refl;
         begins = subst (λ l. StartsWith l v.seen) (sym grown) (starts_longer t.entries run v.seen t.begins);
         outcome = record {
@@ -64,29 +65,36 @@ module _ (v : View) (number : ℕ) (me : number ≡ v.who) (m m' : Hands) (e0 e1
         };
       })
 
-  back_calls : (why : Why) → e1 ≡ e0 → IsWhy w request why → Calls v (view_of m'.0) request (Back request why)
+  page : (why : Refused) → PageSteps v w (Back request (reason_of why))
+  page Memory = (refl, refl)
+  page Full = (refl, refl)
+
+  back_calls : (why : Refused) → e1 ≡ e0 → IsWhy w request (reason_of why) → Calls v (view_of m'.0) request (Back request (reason_of why))
   back_calls why same is =
       let entries : e1.entries ≡ t.entries = ap (λ (e : History). e.entries) same ∙ entries_are in
       let none_more : length e1.entries - length t.entries ≡ 0 = let a = ap (length {A = Entry}) entries in omega arith in
-      subst (λ x. Calls v x request (Back request why)) (sym w_is) (record {
+      subst (λ x. Calls v x request (Back request (reason_of why))) (sym w_is) (record {
         who = (refl, refl);
         one_take = refl;
         no_look = refl;
-        no_mail = (refl, refl, refl, refl, refl);
+        no_mail = (refl, refl, refl, refl, refl, refl);
+        no_door = (refl, refl);
+        page = page why;
         handover = refl;
         begins = subst (λ l. StartsWith l v.seen) (sym entries) t.begins;
         outcome = (refl, ap (λ c. v.own ++ places (length t.entries) c) none_more ∙ append-nil v.own, is);
       })
 
-  is_why : (why : Refused) → e1 ≡ e0 → FullOnly why (IsAtLimit e0 number request) → IsWhy w request (reason_of why)
-  is_why Memory same full = t.engine.0
-  is_why Full same full = (t.engine.0, subst (λ (z : History × ℕ). IsAtLimit z.0 z.1 request) (λ i. (history_then i, me i)) full)
-    where
-      history_then : e0 ≡ history v.seats e1.entries
-      history_then = history_is ∙ ap (history v.seats) (sym entries_are ∙ ap (λ (e : History). e.entries) (sym same))
+  -- what holds of the engine's history before a run that was refused holds of what the seat has seen after
+  then_seen : (P : History → ℕ → Type 0) → e1 ≡ e0 → P e0 number → P (history v.seats e1.entries) v.who
+  then_seen P same = subst (λ (z : History × ℕ). P z.0 z.1) (λ i. ((history_is ∙ ap (history v.seats) (sym entries_are ∙ ap (λ (e : History). e.entries) (sym same))) i, me i))
+
+  is_why : (why : Refused) → e1 ≡ e0 → FullOnly why (IsAtLimit e0 number request) → MemoryOnly why (HasPlace e0) → HasEntry e0 number request → IsWhy w request (reason_of why)
+  is_why Memory same full place some = (t.engine.0, then_seen (λ h _. HasPlace h) same place, then_seen (λ h n. HasEntry h n request) same some)
+  is_why Full same full place some = (t.engine.0, then_seen (λ h n. IsAtLimit h n request) same full, then_seen (λ h n. HasEntry h n request) same some)
 
   -- a call that ran, or was refused
   pub call_ends : (ran : Result Ran Refused) (o : Outcome) → MatchResult ran (λ r. o ≡ Done r.answer r.from r.to) (λ why. o ≡ Back request (reason_of why)) → IfOk ran (λ r. HasRun e0 e1 number request r.answer r.from r.to)
-      → OnErr ran (e1 ≡ e0) → IfErr ran (λ why. FullOnly why (IsAtLimit e0 number request)) → Calls v (view_of m'.0) request o
-  call_ends (Ok r) o is run same full = subst (Calls v (view_of m'.0) request) (sym is) (done_calls r.answer r.from r.to run)
-  call_ends (Err why) o is run same full = subst (Calls v (view_of m'.0) request) (sym is) (back_calls (reason_of why) same (is_why why same full))
+      → OnErr ran (e1 ≡ e0) → IfErr ran (λ why. FullOnly why (IsAtLimit e0 number request)) → IfErr ran (λ why. MemoryOnly why (HasPlace e0)) → IfErr ran (λ _. HasEntry e0 number request) → Calls v (view_of m'.0) request o
+  call_ends (Ok r) o is run same full place some = subst (Calls v (view_of m'.0) request) (sym is) (done_calls r.answer r.from r.to run)
+  call_ends (Err why) o is run same full place some = subst (Calls v (view_of m'.0) request) (sym is) (back_calls why same (is_why why same full place some))

@@ -1,4 +1,4 @@
--- What the driver's calls say.
+-- What `call`, `look` and their parts do to the view of a seat.
 use Rattle.std.specs.Prelude.{◌≡◌, ℕ, ◌+◌, ◌/◌, ◌%◌, ◌<◌, ◌≤◌, ◌==◌, List, [], ◌∷◌, ◌++◌, length, Option, MatchOption}
 use Rattle.bd_space.specs.declared.step.Entry.{Entry}
 use Rattle.bd_space.specs.declared.step.Request.{Request}
@@ -16,7 +16,7 @@ use Rattle.bd_driver.specs.declared.outcome.Why.{Why}
 use Rattle.bd_driver.specs.declared.outcome.Why.TheVariants.{Taken, NoMemory, HistoryFull, Withdrawn}
 use Rattle.bd_driver.specs.Steps.{Hands, looked_at, took_at, published_at, put_at}
 
--- one look was made
+-- one load of the page was made
 pub record LooksOnce (v w : View) (page : Page) : Type 0 where
   -- nothing else of the view changes
   pub only : w ≡ looked_at v w.looks.found w.seen
@@ -24,7 +24,7 @@ pub record LooksOnce (v w : View) (page : Page) : Type 0 where
   pub is_found : (page.stamp ≡ w.looks.found / 4294967296) × (page.ready ≡ w.looks.found / 2 % 2147483648) × (page.taken ≡ (w.looks.found % 2 == 1))
   pub is_page : (page.stamp ≡ length w.seen) × (page.ready ≡ ready_of v.seats w.seen)
 
--- one take was made; where it found bit 0 clear the engine is the seat's
+-- a take, and the engine where it found bit 0 clear
 pub record Takes (v : View) (xs : List (ℕ × Slot)) (m : Hands) (got : Option History) : Type 0 where
   pub word : ℕ
   pub entries : List Entry
@@ -32,18 +32,18 @@ pub record Takes (v : View) (xs : List (ℕ × Slot)) (m : Hands) (got : Option 
   pub view : m.0 ≡ took_at v word entries ∷ []
   pub engine : MatchOption got ((word % 2 ≡ 1) × (m.1 ≡ xs)) (λ e. (word % 2 ≡ 0) × (e ≡ history v.seats entries) × (m.1 ≡ (0, Empty) ∷ xs) × (v.who < v.seats))
 
--- the engine's history begins with what the seat has seen, and the rest is the seat's
+-- the engine has run entries of this seat alone after what the seat has seen
 pub record Follows (v : View) (engine : History) : Type 0 where
   pub seats : engine.seats ≡ v.seats
   pub run : List Entry
   pub grown : engine.entries ≡ v.seen ++ run
   pub by_seat : AllBy v.who run
 
--- a publish and a put were made
+-- a publish, and then a put
 abbrev pub Gives : View → List (ℕ × Slot) → List Entry → Hands → Type 0
 Gives v xs entries m = (first : ℕ) × (second : ℕ) × (m.0 ≡ put_at (published_at v first entries) second ∷ []) × (m.1 ≡ xs)
 
--- the answered request stands in the history that the seat has seen, from one table_seat up to its end, as its run and the seat's own
+-- the request was run: what the seat now has seen ends with the run, and the places of the run are own places from now on
 pub record Stands (v w : View) (request : Request) (answer : Answer) (start end : ℕ) : Type 0 where
   pub was_free : w.takes.found % 2 ≡ 0
   pub before : List Entry
@@ -56,25 +56,37 @@ pub record Stands (v w : View) (request : Request) (answer : Answer) (start end 
   pub is_run : IsRun (history v.seats before) v.who request run answer
   pub own : w.own ≡ v.own ++ places start (length run)
 
--- why it comes back
+-- for what reason it comes back: memory is wanting only where the history has a place left, the history full only at its limit, and
+-- neither where the request has no entry
 abbrev pub IsWhy : View → Request → Why → Type 0
 IsWhy w request Taken = w.takes.found % 2 ≡ 1
 IsWhy w request NoMemory = (w.takes.found % 2 ≡ 0) × HasPlace (history w.seats w.seen) × HasEntry (history w.seats w.seen) w.who request
 IsWhy w request Withdrawn = ⊥
 IsWhy w request HistoryFull = (w.takes.found % 2 ≡ 0) × IsAtLimit (history w.seats w.seen) w.who request × HasEntry (history w.seats w.seen) w.who request
 
--- the request was answered, or comes back equal and stands nowhere
+-- it was run, or comes back equal and no own place is new
 abbrev pub IsOutcome : View → View → Request → Outcome → Type 0
 IsOutcome v w request (Done answer start end) = Stands v w request answer start end
 IsOutcome v w request Handed = ⊥
 IsOutcome v w request (Back back why) = (back ≡ request) × (w.own ≡ v.own) × IsWhy w request why
 
--- one call was made
+-- a publish and a put follow a take that finds the engine, and no other
+abbrev pub PageSteps : View → View → Outcome → Type 0
+PageSteps v w (Back request Taken) = (w.publishes ≡ v.publishes) × (w.puts ≡ v.puts)
+PageSteps v w (Back request NoMemory) = (w.publishes.count ≡ v.publishes.count + 1) × (w.puts.count ≡ v.puts.count + 1)
+PageSteps v w (Back request HistoryFull) = (w.publishes.count ≡ v.publishes.count + 1) × (w.puts.count ≡ v.puts.count + 1)
+PageSteps v w (Back request Withdrawn) = ⊥
+PageSteps v w (Done answer start end) = (w.publishes.count ≡ v.publishes.count + 1) × (w.puts.count ≡ v.puts.count + 1)
+PageSteps v w Handed = ⊥
+
+-- a call, by the steps that it made and by what came of the request
 pub record Calls (v w : View) (request : Request) (answer : Outcome) : Type 0 where
   pub who : (w.seats ≡ v.seats) × (w.who ≡ v.who)
   pub one_take : w.takes.count ≡ v.takes.count + 1
   pub no_look : w.looks ≡ v.looks
-  pub no_mail : (w.posts ≡ v.posts) × (w.withdraws ≡ v.withdraws) × (w.collects ≡ v.collects) × (w.picks ≡ v.picks) × (w.answers ≡ v.answers)
+  pub no_mail : (w.posts ≡ v.posts) × (w.withdraws ≡ v.withdraws) × (w.collects ≡ v.collects) × (w.picks ≡ v.picks) × (w.answers ≡ v.answers) × (w.answered ≡ v.answered)
+  pub no_door : (w.opens ≡ v.opens) × (w.shuts ≡ v.shuts)
+  pub page : PageSteps v w answer
   pub handover : w.handover ≡ v.handover
   pub begins : StartsWith w.seen v.seen
   pub outcome : IsOutcome v w request answer

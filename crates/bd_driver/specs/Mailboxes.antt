@@ -19,7 +19,8 @@ use Rattle.bd_driver.specs.declared.outcome.Outcome.TheVariants.{Done, Back, Han
 use Rattle.bd_driver.specs.declared.slot.Slot.{Slot}
 use Rattle.bd_driver.specs.declared.slot.Slot.TheVariants.{Posted, Answered, Empty}
 
--- a mailbox: not yet opened, empty, posted with the length seen, picked with the places published, or answered
+-- What a mailbox is to the rule. Posted and after, it has the request and how long the history was that its poster had seen; once
+-- picked, where its published entries start and how many there are.
 pub data Mailbox : Type 0 where
   shut : Mailbox
   empty : Mailbox
@@ -48,7 +49,7 @@ answer_places (Done answer start end) = places start (end - start)
 answer_places (Back r why) = []
 answer_places Handed = []
 
--- the places of a run that is under way or uncollected
+-- published places that are not yet the poster's own
 abbrev pub pending : Mailbox → List ℕ
 pending shut = []
 pending empty = []
@@ -56,7 +57,7 @@ pending (posted r n) = []
 pending (picked r n start count) = places start count
 pending (answered r n o) = answer_places o
 
--- how long the history was that a posted request's seat had seen
+-- what a post says that its seat had seen, by length
 abbrev pub since_of : Mailbox → ℕ
 since_of shut = 0
 since_of empty = 0
@@ -64,7 +65,7 @@ since_of (posted r n) = n
 since_of (picked r n start count) = 0
 since_of (answered r n o) = 0
 
--- the entries from start up to end are the run of the request by this seat, and begin not below n
+-- from start up to end stands this seat's run of the request, and start isn't below n
 pub record RunAt (seats : ℕ) (entries : List Entry) (who : ℕ) (r : Request) (n : ℕ) (answer : Answer) (start end : ℕ) : Type 0 where
   pub before : List Entry
   pub run : List Entry
@@ -76,7 +77,8 @@ pub record RunAt (seats : ℕ) (entries : List Entry) (who : ℕ) (r : Request) 
   pub by_seat : AllBy who run
   pub is_run : IsRun (history seats before) who r run answer
 
--- why a handed-over request comes back
+-- For what reason a posted request may come back. Both are said of a beginning of the entries after which the request's run would
+-- have an entry: memory is wanting only where one more has a place there, and the history full only at its limit.
 abbrev pub IsReason : ℕ → List Entry → ℕ → Request → Why → Type 0
 IsReason seats entries who r Taken = ⊥
 IsReason seats entries who r NoMemory = (before : List Entry) × StartsWith entries before × HasPlace (history seats before) × HasEntry (history seats before) who r
@@ -88,7 +90,7 @@ IsTold seats entries who r n (Done answer start end) = RunAt seats entries who r
 IsTold seats entries who r n (Back back why) = (back ≡ r) × IsReason seats entries who r why
 IsTold seats entries who r n Handed = ⊥
 
--- what the mailbox says of its seat
+-- how a mailbox ties what its seat has handed over to the entries
 abbrev pub MailboxFits : ℕ → List Entry → ℕ → Handover → Mailbox → Type 0
 MailboxFits seats entries who h shut = h ≡ Shut
 MailboxFits seats entries who h empty = h ≡ Open
@@ -96,11 +98,11 @@ MailboxFits seats entries who h (posted r n) = (h ≡ Waiting r n) × (n ≤ len
 MailboxFits seats entries who h (picked r n start count) = (h ≡ Waiting r n) × (n ≤ length entries) × ((count ≡ 0) ⊎ ((answer : Answer) × RunAt seats entries who r n answer start (start + count)))
 MailboxFits seats entries who h (answered r n o) = (h ≡ Waiting r n) × IsTold seats entries who r n o
 
--- what is picked is in its mailbox's state
+-- the mailbox that a view names as picked is in this state
 abbrev pub PickFits : List Mailbox → Pick → Type 0
 PickFits mailboxes Nothing = Unit {0}
 PickFits mailboxes (Picked seat r since start count) = get_elem? mailboxes seat ≡ some (picked r since start count)
 
--- whatever mailbox is picked, this is what was picked there
+-- no mailbox is picked but what this names
 abbrev pub PickedAs : List Mailbox → Pick → Type 0
 PickedAs mailboxes p = (i : ℕ) (r : Request) (since start count : ℕ) → get_elem? mailboxes i ≡ some (picked r since start count) → p ≡ Picked i r since start count

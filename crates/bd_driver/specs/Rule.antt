@@ -1,4 +1,4 @@
--- The rule of the driver's table: word 0 is the page, and slot 0 the engine's.
+-- What holds of the driver's table between any two steps. The page is word 0, and the engine's slot is slot 0.
 use Rattle.std.specs.Prelude.{◌≡◌, ℕ, ◌<◌, ◌≤◌, true, false, List, [], ◌∷◌, ◌++◌, map, length}
 use mathlib.Core.Option.{Option, none, some}
 use lib.ListN.{get_elem?}
@@ -16,18 +16,17 @@ abbrev pub bit_of : Option ℕ → ℕ
 bit_of none = 0
 bit_of (some t) = 1
 
--- the engine is home with this history, or a seat of the table has it
+-- what lies in slot 0: the engine of this history, unless it is out
 abbrev pub home_of : ℕ → List Entry → Option ℕ → Option Slot
 home_of seats entries none = some (Home (history seats entries))
 home_of seats entries (some t) = none
 
--- the seat of the table that has the engine is a taker, and has what any picked mailbox was handed; where none has it, no
--- mailbox is picked
+-- whoever has the engine knows it, and knows of each mailbox that is picked; while nobody has it none is
 abbrev pub HasTaker : List (List View) → List Mailbox → Option ℕ → Type 0
 HasTaker views mailboxes none = PickedAs mailboxes Nothing
 HasTaker views mailboxes (some t) = (v : View) × (get_elem? views t ≡ some (v ∷ [])) × (v.taker ≡ true) × PickedAs mailboxes v.pick
 
--- what the rule says of one view that a seat of the table carries
+-- how one view, carried by the table's seat id, agrees with the rest
 pub record Fits (seats : ℕ) (entries : List Entry) (carrier : ℕ → ℕ) (taken_by : Option ℕ) (mailboxes : List Mailbox) (id : ℕ) (v : View) : Type 0 where
   pub seats_are : v.seats ≡ seats
   pub below : v.who < seats
@@ -41,7 +40,7 @@ pub record Fits (seats : ℕ) (entries : List Entry) (carrier : ℕ → ℕ) (ta
   pub picks : PickFits mailboxes v.pick
   pub idle : v.taker ≡ false → v.pick ≡ Nothing
 
--- there is one published history, and the page is its page
+-- the whole rule, round one published history
 pub record Kept (seats : ℕ) (s : State Slot (List View)) : Type 0 where
   pub entries : List Entry
   -- which seat of the table carries each seat's view

@@ -1,5 +1,5 @@
--- A seat that has the engine and serves.
-use Rattle.std.specs.Prelude.{◌≡◌, ◌≢◌, ℕ, ◌+◌, ◌≤◌, Bool, true, false, List, [], ◌∷◌, ◌++◌, length, slice_set, MatchBool, Option, MatchOption, ◌==◌, if◌then◌else◌}
+-- What the parts of `serve` do to the view and the hands of a seat.
+use Rattle.std.specs.Prelude.{◌≡◌, ◌≢◌, ◌⊎◌, ℕ, ◌+◌, ◌≤◌, Bool, true, false, List, [], ◌∷◌, ◌++◌, length, slice_set, MatchBool, Option, MatchOption, ◌==◌, if◌then◌else◌}
 use Rattle.bd_space.specs.declared.step.Entry.{Entry}
 use Rattle.bd_space.specs.declared.step.Request.{Request}
 use Rattle.bd_space.specs.declared.step.Answer.{Answer}
@@ -18,7 +18,7 @@ use Rattle.bd_driver.specs.declared.slot.Slot.TheVariants.{Empty}
 use Rattle.bd_driver.specs.Steps.{Hands, tally_at, tried_at, picked_at}
 use Rattle.atomic_table.specs.Table.{rest}
 
--- the engine is in the seat's hands, stands for what it has seen, and nothing picked is unanswered
+-- the seat is the taker between two mailboxes: its engine's history is what it has seen, and each pick has its answer
 pub record Serving (me : Hands) (engine : History) : Type 0 where
   pub one : me.0 ≡ view_of me.0 ∷ []
   pub on : (view_of me.0).taker ≡ true
@@ -26,29 +26,26 @@ pub record Serving (me : Hands) (engine : History) : Type 0 where
   pub held : me.1 ≡ (0, Empty) ∷ rest me.1
   pub stands : engine ≡ history (view_of me.0).seats (view_of me.0).seen
 
--- what a request's outcome says: it was run after what had been seen, as the entries of its poster, and just that run is then
--- seen beside; or it comes back, and nothing more is seen
+-- how a posted request fares: run by its poster's number after `seen`, which grows by that run to `now`; or given back equal, with
+-- its reason, and `now` is `seen`
 abbrev pub RunsAs : ℕ → ℕ → Request → Outcome → List Entry → List Entry → Type 0
 RunsAs seats i r (Done answer start end) seen now = HasRun (history seats seen) (history seats now) i r answer start end
 RunsAs seats i r (Back back why) seen now = (back ≡ r) × (now ≡ seen) × IsReason seats seen i r why
 RunsAs seats i r Handed seen now = ⊥
 
--- where a mailbox was found posted, what was in it was run and answered, once; else nothing was
-abbrev pub AnswersOne : ℕ → ℕ → Bool → List Letter → List Entry → List Entry → Type 0
-AnswersOne seats i false letters seen now = (letters ≡ []) × (now ≡ seen)
-AnswersOne seats i true letters seen now = (r : Request) × (o : Outcome) × (letters ≡ record { seat = i; request = r; outcome = o } ∷ []) × RunsAs seats i r o seen now
+-- One letter goes to a mailbox that was found posted, and none to another. It was put there after p + 1 publishes, and the history
+-- published by then had its run.
+abbrev pub AnswersOne : ℕ → ℕ → Bool → ℕ → List Letter → List Entry → List Entry → Type 0
+AnswersOne seats i false p letters seen now = (letters ≡ []) × (now ≡ seen)
+AnswersOne seats i true p letters seen now =
+    (r : Request) × (o : Outcome) × (letters ≡ record { seat = i; request = r; outcome = o; publishes = p + 1; stamp = length now } ∷ []) × RunsAs seats i r o seen now
 
--- how many of the answers stand for a run
-abbrev pub done_in : Outcome → ℕ
-done_in (Done answer start end) = 1
-done_in (Back r why) = 0
-done_in Handed = 0
+-- one step for each letter, and each of them found the word 2
+abbrev pub letter_ticks : Tally → List Letter → Tally
+letter_ticks t [] = t
+letter_ticks t (l ∷ ls) = letter_ticks (tick t 2) ls
 
-abbrev pub done_among : List Letter → ℕ
-done_among [] = 0
-done_among (l ∷ ls) = done_in l.outcome + done_among ls
-
--- serving changes nothing else of the view
+-- what serving leaves alone
 pub record OnlyServes (v w : View) : Type 0 where
   pub seats : w.seats ≡ v.seats
   pub who : w.who ≡ v.who
@@ -60,8 +57,10 @@ pub record OnlyServes (v w : View) : Type 0 where
   pub posts : w.posts ≡ v.posts
   pub withdraws : w.withdraws ≡ v.withdraws
   pub collects : w.collects ≡ v.collects
+  pub opens : w.opens ≡ v.opens
+  pub shuts : w.shuts ≡ v.shuts
 
--- the engine is in the seat's hands, stands for what it has seen, and this request was picked from this mailbox
+-- the seat is the taker, and has picked this request from mailbox i, of which nothing is published yet
 pub record IsPicked (me : Hands) (i : ℕ) (request : Request) (engine : History) : Type 0 where
   pub one : me.0 ≡ view_of me.0 ∷ []
   pub on : (view_of me.0).taker ≡ true
@@ -72,35 +71,38 @@ pub record IsPicked (me : Hands) (i : ℕ) (request : Request) (engine : History
   pub below : rest me.1 ≡ (0, Empty) ∷ rest (rest me.1)
   pub stands : engine ≡ history (view_of me.0).seats (view_of me.0).seen
 
--- what was picked was run and answered
+-- the request that was picked has its letter, after one publish
 pub record RanPicked (m : Hands) (i : ℕ) (request : Request) (me : Hands) : Type 0 where
   pub outcome : Outcome
   pub runs : RunsAs (view_of m.0).seats i request outcome (view_of m.0).seen (view_of me.0).seen
-  pub answers : (view_of me.0).answers ≡ (view_of m.0).answers ++ record { seat = i; request = request; outcome = outcome } ∷ []
-  pub publishes : (view_of me.0).publishes.count ≡ (view_of m.0).publishes.count + done_in outcome
+  pub answers : (view_of me.0).answers
+      ≡ (view_of m.0).answers ++ record { seat = i; request = request; outcome = outcome; publishes = (view_of m.0).publishes.count + 1; stamp = length (view_of me.0).seen } ∷ []
+  pub answer_step : (view_of me.0).answered ≡ tick (view_of m.0).answered 2
+  pub publishes : (view_of me.0).publishes.count ≡ (view_of m.0).publishes.count + 1
   pub picks : (view_of me.0).picks ≡ (view_of m.0).picks
   pub only : OnlyServes (view_of m.0) (view_of me.0)
   pub slots : rest me.1 ≡ rest (rest m.1)
 
--- one mailbox was tried once, and served where its word was 1
+-- mailbox i was tried by one pick, and has its letter where that found 1
 pub record ServedOne (v : View) (xs : List (ℕ × Slot)) (i : ℕ) (me : Hands) (done : Bool) : Type 0 where
   pub word : ℕ
   pub hit : MatchBool done (word ≡ 1) (word ≢ 1)
   pub picks : (view_of me.0).picks ≡ slice_set v.picks i (tick (tally_at v.picks i) word)
   pub letters : List Letter
   pub answers : (view_of me.0).answers ≡ v.answers ++ letters
-  pub answered : AnswersOne v.seats i done letters v.seen (view_of me.0).seen
-  pub publishes : (view_of me.0).publishes.count ≡ v.publishes.count + done_among letters
+  pub answered : AnswersOne v.seats i done v.publishes.count letters v.seen (view_of me.0).seen
+  pub answer_steps : (view_of me.0).answered ≡ letter_ticks v.answered letters
+  pub publishes : (view_of me.0).publishes.count ≡ v.publishes.count + length letters
   pub only : OnlyServes v (view_of me.0)
   pub slots : rest me.1 ≡ xs
 
--- one mailbox was tried: at 1 its request is the seat's, and was posted by a seat that had seen no more
+-- a pick of mailbox i, and the request where it found 1
 pub record PicksOne (m : Hands) (i : ℕ) (m' : Hands) (got : Option Request) : Type 0 where
   pub word : ℕ
   pub view : MatchOption got ((word ≢ 1) × (m' ≡ (tried_at (view_of m.0) i word ∷ [], m.1)))
       (λ r. (word ≡ 1) × ((since : ℕ) × (since ≤ length (view_of m.0).seen) × (m' ≡ (picked_at (view_of m.0) i word r since ∷ [], (i + 1, Empty) ∷ m.1))))
 
--- the engine's history begins with what the seat has seen, and the rest is the run of what it has picked
+-- after what the taker has seen the engine has run what was picked, or nothing
 pub record FollowsFor (v : View) (i : ℕ) (engine : History) : Type 0 where
   pub request : Request
   pub since : ℕ
@@ -109,10 +111,9 @@ pub record FollowsFor (v : View) (i : ℕ) (engine : History) : Type 0 where
   pub run : List Entry
   pub grown : engine.entries ≡ v.seen ++ run
   pub by_seat : AllBy i run
-  pub answer : Answer
-  pub run_at : RunAt v.seats engine.entries i request since answer (length v.seen) (length v.seen + length run)
+  pub runs : (length run ≡ 0) ⊎ ((answer : Answer) × RunAt v.seats engine.entries i request since answer (length v.seen) (length v.seen + length run))
 
--- the outcome answers what was picked
+-- the outcome is one for the request picked, and tells the places that are published for it
 pub record AnswersPick (v : View) (i : ℕ) (told : Outcome) : Type 0 where
   pub request : Request
   pub since : ℕ
@@ -122,7 +123,7 @@ pub record AnswersPick (v : View) (i : ℕ) (told : Outcome) : Type 0 where
   pub is_told : IsTold v.seats v.seen i request since told
   pub same_places : places start count ≡ answer_places told
 
--- each tally in taken_by, from the k-th on, counts a step that found the word
+-- from number k on, each tally has one step more, with its word
 abbrev pub ticks : List Tally → ℕ → List ℕ → List Tally
 ticks ts k [] = ts
 ticks ts k (x ∷ xs) = ticks (slice_set ts k (tick (tally_at ts k) x)) (k + 1) xs
@@ -132,14 +133,14 @@ abbrev pub ones : List ℕ → ℕ
 ones [] = 0
 ones (x ∷ xs) = (if x == 1 then 1 else 0) + ones xs
 
--- from the k-th mailbox on, in their order: each that was found posted was run and answered, and what was seen grew by just
--- these runs
-abbrev pub AnswersAll : ℕ → ℕ → List ℕ → List Letter → List Entry → List Entry → Type 0
-AnswersAll seats k [] letters seen now = (letters ≡ []) × (now ≡ seen)
-AnswersAll seats k (x ∷ xs) letters seen now =
-    (first : List Letter) × (others : List Letter) × (after : List Entry) × (letters ≡ first ++ others) × AnswersOne seats k (x == 1) first seen after × AnswersAll seats (k + 1) xs others after now
+-- The letters to mailbox k and those after it, whose words were these, in the order of their numbers. What was seen grows by just
+-- their runs, and p publishes were made before the first.
+abbrev pub AnswersAll : ℕ → ℕ → List ℕ → ℕ → List Letter → List Entry → List Entry → Type 0
+AnswersAll seats k [] p letters seen now = (letters ≡ []) × (now ≡ seen)
+AnswersAll seats k (x ∷ xs) p letters seen now =
+    (first : List Letter) × (others : List Letter) × (after : List Entry) × (letters ≡ first ++ others) × AnswersOne seats k (x == 1) p first seen after × AnswersAll seats (k + 1) xs (p + length first) others after now
 
--- each mailbox was tried once, by number, and those found posted were served
+-- the mailboxes below this number were tried, each by one pick, and have their letters
 pub record ServedAll (v : View) (xs : List (ℕ × Slot)) (tried : ℕ) (me : Hands) (done : ℕ) : Type 0 where
   pub found : List ℕ
   pub all : length found ≡ tried
@@ -147,7 +148,8 @@ pub record ServedAll (v : View) (xs : List (ℕ × Slot)) (tried : ℕ) (me : Ha
   pub picked : done ≡ ones found
   pub letters : List Letter
   pub answers : (view_of me.0).answers ≡ v.answers ++ letters
-  pub answered : AnswersAll v.seats 0 found letters v.seen (view_of me.0).seen
-  pub publishes : (view_of me.0).publishes.count ≡ v.publishes.count + done_among letters
+  pub answered : AnswersAll v.seats 0 found v.publishes.count letters v.seen (view_of me.0).seen
+  pub answer_steps : (view_of me.0).answered ≡ letter_ticks v.answered letters
+  pub publishes : (view_of me.0).publishes.count ≡ v.publishes.count + length letters
   pub only : OnlyServes v (view_of me.0)
   pub slots : rest me.1 ≡ xs

@@ -8,7 +8,7 @@ pub record DriverState : Type 0 where
   pub table : TableId
   pub seats : ℕ
 
--- the driver that a seat belongs to, and what the seat knows
+-- a seat is told by the table that it is of, and by its view
 pub record SeatState : Type 0 where
   pub table : TableId
   pub view : View

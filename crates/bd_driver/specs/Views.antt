@@ -19,12 +19,12 @@ ready_of seats entries = ready_bits (history seats entries)
 abbrev pub StartsWith : List Entry → List Entry → Type 0
 StartsWith entries seen = (rest : List Entry) × (entries ≡ seen ++ rest)
 
--- the places of a seat's entries in a list whose first table_seat is n
+-- where a seat's entries stand in a list whose first place is n
 abbrev pub places_from : ℕ → ℕ → List Entry → List ℕ
 places_from who n [] = []
 places_from who n (e ∷ es) = cond (e.seat == who) (n ∷ places_from who (n + 1) es) (places_from who (n + 1) es)
 
--- the places of a seat's entries
+-- where a seat's entries stand in a history
 abbrev pub places_of : ℕ → List Entry → List ℕ
 places_of who entries = places_from who 0 entries
 
@@ -33,7 +33,7 @@ abbrev pub places : ℕ → ℕ → List ℕ
 places n zero = []
 places n (suc k) = n ∷ places (n + 1) k
 
--- the stamp and the ready bits of the word are the page of the history
+-- the word has the stamp and the ready bits of this history
 abbrev pub IsPage : ℕ → ℕ → List Entry → Type 0
 IsPage seats word entries = (word / 4294967296 ≡ length entries) × (word / 2 % 2147483648 ≡ ready_of seats entries)
 
@@ -65,14 +65,17 @@ fresh seats who = record {
   withdraws = no_steps;
   collects = no_steps;
   picks = no_picks seats;
+  answered = no_steps;
+  opens = no_steps;
+  shuts = no_steps;
   answers = [];
 }
 
--- the view of a new seat, which has its mailbox's slot
+-- the view of a new seat: one load has opened its mailbox, and found it empty
 abbrev pub seated : ℕ → ℕ → View
-seated seats who = record (fresh seats who) { handover = Open }
+seated seats who = record (fresh seats who) { handover = Open; opens = tick no_steps 0 }
 
--- fresh views of so many seats, from one seat on
+-- so many fresh views, from one seat's on
 abbrev pub newcomers : ℕ → ℕ → ℕ → List View
 newcomers seats who zero = []
 newcomers seats who (suc k) = fresh seats who ∷ newcomers seats (who + 1) k
@@ -91,6 +94,6 @@ abbrev pub Each : (View → Type 0) → List View → Type 0
 Each P [] = Unit {0}
 Each P (v ∷ vs) = P v × Each P vs
 
--- a view whose seat does not have the engine
+-- a view of a seat without the engine
 abbrev pub Idle : View → Type 0
 Idle v = v.taker ≡ false

@@ -22,13 +22,15 @@ impl Driver {
 
     /// Runs a request, if the engine is free.
     ///
-    /// One take is made (`calls`: `one_take`). Taken is answered exactly where it found bit 0 of the page set. Done: the
-    /// entries from `from` up to and without `to` are the request's run, all of this seat; `from` isn't below the length
-    /// seen before, the seat has then seen a history of length `to`, and its own places grow by just these. Back: the
-    /// request comes back equal, and its own places stay; HistoryFull only where the history that the seat then has
-    /// seen is full or the request's first step would need a handle past the limit; NoMemory only where the engine
-    /// answers so, which it does where a growth was refused. What the seat has then seen begins with what it had seen
-    /// (`begins`). After the call the seat holds nothing. Taken takes no memory.
+    /// One take is made (`calls`: `one_take`), and where it finds the engine one publish and one put (`page`). Taken is
+    /// answered exactly where it found bit 0 of the page set. Done: the history that the seat has then seen is `to` long
+    /// and ends with the request's run, all of this seat; the run begins at `from`, not below the length seen before, and
+    /// its places are the seat's own from then on. Back: the request comes back equal, and no own place is new; with
+    /// HistoryFull only at the limit of the history that the seat then has seen, where it has no place left or the
+    /// request's first step would need a handle past the largest; with NoMemory only where that history has a place left
+    /// and the engine answers so, which it does where a growth was refused; with neither where the request has no
+    /// entry. What the seat has then seen begins with what it had seen (`begins`). After the call it holds nothing.
+    /// Taken takes no memory.
     pub fn call(&self, seat: &mut Seat, request: Request) -> Outcome
         requires table { seat.old.table ≡ self.now.table }
         requires free { is_waiting seat.old.view.handover ≡ false }
@@ -46,9 +48,9 @@ impl Driver {
         outcome_of(ran, request)
     }
 
-    /// The page as one load finds it, which is made in this call (`looks`: `only`, `is_found`): stamp and ready seats
-    /// are those of a history that begins with all that the seat had seen, and that is from then on what it has seen
-    /// (`begins`, `is_page`). Takes no memory.
+    /// The page as one load finds it, which is made in this call (`looks`: `only`, `is_found`). Its stamp and ready
+    /// seats are those of the history that the seat has then seen (`is_page`), a beginning of which it had seen before
+    /// (`begins`). Takes no memory.
     pub fn look(&self, seat: &mut Seat) -> Page
         requires { seat.old.table ≡ self.now.table }
         ensures same { seat.new.table ≡ seat.old.table }

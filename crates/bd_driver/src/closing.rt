@@ -54,7 +54,7 @@ fn gather(table: &DriverTable, keeper: &mut TableSeat, mut seats: Vec<Seat>)
     }
 }
 
-// A seat gives its own mailbox's slot back, where it has it.
+// Shuts the seat's own mailbox, unless the seat waits.
 fn shut(table: &DriverTable, seat: Seat) -> TableSeat
     requires { seat.table ≡ table.now.shared.table_id }
     ensures table { result.table_id ≡ table.now.shared.table_id }

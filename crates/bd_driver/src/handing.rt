@@ -56,11 +56,11 @@ impl Driver {
 
     /// The answer to what was handed over, if it is there.
     ///
-    /// One step is made, on the own mailbox (`collects`). Done: the entries from `from` up to and without `to` are the
-    /// run of what was posted; `from` isn't below the length seen when it was posted; the own places grow by just
-    /// these; what the seat then has seen is at least `to` long. Back: the equal request, as in `call`, with NoMemory
-    /// or with HistoryFull, the latter said of a beginning of what the seat then has seen. Handed exactly where the
-    /// step found the mailbox other than answered. Takes no memory.
+    /// One step is made, on the own mailbox (`collects`). Done: what was posted was run, and its entries stand `from` up
+    /// to and without `to` in a history that the seat has then seen; they begin not below the length that it had seen
+    /// at its post, and their places are its own from then on. Back: the equal request, with NoMemory or HistoryFull as
+    /// in `call`, said of a beginning of what the seat then has seen. Handed exactly where the step found the mailbox
+    /// other than answered. Takes no memory.
     pub fn collect(&self, seat: &mut Seat) -> Outcome
         requires table { seat.old.table ≡ self.now.table }
         requires waiting { is_waiting seat.old.view.handover ≡ true }

@@ -34,9 +34,7 @@ impl Driver {
         let Ok(mut dealt) = Vec::with_capacity(alloc, seats as usize) else {
             return Err(Fault::NoMemory);
         };
-        let Ok(engine) = Engine::new(alloc, seats) else {
-            return Err(Fault::NoMemory);
-        };
+        let engine = Engine::for_seats(alloc, seats);
         let page = taken_page(&engine) - 1;
         let Ok(words) = lay_words(alloc, page, seats as usize) else {
             return Err(Fault::NoMemory);

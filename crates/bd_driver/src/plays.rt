@@ -1,4 +1,5 @@
-//! What each step on the table tells.
+//! What each step on the table tells: on which word it is, with which operands, and what its seat knows after. With
+//! specs/Steps these are part of what the calls promise.
 ghost use Rattle.bd_driver.specs.Steps.{entered, looked, took, published, put, opened, closed, posted_as, withdrew, collected_as, picked_as, served, answered_as};
 ghost use Rattle.bd_driver.specs.Views.{view_of, others_of};
 ghost use Rattle.std.specs.Prelude.{[], ◌∷◌, ◌++◌};
@@ -39,7 +40,7 @@ impl Play<Slot, LinkedList<View>> for Put {
     ghost then = { put };
 }
 
-// The first of several views goes to a seat of its own.
+// A new seat gets the first of several views.
 pub(crate) struct Deal;
 
 impl Split<LinkedList<View>> for Deal {

@@ -9,7 +9,7 @@ use crate::driver::Driver;
 use crate::outcome::{Outcome, Served};
 use crate::page::taken_page;
 use crate::plays::{AnswerPick, Pick, PublishFor, Put};
-use crate::refusals::reason;
+use crate::refusals::outcome_of;
 use crate::seat::{Seat, TableSeat};
 use crate::slot::Slot;
 use bd_engine::Engine;
@@ -23,9 +23,9 @@ impl Driver {
     /// Runs each request that is handed over, once, in the order of the seats' numbers.
     ///
     /// One take is made (`serves`: `one_take`). Taken exactly where it found bit 0 of the page set. Else one pick was
-    /// made on every mailbox, and each request that a pick found was run as its poster's entries, published and
-    /// answered, or is answered Back; `picked` is their number. What the seat has seen grows by just these runs, its
-    /// own places stay, and what it has itself handed over stays so.
+    /// made on every mailbox, and each request that a pick found was run as its poster's entries, or comes back; then
+    /// the history was published once, and then the request was answered (`answered`). `picked` is their number. What
+    /// the seat has seen grows by just these runs, its own places stay, and so does what it has itself handed over.
     pub fn serve(&self, seat: &mut Seat) -> Served
         requires { seat.old.table ≡ self.now.table }
         ensures same { seat.new.table ≡ seat.old.table }
@@ -65,7 +65,7 @@ impl Driver {
         (engine, picked)
     }
 
-    // Picks one mailbox if it is posted, runs its request, publishes, and answers.
+    // Picks one mailbox, and answers what is posted there.
     pub(crate) fn serve_one(
         &self,
         table_seat: &mut TableSeat,
@@ -87,7 +87,7 @@ impl Driver {
         (engine, true)
     }
 
-    // Runs what was picked, publishes, and answers; or answers why it was refused.
+    // Runs what was picked, publishes, and then answers it, also where the engine refused it.
     pub(crate) fn run_picked(
         &self,
         table_seat: &mut TableSeat,
@@ -103,24 +103,10 @@ impl Driver {
         ensures serving { Serving table_seat.new.me result × (result.seats ≡ engine.seats) }
         ensures ran { RanPicked table_seat.old.me number request table_seat.new.me }
     {
-        match engine.run(number, &request) {
-            Ok(ran) => {
-                drop(request);
-                let told = Outcome::Done {
-                    answer: ran.answer,
-                    from: ran.from,
-                    to: ran.to,
-                };
-                let engine = self.publish_for(table_seat, engine, number);
-                self.answer(table_seat, number, told);
-                engine
-            }
-            Err(refused) => {
-                let why = reason(refused);
-                self.answer(table_seat, number, Outcome::Back { request, why });
-                engine
-            }
-        }
+        let ran = engine.run(number, &request);
+        let engine = self.publish_for(table_seat, engine, number);
+        self.answer(table_seat, number, outcome_of(ran, request));
+        engine
     }
 
     // Picks a mailbox, if it is posted.
@@ -144,7 +130,8 @@ impl Driver {
         }
     }
 
-    // Publishes the history with the run of what was picked. The engine lies in the mailbox's slot meanwhile.
+    // Publishes the engine's history, which has the run of what was picked, if it ran. Meanwhile the engine lies in the
+    // mailbox's slot.
     pub(crate) fn publish_for(
         &self,
         table_seat: &mut TableSeat,
@@ -179,7 +166,7 @@ impl Driver {
         requires on { (view_of table_seat.old.me.0).taker ≡ true }
         requires told { AnswersPick (view_of table_seat.old.me.0) number told }
         ensures same { table_seat.new.table_id ≡ table_seat.old.table_id }
-        ensures view { table_seat.new.me ≡ (answered_at (view_of table_seat.old.me.0) told ∷ [], rest table_seat.old.me.1) }
+        ensures view { table_seat.new.me ≡ (answered_at (view_of table_seat.old.me.0) 2 told ∷ [], rest table_seat.old.me.1) }
     {
         let shared = &self.table.shared;
         let word = number as usize + 1;

@@ -3,17 +3,17 @@ use crate::outcome::Outcome;
 use bd_space::{Entry, Request};
 use std::collections::LinkedList;
 
-/// How many steps of one kind a seat has made, and the word that the last of them found.
+/// The steps of one kind that a seat has made.
 pub struct Tally {
     /// How many.
     pub count: u64,
-    /// The word found.
+    /// The word that the latest found.
     pub found: u64,
 }
 
 /// What a seat has handed over.
 pub enum Handover {
-    /// Nothing, and the mailbox's slot is at home: so before `new` returns, and in `finish`.
+    /// Nothing, and the mailbox's slot is at home: only within `new` and `finish`.
     Shut,
     /// Nothing.
     Open,
@@ -48,6 +48,10 @@ pub struct Letter {
     pub request: Request,
     /// The answer.
     pub outcome: Outcome,
+    /// How many publishes its seat had then made.
+    pub publishes: u64,
+    /// How long the published history then was.
+    pub stamp: u64,
 }
 
 /// The view of a seat.
@@ -82,6 +86,12 @@ pub struct View {
     pub collects: Tally,
     /// Its tries to pick, one tally for each mailbox.
     pub picks: LinkedList<Tally>,
+    /// Its steps that answered.
+    pub answered: Tally,
+    /// Its loads that opened its own mailbox.
+    pub opens: Tally,
+    /// Its loads that shut its own mailbox.
+    pub shuts: Tally,
     /// The answers that it has put into mailboxes, in order.
     pub answers: LinkedList<Letter>,
 }

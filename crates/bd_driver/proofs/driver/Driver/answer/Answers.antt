@@ -20,4 +20,4 @@ returns-clause-view c =
     let r = c.requires in
     let v = view_of c.args.table_seat.now.me.0 in
     let held = refill c.args.table_seat.now.me c.exchange.new.seat.me v _ (c.args.number + 1) Empty (Answered c.args.told) r.held c.exchange.ensures.3 in
-    c.swap.ensures.2 ∙ ap (λ (m : Hands). (answered_at (view_of m.0) (outcome_in m.1) ∷ [], rest m.1)) held
+    c.swap.ensures.2.2 ∙ ap (λ (m : Hands). (answered_at (view_of m.0) 2 (outcome_in m.1) ∷ [], rest m.1)) held

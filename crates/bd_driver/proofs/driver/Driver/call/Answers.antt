@@ -16,4 +16,4 @@ returns-clause-calls c =
     let old : v ≡ c.args.seat.now.view = ap (λ s. s.view) c.seat.view_is in
     subst (λ (x : View). Calls x (view_of c.give.new.table_seat.me.0) c.args.request c.outcome_of.result) old
     (call_ends v seat.number c.seat.invariant.number_is c.take.new.table_seat.me c.give.new.table_seat.me c.in-Some.engine c.run-ran.new.self c.args.request _ took gave
-    c.run-ran.result c.outcome_of.result c.outcome_of.ensures c.run-ran.ensures.ok c.run-ran.ensures.err c.run-ran.ensures.full)
+    c.run-ran.result c.outcome_of.result c.outcome_of.ensures c.run-ran.ensures.ok c.run-ran.ensures.err c.run-ran.ensures.full c.run-ran.ensures.memory c.run-ran.ensures.some)

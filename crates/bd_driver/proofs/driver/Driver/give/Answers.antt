@@ -24,7 +24,7 @@ fetch_and-requires c =
     let e = c.args.engine in
     let v = view_of c.args.table_seat.now.me.0 in
     let held = placed c.args.table_seat.now.me c.exchange.new.seat.me v 0 Empty (Home e) (rest c.args.table_seat.now.me.1) r.one r.held c.exchange.ensures.3 in
-    let then = after_publish _ _ v (rest c.args.table_seat.now.me.1) 0 e _ held c.swap.ensures.2 in
+    let then = after_publish _ _ v (rest c.args.table_seat.now.me.1) 0 e _ held c.swap.ensures.2.1 in
     (search rules, search rules, puts_at _ _ _ _ (published_at v c.swap.result e.entries) (rest c.args.table_seat.now.me.1) e then r.on r.unpicked (ap (λ n. history n e.entries) c.requires.engine.seats))
 
 pub returns-clause-gives : goal.returns-clause-gives
@@ -33,6 +33,6 @@ returns-clause-gives c =
     let e = c.args.engine in
     let v = view_of c.args.table_seat.now.me.0 in
     let held = placed c.args.table_seat.now.me c.exchange.new.seat.me v 0 Empty (Home e) (rest c.args.table_seat.now.me.1) r.one r.held c.exchange.ensures.3 in
-    let then = after_publish _ _ v (rest c.args.table_seat.now.me.1) 0 e _ held c.swap.ensures.2 in
-    let last = after_put _ _ (published_at v c.swap.result e.entries) (rest c.args.table_seat.now.me.1) e _ then c.fetch_and.ensures.2 in
+    let then = after_publish _ _ v (rest c.args.table_seat.now.me.1) 0 e _ held c.swap.ensures.2.1 in
+    let last = after_put _ _ (published_at v c.swap.result e.entries) (rest c.args.table_seat.now.me.1) e _ then c.fetch_and.ensures.2.1 in
     (c.swap.result, c.fetch_and.result, ap (λ (m : Hands). m.0) last, ap (λ (m : Hands). m.1) last)

@@ -9,13 +9,13 @@ use Rattle.bd_driver.specs.declared.slot.Slot.{Slot}
 use Rattle.bd_driver.proofs.Deals.{opens}
 use Rattle.bd_driver.proofs.driver.Driver.new.Goals as goal
 
-pub new-requires-2 : goal.new-requires-2
-new-requires-2 c =
-    let stands = c.in-Ok-new.ensures.ok in
+pub new-requires : goal.new-requires
+new-requires c =
+    let stands = c.for_seats-engine.ensures in
     let p = c.taken_page-page.ensures in
     let taken : c.taken_page-page.result ≡ page_word c.args.seats 1 [] = p.page ∙ ap (λ (e : History). page_word e.seats 1 e.entries) stands in
     let bits : ready_of c.args.seats [] < 2147483648 = subst (λ (e : History). ready_of e.seats e.entries < 2147483648) stands p.bits in
     let page : c.taken_page-page.result - 1 ≡ page_word c.args.seats 0 [] = omega arith in
     let words : c.as_slice.result.now ≡ (c.taken_page-page.result - 1) ∷ replicate c.args.seats 0 = c.as_slice.ensures.value ∙ c.in-Ok-lay_words.ensures in
     subst (λ (z : List ℕ × List Slot). Kept c.args.seats (opening z.0 z.1 (newcomers c.args.seats 0 c.args.seats))) (λ i. (sym words i, sym c.in-Ok-lay_slots.ensures i))
-    (opens c.args.seats _ c.in-Ok-new.engine stands page bits)
+    (opens c.args.seats _ c.for_seats-engine.result stands page bits)

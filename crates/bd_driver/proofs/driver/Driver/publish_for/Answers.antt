@@ -26,5 +26,5 @@ exchange-requires-2 c =
     let e = c.args.engine in
     let v = view_of c.args.table_seat.now.me.0 in
     let held = refill c.args.table_seat.now.me c.exchange.new.seat.me v _ (c.args.number + 1) Empty (Home e) r.held c.exchange.ensures.3 in
-    let is = ap (λ (m : Hands). m.1) (after_serve _ _ v (rest c.args.table_seat.now.me.1) _ e _ held c.swap.ensures.2) in
+    let is = ap (λ (m : Hands). m.1) (after_serve _ _ v (rest c.args.table_seat.now.me.1) _ e _ held c.swap.ensures.2.1) in
     (search rules, (Home e, first_held _ _ (c.args.number + 1) (Home e) is))

@@ -15,4 +15,4 @@ pub returns-clause-view : goal.returns-clause-view
 returns-clause-view c =
     let s = c.requires.serving in
     let held = placed c.args.table_seat.now.me c.exchange.new.seat.me (view_of c.args.table_seat.now.me.0) 0 Empty (Home c.args.engine) (rest c.args.table_seat.now.me.1) s.one s.held c.exchange.ensures.3 in
-    (c.fetch_and.result, after_put _ _ (view_of c.args.table_seat.now.me.0) (rest c.args.table_seat.now.me.1) c.args.engine _ held c.fetch_and.ensures.2)
+    (c.fetch_and.result, after_put _ _ (view_of c.args.table_seat.now.me.0) (rest c.args.table_seat.now.me.1) c.args.engine _ held c.fetch_and.ensures.2.1)

@@ -13,6 +13,6 @@ pub exchange-requires : goal.exchange-requires
 exchange-requires c =
     let t = c.fetch_or-word.ensures.2 in
     let clear : c.fetch_or-word.result % 2 ≡ 0 = omega arith in
-    let held = t.4 clear in
-    let engine = Home (history (view_of c.args.table_seat.now.me.0).seats t.0) in
+    let held = t.5 clear in
+    let engine = Home (history (view_of c.args.table_seat.now.me.0).seats t.1) in
     (search rules, (engine, held ∙ ap (λ (l : List (ℕ × Slot)). (0, engine) ∷ rest l) (sym held)))
