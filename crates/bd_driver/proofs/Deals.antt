@@ -23,7 +23,7 @@ pub new_idle : (seats who k : ℕ) → Each Idle (newcomers seats who k)
 new_idle seats who zero = tt
 new_idle seats who (suc k) = (refl, new_idle seats (who + 1) k)
 
--- a seat of the table whose views are idle is no taker
+-- idle views have no taker among them
 pub not_taker : (views : List (List View)) (id t : ℕ) (vs : List View) (v : View) → get_elem? views id ≡ some vs → Each Idle vs → get_elem? views t ≡ some (v ∷ []) → v.taker ≡ true → t ≢ id
 not_taker views id t vs v at idle is on same =
     let both : vs ≡ v ∷ [] = some-injective _ _ (sym at ∙ (ap (get_elem? views) (sym same) ∙ is)) in

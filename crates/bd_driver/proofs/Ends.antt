@@ -51,13 +51,13 @@ gathers seats id other vs ws idle idle' s h at apart at' =
         let two : j ≢ other = not_taker s.views other j ws t.0 there idle' t.1 t.2 in
         (t.0, set_else (set s.views id (ws ++ vs)) other j [] two ∙ (set_else s.views id j (ws ++ vs) one ∙ t.1), t.2, t.3)
 
--- a sitting's view is among the views, and what holds of each view holds of it
+-- from all the views that were gathered to that of one seat
 pub each_sitting : (P : View → Type 0) (sits : List SeatState) → Each P (views_of sits) → (i : ℕ) (s : SeatState) → get_elem? sits i ≡ some s → P (closed_view s.view)
 each_sitting P [] h i s at = absurd (some-ne-none s (sym at))
 each_sitting P (x ∷ xs) h zero s at = subst (λ (y : SeatState). P (closed_view y.view)) (some-injective x s at) h.0
 each_sitting P (x ∷ xs) h (suc i) s at = each_sitting P xs h.1 i s at
 
--- where all seats are gathered, none of which has the engine, it is home
+-- once every seat is gathered nobody has the engine, so it is home
 pub is_home : (seats : ℕ) (sits : List SeatState) (s : State Slot (List View)) (k : Kept seats s) (id : ℕ) → get_elem? s.views id ≡ some (views_of sits) → Each Idle (views_of sits) → AllSeats seats sits → k.taken_by ≡ none
 is_home seats sits s k id at idle all = home k.taken_by refl k.has_taker
   where
@@ -73,7 +73,7 @@ is_home seats sits s k id at idle all = home k.taken_by refl k.has_taker
 pub home_slot : (seats : ℕ) (s : State Slot (List View)) (k : Kept seats s) → k.taken_by ≡ none → get_elem? s.homes 0 ≡ some (some (Home (history seats k.entries)))
 home_slot seats s k home = ap (λ hs. get_elem? hs 0) (k.homes ∙ ap (λ o. home_of seats k.entries o ∷ map inside_of k.mailboxes) home)
 
--- a seat's entries are its own places, and those of one run of what it still has handed over
+-- what the mailbox has pending makes up for a seat that still waits
 entries_are : (seats : ℕ) (entries : List Entry) (carrier : ℕ → ℕ) (taken_by : Option ℕ) (mailboxes : List Mailbox) (id : ℕ) (v : View) → Fits seats entries carrier taken_by mailboxes id v → OwnEntries entries v
 entries_are seats entries carrier taken_by mailboxes id v f = go f.mailbox f.fits_mailbox f.own
   where
@@ -115,7 +115,7 @@ ends seats id sits words slots slot f is idle all =
     let each = each_sitting (Fits seats k.entries k.carrier k.taken_by k.mailboxes id) sits (k.each id (views_of sits) at) in
     (k.entries, same, λ lawful. record { seats_are = refl; lawful = lawful; begins = λ i x e. (each i x e).begins; own = λ i x e. own_of k.entries x.view (entries_are seats k.entries k.carrier k.taken_by k.mailboxes id (closed_view x.view) (each i x e)) })
 
--- the same of the key and the view as the code has them
+-- the same, at the key and the view that `close_with` tells of
 pub ends_at : (key seats id : ℕ) (vs : List View) (sits : List SeatState) (words : List ℕ) (slots : List Slot) (slot : Slot) → key ≡ seats → vs ≡ views_of sits
     → Final (Seen (Kept key) id vs) words slots → get_elem? slots 0 ≡ some slot → Each Idle (views_of sits) → AllSeats seats sits
     → (entries : List Entry) × (slot ≡ Home (history seats entries)) × (IsHistory (history seats entries) → IsFinal seats sits seats entries)

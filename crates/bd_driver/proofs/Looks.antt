@@ -17,7 +17,7 @@ pub bit_small : (taken_by : Option ℕ) → bit_of taken_by < 2
 bit_small none = omega arith
 bit_small (some t) = omega arith
 
--- the word that a step finds is the page of the published history
+-- by the rule word 0 is the published history's page
 pub found_word : (seats : ℕ) (s : State Slot (List View)) (k : Kept seats s) → get_or s.words 0 0 ≡ page_word seats (bit_of k.taken_by) k.entries
 found_word seats s k = ap (λ ws. get_or ws 0 0) k.words
 

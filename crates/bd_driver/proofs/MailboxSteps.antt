@@ -98,7 +98,7 @@ module _ (seats : ℕ) (s : State Slot (List View)) (k : Kept seats s) where
         (home ∙ (ap (λ hs. set hs (suc i) (inside_of new)) k.homes ∙ ap (λ l. home_of seats k.entries k.taken_by ∷ l) (sym (map-set inside_of k.mailboxes i new)))) k.small (length-set k.mailboxes i new ∙ k.all_mailboxes)
         (still_early k.mailboxes (length k.entries) k.early i new late) has now others
 
-    -- a step that finds a mailbox and changes nothing but the seat's view
+    -- a step that leaves its mailbox as it is
     unmoved : (w : View) (i : ℕ) (b : Mailbox) → get_elem? k.mailboxes i ≡ some b → (v.taker ≡ true → w.taker ≡ true) → w.pick ≡ v.pick → Fits seats k.entries k.carrier k.taken_by k.mailboxes id w
         → Kept seats (stepped s (suc i) (get_or s.words (suc i) 0) id me.1 (w ∷ []) keeps)
     unmoved w i b is stays pick_is now =
@@ -122,7 +122,7 @@ module _ (seats : ℕ) (s : State Slot (List View)) (k : Kept seats s) where
     found_inside : (i : ℕ) (b : Mailbox) → get_elem? k.mailboxes i ≡ some b → get_elem? s.homes (suc i) ≡ some (inside_of b)
     found_inside i b is = ap (λ hs. get_elem? hs (suc i)) k.homes ∙ at_map inside_of k.mailboxes i b is
 
-    -- the seat's own view after a step on its own mailbox, and the others'
+    -- a step on the own mailbox: its seat's view
     own_fits : (w : View) (new : Mailbox) → w.seats ≡ v.seats → w.who ≡ v.who → StartsWith k.entries w.seen → MailboxFits seats k.entries w.who w.handover new → w.own ++ pending new ≡ places_of w.who k.entries
         → (w.taker ≡ true → (k.taken_by ≡ some id) × (w.seen ≡ k.entries)) → w.pick ≡ v.pick → w.taker ≡ v.taker → is_picked mine.mailbox ≡ false → Fits seats k.entries k.carrier k.taken_by (set k.mailboxes v.who new) id w
     own_fits w new a b c d e f g h off = record {
@@ -139,11 +139,12 @@ module _ (seats : ℕ) (s : State Slot (List View)) (k : Kept seats s) where
       idle = λ t. g ∙ mine.idle (sym h ∙ t);
     }
 
+    -- and all other views
     own_others : (new : Mailbox) → is_picked mine.mailbox ≡ false → (j : ℕ) (u : View) → j ≢ id → Fits seats k.entries k.carrier k.taken_by k.mailboxes j u → Fits seats k.entries k.carrier k.taken_by (set k.mailboxes v.who new) j u
     own_others new off j u apart f =
         apart_fits v.who new j u (λ same. apart (sym f.held ∙ (ap k.carrier same ∙ mine.held))) (pick_else k.mailboxes v.who mine.mailbox new u.pick mine.has_mailbox off f.picks) f
 
-    -- another view of a seat in whose view nothing changes that the rule speaks of
+    -- counting a step is nothing to the rule
     same_fits : (w : View) → w.seats ≡ v.seats → w.who ≡ v.who → w.seen ≡ v.seen → w.handover ≡ v.handover → w.own ≡ v.own → w.taker ≡ v.taker → w.pick ≡ v.pick → Fits seats k.entries k.carrier k.taken_by k.mailboxes id w
     same_fits w a b c d e f g =
         review seats k.entries k.carrier k.carrier k.taken_by k.taken_by k.mailboxes id id v w mine (a, b, d, e) mine.held (subst (StartsWith k.entries) (sym c) mine.begins) (λ t. ((mine.takes (sym f ∙ t)).0, c ∙ (mine.takes (sym f ∙ t)).1)) (subst (PickFits k.mailboxes) (sym g) mine.picks) (λ t. g ∙ mine.idle (sym f ∙ t))
@@ -172,7 +173,7 @@ module _ (seats slots id : ℕ) (me : Hands) (one : me.0 ≡ view_of me.0 ∷ []
         ((refl, refl, refl), r, held, refl),
       )
 
-  -- a compare and exchange that finds another word than it looks for, and so changes nothing but the seat's view
+  -- a compare and exchange of another word than the one found
   missed : (s : State Slot (List View)) (k : Kept seats s) → get_elem? s.views id ≡ some me.0 → (i old new : ℕ) (b : Mailbox) (w : View) → get_elem? k.mailboxes i ≡ some b → get_or s.words (suc i) 0 ≢ old → w.pick ≡ x.pick → (x.taker ≡ true → w.taker ≡ true)
       → Fits seats k.entries k.carrier k.taken_by k.mailboxes id w → Kept seats (stepped s (suc i) (either (eqb (get_or s.words (suc i) 0) old) new (get_or s.words (suc i) 0)) id me.1 (w ∷ []) keeps)
   missed s k at i old new b w there ne pick stays fits =
@@ -212,7 +213,7 @@ module _ (seats slots id : ℕ) (me : Hands) (one : me.0 ≡ view_of me.0 ∷ []
   pub withdraws : (r : Request) (since : ℕ) → x.handover ≡ Waiting r since → Allows (Kept seats) slots id me (suc x.who) (λ n. either (eqb n 1) 0 n) (withdrew (step slots (suc x.who) 1 0 none) me)
   withdraws r since waits s k len at small = let f = mine seats s k id me at one in withdraw_case s k at r since waits f.mailbox refl f.fits_mailbox
 
-  -- the slot of the own mailbox is taken once, and given back at the end
+  -- opening and shutting move the mailbox's slot, and no word
   pub opens_mailbox : x.handover ≡ Shut → Allows (Kept seats) slots id me (suc x.who) (λ n. n) (opened (step slots (suc x.who) 0 0 none) me)
   opens_mailbox handover s k len at small = go (mine seats s k id me at one).mailbox refl (mine seats s k id me at one).fits_mailbox
     where

@@ -1,4 +1,4 @@
--- The steps at a seat whose view and slots are known, and what is known after them.
+-- Publish and put at given hands: that they are allowed, and the hands after.
 use Rattle.std.proofs.Common.{◌≡◌, ℕ, ◌<◌, true, List, [], ◌∷◌, ◌++◌, length, bit_and, refl, sym, ap, ◌∙◌, subst}
 use mathlib.Core.Option.{none}
 use Rattle.atomic_table.specs.Table.{step, rest, Allows}
@@ -16,7 +16,7 @@ use Rattle.bd_driver.specs.declared.slot.Slot.TheVariants.{Home}
 use Rattle.bd_driver.specs.Steps.{Hands, entries_in, published_at, published, put_at, put}
 use Rattle.bd_driver.proofs.Takes.{publishes, puts}
 
--- a plain exchange in the slot that was taken last
+-- what an exchange leaves in the slot held first
 pub placed : (me m : Hands) (v : View) (slot : ℕ) (x y : Slot) (xs : List (ℕ × Slot)) → me.0 ≡ v ∷ [] → me.1 ≡ (slot, x) ∷ xs → m ≡ (me.0, (slot, y) ∷ rest me.1) → m ≡ (v ∷ [], (slot, y) ∷ xs)
 placed me m v slot x y xs a b e = e ∙ (λ i. (a i, (slot, y) ∷ rest (b i)))
 

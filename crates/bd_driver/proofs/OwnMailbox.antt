@@ -1,4 +1,4 @@
--- The calls on the own mailbox, at a seat between two calls.
+-- Steps on the own mailbox, from what a seat at rest knows.
 use Rattle.std.proofs.Common.{◌≡◌, ℕ, suc, ◌+◌, Bool, true, false, eqb, List, [], ◌∷◌, true≢false, refl, sym, ap, ◌∙◌, subst, arith}
 use mathlib.Core.Option.{none}
 use prog.Atomic.{either}
@@ -31,7 +31,7 @@ waiting_hand Shut e = absurd (true≢false (sym e))
 waiting_hand Open e = absurd (true≢false (sym e))
 waiting_hand (Waiting q since) e = (q, since, refl)
 
--- the slots of a seat that has handed nothing over, and of one that waits
+-- an open seat holds its mailbox's slot, a waiting one none
 pub open_me : (words : ℕ) (me : Hands) (number : ℕ) (waiting : Bool) → IsAtRest words me number waiting → is_waiting (view_of me.0).handover ≡ false → me ≡ (view_of me.0 ∷ [], (suc (view_of me.0).who, Empty) ∷ [])
 open_me words me number waiting r e = λ i. (r.one i, (r.held ∙ ap (λ h. held_of h (view_of me.0).who) (open_hand (view_of me.0).handover r.ready e)) i)
 
@@ -42,7 +42,7 @@ waiting_me words me number waiting r e = let h = waiting_hand (view_of me.0).han
 pub first_held : (xs ys : List (ℕ × Slot)) (slot : ℕ) (x : Slot) → xs ≡ (slot, x) ∷ ys → xs ≡ (slot, x) ∷ rest xs
 first_held xs ys slot x is = is ∙ ap (λ (l : List (ℕ × Slot)). (slot, x) ∷ rest l) (sym is)
 
--- a plain exchange in the one slot that is held, where its number is known by arithmetic
+-- what an exchange leaves in the slot held first, for a number that takes arithmetic
 pub refill : (me m : Hands) (v : View) (xs : List (ℕ × Slot)) (slot : ℕ) (x y : Slot) → me ≡ (v ∷ [], xs) → m ≡ (me.0, (slot, y) ∷ rest me.1) → m ≡ (v ∷ [], (slot, y) ∷ rest xs)
 refill me m v xs slot x y is e = e ∙ ap (λ (z : Hands). (z.0, (slot, y) ∷ rest z.1)) is
 
@@ -110,7 +110,7 @@ pub closes_at : (seats slots id : ℕ) (me : Hands) (v : View) (xs : List (ℕ �
 closes_at seats slots id me v xs word is at handover =
     subst (λ (z : Hands × ℕ). Allows (Kept seats) slots id z.0 z.1 (λ n. n) (closed (step slots z.1 0 0 none) z.0)) (λ i. (sym is i, sym at i)) (closes_mailbox seats slots id (v ∷ [], (suc v.who, Empty) ∷ xs) refl handover refl)
 
--- the views of seats that give their slots back
+-- what shutting leaves of a view
 pub open_closed : (words : ℕ) (me m' : Hands) (number : ℕ) (waiting : Bool) → IsAtRest words me number waiting → is_waiting (view_of me.0).handover ≡ false → m' ≡ (closed_at (view_of me.0) 0 ∷ [], rest me.1) → m' ≡ (closed_view (view_of me.0) ∷ [], [])
 open_closed words me m' number waiting r e is =
     let h = open_hand (view_of me.0).handover r.ready e in

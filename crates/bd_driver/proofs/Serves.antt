@@ -1,4 +1,4 @@
--- The steps of serving, at a seat whose view and slots are known.
+-- The parts of `serve`: their steps at given hands, and what they come to.
 use Rattle.std.proofs.Common.{◌≡◌, ◌≢◌, ℕ, suc, ◌+◌, ◌-◌, ◌<◌, Bool, true, false, eqb, List, [], ◌∷◌, ◌++◌, length, refl, sym, ap, ◌∙◌, subst, inl, inr, arith, length-append, append_assoc, cond, eq-eqb, ne_eqb, ◌==◌, ◌%◌, Some, append-nil}
 use mathlib.Core.Option.{none}
 use prog.Atomic.{either}

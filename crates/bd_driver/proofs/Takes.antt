@@ -81,7 +81,7 @@ module _ (seats slots id : ℕ) (me : Hands) (one : me.0 ≡ view_of me.0 ∷ []
   pub takes_once : v.taker ≡ false → Allows (Kept seats) slots id me 0 (λ n. bit_or n 1) (took (step slots 0 1 0 none) me)
   takes_once idle s k len at small = ⊎_elim (takes_free s k at idle) (λ (b : (t : ℕ) × (k.taken_by ≡ some t)). takes_taken s k at idle b.0 b.1) (turn_cases k.taken_by)
 
-  -- what is published begins with what the taker has seen, and the rest is its own
+  -- a taker publishes a run of its own after what it has seen
   pub publishes : (run : List Entry) (new : ℕ) → v.taker ≡ true → v.handover ≡ Open → entries_in me.1 ≡ v.seen ++ run → AllBy v.who run
       → new ≡ page_word v.seats 1 (entries_in me.1) → (length (entries_in me.1) < 4294967296) × (ready_of v.seats (entries_in me.1) < 2147483648)
       → Allows (Kept seats) slots id me 0 (λ _. new) (published (step slots 0 new 0 none) me)
