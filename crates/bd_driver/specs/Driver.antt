@@ -43,7 +43,8 @@ pub record Follows (v : View) (engine : History) : Type 0 where
 abbrev pub Gives : View → List (ℕ × Slot) → List Entry → Hands → Type 0
 Gives v xs entries m = (first : ℕ) × (second : ℕ) × (m.0 ≡ put_at (published_at v first entries) second ∷ []) × (m.1 ≡ xs)
 
--- the request was run: what the seat now has seen ends with the run, and the places of the run are own places from now on
+-- the request was run: what the seat now has seen ends with the run, and the places of the run are own places from now
+-- on
 pub record Stands (v w : View) (request : Request) (answer : Answer) (start end : ℕ) : Type 0 where
   pub was_free : w.takes.found % 2 ≡ 0
   pub before : List Entry
@@ -56,8 +57,8 @@ pub record Stands (v w : View) (request : Request) (answer : Answer) (start end 
   pub is_run : IsRun (history v.seats before) v.who request run answer
   pub own : w.own ≡ v.own ++ places start (length run)
 
--- for what reason it comes back: memory is wanting only where the history has a place left, the history full only at its limit, and
--- neither where the request has no entry
+-- for what reason it comes back: memory is wanting only where the history has a place left, the history full only at
+-- its limit, and neither where the request has no entry
 abbrev pub IsWhy : View → Request → Why → Type 0
 IsWhy w request Taken = w.takes.found % 2 ≡ 1
 IsWhy w request NoMemory = (w.takes.found % 2 ≡ 0) × HasPlace (history w.seats w.seen) × HasEntry (history w.seats w.seen) w.who request
@@ -70,13 +71,17 @@ IsOutcome v w request (Done answer start end) = Stands v w request answer start 
 IsOutcome v w request Handed = ⊥
 IsOutcome v w request (Back back why) = (back ≡ request) × (w.own ≡ v.own) × IsWhy w request why
 
--- a publish and a put follow a take that finds the engine, and no other
+-- one publish and one put more
+abbrev pub GivesOnce : View → View → Type 0
+GivesOnce v w = (w.publishes.count ≡ v.publishes.count + 1) × (w.puts.count ≡ v.puts.count + 1)
+
+-- these follow a take that finds the engine, and no other
 abbrev pub PageSteps : View → View → Outcome → Type 0
 PageSteps v w (Back request Taken) = (w.publishes ≡ v.publishes) × (w.puts ≡ v.puts)
-PageSteps v w (Back request NoMemory) = (w.publishes.count ≡ v.publishes.count + 1) × (w.puts.count ≡ v.puts.count + 1)
-PageSteps v w (Back request HistoryFull) = (w.publishes.count ≡ v.publishes.count + 1) × (w.puts.count ≡ v.puts.count + 1)
+PageSteps v w (Back request NoMemory) = GivesOnce v w
+PageSteps v w (Back request HistoryFull) = GivesOnce v w
 PageSteps v w (Back request Withdrawn) = ⊥
-PageSteps v w (Done answer start end) = (w.publishes.count ≡ v.publishes.count + 1) × (w.puts.count ≡ v.puts.count + 1)
+PageSteps v w (Done answer start end) = GivesOnce v w
 PageSteps v w Handed = ⊥
 
 -- a call, by the steps that it made and by what came of the request

@@ -14,8 +14,8 @@ use Rattle.bd_driver.specs.Steps.{OwnsAll, posted_at, withdrawn_at, kept_at, col
 abbrev pub Posts : View → View → Request → Type 0
 Posts v w r = w ≡ posted_at v w.posts.found r
 
--- one withdrawal was tried: where it found 1 the equal request comes back, and some history of then has just the seat's own
--- places; where it found anything else nothing comes back
+-- one withdrawal was tried: where it found 1 the equal request comes back, and some history of then has just the seat's
+-- own places; where it found anything else nothing comes back
 abbrev pub Withdraws : View → View → Outcome → Type 0
 Withdraws v w (Back r Withdrawn) = (w ≡ withdrawn_at v 1) × ((since : ℕ) × (v.handover ≡ Waiting r since)) × OwnsAll v
 Withdraws v w (Back r Taken) = ⊥

@@ -19,8 +19,8 @@ use Rattle.bd_driver.specs.declared.outcome.Outcome.TheVariants.{Done, Back, Han
 use Rattle.bd_driver.specs.declared.slot.Slot.{Slot}
 use Rattle.bd_driver.specs.declared.slot.Slot.TheVariants.{Posted, Answered, Empty}
 
--- What a mailbox is to the rule. Posted and after, it has the request and how long the history was that its poster had seen; once
--- picked, where its published entries start and how many there are.
+-- What a mailbox is to the rule. Posted and after, it has the request and how long the history was that its poster had
+-- seen; once picked, where its published entries start and how many there are.
 pub data Mailbox : Type 0 where
   shut : Mailbox
   empty : Mailbox
@@ -77,8 +77,9 @@ pub record RunAt (seats : ℕ) (entries : List Entry) (who : ℕ) (r : Request) 
   pub by_seat : AllBy who run
   pub is_run : IsRun (history seats before) who r run answer
 
--- For what reason a posted request may come back. Both are said of a beginning of the entries after which the request's run would
--- have an entry: memory is wanting only where one more has a place there, and the history full only at its limit.
+-- For what reason a posted request may come back. Both are said of a beginning of the entries after which the request's
+-- run would have an entry: memory is wanting only where one more has a place there, and the history full only at its
+-- limit.
 abbrev pub IsReason : ℕ → List Entry → ℕ → Request → Why → Type 0
 IsReason seats entries who r Taken = ⊥
 IsReason seats entries who r NoMemory = (before : List Entry) × StartsWith entries before × HasPlace (history seats before) × HasEntry (history seats before) who r

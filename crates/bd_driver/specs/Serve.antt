@@ -26,15 +26,15 @@ pub record Serving (me : Hands) (engine : History) : Type 0 where
   pub held : me.1 ≡ (0, Empty) ∷ rest me.1
   pub stands : engine ≡ history (view_of me.0).seats (view_of me.0).seen
 
--- how a posted request fares: run by its poster's number after `seen`, which grows by that run to `now`; or given back equal, with
--- its reason, and `now` is `seen`
+-- how a posted request fares: run by its poster's number after `seen`, which grows by that run to `now`; or given back
+-- equal, with its reason, and `now` is `seen`
 abbrev pub RunsAs : ℕ → ℕ → Request → Outcome → List Entry → List Entry → Type 0
 RunsAs seats i r (Done answer start end) seen now = HasRun (history seats seen) (history seats now) i r answer start end
 RunsAs seats i r (Back back why) seen now = (back ≡ r) × (now ≡ seen) × IsReason seats seen i r why
 RunsAs seats i r Handed seen now = ⊥
 
--- One letter goes to a mailbox that was found posted, and none to another. It was put there after p + 1 publishes, and the history
--- published by then had its run.
+-- One letter goes to a mailbox that was found posted, and none to another. It was put there after p + 1 publishes, and
+-- the history published by then had its run.
 abbrev pub AnswersOne : ℕ → ℕ → Bool → ℕ → List Letter → List Entry → List Entry → Type 0
 AnswersOne seats i false p letters seen now = (letters ≡ []) × (now ≡ seen)
 AnswersOne seats i true p letters seen now =
@@ -133,8 +133,8 @@ abbrev pub ones : List ℕ → ℕ
 ones [] = 0
 ones (x ∷ xs) = (if x == 1 then 1 else 0) + ones xs
 
--- The letters to mailbox k and those after it, whose words were these, in the order of their numbers. What was seen grows by just
--- their runs, and p publishes were made before the first.
+-- The letters to mailbox k and those after it, whose words were these, in the order of their numbers. What was seen
+-- grows by just their runs, and p publishes were made before the first.
 abbrev pub AnswersAll : ℕ → ℕ → List ℕ → ℕ → List Letter → List Entry → List Entry → Type 0
 AnswersAll seats k [] p letters seen now = (letters ≡ []) × (now ≡ seen)
 AnswersAll seats k (x ∷ xs) p letters seen now =

@@ -17,9 +17,10 @@ pub record ServesNothing (v w : View) : Type 0 where
   pub publishes : w.publishes ≡ v.publishes
   pub puts : w.puts ≡ v.puts
 
--- Each mailbox was tried by one pick, in the order of the seats. Each that was found posted got one letter, by one step, and one
--- publish was made before each letter: `answered` says how many there were by then, and how long the published history was. What
--- is seen grew, after what the take found, by just the runs of the letters. One put ended it.
+-- Each mailbox was tried by one pick, in the order of the seats. Each that was found posted got one letter, by one
+-- step, and one publish was made before each letter: `answered` says how many there were by then, and how long the
+-- published history was. What is seen grew, after what the take found, by just the runs of the letters. One put ended
+-- it.
 pub record ServesEach (seats : ℕ) (v w : View) (picked : ℕ) : Type 0 where
   pub was_free : w.takes.found % 2 ≡ 0
   pub found : List ℕ

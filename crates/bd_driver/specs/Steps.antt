@@ -1,4 +1,5 @@
--- What each step tells: on which word it is and with which operands, the word found, and what its seat knows and holds after.
+-- What each step tells: on which word it is and with which operands, the word found, and what its seat knows and holds
+-- after.
 use Rattle.std.specs.Prelude.{◌≡◌, ℕ, suc, ◌≢◌, ◌-◌, ◌%◌, ◌<◌, ◌≤◌, ◌==◌, slice_set, slice_index_or, false, List, [], ◌∷◌, ◌++◌, length}
 use Rattle.atomic_table.specs.Table.{Me, Step, rest}
 use Rattle.bd_space.specs.declared.step.Entry.{Entry}
@@ -20,8 +21,8 @@ use Rattle.bd_driver.specs.Views.{StartsWith, IsPage, places, places_of, tick, n
 abbrev pub Hands : Type 0
 Hands = Me Slot (List View)
 
--- The step is on this word and has these operands. A load has 0 and 0, what has one operand 0 as its second. Which exchange of
--- these operands it is isn't told; another one that keeps the rule does the same to the word.
+-- The step is on this word and has these operands. A load has 0 and 0, what has one operand 0 as its second. Which
+-- exchange of these operands it is isn't told; another one that keeps the rule does the same to the word.
 abbrev pub IsOn : Step Slot → ℕ → ℕ → ℕ → Type 0
 IsOn st word first second = (st.word ≡ word) × (st.first ≡ first) × (st.second ≡ second)
 
@@ -120,8 +121,8 @@ tried_at v i word = record v { picks = slice_set v.picks i (tick (tally_at v.pic
 abbrev pub picked_at : View → ℕ → ℕ → Request → ℕ → View
 picked_at v i word r since = record v { picks = slice_set v.picks i (tick (tally_at v.picks i) word); pick = Picked i r since 0 0 }
 
--- a mailbox becomes 2 where it is 1, and then its slot comes along with the request; its poster had seen no more than the taker
--- has. The mailbox is that of the seat which the view then names
+-- a mailbox becomes 2 where it is 1, and then its slot comes along with the request; its poster had seen no more than
+-- the taker has. The mailbox is that of the seat which the view then names
 abbrev pub picked_as : Step Slot → Hands → ℕ → Hands → Type 0
 picked_as st m n m' =
     IsOn st (suc (st.word - 1)) 1 2
@@ -173,8 +174,8 @@ collected_at v word entries o = record v { handover = Open; seen = entries; own 
 abbrev pub missed_at : View → ℕ → View
 missed_at v word = record v { collects = tick v.collects word }
 
--- the own mailbox becomes 0 where it is 3, and then its slot comes along with an answer that the published history, now seen,
--- bears out
+-- the own mailbox becomes 0 where it is 3, and then its slot comes along with an answer that the published history, now
+-- seen, bears out
 abbrev pub collected_as : Step Slot → Hands → ℕ → Hands → Type 0
 collected_as st m n m' =
     IsOn st (suc (view_of m.0).who) 3 0
