@@ -116,8 +116,8 @@ impl Engine {
         }
     }
 
-    /// Makes one step, and answers it. Errors: memory was refused, the history is full, or a number above 4294967294
-    /// would be needed.
+    /// Makes one step, and answers it. Errors: the history is full, which is found before any memory is asked for; memory
+    /// was refused; or a name would have to be numbered above 4294967294.
     pub fn step(&mut self, seat: u32, step: Step) -> Result<StepAnswer, Why>
         requires { seat < self.old.seats }
         // The answer is the space's.

@@ -5,6 +5,6 @@
 pub enum Why {
     /// F14: memory was refused.
     NoMemory,
-    /// F13: the history is full, or a number above 4294967294 would be needed.
+    /// F13: one step more has no place, or a name would have to be numbered above 4294967294.
     HistoryFull,
 }

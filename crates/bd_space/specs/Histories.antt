@@ -52,7 +52,7 @@ extended h seat x answer = record { seats = h.seats; entries = h.entries ++ reco
 
 -- ---- the page of a history
 
--- a seat is ready when it has a live thread whose list to read isn't empty
+-- the seat's live thread finds something on the list that it reads
 abbrev pub is_ready : Space → ℕ → Bool
 is_ready s seat = is_some_and (thread_in s.threads seat) (λ t. not (is_empty (list_to_read s t)))
 

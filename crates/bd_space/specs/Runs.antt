@@ -37,7 +37,7 @@ parcel_for area (bc.Transaction d) = parcel_of area d
 parcel_for area (bc.Reply d) = parcel_of area d
 parcel_for area _ = None
 
--- the commands that the stream begins with, each with its length, and why no more can be read
+-- what is read from a stream's beginning: commands with their lengths, and the fault that the reading ended in, if in one
 pub record Readable : Type 0 where
   pub commands : List (Command × ℕ)
   pub fault : Option Fault
@@ -92,7 +92,7 @@ pub record Run : Type 0 where
   pub entries : List Entry
   pub answer : Answer
 
--- without a process the first command is refused, and so is the write
+-- a seat without a process has its first command refused, and with it the whole write
 abbrev pub wrote : Written → List Entry → Answer
 wrote w [] = Wrote w.consumed w.notes w.stop
 wrote w (e ∷ es) = elim e.answer [ gave.Refused x ↦ Refused x | _ ↦ Wrote w.consumed w.notes w.stop ]
