@@ -158,6 +158,13 @@ owner_missed t bound p ps bs q stands lives found =
     let both : None ≡ Some (window_of bs q) = sym (ap (option_map seen) found) ∙ owned t bound p ps bs stands ∙ ap (option_map (window_of bs)) lives in
     cc
 
+-- a process that doesn't live has no window
+pub owner_gone : (t : Windows) (bound p : ℕ) (ps : List Process) (bs : List Buffer) (w : OwnedWindow) → WindowsOf t bound ps bs
+    → process_in ps p ≡ None → find (is_owned_by p) t.windows.items ≡ Some w → ⊥
+owner_gone t bound p ps bs w stands gone found =
+    let both : Some (seen w) ≡ None = sym (ap (option_map seen) found) ∙ owned t bound p ps bs stands ∙ ap (option_map (window_of bs)) gone in
+    cc
+
 pub is_process : (ps : List Process) (p : ℕ) (q : Process) → process_in ps p ≡ Some q → q.made ≡ p
 is_process ps p q e = eqb-true q.made p (found_has (λ x. Unit) (λ (x : Process). x.made == p) ps q e (λ k d h. tt)).1
 

@@ -9,7 +9,7 @@ use Rattle.bd_space.specs.Words.{round_up}
 use Rattle.bd_space.specs.Room.{needed}
 use Rattle.bd_space.specs.Freeing.{pointer}
 
--- the span of n bytes at p and that of a buffer do not meet
+-- n bytes from p on have no byte in common with a buffer
 abbrev pub IsApart : ℕ → ℕ → Buffer → Type 0
 IsApart p n b = (p + n ≤ b.start) ⊎ (b.start + b.size ≤ p)
 
@@ -28,7 +28,7 @@ pub record IsLeastRoom (size : ℕ) (buffers : List Buffer) (n p : ℕ) : Type 0
 abbrev pub one_way_size : List Buffer → ℕ
 one_way_size buffers = sum_by (λ b. b.size) (filter (λ b. b.one_way) buffers)
 
--- with so much more, the one-way buffers take at most half of the window
+-- so much more still fits into the half that one-way calls may use
 abbrev pub IsInBudget : ℕ → List Buffer → ℕ → Type 0
 IsInBudget size buffers more = 2 * (one_way_size buffers + more) ≤ size
 

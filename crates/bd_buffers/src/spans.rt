@@ -30,7 +30,7 @@ fn is_apart(b: &Buffer, p: u32, n: u32) -> bool
     p + n <= b.start || end_of(b) <= u64::from(p)
 }
 
-// The first buffer that n bytes at p meet.
+// The first buffer in the way of n bytes at p.
 fn blocker(buffers: &[Buffer], p: u32, n: u32) -> Option<&Buffer>
     requires { p + n < 2 ^ 32 }
     ensures { option_copied result ≡ find (λ b. not (room.is_apart p n b)) buffers.now }

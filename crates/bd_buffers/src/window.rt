@@ -1,6 +1,6 @@
 //! A window.
 
-ghost use Rattle.std.specs.Prelude.{◌≡◌, ◌+◌, ◌*◌, ◌%◌, ◌≤◌, ◌==◌, [], ◌∷◌, ◌++◌, not, ℕ, Bool, List, length, filter, find, IsTrue, IfOk, IfErr, IfSome, OnOk, option_map, option_copied};
+ghost use Rattle.std.specs.Prelude.{◌≡◌, ◌+◌, ◌*◌, ◌%◌, ◌≤◌, ◌==◌, [], ◌∷◌, ◌++◌, not, ℕ, Bool, List, length, filter, find, IsTrue, IsOk, IfOk, IfErr, IfSome, OnOk, OnErr, option_map, option_copied, None};
 ghost use Rattle.bd_space.specs.declared.space.Buffer.{Buffer};
 ghost use Rattle.bd_space.specs.Words.{changed};
 ghost use Rattle.bd_space.specs.Room.{needed, place_for};
@@ -36,10 +36,11 @@ impl Window {
     ghost use Rattle.bd_buffers.specs.Windows.{IsLeastRoom, IsInBudget, Refuses, IsPlaced, IsWindow, at_pointer, free_check};
     ghost use Rattle.bd_buffers.specs.Stands.{Stands, CanTake};
 
-    /// An empty window of a size in bytes, a multiple of 8 of at most 4194304.
+    /// An empty window of a size in bytes, a multiple of 8 of at most 4194304. Takes no memory.
     pub fn new(alloc: Global, size: u32) -> Result<Window, AllocError>
         requires { (size % 8 ≡ 0) × (size ≤ 4194304) }
-        ensures { IfOk result (λ w. Stands w size []) }
+        ensures stands { IfOk result (λ w. Stands w size []) }
+        ensures made { IsOk result }
     {
         Ok(Window {
             size,
@@ -71,6 +72,8 @@ impl Window {
             → CanTake self.new one_way size start }
         ensures room { OnOk result (1 ≤ self.new.room) }
         ensures kept { self.old.room ≤ self.new.room }
+        // Memory was asked for: there was no room.
+        ensures grown { OnErr result (self.old.room ≡ 0) }
     {
         self.buffers.reserve(1)
     }
@@ -135,8 +138,10 @@ impl Window {
 
     /// The data and the offsets of the live buffer made there, in memory of their own.
     pub fn bytes(&self, made: u32) -> Result<Option<(Bytes, Bytes)>, AllocError>
-        ensures { (size : ℕ) (bs : List Buffer) → Stands self.now size bs
+        ensures copied { (size : ℕ) (bs : List Buffer) → Stands self.now size bs
             → IfOk result (λ r. r ≡ option_map (λ b. (b.bytes, b.offsets)) (buffer_in bs made)) }
+        // Where there is no buffer no memory is asked for.
+        ensures missing { (size : ℕ) (bs : List Buffer) → Stands self.now size bs → buffer_in bs made ≡ None → IsOk result }
     {
         match spans::made_at(&self.buffers, made) {
             None => Ok(None),

@@ -1,8 +1,9 @@
 //! The windows of all live processes.
 
-ghost use Rattle.std.specs.Prelude.{◌≡◌, ◌≤◌, ◌<◌, ◌+◌, ◌==◌, not, ℕ, Bool, IfOk, IfSome, OnOk, Some, length, map, filter, find, List, [], vec_len, vec_capacity, option_map};
+ghost use Rattle.std.specs.Prelude.{◌≡◌, ◌≤◌, ◌<◌, ◌+◌, ◌==◌, not, ℕ, Bool, IfOk, IfSome, OnOk, OnErr, Some, None, Err, length, map, filter, find, List, [], vec_len, vec_capacity, option_map};
 ghost use Rattle.std.specs.List.{position};
 ghost use Rattle.std.specs.Option.{option_copied};
+ghost use Rattle.bd_uapi.specs.declared.fault.Cause.TheVariants.{NoRoom};
 ghost use Rattle.bd_space.specs.declared.space.Process.{Process};
 ghost use Rattle.bd_space.specs.declared.space.Buffer.{Buffer};
 ghost use Rattle.bd_space.specs.declared.space.Work.{Work};
@@ -114,6 +115,8 @@ impl Windows {
     pub fn reserve(&mut self) -> Result<(), AllocError>
         ensures stands { (s : Space) → StandsFor self.old s → StandsFor self.new s }
         ensures room { OnOk result (1 ≤ window_room self.new) }
+        // Memory was asked for: there was no room.
+        ensures grown { OnErr result (window_room self.old ≡ 0) }
     {
         self.windows.reserve(1)
     }
@@ -144,6 +147,7 @@ impl Windows {
             → result ≡ place_for q.window (buffers_of s.buffers p) one_way (needed data_size offsets_size) }
         ensures can_add { IfOk result (λ start. CanAdd self.now p one_way (needed data_size offsets_size) start) }
         ensures fits { IfOk result (λ start. needed data_size offsets_size ≤ 4194304) }
+        ensures no_process { (s : Space) → StandsIn self.now s → process_in s.processes p ≡ None → result ≡ Err NoRoom }
     {
         match owned_by(&self.windows, p) {
             None => Err(Cause::NoRoom),
@@ -160,6 +164,8 @@ impl Windows {
         ensures can_add { (q : ℕ) (one_way : Bool) (size start : ℕ) → CanAdd self.old q one_way size start
             → CanAdd self.new q one_way size start }
         ensures room { OnOk result (1 ≤ buffer_room self.new p) }
+        // Memory was asked for: there was no room.
+        ensures grown { OnErr result (buffer_room self.old p ≡ 0) }
     {
         match position_of(&self.windows, p) {
             None => Ok(()),
@@ -192,6 +198,7 @@ impl Windows {
         ensures found { (s : Space) (q : Process) → StandsIn self.now s → process_in s.processes p ≡ Some q
             → option_copied result ≡ buffer_at_pointer s p pointer }
         ensures placed { IfSome result (λ b. IsPlaced b.now) }
+        ensures no_process { (s : Space) → StandsIn self.now s → process_in s.processes p ≡ None → result ≡ None }
     {
         match owned_by(&self.windows, p) {
             None => None,

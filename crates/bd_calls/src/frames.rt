@@ -180,7 +180,7 @@ impl CallTable {
         frame_made_at(&self.frames, made)
     }
 
-    /// A thread's innermost frame: the deepest in which it is caller or server.
+    /// The innermost frame of a thread: of those that it called or serves, the deepest.
     pub fn innermost(&self, seat: u32) -> Option<Frame>
         ensures { (s : Space) → StandsFor self.now s → result ≡ spec.innermost s seat }
     {

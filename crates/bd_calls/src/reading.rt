@@ -118,7 +118,7 @@ fn is_call_of(taken: &[Work], frame: &Frame) -> bool
     taken.iter().any(|w| is_call(frame.made, w.kind))
 }
 
-// The reader of a two-way call serves its frame.
+// Whoever read the call of a frame is its server.
 fn serve(frames: &mut Vec<Frame>, seat: u32, taken: &[Work])
     ensures frames { frames.new.items ≡ spec.served_frames seat taken.now frames.old.items }
     ensures len { vec_len frames.new ≡ vec_len frames.old }

@@ -14,7 +14,7 @@ pub struct CallTable {
 }
 
 impl CallTable {
-    ghost use Rattle.std.specs.Prelude.{ℕ, ◌≡◌, ◌+◌, ◌≤◌, vec_len, IfOk, OnOk};
+    ghost use Rattle.std.specs.Prelude.{ℕ, ◌≡◌, ◌+◌, ◌≤◌, ◌^◌, vec_len, IfOk, OnOk, OnErr};
     ghost use Rattle.bd_space.specs.Space.{Space, opening};
     ghost use Rattle.bd_calls.specs.Stands.{Stands, StandsFor};
     ghost use Rattle.bd_calls.specs.Room.{Takes, HasRoom};
@@ -33,7 +33,8 @@ impl CallTable {
 
     // As many as settling and ripening may make, and what the steps themselves do.
     fn works_to_reserve(&self, works: usize) -> Result<usize, AllocError>
-        ensures { IfOk result (λ n. n ≡ works + vec_len self.now.frames + vec_len self.now.turns + 8) }
+        ensures sum { IfOk result (λ n. n ≡ works + vec_len self.now.frames + vec_len self.now.turns + 8) }
+        ensures past { OnErr result (2 ^ 64 ≤ works + vec_len self.now.frames + vec_len self.now.turns + 8) }
     {
         works
             .checked_add(self.frames.len())
@@ -48,6 +49,8 @@ impl CallTable {
         ensures stands { (s : Space) → StandsFor self.old s → StandsFor self.new s }
         ensures takes { Takes self.old self.new 0 0 0 0 }
         ensures room { OnOk result (HasRoom self.new works) }
+        // Memory was asked for, or would have been past what there can be: there was no room.
+        ensures grown { OnErr result (HasRoom self.old works → ⊥) }
     {
         let works = self.works_to_reserve(works)?;
         self.threads.reserve(1)?;

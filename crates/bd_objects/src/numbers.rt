@@ -68,7 +68,7 @@ fn lacks_name(
     is_named_in(objects, references, p, o) && number_in(names, p, o).is_none()
 }
 
-/// Gives the process a number for the object, if it is to have one and has none. Needs room for one name.
+/// Gives the process a number for an object that it is to name and doesn't name yet. Needs room for one name.
 pub(crate) fn give_name(
     names: &mut Vec<Name>,
     manager: Option<ObjectId>,

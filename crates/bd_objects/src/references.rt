@@ -19,7 +19,7 @@ pub(crate) fn strong_in(references: &[Reference], o: ObjectId) -> bool
     references.iter().any(|r| r.strong && same(r.object, o))
 }
 
-/// Whether it is the process's own asking, or is carried by a buffer in its window.
+/// Whether it gives the process a name: the process asked for it, or a buffer in its window carries it.
 pub(crate) fn names_for(p: u32, holder: Holder) -> bool
     ensures { result ≡ refer.names_for p holder }
 {

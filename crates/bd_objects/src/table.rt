@@ -1,6 +1,6 @@
 //! The table, and its memory.
 
-ghost use Rattle.std.specs.Prelude.{OnOk};
+ghost use Rattle.std.specs.Prelude.{OnOk, OnErr};
 
 use bd_space::{DeathNotification, Name, Object, Reference};
 use std::alloc::{AllocError, Global};
@@ -42,6 +42,8 @@ impl ObjectTable {
         ensures stands { (s : Space) → StandsFor self.old s → StandsFor self.new s }
         ensures takes { Takes self.old self.new 0 0 0 0 }
         ensures room { OnOk result (HasRoom self.new objects references names) }
+        // Memory was asked for: there was no room.
+        ensures grown { OnErr result (HasRoom self.old objects references names → ⊥) }
     {
         self.objects.reserve(objects)?;
         self.references.reserve(references)?;

@@ -3,7 +3,7 @@ use Rattle.bd_space.specs.Room.{buffers_of}
 use Rattle.bd_space.specs.Freeing.{buffer_at_pointer, is_buffer_at}
 use Rattle.bd_buffers.specs.WindowsStand.{is_owned_by}
 use Rattle.bd_buffers.proofs.InSpace.{at_pointer_in}
-use Rattle.bd_buffers.proofs.AllWindows.{owner_found, owner_missed, is_process}
+use Rattle.bd_buffers.proofs.AllWindows.{owner_found, owner_missed, owner_gone, is_process}
 use Rattle.bd_buffers.proofs.windows.Windows.at_pointer.Goals as goal
 
 pub returns-in-None-clause-found : goal.returns-in-None-clause-found
@@ -19,3 +19,8 @@ returns-in-Some-clause-found c = λ s q stands lives.
     c.buffer_at_pointer.ensures.found q.window (buffers_of s.buffers q.made) own
     ∙ at_pointer_in s.buffers q.made c.args.pointer
     ∙ ap (λ m. find (is_buffer_at m c.args.pointer) s.buffers) (is_process s.processes c.args.p q lives)
+
+pub returns-in-Some-clause-no_process : goal.returns-in-Some-clause-no_process
+returns-in-Some-clause-no_process c = λ s stands gone.
+    absurd (owner_gone c.args.self.now (s.steps + 1) c.args.p s.processes s.buffers c.in-Some.w.now stands gone
+    (sym (c.in-Some.ensures ∙ ap (find (is_owned_by c.args.p)) c.deref.ensures.value)))

@@ -6,7 +6,7 @@ use Rattle.bd_buffers.specs.Stands.{CanTake}
 use Rattle.bd_buffers.specs.declared.windows.OwnedWindow.{OwnedWindow}
 use Rattle.bd_buffers.specs.declared.windows.Windows.{Windows}
 use Rattle.bd_buffers.specs.WindowsStand.{is_owned_by, CanAdd}
-use Rattle.bd_buffers.proofs.AllWindows.{owner_found, owner_missed, is_process, can_take_back, fits_whole}
+use Rattle.bd_buffers.proofs.AllWindows.{owner_found, owner_missed, owner_gone, is_process, can_take_back, fits_whole}
 use Rattle.bd_buffers.proofs.windows.Windows.place.Goals as goal
 
 can_add_of : (t : Windows) (p : ℕ) (w : OwnedWindow) (one_way : Bool) (n : ℕ) (r : Result ℕ Cause) → find (is_owned_by p) t.windows.items ≡ Some w
@@ -38,3 +38,8 @@ returns-in-Some-clause-fits c =
     fits_whole w.size w.buffers (needed c.args.data_size c.args.offsets_size) c.place.result
     (c.check.ensures w.size w.buffers (record { size_is = refl; buffers_are = refl }))
     (c.place.ensures.least w.size w.buffers (record { size_is = refl; buffers_are = refl }))
+
+pub returns-in-Some-clause-no_process : goal.returns-in-Some-clause-no_process
+returns-in-Some-clause-no_process c = λ s stands gone.
+    absurd (owner_gone c.args.self.now (s.steps + 1) c.args.p s.processes s.buffers c.in-Some.w.now stands gone
+    (sym (c.in-Some.ensures ∙ ap (find (is_owned_by c.args.p)) c.deref.ensures.value)))
