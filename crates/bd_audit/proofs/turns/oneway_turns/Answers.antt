@@ -2,7 +2,7 @@ use Rattle.std.proofs.Common.{◌∙◌, sym, ap}
 use Rattle.bd_space.specs.Histories.{History}
 use Rattle.bd_audit.specs.Replays.{history_of}
 use Rattle.bd_audit.specs.OneWayTurns.{turns_on}
-use Rattle.bd_audit.proofs.Beginnings.{next-beginning}
+use Rattle.bd_audit.proofs.Beginnings.{next-beginning, next-lawful}
 use Rattle.bd_audit.proofs.TurnLists.{turns-noted, turns-none}
 use Rattle.bd_audit.proofs.turns.oneway_turns.Goals as goal
 
@@ -10,6 +10,12 @@ pub loop-entry-init : goal.loop-entry-init
 loop-entry-init c = record {
   engine = c.in-Ok.ensures.ok;
   turns = c.new-turns.ensures.items ∙ sym (ap (λ (h : History). turns_on c.args.object h) c.in-Ok.ensures.ok ∙ turns-none c.args.object c.args.record.now.seats);
+}
+
+pub advance-requires : goal.advance-requires
+advance-requires c = record {
+  lawful = next-lawful (history_of c.args.record.now) c.loop-entry.engine c.loop-entry.entry-index c.entry-item.result c.as_slice-entry-items.result.now c.requires.lawful
+      c.loop-entry.invariant.engine c.as_slice-entry-items.ensures c.loop-entry-test.true c.entry-item.is;
 }
 
 pub loop-entry-preserved : goal.loop-entry-preserved
