@@ -60,3 +60,4 @@ pub mod HandedReplies
 pub mod CallItems
 pub mod CallsOut
 pub mod TurnCalls
+pub mod Gone

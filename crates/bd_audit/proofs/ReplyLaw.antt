@@ -139,7 +139,7 @@ step-from s e = every_step s e.seat e.step (From s) (From s) (from-kept s e.seat
 abbrev pub NoFrame : ℕ → Space → Type 0
 NoFrame c z = (f : Frame) → In f z.frames → f.made ≡ c → ⊥
 
-next-steps : (s : Space) (e : Entry) → (next s e).steps ≡ suc s.steps
+pub next-steps : (s : Space) (e : Entry) → (next s e).steps ≡ suc s.steps
 unfolding counted
 next-steps s e = ap suc (step-from s e).steps
 

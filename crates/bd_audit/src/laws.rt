@@ -27,7 +27,7 @@ pub fn objects_are_kept()
     ensures { ObjectsAreKept }
 {}
 
-/// An object that a step takes out of the space has no reference after that step.
+/// An object that a step takes out of the space has no reference from then on, and its identity never comes back.
 pub fn gone_unheld()
     ensures { GoneUnheld }
 {}
