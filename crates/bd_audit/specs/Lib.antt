@@ -9,4 +9,5 @@ pub mod Paths
 pub mod Latest
 pub mod Ending
 pub mod Hearing
+pub mod Streams
 pub mod HandedReplies

@@ -7,6 +7,7 @@ ghost use Rattle.bd_audit.specs.Paths.{FramesLieOnOnePath};
 ghost use Rattle.bd_audit.specs.Latest.{RepliesAnswerTheLatestOpenCall};
 ghost use Rattle.bd_audit.specs.Ending.{CallsEndLatestFirst};
 ghost use Rattle.bd_audit.specs.OneWayTurns.{TurnsAreTaken};
+ghost use Rattle.bd_audit.specs.Streams.{StreamsSpellTheirItems};
 ghost use Rattle.bd_audit.specs.HandedReplies.{RepliesAreHandedOut};
 ghost use Rattle.bd_audit.specs.TurnCalls.{TurnsTellOfCalls};
 ghost use Rattle.bd_audit.specs.Hearing.{NoticesAreDue, OnlyOwnersHear, OwnersHearInOrder};
@@ -56,7 +57,13 @@ pub fn replies_reach_their_callers()
     ensures { RepliesReachTheirCallers }
 {}
 
-/// What a reading hands out has a BR_REPLY exactly where the reading takes a reply.
+/// The bytes that a reading answers spell a BR_NOOP and then what the items that it takes give, in their order: so the bytes
+/// tell what an owner hears of its objects, and where a reply is handed out.
+pub fn streams_spell_their_items()
+    ensures { StreamsSpellTheirItems }
+{}
+
+/// Among what a reading hands out there is a BR_REPLY exactly where the reading takes a reply.
 pub fn replies_are_handed_out()
     ensures { RepliesAreHandedOut }
 {}
