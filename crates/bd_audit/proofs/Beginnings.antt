@@ -3,7 +3,7 @@ use Rattle.std.proofs.Common.{◌≡◌, ◌≤◌, ◌<◌, ◌+◌, ℕ, Bool,
 use Rattle.std.specs.Prelude.{nat_lt, nat_le}
 use Rattle.std.specs.List.{list_all}
 use Rattle.std.proofs.lemmas.Bool.{lt-leb}
-use Rattle.std.proofs.lemmas.List.{take-append-drop, take_more, length-take-le}
+use Rattle.std.proofs.lemmas.List.{take-append-drop, take_all, take_more, length-take-le}
 use Rattle.bd_space.specs.declared.step.Entry.{Entry}
 use Rattle.bd_space.specs.Space.{Space, opening}
 use Rattle.bd_space.specs.declared.step.StepAnswer.{StepAnswer}
@@ -140,3 +140,9 @@ stops-there NoMemory h g k i e at_i es same_es below found b l place not = tt
 
 pub next-beginning : (h g k : History) (i : ℕ) (e : Entry) (es : List Entry) → g ≡ beginning i h → es ≡ h.entries → i < length es → e ≡ get_or es i e → k ≡ with_entry g e → k ≡ beginning (i + 1) h
 next-beginning h g k i e es at_i same_es below found is = is ∙ one-next h g i e es at_i same_es below found
+
+-- after the last entry
+pub all-played : (h g : History) (i : ℕ) (es : List Entry) → g ≡ beginning i h → es ≡ h.entries → length es ≤ i → g ≡ h
+all-played h g i es at_i same_es le =
+    let past : length h.entries ≤ i = subst (λ xs. length xs ≤ i) same_es le in
+    at_i ∙ ap (λ xs. let k : History = record { seats = h.seats; entries = xs } in k) (take_all i h.entries past)

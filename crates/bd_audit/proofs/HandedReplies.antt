@@ -299,8 +299,13 @@ module _ (h : History) (lawful : IsHistory h) (i : ℕ) (stream bytes offsets : 
 
   pub handed-out : At h.entries i (λ z e. HandsOut z e stream)
   unfolding reply_taken
-  handed-out = (at.0, e, at.2, record {
-    spelt = spells-items;
-    replies = all-give z (items_taken z e.seat e.step)
-        (λ w l. item-gives z w.kind (always-plain at.0 w (gotten.due w l)) (λ b k. held-lives z (always-held at.0) w b (gotten.due w l) k));
-  })
+  handed-out = (
+    at.0,
+    e,
+    at.2,
+    record {
+      spelt = spells-items;
+      replies = all-give z (items_taken z e.seat e.step)
+          (λ w l. item-gives z w.kind (always-plain at.0 w (gotten.due w l)) (λ b k. held-lives z (always-held at.0) w b (gotten.due w l) k));
+    },
+  )

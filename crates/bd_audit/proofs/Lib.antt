@@ -61,3 +61,5 @@ pub mod CallItems
 pub mod CallsOut
 pub mod TurnCalls
 pub mod Gone
+pub mod Places
+pub mod CallsOnce

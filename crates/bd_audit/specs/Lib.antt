@@ -1,6 +1,6 @@
 pub mod Replays
 pub mod Laws
-pub mod OneWayTurns
+pub mod TurnSearch
 pub mod TurnCalls
 pub mod Gifts
 pub mod GiftSearch

@@ -6,10 +6,9 @@ ghost use Rattle.bd_audit.specs.Replies.{RepliesReachTheirCallers};
 ghost use Rattle.bd_audit.specs.Paths.{FramesLieOnOnePath};
 ghost use Rattle.bd_audit.specs.Latest.{RepliesAnswerTheLatestOpenCall};
 ghost use Rattle.bd_audit.specs.Ending.{CallsEndLatestFirst};
-ghost use Rattle.bd_audit.specs.OneWayTurns.{TurnsAreTaken};
 ghost use Rattle.bd_audit.specs.Streams.{StreamsSpellTheirItems};
 ghost use Rattle.bd_audit.specs.HandedReplies.{RepliesAreHandedOut};
-ghost use Rattle.bd_audit.specs.TurnCalls.{TurnsTellOfCalls};
+ghost use Rattle.bd_audit.specs.TurnCalls.{TurnsAreTaken, TurnsTellOfCalls};
 ghost use Rattle.bd_audit.specs.Hearing.{NoticesAreDue, OnlyOwnersHear, OwnersHearInOrder};
 
 /// Of the one-way calls of one object whose buffers live, one at most is due or handed out.
@@ -39,8 +38,8 @@ pub fn turns_are_taken()
     ensures { TurnsAreTaken }
 {}
 
-/// The turns of an object are the accepted one-way transactions on it, each with the places at which its call was handed
-/// out and its buffer went.
+/// Each object has its turns, and they are one list: the accepted one-way transactions on it, each once and by place, with
+/// the places at which its call was handed out and its buffer went.
 pub fn turns_tell_of_calls()
     ensures { TurnsTellOfCalls }
 {}
