@@ -63,10 +63,10 @@ abbrev pub TurnsTellOfCalls : Type 0
 TurnsTellOfCalls = (h : History) → IsHistory h → (o : ObjectId)
     → (ts : List Turn) × AreTurns h.entries o ts × ((us : List Turn) → AreTurns h.entries o us → us ≡ ts)
 
--- if the later was handed out, the earlier was handed out before it, and its buffer had ended before
+-- when the later one is handed out, the earlier was so already, and its buffer has gone
 abbrev pub IsTakenBefore : Turn → Turn → Type 0
 IsTakenBefore t u = (p : ℕ) → u.handed ≡ Some p → (q : ℕ) × (e : ℕ) × (t.handed ≡ Some q) × (t.ended ≡ Some e) × (q < p) × (e < p)
 
--- of the turns of an object, each earlier one was handed out, and its buffer had ended, before a later one was handed out
+-- so are each two turns of an object
 abbrev pub TurnsAreTaken : Type 0
 TurnsAreTaken = (h : History) → IsHistory h → (o : ObjectId) (ts : List Turn) → AreTurns h.entries o ts → AllPairs IsTakenBefore ts

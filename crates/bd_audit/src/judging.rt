@@ -67,8 +67,8 @@ pub(crate) fn accept(engine: &mut Engine, entry: &Entry) -> Result<(), AuditFaul
     }
 }
 
-/// Judges a record: Ok exactly where it is a history, and `Unlawful` with the place of the first entry at which it
-/// stops being one.
+/// Judges a record: Ok where it is a history and nowhere else; `Unlawful` tells up to which entry it is one. An entry for
+/// which a history has no place, or no handle left, is unlawful.
 pub fn replay(alloc: Global, record: &Record) -> Result<(), AuditFault>
     requires seats { (1 ≤ «record».now.seats) × («record».now.seats ≤ 16) }
     ensures history { MatchResult result (λ _. IsHistory (history_of «record».now)) (λ f. IfUnlawful f (λ at. IsHistory (history_of «record».now) → ⊥)) }

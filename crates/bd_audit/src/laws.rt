@@ -32,8 +32,8 @@ pub fn gone_unheld()
     ensures { GoneUnheld }
 {}
 
-/// If a later one-way call on an object was handed out, each earlier one was handed out before it, and its buffer had
-/// ended before.
+/// The one-way calls on an object are handed out in the order of their turns, and one at a time: when a call is handed out,
+/// the buffers of all before it have come and gone.
 pub fn turns_are_taken()
     ensures { TurnsAreTaken }
 {}
@@ -86,9 +86,9 @@ pub fn calls_end_latest_first()
     ensures { CallsEndLatestFirst }
 {}
 
-/// What the owner of an object is told of it, and acknowledges, is a beginning of: BR_INCREFS, then BR_ACQUIRE and
-/// BR_RELEASE by turns, then, with none open, BR_DECREFS. No BR_RELEASE comes before an accepted BC_ACQUIRE_DONE for the
-/// BR_ACQUIRE before it, and no BR_DECREFS before an accepted BC_INCREFS_DONE.
+/// An owner hears of its object in one order: BR_INCREFS first, BR_DECREFS last, and between them each BR_ACQUIRE is followed
+/// by its BR_RELEASE before another. Neither BR_RELEASE nor BR_DECREFS comes until what it takes back was acknowledged, and
+/// only what was heard is acknowledged, once.
 pub fn owners_hear_in_order()
     ensures { OwnersHearInOrder }
 {}
