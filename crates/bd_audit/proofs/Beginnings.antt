@@ -3,15 +3,19 @@ use Rattle.std.proofs.Common.{◌≡◌, ◌≤◌, ◌<◌, ◌+◌, ℕ, Bool,
 use Rattle.std.specs.Prelude.{nat_lt, nat_le}
 use Rattle.std.specs.List.{list_all}
 use Rattle.std.proofs.lemmas.Bool.{lt-leb}
-use Rattle.std.proofs.lemmas.List.{take-append-drop, take_more, length-take-le}
+use Rattle.std.proofs.lemmas.List.{take-append-drop, take_all, take_more, length-take-le}
 use Rattle.bd_space.specs.declared.step.Entry.{Entry}
 use Rattle.bd_space.specs.Space.{Space, opening}
 use Rattle.bd_space.specs.declared.step.StepAnswer.{StepAnswer}
 use Rattle.bd_space.specs.Steps.{step}
 use Rattle.bd_space.specs.Histories.{History, IsHistory, EntryFollows, Follows, after, next, space_after, is_at_limit}
+use Rattle.bd_space.specs.declared.step.Step.{Step}
+use Rattle.bd_engine.specs.declared.why.Why.{Why}
+use Rattle.bd_engine.specs.declared.why.Why.TheVariants as why
+use Rattle.bd_engine.specs.Refusals.{FullOnly}
 use Rattle.bd_audit.specs.declared.judging.AuditFault.{AuditFault}
 use Rattle.bd_audit.specs.declared.judging.AuditFault.TheVariants.{Unlawful, NoMemory}
-use Rattle.bd_audit.specs.Replays.{with_entry, beginning, Begins, IfUnlawful, StopsAt}
+use Rattle.bd_audit.specs.Replays.{with_entry, beginning, Begins, IfUnlawful, fault_of, StopsAt}
 
 pub follows-front : (s : Space) (es fs : List Entry) → Follows s (es ++ fs) → Follows s es
 follows-front s [] fs h = tt
@@ -83,21 +87,38 @@ past-limit h e limit k =
     let fits = l.follows.numbers in
     absurd (cc)
 
+-- an engine refuses a step for want of memory, or it is past the limit
+pub refused : (h : History) (e : Entry) (at : ℕ) (w : Why) (x : Step) (f : AuditFault) → f ≡ fault_of w at → x ≡ e.step → FullOnly w (is_at_limit h e.seat (Some x) ≡ true)
+    → IfUnlawful f (λ at. IsHistory (with_entry h e) → ⊥)
+refused h e at w x f is same_step full = subst (λ y. IfUnlawful y (λ at. IsHistory (with_entry h e) → ⊥)) (sym is) (by w full)
+  where
+    by : (w : Why) → FullOnly w (is_at_limit h e.seat (Some x) ≡ true) → IfUnlawful (fault_of w at) (λ at. IsHistory (with_entry h e) → ⊥)
+    by why.HistoryFull full = past-limit h e (subst (λ y. is_at_limit h e.seat (Some y) ≡ true) same_step full)
+    by why.NoMemory full = tt
+
 -- ---- places
 
 pub take-history : (n : ℕ) (h : History) → IsHistory h → IsHistory (beginning n h)
 take-history n h k = history-front h.seats (take n h.entries) (drop n h.entries) (subst (λ es. IsHistory (record { seats = h.seats; entries = es })) (sym (take-append-drop n h.entries)) k)
 
+pub front-lawful : (n : ℕ) (h : History) (es : List Entry) → es ≡ h.entries → IsHistory h → IsHistory (record { seats = h.seats; entries = take n es })
+front-lawful n h es same_es k = subst (λ xs. IsHistory (record { seats = h.seats; entries = take n xs })) (sym same_es) (take-history n h k)
+
 -- the entry at this place, one more than those before it
 pub one_more : (h : History) (i : ℕ) (e : Entry) → i < length h.entries → e ≡ get_or h.entries i e → with_entry (beginning i h) e ≡ beginning (i + 1) h
 one_more h i e lt is = ap (λ es. let k : History = record { seats = h.seats; entries = es } in k) (ap (λ x. take i h.entries ++ x ∷ []) is ∙ sym (take_more h.entries i e lt))
 
+-- the same of the entry as a loop finds it
+pub one-next : (h g : History) (i : ℕ) (e : Entry) (es : List Entry) → g ≡ beginning i h → es ≡ h.entries → i < length es → e ≡ get_or es i e → with_entry g e ≡ beginning (i + 1) h
+one-next h g i e es at_i same_es below found =
+    ap (λ (x : History). with_entry x e) at_i ∙ one_more h i e (subst (λ xs. i < length xs) same_es below) (subst (λ xs. e ≡ get_or xs i e) same_es found)
+
+pub next-lawful : (h g : History) (i : ℕ) (e : Entry) (es : List Entry) → IsHistory h → g ≡ beginning i h → es ≡ h.entries → i < length es → e ≡ get_or es i e → IsHistory (with_entry g e)
+next-lawful h g i e es lawful at_i same_es below found = subst IsHistory (sym (one-next h g i e es at_i same_es below found)) (take-history (i + 1) h lawful)
+
 pub not-history : (f : AuditFault) (h g : History) (i : ℕ) (e : Entry) → g ≡ beginning i h → (es : List Entry) → es ≡ h.entries → i < length es → e ≡ get_or es i e
     → IfUnlawful f (λ at. IsHistory (with_entry g e) → ⊥) → IfUnlawful f (λ at. IsHistory h → ⊥)
-not-history (Unlawful at) h g i e at_i es same_es below found not =
-    let lt : i < length h.entries = subst (λ xs. i < length xs) same_es below in
-    let is : e ≡ get_or h.entries i e = subst (λ xs. e ≡ get_or xs i e) same_es found in
-    λ k. not (subst IsHistory (sym (ap (λ x. with_entry x e) at_i ∙ one_more h i e lt is)) (take-history (i + 1) h k))
+not-history (Unlawful at) h g i e at_i es same_es below found not = λ k. not (next-lawful h g i e es k at_i same_es below found)
 not-history NoMemory h g i e at_i es same_es below found not = tt
 
 begun : (g k : History) → Begins g k → IsHistory k → IsHistory g
@@ -108,16 +129,20 @@ pub stops-there : (f : AuditFault) (h g k : History) (i : ℕ) (e : Entry) → g
     → IfUnlawful f (λ at. IsHistory (with_entry g e) → ⊥) → IfUnlawful f (StopsAt h)
 stops-there (Unlawful at) h g k i e at_i es same_es below found b l place not =
     let lt : i < length h.entries = subst (λ xs. i < length xs) same_es below in
-    let is : e ≡ get_or h.entries i e = subst (λ xs. e ≡ get_or xs i e) same_es found in
     let le : i ≤ length h.entries = omega arith in
     let here : at ≡ i = place ∙ ap (λ (x : History). length x.entries) at_i ∙ length-take-le i h.entries le in
     subst (StopsAt h) (sym here) (record {
       inside = lt;
       before = subst IsHistory at_i (begun g k b l);
-      stops = λ s. not (subst IsHistory (sym (ap (λ x. with_entry x e) at_i ∙ one_more h i e lt is)) s);
+      stops = λ s. not (subst IsHistory (sym (one-next h g i e es at_i same_es below found)) s);
     })
 stops-there NoMemory h g k i e at_i es same_es below found b l place not = tt
 
 pub next-beginning : (h g k : History) (i : ℕ) (e : Entry) (es : List Entry) → g ≡ beginning i h → es ≡ h.entries → i < length es → e ≡ get_or es i e → k ≡ with_entry g e → k ≡ beginning (i + 1) h
-next-beginning h g k i e es at_i same_es below found is =
-    is ∙ ap (λ (x : History). with_entry x e) at_i ∙ one_more h i e (subst (λ xs. i < length xs) same_es below) (subst (λ xs. e ≡ get_or xs i e) same_es found)
+next-beginning h g k i e es at_i same_es below found is = is ∙ one-next h g i e es at_i same_es below found
+
+-- after the last entry
+pub all-played : (h g : History) (i : ℕ) (es : List Entry) → g ≡ beginning i h → es ≡ h.entries → length es ≤ i → g ≡ h
+all-played h g i es at_i same_es le =
+    let past : length h.entries ≤ i = subst (λ xs. length xs ≤ i) same_es le in
+    at_i ∙ ap (λ xs. let k : History = record { seats = h.seats; entries = xs } in k) (take_all i h.entries past)

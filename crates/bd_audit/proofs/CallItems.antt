@@ -39,7 +39,7 @@ use Rattle.bd_audit.specs.Replies.{items_taken, items_read, items_unless}
 use Rattle.bd_audit.specs.TurnCalls.{CallsOneWay}
 use Rattle.bd_audit.proofs.EveryStep.{Keeps, every_step}
 use Rattle.bd_audit.proofs.Lists.{In, in-left, in-push, in-filter, filter-in, in-changed, changed-in, in-filter_map, any-in, fold-keeps}
-use Rattle.bd_audit.proofs.Tests.{not-true}
+use Rattle.bd_audit.proofs.Tests.{not-true, ripe-parts}
 use Rattle.bd_audit.proofs.OneWay
 use Rattle.bd_audit.proofs.OneWay.{Less, own_notices-less}
 use Rattle.bd_audit.proofs.Untouched
@@ -72,6 +72,17 @@ pub record DueOnce (m : ℕ) (buffers : List Buffer) (todo : List Work) : Type 0
   pub one : (v w : Work) → Hands m todo v → Hands m todo w → v ≡ w
   pub call : (w : Work) → Hands m todo w → is_call m w.kind ≡ true
   pub unread : (w : Work) → Hands m todo w → Unread m buffers w
+
+-- nothing hands over yet what a step makes
+pub fresh-once : (s : Space) → IsInTurn s → (m : ℕ) → m ≡ s.steps → DueOnce m s.buffers s.todo
+fresh-once s turns m is = record {
+  one = λ v w i j. absurd (none v i);
+  call = λ w i. absurd (none w i);
+  unread = λ w i. absurd (none w i);
+}
+  where
+    none : (w : Work) → Hands m s.todo w → ⊥
+    none w i = let lt = turns.fresh m (w, i.0, i.1) in omega arith
 
 -- a one-way transaction
 abbrev pub IsOneWay : Step → Type 0
@@ -205,12 +216,6 @@ module _ (s : Space) (e : Entry) (m : ℕ) where
       treats-untouched (tell_deaths b p) b (Untouched.tell_deaths-untouched b p) (OneWay.tell_deaths-less b p) (gone-process a p (gone-threads p h))
 
   -- ---- ripening
-
-  ripe-parts : (a b c : Bool) → (not a && not b && not c) ≡ true → (a ≡ false) × (c ≡ false)
-  ripe-parts false false false h = (refl, refl)
-  ripe-parts false false true h = absurd (cc)
-  ripe-parts false true c h = absurd (cc)
-  ripe-parts true b c h = absurd (cc)
 
   module _ (bs : List Buffer) (place : ℕ) where
     -- one call that ripens, with its buffer

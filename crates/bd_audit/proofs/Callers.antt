@@ -36,7 +36,8 @@ use Rattle.bd_audit.proofs.Beginnings.{after-append}
 use Rattle.bd_audit.proofs.Chains.{always-steps}
 use Rattle.bd_audit.proofs.Quiet.{made-changed}
 use Rattle.bd_audit.proofs.Answering.{Called, always-traced, actor-made}
-use Rattle.bd_audit.proofs.ReplyLaw.{between, stood, placed}
+use Rattle.bd_audit.proofs.ReplyLaw.{stood, placed}
+use Rattle.bd_audit.proofs.Places.{between}
 use Rattle.bd_audit.proofs.Seated as seated
 use Rattle.bd_audit.proofs.Seated.{seat_at, always-seated, made-pushed, made-before, none-left}
 use Rattle.bd_audit.proofs.Paths as path

@@ -38,7 +38,7 @@ use Rattle.bd_space.specs.Commands.{command_step}
 use Rattle.bd_space.specs.Outcomes.{Outcome, completed, refused}
 use Rattle.bd_space.specs.Reading.{taken, ends_read, bytes_read, read_by, read_fault, read_step, read_taking, buffer_in, buffer_taken, hand_out, handed_buffers}
 use Rattle.bd_space.specs.Steps.{change, by_actor}
-use Rattle.bd_audit.specs.OneWayTurns.{is_handed}
+use Rattle.bd_audit.specs.TurnSearch.{is_handed}
 use Rattle.bd_audit.specs.Replies.{items_taken, items_read, items_unless}
 use Rattle.bd_audit.specs.TurnCalls.{CallsOneWay}
 use Rattle.bd_audit.proofs.Lists.{In, in-last, find-in, find-some, changed-in}

@@ -52,6 +52,7 @@ use Rattle.bd_space.specs.Histories.{History, IsHistory, Follows, after}
 use Rattle.bd_calls.specs.Replies.{reply_of, first_reply_in}
 use Rattle.bd_audit.specs.Hearing.{is_got}
 use Rattle.bd_audit.specs.Replies.{items_read, items_taken, items_unless, reply_taken, At}
+use Rattle.bd_audit.specs.Streams.{SpellsItems}
 use Rattle.bd_audit.specs.HandedReplies.{is_reply, HandsOut}
 use Rattle.bd_audit.proofs.Lists.{In, find-some}
 use Rattle.bd_audit.proofs.Tests.{not-true}
@@ -277,23 +278,34 @@ module _ (z : Space) (seat : ℕ) (stream bytes offsets : List ℕ) where
 held-lives : (z : Space) → RepliesHeld z → (w : Work) (b : ℕ) → In w z.todo → reply_of w.kind ≡ Some b → is_some (buffer_in z.buffers b) ≡ true
 held-lives z h w b l e = let x = h.buffer w b l e in find-some (is_made_at b) x.buffer z.buffers x.here (eq-eqb x.buffer.made b x.made)
 
-hands-out : (z : Space) (e : Entry) (stream : List ℕ) → RepliesHeld z → IsPlain z → GotOf z e.seat e.step stream → HandsOut z e stream
-unfolding reply_taken
-hands-out z e stream held plain g =
-    let ws = items_taken z e.seat e.step in
-    record {
-      returns = br.Noop ∷ returns_of_all z ws;
-      spelt = g.stream_is ∙ spells-stream z ws;
-      replies = all-give z ws (λ w l. item-gives z w.kind (plain w (g.due w l)) (λ b k. held-lives z held w b (g.due w l) k));
-    }
+module _ (h : History) (lawful : IsHistory h) (i : ℕ) (stream bytes offsets : List ℕ) (at : At h.entries i (λ z e. e.answer ≡ Got stream bytes offsets)) where
+  abbrev z : Space
+  z = after opening at.0
 
-pub handed-out : (h : History) → IsHistory h → (i : ℕ) (stream bytes offsets : List ℕ) → At h.entries i (λ z e. e.answer ≡ Got stream bytes offsets)
-    → At h.entries i (λ z e. HandsOut z e stream)
-handed-out h lawful i stream bytes offsets at =
-    let before = at.0 in
-    let e = at.1 in
-    let z = after opening before in
-    let stands = at.2 in
-    let answer = at.3 in
-    let follows = (follows-rest opening before (e ∷ stands.rest) (subst (Follows opening) stands.all lawful.follows)).0 in
-    (before, e, stands, hands-out z e stream (always-held before) (always-plain before) (got-of z e.seat stream bytes offsets e.step (follows.answer ∙ answer)))
+  abbrev e : Entry
+  e = at.1
+
+  gotten : GotOf z e.seat e.step stream
+  gotten =
+      let stands = at.2 in
+      let follows = (follows-rest opening at.0 (e ∷ stands.rest) (subst (Follows opening) stands.all lawful.follows)).0 in
+      got-of z e.seat stream bytes offsets e.step (follows.answer ∙ at.3)
+
+  spells-items : SpellsItems z e stream
+  spells-items = gotten.stream_is ∙ spells-stream z (items_taken z e.seat e.step)
+
+  pub spelt : At h.entries i (λ z e. SpellsItems z e stream)
+  spelt = (at.0, e, at.2, spells-items)
+
+  pub handed-out : At h.entries i (λ z e. HandsOut z e stream)
+  unfolding reply_taken
+  handed-out = (
+    at.0,
+    e,
+    at.2,
+    record {
+      spelt = spells-items;
+      replies = all-give z (items_taken z e.seat e.step)
+          (λ w l. item-gives z w.kind (always-plain at.0 w (gotten.due w l)) (λ b k. held-lives z (always-held at.0) w b (gotten.due w l) k));
+    },
+  )

@@ -60,3 +60,6 @@ pub mod HandedReplies
 pub mod CallItems
 pub mod CallsOut
 pub mod TurnCalls
+pub mod Gone
+pub mod Places
+pub mod CallsOnce

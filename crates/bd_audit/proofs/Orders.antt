@@ -12,8 +12,8 @@ pub data Hearing : Type 0 where
   strongly : Bool → Bool → Hearing
   ended : Hearing
 
--- BR_INCREFS, then BR_ACQUIRE and BR_RELEASE by turns, then, with none open, BR_DECREFS, and nothing after it; but no
--- BR_RELEASE and no BR_DECREFS while what it undoes waits, and an acknowledgement only of what waits
+-- the state that an event leads to, if it may come there: what takes back waits until what it takes back is acknowledged,
+-- an acknowledgement answers what waits for it, and after BR_DECREFS nothing comes
 abbrev pub hears : Event → Hearing → Option Hearing
 hears increfs unheard = Some (weakly true)
 hears acquire (weakly waits) = Some (strongly waits true)

@@ -33,6 +33,8 @@ use Rattle.bd_audit.proofs.EveryStep.{Keeps, every_step}
 use Rattle.bd_audit.proofs.Lists.{In, in-push, in-filter, in-changed, find-in, any-in}
 use Rattle.bd_audit.proofs.Beginnings.{after-append}
 use Rattle.bd_audit.proofs.Chains.{always-steps}
+use Rattle.bd_audit.proofs.Places.{mid, later-space, next-place, either-way}
+use Rattle.bd_audit.proofs.CallsOnce.{handed-once}
 use Rattle.bd_audit.proofs.Quiet as quiet
 use Rattle.bd_audit.proofs.Quiet.{Quiet, with_work-quiet, quiet-trans}
 use Rattle.bd_audit.proofs.RepliesDue.{IsOwed, always-owed}
@@ -139,7 +141,7 @@ step-from s e = every_step s e.seat e.step (From s) (From s) (from-kept s e.seat
 abbrev pub NoFrame : ℕ → Space → Type 0
 NoFrame c z = (f : Frame) → In f z.frames → f.made ≡ c → ⊥
 
-next-steps : (s : Space) (e : Entry) → (next s e).steps ≡ suc s.steps
+pub next-steps : (s : Space) (e : Entry) → (next s e).steps ≡ suc s.steps
 unfolding counted
 next-steps s e = ap suc (step-from s e).steps
 
@@ -179,33 +181,12 @@ placed (x ∷ before) e rest (suc i) at = let k = placed before e rest i (omega 
 pub stood : (es : List Entry) (i : ℕ) (before : List Entry) (e : Entry) → Stands es i before e → (slice_get es i ≡ Some e) × (take i es ≡ before)
 stood es i before e k = subst (λ xs. (slice_get xs i ≡ Some e) × (take i xs ≡ before)) (sym k.all) (placed before e k.rest i k.at)
 
--- the later of two places has the earlier one before it
-pub between : (before later : List Entry) (e f : Entry) (rest more : List Entry) → before ++ e ∷ rest ≡ later ++ f ∷ more → length before < length later
-    → (mid : List Entry) × (later ≡ before ++ e ∷ mid)
-between before [] e f rest more is lt = absurd (omega arith)
-between [] (x ∷ later) e f rest more is lt = let head : e ≡ x = cc in (later, ap (λ y. y ∷ later) (sym head))
-between (y ∷ before) (x ∷ later) e f rest more is lt =
-    let head : y ≡ x = cc in
-    let tail : before ++ e ∷ rest ≡ later ++ f ∷ more = cc in
-    let k = between before later e f rest more tail (omega arith) in
-    (k.0, ap (λ z. z ∷ later) (sym head) ∙ ap (λ ys. y ∷ ys) k.1)
-
 module _ (es : List Entry) (i j : ℕ) (before later : List Entry) (e f : Entry) (at : Stands es i before e) (then : Stands es j later f) (lt : i < j) where
-  mid : (mid : List Entry) × (later ≡ before ++ e ∷ mid)
-  mid = between before later e f at.rest then.rest (sym at.all ∙ then.all) (let p = at.at in let q = then.at in omega arith)
-
-  -- the space before the later is one after the earlier
-  later-space : after opening later ≡ after (next (after opening before) e) mid.0
-  later-space = ap (λ xs. after opening xs) mid.1 ∙ after-append opening before (e ∷ mid.0)
-
-  next-place : (next (after opening before) e).steps ≡ suc i
-  next-place = next-steps (after opening before) e ∙ ap suc (always-steps before ∙ at.at)
-
   pub no_frame-later : (c : ℕ) → c < i → NoFrame c (next (after opening before) e) → NoFrame c (after opening later)
-  no_frame-later c below h = subst (NoFrame c) (sym later-space) (later-no_frame mid.0 (next (after opening before) e) c (let n = next-place in omega arith) h)
+  no_frame-later c below h = subst (NoFrame c) (sym (later-space es i j before later e f at then lt)) (later-no_frame (mid es i j before later e f at then lt).0 (next (after opening before) e) c (let n = next-place es i j before later e f at then lt in omega arith) h)
 
   pub no_reply-later : (b : ℕ) → b < i → NoReply b (next (after opening before) e) → NoReply b (after opening later)
-  no_reply-later b below h = subst (NoReply b) (sym later-space) (later-no_reply mid.0 (next (after opening before) e) b (let n = next-place in omega arith) h)
+  no_reply-later b below h = subst (NoReply b) (sym (later-space es i j before later e f at then lt)) (later-no_reply (mid es i j before later e f at then lt).0 (next (after opening before) e) b (let n = next-place es i j before later e f at then lt in omega arith) h)
 
 -- ---- a call is closed once, and a reply taken once
 
@@ -330,9 +311,6 @@ answered-by : (h : History) (s c : ℕ) → call_answered h s ≡ Some c → (w 
 unfolding call_answered
 answered-by h s c e = option_and_then_some (call_closed_at h) (reply_taken_at h s) c e (λ w f g. (w, f, g))
 
-either-way : (m n : ℕ) → (m < n → ⊥) → (n < m → ⊥) → m ≡ n
-either-way m n h k = omega (arith, h, k)
-
 pub reaches : (h : History) (s w : ℕ) → reply_taken_at h s ≡ Some w → Answered h s w
 reaches h s w e =
     let k = find-answer h s w e in
@@ -345,6 +323,7 @@ reaches h s w e =
       answers = answered h s w a.call e (closes-call h w a.call a.server a.replied);
       called = a.called;
       taken = a.taken;
+      once = λ p f. handed-once h.entries a.call k.caller a.called p a.handed f (let t = a.taken in (t.0, t.1, t.2, t.3.taken));
       replied = a.replied;
       read = k.read;
       call_first = a.call_first;

@@ -1,8 +1,8 @@
 -- The turns of an object tell of its one-way calls: each of one accepted transaction, and each such transaction has a turn.
-use Rattle.std.proofs.Common.{◌≡◌, ℕ, zero, suc, ◌<◌, ◌==◌, Bool, true, false, not, List, [], ◌∷◌, ◌++◌, length, Option, Some, None, ◌⊎◌, inl, inr, refl, ap, sym, subst, ◌∙◌, map, append_assoc, length-append, append-nil, arith}
-use Rattle.std.specs.List.{list_any, filter_map, slice_get}
+use Rattle.std.proofs.Common.{◌≡◌, ℕ, zero, suc, ◌<◌, ◌≤◌, ◌==◌, Bool, true, false, not, List, [], ◌∷◌, ◌++◌, length, Option, Some, None, ◌⊎◌, inl, inr, refl, ap, sym, subst, ◌∙◌, map, append_assoc, length-append, append-nil, arith}
+use Rattle.std.specs.List.{list_any, filter_map, slice_get, AllPairs}
 use Rattle.std.specs.Option.{is_some}
-use Rattle.std.proofs.lemmas.Bool.{eq-eqb}
+use Rattle.std.proofs.lemmas.Bool.{eqb-true, eq-eqb}
 use Rattle.bd_space.specs.declared.step.ObjectId.{ObjectId}
 use Rattle.bd_space.specs.declared.step.Entry.{Entry}
 use Rattle.bd_space.specs.declared.space.Buffer.{Buffer}
@@ -12,22 +12,22 @@ use Rattle.bd_space.specs.Space.{Space, opening}
 use Rattle.bd_space.specs.Todo.{is_call}
 use Rattle.bd_space.specs.Freeing.{is_made_at}
 use Rattle.bd_space.specs.Steps.{change, counted}
-use Rattle.bd_space.specs.Histories.{after, next}
+use Rattle.bd_space.specs.Histories.{History, IsHistory, after, next}
 use Rattle.bd_audit.specs.declared.turns.Turn.{Turn}
-use Rattle.bd_audit.specs.OneWayTurns.{is_call_on, is_live, is_handed, noted_at, marked, turn_made, next_turns, turns_from, turns_on}
-use Rattle.bd_audit.specs.Replies.{items_taken, At}
-use Rattle.bd_audit.specs.TurnCalls.{CallsOneWay, HandsOutCall, EndsBuffer, TellsOf, TurnsTellOfCalls}
+use Rattle.bd_audit.specs.TurnSearch.{is_call_on, is_live, is_handed, noted_at, marked, turn_made, next_turns, turns_from, turns_on}
+use Rattle.bd_audit.specs.Replies.{items_taken, HandsOutCall, At}
+use Rattle.bd_audit.specs.TurnCalls.{CallsOneWay, EndsBuffer, TellsOf, IsEarlier, AreTurns, TurnsTellOfCalls, IsTakenBefore, TurnsAreTaken}
 use Rattle.bd_audit.proofs.EveryStep.{every_list}
-use Rattle.bd_audit.proofs.Lists.{In, in-left, in-right, map-in, filter_map-in, any-found, any-in}
-use Rattle.bd_audit.proofs.Tests.{and-both, not-true, eq-same}
+use Rattle.bd_audit.proofs.Lists.{In, Pairs, pairs-map, pairs-at, at-pairs, in-left, in-right, map-in, filter_map-in, any-found, any-in}
+use Rattle.bd_audit.proofs.Tests.{and-both, not-true, not-false, eq-same}
 use Rattle.bd_audit.proofs.Beginnings.{after-append}
 use Rattle.bd_audit.proofs.InTurn.{is_call-hands}
 use Rattle.bd_audit.proofs.Passing.{On, Passing, step-passes}
 use Rattle.bd_audit.proofs.TurnLog as turn_log
-use Rattle.bd_audit.proofs.TurnLog.{Before, step-before, opening-before, one-buffer, Logged, log-after, no-turns, NewTurn, live-in, handed-found, noted-some, noted-kept, some-case, counted-buffers}
+use Rattle.bd_audit.proofs.TurnLog.{Before, step-before, opening-before, one-buffer, Logged, log-after, no-turns, NewTurn, InOrder, always-ordered, live-in, live-found, handed-found, noted-some, noted-kept, some-case, counted-buffers}
 use Rattle.bd_audit.proofs.Chains.{always-steps}
 use Rattle.bd_audit.proofs.Answering.{at-more, at-here, at-below}
-use Rattle.bd_audit.proofs.CallItems.{Hands, DueOnce, Treats, step-treats}
+use Rattle.bd_audit.proofs.CallItems.{Hands, DueOnce, fresh-once, Treats, step-treats}
 use Rattle.bd_audit.proofs.CallsOut.{items-due, hands-out, call-makes}
 
 -- ---- places
@@ -54,20 +54,34 @@ at-split es e p P h = elim (in-front es e h.0 h.1 h.2.rest h.2.all) [
   | inr m ↦ inr (sym h.2.at ∙ ap length m.0, subst (λ xs. P (after opening xs) e) m.0 (subst (P (after opening h.0)) m.1 h.3))
 ]
 
+in-slice : (ts : List Turn) (t : Turn) → In t ts → (i : ℕ) × (slice_get ts i ≡ Some t)
+in-slice [] t i = absurd i
+in-slice (x ∷ ts) t (inl e) = (zero, ap (λ y. Some y) e)
+in-slice (x ∷ ts) t (inr i) = let k = in-slice ts t i in (suc k.0, k.1)
+
 slice-in : (ts : List Turn) (i : ℕ) (t : Turn) → slice_get ts i ≡ Some t → In t ts
 slice-in [] i t h = absurd (cc)
 slice-in (x ∷ ts) zero t h = inl (cc)
 slice-in (x ∷ ts) (suc i) t h = inr (slice-in ts i t h)
 
-before-all : (es : List Entry) → Before (after opening es)
+pub before-all : (es : List Entry) → Before (after opening es)
 before-all es = every_list Before step-before es opening opening-before
 
 -- a call is handed out later than it was made
-handed-later : (es : List Entry) (p c : ℕ) → At es p (HandsOutCall c) → c < p
+pub handed-later : (es : List Entry) (p c : ℕ) → At es p (HandsOutCall c) → c < p
 handed-later es p c h =
     let s = after opening h.0 in
     let w = any-found (λ (w : Work). is_call c w.kind) (items_taken s h.1.seat h.1.step) h.3 in
     let lt = (before-all h.0).turns.fresh c (w.0, items-due s h.1.seat h.1.step w.0 w.1, is_call-hands c w.0.kind w.2) in
+    let steps = always-steps h.0 in
+    let at = h.2.at in omega arith
+
+-- and its buffer ends later
+ends-later : (es : List Entry) (p c : ℕ) → At es p (EndsBuffer c) → c < p
+ends-later es p c h =
+    let b = live-found (after opening h.0).buffers c h.3.0 in
+    let lt = (before-all h.0).turns.below b.0 b.1 in
+    let is = b.2 in
     let steps = always-steps h.0 in
     let at = h.2.at in omega arith
 
@@ -168,12 +182,25 @@ module _ (o : ObjectId) (es : List Entry) (e : Entry) (ts : List Turn) (k : Tell
           (live-in s.buffers b.0 u.made b.1.here b.1.made, ap (λ bs. is_live bs u.made) (counted-buffers z) ∙ not-true (is_live z.buffers u.made) g.1))
     ]
 
+    open-still : (b : Buffer) → In b s.buffers → b.made ≡ u.made → is_some u.ended ≡ false
+    open-still b here made = elim (some-case u.ended) [ inl n ↦ ap is_some n | inr q ↦ absurd (k.log.gone u i q.0 q.1 b here made) ]
+
+    old-unended : (p : ℕ) → At more p (EndsBuffer u.made) → (marked s.steps z.buffers u).ended ≡ Some p
+    old-unended p h = elim (at-split es e p (EndsBuffer u.made) h) [
+      | inl a ↦ noted-kept u.ended s.steps (not (is_live z.buffers u.made)) p ((k.tells u i).unended p a)
+      | inr a ↦ (
+          let b = live-found s.buffers u.made a.1.0 in
+          let gone : is_live z.buffers u.made ≡ false = ap (λ bs. is_live bs u.made) (sym (counted-buffers z)) ∙ a.1.1 in
+          noted-now u.ended s.steps p (not (is_live z.buffers u.made)) (open-still b.0 b.1 b.2) (not-false (is_live z.buffers u.made) gone) (a.0 ∙ sym (always-steps es)))
+    ]
+
     old-tells : In (marked s.steps z.buffers u) turns_after → TellsOf more o (marked s.steps z.buffers u)
     old-tells j = record {
       made = at-more es (e ∷ []) u.made (λ z e. CallsOneWay z e o) (k.tells u i).made;
       handed = old-handed;
       unhanded = old-unhanded;
       ended = old-ended;
+      unended = old-unended;
       lives = lives-more (marked s.steps z.buffers u) j;
     }
 
@@ -182,20 +209,9 @@ module _ (o : ObjectId) (es : List Entry) (e : Entry) (ts : List Turn) (k : Tell
 
   -- ---- the turn that the step makes
 
-  -- nothing hands over yet what this step makes
-  fresh-once : (m : ℕ) → m ≡ s.steps → DueOnce m s.buffers s.todo
-  fresh-once m is = record {
-    one = λ v w i j. absurd (none v i);
-    call = λ w i. absurd (none w i);
-    unread = λ w i. absurd (none w i);
-  }
-    where
-      none : (w : Work) → Hands m s.todo w → ⊥
-      none w i = let lt = before.turns.fresh m (w, i.0, i.1) in omega arith
-
   module _ (t : Turn) (i : In t turns_after) (c : Buffer) (n : NewTurn s z before passing.turns passing.passed o ts k.log t c) where
     new-calls : CallsOneWay s e o
-    new-calls = (treated t.made (fresh-once t.made n.1)).made o c n.0 n.4 n.5
+    new-calls = (treated t.made (fresh-once s before.turns t.made n.1)).made o c n.0 n.4 n.5
 
     new-tells : TellsOf more o t
     new-tells = record {
@@ -208,11 +224,17 @@ module _ (o : ObjectId) (es : List Entry) (e : Entry) (ts : List Turn) (k : Tell
           let steps = always-steps es in
           let made = n.1 in absurd (omega arith);
       ended = λ p f. let none = n.3 in absurd (cc);
+      unended = λ p h.
+          let lt = ends-later more p t.made h in
+          let below = at-below more p (EndsBuffer t.made) h in
+          let l = length-append es (e ∷ []) in
+          let steps = always-steps es in
+          let made = n.1 in absurd (omega arith);
       lives = lives-more t i;
     }
 
     new-once : DueOnce t.made z.buffers z.todo
-    new-once = let call = new-calls in (treated t.made (fresh-once t.made n.1)).once (inr (call.fields, call.parcel, call.command, call.one_way))
+    new-once = let call = new-calls in (treated t.made (fresh-once s before.turns t.made n.1)).once (inr (call.fields, call.parcel, call.command, call.one_way))
 
   -- ---- all turns
 
@@ -273,8 +295,86 @@ from-here o (e ∷ rest) before ts h =
     (subst (λ (y : Space). Telling o ((before ++ e ∷ []) ++ rest) (turns_from o y us rest)) (after-append opening before (e ∷ []))
     (from-here o rest (before ++ e ∷ []) us (step-telling o before e ts h)))
 
-pub turns-tell : TurnsTellOfCalls
+pub turns-are : (h : History) (o : ObjectId) → AreTurns h.entries o (turns_on o h)
 unfolding turns_on
-turns-tell h lawful o =
+turns-are h o =
     let k = from-here o h.entries [] [] (none-telling o) in
-    ((λ i t g. k.tells t (slice-in (turns_from o opening [] h.entries) i t g)), k.all)
+    let ts = turns_from o opening [] h.entries in
+    record {
+      tells = λ i t g. k.tells t (slice-in ts i t g);
+      all = k.all;
+      rising = pairs-at IsEarlier ts (pairs-map InOrder IsEarlier ts (λ t u i j r. r.earlier) (always-ordered o h));
+    }
+
+-- ---- there are no other turns
+
+same-option : (a b : Option ℕ) → ((p : ℕ) → a ≡ Some p → b ≡ Some p) → ((p : ℕ) → b ≡ Some p → a ≡ Some p) → a ≡ b
+same-option (Some p) b h k = sym (h p refl)
+same-option None (Some p) h k = k p refl
+same-option None None h k = refl
+
+same-turn : (es : List Entry) (o : ObjectId) (t u : Turn) → TellsOf es o t → TellsOf es o u → t.made ≡ u.made → t ≡ u
+same-turn es o t u h k is =
+    let handed = same-option t.handed u.handed
+    (λ p e. k.unhanded p (subst (λ c. At es p (HandsOutCall c)) is (h.handed p e))) (λ p e. h.unhanded p (subst (λ c. At es p (HandsOutCall c)) (sym is) (k.handed p e))) in
+    let ended = same-option t.ended u.ended
+    (λ p e. k.unended p (subst (λ c. At es p (EndsBuffer c)) is (h.ended p e))) (λ p e. h.unended p (subst (λ c. At es p (EndsBuffer c)) (sym is) (k.ended p e))) in
+    (λ i. record { made = is i; handed = handed i; ended = ended i })
+
+-- all turns of calls from the place n on
+record TurnsFrom (es : List Entry) (o : ObjectId) (n : ℕ) (ts : List Turn) : Type 0 where
+  tells : (t : Turn) → In t ts → TellsOf es o t
+  late : (t : Turn) → In t ts → n ≤ t.made
+  all : (c : ℕ) → n ≤ c → At es c (λ z e. CallsOneWay z e o) → (t : Turn) × In t ts × (t.made ≡ c)
+  rising : Pairs IsEarlier ts
+
+module _ (es : List Entry) (o : ObjectId) where
+  without-first : (n : ℕ) (t : Turn) (ts : List Turn) → TurnsFrom es o n (t ∷ ts) → TurnsFrom es o (suc t.made) ts
+  without-first n t ts h = record {
+    tells = λ u i. h.tells u (inr i);
+    late = λ u i. let lt = h.rising.0 u i in omega arith;
+    all = λ c le a.
+        let first = h.late t (inl refl) in
+        let u = h.all c (omega arith) a in
+        elim u.1 [ inl is ↦ (let made = ap (λ (x : Turn). x.made) is in let at = u.2 in absurd (omega arith)) | inr i ↦ (u.0, i, u.2) ];
+    rising = h.rising.1;
+  }
+
+  -- the first of one list isn't before the first of another
+  not-before : (n : ℕ) (t u : Turn) (ts us : List Turn) → TurnsFrom es o n (t ∷ ts) → TurnsFrom es o n (u ∷ us) → u.made ≤ t.made
+  not-before n t u ts us h k =
+      let x = k.all t.made (h.late t (inl refl)) (h.tells t (inl refl)).made in
+      let at = x.2 in
+      elim x.1 [ inl is ↦ (let made = ap (λ (y : Turn). y.made) is in omega arith) | inr i ↦ (let lt = k.rising.0 x.0 i in omega arith) ]
+
+  one-list : (ts us : List Turn) (n : ℕ) → TurnsFrom es o n ts → TurnsFrom es o n us → ts ≡ us
+  one-list [] [] n h k = refl
+  one-list [] (u ∷ us) n h k = absurd (h.all u.made (k.late u (inl refl)) (k.tells u (inl refl)).made).1
+  one-list (t ∷ ts) [] n h k = absurd (k.all t.made (h.late t (inl refl)) (h.tells t (inl refl)).made).1
+  one-list (t ∷ ts) (u ∷ us) n h k =
+      let le = not-before n t u ts us h k in
+      let ge = not-before n u t us ts k h in
+      let made : t.made ≡ u.made = omega arith in
+      let first = same-turn es o t u (h.tells t (inl refl)) (k.tells u (inl refl)) made in
+      let rest = one-list ts us (suc u.made) (subst (λ m. TurnsFrom es o (suc m) ts) made (without-first n t ts h)) (without-first n u us k) in
+      ap (λ x. x ∷ ts) first ∙ ap (λ xs. u ∷ xs) rest
+
+  as-told : (ts : List Turn) → AreTurns es o ts → TurnsFrom es o 0 ts
+  as-told ts h = record {
+    tells = λ t i. let k = in-slice ts t i in h.tells k.0 t k.1;
+    late = λ t i. omega arith;
+    all = λ c le a. let t = any-found (λ (t : Turn). t.made == c) ts (h.all c a) in (t.0, t.1, eqb-true t.0.made c t.2);
+    rising = at-pairs IsEarlier ts h.rising;
+  }
+
+pub turns-tell : TurnsTellOfCalls
+turns-tell h lawful o =
+    let ts = turns_on o h in
+    let are = turns-are h o in
+    (ts, are, λ us k. one-list h.entries o us ts 0 (as-told h.entries o us k) (as-told h.entries o ts are))
+
+pub turns-taken : TurnsAreTaken
+turns-taken h lawful o ts k =
+    let us = turns_on o h in
+    let same_turns = one-list h.entries o us ts 0 (as-told h.entries o us (turns-are h o)) (as-told h.entries o ts k) in
+    subst (AllPairs IsTakenBefore) same_turns (pairs-at IsTakenBefore us (pairs-map InOrder IsTakenBefore us (λ t u i j r. r.taken) (always-ordered o h)))

@@ -15,7 +15,8 @@ use Rattle.bd_space.specs.Steps.{change, counted}
 use Rattle.bd_space.specs.Histories.{History, next, space_after}
 use Rattle.bd_audit.proofs.EveryStep.{every_list}
 use Rattle.bd_audit.specs.declared.turns.Turn.{Turn}
-use Rattle.bd_audit.specs.OneWayTurns.{is_call_on, is_live, is_handed, noted_at, marked, turn_made, next_turns, turns_from, turns_on, IsTakenBefore}
+use Rattle.bd_audit.specs.TurnSearch.{is_call_on, is_live, is_handed, noted_at, marked, turn_made, next_turns, turns_from, turns_on}
+use Rattle.bd_audit.specs.TurnCalls.{IsTakenBefore}
 use Rattle.bd_audit.proofs.Lists.{In, Pairs, in-append, in-map, any-found, any-in, in-filter_map, pairs-either, pairs-at}
 use Rattle.bd_audit.proofs.Tests.{both, and-both, same-eq, eq-same, not-true}
 use Rattle.bd_audit.proofs.OneWay.{Due, Rivals, Waits}
@@ -40,7 +41,7 @@ pub record Before (s : Space) : Type 0 where
   pub objects : KeptBefore s
   pub received : Received s
 
-on-before : (s : Space) (o : ObjectId) (b c : Buffer) → Became s b c → On o c → On o b
+pub on-before : (s : Space) (o : ObjectId) (b c : Buffer) → Became s b c → On o c → On o b
 on-before s o b c k on = (sym k.one_way ∙ on.0, sym k.target ∙ on.1)
 
 on-after : (s : Space) (o : ObjectId) (b c : Buffer) → Became s b c → On o b → On o c
@@ -172,7 +173,7 @@ pub record Logged (o : ObjectId) (ts : List Turn) (s : Space) : Type 0 where
   pub over : (t : Turn) → In t ts → (p : ℕ) → t.ended ≡ Some p → t.handed ≡ None → Over o s
   pub order : Pairs InOrder ts
 
-live-found : (buffers : List Buffer) (made : ℕ) → is_live buffers made ≡ true → (c : Buffer) × In c buffers × (c.made ≡ made)
+pub live-found : (buffers : List Buffer) (made : ℕ) → is_live buffers made ≡ true → (c : Buffer) × In c buffers × (c.made ≡ made)
 live-found buffers made h = let c = any-found (is_made_at made) buffers h in (c.0, c.1, eqb-true c.0.made made c.2)
 
 pub live-in : (buffers : List Buffer) (c : Buffer) (made : ℕ) → In c buffers → c.made ≡ made → is_live buffers made ≡ true
@@ -524,6 +525,6 @@ pub always-before : (h : History) → Before (space_after h)
 unfolding space_after
 always-before h = every_list Before step-before h.entries opening opening-before
 
-pub taken-in_turn : (o : ObjectId) (h : History) → AllPairs IsTakenBefore (turns_on o h)
+pub always-ordered : (o : ObjectId) (h : History) → Pairs InOrder (turns_on o h)
 unfolding turns_on
-taken-in_turn o h = λ i j d lt le. (pairs-at InOrder (turns_on o h) (log-all o h.entries opening [] opening-before (no-turns o)).1.order i j d lt le).taken
+always-ordered o h = (log-all o h.entries opening [] opening-before (no-turns o)).1.order

@@ -1,27 +1,24 @@
 -- The replies that readings hand out, among the bytes of their answers.
-use Rattle.std.specs.Prelude.{ℕ, ◌≡◌, Bool, true, false, List, map, is_some}
-use Rattle.std.specs.List.{list_any, concat}
+use Rattle.std.specs.Prelude.{ℕ, ◌≡◌, Bool, true, false, List, is_some}
+use Rattle.std.specs.List.{list_any}
 use Rattle.bd_uapi.specs.declared.command.Return.{Return}
 use Rattle.bd_uapi.specs.declared.command.Return.TheVariants as br
-use Rattle.bd_codec.specs.Spelling.{return_bytes}
 use Rattle.bd_space.specs.declared.step.Entry.{Entry}
 use Rattle.bd_space.specs.declared.step.StepAnswer.TheVariants.{Got}
 use Rattle.bd_space.specs.Space.{Space}
 use Rattle.bd_space.specs.Histories.{History, IsHistory}
 use Rattle.bd_audit.specs.Replies.{reply_taken, At}
+use Rattle.bd_audit.specs.Streams.{SpellsItems, returns_given}
 
 -- a BR_REPLY
 abbrev pub is_reply : Return → Bool
 is_reply (br.Reply x) = true
 is_reply _ = false
 
--- The bytes spell these returns, among which there is a BR_REPLY exactly where the step takes a reply. Each spelling begins
--- with the return's code, which tells how long it is: so the bytes tell whether a BR_REPLY is among them. They tell the
--- returns themselves where the numbers have their widths: then no return's spelling begins another's (bd_codec).
+-- the bytes spell what the step's items give, and a BR_REPLY is there exactly where the step takes a reply
 pub record HandsOut (z : Space) (e : Entry) (stream : List ℕ) : Type 0 where
-  pub returns : List Return
-  pub spelt : stream ≡ concat (map return_bytes returns)
-  pub replies : list_any is_reply returns ≡ is_some (reply_taken z e)
+  pub spelt : SpellsItems z e stream
+  pub replies : list_any is_reply (returns_given z e) ≡ is_some (reply_taken z e)
 
 -- what a reading hands out has a BR_REPLY exactly where the reading takes a reply
 abbrev pub RepliesAreHandedOut : Type 0

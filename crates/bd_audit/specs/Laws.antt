@@ -53,7 +53,8 @@ abbrev pub ObjectsAreKept : Type 0
 ObjectsAreKept = (h : History) → IsHistory h → (n : ℕ)
     → (list_all (λ r. is_here (space_at h n) r.object) (space_at h n).references ≡ true) × (list_all (λ m. is_here (space_at h n) m.object) (space_at h n).names ≡ true)
 
--- an object that the step at place i takes out has no reference after it
+-- an object that the step at place i takes out never is in the space again, and has no reference, after that step and every later one
 abbrev pub GoneUnheld : Type 0
 GoneUnheld = (h : History) → IsHistory h → (i : ℕ) → i < length h.entries → (o : ObjectId)
-    → is_here (space_at h i) o ≡ true → is_here (space_at h (i + 1)) o ≡ false → held_in (space_at h (i + 1)).references o ≡ false
+    → is_here (space_at h i) o ≡ true → is_here (space_at h (i + 1)) o ≡ false
+    → (n : ℕ) → i < n → (is_here (space_at h n) o ≡ false) × (held_in (space_at h n).references o ≡ false)

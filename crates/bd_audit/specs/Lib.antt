@@ -1,6 +1,6 @@
 pub mod Replays
 pub mod Laws
-pub mod OneWayTurns
+pub mod TurnSearch
 pub mod TurnCalls
 pub mod Gifts
 pub mod GiftSearch
@@ -9,4 +9,5 @@ pub mod Paths
 pub mod Latest
 pub mod Ending
 pub mod Hearing
+pub mod Streams
 pub mod HandedReplies

@@ -3,6 +3,8 @@ use Rattle.std.specs.Prelude.{ℕ, ◌+◌, ◌<◌, ◌≡◌, List, [], ◌∷
 use Rattle.bd_space.specs.declared.step.Entry.{Entry}
 use Rattle.bd_space.specs.declared.record.Record.{Record}
 use Rattle.bd_space.specs.Histories.{History, IsHistory}
+use Rattle.bd_engine.specs.declared.why.Why.{Why}
+use Rattle.bd_engine.specs.declared.why.Why.TheVariants as why
 use Rattle.bd_audit.specs.declared.judging.AuditFault.{AuditFault}
 use Rattle.bd_audit.specs.declared.judging.AuditFault.TheVariants.{Unlawful, NoMemory}
 
@@ -23,6 +25,15 @@ pub record StopsAt (h : History) (at : ℕ) : Type 0 where
 abbrev pub IfUnlawful : AuditFault → (ℕ → Type 0) → Type 0
 IfUnlawful (Unlawful at) P = P at
 IfUnlawful NoMemory P = Unit {0}
+
+abbrev pub IfNoMemory : AuditFault → Type 0 → Type 0
+IfNoMemory (Unlawful at) P = Unit {0}
+IfNoMemory NoMemory P = P
+
+-- what an engine's refusal says of the entry at this place: one that no history has a place for isn't lawful
+abbrev pub fault_of : Why → ℕ → AuditFault
+fault_of why.HistoryFull at = Unlawful at
+fault_of why.NoMemory at = NoMemory
 
 -- one entry more
 abbrev pub with_entry : History → Entry → History

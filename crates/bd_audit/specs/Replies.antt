@@ -82,10 +82,14 @@ pub record Calls (s : Space) (e : Entry) (m : ℕ) : Type 0 where
   pub two_way : is_one_way fields ≡ false
   pub accepted : (step s e.seat e.step).answer ≡ Accepted
 
--- a reading of the thread made at m, to which the call made at c is handed out
+-- a reading to which the call made at c is handed out
+abbrev pub HandsOutCall : ℕ → Space → Entry → Type 0
+HandsOutCall c s e = list_any (λ w. is_call c w.kind) (items_taken s e.seat e.step) ≡ true
+
+-- one of the thread made at m
 pub record TakesCall (s : Space) (e : Entry) (c m : ℕ) : Type 0 where
   pub by : thread_made s e.seat ≡ Some m
-  pub taken : list_any (λ w. is_call c w.kind) (items_taken s e.seat e.step) ≡ true
+  pub taken : HandsOutCall c s e
 
 -- an accepted reply of the thread made at m, which closes the frame made at c, its innermost one
 pub record AnswersCall (s : Space) (e : Entry) (c m : ℕ) : Type 0 where
@@ -102,7 +106,7 @@ abbrev pub At : List Entry → ℕ → (Space → Entry → Type 0) → Type 0
 At es place P = (before : List Entry) × (e : Entry) × Stands es place before e × P (after opening before) e
 
 -- the reading at s takes the reply made at w: that answers one call, of the thread that reads at s, which was handed out
--- to the thread that replies at w; and no other reading answers it
+-- once, to the thread that replies at w; and no other reading answers it
 pub record Answered (h : History) (s w : ℕ) : Type 0 where
   pub call : ℕ
   pub handed : ℕ
@@ -111,6 +115,7 @@ pub record Answered (h : History) (s w : ℕ) : Type 0 where
   pub answers : call_answered h s ≡ Some call
   pub called : At h.entries call (λ z e. Calls z e caller)
   pub taken : At h.entries handed (λ z e. TakesCall z e call server)
+  pub once : (p : ℕ) → At h.entries p (HandsOutCall call) → p ≡ handed
   pub replied : At h.entries w (λ z e. AnswersCall z e call server)
   pub read : At h.entries s (λ z e. thread_made z e.seat ≡ Some caller)
   pub call_first : call < handed

@@ -1,7 +1,7 @@
--- The turns of an object, and the entries of the history that they tell of: its one-way calls, the readings to which these
--- were handed out, and the steps that took their buffers.
-use Rattle.std.specs.Prelude.{ℕ, ◌≡◌, ◌==◌, true, false, List, Option, Some, None, Ok}
-use Rattle.std.specs.List.{list_any, slice_get}
+-- The turns of an object: its one-way calls, by the places where they were made, each with the reading to which it was
+-- handed out and the step that took its buffer.
+use Rattle.std.specs.Prelude.{ℕ, ◌≡◌, ◌<◌, ◌==◌, Bool, true, false, List, Option, Some, None, Ok}
+use Rattle.std.specs.List.{list_any, slice_get, AllPairs}
 use Rattle.bd_uapi.specs.declared.command.Command.TheVariants.{Transaction}
 use Rattle.bd_uapi.specs.declared.command.TransactionData.{TransactionData}
 use Rattle.bd_space.specs.declared.step.ObjectId.{ObjectId}
@@ -12,13 +12,12 @@ use Rattle.bd_space.specs.declared.step.Entry.{Entry}
 use Rattle.bd_space.specs.declared.space.Actor.{Actor}
 use Rattle.bd_space.specs.Space.{Space, opening}
 use Rattle.bd_space.specs.Seats.{actor}
-use Rattle.bd_space.specs.Todo.{is_call}
 use Rattle.bd_space.specs.Transactions.{is_one_way, handle_of, target_of}
+use Rattle.bd_space.specs.Freeing.{is_made_at}
 use Rattle.bd_space.specs.Steps.{step}
 use Rattle.bd_space.specs.Histories.{History, IsHistory, after, next}
 use Rattle.bd_audit.specs.declared.turns.Turn.{Turn}
-use Rattle.bd_audit.specs.OneWayTurns.{is_live, turns_on}
-use Rattle.bd_audit.specs.Replies.{items_taken, At}
+use Rattle.bd_audit.specs.Replies.{HandsOutCall, At}
 
 -- an accepted one-way transaction on the object, which its handle names for the process that steps
 pub record CallsOneWay (s : Space) (e : Entry) (o : ObjectId) : Type 0 where
@@ -31,13 +30,13 @@ pub record CallsOneWay (s : Space) (e : Entry) (o : ObjectId) : Type 0 where
   pub target : target_of s actor_is.process.made (handle_of fields) ≡ Ok o
   pub accepted : (step s e.seat e.step).answer ≡ Accepted
 
--- a reading to which the call made at c is handed out
-abbrev pub HandsOutCall : ℕ → Space → Entry → Type 0
-HandsOutCall c s e = list_any (λ w. is_call c w.kind) (items_taken s e.seat e.step) ≡ true
+-- the buffer made at c lives
+abbrev pub has_buffer : Space → ℕ → Bool
+has_buffer s c = list_any (is_made_at c) s.buffers
 
--- the buffer made at c lives before the step, and no more after it
+-- it lives before the step, and no more after it
 abbrev pub EndsBuffer : ℕ → Space → Entry → Type 0
-EndsBuffer c s e = (is_live s.buffers c ≡ true) × (is_live (next s e).buffers c ≡ false)
+EndsBuffer c s e = (has_buffer s c ≡ true) × (has_buffer (next s e) c ≡ false)
 
 -- What a turn says of its call: where it was made; where it was handed out, and that it was so nowhere else; and where its
 -- buffer went. A buffer comes with its call, so that it lives until the turn ends.
@@ -46,10 +45,28 @@ pub record TellsOf (es : List Entry) (o : ObjectId) (t : Turn) : Type 0 where
   pub handed : (p : ℕ) → t.handed ≡ Some p → At es p (HandsOutCall t.made)
   pub unhanded : (p : ℕ) → At es p (HandsOutCall t.made) → t.handed ≡ Some p
   pub ended : (p : ℕ) → t.ended ≡ Some p → At es p (EndsBuffer t.made)
-  pub lives : t.ended ≡ None → is_live (after opening es).buffers t.made ≡ true
+  pub unended : (p : ℕ) → At es p (EndsBuffer t.made) → t.ended ≡ Some p
+  pub lives : t.ended ≡ None → has_buffer (after opening es) t.made ≡ true
 
--- each turn of an object tells of its call, and each accepted one-way transaction on the object has a turn
+abbrev pub IsEarlier : Turn → Turn → Type 0
+IsEarlier t u = t.made < u.made
+
+-- the turns of an object in these entries: each tells of its call, each accepted one-way transaction on the object has one,
+-- and they stand in the order in which the calls were made
+pub record AreTurns (es : List Entry) (o : ObjectId) (ts : List Turn) : Type 0 where
+  pub tells : (i : ℕ) (t : Turn) → slice_get ts i ≡ Some t → TellsOf es o t
+  pub all : (c : ℕ) → At es c (λ z e. CallsOneWay z e o) → list_any (λ t. t.made == c) ts ≡ true
+  pub rising : AllPairs IsEarlier ts
+
+-- each object has its turns, and they are one list
 abbrev pub TurnsTellOfCalls : Type 0
 TurnsTellOfCalls = (h : History) → IsHistory h → (o : ObjectId)
-    → ((i : ℕ) (t : Turn) → slice_get (turns_on o h) i ≡ Some t → TellsOf h.entries o t)
-    × ((c : ℕ) → At h.entries c (λ z e. CallsOneWay z e o) → list_any (λ t. t.made == c) (turns_on o h) ≡ true)
+    → (ts : List Turn) × AreTurns h.entries o ts × ((us : List Turn) → AreTurns h.entries o us → us ≡ ts)
+
+-- when the later one is handed out, the earlier was so already, and its buffer has gone
+abbrev pub IsTakenBefore : Turn → Turn → Type 0
+IsTakenBefore t u = (p : ℕ) → u.handed ≡ Some p → (q : ℕ) × (e : ℕ) × (t.handed ≡ Some q) × (t.ended ≡ Some e) × (q < p) × (e < p)
+
+-- so are each two turns of an object
+abbrev pub TurnsAreTaken : Type 0
+TurnsAreTaken = (h : History) → IsHistory h → (o : ObjectId) (ts : List Turn) → AreTurns h.entries o ts → AllPairs IsTakenBefore ts

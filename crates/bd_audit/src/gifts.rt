@@ -55,6 +55,7 @@ fn gift_made(
     receiver: u32,
     object: ObjectId,
 ) -> Result<Option<Gift>, Fault>
+    requires lawful { IsHistory (with_entry engine.old entry.now) }
     ensures ok { IfOk result (λ _. engine.new ≡ with_entry engine.old entry.now) }
     ensures gift { IfOk result (λ g. g ≡ spec.gift_made engine.old.entries entry.now receiver object) }
     ensures fault { IfErr result (λ f. f ≡ faults.NoMemory) }
@@ -81,6 +82,7 @@ fn gift_to(
     object: ObjectId,
 ) -> Result<Gift, Fault>
     requires seats { (1 ≤ seats) × (seats ≤ 16) }
+    requires lawful { IsHistory (record { seats = seats; entries = entries.now }) }
     requires named { spec.knows_after entries.now receiver object ≡ true }
     ensures { MatchResult result (spec.IsGift entries.now object receiver) (λ f. f ≡ faults.NoMemory) }
 {
@@ -105,6 +107,7 @@ fn chain_to(
     object: ObjectId,
 ) -> Result<Vec<u32>, Fault>
     requires seats { (1 ≤ «record».now.seats) × («record».now.seats ≤ 16) }
+    requires lawful { IsHistory (history_of «record».now) }
     requires named { spec.knows_after «record».now.entries receiver object ≡ true }
     ensures { MatchResult result (λ v. IsGiftChain «record».now.entries object v.items receiver) (λ f. f ≡ faults.NoMemory) }
 {

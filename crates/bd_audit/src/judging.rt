@@ -1,8 +1,9 @@
 //! Whether a record is a history.
 
-ghost use Rattle.std.specs.Prelude.{◌≡◌, ◌≤◌, length, IfOk, IfErr, MatchResult};
+ghost use Rattle.std.specs.Prelude.{◌≡◌, ◌≤◌, ◌<◌, length, IfOk, IfErr, MatchResult};
 ghost use Rattle.bd_space.specs.Histories.{IsHistory};
-ghost use Rattle.bd_audit.specs.Replays.{history_of, with_entry, Begins, IfUnlawful, StopsAt};
+ghost use Rattle.bd_audit.specs.Replays as spec;
+ghost use Rattle.bd_audit.specs.Replays.{history_of, with_entry, Begins, IfUnlawful, IfNoMemory, StopsAt};
 
 use crate::answers::{is_same_answer, step_copied};
 use bd_engine::{Engine, Why};
@@ -28,15 +29,27 @@ fn end(engine: Engine)
     let _ = engine.into_record();
 }
 
+// What the engine's refusal of the entry at this place means for the record.
+fn fault_of(why: Why, at: u32) -> AuditFault
+    ensures { result ≡ spec.fault_of why at }
+{
+    match why {
+        Why::HistoryFull => AuditFault::Unlawful { at },
+        Why::NoMemory => AuditFault::NoMemory,
+    }
+}
+
 /// Makes the entry's step, if its answer is then the entry's.
 pub(crate) fn accept(engine: &mut Engine, entry: &Entry) -> Result<(), AuditFault>
     ensures ok { IfOk result (λ _. engine.new ≡ with_entry engine.old entry.now) }
     ensures begins { Begins engine.old engine.new }
     ensures place { IfErr result (λ f. IfUnlawful f (λ at. at ≡ length engine.old.entries)) }
     ensures unlawful { IfErr result (λ f. IfUnlawful f (λ at. IsHistory (with_entry engine.old entry.now) → ⊥)) }
+    // A full history is found before memory is asked for.
+    ensures memory { IfErr result (λ f. IfNoMemory f (length engine.old.entries < 4294967295)) }
 {
     let at = engine.len();
-    if entry.seat >= engine.seats() {
+    if entry.seat >= engine.seats() || at == u32::MAX {
         return Err(AuditFault::Unlawful { at });
     }
     let Ok(step) = step_copied(&entry.step) else {
@@ -50,13 +63,12 @@ pub(crate) fn accept(engine: &mut Engine, entry: &Entry) -> Result<(), AuditFaul
                 Err(AuditFault::Unlawful { at })
             }
         }
-        Err(Why::HistoryFull) => Err(AuditFault::Unlawful { at }),
-        Err(Why::NoMemory) => Err(AuditFault::NoMemory),
+        Err(why) => Err(fault_of(why, at)),
     }
 }
 
-/// Judges a record: Ok exactly where it is a history, and `Unlawful` with the place of the first entry at which it
-/// stops being one.
+/// Judges a record: Ok where it is a history and nowhere else; `Unlawful` tells up to which entry it is one. An entry for
+/// which a history has no place, or no handle left, is unlawful.
 pub fn replay(alloc: Global, record: &Record) -> Result<(), AuditFault>
     requires seats { (1 ≤ «record».now.seats) × («record».now.seats ≤ 16) }
     ensures history { MatchResult result (λ _. IsHistory (history_of «record».now)) (λ f. IfUnlawful f (λ at. IsHistory (history_of «record».now) → ⊥)) }

@@ -6,9 +6,9 @@ ghost use Rattle.bd_audit.specs.Replies.{RepliesReachTheirCallers};
 ghost use Rattle.bd_audit.specs.Paths.{FramesLieOnOnePath};
 ghost use Rattle.bd_audit.specs.Latest.{RepliesAnswerTheLatestOpenCall};
 ghost use Rattle.bd_audit.specs.Ending.{CallsEndLatestFirst};
-ghost use Rattle.bd_audit.specs.OneWayTurns.{TurnsAreTaken};
+ghost use Rattle.bd_audit.specs.Streams.{StreamsSpellTheirItems};
 ghost use Rattle.bd_audit.specs.HandedReplies.{RepliesAreHandedOut};
-ghost use Rattle.bd_audit.specs.TurnCalls.{TurnsTellOfCalls};
+ghost use Rattle.bd_audit.specs.TurnCalls.{TurnsAreTaken, TurnsTellOfCalls};
 ghost use Rattle.bd_audit.specs.Hearing.{NoticesAreDue, OnlyOwnersHear, OwnersHearInOrder};
 
 /// Of the one-way calls of one object whose buffers live, one at most is due or handed out.
@@ -27,19 +27,19 @@ pub fn objects_are_kept()
     ensures { ObjectsAreKept }
 {}
 
-/// An object that a step takes out of the space has no reference after that step.
+/// An object that a step takes out of the space has no reference from then on, and its identity never comes back.
 pub fn gone_unheld()
     ensures { GoneUnheld }
 {}
 
-/// If a later one-way call on an object was handed out, each earlier one was handed out before it, and its buffer had
-/// ended before.
+/// The one-way calls on an object are handed out in the order of their turns, and one at a time: when a call is handed out,
+/// the buffers of all before it have come and gone.
 pub fn turns_are_taken()
     ensures { TurnsAreTaken }
 {}
 
-/// The turns of an object are the accepted one-way transactions on it, each with the places at which its call was handed
-/// out and its buffer went.
+/// Each object has its turns, and they are one list: the accepted one-way transactions on it, each once and by place, with
+/// the places at which its call was handed out and its buffer went.
 pub fn turns_tell_of_calls()
     ensures { TurnsTellOfCalls }
 {}
@@ -56,7 +56,13 @@ pub fn replies_reach_their_callers()
     ensures { RepliesReachTheirCallers }
 {}
 
-/// What a reading hands out has a BR_REPLY exactly where the reading takes a reply.
+/// The bytes that a reading answers spell a BR_NOOP and then what the items that it takes give, in their order: so the bytes
+/// tell what an owner hears of its objects, and where a reply is handed out.
+pub fn streams_spell_their_items()
+    ensures { StreamsSpellTheirItems }
+{}
+
+/// Among what a reading hands out there is a BR_REPLY exactly where the reading takes a reply.
 pub fn replies_are_handed_out()
     ensures { RepliesAreHandedOut }
 {}
@@ -80,9 +86,9 @@ pub fn calls_end_latest_first()
     ensures { CallsEndLatestFirst }
 {}
 
-/// What the owner of an object is told of it, and acknowledges, is a beginning of: BR_INCREFS, then BR_ACQUIRE and
-/// BR_RELEASE by turns, then, with none open, BR_DECREFS. No BR_RELEASE comes before an accepted BC_ACQUIRE_DONE for the
-/// BR_ACQUIRE before it, and no BR_DECREFS before an accepted BC_INCREFS_DONE.
+/// An owner hears of its object in one order: BR_INCREFS first, BR_DECREFS last, and between them each BR_ACQUIRE is followed
+/// by its BR_RELEASE before another. Neither BR_RELEASE nor BR_DECREFS comes until what it takes back was acknowledged, and
+/// only what was heard is acknowledged, once.
 pub fn owners_hear_in_order()
     ensures { OwnersHearInOrder }
 {}

@@ -2,6 +2,8 @@
 #![tactic(auto)]
 
 mod answers;
+#[cfg(test)]
+mod gift_tests;
 mod gifts;
 mod judging;
 mod laws;
@@ -17,7 +19,8 @@ pub use laws::{
     calls_end_latest_first, frames_lie_on_one_path, gone_unheld, names_have_gift_chains,
     notices_are_due, objects_are_kept, one_at_a_time, one_way_calls_are_due_in_turn,
     only_owners_hear, owners_hear_in_order, replies_answer_the_latest_open_call,
-    replies_are_handed_out, replies_reach_their_callers, turns_are_taken, turns_tell_of_calls,
+    replies_are_handed_out, replies_reach_their_callers, streams_spell_their_items,
+    turns_are_taken, turns_tell_of_calls,
 };
 pub use replies::call_of_reply;
 pub use turns::{Turn, oneway_turns};

@@ -2,9 +2,10 @@
 
 ghost use Rattle.std.specs.Prelude.{◌≡◌, ◌≤◌, IfOk, IfErr, MatchResult};
 ghost use Rattle.bd_uapi.specs.declared.fault.Fault.TheVariants as faults;
+ghost use Rattle.bd_space.specs.Histories.{IsHistory};
 ghost use Rattle.bd_audit.specs.Replays.{with_entry};
 
-use crate::judging::accept;
+use crate::judging::{AuditFault, accept};
 use bd_engine::Engine;
 use bd_space::Entry;
 use bd_uapi::Fault;
@@ -12,18 +13,21 @@ use std::alloc::Global;
 
 // Makes the step of an entry of a history.
 pub(crate) fn advance(engine: &mut Engine, entry: &Entry) -> Result<(), Fault>
+    requires lawful { IsHistory (with_entry engine.old entry.now) }
     ensures ok { IfOk result (λ _. engine.new ≡ with_entry engine.old entry.now) }
     ensures fault { IfErr result (λ f. f ≡ faults.NoMemory) }
 {
     match accept(engine, entry) {
         Ok(()) => Ok(()),
-        Err(_) => Err(Fault::NoMemory),
+        Err(AuditFault::NoMemory) => Err(Fault::NoMemory),
+        Err(AuditFault::Unlawful { .. }) => unreachable!(),
     }
 }
 
 /// An engine that has made the steps of these entries.
 pub(crate) fn played(alloc: Global, seats: u32, entries: &[Entry]) -> Result<Engine, Fault>
-    requires { (1 ≤ seats) × (seats ≤ 16) }
+    requires seats { (1 ≤ seats) × (seats ≤ 16) }
+    requires lawful { IsHistory (record { seats = seats; entries = entries.now }) }
     ensures { MatchResult result (λ e. e ≡ record { seats = seats; entries = entries.now }) (λ f. f ≡ faults.NoMemory) }
 {
     let Ok(mut engine) = Engine::new(alloc, seats) else {

@@ -3,7 +3,7 @@
 ghost use Rattle.std.specs.Prelude.{◌≡◌, ◌≤◌, length, IfOk, IfErr, MatchResult};
 ghost use Rattle.bd_uapi.specs.declared.fault.Fault.TheVariants as faults;
 ghost use Rattle.bd_space.specs.Histories.{IsHistory, space_after};
-ghost use Rattle.bd_audit.specs.Replays.{history_of, beginning};
+ghost use Rattle.bd_audit.specs.Replays.{history_of, with_entry, beginning};
 ghost use Rattle.bd_audit.specs.Replies as spec;
 
 use crate::playing::{advance, played};
@@ -15,6 +15,7 @@ use std::alloc::Global;
 // The engine before the entry at this place.
 fn played_to(alloc: Global, record: &Record, place: usize) -> Result<Engine, Fault>
     requires seats { (1 ≤ «record».now.seats) × («record».now.seats ≤ 16) }
+    requires lawful { IsHistory (history_of «record».now) }
     requires inside { place ≤ length «record».now.entries }
     ensures ok { IfOk result (λ e. e ≡ beginning place (history_of «record».now)) }
     ensures fault { IfErr result (λ f. f ≡ faults.NoMemory) }
@@ -24,6 +25,7 @@ fn played_to(alloc: Global, record: &Record, place: usize) -> Result<Engine, Fau
 
 // The reply that the entry's reading takes: the first on the thread's list, if it is not the first any more after it.
 fn take_reply(engine: &mut Engine, entry: &Entry) -> Result<Option<u32>, Fault>
+    requires lawful { IsHistory (with_entry engine.old entry.now) }
     ensures { MatchResult result (λ r. r ≡ spec.reply_taken (space_after engine.old) entry.now) (λ f. f ≡ faults.NoMemory) }
 {
     match &entry.step {
@@ -43,6 +45,7 @@ fn take_reply(engine: &mut Engine, entry: &Entry) -> Result<Option<u32>, Fault>
 // The reply that the reading at this place took.
 fn reply_taken_at(alloc: Global, record: &Record, place: u32) -> Result<Option<u32>, Fault>
     requires seats { (1 ≤ «record».now.seats) × («record».now.seats ≤ 16) }
+    requires lawful { IsHistory (history_of «record».now) }
     ensures { MatchResult result (λ r. r ≡ spec.reply_taken_at (history_of «record».now) place) (λ f. f ≡ faults.NoMemory) }
 {
     match record.entries.as_slice().get(place as usize) {
@@ -57,6 +60,7 @@ fn reply_taken_at(alloc: Global, record: &Record, place: u32) -> Result<Option<u
 // The call that the reply at this place answers.
 fn call_closed_at(alloc: Global, record: &Record, place: u32) -> Result<Option<u32>, Fault>
     requires seats { (1 ≤ «record».now.seats) × («record».now.seats ≤ 16) }
+    requires lawful { IsHistory (history_of «record».now) }
     ensures { MatchResult result (λ r. r ≡ spec.call_closed_at (history_of «record».now) place) (λ f. f ≡ faults.NoMemory) }
 {
     match record.entries.as_slice().get(place as usize) {

@@ -8,7 +8,7 @@ use std::alloc::Global;
 use std::process::Abort;
 use std::test::Fail;
 
-fn fields(code: u32) -> TransactionData {
+pub(crate) fn fields(code: u32) -> TransactionData {
     TransactionData {
         target: 0,
         cookie: 0,
@@ -23,7 +23,7 @@ fn fields(code: u32) -> TransactionData {
     }
 }
 
-fn open(pid: u32, euid: u32) -> Step {
+pub(crate) fn open(pid: u32, euid: u32) -> Step {
     Step::Open {
         pid,
         euid,
@@ -41,8 +41,15 @@ fn carried(alloc: Global, command: Command) -> Step {
     }
 }
 
-fn read() -> Step {
+pub(crate) fn read() -> Step {
     Step::Read { limit: 256 }
+}
+
+pub(crate) fn enter() -> Step {
+    Step::Command {
+        command: Command::EnterLooper,
+        parcel: None,
+    }
 }
 
 // The steps of the example, each with its seat; the parcels are empty.
@@ -50,13 +57,7 @@ fn step_at(alloc: Global, place: u32) -> (u32, Step) {
     match place {
         0 => (0, open(100, 1000)),
         1 => (0, Step::SetManager),
-        2 => (
-            0,
-            Step::Command {
-                command: Command::EnterLooper,
-                parcel: None,
-            },
-        ),
+        2 => (0, enter()),
         3 => (1, open(200, 2000)),
         4 => (1, carried(alloc, Command::Transaction(fields(9)))),
         5 => (1, read()),
@@ -67,7 +68,7 @@ fn step_at(alloc: Global, place: u32) -> (u32, Step) {
     }
 }
 
-fn take(engine: &mut Engine, seat: u32, step: Step) -> bool {
+pub(crate) fn take(engine: &mut Engine, seat: u32, step: Step) -> bool {
     seat < engine.seats() && engine.step(seat, step).is_ok()
 }
 

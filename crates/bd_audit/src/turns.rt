@@ -6,7 +6,8 @@ ghost use Rattle.std.specs.Option.{option_to_list};
 ghost use Rattle.bd_uapi.specs.declared.fault.Fault.TheVariants as faults;
 ghost use Rattle.bd_space.specs.Histories.{IsHistory, space_after};
 ghost use Rattle.bd_audit.specs.Replays.{history_of};
-ghost use Rattle.bd_audit.specs.OneWayTurns as spec;
+ghost use Rattle.bd_audit.specs.TurnCalls.{AreTurns};
+ghost use Rattle.bd_audit.specs.TurnSearch as spec;
 
 use crate::playing::advance;
 use bd_engine::Engine;
@@ -113,12 +114,12 @@ fn note(turns: &mut Vec<Turn>, engine: &Engine, place: u32, object: ObjectId) ->
     }
 }
 
-/// The one-way calls on an object, in the order in which they were made. The record is a history; the only fault is
-/// `NoMemory`.
+/// The turns of an object: its one-way calls in the order in which they were made, each once. The record is a history; the
+/// only fault is `NoMemory`.
 pub fn oneway_turns(alloc: Global, record: &Record, object: ObjectId) -> Result<Vec<Turn>, Fault>
     requires seats { (1 ≤ «record».now.seats) × («record».now.seats ≤ 16) }
     requires lawful { IsHistory (history_of «record».now) }
-    ensures { MatchResult result (λ v. v.items ≡ spec.turns_on object (history_of «record».now)) (λ f. f ≡ faults.NoMemory) }
+    ensures { MatchResult result (λ v. AreTurns «record».now.entries object v.items) (λ f. f ≡ faults.NoMemory) }
 {
     let Ok(mut engine) = Engine::new(alloc, record.seats) else {
         return Err(Fault::NoMemory);

@@ -1,8 +1,14 @@
 use Rattle.std.proofs.Common.{refl, ap}
 use Rattle.bd_space.specs.Histories.{History}
-use Rattle.bd_audit.proofs.Beginnings.{next-beginning}
+use Rattle.bd_audit.proofs.Beginnings.{next-beginning, next-lawful}
 use Rattle.bd_audit.proofs.GiftSteps.{found-next}
 use Rattle.bd_audit.proofs.gifts.gift_to.Goals as goal
+
+pub gift_made-requires : goal.gift_made-requires
+gift_made-requires c = record {
+  lawful = next-lawful (record { seats = c.args.seats; entries = c.args.entries.now }) c.loop-entry.engine c.loop-entry.entry-index c.entry-item.result c.args.entries.now c.requires.lawful
+      c.loop-entry.invariant.engine refl c.loop-entry-test.true c.entry-item.is;
+}
 
 pub loop-entry-preserved : goal.loop-entry-preserved
 loop-entry-preserved c = record {

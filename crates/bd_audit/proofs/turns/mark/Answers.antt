@@ -1,6 +1,6 @@
 use Rattle.std.proofs.Common.{arith}
 use Rattle.bd_space.specs.Histories.{space_after}
-use Rattle.bd_audit.specs.OneWayTurns.{marked}
+use Rattle.bd_audit.specs.TurnSearch.{marked}
 use Rattle.bd_audit.proofs.TurnLists.{mark-next}
 use Rattle.bd_audit.proofs.turns.mark.Goals as goal
 

@@ -1,6 +1,6 @@
 use Rattle.std.proofs.Common.{◌≡◌, ◌++◌, map, take, drop}
 use Rattle.bd_space.specs.Histories.{space_after}
-use Rattle.bd_audit.specs.OneWayTurns.{marked}
+use Rattle.bd_audit.specs.TurnSearch.{marked}
 use Rattle.bd_audit.proofs.turns.mark.Given as goal
 
 abbrev pub invariant-loop-turn : goal.invariant-loop-turn

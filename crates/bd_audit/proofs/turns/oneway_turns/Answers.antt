@@ -1,15 +1,23 @@
-use Rattle.std.proofs.Common.{◌∙◌, sym, ap}
+use Rattle.std.proofs.Common.{◌∙◌, sym, ap, subst, arith}
 use Rattle.bd_space.specs.Histories.{History}
 use Rattle.bd_audit.specs.Replays.{history_of}
-use Rattle.bd_audit.specs.OneWayTurns.{turns_on}
-use Rattle.bd_audit.proofs.Beginnings.{next-beginning}
+use Rattle.bd_audit.specs.TurnSearch.{turns_on}
+use Rattle.bd_audit.specs.TurnCalls.{AreTurns}
+use Rattle.bd_audit.proofs.Beginnings.{all-played, next-beginning, next-lawful}
 use Rattle.bd_audit.proofs.TurnLists.{turns-noted, turns-none}
+use Rattle.bd_audit.proofs.TurnCalls.{turns-are}
 use Rattle.bd_audit.proofs.turns.oneway_turns.Goals as goal
 
 pub loop-entry-init : goal.loop-entry-init
 loop-entry-init c = record {
   engine = c.in-Ok.ensures.ok;
   turns = c.new-turns.ensures.items ∙ sym (ap (λ (h : History). turns_on c.args.object h) c.in-Ok.ensures.ok ∙ turns-none c.args.object c.args.record.now.seats);
+}
+
+pub advance-requires : goal.advance-requires
+advance-requires c = record {
+  lawful = next-lawful (history_of c.args.record.now) c.loop-entry.engine c.loop-entry.entry-index c.entry-item.result c.as_slice-entry-items.result.now c.requires.lawful
+      c.loop-entry.invariant.engine c.as_slice-entry-items.ensures c.loop-entry-test.true c.entry-item.is;
 }
 
 pub loop-entry-preserved : goal.loop-entry-preserved
@@ -19,3 +27,11 @@ loop-entry-preserved c = record {
   turns = turns-noted c.args.object c.loop-entry.engine c.advance.new.engine c.entry-item.result c.len-place.result c.loop-entry.turns.items c.note.new.turns.items
       c.in_ok-advance.ensures.ok c.len-place.ensures c.loop-entry.invariant.turns c.in_ok-note.ensures.ok;
 }
+
+pub returns : goal.returns
+returns c =
+    let h = history_of c.args.record.now in
+    let o = c.args.object in
+    let done = c.loop-entry-test.false in
+    let played = all-played h c.loop-entry.engine c.loop-entry.entry-index c.as_slice-entry-items.result.now c.loop-entry.invariant.engine c.as_slice-entry-items.ensures (omega arith) in
+    subst (λ ts. AreTurns h.entries o ts) (sym (c.loop-entry.invariant.turns ∙ ap (λ (g : History). turns_on o g) played)) (turns-are h o)

@@ -1,6 +1,6 @@
 use Rattle.std.proofs.Common.{◌≡◌}
 use Rattle.bd_audit.specs.Replays.{history_of, beginning}
-use Rattle.bd_audit.specs.OneWayTurns.{turns_on}
+use Rattle.bd_audit.specs.TurnSearch.{turns_on}
 use Rattle.bd_audit.proofs.turns.oneway_turns.Given as goal
 
 abbrev pub invariant-loop-entry : goal.invariant-loop-entry

@@ -1,13 +1,13 @@
--- The one-way calls on an object, turn by turn: when each was made, handed out and ended.
-use Rattle.std.specs.Prelude.{ℕ, ◌≡◌, ◌<◌, Bool, true, false, not, ◌&&◌, List, [], ◌∷◌, ◌++◌, Option, Some, None, map}
-use Rattle.std.specs.List.{list_any, filter_map, AllPairs}
+-- The turns of an object as a search notes them, step by step.
+use Rattle.std.specs.Prelude.{ℕ, Bool, true, false, not, ◌&&◌, List, [], ◌∷◌, ◌++◌, Option, Some, None, map}
+use Rattle.std.specs.List.{list_any, filter_map}
 use Rattle.bd_space.specs.declared.step.ObjectId.{ObjectId}
 use Rattle.bd_space.specs.declared.step.Entry.{Entry}
 use Rattle.bd_space.specs.declared.space.Buffer.{Buffer}
 use Rattle.bd_space.specs.Words.{when, is_some_and, same}
 use Rattle.bd_space.specs.Space.{Space, opening}
 use Rattle.bd_space.specs.Freeing.{is_made_at}
-use Rattle.bd_space.specs.Histories.{History, IsHistory, next}
+use Rattle.bd_space.specs.Histories.{History, next}
 use Rattle.bd_audit.specs.declared.turns.Turn.{Turn}
 
 -- the buffer is a one-way call's on this object
@@ -47,14 +47,6 @@ abbrev pub turns_from : ObjectId → Space → List Turn → List Entry → List
 turns_from o s ts [] = ts
 turns_from o s ts (e ∷ es) = turns_from o (next s e) (next_turns o s.steps (next s e).buffers ts) es
 
--- the turns of an object, in the order in which they were made
+-- after all steps of a history
 unfoldable pub turns_on : ObjectId → History → List Turn
 turns_on o h = turns_from o opening [] h.entries
-
--- if the later was handed out, the earlier was handed out before it, and its buffer had ended before
-abbrev pub IsTakenBefore : Turn → Turn → Type 0
-IsTakenBefore t u = (p : ℕ) → u.handed ≡ Some p → (q : ℕ) × (e : ℕ) × (t.handed ≡ Some q) × (t.ended ≡ Some e) × (q < p) × (e < p)
-
--- of the turns of an object, each earlier one was handed out, and its buffer had ended, before a later one was handed out
-abbrev pub TurnsAreTaken : Type 0
-TurnsAreTaken = (h : History) → IsHistory h → (o : ObjectId) → AllPairs IsTakenBefore (turns_on o h)

@@ -1,0 +1,100 @@
+//! The certificate of a name by ten gifts, with ample memory: an object goes to and fro between two processes.
+
+use crate::gift_chain;
+use crate::reply_tests::{enter, fields, open, read, take};
+use bd_engine::Engine;
+use bd_space::{Bytes, Parcel, Step};
+use bd_uapi::{Command, TransactionData, TransactionFlags};
+use std::alloc::{AllocError, Global};
+use std::process::Abort;
+use std::test::Fail;
+
+// An object of the sender's own, with this ptr.
+fn own(ptr: u16) -> [u8; 24] {
+    let [low, high] = ptr.to_le_bytes();
+    [
+        0x85, 0x2a, 0x62, 0x73, 0, 0, 0, 0, low, high, 0, 0, 0, 0, 0, 0, 0, 0, 0, 0, 0, 0, 0, 0,
+    ]
+}
+
+// One that the sender names by this handle.
+fn named(handle: u8) -> [u8; 24] {
+    [
+        0x85, 0x2a, 0x68, 0x73, 0, 0, 0, 0, handle, 0, 0, 0, 0, 0, 0, 0, 0, 0, 0, 0, 0, 0, 0, 0,
+    ]
+}
+
+// A one-way call on a handle, which carries one object.
+fn giving(alloc: Global, target: u64, object: [u8; 24]) -> Result<Step, AllocError> {
+    let call = TransactionData {
+        target,
+        flags: TransactionFlags::ONE_WAY,
+        data_size: 24,
+        offsets_size: 8,
+        ..fields(1)
+    };
+    Ok(Step::Command {
+        command: Command::Transaction(call),
+        parcel: Some(Parcel {
+            bytes: Bytes::new(Vec::from_array(alloc, object)?),
+            offsets: Bytes::new(Vec::from_array(alloc, [0; 8])?),
+        }),
+    })
+}
+
+fn command(command: Command) -> Step {
+    Step::Command {
+        command,
+        parcel: None,
+    }
+}
+
+// Seat 1 is the manager's. It gets an object of seat 2's, which it keeps, and then one of seat 0's, which it gives to seat 2.
+fn step_at(alloc: Global, place: u32) -> Result<(u32, Step), AllocError> {
+    Ok(match place {
+        0 => (0, open(100, 1000)),
+        1 => (1, open(200, 2000)),
+        2 => (2, open(300, 3000)),
+        3 => (1, Step::SetManager),
+        4 => (2, giving(alloc, 0, own(0x3000))?),
+        5 => (0, giving(alloc, 0, own(0x1000))?),
+        6 => (1, enter()),
+        7 | 10 => (1, read()),
+        8 => (1, command(Command::Acquire(1))),
+        9 => (1, command(Command::FreeBuffer(65536))),
+        11 => (1, giving(alloc, 1, named(2))?),
+        12 => (1, command(Command::FreeBuffer(65568))),
+        13 => (2, enter()),
+        14 | 15 => (2, read()),
+        _ => pass_on(alloc, place.saturating_sub(16))?,
+    })
+}
+
+// From then on the two give it to each other by turns: the giver's own name goes with its buffer, and the receiver reads.
+fn pass_on(alloc: Global, place: u32) -> Result<(u32, Step), AllocError> {
+    let (giver, receiver, target, handle) = if place / 4 % 2 == 0 {
+        (2, 1, 0, 1)
+    } else {
+        (1, 2, 1, 2)
+    };
+    Ok(match place % 4 {
+        0 => (giver, giving(alloc, target, named(handle))?),
+        1 => (giver, command(Command::FreeBuffer(65536))),
+        _ => (receiver, read()),
+    })
+}
+
+#[test]
+fn tells_a_chain_of_ten_gifts(rt: HostRuntime) -> Result<(), Fail> {
+    let mut engine = Engine::new(rt.alloc(), 3)?;
+    for place in 0..45 {
+        let (seat, step) = step_at(rt.alloc(), place)?;
+        assert!(rt; take(&mut engine, seat, step), "at {place}");
+    }
+    let record = engine.into_record();
+    assert_eq!(rt; record.seats, 3);
+    let places = gift_chain(rt.alloc(), &record, 300, 1)?.ok_or("the name has a chain")?;
+    let gifts: [u32; 10] = [5, 11, 16, 20, 24, 28, 32, 36, 40, 44];
+    assert_eq!(rt; places.as_slice(), gifts.as_slice());
+    Ok(())
+}
