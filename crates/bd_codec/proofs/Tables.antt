@@ -83,7 +83,7 @@ apart {A} spelling read a b x y ra rb e =
 abbrev pub Says : {A : Type 0} → Result A Fault → Option Fault → Type 0
 Says r fault = MatchResult r (λ _. fault ≡ None) (λ f. fault ≡ Some f)
 
--- a row has the size that its code has, and is not refused
+-- no row is of a refused code, and its size is the one in its code
 pub record Plain {A : Type 0} (refused : List ℕ) (row : Row A) : Type 0 where
   pub size : row.size ≡ 4 + payload_size row.code
   pub kept : is_in refused row.code ≡ false

@@ -1,4 +1,4 @@
--- How commands and returns are spelled: a code in four bytes, and then the payload.
+-- The bytes of commands and returns: four for the code, then what the code calls for.
 use Rattle.std.specs.Prelude.{◌≡◌, ◌≤◌, length, take, ◌<◌, ◌^◌, ℕ, List, [], ◌++◌}
 use Rattle.bd_uapi.specs.Bytes.{word, long}
 use Rattle.bd_uapi.specs.Records.{record_bytes, IsRecord}
@@ -45,7 +45,7 @@ command_payload (DeadBinderDone cookie) = long cookie
 abbrev pub command_bytes : Command → List ℕ
 command_bytes c = word (command_code c) ++ command_payload c
 
--- a command whose numbers have their widths, as each value of the type has
+-- every number of a command fits its field; each Rust value is such a command
 abbrev pub IsCommand : Command → Type 0
 IsCommand (Transaction t) = IsRecord t
 IsCommand (Reply t) = IsRecord t
@@ -96,7 +96,7 @@ return_payload returned.FailedReply = []
 abbrev pub return_bytes : Return → List ℕ
 return_bytes r = word (return_code r) ++ return_payload r
 
--- a return whose numbers have their widths, as each value of the type has
+-- the same of a return
 abbrev pub IsReturn : Return → Type 0
 IsReturn (returned.Transaction t) = IsRecord t
 IsReturn (returned.Reply t) = IsRecord t

@@ -65,7 +65,7 @@ fn first_command(bytes: &[u8]) -> Result<(Command, usize), Fault>
     command_with(u32_at(bytes, 0), bytes)
 }
 
-/// The command at the front of the bytes, and how many bytes it takes. Bytes may follow it.
+/// Reads one command from the head of a stream, and tells its length. What comes after it isn't looked at.
 ///
 /// # Errors
 /// `ShortCommand` (F1) where the bytes end before the code or before its payload does, `RefusedCommand` (F3) for the
@@ -73,7 +73,7 @@ fn first_command(bytes: &[u8]) -> Result<(Command, usize), Fault>
 pub fn read_command(bytes: &[u8]) -> Result<(Command, usize), Fault>
     // The first bytes are the command's spelling.
     ensures found { IfOk result (λ r. Found command_bytes IsCommand bytes.now r.0 r.1) }
-    // A command whose spelling begins the bytes is read, so there is at most one.
+    // Bytes that a command's spelling heads are read as that command, and so as no other.
     ensures only { (c : Command) (rest : List ℕ) → IsCommand c → bytes.now ≡ command_bytes c ++ rest
         → result ≡ Ok (c, length (command_bytes c)) }
     // Which fault it is.
@@ -84,7 +84,7 @@ pub fn read_command(bytes: &[u8]) -> Result<(Command, usize), Fault>
     first_command(bytes)
 }
 
-// Spells the command from the front of a buffer on, and answers its length.
+// Writes the spelling to the head of a buffer. The result is its length.
 fn spell(c: &Command, out: &mut [u8]) -> usize
     requires { 68 ≤ length out.old }
     ensures within { result ≤ 68 }

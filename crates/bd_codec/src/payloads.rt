@@ -57,7 +57,7 @@ pub fn handle_and_cookie(bytes: &[u8]) -> Result<(u32, u64), Fault>
     Ok((u32_at(bytes, 4), u64_at(bytes, 8)))
 }
 
-// Each of the functions below spells from the front of a buffer on, and answers the length.
+// What follows writes a code and a payload to the head of a buffer; each result is how long they are.
 
 pub fn put_bare(out: &mut [u8], code: u32) -> usize
     requires { 68 ≤ length out.old }

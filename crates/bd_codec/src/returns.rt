@@ -61,7 +61,7 @@ fn first_return(bytes: &[u8]) -> Result<(Return, usize), Fault>
     return_with(u32_at(bytes, 0), bytes)
 }
 
-/// The return at the front of the bytes, and how many bytes it takes. Bytes may follow it.
+/// Reads one return from the head of a stream, and tells its length. What comes after it isn't looked at.
 ///
 /// # Errors
 /// `ShortCommand` (F1) where the bytes end before the code or before its payload does, `UnknownCommand` (F2) for every
@@ -69,7 +69,7 @@ fn first_return(bytes: &[u8]) -> Result<(Return, usize), Fault>
 pub fn read_return(bytes: &[u8]) -> Result<(Return, usize), Fault>
     // The first bytes are the return's spelling.
     ensures found { IfOk result (λ r. Found return_bytes IsReturn bytes.now r.0 r.1) }
-    // A return whose spelling begins the bytes is read, so there is at most one.
+    // Bytes that a return's spelling heads are read as that return, and so as no other.
     ensures only { (r : Return) (rest : List ℕ) → IsReturn r → bytes.now ≡ return_bytes r ++ rest
         → result ≡ Ok (r, length (return_bytes r)) }
     // Which fault it is.
@@ -80,7 +80,7 @@ pub fn read_return(bytes: &[u8]) -> Result<(Return, usize), Fault>
     first_return(bytes)
 }
 
-// Spells the return from the front of a buffer on, and answers its length.
+// Writes the spelling to the head of a buffer. The result is its length.
 fn spell(r: &Return, out: &mut [u8]) -> usize
     requires { 68 ≤ length out.old }
     ensures within { result ≤ 68 }

@@ -63,67 +63,106 @@ fn reads_returns(rt: HostRuntime) {
     assert!(rt; matches!(read_return(&[0x0c, 0x72, 0]), Err(Fault::ShortCommand)));
 }
 
+// Every command, by the code and the length that the public header gives it: written so, read back so with other
+// bytes behind it, and cut short at each place before its end.
 #[test]
-fn every_command_comes_back(rt: HostRuntime) -> Result<(), Fail> {
-    let commands = [
-        Command::Transaction(record()),
-        Command::Reply(record()),
-        Command::FreeBuffer(65536),
-        Command::Increfs(1),
-        Command::Acquire(2),
-        Command::Release(3),
-        Command::Decrefs(4294967295),
-        Command::IncrefsDone(4096, 8192),
-        Command::AcquireDone(4104, 8200),
-        Command::EnterLooper,
-        Command::ExitLooper,
-        Command::RequestDeathNotification(1, 77),
-        Command::ClearDeathNotification(2, 78),
-        Command::DeadBinderDone(79),
+fn every_command_by_its_code(rt: HostRuntime) -> Result<(), Fail> {
+    let rows: [(u32, usize, Command); 14] = [
+        (0x4040_6300, 68, Command::Transaction(record())),
+        (0x4040_6301, 68, Command::Reply(record())),
+        (0x4008_6303, 12, Command::FreeBuffer(65536)),
+        (0x4004_6304, 8, Command::Increfs(1)),
+        (0x4004_6305, 8, Command::Acquire(2)),
+        (0x4004_6306, 8, Command::Release(3)),
+        (0x4004_6307, 8, Command::Decrefs(4294967295)),
+        (0x4010_6308, 20, Command::IncrefsDone(4096, 8192)),
+        (0x4010_6309, 20, Command::AcquireDone(4104, 8200)),
+        (0x0000_630c, 4, Command::EnterLooper),
+        (0x0000_630d, 4, Command::ExitLooper),
+        (0x400c_630e, 16, Command::RequestDeathNotification(1, 77)),
+        (0x400c_630f, 16, Command::ClearDeathNotification(2, 78)),
+        (0x4008_6310, 12, Command::DeadBinderDone(79)),
     ];
-    for command in &commands {
+    for (code, length, command) in &rows {
         let mut out = Vec::new(rt.alloc());
         assert!(rt; write_command(command, &mut out).is_ok());
-        let (read, len) = read_command(&out).ok().ok_or("a command")?;
-        assert_eq!(rt; read, *command);
-        assert_eq!(rt; len, out.len());
-        for n in 0..len {
+        assert_eq!(rt; out.len(), *length, "{code}");
+        assert_eq!(rt; &out[..4], code.to_le_bytes().as_slice());
+        for n in 0..*length {
             assert!(rt; matches!(read_command(&out[..n]), Err(Fault::ShortCommand)));
         }
+        out.push(0xff)?;
+        let (read, len) = read_command(&out).ok().ok_or("a command")?;
+        assert_eq!(rt; read, *command);
+        assert_eq!(rt; len, *length);
     }
     Ok(())
 }
 
+// The same of every return, written in both ways.
 #[test]
-fn every_return_comes_back(rt: HostRuntime) -> Result<(), Fail> {
-    let returns = [
-        Return::Transaction(record()),
-        Return::Reply(record()),
-        Return::DeadReply,
-        Return::TransactionComplete,
-        Return::Increfs(4096, 8192),
-        Return::Acquire(4104, 8200),
-        Return::Release(4112, 8208),
-        Return::Decrefs(4120, 8216),
-        Return::Noop,
-        Return::DeadBinder(77),
-        Return::ClearDeathNotificationDone(78),
-        Return::FailedReply,
+fn every_return_by_its_code(rt: HostRuntime) -> Result<(), Fail> {
+    let rows: [(u32, usize, Return); 12] = [
+        (0x8040_7202, 68, Return::Transaction(record())),
+        (0x8040_7203, 68, Return::Reply(record())),
+        (0x0000_7205, 4, Return::DeadReply),
+        (0x0000_7206, 4, Return::TransactionComplete),
+        (0x8010_7207, 20, Return::Increfs(4096, 8192)),
+        (0x8010_7208, 20, Return::Acquire(4104, 8200)),
+        (0x8010_7209, 20, Return::Release(4112, 8208)),
+        (0x8010_720a, 20, Return::Decrefs(4120, 8216)),
+        (0x0000_720c, 4, Return::Noop),
+        (0x8008_720f, 12, Return::DeadBinder(77)),
+        (0x8008_7210, 12, Return::ClearDeathNotificationDone(78)),
+        (0x0000_7211, 4, Return::FailedReply),
     ];
-    for sent in &returns {
+    for (code, length, sent) in &rows {
         let mut out = Vec::new(rt.alloc());
         assert!(rt; write_return(sent, &mut out).is_ok());
         let mut reserved = Vec::with_capacity(rt.alloc(), 68)?;
         write_return_reserved(sent, &mut reserved);
         assert_eq!(rt; reserved.as_slice(), out.as_slice());
-        let (read, len) = read_return(&out).ok().ok_or("a return")?;
-        assert_eq!(rt; read, *sent);
-        assert_eq!(rt; len, out.len());
-        for n in 0..len {
+        assert_eq!(rt; out.len(), *length, "{code}");
+        assert_eq!(rt; &out[..4], code.to_le_bytes().as_slice());
+        for n in 0..*length {
             assert!(rt; matches!(read_return(&out[..n]), Err(Fault::ShortCommand)));
         }
+        out.push(0xff)?;
+        let (read, len) = read_return(&out).ok().ok_or("a return")?;
+        assert_eq!(rt; read, *sent);
+        assert_eq!(rt; len, *length);
     }
     Ok(())
+}
+
+// The codes that are known and not supported, and some that no command or return has.
+#[test]
+fn other_codes(rt: HostRuntime) {
+    let refused = [
+        0x4004_6302,
+        0x4008_630a,
+        0x0000_630b,
+        0x4048_6311,
+        0x4048_6312u32,
+    ];
+    for code in refused {
+        assert!(rt;
+            matches!(
+                read_command(&code.to_le_bytes()),
+                Err(Fault::RefusedCommand)
+            )
+        );
+    }
+    let unknown = [0x0000_6300, 0x4040_6302, 0x0000_7213, 0x8040_7204, 0u32];
+    for code in unknown {
+        assert!(rt;
+            matches!(
+                read_command(&code.to_le_bytes()),
+                Err(Fault::UnknownCommand)
+            )
+        );
+        assert!(rt; matches!(read_return(&code.to_le_bytes()), Err(Fault::UnknownCommand)));
+    }
 }
 
 // The bytes of a one-way transaction as its receiver reads it.

@@ -1,8 +1,11 @@
 //! Bytes in hex: lower-case pairs of digits, or `-` for none.
 
-ghost use Rattle.std.specs.Prelude.{◌≡◌, ◌↔◌, ◌<◌, [], ◌∷◌, IsTrue, IfOk, IfSome};
+ghost use Rattle.std.specs.Prelude.{◌≡◌, ◌<◌, ◌≤◌, [], ◌∷◌, ℕ, List, Some, length, IfOk, IfSome};
 ghost use Rattle.std.specs.List.{flat_map};
-ghost use Rattle.bd_script.specs.Hex.{digit_of, hex_digit, hex_pair, hex_word};
+ghost use Rattle.std.specs.Option.{option_map};
+ghost use Rattle.std.specs.Str.{bytes_eq};
+ghost use Rattle.bd_uapi.specs.Bytes.{IsBytes};
+ghost use Rattle.bd_script.specs.Hex.{digit_of, hex_digit, hex_pair, hex_word, pairs_of, hex_of};
 
 use std::alloc::{AllocError, Global};
 
@@ -34,41 +37,43 @@ pub fn hex_digit(number: u8) -> u8
 
 // Whether a word stands for nothing.
 pub fn is_nothing(word: &[u8]) -> bool
-    ensures { IsTrue result ↔ (word.now ≡ 45 ∷ []) }
+    ensures { result ≡ bytes_eq word.now (45 ∷ []) }
 {
-    matches!(word, [b'-'])
+    word == b"-".as_slice()
 }
 
 // The bytes that pairs of digits spell.
 fn pairs_in(alloc: Global, word: &[u8]) -> Result<Option<Vec<u8>>, AllocError>
-    ensures { IfOk result (λ found. IfSome found (λ bytes. word.now ≡ flat_map hex_pair bytes.items)) }
+    ensures exact { IfOk result (λ found. option_map (λ v. v.items) found ≡ pairs_of word.now) }
+    ensures spelled { IfOk result (λ found. IfSome found (λ bytes. word.now ≡ flat_map hex_pair bytes.items)) }
 {
     let mut bytes = Vec::new(alloc);
     let mut rest = word;
-    for _ in 0..MOST_BYTES {
-        match rest {
-            [] => return Ok(Some(bytes)),
-            [high, low, after @ ..] => {
-                let (Some(high), Some(low)) = (digit_value(*high), digit_value(*low)) else {
-                    return Ok(None);
-                };
-                bytes.push(high * 16 + low)?;
-                rest = after;
-            }
-            [_] => return Ok(None),
-        }
+    while let [high, low, after @ ..] = rest {
+        let (Some(high), Some(low)) = (digit_value(*high), digit_value(*low)) else {
+            return Ok(None);
+        };
+        bytes.push(high * 16 + low)?;
+        rest = after;
     }
     Ok(if rest.is_empty() { Some(bytes) } else { None })
 }
 
+/// What bytes are spelled as is read as these bytes, up to the most that a word spells.
+pub fn hex_is_read()
+    ensures { (bytes : List ℕ) → IsBytes bytes → length bytes ≤ 4194304 → hex_of (hex_word bytes) ≡ Some bytes }
+{}
+
 /// The bytes that a word spells, if it spells at most 4194304.
 pub fn bytes_in(alloc: Global, word: &[u8]) -> Result<Option<Vec<u8>>, AllocError>
-    ensures { IfOk result (λ found. IfSome found (λ bytes. word.now ≡ hex_word bytes.items)) }
+    ensures exact { IfOk result (λ found. option_map (λ v. v.items) found ≡ hex_of word.now) }
+    // What is read is spelled so.
+    ensures spelled { IfOk result (λ found. IfSome found (λ bytes. word.now ≡ hex_word bytes.items)) }
 {
     if is_nothing(word) {
         return Ok(Some(Vec::new(alloc)));
     }
-    if word.is_empty() {
+    if word.is_empty() || word.len() > 2 * MOST_BYTES {
         return Ok(None);
     }
     pairs_in(alloc, word)

@@ -1,51 +1,96 @@
 //! The verbs of a script.
 
+ghost use Rattle.std.specs.Prelude.{◌≡◌, Some, None, length, IfOk, MatchResult};
+ghost use Rattle.bd_script.specs.Words.{ReadsAs, ReadsOrMemory, one_of, two_of, three_of, four_of, shown};
+ghost use Rattle.bd_script.specs.Requests.{alone, area_of, command_of, command_with, handle_and_cookie_of, handle_of, longer_command_of, open_of, padded, pointer_and_cookie_of, pointer_of, post_of, record_of, request_of, send, sent, stream_and_area, tx_of, verb_of, write_of, write_with};
+ghost use Rattle.bd_script.specs.declared.script.Trouble.TheVariants.{Bad};
+
 use crate::script::{Trouble, Verb};
-use crate::words::{hex_in, long_in, offsets_in, word_in};
+use crate::words::{hex_in, is, long_in, offsets_in, word_in};
 use bd_codec::write_command;
 use bd_space::{Bytes, Request};
 use bd_uapi::{Command, TransactionData, TransactionFlags};
 use bitflags::Flags;
-use std::alloc::Global;
+use std::alloc::{AllocError, Global};
 
-// ---- words of one shape
+// ---- so many words and no more
 
-fn no_word(args: &[&[u8]]) -> Result<(), Trouble> {
+fn no_word(args: &[&[u8]]) -> Result<(), Trouble>
+    ensures { ReadsAs result (alone tt (shown args.now)) }
+{
     match args {
         [] => Ok(()),
         _ => Err(Trouble::Bad),
     }
 }
 
-fn one_word<'a>(args: &[&'a [u8]]) -> Result<&'a [u8], Trouble> {
+fn one_word<'a>(args: &[&'a [u8]]) -> Result<&'a [u8], Trouble>
+    ensures { MatchResult result
+        (λ word. one_of (shown args.now) ≡ Some word.now)
+        (λ trouble. (trouble ≡ Bad) × (one_of (shown args.now) ≡ None)) }
+{
     match args {
         [word] => Ok(*word),
         _ => Err(Trouble::Bad),
     }
 }
 
-fn two_words<'a>(args: &[&'a [u8]]) -> Result<(&'a [u8], &'a [u8]), Trouble> {
+fn two_words<'a>(args: &[&'a [u8]]) -> Result<(&'a [u8], &'a [u8]), Trouble>
+    ensures { MatchResult result
+        (λ words. two_of (shown args.now) ≡ Some (words.0.now, words.1.now))
+        (λ trouble. (trouble ≡ Bad) × (two_of (shown args.now) ≡ None)) }
+{
     match args {
         [first, second] => Ok((*first, *second)),
         _ => Err(Trouble::Bad),
     }
 }
 
+fn three_words<'a>(args: &[&'a [u8]]) -> Result<(&'a [u8], &'a [u8], &'a [u8]), Trouble>
+    ensures { MatchResult result
+        (λ words. three_of (shown args.now) ≡ Some (words.0.now, words.1.now, words.2.now))
+        (λ trouble. (trouble ≡ Bad) × (three_of (shown args.now) ≡ None)) }
+{
+    match args {
+        [first, second, third] => Ok((*first, *second, *third)),
+        _ => Err(Trouble::Bad),
+    }
+}
+
+fn four_words<'a>(args: &[&'a [u8]]) -> Result<(&'a [u8], &'a [u8], &'a [u8], &'a [u8]), Trouble>
+    ensures { MatchResult result
+        (λ words. four_of (shown args.now) ≡ Some (words.0.now, words.1.now, words.2.now, words.3.now))
+        (λ trouble. (trouble ≡ Bad) × (four_of (shown args.now) ≡ None)) }
+{
+    match args {
+        [first, second, third, fourth] => Ok((*first, *second, *third, *fourth)),
+        _ => Err(Trouble::Bad),
+    }
+}
+
 // A handle, or another number of 32 bits.
-fn handle(args: &[&[u8]]) -> Result<u32, Trouble> {
+fn handle(args: &[&[u8]]) -> Result<u32, Trouble>
+    ensures { ReadsAs result (handle_of (shown args.now)) }
+{
     word_in(one_word(args)?)
 }
 
-fn pointer(args: &[&[u8]]) -> Result<u64, Trouble> {
+fn pointer(args: &[&[u8]]) -> Result<u64, Trouble>
+    ensures { ReadsAs result (pointer_of (shown args.now)) }
+{
     long_in(one_word(args)?)
 }
 
-fn pointer_and_cookie(args: &[&[u8]]) -> Result<(u64, u64), Trouble> {
+fn pointer_and_cookie(args: &[&[u8]]) -> Result<(u64, u64), Trouble>
+    ensures { ReadsAs result (pointer_and_cookie_of (shown args.now)) }
+{
     let (pointer, cookie) = two_words(args)?;
     Ok((long_in(pointer)?, long_in(cookie)?))
 }
 
-fn handle_and_cookie(args: &[&[u8]]) -> Result<(u32, u64), Trouble> {
+fn handle_and_cookie(args: &[&[u8]]) -> Result<(u32, u64), Trouble>
+    ensures { ReadsAs result (handle_and_cookie_of (shown args.now)) }
+{
     let (handle, cookie) = two_words(args)?;
     Ok((word_in(handle)?, long_in(cookie)?))
 }
@@ -53,7 +98,9 @@ fn handle_and_cookie(args: &[&[u8]]) -> Result<(u32, u64), Trouble> {
 // ---- writes
 
 // A write of one command, with the area that its parcel is cut from.
-fn write_of(alloc: Global, command: &Command, area: Vec<u8>) -> Result<Request, Trouble> {
+fn write_of(alloc: Global, command: &Command, area: Vec<u8>) -> Result<Request, Trouble>
+    ensures { ReadsOrMemory result (Some (write_of command.now area.items)) }
+{
     let mut stream = Vec::new(alloc);
     match write_command(command, &mut stream) {
         Ok(()) => Ok(Request::Write {
@@ -64,15 +111,21 @@ fn write_of(alloc: Global, command: &Command, area: Vec<u8>) -> Result<Request, 
     }
 }
 
-// The data, zeros up to a multiple of 8, and each offset: with how long the first two are.
-fn area_of(alloc: Global, data: &[u8], offsets: &[u64]) -> Result<(Vec<u8>, usize), Trouble> {
-    let mut area = Vec::from_slice(alloc, data)?;
-    for _ in 0..8u8 {
-        if area.len() % 8 == 0 {
-            break;
-        }
-        area.push(0)?;
-    }
+// The data, and zeros up to a multiple of 8.
+fn padded(alloc: Global, bytes: &[u8]) -> Result<Vec<u8>, AllocError>
+    ensures { IfOk result (λ v. v.items ≡ padded bytes.now) }
+{
+    let mut padded = Vec::from_slice(alloc, bytes)?;
+    padded.resize(bytes.len().next_multiple_of(8), 0)?;
+    Ok(padded)
+}
+
+// The padded data, and then each offset; with how long the first is.
+fn area_of(alloc: Global, bytes: &[u8], offsets: &[u64]) -> Result<(Vec<u8>, usize), AllocError>
+    ensures { IfOk result
+        (λ r. (r.0.items ≡ area_of bytes.now offsets.now) × (r.1 ≡ length (padded bytes.now))) }
+{
+    let mut area = padded(alloc, bytes)?;
     let padded = area.len();
     for offset in offsets {
         area.extend_from_slice(&offset.to_le_bytes())?;
@@ -80,43 +133,82 @@ fn area_of(alloc: Global, data: &[u8], offsets: &[u64]) -> Result<(Vec<u8>, usiz
     Ok((area, padded))
 }
 
-// What a transaction and a reply share: code, flags, data and offsets.
-fn parcel_write(alloc: Global, target: Option<u64>, args: &[&[u8]]) -> Result<Request, Trouble> {
-    let [code, flags, data, offsets] = args else {
-        return Err(Trouble::Bad);
-    };
-    let code = word_in(code)?;
-    let flags = TransactionFlags::from_bits_retain(word_in(flags)?);
-    let data = hex_in(alloc, data)?;
-    let offsets = offsets_in(alloc, offsets)?;
-    let (area, padded) = area_of(alloc, data.as_slice(), &offsets)?;
-    let record = TransactionData {
-        target: target.unwrap_or(0),
-        cookie: 0,
-        code,
-        flags,
-        sender_pid: 0,
-        sender_euid: 0,
-        data_size: data.len() as u64,
-        offsets_size: 8 * offsets.len() as u64,
-        buffer: 0,
-        offsets: padded as u64,
-    };
-    let command = match target {
-        Some(_) => Command::Transaction(record),
-        None => Command::Reply(record),
-    };
-    write_of(alloc, &command, area)
+// The command of a record: a transaction to a target, or a reply where there is none.
+fn command_with(target: Option<u64>, sent: TransactionData) -> Command
+    ensures { result ≡ command_with target sent }
+{
+    match target {
+        Some(_) => Command::Transaction(sent),
+        None => Command::Reply(sent),
+    }
 }
 
-fn transaction(alloc: Global, args: &[&[u8]]) -> Result<Request, Trouble> {
+// The record of a parcel, whose offsets stand behind the padded data.
+fn record_of(
+    target: u64,
+    code: u32,
+    flags: u32,
+    bytes: &[u8],
+    offsets: &[u64],
+    front: usize,
+) -> TransactionData
+    requires { front ≡ length (padded bytes.now) }
+    ensures { result ≡ record_of target code flags bytes.now offsets.now }
+{
+    TransactionData {
+        target,
+        cookie: 0,
+        code,
+        flags: TransactionFlags::from_bits_retain(flags),
+        sender_pid: 0,
+        sender_euid: 0,
+        data_size: bytes.len() as u64,
+        offsets_size: 8 * offsets.len() as u64,
+        buffer: 0,
+        offsets: front as u64,
+    }
+}
+
+// A write of one transaction or reply with this parcel.
+fn send(
+    alloc: Global,
+    target: Option<u64>,
+    code: u32,
+    flags: u32,
+    bytes: &[u8],
+    offsets: &[u64],
+) -> Result<Request, Trouble>
+    ensures { ReadsOrMemory result (Some (send target code flags bytes.now offsets.now)) }
+{
+    let (area, front) = area_of(alloc, bytes, offsets)?;
+    let sent = record_of(target.unwrap_or(0), code, flags, bytes, offsets, front);
+    write_of(alloc, &command_with(target, sent), area)
+}
+
+// The same, with code, flags, data and offsets as the words give them.
+fn parcel_write(alloc: Global, target: Option<u64>, args: &[&[u8]]) -> Result<Request, Trouble>
+    ensures { ReadsOrMemory result (sent target (shown args.now)) }
+{
+    let (code, flags, bytes, offsets) = four_words(args)?;
+    let code = word_in(code)?;
+    let flags = word_in(flags)?;
+    let bytes = hex_in(alloc, bytes)?;
+    let offsets = offsets_in(alloc, offsets)?;
+    send(alloc, target, code, flags, bytes.as_slice(), &offsets)
+}
+
+fn transaction(alloc: Global, args: &[&[u8]]) -> Result<Request, Trouble>
+    ensures { ReadsOrMemory result (tx_of (shown args.now)) }
+{
     match args {
         [target, rest @ ..] => parcel_write(alloc, Some(long_in(target)?), rest),
         [] => Err(Trouble::Bad),
     }
 }
 
-fn stream_and_area(alloc: Global, args: &[&[u8]]) -> Result<Request, Trouble> {
+fn stream_and_area(alloc: Global, args: &[&[u8]]) -> Result<Request, Trouble>
+    ensures { ReadsOrMemory result (stream_and_area (shown args.now)) }
+{
     let (stream, area) = two_words(args)?;
     Ok(Request::Write {
         stream: hex_in(alloc, stream)?,
@@ -124,48 +216,62 @@ fn stream_and_area(alloc: Global, args: &[&[u8]]) -> Result<Request, Trouble> {
     })
 }
 
-// The command that stands alone in a write, if the verb is one's.
-fn command_of(verb: &[u8], args: &[&[u8]]) -> Result<Option<Command>, Trouble> {
-    let command = match verb {
-        b"enter" => {
-            no_word(args)?;
-            Command::EnterLooper
-        }
-        b"exitloop" => {
-            no_word(args)?;
-            Command::ExitLooper
-        }
-        b"free" => Command::FreeBuffer(pointer(args)?),
-        b"increfs" => Command::Increfs(handle(args)?),
-        b"acquire" => Command::Acquire(handle(args)?),
-        b"release" => Command::Release(handle(args)?),
-        b"decrefs" => Command::Decrefs(handle(args)?),
-        b"increfsdone" => {
-            let (pointer, cookie) = pointer_and_cookie(args)?;
-            Command::IncrefsDone(pointer, cookie)
-        }
-        b"acquiredone" => {
-            let (pointer, cookie) = pointer_and_cookie(args)?;
-            Command::AcquireDone(pointer, cookie)
-        }
-        b"askdeath" => {
-            let (handle, cookie) = handle_and_cookie(args)?;
-            Command::RequestDeathNotification(handle, cookie)
-        }
-        b"cleardeath" => {
-            let (handle, cookie) = handle_and_cookie(args)?;
-            Command::ClearDeathNotification(handle, cookie)
-        }
-        b"deaddone" => Command::DeadBinderDone(pointer(args)?),
-        _ => return Ok(None),
-    };
-    Ok(Some(command))
+// ---- the verbs
+
+// The command that stands alone in a write.
+#[tactic(auto, unfolding(crate::specs::Requests::command_of))]
+fn command_of(verb: &[u8], args: &[&[u8]]) -> Result<Command, Trouble>
+    ensures { ReadsAs result (command_of verb.now (shown args.now)) }
+{
+    if is(verb, b"enter") {
+        no_word(args)?;
+        Ok(Command::EnterLooper)
+    } else if is(verb, b"exitloop") {
+        no_word(args)?;
+        Ok(Command::ExitLooper)
+    } else if is(verb, b"free") {
+        Ok(Command::FreeBuffer(pointer(args)?))
+    } else if is(verb, b"increfs") {
+        Ok(Command::Increfs(handle(args)?))
+    } else if is(verb, b"acquire") {
+        Ok(Command::Acquire(handle(args)?))
+    } else if is(verb, b"release") {
+        Ok(Command::Release(handle(args)?))
+    } else if is(verb, b"decrefs") {
+        Ok(Command::Decrefs(handle(args)?))
+    } else {
+        longer_command_of(verb, args)
+    }
 }
 
-fn open(args: &[&[u8]]) -> Result<Request, Trouble> {
-    let [pid, euid, window] = args else {
-        return Err(Trouble::Bad);
-    };
+// The same of a verb with two numbers or a cookie.
+#[tactic(auto, unfolding(crate::specs::Requests::longer_command_of))]
+fn longer_command_of(verb: &[u8], args: &[&[u8]]) -> Result<Command, Trouble>
+    ensures { ReadsAs result (longer_command_of verb.now (shown args.now)) }
+{
+    if is(verb, b"increfsdone") {
+        let (pointer, cookie) = pointer_and_cookie(args)?;
+        Ok(Command::IncrefsDone(pointer, cookie))
+    } else if is(verb, b"acquiredone") {
+        let (pointer, cookie) = pointer_and_cookie(args)?;
+        Ok(Command::AcquireDone(pointer, cookie))
+    } else if is(verb, b"askdeath") {
+        let (handle, cookie) = handle_and_cookie(args)?;
+        Ok(Command::RequestDeathNotification(handle, cookie))
+    } else if is(verb, b"cleardeath") {
+        let (handle, cookie) = handle_and_cookie(args)?;
+        Ok(Command::ClearDeathNotification(handle, cookie))
+    } else if is(verb, b"deaddone") {
+        Ok(Command::DeadBinderDone(pointer(args)?))
+    } else {
+        Err(Trouble::Bad)
+    }
+}
+
+fn open(args: &[&[u8]]) -> Result<Request, Trouble>
+    ensures { ReadsAs result (open_of (shown args.now)) }
+{
+    let (pid, euid, window) = three_words(args)?;
     Ok(Request::Open {
         pid: word_in(pid)?,
         euid: word_in(euid)?,
@@ -174,59 +280,80 @@ fn open(args: &[&[u8]]) -> Result<Request, Trouble> {
 }
 
 // The request of a verb that has one.
-fn request_of(alloc: Global, verb: &[u8], args: &[&[u8]]) -> Result<Request, Trouble> {
-    match verb {
-        b"open" => open(args),
-        b"attach" => Ok(Request::Attach { pid: handle(args)? }),
-        b"manager" => {
-            no_word(args)?;
-            Ok(Request::SetManager)
-        }
-        b"read" => Ok(Request::Read {
+#[tactic(auto, unfolding(crate::specs::Requests::request_of))]
+fn request_of(alloc: Global, verb: &[u8], args: &[&[u8]]) -> Result<Request, Trouble>
+    ensures { ReadsOrMemory result (request_of verb.now (shown args.now)) }
+{
+    if is(verb, b"open") {
+        open(args)
+    } else if is(verb, b"attach") {
+        Ok(Request::Attach { pid: handle(args)? })
+    } else if is(verb, b"manager") {
+        no_word(args)?;
+        Ok(Request::SetManager)
+    } else if is(verb, b"read") {
+        Ok(Request::Read {
             limit: handle(args)?,
-        }),
-        b"exitthread" => {
-            no_word(args)?;
-            Ok(Request::ExitThread)
-        }
-        b"exitprocess" => {
-            no_word(args)?;
-            Ok(Request::ExitProcess)
-        }
-        b"write" => stream_and_area(alloc, args),
-        b"tx" => transaction(alloc, args),
-        b"reply" => parcel_write(alloc, None, args),
-        _ => match command_of(verb, args)? {
-            Some(command) => write_of(alloc, &command, Vec::new(alloc)),
-            None => Err(Trouble::Bad),
-        },
+        })
+    } else if is(verb, b"exitthread") {
+        no_word(args)?;
+        Ok(Request::ExitThread)
+    } else if is(verb, b"exitprocess") {
+        no_word(args)?;
+        Ok(Request::ExitProcess)
+    } else {
+        write_with(alloc, verb, args)
+    }
+}
+
+// The write of a verb.
+#[tactic(auto, unfolding(crate::specs::Requests::write_with))]
+fn write_with(alloc: Global, verb: &[u8], args: &[&[u8]]) -> Result<Request, Trouble>
+    ensures { ReadsOrMemory result (write_with verb.now (shown args.now)) }
+{
+    if is(verb, b"write") {
+        stream_and_area(alloc, args)
+    } else if is(verb, b"tx") {
+        transaction(alloc, args)
+    } else if is(verb, b"reply") {
+        parcel_write(alloc, None, args)
+    } else {
+        write_of(alloc, &command_of(verb, args)?, Vec::new(alloc))
+    }
+}
+
+// The verb that hands a request over.
+fn post(alloc: Global, args: &[&[u8]]) -> Result<Verb, Trouble>
+    ensures { ReadsOrMemory result (post_of (shown args.now)) }
+{
+    match args {
+        [verb, args @ ..] => Ok(Verb::Post(request_of(alloc, verb, args)?)),
+        [] => Err(Trouble::Bad),
     }
 }
 
 /// What a line does: its verb, and the words behind it.
-pub fn verb_of(alloc: Global, verb: &[u8], args: &[&[u8]]) -> Result<Verb, Trouble> {
-    match verb {
-        b"look" => {
-            no_word(args)?;
-            Ok(Verb::Look)
-        }
-        b"await" => Ok(Verb::Await(handle(args)?)),
-        b"serve" => {
-            no_word(args)?;
-            Ok(Verb::Serve)
-        }
-        b"collect" => {
-            no_word(args)?;
-            Ok(Verb::Collect)
-        }
-        b"withdraw" => {
-            no_word(args)?;
-            Ok(Verb::Withdraw)
-        }
-        b"post" => match args {
-            [verb, args @ ..] => Ok(Verb::Post(request_of(alloc, verb, args)?)),
-            [] => Err(Trouble::Bad),
-        },
-        _ => Ok(Verb::Call(request_of(alloc, verb, args)?)),
+#[tactic(auto, unfolding(crate::specs::Requests::verb_of))]
+pub fn verb_of(alloc: Global, verb: &[u8], args: &[&[u8]]) -> Result<Verb, Trouble>
+    ensures { ReadsOrMemory result (verb_of verb.now (shown args.now)) }
+{
+    if is(verb, b"look") {
+        no_word(args)?;
+        Ok(Verb::Look)
+    } else if is(verb, b"await") {
+        Ok(Verb::Await(handle(args)?))
+    } else if is(verb, b"serve") {
+        no_word(args)?;
+        Ok(Verb::Serve)
+    } else if is(verb, b"collect") {
+        no_word(args)?;
+        Ok(Verb::Collect)
+    } else if is(verb, b"withdraw") {
+        no_word(args)?;
+        Ok(Verb::Withdraw)
+    } else if is(verb, b"post") {
+        post(alloc, args)
+    } else {
+        Ok(Verb::Call(request_of(alloc, verb, args)?))
     }
 }

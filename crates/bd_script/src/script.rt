@@ -1,10 +1,13 @@
 //! Whole scripts.
 
-ghost use Rattle.std.specs.Prelude.{◌≡◌};
-ghost use Rattle.bd_script.specs.declared.script.Trouble.TheVariants.{Memory};
+ghost use Rattle.std.specs.Prelude.{◌≡◌, None, Some, MatchResult};
+ghost use Rattle.std.specs.List.{list_any};
+ghost use Rattle.bd_script.specs.Words.{ReadsOrMemory};
+ghost use Rattle.bd_script.specs.Scripts.{SaysAs, error_at, read, is_bad, is_idle, line_of, script_of, seats_of, with_line};
+ghost use Rattle.bd_script.specs.declared.script.Trouble.TheVariants.{Bad, Memory};
 
 use crate::requests::verb_of;
-use crate::words::{number_in, words_of};
+use crate::words::{is, number_in, words_of};
 use bd_space::Request;
 use std::alloc::{AllocError, AllocFailed, Global};
 use thiserror::Error;
@@ -89,7 +92,9 @@ impl<T: Drop> From<AllocFailed<T>> for Trouble {
 
 impl Trouble {
     // The trouble of the line with this number.
-    fn at(self, number: u64) -> ScriptError {
+    fn at(self, number: u64) -> ScriptError
+        ensures { result ≡ error_at self number }
+    {
         match self {
             Trouble::Bad => ScriptError::Line(number),
             Trouble::Memory => ScriptError::Memory,
@@ -97,32 +102,43 @@ impl Trouble {
     }
 }
 
-// Whether the line does nothing. A byte outside ASCII, a TAB or a CR is bad in a comment too.
-fn is_idle(text: &[u8]) -> Result<bool, Trouble> {
-    if text.iter().any(|b| *b >= 128 || *b == b'\t' || *b == b'\r') {
-        return Err(Trouble::Bad);
+// Whether a byte stands in a line that is bad wherever it does: one outside ASCII, a TAB, a CR.
+fn has_bad_byte(text: &[u8]) -> bool
+    ensures { result ≡ list_any is_bad text.now }
+{
+    text.iter().any(|b| *b >= 128 || *b == b'\t' || *b == b'\r')
+}
+
+// Whether a line does nothing: it is empty, or a comment.
+fn is_idle(text: &[u8]) -> bool
+    ensures { result ≡ is_idle text.now }
+{
+    match text {
+        [] => true,
+        [first, ..] => *first == b'#',
     }
-    Ok(matches!(text, [] | [b'#', ..]))
 }
 
 // The number of seats in the first line that isn't idle.
-fn seats_in(alloc: Global, text: &[u8]) -> Result<u32, Trouble> {
+#[tactic(auto, unfolding(crate::specs::Scripts::seats_of))]
+fn seats_in(alloc: Global, text: &[u8]) -> Result<u32, Trouble>
+    ensures { ReadsOrMemory result (seats_of text.now) }
+{
     let words = words_of(alloc, text)?;
     match words.as_slice() {
-        [name, count] if *name == b"seats".as_slice() => {
-            let seats = number_in(count, MOST_SEATS)?;
-            if seats == 0 {
-                Err(Trouble::Bad)
-            } else {
-                Ok(seats)
-            }
-        }
+        [name, count] if is(name, b"seats") => match number_in(count, MOST_SEATS)? {
+            0 => Err(Trouble::Bad),
+            seats => Ok(seats),
+        },
         _ => Err(Trouble::Bad),
     }
 }
 
 // A seat below the number of seats, and its verb.
-fn line_in(alloc: Global, seats: u32, number: u64, text: &[u8]) -> Result<Line, Trouble> {
+#[tactic(auto, unfolding(crate::specs::Scripts::line_of))]
+fn line_in(alloc: Global, seats: u32, number: u64, text: &[u8]) -> Result<Line, Trouble>
+    ensures { ReadsOrMemory result (line_of seats number text.now) }
+{
     let words = words_of(alloc, text)?;
     match words.as_slice() {
         [seat, verb, args @ ..] => {
@@ -138,8 +154,16 @@ fn line_in(alloc: Global, seats: u32, number: u64, text: &[u8]) -> Result<Line, 
 }
 
 // Adds what the line with this number says.
-fn add_line(alloc: Global, script: &mut Script, number: u64, text: &[u8]) -> Result<(), Trouble> {
-    if is_idle(text)? {
+#[tactic(auto, unfolding(crate::specs::Scripts::with_line))]
+fn add_line(alloc: Global, script: &mut Script, number: u64, text: &[u8]) -> Result<(), Trouble>
+    ensures { MatchResult result
+        (λ _. with_line number text.now (read script.old) ≡ Some (read script.new))
+        (λ trouble. trouble ≡ Bad → with_line number text.now (read script.old) ≡ None) }
+{
+    if has_bad_byte(text) {
+        return Err(Trouble::Bad);
+    }
+    if is_idle(text) {
         return Ok(());
     }
     if script.seats == 0 {
@@ -155,16 +179,20 @@ fn add_line(alloc: Global, script: &mut Script, number: u64, text: &[u8]) -> Res
 ///
 /// # Errors
 /// `Line` with the number of the first bad line, `Memory` where memory was refused.
-pub fn read_script(alloc: Global, bytes: &[u8]) -> Result<Script, ScriptError> {
+#[tactic(auto, unfolding(crate::specs::Scripts::script_of))]
+pub fn read_script(alloc: Global, bytes: &[u8]) -> Result<Script, ScriptError>
+    ensures { SaysAs result (script_of bytes.now) }
+{
     let mut script = Script {
         seats: 0,
         lines: Vec::new(alloc),
     };
     let mut number = 0u64;
     for text in bytes.split(|b| *b == b'\n') {
-        number = number.saturating_add(1);
-        if let Err(trouble) = add_line(alloc, &mut script, number, text) {
-            return Err(trouble.at(number));
+        number += 1;
+        match add_line(alloc, &mut script, number, text) {
+            Ok(()) => {}
+            Err(trouble) => return Err(trouble.at(number)),
         }
     }
     if script.seats == 0 {

@@ -1,9 +1,12 @@
 //! The words of a line, and the numbers among them.
 
-ghost use Rattle.std.specs.Prelude.{◌≡◌, ◌≤◌, length, IfOk};
-ghost use Rattle.bd_script.specs.Hex.{hex_word};
+ghost use Rattle.std.specs.Prelude.{◌≡◌, [], ◌∷◌, Some, None, map, IfOk, MatchResult};
+ghost use Rattle.std.specs.Str.{bytes_eq};
+ghost use Rattle.bd_script.specs.declared.script.Trouble.TheVariants.{Bad};
+ghost use Rattle.bd_script.specs.Hex.{hex_word, hex_of};
 ghost use Rattle.bd_script.specs.Numbers.{number_of};
-ghost use Rattle.bd_script.specs.Words.{ReadsAs};
+ghost use Rattle.bd_script.specs.Text.{words, offsets_of};
+ghost use Rattle.bd_script.specs.Words.{ReadsAs, ReadsOrMemory, word_of, long_of};
 
 use crate::hex::{bytes_in, is_nothing};
 use crate::numbers::number;
@@ -14,32 +17,20 @@ use std::alloc::{AllocError, Global};
 // The most offsets that a word names.
 const MOST_OFFSETS: usize = 524_288;
 
-// How many bytes at the front are spaces, or are none.
-fn run_length(text: &[u8], spaces: bool) -> usize
-    ensures { result ≤ length text.now }
+// The words, between one or more spaces.
+pub fn words_of(alloc: Global, text: &[u8]) -> Result<Vec<&[u8]>, AllocError>
+    ensures { IfOk result (λ v. map (λ word. word.now) v.items ≡ words text.now) }
 {
-    for (i, byte) in text.iter().enumerate() {
-        if (*byte == b' ') != spaces {
-            return i;
-        }
-    }
-    text.len()
+    text.split(|b| *b == b' ')
+        .filter(|word| !word.is_empty())
+        .collect(alloc)
 }
 
-// The words, between one or more spaces.
-pub fn words_of(alloc: Global, text: &[u8]) -> Result<Vec<&[u8]>, AllocError> {
-    let mut words = Vec::new(alloc);
-    let mut rest = text;
-    for _ in 0..text.len() {
-        let from = &rest[run_length(rest, true)..];
-        if from.is_empty() {
-            break;
-        }
-        let end = run_length(from, false);
-        words.push(&from[..end])?;
-        rest = &from[end..];
-    }
-    Ok(words)
+// Whether a word is this name.
+pub fn is(word: &[u8], name: &[u8]) -> bool
+    ensures { result ≡ bytes_eq word.now name.now }
+{
+    word == name
 }
 
 // A number of 32 bits that is at most this.
@@ -54,14 +45,14 @@ pub fn number_in(word: &[u8], most: u32) -> Result<u32, Trouble>
 
 // A number of 32 bits.
 pub fn word_in(word: &[u8]) -> Result<u32, Trouble>
-    ensures { ReadsAs result (number_of 4294967295 word.now) }
+    ensures { ReadsAs result (word_of word.now) }
 {
     number_in(word, u32::MAX)
 }
 
 // A number of 64 bits.
 pub fn long_in(word: &[u8]) -> Result<u64, Trouble>
-    ensures { ReadsAs result (number_of 18446744073709551615 word.now) }
+    ensures { ReadsAs result (long_of word.now) }
 {
     match number(word, u64::MAX) {
         Some(n) => Ok(n),
@@ -71,7 +62,8 @@ pub fn long_in(word: &[u8]) -> Result<u64, Trouble>
 
 // Bytes in hex, or nothing.
 pub fn hex_in(alloc: Global, word: &[u8]) -> Result<Bytes, Trouble>
-    ensures { IfOk result (λ bytes. word.now ≡ hex_word bytes) }
+    ensures exact { ReadsOrMemory result (hex_of word.now) }
+    ensures spelled { IfOk result (λ bytes. word.now ≡ hex_word bytes) }
 {
     match bytes_in(alloc, word)? {
         Some(bytes) => Ok(Bytes::new(bytes)),
@@ -80,7 +72,11 @@ pub fn hex_in(alloc: Global, word: &[u8]) -> Result<Bytes, Trouble>
 }
 
 // Numbers of 64 bits with commas between them, or nothing.
-pub fn offsets_in(alloc: Global, word: &[u8]) -> Result<Vec<u64>, Trouble> {
+pub fn offsets_in(alloc: Global, word: &[u8]) -> Result<Vec<u64>, Trouble>
+    ensures { MatchResult result
+        (λ v. offsets_of word.now ≡ Some v.items)
+        (λ trouble. trouble ≡ Bad → offsets_of word.now ≡ None) }
+{
     let mut offsets = Vec::new(alloc);
     if is_nothing(word) {
         return Ok(offsets);
