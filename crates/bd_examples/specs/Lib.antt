@@ -3,6 +3,7 @@ pub mod Worked
 pub mod Small
 pub mod Writes
 pub mod Edges
+pub mod Definitions
 pub mod Histories
 pub mod WeakObjectsAndVerdicts
 pub mod DeadObjects

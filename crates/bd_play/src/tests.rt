@@ -6,6 +6,8 @@ mod buffers;
 mod calls;
 mod certificates;
 mod deaths;
+mod definitions;
+mod definitions_more;
 mod examples;
 mod files;
 mod handing;
