@@ -66,6 +66,7 @@ cleared_notifications_outlive_the_name =
     ∷ (0, Read 256)
     ∷ (0, act (bc.DeadBinderDone 78))
     ∷ (0, act (bc.DeadBinderDone 77))
+    ∷ (0, act (bc.DeadBinderDone 77))
     ∷ (0, Read 256) ∷ [])
     (Accepted
     ∷ Got (hex "0c720000 02724080 0000000000000000 0000000000000000 01000000 01000000 00000000 d0070000 3000000000000000 1000000000000000 0000010000000000 3000010000000000") (HOBJ ++ HOBJ2) (hex "00000000000000001800000000000000")
@@ -80,6 +81,7 @@ cleared_notifications_outlive_the_name =
     ∷ Got (hex "0c720000 0f720880 4e00000000000000") [] []
     ∷ Accepted
     ∷ Accepted
+    ∷ Noted note.NoneTold
     ∷ Got (hex "0c720000 10720880 4e00000000000000 10720880 4d00000000000000") [] [] ∷ [])
 
 -- The buffer of an unread call makes its target strong, so that a weak name can be acquired. When the owner ends, its

@@ -4,6 +4,7 @@ pub mod Small
 pub mod Writes
 pub mod Edges
 pub mod Definitions
+pub mod Rules
 pub mod Histories
 pub mod WeakObjectsAndVerdicts
 pub mod DeadObjects

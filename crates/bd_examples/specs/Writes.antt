@@ -108,3 +108,22 @@ commands_by_their_bytes =
     ∷ (Refused fault.Again, 25)
     ∷ (Wrote 4 [] None, 26)
     ∷ (Got (hex "0c720000 0a721080 0010000000000000 0020000000000000") [] [], 27) ∷ [])
+
+-- A seat without a process isn't refused (F4) where no command is run, and a stream that is too long is F15. An empty
+-- parcel whose offsets lie at 1 of an empty area is outside (X7); X7 is tried before X8.
+abbrev pub writes_without_a_process : Type 0
+writes_without_a_process =
+    Answers ((2, Write [] [])
+    ∷ (2, Write (hex "0c6300") [])
+    ∷ (2, Write (hex "11634840") [])
+    ∷ (2, Write (hex "0c630000 11634840") [])
+    ∷ (1, Write (hex "00634040 0000000000000000 0000000000000000 00000000 01000000 00000000 00000000 0000000000000000 0000000000000000 0000000000000000 0100000000000000") [])
+    ∷ (1, Write (hex "00634040 0000000000000000 0000000000000000 00000000 01000000 00000000 00000000 0000000000000000 0900000000000000 0000000000000000 0000000000000000") (hex "0000000000000000"))
+    ∷ (1, Write (hex "00634040 0000000000000000 0000000000000000 00000000 01000000 00000000 00000000 0000000000000000 0900000000000000 0000000000000000 0000000000000000") (hex "000000000000000000")) ∷ [])
+    ((Wrote 0 [] None, 4)
+    ∷ (Wrote 0 [] (Some (stop.Fault fault.ShortCommand)), 4)
+    ∷ (Wrote 0 [] (Some (stop.Fault fault.RefusedCommand)), 4)
+    ∷ (Refused fault.NoProcess, 5)
+    ∷ (Wrote 68 [] (Some (stop.Cause cause.OutsideArea)), 6)
+    ∷ (Wrote 68 [] (Some (stop.Cause cause.OutsideArea)), 7)
+    ∷ (Wrote 68 [] (Some (stop.Cause cause.OffsetsSize)), 8) ∷ [])

@@ -4,6 +4,7 @@
 mod definitions;
 mod edges;
 mod histories;
+mod rules;
 mod small;
 mod worked;
 mod writes;
@@ -32,6 +33,13 @@ pub use histories::{
     hostile_writes_hold, notifications_of_one_cookie_hold, seats_without_a_process_hold,
     weak_handles_of_the_dead_hold, weak_objects_and_verdicts_hold,
 };
+pub use rules::{
+    death_item_gone_with_its_name_holds, limits_of_opening_holds, notices_no_longer_wanted_holds,
+    notifications_of_others_holds, own_object_in_the_own_window_holds,
+    parcels_of_other_lengths_holds, process_without_threads_holds, ready_seats_holds,
+    references_asked_by_a_process_that_ended_holds, references_of_others_holds,
+    requests_without_a_process_holds, room_for_one_return_more_holds, seat_that_comes_back_holds,
+};
 pub use small::{
     asking_for_the_manager_holds, death_asked_holds, falling_offsets_holds, faulty_reply_holds,
     first_fit_holds, handshakes_holds, held_by_handshakes_holds, leaves_the_loop_holds,
@@ -47,5 +55,5 @@ pub use worked::{
 };
 pub use writes::{
     commands_by_their_bytes_holds, full_stream_holds, pointers_past_the_area_holds, several_holds,
-    stream_too_long_holds, unreadable_holds,
+    stream_too_long_holds, unreadable_holds, writes_without_a_process_holds,
 };

@@ -15,5 +15,7 @@ mod journals;
 mod objects;
 mod open_endings;
 mod open_points;
+mod rules;
+mod rules_more;
 mod scripts;
 mod writing;

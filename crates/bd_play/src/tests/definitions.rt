@@ -44,6 +44,7 @@ pub static EXAMPLES: [Example; 6] = [
 0 read 256
 0 deaddone 78
 0 deaddone 77
+0 deaddone 77
 0 read 256
 ",
         prints: "\
@@ -60,7 +61,8 @@ pub static EXAMPLES: [Example; 6] = [
 16: got 0c7200000f7208804e00000000000000 - - 14 15
 17: wrote 12 15 16
 18: wrote 12 16 17
-19: got 0c720000107208804e00000000000000107208804d00000000000000 - - 17 18
+19: wrote 12 17 18 0:N11
+20: got 0c720000107208804e00000000000000107208804d00000000000000 - - 18 19
 ",
     },
     Example {

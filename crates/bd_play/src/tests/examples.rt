@@ -4,7 +4,7 @@ ghost use Rattle.std.specs.Prelude.{◌≡◌};
 
 use super::{
     buffers, calls, deaths, definitions, definitions_more, objects, open_endings, open_points,
-    writing,
+    rules, rules_more, writing,
 };
 use crate::faults::Fault;
 use crate::journals::{check_journal, write_journal};
@@ -189,5 +189,7 @@ fn prints_them(rt: HostRuntime) -> Result<(), Fail> {
     play_each(&rt, rt.alloc(), &objects::EXAMPLES)?;
     play_each(&rt, rt.alloc(), &open_endings::EXAMPLES)?;
     play_each(&rt, rt.alloc(), &open_points::EXAMPLES)?;
+    play_each(&rt, rt.alloc(), &rules::EXAMPLES)?;
+    play_each(&rt, rt.alloc(), &rules_more::EXAMPLES)?;
     play_each(&rt, rt.alloc(), &writing::EXAMPLES)
 }
