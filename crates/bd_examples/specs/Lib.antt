@@ -3,6 +3,8 @@ pub mod Worked
 pub mod Small
 pub mod Writes
 pub mod Edges
+pub mod Definitions
+pub mod Rules
 pub mod Histories
 pub mod WeakObjectsAndVerdicts
 pub mod DeadObjects

@@ -57,8 +57,8 @@ held_by_handshakes =
 
 abbrev pub first_fit : Type 0
 first_fit =
-    Runs ((1, tx 0 1 1 (zeros 8) []) ∷ (1, tx 0 1 1 (zeros 8) []) ∷ (1, tx 0 1 1 (zeros 16) []) ∷ (0, Read 256) ∷ (0, act (bc.FreeBuffer 65536)) ∷ (1, tx 0 1 1 (zeros 16) []) ∷ (1, tx 0 1 1 (zeros 8) []) ∷ (0, Read 256) ∷ (0, act (bc.FreeBuffer 65544)) ∷ (0, Read 256) ∷ (0, act (bc.FreeBuffer 65552)) ∷ (0, Read 256) ∷ (0, act (bc.FreeBuffer 65568)) ∷ (0, Read 256) ∷ [])
-    (Accepted ∷ Accepted ∷ Accepted ∷ to_manager 1 1 0 2000 0 (zeros 8) [] ∷ Accepted ∷ Accepted ∷ Accepted ∷ to_manager 1 1 0 2000 8 (zeros 8) [] ∷ Accepted ∷ to_manager 1 1 0 2000 16 (zeros 16) [] ∷ Accepted ∷ to_manager 1 1 0 2000 32 (zeros 16) [] ∷ Accepted ∷ to_manager 1 1 0 2000 0 (zeros 8) [] ∷ [])
+    Runs ((1, tx 0 1 1 (zeros 8) []) ∷ (1, tx 0 1 1 (zeros 8) []) ∷ (1, tx 0 1 1 (zeros 16) []) ∷ (0, Read 256) ∷ (0, act (bc.FreeBuffer 65536)) ∷ (1, tx 0 1 1 (zeros 16) []) ∷ (1, tx 0 1 1 (zeros 8) []) ∷ (0, Read 256) ∷ (0, act (bc.FreeBuffer 65544)) ∷ (0, Read 256) ∷ (0, act (bc.FreeBuffer 65552)) ∷ (0, Read 256) ∷ (0, act (bc.FreeBuffer 65568)) ∷ (0, Read 256) ∷ (0, act (bc.FreeBuffer 65536)) ∷ [])
+    (Accepted ∷ Accepted ∷ Accepted ∷ to_manager 1 1 0 2000 0 (zeros 8) [] ∷ Accepted ∷ Accepted ∷ Accepted ∷ to_manager 1 1 0 2000 8 (zeros 8) [] ∷ Accepted ∷ to_manager 1 1 0 2000 16 (zeros 16) [] ∷ Accepted ∷ to_manager 1 1 0 2000 32 (zeros 16) [] ∷ Accepted ∷ to_manager 1 1 0 2000 0 (zeros 8) [] ∷ Accepted ∷ [])
 
 abbrev pub turns_by_object : Type 0
 turns_by_object =

@@ -65,6 +65,28 @@ name_lives_as_long_as_a_buffer =
     (Accepted ∷ refers 4096 8192 ∷ Accepted ∷ to_manager 1 1 0 2000 0 HOBJ (0 ∷ []) ∷ Accepted ∷ to_manager 1 1 0 2000 32 HOBJ (0 ∷ []) ∷ Accepted
     ∷ Accepted ∷ to_manager 1 1 0 2000 0 HOBJ (0 ∷ []) ∷ [])
 
+-- sent a second time before anybody reads: each sending has its buffer, and both have handle 1
+abbrev pub object_sent_twice : Type 0
+object_sent_twice =
+    Runs ((1, tx 0 1 1 OBJ (0 ∷ []))
+    ∷ (1, tx 0 1 1 OBJ (0 ∷ []))
+    ∷ (1, Read 256)
+    ∷ (0, Read 256)
+    ∷ (0, act (bc.FreeBuffer 65536))
+    ∷ (0, Read 256)
+    ∷ (0, act (bc.FreeBuffer 65568))
+    ∷ (1, tx 0 1 1 OBJ2 (0 ∷ []))
+    ∷ (0, Read 256) ∷ [])
+    (Accepted
+    ∷ Accepted
+    ∷ Got (hex "0c720000 06720000 07721080 0010000000000000 0020000000000000 08721080 0010000000000000 0020000000000000 06720000") [] []
+    ∷ to_manager 1 1 0 2000 0 HOBJ (0 ∷ [])
+    ∷ Accepted
+    ∷ to_manager 1 1 0 2000 32 HOBJ (0 ∷ [])
+    ∷ Accepted
+    ∷ Accepted
+    ∷ to_manager 1 1 0 2000 0 HOBJ (0 ∷ []) ∷ [])
+
 abbrev pub object_comes_home : Type 0
 object_comes_home =
     Runs (object_steps ++ (1, enter) ∷ (0, tx 1 5 1 HOBJ (0 ∷ [])) ∷ (1, Read 256) ∷ [])

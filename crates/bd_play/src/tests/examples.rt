@@ -2,7 +2,10 @@
 
 ghost use Rattle.std.specs.Prelude.{◌≡◌};
 
-use super::{buffers, calls, deaths, objects, open_endings, open_points, writing};
+use super::{
+    buffers, calls, deaths, definitions, definitions_more, objects, open_endings, open_points,
+    rules, rules_more, writing,
+};
 use crate::faults::Fault;
 use crate::journals::{check_journal, write_journal};
 use crate::play::play;
@@ -181,8 +184,12 @@ fn prints_them(rt: HostRuntime) -> Result<(), Fail> {
     play_each(&rt, rt.alloc(), &buffers::EXAMPLES)?;
     play_each(&rt, rt.alloc(), &calls::EXAMPLES)?;
     play_each(&rt, rt.alloc(), &deaths::EXAMPLES)?;
+    play_each(&rt, rt.alloc(), &definitions::EXAMPLES)?;
+    play_each(&rt, rt.alloc(), &definitions_more::EXAMPLES)?;
     play_each(&rt, rt.alloc(), &objects::EXAMPLES)?;
     play_each(&rt, rt.alloc(), &open_endings::EXAMPLES)?;
     play_each(&rt, rt.alloc(), &open_points::EXAMPLES)?;
+    play_each(&rt, rt.alloc(), &rules::EXAMPLES)?;
+    play_each(&rt, rt.alloc(), &rules_more::EXAMPLES)?;
     play_each(&rt, rt.alloc(), &writing::EXAMPLES)
 }
