@@ -47,7 +47,7 @@ module _ (v : View) (number : ℕ) (me : number ≡ v.who) (m m' : Hands) (e0 e1
         one_take = refl;
         no_look = refl;
         no_mail = (refl, refl, refl, refl, refl, refl);
-        no_door = (refl, refl);
+        no_opening = (refl, refl);
         page = (refl, refl);
         handover = refl;
         begins = subst (λ l. StartsWith l v.seen) (sym grown) (starts_longer t.entries run v.seen t.begins);
@@ -78,7 +78,7 @@ module _ (v : View) (number : ℕ) (me : number ≡ v.who) (m m' : Hands) (e0 e1
         one_take = refl;
         no_look = refl;
         no_mail = (refl, refl, refl, refl, refl, refl);
-        no_door = (refl, refl);
+        no_opening = (refl, refl);
         page = page why;
         handover = refl;
         begins = subst (λ l. StartsWith l v.seen) (sym entries) t.begins;

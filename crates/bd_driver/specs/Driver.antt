@@ -90,7 +90,7 @@ pub record Calls (v w : View) (request : Request) (answer : Outcome) : Type 0 wh
   pub one_take : w.takes.count ≡ v.takes.count + 1
   pub no_look : w.looks ≡ v.looks
   pub no_mail : (w.posts ≡ v.posts) × (w.withdraws ≡ v.withdraws) × (w.collects ≡ v.collects) × (w.picks ≡ v.picks) × (w.answers ≡ v.answers) × (w.answered ≡ v.answered)
-  pub no_door : (w.opens ≡ v.opens) × (w.shuts ≡ v.shuts)
+  pub no_opening : (w.opens ≡ v.opens) × (w.shuts ≡ v.shuts)
   pub page : PageSteps v w answer
   pub handover : w.handover ≡ v.handover
   pub begins : StartsWith w.seen v.seen

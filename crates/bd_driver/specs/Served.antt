@@ -46,7 +46,7 @@ pub record Serves (seats : ℕ) (v w : View) (served : Served) : Type 0 where
   pub one_take : w.takes.count ≡ v.takes.count + 1
   pub no_look : w.looks ≡ v.looks
   pub no_mail : (w.posts ≡ v.posts) × (w.withdraws ≡ v.withdraws) × (w.collects ≡ v.collects)
-  pub no_door : (w.opens ≡ v.opens) × (w.shuts ≡ v.shuts)
+  pub no_opening : (w.opens ≡ v.opens) × (w.shuts ≡ v.shuts)
   pub begins : StartsWith w.seen v.seen
   pub own : w.own ≡ v.own
   pub handover : w.handover ≡ v.handover
