@@ -116,8 +116,8 @@ impl Engine {
         }
     }
 
-    /// Makes one step, and answers it. Errors: the history is full, which is found before any memory is asked for; memory
-    /// was refused; or a name would have to be numbered above 4294967294.
+    /// Makes one step, and answers it. Errors: the history is full, which is found before any memory is asked for;
+    /// memory was refused; or a name would have to be numbered above 4294967294.
     pub fn step(&mut self, seat: u32, step: Step) -> Result<StepAnswer, Why>
         requires { seat < self.old.seats }
         // The answer is the space's.

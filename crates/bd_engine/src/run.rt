@@ -96,7 +96,7 @@ impl Engine {
 
     /// Runs a request: makes its steps, and says what they answer it and where they stand. A write that memory or the
     /// full history stops after some of its commands answers those; refused before its first step, the engine is as it
-    /// was.
+    /// was. A write that makes no step is never refused.
     #[tactic(auto, unfolding(bd_space::specs::Runs::run))]
     pub fn run(&mut self, seat: u32, request: &Request) -> Result<Ran, Why>
         requires { seat < self.old.seats }
