@@ -14,4 +14,6 @@ mod objects;
 mod open_endings;
 mod open_points;
 mod scripts;
+mod sizes;
+mod writers;
 mod writing;
