@@ -1,6 +1,6 @@
 -- The two laws: what is read is spelled so, and what is spelled so is read.
-use Rattle.std.proofs.Common.{◌≡◌, ℕ, zero, suc, ◌+◌, ◌^◌, ◌<◌, ◌≤◌, Bool, true, false, cond, eqb, ltb, leb, eq-eqb, ◌&&◌, List, [], ◌∷◌, ◌++◌, length, take, Option, Some, None, Result, Ok, Err, refl, sym, ap, subst, ◌∙◌, append_assoc, arith}
-use Rattle.std.specs.Prelude.{IfOk, nat_lt}
+use Rattle.std.proofs.Common.{◌≡◌, ℕ, zero, suc, ◌^◌, ◌<◌, ◌≤◌, Bool, true, false, cond, eqb, ltb, leb, eq-eqb, ◌&&◌, List, [], ◌∷◌, ◌++◌, length, take, Option, Some, None, Result, Ok, Err, refl, sym, ap, subst, ◌∙◌, append_assoc, arith}
+use Rattle.std.specs.Prelude.{IfOk}
 use Rattle.std.specs.List.{flat_map, AllByRecursion}
 use Rattle.std.proofs.lemmas.Bool.{eqb-true, ltb-true, leb-true, lt-ltb, le-leb}
 use Rattle.std.proofs.lemmas.List.{append-nil, nil_from_length, take_all, length-append}
@@ -8,8 +8,7 @@ use Rattle.std.proofs.lemmas.List.Concat.{flat_map-cons}
 use Rattle.bd_uapi.specs.Bytes.{IsBytes, word}
 use Rattle.bd_uapi.specs.declared.fault.Fault.{Fault}
 use Rattle.bd_uapi.specs.declared.command.Command.{Command}
-use Rattle.bd_uapi.specs.declared.command.Command.TheVariants as command
-use Rattle.bd_codec.specs.Spelling.{command_bytes, IsCommand, Found}
+use Rattle.bd_codec.specs.Spelling.{command_bytes, IsCommand}
 use Rattle.bd_codec.specs.Reading.{command_at}
 use Rattle.bd_codec.proofs.CommandRows.{command_found, command_again}
 use Rattle.bd_space.specs.declared.step.Parcel.{Parcel}
@@ -24,8 +23,8 @@ use Rattle.bd_uapi.specs.declared.fault.Cause.{Cause}
 use Rattle.bd_journal.specs.declared.fault.ReadError.{ReadError}
 use Rattle.bd_journal.specs.Codes.{numbered, note_number, note_rows, cause_number, cause_rows, fault_number, fault_rows}
 use Rattle.bd_journal.specs.Spelling.{block, magic, carries, parcel_bytes, step_bytes, answer_bytes, entry_bytes, heading_bytes, journal_bytes, IsBlock, IsParcel, IsStep, IsAnswer, IsEntry, IsJournal}
-use Rattle.bd_journal.specs.Reading.{◌>>=◌, Gives, byte_from, word_from, block_from, whole, whole_block_from, spelled_by, command_in, blocks_from, parcel_by, parcel_from, command_step_from, open_from, number_step_from, tagged, bare, step_rows, step_from, numbered_from, got_from, answer_rows, answer_from, entry_from, entries_from, seats_from, journal_in}
-use Rattle.bd_journal.proofs.FieldLaws.{bind_some, guard_some, demand_some, some_is, Takes, Takes-then, Takes-behind, IsBytes-rest, Reads, byte_takes, words, blocks, block_bytes}
+use Rattle.bd_journal.specs.Reading.{◌>>=◌, Gives, byte_from, word_from, block_from, whole, whole_block_from, spelled_by, command_in, blocks_from, parcel_by, parcel_from, command_step_from, open_from, number_step_from, step_rows, step_from, got_from, answer_rows, answer_from, entry_from, entries_from, seats_from, journal_in}
+use Rattle.bd_journal.proofs.FieldLaws.{bind_some, demand_some, some_is, Takes, Takes-then, Takes-behind, IsBytes-rest, byte_takes, words, blocks, block_bytes}
 use Rattle.bd_journal.proofs.Tags.{Row, RowOf, bare_row, once_row, thrice_row, thrice_again, numbered_row, rows_take}
 
 none_is_not_some : {A : Type 0} (x : A) → None ≡ Some x → ⊥

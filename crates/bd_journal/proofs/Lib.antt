@@ -3,4 +3,3 @@ pub mod Pieces
 pub mod FieldLaws
 pub mod Tags
 pub mod Laws
-pub mod Lengths

@@ -2,6 +2,7 @@
 
 ghost use Rattle.std.specs.Prelude.{◌≡◌};
 ghost use Rattle.bd_journal.specs.declared.fault.ReadError.TheVariants.{Memory};
+ghost use Rattle.bd_journal.specs.declared.fault.WriteError.TheVariants.{Refused as WriteError-Refused};
 
 use std::alloc::{AllocError, AllocFailed};
 use thiserror::Error;
@@ -39,10 +40,19 @@ pub enum WriteError {
     /// No journal spells it: a seat or a length is out of its range, or a parcel stands beside a command without one.
     #[error("no journal spells the record")]
     Unspellable,
-    /// Memory was refused.
-    #[error("out of memory")]
-    Memory,
-    /// The writer refused bytes.
+    /// The writer took no more bytes.
     #[error("the journal can't be written")]
     Refused,
+}
+
+// The writer took no more bytes.
+#[derive(Clone, Copy, Debug)]
+pub struct Refused;
+
+impl From<Refused> for WriteError {
+    ghost from_gives = { λ _ e. e ≡ WriteError-Refused };
+
+    fn from(_e: Refused) -> WriteError {
+        WriteError::Refused
+    }
 }

@@ -2,9 +2,11 @@
 #![tactic(auto)]
 
 mod codes;
+mod commands;
 mod fault;
 mod fields;
 mod reading;
+mod sending;
 mod writing;
 
 pub use codes::{cause_number, fault_number, note_number};

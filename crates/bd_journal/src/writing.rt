@@ -1,244 +1,232 @@
-//! Writing a journal.
+//! Writing a journal, piece by piece. It takes no memory.
 
-ghost use Rattle.std.specs.Prelude.{◌≡◌, [], ◌∷◌, ◌++◌, length, OnOk};
+ghost use Rattle.std.specs.Prelude.{◌<◌, ◌^◌, length, OnOk, OnErr, IfSome};
 ghost use Rattle.std.specs.List.{flat_map, AllByRecursion};
 ghost use Rattle.std.specs.Io.KnownBytes.{Appends};
-ghost use Rattle.bd_uapi.specs.Bytes.{word};
-ghost use Rattle.bd_codec.specs.Spelling.{command_bytes};
-ghost use Rattle.bd_journal.specs.Writing.{Refuses, Spelled, IsHeading};
+ghost use Rattle.bd_space.specs.declared.step.StepAnswer.TheVariants.{Got};
+ghost use Rattle.bd_journal.specs.Writing.{Begins, Sends, Spells, Measures, IsHeading};
 ghost use Rattle.bd_journal.specs.Spelling.{IsBlock, IsParcel, IsStep, IsAnswer, IsEntry, IsJournal, block, parcel_bytes, step_bytes, answer_bytes, entry_bytes, heading_bytes, journal_bytes};
 
 use crate::codes::{cause_number, fault_number, note_number};
-use crate::fault::WriteError;
+use crate::commands::{command_len, send_command};
+use crate::fault::{Refused, WriteError};
 use crate::reading::{KIND, MOST_SEATS, VERSION, carries_parcel};
-use bd_codec::write_command;
-use bd_space::{Entry, Parcel, Record, Step, StepAnswer};
+use crate::sending::{send, send_all};
+use bd_space::{Bytes, Entry, Parcel, Record, Step, StepAnswer};
 use bd_uapi::Command;
-use std::alloc::Global;
-use std::io::{ErrorKind, Write};
+use std::io::Write;
 
-fn put_slice(bytes: &[u8], out: &mut Vec<u8>) -> Result<(), WriteError>
-    ensures ok { OnOk result (out.new.items ≡ out.old.items ++ bytes.now) }
-    ensures spelled { Spelled result }
-{
-    match out.extend_from_slice(bytes) {
-        Ok(()) => Ok(()),
-        Err(_) => Err(WriteError::Memory),
-    }
-}
-
-fn put_byte(byte: u8, out: &mut Vec<u8>) -> Result<(), WriteError>
-    ensures ok { OnOk result (out.new.items ≡ out.old.items ++ byte ∷ []) }
-    ensures spelled { Spelled result }
-{
-    put_slice(&[byte], out)
-}
-
-// A number in four bytes.
-fn put_word(number: u32, out: &mut Vec<u8>) -> Result<(), WriteError>
-    ensures ok { OnOk result (out.new.items ≡ out.old.items ++ word number) }
-    ensures spelled { Spelled result }
-{
-    put_slice(&number.to_le_bytes(), out)
-}
-
-// Bytes with their length before them.
-fn put_block(bytes: &[u8], out: &mut Vec<u8>) -> Result<(), WriteError>
-    ensures ok { OnOk result (out.new.items ≡ out.old.items ++ block bytes.now) }
-    ensures unspellable { Refuses result (IsBlock bytes.now) }
+// The length of bytes with their length before them.
+fn block_len(bytes: &[u8]) -> Option<u64>
+    ensures { Measures result (IsBlock bytes.now) (length (block bytes.now)) }
 {
     if bytes.len() > u32::MAX as usize {
-        return Err(WriteError::Unspellable);
+        return None;
     }
-    put_word(bytes.len() as u32, out)?;
-    put_slice(bytes, out)
+    Some(4 + bytes.len() as u64)
 }
 
-fn put_command(alloc: Global, command: &Command, out: &mut Vec<u8>) -> Result<(), WriteError>
-    ensures ok { OnOk result (out.new.items ≡ out.old.items ++ block (command_bytes command.now)) }
-    ensures spelled { Spelled result }
+// A length in four bytes.
+fn short(len: u64) -> Option<u32>
+    ensures { Measures result (len < 2 ^ 32) len }
 {
-    let mut spelled = Vec::new(alloc);
-    match write_command(command, &mut spelled) {
-        Ok(()) => put_block(&spelled, out),
-        Err(_) => Err(WriteError::Memory),
+    if len > u64::from(u32::MAX) {
+        return None;
     }
+    Some(len as u32)
 }
 
-fn put_parcel(
-    command: &Command,
-    parcel: &Option<Parcel>,
-    out: &mut Vec<u8>,
-) -> Result<(), WriteError>
-    ensures ok { OnOk result (out.new.items ≡ out.old.items ++ parcel_bytes parcel.now) }
-    ensures unspellable { Refuses result (IsParcel command.now parcel.now) }
+fn parcel_len(command: &Command, parcel: &Option<Parcel>) -> Option<u64>
+    ensures { Measures result (IsParcel command.now parcel.now) (length (parcel_bytes parcel.now)) }
 {
-    match parcel {
-        None => put_byte(0, out),
-        Some(parcel) => {
-            if !carries_parcel(command) {
-                return Err(WriteError::Unspellable);
-            }
-            put_byte(1, out)?;
-            put_block(parcel.bytes.as_slice(), out)?;
-            put_block(parcel.offsets.as_slice(), out)
-        }
+    let Some(parcel) = parcel else {
+        return Some(1);
+    };
+    if !carries_parcel(command) {
+        return None;
     }
+    let data = block_len(parcel.bytes.as_slice())?;
+    let offsets = block_len(parcel.offsets.as_slice())?;
+    Some(1 + data + offsets)
 }
 
-fn put_step(alloc: Global, step: &Step, out: &mut Vec<u8>) -> Result<(), WriteError>
-    ensures ok { OnOk result (out.new.items ≡ out.old.items ++ step_bytes step.now) }
-    ensures unspellable { Refuses result (IsStep step.now) }
+fn step_len(step: &Step) -> Option<u32>
+    ensures { Measures result (IsStep step.now × IsBlock (step_bytes step.now)) (length (step_bytes step.now)) }
 {
     match step {
         Step::Open { pid, euid, window } => {
-            put_byte(0, out)?;
-            put_word(*pid, out)?;
-            put_word(*euid, out)?;
-            put_word(*window, out)
+            let _widths = (*pid, *euid, *window);
+            Some(13)
         }
-        Step::Attach { pid } => {
-            put_byte(1, out)?;
-            put_word(*pid, out)
+        Step::Attach { pid: number } | Step::Read { limit: number } => {
+            let _width = *number;
+            Some(5)
         }
-        Step::SetManager => put_byte(2, out),
+        Step::SetManager | Step::ExitThread | Step::ExitProcess => Some(1),
         Step::Command { command, parcel } => {
-            put_byte(3, out)?;
-            put_command(alloc, command, out)?;
-            put_parcel(command, parcel, out)
+            let parcel = parcel_len(command, parcel)?;
+            short(5 + u64::from(command_len(command)) + parcel)
         }
-        Step::Read { limit } => {
-            put_byte(4, out)?;
-            put_word(*limit, out)
-        }
-        Step::ExitThread => put_byte(5, out),
-        Step::ExitProcess => put_byte(6, out),
     }
 }
 
-fn put_answer(answer: &StepAnswer, out: &mut Vec<u8>) -> Result<(), WriteError>
-    ensures ok { OnOk result (out.new.items ≡ out.old.items ++ answer_bytes answer.now) }
-    ensures unspellable { Refuses result (IsAnswer answer.now) }
+fn answer_len(answer: &StepAnswer) -> Option<u32>
+    ensures { Measures result (IsAnswer answer.now × IsBlock (answer_bytes answer.now)) (length (answer_bytes answer.now)) }
 {
     match answer {
-        StepAnswer::Opened => put_byte(0, out),
-        StepAnswer::Set => put_byte(1, out),
-        StepAnswer::Exited => put_byte(2, out),
-        StepAnswer::Accepted => put_byte(3, out),
-        StepAnswer::Noted(note) => put_slice(&[4, note_number(*note)], out),
-        StepAnswer::Stopped(cause) => put_slice(&[5, cause_number(*cause)], out),
+        StepAnswer::Opened | StepAnswer::Set => Some(1),
+        StepAnswer::Exited | StepAnswer::Accepted => Some(1),
+        StepAnswer::Noted(_) | StepAnswer::Stopped(_) | StepAnswer::Refused(_) => Some(2),
         StepAnswer::Got {
             stream,
             bytes,
             offsets,
         } => {
-            put_byte(6, out)?;
-            put_block(stream.as_slice(), out)?;
-            put_block(bytes.as_slice(), out)?;
-            put_block(offsets.as_slice(), out)
+            let stream = block_len(stream.as_slice())?;
+            let bytes = block_len(bytes.as_slice())?;
+            let offsets = block_len(offsets.as_slice())?;
+            short(1 + stream + bytes + offsets)
         }
-        StepAnswer::Refused(fault) => put_slice(&[7, fault_number(*fault)], out),
     }
 }
 
-fn put_entry(alloc: Global, seats: u32, entry: &Entry, out: &mut Vec<u8>) -> Result<(), WriteError>
-    ensures ok { OnOk result (out.new.items ≡ out.old.items ++ entry_bytes entry.now) }
-    ensures unspellable { Refuses result (IsEntry seats entry.now) }
+fn send_parcel<W: Write>(parcel: &Option<Parcel>, out: &mut W) -> Result<(), Refused>
+    requires { IfSome parcel.now (λ p. IsBlock p.bytes × IsBlock p.offsets) }
+    ensures { Sends (W.contents out.old) (W.contents out.new) result (parcel_bytes parcel.now) }
+{
+    match parcel {
+        None => send(&[0], out),
+        Some(parcel) => {
+            let data = parcel.bytes.as_slice();
+            let offsets = parcel.offsets.as_slice();
+            let data_len = (data.len() as u32).to_le_bytes();
+            let offsets_len = (offsets.len() as u32).to_le_bytes();
+            send_all(&[&[1], &data_len, data, &offsets_len, offsets], out)
+        }
+    }
+}
+
+fn send_step<W: Write>(step: &Step, out: &mut W) -> Result<(), Refused>
+    requires { IsStep step.now }
+    ensures { Sends (W.contents out.old) (W.contents out.new) result (step_bytes step.now) }
+{
+    match step {
+        Step::Open { pid, euid, window } => {
+            let pid = pid.to_le_bytes();
+            let euid = euid.to_le_bytes();
+            send_all(&[&[0], &pid, &euid, &window.to_le_bytes()], out)
+        }
+        Step::Attach { pid } => send_all(&[&[1], &pid.to_le_bytes()], out),
+        Step::SetManager => send(&[2], out),
+        Step::Command { command, parcel } => {
+            send_all(&[&[3], &command_len(command).to_le_bytes()], out)?;
+            send_command(command, out)?;
+            send_parcel(parcel, out)
+        }
+        Step::Read { limit } => send_all(&[&[4], &limit.to_le_bytes()], out),
+        Step::ExitThread => send(&[5], out),
+        Step::ExitProcess => send(&[6], out),
+    }
+}
+
+fn send_got<'a, W: Write>(
+    stream: &'a Bytes,
+    bytes: &'a Bytes,
+    offsets: &'a Bytes,
+    out: &mut W,
+) -> Result<(), Refused>
+    requires { IsBlock stream.now × IsBlock bytes.now × IsBlock offsets.now }
+    ensures { Sends (W.contents out.old) (W.contents out.new) result (answer_bytes (Got stream.now bytes.now offsets.now)) }
+{
+    let stream = stream.as_slice();
+    let bytes = bytes.as_slice();
+    let offsets = offsets.as_slice();
+    let stream_len = (stream.len() as u32).to_le_bytes();
+    let bytes_len = (bytes.len() as u32).to_le_bytes();
+    let offsets_len = (offsets.len() as u32).to_le_bytes();
+    let pieces: [&[u8]; 7] = [
+        &[6],
+        &stream_len,
+        stream,
+        &bytes_len,
+        bytes,
+        &offsets_len,
+        offsets,
+    ];
+    send_all(&pieces, out)
+}
+
+fn send_answer<W: Write>(answer: &StepAnswer, out: &mut W) -> Result<(), Refused>
+    requires { IsAnswer answer.now }
+    ensures { Sends (W.contents out.old) (W.contents out.new) result (answer_bytes answer.now) }
+{
+    match answer {
+        StepAnswer::Opened => send(&[0], out),
+        StepAnswer::Set => send(&[1], out),
+        StepAnswer::Exited => send(&[2], out),
+        StepAnswer::Accepted => send(&[3], out),
+        StepAnswer::Noted(note) => send(&[4, note_number(*note)], out),
+        StepAnswer::Stopped(cause) => send(&[5, cause_number(*cause)], out),
+        StepAnswer::Got {
+            stream,
+            bytes,
+            offsets,
+        } => send_got(stream, bytes, offsets, out),
+        StepAnswer::Refused(fault) => send(&[7, fault_number(*fault)], out),
+    }
+}
+
+fn send_entry<W: Write>(seats: u32, entry: &Entry, out: &mut W) -> Result<(), WriteError>
+    ensures sends { Sends (W.contents out.old) (W.contents out.new) result (entry_bytes entry.now) }
+    ensures spells { Spells result (IsEntry seats entry.now) }
 {
     if entry.seat >= seats {
         return Err(WriteError::Unspellable);
     }
-    let mut step = Vec::new(alloc);
-    put_step(alloc, &entry.step, &mut step)?;
-    let mut answer = Vec::new(alloc);
-    put_answer(&entry.answer, &mut answer)?;
-    put_word(entry.seat, out)?;
-    put_block(&step, out)?;
-    put_block(&answer, out)
-}
-
-fn put_heading(seats: u32, count: usize, out: &mut Vec<u8>) -> Result<(), WriteError>
-    ensures ok { OnOk result (out.new.items ≡ out.old.items ++ heading_bytes seats count) }
-    ensures unspellable { Refuses result (IsHeading seats count) }
-{
-    if seats < 1 || seats > MOST_SEATS || count > u32::MAX as usize {
+    let (Some(step), Some(answer)) = (step_len(&entry.step), answer_len(&entry.answer)) else {
         return Err(WriteError::Unspellable);
-    }
-    put_word(KIND, out)?;
-    put_word(VERSION, out)?;
-    put_word(seats, out)?;
-    put_word(count as u32, out)
+    };
+    send_all(&[&entry.seat.to_le_bytes(), &step.to_le_bytes()], out)?;
+    send_step(&entry.step, out)?;
+    send(&answer.to_le_bytes(), out)?;
+    Ok(send_answer(&entry.answer, out)?)
 }
 
-// Bytes to where they are written.
-fn send<W: Write>(bytes: &[u8], out: &mut W) -> Result<(), WriteError>
-    ensures ok { OnOk result (Appends (W.contents out.old) (W.contents out.new) bytes.now) }
-    ensures spelled { Spelled result }
-{
-    match out.write_all(bytes) {
-        Ok(()) => Ok(()),
-        Err(error) => match error.kind() {
-            ErrorKind::OutOfMemory => Err(WriteError::Memory),
-            _ => Err(WriteError::Refused),
-        },
-    }
-}
-
-fn send_heading<W: Write>(alloc: Global, history: &Record, out: &mut W) -> Result<(), WriteError>
-    ensures ok { OnOk result (Appends (W.contents out.old) (W.contents out.new) (heading_bytes history.now.seats (length history.now.entries))) }
-    ensures unspellable { Refuses result (IsHeading history.now.seats (length history.now.entries)) }
-{
-    let mut heading = Vec::new(alloc);
-    put_heading(
-        history.seats,
-        history.entries.as_slice().len(),
-        &mut heading,
-    )?;
-    send(&heading, out)
-}
-
-fn send_entry<W: Write>(
-    alloc: Global,
-    seats: u32,
-    entry: &Entry,
-    out: &mut W,
-) -> Result<(), WriteError>
-    ensures ok { OnOk result (Appends (W.contents out.old) (W.contents out.new) (entry_bytes entry.now)) }
-    ensures unspellable { Refuses result (IsEntry seats entry.now) }
-{
-    let mut text = Vec::new(alloc);
-    put_entry(alloc, seats, entry, &mut text)?;
-    send(&text, out)
-}
-
-fn send_entries<W: Write>(
-    alloc: Global,
-    seats: u32,
-    entries: &[Entry],
-    out: &mut W,
-) -> Result<(), WriteError>
-    ensures ok { OnOk result (Appends (W.contents out.old) (W.contents out.new) (flat_map entry_bytes entries.now)) }
-    ensures unspellable { Refuses result (AllByRecursion (IsEntry seats) entries.now) }
+fn send_entries<W: Write>(seats: u32, entries: &[Entry], out: &mut W) -> Result<(), WriteError>
+    ensures sends { Sends (W.contents out.old) (W.contents out.new) result (flat_map entry_bytes entries.now) }
+    ensures spells { Spells result (AllByRecursion (IsEntry seats) entries.now) }
 {
     for entry in entries {
-        send_entry(alloc, seats, entry, out)?;
+        send_entry(seats, entry, out)?;
     }
     Ok(())
 }
 
-/// Writes the one spelling of the record, entry by entry.
+fn send_heading<W: Write>(seats: u32, count: usize, out: &mut W) -> Result<(), WriteError>
+    ensures sends { Sends (W.contents out.old) (W.contents out.new) result (heading_bytes seats count) }
+    ensures spells { Spells result (IsHeading seats count) }
+{
+    if seats < 1 || seats > MOST_SEATS || count > u32::MAX as usize {
+        return Err(WriteError::Unspellable);
+    }
+    let kind = KIND.to_le_bytes();
+    let version = VERSION.to_le_bytes();
+    let count = count as u32;
+    let pieces: [&[u8]; 4] = [&kind, &version, &seats.to_le_bytes(), &count.to_le_bytes()];
+    Ok(send_all(&pieces, out)?)
+}
+
+/// Writes the one spelling of the record, piece by piece. It takes no memory.
 ///
 /// # Errors
-/// `Unspellable` where the record has none, `Memory` where memory was refused, `Refused` where the writer fails for
-/// another cause. A part of the journal may then be written.
-pub fn write_journal<W: Write>(
-    alloc: Global,
-    history: &Record,
-    out: &mut W,
-) -> Result<(), WriteError>
+/// `Unspellable` where the record has none, `Refused` where the writer takes no more. What was then written is a
+/// beginning.
+pub fn write_journal<W: Write>(history: &Record, out: &mut W) -> Result<(), WriteError>
     ensures ok { OnOk result (Appends (W.contents out.old) (W.contents out.new) (journal_bytes history.now)) }
-    ensures unspellable { Refuses result (IsJournal history.now) }
+    ensures beginning { OnErr result (Begins (W.contents out.old) (W.contents out.new) (journal_bytes history.now)) }
+    ensures unspellable { Spells result (IsJournal history.now) }
 {
-    send_heading(alloc, history, out)?;
-    send_entries(alloc, history.seats, history.entries.as_slice(), out)
+    let entries = history.entries.as_slice();
+    send_heading(history.seats, entries.len(), out)?;
+    send_entries(history.seats, entries, out)
 }

@@ -1,2 +1,3 @@
 pub mod Kept
+pub mod Says
 pub mod Seats

@@ -1,1 +1,3 @@
+pub mod Journals
 pub mod Verdicts
+pub mod Workers

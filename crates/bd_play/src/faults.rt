@@ -1,5 +1,8 @@
 //! What the program ends with.
 
+ghost use Rattle.std.specs.Prelude.{◌≡◌, MatchResult, max};
+ghost use Rattle.bd_play.specs.Workers.{fault_status};
+
 use std::io;
 use std::io::{ErrorKind, Write};
 use thiserror::Error;
@@ -44,7 +47,9 @@ impl From<io::Error> for Fault {
 
 impl Fault {
     /// The status that the program ends with.
-    pub fn status(self) -> u8 {
+    pub fn status(self) -> u8
+        ensures { result ≡ fault_status self }
+    {
         match self {
             Fault::Memory => MEMORY,
             _ => FAULT,
@@ -61,7 +66,19 @@ impl Fault {
 }
 
 /// Tells a fault, and answers its status.
-pub fn tell<E: Write>(fault: Fault, err: &mut E) -> u8 {
+pub fn tell<E: Write>(fault: Fault, err: &mut E) -> u8
+    ensures { result ≡ fault_status fault }
+{
     let _ = writeln!(err, "{fault}");
     fault.status()
+}
+
+/// This status, but at least that of a fault where something couldn't be written.
+pub fn after_writing(written: io::Result<()>, status: u8) -> u8
+    ensures { MatchResult written (λ _. result ≡ status) (λ _. result ≡ max status 1) }
+{
+    match written {
+        Ok(()) => status,
+        Err(_) => status.max(FAULT),
+    }
 }

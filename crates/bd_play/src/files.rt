@@ -15,7 +15,8 @@ use std::thread::Threads;
 // Standard input.
 const INPUT: &str = "-";
 
-fn play_from<H: AllocGlobal + Threads + Wait + Sync, R: Read, W: Write, E: Write>(
+/// Plays the script that a reader has, in this manner.
+pub fn play_from<H: AllocGlobal + Threads + Wait + Sync, R: Read, W: Write, E: Write>(
     rt: &H,
     script: &mut R,
     manner: Manner,
@@ -33,7 +34,10 @@ fn play_from<H: AllocGlobal + Threads + Wait + Sync, R: Read, W: Write, E: Write
 fn write_file<H: AllocGlobal + Files>(rt: &H, history: &Record, name: &str) -> Result<(), Fault> {
     let file = File::create(rt, name)?;
     let mut out = BufWriter::new(rt.alloc(), file)?;
-    write_journal(rt.alloc(), history, &mut out)
+    if !write_journal(history, &mut out) {
+        return Err(Fault::File);
+    }
+    Ok(())
 }
 
 /// Plays the script in a file, and writes the journal of the run where one is asked for.

@@ -1,35 +1,29 @@
 //! Writing and judging journals.
 
-ghost use Rattle.std.specs.Prelude.{OnOk};
-ghost use Rattle.std.specs.Io.KnownBytes.{Appends};
-ghost use Rattle.bd_journal.specs.Spelling.{journal_bytes};
+ghost use Rattle.bd_play.specs.Journals.{Wrote};
 
-use crate::faults::{DONE, FAULT, Fault, tell};
+use crate::faults::{DONE, FAULT, after_writing, tell};
 use crate::play::read_all;
 use crate::verdicts::{Verdict, verdict_on};
-use bd_journal::WriteError;
 use bd_space::Record;
 use std::alloc::Global;
 use std::io::{Read, Write};
 
-/// Writes every byte of the record's journal. Where that fails a part of it may be written.
-#[tactic(auto, using(crate::proofs::Kept::appended_kept))]
-pub fn write_journal<W: Write>(alloc: Global, history: &Record, out: &mut W) -> Result<(), Fault>
-    ensures { OnOk result (Appends (W.contents out.old) (W.contents out.new) (journal_bytes history.now)) }
+/// Writes the record's journal and flushes it; whether every byte went out. Where not, a beginning may be written. It
+/// takes no memory.
+#[tactic(auto, using(crate::proofs::Kept::flushed))]
+pub fn write_journal<W: Write>(history: &Record, out: &mut W) -> bool
+    ensures { Wrote (W.contents out.old) (W.contents out.new) history.now result }
 {
-    match bd_journal::write_journal(alloc, history, out) {
-        Ok(()) => Ok(out.flush()?),
-        Err(WriteError::Memory) => Err(Fault::Memory),
-        Err(WriteError::Unspellable | WriteError::Refused) => Err(Fault::File),
+    match bd_journal::write_journal(history, out) {
+        Ok(()) => out.flush().is_ok(),
+        Err(_) => false,
     }
 }
 
 // Prints a verdict.
 fn print<W: Write>(verdict: &str, number: usize, out: &mut W, status: u8) -> u8 {
-    match writeln!(out, "{verdict} {number}") {
-        Ok(()) => status,
-        Err(_) => status.max(FAULT),
-    }
+    after_writing(writeln!(out, "{verdict} {number}"), status)
 }
 
 /// Judges a journal: whether its entries are a history, or else the first that doesn't follow from those before.

@@ -14,7 +14,7 @@ mod verdicts;
 mod worker;
 
 use arguments::{Order, Refused, order_of};
-use faults::{DONE, FAULT, Fault, tell};
+use faults::{DONE, Fault, after_writing, tell};
 use files::{check_file, run_file};
 use std::alloc::Global;
 use std::io::{BufWriter, Write};
@@ -39,10 +39,7 @@ fn obey<H: AllocGlobal + Files + Input + Threads + Wait + Sync, W: Write, E: Wri
         } => run_file(rt, file, manner, journal, out, err),
         Order::Check { file } => check_file(rt, file, out, err),
     };
-    match out.flush() {
-        Ok(()) => status,
-        Err(_) => status.max(FAULT),
-    }
+    after_writing(out.flush(), status)
 }
 
 fn run<H: Runtime<A = Global> + Threads + Wait + Sync, E: Write>(rt: &H, err: &mut E) -> u8 {
@@ -57,10 +54,7 @@ fn run<H: Runtime<A = Global> + Threads + Wait + Sync, E: Write>(rt: &H, err: &m
         Ok(order) => order,
         Err(Refused::Fault(fault)) => return tell(fault, err),
         Err(Refused::Help(help)) => {
-            return match help.print(rt) {
-                Ok(()) => DONE,
-                Err(_) => FAULT,
-            };
+            return after_writing(help.print(rt), DONE);
         }
     };
     match BufWriter::new(rt.alloc(), io::writer(rt)) {

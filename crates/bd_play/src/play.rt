@@ -1,8 +1,9 @@
 //! Playing a script line by line.
 
-ghost use Rattle.std.specs.Prelude.{◌≡◌, All, IfOk};
+ghost use Rattle.std.specs.Prelude.{◌≡◌, ◌≤◌, All, IfOk, max};
+ghost use Rattle.bd_play.specs.Workers.{said_status};
 
-use crate::faults::{DONE, FAULT, Fault, tell};
+use crate::faults::{DONE, Fault, after_writing, tell};
 use crate::said::Said;
 use crate::worker::act;
 use bd_driver::{Desk, Driver, Seat};
@@ -58,17 +59,18 @@ pub fn laid<R: Read>(alloc: Global, script: &mut R) -> Result<(Driver, Vec<Seat>
     }
 }
 
-/// Prints what a line said, and answers the status so far.
-pub fn print<W: Write>(number: u64, said: &Said, out: &mut W, status: u8) -> u8 {
+/// Prints what a line said, and answers the status so far. It never falls.
+pub fn print<W: Write>(number: u64, said: &Said, out: &mut W, status: u8) -> u8
+    ensures kept { status ≤ result }
+    ensures asked { said_status said.now ≤ result }
+    ensures most { result ≤ max 1 (max status (said_status said.now)) }
+{
     let status = status.max(said.status());
-    match writeln!(out, "{number}: {said}") {
-        Ok(()) => status,
-        Err(_) => status.max(FAULT),
-    }
+    after_writing(writeln!(out, "{number}: {said}"), status)
 }
 
-// Runs the lines in their order, up to one after which no more is to run.
-fn play_lines<D: Desk, W: Write>(
+/// Runs the lines in their order, up to one after which no more is to run.
+pub fn play_lines<D: Desk, W: Write>(
     desk: &D,
     seats: &mut [Seat],
     lines: Vec<Line>,

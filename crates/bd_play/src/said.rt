@@ -1,5 +1,8 @@
 //! What a line prints.
 
+ghost use Rattle.std.specs.Prelude.{◌≡◌};
+ghost use Rattle.bd_play.specs.Workers.{said_of, said_status};
+
 use crate::faults::{DONE, MEMORY, TURNS};
 use bd_driver::{Outcome, Page, Served, Why};
 use bd_journal::{cause_number, fault_number, note_number};
@@ -29,7 +32,9 @@ pub enum Said {
 
 impl Said {
     /// What came of a request.
-    pub fn of_outcome(outcome: Outcome) -> Said {
+    pub fn of_outcome(outcome: Outcome) -> Said
+        ensures { result ≡ said_of outcome }
+    {
         match outcome {
             Outcome::Done { answer, from, to } => Said::Done { answer, from, to },
             Outcome::Back { why, .. } => Said::Back(why),
@@ -38,7 +43,9 @@ impl Said {
     }
 
     /// The status that it asks for. Where that isn't 0 the seat's later lines don't run.
-    pub fn status(&self) -> u8 {
+    pub fn status(&self) -> u8
+        ensures { result ≡ said_status self.now }
+    {
         match self {
             Said::Turns => TURNS,
             Said::Back(Why::NoMemory) => MEMORY,

@@ -18,4 +18,6 @@ mod open_points;
 mod rules;
 mod rules_more;
 mod scripts;
+mod sizes;
+mod writers;
 mod writing;

@@ -1,6 +1,6 @@
 //! Playing a script with a thread for each seat.
 
-ghost use Rattle.std.specs.Prelude.{◌≡◌, All, IfOk, IfSome};
+ghost use Rattle.std.specs.Prelude.{◌≡◌, ◌≤◌, true, All, IfOk, IfSome};
 ghost use Rattle.atomic_table.specs.Seated.{TableId};
 
 use crate::faults::{DONE, Fault, tell};
@@ -99,15 +99,18 @@ fn parts_of(
 }
 
 // Prints what a seat said, and answers the status so far.
-fn print_told<W: Write, E: Write>(told: &Told, out: &mut W, err: &mut E, status: u8) -> u8 {
-    let mut status = status;
+fn print_told<W: Write, E: Write>(told: &Told, out: &mut W, err: &mut E, status: u8) -> u8
+    ensures kept { status ≤ result }
+    ensures starved { told.now.starved ≡ true → 3 ≤ result }
+{
+    let mut greatest = status;
     for (number, said) in &told.said {
-        status = print(*number, said, out, status);
+        greatest = print(*number, said, out, greatest);
     }
     if told.starved {
-        status = status.max(tell(Fault::Memory, err));
+        greatest = greatest.max(tell(Fault::Memory, err));
     }
-    status
+    greatest
 }
 
 // That a seat comes back at the table that it was at.

@@ -1,7 +1,9 @@
 //! What one seat does.
 
-ghost use Rattle.std.specs.Prelude.{◌≡◌, false};
+ghost use Rattle.std.specs.Prelude.{◌≡◌, true, false};
 ghost use Rattle.bd_driver.specs.Rest.{is_waiting};
+ghost use Rattle.bd_play.specs.Workers.{Acts, SaysAwait, SaysCall, idles};
+ghost use Rattle.bd_play.specs.declared.said.Said.TheVariants.{Idle};
 
 use crate::said::Said;
 use bd_driver::{Desk, Outcome, Seat, Why};
@@ -21,7 +23,8 @@ fn pause(turn: u32) {
 // Calls until the driver isn't taken, or as many times as there are turns.
 fn call<D: Desk>(desk: &D, seat: &mut Seat, request: Request, turns: u32) -> Said
     requires { (seat.old.table ≡ D.table desk.now) × (is_waiting seat.old.view.handover ≡ false) }
-    ensures { seat.new.table ≡ seat.old.table }
+    ensures table { seat.new.table ≡ seat.old.table }
+    ensures says { SaysCall seat.old.view seat.new.view request turns result }
 {
     let mut request = request;
     for turn in 0..turns {
@@ -40,7 +43,8 @@ fn call<D: Desk>(desk: &D, seat: &mut Seat, request: Request, turns: u32) -> Sai
 // Looks until the stamp is at least this, or as many times as there are turns.
 fn wait_for<D: Desk>(desk: &D, seat: &mut Seat, stamp: u32, turns: u32) -> Said
     requires { seat.old.table ≡ D.table desk.now }
-    ensures { seat.new.table ≡ seat.old.table }
+    ensures table { seat.new.table ≡ seat.old.table }
+    ensures says { SaysAwait seat.old.view seat.new.view stamp turns result }
 {
     for turn in 0..turns {
         if desk.look(seat).stamp >= stamp {
@@ -54,7 +58,13 @@ fn wait_for<D: Desk>(desk: &D, seat: &mut Seat, stamp: u32, turns: u32) -> Said
 /// What a line comes to.
 pub fn act<D: Desk>(desk: &D, seat: &mut Seat, verb: Verb, turns: u32) -> Said
     requires { seat.old.table ≡ D.table desk.now }
-    ensures { seat.new.table ≡ seat.old.table }
+    ensures table { seat.new.table ≡ seat.old.table }
+    // Nothing is done, and that is said, where a request is handed over and may not be, or isn't and should be.
+    ensures idle { idles verb (is_waiting seat.old.view.handover) ≡ true
+        → (result ≡ Idle) × (seat.new.view ≡ seat.old.view) }
+    // Else what the desk answered is said.
+    ensures acts { idles verb (is_waiting seat.old.view.handover) ≡ false
+        → Acts (D.seats desk.now) seat.old.view seat.new.view verb turns result }
 {
     let waiting = seat.is_waiting();
     match verb {

@@ -6,7 +6,6 @@ use super::{
     buffers, calls, deaths, definitions, definitions_more, objects, open_endings, open_points,
     rules, rules_more, writing,
 };
-use crate::faults::Fault;
 use crate::journals::{check_journal, write_journal};
 use crate::play::play;
 use bd_space::Record;
@@ -127,9 +126,11 @@ pub fn checked(alloc: Global, journal: &[u8]) -> Printed {
 }
 
 /// A record's journal.
-pub fn written(alloc: Global, history: &Record) -> Result<Vec<u8>, Fault> {
+pub fn written(alloc: Global, history: &Record) -> Result<Vec<u8>, Fail> {
     let mut journal = Vec::new(alloc);
-    write_journal(alloc, history, &mut journal)?;
+    if !write_journal(history, &mut journal) {
+        return Err(Fail::from("the journal can't be written"));
+    }
     Ok(journal)
 }
 

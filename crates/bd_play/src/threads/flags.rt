@@ -5,7 +5,7 @@ ghost use Rattle.std.specs.Prelude.{◌≡◌, All, IfOk};
 
 use super::play_at;
 use crate::faults::DONE;
-use crate::play::laid;
+use crate::play::{laid, play_lines};
 use bd_driver::{Desk, Driver, Outcome, Page, Seat, Served};
 use bd_script::Script;
 use bd_space::Request;
@@ -13,8 +13,10 @@ use std::alloc::Global;
 use std::sync::atomic::{AtomicBool, Ordering};
 use std::test::Fail;
 
-// How often a call reads the other seat's flag.
+// More reads than the other thread needs to start.
 const READS: u32 = 100_000_000;
+
+const FEW: u32 = 1000;
 
 const SCRIPT: &str = "\
 seats 2
@@ -29,10 +31,12 @@ struct TwoFlags {
     first: AtomicBool,
     second: AtomicBool,
     used_up: AtomicBool,
+    // How often a call reads the other seat's flag.
+    reads: u32,
 }
 
 impl TwoFlags {
-    fn new(driver: Driver) -> TwoFlags
+    fn new(driver: Driver, reads: u32) -> TwoFlags
         ensures { result.driver ≡ driver }
     {
         TwoFlags {
@@ -40,6 +44,7 @@ impl TwoFlags {
             first: AtomicBool::new(false),
             second: AtomicBool::new(false),
             used_up: AtomicBool::new(false),
+            reads,
         }
     }
 
@@ -55,7 +60,7 @@ impl TwoFlags {
     fn meet(&self, request: &Request) {
         let (own, other) = self.flags_of(request);
         own.store(true, Ordering::SeqCst);
-        for _ in 0..READS {
+        for _ in 0..self.reads {
             if other.load(Ordering::SeqCst) {
                 return;
             }
@@ -96,16 +101,16 @@ impl Desk for TwoFlags {
 }
 
 // A desk, its seats, and the script.
-fn two_flags(alloc: Global) -> Result<(TwoFlags, Vec<Seat>, Script), Fail>
+fn two_flags(alloc: Global, reads: u32) -> Result<(TwoFlags, Vec<Seat>, Script), Fail>
     ensures { IfOk result (λ r. All (λ s. s.table ≡ r.0.driver.table) r.1.items) }
 {
     let (driver, seats, script) = laid(alloc, &mut SCRIPT.as_bytes())?;
-    Ok((TwoFlags::new(driver), seats, script))
+    Ok((TwoFlags::new(driver, reads), seats, script))
 }
 
 #[test]
 fn threads_meet(rt: HostRuntime) -> Result<(), Fail> {
-    let (desk, seats, script) = two_flags(rt.alloc())?;
+    let (desk, seats, script) = two_flags(rt.alloc(), READS)?;
     let mut out = Vec::new(rt.alloc());
     let mut err = Vec::new(rt.alloc());
     let (_, status) = play_at(
@@ -124,5 +129,20 @@ fn threads_meet(rt: HostRuntime) -> Result<(), Fail> {
     );
     assert!(rt; status == DONE && err.is_empty());
     assert!(rt; !desk.used_up.load(Ordering::SeqCst));
+    Ok(())
+}
+
+// By turns on one thread the first seat waits for a flag that is only set after it.
+#[test]
+fn one_thread_uses_its_reads_up(rt: HostRuntime) -> Result<(), Fail> {
+    let (desk, mut seats, script) = two_flags(rt.alloc(), FEW)?;
+    let mut out = Vec::new(rt.alloc());
+    let status = play_lines(&desk, &mut seats, script.lines, 1, &mut out);
+    assert_eq!(rt;
+        str::from_utf8(out.as_slice())?,
+        "2: opened 0 1\n3: opened 1 2\n"
+    );
+    assert_eq!(rt; status, DONE);
+    assert!(rt; desk.used_up.load(Ordering::SeqCst));
     Ok(())
 }

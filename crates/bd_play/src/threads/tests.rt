@@ -2,7 +2,10 @@
 
 ghost use Rattle.std.specs.Prelude.{◌≡◌, ◌<◌};
 
-use super::{gather, play_threads};
+use super::{Told, gather, play_threads, print_told};
+use crate::faults::TURNS as TURNS_USED;
+use crate::play::laid;
+use crate::said::Said;
 use bd_audit::replay;
 use bd_space::Record;
 use std::alloc::{AllocError, Global};
@@ -93,5 +96,25 @@ fn tells_of_a_thread_that_is_not_there(rt: HostRuntime) -> Result<(), Fail> {
     assert_eq!(rt; err.as_slice(), b"fault: thread\n".as_slice());
     assert_eq!(rt; status, 1);
     assert!(rt; seats.is_empty() && out.is_empty());
+    Ok(())
+}
+
+#[test]
+fn tells_of_a_starved_seat(rt: HostRuntime) -> Result<(), Fail> {
+    let (_driver, mut seats, _) = laid(rt.alloc(), &mut "seats 1\n".as_bytes())?;
+    let seat = seats.pop().ok_or("a driver has its seats")?;
+    let mut said = Vec::new(rt.alloc());
+    said.push((2, Said::Turns))?;
+    let starved = true;
+    let told = Told {
+        seat,
+        said,
+        starved,
+    };
+    let mut out = Vec::new(rt.alloc());
+    let mut err = Vec::new(rt.alloc());
+    assert_eq!(rt; print_told(&told, &mut out, &mut err, TURNS_USED), 3);
+    assert_eq!(rt; out.as_slice(), b"2: turns\n".as_slice());
+    assert_eq!(rt; err.as_slice(), b"fault: memory\n".as_slice());
     Ok(())
 }

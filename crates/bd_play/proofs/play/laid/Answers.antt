@@ -1,4 +1,3 @@
-use Rattle.std.proofs.Common.{◌≡◌}
 use Rattle.bd_play.proofs.Seats.{new_seats-at}
 use Rattle.bd_play.proofs.play.laid.Goals as goal
 

@@ -1,4 +1,4 @@
-use Rattle.std.proofs.Common.{◌≡◌, arith}
+use Rattle.std.proofs.Common.{arith}
 use Rattle.bd_play.proofs.Seats.{left_in}
 use Rattle.bd_play.proofs.play.play.Goals as goal
 

@@ -1,4 +1,4 @@
-use Rattle.std.proofs.Common.{◌≡◌, All}
+use Rattle.std.proofs.Common.{All}
 use Rattle.std.proofs.lemmas.List.Elements.{All-nil}
 use Rattle.bd_play.proofs.Seats.{IsAt}
 use Rattle.bd_play.proofs.threads.play_at.Goals as goal

@@ -1,4 +1,3 @@
-use Rattle.std.proofs.Common.{◌≡◌}
 use Rattle.bd_play.proofs.Seats.{all_of}
 use Rattle.bd_play.proofs.threads.play_threads.Goals as goal
 

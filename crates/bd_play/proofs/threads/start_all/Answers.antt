@@ -1,6 +1,6 @@
 use Rattle.std.proofs.Common.{◌≡◌, IfSome}
 use Rattle.std.specs.Vec.Iter.{into_iter_items}
-use Rattle.std.proofs.lemmas.List.Elements.{All-head, All-rest, All-push}
+use Rattle.std.proofs.lemmas.List.Elements.{All-rest, All-push}
 use Rattle.bd_play.proofs.threads.start_all.Goals as goal
 
 pub loop-part-preserved : goal.loop-part-preserved
