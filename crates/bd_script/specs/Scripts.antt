@@ -1,5 +1,5 @@
 -- What a whole script says.
-use Rattle.std.specs.Prelude.{◌≡◌, ℕ, ◌+◌, List, [], ◌∷◌, ◌++◌, ⊤, Option, Some, None, Result, Ok, Err, Bool, true, false, ◌==◌, ◌||◌, nat_le, nat_lt, if◌then◌else◌, codes}
+use Rattle.std.specs.Prelude.{◌≡◌, ℕ, ◌+◌, List, [], ◌∷◌, ◌++◌, ⊤, Option, Some, None, Result, Ok, Err, Bool, true, ◌==◌, ◌||◌, nat_le, nat_lt, if◌then◌else◌, codes}
 use Rattle.std.specs.List.{list_any}
 use Rattle.std.specs.Str.{bytes_eq}
 use Rattle.bd_script.specs.declared.script.Line.{Line}

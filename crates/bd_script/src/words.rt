@@ -1,6 +1,6 @@
 //! The words of a line, and the numbers among them.
 
-ghost use Rattle.std.specs.Prelude.{◌≡◌, [], ◌∷◌, Some, None, map, IfOk, MatchResult};
+ghost use Rattle.std.specs.Prelude.{◌≡◌, Some, None, map, IfOk, MatchResult};
 ghost use Rattle.std.specs.Str.{bytes_eq};
 ghost use Rattle.bd_script.specs.declared.script.Trouble.TheVariants.{Bad};
 ghost use Rattle.bd_script.specs.Hex.{hex_word, hex_of};

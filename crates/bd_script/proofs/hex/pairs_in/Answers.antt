@@ -1,6 +1,5 @@
-use Rattle.std.proofs.Common.{◌≡◌, Some, arith, rules, get_or, sym, ◌∙◌}
+use Rattle.std.proofs.Common.{◌≡◌, Some, rules, get_or, sym, ◌∙◌}
 use Rattle.std.proofs.lemmas.List.{take_rest}
-use Rattle.std.proofs.lemmas.Grind.{common_steps}
 use Rattle.bd_script.specs.Hex.{digit_of}
 use Rattle.bd_script.proofs.Pieces.{pair_step, pair_spelled}
 use Rattle.bd_script.proofs.hex.pairs_in.Goals as goal
