@@ -1,17 +1,16 @@
 -- Worked examples that pin one definition each: a slip in any of these definitions leaves the other examples as they are.
-use Rattle.std.specs.Prelude.{ℕ, ◌≡◌, List, [], ◌∷◌, ◌++◌}
+use Rattle.std.specs.Prelude.{ℕ, ◌≡◌, List, [], ◌∷◌, ◌++◌, map}
 use Rattle.bd_uapi.specs.declared.command.Command.TheVariants as bc
 use Rattle.bd_uapi.specs.declared.fault.Note.TheVariants as note
 use Rattle.bd_uapi.specs.declared.fault.Cause.TheVariants as cause
 use Rattle.bd_uapi.specs.declared.fault.Fault.TheVariants as fault
-use Rattle.bd_space.specs.declared.step.StepAnswer.{StepAnswer}
 use Rattle.bd_space.specs.declared.step.StepAnswer.TheVariants.{Opened, Set, Exited, Accepted, Noted, Stopped, Got, Refused}
 use Rattle.bd_space.specs.declared.step.Step.{Step}
 use Rattle.bd_space.specs.declared.step.Step.TheVariants.{Open, Attach, SetManager, Read, ExitThread, ExitProcess}
 use Rattle.bd_space.specs.Space.{opening}
 use Rattle.bd_space.specs.Histories.{ends}
 use Rattle.bd_examples.specs.Worked.{Runs}
-use Rattle.bd_examples.specs.Script.{hex, tx, reply, act, enter, base, OBJ, HOBJ, OBJ2, HOBJ2, WOBJ, zeros}
+use Rattle.bd_examples.specs.Script.{hex, tx, reply, act, enter, base, OBJ, HOBJ, OBJ2, HOBJ2, zeros}
 
 -- the second object with another cookie, and both as weak ones, with theirs and with others
 abbrev pub OBJ2X : List ℕ
@@ -84,12 +83,14 @@ cleared_notifications_outlive_the_name =
     ∷ Noted note.NoneTold
     ∷ Got (hex "0c720000 10720880 4e00000000000000 10720880 4d00000000000000") [] [] ∷ [])
 
--- The buffer of an unread call makes its target strong, so that a weak name can be acquired. When the owner ends, its
--- window's buffers go with that reference: nobody holds the object strongly any more (N3).
-abbrev pub target_of_a_window_that_ended : Type 0
-target_of_a_window_that_ended =
-    Runs ((1, tx 0 1 1 OBJ (0 ∷ []))
+-- an object is called, and its owner ends
+abbrev pub owner_ends : List (ℕ × Step)
+owner_ends =
+    (1, tx 0 1 1 OBJ (0 ∷ []))
+    ∷ (1, Read 256)
     ∷ (0, Read 256)
+    ∷ (1, act (bc.IncrefsDone 4096 8192))
+    ∷ (1, act (bc.AcquireDone 4096 8192))
     ∷ (0, act (bc.Increfs 1))
     ∷ (0, tx 1 2 1 [] [])
     ∷ (0, act (bc.FreeBuffer 65536))
@@ -98,9 +99,23 @@ target_of_a_window_that_ended =
     ∷ (1, ExitProcess)
     ∷ (0, act (bc.Acquire 1))
     ∷ (0, act (bc.Decrefs 1))
-    ∷ (0, act (bc.Increfs 1)) ∷ [])
+    ∷ (0, act (bc.Increfs 1)) ∷ []
+
+-- only the manager's object, which the step at 1 made, is left
+abbrev pub target_is_gone : Type 0
+target_is_gone = map (λ x. x.id.place) (ends opening (base ++ owner_ends)).objects ≡ 1 ∷ []
+
+-- The buffer of an unread call makes its target strong, so that a weak name can be acquired. When the owner ends, its
+-- window's buffers go with that reference: nobody holds the object strongly any more (N3), and with the last name it is
+-- gone.
+abbrev pub target_of_a_window_that_ended : Type 0
+target_of_a_window_that_ended =
+    Runs owner_ends
     (Accepted
+    ∷ Got (hex "0c720000 07721080 0010000000000000 0020000000000000 08721080 0010000000000000 0020000000000000 06720000") [] []
     ∷ Got (hex "0c720000 02724080 0000000000000000 0000000000000000 01000000 01000000 00000000 d0070000 1800000000000000 0800000000000000 0000010000000000 1800010000000000") HOBJ (hex "0000000000000000")
+    ∷ Accepted
+    ∷ Accepted
     ∷ Accepted
     ∷ Accepted
     ∷ Accepted

@@ -1,5 +1,5 @@
 -- Worked examples of rules in which a slip went unseen by the examples before.
-use Rattle.std.specs.Prelude.{ℕ, ◌≡◌, List, [], ◌∷◌, ◌++◌, Some, None}
+use Rattle.std.specs.Prelude.{ℕ, ◌≡◌, List, [], ◌∷◌, Some, None}
 use Rattle.bd_uapi.specs.declared.command.Command.TheVariants as bc
 use Rattle.bd_uapi.specs.declared.fault.Note.TheVariants as note
 use Rattle.bd_uapi.specs.declared.fault.Cause.TheVariants as cause
@@ -11,7 +11,7 @@ use Rattle.bd_space.specs.Space.{Space, opening}
 use Rattle.bd_space.specs.Steps.{step}
 use Rattle.bd_space.specs.Histories.{ready_below, ends}
 use Rattle.bd_examples.specs.Worked.{Runs}
-use Rattle.bd_examples.specs.Script.{hex, sending, parcel, tx, reply, act, enter, base, OBJ, HOBJ, OBJ2, HOBJ2, OBJ3}
+use Rattle.bd_examples.specs.Script.{hex, sending, parcel, tx, reply, act, enter, base, OBJ, HOBJ, OBJ2, HOBJ2, OBJ3, zeros}
 
 -- The owner that got its own object back has no name for it: its number 1 is free (N1, X1), and goes to the next object
 -- of another process.
@@ -341,9 +341,13 @@ parcels_of_other_lengths =
     ∷ (1, Command (bc.Transaction (record (sending 0 1 1 [] []) { offsets_size = 8 })) (Some (parcel [] [])))
     ∷ (1, Command (bc.Transaction (sending 0 1 1 [] [])) (Some (parcel OBJ [])))
     ∷ (1, Command (bc.Transaction (sending 0 1 1 OBJ [])) (Some (parcel OBJ (0 ∷ []))))
+    ∷ (1, Command (bc.Transaction (record (sending 0 1 1 [] []) { data_size = 5; offsets_size = 9 })) (Some (record { bytes = []; offsets = zeros 9 })))
+    ∷ (1, Command (bc.Transaction (record (sending 0 1 1 OBJ (2 ∷ [])) { data_size = 5 })) (Some (parcel OBJ (2 ∷ []))))
     ∷ (1, Command (bc.Transaction (sending 0 1 1 [] [])) None)
     ∷ (1, Command bc.EnterLooper (Some (parcel OBJ (2 ∷ [])))) ∷ [])
     (Stopped cause.OutsideArea
+    ∷ Stopped cause.OutsideArea
+    ∷ Stopped cause.OutsideArea
     ∷ Stopped cause.OutsideArea
     ∷ Stopped cause.OutsideArea
     ∷ Stopped cause.OutsideArea

@@ -127,3 +127,26 @@ writes_without_a_process =
     ∷ (Wrote 68 [] (Some (stop.Cause cause.OutsideArea)), 6)
     ∷ (Wrote 68 [] (Some (stop.Cause cause.OutsideArea)), 7)
     ∷ (Wrote 68 [] (Some (stop.Cause cause.OffsetsSize)), 8) ∷ [])
+
+-- All five (F3), whether or not their payload is there. One of them with another size is unknown (F2), a known code
+-- without its whole payload is short (F1), and what stands before is run.
+abbrev pub codes_refused_by_name : Type 0
+codes_refused_by_name =
+    Answers ((1, Write (hex "02630440 00000000") [])
+    ∷ (1, Write (hex "0a630840 0000000000000000") [])
+    ∷ (1, Write (hex "0b630000") [])
+    ∷ (1, Write (hex "11634840") [])
+    ∷ (1, Write (hex "12634840") [])
+    ∷ (1, Write (hex "0b630040") [])
+    ∷ (1, Write (hex "00630000") [])
+    ∷ (1, Write (hex "04630440 010000") [])
+    ∷ (1, Write (hex "0c630000 02630440") []) ∷ [])
+    ((Wrote 0 [] (Some (stop.Fault fault.RefusedCommand)), 4)
+    ∷ (Wrote 0 [] (Some (stop.Fault fault.RefusedCommand)), 4)
+    ∷ (Wrote 0 [] (Some (stop.Fault fault.RefusedCommand)), 4)
+    ∷ (Wrote 0 [] (Some (stop.Fault fault.RefusedCommand)), 4)
+    ∷ (Wrote 0 [] (Some (stop.Fault fault.RefusedCommand)), 4)
+    ∷ (Wrote 0 [] (Some (stop.Fault fault.UnknownCommand)), 4)
+    ∷ (Wrote 0 [] (Some (stop.Fault fault.UnknownCommand)), 4)
+    ∷ (Wrote 0 [] (Some (stop.Fault fault.ShortCommand)), 4)
+    ∷ (Wrote 4 [] (Some (stop.Fault fault.RefusedCommand)), 5) ∷ [])

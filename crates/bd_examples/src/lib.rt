@@ -54,6 +54,7 @@ pub use worked::{
     one_way_call_holds, one_way_turns_holds, other_cookie_holds, weak_object_holds,
 };
 pub use writes::{
-    commands_by_their_bytes_holds, full_stream_holds, pointers_past_the_area_holds, several_holds,
-    stream_too_long_holds, unreadable_holds, writes_without_a_process_holds,
+    codes_refused_by_name_holds, commands_by_their_bytes_holds, full_stream_holds,
+    pointers_past_the_area_holds, several_holds, stream_too_long_holds, unreadable_holds,
+    writes_without_a_process_holds,
 };

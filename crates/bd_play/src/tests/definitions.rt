@@ -68,10 +68,10 @@ pub static EXAMPLES: [Example; 6] = [
     Example {
         name: "target of a window that ended",
         seats: 2,
-        start: Start::Base,
+        start: Start::ObjectSent,
         lines: "\
-1 tx 0 1 1 852a62730000000000100000000000000020000000000000 0
-0 read 256
+1 increfsdone 4096 8192
+1 acquiredone 4096 8192
 0 increfs 1
 0 tx 1 2 1 - -
 0 free 65536
@@ -83,17 +83,17 @@ pub static EXAMPLES: [Example; 6] = [
 0 increfs 1
 ",
         prints: "\
-6: wrote 68 4 5
-7: got 0c7200000272408000000000000000000000000000000000010000000100000000000000d00700001800000000000000080000000000000000000100000000001800010000000000 852a68730000000001000000000000000000000000000000 0000000000000000 5 6
-8: wrote 8 6 7
-9: wrote 68 7 8
-10: wrote 12 8 9
+9: wrote 20 7 8
+10: wrote 20 8 9
 11: wrote 8 9 10
-12: wrote 8 10 11
-13: exited 11 12
-14: wrote 8 12 13 0:N3
+12: wrote 68 10 11
+13: wrote 12 11 12
+14: wrote 8 12 13
 15: wrote 8 13 14
-16: wrote 8 14 15 0:N1
+16: exited 14 15
+17: wrote 8 15 16 0:N3
+18: wrote 8 16 17
+19: wrote 8 17 18 0:N1
 ",
     },
     Example {

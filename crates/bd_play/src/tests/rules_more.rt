@@ -2,7 +2,7 @@
 
 use super::examples::{Example, Start};
 
-pub static EXAMPLES: [Example; 7] = [
+pub static EXAMPLES: [Example; 8] = [
     Example {
         name: "limits of opening",
         seats: 4,
@@ -149,6 +149,33 @@ pub static EXAMPLES: [Example; 7] = [
 10: wrote 68 5 6 stop X7
 11: wrote 68 6 7 stop X7
 12: wrote 68 7 8 stop X8
+",
+    },
+    Example {
+        name: "codes refused by name",
+        seats: 2,
+        start: Start::Base,
+        lines: "\
+1 write 0263044000000000 -
+1 write 0a6308400000000000000000 -
+1 write 0b630000 -
+1 write 11634840 -
+1 write 12634840 -
+1 write 0b630040 -
+1 write 00630000 -
+1 write 04630440010000 -
+1 write 0c63000002630440 -
+",
+        prints: "\
+6: wrote 0 4 4 stop F3
+7: wrote 0 4 4 stop F3
+8: wrote 0 4 4 stop F3
+9: wrote 0 4 4 stop F3
+10: wrote 0 4 4 stop F3
+11: wrote 0 4 4 stop F2
+12: wrote 0 4 4 stop F2
+13: wrote 0 4 4 stop F1
+14: wrote 4 4 5 stop F3
 ",
     },
     Example {
