@@ -1,0 +1,98 @@
+//! Scripts by `Engine::run`.
+
+ghost use Rattle.std.specs.Prelude.{◌≡◌, ◌<◌};
+
+use crate::again::again;
+use crate::broken::Broken;
+use crate::fingerprint::fingerprint;
+use crate::writes::{joined, rest_of, was_cut_short};
+use bd_engine::{Engine, Ran, Why};
+use bd_script::{Line, Script, ScriptError, Verb, read_script};
+use bd_space::{Answer, Record, Request};
+use std::alloc::Global;
+use std::io::Write;
+
+/// The script of a text.
+pub fn script_of(alloc: Global, text: &str) -> Result<Script, Broken> {
+    Ok(again!(read_script(alloc, text.as_bytes()), ScriptError::Memory)?)
+}
+
+/// An engine for so many seats.
+pub fn engine_for(alloc: Global, seats: u32) -> Result<Engine, Broken> {
+    match Engine::new(alloc, seats) {
+        Ok(engine) => Ok(engine),
+        Err(_) => Err(Broken::Never("a script has other numbers of seats")),
+    }
+}
+
+// Runs a request, and once more where memory was refused. The engine is then as it was.
+fn run<W: Write>(
+    engine: &mut Engine,
+    seat: u32,
+    request: &Request,
+    out: &mut W,
+) -> Result<Ran, Broken>
+    requires { seat < engine.old.seats }
+    ensures { engine.new.seats ≡ engine.old.seats }
+{
+    let before = fingerprint(engine);
+    match engine.run(seat, request) {
+        Ok(ran) => Ok(ran),
+        Err(Why::HistoryFull) => Err(Broken::Never("the history is full")),
+        Err(Why::NoMemory) => {
+            if fingerprint(engine) != before {
+                writeln!(out, "a run that memory was refused to changed something")?;
+            }
+            match engine.run(seat, request) {
+                Ok(ran) => Ok(ran),
+                Err(_) => Err(Broken::Memory),
+            }
+        }
+    }
+}
+
+// Runs a request, and the rest of it where memory stopped it after some commands.
+fn run_whole<W: Write>(
+    alloc: Global,
+    engine: &mut Engine,
+    seat: u32,
+    request: &Request,
+    out: &mut W,
+) -> Result<Ran, Broken>
+    requires { seat < engine.old.seats }
+    ensures { engine.new.seats ≡ engine.old.seats }
+{
+    let first = run(engine, seat, request, out)?;
+    let Answer::Wrote { consumed, .. } = &first.answer else {
+        return Ok(first);
+    };
+    if !was_cut_short(&first.answer) {
+        return Ok(first);
+    }
+    let rest = rest_of(alloc, request, *consumed)?;
+    let second = run(engine, seat, &rest, out)?;
+    joined(alloc, &first, &second)
+}
+
+/// Prints what the request of a line came to.
+pub fn print_ran<W: Write>(number: u64, ran: Ran, out: &mut W) -> Result<(), Broken> {
+    let Ran { answer, from, to } = ran;
+    writeln!(out, "{number}: {from} {to} {answer:?}")?;
+    Ok(())
+}
+
+/// Runs the requests of a script, and prints what each answers. What came of it is handed out.
+pub fn play_by_run<W: Write>(alloc: Global, text: &str, out: &mut W) -> Result<Record, Broken> {
+    let script = script_of(alloc, text)?;
+    let mut engine = engine_for(alloc, script.seats)?;
+    for line in script.lines {
+        let Line { number, seat, verb } = line;
+        if let Verb::Call(request) = verb {
+            if seat < engine.seats() {
+                let ran = run_whole(alloc, &mut engine, seat, &request, out)?;
+                print_ran(number, ran, out)?;
+            }
+        }
+    }
+    Ok(engine.into_record())
+}

@@ -1,0 +1,75 @@
+//! What all reading calls of an engine answer, as one number: equal engines have equal ones.
+
+use bd_engine::Engine;
+use bd_space::ObjectId;
+use std::hash::{DefaultHasher, Hash, Hasher};
+
+// The pids of the scripts' processes.
+const PIDS: [u32; 4] = [100, 200, 300, 400];
+// The handles of the scripts lie below this.
+const MOST_HANDLES: u32 = 6;
+// A step of the scripts makes fewer objects than this.
+const MOST_OBJECTS: u32 = 3;
+
+fn id_of(object: Option<ObjectId>) -> Option<(u32, u32)> {
+    object.map(|o| (o.place, o.index))
+}
+
+fn add_seats(engine: &Engine, sum: &mut DefaultHasher) {
+    for seat in 0..engine.seats() {
+        engine.process_of(seat).hash(sum);
+        engine.innermost(seat).hash(sum);
+        engine.first_reply(seat).hash(sum);
+    }
+}
+
+fn add_names_of(engine: &Engine, pid: u32, sum: &mut DefaultHasher) {
+    engine.process_of_pid(pid).hash(sum);
+    for number in 0..MOST_HANDLES {
+        id_of(engine.named(pid, number)).hash(sum);
+    }
+}
+
+fn add_object(engine: &Engine, object: ObjectId, sum: &mut DefaultHasher) {
+    engine.owner(object).hash(sum);
+    for pid in PIDS {
+        if let Some(process) = engine.process_of_pid(pid) {
+            engine.knows(process, object).hash(sum);
+        }
+    }
+}
+
+fn add_objects_of(engine: &Engine, place: u32, sum: &mut DefaultHasher) {
+    for index in 0..MOST_OBJECTS {
+        add_object(engine, ObjectId { place, index }, sum);
+    }
+}
+
+fn add_buffer(engine: &Engine, place: u32, sum: &mut DefaultHasher) {
+    if let Some(buffer) = engine.buffer(place) {
+        (buffer.receiver, buffer.start, buffer.size).hash(sum);
+        (buffer.one_way, buffer.handed).hash(sum);
+        id_of(buffer.target).hash(sum);
+        buffer.bytes.as_slice().hash(sum);
+        buffer.offsets.as_slice().hash(sum);
+    }
+    for object in engine.carried(place) {
+        id_of(Some(object)).hash(sum);
+    }
+}
+
+/// The number of an engine. Takes no memory.
+pub fn fingerprint(engine: &Engine) -> u64 {
+    let mut sum = DefaultHasher::new();
+    (engine.len(), engine.ready()).hash(&mut sum);
+    id_of(engine.manager()).hash(&mut sum);
+    add_seats(engine, &mut sum);
+    for pid in PIDS {
+        add_names_of(engine, pid, &mut sum);
+    }
+    for place in 0..engine.len() {
+        add_objects_of(engine, place, &mut sum);
+        add_buffer(engine, place, &mut sum);
+    }
+    sum.finish()
+}

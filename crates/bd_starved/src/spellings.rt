@@ -1,0 +1,117 @@
+//! Each command and each return, spelled.
+
+use crate::broken::Broken;
+use bd_codec::{write_command, write_return};
+use bd_uapi::{Command, Fault, Return, TransactionData, TransactionFlags};
+use std::alloc::Global;
+use std::io::Write;
+
+const RECORD: TransactionData = TransactionData {
+    target: 1,
+    cookie: 2,
+    code: 3,
+    flags: TransactionFlags::ACCEPT_FDS,
+    sender_pid: 5,
+    sender_euid: 6,
+    data_size: 7,
+    offsets_size: 8,
+    buffer: 9,
+    offsets: 10,
+};
+
+static COMMANDS: [Command; 14] = [
+    Command::Transaction(RECORD),
+    Command::Reply(RECORD),
+    Command::FreeBuffer(1),
+    Command::Increfs(1),
+    Command::Acquire(1),
+    Command::Release(1),
+    Command::Decrefs(1),
+    Command::IncrefsDone(1, 2),
+    Command::AcquireDone(1, 2),
+    Command::EnterLooper,
+    Command::ExitLooper,
+    Command::RequestDeathNotification(1, 2),
+    Command::ClearDeathNotification(1, 2),
+    Command::DeadBinderDone(1),
+];
+
+static RETURNS: [Return; 12] = [
+    Return::Transaction(RECORD),
+    Return::Reply(RECORD),
+    Return::DeadReply,
+    Return::TransactionComplete,
+    Return::Increfs(1, 2),
+    Return::Acquire(1, 2),
+    Return::Release(1, 2),
+    Return::Decrefs(1, 2),
+    Return::Noop,
+    Return::DeadBinder(1),
+    Return::ClearDeathNotificationDone(1),
+    Return::FailedReply,
+];
+
+// Prints what was appended to nothing, and answers whether it was. A spelling that memory was refused to appends nothing.
+fn print_spelled<W: Write>(
+    first: Result<(), Fault>,
+    bytes: &[u8],
+    out: &mut W,
+) -> Result<bool, Broken> {
+    match first {
+        Ok(()) => {
+            for byte in bytes {
+                write!(out, "{byte:02x}")?;
+            }
+            writeln!(out)?;
+            Ok(true)
+        }
+        Err(Fault::NoMemory) => {
+            if !bytes.is_empty() {
+                writeln!(
+                    out,
+                    "a spelling that memory was refused to appended something"
+                )?;
+            }
+            Ok(false)
+        }
+        Err(_) => Err(Broken::Never("a spelling has another fault")),
+    }
+}
+
+fn spell_command<W: Write>(alloc: Global, command: &Command, out: &mut W) -> Result<(), Broken> {
+    let mut bytes = Vec::new(alloc);
+    let first = write_command(command, &mut bytes);
+    if print_spelled(first, &bytes, out)? {
+        return Ok(());
+    }
+    let second = write_command(command, &mut bytes);
+    print_spelled(second, &bytes, out)?;
+    Ok(())
+}
+
+fn spell_return<W: Write>(alloc: Global, given: &Return, out: &mut W) -> Result<(), Broken> {
+    let mut bytes = Vec::new(alloc);
+    let first = write_return(given, &mut bytes);
+    if print_spelled(first, &bytes, out)? {
+        return Ok(());
+    }
+    let second = write_return(given, &mut bytes);
+    print_spelled(second, &bytes, out)?;
+    Ok(())
+}
+
+fn spell_returns<W: Write>(alloc: Global, out: &mut W) -> Result<(), Broken> {
+    for given in &RETURNS {
+        spell_return(alloc, given, out)?;
+    }
+    Ok(())
+}
+
+/// Prints the spelling of each command and of each return.
+pub fn spell_all<W: Write>(alloc: Global, out: &mut W) -> Result<(), Broken> {
+    writeln!(out, "== spellings")?;
+    for command in &COMMANDS {
+        spell_command(alloc, command, out)?;
+    }
+    spell_returns(alloc, out)
+}

@@ -1,0 +1,78 @@
+//! A write that memory stopped after some of its commands, and what the rest of it comes to.
+
+use crate::again::again;
+use crate::broken::Broken;
+use bd_engine::Ran;
+use bd_space::{Answer, Bytes, Notes, Request, Stop};
+use bd_uapi::{Fault, Note};
+use std::alloc::Global;
+
+/// Whether memory stopped a write after some of its commands.
+pub fn was_cut_short(answer: &Answer) -> bool {
+    matches!(
+        answer,
+        Answer::Wrote {
+            stop: Some(Stop::Fault(Fault::NoMemory)),
+            ..
+        }
+    )
+}
+
+fn bytes_from(alloc: Global, bytes: &[u8]) -> Result<Bytes, Broken> {
+    let mut copy = Vec::new(alloc);
+    copy.extend_from_slice(bytes)?;
+    Ok(Bytes::new(copy))
+}
+
+/// The write of what is left of a stream after so many bytes.
+pub fn rest_of(alloc: Global, request: &Request, consumed: u32) -> Result<Request, Broken> {
+    let Request::Write { stream, area } = request else {
+        return Err(Broken::Never("another request was cut short"));
+    };
+    match stream.as_slice().get(consumed as usize..) {
+        Some(rest) => Ok(Request::Write {
+            stream: again!(bytes_from(alloc, rest))?,
+            area: again!(bytes_from(alloc, area.as_slice()))?,
+        }),
+        None => Err(Broken::Never("more was consumed than there was")),
+    }
+}
+
+// The notes of a write that came in two parts, of which the first had so many commands.
+fn notes_of(alloc: Global, first: &Notes, commands: u32, second: &Notes) -> Result<Notes, Broken> {
+    let mut notes: Vec<(u32, Note)> = Vec::new(alloc);
+    notes.extend_from_slice(first.as_slice())?;
+    for (index, note) in second.as_slice() {
+        notes.push((index.saturating_add(commands), *note))?;
+    }
+    Ok(Notes::new(notes))
+}
+
+/// The answer to a write that came in two parts, as if it had come in one.
+pub fn joined(alloc: Global, first: &Ran, second: &Ran) -> Result<Ran, Broken> {
+    let (
+        Answer::Wrote {
+            consumed: begun,
+            notes: before,
+            ..
+        },
+        Answer::Wrote {
+            consumed,
+            notes,
+            stop,
+        },
+    ) = (&first.answer, &second.answer)
+    else {
+        return Err(Broken::Never("no write was cut short"));
+    };
+    let commands = first.to.saturating_sub(first.from);
+    Ok(Ran {
+        answer: Answer::Wrote {
+            consumed: begun.saturating_add(*consumed),
+            notes: again!(notes_of(alloc, before, commands, notes))?,
+            stop: *stop,
+        },
+        from: first.from,
+        to: second.to,
+    })
+}
