@@ -76,10 +76,10 @@ deals seats id who k s h at =
 pub deals_at : (seats id who k : ℕ) (vs : List View) → vs ≡ newcomers seats who (suc k) → Splits (Kept seats) id vs (others_of vs) (view_of vs ∷ [])
 deals_at seats id who k vs is = subst (λ l. Splits (Kept seats) id l (others_of l) (view_of l ∷ [])) (sym is) (deals seats id who k)
 
-pub sittings_more : (table : TableId) (seats who k : ℕ) → new_seats table seats who (suc k) ≡ new_seats table seats who k ++ record { table = table; view = seated seats (who + k) } ∷ []
-sittings_more table seats who zero = ap (λ (n : ℕ). record { table = table; view = seated seats n } ∷ []) (omega arith)
-sittings_more table seats who (suc k) =
-    ap (λ l. record { table = table; view = seated seats who } ∷ l) (sittings_more table seats (who + 1) k
+pub new_seats_more : (table : TableId) (seats who k : ℕ) → new_seats table seats who (suc k) ≡ new_seats table seats who k ++ record { table = table; view = seated seats (who + k) } ∷ []
+new_seats_more table seats who zero = ap (λ (n : ℕ). record { table = table; view = seated seats n } ∷ []) (omega arith)
+new_seats_more table seats who (suc k) =
+    ap (λ l. record { table = table; view = seated seats who } ∷ l) (new_seats_more table seats (who + 1) k
     ∙ ap (λ (n : ℕ). new_seats table seats (who + 1) k ++ record { table = table; view = seated seats n } ∷ []) (omega arith))
 
 at_shut : (n i : ℕ) → i < n → get_elem? (replicate n shut) i ≡ some shut

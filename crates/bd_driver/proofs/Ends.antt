@@ -52,23 +52,23 @@ gathers seats id other vs ws idle idle' s h at apart at' =
         (t.0, set_else (set s.views id (ws ++ vs)) other j [] two ∙ (set_else s.views id j (ws ++ vs) one ∙ t.1), t.2, t.3)
 
 -- from all the views that were gathered to that of one seat
-pub each_sitting : (P : View → Type 0) (sits : List SeatState) → Each P (views_of sits) → (i : ℕ) (s : SeatState) → get_elem? sits i ≡ some s → P (closed_view s.view)
-each_sitting P [] h i s at = absurd (some-ne-none s (sym at))
-each_sitting P (x ∷ xs) h zero s at = subst (λ (y : SeatState). P (closed_view y.view)) (some-injective x s at) h.0
-each_sitting P (x ∷ xs) h (suc i) s at = each_sitting P xs h.1 i s at
+pub each_seat : (P : View → Type 0) (states : List SeatState) → Each P (views_of states) → (i : ℕ) (s : SeatState) → get_elem? states i ≡ some s → P (closed_view s.view)
+each_seat P [] h i s at = absurd (some-ne-none s (sym at))
+each_seat P (x ∷ xs) h zero s at = subst (λ (y : SeatState). P (closed_view y.view)) (some-injective x s at) h.0
+each_seat P (x ∷ xs) h (suc i) s at = each_seat P xs h.1 i s at
 
 -- once every seat is gathered nobody has the engine, so it is home
-pub is_home : (seats : ℕ) (sits : List SeatState) (s : State Slot (List View)) (k : Kept seats s) (id : ℕ) → get_elem? s.views id ≡ some (views_of sits) → Each Idle (views_of sits) → AllSeats seats sits → k.taken_by ≡ none
-is_home seats sits s k id at idle all = home k.taken_by refl k.has_taker
+pub is_home : (seats : ℕ) (states : List SeatState) (s : State Slot (List View)) (k : Kept seats s) (id : ℕ) → get_elem? s.views id ≡ some (views_of states) → Each Idle (views_of states) → AllSeats seats states → k.taken_by ≡ none
+is_home seats states s k id at idle all = home k.taken_by refl k.has_taker
   where
     home : (taken_by : Option ℕ) → k.taken_by ≡ taken_by → HasTaker s.views k.mailboxes taken_by → taken_by ≡ none
     home none is t = refl
     home (some j) is t =
         let taker = (k.each j (t.0 ∷ []) t.1).0 in
         let found = all t.0.who taker.below in
-        let fits = each_sitting (Fits seats k.entries k.carrier k.taken_by k.mailboxes id) sits (k.each id (views_of sits) at) found.0 found.1 found.2 in
+        let fits = each_seat (Fits seats k.entries k.carrier k.taken_by k.mailboxes id) states (k.each id (views_of states) at) found.0 found.1 found.2 in
         let here : j ≡ id = sym taker.held ∙ (ap k.carrier (sym found.3) ∙ fits.held) in
-        absurd (not_taker s.views id j (views_of sits) t.0 at idle t.1 t.2 here)
+        absurd (not_taker s.views id j (views_of states) t.0 at idle t.1 t.2 here)
 
 pub home_slot : (seats : ℕ) (s : State Slot (List View)) (k : Kept seats s) → k.taken_by ≡ none → get_elem? s.homes 0 ≡ some (some (Home (history seats k.entries)))
 home_slot seats s k home = ap (λ hs. get_elem? hs 0) (k.homes ∙ ap (λ o. home_of seats k.entries o ∷ map inside_of k.mailboxes) home)
@@ -103,32 +103,32 @@ own_of entries v h = ⊎_elim (λ e. inl e) (λ (y : (r : Request) × (since : �
     same_hand (Waiting q n) r since e = e
 
 -- what the last state says of the engine in slot 0
-pub ends : (seats id : ℕ) (sits : List SeatState) (words : List ℕ) (slots : List Slot) (slot : Slot) → Final (Seen (Kept seats) id (views_of sits)) words slots → get_elem? slots 0 ≡ some slot
-    → Each Idle (views_of sits) → AllSeats seats sits
-    → (entries : List Entry) × (slot ≡ Home (history seats entries)) × (IsHistory (history seats entries) → IsFinal seats sits seats entries)
-ends seats id sits words slots slot f is idle all =
+pub ends : (seats id : ℕ) (states : List SeatState) (words : List ℕ) (slots : List Slot) (slot : Slot) → Final (Seen (Kept seats) id (views_of states)) words slots → get_elem? slots 0 ≡ some slot
+    → Each Idle (views_of states) → AllSeats seats states
+    → (entries : List Entry) × (slot ≡ Home (history seats entries)) × (IsHistory (history seats entries) → IsFinal seats states seats entries)
+ends seats id states words slots slot f is idle all =
     let s = f.0 in
     let k = f.1.0 in
     let at = f.1.1 in
-    let home = is_home seats sits s k id at idle all in
+    let home = is_home seats states s k id at idle all in
     let same : slot ≡ Home (history seats k.entries) = some-injective _ _ (sym is ∙ f.4 0 (Home (history seats k.entries)) (home_slot seats s k home)) in
-    let each = each_sitting (Fits seats k.entries k.carrier k.taken_by k.mailboxes id) sits (k.each id (views_of sits) at) in
+    let each = each_seat (Fits seats k.entries k.carrier k.taken_by k.mailboxes id) states (k.each id (views_of states) at) in
     (k.entries, same, λ lawful. record { seats_are = refl; lawful = lawful; begins = λ i x e. (each i x e).begins; own = λ i x e. own_of k.entries x.view (entries_are seats k.entries k.carrier k.taken_by k.mailboxes id (closed_view x.view) (each i x e)) })
 
 -- the same, at the key and the view that `close_with` tells of
-pub ends_at : (key seats id : ℕ) (vs : List View) (sits : List SeatState) (words : List ℕ) (slots : List Slot) (slot : Slot) → key ≡ seats → vs ≡ views_of sits
-    → Final (Seen (Kept key) id vs) words slots → get_elem? slots 0 ≡ some slot → Each Idle (views_of sits) → AllSeats seats sits
-    → (entries : List Entry) × (slot ≡ Home (history seats entries)) × (IsHistory (history seats entries) → IsFinal seats sits seats entries)
-ends_at key seats id vs sits words slots slot same are f is idle all =
-    ends seats id sits words slots slot (subst (λ (z : ℕ × List View). Final (Seen (Kept z.0) id z.1) words slots) (λ i. (same i, are i)) f) is idle all
+pub ends_at : (key seats id : ℕ) (vs : List View) (states : List SeatState) (words : List ℕ) (slots : List Slot) (slot : Slot) → key ≡ seats → vs ≡ views_of states
+    → Final (Seen (Kept key) id vs) words slots → get_elem? slots 0 ≡ some slot → Each Idle (views_of states) → AllSeats seats states
+    → (entries : List Entry) × (slot ≡ Home (history seats entries)) × (IsHistory (history seats entries) → IsFinal seats states seats entries)
+ends_at key seats id vs states words slots slot same are f is idle all =
+    ends seats id states words slots slot (subst (λ (z : ℕ × List View). Final (Seen (Kept z.0) id z.1) words slots) (λ i. (same i, are i)) f) is idle all
 
 -- the record that the engine gives
-pub final_record : (seats : ℕ) (sits : List SeatState) (e : History) (count : ℕ) (given : List Entry) (h : (entries : List Entry) × (Home e ≡ Home (history seats entries)) × (IsHistory (history seats entries) → IsFinal seats sits seats entries))
-    → (count ≡ e.seats) × (given ≡ e.entries) → IsHistory (history count given) → IsFinal seats sits count given
-final_record seats sits e count given h parts lawful =
+pub final_record : (seats : ℕ) (states : List SeatState) (e : History) (count : ℕ) (given : List Entry) (h : (entries : List Entry) × (Home e ≡ Home (history seats entries)) × (IsHistory (history seats entries) → IsFinal seats states seats entries))
+    → (count ≡ e.seats) × (given ≡ e.entries) → IsHistory (history count given) → IsFinal seats states count given
+final_record seats states e count given h parts lawful =
     let s : count ≡ seats = parts.0 ∙ ap (λ (x : History). x.seats) (engine_is h.1) in
     let l : given ≡ h.0 = parts.1 ∙ ap (λ (x : History). x.entries) (engine_is h.1) in
-    subst (λ (z : ℕ × List Entry). IsFinal seats sits z.0 z.1) (λ i. (sym s i, sym l i)) (h.2 (subst (λ (z : ℕ × List Entry). IsHistory (history z.0 z.1)) (λ i. (s i, l i)) lawful))
+    subst (λ (z : ℕ × List Entry). IsFinal seats states z.0 z.1) (λ i. (sym s i, sym l i)) (h.2 (subst (λ (z : ℕ × List Entry). IsHistory (history z.0 z.1)) (λ i. (s i, l i)) lawful))
   where
     engine_in : History → Slot → History
     engine_in d (Home x) = x

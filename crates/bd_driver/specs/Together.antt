@@ -44,11 +44,11 @@ views_of (s ∷ ss) = closed_view s.view ∷ views_of ss
 
 -- all belong to this table
 abbrev pub AllOf : TableId → List SeatState → Type 0
-AllOf table sits = (i : ℕ) (s : SeatState) → get_elem? sits i ≡ some s → s.table ≡ table
+AllOf table states = (i : ℕ) (s : SeatState) → get_elem? states i ≡ some s → s.table ≡ table
 
 -- no seat is missing
 abbrev pub AllSeats : ℕ → List SeatState → Type 0
-AllSeats seats sits = (who : ℕ) → who < seats → (i : ℕ) × (s : SeatState) × (get_elem? sits i ≡ some s) × (s.view.who ≡ who)
+AllSeats seats states = (who : ℕ) → who < seats → (i : ℕ) × (s : SeatState) × (get_elem? states i ≡ some s) × (s.view.who ≡ who)
 
 -- where its entries stand is what the seat knows as own; or it waits, and one run of what it posted stands there too
 abbrev pub OwnEntries : List Entry → View → Type 0
@@ -57,8 +57,8 @@ OwnEntries entries v =
     ⊎ ((r : Request) × (since : ℕ) × (answer : Answer) × (start : ℕ) × (end : ℕ) × (v.handover ≡ Waiting r since) × RunAt v.seats entries v.who r since answer start end × (places_of v.who entries ≡ v.own ++ places start (end - start)))
 
 -- a lawful history for all these seats: each has seen a beginning of it, and knows its entries there
-pub record IsFinal (seats : ℕ) (sits : List SeatState) (count : ℕ) (entries : List Entry) : Type 0 where
+pub record IsFinal (seats : ℕ) (states : List SeatState) (count : ℕ) (entries : List Entry) : Type 0 where
   pub seats_are : count ≡ seats
   pub lawful : IsHistory (history seats entries)
-  pub begins : (i : ℕ) (s : SeatState) → get_elem? sits i ≡ some s → StartsWith entries s.view.seen
-  pub own : (i : ℕ) (s : SeatState) → get_elem? sits i ≡ some s → OwnEntries entries s.view
+  pub begins : (i : ℕ) (s : SeatState) → get_elem? states i ≡ some s → StartsWith entries s.view.seen
+  pub own : (i : ℕ) (s : SeatState) → get_elem? states i ≡ some s → OwnEntries entries s.view

@@ -5,7 +5,7 @@ use Rattle.bd_driver.specs.Views.{newcomers, view_of, others_of, seated}
 use Rattle.bd_driver.specs.Rule.{Kept}
 use Rattle.bd_driver.specs.Steps.{Hands}
 use Rattle.bd_driver.specs.Together.{new_seats}
-use Rattle.bd_driver.proofs.Deals.{deals_at, sittings_more}
+use Rattle.bd_driver.proofs.Deals.{deals_at, new_seats_more}
 use Rattle.bd_driver.proofs.opening.deal.Goals as goal
 
 left_is : (me : Hands) (seats number : ℕ) → me ≡ (newcomers seats number (seats - number), []) → number < seats → me.0 ≡ newcomers seats number (suc (seats - (number + 1)))
@@ -17,7 +17,7 @@ more : (table : TableId) (seats n : ℕ) → new_seats table seats 0 n ++ record
 more table seats n =
     let a : n ≡ 0 + n = omega arith in
     let b : suc n ≡ n + 1 = omega arith in
-    ap (λ (k : ℕ). new_seats table seats 0 n ++ record { table = table; view = seated seats k } ∷ []) a ∙ (sym (sittings_more table seats 0 n) ∙ ap (new_seats table seats 0) b)
+    ap (λ (k : ℕ). new_seats table seats 0 n ++ record { table = table; view = seated seats k } ∷ []) a ∙ (sym (new_seats_more table seats 0 n) ∙ ap (new_seats table seats 0) b)
 
 pub split_seat-table_seat-requires : goal.split_seat-table_seat-requires
 split_seat-table_seat-requires c =
