@@ -59,7 +59,7 @@ use Rattle.bd_audit.proofs.Tests.{not-true}
 use Rattle.bd_audit.proofs.Beginnings.{follows-rest}
 use Rattle.bd_audit.proofs.Ripening.{read-in}
 use Rattle.bd_audit.proofs.ReplyBuffers.{RepliesHeld, always-held}
-use Rattle.bd_audit.proofs.CarriedReturns.{is_plain, IsPlain, always-plain}
+use Rattle.bd_audit.proofs.CarriedReturns.{is_plain, always-plain}
 
 -- ---- the returns that one item gives
 

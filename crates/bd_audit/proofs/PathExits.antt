@@ -1,5 +1,5 @@
 -- Threads and processes that end leave the frames on their paths.
-use Rattle.std.proofs.Common.{◌≡◌, ℕ, ◌==◌, ◌-◌, Bool, true, false, cond, not, List, [], ◌∷◌, map, Some, None, inl, inr, refl, ap, sym, ◌∙◌, filter}
+use Rattle.std.proofs.Common.{◌≡◌, ℕ, ◌==◌, Bool, true, false, cond, not, List, [], ◌∷◌, map, Some, None, inl, inr, refl, ap, sym, ◌∙◌, filter}
 use Rattle.std.specs.List.{fold}
 use Rattle.std.proofs.lemmas.Bool.{eqb-true, eq-eqb}
 use Rattle.bd_space.specs.declared.space.Work.{Work}

@@ -1,5 +1,5 @@
 -- What lies on paths: the frames of a space, through the parts of a step that close one.
-use Rattle.std.proofs.Common.{◌≡◌, ℕ, ◌==◌, ◌-◌, true, not, List, Option, Some, None, refl, ap, sym, subst, ◌∙◌}
+use Rattle.std.proofs.Common.{◌≡◌, ℕ, ◌==◌, true, not, List, Option, Some, None, refl, ap, sym, subst, ◌∙◌}
 use Rattle.std.specs.List.{list_any, find}
 use Rattle.std.proofs.lemmas.Bool.{eq-eqb}
 use Rattle.bd_uapi.specs.declared.command.TransactionData.{TransactionData}

@@ -31,7 +31,6 @@ use Rattle.bd_audit.specs.Laws.{space_at}
 use Rattle.bd_audit.specs.Replies.{thread_made, items_taken, reply_taken, reply_taken_at, frame_of, call_closed_at, call_answered, AnswersCall, At, Answered}
 use Rattle.bd_audit.proofs.EveryStep.{Keeps, every_step}
 use Rattle.bd_audit.proofs.Lists.{In, in-push, in-filter, in-changed, find-in, any-in}
-use Rattle.bd_audit.proofs.Beginnings.{after-append}
 use Rattle.bd_audit.proofs.Chains.{always-steps}
 use Rattle.bd_audit.proofs.Places.{mid, later-space, next-place, either-way}
 use Rattle.bd_audit.proofs.CallsOnce.{handed-once}

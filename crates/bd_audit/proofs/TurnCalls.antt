@@ -12,7 +12,7 @@ use Rattle.bd_space.specs.Space.{Space, opening}
 use Rattle.bd_space.specs.Todo.{is_call}
 use Rattle.bd_space.specs.Freeing.{is_made_at}
 use Rattle.bd_space.specs.Steps.{change, counted}
-use Rattle.bd_space.specs.Histories.{History, IsHistory, after, next}
+use Rattle.bd_space.specs.Histories.{History, after, next}
 use Rattle.bd_audit.specs.declared.turns.Turn.{Turn}
 use Rattle.bd_audit.specs.TurnSearch.{is_call_on, is_live, is_handed, noted_at, marked, turn_made, next_turns, turns_from, turns_on}
 use Rattle.bd_audit.specs.Replies.{items_taken, HandsOutCall, At}
@@ -27,7 +27,7 @@ use Rattle.bd_audit.proofs.TurnLog as turn_log
 use Rattle.bd_audit.proofs.TurnLog.{Before, step-before, opening-before, one-buffer, Logged, log-after, no-turns, NewTurn, InOrder, always-ordered, live-in, live-found, handed-found, noted-some, noted-kept, some-case, counted-buffers}
 use Rattle.bd_audit.proofs.Chains.{always-steps}
 use Rattle.bd_audit.proofs.Answering.{at-more, at-here, at-below}
-use Rattle.bd_audit.proofs.CallItems.{Hands, DueOnce, fresh-once, Treats, step-treats}
+use Rattle.bd_audit.proofs.CallItems.{DueOnce, fresh-once, Treats, step-treats}
 use Rattle.bd_audit.proofs.CallsOut.{items-due, hands-out, call-makes}
 
 -- ---- places

@@ -1,6 +1,6 @@
 -- One-way calls are taken in their turns.
 use Rattle.std.proofs.Common.{◌≡◌, ℕ, suc, ◌<◌, Bool, true, false, not, ◌&&◌, List, [], ◌∷◌, ◌++◌, Option, Some, None, ◌⊎◌, inl, inr, refl, ap, sym, subst, ◌∙◌, map, arith}
-use Rattle.std.specs.List.{filter_map, cons_option, AllPairs}
+use Rattle.std.specs.List.{filter_map, cons_option}
 use Rattle.std.specs.Option.{is_some}
 use Rattle.std.proofs.lemmas.Bool.{eqb-true, eq-eqb}
 use Rattle.bd_space.specs.declared.step.ObjectId.{ObjectId}
@@ -17,7 +17,7 @@ use Rattle.bd_audit.proofs.EveryStep.{every_list}
 use Rattle.bd_audit.specs.declared.turns.Turn.{Turn}
 use Rattle.bd_audit.specs.TurnSearch.{is_call_on, is_live, is_handed, noted_at, marked, turn_made, next_turns, turns_from, turns_on}
 use Rattle.bd_audit.specs.TurnCalls.{IsTakenBefore}
-use Rattle.bd_audit.proofs.Lists.{In, Pairs, in-append, in-map, any-found, any-in, in-filter_map, pairs-either, pairs-at}
+use Rattle.bd_audit.proofs.Lists.{In, Pairs, in-append, in-map, any-found, any-in, in-filter_map, pairs-either}
 use Rattle.bd_audit.proofs.Tests.{both, and-both, same-eq, eq-same, not-true}
 use Rattle.bd_audit.proofs.OneWay.{Due, Rivals, Waits}
 use Rattle.bd_audit.proofs.InTurn.{IsInTurn, Turning, step-in_turn, opening-in_turn}
