@@ -92,7 +92,7 @@ WHOBJ = hex "852a6877000000000100000000000000 0000000000000000"
 abbrev pub zeros : ℕ → List ℕ
 zeros n = bytes_low_first 0 n 0
 
--- a transaction record that is read: its target and cookie, code, flags, sender's pid and euid, sizes, and the place of its buffer
+-- a record as its receiver reads it, by target, cookie, code, flags, pid, euid, both sizes and where the buffer lies
 abbrev pub seen : ℕ → ℕ → ℕ → ℕ → ℕ → ℕ → ℕ → ℕ → ℕ → TransactionData
 seen target cookie code flags pid euid size objects place = record {
   target = target;

@@ -24,14 +24,14 @@ base_answers = (Opened, 1) ∷ (Set, 2) ∷ (Wrote 4 [] None, 3) ∷ (Opened, 4)
 abbrev pub Answers : List (ℕ × Request) → List (Answer × ℕ) → Type 0
 Answers requests found = runs opening (base_requests ++ requests) ≡ base_answers ++ found
 
--- unreadable commands, and a stream of two commands whose first is refused
+-- commands that can't be read; two commands, of which the first is refused
 abbrev pub unreadable : Type 0
 unreadable =
     Answers ((1, Write [] []) ∷ (1, Write (hex "0c6300") []) ∷ (1, Write (hex "11634840") []) ∷ (1, Write (hex "0d720000") []) ∷ (1, Write (command_bytes (bc.Transaction (sending 5 1 1 [] [])) ++ hex "0c630000") []) ∷ [])
     ((Wrote 0 [] None, 4) ∷ (Wrote 0 [] (Some (stop.Fault fault.ShortCommand)), 4) ∷ (Wrote 0 [] (Some (stop.Fault fault.RefusedCommand)), 4) ∷ (Wrote 0 [] (Some (stop.Fault fault.UnknownCommand)), 4)
     ∷ (Wrote 68 [] (Some (stop.Cause cause.NotStronglyNamed)), 5) ∷ [])
 
--- three commands of one stream, two of them with notes; a seat without a process
+-- a stream of three commands, the notes of two; the same of a seat that has no process
 abbrev pub several : Type 0
 several =
     Answers ((1, Write (hex "0563044000000000 0663044001000000 0463044007000000") []) ∷ (2, Write (hex "0c630000 0c630000") []) ∷ [])

@@ -64,8 +64,8 @@ is_lost_with todo list b = list_any (λ w. is_on list w && is_some_and (handed_o
 abbrev pub is_lost_reference : List Work → TodoList → Reference → Bool
 is_lost_reference todo list r = is_some_and (buffer_of_holder r.holder) (is_lost_with todo list)
 
--- the thread is gone from its frames, and its list goes with the buffers that it would have handed over; what its owner
--- is still to be told is told on the process's list by what follows
+-- the thread leaves its frames; its list is dropped, and so is each buffer that reading the list would have handed out. What
+-- follows then makes the process's own list tell what an owner has yet to hear
 unfoldable pub thread_goes : Space → ℕ → Space
 thread_goes s seat = record s {
   threads = filter (λ t. not (t.seat == seat)) s.threads;

@@ -9,7 +9,7 @@ use Rattle.bd_space.specs.Words.{same, is_some_and, least}
 use Rattle.bd_space.specs.Space.{Space}
 use Rattle.bd_space.specs.References.{names_for, owned_in}
 
--- p has a name for o exactly where it doesn't own o and has asked for it or a buffer in its window carries it
+-- o is another's, and p asked for it, or some buffer that p received carries it: only then p has a name for it
 abbrev pub is_named_in : List Object → List Reference → ℕ → ObjectId → Bool
 is_named_in objects references p o = not (owned_in objects p o) && list_any (λ r. same r.object o && names_for p r.holder) references
 
@@ -42,7 +42,7 @@ abbrev pub free_number : Option ObjectId → List Name → ℕ → ObjectId → 
 free_number manager names p o =
     unwrap_or (least (suc (length names)) (if is_object manager o then 0 else 1) (λ n. not (list_any (λ m. (m.process == p) && (m.number == n)) names))) 0
 
--- p gets a number for o, if it is to have one and has none
+-- a name for o that p lacks gets its number
 abbrev pub with_name : Option ObjectId → List Object → List Reference → ℕ → List Name → ObjectId → List Name
 with_name manager objects references p names o =
     if is_named_in objects references p o && not (is_some (number_in names p o))

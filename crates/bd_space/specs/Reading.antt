@@ -38,7 +38,7 @@ use Rattle.bd_space.specs.Outcomes.{Outcome, refused}
 abbrev pub buffer_in : List Buffer → ℕ → Option Buffer
 buffer_in buffers made = find (is_made_at made) buffers
 
--- the pid of the caller, where the call is two-way and its thread still lives, else 0
+-- of a two-way call by a thread that lives the caller's pid, of any other 0
 unfoldable pub sender_pid : Space → ℕ → ℕ
 sender_pid s made =
     unwrap_or (option_map (λ a. a.process.pid) (option_and_then (actor s) (option_and_then (λ f. f.caller) (find (is_frame made) s.frames)))) 0
@@ -99,7 +99,7 @@ ends_read (work.Reply b) = true
 ends_read (work.Death n) = true
 ends_read _ = false
 
--- the longest beginning such that before each item at least 68 bytes are left and only the last may end the read
+-- item after item is taken while 68 bytes or more are left, up to one that ends the read
 abbrev pub taken : Space → ℕ → List Work → List Work
 taken s left [] = []
 taken s left (w ∷ ws) =

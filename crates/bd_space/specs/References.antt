@@ -33,7 +33,7 @@ owned_in objects p o = list_any (λ x. same x.id o && (x.owner == p)) objects
 abbrev pub own_in : List Object → ℕ → ℕ → Option Object
 own_in objects p ptr = find (λ x. (x.owner == p) && (x.ptr == ptr)) objects
 
--- an object stays as long as it is held, or its owner lives and is told that it is held, weakly or strongly
+-- an object stays while there is a reference to it, or while its live owner still believes that there is one
 abbrev pub stays_in : List Process → List Reference → Object → Bool
 stays_in processes references x = held_in references x.id || (lives_in processes x.owner && (x.told_weak || x.told_strong))
 
@@ -47,7 +47,7 @@ abbrev pub is_asked_by : ℕ → Holder → Bool
 is_asked_by p (Asked q) = q == p
 is_asked_by p _ = false
 
--- it is p's own asking, or is carried by a buffer in p's window
+-- p asked, or one of the buffers that p received carries it
 abbrev pub names_for : ℕ → Holder → Bool
 names_for p (Asked q) = q == p
 names_for p (Carried b q) = q == p

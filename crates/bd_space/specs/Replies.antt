@@ -48,7 +48,7 @@ abbrev pub reply_outcome : Space → Actor → TransactionData → Frame → Res
 reply_outcome s a d f (Err x) = stopped x (reply_refused s a.thread.seat f)
 reply_outcome s a d f (Ok v) = accepted (replied s a d f v)
 
--- a reply answers the thread's innermost frame, if the thread serves it
+-- what is answered is the innermost call that the thread serves
 abbrev pub reply_to : Space → Actor → TransactionData → Option Parcel → Option Frame → Outcome
 reply_to s a d parcel None = stopped NoCall (owe s (OfThread a.thread.seat) (work.Refusal FailedReply))
 reply_to s a d parcel (Some f) = reply_outcome s a d f (reply_check s a d parcel f)

@@ -26,7 +26,7 @@ fits_in window buffers size start = nat_le (start + size) window && list_all (is
 unfoldable pub place_in : ℕ → List Buffer → ℕ → Option ℕ
 place_in window buffers size = option_map (λ k. 8 * k) (least (window / 8) 0 (λ k. fits_in window buffers size (8 * k)))
 
--- the live one-way buffers and the new one would take more than half of the window
+-- with the new one the window's one-way buffers would take up over half of it
 unfoldable pub over_budget_in : ℕ → List Buffer → ℕ → Bool
 over_budget_in window buffers size = nat_lt window (2 * (sum_by (λ b. b.size) (filter (λ b. b.one_way) buffers) + size))
 

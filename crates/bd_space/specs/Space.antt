@@ -1,5 +1,5 @@
--- The object space: finite sets of what there is, each kept as the list of its members in the order in which they were
--- made, which is the order of their identities.
+-- The object space: what there is at one moment, as finite sets. A set is written as a list whose members rise by identity,
+-- so that the oldest stands first.
 use Rattle.std.specs.Prelude.{ℕ, List, [], Option, None}
 use Rattle.bd_space.specs.declared.step.ObjectId.{ObjectId}
 use Rattle.bd_space.specs.declared.space.Process.{Process}

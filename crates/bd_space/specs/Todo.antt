@@ -13,7 +13,7 @@ use Rattle.bd_space.specs.Words.{same, same_identity}
 use Rattle.bd_space.specs.Space.{Space}
 use Rattle.bd_space.specs.Frames.{innermost_in}
 
--- one work item more, named by its step's place and by how many of that step's items stand before it
+-- one work item more: its identity is the step's place and the count of items that the step has made before it
 abbrev pub with_work : ℕ → List Work → TodoList → WorkKind → List Work
 with_work place todo list kind =
     todo ++ record { id = record { place = place; index = count_by (λ w. w.id.place == place) todo }; list = list; kind = kind } ∷ []

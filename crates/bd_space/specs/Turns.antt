@@ -20,7 +20,7 @@ turn_of b =
 abbrev pub turns_of : List Buffer → List Turn
 turns_of buffers = filter_map turn_of buffers
 
--- its call isn't due or handed out yet, and no older one-way call on its object has a live buffer
+-- nobody was told of it yet, and of its object's one-way calls with a buffer it is the oldest
 abbrev pub is_ripe : List Work → List Turn → Turn → Bool
 is_ripe todo older t =
     not t.handed && not (list_any (λ u. same u.target t.target) older) && not (list_any (λ w. is_call t.made w.kind) todo)

@@ -4,7 +4,7 @@ use crate::bytes::Bytes;
 use crate::step::ObjectId;
 use bd_uapi::{FlatObject, Return, TransactionFlags};
 
-/// A live process, named by the place of the step that opened it.
+/// A live process. Its name is the place of its Open.
 #[derive(Clone, Copy, Debug, PartialEq, Eq)]
 pub struct Process {
     /// The place of its Open.
@@ -106,7 +106,7 @@ pub enum Server {
     Gone,
 }
 
-/// An open two-way call, named by the place of its transaction.
+/// A two-way call that is still open. Its name is the place of its transaction.
 #[derive(Clone, Copy, Debug, PartialEq, Eq)]
 pub struct Frame {
     /// The place of its transaction.
@@ -119,7 +119,7 @@ pub struct Frame {
     pub parent: Option<u32>,
 }
 
-/// A live buffer, named by the place of its transaction or reply, with what it hands over.
+/// A live buffer and what it hands over. Its name is the place of the transaction or reply that made it.
 #[derive(Drop, Debug)]
 pub struct Buffer {
     /// The place of its transaction or reply.

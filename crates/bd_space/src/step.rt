@@ -94,7 +94,7 @@ pub enum Answer {
     Exited,
     /// Commands were run.
     Wrote {
-        /// The bytes of the commands that were run, a refused one among them.
+        /// How many bytes the commands had that were run; one that was refused counts.
         consumed: u32,
         /// The commands that changed nothing, and why.
         notes: Notes,
