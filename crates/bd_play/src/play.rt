@@ -39,7 +39,9 @@ pub fn read_all<R: Read>(alloc: Global, reader: &mut R) -> Result<Vec<u8>, Fault
 }
 
 /// The script that a reader has.
-pub fn script_from<R: Read>(alloc: Global, reader: &mut R) -> Result<Script, Fault> {
+pub fn script_from<R: Read>(alloc: Global, reader: &mut R) -> Result<Script, Fault>
+    ensures seats { IfOk result (λ s. (1 ≤ s.seats) × (s.seats ≤ 16)) }
+{
     let bytes = read_all(alloc, reader)?;
     match read_script(alloc, &bytes) {
         Ok(script) => Ok(script),
@@ -55,7 +57,9 @@ pub fn laid<R: Read>(alloc: Global, script: &mut R) -> Result<(Driver, Vec<Seat>
     let script = script_from(alloc, script)?;
     match Driver::new(alloc, script.seats) {
         Ok((driver, seats)) => Ok((driver, seats, script)),
-        Err(_) => Err(Fault::Memory),
+        Err(bd_uapi::Fault::NoMemory) => Err(Fault::Memory),
+        // A script has a number of seats that a driver can have.
+        Err(_) => unreachable!(),
     }
 }
 

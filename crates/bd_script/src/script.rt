@@ -1,6 +1,6 @@
 //! Whole scripts.
 
-ghost use Rattle.std.specs.Prelude.{◌≡◌, None, Some, MatchResult};
+ghost use Rattle.std.specs.Prelude.{◌≡◌, ◌≤◌, IfOk, None, Some, MatchResult};
 ghost use Rattle.std.specs.List.{list_any};
 ghost use Rattle.bd_script.specs.Words.{ReadsOrMemory};
 ghost use Rattle.bd_script.specs.Scripts.{SaysAs, error_at, read, is_bad, is_idle, line_of, script_of, seats_of, with_line};
@@ -181,7 +181,8 @@ fn add_line(alloc: Global, script: &mut Script, number: u64, text: &[u8]) -> Res
 /// `Line` with the number of the first bad line, `Memory` where memory was refused.
 #[tactic(auto, unfolding(crate::specs::Scripts::script_of))]
 pub fn read_script(alloc: Global, bytes: &[u8]) -> Result<Script, ScriptError>
-    ensures { SaysAs result (script_of bytes.now) }
+    ensures says { SaysAs result (script_of bytes.now) }
+    ensures seats { IfOk result (λ s. (1 ≤ s.seats) × (s.seats ≤ 16)) }
 {
     let mut script = Script {
         seats: 0,
