@@ -6,6 +6,7 @@
 #include <fcntl.h>
 #include <stdio.h>
 #include <stdlib.h>
+#include <sys/syscall.h>
 #include <unistd.h>
 
 static long refused = -1, requests;
@@ -88,6 +89,14 @@ __attribute__((destructor)) static void tell(void)
         return;
     length = snprintf(text, sizeof text, "%ld", requests);
     if (write(file, text, (size_t)length) < 0)
-        _exit(9);
+        syscall(SYS_exit_group, 9);
     close(file);
+}
+
+/* A program that ends with a status of its own ends so, without the destructors. */
+void _exit(int status)
+{
+    tell();
+    for (;;)
+        syscall(SYS_exit_group, status);
 }
