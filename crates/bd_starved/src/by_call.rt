@@ -15,21 +15,11 @@ use bd_uapi::Fault;
 use std::alloc::Global;
 use std::io::Write;
 
-// A new driver, whose seats are its own.
-fn made(alloc: Global, seats: u32) -> Result<(Driver, Vec<Seat>), Fault>
-    ensures { IfOk result (λ r. All (λ s. s.table ≡ r.0.table) r.1.items) }
-{
-    match Driver::new(alloc, seats) {
-        Ok((driver, dealt)) => Ok((driver, dealt)),
-        Err(fault) => Err(fault),
-    }
-}
-
 /// A driver of so many seats.
 pub fn driver_for(alloc: Global, seats: u32) -> Result<(Driver, Vec<Seat>), Broken>
     ensures { IfOk result (λ r. All (λ s. s.table ≡ r.0.table) r.1.items) }
 {
-    match again!(made(alloc, seats), Fault::NoMemory) {
+    match again!(Driver::new(alloc, seats), Fault::NoMemory) {
         Ok((driver, dealt)) => Ok((driver, dealt)),
         Err(_) => Err(Broken::Never("a script has other numbers of seats")),
     }
@@ -105,7 +95,7 @@ pub fn play_lines<W: Write>(
     alloc: Global,
     driver: &Driver,
     seats: &mut [Seat],
-    text: &str,
+    text: &[u8],
     out: &mut W,
 ) -> Result<(), Broken>
     requires { All (λ s. s.table ≡ driver.now.table) seats.old }
@@ -126,7 +116,7 @@ pub fn play_lines<W: Write>(
 }
 
 /// Calls with the requests of a script, and prints what each answers. What came of it is handed out.
-pub fn play_by_call<W: Write>(alloc: Global, text: &str, out: &mut W) -> Result<Record, Broken> {
+pub fn play_by_call<W: Write>(alloc: Global, text: &[u8], out: &mut W) -> Result<Record, Broken> {
     let script = script_of(alloc, text)?;
     let (driver, mut seats) = driver_for(alloc, script.seats)?;
     play_lines(alloc, &driver, &mut seats, text, out)?;

@@ -140,7 +140,7 @@ fn play_lines<W: Write>(
     alloc: Global,
     driver: &Driver,
     seats: &mut [Seat],
-    text: &str,
+    text: &[u8],
     out: &mut W,
 ) -> Result<(), Broken>
     requires { All (λ s. s.table ≡ driver.now.table) seats.old }
@@ -161,7 +161,7 @@ fn play_lines<W: Write>(
 /// Hands each request of a script over to another seat, and prints what each answers. What came of it is handed out.
 pub fn play_by_hand_over<W: Write>(
     alloc: Global,
-    text: &str,
+    text: &[u8],
     out: &mut W,
 ) -> Result<Record, Broken> {
     let script = script_of(alloc, text)?;

@@ -13,8 +13,8 @@ use std::alloc::Global;
 use std::io::Write;
 
 /// The script of a text.
-pub fn script_of(alloc: Global, text: &str) -> Result<Script, Broken> {
-    Ok(again!(read_script(alloc, text.as_bytes()), ScriptError::Memory)?)
+pub fn script_of(alloc: Global, text: &[u8]) -> Result<Script, Broken> {
+    Ok(again!(read_script(alloc, text), ScriptError::Memory)?)
 }
 
 /// An engine for so many seats.
@@ -82,7 +82,7 @@ pub fn print_ran<W: Write>(number: u64, ran: Ran, out: &mut W) -> Result<(), Bro
 }
 
 /// Runs the requests of a script, and prints what each answers. What came of it is handed out.
-pub fn play_by_run<W: Write>(alloc: Global, text: &str, out: &mut W) -> Result<Record, Broken> {
+pub fn play_by_run<W: Write>(alloc: Global, text: &[u8], out: &mut W) -> Result<Record, Broken> {
     let script = script_of(alloc, text)?;
     let mut engine = engine_for(alloc, script.seats)?;
     for line in script.lines {

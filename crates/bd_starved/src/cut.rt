@@ -5,7 +5,7 @@ ghost use Rattle.std.specs.Prelude.{◌≡◌, All};
 use crate::again::again;
 use crate::broken::Broken;
 use crate::by_call::{driver_for, play_lines};
-use crate::scripts::FIVE_STEPS;
+use crate::by_run::script_of;
 use bd_driver::{Driver, Outcome, Seat};
 use bd_space::{Bytes, Request};
 use std::alloc::{AllocError, Global};
@@ -13,8 +13,6 @@ use std::io::Write;
 
 // How often it is written: at one of the second commands the history's room is used up.
 const WRITES: u32 = 8;
-// How many seats the base has.
-const SEATS: u32 = 2;
 // BC_ENTER_LOOPER, twice.
 const STREAM: [u8; 8] = [0x0c, 0x63, 0, 0, 0x0c, 0x63, 0, 0];
 
@@ -68,12 +66,13 @@ fn write_all<W: Write>(
     Ok(())
 }
 
-/// Prints what comes of the writes after five steps.
-pub fn play_cut<W: Write>(alloc: Global, out: &mut W) -> Result<(), Broken> {
-    let (driver, mut seats) = driver_for(alloc, SEATS)?;
-    play_lines(alloc, &driver, &mut seats, FIVE_STEPS, out)?;
+/// Prints what comes of the writes after a script's lines.
+pub fn play_cut<W: Write>(alloc: Global, text: &[u8], out: &mut W) -> Result<(), Broken> {
+    let script = script_of(alloc, text)?;
+    let (driver, mut seats) = driver_for(alloc, script.seats)?;
+    play_lines(alloc, &driver, &mut seats, text, out)?;
     match seats.get_mut(0) {
         Some(seat) => write_all(alloc, &driver, seat, out),
-        None => Err(Broken::Never("there are two seats")),
+        None => Err(Broken::Never("a script has seats")),
     }
 }

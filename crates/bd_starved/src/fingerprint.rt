@@ -4,11 +4,11 @@ use bd_engine::Engine;
 use bd_space::ObjectId;
 use std::hash::{DefaultHasher, Hash, Hasher};
 
-// The pids of the scripts' processes.
-const PIDS: [u32; 4] = [100, 200, 300, 400];
-// The handles of the scripts lie below this.
-const MOST_HANDLES: u32 = 6;
-// A step of the scripts makes fewer objects than this.
+/// The pids of the processes that are looked at.
+pub const PIDS: [u32; 4] = [100, 200, 300, 400];
+/// The handles that are looked at lie below this.
+pub const MOST_HANDLES: u32 = 6;
+// The objects that are looked at are the first of their step's.
 const MOST_OBJECTS: u32 = 3;
 
 fn id_of(object: Option<ObjectId>) -> Option<(u32, u32)> {

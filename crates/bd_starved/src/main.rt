@@ -1,7 +1,9 @@
-//! Runs scripts in every way that the driver offers, makes each call again that memory was refused to, and prints what
+//! Runs a script in every way that the driver offers, makes each call again that memory was refused to, and prints what
 //! it then answers: so a run in which any one growth is refused prints what an undisturbed run prints.
 //!
-//! With a number as its word it runs that part alone, and with `cut` writes that aren't made again.
+//! The script is standard input. One word asks for something else than `play`: `cut` for the script by calls and then
+//! writes that aren't made again, `spellings` for those of all commands and returns, `limits` for numbers of seats that
+//! none can have.
 #![tactic(auto)]
 
 mod again;
@@ -12,24 +14,46 @@ mod by_run;
 mod by_step;
 mod certificates;
 mod cut;
+mod every_way;
 mod fingerprint;
 mod journals;
-mod parts;
-mod scripts;
+mod limits;
 mod spellings;
 mod writes;
 
 use again::again;
 use broken::Broken;
 use cut::play_cut;
-use parts::play_part;
+use every_way::play_every_way;
+use limits::print_limits;
+use spellings::spell_all;
 use std::alloc::Global;
-use std::io::{BufWriter, Write};
+use std::io::{BufWriter, Read, Write};
 use std::rt::Runtime;
 use std::{env, io};
 
-// More parts than there are.
-const MOST_PARTS: usize = 100;
+// What is asked for.
+enum Asked {
+    Play,
+    Cut,
+    Spellings,
+    Limits,
+}
+
+impl Asked {
+    fn of(words: &[String]) -> Result<Asked, Broken> {
+        let Some(word) = words.get(1) else {
+            return Ok(Asked::Play);
+        };
+        match word.as_str() {
+            "play" => Ok(Asked::Play),
+            "cut" => Ok(Asked::Cut),
+            "spellings" => Ok(Asked::Spellings),
+            "limits" => Ok(Asked::Limits),
+            _ => Err(Broken::Never("no word of this program")),
+        }
+    }
+}
 
 // The words of the program.
 fn words<H: Runtime<A = Global>>(rt: &H) -> Result<Vec<String>, Broken> {
@@ -37,45 +61,28 @@ fn words<H: Runtime<A = Global>>(rt: &H) -> Result<Vec<String>, Broken> {
     Ok(args.collect::<Vec<String>>(rt.alloc())?)
 }
 
-// What is asked for: all parts, one of them, or the writes that aren't made again.
-enum Asked {
-    All,
-    Part(usize),
-    Cut,
+// All that a reader has. What was read before memory was refused stays in the vector.
+fn read_all<R: Read>(alloc: Global, reader: &mut R) -> Result<Vec<u8>, Broken> {
+    let mut bytes = Vec::new(alloc);
+    again!(reader.read_to_end(&mut bytes))?;
+    Ok(bytes)
 }
 
-fn asked_in(words: &[String]) -> Asked {
-    let Some(word) = words.get(1) else {
-        return Asked::All;
-    };
-    match word.parse::<usize>() {
-        Ok(index) => Asked::Part(index),
-        Err(_) => Asked::Cut,
-    }
-}
-
-fn play_all<W: Write>(alloc: Global, out: &mut W) -> Result<(), Broken> {
-    for index in 0..MOST_PARTS {
-        if !play_part(alloc, index, out)? {
-            break;
-        }
-    }
-    Ok(())
-}
-
-fn run<H: Runtime<A = Global>, W: Write>(rt: &H, out: &mut W) -> Result<(), Broken> {
+fn run<H: AllocGlobal + Input + Runtime<A = Global>, W: Write>(
+    rt: &H,
+    out: &mut W,
+) -> Result<(), Broken> {
     let words = again!(words(rt))?;
-    match asked_in(words.as_slice()) {
-        Asked::All => play_all(rt.alloc(), out),
-        Asked::Cut => play_cut(rt.alloc(), out),
-        Asked::Part(index) => {
-            play_part(rt.alloc(), index, out)?;
-            Ok(())
-        }
+    let alloc = rt.alloc();
+    match Asked::of(words.as_slice())? {
+        Asked::Play => play_every_way(alloc, &read_all(alloc, &mut rt.reader())?, out),
+        Asked::Cut => play_cut(alloc, &read_all(alloc, &mut rt.reader())?, out),
+        Asked::Spellings => spell_all(alloc, out),
+        Asked::Limits => print_limits(alloc, out),
     }
 }
 
-fn print_all<H: Runtime<A = Global>>(rt: &H) -> Result<(), Broken> {
+fn print_all<H: AllocGlobal + Input + Runtime<A = Global>>(rt: &H) -> Result<(), Broken> {
     let mut out = again!(BufWriter::new(rt.alloc(), io::writer(rt)))?;
     if let Err(broken) = run(rt, &mut out) {
         writeln!(out, "broken: {broken}")?;
