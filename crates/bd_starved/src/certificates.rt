@@ -107,12 +107,7 @@ fn takes_reply(answer: &StepAnswer) -> bool {
 }
 
 // Prints the call that a reading answers.
-fn ask_call<W: Write>(
-    alloc: Global,
-    record: &Record,
-    place: u32,
-    out: &mut W,
-) -> Result<(), Broken>
+fn ask_call<W: Write>(alloc: Global, record: &Record, place: u32, out: &mut W) -> Result<(), Broken>
     requires seats { (1 ≤ «record».now.seats) × («record».now.seats ≤ 16) }
     requires lawful { IsHistory (history_of «record».now) }
 {
@@ -168,7 +163,9 @@ fn ask_turns<W: Write>(
     requires lawful { IsHistory (history_of «record».now) }
 {
     if let Some(object) = engine.manager() {
-        let turns = again!(oneway_turns(alloc, record, object), Fault::NoMemory).map_err(broken_by)?;
+        let turns = again!(oneway_turns(alloc, record, object), Fault::NoMemory).map_err(
+            broken_by,
+        )?;
         print_turns(&turns, out)?;
     }
     Ok(())

@@ -9,11 +9,11 @@ use std::io::Write;
 fn print_limit<W: Write>(alloc: Global, seats: u32, out: &mut W) -> Result<(), Broken> {
     match Engine::new(alloc, seats) {
         Ok(_) => writeln!(out, "engine {seats}: made")?,
-        Err(fault) => writeln!(out, "engine {seats}: {fault:?}")?,
+        Err(fault) => writeln!(out, "engine {seats}: {fault}")?,
     }
     match Driver::new(alloc, seats) {
         Ok(_) => writeln!(out, "driver {seats}: made")?,
-        Err(fault) => writeln!(out, "driver {seats}: {fault:?}")?,
+        Err(fault) => writeln!(out, "driver {seats}: {fault}")?,
     }
     Ok(())
 }

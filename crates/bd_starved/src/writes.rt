@@ -1,5 +1,8 @@
 //! A write that memory stopped after some of its commands, and what the rest of it comes to.
 
+ghost use Rattle.std.specs.Prelude.{◌≡◌, IfOk};
+ghost use Rattle.bd_starved.specs.Writes.{is_cut_short, IsRest, stop_of};
+
 use crate::again::again;
 use crate::broken::Broken;
 use bd_engine::Ran;
@@ -8,7 +11,9 @@ use bd_uapi::{Fault, Note};
 use std::alloc::Global;
 
 /// Whether memory stopped a write after some of its commands.
-pub fn was_cut_short(answer: &Answer) -> bool {
+pub fn was_cut_short(answer: &Answer) -> bool
+    ensures { result ≡ is_cut_short answer.now }
+{
     matches!(
         answer,
         Answer::Wrote {
@@ -18,14 +23,18 @@ pub fn was_cut_short(answer: &Answer) -> bool {
     )
 }
 
-fn bytes_from(alloc: Global, bytes: &[u8]) -> Result<Bytes, Broken> {
+fn bytes_from(alloc: Global, bytes: &[u8]) -> Result<Bytes, Broken>
+    ensures { IfOk result (λ b. b ≡ bytes.now) }
+{
     let mut copy = Vec::new(alloc);
     copy.extend_from_slice(bytes)?;
     Ok(Bytes::new(copy))
 }
 
 /// The write of what is left of a stream after so many bytes.
-pub fn rest_of(alloc: Global, request: &Request, consumed: u32) -> Result<Request, Broken> {
+pub fn rest_of(alloc: Global, request: &Request, consumed: u32) -> Result<Request, Broken>
+    ensures { IfOk result (IsRest request.now consumed) }
+{
     let Request::Write { stream, area } = request else {
         return Err(Broken::Never("another request was cut short"));
     };
@@ -49,7 +58,11 @@ fn notes_of(alloc: Global, first: &Notes, commands: u32, second: &Notes) -> Resu
 }
 
 /// The answer to a write that came in two parts, as if it had come in one.
-pub fn joined(alloc: Global, first: &Ran, second: &Ran) -> Result<Ran, Broken> {
+pub fn joined(alloc: Global, first: &Ran, second: &Ran) -> Result<Ran, Broken>
+    ensures begin { IfOk result (λ r. r.from ≡ first.now.from) }
+    ensures end { IfOk result (λ r. r.to ≡ second.now.to) }
+    ensures stop { IfOk result (λ r. stop_of r.answer ≡ stop_of second.now.answer) }
+{
     let (
         Answer::Wrote {
             consumed: begun,
