@@ -23,18 +23,6 @@ fn digit_value(byte: u8) -> Option<u8>
     }
 }
 
-/// The digit for a number below 16.
-pub fn hex_digit(number: u8) -> u8
-    requires { number < 16 }
-    ensures { result ≡ hex_digit number }
-{
-    if number < 10 {
-        b'0' + number
-    } else {
-        b'a' - 10 + number
-    }
-}
-
 // Whether a word stands for nothing.
 pub fn is_nothing(word: &[u8]) -> bool
     ensures { result ≡ bytes_eq word.now (45 ∷ []) }
