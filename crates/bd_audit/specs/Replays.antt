@@ -1,5 +1,5 @@
 -- Where a record stops being a history.
-use Rattle.std.specs.Prelude.{ℕ, ◌+◌, ◌<◌, ◌≡◌, List, [], ◌∷◌, ◌++◌, length, take}
+use Rattle.std.specs.Prelude.{ℕ, ◌+◌, ◌<◌, ◌≡◌, [], ◌∷◌, ◌++◌, length, take}
 use Rattle.bd_space.specs.declared.step.Entry.{Entry}
 use Rattle.bd_space.specs.Histories.{History, IsHistory, history_of, BeginsWith}
 use Rattle.bd_engine.specs.declared.why.Why.{Why}

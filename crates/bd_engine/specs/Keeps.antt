@@ -1,6 +1,5 @@
 -- What an engine keeps.
-use Rattle.std.specs.Prelude.{ℕ, ◌≤◌, List}
-use Rattle.bd_space.specs.declared.step.Entry.{Entry}
+use Rattle.std.specs.Prelude.{◌≤◌}
 use Rattle.bd_space.specs.Histories.{History, IsHistory, space_after}
 use Rattle.bd_engine.specs.declared.tables.Tables.{Tables}
 use Rattle.bd_engine.specs.Stands.{Before}

@@ -5,7 +5,7 @@ ghost use Rattle.std.specs.List.{flat_map};
 ghost use Rattle.std.specs.Option.{option_map};
 ghost use Rattle.std.specs.Str.{bytes_eq};
 ghost use Rattle.bd_uapi.specs.Bytes.{IsBytes};
-ghost use Rattle.bd_script.specs.Hex.{digit_of, hex_digit, hex_pair, hex_word, pairs_of, hex_of};
+ghost use Rattle.bd_script.specs.Hex.{digit_of, hex_pair, hex_word, pairs_of, hex_of};
 
 use std::alloc::{AllocError, Global};
 
