@@ -26,7 +26,7 @@ use Rattle.bd_space.specs.Notices.{with_notice, wants_notice, has_notice_in, fol
 use Rattle.bd_space.specs.Names.{names_go, assign_numbers}
 use Rattle.bd_space.specs.References.{objects_go, object_in}
 use Rattle.bd_space.specs.Frames.{closed, goes_to}
-use Rattle.bd_space.specs.Parcels.{is_own, is_strong_kind}
+use Rattle.bd_uapi.specs.Kinds.{is_own, is_strong_kind}
 use Rattle.bd_space.specs.Delivery.{Delivery, delivered, own_notices, add_buffer, known_by, refer, make_objects, buffer_of, add_notice, withdraw_notice}
 use Rattle.bd_space.specs.Transactions.{transacted, called, call_out, refusal}
 use Rattle.bd_space.specs.Replies.{replied, reply_refused}

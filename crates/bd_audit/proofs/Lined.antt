@@ -28,7 +28,7 @@ use Rattle.bd_space.specs.Notices.{with_notice, follow, notify, work_goes, death
 use Rattle.bd_space.specs.Names.{names_go, assign_numbers}
 use Rattle.bd_space.specs.References.{objects_go, object_in, owned_in}
 use Rattle.bd_space.specs.Frames.{closed, goes_to}
-use Rattle.bd_space.specs.Parcels.{is_own}
+use Rattle.bd_uapi.specs.Kinds.{is_own}
 use Rattle.bd_space.specs.Delivery.{Delivery, delivered, own_notices, add_buffer, known_by, refer, make_objects, buffer_of, add_notice, withdraw_notice}
 use Rattle.bd_space.specs.Transactions.{transacted, called, call_out}
 use Rattle.bd_space.specs.Replies.{replied}

@@ -28,7 +28,8 @@ use Rattle.bd_space.specs.Frames.{closed}
 use Rattle.bd_space.specs.Turns.{ripen}
 use Rattle.bd_space.specs.Notices.{follow, notify, work_goes, deaths_go}
 use Rattle.bd_space.specs.Delivery.{Delivery, delivered, own_notices, add_buffer, known_by, refer, make_objects, buffer_references}
-use Rattle.bd_space.specs.Parcels.{object_of_item, is_strong_kind}
+use Rattle.bd_uapi.specs.Kinds.{is_strong_kind}
+use Rattle.bd_space.specs.Parcels.{object_of_item}
 use Rattle.bd_space.specs.Transactions.{transaction_check, transacted, called}
 use Rattle.bd_space.specs.Replies.{reply_check, replied}
 use Rattle.bd_space.specs.Freeing.{without_buffer}

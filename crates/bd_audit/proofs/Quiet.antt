@@ -29,7 +29,7 @@ use Rattle.bd_space.specs.Notices.{with_notice, follow, notify, work_goes, death
 use Rattle.bd_space.specs.Names.{names_go, assign_numbers}
 use Rattle.bd_space.specs.References.{objects_go, object_in}
 use Rattle.bd_space.specs.Frames.{closed, is_frame}
-use Rattle.bd_space.specs.Parcels.{is_own}
+use Rattle.bd_uapi.specs.Kinds.{is_own}
 use Rattle.bd_space.specs.Delivery.{Delivery, delivered, own_notices, add_buffer, known_by, refer, make_objects, buffer_of, add_notice, withdraw_notice}
 use Rattle.bd_space.specs.Freeing.{without_buffer}
 use Rattle.bd_space.specs.ThreadExits.{thread_goes, gone_caller, gone_server, unread_server, is_unread_on, frame_without, unread_frame}

@@ -20,7 +20,8 @@ use Rattle.bd_space.specs.declared.space.Resolved.{Resolved}
 use Rattle.bd_space.specs.Space.{Space}
 use Rattle.bd_space.specs.References.{own_in}
 use Rattle.bd_space.specs.Names.{named, strongly_named, named_in, if_strongly_named, is_strongly_named_in}
-use Rattle.bd_space.specs.Parcels.{Sending, new_object, resolve, resolve_own, resolve_handle, resolve_all, resolve_walked, is_cut, is_own, sending_of}
+use Rattle.bd_uapi.specs.Kinds.{is_own}
+use Rattle.bd_space.specs.Parcels.{Sending, new_object, resolve, resolve_own, resolve_handle, resolve_all, resolve_walked, is_cut, sending_of}
 use Rattle.std.proofs.lemmas.Bool.{eqb-true}
 use Rattle.bd_audit.proofs.Lists.{In, Pairs, in-left, in-right, in-append, in-push, in-last, pairs-push, find-in}
 use Rattle.bd_audit.proofs.Tests.{both, and_then-ok}

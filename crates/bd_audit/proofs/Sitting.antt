@@ -29,7 +29,7 @@ use Rattle.bd_space.specs.Frames.{goes_to, closed}
 use Rattle.bd_space.specs.Todo.{with_work, owe, is_on, same_list, notice_of, is_item}
 use Rattle.bd_space.specs.Turns.{ripen, ripened, is_ripe, turns_of}
 use Rattle.bd_space.specs.Notices.{with_notice, wants_notice, has_notice_in, still_due, work_goes, deaths_go, notify, follow}
-use Rattle.bd_space.specs.Parcels.{is_own}
+use Rattle.bd_uapi.specs.Kinds.{is_own}
 use Rattle.bd_space.specs.Delivery.{Delivery, delivered, own_notices, add_buffer, known_by, refer, make_objects, buffer_of, add_notice, withdraw_notice}
 use Rattle.bd_space.specs.Transactions.{transaction_check, transacted, called, call_out}
 use Rattle.bd_space.specs.Replies.{reply_check, replied}

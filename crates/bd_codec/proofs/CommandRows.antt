@@ -6,40 +6,40 @@ use Rattle.bd_uapi.specs.declared.command.Command.{Command}
 use Rattle.bd_uapi.specs.declared.command.Command.TheVariants.{Transaction, Reply, FreeBuffer, Increfs, Acquire, Release, Decrefs, IncrefsDone, AcquireDone, EnterLooper, ExitLooper, RequestDeathNotification, ClearDeathNotification, DeadBinderDone}
 use Rattle.bd_uapi.specs.declared.fault.Fault.{Fault}
 use Rattle.bd_uapi.proofs.Pieces.{IsBytes}
-use Rattle.bd_codec.specs.Spelling.{command_code, command_payload, command_bytes, IsCommand, Found}
-use Rattle.bd_codec.specs.Faults.{refused_codes, command_fault}
+use Rattle.bd_codec.specs.Spelling.{command_code, refused_codes, command_payload, command_bytes, IsCommand, Found}
+use Rattle.bd_codec.specs.Faults.{command_fault}
 use Rattle.bd_codec.specs.Reading.{command_rows, command_of, command_at}
 use Rattle.bd_codec.proofs.Shapes.{Right, bare_right, record_right, handle_right, pointer_right, pointer_and_cookie_right, handle_and_cookie_right, bare_again, record_again, handle_again, pointer_again, pointer_and_cookie_again, handle_and_cookie_again}
 use Rattle.bd_codec.proofs.Tables.{found_in, code_again, apart, Says, Plain, table_says}
 
 rows_right : AllByRecursion (Right command_bytes IsCommand) command_rows
 rows_right = (
-  record_right command_bytes IsCommand 0x40406300 Transaction (λ t. refl) (λ t h. h),
+  record_right command_bytes IsCommand command_code Transaction (λ t. refl) (λ t h. h),
   (
-    record_right command_bytes IsCommand 0x40406301 Reply (λ t. refl) (λ t h. h),
+    record_right command_bytes IsCommand command_code Reply (λ t. refl) (λ t h. h),
     (
-      pointer_right command_bytes IsCommand 0x40086303 FreeBuffer (λ n. refl) (λ n h. h),
+      pointer_right command_bytes IsCommand command_code FreeBuffer (λ n. refl) (λ n h. h),
       (
-        handle_right command_bytes IsCommand 0x40046304 Increfs (λ n. refl) (λ n h. h),
+        handle_right command_bytes IsCommand command_code Increfs (λ n. refl) (λ n h. h),
         (
-          handle_right command_bytes IsCommand 0x40046305 Acquire (λ n. refl) (λ n h. h),
+          handle_right command_bytes IsCommand command_code Acquire (λ n. refl) (λ n h. h),
           (
-            handle_right command_bytes IsCommand 0x40046306 Release (λ n. refl) (λ n h. h),
+            handle_right command_bytes IsCommand command_code Release (λ n. refl) (λ n h. h),
             (
-              handle_right command_bytes IsCommand 0x40046307 Decrefs (λ n. refl) (λ n h. h),
+              handle_right command_bytes IsCommand command_code Decrefs (λ n. refl) (λ n h. h),
               (
-                pointer_and_cookie_right command_bytes IsCommand 0x40106308 IncrefsDone (λ m n. refl) (λ m n h k. (h, k)),
+                pointer_and_cookie_right command_bytes IsCommand command_code IncrefsDone (λ m n. refl) (λ m n h k. (h, k)),
                 (
-                  pointer_and_cookie_right command_bytes IsCommand 0x40106309 AcquireDone (λ m n. refl) (λ m n h k. (h, k)),
+                  pointer_and_cookie_right command_bytes IsCommand command_code AcquireDone (λ m n. refl) (λ m n h k. (h, k)),
                   (
-                    bare_right command_bytes IsCommand 0x0000630c EnterLooper refl tt,
+                    bare_right command_bytes IsCommand command_code EnterLooper refl tt,
                     (
-                      bare_right command_bytes IsCommand 0x0000630d ExitLooper refl tt,
+                      bare_right command_bytes IsCommand command_code ExitLooper refl tt,
                       (
-                        handle_and_cookie_right command_bytes IsCommand 0x400c630e RequestDeathNotification (λ m n. refl) (λ m n h k. (h, k)),
+                        handle_and_cookie_right command_bytes IsCommand command_code RequestDeathNotification (λ m n. refl) (λ m n h k. (h, k)),
                         (
-                          handle_and_cookie_right command_bytes IsCommand 0x400c630f ClearDeathNotification (λ m n. refl) (λ m n h k. (h, k)),
-                          (pointer_right command_bytes IsCommand 0x40086310 DeadBinderDone (λ n. refl) (λ n h. h), tt),
+                          handle_and_cookie_right command_bytes IsCommand command_code ClearDeathNotification (λ m n. refl) (λ m n h k. (h, k)),
+                          (pointer_right command_bytes IsCommand command_code DeadBinderDone (λ n. refl) (λ n h. h), tt),
                         ),
                       ),
                     ),
@@ -76,20 +76,20 @@ code_fits (DeadBinderDone p) = lit< tt
 
 row_again : (c : Command) (rest : List ℕ) → IsCommand c → command_of (command_code c) (command_bytes c ++ rest) ≡ Ok (c, length (command_bytes c))
 unfolding command_of
-row_again (Transaction t) rest fits = record_again 0x40406300 Transaction t rest fits
-row_again (Reply t) rest fits = record_again 0x40406301 Reply t rest fits
-row_again (FreeBuffer p) rest fits = pointer_again 0x40086303 FreeBuffer p rest fits
-row_again (Increfs n) rest fits = handle_again 0x40046304 Increfs n rest fits
-row_again (Acquire n) rest fits = handle_again 0x40046305 Acquire n rest fits
-row_again (Release n) rest fits = handle_again 0x40046306 Release n rest fits
-row_again (Decrefs n) rest fits = handle_again 0x40046307 Decrefs n rest fits
-row_again (IncrefsDone p q) rest fits = pointer_and_cookie_again 0x40106308 IncrefsDone p q rest fits.0 fits.1
-row_again (AcquireDone p q) rest fits = pointer_and_cookie_again 0x40106309 AcquireDone p q rest fits.0 fits.1
-row_again EnterLooper rest fits = bare_again 0x0000630c EnterLooper rest
-row_again ExitLooper rest fits = bare_again 0x0000630d ExitLooper rest
-row_again (RequestDeathNotification n q) rest fits = handle_and_cookie_again 0x400c630e RequestDeathNotification n q rest fits.0 fits.1
-row_again (ClearDeathNotification n q) rest fits = handle_and_cookie_again 0x400c630f ClearDeathNotification n q rest fits.0 fits.1
-row_again (DeadBinderDone p) rest fits = pointer_again 0x40086310 DeadBinderDone p rest fits
+row_again (Transaction t) rest fits = record_again (command_code (Transaction t)) Transaction t rest fits
+row_again (Reply t) rest fits = record_again (command_code (Reply t)) Reply t rest fits
+row_again (FreeBuffer p) rest fits = pointer_again (command_code (FreeBuffer p)) FreeBuffer p rest fits
+row_again (Increfs n) rest fits = handle_again (command_code (Increfs n)) Increfs n rest fits
+row_again (Acquire n) rest fits = handle_again (command_code (Acquire n)) Acquire n rest fits
+row_again (Release n) rest fits = handle_again (command_code (Release n)) Release n rest fits
+row_again (Decrefs n) rest fits = handle_again (command_code (Decrefs n)) Decrefs n rest fits
+row_again (IncrefsDone p q) rest fits = pointer_and_cookie_again (command_code (IncrefsDone p q)) IncrefsDone p q rest fits.0 fits.1
+row_again (AcquireDone p q) rest fits = pointer_and_cookie_again (command_code (AcquireDone p q)) AcquireDone p q rest fits.0 fits.1
+row_again EnterLooper rest fits = bare_again (command_code EnterLooper) EnterLooper rest
+row_again ExitLooper rest fits = bare_again (command_code ExitLooper) ExitLooper rest
+row_again (RequestDeathNotification n q) rest fits = handle_and_cookie_again (command_code (RequestDeathNotification n q)) RequestDeathNotification n q rest fits.0 fits.1
+row_again (ClearDeathNotification n q) rest fits = handle_and_cookie_again (command_code (ClearDeathNotification n q)) ClearDeathNotification n q rest fits.0 fits.1
+row_again (DeadBinderDone p) rest fits = pointer_again (command_code (DeadBinderDone p)) DeadBinderDone p rest fits
 
 pub command_again : (c : Command) (rest : List ℕ) → IsCommand c → command_at (command_bytes c ++ rest) ≡ Ok (c, length (command_bytes c))
 command_again c rest fits = code_again command_of (command_code c) (command_payload c ++ rest) _ (code_fits c) (row_again c rest fits)

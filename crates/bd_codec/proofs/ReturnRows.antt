@@ -14,28 +14,28 @@ use Rattle.bd_codec.proofs.Tables.{found_in, code_again, apart, Says, Plain, tab
 
 rows_right : AllByRecursion (Right return_bytes IsReturn) return_rows
 rows_right = (
-  record_right return_bytes IsReturn 0x80407202 Transaction (λ t. refl) (λ t h. h),
+  record_right return_bytes IsReturn return_code Transaction (λ t. refl) (λ t h. h),
   (
-    record_right return_bytes IsReturn 0x80407203 Reply (λ t. refl) (λ t h. h),
+    record_right return_bytes IsReturn return_code Reply (λ t. refl) (λ t h. h),
     (
-      bare_right return_bytes IsReturn 0x00007205 DeadReply refl tt,
+      bare_right return_bytes IsReturn return_code DeadReply refl tt,
       (
-        bare_right return_bytes IsReturn 0x00007206 TransactionComplete refl tt,
+        bare_right return_bytes IsReturn return_code TransactionComplete refl tt,
         (
-          pointer_and_cookie_right return_bytes IsReturn 0x80107207 Increfs (λ m n. refl) (λ m n h k. (h, k)),
+          pointer_and_cookie_right return_bytes IsReturn return_code Increfs (λ m n. refl) (λ m n h k. (h, k)),
           (
-            pointer_and_cookie_right return_bytes IsReturn 0x80107208 Acquire (λ m n. refl) (λ m n h k. (h, k)),
+            pointer_and_cookie_right return_bytes IsReturn return_code Acquire (λ m n. refl) (λ m n h k. (h, k)),
             (
-              pointer_and_cookie_right return_bytes IsReturn 0x80107209 Release (λ m n. refl) (λ m n h k. (h, k)),
+              pointer_and_cookie_right return_bytes IsReturn return_code Release (λ m n. refl) (λ m n h k. (h, k)),
               (
-                pointer_and_cookie_right return_bytes IsReturn 0x8010720a Decrefs (λ m n. refl) (λ m n h k. (h, k)),
+                pointer_and_cookie_right return_bytes IsReturn return_code Decrefs (λ m n. refl) (λ m n h k. (h, k)),
                 (
-                  bare_right return_bytes IsReturn 0x0000720c Noop refl tt,
+                  bare_right return_bytes IsReturn return_code Noop refl tt,
                   (
-                    pointer_right return_bytes IsReturn 0x8008720f DeadBinder (λ n. refl) (λ n h. h),
+                    pointer_right return_bytes IsReturn return_code DeadBinder (λ n. refl) (λ n h. h),
                     (
-                      pointer_right return_bytes IsReturn 0x80087210 ClearDeathNotificationDone (λ n. refl) (λ n h. h),
-                      (bare_right return_bytes IsReturn 0x00007211 FailedReply refl tt, tt),
+                      pointer_right return_bytes IsReturn return_code ClearDeathNotificationDone (λ n. refl) (λ n h. h),
+                      (bare_right return_bytes IsReturn return_code FailedReply refl tt, tt),
                     ),
                   ),
                 ),
@@ -68,18 +68,18 @@ code_fits FailedReply = lit< tt
 
 row_again : (r : Return) (rest : List ℕ) → IsReturn r → return_of (return_code r) (return_bytes r ++ rest) ≡ Ok (r, length (return_bytes r))
 unfolding return_of
-row_again (Transaction t) rest fits = record_again 0x80407202 Transaction t rest fits
-row_again (Reply t) rest fits = record_again 0x80407203 Reply t rest fits
-row_again DeadReply rest fits = bare_again 0x00007205 DeadReply rest
-row_again TransactionComplete rest fits = bare_again 0x00007206 TransactionComplete rest
-row_again (Increfs p q) rest fits = pointer_and_cookie_again 0x80107207 Increfs p q rest fits.0 fits.1
-row_again (Acquire p q) rest fits = pointer_and_cookie_again 0x80107208 Acquire p q rest fits.0 fits.1
-row_again (Release p q) rest fits = pointer_and_cookie_again 0x80107209 Release p q rest fits.0 fits.1
-row_again (Decrefs p q) rest fits = pointer_and_cookie_again 0x8010720a Decrefs p q rest fits.0 fits.1
-row_again Noop rest fits = bare_again 0x0000720c Noop rest
-row_again (DeadBinder p) rest fits = pointer_again 0x8008720f DeadBinder p rest fits
-row_again (ClearDeathNotificationDone p) rest fits = pointer_again 0x80087210 ClearDeathNotificationDone p rest fits
-row_again FailedReply rest fits = bare_again 0x00007211 FailedReply rest
+row_again (Transaction t) rest fits = record_again (return_code (Transaction t)) Transaction t rest fits
+row_again (Reply t) rest fits = record_again (return_code (Reply t)) Reply t rest fits
+row_again DeadReply rest fits = bare_again (return_code DeadReply) DeadReply rest
+row_again TransactionComplete rest fits = bare_again (return_code TransactionComplete) TransactionComplete rest
+row_again (Increfs p q) rest fits = pointer_and_cookie_again (return_code (Increfs p q)) Increfs p q rest fits.0 fits.1
+row_again (Acquire p q) rest fits = pointer_and_cookie_again (return_code (Acquire p q)) Acquire p q rest fits.0 fits.1
+row_again (Release p q) rest fits = pointer_and_cookie_again (return_code (Release p q)) Release p q rest fits.0 fits.1
+row_again (Decrefs p q) rest fits = pointer_and_cookie_again (return_code (Decrefs p q)) Decrefs p q rest fits.0 fits.1
+row_again Noop rest fits = bare_again (return_code Noop) Noop rest
+row_again (DeadBinder p) rest fits = pointer_again (return_code (DeadBinder p)) DeadBinder p rest fits
+row_again (ClearDeathNotificationDone p) rest fits = pointer_again (return_code (ClearDeathNotificationDone p)) ClearDeathNotificationDone p rest fits
+row_again FailedReply rest fits = bare_again (return_code FailedReply) FailedReply rest
 
 pub return_again : (r : Return) (rest : List ℕ) → IsReturn r → return_at (return_bytes r ++ rest) ≡ Ok (r, length (return_bytes r))
 return_again r rest fits = code_again return_of (return_code r) (return_payload r ++ rest) _ (code_fits r) (row_again r rest fits)

@@ -49,44 +49,44 @@ pub record Right {A : Type 0} (spelling : A → List ℕ) (IsValue : A → Type 
   pub spelled : (bytes : List ℕ) → IsBytes bytes → row.size ≤ length bytes → word_at 0 bytes ≡ row.code → spelling (row.value bytes) ≡ take row.size bytes
   pub fits : (bytes : List ℕ) → IsBytes bytes → IsValue (row.value bytes)
 
-pub bare_right : {A : Type 0} (spelling : A → List ℕ) (IsValue : A → Type 0) (code : ℕ) (x : A) → spelling x ≡ word code ++ [] → IsValue x → Right spelling IsValue (bare_row code x)
+pub bare_right : {A : Type 0} (spelling : A → List ℕ) (IsValue : A → Type 0) (code : A → ℕ) (x : A) → spelling x ≡ word (code x) ++ [] → IsValue x → Right spelling IsValue (bare_row code x)
 bare_right spelling IsValue code x e fits = record {
-  spelled = λ b h le is. e ∙ whole code 0 b [] h le is refl;
+  spelled = λ b h le is. e ∙ whole (code x) 0 b [] h le is refl;
   fits = λ b h. fits;
 }
 
-pub record_right : {A : Type 0} (spelling : A → List ℕ) (IsValue : A → Type 0) (code : ℕ) (f : TransactionData → A)
-    → ((t : TransactionData) → spelling (f t) ≡ word code ++ record_bytes t) → ((t : TransactionData) → IsRecord t → IsValue (f t)) → Right spelling IsValue (record_row code f)
+pub record_right : {A : Type 0} (spelling : A → List ℕ) (IsValue : A → Type 0) (code : A → ℕ) (f : TransactionData → A)
+    → ((t : TransactionData) → spelling (f t) ≡ word (code (f (record_at 0 []))) ++ record_bytes t) → ((t : TransactionData) → IsRecord t → IsValue (f t)) → Right spelling IsValue (record_row code f)
 record_right spelling IsValue code f e fits = record {
-  spelled = λ b h le is. e (record_at 4 b) ∙ whole code 64 b (record_bytes (record_at 4 b)) h le is (record_takes b h le);
+  spelled = λ b h le is. e (record_at 4 b) ∙ whole (code (f (record_at 0 []))) 64 b (record_bytes (record_at 4 b)) h le is (record_takes b h le);
   fits = λ b h. fits (record_at 4 b) (record_fits b h);
 }
 
-pub handle_right : {A : Type 0} (spelling : A → List ℕ) (IsValue : A → Type 0) (code : ℕ) (f : ℕ → A)
-    → ((n : ℕ) → spelling (f n) ≡ word code ++ word n) → ((n : ℕ) → n < 2 ^ 32 → IsValue (f n)) → Right spelling IsValue (handle_row code f)
+pub handle_right : {A : Type 0} (spelling : A → List ℕ) (IsValue : A → Type 0) (code : A → ℕ) (f : ℕ → A)
+    → ((n : ℕ) → spelling (f n) ≡ word (code (f 0)) ++ word n) → ((n : ℕ) → n < 2 ^ 32 → IsValue (f n)) → Right spelling IsValue (handle_row code f)
 handle_right spelling IsValue code f e fits = record {
-  spelled = λ b h le is. e (word_at 4 b) ∙ whole code 4 b (word (word_at 4 b)) h le is (word_takes 4 b h le);
+  spelled = λ b h le is. e (word_at 4 b) ∙ whole (code (f 0)) 4 b (word (word_at 4 b)) h le is (word_takes 4 b h le);
   fits = λ b h. fits (word_at 4 b) (word_fits 4 b h);
 }
 
-pub pointer_right : {A : Type 0} (spelling : A → List ℕ) (IsValue : A → Type 0) (code : ℕ) (f : ℕ → A)
-    → ((n : ℕ) → spelling (f n) ≡ word code ++ long n) → ((n : ℕ) → n < 2 ^ 64 → IsValue (f n)) → Right spelling IsValue (pointer_row code f)
+pub pointer_right : {A : Type 0} (spelling : A → List ℕ) (IsValue : A → Type 0) (code : A → ℕ) (f : ℕ → A)
+    → ((n : ℕ) → spelling (f n) ≡ word (code (f 0)) ++ long n) → ((n : ℕ) → n < 2 ^ 64 → IsValue (f n)) → Right spelling IsValue (pointer_row code f)
 pointer_right spelling IsValue code f e fits = record {
-  spelled = λ b h le is. e (long_at 4 b) ∙ whole code 8 b (long (long_at 4 b)) h le is (long_takes 4 b h le);
+  spelled = λ b h le is. e (long_at 4 b) ∙ whole (code (f 0)) 8 b (long (long_at 4 b)) h le is (long_takes 4 b h le);
   fits = λ b h. fits (long_at 4 b) (long_fits 4 b h);
 }
 
-pub pointer_and_cookie_right : {A : Type 0} (spelling : A → List ℕ) (IsValue : A → Type 0) (code : ℕ) (f : ℕ → ℕ → A)
-    → ((m n : ℕ) → spelling (f m n) ≡ word code ++ (long m ++ long n)) → ((m n : ℕ) → m < 2 ^ 64 → n < 2 ^ 64 → IsValue (f m n)) → Right spelling IsValue (pointer_and_cookie_row code f)
+pub pointer_and_cookie_right : {A : Type 0} (spelling : A → List ℕ) (IsValue : A → Type 0) (code : A → ℕ) (f : ℕ → ℕ → A)
+    → ((m n : ℕ) → spelling (f m n) ≡ word (code (f 0 0)) ++ (long m ++ long n)) → ((m n : ℕ) → m < 2 ^ 64 → n < 2 ^ 64 → IsValue (f m n)) → Right spelling IsValue (pointer_and_cookie_row code f)
 pointer_and_cookie_right spelling IsValue code f e fits = record {
-  spelled = λ b h le is. e (long_at 4 b) (long_at 12 b) ∙ whole code 16 b (long (long_at 4 b) ++ long (long_at 12 b)) h le is (glue 4 8 8 b _ _ (long_takes 4 b h (omega arith)) (long_takes 12 b h le));
+  spelled = λ b h le is. e (long_at 4 b) (long_at 12 b) ∙ whole (code (f 0 0)) 16 b (long (long_at 4 b) ++ long (long_at 12 b)) h le is (glue 4 8 8 b _ _ (long_takes 4 b h (omega arith)) (long_takes 12 b h le));
   fits = λ b h. fits (long_at 4 b) (long_at 12 b) (long_fits 4 b h) (long_fits 12 b h);
 }
 
-pub handle_and_cookie_right : {A : Type 0} (spelling : A → List ℕ) (IsValue : A → Type 0) (code : ℕ) (f : ℕ → ℕ → A)
-    → ((m n : ℕ) → spelling (f m n) ≡ word code ++ (word m ++ long n)) → ((m n : ℕ) → m < 2 ^ 32 → n < 2 ^ 64 → IsValue (f m n)) → Right spelling IsValue (handle_and_cookie_row code f)
+pub handle_and_cookie_right : {A : Type 0} (spelling : A → List ℕ) (IsValue : A → Type 0) (code : A → ℕ) (f : ℕ → ℕ → A)
+    → ((m n : ℕ) → spelling (f m n) ≡ word (code (f 0 0)) ++ (word m ++ long n)) → ((m n : ℕ) → m < 2 ^ 32 → n < 2 ^ 64 → IsValue (f m n)) → Right spelling IsValue (handle_and_cookie_row code f)
 handle_and_cookie_right spelling IsValue code f e fits = record {
-  spelled = λ b h le is. e (word_at 4 b) (long_at 8 b) ∙ whole code 12 b (word (word_at 4 b) ++ long (long_at 8 b)) h le is (glue 4 4 8 b _ _ (word_takes 4 b h (omega arith)) (long_takes 8 b h le));
+  spelled = λ b h le is. e (word_at 4 b) (long_at 8 b) ∙ whole (code (f 0 0)) 12 b (word (word_at 4 b) ++ long (long_at 8 b)) h le is (glue 4 4 8 b _ _ (word_takes 4 b h (omega arith)) (long_takes 8 b h le));
   fits = λ b h. fits (word_at 4 b) (long_at 8 b) (word_fits 4 b h) (long_fits 8 b h);
 }
 

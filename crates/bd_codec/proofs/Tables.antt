@@ -7,9 +7,10 @@ use Rattle.std.proofs.lemmas.Bool.{ltb-false, le-ltb, eqb-true}
 use Rattle.bd_uapi.specs.declared.fault.Fault.{Fault}
 use Rattle.bd_uapi.specs.declared.fault.Fault.TheVariants.{ShortCommand, UnknownCommand, RefusedCommand}
 use Rattle.bd_uapi.specs.Bytes.{word, number, word_at}
-use Rattle.bd_uapi.proofs.Pieces.{IsBytes, word_again}
+use Rattle.bd_uapi.proofs.Pieces.{IsBytes, word_is, word_again}
 use Rattle.bd_codec.specs.Spelling.{Found}
-use Rattle.bd_codec.specs.Faults.{is_in, payload_size, fault_by, fault_among}
+use Rattle.bd_uapi.specs.Codes.{is_in}
+use Rattle.bd_codec.specs.Faults.{payload_size, fault_by, fault_among}
 use Rattle.bd_codec.specs.Reading.{sized, Row, row_in, by_row, by_table, by_code}
 use Rattle.bd_codec.proofs.Shapes.{Right}
 
@@ -109,19 +110,11 @@ by_row_says refused (row ∷ rows) code bytes plain =
       | inr miss ↦ rw miss (by_row_says refused rows code bytes plain.1)
     ]
 
-number_is : (bytes : List ℕ) → 4 ≤ length bytes → word_at 0 bytes ≡ number (take 4 bytes)
-unfolding word_at
-number_is [] le = absurd (omega arith)
-number_is (a ∷ []) le = absurd (omega arith)
-number_is (a ∷ b ∷ []) le = absurd (omega arith)
-number_is (a ∷ b ∷ c ∷ []) le = absurd (omega arith)
-number_is (a ∷ b ∷ c ∷ d ∷ bytes) le = refl
-
 long_says : {A : Type 0} (refused : List ℕ) (rows : List (Row A)) (b : Bool) (bytes : List ℕ) → AllByRecursion (Plain refused) rows → ltb (length bytes) 4 ≡ b
     → Says (cond b (Err ShortCommand) (by_table refused rows (word_at 0 bytes) bytes))
     (cond b (Some ShortCommand) (let code = number (take 4 bytes) in fault_by (is_in refused code) (is_in (map (λ r. r.code) rows) code) code (length bytes)))
 long_says refused rows true bytes plain e = refl
-long_says refused rows false bytes plain e = rw (← number_is bytes (ltb-false _ _ e)) (by_row_says refused rows (word_at 0 bytes) bytes plain)
+long_says refused rows false bytes plain e = rw (← word_is 0 bytes (ltb-false _ _ e)) (by_row_says refused rows (word_at 0 bytes) bytes plain)
 
 pub table_says : {A : Type 0} (refused : List ℕ) (rows : List (Row A)) (bytes : List ℕ) → AllByRecursion (Plain refused) rows
     → Says (by_code (by_table refused rows) bytes) (fault_among refused (map (λ r. r.code) rows) bytes)

@@ -9,7 +9,8 @@ use Rattle.bd_uapi.specs.declared.command.Return.{Return}
 use Rattle.bd_uapi.specs.declared.command.Return.TheVariants as returned
 use Rattle.bd_uapi.specs.declared.fault.Fault.{Fault}
 use Rattle.bd_uapi.specs.declared.fault.Fault.TheVariants.{ShortCommand, UnknownCommand, RefusedCommand}
-use Rattle.bd_codec.specs.Faults.{is_in, refused_codes}
+use Rattle.bd_uapi.specs.Codes.{is_in}
+use Rattle.bd_codec.specs.Spelling.{command_code, return_code, refused_codes}
 
 -- the record that stands at a place
 unfoldable pub record_at : ℕ → List ℕ → TransactionData
@@ -36,57 +37,57 @@ pub record Row (A : Type 0) : Type 0 where
   pub size : ℕ
   pub value : List ℕ → A
 
--- the rows by their payload
-abbrev pub bare_row : {A : Type 0} → ℕ → A → Row A
-bare_row code x = record { code = code; size = 4; value = λ bytes. x }
+-- the rows by their payload: each value is made of the numbers there, and has one code whatever they are
+abbrev pub bare_row : {A : Type 0} → (A → ℕ) → A → Row A
+bare_row code x = record { code = code x; size = 4; value = λ bytes. x }
 
-abbrev pub record_row : {A : Type 0} → ℕ → (TransactionData → A) → Row A
-record_row code f = record { code = code; size = 68; value = λ bytes. f (record_at 4 bytes) }
+abbrev pub record_row : {A : Type 0} → (A → ℕ) → (TransactionData → A) → Row A
+record_row code f = record { code = code (f (record_at 0 [])); size = 68; value = λ bytes. f (record_at 4 bytes) }
 
-abbrev pub handle_row : {A : Type 0} → ℕ → (ℕ → A) → Row A
-handle_row code f = record { code = code; size = 8; value = λ bytes. f (word_at 4 bytes) }
+abbrev pub handle_row : {A : Type 0} → (A → ℕ) → (ℕ → A) → Row A
+handle_row code f = record { code = code (f 0); size = 8; value = λ bytes. f (word_at 4 bytes) }
 
-abbrev pub pointer_row : {A : Type 0} → ℕ → (ℕ → A) → Row A
-pointer_row code f = record { code = code; size = 12; value = λ bytes. f (long_at 4 bytes) }
+abbrev pub pointer_row : {A : Type 0} → (A → ℕ) → (ℕ → A) → Row A
+pointer_row code f = record { code = code (f 0); size = 12; value = λ bytes. f (long_at 4 bytes) }
 
-abbrev pub pointer_and_cookie_row : {A : Type 0} → ℕ → (ℕ → ℕ → A) → Row A
-pointer_and_cookie_row code f = record { code = code; size = 20; value = λ bytes. f (long_at 4 bytes) (long_at 12 bytes) }
+abbrev pub pointer_and_cookie_row : {A : Type 0} → (A → ℕ) → (ℕ → ℕ → A) → Row A
+pointer_and_cookie_row code f = record { code = code (f 0 0); size = 20; value = λ bytes. f (long_at 4 bytes) (long_at 12 bytes) }
 
-abbrev pub handle_and_cookie_row : {A : Type 0} → ℕ → (ℕ → ℕ → A) → Row A
-handle_and_cookie_row code f = record { code = code; size = 16; value = λ bytes. f (word_at 4 bytes) (long_at 8 bytes) }
+abbrev pub handle_and_cookie_row : {A : Type 0} → (A → ℕ) → (ℕ → ℕ → A) → Row A
+handle_and_cookie_row code f = record { code = code (f 0 0); size = 16; value = λ bytes. f (word_at 4 bytes) (long_at 8 bytes) }
 
 abbrev pub command_rows : List (Row Command)
 command_rows =
-    record_row 0x40406300 command.Transaction
-    ∷ record_row 0x40406301 command.Reply
-    ∷ pointer_row 0x40086303 command.FreeBuffer
-    ∷ handle_row 0x40046304 command.Increfs
-    ∷ handle_row 0x40046305 command.Acquire
-    ∷ handle_row 0x40046306 command.Release
-    ∷ handle_row 0x40046307 command.Decrefs
-    ∷ pointer_and_cookie_row 0x40106308 command.IncrefsDone
-    ∷ pointer_and_cookie_row 0x40106309 command.AcquireDone
-    ∷ bare_row 0x0000630c command.EnterLooper
-    ∷ bare_row 0x0000630d command.ExitLooper
-    ∷ handle_and_cookie_row 0x400c630e command.RequestDeathNotification
-    ∷ handle_and_cookie_row 0x400c630f command.ClearDeathNotification
-    ∷ pointer_row 0x40086310 command.DeadBinderDone
+    record_row command_code command.Transaction
+    ∷ record_row command_code command.Reply
+    ∷ pointer_row command_code command.FreeBuffer
+    ∷ handle_row command_code command.Increfs
+    ∷ handle_row command_code command.Acquire
+    ∷ handle_row command_code command.Release
+    ∷ handle_row command_code command.Decrefs
+    ∷ pointer_and_cookie_row command_code command.IncrefsDone
+    ∷ pointer_and_cookie_row command_code command.AcquireDone
+    ∷ bare_row command_code command.EnterLooper
+    ∷ bare_row command_code command.ExitLooper
+    ∷ handle_and_cookie_row command_code command.RequestDeathNotification
+    ∷ handle_and_cookie_row command_code command.ClearDeathNotification
+    ∷ pointer_row command_code command.DeadBinderDone
     ∷ []
 
 abbrev pub return_rows : List (Row Return)
 return_rows =
-    record_row 0x80407202 returned.Transaction
-    ∷ record_row 0x80407203 returned.Reply
-    ∷ bare_row 0x00007205 returned.DeadReply
-    ∷ bare_row 0x00007206 returned.TransactionComplete
-    ∷ pointer_and_cookie_row 0x80107207 returned.Increfs
-    ∷ pointer_and_cookie_row 0x80107208 returned.Acquire
-    ∷ pointer_and_cookie_row 0x80107209 returned.Release
-    ∷ pointer_and_cookie_row 0x8010720a returned.Decrefs
-    ∷ bare_row 0x0000720c returned.Noop
-    ∷ pointer_row 0x8008720f returned.DeadBinder
-    ∷ pointer_row 0x80087210 returned.ClearDeathNotificationDone
-    ∷ bare_row 0x00007211 returned.FailedReply
+    record_row return_code returned.Transaction
+    ∷ record_row return_code returned.Reply
+    ∷ bare_row return_code returned.DeadReply
+    ∷ bare_row return_code returned.TransactionComplete
+    ∷ pointer_and_cookie_row return_code returned.Increfs
+    ∷ pointer_and_cookie_row return_code returned.Acquire
+    ∷ pointer_and_cookie_row return_code returned.Release
+    ∷ pointer_and_cookie_row return_code returned.Decrefs
+    ∷ bare_row return_code returned.Noop
+    ∷ pointer_row return_code returned.DeadBinder
+    ∷ pointer_row return_code returned.ClearDeathNotificationDone
+    ∷ bare_row return_code returned.FailedReply
     ∷ []
 
 abbrev pub row_in : {A : Type 0} → List (Row A) → ℕ → Option (Row A)

@@ -1,5 +1,5 @@
 -- The bytes of commands and returns: four for the code, then what the code calls for.
-use Rattle.std.specs.Prelude.{◌≡◌, ◌≤◌, length, take, ◌<◌, ◌^◌, ℕ, List, [], ◌++◌}
+use Rattle.std.specs.Prelude.{◌≡◌, ◌≤◌, length, take, ◌<◌, ◌^◌, ℕ, List, [], ◌∷◌, ◌++◌}
 use Rattle.bd_uapi.specs.Bytes.{word, long}
 use Rattle.bd_uapi.specs.Records.{record_bytes, IsRecord}
 use Rattle.bd_uapi.specs.declared.command.Command.{Command}
@@ -23,6 +23,10 @@ command_code ExitLooper = 0x0000630d
 command_code (RequestDeathNotification number cookie) = 0x400c630e
 command_code (ClearDeathNotification number cookie) = 0x400c630f
 command_code (DeadBinderDone cookie) = 0x40086310
+
+-- the codes of the commands that are refused by name
+abbrev pub refused_codes : List ℕ
+refused_codes = 0x40046302 ∷ 0x4008630a ∷ 0x0000630b ∷ 0x40486311 ∷ 0x40486312 ∷ []
 
 -- what follows the code
 abbrev pub command_payload : Command → List ℕ

@@ -1,17 +1,14 @@
 //! Reading and writing commands.
 
-ghost use Rattle.std.specs.Prelude.{◌≡◌, ◌≤◌, ◌<◌, ◌+◌, ◌++◌, ℕ, List, length, take, Ok, Some, None, IfOk, MatchResult, OnOk, OnErr, IfErr, vec_len, vec_capacity};
+ghost use Rattle.std.specs.Prelude.{◌≡◌, ◌≤◌, ◌<◌, ◌+◌, ◌++◌, ℕ, List, length, Ok, Some, None, IfOk, MatchResult, OnOk, OnErr, IfErr, vec_len, vec_capacity};
 ghost use Rattle.bd_uapi.specs.declared.command.Command.{Command};
 ghost use Rattle.bd_uapi.specs.declared.fault.Fault.TheVariants.{NoMemory};
 ghost use Rattle.bd_codec.specs.Spelling.{command_bytes, IsCommand, Found};
 ghost use Rattle.bd_codec.specs.Faults.{command_fault};
 ghost use Rattle.bd_codec.specs.Reading.{command_at, command_of};
 
-use crate::fields::u32_at;
-use crate::payloads::{
-    LONGEST, append, handle, handle_and_cookie, pointer, pointer_and_cookie, put_bare, put_handle,
-    put_handle_and_cookie, put_pointer, put_pointer_and_cookie, put_record, record,
-};
+use crate::payloads::{code, handle, handle_and_cookie, pointer, pointer_and_cookie, record};
+use crate::spelling::Spelling;
 use bd_uapi::codes::*;
 use bd_uapi::{Command, Fault};
 
@@ -59,10 +56,7 @@ fn command_with(code: u32, bytes: &[u8]) -> Result<(Command, usize), Fault>
 fn first_command(bytes: &[u8]) -> Result<(Command, usize), Fault>
     ensures { result ≡ command_at bytes.now }
 {
-    if bytes.len() < 4 {
-        return Err(Fault::ShortCommand);
-    }
-    command_with(u32_at(bytes, 0), bytes)
+    command_with(code(bytes)?, bytes)
 }
 
 /// Reads one command from the head of a stream, and tells its length. What comes after it isn't looked at.
@@ -84,41 +78,40 @@ pub fn read_command(bytes: &[u8]) -> Result<(Command, usize), Fault>
     first_command(bytes)
 }
 
-// Writes the spelling to the head of a buffer. The result is its length.
-fn spell(c: &Command, out: &mut [u8]) -> usize
-    requires { 68 ≤ length out.old }
-    ensures within { result ≤ 68 }
-    ensures spelled { take result out.new ≡ command_bytes c.now }
+/// The command's spelling, without memory.
+pub fn spell_command(c: &Command) -> Spelling
+    ensures spelled { result ≡ command_bytes c.now }
+    ensures within { length result ≤ 68 }
+    // Each number of a command has its width.
+    ensures fits { IsCommand c.now }
 {
     match c {
-        Command::Transaction(t) => put_record(out, BC_TRANSACTION, t),
-        Command::Reply(t) => put_record(out, BC_REPLY, t),
-        Command::FreeBuffer(pointer) => put_pointer(out, BC_FREE_BUFFER, *pointer),
-        Command::Increfs(handle) => put_handle(out, BC_INCREFS, *handle),
-        Command::Acquire(handle) => put_handle(out, BC_ACQUIRE, *handle),
-        Command::Release(handle) => put_handle(out, BC_RELEASE, *handle),
-        Command::Decrefs(handle) => put_handle(out, BC_DECREFS, *handle),
-        Command::IncrefsDone(pointer, cookie) => put_pointer_and_cookie(
-            out,
-            BC_INCREFS_DONE,
-            *pointer,
-            *cookie,
-        ),
-        Command::AcquireDone(pointer, cookie) => put_pointer_and_cookie(
-            out,
-            BC_ACQUIRE_DONE,
-            *pointer,
-            *cookie,
-        ),
-        Command::EnterLooper => put_bare(out, BC_ENTER_LOOPER),
-        Command::ExitLooper => put_bare(out, BC_EXIT_LOOPER),
+        Command::Transaction(t) => Spelling::of(BC_TRANSACTION).record(t),
+        Command::Reply(t) => Spelling::of(BC_REPLY).record(t),
+        Command::FreeBuffer(pointer) => Spelling::of(BC_FREE_BUFFER).long(*pointer),
+        Command::Increfs(handle) => Spelling::of(BC_INCREFS).word(*handle),
+        Command::Acquire(handle) => Spelling::of(BC_ACQUIRE).word(*handle),
+        Command::Release(handle) => Spelling::of(BC_RELEASE).word(*handle),
+        Command::Decrefs(handle) => Spelling::of(BC_DECREFS).word(*handle),
+        Command::IncrefsDone(pointer, cookie) => {
+            Spelling::of(BC_INCREFS_DONE).long(*pointer).long(*cookie)
+        }
+        Command::AcquireDone(pointer, cookie) => {
+            Spelling::of(BC_ACQUIRE_DONE).long(*pointer).long(*cookie)
+        }
+        Command::EnterLooper => Spelling::of(BC_ENTER_LOOPER),
+        Command::ExitLooper => Spelling::of(BC_EXIT_LOOPER),
         Command::RequestDeathNotification(handle, cookie) => {
-            put_handle_and_cookie(out, BC_REQUEST_DEATH_NOTIFICATION, *handle, *cookie)
+            Spelling::of(BC_REQUEST_DEATH_NOTIFICATION)
+                .word(*handle)
+                .long(*cookie)
         }
         Command::ClearDeathNotification(handle, cookie) => {
-            put_handle_and_cookie(out, BC_CLEAR_DEATH_NOTIFICATION, *handle, *cookie)
+            Spelling::of(BC_CLEAR_DEATH_NOTIFICATION)
+                .word(*handle)
+                .long(*cookie)
         }
-        Command::DeadBinderDone(cookie) => put_pointer(out, BC_DEAD_BINDER_DONE, *cookie),
+        Command::DeadBinderDone(cookie) => Spelling::of(BC_DEAD_BINDER_DONE).long(*cookie),
     }
 }
 
@@ -133,9 +126,7 @@ pub fn write_command(c: &Command, out: &mut Vec<u8>) -> Result<(), Fault>
     // Memory was asked for: there was no room.
     ensures grown { OnErr result (vec_capacity out.old < vec_len out.old + length (command_bytes c.now)) }
 {
-    let mut buffer = [0u8; LONGEST];
-    let len = spell(c, &mut buffer);
-    append(&buffer[..len], out)
+    Ok(out.extend_from_slice(spell_command(c).as_slice())?)
 }
 
 /// No command's spelling begins another's.

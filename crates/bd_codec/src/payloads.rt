@@ -1,16 +1,41 @@
-//! The payloads of commands and returns, read and written behind a code.
+//! The payloads of commands and returns, read behind a code.
 
-ghost use Rattle.std.specs.Prelude.{◌≡◌, ◌≤◌, ◌<◌, ◌+◌, ◌++◌, length, take, OnOk, OnErr, IfErr, vec_len, vec_capacity};
-ghost use Rattle.bd_uapi.specs.Bytes.{word, long, word_at, long_at};
-ghost use Rattle.bd_uapi.specs.Records.{record_bytes};
-ghost use Rattle.bd_uapi.specs.declared.fault.Fault.TheVariants.{NoMemory};
+ghost use Rattle.std.specs.Prelude.{◌≡◌, ◌≤◌, ◌+◌, length};
+ghost use Rattle.bd_uapi.specs.Bytes.{word_at, long_at};
 ghost use Rattle.bd_codec.specs.Reading.{record_at, sized};
 
-use crate::fields::{put_fields, put_u32, put_u64, record_of, u32_at, u64_at};
-use bd_uapi::{Fault, TransactionData};
+use bd_uapi::numbers::{u32_at, u64_at};
+use bd_uapi::{Fault, TransactionData, TransactionFlags};
+use bitflags::Flags;
 
-/// The longest spelling: a code and a record.
-pub const LONGEST: usize = 68;
+// The code.
+pub fn code(bytes: &[u8]) -> Result<u32, Fault>
+    ensures { result ≡ sized 4 bytes.now (word_at 0 bytes.now) }
+{
+    if bytes.len() < 4 {
+        return Err(Fault::ShortCommand);
+    }
+    Ok(u32_at(bytes, 0))
+}
+
+#[tactic(auto, unfolding(crate::specs::Reading::record_at))]
+fn record_of(bytes: &[u8], at: usize) -> TransactionData
+    requires { at + 64 ≤ length bytes.now }
+    ensures { result ≡ record_at at bytes.now }
+{
+    TransactionData {
+        target: u64_at(bytes, at),
+        cookie: u64_at(bytes, at + 8),
+        code: u32_at(bytes, at + 16),
+        flags: TransactionFlags::from_bits_retain(u32_at(bytes, at + 20)),
+        sender_pid: u32_at(bytes, at + 24).cast_signed(),
+        sender_euid: u32_at(bytes, at + 28),
+        data_size: u64_at(bytes, at + 32),
+        offsets_size: u64_at(bytes, at + 40),
+        buffer: u64_at(bytes, at + 48),
+        offsets: u64_at(bytes, at + 56),
+    }
+}
 
 pub fn record(bytes: &[u8]) -> Result<TransactionData, Fault>
     ensures { result ≡ sized 68 bytes.now (record_at 4 bytes.now) }
@@ -55,91 +80,4 @@ pub fn handle_and_cookie(bytes: &[u8]) -> Result<(u32, u64), Fault>
         return Err(Fault::ShortCommand);
     }
     Ok((u32_at(bytes, 4), u64_at(bytes, 8)))
-}
-
-// What follows writes a code and a payload to the head of a buffer; each result is how long they are.
-
-pub fn put_bare(out: &mut [u8], code: u32) -> usize
-    requires { 68 ≤ length out.old }
-    ensures within { result ≤ 68 }
-    ensures spelled { take result out.new ≡ word code }
-{
-    put_u32(out, 0, code);
-    4
-}
-
-pub fn put_record(out: &mut [u8], code: u32, t: &TransactionData) -> usize
-    requires { 68 ≤ length out.old }
-    ensures within { result ≤ 68 }
-    ensures spelled { take result out.new ≡ word code ++ record_bytes t.now }
-{
-    put_u32(out, 0, code);
-    put_fields(out, t);
-    68
-}
-
-pub fn put_handle(out: &mut [u8], code: u32, handle: u32) -> usize
-    requires { 68 ≤ length out.old }
-    ensures within { result ≤ 68 }
-    ensures spelled { take result out.new ≡ word code ++ word handle }
-{
-    put_u32(out, 0, code);
-    put_u32(out, 4, handle);
-    8
-}
-
-pub fn put_pointer(out: &mut [u8], code: u32, pointer: u64) -> usize
-    requires { 68 ≤ length out.old }
-    ensures within { result ≤ 68 }
-    ensures spelled { take result out.new ≡ word code ++ long pointer }
-{
-    put_u32(out, 0, code);
-    put_u64(out, 4, pointer);
-    12
-}
-
-pub fn put_pointer_and_cookie(out: &mut [u8], code: u32, pointer: u64, cookie: u64) -> usize
-    requires { 68 ≤ length out.old }
-    ensures within { result ≤ 68 }
-    ensures spelled { take result out.new ≡ word code ++ (long pointer ++ long cookie) }
-{
-    put_u32(out, 0, code);
-    put_u64(out, 4, pointer);
-    put_u64(out, 12, cookie);
-    20
-}
-
-pub fn put_handle_and_cookie(out: &mut [u8], code: u32, handle: u32, cookie: u64) -> usize
-    requires { 68 ≤ length out.old }
-    ensures within { result ≤ 68 }
-    ensures spelled { take result out.new ≡ word code ++ (word handle ++ long cookie) }
-{
-    put_u32(out, 0, code);
-    put_u32(out, 4, handle);
-    put_u64(out, 8, cookie);
-    16
-}
-
-/// Appends bytes, or nothing where memory is refused.
-pub fn append(bytes: &[u8], out: &mut Vec<u8>) -> Result<(), Fault>
-    ensures ok { OnOk result (out.new.items ≡ out.old.items ++ bytes.now) }
-    ensures err { OnErr result (out.new.items ≡ out.old.items) }
-    ensures memory { IfErr result (λ f. f ≡ NoMemory) }
-    ensures grown { OnErr result (vec_capacity out.old < vec_len out.old + length bytes.now) }
-{
-    match out.extend_from_slice(bytes) {
-        Ok(()) => Ok(()),
-        Err(_) => Err(Fault::NoMemory),
-    }
-}
-
-/// Appends bytes to a `Vec` that has room for them.
-pub fn append_reserved(bytes: &[u8], out: &mut Vec<u8>)
-    requires { vec_len out.old + length bytes.now ≤ vec_capacity out.old }
-    ensures items { out.new.items ≡ out.old.items ++ bytes.now }
-    ensures capacity { vec_capacity out.new ≡ vec_capacity out.old }
-{
-    for byte in bytes {
-        out.push_reserved(*byte);
-    }
 }

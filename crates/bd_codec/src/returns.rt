@@ -1,17 +1,14 @@
 //! Reading and writing returns.
 
-ghost use Rattle.std.specs.Prelude.{◌≡◌, ◌≤◌, ◌<◌, ◌+◌, ◌++◌, ℕ, List, length, take, Ok, Some, None, IfOk, MatchResult, OnOk, OnErr, IfErr, vec_len, vec_capacity};
+ghost use Rattle.std.specs.Prelude.{◌≡◌, ◌≤◌, ◌<◌, ◌+◌, ◌++◌, ℕ, List, length, Ok, Some, None, IfOk, MatchResult, OnOk, OnErr, IfErr, vec_len, vec_capacity};
 ghost use Rattle.bd_uapi.specs.declared.command.Return.{Return};
 ghost use Rattle.bd_uapi.specs.declared.fault.Fault.TheVariants.{NoMemory};
 ghost use Rattle.bd_codec.specs.Spelling.{return_bytes, IsReturn, Found};
 ghost use Rattle.bd_codec.specs.Faults.{return_fault};
 ghost use Rattle.bd_codec.specs.Reading.{return_at, return_of};
 
-use crate::fields::u32_at;
-use crate::payloads::{
-    LONGEST, append, append_reserved, pointer, pointer_and_cookie, put_bare, put_pointer,
-    put_pointer_and_cookie, put_record, record,
-};
+use crate::payloads::{code, pointer, pointer_and_cookie, record};
+use crate::spelling::Spelling;
 use bd_uapi::codes::*;
 use bd_uapi::{Fault, Return};
 
@@ -55,10 +52,7 @@ fn return_with(code: u32, bytes: &[u8]) -> Result<(Return, usize), Fault>
 fn first_return(bytes: &[u8]) -> Result<(Return, usize), Fault>
     ensures { result ≡ return_at bytes.now }
 {
-    if bytes.len() < 4 {
-        return Err(Fault::ShortCommand);
-    }
-    return_with(u32_at(bytes, 0), bytes)
+    return_with(code(bytes)?, bytes)
 }
 
 /// Reads one return from the head of a stream, and tells its length. What comes after it isn't looked at.
@@ -80,37 +74,36 @@ pub fn read_return(bytes: &[u8]) -> Result<(Return, usize), Fault>
     first_return(bytes)
 }
 
-// Writes the spelling to the head of a buffer. The result is its length.
-fn spell(r: &Return, out: &mut [u8]) -> usize
-    requires { 68 ≤ length out.old }
-    ensures within { result ≤ 68 }
-    ensures spelled { take result out.new ≡ return_bytes r.now }
+/// The return's spelling, without memory.
+pub fn spell_return(r: &Return) -> Spelling
+    ensures spelled { result ≡ return_bytes r.now }
+    ensures within { length result ≤ 68 }
+    // Each number of a return has its width.
+    ensures fits { IsReturn r.now }
 {
     match r {
-        Return::Transaction(t) => put_record(out, BR_TRANSACTION, t),
-        Return::Reply(t) => put_record(out, BR_REPLY, t),
-        Return::DeadReply => put_bare(out, BR_DEAD_REPLY),
-        Return::TransactionComplete => put_bare(out, BR_TRANSACTION_COMPLETE),
-        Return::Increfs(pointer, cookie) => put_pointer_and_cookie(
-            out, BR_INCREFS, *pointer, *cookie,
-        ),
-        Return::Acquire(pointer, cookie) => put_pointer_and_cookie(
-            out, BR_ACQUIRE, *pointer, *cookie,
-        ),
-        Return::Release(pointer, cookie) => put_pointer_and_cookie(
-            out, BR_RELEASE, *pointer, *cookie,
-        ),
-        Return::Decrefs(pointer, cookie) => put_pointer_and_cookie(
-            out, BR_DECREFS, *pointer, *cookie,
-        ),
-        Return::Noop => put_bare(out, BR_NOOP),
-        Return::DeadBinder(cookie) => put_pointer(out, BR_DEAD_BINDER, *cookie),
-        Return::ClearDeathNotificationDone(cookie) => put_pointer(
-            out,
-            BR_CLEAR_DEATH_NOTIFICATION_DONE,
-            *cookie,
-        ),
-        Return::FailedReply => put_bare(out, BR_FAILED_REPLY),
+        Return::Transaction(t) => Spelling::of(BR_TRANSACTION).record(t),
+        Return::Reply(t) => Spelling::of(BR_REPLY).record(t),
+        Return::DeadReply => Spelling::of(BR_DEAD_REPLY),
+        Return::TransactionComplete => Spelling::of(BR_TRANSACTION_COMPLETE),
+        Return::Increfs(pointer, cookie) => {
+            Spelling::of(BR_INCREFS).long(*pointer).long(*cookie)
+        }
+        Return::Acquire(pointer, cookie) => {
+            Spelling::of(BR_ACQUIRE).long(*pointer).long(*cookie)
+        }
+        Return::Release(pointer, cookie) => {
+            Spelling::of(BR_RELEASE).long(*pointer).long(*cookie)
+        }
+        Return::Decrefs(pointer, cookie) => {
+            Spelling::of(BR_DECREFS).long(*pointer).long(*cookie)
+        }
+        Return::Noop => Spelling::of(BR_NOOP),
+        Return::DeadBinder(cookie) => Spelling::of(BR_DEAD_BINDER).long(*cookie),
+        Return::ClearDeathNotificationDone(cookie) => {
+            Spelling::of(BR_CLEAR_DEATH_NOTIFICATION_DONE).long(*cookie)
+        }
+        Return::FailedReply => Spelling::of(BR_FAILED_REPLY),
     }
 }
 
@@ -125,9 +118,7 @@ pub fn write_return(r: &Return, out: &mut Vec<u8>) -> Result<(), Fault>
     // Memory was asked for: there was no room.
     ensures grown { OnErr result (vec_capacity out.old < vec_len out.old + length (return_bytes r.now)) }
 {
-    let mut buffer = [0u8; LONGEST];
-    let len = spell(r, &mut buffer);
-    append(&buffer[..len], out)
+    Ok(out.extend_from_slice(spell_return(r).as_slice())?)
 }
 
 /// Appends the return's spelling to a `Vec` with room for 68 bytes, the longest spelling. Takes no memory.
@@ -136,9 +127,7 @@ pub fn write_return_reserved(r: &Return, out: &mut Vec<u8>)
     ensures items { out.new.items ≡ out.old.items ++ return_bytes r.now }
     ensures capacity { vec_capacity out.new ≡ vec_capacity out.old }
 {
-    let mut buffer = [0u8; LONGEST];
-    let len = spell(r, &mut buffer);
-    append_reserved(&buffer[..len], out);
+    spell_return(r).append_reserved(out);
 }
 
 /// No return's spelling begins another's.

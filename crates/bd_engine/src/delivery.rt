@@ -7,6 +7,7 @@ ghost use Rattle.bd_space.specs.Space.{Space};
 ghost use Rattle.bd_space.specs.Seats.{process_in};
 ghost use Rattle.bd_space.specs.Room as room;
 ghost use Rattle.bd_space.specs.Words as words;
+ghost use Rattle.bd_uapi.specs.Kinds as kinds;
 ghost use Rattle.bd_space.specs.Parcels as parcels;
 ghost use Rattle.bd_space.specs.Names.{names_go, has_number_past_limit};
 ghost use Rattle.bd_space.specs.Turns as turns;
@@ -24,7 +25,7 @@ use crate::tables::Tables;
 use bd_objects::NumbersFull;
 use bd_parcel::put_object;
 use bd_space::{Actor, Buffer, Bytes, Item, Object, ObjectId, Parcel, Process, TodoList, Turn};
-use bd_uapi::{Cause, ObjectKind, TransactionData};
+use bd_uapi::{Cause, TransactionData};
 use std::alloc::AllocError;
 use std::marker::Model;
 
@@ -103,24 +104,6 @@ fn turn_of(b: &Buffer) -> Option<Turn>
         target,
         handed: b.handed,
     })
-}
-
-fn is_own(kind: ObjectKind) -> bool
-    ensures { result ≡ parcels.is_own kind }
-{
-    match kind {
-        ObjectKind::Binder | ObjectKind::WeakBinder => true,
-        ObjectKind::Handle | ObjectKind::WeakHandle => false,
-    }
-}
-
-fn is_strong_kind(kind: ObjectKind) -> bool
-    ensures { result ≡ parcels.is_strong_kind kind }
-{
-    match kind {
-        ObjectKind::Binder | ObjectKind::Handle => true,
-        ObjectKind::WeakBinder | ObjectKind::WeakHandle => false,
-    }
 }
 
 impl Tables {
@@ -255,11 +238,11 @@ impl Tables {
 
     // Sending an object strongly that its owner isn't told strong takes a standing notice away.
     fn takes_notice(&self, x: &Item) -> bool
-        ensures { (n : ℕ) (s : Space) → StandsAt n self.now s → result ≡ (parcels.is_own x.now.flat.kind && parcels.is_strong_kind x.now.flat.kind
+        ensures { (n : ℕ) (s : Space) → StandsAt n self.now s → result ≡ (kinds.is_own x.now.flat.kind && kinds.is_strong_kind x.now.flat.kind
             && words.is_some_and (object_in s.objects x.now.object) (λ o. not o.told_strong)) }
     {
-        is_own(x.flat.kind)
-            && is_strong_kind(x.flat.kind)
+        x.flat.kind.is_own()
+            && x.flat.kind.is_strong()
             && self
                 .objects
                 .object(x.object)
@@ -293,7 +276,7 @@ impl Tables {
             (record s { todo = spec.add_notice s seat s.todo x.now }) }
         ensures works { OnlyWorks self.old self.new 1 }
     {
-        if !is_own(x.flat.kind) {
+        if !x.flat.kind.is_own() {
             return;
         }
         if let Some(o) = self.objects.object(x.object) {

@@ -21,7 +21,7 @@ use Rattle.bd_space.specs.declared.record.Record.{Record}
 use Rattle.bd_uapi.specs.declared.fault.Note.{Note}
 use Rattle.bd_uapi.specs.declared.fault.Cause.{Cause}
 use Rattle.bd_journal.specs.declared.fault.ReadError.{ReadError}
-use Rattle.bd_journal.specs.Codes.{numbered, note_number, note_rows, cause_number, cause_rows, fault_number, fault_rows}
+use Rattle.bd_journal.specs.Codes.{numbered, note_number, notes, cause_number, causes, fault_number, faults}
 use Rattle.bd_journal.specs.Spelling.{block, magic, carries, parcel_bytes, step_bytes, answer_bytes, entry_bytes, heading_bytes, journal_bytes, IsBlock, IsParcel, IsStep, IsAnswer, IsEntry, IsJournal}
 use Rattle.bd_journal.specs.Reading.{◌>>=◌, Gives, byte_from, word_from, block_from, whole, whole_block_from, spelled_by, command_in, blocks_from, parcel_by, parcel_from, command_step_from, open_from, number_step_from, step_rows, step_from, got_from, answer_rows, answer_from, entry_from, entries_from, seats_from, journal_in}
 use Rattle.bd_journal.proofs.FieldLaws.{bind_some, demand_some, some_is, Takes, Takes-then, Takes-behind, IsBytes-rest, byte_takes, words, blocks, block_bytes}
@@ -173,22 +173,13 @@ step_again step.ExitProcess rest fits short = refl
 
 -- ---- answers
 
-note_right : AllByRecursion (λ row. note_number row.1 ≡ row.0) note_rows
-note_right = (refl, (refl, (refl, (refl, (refl, (refl, (refl, (refl, (refl, (refl, (refl, tt)))))))))))
-
-cause_right : AllByRecursion (λ row. cause_number row.1 ≡ row.0) cause_rows
-cause_right = (refl, (refl, (refl, (refl, (refl, (refl, (refl, (refl, (refl, (refl, (refl, (refl, (refl, (refl, (refl, (refl, tt))))))))))))))))
-
-fault_right : AllByRecursion (λ row. fault_number row.1 ≡ row.0) fault_rows
-fault_right = (refl, (refl, (refl, (refl, (refl, (refl, (refl, (refl, (refl, (refl, (refl, (refl, (refl, (refl, (refl, (refl, tt))))))))))))))))
-
-note_again : (n : Note) → numbered note_rows (note_number n) ≡ Some n
+note_again : (n : Note) → numbered note_number notes (note_number n) ≡ Some n
 note_again n = grind arith
 
-cause_again : (x : Cause) → numbered cause_rows (cause_number x) ≡ Some x
+cause_again : (x : Cause) → numbered cause_number causes (cause_number x) ≡ Some x
 cause_again x = grind arith
 
-fault_again : (f : Fault) → numbered fault_rows (fault_number f) ≡ Some f
+fault_again : (f : Fault) → numbered fault_number faults (fault_number f) ≡ Some f
 fault_again f = grind arith
 
 got_row : Row answer_bytes IsAnswer 6 got_from
@@ -205,12 +196,12 @@ answer_rows_right = (
       (
         bare_row answer_bytes IsAnswer 3 answer.Accepted refl tt,
         (
-          numbered_row answer_bytes IsAnswer note_number note_rows note_right 4 answer.Noted (λ n. refl) (λ n. tt),
+          numbered_row answer_bytes IsAnswer note_number notes 4 answer.Noted (λ n. refl) (λ n. tt),
           (
-            numbered_row answer_bytes IsAnswer cause_number cause_rows cause_right 5 answer.Stopped (λ x. refl) (λ x. tt),
+            numbered_row answer_bytes IsAnswer cause_number causes 5 answer.Stopped (λ x. refl) (λ x. tt),
             (
               got_row,
-              (numbered_row answer_bytes IsAnswer fault_number fault_rows fault_right 7 answer.Refused (λ f. refl) (λ f. tt), tt),
+              (numbered_row answer_bytes IsAnswer fault_number faults 7 answer.Refused (λ f. refl) (λ f. tt), tt),
             ),
           ),
         ),

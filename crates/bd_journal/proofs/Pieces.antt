@@ -4,12 +4,9 @@ use Rattle.std.specs.List.{flat_map}
 use Rattle.std.proofs.Math.Seq.{take-add}
 use Rattle.std.proofs.lemmas.List.{append-nil, take-append-drop, take_all, length-drop, drop_more}
 use Rattle.std.proofs.lemmas.Grind.{flat_map-append}
-use Rattle.std.proofs.KnownBytes.{Appends-nil, Appends-trans}
+use Rattle.std.proofs.KnownBytes.{Appends-trans}
 use Rattle.std.specs.Io.KnownBytes.{Appends}
-use Rattle.std.specs.Int.{w32, cast_unsigned}
-use Rattle.bd_uapi.specs.Bytes.{word, long}
-use Rattle.bd_uapi.specs.Records.{record_bytes}
-use Rattle.bd_uapi.specs.declared.command.TransactionData.{TransactionData}
+use Rattle.bd_uapi.specs.Bytes.{word}
 use Rattle.bd_uapi.specs.declared.command.Command.{Command}
 use Rattle.bd_codec.specs.Spelling.{command_bytes}
 use Rattle.bd_space.specs.declared.step.Parcel.{Parcel}
@@ -17,10 +14,6 @@ use Rattle.bd_space.specs.declared.step.Step.TheVariants as step
 use Rattle.bd_space.specs.declared.step.Entry.{Entry}
 use Rattle.bd_journal.specs.Spelling.{parcel_bytes, step_bytes, answer_bytes, entry_bytes, heading_bytes}
 use Rattle.bd_journal.specs.Writing.{Begins, Sends}
-
--- nothing is a beginning
-pub begins_none : (a : Option (List ℕ)) (x : List ℕ) → Begins a a x
-begins_none a x = ([], x, refl, Appends-nil a)
 
 pub begins_part : (a b : Option (List ℕ)) (n : ℕ) (x : List ℕ) → Appends a b (take n x) → Begins a b x
 begins_part a b n x s = (take n x, drop n x, sym (take-append-drop n x), s)
@@ -65,30 +58,6 @@ err_of_sends (Err u) a b x s = s
 pub sends_same : {T E : Type 0} (r : Result T E) (a b : Option (List ℕ)) (x y : List ℕ) → x ≡ y → Sends a b r x → Sends a b r y
 sends_same r a b x y e s = subst (Sends a b r) e s
 
--- the last of a list of pieces
-pub two : (x y : List ℕ) → x ++ (y ++ []) ≡ x ++ y
-two x y = ap (λ (l : List ℕ). x ++ l) (append-nil y)
-
-pub three : (x y z : List ℕ) → x ++ (y ++ (z ++ [])) ≡ x ++ (y ++ z)
-three x y z = ap (λ (l : List ℕ). x ++ l) (two y z)
-
-pub eleven : (a b c d e f g h i j k : List ℕ) → a ++ (b ++ (c ++ (d ++ (e ++ (f ++ (g ++ (h ++ (i ++ (j ++ (k ++ [])))))))))) ≡ a ++ (b ++ c ++ d ++ e ++ f ++ g ++ h ++ i ++ j ++ k)
-eleven a b c d e f g h i j k = simp (append_assoc, append-nil)
-
-pub record_pieces : (code : ℕ) (t : TransactionData) (a b c d e f g h i j k : List ℕ) → a ≡ word code → b ≡ long t.target → c ≡ long t.cookie → d ≡ word t.code → e ≡ word t.flags.0
-    → f ≡ word (cast_unsigned w32 t.sender_pid) → g ≡ word t.sender_euid → h ≡ long t.data_size → i ≡ long t.offsets_size → j ≡ long t.buffer → k ≡ long t.offsets
-    → a ++ (b ++ (c ++ (d ++ (e ++ (f ++ (g ++ (h ++ (i ++ (j ++ (k ++ [])))))))))) ≡ word code ++ record_bytes t
-record_pieces code t a b c d e f g h i j k pa pb pc pd pe pf pg ph pi pj pk =
-    eleven a b c d e f g h i j k ∙ ap (λ (l : List ℕ). l ++ (b ++ c ++ d ++ e ++ f ++ g ++ h ++ i ++ j ++ k)) pa
-    ∙ ap (λ (l : List ℕ). word code ++ l) (ten pb pc pd pe pf pg ph pi pj pk)
-  where
-    two_of : {x y u v : List ℕ} → x ≡ u → y ≡ v → x ++ y ≡ u ++ v
-    two_of {x} {y} {u} {v} p q = ap (λ (l : List ℕ). l ++ y) p ∙ ap (λ (l : List ℕ). u ++ l) q
-
-    ten : {b c d e f g h i j k b' c' d' e' f' g' h' i' j' k' : List ℕ} → b ≡ b' → c ≡ c' → d ≡ d' → e ≡ e' → f ≡ f' → g ≡ g' → h ≡ h' → i ≡ i' → j ≡ j' → k ≡ k'
-        → b ++ c ++ d ++ e ++ f ++ g ++ h ++ i ++ j ++ k ≡ b' ++ c' ++ d' ++ e' ++ f' ++ g' ++ h' ++ i' ++ j' ++ k'
-    ten pb pc pd pe pf pg ph pi pj pk = two_of (two_of (two_of (two_of (two_of (two_of (two_of (two_of (two_of pb pc) pd) pe) pf) pg) ph) pi) pj) pk
-
 -- the pieces before, and a beginning of the next
 pub begins_next : {X : Type 0} (f : X → List ℕ) (xs : List X) (i : ℕ) (d : X) (a b c : Option (List ℕ)) → i < length xs → Appends a b (flat_map f (take i xs)) → Begins b c (f (get_or xs i d)) → Begins a c (flat_map f xs)
 begins_next {X} f xs i d a b c lt s t =
@@ -105,8 +74,8 @@ heading_parts seats count a b c d p q r s = rw (p, q, r, s) refl
 pub open_parts : (pid euid window : ℕ) (a b c : List ℕ) → a ≡ word pid → b ≡ word euid → c ≡ word window → (0 ∷ []) ++ (a ++ (b ++ (c ++ []))) ≡ step_bytes (step.Open pid euid window)
 open_parts pid euid window a b c p q r = rw (p, q, r) refl
 
-pub command_parts : (c : Command) (p : Option Parcel) (n : ℕ) (l : List ℕ) → l ≡ word n → n ≡ length (command_bytes c) → ((3 ∷ []) ++ (l ++ [])) ++ (command_bytes c ++ parcel_bytes p) ≡ step_bytes (step.Command c p)
-command_parts c p n l is len = rw (is, len) refl
+pub command_parts : (c : Command) (p : Option Parcel) (l spelled : List ℕ) → l ≡ word (length spelled) → spelled ≡ command_bytes c → ((3 ∷ []) ++ (l ++ (spelled ++ []))) ++ parcel_bytes p ≡ step_bytes (step.Command c p)
+command_parts c p l spelled len is = rw (len, is, append-nil (command_bytes c)) refl
 
 pub entry_parts : (e : Entry) (a b c : List ℕ) → a ≡ word e.seat → b ≡ word (length (step_bytes e.step)) → c ≡ word (length (answer_bytes e.answer))
     → (a ++ (b ++ [])) ++ (step_bytes e.step ++ (c ++ answer_bytes e.answer)) ≡ entry_bytes e

@@ -63,26 +63,26 @@ thrice_again read s F reads make a b c rest fa fb fc =
     let regrouped : s a ++ s b ++ s c ++ rest ≡ s a ++ (s b ++ (s c ++ rest)) = simp append_assoc in
     ap (thrice read make) regrouped ∙ rw (reads.again a (s b ++ (s c ++ rest)) fa, reads.again b (s c ++ rest) fb, reads.again c rest fc) refl
 
--- ---- numbers out of a table
+-- ---- what has a number
 
-numbered_is : {A : Type 0} (number : A → ℕ) (rows : List (ℕ × A)) (n : ℕ) (x : A) → AllByRecursion (λ row. number row.1 ≡ row.0) rows → numbered rows n ≡ Some x → number x ≡ n
-numbered_is number [] n x right e = absurd cc
-numbered_is {A} number (row ∷ rows) n x right e = go (numbered_is number rows n x right.1) (eqb n row.0) refl e
+numbered_is : {A : Type 0} (number : A → ℕ) (xs : List A) (n : ℕ) (x : A) → numbered number xs n ≡ Some x → number x ≡ n
+numbered_is number [] n x e = absurd cc
+numbered_is {A} number (y ∷ ys) n x e = go (numbered_is number ys n x) (eqb n (number y)) refl e
   where
-    go : (numbered rows n ≡ Some x → number x ≡ n) → (b : Bool) → eqb n row.0 ≡ b → cond b (Some row.1) (numbered rows n) ≡ Some x → number x ≡ n
-    go others true t f = ap number (sym (some_is row.1 x f)) ∙ right.0 ∙ sym (eqb-true _ _ t)
+    go : (numbered number ys n ≡ Some x → number x ≡ n) → (b : Bool) → eqb n (number y) ≡ b → cond b (Some y) (numbered number ys n) ≡ Some x → number x ≡ n
+    go others true t f = ap number (sym (some_is y x f)) ∙ sym (eqb-true _ _ t)
     go others false t f = others f
 
-pub numbered_row : {A B : Type 0} (spell : B → List ℕ) (Fits : B → Type 0) (number : A → ℕ) (rows : List (ℕ × A)) → AllByRecursion (λ row. number row.1 ≡ row.0) rows
+pub numbered_row : {A B : Type 0} (spell : B → List ℕ) (Fits : B → Type 0) (number : A → ℕ) (xs : List A)
     → (tag : ℕ) (make : A → B) → ((a : A) → spell (make a) ≡ tag ∷ number a ∷ []) → ((a : A) → Fits (make a))
-    → Row spell Fits tag (λ bytes. byte_from bytes >>= λ n. numbered rows n.0 >>= λ a. Some (make a, n.1))
-numbered_row {A} {B} spell Fits number rows right tag make spelled fit = record {
+    → Row spell Fits tag (λ bytes. byte_from bytes >>= λ n. numbered number xs n.0 >>= λ a. Some (make a, n.1))
+numbered_row {A} {B} spell Fits number xs tag make spelled fit = record {
   takes = λ bytes x fits e.
-      let p = bind_some (byte_from bytes) (λ n. numbered rows n.0 >>= λ a. Some (make a, n.1)) x e in
-      let q = bind_some (numbered rows p.0.0) (λ a. Some (make a, p.0.1)) x p.2 in
+      let p = bind_some (byte_from bytes) (λ n. numbered number xs n.0 >>= λ a. Some (make a, n.1)) x e in
+      let q = bind_some (numbered number xs p.0.0) (λ a. Some (make a, p.0.1)) x p.2 in
       let is : bytes ≡ p.0.0 ∷ p.0.1 = byte_takes bytes p.0 p.1 in
       let rest_fits : IsBytes p.0.1 = IsBytes-rest p.0.0 p.0.1 (subst IsBytes is fits) in
-      let n-is : number q.0 ≡ p.0.0 = numbered_is number rows p.0.0 q.0 right q.1 in
+      let n-is : number q.0 ≡ p.0.0 = numbered_is number xs p.0.0 q.0 q.1 in
       let text : spell (make q.0) ≡ tag ∷ p.0.0 ∷ [] = spelled q.0 ∙ ap (λ (n : ℕ). tag ∷ n ∷ []) n-is in
       let parts : tag ∷ bytes ≡ spell (make q.0) ++ p.0.1 = ap (λ (t : List ℕ). tag ∷ t) is ∙ ap (λ (t : List ℕ). t ++ p.0.1) (sym text) in
       let made : Takes (tag ∷ bytes) (spell (make q.0)) p.0.1 × Fits (make q.0) = (record { parts = parts; rest_fits = rest_fits }, fit q.0) in

@@ -7,10 +7,10 @@ use Rattle.bd_uapi.specs.declared.fault.Cause.TheVariants as cause
 use Rattle.bd_uapi.specs.declared.fault.Fault.{Fault}
 use Rattle.bd_uapi.specs.declared.fault.Fault.TheVariants as fault
 
--- what has this number in a table
-abbrev pub numbered : {A : Type 0} → List (ℕ × A) → ℕ → Option A
-numbered [] n = None
-numbered (row ∷ rows) n = if n == row.0 then Some row.1 else numbered rows n
+-- which of these has this number
+abbrev pub numbered : {A : Type 0} → (A → ℕ) → List A → ℕ → Option A
+numbered number [] n = None
+numbered number (x ∷ xs) n = if n == number x then Some x else numbered number xs n
 
 -- N1 to N11
 abbrev pub note_number : Note → ℕ
@@ -26,19 +26,19 @@ note_number note.AlreadyAsked = 9
 note_number note.NoneAsked = 10
 note_number note.NoneTold = 11
 
-abbrev pub note_rows : List (ℕ × Note)
-note_rows =
-    (1, note.NoSuchNumber)
-    ∷ (2, note.NothingAsked)
-    ∷ (3, note.NotStrong)
-    ∷ (4, note.OwnManager)
-    ∷ (5, note.NoSuchBuffer)
-    ∷ (6, note.NotHandedOut)
-    ∷ (7, note.NoSuchObject)
-    ∷ (8, note.NoHandshake)
-    ∷ (9, note.AlreadyAsked)
-    ∷ (10, note.NoneAsked)
-    ∷ (11, note.NoneTold)
+abbrev pub notes : List Note
+notes =
+    note.NoSuchNumber
+    ∷ note.NothingAsked
+    ∷ note.NotStrong
+    ∷ note.OwnManager
+    ∷ note.NoSuchBuffer
+    ∷ note.NotHandedOut
+    ∷ note.NoSuchObject
+    ∷ note.NoHandshake
+    ∷ note.AlreadyAsked
+    ∷ note.NoneAsked
+    ∷ note.NoneTold
     ∷ []
 
 -- X1 to X16
@@ -60,24 +60,24 @@ cause_number cause.OverBudget = 14
 cause_number cause.NoCall = 15
 cause_number cause.CallerGone = 16
 
-abbrev pub cause_rows : List (ℕ × Cause)
-cause_rows =
-    (1, cause.NotStronglyNamed)
-    ∷ (2, cause.NoManager)
-    ∷ (3, cause.OwnManager)
-    ∷ (4, cause.DeadOwner)
-    ∷ (5, cause.NotServing)
-    ∷ (6, cause.Unread)
-    ∷ (7, cause.OutsideArea)
-    ∷ (8, cause.OffsetsSize)
-    ∷ (9, cause.BadObject)
-    ∷ (10, cause.UnsupportedObject)
-    ∷ (11, cause.OtherCookie)
-    ∷ (12, cause.NotHeld)
-    ∷ (13, cause.NoRoom)
-    ∷ (14, cause.OverBudget)
-    ∷ (15, cause.NoCall)
-    ∷ (16, cause.CallerGone)
+abbrev pub causes : List Cause
+causes =
+    cause.NotStronglyNamed
+    ∷ cause.NoManager
+    ∷ cause.OwnManager
+    ∷ cause.DeadOwner
+    ∷ cause.NotServing
+    ∷ cause.Unread
+    ∷ cause.OutsideArea
+    ∷ cause.OffsetsSize
+    ∷ cause.BadObject
+    ∷ cause.UnsupportedObject
+    ∷ cause.OtherCookie
+    ∷ cause.NotHeld
+    ∷ cause.NoRoom
+    ∷ cause.OverBudget
+    ∷ cause.NoCall
+    ∷ cause.CallerGone
     ∷ []
 
 -- F1 to F16
@@ -99,22 +99,22 @@ fault_number fault.NoMemory = 14
 fault_number fault.StreamTooLong = 15
 fault_number fault.SeatCount = 16
 
-abbrev pub fault_rows : List (ℕ × Fault)
-fault_rows =
-    (1, fault.ShortCommand)
-    ∷ (2, fault.UnknownCommand)
-    ∷ (3, fault.RefusedCommand)
-    ∷ (4, fault.NoProcess)
-    ∷ (5, fault.HasProcess)
-    ∷ (6, fault.PidTaken)
-    ∷ (7, fault.PidRange)
-    ∷ (8, fault.WindowSize)
-    ∷ (9, fault.NoSuchPid)
-    ∷ (10, fault.ManagerBusy)
-    ∷ (11, fault.ReadTooSmall)
-    ∷ (12, fault.Again)
-    ∷ (13, fault.HistoryFull)
-    ∷ (14, fault.NoMemory)
-    ∷ (15, fault.StreamTooLong)
-    ∷ (16, fault.SeatCount)
+abbrev pub faults : List Fault
+faults =
+    fault.ShortCommand
+    ∷ fault.UnknownCommand
+    ∷ fault.RefusedCommand
+    ∷ fault.NoProcess
+    ∷ fault.HasProcess
+    ∷ fault.PidTaken
+    ∷ fault.PidRange
+    ∷ fault.WindowSize
+    ∷ fault.NoSuchPid
+    ∷ fault.ManagerBusy
+    ∷ fault.ReadTooSmall
+    ∷ fault.Again
+    ∷ fault.HistoryFull
+    ∷ fault.NoMemory
+    ∷ fault.StreamTooLong
+    ∷ fault.SeatCount
     ∷ []

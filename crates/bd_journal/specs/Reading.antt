@@ -13,7 +13,7 @@ use Rattle.bd_space.specs.declared.step.Entry.{Entry}
 use Rattle.bd_space.specs.declared.record.Record.{Record}
 use Rattle.bd_journal.specs.declared.fault.ReadError.{ReadError}
 use Rattle.bd_journal.specs.declared.fault.ReadError.TheVariants as errors
-use Rattle.bd_journal.specs.Codes.{numbered, note_rows, cause_rows, fault_rows}
+use Rattle.bd_journal.specs.Codes.{numbered, note_number, notes, cause_number, causes, fault_number, faults}
 use Rattle.bd_journal.specs.Spelling.{carries}
 
 infixl 10 ◌>>=◌
@@ -117,9 +117,9 @@ step_from bytes = byte_from bytes >>= λ tag. tagged step_rows tag.0 tag.1
 
 -- ---- answers
 
--- an answer with a number out of a table
-abbrev pub numbered_from : {A : Type 0} → List (ℕ × A) → (A → StepAnswer) → List ℕ → Option (StepAnswer × List ℕ)
-numbered_from rows make bytes = byte_from bytes >>= λ n. numbered rows n.0 >>= λ x. Some (make x, n.1)
+-- an answer with the number of one of these
+abbrev pub numbered_from : {A : Type 0} → (A → ℕ) → List A → (A → StepAnswer) → List ℕ → Option (StepAnswer × List ℕ)
+numbered_from number xs make bytes = byte_from bytes >>= λ n. numbered number xs n.0 >>= λ x. Some (make x, n.1)
 
 unfoldable pub got_from : List ℕ → Option (StepAnswer × List ℕ)
 got_from bytes = do
@@ -134,10 +134,10 @@ answer_rows =
     ∷ (1, bare answer.Set)
     ∷ (2, bare answer.Exited)
     ∷ (3, bare answer.Accepted)
-    ∷ (4, numbered_from note_rows answer.Noted)
-    ∷ (5, numbered_from cause_rows answer.Stopped)
+    ∷ (4, numbered_from note_number notes answer.Noted)
+    ∷ (5, numbered_from cause_number causes answer.Stopped)
     ∷ (6, got_from)
-    ∷ (7, numbered_from fault_rows answer.Refused)
+    ∷ (7, numbered_from fault_number faults answer.Refused)
     ∷ []
 
 unfoldable pub answer_from : List ℕ → Option (StepAnswer × List ℕ)

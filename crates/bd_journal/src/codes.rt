@@ -1,7 +1,7 @@
 //! The numbers by which outputs and journals name notes, causes and faults.
 
 ghost use Rattle.std.specs.Prelude.{◌≡◌};
-ghost use Rattle.bd_journal.specs.Codes.{note_number, note_rows, cause_number, cause_rows, fault_number, fault_rows, numbered};
+ghost use Rattle.bd_journal.specs.Codes.{note_number, notes, cause_number, causes, fault_number, faults, numbered};
 
 use bd_uapi::{Cause, Fault, Note};
 
@@ -28,7 +28,7 @@ pub fn fault_number(fault: Fault) -> u8
 
 // The note with this number.
 pub fn note_with(number: u8) -> Option<Note>
-    ensures { result ≡ numbered note_rows number }
+    ensures { result ≡ numbered note_number notes number }
 {
     match number {
         1 => Some(Note::NoSuchNumber),
@@ -48,7 +48,7 @@ pub fn note_with(number: u8) -> Option<Note>
 
 // The cause with this number.
 pub fn cause_with(number: u8) -> Option<Cause>
-    ensures { result ≡ numbered cause_rows number }
+    ensures { result ≡ numbered cause_number causes number }
 {
     match number {
         1 => Some(Cause::NotStronglyNamed),
@@ -73,7 +73,7 @@ pub fn cause_with(number: u8) -> Option<Cause>
 
 // The fault with this number.
 pub fn fault_with(number: u8) -> Option<Fault>
-    ensures { result ≡ numbered fault_rows number }
+    ensures { result ≡ numbered fault_number faults number }
 {
     match number {
         1 => Some(Fault::ShortCommand),

@@ -5,7 +5,7 @@ ghost use Rattle.bd_journal.specs.Reading.{Gives, byte_from, word_from, block_fr
 
 use crate::fault::ReadError;
 use bd_space::Bytes;
-use byteorder::{ByteOrder, LittleEndian};
+use bd_uapi::numbers::u32_at;
 use std::alloc::Global;
 
 // A byte.
@@ -20,14 +20,14 @@ pub fn byte_at(bytes: &[u8]) -> Result<(u8, &[u8]), ReadError>
 }
 
 // A number in four bytes.
-#[tactic(auto, unfolding(crate::specs::Reading::word_from, bd_uapi::specs::Bytes::word_at))]
+#[tactic(auto, unfolding(crate::specs::Reading::word_from))]
 pub fn word_at(bytes: &[u8]) -> Result<(u32, &[u8]), ReadError>
     ensures { Gives (λ x. (x.0, x.1.now)) result (word_from bytes.now) }
 {
     if bytes.len() < 4 {
         return Err(ReadError::Malformed);
     }
-    Ok((LittleEndian::read_u32(bytes), &bytes[4..]))
+    Ok((u32_at(bytes, 0), &bytes[4..]))
 }
 
 // Bytes with their length before them.

@@ -2,7 +2,6 @@
 #![tactic(auto)]
 
 mod codes;
-mod commands;
 mod fault;
 mod fields;
 mod reading;

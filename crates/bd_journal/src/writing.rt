@@ -3,15 +3,16 @@
 ghost use Rattle.std.specs.Prelude.{◌<◌, ◌^◌, length, OnOk, OnErr, IfSome};
 ghost use Rattle.std.specs.List.{flat_map, AllByRecursion};
 ghost use Rattle.std.specs.Io.KnownBytes.{Appends};
+ghost use Rattle.bd_space.specs.declared.step.Step.TheVariants as step;
 ghost use Rattle.bd_space.specs.declared.step.StepAnswer.TheVariants.{Got};
 ghost use Rattle.bd_journal.specs.Writing.{Begins, Sends, Spells, Measures, IsHeading};
 ghost use Rattle.bd_journal.specs.Spelling.{IsBlock, IsParcel, IsStep, IsAnswer, IsEntry, IsJournal, block, parcel_bytes, step_bytes, answer_bytes, entry_bytes, heading_bytes, journal_bytes};
 
 use crate::codes::{cause_number, fault_number, note_number};
-use crate::commands::{command_len, send_command};
 use crate::fault::{Refused, WriteError};
 use crate::reading::{KIND, VERSION, carries_parcel};
 use crate::sending::{send, send_all};
+use bd_codec::spell_command;
 use bd_space::{Bytes, Entry, MOST_SEATS, Parcel, Record, Step, StepAnswer};
 use bd_uapi::Command;
 use std::io::Write;
@@ -65,7 +66,7 @@ fn step_len(step: &Step) -> Option<u32>
         Step::SetManager | Step::ExitThread | Step::ExitProcess => Some(1),
         Step::Command { command, parcel } => {
             let parcel = parcel_len(command, parcel)?;
-            short(5 + u64::from(command_len(command)) + parcel)
+            short(5 + spell_command(command).as_slice().len() as u64 + parcel)
         }
     }
 }
@@ -106,6 +107,21 @@ fn send_parcel<W: Write>(parcel: &Option<Parcel>, out: &mut W) -> Result<(), Ref
     }
 }
 
+fn send_command<W: Write>(
+    command: &Command,
+    parcel: &Option<Parcel>,
+    out: &mut W,
+) -> Result<(), Refused>
+    requires { IsParcel command.now parcel.now }
+    ensures { Sends (W.contents out.old) (W.contents out.new) result (step_bytes (step.Command command.now parcel.now)) }
+{
+    let spelling = spell_command(command);
+    let spelled = spelling.as_slice();
+    let len = (spelled.len() as u32).to_le_bytes();
+    send_all(&[&[3], &len, spelled], out)?;
+    send_parcel(parcel, out)
+}
+
 fn send_step<W: Write>(step: &Step, out: &mut W) -> Result<(), Refused>
     requires { IsStep step.now }
     ensures { Sends (W.contents out.old) (W.contents out.new) result (step_bytes step.now) }
@@ -118,11 +134,7 @@ fn send_step<W: Write>(step: &Step, out: &mut W) -> Result<(), Refused>
         }
         Step::Attach { pid } => send_all(&[&[1], &pid.to_le_bytes()], out),
         Step::SetManager => send(&[2], out),
-        Step::Command { command, parcel } => {
-            send_all(&[&[3], &command_len(command).to_le_bytes()], out)?;
-            send_command(command, out)?;
-            send_parcel(parcel, out)
-        }
+        Step::Command { command, parcel } => send_command(command, parcel, out),
         Step::Read { limit } => send_all(&[&[4], &limit.to_le_bytes()], out),
         Step::ExitThread => send(&[5], out),
         Step::ExitProcess => send(&[6], out),

@@ -6,7 +6,7 @@ use Rattle.bd_space.specs.declared.space.Item.{Item}
 use Rattle.bd_space.specs.declared.space.Reference.{Reference}
 use Rattle.bd_space.specs.declared.space.Holder.TheVariants.{Carried}
 use Rattle.bd_space.specs.References.{reference_of}
-use Rattle.bd_space.specs.Parcels.{is_strong_kind}
+use Rattle.bd_uapi.specs.Kinds.{is_strong_kind}
 use Rattle.bd_space.specs.Delivery.{buffer_references}
 
 module _ (place q : ℕ) (items : List Item) (target : Option ObjectId) where

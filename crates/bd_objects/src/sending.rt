@@ -15,15 +15,6 @@ use crate::table::ObjectTable;
 use bd_space::{Holder, Identity, Item, Object, ObjectId, Reference, Resolved};
 use bd_uapi::{Cause, FlatObject, ObjectKind};
 
-fn is_strong_kind(kind: ObjectKind) -> bool
-    ensures { result ≡ parcels.is_strong_kind kind }
-{
-    match kind {
-        ObjectKind::Binder | ObjectKind::Handle => true,
-        ObjectKind::WeakBinder | ObjectKind::WeakHandle => false,
-    }
-}
-
 /// The handle is the low half.
 fn handle_in(binder: u64) -> u32
     ensures { result ≡ binder % 2 ^ 32 }
@@ -82,7 +73,7 @@ fn as_own(x: &FlatObject, o: &Object) -> FlatObject
     ensures { result ≡ translations.as_own x.now o.now }
 {
     FlatObject {
-        kind: if is_strong_kind(x.kind) {
+        kind: if x.kind.is_strong() {
             ObjectKind::Binder
         } else {
             ObjectKind::WeakBinder
@@ -98,7 +89,7 @@ fn as_handle(x: &FlatObject, n: u32) -> FlatObject
     ensures { result ≡ translations.as_handle x.now n }
 {
     FlatObject {
-        kind: if is_strong_kind(x.kind) {
+        kind: if x.kind.is_strong() {
             ObjectKind::Handle
         } else {
             ObjectKind::WeakHandle
@@ -135,7 +126,7 @@ fn add_carried(references: &mut Vec<Reference>, place: u32, q: u32, items: &[Ite
                 index: i as u64,
             },
             object: x.object,
-            strong: is_strong_kind(x.flat.kind),
+            strong: x.flat.kind.is_strong(),
             holder: Holder::Carried(place, q),
         });
     }

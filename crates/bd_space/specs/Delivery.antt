@@ -18,7 +18,8 @@ use Rattle.bd_space.specs.Room.{needed}
 use Rattle.bd_space.specs.Todo.{is_notice}
 use Rattle.bd_space.specs.Notices.{with_notice}
 use Rattle.bd_space.specs.declared.space.Item.{Item}
-use Rattle.bd_space.specs.Parcels.{Sending, object_of_item, is_own, is_strong_kind}
+use Rattle.bd_uapi.specs.Kinds.{is_own, is_strong_kind}
+use Rattle.bd_space.specs.Parcels.{Sending, object_of_item}
 use Rattle.bd_space.specs.Translation.{translation}
 
 -- what is delivered: to which process, on which object, whether one-way, what, and where in the receiver's window

@@ -1,8 +1,7 @@
 -- What a parcel sends: its objects, each known to the sender or made by the sending, or the first cause against it.
-use Rattle.std.specs.Prelude.{ℕ, ◌%◌, ◌^◌, ◌==◌, Bool, true, false, not, ◌&&◌, List, [], ◌∷◌, ◌++◌, length, Option, Some, None, Result, Ok, Err, if◌then◌else◌}
+use Rattle.std.specs.Prelude.{ℕ, ◌%◌, ◌^◌, ◌==◌, Bool, false, not, ◌&&◌, List, [], ◌∷◌, ◌++◌, length, Option, Some, None, Result, Ok, Err, if◌then◌else◌}
 use Rattle.bd_uapi.specs.declared.command.TransactionData.{TransactionData}
 use Rattle.bd_uapi.specs.declared.object.FlatObject.{FlatObject}
-use Rattle.bd_uapi.specs.declared.object.ObjectKind.{ObjectKind}
 use Rattle.bd_uapi.specs.declared.object.ObjectKind.TheVariants.{Binder, WeakBinder, Handle, WeakHandle}
 use Rattle.bd_uapi.specs.declared.fault.Cause.{Cause}
 use Rattle.bd_uapi.specs.declared.fault.Cause.TheVariants.{OutsideArea, OffsetsSize, BadObject, UnsupportedObject, OtherCookie, NotHeld}
@@ -20,19 +19,6 @@ use Rattle.bd_space.specs.Words.{and_then}
 use Rattle.bd_space.specs.Space.{Space}
 use Rattle.bd_space.specs.References.{own_in}
 use Rattle.bd_space.specs.Names.{named, strongly_named}
-
--- the sender's own object
-abbrev pub is_own : ObjectKind → Bool
-is_own Binder = true
-is_own WeakBinder = true
-is_own Handle = false
-is_own WeakHandle = false
-
-abbrev pub is_strong_kind : ObjectKind → Bool
-is_strong_kind Binder = true
-is_strong_kind WeakBinder = false
-is_strong_kind Handle = true
-is_strong_kind WeakHandle = false
 
 abbrev pub object_of_item : Item → ObjectId
 object_of_item x = x.object

@@ -1,5 +1,9 @@
 //! Why something is refused, each reason with its number in outputs and journals.
 
+ghost use Rattle.std.specs.Prelude.{◌≡◌};
+ghost use Rattle.bd_uapi.specs.declared.fault.Fault.TheVariants.{NoMemory};
+
+use std::alloc::AllocError;
 use thiserror::Error;
 
 /// Why a request, or the rest of a stream, is refused: F1 to F16.
@@ -53,6 +57,14 @@ pub enum Fault {
     /// F16: the number of seats is out of its limits.
     #[error("the number of seats is out of range")]
     SeatCount,
+}
+
+impl From<AllocError> for Fault {
+    ghost from_gives = { λ _ e. e ≡ NoMemory };
+
+    fn from(_e: AllocError) -> Fault {
+        Fault::NoMemory
+    }
 }
 
 /// Why a transaction or a reply is refused: X1 to X16.

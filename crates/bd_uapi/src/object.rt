@@ -1,5 +1,8 @@
 //! Objects in a parcel.
 
+ghost use Rattle.std.specs.Prelude.{◌≡◌};
+ghost use Rattle.bd_uapi.specs.Kinds.{is_own, is_strong_kind};
+
 /// The type of a flat object: `BINDER_TYPE_BINDER` and so on, of those that the profile takes.
 #[derive(Clone, Copy, Debug, PartialEq, Eq)]
 pub enum ObjectKind {
@@ -11,6 +14,22 @@ pub enum ObjectKind {
     Handle,
     /// `BINDER_TYPE_WEAK_HANDLE`: an object that the sender knows by a handle, weakly.
     WeakHandle,
+}
+
+impl ObjectKind {
+    /// Whether it is an object of the sender's own.
+    pub fn is_own(self) -> bool
+        ensures { result ≡ is_own self }
+    {
+        matches!(self, ObjectKind::Binder | ObjectKind::WeakBinder)
+    }
+
+    /// Whether it is sent strongly.
+    pub fn is_strong(self) -> bool
+        ensures { result ≡ is_strong_kind self }
+    {
+        matches!(self, ObjectKind::Binder | ObjectKind::Handle)
+    }
 }
 
 /// An object of a parcel, 24 bytes: `struct flat_binder_object`.

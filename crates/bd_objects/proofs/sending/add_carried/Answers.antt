@@ -4,7 +4,7 @@ use Rattle.bd_objects.proofs.sending.add_carried.Goals as goal
 
 pub loop-i-preserved : goal.loop-i-preserved
 loop-i-preserved c = record {
-  so_far = λ target. carried-more c.args.place c.args.q c.args.items.now target _ _ _ _ _ _ (omega arith) c.is_strong_kind.ensures c.push_reserved.ensures.items (c.loop-i.invariant.so_far target);
+  so_far = λ target. carried-more c.args.place c.args.q c.args.items.now target _ _ _ _ _ _ (omega arith) c.is_strong.ensures c.push_reserved.ensures.items (c.loop-i.invariant.so_far target);
   len = omega arith;
   capacity = c.push_reserved.ensures.capacity ∙ c.loop-i.invariant.capacity;
 }

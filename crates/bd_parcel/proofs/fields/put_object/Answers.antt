@@ -12,7 +12,7 @@ returns c =
     let tag = word (type_of x.kind) in
     let flags = word x.flags in
     let two : c.put_u32-2.new.out ≡ take at old ++ (tag ++ flags) ++ drop (at + 8) old =
-    side_by_side at 4 4 old c.put_u32.new.out c.put_u32-2.new.out tag flags refl refl (omega arith) (rw c.type_word.ensures at c.put_u32.ensures) c.put_u32-2.ensures in
+    side_by_side at 4 4 old c.put_u32.new.out c.put_u32-2.new.out tag flags refl refl (omega arith) (rw c.type_word.ensures at c.put_u32.ensures.written) c.put_u32-2.ensures.written in
     let three : c.put_u64.new.out ≡ take at old ++ ((tag ++ flags) ++ long x.binder) ++ drop (at + 16) old =
-    side_by_side at 8 8 old c.put_u32-2.new.out c.put_u64.new.out (tag ++ flags) (long x.binder) refl refl (omega arith) two c.put_u64.ensures in
-    side_by_side at 16 8 old c.put_u64.new.out c.put_u64-2.new.out ((tag ++ flags) ++ long x.binder) (long x.cookie) refl refl (omega arith) three c.put_u64-2.ensures
+    side_by_side at 8 8 old c.put_u32-2.new.out c.put_u64.new.out (tag ++ flags) (long x.binder) refl refl (omega arith) two c.put_u64.ensures.written in
+    side_by_side at 16 8 old c.put_u64.new.out c.put_u64-2.new.out ((tag ++ flags) ++ long x.binder) (long x.cookie) refl refl (omega arith) three c.put_u64-2.ensures.written
