@@ -2,7 +2,7 @@ pub mod Filters
 pub mod FreeNumbers
 pub mod Firsts
 pub mod Giving
-pub mod Carried
+pub mod BufferReferences
 pub mod Grown
 pub mod Handshakes
 pub mod Telling

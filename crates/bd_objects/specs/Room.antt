@@ -1,37 +1,39 @@
 -- How many members a table may still take without memory, and what a change takes of that.
-use Rattle.std.specs.Prelude.{ℕ, ◌+◌, ◌-◌, ◌≤◌, vec_len, vec_capacity}
+use Rattle.std.specs.Prelude.{ℕ, ◌+◌, ◌-◌, ◌≤◌, List, length, vec_len, vec_capacity}
+use Rattle.bd_space.specs.declared.space.Item.{Item}
+use Rattle.bd_space.specs.declared.space.Object.{Object}
 use Rattle.bd_objects.specs.declared.table.ObjectTable.{ObjectTable}
+use Rattle.bd_objects.specs.declared.room.Room.{Room}
 
 -- room for more of each, and how many there are of those that others count
 pub record Rooms : Type 0 where
-  pub objects : ℕ
-  pub references : ℕ
-  pub names : ℕ
-  pub deaths : ℕ
+  pub left : Room
   pub object_count : ℕ
   pub death_count : ℕ
 
 unfoldable pub rooms : ObjectTable → Rooms
 rooms t = record {
-  objects = vec_capacity t.objects - vec_len t.objects;
-  references = vec_capacity t.references - vec_len t.references;
-  names = vec_capacity t.names - vec_len t.names;
-  deaths = vec_capacity t.deaths - vec_len t.deaths;
+  left = record {
+    objects = vec_capacity t.objects - vec_len t.objects;
+    references = vec_capacity t.references - vec_len t.references;
+    names = vec_capacity t.names - vec_len t.names;
+    deaths = vec_capacity t.deaths - vec_len t.deaths;
+  };
   object_count = vec_len t.objects;
   death_count = vec_len t.deaths;
 }
 
 abbrev pub object_room : ObjectTable → ℕ
-object_room t = (rooms t).objects
+object_room t = (rooms t).left.objects
 
 abbrev pub reference_room : ObjectTable → ℕ
-reference_room t = (rooms t).references
+reference_room t = (rooms t).left.references
 
 abbrev pub name_room : ObjectTable → ℕ
-name_room t = (rooms t).names
+name_room t = (rooms t).left.names
 
 abbrev pub death_room : ObjectTable → ℕ
-death_room t = (rooms t).deaths
+death_room t = (rooms t).left.deaths
 
 abbrev pub object_count : ObjectTable → ℕ
 object_count t = (rooms t).object_count
@@ -39,18 +41,28 @@ object_count t = (rooms t).object_count
 abbrev pub death_count : ObjectTable → ℕ
 death_count t = (rooms t).death_count
 
--- a change takes room for at most so many of each, and adds at most so many objects and death notifications
-pub record Takes (old new : ObjectTable) (objects references names deaths : ℕ) : Type 0 where
-  pub objects_fit : object_room old ≤ object_room new + objects
-  pub references_fit : reference_room old ≤ reference_room new + references
-  pub names_fit : name_room old ≤ name_room new + names
-  pub deaths_fit : death_room old ≤ death_room new + deaths
-  pub objects_count : object_count new ≤ object_count old + objects
-  pub deaths_count : death_count new ≤ death_count old + deaths
+-- room for so many of each
+pub record HasRoom (t : ObjectTable) (room : Room) : Type 0 where
+  pub objects_fit : room.objects ≤ object_room t
+  pub references_fit : room.references ≤ reference_room t
+  pub names_fit : room.names ≤ name_room t
+  pub deaths_fit : room.deaths ≤ death_room t
 
--- room for so many of each, and for one death notification
-pub record HasRoom (t : ObjectTable) (objects references names : ℕ) : Type 0 where
-  pub objects_fit : objects ≤ object_room t
-  pub references_fit : references ≤ reference_room t
-  pub names_fit : names ≤ name_room t
-  pub deaths_fit : 1 ≤ death_room t
+-- a change takes at most so much room, and adds at most so many objects and death notifications
+pub record Takes (old new : ObjectTable) (room : Room) : Type 0 where
+  pub objects_fit : object_room old ≤ object_room new + room.objects
+  pub references_fit : reference_room old ≤ reference_room new + room.references
+  pub names_fit : name_room old ≤ name_room new + room.names
+  pub deaths_fit : death_room old ≤ death_room new + room.deaths
+  pub objects_count : object_count new ≤ object_count old + room.objects
+  pub deaths_count : death_count new ≤ death_count old + room.deaths
+
+abbrev pub nothing : Room
+nothing = record { objects = 0; references = 0; names = 0; deaths = 0 }
+
+abbrev pub TakesNothing : ObjectTable → ObjectTable → Type 0
+TakesNothing old new = Takes old new nothing
+
+-- for the objects that a parcel makes, a reference and a name for each of its items, and a reference to the target
+abbrev pub delivery_room : List Object → List Item → Room
+delivery_room made items = record { objects = length made; references = length items + 1; names = length items; deaths = 0 }

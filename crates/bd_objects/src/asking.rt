@@ -1,35 +1,21 @@
 //! What a process asks for itself: `BC_INCREFS`, `BC_ACQUIRE`, `BC_RELEASE`, `BC_DECREFS`, and its acknowledgements.
 
-ghost use Rattle.std.specs.Prelude.{◌≡◌, ◌==◌, ◌≤◌, ◌&&◌, find, vec_len, vec_capacity, Option, Result, OnOk, OnErr, true};
-ghost use Rattle.bd_space.specs.Words.{without_first};
+ghost use Rattle.std.specs.Prelude.{◌≡◌, ◌==◌, ◌≤◌, ◌∷◌, [], position, if◌then◌else◌, vec_len, vec_capacity};
+ghost use Rattle.std.specs.Prelude.{Option, Result, OnOk, OnErr};
+ghost use Rattle.std.specs.List.{list_any};
+ghost use Rattle.bd_space.specs.Words.{first_of, without_first};
 ghost use Rattle.bd_space.specs.References as refer;
 ghost use Rattle.bd_space.specs.Asking as asking;
-ghost use Rattle.std.specs.Prelude.{position, [], ◌∷◌, if◌then◌else◌};
-ghost use Rattle.std.specs.List.{list_any};
-ghost use Rattle.bd_space.specs.Words.{first_of};
 ghost use Rattle.bd_space.specs.Names.{named_in as named_in_list};
 
+use crate::holders::{is_asked_by, is_handshake};
 use crate::names::named_in;
-use crate::objects::{owned_in, same};
+use crate::numbers::{NumbersFull, give_name};
+use crate::objects::{own_with, owned_in, same};
 use crate::references::strong_in;
 use crate::table::ObjectTable;
-use bd_space::{Holder, Name, Object, ObjectId, Reference};
+use bd_space::{Holder, Identity, Name, Object, ObjectId, Reference};
 use bd_uapi::Note;
-
-pub(crate) fn is_asked_by(p: u32, holder: Holder) -> bool
-    ensures { result ≡ refer.is_asked_by p holder }
-{
-    match holder {
-        Holder::Asked(q) => q == p,
-        _ => false,
-    }
-}
-
-fn is_handshake(holder: Holder) -> bool
-    ensures { result ≡ refer.is_handshake holder }
-{
-    matches!(holder, Holder::Handshake)
-}
 
 fn same_strength(strong: bool, r: &Reference) -> bool
     ensures { result ≡ refer.same_strength strong r.now }
@@ -98,7 +84,9 @@ fn drop_shaking(references: &mut Vec<Reference>, o: ObjectId, strong: bool)
 
 /// The object that the process means by the number: 0 is the context manager's while there is one.
 fn asked_in(manager: Option<ObjectId>, names: &[Name], p: u32, n: u32) -> Option<ObjectId>
-    ensures { result ≡ (if n == 0 then first_of (manager ∷ named_in_list names.now p 0 ∷ []) else named_in_list names.now p n) }
+    ensures { result ≡ (if n == 0
+        then first_of (manager ∷ named_in_list names.now p 0 ∷ [])
+        else named_in_list names.now p n) }
 {
     match manager {
         Some(o) if n == 0 => Some(o),
@@ -106,20 +94,11 @@ fn asked_in(manager: Option<ObjectId>, names: &[Name], p: u32, n: u32) -> Option
     }
 }
 
-fn own_with(objects: &[Object], p: u32, ptr: u64, cookie: u64) -> Option<Object>
-    ensures { result ≡ find (asking.is_own_with p ptr cookie) objects.now }
-{
-    objects
-        .iter()
-        .copied()
-        .find(|x| x.owner == p && x.ptr == ptr && x.cookie == cookie)
-}
-
 impl ObjectTable {
-    ghost use Rattle.bd_space.specs.Space.{Space};
-    ghost use Rattle.bd_space.specs.Names as names_of;
-    ghost use Rattle.bd_objects.specs.Stands.{StandsFor};
-    ghost use Rattle.bd_objects.specs.Room.{Takes, reference_room, name_room};
+    ghost use Rattle.bd_space.specs.Tables.{Tells, Makes};
+    ghost use Rattle.bd_objects.specs.Stands.{StandsFor, IsKept, HasManager, IsAtWith, TellsWhere, MakesWhere};
+    ghost use Rattle.bd_objects.specs.Numbers.{SpaceIsPastLimit};
+    ghost use Rattle.bd_objects.specs.Room.{Takes, TakesNothing, nothing, reference_room, name_room};
 
     /// The object that the process asks for by this number, weakly or strongly. Errors, the first that holds: no such
     /// number, nobody refers to it strongly, it is the process's own.
@@ -131,7 +110,7 @@ impl ObjectTable {
         n: u32,
         strong: bool,
     ) -> Result<ObjectId, Note>
-        ensures { (s : Space) → StandsFor self.now s → s.manager ≡ manager → result ≡ asking.ask_check s p n strong }
+        ensures { TellsWhere (StandsFor self.now) (HasManager manager) result (λ s. asking.ask_check s p n strong) }
     {
         let o = asked_in(manager, self.names.as_slice(), p, n).ok_or(Note::NoSuchNumber)?;
         if strong && !strong_in(self.references.as_slice(), o) {
@@ -143,10 +122,52 @@ impl ObjectTable {
         Ok(o)
     }
 
-    /// The object of which the process drops a reference of this strength. Errors: no such number, or it asked for none.
+    /// The reference that the process asks for, with a name for the object if it has none. All of it, or nothing where
+    /// a number past the limit would be needed. Takes the context manager's object.
+    #[tactic(auto, unfolding(bd_space::specs::Asking::ask, bd_space::specs::Names::assign_numbers, bd_space::specs::Names::names_go, crate::specs::Room::rooms))]
+    pub fn ask(
+        &mut self,
+        place: u32,
+        manager: Option<ObjectId>,
+        p: u32,
+        o: ObjectId,
+        strong: bool,
+    ) -> Result<(), NumbersFull>
+        requires references { 1 ≤ reference_room self.old }
+        requires names { 1 ≤ name_room self.old }
+        ensures ok { OnOk result (MakesWhere (StandsFor self.old) (IsAtWith place manager) (StandsFor self.new)
+            (λ s. asking.ask s p o strong)) }
+        ensures err { OnErr result (IsKept self.old self.new) }
+        ensures full { OnErr result (MakesWhere (StandsFor self.old) (IsAtWith place manager) SpaceIsPastLimit
+            (λ s. asking.ask s p o strong)) }
+        ensures takes { Takes self.old self.new (record nothing { references = 1; names = 1 }) }
+    {
+        let references = self.references.len();
+        self.references.push_reserved(Reference {
+            id: Identity { place, index: 0 },
+            object: o,
+            strong,
+            holder: Holder::Asked(p),
+        });
+        let given = give_name(
+            &mut self.names,
+            manager,
+            self.objects.as_slice(),
+            self.references.as_slice(),
+            p,
+            o,
+        );
+        if given.is_err() {
+            self.references.truncate(references);
+        }
+        given
+    }
+
+    /// The object of which the process drops a reference of this strength. Errors: no such number, or it asked for
+    /// none.
     #[tactic(auto, unfolding(bd_space::specs::Asking::drop_check, bd_space::specs::Names::named))]
     pub fn drop_check(&self, p: u32, n: u32, strong: bool) -> Result<ObjectId, Note>
-        ensures { (s : Space) → StandsFor self.now s → result ≡ asking.drop_check s p n strong }
+        ensures { Tells (StandsFor self.now) result (λ s. asking.drop_check s p n strong) }
     {
         let o = named_in(self.names.as_slice(), p, n).ok_or(Note::NoSuchNumber)?;
         if !is_asked(self.references.as_slice(), p, o, strong) {
@@ -158,17 +179,17 @@ impl ObjectTable {
     /// The least reference of this strength goes that the process asked for.
     #[tactic(auto, unfolding(bd_space::specs::Asking::drop_asked, crate::specs::Room::rooms))]
     pub fn drop_asked(&mut self, p: u32, o: ObjectId, strong: bool)
-        ensures stands { (s : Space) → StandsFor self.old s → StandsFor self.new (asking.drop_asked s p o strong) }
-        ensures takes { Takes self.old self.new 0 0 0 0 }
+        ensures stands { Makes (StandsFor self.old) (StandsFor self.new) (λ s. asking.drop_asked s p o strong) }
+        ensures takes { TakesNothing self.old self.new }
     {
         drop_asking(&mut self.references, p, o, strong);
     }
 
-    /// The own object that the process acknowledges, by ptr and cookie. Errors: it has no such object, or that waits for
-    /// no acknowledgement of this strength.
+    /// The own object that the process acknowledges, by ptr and cookie. Errors: it has no such object, or that waits
+    /// for no acknowledgement of this strength.
     #[tactic(auto, unfolding(bd_space::specs::Asking::done_check))]
     pub fn done_check(&self, p: u32, ptr: u64, cookie: u64, strong: bool) -> Result<Object, Note>
-        ensures { (s : Space) → StandsFor self.now s → result ≡ asking.done_check s p ptr cookie strong }
+        ensures { Tells (StandsFor self.now) result (λ s. asking.done_check s p ptr cookie strong) }
     {
         let x = own_with(self.objects.as_slice(), p, ptr, cookie).ok_or(Note::NoSuchObject)?;
         if !is_shaken(self.references.as_slice(), x.id, strong) {
@@ -180,8 +201,8 @@ impl ObjectTable {
     /// The reference goes that stood for the acknowledgement.
     #[tactic(auto, unfolding(bd_space::specs::Asking::acknowledge, crate::specs::Room::rooms))]
     pub fn acknowledge(&mut self, o: ObjectId, strong: bool)
-        ensures stands { (s : Space) → StandsFor self.old s → StandsFor self.new (asking.acknowledge s o strong) }
-        ensures takes { Takes self.old self.new 0 0 0 0 }
+        ensures stands { Makes (StandsFor self.old) (StandsFor self.new) (λ s. asking.acknowledge s o strong) }
+        ensures takes { TakesNothing self.old self.new }
     {
         drop_shaking(&mut self.references, o, strong);
     }

@@ -1,27 +1,21 @@
 //! Death notifications.
 
-ghost use Rattle.std.specs.Prelude.{◌≡◌, ◌==◌, ◌≤◌, ◌||◌, ◌&&◌, not, filter, find, length, slice_get, vec_len, vec_capacity, Option, true};
+ghost use Rattle.std.specs.Prelude.{◌≡◌, ◌==◌, ◌≤◌, ◌||◌, not, filter, find, length, slice_get, vec_len, vec_capacity};
+ghost use Rattle.std.specs.Prelude.{Option, true};
 ghost use Rattle.std.specs.List.{list_any};
 ghost use Rattle.bd_space.specs.Deaths as deaths_of;
 ghost use Rattle.bd_space.specs.Clearing as clearing;
 ghost use Rattle.bd_space.specs.Notices as notices;
 ghost use Rattle.bd_space.specs.ProcessExits as exits;
 ghost use Rattle.bd_space.specs.Words.{changed};
-ghost use Rattle.bd_space.specs.References.{owned_in as owned_in_list};
 ghost use Rattle.bd_space.specs.declared.space.Phase.TheVariants.{Queued};
+ghost use Rattle.bd_objects.specs.Deaths as due;
 
-use crate::names::named_in;
-use crate::objects::{lives_in, object_in, owned_in, same};
+use crate::names::{is_name_of, named_in};
+use crate::objects::{owned_in, same};
 use crate::table::ObjectTable;
-use bd_space::{DeathNotification, Name, Object, ObjectId, Phase, Process};
+use bd_space::{DeathNotification, Name, Object, ObjectId, Phase};
 use bd_uapi::Note;
-
-/// Whether the process has a name for the object.
-fn is_name_of(names: &[Name], p: u32, o: ObjectId) -> bool
-    ensures { result ≡ notices.is_name_of names.now p o }
-{
-    names.iter().any(|m| m.process == p && same(m.object, o))
-}
 
 pub(crate) fn is_death_in(deaths: &[DeathNotification], made: u32) -> bool
     ensures { result ≡ list_any (λ x. x.made == made) deaths.now }
@@ -63,7 +57,8 @@ fn told_death_in(deaths: &[DeathNotification], p: u32, cookie: u64) -> Option<De
 }
 
 fn keep_deaths(deaths: &mut Vec<DeathNotification>, names: &[Name])
-    ensures items { deaths.new.items ≡ filter (λ x. x.cleared || notices.is_name_of names.now x.process x.object) deaths.old.items }
+    ensures items { deaths.new.items
+        ≡ filter (λ x. x.cleared || notices.is_name_of names.now x.process x.object) deaths.old.items }
     ensures len { vec_len deaths.new ≤ vec_len deaths.old }
     ensures capacity { vec_capacity deaths.new ≡ vec_capacity deaths.old }
 {
@@ -79,7 +74,8 @@ fn drop_death(deaths: &mut Vec<DeathNotification>, made: u32)
 }
 
 fn mark(deaths: &mut Vec<DeathNotification>, made: u32)
-    ensures items { deaths.new.items ≡ changed (deaths_of.is_notification made) (λ x. record x { cleared = true }) deaths.old.items }
+    ensures items { deaths.new.items
+        ≡ changed (deaths_of.is_notification made) (λ x. record x { cleared = true }) deaths.old.items }
     ensures len { vec_len deaths.new ≡ vec_len deaths.old }
     ensures capacity { vec_capacity deaths.new ≡ vec_capacity deaths.old }
 {
@@ -91,7 +87,8 @@ fn mark(deaths: &mut Vec<DeathNotification>, made: u32)
 }
 
 fn set_phase(deaths: &mut Vec<DeathNotification>, made: u32, phase: Phase)
-    ensures items { deaths.new.items ≡ changed (deaths_of.is_notification made) (λ x. record x { phase = phase }) deaths.old.items }
+    ensures items { deaths.new.items
+        ≡ changed (deaths_of.is_notification made) (λ x. record x { phase = phase }) deaths.old.items }
     ensures len { vec_len deaths.new ≡ vec_len deaths.old }
     ensures capacity { vec_capacity deaths.new ≡ vec_capacity deaths.old }
 {
@@ -104,15 +101,15 @@ fn set_phase(deaths: &mut Vec<DeathNotification>, made: u32, phase: Phase)
 
 /// Whether the end of the process is to be told by this notification.
 fn is_due(objects: &[Object], p: u32, x: &DeathNotification) -> bool
-    ensures { result ≡ (exits.is_armed x.now.phase && owned_in_list objects.now p x.now.object) }
+    ensures { result ≡ due.is_due objects.now p x.now }
 {
     is_armed(x.phase) && owned_in(objects, p, x.object)
 }
 
 /// Queues the notifications with the name of one by which the end of the process is to be told.
 fn queue_due(deaths: &mut Vec<DeathNotification>, objects: &[Object], p: u32)
-    ensures items { deaths.new.items ≡ changed (λ y. list_any (λ x. (exits.is_armed x.phase && owned_in_list objects.now p x.object) && (y.made == x.made)) deaths.old.items)
-        (λ x. record x { phase = Queued }) deaths.old.items }
+    ensures items { deaths.new.items
+        ≡ changed (due.is_queued_in deaths.old.items objects.now p) (λ x. record x { phase = Queued }) deaths.old.items }
     ensures len { vec_len deaths.new ≡ vec_len deaths.old }
     ensures capacity { vec_capacity deaths.new ≡ vec_capacity deaths.old }
 {
@@ -125,16 +122,15 @@ fn queue_due(deaths: &mut Vec<DeathNotification>, objects: &[Object], p: u32)
 }
 
 impl ObjectTable {
-    ghost use Rattle.bd_space.specs.Space.{Space};
-    ghost use Rattle.bd_space.specs.References as refer;
-    ghost use Rattle.bd_objects.specs.Stands.{StandsFor};
-    ghost use Rattle.bd_objects.specs.Room.{Takes, death_room, death_count};
+    ghost use Rattle.bd_space.specs.Tables.{Tells, Makes};
+    ghost use Rattle.bd_objects.specs.Stands.{StandsFor, IsAt, MakesWhere};
+    ghost use Rattle.bd_objects.specs.Room.{Takes, TakesNothing, nothing, death_room, death_count};
 
     /// The uncleared notifications go whose name is gone.
     #[tactic(auto, unfolding(bd_space::specs::Notices::deaths_go, crate::specs::Room::rooms))]
     pub fn deaths_go(&mut self)
-        ensures stands { (s : Space) → StandsFor self.old s → StandsFor self.new (notices.deaths_go s) }
-        ensures takes { Takes self.old self.new 0 0 0 0 }
+        ensures stands { Makes (StandsFor self.old) (StandsFor self.new) notices.deaths_go }
+        ensures takes { TakesNothing self.old self.new }
     {
         keep_deaths(&mut self.deaths, self.names.as_slice());
     }
@@ -143,7 +139,7 @@ impl ObjectTable {
     /// notification stands on the name already.
     #[tactic(auto, unfolding(bd_space::specs::Deaths::request_check, bd_space::specs::Names::named))]
     pub fn request_check(&self, p: u32, n: u32) -> Result<ObjectId, Note>
-        ensures { (s : Space) → StandsFor self.now s → result ≡ deaths_of.request_check s p n }
+        ensures { Tells (StandsFor self.now) result (λ s. deaths_of.request_check s p n) }
     {
         let o = named_in(self.names.as_slice(), p, n).ok_or(Note::NoSuchNumber)?;
         if uncleared_in(self.deaths.as_slice(), p, o).is_some() {
@@ -152,24 +148,13 @@ impl ObjectTable {
         Ok(o)
     }
 
-    /// Whether the object's owner lives. Takes the live processes.
-    pub fn owner_lives(&self, processes: &[Process], o: ObjectId) -> bool
-        ensures { (s : Space) → StandsFor self.now s → s.processes ≡ processes.now
-            → result ≡ deaths_of.owner_lives_in s.processes s.objects o }
-    {
-        match object_in(self.objects.as_slice(), o) {
-            Some(x) => lives_in(processes, x.owner),
-            None => false,
-        }
-    }
-
     /// A new notification of the process on its name of the object, made by the step of this place.
     #[tactic(auto, unfolding(bd_space::specs::Deaths::with_death, crate::specs::Room::rooms))]
     pub fn with_death(&mut self, place: u32, p: u32, o: ObjectId, cookie: u64, phase: Phase)
         requires { 1 ≤ death_room self.old }
-        ensures stands { (s : Space) → StandsFor self.old s → s.steps ≡ place
-            → StandsFor self.new (deaths_of.with_death s p o cookie phase) }
-        ensures takes { Takes self.old self.new 0 0 0 1 }
+        ensures stands { MakesWhere (StandsFor self.old) (IsAt place) (StandsFor self.new)
+            (λ s. deaths_of.with_death s p o cookie phase) }
+        ensures takes { Takes self.old self.new (record nothing { deaths = 1 }) }
     {
         self.deaths.push_reserved(DeathNotification {
             made: place,
@@ -181,11 +166,11 @@ impl ObjectTable {
         });
     }
 
-    /// The uncleared notification on the process's name with this number. Errors: no such number, or no notification with
-    /// this cookie.
+    /// The uncleared notification on the process's name with this number. Errors: no such number, or no notification
+    /// with this cookie.
     #[tactic(auto, unfolding(bd_space::specs::Clearing::clear_check, bd_space::specs::Names::named))]
     pub fn clear_check(&self, p: u32, n: u32, cookie: u64) -> Result<DeathNotification, Note>
-        ensures { (s : Space) → StandsFor self.now s → result ≡ clearing.clear_check s p n cookie }
+        ensures { Tells (StandsFor self.now) result (λ s. clearing.clear_check s p n cookie) }
     {
         let o = named_in(self.names.as_slice(), p, n).ok_or(Note::NoSuchNumber)?;
         let x = uncleared_in(self.deaths.as_slice(), p, o).ok_or(Note::NoneAsked)?;
@@ -198,8 +183,8 @@ impl ObjectTable {
     /// Marks the notification as cleared.
     #[tactic(auto, unfolding(bd_space::specs::Clearing::mark_cleared, crate::specs::Room::rooms))]
     pub fn mark_cleared(&mut self, made: u32)
-        ensures stands { (s : Space) → StandsFor self.old s → StandsFor self.new (clearing.mark_cleared s made) }
-        ensures takes { Takes self.old self.new 0 0 0 0 }
+        ensures stands { Makes (StandsFor self.old) (StandsFor self.new) (λ s. clearing.mark_cleared s made) }
+        ensures takes { TakesNothing self.old self.new }
     {
         mark(&mut self.deaths, made);
     }
@@ -207,8 +192,8 @@ impl ObjectTable {
     /// The notification goes.
     #[tactic(auto, unfolding(bd_space::specs::Deaths::without_death, crate::specs::Room::rooms))]
     pub fn without_death(&mut self, made: u32)
-        ensures stands { (s : Space) → StandsFor self.old s → StandsFor self.new (deaths_of.without_death s made) }
-        ensures takes { Takes self.old self.new 0 0 0 0 }
+        ensures stands { Makes (StandsFor self.old) (StandsFor self.new) (λ s. deaths_of.without_death s made) }
+        ensures takes { TakesNothing self.old self.new }
     {
         drop_death(&mut self.deaths, made);
     }
@@ -216,8 +201,8 @@ impl ObjectTable {
     /// The notification is this far.
     #[tactic(auto, unfolding(bd_space::specs::Deaths::with_phase, crate::specs::Room::rooms))]
     pub fn with_phase(&mut self, made: u32, phase: Phase)
-        ensures stands { (s : Space) → StandsFor self.old s → StandsFor self.new (deaths_of.with_phase s made phase) }
-        ensures takes { Takes self.old self.new 0 0 0 0 }
+        ensures stands { Makes (StandsFor self.old) (StandsFor self.new) (λ s. deaths_of.with_phase s made phase) }
+        ensures takes { TakesNothing self.old self.new }
     {
         set_phase(&mut self.deaths, made, phase);
     }
@@ -225,14 +210,14 @@ impl ObjectTable {
     /// The least told notification of the process with this cookie.
     #[tactic(auto, unfolding(bd_space::specs::Clearing::told_death))]
     pub fn told_death(&self, p: u32, cookie: u64) -> Option<DeathNotification>
-        ensures { (s : Space) → StandsFor self.now s → result ≡ clearing.told_death s p cookie }
+        ensures { Tells (StandsFor self.now) result (λ s. clearing.told_death s p cookie) }
     {
         told_death_in(self.deaths.as_slice(), p, cookie)
     }
 
     /// The notification of this place.
     pub fn death(&self, made: u32) -> Option<DeathNotification>
-        ensures { (s : Space) → StandsFor self.now s → result ≡ find (deaths_of.is_notification made) s.deaths }
+        ensures { Tells (StandsFor self.now) result (λ s. find (deaths_of.is_notification made) s.deaths) }
     {
         death_in(self.deaths.as_slice(), made)
     }
@@ -240,7 +225,7 @@ impl ObjectTable {
     /// How many notifications there are.
     #[tactic(auto, unfolding(crate::specs::Room::rooms))]
     pub fn death_count(&self) -> usize
-        ensures count { (s : Space) → StandsFor self.now s → result ≡ length s.deaths }
+        ensures count { Tells (StandsFor self.now) result (λ s. length s.deaths) }
         ensures counted { result ≡ death_count self.now }
     {
         self.deaths.len()
@@ -248,24 +233,24 @@ impl ObjectTable {
 
     /// The notification of an index, in the order in which they were made.
     pub fn death_at(&self, k: usize) -> Option<DeathNotification>
-        ensures { (s : Space) → StandsFor self.now s → result ≡ slice_get s.deaths k }
+        ensures { Tells (StandsFor self.now) result (λ s. slice_get s.deaths k) }
     {
         self.deaths.get(k).copied()
     }
 
     /// Whether the end of the process is to be told by this notification.
     pub fn tells_death(&self, p: u32, x: &DeathNotification) -> bool
-        ensures { (s : Space) → StandsFor self.now s
-            → result ≡ (exits.is_armed x.now.phase && refer.owned_in s.objects p x.now.object) }
+        ensures { Tells (StandsFor self.now) result (λ s. due.is_due s.objects p x.now) }
     {
         is_due(self.objects.as_slice(), p, x)
     }
 
-    /// Queues the notifications by which the end of the process is to be told. Their work items are the caller's to make.
+    /// Queues the notifications by which the end of the process is to be told. Their work items are the caller's to
+    /// make.
     #[tactic(auto, unfolding(crate::specs::Room::rooms))]
     pub fn tell_deaths(&mut self, p: u32)
-        ensures stands { (s : Space) → StandsFor self.old s → StandsFor self.new (exits.tell_deaths s p) }
-        ensures takes { Takes self.old self.new 0 0 0 0 }
+        ensures stands { Makes (StandsFor self.old) (StandsFor self.new) (λ s. exits.tell_deaths s p) }
+        ensures takes { TakesNothing self.old self.new }
     {
         queue_due(&mut self.deaths, self.objects.as_slice(), p);
     }

@@ -3,36 +3,17 @@
 ghost use Rattle.std.specs.Prelude.{◌≡◌, ◌==◌, ◌≤◌, ◌||◌, ◌&&◌, ℕ, Bool, not, filter, vec_len, vec_capacity, Option};
 ghost use Rattle.bd_space.specs.Words.{is_some_and};
 ghost use Rattle.bd_space.specs.References as refer;
-ghost use Rattle.bd_space.specs.ProcessExits as exits;
-ghost use Rattle.bd_space.specs.ThreadExits as thread_exits;
+ghost use Rattle.bd_space.specs.ThreadExits as exits;
+ghost use Rattle.bd_space.specs.ProcessExits as process_exits;
 
-use crate::asking::is_asked_by;
+use crate::holders::{buffer_of_holder, is_asked_by, is_in_window, is_of_owner};
 use crate::objects::owned_in;
-use crate::references::buffer_of_holder;
 use crate::table::ObjectTable;
 use bd_space::{DeathNotification, Holder, Name, Object, Reference};
 
-/// Whether its buffer lies in the process's window.
-fn is_in_window(p: u32, holder: Holder) -> bool
-    ensures { result ≡ refer.is_in_window p holder }
-{
-    match holder {
-        Holder::Carried(_, q) => q == p,
-        Holder::Target(_, q) => q == p,
-        _ => false,
-    }
-}
-
-/// Whether it is the owner's own: unacknowledged, or the context manager's.
-fn is_of_owner(holder: Holder) -> bool
-    ensures { result ≡ refer.is_of_owner holder }
-{
-    matches!(holder, Holder::Handshake | Holder::Manager)
-}
-
 /// Whether it goes with the process.
 fn is_dropped_with(objects: &[Object], p: u32, r: &Reference) -> bool
-    ensures { result ≡ exits.is_dropped_with objects.now p r.now }
+    ensures { result ≡ process_exits.is_dropped_with objects.now p r.now }
 {
     is_asked_by(p, r.holder)
         || is_in_window(p, r.holder)
@@ -40,7 +21,8 @@ fn is_dropped_with(objects: &[Object], p: u32, r: &Reference) -> bool
 }
 
 fn drop_references_of(references: &mut Vec<Reference>, objects: &[Object], p: u32)
-    ensures items { references.new.items ≡ filter (λ r. not (exits.is_dropped_with objects.now p r)) references.old.items }
+    ensures items { references.new.items
+        ≡ filter (λ r. not (process_exits.is_dropped_with objects.now p r)) references.old.items }
     ensures len { vec_len references.new ≤ vec_len references.old }
     ensures capacity { vec_capacity references.new ≡ vec_capacity references.old }
 {
@@ -79,7 +61,8 @@ fn is_lost_with<F: Fn(u32) -> bool>(lost: &F, holder: Holder) -> bool
 fn drop_lost<F: Fn(u32) -> bool>(references: &mut Vec<Reference>, lost: F)
     requires { F.IsAlwaysCallable lost }
     ensures items { (is_lost : ℕ → Bool) → ((b : ℕ) (r : Bool) → F.post lost b r → r ≡ is_lost b)
-        → references.new.items ≡ filter (λ r. not (is_some_and (refer.buffer_of_holder r.holder) is_lost)) references.old.items }
+        → references.new.items
+        ≡ filter (λ r. not (is_some_and (refer.buffer_of_holder r.holder) is_lost)) references.old.items }
     ensures len { vec_len references.new ≤ vec_len references.old }
     ensures capacity { vec_capacity references.new ≡ vec_capacity references.old }
 {
@@ -87,19 +70,19 @@ fn drop_lost<F: Fn(u32) -> bool>(references: &mut Vec<Reference>, lost: F)
 }
 
 impl ObjectTable {
-    ghost use Rattle.bd_space.specs.Space.{Space};
+    ghost use Rattle.bd_space.specs.Tables.{Makes};
     ghost use Rattle.bd_space.specs.declared.space.TodoList.TheVariants.{OfThread};
-    ghost use Rattle.bd_objects.specs.Stands.{StandsFor};
-    ghost use Rattle.bd_objects.specs.Room.{Takes};
+    ghost use Rattle.bd_objects.specs.Stands.{StandsFor, MakesWhere};
+    ghost use Rattle.bd_objects.specs.Room.{TakesNothing};
 
     /// The references go of the buffers that are lost with the thread of a seat; the caller says which those are.
     #[tactic(auto, unfolding(bd_space::specs::ThreadExits::thread_goes, crate::specs::Room::rooms))]
     pub fn thread_goes<F: Fn(u32) -> bool>(&mut self, lost: F)
         requires { F.IsAlwaysCallable lost }
-        ensures stands { (s : Space) (seat : ℕ) → StandsFor self.old s
-            → ((b : ℕ) (r : Bool) → F.post lost b r → r ≡ thread_exits.is_lost_with s.todo (OfThread seat) b)
-            → StandsFor self.new (thread_exits.thread_goes s seat) }
-        ensures takes { Takes self.old self.new 0 0 0 0 }
+        ensures stands { (seat : ℕ) → MakesWhere (StandsFor self.old)
+            (λ s. (b : ℕ) (r : Bool) → F.post lost b r → r ≡ exits.is_lost_with s.todo (OfThread seat) b)
+            (StandsFor self.new) (λ s. exits.thread_goes s seat) }
+        ensures takes { TakesNothing self.old self.new }
     {
         drop_lost(&mut self.references, lost);
     }
@@ -107,8 +90,8 @@ impl ObjectTable {
     /// The references, names and death notifications go that go with the process.
     #[tactic(auto, unfolding(bd_space::specs::ProcessExits::without_process, crate::specs::Room::rooms))]
     pub fn without_process(&mut self, p: u32)
-        ensures stands { (s : Space) → StandsFor self.old s → StandsFor self.new (exits.without_process s p) }
-        ensures takes { Takes self.old self.new 0 0 0 0 }
+        ensures stands { Makes (StandsFor self.old) (StandsFor self.new) (λ s. process_exits.without_process s p) }
+        ensures takes { TakesNothing self.old self.new }
     {
         drop_references_of(&mut self.references, self.objects.as_slice(), p);
         drop_names_of(&mut self.names, p);

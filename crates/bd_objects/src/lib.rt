@@ -2,20 +2,24 @@
 #![tactic(auto)]
 
 mod asking;
-mod carrying;
+mod carried;
 mod deaths;
+mod delivery;
 mod exits;
+mod holders;
 mod names;
 mod notices;
 mod numbers;
 mod objects;
+mod parcels;
+mod reading;
 mod references;
-mod sending;
+mod room;
 mod table;
-mod told;
 
-pub use carrying::CarriedObjects;
+pub use carried::CarriedObjects;
 pub use numbers::NumbersFull;
+pub use room::Room;
 pub use table::ObjectTable;
 
 #[cfg(test)]

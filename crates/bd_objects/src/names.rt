@@ -5,9 +5,10 @@ ghost use Rattle.std.specs.List.{list_any};
 ghost use Rattle.bd_space.specs.Words as words;
 ghost use Rattle.bd_space.specs.References as refer;
 ghost use Rattle.bd_space.specs.Names as names_of;
+ghost use Rattle.bd_space.specs.Notices as notices;
 
+use crate::holders::names_for;
 use crate::objects::{owned_in, same};
-use crate::references::names_for;
 use crate::table::ObjectTable;
 use bd_space::{Name, Object, ObjectId, Reference};
 
@@ -55,6 +56,13 @@ fn name_of(names: &[Name], p: u32, o: ObjectId) -> Option<Name>
         .find(|m| m.process == p && same(m.object, o))
 }
 
+/// Whether the process has a name for the object.
+pub(crate) fn is_name_of(names: &[Name], p: u32, o: ObjectId) -> bool
+    ensures { result ≡ notices.is_name_of names.now p o }
+{
+    names.iter().any(|m| m.process == p && same(m.object, o))
+}
+
 pub(crate) fn named_in(names: &[Name], p: u32, n: u32) -> Option<ObjectId>
     ensures { result ≡ names_of.named_in names.now p n }
 {
@@ -68,7 +76,8 @@ pub(crate) fn number_in(names: &[Name], p: u32, o: ObjectId) -> Option<u32>
 }
 
 fn keep_named(names: &mut Vec<Name>, objects: &[Object], references: &[Reference])
-    ensures items { names.new.items ≡ filter (λ m. names_of.is_named_in objects.now references.now m.process m.object) names.old.items }
+    ensures items { names.new.items
+        ≡ filter (λ m. names_of.is_named_in objects.now references.now m.process m.object) names.old.items }
     ensures capacity { vec_capacity names.new ≡ vec_capacity names.old }
     ensures len { vec_len names.new ≤ vec_len names.old }
 {
@@ -76,14 +85,14 @@ fn keep_named(names: &mut Vec<Name>, objects: &[Object], references: &[Reference
 }
 
 impl ObjectTable {
-    ghost use Rattle.bd_space.specs.Space.{Space};
+    ghost use Rattle.bd_space.specs.Tables.{Tells, Makes};
     ghost use Rattle.bd_objects.specs.Stands.{StandsFor};
-    ghost use Rattle.bd_objects.specs.Room.{Takes};
+    ghost use Rattle.bd_objects.specs.Room.{TakesNothing};
 
     /// The object that the number names for the process.
     #[tactic(auto, unfolding(bd_space::specs::Names::named))]
     pub fn named(&self, p: u32, n: u32) -> Option<ObjectId>
-        ensures { (s : Space) → StandsFor self.now s → result ≡ names_of.named s p n }
+        ensures { Tells (StandsFor self.now) result (λ s. names_of.named s p n) }
     {
         named_in(self.names.as_slice(), p, n)
     }
@@ -91,7 +100,7 @@ impl ObjectTable {
     /// The same, where the process refers to it strongly.
     #[tactic(auto, unfolding(bd_space::specs::Names::strongly_named))]
     pub fn strongly_named(&self, p: u32, n: u32) -> Option<ObjectId>
-        ensures { (s : Space) → StandsFor self.now s → result ≡ names_of.strongly_named s p n }
+        ensures { Tells (StandsFor self.now) result (λ s. names_of.strongly_named s p n) }
     {
         let o = named_in(self.names.as_slice(), p, n)?;
         if is_strongly_named_in(self.objects.as_slice(), self.references.as_slice(), p, o) {
@@ -103,7 +112,7 @@ impl ObjectTable {
 
     /// The process's number of the object.
     pub fn number_of(&self, p: u32, o: ObjectId) -> Option<u32>
-        ensures { (s : Space) → StandsFor self.now s → result ≡ names_of.number_in s.names p o }
+        ensures { Tells (StandsFor self.now) result (λ s. names_of.number_in s.names p o) }
     {
         number_in(self.names.as_slice(), p, o)
     }
@@ -111,8 +120,8 @@ impl ObjectTable {
     /// The names go that no reference carries any more.
     #[tactic(auto, unfolding(bd_space::specs::Names::names_go, crate::specs::Room::rooms))]
     pub fn names_go(&mut self)
-        ensures stands { (s : Space) → StandsFor self.old s → StandsFor self.new (names_of.names_go s) }
-        ensures takes { Takes self.old self.new 0 0 0 0 }
+        ensures stands { Makes (StandsFor self.old) (StandsFor self.new) names_of.names_go }
+        ensures takes { TakesNothing self.old self.new }
     {
         keep_named(
             &mut self.names,

@@ -24,22 +24,21 @@ fn wants_notice_in(processes: &[Process], references: &[Reference], x: &Object) 
 }
 
 impl ObjectTable {
-    ghost use Rattle.bd_space.specs.Space.{Space};
     ghost use Rattle.bd_space.specs.Words.{is_some_and};
     ghost use Rattle.bd_space.specs.References.{object_in};
-    ghost use Rattle.bd_objects.specs.Stands.{StandsFor};
+    ghost use Rattle.bd_objects.specs.Stands.{StandsFor, HasProcesses, TellsWhere};
 
     /// Whether the owner of this object lives and is to be told. Takes the live processes.
     pub fn wants_notice(&self, processes: &[Process], x: &Object) -> bool
-        ensures { (s : Space) → StandsFor self.now s → s.processes ≡ processes.now
-            → result ≡ notices.wants_notice s.processes s.references x.now }
+        ensures { TellsWhere (StandsFor self.now) (HasProcesses processes.now) result
+            (λ s. notices.wants_notice s.processes s.references x.now) }
     {
         wants_notice_in(processes, self.references.as_slice(), x)
     }
 
     fn is_notice_due(&self, processes: &[Process], o: ObjectId) -> bool
-        ensures { (s : Space) → StandsFor self.now s → s.processes ≡ processes.now
-            → result ≡ is_some_and (object_in s.objects o) (notices.wants_notice s.processes s.references) }
+        ensures { TellsWhere (StandsFor self.now) (HasProcesses processes.now) result
+            (λ s. is_some_and (object_in s.objects o) (notices.wants_notice s.processes s.references)) }
     {
         match object_in(self.objects.as_slice(), o) {
             Some(x) => wants_notice_in(processes, self.references.as_slice(), &x),
@@ -50,8 +49,8 @@ impl ObjectTable {
     /// Whether a work item of this kind still says something: a notice while its owner is to be told, a death's item as
     /// long as its notification stands. Takes the live processes.
     pub fn still_due(&self, processes: &[Process], kind: &WorkKind) -> bool
-        ensures { (s : Space) → StandsFor self.now s → s.processes ≡ processes.now
-            → result ≡ notices.still_due s.processes s.objects s.references s.deaths kind.now }
+        ensures { TellsWhere (StandsFor self.now) (HasProcesses processes.now) result
+            (λ s. notices.still_due s.processes s.objects s.references s.deaths kind.now) }
     {
         match *kind {
             WorkKind::Notice(o) => self.is_notice_due(processes, o),

@@ -1,11 +1,12 @@
 //! The numbers (handles) that new names get.
 
-ghost use Rattle.std.specs.Prelude.{◌≡◌, ◌==◌, ◌≤◌, ◌<◌, ◌+◌, ◌&&◌, not, is_some, suc, length, filter, fold, false, true, List, vec_len, vec_capacity, OnOk, OnErr, MatchOption, Option, unwrap_or, map, ◌++◌};
-ghost use Rattle.std.specs.List.{list_any};
-ghost use Rattle.bd_space.specs.Words as words;
+ghost use Rattle.std.specs.Prelude.{◌≡◌, ◌≤◌, ◌<◌, ◌+◌, ◌&&◌, ◌++◌, not, is_some, length, map, List, vec_len, vec_capacity};
+ghost use Rattle.std.specs.Prelude.{Option, MatchOption, OnOk, OnErr};
 ghost use Rattle.bd_space.specs.Names as names_of;
 ghost use Rattle.bd_space.specs.Parcels.{object_of_item};
 ghost use Rattle.bd_space.specs.declared.space.Name.{Name};
+ghost use Rattle.bd_objects.specs.Numbers as numbers;
+ghost use Rattle.bd_objects.specs.Numbers.{KeepsLimit, IsPastLimit};
 
 use crate::names::{is_named_in, number_in};
 use crate::objects::same;
@@ -16,7 +17,7 @@ use bd_space::{Item, Name, Object, ObjectId, Reference};
 pub struct NumbersFull;
 
 fn is_used(names: &[Name], p: u32, n: u32) -> bool
-    ensures { result ≡ list_any (λ m. (m.process == p) && (m.number == n)) names.now }
+    ensures { result ≡ numbers.is_used_in names.now p n }
 {
     names.iter().any(|m| m.process == p && m.number == n)
 }
@@ -32,7 +33,7 @@ fn is_object(manager: Option<ObjectId>, o: ObjectId) -> bool
 
 /// The least number from the first on that the process doesn't use, if it is within the limit.
 fn free_number_from(names: &[Name], p: u32, first: u32) -> Option<u32>
-    ensures { let free = unwrap_or (words.least (suc (length names.now)) first (λ n. not (list_any (λ m. (m.process == p) && (m.number == n)) names.now))) 0 in
+    ensures { let free = numbers.free_number_from names.now p first in
         MatchOption result (4294967294 < free) (λ n. (n ≡ free) × (n ≤ 4294967294)) }
 {
     for n in first..u32::MAX {
@@ -45,8 +46,8 @@ fn free_number_from(names: &[Name], p: u32, first: u32) -> Option<u32>
 
 /// The number for a new name, if it is within the limit: 0 is for the context manager's object.
 fn free_number(manager: Option<ObjectId>, names: &[Name], p: u32, o: ObjectId) -> Option<u32>
-    ensures { MatchOption result (4294967294 < names_of.free_number manager names.now p o)
-        (λ n. (n ≡ names_of.free_number manager names.now p o) × (n ≤ 4294967294)) }
+    ensures { let free = names_of.free_number manager names.now p o in
+        MatchOption result (4294967294 < free) (λ n. (n ≡ free) × (n ≤ 4294967294)) }
 {
     if is_object(manager, o) {
         free_number_from(names, p, 0)
@@ -63,7 +64,8 @@ fn lacks_name(
     p: u32,
     o: ObjectId,
 ) -> bool
-    ensures { result ≡ (names_of.is_named_in objects.now references.now p o && not (is_some (names_of.number_in names.now p o))) }
+    ensures { result
+        ≡ (names_of.is_named_in objects.now references.now p o && not (is_some (names_of.number_in names.now p o))) }
 {
     is_named_in(objects, references, p, o) && number_in(names, p, o).is_none()
 }
@@ -78,11 +80,12 @@ pub(crate) fn give_name(
     o: ObjectId,
 ) -> Result<(), NumbersFull>
     requires { vec_len names.old < vec_capacity names.old }
-    ensures ok { OnOk result (names.new.items ≡ names_of.with_name manager objects.now references.now p names.old.items o) }
-    ensures fits { names_of.has_number_past_limit names.old.items ≡ false → names_of.has_number_past_limit names.new.items ≡ false }
+    ensures ok { OnOk result (names.new.items
+        ≡ names_of.with_name manager objects.now references.now p names.old.items o) }
+    ensures fits { KeepsLimit names.old.items names.new.items }
     ensures err { OnErr result (names.new.items ≡ names.old.items) }
-    ensures full { OnErr result (names_of.has_number_past_limit
-        (filter (λ m. names_of.is_named_in objects.now references.now m.process m.object) (names_of.with_name manager objects.now references.now p names.old.items o)) ≡ true) }
+    ensures full { OnErr result (IsPastLimit objects.now references.now
+        (names_of.with_name manager objects.now references.now p names.old.items o)) }
     ensures grows { (added : List Name) × (names.new.items ≡ names.old.items ++ added) }
     ensures len { vec_len names.new ≤ vec_len names.old + 1 }
     ensures capacity { vec_capacity names.new ≡ vec_capacity names.old }
@@ -108,11 +111,12 @@ fn give_each(
     items: &[Item],
 ) -> Result<(), NumbersFull>
     requires { vec_len names.old + length items.now ≤ vec_capacity names.old }
-    ensures ok { OnOk result (names.new.items ≡ fold (λ ns x. names_of.with_name manager objects.now references.now p ns x.object) names.old.items items.now) }
-    ensures fits { names_of.has_number_past_limit names.old.items ≡ false → names_of.has_number_past_limit names.new.items ≡ false }
+    ensures ok { OnOk result (names.new.items
+        ≡ numbers.with_each manager objects.now references.now p names.old.items items.now) }
+    ensures fits { KeepsLimit names.old.items names.new.items }
     ensures grows { (added : List Name) × (names.new.items ≡ names.old.items ++ added) }
-    ensures full { OnErr result (names_of.has_number_past_limit (filter (λ m. names_of.is_named_in objects.now references.now m.process m.object)
-        (fold (λ ns x. names_of.with_name manager objects.now references.now p ns x.object) names.old.items items.now)) ≡ true) }
+    ensures full { OnErr result (IsPastLimit objects.now references.now
+        (numbers.with_each manager objects.now references.now p names.old.items items.now)) }
     ensures len { vec_len names.new ≤ vec_len names.old + length items.now }
     ensures capacity { vec_capacity names.new ≡ vec_capacity names.old }
 {
@@ -132,11 +136,12 @@ pub(crate) fn give_names(
     items: &[Item],
 ) -> Result<(), NumbersFull>
     requires { vec_len names.old + length items.now ≤ vec_capacity names.old }
-    ensures ok { OnOk result (names.new.items ≡ names_of.with_names manager objects.now references.now p names.old.items (map object_of_item items.now)) }
-    ensures fits { names_of.has_number_past_limit names.old.items ≡ false → names_of.has_number_past_limit names.new.items ≡ false }
+    ensures ok { OnOk result (names.new.items
+        ≡ names_of.with_names manager objects.now references.now p names.old.items (map object_of_item items.now)) }
+    ensures fits { KeepsLimit names.old.items names.new.items }
     ensures err { OnErr result (names.new.items ≡ names.old.items) }
-    ensures full { OnErr result (names_of.has_number_past_limit (filter (λ m. names_of.is_named_in objects.now references.now m.process m.object)
-        (names_of.with_names manager objects.now references.now p names.old.items (map object_of_item items.now))) ≡ true) }
+    ensures full { OnErr result (IsPastLimit objects.now references.now
+        (names_of.with_names manager objects.now references.now p names.old.items (map object_of_item items.now))) }
     ensures len { vec_len names.new ≤ vec_len names.old + length items.now }
     ensures capacity { vec_capacity names.new ≡ vec_capacity names.old }
 {

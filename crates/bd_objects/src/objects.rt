@@ -1,10 +1,11 @@
 //! Objects (nodes), and who owns them.
 
-ghost use Rattle.std.specs.Prelude.{◌≡◌, ◌==◌, ◌≤◌, ◌<◌, ◌+◌, ◌++◌, ◌∷◌, [], length, filter, slice_get, vec_len, vec_capacity, Option};
+ghost use Rattle.std.specs.Prelude.{◌≡◌, ◌==◌, ◌≤◌, ◌<◌, ◌+◌, ◌++◌, ◌∷◌, ◌&&◌, [], length, find, filter, slice_get, vec_len, vec_capacity, Option};
 ghost use Rattle.bd_space.specs.Words as words;
 ghost use Rattle.bd_space.specs.Seats as seats;
 ghost use Rattle.bd_space.specs.References as refer;
 ghost use Rattle.bd_space.specs.ProcessExits as exits;
+ghost use Rattle.bd_space.specs.Asking as asking;
 
 use crate::references::held_in;
 use crate::table::ObjectTable;
@@ -45,6 +46,26 @@ pub(crate) fn own_in(objects: &[Object], p: u32, ptr: u64) -> Option<Object>
         .find(|x| x.owner == p && x.ptr == ptr)
 }
 
+/// The object of this identity, if the process owns it.
+pub(crate) fn own_object(objects: &[Object], p: u32, o: ObjectId) -> Option<Object>
+    ensures { result ≡ find (λ x. words.same x.id o && (x.owner == p)) objects.now }
+{
+    objects
+        .iter()
+        .copied()
+        .find(|x| same(x.id, o) && x.owner == p)
+}
+
+/// The process's own object with this ptr and this cookie.
+pub(crate) fn own_with(objects: &[Object], p: u32, ptr: u64, cookie: u64) -> Option<Object>
+    ensures { result ≡ find (asking.is_own_with p ptr cookie) objects.now }
+{
+    objects
+        .iter()
+        .copied()
+        .find(|x| x.owner == p && x.ptr == ptr && x.cookie == cookie)
+}
+
 /// Whether the object stays: it is held, or its owner lives and was told that it is.
 fn stays_in(processes: &[Process], references: &[Reference], x: &Object) -> bool
     ensures { result ≡ refer.stays_in processes.now references.now x.now }
@@ -67,15 +88,16 @@ fn managed(place: u32) -> ObjectId
 }
 
 impl ObjectTable {
-    ghost use Rattle.bd_space.specs.Space.{Space};
+    ghost use Rattle.bd_space.specs.Deaths as deaths_of;
     ghost use Rattle.bd_space.specs.Steps as steps;
-    ghost use Rattle.bd_objects.specs.Stands.{StandsFor};
-    ghost use Rattle.bd_objects.specs.Room.{Takes, object_room, reference_room, object_count};
+    ghost use Rattle.bd_space.specs.Tables.{Tells};
+    ghost use Rattle.bd_objects.specs.Stands.{StandsFor, HasProcesses, IsAt, TellsWhere, MakesWhere};
+    ghost use Rattle.bd_objects.specs.Room.{Takes, TakesNothing, nothing, object_room, reference_room, object_count};
 
     /// How many objects there are.
     #[tactic(auto, unfolding(crate::specs::Room::rooms))]
     pub fn object_count(&self) -> usize
-        ensures count { (s : Space) → StandsFor self.now s → result ≡ length s.objects }
+        ensures count { Tells (StandsFor self.now) result (λ s. length s.objects) }
         ensures counted { result ≡ object_count self.now }
     {
         self.objects.len()
@@ -83,28 +105,39 @@ impl ObjectTable {
 
     /// The object of an index, in the order in which they were made.
     pub fn object_at(&self, k: usize) -> Option<Object>
-        ensures { (s : Space) → StandsFor self.now s → result ≡ slice_get s.objects k }
+        ensures { Tells (StandsFor self.now) result (λ s. slice_get s.objects k) }
     {
         self.objects.get(k).copied()
     }
 
     /// The object with this identity.
     pub fn object(&self, o: ObjectId) -> Option<Object>
-        ensures { (s : Space) → StandsFor self.now s → result ≡ refer.object_in s.objects o }
+        ensures { Tells (StandsFor self.now) result (λ s. refer.object_in s.objects o) }
     {
         object_in(self.objects.as_slice(), o)
     }
 
     /// Whether the process owns the object.
     pub fn owns(&self, p: u32, o: ObjectId) -> bool
-        ensures { (s : Space) → StandsFor self.now s → result ≡ refer.owned_in s.objects p o }
+        ensures { Tells (StandsFor self.now) result (λ s. refer.owned_in s.objects p o) }
     {
         owned_in(self.objects.as_slice(), p, o)
     }
 
+    /// Whether the object's owner lives. Takes the live processes.
+    pub fn owner_lives(&self, processes: &[Process], o: ObjectId) -> bool
+        ensures { TellsWhere (StandsFor self.now) (HasProcesses processes.now) result
+            (λ s. deaths_of.owner_lives_in s.processes s.objects o) }
+    {
+        match object_in(self.objects.as_slice(), o) {
+            Some(x) => lives_in(processes, x.owner),
+            None => false,
+        }
+    }
+
     /// The process's own object with this ptr.
     pub fn own_with_ptr(&self, p: u32, ptr: u64) -> Option<Object>
-        ensures { (s : Space) → StandsFor self.now s → result ≡ refer.own_in s.objects p ptr }
+        ensures { Tells (StandsFor self.now) result (λ s. refer.own_in s.objects p ptr) }
     {
         own_in(self.objects.as_slice(), p, ptr)
     }
@@ -112,8 +145,8 @@ impl ObjectTable {
     /// The objects go that nothing keeps. Takes the live processes.
     #[tactic(auto, unfolding(bd_space::specs::References::objects_go, crate::specs::Room::rooms))]
     pub fn objects_go(&mut self, processes: &[Process])
-        ensures stands { (s : Space) → StandsFor self.old s → s.processes ≡ processes.now → StandsFor self.new (refer.objects_go s) }
-        ensures takes { Takes self.old self.new 0 0 0 0 }
+        ensures stands { MakesWhere (StandsFor self.old) (HasProcesses processes.now) (StandsFor self.new) refer.objects_go }
+        ensures takes { TakesNothing self.old self.new }
     {
         keep_objects(&mut self.objects, processes, self.references.as_slice());
     }
@@ -124,8 +157,9 @@ impl ObjectTable {
     pub fn with_manager(&mut self, place: u32, p: u32)
         requires objects { 1 ≤ object_room self.old }
         requires references { 1 ≤ reference_room self.old }
-        ensures stands { (s : Space) → StandsFor self.old s → s.steps ≡ place → StandsFor self.new (steps.with_manager s p) }
-        ensures takes { Takes self.old self.new 1 1 0 0 }
+        ensures stands { MakesWhere (StandsFor self.old) (IsAt place) (StandsFor self.new)
+            (λ s. steps.with_manager s p) }
+        ensures takes { Takes self.old self.new (record nothing { objects = 1; references = 1 }) }
     {
         let id = managed(place);
         self.objects.push_reserved(Object {
@@ -146,7 +180,7 @@ impl ObjectTable {
 
     /// The context manager's object that is left when the process has ended.
     pub fn manager_without(&self, manager: Option<ObjectId>, p: u32) -> Option<ObjectId>
-        ensures { (s : Space) → StandsFor self.now s → result ≡ exits.manager_without s.objects p manager }
+        ensures { Tells (StandsFor self.now) result (λ s. exits.manager_without s.objects p manager) }
     {
         match manager {
             Some(o) if owned_in(self.objects.as_slice(), p, o) => None,

@@ -2,6 +2,7 @@
 
 ghost use Rattle.std.specs.Prelude.{OnOk, OnErr};
 
+use crate::room::Room;
 use bd_space::{DeathNotification, Name, Object, Reference};
 use std::alloc::{AllocError, Global};
 
@@ -15,9 +16,9 @@ pub struct ObjectTable {
 }
 
 impl ObjectTable {
-    ghost use Rattle.bd_space.specs.Space.{Space, opening};
-    ghost use Rattle.bd_objects.specs.Stands.{StandsFor};
-    ghost use Rattle.bd_objects.specs.Room.{Takes, HasRoom};
+    ghost use Rattle.bd_space.specs.Space.{opening};
+    ghost use Rattle.bd_objects.specs.Stands.{StandsFor, IsKept};
+    ghost use Rattle.bd_objects.specs.Room.{TakesNothing, HasRoom};
 
     /// An empty table.
     pub fn new(alloc: Global) -> ObjectTable
@@ -31,24 +32,19 @@ impl ObjectTable {
         }
     }
 
-    /// Makes room for so many of each, and for one death notification. Changes nothing else.
+    /// Makes this room. Changes nothing else.
     #[tactic(auto, unfolding(crate::specs::Room::rooms))]
-    pub fn reserve(
-        &mut self,
-        objects: usize,
-        references: usize,
-        names: usize,
-    ) -> Result<(), AllocError>
-        ensures stands { (s : Space) → StandsFor self.old s → StandsFor self.new s }
-        ensures takes { Takes self.old self.new 0 0 0 0 }
-        ensures room { OnOk result (HasRoom self.new objects references names) }
+    pub fn reserve(&mut self, room: Room) -> Result<(), AllocError>
+        ensures stands { IsKept self.old self.new }
+        ensures takes { TakesNothing self.old self.new }
+        ensures room { OnOk result (HasRoom self.new room) }
         // Memory was asked for: there was no room.
-        ensures grown { OnErr result (HasRoom self.old objects references names → ⊥) }
+        ensures grown { OnErr result (HasRoom self.old room → ⊥) }
     {
-        self.objects.reserve(objects)?;
-        self.references.reserve(references)?;
-        self.names.reserve(names)?;
-        self.deaths.reserve(1)?;
+        self.objects.reserve(room.objects)?;
+        self.references.reserve(room.references)?;
+        self.names.reserve(room.names)?;
+        self.deaths.reserve(room.deaths)?;
         Ok(())
     }
 }

@@ -1,6 +1,6 @@
 //! With ample memory, on the worked example of an object that is sent to the context manager.
 
-use crate::ObjectTable;
+use crate::{ObjectTable, Room};
 use bd_space::{Item, ObjectId, Resolved};
 use bd_uapi::{Cause, FlatObject, Note, ObjectKind, Return};
 use std::test::Fail;
@@ -25,7 +25,12 @@ const ITEM: Item = Item {
 #[test]
 fn an_object_is_sent(rt: HostRuntime) -> Result<(), Fail> {
     let mut table = ObjectTable::new(rt.alloc());
-    table.reserve(2, 3, 1)?;
+    table.reserve(Room {
+        objects: 2,
+        references: 3,
+        names: 1,
+        deaths: 0,
+    })?;
     table.with_manager(1, 0);
     let sent = table.resolve(4, 3, &[], &FLAT);
     let Ok(

@@ -1,8 +1,7 @@
 //! The verdict on a record, and the certificates that are asked of it.
 
 ghost use Rattle.std.specs.Prelude.{◌≤◌};
-ghost use Rattle.bd_space.specs.Histories.{IsHistory};
-ghost use Rattle.bd_audit.specs.Replays.{history_of};
+ghost use Rattle.bd_space.specs.Histories.{IsHistory, history_in};
 
 use crate::again::again;
 use crate::broken::Broken;
@@ -40,7 +39,7 @@ fn ask_chain<W: Write>(
     out: &mut W,
 ) -> Result<(), Broken>
     requires seats { (1 ≤ «record».now.seats) × («record».now.seats ≤ 16) }
-    requires lawful { IsHistory (history_of «record».now) }
+    requires lawful { IsHistory (history_in «record».now) }
 {
     let chain = again!(gift_chain(alloc, record, pid, number), Fault::NoMemory).map_err(broken_by)?;
     if let Some(places) = chain {
@@ -58,7 +57,7 @@ fn ask_chains_of<W: Write>(
     out: &mut W,
 ) -> Result<(), Broken>
     requires seats { (1 ≤ «record».now.seats) × («record».now.seats ≤ 16) }
-    requires lawful { IsHistory (history_of «record».now) }
+    requires lawful { IsHistory (history_in «record».now) }
 {
     for number in 0..MOST_HANDLES {
         if engine.named(pid, number).is_some() {
@@ -75,7 +74,7 @@ fn ask_chains<W: Write>(
     out: &mut W,
 ) -> Result<(), Broken>
     requires seats { (1 ≤ «record».now.seats) × («record».now.seats ≤ 16) }
-    requires lawful { IsHistory (history_of «record».now) }
+    requires lawful { IsHistory (history_in «record».now) }
 {
     for pid in PIDS {
         ask_chains_of(alloc, record, engine, pid, out)?;
@@ -109,7 +108,7 @@ fn takes_reply(answer: &StepAnswer) -> bool {
 // Prints the call that a reading answers.
 fn ask_call<W: Write>(alloc: Global, record: &Record, place: u32, out: &mut W) -> Result<(), Broken>
     requires seats { (1 ≤ «record».now.seats) × («record».now.seats ≤ 16) }
-    requires lawful { IsHistory (history_of «record».now) }
+    requires lawful { IsHistory (history_in «record».now) }
 {
     match again!(call_of_reply(alloc, record, place), Fault::NoMemory).map_err(broken_by)? {
         Some(call) => writeln!(out, "call of reply {place}: {call}")?,
@@ -120,7 +119,7 @@ fn ask_call<W: Write>(alloc: Global, record: &Record, place: u32, out: &mut W) -
 
 fn ask_calls<W: Write>(alloc: Global, record: &Record, out: &mut W) -> Result<(), Broken>
     requires seats { (1 ≤ «record».now.seats) × («record».now.seats ≤ 16) }
-    requires lawful { IsHistory (history_of «record».now) }
+    requires lawful { IsHistory (history_in «record».now) }
 {
     let mut place = 0;
     for entry in record.entries.as_slice() {
@@ -160,7 +159,7 @@ fn ask_turns<W: Write>(
     out: &mut W,
 ) -> Result<(), Broken>
     requires seats { (1 ≤ «record».now.seats) × («record».now.seats ≤ 16) }
-    requires lawful { IsHistory (history_of «record».now) }
+    requires lawful { IsHistory (history_in «record».now) }
 {
     if let Some(object) = engine.manager() {
         let turns = again!(oneway_turns(alloc, record, object), Fault::NoMemory).map_err(

@@ -1,7 +1,7 @@
 use Rattle.std.proofs.Common.{arith, ◌∙◌, sym}
 use Rattle.bd_objects.proofs.Grown.{grown-twice, grown-le, take-grown}
 use Rattle.bd_objects.proofs.Handshakes.{handshakes-more}
-use Rattle.bd_objects.proofs.told.add_handshakes.Goals as goal
+use Rattle.bd_objects.proofs.reading.add_handshakes.Goals as goal
 
 pub loop-w-preserved : goal.loop-w-preserved
 loop-w-preserved c =

@@ -1,5 +1,5 @@
 use Rattle.std.proofs.Common.{◌≡◌, ◌+◌, ◌++◌, take, vec_len, vec_capacity}
-use Rattle.bd_objects.proofs.sending.add_objects.Given as goal
+use Rattle.bd_objects.proofs.delivery.add_objects.Given as goal
 
 abbrev pub invariant-loop-x : goal.invariant-loop-x
 invariant-loop-x l = record {

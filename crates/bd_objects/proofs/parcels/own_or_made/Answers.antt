@@ -1,7 +1,7 @@
 use Rattle.std.proofs.Common.{◌==◌, ◌&&◌, refl}
 use Rattle.std.proofs.lemmas.List.Folds.{find-append}
 use Rattle.bd_space.specs.declared.space.Object.{Object}
-use Rattle.bd_objects.proofs.sending.own_or_made.Goals as goal
+use Rattle.bd_objects.proofs.parcels.own_or_made.Goals as goal
 
 pub returns-in-Some : goal.returns-in-Some
 returns-in-Some c =

@@ -1,7 +1,7 @@
 use Rattle.std.proofs.Common.{◌≡◌, ◌+◌, ◌++◌, drop, Option, vec_len, vec_capacity}
 use Rattle.bd_space.specs.declared.step.ObjectId.{ObjectId}
 use Rattle.bd_space.specs.Delivery.{buffer_references}
-use Rattle.bd_objects.proofs.sending.add_carried.Given as goal
+use Rattle.bd_objects.proofs.delivery.add_carried.Given as goal
 
 abbrev pub invariant-loop-i : goal.invariant-loop-i
 invariant-loop-i l = record {

@@ -2,7 +2,7 @@ use Rattle.std.proofs.Common.{◌≡◌, ◌+◌, ◌-◌, ◌*◌, ◌≤◌, �
 use Rattle.bd_space.specs.Space.{Space}
 use Rattle.bd_space.specs.declared.space.Reference.{Reference}
 use Rattle.bd_space.specs.ReadItems.{handshakes}
-use Rattle.bd_objects.proofs.told.add_handshakes.Given as goal
+use Rattle.bd_objects.proofs.reading.add_handshakes.Given as goal
 
 abbrev pub invariant-loop-w : goal.invariant-loop-w
 invariant-loop-w l = record {

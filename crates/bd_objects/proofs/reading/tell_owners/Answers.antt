@@ -2,8 +2,8 @@ use Rattle.std.proofs.Common.{◌∙◌, sym, ap, arith, set}
 use Rattle.bd_space.specs.declared.space.Object.{Object}
 use Rattle.bd_space.specs.ReadItems.{is_told_by, told_of}
 use Rattle.bd_space.proofs.Changed.{changed-then, changed-else}
-use Rattle.bd_objects.proofs.told.tell_owners.Goals as goal
-use Rattle.bd_objects.proofs.told.tell_owners.Goals.{then-is_told_by, else-is_told_by}
+use Rattle.bd_objects.proofs.reading.tell_owners.Goals as goal
+use Rattle.bd_objects.proofs.reading.tell_owners.Goals.{then-is_told_by, else-is_told_by}
 
 pub loop-x-preserved : goal.loop-x-preserved
 loop-x-preserved c =

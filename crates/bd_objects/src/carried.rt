@@ -49,12 +49,12 @@ impl Iterator for CarriedObjects<'_> {
 }
 
 impl ObjectTable {
-    ghost use Rattle.bd_space.specs.Space.{Space};
+    ghost use Rattle.bd_space.specs.Tables.{Tells};
     ghost use Rattle.bd_objects.specs.Stands.{StandsFor};
 
     /// The objects that the buffer made there carries, one for each object of its parcel, in their order.
     pub fn carried(&self, made: u32) -> CarriedObjects<'_>
-        ensures { (s : Space) → StandsFor self.now s → result ≡ carried_in s.references made }
+        ensures { Tells (StandsFor self.now) result (λ s. carried_in s.references made) }
     {
         CarriedObjects {
             made,

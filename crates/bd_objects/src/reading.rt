@@ -1,14 +1,16 @@
 //! What owners are told of their objects by reading.
 
-ghost use Rattle.std.specs.Prelude.{◌≡◌, ◌==◌, ◌≤◌, ◌<◌, ◌+◌, ◌-◌, ◌*◌, ◌++◌, ◌∷◌, [], ℕ, Bool, true, false, List, if◌then◌else◌, length, take, vec_len, vec_capacity, Option};
+ghost use Rattle.std.specs.Prelude.{◌≡◌, ◌==◌, ◌≤◌, ◌<◌, ◌+◌, ◌-◌, ◌*◌, ◌++◌, ◌∷◌, [], ℕ, true, false, if◌then◌else◌};
+ghost use Rattle.std.specs.Prelude.{List, Option, length, take, vec_len, vec_capacity};
 ghost use Rattle.std.specs.List.{flat_map};
 ghost use Rattle.bd_space.specs.Words.{changed, when, is_some_and, same as same_object};
 ghost use Rattle.bd_space.specs.Todo.{notice_of, death_of};
 ghost use Rattle.bd_space.specs.References as refer;
 ghost use Rattle.bd_space.specs.ReadItems as reading;
 ghost use Rattle.bd_space.specs.Returns as returns;
-ghost use Rattle.bd_space.specs.declared.space.Phase.TheVariants.{Told};
 ghost use Rattle.bd_space.specs.Space.{Space};
+ghost use Rattle.bd_objects.specs.Stands.{IsAt};
+ghost use Rattle.bd_objects.specs.Reading.{owed};
 ghost use Rattle.bd_space.specs.declared.space.Reference.{Reference};
 ghost use Rattle.bd_space.specs.declared.space.Holder.TheVariants.{Handshake};
 
@@ -83,7 +85,8 @@ fn told_of(references: &[Reference], x: Object) -> Object
 }
 
 fn tell_owners(objects: &mut Vec<Object>, references: &[Reference], taken: &[Work])
-    ensures items { objects.new.items ≡ changed (λ x. reading.is_told_by taken.now x.id) (reading.told_of references.now) objects.old.items }
+    ensures items { objects.new.items
+        ≡ changed (λ x. reading.is_told_by taken.now x.id) (reading.told_of references.now) objects.old.items }
     ensures len { vec_len objects.new ≡ vec_len objects.old }
     ensures capacity { vec_capacity objects.new ≡ vec_capacity objects.old }
 {
@@ -109,7 +112,7 @@ fn mark_told(deaths: &mut Vec<DeathNotification>, taken: &[Work])
 /// Whether the owner is to acknowledge the object weakly, and strongly, once it has read what it is to be told.
 fn acknowledgements(objects: &[Object], references: &[Reference], o: ObjectId) -> (bool, bool)
     ensures { flat_map reading.shakes (returns.returns_of_object references.now (refer.object_in objects.now o))
-        ≡ (if result.0 then (false ∷ []) else []) ++ (if result.1 then (true ∷ []) else []) }
+        ≡ owed result.0 result.1 }
 {
     match object_in(objects, o) {
         Some(x) => (
@@ -129,7 +132,8 @@ fn add_handshake(
 )
     requires inside { before ≤ length references.old.items }
     requires room { vec_len references.old < vec_capacity references.old }
-    ensures items { references.new.items ≡ references.old.items ++ refer.reference_of place (length references.old.items - before) o strong Handshake ∷ [] }
+    ensures items { references.new.items ≡ references.old.items
+        ++ refer.reference_of place (length references.old.items - before) o strong Handshake ∷ [] }
     ensures len { vec_len references.new ≡ vec_len references.old + 1 }
     ensures capacity { vec_capacity references.new ≡ vec_capacity references.old }
 {
@@ -153,8 +157,8 @@ fn add_acknowledgements(
 )
     requires inside { before ≤ length references.old.items }
     requires room { vec_len references.old + 2 ≤ vec_capacity references.old }
-    ensures items { references.new.items ≡ references.old.items ++ reading.handshakes_for place (length references.old.items - before) o
-        ((if weak then (false ∷ []) else []) ++ (if strong then (true ∷ []) else [])) }
+    ensures items { references.new.items ≡ references.old.items
+        ++ reading.handshakes_for place (length references.old.items - before) o (owed weak strong) }
     ensures len { vec_len references.new ≤ vec_len references.old + 2 }
     ensures capacity { vec_capacity references.new ≡ vec_capacity references.old }
 {
@@ -166,8 +170,8 @@ fn add_acknowledgements(
     }
 }
 
-/// The references that stand for what a work item leaves to be acknowledged. The first ones are those that stood before the
-/// reading.
+/// The references that stand for what a work item leaves to be acknowledged. The first ones are those that stood before
+/// the reading.
 #[tactic(auto, unfolding(bd_space::specs::Returns::returns_of))]
 fn add_handshakes_of(
     references: &mut Vec<Reference>,
@@ -178,8 +182,9 @@ fn add_handshakes_of(
 )
     requires inside { before ≤ length references.old.items }
     requires room { vec_len references.old + 2 ≤ vec_capacity references.old }
-    ensures items { (s : Space) → s.references ≡ take before references.old.items → s.objects ≡ objects.now → s.steps ≡ place
-        → references.new.items ≡ references.old.items ++ reading.handshakes_of s (length references.old.items - before) kind }
+    ensures items { (s : Space) → s.references ≡ take before references.old.items → s.objects ≡ objects.now → IsAt place s
+        → references.new.items
+        ≡ references.old.items ++ reading.handshakes_of s (length references.old.items - before) kind }
     ensures grows { (added : List Reference) × (references.new.items ≡ references.old.items ++ added) }
     ensures len { vec_len references.new ≤ vec_len references.old + 2 }
     ensures capacity { vec_capacity references.new ≡ vec_capacity references.old }
@@ -194,7 +199,7 @@ fn add_handshakes_of(
 /// The references that stand for what is left to be acknowledged.
 fn add_handshakes(references: &mut Vec<Reference>, place: u32, objects: &[Object], taken: &[Work])
     requires { vec_len references.old + 2 * length taken.now ≤ vec_capacity references.old }
-    ensures items { (s : Space) → s.references ≡ references.old.items → s.objects ≡ objects.now → s.steps ≡ place
+    ensures items { (s : Space) → s.references ≡ references.old.items → s.objects ≡ objects.now → IsAt place s
         → references.new.items ≡ references.old.items ++ reading.handshakes s 0 taken.now }
     ensures grows { (added : List Reference) × (references.new.items ≡ references.old.items ++ added) }
     ensures len { vec_len references.new ≤ vec_len references.old + 2 * length taken.now }
@@ -207,14 +212,15 @@ fn add_handshakes(references: &mut Vec<Reference>, place: u32, objects: &[Object
 }
 
 impl ObjectTable {
-    ghost use Rattle.bd_objects.specs.Stands.{StandsFor};
-    ghost use Rattle.bd_objects.specs.Room.{Takes, reference_room};
+    ghost use Rattle.bd_space.specs.Tables.{Tells};
+    ghost use Rattle.bd_objects.specs.Stands.{StandsFor, MakesWhere};
+    ghost use Rattle.bd_objects.specs.Room.{Takes, nothing, reference_room};
 
-    /// What the owner of the object is told: `BR_INCREFS`, `BR_ACQUIRE`, `BR_RELEASE` and `BR_DECREFS`, each if it is to
-    /// be told that.
+    /// What the owner of the object is told: `BR_INCREFS`, `BR_ACQUIRE`, `BR_RELEASE` and `BR_DECREFS`, each if it is
+    /// to be told that.
     pub fn notice_returns(&self, o: ObjectId) -> [Option<Return>; 4]
-        ensures { (s : Space) → StandsFor self.now s → flat_map returns.one result
-            ≡ returns.returns_of_object s.references (refer.object_in s.objects o) }
+        ensures { Tells (StandsFor self.now) (flat_map returns.one result)
+            (λ s. returns.returns_of_object s.references (refer.object_in s.objects o)) }
     {
         match object_in(self.objects.as_slice(), o) {
             Some(x) => notice_returns_of(self.references.as_slice(), &x),
@@ -222,13 +228,14 @@ impl ObjectTable {
         }
     }
 
-    /// The references, told values and death notifications after these work items were read by the step of this place: a
-    /// reference stands for each acknowledgement that is owed, owners know what is so, and the deaths are told.
+    /// The references, told values and death notifications after these work items were read by the step of this place:
+    /// a reference stands for each acknowledgement that is owed, owners know what is so, and the deaths are told.
     #[tactic(auto, unfolding(bd_space::specs::ReadItems::read_by, crate::specs::Room::rooms))]
     pub fn read_by(&mut self, place: u32, taken: &[Work])
         requires { 2 * length taken.now ≤ reference_room self.old }
-        ensures stands { (s : Space) (seat : ℕ) → StandsFor self.old s → s.steps ≡ place → StandsFor self.new (reading.read_by s seat taken.now) }
-        ensures takes { Takes self.old self.new 0 (2 * length taken.now) 0 0 }
+        ensures stands { (seat : ℕ) → MakesWhere (StandsFor self.old) (IsAt place) (StandsFor self.new)
+            (λ s. reading.read_by s seat taken.now) }
+        ensures takes { Takes self.old self.new (record nothing { references = 2 * length taken.now }) }
     {
         let before = self.references.len();
         add_handshakes(&mut self.references, place, self.objects.as_slice(), taken);

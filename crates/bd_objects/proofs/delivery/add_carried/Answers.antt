@@ -1,6 +1,6 @@
 use Rattle.std.proofs.Common.{arith, ◌∙◌}
-use Rattle.bd_objects.proofs.Carried.{carried-more, carried-all}
-use Rattle.bd_objects.proofs.sending.add_carried.Goals as goal
+use Rattle.bd_objects.proofs.BufferReferences.{carried-more, carried-all}
+use Rattle.bd_objects.proofs.delivery.add_carried.Goals as goal
 
 pub loop-i-preserved : goal.loop-i-preserved
 loop-i-preserved c = record {
