@@ -1,7 +1,13 @@
-//! The table itself: making it, and room in it.
+//! The table itself: making it, room in it, and what changes several of its lists at once.
 #![tactic(auto, unfolding(crate::specs::Room::thread_room, crate::specs::Room::frame_room, crate::specs::Room::turn_room, crate::specs::Room::work_room, crate::specs::Room::frame_count, crate::specs::Room::turn_count))]
 
-use bd_space::{Frame, Thread, Turn, Work};
+ghost use Rattle.std.specs.Prelude.{ℕ, Bool, ◌≡◌, ◌==◌, ◌||◌, ◌&&◌, ◌+◌, ◌<◌, ◌≤◌, ◌^◌, ◌++◌, ◌∷◌, [], false, not, nat_le, map, filter, find, reverse, length, count_by, Option, Some, None, option_map, IfOk, OnOk, OnErr, vec_len, vec_capacity};
+
+use crate::frame::{leave_frames, lose_unread, serve};
+use crate::thread::remove_thread;
+use crate::todo_list::{clear_list, remove_taken};
+use crate::turn::{hand_out_taken, lose_turns, remove_received};
+use bd_space::{Frame, Thread, TodoList, Turn, Work};
 use std::alloc::{AllocError, Global};
 
 /// The threads, the open calls, the work items and the one-way calls of a driver.
@@ -14,8 +20,9 @@ pub struct CallTable {
 }
 
 impl CallTable {
-    ghost use Rattle.std.specs.Prelude.{ℕ, ◌≡◌, ◌+◌, ◌≤◌, ◌^◌, vec_len, IfOk, OnOk, OnErr};
     ghost use Rattle.bd_space.specs.Space.{Space, opening};
+    ghost use Rattle.bd_space.specs.Exits as exits;
+    ghost use Rattle.bd_space.specs.Reading as reading;
     ghost use Rattle.bd_calls.specs.Stands.{Stands, StandsFor};
     ghost use Rattle.bd_calls.specs.Room.{Takes, HasRoom};
 
@@ -57,5 +64,39 @@ impl CallTable {
         self.frames.reserve(1)?;
         self.turns.reserve(1)?;
         self.todo.reserve(works)
+    }
+
+    /// A seat's thread has read these work items: they go, the frames of the calls among them are served by it, and the
+    /// one-way call among them is handed out.
+    pub fn read_by(&mut self, seat: u32, taken: &[Work])
+        ensures stands { (s : Space) → StandsFor self.old s → StandsFor self.new (reading.read_by s seat taken.now) }
+        ensures takes { Takes self.old self.new 0 0 0 0 }
+    {
+        serve(&mut self.frames, seat, taken);
+        remove_taken(&mut self.todo, taken);
+        hand_out_taken(&mut self.turns, taken);
+    }
+
+    /// The thread of a seat ends: it is gone from its frames, and its list goes with what that would have handed over.
+    pub fn thread_goes(&mut self, seat: u32)
+        ensures stands { (s : Space) → StandsFor self.old s → StandsFor self.new (exits.thread_goes s seat) }
+        ensures takes { Takes self.old self.new 0 0 0 0 }
+    {
+        let list = TodoList::OfThread(seat);
+        leave_frames(&mut self.frames, &self.todo, seat);
+        lose_turns(&mut self.turns, &self.todo, list);
+        clear_list(&mut self.todo, list);
+        remove_thread(&mut self.threads, seat);
+    }
+
+    /// A process without threads ends: its list goes, and the one-way calls in its window.
+    pub fn process_goes(&mut self, process: u32)
+        ensures stands { (s : Space) → StandsFor self.old s → StandsFor self.new (exits.without_process s process) }
+        ensures takes { Takes self.old self.new 0 0 0 0 }
+    {
+        let list = TodoList::OfProcess(process);
+        lose_unread(&mut self.frames, &self.todo, list);
+        remove_received(&mut self.turns, process);
+        clear_list(&mut self.todo, list);
     }
 }
