@@ -1,5 +1,6 @@
 pub mod Words
 pub mod Space
+pub mod Tables
 pub mod Seats
 pub mod References
 pub mod Names

@@ -146,6 +146,39 @@ pub enum Step {
     ExitProcess,
 }
 
+impl Step {
+    /// The same step again, in memory of its own.
+    pub fn copied(&self) -> Result<Step, AllocError>
+        ensures { IfOk result (λ s. s ≡ self.now) }
+    {
+        Ok(match self {
+            Step::Open { pid, euid, window } => Step::Open {
+                pid: *pid,
+                euid: *euid,
+                window: *window,
+            },
+            Step::Attach { pid } => Step::Attach { pid: *pid },
+            Step::SetManager => Step::SetManager,
+            Step::Command { command, parcel } => Step::Command {
+                command: *command,
+                parcel: parcel_copied(parcel)?,
+            },
+            Step::Read { limit } => Step::Read { limit: *limit },
+            Step::ExitThread => Step::ExitThread,
+            Step::ExitProcess => Step::ExitProcess,
+        })
+    }
+}
+
+fn parcel_copied(parcel: &Option<Parcel>) -> Result<Option<Parcel>, AllocError>
+    ensures { IfOk result (λ p. p ≡ parcel.now) }
+{
+    match parcel {
+        Some(parcel) => Ok(Some(parcel.copied()?)),
+        None => Ok(None),
+    }
+}
+
 /// The answer to a step.
 #[derive(Drop, Debug)]
 pub enum StepAnswer {
