@@ -1,5 +1,5 @@
 //! Frames: open two-way calls.
-#![tactic(auto, unfolding(bd_space::specs::Frames::innermost, bd_space::specs::Frames::served_innermost, bd_space::specs::Frames::goes_to, bd_space::specs::Frames::closed, bd_space::specs::Transactions::call_out, bd_space::specs::Todo::owe, crate::specs::Room::thread_room, crate::specs::Room::frame_room, crate::specs::Room::turn_room, crate::specs::Room::work_room, crate::specs::Room::frame_count, crate::specs::Room::turn_count))]
+#![tactic(auto, unfolding(bd_space::specs::Frames::innermost, bd_space::specs::Frames::served_innermost, bd_space::specs::Frames::goes_to, bd_space::specs::Frames::closed, bd_space::specs::Transactions::call_out, bd_space::specs::Todo::owe, crate::specs::Room::rooms))]
 
 ghost use Rattle.std.specs.Prelude.{ℕ, Bool, ◌≡◌, ◌==◌, ◌||◌, ◌&&◌, ◌+◌, ◌<◌, ◌≤◌, ◌^◌, ◌++◌, ◌∷◌, [], false, not, nat_le, map, filter, find, reverse, length, count_by, Option, Some, None, option_map, IfOk, OnOk, OnErr, vec_len, vec_capacity};
 ghost use Rattle.std.specs.List.{list_all, list_any};
@@ -39,7 +39,7 @@ fn calls(frame: &Frame, seat: u32) -> bool
 fn takes_part(frame: &Frame, seat: u32) -> bool
     ensures { result ≡ spec.takes_part seat frame.now }
 {
-    calls(frame, seat) || serves(frame.server, seat)
+    calls(frame, seat) || serves(seat, frame.server)
 }
 
 fn depth_of(frames: &[Frame], frame: &Frame) -> usize
@@ -55,7 +55,8 @@ fn is_no_deeper(frames: &[Frame], seat: u32, frame: &Frame, depth: usize) -> boo
 }
 
 fn none_is_deeper(frames: &[Frame], seat: u32, depth: usize) -> bool
-    ensures { result ≡ list_all (λ f. not (spec.takes_part seat f) || nat_le (spec.depth_in frames.now f) depth) frames.now }
+    ensures { result ≡ list_all (λ f. not (spec.takes_part seat f) || nat_le (spec.depth_in frames.now f) depth)
+        frames.now }
 {
     frames.iter().all(|f| is_no_deeper(frames, seat, f, depth))
 }
@@ -73,10 +74,17 @@ pub(crate) fn innermost_of(frames: &[Frame], seat: u32) -> Option<Frame>
     frames.iter().copied().find(|f| is_deepest(frames, seat, f))
 }
 
+// The frame of the call made at this place.
+fn is_frame(frame: &Frame, made: u32) -> bool
+    ensures { result ≡ spec.is_frame made frame.now }
+{
+    frame.made == made
+}
+
 fn frame_made_at(frames: &[Frame], made: u32) -> Option<Frame>
     ensures { result ≡ find (spec.is_frame made) frames.now }
 {
-    frames.iter().copied().find(|f| f.made == made)
+    frames.iter().copied().find(|f| is_frame(f, made))
 }
 
 // The frame's caller is a thread of the process.
@@ -130,7 +138,7 @@ fn close_frame(frames: &mut Vec<Frame>, made: u32)
     ensures len { vec_len frames.new ≤ vec_len frames.old }
     ensures capacity { vec_capacity frames.new ≡ vec_capacity frames.old }
 {
-    frames.retain(|f| f.made != made);
+    frames.retain(|f| !is_frame(f, made));
 }
 
 fn is_abandoned(frames: &[Frame], frame: &Frame) -> bool
@@ -224,34 +232,35 @@ pub(crate) fn lose_unread(frames: &mut Vec<Frame>, todo: &[Work], list: TodoList
 impl CallTable {
     ghost use Rattle.bd_space.specs.Space.{Space};
     ghost use Rattle.bd_space.specs.Transactions.{call_out};
-    ghost use Rattle.bd_calls.specs.Stands.{Stands, StandsFor};
-    ghost use Rattle.bd_calls.specs.Room.{Takes, frame_room, work_room, frame_count};
+    ghost use Rattle.bd_space.specs.Tables.{Tells, Makes};
+    ghost use Rattle.bd_calls.specs.Stands.{Stands, StandsFor, MakesAt};
+    ghost use Rattle.bd_calls.specs.Room.{Takes, TakesNothing, nothing, frame_room, work_room, frame_count};
 
     /// The frame of the call made at this place.
     pub fn frame(&self, made: u32) -> Option<Frame>
-        ensures { (s : Space) → StandsFor self.now s → result ≡ find (spec.is_frame made) s.frames }
+        ensures { Tells (StandsFor self.now) result (λ s. find (spec.is_frame made) s.frames) }
     {
         frame_made_at(&self.frames, made)
     }
 
     /// The innermost frame of a thread: of those that it called or serves, the deepest.
     pub fn innermost(&self, seat: u32) -> Option<Frame>
-        ensures { (s : Space) → StandsFor self.now s → result ≡ spec.innermost s seat }
+        ensures { Tells (StandsFor self.now) result (λ s. spec.innermost s seat) }
     {
         innermost_of(&self.frames, seat)
     }
 
     /// A thread's innermost frame, if the thread serves it.
     pub fn served_innermost(&self, seat: u32) -> Option<Frame>
-        ensures { (s : Space) → StandsFor self.now s → result ≡ spec.served_innermost s seat }
+        ensures { Tells (StandsFor self.now) result (λ s. spec.served_innermost s seat) }
     {
-        innermost_of(&self.frames, seat).filter(|f| serves(f.server, seat))
+        innermost_of(&self.frames, seat).filter(|f| serves(seat, f.server))
     }
 
     /// Where a two-way call of a thread to a process is read: by the first thread of the process that waits on the way
     /// from the caller's innermost frame by parents, else by the process.
     pub fn goes_to(&self, seat: u32, process: u32) -> TodoList
-        ensures { (s : Space) → StandsFor self.now s → result ≡ spec.goes_to s seat process }
+        ensures { Tells (StandsFor self.now) result (λ s. spec.goes_to s seat process) }
     {
         let from = innermost_made(&self.frames, seat);
         let waiting = first_waiting(&self.threads, &self.frames, from, process);
@@ -262,8 +271,8 @@ impl CallTable {
     pub fn call_out(&mut self, place: u32, seat: u32, process: u32)
         requires frames { 1 ≤ frame_room self.old }
         requires works { 1 ≤ work_room self.old }
-        ensures stands { (s : Space) → StandsFor self.old s → s.steps ≡ place → StandsFor self.new (call_out s seat process) }
-        ensures takes { Takes self.old self.new 0 1 0 1 }
+        ensures stands { MakesAt place (StandsFor self.old) (StandsFor self.new) (λ s. call_out s seat process) }
+        ensures takes { Takes self.old self.new (record nothing { frames = 1; works = 1 }) }
     {
         let parent = innermost_made(&self.frames, seat);
         let list = self.goes_to(seat, process);
@@ -279,21 +288,21 @@ impl CallTable {
 
     /// A call's frame closes.
     pub fn close(&mut self, made: u32)
-        ensures stands { (s : Space) → StandsFor self.old s → StandsFor self.new (spec.closed s made) }
-        ensures takes { Takes self.old self.new 0 0 0 0 }
+        ensures stands { Makes (StandsFor self.old) (StandsFor self.new) (λ s. spec.closed s made) }
+        ensures takes { TakesNothing self.old self.new }
     {
         close_frame(&mut self.frames, made);
     }
 
     fn count_frames(&self) -> usize
         ensures count { result ≡ frame_count self.now }
-        ensures frames { (s : Space) → StandsFor self.now s → result ≡ length s.frames }
+        ensures frames { Tells (StandsFor self.now) result (λ s. length s.frames) }
     {
         self.frames.len()
     }
 
     fn oldest_abandoned(&self) -> Option<Frame>
-        ensures { (s : Space) → StandsFor self.now s → result ≡ find (settling.is_abandoned s.frames) s.frames }
+        ensures { Tells (StandsFor self.now) result (λ s. find (settling.is_abandoned s.frames) s.frames) }
     {
         oldest_abandoned(&self.frames)
     }
@@ -302,8 +311,9 @@ impl CallTable {
     #[tactic(auto)]
     fn abandon(&mut self, place: u32, frame: Frame)
         requires { 1 ≤ work_room self.old }
-        ensures stands { (s : Space) → StandsFor self.old s → s.steps ≡ place → StandsFor self.new (settling.settle_one s (Some frame)) }
-        ensures takes { Takes self.old self.new 0 0 0 1 }
+        ensures stands { MakesAt place (StandsFor self.old) (StandsFor self.new)
+            (λ s. settling.settle_one s (Some frame)) }
+        ensures takes { Takes self.old self.new (record nothing { works = 1 }) }
     {
         self.close(frame.made);
         self.tell_caller(place, frame, WorkKind::Verdict(Return::DeadReply));
@@ -313,9 +323,9 @@ impl CallTable {
     #[tactic(auto)]
     fn settle_step(&mut self, place: u32) -> bool
         requires { 1 ≤ work_room self.old }
-        ensures stands { (s : Space) → StandsFor self.old s → s.steps ≡ place → StandsFor self.new (settling.settle_step s) }
+        ensures stands { MakesAt place (StandsFor self.old) (StandsFor self.new) settling.settle_step }
         ensures settled { (s : Space) → StandsFor self.old s → result ≡ false → settling.settle_step s ≡ s }
-        ensures takes { Takes self.old self.new 0 0 0 1 }
+        ensures takes { Takes self.old self.new (record nothing { works = 1 }) }
     {
         match self.oldest_abandoned() {
             Some(frame) => {
@@ -331,8 +341,8 @@ impl CallTable {
     #[tactic(auto)]
     pub fn settle(&mut self, place: u32)
         requires { frame_count self.old ≤ work_room self.old }
-        ensures stands { (s : Space) → StandsFor self.old s → s.steps ≡ place → StandsFor self.new (settling.settle s) }
-        ensures takes { Takes self.old self.new 0 0 0 (frame_count self.old) }
+        ensures stands { MakesAt place (StandsFor self.old) (StandsFor self.new) settling.settle }
+        ensures takes { Takes self.old self.new (record nothing { works = frame_count self.old }) }
     {
         for _settled in 0..self.count_frames() {
             if !self.settle_step(place) {

@@ -7,7 +7,7 @@ ghost use Rattle.bd_space.specs.Exits as exits;
 use bd_space::Server;
 
 /// A call is served by the thread of this seat.
-pub fn serves(server: Server, seat: u32) -> bool
+pub fn serves(seat: u32, server: Server) -> bool
     ensures { result ≡ spec.serves seat server }
 {
     matches!(server, Server::Serving(t) if t == seat)
@@ -22,7 +22,7 @@ pub(crate) fn is_gone(server: Server) -> bool
 pub(crate) fn gone_server(seat: u32, server: Server) -> Server
     ensures { result ≡ exits.gone_server seat server }
 {
-    if serves(server, seat) {
+    if serves(seat, server) {
         Server::Gone
     } else {
         server

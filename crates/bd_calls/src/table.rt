@@ -1,5 +1,5 @@
 //! The table itself: making it, room in it, and what changes several of its lists at once.
-#![tactic(auto, unfolding(crate::specs::Room::thread_room, crate::specs::Room::frame_room, crate::specs::Room::turn_room, crate::specs::Room::work_room, crate::specs::Room::frame_count, crate::specs::Room::turn_count))]
+#![tactic(auto, unfolding(crate::specs::Room::rooms))]
 
 ghost use Rattle.std.specs.Prelude.{ℕ, Bool, ◌≡◌, ◌==◌, ◌||◌, ◌&&◌, ◌+◌, ◌<◌, ◌≤◌, ◌^◌, ◌++◌, ◌∷◌, [], false, not, nat_le, map, filter, find, reverse, length, count_by, Option, Some, None, option_map, IfOk, OnOk, OnErr, vec_len, vec_capacity};
 
@@ -23,8 +23,9 @@ impl CallTable {
     ghost use Rattle.bd_space.specs.Space.{Space, opening};
     ghost use Rattle.bd_space.specs.Exits as exits;
     ghost use Rattle.bd_space.specs.Reading as reading;
-    ghost use Rattle.bd_calls.specs.Stands.{Stands, StandsFor};
-    ghost use Rattle.bd_calls.specs.Room.{Takes, HasRoom};
+    ghost use Rattle.bd_space.specs.Tables.{Tells, Makes};
+    ghost use Rattle.bd_calls.specs.Stands.{Stands, StandsFor, MakesAt};
+    ghost use Rattle.bd_calls.specs.Room.{Takes, TakesNothing, nothing, HasRoom};
 
     /// An empty table. Takes no memory.
     pub fn new(alloc: Global) -> CallTable
@@ -53,8 +54,8 @@ impl CallTable {
     /// Makes room for a thread, a frame, a one-way call and so many work items, beside those that settling and
     /// ripening may make. Fails for want of memory, and then changes nothing either.
     pub fn reserve(&mut self, works: usize) -> Result<(), AllocError>
-        ensures stands { (s : Space) → StandsFor self.old s → StandsFor self.new s }
-        ensures takes { Takes self.old self.new 0 0 0 0 }
+        ensures stands { Makes (StandsFor self.old) (StandsFor self.new) (λ s. s) }
+        ensures takes { TakesNothing self.old self.new }
         ensures room { OnOk result (HasRoom self.new works) }
         // Memory was asked for, or would have been past what there can be: there was no room.
         ensures grown { OnErr result (HasRoom self.old works → ⊥) }
@@ -69,8 +70,8 @@ impl CallTable {
     /// A seat's thread has read these work items: they go, the frames of the calls among them are served by it, and the
     /// one-way call among them is handed out.
     pub fn read_by(&mut self, seat: u32, taken: &[Work])
-        ensures stands { (s : Space) → StandsFor self.old s → StandsFor self.new (reading.read_by s seat taken.now) }
-        ensures takes { Takes self.old self.new 0 0 0 0 }
+        ensures stands { Makes (StandsFor self.old) (StandsFor self.new) (λ s. reading.read_by s seat taken.now) }
+        ensures takes { TakesNothing self.old self.new }
     {
         serve(&mut self.frames, seat, taken);
         remove_taken(&mut self.todo, taken);
@@ -79,8 +80,8 @@ impl CallTable {
 
     /// The thread of a seat ends: it is gone from its frames, and its list goes with what that would have handed over.
     pub fn thread_goes(&mut self, seat: u32)
-        ensures stands { (s : Space) → StandsFor self.old s → StandsFor self.new (exits.thread_goes s seat) }
-        ensures takes { Takes self.old self.new 0 0 0 0 }
+        ensures stands { Makes (StandsFor self.old) (StandsFor self.new) (λ s. exits.thread_goes s seat) }
+        ensures takes { TakesNothing self.old self.new }
     {
         let list = TodoList::OfThread(seat);
         leave_frames(&mut self.frames, &self.todo, seat);
@@ -91,8 +92,8 @@ impl CallTable {
 
     /// A process without threads ends: its list goes, and the one-way calls in its window.
     pub fn process_goes(&mut self, process: u32)
-        ensures stands { (s : Space) → StandsFor self.old s → StandsFor self.new (exits.without_process s process) }
-        ensures takes { Takes self.old self.new 0 0 0 0 }
+        ensures stands { Makes (StandsFor self.old) (StandsFor self.new) (λ s. exits.without_process s process) }
+        ensures takes { TakesNothing self.old self.new }
     {
         let list = TodoList::OfProcess(process);
         lose_unread(&mut self.frames, &self.todo, list);

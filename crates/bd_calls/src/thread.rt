@@ -1,5 +1,5 @@
 //! Threads.
-#![tactic(auto, unfolding(bd_space::specs::Steps::with_thread, bd_space::specs::Commands::with_looping, crate::specs::Room::thread_room, crate::specs::Room::frame_room, crate::specs::Room::turn_room, crate::specs::Room::work_room, crate::specs::Room::frame_count, crate::specs::Room::turn_count))]
+#![tactic(auto, unfolding(bd_space::specs::Steps::with_thread, bd_space::specs::Commands::with_looping, crate::specs::Room::rooms))]
 
 ghost use Rattle.std.specs.Prelude.{ℕ, Bool, ◌≡◌, ◌==◌, ◌||◌, ◌&&◌, ◌+◌, ◌<◌, ◌≤◌, ◌^◌, ◌++◌, ◌∷◌, [], false, not, nat_le, map, filter, find, reverse, length, count_by, Option, Some, None, option_map, IfOk, OnOk, OnErr, vec_len, vec_capacity};
 ghost use Rattle.bd_space.specs.Words.{changed};
@@ -17,17 +17,21 @@ pub(crate) fn thread_of(threads: &[Thread], seat: u32) -> Option<Thread>
 }
 
 fn seats_in(alloc: Global, threads: &[Thread], process: u32) -> Result<Vec<u32>, AllocError>
-    ensures { IfOk result (λ v. v.items ≡ map seat_of (filter (λ t. t.process == process) threads.now)) }
+    ensures seats { IfOk result (λ v. v.items ≡ map seat_of (filter (λ t. t.process == process) threads.now)) }
+    ensures grown { OnErr result (1 ≤ length (filter (λ t. t.process == process) threads.now)) }
 {
-    threads
-        .iter()
-        .filter(|t| t.process == process)
-        .map(|t| t.seat)
-        .collect(alloc)
+    let mut seats = Vec::new(alloc);
+    for t in threads {
+        if t.process == process {
+            seats.push(t.seat)?;
+        }
+    }
+    Ok(seats)
 }
 
 fn mark_looping(threads: &mut Vec<Thread>, seat: u32, looping: bool)
-    ensures threads { threads.new.items ≡ changed (λ t. t.seat == seat) (λ t. record t { looping = looping }) threads.old.items }
+    ensures threads { threads.new.items ≡
+        changed (λ t. t.seat == seat) (λ t. record t { looping = looping }) threads.old.items }
     ensures len { vec_len threads.new ≡ vec_len threads.old }
     ensures capacity { vec_capacity threads.new ≡ vec_capacity threads.old }
 {
@@ -50,19 +54,24 @@ impl CallTable {
     ghost use Rattle.bd_space.specs.Space.{Space};
     ghost use Rattle.bd_space.specs.Steps.{with_thread};
     ghost use Rattle.bd_space.specs.Commands.{with_looping};
-    ghost use Rattle.bd_calls.specs.Stands.{Stands, StandsFor};
-    ghost use Rattle.bd_calls.specs.Room.{Takes, thread_room};
+    ghost use Rattle.bd_space.specs.Tables.{Tells, Makes};
+    ghost use Rattle.bd_calls.specs.Stands.{Stands, StandsFor, MakesAt};
+    ghost use Rattle.bd_calls.specs.Room.{Takes, TakesNothing, nothing, thread_room};
 
     /// The live thread of a seat.
     pub fn thread(&self, seat: u32) -> Option<Thread>
-        ensures { (s : Space) → StandsFor self.now s → result ≡ thread_in s.threads seat }
+        ensures { Tells (StandsFor self.now) result (λ s. thread_in s.threads seat) }
     {
         thread_of(&self.threads, seat)
     }
 
-    /// The seats of a process's threads. Fails for want of memory alone.
+    /// The seats of a process's threads. Fails for want of memory alone, and never where there are none.
     pub fn seats_of(&self, alloc: Global, process: u32) -> Result<Vec<u32>, AllocError>
-        ensures { (s : Space) → StandsFor self.now s → IfOk result (λ v. v.items ≡ map seat_of (filter (λ t. t.process == process) s.threads)) }
+        ensures seats { IfOk result (λ v. Tells (StandsFor self.now) v.items
+            (λ s. map seat_of (filter (λ t. t.process == process) s.threads))) }
+        // Memory was asked for: there was a seat to put into it.
+        ensures grown { OnErr result ((s : Space) → StandsFor self.now s
+            → 1 ≤ length (filter (λ t. t.process == process) s.threads)) }
     {
         seats_in(alloc, &self.threads, process)
     }
@@ -70,8 +79,8 @@ impl CallTable {
     /// A thread comes in, made at this place.
     pub fn add_thread(&mut self, place: u32, seat: u32, process: u32)
         requires { 1 ≤ thread_room self.old }
-        ensures stands { (s : Space) → StandsFor self.old s → s.steps ≡ place → StandsFor self.new (with_thread s seat process) }
-        ensures takes { Takes self.old self.new 1 0 0 0 }
+        ensures stands { MakesAt place (StandsFor self.old) (StandsFor self.new) (λ s. with_thread s seat process) }
+        ensures takes { Takes self.old self.new (record nothing { threads = 1 }) }
     {
         self.threads.push_reserved(Thread {
             made: place,
@@ -83,8 +92,8 @@ impl CallTable {
 
     /// The thread of a seat enters or leaves the loop.
     pub fn set_looping(&mut self, seat: u32, looping: bool)
-        ensures stands { (s : Space) → StandsFor self.old s → StandsFor self.new (with_looping s seat looping) }
-        ensures takes { Takes self.old self.new 0 0 0 0 }
+        ensures stands { Makes (StandsFor self.old) (StandsFor self.new) (λ s. with_looping s seat looping) }
+        ensures takes { TakesNothing self.old self.new }
     {
         mark_looping(&mut self.threads, seat, looping);
     }

@@ -1,5 +1,5 @@
 //! Todo lists: which work items are still to be read, and by whom.
-#![tactic(auto, unfolding(bd_space::specs::Todo::owe, bd_space::specs::Todo::has_unread, bd_space::specs::Todo::list_to_read, crate::specs::Room::thread_room, crate::specs::Room::frame_room, crate::specs::Room::turn_room, crate::specs::Room::work_room, crate::specs::Room::frame_count, crate::specs::Room::turn_count))]
+#![tactic(auto, unfolding(bd_space::specs::Todo::owe, bd_space::specs::Todo::has_unread, bd_space::specs::Todo::list_to_read, crate::specs::Room::rooms))]
 
 ghost use Rattle.std.specs.Prelude.{ℕ, Bool, ◌≡◌, ◌==◌, ◌||◌, ◌&&◌, ◌+◌, ◌<◌, ◌≤◌, ◌^◌, ◌++◌, ◌∷◌, [], false, not, nat_le, map, filter, find, reverse, length, count_by, Option, Some, None, option_map, IfOk, OnOk, OnErr, vec_len, vec_capacity};
 ghost use Rattle.std.specs.List.{list_any, slice_get};
@@ -9,6 +9,7 @@ ghost use Rattle.bd_space.specs.Exits as exits;
 ghost use Rattle.bd_space.specs.Reading as reading;
 ghost use Rattle.bd_space.specs.Notices as notices;
 ghost use Rattle.bd_calls.specs.TodoList as replies;
+ghost use Rattle.bd_calls.specs.TodoList.{AnswersBy};
 
 use crate::frame::innermost_of;
 use crate::table::CallTable;
@@ -63,7 +64,8 @@ pub(crate) fn push_work(todo: &mut Vec<Work>, place: u32, list: TodoList, kind: 
 
 fn keep_kinds<F: Fn(WorkKind) -> bool>(todo: &mut Vec<Work>, f: F)
     requires { F.IsAlwaysCallable f }
-    ensures todo { (p : WorkKind → Bool) → ((kind : WorkKind) (b : Bool) → F.post f kind b → b ≡ p kind) → todo.new.items ≡ filter (λ w. p w.kind) todo.old.items }
+    ensures todo { (p : WorkKind → Bool) → AnswersBy (λ kind b. F.post f kind b) p
+        → todo.new.items ≡ filter (λ w. p w.kind) todo.old.items }
     ensures len { vec_len todo.new ≤ vec_len todo.old }
     ensures capacity { vec_capacity todo.new ≡ vec_capacity todo.old }
 {
@@ -158,12 +160,13 @@ impl CallTable {
     ghost use Rattle.bd_space.specs.declared.space.Object.{Object};
     ghost use Rattle.bd_space.specs.Space.{Space};
     ghost use Rattle.bd_space.specs.Histories.{is_ready};
-    ghost use Rattle.bd_calls.specs.Stands.{Stands, StandsFor};
-    ghost use Rattle.bd_calls.specs.Room.{Takes, work_room};
+    ghost use Rattle.bd_space.specs.Tables.{Tells, Makes};
+    ghost use Rattle.bd_calls.specs.Stands.{Stands, StandsFor, MakesAt};
+    ghost use Rattle.bd_calls.specs.Room.{Takes, TakesNothing, nothing, work_room};
 
     /// Whether an unread call, reply or verdict on a thread's own list keeps it from calling.
     pub fn has_unread(&self, seat: u32) -> bool
-        ensures { (s : Space) → StandsFor self.now s → result ≡ spec.has_unread s seat }
+        ensures { Tells (StandsFor self.now) result (λ s. spec.has_unread s seat) }
     {
         has_in_way(&self.todo, TodoList::OfThread(seat))
     }
@@ -171,28 +174,28 @@ impl CallTable {
     /// Which list a thread reads: its own if anything is on it, else its process's if it is in no call and has entered
     /// the loop.
     pub fn reads(&self, thread: &Thread) -> Option<TodoList>
-        ensures { (s : Space) → StandsFor self.now s → result ≡ spec.reads_in s.frames s.todo thread.now }
+        ensures { Tells (StandsFor self.now) result (λ s. spec.reads_in s.frames s.todo thread.now) }
     {
         reads_in(&self.frames, &self.todo, thread)
     }
 
     /// The `k`-th work item on a list, oldest first.
     pub fn work_at(&self, list: TodoList, k: usize) -> Option<Work>
-        ensures { (s : Space) → StandsFor self.now s → result ≡ slice_get (spec.work_on s.todo (Some list)) k }
+        ensures { Tells (StandsFor self.now) result (λ s. slice_get (spec.work_on s.todo (Some list)) k) }
     {
         work_on(&self.todo, list, k)
     }
 
     /// Where the first reply on a list was made.
     pub fn first_reply(&self, list: TodoList) -> Option<u32>
-        ensures { (s : Space) → StandsFor self.now s → result ≡ replies.first_reply_in (spec.work_on s.todo (Some list)) }
+        ensures { Tells (StandsFor self.now) result (λ s. replies.first_reply_in (spec.work_on s.todo (Some list))) }
     {
         first_reply_on(&self.todo, list)
     }
 
     /// Whether a seat's thread has anything to read.
     pub fn is_ready(&self, seat: u32) -> bool
-        ensures { (s : Space) → StandsFor self.now s → result ≡ is_ready s seat }
+        ensures { Tells (StandsFor self.now) result (λ s. is_ready s seat) }
     {
         match thread_of(&self.threads, seat) {
             Some(thread) => has_to_read(&self.frames, &self.todo, &thread),
@@ -202,7 +205,7 @@ impl CallTable {
 
     /// Whether an unread call or reply on a list would have handed this buffer over, so that it is lost with the list.
     pub fn is_lost(&self, list: TodoList, buffer: u32) -> bool
-        ensures { (s : Space) → StandsFor self.now s → result ≡ exits.is_lost_with s.todo list buffer }
+        ensures { Tells (StandsFor self.now) result (λ s. exits.is_lost_with s.todo list buffer) }
     {
         is_lost_with(&self.todo, list, buffer)
     }
@@ -210,8 +213,8 @@ impl CallTable {
     /// A work item comes onto a list, made at this place.
     pub fn owe(&mut self, place: u32, list: TodoList, kind: WorkKind)
         requires { 1 ≤ work_room self.old }
-        ensures stands { (s : Space) → StandsFor self.old s → s.steps ≡ place → StandsFor self.new (spec.owe s list kind) }
-        ensures takes { Takes self.old self.new 0 0 0 1 }
+        ensures stands { MakesAt place (StandsFor self.old) (StandsFor self.new) (λ s. spec.owe s list kind) }
+        ensures takes { Takes self.old self.new (record nothing { works = 1 }) }
     {
         push_work(&mut self.todo, place, list, kind);
     }
@@ -219,8 +222,8 @@ impl CallTable {
     /// The caller of a frame, if it lives, gets a work item, made at this place.
     pub fn tell_caller(&mut self, place: u32, frame: Frame, kind: WorkKind)
         requires { 1 ≤ work_room self.old }
-        ensures stands { (s : Space) → StandsFor self.old s → s.steps ≡ place → StandsFor self.new (spec.tell_caller s frame kind) }
-        ensures takes { Takes self.old self.new 0 0 0 1 }
+        ensures stands { MakesAt place (StandsFor self.old) (StandsFor self.new) (λ s. spec.tell_caller s frame kind) }
+        ensures takes { Takes self.old self.new (record nothing { works = 1 }) }
     {
         if let Some(seat) = frame.caller {
             push_work(&mut self.todo, place, TodoList::OfThread(seat), kind);
@@ -231,8 +234,10 @@ impl CallTable {
     /// go of which nothing is left to say.
     pub fn retain_work<F: Fn(WorkKind) -> bool>(&mut self, f: F)
         requires { F.IsAlwaysCallable f }
-        ensures stands { (s : Space) → StandsFor self.old s → ((kind : WorkKind) (b : Bool) → F.post f kind b → b ≡ notices.still_due s.processes s.objects s.references s.deaths kind) → StandsFor self.new (notices.work_goes s) }
-        ensures takes { Takes self.old self.new 0 0 0 0 }
+        ensures stands { (s : Space) → StandsFor self.old s
+            → AnswersBy (λ kind b. F.post f kind b) (notices.still_due s.processes s.objects s.references s.deaths)
+            → StandsFor self.new (notices.work_goes s) }
+        ensures takes { TakesNothing self.old self.new }
     {
         keep_kinds(&mut self.todo, f);
     }
@@ -240,8 +245,12 @@ impl CallTable {
     /// The notice of an object whose owner is to be told comes onto a list, if it is missing, made at this place.
     pub fn add_notice(&mut self, place: u32, list: TodoList, object: ObjectId, wanted: bool)
         requires { 1 ≤ work_room self.old }
-        ensures stands { (s : Space) (x : Object) → StandsFor self.old s → s.steps ≡ place → x.id ≡ object → wanted ≡ notices.wants_notice s.processes s.references x → StandsFor self.new (record s { todo = notices.with_notice s.steps s.processes s.references list s.todo x }) }
-        ensures takes { Takes self.old self.new 0 0 0 1 }
+        ensures stands { (s : Space) (x : Object) → StandsFor self.old s → s.steps ≡ place → x.id ≡ object
+            → wanted ≡ notices.wants_notice s.processes s.references x
+            → StandsFor self.new (record s {
+              todo = notices.with_notice s.steps s.processes s.references list s.todo x;
+            }) }
+        ensures takes { Takes self.old self.new (record nothing { works = 1 }) }
     {
         if wanted && !has_notice(&self.todo, object) {
             push_work(&mut self.todo, place, list, WorkKind::Notice(object));
@@ -250,8 +259,9 @@ impl CallTable {
 
     /// The notice of an object goes.
     pub fn withdraw_notice(&mut self, object: ObjectId)
-        ensures stands { (s : Space) → StandsFor self.old s → StandsFor self.new (record s { todo = filter (λ w. not (spec.is_notice object w.kind)) s.todo }) }
-        ensures takes { Takes self.old self.new 0 0 0 0 }
+        ensures stands { Makes (StandsFor self.old) (StandsFor self.new)
+            (λ s. record s { todo = filter (λ w. not (spec.is_notice object w.kind)) s.todo }) }
+        ensures takes { TakesNothing self.old self.new }
     {
         withdraw(&mut self.todo, object);
     }

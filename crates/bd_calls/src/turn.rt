@@ -1,5 +1,5 @@
 //! One-way calls: of one object's, one is due or handed out at a time, in the order in which they were made.
-#![tactic(auto, unfolding(bd_space::specs::Turns::ripen, crate::specs::Room::thread_room, crate::specs::Room::frame_room, crate::specs::Room::turn_room, crate::specs::Room::work_room, crate::specs::Room::frame_count, crate::specs::Room::turn_count))]
+#![tactic(auto, unfolding(bd_space::specs::Turns::ripen, crate::specs::Room::rooms))]
 
 ghost use Rattle.std.specs.Prelude.{ℕ, Bool, ◌≡◌, ◌==◌, ◌||◌, ◌&&◌, ◌+◌, ◌<◌, ◌≤◌, ◌^◌, ◌++◌, ◌∷◌, [], false, not, nat_le, map, filter, find, reverse, length, count_by, Option, Some, None, option_map, IfOk, OnOk, OnErr, vec_len, vec_capacity};
 ghost use Rattle.std.specs.Option.{option_to_list};
@@ -54,20 +54,28 @@ fn push_turn(turns: &mut Vec<Turn>, turn: Option<Turn>)
     }
 }
 
+// The one-way call made at this place.
+fn is_turn(turn: &Turn, made: u32) -> bool
+    ensures { result ≡ (turn.now.made == made) }
+{
+    turn.made == made
+}
+
 fn hand_out(turns: &mut Vec<Turn>, made: u32)
     ensures turns { turns.new.items ≡ changed (λ t. t.made == made) hand_turn turns.old.items }
     ensures len { vec_len turns.new ≡ vec_len turns.old }
     ensures capacity { vec_capacity turns.new ≡ vec_capacity turns.old }
 {
     for turn in turns.iter_mut() {
-        if turn.made == made {
+        if is_turn(turn, made) {
             turn.handed = true;
         }
     }
 }
 
 pub(crate) fn hand_out_taken(turns: &mut Vec<Turn>, taken: &[Work])
-    ensures turns { turns.new.items ≡ handed_turns (words.first_of (map (λ w. works.handed_over w.kind) taken.now)) turns.old.items }
+    ensures turns { turns.new.items ≡
+        handed_turns (words.first_of (map (λ w. works.handed_over w.kind) taken.now)) turns.old.items }
     ensures len { vec_len turns.new ≡ vec_len turns.old }
     ensures capacity { vec_capacity turns.new ≡ vec_capacity turns.old }
 {
@@ -81,7 +89,7 @@ fn remove_turn(turns: &mut Vec<Turn>, made: u32)
     ensures len { vec_len turns.new ≤ vec_len turns.old }
     ensures capacity { vec_capacity turns.new ≡ vec_capacity turns.old }
 {
-    turns.retain(|t| t.made != made);
+    turns.retain(|t| !is_turn(t, made));
 }
 
 pub(crate) fn lose_turns(turns: &mut Vec<Turn>, todo: &[Work], list: TodoList)
@@ -105,22 +113,24 @@ impl CallTable {
     ghost use Rattle.bd_space.specs.Space.{Space};
     ghost use Rattle.bd_space.specs.Delivery.{add_buffer};
     ghost use Rattle.bd_space.specs.Freeing.{without_buffer};
-    ghost use Rattle.bd_calls.specs.Stands.{Stands, StandsFor};
-    ghost use Rattle.bd_calls.specs.Room.{Takes, turn_room, work_room, turn_count};
+    ghost use Rattle.bd_space.specs.Tables.{Tells, Makes};
+    ghost use Rattle.bd_calls.specs.Stands.{Stands, StandsFor, MakesAt};
+    ghost use Rattle.bd_calls.specs.Room.{Takes, TakesNothing, nothing, turn_room, work_room, turn_count};
 
     /// The one-way call of a new buffer comes in, if it is one.
     pub fn add_turn(&mut self, turn: Option<Turn>)
         requires { 1 ≤ turn_room self.old }
-        ensures stands { (s : Space) (b : Buffer) → StandsFor self.old s → turn ≡ spec.turn_of b → StandsFor self.new (add_buffer s b) }
-        ensures takes { Takes self.old self.new 0 0 1 0 }
+        ensures stands { (s : Space) (b : Buffer) → StandsFor self.old s → turn ≡ spec.turn_of b
+            → StandsFor self.new (add_buffer s b) }
+        ensures takes { Takes self.old self.new (record nothing { turns = 1 }) }
     {
         push_turn(&mut self.turns, turn);
     }
 
     /// The one-way call of a freed buffer goes, if it is one.
     pub fn drop_turn(&mut self, made: u32)
-        ensures stands { (s : Space) → StandsFor self.old s → StandsFor self.new (without_buffer s made) }
-        ensures takes { Takes self.old self.new 0 0 0 0 }
+        ensures stands { Makes (StandsFor self.old) (StandsFor self.new) (λ s. without_buffer s made) }
+        ensures takes { TakesNothing self.old self.new }
     {
         remove_turn(&mut self.turns, made);
     }
@@ -129,8 +139,8 @@ impl CallTable {
     /// object.
     pub fn ripen(&mut self, place: u32)
         requires { turn_count self.old ≤ work_room self.old }
-        ensures stands { (s : Space) → StandsFor self.old s → s.steps ≡ place → StandsFor self.new (spec.ripen s) }
-        ensures takes { Takes self.old self.new 0 0 0 (turn_count self.old) }
+        ensures stands { MakesAt place (StandsFor self.old) (StandsFor self.new) spec.ripen }
+        ensures takes { Takes self.old self.new (record nothing { works = turn_count self.old }) }
     {
         push_ripe(&mut self.todo, &self.turns, place);
     }
