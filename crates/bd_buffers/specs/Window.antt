@@ -1,17 +1,10 @@
--- Windows: room for a buffer, the budget of one-way buffers, and what is so of every window.
+-- A window: room for a buffer, the budget of one-way buffers, and what is so of every window.
 use Rattle.std.specs.Prelude.{ℕ, ◌≡◌, ◌+◌, ◌*◌, ◌%◌, ◌<◌, ◌≤◌, ◌==◌, ◌⊎◌, Bool, IsTrue, List, Option, Some, None, Result, Ok, Err, All, AllPairs, find, filter, sum_by, length, if◌then◌else◌}
 use Rattle.bd_uapi.specs.declared.fault.Cause.{Cause}
 use Rattle.bd_uapi.specs.declared.fault.Cause.TheVariants.{NoRoom, OverBudget}
 use Rattle.bd_uapi.specs.declared.fault.Note.{Note}
-use Rattle.bd_uapi.specs.declared.fault.Note.TheVariants.{NoSuchBuffer, NotHandedOut}
 use Rattle.bd_space.specs.declared.space.Buffer.{Buffer}
-use Rattle.bd_space.specs.Words.{round_up}
-use Rattle.bd_space.specs.Room.{needed}
-use Rattle.bd_space.specs.Freeing.{pointer}
-
--- n bytes from p on have no byte in common with a buffer
-abbrev pub IsApart : ℕ → ℕ → Buffer → Type 0
-IsApart p n b = (p + n ≤ b.start) ⊎ (b.start + b.size ≤ p)
+use Rattle.bd_buffers.specs.Buffer.{IsApart, IsPlaced, at_pointer, freed_buffer}
 
 -- n bytes at p are free, in a window of this size with these live buffers
 pub record IsRoom (size : ℕ) (buffers : List Buffer) (n p : ℕ) : Type 0 where
@@ -39,15 +32,6 @@ Refuses size buffers one_way n OverBudget =
     IsTrue one_way × ((p : ℕ) × IsRoom size buffers n p) × (size < 2 * (one_way_size buffers + n))
 Refuses size buffers one_way n _ = ⊥
 
--- what is so of each live buffer of a window of this size
-pub record IsPlaced (size : ℕ) (b : Buffer) : Type 0 where
-  pub aligned : b.start % 8 ≡ 0
-  pub sized : b.size ≡ needed (length b.bytes) (length b.offsets)
-  pub inside : b.start + b.size ≤ size
-  pub parts : round_up (length b.bytes) + round_up (length b.offsets) ≤ b.size
-  pub bytes_fit : length b.bytes ≤ b.size
-  pub offsets_fit : length b.offsets ≤ b.size
-
 -- what is so of every window
 pub record IsWindow (size : ℕ) (buffers : List Buffer) : Type 0 where
   pub whole : size % 8 ≡ 0
@@ -56,15 +40,7 @@ pub record IsWindow (size : ℕ) (buffers : List Buffer) : Type 0 where
   pub apart : AllPairs (λ a b. IsApart b.start b.size a) buffers
   pub budget : IsInBudget size buffers 0
 
--- the receiver knows the buffer by this pointer
-abbrev pub at_pointer : ℕ → Buffer → Bool
-at_pointer ptr b = pointer b == ptr
-
--- the place at which a buffer that may be freed was made, or why there is none
-abbrev pub freed_buffer : Option Buffer → Result ℕ Note
-freed_buffer None = Err NoSuchBuffer
-freed_buffer (Some b) = if b.handed then Ok b.made else Err NotHandedOut
-
+-- where the buffer at a pointer was made, if it may be freed
 abbrev pub free_check : List Buffer → ℕ → Result ℕ Note
 free_check buffers ptr = freed_buffer (find (at_pointer ptr) buffers)
 
