@@ -22,7 +22,7 @@ use Rattle.bd_space.specs.ReadItems.{hand_out, handed_buffers}
 use Rattle.bd_buffers.specs.declared.window.Window.{Window}
 use Rattle.bd_buffers.specs.declared.windows.OwnedWindow.{OwnedWindow}
 use Rattle.bd_buffers.specs.declared.windows.Windows.{Windows}
-use Rattle.bd_buffers.specs.Windows as single
+use Rattle.bd_buffers.specs.Window as single
 use Rattle.bd_buffers.specs.WindowsStand.{ProcessWindow, seen, window_of, with_buffers, is_owned_by, is_of, WindowsOf, Stands, room_of, CanTakeIn, made_of_buffer}
 use Rattle.bd_space.proofs.Changed.{mapped-next}
 use Rattle.bd_buffers.proofs.Changes.{pairs_head, pairs_tail, found_has}

@@ -11,7 +11,7 @@ use Rattle.bd_space.specs.Room.{buffers_of}
 use Rattle.bd_space.specs.Freeing.{is_buffer_at, is_made_at}
 use Rattle.bd_space.specs.Returns.{buffer_in}
 use Rattle.bd_space.specs.ReadItems.{hand_out}
-use Rattle.bd_buffers.specs.Windows.{at_pointer}
+use Rattle.bd_buffers.specs.Buffer.{at_pointer}
 
 abbrev is_in : ℕ → Buffer → Bool
 is_in p b = b.receiver == p

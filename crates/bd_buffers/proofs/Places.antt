@@ -10,7 +10,8 @@ use Rattle.bd_uapi.specs.declared.fault.Cause.TheVariants.{NoRoom, OverBudget}
 use Rattle.bd_space.specs.declared.space.Buffer.{Buffer}
 use Rattle.bd_space.specs.Words.{least, when, found_or, unless, and_then}
 use Rattle.bd_space.specs.Room.{is_apart, fits_in, place_in, over_budget_in, place_for, needed}
-use Rattle.bd_buffers.specs.Windows.{IsApart, IsRoom, IsLeastRoom, IsInBudget, Refuses, IsPlaced, IsWindow, one_way_size}
+use Rattle.bd_buffers.specs.Buffer.{IsApart, IsPlaced}
+use Rattle.bd_buffers.specs.Window.{IsRoom, IsLeastRoom, IsInBudget, Refuses, IsWindow, one_way_size}
 use Rattle.bd_buffers.proofs.Changes.{found_has, none_found}
 
 -- ---- the least number that passes

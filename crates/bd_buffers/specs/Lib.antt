@@ -1,3 +1,4 @@
-pub mod Windows
+pub mod Buffer
+pub mod Window
 pub mod Stands
 pub mod WindowsStand

@@ -1,5 +1,5 @@
 -- What a window stands for.
-use Rattle.std.specs.Prelude.{ℕ, ◌≡◌, Bool, List, Ok}
+use Rattle.std.specs.Prelude.{ℕ, ◌≡◌, ◌+◌, ◌≤◌, Bool, List, Ok}
 use Rattle.bd_space.specs.declared.space.Buffer.{Buffer}
 use Rattle.bd_space.specs.Room.{place_for}
 use Rattle.bd_buffers.specs.declared.window.Window.{Window}
@@ -9,6 +9,25 @@ pub record Stands (w : Window) (size : ℕ) (buffers : List Buffer) : Type 0 whe
   pub size_is : w.size ≡ size
   pub buffers_are : w.buffers ≡ buffers
 
+-- of every size and live buffers that a window stands for x is what f says
+abbrev pub WindowTells : {A : Type 0} → (ℕ → List Buffer → Type 0) → A → (ℕ → List Buffer → A) → Type 0
+WindowTells P x f = (size : ℕ) (buffers : List Buffer) → P size buffers → x ≡ f size buffers
+
+-- and f makes of the live buffers those that it stands for then
+abbrev pub WindowMakes : (ℕ → List Buffer → Type 0) → (ℕ → List Buffer → Type 0) → (List Buffer → List Buffer) → Type 0
+WindowMakes P Q f = (size : ℕ) (buffers : List Buffer) → P size buffers → Q size (f buffers)
+
 -- the window can take a buffer of this size at this place now
 unfoldable pub CanTake : Window → Bool → ℕ → ℕ → Type 0
 CanTake w one_way size start = place_for w.size w.buffers one_way size ≡ Ok start
+
+-- a change takes room for at most so many buffers
+abbrev pub Takes : Window → Window → ℕ → Type 0
+Takes old new buffers = old.room ≤ new.room + buffers
+
+abbrev pub TakesNothing : Window → Window → Type 0
+TakesNothing old new = old.room ≤ new.room
+
+-- whatever is answered is what p says
+abbrev pub AnswersBy : {A : Type 0} → (A → Bool → Type 0) → (A → Bool) → Type 0
+AnswersBy {A} answers p = (x : A) (b : Bool) → answers x b → b ≡ p x

@@ -7,6 +7,7 @@ use Rattle.bd_space.specs.Seats.{lives_in}
 use Rattle.bd_space.specs.Room.{buffers_of, place_for}
 use Rattle.bd_buffers.specs.declared.windows.OwnedWindow.{OwnedWindow}
 use Rattle.bd_buffers.specs.declared.windows.Windows.{Windows}
+use Rattle.bd_buffers.specs.Buffer as buffer
 pub use Rattle.bd_buffers.specs.Stands.{Stands}
 
 -- ---- the window of one process
@@ -80,10 +81,8 @@ CanAdd t p one_way size start = CanTakeIn (find (is_of p) (map seen t.windows.it
 -- ---- buffers
 
 -- what is so of every live buffer
-pub record IsInWindow (b : Buffer) : Type 0 where
-  pub inside : b.start + b.size ≤ 4194304
-  pub bytes_fit : length b.bytes ≤ b.size
-  pub offsets_fit : length b.offsets ≤ b.size
+abbrev pub IsPlaced : Buffer → Type 0
+IsPlaced b = buffer.IsPlaced 4194304 b
 
 abbrev pub made_of_buffer : Buffer → ℕ
 made_of_buffer b = b.made

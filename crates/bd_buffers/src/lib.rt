@@ -1,10 +1,12 @@
 //! Windows: the memory of a process that its transactions' buffers lie in.
 #![tactic(auto)]
 
+mod buffer;
 mod spans;
 mod window;
 mod windows;
 
+pub use buffer::{needed, pointer_of};
 pub use window::Window;
 pub use windows::Windows;
 

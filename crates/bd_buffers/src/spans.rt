@@ -8,28 +8,13 @@ ghost use Rattle.bd_space.specs.Freeing.{is_made_at};
 ghost use Rattle.bd_space.specs.ReadItems.{hand_out};
 ghost use Rattle.bd_space.specs.Returns.{buffer_in};
 ghost use Rattle.bd_space.specs.declared.space.Buffer.{Buffer};
-ghost use Rattle.bd_buffers.specs.Windows.{at_pointer, one_way_size, IsWindow};
+ghost use Rattle.bd_buffers.specs.Buffer.{at_pointer};
+ghost use Rattle.bd_buffers.specs.Window.{one_way_size, IsWindow};
+ghost use Rattle.bd_buffers.specs.Stands.{AnswersBy};
 
+use crate::buffer::{is_apart, is_at, is_made_at, needed};
 use bd_space::Buffer;
 use bd_uapi::Cause;
-
-/// The pointer by which a receiver knows the first byte of its window.
-const FIRST_POINTER: u64 = 65536;
-
-// Where a buffer ends.
-fn end_of(b: &Buffer) -> u64
-    ensures { result ≡ b.now.start + b.now.size }
-{
-    u64::from(b.start) + u64::from(b.size)
-}
-
-// Whether n bytes at p and a buffer have no byte in common.
-fn is_apart(b: &Buffer, p: u32, n: u32) -> bool
-    requires { p + n < 2 ^ 32 }
-    ensures { result ≡ room.is_apart p n b.now }
-{
-    p + n <= b.start || end_of(b) <= u64::from(p)
-}
 
 // The first buffer in the way of n bytes at p.
 fn blocker(buffers: &[Buffer], p: u32, n: u32) -> Option<&Buffer>
@@ -74,15 +59,6 @@ fn is_over_budget(size: u32, buffers: &[Buffer], n: u32) -> bool
     2 * (one_way_total(buffers) + n) > size
 }
 
-// The room that data and offsets of these sizes need.
-fn needed(data_size: u32, offsets_size: u32) -> u32
-    requires data { data_size ≤ 4194304 }
-    requires offsets { offsets_size ≤ 4194304 }
-    ensures { result ≡ room.needed data_size offsets_size }
-{
-    (data_size.next_multiple_of(8) + offsets_size.next_multiple_of(8)).max(8)
-}
-
 // The place of a new buffer that takes n bytes.
 #[tactic(auto, unfolding(bd_space::specs::Room::place_for))]
 fn place_of(size: u32, buffers: &[Buffer], one_way: bool, n: u32) -> Result<u32, Cause>
@@ -114,26 +90,14 @@ pub fn place_for(
     if data_size > u64::from(size) || offsets_size > u64::from(size) {
         return Err(Cause::NoRoom);
     }
-    place_of(
-        size,
-        buffers,
-        one_way,
-        needed(data_size as u32, offsets_size as u32),
-    )
+    place_of(size, buffers, one_way, needed(data_size, offsets_size))
 }
 
 /// The buffer made there.
 pub fn made_at(buffers: &[Buffer], made: u32) -> Option<&Buffer>
     ensures { option_copied result ≡ buffer_in buffers.now made }
 {
-    buffers.iter().find(|b| b.made == made)
-}
-
-// Whether the receiver knows a buffer by a pointer.
-fn is_at(b: &Buffer, pointer: u64) -> bool
-    ensures { result ≡ at_pointer pointer b.now }
-{
-    FIRST_POINTER + u64::from(b.start) == pointer
+    buffers.iter().find(|b| is_made_at(b, made))
 }
 
 /// The buffer at a pointer.
@@ -149,7 +113,7 @@ pub fn hand_out(buffers: &mut [Buffer], made: u32)
     ensures window { (size : ℕ) → IsWindow size buffers.old → IsWindow size buffers.new }
 {
     for b in buffers.iter_mut() {
-        if b.made == made {
+        if is_made_at(b, made) {
             b.handed = true;
         }
     }
@@ -162,13 +126,13 @@ pub fn end(buffers: &mut Vec<Buffer>, made: u32)
     ensures len { vec_len buffers.new ≤ vec_len buffers.old }
     ensures capacity { vec_capacity buffers.new ≡ vec_capacity buffers.old }
 {
-    buffers.retain(|b| b.made != made);
+    buffers.retain(|b| !is_made_at(b, made));
 }
 
 /// Ends the buffers whose making step is lost.
 pub fn end_lost<F: Fn(u32) -> bool>(buffers: &mut Vec<Buffer>, is_lost: F)
     requires { F.IsAlwaysCallable is_lost }
-    ensures left { (lost : ℕ → Bool) → ((made : ℕ) (b : Bool) → F.post is_lost made b → b ≡ lost made)
+    ensures left { (lost : ℕ → Bool) → AnswersBy (λ made b. F.post is_lost made b) lost
         → buffers.new.items ≡ filter (λ b. not (lost b.made)) buffers.old.items }
     ensures window { (size : ℕ) → IsWindow size buffers.old.items → IsWindow size buffers.new.items }
     ensures len { vec_len buffers.new ≤ vec_len buffers.old }

@@ -24,18 +24,23 @@ pub struct Window {
 
 impl Model for Window {
     ghost use Rattle.std.specs.Prelude.{◌-◌, vec_len, vec_capacity};
-    ghost use Rattle.bd_buffers.specs.Windows.{WindowView, IsWindow};
+    ghost use Rattle.bd_buffers.specs.Window.{WindowView, IsWindow};
 
     ghost Value = { WindowView };
 
-    ghost view = { λ w. record { size = w.size; buffers = w.buffers.items; room = vec_capacity w.buffers - vec_len w.buffers } };
+    ghost view = { λ w. record {
+      size = w.size;
+      buffers = w.buffers.items;
+      room = vec_capacity w.buffers - vec_len w.buffers;
+    } };
 
     ghost invariant = { λ w. IsWindow w.size w.buffers.items };
 }
 
 impl Window {
-    ghost use Rattle.bd_buffers.specs.Windows.{IsLeastRoom, IsInBudget, Refuses, IsPlaced, IsWindow, at_pointer, free_check};
-    ghost use Rattle.bd_buffers.specs.Stands.{Stands, CanTake};
+    ghost use Rattle.bd_buffers.specs.Buffer.{IsPlaced, at_pointer};
+    ghost use Rattle.bd_buffers.specs.Window.{IsLeastRoom, IsInBudget, Refuses, IsWindow, free_check};
+    ghost use Rattle.bd_buffers.specs.Stands.{Stands, CanTake, WindowTells, WindowMakes, Takes, TakesNothing, AnswersBy};
 
     /// An empty window of a size in bytes, a multiple of 8 of at most 4194304. Takes no memory.
     pub fn new(alloc: Global, size: u32) -> Result<Window, AllocError>
@@ -53,8 +58,8 @@ impl Window {
     /// room for both, each rounded up to a multiple of 8, and for 8 bytes at least. `NoRoom` where there is none;
     /// then `OverBudget` where one-way buffers would take more than half of the window.
     pub fn place(&self, one_way: bool, data_size: u64, offsets_size: u64) -> Result<u32, Cause>
-        ensures computed { (size : ℕ) (bs : List Buffer) → Stands self.now size bs
-            → result ≡ place_for size bs one_way (needed data_size offsets_size) }
+        ensures computed { WindowTells (Stands self.now) result
+            (λ size bs. place_for size bs one_way (needed data_size offsets_size)) }
         ensures can_take { IfOk result (λ p. CanTake self.now one_way (needed data_size offsets_size) p) }
         ensures least { (size : ℕ) (bs : List Buffer) → Stands self.now size bs
             → IfOk result (λ p. IsLeastRoom size bs (needed data_size offsets_size) p) }
@@ -68,11 +73,11 @@ impl Window {
 
     /// Makes room to note one more buffer. The window stays as it was, also on an `Err`.
     pub fn reserve(&mut self) -> Result<(), AllocError>
-        ensures stands { (size : ℕ) (bs : List Buffer) → Stands self.old size bs → Stands self.new size bs }
+        ensures stands { WindowMakes (Stands self.old) (Stands self.new) (λ bs. bs) }
         ensures can_take { (one_way : Bool) (size start : ℕ) → CanTake self.old one_way size start
             → CanTake self.new one_way size start }
         ensures room { OnOk result (1 ≤ self.new.room) }
-        ensures kept { self.old.room ≤ self.new.room }
+        ensures kept { TakesNothing self.old self.new }
         // Memory was asked for: there was no room.
         ensures grown { OnErr result (self.old.room ≡ 0) }
     {
@@ -84,15 +89,15 @@ impl Window {
         requires room { 1 ≤ self.old.room }
         requires sized { buffer.size ≡ needed (length buffer.bytes) (length buffer.offsets) }
         requires can_take { CanTake self.old buffer.one_way buffer.size buffer.start }
-        ensures stands { (size : ℕ) (bs : List Buffer) → Stands self.old size bs → Stands self.new size (bs ++ buffer ∷ []) }
-        ensures room { self.old.room ≤ self.new.room + 1 }
+        ensures stands { WindowMakes (Stands self.old) (Stands self.new) (λ bs. bs ++ buffer ∷ []) }
+        ensures room { Takes self.old self.new 1 }
     {
         self.buffers.push_reserved(buffer);
     }
 
     /// The live buffer made there.
     pub fn buffer(&self, made: u32) -> Option<&Buffer>
-        ensures found { (size : ℕ) (bs : List Buffer) → Stands self.now size bs → option_copied result ≡ buffer_in bs made }
+        ensures found { WindowTells (Stands self.now) (option_copied result) (λ size bs. buffer_in bs made) }
         ensures placed { IfSome result (λ b. IsPlaced 4194304 b.now) }
     {
         spans::made_at(&self.buffers, made)
@@ -100,8 +105,7 @@ impl Window {
 
     /// The live buffer that the process knows by a pointer, handed out or not.
     pub fn buffer_at_pointer(&self, pointer: u64) -> Option<&Buffer>
-        ensures found { (size : ℕ) (bs : List Buffer) → Stands self.now size bs
-            → option_copied result ≡ find (at_pointer pointer) bs }
+        ensures found { WindowTells (Stands self.now) (option_copied result) (λ size bs. find (at_pointer pointer) bs) }
         ensures placed { IfSome result (λ b. IsPlaced 4194304 b.now) }
     {
         spans::at(&self.buffers, pointer)
@@ -110,7 +114,7 @@ impl Window {
     /// Where the buffer at a pointer was made, if the process may free it: there has to be one
     /// (`NoSuchBuffer`), and it has to be handed out (`NotHandedOut`).
     pub fn free_check(&self, pointer: u64) -> Result<u32, Note>
-        ensures { (size : ℕ) (bs : List Buffer) → Stands self.now size bs → result ≡ free_check bs pointer }
+        ensures { WindowTells (Stands self.now) result (λ size bs. free_check bs pointer) }
     {
         match spans::at(&self.buffers, pointer) {
             None => Err(Note::NoSuchBuffer),
@@ -121,28 +125,27 @@ impl Window {
 
     /// Ends the buffer made there.
     pub fn free(&mut self, made: u32)
-        ensures stands { (size : ℕ) (bs : List Buffer) → Stands self.old size bs
-            → Stands self.new size (filter (λ b. not (is_made_at made b)) bs) }
-        ensures room { self.old.room ≤ self.new.room }
+        ensures stands { WindowMakes (Stands self.old) (Stands self.new) (filter (λ b. not (is_made_at made b))) }
+        ensures room { TakesNothing self.old self.new }
     {
         spans::end(&mut self.buffers, made);
     }
 
     /// Marks the buffer made there as handed out.
     pub fn hand_out(&mut self, made: u32)
-        ensures stands { (size : ℕ) (bs : List Buffer) → Stands self.old size bs
-            → Stands self.new size (changed (is_made_at made) hand_out bs) }
-        ensures room { self.old.room ≤ self.new.room }
+        ensures stands { WindowMakes (Stands self.old) (Stands self.new) (changed (is_made_at made) hand_out) }
+        ensures room { TakesNothing self.old self.new }
     {
         spans::hand_out(&mut self.buffers, made);
     }
 
     /// The data and the offsets of the live buffer made there, in memory of their own.
     pub fn bytes(&self, made: u32) -> Result<Option<(Bytes, Bytes)>, AllocError>
-        ensures copied { (size : ℕ) (bs : List Buffer) → Stands self.now size bs
-            → IfOk result (λ r. r ≡ option_map (λ b. (b.bytes, b.offsets)) (buffer_in bs made)) }
+        ensures copied { IfOk result (λ r. WindowTells (Stands self.now) r
+            (λ size bs. option_map (λ b. (b.bytes, b.offsets)) (buffer_in bs made))) }
         // Where there is no buffer no memory is asked for.
-        ensures missing { (size : ℕ) (bs : List Buffer) → Stands self.now size bs → buffer_in bs made ≡ None → IsOk result }
+        ensures missing { (size : ℕ) (bs : List Buffer) → Stands self.now size bs → buffer_in bs made ≡ None
+            → IsOk result }
     {
         match spans::made_at(&self.buffers, made) {
             None => Ok(None),
@@ -154,9 +157,9 @@ impl Window {
     pub fn drop_lost<F: Fn(u32) -> bool>(&mut self, is_lost: F)
         requires { F.IsAlwaysCallable is_lost }
         ensures stands { (size : ℕ) (bs : List Buffer) (lost : ℕ → Bool) → Stands self.old size bs
-            → ((made : ℕ) (b : Bool) → F.post is_lost made b → b ≡ lost made)
+            → AnswersBy (λ made b. F.post is_lost made b) lost
             → Stands self.new size (filter (λ b. not (lost b.made)) bs) }
-        ensures room { self.old.room ≤ self.new.room }
+        ensures room { TakesNothing self.old self.new }
     {
         spans::end_lost(&mut self.buffers, is_lost);
     }

@@ -1,6 +1,6 @@
 //! The windows of all live processes.
 
-ghost use Rattle.std.specs.Prelude.{◌≡◌, ◌≤◌, ◌<◌, ◌+◌, ◌==◌, not, ℕ, Bool, IfOk, IfSome, OnOk, OnErr, Some, None, Err, length, map, filter, find, List, [], vec_len, vec_capacity, option_map};
+ghost use Rattle.std.specs.Prelude.{◌++◌, ◌∷◌, ◌≡◌, ◌≤◌, ◌<◌, ◌+◌, ◌==◌, not, ℕ, Bool, IfOk, IfSome, OnOk, OnErr, Some, None, Err, length, map, filter, find, List, [], vec_len, vec_capacity, option_map};
 ghost use Rattle.std.specs.List.{position};
 ghost use Rattle.std.specs.Option.{option_copied};
 ghost use Rattle.bd_uapi.specs.declared.fault.Cause.TheVariants.{NoRoom};
@@ -19,6 +19,8 @@ ghost use Rattle.bd_space.specs.ReadItems.{buffer_taken, hand_out, read_by};
 ghost use Rattle.bd_space.specs.Steps.{with_process};
 ghost use Rattle.bd_space.specs.ThreadExits.{thread_goes, is_lost_with};
 ghost use Rattle.bd_space.specs.ProcessExits.{without_process};
+ghost use Rattle.bd_space.specs.Tables.{Tells, Makes};
+ghost use Rattle.bd_buffers.specs.Stands.{AnswersBy};
 ghost use Rattle.bd_buffers.specs.WindowsStand.{StandsFor, StandsIn, Stands, window_room, buffer_room, made_of_buffer, CanAdd, IsInWindow, is_owned_by, seen, with_buffers};
 
 use crate::window::Window;
@@ -33,6 +35,14 @@ struct OwnedWindow {
     window: Window,
 }
 
+impl OwnedWindow {
+    fn is_of(&self, p: u32) -> bool
+        ensures { result ≡ is_owned_by p self.now }
+    {
+        self.owner == p
+    }
+}
+
 /// The windows of all live processes, in the order in which these were opened.
 #[derive(Drop)]
 pub struct Windows {
@@ -43,14 +53,14 @@ pub struct Windows {
 fn position_of(windows: &[OwnedWindow], p: u32) -> Option<usize>
     ensures { result ≡ position (is_owned_by p) windows.now }
 {
-    windows.iter().position(|w| w.owner == p)
+    windows.iter().position(|w| w.is_of(p))
 }
 
 // The window of a process.
 fn owned_by(windows: &[OwnedWindow], p: u32) -> Option<&OwnedWindow>
     ensures { option_copied result ≡ find (is_owned_by p) windows.now }
 {
-    windows.iter().find(|w| w.owner == p)
+    windows.iter().find(|w| w.is_of(p))
 }
 
 // The live buffer made there, in whichever window it lies.
@@ -68,7 +78,8 @@ fn buffer_among(windows: &[OwnedWindow], made: u32) -> Option<&Buffer>
 
 // Ends the buffer made there.
 fn free_among(windows: &mut Vec<OwnedWindow>, made: u32)
-    ensures { map seen windows.new.items ≡ map (with_buffers (filter (λ b. not (is_made_at made b)))) (map seen windows.old.items) }
+    ensures { map seen windows.new.items ≡
+        map (with_buffers (filter (λ b. not (is_made_at made b)))) (map seen windows.old.items) }
 {
     for w in windows.iter_mut() {
         w.window.free(made);
@@ -77,7 +88,8 @@ fn free_among(windows: &mut Vec<OwnedWindow>, made: u32)
 
 // Marks the buffer made there as handed out.
 fn hand_out_among(windows: &mut Vec<OwnedWindow>, made: u32)
-    ensures { map seen windows.new.items ≡ map (with_buffers (changed (is_made_at made) hand_out)) (map seen windows.old.items) }
+    ensures { map seen windows.new.items ≡
+        map (with_buffers (changed (is_made_at made) hand_out)) (map seen windows.old.items) }
 {
     for w in windows.iter_mut() {
         w.window.hand_out(made);
@@ -87,19 +99,28 @@ fn hand_out_among(windows: &mut Vec<OwnedWindow>, made: u32)
 // Ends the buffers whose making step is lost.
 fn drop_lost_among<F: Fn(u32) -> bool>(windows: &mut Vec<OwnedWindow>, is_lost: F)
     requires { F.IsAlwaysCallable is_lost }
-    ensures { (lost : ℕ → Bool) → ((made : ℕ) (b : Bool) → F.post is_lost made b → b ≡ lost made)
-        → map seen windows.new.items ≡ map (with_buffers (filter (λ b. not (lost b.made)))) (map seen windows.old.items) }
+    ensures { (lost : ℕ → Bool) → AnswersBy (λ made b. F.post is_lost made b) lost
+        → map seen windows.new.items ≡
+        map (with_buffers (filter (λ b. not (lost b.made)))) (map seen windows.old.items) }
 {
     for w in windows.iter_mut() {
         w.window.drop_lost(&is_lost);
     }
 }
 
+// One window more, of this owner.
+fn open_among(windows: &mut Vec<OwnedWindow>, owner: u32, window: Window)
+    requires { vec_len windows.old < vec_capacity windows.old }
+    ensures { windows.new.items ≡ windows.old.items ++ record { owner = owner; window = window } ∷ [] }
+{
+    windows.push_reserved(OwnedWindow { owner, window });
+}
+
 // Ends the window of a process.
 fn close_among(windows: &mut Vec<OwnedWindow>, p: u32)
     ensures { windows.new.items ≡ filter (λ w. not (is_owned_by p w)) windows.old.items }
 {
-    windows.retain(|w| w.owner != p);
+    windows.retain(|w| !w.is_of(p));
 }
 
 impl Windows {
@@ -115,7 +136,7 @@ impl Windows {
     /// Makes room for one more window. All stays as it was, also on an `Err`.
     #[tactic(auto, unfolding(crate::specs::WindowsStand::window_room))]
     pub fn reserve(&mut self) -> Result<(), AllocError>
-        ensures stands { (s : Space) → StandsFor self.old s → StandsFor self.new s }
+        ensures stands { Makes (StandsFor self.old) (StandsFor self.new) (λ s. s) }
         ensures room { OnOk result (1 ≤ window_room self.new) }
         // Memory was asked for: there was no room.
         ensures grown { OnErr result (window_room self.old ≡ 0) }
@@ -129,10 +150,7 @@ impl Windows {
         ensures { (s : Space) (pid euid size : ℕ) → StandsFor self.old s → s.steps ≡ place → Stands window size []
             → StandsIn self.new (with_process s pid euid size) }
     {
-        self.windows.push_reserved(OwnedWindow {
-            owner: place,
-            window,
-        });
+        open_among(&mut self.windows, place, window);
     }
 
     /// Where a buffer for data and offsets of these sizes in bytes would begin in the window of a process.
@@ -162,7 +180,7 @@ impl Windows {
 
     /// Makes room for one more buffer in the window of a process. All stays as it was, also on an `Err`.
     pub fn reserve_buffer(&mut self, p: u32) -> Result<(), AllocError>
-        ensures stands { (s : Space) → StandsFor self.old s → StandsFor self.new s }
+        ensures stands { Makes (StandsFor self.old) (StandsFor self.new) (λ s. s) }
         ensures can_add { (q : ℕ) (one_way : Bool) (size start : ℕ) → CanAdd self.old q one_way size start
             → CanAdd self.new q one_way size start }
         ensures room { OnOk result (1 ≤ buffer_room self.new p) }
@@ -189,7 +207,7 @@ impl Windows {
 
     /// The live buffer made there.
     pub fn buffer(&self, made: u32) -> Option<&Buffer>
-        ensures found { (s : Space) → StandsIn self.now s → option_copied result ≡ buffer_in s.buffers made }
+        ensures found { Tells (StandsIn self.now) (option_copied result) (λ s. buffer_in s.buffers made) }
         ensures placed { IfSome result (λ b. IsInWindow b.now) }
     {
         buffer_among(&self.windows, made)
@@ -210,7 +228,7 @@ impl Windows {
 
     /// Ends the buffer made there.
     pub fn free(&mut self, made: u32)
-        ensures { (s : Space) → StandsIn self.old s → StandsIn self.new (without_buffer s made) }
+        ensures { Makes (StandsIn self.old) (StandsIn self.new) (λ s. without_buffer s made) }
     {
         free_among(&mut self.windows, made);
     }
@@ -229,14 +247,15 @@ impl Windows {
     pub fn drop_lost<F: Fn(u32) -> bool>(&mut self, lost: F)
         requires callable { F.IsAlwaysCallable lost }
         ensures { (s : Space) (seat : ℕ) → StandsIn self.old s
-            → ((b : ℕ) (r : Bool) → F.post lost b r → r ≡ is_lost_with s.todo (OfThread seat) b) → StandsIn self.new (thread_goes s seat) }
+            → AnswersBy (λ made b. F.post lost made b) (is_lost_with s.todo (OfThread seat))
+            → StandsIn self.new (thread_goes s seat) }
     {
         drop_lost_among(&mut self.windows, lost);
     }
 
     /// Ends the window of a process, with its buffers.
     pub fn close(&mut self, p: u32)
-        ensures { (s : Space) → StandsIn self.old s → StandsIn self.new (without_process s p) }
+        ensures { Makes (StandsIn self.old) (StandsIn self.new) (λ s. without_process s p) }
     {
         close_among(&mut self.windows, p);
     }

@@ -1,4 +1,4 @@
-pub mod Ancestry
+pub mod AncestryLength
 pub mod OneWay
 pub mod Plain
 pub mod Rooms

@@ -1,9 +1,10 @@
 -- What two changes take one after the other.
 use Rattle.std.proofs.Common.{ℕ, ◌+◌, arith}
 use Rattle.bd_calls.specs.declared.table.CallTable.{CallTable}
-use Rattle.bd_calls.specs.Room.{Takes}
+use Rattle.bd_calls.specs.Room.{Takes, nothing}
 
-pub takes-one_more : (a b c : CallTable) (n : ℕ) → Takes a b 0 0 0 n → Takes b c 0 0 0 1 → Takes a c 0 0 0 (n + 1)
+pub takes-one_more : (a b c : CallTable) (n : ℕ) → Takes a b (record nothing { works = n }) → Takes b c (record nothing { works = 1 })
+    → Takes a c (record nothing { works = n + 1 })
 takes-one_more a b c n h k = record {
   threads_fit = omega arith;
   frames_fit = omega arith;

@@ -1,4 +1,4 @@
-pub mod Handing
+pub mod Turn
 pub mod Stands
 pub mod Room
-pub mod Replies
+pub mod TodoList

@@ -2,33 +2,63 @@
 use Rattle.std.specs.Prelude.{ℕ, ◌+◌, ◌-◌, ◌≤◌, vec_len, vec_capacity}
 use Rattle.bd_calls.specs.declared.table.CallTable.{CallTable}
 
-unfoldable pub frame_count : CallTable → ℕ
-frame_count t = vec_len t.frames
+-- so many threads, frames, one-way calls and work items
+pub record Room : Type 0 where
+  pub threads : ℕ
+  pub frames : ℕ
+  pub turns : ℕ
+  pub works : ℕ
 
-unfoldable pub turn_count : CallTable → ℕ
-turn_count t = vec_len t.turns
+-- room for more of each, and how many there are of those that others count
+pub record Rooms : Type 0 where
+  pub left : Room
+  pub frame_count : ℕ
+  pub turn_count : ℕ
 
--- how many more it takes without memory
-unfoldable pub thread_room : CallTable → ℕ
-thread_room t = vec_capacity t.threads - vec_len t.threads
+unfoldable pub rooms : CallTable → Rooms
+rooms t = record {
+  left = record {
+    threads = vec_capacity t.threads - vec_len t.threads;
+    frames = vec_capacity t.frames - vec_len t.frames;
+    turns = vec_capacity t.turns - vec_len t.turns;
+    works = vec_capacity t.todo - vec_len t.todo;
+  };
+  frame_count = vec_len t.frames;
+  turn_count = vec_len t.turns;
+}
 
-unfoldable pub frame_room : CallTable → ℕ
-frame_room t = vec_capacity t.frames - vec_len t.frames
+abbrev pub thread_room : CallTable → ℕ
+thread_room t = (rooms t).left.threads
 
-unfoldable pub turn_room : CallTable → ℕ
-turn_room t = vec_capacity t.turns - vec_len t.turns
+abbrev pub frame_room : CallTable → ℕ
+frame_room t = (rooms t).left.frames
 
-unfoldable pub work_room : CallTable → ℕ
-work_room t = vec_capacity t.todo - vec_len t.todo
+abbrev pub turn_room : CallTable → ℕ
+turn_room t = (rooms t).left.turns
 
--- a change takes room for at most so many, and adds at most so many frames and turns
-pub record Takes (old new : CallTable) (threads frames turns works : ℕ) : Type 0 where
-  pub threads_fit : thread_room old ≤ thread_room new + threads
-  pub frames_fit : frame_room old ≤ frame_room new + frames
-  pub turns_fit : turn_room old ≤ turn_room new + turns
-  pub works_fit : work_room old ≤ work_room new + works
-  pub frames_count : frame_count new ≤ frame_count old + frames
-  pub turns_count : turn_count new ≤ turn_count old + turns
+abbrev pub work_room : CallTable → ℕ
+work_room t = (rooms t).left.works
+
+abbrev pub frame_count : CallTable → ℕ
+frame_count t = (rooms t).frame_count
+
+abbrev pub turn_count : CallTable → ℕ
+turn_count t = (rooms t).turn_count
+
+-- a change takes at most so much room, and adds at most so many frames and one-way calls
+pub record Takes (old new : CallTable) (room : Room) : Type 0 where
+  pub threads_fit : thread_room old ≤ thread_room new + room.threads
+  pub frames_fit : frame_room old ≤ frame_room new + room.frames
+  pub turns_fit : turn_room old ≤ turn_room new + room.turns
+  pub works_fit : work_room old ≤ work_room new + room.works
+  pub frames_count : frame_count new ≤ frame_count old + room.frames
+  pub turns_count : turn_count new ≤ turn_count old + room.turns
+
+abbrev pub nothing : Room
+nothing = record { threads = 0; frames = 0; turns = 0; works = 0 }
+
+abbrev pub TakesNothing : CallTable → CallTable → Type 0
+TakesNothing old new = Takes old new nothing
 
 -- room for a thread, a frame, a one-way call and so many work items, beside those that settling and ripening may make
 pub record HasRoom (t : CallTable) (works : ℕ) : Type 0 where

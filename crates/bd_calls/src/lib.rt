@@ -1,15 +1,16 @@
 //! The table of threads, open calls (frames), work items and one-way calls.
 #![tactic(auto)]
 
-mod calls;
-mod exits;
-mod frames;
-mod reading;
+mod ancestry;
+mod frame;
+mod server;
 mod table;
 #[cfg(test)]
 mod tests;
-mod threads;
-mod todo;
-mod turns;
+mod thread;
+mod todo_list;
+mod turn;
+mod work;
 
+pub use server::serves;
 pub use table::CallTable;

@@ -1,7 +1,13 @@
-//! The table itself: making it, and room in it.
-#![tactic(auto, unfolding(crate::specs::Room::thread_room, crate::specs::Room::frame_room, crate::specs::Room::turn_room, crate::specs::Room::work_room, crate::specs::Room::frame_count, crate::specs::Room::turn_count))]
+//! The table itself: making it, room in it, and what changes several of its lists at once.
+#![tactic(auto, unfolding(crate::specs::Room::rooms))]
 
-use bd_space::{Frame, Thread, Turn, Work};
+ghost use Rattle.std.specs.Prelude.{ℕ, Bool, ◌≡◌, ◌==◌, ◌||◌, ◌&&◌, ◌+◌, ◌<◌, ◌≤◌, ◌^◌, ◌++◌, ◌∷◌, [], false, not, nat_le, map, filter, find, reverse, length, count_by, Option, Some, None, option_map, IfOk, OnOk, OnErr, vec_len, vec_capacity};
+
+use crate::frame::{leave_frames, lose_unread, serve};
+use crate::thread::remove_thread;
+use crate::todo_list::{clear_list, remove_taken};
+use crate::turn::{hand_out_taken, lose_turns, remove_received};
+use bd_space::{Frame, Thread, TodoList, Turn, Work};
 use std::alloc::{AllocError, Global};
 
 /// The threads, the open calls, the work items and the one-way calls of a driver.
@@ -14,10 +20,13 @@ pub struct CallTable {
 }
 
 impl CallTable {
-    ghost use Rattle.std.specs.Prelude.{ℕ, ◌≡◌, ◌+◌, ◌≤◌, ◌^◌, vec_len, IfOk, OnOk, OnErr};
     ghost use Rattle.bd_space.specs.Space.{Space, opening};
-    ghost use Rattle.bd_calls.specs.Stands.{Stands, StandsFor};
-    ghost use Rattle.bd_calls.specs.Room.{Takes, HasRoom};
+    ghost use Rattle.bd_space.specs.ProcessExits as exits;
+    ghost use Rattle.bd_space.specs.ThreadExits as thread_exits;
+    ghost use Rattle.bd_space.specs.ReadItems as reading;
+    ghost use Rattle.bd_space.specs.Tables.{Tells, Makes};
+    ghost use Rattle.bd_calls.specs.Stands.{Stands, StandsFor, MakesAt};
+    ghost use Rattle.bd_calls.specs.Room.{Takes, TakesNothing, nothing, HasRoom};
 
     /// An empty table. Takes no memory.
     pub fn new(alloc: Global) -> CallTable
@@ -46,8 +55,8 @@ impl CallTable {
     /// Makes room for a thread, a frame, a one-way call and so many work items, beside those that settling and
     /// ripening may make. Fails for want of memory, and then changes nothing either.
     pub fn reserve(&mut self, works: usize) -> Result<(), AllocError>
-        ensures stands { (s : Space) → StandsFor self.old s → StandsFor self.new s }
-        ensures takes { Takes self.old self.new 0 0 0 0 }
+        ensures stands { Makes (StandsFor self.old) (StandsFor self.new) (λ s. s) }
+        ensures takes { TakesNothing self.old self.new }
         ensures room { OnOk result (HasRoom self.new works) }
         // Memory was asked for, or would have been past what there can be: there was no room.
         ensures grown { OnErr result (HasRoom self.old works → ⊥) }
@@ -57,5 +66,39 @@ impl CallTable {
         self.frames.reserve(1)?;
         self.turns.reserve(1)?;
         self.todo.reserve(works)
+    }
+
+    /// A seat's thread has read these work items: they go, the frames of the calls among them are served by it, and the
+    /// one-way call among them is handed out.
+    pub fn read_by(&mut self, seat: u32, taken: &[Work])
+        ensures stands { Makes (StandsFor self.old) (StandsFor self.new) (λ s. reading.read_by s seat taken.now) }
+        ensures takes { TakesNothing self.old self.new }
+    {
+        serve(&mut self.frames, seat, taken);
+        remove_taken(&mut self.todo, taken);
+        hand_out_taken(&mut self.turns, taken);
+    }
+
+    /// The thread of a seat ends: it is gone from its frames, and its list goes with what that would have handed over.
+    pub fn thread_goes(&mut self, seat: u32)
+        ensures stands { Makes (StandsFor self.old) (StandsFor self.new) (λ s. thread_exits.thread_goes s seat) }
+        ensures takes { TakesNothing self.old self.new }
+    {
+        let list = TodoList::OfThread(seat);
+        leave_frames(&mut self.frames, &self.todo, seat);
+        lose_turns(&mut self.turns, &self.todo, list);
+        clear_list(&mut self.todo, list);
+        remove_thread(&mut self.threads, seat);
+    }
+
+    /// A process without threads ends: its list goes, and the one-way calls in its window.
+    pub fn process_goes(&mut self, process: u32)
+        ensures stands { Makes (StandsFor self.old) (StandsFor self.new) (λ s. exits.without_process s process) }
+        ensures takes { TakesNothing self.old self.new }
+    {
+        let list = TodoList::OfProcess(process);
+        lose_unread(&mut self.frames, &self.todo, list);
+        remove_received(&mut self.turns, process);
+        clear_list(&mut self.todo, list);
     }
 }

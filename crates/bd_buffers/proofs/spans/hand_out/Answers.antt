@@ -4,14 +4,14 @@ use Rattle.bd_space.specs.ReadItems.{hand_out}
 use Rattle.bd_space.proofs.Changed.{changed-then, changed-else, changed-all}
 use Rattle.bd_buffers.proofs.Kept.{window_handed}
 use Rattle.bd_buffers.proofs.spans.hand_out.Goals as goal
-use Rattle.bd_buffers.proofs.spans.hand_out.Goals.{then-b-made, else-b-made}
+use Rattle.bd_buffers.proofs.spans.hand_out.Goals.{then-is_made_at, else-is_made_at}
 
 pub loop-b-preserved : goal.loop-b-preserved
 loop-b-preserved c =
     let p = is_made_at c.args.made in
-    elim c.if-b-made.branch [
-      | then-b-made w ↦ w.buffers-is ∙ changed-then p hand_out _ _ _ _ c.loop-b.invariant (omega arith) (search (rules, tests))
-      | else-b-made w ↦ w.buffers-is ∙ changed-else p hand_out _ _ _ _ c.loop-b.invariant (omega arith) (search (rules, tests))
+    elim c.if-is_made_at.branch [
+      | then-is_made_at w ↦ w.buffers-is ∙ changed-then p hand_out _ _ _ _ c.loop-b.invariant (omega arith) (search (rules, tests))
+      | else-is_made_at w ↦ w.buffers-is ∙ changed-else p hand_out _ _ _ _ c.loop-b.invariant (omega arith) (search (rules, tests))
     ]
 
 pub returns-clause-window : goal.returns-clause-window

@@ -1,5 +1,5 @@
 use Rattle.std.proofs.Common.{◌≡◌, ℕ, ◌+◌, ◌-◌, ◌≤◌, ◌%◌}
-use Rattle.bd_buffers.specs.Windows.{IsRoom}
+use Rattle.bd_buffers.specs.Window.{IsRoom}
 use Rattle.bd_buffers.proofs.spans.least_place.Given as goal
 
 -- nothing below p has room

@@ -1,5 +1,5 @@
 use Rattle.std.proofs.Common.{◌∙◌, ap, find}
-use Rattle.bd_buffers.specs.Windows.{at_pointer}
+use Rattle.bd_buffers.specs.Buffer.{at_pointer}
 use Rattle.bd_buffers.proofs.Kept.{found_placed}
 use Rattle.bd_buffers.proofs.window.Window.buffer_at_pointer.Goals as goal
 

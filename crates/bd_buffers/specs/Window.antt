@@ -1,0 +1,51 @@
+-- A window: room for a buffer, the budget of one-way buffers, and what is so of every window.
+use Rattle.std.specs.Prelude.{ℕ, ◌≡◌, ◌+◌, ◌*◌, ◌%◌, ◌<◌, ◌≤◌, ◌==◌, ◌⊎◌, Bool, IsTrue, List, Option, Some, None, Result, Ok, Err, All, AllPairs, find, filter, sum_by, length, if◌then◌else◌}
+use Rattle.bd_uapi.specs.declared.fault.Cause.{Cause}
+use Rattle.bd_uapi.specs.declared.fault.Cause.TheVariants.{NoRoom, OverBudget}
+use Rattle.bd_uapi.specs.declared.fault.Note.{Note}
+use Rattle.bd_space.specs.declared.space.Buffer.{Buffer}
+use Rattle.bd_buffers.specs.Buffer.{IsApart, IsPlaced, at_pointer, freed_buffer}
+
+-- n bytes at p are free, in a window of this size with these live buffers
+pub record IsRoom (size : ℕ) (buffers : List Buffer) (n p : ℕ) : Type 0 where
+  pub aligned : p % 8 ≡ 0
+  pub inside : p + n ≤ size
+  pub free : All (IsApart p n) buffers
+
+-- and no lower place has room
+pub record IsLeastRoom (size : ℕ) (buffers : List Buffer) (n p : ℕ) : Type 0 where
+  pub room : IsRoom size buffers n p
+  pub least : (q : ℕ) → IsRoom size buffers n q → p ≤ q
+
+-- the sizes of the one-way buffers together
+abbrev pub one_way_size : List Buffer → ℕ
+one_way_size buffers = sum_by (λ b. b.size) (filter (λ b. b.one_way) buffers)
+
+-- so much more still fits into the half that one-way calls may use
+abbrev pub IsInBudget : ℕ → List Buffer → ℕ → Type 0
+IsInBudget size buffers more = 2 * (one_way_size buffers + more) ≤ size
+
+-- when a buffer is refused, by the cause: want of room is found first
+abbrev pub Refuses : ℕ → List Buffer → Bool → ℕ → Cause → Type 0
+Refuses size buffers one_way n NoRoom = (p : ℕ) → IsRoom size buffers n p → ⊥
+Refuses size buffers one_way n OverBudget =
+    IsTrue one_way × ((p : ℕ) × IsRoom size buffers n p) × (size < 2 * (one_way_size buffers + n))
+Refuses size buffers one_way n _ = ⊥
+
+-- what is so of every window
+pub record IsWindow (size : ℕ) (buffers : List Buffer) : Type 0 where
+  pub whole : size % 8 ≡ 0
+  pub small : size ≤ 4194304
+  pub placed : All (IsPlaced size) buffers
+  pub apart : AllPairs (λ a b. IsApart b.start b.size a) buffers
+  pub budget : IsInBudget size buffers 0
+
+-- where the buffer at a pointer was made, if it may be freed
+abbrev pub free_check : List Buffer → ℕ → Result ℕ Note
+free_check buffers ptr = freed_buffer (find (at_pointer ptr) buffers)
+
+-- a window as contracts see it: its size, its live buffers, oldest first, and how many more it has room to note
+pub record WindowView : Type 0 where
+  pub size : ℕ
+  pub buffers : List Buffer
+  pub room : ℕ

@@ -1,7 +1,0 @@
-use Rattle.std.proofs.Common.{arith}
-use Rattle.bd_space.specs.ThreadExits.{frame_without}
-use Rattle.bd_space.proofs.Changed.{mapped-next}
-use Rattle.bd_calls.proofs.exits.leave_frames.Goals as goal
-
-pub loop-frame-preserved : goal.loop-frame-preserved
-loop-frame-preserved c = mapped-next (frame_without c.args.todo.now c.args.seat) _ _ _ _ _ c.loop-frame.invariant (omega arith) c.frame_without.ensures

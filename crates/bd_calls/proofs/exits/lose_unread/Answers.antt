@@ -1,7 +1,0 @@
-use Rattle.std.proofs.Common.{arith}
-use Rattle.bd_space.specs.ThreadExits.{unread_frame}
-use Rattle.bd_space.proofs.Changed.{mapped-next}
-use Rattle.bd_calls.proofs.exits.lose_unread.Goals as goal
-
-pub loop-frame-preserved : goal.loop-frame-preserved
-loop-frame-preserved c = mapped-next (unread_frame c.args.todo.now c.args.list) _ _ _ _ _ c.loop-frame.invariant (omega arith) c.unread_frame.ensures

@@ -1,0 +1,7 @@
+use Rattle.std.proofs.Common.{◌∙◌}
+use Rattle.bd_space.specs.Todo.{is_on}
+use Rattle.bd_calls.proofs.Plain.{any_left}
+use Rattle.bd_calls.proofs.todo_list.has_on.Goals as goal
+
+pub returns-in-Some : goal.returns-in-Some
+returns-in-Some c = rw c.in-Some.is (c.has_work.ensures ∙ any_left (is_on c.in-Some.list) c.args.todo.now)

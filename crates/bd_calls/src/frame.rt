@@ -1,0 +1,353 @@
+//! Frames: open two-way calls.
+#![tactic(auto, unfolding(bd_space::specs::Frames::innermost, bd_space::specs::Frames::served_innermost, bd_space::specs::Frames::goes_to, bd_space::specs::Frames::closed, bd_space::specs::Transactions::call_out, bd_space::specs::Todo::owe, crate::specs::Room::rooms))]
+
+ghost use Rattle.std.specs.Prelude.{ℕ, Bool, ◌≡◌, ◌==◌, ◌||◌, ◌&&◌, ◌+◌, ◌<◌, ◌≤◌, ◌^◌, ◌++◌, ◌∷◌, [], false, not, nat_le, map, filter, find, reverse, length, count_by, Option, Some, None, option_map, IfOk, OnOk, OnErr, vec_len, vec_capacity};
+ghost use Rattle.std.specs.List.{list_all, list_any};
+ghost use Rattle.bd_space.specs.Frames as spec;
+ghost use Rattle.bd_space.specs.Settle as settling;
+ghost use Rattle.bd_space.specs.ThreadExits as exits;
+ghost use Rattle.bd_space.specs.ReadItems as reading;
+ghost use Rattle.bd_space.specs.Todo as works;
+
+use crate::ancestry::ancestry_of;
+use crate::server::{gone_server, is_gone, serves};
+use crate::table::CallTable;
+use crate::thread::thread_of;
+use crate::todo_list::{is_unread_on, push_work};
+use crate::work::is_call;
+use bd_space::{Frame, Server, Thread, TodoList, Work, WorkKind};
+use bd_uapi::Return;
+
+fn is_child_of(frame: &Frame, child: &Frame) -> bool
+    ensures { result ≡ spec.is_child_of frame.now child.now }
+{
+    child.parent == Some(frame.made)
+}
+
+pub(crate) fn has_child(frames: &[Frame], frame: &Frame) -> bool
+    ensures { result ≡ list_any (spec.is_child_of frame.now) frames.now }
+{
+    frames.iter().any(|f| is_child_of(frame, f))
+}
+
+fn calls(frame: &Frame, seat: u32) -> bool
+    ensures { result ≡ spec.calls seat frame.now }
+{
+    frame.caller == Some(seat)
+}
+
+fn takes_part(frame: &Frame, seat: u32) -> bool
+    ensures { result ≡ spec.takes_part seat frame.now }
+{
+    calls(frame, seat) || serves(seat, frame.server)
+}
+
+fn depth_of(frames: &[Frame], frame: &Frame) -> usize
+    ensures { result ≡ spec.depth_in frames.now frame.now }
+{
+    ancestry_of(frames, Some(frame.made)).count()
+}
+
+fn is_no_deeper(frames: &[Frame], seat: u32, frame: &Frame, depth: usize) -> bool
+    ensures { result ≡ (not (spec.takes_part seat frame.now) || nat_le (spec.depth_in frames.now frame.now) depth) }
+{
+    !takes_part(frame, seat) || depth_of(frames, frame) <= depth
+}
+
+fn none_is_deeper(frames: &[Frame], seat: u32, depth: usize) -> bool
+    ensures { result ≡ list_all (λ f. not (spec.takes_part seat f) || nat_le (spec.depth_in frames.now f) depth)
+        frames.now }
+{
+    frames.iter().all(|f| is_no_deeper(frames, seat, f, depth))
+}
+
+fn is_deepest(frames: &[Frame], seat: u32, frame: &Frame) -> bool
+    ensures { result ≡ spec.is_deepest_in frames.now seat frame.now }
+{
+    takes_part(frame, seat) && none_is_deeper(frames, seat, depth_of(frames, frame))
+}
+
+/// A thread's innermost frame.
+pub(crate) fn innermost_of(frames: &[Frame], seat: u32) -> Option<Frame>
+    ensures { result ≡ spec.innermost_in frames.now seat }
+{
+    frames.iter().copied().find(|f| is_deepest(frames, seat, f))
+}
+
+// The frame of the call made at this place.
+fn is_frame(frame: &Frame, made: u32) -> bool
+    ensures { result ≡ spec.is_frame made frame.now }
+{
+    frame.made == made
+}
+
+fn frame_made_at(frames: &[Frame], made: u32) -> Option<Frame>
+    ensures { result ≡ find (spec.is_frame made) frames.now }
+{
+    frames.iter().copied().find(|f| is_frame(f, made))
+}
+
+// The frame's caller is a thread of the process.
+fn waits(threads: &[Thread], process: u32, frame: &Frame) -> bool
+    ensures { result ≡ spec.waits_in threads.now process frame.now }
+{
+    frame
+        .caller
+        .and_then(|seat| thread_of(threads, seat))
+        .is_some_and(|thread| thread.process == process)
+}
+
+pub(crate) fn innermost_made(frames: &[Frame], seat: u32) -> Option<u32>
+    ensures { result ≡ option_map spec.made_of (spec.innermost_in frames.now seat) }
+{
+    innermost_of(frames, seat).map(|f| f.made)
+}
+
+// The first frame on the way whose caller is a thread of the process.
+fn first_waiting(
+    threads: &[Thread],
+    frames: &[Frame],
+    from: Option<u32>,
+    process: u32,
+) -> Option<Frame>
+    ensures { result ≡ find (spec.waits_in threads.now process) (spec.ancestry from (reverse frames.now)) }
+{
+    ancestry_of(frames, from).find(|f| waits(threads, process, f))
+}
+
+fn list_of_caller(process: u32, frame: Option<Frame>) -> TodoList
+    ensures { result ≡ spec.list_of_caller process frame }
+{
+    match frame.and_then(|f| f.caller) {
+        Some(seat) => TodoList::OfThread(seat),
+        None => TodoList::OfProcess(process),
+    }
+}
+
+fn push_frame(frames: &mut Vec<Frame>, frame: Frame)
+    requires { vec_len frames.old < vec_capacity frames.old }
+    ensures frames { frames.new.items ≡ frames.old.items ++ frame ∷ [] }
+    ensures len { vec_len frames.new ≡ vec_len frames.old + 1 }
+    ensures capacity { vec_capacity frames.new ≡ vec_capacity frames.old }
+{
+    frames.push_reserved(frame);
+}
+
+fn close_frame(frames: &mut Vec<Frame>, made: u32)
+    ensures frames { frames.new.items ≡ filter (λ f. not (spec.is_frame made f)) frames.old.items }
+    ensures len { vec_len frames.new ≤ vec_len frames.old }
+    ensures capacity { vec_capacity frames.new ≡ vec_capacity frames.old }
+{
+    frames.retain(|f| !is_frame(f, made));
+}
+
+fn is_abandoned(frames: &[Frame], frame: &Frame) -> bool
+    ensures { result ≡ settling.is_abandoned frames.now frame.now }
+{
+    is_gone(frame.server) && !has_child(frames, frame)
+}
+
+fn oldest_abandoned(frames: &[Frame]) -> Option<Frame>
+    ensures { result ≡ find (settling.is_abandoned frames.now) frames.now }
+{
+    frames.iter().copied().find(|f| is_abandoned(frames, f))
+}
+
+fn is_call_of(taken: &[Work], frame: &Frame) -> bool
+    ensures { result ≡ list_any (λ w. works.is_call frame.now.made w.kind) taken.now }
+{
+    taken.iter().any(|w| is_call(frame.made, w.kind))
+}
+
+// Whoever read the call of a frame is its server.
+pub(crate) fn serve(frames: &mut Vec<Frame>, seat: u32, taken: &[Work])
+    ensures frames { frames.new.items ≡ reading.served_frames seat taken.now frames.old.items }
+    ensures len { vec_len frames.new ≡ vec_len frames.old }
+    ensures capacity { vec_capacity frames.new ≡ vec_capacity frames.old }
+{
+    for frame in frames.iter_mut() {
+        if is_call_of(taken, frame) {
+            frame.server = Server::Serving(seat);
+        }
+    }
+}
+
+fn gone_caller(seat: u32, caller: Option<u32>) -> Option<u32>
+    ensures { result ≡ exits.gone_caller seat caller }
+{
+    caller.filter(|c| *c != seat)
+}
+
+fn unread_server(todo: &[Work], list: TodoList, made: u32, server: Server) -> Server
+    ensures { result ≡ exits.unread_server todo.now list made server }
+{
+    match server {
+        Server::Pending if is_unread_on(todo, list, made) => Server::Gone,
+        _ => server,
+    }
+}
+
+fn frame_without(todo: &[Work], seat: u32, frame: Frame) -> Frame
+    ensures { result ≡ exits.frame_without todo.now seat frame }
+{
+    let unread = unread_server(todo, TodoList::OfThread(seat), frame.made, frame.server);
+    Frame {
+        caller: gone_caller(seat, frame.caller),
+        server: gone_server(seat, unread),
+        ..frame
+    }
+}
+
+fn unread_frame(todo: &[Work], list: TodoList, frame: Frame) -> Frame
+    ensures { result ≡ exits.unread_frame todo.now list frame }
+{
+    Frame {
+        server: unread_server(todo, list, frame.made, frame.server),
+        ..frame
+    }
+}
+
+// The thread is gone from its frames.
+pub(crate) fn leave_frames(frames: &mut Vec<Frame>, todo: &[Work], seat: u32)
+    ensures frames { frames.new.items ≡ map (exits.frame_without todo.now seat) frames.old.items }
+    ensures len { vec_len frames.new ≡ vec_len frames.old }
+    ensures capacity { vec_capacity frames.new ≡ vec_capacity frames.old }
+{
+    for frame in frames.iter_mut() {
+        *frame = frame_without(todo, seat, *frame);
+    }
+}
+
+// The calls that stand unread on the list have lost their server.
+pub(crate) fn lose_unread(frames: &mut Vec<Frame>, todo: &[Work], list: TodoList)
+    ensures frames { frames.new.items ≡ map (exits.unread_frame todo.now list) frames.old.items }
+    ensures len { vec_len frames.new ≡ vec_len frames.old }
+    ensures capacity { vec_capacity frames.new ≡ vec_capacity frames.old }
+{
+    for frame in frames.iter_mut() {
+        *frame = unread_frame(todo, list, *frame);
+    }
+}
+
+impl CallTable {
+    ghost use Rattle.bd_space.specs.Space.{Space};
+    ghost use Rattle.bd_space.specs.Transactions.{call_out};
+    ghost use Rattle.bd_space.specs.Tables.{Tells, Makes};
+    ghost use Rattle.bd_calls.specs.Stands.{Stands, StandsFor, MakesAt};
+    ghost use Rattle.bd_calls.specs.Room.{Takes, TakesNothing, nothing, frame_room, work_room, frame_count};
+
+    /// The frame of the call made at this place.
+    pub fn frame(&self, made: u32) -> Option<Frame>
+        ensures { Tells (StandsFor self.now) result (λ s. find (spec.is_frame made) s.frames) }
+    {
+        frame_made_at(&self.frames, made)
+    }
+
+    /// The innermost frame of a thread: of those that it called or serves, the deepest.
+    pub fn innermost(&self, seat: u32) -> Option<Frame>
+        ensures { Tells (StandsFor self.now) result (λ s. spec.innermost s seat) }
+    {
+        innermost_of(&self.frames, seat)
+    }
+
+    /// A thread's innermost frame, if the thread serves it.
+    pub fn served_innermost(&self, seat: u32) -> Option<Frame>
+        ensures { Tells (StandsFor self.now) result (λ s. spec.served_innermost s seat) }
+    {
+        innermost_of(&self.frames, seat).filter(|f| serves(seat, f.server))
+    }
+
+    /// Where a two-way call of a thread to a process is read: by the first thread of the process that waits on the way
+    /// from the caller's innermost frame by parents, else by the process.
+    pub fn goes_to(&self, seat: u32, process: u32) -> TodoList
+        ensures { Tells (StandsFor self.now) result (λ s. spec.goes_to s seat process) }
+    {
+        let from = innermost_made(&self.frames, seat);
+        let waiting = first_waiting(&self.threads, &self.frames, from, process);
+        list_of_caller(process, waiting)
+    }
+
+    /// A thread calls a process, and waits: a frame comes in, and the call is due at once, both made at this place.
+    pub fn call_out(&mut self, place: u32, seat: u32, process: u32)
+        requires frames { 1 ≤ frame_room self.old }
+        requires works { 1 ≤ work_room self.old }
+        ensures stands { MakesAt place (StandsFor self.old) (StandsFor self.new) (λ s. call_out s seat process) }
+        ensures takes { Takes self.old self.new (record nothing { frames = 1; works = 1 }) }
+    {
+        let parent = innermost_made(&self.frames, seat);
+        let list = self.goes_to(seat, process);
+        push_work(&mut self.todo, place, list, WorkKind::Call(place));
+        let frame = Frame {
+            made: place,
+            caller: Some(seat),
+            server: Server::Pending,
+            parent,
+        };
+        push_frame(&mut self.frames, frame);
+    }
+
+    /// A call's frame closes.
+    pub fn close(&mut self, made: u32)
+        ensures stands { Makes (StandsFor self.old) (StandsFor self.new) (λ s. spec.closed s made) }
+        ensures takes { TakesNothing self.old self.new }
+    {
+        close_frame(&mut self.frames, made);
+    }
+
+    fn count_frames(&self) -> usize
+        ensures count { result ≡ frame_count self.now }
+        ensures frames { Tells (StandsFor self.now) result (λ s. length s.frames) }
+    {
+        self.frames.len()
+    }
+
+    fn oldest_abandoned(&self) -> Option<Frame>
+        ensures { Tells (StandsFor self.now) result (λ s. find (settling.is_abandoned s.frames) s.frames) }
+    {
+        oldest_abandoned(&self.frames)
+    }
+
+    // A call closes, and its caller is told, if it lives.
+    #[tactic(auto)]
+    fn abandon(&mut self, place: u32, frame: Frame)
+        requires { 1 ≤ work_room self.old }
+        ensures stands { MakesAt place (StandsFor self.old) (StandsFor self.new)
+            (λ s. settling.settle_one s (Some frame)) }
+        ensures takes { Takes self.old self.new (record nothing { works = 1 }) }
+    {
+        self.close(frame.made);
+        self.tell_caller(place, frame, WorkKind::Verdict(Return::DeadReply));
+    }
+
+    // The oldest abandoned call closes; whether there was one.
+    #[tactic(auto)]
+    fn settle_step(&mut self, place: u32) -> bool
+        requires { 1 ≤ work_room self.old }
+        ensures stands { MakesAt place (StandsFor self.old) (StandsFor self.new) settling.settle_step }
+        ensures settled { (s : Space) → StandsFor self.old s → result ≡ false → settling.settle_step s ≡ s }
+        ensures takes { Takes self.old self.new (record nothing { works = 1 }) }
+    {
+        match self.oldest_abandoned() {
+            Some(frame) => {
+                self.abandon(place, frame);
+                true
+            }
+            None => false,
+        }
+    }
+
+    /// Calls whose server has gone and which have no open call inside close, oldest first, until there are none left,
+    /// and each caller that lives is told, by a work item made at this place.
+    #[tactic(auto)]
+    pub fn settle(&mut self, place: u32)
+        requires { frame_count self.old ≤ work_room self.old }
+        ensures stands { MakesAt place (StandsFor self.old) (StandsFor self.new) settling.settle }
+        ensures takes { Takes self.old self.new (record nothing { works = frame_count self.old }) }
+    {
+        for _settled in 0..self.count_frames() {
+            if !self.settle_step(place) {
+                return;
+            }
+        }
+    }
+}

@@ -1,0 +1,147 @@
+//! One-way calls: of one object's, one is due or handed out at a time, in the order in which they were made.
+#![tactic(auto, unfolding(bd_space::specs::Turns::ripen, crate::specs::Room::rooms))]
+
+ghost use Rattle.std.specs.Prelude.{ℕ, Bool, ◌≡◌, ◌==◌, ◌||◌, ◌&&◌, ◌+◌, ◌<◌, ◌≤◌, ◌^◌, ◌++◌, ◌∷◌, [], false, not, nat_le, map, filter, find, reverse, length, count_by, Option, Some, None, option_map, IfOk, OnOk, OnErr, vec_len, vec_capacity};
+ghost use Rattle.std.specs.Option.{option_to_list};
+ghost use Rattle.std.specs.List.{list_any};
+ghost use Rattle.bd_space.specs.Words as words;
+ghost use Rattle.bd_space.specs.Words.{changed};
+ghost use Rattle.bd_space.specs.Todo as works;
+ghost use Rattle.bd_space.specs.ThreadExits as exits;
+ghost use Rattle.bd_space.specs.Turns as spec;
+ghost use Rattle.bd_calls.specs.Turn.{hand_turn, handed_turns};
+
+use crate::table::CallTable;
+use crate::todo_list::{has_call, is_lost_with, push_work};
+use crate::work::handed_by;
+use bd_space::{ObjectId, TodoList, Turn, Work, WorkKind};
+
+fn has_turn_on(turns: &[Turn], object: ObjectId) -> bool
+    ensures { result ≡ list_any (λ t. words.same t.target object) turns.now }
+{
+    turns.iter().any(|t| t.target == object)
+}
+
+fn is_ripe(todo: &[Work], older: &[Turn], turn: &Turn) -> bool
+    ensures { result ≡ spec.is_ripe todo.now older.now turn.now }
+{
+    !turn.handed && !has_turn_on(older, turn.target) && !has_call(todo, turn.made)
+}
+
+// The calls of the ripe ones become due.
+fn push_ripe(todo: &mut Vec<Work>, turns: &[Turn], place: u32)
+    requires { vec_len todo.old + length turns.now ≤ vec_capacity todo.old }
+    ensures todo { todo.new.items ≡ spec.ripened place [] todo.old.items turns.now }
+    ensures len { vec_len todo.new ≤ vec_len todo.old + length turns.now }
+    ensures capacity { vec_capacity todo.new ≡ vec_capacity todo.old }
+{
+    for (i, turn) in turns.iter().enumerate() {
+        if is_ripe(todo, &turns[..i], turn) {
+            let list = TodoList::OfProcess(turn.receiver);
+            push_work(todo, place, list, WorkKind::Call(turn.made));
+        }
+    }
+}
+
+fn push_turn(turns: &mut Vec<Turn>, turn: Option<Turn>)
+    requires { vec_len turns.old < vec_capacity turns.old }
+    ensures turns { turns.new.items ≡ turns.old.items ++ option_to_list turn }
+    ensures len { vec_len turns.new ≤ vec_len turns.old + 1 }
+    ensures capacity { vec_capacity turns.new ≡ vec_capacity turns.old }
+{
+    if let Some(turn) = turn {
+        turns.push_reserved(turn);
+    }
+}
+
+// The one-way call made at this place.
+fn is_turn(turn: &Turn, made: u32) -> bool
+    ensures { result ≡ (turn.now.made == made) }
+{
+    turn.made == made
+}
+
+fn hand_out(turns: &mut Vec<Turn>, made: u32)
+    ensures turns { turns.new.items ≡ changed (λ t. t.made == made) hand_turn turns.old.items }
+    ensures len { vec_len turns.new ≡ vec_len turns.old }
+    ensures capacity { vec_capacity turns.new ≡ vec_capacity turns.old }
+{
+    for turn in turns.iter_mut() {
+        if is_turn(turn, made) {
+            turn.handed = true;
+        }
+    }
+}
+
+pub(crate) fn hand_out_taken(turns: &mut Vec<Turn>, taken: &[Work])
+    ensures turns { turns.new.items ≡
+        handed_turns (words.first_of (map (λ w. works.handed_over w.kind) taken.now)) turns.old.items }
+    ensures len { vec_len turns.new ≡ vec_len turns.old }
+    ensures capacity { vec_capacity turns.new ≡ vec_capacity turns.old }
+{
+    if let Some(made) = handed_by(taken) {
+        hand_out(turns, made);
+    }
+}
+
+fn remove_turn(turns: &mut Vec<Turn>, made: u32)
+    ensures turns { turns.new.items ≡ filter (λ t. not (t.made == made)) turns.old.items }
+    ensures len { vec_len turns.new ≤ vec_len turns.old }
+    ensures capacity { vec_capacity turns.new ≡ vec_capacity turns.old }
+{
+    turns.retain(|t| !is_turn(t, made));
+}
+
+pub(crate) fn lose_turns(turns: &mut Vec<Turn>, todo: &[Work], list: TodoList)
+    ensures turns { turns.new.items ≡ filter (λ t. not (exits.is_lost_with todo.now list t.made)) turns.old.items }
+    ensures len { vec_len turns.new ≤ vec_len turns.old }
+    ensures capacity { vec_capacity turns.new ≡ vec_capacity turns.old }
+{
+    turns.retain(|t| !is_lost_with(todo, list, t.made));
+}
+
+pub(crate) fn remove_received(turns: &mut Vec<Turn>, process: u32)
+    ensures turns { turns.new.items ≡ filter (λ t. not (t.receiver == process)) turns.old.items }
+    ensures len { vec_len turns.new ≤ vec_len turns.old }
+    ensures capacity { vec_capacity turns.new ≡ vec_capacity turns.old }
+{
+    turns.retain(|t| t.receiver != process);
+}
+
+impl CallTable {
+    ghost use Rattle.bd_space.specs.declared.space.Buffer.{Buffer};
+    ghost use Rattle.bd_space.specs.Space.{Space};
+    ghost use Rattle.bd_space.specs.Delivery.{add_buffer};
+    ghost use Rattle.bd_space.specs.Freeing.{without_buffer};
+    ghost use Rattle.bd_space.specs.Tables.{Tells, Makes};
+    ghost use Rattle.bd_calls.specs.Stands.{Stands, StandsFor, MakesAt};
+    ghost use Rattle.bd_calls.specs.Room.{Takes, TakesNothing, nothing, turn_room, work_room, turn_count};
+
+    /// The one-way call of a new buffer comes in, if it is one.
+    pub fn add_turn(&mut self, turn: Option<Turn>)
+        requires { 1 ≤ turn_room self.old }
+        ensures stands { (s : Space) (b : Buffer) → StandsFor self.old s → turn ≡ spec.turn_of b
+            → StandsFor self.new (add_buffer s b) }
+        ensures takes { Takes self.old self.new (record nothing { turns = 1 }) }
+    {
+        push_turn(&mut self.turns, turn);
+    }
+
+    /// The one-way call of a freed buffer goes, if it is one.
+    pub fn drop_turn(&mut self, made: u32)
+        ensures stands { Makes (StandsFor self.old) (StandsFor self.new) (λ s. without_buffer s made) }
+        ensures takes { TakesNothing self.old self.new }
+    {
+        remove_turn(&mut self.turns, made);
+    }
+
+    /// The one-way calls that are ripe become due, made at this place: those not handed out, with no older one on their
+    /// object.
+    pub fn ripen(&mut self, place: u32)
+        requires { turn_count self.old ≤ work_room self.old }
+        ensures stands { MakesAt place (StandsFor self.old) (StandsFor self.new) spec.ripen }
+        ensures takes { Takes self.old self.new (record nothing { works = turn_count self.old }) }
+    {
+        push_ripe(&mut self.todo, &self.turns, place);
+    }
+}
