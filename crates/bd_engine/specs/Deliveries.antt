@@ -52,6 +52,9 @@ pub record Spends (old new : Tables) (objects frames turns works : ℕ) : Type 0
   pub calls : call_rooms.Takes old.calls new.calls 0 frames turns works
   pub objects_count : object_rooms.object_count new.objects ≤ object_rooms.object_count old.objects + objects
 
+abbrev pub SpendsNothing : Tables → Tables → Type 0
+SpendsNothing old new = Spends old new 0 0 0 0
+
 -- a change of work items alone takes room for at most so many
 pub record OnlyWorks (old new : Tables) (works : ℕ) : Type 0 where
   pub calls : call_rooms.Takes old.calls new.calls 0 0 0 works

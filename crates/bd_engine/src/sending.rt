@@ -1,12 +1,11 @@
 //! What a parcel sends: its objects, each known to the sender or made by the sending.
 
-ghost use Rattle.std.specs.Prelude.{ℕ, ◌≡◌, ◌+◌, ◌%◌, ◌++◌, ◌∷◌, [], All, IfOk, OnOk, length};
+ghost use Rattle.std.specs.Prelude.{◌≡◌, ◌+◌, ◌%◌, ◌++◌, ◌∷◌, [], All, IfOk, OnOk, length};
 ghost use Rattle.std.specs.Option.{option_to_list};
 ghost use Rattle.bd_parcel.specs.Parcels.{offsets_in, fault_in};
 ghost use Rattle.bd_parcel.specs.Reading.{objects_at};
-ghost use Rattle.bd_space.specs.Space.{Space};
 ghost use Rattle.bd_space.specs.Parcels as parcels;
-ghost use Rattle.bd_engine.specs.Stands.{StandsAt};
+ghost use Rattle.bd_engine.specs.Stands.{Tells};
 ghost use Rattle.bd_engine.specs.Deliveries.{IsInside, IsSound};
 
 use crate::tables::Tables;
@@ -91,7 +90,8 @@ fn add(
     resolved: Resolved,
 ) -> Result<(), AllocError>
     ensures made { OnOk result (made.new.items ≡ made.old.items ++ option_to_list resolved.new) }
-    ensures items { OnOk result (items.new.items ≡ items.old.items ++ record { at = at; flat = flat; object = resolved.object } ∷ []) }
+    ensures items { OnOk result
+        (items.new.items ≡ items.old.items ++ record { at = at; flat = flat; object = resolved.object } ∷ []) }
 {
     if let Some(o) = resolved.new {
         made.push(o)?;
@@ -115,8 +115,9 @@ impl Tables {
         requires bytes { objects.now.bytes ≡ q.now.bytes }
         requires offsets { objects.now.offsets ≡ offsets_in q.now.offsets }
         requires objects { objects.now.objects ≡ objects_at q.now.bytes (offsets_in q.now.offsets) }
-        ensures computed { IfOk result (λ r. (n : ℕ) (s : Space) → StandsAt n self.now s
-            → r ≡ parcels.resolve_all s p q.now.bytes q.now.offsets [] [] (offsets_in q.now.offsets)) }
+        ensures computed { IfOk result
+            (λ r. Tells self.now r
+            (λ s. parcels.resolve_all s p q.now.bytes q.now.offsets [] [] (offsets_in q.now.offsets))) }
         ensures bytes { IfOk result (λ r. IfOk r (λ x. x.bytes ≡ q.now.bytes)) }
         ensures offsets { IfOk result (λ r. IfOk r (λ x. x.offsets ≡ q.now.offsets)) }
         ensures inside { IfOk result (λ r. IfOk r (λ x. All (IsInside x.bytes) x.items)) }
@@ -148,8 +149,9 @@ impl Tables {
     // A parcel whose offsets are whole.
     fn resolve_walked(&self, p: u32, q: &Parcel) -> Result<Result<Sending, Cause>, AllocError>
         requires { length q.now.offsets % 8 ≡ 0 }
-        ensures computed { IfOk result (λ r. (n : ℕ) (s : Space) → StandsAt n self.now s
-            → r ≡ parcels.resolve_walked s p q.now (fault_in q.now.bytes (offsets_in q.now.offsets))) }
+        ensures computed { IfOk result
+            (λ r. Tells self.now r
+            (λ s. parcels.resolve_walked s p q.now (fault_in q.now.bytes (offsets_in q.now.offsets)))) }
         ensures bytes { IfOk result (λ r. IfOk r (λ x. x.bytes ≡ q.now.bytes)) }
         ensures offsets { IfOk result (λ r. IfOk r (λ x. x.offsets ≡ q.now.offsets)) }
         ensures inside { IfOk result (λ r. IfOk r (λ x. All (IsInside x.bytes) x.items)) }
@@ -169,7 +171,7 @@ impl Tables {
         d: &TransactionData,
         parcel: &Option<Parcel>,
     ) -> Result<Result<Sending, Cause>, AllocError>
-        ensures computed { IfOk result (λ r. (n : ℕ) (s : Space) → StandsAt n self.now s → r ≡ parcels.sending_of s p d.now parcel.now) }
+        ensures computed { IfOk result (λ r. Tells self.now r (λ s. parcels.sending_of s p d.now parcel.now)) }
         ensures sound { IfOk result (λ r. IfOk r (IsSound d.now)) }
     {
         let Some(q) = parcel else {
