@@ -81,8 +81,8 @@ CanAdd t p one_way size start = CanTakeIn (find (is_of p) (map seen t.windows.it
 -- ---- buffers
 
 -- what is so of every live buffer
-abbrev pub IsPlaced : Buffer → Type 0
-IsPlaced b = buffer.IsPlaced 4194304 b
+abbrev pub IsInWindow : Buffer → Type 0
+IsInWindow b = buffer.IsPlaced 4194304 b
 
 abbrev pub made_of_buffer : Buffer → ℕ
 made_of_buffer b = b.made

@@ -1,5 +1,5 @@
 -- A step meets its definition, space by space.
-use Rattle.std.proofs.Common.{◌≡◌, true, Result, Ok, Err, IfOk, IfErr, refl, ap, sym, subst, ◌∙◌}
+use Rattle.std.proofs.Common.{◌≡◌, true, Result, Ok, Err, refl, ap, sym, subst, ◌∙◌}
 use Rattle.bd_uapi.specs.declared.fault.Fault.{Fault}
 use Rattle.bd_uapi.specs.declared.fault.Note.{Note}
 use Rattle.bd_space.specs.declared.step.StepAnswer.{StepAnswer}
@@ -17,7 +17,7 @@ use Rattle.bd_engine.specs.Plain.{answer_of, both}
 use Rattle.bd_engine.specs.Stands.{Before, Within}
 use Rattle.bd_engine.specs.declared.why.Why.{Why}
 use Rattle.bd_engine.specs.Refusals.{FullOnly}
-use Rattle.bd_engine.specs.Meets.{Meets, IsRefused, IsAny, IsBy}
+use Rattle.bd_engine.specs.Meets.{Meets, IsRefused, IsAny, IsBy, IsStep, IsStepTwice}
 use Rattle.bd_engine.proofs.Standing.{within}
 
 -- the tables stand for this outcome's space, and the answer is its answer
@@ -49,59 +49,41 @@ module _ (old : Tables) (P Q : Space → Type 0) (f g : Space → Outcome) (same
     stands = λ s h q. let k = same s h q in subst (λ (o : Outcome). Within new o.space) (sym k.1) (m.stands s h k.0);
   }
 
-  pub as-ok : {A : Type 0} (of : A → StepAnswer) (new : Tables) (r : Result A Why) → IfOk r (λ x. Meets old new P f (of x)) → IfOk r (λ x. Meets old new Q g (of x))
-  as-ok of new (Ok x) m = as_meets new (of x) m
-  as-ok of new (Err why) m = m
+  as_refused : (why : Why) → IsRefused old P f why → IsRefused old Q g why
+  as_refused why m = λ s h q. let k = same s h q in subst (λ (o : Outcome). FullOnly why (has_number_past_limit o.space.names ≡ true)) (sym k.1) (m s h k.0)
 
-  pub as-full : {A : Type 0} (r : Result A Why) → IfErr r (IsRefused old P f) → IfErr r (IsRefused old Q g)
-  as-full (Ok x) m = m
-  as-full (Err why) m = λ s h q. let k = same s h q in subst (λ (o : Outcome). FullOnly why (has_number_past_limit o.space.names ≡ true)) (sym k.1) (m s h k.0)
+  pub as-step : (new : Tables) (r : Result Plain Why) → IsStep old new P f r → IsStep old new Q g r
+  as-step new (Ok x) m = record { ok = as_meets new (answer_of x) m.ok; err = tt; full = tt }
+  as-step new (Err why) m = record { ok = tt; err = m.err; full = as_refused why m.full }
+
+  pub as-step-twice : (new : Tables) (r : Result Twice Why) → IsStepTwice old new P f r → IsStepTwice old new Q g r
+  as-step-twice new (Ok x) m = record { ok = as_meets new x.answer m.ok; twice = m.twice; err = tt; full = tt }
+  as-step-twice new (Err why) m = record { ok = tt; twice = tt; err = m.err; full = as_refused why m.full }
 
 -- ---- answers twice
 
-pub twice-ok : (old new : Tables) (P : Space → Type 0) (f : Space → Outcome) (r : Result Plain Why) (t : Result Twice Why) → t ≡ both r
-    → IfOk r (λ x. Meets old new P f (answer_of x)) → IfOk t (λ x. Meets old new P f x.answer)
-twice-ok old new P f r t e m = subst (λ y. IfOk y (λ x. Meets old new P f x.answer)) (sym e) (go r m)
+pub twice-step : (old new : Tables) (P : Space → Type 0) (f : Space → Outcome) (r : Result Plain Why) (t : Result Twice Why) → t ≡ both r
+    → IsStep old new P f r → IsStepTwice old new P f t
+twice-step old new P f r t e m = subst (IsStepTwice old new P f) (sym e) (go r m)
   where
-    go : (r : Result Plain Why) → IfOk r (λ x. Meets old new P f (answer_of x)) → IfOk (both r) (λ x. Meets old new P f x.answer)
-    go (Ok x) m = m
-    go (Err why) m = m
-
-pub twice-full : (old : Tables) (P : Space → Type 0) (f : Space → Outcome) (r : Result Plain Why) (t : Result Twice Why) → t ≡ both r
-    → IfErr r (IsRefused old P f) → IfErr t (IsRefused old P f)
-twice-full old P f r t e m = subst (λ y. IfErr y (IsRefused old P f)) (sym e) (go r m)
-  where
-    go : (r : Result Plain Why) → IfErr r (IsRefused old P f) → IfErr (both r) (IsRefused old P f)
-    go (Ok x) m = m
-    go (Err why) m = m
-
-pub twice-same : (r : Result Plain Why) (t : Result Twice Why) → t ≡ both r → IfOk t (λ x. x.again ≡ x.answer)
-twice-same r t e = subst (λ y. IfOk y (λ x. x.again ≡ x.answer)) (sym e) (go r)
-  where
-    go : (r : Result Plain Why) → IfOk (both r) (λ x. x.again ≡ x.answer)
-    go (Ok x) = refl
-    go (Err why) = tt
+    go : (r : Result Plain Why) → IsStep old new P f r → IsStepTwice old new P f (both r)
+    go (Ok x) m = record { ok = m.ok; twice = refl; err = tt; full = tt }
+    go (Err why) m = record { ok = tt; twice = tt; err = m.err; full = m.full }
 
 -- ---- the step of a live thread, said as one of the thread's, and answered twice
 
 module _ (old : Tables) (a : Actor) (f : Space → Outcome) where
   -- where the definition asks for no live thread
   module _ (g : Space → Outcome) (same : (s : Space) → f s ≡ g s) where
-    pub any-ok : (new : Tables) (r : Result Plain Why) (t : Result Twice Why) → t ≡ both r → IfOk r (λ x. Meets old new IsAny g (answer_of x)) → IfOk t (λ x. Meets old new (IsBy a) f x.answer)
-    any-ok new r t e m = twice-ok old new (IsBy a) f r t e (as-ok old IsAny (IsBy a) g f (λ s h by. (tt, same s)) answer_of new r m)
-
-    pub any-full : (r : Result Plain Why) (t : Result Twice Why) → t ≡ both r → IfErr r (IsRefused old IsAny g) → IfErr t (IsRefused old (IsBy a) f)
-    any-full r t e m = twice-full old (IsBy a) f r t e (as-full old IsAny (IsBy a) g f (λ s h by. (tt, same s)) r m)
+    pub any-step : (new : Tables) (r : Result Plain Why) (t : Result Twice Why) → t ≡ both r → IsStep old new IsAny g r → IsStepTwice old new (IsBy a) f t
+    any-step new r t e m = twice-step old new (IsBy a) f r t e (as-step old IsAny (IsBy a) g f (λ s h by. (tt, same s)) new r m)
 
   module _ (g : Space → Actor → Outcome) (same : (s : Space) → f s ≡ by_actor s (actor s a.thread.seat) (g s)) where
     pub by-same : (s : Space) → Before old s → IsBy a s → IsBy a s × (f s ≡ g s a)
     by-same s h by = (by, same s ∙ ap (λ o. by_actor s o (g s)) by)
 
-    pub by-ok : (new : Tables) (r : Result Plain Why) (t : Result Twice Why) → t ≡ both r → IfOk r (λ x. Meets old new (IsBy a) (λ s. g s a) (answer_of x)) → IfOk t (λ x. Meets old new (IsBy a) f x.answer)
-    by-ok new r t e m = twice-ok old new (IsBy a) f r t e (as-ok old (IsBy a) (IsBy a) (λ s. g s a) f by-same answer_of new r m)
-
-    pub by-full : (r : Result Plain Why) (t : Result Twice Why) → t ≡ both r → IfErr r (IsRefused old (IsBy a) (λ s. g s a)) → IfErr t (IsRefused old (IsBy a) f)
-    by-full r t e m = twice-full old (IsBy a) f r t e (as-full old (IsBy a) (IsBy a) (λ s. g s a) f by-same r m)
+    pub by-step : (new : Tables) (r : Result Plain Why) (t : Result Twice Why) → t ≡ both r → IsStep old new (IsBy a) (λ s. g s a) r → IsStepTwice old new (IsBy a) f t
+    by-step new r t e m = twice-step old new (IsBy a) f r t e (as-step old (IsBy a) (IsBy a) (λ s. g s a) f by-same new r m)
 
 pub answer-is : (old new : Tables) (P : Space → Type 0) (f : Space → Outcome) (a b : StepAnswer) → a ≡ b → Meets old new P f b → Meets old new P f a
 answer-is old new P f a b e m = subst (Meets old new P f) (sym e) m

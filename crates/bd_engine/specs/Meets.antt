@@ -1,5 +1,5 @@
 -- What a step of the tables meets: the definition, on every space that they stand for.
-use Rattle.std.specs.Prelude.{ℕ, ◌≡◌, true, Some, None}
+use Rattle.std.specs.Prelude.{ℕ, ◌≡◌, true, Some, None, Result, IfOk, IfErr, OnErr}
 use Rattle.bd_space.specs.declared.step.StepAnswer.{StepAnswer}
 use Rattle.bd_space.specs.declared.space.Actor.{Actor}
 use Rattle.bd_space.specs.Space.{Space}
@@ -8,6 +8,9 @@ use Rattle.bd_space.specs.Names.{has_number_past_limit}
 use Rattle.bd_space.specs.Outcomes.{Outcome}
 use Rattle.bd_engine.specs.declared.tables.Tables.{Tables}
 use Rattle.bd_engine.specs.declared.why.Why.{Why}
+use Rattle.bd_engine.specs.declared.plain.Plain.{Plain}
+use Rattle.bd_engine.specs.declared.plain.Twice.{Twice}
+use Rattle.bd_engine.specs.Plain.{answer_of}
 use Rattle.bd_engine.specs.Refusals.{FullOnly}
 use Rattle.bd_engine.specs.Stands.{Before, Within}
 
@@ -35,3 +38,16 @@ IsRefused old P f why = (s : Space) → Before old s → P s → FullOnly why (h
 -- it left all as it was
 abbrev pub IsKept : Tables → Tables → Type 0
 IsKept old new = (s : Space) → Before old s → Before new s
+
+-- how a step of the definition f ends for such a maker: taken; or not taken, and then all is as it was
+pub record IsStep (old new : Tables) (P : Space → Type 0) (f : Space → Outcome) (r : Result Plain Why) : Type 0 where
+  pub ok : IfOk r (λ x. Meets old new P f (answer_of x))
+  pub err : OnErr r (IsKept old new)
+  pub full : IfErr r (IsRefused old P f)
+
+-- the same, answered twice
+pub record IsStepTwice (old new : Tables) (P : Space → Type 0) (f : Space → Outcome) (r : Result Twice Why) : Type 0 where
+  pub ok : IfOk r (λ x. Meets old new P f x.answer)
+  pub twice : IfOk r (λ x. x.again ≡ x.answer)
+  pub err : OnErr r (IsKept old new)
+  pub full : IfErr r (IsRefused old P f)

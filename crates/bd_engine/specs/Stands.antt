@@ -1,6 +1,7 @@
 -- What the tables of an engine stand for: a space.
-use Rattle.std.specs.Prelude.{ℕ, ◌≡◌, ◌+◌, ◌≤◌}
+use Rattle.std.specs.Prelude.{ℕ, ◌≡◌, ◌+◌, ◌≤◌, true}
 use Rattle.bd_space.specs.Space.{Space}
+use Rattle.bd_space.specs.Names.{has_number_past_limit}
 use Rattle.bd_objects.specs.Stands as objects
 use Rattle.bd_objects.specs.Room as object_rooms
 use Rattle.bd_calls.specs.Stands as calls
@@ -25,6 +26,36 @@ Before t s = StandsAt s.steps t s
 abbrev pub Within : Tables → Space → Type 0
 Within t s = StandsAt (s.steps + 1) t s
 
+-- ---- what the tables tell of the spaces that they stand for, and what they make of them
+
+-- of each, x is what f says
+abbrev pub Tells : {A : Type 0} → Tables → A → (Space → A) → Type 0
+Tells t x f = (n : ℕ) (s : Space) → StandsAt n t s → x ≡ f s
+
+-- before a step
+abbrev pub TellsBefore : {A : Type 0} → Tables → A → (Space → A) → Type 0
+TellsBefore t x f = (s : Space) → Before t s → x ≡ f s
+
+-- within one
+abbrev pub TellsWithin : {A : Type 0} → Tables → A → (Space → A) → Type 0
+TellsWithin t x f = (s : Space) → Within t s → x ≡ f s
+
+-- a change of the tables makes what f makes of each
+abbrev pub Makes : Tables → Tables → (Space → Space) → Type 0
+Makes old new f = (n : ℕ) (s : Space) → StandsAt n old s → StandsAt n new (f s)
+
+-- within a step
+abbrev pub MakesWithin : Tables → Tables → (Space → Space) → Type 0
+MakesWithin old new f = (s : Space) → Within old s → Within new (f s)
+
+-- from before a step to within it
+abbrev pub Begins : Tables → Tables → (Space → Space) → Type 0
+Begins old new f = (s : Space) → Before old s → Within new (f s)
+
+-- what f makes needs a number past the limit
+abbrev pub PassesLimit : Tables → (Space → Space) → Type 0
+PassesLimit t f = (s : Space) → Before t s → has_number_past_limit (f s).names ≡ true
+
 -- ---- room
 
 -- a change makes at most so many work items, and adds at most so many objects, frames and one-way calls
@@ -33,6 +64,9 @@ pub record Takes (old new : Tables) (objects frames turns works : ℕ) : Type 0 
   pub objects_count : object_rooms.object_count new.objects ≤ object_rooms.object_count old.objects + objects
   pub frames_count : call_rooms.frame_count new.calls ≤ call_rooms.frame_count old.calls + frames
   pub turns_count : call_rooms.turn_count new.calls ≤ call_rooms.turn_count old.calls + turns
+
+abbrev pub TakesNothing : Tables → Tables → Type 0
+TakesNothing old new = Takes old new 0 0 0 0
 
 -- room for the work items that follow from a change, and for so many more
 abbrev pub CanFollow : Tables → ℕ → Type 0

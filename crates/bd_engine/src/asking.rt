@@ -1,14 +1,12 @@
 //! The steps of `BC_INCREFS`, `BC_ACQUIRE`, `BC_RELEASE`, `BC_DECREFS`, `BC_INCREFS_DONE` and `BC_ACQUIRE_DONE`.
 
-ghost use Rattle.std.specs.Prelude.{ℕ, ◌≡◌, ◌≤◌, true, IfOk, IfErr, OnOk, OnErr};
-ghost use Rattle.bd_space.specs.Space.{Space};
+ghost use Rattle.std.specs.Prelude.{◌≡◌, ◌≤◌, IfErr, OnOk, OnErr};
 ghost use Rattle.bd_space.specs.Names.{has_number_past_limit};
 ghost use Rattle.bd_space.specs.Asking as asking;
 ghost use Rattle.bd_space.specs.Outcomes.{completed};
 ghost use Rattle.bd_objects.specs.Room.{reference_room, name_room};
-ghost use Rattle.bd_engine.specs.Stands.{Before, Within, Takes, CanFollow};
-ghost use Rattle.bd_engine.specs.Plain.{answer_of};
-ghost use Rattle.bd_engine.specs.Meets.{Meets, IsBy, IsKept, IsRefused};
+ghost use Rattle.bd_engine.specs.Stands.{CanFollow, MakesWithin, PassesLimit};
+ghost use Rattle.bd_engine.specs.Meets.{IsBy, IsKept, IsStep};
 
 use crate::plain::Plain;
 use crate::tables::Tables;
@@ -23,9 +21,9 @@ impl Tables {
         requires references { 1 ≤ reference_room self.old.objects }
         requires names { 1 ≤ name_room self.old.objects }
         requires works { CanFollow self.old 0 }
-        ensures stands { OnOk result ((s : Space) → Within self.old s → Within self.new (completed (asking.ask s p o strong))) }
+        ensures stands { OnOk result (MakesWithin self.old self.new (λ s. completed (asking.ask s p o strong))) }
         ensures kept { OnErr result (IsKept self.old self.new) }
-        ensures full { OnErr result ((s : Space) → Before self.old s → has_number_past_limit (completed (asking.ask s p o strong)).names ≡ true) }
+        ensures full { OnErr result (PassesLimit self.old (λ s. completed (asking.ask s p o strong))) }
         // There is room by then, so that nothing else is a reason.
         ensures limit { IfErr result (λ why. why ≡ Why.HistoryFull) }
     {
@@ -40,9 +38,7 @@ impl Tables {
 
     /// The step by which a process asks for an object, weakly or strongly.
     pub(crate) fn ask(&mut self, a: Actor, n: u32, strong: bool) -> Result<Plain, Why>
-        ensures ok { IfOk result (λ x. Meets self.old self.new (IsBy a) (λ s. asking.ask_step s a.process.made n strong) (answer_of x)) }
-        ensures err { OnErr result (IsKept self.old self.new) }
-        ensures full { IfErr result (IsRefused self.old (IsBy a) (λ s. asking.ask_step s a.process.made n strong)) }
+        ensures { IsStep self.old self.new (IsBy a) (λ s. asking.ask_step s a.process.made n strong) result }
     {
         let o = match self
             .objects
@@ -63,7 +59,7 @@ impl Tables {
     // The reference goes that the process asked for, and what follows from that.
     fn lose_asked(&mut self, p: u32, o: ObjectId, strong: bool)
         requires { CanFollow self.old 0 }
-        ensures stands { (s : Space) → Within self.old s → Within self.new (completed (asking.drop_asked s p o strong)) }
+        ensures stands { MakesWithin self.old self.new (λ s. completed (asking.drop_asked s p o strong)) }
     {
         self.objects.drop_asked(p, o, strong);
         self.complete();
@@ -71,9 +67,7 @@ impl Tables {
 
     /// The step by which a process drops a reference that it asked for.
     pub(crate) fn drop_asked(&mut self, a: Actor, n: u32, strong: bool) -> Result<Plain, Why>
-        ensures ok { IfOk result (λ x. Meets self.old self.new (IsBy a) (λ s. asking.drop_step s a.process.made n strong) (answer_of x)) }
-        ensures err { OnErr result (IsKept self.old self.new) }
-        ensures full { IfErr result (IsRefused self.old (IsBy a) (λ s. asking.drop_step s a.process.made n strong)) }
+        ensures { IsStep self.old self.new (IsBy a) (λ s. asking.drop_step s a.process.made n strong) result }
     {
         let o = match self.objects.drop_check(a.process.made, n, strong) {
             Ok(o) => o,
@@ -89,7 +83,7 @@ impl Tables {
     // The reference goes that stood for an acknowledgement, and what follows from that.
     fn lose_handshake(&mut self, o: ObjectId, strong: bool)
         requires { CanFollow self.old 0 }
-        ensures stands { (s : Space) → Within self.old s → Within self.new (completed (asking.acknowledge s o strong)) }
+        ensures stands { MakesWithin self.old self.new (λ s. completed (asking.acknowledge s o strong)) }
     {
         self.objects.acknowledge(o, strong);
         self.complete();
@@ -103,9 +97,7 @@ impl Tables {
         cookie: u64,
         strong: bool,
     ) -> Result<Plain, Why>
-        ensures ok { IfOk result (λ x. Meets self.old self.new (IsBy a) (λ s. asking.done_step s a.process.made ptr cookie strong) (answer_of x)) }
-        ensures err { OnErr result (IsKept self.old self.new) }
-        ensures full { IfErr result (IsRefused self.old (IsBy a) (λ s. asking.done_step s a.process.made ptr cookie strong)) }
+        ensures { IsStep self.old self.new (IsBy a) (λ s. asking.done_step s a.process.made ptr cookie strong) result }
     {
         let x = match self.objects.done_check(a.process.made, ptr, cookie, strong) {
             Ok(x) => x,

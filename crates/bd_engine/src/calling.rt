@@ -1,7 +1,6 @@
 //! Calls: frames open and close, and callers and senders have something to read.
 
-ghost use Rattle.std.specs.Prelude.{ℕ, ◌≡◌, ◌≤◌, IfOk, IfErr, OnErr};
-ghost use Rattle.bd_space.specs.Space.{Space};
+ghost use Rattle.std.specs.Prelude.{◌≡◌, ◌≤◌, IfErr};
 ghost use Rattle.bd_space.specs.declared.space.TodoList.TheVariants.{OfThread};
 ghost use Rattle.bd_space.specs.declared.space.WorkKind.TheVariants as kinds;
 ghost use Rattle.bd_space.specs.Todo as todo;
@@ -9,10 +8,9 @@ ghost use Rattle.bd_space.specs.Frames as frames;
 ghost use Rattle.bd_space.specs.Transactions as transactions;
 ghost use Rattle.bd_space.specs.Outcomes as outcomes;
 ghost use Rattle.bd_calls.specs.Room.{work_room, frame_room};
-ghost use Rattle.bd_engine.specs.Stands.{StandsAt};
-ghost use Rattle.bd_engine.specs.Plain.{answer_of};
-ghost use Rattle.bd_engine.specs.Meets.{Meets, IsAny, IsKept};
-ghost use Rattle.bd_engine.specs.Deliveries.{Spends};
+ghost use Rattle.bd_engine.specs.Stands.{Makes};
+ghost use Rattle.bd_engine.specs.Meets.{IsAny, IsStep};
+ghost use Rattle.bd_engine.specs.Deliveries.{Spends, SpendsNothing};
 
 use crate::plain::Plain;
 use crate::tables::Tables;
@@ -24,7 +22,7 @@ impl Tables {
     /// The thread of the seat has something to read.
     pub(crate) fn owe(&mut self, seat: u32, kind: WorkKind)
         requires { 1 ≤ work_room self.old.calls }
-        ensures stands { (n : ℕ) (s : Space) → StandsAt n self.old s → StandsAt n self.new (todo.owe s (OfThread seat) kind) }
+        ensures stands { Makes self.old self.new (λ s. todo.owe s (OfThread seat) kind) }
         ensures spends { Spends self.old self.new 0 0 0 1 }
     {
         self.calls.owe(self.steps, TodoList::OfThread(seat), kind);
@@ -33,7 +31,7 @@ impl Tables {
     /// The caller of a frame, if it lives, has something to read.
     pub(crate) fn tell_caller(&mut self, f: Frame, kind: WorkKind)
         requires { 1 ≤ work_room self.old.calls }
-        ensures stands { (n : ℕ) (s : Space) → StandsAt n self.old s → StandsAt n self.new (todo.tell_caller s f kind) }
+        ensures stands { Makes self.old self.new (λ s. todo.tell_caller s f kind) }
         ensures spends { Spends self.old self.new 0 0 0 1 }
     {
         self.calls.tell_caller(self.steps, f, kind);
@@ -43,7 +41,7 @@ impl Tables {
     pub(crate) fn call_out(&mut self, seat: u32, process: u32)
         requires frames { 1 ≤ frame_room self.old.calls }
         requires works { 1 ≤ work_room self.old.calls }
-        ensures stands { (n : ℕ) (s : Space) → StandsAt n self.old s → StandsAt n self.new (transactions.call_out s seat process) }
+        ensures stands { Makes self.old self.new (λ s. transactions.call_out s seat process) }
         ensures spends { Spends self.old self.new 0 1 0 1 }
     {
         self.calls.call_out(self.steps, seat, process);
@@ -51,16 +49,16 @@ impl Tables {
 
     /// The frame closes.
     pub(crate) fn close(&mut self, made: u32)
-        ensures stands { (n : ℕ) (s : Space) → StandsAt n self.old s → StandsAt n self.new (frames.closed s made) }
-        ensures spends { Spends self.old self.new 0 0 0 0 }
+        ensures stands { Makes self.old self.new (λ s. frames.closed s made) }
+        ensures spends { SpendsNothing self.old self.new }
     {
         self.calls.close(made);
     }
 
     /// A command is refused, and its writer has this to read.
     pub(crate) fn stop(&mut self, seat: u32, cause: Cause, told: Return) -> Result<Plain, Why>
-        ensures ok { IfOk result (λ x. Meets self.old self.new IsAny (λ s. outcomes.stopped cause (todo.owe s (OfThread seat) (kinds.Refusal told))) (answer_of x)) }
-        ensures err { OnErr result (IsKept self.old self.new) }
+        ensures step { IsStep self.old self.new IsAny
+            (λ s. outcomes.stopped cause (todo.owe s (OfThread seat) (kinds.Refusal told))) result }
         ensures memory { IfErr result (λ why. why ≡ Why.NoMemory) }
     {
         if self.reserve(0, 0, 0, 1).is_err() {

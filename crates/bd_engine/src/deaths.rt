@@ -1,19 +1,17 @@
 //! The steps of `BC_REQUEST_DEATH_NOTIFICATION`, `BC_CLEAR_DEATH_NOTIFICATION` and `BC_DEAD_BINDER_DONE`.
 
-ghost use Rattle.std.specs.Prelude.{ℕ, ◌≡◌, ◌≤◌, IfOk, IfErr, OnErr};
+ghost use Rattle.std.specs.Prelude.{◌≡◌, ◌≤◌};
 ghost use Rattle.bd_space.specs.declared.space.Phase.TheVariants.{Queued};
 ghost use Rattle.bd_space.specs.declared.space.TodoList.TheVariants.{OfProcess};
 ghost use Rattle.bd_space.specs.declared.space.WorkKind.TheVariants.{Death};
-ghost use Rattle.bd_space.specs.Space.{Space};
 ghost use Rattle.bd_space.specs.Todo as todo;
 ghost use Rattle.bd_space.specs.Deaths as deaths;
 ghost use Rattle.bd_space.specs.Clearing as clearing;
 ghost use Rattle.bd_space.specs.Outcomes.{completed};
 ghost use Rattle.bd_objects.specs.Room.{death_room};
 ghost use Rattle.bd_calls.specs.Room.{work_room};
-ghost use Rattle.bd_engine.specs.Stands.{Within, Takes, CanFollow};
-ghost use Rattle.bd_engine.specs.Plain.{answer_of};
-ghost use Rattle.bd_engine.specs.Meets.{Meets, IsBy, IsKept, IsRefused};
+ghost use Rattle.bd_engine.specs.Stands.{Takes, CanFollow, MakesWithin, TakesNothing};
+ghost use Rattle.bd_engine.specs.Meets.{IsBy, IsStep};
 
 use crate::plain::Plain;
 use crate::tables::Tables;
@@ -34,8 +32,8 @@ impl Tables {
     // A notification comes in, this far.
     fn add_death(&mut self, p: u32, o: ObjectId, cookie: u64, phase: Phase)
         requires { 1 ≤ death_room self.old.objects }
-        ensures stands { (s : Space) → Within self.old s → Within self.new (deaths.with_death s p o cookie phase) }
-        ensures takes { Takes self.old self.new 0 0 0 0 }
+        ensures stands { MakesWithin self.old self.new (λ s. deaths.with_death s p o cookie phase) }
+        ensures takes { TakesNothing self.old self.new }
     {
         self.objects.with_death(self.steps, p, o, cookie, phase);
     }
@@ -43,7 +41,7 @@ impl Tables {
     // A work item comes onto a list.
     fn add_work(&mut self, list: TodoList, kind: WorkKind)
         requires { 1 ≤ work_room self.old.calls }
-        ensures stands { (s : Space) → Within self.old s → Within self.new (todo.owe s list kind) }
+        ensures stands { MakesWithin self.old self.new (λ s. todo.owe s list kind) }
         ensures takes { Takes self.old self.new 0 0 0 1 }
     {
         self.calls.owe(self.steps, list, kind);
@@ -53,8 +51,8 @@ impl Tables {
     fn add_told_death(&mut self, p: u32, o: ObjectId, cookie: u64)
         requires deaths { 1 ≤ death_room self.old.objects }
         requires works { 1 ≤ work_room self.old.calls }
-        ensures stands { (s : Space) → Within self.old s
-            → Within self.new (todo.owe (deaths.with_death s p o cookie Queued) (OfProcess p) (Death s.steps)) }
+        ensures stands { MakesWithin self.old self.new
+            (λ s. todo.owe (deaths.with_death s p o cookie Queued) (OfProcess p) (Death s.steps)) }
         ensures takes { Takes self.old self.new 0 0 0 1 }
     {
         let place = self.steps;
@@ -66,7 +64,7 @@ impl Tables {
     fn add_request(&mut self, p: u32, o: ObjectId, cookie: u64)
         requires deaths { 1 ≤ death_room self.old.objects }
         requires works { 1 ≤ work_room self.old.calls }
-        ensures stands { (s : Space) → Within self.old s → Within self.new (deaths.requested s p o cookie) }
+        ensures stands { MakesWithin self.old self.new (λ s. deaths.requested s p o cookie) }
         ensures takes { Takes self.old self.new 0 0 0 1 }
     {
         if self.objects.owner_lives(self.processes.as_slice(), o) {
@@ -80,7 +78,7 @@ impl Tables {
     fn arm(&mut self, p: u32, o: ObjectId, cookie: u64)
         requires deaths { 1 ≤ death_room self.old.objects }
         requires works { CanFollow self.old 1 }
-        ensures stands { (s : Space) → Within self.old s → Within self.new (completed (deaths.requested s p o cookie)) }
+        ensures stands { MakesWithin self.old self.new (λ s. completed (deaths.requested s p o cookie)) }
     {
         self.add_request(p, o, cookie);
         self.complete();
@@ -88,9 +86,7 @@ impl Tables {
 
     /// The step by which a process asks to be told of an owner's end.
     pub(crate) fn request_death(&mut self, a: Actor, n: u32, cookie: u64) -> Result<Plain, Why>
-        ensures ok { IfOk result (λ x. Meets self.old self.new (IsBy a) (λ s. deaths.request_step s a.process.made n cookie) (answer_of x)) }
-        ensures err { OnErr result (IsKept self.old self.new) }
-        ensures full { IfErr result (IsRefused self.old (IsBy a) (λ s. deaths.request_step s a.process.made n cookie)) }
+        ensures { IsStep self.old self.new (IsBy a) (λ s. deaths.request_step s a.process.made n cookie) result }
     {
         let o = match self.objects.request_check(a.process.made, n) {
             Ok(o) => o,
@@ -106,7 +102,7 @@ impl Tables {
     // A notification goes, and the thread is told.
     fn end_death(&mut self, seat: u32, x: DeathNotification)
         requires { 1 ≤ work_room self.old.calls }
-        ensures stands { (s : Space) → Within self.old s → Within self.new (clearing.death_ended s seat x) }
+        ensures stands { MakesWithin self.old self.new (λ s. clearing.death_ended s seat x) }
         ensures takes { Takes self.old self.new 0 0 0 1 }
     {
         self.objects.without_death(x.made);
@@ -116,7 +112,7 @@ impl Tables {
     // A notification is cleared: marked where it is queued or told; else it goes.
     fn drop_request(&mut self, seat: u32, x: DeathNotification)
         requires { 1 ≤ work_room self.old.calls }
-        ensures stands { (s : Space) → Within self.old s → Within self.new (clearing.cleared s seat x) }
+        ensures stands { MakesWithin self.old self.new (λ s. clearing.cleared s seat x) }
         ensures takes { Takes self.old self.new 0 0 0 1 }
     {
         if is_out(x.phase) {
@@ -129,7 +125,7 @@ impl Tables {
     // A notification is cleared, and what follows from that.
     fn disarm(&mut self, seat: u32, x: DeathNotification)
         requires { CanFollow self.old 1 }
-        ensures stands { (s : Space) → Within self.old s → Within self.new (completed (clearing.cleared s seat x)) }
+        ensures stands { MakesWithin self.old self.new (λ s. completed (clearing.cleared s seat x)) }
     {
         self.drop_request(seat, x);
         self.complete();
@@ -137,9 +133,8 @@ impl Tables {
 
     /// The step by which a process takes back that it asked to be told of an owner's end.
     pub(crate) fn clear_death(&mut self, a: Actor, n: u32, cookie: u64) -> Result<Plain, Why>
-        ensures ok { IfOk result (λ x. Meets self.old self.new (IsBy a) (λ s. clearing.clear_step s a.thread.seat a.process.made n cookie) (answer_of x)) }
-        ensures err { OnErr result (IsKept self.old self.new) }
-        ensures full { IfErr result (IsRefused self.old (IsBy a) (λ s. clearing.clear_step s a.thread.seat a.process.made n cookie)) }
+        ensures { IsStep self.old self.new (IsBy a)
+            (λ s. clearing.clear_step s a.thread.seat a.process.made n cookie) result }
     {
         let x = match self.objects.clear_check(a.process.made, n, cookie) {
             Ok(x) => x,
@@ -155,7 +150,7 @@ impl Tables {
     // The process knows of the owner's end: a marked notification goes; else it is done.
     fn know_death(&mut self, seat: u32, x: DeathNotification)
         requires { 1 ≤ work_room self.old.calls }
-        ensures stands { (s : Space) → Within self.old s → Within self.new (clearing.death_done s seat x) }
+        ensures stands { MakesWithin self.old self.new (λ s. clearing.death_done s seat x) }
         ensures takes { Takes self.old self.new 0 0 0 1 }
     {
         if x.cleared {
@@ -168,7 +163,7 @@ impl Tables {
     // The process knows of the owner's end, and what follows from that.
     fn finish_death(&mut self, seat: u32, x: DeathNotification)
         requires { CanFollow self.old 1 }
-        ensures stands { (s : Space) → Within self.old s → Within self.new (completed (clearing.death_done s seat x)) }
+        ensures stands { MakesWithin self.old self.new (λ s. completed (clearing.death_done s seat x)) }
     {
         self.know_death(seat, x);
         self.complete();
@@ -176,9 +171,8 @@ impl Tables {
 
     /// The step by which a process acknowledges that it was told of an owner's end.
     pub(crate) fn death_done(&mut self, a: Actor, cookie: u64) -> Result<Plain, Why>
-        ensures ok { IfOk result (λ x. Meets self.old self.new (IsBy a) (λ s. clearing.death_done_step s a.thread.seat a.process.made cookie) (answer_of x)) }
-        ensures err { OnErr result (IsKept self.old self.new) }
-        ensures full { IfErr result (IsRefused self.old (IsBy a) (λ s. clearing.death_done_step s a.thread.seat a.process.made cookie)) }
+        ensures { IsStep self.old self.new (IsBy a)
+            (λ s. clearing.death_done_step s a.thread.seat a.process.made cookie) result }
     {
         let x = match self.objects.told_death(a.process.made, cookie) {
             Some(x) => x,

@@ -1,13 +1,13 @@
 //! Delivery: the objects, references and names of a parcel, its buffer with the translated data, and the notices of its
 //! sender's own objects.
 
-ghost use Rattle.std.specs.Prelude.{ℕ, ◌≡◌, ◌+◌, ◌≤◌, ◌<◌, Bool, true, IfOk, OnOk, OnErr, All, length, Some, fold, not, ◌&&◌};
+ghost use Rattle.std.specs.Prelude.{◌≡◌, ◌+◌, ◌≤◌, ◌<◌, true, IfOk, OnOk, OnErr, All, length, Some, fold, not, ◌&&◌};
+ghost use Rattle.bd_uapi.specs.Kinds as kinds;
 ghost use Rattle.bd_space.specs.References.{object_in};
 ghost use Rattle.bd_space.specs.Space.{Space};
 ghost use Rattle.bd_space.specs.Seats.{process_in};
 ghost use Rattle.bd_space.specs.Room as room;
 ghost use Rattle.bd_space.specs.Words as words;
-ghost use Rattle.bd_uapi.specs.Kinds as kinds;
 ghost use Rattle.bd_space.specs.Parcels as parcels;
 ghost use Rattle.bd_space.specs.Names.{names_go, has_number_past_limit};
 ghost use Rattle.bd_space.specs.Turns as turns;
@@ -16,9 +16,9 @@ ghost use Rattle.bd_space.specs.Translation as translations;
 ghost use Rattle.bd_objects.specs.Room as object_rooms;
 ghost use Rattle.bd_calls.specs.Room as call_rooms;
 ghost use Rattle.bd_buffers.specs.WindowsStand.{CanAdd, buffer_room};
-ghost use Rattle.bd_engine.specs.Stands.{StandsAt, Before, Within};
+ghost use Rattle.bd_engine.specs.Stands.{Before, Within, Tells, Makes, Begins, PassesLimit};
 ghost use Rattle.bd_engine.specs.Meets.{IsKept};
-ghost use Rattle.bd_engine.specs.Deliveries.{IsInside, IsSound, IsDeliverable, IsReady, Spends, OnlyWorks, OnlyObjects, placed_for, size_of};
+ghost use Rattle.bd_engine.specs.Deliveries.{IsInside, IsSound, IsDeliverable, IsReady, Spends, OnlyWorks, OnlyObjects, placed_for, sending};
 
 use crate::sending::Sending;
 use crate::tables::Tables;
@@ -35,14 +35,22 @@ pub(crate) struct Delivery {
     receiver: Process,
     target: Option<ObjectId>,
     one_way: bool,
-    sending: Sending,
+    parcel: Parcel,
+    made: Vec<Object>,
+    items: Vec<Item>,
     start: u32,
 }
 
 impl Model for Delivery {
     ghost Value = { spec.Delivery };
 
-    ghost view = { λ v. record { receiver = v.receiver; target = v.target; one_way = v.one_way; sending = v.sending; start = v.start } };
+    ghost view = { λ v. record {
+      receiver = v.receiver;
+      target = v.target;
+      one_way = v.one_way;
+      sending = sending v.parcel v.made.items v.items.items;
+      start = v.start;
+    } };
 }
 
 impl Delivery {
@@ -71,14 +79,14 @@ impl Delivery {
     pub(crate) fn made(&self) -> &[Object]
         ensures { result.now ≡ self.now.sending.made }
     {
-        self.sending.made()
+        self.made.as_slice()
     }
 
     /// All its objects.
     pub(crate) fn items(&self) -> &[Item]
         ensures { result.now ≡ self.now.sending.items }
     {
-        self.sending.items()
+        self.items.as_slice()
     }
 }
 
@@ -107,32 +115,38 @@ fn turn_of(b: &Buffer) -> Option<Turn>
 }
 
 impl Tables {
-    // Where the sending goes in its receiver's window.
+    // Where the sending goes in its receiver's window. Its parcel is copied only where there is a place for it.
     fn placed_for(
         &self,
         d: &TransactionData,
         receiver: Process,
         target: Option<ObjectId>,
         one_way: bool,
-        sending: Sending,
-    ) -> Result<Delivery, Cause>
+        sending: Sending<'_>,
+    ) -> Result<Result<Delivery, Cause>, AllocError>
         requires { IsSound d.now sending }
-        ensures computed { (s : Space) → Before self.now s → process_in s.processes receiver.made ≡ Some receiver
-            → result ≡ placed_for s d.now receiver target one_way sending }
-        ensures deliverable { IfOk result (IsDeliverable self.now d.now) }
+        ensures computed { IfOk result
+            (λ r. (s : Space) → Before self.now s → process_in s.processes receiver.made ≡ Some receiver
+            → r ≡ placed_for s d.now receiver target one_way sending) }
+        ensures deliverable { IfOk result (λ r. IfOk r (IsDeliverable self.now d.now)) }
     {
         match self
             .windows
             .place(receiver.made, one_way, d.data_size, d.offsets_size)
         {
-            Err(cause) => Err(cause),
-            Ok(start) => Ok(Delivery {
-                receiver,
-                target,
-                one_way,
-                sending,
-                start,
-            }),
+            Err(cause) => Ok(Err(cause)),
+            Ok(start) => {
+                let (parcel, made, items) = sending.into_parts()?;
+                Ok(Ok(Delivery {
+                    receiver,
+                    target,
+                    one_way,
+                    parcel,
+                    made,
+                    items,
+                    start,
+                }))
+            }
         }
     }
 
@@ -146,13 +160,15 @@ impl Tables {
         target: Option<ObjectId>,
         one_way: bool,
     ) -> Result<Result<Delivery, Cause>, AllocError>
-        ensures computed { IfOk result (λ r. (s : Space) → Before self.now s → process_in s.processes receiver.made ≡ Some receiver
-            → r ≡ words.and_then (parcels.sending_of s a.process.made d.now parcel.now) (placed_for s d.now receiver target one_way)) }
+        ensures computed { IfOk result
+            (λ r. (s : Space) → Before self.now s → process_in s.processes receiver.made ≡ Some receiver
+            → r ≡ words.and_then (parcels.sending_of s a.process.made d.now parcel.now)
+            (placed_for s d.now receiver target one_way)) }
         ensures deliverable { IfOk result (λ r. IfOk r (IsDeliverable self.now d.now)) }
     {
         match self.sending_of(a.process.made, d, parcel)? {
             Err(cause) => Ok(Err(cause)),
-            Ok(sending) => Ok(self.placed_for(d, receiver, target, one_way, sending)),
+            Ok(sending) => self.placed_for(d, receiver, target, one_way, sending),
         }
     }
 
@@ -172,7 +188,7 @@ impl Tables {
     // The items' objects as the process is to see them, written over the data.
     fn translate(&self, q: u32, bytes: &mut [u8], items: &[Item])
         requires { All (IsInside bytes.old) items.now }
-        ensures { (n : ℕ) (s : Space) → StandsAt n self.now s → bytes.new ≡ translations.translation s q bytes.old items.now }
+        ensures { Tells self.now bytes.new (λ s. translations.translation s q bytes.old items.now) }
     {
         for x in items {
             let flat = self.objects.translated(q, x);
@@ -183,7 +199,7 @@ impl Tables {
     // The data as the process is to see it.
     fn translation(&self, q: u32, bytes: Bytes, items: &[Item]) -> Bytes
         requires { All (IsInside bytes) items.now }
-        ensures translated { (n : ℕ) (s : Space) → StandsAt n self.now s → result ≡ translations.translation s q bytes items.now }
+        ensures translated { Tells self.now result (λ s. translations.translation s q bytes items.now) }
         ensures len { length result ≡ length bytes }
     {
         let mut bytes = bytes.into_vec();
@@ -194,7 +210,7 @@ impl Tables {
     // The buffer of a delivery.
     fn buffer_of(&self, a: Actor, d: &TransactionData, v: Delivery) -> Buffer
         requires { IsDeliverable self.now d.now v }
-        ensures buffer { (n : ℕ) (s : Space) → StandsAt n self.now s → result ≡ spec.buffer_of s a d.now v }
+        ensures buffer { Tells self.now result (λ s. spec.buffer_of s a d.now v) }
         ensures receiver { result.receiver ≡ v.receiver.made }
         ensures sized { result.size ≡ room.needed (length result.bytes) (length result.offsets) }
         ensures can_add { CanAdd self.now.windows result.receiver result.one_way result.size result.start }
@@ -203,10 +219,12 @@ impl Tables {
             receiver,
             target,
             one_way,
-            sending,
+            parcel,
+            made: _,
+            items,
             start,
         } = v;
-        let (bytes, offsets, items) = sending.into_parts();
+        let Parcel { bytes, offsets } = parcel;
         Buffer {
             made: self.steps,
             receiver: receiver.made,
@@ -229,7 +247,8 @@ impl Tables {
         requires room { 1 ≤ buffer_room self.old.windows buffer.receiver }
         requires sized { buffer.size ≡ room.needed (length buffer.bytes) (length buffer.offsets) }
         requires can_add { CanAdd self.old.windows buffer.receiver buffer.one_way buffer.size buffer.start }
-        ensures stands { (s : Space) → Before self.old s → s.steps ≡ buffer.made → Within self.new (spec.add_buffer s buffer) }
+        ensures stands { (s : Space) → Before self.old s → s.steps ≡ buffer.made
+            → Within self.new (spec.add_buffer s buffer) }
         ensures spends { Spends self.old self.new 0 0 1 0 }
     {
         self.calls.add_turn(turn_of(&buffer));
@@ -238,8 +257,9 @@ impl Tables {
 
     // Sending an object strongly that its owner isn't told strong takes a standing notice away.
     fn takes_notice(&self, x: &Item) -> bool
-        ensures { (n : ℕ) (s : Space) → StandsAt n self.now s → result ≡ (kinds.is_own x.now.flat.kind && kinds.is_strong_kind x.now.flat.kind
-            && words.is_some_and (object_in s.objects x.now.object) (λ o. not o.told_strong)) }
+        ensures { Tells self.now result
+            (λ s. kinds.is_own x.now.flat.kind && kinds.is_strong_kind x.now.flat.kind && words.is_some_and
+            (object_in s.objects x.now.object) (λ o. not o.told_strong)) }
     {
         x.flat.kind.is_own()
             && x.flat.kind.is_strong()
@@ -250,8 +270,8 @@ impl Tables {
     }
 
     fn withdraw_notice(&mut self, x: &Item)
-        ensures stands { (n : ℕ) (s : Space) → StandsAt n self.old s → StandsAt n self.new
-            (record s { todo = spec.withdraw_notice s.objects s.todo x.now }) }
+        ensures stands { Makes self.old self.new
+            (λ s. record s { todo = spec.withdraw_notice s.objects s.todo x.now }) }
         ensures works { OnlyWorks self.old self.new 0 }
     {
         if self.takes_notice(x) {
@@ -260,8 +280,8 @@ impl Tables {
     }
 
     fn withdraw_notices(&mut self, items: &[Item])
-        ensures stands { (n : ℕ) (s : Space) → StandsAt n self.old s → StandsAt n self.new
-            (record s { todo = fold (spec.withdraw_notice s.objects) s.todo items.now }) }
+        ensures stands { Makes self.old self.new
+            (λ s. record s { todo = fold (spec.withdraw_notice s.objects) s.todo items.now }) }
         ensures works { OnlyWorks self.old self.new 0 }
     {
         for x in items {
@@ -272,8 +292,7 @@ impl Tables {
     // A notice that is missing is made on the sending thread's list.
     fn add_notice(&mut self, seat: u32, x: &Item)
         requires { 1 ≤ call_rooms.work_room self.old.calls }
-        ensures stands { (n : ℕ) (s : Space) → StandsAt n self.old s → StandsAt n self.new
-            (record s { todo = spec.add_notice s seat s.todo x.now }) }
+        ensures stands { Makes self.old self.new (λ s. record s { todo = spec.add_notice s seat s.todo x.now }) }
         ensures works { OnlyWorks self.old self.new 1 }
     {
         if !x.flat.kind.is_own() {
@@ -288,8 +307,8 @@ impl Tables {
 
     fn add_notices(&mut self, seat: u32, items: &[Item])
         requires { length items.now ≤ call_rooms.work_room self.old.calls }
-        ensures stands { (n : ℕ) (s : Space) → StandsAt n self.old s → StandsAt n self.new
-            (record s { todo = fold (spec.add_notice s seat) s.todo items.now }) }
+        ensures stands { Makes self.old self.new
+            (λ s. record s { todo = fold (spec.add_notice s seat) s.todo items.now }) }
         ensures works { OnlyWorks self.old self.new (length items.now) }
     {
         for x in items {
@@ -300,7 +319,7 @@ impl Tables {
     // All standing ones first, and then the new ones in the order of the parcel.
     fn own_notices(&mut self, seat: u32, items: &[Item])
         requires { length items.now ≤ call_rooms.work_room self.old.calls }
-        ensures stands { (n : ℕ) (s : Space) → StandsAt n self.old s → StandsAt n self.new (spec.own_notices s seat items.now) }
+        ensures stands { Makes self.old self.new (λ s. spec.own_notices s seat items.now) }
         ensures works { OnlyWorks self.old self.new (length items.now) }
     {
         self.withdraw_notices(items);
@@ -309,10 +328,11 @@ impl Tables {
 
     // The objects, the references and the names.
     fn known_by(&mut self, v: &Delivery) -> Result<(), NumbersFull>
-        requires { object_rooms.HasRoom self.old.objects (length v.now.sending.made) (length v.now.sending.items + 1) (length v.now.sending.items) }
+        requires { object_rooms.HasRoom self.old.objects (length v.now.sending.made) (length v.now.sending.items + 1)
+            (length v.now.sending.items) }
         ensures ok { OnOk result ((s : Space) → Before self.old s → Before self.new (spec.known_by s v.now)) }
         ensures err { OnErr result (IsKept self.old self.new) }
-        ensures full { OnErr result ((s : Space) → Before self.old s → has_number_past_limit (names_go (spec.known_by s v.now)).names ≡ true) }
+        ensures full { OnErr result (PassesLimit self.old (λ s. names_go (spec.known_by s v.now))) }
         ensures objects { OnlyObjects self.old self.new (length v.now.sending.made) }
     {
         self.objects.deliver(
@@ -331,8 +351,8 @@ impl Tables {
         requires turns { 1 ≤ call_rooms.turn_room self.old.calls }
         requires works { length v.sending.items ≤ call_rooms.work_room self.old.calls }
         requires room { 1 ≤ buffer_room self.old.windows v.receiver.made }
-        ensures stands { (s : Space) → Before self.old s → Within self.new
-            (spec.own_notices (spec.add_buffer s (spec.buffer_of s a d.now v)) a.thread.seat v.sending.items) }
+        ensures stands { Begins self.old self.new
+            (λ s. spec.own_notices (spec.add_buffer s (spec.buffer_of s a d.now v)) a.thread.seat v.sending.items) }
         ensures spends { Spends self.old self.new 0 0 1 (length v.sending.items) }
     {
         self.own_notices(a.thread.seat, v.items());
@@ -349,9 +369,9 @@ impl Tables {
     ) -> Result<(), NumbersFull>
         requires deliverable { IsDeliverable self.old d.now v }
         requires ready { IsReady self.old v }
-        ensures ok { OnOk result ((s : Space) → Before self.old s → Within self.new (spec.delivered s a d.now v)) }
+        ensures ok { OnOk result (Begins self.old self.new (λ s. spec.delivered s a d.now v)) }
         ensures err { OnErr result (IsKept self.old self.new) }
-        ensures full { OnErr result ((s : Space) → Before self.old s → has_number_past_limit (names_go (spec.known_by s v)).names ≡ true) }
+        ensures full { OnErr result (PassesLimit self.old (λ s. names_go (spec.known_by s v))) }
         ensures spends { OnOk result (Spends self.old self.new (length v.sending.made) 0 1 (length v.sending.items)) }
     {
         match self.known_by(&v) {

@@ -1,6 +1,6 @@
 //! What follows from a change: names, objects, death notifications and notices go or come, and calls are settled.
 
-ghost use Rattle.std.specs.Prelude.{ℕ, ◌≡◌, ◌+◌, ◌≤◌};
+ghost use Rattle.std.specs.Prelude.{ℕ, ◌+◌, ◌≤◌};
 ghost use Rattle.bd_space.specs.Space.{Space};
 ghost use Rattle.bd_space.specs.Names.{names_go};
 ghost use Rattle.bd_space.specs.References.{objects_go};
@@ -10,7 +10,7 @@ ghost use Rattle.bd_space.specs.Settle.{settle};
 ghost use Rattle.bd_space.specs.Outcomes.{completed};
 ghost use Rattle.bd_objects.specs.Room.{object_count};
 ghost use Rattle.bd_calls.specs.Room.{work_room, frame_count, turn_count};
-ghost use Rattle.bd_engine.specs.Stands.{StandsAt, Within, Takes, CanFollow};
+ghost use Rattle.bd_engine.specs.Stands.{StandsAt, Takes, CanFollow, MakesWithin, TakesNothing};
 ghost use Rattle.bd_engine.specs.Notified.{notified};
 
 use crate::tables::Tables;
@@ -19,8 +19,8 @@ use bd_space::TodoList;
 impl Tables {
     // Names go with the references that they rest on, objects that nothing keeps, and death notifications with their names.
     fn shed(&mut self)
-        ensures stands { (s : Space) → Within self.old s → Within self.new (deaths_go (objects_go (names_go s))) }
-        ensures takes { Takes self.old self.new 0 0 0 0 }
+        ensures stands { MakesWithin self.old self.new (λ s. deaths_go (objects_go (names_go s))) }
+        ensures takes { TakesNothing self.old self.new }
     {
         self.objects.names_go();
         self.objects.objects_go(self.processes.as_slice());
@@ -29,8 +29,8 @@ impl Tables {
 
     // Work items go of which nothing is left to say.
     fn work_goes(&mut self)
-        ensures stands { (s : Space) → Within self.old s → Within self.new (work_goes s) }
-        ensures takes { Takes self.old self.new 0 0 0 0 }
+        ensures stands { MakesWithin self.old self.new work_goes }
+        ensures takes { TakesNothing self.old self.new }
     {
         let objects = &self.objects;
         let processes = self.processes.as_slice();
@@ -41,7 +41,8 @@ impl Tables {
     // The notice that is missing of the object of an index is made on its owner's list.
     fn notify_at(&mut self, k: usize)
         requires { 1 ≤ work_room self.old.calls }
-        ensures stands { (n : ℕ) (s : Space) → StandsAt n self.old (notified s k) → StandsAt n self.new (notified s (k + 1)) }
+        ensures stands { (n : ℕ) (s : Space) → StandsAt n self.old (notified s k)
+            → StandsAt n self.new (notified s (k + 1)) }
         ensures takes { Takes self.old self.new 0 0 0 1 }
     {
         if let Some(x) = self.objects.object_at(k) {
@@ -54,7 +55,7 @@ impl Tables {
     // Each notice that is missing is made on its owner's list.
     fn notify(&mut self)
         requires { object_count self.old.objects ≤ work_room self.old.calls }
-        ensures stands { (s : Space) → Within self.old s → Within self.new (notify s) }
+        ensures stands { MakesWithin self.old self.new notify }
         ensures takes { Takes self.old self.new 0 0 0 (object_count self.old.objects) }
     {
         for k in 0..self.objects.object_count() {
@@ -65,7 +66,7 @@ impl Tables {
     /// Names, objects, death notifications and notices follow from a change.
     pub(crate) fn follow(&mut self)
         requires { object_count self.old.objects ≤ work_room self.old.calls }
-        ensures stands { (s : Space) → Within self.old s → Within self.new (follow s) }
+        ensures stands { MakesWithin self.old self.new follow }
         ensures takes { Takes self.old self.new 0 0 0 (object_count self.old.objects) }
     {
         self.shed();
@@ -76,7 +77,7 @@ impl Tables {
     /// Abandoned calls close.
     pub(crate) fn settle(&mut self)
         requires { frame_count self.old.calls ≤ work_room self.old.calls }
-        ensures stands { (s : Space) → Within self.old s → Within self.new (settle s) }
+        ensures stands { MakesWithin self.old self.new settle }
         ensures takes { Takes self.old self.new 0 0 0 (frame_count self.old.calls) }
     {
         self.calls.settle(self.steps);
@@ -85,7 +86,7 @@ impl Tables {
     // One-way calls that are ripe become due.
     fn ripen(&mut self)
         requires { turn_count self.old.calls ≤ work_room self.old.calls }
-        ensures stands { (s : Space) → Within self.old s → Within self.new (ripen s) }
+        ensures stands { MakesWithin self.old self.new ripen }
         ensures takes { Takes self.old self.new 0 0 0 (turn_count self.old.calls) }
     {
         self.calls.ripen(self.steps);
@@ -94,8 +95,9 @@ impl Tables {
     /// All that follows from an accepted command's change.
     pub(crate) fn complete(&mut self)
         requires { CanFollow self.old 0 }
-        ensures stands { (s : Space) → Within self.old s → Within self.new (completed s) }
-        ensures takes { Takes self.old self.new 0 0 0 (turn_count self.old.calls + object_count self.old.objects + frame_count self.old.calls) }
+        ensures stands { MakesWithin self.old self.new completed }
+        ensures takes { Takes self.old self.new 0 0 0
+            (turn_count self.old.calls + object_count self.old.objects + frame_count self.old.calls) }
     {
         self.ripen();
         self.follow();

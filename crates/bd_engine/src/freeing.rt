@@ -1,15 +1,14 @@
 //! The step of `BC_FREE_BUFFER`.
 
-ghost use Rattle.std.specs.Prelude.{ℕ, ◌≡◌, Some, IfOk, IfErr, OnErr};
+ghost use Rattle.std.specs.Prelude.{◌≡◌, Some};
 ghost use Rattle.bd_space.specs.declared.space.Process.{Process};
 ghost use Rattle.bd_space.specs.Space.{Space};
 ghost use Rattle.bd_space.specs.Seats.{process_in};
 ghost use Rattle.bd_space.specs.Freeing as freeing;
 ghost use Rattle.bd_space.specs.Outcomes.{completed};
 ghost use Rattle.bd_buffers.specs.Windows.{freed_buffer};
-ghost use Rattle.bd_engine.specs.Stands.{Within, Takes, CanFollow};
-ghost use Rattle.bd_engine.specs.Plain.{answer_of};
-ghost use Rattle.bd_engine.specs.Meets.{Meets, IsBy, IsKept, IsRefused};
+ghost use Rattle.bd_engine.specs.Stands.{Within, CanFollow, MakesWithin, TakesNothing};
+ghost use Rattle.bd_engine.specs.Meets.{IsBy, IsStep};
 
 use crate::plain::Plain;
 use crate::tables::Tables;
@@ -37,8 +36,8 @@ impl Tables {
 
     // The buffer goes, with the references that it held and its turn.
     fn drop_buffer(&mut self, made: u32)
-        ensures stands { (s : Space) → Within self.old s → Within self.new (freeing.without_buffer s made) }
-        ensures takes { Takes self.old self.new 0 0 0 0 }
+        ensures stands { MakesWithin self.old self.new (λ s. freeing.without_buffer s made) }
+        ensures takes { TakesNothing self.old self.new }
     {
         self.windows.free(made);
         self.objects.without_buffer(made);
@@ -48,7 +47,7 @@ impl Tables {
     // The buffer goes, and what follows from that.
     fn lose_buffer(&mut self, made: u32)
         requires { CanFollow self.old 0 }
-        ensures stands { (s : Space) → Within self.old s → Within self.new (completed (freeing.without_buffer s made)) }
+        ensures stands { MakesWithin self.old self.new (λ s. completed (freeing.without_buffer s made)) }
     {
         self.drop_buffer(made);
         self.complete();
@@ -56,9 +55,7 @@ impl Tables {
 
     /// The step by which a process frees a buffer that was handed out to it.
     pub(crate) fn free(&mut self, a: Actor, pointer: u64) -> Result<Plain, Why>
-        ensures ok { IfOk result (λ x. Meets self.old self.new (IsBy a) (λ s. freeing.free_step s a.process.made pointer) (answer_of x)) }
-        ensures err { OnErr result (IsKept self.old self.new) }
-        ensures full { IfErr result (IsRefused self.old (IsBy a) (λ s. freeing.free_step s a.process.made pointer)) }
+        ensures { IsStep self.old self.new (IsBy a) (λ s. freeing.free_step s a.process.made pointer) result }
     {
         let made = match self.free_check(a.process.made, pointer) {
             Ok(made) => made,

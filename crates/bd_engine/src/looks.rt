@@ -1,20 +1,20 @@
 //! What the space of the history holds.
 
-ghost use Rattle.std.specs.Prelude.{ℕ, ◌≡◌};
+ghost use Rattle.std.specs.Prelude.{◌≡◌};
 ghost use Rattle.std.specs.Option.{option_copied};
-ghost use Rattle.bd_space.specs.Space.{Space};
 ghost use Rattle.bd_space.specs.Frames.{serves};
 ghost use Rattle.bd_space.specs.Histories.{space_after};
 ghost use Rattle.bd_space.specs.Returns.{buffer_in};
 ghost use Rattle.bd_engine.specs.Looks as looks;
-ghost use Rattle.bd_engine.specs.Stands.{StandsAt, Within};
+ghost use Rattle.bd_engine.specs.Stands.{Tells};
 
 use crate::engine::Engine;
 use crate::tables::Tables;
 use bd_objects::CarriedObjects;
 use bd_space::{Buffer, ObjectId, Server, TodoList};
 
-fn serves(seat: u32, server: Server) -> bool
+/// The thread of the seat serves by this.
+pub(crate) fn serves(seat: u32, server: Server) -> bool
     ensures { result ≡ serves seat server }
 {
     matches!(server, Server::Serving(t) if t == seat)
@@ -22,7 +22,7 @@ fn serves(seat: u32, server: Server) -> bool
 
 impl Tables {
     pub(crate) fn process_of(&self, seat: u32) -> Option<u32>
-        ensures { (n : ℕ) (s : Space) → StandsAt n self.now s → result ≡ looks.process_of s seat }
+        ensures { Tells self.now result (λ s. looks.process_of s seat) }
     {
         match self.calls.thread(seat) {
             Some(t) => Some(t.process),
@@ -31,7 +31,7 @@ impl Tables {
     }
 
     pub(crate) fn process_of_pid(&self, pid: u32) -> Option<u32>
-        ensures { (n : ℕ) (s : Space) → StandsAt n self.now s → result ≡ looks.process_of_pid s pid }
+        ensures { Tells self.now result (λ s. looks.process_of_pid s pid) }
     {
         match self.process_with_pid(pid) {
             Some(q) => Some(q.made),
@@ -40,7 +40,7 @@ impl Tables {
     }
 
     pub(crate) fn named_by(&self, pid: u32, number: u32) -> Option<ObjectId>
-        ensures { (n : ℕ) (s : Space) → StandsAt n self.now s → result ≡ looks.named_by s pid number }
+        ensures { Tells self.now result (λ s. looks.named_by s pid number) }
     {
         match self.process_with_pid(pid) {
             Some(q) => self.objects.named(q.made, number),
@@ -49,7 +49,7 @@ impl Tables {
     }
 
     pub(crate) fn owner_of_object(&self, o: ObjectId) -> Option<u32>
-        ensures { (n : ℕ) (s : Space) → StandsAt n self.now s → result ≡ looks.owner_of s o }
+        ensures { Tells self.now result (λ s. looks.owner_of s o) }
     {
         match self.objects.object(o) {
             Some(x) => Some(x.owner),
@@ -58,7 +58,7 @@ impl Tables {
     }
 
     pub(crate) fn innermost_of(&self, seat: u32) -> Option<(u32, bool)>
-        ensures { (n : ℕ) (s : Space) → StandsAt n self.now s → result ≡ looks.innermost_of s seat }
+        ensures { Tells self.now result (λ s. looks.innermost_of s seat) }
     {
         match self.calls.innermost(seat) {
             Some(f) => Some((f.made, serves(seat, f.server))),
@@ -67,13 +67,13 @@ impl Tables {
     }
 
     pub(crate) fn first_reply_of(&self, seat: u32) -> Option<u32>
-        ensures { (n : ℕ) (s : Space) → StandsAt n self.now s → result ≡ looks.first_reply s seat }
+        ensures { Tells self.now result (λ s. looks.first_reply s seat) }
     {
         self.calls.first_reply(TodoList::OfThread(seat))
     }
 
     pub(crate) fn is_known_to(&self, process: u32, o: ObjectId) -> bool
-        ensures { (n : ℕ) (s : Space) → StandsAt n self.now s → result ≡ looks.knows s process o }
+        ensures { Tells self.now result (λ s. looks.knows s process o) }
     {
         self.objects.number_of(process, o).is_some()
     }

@@ -1,14 +1,13 @@
 //! The steps that open a process, attach a thread, and make the context manager.
 
-ghost use Rattle.std.specs.Prelude.{ℕ, ◌≡◌, ◌≤◌, ◌<◌, true, [], IfOk, IfErr, OnOk, OnErr, None, vec_len, vec_capacity};
+ghost use Rattle.std.specs.Prelude.{◌≡◌, ◌≤◌, ◌<◌, true, [], IfOk, OnOk, None, vec_len, vec_capacity};
 ghost use Rattle.bd_space.specs.Space.{Space};
 ghost use Rattle.bd_space.specs.Steps as steps;
 ghost use Rattle.bd_objects.specs.Room.{object_room, reference_room};
 ghost use Rattle.bd_calls.specs.Room.{thread_room};
 ghost use Rattle.bd_buffers.specs.WindowsStand.{Stands, window_room};
-ghost use Rattle.bd_engine.specs.Stands.{StandsAt, Before, Within};
-ghost use Rattle.bd_engine.specs.Plain.{answer_of};
-ghost use Rattle.bd_engine.specs.Meets.{Meets, IsAny, IsBy, IsKept, IsRefused};
+ghost use Rattle.bd_engine.specs.Stands.{Before, Within, TellsBefore, Makes};
+ghost use Rattle.bd_engine.specs.Meets.{IsAny, IsBy, IsKept, IsStep};
 
 use crate::plain::Plain;
 use crate::tables::Tables;
@@ -32,7 +31,7 @@ fn is_window(window: u32) -> bool
 
 impl Tables {
     fn open_fault(&self, seat: u32, pid: u32, window: u32) -> Option<Fault>
-        ensures fault { (s : Space) → Before self.now s → result ≡ steps.open_fault s seat pid window }
+        ensures fault { TellsBefore self.now result (λ s. steps.open_fault s seat pid window) }
         ensures window { result ≡ None → steps.is_window window ≡ true }
         ensures pid { result ≡ None → steps.is_pid pid ≡ true }
     {
@@ -56,7 +55,8 @@ impl Tables {
         requires processes { vec_len self.old.processes.list < vec_capacity self.old.processes.list }
         requires windows { 1 ≤ window_room self.old.windows }
         requires pid { steps.is_pid pid ≡ true }
-        ensures stands { (s : Space) → Before self.old s → Stands window size [] → Within self.new (steps.with_process s pid euid size) }
+        ensures stands { (s : Space) → Before self.old s → Stands window size []
+            → Within self.new (steps.with_process s pid euid size) }
         ensures threads { thread_room self.new.calls ≡ thread_room self.old.calls }
     {
         self.processes.add(Process {
@@ -71,7 +71,7 @@ impl Tables {
     // A thread comes in.
     fn with_thread(&mut self, seat: u32, process: u32)
         requires { 1 ≤ thread_room self.old.calls }
-        ensures stands { (n : ℕ) (s : Space) → StandsAt n self.old s → StandsAt n self.new (steps.with_thread s seat process) }
+        ensures stands { Makes self.old self.new (λ s. steps.with_thread s seat process) }
     {
         self.calls.add_thread(self.steps, seat, process);
     }
@@ -93,9 +93,7 @@ impl Tables {
 
     /// The step that opens a process with one thread.
     pub(crate) fn open(&mut self, seat: u32, pid: u32, euid: u32, size: u32) -> Result<Plain, Why>
-        ensures ok { IfOk result (λ x. Meets self.old self.new IsAny (λ s. steps.open_step s seat pid euid size) (answer_of x)) }
-        ensures err { OnErr result (IsKept self.old self.new) }
-        ensures full { IfErr result (IsRefused self.old IsAny (λ s. steps.open_step s seat pid euid size)) }
+        ensures { IsStep self.old self.new IsAny (λ s. steps.open_step s seat pid euid size) result }
     {
         if let Some(fault) = self.open_fault(seat, pid, size) {
             return Ok(Plain::Refused(fault));
@@ -110,9 +108,7 @@ impl Tables {
 
     /// The step that makes the seat a further thread of a live process.
     pub(crate) fn attach(&mut self, seat: u32, pid: u32) -> Result<Plain, Why>
-        ensures ok { IfOk result (λ x. Meets self.old self.new IsAny (λ s. steps.attach_step s seat pid) (answer_of x)) }
-        ensures err { OnErr result (IsKept self.old self.new) }
-        ensures full { IfErr result (IsRefused self.old IsAny (λ s. steps.attach_step s seat pid)) }
+        ensures { IsStep self.old self.new IsAny (λ s. steps.attach_step s seat pid) result }
     {
         if self.calls.thread(seat).is_some() {
             return Ok(Plain::Refused(Fault::HasProcess));
@@ -129,7 +125,7 @@ impl Tables {
 
     // Whether there is a context manager, or the process has an object with ptr 0.
     fn is_manager_busy(&self, p: u32) -> bool
-        ensures { (s : Space) → Before self.now s → result ≡ steps.is_manager_busy s p }
+        ensures { TellsBefore self.now result (λ s. steps.is_manager_busy s p) }
     {
         self.manager.is_some() || self.objects.own_with_ptr(p, 0).is_some()
     }
@@ -138,7 +134,7 @@ impl Tables {
     fn with_manager(&mut self, p: u32)
         requires objects { 1 ≤ object_room self.old.objects }
         requires references { 1 ≤ reference_room self.old.objects }
-        ensures stands { (n : ℕ) (s : Space) → StandsAt n self.old s → StandsAt n self.new (steps.with_manager s p) }
+        ensures stands { Makes self.old self.new (λ s. steps.with_manager s p) }
     {
         self.objects.with_manager(self.steps, p);
         self.manager = Some(ObjectId {
@@ -149,9 +145,7 @@ impl Tables {
 
     /// The step that makes the process the context manager.
     pub(crate) fn set_manager(&mut self, a: Actor) -> Result<Plain, Why>
-        ensures ok { IfOk result (λ x. Meets self.old self.new (IsBy a) (λ s. steps.manager_step s a) (answer_of x)) }
-        ensures err { OnErr result (IsKept self.old self.new) }
-        ensures full { IfErr result (IsRefused self.old (IsBy a) (λ s. steps.manager_step s a)) }
+        ensures { IsStep self.old self.new (IsBy a) (λ s. steps.manager_step s a) result }
     {
         if self.is_manager_busy(a.process.made) {
             return Ok(Plain::Refused(Fault::ManagerBusy));

@@ -1,6 +1,6 @@
 //! The live processes.
 
-ghost use Rattle.std.specs.Prelude.{◌≡◌, ◌==◌, ◌<◌, ◌++◌, ◌∷◌, [], true, not, find, filter, IfSome, OnOk, vec_len, vec_capacity};
+ghost use Rattle.std.specs.Prelude.{◌≡◌, ◌==◌, ◌<◌, ◌++◌, ◌∷◌, [], true, not, filter, IfSome, OnOk, vec_len, vec_capacity};
 ghost use Rattle.std.specs.List.{list_all};
 ghost use Rattle.bd_space.specs.Seats as seats;
 ghost use Rattle.bd_space.specs.Steps.{is_pid};

@@ -1,6 +1,6 @@
 //! The step that reads.
 
-ghost use Rattle.std.specs.Prelude.{ℕ, ◌≡◌, ◌+◌, ◌-◌, ◌*◌, ◌≤◌, ◌++◌, ◌∷◌, [], map, false, None, Some, length, option_map, IfOk, IfErr, IfSome, OnOk, OnErr, not, nat_lt};
+ghost use Rattle.std.specs.Prelude.{◌≡◌, ◌+◌, ◌-◌, ◌*◌, ◌≤◌, ◌++◌, ◌∷◌, [], map, false, None, Some, length, option_map, IfOk, IfSome, OnOk, OnErr, nat_lt};
 ghost use Rattle.std.specs.Option.{option_copied};
 ghost use Rattle.bd_uapi.specs.declared.command.Return.TheVariants.{Noop};
 ghost use Rattle.bd_codec.specs.Spelling.{return_bytes};
@@ -13,8 +13,8 @@ ghost use Rattle.bd_space.specs.Returns as returns;
 ghost use Rattle.bd_buffers.specs.WindowsStand.{made_of_buffer};
 ghost use Rattle.bd_objects.specs.Room.{reference_room, object_count};
 ghost use Rattle.bd_calls.specs.Room.{work_room};
-ghost use Rattle.bd_engine.specs.Stands.{StandsAt, Before, Within, Takes};
-ghost use Rattle.bd_engine.specs.Meets.{Meets, IsAny, IsBy, IsKept, IsRefused};
+ghost use Rattle.bd_engine.specs.Stands.{Before, Within, TellsBefore, TellsWithin, TakesNothing};
+ghost use Rattle.bd_engine.specs.Meets.{Meets, IsAny, IsBy, IsKept, IsStepTwice};
 ghost use Rattle.bd_engine.specs.Taking.{AreTaken};
 
 use crate::plain::{Plain, Twice};
@@ -64,6 +64,34 @@ fn handed_by(works: &[Work]) -> Option<u32>
     None
 }
 
+// Where the buffer was made.
+fn made_of(buffer: Option<&Buffer>) -> Option<u32>
+    ensures { result ≡ option_map made_of_buffer (option_copied buffer) }
+{
+    match buffer {
+        Some(b) => Some(b.made),
+        None => None,
+    }
+}
+
+// The answer of a read: the bytes, and copies of the data and offsets that are handed over.
+fn got(alloc: Global, buffer: Option<&Buffer>, stream: Vec<u8>) -> Result<StepAnswer, AllocError>
+    ensures { IfOk result (λ answer. answer ≡ spec.got stream.items (option_copied buffer)) }
+{
+    match buffer {
+        Some(b) => Ok(StepAnswer::Got {
+            stream: Bytes::new(stream),
+            bytes: b.bytes.copied()?,
+            offsets: b.offsets.copied()?,
+        }),
+        None => Ok(StepAnswer::Got {
+            stream: Bytes::new(stream),
+            bytes: Bytes::new(Vec::new(alloc)),
+            offsets: Bytes::new(Vec::new(alloc)),
+        }),
+    }
+}
+
 // Nothing is taken yet.
 fn begin(alloc: Global) -> Result<Taking, AllocError>
     ensures works { IfOk result (λ t. t.works.items ≡ []) }
@@ -91,8 +119,11 @@ impl Taking {
 impl Tables {
     // The list that a thread reads, if anything is on it.
     fn list_to_read(&self, thread: &Thread) -> Option<TodoList>
-        ensures some { IfSome result (λ list. (s : Space) → Before self.now s → todo.list_to_read s thread.now ≡ todo.work_on s.todo (Some list)) }
-        ensures filled { IfSome result (λ list. (s : Space) → Before self.now s → spec.is_empty (todo.list_to_read s thread.now) ≡ false) }
+        ensures some { IfSome result
+            (λ list. (s : Space) → Before self.now s
+            → todo.list_to_read s thread.now ≡ todo.work_on s.todo (Some list)) }
+        ensures filled { IfSome result
+            (λ list. (s : Space) → Before self.now s → spec.is_empty (todo.list_to_read s thread.now) ≡ false) }
         ensures none { result ≡ None → (s : Space) → Before self.now s → todo.list_to_read s thread.now ≡ [] }
     {
         match self.calls.reads(thread) {
@@ -107,7 +138,8 @@ impl Tables {
     // One work item more is taken.
     fn take_one(&self, work: Work, taking: &mut Taking) -> Result<(), AllocError>
         ensures works { OnOk result (taking.new.works.items ≡ taking.old.works.items ++ work ∷ []) }
-        ensures stream { OnOk result ((s : Space) → Before self.now s → taking.new.stream.items ≡ taking.old.stream.items ++ returns.bytes_read s work) }
+        ensures stream { OnOk result
+            (TellsBefore self.now taking.new.stream.items (λ s. taking.old.stream.items ++ returns.bytes_read s work)) }
     {
         self.append_work(work.kind, &mut taking.stream)?;
         taking.works.push(work)?;
@@ -116,7 +148,9 @@ impl Tables {
 
     // What a read takes off a list: item after item, while at least 68 bytes are left and none ends the read.
     fn take(&self, list: TodoList, limit: u32) -> Result<Taking, AllocError>
-        ensures { IfOk result (λ t. (s : Space) → Before self.now s → AreTaken s limit (todo.work_on s.todo (Some list)) t.works.items t.stream.items) }
+        ensures { IfOk result
+            (λ t. (s : Space) → Before self.now s
+            → AreTaken s limit (todo.work_on s.todo (Some list)) t.works.items t.stream.items) }
     {
         let mut taking = begin(self.alloc)?;
         for k in 0..usize::MAX {
@@ -137,39 +171,11 @@ impl Tables {
 
     // The buffer that is handed over by reading these.
     fn buffer_taken(&self, works: &[Work]) -> Option<&Buffer>
-        ensures { (s : Space) → Within self.now s → option_copied result ≡ read_items.buffer_taken s works.now }
+        ensures { TellsWithin self.now (option_copied result) (λ s. read_items.buffer_taken s works.now) }
     {
         match handed_by(works) {
             Some(made) => self.windows.buffer(made),
             None => None,
-        }
-    }
-
-    // Where that buffer was made.
-    fn made_taken(&self, works: &[Work]) -> Option<u32>
-        ensures { (s : Space) → Within self.now s → result ≡ option_map made_of_buffer (read_items.buffer_taken s works.now) }
-    {
-        match self.buffer_taken(works) {
-            Some(b) => Some(b.made),
-            None => None,
-        }
-    }
-
-    // The answer of a read: the bytes, and copies of the data and offsets that are handed over.
-    fn got(&self, works: &[Work], stream: Vec<u8>) -> Result<StepAnswer, AllocError>
-        ensures { IfOk result (λ answer. (s : Space) → Within self.now s → answer ≡ spec.got stream.items (read_items.buffer_taken s works.now)) }
-    {
-        match self.buffer_taken(works) {
-            Some(b) => Ok(StepAnswer::Got {
-                stream: Bytes::new(stream),
-                bytes: b.bytes.copied()?,
-                offsets: b.offsets.copied()?,
-            }),
-            None => Ok(StepAnswer::Got {
-                stream: Bytes::new(stream),
-                bytes: Bytes::new(Vec::new(self.alloc)),
-                offsets: Bytes::new(Vec::new(self.alloc)),
-            }),
         }
     }
 
@@ -183,13 +189,13 @@ impl Tables {
         self.reserve(0, references, 0, 0)
     }
 
-    // The thread of a seat has read these work items.
-    fn read_by(&mut self, seat: u32, works: &[Work])
+    // The thread of a seat has read these work items, by which the buffer made there is handed over.
+    fn read_by(&mut self, seat: u32, works: &[Work], made: Option<u32>)
         requires { 2 * length works.now ≤ reference_room self.old.objects }
-        ensures stands { (s : Space) → Within self.old s → Within self.new (read_items.read_by s seat works.now) }
-        ensures takes { Takes self.old self.new 0 0 0 0 }
+        ensures stands { (s : Space) → Within self.old s → made ≡ option_map made_of_buffer (read_items.buffer_taken s works.now)
+            → Within self.new (read_items.read_by s seat works.now) }
+        ensures takes { TakesNothing self.old self.new }
     {
-        let made = self.made_taken(works);
         self.objects.read_by(self.steps, works);
         self.calls.read_by(seat, works);
         self.windows.hand_out(made);
@@ -197,25 +203,26 @@ impl Tables {
 
     // The thread of a seat reads a list.
     fn read_list(&mut self, seat: u32, list: TodoList, limit: u32) -> Result<Twice, AllocError>
-        ensures ok { IfOk result (λ x. Meets self.old self.new IsAny (λ s. spec.read_taking s seat (read_items.taken s (limit - 4) (todo.work_on s.todo (Some list)))) x.answer) }
+        ensures ok { IfOk result
+            (λ x. Meets self.old self.new IsAny
+            (λ s. spec.read_taking s seat (read_items.taken s (limit - 4) (todo.work_on s.todo (Some list)))) x.answer) }
         ensures twice { IfOk result (λ x. x.again ≡ x.answer) }
         ensures err { OnErr result (IsKept self.old self.new) }
     {
         let Taking { works, stream } = self.take(list, limit)?;
-        let answer = self.got(works.as_slice(), stream)?;
+        let buffer = self.buffer_taken(works.as_slice());
+        let made = made_of(buffer);
+        let answer = got(self.alloc, buffer, stream)?;
         let again = answer.copied()?;
         self.reserve_read(works.len())?;
-        self.read_by(seat, works.as_slice());
+        self.read_by(seat, works.as_slice(), made);
         self.follow();
         Ok(Twice { answer, again })
     }
 
     /// The step that reads.
     pub(crate) fn read(&mut self, a: Actor, limit: u32) -> Result<Twice, Why>
-        ensures ok { IfOk result (λ x. Meets self.old self.new (IsBy a) (λ s. spec.read_step s a limit) x.answer) }
-        ensures twice { IfOk result (λ x. x.again ≡ x.answer) }
-        ensures err { OnErr result (IsKept self.old self.new) }
-        ensures full { IfErr result (IsRefused self.old (IsBy a) (λ s. spec.read_step s a limit)) }
+        ensures { IsStepTwice self.old self.new (IsBy a) (λ s. spec.read_step s a limit) result }
     {
         if limit < 72 {
             return Ok(Plain::Refused(Fault::ReadTooSmall).twice());

@@ -1,6 +1,6 @@
 //! The step of BC_REPLY.
 
-ghost use Rattle.std.specs.Prelude.{ℕ, ◌≡◌, ◌≤◌, Some, true, IfOk, IfErr, IfSome, OnOk, OnErr};
+ghost use Rattle.std.specs.Prelude.{ℕ, ◌≡◌, ◌≤◌, Some, IfOk, IfErr, IfSome, OnOk, OnErr};
 ghost use Rattle.bd_space.specs.Space.{Space};
 ghost use Rattle.bd_space.specs.Seats.{process_in};
 ghost use Rattle.bd_space.specs.declared.space.TodoList.TheVariants.{OfThread};
@@ -11,9 +11,8 @@ ghost use Rattle.bd_space.specs.Names.{names_go, has_number_past_limit};
 ghost use Rattle.bd_space.specs.Outcomes as outcomes;
 ghost use Rattle.bd_space.specs.Replies as spec;
 ghost use Rattle.bd_calls.specs.Room.{work_room};
-ghost use Rattle.bd_engine.specs.Stands.{StandsAt, Before, Within, CanFollow};
-ghost use Rattle.bd_engine.specs.Plain.{answer_of};
-ghost use Rattle.bd_engine.specs.Meets.{Meets, IsAny, IsBy, IsKept, IsRefused};
+ghost use Rattle.bd_engine.specs.Stands.{StandsAt, CanFollow, Tells, TellsBefore, Makes, Begins, PassesLimit};
+ghost use Rattle.bd_engine.specs.Meets.{IsAny, IsBy, IsKept, IsStep};
 ghost use Rattle.bd_engine.specs.Deliveries.{IsDeliverable, IsReady, Spends};
 
 use crate::delivery::Delivery;
@@ -28,8 +27,9 @@ use std::alloc::AllocError;
 impl Tables {
     // The live thread that made the call, and its process.
     fn caller_of(&self, f: &Frame) -> Option<Actor>
-        ensures caller { (n : ℕ) (s : Space) → StandsAt n self.now s → result ≡ spec.caller_of s f.now }
-        ensures lives { (n : ℕ) (s : Space) → StandsAt n self.now s → IfSome result (λ c. process_in s.processes c.process.made ≡ Some c.process) }
+        ensures caller { Tells self.now result (λ s. spec.caller_of s f.now) }
+        ensures lives { (n : ℕ) (s : Space) → StandsAt n self.now s
+            → IfSome result (λ c. process_in s.processes c.process.made ≡ Some c.process) }
     {
         match f.caller {
             None => None,
@@ -45,7 +45,8 @@ impl Tables {
         parcel: &Option<Parcel>,
         f: &Frame,
     ) -> Result<Result<Delivery, Cause>, AllocError>
-        ensures computed { IfOk result (λ r. (s : Space) → Before self.now s → r ≡ spec.reply_check s a d.now parcel.now f.now) }
+        ensures computed { IfOk result
+            (λ r. TellsBefore self.now r (λ s. spec.reply_check s a d.now parcel.now f.now)) }
         ensures deliverable { IfOk result (λ r. IfOk r (IsDeliverable self.now d.now)) }
     {
         match self.caller_of(f) {
@@ -57,8 +58,9 @@ impl Tables {
     // The frame closes, the thread reads that its reply was taken, and the caller has a reply to read.
     fn answered(&mut self, seat: u32, f: Frame)
         requires { 2 ≤ work_room self.old.calls }
-        ensures stands { (n : ℕ) (s : Space) → StandsAt n self.old s → StandsAt n self.new
-            (todo.tell_caller (todo.owe (frames.closed s f.made) (OfThread seat) kinds.Complete) f (kinds.Reply s.steps)) }
+        ensures stands { Makes self.old self.new
+            (λ s. todo.tell_caller (todo.owe (frames.closed s f.made) (OfThread seat) kinds.Complete) f
+            (kinds.Reply s.steps)) }
         ensures spends { Spends self.old self.new 0 0 0 2 }
     {
         self.close(f.made);
@@ -70,9 +72,9 @@ impl Tables {
     fn replied(&mut self, a: Actor, d: &TransactionData, f: Frame, v: Delivery) -> Result<(), Why>
         requires deliverable { IsDeliverable self.old d.now v }
         requires ready { IsReady self.old v }
-        ensures ok { OnOk result ((s : Space) → Before self.old s → Within self.new (spec.replied s a d.now f v)) }
+        ensures ok { OnOk result (Begins self.old self.new (λ s. spec.replied s a d.now f v)) }
         ensures err { OnErr result (IsKept self.old self.new) }
-        ensures full { OnErr result ((s : Space) → Before self.old s → has_number_past_limit (names_go (spec.replied s a d.now f v)).names ≡ true) }
+        ensures full { OnErr result (PassesLimit self.old (λ s. names_go (spec.replied s a d.now f v))) }
         ensures follow { OnOk result (CanFollow self.new 0) }
         // There is room by then, so that nothing else is a reason.
         ensures limit { IfErr result (λ why. why ≡ Why.HistoryFull) }
@@ -89,9 +91,7 @@ impl Tables {
     // The step of a reply that nothing stands against.
     fn answer(&mut self, a: Actor, d: &TransactionData, f: Frame, v: Delivery) -> Result<Plain, Why>
         requires { IsDeliverable self.old d.now v }
-        ensures ok { IfOk result (λ x. Meets self.old self.new IsAny (λ s. outcomes.accepted (spec.replied s a d.now f v)) (answer_of x)) }
-        ensures err { OnErr result (IsKept self.old self.new) }
-        ensures full { IfErr result (IsRefused self.old IsAny (λ s. outcomes.accepted (spec.replied s a d.now f v))) }
+        ensures { IsStep self.old self.new IsAny (λ s. outcomes.accepted (spec.replied s a d.now f v)) result }
     {
         if self.make_ready(&v).is_err() {
             return Err(Why::NoMemory);
@@ -108,7 +108,7 @@ impl Tables {
     // A refused reply closes the frame too, and a caller that lives is told.
     fn refuse_reply(&mut self, seat: u32, f: Frame)
         requires { 2 ≤ work_room self.old.calls }
-        ensures stands { (n : ℕ) (s : Space) → StandsAt n self.old s → StandsAt n self.new (spec.reply_refused s seat f) }
+        ensures stands { Makes self.old self.new (λ s. spec.reply_refused s seat f) }
         ensures spends { Spends self.old self.new 0 0 0 2 }
     {
         self.owe(seat, WorkKind::Refusal(Return::TransactionComplete));
@@ -118,8 +118,8 @@ impl Tables {
 
     // The step of a reply that this cause stands against.
     fn stop_reply(&mut self, seat: u32, cause: Cause, f: Frame) -> Result<Plain, Why>
-        ensures ok { IfOk result (λ x. Meets self.old self.new IsAny (λ s. outcomes.stopped cause (spec.reply_refused s seat f)) (answer_of x)) }
-        ensures err { OnErr result (IsKept self.old self.new) }
+        ensures step { IsStep self.old self.new IsAny
+            (λ s. outcomes.stopped cause (spec.reply_refused s seat f)) result }
         ensures memory { IfErr result (λ why. why ≡ Why.NoMemory) }
     {
         if self.reserve(0, 0, 0, 2).is_err() {
@@ -138,9 +138,7 @@ impl Tables {
         parcel: &Option<Parcel>,
         f: Frame,
     ) -> Result<Plain, Why>
-        ensures ok { IfOk result (λ x. Meets self.old self.new IsAny (λ s. spec.reply_to s a d.now parcel.now (Some f)) (answer_of x)) }
-        ensures err { OnErr result (IsKept self.old self.new) }
-        ensures full { IfErr result (IsRefused self.old IsAny (λ s. spec.reply_to s a d.now parcel.now (Some f))) }
+        ensures { IsStep self.old self.new IsAny (λ s. spec.reply_to s a d.now parcel.now (Some f)) result }
     {
         match self.reply_check(a, d, parcel, &f) {
             Err(_) => Err(Why::NoMemory),
@@ -156,9 +154,7 @@ impl Tables {
         d: &TransactionData,
         parcel: &Option<Parcel>,
     ) -> Result<Plain, Why>
-        ensures ok { IfOk result (λ x. Meets self.old self.new (IsBy a) (λ s. spec.reply_step s a d.now parcel.now) (answer_of x)) }
-        ensures err { OnErr result (IsKept self.old self.new) }
-        ensures full { IfErr result (IsRefused self.old (IsBy a) (λ s. spec.reply_step s a d.now parcel.now)) }
+        ensures { IsStep self.old self.new (IsBy a) (λ s. spec.reply_step s a d.now parcel.now) result }
     {
         match self.calls.served_innermost(a.thread.seat) {
             None => self.stop(a.thread.seat, Cause::NoCall, Return::FailedReply),

@@ -1,10 +1,8 @@
 //! What a work item gives to be read: its returns, and their bytes.
 
-ghost use Rattle.std.specs.Prelude.{ℕ, pos, true, ◌≡◌, ◌+◌, ◌*◌, ◌/◌, ◌≤◌, ◌++◌, ◌∷◌, [], find, map, length, option_and_then, option_map, unwrap_or, IfSome, OnOk};
+ghost use Rattle.std.specs.Prelude.{pos, true, ◌≡◌, ◌+◌, ◌*◌, ◌/◌, ◌≤◌, ◌++◌, [], find, map, length, option_and_then, option_map, unwrap_or, IfSome, OnOk};
 ghost use Rattle.std.specs.List.{flat_map, concat};
-ghost use Rattle.std.specs.Option.{option_copied};
 ghost use Rattle.bd_codec.specs.Spelling.{return_bytes};
-ghost use Rattle.bd_space.specs.Space.{Space};
 ghost use Rattle.bd_space.specs.Words.{round_up as rounded};
 ghost use Rattle.bd_space.specs.Seats as seats;
 ghost use Rattle.bd_space.specs.Frames.{is_frame};
@@ -13,7 +11,7 @@ ghost use Rattle.bd_space.specs.Returns as spec;
 ghost use Rattle.bd_space.specs.Steps.{is_pid};
 ghost use Rattle.bd_space.specs.declared.space.WorkKind.TheVariants as work;
 ghost use Rattle.bd_buffers.specs.WindowsStand.{IsInWindow};
-ghost use Rattle.bd_engine.specs.Stands.{Before};
+ghost use Rattle.bd_engine.specs.Stands.{TellsBefore};
 
 use crate::tables::Tables;
 use bd_codec::write_return;
@@ -77,7 +75,7 @@ fn offsets_start(b: &Buffer) -> u64
 impl Tables {
     // The seat of the thread that called, if the call is two-way and the thread still lives.
     fn waiting_seat(&self, made: u32) -> Option<u32>
-        ensures { (s : Space) → Before self.now s → result ≡ option_and_then (λ f. f.caller) (find (is_frame made) s.frames) }
+        ensures { TellsBefore self.now result (λ s. option_and_then (λ f. f.caller) (find (is_frame made) s.frames)) }
     {
         match self.calls.frame(made) {
             Some(frame) => frame.caller,
@@ -87,8 +85,8 @@ impl Tables {
 
     // That thread, with its process.
     fn waiting_actor(&self, made: u32) -> Option<Actor>
-        ensures found { (s : Space) → Before self.now s
-            → result ≡ option_and_then (seats.actor s) (option_and_then (λ f. f.caller) (find (is_frame made) s.frames)) }
+        ensures found { TellsBefore self.now result
+            (λ s. option_and_then (seats.actor s) (option_and_then (λ f. f.caller) (find (is_frame made) s.frames))) }
         ensures pid { IfSome result (λ a. is_pid a.process.pid ≡ true) }
     {
         match self.waiting_seat(made) {
@@ -100,7 +98,7 @@ impl Tables {
     // Its pid, else 0.
     #[tactic(auto, unfolding(bd_space::specs::Returns::sender_pid))]
     fn sender_pid(&self, made: u32) -> u32
-        ensures found { (s : Space) → Before self.now s → result ≡ spec.sender_pid s made }
+        ensures found { TellsBefore self.now result (λ s. spec.sender_pid s made) }
         ensures fits { result ≤ 2147483647 }
     {
         match self.waiting_actor(made) {
@@ -111,7 +109,7 @@ impl Tables {
 
     // The object that a call is on, if it is one.
     fn called_object(&self, b: &Buffer) -> Option<Object>
-        ensures { (s : Space) → Before self.now s → result ≡ spec.target_in s.objects b.now }
+        ensures { TellsBefore self.now result (λ s. spec.target_in s.objects b.now) }
     {
         match b.target {
             Some(o) => self.objects.object(o),
@@ -121,8 +119,10 @@ impl Tables {
 
     // The ptr and the cookie of that object, else 0.
     fn called_words(&self, b: &Buffer) -> (u64, u64)
-        ensures target { (s : Space) → Before self.now s → result.0 ≡ unwrap_or (option_map (λ o. o.ptr) (spec.target_in s.objects b.now)) 0 }
-        ensures cookie { (s : Space) → Before self.now s → result.1 ≡ unwrap_or (option_map (λ o. o.cookie) (spec.target_in s.objects b.now)) 0 }
+        ensures target { TellsBefore self.now result.0
+            (λ s. unwrap_or (option_map (λ o. o.ptr) (spec.target_in s.objects b.now)) 0) }
+        ensures cookie { TellsBefore self.now result.1
+            (λ s. unwrap_or (option_map (λ o. o.cookie) (spec.target_in s.objects b.now)) 0) }
     {
         match self.called_object(b) {
             Some(o) => (o.ptr, o.cookie),
@@ -134,7 +134,7 @@ impl Tables {
     #[tactic(auto, unfolding(bd_space::specs::Returns::record_of))]
     fn record_of(&self, b: &Buffer) -> TransactionData
         requires { IsInWindow b.now }
-        ensures { (s : Space) → Before self.now s → result ≡ spec.record_of s b.now }
+        ensures { TellsBefore self.now result (λ s. spec.record_of s b.now) }
     {
         let (target, cookie) = self.called_words(b);
         TransactionData {
@@ -153,7 +153,7 @@ impl Tables {
 
     // The record of the buffer made there, if it lives.
     fn record_at(&self, made: u32) -> Option<TransactionData>
-        ensures { (s : Space) → Before self.now s → result ≡ option_map (spec.record_of s) (spec.buffer_in s.buffers made) }
+        ensures { TellsBefore self.now result (λ s. option_map (spec.record_of s) (spec.buffer_in s.buffers made)) }
     {
         match self.windows.buffer(made) {
             Some(b) => Some(self.record_of(b)),
@@ -164,7 +164,7 @@ impl Tables {
     // A call.
     #[tactic(auto, unfolding(bd_space::specs::Returns::returns_of))]
     fn call_return(&self, made: u32) -> Option<Return>
-        ensures { (s : Space) → Before self.now s → spec.one result ≡ spec.returns_of s (work.Call made) }
+        ensures { TellsBefore self.now (spec.one result) (λ s. spec.returns_of s (work.Call made)) }
     {
         match self.record_at(made) {
             Some(r) => Some(Return::Transaction(r)),
@@ -175,7 +175,7 @@ impl Tables {
     // A reply.
     #[tactic(auto, unfolding(bd_space::specs::Returns::returns_of))]
     fn reply_return(&self, made: u32) -> Option<Return>
-        ensures { (s : Space) → Before self.now s → spec.one result ≡ spec.returns_of s (work.Reply made) }
+        ensures { TellsBefore self.now (spec.one result) (λ s. spec.returns_of s (work.Reply made)) }
     {
         match self.record_at(made) {
             Some(r) => Some(Return::Reply(r)),
@@ -186,7 +186,7 @@ impl Tables {
     // The end of an object's owner.
     #[tactic(auto, unfolding(bd_space::specs::Returns::returns_of))]
     fn death_return(&self, made: u32) -> Option<Return>
-        ensures { (s : Space) → Before self.now s → spec.one result ≡ spec.returns_of s (work.Death made) }
+        ensures { TellsBefore self.now (spec.one result) (λ s. spec.returns_of s (work.Death made)) }
     {
         match self.objects.death(made) {
             Some(x) => Some(Return::DeadBinder(x.cookie)),
@@ -197,7 +197,7 @@ impl Tables {
     // The returns that a work item gives.
     #[tactic(auto, unfolding(bd_space::specs::Returns::returns_of))]
     fn returns_of(&self, kind: WorkKind) -> [Option<Return>; 4]
-        ensures { (s : Space) → Before self.now s → flat_map spec.one result ≡ spec.returns_of s kind }
+        ensures { TellsBefore self.now (flat_map spec.one result) (λ s. spec.returns_of s kind) }
     {
         match kind {
             WorkKind::Notice(o) => self.objects.notice_returns(o),
@@ -213,7 +213,9 @@ impl Tables {
 
     /// Appends the bytes of the returns that a work item gives.
     pub(crate) fn append_work(&self, kind: WorkKind, out: &mut Vec<u8>) -> Result<(), AllocError>
-        ensures { OnOk result ((s : Space) → Before self.now s → out.new.items ≡ out.old.items ++ concat (map return_bytes (spec.returns_of s kind))) }
+        ensures { OnOk result
+            (TellsBefore self.now out.new.items
+            (λ s. out.old.items ++ concat (map return_bytes (spec.returns_of s kind)))) }
     {
         append_returns(&self.returns_of(kind), out)
     }

@@ -1,12 +1,11 @@
 //! Every step of the tables.
 
-ghost use Rattle.std.specs.Prelude.{ℕ, ◌≡◌, IfOk, IfErr, OnErr};
-ghost use Rattle.bd_space.specs.Space.{Space};
+ghost use Rattle.std.specs.Prelude.{◌≡◌};
 ghost use Rattle.bd_space.specs.Seats.{actor};
 ghost use Rattle.bd_space.specs.Steps.{change};
 ghost use Rattle.bd_space.specs.Commands.{command_step};
-ghost use Rattle.bd_engine.specs.Plain.{answer_of, both};
-ghost use Rattle.bd_engine.specs.Meets.{Meets, IsAny, IsBy, IsNobody, IsKept, IsRefused};
+ghost use Rattle.bd_engine.specs.Plain.{both};
+ghost use Rattle.bd_engine.specs.Meets.{IsAny, IsBy, IsNobody, IsStep, IsStepTwice};
 
 use crate::plain::{Plain, Twice};
 use crate::tables::Tables;
@@ -33,9 +32,7 @@ impl Tables {
         command: &Command,
         parcel: &Option<Parcel>,
     ) -> Result<Plain, Why>
-        ensures ok { IfOk result (λ x. Meets self.old self.new (IsBy a) (λ s. command_step s a command.now parcel.now) (answer_of x)) }
-        ensures err { OnErr result (IsKept self.old self.new) }
-        ensures full { IfErr result (IsRefused self.old (IsBy a) (λ s. command_step s a command.now parcel.now)) }
+        ensures { IsStep self.old self.new (IsBy a) (λ s. command_step s a command.now parcel.now) result }
     {
         match command {
             Command::Transaction(d) => self.transaction(a, d, parcel),
@@ -57,10 +54,7 @@ impl Tables {
 
     // The step of a live thread.
     fn change_by(&mut self, a: Actor, step: &Step) -> Result<Twice, Why>
-        ensures ok { IfOk result (λ x. Meets self.old self.new (IsBy a) (λ s. change s a.thread.seat step.now) x.answer) }
-        ensures twice { IfOk result (λ x. x.again ≡ x.answer) }
-        ensures err { OnErr result (IsKept self.old self.new) }
-        ensures full { IfErr result (IsRefused self.old (IsBy a) (λ s. change s a.thread.seat step.now)) }
+        ensures { IsStepTwice self.old self.new (IsBy a) (λ s. change s a.thread.seat step.now) result }
     {
         match step {
             Step::Open { pid, euid, window } => twice(self.open(
@@ -80,9 +74,7 @@ impl Tables {
 
     // The step of a seat without a live thread.
     fn change_alone(&mut self, seat: u32, step: &Step) -> Result<Plain, Why>
-        ensures ok { IfOk result (λ x. Meets self.old self.new (IsNobody seat) (λ s. change s seat step.now) (answer_of x)) }
-        ensures err { OnErr result (IsKept self.old self.new) }
-        ensures full { IfErr result (IsRefused self.old (IsNobody seat) (λ s. change s seat step.now)) }
+        ensures { IsStep self.old self.new (IsNobody seat) (λ s. change s seat step.now) result }
     {
         match step {
             Step::Open { pid, euid, window } => self.open(seat, *pid, *euid, *window),
@@ -93,10 +85,7 @@ impl Tables {
 
     /// The step of a seat.
     pub(crate) fn change(&mut self, seat: u32, step: &Step) -> Result<Twice, Why>
-        ensures ok { IfOk result (λ x. Meets self.old self.new IsAny (λ s. change s seat step.now) x.answer) }
-        ensures twice { IfOk result (λ x. x.again ≡ x.answer) }
-        ensures err { OnErr result (IsKept self.old self.new) }
-        ensures full { IfErr result (IsRefused self.old IsAny (λ s. change s seat step.now)) }
+        ensures { IsStepTwice self.old self.new IsAny (λ s. change s seat step.now) result }
     {
         match self.actor(seat) {
             Some(a) => self.change_by(a, step),

@@ -1,6 +1,6 @@
 //! The tables that a space is kept in, and room in them.
 
-ghost use Rattle.std.specs.Prelude.{◌≡◌, ◌+◌, ◌<◌, ◌≤◌, IfOk, OnOk};
+ghost use Rattle.std.specs.Prelude.{◌≡◌, ◌+◌, ◌<◌, IfOk, OnOk};
 
 use crate::processes::Processes;
 use bd_buffers::Windows;

@@ -1,6 +1,6 @@
 //! The step of BC_TRANSACTION.
 
-ghost use Rattle.std.specs.Prelude.{ℕ, ◌≡◌, ◌≤◌, ◌+◌, Some, None, true, if◌then◌else◌, length, IfOk, IfErr, IfSome, OnOk, OnErr};
+ghost use Rattle.std.specs.Prelude.{ℕ, ◌≡◌, ◌≤◌, ◌&&◌, Some, None, is_some, is_none, option_and_then, if◌then◌else◌, IfOk, IfErr, IfSome, OnOk, OnErr};
 ghost use Rattle.bd_space.specs.Space.{Space};
 ghost use Rattle.bd_space.specs.Seats.{process_in};
 ghost use Rattle.bd_space.specs.declared.space.TodoList.TheVariants.{OfThread};
@@ -8,19 +8,20 @@ ghost use Rattle.bd_space.specs.declared.space.WorkKind.TheVariants as kinds;
 ghost use Rattle.bd_space.specs.Todo as todo;
 ghost use Rattle.bd_space.specs.Names.{names_go, has_number_past_limit};
 ghost use Rattle.bd_space.specs.Outcomes as outcomes;
+ghost use Rattle.bd_space.specs.Frames as frames;
 ghost use Rattle.bd_space.specs.Transactions as spec;
 ghost use Rattle.bd_calls.specs.Room.{work_room, frame_room};
-ghost use Rattle.bd_engine.specs.Stands.{StandsAt, Before, Within, CanFollow};
-ghost use Rattle.bd_engine.specs.Plain.{answer_of};
-ghost use Rattle.bd_engine.specs.Meets.{Meets, IsAny, IsBy, IsKept, IsRefused};
+ghost use Rattle.bd_engine.specs.Stands.{StandsAt, CanFollow, Tells, TellsBefore, Makes, Begins, PassesLimit};
+ghost use Rattle.bd_engine.specs.Meets.{IsAny, IsBy, IsKept, IsStep};
 ghost use Rattle.bd_engine.specs.Deliveries.{IsDeliverable, IsReady, Spends};
 
 use crate::delivery::Delivery;
+use crate::looks::serves;
 use crate::plain::Plain;
 use crate::tables::Tables;
 use crate::why::Why;
 use bd_objects::NumbersFull;
-use bd_space::{Actor, Callee, ObjectId, Parcel, Process, WorkKind};
+use bd_space::{Actor, Callee, Frame, ObjectId, Parcel, Process, WorkKind};
 use bd_uapi::{Cause, Return, TransactionData};
 use std::alloc::AllocError;
 
@@ -37,6 +38,16 @@ fn handle_of(d: &TransactionData) -> u32
     (d.target % 0x1_0000_0000) as u32
 }
 
+// The thread is in a frame, and doesn't serve it.
+fn is_unserved(seat: u32, innermost: Option<Frame>) -> bool
+    ensures { result ≡ (is_some innermost && is_none (option_and_then (frames.if_served seat) innermost)) }
+{
+    match innermost {
+        Some(f) => !serves(seat, f.server),
+        None => false,
+    }
+}
+
 // What is left for the writer of a refused transaction.
 fn refusal(cause: Cause) -> Return
     ensures { result ≡ spec.refusal cause }
@@ -50,7 +61,7 @@ fn refusal(cause: Cause) -> Return
 impl Tables {
     // The context manager's own process may not call its object 0.
     fn not_own(&self, p: u32, o: ObjectId) -> Result<ObjectId, Cause>
-        ensures { (n : ℕ) (s : Space) → StandsAt n self.now s → result ≡ spec.not_own s p o }
+        ensures { Tells self.now result (λ s. spec.not_own s p o) }
     {
         if self.objects.owns(p, o) {
             Err(Cause::OwnManager)
@@ -62,7 +73,7 @@ impl Tables {
     // The object that a handle calls.
     #[tactic(auto, unfolding(bd_space::specs::Transactions::target_of))]
     fn target_of(&self, p: u32, handle: u32) -> Result<ObjectId, Cause>
-        ensures { (n : ℕ) (s : Space) → StandsAt n self.now s → result ≡ spec.target_of s p handle }
+        ensures { Tells self.now result (λ s. spec.target_of s p handle) }
     {
         if handle == 0 {
             match self.manager {
@@ -80,8 +91,9 @@ impl Tables {
     // The live process that owns an object.
     #[tactic(auto, unfolding(bd_space::specs::Transactions::owner_of))]
     fn owner_of(&self, o: ObjectId) -> Option<Process>
-        ensures owner { (n : ℕ) (s : Space) → StandsAt n self.now s → result ≡ spec.owner_of s o }
-        ensures lives { (n : ℕ) (s : Space) → StandsAt n self.now s → IfSome result (λ q. process_in s.processes q.made ≡ Some q) }
+        ensures owner { Tells self.now result (λ s. spec.owner_of s o) }
+        ensures lives { (n : ℕ) (s : Space) → StandsAt n self.now s
+            → IfSome result (λ q. process_in s.processes q.made ≡ Some q) }
     {
         let x = self.objects.object(o)?;
         self.process(x.owner)
@@ -90,8 +102,9 @@ impl Tables {
     // Whom a transaction goes to.
     #[tactic(auto, unfolding(bd_space::specs::Transactions::callee_of))]
     fn callee_of(&self, p: u32, handle: u32) -> Result<Callee, Cause>
-        ensures callee { (n : ℕ) (s : Space) → StandsAt n self.now s → result ≡ spec.callee_of s p handle }
-        ensures lives { (n : ℕ) (s : Space) → StandsAt n self.now s → IfOk result (λ c. process_in s.processes c.process.made ≡ Some c.process) }
+        ensures callee { Tells self.now result (λ s. spec.callee_of s p handle) }
+        ensures lives { (n : ℕ) (s : Space) → StandsAt n self.now s
+            → IfOk result (λ c. process_in s.processes c.process.made ≡ Some c.process) }
     {
         match self.target_of(p, handle) {
             Err(cause) => Err(cause),
@@ -103,11 +116,11 @@ impl Tables {
     }
 
     // Why the thread may not call and wait.
-    #[tactic(auto, unfolding(bd_space::specs::Transactions::caller_cause))]
+    #[tactic(auto, unfolding(bd_space::specs::Transactions::caller_cause, bd_space::specs::Frames::innermost, bd_space::specs::Frames::served_innermost))]
     fn caller_cause(&self, seat: u32) -> Option<Cause>
-        ensures { (n : ℕ) (s : Space) → StandsAt n self.now s → result ≡ spec.caller_cause s seat }
+        ensures { Tells self.now result (λ s. spec.caller_cause s seat) }
     {
-        if self.calls.innermost(seat).is_some() && self.calls.served_innermost(seat).is_none() {
+        if is_unserved(seat, self.calls.innermost(seat)) {
             return Some(Cause::NotServing);
         }
         if self.calls.has_unread(seat) {
@@ -118,7 +131,7 @@ impl Tables {
 
     // Why the thread may not call: a one-way call waits for nothing.
     fn call_cause(&self, seat: u32, one_way: bool) -> Option<Cause>
-        ensures { (n : ℕ) (s : Space) → StandsAt n self.now s → result ≡ (if one_way then None else spec.caller_cause s seat) }
+        ensures { Tells self.now result (λ s. if one_way then None else spec.caller_cause s seat) }
     {
         if one_way {
             None
@@ -134,7 +147,8 @@ impl Tables {
         d: &TransactionData,
         parcel: &Option<Parcel>,
     ) -> Result<Result<Delivery, Cause>, AllocError>
-        ensures computed { IfOk result (λ r. (s : Space) → Before self.now s → r ≡ spec.transaction_check s a d.now parcel.now) }
+        ensures computed { IfOk result
+            (λ r. TellsBefore self.now r (λ s. spec.transaction_check s a d.now parcel.now)) }
         ensures deliverable { IfOk result (λ r. IfOk r (IsDeliverable self.now d.now)) }
     {
         let callee = match self.callee_of(a.process.made, handle_of(d)) {
@@ -152,8 +166,8 @@ impl Tables {
     fn called(&mut self, seat: u32, receiver: u32, one_way: bool)
         requires frames { 1 ≤ frame_room self.old.calls }
         requires works { 2 ≤ work_room self.old.calls }
-        ensures stands { (n : ℕ) (s : Space) → StandsAt n self.old s
-            → StandsAt n self.new (spec.called (todo.owe s (OfThread seat) kinds.Complete) seat receiver one_way) }
+        ensures stands { Makes self.old self.new
+            (λ s. spec.called (todo.owe s (OfThread seat) kinds.Complete) seat receiver one_way) }
         ensures spends { Spends self.old self.new 0 1 0 2 }
     {
         self.owe(seat, WorkKind::Complete);
@@ -166,9 +180,9 @@ impl Tables {
     fn transacted(&mut self, a: Actor, d: &TransactionData, v: Delivery) -> Result<(), Why>
         requires deliverable { IsDeliverable self.old d.now v }
         requires ready { IsReady self.old v }
-        ensures ok { OnOk result ((s : Space) → Before self.old s → Within self.new (spec.transacted s a d.now v)) }
+        ensures ok { OnOk result (Begins self.old self.new (λ s. spec.transacted s a d.now v)) }
         ensures err { OnErr result (IsKept self.old self.new) }
-        ensures full { OnErr result ((s : Space) → Before self.old s → has_number_past_limit (names_go (spec.transacted s a d.now v)).names ≡ true) }
+        ensures full { OnErr result (PassesLimit self.old (λ s. names_go (spec.transacted s a d.now v))) }
         ensures follow { OnOk result (CanFollow self.new 0) }
         // There is room by then, so that nothing else is a reason.
         ensures limit { IfErr result (λ why. why ≡ Why.HistoryFull) }
@@ -187,9 +201,7 @@ impl Tables {
     // The step of a transaction that nothing stands against.
     fn transact(&mut self, a: Actor, d: &TransactionData, v: Delivery) -> Result<Plain, Why>
         requires { IsDeliverable self.old d.now v }
-        ensures ok { IfOk result (λ x. Meets self.old self.new IsAny (λ s. outcomes.accepted (spec.transacted s a d.now v)) (answer_of x)) }
-        ensures err { OnErr result (IsKept self.old self.new) }
-        ensures full { IfErr result (IsRefused self.old IsAny (λ s. outcomes.accepted (spec.transacted s a d.now v))) }
+        ensures { IsStep self.old self.new IsAny (λ s. outcomes.accepted (spec.transacted s a d.now v)) result }
     {
         if self.make_ready(&v).is_err() {
             return Err(Why::NoMemory);
@@ -210,9 +222,7 @@ impl Tables {
         d: &TransactionData,
         parcel: &Option<Parcel>,
     ) -> Result<Plain, Why>
-        ensures ok { IfOk result (λ x. Meets self.old self.new (IsBy a) (λ s. spec.transaction_step s a d.now parcel.now) (answer_of x)) }
-        ensures err { OnErr result (IsKept self.old self.new) }
-        ensures full { IfErr result (IsRefused self.old (IsBy a) (λ s. spec.transaction_step s a d.now parcel.now)) }
+        ensures { IsStep self.old self.new (IsBy a) (λ s. spec.transaction_step s a d.now parcel.now) result }
     {
         match self.transaction_check(a, d, parcel) {
             Err(_) => Err(Why::NoMemory),

@@ -158,10 +158,12 @@ impl Engine {
         requires { seat < self.old.seats }
         ensures same { IsSame progress.old progress.new }
         ensures room { OnOk result (vec_len progress.new.notes < vec_capacity progress.new.notes) }
-        ensures answer { IfOk result (λ a. a ≡ (steps.step (space_after self.old) seat (step_of_command area.now command)).answer) }
+        ensures answer { IfOk result
+            (λ a. a ≡ (steps.step (space_after self.old) seat (step_of_command area.now command)).answer) }
         ensures history { IfOk result (λ a. self.new ≡ extended self.old seat (step_of_command area.now command) a) }
         ensures err { OnErr result (self.new ≡ self.old) }
-        ensures full { IfErr result (λ why. FullOnly why (is_at_limit self.old seat (Some (step_of_command area.now command)) ≡ true)) }
+        ensures full { IfErr result
+            (λ why. FullOnly why (is_at_limit self.old seat (Some (step_of_command area.now command)) ≡ true)) }
         ensures memory { IfErr result (λ why. MemoryOnly why (HasPlace self.old)) }
     {
         if self.is_full() {
@@ -190,7 +192,8 @@ impl Engine {
         requires few { progress.count ≤ progress.consumed }
         ensures { (old : History) (stream : List ℕ) → HasCome old self.old seat stream area.now progress
             → IsNext stream progress.consumed command size
-            → MatchResult result (λ course. IsCourse old self.new seat stream area.now (progress.consumed + size) course)
+            → MatchResult result
+            (λ course. IsCourse old self.new seat stream area.now (progress.consumed + size) course)
             (λ why. (self.new ≡ old) × IsTurnedAway old seat (Write stream area.now) why) }
     {
         match self.attempt(seat, area, command, &mut progress) {

@@ -3,5 +3,9 @@ use Rattle.bd_engine.proofs.Standing.{numbers-completed}
 use Rattle.bd_engine.proofs.Keeping.{full-if}
 use Rattle.bd_engine.proofs.tables.Tables.answer.Goals as goal
 
-pub returns-in-Err-clause-full : goal.returns-in-Err-clause-full
-returns-in-Err-clause-full c = λ s h p. full-if _ _ (numbers-completed (replied s c.args.a c.args.d.now c.args.f c.args.v) (c.in-Err.ensures.full s (c.make_ready.ensures.stands s h)))
+pub returns-in-Err : goal.returns-in-Err
+returns-in-Err c = record {
+  ok = tt;
+  err = λ s h. c.in-Err.ensures.err s (c.make_ready.ensures.stands s h);
+  full = λ s h p. full-if _ _ (numbers-completed (replied s c.args.a c.args.d.now c.args.f c.args.v) (c.in-Err.ensures.full s (c.make_ready.ensures.stands s h)));
+}

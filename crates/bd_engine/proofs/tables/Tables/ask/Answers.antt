@@ -6,20 +6,30 @@ use Rattle.bd_engine.proofs.Accepting.{accepts, notes}
 use Rattle.bd_engine.proofs.Keeping.{full-if}
 use Rattle.bd_engine.proofs.tables.Tables.ask.Goals as goal
 
-pub returns-in-Err-clause-ok : goal.returns-in-Err-clause-ok
+pub returns-in-Err : goal.returns-in-Err
 unfolding ask_step
-returns-in-Err-clause-ok c = notes _ _ _ _
-    (λ s h by. sym (ap (by_check s (λ o. ask s c.args.a.process.made o c.args.strong)) (c.in-Err.ensures s h.objects_stand h.manager_is)))
+returns-in-Err c = record {
+  ok = notes _ _ _ _ (λ s h by. sym (ap (by_check s (λ o. ask s c.args.a.process.made o c.args.strong)) (c.in-Err.ensures s h.objects_stand h.manager_is)));
+  err = tt;
+  full = tt;
+}
 
-pub returns-in-Ok-add_asked-clause-ok : goal.returns-in-Ok-add_asked-clause-ok
+pub returns-in-Ok-add_asked : goal.returns-in-Ok-add_asked
 unfolding ask_step
-returns-in-Ok-add_asked-clause-ok c =
-    accepts _ c.reserve.new.self _ _ _ (λ s. ask s c.args.a.process.made c.in-Ok.o c.args.strong) c.reserve.ensures.stands c.in-Ok-add_asked.ensures.stands
-    (λ s h by. sym (ap (by_check s (λ o. ask s c.args.a.process.made o c.args.strong)) (c.in-Ok.ensures s h.objects_stand h.manager_is)))
+returns-in-Ok-add_asked c = record {
+  ok =
+      accepts _ c.reserve.new.self _ _ _ (λ s. ask s c.args.a.process.made c.in-Ok.o c.args.strong) c.reserve.ensures.stands c.in-Ok-add_asked.ensures.stands
+      (λ s h by. sym (ap (by_check s (λ o. ask s c.args.a.process.made o c.args.strong)) (c.in-Ok.ensures s h.objects_stand h.manager_is)));
+  err = tt;
+  full = tt;
+}
 
-pub returns-in-Err-add_asked-clause-full : goal.returns-in-Err-add_asked-clause-full
+pub returns-in-Err-add_asked : goal.returns-in-Err-add_asked
 unfolding ask_step
-returns-in-Err-add_asked-clause-full c = λ s h by.
-    full-if _ _ (subst (λ (o : Outcome). has_number_past_limit o.space.names ≡ true)
-    (ap (by_check s (λ o. ask s c.args.a.process.made o c.args.strong)) (c.in-Ok.ensures s h.objects_stand h.manager_is))
-    (c.in-Err-add_asked.ensures.full s (c.reserve.ensures.stands s h)))
+returns-in-Err-add_asked c = record {
+  ok = tt;
+  err = λ s h. c.in-Err-add_asked.ensures.kept s (c.reserve.ensures.stands s h);
+  full = λ s h by. full-if _ _ (subst (λ (o : Outcome). has_number_past_limit o.space.names ≡ true)
+      (ap (by_check s (λ o. ask s c.args.a.process.made o c.args.strong)) (c.in-Ok.ensures s h.objects_stand h.manager_is))
+      (c.in-Err-add_asked.ensures.full s (c.reserve.ensures.stands s h)));
+}

@@ -1,32 +1,23 @@
 use Rattle.std.proofs.Common.{ap}
 use Rattle.bd_space.specs.Steps.{change, open_step, attach_step}
-use Rattle.bd_engine.specs.Plain.{answer_of}
 use Rattle.bd_engine.specs.Meets.{IsAny, IsNobody}
 use Rattle.bd_uapi.specs.declared.fault.Fault.TheVariants.{NoProcess}
 use Rattle.bd_space.specs.Outcomes.{Outcome}
-use Rattle.bd_engine.proofs.Meeting.{as-ok, as-full, meets, in-case, is-refused}
+use Rattle.bd_engine.proofs.Meeting.{as-step, meets, in-case, is-refused}
 use Rattle.bd_engine.proofs.Seating.{nobody-changes}
 use Rattle.bd_engine.proofs.tables.Tables.change_alone.Goals as goal
 
-pub returns-in-Open-clause-ok : goal.returns-in-Open-clause-ok
+pub returns-in-Open : goal.returns-in-Open
 unfolding change
-returns-in-Open-clause-ok c = as-ok c.args.self.now IsAny (IsNobody c.args.seat) (λ s. open_step s c.args.seat c.in-Open.pid c.in-Open.euid c.in-Open.window) (λ s. change s c.args.seat c.args.step.now)
-    (λ s h by. (tt, ap (change s c.args.seat) c.in-Open.is)) answer_of _ _ c.open.ensures.ok
+returns-in-Open c =
+    as-step c.args.self.now IsAny (IsNobody c.args.seat) (λ s. open_step s c.args.seat c.in-Open.pid c.in-Open.euid c.in-Open.window) (λ s. change s c.args.seat c.args.step.now)
+    (λ s h by. (tt, ap (change s c.args.seat) c.in-Open.is)) _ _ c.open.ensures
 
-pub returns-in-Open-clause-full : goal.returns-in-Open-clause-full
+pub returns-in-Attach : goal.returns-in-Attach
 unfolding change
-returns-in-Open-clause-full c = as-full c.args.self.now IsAny (IsNobody c.args.seat) (λ s. open_step s c.args.seat c.in-Open.pid c.in-Open.euid c.in-Open.window) (λ s. change s c.args.seat c.args.step.now)
-    (λ s h by. (tt, ap (change s c.args.seat) c.in-Open.is)) _ c.open.ensures.full
-
-pub returns-in-Attach-clause-ok : goal.returns-in-Attach-clause-ok
-unfolding change
-returns-in-Attach-clause-ok c = as-ok c.args.self.now IsAny (IsNobody c.args.seat) (λ s. attach_step s c.args.seat c.in-Attach.pid) (λ s. change s c.args.seat c.args.step.now)
-    (λ s h by. (tt, ap (change s c.args.seat) c.in-Attach.is)) answer_of _ _ c.attach.ensures.ok
-
-pub returns-in-Attach-clause-full : goal.returns-in-Attach-clause-full
-unfolding change
-returns-in-Attach-clause-full c = as-full c.args.self.now IsAny (IsNobody c.args.seat) (λ s. attach_step s c.args.seat c.in-Attach.pid) (λ s. change s c.args.seat c.args.step.now)
-    (λ s h by. (tt, ap (change s c.args.seat) c.in-Attach.is)) _ c.attach.ensures.full
+returns-in-Attach c =
+    as-step c.args.self.now IsAny (IsNobody c.args.seat) (λ s. attach_step s c.args.seat c.in-Attach.pid) (λ s. change s c.args.seat c.args.step.now)
+    (λ s h by. (tt, ap (change s c.args.seat) c.in-Attach.is)) _ _ c.attach.ensures
 
 pub returns-in_default : goal.returns-in_default
 returns-in_default c = record {

@@ -3,11 +3,21 @@ use Rattle.bd_space.specs.Clearing.{death_done_step, death_done_outcome, death_d
 use Rattle.bd_engine.proofs.Accepting.{accepts, notes}
 use Rattle.bd_engine.proofs.tables.Tables.death_done.Goals as goal
 
-pub returns-in-None-clause-ok : goal.returns-in-None-clause-ok
+pub returns-in-None : goal.returns-in-None
 unfolding death_done_step
-returns-in-None-clause-ok c = notes _ _ _ _ (λ s h by. sym (ap (death_done_outcome s c.args.a.thread.seat) (c.in-None.ensures s h.objects_stand)))
+returns-in-None c = record {
+  ok =
+      notes _ _ _ _ (λ s h by. sym (ap (death_done_outcome s c.args.a.thread.seat) (c.in-None.ensures s h.objects_stand)));
+  err = tt;
+  full = tt;
+}
 
-pub returns-clause-ok : goal.returns-clause-ok
+pub returns : goal.returns
 unfolding death_done_step
-returns-clause-ok c = accepts _ c.reserve.new.self _ _ _ (λ s. death_done s c.args.a.thread.seat c.in-Some.x) c.reserve.ensures.stands c.finish_death.ensures.stands
-    (λ s h by. sym (ap (death_done_outcome s c.args.a.thread.seat) (c.in-Some.ensures s h.objects_stand)))
+returns c = record {
+  ok =
+      accepts _ c.reserve.new.self _ _ _ (λ s. death_done s c.args.a.thread.seat c.in-Some.x) c.reserve.ensures.stands c.finish_death.ensures.stands
+      (λ s h by. sym (ap (death_done_outcome s c.args.a.thread.seat) (c.in-Some.ensures s h.objects_stand)));
+  err = tt;
+  full = tt;
+}

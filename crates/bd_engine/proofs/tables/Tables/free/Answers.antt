@@ -26,16 +26,26 @@ by_check : (s : Space) (b : Option Buffer) → freed_outcome s (freed_buffer b) 
 by_check s None = refl
 by_check s (Some b) = if_handed s b.made b.handed
 
-pub returns-in-Err-clause-ok : goal.returns-in-Err-clause-ok
+pub returns-in-Err : goal.returns-in-Err
 unfolding free_step
-returns-in-Err-clause-ok c = notes _ _ _ _ (λ s h by.
-    let p = c.args.a.process.made in
-    let checked = c.in-Err.ensures s c.args.a.process (within c.args.self.now s h) (process-of s c.args.a.thread.seat c.args.a by) in
-    sym (ap (freed_outcome s) checked ∙ by_check s (buffer_at_pointer s p c.args.pointer)))
+returns-in-Err c = record {
+  ok =
+      notes _ _ _ _ (λ s h by.
+      let p = c.args.a.process.made in
+      let checked = c.in-Err.ensures s c.args.a.process (within c.args.self.now s h) (process-of s c.args.a.thread.seat c.args.a by) in
+      sym (ap (freed_outcome s) checked ∙ by_check s (buffer_at_pointer s p c.args.pointer)));
+  err = tt;
+  full = tt;
+}
 
-pub returns-clause-ok : goal.returns-clause-ok
+pub returns : goal.returns
 unfolding free_step
-returns-clause-ok c = accepts _ c.reserve.new.self _ _ _ (λ s. without_buffer s c.in-Ok.made) c.reserve.ensures.stands c.lose_buffer.ensures.stands (λ s h by.
-    let p = c.args.a.process.made in
-    let checked = c.in-Ok.ensures s c.args.a.process (within c.args.self.now s h) (process-of s c.args.a.thread.seat c.args.a by) in
-    sym (ap (freed_outcome s) checked ∙ by_check s (buffer_at_pointer s p c.args.pointer)))
+returns c = record {
+  ok =
+      accepts _ c.reserve.new.self _ _ _ (λ s. without_buffer s c.in-Ok.made) c.reserve.ensures.stands c.lose_buffer.ensures.stands (λ s h by.
+      let p = c.args.a.process.made in
+      let checked = c.in-Ok.ensures s c.args.a.process (within c.args.self.now s h) (process-of s c.args.a.thread.seat c.args.a by) in
+      sym (ap (freed_outcome s) checked ∙ by_check s (buffer_at_pointer s p c.args.pointer)));
+  err = tt;
+  full = tt;
+}

@@ -1,4 +1,4 @@
-use Rattle.std.proofs.Common.{◌-◌, List, sym, ap, subst}
+use Rattle.std.proofs.Common.{◌-◌, ◌∙◌, List, sym, ap, subst}
 use Rattle.bd_uapi.specs.declared.fault.Fault.TheVariants.{ReadTooSmall, Again}
 use Rattle.bd_space.specs.declared.space.Work.{Work}
 use Rattle.bd_space.specs.Todo.{list_to_read}
@@ -8,24 +8,39 @@ use Rattle.bd_engine.proofs.Meeting.{IsOutcome, answer-is, meets, in-case, is-re
 use Rattle.bd_engine.proofs.TakingItems.{read_outcome, too-small, nothing, readable}
 use Rattle.bd_engine.proofs.tables.Tables.read.Goals as goal
 
-pub returns-then-limit-lt72-clause-ok : goal.returns-then-limit-lt72-clause-ok
+pub returns-then-limit-lt72 : goal.returns-then-limit-lt72
 unfolding read_step
-returns-then-limit-lt72-clause-ok c = answer-is _ _ _ _ _ _ c.twice.ensures.answer (meets _ _ _ _ _ (λ s h by.
-    let ws = list_to_read s c.args.a.thread in
-    in-case _ _ (read_outcome s c.args.a.thread.seat c.args.limit ws) _ _ (too-small c.args.limit ws c.if-limit-lt72.true) (is-refused _ s ReadTooSmall h)))
+returns-then-limit-lt72 c = record {
+  ok = answer-is _ _ _ _ _ _ c.twice.ensures.answer (meets _ _ _ _ _ (λ s h by.
+      let ws = list_to_read s c.args.a.thread in
+      in-case _ _ (read_outcome s c.args.a.thread.seat c.args.limit ws) _ _ (too-small c.args.limit ws c.if-limit-lt72.true) (is-refused _ s ReadTooSmall h)));
+  twice = c.twice.ensures.again ∙ sym c.twice.ensures.answer;
+  err = tt;
+  full = tt;
+}
 
-pub returns-in_default-clause-ok : goal.returns-in_default-clause-ok
+pub returns-in_default : goal.returns-in_default
 unfolding read_step
-returns-in_default-clause-ok c = answer-is _ _ _ _ _ _ c.twice-in_default.ensures.answer (meets _ _ _ _ _ (λ s h by.
-    let ws = list_to_read s c.args.a.thread in
-    in-case _ _ (read_outcome s c.args.a.thread.seat c.args.limit ws) _ _
-    (nothing c.args.limit ws c.if-limit-lt72.false (ap is_empty (c.list_to_read.ensures.none c.in_default.is s h))) (is-refused _ s Again h)))
+returns-in_default c = record {
+  ok = answer-is _ _ _ _ _ _ c.twice-in_default.ensures.answer (meets _ _ _ _ _ (λ s h by.
+      let ws = list_to_read s c.args.a.thread in
+      in-case _ _ (read_outcome s c.args.a.thread.seat c.args.limit ws) _ _
+      (nothing c.args.limit ws c.if-limit-lt72.false (ap is_empty (c.list_to_read.ensures.none c.in_default.is s h))) (is-refused _ s Again h)));
+  twice = c.twice-in_default.ensures.again ∙ sym c.twice-in_default.ensures.answer;
+  err = tt;
+  full = tt;
+}
 
-pub returns-in-Ok-clause-ok : goal.returns-in-Ok-clause-ok
+pub returns-in-Ok : goal.returns-in-Ok
 unfolding read_step
-returns-in-Ok-clause-ok c = meets _ _ _ _ _ (λ s h by.
-    let t = c.args.a.thread in
-    let ok = c.in-Ok.ensures.ok in
-    in-case _ _ (read_outcome s t.seat c.args.limit (list_to_read s t)) _ _ (readable c.args.limit (list_to_read s t) c.if-limit-lt72.false (c.in-Some.ensures.filled s h))
-    (subst (λ (ws : List Work). IsOutcome c.read_list.new.self c.in-Ok.taken.answer (read_taking s t.seat (taken s (c.args.limit - 4) ws))) (sym (c.in-Some.ensures.some s h))
-    (record { answered = ok.answered s h tt; stands = ok.stands s h tt })))
+returns-in-Ok c = record {
+  ok = meets _ _ _ _ _ (λ s h by.
+      let t = c.args.a.thread in
+      let ok = c.in-Ok.ensures.ok in
+      in-case _ _ (read_outcome s t.seat c.args.limit (list_to_read s t)) _ _ (readable c.args.limit (list_to_read s t) c.if-limit-lt72.false (c.in-Some.ensures.filled s h))
+      (subst (λ (ws : List Work). IsOutcome c.read_list.new.self c.in-Ok.taken.answer (read_taking s t.seat (taken s (c.args.limit - 4) ws))) (sym (c.in-Some.ensures.some s h))
+      (record { answered = ok.answered s h tt; stands = ok.stands s h tt })));
+  twice = c.in-Ok.ensures.twice;
+  err = tt;
+  full = tt;
+}

@@ -5,14 +5,24 @@ use Rattle.bd_engine.proofs.Standing.{within}
 use Rattle.bd_engine.proofs.Meeting.{meets, in-case, is-refused}
 use Rattle.bd_engine.proofs.tables.Tables.set_manager.Goals as goal
 
-pub returns-then-is_manager_busy-clause-ok : goal.returns-then-is_manager_busy-clause-ok
+pub returns-then-is_manager_busy : goal.returns-then-is_manager_busy
 unfolding manager_step
-returns-then-is_manager_busy-clause-ok c = meets _ _ _ _ _ (λ s h by.
-    in-case _ _ (manager_outcome s c.args.a.process.made) _ _ (sym (c.is_manager_busy.ensures s h) ∙ c.if-is_manager_busy.true)
-    (is-refused _ s ManagerBusy h))
+returns-then-is_manager_busy c = record {
+  ok =
+      meets _ _ _ _ _ (λ s h by.
+      in-case _ _ (manager_outcome s c.args.a.process.made) _ _ (sym (c.is_manager_busy.ensures s h) ∙ c.if-is_manager_busy.true)
+      (is-refused _ s ManagerBusy h));
+  err = tt;
+  full = tt;
+}
 
-pub returns-clause-ok : goal.returns-clause-ok
+pub returns : goal.returns
 unfolding manager_step with_manager
-returns-clause-ok c = meets _ _ _ _ _ (λ s h by.
-    in-case _ _ (manager_outcome s c.args.a.process.made) _ _ (sym (c.is_manager_busy.ensures s h) ∙ c.if-is_manager_busy.false)
-    (record { answered = refl; stands = c.with_manager.ensures.stands (s.steps + 1) s (within _ s (c.reserve.ensures.stands s h)) }))
+returns c = record {
+  ok =
+      meets _ _ _ _ _ (λ s h by.
+      in-case _ _ (manager_outcome s c.args.a.process.made) _ _ (sym (c.is_manager_busy.ensures s h) ∙ c.if-is_manager_busy.false)
+      (record { answered = refl; stands = c.with_manager.ensures.stands (s.steps + 1) s (within _ s (c.reserve.ensures.stands s h)) }));
+  err = tt;
+  full = tt;
+}

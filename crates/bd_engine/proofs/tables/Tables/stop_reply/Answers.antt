@@ -4,9 +4,14 @@ use Rattle.bd_engine.proofs.Standing.{within}
 use Rattle.bd_engine.proofs.Stepping.{refused-stands}
 use Rattle.bd_engine.proofs.tables.Tables.stop_reply.Goals as goal
 
-pub returns-clause-ok : goal.returns-clause-ok
-returns-clause-ok c = record {
-  answered = λ s h p. refl;
-  stands = λ s h p. c.settle.ensures.stands (reply_refused s c.args.seat c.args.f)
-      (refused-stands _ s c.args.seat c.args.f (c.refuse_reply.ensures.stands (s.steps + 1) s (within c.reserve.new.self s (c.reserve.ensures.stands s h))));
+pub returns-clause-step : goal.returns-clause-step
+returns-clause-step c = record {
+  ok =
+      record {
+        answered = λ s h p. refl;
+        stands = λ s h p. c.settle.ensures.stands (reply_refused s c.args.seat c.args.f)
+            (refused-stands _ s c.args.seat c.args.f (c.refuse_reply.ensures.stands (s.steps + 1) s (within c.reserve.new.self s (c.reserve.ensures.stands s h))));
+      };
+  err = tt;
+  full = tt;
 }
