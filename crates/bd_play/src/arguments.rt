@@ -1,6 +1,6 @@
 //! The program's words.
 
-use crate::faults::Fault;
+use bd_player::{Fault, Manner};
 use clap::error::ErrorKind;
 use clap::{Arg, ArgAction, ArgMatches, Command, Error, value_parser};
 use std::alloc::{AllocError, Global};
@@ -48,15 +48,6 @@ A journal is the history of a run, which `bplay run script --journal journal` wr
 from those before, from 0.
 
 Statuses: 0 lawful; 1 unlawful, or a fault, told on standard error; 3 memory refused.";
-
-/// How a script is played.
-#[derive(Clone, Copy, Debug, PartialEq, Eq)]
-pub struct Manner {
-    /// Whether each seat's lines run on a thread of their own.
-    pub threads: bool,
-    /// How many turns a line has.
-    pub turns: u32,
-}
 
 /// What the words ask for.
 #[derive(Clone, Copy, Debug)]

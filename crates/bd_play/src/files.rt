@@ -1,34 +1,15 @@
 //! The program's files.
 
-use crate::arguments::Manner;
-use crate::faults::{FAULT, Fault, tell};
-use crate::journals::{check_journal, write_journal};
-use crate::play::{Played, play};
-use crate::threads::play_threads;
+use bd_player::{Fault, Manner, check_journal, play_from, tell, write_journal};
 use bd_space::Record;
 use std::fs::File;
-use std::io::{BufWriter, Read, Write};
+use std::io::{BufWriter, Write};
 use std::rt::Files;
 use std::sync::Wait;
 use std::thread::Threads;
 
 // Standard input.
 const INPUT: &str = "-";
-
-/// Plays the script that a reader has, in this manner.
-pub fn play_from<H: AllocGlobal + Threads + Wait + Sync, R: Read, W: Write, E: Write>(
-    rt: &H,
-    script: &mut R,
-    manner: Manner,
-    out: &mut W,
-    err: &mut E,
-) -> Played {
-    if manner.threads {
-        play_threads(rt, rt.alloc(), script, manner.turns, out, err)
-    } else {
-        play(rt.alloc(), script, manner.turns, out, err)
-    }
-}
 
 // Writes the journal of a run.
 fn write_file<H: AllocGlobal + Files>(rt: &H, history: &Record, name: &str) -> Result<(), Fault> {

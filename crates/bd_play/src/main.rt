@@ -2,19 +2,12 @@
 #![tactic(auto)]
 
 mod arguments;
-mod faults;
 mod files;
-mod journals;
-mod play;
-mod said;
 #[cfg(test)]
 mod tests;
-mod threads;
-mod verdicts;
-mod worker;
 
 use arguments::{Order, Refused, order_of};
-use faults::{DONE, Fault, after_writing, tell};
+use bd_player::{DONE, Fault, after_writing, tell};
 use files::{check_file, run_file};
 use std::alloc::Global;
 use std::io::{BufWriter, Write};

@@ -1,23 +1,4 @@
-//! Tests of the program: the worked examples of docs/EXAMPLES.md, certificates, its words and files, script errors
-//! and journals.
+//! Tests of the program's words and files. Those of what it does stand in `bd_tests`.
 
 mod arguments;
-mod buffers;
-mod calls;
-mod certificates;
-mod deaths;
-mod definitions;
-mod definitions_more;
-mod examples;
 mod files;
-mod handing;
-mod journals;
-mod objects;
-mod open_endings;
-mod open_points;
-mod rules;
-mod rules_more;
-mod scripts;
-mod sizes;
-mod writers;
-mod writing;

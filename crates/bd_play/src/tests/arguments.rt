@@ -1,7 +1,7 @@
 //! What the program's words ask for.
 
-use crate::arguments::{Manner, Order, Refused, order_of};
-use crate::faults::Fault;
+use crate::arguments::{Order, Refused, order_of};
+use bd_player::{Fault, Manner};
 use std::alloc::{AllocError, Global};
 use std::test::Fail;
 

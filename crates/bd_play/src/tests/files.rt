@@ -1,8 +1,7 @@
 //! Files that aren't there.
 
-use super::examples::Printed;
-use crate::arguments::Manner;
 use crate::files::{check_file, run_file};
+use bd_player::Manner;
 
 const NOWHERE: &str = "no/such/file";
 
@@ -16,7 +15,8 @@ fn runs_no_file_that_is_not_there(rt: HostRuntime) {
     let mut out = Vec::new(rt.alloc());
     let mut err = Vec::new(rt.alloc());
     let status = run_file(&rt, NOWHERE, MANNER, None, &mut out, &mut err);
-    Printed { out, err, status }.expect(&rt, NOWHERE, "", "fault: file\n", 1);
+    assert_eq!(rt; err.as_slice(), b"fault: file\n".as_slice());
+    assert!(rt; status == 1 && out.is_empty());
 }
 
 #[test]
@@ -24,5 +24,6 @@ fn checks_no_file_that_is_not_there(rt: HostRuntime) {
     let mut out = Vec::new(rt.alloc());
     let mut err = Vec::new(rt.alloc());
     let status = check_file(&rt, NOWHERE, &mut out, &mut err);
-    Printed { out, err, status }.expect(&rt, NOWHERE, "", "fault: file\n", 1);
+    assert_eq!(rt; err.as_slice(), b"fault: file\n".as_slice());
+    assert!(rt; status == 1 && out.is_empty());
 }

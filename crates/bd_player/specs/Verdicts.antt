@@ -1,0 +1,20 @@
+-- What is said of a journal, and when that is so.
+use Rattle.std.specs.Prelude.{◌≡◌, ℕ, List, length}
+use Rattle.bd_space.specs.declared.record.Record.{Record}
+use Rattle.bd_space.specs.Histories.{IsHistory, history_in}
+use Rattle.bd_journal.specs.Spelling.{IsJournal, journal_bytes}
+use Rattle.bd_audit.specs.Replays.{StopsAt}
+use Rattle.bd_player.specs.declared.verdicts.Verdict.{Verdict}
+use Rattle.bd_player.specs.declared.verdicts.Verdict.TheVariants.{Lawful, Unlawful}
+
+-- the bytes are all of the spelling of this record
+abbrev pub Spells : List ℕ → Record → Type 0
+Spells bytes r = IsJournal r × (bytes ≡ journal_bytes r)
+
+abbrev pub Holds : Record → Verdict → Type 0
+Holds r (Lawful entries) = IsHistory (history_in r) × (entries ≡ length r.entries)
+Holds r (Unlawful at) = (IsHistory (history_in r) → ⊥) × StopsAt (history_in r) at
+
+-- the verdict holds of the record that the bytes spell
+abbrev pub IsVerdict : List ℕ → Verdict → Type 0
+IsVerdict bytes v = (r : Record) × Spells bytes r × Holds r v

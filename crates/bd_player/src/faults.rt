@@ -1,0 +1,84 @@
+//! What the program ends with.
+
+ghost use Rattle.std.specs.Prelude.{◌≡◌, MatchResult, max};
+ghost use Rattle.bd_player.specs.Workers.{fault_status};
+
+use std::io;
+use std::io::{ErrorKind, Write};
+use thiserror::Error;
+
+/// The status where all lines are done, or the journal is lawful.
+pub const DONE: u8 = 0;
+/// The status of a fault, an unlawful journal, and an output line that couldn't be written.
+pub const FAULT: u8 = 1;
+/// The status where turns are used up.
+pub const TURNS: u8 = 2;
+/// The status where memory was refused.
+pub const MEMORY: u8 = 3;
+
+/// A fault that is told on standard error.
+#[derive(Clone, Copy, Debug, PartialEq, Eq, Error)]
+pub enum Fault {
+    /// The program's words make no sense.
+    #[error("fault: arguments")]
+    Arguments,
+    /// A file can't be read, or the journal not be written.
+    #[error("fault: file")]
+    File,
+    /// This line of the script is bad.
+    #[error("fault: line {0}")]
+    Line(u64),
+    /// The journal can't be read.
+    #[error("fault: journal")]
+    Journal,
+    /// Memory was refused outside of a call.
+    #[error("fault: memory")]
+    Memory,
+    /// A seat's thread can't be started.
+    #[error("fault: thread")]
+    Thread,
+}
+
+impl From<io::Error> for Fault {
+    fn from(error: io::Error) -> Fault {
+        Fault::File.or_memory(&error)
+    }
+}
+
+impl Fault {
+    /// The status that the program ends with.
+    pub fn status(self) -> u8
+        ensures { result ≡ fault_status self }
+    {
+        match self {
+            Fault::Memory => MEMORY,
+            _ => FAULT,
+        }
+    }
+
+    /// This fault, or want of memory, if that is what the error says.
+    pub fn or_memory(self, error: &io::Error) -> Fault {
+        match error.kind() {
+            ErrorKind::OutOfMemory => Fault::Memory,
+            _ => self,
+        }
+    }
+}
+
+/// Tells a fault, and answers its status.
+pub fn tell<E: Write>(fault: Fault, err: &mut E) -> u8
+    ensures { result ≡ fault_status fault }
+{
+    let _ = writeln!(err, "{fault}");
+    fault.status()
+}
+
+/// This status, but at least that of a fault where something couldn't be written.
+pub fn after_writing(written: io::Result<()>, status: u8) -> u8
+    ensures { MatchResult written (λ _. result ≡ status) (λ _. result ≡ max status 1) }
+{
+    match written {
+        Ok(()) => status,
+        Err(_) => status.max(FAULT),
+    }
+}

@@ -1,0 +1,45 @@
+//! Writing and judging journals.
+
+ghost use Rattle.bd_player.specs.Journals.{Wrote};
+
+use crate::faults::{DONE, FAULT, after_writing, tell};
+use crate::playing::read_all;
+use crate::verdicts::{Verdict, verdict_on};
+use bd_space::Record;
+use std::alloc::Global;
+use std::io::{Read, Write};
+
+/// Writes the record's journal and flushes it; whether every byte went out. Where not, a beginning may be written. It
+/// takes no memory.
+#[tactic(auto, using(crate::proofs::Kept::flushed))]
+pub fn write_journal<W: Write>(history: &Record, out: &mut W) -> bool
+    ensures { Wrote (W.contents out.old) (W.contents out.new) history.now result }
+{
+    match bd_journal::write_journal(history, out) {
+        Ok(()) => out.flush().is_ok(),
+        Err(_) => false,
+    }
+}
+
+// Prints a verdict.
+fn print<W: Write>(verdict: &str, number: usize, out: &mut W, status: u8) -> u8 {
+    after_writing(writeln!(out, "{verdict} {number}"), status)
+}
+
+/// Judges a journal: whether its entries are a history, or else the first that doesn't follow from those before.
+pub fn check_journal<R: Read, W: Write, E: Write>(
+    alloc: Global,
+    journal: &mut R,
+    out: &mut W,
+    err: &mut E,
+) -> u8 {
+    let bytes = match read_all(alloc, journal) {
+        Ok(bytes) => bytes,
+        Err(fault) => return tell(fault, err),
+    };
+    match verdict_on(alloc, &bytes) {
+        Ok(Verdict::Lawful { entries }) => print("lawful", entries, out, DONE),
+        Ok(Verdict::Unlawful { at }) => print("unlawful", at as usize, out, FAULT),
+        Err(fault) => tell(fault, err),
+    }
+}

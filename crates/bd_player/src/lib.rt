@@ -1,0 +1,20 @@
+//! What `bplay` does, apart from its words and files: it plays scripts against a driver, and judges journals.
+#![tactic(auto)]
+
+mod faults;
+mod journals;
+mod manner;
+mod playing;
+mod said;
+mod threads;
+mod verdicts;
+mod worker;
+
+pub use faults::{DONE, FAULT, Fault, MEMORY, TURNS, after_writing, tell};
+pub use journals::{check_journal, write_journal};
+pub use manner::{Manner, play_from};
+pub use playing::{Played, laid, play, play_lines, print};
+pub use said::Said;
+pub use threads::{Told, gather, play_at, play_threads, print_told};
+pub use verdicts::{Verdict, verdict_on};
+pub use worker::act;

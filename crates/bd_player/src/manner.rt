@@ -1,0 +1,31 @@
+//! How a script is played.
+
+use crate::playing::{Played, play};
+use crate::threads::play_threads;
+use std::io::{Read, Write};
+use std::sync::Wait;
+use std::thread::Threads;
+
+/// How a script is played.
+#[derive(Clone, Copy, Debug, PartialEq, Eq)]
+pub struct Manner {
+    /// Whether each seat's lines run on a thread of their own.
+    pub threads: bool,
+    /// How many turns a line has.
+    pub turns: u32,
+}
+
+/// Plays the script that a reader has, in this manner.
+pub fn play_from<H: AllocGlobal + Threads + Wait + Sync, R: Read, W: Write, E: Write>(
+    rt: &H,
+    script: &mut R,
+    manner: Manner,
+    out: &mut W,
+    err: &mut E,
+) -> Played {
+    if manner.threads {
+        play_threads(rt, rt.alloc(), script, manner.turns, out, err)
+    } else {
+        play(rt.alloc(), script, manner.turns, out, err)
+    }
+}

@@ -1,0 +1,163 @@
+//! What a line prints.
+
+ghost use Rattle.std.specs.Prelude.{◌≡◌};
+ghost use Rattle.bd_player.specs.Workers.{said_of, said_status};
+
+use crate::faults::{DONE, MEMORY, TURNS};
+use bd_driver::{Outcome, Page, Served, Why};
+use bd_journal::{cause_number, fault_number, note_number};
+use bd_space::{Answer, Stop};
+use std::fmt;
+
+/// What came of a line.
+#[derive(Drop, Debug)]
+pub enum Said {
+    /// The request was run, by the steps from `from` up to and without `to`.
+    Done { answer: Answer, from: u32, to: u32 },
+    /// The request came back.
+    Back(Why),
+    /// It is handed over.
+    Handed,
+    /// The mailboxes were served.
+    Served(Served),
+    /// The page, as one look found it.
+    Page(Page),
+    /// The stamp that was waited for came.
+    Passed,
+    /// The turns are used up.
+    Turns,
+    /// Nothing was done.
+    Idle,
+}
+
+impl Said {
+    /// What came of a request.
+    pub fn of_outcome(outcome: Outcome) -> Said
+        ensures { result ≡ said_of outcome }
+    {
+        match outcome {
+            Outcome::Done { answer, from, to } => Said::Done { answer, from, to },
+            Outcome::Back { why, .. } => Said::Back(why),
+            Outcome::Handed => Said::Handed,
+        }
+    }
+
+    /// The status that it asks for. Where that isn't 0 the seat's later lines don't run.
+    pub fn status(&self) -> u8
+        ensures { result ≡ said_status self.now }
+    {
+        match self {
+            Said::Turns => TURNS,
+            Said::Back(Why::NoMemory) => MEMORY,
+            _ => DONE,
+        }
+    }
+}
+
+// Bytes in hex, or a dash for none.
+#[derive(Drop)]
+struct Hex<'a>(&'a [u8]);
+
+impl fmt::Display for Hex<'_> {
+    fn fmt<W: fmt::Write>(&self, f: &mut fmt::Formatter<W>) -> fmt::Result {
+        if self.0.is_empty() {
+            return write!(f, "-");
+        }
+        for byte in self.0 {
+            write!(f, "{byte:02x}")?;
+        }
+        Ok(())
+    }
+}
+
+// Why a write stopped.
+#[derive(Drop)]
+struct StopText(Stop);
+
+impl fmt::Display for StopText {
+    fn fmt<W: fmt::Write>(&self, f: &mut fmt::Formatter<W>) -> fmt::Result {
+        match self.0 {
+            Stop::Fault(fault) => {
+                let number = fault_number(fault);
+                write!(f, " stop F{number}")
+            }
+            Stop::Cause(cause) => {
+                let number = cause_number(cause);
+                write!(f, " stop X{number}")
+            }
+        }
+    }
+}
+
+// An answer with its places.
+#[derive(Drop)]
+struct AnswerText<'a>(&'a Answer, u32, u32);
+
+impl fmt::Display for AnswerText<'_> {
+    fn fmt<W: fmt::Write>(&self, f: &mut fmt::Formatter<W>) -> fmt::Result {
+        let AnswerText(answer, from, to) = self;
+        match answer {
+            Answer::Opened => write!(f, "opened {from} {to}"),
+            Answer::Set => write!(f, "set {from} {to}"),
+            Answer::Exited => write!(f, "exited {from} {to}"),
+            Answer::Wrote {
+                consumed,
+                notes,
+                stop,
+            } => {
+                write!(f, "wrote {consumed} {from} {to}")?;
+                for (index, note) in notes.as_slice() {
+                    let number = note_number(*note);
+                    write!(f, " {index}:N{number}")?;
+                }
+                match stop {
+                    Some(stop) => {
+                        let stop = StopText(*stop);
+                        write!(f, "{stop}")
+                    }
+                    None => Ok(()),
+                }
+            }
+            Answer::Got {
+                stream,
+                bytes,
+                offsets,
+            } => {
+                let stream = Hex(stream.as_slice());
+                let bytes = Hex(bytes.as_slice());
+                let offsets = Hex(offsets.as_slice());
+                write!(f, "got {stream} {bytes} {offsets} {from} {to}")
+            }
+            Answer::Refused(fault) => {
+                let number = fault_number(*fault);
+                write!(f, "refused F{number} {from} {to}")
+            }
+        }
+    }
+}
+
+impl fmt::Display for Said {
+    fn fmt<W: fmt::Write>(&self, f: &mut fmt::Formatter<W>) -> fmt::Result {
+        match self {
+            Said::Done { answer, from, to } => {
+                let text = AnswerText(answer, *from, *to);
+                write!(f, "{text}")
+            }
+            Said::Back(Why::NoMemory) => write!(f, "back memory"),
+            Said::Back(Why::HistoryFull) => write!(f, "back full"),
+            Said::Back(Why::Withdrawn) => write!(f, "back withdrawn"),
+            Said::Back(Why::Taken) | Said::Turns => write!(f, "turns"),
+            Said::Handed => write!(f, "handed"),
+            Said::Served(Served::Taken) => write!(f, "served taken"),
+            Said::Served(Served::Ran { picked }) => write!(f, "served {picked}"),
+            Said::Page(page) => {
+                let stamp = page.stamp;
+                let ready = page.ready;
+                let taken = u8::from(page.taken);
+                write!(f, "page {stamp} {ready} {taken}")
+            }
+            Said::Passed => write!(f, "passed"),
+            Said::Idle => write!(f, "idle"),
+        }
+    }
+}

@@ -1,0 +1,62 @@
+//! What a journal's bytes are.
+
+ghost use Rattle.std.specs.Prelude.{◌≡◌, ◌≤◌, length, IfOk, IfErr};
+ghost use Rattle.bd_space.specs.Histories.{IsHistory, history_in};
+ghost use Rattle.bd_space.specs.declared.record.Record.{Record};
+ghost use Rattle.bd_audit.specs.Replays.{StopsAt};
+ghost use Rattle.bd_player.specs.Verdicts.{IsVerdict, Holds, Spells};
+ghost use Rattle.bd_player.specs.declared.faults.Fault.TheVariants.{Journal};
+
+use crate::faults::Fault;
+use bd_audit::{AuditFault, replay};
+use bd_journal::{ReadError, read_journal};
+use bd_space::Record;
+use std::alloc::Global;
+
+/// What is said of a journal that can be read.
+#[derive(Clone, Copy, Debug, PartialEq, Eq)]
+pub enum Verdict {
+    /// Its entries are a history.
+    Lawful {
+        /// How many they are.
+        entries: usize,
+    },
+    /// They aren't.
+    Unlawful {
+        /// The place of the first entry that doesn't follow from those before, from 0.
+        at: u32,
+    },
+}
+
+// The verdict on a record.
+fn judge(alloc: Global, record: &Record) -> Result<Verdict, Fault>
+    requires seats { (1 ≤ «record».now.seats) × («record».now.seats ≤ 16) }
+    ensures verdict { IfOk result (Holds «record».now) }
+    ensures fault { IfErr result (λ f. f ≡ Journal → ⊥) }
+{
+    match replay(alloc, record) {
+        Ok(()) => Ok(Verdict::Lawful {
+            entries: record.entries.as_slice().len(),
+        }),
+        Err(AuditFault::Unlawful { at }) => Ok(Verdict::Unlawful { at }),
+        Err(AuditFault::NoMemory) => Err(Fault::Memory),
+    }
+}
+
+/// Judges the bytes of a journal: whether its entries are a history, or else the first that doesn't follow from those
+/// before.
+///
+/// # Errors
+/// `Journal` where no record is spelled so, `Memory` where memory was refused.
+pub fn verdict_on(alloc: Global, bytes: &[u8]) -> Result<Verdict, Fault>
+    // What is said is so of the record that the bytes spell.
+    ensures verdict { IfOk result (IsVerdict bytes.now) }
+    // No journal is called unreadable.
+    ensures journal { IfErr result (λ f. f ≡ Journal → (r : Record) → Spells bytes.now r → ⊥) }
+{
+    match read_journal(alloc, bytes) {
+        Ok(record) => judge(alloc, &record),
+        Err(ReadError::Malformed) => Err(Fault::Journal),
+        Err(ReadError::Memory) => Err(Fault::Memory),
+    }
+}

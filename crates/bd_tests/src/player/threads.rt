@@ -1,0 +1,117 @@
+//! Many threads, and a thread that can't be started.
+
+ghost use Rattle.std.specs.Prelude.{◌≡◌, ◌<◌};
+
+use bd_audit::replay;
+use bd_player::{Said, TURNS as TURNS_USED, Told, gather, laid, play_threads, print_told};
+use bd_space::Record;
+use std::alloc::{AllocError, Global};
+use std::test::Fail;
+
+const SEATS: usize = 8;
+
+const CALLS: usize = 100;
+
+const TURNS: u32 = 100_000_000;
+
+// A script in which each of the seats makes so many calls.
+fn script_of_calls(alloc: Global) -> Result<String, AllocError> {
+    let mut script = format!(in alloc; "seats {SEATS}\n")?;
+    for seat in 0..SEATS {
+        let opening = format!(in alloc; "{seat} open {} 0 4096\n", seat + 1)?;
+        let enters = format!(in alloc; "{seat} enter\n")?.repeat(alloc, CALLS - 1)?;
+        script.push_str(&opening)?;
+        script.push_str(&enters)?;
+    }
+    Ok(script)
+}
+
+// The place of a request's only step, with which its line ends.
+fn place_in(line: &str) -> Option<usize> {
+    let mut words = line.rsplit(' ');
+    let to = words.next()?.parse::<usize>().ok()?;
+    let from = words.next()?.parse::<usize>().ok()?;
+    if from.checked_add(1) == Some(to) {
+        Some(from)
+    } else {
+        None
+    }
+}
+
+// The places that a seat's lines tell.
+fn places_told(alloc: Global, text: &str, seat: usize) -> Result<Vec<usize>, Fail>
+    requires { seat < 8 }
+{
+    let mut places = Vec::new(alloc);
+    for line in text.lines().skip(seat * CALLS).take(CALLS) {
+        places.push(place_in(line).ok_or("a line of one step")?)?;
+    }
+    Ok(places)
+}
+
+// The places at which a seat's entries stand.
+fn places_of(alloc: Global, history: &Record, seat: usize) -> Result<Vec<usize>, AllocError> {
+    let mut places = Vec::new(alloc);
+    for (place, entry) in history.entries.as_slice().iter().enumerate() {
+        if entry.seat as usize == seat {
+            places.push(place)?;
+        }
+    }
+    Ok(places)
+}
+
+#[test]
+fn eight_threads_count_their_calls(rt: HostRuntime) -> Result<(), Fail> {
+    let script = script_of_calls(rt.alloc())?;
+    let mut out = Vec::new(rt.alloc());
+    let mut err = Vec::new(rt.alloc());
+    let mut bytes = script.as_bytes();
+    let played = play_threads(&rt, rt.alloc(), &mut bytes, TURNS, &mut out, &mut err);
+    assert!(rt; played.status == 0 && err.is_empty());
+    let history = played.history.ok_or("a script with no bad line runs")?;
+    assert_eq!(rt; history.seats, 8);
+    assert!(rt; replay(rt.alloc(), &history).is_ok());
+    assert_eq!(rt; history.entries.as_slice().len(), SEATS * CALLS);
+    let text = str::from_utf8(out.as_slice())?;
+    for seat in 0..SEATS {
+        let told = places_told(rt.alloc(), text, seat)?;
+        let own = places_of(rt.alloc(), &history, seat)?;
+        assert_eq!(rt; told.len(), CALLS);
+        assert_eq!(rt; told.as_slice(), own.as_slice());
+    }
+    Ok(())
+}
+
+#[test]
+fn tells_of_a_thread_that_is_not_there(rt: HostRuntime) -> Result<(), Fail> {
+    let mut workers = Vec::new(rt.alloc());
+    workers.push(None)?;
+    let mut seats = Vec::new(rt.alloc());
+    let mut out = Vec::new(rt.alloc());
+    let mut err = Vec::new(rt.alloc());
+    let status = gather(&rt, workers, &mut seats, &mut out, &mut err);
+    assert_eq!(rt; err.as_slice(), b"fault: thread\n".as_slice());
+    assert_eq!(rt; status, 1);
+    assert!(rt; seats.is_empty() && out.is_empty());
+    Ok(())
+}
+
+#[test]
+fn tells_of_a_starved_seat(rt: HostRuntime) -> Result<(), Fail> {
+    let (_driver, mut seats, _) = laid(rt.alloc(), &mut "seats 1\n".as_bytes())?;
+    let seat = seats.pop().ok_or("a driver has its seats")?;
+    let mut said = Vec::new(rt.alloc());
+    said.push((2, Said::Turns))?;
+    let starved = true;
+    let told = Told {
+        seat,
+        said,
+        starved,
+    };
+    let mut out = Vec::new(rt.alloc());
+    let mut err = Vec::new(rt.alloc());
+    assert_eq!(rt; print_told(&told, &mut out, &mut err, TURNS_USED), 3);
+    assert_eq!(rt; out.as_slice(), b"2: turns\n".as_slice());
+    assert_eq!(rt; err.as_slice(), b"fault: memory\n".as_slice());
+    Ok(())
+}

@@ -1,0 +1,233 @@
+//! Writers that fail: after some bytes, at one line, or at their flush.
+
+use super::examples::{Printed, checked, played, written};
+use bd_driver::Why;
+use bd_player::{
+    DONE, FAULT, Fault, MEMORY, Manner, Said, TURNS, after_writing, check_journal, play, play_from,
+    print, tell, write_journal,
+};
+use bd_space::Record;
+use std::alloc::Global;
+use std::io;
+use std::io::{ErrorKind, Write};
+use std::test::Fail;
+
+const SCRIPT: &str = "\
+seats 2
+0 open 100 1000 4096
+0 manager
+0 enter
+1 open 200 2000 4096
+1 tx 0 7 0 6869 -
+0 read 256
+0 reply 0 0 2a -
+1 read 256
+1 exitprocess
+";
+
+const MANY: u32 = 1000;
+
+// A writer that keeps this many bytes and then fails.
+#[derive(Drop)]
+struct Full {
+    kept: Vec<u8>,
+    room: usize,
+}
+
+impl Write for Full {
+    fn write(&mut self, buf: &[u8]) -> io::Result<usize> {
+        let more = buf.len().min(self.room);
+        if more == 0 && !buf.is_empty() {
+            return Err(io::Error::from(ErrorKind::StorageFull));
+        }
+        self.kept.extend_from_slice(&buf[..more])?;
+        self.room -= more;
+        Ok(more)
+    }
+
+    fn flush(&mut self) -> io::Result<()> {
+        Ok(())
+    }
+}
+
+// A writer that keeps all bytes, and whose flush fails.
+#[derive(Drop)]
+struct Unflushed {
+    kept: Vec<u8>,
+}
+
+impl Write for Unflushed {
+    fn write(&mut self, buf: &[u8]) -> io::Result<usize> {
+        self.kept.write(buf)
+    }
+
+    fn flush(&mut self) -> io::Result<()> {
+        Err(io::Error::from(ErrorKind::StorageFull))
+    }
+}
+
+// A writer that fails once, where it has this many bytes, and keeps what it is given before and after.
+#[derive(Drop)]
+struct Gap {
+    kept: Vec<u8>,
+    at: usize,
+    failed: bool,
+}
+
+impl Write for Gap {
+    fn write(&mut self, buf: &[u8]) -> io::Result<usize> {
+        if self.kept.len() == self.at && !self.failed {
+            self.failed = true;
+            return Err(io::Error::from(ErrorKind::StorageFull));
+        }
+        self.kept.write(buf)
+    }
+
+    fn flush(&mut self) -> io::Result<()> {
+        Ok(())
+    }
+}
+
+fn lost() -> io::Result<()> {
+    Err(io::Error::from(ErrorKind::StorageFull))
+}
+
+fn history_of(alloc: Global) -> Result<Record, Fail> {
+    let (_, history) = played(alloc, SCRIPT);
+    let history = history.ok_or("a script with no bad line runs")?;
+    Ok(history)
+}
+
+#[test]
+fn leaves_a_beginning_of_the_journal(rt: HostRuntime) -> Result<(), Fail> {
+    let history = history_of(rt.alloc())?;
+    let whole = written(rt.alloc(), &history)?;
+    assert!(rt; whole.len() > 300);
+    for room in 0..whole.len() {
+        let kept = Vec::new(rt.alloc());
+        let mut out = Full { kept, room };
+        assert!(rt; !write_journal(&history, &mut out), "with room for {room}");
+        assert_eq!(rt; out.kept.as_slice(), &whole[..room]);
+    }
+    let kept = Vec::new(rt.alloc());
+    let room = whole.len();
+    let mut out = Full { kept, room };
+    assert!(rt; write_journal(&history, &mut out));
+    assert_eq!(rt; out.kept.as_slice(), whole.as_slice());
+    Ok(())
+}
+
+#[test]
+fn tells_of_a_flush_that_fails(rt: HostRuntime) -> Result<(), Fail> {
+    let history = history_of(rt.alloc())?;
+    let kept = Vec::new(rt.alloc());
+    let mut out = Unflushed { kept };
+    assert!(rt; !write_journal(&history, &mut out));
+    assert_eq!(rt;
+        out.kept.as_slice(),
+        written(rt.alloc(), &history)?.as_slice()
+    );
+    Ok(())
+}
+
+// The line after one that couldn't be written runs and is printed, and the status tells.
+#[test]
+fn goes_on_after_a_line_that_is_lost(rt: HostRuntime) -> Result<(), Fail> {
+    let script = "seats 2\n0 open 100 1000 4096\n0 manager\n0 enter\n1 open 200 2000 4096\n";
+    let kept = Vec::new(rt.alloc());
+    let at = "2: opened 0 1\n".len();
+    let failed = false;
+    let mut out = Gap { kept, at, failed };
+    let mut err = Vec::new(rt.alloc());
+    let run = play(rt.alloc(), &mut script.as_bytes(), MANY, &mut out, &mut err);
+    let text = str::from_utf8(out.kept.as_slice())?;
+    assert_eq!(rt; text, "2: opened 0 1\n4: wrote 4 2 3\n5: opened 3 4\n");
+    assert!(rt; run.status == FAULT && err.is_empty());
+    let history = run.history.ok_or("a script with no bad line runs")?;
+    assert_eq!(rt; history.entries.as_slice().len(), 4);
+    Ok(())
+}
+
+#[test]
+fn tells_of_a_verdict_that_is_lost(rt: HostRuntime) -> Result<(), Fail> {
+    let history = history_of(rt.alloc())?;
+    let journal = written(rt.alloc(), &history)?;
+    let kept = Vec::new(rt.alloc());
+    let mut out = Full { kept, room: 0 };
+    let mut err = Vec::new(rt.alloc());
+    let status = check_journal(rt.alloc(), &mut journal.as_slice(), &mut out, &mut err);
+    assert!(rt; status == FAULT && err.is_empty());
+    Ok(())
+}
+
+// What is said, what it prints, and the status after these statuses.
+#[test]
+fn keeps_the_greatest_status(rt: HostRuntime) -> Result<(), Fail> {
+    let mut out = Vec::new(rt.alloc());
+    assert_eq!(rt; print(1, &Said::Back(Why::HistoryFull), &mut out, DONE), 0);
+    assert_eq!(rt; print(2, &Said::Back(Why::NoMemory), &mut out, DONE), 3);
+    assert_eq!(rt; print(3, &Said::Turns, &mut out, DONE), 2);
+    assert_eq!(rt; print(4, &Said::Turns, &mut out, MEMORY), 3);
+    assert_eq!(rt; print(5, &Said::Passed, &mut out, TURNS), 2);
+    assert_eq!(rt; print(6, &Said::Idle, &mut out, FAULT), 1);
+    let text = str::from_utf8(out.as_slice())?;
+    let want = "1: back full\n2: back memory\n3: turns\n4: turns\n5: passed\n6: idle\n";
+    assert_eq!(rt; text, want);
+    let kept = Vec::new(rt.alloc());
+    let mut lost = Full { kept, room: 0 };
+    assert_eq!(rt; print(1, &Said::Passed, &mut lost, DONE), 1);
+    assert_eq!(rt; print(1, &Said::Turns, &mut lost, DONE), 2);
+    Ok(())
+}
+
+// The faults with their texts and statuses, and what couldn't be written.
+#[test]
+fn tells_each_fault(rt: HostRuntime) -> Result<(), Fail> {
+    let mut err = Vec::new(rt.alloc());
+    assert_eq!(rt; tell(Fault::Arguments, &mut err), 1);
+    assert_eq!(rt; tell(Fault::File, &mut err), 1);
+    assert_eq!(rt; tell(Fault::Line(7), &mut err), 1);
+    assert_eq!(rt; tell(Fault::Journal, &mut err), 1);
+    assert_eq!(rt; tell(Fault::Memory, &mut err), 3);
+    assert_eq!(rt; tell(Fault::Thread, &mut err), 1);
+    let text = str::from_utf8(err.as_slice())?;
+    let want =
+        "fault: arguments\nfault: file\nfault: line 7\nfault: journal\nfault: memory\nfault: thread\n";
+    assert_eq!(rt; text, want);
+    assert_eq!(rt; after_writing(lost(), DONE), 1);
+    assert_eq!(rt; after_writing(lost(), TURNS), 2);
+    assert_eq!(rt; after_writing(Ok(()), DONE), 0);
+    Ok(())
+}
+
+// One turn is enough for what needs one.
+#[test]
+fn uses_the_last_turn(rt: HostRuntime) -> Result<(), Fail> {
+    let script = "seats 1\n0 open 100 1000 4096\n0 await 1\n0 await 2\n0 manager\n";
+    let mut out = Vec::new(rt.alloc());
+    let mut err = Vec::new(rt.alloc());
+    let status = play(rt.alloc(), &mut script.as_bytes(), 1, &mut out, &mut err).status;
+    let prints = "2: opened 0 1\n3: passed\n4: turns\n";
+    Printed { out, err, status }.expect(&rt, "one turn", prints, "", 2);
+    Ok(())
+}
+
+// Each seat stops at its turns, and the others go on; the later seat's success doesn't hide them.
+#[test]
+fn stops_a_threaded_seat_at_its_turns(rt: HostRuntime) -> Result<(), Fail> {
+    let script = "seats 2\n0 await 9\n0 open 100 1000 4096\n1 open 200 2000 4096\n1 manager\n";
+    let manner = Manner {
+        threads: true,
+        turns: 3,
+    };
+    let mut out = Vec::new(rt.alloc());
+    let mut err = Vec::new(rt.alloc());
+    let run = play_from(&rt, &mut script.as_bytes(), manner, &mut out, &mut err);
+    let status = run.status;
+    let prints = "2: turns\n4: opened 0 1\n5: set 1 2\n";
+    Printed { out, err, status }.expect(&rt, "threads", prints, "", 2);
+    let history = run.history.ok_or("a threaded run has a history too")?;
+    let journal = written(rt.alloc(), &history)?;
+    checked(rt.alloc(), &journal).expect(&rt, "threads", "lawful 2\n", "", 0);
+    Ok(())
+}
