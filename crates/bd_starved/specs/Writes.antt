@@ -1,5 +1,5 @@
 -- A write that memory stopped after some of its commands, and the rest of it.
-use Rattle.std.specs.Prelude.{ℕ, ◌≡◌, Bool, true, false, Some, None, drop}
+use Rattle.std.specs.Prelude.{ℕ, ◌≡◌, Bool, true, false, Option, Some, None, drop}
 use Rattle.bd_uapi.specs.declared.fault.Fault.TheVariants as fault
 use Rattle.bd_space.specs.declared.step.Answer.{Answer}
 use Rattle.bd_space.specs.declared.step.Answer.TheVariants as answer
