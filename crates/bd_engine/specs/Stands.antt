@@ -75,7 +75,8 @@ CanFollow t works = call_rooms.frame_count t.calls + call_rooms.turn_count t.cal
 -- room for a step: for so many objects, references, names and work items, a thread, a frame, a one-way call and a death
 -- notification, and for the work items that follow from them all
 pub record HasRoom (t : Tables) (objects references names works : ℕ) : Type 0 where
-  pub in_objects : object_rooms.HasRoom t.objects objects references names
+  pub in_objects : object_rooms.HasRoom t.objects
+      (record { objects = objects; references = references; names = names; deaths = 1 })
   pub threads_fit : 1 ≤ call_rooms.thread_room t.calls
   pub frames_fit : 1 ≤ call_rooms.frame_room t.calls
   pub turns_fit : 1 ≤ call_rooms.turn_room t.calls

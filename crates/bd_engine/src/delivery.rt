@@ -328,8 +328,8 @@ impl Tables {
 
     // The objects, the references and the names.
     fn known_by(&mut self, v: &Delivery) -> Result<(), NumbersFull>
-        requires { object_rooms.HasRoom self.old.objects (length v.now.sending.made) (length v.now.sending.items + 1)
-            (length v.now.sending.items) }
+        requires { object_rooms.HasRoom self.old.objects
+            (record (object_rooms.delivery_room v.now.sending.made v.now.sending.items) { deaths = 1 }) }
         ensures ok { OnOk result ((s : Space) → Before self.old s → Before self.new (spec.known_by s v.now)) }
         ensures err { OnErr result (IsKept self.old self.new) }
         ensures full { OnErr result (PassesLimit self.old (λ s. names_go (spec.known_by s v.now))) }

@@ -5,7 +5,7 @@ ghost use Rattle.std.specs.Prelude.{◌≡◌, ◌+◌, ◌<◌, IfOk, OnOk};
 use crate::processes::Processes;
 use bd_buffers::Windows;
 use bd_calls::CallTable;
-use bd_objects::ObjectTable;
+use bd_objects::{ObjectTable, Room};
 use bd_space::ObjectId;
 use std::alloc::{AllocError, Global};
 
@@ -68,7 +68,12 @@ impl Tables {
         ensures windows { self.new.windows ≡ self.old.windows }
     {
         let more = self.works_to_reserve(objects, works)?;
-        self.objects.reserve(objects, references, names)?;
+        self.objects.reserve(Room {
+            objects,
+            references,
+            names,
+            deaths: 1,
+        })?;
         self.calls.reserve(more)
     }
 }

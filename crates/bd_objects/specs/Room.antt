@@ -65,4 +65,5 @@ TakesNothing old new = Takes old new nothing
 
 -- for the objects that a parcel makes, a reference and a name for each of its items, and a reference to the target
 abbrev pub delivery_room : List Object → List Item → Room
-delivery_room made items = record { objects = length made; references = length items + 1; names = length items; deaths = 0 }
+delivery_room made items =
+    record { objects = length made; references = length items + 1; names = length items; deaths = 0 }

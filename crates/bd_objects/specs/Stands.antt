@@ -11,8 +11,8 @@ use Rattle.bd_space.specs.Space.{Space}
 use Rattle.bd_space.specs.Names.{has_number_past_limit}
 use Rattle.bd_objects.specs.declared.table.ObjectTable.{ObjectTable}
 
-pub record Stands (t : ObjectTable)
-    (objects : List Object) (references : List Reference) (names : List Name) (deaths : List DeathNotification) : Type 0 where
+pub record Stands (t : ObjectTable) (objects : List Object) (references : List Reference) (names : List Name)
+    (deaths : List DeathNotification) : Type 0 where
   pub objects_are : t.objects.items ≡ objects
   pub references_are : t.references.items ≡ references
   pub names_are : t.names.items ≡ names

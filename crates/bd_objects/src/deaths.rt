@@ -109,7 +109,8 @@ fn is_due(objects: &[Object], p: u32, x: &DeathNotification) -> bool
 /// Queues the notifications with the name of one by which the end of the process is to be told.
 fn queue_due(deaths: &mut Vec<DeathNotification>, objects: &[Object], p: u32)
     ensures items { deaths.new.items
-        ≡ changed (due.is_queued_in deaths.old.items objects.now p) (λ x. record x { phase = Queued }) deaths.old.items }
+        ≡ changed (due.is_queued_in deaths.old.items objects.now p)
+        (λ x. record x { phase = Queued }) deaths.old.items }
     ensures len { vec_len deaths.new ≡ vec_len deaths.old }
     ensures capacity { vec_capacity deaths.new ≡ vec_capacity deaths.old }
 {

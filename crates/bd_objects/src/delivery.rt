@@ -142,10 +142,10 @@ impl ObjectTable {
         }
     }
 
-    /// The objects, references and names of a delivery to the receiver: the objects that the sender makes, one reference
-    /// an item and one to the target, held by the buffer of this place, and a number for each object that the receiver is
-    /// to name and has no name for. All of it, or nothing where a number past the limit would be needed. Takes the
-    /// context manager's object.
+    /// The objects, references and names of a delivery to the receiver: the objects that the sender makes, one
+    /// reference an item and one to the target, held by the buffer of this place, and a number for each object that the
+    /// receiver is to name and has no name for. All of it, or nothing where a number past the limit would be needed.
+    /// Takes the context manager's object.
     #[tactic(auto, unfolding(bd_space::specs::Delivery::make_objects, bd_space::specs::Delivery::refer, bd_space::specs::Names::assign_numbers, bd_space::specs::Names::names_go, crate::specs::Room::rooms))]
     pub fn deliver(
         &mut self,

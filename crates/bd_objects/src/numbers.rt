@@ -1,7 +1,7 @@
 //! The numbers (handles) that new names get.
 
-ghost use Rattle.std.specs.Prelude.{◌≡◌, ◌≤◌, ◌<◌, ◌+◌, ◌&&◌, ◌++◌, not, is_some, length, map, List, vec_len, vec_capacity};
-ghost use Rattle.std.specs.Prelude.{Option, MatchOption, OnOk, OnErr};
+ghost use Rattle.std.specs.Prelude.{◌≡◌, ◌≤◌, ◌<◌, ◌+◌, ◌&&◌, ◌++◌, not, is_some, length, map, vec_len, vec_capacity};
+ghost use Rattle.std.specs.Prelude.{List, Option, MatchOption, OnOk, OnErr};
 ghost use Rattle.bd_space.specs.Names as names_of;
 ghost use Rattle.bd_space.specs.Parcels.{object_of_item};
 ghost use Rattle.bd_space.specs.declared.space.Name.{Name};

@@ -1,6 +1,7 @@
 //! Objects (nodes), and who owns them.
 
-ghost use Rattle.std.specs.Prelude.{◌≡◌, ◌==◌, ◌≤◌, ◌<◌, ◌+◌, ◌++◌, ◌∷◌, ◌&&◌, [], length, find, filter, slice_get, vec_len, vec_capacity, Option};
+ghost use Rattle.std.specs.Prelude.{◌≡◌, ◌==◌, ◌≤◌, ◌<◌, ◌+◌, ◌++◌, ◌∷◌, ◌&&◌, [], length, find, filter, slice_get};
+ghost use Rattle.std.specs.Prelude.{vec_len, vec_capacity, Option};
 ghost use Rattle.bd_space.specs.Words as words;
 ghost use Rattle.bd_space.specs.Seats as seats;
 ghost use Rattle.bd_space.specs.References as refer;
@@ -145,7 +146,8 @@ impl ObjectTable {
     /// The objects go that nothing keeps. Takes the live processes.
     #[tactic(auto, unfolding(bd_space::specs::References::objects_go, crate::specs::Room::rooms))]
     pub fn objects_go(&mut self, processes: &[Process])
-        ensures stands { MakesWhere (StandsFor self.old) (HasProcesses processes.now) (StandsFor self.new) refer.objects_go }
+        ensures stands { MakesWhere (StandsFor self.old) (HasProcesses processes.now) (StandsFor self.new)
+            refer.objects_go }
         ensures takes { TakesNothing self.old self.new }
     {
         keep_objects(&mut self.objects, processes, self.references.as_slice());

@@ -182,7 +182,8 @@ fn add_handshakes_of(
 )
     requires inside { before ≤ length references.old.items }
     requires room { vec_len references.old + 2 ≤ vec_capacity references.old }
-    ensures items { (s : Space) → s.references ≡ take before references.old.items → s.objects ≡ objects.now → IsAt place s
+    ensures items { (s : Space) → s.references ≡ take before references.old.items → s.objects ≡ objects.now
+        → IsAt place s
         → references.new.items
         ≡ references.old.items ++ reading.handshakes_of s (length references.old.items - before) kind }
     ensures grows { (added : List Reference) × (references.new.items ≡ references.old.items ++ added) }

@@ -8,8 +8,8 @@ use Rattle.bd_engine.proofs.tables.Tables.add_asked.Goals as goal
 pub returns-in-Ok-clause-stands : goal.returns-in-Ok-clause-stands
 unfolding ask assign_numbers
 returns-in-Ok-clause-stands c = λ s h. c.complete.ensures.stands (ask s c.args.p c.args.o c.args.strong)
-    (with-objects (s.steps + 1) c.args.self.now s _ _ _ _ _ h (c.in-Ok.ensures.ok s h.objects_stand h.steps_are h.manager_is))
+    (with-objects (s.steps + 1) c.args.self.now s _ _ _ _ _ h (c.in-Ok.ensures.ok s h.objects_stand (h.steps_are, h.manager_is)))
 
 pub returns-in-Err-clause-full : goal.returns-in-Err-clause-full
 returns-in-Err-clause-full c = λ s h. numbers-completed (ask s c.args.p c.args.o c.args.strong)
-    (c.in-Err.ensures.full s h.objects_stand h.steps_are h.manager_is)
+    (c.in-Err.ensures.full s h.objects_stand (h.steps_are, h.manager_is))

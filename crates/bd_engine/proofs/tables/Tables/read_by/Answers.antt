@@ -7,7 +7,7 @@ returns-clause-stands c = λ s h made. record {
   steps_are = h.steps_are;
   processes_are = h.processes_are;
   manager_is = h.manager_is;
-  objects_stand = c.read_by.ensures.stands s c.args.seat h.objects_stand h.steps_are;
+  objects_stand = c.read_by.ensures.stands c.args.seat s h.objects_stand h.steps_are;
   calls_stand = c.read_by-2.ensures.stands s h.calls_stand;
   windows_stand = c.hand_out.ensures s c.args.seat c.args.works.now h.windows_stand made;
 }
