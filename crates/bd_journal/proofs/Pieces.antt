@@ -12,7 +12,7 @@ use Rattle.bd_codec.specs.Spelling.{command_bytes}
 use Rattle.bd_space.specs.declared.step.Parcel.{Parcel}
 use Rattle.bd_space.specs.declared.step.Step.TheVariants as step
 use Rattle.bd_space.specs.declared.step.Entry.{Entry}
-use Rattle.bd_journal.specs.Spelling.{parcel_bytes, step_bytes, answer_bytes, entry_bytes, heading_bytes}
+use Rattle.bd_journal.specs.Spelling.{block, parcel_bytes, step_bytes, answer_bytes, entry_bytes, heading_bytes}
 use Rattle.bd_journal.specs.Writing.{Begins, Sends}
 
 pub begins_part : (a b : Option (List ℕ)) (n : ℕ) (x : List ℕ) → Appends a b (take n x) → Begins a b x
@@ -74,8 +74,11 @@ heading_parts seats count a b c d p q r s = rw (p, q, r, s) refl
 pub open_parts : (pid euid window : ℕ) (a b c : List ℕ) → a ≡ word pid → b ≡ word euid → c ≡ word window → (0 ∷ []) ++ (a ++ (b ++ (c ++ []))) ≡ step_bytes (step.Open pid euid window)
 open_parts pid euid window a b c p q r = rw (p, q, r) refl
 
+tagged_block : (tag : ℕ) (len text rest : List ℕ) → len ≡ word (length text) → ((tag ∷ []) ++ (len ++ (text ++ []))) ++ rest ≡ tag ∷ block text ++ rest
+tagged_block tag len text rest is = rw (is, append-nil text) refl
+
 pub command_parts : (c : Command) (p : Option Parcel) (l spelled : List ℕ) → l ≡ word (length spelled) → spelled ≡ command_bytes c → ((3 ∷ []) ++ (l ++ (spelled ++ []))) ++ parcel_bytes p ≡ step_bytes (step.Command c p)
-command_parts c p l spelled len is = rw (len, is, append-nil (command_bytes c)) refl
+command_parts c p l spelled len is = tagged_block 3 l spelled (parcel_bytes p) len ∙ ap (λ (text : List ℕ). 3 ∷ block text ++ parcel_bytes p) is
 
 pub entry_parts : (e : Entry) (a b c : List ℕ) → a ≡ word e.seat → b ≡ word (length (step_bytes e.step)) → c ≡ word (length (answer_bytes e.answer))
     → (a ++ (b ++ [])) ++ (step_bytes e.step ++ (c ++ answer_bytes e.answer)) ≡ entry_bytes e
