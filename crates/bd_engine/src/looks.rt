@@ -3,7 +3,6 @@
 ghost use Rattle.std.specs.Prelude.{ℕ, ◌≡◌};
 ghost use Rattle.std.specs.Option.{option_copied};
 ghost use Rattle.bd_space.specs.Space.{Space};
-ghost use Rattle.bd_space.specs.Frames.{serves};
 ghost use Rattle.bd_space.specs.Histories.{space_after};
 ghost use Rattle.bd_space.specs.Reading.{buffer_in};
 ghost use Rattle.bd_engine.specs.Looks as looks;
@@ -11,14 +10,9 @@ ghost use Rattle.bd_engine.specs.Stands.{StandsAt, Within};
 
 use crate::engine::Engine;
 use crate::tables::Tables;
+use bd_calls::serves;
 use bd_objects::CarriedObjects;
-use bd_space::{Buffer, ObjectId, Server, TodoList};
-
-fn serves(seat: u32, server: Server) -> bool
-    ensures { result ≡ serves seat server }
-{
-    matches!(server, Server::Serving(t) if t == seat)
-}
+use bd_space::{Buffer, ObjectId, TodoList};
 
 impl Tables {
     pub(crate) fn process_of(&self, seat: u32) -> Option<u32>
