@@ -40,7 +40,7 @@ use Rattle.bd_space.specs.ReadItems.{taken, read_by, serve, served_frames}
 use Rattle.bd_space.specs.Reading.{read_fault}
 use Rattle.bd_space.specs.Steps.{change, counted, by_actor}
 use Rattle.bd_space.specs.Histories.{after, next}
-use Rattle.bd_calls.specs.Replies.{reply_of}
+use Rattle.bd_calls.specs.TodoList.{reply_of}
 use Rattle.bd_audit.specs.Replies.{made_in, thread_made, items_read, items_taken, items_unless, frame_of, Calls, TakesCall, AnswersCall, At}
 use Rattle.bd_audit.proofs.EveryStep.{Keeps, every_step}
 use Rattle.bd_audit.proofs.Lists.{In, in-push, in-filter, in-changed, find-in, any-found}

@@ -53,7 +53,7 @@ use Rattle.bd_space.specs.ProcessExits.{exit_process_step}
 use Rattle.bd_space.specs.Outcomes.{Outcome, completed, refused, by_check}
 use Rattle.bd_space.specs.Steps.{change, open_step, open_outcome, open_fault, attach_step, attach_outcome, manager_step, manager_outcome, is_manager_busy, by_actor}
 use Rattle.bd_space.specs.Histories.{History, IsHistory, Follows, after}
-use Rattle.bd_calls.specs.Replies.{reply_of, first_reply_in}
+use Rattle.bd_calls.specs.TodoList.{reply_of, first_reply_in}
 use Rattle.bd_audit.specs.Hearing.{is_got}
 use Rattle.bd_audit.specs.Replies.{items_read, items_taken, items_unless, reply_taken, At}
 use Rattle.bd_audit.specs.Streams.{SpellsItems}

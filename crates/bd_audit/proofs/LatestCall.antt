@@ -24,7 +24,7 @@ use Rattle.bd_space.specs.ReadItems.{taken, ends_read}
 use Rattle.bd_space.specs.Reading.{read_fault}
 use Rattle.bd_space.specs.Returns.{bytes_read}
 use Rattle.bd_space.specs.Histories.{History, after}
-use Rattle.bd_calls.specs.Replies.{reply_of, first_reply_in}
+use Rattle.bd_calls.specs.TodoList.{reply_of, first_reply_in}
 use Rattle.bd_audit.specs.Replies.{thread_made, items_read, items_taken, items_unless, reply_taken, reply_taken_at, Answered, At}
 use Rattle.bd_audit.specs.Latest.{Closes, ReadsAnswer, Ended, AnswersLatest, is_answer, is_answer_of, before_reply}
 use Rattle.bd_audit.proofs.Lists.{In, Pairs, in-filter, filter-in, pairs-filter, any-found, any-in}

@@ -30,7 +30,7 @@ use Rattle.bd_space.specs.Replies.{reply_check, reply_to, reply_outcome, reply_s
 use Rattle.bd_space.specs.Commands.{command_step}
 use Rattle.bd_space.specs.Steps.{change, by_actor}
 use Rattle.bd_space.specs.Histories.{History, after}
-use Rattle.bd_calls.specs.Replies.{reply_of}
+use Rattle.bd_calls.specs.TodoList.{reply_of}
 use Rattle.bd_audit.specs.Replies.{thread_made, frame_of, reply_taken_at, Calls, AnswersCall, At, Answered}
 use Rattle.bd_audit.specs.Latest.{IsLatest}
 use Rattle.bd_audit.proofs.Lists.{In, any-in, all-in}

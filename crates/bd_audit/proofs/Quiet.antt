@@ -37,7 +37,7 @@ use Rattle.bd_space.specs.ProcessExits.{threads_go, without_process, tell_deaths
 use Rattle.bd_space.specs.Steps.{with_thread, with_process, with_manager}
 use Rattle.bd_space.specs.Asking.{ask, drop_asked, acknowledge}
 use Rattle.bd_space.specs.Commands.{with_looping}
-use Rattle.bd_calls.specs.Replies.{reply_of}
+use Rattle.bd_calls.specs.TodoList.{reply_of}
 use Rattle.bd_audit.specs.Replies.{made_in}
 use Rattle.bd_audit.proofs.Lists.{In, in-push, in-filter, in-map}
 use Rattle.bd_audit.proofs.Tests.{not-true}

@@ -38,7 +38,7 @@ use Rattle.bd_space.specs.Replies.{replied}
 use Rattle.bd_space.specs.ReadItems.{read_by}
 use Rattle.bd_space.specs.Steps.{counted}
 use Rattle.bd_space.specs.Histories.{History, next, space_after}
-use Rattle.bd_calls.specs.Replies.{reply_of}
+use Rattle.bd_calls.specs.TodoList.{reply_of}
 use Rattle.bd_audit.proofs.EveryStep.{Keeps, every_step, every_list}
 use Rattle.bd_audit.proofs.Lists.{In, in-push, in-filter, find-in, any-found, any-in}
 use Rattle.bd_audit.proofs.Tests.{both, same-eq}

@@ -38,7 +38,7 @@ use Rattle.bd_space.specs.Steps.{counted, with_thread, with_process, with_manage
 use Rattle.bd_space.specs.Asking.{ask, drop_asked, acknowledge}
 use Rattle.bd_space.specs.Commands.{with_looping}
 use Rattle.bd_space.specs.Histories.{after, next}
-use Rattle.bd_calls.specs.Replies.{reply_of}
+use Rattle.bd_calls.specs.TodoList.{reply_of}
 use Rattle.bd_audit.proofs.EveryStep.{Keeps, every_step, every_list}
 use Rattle.bd_audit.proofs.Lists.{In, in-left, in-last, in-push, in-filter, filter-in, in-filter_map, changed-in, map-in, any-found, any-in, find-in, pairs-either, fold-keeps}
 use Rattle.bd_audit.proofs.Tests.{both, not-true}

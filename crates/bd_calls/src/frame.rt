@@ -24,7 +24,7 @@ fn is_child_of(frame: &Frame, child: &Frame) -> bool
     child.parent == Some(frame.made)
 }
 
-pub(crate) fn has_child(frames: &[Frame], frame: &Frame) -> bool
+fn has_child(frames: &[Frame], frame: &Frame) -> bool
     ensures { result ≡ list_any (spec.is_child_of frame.now) frames.now }
 {
     frames.iter().any(|f| is_child_of(frame, f))
@@ -97,7 +97,7 @@ fn waits(threads: &[Thread], process: u32, frame: &Frame) -> bool
         .is_some_and(|thread| thread.process == process)
 }
 
-pub(crate) fn innermost_made(frames: &[Frame], seat: u32) -> Option<u32>
+fn innermost_made(frames: &[Frame], seat: u32) -> Option<u32>
     ensures { result ≡ option_map spec.made_of (spec.innermost_in frames.now seat) }
 {
     innermost_of(frames, seat).map(|f| f.made)

@@ -17,7 +17,7 @@ use crate::thread::thread_of;
 use crate::work::{hands_over, is_call, is_notice, is_on, is_taken, reply_of, stands_in_way};
 use bd_space::{Frame, Identity, ObjectId, Thread, TodoList, Work, WorkKind};
 
-pub(crate) fn has_work(todo: &[Work], list: TodoList) -> bool
+fn has_work(todo: &[Work], list: TodoList) -> bool
     ensures { result ≡ spec.has_work_in todo.now list }
 {
     todo.iter().any(|w| is_on(list, w))
@@ -234,6 +234,9 @@ impl CallTable {
     /// go of which nothing is left to say.
     pub fn retain_work<F: Fn(WorkKind) -> bool>(&mut self, f: F)
         requires { F.IsAlwaysCallable f }
+        ensures kept { (s : Space) (p : WorkKind → Bool) → StandsFor self.old s
+            → AnswersBy (λ kind b. F.post f kind b) p
+            → StandsFor self.new (record s { todo = filter (λ w. p w.kind) s.todo }) }
         ensures stands { (s : Space) → StandsFor self.old s
             → AnswersBy (λ kind b. F.post f kind b) (notices.still_due s.processes s.objects s.references s.deaths)
             → StandsFor self.new (notices.work_goes s) }

@@ -54,7 +54,7 @@ pub record IsReady (t : Tables) (v : Delivery) : Type 0 where
 
 -- a change takes room for so many frames, one-way calls and work items, and adds at most so many objects
 pub record Spends (old new : Tables) (objects frames turns works : ℕ) : Type 0 where
-  pub calls : call_rooms.Takes old.calls new.calls 0 frames turns works
+  pub calls : call_rooms.Takes old.calls new.calls (record call_rooms.nothing { frames = frames; turns = turns; works = works })
   pub objects_count : object_rooms.object_count new.objects ≤ object_rooms.object_count old.objects + objects
 
 abbrev pub SpendsNothing : Tables → Tables → Type 0
@@ -62,7 +62,7 @@ SpendsNothing old new = Spends old new 0 0 0 0
 
 -- a change of work items alone takes room for at most so many
 pub record OnlyWorks (old new : Tables) (works : ℕ) : Type 0 where
-  pub calls : call_rooms.Takes old.calls new.calls 0 0 0 works
+  pub calls : call_rooms.Takes old.calls new.calls (record call_rooms.nothing { works = works })
   pub objects_are : new.objects ≡ old.objects
   pub windows_are : new.windows ≡ old.windows
 

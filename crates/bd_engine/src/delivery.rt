@@ -22,6 +22,7 @@ ghost use Rattle.bd_engine.specs.Deliveries.{IsInside, IsSound, IsDeliverable, I
 
 use crate::sending::Sending;
 use crate::tables::Tables;
+use bd_buffers::needed;
 use bd_objects::NumbersFull;
 use bd_parcel::put_object;
 use bd_space::{Actor, Buffer, Bytes, Item, Object, ObjectId, Parcel, Process, TodoList, Turn};
@@ -88,14 +89,6 @@ impl Delivery {
     {
         self.items.as_slice()
     }
-}
-
-// The room that data and offsets of these sizes take.
-fn needed(data_size: u64, offsets_size: u64) -> u32
-    requires { room.needed data_size offsets_size ≤ 4194304 }
-    ensures { result ≡ room.needed data_size offsets_size }
-{
-    (data_size.next_multiple_of(8) + offsets_size.next_multiple_of(8)).max(8) as u32
 }
 
 // A one-way call, by its buffer.

@@ -6,7 +6,7 @@ ghost use Rattle.bd_space.specs.Space.{Space};
 ghost use Rattle.bd_space.specs.Seats.{process_in};
 ghost use Rattle.bd_space.specs.Freeing as freeing;
 ghost use Rattle.bd_space.specs.Outcomes.{completed};
-ghost use Rattle.bd_buffers.specs.Windows.{freed_buffer};
+ghost use Rattle.bd_buffers.specs.Buffer.{freed_buffer};
 ghost use Rattle.bd_engine.specs.Stands.{Within, CanFollow, MakesWithin, TakesNothing};
 ghost use Rattle.bd_engine.specs.Meets.{IsBy, IsStep};
 

@@ -14,6 +14,7 @@ ghost use Rattle.bd_buffers.specs.WindowsStand.{IsInWindow};
 ghost use Rattle.bd_engine.specs.Stands.{TellsBefore};
 
 use crate::tables::Tables;
+use bd_buffers::pointer_of;
 use bd_codec::write_return;
 use bd_space::{Actor, Buffer, Object, WorkKind};
 use bd_uapi::{Return, TransactionData};
@@ -57,19 +58,12 @@ fn signed(pid: u32) -> i32
     pid as i32
 }
 
-// Where a buffer's data begins, as its receiver sees it.
-fn data_start(b: &Buffer) -> u64
-    ensures { result ≡ pointer b.now }
-{
-    65536 + b.start as u64
-}
-
 // Where its offsets begin.
 fn offsets_start(b: &Buffer) -> u64
     requires { IsInWindow b.now }
     ensures { result ≡ pointer b.now + rounded (length b.now.bytes) }
 {
-    data_start(b) + 8 * ((b.bytes.len() as u64 + 7) / 8)
+    pointer_of(b) + 8 * ((b.bytes.len() as u64 + 7) / 8)
 }
 
 impl Tables {
@@ -146,7 +140,7 @@ impl Tables {
             sender_euid: b.euid,
             data_size: b.bytes.len() as u64,
             offsets_size: b.offsets.len() as u64,
-            buffer: data_start(b),
+            buffer: pointer_of(b),
             offsets: offsets_start(b),
         }
     }

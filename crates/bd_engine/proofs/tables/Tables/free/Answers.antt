@@ -6,7 +6,7 @@ use Rattle.bd_space.specs.declared.space.Buffer.{Buffer}
 use Rattle.bd_space.specs.Space.{Space}
 use Rattle.bd_space.specs.Outcomes.{Outcome, accepted, noted}
 use Rattle.bd_space.specs.Freeing.{free_step, free_outcome, without_buffer, buffer_at_pointer}
-use Rattle.bd_buffers.specs.Windows.{freed_buffer}
+use Rattle.bd_buffers.specs.Buffer.{freed_buffer}
 use Rattle.bd_engine.proofs.Standing.{within}
 use Rattle.bd_engine.proofs.Acting.{process-of}
 use Rattle.bd_engine.proofs.Accepting.{accepts, notes}
