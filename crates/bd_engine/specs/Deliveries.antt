@@ -3,7 +3,9 @@ use Rattle.std.specs.Prelude.{ℕ, ◌≡◌, ◌+◌, ◌≤◌, Bool, List, Op
 use Rattle.bd_uapi.specs.declared.command.TransactionData.{TransactionData}
 use Rattle.bd_uapi.specs.declared.fault.Cause.{Cause}
 use Rattle.bd_space.specs.declared.step.ObjectId.{ObjectId}
+use Rattle.bd_space.specs.declared.step.Parcel.{Parcel}
 use Rattle.bd_space.specs.declared.space.Process.{Process}
+use Rattle.bd_space.specs.declared.space.Object.{Object}
 use Rattle.bd_space.specs.declared.space.Item.{Item}
 use Rattle.bd_space.specs.Words.{and_then}
 use Rattle.bd_space.specs.Space.{Space}
@@ -15,6 +17,9 @@ use Rattle.bd_calls.specs.Room as call_rooms
 use Rattle.bd_buffers.specs.WindowsStand.{CanAdd, buffer_room}
 use Rattle.bd_engine.specs.declared.tables.Tables.{Tables}
 use Rattle.bd_engine.specs.Stands.{HasRoom}
+
+abbrev pub sending : Parcel → List Object → List Item → Sending
+sending q made items = record { bytes = q.bytes; offsets = q.offsets; made = made; items = items }
 
 -- the item's 24 bytes lie inside the data
 abbrev pub IsInside : List ℕ → Item → Type 0

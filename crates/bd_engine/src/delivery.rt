@@ -16,7 +16,7 @@ ghost use Rattle.bd_calls.specs.Room as call_rooms;
 ghost use Rattle.bd_buffers.specs.WindowsStand.{CanAdd, buffer_room};
 ghost use Rattle.bd_engine.specs.Stands.{Before, Within, Tells, Makes, Begins, PassesLimit};
 ghost use Rattle.bd_engine.specs.Meets.{IsKept};
-ghost use Rattle.bd_engine.specs.Deliveries.{IsInside, IsSound, IsDeliverable, IsReady, Spends, OnlyWorks, OnlyObjects, placed_for};
+ghost use Rattle.bd_engine.specs.Deliveries.{IsInside, IsSound, IsDeliverable, IsReady, Spends, OnlyWorks, OnlyObjects, placed_for, sending};
 
 use crate::sending::Sending;
 use crate::tables::Tables;
@@ -33,14 +33,22 @@ pub(crate) struct Delivery {
     receiver: Process,
     target: Option<ObjectId>,
     one_way: bool,
-    sending: Sending,
+    parcel: Parcel,
+    made: Vec<Object>,
+    items: Vec<Item>,
     start: u32,
 }
 
 impl Model for Delivery {
     ghost Value = { spec.Delivery };
 
-    ghost view = { λ v. record { receiver = v.receiver; target = v.target; one_way = v.one_way; sending = v.sending; start = v.start } };
+    ghost view = { λ v. record {
+      receiver = v.receiver;
+      target = v.target;
+      one_way = v.one_way;
+      sending = sending v.parcel v.made.items v.items.items;
+      start = v.start;
+    } };
 }
 
 impl Delivery {
@@ -69,14 +77,14 @@ impl Delivery {
     pub(crate) fn made(&self) -> &[Object]
         ensures { result.now ≡ self.now.sending.made }
     {
-        self.sending.made()
+        self.made.as_slice()
     }
 
     /// All its objects.
     pub(crate) fn items(&self) -> &[Item]
         ensures { result.now ≡ self.now.sending.items }
     {
-        self.sending.items()
+        self.items.as_slice()
     }
 }
 
@@ -123,32 +131,38 @@ fn is_strong_kind(kind: ObjectKind) -> bool
 }
 
 impl Tables {
-    // Where the sending goes in its receiver's window.
+    // Where the sending goes in its receiver's window. Its parcel is copied only where there is a place for it.
     fn placed_for(
         &self,
         d: &TransactionData,
         receiver: Process,
         target: Option<ObjectId>,
         one_way: bool,
-        sending: Sending,
-    ) -> Result<Delivery, Cause>
+        sending: Sending<'_>,
+    ) -> Result<Result<Delivery, Cause>, AllocError>
         requires { IsSound d.now sending }
-        ensures computed { (s : Space) → Before self.now s → process_in s.processes receiver.made ≡ Some receiver
-            → result ≡ placed_for s d.now receiver target one_way sending }
-        ensures deliverable { IfOk result (IsDeliverable self.now d.now) }
+        ensures computed { IfOk result
+            (λ r. (s : Space) → Before self.now s → process_in s.processes receiver.made ≡ Some receiver
+            → r ≡ placed_for s d.now receiver target one_way sending.entry) }
+        ensures deliverable { IfOk result (λ r. IfOk r (IsDeliverable self.now d.now)) }
     {
         match self
             .windows
             .place(receiver.made, one_way, d.data_size, d.offsets_size)
         {
-            Err(cause) => Err(cause),
-            Ok(start) => Ok(Delivery {
-                receiver,
-                target,
-                one_way,
-                sending,
-                start,
-            }),
+            Err(cause) => Ok(Err(cause)),
+            Ok(start) => {
+                let (parcel, made, items) = sending.into_parts()?;
+                Ok(Ok(Delivery {
+                    receiver,
+                    target,
+                    one_way,
+                    parcel,
+                    made,
+                    items,
+                    start,
+                }))
+            }
         }
     }
 
@@ -170,7 +184,7 @@ impl Tables {
     {
         match self.sending_of(a.process.made, d, parcel)? {
             Err(cause) => Ok(Err(cause)),
-            Ok(sending) => Ok(self.placed_for(d, receiver, target, one_way, sending)),
+            Ok(sending) => self.placed_for(d, receiver, target, one_way, sending),
         }
     }
 
@@ -221,10 +235,12 @@ impl Tables {
             receiver,
             target,
             one_way,
-            sending,
+            parcel,
+            made: _,
+            items,
             start,
         } = v;
-        let (bytes, offsets, items) = sending.into_parts();
+        let Parcel { bytes, offsets } = parcel;
         Buffer {
             made: self.steps,
             receiver: receiver.made,

@@ -13,7 +13,8 @@ use crate::tables::Tables;
 use bd_objects::CarriedObjects;
 use bd_space::{Buffer, ObjectId, Server, TodoList};
 
-fn serves(seat: u32, server: Server) -> bool
+/// The thread of the seat serves by this.
+pub(crate) fn serves(seat: u32, server: Server) -> bool
     ensures { result ≡ serves seat server }
 {
     matches!(server, Server::Serving(t) if t == seat)

@@ -11,7 +11,7 @@ ghost use Rattle.bd_space.specs.Reading as spec;
 ghost use Rattle.bd_buffers.specs.WindowsStand.{made_of_buffer};
 ghost use Rattle.bd_objects.specs.Room.{reference_room, object_count};
 ghost use Rattle.bd_calls.specs.Room.{work_room};
-ghost use Rattle.bd_engine.specs.Stands.{Before, TellsBefore, TellsWithin, MakesWithin, TakesNothing};
+ghost use Rattle.bd_engine.specs.Stands.{Before, Within, TellsBefore, TellsWithin, TakesNothing};
 ghost use Rattle.bd_engine.specs.Meets.{Meets, IsAny, IsBy, IsKept, IsStepTwice};
 ghost use Rattle.bd_engine.specs.Taking.{AreTaken};
 
@@ -60,6 +60,34 @@ fn handed_by(works: &[Work]) -> Option<u32>
         }
     }
     None
+}
+
+// Where the buffer was made.
+fn made_of(buffer: Option<&Buffer>) -> Option<u32>
+    ensures { result ≡ option_map made_of_buffer (option_copied buffer.entry) }
+{
+    match buffer {
+        Some(b) => Some(b.made),
+        None => None,
+    }
+}
+
+// The answer of a read: the bytes, and copies of the data and offsets that are handed over.
+fn got(alloc: Global, buffer: Option<&Buffer>, stream: Vec<u8>) -> Result<StepAnswer, AllocError>
+    ensures { IfOk result (λ answer. answer ≡ spec.got stream.items (option_copied buffer.entry)) }
+{
+    match buffer {
+        Some(b) => Ok(StepAnswer::Got {
+            stream: Bytes::new(stream),
+            bytes: b.bytes.copied()?,
+            offsets: b.offsets.copied()?,
+        }),
+        None => Ok(StepAnswer::Got {
+            stream: Bytes::new(stream),
+            bytes: Bytes::new(Vec::new(alloc)),
+            offsets: Bytes::new(Vec::new(alloc)),
+        }),
+    }
 }
 
 // Nothing is taken yet.
@@ -149,35 +177,6 @@ impl Tables {
         }
     }
 
-    // Where that buffer was made.
-    fn made_taken(&self, works: &[Work]) -> Option<u32>
-        ensures { TellsWithin self.now result (λ s. option_map made_of_buffer (spec.buffer_taken s works.now)) }
-    {
-        match self.buffer_taken(works) {
-            Some(b) => Some(b.made),
-            None => None,
-        }
-    }
-
-    // The answer of a read: the bytes, and copies of the data and offsets that are handed over.
-    fn got(&self, works: &[Work], stream: Vec<u8>) -> Result<StepAnswer, AllocError>
-        ensures { IfOk result
-            (λ answer. TellsWithin self.now answer (λ s. spec.got stream.items (spec.buffer_taken s works.now))) }
-    {
-        match self.buffer_taken(works) {
-            Some(b) => Ok(StepAnswer::Got {
-                stream: Bytes::new(stream),
-                bytes: b.bytes.copied()?,
-                offsets: b.offsets.copied()?,
-            }),
-            None => Ok(StepAnswer::Got {
-                stream: Bytes::new(stream),
-                bytes: Bytes::new(Vec::new(self.alloc)),
-                offsets: Bytes::new(Vec::new(self.alloc)),
-            }),
-        }
-    }
-
     // Makes room for the reading of so many work items.
     fn reserve_read(&mut self, works: usize) -> Result<(), AllocError>
         ensures stands { IsKept self.old self.new }
@@ -188,13 +187,13 @@ impl Tables {
         self.reserve(0, references, 0, 0)
     }
 
-    // The thread of a seat has read these work items.
-    fn read_by(&mut self, seat: u32, works: &[Work])
+    // The thread of a seat has read these work items, by which the buffer made there is handed over.
+    fn read_by(&mut self, seat: u32, works: &[Work], made: Option<u32>)
         requires { 2 * length works.now ≤ reference_room self.old.objects }
-        ensures stands { MakesWithin self.old self.new (λ s. spec.read_by s seat works.now) }
+        ensures stands { (s : Space) → Within self.old s → made ≡ option_map made_of_buffer (spec.buffer_taken s works.now)
+            → Within self.new (spec.read_by s seat works.now) }
         ensures takes { TakesNothing self.old self.new }
     {
-        let made = self.made_taken(works);
         self.objects.read_by(self.steps, works);
         self.calls.read_by(seat, works);
         self.windows.hand_out(made);
@@ -209,10 +208,12 @@ impl Tables {
         ensures err { OnErr result (IsKept self.old self.new) }
     {
         let Taking { works, stream } = self.take(list, limit)?;
-        let answer = self.got(works.as_slice(), stream)?;
+        let buffer = self.buffer_taken(works.as_slice());
+        let made = made_of(buffer);
+        let answer = got(self.alloc, buffer, stream)?;
         let again = answer.copied()?;
         self.reserve_read(works.len())?;
-        self.read_by(seat, works.as_slice());
+        self.read_by(seat, works.as_slice(), made);
         self.follow();
         Ok(Twice { answer, again })
     }

@@ -6,11 +6,11 @@ ghost use Rattle.bd_parcel.specs.Parcels.{offsets_in, fault_in};
 ghost use Rattle.bd_parcel.specs.Reading.{objects_at};
 ghost use Rattle.bd_space.specs.Parcels as parcels;
 ghost use Rattle.bd_engine.specs.Stands.{Tells};
-ghost use Rattle.bd_engine.specs.Deliveries.{IsInside, IsSound};
+ghost use Rattle.bd_engine.specs.Deliveries.{IsInside, IsSound, sending};
 
 use crate::tables::Tables;
 use bd_parcel::{Objects, WalkFault, walk};
-use bd_space::{Bytes, Item, Object, Parcel, Resolved};
+use bd_space::{Item, Object, Parcel, Resolved};
 use bd_uapi::{Cause, FlatObject, TransactionData};
 use std::alloc::AllocError;
 use std::marker::Model;
@@ -18,49 +18,31 @@ use std::marker::Model;
 /// The most objects that a parcel may carry: each gets a number of 32 bits.
 const MOST_OBJECTS: usize = 0xffff_ffff;
 
-/// What is sent: the parcel's bytes, the objects that its sender makes by it, and all its objects in their order.
+/// What is sent: a parcel, the objects that its sender makes by it, and all its objects in their order.
 #[derive(Drop)]
-pub(crate) struct Sending {
-    bytes: Bytes,
-    offsets: Bytes,
+pub(crate) struct Sending<'a> {
+    parcel: &'a Parcel,
     made: Vec<Object>,
     items: Vec<Item>,
 }
 
-impl Model for Sending {
+impl<'a> Model for Sending<'a> {
     ghost Value = { parcels.Sending };
 
-    ghost view = { λ x. record { bytes = x.bytes; offsets = x.offsets; made = x.made.items; items = x.items.items } };
+    ghost view = { λ x. sending x.parcel.now x.made.items x.items.items };
 }
 
-impl Sending {
-    /// The objects that the sender makes.
-    pub(crate) fn made(&self) -> &[Object]
-        ensures { result.now ≡ self.now.made }
-    {
-        self.made.as_slice()
-    }
-
-    /// All its objects.
-    pub(crate) fn items(&self) -> &[Item]
-        ensures { result.now ≡ self.now.items }
-    {
-        self.items.as_slice()
-    }
-
-    /// The data, the offsets and all its objects. Takes no memory.
-    pub(crate) fn into_parts(self) -> (Bytes, Bytes, Vec<Item>)
-        ensures bytes { result.0 ≡ self.bytes }
-        ensures offsets { result.1 ≡ self.offsets }
-        ensures items { result.2.items ≡ self.items }
+impl<'a> Sending<'a> {
+    /// A copy of the parcel, the objects that the sender makes, and all its objects.
+    pub(crate) fn into_parts(self) -> Result<(Parcel, Vec<Object>, Vec<Item>), AllocError>
+        ensures { IfOk result (λ x. sending x.0 x.1.items x.2.items ≡ self.entry) }
     {
         let Sending {
-            bytes,
-            offsets,
-            made: _,
+            parcel,
+            made,
             items,
         } = self;
-        (bytes, offsets, items)
+        Ok((parcel.copied()?, made, items))
     }
 }
 
@@ -106,20 +88,20 @@ fn add(
 
 impl Tables {
     // The objects of a walked parcel, one after the other.
-    fn resolve_all(
+    fn resolve_all<'a>(
         &self,
         p: u32,
-        q: &Parcel,
+        parcel: &'a Parcel,
         objects: &Objects<'_>,
-    ) -> Result<Result<Sending, Cause>, AllocError>
-        requires bytes { objects.now.bytes ≡ q.now.bytes }
-        requires offsets { objects.now.offsets ≡ offsets_in q.now.offsets }
-        requires objects { objects.now.objects ≡ objects_at q.now.bytes (offsets_in q.now.offsets) }
+    ) -> Result<Result<Sending<'a>, Cause>, AllocError>
+        requires bytes { objects.now.bytes ≡ parcel.now.bytes }
+        requires offsets { objects.now.offsets ≡ offsets_in parcel.now.offsets }
+        requires objects { objects.now.objects ≡ objects_at parcel.now.bytes (offsets_in parcel.now.offsets) }
         ensures computed { IfOk result
             (λ r. Tells self.now r
-            (λ s. parcels.resolve_all s p q.now.bytes q.now.offsets [] [] (offsets_in q.now.offsets))) }
-        ensures bytes { IfOk result (λ r. IfOk r (λ x. x.bytes ≡ q.now.bytes)) }
-        ensures offsets { IfOk result (λ r. IfOk r (λ x. x.offsets ≡ q.now.offsets)) }
+            (λ s. parcels.resolve_all s p parcel.now.bytes parcel.now.offsets [] [] (offsets_in parcel.now.offsets))) }
+        ensures bytes { IfOk result (λ r. IfOk r (λ x. x.bytes ≡ parcel.now.bytes)) }
+        ensures offsets { IfOk result (λ r. IfOk r (λ x. x.offsets ≡ parcel.now.offsets)) }
         ensures inside { IfOk result (λ r. IfOk r (λ x. All (IsInside x.bytes) x.items)) }
     {
         if objects.len() > MOST_OBJECTS {
@@ -137,40 +119,42 @@ impl Tables {
                 Ok(resolved) => add(&mut made, &mut items, x.start, x.object, resolved)?,
             }
         }
-        let Parcel { bytes, offsets } = q.copied()?;
         Ok(Ok(Sending {
-            bytes,
-            offsets,
+            parcel,
             made,
             items,
         }))
     }
 
     // A parcel whose offsets are whole.
-    fn resolve_walked(&self, p: u32, q: &Parcel) -> Result<Result<Sending, Cause>, AllocError>
-        requires { length q.now.offsets % 8 ≡ 0 }
+    fn resolve_walked<'a>(
+        &self,
+        p: u32,
+        parcel: &'a Parcel,
+    ) -> Result<Result<Sending<'a>, Cause>, AllocError>
+        requires { length parcel.now.offsets % 8 ≡ 0 }
         ensures computed { IfOk result
             (λ r. Tells self.now r
-            (λ s. parcels.resolve_walked s p q.now (fault_in q.now.bytes (offsets_in q.now.offsets)))) }
-        ensures bytes { IfOk result (λ r. IfOk r (λ x. x.bytes ≡ q.now.bytes)) }
-        ensures offsets { IfOk result (λ r. IfOk r (λ x. x.offsets ≡ q.now.offsets)) }
+            (λ s. parcels.resolve_walked s p parcel.now (fault_in parcel.now.bytes (offsets_in parcel.now.offsets)))) }
+        ensures bytes { IfOk result (λ r. IfOk r (λ x. x.bytes ≡ parcel.now.bytes)) }
+        ensures offsets { IfOk result (λ r. IfOk r (λ x. x.offsets ≡ parcel.now.offsets)) }
         ensures inside { IfOk result (λ r. IfOk r (λ x. All (IsInside x.bytes) x.items)) }
     {
-        match walk(q.bytes.as_slice(), q.offsets.as_slice()) {
+        match walk(parcel.bytes.as_slice(), parcel.offsets.as_slice()) {
             Err(fault) => Ok(Err(cause_of_walk(fault))),
-            Ok(objects) => self.resolve_all(p, q, &objects),
+            Ok(objects) => self.resolve_all(p, parcel, &objects),
         }
     }
 
     /// What the process sends by this parcel, or the first cause against it. `AllocError` also where a parcel carries more
     /// objects than there are numbers of 32 bits.
     #[tactic(auto, unfolding(bd_space::specs::Parcels::sending_of))]
-    pub(crate) fn sending_of(
+    pub(crate) fn sending_of<'a>(
         &self,
         p: u32,
         d: &TransactionData,
-        parcel: &Option<Parcel>,
-    ) -> Result<Result<Sending, Cause>, AllocError>
+        parcel: &'a Option<Parcel>,
+    ) -> Result<Result<Sending<'a>, Cause>, AllocError>
         ensures computed { IfOk result (λ r. Tells self.now r (λ s. parcels.sending_of s p d.now parcel.now)) }
         ensures sound { IfOk result (λ r. IfOk r (IsSound d.now)) }
     {

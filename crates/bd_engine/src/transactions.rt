@@ -1,6 +1,6 @@
 //! The step of BC_TRANSACTION.
 
-ghost use Rattle.std.specs.Prelude.{ℕ, ◌≡◌, ◌≤◌, Some, None, if◌then◌else◌, IfOk, IfErr, IfSome, OnOk, OnErr};
+ghost use Rattle.std.specs.Prelude.{ℕ, ◌≡◌, ◌≤◌, ◌&&◌, Some, None, is_some, is_none, option_and_then, if◌then◌else◌, IfOk, IfErr, IfSome, OnOk, OnErr};
 ghost use Rattle.bd_space.specs.Space.{Space};
 ghost use Rattle.bd_space.specs.Seats.{process_in};
 ghost use Rattle.bd_space.specs.declared.space.TodoList.TheVariants.{OfThread};
@@ -8,6 +8,7 @@ ghost use Rattle.bd_space.specs.declared.space.WorkKind.TheVariants as kinds;
 ghost use Rattle.bd_space.specs.Todo as todo;
 ghost use Rattle.bd_space.specs.Names.{names_go, has_number_past_limit};
 ghost use Rattle.bd_space.specs.Outcomes as outcomes;
+ghost use Rattle.bd_space.specs.Frames as frames;
 ghost use Rattle.bd_space.specs.Transactions as spec;
 ghost use Rattle.bd_calls.specs.Room.{work_room, frame_room};
 ghost use Rattle.bd_engine.specs.Stands.{StandsAt, CanFollow, Tells, TellsBefore, Makes, Begins, PassesLimit};
@@ -15,11 +16,12 @@ ghost use Rattle.bd_engine.specs.Meets.{IsAny, IsBy, IsKept, IsStep};
 ghost use Rattle.bd_engine.specs.Deliveries.{IsDeliverable, IsReady, Spends};
 
 use crate::delivery::Delivery;
+use crate::looks::serves;
 use crate::plain::Plain;
 use crate::tables::Tables;
 use crate::why::Why;
 use bd_objects::NumbersFull;
-use bd_space::{Actor, Callee, ObjectId, Parcel, Process, WorkKind};
+use bd_space::{Actor, Callee, Frame, ObjectId, Parcel, Process, WorkKind};
 use bd_uapi::{Cause, Return, TransactionData};
 use std::alloc::AllocError;
 
@@ -34,6 +36,16 @@ fn handle_of(d: &TransactionData) -> u32
     ensures { result ≡ spec.handle_of d.now }
 {
     (d.target % 0x1_0000_0000) as u32
+}
+
+// The thread is in a frame, and doesn't serve it.
+fn is_unserved(seat: u32, innermost: Option<Frame>) -> bool
+    ensures { result ≡ (is_some innermost && is_none (option_and_then (frames.if_served seat) innermost)) }
+{
+    match innermost {
+        Some(f) => !serves(seat, f.server),
+        None => false,
+    }
 }
 
 // What is left for the writer of a refused transaction.
@@ -105,11 +117,11 @@ impl Tables {
     }
 
     // Why the thread may not call and wait.
-    #[tactic(auto, unfolding(bd_space::specs::Transactions::caller_cause))]
+    #[tactic(auto, unfolding(bd_space::specs::Transactions::caller_cause, bd_space::specs::Frames::innermost, bd_space::specs::Frames::served_innermost))]
     fn caller_cause(&self, seat: u32) -> Option<Cause>
         ensures { Tells self.now result (λ s. spec.caller_cause s seat) }
     {
-        if self.calls.innermost(seat).is_some() && self.calls.served_innermost(seat).is_none() {
+        if is_unserved(seat, self.calls.innermost(seat)) {
             return Some(Cause::NotServing);
         }
         if self.calls.has_unread(seat) {

@@ -1,4 +1,6 @@
-use Rattle.std.proofs.Common.{◌-◌, Some, List, subst, ap, ◌∙◌}
+use Rattle.std.proofs.Common.{◌-◌, Some, List, subst, sym, ap, ◌∙◌, option_map}
+use Rattle.std.specs.Option.{option_copied}
+use Rattle.bd_buffers.specs.WindowsStand.{made_of_buffer}
 use Rattle.bd_space.specs.declared.space.Work.{Work}
 use Rattle.bd_space.specs.Todo.{work_on}
 use Rattle.bd_space.specs.Reading.{read_taking, read_by, got, stream_of, buffer_taken, taken}
@@ -12,10 +14,13 @@ unfolding read_taking
 returns-clause-ok c = meets _ _ _ _ _ (λ s h by.
     let all = taken s (c.args.limit - 4) (work_on s.todo (Some c.args.list)) in
     let t = c.in_ok-works.ensures s h in
+    let buffer = c.buffer_taken-buffer.ensures s (within _ s h) in
+    let made = c.made_of-made.ensures ∙ ap (option_map made_of_buffer) buffer
+    ∙ ap (λ (ws : List Work). option_map made_of_buffer (buffer_taken s ws)) (c.as_slice.ensures.value ∙ sym c.as_slice-2.ensures.value) in
     let read = subst (λ (ws : List Work). Within c.read_by.new.self (read_by s c.args.seat ws)) (c.as_slice-2.ensures.value ∙ t.works_are)
-    (c.read_by.ensures.stands s (within _ s (c.in_ok-reserve_read.ensures.stands s h))) in
+    (c.read_by.ensures.stands s (within _ s (c.in_ok-reserve_read.ensures.stands s h)) made) in
     record {
-      answered = c.in_ok-answer.ensures s (within _ s h) ∙ ap (λ bs. got bs (buffer_taken s c.as_slice.result.now)) t.stream_is
-          ∙ ap (λ (ws : List Work). got (stream_of s all) (buffer_taken s ws)) (c.as_slice.ensures.value ∙ t.works_are);
+      answered = c.in_ok-answer.ensures ∙ ap (λ bs. got bs (option_copied c.buffer_taken-buffer.result)) t.stream_is
+          ∙ ap (got (stream_of s all)) buffer ∙ ap (λ (ws : List Work). got (stream_of s all) (buffer_taken s ws)) (c.as_slice.ensures.value ∙ t.works_are);
       stands = c.follow.ensures.stands (read_by s c.args.seat all) read;
     })

@@ -12,18 +12,12 @@ use Rattle.bd_engine.specs.Deliveries.{IsInside}
 use Rattle.bd_engine.proofs.Sendings.{resolved-more, resolved-stops, resolved-all, All-push, length-option}
 use Rattle.bd_engine.proofs.tables.Tables.resolve_all.Goals as goal
 
-abbrev sent : List ℕ → List ℕ → List Object → List Item → Sending
-sent bytes offsets made items = record { bytes = bytes; offsets = offsets; made = made; items = items }
-
-abbrev ok : Sending → Result Sending Cause
-ok x = Ok x
-
 pub returns-in-Err-clause-computed : goal.returns-in-Err-clause-computed
 returns-in-Err-clause-computed c = λ n s h.
     let at = ap (λ (os : List ℕ). slice_get os c.loop-k.k) (sym c.requires.offsets) ∙ c.get-x.ensures.start in
     let is = ap (λ (xs : List FlatObject). slice_get xs c.loop-k.k) (sym c.requires.objects) ∙ c.get-x.ensures.object in
     let found = c.in-Err.ensures s h.objects_stand h.steps_are ∙ ap (λ ms. resolve s c.args.p ms c.get-x.result.object) c.as_slice.ensures.value in
-    resolved-stops s c.args.p c.args.q.now.bytes c.args.q.now.offsets _ _ c.loop-k.items.items (offsets_in c.args.q.now.offsets) c.loop-k.k _ _ _ at is found (c.loop-k.invariant.so_far n s h)
+    resolved-stops s c.args.p c.args.parcel.now.bytes c.args.parcel.now.offsets _ _ c.loop-k.items.items (offsets_in c.args.parcel.now.offsets) c.loop-k.k _ _ _ at is found (c.loop-k.invariant.so_far n s h)
 
 pub loop-k-preserved : goal.loop-k-preserved
 loop-k-preserved c = record {
@@ -31,16 +25,15 @@ loop-k-preserved c = record {
       let at = ap (λ (os : List ℕ). slice_get os c.loop-k.k) (sym c.requires.offsets) ∙ c.get-x.ensures.start in
       let is = ap (λ (xs : List FlatObject). slice_get xs c.loop-k.k) (sym c.requires.objects) ∙ c.get-x.ensures.object in
       let found = c.in-Ok.ensures s h.objects_stand h.steps_are ∙ ap (λ ms. resolve s c.args.p ms c.get-x.result.object) c.as_slice.ensures.value in
-      resolved-more s c.args.p c.args.q.now.bytes c.args.q.now.offsets _ _ _ _ _ (offsets_in c.args.q.now.offsets) c.loop-k.k _ _ _ at is found c.in_ok-add-in-Ok.ensures.made c.in_ok-add-in-Ok.ensures.items (c.loop-k.invariant.so_far n s h);
+      resolved-more s c.args.p c.args.parcel.now.bytes c.args.parcel.now.offsets _ _ _ _ _ (offsets_in c.args.parcel.now.offsets) c.loop-k.k _ _ _ at is found c.in_ok-add-in-Ok.ensures.made c.in_ok-add-in-Ok.ensures.items (c.loop-k.invariant.so_far n s h);
   few = length-option _ _ _ _ c.in_ok-add-in-Ok.ensures.made c.loop-k.invariant.few;
   inside =
-      let inside : c.get-x.result.start + 24 ≤ length c.args.q.now.bytes = omega (arith, c.get-x.ensures.inside, ap (λ (bs : List ℕ). length bs) c.requires.bytes) in
-      subst (All (IsInside c.args.q.now.bytes)) (sym c.in_ok-add-in-Ok.ensures.items) (All-push (IsInside c.args.q.now.bytes) _ _ c.loop-k.invariant.inside inside);
+      let inside : c.get-x.result.start + 24 ≤ length c.args.parcel.now.bytes = omega (arith, c.get-x.ensures.inside, ap (λ (bs : List ℕ). length bs) c.requires.bytes) in
+      subst (All (IsInside c.args.parcel.now.bytes)) (sym c.in_ok-add-in-Ok.ensures.items) (All-push (IsInside c.args.parcel.now.bytes) _ _ c.loop-k.invariant.inside inside);
 }
 
 pub returns-clause-computed : goal.returns-clause-computed
 returns-clause-computed c = λ n s h.
-    let os = offsets_in c.args.q.now.offsets in
-    let le : length os ≤ c.loop-k.k = omega (arith, c.loop-k-test.false, c.len-k-end.ensures, ap (λ (xs : List FlatObject). length xs) c.requires.objects, as_many_objects c.args.q.now.bytes os) in
-    let done = resolved-all s c.args.p c.args.q.now.bytes c.args.q.now.offsets _ _ _ os _ le (c.loop-k.invariant.so_far n s h) in
-    ap (λ (q : Parcel). ok (sent q.bytes q.offsets c.loop-k.made.items c.loop-k.items.items)) c.in_ok-bytes.ensures ∙ done
+    let os = offsets_in c.args.parcel.now.offsets in
+    let le : length os ≤ c.loop-k.k = omega (arith, c.loop-k-test.false, c.len-k-end.ensures, ap (λ (xs : List FlatObject). length xs) c.requires.objects, as_many_objects c.args.parcel.now.bytes os) in
+    resolved-all s c.args.p c.args.parcel.now.bytes c.args.parcel.now.offsets _ _ _ os _ le (c.loop-k.invariant.so_far n s h)

@@ -9,7 +9,7 @@ use Rattle.bd_engine.proofs.tables.Tables.resolve_all.Given as goal
 abbrev pub invariant-loop-k : goal.invariant-loop-k
 invariant-loop-k l = record {
   so_far : (n : ℕ) (s : Space) → StandsAt n l.self s
-      → resolve_all s l.p l.q.bytes l.q.offsets l.made.items l.items.items (drop l.k (offsets_in l.q.offsets)) ≡ resolve_all s l.p l.q.bytes l.q.offsets [] [] (offsets_in l.q.offsets);
+      → resolve_all s l.p l.parcel.bytes l.parcel.offsets l.made.items l.items.items (drop l.k (offsets_in l.parcel.offsets)) ≡ resolve_all s l.p l.parcel.bytes l.parcel.offsets [] [] (offsets_in l.parcel.offsets);
   few : length l.made.items ≤ l.k;
-  inside : All (IsInside l.q.bytes) l.items.items;
+  inside : All (IsInside l.parcel.bytes) l.items.items;
 }
