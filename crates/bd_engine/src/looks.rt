@@ -2,23 +2,16 @@
 
 ghost use Rattle.std.specs.Prelude.{◌≡◌};
 ghost use Rattle.std.specs.Option.{option_copied};
-ghost use Rattle.bd_space.specs.Frames.{serves};
 ghost use Rattle.bd_space.specs.Histories.{space_after};
 ghost use Rattle.bd_space.specs.Reading.{buffer_in};
 ghost use Rattle.bd_engine.specs.Looks as looks;
 ghost use Rattle.bd_engine.specs.Stands.{Tells};
 
 use crate::engine::Engine;
+use crate::frame::serves;
 use crate::tables::Tables;
 use bd_objects::CarriedObjects;
-use bd_space::{Buffer, ObjectId, Server, TodoList};
-
-/// The thread of the seat serves by this.
-pub(crate) fn serves(seat: u32, server: Server) -> bool
-    ensures { result ≡ serves seat server }
-{
-    matches!(server, Server::Serving(t) if t == seat)
-}
+use bd_space::{Buffer, ObjectId, TodoList};
 
 impl Tables {
     pub(crate) fn process_of(&self, seat: u32) -> Option<u32>

@@ -15,7 +15,7 @@ ghost use Rattle.bd_engine.specs.Stands.{Before, Within, TellsBefore, TellsWithi
 ghost use Rattle.bd_engine.specs.Meets.{Meets, IsAny, IsBy, IsKept, IsStepTwice};
 ghost use Rattle.bd_engine.specs.Taking.{AreTaken};
 
-use crate::plain::{Plain, Twice};
+use crate::answer::{Plain, Twice};
 use crate::tables::Tables;
 use crate::why::Why;
 use bd_codec::write_return;

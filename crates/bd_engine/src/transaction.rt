@@ -15,9 +15,9 @@ ghost use Rattle.bd_engine.specs.Stands.{StandsAt, CanFollow, Tells, TellsBefore
 ghost use Rattle.bd_engine.specs.Meets.{IsAny, IsBy, IsKept, IsStep};
 ghost use Rattle.bd_engine.specs.Deliveries.{IsDeliverable, IsReady, Spends};
 
+use crate::answer::Plain;
 use crate::delivery::Delivery;
-use crate::looks::serves;
-use crate::plain::Plain;
+use crate::frame::serves;
 use crate::tables::Tables;
 use crate::why::Why;
 use bd_objects::NumbersFull;
