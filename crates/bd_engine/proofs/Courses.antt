@@ -19,9 +19,9 @@ use Rattle.bd_space.specs.Histories.{History, space_after, extended, HasPlace, i
 use Rattle.bd_space.specs.Streams.{step_of_command}
 use Rattle.bd_space.specs.Runs.{HasRun}
 use Rattle.bd_engine.specs.declared.why.Why.{Why}
-use Rattle.bd_engine.specs.declared.writing.Progress.{Progress}
-use Rattle.bd_engine.specs.declared.writing.Course.{Course}
-use Rattle.bd_engine.specs.declared.writing.Course.TheVariants.{GoesOn, Ends}
+use Rattle.bd_engine.specs.declared.write.Progress.{Progress}
+use Rattle.bd_engine.specs.declared.write.Course.{Course}
+use Rattle.bd_engine.specs.declared.write.Course.TheVariants.{GoesOn, Ends}
 use Rattle.bd_engine.specs.Refusals.{FullOnly, MemoryOnly}
 use Rattle.bd_engine.specs.Writing.{IsSame, GoesTo, IsAfter, IsCutAt, IsProgress, IsTurnedAway, HasCome, IsNext, IsCourse, fault_of, stopped}
 use Rattle.bd_engine.proofs.Commands.{turned_away, cut_short, ended, went_on}

@@ -11,8 +11,8 @@ use Rattle.bd_space.specs.Steps.{by_actor}
 use Rattle.bd_space.specs.Names.{has_number_past_limit}
 use Rattle.bd_space.specs.Outcomes.{Outcome, noted, refused}
 use Rattle.bd_engine.specs.declared.tables.Tables.{Tables}
-use Rattle.bd_engine.specs.declared.plain.Plain.{Plain}
-use Rattle.bd_engine.specs.declared.plain.Twice.{Twice}
+use Rattle.bd_engine.specs.declared.answer.Plain.{Plain}
+use Rattle.bd_engine.specs.declared.answer.Twice.{Twice}
 use Rattle.bd_engine.specs.Plain.{answer_of, both}
 use Rattle.bd_engine.specs.Stands.{Before, Within}
 use Rattle.bd_engine.specs.declared.why.Why.{Why}

@@ -2,10 +2,10 @@
 use Rattle.std.specs.Prelude.{Result, Ok, Err}
 use Rattle.bd_space.specs.declared.step.StepAnswer.{StepAnswer}
 use Rattle.bd_space.specs.declared.step.StepAnswer.TheVariants as gave
-use Rattle.bd_engine.specs.declared.plain.Plain.{Plain}
-use Rattle.bd_engine.specs.declared.plain.Twice.{Twice}
+use Rattle.bd_engine.specs.declared.answer.Plain.{Plain}
+use Rattle.bd_engine.specs.declared.answer.Twice.{Twice}
 use Rattle.bd_engine.specs.declared.why.Why.{Why}
-use Rattle.bd_engine.specs.declared.plain.Plain.TheVariants.{Opened, Set, Exited, Accepted, Noted, Stopped, Refused}
+use Rattle.bd_engine.specs.declared.answer.Plain.TheVariants.{Opened, Set, Exited, Accepted, Noted, Stopped, Refused}
 
 abbrev pub answer_of : Plain → StepAnswer
 answer_of Opened = gave.Opened

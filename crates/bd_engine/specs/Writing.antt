@@ -20,9 +20,9 @@ use Rattle.bd_space.specs.Runs.{AllBy, HasRun, HasEntry, IsAtLimit}
 use Rattle.bd_engine.specs.declared.why.Why.{Why}
 use Rattle.bd_engine.specs.declared.why.Why.TheVariants.{NoMemory, HistoryFull}
 use Rattle.bd_engine.specs.Refusals.{FullOnly, MemoryOnly}
-use Rattle.bd_engine.specs.declared.writing.Progress.{Progress}
-use Rattle.bd_engine.specs.declared.writing.Course.{Course}
-use Rattle.bd_engine.specs.declared.writing.Course.TheVariants.{GoesOn, Ends}
+use Rattle.bd_engine.specs.declared.write.Progress.{Progress}
+use Rattle.bd_engine.specs.declared.write.Course.{Course}
+use Rattle.bd_engine.specs.declared.write.Course.TheVariants.{GoesOn, Ends}
 
 -- ---- what is answered
 

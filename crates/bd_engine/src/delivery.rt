@@ -1,7 +1,7 @@
 //! Delivery: the objects, references and names of a parcel, its buffer with the translated data, and the notices of its
 //! sender's own objects.
 
-ghost use Rattle.std.specs.Prelude.{◌≡◌, ◌+◌, ◌≤◌, ◌<◌, true, IfOk, OnOk, OnErr, All, length, Some, fold, not, ◌&&◌};
+ghost use Rattle.std.specs.Prelude.{◌≡◌, ◌+◌, ◌≤◌, IfOk, OnOk, OnErr, length, Some, fold, not, ◌&&◌};
 ghost use Rattle.bd_uapi.specs.Kinds as kinds;
 ghost use Rattle.bd_space.specs.References.{object_in};
 ghost use Rattle.bd_space.specs.Space.{Space};
@@ -9,23 +9,21 @@ ghost use Rattle.bd_space.specs.Seats.{process_in};
 ghost use Rattle.bd_space.specs.Room as room;
 ghost use Rattle.bd_space.specs.Words as words;
 ghost use Rattle.bd_space.specs.Parcels as parcels;
-ghost use Rattle.bd_space.specs.Names.{names_go, has_number_past_limit};
-ghost use Rattle.bd_space.specs.Turns as turns;
+ghost use Rattle.bd_space.specs.Names.{names_go};
 ghost use Rattle.bd_space.specs.Delivery as spec;
 ghost use Rattle.bd_space.specs.Translation as translations;
 ghost use Rattle.bd_objects.specs.Room as object_rooms;
 ghost use Rattle.bd_calls.specs.Room as call_rooms;
 ghost use Rattle.bd_buffers.specs.WindowsStand.{CanAdd, buffer_room};
-ghost use Rattle.bd_engine.specs.Stands.{Before, Within, Tells, Makes, Begins, PassesLimit};
+ghost use Rattle.bd_engine.specs.Stands.{Before, Tells, Makes, Begins, PassesLimit};
 ghost use Rattle.bd_engine.specs.Meets.{IsKept};
-ghost use Rattle.bd_engine.specs.Deliveries.{IsInside, IsSound, IsDeliverable, IsReady, Spends, OnlyWorks, OnlyObjects, placed_for, sending};
+ghost use Rattle.bd_engine.specs.Deliveries.{IsSound, IsDeliverable, IsReady, Spends, OnlyWorks, OnlyObjects, placed_for, sending};
 
 use crate::sending::Sending;
 use crate::tables::Tables;
 use bd_buffers::needed;
 use bd_objects::NumbersFull;
-use bd_parcel::put_object;
-use bd_space::{Actor, Buffer, Bytes, Item, Object, ObjectId, Parcel, Process, TodoList, Turn};
+use bd_space::{Actor, Buffer, Item, Object, ObjectId, Parcel, Process, TodoList};
 use bd_uapi::{Cause, TransactionData};
 use std::alloc::AllocError;
 use std::marker::Model;
@@ -91,22 +89,6 @@ impl Delivery {
     }
 }
 
-// A one-way call, by its buffer.
-fn turn_of(b: &Buffer) -> Option<Turn>
-    ensures { result ≡ turns.turn_of b.now }
-{
-    if !b.one_way {
-        return None;
-    }
-    let target = b.target?;
-    Some(Turn {
-        made: b.made,
-        receiver: b.receiver,
-        target,
-        handed: b.handed,
-    })
-}
-
 impl Tables {
     // Where the sending goes in its receiver's window. Its parcel is copied only where there is a place for it.
     fn placed_for(
@@ -120,7 +102,7 @@ impl Tables {
         requires { IsSound d.now sending }
         ensures computed { IfOk result
             (λ r. (s : Space) → Before self.now s → process_in s.processes receiver.made ≡ Some receiver
-            → r ≡ placed_for s d.now receiver target one_way sending) }
+            → r ≡ placed_for s d.now receiver target one_way sending.entry) }
         ensures deliverable { IfOk result (λ r. IfOk r (IsDeliverable self.now d.now)) }
     {
         match self
@@ -178,28 +160,6 @@ impl Tables {
         self.reserve(v.made().len(), references, items, works)
     }
 
-    // The items' objects as the process is to see them, written over the data.
-    fn translate(&self, q: u32, bytes: &mut [u8], items: &[Item])
-        requires { All (IsInside bytes.old) items.now }
-        ensures { Tells self.now bytes.new (λ s. translations.translation s q bytes.old items.now) }
-    {
-        for x in items {
-            let flat = self.objects.translated(q, x);
-            put_object(bytes, x.at as usize, &flat);
-        }
-    }
-
-    // The data as the process is to see it.
-    fn translation(&self, q: u32, bytes: Bytes, items: &[Item]) -> Bytes
-        requires { All (IsInside bytes) items.now }
-        ensures translated { Tells self.now result (λ s. translations.translation s q bytes items.now) }
-        ensures len { length result ≡ length bytes }
-    {
-        let mut bytes = bytes.into_vec();
-        self.translate(q, bytes.as_mut_slice(), items);
-        Bytes::new(bytes)
-    }
-
     // The buffer of a delivery.
     fn buffer_of(&self, a: Actor, d: &TransactionData, v: Delivery) -> Buffer
         requires { IsDeliverable self.now d.now v }
@@ -232,20 +192,6 @@ impl Tables {
             bytes: self.translation(receiver.made, bytes, items.as_slice()),
             offsets,
         }
-    }
-
-    // The buffer comes in, and a one-way call with it.
-    fn add_buffer(&mut self, buffer: Buffer)
-        requires turns { 1 ≤ call_rooms.turn_room self.old.calls }
-        requires room { 1 ≤ buffer_room self.old.windows buffer.receiver }
-        requires sized { buffer.size ≡ room.needed (length buffer.bytes) (length buffer.offsets) }
-        requires can_add { CanAdd self.old.windows buffer.receiver buffer.one_way buffer.size buffer.start }
-        ensures stands { (s : Space) → Before self.old s → s.steps ≡ buffer.made
-            → Within self.new (spec.add_buffer s buffer) }
-        ensures spends { Spends self.old self.new 0 0 1 0 }
-    {
-        self.calls.add_turn(turn_of(&buffer));
-        self.windows.add(buffer);
     }
 
     // Sending an object strongly that its owner isn't told strong takes a standing notice away.

@@ -1,32 +1,31 @@
 //! The step of the object space, over the three tables, and the run of a request.
 #![tactic(auto)]
 
-mod asking;
-mod calling;
-mod deaths;
+mod answer;
+mod buffer;
+mod consequences;
+mod death_notification;
 mod delivery;
 mod engine;
-mod exits;
-mod following;
-mod freeing;
+mod frame;
 mod looks;
-mod looping;
-mod opening;
-mod parcels;
-mod plain;
+mod manager;
+mod parcel;
+mod process;
 mod processes;
-mod readiness;
-mod reading;
-mod replies;
-mod returns;
+mod read;
+mod reference;
+mod reply;
 mod run;
-mod seats;
 mod sending;
 mod step;
 mod tables;
-mod transactions;
+mod thread;
+mod todo_list;
+mod transaction;
 mod why;
-mod writing;
+mod work;
+mod write;
 
 pub use bd_objects::CarriedObjects;
 pub use engine::Engine;

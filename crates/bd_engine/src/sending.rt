@@ -35,7 +35,7 @@ impl<'a> Model for Sending<'a> {
 impl<'a> Sending<'a> {
     /// A copy of the parcel, the objects that the sender makes, and all its objects.
     pub(crate) fn into_parts(self) -> Result<(Parcel, Vec<Object>, Vec<Item>), AllocError>
-        ensures { IfOk result (λ x. sending x.0 x.1.items x.2.items ≡ self) }
+        ensures { IfOk result (λ x. sending x.0 x.1.items x.2.items ≡ self.entry) }
     {
         let Sending {
             parcel,

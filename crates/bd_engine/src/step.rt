@@ -7,7 +7,7 @@ ghost use Rattle.bd_space.specs.Commands.{command_step};
 ghost use Rattle.bd_engine.specs.Plain.{both};
 ghost use Rattle.bd_engine.specs.Meets.{IsAny, IsBy, IsNobody, IsStep, IsStepTwice};
 
-use crate::plain::{Plain, Twice};
+use crate::answer::{Plain, Twice};
 use crate::tables::Tables;
 use crate::why::Why;
 use bd_space::{Actor, Parcel, Step};

@@ -1,6 +1,6 @@
 use Rattle.std.proofs.Common.{sym}
 use Rattle.bd_engine.proofs.Courses.{next-read, next-fault}
-use Rattle.bd_engine.proofs.writing.Progress.next.Goals as goal
+use Rattle.bd_engine.proofs.write.Progress.next.Goals as goal
 
 pub returns-in-Ok-clause-read : goal.returns-in-Ok-clause-read
 returns-in-Ok-clause-read c =

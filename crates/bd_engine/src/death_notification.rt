@@ -1,6 +1,7 @@
-//! The steps of `BC_REQUEST_DEATH_NOTIFICATION`, `BC_CLEAR_DEATH_NOTIFICATION` and `BC_DEAD_BINDER_DONE`.
+//! Death notifications: the steps of `BC_REQUEST_DEATH_NOTIFICATION`, `BC_CLEAR_DEATH_NOTIFICATION` and
+//! `BC_DEAD_BINDER_DONE`, and what is told of an owner's end.
 
-ghost use Rattle.std.specs.Prelude.{◌≡◌, ◌≤◌};
+ghost use Rattle.std.specs.Prelude.{◌≡◌, ◌≤◌, ℕ, ◌+◌};
 ghost use Rattle.bd_space.specs.declared.space.Phase.TheVariants.{Queued};
 ghost use Rattle.bd_space.specs.declared.space.TodoList.TheVariants.{OfProcess};
 ghost use Rattle.bd_space.specs.declared.space.WorkKind.TheVariants.{Death};
@@ -8,12 +9,15 @@ ghost use Rattle.bd_space.specs.Todo as todo;
 ghost use Rattle.bd_space.specs.Deaths as deaths;
 ghost use Rattle.bd_space.specs.Clearing as clearing;
 ghost use Rattle.bd_space.specs.Outcomes.{completed};
-ghost use Rattle.bd_objects.specs.Room.{death_room};
+ghost use Rattle.bd_space.specs.Space.{Space};
+ghost use Rattle.bd_space.specs.ProcessExits as exits;
+ghost use Rattle.bd_objects.specs.Room.{death_room, death_count};
 ghost use Rattle.bd_calls.specs.Room.{work_room};
-ghost use Rattle.bd_engine.specs.Stands.{Takes, CanFollow, MakesWithin, TakesNothing};
+ghost use Rattle.bd_engine.specs.Stands.{Takes, CanFollow, MakesWithin, TakesNothing, StandsAt};
 ghost use Rattle.bd_engine.specs.Meets.{IsBy, IsStep};
+ghost use Rattle.bd_engine.specs.Telling.{owed, owed_deaths};
 
-use crate::plain::Plain;
+use crate::answer::Plain;
 use crate::tables::Tables;
 use crate::why::Why;
 use bd_space::{Actor, DeathNotification, ObjectId, Phase, TodoList, WorkKind};
@@ -36,15 +40,6 @@ impl Tables {
         ensures takes { TakesNothing self.old self.new }
     {
         self.objects.with_death(self.steps, p, o, cookie, phase);
-    }
-
-    // A work item comes onto a list.
-    fn add_work(&mut self, list: TodoList, kind: WorkKind)
-        requires { 1 ≤ work_room self.old.calls }
-        ensures stands { MakesWithin self.old self.new (λ s. todo.owe s list kind) }
-        ensures takes { Takes self.old self.new 0 0 0 1 }
-    {
-        self.calls.owe(self.steps, list, kind);
     }
 
     // A notification comes in whose process is told at once.
@@ -183,5 +178,41 @@ impl Tables {
         }
         self.finish_death(a.thread.seat, x);
         Ok(Plain::Accepted)
+    }
+
+    // If the end of the process is to be told by the notification of an index, a work item says so.
+    fn owe_death_at(&mut self, p: u32, k: usize)
+        requires { 1 ≤ work_room self.old.calls }
+        ensures stands { (n : ℕ) (s : Space) → StandsAt n self.old (owed s p k)
+            → StandsAt n self.new (owed s p (k + 1)) }
+        ensures takes { Takes self.old self.new 0 0 0 1 }
+    {
+        if let Some(x) = self.objects.death_at(k) {
+            if self.objects.tells_death(p, &x) {
+                let list = TodoList::OfProcess(x.process);
+                self.calls.owe(self.steps, list, WorkKind::Death(x.made));
+            }
+        }
+    }
+
+    // And so for each notification, in their order.
+    fn owe_deaths(&mut self, p: u32)
+        requires { death_count self.old.objects ≤ work_room self.old.calls }
+        ensures stands { MakesWithin self.old self.new (λ s. record s { todo = owed_deaths s p s.deaths }) }
+        ensures takes { Takes self.old self.new 0 0 0 (death_count self.old.objects) }
+    {
+        for k in 0..self.objects.death_count() {
+            self.owe_death_at(p, k);
+        }
+    }
+
+    // The end of the process is told by the armed notifications on its objects.
+    pub(crate) fn tell_deaths(&mut self, p: u32)
+        requires { death_count self.old.objects ≤ work_room self.old.calls }
+        ensures stands { MakesWithin self.old self.new (λ s. exits.tell_deaths s p) }
+        ensures takes { Takes self.old self.new 0 0 0 (death_count self.old.objects) }
+    {
+        self.owe_deaths(p);
+        self.objects.tell_deaths(p);
     }
 }

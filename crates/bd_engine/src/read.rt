@@ -17,7 +17,7 @@ ghost use Rattle.bd_engine.specs.Stands.{Before, Within, TellsBefore, TellsWithi
 ghost use Rattle.bd_engine.specs.Meets.{Meets, IsAny, IsBy, IsKept, IsStepTwice};
 ghost use Rattle.bd_engine.specs.Taking.{AreTaken};
 
-use crate::plain::{Plain, Twice};
+use crate::answer::{Plain, Twice};
 use crate::tables::Tables;
 use crate::why::Why;
 use bd_codec::write_return;
@@ -66,7 +66,7 @@ fn handed_by(works: &[Work]) -> Option<u32>
 
 // Where the buffer was made.
 fn made_of(buffer: Option<&Buffer>) -> Option<u32>
-    ensures { result ≡ option_map made_of_buffer (option_copied buffer) }
+    ensures { result ≡ option_map made_of_buffer (option_copied buffer.entry) }
 {
     match buffer {
         Some(b) => Some(b.made),
@@ -76,7 +76,7 @@ fn made_of(buffer: Option<&Buffer>) -> Option<u32>
 
 // The answer of a read: the bytes, and copies of the data and offsets that are handed over.
 fn got(alloc: Global, buffer: Option<&Buffer>, stream: Vec<u8>) -> Result<StepAnswer, AllocError>
-    ensures { IfOk result (λ answer. answer ≡ spec.got stream.items (option_copied buffer)) }
+    ensures { IfOk result (λ answer. answer ≡ spec.got stream.items (option_copied buffer.entry)) }
 {
     match buffer {
         Some(b) => Ok(StepAnswer::Got {

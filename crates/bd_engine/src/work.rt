@@ -1,6 +1,6 @@
 //! What a work item gives to be read: its returns, and their bytes.
 
-ghost use Rattle.std.specs.Prelude.{pos, true, ◌≡◌, ◌+◌, ◌*◌, ◌/◌, ◌≤◌, ◌++◌, [], find, map, length, option_and_then, option_map, unwrap_or, IfSome, OnOk};
+ghost use Rattle.std.specs.Prelude.{pos, true, ◌≡◌, ◌+◌, ◌≤◌, ◌++◌, find, map, length, option_and_then, option_map, unwrap_or, IfSome, OnOk};
 ghost use Rattle.std.specs.List.{flat_map, concat};
 ghost use Rattle.bd_codec.specs.Spelling.{return_bytes};
 ghost use Rattle.bd_space.specs.Words.{round_up as rounded};
@@ -67,16 +67,6 @@ fn offsets_start(b: &Buffer) -> u64
 }
 
 impl Tables {
-    // The seat of the thread that called, if the call is two-way and the thread still lives.
-    fn waiting_seat(&self, made: u32) -> Option<u32>
-        ensures { TellsBefore self.now result (λ s. option_and_then (λ f. f.caller) (find (is_frame made) s.frames)) }
-    {
-        match self.calls.frame(made) {
-            Some(frame) => frame.caller,
-            None => None,
-        }
-    }
-
     // That thread, with its process.
     fn waiting_actor(&self, made: u32) -> Option<Actor>
         ensures found { TellsBefore self.now result

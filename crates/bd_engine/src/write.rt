@@ -13,7 +13,7 @@ ghost use Rattle.bd_engine.specs.Refusals.{FullOnly, MemoryOnly};
 ghost use Rattle.bd_engine.specs.Writing.{HasCome, IsSame, IsAfter, IsCourse, IsCutAt, IsTurnedAway, IsNext, refused};
 
 use crate::engine::Engine;
-use crate::parcels::parcel_for;
+use crate::parcel::parcel_for;
 use crate::why::Why;
 use bd_codec::read_command;
 use bd_space::{Answer, Notes, Step, StepAnswer, Stop};

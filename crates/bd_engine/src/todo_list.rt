@@ -1,18 +1,16 @@
-//! Calls: frames open and close, and callers and senders have something to read.
+//! What threads and processes have to read.
 
 ghost use Rattle.std.specs.Prelude.{◌≡◌, ◌≤◌, IfErr};
 ghost use Rattle.bd_space.specs.declared.space.TodoList.TheVariants.{OfThread};
 ghost use Rattle.bd_space.specs.declared.space.WorkKind.TheVariants as kinds;
 ghost use Rattle.bd_space.specs.Todo as todo;
-ghost use Rattle.bd_space.specs.Frames as frames;
-ghost use Rattle.bd_space.specs.Transactions as transactions;
 ghost use Rattle.bd_space.specs.Outcomes as outcomes;
-ghost use Rattle.bd_calls.specs.Room.{work_room, frame_room};
-ghost use Rattle.bd_engine.specs.Stands.{Makes};
+ghost use Rattle.bd_calls.specs.Room.{work_room};
+ghost use Rattle.bd_engine.specs.Stands.{Makes, Takes, MakesWithin};
 ghost use Rattle.bd_engine.specs.Meets.{IsAny, IsStep};
-ghost use Rattle.bd_engine.specs.Deliveries.{Spends, SpendsNothing};
+ghost use Rattle.bd_engine.specs.Deliveries.{Spends};
 
-use crate::plain::Plain;
+use crate::answer::Plain;
 use crate::tables::Tables;
 use crate::why::Why;
 use bd_space::{Frame, TodoList, WorkKind};
@@ -37,24 +35,6 @@ impl Tables {
         self.calls.tell_caller(self.steps, f, kind);
     }
 
-    /// A two-way call to the process makes a frame and is due at once.
-    pub(crate) fn call_out(&mut self, seat: u32, process: u32)
-        requires frames { 1 ≤ frame_room self.old.calls }
-        requires works { 1 ≤ work_room self.old.calls }
-        ensures stands { Makes self.old self.new (λ s. transactions.call_out s seat process) }
-        ensures spends { Spends self.old self.new 0 1 0 1 }
-    {
-        self.calls.call_out(self.steps, seat, process);
-    }
-
-    /// The frame closes.
-    pub(crate) fn close(&mut self, made: u32)
-        ensures stands { Makes self.old self.new (λ s. frames.closed s made) }
-        ensures spends { SpendsNothing self.old self.new }
-    {
-        self.calls.close(made);
-    }
-
     /// A command is refused, and its writer has this to read.
     pub(crate) fn stop(&mut self, seat: u32, cause: Cause, told: Return) -> Result<Plain, Why>
         ensures step { IsStep self.old self.new IsAny
@@ -67,5 +47,14 @@ impl Tables {
         self.owe(seat, WorkKind::Refusal(told));
         self.settle();
         Ok(Plain::Stopped(cause))
+    }
+
+    // A work item comes onto a list.
+    pub(crate) fn add_work(&mut self, list: TodoList, kind: WorkKind)
+        requires { 1 ≤ work_room self.old.calls }
+        ensures stands { MakesWithin self.old self.new (λ s. todo.owe s list kind) }
+        ensures takes { Takes self.old self.new 0 0 0 1 }
+    {
+        self.calls.owe(self.steps, list, kind);
     }
 }

@@ -15,11 +15,11 @@ ghost use Rattle.bd_engine.specs.Stands.{StandsAt, CanFollow, Tells, TellsBefore
 ghost use Rattle.bd_engine.specs.Meets.{IsAny, IsBy, IsKept, IsStep};
 ghost use Rattle.bd_engine.specs.Deliveries.{IsDeliverable, IsReady, Spends};
 
+use crate::answer::Plain;
 use crate::delivery::Delivery;
-use crate::looks::serves;
-use crate::plain::Plain;
 use crate::tables::Tables;
 use crate::why::Why;
+use bd_calls::serves;
 use bd_objects::NumbersFull;
 use bd_space::{Actor, Callee, Frame, ObjectId, Parcel, Process, WorkKind};
 use bd_uapi::{Cause, Return, TransactionData};

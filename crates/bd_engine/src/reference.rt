@@ -1,4 +1,5 @@
-//! The steps of `BC_INCREFS`, `BC_ACQUIRE`, `BC_RELEASE`, `BC_DECREFS`, `BC_INCREFS_DONE` and `BC_ACQUIRE_DONE`.
+//! References that are asked for and acknowledged: the steps of `BC_INCREFS`, `BC_ACQUIRE`, `BC_RELEASE`, `BC_DECREFS`,
+//! `BC_INCREFS_DONE` and `BC_ACQUIRE_DONE`.
 
 ghost use Rattle.std.specs.Prelude.{◌≡◌, ◌≤◌, IfErr, OnOk, OnErr};
 ghost use Rattle.bd_space.specs.Names.{has_number_past_limit};
@@ -8,7 +9,7 @@ ghost use Rattle.bd_objects.specs.Room.{reference_room, name_room};
 ghost use Rattle.bd_engine.specs.Stands.{CanFollow, MakesWithin, PassesLimit};
 ghost use Rattle.bd_engine.specs.Meets.{IsBy, IsKept, IsStep};
 
-use crate::plain::Plain;
+use crate::answer::Plain;
 use crate::tables::Tables;
 use crate::why::Why;
 use bd_objects::NumbersFull;

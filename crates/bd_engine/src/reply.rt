@@ -1,22 +1,20 @@
 //! The step of BC_REPLY.
 
-ghost use Rattle.std.specs.Prelude.{ℕ, ◌≡◌, ◌≤◌, Some, IfOk, IfErr, IfSome, OnOk, OnErr};
-ghost use Rattle.bd_space.specs.Space.{Space};
-ghost use Rattle.bd_space.specs.Seats.{process_in};
+ghost use Rattle.std.specs.Prelude.{◌≡◌, ◌≤◌, Some, IfOk, IfErr, OnOk, OnErr};
 ghost use Rattle.bd_space.specs.declared.space.TodoList.TheVariants.{OfThread};
 ghost use Rattle.bd_space.specs.declared.space.WorkKind.TheVariants as kinds;
 ghost use Rattle.bd_space.specs.Todo as todo;
 ghost use Rattle.bd_space.specs.Frames as frames;
-ghost use Rattle.bd_space.specs.Names.{names_go, has_number_past_limit};
+ghost use Rattle.bd_space.specs.Names.{names_go};
 ghost use Rattle.bd_space.specs.Outcomes as outcomes;
 ghost use Rattle.bd_space.specs.Replies as spec;
 ghost use Rattle.bd_calls.specs.Room.{work_room};
-ghost use Rattle.bd_engine.specs.Stands.{StandsAt, CanFollow, Tells, TellsBefore, Makes, Begins, PassesLimit};
+ghost use Rattle.bd_engine.specs.Stands.{CanFollow, TellsBefore, Makes, Begins, PassesLimit};
 ghost use Rattle.bd_engine.specs.Meets.{IsAny, IsBy, IsKept, IsStep};
 ghost use Rattle.bd_engine.specs.Deliveries.{IsDeliverable, IsReady, Spends};
 
+use crate::answer::Plain;
 use crate::delivery::Delivery;
-use crate::plain::Plain;
 use crate::tables::Tables;
 use crate::why::Why;
 use bd_objects::NumbersFull;
@@ -25,18 +23,6 @@ use bd_uapi::{Cause, Return, TransactionData};
 use std::alloc::AllocError;
 
 impl Tables {
-    // The live thread that made the call, and its process.
-    fn caller_of(&self, f: &Frame) -> Option<Actor>
-        ensures caller { Tells self.now result (λ s. spec.caller_of s f.now) }
-        ensures lives { (n : ℕ) (s : Space) → StandsAt n self.now s
-            → IfSome result (λ c. process_in s.processes c.process.made ≡ Some c.process) }
-    {
-        match f.caller {
-            None => None,
-            Some(seat) => self.actor(seat),
-        }
-    }
-
     // What is to be delivered to the caller of the frame, or the first cause against it.
     fn reply_check(
         &self,
@@ -89,7 +75,13 @@ impl Tables {
     }
 
     // The step of a reply that nothing stands against.
-    fn answer(&mut self, a: Actor, d: &TransactionData, f: Frame, v: Delivery) -> Result<Plain, Why>
+    pub(crate) fn answer(
+        &mut self,
+        a: Actor,
+        d: &TransactionData,
+        f: Frame,
+        v: Delivery,
+    ) -> Result<Plain, Why>
         requires { IsDeliverable self.old d.now v }
         ensures { IsStep self.old self.new IsAny (λ s. outcomes.accepted (spec.replied s a d.now f v)) result }
     {

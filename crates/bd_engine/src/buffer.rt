@@ -1,0 +1,130 @@
+//! Buffers: a delivery's bytes as the receiver sees them, and the step of `BC_FREE_BUFFER`.
+
+ghost use Rattle.std.specs.Prelude.{◌≡◌, ◌≤◌, All, length, Some};
+ghost use Rattle.bd_space.specs.Space.{Space};
+ghost use Rattle.bd_space.specs.Seats.{process_in};
+ghost use Rattle.bd_space.specs.Room as room;
+ghost use Rattle.bd_space.specs.Turns as turns;
+ghost use Rattle.bd_space.specs.Delivery as delivery;
+ghost use Rattle.bd_space.specs.Translation as translations;
+ghost use Rattle.bd_space.specs.declared.space.Process.{Process};
+ghost use Rattle.bd_space.specs.Freeing as freeing;
+ghost use Rattle.bd_space.specs.Outcomes.{completed};
+ghost use Rattle.bd_calls.specs.Room as call_rooms;
+ghost use Rattle.bd_buffers.specs.WindowsStand.{CanAdd, buffer_room};
+ghost use Rattle.bd_buffers.specs.Buffer.{freed_buffer};
+ghost use Rattle.bd_engine.specs.Stands.{Before, Within, Tells, CanFollow, MakesWithin, TakesNothing};
+ghost use Rattle.bd_engine.specs.Meets.{IsBy, IsStep};
+ghost use Rattle.bd_engine.specs.Deliveries.{IsInside, Spends};
+
+use crate::answer::Plain;
+use crate::tables::Tables;
+use crate::why::Why;
+use bd_parcel::put_object;
+use bd_space::{Actor, Buffer, Bytes, Item, Process, Turn};
+use bd_uapi::Note;
+
+// A one-way call, by its buffer.
+fn turn_of(b: &Buffer) -> Option<Turn>
+    ensures { result ≡ turns.turn_of b.now }
+{
+    if !b.one_way {
+        return None;
+    }
+    let target = b.target?;
+    Some(Turn {
+        made: b.made,
+        receiver: b.receiver,
+        target,
+        handed: b.handed,
+    })
+}
+
+impl Tables {
+    // The items' objects as the process is to see them, written over the data.
+    fn translate(&self, q: u32, bytes: &mut [u8], items: &[Item])
+        requires { All (IsInside bytes.old) items.now }
+        ensures { Tells self.now bytes.new (λ s. translations.translation s q bytes.old items.now) }
+    {
+        for x in items {
+            let flat = self.objects.translated(q, x);
+            put_object(bytes, x.at as usize, &flat);
+        }
+    }
+
+    // The data as the process is to see it.
+    pub(crate) fn translation(&self, q: u32, bytes: Bytes, items: &[Item]) -> Bytes
+        requires { All (IsInside bytes) items.now }
+        ensures translated { Tells self.now result (λ s. translations.translation s q bytes items.now) }
+        ensures len { length result ≡ length bytes }
+    {
+        let mut bytes = bytes.into_vec();
+        self.translate(q, bytes.as_mut_slice(), items);
+        Bytes::new(bytes)
+    }
+
+    // The buffer comes in, and a one-way call with it.
+    pub(crate) fn add_buffer(&mut self, buffer: Buffer)
+        requires turns { 1 ≤ call_rooms.turn_room self.old.calls }
+        requires room { 1 ≤ buffer_room self.old.windows buffer.receiver }
+        requires sized { buffer.size ≡ room.needed (length buffer.bytes) (length buffer.offsets) }
+        requires can_add { CanAdd self.old.windows buffer.receiver buffer.one_way buffer.size buffer.start }
+        ensures stands { (s : Space) → Before self.old s → s.steps ≡ buffer.made
+            → Within self.new (delivery.add_buffer s buffer) }
+        ensures spends { Spends self.old self.new 0 0 1 0 }
+    {
+        self.calls.add_turn(turn_of(&buffer));
+        self.windows.add(buffer);
+    }
+
+    // The buffer that the process may free by this pointer.
+    fn free_check(&self, p: u32, pointer: u64) -> Result<u32, Note>
+        ensures { (s : Space) (q : Process) → Within self.now s → process_in s.processes p ≡ Some q
+            → result ≡ freed_buffer (freeing.buffer_at_pointer s p pointer) }
+    {
+        match self.windows.at_pointer(p, pointer) {
+            None => Err(Note::NoSuchBuffer),
+            Some(b) => {
+                if b.handed {
+                    Ok(b.made)
+                } else {
+                    Err(Note::NotHandedOut)
+                }
+            }
+        }
+    }
+
+    // The buffer goes, with the references that it held and its turn.
+    fn drop_buffer(&mut self, made: u32)
+        ensures stands { MakesWithin self.old self.new (λ s. freeing.without_buffer s made) }
+        ensures takes { TakesNothing self.old self.new }
+    {
+        self.windows.free(made);
+        self.objects.without_buffer(made);
+        self.calls.drop_turn(made);
+    }
+
+    // The buffer goes, and what follows from that.
+    fn lose_buffer(&mut self, made: u32)
+        requires { CanFollow self.old 0 }
+        ensures stands { MakesWithin self.old self.new (λ s. completed (freeing.without_buffer s made)) }
+    {
+        self.drop_buffer(made);
+        self.complete();
+    }
+
+    /// The step by which a process frees a buffer that was handed out to it.
+    pub(crate) fn free(&mut self, a: Actor, pointer: u64) -> Result<Plain, Why>
+        ensures { IsStep self.old self.new (IsBy a) (λ s. freeing.free_step s a.process.made pointer) result }
+    {
+        let made = match self.free_check(a.process.made, pointer) {
+            Ok(made) => made,
+            Err(note) => return Ok(Plain::Noted(note)),
+        };
+        if self.reserve(0, 0, 0, 0).is_err() {
+            return Err(Why::NoMemory);
+        }
+        self.lose_buffer(made);
+        Ok(Plain::Accepted)
+    }
+}

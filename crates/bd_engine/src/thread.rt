@@ -1,0 +1,139 @@
+//! Threads: whose seat it is, which are ready, and how they attach, enter the loop, leave it and end.
+
+ghost use Rattle.std.specs.Prelude.{true, ◌≡◌, IfSome, ◌≤◌, ◌<◌, ◌^◌, if◌then◌else◌};
+ghost use Rattle.bd_space.specs.Seats as seats;
+ghost use Rattle.bd_space.specs.Steps.{is_pid};
+ghost use Rattle.bd_space.specs.Histories.{is_ready, ready_below};
+ghost use Rattle.bd_space.specs.Steps as steps;
+ghost use Rattle.bd_space.specs.Commands as commands;
+ghost use Rattle.bd_space.specs.Outcomes.{accepted, completed};
+ghost use Rattle.bd_space.specs.ThreadExits as exits;
+ghost use Rattle.bd_objects.specs.Room.{death_count};
+ghost use Rattle.bd_calls.specs.Room.{thread_room};
+ghost use Rattle.bd_engine.specs.Stands.{Tells, Makes, CanFollow, MakesWithin, TakesNothing};
+ghost use Rattle.bd_engine.specs.Meets.{IsAny, IsBy, IsStep};
+
+use crate::answer::Plain;
+use crate::tables::Tables;
+use crate::why::Why;
+use bd_space::{Actor, Thread, TodoList};
+use bd_uapi::Fault;
+
+impl Tables {
+    // The thread with its process.
+    fn actor_of(&self, thread: Thread) -> Option<Actor>
+        ensures found { Tells self.now result (λ s. seats.actor_of s thread) }
+        ensures pid { IfSome result (λ a. is_pid a.process.pid ≡ true) }
+    {
+        match self.process(thread.process) {
+            Some(process) => Some(Actor { thread, process }),
+            None => None,
+        }
+    }
+
+    /// The live thread of a seat, with its process.
+    #[tactic(auto, unfolding(bd_space::specs::Seats::actor))]
+    pub(crate) fn actor(&self, seat: u32) -> Option<Actor>
+        ensures found { Tells self.now result (λ s. seats.actor s seat) }
+        ensures pid { IfSome result (λ a. is_pid a.process.pid ≡ true) }
+    {
+        match self.calls.thread(seat) {
+            None => None,
+            Some(thread) => self.actor_of(thread),
+        }
+    }
+
+    // The bit of a seat that is ready, or 0.
+    fn bit_of(&self, seat: u32, bit: u32) -> u32
+        ensures ready { Tells self.now result (λ s. if is_ready s seat then bit else 0) }
+        ensures within { result ≤ bit }
+    {
+        if self.calls.is_ready(seat) { bit } else { 0 }
+    }
+
+    /// The ready seats below this one, bit i for seat i.
+    pub(crate) fn ready_below(&self, seats: u32) -> u32
+        requires { seats ≤ 16 }
+        ensures ready { Tells self.now result (λ s. ready_below s seats) }
+        ensures bits { result < 2 ^ 16 }
+    {
+        let mut ready = 0;
+        let mut bit = 1;
+        for seat in 0..seats {
+            ready += self.bit_of(seat, bit);
+            bit *= 2;
+        }
+        ready
+    }
+
+    // A thread comes in.
+    pub(crate) fn with_thread(&mut self, seat: u32, process: u32)
+        requires { 1 ≤ thread_room self.old.calls }
+        ensures stands { Makes self.old self.new (λ s. steps.with_thread s seat process) }
+    {
+        self.calls.add_thread(self.steps, seat, process);
+    }
+
+    /// The step that makes the seat a further thread of a live process.
+    pub(crate) fn attach(&mut self, seat: u32, pid: u32) -> Result<Plain, Why>
+        ensures { IsStep self.old self.new IsAny (λ s. steps.attach_step s seat pid) result }
+    {
+        if self.calls.thread(seat).is_some() {
+            return Ok(Plain::Refused(Fault::HasProcess));
+        }
+        let Some(process) = self.process_with_pid(pid) else {
+            return Ok(Plain::Refused(Fault::NoSuchPid));
+        };
+        if self.reserve(0, 0, 0, 0).is_err() {
+            return Err(Why::NoMemory);
+        }
+        self.with_thread(seat, process.made);
+        Ok(Plain::Opened)
+    }
+
+    // The thread of a seat enters or leaves the loop, and what follows from that.
+    fn turn_looping(&mut self, seat: u32, looping: bool)
+        requires { CanFollow self.old 0 }
+        ensures stands { MakesWithin self.old self.new (λ s. completed (commands.with_looping s seat looping)) }
+    {
+        self.calls.set_looping(seat, looping);
+        self.complete();
+    }
+
+    /// The step by which a thread enters the loop, or leaves it.
+    pub(crate) fn set_looping(&mut self, a: Actor, looping: bool) -> Result<Plain, Why>
+        ensures { IsStep self.old self.new (IsBy a)
+            (λ s. accepted (commands.with_looping s a.thread.seat looping)) result }
+    {
+        if self.reserve(0, 0, 0, 0).is_err() {
+            return Err(Why::NoMemory);
+        }
+        self.turn_looping(a.thread.seat, looping);
+        Ok(Plain::Accepted)
+    }
+
+    // The thread of a seat ends; what is lost with its list is told by the list, which goes last.
+    pub(crate) fn thread_goes(&mut self, seat: u32)
+        ensures stands { MakesWithin self.old self.new (λ s. exits.thread_goes s seat) }
+        ensures takes { TakesNothing self.old self.new }
+        ensures deaths { death_count self.new.objects ≤ death_count self.old.objects }
+    {
+        let list = TodoList::OfThread(seat);
+        let calls = &self.calls;
+        self.objects.thread_goes(|b| calls.is_lost(list, b));
+        self.windows.drop_lost(|b| calls.is_lost(list, b));
+        self.calls.thread_goes(seat);
+    }
+
+    /// The step that ends a thread.
+    pub(crate) fn exit_thread(&mut self, a: Actor) -> Result<Plain, Why>
+        ensures { IsStep self.old self.new (IsBy a) (λ s. exits.exit_thread_step s a) result }
+    {
+        if self.reserve(0, 0, 0, 0).is_err() {
+            return Err(Why::NoMemory);
+        }
+        self.thread_goes(a.thread.seat);
+        self.after_exit();
+        Ok(Plain::Exited)
+    }
+}
