@@ -8,7 +8,6 @@ mod script;
 mod words;
 
 pub use hex::hex_is_read;
-pub use numbers::number;
 pub use script::{Line, Script, ScriptError, Verb, read_script};
 
 #[cfg(test)]
