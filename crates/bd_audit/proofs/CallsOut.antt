@@ -38,14 +38,16 @@ use Rattle.bd_space.specs.Commands.{command_step}
 use Rattle.bd_space.specs.Outcomes.{Outcome, completed, refused}
 use Rattle.bd_space.specs.Reading.{taken, ends_read, bytes_read, read_by, read_fault, read_step, read_taking, buffer_in, buffer_taken, hand_out, handed_buffers}
 use Rattle.bd_space.specs.Steps.{change, by_actor}
+use Rattle.bd_laws.specs.Lists.{In}
+use Rattle.bd_laws.specs.OneWayCalls.{On}
+use Rattle.bd_laws.proofs.Lists.{in-last, find-in, find-some, changed-in}
+use Rattle.bd_laws.proofs.Ripening.{read-in}
+use Rattle.bd_laws.proofs.Checks.{transaction-checked}
+use Rattle.bd_laws.proofs.Passing.{follow-after}
 use Rattle.bd_audit.specs.TurnSearch.{is_handed}
 use Rattle.bd_audit.specs.Replies.{items_taken, items_read, items_unless}
 use Rattle.bd_audit.specs.TurnCalls.{CallsOneWay}
-use Rattle.bd_audit.proofs.Lists.{In, in-last, find-in, find-some, changed-in}
-use Rattle.bd_audit.proofs.Untouched
-use Rattle.bd_audit.proofs.Ripening.{read-in}
-use Rattle.bd_audit.proofs.Checks.{transaction-checked}
-use Rattle.bd_audit.proofs.Passing.{On, follow-after}
+use Rattle.bd_laws.proofs.Untouched
 use Rattle.bd_audit.proofs.TurnLog.{handed-in}
 
 -- ---- what a reading takes was due
