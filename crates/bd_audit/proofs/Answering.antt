@@ -36,7 +36,8 @@ use Rattle.bd_space.specs.Outcomes.{completed}
 use Rattle.bd_space.specs.Transactions.{transaction_step, transaction_outcome, transaction_check, transacted, called, call_out, is_one_way}
 use Rattle.bd_space.specs.Replies.{reply_step, reply_to, reply_outcome, reply_check, replied}
 use Rattle.bd_space.specs.Commands.{command_step}
-use Rattle.bd_space.specs.Reading.{taken, read_by, read_fault, serve, served_frames}
+use Rattle.bd_space.specs.ReadItems.{taken, read_by, serve, served_frames}
+use Rattle.bd_space.specs.Reading.{read_fault}
 use Rattle.bd_space.specs.Steps.{change, counted, by_actor}
 use Rattle.bd_space.specs.Histories.{after, next}
 use Rattle.bd_calls.specs.Replies.{reply_of}

@@ -8,7 +8,7 @@ use Rattle.bd_space.specs.declared.step.Entry.{Entry}
 use Rattle.bd_space.specs.Space.{Space, opening}
 use Rattle.bd_space.specs.declared.step.StepAnswer.{StepAnswer}
 use Rattle.bd_space.specs.Steps.{step}
-use Rattle.bd_space.specs.Histories.{History, IsHistory, EntryFollows, Follows, after, next, space_after, is_at_limit}
+use Rattle.bd_space.specs.Histories.{History, history_of, IsHistory, EntryFollows, Follows, after, next, space_after, is_at_limit}
 use Rattle.bd_space.specs.declared.step.Step.{Step}
 use Rattle.bd_engine.specs.declared.why.Why.{Why}
 use Rattle.bd_engine.specs.declared.why.Why.TheVariants as why
@@ -122,7 +122,9 @@ not-history (Unlawful at) h g i e at_i es same_es below found not = λ k. not (n
 not-history NoMemory h g i e at_i es same_es below found not = tt
 
 begun : (g k : History) → Begins g k → IsHistory k → IsHistory g
-begun g k b h = history-front g.seats g.entries b.0 (subst IsHistory b.1 h)
+begun g k b h =
+    let whole : k ≡ history_of g.seats (g.entries ++ b.1.0) = ap (λ n. history_of n k.entries) b.0 ∙ ap (history_of g.seats) b.1.1 in
+    history-front g.seats g.entries b.1.0 (subst IsHistory whole h)
 
 pub stops-there : (f : AuditFault) (h g k : History) (i : ℕ) (e : Entry) → g ≡ beginning i h → (es : List Entry) → es ≡ h.entries → i < length es → e ≡ get_or es i e
     → Begins g k → IsHistory k → IfUnlawful f (λ at. at ≡ length g.entries)

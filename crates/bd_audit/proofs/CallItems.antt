@@ -32,8 +32,10 @@ use Rattle.bd_space.specs.Delivery.{Delivery, delivered, own_notices, add_buffer
 use Rattle.bd_space.specs.Transactions.{transaction_check, transacted, called, call_out, is_one_way}
 use Rattle.bd_space.specs.Replies.{reply_check, replied}
 use Rattle.bd_space.specs.Freeing.{without_buffer, is_made_at}
-use Rattle.bd_space.specs.Exits.{thread_goes, threads_go, without_process, tell_deaths, is_lost_with, seat_of}
-use Rattle.bd_space.specs.Reading.{taken, read_by, read_fault, buffer_taken, hand_out, handed_buffers}
+use Rattle.bd_space.specs.ThreadExits.{thread_goes, is_lost_with}
+use Rattle.bd_space.specs.ProcessExits.{threads_go, without_process, tell_deaths, seat_of}
+use Rattle.bd_space.specs.ReadItems.{taken, read_by, buffer_taken, hand_out, handed_buffers}
+use Rattle.bd_space.specs.Reading.{read_fault}
 use Rattle.bd_space.specs.Steps.{change, with_thread, with_process, with_manager}
 use Rattle.bd_laws.specs.Lists.{In}
 use Rattle.bd_laws.specs.OneWayCalls.{IsInTurn, On}

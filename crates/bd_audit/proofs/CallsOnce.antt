@@ -28,7 +28,8 @@ use Rattle.bd_space.specs.Delivery.{Delivery, delivered, own_notices, add_buffer
 use Rattle.bd_space.specs.Transactions.{transacted, called, call_out, is_one_way}
 use Rattle.bd_space.specs.Replies.{replied}
 use Rattle.bd_space.specs.Outcomes.{Outcome, refused}
-use Rattle.bd_space.specs.Reading.{taken, read_by, read_fault, read_step, read_taking}
+use Rattle.bd_space.specs.ReadItems.{taken, read_by}
+use Rattle.bd_space.specs.Reading.{read_fault, read_step, read_taking}
 use Rattle.bd_space.specs.Steps.{change, counted, by_actor}
 use Rattle.bd_space.specs.Histories.{after, next}
 use Rattle.bd_laws.specs.Lists.{In}

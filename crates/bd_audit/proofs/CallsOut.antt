@@ -36,7 +36,9 @@ use Rattle.bd_space.specs.Transactions.{transaction_step, transaction_outcome, t
 use Rattle.bd_space.specs.Freeing.{is_made_at}
 use Rattle.bd_space.specs.Commands.{command_step}
 use Rattle.bd_space.specs.Outcomes.{Outcome, completed, refused}
-use Rattle.bd_space.specs.Reading.{taken, ends_read, bytes_read, read_by, read_fault, read_step, read_taking, buffer_in, buffer_taken, hand_out, handed_buffers}
+use Rattle.bd_space.specs.ReadItems.{taken, ends_read, read_by, buffer_taken, hand_out, handed_buffers}
+use Rattle.bd_space.specs.Returns.{bytes_read, buffer_in}
+use Rattle.bd_space.specs.Reading.{read_fault, read_step, read_taking}
 use Rattle.bd_space.specs.Steps.{change, by_actor}
 use Rattle.bd_laws.specs.Lists.{In}
 use Rattle.bd_laws.specs.OneWayCalls.{On}

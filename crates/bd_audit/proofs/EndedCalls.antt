@@ -37,7 +37,8 @@ use Rattle.bd_space.specs.Replies.{replied, reply_refused}
 use Rattle.bd_space.specs.Freeing.{without_buffer}
 use Rattle.bd_space.specs.Asking.{ask, drop_asked, acknowledge}
 use Rattle.bd_space.specs.Commands.{command_step, with_looping}
-use Rattle.bd_space.specs.Reading.{read_by, read_fault, taken, serve}
+use Rattle.bd_space.specs.ReadItems.{read_by, taken, serve}
+use Rattle.bd_space.specs.Reading.{read_fault}
 use Rattle.bd_space.specs.Steps.{change, counted, by_actor, with_process, with_manager}
 use Rattle.bd_space.specs.Histories.{after}
 use Rattle.bd_laws.specs.Lists.{In}

@@ -41,12 +41,16 @@ use Rattle.bd_space.specs.Delivery.{Delivery}
 use Rattle.bd_space.specs.Transactions.{transaction_step, transaction_outcome, transaction_check}
 use Rattle.bd_space.specs.Replies.{reply_step, reply_to, reply_outcome, reply_check}
 use Rattle.bd_space.specs.Freeing.{free_step, free_outcome, buffer_at_pointer, without_buffer, is_made_at}
-use Rattle.bd_space.specs.Asking.{ask_step, ask_outcome, ask_check, drop_step, drop_outcome, drop_check, done_step, done_outcome, done_check}
-use Rattle.bd_space.specs.Deaths.{request_step, request_outcome, request_check, clear_step, clear_outcome, clear_check, death_done_step, death_done_outcome, told_death, is_notification}
+use Rattle.bd_space.specs.Asking.{ask_step, ask_check, drop_step, drop_check, done_step, done_check, acknowledge, ask, drop_asked}
+use Rattle.bd_space.specs.Deaths.{request_step, request_check, is_notification, requested}
+use Rattle.bd_space.specs.Clearing.{clear_step, clear_check, death_done_step, death_done_outcome, told_death, cleared}
 use Rattle.bd_space.specs.Commands.{command_step}
-use Rattle.bd_space.specs.Reading.{read_step, read_taking, read_fault, taken, stream_of, bytes_read, buffer_in, buffer_taken, record_of, got, one, returns_of, returns_of_object}
-use Rattle.bd_space.specs.Exits.{exit_thread_step, exit_process_step}
-use Rattle.bd_space.specs.Outcomes.{Outcome, completed, refused}
+use Rattle.bd_space.specs.Reading.{read_step, read_taking, read_fault, got}
+use Rattle.bd_space.specs.ReadItems.{taken, buffer_taken}
+use Rattle.bd_space.specs.Returns.{stream_of, bytes_read, buffer_in, record_of, one, returns_of, returns_of_object}
+use Rattle.bd_space.specs.ThreadExits.{exit_thread_step}
+use Rattle.bd_space.specs.ProcessExits.{exit_process_step}
+use Rattle.bd_space.specs.Outcomes.{Outcome, completed, refused, by_check}
 use Rattle.bd_space.specs.Steps.{change, open_step, open_outcome, open_fault, attach_step, attach_outcome, manager_step, manager_outcome, is_manager_busy, by_actor}
 use Rattle.bd_space.specs.Histories.{History, IsHistory, Follows, after}
 use Rattle.bd_calls.specs.Replies.{reply_of, first_reply_in}
@@ -175,23 +179,23 @@ free-silent s (Some b) = at b.handed
     at true = refl
     at false = refl
 
-ask-silent : (s : Space) (p : ℕ) (strong : Bool) (r : Result ObjectId Note) → IsSilent (ask_outcome s p strong r)
+ask-silent : (s : Space) (p : ℕ) (strong : Bool) (r : Result ObjectId Note) → IsSilent (by_check s (λ o. ask s p o strong) r)
 ask-silent s p strong (Err n) = refl
 ask-silent s p strong (Ok o) = refl
 
-drop-silent : (s : Space) (p : ℕ) (strong : Bool) (r : Result ObjectId Note) → IsSilent (drop_outcome s p strong r)
+drop-silent : (s : Space) (p : ℕ) (strong : Bool) (r : Result ObjectId Note) → IsSilent (by_check s (λ o. drop_asked s p o strong) r)
 drop-silent s p strong (Err n) = refl
 drop-silent s p strong (Ok o) = refl
 
-done-silent : (s : Space) (strong : Bool) (r : Result Object Note) → IsSilent (done_outcome s strong r)
+done-silent : (s : Space) (strong : Bool) (r : Result Object Note) → IsSilent (by_check s (λ x. acknowledge s x.id strong) r)
 done-silent s strong (Err n) = refl
 done-silent s strong (Ok o) = refl
 
-request-silent : (s : Space) (p cookie : ℕ) (r : Result ObjectId Note) → IsSilent (request_outcome s p cookie r)
+request-silent : (s : Space) (p cookie : ℕ) (r : Result ObjectId Note) → IsSilent (by_check s (λ o. requested s p o cookie) r)
 request-silent s p cookie (Err n) = refl
 request-silent s p cookie (Ok o) = refl
 
-clear-silent : (s : Space) (t : ℕ) (r : Result DeathNotification Note) → IsSilent (clear_outcome s t r)
+clear-silent : (s : Space) (t : ℕ) (r : Result DeathNotification Note) → IsSilent (by_check s (cleared s t) r)
 clear-silent s t (Err n) = refl
 clear-silent s t (Ok x) = refl
 

@@ -22,10 +22,12 @@ use Rattle.bd_space.specs.Seats.{actor, lives_in}
 use Rattle.bd_space.specs.References.{is_shaking}
 use Rattle.bd_space.specs.Todo.{list_to_read}
 use Rattle.bd_space.specs.Notices.{follow}
-use Rattle.bd_space.specs.Outcomes.{Outcome, refused}
-use Rattle.bd_space.specs.Asking.{is_own_with, done_check, acknowledge, done_outcome, done_step}
+use Rattle.bd_space.specs.Outcomes.{Outcome, refused, by_check}
+use Rattle.bd_space.specs.Asking.{is_own_with, done_check, acknowledge, done_step}
 use Rattle.bd_space.specs.Commands.{command_step}
-use Rattle.bd_space.specs.Reading.{read_by, taken, got, buffer_taken, read_taking, read_fault, read_step, stream_of}
+use Rattle.bd_space.specs.ReadItems.{read_by, taken, buffer_taken}
+use Rattle.bd_space.specs.Reading.{got, read_taking, read_fault, read_step}
+use Rattle.bd_space.specs.Returns.{stream_of}
 use Rattle.bd_space.specs.Steps.{change, counted, by_actor}
 use Rattle.bd_space.specs.Histories.{History, IsHistory, Follows, EntryFollows, next}
 use Rattle.bd_laws.specs.Lists.{In}
@@ -108,7 +110,7 @@ module _ (o : ObjectId) (st : Hearing) (s : Space) (before : Before s) (noticing
   -- ---- an acknowledgement
 
   done-after : (a : Actor) (ptr cookie : ℕ) (strong : Bool) (r : Result Object Note) → actor s seat ≡ Some a → done_check s a.process.made ptr cookie strong ≡ r
-      → (done_outcome s strong r).answer ≡ answer → HeardAfter o st s.steps (cond (is_accepted answer) (cond (names_own s o a.process.made ptr cookie) (done_event strong ∷ []) []) []) (done_outcome s strong r).space
+      → (by_check s (λ x. acknowledge s x.id strong) r).answer ≡ answer → HeardAfter o st s.steps (cond (is_accepted answer) (cond (names_own s o a.process.made ptr cookie) (done_event strong ∷ []) []) []) (by_check s (λ x. acknowledge s x.id strong) r).space
   done-after a ptr cookie strong (Err n) e c is =
       same-events _ [] s (ap (λ y. cond (is_accepted y) (cond (names_own s o a.process.made ptr cookie) (done_event strong ∷ []) []) []) (sym is)) same-space
   done-after a ptr cookie strong (Ok y) e c is =

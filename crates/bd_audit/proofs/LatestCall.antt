@@ -20,7 +20,9 @@ use Rattle.bd_space.specs.Space.{Space, opening}
 use Rattle.bd_space.specs.Seats.{actor}
 use Rattle.bd_space.specs.Frames.{is_frame, innermost_in}
 use Rattle.bd_space.specs.Todo.{is_on, same_list, work_on, list_to_read}
-use Rattle.bd_space.specs.Reading.{taken, read_fault, ends_read, bytes_read}
+use Rattle.bd_space.specs.ReadItems.{taken, ends_read}
+use Rattle.bd_space.specs.Reading.{read_fault}
+use Rattle.bd_space.specs.Returns.{bytes_read}
 use Rattle.bd_space.specs.Histories.{History, after}
 use Rattle.bd_calls.specs.Replies.{reply_of, first_reply_in}
 use Rattle.bd_laws.specs.Lists.{In, Pairs}

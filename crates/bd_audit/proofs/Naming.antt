@@ -33,8 +33,9 @@ use Rattle.bd_space.specs.Transactions.{transaction_check, transacted, called}
 use Rattle.bd_space.specs.Replies.{reply_check, replied}
 use Rattle.bd_space.specs.Freeing.{without_buffer}
 use Rattle.bd_space.specs.Asking.{ask_check, ask, drop_asked, acknowledge}
-use Rattle.bd_space.specs.Exits.{thread_goes, threads_go, without_process, tell_deaths, seat_of}
-use Rattle.bd_space.specs.Reading.{read_by}
+use Rattle.bd_space.specs.ThreadExits.{thread_goes}
+use Rattle.bd_space.specs.ProcessExits.{threads_go, without_process, tell_deaths, seat_of}
+use Rattle.bd_space.specs.ReadItems.{read_by}
 use Rattle.bd_space.specs.Steps.{change, with_thread, with_process, with_manager}
 use Rattle.bd_laws.specs.Lists.{In}
 use Rattle.bd_laws.proofs.Lists.{in-right, in-push, in-filter, filter-in, in-map, find-some}

@@ -24,8 +24,9 @@ use Rattle.bd_space.specs.Frames.{goes_to}
 use Rattle.bd_space.specs.Parcels.{is_own}
 use Rattle.bd_space.specs.Delivery.{Delivery, delivered, own_notices, add_buffer, known_by, refer, make_objects, buffer_of, add_notice, withdraw_notice}
 use Rattle.bd_space.specs.Transactions.{transacted, called, call_out}
-use Rattle.bd_space.specs.Reading.{read_by}
-use Rattle.bd_space.specs.Exits.{thread_goes, threads_go, without_process, tell_deaths, seat_of}
+use Rattle.bd_space.specs.ReadItems.{read_by}
+use Rattle.bd_space.specs.ThreadExits.{thread_goes}
+use Rattle.bd_space.specs.ProcessExits.{threads_go, without_process, tell_deaths, seat_of}
 use Rattle.bd_laws.specs.Lists.{In}
 use Rattle.bd_laws.proofs.Lists.{in-push, in-filter}
 use Rattle.bd_laws.proofs.Deaths.{OnDeaths, KeptOnDeaths, on-kept, on-told}

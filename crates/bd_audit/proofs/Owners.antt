@@ -22,7 +22,7 @@ use Rattle.bd_space.specs.References.{owned_in}
 use Rattle.bd_space.specs.Frames.{innermost_in}
 use Rattle.bd_space.specs.Todo.{is_on, same_list, work_on, list_to_read, has_work_in}
 use Rattle.bd_space.specs.Asking.{is_own_with}
-use Rattle.bd_space.specs.Reading.{taken}
+use Rattle.bd_space.specs.ReadItems.{taken}
 use Rattle.bd_space.specs.Histories.{after}
 use Rattle.bd_laws.specs.Lists.{In}
 use Rattle.bd_laws.proofs.Lists.{in-filter, any-in, find-in}

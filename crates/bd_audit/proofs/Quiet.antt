@@ -32,7 +32,8 @@ use Rattle.bd_space.specs.Frames.{closed, is_frame}
 use Rattle.bd_space.specs.Parcels.{is_own}
 use Rattle.bd_space.specs.Delivery.{Delivery, delivered, own_notices, add_buffer, known_by, refer, make_objects, buffer_of, add_notice, withdraw_notice}
 use Rattle.bd_space.specs.Freeing.{without_buffer}
-use Rattle.bd_space.specs.Exits.{thread_goes, threads_go, without_process, tell_deaths, seat_of, gone_caller, gone_server, unread_server, is_unread_on, frame_without, unread_frame}
+use Rattle.bd_space.specs.ThreadExits.{thread_goes, gone_caller, gone_server, unread_server, is_unread_on, frame_without, unread_frame}
+use Rattle.bd_space.specs.ProcessExits.{threads_go, without_process, tell_deaths, seat_of}
 use Rattle.bd_space.specs.Steps.{with_thread, with_process, with_manager}
 use Rattle.bd_space.specs.Asking.{ask, drop_asked, acknowledge}
 use Rattle.bd_space.specs.Commands.{with_looping}

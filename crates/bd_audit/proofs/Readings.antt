@@ -16,7 +16,8 @@ use Rattle.bd_space.specs.Space.{Space}
 use Rattle.bd_space.specs.Seats.{lives_in}
 use Rattle.bd_space.specs.References.{held_in, strong_in, object_in, is_shaking, is_handshake, same_strength}
 use Rattle.bd_space.specs.Todo.{notice_of, list_to_read, work_on, reads_in, is_on}
-use Rattle.bd_space.specs.Reading.{returns_of, shakes, handshakes, told_objects, told_of, is_told_by, read_by, taken, returns_of_object, ends_read, bytes_read}
+use Rattle.bd_space.specs.Returns.{returns_of, returns_of_object, bytes_read}
+use Rattle.bd_space.specs.ReadItems.{shakes, handshakes, told_objects, told_of, is_told_by, read_by, taken, ends_read}
 use Rattle.bd_laws.specs.Lists.{In}
 use Rattle.bd_laws.specs.Tidy.{Before}
 use Rattle.bd_laws.proofs.Lists.{in-left, in-append, in-changed, any-found, any-in, find-in, find-some, pairs-filter}

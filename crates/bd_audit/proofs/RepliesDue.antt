@@ -35,7 +35,7 @@ use Rattle.bd_space.specs.Parcels.{is_own}
 use Rattle.bd_space.specs.Delivery.{Delivery, delivered, own_notices, add_buffer, known_by, refer, make_objects, buffer_of, add_notice, withdraw_notice}
 use Rattle.bd_space.specs.Transactions.{transacted, called, call_out}
 use Rattle.bd_space.specs.Replies.{replied}
-use Rattle.bd_space.specs.Reading.{read_by}
+use Rattle.bd_space.specs.ReadItems.{read_by}
 use Rattle.bd_space.specs.Steps.{counted}
 use Rattle.bd_space.specs.Histories.{History, next, space_after}
 use Rattle.bd_calls.specs.Replies.{reply_of}

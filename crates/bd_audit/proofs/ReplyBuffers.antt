@@ -31,8 +31,9 @@ use Rattle.bd_space.specs.Delivery.{Delivery, delivered, own_notices, add_buffer
 use Rattle.bd_space.specs.Transactions.{transacted, called, call_out}
 use Rattle.bd_space.specs.Replies.{caller_of, reply_check, replied}
 use Rattle.bd_space.specs.Freeing.{without_buffer, is_made_at, buffer_at_pointer, is_buffer_at}
-use Rattle.bd_space.specs.Reading.{taken, read_by, buffer_taken, handed_buffers, hand_out}
-use Rattle.bd_space.specs.Exits.{thread_goes, threads_go, without_process, tell_deaths, is_lost_with, seat_of}
+use Rattle.bd_space.specs.ReadItems.{taken, read_by, buffer_taken, handed_buffers, hand_out}
+use Rattle.bd_space.specs.ThreadExits.{thread_goes, is_lost_with}
+use Rattle.bd_space.specs.ProcessExits.{threads_go, without_process, tell_deaths, seat_of}
 use Rattle.bd_space.specs.Steps.{counted, with_thread, with_process, with_manager}
 use Rattle.bd_space.specs.Asking.{ask, drop_asked, acknowledge}
 use Rattle.bd_space.specs.Commands.{with_looping}

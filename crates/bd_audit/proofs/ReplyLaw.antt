@@ -21,7 +21,7 @@ use Rattle.bd_space.specs.Notices.{follow}
 use Rattle.bd_space.specs.Delivery.{Delivery, delivered}
 use Rattle.bd_space.specs.Transactions.{transacted, called, call_out}
 use Rattle.bd_space.specs.Replies.{replied}
-use Rattle.bd_space.specs.Reading.{read_by, serve}
+use Rattle.bd_space.specs.ReadItems.{read_by, serve}
 use Rattle.bd_space.specs.Steps.{change, counted}
 use Rattle.bd_space.specs.Histories.{History, after, next, space_after}
 use Rattle.bd_calls.specs.Replies.{reply_of, first_reply_in}

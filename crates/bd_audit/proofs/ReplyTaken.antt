@@ -29,7 +29,9 @@ use Rattle.bd_space.specs.Names.{names_go}
 use Rattle.bd_space.specs.References.{objects_go}
 use Rattle.bd_space.specs.Frames.{innermost_in}
 use Rattle.bd_space.specs.Outcomes.{Outcome, refused}
-use Rattle.bd_space.specs.Reading.{taken, read_by, read_fault, read_step, read_taking, ends_read, bytes_read}
+use Rattle.bd_space.specs.ReadItems.{taken, read_by, ends_read}
+use Rattle.bd_space.specs.Reading.{read_fault, read_step, read_taking}
+use Rattle.bd_space.specs.Returns.{bytes_read}
 use Rattle.bd_space.specs.Steps.{change, counted, by_actor}
 use Rattle.bd_space.specs.Histories.{next}
 use Rattle.bd_calls.specs.Replies.{reply_of, first_reply_in}

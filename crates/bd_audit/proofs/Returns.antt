@@ -13,7 +13,8 @@ use Rattle.bd_space.specs.Words.{same, is_some_and}
 use Rattle.bd_space.specs.Space.{Space}
 use Rattle.bd_space.specs.References.{reference_of, is_shaking, is_handshake, same_strength}
 use Rattle.bd_space.specs.Todo.{is_notice, notice_of}
-use Rattle.bd_space.specs.Reading.{returns_of, shakes, handshakes_for, handshakes_of, handshakes, is_told_by}
+use Rattle.bd_space.specs.Returns.{returns_of}
+use Rattle.bd_space.specs.ReadItems.{shakes, handshakes_for, handshakes_of, handshakes, is_told_by}
 use Rattle.bd_laws.specs.Lists.{In}
 use Rattle.bd_laws.proofs.Lists.{in-append, any-found, any-in}
 use Rattle.bd_laws.proofs.Tests.{same-eq, eq-same}

@@ -25,8 +25,9 @@ use Rattle.bd_space.specs.Delivery.{Delivery, delivered, own_notices, add_buffer
 use Rattle.bd_space.specs.Transactions.{transacted, called, call_out}
 use Rattle.bd_space.specs.Replies.{replied}
 use Rattle.bd_space.specs.Freeing.{without_buffer}
-use Rattle.bd_space.specs.Reading.{read_by, taken}
-use Rattle.bd_space.specs.Exits.{thread_goes, threads_go, without_process, tell_deaths, seat_of}
+use Rattle.bd_space.specs.ReadItems.{read_by, taken}
+use Rattle.bd_space.specs.ThreadExits.{thread_goes}
+use Rattle.bd_space.specs.ProcessExits.{threads_go, without_process, tell_deaths, seat_of}
 use Rattle.bd_space.specs.Steps.{counted, with_thread, with_process, with_manager}
 use Rattle.bd_space.specs.Asking.{ask, drop_asked, acknowledge}
 use Rattle.bd_space.specs.Commands.{with_looping}

@@ -30,7 +30,8 @@ use Rattle.bd_space.specs.Transactions.{transaction_check, transacted, called}
 use Rattle.bd_space.specs.Replies.{reply_check, replied}
 use Rattle.bd_space.specs.Asking.{ask, drop_asked}
 use Rattle.bd_space.specs.Freeing.{without_buffer}
-use Rattle.bd_space.specs.Exits.{thread_goes, threads_go, without_process, is_lost_reference, is_dropped_with, seat_of}
+use Rattle.bd_space.specs.ThreadExits.{thread_goes, is_lost_reference}
+use Rattle.bd_space.specs.ProcessExits.{threads_go, without_process, is_dropped_with, seat_of}
 use Rattle.bd_space.specs.Steps.{with_thread, with_process, with_manager}
 use Rattle.bd_laws.specs.Lists.{In, Pairs}
 use Rattle.bd_laws.specs.Objects.{Differ, KeptBefore}

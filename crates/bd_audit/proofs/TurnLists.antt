@@ -11,7 +11,7 @@ use Rattle.bd_space.specs.declared.space.Buffer.{Buffer}
 use Rattle.bd_space.specs.Words.{when, is_some_and}
 use Rattle.bd_space.specs.Space.{Space, opening}
 use Rattle.bd_space.specs.Freeing.{is_made_at}
-use Rattle.bd_space.specs.Reading.{buffer_in}
+use Rattle.bd_space.specs.Returns.{buffer_in}
 use Rattle.bd_space.specs.Histories.{History, after, next, space_after}
 use Rattle.bd_laws.specs.Lists.{In, Pairs}
 use Rattle.bd_laws.specs.OneWayCalls.{Waits}

@@ -27,7 +27,8 @@ use Rattle.bd_space.specs.References.{objects_go, object_in}
 use Rattle.bd_space.specs.Parcels.{is_own}
 use Rattle.bd_space.specs.Delivery.{Delivery, delivered, own_notices, add_buffer, known_by, refer, make_objects, buffer_of, add_notice, withdraw_notice}
 use Rattle.bd_space.specs.Transactions.{transacted, called, call_out}
-use Rattle.bd_space.specs.Exits.{thread_goes, threads_go, without_process, tell_deaths, seat_of, frame_without, unread_frame}
+use Rattle.bd_space.specs.ThreadExits.{thread_goes, frame_without, unread_frame}
+use Rattle.bd_space.specs.ProcessExits.{threads_go, without_process, tell_deaths, seat_of}
 use Rattle.bd_space.specs.Steps.{with_thread}
 use Rattle.bd_laws.specs.Lists.{In}
 use Rattle.bd_laws.proofs.Lists.{in-left, in-push, in-map, map-in, filter-in, fold-keeps}

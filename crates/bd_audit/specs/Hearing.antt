@@ -21,7 +21,8 @@ use Rattle.bd_space.specs.References.{owned_in}
 use Rattle.bd_space.specs.Todo.{is_notice, list_to_read}
 use Rattle.bd_space.specs.Notices.{has_notice_in, wants_notice}
 use Rattle.bd_space.specs.Asking.{is_own_with}
-use Rattle.bd_space.specs.Reading.{returns_of, taken}
+use Rattle.bd_space.specs.Returns.{returns_of}
+use Rattle.bd_space.specs.ReadItems.{taken}
 use Rattle.bd_space.specs.Histories.{History, IsHistory, next, after, space_after}
 
 -- one of the four returns was read, or one of the two commands accepted

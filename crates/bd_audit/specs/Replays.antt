@@ -1,20 +1,15 @@
 -- Where a record stops being a history.
-use Rattle.std.specs.Prelude.{ℕ, ◌+◌, ◌<◌, ◌≡◌, List, [], ◌∷◌, ◌++◌, length, take}
+use Rattle.std.specs.Prelude.{ℕ, ◌+◌, ◌<◌, ◌≡◌, [], ◌∷◌, ◌++◌, length, take}
 use Rattle.bd_space.specs.declared.step.Entry.{Entry}
-use Rattle.bd_space.specs.declared.record.Record.{Record}
-use Rattle.bd_space.specs.Histories.{History, IsHistory}
+use Rattle.bd_space.specs.Histories.{History, IsHistory, history_of, BeginsWith}
 use Rattle.bd_engine.specs.declared.why.Why.{Why}
 use Rattle.bd_engine.specs.declared.why.Why.TheVariants as why
 use Rattle.bd_audit.specs.declared.judging.AuditFault.{AuditFault}
 use Rattle.bd_audit.specs.declared.judging.AuditFault.TheVariants.{Unlawful, NoMemory}
 
--- the history that a record is to be
-abbrev pub history_of : Record → History
-history_of r = record { seats = r.seats; entries = r.entries }
-
 -- its first n entries
 abbrev pub beginning : ℕ → History → History
-beginning n h = record { seats = h.seats; entries = take n h.entries }
+beginning n h = history_of h.seats (take n h.entries)
 
 -- the entries before this place are a history, and with its entry they aren't
 pub record StopsAt (h : History) (at : ℕ) : Type 0 where
@@ -37,8 +32,8 @@ fault_of why.NoMemory at = NoMemory
 
 -- one entry more
 abbrev pub with_entry : History → Entry → History
-with_entry h e = record { seats = h.seats; entries = h.entries ++ e ∷ [] }
+with_entry h e = history_of h.seats (h.entries ++ e ∷ [])
 
 -- the second history is the first one and perhaps more
 abbrev pub Begins : History → History → Type 0
-Begins g h = (more : List Entry) × (h ≡ record { seats = g.seats; entries = g.entries ++ more })
+Begins g h = (h.seats ≡ g.seats) × BeginsWith h.entries g.entries

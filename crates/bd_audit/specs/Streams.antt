@@ -7,7 +7,7 @@ use Rattle.bd_codec.specs.Spelling.{return_bytes}
 use Rattle.bd_space.specs.declared.step.Entry.{Entry}
 use Rattle.bd_space.specs.declared.step.StepAnswer.TheVariants.{Got}
 use Rattle.bd_space.specs.Space.{Space}
-use Rattle.bd_space.specs.Reading.{returns_of}
+use Rattle.bd_space.specs.Returns.{returns_of}
 use Rattle.bd_space.specs.Histories.{History, IsHistory}
 use Rattle.bd_audit.specs.Replies.{items_taken, At}
 

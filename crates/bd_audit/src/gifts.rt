@@ -2,9 +2,9 @@
 
 ghost use Rattle.std.specs.Prelude.{◌≡◌, ◌≤◌, true, IfOk, IfErr, IfSome, MatchResult, is_some};
 ghost use Rattle.bd_uapi.specs.declared.fault.Fault.TheVariants as faults;
-ghost use Rattle.bd_space.specs.Histories.{IsHistory, space_after};
+ghost use Rattle.bd_space.specs.Histories.{IsHistory, space_after, history_in};
 ghost use Rattle.bd_engine.specs.Looks as looks;
-ghost use Rattle.bd_audit.specs.Replays.{history_of, with_entry};
+ghost use Rattle.bd_audit.specs.Replays.{with_entry};
 ghost use Rattle.bd_audit.specs.Gifts.{IsGiftChain, IsChainOf};
 ghost use Rattle.bd_audit.specs.GiftSearch as spec;
 
@@ -107,7 +107,7 @@ fn chain_to(
     object: ObjectId,
 ) -> Result<Vec<u32>, Fault>
     requires seats { (1 ≤ «record».now.seats) × («record».now.seats ≤ 16) }
-    requires lawful { IsHistory (history_of «record».now) }
+    requires lawful { IsHistory (history_in «record».now) }
     requires named { spec.knows_after «record».now.entries receiver object ≡ true }
     ensures { MatchResult result (λ v. IsGiftChain «record».now.entries object v.items receiver) (λ f. f ≡ faults.NoMemory) }
 {
@@ -146,11 +146,11 @@ pub fn gift_chain(
     number: u32,
 ) -> Result<Option<Vec<u32>>, Fault>
     requires seats { (1 ≤ «record».now.seats) × («record».now.seats ≤ 16) }
-    requires lawful { IsHistory (history_of «record».now) }
+    requires lawful { IsHistory (history_in «record».now) }
     // The places are a gift chain for what the number names.
-    ensures chain { IfOk result (λ c. IfSome c (λ v. IsChainOf (history_of «record».now) pid number v.items)) }
+    ensures chain { IfOk result (λ c. IfSome c (λ v. IsChainOf (history_in «record».now) pid number v.items)) }
     // There is one exactly where there is such a process and name.
-    ensures none { IfOk result (λ c. is_some c ≡ is_some (looks.named_by (space_after (history_of «record».now)) pid number)) }
+    ensures none { IfOk result (λ c. is_some c ≡ is_some (looks.named_by (space_after (history_in «record».now)) pid number)) }
     ensures fault { IfErr result (λ f. f ≡ faults.NoMemory) }
 {
     let engine = played(alloc, record.seats, record.entries.as_slice())?;

@@ -1,9 +1,9 @@
 //! Whether a record is a history.
 
 ghost use Rattle.std.specs.Prelude.{◌≡◌, ◌≤◌, ◌<◌, length, IfOk, IfErr, MatchResult};
-ghost use Rattle.bd_space.specs.Histories.{IsHistory};
+ghost use Rattle.bd_space.specs.Histories.{IsHistory, history_in};
 ghost use Rattle.bd_audit.specs.Replays as spec;
-ghost use Rattle.bd_audit.specs.Replays.{history_of, with_entry, Begins, IfUnlawful, IfNoMemory, StopsAt};
+ghost use Rattle.bd_audit.specs.Replays.{with_entry, Begins, IfUnlawful, IfNoMemory, StopsAt};
 
 use crate::answers::is_same_answer;
 use bd_engine::{Engine, Why};
@@ -71,8 +71,8 @@ pub(crate) fn accept(engine: &mut Engine, entry: &Entry) -> Result<(), AuditFaul
 /// which a history has no place, or no handle left, is unlawful.
 pub fn replay(alloc: Global, record: &Record) -> Result<(), AuditFault>
     requires seats { (1 ≤ «record».now.seats) × («record».now.seats ≤ 16) }
-    ensures history { MatchResult result (λ _. IsHistory (history_of «record».now)) (λ f. IfUnlawful f (λ at. IsHistory (history_of «record».now) → ⊥)) }
-    ensures first { IfErr result (λ f. IfUnlawful f (StopsAt (history_of «record».now))) }
+    ensures history { MatchResult result (λ _. IsHistory (history_in «record».now)) (λ f. IfUnlawful f (λ at. IsHistory (history_in «record».now) → ⊥)) }
+    ensures first { IfErr result (λ f. IfUnlawful f (StopsAt (history_in «record».now))) }
 {
     let Ok(mut engine) = Engine::new(alloc, record.seats) else {
         return Err(AuditFault::NoMemory);

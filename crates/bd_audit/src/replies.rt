@@ -2,8 +2,8 @@
 
 ghost use Rattle.std.specs.Prelude.{◌≡◌, ◌≤◌, length, IfOk, IfErr, MatchResult};
 ghost use Rattle.bd_uapi.specs.declared.fault.Fault.TheVariants as faults;
-ghost use Rattle.bd_space.specs.Histories.{IsHistory, space_after};
-ghost use Rattle.bd_audit.specs.Replays.{history_of, with_entry, beginning};
+ghost use Rattle.bd_space.specs.Histories.{IsHistory, space_after, history_in};
+ghost use Rattle.bd_audit.specs.Replays.{with_entry, beginning};
 ghost use Rattle.bd_audit.specs.Replies as spec;
 
 use crate::playing::{advance, played};
@@ -15,9 +15,9 @@ use std::alloc::Global;
 // The engine before the entry at this place.
 fn played_to(alloc: Global, record: &Record, place: usize) -> Result<Engine, Fault>
     requires seats { (1 ≤ «record».now.seats) × («record».now.seats ≤ 16) }
-    requires lawful { IsHistory (history_of «record».now) }
+    requires lawful { IsHistory (history_in «record».now) }
     requires inside { place ≤ length «record».now.entries }
-    ensures ok { IfOk result (λ e. e ≡ beginning place (history_of «record».now)) }
+    ensures ok { IfOk result (λ e. e ≡ beginning place (history_in «record».now)) }
     ensures fault { IfErr result (λ f. f ≡ faults.NoMemory) }
 {
     played(alloc, record.seats, &record.entries.as_slice()[..place])
@@ -45,8 +45,8 @@ fn take_reply(engine: &mut Engine, entry: &Entry) -> Result<Option<u32>, Fault>
 // The reply that the reading at this place took.
 fn reply_taken_at(alloc: Global, record: &Record, place: u32) -> Result<Option<u32>, Fault>
     requires seats { (1 ≤ «record».now.seats) × («record».now.seats ≤ 16) }
-    requires lawful { IsHistory (history_of «record».now) }
-    ensures { MatchResult result (λ r. r ≡ spec.reply_taken_at (history_of «record».now) place) (λ f. f ≡ faults.NoMemory) }
+    requires lawful { IsHistory (history_in «record».now) }
+    ensures { MatchResult result (λ r. r ≡ spec.reply_taken_at (history_in «record».now) place) (λ f. f ≡ faults.NoMemory) }
 {
     match record.entries.as_slice().get(place as usize) {
         Some(entry) => {
@@ -60,8 +60,8 @@ fn reply_taken_at(alloc: Global, record: &Record, place: u32) -> Result<Option<u
 // The call that the reply at this place answers.
 fn call_closed_at(alloc: Global, record: &Record, place: u32) -> Result<Option<u32>, Fault>
     requires seats { (1 ≤ «record».now.seats) × («record».now.seats ≤ 16) }
-    requires lawful { IsHistory (history_of «record».now) }
-    ensures { MatchResult result (λ r. r ≡ spec.call_closed_at (history_of «record».now) place) (λ f. f ≡ faults.NoMemory) }
+    requires lawful { IsHistory (history_in «record».now) }
+    ensures { MatchResult result (λ r. r ≡ spec.call_closed_at (history_in «record».now) place) (λ f. f ≡ faults.NoMemory) }
 {
     match record.entries.as_slice().get(place as usize) {
         Some(entry) => {
@@ -79,8 +79,8 @@ fn call_closed_at(alloc: Global, record: &Record, place: u32) -> Result<Option<u
 /// and where no reading stands at the place. The record is a history; the only fault is `NoMemory`.
 pub fn call_of_reply(alloc: Global, record: &Record, step: u32) -> Result<Option<u32>, Fault>
     requires seats { (1 ≤ «record».now.seats) × («record».now.seats ≤ 16) }
-    requires lawful { IsHistory (history_of «record».now) }
-    ensures { MatchResult result (λ found. found ≡ spec.call_answered (history_of «record».now) step) (λ f. f ≡ faults.NoMemory) }
+    requires lawful { IsHistory (history_in «record».now) }
+    ensures { MatchResult result (λ found. found ≡ spec.call_answered (history_in «record».now) step) (λ f. f ≡ faults.NoMemory) }
 {
     match reply_taken_at(alloc, record, step)? {
         Some(reply) => call_closed_at(alloc, record, reply),

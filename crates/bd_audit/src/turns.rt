@@ -4,8 +4,7 @@ ghost use Rattle.std.specs.Prelude.{◌≡◌, ◌≤◌, map, IfOk, IfErr, Matc
 ghost use Rattle.std.specs.List.{filter_map};
 ghost use Rattle.std.specs.Option.{option_to_list};
 ghost use Rattle.bd_uapi.specs.declared.fault.Fault.TheVariants as faults;
-ghost use Rattle.bd_space.specs.Histories.{IsHistory, space_after};
-ghost use Rattle.bd_audit.specs.Replays.{history_of};
+ghost use Rattle.bd_space.specs.Histories.{IsHistory, space_after, history_in};
 ghost use Rattle.bd_audit.specs.TurnCalls.{AreTurns};
 ghost use Rattle.bd_audit.specs.TurnSearch as spec;
 
@@ -118,7 +117,7 @@ fn note(turns: &mut Vec<Turn>, engine: &Engine, place: u32, object: ObjectId) ->
 /// only fault is `NoMemory`.
 pub fn oneway_turns(alloc: Global, record: &Record, object: ObjectId) -> Result<Vec<Turn>, Fault>
     requires seats { (1 ≤ «record».now.seats) × («record».now.seats ≤ 16) }
-    requires lawful { IsHistory (history_of «record».now) }
+    requires lawful { IsHistory (history_in «record».now) }
     ensures { MatchResult result (λ v. AreTurns «record».now.entries object v.items) (λ f. f ≡ faults.NoMemory) }
 {
     let Ok(mut engine) = Engine::new(alloc, record.seats) else {

@@ -17,7 +17,8 @@ use Rattle.bd_space.specs.Words.{changed, first_of}
 use Rattle.bd_space.specs.Seats.{lives_in, process_in}
 use Rattle.bd_space.specs.Room.{buffers_of}
 use Rattle.bd_space.specs.Freeing.{is_made_at}
-use Rattle.bd_space.specs.Reading.{buffer_in, hand_out, handed_buffers}
+use Rattle.bd_space.specs.Returns.{buffer_in}
+use Rattle.bd_space.specs.ReadItems.{hand_out, handed_buffers}
 use Rattle.bd_buffers.specs.declared.window.Window.{Window}
 use Rattle.bd_buffers.specs.declared.windows.OwnedWindow.{OwnedWindow}
 use Rattle.bd_buffers.specs.declared.windows.Windows.{Windows}

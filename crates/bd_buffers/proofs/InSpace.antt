@@ -9,7 +9,8 @@ use Rattle.bd_space.specs.declared.space.Buffer.{Buffer}
 use Rattle.bd_space.specs.Words.{changed}
 use Rattle.bd_space.specs.Room.{buffers_of}
 use Rattle.bd_space.specs.Freeing.{is_buffer_at, is_made_at}
-use Rattle.bd_space.specs.Reading.{buffer_in, hand_out}
+use Rattle.bd_space.specs.Returns.{buffer_in}
+use Rattle.bd_space.specs.ReadItems.{hand_out}
 use Rattle.bd_buffers.specs.Windows.{at_pointer}
 
 abbrev is_in : ℕ → Buffer → Bool

@@ -10,7 +10,7 @@ use Rattle.std.specs.List.Retain.{IsFiltered}
 use Rattle.bd_space.specs.declared.space.Buffer.{Buffer}
 use Rattle.bd_space.specs.Words.{changed}
 use Rattle.bd_space.specs.Room.{needed, place_for}
-use Rattle.bd_space.specs.Reading.{hand_out}
+use Rattle.bd_space.specs.ReadItems.{hand_out}
 use Rattle.bd_buffers.specs.Windows.{IsApart, IsInBudget, IsPlaced, IsWindow, one_way_size}
 use Rattle.bd_buffers.proofs.Changes.{All-changed, All-picked, pairs_picked, pairs_changed, found_has}
 use Rattle.bd_buffers.proofs.Places.{given_says}

@@ -11,7 +11,7 @@ use Rattle.bd_space.specs.declared.space.Process.{Process}
 use Rattle.bd_space.specs.declared.space.Buffer.{Buffer}
 use Rattle.bd_space.specs.Words.{changed}
 use Rattle.bd_space.specs.Seats.{lives_in}
-use Rattle.bd_space.specs.Reading.{hand_out}
+use Rattle.bd_space.specs.ReadItems.{hand_out}
 use Rattle.bd_buffers.specs.WindowsStand.{AreMade}
 use Rattle.bd_buffers.proofs.Changes.{All-changed, pairs_changed}
 

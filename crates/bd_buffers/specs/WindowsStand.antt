@@ -80,7 +80,7 @@ CanAdd t p one_way size start = CanTakeIn (find (is_of p) (map seen t.windows.it
 -- ---- buffers
 
 -- what is so of every live buffer
-pub record IsPlaced (b : Buffer) : Type 0 where
+pub record IsInWindow (b : Buffer) : Type 0 where
   pub inside : b.start + b.size ≤ 4194304
   pub bytes_fit : length b.bytes ≤ b.size
   pub offsets_fit : length b.offsets ≤ b.size

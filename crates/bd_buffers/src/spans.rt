@@ -5,7 +5,8 @@ ghost use Rattle.std.specs.List.{list_all};
 ghost use Rattle.bd_space.specs.Room as room;
 ghost use Rattle.bd_space.specs.Words.{changed};
 ghost use Rattle.bd_space.specs.Freeing.{is_made_at};
-ghost use Rattle.bd_space.specs.Reading.{hand_out, buffer_in};
+ghost use Rattle.bd_space.specs.ReadItems.{hand_out};
+ghost use Rattle.bd_space.specs.Returns.{buffer_in};
 ghost use Rattle.bd_space.specs.declared.space.Buffer.{Buffer};
 ghost use Rattle.bd_buffers.specs.Windows.{at_pointer, one_way_size, IsWindow};
 

@@ -5,7 +5,8 @@ ghost use Rattle.bd_space.specs.declared.space.Buffer.{Buffer};
 ghost use Rattle.bd_space.specs.Words.{changed};
 ghost use Rattle.bd_space.specs.Room.{needed, place_for};
 ghost use Rattle.bd_space.specs.Freeing.{is_made_at};
-ghost use Rattle.bd_space.specs.Reading.{hand_out, buffer_in};
+ghost use Rattle.bd_space.specs.ReadItems.{hand_out};
+ghost use Rattle.bd_space.specs.Returns.{buffer_in};
 
 use crate::spans;
 use bd_space::{Buffer, Bytes};

@@ -14,10 +14,12 @@ ghost use Rattle.bd_space.specs.Seats.{process_in};
 ghost use Rattle.bd_space.specs.Room.{needed, place_for, buffers_of};
 ghost use Rattle.bd_space.specs.Delivery.{add_buffer};
 ghost use Rattle.bd_space.specs.Freeing.{without_buffer, buffer_at_pointer, is_made_at};
-ghost use Rattle.bd_space.specs.Reading.{buffer_in, buffer_taken, hand_out, read_by};
+ghost use Rattle.bd_space.specs.Returns.{buffer_in};
+ghost use Rattle.bd_space.specs.ReadItems.{buffer_taken, hand_out, read_by};
 ghost use Rattle.bd_space.specs.Steps.{with_process};
-ghost use Rattle.bd_space.specs.Exits.{thread_goes, without_process, is_lost_with};
-ghost use Rattle.bd_buffers.specs.WindowsStand.{StandsFor, StandsIn, Stands, window_room, buffer_room, made_of_buffer, CanAdd, IsPlaced, is_owned_by, seen, with_buffers};
+ghost use Rattle.bd_space.specs.ThreadExits.{thread_goes, is_lost_with};
+ghost use Rattle.bd_space.specs.ProcessExits.{without_process};
+ghost use Rattle.bd_buffers.specs.WindowsStand.{StandsFor, StandsIn, Stands, window_room, buffer_room, made_of_buffer, CanAdd, IsInWindow, is_owned_by, seen, with_buffers};
 
 use crate::window::Window;
 use bd_space::Buffer;
@@ -54,7 +56,7 @@ fn owned_by(windows: &[OwnedWindow], p: u32) -> Option<&OwnedWindow>
 // The live buffer made there, in whichever window it lies.
 fn buffer_among(windows: &[OwnedWindow], made: u32) -> Option<&Buffer>
     ensures found { option_copied result ≡ first_of (map (λ w. buffer_in w.window.buffers made) windows.now) }
-    ensures placed { IfSome result (λ b. IsPlaced b.now) }
+    ensures placed { IfSome result (λ b. IsInWindow b.now) }
 {
     for w in windows {
         if let Some(b) = w.window.buffer(made) {
@@ -188,7 +190,7 @@ impl Windows {
     /// The live buffer made there.
     pub fn buffer(&self, made: u32) -> Option<&Buffer>
         ensures found { (s : Space) → StandsIn self.now s → option_copied result ≡ buffer_in s.buffers made }
-        ensures placed { IfSome result (λ b. IsPlaced b.now) }
+        ensures placed { IfSome result (λ b. IsInWindow b.now) }
     {
         buffer_among(&self.windows, made)
     }
@@ -197,7 +199,7 @@ impl Windows {
     pub fn at_pointer(&self, p: u32, pointer: u64) -> Option<&Buffer>
         ensures found { (s : Space) (q : Process) → StandsIn self.now s → process_in s.processes p ≡ Some q
             → option_copied result ≡ buffer_at_pointer s p pointer }
-        ensures placed { IfSome result (λ b. IsPlaced b.now) }
+        ensures placed { IfSome result (λ b. IsInWindow b.now) }
         ensures no_process { (s : Space) → StandsIn self.now s → process_in s.processes p ≡ None → result ≡ None }
     {
         match owned_by(&self.windows, p) {

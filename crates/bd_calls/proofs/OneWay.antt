@@ -8,7 +8,8 @@ use Rattle.bd_space.specs.declared.space.Turn.{Turn}
 use Rattle.bd_space.specs.Words.{changed}
 use Rattle.bd_space.specs.Turns.{turn_of, turns_of}
 use Rattle.bd_space.specs.Freeing.{is_made_at}
-use Rattle.bd_space.specs.Reading.{buffer_in, hand_out, handed_buffers}
+use Rattle.bd_space.specs.Returns.{buffer_in}
+use Rattle.bd_space.specs.ReadItems.{hand_out, handed_buffers}
 use Rattle.bd_calls.specs.Handing.{hand_turn, handed_turns}
 
 -- ---- one more

@@ -5,7 +5,8 @@ ghost use Rattle.std.specs.Prelude.{ℕ, ◌≡◌, ◌==◌, ◌+◌, ◌≤◌
 ghost use Rattle.std.specs.List.{list_any};
 ghost use Rattle.bd_space.specs.Words as words;
 ghost use Rattle.bd_space.specs.Todo as works;
-ghost use Rattle.bd_space.specs.Exits as spec;
+ghost use Rattle.bd_space.specs.ThreadExits as spec;
+ghost use Rattle.bd_space.specs.ProcessExits as process_exits;
 
 use crate::frames::serves;
 use crate::reading::handed_over;
@@ -157,7 +158,7 @@ impl CallTable {
 
     /// A process without threads ends: its list goes, and the one-way calls in its window.
     pub fn process_goes(&mut self, process: u32)
-        ensures stands { (s : Space) → StandsFor self.old s → StandsFor self.new (spec.without_process s process) }
+        ensures stands { (s : Space) → StandsFor self.old s → StandsFor self.new (process_exits.without_process s process) }
         ensures takes { Takes self.old self.new 0 0 0 0 }
     {
         let list = TodoList::OfProcess(process);

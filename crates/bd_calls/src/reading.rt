@@ -9,6 +9,7 @@ ghost use Rattle.bd_calls.specs.Handing.{hand_turn, handed_turns};
 ghost use Rattle.bd_calls.specs.Replies as replies;
 ghost use Rattle.bd_space.specs.Todo as works;
 ghost use Rattle.bd_space.specs.Reading as spec;
+ghost use Rattle.bd_space.specs.ReadItems as read_items;
 
 use crate::frames::innermost_of;
 use crate::table::CallTable;
@@ -120,7 +121,7 @@ fn is_call_of(taken: &[Work], frame: &Frame) -> bool
 
 // Whoever read the call of a frame is its server.
 fn serve(frames: &mut Vec<Frame>, seat: u32, taken: &[Work])
-    ensures frames { frames.new.items ≡ spec.served_frames seat taken.now frames.old.items }
+    ensures frames { frames.new.items ≡ read_items.served_frames seat taken.now frames.old.items }
     ensures len { vec_len frames.new ≡ vec_len frames.old }
     ensures capacity { vec_capacity frames.new ≡ vec_capacity frames.old }
 {
@@ -194,7 +195,7 @@ impl CallTable {
     /// A seat's thread has read these work items: they go, the frames of the calls among them are served by it, and the
     /// one-way call among them is handed out.
     pub fn read_by(&mut self, seat: u32, taken: &[Work])
-        ensures stands { (s : Space) → StandsFor self.old s → StandsFor self.new (spec.read_by s seat taken.now) }
+        ensures stands { (s : Space) → StandsFor self.old s → StandsFor self.new (read_items.read_by s seat taken.now) }
         ensures takes { Takes self.old self.new 0 0 0 0 }
     {
         serve(&mut self.frames, seat, taken);

@@ -4,7 +4,7 @@
 ghost use Rattle.std.specs.Prelude.{ℕ, ◌≡◌, ◌==◌, ◌+◌, ◌<◌, ◌≤◌, ◌++◌, ◌∷◌, [], map, filter, find, IfOk, vec_len, vec_capacity};
 ghost use Rattle.bd_space.specs.Words.{changed};
 ghost use Rattle.bd_space.specs.Seats.{thread_in};
-ghost use Rattle.bd_space.specs.Exits.{seat_of};
+ghost use Rattle.bd_space.specs.ProcessExits.{seat_of};
 
 use crate::table::CallTable;
 use bd_space::Thread;

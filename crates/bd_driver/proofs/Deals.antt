@@ -6,8 +6,8 @@ use lib.ListN.{get_elem?}
 use Rattle.atomic_table.specs.Seated.{TableId}
 use Rattle.atomic_table.specs.Table.{Splits, Enters, step, opening}
 use Rattle.atomic_table.proofs.Lists.{at_set, at_longer, set_else}
-use Rattle.bd_space.specs.Histories.{History}
-use Rattle.bd_driver.specs.Views.{ready_of, fresh, seated, newcomers, view_of, others_of, Each, Idle, history}
+use Rattle.bd_space.specs.Histories.{History, history_of}
+use Rattle.bd_driver.specs.Views.{ready_of, fresh, seated, newcomers, view_of, others_of, Each, Idle}
 use Rattle.bd_driver.specs.Words.{page_word}
 use Rattle.bd_driver.specs.Rule.{HasTaker, Fits, Kept}
 use Rattle.bd_driver.specs.declared.view.View.{View}
@@ -127,7 +127,7 @@ all_fit seats who (suc k) h = (
 )
 
 -- a new table keeps the rule
-pub opens : (seats word : ℕ) (e : History) → e ≡ history seats [] → word ≡ page_word seats 0 [] → ready_of seats [] < 2147483648
+pub opens : (seats word : ℕ) (e : History) → e ≡ history_of seats [] → word ≡ page_word seats 0 [] → ready_of seats [] < 2147483648
     → Kept seats (opening (word ∷ replicate seats 0) (Home e ∷ replicate seats Empty) (newcomers seats 0 seats))
 opens seats word e stands page bits = record {
   entries = [];

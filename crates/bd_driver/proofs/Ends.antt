@@ -5,8 +5,8 @@ use lib.ListN.{get_elem?}
 use Rattle.atomic_table.specs.Table.{State, Joins, Final, Seen}
 use Rattle.atomic_table.proofs.Lists.{at_set, set_else}
 use Rattle.bd_space.specs.declared.step.Entry.{Entry}
-use Rattle.bd_space.specs.Histories.{History, IsHistory}
-use Rattle.bd_driver.specs.Views.{places_of, places, Each, Idle, history}
+use Rattle.bd_space.specs.Histories.{History, IsHistory, history_of}
+use Rattle.bd_driver.specs.Views.{places_of, places, Each, Idle}
 use Rattle.bd_driver.specs.Rule.{home_of, HasTaker, Fits, Kept}
 use Rattle.bd_driver.specs.declared.view.View.{View}
 use Rattle.bd_space.specs.declared.step.Request.{Request}
@@ -70,7 +70,7 @@ is_home seats states s k id at idle all = home k.taken_by refl k.has_taker
         let here : j ≡ id = sym taker.held ∙ (ap k.carrier (sym found.3) ∙ fits.held) in
         absurd (not_taker s.views id j (views_of states) t.0 at idle t.1 t.2 here)
 
-pub home_slot : (seats : ℕ) (s : State Slot (List View)) (k : Kept seats s) → k.taken_by ≡ none → get_elem? s.homes 0 ≡ some (some (Home (history seats k.entries)))
+pub home_slot : (seats : ℕ) (s : State Slot (List View)) (k : Kept seats s) → k.taken_by ≡ none → get_elem? s.homes 0 ≡ some (some (Home (history_of seats k.entries)))
 home_slot seats s k home = ap (λ hs. get_elem? hs 0) (k.homes ∙ ap (λ o. home_of seats k.entries o ∷ map inside_of k.mailboxes) home)
 
 -- what the mailbox has pending makes up for a seat that still waits
@@ -105,30 +105,30 @@ own_of entries v h = ⊎_elim (λ e. inl e) (λ (y : (r : Request) × (since : �
 -- what the last state says of the engine in slot 0
 pub ends : (seats id : ℕ) (states : List SeatState) (words : List ℕ) (slots : List Slot) (slot : Slot) → Final (Seen (Kept seats) id (views_of states)) words slots → get_elem? slots 0 ≡ some slot
     → Each Idle (views_of states) → AllSeats seats states
-    → (entries : List Entry) × (slot ≡ Home (history seats entries)) × (IsHistory (history seats entries) → IsFinal seats states seats entries)
+    → (entries : List Entry) × (slot ≡ Home (history_of seats entries)) × (IsHistory (history_of seats entries) → IsFinal seats states seats entries)
 ends seats id states words slots slot f is idle all =
     let s = f.0 in
     let k = f.1.0 in
     let at = f.1.1 in
     let home = is_home seats states s k id at idle all in
-    let same : slot ≡ Home (history seats k.entries) = some-injective _ _ (sym is ∙ f.4 0 (Home (history seats k.entries)) (home_slot seats s k home)) in
+    let same : slot ≡ Home (history_of seats k.entries) = some-injective _ _ (sym is ∙ f.4 0 (Home (history_of seats k.entries)) (home_slot seats s k home)) in
     let each = each_seat (Fits seats k.entries k.carrier k.taken_by k.mailboxes id) states (k.each id (views_of states) at) in
     (k.entries, same, λ lawful. record { seats_are = refl; lawful = lawful; begins = λ i x e. (each i x e).begins; own = λ i x e. own_of k.entries x.view (entries_are seats k.entries k.carrier k.taken_by k.mailboxes id (closed_view x.view) (each i x e)) })
 
 -- the same, at the key and the view that `close_with` tells of
 pub ends_at : (key seats id : ℕ) (vs : List View) (states : List SeatState) (words : List ℕ) (slots : List Slot) (slot : Slot) → key ≡ seats → vs ≡ views_of states
     → Final (Seen (Kept key) id vs) words slots → get_elem? slots 0 ≡ some slot → Each Idle (views_of states) → AllSeats seats states
-    → (entries : List Entry) × (slot ≡ Home (history seats entries)) × (IsHistory (history seats entries) → IsFinal seats states seats entries)
+    → (entries : List Entry) × (slot ≡ Home (history_of seats entries)) × (IsHistory (history_of seats entries) → IsFinal seats states seats entries)
 ends_at key seats id vs states words slots slot same are f is idle all =
     ends seats id states words slots slot (subst (λ (z : ℕ × List View). Final (Seen (Kept z.0) id z.1) words slots) (λ i. (same i, are i)) f) is idle all
 
 -- the record that the engine gives
-pub final_record : (seats : ℕ) (states : List SeatState) (e : History) (count : ℕ) (given : List Entry) (h : (entries : List Entry) × (Home e ≡ Home (history seats entries)) × (IsHistory (history seats entries) → IsFinal seats states seats entries))
-    → (count ≡ e.seats) × (given ≡ e.entries) → IsHistory (history count given) → IsFinal seats states count given
+pub final_record : (seats : ℕ) (states : List SeatState) (e : History) (count : ℕ) (given : List Entry) (h : (entries : List Entry) × (Home e ≡ Home (history_of seats entries)) × (IsHistory (history_of seats entries) → IsFinal seats states seats entries))
+    → (count ≡ e.seats) × (given ≡ e.entries) → IsHistory (history_of count given) → IsFinal seats states count given
 final_record seats states e count given h parts lawful =
     let s : count ≡ seats = parts.0 ∙ ap (λ (x : History). x.seats) (engine_is h.1) in
     let l : given ≡ h.0 = parts.1 ∙ ap (λ (x : History). x.entries) (engine_is h.1) in
-    subst (λ (z : ℕ × List Entry). IsFinal seats states z.0 z.1) (λ i. (sym s i, sym l i)) (h.2 (subst (λ (z : ℕ × List Entry). IsHistory (history z.0 z.1)) (λ i. (s i, l i)) lawful))
+    subst (λ (z : ℕ × List Entry). IsFinal seats states z.0 z.1) (λ i. (sym s i, sym l i)) (h.2 (subst (λ (z : ℕ × List Entry). IsHistory (history_of z.0 z.1)) (λ i. (s i, l i)) lawful))
   where
     engine_in : History → Slot → History
     engine_in d (Home x) = x

@@ -5,7 +5,8 @@ use lib.ListN.{get_elem?}
 use Rattle.std.specs.Prelude.{slice_index}
 use Rattle.atomic_table.specs.Table.{State, Act, Valid, homes_after, carried_after, stepped}
 use Rattle.bd_space.specs.declared.step.Entry.{Entry}
-use Rattle.bd_driver.specs.Views.{ready_of, StartsWith, places_of, Each}
+use Rattle.bd_driver.specs.Views.{ready_of, places_of, Each}
+use Rattle.bd_space.specs.Histories.{BeginsWith}
 use Rattle.bd_driver.specs.Words.{page_word}
 use Rattle.bd_driver.specs.Rule.{bit_of, home_of, HasTaker, Fits, Kept}
 use Rattle.bd_driver.specs.Steps.{Hands}
@@ -26,7 +27,7 @@ abbrev pub IsSameSeat : View → View → Type 0
 IsSameSeat v w = (w.seats ≡ v.seats) × (w.who ≡ v.who) × (w.handover ≡ v.handover) × (w.own ≡ v.own)
 
 -- the seat's next view, which another seat of the table may carry
-pub review : (seats : ℕ) (entries : List Entry) (carrier now : ℕ → ℕ) (taken_by taken : Option ℕ) (mailboxes : List Mailbox) (id j : ℕ) (v w : View) → Fits seats entries carrier taken_by mailboxes id v → IsSameSeat v w → now v.who ≡ j → StartsWith entries w.seen
+pub review : (seats : ℕ) (entries : List Entry) (carrier now : ℕ → ℕ) (taken_by taken : Option ℕ) (mailboxes : List Mailbox) (id j : ℕ) (v w : View) → Fits seats entries carrier taken_by mailboxes id v → IsSameSeat v w → now v.who ≡ j → BeginsWith entries w.seen
     → (w.taker ≡ true → (taken ≡ some j) × (w.seen ≡ entries)) → PickFits mailboxes w.pick → (w.taker ≡ false → w.pick ≡ Nothing) → Fits seats entries now taken mailboxes j w
 review seats entries carrier now taken_by taken mailboxes id j v w f same held begins takes picks idle = record {
   seats_are = same.0 ∙ f.seats_are;

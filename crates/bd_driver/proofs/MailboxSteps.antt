@@ -12,7 +12,8 @@ use Rattle.bd_space.specs.declared.step.Entry.{Entry}
 use Rattle.bd_space.specs.declared.step.Request.{Request}
 use Rattle.bd_space.specs.declared.step.Answer.{Answer}
 use Rattle.bd_space.specs.Runs.{AllBy}
-use Rattle.bd_driver.specs.Views.{ready_of, StartsWith, places_of, places, view_of}
+use Rattle.bd_driver.specs.Views.{ready_of, places_of, places, view_of}
+use Rattle.bd_space.specs.Histories.{BeginsWith}
 use Rattle.bd_driver.specs.Words.{page_word}
 use Rattle.bd_driver.specs.Rule.{bit_of, home_of, HasTaker, Fits, Kept}
 use Rattle.bd_driver.specs.declared.view.View.{View}
@@ -123,7 +124,7 @@ module _ (seats : ℕ) (s : State Slot (List View)) (k : Kept seats s) where
     found_inside i b is = ap (λ hs. get_elem? hs (suc i)) k.homes ∙ at_map inside_of k.mailboxes i b is
 
     -- a step on the own mailbox: its seat's view
-    own_fits : (w : View) (new : Mailbox) → w.seats ≡ v.seats → w.who ≡ v.who → StartsWith k.entries w.seen → MailboxFits seats k.entries w.who w.handover new → w.own ++ pending new ≡ places_of w.who k.entries
+    own_fits : (w : View) (new : Mailbox) → w.seats ≡ v.seats → w.who ≡ v.who → BeginsWith k.entries w.seen → MailboxFits seats k.entries w.who w.handover new → w.own ++ pending new ≡ places_of w.who k.entries
         → (w.taker ≡ true → (k.taken_by ≡ some id) × (w.seen ≡ k.entries)) → w.pick ≡ v.pick → w.taker ≡ v.taker → is_picked mine.mailbox ≡ false → Fits seats k.entries k.carrier k.taken_by (set k.mailboxes v.who new) id w
     own_fits w new a b c d e f g h off = record {
       seats_are = a ∙ mine.seats_are;
@@ -147,9 +148,9 @@ module _ (seats : ℕ) (s : State Slot (List View)) (k : Kept seats s) where
     -- counting a step is nothing to the rule
     same_fits : (w : View) → w.seats ≡ v.seats → w.who ≡ v.who → w.seen ≡ v.seen → w.handover ≡ v.handover → w.own ≡ v.own → w.taker ≡ v.taker → w.pick ≡ v.pick → Fits seats k.entries k.carrier k.taken_by k.mailboxes id w
     same_fits w a b c d e f g =
-        review seats k.entries k.carrier k.carrier k.taken_by k.taken_by k.mailboxes id id v w mine (a, b, d, e) mine.held (subst (StartsWith k.entries) (sym c) mine.begins) (λ t. ((mine.takes (sym f ∙ t)).0, c ∙ (mine.takes (sym f ∙ t)).1)) (subst (PickFits k.mailboxes) (sym g) mine.picks) (λ t. g ∙ mine.idle (sym f ∙ t))
+        review seats k.entries k.carrier k.carrier k.taken_by k.taken_by k.mailboxes id id v w mine (a, b, d, e) mine.held (subst (BeginsWith k.entries) (sym c) mine.begins) (λ t. ((mine.takes (sym f ∙ t)).0, c ∙ (mine.takes (sym f ∙ t)).1)) (subst (PickFits k.mailboxes) (sym g) mine.picks) (λ t. g ∙ mine.idle (sym f ∙ t))
 
-seen_short : (entries seen : List Entry) → StartsWith entries seen → length seen ≤ length entries
+seen_short : (entries seen : List Entry) → BeginsWith entries seen → length seen ≤ length entries
 seen_short entries seen h = let a = ap (length {A = Entry}) h.1 in let b = length-append seen h.0 in omega arith
 
 module _ (seats slots id : ℕ) (me : Hands) (one : me.0 ≡ view_of me.0 ∷ []) where
@@ -316,7 +317,7 @@ module _ (seats slots id : ℕ) (me : Hands) (one : me.0 ≡ view_of me.0 ∷ []
     repick : (s : State Slot (List View)) (k : Kept seats s) (mailboxes : List Mailbox) (w : View) → Fits seats k.entries k.carrier k.taken_by mailboxes id x → w.seats ≡ x.seats → w.who ≡ x.who → w.seen ≡ x.seen → w.handover ≡ x.handover → w.own ≡ x.own → w.taker ≡ x.taker
         → PickFits mailboxes w.pick → Fits seats k.entries k.carrier k.taken_by mailboxes id w
     repick s k mailboxes w m a b c d e f p =
-        review seats k.entries k.carrier k.carrier k.taken_by k.taken_by mailboxes id id x w m (a, b, d, e) m.held (subst (StartsWith k.entries) (sym c) m.begins) (λ t. ((m.takes (sym f ∙ t)).0, c ∙ (m.takes (sym f ∙ t)).1)) p (λ t. absurd (true≢false (sym (f ∙ on) ∙ t)))
+        review seats k.entries k.carrier k.carrier k.taken_by k.taken_by mailboxes id id x w m (a, b, d, e) m.held (subst (BeginsWith k.entries) (sym c) m.begins) (λ t. ((m.takes (sym f ∙ t)).0, c ∙ (m.takes (sym f ∙ t)).1)) p (λ t. absurd (true≢false (sym (f ∙ on) ∙ t)))
 
     pub picks : (i : ℕ) → i < seats → x.pick ≡ Nothing → Allows (Kept seats) slots id me (suc i) (λ n. either (eqb n 1) 2 n) (picked_as (step slots (suc i) 1 2 none) me)
     picks i below none_yet s k len at small = let b = box_at k.mailboxes i (subst (λ z. i < z) (sym k.all_mailboxes) below) in go b.0 b.1
@@ -408,7 +409,7 @@ module _ (seats slots id : ℕ) (me : Hands) (one : me.0 ≡ view_of me.0 ∷ []
         let grow : (who : ℕ) (own : List ℕ) → who ≡ i → own ++ [] ≡ places_of who k.entries → own ++ places (length x.seen) (length run) ≡ places_of who entries = λ who own e o.
         ap (λ l. l ++ places (length x.seen) (length run)) (sym (append-nil own) ∙ o)
         ∙ (ap (λ (z : List Entry). places_of who k.entries ++ places (length z) (length run)) seen ∙ (sym (own_grow who k.entries run (subst (λ z. AllBy z run) (sym e) by)) ∙ ap (places_of who) (sym more))) in
-        let fits : (j : ℕ) (u y : View) → y.seats ≡ u.seats → y.who ≡ u.who → y.own ≡ u.own → y.handover ≡ u.handover → StartsWith entries y.seen → (y.taker ≡ true → (some id ≡ some j) × (y.seen ≡ entries)) → PickFits (set k.mailboxes i mailbox) y.pick → (y.taker ≡ false → y.pick ≡ Nothing)
+        let fits : (j : ℕ) (u y : View) → y.seats ≡ u.seats → y.who ≡ u.who → y.own ≡ u.own → y.handover ≡ u.handover → BeginsWith entries y.seen → (y.taker ≡ true → (some id ≡ some j) × (y.seen ≡ entries)) → PickFits (set k.mailboxes i mailbox) y.pick → (y.taker ≡ false → y.pick ≡ Nothing)
         → Fits seats k.entries k.carrier k.taken_by k.mailboxes j u → Fits seats entries k.carrier (some id) (set k.mailboxes i mailbox) j y = λ j u y a b c d e t p q g.
         dite (ℕ_discrete u.who i)
         (λ (here : u.who ≡ i).
@@ -451,6 +452,6 @@ module _ (seats slots id : ℕ) (me : Hands) (one : me.0 ≡ view_of me.0 ∷ []
               (λ j b e. subst (λ l. since_of b ≤ length l) (sym more) (longer k.entries run (since_of b) (still_early k.mailboxes (length k.entries) k.early i mailbox (omega arith) j b e)))
               (w, set_here s.views id (w ∷ []) (inside s.views id me.0 at), on, picked_set k.mailboxes i r since (length x.seen) (length run) w.pick (one_else k.mailboxes i r since 0 0 (subst (PickedAs k.mailboxes) pick (picked_by_me s k at))) w_pick)
               (fits id x w refl refl refl refl (starts_all entries) (λ _. (refl, refl)) (subst (PickFits (set k.mailboxes i mailbox)) (sym w_pick) (set_here k.mailboxes i mailbox (inside k.mailboxes i old there))) (λ t. absurd (true≢false (sym on ∙ t))) f)
-              (λ j u apart g. fits j u u refl refl refl refl (subst (λ l. StartsWith l u.seen) (sym more) (starts_longer k.entries run u.seen g.begins)) (λ t. absurd (apart (some-injective j id (sym (g.takes t).0 ∙ taken_by)))) (unpicked s k at (set k.mailboxes i mailbox) j u apart g) g.idle g),
+              (λ j u apart g. fits j u u refl refl refl refl (subst (λ l. BeginsWith l u.seen) (sym more) (starts_longer k.entries run u.seen g.begins)) (λ t. absurd (apart (some-injective j id (sym (g.takes t).0 ∙ taken_by)))) (unpicked s k at (set k.mailboxes i mailbox) j u apart g) g.idle g),
           ((refl, page, refl), refl),
         )

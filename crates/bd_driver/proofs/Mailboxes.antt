@@ -5,7 +5,8 @@ use Rattle.bd_space.specs.declared.step.Entry.{Entry}
 use Rattle.bd_space.specs.declared.step.Request.{Request}
 use Rattle.bd_space.specs.declared.step.Answer.{Answer}
 use Rattle.bd_space.specs.Runs.{AllBy}
-use Rattle.bd_driver.specs.Views.{StartsWith, places_of}
+use Rattle.bd_space.specs.Histories.{BeginsWith}
+use Rattle.bd_driver.specs.Views.{places_of}
 use Rattle.bd_driver.specs.Rule.{Fits}
 use Rattle.bd_driver.specs.declared.view.View.{View}
 use Rattle.bd_driver.specs.declared.view.Handover.{Handover}
@@ -68,7 +69,7 @@ relog seats entries carrier taken_by now mailboxes id v by run more is all apart
   seats_are = f.seats_are;
   below = f.below;
   held = f.held;
-  begins = subst (λ l. StartsWith l v.seen) (sym is) (starts_longer entries run v.seen f.begins);
+  begins = subst (λ l. BeginsWith l v.seen) (sym is) (starts_longer entries run v.seen f.begins);
   mailbox = f.mailbox;
   has_mailbox = f.has_mailbox;
   fits_mailbox = subst (λ l. MailboxFits seats l v.who v.handover f.mailbox) (sym is) (fits_longer seats entries run v.who v.handover f.mailbox f.fits_mailbox);

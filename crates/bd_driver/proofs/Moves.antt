@@ -3,8 +3,8 @@ use Rattle.std.proofs.Common.{◌≡◌, ℕ, ◌<◌, true, List, [], ◌∷◌
 use mathlib.Core.Option.{none}
 use Rattle.atomic_table.specs.Table.{step, rest, Allows}
 use Rattle.bd_space.specs.declared.step.Entry.{Entry}
-use Rattle.bd_space.specs.Histories.{History}
-use Rattle.bd_driver.specs.Views.{ready_of, view_of, history}
+use Rattle.bd_space.specs.Histories.{History, history_of}
+use Rattle.bd_driver.specs.Views.{ready_of, view_of}
 use Rattle.bd_space.specs.Runs.{AllBy}
 use Rattle.bd_driver.specs.Words.{page_word}
 use Rattle.bd_driver.specs.Rule.{Kept}
@@ -31,7 +31,7 @@ pub after_publish : (m m' : Hands) (v : View) (xs : List (ℕ × Slot)) (slot : 
     → m' ≡ (published_at v n e.entries ∷ [], (slot, Home e) ∷ xs)
 after_publish m m' v xs slot e n is then = then ∙ ap (λ (x : Hands). (published_at (view_of x.0) n (entries_in x.1) ∷ [], x.1)) is
 
-pub puts_at : (seats slots id : ℕ) (me : Hands) (v : View) (xs : List (ℕ × Slot)) (e : History) → me ≡ (v ∷ [], (0, Home e) ∷ xs) → v.taker ≡ true → v.pick ≡ Nothing → e ≡ history v.seats v.seen
+pub puts_at : (seats slots id : ℕ) (me : Hands) (v : View) (xs : List (ℕ × Slot)) (e : History) → me ≡ (v ∷ [], (0, Home e) ∷ xs) → v.taker ≡ true → v.pick ≡ Nothing → e ≡ history_of v.seats v.seen
     → Allows (Kept seats) slots id me 0 (λ n. bit_and n 18446744073709551614) (put (step slots 0 18446744073709551614 0 none) me)
 puts_at seats slots id me v xs e is on none_yet stands =
     subst (λ (m : Hands). Allows (Kept seats) slots id m 0 (λ n. bit_and n 18446744073709551614) (put (step slots 0 18446744073709551614 0 none) m)) (sym is)

@@ -12,7 +12,8 @@ use Rattle.bd_driver.specs.declared.slot.Slot.{Slot}
 use Rattle.bd_driver.specs.declared.slot.Slot.TheVariants.{Home, Posted, Answered, Empty}
 use Rattle.bd_driver.specs.declared.outcome.Outcome.{Outcome}
 use Rattle.bd_driver.specs.declared.outcome.Outcome.TheVariants.{Done, Back, Handed}
-use Rattle.bd_driver.specs.Views.{StartsWith, view_of}
+use Rattle.bd_space.specs.Histories.{BeginsWith}
+use Rattle.bd_driver.specs.Views.{view_of}
 use Rattle.bd_driver.specs.Rule.{Kept}
 use Rattle.bd_driver.specs.Mailboxes.{IsTold}
 use Rattle.bd_driver.specs.Steps.{Hands, opened, closed_at, closed, posted_at, posted_as, withdrew, collected_at, collected_as}
@@ -93,11 +94,11 @@ collects_at seats slots id words me number waiting r waits =
     subst (λ (z : Hands × ℕ). Allows (Kept seats) slots id z.0 z.1 (λ n. either (eqb n 3) 0 n) (collected_as (step slots z.1 3 0 none) z.0)) (λ i. (sym (waiting_me words me number waiting r waits) i, sym (own_word words me number waiting r) i))
     (collects seats slots id (view_of me.0 ∷ [], []) refl h.0 h.1 h.2 r.idle)
 
-told_at : (v w : View) (o : Outcome) (entries : List Entry) (r : Request) (since : ℕ) → StartsWith entries v.seen → v.handover ≡ Waiting r since → IsTold v.seats entries v.who r since o → w ≡ collected_at v 3 entries o → IsCollected v w o
+told_at : (v w : View) (o : Outcome) (entries : List Entry) (r : Request) (since : ℕ) → BeginsWith entries v.seen → v.handover ≡ Waiting r since → IsTold v.seats entries v.who r since o → w ≡ collected_at v 3 entries o → IsCollected v w o
 told_at v w o entries r since begins handover told is =
     subst (λ (x : View). IsCollected v x o) (sym is) (record { request = r; since = since; handed = handover; begins = begins; only = refl; is_told = told })
 
-pub told_collects : (v w : View) (o : Outcome) (entries : List Entry) (r : Request) (since : ℕ) → StartsWith entries v.seen → v.handover ≡ Waiting r since → IsTold v.seats entries v.who r since o → w ≡ collected_at v 3 entries o → Collects v w o
+pub told_collects : (v w : View) (o : Outcome) (entries : List Entry) (r : Request) (since : ℕ) → BeginsWith entries v.seen → v.handover ≡ Waiting r since → IsTold v.seats entries v.who r since o → w ≡ collected_at v 3 entries o → Collects v w o
 told_collects v w (Done answer start end) entries r since a b c d = told_at v w (Done answer start end) entries r since a b c d
 told_collects v w (Back back why) entries r since a b c d = told_at v w (Back back why) entries r since a b c d
 told_collects v w Handed entries r since a b c d = absurd c

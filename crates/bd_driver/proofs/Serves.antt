@@ -6,9 +6,9 @@ use Rattle.atomic_table.specs.Table.{step, rest, Allows}
 use Rattle.bd_space.specs.declared.step.Entry.{Entry}
 use Rattle.bd_space.specs.declared.step.Request.{Request}
 use Rattle.bd_space.specs.declared.step.Answer.{Answer}
-use Rattle.bd_space.specs.Histories.{History, HasPlace}
+use Rattle.bd_space.specs.Histories.{History, HasPlace, BeginsWith, history_of}
 use Rattle.bd_space.specs.Runs.{IsAtLimit, HasEntry, HasRun, IsRun}
-use Rattle.bd_driver.specs.Views.{ready_of, StartsWith, places, tick, view_of, history}
+use Rattle.bd_driver.specs.Views.{ready_of, places, tick, view_of}
 use Rattle.bd_driver.specs.Words.{page_word}
 use Rattle.bd_driver.specs.Rule.{Kept}
 use Rattle.bd_engine.specs.declared.why.Why.{Why as Refused}
@@ -79,7 +79,7 @@ module _ (m : Hands) (i : ℕ) (r : Request) (e0 : History) (p : IsPicked m i r 
     ends = let a = ap (length {A = Entry}) h.grown in let b = length-append e0.entries h.run in let c = h.starts in let d = h.ends in omega arith;
     late = let a : length e0.entries ≡ length v.seen = ap length entries_are in let c = h.starts in let d = p.early in omega arith;
     by_seat = h.by_seat;
-    is_run = subst (λ z. IsRun z i r h.run answer) (p.stands ∙ ap (history v.seats) (sym entries_are)) h.is_run;
+    is_run = subst (λ z. IsRun z i r h.run answer) (p.stands ∙ ap (history_of v.seats) (sym entries_are)) h.is_run;
   }
 
   -- the engine has run what was picked, or refused it and is as it was
@@ -116,7 +116,7 @@ module _ (m : Hands) (i : ℕ) (r : Request) (e0 : History) (p : IsPicked m i r 
   pub runs_as : (e1 : History) (ran : Result HasRan Refused) (o : Outcome) → MatchResult ran (λ x. o ≡ Done x.answer x.from x.to) (λ why. o ≡ Back r (reason_of why)) → IfOk ran (λ x. HasRun e0 e1 i r x.answer x.from x.to)
       → OnErr ran (e1 ≡ e0) → IfErr ran (λ why. FullOnly why (IsAtLimit e0 i r)) → IfErr ran (λ why. MemoryOnly why (HasPlace e0)) → IfErr ran (λ _. HasEntry e0 i r) → RunsAs v.seats i r o v.seen e1.entries
   runs_as e1 (Ok x) o is h same full place some =
-      let now : e1 ≡ history v.seats e1.entries = λ j. history ((h.seats ∙ ap (λ (e : History). e.seats) p.stands) j) e1.entries in
+      let now : e1 ≡ history_of v.seats e1.entries = λ j. history_of ((h.seats ∙ ap (λ (e : History). e.seats) p.stands) j) e1.entries in
       subst (λ z. RunsAs v.seats i r z v.seen e1.entries) (sym is) (subst (λ (z : History × History). HasRun z.0 z.1 i r x.answer x.from x.to) (λ j. (p.stands j, now j)) h)
   runs_as e1 (Err why) o is h same full place some =
       subst (λ z. RunsAs v.seats i r z v.seen e1.entries) (sym is) (refl, ap (λ (e : History). e.entries) same ∙ entries_are, reason_is why full place some)
@@ -218,20 +218,20 @@ hit_is : (b : Bool) (x : ℕ) → MatchBool b (x ≡ 1) (x ≢ 1) → b ≡ (x =
 hit_is true x hit = sym (eq-eqb x 1 hit)
 hit_is false x hit = sym (ne_eqb x 1 hit)
 
-grows : (seats i : ℕ) (done : Bool) (p : ℕ) (letters : List Letter) (seen now : List Entry) → AnswersOne seats i done p letters seen now → StartsWith now seen
-grows seats i false p letters seen now h = subst (λ l. StartsWith l seen) (sym h.1) (starts_all seen)
+grows : (seats i : ℕ) (done : Bool) (p : ℕ) (letters : List Letter) (seen now : List Entry) → AnswersOne seats i done p letters seen now → BeginsWith now seen
+grows seats i false p letters seen now h = subst (λ l. BeginsWith l seen) (sym h.1) (starts_all seen)
 grows seats i true p letters seen now h = go h.1 h.3
   where
-    go : (o : Outcome) → RunsAs seats i h.0 o seen now → StartsWith now seen
+    go : (o : Outcome) → RunsAs seats i h.0 o seen now → BeginsWith now seen
     go (Done answer start end) r = (r.run, r.grown)
-    go (Back back why) r = subst (λ l. StartsWith l seen) (sym r.1) (starts_all seen)
+    go (Back back why) r = subst (λ l. BeginsWith l seen) (sym r.1) (starts_all seen)
     go Handed r = absurd r
 
-starts_later : (seen more entries : List Entry) → StartsWith more seen → StartsWith entries more → StartsWith entries seen
+starts_later : (seen more entries : List Entry) → BeginsWith more seen → BeginsWith entries more → BeginsWith entries seen
 starts_later seen more entries h g = (h.0 ++ g.0, g.1 ∙ (ap (λ l. l ++ g.0) h.1 ∙ append_assoc seen h.0 g.0))
 
-all_grow : (seats k : ℕ) (xs : List ℕ) (p : ℕ) (ls : List Letter) (seen now : List Entry) → AnswersAll seats k xs p ls seen now → StartsWith now seen
-all_grow seats k [] p ls seen now h = subst (λ l. StartsWith l seen) (sym h.1) (starts_all seen)
+all_grow : (seats k : ℕ) (xs : List ℕ) (p : ℕ) (ls : List Letter) (seen now : List Entry) → AnswersAll seats k xs p ls seen now → BeginsWith now seen
+all_grow seats k [] p ls seen now h = subst (λ l. BeginsWith l seen) (sym h.1) (starts_all seen)
 all_grow seats k (x ∷ xs) p ls seen now h = starts_later seen h.2 now (grows seats k (x == 1) p h.0 seen h.2 h.4) (all_grow seats (k + 1) xs (p + length h.0) h.1 h.2 now h.5)
 
 pub served_none : (m : Hands) → ServedAll (view_of m.0) (rest m.1) 0 m 0
@@ -276,14 +276,14 @@ takes_serving v xs m e none_picked t =
       on = ap (λ (x : View). x.taker) is ∙ eq-eqb (t.word % 2) 0 t.engine.0;
       none_picked = ap (λ (x : View). x.pick) is ∙ none_picked;
       held = t.engine.2 ∙ ap (λ l. (0, Empty) ∷ rest l) (sym t.engine.2);
-      stands = t.engine.1 ∙ (λ i. history (sym is i).seats (sym is i).seen);
+      stands = t.engine.1 ∙ (λ i. history_of (sym is i).seats (sym is i).seen);
     }
 
 pub all_serves : (seats : ℕ) (v : View) (xs : List (ℕ × Slot)) (m m' m'' : Hands) (e : History) (d word : ℕ) → Takes v xs m (Some e) → ServedAll (view_of m.0) (rest m.1) seats m' d → m'' ≡ (put_at (view_of m'.0) word ∷ [], rest m'.1) → Serves seats v (view_of m''.0) (Ran d)
 all_serves seats v xs m m' m'' e d word t a p =
     let is : view_of m.0 ≡ took_at v t.word t.entries = ap view_of t.view in
     let now : view_of m''.0 ≡ put_at (view_of m'.0) word = ap (λ (x : Hands). view_of x.0) p in
-    let began : StartsWith (view_of m.0).seen v.seen = subst (λ l. StartsWith l v.seen) (sym (ap (λ (x : View). x.seen) is)) t.begins in
+    let began : BeginsWith (view_of m.0).seen v.seen = subst (λ l. BeginsWith l v.seen) (sym (ap (λ (x : View). x.seen) is)) t.begins in
     let grown = all_grow (view_of m.0).seats 0 a.found (view_of m.0).publishes.count a.letters (view_of m.0).seen (view_of m'.0).seen a.answered in
     let o = a.only in
     let seats_is : (view_of m.0).seats ≡ v.seats = ap (λ (x : View). x.seats) is in

@@ -5,7 +5,8 @@ use lib.ListN.{get_elem?}
 use Rattle.atomic_table.proofs.Lists.{set_here}
 use Rattle.atomic_table.specs.Table.{State, step, keeps, takes, gives, rest, put_back, Allows}
 use Rattle.bd_space.specs.declared.step.Entry.{Entry}
-use Rattle.bd_driver.specs.Views.{IsPage, ready_of, places_of, places, view_of, history}
+use Rattle.bd_driver.specs.Views.{IsPage, ready_of, places_of, places, view_of}
+use Rattle.bd_space.specs.Histories.{history_of}
 use Rattle.bd_space.specs.Runs.{AllBy}
 use Rattle.bd_driver.specs.Words.{page_word}
 use Rattle.bd_driver.specs.Rule.{bit_of, home_of, HasTaker, Kept}
@@ -47,7 +48,7 @@ module _ (seats slots id : ℕ) (me : Hands) (one : me.0 ≡ view_of me.0 ∷ []
       let low : n % 2 ≡ 0 = ap (λ (m : ℕ). m % 2) is ∙ even seats k.entries in
       let w = took_at v n k.entries in
       let mine = of_one seats s k id me.0 at one in
-      let engine = Home (history seats k.entries) in
+      let engine = Home (history_of seats k.entries) in
       let home : s.homes ≡ some engine ∷ map inside_of k.mailboxes = k.homes ∙ ap (λ o. home_of seats k.entries o ∷ map inside_of k.mailboxes) free in
       let on : w.taker ≡ true = eq-eqb (n % 2) 0 low in (
         w ∷ [],
@@ -57,7 +58,7 @@ module _ (seats slots id : ℕ) (me : Hands) (one : me.0 ≡ view_of me.0 ∷ []
             (w, set_here s.views id (w ∷ []) (inside s.views id me.0 at), on, subst (PickedAs k.mailboxes) (sym (mine.idle idle)) (subst (HasTaker s.views k.mailboxes) free k.has_taker))
             (review seats k.entries k.carrier k.carrier k.taken_by (some id) k.mailboxes id id v w mine (refl, refl, refl, refl) mine.held (starts_all k.entries) (λ t. (refl, refl)) mine.picks (λ off. absurd (true_off w.taker off on)))
             (λ j u _ f. reseat seats k.entries k.carrier k.carrier k.taken_by (some id) k.mailboxes j j u f f.held (λ t. absurd (some-ne-none j (sym ((f.takes t).0) ∙ free)))),
-        ((refl, refl, refl), k.entries, mine.begins, subst (λ z. IsPage z n k.entries) (sym mine.seats_are) (found_page seats s k), refl, (λ _. ap (λ z. (0, Home (history z k.entries)) ∷ me.1) (sym mine.seats_are)), (λ h. absurd (omega arith)), subst (λ z. v.who < z) (sym mine.seats_are) mine.below),
+        ((refl, refl, refl), k.entries, mine.begins, subst (λ z. IsPage z n k.entries) (sym mine.seats_are) (found_page seats s k), refl, (λ _. ap (λ z. (0, Home (history_of z k.entries)) ∷ me.1) (sym mine.seats_are)), (λ h. absurd (omega arith)), subst (λ z. v.who < z) (sym mine.seats_are) mine.below),
       )
 
   takes_taken : (s : State Slot (List View)) (k : Kept seats s) → get_elem? s.views id ≡ some me.0 → v.taker ≡ false → (t : ℕ) → k.taken_by ≡ some t → Granted seats id me s 0 (λ n. bit_or n 1) (took (step slots 0 1 0 none) me)
@@ -124,7 +125,7 @@ module _ (seats slots id : ℕ) (me : Hands) (one : me.0 ≡ view_of me.0 ∷ []
         ((refl, page, refl), refl),
       )
 
-  pub puts : v.taker ≡ true → v.pick ≡ Nothing → me.1 ≡ (0, Home (history v.seats v.seen)) ∷ rest me.1 → Allows (Kept seats) slots id me 0 (λ n. bit_and n 18446744073709551614) (put (step slots 0 18446744073709551614 0 none) me)
+  pub puts : v.taker ≡ true → v.pick ≡ Nothing → me.1 ≡ (0, Home (history_of v.seats v.seen)) ∷ rest me.1 → Allows (Kept seats) slots id me 0 (λ n. bit_and n 18446744073709551614) (put (step slots 0 18446744073709551614 0 none) me)
   puts on unpicked holds s k len at small =
       let n : ℕ = get_or s.words 0 0 in
       let w = put_at v n in
@@ -137,7 +138,7 @@ module _ (seats slots id : ℕ) (me : Hands) (one : me.0 ≡ view_of me.0 ∷ []
         w ∷ [],
         gives,
         tt,
-        repage seats s k id me w (bit_and n 18446744073709551614) gives none cleared ((λ i. put_back (away i) (holds i)) ∙ (λ i. some (Home (history (mine.seats_are i) (seen i))) ∷ map inside_of k.mailboxes))
+        repage seats s k id me w (bit_and n 18446744073709551614) gives none cleared ((λ i. put_back (away i) (holds i)) ∙ (λ i. some (Home (history_of (mine.seats_are i) (seen i))) ∷ map inside_of k.mailboxes))
             (subst (PickedAs k.mailboxes) unpicked (taker_has s.views id v k.mailboxes (at ∙ ap some one) (subst (HasTaker s.views k.mailboxes) taken_by k.has_taker)))
             (review seats k.entries k.carrier k.carrier k.taken_by none k.mailboxes id id v w mine (refl, refl, refl, refl) mine.held mine.begins (λ t. absurd (true≢false (sym t))) mine.picks (λ _. unpicked))
             (λ j u apart f. reseat seats k.entries k.carrier k.carrier k.taken_by none k.mailboxes j j u f f.held (λ t. absurd (apart (some-injective j id (sym (f.takes t).0 ∙ taken_by))))),

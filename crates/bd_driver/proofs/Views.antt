@@ -10,7 +10,8 @@ use Rattle.bd_driver.specs.declared.view.View.{View}
 use Rattle.bd_driver.specs.declared.view.Pick.{Pick}
 use Rattle.bd_driver.specs.declared.view.Pick.TheVariants.{Nothing}
 use Rattle.bd_driver.specs.Mailboxes.{Mailbox, PickedAs}
-use Rattle.bd_driver.specs.Views.{StartsWith, Each}
+use Rattle.bd_space.specs.Histories.{BeginsWith}
+use Rattle.bd_driver.specs.Views.{Each}
 use Rattle.bd_driver.specs.Rule.{HasTaker}
 
 pub inside : {A : Type 0} (l : List A) (i : ℕ) (a : A) → get_elem? l i ≡ some a → i < length l
@@ -67,8 +68,8 @@ taker_has views id v mailboxes at h =
     pick_or p [] = p
     pick_or p (x ∷ xs) = x.pick
 
-pub starts_all : (entries : List Entry) → StartsWith entries entries
+pub starts_all : (entries : List Entry) → BeginsWith entries entries
 starts_all entries = ([], sym (append-nil entries))
 
-pub starts_longer : (entries run seen : List Entry) → StartsWith entries seen → StartsWith (entries ++ run) seen
+pub starts_longer : (entries run seen : List Entry) → BeginsWith entries seen → BeginsWith (entries ++ run) seen
 starts_longer entries run seen h = (h.0 ++ run, ap (λ l. l ++ run) h.1 ∙ append_assoc seen h.0 run)

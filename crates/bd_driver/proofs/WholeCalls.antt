@@ -3,9 +3,9 @@ use Rattle.std.proofs.Common.{◌≡◌, ℕ, ◌-◌, ◌≤◌, List, ◌++◌
 use Rattle.bd_space.specs.declared.step.Entry.{Entry}
 use Rattle.bd_space.specs.declared.step.Request.{Request}
 use Rattle.bd_space.specs.declared.step.Answer.{Answer}
-use Rattle.bd_space.specs.Histories.{History, HasPlace}
+use Rattle.bd_space.specs.Histories.{History, HasPlace, BeginsWith, history_of}
 use Rattle.bd_space.specs.Runs.{AllBy, HasRun, IsRun, HasEntry, IsAtLimit}
-use Rattle.bd_driver.specs.Views.{StartsWith, history, places, view_of}
+use Rattle.bd_driver.specs.Views.{places, view_of}
 use Rattle.std.specs.Prelude.{Result, Ok, Err, MatchResult, IfOk, IfErr, OnErr}
 use Rattle.bd_engine.specs.declared.run.Ran.{Ran}
 use Rattle.bd_engine.specs.declared.why.Why.{Why as Refused}
@@ -31,7 +31,7 @@ module _ (v : View) (number : ℕ) (me : number ≡ v.who) (m m' : Hands) (e0 e1
   entries_are = ap (λ (e : History). e.entries) t.engine.1
 
   -- the engine's history before the run
-  history_is : e0 ≡ history v.seats t.entries
+  history_is : e0 ≡ history_of v.seats t.entries
   history_is = t.engine.1
 
   done_calls : (answer : Answer) (start end : ℕ) → HasRun e0 e1 number request answer start end → Calls v (view_of m'.0) request (Done answer start end)
@@ -50,7 +50,7 @@ module _ (v : View) (number : ℕ) (me : number ≡ v.who) (m m' : Hands) (e0 e1
         no_opening = (refl, refl);
         page = (refl, refl);
         handover = refl;
-        begins = subst (λ l. StartsWith l v.seen) (sym grown) (starts_longer t.entries run v.seen t.begins);
+        begins = subst (λ l. BeginsWith l v.seen) (sym grown) (starts_longer t.entries run v.seen t.begins);
         outcome = record {
           was_free = t.engine.0;
           before = t.entries;
@@ -81,13 +81,13 @@ module _ (v : View) (number : ℕ) (me : number ≡ v.who) (m m' : Hands) (e0 e1
         no_opening = (refl, refl);
         page = page why;
         handover = refl;
-        begins = subst (λ l. StartsWith l v.seen) (sym entries) t.begins;
+        begins = subst (λ l. BeginsWith l v.seen) (sym entries) t.begins;
         outcome = (refl, ap (λ c. v.own ++ places (length t.entries) c) none_more ∙ append-nil v.own, is);
       })
 
   -- what holds of the engine's history before a run that was refused holds of what the seat has seen after
-  then_seen : (P : History → ℕ → Type 0) → e1 ≡ e0 → P e0 number → P (history v.seats e1.entries) v.who
-  then_seen P same = subst (λ (z : History × ℕ). P z.0 z.1) (λ i. ((history_is ∙ ap (history v.seats) (sym entries_are ∙ ap (λ (e : History). e.entries) (sym same))) i, me i))
+  then_seen : (P : History → ℕ → Type 0) → e1 ≡ e0 → P e0 number → P (history_of v.seats e1.entries) v.who
+  then_seen P same = subst (λ (z : History × ℕ). P z.0 z.1) (λ i. ((history_is ∙ ap (history_of v.seats) (sym entries_are ∙ ap (λ (e : History). e.entries) (sym same))) i, me i))
 
   is_why : (why : Refused) → e1 ≡ e0 → FullOnly why (IsAtLimit e0 number request) → MemoryOnly why (HasPlace e0) → HasEntry e0 number request → IsWhy w request (reason_of why)
   is_why Memory same full place some = (t.engine.0, then_seen (λ h _. HasPlace h) same place, then_seen (λ h n. HasEntry h n request) same some)

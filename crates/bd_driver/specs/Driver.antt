@@ -3,8 +3,8 @@ use Rattle.std.specs.Prelude.{◌≡◌, ℕ, ◌+◌, ◌/◌, ◌%◌, ◌<◌
 use Rattle.bd_space.specs.declared.step.Entry.{Entry}
 use Rattle.bd_space.specs.declared.step.Request.{Request}
 use Rattle.bd_space.specs.declared.step.Answer.{Answer}
-use Rattle.bd_space.specs.Histories.{History, HasPlace}
-use Rattle.bd_driver.specs.Views.{ready_of, StartsWith, places, history}
+use Rattle.bd_space.specs.Histories.{History, HasPlace, BeginsWith, history_of}
+use Rattle.bd_driver.specs.Views.{ready_of, places}
 use Rattle.bd_space.specs.Runs.{AllBy, IsRun, HasEntry, IsAtLimit}
 use Rattle.bd_driver.specs.declared.view.View.{View}
 use Rattle.bd_driver.specs.declared.slot.Slot.{Slot}
@@ -20,7 +20,7 @@ use Rattle.bd_driver.specs.Steps.{Hands, looked_at, took_at, published_at, put_a
 pub record LooksOnce (v w : View) (page : Page) : Type 0 where
   -- nothing else of the view changes
   pub only : w ≡ looked_at v w.looks.found w.seen
-  pub begins : StartsWith w.seen v.seen
+  pub begins : BeginsWith w.seen v.seen
   pub is_found : (page.stamp ≡ w.looks.found / 4294967296) × (page.ready ≡ w.looks.found / 2 % 2147483648) × (page.taken ≡ (w.looks.found % 2 == 1))
   pub is_page : (page.stamp ≡ length w.seen) × (page.ready ≡ ready_of v.seats w.seen)
 
@@ -28,9 +28,9 @@ pub record LooksOnce (v w : View) (page : Page) : Type 0 where
 pub record Takes (v : View) (xs : List (ℕ × Slot)) (m : Hands) (got : Option History) : Type 0 where
   pub word : ℕ
   pub entries : List Entry
-  pub begins : StartsWith entries v.seen
+  pub begins : BeginsWith entries v.seen
   pub view : m.0 ≡ took_at v word entries ∷ []
-  pub engine : MatchOption got ((word % 2 ≡ 1) × (m.1 ≡ xs)) (λ e. (word % 2 ≡ 0) × (e ≡ history v.seats entries) × (m.1 ≡ (0, Empty) ∷ xs) × (v.who < v.seats))
+  pub engine : MatchOption got ((word % 2 ≡ 1) × (m.1 ≡ xs)) (λ e. (word % 2 ≡ 0) × (e ≡ history_of v.seats entries) × (m.1 ≡ (0, Empty) ∷ xs) × (v.who < v.seats))
 
 -- the engine has run entries of this seat alone after what the seat has seen
 pub record Follows (v : View) (engine : History) : Type 0 where
@@ -54,16 +54,16 @@ pub record Stands (v w : View) (request : Request) (answer : Answer) (start end 
   pub ends : end ≡ length w.seen
   pub after_seen : length v.seen ≤ start
   pub by_seat : AllBy v.who run
-  pub is_run : IsRun (history v.seats before) v.who request run answer
+  pub is_run : IsRun (history_of v.seats before) v.who request run answer
   pub own : w.own ≡ v.own ++ places start (length run)
 
 -- for what reason it comes back: memory is wanting only where the history has a place left, the history full only at
 -- its limit, and neither where the request has no entry
 abbrev pub IsWhy : View → Request → Why → Type 0
 IsWhy w request Taken = w.takes.found % 2 ≡ 1
-IsWhy w request NoMemory = (w.takes.found % 2 ≡ 0) × HasPlace (history w.seats w.seen) × HasEntry (history w.seats w.seen) w.who request
+IsWhy w request NoMemory = (w.takes.found % 2 ≡ 0) × HasPlace (history_of w.seats w.seen) × HasEntry (history_of w.seats w.seen) w.who request
 IsWhy w request Withdrawn = ⊥
-IsWhy w request HistoryFull = (w.takes.found % 2 ≡ 0) × IsAtLimit (history w.seats w.seen) w.who request × HasEntry (history w.seats w.seen) w.who request
+IsWhy w request HistoryFull = (w.takes.found % 2 ≡ 0) × IsAtLimit (history_of w.seats w.seen) w.who request × HasEntry (history_of w.seats w.seen) w.who request
 
 -- it was run, or comes back equal and no own place is new
 abbrev pub IsOutcome : View → View → Request → Outcome → Type 0
@@ -93,5 +93,5 @@ pub record Calls (v w : View) (request : Request) (answer : Outcome) : Type 0 wh
   pub no_opening : (w.opens ≡ v.opens) × (w.shuts ≡ v.shuts)
   pub page : PageSteps v w answer
   pub handover : w.handover ≡ v.handover
-  pub begins : StartsWith w.seen v.seen
+  pub begins : BeginsWith w.seen v.seen
   pub outcome : IsOutcome v w request answer

@@ -6,7 +6,7 @@ use Rattle.bd_driver.specs.declared.view.Handover.TheVariants.{Waiting}
 use Rattle.bd_driver.specs.declared.outcome.Outcome.{Outcome}
 use Rattle.bd_driver.specs.declared.outcome.Outcome.TheVariants.{Done, Back, Handed}
 use Rattle.bd_driver.specs.declared.outcome.Why.TheVariants.{Taken, NoMemory, HistoryFull, Withdrawn}
-use Rattle.bd_driver.specs.Views.{StartsWith}
+use Rattle.bd_space.specs.Histories.{BeginsWith}
 use Rattle.bd_driver.specs.Mailboxes.{IsTold}
 use Rattle.bd_driver.specs.Steps.{OwnsAll, posted_at, withdrawn_at, kept_at, collected_at, missed_at}
 
@@ -29,7 +29,7 @@ pub record IsCollected (v w : View) (o : Outcome) : Type 0 where
   pub request : Request
   pub since : ℕ
   pub handed : v.handover ≡ Waiting request since
-  pub begins : StartsWith w.seen v.seen
+  pub begins : BeginsWith w.seen v.seen
   pub only : w ≡ collected_at v 3 w.seen o
   pub is_told : IsTold v.seats w.seen v.who request since o
 

@@ -5,9 +5,9 @@ use lib.ListN.{get_elem?}
 use Rattle.bd_space.specs.declared.step.Entry.{Entry}
 use Rattle.bd_space.specs.declared.step.Request.{Request}
 use Rattle.bd_space.specs.declared.step.Answer.{Answer}
-use Rattle.bd_space.specs.Histories.{HasPlace}
+use Rattle.bd_space.specs.Histories.{HasPlace, BeginsWith, history_of}
 use Rattle.bd_space.specs.Runs.{AllBy, IsRun, HasEntry, IsAtLimit}
-use Rattle.bd_driver.specs.Views.{StartsWith, history, places}
+use Rattle.bd_driver.specs.Views.{places}
 use Rattle.bd_driver.specs.declared.view.Handover.{Handover}
 use Rattle.bd_driver.specs.declared.view.Handover.TheVariants.{Shut, Open, Waiting}
 use Rattle.bd_driver.specs.declared.view.Pick.{Pick}
@@ -75,15 +75,15 @@ pub record RunAt (seats : ℕ) (entries : List Entry) (who : ℕ) (r : Request) 
   pub ends : end ≡ start + length run
   pub late : n ≤ start
   pub by_seat : AllBy who run
-  pub is_run : IsRun (history seats before) who r run answer
+  pub is_run : IsRun (history_of seats before) who r run answer
 
 -- For what reason a posted request may come back. Both are said of a beginning of the entries after which the request's
 -- run would have an entry: memory is wanting only where one more has a place there, and the history full only at its
 -- limit.
 abbrev pub IsReason : ℕ → List Entry → ℕ → Request → Why → Type 0
 IsReason seats entries who r Taken = ⊥
-IsReason seats entries who r NoMemory = (before : List Entry) × StartsWith entries before × HasPlace (history seats before) × HasEntry (history seats before) who r
-IsReason seats entries who r HistoryFull = (before : List Entry) × StartsWith entries before × IsAtLimit (history seats before) who r × HasEntry (history seats before) who r
+IsReason seats entries who r NoMemory = (before : List Entry) × BeginsWith entries before × HasPlace (history_of seats before) × HasEntry (history_of seats before) who r
+IsReason seats entries who r HistoryFull = (before : List Entry) × BeginsWith entries before × IsAtLimit (history_of seats before) who r × HasEntry (history_of seats before) who r
 IsReason seats entries who r Withdrawn = ⊥
 
 abbrev pub IsTold : ℕ → List Entry → ℕ → Request → ℕ → Outcome → Type 0

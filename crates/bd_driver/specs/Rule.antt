@@ -5,7 +5,8 @@ use lib.ListN.{get_elem?}
 use Rattle.atomic_table.specs.Table.{State}
 use Rattle.bd_space.specs.declared.step.Entry.{Entry}
 use Rattle.bd_driver.specs.Words.{page_word}
-use Rattle.bd_driver.specs.Views.{history, ready_of, StartsWith, places_of, Each}
+use Rattle.bd_space.specs.Histories.{history_of, BeginsWith}
+use Rattle.bd_driver.specs.Views.{ready_of, places_of, Each}
 use Rattle.bd_driver.specs.declared.view.View.{View}
 use Rattle.bd_driver.specs.declared.slot.Slot.{Slot}
 use Rattle.bd_driver.specs.declared.slot.Slot.TheVariants.{Home}
@@ -18,7 +19,7 @@ bit_of (some t) = 1
 
 -- what lies in slot 0: the engine of this history, unless it is out
 abbrev pub home_of : ℕ → List Entry → Option ℕ → Option Slot
-home_of seats entries none = some (Home (history seats entries))
+home_of seats entries none = some (Home (history_of seats entries))
 home_of seats entries (some t) = none
 
 -- whoever has the engine knows it, and knows of each mailbox that is picked; while nobody has it none is
@@ -31,7 +32,7 @@ pub record Fits (seats : ℕ) (entries : List Entry) (carrier : ℕ → ℕ) (ta
   pub seats_are : v.seats ≡ seats
   pub below : v.who < seats
   pub held : carrier v.who ≡ id
-  pub begins : StartsWith entries v.seen
+  pub begins : BeginsWith entries v.seen
   pub mailbox : Mailbox
   pub has_mailbox : get_elem? mailboxes v.who ≡ some mailbox
   pub fits_mailbox : MailboxFits seats entries v.who v.handover mailbox

@@ -3,9 +3,9 @@ use Rattle.std.specs.Prelude.{◌≡◌, ◌≢◌, ◌⊎◌, ℕ, ◌+◌, ◌
 use Rattle.bd_space.specs.declared.step.Entry.{Entry}
 use Rattle.bd_space.specs.declared.step.Request.{Request}
 use Rattle.bd_space.specs.declared.step.Answer.{Answer}
-use Rattle.bd_space.specs.Histories.{History}
+use Rattle.bd_space.specs.Histories.{History, history_of}
 use Rattle.bd_space.specs.Runs.{AllBy, HasRun}
-use Rattle.bd_driver.specs.Views.{places, view_of, tick, history}
+use Rattle.bd_driver.specs.Views.{places, view_of, tick}
 use Rattle.bd_driver.specs.declared.outcome.Outcome.{Outcome}
 use Rattle.bd_driver.specs.Mailboxes.{RunAt, IsTold, IsReason, answer_places}
 use Rattle.bd_driver.specs.declared.view.View.{View}
@@ -24,12 +24,12 @@ pub record Serving (me : Hands) (engine : History) : Type 0 where
   pub on : (view_of me.0).taker ≡ true
   pub none_picked : (view_of me.0).pick ≡ Nothing
   pub held : me.1 ≡ (0, Empty) ∷ rest me.1
-  pub stands : engine ≡ history (view_of me.0).seats (view_of me.0).seen
+  pub stands : engine ≡ history_of (view_of me.0).seats (view_of me.0).seen
 
 -- how a posted request fares: run by its poster's number after `seen`, which grows by that run to `now`; or given back
 -- equal, with its reason, and `now` is `seen`
 abbrev pub RunsAs : ℕ → ℕ → Request → Outcome → List Entry → List Entry → Type 0
-RunsAs seats i r (Done answer start end) seen now = HasRun (history seats seen) (history seats now) i r answer start end
+RunsAs seats i r (Done answer start end) seen now = HasRun (history_of seats seen) (history_of seats now) i r answer start end
 RunsAs seats i r (Back back why) seen now = (back ≡ r) × (now ≡ seen) × IsReason seats seen i r why
 RunsAs seats i r Handed seen now = ⊥
 
@@ -69,7 +69,7 @@ pub record IsPicked (me : Hands) (i : ℕ) (request : Request) (engine : History
   pub pick : (view_of me.0).pick ≡ Picked i request since 0 0
   pub held : me.1 ≡ (i + 1, Empty) ∷ rest me.1
   pub below : rest me.1 ≡ (0, Empty) ∷ rest (rest me.1)
-  pub stands : engine ≡ history (view_of me.0).seats (view_of me.0).seen
+  pub stands : engine ≡ history_of (view_of me.0).seats (view_of me.0).seen
 
 -- the request that was picked has its letter, after one publish
 pub record RanPicked (m : Hands) (i : ℕ) (request : Request) (me : Hands) : Type 0 where

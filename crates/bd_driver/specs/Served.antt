@@ -5,7 +5,7 @@ use Rattle.bd_driver.specs.declared.view.View.{View}
 use Rattle.bd_driver.specs.declared.view.Letter.{Letter}
 use Rattle.bd_driver.specs.declared.outcome.Served.{Served}
 use Rattle.bd_driver.specs.declared.outcome.Served.TheVariants.{Taken, Ran}
-use Rattle.bd_driver.specs.Views.{StartsWith}
+use Rattle.bd_space.specs.Histories.{BeginsWith}
 use Rattle.bd_driver.specs.Serve.{ticks, ones, letter_ticks, AnswersAll}
 
 -- after a take that found the engine away nothing else is done
@@ -30,7 +30,7 @@ pub record ServesEach (seats : ℕ) (v w : View) (picked : ℕ) : Type 0 where
   pub letters : List Letter
   pub answers : w.answers ≡ v.answers ++ letters
   pub before : List Entry
-  pub begins : StartsWith before v.seen
+  pub begins : BeginsWith before v.seen
   pub answered : AnswersAll v.seats 0 found v.publishes.count letters before w.seen
   pub answer_steps : w.answered ≡ letter_ticks v.answered letters
   pub publishes : w.publishes.count ≡ v.publishes.count + length letters
@@ -47,7 +47,7 @@ pub record Serves (seats : ℕ) (v w : View) (served : Served) : Type 0 where
   pub no_look : w.looks ≡ v.looks
   pub no_mail : (w.posts ≡ v.posts) × (w.withdraws ≡ v.withdraws) × (w.collects ≡ v.collects)
   pub no_opening : (w.opens ≡ v.opens) × (w.shuts ≡ v.shuts)
-  pub begins : StartsWith w.seen v.seen
+  pub begins : BeginsWith w.seen v.seen
   pub own : w.own ≡ v.own
   pub handover : w.handover ≡ v.handover
   pub outcome : IsServed seats v w served

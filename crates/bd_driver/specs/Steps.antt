@@ -16,7 +16,8 @@ use Rattle.bd_driver.specs.declared.view.Pick.{Pick}
 use Rattle.bd_driver.specs.declared.view.Pick.TheVariants.{Nothing, Picked}
 use Rattle.bd_driver.specs.Mailboxes.{answer_places, IsTold}
 use Rattle.bd_driver.specs.Words.{page_word}
-use Rattle.bd_driver.specs.Views.{StartsWith, IsPage, places, places_of, tick, no_steps, view_of, history}
+use Rattle.bd_space.specs.Histories.{BeginsWith, history_of}
+use Rattle.bd_driver.specs.Views.{IsPage, places, places_of, tick, no_steps, view_of}
 
 abbrev pub Hands : Type 0
 Hands = Me Slot (List View)
@@ -47,7 +48,7 @@ looked_at v word entries = record v { seen = entries; looks = tick v.looks word 
 -- a load of the page: its word is that of the published history, which is now seen
 abbrev pub looked : Step Slot → Hands → ℕ → Hands → Type 0
 looked st m n m' =
-    IsOn st 0 0 0 × (entries : List Entry) × StartsWith entries (view_of m.0).seen × IsPage (view_of m.0).seats n entries × (m' ≡ (looked_at (view_of m.0) n entries ∷ [], m.1))
+    IsOn st 0 0 0 × (entries : List Entry) × BeginsWith entries (view_of m.0).seen × IsPage (view_of m.0).seats n entries × (m' ≡ (looked_at (view_of m.0) n entries ∷ [], m.1))
 
 abbrev pub took_at : View → ℕ → List Entry → View
 took_at v word entries = record v { seen = entries; taker = (word % 2 == 0); takes = tick v.takes word }
@@ -55,8 +56,8 @@ took_at v word entries = record v { seen = entries; taker = (word % 2 == 0); tak
 -- bit 0 of the page is set: the published history is now seen, and the engine of it comes along where the bit was clear
 abbrev pub took : Step Slot → Hands → ℕ → Hands → Type 0
 took st m n m' =
-    IsOn st 0 1 0 × (entries : List Entry) × StartsWith entries (view_of m.0).seen × IsPage (view_of m.0).seats n entries × (m'.0 ≡ took_at (view_of m.0) n entries ∷ [])
-    × (n % 2 ≡ 0 → m'.1 ≡ (0, Home (history (view_of m.0).seats entries)) ∷ m.1)
+    IsOn st 0 1 0 × (entries : List Entry) × BeginsWith entries (view_of m.0).seen × IsPage (view_of m.0).seats n entries × (m'.0 ≡ took_at (view_of m.0) n entries ∷ [])
+    × (n % 2 ≡ 0 → m'.1 ≡ (0, Home (history_of (view_of m.0).seats entries)) ∷ m.1)
     × (n % 2 ≡ 1 → m'.1 ≡ m.1)
     × ((view_of m.0).who < (view_of m.0).seats)
 
@@ -103,7 +104,7 @@ kept_at v word = record v { withdraws = tick v.withdraws word }
 
 -- some history that begins with what was seen has just the own places of this seat
 abbrev pub OwnsAll : View → Type 0
-OwnsAll v = (entries : List Entry) × StartsWith entries v.seen × (places_of v.who entries ≡ v.own)
+OwnsAll v = (entries : List Entry) × BeginsWith entries v.seen × (places_of v.who entries ≡ v.own)
 
 -- the own mailbox becomes 0 where it is 1, and then its slot comes along with the request, of which nothing was run
 abbrev pub withdrew : Step Slot → Hands → ℕ → Hands → Type 0
@@ -179,6 +180,6 @@ missed_at v word = record v { collects = tick v.collects word }
 abbrev pub collected_as : Step Slot → Hands → ℕ → Hands → Type 0
 collected_as st m n m' =
     IsOn st (suc (view_of m.0).who) 3 0
-    × (n ≡ 3 → (entries : List Entry) × (r : Request) × (since : ℕ) × (o : Outcome) × StartsWith entries (view_of m.0).seen × ((view_of m.0).handover ≡ Waiting r since) × IsTold (view_of m.0).seats entries (view_of m.0).who r since o
+    × (n ≡ 3 → (entries : List Entry) × (r : Request) × (since : ℕ) × (o : Outcome) × BeginsWith entries (view_of m.0).seen × ((view_of m.0).handover ≡ Waiting r since) × IsTold (view_of m.0).seats entries (view_of m.0).who r since o
     × (m' ≡ (collected_at (view_of m.0) n entries o ∷ [], (st.word, Answered o) ∷ m.1)))
     × (n ≢ 3 → m' ≡ (missed_at (view_of m.0) n ∷ [], m.1))

@@ -4,8 +4,8 @@ use mathlib.Core.Option.{some}
 use lib.ListN.{get_elem?}
 use Rattle.atomic_table.specs.Seated.{TableId}
 use Rattle.bd_space.specs.declared.step.Entry.{Entry}
-use Rattle.bd_space.specs.Histories.{IsHistory}
-use Rattle.bd_driver.specs.Views.{StartsWith, history, places_of, places, tick, seated}
+use Rattle.bd_space.specs.Histories.{IsHistory, BeginsWith, history_of}
+use Rattle.bd_driver.specs.Views.{places_of, places, tick, seated}
 use Rattle.bd_driver.specs.declared.view.Tally.{Tally}
 use Rattle.bd_driver.specs.declared.view.View.{View}
 use Rattle.bd_space.specs.declared.step.Request.{Request}
@@ -59,6 +59,6 @@ OwnEntries entries v =
 -- a lawful history for all these seats: each has seen a beginning of it, and knows its entries there
 pub record IsFinal (seats : ℕ) (states : List SeatState) (count : ℕ) (entries : List Entry) : Type 0 where
   pub seats_are : count ≡ seats
-  pub lawful : IsHistory (history seats entries)
-  pub begins : (i : ℕ) (s : SeatState) → get_elem? states i ≡ some s → StartsWith entries s.view.seen
+  pub lawful : IsHistory (history_of seats entries)
+  pub begins : (i : ℕ) (s : SeatState) → get_elem? states i ≡ some s → BeginsWith entries s.view.seen
   pub own : (i : ℕ) (s : SeatState) → get_elem? states i ≡ some s → OwnEntries entries s.view

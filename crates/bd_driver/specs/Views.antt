@@ -1,23 +1,15 @@
 -- Views of seats, and what a history says of them.
-use Rattle.std.specs.Prelude.{◌≡◌, ℕ, zero, suc, ◌+◌, ◌/◌, ◌%◌, ◌==◌, false, cond, List, [], ◌∷◌, ◌++◌, length}
+use Rattle.std.specs.Prelude.{◌≡◌, ℕ, zero, suc, ◌+◌, ◌/◌, ◌%◌, ◌==◌, false, cond, List, [], ◌∷◌, length}
 use Rattle.bd_space.specs.declared.step.Entry.{Entry}
-use Rattle.bd_space.specs.Histories.{History, ready_bits}
+use Rattle.bd_space.specs.Histories.{ready_bits, history_of}
 use Rattle.bd_driver.specs.declared.view.View.{View}
 use Rattle.bd_driver.specs.declared.view.Tally.{Tally}
 use Rattle.bd_driver.specs.declared.view.Handover.TheVariants.{Shut, Open}
 use Rattle.bd_driver.specs.declared.view.Pick.TheVariants.{Nothing}
 
--- the history of so many seats with these entries
-abbrev pub history : ℕ → List Entry → History
-history seats entries = record { seats = seats; entries = entries }
-
 -- its ready seats
 abbrev pub ready_of : ℕ → List Entry → ℕ
-ready_of seats entries = ready_bits (history seats entries)
-
--- the history begins with what was seen
-abbrev pub StartsWith : List Entry → List Entry → Type 0
-StartsWith entries seen = (rest : List Entry) × (entries ≡ seen ++ rest)
+ready_of seats entries = ready_bits (history_of seats entries)
 
 -- where a seat's entries stand in a list whose first place is n
 abbrev pub places_from : ℕ → ℕ → List Entry → List ℕ

@@ -11,11 +11,9 @@ use crate::seat::{Seat, TableSeat};
 use crate::slot::Slot;
 use atomic_table::Table;
 use bd_engine::Engine;
+use bd_space::MOST_SEATS;
 use bd_uapi::Fault;
 use std::alloc::{AllocError, Global};
-
-/// The most seats that a driver has.
-const MOST_SEATS: u32 = 16;
 
 impl Driver {
     ghost use Rattle.bd_driver.specs.Faults.{FaultFits};

@@ -20,7 +20,8 @@ use Rattle.bd_space.specs.References.{object_in}
 use Rattle.bd_space.specs.Names.{assign_numbers, names_go, has_number_past_limit}
 use Rattle.bd_space.specs.Parcels.{is_own, is_strong_kind, object_of_item}
 use Rattle.bd_space.specs.Todo.{is_notice}
-use Rattle.bd_space.specs.Delivery.{Delivery, make_objects, refer, known_by, withdraw_notice, translate_item, translated, translation, buffer_of, add_buffer, own_notices}
+use Rattle.bd_space.specs.Delivery.{Delivery, make_objects, refer, known_by, withdraw_notice, buffer_of, add_buffer, own_notices}
+use Rattle.bd_space.specs.Translation.{translate_item, translated, translation}
 use Rattle.bd_objects.specs.declared.table.ObjectTable.{ObjectTable}
 use Rattle.bd_objects.specs.Stands as objects
 use Rattle.bd_engine.specs.declared.tables.Tables.{Tables}

@@ -9,11 +9,11 @@ use Rattle.bd_space.specs.declared.step.Entry.{Entry}
 use Rattle.bd_space.specs.Space.{Space, opening}
 use Rattle.bd_space.specs.Names.{has_number_past_limit}
 use Rattle.bd_space.specs.Steps.{change, step, counted}
-use Rattle.bd_space.specs.Histories.{History, Follows, EntryFollows, next, after, space_after, extended, is_at_limit}
+use Rattle.bd_space.specs.Histories.{History, Follows, EntryFollows, next, after, space_after, extended, is_at_limit, history_of}
 use Rattle.bd_buffers.specs.WindowsStand.{WindowsOf}
 use Rattle.bd_engine.specs.declared.tables.Tables.{Tables}
 use Rattle.bd_engine.specs.Stands.{Before, Within}
-use Rattle.bd_engine.specs.Keeps.{Keeps, history_of}
+use Rattle.bd_engine.specs.Keeps.{Keeps}
 use Rattle.bd_engine.specs.declared.why.Why.{Why}
 use Rattle.bd_engine.specs.declared.why.Why.TheVariants.{NoMemory, HistoryFull}
 use Rattle.bd_engine.specs.Refusals.{FullOnly}

@@ -11,7 +11,7 @@ use Rattle.bd_space.specs.References.{owned_in}
 use Rattle.bd_space.specs.Deaths.{with_phase}
 use Rattle.bd_space.specs.Turns.{turns_of}
 use Rattle.bd_space.specs.Todo.{owe, with_work}
-use Rattle.bd_space.specs.Exits.{is_armed, tell_death, tell_deaths}
+use Rattle.bd_space.specs.ProcessExits.{is_armed, tell_death, tell_deaths}
 use Rattle.bd_objects.specs.declared.table.ObjectTable.{ObjectTable}
 use Rattle.bd_objects.specs.Stands as objects
 use Rattle.bd_calls.specs.Stands as calls

@@ -28,7 +28,7 @@ use Rattle.bd_space.specs.Space.{Space}
 use Rattle.bd_space.specs.Seats.{actor, thread_in, process_with_pid}
 use Rattle.bd_space.specs.Todo.{owe, tell_caller, list_to_read}
 use Rattle.bd_space.specs.Frames.{closed, served_innermost}
-use Rattle.bd_space.specs.Outcomes.{Outcome, completed, accepted, noted, refused}
+use Rattle.bd_space.specs.Outcomes.{Outcome, completed, accepted, noted, refused, by_check}
 use Rattle.bd_space.specs.Turns.{ripen}
 use Rattle.bd_space.specs.Notices.{follow, notify, work_goes, deaths_go}
 use Rattle.bd_space.specs.Names.{names_go, assign_numbers}
@@ -37,11 +37,14 @@ use Rattle.bd_space.specs.Delivery.{Delivery, delivered, own_notices, add_buffer
 use Rattle.bd_space.specs.Transactions.{transaction_step, transaction_outcome, transaction_check, transacted, called, call_out}
 use Rattle.bd_space.specs.Replies.{reply_step, reply_to, reply_outcome, reply_check, replied, reply_refused}
 use Rattle.bd_space.specs.Freeing.{free_step, free_outcome, buffer_at_pointer, without_buffer}
-use Rattle.bd_space.specs.Asking.{ask_step, ask_outcome, ask_check, ask, drop_step, drop_outcome, drop_check, drop_asked, done_step, done_outcome, done_check, acknowledge}
-use Rattle.bd_space.specs.Deaths.{request_step, request_outcome, request_check, requested, with_death, clear_step, clear_outcome, clear_check, cleared, mark_cleared, death_ended, without_death, death_done_step, death_done_outcome, told_death, death_done, with_phase, owner_lives_in, is_out}
+use Rattle.bd_space.specs.Asking.{ask_step, ask_check, ask, drop_step, drop_check, drop_asked, done_step, done_check, acknowledge}
+use Rattle.bd_space.specs.Deaths.{request_step, request_check, requested, with_death, without_death, with_phase, owner_lives_in}
+use Rattle.bd_space.specs.Clearing.{clear_step, clear_check, cleared, mark_cleared, death_ended, death_done_step, death_done_outcome, told_death, death_done, is_out}
 use Rattle.bd_space.specs.Commands.{command_step, with_looping}
-use Rattle.bd_space.specs.Reading.{read_step, read_fault, read_taking, read_by, taken}
-use Rattle.bd_space.specs.Exits.{exit_thread_step, thread_goes, exit_process_step, threads_go, without_process, tell_deaths, tell_death, is_armed, seat_of}
+use Rattle.bd_space.specs.Reading.{read_step, read_fault, read_taking}
+use Rattle.bd_space.specs.ReadItems.{read_by, taken}
+use Rattle.bd_space.specs.ThreadExits.{exit_thread_step, thread_goes}
+use Rattle.bd_space.specs.ProcessExits.{exit_process_step, threads_go, without_process, tell_deaths, tell_death, is_armed, seat_of}
 use Rattle.bd_space.specs.Steps.{change, by_actor, open_step, open_outcome, open_fault, attach_step, attach_outcome, manager_step, manager_outcome, is_manager_busy, with_thread, with_process, with_manager}
 use Rattle.bd_engine.proofs.Standing.{settle-steps}
 
@@ -104,22 +107,22 @@ freed_steps s (Some b) = go b.handed
     go true = completed_steps (without_buffer s b.made)
     go false = refl
 
-asked_steps : (s : Space) (p : ℕ) (strong : Bool) (r : Result ObjectId Note) → (ask_outcome s p strong r).space.steps ≡ s.steps
+asked_steps : (s : Space) (p : ℕ) (strong : Bool) (r : Result ObjectId Note) → (by_check s (λ o. ask s p o strong) r).space.steps ≡ s.steps
 unfolding ask assign_numbers
 asked_steps s p strong (Err n) = refl
 asked_steps s p strong (Ok o) = completed_steps (ask s p o strong)
 
-dropped_steps : (s : Space) (p : ℕ) (strong : Bool) (r : Result ObjectId Note) → (drop_outcome s p strong r).space.steps ≡ s.steps
+dropped_steps : (s : Space) (p : ℕ) (strong : Bool) (r : Result ObjectId Note) → (by_check s (λ o. drop_asked s p o strong) r).space.steps ≡ s.steps
 unfolding drop_asked
 dropped_steps s p strong (Err n) = refl
 dropped_steps s p strong (Ok o) = completed_steps (drop_asked s p o strong)
 
-done_steps : (s : Space) (strong : Bool) (r : Result Object Note) → (done_outcome s strong r).space.steps ≡ s.steps
+done_steps : (s : Space) (strong : Bool) (r : Result Object Note) → (by_check s (λ x. acknowledge s x.id strong) r).space.steps ≡ s.steps
 unfolding acknowledge
 done_steps s strong (Err n) = refl
 done_steps s strong (Ok x) = completed_steps (acknowledge s x.id strong)
 
-requested_steps : (s : Space) (p : ℕ) (cookie : ℕ) (r : Result ObjectId Note) → (request_outcome s p cookie r).space.steps ≡ s.steps
+requested_steps : (s : Space) (p : ℕ) (cookie : ℕ) (r : Result ObjectId Note) → (by_check s (λ o. requested s p o cookie) r).space.steps ≡ s.steps
 unfolding requested with_death owe
 requested_steps s p cookie (Err n) = refl
 requested_steps s p cookie (Ok o) = completed_steps (requested s p o cookie) ∙ go (owner_lives_in s.processes s.objects o)
@@ -128,7 +131,7 @@ requested_steps s p cookie (Ok o) = completed_steps (requested s p o cookie) ∙
     go true = refl
     go false = refl
 
-cleared_steps : (s : Space) (seat : ℕ) (r : Result DeathNotification Note) → (clear_outcome s seat r).space.steps ≡ s.steps
+cleared_steps : (s : Space) (seat : ℕ) (r : Result DeathNotification Note) → (by_check s (cleared s seat) r).space.steps ≡ s.steps
 unfolding cleared mark_cleared death_ended without_death owe
 cleared_steps s seat (Err n) = refl
 cleared_steps s seat (Ok x) = completed_steps (cleared s seat x) ∙ go (is_out x.phase)

@@ -13,7 +13,8 @@ use Rattle.bd_space.specs.declared.step.Answer.TheVariants.{Refused}
 use Rattle.bd_space.specs.Space.{Space}
 use Rattle.bd_space.specs.Steps.{step}
 use Rattle.bd_space.specs.Histories.{History, space_after, extended}
-use Rattle.bd_space.specs.Runs.{Run, run, single, write, answered, IsRun, HasRun}
+use Rattle.bd_space.specs.Writes.{Run, write}
+use Rattle.bd_space.specs.Runs.{run, single, answered, IsRun, HasRun}
 
 pub single-has_run : (old new : History) (seat : ℕ) (x : Step) (a : StepAnswer) (said : Answer) (from to : ℕ) (request : Request)
     → new ≡ extended old seat x a → a ≡ (step (space_after old) seat x).answer → said ≡ answered a → from ≡ length old.entries → to ≡ length new.entries

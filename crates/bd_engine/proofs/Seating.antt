@@ -16,7 +16,8 @@ use Rattle.bd_engine.proofs.Finding.{found_passes}
 use Rattle.bd_space.specs.Steps.{change, by_actor, manager_step}
 use Rattle.bd_space.specs.Commands.{command_step}
 use Rattle.bd_space.specs.Reading.{read_step}
-use Rattle.bd_space.specs.Exits.{exit_thread_step, exit_process_step}
+use Rattle.bd_space.specs.ThreadExits.{exit_thread_step}
+use Rattle.bd_space.specs.ProcessExits.{exit_process_step}
 use Rattle.bd_space.specs.Outcomes.{refused}
 
 -- a seat without a live thread can only open and attach

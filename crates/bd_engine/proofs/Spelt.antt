@@ -6,7 +6,7 @@ use Rattle.std.proofs.lemmas.List.Folds.{concat-append}
 use Rattle.std.proofs.lemmas.Grind.{flat_map-append}
 use Rattle.bd_uapi.specs.declared.command.Return.{Return}
 use Rattle.bd_codec.specs.Spelling.{return_bytes}
-use Rattle.bd_space.specs.Reading.{one}
+use Rattle.bd_space.specs.Returns.{one}
 
 bytes : List (Option Return) → List ℕ
 bytes rs = concat (map return_bytes (flat_map one rs))

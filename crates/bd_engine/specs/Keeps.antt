@@ -1,12 +1,8 @@
 -- What an engine keeps.
-use Rattle.std.specs.Prelude.{ℕ, ◌≤◌, List}
-use Rattle.bd_space.specs.declared.step.Entry.{Entry}
+use Rattle.std.specs.Prelude.{◌≤◌}
 use Rattle.bd_space.specs.Histories.{History, IsHistory, space_after}
 use Rattle.bd_engine.specs.declared.tables.Tables.{Tables}
 use Rattle.bd_engine.specs.Stands.{Before}
-
-abbrev pub history_of : ℕ → List Entry → History
-history_of seats entries = record { seats = seats; entries = entries }
 
 -- its entries are a history of 1 to 16 seats, and its tables stand for the space after it
 pub record Keeps (h : History) (t : Tables) : Type 0 where

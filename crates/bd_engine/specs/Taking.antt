@@ -2,7 +2,8 @@
 use Rattle.std.specs.Prelude.{ℕ, ◌≡◌, ◌-◌, List}
 use Rattle.bd_space.specs.declared.space.Work.{Work}
 use Rattle.bd_space.specs.Space.{Space}
-use Rattle.bd_space.specs.Reading.{taken, stream_of}
+use Rattle.bd_space.specs.ReadItems.{taken}
+use Rattle.bd_space.specs.Returns.{stream_of}
 
 -- of these work items these are taken, and these are the bytes to be read
 pub record AreTaken (s : Space) (limit : ℕ) (list works : List Work) (stream : List ℕ) : Type 0 where

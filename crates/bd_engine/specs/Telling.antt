@@ -8,7 +8,7 @@ use Rattle.bd_space.specs.declared.space.WorkKind.TheVariants.{Death}
 use Rattle.bd_space.specs.Space.{Space}
 use Rattle.bd_space.specs.References.{owned_in}
 use Rattle.bd_space.specs.Todo.{with_work}
-use Rattle.bd_space.specs.Exits.{is_armed}
+use Rattle.bd_space.specs.ProcessExits.{is_armed}
 
 -- a notification by which the end of process p is to be told makes a work item of the step at this place
 abbrev pub owed_death : ℕ → List Object → ℕ → List Work → DeathNotification → List Work

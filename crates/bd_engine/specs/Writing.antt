@@ -14,7 +14,9 @@ use Rattle.bd_space.specs.declared.step.Answer.TheVariants.{Wrote, Refused}
 use Rattle.bd_space.specs.declared.step.Request.{Request}
 use Rattle.bd_space.specs.declared.step.Request.TheVariants.{Write}
 use Rattle.bd_space.specs.Histories.{History, space_after, HasPlace}
-use Rattle.bd_space.specs.Runs.{readable, commands_of, Written, written, wrote, AllBy, HasRun, HasEntry, IsAtLimit}
+use Rattle.bd_space.specs.Streams.{readable, commands_of}
+use Rattle.bd_space.specs.Writes.{Written, written, wrote}
+use Rattle.bd_space.specs.Runs.{AllBy, HasRun, HasEntry, IsAtLimit}
 use Rattle.bd_engine.specs.declared.why.Why.{Why}
 use Rattle.bd_engine.specs.declared.why.Why.TheVariants.{NoMemory, HistoryFull}
 use Rattle.bd_engine.specs.Refusals.{FullOnly, MemoryOnly}

@@ -7,6 +7,7 @@ ghost use Rattle.bd_space.specs.declared.space.WorkKind.TheVariants.{Death};
 ghost use Rattle.bd_space.specs.Space.{Space};
 ghost use Rattle.bd_space.specs.Todo as todo;
 ghost use Rattle.bd_space.specs.Deaths as deaths;
+ghost use Rattle.bd_space.specs.Clearing as clearing;
 ghost use Rattle.bd_space.specs.Outcomes.{completed};
 ghost use Rattle.bd_objects.specs.Room.{death_room};
 ghost use Rattle.bd_calls.specs.Room.{work_room};
@@ -21,7 +22,7 @@ use bd_space::{Actor, DeathNotification, ObjectId, Phase, TodoList, WorkKind};
 use bd_uapi::Note;
 
 fn is_out(phase: Phase) -> bool
-    ensures { result ≡ deaths.is_out phase }
+    ensures { result ≡ clearing.is_out phase }
 {
     match phase {
         Phase::Queued | Phase::Told => true,
@@ -105,7 +106,7 @@ impl Tables {
     // A notification goes, and the thread is told.
     fn end_death(&mut self, seat: u32, x: DeathNotification)
         requires { 1 ≤ work_room self.old.calls }
-        ensures stands { (s : Space) → Within self.old s → Within self.new (deaths.death_ended s seat x) }
+        ensures stands { (s : Space) → Within self.old s → Within self.new (clearing.death_ended s seat x) }
         ensures takes { Takes self.old self.new 0 0 0 1 }
     {
         self.objects.without_death(x.made);
@@ -115,7 +116,7 @@ impl Tables {
     // A notification is cleared: marked where it is queued or told; else it goes.
     fn drop_request(&mut self, seat: u32, x: DeathNotification)
         requires { 1 ≤ work_room self.old.calls }
-        ensures stands { (s : Space) → Within self.old s → Within self.new (deaths.cleared s seat x) }
+        ensures stands { (s : Space) → Within self.old s → Within self.new (clearing.cleared s seat x) }
         ensures takes { Takes self.old self.new 0 0 0 1 }
     {
         if is_out(x.phase) {
@@ -128,7 +129,7 @@ impl Tables {
     // A notification is cleared, and what follows from that.
     fn disarm(&mut self, seat: u32, x: DeathNotification)
         requires { CanFollow self.old 1 }
-        ensures stands { (s : Space) → Within self.old s → Within self.new (completed (deaths.cleared s seat x)) }
+        ensures stands { (s : Space) → Within self.old s → Within self.new (completed (clearing.cleared s seat x)) }
     {
         self.drop_request(seat, x);
         self.complete();
@@ -136,9 +137,9 @@ impl Tables {
 
     /// The step by which a process takes back that it asked to be told of an owner's end.
     pub(crate) fn clear_death(&mut self, a: Actor, n: u32, cookie: u64) -> Result<Plain, Why>
-        ensures ok { IfOk result (λ x. Meets self.old self.new (IsBy a) (λ s. deaths.clear_step s a.thread.seat a.process.made n cookie) (answer_of x)) }
+        ensures ok { IfOk result (λ x. Meets self.old self.new (IsBy a) (λ s. clearing.clear_step s a.thread.seat a.process.made n cookie) (answer_of x)) }
         ensures err { OnErr result (IsKept self.old self.new) }
-        ensures full { IfErr result (IsRefused self.old (IsBy a) (λ s. deaths.clear_step s a.thread.seat a.process.made n cookie)) }
+        ensures full { IfErr result (IsRefused self.old (IsBy a) (λ s. clearing.clear_step s a.thread.seat a.process.made n cookie)) }
     {
         let x = match self.objects.clear_check(a.process.made, n, cookie) {
             Ok(x) => x,
@@ -154,7 +155,7 @@ impl Tables {
     // The process knows of the owner's end: a marked notification goes; else it is done.
     fn know_death(&mut self, seat: u32, x: DeathNotification)
         requires { 1 ≤ work_room self.old.calls }
-        ensures stands { (s : Space) → Within self.old s → Within self.new (deaths.death_done s seat x) }
+        ensures stands { (s : Space) → Within self.old s → Within self.new (clearing.death_done s seat x) }
         ensures takes { Takes self.old self.new 0 0 0 1 }
     {
         if x.cleared {
@@ -167,7 +168,7 @@ impl Tables {
     // The process knows of the owner's end, and what follows from that.
     fn finish_death(&mut self, seat: u32, x: DeathNotification)
         requires { CanFollow self.old 1 }
-        ensures stands { (s : Space) → Within self.old s → Within self.new (completed (deaths.death_done s seat x)) }
+        ensures stands { (s : Space) → Within self.old s → Within self.new (completed (clearing.death_done s seat x)) }
     {
         self.know_death(seat, x);
         self.complete();
@@ -175,9 +176,9 @@ impl Tables {
 
     /// The step by which a process acknowledges that it was told of an owner's end.
     pub(crate) fn death_done(&mut self, a: Actor, cookie: u64) -> Result<Plain, Why>
-        ensures ok { IfOk result (λ x. Meets self.old self.new (IsBy a) (λ s. deaths.death_done_step s a.thread.seat a.process.made cookie) (answer_of x)) }
+        ensures ok { IfOk result (λ x. Meets self.old self.new (IsBy a) (λ s. clearing.death_done_step s a.thread.seat a.process.made cookie) (answer_of x)) }
         ensures err { OnErr result (IsKept self.old self.new) }
-        ensures full { IfErr result (IsRefused self.old (IsBy a) (λ s. deaths.death_done_step s a.thread.seat a.process.made cookie)) }
+        ensures full { IfErr result (IsRefused self.old (IsBy a) (λ s. clearing.death_done_step s a.thread.seat a.process.made cookie)) }
     {
         let x = match self.objects.told_death(a.process.made, cookie) {
             Some(x) => x,

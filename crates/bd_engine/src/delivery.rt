@@ -11,6 +11,7 @@ ghost use Rattle.bd_space.specs.Parcels as parcels;
 ghost use Rattle.bd_space.specs.Names.{names_go, has_number_past_limit};
 ghost use Rattle.bd_space.specs.Turns as turns;
 ghost use Rattle.bd_space.specs.Delivery as spec;
+ghost use Rattle.bd_space.specs.Translation as translations;
 ghost use Rattle.bd_objects.specs.Room as object_rooms;
 ghost use Rattle.bd_calls.specs.Room as call_rooms;
 ghost use Rattle.bd_buffers.specs.WindowsStand.{CanAdd, buffer_room};
@@ -188,7 +189,7 @@ impl Tables {
     // The items' objects as the process is to see them, written over the data.
     fn translate(&self, q: u32, bytes: &mut [u8], items: &[Item])
         requires { All (IsInside bytes.old) items.now }
-        ensures { (n : ℕ) (s : Space) → StandsAt n self.now s → bytes.new ≡ spec.translation s q bytes.old items.now }
+        ensures { (n : ℕ) (s : Space) → StandsAt n self.now s → bytes.new ≡ translations.translation s q bytes.old items.now }
     {
         for x in items {
             let flat = self.objects.translated(q, x);
@@ -199,7 +200,7 @@ impl Tables {
     // The data as the process is to see it.
     fn translation(&self, q: u32, bytes: Bytes, items: &[Item]) -> Bytes
         requires { All (IsInside bytes) items.now }
-        ensures translated { (n : ℕ) (s : Space) → StandsAt n self.now s → result ≡ spec.translation s q bytes items.now }
+        ensures translated { (n : ℕ) (s : Space) → StandsAt n self.now s → result ≡ translations.translation s q bytes items.now }
         ensures len { length result ≡ length bytes }
     {
         let mut bytes = bytes.into_vec();

@@ -26,8 +26,8 @@ pub struct Engine {
 }
 
 impl Model for Engine {
-    ghost use Rattle.bd_space.specs.Histories.{History};
-    ghost use Rattle.bd_engine.specs.Keeps.{history_of, Keeps};
+    ghost use Rattle.bd_space.specs.Histories.{History, history_of};
+    ghost use Rattle.bd_engine.specs.Keeps.{Keeps};
 
     ghost Value = { History };
 

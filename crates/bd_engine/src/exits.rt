@@ -4,7 +4,8 @@ ghost use Rattle.std.specs.Prelude.{ℕ, ◌≡◌, ◌==◌, ◌+◌, ◌≤◌
 ghost use Rattle.bd_space.specs.Space.{Space};
 ghost use Rattle.bd_space.specs.Notices.{follow};
 ghost use Rattle.bd_space.specs.Settle.{settle};
-ghost use Rattle.bd_space.specs.Exits as spec;
+ghost use Rattle.bd_space.specs.ProcessExits as spec;
+ghost use Rattle.bd_space.specs.ThreadExits as thread_exits;
 ghost use Rattle.bd_objects.specs.Room.{death_count, object_count};
 ghost use Rattle.bd_calls.specs.Room.{work_room, frame_count};
 ghost use Rattle.bd_engine.specs.Stands.{StandsAt, Before, Within, Takes};
@@ -21,7 +22,7 @@ use std::alloc::AllocError;
 impl Tables {
     // The thread of a seat ends; what is lost with its list is told by the list, which goes last.
     fn thread_goes(&mut self, seat: u32)
-        ensures stands { (s : Space) → Within self.old s → Within self.new (spec.thread_goes s seat) }
+        ensures stands { (s : Space) → Within self.old s → Within self.new (thread_exits.thread_goes s seat) }
         ensures takes { Takes self.old self.new 0 0 0 0 }
         ensures deaths { death_count self.new.objects ≤ death_count self.old.objects }
     {
@@ -34,7 +35,7 @@ impl Tables {
 
     // The threads of these seats end, one after the other.
     fn threads_go(&mut self, seats: &[u32])
-        ensures stands { (s : Space) → Within self.old s → Within self.new (fold spec.thread_goes s seats.now) }
+        ensures stands { (s : Space) → Within self.old s → Within self.new (fold thread_exits.thread_goes s seats.now) }
         ensures takes { Takes self.old self.new 0 0 0 0 }
         ensures deaths { death_count self.new.objects ≤ death_count self.old.objects }
     {
@@ -125,9 +126,9 @@ impl Tables {
 
     /// The step that ends a thread.
     pub(crate) fn exit_thread(&mut self, a: Actor) -> Result<Plain, Why>
-        ensures ok { IfOk result (λ x. Meets self.old self.new (IsBy a) (λ s. spec.exit_thread_step s a) (answer_of x)) }
+        ensures ok { IfOk result (λ x. Meets self.old self.new (IsBy a) (λ s. thread_exits.exit_thread_step s a) (answer_of x)) }
         ensures err { OnErr result (IsKept self.old self.new) }
-        ensures full { IfErr result (IsRefused self.old (IsBy a) (λ s. spec.exit_thread_step s a)) }
+        ensures full { IfErr result (IsRefused self.old (IsBy a) (λ s. thread_exits.exit_thread_step s a)) }
     {
         if self.reserve(0, 0, 0, 0).is_err() {
             return Err(Why::NoMemory);

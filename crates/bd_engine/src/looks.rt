@@ -5,7 +5,7 @@ ghost use Rattle.std.specs.Option.{option_copied};
 ghost use Rattle.bd_space.specs.Space.{Space};
 ghost use Rattle.bd_space.specs.Frames.{serves};
 ghost use Rattle.bd_space.specs.Histories.{space_after};
-ghost use Rattle.bd_space.specs.Reading.{buffer_in};
+ghost use Rattle.bd_space.specs.Returns.{buffer_in};
 ghost use Rattle.bd_engine.specs.Looks as looks;
 ghost use Rattle.bd_engine.specs.Stands.{StandsAt, Within};
 

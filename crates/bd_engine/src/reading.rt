@@ -8,6 +8,8 @@ ghost use Rattle.bd_space.specs.Space.{Space};
 ghost use Rattle.bd_space.specs.Words.{first_of};
 ghost use Rattle.bd_space.specs.Todo as todo;
 ghost use Rattle.bd_space.specs.Reading as spec;
+ghost use Rattle.bd_space.specs.ReadItems as read_items;
+ghost use Rattle.bd_space.specs.Returns as returns;
 ghost use Rattle.bd_buffers.specs.WindowsStand.{made_of_buffer};
 ghost use Rattle.bd_objects.specs.Room.{reference_room, object_count};
 ghost use Rattle.bd_calls.specs.Room.{work_room};
@@ -32,7 +34,7 @@ struct Taking {
 
 // Nothing is read after it.
 fn ends_read(kind: WorkKind) -> bool
-    ensures { result ≡ spec.ends_read kind }
+    ensures { result ≡ read_items.ends_read kind }
 {
     matches!(
         kind,
@@ -105,7 +107,7 @@ impl Tables {
     // One work item more is taken.
     fn take_one(&self, work: Work, taking: &mut Taking) -> Result<(), AllocError>
         ensures works { OnOk result (taking.new.works.items ≡ taking.old.works.items ++ work ∷ []) }
-        ensures stream { OnOk result ((s : Space) → Before self.now s → taking.new.stream.items ≡ taking.old.stream.items ++ spec.bytes_read s work) }
+        ensures stream { OnOk result ((s : Space) → Before self.now s → taking.new.stream.items ≡ taking.old.stream.items ++ returns.bytes_read s work) }
     {
         self.append_work(work.kind, &mut taking.stream)?;
         taking.works.push(work)?;
@@ -135,7 +137,7 @@ impl Tables {
 
     // The buffer that is handed over by reading these.
     fn buffer_taken(&self, works: &[Work]) -> Option<&Buffer>
-        ensures { (s : Space) → Within self.now s → option_copied result ≡ spec.buffer_taken s works.now }
+        ensures { (s : Space) → Within self.now s → option_copied result ≡ read_items.buffer_taken s works.now }
     {
         match handed_by(works) {
             Some(made) => self.windows.buffer(made),
@@ -145,7 +147,7 @@ impl Tables {
 
     // Where that buffer was made.
     fn made_taken(&self, works: &[Work]) -> Option<u32>
-        ensures { (s : Space) → Within self.now s → result ≡ option_map made_of_buffer (spec.buffer_taken s works.now) }
+        ensures { (s : Space) → Within self.now s → result ≡ option_map made_of_buffer (read_items.buffer_taken s works.now) }
     {
         match self.buffer_taken(works) {
             Some(b) => Some(b.made),
@@ -155,7 +157,7 @@ impl Tables {
 
     // The answer of a read: the bytes, and copies of the data and offsets that are handed over.
     fn got(&self, works: &[Work], stream: Vec<u8>) -> Result<StepAnswer, AllocError>
-        ensures { IfOk result (λ answer. (s : Space) → Within self.now s → answer ≡ spec.got stream.items (spec.buffer_taken s works.now)) }
+        ensures { IfOk result (λ answer. (s : Space) → Within self.now s → answer ≡ spec.got stream.items (read_items.buffer_taken s works.now)) }
     {
         match self.buffer_taken(works) {
             Some(b) => Ok(StepAnswer::Got {
@@ -184,7 +186,7 @@ impl Tables {
     // The thread of a seat has read these work items.
     fn read_by(&mut self, seat: u32, works: &[Work])
         requires { 2 * length works.now ≤ reference_room self.old.objects }
-        ensures stands { (s : Space) → Within self.old s → Within self.new (spec.read_by s seat works.now) }
+        ensures stands { (s : Space) → Within self.old s → Within self.new (read_items.read_by s seat works.now) }
         ensures takes { Takes self.old self.new 0 0 0 0 }
     {
         let made = self.made_taken(works);
@@ -195,7 +197,7 @@ impl Tables {
 
     // The thread of a seat reads a list.
     fn read_list(&mut self, seat: u32, list: TodoList, limit: u32) -> Result<Twice, AllocError>
-        ensures ok { IfOk result (λ x. Meets self.old self.new IsAny (λ s. spec.read_taking s seat (spec.taken s (limit - 4) (todo.work_on s.todo (Some list)))) x.answer) }
+        ensures ok { IfOk result (λ x. Meets self.old self.new IsAny (λ s. spec.read_taking s seat (read_items.taken s (limit - 4) (todo.work_on s.todo (Some list)))) x.answer) }
         ensures twice { IfOk result (λ x. x.again ≡ x.answer) }
         ensures err { OnErr result (IsKept self.old self.new) }
     {

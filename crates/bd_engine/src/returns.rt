@@ -9,10 +9,10 @@ ghost use Rattle.bd_space.specs.Words.{round_up as rounded};
 ghost use Rattle.bd_space.specs.Seats as seats;
 ghost use Rattle.bd_space.specs.Frames.{is_frame};
 ghost use Rattle.bd_space.specs.Freeing.{pointer};
-ghost use Rattle.bd_space.specs.Reading as spec;
+ghost use Rattle.bd_space.specs.Returns as spec;
 ghost use Rattle.bd_space.specs.Steps.{is_pid};
 ghost use Rattle.bd_space.specs.declared.space.WorkKind.TheVariants as work;
-ghost use Rattle.bd_buffers.specs.WindowsStand.{IsPlaced};
+ghost use Rattle.bd_buffers.specs.WindowsStand.{IsInWindow};
 ghost use Rattle.bd_engine.specs.Stands.{Before};
 
 use crate::tables::Tables;
@@ -68,7 +68,7 @@ fn data_start(b: &Buffer) -> u64
 
 // Where its offsets begin.
 fn offsets_start(b: &Buffer) -> u64
-    requires { IsPlaced b.now }
+    requires { IsInWindow b.now }
     ensures { result ≡ pointer b.now + rounded (length b.now.bytes) }
 {
     data_start(b) + 8 * ((b.bytes.len() as u64 + 7) / 8)
@@ -98,7 +98,7 @@ impl Tables {
     }
 
     // Its pid, else 0.
-    #[tactic(auto, unfolding(bd_space::specs::Reading::sender_pid))]
+    #[tactic(auto, unfolding(bd_space::specs::Returns::sender_pid))]
     fn sender_pid(&self, made: u32) -> u32
         ensures found { (s : Space) → Before self.now s → result ≡ spec.sender_pid s made }
         ensures fits { result ≤ 2147483647 }
@@ -131,9 +131,9 @@ impl Tables {
     }
 
     // What the receiver of a buffer reads of it.
-    #[tactic(auto, unfolding(bd_space::specs::Reading::record_of))]
+    #[tactic(auto, unfolding(bd_space::specs::Returns::record_of))]
     fn record_of(&self, b: &Buffer) -> TransactionData
-        requires { IsPlaced b.now }
+        requires { IsInWindow b.now }
         ensures { (s : Space) → Before self.now s → result ≡ spec.record_of s b.now }
     {
         let (target, cookie) = self.called_words(b);
@@ -162,7 +162,7 @@ impl Tables {
     }
 
     // A call.
-    #[tactic(auto, unfolding(bd_space::specs::Reading::returns_of))]
+    #[tactic(auto, unfolding(bd_space::specs::Returns::returns_of))]
     fn call_return(&self, made: u32) -> Option<Return>
         ensures { (s : Space) → Before self.now s → spec.one result ≡ spec.returns_of s (work.Call made) }
     {
@@ -173,7 +173,7 @@ impl Tables {
     }
 
     // A reply.
-    #[tactic(auto, unfolding(bd_space::specs::Reading::returns_of))]
+    #[tactic(auto, unfolding(bd_space::specs::Returns::returns_of))]
     fn reply_return(&self, made: u32) -> Option<Return>
         ensures { (s : Space) → Before self.now s → spec.one result ≡ spec.returns_of s (work.Reply made) }
     {
@@ -184,7 +184,7 @@ impl Tables {
     }
 
     // The end of an object's owner.
-    #[tactic(auto, unfolding(bd_space::specs::Reading::returns_of))]
+    #[tactic(auto, unfolding(bd_space::specs::Returns::returns_of))]
     fn death_return(&self, made: u32) -> Option<Return>
         ensures { (s : Space) → Before self.now s → spec.one result ≡ spec.returns_of s (work.Death made) }
     {
@@ -195,7 +195,7 @@ impl Tables {
     }
 
     // The returns that a work item gives.
-    #[tactic(auto, unfolding(bd_space::specs::Reading::returns_of))]
+    #[tactic(auto, unfolding(bd_space::specs::Returns::returns_of))]
     fn returns_of(&self, kind: WorkKind) -> [Option<Return>; 4]
         ensures { (s : Space) → Before self.now s → flat_map spec.one result ≡ spec.returns_of s kind }
     {

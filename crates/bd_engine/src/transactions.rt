@@ -43,7 +43,6 @@ fn refusal(cause: Cause) -> Return
 {
     match cause {
         Cause::NoManager | Cause::DeadOwner => Return::DeadReply,
-        Cause::CallerGone => Return::TransactionComplete,
         _ => Return::FailedReply,
     }
 }

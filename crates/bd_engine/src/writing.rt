@@ -7,7 +7,8 @@ ghost use Rattle.bd_space.specs.declared.step.Request.TheVariants.{Write};
 ghost use Rattle.bd_space.specs.declared.step.Answer.TheVariants.{Wrote};
 ghost use Rattle.bd_space.specs.Histories.{History, space_after, extended, HasPlace, is_at_limit};
 ghost use Rattle.bd_space.specs.Steps as steps;
-ghost use Rattle.bd_space.specs.Runs.{HasRun, step_of_command};
+ghost use Rattle.bd_space.specs.Runs.{HasRun};
+ghost use Rattle.bd_space.specs.Streams.{step_of_command};
 ghost use Rattle.bd_engine.specs.Refusals.{FullOnly, MemoryOnly};
 ghost use Rattle.bd_engine.specs.Writing.{HasCome, IsSame, IsAfter, IsCourse, IsCutAt, IsTurnedAway, IsNext, refused};
 

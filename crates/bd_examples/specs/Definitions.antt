@@ -8,8 +8,9 @@ use Rattle.bd_space.specs.declared.step.StepAnswer.TheVariants.{Opened, Set, Exi
 use Rattle.bd_space.specs.declared.step.Step.{Step}
 use Rattle.bd_space.specs.declared.step.Step.TheVariants.{Open, Attach, SetManager, Read, ExitThread, ExitProcess}
 use Rattle.bd_space.specs.Space.{opening}
-use Rattle.bd_space.specs.Histories.{ends}
-use Rattle.bd_examples.specs.Worked.{Runs}
+use Rattle.bd_examples.specs.Playing.{ends}
+use Rattle.bd_examples.specs.Worked.{Runs, Plays}
+use Rattle.bd_examples.specs.Common.{complete_read, told_read, untold_read, object_read, object_call_read, death_read}
 use Rattle.bd_examples.specs.Script.{hex, tx, reply, act, enter, base, OBJ, HOBJ, OBJ2, HOBJ2, zeros}
 
 -- the second object with another cookie, and both as weak ones, with theirs and with others
@@ -33,55 +34,33 @@ nested = hex "852a6273000000000010000000000000 00200000" ++ OBJ2
 -- after it finds its whole budget.
 abbrev pub one_way_bit_of_a_reply : Type 0
 one_way_bit_of_a_reply =
-    Runs ((1, tx 0 1 0 OBJ (0 ∷ []))
-    ∷ (0, Read 256)
-    ∷ (0, reply 0 1 (zeros 2056) [])
-    ∷ (0, tx 1 2 1 [] [])
-    ∷ (1, Read 256)
-    ∷ (1, enter)
-    ∷ (1, Read 256) ∷ [])
-    (Accepted
-    ∷ Got (hex "0c720000 02724080 0000000000000000 0000000000000000 01000000 00000000 c8000000 d0070000 1800000000000000 0800000000000000 0000010000000000 1800010000000000") HOBJ (hex "0000000000000000")
-    ∷ Accepted
-    ∷ Accepted
-    ∷ Got (hex "0c720000 07721080 0010000000000000 0020000000000000 08721080 0010000000000000 0020000000000000 06720000 03724080 0000000000000000 0000000000000000 00000000 01000000 00000000 e8030000 0808000000000000 0000000000000000 0000010000000000 0808010000000000") (zeros 2056) []
-    ∷ Accepted
-    ∷ Got (hex "0c720000 02724080 0010000000000000 0020000000000000 02000000 01000000 00000000 e8030000 0000000000000000 0000000000000000 0808010000000000 0808010000000000") [] [] ∷ [])
+    Plays ((1, tx 0 1 0 OBJ (0 ∷ []), Accepted)
+    ∷ (0, Read 256, object_call_read)
+    ∷ (0, reply 0 1 (zeros 2056) [], Accepted)
+    ∷ (0, tx 1 2 1 [] [], Accepted)
+    ∷ (1, Read 256, Got (hex "0c720000 07721080 0010000000000000 0020000000000000 08721080 0010000000000000 0020000000000000 06720000 03724080 0000000000000000 0000000000000000 00000000 01000000 00000000 e8030000 0808000000000000 0000000000000000 0000010000000000 0808010000000000") (zeros 2056) [])
+    ∷ (1, enter, Accepted)
+    ∷ (1, Read 256, Got (hex "0c720000 02724080 0010000000000000 0020000000000000 02000000 01000000 00000000 e8030000 0000000000000000 0000000000000000 0808010000000000 0808010000000000") [] []) ∷ [])
 
 -- One is cleared when it is told, the other while it is queued. The buffer is freed and both names go (N1), and the
 -- objects too: yet the second is still told, and each completes its clearing when it is acknowledged.
 abbrev pub cleared_notifications_outlive_the_name : Type 0
 cleared_notifications_outlive_the_name =
-    Runs ((1, tx 0 1 1 (OBJ ++ OBJ2) (0 ∷ 24 ∷ []))
-    ∷ (0, Read 256)
-    ∷ (0, act (bc.RequestDeathNotification 1 77))
-    ∷ (0, act (bc.RequestDeathNotification 2 78))
-    ∷ (1, ExitProcess)
-    ∷ (0, Read 256)
-    ∷ (0, act (bc.ClearDeathNotification 1 77))
-    ∷ (0, act (bc.ClearDeathNotification 2 78))
-    ∷ (0, act (bc.FreeBuffer 65536))
-    ∷ (0, act (bc.ClearDeathNotification 1 77))
-    ∷ (0, Read 256)
-    ∷ (0, act (bc.DeadBinderDone 78))
-    ∷ (0, act (bc.DeadBinderDone 77))
-    ∷ (0, act (bc.DeadBinderDone 77))
-    ∷ (0, Read 256) ∷ [])
-    (Accepted
-    ∷ Got (hex "0c720000 02724080 0000000000000000 0000000000000000 01000000 01000000 00000000 d0070000 3000000000000000 1000000000000000 0000010000000000 3000010000000000") (HOBJ ++ HOBJ2) (hex "00000000000000001800000000000000")
-    ∷ Accepted
-    ∷ Accepted
-    ∷ Exited
-    ∷ Got (hex "0c720000 0f720880 4d00000000000000") [] []
-    ∷ Accepted
-    ∷ Accepted
-    ∷ Accepted
-    ∷ Noted note.NoSuchNumber
-    ∷ Got (hex "0c720000 0f720880 4e00000000000000") [] []
-    ∷ Accepted
-    ∷ Accepted
-    ∷ Noted note.NoneTold
-    ∷ Got (hex "0c720000 10720880 4e00000000000000 10720880 4d00000000000000") [] [] ∷ [])
+    Plays ((1, tx 0 1 1 (OBJ ++ OBJ2) (0 ∷ 24 ∷ []), Accepted)
+    ∷ (0, Read 256, Got (hex "0c720000 02724080 0000000000000000 0000000000000000 01000000 01000000 00000000 d0070000 3000000000000000 1000000000000000 0000010000000000 3000010000000000") (HOBJ ++ HOBJ2) (hex "00000000000000001800000000000000"))
+    ∷ (0, act (bc.RequestDeathNotification 1 77), Accepted)
+    ∷ (0, act (bc.RequestDeathNotification 2 78), Accepted)
+    ∷ (1, ExitProcess, Exited)
+    ∷ (0, Read 256, death_read)
+    ∷ (0, act (bc.ClearDeathNotification 1 77), Accepted)
+    ∷ (0, act (bc.ClearDeathNotification 2 78), Accepted)
+    ∷ (0, act (bc.FreeBuffer 65536), Accepted)
+    ∷ (0, act (bc.ClearDeathNotification 1 77), Noted note.NoSuchNumber)
+    ∷ (0, Read 256, Got (hex "0c720000 0f720880 4e00000000000000") [] [])
+    ∷ (0, act (bc.DeadBinderDone 78), Accepted)
+    ∷ (0, act (bc.DeadBinderDone 77), Accepted)
+    ∷ (0, act (bc.DeadBinderDone 77), Noted note.NoneTold)
+    ∷ (0, Read 256, Got (hex "0c720000 10720880 4e00000000000000 10720880 4d00000000000000") [] []) ∷ [])
 
 -- an object is called, and its owner ends
 abbrev pub owner_ends : List (ℕ × Step)
@@ -112,8 +91,8 @@ abbrev pub target_of_a_window_that_ended : Type 0
 target_of_a_window_that_ended =
     Runs owner_ends
     (Accepted
-    ∷ Got (hex "0c720000 07721080 0010000000000000 0020000000000000 08721080 0010000000000000 0020000000000000 06720000") [] []
-    ∷ Got (hex "0c720000 02724080 0000000000000000 0000000000000000 01000000 01000000 00000000 d0070000 1800000000000000 0800000000000000 0000010000000000 1800010000000000") HOBJ (hex "0000000000000000")
+    ∷ told_read
+    ∷ object_read
     ∷ Accepted
     ∷ Accepted
     ∷ Accepted
@@ -130,85 +109,53 @@ target_of_a_window_that_ended =
 -- isn't: its object was held only by the reply that was lost with the thread, and is gone.
 abbrev pub notices_made_anew_when_a_thread_ends : Type 0
 notices_made_anew_when_a_thread_ends =
-    Runs ((2, Attach 200)
-    ∷ (2, enter)
-    ∷ (1, tx 0 1 0 (OBJ ++ OBJ2) (0 ∷ 24 ∷ []))
-    ∷ (0, Read 256)
-    ∷ (0, act (bc.Increfs 2))
-    ∷ (0, reply 0 0 HOBJ (0 ∷ []))
-    ∷ (0, act (bc.FreeBuffer 65536))
-    ∷ (2, Read 256)
-    ∷ (1, ExitThread)
-    ∷ (2, Read 256)
-    ∷ (2, act (bc.IncrefsDone 4096 8192)) ∷ [])
-    (Opened
-    ∷ Accepted
-    ∷ Accepted
-    ∷ Got (hex "0c720000 02724080 0000000000000000 0000000000000000 01000000 00000000 c8000000 d0070000 3000000000000000 1000000000000000 0000010000000000 3000010000000000") (HOBJ ++ HOBJ2) (hex "00000000000000001800000000000000")
-    ∷ Accepted
-    ∷ Accepted
-    ∷ Accepted
-    ∷ Refused fault.Again
-    ∷ Exited
-    ∷ Got (hex "0c720000 07721080 0810000000000000 0820000000000000") [] []
-    ∷ Noted note.NoSuchObject ∷ [])
+    Plays ((2, Attach 200, Opened)
+    ∷ (2, enter, Accepted)
+    ∷ (1, tx 0 1 0 (OBJ ++ OBJ2) (0 ∷ 24 ∷ []), Accepted)
+    ∷ (0, Read 256, Got (hex "0c720000 02724080 0000000000000000 0000000000000000 01000000 00000000 c8000000 d0070000 3000000000000000 1000000000000000 0000010000000000 3000010000000000") (HOBJ ++ HOBJ2) (hex "00000000000000001800000000000000"))
+    ∷ (0, act (bc.Increfs 2), Accepted)
+    ∷ (0, reply 0 0 HOBJ (0 ∷ []), Accepted)
+    ∷ (0, act (bc.FreeBuffer 65536), Accepted)
+    ∷ (2, Read 256, Refused fault.Again)
+    ∷ (1, ExitThread, Exited)
+    ∷ (2, Read 256, Got (hex "0c720000 07721080 0810000000000000 0820000000000000") [] [])
+    ∷ (2, act (bc.IncrefsDone 4096 8192), Noted note.NoSuchObject) ∷ [])
 
 -- A WEAK_BINDER is known by its ptr as a BINDER is: another cookie is refused (X11), also where the ptr stands earlier
 -- in the same parcel only, whichever of the two is weak. With one cookie both are one object.
 abbrev pub weak_binder_with_another_cookie : Type 0
 weak_binder_with_another_cookie =
-    Runs ((1, tx 0 1 1 OBJ (0 ∷ []))
-    ∷ (1, tx 0 1 1 WOBJX (0 ∷ []))
-    ∷ (1, tx 0 1 1 (OBJ2 ++ WOBJ2X) (0 ∷ 24 ∷ []))
-    ∷ (1, tx 0 1 1 (WOBJ2 ++ OBJ2X) (0 ∷ 24 ∷ []))
-    ∷ (1, tx 0 1 1 (WOBJ2 ++ WOBJ2X) (0 ∷ 24 ∷ []))
-    ∷ (1, tx 0 1 1 (WOBJ2 ++ OBJ2) (0 ∷ 24 ∷ []))
-    ∷ (1, Read 256) ∷ [])
-    (Accepted
-    ∷ Stopped cause.OtherCookie
-    ∷ Stopped cause.OtherCookie
-    ∷ Stopped cause.OtherCookie
-    ∷ Stopped cause.OtherCookie
-    ∷ Accepted
-    ∷ Got (hex "0c720000 07721080 0010000000000000 0020000000000000 08721080 0010000000000000 0020000000000000 06720000 11720000 11720000 11720000 11720000 07721080 0810000000000000 0820000000000000 08721080 0810000000000000 0820000000000000 06720000") [] [] ∷ [])
+    Plays ((1, tx 0 1 1 OBJ (0 ∷ []), Accepted)
+    ∷ (1, tx 0 1 1 WOBJX (0 ∷ []), Stopped cause.OtherCookie)
+    ∷ (1, tx 0 1 1 (OBJ2 ++ WOBJ2X) (0 ∷ 24 ∷ []), Stopped cause.OtherCookie)
+    ∷ (1, tx 0 1 1 (WOBJ2 ++ OBJ2X) (0 ∷ 24 ∷ []), Stopped cause.OtherCookie)
+    ∷ (1, tx 0 1 1 (WOBJ2 ++ WOBJ2X) (0 ∷ 24 ∷ []), Stopped cause.OtherCookie)
+    ∷ (1, tx 0 1 1 (WOBJ2 ++ OBJ2) (0 ∷ 24 ∷ []), Accepted)
+    ∷ (1, Read 256, Got (hex "0c720000 07721080 0010000000000000 0020000000000000 08721080 0010000000000000 0020000000000000 06720000 11720000 11720000 11720000 11720000 07721080 0810000000000000 0820000000000000 08721080 0810000000000000 0820000000000000 06720000") [] []) ∷ [])
 
 -- The second BINDER begins in the cookie of the first, at 20. Each may stand alone; both together may not, in either
 -- order, nor one of them twice (X9). What stands at no offset crosses as plain bytes.
 abbrev pub objects_inside_one_another : Type 0
 objects_inside_one_another =
-    Runs ((1, tx 0 1 1 nested (0 ∷ 20 ∷ []))
-    ∷ (1, tx 0 1 1 nested (20 ∷ 0 ∷ []))
-    ∷ (1, tx 0 1 1 nested (20 ∷ 20 ∷ []))
-    ∷ (1, tx 0 1 1 nested (0 ∷ []))
-    ∷ (1, tx 0 1 1 nested (20 ∷ []))
-    ∷ (0, Read 256) ∷ [])
-    (Stopped cause.BadObject
-    ∷ Stopped cause.BadObject
-    ∷ Stopped cause.BadObject
-    ∷ Accepted
-    ∷ Accepted
-    ∷ Got (hex "0c720000 02724080 0000000000000000 0000000000000000 01000000 01000000 00000000 d0070000 2c00000000000000 0800000000000000 0000010000000000 3000010000000000") (HOBJ ++ hex "0000000008100000000000000820000000000000") (hex "0000000000000000") ∷ [])
+    Plays ((1, tx 0 1 1 nested (0 ∷ 20 ∷ []), Stopped cause.BadObject)
+    ∷ (1, tx 0 1 1 nested (20 ∷ 0 ∷ []), Stopped cause.BadObject)
+    ∷ (1, tx 0 1 1 nested (20 ∷ 20 ∷ []), Stopped cause.BadObject)
+    ∷ (1, tx 0 1 1 nested (0 ∷ []), Accepted)
+    ∷ (1, tx 0 1 1 nested (20 ∷ []), Accepted)
+    ∷ (0, Read 256, Got (hex "0c720000 02724080 0000000000000000 0000000000000000 01000000 01000000 00000000 d0070000 2c00000000000000 0800000000000000 0000010000000000 3000010000000000") (HOBJ ++ hex "0000000008100000000000000820000000000000") (hex "0000000000000000")) ∷ [])
 
 -- FD, FDA and PTR with 20 bytes where 24 are asked for are bad (X9), and unsupported only when whole (X10). So is a
 -- whole FD that is misplaced: at 2, or inside the BINDER before it.
 abbrev pub unsupported_objects_cut_short : Type 0
 unsupported_objects_cut_short =
-    Runs ((1, tx 0 1 1 (hex "852a646600000000000000000000000000000000") (0 ∷ []))
-    ∷ (1, tx 0 1 1 (hex "8561646600000000000000000000000000000000") (0 ∷ []))
-    ∷ (1, tx 0 1 1 (hex "852a747000000000000000000000000000000000") (0 ∷ []))
-    ∷ (1, tx 0 1 1 (hex "852a64660000000000000000000000000000000000000000") (0 ∷ []))
-    ∷ (1, tx 0 1 1 (hex "856164660000000000000000000000000000000000000000") (0 ∷ []))
-    ∷ (1, tx 0 1 1 (hex "852a74700000000000000000000000000000000000000000") (0 ∷ []))
-    ∷ (1, tx 0 1 1 (hex "0000852a64660000000000000000000000000000000000000000") (2 ∷ []))
-    ∷ (1, tx 0 1 1 (hex "852a627300000000001000000000000000200000" ++ hex "852a64660000000000000000000000000000000000000000") (0 ∷ 20 ∷ [])) ∷ [])
-    (Stopped cause.BadObject
-    ∷ Stopped cause.BadObject
-    ∷ Stopped cause.BadObject
-    ∷ Stopped cause.UnsupportedObject
-    ∷ Stopped cause.UnsupportedObject
-    ∷ Stopped cause.UnsupportedObject
-    ∷ Stopped cause.BadObject
-    ∷ Stopped cause.BadObject ∷ [])
+    Plays ((1, tx 0 1 1 (hex "852a646600000000000000000000000000000000") (0 ∷ []), Stopped cause.BadObject)
+    ∷ (1, tx 0 1 1 (hex "8561646600000000000000000000000000000000") (0 ∷ []), Stopped cause.BadObject)
+    ∷ (1, tx 0 1 1 (hex "852a747000000000000000000000000000000000") (0 ∷ []), Stopped cause.BadObject)
+    ∷ (1, tx 0 1 1 (hex "852a64660000000000000000000000000000000000000000") (0 ∷ []), Stopped cause.UnsupportedObject)
+    ∷ (1, tx 0 1 1 (hex "856164660000000000000000000000000000000000000000") (0 ∷ []), Stopped cause.UnsupportedObject)
+    ∷ (1, tx 0 1 1 (hex "852a74700000000000000000000000000000000000000000") (0 ∷ []), Stopped cause.UnsupportedObject)
+    ∷ (1, tx 0 1 1 (hex "0000852a64660000000000000000000000000000000000000000") (2 ∷ []), Stopped cause.BadObject)
+    ∷ (1, tx 0 1 1 (hex "852a627300000000001000000000000000200000" ++ hex "852a64660000000000000000000000000000000000000000") (0 ∷ 20 ∷ []), Stopped cause.BadObject) ∷ [])
 
 -- one buffer is handed out, one waits for its turn, and then their process ends
 abbrev pub window_ends : List (ℕ × Step)
@@ -240,15 +187,15 @@ window_of_a_process_that_ended =
     ∷ (1, tx 0 3 1 (zeros 2048) [])
     ∷ (0, Read 256) ∷ [])
     (Accepted
-    ∷ Got (hex "0c720000 07721080 0010000000000000 0020000000000000 08721080 0010000000000000 0020000000000000 06720000") [] []
-    ∷ Got (hex "0c720000 02724080 0000000000000000 0000000000000000 01000000 01000000 00000000 d0070000 1800000000000000 0800000000000000 0000010000000000 1800010000000000") HOBJ (hex "0000000000000000")
+    ∷ told_read
+    ∷ object_read
     ∷ Accepted
     ∷ Accepted
     ∷ Accepted
     ∷ Exited
     ∷ Accepted
-    ∷ Got (hex "0c720000 06720000") [] []
-    ∷ Got (hex "0c720000 09721080 0010000000000000 0020000000000000 0a721080 0010000000000000 0020000000000000") [] []
+    ∷ complete_read
+    ∷ untold_read
     ∷ Opened
     ∷ Set
     ∷ Accepted

@@ -3,7 +3,7 @@ use Rattle.std.specs.Prelude.{ℕ, ◌≡◌, List, map}
 use Rattle.bd_space.specs.declared.step.StepAnswer.{StepAnswer}
 use Rattle.bd_space.specs.declared.step.Step.{Step}
 use Rattle.bd_space.specs.Space.{opening}
-use Rattle.bd_space.specs.Histories.{answers}
+use Rattle.bd_examples.specs.Playing.{answers}
 
 -- a seat's step and its answer
 abbrev pub asked : ℕ × Step × StepAnswer → ℕ × Step

@@ -1,11 +1,13 @@
 pub mod Script
+pub mod Playing
+pub mod Common
+pub mod Histories
 pub mod Worked
 pub mod Small
 pub mod Writes
 pub mod Edges
 pub mod Definitions
 pub mod Rules
-pub mod Histories
 pub mod WeakObjectsAndVerdicts
 pub mod DeadObjects
 pub mod FullWindows

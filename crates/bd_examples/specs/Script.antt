@@ -28,9 +28,6 @@ unhex (a ∷ b ∷ cs) = if a == 32 then unhex (b ∷ cs) else ((16 * digit a + 
 abbrev pub hex : String → List ℕ
 hex t = unhex (codes t)
 
-abbrev pub none : List ℕ
-none = []
-
 abbrev pub sending : ℕ → ℕ → ℕ → List ℕ → List ℕ → TransactionData
 sending target code flags bytes offsets = record {
   target = target;

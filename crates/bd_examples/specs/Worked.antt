@@ -1,5 +1,5 @@
 -- Worked examples.
-use Rattle.std.specs.Prelude.{ℕ, ◌≡◌, List, [], ◌∷◌, ◌++◌, length}
+use Rattle.std.specs.Prelude.{ℕ, ◌≡◌, List, [], ◌∷◌, ◌++◌, length, map}
 use Rattle.bd_uapi.specs.declared.command.Return.TheVariants as br
 use Rattle.bd_uapi.specs.declared.command.Command.TheVariants as bc
 use Rattle.bd_uapi.specs.declared.fault.Note.TheVariants as note
@@ -10,7 +10,8 @@ use Rattle.bd_space.specs.declared.step.StepAnswer.TheVariants.{Opened, Set, Exi
 use Rattle.bd_space.specs.declared.step.Step.{Step}
 use Rattle.bd_space.specs.declared.step.Step.TheVariants.{Open, Attach, Read, ExitThread, ExitProcess}
 use Rattle.bd_space.specs.Space.{opening}
-use Rattle.bd_space.specs.Histories.{answers}
+use Rattle.bd_examples.specs.Playing.{answers}
+use Rattle.bd_examples.specs.Histories.{asked, given}
 use Rattle.bd_examples.specs.Script.{hex, tx, reply, act, enter, base, OBJ, HOBJ, OBJ2, WOBJ, WHOBJ, zeros, seen, reads}
 
 abbrev pub opened : List StepAnswer
@@ -19,6 +20,10 @@ opened = Opened ∷ Set ∷ Accepted ∷ Opened ∷ []
 -- these steps after the base have these answers
 abbrev pub Runs : List (ℕ × Step) → List StepAnswer → Type 0
 Runs steps found = answers opening (base ++ steps) ≡ opened ++ found
+
+-- and so, each step with its answer
+abbrev pub Plays : List (ℕ × Step × StepAnswer) → Type 0
+Plays history = Runs (map asked history) (map given history)
 
 abbrev pub completes : StepAnswer
 completes = reads (br.TransactionComplete ∷ []) [] []

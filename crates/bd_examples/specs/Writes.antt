@@ -12,7 +12,7 @@ use Rattle.bd_space.specs.declared.step.Stop.TheVariants as stop
 use Rattle.bd_space.specs.declared.step.Answer.{Answer}
 use Rattle.bd_space.specs.declared.step.Answer.TheVariants.{Opened, Set, Wrote, Got, Refused}
 use Rattle.bd_space.specs.Space.{opening}
-use Rattle.bd_space.specs.Runs.{runs}
+use Rattle.bd_examples.specs.Playing.{runs}
 use Rattle.bd_examples.specs.Script.{hex, sending, WOBJ, WHOBJ}
 
 abbrev pub base_requests : List (ℕ × Request)

@@ -9,7 +9,7 @@ use crate::codes::{cause_with, fault_with, note_with};
 use crate::fault::ReadError;
 use crate::fields::{block_at, byte_at, bytes_at, word_at};
 use bd_codec::read_command;
-use bd_space::{Entries, Entry, Parcel, Record, Step, StepAnswer};
+use bd_space::{Entries, Entry, MOST_SEATS, Parcel, Record, Step, StepAnswer};
 use bd_uapi::Command;
 use std::alloc::Global;
 
@@ -17,9 +17,6 @@ use std::alloc::Global;
 pub const KIND: u32 = 0x4a44_4e42;
 
 pub const VERSION: u32 = 0x3130_3030;
-
-// The most seats of a driver.
-pub const MOST_SEATS: u32 = 16;
 
 // Whether a parcel can stand beside the command.
 pub fn carries_parcel(command: &Command) -> bool

@@ -10,9 +10,9 @@ ghost use Rattle.bd_journal.specs.Spelling.{IsBlock, IsParcel, IsStep, IsAnswer,
 use crate::codes::{cause_number, fault_number, note_number};
 use crate::commands::{command_len, send_command};
 use crate::fault::{Refused, WriteError};
-use crate::reading::{KIND, MOST_SEATS, VERSION, carries_parcel};
+use crate::reading::{KIND, VERSION, carries_parcel};
 use crate::sending::{send, send_all};
-use bd_space::{Bytes, Entry, Parcel, Record, Step, StepAnswer};
+use bd_space::{Bytes, Entry, MOST_SEATS, Parcel, Record, Step, StepAnswer};
 use bd_uapi::Command;
 use std::io::Write;
 

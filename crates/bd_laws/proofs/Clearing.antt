@@ -11,7 +11,8 @@ use Rattle.bd_space.specs.Space.{Space}
 use Rattle.bd_space.specs.Notices.{is_name_of}
 use Rattle.bd_space.specs.Todo.{owe}
 use Rattle.bd_space.specs.Turns.{turns_of}
-use Rattle.bd_space.specs.Deaths.{is_notification, without_death, mark_cleared, with_phase, death_ended, cleared, death_done, told_death, is_out}
+use Rattle.bd_space.specs.Deaths.{is_notification, without_death, with_phase}
+use Rattle.bd_space.specs.Clearing.{mark_cleared, death_ended, cleared, death_done, told_death, is_out}
 use Rattle.bd_space.specs.Outcomes.{completed}
 use Rattle.bd_laws.specs.Local.{no_name}
 use Rattle.bd_laws.specs.Lists.{In}

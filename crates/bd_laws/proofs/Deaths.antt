@@ -7,8 +7,9 @@ use Rattle.bd_space.specs.declared.space.WorkKind.TheVariants as work
 use Rattle.bd_space.specs.Space.{Space}
 use Rattle.bd_space.specs.Todo.{owe}
 use Rattle.bd_space.specs.References.{owned_in}
-use Rattle.bd_space.specs.Deaths.{with_phase, with_death, without_death, mark_cleared, requested, death_ended, cleared, death_done, owner_lives_in, is_out}
-use Rattle.bd_space.specs.Exits.{tell_death, tell_deaths, is_armed}
+use Rattle.bd_space.specs.Deaths.{with_phase, with_death, without_death, requested, owner_lives_in}
+use Rattle.bd_space.specs.Clearing.{mark_cleared, death_ended, cleared, death_done, is_out}
+use Rattle.bd_space.specs.ProcessExits.{tell_death, tell_deaths, is_armed}
 use Rattle.bd_laws.proofs.Lists.{fold-keeps}
 
 -- R holds with other notifications, and with one more item that tells of one

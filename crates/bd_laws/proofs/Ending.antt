@@ -22,7 +22,8 @@ use Rattle.bd_space.specs.Todo.{owe, is_on, same_list}
 use Rattle.bd_space.specs.Notices.{is_name_of, follow}
 use Rattle.bd_space.specs.Settle.{settle}
 use Rattle.bd_space.specs.Deaths.{is_notification, with_phase}
-use Rattle.bd_space.specs.Exits.{thread_goes, threads_go, without_process, tell_death, tell_deaths, is_armed, is_lost_reference, is_dropped_with, is_unread_on, unread_frame, seat_of}
+use Rattle.bd_space.specs.ThreadExits.{thread_goes, is_lost_reference, is_unread_on, unread_frame}
+use Rattle.bd_space.specs.ProcessExits.{threads_go, without_process, tell_death, tell_deaths, is_armed, is_dropped_with, seat_of}
 use Rattle.bd_laws.specs.Local.{no_name, follow_of, close_among, left_objects, seats_in, lists_in, lost_with_process, objects_ended, frames_ended}
 use Rattle.bd_laws.specs.Lists.{In}
 use Rattle.bd_laws.specs.Tidy.{IsTidy}

@@ -31,15 +31,18 @@ use Rattle.bd_space.specs.Delivery.{Delivery}
 use Rattle.bd_space.specs.Transactions.{transaction_step, transaction_outcome, transaction_check, transacted, refusal}
 use Rattle.bd_space.specs.Replies.{reply_step, reply_to, reply_outcome, reply_check, replied, reply_refused}
 use Rattle.bd_space.specs.Freeing.{free_step, free_outcome, buffer_at_pointer, without_buffer}
-use Rattle.bd_space.specs.Asking.{ask_step, ask_outcome, ask_check, ask, drop_step, drop_outcome, drop_asked, done_step, done_outcome, acknowledge}
-use Rattle.bd_space.specs.Deaths.{request_step, told_death, request_check, requested, cleared, death_done, request_outcome, clear_step, clear_outcome, death_done_step, death_done_outcome}
+use Rattle.bd_space.specs.Asking.{ask_step, ask_check, ask, drop_step, drop_asked, done_step, acknowledge}
+use Rattle.bd_space.specs.Deaths.{request_step, request_check, requested}
+use Rattle.bd_space.specs.Clearing.{told_death, cleared, death_done, clear_step, death_done_step, death_done_outcome}
 use Rattle.bd_space.specs.Commands.{command_step, with_looping}
 use Rattle.bd_space.specs.Notices.{follow}
-use Rattle.bd_space.specs.Reading.{read_step, read_taking, read_fault, read_by, taken}
-use Rattle.bd_space.specs.Exits.{thread_goes, threads_go, without_process, tell_deaths, exit_thread_step, exit_process_step}
+use Rattle.bd_space.specs.Reading.{read_step, read_taking, read_fault}
+use Rattle.bd_space.specs.ReadItems.{read_by, taken}
+use Rattle.bd_space.specs.ThreadExits.{thread_goes, exit_thread_step}
+use Rattle.bd_space.specs.ProcessExits.{threads_go, without_process, tell_deaths, exit_process_step}
 use Rattle.bd_space.specs.declared.step.StepAnswer.TheVariants.{Accepted, Noted}
 use Rattle.bd_uapi.specs.declared.fault.Note.TheVariants.{NotHandedOut}
-use Rattle.bd_space.specs.Outcomes.{Outcome, completed, refused}
+use Rattle.bd_space.specs.Outcomes.{Outcome, completed, refused, by_check}
 use Rattle.bd_space.specs.Steps.{change, open_step, open_outcome, open_fault, attach_step, attach_outcome, is_pid, is_window, manager_step, manager_outcome, is_manager_busy, by_actor, with_thread, with_process, with_manager}
 use Rattle.bd_laws.proofs.EveryStep.{IsAsking, IsAcknowledging}
 
@@ -123,23 +126,23 @@ module _ (s : Space) (seat : ℕ) (x : Step) (M F : Space → Type 0) (k : Endin
   frees-at p ptr (Some b) e = frees-if p ptr b e b.handed refl
 
   asks-for : (a : Actor) (n : ℕ) (strong : Bool) (r : Result ObjectId Note) → actor s seat ≡ Some a → IsAsking x n strong → ask_check s a.process.made n strong ≡ r
-      → F (ask_outcome s a.process.made strong r).space
+      → F (by_check s (λ o. ask s a.process.made o strong) r).space
   asks-for a n strong (Err m) e i t = k.same
   asks-for a n strong (Ok o) e i t = k.completes _ (k.asks a n strong o e i t)
 
-  drops-of : (p : ℕ) (strong : Bool) (r : Result ObjectId Note) → F (drop_outcome s p strong r).space
+  drops-of : (p : ℕ) (strong : Bool) (r : Result ObjectId Note) → F (by_check s (λ o. drop_asked s p o strong) r).space
   drops-of p strong (Err m) = k.same
   drops-of p strong (Ok o) = k.completes _ (k.drops p o strong)
 
-  acknowledges-of : (strong : Bool) (r : Result Object Note) → IsAcknowledging x strong → F (done_outcome s strong r).space
+  acknowledges-of : (strong : Bool) (r : Result Object Note) → IsAcknowledging x strong → F (by_check s (λ x. acknowledge s x.id strong) r).space
   acknowledges-of strong (Err m) i = k.same
   acknowledges-of strong (Ok o) i = k.completes _ (k.acknowledges o.id strong i)
 
-  requests-of : (p n cookie : ℕ) (r : Result ObjectId Note) → request_check s p n ≡ r → F (request_outcome s p cookie r).space
+  requests-of : (p n cookie : ℕ) (r : Result ObjectId Note) → request_check s p n ≡ r → F (by_check s (λ o. requested s p o cookie) r).space
   requests-of p n cookie (Err m) e = k.same
   requests-of p n cookie (Ok o) e = k.completes _ (k.requests p n cookie o e)
 
-  clears-of : (t : ℕ) (r : Result DeathNotification Note) → F (clear_outcome s t r).space
+  clears-of : (t : ℕ) (r : Result DeathNotification Note) → F (by_check s (cleared s t) r).space
   clears-of t (Err m) = k.same
   clears-of t (Ok y) = k.completes _ (k.clears t y)
 

@@ -40,8 +40,10 @@ use Rattle.bd_space.specs.Replies.{caller_of, reply_check, replied, reply_refuse
 use Rattle.bd_space.specs.Freeing.{without_buffer}
 use Rattle.bd_space.specs.Asking.{ask, drop_asked, acknowledge}
 use Rattle.bd_space.specs.Commands.{with_looping}
-use Rattle.bd_space.specs.Reading.{read_by, handshakes, handshakes_of, handshakes_for, returns_of, shakes}
-use Rattle.bd_space.specs.Exits.{thread_goes, threads_go, without_process, seat_of, is_lost_reference, is_dropped_with}
+use Rattle.bd_space.specs.ReadItems.{read_by, handshakes, handshakes_of, handshakes_for, shakes}
+use Rattle.bd_space.specs.Returns.{returns_of}
+use Rattle.bd_space.specs.ThreadExits.{thread_goes, is_lost_reference}
+use Rattle.bd_space.specs.ProcessExits.{threads_go, without_process, seat_of, is_dropped_with}
 use Rattle.bd_space.specs.Steps.{change, counted, with_thread, with_process, with_manager}
 use Rattle.bd_space.specs.Histories.{next}
 use Rattle.bd_laws.specs.Lists.{In, Pairs}

@@ -36,8 +36,10 @@ use Rattle.bd_space.specs.Settle.{settle, is_abandoned}
 use Rattle.bd_space.specs.Replies.{reply_refused}
 use Rattle.bd_space.specs.Transactions.{refusal}
 use Rattle.bd_space.specs.Freeing.{is_made_at}
-use Rattle.bd_space.specs.Reading.{read_by, taken, buffer_taken, buffer_in, hand_out, handed_buffers, serve, ends_read, bytes_read}
-use Rattle.bd_space.specs.Exits.{thread_goes, threads_go, without_process, tell_deaths, is_lost_with, seat_of}
+use Rattle.bd_space.specs.ReadItems.{read_by, taken, buffer_taken, hand_out, handed_buffers, serve, ends_read}
+use Rattle.bd_space.specs.Returns.{buffer_in, bytes_read}
+use Rattle.bd_space.specs.ThreadExits.{thread_goes, is_lost_with}
+use Rattle.bd_space.specs.ProcessExits.{threads_go, without_process, tell_deaths, seat_of}
 use Rattle.bd_space.specs.Steps.{change, counted, with_thread, with_process, with_manager}
 use Rattle.bd_space.specs.Histories.{History, next, space_after}
 use Rattle.bd_laws.specs.Lists.{In, Pairs}

@@ -42,10 +42,12 @@ use Rattle.bd_space.specs.Transactions.{transacted, called, call_out, refusal}
 use Rattle.bd_space.specs.Replies.{replied, reply_refused}
 use Rattle.bd_space.specs.Freeing.{without_buffer}
 use Rattle.bd_space.specs.Asking.{ask, drop_asked, acknowledge}
-use Rattle.bd_space.specs.Deaths.{request_check, request_note, requested, with_death, without_death, mark_cleared, death_ended, cleared, death_done, with_phase, is_notification, is_out, owner_lives_in}
+use Rattle.bd_space.specs.Deaths.{request_check, request_note, requested, with_death, without_death, with_phase, is_notification, owner_lives_in}
+use Rattle.bd_space.specs.Clearing.{mark_cleared, death_ended, cleared, death_done, is_out}
 use Rattle.bd_space.specs.Commands.{with_looping}
-use Rattle.bd_space.specs.Reading.{read_by}
-use Rattle.bd_space.specs.Exits.{thread_goes, threads_go, without_process, tell_death, tell_deaths, seat_of, is_armed, is_lost_with, is_lost_reference, is_dropped_with}
+use Rattle.bd_space.specs.ReadItems.{read_by}
+use Rattle.bd_space.specs.ThreadExits.{thread_goes, is_lost_with, is_lost_reference}
+use Rattle.bd_space.specs.ProcessExits.{threads_go, without_process, tell_death, tell_deaths, seat_of, is_armed, is_dropped_with}
 use Rattle.bd_space.specs.Steps.{change, counted, with_thread, with_process, with_manager}
 use Rattle.bd_space.specs.Histories.{next}
 use Rattle.bd_laws.specs.Lists.{In}

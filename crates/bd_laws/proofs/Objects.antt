@@ -26,8 +26,10 @@ use Rattle.bd_space.specs.Transactions.{transaction_check}
 use Rattle.bd_space.specs.Replies.{reply_check}
 use Rattle.bd_space.specs.Asking.{ask_check, ask, drop_asked, acknowledge}
 use Rattle.bd_space.specs.Freeing.{without_buffer}
-use Rattle.bd_space.specs.Exits.{thread_goes, threads_go, without_process, is_lost_reference, is_dropped_with, manager_without, seat_of}
-use Rattle.bd_space.specs.Reading.{read_by, handshakes, handshakes_of, handshakes_for, returns_of, returns_of_object, shakes, told_objects, told_of, is_told_by}
+use Rattle.bd_space.specs.ThreadExits.{thread_goes, is_lost_reference}
+use Rattle.bd_space.specs.ProcessExits.{threads_go, without_process, is_dropped_with, manager_without, seat_of}
+use Rattle.bd_space.specs.ReadItems.{read_by, handshakes, handshakes_of, handshakes_for, shakes, told_objects, told_of, is_told_by}
+use Rattle.bd_space.specs.Returns.{returns_of, returns_of_object}
 use Rattle.bd_space.specs.Steps.{with_thread, with_process, with_manager}
 use Rattle.bd_laws.specs.Lists.{In, Pairs}
 use Rattle.bd_laws.specs.Objects.{Here, Differ, Kept, Named, KeptBefore}

@@ -28,7 +28,8 @@ use Rattle.bd_space.specs.Replies.{replied}
 use Rattle.bd_space.specs.References.{objects_go, object_in}
 use Rattle.bd_space.specs.declared.space.Thread.{Thread}
 use Rattle.bd_space.specs.Freeing.{without_buffer, is_made_at}
-use Rattle.bd_space.specs.Exits.{thread_goes, threads_go, without_process, tell_deaths, is_lost_with, seat_of}
+use Rattle.bd_space.specs.ThreadExits.{thread_goes, is_lost_with}
+use Rattle.bd_space.specs.ProcessExits.{threads_go, without_process, tell_deaths, seat_of}
 use Rattle.bd_space.specs.Steps.{with_thread, with_process, with_manager}
 use Rattle.bd_space.specs.Asking.{ask, drop_asked, acknowledge}
 use Rattle.bd_space.specs.Commands.{with_looping}

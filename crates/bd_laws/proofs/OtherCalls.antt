@@ -38,8 +38,9 @@ use Rattle.bd_space.specs.Replies.{replied, reply_refused}
 use Rattle.bd_space.specs.Freeing.{without_buffer}
 use Rattle.bd_space.specs.Asking.{ask, drop_asked, acknowledge}
 use Rattle.bd_space.specs.Commands.{with_looping}
-use Rattle.bd_space.specs.Reading.{read_by, serve}
-use Rattle.bd_space.specs.Exits.{thread_goes, threads_go, without_process, seat_of, frame_without, unread_frame}
+use Rattle.bd_space.specs.ReadItems.{read_by, serve}
+use Rattle.bd_space.specs.ThreadExits.{thread_goes, frame_without, unread_frame}
+use Rattle.bd_space.specs.ProcessExits.{threads_go, without_process, seat_of}
 use Rattle.bd_space.specs.Steps.{counted, with_thread, with_process, with_manager}
 use Rattle.bd_space.specs.Histories.{next}
 use Rattle.bd_laws.specs.Lists.{In}

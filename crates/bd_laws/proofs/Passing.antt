@@ -33,8 +33,9 @@ use Rattle.bd_space.specs.Transactions.{transaction_check, transacted, called, c
 use Rattle.bd_space.specs.Replies.{reply_check, replied}
 use Rattle.bd_space.specs.Freeing.{without_buffer, is_made_at, is_buffer_at, buffer_at_pointer}
 use Rattle.bd_space.specs.Asking.{ask, drop_asked, acknowledge}
-use Rattle.bd_space.specs.Exits.{thread_goes, threads_go, without_process, tell_deaths, is_lost_with, seat_of}
-use Rattle.bd_space.specs.Reading.{taken, read_by, buffer_taken, hand_out, handed_buffers, told_of, is_told_by}
+use Rattle.bd_space.specs.ThreadExits.{thread_goes, is_lost_with}
+use Rattle.bd_space.specs.ProcessExits.{threads_go, without_process, tell_deaths, seat_of}
+use Rattle.bd_space.specs.ReadItems.{taken, read_by, buffer_taken, hand_out, handed_buffers, told_of, is_told_by}
 use Rattle.bd_space.specs.Steps.{change, with_thread, with_process, with_manager}
 use Rattle.bd_laws.specs.Lists.{In, Pairs}
 use Rattle.bd_laws.specs.OneWayCalls.{Due, Waits, InTurn, On, OnLists}

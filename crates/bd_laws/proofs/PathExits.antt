@@ -9,7 +9,8 @@ use Rattle.bd_space.specs.declared.space.Server.TheVariants.{Serving, Gone}
 use Rattle.bd_space.specs.declared.space.TodoList.TheVariants.{OfThread, OfProcess}
 use Rattle.bd_space.specs.Space.{Space}
 use Rattle.bd_space.specs.Todo.{is_on, same_list}
-use Rattle.bd_space.specs.Exits.{thread_goes, threads_go, without_process, tell_deaths, seat_of, gone_caller, gone_server, unread_server, frame_without, unread_frame}
+use Rattle.bd_space.specs.ThreadExits.{thread_goes, gone_caller, gone_server, unread_server, frame_without, unread_frame}
+use Rattle.bd_space.specs.ProcessExits.{threads_go, without_process, tell_deaths, seat_of}
 use Rattle.bd_laws.specs.Lists.{In}
 use Rattle.bd_laws.specs.Frames.{Part, Nested, OnPaths}
 use Rattle.bd_laws.proofs.Lists.{in-filter}

@@ -20,7 +20,8 @@ use Rattle.bd_space.specs.Frames.{innermost_in}
 use Rattle.bd_space.specs.Todo.{with_work, list_to_read, work_on, has_work_in, is_on, is_call, same_list, is_item}
 use Rattle.bd_space.specs.Turns.{ripen, ripened, is_ripe, turns_of, turn_of}
 use Rattle.bd_space.specs.Freeing.{is_made_at}
-use Rattle.bd_space.specs.Reading.{taken, read_by, serve, hand_out, handed_buffers, buffer_taken, bytes_read, ends_read}
+use Rattle.bd_space.specs.ReadItems.{taken, read_by, serve, hand_out, handed_buffers, buffer_taken, ends_read}
+use Rattle.bd_space.specs.Returns.{bytes_read}
 use Rattle.bd_laws.specs.Lists.{In}
 use Rattle.bd_laws.specs.Frames.{Forest, Part, Nested, OnPaths}
 use Rattle.bd_laws.proofs.Lists.{in-filter, in-changed, in-filter_map, any-found, any-in}

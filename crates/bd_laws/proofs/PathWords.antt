@@ -13,7 +13,7 @@ use Rattle.bd_space.specs.Words.{same_identity}
 use Rattle.bd_space.specs.Space.{Space}
 use Rattle.bd_space.specs.Frames.{serves, innermost_in, served_innermost, if_served}
 use Rattle.bd_space.specs.Todo.{is_item, is_on, same_list}
-use Rattle.bd_space.specs.Exits.{is_unread_on, unread_server, gone_caller, gone_server}
+use Rattle.bd_space.specs.ThreadExits.{is_unread_on, unread_server, gone_caller, gone_server}
 use Rattle.bd_laws.proofs.Tests.{and-both}
 
 pub served-is : (s : Space) (seat : ℕ) (f : Frame) → served_innermost s seat ≡ Some f → (innermost_in s.frames seat ≡ Some f) × (f.server ≡ Serving seat)

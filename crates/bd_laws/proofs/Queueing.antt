@@ -38,10 +38,12 @@ use Rattle.bd_space.specs.Transactions.{transacted, called, call_out, refusal}
 use Rattle.bd_space.specs.Replies.{replied, reply_refused}
 use Rattle.bd_space.specs.Freeing.{without_buffer}
 use Rattle.bd_space.specs.Asking.{ask, drop_asked, acknowledge}
-use Rattle.bd_space.specs.Deaths.{is_notification, requested, with_death, without_death, mark_cleared, death_ended, cleared, death_done, with_phase, is_out, is_told, told_death, is_told_with, owner_lives_in}
+use Rattle.bd_space.specs.Deaths.{is_notification, requested, with_death, without_death, with_phase, owner_lives_in}
+use Rattle.bd_space.specs.Clearing.{mark_cleared, death_ended, cleared, death_done, is_out, is_told, told_death, is_told_with}
 use Rattle.bd_space.specs.Commands.{with_looping}
-use Rattle.bd_space.specs.Reading.{read_by, taken, is_told_of_death}
-use Rattle.bd_space.specs.Exits.{thread_goes, threads_go, without_process, tell_death, tell_deaths, seat_of, is_armed}
+use Rattle.bd_space.specs.ReadItems.{read_by, taken, is_told_of_death}
+use Rattle.bd_space.specs.ThreadExits.{thread_goes}
+use Rattle.bd_space.specs.ProcessExits.{threads_go, without_process, tell_death, tell_deaths, seat_of, is_armed}
 use Rattle.bd_space.specs.Steps.{change, counted, with_thread, with_process, with_manager}
 use Rattle.bd_space.specs.Histories.{next}
 use Rattle.bd_laws.specs.Lists.{In, Pairs}

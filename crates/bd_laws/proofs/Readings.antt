@@ -4,7 +4,7 @@ use Rattle.bd_space.specs.declared.space.Thread.{Thread}
 use Rattle.bd_space.specs.Space.{Space}
 use Rattle.bd_space.specs.Todo.{list_to_read}
 use Rattle.bd_space.specs.Notices.{follow}
-use Rattle.bd_space.specs.Reading.{read_by, taken, is_told_by}
+use Rattle.bd_space.specs.ReadItems.{read_by, taken, is_told_by}
 use Rattle.bd_space.specs.Histories.{History, space_after}
 use Rattle.bd_laws.specs.Local.{no_name, follow_of}
 use Rattle.bd_laws.specs.Items.{Distinct}

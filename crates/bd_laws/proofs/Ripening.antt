@@ -18,7 +18,8 @@ use Rattle.bd_space.specs.Space.{Space}
 use Rattle.bd_space.specs.Todo.{with_work, handed_over, is_call, is_on, work_on, reads_in, list_to_read, without_taken, is_item}
 use Rattle.bd_space.specs.Turns.{turn_of, turns_of, is_ripe, ripened, ripen}
 use Rattle.bd_space.specs.Freeing.{is_made_at}
-use Rattle.bd_space.specs.Reading.{buffer_in, bytes_read, ends_read, taken, buffer_taken, hand_out, handed_buffers, read_by}
+use Rattle.bd_space.specs.Returns.{buffer_in, bytes_read}
+use Rattle.bd_space.specs.ReadItems.{ends_read, taken, buffer_taken, hand_out, handed_buffers, read_by}
 use Rattle.bd_laws.specs.Lists.{In, Pairs}
 use Rattle.bd_laws.specs.OneWayCalls.{Due, Out, Waits, InTurn}
 use Rattle.bd_laws.proofs.Lists.{in-push, in-filter, in-right, in-append, in-changed, any-in, find-in, in-filter_map, filter_map-in, pairs-map, pairs-changed, pairs-either}

@@ -20,7 +20,8 @@ use Rattle.bd_space.specs.References.{object_in, owned_in, held_in, strong_in}
 use Rattle.bd_space.specs.Names.{is_named_in}
 use Rattle.bd_space.specs.Todo.{is_item, is_notice, notice_of, list_to_read, without_taken}
 use Rattle.bd_space.specs.Notices.{wants_notice, is_name_of, follow}
-use Rattle.bd_space.specs.Reading.{read_by, taken, handshakes, handshakes_of, handshakes_for, returns_of, shakes, is_told_by, told_of, told_objects, told_deaths, is_told_of_death}
+use Rattle.bd_space.specs.ReadItems.{read_by, taken, handshakes, handshakes_of, handshakes_for, shakes, is_told_by, told_of, told_objects, told_deaths, is_told_of_death}
+use Rattle.bd_space.specs.Returns.{returns_of}
 use Rattle.bd_laws.specs.Local.{ObjectTest, no_name, follow_of}
 use Rattle.bd_laws.specs.Lists.{In}
 use Rattle.bd_laws.specs.Quiet.{Elsewhere, IsQuiet}

@@ -13,7 +13,7 @@ use Rattle.bd_space.specs.Notices.{notify, work_goes, deaths_go}
 use Rattle.bd_space.specs.Delivery.{own_notices}
 use Rattle.bd_space.specs.Transactions.{called, call_out}
 use Rattle.bd_space.specs.Commands.{with_looping}
-use Rattle.bd_space.specs.Exits.{tell_deaths}
+use Rattle.bd_space.specs.ProcessExits.{tell_deaths}
 use Rattle.bd_laws.proofs.Deaths.{OnDeaths, KeptOnDeaths, on-kept, on-told}
 
 pub record Untouched (z y : Space) : Type 0 where

@@ -17,7 +17,8 @@ use Rattle.bd_space.specs.Space.{Space}
 use Rattle.bd_space.specs.declared.space.Reference.{Reference}
 use Rattle.bd_space.specs.declared.space.Item.{Item}
 use Rattle.bd_space.specs.References.{stays_in, names_for, owned_in}
-use Rattle.bd_space.specs.Exits.{is_unread_on, is_lost_reference, is_dropped_with, seat_of}
+use Rattle.bd_space.specs.ThreadExits.{is_unread_on, is_lost_reference}
+use Rattle.bd_space.specs.ProcessExits.{is_dropped_with, seat_of}
 use Rattle.bd_space.specs.Names.{is_named_in}
 use Rattle.bd_space.specs.declared.space.Turn.{Turn}
 use Rattle.bd_space.specs.Todo.{with_work, is_call, is_notice, is_on, tell_caller}

@@ -3,7 +3,7 @@ use Rattle.std.proofs.Common.{◌≡◌, ℕ, suc, ◌+◌, ◌-◌, ◌<◌, �
 use Rattle.bd_space.specs.declared.space.Reference.{Reference}
 use Rattle.bd_space.specs.declared.space.Work.{Work}
 use Rattle.bd_space.specs.Space.{Space}
-use Rattle.bd_space.specs.Reading.{handshakes, handshakes_of}
+use Rattle.bd_space.specs.ReadItems.{handshakes, handshakes_of}
 
 pub handshakes-more : (s : Space) (ws : List Work) (refs new base : List Reference) (before i : ℕ) (d : Work) → i < length ws → before ≤ length refs
     → new ≡ refs ++ handshakes_of s (length refs - before) (get_or ws i d).kind

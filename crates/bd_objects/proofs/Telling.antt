@@ -14,7 +14,7 @@ use Rattle.bd_space.specs.Space.{Space}
 use Rattle.bd_space.specs.References.{owned_in}
 use Rattle.bd_space.specs.Deaths.{is_notification, with_phase}
 use Rattle.bd_space.specs.Todo.{owe}
-use Rattle.bd_space.specs.Exits.{is_armed, tell_death}
+use Rattle.bd_space.specs.ProcessExits.{is_armed, tell_death}
 
 module _ {A : Type 0} (f : A → A) where
   none : (p : A → Bool) (xs : List A) → ((x : A) → p x ≡ false) → changed p f xs ≡ xs

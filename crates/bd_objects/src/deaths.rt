@@ -3,8 +3,9 @@
 ghost use Rattle.std.specs.Prelude.{◌≡◌, ◌==◌, ◌≤◌, ◌||◌, ◌&&◌, not, filter, find, length, slice_get, vec_len, vec_capacity, Option, true};
 ghost use Rattle.std.specs.List.{list_any};
 ghost use Rattle.bd_space.specs.Deaths as deaths_of;
+ghost use Rattle.bd_space.specs.Clearing as clearing;
 ghost use Rattle.bd_space.specs.Notices as notices;
-ghost use Rattle.bd_space.specs.Exits as exits;
+ghost use Rattle.bd_space.specs.ProcessExits as exits;
 ghost use Rattle.bd_space.specs.Words.{changed};
 ghost use Rattle.bd_space.specs.References.{owned_in as owned_in_list};
 ghost use Rattle.bd_space.specs.declared.space.Phase.TheVariants.{Queued};
@@ -44,7 +45,7 @@ fn uncleared_in(deaths: &[DeathNotification], p: u32, o: ObjectId) -> Option<Dea
 }
 
 fn is_told(phase: Phase) -> bool
-    ensures { result ≡ deaths_of.is_told phase }
+    ensures { result ≡ clearing.is_told phase }
 {
     matches!(phase, Phase::Told)
 }
@@ -56,7 +57,7 @@ fn is_armed(phase: Phase) -> bool
 }
 
 fn told_death_in(deaths: &[DeathNotification], p: u32, cookie: u64) -> Option<DeathNotification>
-    ensures { result ≡ find (deaths_of.is_told_with p cookie) deaths.now }
+    ensures { result ≡ find (clearing.is_told_with p cookie) deaths.now }
 {
     deaths.iter().copied().find(|x| is_told(x.phase) && x.process == p && x.cookie == cookie)
 }
@@ -182,9 +183,9 @@ impl ObjectTable {
 
     /// The uncleared notification on the process's name with this number. Errors: no such number, or no notification with
     /// this cookie.
-    #[tactic(auto, unfolding(bd_space::specs::Deaths::clear_check, bd_space::specs::Names::named))]
+    #[tactic(auto, unfolding(bd_space::specs::Clearing::clear_check, bd_space::specs::Names::named))]
     pub fn clear_check(&self, p: u32, n: u32, cookie: u64) -> Result<DeathNotification, Note>
-        ensures { (s : Space) → StandsFor self.now s → result ≡ deaths_of.clear_check s p n cookie }
+        ensures { (s : Space) → StandsFor self.now s → result ≡ clearing.clear_check s p n cookie }
     {
         let o = named_in(self.names.as_slice(), p, n).ok_or(Note::NoSuchNumber)?;
         let x = uncleared_in(self.deaths.as_slice(), p, o).ok_or(Note::NoneAsked)?;
@@ -195,9 +196,9 @@ impl ObjectTable {
     }
 
     /// Marks the notification as cleared.
-    #[tactic(auto, unfolding(bd_space::specs::Deaths::mark_cleared, crate::specs::Room::rooms))]
+    #[tactic(auto, unfolding(bd_space::specs::Clearing::mark_cleared, crate::specs::Room::rooms))]
     pub fn mark_cleared(&mut self, made: u32)
-        ensures stands { (s : Space) → StandsFor self.old s → StandsFor self.new (deaths_of.mark_cleared s made) }
+        ensures stands { (s : Space) → StandsFor self.old s → StandsFor self.new (clearing.mark_cleared s made) }
         ensures takes { Takes self.old self.new 0 0 0 0 }
     {
         mark(&mut self.deaths, made);
@@ -222,9 +223,9 @@ impl ObjectTable {
     }
 
     /// The least told notification of the process with this cookie.
-    #[tactic(auto, unfolding(bd_space::specs::Deaths::told_death))]
+    #[tactic(auto, unfolding(bd_space::specs::Clearing::told_death))]
     pub fn told_death(&self, p: u32, cookie: u64) -> Option<DeathNotification>
-        ensures { (s : Space) → StandsFor self.now s → result ≡ deaths_of.told_death s p cookie }
+        ensures { (s : Space) → StandsFor self.now s → result ≡ clearing.told_death s p cookie }
     {
         told_death_in(self.deaths.as_slice(), p, cookie)
     }

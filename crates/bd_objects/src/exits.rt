@@ -3,7 +3,8 @@
 ghost use Rattle.std.specs.Prelude.{◌≡◌, ◌==◌, ◌≤◌, ◌||◌, ◌&&◌, ℕ, Bool, not, filter, vec_len, vec_capacity, Option};
 ghost use Rattle.bd_space.specs.Words.{is_some_and};
 ghost use Rattle.bd_space.specs.References as refer;
-ghost use Rattle.bd_space.specs.Exits as exits;
+ghost use Rattle.bd_space.specs.ProcessExits as exits;
+ghost use Rattle.bd_space.specs.ThreadExits as thread_exits;
 
 use crate::asking::is_asked_by;
 use crate::objects::owned_in;
@@ -92,19 +93,19 @@ impl ObjectTable {
     ghost use Rattle.bd_objects.specs.Room.{Takes};
 
     /// The references go of the buffers that are lost with the thread of a seat; the caller says which those are.
-    #[tactic(auto, unfolding(bd_space::specs::Exits::thread_goes, crate::specs::Room::rooms))]
+    #[tactic(auto, unfolding(bd_space::specs::ThreadExits::thread_goes, crate::specs::Room::rooms))]
     pub fn thread_goes<F: Fn(u32) -> bool>(&mut self, lost: F)
         requires { F.IsAlwaysCallable lost }
         ensures stands { (s : Space) (seat : ℕ) → StandsFor self.old s
-            → ((b : ℕ) (r : Bool) → F.post lost b r → r ≡ exits.is_lost_with s.todo (OfThread seat) b)
-            → StandsFor self.new (exits.thread_goes s seat) }
+            → ((b : ℕ) (r : Bool) → F.post lost b r → r ≡ thread_exits.is_lost_with s.todo (OfThread seat) b)
+            → StandsFor self.new (thread_exits.thread_goes s seat) }
         ensures takes { Takes self.old self.new 0 0 0 0 }
     {
         drop_lost(&mut self.references, lost);
     }
 
     /// The references, names and death notifications go that go with the process.
-    #[tactic(auto, unfolding(bd_space::specs::Exits::without_process, crate::specs::Room::rooms))]
+    #[tactic(auto, unfolding(bd_space::specs::ProcessExits::without_process, crate::specs::Room::rooms))]
     pub fn without_process(&mut self, p: u32)
         ensures stands { (s : Space) → StandsFor self.old s → StandsFor self.new (exits.without_process s p) }
         ensures takes { Takes self.old self.new 0 0 0 0 }

@@ -4,7 +4,7 @@ ghost use Rattle.std.specs.Prelude.{◌≡◌, ◌==◌, ◌≤◌, ◌<◌, ◌
 ghost use Rattle.bd_space.specs.Words as words;
 ghost use Rattle.bd_space.specs.Seats as seats;
 ghost use Rattle.bd_space.specs.References as refer;
-ghost use Rattle.bd_space.specs.Exits as exits;
+ghost use Rattle.bd_space.specs.ProcessExits as exits;
 
 use crate::references::held_in;
 use crate::table::ObjectTable;

@@ -64,13 +64,6 @@ impl ObjectTable {
     ghost use Rattle.bd_objects.specs.Stands.{StandsFor};
     ghost use Rattle.bd_objects.specs.Room.{Takes};
 
-    /// Whether anything refers to the object.
-    pub fn is_held(&self, o: ObjectId) -> bool
-        ensures { (s : Space) → StandsFor self.now s → result ≡ refer.held_in s.references o }
-    {
-        held_in(self.references.as_slice(), o)
-    }
-
     /// Whether anything refers to it strongly.
     pub fn is_strong(&self, o: ObjectId) -> bool
         ensures { (s : Space) → StandsFor self.now s → result ≡ refer.strong_in s.references o }

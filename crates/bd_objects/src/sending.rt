@@ -5,6 +5,7 @@ ghost use Rattle.bd_space.specs.Words as words;
 ghost use Rattle.bd_space.specs.References as refer;
 ghost use Rattle.bd_space.specs.Parcels as parcels;
 ghost use Rattle.bd_space.specs.Delivery as delivery;
+ghost use Rattle.bd_space.specs.Translation as translations;
 ghost use Rattle.bd_space.specs.declared.step.ObjectId.{ObjectId};
 
 use crate::names::{named_in, number_in};
@@ -78,7 +79,7 @@ fn own_object(objects: &[Object], p: u32, o: ObjectId) -> Option<Object>
 
 /// As its owner sees the object.
 fn as_own(x: &FlatObject, o: &Object) -> FlatObject
-    ensures { result ≡ delivery.as_own x.now o.now }
+    ensures { result ≡ translations.as_own x.now o.now }
 {
     FlatObject {
         kind: if is_strong_kind(x.kind) {
@@ -94,7 +95,7 @@ fn as_own(x: &FlatObject, o: &Object) -> FlatObject
 
 /// As anybody else sees it.
 fn as_handle(x: &FlatObject, n: u32) -> FlatObject
-    ensures { result ≡ delivery.as_handle x.now n }
+    ensures { result ≡ translations.as_handle x.now n }
 {
     FlatObject {
         kind: if is_strong_kind(x.kind) {
@@ -239,7 +240,7 @@ impl ObjectTable {
 
     /// The flat object as the process is to see it: its own by ptr and cookie, anybody else's by its number.
     pub fn translated(&self, q: u32, x: &Item) -> FlatObject
-        ensures { (s : Space) → StandsFor self.now s → result ≡ delivery.translated s.objects s.names q x.now }
+        ensures { (s : Space) → StandsFor self.now s → result ≡ translations.translated s.objects s.names q x.now }
     {
         match own_object(self.objects.as_slice(), q, x.object) {
             Some(o) => as_own(&x.flat, &o),

@@ -5,7 +5,8 @@ ghost use Rattle.std.specs.List.{flat_map};
 ghost use Rattle.bd_space.specs.Words.{changed, when, is_some_and, same as same_object};
 ghost use Rattle.bd_space.specs.Todo.{notice_of, death_of};
 ghost use Rattle.bd_space.specs.References as refer;
-ghost use Rattle.bd_space.specs.Reading as reading;
+ghost use Rattle.bd_space.specs.ReadItems as reading;
+ghost use Rattle.bd_space.specs.Returns as returns;
 ghost use Rattle.bd_space.specs.declared.space.Phase.TheVariants.{Told};
 ghost use Rattle.bd_space.specs.Space.{Space};
 ghost use Rattle.bd_space.specs.declared.space.Reference.{Reference};
@@ -28,7 +29,7 @@ fn return_when(test: bool, r: Return) -> Option<Return>
 
 /// What the owner of this object is told, by the references as they stand.
 fn notice_returns_of(references: &[Reference], x: &Object) -> [Option<Return>; 4]
-    ensures { flat_map reading.one result ≡ reading.notice_returns references.now x.now }
+    ensures { flat_map returns.one result ≡ returns.notice_returns references.now x.now }
 {
     let held = held_in(references, x.id);
     let strong = strong_in(references, x.id);
@@ -107,7 +108,7 @@ fn mark_told(deaths: &mut Vec<DeathNotification>, taken: &[Work])
 
 /// Whether the owner is to acknowledge the object weakly, and strongly, once it has read what it is to be told.
 fn acknowledgements(objects: &[Object], references: &[Reference], o: ObjectId) -> (bool, bool)
-    ensures { flat_map reading.shakes (reading.returns_of_object references.now (refer.object_in objects.now o))
+    ensures { flat_map reading.shakes (returns.returns_of_object references.now (refer.object_in objects.now o))
         ≡ (if result.0 then (false ∷ []) else []) ++ (if result.1 then (true ∷ []) else []) }
 {
     match object_in(objects, o) {
@@ -167,7 +168,7 @@ fn add_acknowledgements(
 
 /// The references that stand for what a work item leaves to be acknowledged. The first ones are those that stood before the
 /// reading.
-#[tactic(auto, unfolding(bd_space::specs::Reading::returns_of))]
+#[tactic(auto, unfolding(bd_space::specs::Returns::returns_of))]
 fn add_handshakes_of(
     references: &mut Vec<Reference>,
     before: usize,
@@ -212,8 +213,8 @@ impl ObjectTable {
     /// What the owner of the object is told: `BR_INCREFS`, `BR_ACQUIRE`, `BR_RELEASE` and `BR_DECREFS`, each if it is to
     /// be told that.
     pub fn notice_returns(&self, o: ObjectId) -> [Option<Return>; 4]
-        ensures { (s : Space) → StandsFor self.now s → flat_map reading.one result
-            ≡ reading.returns_of_object s.references (refer.object_in s.objects o) }
+        ensures { (s : Space) → StandsFor self.now s → flat_map returns.one result
+            ≡ returns.returns_of_object s.references (refer.object_in s.objects o) }
     {
         match object_in(self.objects.as_slice(), o) {
             Some(x) => notice_returns_of(self.references.as_slice(), &x),
@@ -223,7 +224,7 @@ impl ObjectTable {
 
     /// The references, told values and death notifications after these work items were read by the step of this place: a
     /// reference stands for each acknowledgement that is owed, owners know what is so, and the deaths are told.
-    #[tactic(auto, unfolding(bd_space::specs::Reading::read_by, crate::specs::Room::rooms))]
+    #[tactic(auto, unfolding(bd_space::specs::ReadItems::read_by, crate::specs::Room::rooms))]
     pub fn read_by(&mut self, place: u32, taken: &[Work])
         requires { 2 * length taken.now ≤ reference_room self.old }
         ensures stands { (s : Space) (seat : ℕ) → StandsFor self.old s → s.steps ≡ place → StandsFor self.new (reading.read_by s seat taken.now) }

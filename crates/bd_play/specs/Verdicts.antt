@@ -1,9 +1,9 @@
 -- What is said of a journal, and when that is so.
 use Rattle.std.specs.Prelude.{◌≡◌, ℕ, List, length}
 use Rattle.bd_space.specs.declared.record.Record.{Record}
-use Rattle.bd_space.specs.Histories.{IsHistory}
+use Rattle.bd_space.specs.Histories.{IsHistory, history_in}
 use Rattle.bd_journal.specs.Spelling.{IsJournal, journal_bytes}
-use Rattle.bd_audit.specs.Replays.{history_of, StopsAt}
+use Rattle.bd_audit.specs.Replays.{StopsAt}
 use Rattle.bd_play.specs.declared.verdicts.Verdict.{Verdict}
 use Rattle.bd_play.specs.declared.verdicts.Verdict.TheVariants.{Lawful, Unlawful}
 
@@ -12,8 +12,8 @@ abbrev pub Spells : List ℕ → Record → Type 0
 Spells bytes r = IsJournal r × (bytes ≡ journal_bytes r)
 
 abbrev pub Holds : Record → Verdict → Type 0
-Holds r (Lawful entries) = IsHistory (history_of r) × (entries ≡ length r.entries)
-Holds r (Unlawful at) = (IsHistory (history_of r) → ⊥) × StopsAt (history_of r) at
+Holds r (Lawful entries) = IsHistory (history_in r) × (entries ≡ length r.entries)
+Holds r (Unlawful at) = (IsHistory (history_in r) → ⊥) × StopsAt (history_in r) at
 
 -- the verdict holds of the record that the bytes spell
 abbrev pub IsVerdict : List ℕ → Verdict → Type 0

@@ -1,9 +1,9 @@
 //! What a journal's bytes are.
 
 ghost use Rattle.std.specs.Prelude.{◌≡◌, ◌≤◌, length, IfOk, IfErr};
-ghost use Rattle.bd_space.specs.Histories.{IsHistory};
+ghost use Rattle.bd_space.specs.Histories.{IsHistory, history_in};
 ghost use Rattle.bd_space.specs.declared.record.Record.{Record};
-ghost use Rattle.bd_audit.specs.Replays.{history_of, StopsAt};
+ghost use Rattle.bd_audit.specs.Replays.{StopsAt};
 ghost use Rattle.bd_play.specs.Verdicts.{IsVerdict, Holds, Spells};
 ghost use Rattle.bd_play.specs.declared.faults.Fault.TheVariants.{Journal};
 

@@ -8,12 +8,9 @@ ghost use Rattle.bd_script.specs.declared.script.Trouble.TheVariants.{Bad, Memor
 
 use crate::requests::verb_of;
 use crate::words::{is, number_in, words_of};
-use bd_space::Request;
+use bd_space::{MOST_SEATS, Request};
 use std::alloc::{AllocError, AllocFailed, Global};
 use thiserror::Error;
-
-/// The most seats of a driver.
-const MOST_SEATS: u32 = 16;
 
 /// What a line does.
 #[derive(Drop, Debug)]

@@ -1,5 +1,5 @@
 -- The steps of BC_INCREFS, BC_ACQUIRE, BC_RELEASE, BC_DECREFS, BC_INCREFS_DONE and BC_ACQUIRE_DONE.
-use Rattle.std.specs.Prelude.{ℕ, ◌==◌, Bool, not, ◌&&◌, [], ◌∷◌, ◌++◌, Option, Result, Ok, Err, find, if◌then◌else◌}
+use Rattle.std.specs.Prelude.{ℕ, ◌==◌, Bool, not, ◌&&◌, [], ◌∷◌, ◌++◌, Option, Result, find, if◌then◌else◌}
 use Rattle.std.specs.List.{list_any}
 use Rattle.bd_uapi.specs.declared.fault.Note.{Note}
 use Rattle.bd_uapi.specs.declared.fault.Note.TheVariants.{NoSuchNumber, NothingAsked, NotStrong, OwnManager, NoSuchObject, NoHandshake}
@@ -10,7 +10,7 @@ use Rattle.bd_space.specs.Words.{when, first_of, found_or, unless, and_then, wit
 use Rattle.bd_space.specs.Space.{Space}
 use Rattle.bd_space.specs.References.{reference_of, strong_in, owned_in, is_asking, is_shaking}
 use Rattle.bd_space.specs.Names.{named, assign_numbers}
-use Rattle.bd_space.specs.Outcomes.{Outcome, accepted, noted}
+use Rattle.bd_space.specs.Outcomes.{Outcome, by_check}
 
 -- ---- asking
 
@@ -34,12 +34,8 @@ ask_check s p n strong = and_then (found_or (asked_of s p n) NoSuchNumber) (λ o
 unfoldable pub ask : Space → ℕ → ObjectId → Bool → Space
 ask s p o strong = assign_numbers (record s { references = s.references ++ reference_of s.steps 0 o strong (Asked p) ∷ [] }) p (o ∷ [])
 
-abbrev pub ask_outcome : Space → ℕ → Bool → Result ObjectId Note → Outcome
-ask_outcome s p strong (Err n) = noted s n
-ask_outcome s p strong (Ok o) = accepted (ask s p o strong)
-
 unfoldable pub ask_step : Space → ℕ → ℕ → Bool → Outcome
-ask_step s p n strong = ask_outcome s p strong (ask_check s p n strong)
+ask_step s p n strong = by_check s (λ o. ask s p o strong) (ask_check s p n strong)
 
 -- ---- dropping
 
@@ -53,12 +49,8 @@ drop_check s p n strong = and_then (found_or (named s p n) NoSuchNumber) (λ o. 
 unfoldable pub drop_asked : Space → ℕ → ObjectId → Bool → Space
 drop_asked s p o strong = record s { references = without_first (is_asking p o strong) s.references }
 
-abbrev pub drop_outcome : Space → ℕ → Bool → Result ObjectId Note → Outcome
-drop_outcome s p strong (Err n) = noted s n
-drop_outcome s p strong (Ok o) = accepted (drop_asked s p o strong)
-
 unfoldable pub drop_step : Space → ℕ → ℕ → Bool → Outcome
-drop_step s p n strong = drop_outcome s p strong (drop_check s p n strong)
+drop_step s p n strong = by_check s (λ o. drop_asked s p o strong) (drop_check s p n strong)
 
 -- ---- acknowledging
 
@@ -76,9 +68,5 @@ done_check s p ptr cookie strong =
 unfoldable pub acknowledge : Space → ObjectId → Bool → Space
 acknowledge s o strong = record s { references = without_first (is_shaking o strong) s.references }
 
-abbrev pub done_outcome : Space → Bool → Result Object Note → Outcome
-done_outcome s strong (Err n) = noted s n
-done_outcome s strong (Ok x) = accepted (acknowledge s x.id strong)
-
 unfoldable pub done_step : Space → ℕ → ℕ → ℕ → Bool → Outcome
-done_step s p ptr cookie strong = done_outcome s strong (done_check s p ptr cookie strong)
+done_step s p ptr cookie strong = by_check s (λ x. acknowledge s x.id strong) (done_check s p ptr cookie strong)

@@ -10,7 +10,8 @@ use Rattle.bd_space.specs.Transactions.{transaction_step}
 use Rattle.bd_space.specs.Replies.{reply_step}
 use Rattle.bd_space.specs.Freeing.{free_step}
 use Rattle.bd_space.specs.Asking.{ask_step, drop_step, done_step}
-use Rattle.bd_space.specs.Deaths.{request_step, clear_step, death_done_step}
+use Rattle.bd_space.specs.Deaths.{request_step}
+use Rattle.bd_space.specs.Clearing.{clear_step, death_done_step}
 use Rattle.bd_space.specs.Outcomes.{Outcome, accepted}
 
 -- the thread has entered the loop, or left it

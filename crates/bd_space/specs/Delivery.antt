@@ -1,28 +1,25 @@
 -- What a transaction and a reply have in common: what they deliver.
-use Rattle.std.specs.Prelude.{ℕ, ◌+◌, ◌==◌, Bool, true, false, not, ◌&&◌, List, [], ◌∷◌, ◌++◌, map, Option, Some, None, find, filter, fold, unwrap_or, if◌then◌else◌}
+use Rattle.std.specs.Prelude.{ℕ, ◌+◌, Bool, true, false, not, ◌&&◌, List, [], ◌∷◌, ◌++◌, map, Option, Some, None, filter, fold, if◌then◌else◌}
 use Rattle.bd_uapi.specs.declared.command.TransactionData.{TransactionData}
-use Rattle.bd_uapi.specs.declared.object.FlatObject.{FlatObject}
-use Rattle.bd_uapi.specs.declared.object.ObjectKind.TheVariants.{Binder, WeakBinder, Handle, WeakHandle}
-use Rattle.bd_uapi.specs.Records.{object_bytes}
 use Rattle.bd_space.specs.declared.step.ObjectId.{ObjectId}
 use Rattle.bd_space.specs.declared.space.Process.{Process}
 use Rattle.bd_space.specs.declared.space.Object.{Object}
 use Rattle.bd_space.specs.declared.space.Reference.{Reference}
-use Rattle.bd_space.specs.declared.space.Name.{Name}
 use Rattle.bd_space.specs.declared.space.Buffer.{Buffer}
 use Rattle.bd_space.specs.declared.space.Work.{Work}
 use Rattle.bd_space.specs.declared.space.Holder.TheVariants.{Carried, Target}
 use Rattle.bd_space.specs.declared.space.TodoList.TheVariants.{OfThread}
-use Rattle.bd_space.specs.Words.{is_some_and, same, overwritten}
+use Rattle.bd_space.specs.Words.{is_some_and}
 use Rattle.bd_space.specs.Space.{Space}
 use Rattle.bd_space.specs.declared.space.Actor.{Actor}
 use Rattle.bd_space.specs.References.{reference_of, object_in}
-use Rattle.bd_space.specs.Names.{number_in, assign_numbers}
+use Rattle.bd_space.specs.Names.{assign_numbers}
 use Rattle.bd_space.specs.Room.{needed}
 use Rattle.bd_space.specs.Todo.{is_notice}
 use Rattle.bd_space.specs.Notices.{with_notice}
 use Rattle.bd_space.specs.declared.space.Item.{Item}
 use Rattle.bd_space.specs.Parcels.{Sending, object_of_item, is_own, is_strong_kind}
+use Rattle.bd_space.specs.Translation.{translation}
 
 -- what is delivered: to which process, on which object, whether one-way, what, and where in the receiver's window
 pub record Delivery : Type 0 where
@@ -45,29 +42,6 @@ buffer_references b q k (x ∷ xs) target =
 
 unfoldable pub refer : Space → ℕ → List Item → Option ObjectId → Space
 refer s q items target = record s { references = s.references ++ buffer_references s.steps q 0 items target }
-
--- ---- translation: the objects as the receiver is to see them
-
--- the receiver's own object, and anybody else's
-abbrev pub as_own : FlatObject → Object → FlatObject
-as_own x o = record x { kind = if is_strong_kind x.kind then Binder else WeakBinder; binder = o.ptr; cookie = o.cookie }
-
-abbrev pub as_handle : FlatObject → ℕ → FlatObject
-as_handle x n = record x { kind = if is_strong_kind x.kind then Handle else WeakHandle; binder = n; cookie = 0 }
-
-abbrev pub translated : List Object → List Name → ℕ → Item → FlatObject
-translated objects names q x =
-    elim (find (λ o. same o.id x.object && (o.owner == q)) objects) [
-      | Some o ↦ as_own x.flat o
-      | None ↦ as_handle x.flat (unwrap_or (number_in names q x.object) 0)
-    ]
-
-abbrev pub translate_item : List Object → List Name → ℕ → List ℕ → Item → List ℕ
-translate_item objects names q bytes x = overwritten bytes x.at (object_bytes (translated objects names q x))
-
--- the data with each object translated
-unfoldable pub translation : Space → ℕ → List ℕ → List Item → List ℕ
-translation s q bytes items = fold (translate_item s.objects s.names q) bytes items
 
 -- ---- the buffer
 

@@ -4,6 +4,7 @@ use Rattle.std.specs.List.{list_all}
 use Rattle.bd_space.specs.declared.step.Step.{Step}
 use Rattle.bd_space.specs.declared.step.StepAnswer.{StepAnswer}
 use Rattle.bd_space.specs.declared.step.Entry.{Entry}
+use Rattle.bd_space.specs.declared.record.Record.{Record}
 use Rattle.bd_space.specs.Words.{is_some_and}
 use Rattle.bd_space.specs.Space.{Space, opening}
 use Rattle.bd_space.specs.Seats.{thread_in}
@@ -16,6 +17,17 @@ use Rattle.bd_space.specs.Steps.{step}
 pub record History : Type 0 where
   pub seats : ℕ
   pub entries : List Entry
+
+-- the history of so many seats with these entries, and the one that a record tells
+abbrev pub history_of : ℕ → List Entry → History
+history_of seats entries = record { seats = seats; entries = entries }
+
+abbrev pub history_in : Record → History
+history_in r = history_of r.seats r.entries
+
+-- these entries begin with those
+abbrev pub BeginsWith : List Entry → List Entry → Type 0
+BeginsWith entries seen = (rest : List Entry) × (entries ≡ seen ++ rest)
 
 -- the space after one entry's step, and after a list of them
 abbrev pub next : Space → Entry → Space
@@ -42,13 +54,13 @@ abbrev pub most_steps : ℕ
 most_steps = 4294967295
 
 pub record IsHistory (h : History) : Type 0 where
-  pub short : length h.entries ≤ 4294967295
+  pub short : length h.entries ≤ most_steps
   pub seats : list_all (λ e. nat_lt e.seat h.seats) h.entries ≡ true
   pub follows : Follows opening h.entries
 
 -- one entry more
 abbrev pub extended : History → ℕ → Step → StepAnswer → History
-extended h seat x answer = record { seats = h.seats; entries = h.entries ++ record { seat = seat; step = x; answer = answer } ∷ [] }
+extended h seat x answer = history_of h.seats (h.entries ++ record { seat = seat; step = x; answer = answer } ∷ [])
 
 -- ---- the page of a history
 
@@ -73,14 +85,4 @@ HasPlace h = length h.entries < most_steps
 -- the history is full, or this step would need a number past the limit
 unfoldable pub is_at_limit : History → ℕ → Option Step → Bool
 is_at_limit h seat x =
-    nat_le 4294967295 (length h.entries) || is_some_and x (λ y. has_number_past_limit (step (space_after h) seat y).space.names)
-
--- ---- lists of steps, for worked examples
-
-abbrev pub answers : Space → List (ℕ × Step) → List StepAnswer
-answers s [] = []
-answers s (x ∷ xs) = let o = step s x.0 x.1 in o.answer ∷ answers o.space xs
-
-abbrev pub ends : Space → List (ℕ × Step) → Space
-ends s [] = s
-ends s (x ∷ xs) = ends (step s x.0 x.1).space xs
+    nat_le most_steps (length h.entries) || is_some_and x (λ y. has_number_past_limit (step (space_after h) seat y).space.names)

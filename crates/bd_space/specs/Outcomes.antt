@@ -1,4 +1,5 @@
 -- What a step answers, and the space after it.
+use Rattle.std.specs.Prelude.{Result, Ok, Err}
 use Rattle.bd_uapi.specs.declared.fault.Note.{Note}
 use Rattle.bd_uapi.specs.declared.fault.Fault.{Fault}
 use Rattle.bd_uapi.specs.declared.fault.Cause.{Cause}
@@ -23,6 +24,11 @@ accepted s = record { answer = Accepted; space = completed s }
 -- a note changes nothing
 abbrev pub noted : Space → Note → Outcome
 noted s n = record { answer = Noted n; space = s }
+
+-- what a check found is done; what it noted changes nothing
+abbrev pub by_check : {A : Type 0} → Space → (A → Space) → Result A Note → Outcome
+by_check s f (Err n) = noted s n
+by_check s f (Ok x) = accepted (f x)
 
 -- a cause leaves what it leaves
 abbrev pub stopped : Cause → Space → Outcome

@@ -15,7 +15,8 @@ use Rattle.bd_space.specs.Seats.{actor, thread_in, process_with_pid}
 use Rattle.bd_space.specs.References.{reference_of, own_in}
 use Rattle.bd_space.specs.Commands.{command_step}
 use Rattle.bd_space.specs.Reading.{read_step}
-use Rattle.bd_space.specs.Exits.{exit_thread_step, exit_process_step}
+use Rattle.bd_space.specs.ThreadExits.{exit_thread_step}
+use Rattle.bd_space.specs.ProcessExits.{exit_process_step}
 use Rattle.bd_space.specs.Outcomes.{Outcome, refused}
 
 -- ---- opening

@@ -2,9 +2,9 @@
 use Rattle.std.specs.Prelude.{ℕ, ◌%◌, ◌^◌, ◌==◌, Bool, true, false, ◌&&◌, [], ◌∷◌, ◌++◌, Option, Some, None, Result, Ok, Err, is_some, is_none, option_map, option_and_then, if◌then◌else◌}
 use Rattle.bd_uapi.specs.declared.command.TransactionData.{TransactionData}
 use Rattle.bd_uapi.specs.declared.command.Return.{Return}
-use Rattle.bd_uapi.specs.declared.command.Return.TheVariants.{DeadReply, FailedReply, TransactionComplete}
+use Rattle.bd_uapi.specs.declared.command.Return.TheVariants.{DeadReply, FailedReply}
 use Rattle.bd_uapi.specs.declared.fault.Cause.{Cause}
-use Rattle.bd_uapi.specs.declared.fault.Cause.TheVariants.{NotStronglyNamed, NoManager, OwnManager, DeadOwner, NotServing, Unread, CallerGone}
+use Rattle.bd_uapi.specs.declared.fault.Cause.TheVariants.{NotStronglyNamed, NoManager, OwnManager, DeadOwner, NotServing, Unread}
 use Rattle.bd_space.specs.declared.step.ObjectId.{ObjectId}
 use Rattle.bd_space.specs.declared.step.Parcel.{Parcel}
 use Rattle.bd_space.specs.declared.space.Process.{Process}
@@ -96,7 +96,6 @@ transacted s a d v = called (owe (delivered s a d v) (OfThread a.thread.seat) Co
 abbrev pub refusal : Cause → Return
 refusal NoManager = DeadReply
 refusal DeadOwner = DeadReply
-refusal CallerGone = TransactionComplete
 refusal _ = FailedReply
 
 abbrev pub transaction_outcome : Space → Actor → TransactionData → Result Delivery Cause → Outcome

@@ -44,6 +44,9 @@ impl Entries {
     }
 }
 
+/// The most seats of a driver.
+pub const MOST_SEATS: u32 = 16;
+
 /// What happened at a driver: the number of its seats, and the steps in their order.
 #[derive(Drop, Debug)]
 pub struct Record {

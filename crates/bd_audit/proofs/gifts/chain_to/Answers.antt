@@ -1,13 +1,13 @@
 use Rattle.std.proofs.Common.{rules, ◌≡◌, ◌<◌, ◌∷◌, ◌++◌, [], List, arith, subst, sym, take}
 use Rattle.bd_space.specs.declared.step.Entry.{Entry}
-use Rattle.bd_audit.specs.Replays.{history_of}
+use Rattle.bd_space.specs.Histories.{history_in}
 use Rattle.bd_audit.specs.GiftSearch.{IsGift}
 use Rattle.bd_audit.proofs.Beginnings.{front-lawful}
 use Rattle.bd_audit.proofs.GiftSteps.{LeadsOn, gift-below, leads-next}
 use Rattle.bd_audit.proofs.gifts.chain_to.Goals as goal
 
 pub gift_to-requires-clause-lawful : goal.gift_to-requires-clause-lawful
-gift_to-requires-clause-lawful c = front-lawful c.loop-next.before (history_of c.args.record.now) c.as_slice-entries.result.now c.as_slice-entries.ensures c.requires.lawful
+gift_to-requires-clause-lawful c = front-lawful c.loop-next.before (history_in c.args.record.now) c.as_slice-entries.result.now c.as_slice-entries.ensures c.requires.lawful
 
 pub loop-next-preserved : goal.loop-next-preserved
 loop-next-preserved c =

@@ -1,6 +1,5 @@
 use Rattle.std.proofs.Common.{◌∙◌, sym, ap, subst, arith}
-use Rattle.bd_space.specs.Histories.{History}
-use Rattle.bd_audit.specs.Replays.{history_of}
+use Rattle.bd_space.specs.Histories.{History, history_in}
 use Rattle.bd_audit.specs.TurnSearch.{turns_on}
 use Rattle.bd_audit.specs.TurnCalls.{AreTurns}
 use Rattle.bd_audit.proofs.Beginnings.{all-played, next-beginning, next-lawful}
@@ -16,13 +15,13 @@ loop-entry-init c = record {
 
 pub advance-requires : goal.advance-requires
 advance-requires c = record {
-  lawful = next-lawful (history_of c.args.record.now) c.loop-entry.engine c.loop-entry.entry-index c.entry-item.result c.as_slice-entry-items.result.now c.requires.lawful
+  lawful = next-lawful (history_in c.args.record.now) c.loop-entry.engine c.loop-entry.entry-index c.entry-item.result c.as_slice-entry-items.result.now c.requires.lawful
       c.loop-entry.invariant.engine c.as_slice-entry-items.ensures c.loop-entry-test.true c.entry-item.is;
 }
 
 pub loop-entry-preserved : goal.loop-entry-preserved
 loop-entry-preserved c = record {
-  engine = next-beginning (history_of c.args.record.now) c.loop-entry.engine c.advance.new.engine c.loop-entry.entry-index c.entry-item.result c.as_slice-entry-items.result.now
+  engine = next-beginning (history_in c.args.record.now) c.loop-entry.engine c.advance.new.engine c.loop-entry.entry-index c.entry-item.result c.as_slice-entry-items.result.now
       c.loop-entry.invariant.engine c.as_slice-entry-items.ensures c.loop-entry-test.true c.entry-item.is c.in_ok-advance.ensures.ok;
   turns = turns-noted c.args.object c.loop-entry.engine c.advance.new.engine c.entry-item.result c.len-place.result c.loop-entry.turns.items c.note.new.turns.items
       c.in_ok-advance.ensures.ok c.len-place.ensures c.loop-entry.invariant.turns c.in_ok-note.ensures.ok;
@@ -30,7 +29,7 @@ loop-entry-preserved c = record {
 
 pub returns : goal.returns
 returns c =
-    let h = history_of c.args.record.now in
+    let h = history_in c.args.record.now in
     let o = c.args.object in
     let done = c.loop-entry-test.false in
     let played = all-played h c.loop-entry.engine c.loop-entry.entry-index c.as_slice-entry-items.result.now c.loop-entry.invariant.engine c.as_slice-entry-items.ensures (omega arith) in

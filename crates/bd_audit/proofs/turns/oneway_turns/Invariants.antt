@@ -1,10 +1,11 @@
 use Rattle.std.proofs.Common.{◌≡◌}
-use Rattle.bd_audit.specs.Replays.{history_of, beginning}
+use Rattle.bd_space.specs.Histories.{history_in}
+use Rattle.bd_audit.specs.Replays.{beginning}
 use Rattle.bd_audit.specs.TurnSearch.{turns_on}
 use Rattle.bd_audit.proofs.turns.oneway_turns.Given as goal
 
 abbrev pub invariant-loop-entry : goal.invariant-loop-entry
 invariant-loop-entry l = record {
-  engine : l.engine ≡ beginning l.entry-index (history_of l.fn.record);
+  engine : l.engine ≡ beginning l.entry-index (history_in l.fn.record);
   turns : l.turns.items ≡ turns_on l.object l.engine;
 }

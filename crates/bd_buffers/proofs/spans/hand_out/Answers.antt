@@ -1,6 +1,6 @@
 use Rattle.std.proofs.Common.{rules, tests, ◌∙◌, arith}
 use Rattle.bd_space.specs.Freeing.{is_made_at}
-use Rattle.bd_space.specs.Reading.{hand_out}
+use Rattle.bd_space.specs.ReadItems.{hand_out}
 use Rattle.bd_space.proofs.Changed.{changed-then, changed-else, changed-all}
 use Rattle.bd_buffers.proofs.Kept.{window_handed}
 use Rattle.bd_buffers.proofs.spans.hand_out.Goals as goal

@@ -1,7 +1,7 @@
 use Rattle.std.proofs.Common.{◌≡◌, ◌++◌, take, drop}
 use Rattle.bd_space.specs.Words.{changed}
 use Rattle.bd_space.specs.Freeing.{is_made_at}
-use Rattle.bd_space.specs.Reading.{hand_out}
+use Rattle.bd_space.specs.ReadItems.{hand_out}
 use Rattle.bd_buffers.proofs.spans.hand_out.Given as goal
 
 abbrev pub invariant-loop-b : goal.invariant-loop-b

@@ -1,6 +1,6 @@
 use Rattle.std.proofs.Common.{refl, arith, sym, ap, ◌∙◌}
 use Rattle.std.specs.Option.{option_copied}
-use Rattle.bd_space.specs.Reading.{buffer_in}
+use Rattle.bd_space.specs.Returns.{buffer_in}
 use Rattle.bd_buffers.specs.declared.windows.OwnedWindow.{OwnedWindow}
 use Rattle.bd_buffers.proofs.AllWindows.{look_next}
 use Rattle.bd_buffers.proofs.windows.buffer_among.Goals as goal

@@ -2,7 +2,7 @@ use Rattle.std.proofs.Common.{List, refl, arith, get_or}
 use Rattle.bd_space.specs.declared.space.Buffer.{Buffer}
 use Rattle.bd_space.specs.Words.{changed}
 use Rattle.bd_space.specs.Freeing.{is_made_at}
-use Rattle.bd_space.specs.Reading.{hand_out}
+use Rattle.bd_space.specs.ReadItems.{hand_out}
 use Rattle.bd_buffers.specs.declared.windows.OwnedWindow.{OwnedWindow}
 use Rattle.bd_buffers.specs.WindowsStand.{with_buffers}
 use Rattle.bd_buffers.proofs.AllWindows.{seen_as, each_next}

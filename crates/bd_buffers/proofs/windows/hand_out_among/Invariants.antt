@@ -1,7 +1,7 @@
 use Rattle.std.proofs.Common.{◌≡◌, ◌++◌, map, take, drop}
 use Rattle.bd_space.specs.Words.{changed}
 use Rattle.bd_space.specs.Freeing.{is_made_at}
-use Rattle.bd_space.specs.Reading.{hand_out}
+use Rattle.bd_space.specs.ReadItems.{hand_out}
 use Rattle.bd_buffers.specs.WindowsStand.{seen, with_buffers}
 use Rattle.bd_buffers.proofs.windows.hand_out_among.Given as goal
 

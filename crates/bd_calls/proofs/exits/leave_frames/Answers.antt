@@ -1,5 +1,5 @@
 use Rattle.std.proofs.Common.{arith}
-use Rattle.bd_space.specs.Exits.{frame_without}
+use Rattle.bd_space.specs.ThreadExits.{frame_without}
 use Rattle.bd_space.proofs.Changed.{mapped-next}
 use Rattle.bd_calls.proofs.exits.leave_frames.Goals as goal
 

@@ -1,5 +1,5 @@
 use Rattle.std.proofs.Common.{◌≡◌, ◌++◌, map, take, drop}
-use Rattle.bd_space.specs.Exits.{frame_without}
+use Rattle.bd_space.specs.ThreadExits.{frame_without}
 use Rattle.bd_calls.proofs.exits.leave_frames.Given as goal
 
 abbrev pub invariant-loop-frame : goal.invariant-loop-frame

@@ -1,7 +1,7 @@
 use Rattle.std.proofs.Common.{rules, tests, not}
 use Rattle.std.proofs.lemmas.Fn.{filter_same}
 use Rattle.bd_space.specs.declared.space.Turn.{Turn}
-use Rattle.bd_space.specs.Exits.{is_lost_with}
+use Rattle.bd_space.specs.ThreadExits.{is_lost_with}
 use Rattle.bd_calls.proofs.exits.lose_turns.Goals as goal
 
 pub returns-clause-turns : goal.returns-clause-turns

@@ -1,5 +1,5 @@
 use Rattle.std.proofs.Common.{arith}
-use Rattle.bd_space.specs.Exits.{unread_frame}
+use Rattle.bd_space.specs.ThreadExits.{unread_frame}
 use Rattle.bd_space.proofs.Changed.{mapped-next}
 use Rattle.bd_calls.proofs.exits.lose_unread.Goals as goal
 

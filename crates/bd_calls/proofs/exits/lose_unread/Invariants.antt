@@ -1,5 +1,5 @@
 use Rattle.std.proofs.Common.{◌≡◌, ◌++◌, map, take, drop}
-use Rattle.bd_space.specs.Exits.{unread_frame}
+use Rattle.bd_space.specs.ThreadExits.{unread_frame}
 use Rattle.bd_calls.proofs.exits.lose_unread.Given as goal
 
 abbrev pub invariant-loop-frame : goal.invariant-loop-frame

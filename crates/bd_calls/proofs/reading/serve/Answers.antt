@@ -2,7 +2,7 @@ use Rattle.std.proofs.Common.{rules, tests, ◌∙◌, arith}
 use Rattle.std.specs.List.{list_any}
 use Rattle.bd_space.specs.declared.space.Frame.{Frame}
 use Rattle.bd_space.specs.Todo.{is_call}
-use Rattle.bd_space.specs.Reading as spec
+use Rattle.bd_space.specs.ReadItems as spec
 use Rattle.bd_space.proofs.Changed.{changed-then, changed-else}
 use Rattle.bd_calls.proofs.reading.serve.Goals as goal
 use Rattle.bd_calls.proofs.reading.serve.Goals.{then-is_call_of, else-is_call_of}

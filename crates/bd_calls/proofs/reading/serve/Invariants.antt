@@ -1,5 +1,5 @@
 use Rattle.std.proofs.Common.{◌≡◌, ◌++◌, take, drop}
-use Rattle.bd_space.specs.Reading.{served_frames}
+use Rattle.bd_space.specs.ReadItems.{served_frames}
 use Rattle.bd_calls.proofs.reading.serve.Given as goal
 
 abbrev pub invariant-loop-frame : goal.invariant-loop-frame

@@ -1,7 +1,7 @@
 use Rattle.std.proofs.Common.{◌≡◌, ◌++◌, map, take}
 use Rattle.std.specs.List.{flat_map, concat}
 use Rattle.bd_codec.specs.Spelling.{return_bytes}
-use Rattle.bd_space.specs.Reading.{one}
+use Rattle.bd_space.specs.Returns.{one}
 use Rattle.bd_engine.proofs.returns.append_returns.Given as goal
 
 abbrev pub invariant-loop-r : goal.invariant-loop-r

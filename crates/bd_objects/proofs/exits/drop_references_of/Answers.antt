@@ -1,7 +1,7 @@
 use Rattle.std.proofs.Common.{rules, tests, not}
 use Rattle.std.proofs.lemmas.Fn.{filter_same}
 use Rattle.bd_space.specs.declared.space.Reference.{Reference}
-use Rattle.bd_space.specs.Exits.{is_dropped_with}
+use Rattle.bd_space.specs.ProcessExits.{is_dropped_with}
 use Rattle.bd_objects.proofs.exits.drop_references_of.Goals as goal
 
 pub returns-clause-items : goal.returns-clause-items

@@ -1,7 +1,7 @@
 use Rattle.std.proofs.Common.{◌≡◌, ◌+◌, ◌-◌, ◌*◌, ◌≤◌, ◌++◌, List, drop, length, vec_len, vec_capacity}
 use Rattle.bd_space.specs.Space.{Space}
 use Rattle.bd_space.specs.declared.space.Reference.{Reference}
-use Rattle.bd_space.specs.Reading.{handshakes}
+use Rattle.bd_space.specs.ReadItems.{handshakes}
 use Rattle.bd_objects.proofs.told.add_handshakes.Given as goal
 
 abbrev pub invariant-loop-w : goal.invariant-loop-w

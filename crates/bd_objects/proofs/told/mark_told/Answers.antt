@@ -1,7 +1,7 @@
 use Rattle.std.proofs.Common.{◌∙◌, sym, arith}
 use Rattle.bd_space.specs.declared.space.DeathNotification.{DeathNotification}
 use Rattle.bd_space.specs.declared.space.Phase.TheVariants.{Told}
-use Rattle.bd_space.specs.Reading.{is_told_of_death}
+use Rattle.bd_space.specs.ReadItems.{is_told_of_death}
 use Rattle.bd_space.proofs.Changed.{changed-then, changed-else}
 use Rattle.bd_objects.proofs.told.mark_told.Goals as goal
 use Rattle.bd_objects.proofs.told.mark_told.Goals.{then-is_told_of_death, else-is_told_of_death}

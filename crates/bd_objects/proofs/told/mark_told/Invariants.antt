@@ -1,7 +1,7 @@
 use Rattle.std.proofs.Common.{◌≡◌, ◌++◌, take, drop}
 use Rattle.bd_space.specs.Words.{changed}
 use Rattle.bd_space.specs.declared.space.Phase.TheVariants.{Told}
-use Rattle.bd_space.specs.Reading.{is_told_of_death}
+use Rattle.bd_space.specs.ReadItems.{is_told_of_death}
 use Rattle.bd_objects.proofs.told.mark_told.Given as goal
 
 abbrev pub invariant-loop-x : goal.invariant-loop-x

@@ -1,6 +1,6 @@
 use Rattle.std.proofs.Common.{◌∙◌, sym, ap, arith, set}
 use Rattle.bd_space.specs.declared.space.Object.{Object}
-use Rattle.bd_space.specs.Reading.{is_told_by, told_of}
+use Rattle.bd_space.specs.ReadItems.{is_told_by, told_of}
 use Rattle.bd_space.proofs.Changed.{changed-then, changed-else}
 use Rattle.bd_objects.proofs.told.tell_owners.Goals as goal
 use Rattle.bd_objects.proofs.told.tell_owners.Goals.{then-is_told_by, else-is_told_by}

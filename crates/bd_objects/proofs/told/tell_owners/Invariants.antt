@@ -1,6 +1,6 @@
 use Rattle.std.proofs.Common.{◌≡◌, ◌++◌, take, drop}
 use Rattle.bd_space.specs.Words.{changed}
-use Rattle.bd_space.specs.Reading.{is_told_by, told_of}
+use Rattle.bd_space.specs.ReadItems.{is_told_by, told_of}
 use Rattle.bd_objects.proofs.told.tell_owners.Given as goal
 
 abbrev pub invariant-loop-x : goal.invariant-loop-x

@@ -1,6 +1,6 @@
 use Rattle.std.proofs.Common.{ap, ◌∙◌, ◌+◌, map, List}
 use Rattle.bd_space.specs.Words.{first_of}
-use Rattle.bd_space.specs.Reading.{buffer_in}
+use Rattle.bd_space.specs.Returns.{buffer_in}
 use Rattle.bd_buffers.specs.declared.windows.OwnedWindow.{OwnedWindow}
 use Rattle.bd_buffers.proofs.AllWindows.{looked_up}
 use Rattle.bd_buffers.proofs.windows.Windows.buffer.Goals as goal

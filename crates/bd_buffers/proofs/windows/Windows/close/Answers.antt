@@ -1,5 +1,5 @@
 use Rattle.std.proofs.Common.{◌+◌}
-use Rattle.bd_space.specs.Exits.{without_process}
+use Rattle.bd_space.specs.ProcessExits.{without_process}
 use Rattle.bd_buffers.proofs.AllWindows.{closed}
 use Rattle.bd_buffers.proofs.windows.Windows.close.Goals as goal
 

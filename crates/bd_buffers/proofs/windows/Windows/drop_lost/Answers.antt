@@ -1,6 +1,6 @@
 use Rattle.std.proofs.Common.{◌+◌, not}
 use Rattle.bd_space.specs.declared.space.TodoList.TheVariants.{OfThread}
-use Rattle.bd_space.specs.Exits.{thread_goes, is_lost_with}
+use Rattle.bd_space.specs.ThreadExits.{thread_goes, is_lost_with}
 use Rattle.bd_buffers.proofs.AllWindows.{kept}
 use Rattle.bd_buffers.proofs.windows.Windows.drop_lost.Goals as goal
 

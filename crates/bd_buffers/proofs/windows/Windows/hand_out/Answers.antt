@@ -1,5 +1,5 @@
 use Rattle.std.proofs.Common.{◌+◌, ◌∙◌, sym}
-use Rattle.bd_space.specs.Reading.{read_by, buffer_taken}
+use Rattle.bd_space.specs.ReadItems.{read_by, buffer_taken}
 use Rattle.bd_buffers.proofs.AllWindows.{handed_by, none_handed_by}
 use Rattle.bd_buffers.proofs.windows.Windows.hand_out.Goals as goal
 

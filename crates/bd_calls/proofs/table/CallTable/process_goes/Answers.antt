@@ -3,7 +3,8 @@ use Rattle.bd_space.specs.declared.space.Work.{Work}
 use Rattle.bd_space.specs.declared.space.Turn.{Turn}
 use Rattle.bd_space.specs.declared.space.TodoList.TheVariants.{OfProcess}
 use Rattle.bd_space.specs.Todo.{is_on}
-use Rattle.bd_space.specs.Exits.{without_process, unread_frame}
+use Rattle.bd_space.specs.ProcessExits.{without_process}
+use Rattle.bd_space.specs.ThreadExits.{unread_frame}
 use Rattle.bd_calls.proofs.OneWay.{turns-received}
 use Rattle.bd_calls.proofs.table.CallTable.process_goes.Goals as goal
 

@@ -2,7 +2,7 @@ use Rattle.std.proofs.Common.{◌∙◌, ap, sym, map}
 use Rattle.bd_space.specs.declared.space.Work.{Work}
 use Rattle.bd_space.specs.Words.{first_of}
 use Rattle.bd_space.specs.Todo.{handed_over, without_taken}
-use Rattle.bd_space.specs.Reading.{read_by, served_frames, buffer_taken}
+use Rattle.bd_space.specs.ReadItems.{read_by, served_frames, buffer_taken}
 use Rattle.bd_calls.specs.Handing.{handed_turns}
 use Rattle.bd_calls.proofs.OneWay.{turns-handed}
 use Rattle.bd_calls.proofs.table.CallTable.read_by.Goals as goal

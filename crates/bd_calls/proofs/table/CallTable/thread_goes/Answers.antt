@@ -4,7 +4,7 @@ use Rattle.bd_space.specs.declared.space.Work.{Work}
 use Rattle.bd_space.specs.declared.space.Turn.{Turn}
 use Rattle.bd_space.specs.declared.space.TodoList.TheVariants.{OfThread}
 use Rattle.bd_space.specs.Todo.{is_on}
-use Rattle.bd_space.specs.Exits.{thread_goes, frame_without, is_lost_with}
+use Rattle.bd_space.specs.ThreadExits.{thread_goes, frame_without, is_lost_with}
 use Rattle.bd_calls.proofs.OneWay.{turns-lost}
 use Rattle.bd_calls.proofs.table.CallTable.thread_goes.Goals as goal
 

@@ -1,5 +1,6 @@
 use Rattle.std.proofs.Common.{ℕ, subst, rules, ◌<◌, length, ap, ◌∙◌}
-use Rattle.bd_driver.specs.Views.{ready_of, view_of, history}
+use Rattle.bd_driver.specs.Views.{ready_of, view_of}
+use Rattle.bd_space.specs.Histories.{history_of}
 use Rattle.bd_driver.specs.Words.{page_word}
 use Rattle.atomic_table.specs.Table.{rest}
 use Rattle.bd_driver.specs.declared.slot.Slot.TheVariants.{Home, Empty}
@@ -25,7 +26,7 @@ fetch_and-requires c =
     let v = view_of c.args.table_seat.now.me.0 in
     let held = placed c.args.table_seat.now.me c.exchange.new.seat.me v 0 Empty (Home e) (rest c.args.table_seat.now.me.1) r.one r.held c.exchange.ensures.3 in
     let then = after_publish _ _ v (rest c.args.table_seat.now.me.1) 0 e _ held c.swap.ensures.2.1 in
-    (search rules, search rules, puts_at _ _ _ _ (published_at v c.swap.result e.entries) (rest c.args.table_seat.now.me.1) e then r.on r.unpicked (ap (λ n. history n e.entries) c.requires.engine.seats))
+    (search rules, search rules, puts_at _ _ _ _ (published_at v c.swap.result e.entries) (rest c.args.table_seat.now.me.1) e then r.on r.unpicked (ap (λ n. history_of n e.entries) c.requires.engine.seats))
 
 pub returns-clause-gives : goal.returns-clause-gives
 returns-clause-gives c =

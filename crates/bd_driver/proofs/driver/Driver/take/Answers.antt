@@ -2,7 +2,8 @@ use Rattle.std.proofs.Common.{rules, ◌≡◌, ℕ, ◌%◌, List, ◌∷◌, s
 use Rattle.atomic_table.specs.Table.{rest}
 use Rattle.bd_driver.specs.declared.slot.Slot.{Slot}
 use Rattle.bd_driver.specs.declared.slot.Slot.TheVariants.{Home}
-use Rattle.bd_driver.specs.Views.{view_of, history}
+use Rattle.bd_driver.specs.Views.{view_of}
+use Rattle.bd_space.specs.Histories.{history_of}
 use Rattle.bd_driver.proofs.driver.Driver.take.Goals as goal
 use Rattle.bd_driver.proofs.Takes.{takes_once}
 
@@ -14,5 +15,5 @@ exchange-requires c =
     let t = c.fetch_or-word.ensures.2 in
     let clear : c.fetch_or-word.result % 2 ≡ 0 = omega arith in
     let held = t.5 clear in
-    let engine = Home (history (view_of c.args.table_seat.now.me.0).seats t.1) in
+    let engine = Home (history_of (view_of c.args.table_seat.now.me.0).seats t.1) in
     (search rules, (engine, held ∙ ap (λ (l : List (ℕ × Slot)). (0, engine) ∷ rest l) (sym held)))

@@ -1,5 +1,6 @@
 use Rattle.std.proofs.Common.{arith, sym, subst}
-use Rattle.bd_engine.specs.Keeps.{Keeps, history_of}
+use Rattle.bd_engine.specs.Keeps.{Keeps}
+use Rattle.bd_space.specs.Histories.{history_of}
 use Rattle.bd_engine.proofs.Keeping.{keeps-new}
 use Rattle.bd_engine.proofs.engine.Engine.for_seats.Goals as goal
 

@@ -1,7 +1,7 @@
 use Rattle.std.proofs.Common.{◌≡◌, ◌+◌, ◌<◌, ◌++◌, ◌∷◌, [], List, true, length, arith, ap, sym, subst, ◌∙◌, Some}
 use Rattle.bd_space.specs.declared.step.Entry.{Entry}
-use Rattle.bd_space.specs.Histories.{History, space_after, is_at_limit}
-use Rattle.bd_engine.specs.Keeps.{Keeps, history_of}
+use Rattle.bd_space.specs.Histories.{History, space_after, is_at_limit, history_of}
+use Rattle.bd_engine.specs.Keeps.{Keeps}
 use Rattle.bd_engine.proofs.Places.{change-steps}
 use Rattle.bd_engine.proofs.Keeping.{keeps-more, place, full-at-length, short-of-full, full-by-number, full-as}
 use Rattle.bd_engine.proofs.engine.Engine.step.Goals as goal

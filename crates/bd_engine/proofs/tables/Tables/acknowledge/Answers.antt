@@ -1,13 +1,14 @@
 use Rattle.std.proofs.Common.{sym, ap}
-use Rattle.bd_space.specs.Asking.{done_step, done_outcome, acknowledge}
+use Rattle.bd_space.specs.Asking.{done_step, acknowledge}
+use Rattle.bd_space.specs.Outcomes.{by_check}
 use Rattle.bd_engine.proofs.Accepting.{accepts, notes}
 use Rattle.bd_engine.proofs.tables.Tables.acknowledge.Goals as goal
 
 pub returns-in-Err-clause-ok : goal.returns-in-Err-clause-ok
 unfolding done_step
-returns-in-Err-clause-ok c = notes _ _ _ _ (λ s h by. sym (ap (done_outcome s c.args.strong) (c.in-Err.ensures s h.objects_stand)))
+returns-in-Err-clause-ok c = notes _ _ _ _ (λ s h by. sym (ap (by_check s (λ x. acknowledge s x.id c.args.strong)) (c.in-Err.ensures s h.objects_stand)))
 
 pub returns-clause-ok : goal.returns-clause-ok
 unfolding done_step
 returns-clause-ok c = accepts _ c.reserve.new.self _ _ _ (λ s. acknowledge s c.in-Ok.x.id c.args.strong) c.reserve.ensures.stands c.lose_handshake.ensures.stands
-    (λ s h by. sym (ap (done_outcome s c.args.strong) (c.in-Ok.ensures s h.objects_stand)))
+    (λ s h by. sym (ap (by_check s (λ x. acknowledge s x.id c.args.strong)) (c.in-Ok.ensures s h.objects_stand)))

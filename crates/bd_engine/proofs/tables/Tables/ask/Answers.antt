@@ -1,7 +1,7 @@
 use Rattle.std.proofs.Common.{◌≡◌, true, sym, ap, subst}
-use Rattle.bd_space.specs.Outcomes.{Outcome}
+use Rattle.bd_space.specs.Outcomes.{Outcome, by_check}
 use Rattle.bd_space.specs.Names.{has_number_past_limit}
-use Rattle.bd_space.specs.Asking.{ask_step, ask_outcome, ask}
+use Rattle.bd_space.specs.Asking.{ask_step, ask}
 use Rattle.bd_engine.proofs.Accepting.{accepts, notes}
 use Rattle.bd_engine.proofs.Keeping.{full-if}
 use Rattle.bd_engine.proofs.tables.Tables.ask.Goals as goal
@@ -9,17 +9,17 @@ use Rattle.bd_engine.proofs.tables.Tables.ask.Goals as goal
 pub returns-in-Err-clause-ok : goal.returns-in-Err-clause-ok
 unfolding ask_step
 returns-in-Err-clause-ok c = notes _ _ _ _
-    (λ s h by. sym (ap (ask_outcome s c.args.a.process.made c.args.strong) (c.in-Err.ensures s h.objects_stand h.manager_is)))
+    (λ s h by. sym (ap (by_check s (λ o. ask s c.args.a.process.made o c.args.strong)) (c.in-Err.ensures s h.objects_stand h.manager_is)))
 
 pub returns-in-Ok-add_asked-clause-ok : goal.returns-in-Ok-add_asked-clause-ok
 unfolding ask_step
 returns-in-Ok-add_asked-clause-ok c =
     accepts _ c.reserve.new.self _ _ _ (λ s. ask s c.args.a.process.made c.in-Ok.o c.args.strong) c.reserve.ensures.stands c.in-Ok-add_asked.ensures.stands
-    (λ s h by. sym (ap (ask_outcome s c.args.a.process.made c.args.strong) (c.in-Ok.ensures s h.objects_stand h.manager_is)))
+    (λ s h by. sym (ap (by_check s (λ o. ask s c.args.a.process.made o c.args.strong)) (c.in-Ok.ensures s h.objects_stand h.manager_is)))
 
 pub returns-in-Err-add_asked-clause-full : goal.returns-in-Err-add_asked-clause-full
 unfolding ask_step
 returns-in-Err-add_asked-clause-full c = λ s h by.
     full-if _ _ (subst (λ (o : Outcome). has_number_past_limit o.space.names ≡ true)
-    (ap (ask_outcome s c.args.a.process.made c.args.strong) (c.in-Ok.ensures s h.objects_stand h.manager_is))
+    (ap (by_check s (λ o. ask s c.args.a.process.made o c.args.strong)) (c.in-Ok.ensures s h.objects_stand h.manager_is))
     (c.in-Err-add_asked.ensures.full s (c.reserve.ensures.stands s h)))

@@ -1,6 +1,6 @@
 use Rattle.std.proofs.Common.{◌∙◌, ap, List, ℕ}
 use Rattle.bd_space.specs.declared.space.Item.{Item}
-use Rattle.bd_space.specs.Delivery.{translation}
+use Rattle.bd_space.specs.Translation.{translation}
 use Rattle.bd_engine.proofs.Deliveries.{buffer-is}
 use Rattle.bd_engine.proofs.tables.Tables.buffer_of.Goals as goal
 

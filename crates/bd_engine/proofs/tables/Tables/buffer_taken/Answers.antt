@@ -1,6 +1,7 @@
 use Rattle.std.proofs.Common.{ap, sym, ◌∙◌}
 use Rattle.std.specs.Prelude.{option_and_then}
-use Rattle.bd_space.specs.Reading.{buffer_in, buffer_taken}
+use Rattle.bd_space.specs.Returns.{buffer_in}
+use Rattle.bd_space.specs.ReadItems.{buffer_taken}
 use Rattle.bd_engine.proofs.tables.Tables.buffer_taken.Goals as goal
 
 pub returns-in-Some : goal.returns-in-Some

@@ -2,7 +2,8 @@ use Rattle.std.proofs.Common.{ap}
 use Rattle.bd_space.specs.Steps.{change, open_step, attach_step, manager_step}
 use Rattle.bd_space.specs.Commands.{command_step}
 use Rattle.bd_space.specs.Reading.{read_step}
-use Rattle.bd_space.specs.Exits.{exit_thread_step, exit_process_step}
+use Rattle.bd_space.specs.ThreadExits.{exit_thread_step}
+use Rattle.bd_space.specs.ProcessExits.{exit_process_step}
 use Rattle.bd_engine.specs.Meets.{IsBy}
 use Rattle.bd_engine.proofs.Meeting.{as-ok, as-full, twice-same, any-ok, any-full, by-same, by-ok, by-full}
 use Rattle.bd_engine.proofs.tables.Tables.change_by.Goals as goal

@@ -1,4 +1,4 @@
-use Rattle.bd_space.specs.Deaths.{cleared}
+use Rattle.bd_space.specs.Clearing.{cleared}
 use Rattle.bd_engine.proofs.tables.Tables.disarm.Goals as goal
 
 pub returns : goal.returns

@@ -1,5 +1,6 @@
 use Rattle.std.proofs.Common.{◌+◌}
-use Rattle.bd_space.specs.Deaths.{without_death, death_ended}
+use Rattle.bd_space.specs.Deaths.{without_death}
+use Rattle.bd_space.specs.Clearing.{death_ended}
 use Rattle.bd_engine.proofs.Changing.{with-objects}
 use Rattle.bd_engine.proofs.tables.Tables.end_death.Goals as goal
 

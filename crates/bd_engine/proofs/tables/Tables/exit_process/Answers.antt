@@ -1,5 +1,5 @@
 use Rattle.std.proofs.Common.{refl, ◌∙◌}
-use Rattle.bd_space.specs.Exits.{exit_process_step}
+use Rattle.bd_space.specs.ProcessExits.{exit_process_step}
 use Rattle.bd_engine.proofs.Standing.{within}
 use Rattle.bd_engine.proofs.Meeting.{meets}
 use Rattle.bd_engine.proofs.tables.Tables.exit_process.Goals as goal

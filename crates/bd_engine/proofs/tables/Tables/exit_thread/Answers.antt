@@ -1,5 +1,5 @@
 use Rattle.std.proofs.Common.{refl}
-use Rattle.bd_space.specs.Exits.{exit_thread_step}
+use Rattle.bd_space.specs.ThreadExits.{exit_thread_step}
 use Rattle.bd_engine.proofs.Standing.{within}
 use Rattle.bd_engine.proofs.Meeting.{meets}
 use Rattle.bd_engine.proofs.tables.Tables.exit_thread.Goals as goal

@@ -1,4 +1,4 @@
-use Rattle.bd_space.specs.Deaths.{death_done}
+use Rattle.bd_space.specs.Clearing.{death_done}
 use Rattle.bd_engine.proofs.tables.Tables.finish_death.Goals as goal
 
 pub returns : goal.returns

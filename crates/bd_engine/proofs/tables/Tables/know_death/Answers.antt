@@ -3,7 +3,8 @@ use Rattle.std.specs.Prelude.{if◌then◌else◌}
 use Rattle.bd_space.specs.declared.space.DeathNotification.{DeathNotification}
 use Rattle.bd_space.specs.declared.space.Phase.TheVariants.{Done}
 use Rattle.bd_space.specs.Space.{Space}
-use Rattle.bd_space.specs.Deaths.{death_done, with_phase, death_ended}
+use Rattle.bd_space.specs.Clearing.{death_done, death_ended}
+use Rattle.bd_space.specs.Deaths.{with_phase}
 use Rattle.bd_engine.specs.Stands.{Within}
 use Rattle.bd_engine.proofs.Changing.{with-objects}
 use Rattle.bd_engine.proofs.tables.Tables.know_death.Goals as goal

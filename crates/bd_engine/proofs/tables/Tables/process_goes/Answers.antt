@@ -1,6 +1,7 @@
 use Rattle.std.proofs.Common.{subst}
 use Rattle.std.specs.List.{fold}
-use Rattle.bd_space.specs.Exits.{threads_go, thread_goes}
+use Rattle.bd_space.specs.ProcessExits.{threads_go}
+use Rattle.bd_space.specs.ThreadExits.{thread_goes}
 use Rattle.bd_engine.specs.Stands.{Within}
 use Rattle.bd_engine.proofs.tables.Tables.process_goes.Goals as goal
 

@@ -2,7 +2,8 @@ use Rattle.std.proofs.Common.{◌-◌, List, sym, ap, subst}
 use Rattle.bd_uapi.specs.declared.fault.Fault.TheVariants.{ReadTooSmall, Again}
 use Rattle.bd_space.specs.declared.space.Work.{Work}
 use Rattle.bd_space.specs.Todo.{list_to_read}
-use Rattle.bd_space.specs.Reading.{read_step, read_taking, is_empty, taken}
+use Rattle.bd_space.specs.Reading.{read_step, read_taking, is_empty}
+use Rattle.bd_space.specs.ReadItems.{taken}
 use Rattle.bd_engine.proofs.Meeting.{IsOutcome, answer-is, meets, in-case, is-refused}
 use Rattle.bd_engine.proofs.TakingItems.{read_outcome, too-small, nothing, readable}
 use Rattle.bd_engine.proofs.tables.Tables.read.Goals as goal

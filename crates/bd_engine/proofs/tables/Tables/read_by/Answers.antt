@@ -1,4 +1,4 @@
-use Rattle.bd_space.specs.Reading.{read_by}
+use Rattle.bd_space.specs.ReadItems.{read_by}
 use Rattle.bd_engine.proofs.tables.Tables.read_by.Goals as goal
 
 pub returns-clause-stands : goal.returns-clause-stands

@@ -1,7 +1,9 @@
 use Rattle.std.proofs.Common.{◌-◌, Some, List, subst, ap, ◌∙◌}
 use Rattle.bd_space.specs.declared.space.Work.{Work}
 use Rattle.bd_space.specs.Todo.{work_on}
-use Rattle.bd_space.specs.Reading.{read_taking, read_by, got, stream_of, buffer_taken, taken}
+use Rattle.bd_space.specs.Reading.{read_taking, got}
+use Rattle.bd_space.specs.ReadItems.{read_by, buffer_taken, taken}
+use Rattle.bd_space.specs.Returns.{stream_of}
 use Rattle.bd_engine.specs.Stands.{Within}
 use Rattle.bd_engine.proofs.Standing.{within}
 use Rattle.bd_engine.proofs.Meeting.{meets}

@@ -1,5 +1,5 @@
 use Rattle.std.proofs.Common.{rules}
-use Rattle.bd_space.specs.Exits.{thread_goes}
+use Rattle.bd_space.specs.ThreadExits.{thread_goes}
 use Rattle.bd_engine.proofs.tables.Tables.thread_goes.Goals as goal
 
 pub returns-clause-stands : goal.returns-clause-stands

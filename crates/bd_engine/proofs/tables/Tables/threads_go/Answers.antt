@@ -1,7 +1,7 @@
 use Rattle.std.proofs.Common.{◌+◌, sym, subst, arith, rules}
 use Rattle.std.proofs.lemmas.List.Sums.{fold_more}
 use Rattle.bd_space.specs.Space.{Space}
-use Rattle.bd_space.specs.Exits.{thread_goes}
+use Rattle.bd_space.specs.ThreadExits.{thread_goes}
 use Rattle.bd_engine.specs.Stands.{StandsAt}
 use Rattle.bd_engine.proofs.tables.Tables.threads_go.Goals as goal
 

@@ -1,7 +1,7 @@
 use Rattle.std.proofs.Common.{◌≤◌, take}
 use Rattle.std.specs.List.{fold}
 use Rattle.bd_space.specs.Space.{Space}
-use Rattle.bd_space.specs.Exits.{thread_goes}
+use Rattle.bd_space.specs.ThreadExits.{thread_goes}
 use Rattle.bd_objects.specs.Room.{death_count}
 use Rattle.bd_engine.specs.Stands.{Within, Takes}
 use Rattle.bd_engine.proofs.tables.Tables.threads_go.Given as goal

@@ -1,7 +1,7 @@
 use Rattle.std.proofs.Common.{ℕ, ◌≡◌, take}
 use Rattle.std.specs.List.{fold}
 use Rattle.bd_space.specs.Space.{Space}
-use Rattle.bd_space.specs.Delivery.{translate_item}
+use Rattle.bd_space.specs.Translation.{translate_item}
 use Rattle.bd_engine.specs.Stands.{StandsAt}
 use Rattle.bd_engine.proofs.tables.Tables.translate.Given as goal
 

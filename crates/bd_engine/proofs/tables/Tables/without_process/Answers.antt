@@ -1,7 +1,7 @@
 use Rattle.std.proofs.Common.{◌∙◌, ap, not, ◌==◌, sym}
 use Rattle.std.specs.List.{filter}
 use Rattle.bd_space.specs.declared.space.Process.{Process}
-use Rattle.bd_space.specs.Exits.{without_process, manager_without}
+use Rattle.bd_space.specs.ProcessExits.{without_process, manager_without}
 use Rattle.bd_engine.proofs.tables.Tables.without_process.Goals as goal
 
 pub returns-clause-stands : goal.returns-clause-stands

@@ -1,5 +1,5 @@
 use Rattle.std.proofs.Common.{refl, sym, ap, ◌∙◌}
-use Rattle.bd_space.specs.Exits.{tell_deaths}
+use Rattle.bd_space.specs.ProcessExits.{tell_deaths}
 use Rattle.bd_space.specs.Names.{has_number_past_limit}
 use Rattle.bd_objects.proofs.Telling.{Told-all}
 use Rattle.bd_objects.proofs.table.ObjectTable.tell_deaths.Goals as goal

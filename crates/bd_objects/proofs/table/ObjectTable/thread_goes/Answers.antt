@@ -1,4 +1,4 @@
-use Rattle.bd_space.specs.Exits.{thread_goes, is_lost_with}
+use Rattle.bd_space.specs.ThreadExits.{thread_goes, is_lost_with}
 use Rattle.bd_space.specs.declared.space.TodoList.TheVariants.{OfThread}
 use Rattle.bd_objects.proofs.table.ObjectTable.thread_goes.Goals as goal
 

@@ -1,6 +1,6 @@
 use Rattle.std.proofs.Common.{rules, not, ◌==◌}
 use Rattle.bd_objects.proofs.Filters.{numbers-filter}
-use Rattle.bd_space.specs.Exits.{without_process}
+use Rattle.bd_space.specs.ProcessExits.{without_process}
 use Rattle.bd_objects.proofs.table.ObjectTable.without_process.Goals as goal
 
 pub returns-clause-stands : goal.returns-clause-stands

@@ -1,0 +1,71 @@
+-- The steps of BC_CLEAR_DEATH_NOTIFICATION and BC_DEAD_BINDER_DONE.
+use Rattle.std.specs.Prelude.{ℕ, ◌==◌, Bool, true, false, not, ◌&&◌, Option, Some, None, Result, find, if◌then◌else◌}
+use Rattle.bd_uapi.specs.declared.fault.Note.{Note}
+use Rattle.bd_uapi.specs.declared.fault.Note.TheVariants.{NoSuchNumber, NoneAsked, NoneTold}
+use Rattle.bd_space.specs.declared.space.DeathNotification.{DeathNotification}
+use Rattle.bd_space.specs.declared.space.Phase.{Phase}
+use Rattle.bd_space.specs.declared.space.Phase.TheVariants.{Armed, Queued, Told, Done}
+use Rattle.bd_space.specs.declared.space.TodoList.TheVariants.{OfThread}
+use Rattle.bd_space.specs.declared.space.WorkKind.TheVariants.{Cleared}
+use Rattle.bd_space.specs.Words.{found_or, unless, when, and_then, changed}
+use Rattle.bd_space.specs.Space.{Space}
+use Rattle.bd_space.specs.Names.{named}
+use Rattle.bd_space.specs.Todo.{owe}
+use Rattle.bd_space.specs.Outcomes.{Outcome, accepted, noted, by_check}
+use Rattle.bd_space.specs.Deaths.{uncleared_in, is_notification, without_death, with_phase}
+
+-- ---- clearing
+
+abbrev pub clear_note : ℕ → DeathNotification → Option Note
+clear_note cookie x = when (not (x.cookie == cookie)) NoneAsked
+
+abbrev pub cleared_by : ℕ → Option DeathNotification → Result DeathNotification Note
+cleared_by cookie x = and_then (found_or x NoneAsked) (λ y. unless (clear_note cookie y) y)
+
+unfoldable pub clear_check : Space → ℕ → ℕ → ℕ → Result DeathNotification Note
+clear_check s p n cookie = and_then (found_or (named s p n) NoSuchNumber) (λ o. cleared_by cookie (uncleared_in s.deaths p o))
+
+abbrev pub is_out : Phase → Bool
+is_out Armed = false
+is_out Queued = true
+is_out Told = true
+is_out Done = false
+
+-- queued or told it is marked, and no longer belongs to the name
+unfoldable pub mark_cleared : Space → ℕ → Space
+mark_cleared s made = record s { deaths = changed (is_notification made) (λ x. record x { cleared = true }) s.deaths }
+
+-- it goes, and the thread is told
+unfoldable pub death_ended : Space → ℕ → DeathNotification → Space
+death_ended s seat x = owe (without_death s x.made) (OfThread seat) (Cleared x.cookie)
+
+-- armed or done it goes
+unfoldable pub cleared : Space → ℕ → DeathNotification → Space
+cleared s seat x = if is_out x.phase then mark_cleared s x.made else death_ended s seat x
+
+unfoldable pub clear_step : Space → ℕ → ℕ → ℕ → ℕ → Outcome
+clear_step s seat p n cookie = by_check s (cleared s seat) (clear_check s p n cookie)
+
+-- ---- acknowledging
+
+abbrev pub is_told : Phase → Bool
+is_told Told = true
+is_told _ = false
+
+abbrev pub is_told_with : ℕ → ℕ → DeathNotification → Bool
+is_told_with p cookie x = is_told x.phase && (x.process == p) && (x.cookie == cookie)
+
+-- the least told notification with this cookie
+unfoldable pub told_death : Space → ℕ → ℕ → Option DeathNotification
+told_death s p cookie = find (is_told_with p cookie) s.deaths
+
+-- a marked one goes, and the thread is told; else it is done
+unfoldable pub death_done : Space → ℕ → DeathNotification → Space
+death_done s seat x = if x.cleared then death_ended s seat x else with_phase s x.made Done
+
+abbrev pub death_done_outcome : Space → ℕ → Option DeathNotification → Outcome
+death_done_outcome s seat None = noted s NoneTold
+death_done_outcome s seat (Some x) = accepted (death_done s seat x)
+
+unfoldable pub death_done_step : Space → ℕ → ℕ → ℕ → Outcome
+death_done_step s seat p cookie = death_done_outcome s seat (told_death s p cookie)

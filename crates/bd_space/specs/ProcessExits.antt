@@ -1,0 +1,65 @@
+-- The step that ends a process.
+use Rattle.std.specs.Prelude.{ℕ, ◌==◌, Bool, true, false, not, ◌&&◌, ◌||◌, List, map, Option, Some, None, filter, fold, if◌then◌else◌}
+use Rattle.bd_space.specs.declared.step.ObjectId.{ObjectId}
+use Rattle.bd_space.specs.declared.step.StepAnswer.TheVariants.{Exited}
+use Rattle.bd_space.specs.declared.space.Thread.{Thread}
+use Rattle.bd_space.specs.declared.space.Object.{Object}
+use Rattle.bd_space.specs.declared.space.Reference.{Reference}
+use Rattle.bd_space.specs.declared.space.DeathNotification.{DeathNotification}
+use Rattle.bd_space.specs.declared.space.TodoList.TheVariants.{OfProcess}
+use Rattle.bd_space.specs.declared.space.WorkKind.TheVariants.{Death}
+use Rattle.bd_space.specs.declared.space.Phase.{Phase}
+use Rattle.bd_space.specs.declared.space.Phase.TheVariants.{Armed, Queued}
+use Rattle.bd_space.specs.Space.{Space}
+use Rattle.bd_space.specs.declared.space.Actor.{Actor}
+use Rattle.bd_space.specs.References.{owned_in, is_asked_by, is_in_window, is_of_owner}
+use Rattle.bd_space.specs.Todo.{owe, is_on}
+use Rattle.bd_space.specs.Notices.{follow}
+use Rattle.bd_space.specs.Settle.{settle}
+use Rattle.bd_space.specs.Deaths.{with_phase}
+use Rattle.bd_space.specs.Outcomes.{Outcome}
+use Rattle.bd_space.specs.ThreadExits.{unread_frame, thread_goes}
+
+abbrev pub seat_of : Thread → ℕ
+seat_of t = t.seat
+
+-- all its threads end first
+unfoldable pub threads_go : Space → ℕ → Space
+threads_go s p = fold thread_goes s (map seat_of (filter (λ t. t.process == p) s.threads))
+
+-- the process asked for it, a buffer in its window holds it, or it is its own to acknowledge or the context manager's
+abbrev pub is_dropped_with : List Object → ℕ → Reference → Bool
+is_dropped_with objects p r = is_asked_by p r.holder || is_in_window p r.holder || (owned_in objects p r.object && is_of_owner r.holder)
+
+abbrev pub manager_without : List Object → ℕ → Option ObjectId → Option ObjectId
+manager_without objects p None = None
+manager_without objects p (Some o) = if owned_in objects p o then None else Some o
+
+-- everything that is the process's goes; its objects stay as long as others refer to them
+unfoldable pub without_process : Space → ℕ → Space
+without_process s p = record s {
+  processes = filter (λ q. not (q.made == p)) s.processes;
+  manager = manager_without s.objects p s.manager;
+  frames = map (unread_frame s.todo (OfProcess p)) s.frames;
+  references = filter (λ r. not (is_dropped_with s.objects p r)) s.references;
+  names = filter (λ m. not (m.process == p)) s.names;
+  buffers = filter (λ b. not (b.receiver == p)) s.buffers;
+  deaths = filter (λ x. not (x.process == p)) s.deaths;
+  todo = filter (λ w. not (is_on (OfProcess p) w)) s.todo;
+}
+
+abbrev pub is_armed : Phase → Bool
+is_armed Armed = true
+is_armed _ = false
+
+-- an armed notification on an object of the process is told
+abbrev pub tell_death : ℕ → Space → DeathNotification → Space
+tell_death p s x =
+    if is_armed x.phase && owned_in s.objects p x.object then owe (with_phase s x.made Queued) (OfProcess x.process) (Death x.made) else s
+
+unfoldable pub tell_deaths : Space → ℕ → Space
+tell_deaths s p = fold (tell_death p) s s.deaths
+
+unfoldable pub exit_process_step : Space → Actor → Outcome
+exit_process_step s a =
+    record { answer = Exited; space = settle (follow (tell_deaths (without_process (threads_go s a.process.made) a.process.made) a.process.made)) }

@@ -1,0 +1,104 @@
+-- The items that a read takes, and what reading them changes.
+use Rattle.std.specs.Prelude.{ℕ, ◌+◌, ◌-◌, ◌==◌, nat_lt, Bool, true, false, List, [], ◌∷◌, ◌++◌, length, map, Option, Some, None, option_and_then, if◌then◌else◌}
+use Rattle.std.specs.List.{list_any, flat_map}
+use Rattle.bd_uapi.specs.declared.command.Return.{Return}
+use Rattle.bd_uapi.specs.declared.command.Return.TheVariants as br
+use Rattle.bd_space.specs.declared.step.ObjectId.{ObjectId}
+use Rattle.bd_space.specs.declared.space.Object.{Object}
+use Rattle.bd_space.specs.declared.space.Reference.{Reference}
+use Rattle.bd_space.specs.declared.space.Frame.{Frame}
+use Rattle.bd_space.specs.declared.space.Buffer.{Buffer}
+use Rattle.bd_space.specs.declared.space.Work.{Work}
+use Rattle.bd_space.specs.declared.space.DeathNotification.{DeathNotification}
+use Rattle.bd_space.specs.declared.space.Holder.TheVariants.{Handshake}
+use Rattle.bd_space.specs.declared.space.Server.TheVariants.{Serving}
+use Rattle.bd_space.specs.declared.space.WorkKind.{WorkKind}
+use Rattle.bd_space.specs.declared.space.WorkKind.TheVariants as work
+use Rattle.bd_space.specs.declared.space.Phase.TheVariants.{Told}
+use Rattle.bd_space.specs.Words.{first_of, is_some_and, same, changed}
+use Rattle.bd_space.specs.Space.{Space}
+use Rattle.bd_space.specs.References.{reference_of, held_in, strong_in}
+use Rattle.bd_space.specs.Todo.{notice_of, death_of, handed_over, is_call, without_taken}
+use Rattle.bd_space.specs.Freeing.{is_made_at}
+use Rattle.bd_space.specs.Returns.{buffer_in, returns_of, bytes_read}
+
+-- ---- which they are
+
+-- nothing is read after a BR_TRANSACTION, BR_REPLY or BR_DEAD_BINDER
+abbrev pub ends_read : WorkKind → Bool
+ends_read (work.Call b) = true
+ends_read (work.Reply b) = true
+ends_read (work.Death n) = true
+ends_read _ = false
+
+-- item after item is taken while 68 bytes or more are left, up to one that ends the read
+abbrev pub taken : Space → ℕ → List Work → List Work
+taken s left [] = []
+taken s left (w ∷ ws) =
+    if nat_lt left 68 then [] else
+    (w ∷ (if ends_read w.kind then [] else taken s (left - length (bytes_read s w)) ws))
+
+-- ---- what changes
+
+-- the buffer that is handed over, if any
+unfoldable pub buffer_taken : Space → List Work → Option Buffer
+buffer_taken s ws = option_and_then (buffer_in s.buffers) (first_of (map (λ w. handed_over w.kind) ws))
+
+-- the owner is to acknowledge a BR_INCREFS and a BR_ACQUIRE
+abbrev pub shakes : Return → List Bool
+shakes (br.Increfs ptr cookie) = false ∷ []
+shakes (br.Acquire ptr cookie) = true ∷ []
+shakes _ = []
+
+abbrev pub handshakes_for : ℕ → ℕ → ObjectId → List Bool → List Reference
+handshakes_for place k o [] = []
+handshakes_for place k o (strong ∷ rest) = reference_of place k o strong Handshake ∷ handshakes_for place (k + 1) o rest
+
+abbrev pub handshakes_of : Space → ℕ → WorkKind → List Reference
+handshakes_of s k kind = elim (notice_of kind) [ None ↦ [] | Some o ↦ handshakes_for s.steps k o (flat_map shakes (returns_of s kind)) ]
+
+-- numbered from k in the order of the reading
+abbrev pub handshakes : Space → ℕ → List Work → List Reference
+handshakes s k [] = []
+handshakes s k (w ∷ ws) = let hs = handshakes_of s k w.kind in hs ++ handshakes s (k + length hs) ws
+
+-- an owner that is told knows what is so
+abbrev pub is_told_by : List Work → ObjectId → Bool
+is_told_by ws o = list_any (λ w. is_some_and (notice_of w.kind) (same o)) ws
+
+abbrev pub told_of : List Reference → Object → Object
+told_of references x = record x { told_weak = held_in references x.id; told_strong = strong_in references x.id }
+
+abbrev pub told_objects : Space → List Work → List Object
+told_objects s ws = changed (λ x. is_told_by ws x.id) (told_of s.references) s.objects
+
+abbrev pub hand_out : Buffer → Buffer
+hand_out b = record b { handed = true }
+
+abbrev pub handed_buffers : List Buffer → Option Buffer → List Buffer
+handed_buffers buffers None = buffers
+handed_buffers buffers (Some b) = changed (is_made_at b.made) hand_out buffers
+
+-- the reader of a two-way call serves its frame
+abbrev pub serve : ℕ → Frame → Frame
+serve seat f = record f { server = Serving seat }
+
+abbrev pub served_frames : ℕ → List Work → List Frame → List Frame
+served_frames seat ws frames = changed (λ f. list_any (λ w. is_call f.made w.kind) ws) (serve seat) frames
+
+abbrev pub is_told_of_death : List Work → DeathNotification → Bool
+is_told_of_death ws x = list_any (λ w. is_some_and (death_of w.kind) (λ n. n == x.made)) ws
+
+abbrev pub told_deaths : List Work → List DeathNotification → List DeathNotification
+told_deaths ws deaths = changed (is_told_of_death ws) (λ x. record x { phase = Told }) deaths
+
+-- the space after these items were read by the thread of this seat, before what follows
+unfoldable pub read_by : Space → ℕ → List Work → Space
+read_by s seat ws = record s {
+  objects = told_objects s ws;
+  references = s.references ++ handshakes s 0 ws;
+  frames = served_frames seat ws s.frames;
+  buffers = handed_buffers s.buffers (buffer_taken s ws);
+  deaths = told_deaths ws s.deaths;
+  todo = without_taken ws s.todo;
+}
