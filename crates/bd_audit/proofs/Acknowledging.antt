@@ -21,15 +21,16 @@ use Rattle.bd_space.specs.Notices.{follow}
 use Rattle.bd_space.specs.Settle.{settle, settle_one, settle_times, is_abandoned}
 use Rattle.bd_space.specs.Outcomes.{completed}
 use Rattle.bd_space.specs.Asking.{is_own_with, done_note, done_check, acknowledge}
+use Rattle.bd_laws.specs.Lists.{In}
+use Rattle.bd_laws.specs.Tidy.{Before}
+use Rattle.bd_laws.proofs.Lists.{without-in, any-in, find-in}
+use Rattle.bd_laws.proofs.Tests.{and_then-ok, found-ok, unless-ok, when-none}
+use Rattle.bd_laws.proofs.Untouched.{Untouched, untouched, untouched-trans, told-untouched, closed-untouched, ripen-untouched}
+use Rattle.bd_laws.proofs.Checks.{actor-lives}
+use Rattle.bd_laws.proofs.Objects.{and-false}
 use Rattle.bd_audit.specs.Hearing.{Event, increfs_done, acquire_done}
 use Rattle.bd_audit.proofs.Orders.{Hearing, unheard, weakly, strongly, ended, hears_all}
-use Rattle.bd_audit.proofs.Lists.{In, without-in, any-in, find-in}
-use Rattle.bd_audit.proofs.Tests.{and_then-ok, found-ok, unless-ok, when-none}
 use Rattle.bd_audit.proofs.Tallies.{tally-without, tally-first}
-use Rattle.bd_audit.proofs.Untouched.{Untouched, untouched, untouched-trans, told-untouched, closed-untouched, ripen-untouched}
-use Rattle.bd_audit.proofs.Checks.{actor-lives}
-use Rattle.bd_audit.proofs.Objects.{and-false}
-use Rattle.bd_audit.proofs.TurnLog.{Before}
 use Rattle.bd_audit.proofs.Telling.{is_weak, is_strong, waits, number, shaken, Tells, Tracks, HeardBefore, tells-same, shaking-parts, tracks-untouched, tracks-weaker, follow-told}
 use Rattle.bd_audit.proofs.Returns.{shakes-object}
 

@@ -41,16 +41,18 @@ use Rattle.bd_space.specs.Reading.{read_fault}
 use Rattle.bd_space.specs.Steps.{change, counted, by_actor}
 use Rattle.bd_space.specs.Histories.{after, next}
 use Rattle.bd_calls.specs.TodoList.{reply_of}
+use Rattle.bd_laws.specs.Lists.{In}
+use Rattle.bd_laws.proofs.EveryStep.{Keeps, every_step}
+use Rattle.bd_laws.proofs.Lists.{in-push, in-filter, in-changed, find-in, any-found}
+use Rattle.bd_laws.proofs.Tests.{not-true}
+use Rattle.bd_laws.proofs.Checks.{actor-lives, transaction-checked}
+use Rattle.bd_laws.proofs.Deaths.{on-mapped}
+use Rattle.bd_laws.proofs.PathWords.{served-is}
 use Rattle.bd_audit.specs.Replies.{made_in, thread_made, items_read, items_taken, items_unless, frame_of, Calls, TakesCall, AnswersCall, At}
-use Rattle.bd_audit.proofs.EveryStep.{Keeps, every_step}
-use Rattle.bd_audit.proofs.Lists.{In, in-push, in-filter, in-changed, find-in, any-found}
-use Rattle.bd_audit.proofs.Tests.{not-true}
 use Rattle.bd_audit.proofs.Beginnings.{after-append}
-use Rattle.bd_audit.proofs.Checks.{actor-lives, transaction-checked}
 use Rattle.bd_audit.proofs.Chains.{always-steps}
 use Rattle.bd_audit.proofs.Quiet as quiet
 use Rattle.bd_audit.proofs.Quiet.{Quiet, with_work-quiet, quiet-trans}
-use Rattle.bd_audit.proofs.Deaths.{on-mapped}
 
 -- ---- places
 
@@ -177,20 +179,6 @@ pub actor-made : (s : Space) (seat : ℕ) (a : Actor) → actor s seat ≡ Some 
 actor-made s seat a h =
     let k = (actor-lives s seat a h).0 in
     (eqb-true a.thread.seat seat (find-in (λ (t : Thread). t.seat == seat) a.thread s.threads k).1, ap (λ o. option_map (λ (t : Thread). t.made) o) k)
-
-pub served-is : (s : Space) (seat : ℕ) (f : Frame) → served_innermost s seat ≡ Some f → (innermost_in s.frames seat ≡ Some f) × (f.server ≡ Serving seat)
-unfolding served_innermost
-served-is s seat f h = option_and_then_some (if_served seat) (innermost_in s.frames seat) f h (λ g e k. at g e (serves seat g.server) refl k)
-  where
-    server : (x : Server) → serves seat x ≡ true → x ≡ Serving seat
-    server Pending e = absurd (cc)
-    server (Serving t) e = ap (λ n. Serving n) (eqb-true t seat e)
-    server Gone e = absurd (cc)
-
-    at : (g : Frame) → innermost_in s.frames seat ≡ Some g → (b : Bool) → serves seat g.server ≡ b → cond b (Some g) None ≡ Some f
-        → (innermost_in s.frames seat ≡ Some f) × (f.server ≡ Serving seat)
-    at g e true i k = let is : g ≡ f = cc in (e ∙ ap (λ x. Some x) is, subst (λ (x : Frame). x.server ≡ Serving seat) is (server g.server i))
-    at g e false i k = absurd (cc)
 
 -- ---- the threads that deliver are the ones that were
 

@@ -37,23 +37,24 @@ use Rattle.bd_space.specs.ProcessExits.{threads_go, without_process, tell_deaths
 use Rattle.bd_space.specs.ReadItems.{taken, read_by, buffer_taken, hand_out, handed_buffers}
 use Rattle.bd_space.specs.Reading.{read_fault}
 use Rattle.bd_space.specs.Steps.{change, with_thread, with_process, with_manager}
+use Rattle.bd_laws.specs.Lists.{In}
+use Rattle.bd_laws.specs.OneWayCalls.{IsInTurn, On}
+use Rattle.bd_laws.proofs.EveryStep.{Keeps, every_step}
+use Rattle.bd_laws.proofs.Lists.{in-left, in-push, in-filter, filter-in, in-changed, changed-in, in-filter_map, any-in, fold-keeps}
+use Rattle.bd_laws.proofs.Tests.{not-true, ripe-parts}
+use Rattle.bd_laws.proofs.OneWay.{Less, own_notices-less}
+use Rattle.bd_laws.proofs.Untouched.{Untouched}
+use Rattle.bd_laws.proofs.Ripening.{turn-parts, taken-due, read-in, made-kept}
+use Rattle.bd_laws.proofs.Checks.{Transacts, transaction-checked, reply-checked}
+use Rattle.bd_laws.proofs.Passing.{After, lost-on, not-on, at_pointer-in, ask-after, drop_asked-after, acknowledge-after, follow-after}
+use Rattle.bd_laws.proofs.Received.{one-buffer}
+use Rattle.bd_laws.proofs.PathWords.{same-item}
+use Rattle.bd_laws.proofs.Deaths.{on-mapped, on-both}
 use Rattle.bd_audit.specs.Replies.{items_taken, items_read, items_unless}
 use Rattle.bd_audit.specs.TurnCalls.{CallsOneWay}
-use Rattle.bd_audit.proofs.EveryStep.{Keeps, every_step}
-use Rattle.bd_audit.proofs.Lists.{In, in-left, in-push, in-filter, filter-in, in-changed, changed-in, in-filter_map, any-in, fold-keeps}
-use Rattle.bd_audit.proofs.Tests.{not-true, ripe-parts}
-use Rattle.bd_audit.proofs.OneWay
-use Rattle.bd_audit.proofs.OneWay.{Less, own_notices-less}
-use Rattle.bd_audit.proofs.Untouched
-use Rattle.bd_audit.proofs.Untouched.{Untouched}
-use Rattle.bd_audit.proofs.Ripening.{turn-parts, taken-due, read-in, made-kept}
-use Rattle.bd_audit.proofs.InTurn.{IsInTurn}
-use Rattle.bd_audit.proofs.Checks.{Transacts, transaction-checked, reply-checked}
-use Rattle.bd_audit.proofs.Passing.{On, After, lost-on, not-on, at_pointer-in, ask-after, drop_asked-after, acknowledge-after, follow-after}
-use Rattle.bd_audit.proofs.TurnLog.{one-buffer}
-use Rattle.bd_audit.proofs.ReplyTaken.{same-item}
+use Rattle.bd_laws.proofs.OneWay
+use Rattle.bd_laws.proofs.Untouched
 use Rattle.bd_audit.proofs.Answering.{transaction-accepted}
-use Rattle.bd_audit.proofs.Deaths.{on-mapped, on-both}
 
 -- ---- the item of one call
 

@@ -30,9 +30,11 @@ use Rattle.bd_space.specs.Steps.{counted, with_thread, with_process, with_manage
 use Rattle.bd_space.specs.Asking.{ask, drop_asked, acknowledge}
 use Rattle.bd_space.specs.Commands.{with_looping}
 use Rattle.bd_space.specs.Histories.{after}
+use Rattle.bd_laws.specs.Lists.{In}
+use Rattle.bd_laws.proofs.EveryStep.{Keeps, every_step}
+use Rattle.bd_laws.proofs.Lists.{in-push, in-filter, in-map, in-changed}
+use Rattle.bd_laws.proofs.Deaths.{tell_deaths-aside, on-mapped, on_deaths-aside}
 use Rattle.bd_audit.specs.Replies.{made_in, thread_made}
-use Rattle.bd_audit.proofs.EveryStep.{Keeps, every_step}
-use Rattle.bd_audit.proofs.Lists.{In, in-push, in-filter, in-map, in-changed}
 use Rattle.bd_audit.proofs.Beginnings.{after-append}
 use Rattle.bd_audit.proofs.Chains.{always-steps}
 use Rattle.bd_audit.proofs.Quiet.{made-changed}
@@ -41,9 +43,8 @@ use Rattle.bd_audit.proofs.ReplyLaw.{stood, placed}
 use Rattle.bd_audit.proofs.Places.{between}
 use Rattle.bd_audit.proofs.Seated as seated
 use Rattle.bd_audit.proofs.Seated.{seat_at, always-seated, made-pushed, made-before, none-left}
-use Rattle.bd_audit.proofs.Paths as path
-use Rattle.bd_audit.proofs.PathCalls as path_call
-use Rattle.bd_audit.proofs.Deaths.{tell_deaths-aside, on-mapped, on_deaths-aside}
+use Rattle.bd_laws.proofs.Paths as path
+use Rattle.bd_laws.proofs.PathCalls as path_call
 
 abbrev pub HasCallers : List Entry → Space → Type 0
 HasCallers es z = (f : Frame) (m t : ℕ) → In f z.frames → Called es f.made m → thread_made z t ≡ Some m → f.caller ≡ Some t

@@ -32,20 +32,23 @@ use Rattle.bd_space.specs.ReadItems.{taken, read_by}
 use Rattle.bd_space.specs.Reading.{read_fault, read_step, read_taking}
 use Rattle.bd_space.specs.Steps.{change, counted, by_actor}
 use Rattle.bd_space.specs.Histories.{after, next}
+use Rattle.bd_laws.specs.Lists.{In}
+use Rattle.bd_laws.specs.OneWayCalls.{IsInTurn, On}
+use Rattle.bd_laws.specs.Tidy.{Before}
+use Rattle.bd_laws.proofs.EveryStep.{Keeps, every_step, every_list}
+use Rattle.bd_laws.proofs.Lists.{in-push, in-filter, in-filter_map, any-found, any-in}
+use Rattle.bd_laws.proofs.Tests.{not-true, ripe-parts}
+use Rattle.bd_laws.proofs.OneWay.{Less, own_notices-less, owe-less}
+use Rattle.bd_laws.proofs.Ripening.{turn-parts, read-in}
+use Rattle.bd_laws.proofs.InTurn.{is_call-hands}
+use Rattle.bd_laws.proofs.Passing.{After, untouched-after, follow-after, step-passes}
+use Rattle.bd_laws.proofs.Received.{step-before, opening-before, on-before}
+use Rattle.bd_laws.proofs.PathWords.{same-item}
+use Rattle.bd_laws.proofs.Deaths.{on-mapped}
 use Rattle.bd_audit.specs.Replies.{items_taken, items_read, items_unless, HandsOutCall, Calls, At}
 use Rattle.bd_audit.specs.Gifts.{Stands}
-use Rattle.bd_audit.proofs.EveryStep.{Keeps, every_step, every_list}
-use Rattle.bd_audit.proofs.Lists.{In, in-push, in-filter, in-filter_map, any-found, any-in}
-use Rattle.bd_audit.proofs.Tests.{not-true, ripe-parts}
-use Rattle.bd_audit.proofs.OneWay as one_way
-use Rattle.bd_audit.proofs.OneWay.{Less, own_notices-less, owe-less}
-use Rattle.bd_audit.proofs.Untouched as untouched
-use Rattle.bd_audit.proofs.Ripening.{turn-parts, read-in}
-use Rattle.bd_audit.proofs.InTurn.{IsInTurn, is_call-hands}
-use Rattle.bd_audit.proofs.Passing.{On, After, untouched-after, follow-after, step-passes}
-use Rattle.bd_audit.proofs.TurnLog.{Before, step-before, opening-before, on-before}
-use Rattle.bd_audit.proofs.ReplyTaken.{same-item}
-use Rattle.bd_audit.proofs.Deaths.{on-mapped}
+use Rattle.bd_laws.proofs.OneWay as one_way
+use Rattle.bd_laws.proofs.Untouched as untouched
 use Rattle.bd_audit.proofs.Chains.{always-steps}
 use Rattle.bd_audit.proofs.CallItems.{fresh-once, step-treats}
 use Rattle.bd_audit.proofs.CallsOut.{items-due}

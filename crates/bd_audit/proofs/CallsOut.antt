@@ -40,14 +40,16 @@ use Rattle.bd_space.specs.ReadItems.{taken, ends_read, read_by, buffer_taken, ha
 use Rattle.bd_space.specs.Returns.{bytes_read, buffer_in}
 use Rattle.bd_space.specs.Reading.{read_fault, read_step, read_taking}
 use Rattle.bd_space.specs.Steps.{change, by_actor}
+use Rattle.bd_laws.specs.Lists.{In}
+use Rattle.bd_laws.specs.OneWayCalls.{On}
+use Rattle.bd_laws.proofs.Lists.{in-last, find-in, find-some, changed-in}
+use Rattle.bd_laws.proofs.Ripening.{read-in}
+use Rattle.bd_laws.proofs.Checks.{transaction-checked}
+use Rattle.bd_laws.proofs.Passing.{follow-after}
 use Rattle.bd_audit.specs.TurnSearch.{is_handed}
 use Rattle.bd_audit.specs.Replies.{items_taken, items_read, items_unless}
 use Rattle.bd_audit.specs.TurnCalls.{CallsOneWay}
-use Rattle.bd_audit.proofs.Lists.{In, in-last, find-in, find-some, changed-in}
-use Rattle.bd_audit.proofs.Untouched
-use Rattle.bd_audit.proofs.Ripening.{read-in}
-use Rattle.bd_audit.proofs.Checks.{transaction-checked}
-use Rattle.bd_audit.proofs.Passing.{On, follow-after}
+use Rattle.bd_laws.proofs.Untouched
 use Rattle.bd_audit.proofs.TurnLog.{handed-in}
 
 -- ---- what a reading takes was due

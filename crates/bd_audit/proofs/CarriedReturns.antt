@@ -38,10 +38,11 @@ use Rattle.bd_space.specs.Steps.{counted, with_thread, with_process, with_manage
 use Rattle.bd_space.specs.Asking.{ask, drop_asked, acknowledge}
 use Rattle.bd_space.specs.Commands.{with_looping}
 use Rattle.bd_space.specs.Histories.{after, next}
+use Rattle.bd_laws.specs.Lists.{In}
+use Rattle.bd_laws.proofs.EveryStep.{KeepsWhole, every_whole_step, every_list}
+use Rattle.bd_laws.proofs.Lists.{in-push, in-filter, fold-keeps}
+use Rattle.bd_laws.proofs.Deaths.{KeptOnDeaths, on-kept, on-told}
 use Rattle.bd_audit.specs.HandedReplies.{is_reply}
-use Rattle.bd_audit.proofs.EveryStep.{KeepsWhole, every_whole_step, every_list}
-use Rattle.bd_audit.proofs.Lists.{In, in-push, in-filter, fold-keeps}
-use Rattle.bd_audit.proofs.Deaths.{KeptOnDeaths, on-kept, on-told}
 
 -- a return that the item itself carries is no BR_REPLY
 abbrev pub is_plain : WorkKind → Bool

@@ -24,15 +24,17 @@ use Rattle.bd_space.specs.Asking.{ask_check, ask_step}
 use Rattle.bd_space.specs.Commands.{command_step}
 use Rattle.bd_space.specs.Steps.{change, counted}
 use Rattle.bd_space.specs.Histories.{History, after, next, space_after}
+use Rattle.bd_laws.specs.Lists.{In}
+use Rattle.bd_laws.specs.Tidy.{Before}
+use Rattle.bd_laws.proofs.Lists.{any-in}
+use Rattle.bd_laws.proofs.Tests.{and-both, eq-same}
+use Rattle.bd_laws.proofs.Sendings.{Owns, named-has}
+use Rattle.bd_laws.proofs.Passing.{step-passes}
+use Rattle.bd_laws.proofs.Received.{step-before, opening-before}
 use Rattle.bd_audit.specs.Gifts as gifts
 use Rattle.bd_audit.specs.Gifts.{is_by, is_carried_to, is_asking_0, AsksManager, Stands, Gives, OwnerGives, ManagerGives, IsChainFrom, IsGiftChain}
-use Rattle.bd_audit.proofs.Lists.{In, any-in}
-use Rattle.bd_audit.proofs.Tests.{and-both, eq-same}
 use Rattle.bd_audit.proofs.Beginnings.{after-append}
-use Rattle.bd_audit.proofs.Sendings.{Owns, named-has}
 use Rattle.bd_audit.proofs.Naming.{ByHand, ByAsking, step-naming, has-number}
-use Rattle.bd_audit.proofs.Passing.{step-passes}
-use Rattle.bd_audit.proofs.TurnLog.{Before, step-before, opening-before}
 
 -- ---- more entries
 

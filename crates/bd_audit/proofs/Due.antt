@@ -25,14 +25,16 @@ use Rattle.bd_space.specs.Todo.{with_work, owe, is_notice, notice_of}
 use Rattle.bd_space.specs.Notices.{with_notice, wants_notice, differs_in, has_notice_in, work_goes, deaths_go, notify, follow}
 use Rattle.bd_space.specs.Steps.{change, counted, with_thread, with_process, with_manager}
 use Rattle.bd_space.specs.Histories.{History, next, space_after}
-use Rattle.bd_audit.proofs.Lists.{In, Pairs, in-push, in-last, in-left, in-filter, any-found, any-in, all-in, pairs-either, pairs-map, pairs-filter, fold-keeps}
-use Rattle.bd_audit.proofs.Tests.{same-eq, eq-same}
-use Rattle.bd_audit.proofs.EveryStep.{Keeps, every_step, every_list}
-use Rattle.bd_audit.proofs.InTurn.{at_most_one}
-use Rattle.bd_audit.proofs.Sendings.{Differ}
-use Rattle.bd_audit.proofs.Objects.{KeptBefore, IsKept, kept-step}
-use Rattle.bd_audit.proofs.TurnLog.{Before, step-before, opening-before}
-use Rattle.bd_audit.proofs.Noticing.{Apart, Once, Noticing, follow-wanted, step-noticing, opening-noticing}
+use Rattle.bd_laws.specs.Lists.{In, Pairs}
+use Rattle.bd_laws.specs.Objects.{Differ, KeptBefore}
+use Rattle.bd_laws.specs.Tidy.{Before}
+use Rattle.bd_laws.proofs.Lists.{in-push, in-last, in-left, in-filter, any-found, any-in, all-in, pairs-either, pairs-map, pairs-filter, fold-keeps}
+use Rattle.bd_laws.proofs.Tests.{same-eq, eq-same}
+use Rattle.bd_laws.proofs.EveryStep.{Keeps, every_step, every_list}
+use Rattle.bd_laws.proofs.InTurn.{at_most_one}
+use Rattle.bd_laws.proofs.Objects.{IsKept, kept-step}
+use Rattle.bd_laws.proofs.Received.{step-before, opening-before}
+use Rattle.bd_laws.proofs.Noticing.{Apart, Once, Noticing, follow-wanted, step-noticing, opening-noticing}
 use Rattle.bd_audit.proofs.Returns.{is-notice}
 
 -- of each object there is a Notice where its owner is to be told, and else none

@@ -9,11 +9,13 @@ use Rattle.bd_space.specs.declared.space.TodoList.TheVariants.{OfProcess}
 use Rattle.bd_space.specs.Space.{Space}
 use Rattle.bd_space.specs.Todo.{is_call, same_list}
 use Rattle.bd_space.specs.Turns.{turn_of, turns_of}
+use Rattle.bd_laws.specs.Lists.{In}
+use Rattle.bd_laws.specs.OneWayCalls.{IsInTurn}
+use Rattle.bd_laws.specs.Tidy.{Before}
+use Rattle.bd_laws.proofs.Lists.{all-in, in-filter_map, pairs-at}
+use Rattle.bd_laws.proofs.Ripening.{turn-parts}
+use Rattle.bd_laws.proofs.InTurn.{Alone, turns-alone, is_call-hands}
 use Rattle.bd_audit.specs.Laws.{stands_with_receiver, WaitsFor}
-use Rattle.bd_audit.proofs.Lists.{In, all-in, in-filter_map, pairs-at}
-use Rattle.bd_audit.proofs.Ripening.{turn-parts}
-use Rattle.bd_audit.proofs.InTurn.{IsInTurn, Alone, turns-alone, is_call-hands}
-use Rattle.bd_audit.proofs.TurnLog.{Before}
 
 on-process : (l : TodoList) (p q : ℕ) → l ≡ OfProcess p → q ≡ p → same_list l (OfProcess q) ≡ true
 on-process l p q e f = subst (λ k. same_list k (OfProcess q) ≡ true) (sym e) (eq-eqb p q (sym f))

@@ -41,29 +41,31 @@ use Rattle.bd_space.specs.ReadItems.{read_by, taken, serve}
 use Rattle.bd_space.specs.Reading.{read_fault}
 use Rattle.bd_space.specs.Steps.{change, counted, by_actor, with_process, with_manager}
 use Rattle.bd_space.specs.Histories.{after}
+use Rattle.bd_laws.specs.Lists.{In}
+use Rattle.bd_laws.proofs.EveryStep.{KeepsWhole, whole, every_whole_step}
+use Rattle.bd_laws.proofs.Lists.{in-last, in-push, in-filter, filter-in, changed-in, find-in, any-found, any-in}
+use Rattle.bd_laws.proofs.Tests.{both, and-both, not-false}
+use Rattle.bd_laws.proofs.Checks.{transaction-checked}
+use Rattle.bd_laws.proofs.Ripening.{read-in}
+use Rattle.bd_laws.proofs.Identities.{item-id}
+use Rattle.bd_laws.proofs.PathWords.{served-is}
+use Rattle.bd_laws.proofs.Deaths.{on-mapped, on-both}
 use Rattle.bd_audit.specs.Replies.{made_in, thread_made, items_taken, Calls, At}
 use Rattle.bd_audit.specs.Latest.{Closes, ReadsAnswer, is_answer, is_answer_of}
-use Rattle.bd_audit.proofs.EveryStep.{KeepsWhole, whole, every_whole_step}
-use Rattle.bd_audit.proofs.Lists.{In, in-last, in-push, in-filter, filter-in, changed-in, find-in, any-found, any-in}
-use Rattle.bd_audit.proofs.Tests.{both, and-both, not-false}
 use Rattle.bd_audit.proofs.Beginnings.{after-append}
-use Rattle.bd_audit.proofs.Checks.{transaction-checked}
 use Rattle.bd_audit.proofs.Chains.{always-steps}
 use Rattle.bd_audit.proofs.Quiet.{made-changed}
-use Rattle.bd_audit.proofs.Ripening as read
-use Rattle.bd_audit.proofs.Ripening.{read-in}
-use Rattle.bd_audit.proofs.ReplyTaken.{item-id}
-use Rattle.bd_audit.proofs.Answering.{Called, at-more, at-here, at-below, actor-made, served-is, absent, closed-absent, always-traced, takes-items}
+use Rattle.bd_laws.proofs.Ripening as read
+use Rattle.bd_audit.proofs.Answering.{Called, at-more, at-here, at-below, actor-made, absent, closed-absent, always-traced, takes-items}
 use Rattle.bd_audit.proofs.ReplyLaw.{NoFrame, stood, placed}
 use Rattle.bd_audit.proofs.Seated as seated
 use Rattle.bd_audit.proofs.Seated.{always-seated}
-use Rattle.bd_audit.proofs.Paths as path
-use Rattle.bd_audit.proofs.PathCalls as path_call
+use Rattle.bd_laws.proofs.Paths as path
+use Rattle.bd_laws.proofs.PathCalls as path_call
 use Rattle.bd_audit.proofs.Callers as callers
 use Rattle.bd_audit.proofs.Callers.{HasCallers, always-callers, called-before, seat-below}
 use Rattle.bd_audit.proofs.Lined.{always-lined}
 use Rattle.bd_audit.proofs.Unread.{Holds, Leaves, holds-trans, holds-owe, holds-follow, holds-ripen, sent-holds, leaves-same, attached-leaves, transacted-leaves, goes-leaves, ends-leaves, on_deaths-leaves}
-use Rattle.bd_audit.proofs.Deaths.{on-mapped, on-both}
 
 abbrev pub StandsIn : Space → ℕ → Type 0
 StandsIn z j = (f : Frame) × In f z.frames × (f.made ≡ j)

@@ -18,15 +18,15 @@ use Rattle.bd_space.specs.Names.{number_in, named}
 use Rattle.bd_space.specs.Steps.{change}
 use Rattle.bd_space.specs.Histories.{History, after, next, space_after}
 use Rattle.bd_engine.specs.Looks.{knows, process_of}
+use Rattle.bd_laws.proofs.Lists.{find-in}
+use Rattle.bd_laws.proofs.Tests.{both, same-eq}
+use Rattle.bd_laws.proofs.Sendings.{HasName, named-has}
+use Rattle.bd_laws.proofs.Checks.{actor-lives}
 use Rattle.bd_audit.specs.declared.gifts.Gift.{Gift}
 use Rattle.bd_audit.specs.Replays.{with_entry}
 use Rattle.bd_audit.specs.Gifts.{Stands, IsChainFrom, IsGiftChain}
 use Rattle.bd_audit.specs.GiftSearch.{knows_after, giver_in, gift_made, GivenBy, IsGift, IsHolder}
-use Rattle.bd_audit.proofs.Lists.{find-in}
-use Rattle.bd_audit.proofs.Tests.{both, same-eq}
 use Rattle.bd_audit.proofs.Beginnings.{after-append}
-use Rattle.bd_audit.proofs.Sendings.{HasName, named-has}
-use Rattle.bd_audit.proofs.Checks.{actor-lives}
 use Rattle.bd_audit.proofs.Naming.{ByHand, ByAsking, step-naming, has-number}
 use Rattle.bd_audit.proofs.Chains.{stands-more, begins-more, here, sends, asks, owns-test, counted-objects, counted-names, always-steps}
 

@@ -10,16 +10,17 @@ use Rattle.bd_space.specs.Space.{Space, opening}
 use Rattle.bd_space.specs.References.{object_in, held_in}
 use Rattle.bd_space.specs.Steps.{counted}
 use Rattle.bd_space.specs.Histories.{History, after, next, space_after}
+use Rattle.bd_laws.specs.Objects.{Here}
+use Rattle.bd_laws.specs.Tidy.{Before}
+use Rattle.bd_laws.proofs.EveryStep.{every_list}
+use Rattle.bd_laws.proofs.Lists.{find-in}
+use Rattle.bd_laws.proofs.Tests.{same-eq}
+use Rattle.bd_laws.proofs.Objects.{always-kept, here-found, gone-unheld}
+use Rattle.bd_laws.proofs.Passing.{step-passes}
+use Rattle.bd_laws.proofs.Received.{step-before, opening-before}
 use Rattle.bd_audit.specs.Replays.{beginning}
 use Rattle.bd_audit.specs.Laws.{space_at, is_here}
-use Rattle.bd_audit.proofs.EveryStep.{every_list}
-use Rattle.bd_audit.proofs.Lists.{find-in}
-use Rattle.bd_audit.proofs.Tests.{same-eq}
 use Rattle.bd_audit.proofs.Beginnings.{after-append}
-use Rattle.bd_audit.proofs.Sendings.{Here}
-use Rattle.bd_audit.proofs.Objects.{always-kept, here-found, gone-unheld}
-use Rattle.bd_audit.proofs.Passing.{step-passes}
-use Rattle.bd_audit.proofs.TurnLog.{Before, step-before, opening-before}
 use Rattle.bd_audit.proofs.ReplyLaw.{next-steps}
 use Rattle.bd_audit.proofs.Chains.{always-steps}
 

@@ -54,14 +54,15 @@ use Rattle.bd_space.specs.Outcomes.{Outcome, completed, refused, by_check}
 use Rattle.bd_space.specs.Steps.{change, open_step, open_outcome, open_fault, attach_step, attach_outcome, manager_step, manager_outcome, is_manager_busy, by_actor}
 use Rattle.bd_space.specs.Histories.{History, IsHistory, Follows, after}
 use Rattle.bd_calls.specs.TodoList.{reply_of, first_reply_in}
+use Rattle.bd_laws.specs.Lists.{In}
+use Rattle.bd_laws.proofs.Lists.{find-some}
+use Rattle.bd_laws.proofs.Tests.{not-true}
+use Rattle.bd_laws.proofs.Ripening.{read-in}
 use Rattle.bd_audit.specs.Hearing.{is_got}
 use Rattle.bd_audit.specs.Replies.{items_read, items_taken, items_unless, reply_taken, At}
 use Rattle.bd_audit.specs.Streams.{SpellsItems}
 use Rattle.bd_audit.specs.HandedReplies.{is_reply, HandsOut}
-use Rattle.bd_audit.proofs.Lists.{In, find-some}
-use Rattle.bd_audit.proofs.Tests.{not-true}
 use Rattle.bd_audit.proofs.Beginnings.{follows-rest}
-use Rattle.bd_audit.proofs.Ripening.{read-in}
 use Rattle.bd_audit.proofs.ReplyBuffers.{RepliesHeld, always-held}
 use Rattle.bd_audit.proofs.CarriedReturns.{is_plain, always-plain}
 

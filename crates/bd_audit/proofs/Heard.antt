@@ -30,15 +30,17 @@ use Rattle.bd_space.specs.Reading.{got, read_taking, read_fault, read_step}
 use Rattle.bd_space.specs.Returns.{stream_of}
 use Rattle.bd_space.specs.Steps.{change, counted, by_actor}
 use Rattle.bd_space.specs.Histories.{History, IsHistory, Follows, EntryFollows, next}
+use Rattle.bd_laws.specs.Lists.{In}
+use Rattle.bd_laws.specs.Tidy.{Before}
+use Rattle.bd_laws.proofs.Lists.{find-in}
+use Rattle.bd_laws.proofs.Tests.{both, same-eq, eq-same}
+use Rattle.bd_laws.proofs.EveryStep.{IsReading, IsAcknowledging, every_step}
+use Rattle.bd_laws.proofs.Ripening.{read-in}
+use Rattle.bd_laws.proofs.Received.{step-before, opening-before}
+use Rattle.bd_laws.proofs.Passing.{step-passes}
+use Rattle.bd_laws.proofs.Noticing.{Noticing, step-noticing, opening-noticing}
 use Rattle.bd_audit.specs.Hearing.{Event, heard_in, names_own, acknowledged, is_got, is_accepted, heard_by, heard_at, heard_from, heard_of, InOrder}
 use Rattle.bd_audit.proofs.Orders.{hears-append, in-order, Hearing, unheard, hears_all}
-use Rattle.bd_audit.proofs.Lists.{In, find-in}
-use Rattle.bd_audit.proofs.Tests.{both, same-eq, eq-same}
-use Rattle.bd_audit.proofs.EveryStep.{IsReading, IsAcknowledging, every_step}
-use Rattle.bd_audit.proofs.Ripening.{read-in}
-use Rattle.bd_audit.proofs.TurnLog.{Before, step-before, opening-before}
-use Rattle.bd_audit.proofs.Passing.{step-passes}
-use Rattle.bd_audit.proofs.Noticing.{Noticing, step-noticing, opening-noticing}
 use Rattle.bd_audit.proofs.Telling.{Tracks, HeardBefore, follow-told, quiet-step}
 use Rattle.bd_audit.proofs.Acknowledging.{done_event, done-checked, actor-alive, HeardAfter, silent-after, other-done, own-done, completed-after}
 use Rattle.bd_audit.proofs.Readings.{reads-all, read-list-once}

@@ -25,13 +25,14 @@ use Rattle.bd_space.specs.Reading.{read_fault}
 use Rattle.bd_space.specs.Returns.{bytes_read}
 use Rattle.bd_space.specs.Histories.{History, after}
 use Rattle.bd_calls.specs.TodoList.{reply_of, first_reply_in}
+use Rattle.bd_laws.specs.Lists.{In, Pairs}
+use Rattle.bd_laws.proofs.Lists.{in-filter, filter-in, pairs-filter, any-found, any-in}
+use Rattle.bd_laws.proofs.Tests.{both, and-both}
+use Rattle.bd_laws.proofs.Ripening.{taken-in, read-in}
 use Rattle.bd_audit.specs.Replies.{thread_made, items_read, items_taken, items_unless, reply_taken, reply_taken_at, Answered, At}
 use Rattle.bd_audit.specs.Latest.{Closes, ReadsAnswer, Ended, AnswersLatest, is_answer, is_answer_of, before_reply}
-use Rattle.bd_audit.proofs.Lists.{In, Pairs, in-filter, filter-in, pairs-filter, any-found, any-in}
-use Rattle.bd_audit.proofs.Tests.{both, and-both}
 use Rattle.bd_audit.proofs.Chains.{always-steps}
 use Rattle.bd_audit.proofs.Answering.{Called, at-more, at-below, actor-made}
-use Rattle.bd_audit.proofs.Ripening.{taken-in, read-in}
 use Rattle.bd_audit.proofs.ReplyTaken.{first-in}
 use Rattle.bd_audit.proofs.ReplyLaw.{NoFrame, at-place, owed-after, took, taken-once, step-no_frame, no_frame-later, closed-no_frame}
 use Rattle.bd_audit.proofs.Callers.{called-before}

@@ -35,23 +35,25 @@ use Rattle.bd_space.specs.Steps.{counted, with_thread, with_process, with_manage
 use Rattle.bd_space.specs.Asking.{ask, drop_asked, acknowledge}
 use Rattle.bd_space.specs.Commands.{with_looping}
 use Rattle.bd_space.specs.Histories.{after, next}
+use Rattle.bd_laws.specs.Lists.{In}
+use Rattle.bd_laws.specs.Frames.{NoChild, Nested, OnPaths}
+use Rattle.bd_laws.proofs.EveryStep.{KeepsWhole, every_whole_step}
+use Rattle.bd_laws.proofs.Lists.{in-left, in-push, in-filter, filter-in, in-map, map-in, in-changed, changed-in, any-in, any-found, find-in, all-in}
+use Rattle.bd_laws.proofs.Tests.{both, not-false}
+use Rattle.bd_laws.proofs.Ripening.{read-in}
+use Rattle.bd_laws.proofs.Forests.{one-frame}
+use Rattle.bd_laws.proofs.Innermost.{differ, true-calls}
+use Rattle.bd_laws.proofs.Paths.{abandoned-childless, served-childless}
+use Rattle.bd_laws.proofs.PathReadings.{kind-called}
+use Rattle.bd_laws.proofs.Always.{always-on_paths}
+use Rattle.bd_laws.proofs.Deaths.{tell_deaths-aside, on-mapped, on_deaths-aside}
 use Rattle.bd_audit.specs.Replies.{made_in, thread_made, At}
 use Rattle.bd_audit.specs.Latest.{IsLatest}
 use Rattle.bd_audit.specs.Ending.{EndsCall}
-use Rattle.bd_audit.proofs.EveryStep.{KeepsWhole, every_whole_step}
-use Rattle.bd_audit.proofs.Lists.{In, in-left, in-push, in-filter, filter-in, in-map, map-in, in-changed, changed-in, any-in, any-found, find-in, all-in}
-use Rattle.bd_audit.proofs.Tests.{both, not-false}
-use Rattle.bd_audit.proofs.Ripening.{read-in}
-use Rattle.bd_audit.proofs.Forests.{NoChild, Nested, one-frame}
-use Rattle.bd_audit.proofs.Innermost.{differ, true-calls}
-use Rattle.bd_audit.proofs.Paths as path
-use Rattle.bd_audit.proofs.PathCalls as path_call
-use Rattle.bd_audit.proofs.Paths.{OnPaths, abandoned-childless, served-childless}
-use Rattle.bd_audit.proofs.PathReadings.{kind-called}
-use Rattle.bd_audit.proofs.EveryPath.{always-on_paths}
+use Rattle.bd_laws.proofs.Paths as path
+use Rattle.bd_laws.proofs.PathCalls as path_call
 use Rattle.bd_audit.proofs.Seated as seated
 use Rattle.bd_audit.proofs.Seated.{made-before, none-left}
-use Rattle.bd_audit.proofs.Deaths.{tell_deaths-aside, on-mapped, on_deaths-aside}
 
 -- a frame made there, with the same parent, is among these
 abbrev Stays : Frame → List Frame → Type 0

@@ -31,15 +31,17 @@ use Rattle.bd_space.specs.Commands.{command_step}
 use Rattle.bd_space.specs.Steps.{change, by_actor}
 use Rattle.bd_space.specs.Histories.{History, after}
 use Rattle.bd_calls.specs.TodoList.{reply_of}
+use Rattle.bd_laws.specs.Lists.{In}
+use Rattle.bd_laws.proofs.Lists.{any-in, all-in}
+use Rattle.bd_laws.proofs.Checks.{reply-checked, transaction-may_call}
+use Rattle.bd_laws.proofs.PathWords.{served-is}
+use Rattle.bd_laws.proofs.Innermost.{innermost-is, innermost-childless, calls-true, true-calls, all-true}
+use Rattle.bd_laws.proofs.Always.{always-on_paths}
 use Rattle.bd_audit.specs.Replies.{thread_made, frame_of, reply_taken_at, Calls, AnswersCall, At, Answered}
 use Rattle.bd_audit.specs.Latest.{IsLatest}
-use Rattle.bd_audit.proofs.Lists.{In, any-in, all-in}
 use Rattle.bd_audit.proofs.Chains.{always-steps}
-use Rattle.bd_audit.proofs.Checks.{reply-checked, transaction-may_call}
-use Rattle.bd_audit.proofs.Answering.{Called, Answers, answers-more, at-more, served-is, actor-made, always-traced, absent}
+use Rattle.bd_audit.proofs.Answering.{Called, Answers, answers-more, at-more, actor-made, always-traced, absent}
 use Rattle.bd_audit.proofs.ReplyLaw.{reaches, stood, took, at-place, owed-after, no_reply-later, step-no_reply}
-use Rattle.bd_audit.proofs.Innermost.{innermost-is, innermost-childless, calls-true, true-calls, all-true}
-use Rattle.bd_audit.proofs.EveryPath.{always-on_paths}
 use Rattle.bd_audit.proofs.Seated.{seat_at, always-seated}
 use Rattle.bd_audit.proofs.Callers.{called-before, always-callers}
 

@@ -41,8 +41,9 @@ use Rattle.bd_space.specs.Asking.{ask, drop_asked, acknowledge}
 use Rattle.bd_space.specs.Commands.{with_looping}
 use Rattle.bd_space.specs.Deaths.{with_phase}
 use Rattle.bd_space.specs.Histories.{after, next}
-use Rattle.bd_audit.proofs.EveryStep.{Keeps, every_step, every_list}
-use Rattle.bd_audit.proofs.Lists.{In, Pairs, in-push, in-filter, pairs-push, pairs-filter, fold-keeps}
+use Rattle.bd_laws.specs.Lists.{In, Pairs}
+use Rattle.bd_laws.proofs.EveryStep.{Keeps, every_step, every_list}
+use Rattle.bd_laws.proofs.Lists.{in-push, in-filter, pairs-push, pairs-filter, fold-keeps}
 use Rattle.bd_audit.proofs.RepliesDue.{count_at, count-work, count-filter, Lasts, wanted-due, wanted-push, items-fresh}
 
 -- no later item was made before

@@ -27,9 +27,10 @@ use Rattle.bd_space.specs.Transactions.{transacted, called, call_out}
 use Rattle.bd_space.specs.ReadItems.{read_by}
 use Rattle.bd_space.specs.ThreadExits.{thread_goes}
 use Rattle.bd_space.specs.ProcessExits.{threads_go, without_process, tell_deaths, seat_of}
+use Rattle.bd_laws.specs.Lists.{In}
+use Rattle.bd_laws.proofs.Lists.{in-push, in-filter}
+use Rattle.bd_laws.proofs.Deaths.{OnDeaths, KeptOnDeaths, on-kept, on-told}
 use Rattle.bd_audit.specs.Latest.{is_answer}
-use Rattle.bd_audit.proofs.Lists.{In, in-push, in-filter}
-use Rattle.bd_audit.proofs.Deaths.{OnDeaths, KeptOnDeaths, on-kept, on-told}
 
 -- no reply or verdict comes
 abbrev pub NoneNew : List Work → List Work → Type 0

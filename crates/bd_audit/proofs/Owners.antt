@@ -24,11 +24,12 @@ use Rattle.bd_space.specs.Todo.{is_on, same_list, work_on, list_to_read, has_wor
 use Rattle.bd_space.specs.Asking.{is_own_with}
 use Rattle.bd_space.specs.ReadItems.{taken}
 use Rattle.bd_space.specs.Histories.{after}
+use Rattle.bd_laws.specs.Lists.{In}
+use Rattle.bd_laws.proofs.Lists.{in-filter, any-in, find-in}
+use Rattle.bd_laws.proofs.Tests.{both, and-both, same-eq, eq-same}
+use Rattle.bd_laws.proofs.EveryStep.{every_list}
+use Rattle.bd_laws.proofs.Ripening.{taken-in, read-in}
 use Rattle.bd_audit.specs.Hearing.{Event, increfs_done, acquire_done, heard_in, names_own, acknowledged, is_got, is_accepted, heard_by, heard_at, is_by_owner}
-use Rattle.bd_audit.proofs.Lists.{In, in-filter, any-in, find-in}
-use Rattle.bd_audit.proofs.Tests.{both, and-both, same-eq, eq-same}
-use Rattle.bd_audit.proofs.EveryStep.{every_list}
-use Rattle.bd_audit.proofs.Ripening.{taken-in, read-in}
 use Rattle.bd_audit.proofs.Returns.{told-or-silent, silent-heard}
 use Rattle.bd_audit.proofs.Sitting.{Reaches, Placed, actor-process, actor-seat, step-placed, opening-placed}
 

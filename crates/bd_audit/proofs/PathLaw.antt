@@ -8,13 +8,14 @@ use Rattle.bd_space.specs.declared.space.Work.{Work}
 use Rattle.bd_space.specs.Words.{is_some_and}
 use Rattle.bd_space.specs.Frames.{ancestry, takes_part, is_frame, is_child_of}
 use Rattle.bd_space.specs.Histories.{History, space_after}
+use Rattle.bd_laws.specs.Lists.{In, Pairs}
+use Rattle.bd_laws.specs.Frames.{Forest, Older}
+use Rattle.bd_laws.proofs.Lists.{in-filter, all-in, pairs-filter}
+use Rattle.bd_laws.proofs.Innermost.{Newer, differ, in-reverse, reverse-in, newest-first, true-part}
+use Rattle.bd_laws.proofs.Always.{always-on_paths}
 use Rattle.bd_audit.specs.Laws.{space_at}
 use Rattle.bd_audit.specs.Replays.{beginning}
 use Rattle.bd_audit.specs.Paths.{is_on_way, is_one_path}
-use Rattle.bd_audit.proofs.Lists.{In, Pairs, in-filter, all-in, pairs-filter}
-use Rattle.bd_audit.proofs.Forests.{Forest, Older}
-use Rattle.bd_audit.proofs.Innermost.{Newer, differ, in-reverse, reverse-in, newest-first, true-part}
-use Rattle.bd_audit.proofs.EveryPath.{always-on_paths}
 
 -- ---- one open child
 

@@ -38,10 +38,12 @@ use Rattle.bd_space.specs.Steps.{with_thread, with_process, with_manager}
 use Rattle.bd_space.specs.Asking.{ask, drop_asked, acknowledge}
 use Rattle.bd_space.specs.Commands.{with_looping}
 use Rattle.bd_calls.specs.TodoList.{reply_of}
+use Rattle.bd_laws.specs.Lists.{In}
+use Rattle.bd_laws.proofs.Lists.{in-push, in-filter, in-map}
+use Rattle.bd_laws.proofs.Tests.{not-true}
+use Rattle.bd_laws.proofs.Deaths.{OnDeaths, KeptOnDeaths, on-kept, on-told}
+use Rattle.bd_laws.proofs.PathWords.{caller-stays, server-stays, unread-serving}
 use Rattle.bd_audit.specs.Replies.{made_in}
-use Rattle.bd_audit.proofs.Lists.{In, in-push, in-filter, in-map}
-use Rattle.bd_audit.proofs.Tests.{not-true}
-use Rattle.bd_audit.proofs.Deaths.{OnDeaths, KeptOnDeaths, on-kept, on-told}
 
 -- a frame of this thread, or a reply that it is to read
 abbrev pub Uses : Space → ℕ → Type 0
@@ -282,32 +284,6 @@ closed-quiet z made = record {
   frames = λ f l. (f, (in-filter (λ (g : Frame). not (is_frame made g)) f z.frames l).0, was-same f);
   threads = λ t m h u. h;
 }
-
-pub caller-stays : (seat : ℕ) (c : Option ℕ) (t : ℕ) → gone_caller seat c ≡ Some t → (c ≡ Some t) × ((t == seat) ≡ false)
-caller-stays seat None t h = absurd (cc)
-caller-stays seat (Some c) t h = at (c == seat) refl h
-  where
-    at : (b : Bool) → (c == seat) ≡ b → cond b None (Some c) ≡ Some t → (Some c ≡ Some t) × ((t == seat) ≡ false)
-    at true e h = absurd (cc)
-    at false e h = let is : c ≡ t = cc in (h, subst (λ n. (n == seat) ≡ false) is e)
-
-pub unread-serving : (todo : List Work) (list : TodoList) (n : ℕ) (v : Server) (t : ℕ) → unread_server todo list n v ≡ Serving t → v ≡ Serving t
-unread-serving todo list n Pending t h = at (is_unread_on todo list n) h
-  where
-    at : (b : Bool) → cond b Gone Pending ≡ Serving t → Pending ≡ Serving t
-    at true h = absurd (cc)
-    at false h = h
-unread-serving todo list n (Serving u) t h = h
-unread-serving todo list n Gone t h = absurd (cc)
-
-pub server-stays : (seat : ℕ) (v : Server) (t : ℕ) → gone_server seat v ≡ Serving t → (v ≡ Serving t) × ((t == seat) ≡ false)
-server-stays seat Pending t h = absurd (cc)
-server-stays seat (Serving u) t h = at (u == seat) refl h
-  where
-    at : (b : Bool) → (u == seat) ≡ b → cond b Gone (Serving u) ≡ Serving t → (Serving u ≡ Serving t) × ((t == seat) ≡ false)
-    at true e h = absurd (cc)
-    at false e h = let is : u ≡ t = cc in (h, subst (λ n. (n == seat) ≡ false) is e)
-server-stays seat Gone t h = absurd (cc)
 
 -- ---- exits
 

@@ -18,15 +18,17 @@ use Rattle.bd_space.specs.References.{held_in, strong_in, object_in, is_shaking,
 use Rattle.bd_space.specs.Todo.{notice_of, list_to_read, work_on, reads_in, is_on}
 use Rattle.bd_space.specs.Returns.{returns_of, returns_of_object, bytes_read}
 use Rattle.bd_space.specs.ReadItems.{shakes, handshakes, told_objects, told_of, is_told_by, read_by, taken, ends_read}
+use Rattle.bd_laws.specs.Lists.{In}
+use Rattle.bd_laws.specs.Tidy.{Before}
+use Rattle.bd_laws.proofs.Lists.{in-left, in-append, in-changed, any-found, any-in, find-in, find-some, pairs-filter}
+use Rattle.bd_laws.proofs.Tests.{both, and-both, same-eq, eq-same}
+use Rattle.bd_laws.proofs.Ripening.{taken-in}
+use Rattle.bd_laws.proofs.Objects.{told-id}
+use Rattle.bd_laws.proofs.Received.{one-object}
+use Rattle.bd_laws.proofs.Noticing.{Apart, Once, Noticing}
 use Rattle.bd_audit.specs.Hearing.{event_of, heard_in}
 use Rattle.bd_audit.proofs.Orders.{Hearing, unheard, hears_all}
-use Rattle.bd_audit.proofs.Lists.{In, in-left, in-append, in-changed, any-found, any-in, find-in, find-some, pairs-filter}
-use Rattle.bd_audit.proofs.Tests.{both, and-both, same-eq, eq-same}
 use Rattle.bd_audit.proofs.Tallies.{tally, tally-append, tally-first, tally-unmet}
-use Rattle.bd_audit.proofs.Ripening.{taken-in}
-use Rattle.bd_audit.proofs.Objects.{told-id}
-use Rattle.bd_audit.proofs.TurnLog.{Before, one-object}
-use Rattle.bd_audit.proofs.Noticing.{Apart, Once, Noticing}
 use Rattle.bd_audit.proofs.Telling.{is_weak, is_strong, waits, number, shaken, Tells, Tracks, HeardBefore, Same, tells-same, shaking-parts}
 use Rattle.bd_audit.proofs.Returns.{Silent, is_strength, returns_by, turned, silent-heard, silent-untold, silent-shaken, once-heard, once-shaken, told-or-silent, speaks-told, all-handshakes}
 

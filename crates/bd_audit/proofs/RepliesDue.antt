@@ -39,12 +39,13 @@ use Rattle.bd_space.specs.ReadItems.{read_by}
 use Rattle.bd_space.specs.Steps.{counted}
 use Rattle.bd_space.specs.Histories.{History, next, space_after}
 use Rattle.bd_calls.specs.TodoList.{reply_of}
-use Rattle.bd_audit.proofs.EveryStep.{Keeps, every_step, every_list}
-use Rattle.bd_audit.proofs.Lists.{In, in-push, in-filter, find-in, any-found, any-in}
-use Rattle.bd_audit.proofs.Tests.{both, same-eq}
+use Rattle.bd_laws.specs.Lists.{In}
+use Rattle.bd_laws.proofs.EveryStep.{Keeps, every_step, every_list}
+use Rattle.bd_laws.proofs.Lists.{in-push, in-filter, find-in, any-found, any-in}
+use Rattle.bd_laws.proofs.Tests.{both, same-eq}
+use Rattle.bd_laws.proofs.Deaths.{on-mapped}
 use Rattle.bd_audit.proofs.Quiet as quiet
 use Rattle.bd_audit.proofs.Quiet.{Quiet, Adds, with_work-quiet, adds-trans}
-use Rattle.bd_audit.proofs.Deaths.{on-mapped}
 
 pub record Owed (n : ℕ) (todo : List Work) : Type 0 where
   pub place : (w : Work) → In w todo → w.id.place < n

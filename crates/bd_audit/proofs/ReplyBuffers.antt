@@ -39,19 +39,21 @@ use Rattle.bd_space.specs.Asking.{ask, drop_asked, acknowledge}
 use Rattle.bd_space.specs.Commands.{with_looping}
 use Rattle.bd_space.specs.Histories.{after, next}
 use Rattle.bd_calls.specs.TodoList.{reply_of}
-use Rattle.bd_audit.proofs.EveryStep.{Keeps, every_step, every_list}
-use Rattle.bd_audit.proofs.Lists.{In, in-left, in-last, in-push, in-filter, filter-in, in-filter_map, changed-in, map-in, any-found, any-in, find-in, pairs-either, fold-keeps}
-use Rattle.bd_audit.proofs.Tests.{both, not-true}
-use Rattle.bd_audit.proofs.Checks.{actor-lives, reply-checked}
-use Rattle.bd_audit.proofs.OneWay as one_way
-use Rattle.bd_audit.proofs.OneWay.{InTurn, Waits, Less, owe-less, own_notices-less}
-use Rattle.bd_audit.proofs.InTurn as turn
-use Rattle.bd_audit.proofs.InTurn.{Turning, IsInTurn, opening-in_turn}
-use Rattle.bd_audit.proofs.Ripening.{taken-due, read-in, turn-parts}
-use Rattle.bd_audit.proofs.ReplyTaken.{same-item}
-use Rattle.bd_audit.proofs.PathCalls as path_call
+use Rattle.bd_laws.specs.Lists.{In}
+use Rattle.bd_laws.specs.OneWayCalls.{InTurn, Waits, IsInTurn}
+use Rattle.bd_laws.proofs.EveryStep.{Keeps, every_step, every_list}
+use Rattle.bd_laws.proofs.Lists.{in-left, in-last, in-push, in-filter, filter-in, in-filter_map, changed-in, map-in, any-found, any-in, find-in, pairs-either, fold-keeps}
+use Rattle.bd_laws.proofs.Tests.{both, not-true}
+use Rattle.bd_laws.proofs.Checks.{actor-lives, reply-checked}
+use Rattle.bd_laws.proofs.OneWay.{Less, owe-less, own_notices-less}
+use Rattle.bd_laws.proofs.InTurn.{Turning, opening-in_turn}
+use Rattle.bd_laws.proofs.Ripening.{taken-due, read-in, turn-parts}
+use Rattle.bd_laws.proofs.PathWords.{same-item}
+use Rattle.bd_laws.proofs.Deaths.{tell_deaths-aside, on-mapped, on-both, on_deaths-aside}
+use Rattle.bd_laws.proofs.OneWay as one_way
+use Rattle.bd_laws.proofs.InTurn as turn
+use Rattle.bd_laws.proofs.PathCalls as path_call
 use Rattle.bd_audit.proofs.Seated as seated
-use Rattle.bd_audit.proofs.Deaths.{tell_deaths-aside, on-mapped, on-both, on_deaths-aside}
 
 -- the buffer of the reply made at b, which stands on this list: one of a thread of the process that receives it
 pub record HasBuffer (threads : List Thread) (buffers : List Buffer) (list : TodoList) (b : ℕ) : Type 0 where

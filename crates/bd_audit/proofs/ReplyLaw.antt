@@ -26,11 +26,13 @@ use Rattle.bd_space.specs.Steps.{change, counted}
 use Rattle.bd_space.specs.Histories.{History, after, next, space_after}
 use Rattle.bd_calls.specs.TodoList.{reply_of, first_reply_in}
 use Rattle.bd_engine.specs.Looks.{first_reply}
+use Rattle.bd_laws.specs.Lists.{In}
+use Rattle.bd_laws.proofs.EveryStep.{Keeps, every_step}
+use Rattle.bd_laws.proofs.Lists.{in-push, in-filter, in-changed, find-in, any-in}
+use Rattle.bd_laws.proofs.Deaths.{on-mapped}
 use Rattle.bd_audit.specs.Gifts.{Stands}
 use Rattle.bd_audit.specs.Laws.{space_at}
 use Rattle.bd_audit.specs.Replies.{thread_made, items_taken, reply_taken, reply_taken_at, frame_of, call_closed_at, call_answered, AnswersCall, At, Answered}
-use Rattle.bd_audit.proofs.EveryStep.{Keeps, every_step}
-use Rattle.bd_audit.proofs.Lists.{In, in-push, in-filter, in-changed, find-in, any-in}
 use Rattle.bd_audit.proofs.Chains.{always-steps}
 use Rattle.bd_audit.proofs.Places.{mid, later-space, next-place, either-way}
 use Rattle.bd_audit.proofs.CallsOnce.{handed-once}
@@ -39,7 +41,6 @@ use Rattle.bd_audit.proofs.Quiet.{Quiet, with_work-quiet, quiet-trans}
 use Rattle.bd_audit.proofs.RepliesDue.{IsOwed, always-owed}
 use Rattle.bd_audit.proofs.ReplyTaken.{taken-or-not, first-stands, NoReply}
 use Rattle.bd_audit.proofs.Answering.{Answers, answers-more, sent-quiet, serve-made, always-traced}
-use Rattle.bd_audit.proofs.Deaths.{on-mapped}
 
 -- ---- what a step makes: frames and replies of its own place
 

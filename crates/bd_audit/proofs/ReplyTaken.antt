@@ -36,11 +36,14 @@ use Rattle.bd_space.specs.Steps.{change, counted, by_actor}
 use Rattle.bd_space.specs.Histories.{next}
 use Rattle.bd_calls.specs.TodoList.{reply_of, first_reply_in}
 use Rattle.bd_engine.specs.Looks.{first_reply}
+use Rattle.bd_laws.specs.Lists.{In}
+use Rattle.bd_laws.proofs.Lists.{in-filter, any-found, any-in, find-in}
+use Rattle.bd_laws.proofs.Tests.{both, and-both, not-true}
+use Rattle.bd_laws.proofs.Checks.{actor-lives}
+use Rattle.bd_laws.proofs.Ripening.{read-in}
+use Rattle.bd_laws.proofs.PathWords.{same-item}
+use Rattle.bd_laws.proofs.Identities.{item-id}
 use Rattle.bd_audit.specs.Replies.{items_read, items_taken, items_unless, reply_taken}
-use Rattle.bd_audit.proofs.Lists.{In, in-filter, any-found, any-in, find-in}
-use Rattle.bd_audit.proofs.Tests.{both, and-both, not-true}
-use Rattle.bd_audit.proofs.Checks.{actor-lives}
-use Rattle.bd_audit.proofs.Ripening.{read-in}
 use Rattle.bd_audit.proofs.Quiet.{follow-quiet}
 use Rattle.bd_audit.proofs.RepliesDue.{IsOwed}
 
@@ -57,14 +60,6 @@ eq-identity a b e = and-both (a.place == b.place) (a.index == b.index) (eq-eqb a
 same_list-same : (l : TodoList) → same_list l l ≡ true
 same_list-same (OfThread t) = eq-eqb t t refl
 same_list-same (OfProcess p) = eq-eqb p p refl
-
-pub item-id : (v w : Work) → is_item v w ≡ true → v.id ≡ w.id
-item-id v w h = identity-eq v.id w.id (both (same_identity v.id w.id) (is_on w.list v) h).0
-
-pub same-item : (v w : Work) → v ≡ w → is_item v w ≡ true
-same-item v w e =
-    and-both (same_identity v.id w.id) (is_on w.list v) (eq-identity v.id w.id (ap (λ (x : Work). x.id) e))
-    (ap (λ (x : Work). is_on w.list x) e ∙ same_list-same w.list)
 
 -- ---- the first reply of a list
 

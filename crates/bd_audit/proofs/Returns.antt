@@ -15,12 +15,13 @@ use Rattle.bd_space.specs.References.{reference_of, is_shaking, is_handshake, sa
 use Rattle.bd_space.specs.Todo.{is_notice, notice_of}
 use Rattle.bd_space.specs.Returns.{returns_of}
 use Rattle.bd_space.specs.ReadItems.{shakes, handshakes_for, handshakes_of, handshakes, is_told_by}
+use Rattle.bd_laws.specs.Lists.{In}
+use Rattle.bd_laws.proofs.Lists.{in-append, any-found, any-in}
+use Rattle.bd_laws.proofs.Tests.{same-eq, eq-same}
+use Rattle.bd_laws.proofs.Noticing.{Once, notice-is}
 use Rattle.bd_audit.specs.Hearing.{event_of, heard_in}
 use Rattle.bd_audit.proofs.Orders.{Hearing, unheard, weakly, strongly, ended, hears_all}
-use Rattle.bd_audit.proofs.Lists.{In, in-append, any-found, any-in}
-use Rattle.bd_audit.proofs.Tests.{same-eq, eq-same}
 use Rattle.bd_audit.proofs.Tallies.{tally, tally-append, tally-none}
-use Rattle.bd_audit.proofs.Noticing.{Once, notice-is}
 use Rattle.bd_audit.proofs.Telling.{is_weak, is_strong, waits, number, shaken}
 
 -- ---- the items that are read

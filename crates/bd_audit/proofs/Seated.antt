@@ -32,13 +32,13 @@ use Rattle.bd_space.specs.Steps.{counted, with_thread, with_process, with_manage
 use Rattle.bd_space.specs.Asking.{ask, drop_asked, acknowledge}
 use Rattle.bd_space.specs.Commands.{with_looping}
 use Rattle.bd_space.specs.Histories.{after}
+use Rattle.bd_laws.proofs.EveryStep.{Keeps, every_step}
+use Rattle.bd_laws.proofs.Deaths.{tell_deaths-aside, on-mapped, on_deaths-aside}
 use Rattle.bd_audit.specs.Replies.{made_in, thread_made}
-use Rattle.bd_audit.proofs.EveryStep.{Keeps, every_step}
 use Rattle.bd_audit.proofs.Beginnings.{after-append}
 use Rattle.bd_audit.proofs.Chains.{always-steps}
 use Rattle.bd_audit.proofs.Quiet.{made-kept, made-changed}
 use Rattle.bd_audit.proofs.ReplyLaw.{placed}
-use Rattle.bd_audit.proofs.Deaths.{tell_deaths-aside, on-mapped, on_deaths-aside}
 
 abbrev pub seat_at : List Entry → ℕ → Option ℕ
 seat_at es m = option_map (λ e. e.seat) (slice_get es m)

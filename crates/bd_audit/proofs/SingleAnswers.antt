@@ -33,25 +33,27 @@ use Rattle.bd_space.specs.ThreadExits.{thread_goes}
 use Rattle.bd_space.specs.ProcessExits.{threads_go, without_process, tell_deaths}
 use Rattle.bd_space.specs.Steps.{counted, with_thread, with_process, with_manager}
 use Rattle.bd_space.specs.Histories.{after}
+use Rattle.bd_laws.specs.Lists.{In}
+use Rattle.bd_laws.specs.Frames.{OnPaths}
+use Rattle.bd_laws.proofs.EveryStep.{KeepsWhole, whole, every_whole_step}
+use Rattle.bd_laws.proofs.Lists.{in-push, in-filter, in-changed, find-in}
+use Rattle.bd_laws.proofs.Tests.{both}
+use Rattle.bd_laws.proofs.PathWords.{served-is}
+use Rattle.bd_laws.proofs.Always.{always-on_paths}
+use Rattle.bd_laws.proofs.Deaths.{on-mapped, on-both}
 use Rattle.bd_audit.specs.Replies.{made_in, thread_made}
 use Rattle.bd_audit.specs.Latest.{is_answer}
-use Rattle.bd_audit.proofs.EveryStep.{KeepsWhole, whole, every_whole_step}
-use Rattle.bd_audit.proofs.Lists.{In, in-push, in-filter, in-changed, find-in}
-use Rattle.bd_audit.proofs.Tests.{both}
 use Rattle.bd_audit.proofs.Beginnings.{after-append}
 use Rattle.bd_audit.proofs.Quiet as quiet
 use Rattle.bd_audit.proofs.Quiet.{Quiet}
 use Rattle.bd_audit.proofs.Answering as answering
-use Rattle.bd_audit.proofs.Answering.{Traced, served-is, closed-absent, always-traced}
-use Rattle.bd_audit.proofs.PathCalls as path_call
-use Rattle.bd_audit.proofs.Paths.{OnPaths}
-use Rattle.bd_audit.proofs.EveryPath.{always-on_paths}
+use Rattle.bd_audit.proofs.Answering.{Traced, closed-absent, always-traced}
+use Rattle.bd_laws.proofs.PathCalls as path_call
 use Rattle.bd_audit.proofs.Lined.{always-lined}
 use Rattle.bd_audit.proofs.Unread.{transacted-leaves}
 use Rattle.bd_audit.proofs.LatestFirst as latest
 use Rattle.bd_audit.proofs.LatestFirst.{EarlierStay, earlier-kept, earlier-open}
 use Rattle.bd_audit.proofs.NoNewAnswers.{NoneNew, none-same, none-owe, none-follow, none-ripen, none-sent, none-transacted, none-read, none-goes, none-ends, none-on_deaths}
-use Rattle.bd_audit.proofs.Deaths.{on-mapped, on-both}
 
 abbrev pub Single : List Work → Type 0
 Single todo =

@@ -41,14 +41,16 @@ use Rattle.bd_space.specs.ThreadExits.{thread_goes}
 use Rattle.bd_space.specs.ProcessExits.{threads_go, without_process, tell_deaths, seat_of}
 use Rattle.bd_space.specs.Steps.{change, counted, with_thread, with_process, with_manager}
 use Rattle.bd_space.specs.Histories.{next}
-use Rattle.bd_audit.proofs.Lists.{In, Pairs, in-append, in-push, in-filter, in-changed, find-in, pairs-either, pairs-filter, fold-keeps}
-use Rattle.bd_audit.proofs.Tests.{same-eq}
-use Rattle.bd_audit.proofs.EveryStep.{Keeps, every_step}
-use Rattle.bd_audit.proofs.Checks.{transaction-checked, reply-checked, actor-lives}
-use Rattle.bd_audit.proofs.Sendings.{Here, Differ, Sends, sending-sends}
-use Rattle.bd_audit.proofs.Objects.{KeptBefore, IsKept, IsKeptWhole, kept-step, step-kept, opening-kept, closed-before, closed-sends, delivered-kept, told-id}
-use Rattle.bd_audit.proofs.Noticing.{Noticing, closed-noticing, step-noticing, opening-noticing}
-use Rattle.bd_audit.proofs.Deaths.{KeptOnDeaths, on-kept, on-told, on-both}
+use Rattle.bd_laws.specs.Lists.{In, Pairs}
+use Rattle.bd_laws.specs.Objects.{Here, Differ, KeptBefore}
+use Rattle.bd_laws.proofs.Lists.{in-append, in-push, in-filter, in-changed, find-in, pairs-either, pairs-filter, fold-keeps}
+use Rattle.bd_laws.proofs.Tests.{same-eq}
+use Rattle.bd_laws.proofs.EveryStep.{Keeps, every_step}
+use Rattle.bd_laws.proofs.Checks.{transaction-checked, reply-checked, actor-lives}
+use Rattle.bd_laws.proofs.Sendings.{Sends, sending-sends}
+use Rattle.bd_laws.proofs.Objects.{IsKept, IsKeptWhole, kept-step, step-kept, opening-kept, closed-before, closed-sends, delivered-kept, told-id}
+use Rattle.bd_laws.proofs.Noticing.{Noticing, closed-noticing, step-noticing, opening-noticing}
+use Rattle.bd_laws.proofs.Deaths.{KeptOnDeaths, on-kept, on-told, on-both}
 
 -- threads of q read the list
 abbrev pub Reaches : List Thread → TodoList → ℕ → Type 0

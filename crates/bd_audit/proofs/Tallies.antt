@@ -2,7 +2,8 @@
 use Rattle.std.proofs.Common.{ℕ, suc, ◌+◌, ◌≡◌, Bool, true, false, cond, ◌||◌, List, [], ◌∷◌, ◌++◌, inl, inr, refl, filter, arith}
 use Rattle.std.specs.List.{list_any}
 use Rattle.bd_space.specs.Words.{without_first}
-use Rattle.bd_audit.proofs.Lists.{In, any-in}
+use Rattle.bd_laws.specs.Lists.{In}
+use Rattle.bd_laws.proofs.Lists.{any-in}
 
 abbrev pub tally : {A : Type 0} → (A → Bool) → List A → ℕ
 tally p [] = 0

@@ -13,18 +13,22 @@ use Rattle.bd_space.specs.Todo.{is_call}
 use Rattle.bd_space.specs.Freeing.{is_made_at}
 use Rattle.bd_space.specs.Steps.{change, counted}
 use Rattle.bd_space.specs.Histories.{History, after, next}
+use Rattle.bd_laws.specs.Lists.{In, Pairs}
+use Rattle.bd_laws.specs.OneWayCalls.{On}
+use Rattle.bd_laws.specs.Tidy.{Before}
+use Rattle.bd_laws.proofs.EveryStep.{every_list}
+use Rattle.bd_laws.proofs.Lists.{pairs-map, pairs-at, at-pairs, in-left, in-right, map-in, filter_map-in, any-found, any-in}
+use Rattle.bd_laws.proofs.Tests.{and-both, not-true, not-false, eq-same}
+use Rattle.bd_laws.proofs.InTurn.{is_call-hands}
+use Rattle.bd_laws.proofs.Passing.{Passing, step-passes}
+use Rattle.bd_laws.proofs.Received.{step-before, opening-before, one-buffer}
 use Rattle.bd_audit.specs.declared.turns.Turn.{Turn}
 use Rattle.bd_audit.specs.TurnSearch.{is_call_on, is_live, is_handed, noted_at, marked, turn_made, next_turns, turns_from, turns_on}
 use Rattle.bd_audit.specs.Replies.{items_taken, HandsOutCall, At}
 use Rattle.bd_audit.specs.TurnCalls.{CallsOneWay, EndsBuffer, TellsOf, IsEarlier, AreTurns, TurnsTellOfCalls, IsTakenBefore, TurnsAreTaken}
-use Rattle.bd_audit.proofs.EveryStep.{every_list}
-use Rattle.bd_audit.proofs.Lists.{In, Pairs, pairs-map, pairs-at, at-pairs, in-left, in-right, map-in, filter_map-in, any-found, any-in}
-use Rattle.bd_audit.proofs.Tests.{and-both, not-true, not-false, eq-same}
 use Rattle.bd_audit.proofs.Beginnings.{after-append}
-use Rattle.bd_audit.proofs.InTurn.{is_call-hands}
-use Rattle.bd_audit.proofs.Passing.{On, Passing, step-passes}
 use Rattle.bd_audit.proofs.TurnLog as turn_log
-use Rattle.bd_audit.proofs.TurnLog.{Before, step-before, opening-before, one-buffer, Logged, log-after, no-turns, NewTurn, InOrder, always-ordered, live-in, live-found, handed-found, noted-some, noted-kept, some-case, counted-buffers}
+use Rattle.bd_audit.proofs.TurnLog.{Logged, log-after, no-turns, NewTurn, InOrder, always-ordered, live-in, live-found, handed-found, noted-some, noted-kept, some-case, counted-buffers}
 use Rattle.bd_audit.proofs.Chains.{always-steps}
 use Rattle.bd_audit.proofs.Answering.{at-more, at-here, at-below}
 use Rattle.bd_audit.proofs.CallItems.{DueOnce, fresh-once, Treats, step-treats}

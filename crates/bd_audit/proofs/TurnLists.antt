@@ -13,13 +13,14 @@ use Rattle.bd_space.specs.Space.{Space, opening}
 use Rattle.bd_space.specs.Freeing.{is_made_at}
 use Rattle.bd_space.specs.Returns.{buffer_in}
 use Rattle.bd_space.specs.Histories.{History, after, next, space_after}
+use Rattle.bd_laws.specs.Lists.{In, Pairs}
+use Rattle.bd_laws.specs.OneWayCalls.{Waits}
+use Rattle.bd_laws.proofs.Lists.{pairs-map}
+use Rattle.bd_laws.proofs.InTurn.{always-in_turn}
 use Rattle.bd_audit.specs.declared.turns.Turn.{Turn}
 use Rattle.bd_audit.specs.Replays.{with_entry}
 use Rattle.bd_audit.specs.TurnSearch.{is_call_on, is_live, is_handed, turn_made, next_turns, turns_from, turns_on}
-use Rattle.bd_audit.proofs.Lists.{In, Pairs, pairs-map}
 use Rattle.bd_audit.proofs.Beginnings.{after-append}
-use Rattle.bd_audit.proofs.OneWay.{Waits}
-use Rattle.bd_audit.proofs.InTurn.{always-in_turn}
 use Rattle.bd_audit.proofs.Chains.{always-steps}
 
 -- ---- the buffer made at a place

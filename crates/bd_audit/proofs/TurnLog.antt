@@ -13,134 +13,20 @@ use Rattle.bd_space.specs.Space.{Space, opening}
 use Rattle.bd_space.specs.Freeing.{is_made_at}
 use Rattle.bd_space.specs.Steps.{change, counted}
 use Rattle.bd_space.specs.Histories.{History, next, space_after}
-use Rattle.bd_audit.proofs.EveryStep.{every_list}
+use Rattle.bd_laws.specs.Lists.{In, Pairs}
+use Rattle.bd_laws.specs.OneWayCalls.{Due, Rivals, Waits, IsInTurn, On, OnLists}
+use Rattle.bd_laws.specs.Objects.{Differ, KeptBefore}
+use Rattle.bd_laws.specs.Tidy.{Before}
+use Rattle.bd_laws.proofs.EveryStep.{every_list}
+use Rattle.bd_laws.proofs.Lists.{in-append, in-map, any-found, any-in, in-filter_map, pairs-either}
+use Rattle.bd_laws.proofs.Tests.{both, and-both, same-eq, eq-same, not-true}
+use Rattle.bd_laws.proofs.InTurn.{Turning, step-in_turn, opening-in_turn}
+use Rattle.bd_laws.proofs.Objects.{step-kept, opening-kept}
+use Rattle.bd_laws.proofs.Passing.{Lives, Became, Ended, Passed, step-passes, on-turn}
+use Rattle.bd_laws.proofs.Received.{owner-before, on-before, on-after, one-buffer, step-before, opening-before}
 use Rattle.bd_audit.specs.declared.turns.Turn.{Turn}
 use Rattle.bd_audit.specs.TurnSearch.{is_call_on, is_live, is_handed, noted_at, marked, turn_made, next_turns, turns_from, turns_on}
 use Rattle.bd_audit.specs.TurnCalls.{IsTakenBefore}
-use Rattle.bd_audit.proofs.Lists.{In, Pairs, in-append, in-map, any-found, any-in, in-filter_map, pairs-either}
-use Rattle.bd_audit.proofs.Tests.{both, and-both, same-eq, eq-same, not-true}
-use Rattle.bd_audit.proofs.OneWay.{Due, Rivals, Waits}
-use Rattle.bd_audit.proofs.InTurn.{IsInTurn, Turning, step-in_turn, opening-in_turn}
-use Rattle.bd_audit.proofs.Sendings.{Differ}
-use Rattle.bd_audit.proofs.Objects.{KeptBefore, step-kept, opening-kept}
-use Rattle.bd_audit.proofs.Passing.{On, Lives, Became, Ended, Passed, OnLists, step-passes, on-turn}
-
--- ---- an object's one-way calls have one receiver
-
-pub record Received (s : Space) : Type 0 where
-  pub lists : OnLists s
-  pub own : (o : ObjectId) (b : Buffer) (x : Object) → In b s.buffers → On o b → In x s.objects → x.id ≡ o → x.owner ≡ b.receiver
-  pub one : (o : ObjectId) (b c : Buffer) → In b s.buffers → In c s.buffers → On o b → On o c → b.receiver ≡ c.receiver
-  pub old : (o : ObjectId) (b : Buffer) → In b s.buffers → On o b → o.place < s.steps
-  pub born : (q : Process) → In q s.processes → q.made < s.steps
-  pub owners : (x : Object) → In x s.objects → x.owner < s.steps
-
--- what holds before each step
-pub record Before (s : Space) : Type 0 where
-  pub turns : IsInTurn s
-  pub objects : KeptBefore s
-  pub received : Received s
-
-pub on-before : (s : Space) (o : ObjectId) (b c : Buffer) → Became s b c → On o c → On o b
-on-before s o b c k on = (sym k.one_way ∙ on.0, sym k.target ∙ on.1)
-
-on-after : (s : Space) (o : ObjectId) (b c : Buffer) → Became s b c → On o b → On o c
-on-after s o b c k on = (k.one_way ∙ on.0, k.target ∙ on.1)
-
-pub one-object : (s : Space) → KeptBefore s → (x y : Object) → In x s.objects → In y s.objects → x.id ≡ y.id → x ≡ y
-one-object s h x y i j e =
-    elim (pairs-either Differ s.objects h.kept.differ x y i j) [ inl k ↦ k | inr k ↦ elim k [ inl d ↦ absurd (d e) | inr d ↦ absurd (d (sym e)) ] ]
-
-pub one-buffer : (s : Space) → IsInTurn s → (b c : Buffer) → In b s.buffers → In c s.buffers → b.made ≡ c.made → b ≡ c
-one-buffer s h b c i j e =
-    elim (pairs-either (Waits s.todo) s.buffers h.waits b c i j) [
-      | inl k ↦ k
-      | inr k ↦ elim k [ inl w ↦ (let lt = w.earlier in absurd (omega arith)) | inr w ↦ (let lt = w.earlier in absurd (omega arith)) ]
-    ]
-
-module _ (s z : Space) (h : Before s) (p : Passed s z) where
-  -- the owner of an object that was there
-  abbrev WasOwned : ObjectId → ℕ → Type 0
-  WasOwned o q = (x : Object) × In x s.objects × (x.id ≡ o) × (x.owner ≡ q)
-
-  below : (o : ObjectId) (q : ℕ) → WasOwned o q → o.place < s.steps
-  below o q w = let lt = h.objects.kept.below w.0 w.1 in let e : w.0.id.place ≡ o.place = ap (λ (i : ObjectId). i.place) w.2 in omega arith
-
-  same-owner : (o : ObjectId) (q r : ℕ) → WasOwned o q → WasOwned o r → q ≡ r
-  same-owner o q r v w = sym v.3 ∙ ap (λ (x : Object). x.owner) (one-object s h.objects v.0 w.0 v.1 w.1 (v.2 ∙ sym w.2)) ∙ w.3
-
-  -- an object of before this step was there before it
-  was : (o : ObjectId) (x : Object) → o.place < s.steps → In x z.objects → x.id ≡ o → WasOwned o x.owner
-  was o x lt i e = elim (p.objects x i) [
-    | inl y ↦ (y.0, y.1, sym y.2 ∙ e, sym y.3)
-    | inr n ↦ (let at = n.0 in let f : x.id.place ≡ o.place = ap (λ (k : ObjectId). k.place) e in absurd (omega arith))
-  ]
-
-  old-before : (o : ObjectId) (c : Buffer) → In c z.buffers → On o c → o.place < s.steps
-  old-before o c i on = elim (p.from c i) [
-    | inl b ↦ h.received.old o b.0 b.1 (on-before s o b.0 c b.2 on)
-    | inr n ↦ (let x = n.owned o on in below o c.receiver (x.0, x.1, x.2, x.3))
-  ]
-
-  own-after : (o : ObjectId) (c : Buffer) (x : Object) → In c z.buffers → On o c → In x z.objects → x.id ≡ o → x.owner ≡ c.receiver
-  own-after o c x i on j e =
-      let w = was o x (old-before o c i on) j e in
-      elim (p.from c i) [
-        | inl b ↦ sym w.3 ∙ h.received.own o b.0 w.0 b.1 (on-before s o b.0 c b.2 on) w.1 w.2 ∙ sym b.2.receiver
-        | inr n ↦ (let y = n.owned o on in same-owner o x.owner c.receiver w (y.0, y.1, y.2, y.3))
-      ]
-
-  one-after : (o : ObjectId) (c d : Buffer) → In c z.buffers → In d z.buffers → On o c → On o d → c.receiver ≡ d.receiver
-  one-after o c d i j on ond = elim (p.from c i) [
-    | inl b ↦ elim (p.from d j) [
-      | inl e ↦ b.2.receiver ∙ h.received.one o b.0 e.0 b.1 e.1 (on-before s o b.0 c b.2 on) (on-before s o e.0 d e.2 ond) ∙ sym e.2.receiver
-      | inr n ↦ (let y = n.owned o ond in b.2.receiver ∙ sym (h.received.own o b.0 y.0 b.1 (on-before s o b.0 c b.2 on) y.1 y.2) ∙ y.3)
-    ]
-    | inr m ↦ (let x = m.owned o on in elim (p.from d j) [
-      | inl e ↦ sym x.3 ∙ h.received.own o e.0 x.0 e.1 (on-before s o e.0 d e.2 ond) x.1 x.2 ∙ sym e.2.receiver
-      | inr n ↦ (let y = n.owned o ond in same-owner o c.receiver d.receiver (x.0, x.1, x.2, x.3) (y.0, y.1, y.2, y.3))
-    ])
-  ]
-
-  lives-before : (q : ℕ) → Lives s.processes q → q < s.steps
-  lives-before q l = let lt = h.received.born l.0 l.1 in let e = l.2 in omega arith
-
-  pub received-after : Received (counted z)
-  unfolding counted
-  received-after =
-      let steps = p.steps in
-      record {
-        lists = p.lists;
-        own = own-after;
-        one = one-after;
-        old = λ o c i on. let lt = old-before o c i on in omega arith;
-        born = λ q i. elim (p.processes q i) [ inl k ↦ (let lt = h.received.born q k in omega arith) | inr e ↦ omega arith ];
-        owners = λ x i. elim (p.objects x i) [
-          | inl y ↦ (let lt = h.received.owners y.0 y.1 in let e = y.3 in omega arith)
-          | inr n ↦ (let lt = lives-before x.owner n.1 in omega arith)
-        ];
-      }
-
-pub step-before : (s : Space) (e : Entry) → Before s → Before (next s e)
-step-before s e h = record {
-  turns = step-in_turn s e h.turns;
-  objects = step-kept s e h.objects;
-  received = received-after s (change s e.seat e.step).space h (step-passes s e h.turns h.received.lists).passed;
-}
-
-pub opening-before : Before opening
-opening-before = record {
-  turns = opening-in_turn;
-  objects = opening-kept;
-  received = record {
-    lists = λ w c o i e j on. absurd i;
-    own = λ o b x i on j e. absurd i;
-    one = λ o b c i j on ond. absurd i;
-    old = λ o b i on. absurd i;
-    born = λ q i. absurd i;
-    owners = λ x i. absurd i;
-  };
-}
 
 -- ---- the turns of an object
 
@@ -222,7 +108,7 @@ module _ (s z : Space) (h : Before s) (turns : Turning z) (p : Passed s z) (o : 
   over-after k = record {
     old = let lt = k.old in let e = p.steps in omega arith;
     owner = λ x i e l.
-        let w = was s z h p o x k.old i e in
+        let w = owner-before s z h p o x k.old i e in
         elim (p.processes l.0 l.1) [
           | inl j ↦ k.owner w.0 w.1 w.2 (l.0, j, l.2 ∙ sym w.3)
           | inr n ↦ (let lt = h.received.owners w.0 w.1 in let a = w.3 in let m = l.2 in absurd (omega arith))
@@ -238,7 +124,7 @@ module _ (s z : Space) (h : Before s) (turns : Turning z) (p : Passed s z) (o : 
   ended-over b i on k = record {
     old = let lt = h.received.old o b i on in let e = p.steps in omega arith;
     owner = λ x j e l.
-        let w = was s z h p o x (h.received.old o b i on) j e in
+        let w = owner-before s z h p o x (h.received.old o b i on) j e in
         k.process (l.0, l.1, l.2 ∙ sym w.3 ∙ h.received.own o b w.0 i on w.1 w.2);
     none = λ c j onc. elim (p.from c j) [
       | inl d ↦ k.buffers c j (d.2.receiver ∙ h.received.one o d.0 b d.1 i (on-before s o d.0 c d.2 onc) on)
@@ -521,10 +407,6 @@ pub no-turns : (o : ObjectId) → Logged o [] opening
 no-turns o = record { past = λ t i. absurd i; live = λ t i e. absurd i; gone = λ t i q e b j m. absurd i; over = λ t i q e f. absurd i; order = tt }
 
 -- what holds before each step holds after every history
-pub always-before : (h : History) → Before (space_after h)
-unfolding space_after
-always-before h = every_list Before step-before h.entries opening opening-before
-
 pub always-ordered : (o : ObjectId) (h : History) → Pairs InOrder (turns_on o h)
 unfolding turns_on
 always-ordered o h = (log-all o h.entries opening [] opening-before (no-turns o)).1.order

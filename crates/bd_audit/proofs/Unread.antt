@@ -30,14 +30,15 @@ use Rattle.bd_space.specs.Transactions.{transacted, called, call_out}
 use Rattle.bd_space.specs.ThreadExits.{thread_goes, frame_without, unread_frame}
 use Rattle.bd_space.specs.ProcessExits.{threads_go, without_process, tell_deaths, seat_of}
 use Rattle.bd_space.specs.Steps.{with_thread}
+use Rattle.bd_laws.specs.Lists.{In}
+use Rattle.bd_laws.proofs.Lists.{in-left, in-push, in-map, map-in, filter-in, fold-keeps}
+use Rattle.bd_laws.proofs.Tests.{not-false}
+use Rattle.bd_laws.proofs.Deaths.{OnDeaths, KeptOnDeaths, on-kept, on-told}
 use Rattle.bd_audit.specs.Replies.{made_in, thread_made}
 use Rattle.bd_audit.specs.Latest.{is_answer}
-use Rattle.bd_audit.proofs.Lists.{In, in-left, in-push, in-map, map-in, filter-in, fold-keeps}
-use Rattle.bd_audit.proofs.Tests.{not-false}
 use Rattle.bd_audit.proofs.Seated as seated
 use Rattle.bd_audit.proofs.Seated.{made-pushed, made-before, none-left}
-use Rattle.bd_audit.proofs.PathCalls as path_call
-use Rattle.bd_audit.proofs.Deaths.{OnDeaths, KeptOnDeaths, on-kept, on-told}
+use Rattle.bd_laws.proofs.PathCalls as path_call
 
 -- no reply or verdict goes
 abbrev pub Holds : List Work → List Work → Type 0

@@ -11,17 +11,10 @@ use Rattle.bd_space.specs.Todo.{is_call, same_list}
 use Rattle.bd_space.specs.Turns.{turns_of}
 use Rattle.bd_space.specs.References.{object_in, held_in}
 use Rattle.bd_space.specs.Histories.{History, IsHistory, space_after}
+use Rattle.bd_laws.specs.Laws.{is_out, out_on}
 use Rattle.bd_audit.specs.Replays.{beginning}
 
 -- ---- one-way calls: of one object's, one is due or handed out at a time
-
--- the call is due, or it was handed out
-abbrev pub is_out : List Work → Turn → Bool
-is_out todo t = t.handed || list_any (λ w. is_call t.made w.kind) todo
-
--- the object's one-way calls that are due or handed out, and whose buffers live
-abbrev pub out_on : ObjectId → Space → List Turn
-out_on o s = filter (λ t. same t.target o && is_out s.todo t) (turns_of s.buffers)
 
 abbrev pub OneAtATime : Type 0
 OneAtATime = (h : History) → IsHistory h → (o : ObjectId) → length (out_on o (space_after h)) ≤ 1

@@ -1,40 +1,8 @@
-//! Steps copied, and answers compared.
+//! Answers compared.
 
-ghost use Rattle.std.specs.Prelude.{◌≡◌, ◌↔◌, IsTrue, IfOk};
+ghost use Rattle.std.specs.Prelude.{◌≡◌, ◌↔◌, IsTrue};
 
-use bd_space::{Bytes, Parcel, Step, StepAnswer};
-use std::alloc::AllocError;
-
-fn parcel_copied(parcel: &Option<Parcel>) -> Result<Option<Parcel>, AllocError>
-    ensures { IfOk result (λ p. p ≡ parcel.now) }
-{
-    match parcel {
-        Some(parcel) => Ok(Some(parcel.copied()?)),
-        None => Ok(None),
-    }
-}
-
-/// The same step again, in memory of its own.
-pub(crate) fn step_copied(step: &Step) -> Result<Step, AllocError>
-    ensures { IfOk result (λ s. s ≡ step.now) }
-{
-    Ok(match step {
-        Step::Open { pid, euid, window } => Step::Open {
-            pid: *pid,
-            euid: *euid,
-            window: *window,
-        },
-        Step::Attach { pid } => Step::Attach { pid: *pid },
-        Step::SetManager => Step::SetManager,
-        Step::Command { command, parcel } => Step::Command {
-            command: *command,
-            parcel: parcel_copied(parcel)?,
-        },
-        Step::Read { limit } => Step::Read { limit: *limit },
-        Step::ExitThread => Step::ExitThread,
-        Step::ExitProcess => Step::ExitProcess,
-    })
-}
+use bd_space::{Bytes, StepAnswer};
 
 fn is_same_bytes(a: &Bytes, b: &Bytes) -> bool
     ensures { IsTrue result ↔ (a.now ≡ b.now) }

@@ -5,7 +5,7 @@ ghost use Rattle.bd_space.specs.Histories.{IsHistory, history_in};
 ghost use Rattle.bd_audit.specs.Replays as spec;
 ghost use Rattle.bd_audit.specs.Replays.{with_entry, Begins, IfUnlawful, IfNoMemory, StopsAt};
 
-use crate::answers::{is_same_answer, step_copied};
+use crate::answers::is_same_answer;
 use bd_engine::{Engine, Why};
 use bd_space::{Entry, Record};
 use std::alloc::Global;
@@ -52,7 +52,7 @@ pub(crate) fn accept(engine: &mut Engine, entry: &Entry) -> Result<(), AuditFaul
     if entry.seat >= engine.seats() || at == u32::MAX {
         return Err(AuditFault::Unlawful { at });
     }
-    let Ok(step) = step_copied(&entry.step) else {
+    let Ok(step) = entry.step.copied() else {
         return Err(AuditFault::NoMemory);
     };
     match engine.step(entry.seat, step) {

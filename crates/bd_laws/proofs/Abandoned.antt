@@ -1,0 +1,124 @@
+-- Closing one frame can leave only its parent abandoned: so settling goes up from there.
+use Rattle.std.proofs.Common.{◌≡◌, ℕ, zero, suc, ◌==◌, Bool, true, false, cond, not, ◌&&◌, List, [], ◌∷◌, Option, Some, None, inl, inr, refl, ap, sym, subst, ◌∙◌, filter, find, length}
+use Rattle.std.specs.List.{list_any}
+use Rattle.std.proofs.lemmas.Bool.{eqb-true, eq-eqb}
+use Rattle.bd_uapi.specs.declared.command.Return.TheVariants.{DeadReply}
+use Rattle.bd_space.specs.declared.space.Frame.{Frame}
+use Rattle.bd_space.specs.declared.space.TodoList.TheVariants.{OfThread}
+use Rattle.bd_space.specs.declared.space.WorkKind.{WorkKind}
+use Rattle.bd_space.specs.declared.space.WorkKind.TheVariants.{Verdict}
+use Rattle.bd_space.specs.Space.{Space}
+use Rattle.bd_space.specs.Frames.{is_gone, is_frame, is_child_of, closed}
+use Rattle.bd_space.specs.Words.{is_some_and}
+use Rattle.bd_space.specs.Todo.{owe, tell_caller}
+use Rattle.bd_space.specs.Settle.{is_abandoned, settle_one, settle_step, settle_times, settle}
+use Rattle.bd_laws.specs.Local.{close_up}
+use Rattle.bd_laws.specs.Lists.{In}
+use Rattle.bd_laws.proofs.Lists.{in-filter, filter-in, any-found, any-in, find-in}
+use Rattle.bd_laws.proofs.Tests.{both, and-both, not-true, not-false}
+use Rattle.bd_laws.proofs.Settled.{times-still}
+use Rattle.bd_laws.proofs.Fewer.{to-false}
+use Rattle.bd_laws.proofs.Sending.{find-none, none-found}
+
+-- frames are told by where they were made
+abbrev pub OneEach : List Frame → Type 0
+OneEach fs = (f g : Frame) → In f fs → In g fs → f.made ≡ g.made → f ≡ g
+
+-- only the frame made there may be abandoned
+abbrev pub OnlyAt : Option ℕ → List Frame → Type 0
+OnlyAt m fs = (f : Frame) → In f fs → is_abandoned fs f ≡ true → m ≡ Some f.made
+
+-- ---- one step first
+
+pub times-first : (n : ℕ) (z : Space) → settle_times (suc n) z ≡ settle_times n (settle_step z)
+times-first zero z = refl
+times-first (suc n) z = ap settle_step (times-first n z)
+
+pub find-same : {A : Type 0} (p q : A → Bool) (xs : List A) → ((x : A) → In x xs → p x ≡ q x) → find p xs ≡ find q xs
+find-same p q [] h = refl
+find-same p q (x ∷ xs) h =
+    ap (λ b. cond b (Some x) (find p xs)) (h x (inl refl)) ∙ ap (λ o. cond (q x) (Some x) o) (find-same p q xs (λ y l. h y (inr l)))
+
+pub told-frames : (z : Space) (caller : Option ℕ) (kind : WorkKind) → (elim caller as (λ (o : Option ℕ). Space) [ None ↦ z | Some t ↦ owe z (OfThread t) kind ]).frames ≡ z.frames
+unfolding owe
+told-frames z None kind = refl
+told-frames z (Some t) kind = refl
+
+pub closed-frames : (z : Space) (made : ℕ) → (closed z made).frames ≡ filter (λ g. not (is_frame made g)) z.frames
+unfolding closed
+closed-frames z made = refl
+
+-- no other frame than its parent becomes abandoned when a frame closes
+pub only-parent : (fs : List Frame) (f : Frame) → OneEach fs → In f fs → ((g : Frame) → In g fs → is_abandoned fs g ≡ true → g.made ≡ f.made)
+    → OnlyAt f.parent (filter (λ g. not (is_frame f.made g)) fs)
+only-parent fs f one l only g m abandoned =
+    let keep = λ (g : Frame). not (is_frame f.made g) in
+    let i = in-filter keep g fs m in
+    let t = both (is_gone g.server) (not (list_any (is_child_of g) (filter keep fs))) abandoned in
+    let none = not-true (list_any (is_child_of g) (filter keep fs)) t.1 in
+    at i.0 (not-true (is_frame f.made g) i.1) t.0 none (list_any (is_child_of g) fs) refl
+  where
+    child : (h : Frame) → is_child_of g h ≡ true → h.parent ≡ Some g.made
+    child h e = of h.parent e
+      where
+        of : (o : Option ℕ) → is_some_and o (λ m. m == g.made) ≡ true → o ≡ Some g.made
+        of None k = absurd (cc)
+        of (Some m) k = ap (λ n. Some n) (eqb-true m g.made k)
+
+    at : In g fs → is_frame f.made g ≡ false → is_gone g.server ≡ true → list_any (is_child_of g) (filter (λ (g : Frame). not (is_frame f.made g)) fs) ≡ false
+        → (b : Bool) → list_any (is_child_of g) fs ≡ b → f.parent ≡ Some g.made
+    at i other gone none false e =
+        let same_made = only g i (and-both (is_gone g.server) _ gone (not-false _ e)) in
+        let yes_frame = eq-eqb g.made f.made same_made in absurd (cc)
+    at i other gone none true e =
+        let c = any-found (is_child_of g) fs e in
+        parent c.0 c.1 c.2 (is_frame f.made c.0) refl
+      where
+        parent : (c : Frame) → In c fs → is_child_of g c ≡ true → (b : Bool) → is_frame f.made c ≡ b → f.parent ≡ Some g.made
+        parent c j k true e = let is = one c f j l (eqb-true c.made f.made e) in ap (λ (x : Frame). x.parent) (sym is) ∙ child c k
+        parent c j k false e =
+            let still = any-in (is_child_of g) c _ (filter-in (λ (g : Frame). not (is_frame f.made g)) c fs j (not-false _ e)) k in absurd (cc)
+
+pub one-filter : (p : Frame → Bool) (fs : List Frame) → OneEach fs → OneEach (filter p fs)
+one-filter p fs h f g l m = h f g (in-filter p f fs l).0 (in-filter p g fs m).0
+
+-- settling goes up by parents
+pub times-up : (n : ℕ) (m : Option ℕ) (z : Space) → OneEach z.frames → OnlyAt m z.frames → settle_times n z ≡ close_up n m z
+times-up zero m z one only = refl
+times-up (suc n) m z one only = times-first n z ∙ at m only (find (is_abandoned z.frames) z.frames) refl (λ k y o i. times-up n k y o i)
+  where
+    none-there : (k : ℕ) → find (is_abandoned z.frames) z.frames ≡ None → find (λ (f : Frame). is_frame k f && is_abandoned z.frames f) z.frames ≡ None
+    none-there k e = find-none (λ (f : Frame). is_frame k f && is_abandoned z.frames f) z.frames (λ f l. to-false _ (λ t.
+        let no = none-found (is_abandoned z.frames) z.frames e f l in let yes_it = (both (is_frame k f) (is_abandoned z.frames f) t).1 in cc))
+
+    still : (m : Option ℕ) → find (is_abandoned z.frames) z.frames ≡ None → z ≡ close_up (suc n) m z
+    still None e = refl
+    still (Some k) e = ap (λ (o : Option Frame). elim o as (λ (o : Option Frame). Space) [ None ↦ z | Some f ↦ close_up n f.parent (tell_caller (closed z f.made) f (Verdict DeadReply)) ]) (sym (none-there k e))
+
+    at : (m : Option ℕ) → OnlyAt m z.frames → (o : Option Frame) → find (is_abandoned z.frames) z.frames ≡ o
+        → ((k : Option ℕ) (y : Space) → OneEach y.frames → OnlyAt k y.frames → settle_times n y ≡ close_up n k y)
+        → settle_times n (settle_step z) ≡ close_up (suc n) m z
+    at m only None e rest = ap (λ o. settle_times n (settle_one z o)) e ∙ times-still n z e ∙ still m e
+    at None only (Some f) e rest = let l = find-in (is_abandoned z.frames) f z.frames e in let wrong = only f l.0 l.1 in absurd (cc)
+    at (Some k) only (Some f) e rest =
+        let l = find-in (is_abandoned z.frames) f z.frames e in
+        let made : k ≡ f.made = (let w = only f l.0 l.1 in cc) in
+        let y = tell_caller (closed z f.made) f (Verdict DeadReply) in
+        let frames : y.frames ≡ filter (λ g. not (is_frame f.made g)) z.frames = told-frames (closed z f.made) f.caller (Verdict DeadReply) ∙ closed-frames z f.made in
+        let found : find (λ (g : Frame). is_frame k g && is_abandoned z.frames g) z.frames ≡ Some f = find-same _ (is_abandoned z.frames) z.frames (λ g i. same_test g i (is_abandoned z.frames g) refl) ∙ e in
+        ap (λ o. settle_times n (settle_one z o)) e
+        ∙ rest f.parent y (subst OneEach (sym frames) (one-filter _ z.frames one))
+        (subst (OnlyAt f.parent) (sym frames) (only-parent z.frames f one l.0 (λ g i t. (let w = only g i t in let v : k ≡ g.made = cc in sym v ∙ made))))
+        ∙ ap (λ (o : Option Frame). elim o as (λ (o : Option Frame). Space) [ None ↦ z | Some f ↦ close_up n f.parent (tell_caller (closed z f.made) f (Verdict DeadReply)) ]) (sym found)
+      where
+        same_test : (g : Frame) → In g z.frames → (b : Bool) → is_abandoned z.frames g ≡ b → (is_frame k g && is_abandoned z.frames g) ≡ is_abandoned z.frames g
+        same_test g i true t = let w = only g i t in let v : g.made ≡ k = cc in ap (λ b. b && is_abandoned z.frames g) (eq-eqb g.made k v)
+        same_test g i false t = and-false (is_frame k g) t
+          where
+            and-false : (a : Bool) → is_abandoned z.frames g ≡ false → (a && is_abandoned z.frames g) ≡ is_abandoned z.frames g
+            and-false true t = refl
+            and-false false t = sym t
+
+pub settle-up : (m : Option ℕ) (z : Space) → OneEach z.frames → OnlyAt m z.frames → settle z ≡ close_up (length z.frames) m z
+unfolding settle
+settle-up m z one only = times-up (length z.frames) m z one only

@@ -1,0 +1,39 @@
+-- In the space of every history nothing is pending.
+use Rattle.std.proofs.Common.{List}
+use Rattle.bd_space.specs.declared.step.Entry.{Entry}
+use Rattle.bd_space.specs.Space.{Space, opening}
+use Rattle.bd_space.specs.Histories.{History, after, next, space_after}
+use Rattle.bd_laws.specs.Tidy.{IsTidy}
+use Rattle.bd_laws.specs.Frames.{OnPaths}
+use Rattle.bd_laws.proofs.EveryStep.{every_list}
+use Rattle.bd_laws.proofs.Received.{step-before, opening-before}
+use Rattle.bd_laws.proofs.Homes.{next-home, opening-home}
+use Rattle.bd_laws.proofs.OtherCalls.{next-of_others, opening-of_others}
+use Rattle.bd_laws.proofs.EveryPath.{next-on_paths, opening-on_paths}
+use Rattle.bd_laws.proofs.Numbering.{next-told, next-steps, opening-told}
+use Rattle.bd_laws.proofs.Queueing.{next-queued, opening-queued}
+use Rattle.bd_laws.proofs.Framing.{next-framed, opening-framed}
+use Rattle.bd_laws.proofs.Quiet.{opening-quiet}
+use Rattle.bd_laws.proofs.Next.{next-quiet}
+
+pub step-tidy : (s : Space) (e : Entry) → IsTidy s → IsTidy (next s e)
+step-tidy s e h = record {
+  before = step-before s e h.before;
+  told = next-told s e h.told h.quiet h.home;
+  home = next-home s e (next-steps s e h.told h.quiet h.home) h.before.turns h.home;
+  on_paths = next-on_paths s e (next-steps s e h.told h.quiet h.home) h.on_paths;
+  of_others = next-of_others s e h.home h.before.turns h.on_paths.1.below h.of_others;
+  quiet = next-quiet s e h.before h.told.distinct h.quiet;
+  queued = next-queued s e (next-steps s e h.told h.quiet h.home) h.queued h.quiet;
+  framed = next-framed s e (next-steps s e h.told h.quiet h.home) h.framed;
+}
+
+pub opening-tidy : IsTidy opening
+opening-tidy = record { before = opening-before; told = opening-told; home = opening-home; on_paths = opening-on_paths; of_others = opening-of_others; quiet = opening-quiet; queued = opening-queued; framed = opening-framed }
+
+pub always-tidy : (h : History) → IsTidy (space_after h)
+unfolding space_after
+always-tidy h = every_list IsTidy step-tidy h.entries opening opening-tidy
+
+pub always-on_paths : (es : List Entry) → OnPaths (after opening es).steps (after opening es)
+always-on_paths es = (every_list IsTidy step-tidy es opening opening-tidy).on_paths

@@ -1,0 +1,299 @@
+-- A process ends: what is touched.
+use Rattle.std.proofs.Common.{◌≡◌, ℕ, ◌==◌, Bool, true, false, cond, not, ◌&&◌, ◌||◌, List, [], ◌∷◌, length, ◌⊎◌, inl, inr, refl, ap, sym, subst, ◌∙◌, map, filter}
+use Rattle.std.specs.List.{list_any, fold}
+use Rattle.std.proofs.lemmas.Bool.{eqb-true, eq-eqb}
+use Rattle.bd_space.specs.declared.step.ObjectId.{ObjectId}
+use Rattle.bd_space.specs.declared.space.Process.{Process}
+use Rattle.bd_space.specs.declared.space.Object.{Object}
+use Rattle.bd_space.specs.declared.space.Reference.{Reference}
+use Rattle.bd_space.specs.declared.space.Name.{Name}
+use Rattle.bd_space.specs.declared.space.Frame.{Frame}
+use Rattle.bd_space.specs.declared.space.DeathNotification.{DeathNotification}
+use Rattle.bd_space.specs.declared.space.Phase.TheVariants.{Queued}
+use Rattle.bd_space.specs.declared.space.Work.{Work}
+use Rattle.bd_space.specs.declared.space.WorkKind.TheVariants as work
+use Rattle.bd_space.specs.declared.space.TodoList.{TodoList}
+use Rattle.bd_space.specs.declared.space.TodoList.TheVariants.{OfThread, OfProcess}
+use Rattle.bd_space.specs.Words.{same, changed}
+use Rattle.bd_space.specs.Space.{Space}
+use Rattle.bd_space.specs.Seats.{lives_in}
+use Rattle.bd_space.specs.References.{owned_in}
+use Rattle.bd_space.specs.Todo.{owe, is_on, same_list}
+use Rattle.bd_space.specs.Notices.{is_name_of, follow}
+use Rattle.bd_space.specs.Settle.{settle}
+use Rattle.bd_space.specs.Deaths.{is_notification, with_phase}
+use Rattle.bd_space.specs.ThreadExits.{thread_goes, is_lost_reference, is_unread_on, unread_frame}
+use Rattle.bd_space.specs.ProcessExits.{threads_go, without_process, tell_death, tell_deaths, is_armed, is_dropped_with, seat_of}
+use Rattle.bd_laws.specs.Local.{no_name, follow_of, close_among, left_objects, seats_in, lists_in, lost_with_process, objects_ended, frames_ended}
+use Rattle.bd_laws.specs.Lists.{In}
+use Rattle.bd_laws.specs.Tidy.{IsTidy}
+use Rattle.bd_laws.proofs.Lists.{in-left, in-push, in-filter, filter-in, map-in, in-changed, any-found, any-in, fold-keeps}
+use Rattle.bd_laws.proofs.Tests.{both, and-both, not-true, not-false, eq-same}
+use Rattle.bd_laws.proofs.Deaths.{KeptOnDeaths, on-told, tell_deaths-aside}
+use Rattle.bd_laws.proofs.Untouched.{tell_deaths-untouched}
+use Rattle.bd_laws.proofs.Follow.{follow-local}
+use Rattle.bd_laws.proofs.Fewer.{any-filtered, to-false}
+use Rattle.bd_laws.proofs.Numbering.{rest-references}
+use Rattle.bd_laws.proofs.Queueing.{sits-on}
+use Rattle.bd_laws.proofs.Abandoned.{OneEach}
+use Rattle.bd_laws.proofs.Framing.{one-each}
+use Rattle.bd_laws.proofs.Closings.{Covered, settle-among}
+use Rattle.bd_laws.proofs.Leaving.{neither, or-right, Left, left-none, left-step, AllWent, went-map, unread-or, cover-unread, Parts, parts-elsewhere, untouched-reference, untouched-notice, abandoned-touched, one-map, left-one, follow-frames}
+
+not-eq : (a b : ℕ) → (a ≡ b → ⊥) → (a == b) ≡ false
+not-eq a b k = to-false (a == b) (λ e. k (eqb-true a b e))
+
+-- ---- what telling of deaths adds
+
+told-notices : (y : Space) → KeptOnDeaths (λ z. (w : Work) (o : ObjectId) → In w z.todo → w.kind ≡ work.Notice o → In w y.todo)
+unfolding owe
+told-notices y = record {
+  others = λ z ds h. h;
+  dies = λ z p made h w o l e. elim (in-push w _ z.todo l) [ inl i ↦ h w o i e | inr is ↦ (let no : work.Death made ≡ work.Notice o = ap (λ (v : Work). v.kind) is ∙ e in absurd (cc)) ];
+  clears = λ z t cookie h w o l e. elim (in-push w _ z.todo l) [ inl i ↦ h w o i e | inr is ↦ (let no : work.Cleared cookie ≡ work.Notice o = ap (λ (v : Work). v.kind) is ∙ e in absurd (cc)) ];
+}
+
+told-more : (y : Space) → KeptOnDeaths (λ z. (w : Work) → In w y.todo → In w z.todo)
+unfolding owe
+told-more y = record {
+  others = λ z ds h. h;
+  dies = λ z p made h w l. in-left w z.todo _ (h w l);
+  clears = λ z t cookie h w l. in-left w z.todo _ (h w l);
+}
+
+record Same (x y : DeathNotification) : Type 0 where
+  made : y.made ≡ x.made
+  process : y.process ≡ x.process
+  object : y.object ≡ x.object
+  cleared : y.cleared ≡ x.cleared
+
+-- only phases differ from the notifications before, and each Death item keeps its own
+record Telling (w : Space) (z : Space) : Type 0 where
+  from : (y : DeathNotification) → In y z.deaths → (x : DeathNotification) × In x w.deaths × Same x y
+  to : (x : DeathNotification) → In x w.deaths → list_any (λ (y : DeathNotification). y.made == x.made) z.deaths ≡ true
+  items : (v : Work) (n : ℕ) → In v z.todo → v.kind ≡ work.Death n → In v w.todo ⊎ ((x : DeathNotification) × In x w.deaths × (x.made ≡ n))
+
+phase-same : (c : Bool) (y : DeathNotification) → (let u : DeathNotification = cond c (record y { phase = Queued }) y in Same y u)
+phase-same true y = record { made = refl; process = refl; object = refl; cleared = refl }
+phase-same false y = record { made = refl; process = refl; object = refl; cleared = refl }
+
+any-made : (n : ℕ) (p : DeathNotification → Bool) (xs : List DeathNotification) → list_any (λ (y : DeathNotification). y.made == n) xs ≡ true
+    → list_any (λ (y : DeathNotification). y.made == n) (changed p (λ y. record y { phase = Queued }) xs) ≡ true
+any-made n p [] h = h
+any-made n p (x ∷ xs) h = at (p x) (any-made n p xs) h
+  where
+    either : (a b c : Bool) → (b ≡ true → c ≡ true) → (a || b) ≡ true → (a || c) ≡ true
+    either true b c k e = refl
+    either false b c k e = k e
+
+    at : (c : Bool) → (list_any (λ (y : DeathNotification). y.made == n) xs ≡ true → list_any (λ (y : DeathNotification). y.made == n) (changed p (λ y. record y { phase = Queued }) xs) ≡ true)
+        → ((x.made == n) || list_any (λ (y : DeathNotification). y.made == n) xs) ≡ true
+        → (let u : DeathNotification = cond c (record x { phase = Queued }) x in ((u.made == n) || list_any (λ (y : DeathNotification). y.made == n) (changed p (λ y. record y { phase = Queued }) xs)) ≡ true)
+    at true k e = either (x.made == n) _ _ k e
+    at false k e = either (x.made == n) _ _ k e
+
+tells-one : (w : Space) (p : ℕ) (z : Space) (x : DeathNotification) → In x w.deaths → Telling w z → Telling w (tell_death p z x)
+unfolding with_phase owe
+tells-one w p z x l k = at (is_armed x.phase && owned_in z.objects p x.object)
+  where
+    at : (b : Bool) → Telling w (cond b (owe (with_phase z x.made Queued) (OfProcess x.process) (work.Death x.made)) z)
+    at false = k
+    at true = record {
+      from = λ y m.
+          let u = in-changed (is_notification x.made) (λ (y : DeathNotification). record y { phase = Queued }) y z.deaths m in
+          let v = k.from u.0 u.1 in
+          let c = phase-same (is_notification x.made u.0) u.0 in (
+            v.0,
+            v.1,
+            record {
+              made = ap (λ (d : DeathNotification). d.made) u.2 ∙ c.made ∙ v.2.made;
+              process = ap (λ (d : DeathNotification). d.process) u.2 ∙ c.process ∙ v.2.process;
+              object = ap (λ (d : DeathNotification). d.object) u.2 ∙ c.object ∙ v.2.object;
+              cleared = ap (λ (d : DeathNotification). d.cleared) u.2 ∙ c.cleared ∙ v.2.cleared;
+            },
+          );
+      to = λ u m. any-made u.made (is_notification x.made) z.deaths (k.to u m);
+      items = λ v n m e. elim (in-push v _ z.todo m) [
+        | inl i ↦ k.items v n i e
+        | inr is ↦ (let kinds : work.Death x.made ≡ work.Death n = ap (λ (y : Work). y.kind) is ∙ e in let same_made : x.made ≡ n = cc in inr (x, l, same_made))
+      ];
+    }
+
+all-tell : (w : Space) (p : ℕ) → Telling w (tell_deaths w p)
+unfolding tell_deaths
+all-tell w p = fold-keeps (Telling w) (tell_death p) w.deaths (λ z x l k. tells-one w p z x l k) w (record {
+  from = λ y l. (y, l, record { made = refl; process = refl; object = refl; cleared = refl });
+  to = λ x l. any-in (λ (y : DeathNotification). y.made == x.made) x w.deaths l (eq-eqb x.made x.made refl);
+  items = λ v n l e. inl l;
+})
+
+-- ---- the threads, and then the process
+
+fold-one : (seats : List ℕ) (z : Space) → OneEach z.frames → OneEach (fold thread_goes z seats).frames
+fold-one [] z h = h
+fold-one (t ∷ ts) z h = fold-one ts (thread_goes z t) (left-one z t h)
+
+threads-one : (s : Space) (p : ℕ) → OneEach s.frames → OneEach (threads_go s p).frames
+unfolding threads_go
+threads-one s p h = fold-one (map seat_of (filter (λ t. t.process == p) s.threads)) s h
+
+without-one : (z : Space) (p : ℕ) → OneEach z.frames → OneEach (without_process z p).frames
+unfolding without_process
+without-one z p h = one-map (unread_frame z.todo (OfProcess p)) (λ g. refl) z.frames h
+
+module _ (s : Space) (p : ℕ) (h : IsTidy s) where
+  abbrev gone : Reference → Bool
+  gone = lost_with_process s p
+
+  abbrev seats : List ℕ
+  seats = seats_in s p
+
+  abbrev lists : List TodoList
+  lists = lists_in s p
+
+  abbrev threadless : Space
+  threadless = threads_go s p
+
+  abbrev rest : Space
+  rest = without_process threadless p
+
+  abbrev ended : Space
+  ended = tell_deaths rest p
+
+  left : Left s gone seats lists threadless
+  unfolding threads_go
+  left = fold-keeps (Left s gone seats lists) thread_goes seats (λ z seat i k.
+      left-step s gone seats lists z seat i (inr (map-in (λ t. OfThread t) seat seats i))
+      (λ r e. or-right (is_dropped_with s.objects p r) _ (any-in (λ t. is_lost_reference s.todo (OfThread t) r) seat seats i e)) k) s (left-none s gone seats lists)
+
+  rest-names : (m : Name) → In m rest.names → In m s.names × (m.process ≡ p → ⊥)
+  unfolding without_process
+  rest-names m l =
+      let i = in-filter (λ (m : Name). not (m.process == p)) m threadless.names l in
+      (subst (In m) left.names i.0, λ e. let no = not-true (m.process == p) i.1 in let yes = eq-eqb m.process p e in cc)
+
+  rest-named : (q : ℕ) (o : ObjectId) → (q ≡ p → ⊥) → is_name_of rest.names q o ≡ is_name_of s.names q o
+  unfolding without_process
+  rest-named q o other =
+      any-filtered (λ (m : Name). (m.process == q) && same m.object o) (λ (m : Name). not (m.process == p)) threadless.names
+      (λ m l e. to-false _ (λ k. other (sym (eqb-true m.process q (both (m.process == q) (same m.object o) k).0) ∙ eqb-true m.process p (gone-true (m.process == p) e))))
+      ∙ ap (λ ns. is_name_of ns q o) left.names
+    where
+      gone-true : (b : Bool) → not b ≡ false → b ≡ true
+      gone-true true e = refl
+      gone-true false e = absurd (cc)
+
+  rest-objects : rest.objects ≡ s.objects
+  unfolding without_process
+  rest-objects = left.objects
+
+  rest-lives : (q : ℕ) → (q ≡ p → ⊥) → lives_in rest.processes q ≡ lives_in s.processes q
+  unfolding without_process
+  rest-lives q other =
+      any-filtered (λ (x : Process). x.made == q) (λ (x : Process). not (x.made == p)) threadless.processes
+      (λ x l e. to-false _ (λ k. other (sym (eqb-true x.made q k) ∙ eqb-true x.made p (gone-true (x.made == p) e))))
+      ∙ ap (λ ps. lives_in ps q) left.processes
+    where
+      gone-true : (b : Bool) → not b ≡ false → b ≡ true
+      gone-true true e = refl
+      gone-true false e = absurd (cc)
+
+  rest-fewer : (r : Reference) → In r rest.references → In r s.references
+  unfolding without_process
+  rest-fewer r l = left.fewer r (in-filter (λ (r : Reference). not (is_dropped_with threadless.objects p r)) r threadless.references l).0
+
+  rest-stay : (r : Reference) → In r s.references → gone r ≡ false → In r rest.references
+  unfolding without_process
+  rest-stay r l none =
+      filter-in (λ (r : Reference). not (is_dropped_with threadless.objects p r)) r threadless.references (left.stay r l none)
+      (not-false _ (ap (λ os. is_dropped_with os p r) left.objects ∙ (neither (is_dropped_with s.objects p r) (list_any (λ t. is_lost_reference s.todo (OfThread t) r) seats) none).0))
+
+  rest-less : (w : Work) → In w rest.todo → In w s.todo × (is_on (OfProcess p) w ≡ false)
+  unfolding without_process
+  rest-less w l = let i = in-filter (λ (w : Work). not (is_on (OfProcess p) w)) w threadless.todo l in (left.less w i.0, not-true _ i.1)
+
+  rest-more : (w : Work) → In w s.todo → list_any (λ (l : TodoList). is_on l w) lists ≡ false → In w rest.todo
+  unfolding without_process
+  rest-more w l none =
+      filter-in (λ (w : Work). not (is_on (OfProcess p) w)) w threadless.todo (left.more w l none)
+      (not-false _ (neither (is_on (OfProcess p) w) (list_any (λ (l : TodoList). is_on l w) (map (λ t. OfThread t) seats)) none).0)
+
+  rest-deaths : (x : DeathNotification) → In x rest.deaths → In x s.deaths × (x.process ≡ p → ⊥)
+  unfolding without_process
+  rest-deaths x l =
+      let i = in-filter (λ (x : DeathNotification). not (x.process == p)) x threadless.deaths l in
+      (subst (In x) left.deaths i.0, λ e. let no = not-true (x.process == p) i.1 in let yes = eq-eqb x.process p e in cc)
+
+  deaths-rest : (x : DeathNotification) → In x s.deaths → (x.process ≡ p → ⊥) → In x rest.deaths
+  unfolding without_process
+  deaths-rest x l other = filter-in (λ (x : DeathNotification). not (x.process == p)) x threadless.deaths (subst (In x) (sym left.deaths) l) (not-false _ (not-eq x.process p other))
+
+  rest-frames : AllWent (frames_ended s p) s.frames rest.frames
+  unfolding without_process
+  rest-frames =
+      went-map (frames_ended s p) s.frames threadless.frames (unread_frame threadless.todo (OfProcess p)) left.frames (λ g. refl) (λ g. refl)
+      (λ f g l i made server. elim (unread-or threadless.todo (OfProcess p) g.made g.server) [
+        | inl e ↦ inl e
+        | inr e ↦ inr (cover-unread s gone seats lists threadless (OfProcess p) f (inl refl) left.less l (ap (is_unread_on threadless.todo (OfProcess p)) (sym made) ∙ e))
+      ])
+
+  unowned : (x : Object) → In x s.objects → objects_ended s p x.id ≡ false → x.owner ≡ p → ⊥
+  unowned x l none e =
+      let no = (neither (owned_in s.objects p x.id) (left_objects gone lists s x.id) none).0 in
+      let yes = any-in (λ (y : Object). same y.id x.id && (y.owner == p)) x s.objects l (and-both (same x.id x.id) (x.owner == p) (eq-same x.id x.id refl) (eq-eqb x.owner p e)) in cc
+
+  unleft : (o : ObjectId) → objects_ended s p o ≡ false → left_objects gone lists s o ≡ false
+  unleft o none = (neither (owned_in s.objects p o) (left_objects gone lists s o) none).1
+
+  -- where a notification goes, so does its item: both are the process's
+  still-told : (w : Work) (n : ℕ) → In w rest.todo → w.kind ≡ work.Death n → list_any (λ (y : DeathNotification). y.made == n) ended.deaths ≡ true
+  still-told w n l e =
+      let i = rest-less w l in
+      let x = any-found (λ (x : DeathNotification). x.made == n) s.deaths (h.quiet.followed.tellings w n i.0 e) in
+      let made : x.0.made ≡ n = eqb-true x.0.made n x.2 in
+      let on = sits-on s h.queued w x.0 i.0 x.1 (e ∙ ap work.Death (sym made)) in
+      subst (λ m. list_any (λ (y : DeathNotification). y.made == m) ended.deaths ≡ true) made ((all-tell rest p).to x.0 (deaths-rest x.0 x.1 (λ is.
+      let here : is_on (OfProcess p) w ≡ true = ap (same_list (OfProcess p)) on ∙ eq-eqb p x.0.process (sym is) in
+      let not_here = i.1 in cc)))
+
+  ended-parts : Parts no_name (objects_ended s p) s ended
+  ended-parts =
+      let u = tell_deaths-untouched rest p in
+      let told = all-tell rest p in
+      record {
+        names = λ m l. (rest-names m (subst (In m) u.names l)).0;
+        objects = u.objects ∙ rest-objects;
+        owners = λ x l none. ap (λ ps. lives_in ps x.owner) u.processes ∙ rest-lives x.owner (unowned x l none);
+        fewer = λ r l. rest-fewer r (subst (In r) u.references l);
+        stay = λ r l none. subst (In r) (sym u.references) (rest-stay r l (untouched-reference s gone lists r l (unleft r.object none)));
+        named = λ m l none r i at for.
+            subst (In r) (sym u.references) (rest-references s p h.told h.quiet h.home r m.process (rest-names m (subst (In m) u.names l)).1 for i);
+        less = λ w o l e. (rest-less w (on-told _ (told-notices rest) rest p (λ v i m f. m) w o l e)).0;
+        more = λ w o l e none. on-told _ (told-more rest) rest p (λ v m. m) w (rest-more w l (untouched-notice s gone lists w o l e (unleft o none)));
+        deaths = λ d l none.
+            let x = told.from d l in
+            let i = rest-deaths x.0 x.1 in
+            ap (λ c. c || is_name_of ended.names d.process d.object) x.2.cleared
+            ∙ ap (λ ns. x.0.cleared || is_name_of ns d.process d.object) u.names
+            ∙ ap (λ q. x.0.cleared || is_name_of rest.names q d.object) x.2.process
+            ∙ ap (λ o. x.0.cleared || is_name_of rest.names x.0.process o) x.2.object
+            ∙ ap (λ c. x.0.cleared || c) (rest-named x.0.process x.0.object i.1)
+            ∙ h.quiet.followed.deaths x.0 i.0 refl;
+        tellings = λ w n l e. elim (told.items w n l e) [
+          | inl i ↦ still-told w n i e
+          | inr x ↦ subst (λ m. list_any (λ (y : DeathNotification). y.made == m) ended.deaths ≡ true) x.2 (told.to x.0 x.1)
+        ];
+      }
+
+  -- Of ExitProcess: other processes keep their names. Objects to look at are its own, and those of the lists and references
+  -- that it loses; frames to look at are its threads'.
+  pub ending-local : settle (follow ended) ≡ close_among (length ended.frames) (frames_ended s p) (follow_of no_name (objects_ended s p) ended)
+  ending-local =
+      let y = follow_of no_name (objects_ended s p) ended in
+      let same_frames = follow-frames no_name (objects_ended s p) ended in
+      let aside = (tell_deaths-aside rest p).frames in
+      let one : OneEach ended.frames = subst OneEach (sym aside) (without-one threadless p (threads-one s p (one-each s h.framed))) in
+      let covered : Covered (frames_ended s p) ended.frames = subst (Covered (frames_ended s p)) (sym aside) (abandoned-touched (frames_ended s p) s.frames rest.frames h.quiet.settled rest-frames) in
+      ap settle (follow-local no_name (objects_ended s p) ended (parts-elsewhere no_name (objects_ended s p) s ended h.quiet.followed ended-parts))
+      ∙ settle-among (frames_ended s p) y (subst OneEach (sym same_frames) one) (subst (Covered (frames_ended s p)) (sym same_frames) covered)
+      ∙ ap (λ (fs : List Frame). close_among (length fs) (frames_ended s p) y) same_frames

@@ -1,0 +1,140 @@
+-- Of BC_FREE_BUFFER: what the buffer's references stood for is looked at, and a one-way call's object.
+use Rattle.std.proofs.Common.{◌≡◌, ℕ, Bool, true, false, cond, not, ◌&&◌, ◌||◌, List, [], ◌∷◌, ◌++◌, Option, Some, None, inl, inr, refl, ap, sym, subst, ◌∙◌, filter, find}
+use Rattle.std.specs.List.{list_any, cons_option}
+use Rattle.bd_space.specs.declared.step.ObjectId.{ObjectId}
+use Rattle.bd_space.specs.declared.space.Reference.{Reference}
+use Rattle.bd_space.specs.declared.space.Buffer.{Buffer}
+use Rattle.bd_space.specs.declared.space.Turn.{Turn}
+use Rattle.bd_space.specs.declared.space.Work.{Work}
+use Rattle.bd_space.specs.declared.space.WorkKind.{WorkKind}
+use Rattle.bd_space.specs.declared.space.WorkKind.TheVariants as work
+use Rattle.bd_space.specs.declared.space.TodoList.{TodoList}
+use Rattle.bd_space.specs.declared.space.TodoList.TheVariants.{OfProcess}
+use Rattle.bd_space.specs.Words.{same}
+use Rattle.bd_space.specs.Space.{Space}
+use Rattle.bd_space.specs.References.{is_of_buffer}
+use Rattle.bd_space.specs.Todo.{with_work, is_notice, is_call}
+use Rattle.bd_space.specs.Notices.{follow}
+use Rattle.bd_space.specs.Freeing.{without_buffer, is_made_at}
+use Rattle.bd_space.specs.Turns.{turn_of, turns_of, is_ripe}
+use Rattle.bd_space.specs.Settle.{settle}
+use Rattle.bd_space.specs.Outcomes.{completed}
+use Rattle.bd_laws.specs.Local.{NameTest, ObjectTest, follow_of, notify_of, work_goes_of, deaths_go_of, objects_go_of, names_go_of, ripen_of, first_due, names_of_references, objects_of_references}
+use Rattle.bd_laws.specs.Lists.{In}
+use Rattle.bd_laws.specs.Quiet.{Elsewhere, IsSettled, NoneRipe, IsQuiet}
+use Rattle.bd_laws.proofs.Lists.{in-push}
+use Rattle.bd_laws.proofs.Tests.{same-eq, eq-same}
+use Rattle.bd_laws.proofs.Follow.{follow-local}
+use Rattle.bd_laws.proofs.Settled.{settle-still}
+use Rattle.bd_laws.proofs.Ripe.{NoneRipeBut, ripen-local}
+use Rattle.bd_laws.proofs.Quiet.{IsPlainKind, any-more}
+use Rattle.bd_laws.proofs.Fewer.{elsewhere-said, filtered-said, to-false}
+
+-- ---- a call more is pending nowhere else
+
+pub owe-elsewhere : (a : NameTest) (b : ObjectTest) (z : Space) (list : TodoList) (kind : WorkKind) → IsPlainKind kind → Elsewhere a b z
+    → Elsewhere a b (record z { todo = with_work z.steps z.todo list kind })
+owe-elsewhere a b z list kind plain h = record {
+  names = h.names;
+  objects = h.objects;
+  deaths = h.deaths;
+  notices = λ w o l e none. elim (in-push w _ z.todo l) [ inl k ↦ h.notices w o k e none | inr is ↦ absurd (plain.0 o (ap (λ (v : Work). v.kind) is ∙ e)) ];
+  tellings = λ w n l e. elim (in-push w _ z.todo l) [ inl k ↦ h.tellings w n k e | inr is ↦ absurd (plain.1 n (ap (λ (v : Work). v.kind) is ∙ e)) ];
+  made = λ x l none wants. any-more (λ (w : Work). is_notice x.id w.kind) z.todo _ (h.made x l none wants);
+}
+
+ripen_of-elsewhere : (a : NameTest) (b : ObjectTest) (o : ObjectId) (z : Space) → Elsewhere a b z → Elsewhere a b (ripen_of o z)
+unfolding ripen_of
+ripen_of-elsewhere a b o z h = at (find (λ (t : Turn). same t.target o) (turns_of z.buffers))
+  where
+    if_due : (t : Turn) (c : Bool) → Elsewhere a b (record z { todo = cond c (with_work z.steps z.todo (OfProcess t.receiver) (work.Call t.made)) z.todo })
+    if_due t true = owe-elsewhere a b z (OfProcess t.receiver) (work.Call t.made) ((λ o e. cc), (λ n e. cc)) h
+    if_due t false = h
+
+    at : (f : Option Turn) → Elsewhere a b (record z { todo = first_due z.steps z.todo f })
+    at None = h
+    at (Some t) = if_due t (not t.handed && not (list_any (λ (w : Work). is_call t.made w.kind) z.todo))
+
+follow_of-frames : (a : NameTest) (b : ObjectTest) (o : ObjectId) (z : Space) → (follow_of a b (ripen_of o z)).frames ≡ z.frames
+unfolding follow_of notify_of work_goes_of deaths_go_of objects_go_of names_go_of ripen_of
+follow_of-frames a b o z = refl
+
+-- nothing is pending but on one object, whose one-way calls may be ripe
+pub completed-ripe : (a : NameTest) (b : ObjectTest) (o : ObjectId) (z : Space) → Elsewhere a b z → NoneRipeBut o z.todo [] (turns_of z.buffers) → IsSettled z.frames
+    → completed z ≡ follow_of a b (ripen_of o z)
+unfolding completed
+completed-ripe a b o z h unripe settled =
+    ap (λ y. settle (follow y)) (ripen-local o z unripe)
+    ∙ ap settle (follow-local a b (ripen_of o z) (ripen_of-elsewhere a b o z h))
+    ∙ settle-still (follow_of a b (ripen_of o z)) (subst IsSettled (sym (follow_of-frames a b o z)) settled)
+
+-- ---- buffers that go
+
+-- older calls on other objects are the same
+abbrev SameBut : ObjectId → List Turn → List Turn → Type 0
+SameBut o more less = (i : ObjectId) → same i o ≡ false → list_any (λ (u : Turn). same u.target i) less ≡ list_any (λ (u : Turn). same u.target i) more
+
+pub any-append : {A : Type 0} (p : A → Bool) (xs ys : List A) → list_any p (xs ++ ys) ≡ (list_any p xs || list_any p ys)
+any-append p [] ys = refl
+any-append p (x ∷ xs) ys = ap (λ b. p x || b) (any-append p xs ys) ∙ at (p x) (list_any p xs) (list_any p ys)
+  where
+    at : (a b c : Bool) → (a || (b || c)) ≡ ((a || b) || c)
+    at true b c = refl
+    at false b c = refl
+
+module _ (o : ObjectId) (todo : List Work) where
+  same-push : (more less : List Turn) (t : Turn) → SameBut o more less → SameBut o (more ++ t ∷ []) (less ++ t ∷ [])
+  same-push more less t h i none =
+      any-append _ less (t ∷ []) ∙ ap (λ b. b || list_any (λ (u : Turn). same u.target i) (t ∷ [])) (h i none) ∙ sym (any-append _ more (t ∷ []))
+
+  -- one on the object more
+  same-more : (more less : List Turn) (t : Turn) → same t.target o ≡ true → SameBut o more less → SameBut o (more ++ t ∷ []) less
+  same-more more less t on h i none =
+      h i none
+      ∙ sym (any-append (λ (u : Turn). same u.target i) more (t ∷ [])
+      ∙ ap (λ b. list_any (λ (u : Turn). same u.target i) more || (b || false)) (to-false (same t.target i) (λ k. let yes = eq-same i o (sym (same-eq t.target i k) ∙ same-eq t.target o on) in cc))
+      ∙ at (list_any (λ (u : Turn). same u.target i) more))
+    where
+      at : (a : Bool) → (a || false) ≡ a
+      at true = refl
+      at false = refl
+
+  ripe-same : (more less : List Turn) (t : Turn) → SameBut o more less → is_ripe todo more t ≡ false → same t.target o ≡ false → is_ripe todo less t ≡ false
+  ripe-same more less t h k none = ap (λ b. not t.handed && not b && not (list_any (λ (w : Work). is_call t.made w.kind) todo)) (h t.target none) ∙ k
+
+  module _ (keep : Buffer → Bool) where
+    but-filtered : (bs : List Buffer) (more less : List Turn) → SameBut o more less → NoneRipe todo more (turns_of bs)
+        → ((c : Buffer) → In c bs → keep c ≡ false → (t : Turn) → turn_of c ≡ Some t → same t.target o ≡ true) → NoneRipeBut o todo less (turns_of (filter keep bs))
+    but-filtered [] more less e h k = tt
+    but-filtered (c ∷ cs) more less e h k =
+        at (keep c) refl (turn_of c) refl h (λ m l f i. but-filtered cs m l f i (λ d j. k d (inr j)))
+      where
+        at : (b : Bool) → keep c ≡ b → (f : Option Turn) → turn_of c ≡ f → NoneRipe todo more (cons_option f (turns_of cs))
+            → ((m l : List Turn) → SameBut o m l → NoneRipe todo m (turns_of cs) → NoneRipeBut o todo l (turns_of (filter keep cs)))
+            → NoneRipeBut o todo less (turns_of (cond b (c ∷ filter keep cs) (filter keep cs)))
+        at true i None f h rest = subst (λ g. NoneRipeBut o todo less (cons_option g (turns_of (filter keep cs)))) (sym f) (rest more less e h)
+        at true i (Some t) f h rest =
+            subst (λ g. NoneRipeBut o todo less (cons_option g (turns_of (filter keep cs)))) (sym f)
+            ((λ none. ripe-same more less t e h.0 none), rest (more ++ t ∷ []) (less ++ t ∷ []) (same-push more less t e) h.1)
+        at false i None f h rest = rest more less e h
+        at false i (Some t) f h rest = rest (more ++ t ∷ []) less (same-more more less t (k c (inl refl) i t f) e) h.1
+
+-- the references of the buffer made there
+abbrev pub references_of_buffer : Space → ℕ → List Reference
+references_of_buffer s made = filter (λ r. is_of_buffer made r.holder) s.references
+
+-- the buffers of that place, if one-way calls', are on this object
+pub freed-local : (s : Space) (made : ℕ) (o : ObjectId) → IsQuiet s → ((c : Buffer) → In c s.buffers → is_made_at made c ≡ true → (t : Turn) → turn_of c ≡ Some t → same t.target o ≡ true)
+    → completed (without_buffer s made)
+    ≡ follow_of (names_of_references (references_of_buffer s made)) (objects_of_references (references_of_buffer s made)) (ripen_of o (without_buffer s made))
+unfolding without_buffer
+freed-local s made o h k =
+    let gone = λ (r : Reference). is_of_buffer made r.holder in
+    let e = elsewhere-said _ _ s _ h.followed (filtered-said gone s.references) in
+    completed-ripe _ _ o (without_buffer s made)
+    (record { names = e.names; objects = e.objects; deaths = e.deaths; notices = e.notices; tellings = e.tellings; made = e.made })
+    (but-filtered o s.todo (λ (b : Buffer). not (is_made_at made b)) s.buffers [] [] (λ i none. refl) h.unripe (λ c l f t i. k c l (at (is_made_at made c) f) t i)) h.settled
+  where
+    at : (b : Bool) → not b ≡ false → b ≡ true
+    at true e = refl
+    at false e = absurd (cc)

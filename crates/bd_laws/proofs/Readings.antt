@@ -1,0 +1,21 @@
+-- Of a reading between two steps: the objects of its Notices are looked at.
+use Rattle.std.proofs.Common.{◌≡◌, ℕ}
+use Rattle.bd_space.specs.declared.space.Thread.{Thread}
+use Rattle.bd_space.specs.Space.{Space}
+use Rattle.bd_space.specs.Todo.{list_to_read}
+use Rattle.bd_space.specs.Notices.{follow}
+use Rattle.bd_space.specs.ReadItems.{read_by, taken, is_told_by}
+use Rattle.bd_space.specs.Histories.{History, space_after}
+use Rattle.bd_laws.specs.Local.{no_name, follow_of}
+use Rattle.bd_laws.specs.Items.{Distinct}
+use Rattle.bd_laws.specs.Tidy.{IsTidy}
+use Rattle.bd_laws.proofs.Taking.{read-local}
+use Rattle.bd_laws.proofs.Always.{always-tidy}
+
+-- no two work items of one list have one identity
+pub always-distinct : (h : History) → Distinct (space_after h).todo
+always-distinct h = (always-tidy h).told.distinct
+
+pub tidy-read-local : (s : Space) (t : Thread) (seat left : ℕ) → IsTidy s
+    → follow (read_by s seat (taken s left (list_to_read s t))) ≡ follow_of no_name (is_told_by (taken s left (list_to_read s t))) (read_by s seat (taken s left (list_to_read s t)))
+tidy-read-local s t seat left h = read-local s t seat left h.quiet h.told.distinct

@@ -1,0 +1,200 @@
+-- What a parcel's sender sends: objects that are there, or that the sending makes.
+use Rattle.std.proofs.Common.{◌≡◌, ℕ, ◌+◌, ◌<◌, ◌%◌, ◌^◌, ◌==◌, Bool, true, false, cond, ◌&&◌, not, List, [], ◌∷◌, ◌++◌, Option, Some, None, Result, Ok, Err, ◌⊎◌, inl, inr, refl, ap, sym, subst, ◌∙◌, length, find, arith, length-append, append-nil}
+use Rattle.std.specs.Option.{option_to_list, option_map}
+use Rattle.std.proofs.lemmas.Option.{option_and_then_some}
+use Rattle.bd_uapi.specs.declared.command.TransactionData.{TransactionData}
+use Rattle.bd_uapi.specs.declared.fault.Cause.{Cause}
+use Rattle.bd_uapi.specs.declared.fault.Cause.TheVariants.{OutsideArea, OffsetsSize, OtherCookie}
+use Rattle.bd_uapi.specs.declared.object.FlatObject.{FlatObject}
+use Rattle.bd_uapi.specs.declared.object.ObjectKind.{ObjectKind}
+use Rattle.bd_uapi.specs.declared.object.ObjectKind.TheVariants.{Binder, WeakBinder, Handle, WeakHandle}
+use Rattle.bd_parcel.specs.declared.fault.WalkFault.{WalkFault}
+use Rattle.bd_parcel.specs.Parcels.{offsets_in, fault_in}
+use Rattle.bd_parcel.specs.Reading.{object_at}
+use Rattle.bd_space.specs.declared.step.ObjectId.{ObjectId}
+use Rattle.bd_space.specs.declared.step.Parcel.{Parcel}
+use Rattle.bd_space.specs.declared.space.Object.{Object}
+use Rattle.bd_space.specs.declared.space.Name.{Name}
+use Rattle.bd_space.specs.declared.space.Item.{Item}
+use Rattle.bd_space.specs.declared.space.Resolved.{Resolved}
+use Rattle.bd_space.specs.Space.{Space}
+use Rattle.bd_space.specs.References.{own_in}
+use Rattle.bd_space.specs.Names.{named, strongly_named, named_in, if_strongly_named, is_strongly_named_in}
+use Rattle.bd_uapi.specs.Kinds.{is_own}
+use Rattle.bd_space.specs.Parcels.{Sending, new_object, resolve, resolve_own, resolve_handle, resolve_all, resolve_walked, is_cut, sending_of}
+use Rattle.std.proofs.lemmas.Bool.{eqb-true}
+use Rattle.bd_laws.specs.Lists.{In, Pairs}
+use Rattle.bd_laws.specs.Objects.{Differ}
+use Rattle.bd_laws.proofs.Lists.{in-left, in-right, in-append, in-push, in-last, pairs-push, find-in}
+use Rattle.bd_laws.proofs.Tests.{both, and_then-ok}
+
+-- p's own object, in the list
+abbrev pub Owns : List Object → ℕ → ObjectId → Type 0
+Owns objects p o = (x : Object) × In x objects × (x.id ≡ o) × (x.owner ≡ p)
+
+-- p has a name for the object
+abbrev pub HasName : List Name → ℕ → ObjectId → Type 0
+HasName names p o = (m : Name) × In m names × (m.process ≡ p) × (m.object ≡ o)
+
+-- ---- names
+
+pub named-has : (s : Space) (p n : ℕ) (o : ObjectId) → named s p n ≡ Some o → HasName s.names p o
+unfolding named
+named-has s p n o h = at (find (λ (m : Name). (m.process == p) && (m.number == n)) s.names) refl h
+  where
+    at : (f : Option Name) → find (λ (m : Name). (m.process == p) && (m.number == n)) s.names ≡ f → option_map (λ (m : Name). m.object) f ≡ Some o → HasName s.names p o
+    at None e k = absurd (cc)
+    at (Some m) e k =
+        let l = find-in (λ (m : Name). (m.process == p) && (m.number == n)) m s.names e in
+        (m, l.0, eqb-true m.process p (both (m.process == p) (m.number == n) l.1).0, cc)
+
+if-strongly : (b : Bool) (x o : ObjectId) → cond b (Some x) None ≡ Some o → x ≡ o
+if-strongly true x o h = cc
+if-strongly false x o h = absurd (cc)
+
+pub strongly_named-has : (s : Space) (p n : ℕ) (o : ObjectId) → strongly_named s p n ≡ Some o → HasName s.names p o
+unfolding strongly_named named
+strongly_named-has s p n o h =
+    option_and_then_some (if_strongly_named s.objects s.references p) (named_in s.names p n) o h
+    (λ x e f. subst (HasName s.names p) (if-strongly (is_strongly_named_in s.objects s.references p x) x o f) (named-has s p n x e))
+
+-- ---- resolving
+
+-- the sent object is the sender's own, or the sender has a name for it
+abbrev pub Sent : Space → ℕ → List Object → ObjectId → Type 0
+Sent s p made o = Owns (s.objects ++ made) p o ⊎ HasName s.names p o
+
+-- the objects made so far, at this step
+pub record Made (s : Space) (p : ℕ) (made : List Object) : Type 0 where
+  pub place : (y : Object) → In y made → y.id.place ≡ s.steps
+  pub index : (y : Object) → In y made → y.id.index < length made
+  pub owner : (y : Object) → In y made → y.owner ≡ p
+  pub untold : (y : Object) → In y made → (y.told_weak ≡ false) × (y.told_strong ≡ false)
+  pub differ : Pairs Differ made
+
+-- what one more object makes of this; it may be sent as the sender's own
+pub record Resolves (s : Space) (p : ℕ) (made : List Object) (own : Bool) (r : Resolved) : Type 0 where
+  pub owned : own ≡ true → Owns (s.objects ++ (made ++ option_to_list r.new)) p r.object
+  pub sent : Sent s p (made ++ option_to_list r.new) r.object
+  pub makes : Made s p (made ++ option_to_list r.new)
+
+made-none : (s : Space) (p : ℕ) (made : List Object) → Made s p made → Made s p (made ++ [])
+made-none s p made h = subst (Made s p) (sym (append-nil made)) h
+
+made-one : (s : Space) (p : ℕ) (made : List Object) (x : FlatObject) → Made s p made → Made s p (made ++ new_object s.steps p made x ∷ [])
+made-one s p made x h =
+    let o = new_object s.steps p made x in
+    let l : length (made ++ o ∷ []) ≡ length made + 1 = length-append made (o ∷ []) in
+    record {
+      place = λ y i. elim (in-push y o made i) [ inl k ↦ h.place y k | inr e ↦ sym (ap (λ (z : Object). z.id.place) e) ];
+      index = λ y i. elim (in-push y o made i) [ inl k ↦ (let lt = h.index y k in omega arith) | inr e ↦ (let is : length made ≡ y.id.index = ap (λ (z : Object). z.id.index) e in omega arith) ];
+      owner = λ y i. elim (in-push y o made i) [ inl k ↦ h.owner y k | inr e ↦ sym (ap (λ (z : Object). z.owner) e) ];
+      untold = λ y i. elim (in-push y o made i) [ inl k ↦ h.untold y k | inr e ↦ (sym (ap (λ (z : Object). z.told_weak) e), sym (ap (λ (z : Object). z.told_strong) e)) ];
+      differ = pairs-push Differ o made h.differ (λ y i e. let is : y.id.index ≡ length made = ap (λ (z : ObjectId). z.index) e in let lt = h.index y i in absurd (omega arith));
+    }
+
+own-if : (s : Space) (p : ℕ) (made : List Object) (x : FlatObject) (o : Object) (b : Bool) (r : Resolved) → In o (s.objects ++ made) → o.owner ≡ p → Made s p made
+    → cond {A = Result Resolved Cause} b (Ok (record { object = o.id; new = None })) (Err OtherCookie) ≡ Ok r → Resolves s p made true r
+own-if s p made x o true r l own h e =
+    let is : (let q : Resolved = record { object = o.id; new = None } in q) ≡ r = cc in
+    let here = subst (λ m. In o (s.objects ++ m)) (sym (append-nil made)) l in
+    subst (Resolves s p made true) is (record { owned = λ f. (o, here, refl, own); sent = inl (o, here, refl, own); makes = made-none s p made h })
+own-if s p made x o false r l own h e = absurd (cc)
+
+own-found : (s : Space) (p : ℕ) (made : List Object) (x : FlatObject) (f : Option Object) (r : Resolved) → own_in (s.objects ++ made) p x.binder ≡ f → Made s p made
+    → elim f as (λ (f : Option Object). Result Resolved Cause) [
+      | None ↦ let o = new_object s.steps p made x in Ok (record { object = o.id; new = Some o })
+      | Some o ↦ cond (o.cookie == x.cookie) (Ok (record { object = o.id; new = None })) (Err OtherCookie)
+    ] ≡ Ok r → Resolves s p made true r
+own-found s p made x None r e h k =
+    let o = new_object s.steps p made x in
+    let is : (let q : Resolved = record { object = o.id; new = Some o } in q) ≡ r = cc in
+    let here = in-right o s.objects (made ++ o ∷ []) (in-last o made) in
+    subst (Resolves s p made true) is (record {
+      owned = λ f. (o, here, refl, refl);
+      sent = inl (o, here, refl, refl);
+      makes = made-one s p made x h;
+    })
+own-found s p made x (Some o) r e h k =
+    let l = find-in (λ (y : Object). (y.owner == p) && (y.ptr == x.binder)) o (s.objects ++ made) e in
+    own-if s p made x o (o.cookie == x.cookie) r l.0 (eqb-true o.owner p (both (o.owner == p) (o.ptr == x.binder) l.1).0) h k
+
+own-resolves : (s : Space) (p : ℕ) (made : List Object) (x : FlatObject) (r : Resolved) → Made s p made → resolve_own s p made x ≡ Ok r → Resolves s p made true r
+own-resolves s p made x r h k = own-found s p made x (own_in (s.objects ++ made) p x.binder) r refl h k
+
+handle-resolves : (s : Space) (p : ℕ) (made : List Object) (f : Option ObjectId) (r : Resolved) → ((o : ObjectId) → f ≡ Some o → HasName s.names p o) → Made s p made
+    → resolve_handle f ≡ Ok r → Resolves s p made false r
+handle-resolves s p made None r n h k = absurd (cc)
+handle-resolves s p made (Some o) r n h k =
+    let is : (let q : Resolved = record { object = o; new = None } in q) ≡ r = cc in
+    subst (Resolves s p made false) is (record { owned = λ f. absurd (cc); sent = inr (n o refl); makes = made-none s p made h })
+
+pub resolves : (s : Space) (p : ℕ) (made : List Object) (x : FlatObject) (r : Resolved) → Made s p made → resolve s p made x ≡ Ok r → Resolves s p made (is_own x.kind) r
+unfolding resolve
+resolves s p made x r h k = of x.kind k
+  where
+    of : (kind : ObjectKind) → elim kind as (λ (q : ObjectKind). Result Resolved Cause) [
+      | Binder ↦ resolve_own s p made x
+      | WeakBinder ↦ resolve_own s p made x
+      | Handle ↦ resolve_handle (strongly_named s p (x.binder % 2 ^ 32))
+      | WeakHandle ↦ resolve_handle (named s p (x.binder % 2 ^ 32))
+    ] ≡ Ok r → Resolves s p made (is_own kind) r
+    of Binder e = own-resolves s p made x r h e
+    of WeakBinder e = own-resolves s p made x r h e
+    of Handle e = handle-resolves s p made (strongly_named s p (x.binder % 2 ^ 32)) r (λ o f. strongly_named-has s p (x.binder % 2 ^ 32) o f) h e
+    of WeakHandle e = handle-resolves s p made (named s p (x.binder % 2 ^ 32)) r (λ o f. named-has s p (x.binder % 2 ^ 32) o f) h e
+
+-- ---- all of a parcel
+
+pub record Sends (s : Space) (p : ℕ) (made : List Object) (items : List Item) : Type 0 where
+  pub owned : (i : Item) → In i items → is_own i.flat.kind ≡ true → Owns (s.objects ++ made) p i.object
+  pub sent : (i : Item) → In i items → Sent s p made i.object
+  pub makes : Made s p made
+
+owns-more : (s : Space) (p : ℕ) (made more : List Object) (o : ObjectId) → Owns (s.objects ++ made) p o → Owns (s.objects ++ (made ++ more)) p o
+owns-more s p made more o w =
+    (w.0, elim (in-append w.0 s.objects made w.1) [ inl k ↦ in-left w.0 s.objects (made ++ more) k | inr k ↦ in-right w.0 s.objects (made ++ more) (in-left w.0 made more k) ], w.2, w.3)
+
+sent-more : (s : Space) (p : ℕ) (made more : List Object) (o : ObjectId) → Sent s p made o → Sent s p (made ++ more) o
+sent-more s p made more o (inl w) = inl (owns-more s p made more o w)
+sent-more s p made more o (inr m) = inr m
+
+all-sent : (s : Space) (p : ℕ) (bytes offsets : List ℕ) (ats : List ℕ) (made : List Object) (items : List Item) (v : Sending) → Sends s p made items
+    → resolve_all s p bytes offsets made items ats ≡ Ok v → Sends s p v.made v.items
+all-sent s p bytes offsets [] made items v h k =
+    let is : (let q : Sending = record { bytes = bytes; offsets = offsets; made = made; items = items } in q) ≡ v = cc in
+    subst (λ (q : Sending). Sends s p q.made q.items) is h
+all-sent s p bytes offsets (at ∷ ats) made items v h k =
+    let r = and_then-ok (resolve s p made (object_at at bytes)) _ v k in
+    let one = resolves s p made (object_at at bytes) r.0 h.makes r.1 in
+    let item : Item = record { at = at; flat = object_at at bytes; object = r.0.object } in
+    all-sent s p bytes offsets ats (made ++ option_to_list r.0.new) (items ++ item ∷ []) v (record {
+      owned = λ i l own. elim (in-push i item items l) [
+        | inl m ↦ owns-more s p made (option_to_list r.0.new) i.object (h.owned i m own)
+        | inr e ↦ (
+            let kind : is_own item.flat.kind ≡ is_own i.flat.kind = ap (λ (x : Item). is_own x.flat.kind) e in
+            subst (Owns (s.objects ++ (made ++ option_to_list r.0.new)) p) (ap (λ (x : Item). x.object) e) (one.owned (kind ∙ own)))
+      ];
+      sent = λ i l. elim (in-push i item items l) [
+        | inl m ↦ sent-more s p made (option_to_list r.0.new) i.object (h.sent i m)
+        | inr e ↦ subst (Sent s p (made ++ option_to_list r.0.new)) (ap (λ (x : Item). x.object) e) one.sent
+      ];
+      makes = one.makes;
+    }) r.2
+
+none-made : (s : Space) (p : ℕ) → Made s p []
+none-made s p = record { place = λ y l. absurd l; index = λ y l. absurd l; owner = λ y l. absurd l; untold = λ y l. absurd l; differ = tt }
+
+pub sending-sends : (s : Space) (p : ℕ) (d : TransactionData) (parcel : Option Parcel) (v : Sending) → sending_of s p d parcel ≡ Ok v → Sends s p v.made v.items
+unfolding sending_of
+sending-sends s p d None v h = absurd (cc)
+sending-sends s p d (Some q) v h = cut (not (is_cut d q)) (not (length q.offsets % 8 == 0)) (fault_in q.bytes (offsets_in q.offsets)) h
+  where
+    walked : (f : Option WalkFault) → resolve_walked s p q f ≡ Ok v → Sends s p v.made v.items
+    walked (Some f) k = absurd (cc)
+    walked None k = all-sent s p q.bytes q.offsets (offsets_in q.offsets) [] [] v (record { owned = λ i l own. absurd l; sent = λ i l. absurd l; makes = none-made s p }) k
+
+    cut : (a b : Bool) (f : Option WalkFault) → cond {A = Result Sending Cause} a (Err OutsideArea) (cond b (Err OffsetsSize) (resolve_walked s p q f)) ≡ Ok v → Sends s p v.made v.items
+    cut true b f k = absurd (cc)
+    cut false true f k = absurd (cc)
+    cut false false f k = walked f k

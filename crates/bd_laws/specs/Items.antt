@@ -1,0 +1,70 @@
+-- Work items between two steps: what tells them apart, and where they stand.
+use Rattle.std.specs.Prelude.{◌≡◌, true, List, ℕ, ◌<◌, Some}
+use Rattle.bd_space.specs.declared.space.Work.{Work}
+use Rattle.bd_space.specs.declared.space.Thread.{Thread}
+use Rattle.bd_space.specs.declared.space.Reference.{Reference}
+use Rattle.bd_space.specs.declared.space.Holder.TheVariants.{Carried}
+use Rattle.bd_space.specs.declared.space.TodoList.TheVariants.{OfThread, OfProcess}
+use Rattle.bd_space.specs.declared.space.WorkKind.TheVariants as work
+use Rattle.bd_space.specs.declared.space.DeathNotification.{DeathNotification}
+use Rattle.bd_space.specs.declared.space.Phase.TheVariants.{Queued}
+use Rattle.bd_space.specs.Todo.{is_item, handed_over}
+use Rattle.bd_space.specs.Space.{Space}
+use Rattle.bd_laws.specs.Lists.{In, Pairs}
+
+-- no two items of one list have one identity
+abbrev pub Distinct : List Work → Type 0
+Distinct todo = (v w : Work) → In v todo → In w todo → is_item v w ≡ true → v ≡ w
+
+-- each item was made by an earlier step
+abbrev pub Fresh : ℕ → List Work → Type 0
+Fresh n todo = (w : Work) → In w todo → w.id.place < n
+
+-- so it is in the space
+pub record Told (s : Space) : Type 0 where
+  pub fresh : Fresh s.steps s.todo
+  pub distinct : Distinct s.todo
+
+-- the two threads have seats of their own
+abbrev pub OtherSeat : Thread → Thread → Type 0
+OtherSeat t u = t.seat ≡ u.seat → ⊥
+
+-- seat t has a live thread, in whose process's window all references lie that the buffer made at b carries
+abbrev pub Home : List Thread → List Reference → ℕ → ℕ → Type 0
+Home ts rs t b = (u : Thread) × In u ts × (u.seat ≡ t) × ((r : Reference) (q : ℕ) → In r rs → r.holder ≡ Carried b q → u.process ≡ q)
+
+-- what stands on a thread's list hands over only what its own process receives
+pub record Homed (n : ℕ) (ts : List Thread) (rs : List Reference) (td : List Work) : Type 0 where
+  pub seats : Pairs OtherSeat ts
+  pub home : (w : Work) (t b : ℕ) → In w td → w.list ≡ OfThread t → handed_over w.kind ≡ Some b → Home ts rs t b
+  pub carried : (r : Reference) (b q : ℕ) → In r rs → r.holder ≡ Carried b q → b < n
+
+abbrev pub AtHome : Space → Type 0
+AtHome s = Homed s.steps s.threads s.references s.todo
+
+-- if both tell of a death, they are two notifications'
+abbrev pub OtherDeath : Work → Work → Type 0
+OtherDeath v w = (n : ℕ) → v.kind ≡ work.Death n → w.kind ≡ work.Death n → ⊥
+
+-- made at two places
+abbrev pub OtherNotification : DeathNotification → DeathNotification → Type 0
+OtherNotification x y = x.made ≡ y.made → ⊥
+
+-- while a Death item stands, its notification is queued
+abbrev pub AllQueued : List Work → List DeathNotification → Type 0
+AllQueued todo deaths = (w : Work) (n : ℕ) (x : DeathNotification) → In w todo → w.kind ≡ work.Death n → In x deaths → x.made ≡ n → x.phase ≡ Queued
+
+-- it stands with the process whose notification it is
+abbrev pub AllSit : List Work → List DeathNotification → Type 0
+AllSit todo deaths = (w : Work) (n : ℕ) (x : DeathNotification) → In w todo → w.kind ≡ work.Death n → In x deaths → x.made ≡ n → w.list ≡ OfProcess x.process
+
+-- each notification has one such item at most
+pub record Queues (n : ℕ) (todo : List Work) (deaths : List DeathNotification) : Type 0 where
+  pub fresh : (x : DeathNotification) → In x deaths → x.made < n
+  pub one : Pairs OtherNotification deaths
+  pub queued : AllQueued todo deaths
+  pub once : Pairs OtherDeath todo
+  pub sits : AllSit todo deaths
+
+unfoldable pub IsQueued : Space → Type 0
+IsQueued s = Queues s.steps s.todo s.deaths

@@ -1,0 +1,50 @@
+-- The laws of every history that the engine rests on.
+use Rattle.std.specs.Prelude.{ℕ, ◌≡◌, ◌&&◌, ◌||◌, Bool, List, filter}
+use Rattle.std.specs.List.{list_any}
+use Rattle.bd_space.specs.declared.step.ObjectId.{ObjectId}
+use Rattle.bd_space.specs.declared.space.Turn.{Turn}
+use Rattle.bd_space.specs.declared.space.Work.{Work}
+use Rattle.bd_space.specs.Words.{same}
+use Rattle.bd_space.specs.Space.{Space}
+use Rattle.bd_space.specs.Frames.{innermost_in}
+use Rattle.bd_space.specs.Todo.{is_call}
+use Rattle.bd_space.specs.Turns.{turns_of}
+use Rattle.bd_space.specs.Notices.{follow}
+use Rattle.bd_space.specs.Histories.{History, space_after}
+use Rattle.bd_laws.specs.Local.{NameTest, ObjectTest, follow_of}
+use Rattle.bd_laws.specs.Items.{Distinct}
+use Rattle.bd_laws.specs.Stacks.{AreStacks, frames_with, last_of}
+use Rattle.bd_laws.specs.Quiet.{Elsewhere, IsQuiet}
+use Rattle.bd_laws.specs.Tidy.{IsTidy}
+
+-- ---- one-way calls
+
+-- the call is due, or it was handed out
+abbrev pub is_out : List Work → Turn → Bool
+is_out todo t = t.handed || list_any (λ w. is_call t.made w.kind) todo
+
+-- the object's one-way calls that are due or handed out, and whose buffers live
+abbrev pub out_on : ObjectId → Space → List Turn
+out_on o s = filter (λ t. same t.target o && is_out s.todo t) (turns_of s.buffers)
+
+-- ---- between two steps, also of entries that no engine would make
+
+abbrev pub NothingIsPending : Type 0
+NothingIsPending = (h : History) → IsQuiet (space_after h)
+
+abbrev pub SpacesAreTidy : Type 0
+SpacesAreTidy = (h : History) → IsTidy (space_after h)
+
+-- an item is told by its list and its identity
+abbrev pub ItemsAreToldApart : Type 0
+ItemsAreToldApart = (h : History) → Distinct (space_after h).todo
+
+-- the innermost frame of a thread is the last of its stack
+abbrev pub FramesAreStacks : Type 0
+FramesAreStacks = (h : History) → AreStacks (space_after h).frames × ((seat : ℕ) → innermost_in (space_after h).frames seat ≡ last_of (frames_with (space_after h).frames seat))
+
+-- ---- after a change
+
+-- where nothing is pending but of what the tests pass, it is enough to look there
+abbrev pub FollowingIsLocal : Type 0
+FollowingIsLocal = (a : NameTest) (b : ObjectTest) (z : Space) → Elsewhere a b z → follow z ≡ follow_of a b z

@@ -1,0 +1,10 @@
+pub mod Lists
+pub mod Local
+pub mod Objects
+pub mod OneWayCalls
+pub mod Items
+pub mod Frames
+pub mod Stacks
+pub mod Quiet
+pub mod Tidy
+pub mod Laws

@@ -1,0 +1,157 @@
+-- The consequences of a change, worked out at chosen names, objects and frames alone.
+use Rattle.std.specs.Prelude.{ℕ, zero, suc, ◌==◌, Bool, false, not, ◌&&◌, ◌||◌, List, [], ◌∷◌, map, filter, fold, Option, None, Some, find, if◌then◌else◌}
+use Rattle.std.specs.List.{list_any}
+use Rattle.bd_space.specs.declared.step.ObjectId.{ObjectId}
+use Rattle.bd_space.specs.declared.space.Work.{Work}
+use Rattle.bd_space.specs.declared.space.DeathNotification.{DeathNotification}
+use Rattle.bd_space.specs.declared.space.TodoList.{TodoList}
+use Rattle.bd_space.specs.declared.space.TodoList.TheVariants.{OfProcess, OfThread}
+use Rattle.bd_space.specs.declared.space.WorkKind.{WorkKind}
+use Rattle.bd_space.specs.declared.space.WorkKind.TheVariants as work
+use Rattle.bd_uapi.specs.declared.command.Return.TheVariants.{DeadReply}
+use Rattle.bd_space.specs.declared.space.Frame.{Frame}
+use Rattle.bd_space.specs.Words.{same, is_some_and}
+use Rattle.bd_space.specs.Frames.{is_frame, closed, serves}
+use Rattle.bd_space.specs.Settle.{is_abandoned}
+use Rattle.bd_space.specs.Space.{Space}
+use Rattle.bd_space.specs.declared.space.Reference.{Reference}
+use Rattle.bd_space.specs.declared.space.Item.{Item}
+use Rattle.bd_space.specs.References.{stays_in, names_for, owned_in}
+use Rattle.bd_space.specs.ThreadExits.{is_unread_on, is_lost_reference}
+use Rattle.bd_space.specs.ProcessExits.{is_dropped_with, seat_of}
+use Rattle.bd_space.specs.Names.{is_named_in}
+use Rattle.bd_space.specs.declared.space.Turn.{Turn}
+use Rattle.bd_space.specs.Todo.{with_work, is_call, is_notice, is_on, tell_caller}
+use Rattle.bd_space.specs.Turns.{turns_of}
+use Rattle.bd_space.specs.Notices.{is_name_of, still_due, with_notice}
+
+-- tests of names, each by its process and object, and of objects
+abbrev pub NameTest : Type 0
+NameTest = ℕ → ObjectId → Bool
+
+abbrev pub ObjectTest : Type 0
+ObjectTest = ObjectId → Bool
+
+unfoldable pub names_go_of : NameTest → Space → Space
+names_go_of a s = record s { names = filter (λ m. not (a m.process m.object) || is_named_in s.objects s.references m.process m.object) s.names }
+
+unfoldable pub objects_go_of : ObjectTest → Space → Space
+objects_go_of b s = record s { objects = filter (λ x. not (b x.id) || stays_in s.processes s.references x) s.objects }
+
+unfoldable pub deaths_go_of : NameTest → Space → Space
+deaths_go_of a s = record s { deaths = filter (λ x. not (a x.process x.object) || (x.cleared || is_name_of s.names x.process x.object)) s.deaths }
+
+-- an item to look at: a chosen object's Notice, or a chosen notification's Death
+abbrev pub is_touched : NameTest → ObjectTest → List DeathNotification → WorkKind → Bool
+is_touched a b deaths (work.Notice o) = b o
+is_touched a b deaths (work.Death n) = list_any (λ x. (x.made == n) && a x.process x.object) deaths
+is_touched a b deaths _ = false
+
+unfoldable pub work_goes_of : NameTest → ObjectTest → List DeathNotification → Space → Space
+work_goes_of a b deaths s =
+    record s { todo = filter (λ w. not (is_touched a b deaths w.kind) || still_due s.processes s.objects s.references s.deaths w.kind) s.todo }
+
+unfoldable pub notify_of : ObjectTest → Space → Space
+notify_of b s =
+    record s { todo = fold (λ todo x. with_notice s.steps s.processes s.references (OfProcess x.owner) todo x) s.todo (filter (λ x. b x.id) s.objects) }
+
+unfoldable pub follow_of : NameTest → ObjectTest → Space → Space
+follow_of a b s = notify_of b (work_goes_of a b s.deaths (deaths_go_of a (objects_go_of b (names_go_of a s))))
+
+-- ---- ripening on one object
+
+-- its oldest one-way call is made due, unless that has happened already
+abbrev pub first_due : ℕ → List Work → Option Turn → List Work
+first_due place todo None = todo
+first_due place todo (Some t) =
+    if not t.handed && not (list_any (λ w. is_call t.made w.kind) todo) then with_work place todo (OfProcess t.receiver) (work.Call t.made) else todo
+
+unfoldable pub ripen_of : ObjectId → Space → Space
+ripen_of o s = record s { todo = first_due s.steps s.todo (find (λ t. same t.target o) (turns_of s.buffers)) }
+
+-- ---- tests
+
+abbrev pub at_name : ℕ → ObjectId → NameTest
+at_name p o q i = (q == p) && same i o
+
+abbrev pub no_name : NameTest
+no_name q i = false
+
+abbrev pub at_object : ObjectId → ObjectTest
+at_object o i = same i o
+
+-- all that these references refer to, and its names
+abbrev pub names_of_references : List Reference → NameTest
+names_of_references rs p o = list_any (λ r. same r.object o && names_for p r.holder) rs
+
+abbrev pub objects_of_references : List Reference → ObjectTest
+objects_of_references rs o = list_any (λ r. same r.object o) rs
+
+-- the objects of a parcel
+abbrev pub objects_of_items : List Item → ObjectTest
+objects_of_items items o = list_any (λ x. same x.object o) items
+
+-- ---- settling from one frame upwards
+
+-- closes the frame made at m, if it is abandoned, and goes on with its parent: n times at most
+abbrev pub close_up : ℕ → Option ℕ → Space → Space
+close_up zero m s = s
+close_up (suc n) None s = s
+close_up (suc n) (Some m) s =
+    elim (find (λ f. is_frame m f && is_abandoned s.frames f) s.frames) [
+      | None ↦ s
+      | Some f ↦ close_up n f.parent (tell_caller (closed s f.made) f (work.Verdict DeadReply))
+    ]
+
+-- ---- settling among chosen frames: closes the oldest abandoned one and adds its parent to the choice, n times at most
+
+abbrev pub close_among : ℕ → (ℕ → Bool) → Space → Space
+close_among zero c s = s
+close_among (suc n) c s =
+    elim (find (λ f. c f.made && is_abandoned s.frames f) s.frames) [
+      | None ↦ s
+      | Some f ↦ close_among n (λ m. c m || is_some_and f.parent (λ p. p == m)) (tell_caller (closed s f.made) f (work.Verdict DeadReply))
+    ]
+
+-- ---- exits: what to look at, as the space before tells
+
+-- one of these threads serves the frame, or finds its call on one of these lists
+abbrev pub is_left_frame : List ℕ → List TodoList → List Work → Frame → Bool
+is_left_frame seats lists todo f = list_any (λ t. serves t f.server) seats || list_any (λ l. is_unread_on todo l f.made) lists
+
+abbrev pub left_frames : List ℕ → List TodoList → Space → ℕ → Bool
+left_frames seats lists s m = list_any (λ f. is_frame m f && is_left_frame seats lists s.todo f) s.frames
+
+-- the object of a lost reference, or of a Notice on a lost list
+abbrev pub left_objects : (Reference → Bool) → List TodoList → Space → ObjectTest
+left_objects gone lists s o =
+    list_any (λ r. same r.object o && gone r) s.references || list_any (λ w. is_notice o w.kind && list_any (λ l. is_on l w) lists) s.todo
+
+-- ExitThread, by its seat
+abbrev pub lost_with_thread : Space → ℕ → Reference → Bool
+lost_with_thread s seat r = is_lost_reference s.todo (OfThread seat) r
+
+abbrev pub names_left : Space → ℕ → NameTest
+names_left s seat = names_of_references (filter (lost_with_thread s seat) s.references)
+
+abbrev pub objects_left : Space → ℕ → ObjectTest
+objects_left s seat = left_objects (lost_with_thread s seat) (OfThread seat ∷ []) s
+
+abbrev pub frames_left : Space → ℕ → ℕ → Bool
+frames_left s seat = left_frames (seat ∷ []) (OfThread seat ∷ []) s
+
+-- ExitProcess
+abbrev pub seats_in : Space → ℕ → List ℕ
+seats_in s p = map seat_of (filter (λ t. t.process == p) s.threads)
+
+abbrev pub lists_in : Space → ℕ → List TodoList
+lists_in s p = OfProcess p ∷ map (λ t. OfThread t) (seats_in s p)
+
+abbrev pub lost_with_process : Space → ℕ → Reference → Bool
+lost_with_process s p r = is_dropped_with s.objects p r || list_any (λ t. is_lost_reference s.todo (OfThread t) r) (seats_in s p)
+
+abbrev pub objects_ended : Space → ℕ → ObjectTest
+objects_ended s p o = owned_in s.objects p o || left_objects (lost_with_process s p) (lists_in s p) s o
+
+abbrev pub frames_ended : Space → ℕ → ℕ → Bool
+frames_ended s p = left_frames (seats_in s p) (lists_in s p) s

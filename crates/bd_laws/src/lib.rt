@@ -1,0 +1,9 @@
+//! What holds of the space after every history, between two steps.
+#![tactic(auto)]
+
+mod laws;
+
+pub use laws::{
+    following_is_local, frames_are_stacks, items_are_told_apart, nothing_is_pending,
+    spaces_are_tidy,
+};
