@@ -32,7 +32,7 @@ use Rattle.bd_space.specs.Turns.{turns_of, is_ripe, ripened, ripen}
 use Rattle.bd_space.specs.Notices.{wants_notice, has_notice_in, with_notice, still_due, is_name_of, deaths_go, work_goes, notify, follow}
 use Rattle.bd_space.specs.Settle.{settle, settle_one, settle_times, is_abandoned}
 use Rattle.bd_space.specs.Outcomes.{completed}
-use Rattle.bd_space.specs.Parcels.{is_own}
+use Rattle.bd_uapi.specs.Kinds.{is_own}
 use Rattle.bd_space.specs.Delivery.{Delivery, delivered, own_notices, add_buffer, known_by, refer, make_objects, withdraw_notice}
 use Rattle.bd_space.specs.Transactions.{transacted, called, call_out, refusal}
 use Rattle.bd_space.specs.Replies.{replied, reply_refused}

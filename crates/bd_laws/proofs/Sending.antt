@@ -29,7 +29,8 @@ use Rattle.bd_space.specs.Todo.{with_work, owe, is_notice, is_call}
 use Rattle.bd_space.specs.Turns.{turn_of, turns_of}
 use Rattle.bd_space.specs.Settle.{is_abandoned}
 use Rattle.bd_space.specs.Notices.{wants_notice, has_notice_in, with_notice, is_name_of}
-use Rattle.bd_space.specs.Parcels.{is_own, object_of_item}
+use Rattle.bd_uapi.specs.Kinds.{is_own}
+use Rattle.bd_space.specs.Parcels.{object_of_item}
 use Rattle.bd_space.specs.Delivery.{Delivery, delivered, own_notices, add_buffer, known_by, refer, make_objects, buffer_of, buffer_references, withdraw_notice}
 use Rattle.bd_space.specs.Transactions.{transacted, called, call_out}
 use Rattle.bd_space.specs.Outcomes.{completed}
