@@ -7,6 +7,3 @@ mod windows;
 
 pub use window::Window;
 pub use windows::Windows;
-
-#[cfg(test)]
-mod tests;

@@ -6,8 +6,6 @@ mod exits;
 mod frames;
 mod reading;
 mod table;
-#[cfg(test)]
-mod tests;
 mod threads;
 mod todo;
 mod turns;

@@ -17,6 +17,3 @@ mod told;
 pub use carrying::CarriedObjects;
 pub use numbers::NumbersFull;
 pub use table::ObjectTable;
-
-#[cfg(test)]
-mod tests;

@@ -10,6 +10,3 @@ mod words;
 pub use hex::{hex_digit, hex_is_read};
 pub use numbers::number;
 pub use script::{Line, Script, ScriptError, Verb, read_script};
-
-#[cfg(test)]
-mod tests;

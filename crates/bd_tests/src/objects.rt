@@ -1,6 +1,6 @@
 //! With ample memory, on the worked example of an object that is sent to the context manager.
 
-use crate::ObjectTable;
+use bd_objects::ObjectTable;
 use bd_space::{Item, ObjectId, Resolved};
 use bd_uapi::{Cause, FlatObject, Note, ObjectKind, Return};
 use std::test::Fail;
