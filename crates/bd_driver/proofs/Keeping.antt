@@ -25,7 +25,7 @@ Granted seats id me s word f then =
 abbrev pub IsSameSeat : View → View → Type 0
 IsSameSeat v w = (w.seats ≡ v.seats) × (w.who ≡ v.who) × (w.handover ≡ v.handover) × (w.own ≡ v.own)
 
--- the seat's next view, which another seat of the table may carry
+-- the next view of a seat; another of the table's seats may come to carry it
 pub review : (seats : ℕ) (entries : List Entry) (carrier now : ℕ → ℕ) (taken_by taken : Option ℕ) (mailboxes : List Mailbox) (id j : ℕ) (v w : View) → Fits seats entries carrier taken_by mailboxes id v → IsSameSeat v w → now v.who ≡ j → StartsWith entries w.seen
     → (w.taker ≡ true → (taken ≡ some j) × (w.seen ≡ entries)) → PickFits mailboxes w.pick → (w.taker ≡ false → w.pick ≡ Nothing) → Fits seats entries now taken mailboxes j w
 review seats entries carrier now taken_by taken mailboxes id j v w f same held begins takes picks idle = record {
@@ -42,7 +42,7 @@ review seats entries carrier now taken_by taken mailboxes id j v w f same held b
   idle = idle;
 }
 
--- the same view, which another seat of the table may carry
+-- the same view; another of the table's seats may come to carry it
 pub reseat : (seats : ℕ) (entries : List Entry) (carrier now : ℕ → ℕ) (taken_by taken : Option ℕ) (mailboxes : List Mailbox) (id j : ℕ) (v : View) → Fits seats entries carrier taken_by mailboxes id v → now v.who ≡ j → (v.taker ≡ true → (taken ≡ some j) × (v.seen ≡ entries)) → Fits seats entries now taken mailboxes j v
 reseat seats entries carrier now taken_by taken mailboxes id j v f held takes = review seats entries carrier now taken_by taken mailboxes id j v v f (refl, refl, refl, refl) held f.begins takes f.picks f.idle
 

@@ -40,7 +40,7 @@ each_set P views id new others mine j vs e =
     (λ (x : (j ≢ id) × (get_elem? views j ≡ some vs)). others j vs x.0 x.1)
     (at_set views id j new vs e)
 
--- a taker stays one where its seat's view stays a taker's with the same pick, and what is picked stays so
+-- the taker stays one where its next view is a taker's too, with the same pick, and what is picked stays so
 pub keeps_taker : (views : List (List View)) (id : ℕ) (v w : View) (mailboxes now : List Mailbox) (taken_by : Option ℕ) → get_elem? views id ≡ some (v ∷ []) → (v.taker ≡ true → w.taker ≡ true) → w.pick ≡ v.pick
     → ((p : Pick) → PickedAs mailboxes p → PickedAs now p) → HasTaker views mailboxes taken_by → HasTaker (set views id (w ∷ [])) now taken_by
 keeps_taker views id v w mailboxes now none at same pick_is picks h = picks Nothing h

@@ -26,7 +26,7 @@ abbrev pub HasTaker : List (List View) → List Mailbox → Option ℕ → Type 
 HasTaker views mailboxes none = PickedAs mailboxes Nothing
 HasTaker views mailboxes (some t) = (v : View) × (get_elem? views t ≡ some (v ∷ [])) × (v.taker ≡ true) × PickedAs mailboxes v.pick
 
--- how one view, carried by the table's seat id, agrees with the rest
+-- how one view agrees with the rest, where the table's seat of this id carries it
 pub record Fits (seats : ℕ) (entries : List Entry) (carrier : ℕ → ℕ) (taken_by : Option ℕ) (mailboxes : List Mailbox) (id : ℕ) (v : View) : Type 0 where
   pub seats_are : v.seats ≡ seats
   pub below : v.who < seats
@@ -43,9 +43,9 @@ pub record Fits (seats : ℕ) (entries : List Entry) (carrier : ℕ → ℕ) (ta
 -- the whole rule, round one published history
 pub record Kept (seats : ℕ) (s : State Slot (List View)) : Type 0 where
   pub entries : List Entry
-  -- which seat of the table carries each seat's view
+  -- which of the table's seats carries the view of each seat
   pub carrier : ℕ → ℕ
-  -- the seat of the table that has the engine
+  -- which of the table's seats has the engine
   pub taken_by : Option ℕ
   pub mailboxes : List Mailbox
   pub words : s.words ≡ page_word seats (bit_of taken_by) entries ∷ map mark mailboxes

@@ -76,11 +76,13 @@ abbrev pub alone : {A : Type 0} → A → List (List ℕ) → Option A
 alone x [] = Some x
 alone x (word ∷ words) = None
 
-abbrev pub handle_of : List (List ℕ) → Option ℕ
-handle_of args = one_of args >>= word_of
+-- one number, of 32 bits
+abbrev pub one_number_of : List (List ℕ) → Option ℕ
+one_number_of args = one_of args >>= word_of
 
-abbrev pub pointer_of : List (List ℕ) → Option ℕ
-pointer_of args = one_of args >>= long_of
+-- one number, of 64 bits
+abbrev pub one_long_of : List (List ℕ) → Option ℕ
+one_long_of args = one_of args >>= long_of
 
 abbrev pub pointer_and_cookie_of : List (List ℕ) → Option (ℕ × ℕ)
 pointer_and_cookie_of args = do
@@ -96,11 +98,11 @@ handle_and_cookie_of args = do
   cookie ← long_of words.1
   Some (handle, cookie)
 
-abbrev pub handle : {A : Type 0} → (ℕ → A) → List (List ℕ) → Option A
-handle f args = option_map f (handle_of args)
+abbrev pub one_number : {A : Type 0} → (ℕ → A) → List (List ℕ) → Option A
+one_number f args = option_map f (one_number_of args)
 
-abbrev pub pointer : {A : Type 0} → (ℕ → A) → List (List ℕ) → Option A
-pointer f args = option_map f (pointer_of args)
+abbrev pub one_long : {A : Type 0} → (ℕ → A) → List (List ℕ) → Option A
+one_long f args = option_map f (one_long_of args)
 
 abbrev pub pointer_and_cookie : {A : Type 0} → (ℕ → ℕ → A) → List (List ℕ) → Option A
 pointer_and_cookie f args = option_map (λ (p : ℕ × ℕ). f p.0 p.1) (pointer_and_cookie_of args)
@@ -138,11 +140,11 @@ abbrev pub command_rows : Rows Command
 command_rows =
     (codes "enter", alone command.EnterLooper)
     ∷ (codes "exitloop", alone command.ExitLooper)
-    ∷ (codes "free", pointer command.FreeBuffer)
-    ∷ (codes "increfs", handle command.Increfs)
-    ∷ (codes "acquire", handle command.Acquire)
-    ∷ (codes "release", handle command.Release)
-    ∷ (codes "decrefs", handle command.Decrefs)
+    ∷ (codes "free", one_long command.FreeBuffer)
+    ∷ (codes "increfs", one_number command.Increfs)
+    ∷ (codes "acquire", one_number command.Acquire)
+    ∷ (codes "release", one_number command.Release)
+    ∷ (codes "decrefs", one_number command.Decrefs)
     ∷ []
 
 abbrev pub longer_command_rows : Rows Command
@@ -151,7 +153,7 @@ longer_command_rows =
     ∷ (codes "acquiredone", pointer_and_cookie command.AcquireDone)
     ∷ (codes "askdeath", handle_and_cookie command.RequestDeathNotification)
     ∷ (codes "cleardeath", handle_and_cookie command.ClearDeathNotification)
-    ∷ (codes "deaddone", pointer command.DeadBinderDone)
+    ∷ (codes "deaddone", one_long command.DeadBinderDone)
     ∷ []
 
 unfoldable pub longer_command_of : List ℕ → List (List ℕ) → Option Command
@@ -163,9 +165,9 @@ command_of name args = among command_rows (longer_command_of name) name args
 abbrev pub request_rows : Rows Request
 request_rows =
     (codes "open", open_of)
-    ∷ (codes "attach", handle request.Attach)
+    ∷ (codes "attach", one_number request.Attach)
     ∷ (codes "manager", alone request.SetManager)
-    ∷ (codes "read", handle request.Read)
+    ∷ (codes "read", one_number request.Read)
     ∷ (codes "exitthread", alone request.ExitThread)
     ∷ (codes "exitprocess", alone request.ExitProcess)
     ∷ []
@@ -192,7 +194,7 @@ post_of (name ∷ args) = option_map verb.Post (request_of name args)
 abbrev pub verb_rows : Rows Verb
 verb_rows =
     (codes "look", alone verb.Look)
-    ∷ (codes "await", handle verb.Await)
+    ∷ (codes "await", one_number verb.Await)
     ∷ (codes "serve", alone verb.Serve)
     ∷ (codes "collect", alone verb.Collect)
     ∷ (codes "withdraw", alone verb.Withdraw)

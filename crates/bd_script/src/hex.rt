@@ -1,11 +1,11 @@
 //! Bytes in hex: lower-case pairs of digits, or `-` for none.
 
-ghost use Rattle.std.specs.Prelude.{◌≡◌, ◌<◌, ◌≤◌, [], ◌∷◌, ℕ, List, Some, length, IfOk, IfSome};
+ghost use Rattle.std.specs.Prelude.{◌≡◌, ◌≤◌, [], ◌∷◌, ℕ, List, Some, length, IfOk, IfSome};
 ghost use Rattle.std.specs.List.{flat_map};
 ghost use Rattle.std.specs.Option.{option_map};
 ghost use Rattle.std.specs.Str.{bytes_eq};
 ghost use Rattle.bd_uapi.specs.Bytes.{IsBytes};
-ghost use Rattle.bd_script.specs.Hex.{digit_of, hex_digit, hex_pair, hex_word, pairs_of, hex_of};
+ghost use Rattle.bd_script.specs.Hex.{digit_of, hex_pair, hex_word, pairs_of, hex_of};
 
 use std::alloc::{AllocError, Global};
 
@@ -20,18 +20,6 @@ fn digit_value(byte: u8) -> Option<u8>
         b'0'..=b'9' => Some(byte - b'0'),
         b'a'..=b'f' => Some(byte - b'a' + 10),
         _ => None,
-    }
-}
-
-/// The digit for a number below 16.
-pub fn hex_digit(number: u8) -> u8
-    requires { number < 16 }
-    ensures { result ≡ hex_digit number }
-{
-    if number < 10 {
-        b'0' + number
-    } else {
-        b'a' - 10 + number
     }
 }
 

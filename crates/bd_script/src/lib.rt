@@ -7,6 +7,5 @@ mod requests;
 mod script;
 mod words;
 
-pub use hex::{hex_digit, hex_is_read};
-pub use numbers::number;
+pub use hex::hex_is_read;
 pub use script::{Line, Script, ScriptError, Verb, read_script};

@@ -2,7 +2,7 @@
 
 ghost use Rattle.std.specs.Prelude.{◌≡◌, Some, None, length, IfOk, MatchResult};
 ghost use Rattle.bd_script.specs.Words.{ReadsAs, ReadsOrMemory, one_of, two_of, three_of, four_of, shown};
-ghost use Rattle.bd_script.specs.Requests.{alone, area_of, command_of, command_with, handle_and_cookie_of, handle_of, longer_command_of, open_of, padded, pointer_and_cookie_of, pointer_of, post_of, record_of, request_of, send, sent, stream_and_area, tx_of, verb_of, write_of, write_with};
+ghost use Rattle.bd_script.specs.Requests.{alone, area_of, command_of, command_with, handle_and_cookie_of, one_number_of, longer_command_of, open_of, padded, pointer_and_cookie_of, one_long_of, post_of, record_of, request_of, send, sent, stream_and_area, tx_of, verb_of, write_of, write_with};
 ghost use Rattle.bd_script.specs.declared.script.Trouble.TheVariants.{Bad};
 
 use crate::script::{Trouble, Verb};
@@ -68,15 +68,16 @@ fn four_words<'a>(args: &[&'a [u8]]) -> Result<(&'a [u8], &'a [u8], &'a [u8], &'
     }
 }
 
-// A handle, or another number of 32 bits.
-fn handle(args: &[&[u8]]) -> Result<u32, Trouble>
-    ensures { ReadsAs result (handle_of (shown args.now)) }
+// One number, of 32 bits.
+fn one_number(args: &[&[u8]]) -> Result<u32, Trouble>
+    ensures { ReadsAs result (one_number_of (shown args.now)) }
 {
     word_in(one_word(args)?)
 }
 
-fn pointer(args: &[&[u8]]) -> Result<u64, Trouble>
-    ensures { ReadsAs result (pointer_of (shown args.now)) }
+// One number, of 64 bits.
+fn one_long(args: &[&[u8]]) -> Result<u64, Trouble>
+    ensures { ReadsAs result (one_long_of (shown args.now)) }
 {
     long_in(one_word(args)?)
 }
@@ -230,15 +231,15 @@ fn command_of(verb: &[u8], args: &[&[u8]]) -> Result<Command, Trouble>
         no_word(args)?;
         Ok(Command::ExitLooper)
     } else if is(verb, b"free") {
-        Ok(Command::FreeBuffer(pointer(args)?))
+        Ok(Command::FreeBuffer(one_long(args)?))
     } else if is(verb, b"increfs") {
-        Ok(Command::Increfs(handle(args)?))
+        Ok(Command::Increfs(one_number(args)?))
     } else if is(verb, b"acquire") {
-        Ok(Command::Acquire(handle(args)?))
+        Ok(Command::Acquire(one_number(args)?))
     } else if is(verb, b"release") {
-        Ok(Command::Release(handle(args)?))
+        Ok(Command::Release(one_number(args)?))
     } else if is(verb, b"decrefs") {
-        Ok(Command::Decrefs(handle(args)?))
+        Ok(Command::Decrefs(one_number(args)?))
     } else {
         longer_command_of(verb, args)
     }
@@ -262,7 +263,7 @@ fn longer_command_of(verb: &[u8], args: &[&[u8]]) -> Result<Command, Trouble>
         let (handle, cookie) = handle_and_cookie(args)?;
         Ok(Command::ClearDeathNotification(handle, cookie))
     } else if is(verb, b"deaddone") {
-        Ok(Command::DeadBinderDone(pointer(args)?))
+        Ok(Command::DeadBinderDone(one_long(args)?))
     } else {
         Err(Trouble::Bad)
     }
@@ -287,13 +288,15 @@ fn request_of(alloc: Global, verb: &[u8], args: &[&[u8]]) -> Result<Request, Tro
     if is(verb, b"open") {
         open(args)
     } else if is(verb, b"attach") {
-        Ok(Request::Attach { pid: handle(args)? })
+        Ok(Request::Attach {
+            pid: one_number(args)?,
+        })
     } else if is(verb, b"manager") {
         no_word(args)?;
         Ok(Request::SetManager)
     } else if is(verb, b"read") {
         Ok(Request::Read {
-            limit: handle(args)?,
+            limit: one_number(args)?,
         })
     } else if is(verb, b"exitthread") {
         no_word(args)?;
@@ -341,7 +344,7 @@ pub fn verb_of(alloc: Global, verb: &[u8], args: &[&[u8]]) -> Result<Verb, Troub
         no_word(args)?;
         Ok(Verb::Look)
     } else if is(verb, b"await") {
-        Ok(Verb::Await(handle(args)?))
+        Ok(Verb::Await(one_number(args)?))
     } else if is(verb, b"serve") {
         no_word(args)?;
         Ok(Verb::Serve)

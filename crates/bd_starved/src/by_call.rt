@@ -15,21 +15,11 @@ use bd_uapi::Fault;
 use std::alloc::Global;
 use std::io::Write;
 
-// A new driver, whose seats are its own.
-fn made(alloc: Global, seats: u32) -> Result<(Driver, Vec<Seat>), Fault>
-    ensures { IfOk result (λ r. All (λ s. s.table ≡ r.0.table) r.1.items) }
-{
-    match Driver::new(alloc, seats) {
-        Ok((driver, dealt)) => Ok((driver, dealt)),
-        Err(fault) => Err(fault),
-    }
-}
-
 /// A driver of so many seats.
 pub fn driver_for(alloc: Global, seats: u32) -> Result<(Driver, Vec<Seat>), Broken>
     ensures { IfOk result (λ r. All (λ s. s.table ≡ r.0.table) r.1.items) }
 {
-    match again!(made(alloc, seats), Fault::NoMemory) {
+    match again!(Driver::new(alloc, seats), Fault::NoMemory) {
         Ok((driver, dealt)) => Ok((driver, dealt)),
         Err(_) => Err(Broken::Never("a script has other numbers of seats")),
     }
