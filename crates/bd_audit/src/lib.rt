@@ -2,15 +2,11 @@
 #![tactic(auto)]
 
 mod answers;
-#[cfg(test)]
-mod gift_tests;
 mod gifts;
 mod judging;
 mod laws;
 mod playing;
 mod replies;
-#[cfg(test)]
-mod reply_tests;
 mod turns;
 
 pub use gifts::gift_chain;

@@ -9,6 +9,3 @@ mod windows;
 pub use buffer::{needed, pointer_of};
 pub use window::Window;
 pub use windows::Windows;
-
-#[cfg(test)]
-mod tests;

@@ -5,8 +5,6 @@ mod ancestry;
 mod frame;
 mod server;
 mod table;
-#[cfg(test)]
-mod tests;
 mod thread;
 mod todo_list;
 mod turn;

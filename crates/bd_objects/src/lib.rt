@@ -21,6 +21,3 @@ pub use carried::CarriedObjects;
 pub use numbers::NumbersFull;
 pub use room::Room;
 pub use table::ObjectTable;
-
-#[cfg(test)]
-mod tests;

@@ -9,6 +9,3 @@ mod words;
 
 pub use hex::hex_is_read;
 pub use script::{Line, Script, ScriptError, Verb, read_script};
-
-#[cfg(test)]
-mod tests;

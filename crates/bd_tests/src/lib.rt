@@ -1,5 +1,0 @@
-//! Tests that need public calls only. They stand here so that the crates that they test are proved once.
-#![tactic(auto)]
-
-#[cfg(test)]
-mod player;

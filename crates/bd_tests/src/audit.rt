@@ -1,13 +1,96 @@
-//! The certificate of a name by ten gifts, with ample memory: an object goes to and fro between two processes.
+//! Certificates, with ample memory: of a reply, by the worked example 'call and reply' (docs/EXAMPLES.md), and of a name
+//! by ten gifts, where an object goes to and fro between two processes.
 
-use crate::gift_chain;
-use crate::reply_tests::{enter, fields, open, read, take};
+use bd_audit::{call_of_reply, gift_chain};
 use bd_engine::Engine;
 use bd_space::{Bytes, Parcel, Step};
 use bd_uapi::{Command, TransactionData, TransactionFlags};
 use std::alloc::{AllocError, Global};
-use std::process::Abort;
 use std::test::Fail;
+
+fn fields(code: u32) -> TransactionData {
+    TransactionData {
+        target: 0,
+        cookie: 0,
+        code,
+        flags: TransactionFlags::ACCEPT_FDS,
+        sender_pid: 0,
+        sender_euid: 0,
+        data_size: 0,
+        offsets_size: 0,
+        buffer: 0,
+        offsets: 0,
+    }
+}
+
+fn open(pid: u32, euid: u32) -> Step {
+    Step::Open {
+        pid,
+        euid,
+        window: 4096,
+    }
+}
+
+fn carried(alloc: Global, command: Command) -> Step {
+    Step::Command {
+        command,
+        parcel: Some(Parcel {
+            bytes: Bytes::new(Vec::new(alloc)),
+            offsets: Bytes::new(Vec::new(alloc)),
+        }),
+    }
+}
+
+fn read() -> Step {
+    Step::Read { limit: 256 }
+}
+
+fn enter() -> Step {
+    Step::Command {
+        command: Command::EnterLooper,
+        parcel: None,
+    }
+}
+
+// The steps of the example, each with its seat; the parcels are empty.
+fn reply_step(alloc: Global, place: u32) -> (u32, Step) {
+    match place {
+        0 => (0, open(100, 1000)),
+        1 => (0, Step::SetManager),
+        2 => (0, enter()),
+        3 => (1, open(200, 2000)),
+        4 => (1, carried(alloc, Command::Transaction(fields(9)))),
+        5 => (1, read()),
+        6 => (0, read()),
+        7 => (0, carried(alloc, Command::Reply(fields(0)))),
+        8 => (1, read()),
+        _ => (0, read()),
+    }
+}
+
+fn take(engine: &mut Engine, seat: u32, step: Step) -> bool {
+    seat < engine.seats() && engine.step(seat, step).is_ok()
+}
+
+#[test]
+fn tells_the_call_of_a_reply(rt: HostRuntime) {
+    let Ok(mut engine) = Engine::new(rt.alloc(), 2) else {
+        assert!(rt; false, "no memory");
+        return;
+    };
+    for place in 0..10 {
+        let (seat, step) = reply_step(rt.alloc(), place);
+        assert!(rt; take(&mut engine, seat, step), "at {place}");
+    }
+    let record = engine.into_record();
+    assert_eq!(rt; record.seats, 2);
+    for (place, want) in [(8, Some(4)), (5, None), (6, None), (7, None), (10, None)] {
+        match call_of_reply(rt.alloc(), &record, place) {
+            Ok(found) => assert_eq!(rt; found, want, "at {place}"),
+            Err(_) => assert!(rt; false, "no memory"),
+        }
+    }
+}
 
 // An object of the sender's own, with this ptr.
 fn own(ptr: u16) -> [u8; 24] {
@@ -50,7 +133,7 @@ fn command(command: Command) -> Step {
 }
 
 // Seat 1 is the manager's. It gets an object of seat 2's, which it keeps, and then one of seat 0's, which it gives to seat 2.
-fn step_at(alloc: Global, place: u32) -> Result<(u32, Step), AllocError> {
+fn gift_step(alloc: Global, place: u32) -> Result<(u32, Step), AllocError> {
     Ok(match place {
         0 => (0, open(100, 1000)),
         1 => (1, open(200, 2000)),
@@ -88,7 +171,7 @@ fn pass_on(alloc: Global, place: u32) -> Result<(u32, Step), AllocError> {
 fn tells_a_chain_of_ten_gifts(rt: HostRuntime) -> Result<(), Fail> {
     let mut engine = Engine::new(rt.alloc(), 3)?;
     for place in 0..45 {
-        let (seat, step) = step_at(rt.alloc(), place)?;
+        let (seat, step) = gift_step(rt.alloc(), place)?;
         assert!(rt; take(&mut engine, seat, step), "at {place}");
     }
     let record = engine.into_record();

@@ -1,5 +1,7 @@
-use super::*;
+//! Scripts: lines that run, and the first bad line.
+
 use bd_codec::read_command;
+use bd_script::{ScriptError, Verb, read_script};
 use bd_space::Request;
 use bd_uapi::{Command, TransactionData, TransactionFlags};
 use bitflags::Flags;

@@ -1,4 +1,6 @@
-use super::*;
+//! Codes and records, from the header's values.
+
+use bd_codec::{read_command, read_return, write_command, write_return, write_return_reserved};
 use bd_uapi::{Command, Fault, Return, TransactionData, TransactionFlags};
 use bitflags::Flags;
 use std::test::Fail;

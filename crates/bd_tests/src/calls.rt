@@ -1,6 +1,6 @@
 //! What no clause says: that with ample memory nothing fails for want of it.
 
-use crate::CallTable;
+use bd_calls::CallTable;
 use bd_space::{TodoList, WorkKind};
 use std::test::Fail;
 

@@ -1,7 +1,9 @@
+//! Places of buffers in windows, with ample memory.
+
 ghost use Rattle.std.specs.Prelude.{◌≡◌, ◌≤◌, vec_len};
 ghost use Rattle.bd_space.specs.Room.{needed};
 
-use super::*;
+use bd_buffers::{Window, Windows};
 use bd_space::{Buffer, Bytes, ObjectId};
 use bd_uapi::{Cause, Note, TransactionFlags};
 use std::alloc::{AllocError, Global};
