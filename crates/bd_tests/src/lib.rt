@@ -1,0 +1,19 @@
+//! Tests that need public calls only. They stand here so that the crates that they test are proved once.
+#![tactic(auto)]
+
+#[cfg(test)]
+mod audit;
+#[cfg(test)]
+mod buffers;
+#[cfg(test)]
+mod calls;
+#[cfg(test)]
+mod codec;
+#[cfg(test)]
+mod objects;
+#[cfg(test)]
+mod parcel;
+#[cfg(test)]
+mod player;
+#[cfg(test)]
+mod script;

@@ -1,10 +1,6 @@
 //! With ample memory, on the worked example of an object that is sent to the context manager.
 
-<<<<<<< HEAD:crates/bd_objects/src/tests.rt
-use crate::{ObjectTable, Room};
-=======
-use bd_objects::ObjectTable;
->>>>>>> 76e4f963a43ba980613d6e778d5751867b8f5920:crates/bd_tests/src/objects.rt
+use bd_objects::{ObjectTable, Room};
 use bd_space::{Item, ObjectId, Resolved};
 use bd_uapi::{Cause, FlatObject, Note, ObjectKind, Return};
 use std::test::Fail;
