@@ -42,10 +42,6 @@ abbrev pub views_of : List SeatState → List View
 views_of [] = []
 views_of (s ∷ ss) = closed_view s.view ∷ views_of ss
 
--- all belong to this table
-abbrev pub AllOf : TableId → List SeatState → Type 0
-AllOf table states = (i : ℕ) (s : SeatState) → get_elem? states i ≡ some s → s.table ≡ table
-
 -- no seat is missing
 abbrev pub AllSeats : ℕ → List SeatState → Type 0
 AllSeats seats states = (who : ℕ) → who < seats → (i : ℕ) × (s : SeatState) × (get_elem? states i ≡ some s) × (s.view.who ≡ who)

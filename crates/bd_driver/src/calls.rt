@@ -23,14 +23,14 @@ impl Driver {
     /// Runs a request, if the engine is free.
     ///
     /// One take is made (`calls`: `one_take`), and where it finds the engine one publish and one put (`page`). Taken is
-    /// answered exactly where it found bit 0 of the page set. Done: the history that the seat has then seen is `to` long
-    /// and ends with the request's run, all of this seat; the run begins at `from`, not below the length seen before, and
-    /// its places are the seat's own from then on. Back: the request comes back equal, and no own place is new; with
-    /// HistoryFull only at the limit of the history that the seat then has seen, where it has no place left or the
-    /// request's first step would need a handle past the largest; with NoMemory only where that history has a place left
-    /// and the engine answers so, which it does where a growth was refused; with neither where the request has no
-    /// entry. What the seat has then seen begins with what it had seen (`begins`). After the call it holds nothing.
-    /// Taken takes no memory.
+    /// answered exactly where it found bit 0 of the page set. Done: the history that the seat has then seen is `to`
+    /// long and ends with the request's run, all of this seat; the run begins at `from`, not below the length seen
+    /// before, and its places are the seat's own from then on. Back: the request comes back equal, and no own place is
+    /// new; with HistoryFull only at the limit of the history that the seat then has seen, where it has no place left
+    /// or the request's first step would need a handle past the largest; with NoMemory only where that history has a
+    /// place left and the engine answers so, which it does where a growth was refused; with neither where the request
+    /// has no entry. What the seat has then seen begins with what it had seen (`begins`). After the call it holds
+    /// nothing. Taken takes no memory.
     pub fn call(&self, seat: &mut Seat, request: Request) -> Outcome
         requires table { seat.old.table ≡ self.now.table }
         requires free { is_waiting seat.old.view.handover ≡ false }
@@ -90,7 +90,8 @@ impl Driver {
         requires wide { 0 < table_seat.old.table_id.words }
         requires engine { Follows (view_of table_seat.old.me.0) engine }
         ensures same { table_seat.new.table_id ≡ table_seat.old.table_id }
-        ensures gives { Gives (view_of table_seat.old.me.0) (rest table_seat.old.me.1) engine.entries table_seat.new.me }
+        ensures gives { Gives (view_of table_seat.old.me.0) (rest table_seat.old.me.1) engine.entries
+            table_seat.new.me }
     {
         let shared = &self.table.shared;
         let page = taken_page(&engine);

@@ -1,8 +1,8 @@
 //! The end of a driver: its history.
-ghost use Rattle.std.specs.Prelude.{◌≡◌, ◌<◌, [], ◌∷◌, false, ℕ, IsTrue, slice_index_or};
+ghost use Rattle.std.specs.Prelude.{◌≡◌, ◌<◌, [], ◌∷◌, false, ℕ, All, IsTrue, slice_index_or};
 ghost use Rattle.std.specs.Slots.{slots_len, slots_filled};
 ghost use Rattle.bd_driver.specs.Views.{Each, Idle};
-ghost use Rattle.bd_driver.specs.Together.{AllOf, views_of, closed_view};
+ghost use Rattle.bd_driver.specs.Together.{views_of, closed_view};
 
 use crate::driver::{Driver, DriverTable};
 use crate::plays::{Enter, Gather, Shut};
@@ -19,7 +19,7 @@ impl Driver {
     /// entries are exactly its own places. A seat that still waits may have beside these the entries of one run of what
     /// it handed over (`history`). With fewer seats the call is only safe and total. Takes no memory.
     pub fn finish(self, seats: Vec<Seat>) -> Record
-        requires { AllOf self.table seats.items }
+        requires { All (λ s. s.table ≡ self.table) seats.items }
         ensures history { AllSeats self.seats seats.items → IsFinal self.seats seats.items result.seats result.entries }
     {
         let Driver { table, alloc } = self;
@@ -44,7 +44,7 @@ fn gather(table: &DriverTable, keeper: &mut TableSeat, mut seats: Vec<Seat>)
     requires table { keeper.old.table_id ≡ table.now.shared.table_id }
     requires wide { 0 < table.now.shared.table_id.words }
     requires keeper { keeper.old.me ≡ ([], []) }
-    requires seats { AllOf table.now.shared.table_id seats.items }
+    requires seats { All (λ s. s.table ≡ table.now.shared.table_id) seats.items }
     ensures keeper { (keeper.new.table_id ≡ keeper.old.table_id) × (keeper.new.me ≡ (views_of seats.items, [])) }
     ensures idle { Each Idle (views_of seats.items) }
 {
@@ -78,9 +78,11 @@ fn shut(table: &DriverTable, seat: Seat) -> TableSeat
 // Takes each slot but the first.
 fn drain(closed: &mut Closed<Slot, Global>)
     requires some { 0 < slots_len closed.old.slots }
-    requires filled { (k : ℕ) → 0 < k → k < slots_len closed.old.slots → IsTrue (slice_index_or (slots_filled closed.old.slots) k false) }
+    requires filled { (k : ℕ) → 0 < k → k < slots_len closed.old.slots
+        → IsTrue (slice_index_or (slots_filled closed.old.slots) k false) }
     requires first { slice_index_or (slots_filled closed.old.slots) 0 false ≡ false }
-    ensures { (k : ℕ) → k < slots_len closed.new.slots → slice_index_or (slots_filled closed.new.slots) k false ≡ false }
+    ensures { (k : ℕ) → k < slots_len closed.new.slots
+        → slice_index_or (slots_filled closed.new.slots) k false ≡ false }
 {
     let count = closed.slot_count();
     for at in 1..count {

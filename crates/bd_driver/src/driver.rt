@@ -6,7 +6,8 @@ use std::alloc::Global;
 use std::collections::LinkedList;
 use std::marker::Model;
 
-/// The rule of a driver's table: there is one history, and the page, the mailboxes, the engine and all views agree with it.
+/// The rule of a driver's table: there is one history, and the page, the mailboxes, the engine and all views agree with
+/// it.
 pub(crate) struct OneHistory;
 
 impl TableRule<Slot, LinkedList<View>, u32> for OneHistory {
@@ -36,5 +37,7 @@ impl Model for Driver {
 
     ghost view = { λ d. record { table = d.table.shared.table_id; seats = d.table.shared.key } };
 
-    ghost invariant = { λ d. (d.table.shared.table_id.words ≡ suc d.table.shared.key) × (d.table.shared.table_id.slots ≡ suc d.table.shared.key) × (d.table.shared.key < 32) };
+    ghost invariant = { λ d. (d.table.shared.table_id.words ≡ suc d.table.shared.key)
+        × (d.table.shared.table_id.slots ≡ suc d.table.shared.key)
+        × (d.table.shared.key < 32) };
 }

@@ -1,5 +1,5 @@
 //! A new driver, and its seats.
-ghost use Rattle.std.specs.Prelude.{◌≡◌, ◌+◌, ◌<◌, ◌≤◌, [], ◌∷◌, suc, IfOk, IfErr, vec_len, vec_capacity, replicate};
+ghost use Rattle.std.specs.Prelude.{◌≡◌, ◌+◌, ◌<◌, ◌≤◌, [], ◌∷◌, suc, All, IfOk, IfErr, vec_len, vec_capacity, replicate};
 ghost use Rattle.bd_driver.specs.Views.{fresh, seated, newcomers};
 ghost use Rattle.bd_driver.specs.Together.{seat_state, new_seats};
 ghost use Rattle.bd_driver.specs.declared.slot.Slot.TheVariants.{Home, Empty};
@@ -20,12 +20,14 @@ const MOST_SEATS: u32 = 16;
 impl Driver {
     ghost use Rattle.bd_driver.specs.Faults.{FaultFits};
 
-    /// A driver with so many seats, which are numbered from 0, in this order. Each has seen the empty history (`ok`).
-    /// Refused with F16 exactly where `seats` is 0 or above 16, and else with F14 alone (`fault`).
+    /// A driver with so many seats, which are numbered from 0, in this order. Each is of this driver (`own`), and has
+    /// seen the empty history (`seats`). Refused with F16 exactly where `seats` is 0 or above 16, and else with F14
+    /// alone (`fault`).
     pub fn new(alloc: Global, seats: u32) -> Result<(Driver, Vec<Seat>), Fault>
         ensures within { IfOk result (λ _. (1 ≤ seats) × (seats ≤ 16)) }
         ensures count { IfOk result (λ r. r.0.seats ≡ seats) }
         ensures seats { IfOk result (λ r. r.1.items ≡ new_seats r.0.table seats 0 seats) }
+        ensures own { IfOk result (λ r. All (λ s. s.table ≡ r.0.table) r.1.items) }
         ensures fault { IfErr result (λ f. FaultFits f seats) }
     {
         if seats == 0 || seats > MOST_SEATS {

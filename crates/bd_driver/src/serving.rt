@@ -54,7 +54,8 @@ impl Driver {
         requires seats { engine.seats ≡ seats }
         ensures same { table_seat.new.table_id ≡ table_seat.old.table_id }
         ensures serving { Serving table_seat.new.me result.0 × (result.0.seats ≡ engine.seats) }
-        ensures served { ServedAll (view_of table_seat.old.me.0) (rest table_seat.old.me.1) seats table_seat.new.me result.1 }
+        ensures served { ServedAll (view_of table_seat.old.me.0) (rest table_seat.old.me.1) seats
+            table_seat.new.me result.1 }
     {
         let mut picked = 0;
         for number in 0..seats {
@@ -78,7 +79,8 @@ impl Driver {
         requires number { number < engine.seats }
         ensures same { table_seat.new.table_id ≡ table_seat.old.table_id }
         ensures serving { Serving table_seat.new.me result.0 × (result.0.seats ≡ engine.seats) }
-        ensures served { ServedOne (view_of table_seat.old.me.0) (rest table_seat.old.me.1) number table_seat.new.me result.1 }
+        ensures served { ServedOne (view_of table_seat.old.me.0) (rest table_seat.old.me.1) number
+            table_seat.new.me result.1 }
     {
         let Some(request) = self.pick(table_seat, number) else {
             return (engine, false);
@@ -140,12 +142,17 @@ impl Driver {
     ) -> Engine
         requires table { table_seat.old.table_id ≡ self.now.table }
         requires wide { 0 < table_seat.old.table_id.words }
-        requires held { table_seat.old.me ≡ (view_of table_seat.old.me.0 ∷ [], (number + 1, Empty) ∷ rest table_seat.old.me.1) }
+        requires held { table_seat.old.me
+            ≡ (view_of table_seat.old.me.0 ∷ [], (number + 1, Empty) ∷ rest table_seat.old.me.1) }
         requires on { (view_of table_seat.old.me.0).taker ≡ true }
         requires engine { FollowsFor (view_of table_seat.old.me.0) number engine }
         ensures same { table_seat.new.table_id ≡ table_seat.old.table_id }
         ensures engine { result ≡ engine }
-        ensures view { (word : ℕ) × (table_seat.new.me ≡ (served_at (view_of table_seat.old.me.0) word engine.entries ∷ [], (number + 1, Empty) ∷ rest table_seat.old.me.1)) }
+        ensures view { (word : ℕ) × (table_seat.new.me
+            ≡ (
+              served_at (view_of table_seat.old.me.0) word engine.entries ∷ [],
+              (number + 1, Empty) ∷ rest table_seat.old.me.1,
+            )) }
     {
         let shared = &self.table.shared;
         let slot = number as usize + 1;
@@ -162,11 +169,13 @@ impl Driver {
     pub(crate) fn answer(&self, table_seat: &mut TableSeat, number: u32, told: Outcome)
         requires table { table_seat.old.table_id ≡ self.now.table }
         requires wide { number + 1 < table_seat.old.table_id.words }
-        requires held { table_seat.old.me ≡ (view_of table_seat.old.me.0 ∷ [], (number + 1, Empty) ∷ rest table_seat.old.me.1) }
+        requires held { table_seat.old.me
+            ≡ (view_of table_seat.old.me.0 ∷ [], (number + 1, Empty) ∷ rest table_seat.old.me.1) }
         requires on { (view_of table_seat.old.me.0).taker ≡ true }
         requires told { AnswersPick (view_of table_seat.old.me.0) number told }
         ensures same { table_seat.new.table_id ≡ table_seat.old.table_id }
-        ensures view { table_seat.new.me ≡ (answered_at (view_of table_seat.old.me.0) 2 told ∷ [], rest table_seat.old.me.1) }
+        ensures view { table_seat.new.me
+            ≡ (answered_at (view_of table_seat.old.me.0) 2 told ∷ [], rest table_seat.old.me.1) }
     {
         let shared = &self.table.shared;
         let word = number as usize + 1;
@@ -180,7 +189,8 @@ impl Driver {
         requires wide { 0 < table_seat.old.table_id.words }
         requires serving { Serving table_seat.old.me engine }
         ensures same { table_seat.new.table_id ≡ table_seat.old.table_id }
-        ensures view { (word : ℕ) × (table_seat.new.me ≡ (put_at (view_of table_seat.old.me.0) word ∷ [], rest table_seat.old.me.1)) }
+        ensures view { (word : ℕ) × (table_seat.new.me
+            ≡ (put_at (view_of table_seat.old.me.0) word ∷ [], rest table_seat.old.me.1)) }
     {
         let shared = &self.table.shared;
         shared.exchange(table_seat, 0, Slot::Home(engine));

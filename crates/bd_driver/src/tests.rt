@@ -1,6 +1,5 @@
 ghost use Rattle.std.specs.Prelude.{◌≡◌, IfOk, All};
 ghost use Rattle.std.specs.Thread.{IsSync};
-ghost use Rattle.bd_driver.specs.Together.{AllOf};
 
 use crate::{Driver, Outcome, Page, Seat, Served, Why};
 use bd_space::{Answer, Record, Request};
@@ -116,7 +115,7 @@ fn entries_of(record: &Record, seat: u32) -> usize {
 }
 
 fn seated(alloc: Global, seats: u32) -> Result<(Driver, Vec<Seat>), Fail>
-    ensures { IfOk result (λ r. AllOf r.0.table r.1.items) }
+    ensures { IfOk result (λ r. All (λ s. s.table ≡ r.0.table) r.1.items) }
 {
     match Driver::new(alloc, seats) {
         Ok(driver) => Ok(driver),
@@ -125,9 +124,9 @@ fn seated(alloc: Global, seats: u32) -> Result<(Driver, Vec<Seat>), Fail>
 }
 
 fn next(driver: &Driver, seats: &mut Vec<Seat>) -> Result<Seat, Fail>
-    requires { AllOf driver.now.table seats.old.items }
+    requires { All (λ s. s.table ≡ driver.now.table) seats.old.items }
     ensures seat { IfOk result (λ s. s.table ≡ driver.now.table) }
-    ensures others { AllOf driver.now.table seats.new.items }
+    ensures others { All (λ s. s.table ≡ driver.now.table) seats.new.items }
 {
     match seats.pop() {
         Some(seat) => Ok(seat),
@@ -136,9 +135,9 @@ fn next(driver: &Driver, seats: &mut Vec<Seat>) -> Result<Seat, Fail>
 }
 
 fn back(driver: &Driver, mut seats: Vec<Seat>, seat: Seat) -> Result<Vec<Seat>, AllocError>
-    requires seats { AllOf driver.now.table seats.items }
+    requires seats { All (λ s. s.table ≡ driver.now.table) seats.items }
     requires seat { seat.table ≡ driver.now.table }
-    ensures { IfOk result (λ v. AllOf driver.now.table v.items) }
+    ensures { IfOk result (λ v. All (λ s. s.table ≡ driver.now.table) v.items) }
 {
     seats.push(seat)?;
     Ok(seats)

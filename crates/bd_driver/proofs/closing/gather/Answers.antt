@@ -1,14 +1,13 @@
-use Rattle.std.proofs.Common.{rules, ◌++◌, sym, ap, ◌∙◌, subst}
+use Rattle.std.proofs.Common.{rules, ◌≡◌, sym, ap, ◌∙◌, subst, Some}
 use Rattle.bd_driver.specs.Views.{Each, Idle}
+use Rattle.std.proofs.lemmas.List.Elements.{All-pop}
 use Rattle.bd_driver.specs.Steps.{Hands}
 use Rattle.bd_driver.proofs.Ends.{gathers}
-use Rattle.bd_driver.proofs.Seats.{last_of}
+use Rattle.bd_driver.proofs.Seats.{own}
 use Rattle.bd_driver.proofs.closing.gather.Goals as goal
 
 pub shut-table_seat-requires : goal.shut-table_seat-requires
-shut-table_seat-requires c =
-    let i = c.loop-seat.invariant in
-    last_of c.args.table.now.shared.table_id c.args.seats.items c.pop.new.self.items i.0 c.in-Some.seat c.requires.seats (i.3 ∙ ap (λ l. l ++ i.0) c.in-Some.ensures.items)
+shut-table_seat-requires c = (All-pop (own c.args.table.now.shared.table_id) _ _ (Some c.in-Some.seat) c.in-Some.ensures.items c.loop-seat.invariant.5).1
 
 pub join_seat-requires : goal.join_seat-requires
 join_seat-requires c =

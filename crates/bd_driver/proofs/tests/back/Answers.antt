@@ -1,7 +1,7 @@
-use Rattle.std.proofs.Common.{sym, subst}
-use Rattle.bd_driver.specs.Together.{AllOf}
-use Rattle.bd_driver.proofs.Seats.{all_more}
+use Rattle.std.proofs.Common.{◌≡◌}
+use Rattle.std.proofs.lemmas.List.Elements.{All-push, All-same}
+use Rattle.bd_driver.proofs.Seats.{own}
 use Rattle.bd_driver.proofs.tests.back.Goals as goal
 
 pub returns : goal.returns
-returns c = subst (AllOf c.args.driver.now.table) (sym c.in_ok-push.ensures.items) (all_more _ _ _ c.requires.seats c.requires.seat)
+returns c = All-same (own c.args.driver.now.table) _ _ c.in_ok-push.ensures.items (All-push (own c.args.driver.now.table) _ _ c.requires.seats c.requires.seat)

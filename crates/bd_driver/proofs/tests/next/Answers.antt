@@ -1,9 +1,10 @@
-use Rattle.std.proofs.Common.{[], ◌∙◌, sym, append-nil}
-use Rattle.bd_driver.proofs.Seats.{all_front, last_of}
+use Rattle.std.proofs.Common.{◌≡◌, Some}
+use Rattle.std.proofs.lemmas.List.Elements.{All-pop}
+use Rattle.bd_driver.proofs.Seats.{own}
 use Rattle.bd_driver.proofs.tests.next.Goals as goal
 
 pub returns-in-Some-clause-seat : goal.returns-in-Some-clause-seat
-returns-in-Some-clause-seat c = last_of _ _ _ [] _ c.requires (c.in-Some.ensures.items ∙ sym (append-nil _))
+returns-in-Some-clause-seat c = (All-pop (own c.args.driver.now.table) _ _ (Some c.in-Some.seat) c.in-Some.ensures.items c.requires).1
 
 pub returns-in-Some-clause-others : goal.returns-in-Some-clause-others
-returns-in-Some-clause-others c = all_front _ _ _ _ c.requires c.in-Some.ensures.items
+returns-in-Some-clause-others c = (All-pop (own c.args.driver.now.table) _ _ (Some c.in-Some.seat) c.in-Some.ensures.items c.requires).0

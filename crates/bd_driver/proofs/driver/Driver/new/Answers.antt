@@ -7,6 +7,7 @@ use Rattle.bd_driver.specs.Words.{page_word}
 use Rattle.bd_driver.specs.Rule.{Kept}
 use Rattle.bd_driver.specs.declared.slot.Slot.{Slot}
 use Rattle.bd_driver.proofs.Deals.{opens}
+use Rattle.bd_driver.proofs.Seats.{own_all}
 use Rattle.bd_driver.proofs.driver.Driver.new.Goals as goal
 
 pub new-requires : goal.new-requires
@@ -19,3 +20,6 @@ new-requires c =
     let words : c.as_slice.result.now ≡ (c.taken_page-page.result - 1) ∷ replicate c.args.seats 0 = c.as_slice.ensures.value ∙ c.in-Ok-lay_words.ensures in
     subst (λ (z : List ℕ × List Slot). Kept c.args.seats (opening z.0 z.1 (newcomers c.args.seats 0 c.args.seats))) (λ i. (sym words i, sym c.in-Ok-lay_slots.ensures i))
     (opens c.args.seats _ c.for_seats-engine.result stands page bits)
+
+pub returns-clause-own : goal.returns-clause-own
+returns-clause-own c = own_all _ _ _ c.deal.ensures.dealt
