@@ -1,7 +1,11 @@
 //! Playing a script line by line.
 
-ghost use Rattle.std.specs.Prelude.{◌≡◌, ◌≤◌, false, All, IfOk};
+ghost use Rattle.std.specs.Prelude.{◌≡◌, ◌≤◌, false, All, IfOk, IfSome, None};
+ghost use Rattle.bd_space.specs.Histories.{IsHistory};
+ghost use Rattle.bd_driver.specs.Together.{new_seats};
+ghost use Rattle.bd_audit.specs.Replays.{history_of};
 ghost use Rattle.bd_player.specs.Playing.{Plays, RunsOn};
+ghost use Rattle.bd_player.specs.Workers.{fault_status};
 
 use crate::faults::{DONE, Fault, tell};
 use crate::printing::Printer;
@@ -23,8 +27,11 @@ pub struct Played {
 }
 
 impl Played {
-    // Nothing was run, because of this fault.
-    pub fn fault<E: Write>(fault: Fault, err: &mut E) -> Played {
+    /// Nothing was run, because of this fault.
+    pub fn fault<E: Write>(fault: Fault, err: &mut E) -> Played
+        ensures status { result.status ≡ fault_status fault }
+        ensures nothing { result.history ≡ None }
+    {
         Played {
             status: tell(fault, err),
             history: None,
@@ -33,7 +40,9 @@ impl Played {
 }
 
 /// All that a reader has.
-pub fn read_all<R: Read>(alloc: Global, reader: &mut R) -> Result<Vec<u8>, Fault> {
+pub fn read_all<R: Read>(alloc: Global, reader: &mut R) -> Result<Vec<u8>, Fault>
+    ensures { IfOk result (λ v. IfSome (R.remaining reader.old) (λ bytes. v.items ≡ bytes)) }
+{
     let mut bytes = Vec::new(alloc);
     reader.read_to_end(&mut bytes)?;
     Ok(bytes)
@@ -53,7 +62,8 @@ pub fn script_from<R: Read>(alloc: Global, reader: &mut R) -> Result<Script, Fau
 
 /// A driver with its seats, and the script that a reader has.
 pub fn laid<R: Read>(alloc: Global, script: &mut R) -> Result<(Driver, Vec<Seat>, Script), Fault>
-    ensures { IfOk result (λ r. All (λ s. s.table ≡ r.0.table) r.1.items) }
+    ensures table { IfOk result (λ r. All (λ s. s.table ≡ r.0.table) r.1.items) }
+    ensures dealt { IfOk result (λ r. (r.0.seats ≡ r.2.seats) × (r.1.items ≡ new_seats r.0.table r.0.seats 0 r.0.seats)) }
 {
     let script = script_from(alloc, script)?;
     match Driver::new(alloc, script.seats) {
@@ -117,7 +127,10 @@ pub fn play<R: Read, W: Write, E: Write>(
     turns: u32,
     out: &mut W,
     err: &mut E,
-) -> Played {
+) -> Played
+    // What is handed on as the history of the run is one.
+    ensures history { IfSome result.history (λ r. IsHistory (history_of r)) }
+{
     let (driver, mut seats, script) = match laid(alloc, script) {
         Ok(parts) => parts,
         Err(fault) => return Played::fault(fault, err),

@@ -12,8 +12,8 @@ loop-line-preserved g c =
       c.run_line-goes_on.ensures.table,
       shorter (into_iter_len c.loop-line.line-iterator) (into_iter_len c.next.new.self) before rest c.in-Some.line c.loop-line.invariant.1 c.in-Some.ensures.steps.0 c.in-Some.ensures.steps.1,
       λ room. goes_further (g.D.Desk.seats c.args.desk.now) c.args.turns g.S.Sink.takes g.S.Sink.is_full c.args.lines.items before rest c.in-Some.line
-      c.args.seats.now c.loop-line.seats c.run_line-goes_on.new.seats c.args.sink.now c.loop-line.sink c.run_line-goes_on.new.sink c.run_line-goes_on.result
-      (c.loop-line.invariant.2 room) c.in-Some.ensures.steps.0 c.run_line-goes_on.ensures.runs c.if-not-goes_on.false,
+          c.args.seats.now c.loop-line.seats c.run_line-goes_on.new.seats c.args.sink.now c.loop-line.sink c.run_line-goes_on.new.sink c.run_line-goes_on.result
+          (c.loop-line.invariant.2 room) c.in-Some.ensures.steps.0 c.run_line-goes_on.ensures.runs c.if-not-goes_on.false,
     )
 
 pub returns-clause-plays : goal.returns-clause-plays
@@ -21,9 +21,9 @@ returns-clause-plays g c = λ room.
     let before = into_iter_items c.loop-line.line-iterator in
     elim c.match-next.branch [
       | in-None w ↦ rw w.seats-is (rw w.sink-is (ends_all (g.D.Desk.seats c.args.desk.now) c.args.turns g.S.Sink.takes g.S.Sink.is_full c.args.lines.items before
-        c.args.seats.now c.loop-line.seats c.args.sink.now c.loop-line.sink (c.loop-line.invariant.2 room)
-        (nil_from_length before (sym c.loop-line.invariant.1 ∙ w.in-None.ensures.steps.0))))
+          c.args.seats.now c.loop-line.seats c.args.sink.now c.loop-line.sink (c.loop-line.invariant.2 room)
+          (nil_from_length before (sym c.loop-line.invariant.1 ∙ w.in-None.ensures.steps.0))))
       | in-Some+then-not-goes_on w ↦ rw w.seats-is (rw w.sink-is (stops (g.D.Desk.seats c.args.desk.now) c.args.turns g.S.Sink.takes g.S.Sink.is_full c.args.lines.items before
-        (into_iter_items c.next.new.self) w.in-Some.line c.args.seats.now c.loop-line.seats w.run_line-goes_on.new.seats c.args.sink.now c.loop-line.sink w.run_line-goes_on.new.sink w.run_line-goes_on.result
-        (c.loop-line.invariant.2 room) w.in-Some.ensures.steps.0 w.run_line-goes_on.ensures.runs w.if-not-goes_on.true))
+          (into_iter_items c.next.new.self) w.in-Some.line c.args.seats.now c.loop-line.seats w.run_line-goes_on.new.seats c.args.sink.now c.loop-line.sink w.run_line-goes_on.new.sink w.run_line-goes_on.result
+          (c.loop-line.invariant.2 room) w.in-Some.ensures.steps.0 w.run_line-goes_on.ensures.runs w.if-not-goes_on.true))
     ]
