@@ -1,12 +1,21 @@
--- What a flush keeps.
-use Rattle.std.proofs.Common.{List, [], ℕ, Option, Bool, true, false, sym}
+-- What a flush keeps, and what a status tells of a journal.
+use Rattle.std.proofs.Common.{◌≡◌, ◌≤◌, List, [], ℕ, Option, Some, None, IfSome, Bool, true, false, sym, subst, arith}
 use Rattle.std.proofs.lemmas.List.{append-nil}
 use Rattle.std.proofs.KnownBytes.{Appends-kept}
 use Rattle.std.specs.Io.KnownBytes.{Appends, Keeps}
 use Rattle.bd_space.specs.declared.record.Record.{Record}
 use Rattle.bd_journal.specs.Spelling.{IsJournal, journal_bytes}
 use Rattle.bd_player.specs.Journals.{Wrote}
+use Rattle.bd_player.specs.Verdicts.{IsLawfulAt0, IsVerdict, Spells}
+use Rattle.bd_player.specs.declared.verdicts.Verdict.TheVariants.{Lawful}
 
 pub flushed : (o p q : Option (List ℕ)) (r : Record) (b : Bool) → IsJournal r → Appends o p (journal_bytes r) → Keeps p q → Wrote o q r b
 flushed o p q r true j s t = (j, Appends-kept o p q (journal_bytes r) s t)
 flushed o p q r false j s t = (journal_bytes r, [], sym (append-nil (journal_bytes r)), Appends-kept o p q (journal_bytes r) s t)
+
+pub judged : (known : Option (List ℕ)) (bytes : List ℕ) (entries status : ℕ) → IfSome known (λ xs. bytes ≡ xs) → IsVerdict bytes (Lawful entries) → IsLawfulAt0 known status
+judged None bytes entries status same h = λ e. tt
+judged (Some xs) bytes entries status same h = λ e. (h.0, subst (λ (ys : List ℕ). Spells ys h.0) same h.1, h.2.0)
+
+pub not_judged : (known : Option (List ℕ)) (status : ℕ) → 1 ≤ status → IsLawfulAt0 known status
+not_judged known status fails = λ e. absurd (omega (arith, fails, e))

@@ -1,3 +1,4 @@
+pub mod Ends
 pub mod Kept
+pub mod Lines
 pub mod Says
-pub mod Seats

@@ -1,3 +1,5 @@
 pub mod Journals
+pub mod Playing
+pub mod Printing
 pub mod Verdicts
 pub mod Workers

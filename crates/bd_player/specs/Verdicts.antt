@@ -1,5 +1,5 @@
 -- What is said of a journal, and when that is so.
-use Rattle.std.specs.Prelude.{◌≡◌, ℕ, List, length}
+use Rattle.std.specs.Prelude.{◌≡◌, ℕ, List, length, Option, IfSome}
 use Rattle.bd_space.specs.declared.record.Record.{Record}
 use Rattle.bd_space.specs.Histories.{IsHistory, history_in}
 use Rattle.bd_journal.specs.Spelling.{IsJournal, journal_bytes}
@@ -18,3 +18,7 @@ Holds r (Unlawful at) = (IsHistory (history_in r) → ⊥) × StopsAt (history_i
 -- the verdict holds of the record that the bytes spell
 abbrev pub IsVerdict : List ℕ → Verdict → Type 0
 IsVerdict bytes v = (r : Record) × Spells bytes r × Holds r v
+
+-- with the status 0 the bytes, where they are known, spell a history
+abbrev pub IsLawfulAt0 : Option (List ℕ) → ℕ → Type 0
+IsLawfulAt0 known status = status ≡ 0 → IfSome known (λ bytes. (r : Record) × Spells bytes r × IsHistory (history_of r))

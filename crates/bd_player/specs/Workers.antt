@@ -1,5 +1,5 @@
 -- What a seat's lines do, what they say, and which status that asks for.
-use Rattle.std.specs.Prelude.{◌≡◌, ℕ, ◌+◌, ◌≤◌, Bool, false, not}
+use Rattle.std.specs.Prelude.{◌≡◌, ◌≢◌, ◌⊎◌, ℕ, ◌+◌, ◌<◌, ◌≤◌, length, Bool, false, not}
 use Rattle.bd_space.specs.declared.step.Request.{Request}
 use Rattle.bd_driver.specs.declared.view.View.{View}
 use Rattle.bd_driver.specs.declared.page.Page.{Page}
@@ -7,6 +7,7 @@ use Rattle.bd_driver.specs.declared.outcome.Outcome.{Outcome}
 use Rattle.bd_driver.specs.declared.outcome.Outcome.TheVariants as outcome
 use Rattle.bd_driver.specs.declared.outcome.Why.TheVariants as why
 use Rattle.bd_driver.specs.declared.outcome.Served.{Served}
+use Rattle.bd_driver.specs.Views.{StartsWith}
 use Rattle.bd_driver.specs.Driver.{LooksOnce, Calls}
 use Rattle.bd_driver.specs.Handing.{Posts, Withdraws, Collects}
 use Rattle.bd_driver.specs.Served.{Serves}
@@ -33,26 +34,45 @@ idles verb.Serve waiting = false
 idles verb.Collect waiting = not waiting
 idles verb.Withdraw waiting = not waiting
 
--- what the last try of a call answered is said, or each turn was a try
+-- so many calls that found the driver taken: nothing was run, and nothing else was done
+pub record Tries (n : ℕ) (v w : View) : Type 0 where
+  pub who : (w.seats ≡ v.seats) × (w.who ≡ v.who)
+  pub takes : w.takes.count ≡ v.takes.count + n
+  pub no_look : w.looks ≡ v.looks
+  pub no_mail : (w.posts ≡ v.posts) × (w.withdraws ≡ v.withdraws) × (w.collects ≡ v.collects) × (w.picks ≡ v.picks) × (w.answers ≡ v.answers) × (w.answered ≡ v.answered)
+  pub no_opening : (w.opens ≡ v.opens) × (w.shuts ≡ v.shuts)
+  pub no_engine : (w.publishes ≡ v.publishes) × (w.puts ≡ v.puts)
+  pub handover : w.handover ≡ v.handover
+  pub begins : StartsWith w.seen v.seen
+  pub own : w.own ≡ v.own
+
+-- so many looks that found an earlier stamp: nothing else was done
+pub record Waits (n : ℕ) (stamp : ℕ) (v w : View) : Type 0 where
+  pub only : w ≡ record v { seen = w.seen; looks = w.looks }
+  pub count : w.looks.count ≡ v.looks.count + n
+  pub begins : StartsWith w.seen v.seen
+  pub early : (n ≡ 0) ⊎ (length w.seen < stamp)
+
+-- what the first call answered that didn't find the driver taken is said, or so many did as there are turns
 abbrev pub SaysCall : View → View → Request → ℕ → Said → Type 0
-SaysCall v w r turns (said.Done answer start end) = (u : View) × Calls u w r (outcome.Done answer start end)
-SaysCall v w r turns (said.Back reason) = (u : View) × (back : Request) × Calls u w r (outcome.Back back reason)
+SaysCall v w r turns (said.Done answer start end) = (n : ℕ) × (u : View) × (n < turns) × Tries n v u × Calls u w r (outcome.Done answer start end)
+SaysCall v w r turns (said.Back reason) = (n : ℕ) × (u : View) × (n < turns) × Tries n v u × (reason ≢ why.Taken) × ((back : Request) × Calls u w r (outcome.Back back reason))
 SaysCall v w r turns said.Handed = ⊥
 SaysCall v w r turns (said.Served served) = ⊥
 SaysCall v w r turns (said.Page page) = ⊥
 SaysCall v w r turns said.Passed = ⊥
-SaysCall v w r turns said.Turns = w.takes.count ≡ v.takes.count + turns
+SaysCall v w r turns said.Turns = Tries turns v w
 SaysCall v w r turns said.Idle = ⊥
 
--- the last look found the stamp, or each turn was a look
+-- the first look that found the stamp is the last, or so many found an earlier one as there are turns
 abbrev pub SaysAwait : View → View → ℕ → ℕ → Said → Type 0
 SaysAwait v w stamp turns (said.Done answer start end) = ⊥
 SaysAwait v w stamp turns (said.Back reason) = ⊥
 SaysAwait v w stamp turns said.Handed = ⊥
 SaysAwait v w stamp turns (said.Served served) = ⊥
 SaysAwait v w stamp turns (said.Page page) = ⊥
-SaysAwait v w stamp turns said.Passed = (u : View) × (page : Page) × LooksOnce u w page × (stamp ≤ page.stamp)
-SaysAwait v w stamp turns said.Turns = w.looks.count ≡ v.looks.count + turns
+SaysAwait v w stamp turns said.Passed = (n : ℕ) × (u : View) × (page : Page) × (n < turns) × Waits n stamp v u × LooksOnce u w page × (stamp ≤ page.stamp)
+SaysAwait v w stamp turns said.Turns = Waits turns stamp v w
 SaysAwait v w stamp turns said.Idle = ⊥
 
 -- what a line that does something does and says

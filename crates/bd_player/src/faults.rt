@@ -1,6 +1,6 @@
 //! What the program ends with.
 
-ghost use Rattle.std.specs.Prelude.{◌≡◌, MatchResult, max};
+ghost use Rattle.std.specs.Prelude.{◌≡◌, ◌≤◌, MatchResult, max};
 ghost use Rattle.bd_player.specs.Workers.{fault_status};
 
 use std::io;
@@ -48,7 +48,8 @@ impl From<io::Error> for Fault {
 impl Fault {
     /// The status that the program ends with.
     pub fn status(self) -> u8
-        ensures { result ≡ fault_status self }
+        ensures status { result ≡ fault_status self }
+        ensures fails { 1 ≤ result }
     {
         match self {
             Fault::Memory => MEMORY,
@@ -67,7 +68,8 @@ impl Fault {
 
 /// Tells a fault, and answers its status.
 pub fn tell<E: Write>(fault: Fault, err: &mut E) -> u8
-    ensures { result ≡ fault_status fault }
+    ensures status { result ≡ fault_status fault }
+    ensures fails { 1 ≤ result }
 {
     let _ = writeln!(err, "{fault}");
     fault.status()

@@ -1,6 +1,8 @@
 //! Writing and judging journals.
 
+ghost use Rattle.std.specs.Prelude.{◌≤◌};
 ghost use Rattle.bd_player.specs.Journals.{Wrote};
+ghost use Rattle.bd_player.specs.Verdicts.{IsLawfulAt0};
 
 use crate::faults::{DONE, FAULT, after_writing, tell};
 use crate::playing::read_all;
@@ -22,17 +24,23 @@ pub fn write_journal<W: Write>(history: &Record, out: &mut W) -> bool
 }
 
 // Prints a verdict.
-fn print<W: Write>(verdict: &str, number: usize, out: &mut W, status: u8) -> u8 {
+fn print<W: Write>(verdict: &str, number: usize, out: &mut W, status: u8) -> u8
+    ensures { status ≤ result }
+{
     after_writing(writeln!(out, "{verdict} {number}"), status)
 }
 
 /// Judges a journal: whether its entries are a history, or else the first that doesn't follow from those before.
+#[tactic(auto, using(crate::proofs::Kept::judged, crate::proofs::Kept::not_judged))]
 pub fn check_journal<R: Read, W: Write, E: Write>(
     alloc: Global,
     journal: &mut R,
     out: &mut W,
     err: &mut E,
-) -> u8 {
+) -> u8
+    // The status is 0 only where the journal is that of a history.
+    ensures { IsLawfulAt0 (R.remaining journal.old) result }
+{
     let bytes = match read_all(alloc, journal) {
         Ok(bytes) => bytes,
         Err(fault) => return tell(fault, err),

@@ -1,10 +1,15 @@
 //! Playing a script line by line.
 
-ghost use Rattle.std.specs.Prelude.{◌≡◌, ◌≤◌, All, IfOk, max};
-ghost use Rattle.bd_player.specs.Workers.{said_status};
+ghost use Rattle.std.specs.Prelude.{◌≡◌, ◌≤◌, false, All, IfOk, IfSome, None};
+ghost use Rattle.bd_space.specs.Histories.{IsHistory};
+ghost use Rattle.bd_driver.specs.Together.{new_seats};
+ghost use Rattle.bd_audit.specs.Replays.{history_of};
+ghost use Rattle.bd_player.specs.Playing.{Plays, RunsOn};
+ghost use Rattle.bd_player.specs.Workers.{fault_status};
 
-use crate::faults::{DONE, Fault, after_writing, tell};
-use crate::said::Said;
+use crate::faults::{DONE, Fault, tell};
+use crate::printing::Printer;
+use crate::sink::Sink;
 use crate::worker::act;
 use bd_driver::{Desk, Driver, Seat};
 use bd_script::{Line, Script, ScriptError, read_script};
@@ -22,8 +27,11 @@ pub struct Played {
 }
 
 impl Played {
-    // Nothing was run, because of this fault.
-    pub fn fault<E: Write>(fault: Fault, err: &mut E) -> Played {
+    /// Nothing was run, because of this fault.
+    pub fn fault<E: Write>(fault: Fault, err: &mut E) -> Played
+        ensures status { result.status ≡ fault_status fault }
+        ensures nothing { result.history ≡ None }
+    {
         Played {
             status: tell(fault, err),
             history: None,
@@ -32,7 +40,9 @@ impl Played {
 }
 
 /// All that a reader has.
-pub fn read_all<R: Read>(alloc: Global, reader: &mut R) -> Result<Vec<u8>, Fault> {
+pub fn read_all<R: Read>(alloc: Global, reader: &mut R) -> Result<Vec<u8>, Fault>
+    ensures { IfOk result (λ v. IfSome (R.remaining reader.old) (λ bytes. v.items ≡ bytes)) }
+{
     let mut bytes = Vec::new(alloc);
     reader.read_to_end(&mut bytes)?;
     Ok(bytes)
@@ -52,7 +62,8 @@ pub fn script_from<R: Read>(alloc: Global, reader: &mut R) -> Result<Script, Fau
 
 /// A driver with its seats, and the script that a reader has.
 pub fn laid<R: Read>(alloc: Global, script: &mut R) -> Result<(Driver, Vec<Seat>, Script), Fault>
-    ensures { IfOk result (λ r. All (λ s. s.table ≡ r.0.table) r.1.items) }
+    ensures table { IfOk result (λ r. All (λ s. s.table ≡ r.0.table) r.1.items) }
+    ensures dealt { IfOk result (λ r. (r.0.seats ≡ r.2.seats) × (r.1.items ≡ new_seats r.0.table r.0.seats 0 r.0.seats)) }
 {
     let script = script_from(alloc, script)?;
     match Driver::new(alloc, script.seats) {
@@ -63,40 +74,50 @@ pub fn laid<R: Read>(alloc: Global, script: &mut R) -> Result<(Driver, Vec<Seat>
     }
 }
 
-/// Prints what a line said, and answers the status so far. It never falls.
-pub fn print<W: Write>(number: u64, said: &Said, out: &mut W, status: u8) -> u8
-    ensures kept { status ≤ result }
-    ensures asked { said_status said.now ≤ result }
-    ensures most { result ≤ max 1 (max status (said_status said.now)) }
+// Runs a line, if its seat is there. Whether a further one may be run.
+#[tactic(auto, using(crate::proofs::Lines::passed))]
+fn run_line<D: Desk, S: Sink>(
+    desk: &D,
+    seats: &mut [Seat],
+    line: Line,
+    turns: u32,
+    sink: &mut S,
+) -> bool
+    requires { All (λ s. s.table ≡ D.table desk.now) seats.old }
+    ensures table { All (λ s. s.table ≡ D.table desk.now) seats.new }
+    ensures runs { RunsOn (D.seats desk.now) turns S.takes S.is_full line seats.old sink.old seats.new sink.new result }
 {
-    let status = status.max(said.status());
-    after_writing(writeln!(out, "{number}: {said}"), status)
+    let place = line.seat as usize;
+    if place >= seats.len() {
+        return true;
+    }
+    let said = act(desk, &mut seats[place], line.verb, turns);
+    let done = said.status() == DONE;
+    let has_room = sink.take(line.number, said);
+    done && has_room
 }
 
-/// Runs the lines in their order, up to one after which no more is to run.
-pub fn play_lines<D: Desk, W: Write>(
+/// Runs the lines in their order, up to one after which no more is to run: it asks for a status other than 0, or the
+/// sink has no room for what a further one would say.
+pub fn play_lines<D: Desk, S: Sink>(
     desk: &D,
     seats: &mut [Seat],
     lines: Vec<Line>,
     turns: u32,
-    out: &mut W,
-) -> u8
+    sink: &mut S,
+)
     requires { All (λ s. s.table ≡ D.table desk.now) seats.old }
-    ensures { All (λ s. s.table ≡ D.table desk.now) seats.new }
+    ensures table { All (λ s. s.table ≡ D.table desk.now) seats.new }
+    // What each line that runs says is what its seat did, and the sink takes it.
+    ensures plays { S.is_full sink.old ≡ false
+        → Plays (D.seats desk.now) turns S.takes S.is_full lines.items seats.old sink.old seats.new sink.new }
 {
-    let mut status = DONE;
     for line in lines {
-        let place = line.seat as usize;
-        if place < seats.len() {
-            let seat = &mut seats[place];
-            let said = act(desk, seat, line.verb, turns);
-            status = print(line.number, &said, out, status);
-            if said.status() != DONE {
-                break;
-            }
+        let goes_on = run_line(desk, seats, line, turns, sink);
+        if !goes_on {
+            break;
         }
     }
-    status
 }
 
 /// Plays a script, its lines in their order. No line of a script with a bad one is run.
@@ -106,14 +127,18 @@ pub fn play<R: Read, W: Write, E: Write>(
     turns: u32,
     out: &mut W,
     err: &mut E,
-) -> Played {
+) -> Played
+    // What is handed on as the history of the run is one.
+    ensures history { IfSome result.history (λ r. IsHistory (history_of r)) }
+{
     let (driver, mut seats, script) = match laid(alloc, script) {
         Ok(parts) => parts,
         Err(fault) => return Played::fault(fault, err),
     };
-    let status = play_lines(&driver, &mut seats, script.lines, turns, out);
+    let mut printer = Printer::new(out);
+    play_lines(&driver, &mut seats, script.lines, turns, &mut printer);
     Played {
-        status,
+        status: printer.into_status(),
         history: Some(driver.finish(seats)),
     }
 }

@@ -1,12 +1,13 @@
 //! Playing a script with a thread for each seat.
 
-ghost use Rattle.std.specs.Prelude.{◌≡◌, ◌≤◌, true, All, IfOk, IfSome};
+ghost use Rattle.std.specs.Prelude.{◌≡◌, ◌≤◌, ◌⊎◌, ◌++◌, [], ◌∷◌, true, All, IfOk, IfSome};
 ghost use Rattle.atomic_table.specs.Seated.{TableId};
 
 use crate::faults::{DONE, Fault, tell};
-use crate::playing::{Played, laid, print};
+use crate::playing::{Played, laid, play_lines};
+use crate::printing::print;
 use crate::said::Said;
-use crate::worker::act;
+use crate::sink::Sink;
 use bd_driver::{Desk, Seat};
 use bd_script::{Line, Script};
 use std::alloc::{AllocError, Global};
@@ -34,35 +35,48 @@ pub struct Told {
     pub starved: bool,
 }
 
+// What the lines of a seat's thread said.
+#[derive(Drop)]
+struct Kept {
+    said: Vec<(u64, Said)>,
+    starved: bool,
+}
+
+impl Sink for Kept {
+    ghost takes = { λ s number said t. (t.starved ≡ true) ⊎ ((t.starved ≡ s.starved) × (t.said.items ≡ s.said.items ++ (number, said) ∷ [])) };
+
+    ghost is_full = { λ s. s.starved };
+
+    fn take(&mut self, number: u64, said: Said) -> bool {
+        if self.said.push((number, said)).is_err() {
+            self.starved = true;
+        }
+        !self.starved
+    }
+}
+
 // Runs a seat's lines, up to one after which no more is to run.
 fn work<D: Desk>(alloc: Global, desk: &D, part: Part, turns: u32) -> Told
     requires { part.seat.table ≡ D.table desk.now }
     ensures { result.seat.table ≡ D.table desk.now }
 {
-    let Part { mut seat, lines } = part;
-    let mut said = Vec::new(alloc);
-    for line in lines {
-        let what = act(desk, &mut seat, line.verb, turns);
-        let goes_on = what.status() == DONE;
-        if said.push((line.number, what)).is_err() {
-            return Told {
-                seat,
-                said,
-                starved: true,
-            };
-        }
-        if !goes_on {
-            break;
-        }
-    }
+    let Part { seat, lines } = part;
+    let mut kept = Kept {
+        said: Vec::new(alloc),
+        starved: false,
+    };
+    let mut seats = [seat];
+    play_lines(desk, &mut seats, lines, turns, &mut kept);
+    let [seat] = seats;
+    let Kept { said, starved } = kept;
     Told {
         seat,
         said,
-        starved: false,
+        starved,
     }
 }
 
-// The lines of each seat, in their order.
+// The lines of each seat, in their order, as lines of the first of one seat.
 fn piles_of(alloc: Global, script: Script) -> Result<Vec<Vec<Line>>, AllocError> {
     let mut piles = Vec::new(alloc);
     for _ in 0..script.seats {
@@ -71,7 +85,7 @@ fn piles_of(alloc: Global, script: Script) -> Result<Vec<Vec<Line>>, AllocError>
     for line in script.lines {
         let place = line.seat as usize;
         if place < piles.len() {
-            piles[place].push(line)?;
+            piles[place].push(Line { seat: 0, ..line })?;
         }
     }
     Ok(piles)

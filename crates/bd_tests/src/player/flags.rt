@@ -4,7 +4,7 @@
 ghost use Rattle.std.specs.Prelude.{◌≡◌, All, IfOk};
 
 use bd_driver::{Desk, Driver, Outcome, Page, Seat, Served};
-use bd_player::{DONE, laid, play_at, play_lines};
+use bd_player::{DONE, Printer, laid, play_at, play_lines};
 use bd_script::Script;
 use bd_space::Request;
 use std::alloc::Global;
@@ -135,7 +135,9 @@ fn threads_meet(rt: HostRuntime) -> Result<(), Fail> {
 fn one_thread_uses_its_reads_up(rt: HostRuntime) -> Result<(), Fail> {
     let (desk, mut seats, script) = two_flags(rt.alloc(), FEW)?;
     let mut out = Vec::new(rt.alloc());
-    let status = play_lines(&desk, &mut seats, script.lines, 1, &mut out);
+    let mut printer = Printer::new(&mut out);
+    play_lines(&desk, &mut seats, script.lines, 1, &mut printer);
+    let status = printer.into_status();
     assert_eq!(rt;
         str::from_utf8(out.as_slice())?,
         "2: opened 0 1\n3: opened 1 2\n"
