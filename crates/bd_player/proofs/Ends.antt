@@ -9,7 +9,7 @@ use Rattle.std.proofs.lemmas.List.{drop_all, take_all, append-nil}
 use Rattle.atomic_table.specs.Seated.{TableId}
 use Rattle.bd_space.specs.declared.step.Request.{Request}
 use Rattle.bd_space.specs.declared.record.Record.{Record}
-use Rattle.bd_space.specs.Histories.{History, IsHistory}
+use Rattle.bd_space.specs.Histories.{History, IsHistory, history_in}
 use Rattle.bd_driver.specs.States.{SeatState}
 use Rattle.bd_driver.specs.Together.{AllSeats, IsFinal, new_seats}
 use Rattle.bd_driver.specs.Handing.{Collects, Withdraws}
@@ -17,7 +17,6 @@ use Rattle.bd_driver.specs.declared.view.View.{View}
 use Rattle.bd_driver.specs.declared.outcome.Outcome.{Outcome}
 use Rattle.bd_driver.specs.declared.outcome.Outcome.TheVariants as outcome
 use Rattle.bd_driver.specs.declared.outcome.Why.TheVariants as why
-use Rattle.bd_audit.specs.Replays.{history_of}
 use Rattle.bd_script.specs.declared.script.Line.{Line}
 use Rattle.bd_script.specs.declared.script.Verb.{Verb}
 use Rattle.bd_script.specs.declared.script.Verb.TheVariants as verb
@@ -123,7 +122,7 @@ all_kept t n old new dealt same = λ who below.
 pub whole : {S : Type 0} (seats turns : ℕ) (takes : S → ℕ → Said → S → Type 0) (full : S → Bool) (lines : List Line) (old new : List SeatState) (s u : S) (t : TableId) (len : ℕ) (r : Record)
     → Plays seats turns takes full lines old s new u → old ≡ new_seats t seats 0 seats → length new ≡ length old → len ≡ length old
     → (AllSeats seats (take len (new ++ drop (length new) old)) → IsFinal seats (take len (new ++ drop (length new) old)) r.seats r.entries)
-    → IsHistory (history_of r)
+    → IsHistory (history_in r)
 whole seats turns takes full lines old new s u t len r plays dealt same count final =
     let nothing : drop (length new) old ≡ [] = drop_all (length new) old (omega (arith, same)) in
     let joined : new ++ drop (length new) old ≡ new = ap (λ (ys : List SeatState). new ++ ys) nothing ∙ append-nil new in

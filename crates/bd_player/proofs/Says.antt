@@ -8,12 +8,12 @@ use Rattle.bd_driver.specs.declared.outcome.Outcome.{Outcome}
 use Rattle.bd_driver.specs.declared.outcome.Outcome.TheVariants as outcome
 use Rattle.bd_driver.specs.declared.outcome.Why.{Why}
 use Rattle.bd_driver.specs.declared.outcome.Why.TheVariants as why
-use Rattle.bd_driver.specs.Views.{StartsWith}
+use Rattle.bd_space.specs.Histories.{BeginsWith}
 use Rattle.bd_driver.specs.Driver.{LooksOnce, Calls}
 use Rattle.bd_player.specs.Workers.{SaysCall, Tries, Waits, said_of}
 
 -- what began with what was seen begins with what was seen before
-further : (p q r : List Entry) → StartsWith q p → StartsWith r q → StartsWith r p
+further : (p q r : List Entry) → BeginsWith q p → BeginsWith r q → BeginsWith r p
 further p q r h i = (h.0 ++ i.0, i.1 ∙ (ap (λ (x : List Entry). x ++ i.0) h.1 ∙ append_assoc p h.0 i.0))
 
 pub none_tried : (v : View) → Tries 0 v v

@@ -7,7 +7,7 @@ use Rattle.bd_driver.specs.declared.outcome.Outcome.{Outcome}
 use Rattle.bd_driver.specs.declared.outcome.Outcome.TheVariants as outcome
 use Rattle.bd_driver.specs.declared.outcome.Why.TheVariants as why
 use Rattle.bd_driver.specs.declared.outcome.Served.{Served}
-use Rattle.bd_driver.specs.Views.{StartsWith}
+use Rattle.bd_space.specs.Histories.{BeginsWith}
 use Rattle.bd_driver.specs.Driver.{LooksOnce, Calls}
 use Rattle.bd_driver.specs.Handing.{Posts, Withdraws, Collects}
 use Rattle.bd_driver.specs.Served.{Serves}
@@ -43,14 +43,14 @@ pub record Tries (n : ℕ) (v w : View) : Type 0 where
   pub no_opening : (w.opens ≡ v.opens) × (w.shuts ≡ v.shuts)
   pub no_engine : (w.publishes ≡ v.publishes) × (w.puts ≡ v.puts)
   pub handover : w.handover ≡ v.handover
-  pub begins : StartsWith w.seen v.seen
+  pub begins : BeginsWith w.seen v.seen
   pub own : w.own ≡ v.own
 
 -- so many looks that found an earlier stamp: nothing else was done
 pub record Waits (n : ℕ) (stamp : ℕ) (v w : View) : Type 0 where
   pub only : w ≡ record v { seen = w.seen; looks = w.looks }
   pub count : w.looks.count ≡ v.looks.count + n
-  pub begins : StartsWith w.seen v.seen
+  pub begins : BeginsWith w.seen v.seen
   pub early : (n ≡ 0) ⊎ (length w.seen < stamp)
 
 -- what the first call answered that didn't find the driver taken is said, or so many did as there are turns

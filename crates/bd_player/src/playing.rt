@@ -1,9 +1,8 @@
 //! Playing a script line by line.
 
 ghost use Rattle.std.specs.Prelude.{◌≡◌, ◌≤◌, false, All, IfOk, IfSome, None};
-ghost use Rattle.bd_space.specs.Histories.{IsHistory};
+ghost use Rattle.bd_space.specs.Histories.{IsHistory, history_in};
 ghost use Rattle.bd_driver.specs.Together.{new_seats};
-ghost use Rattle.bd_audit.specs.Replays.{history_of};
 ghost use Rattle.bd_player.specs.Playing.{Plays, RunsOn};
 ghost use Rattle.bd_player.specs.Workers.{fault_status};
 
@@ -129,7 +128,7 @@ pub fn play<R: Read, W: Write, E: Write>(
     err: &mut E,
 ) -> Played
     // What is handed on as the history of the run is one.
-    ensures history { IfSome result.history (λ r. IsHistory (history_of r)) }
+    ensures history { IfSome result.history (λ r. IsHistory (history_in r)) }
 {
     let (driver, mut seats, script) = match laid(alloc, script) {
         Ok(parts) => parts,
