@@ -23,7 +23,7 @@ use Rattle.bd_space.specs.declared.space.WorkKind.TheVariants as work
 use Rattle.bd_space.specs.Words.{same, changed}
 use Rattle.bd_space.specs.Space.{Space}
 use Rattle.bd_space.specs.Seats.{actor}
-use Rattle.bd_space.specs.Todo.{owe, with_work, is_call, handed_over, is_on, list_to_read, is_item}
+use Rattle.bd_space.specs.Todo.{owe, with_work, is_call, hands_out, is_on, list_to_read, is_item}
 use Rattle.bd_space.specs.Frames.{closed, goes_to}
 use Rattle.bd_space.specs.Turns.{turn_of, turns_of, is_ripe, ripened, ripen}
 use Rattle.bd_space.specs.Notices.{follow}
@@ -60,7 +60,7 @@ use Rattle.bd_audit.proofs.Answering.{transaction-accepted}
 
 -- the item hands the buffer made at m over
 abbrev pub Hands : ℕ → List Work → Work → Type 0
-Hands m todo w = In w todo × (handed_over w.kind ≡ Some m)
+Hands m todo w = In w todo × (hands_out w.kind ≡ Some m)
 
 -- the buffer made at m waits to be read, on its receiver's list
 pub record Unread (m : ℕ) (buffers : List Buffer) (w : Work) : Type 0 where
@@ -260,8 +260,8 @@ module _ (s : Space) (e : Entry) (m : ℕ) where
               list = OfProcess t.receiver;
               kind = work.Call t.made;
             } in r) ≡ w
-            → handed_over w.kind ≡ Some m → t.made ≡ m
-        new w is f = let k : Some t.made ≡ Some m = ap (λ (x : Work). handed_over x.kind) is ∙ f in cc
+            → hands_out w.kind ≡ Some m → t.made ≡ m
+        new w is f = let k : Some t.made ≡ Some m = ap (λ (x : Work). hands_out x.kind) is ∙ f in cc
 
         none : (v : Work) → Hands m todo v → t.made ≡ m → ⊥
         none v i is =
@@ -308,7 +308,7 @@ module _ (s : Space) (e : Entry) (m : ℕ) where
   }
 
   -- an item that hands over what the step makes, but that is no one-way call
-  hands-other : (z y : Space) (list : TodoList) (kind : WorkKind) → handed_over kind ≡ Some s.steps → (IsOneWay e.step → ⊥) → z.buffers ≡ y.buffers
+  hands-other : (z y : Space) (list : TodoList) (kind : WorkKind) → hands_out kind ≡ Some s.steps → (IsOneWay e.step → ⊥) → z.buffers ≡ y.buffers
       → z.todo ≡ with_work y.steps y.todo list kind → Treats s e m y → Treats s e m z
   hands-other z y list kind hands none buffers more h = record {
     once = λ fits. elim fits [
@@ -322,10 +322,10 @@ module _ (s : Space) (e : Entry) (m : ℕ) where
       was : m < s.steps → (w : Work) → Hands m z.todo w → In w y.todo
       was lt w i = elim (in-push w _ y.todo (subst (In w) more i.0)) [
         | inl k ↦ k
-        | inr is ↦ (let k : Some s.steps ≡ Some m = sym hands ∙ ap (λ (x : Work). handed_over x.kind) is ∙ i.1 in let at : s.steps ≡ m = cc in absurd (omega arith))
+        | inr is ↦ (let k : Some s.steps ≡ Some m = sym hands ∙ ap (λ (x : Work). hands_out x.kind) is ∙ i.1 in let at : s.steps ≡ m = cc in absurd (omega arith))
       ]
 
-  owes : (z : Space) (list : TodoList) (kind : WorkKind) → handed_over kind ≡ None → Treats s e m z → Treats s e m (owe z list kind)
+  owes : (z : Space) (list : TodoList) (kind : WorkKind) → hands_out kind ≡ None → Treats s e m z → Treats s e m (owe z list kind)
   owes z list kind none h = treats-untouched _ z (Untouched.owe-untouched z list kind) (OneWay.owe-less z list kind none) h
 
   calls-out : (z : Space) (seat p : ℕ) → z.steps ≡ s.steps → (IsOneWay e.step → ⊥) → Treats s e m z → Treats s e m (call_out z seat p)

@@ -25,7 +25,7 @@ use Rattle.bd_space.specs.declared.space.WorkKind.TheVariants as work
 use Rattle.bd_space.specs.Words.{first_of, changed}
 use Rattle.bd_space.specs.Space.{Space}
 use Rattle.bd_space.specs.Seats.{actor}
-use Rattle.bd_space.specs.Todo.{owe, is_call, handed_over, list_to_read}
+use Rattle.bd_space.specs.Todo.{owe, is_call, hands_out, list_to_read}
 use Rattle.bd_space.specs.Frames.{closed}
 use Rattle.bd_space.specs.Settle.{settle, settle_one, settle_times, is_abandoned}
 use Rattle.bd_space.specs.Turns.{ripen}
@@ -74,7 +74,7 @@ items-due s seat ExitProcess w i = absurd i
 -- ---- the call among the items is what hands a buffer out
 
 abbrev first_handed : List Work → Option ℕ
-first_handed ws = first_of (map (λ w. handed_over w.kind) ws)
+first_handed ws = first_of (map (λ w. hands_out w.kind) ws)
 
 -- nothing is taken after what hands over, so that a call among the items taken is the first that does
 module _ (s : Space) (m : ℕ) where
@@ -82,7 +82,7 @@ module _ (s : Space) (m : ℕ) where
   has_call ws = list_any (λ w. is_call m w.kind) ws
 
   first-kind : (ws : List Work) (kind : WorkKind) → (has_call ws ≡ true → first_handed ws ≡ Some m)
-      → (is_call m kind || has_call (cond (ends_read kind) [] ws)) ≡ true → first_of (handed_over kind ∷ map (λ (w : Work). handed_over w.kind) (cond (ends_read kind) [] ws)) ≡ Some m
+      → (is_call m kind || has_call (cond (ends_read kind) [] ws)) ≡ true → first_of (hands_out kind ∷ map (λ (w : Work). hands_out w.kind) (cond (ends_read kind) [] ws)) ≡ Some m
   first-kind ws (work.Call b) k h = at (b == m) refl h
     where
       at : (t : Bool) → (b == m) ≡ t → (t || false) ≡ true → Some b ≡ Some m
@@ -181,10 +181,10 @@ completed-buffers z =
     settle-times-buffers (length b.frames) b ∙ (follow-after a).buffers ∙ (Untouched.ripen-untouched z).buffers
 
 -- the step makes this object's one-way call
-abbrev pub Makes : Space → ObjectId → List Buffer → Type 0
-Makes s o bs = (c : Buffer) × In c bs × (c.made ≡ s.steps) × On o c
+abbrev pub MakesCall : Space → ObjectId → List Buffer → Type 0
+MakesCall s o bs = (c : Buffer) × In c bs × (c.made ≡ s.steps) × On o c
 
-delivered-makes : (s : Space) (a : Actor) (d : TransactionData) (v : Delivery) (o : ObjectId) → v.one_way ≡ true → v.target ≡ Some o → Makes s o (delivered s a d v).buffers
+delivered-makes : (s : Space) (a : Actor) (d : TransactionData) (v : Delivery) (o : ObjectId) → v.one_way ≡ true → v.target ≡ Some o → MakesCall s o (delivered s a d v).buffers
 unfolding delivered own_notices add_buffer known_by assign_numbers refer make_objects
 delivered-makes s a d v o one_way target =
     (buffer_of (known_by s v) a d v, in-last (buffer_of (known_by s v) a d v) s.buffers, refl, (one_way, target))
@@ -200,17 +200,17 @@ same-object : (r : Result ObjectId Cause) (o p : ObjectId) → r ≡ Ok o → r 
 same-object r o p h k = let e : (let q : Result ObjectId Cause = Ok o in q) ≡ Ok p = sym h ∙ k in cc
 
 outcome-makes : (s : Space) (a : Actor) (d : TransactionData) (parcel : Option Parcel) (o : ObjectId) → is_one_way d ≡ true → target_of s a.process.made (handle_of d) ≡ Ok o
-    → (r : Result Delivery Cause) → transaction_check s a d parcel ≡ r → (transaction_outcome s a d r).answer ≡ Accepted → Makes s o (transaction_outcome s a d r).space.buffers
+    → (r : Result Delivery Cause) → transaction_check s a d parcel ≡ r → (transaction_outcome s a d r).answer ≡ Accepted → MakesCall s o (transaction_outcome s a d r).space.buffers
 outcome-makes s a d parcel o one_way target (Err x) check answer = absurd (cc)
 outcome-makes s a d parcel o one_way target (Ok v) check answer =
     let t = transaction-checked s a d parcel v check in
     let is = same-object (target_of s a.process.made (handle_of d)) t.object o t.named target in
-    subst (Makes s o) (sym (completed-buffers (transacted s a d v) ∙ transacted-buffers s a d v))
+    subst (MakesCall s o) (sym (completed-buffers (transacted s a d v) ∙ transacted-buffers s a d v))
     (delivered-makes s a d v o (t.one_way ∙ one_way) (t.target ∙ ap (λ y. Some y) is))
 
 actor-makes : (s : Space) (a : Actor) (d : TransactionData) (parcel : Option Parcel) (o : ObjectId) → is_one_way d ≡ true → target_of s a.process.made (handle_of d) ≡ Ok o
     → (x : Option Actor) → x ≡ Some a → (by_actor s x (λ b. command_step s b (bc.Transaction d) parcel)).answer ≡ Accepted
-    → Makes s o (by_actor s x (λ b. command_step s b (bc.Transaction d) parcel)).space.buffers
+    → MakesCall s o (by_actor s x (λ b. command_step s b (bc.Transaction d) parcel)).space.buffers
 unfolding command_step transaction_step
 actor-makes s a d parcel o one_way target None acts answer = absurd (cc)
 actor-makes s a d parcel o one_way target (Some b) acts answer =
@@ -218,11 +218,11 @@ actor-makes s a d parcel o one_way target (Some b) acts answer =
     outcome-makes s b d parcel o one_way (subst (λ (y : Actor). target_of s y.process.made (handle_of d) ≡ Ok o) (sym is) target) (transaction_check s b d parcel) refl answer
 
 command-makes : (s : Space) (seat : ℕ) (a : Actor) (d : TransactionData) (parcel : Option Parcel) (o : ObjectId) → is_one_way d ≡ true → target_of s a.process.made (handle_of d) ≡ Ok o
-    → actor s seat ≡ Some a → (change s seat (Command (bc.Transaction d) parcel)).answer ≡ Accepted → Makes s o (change s seat (Command (bc.Transaction d) parcel)).space.buffers
+    → actor s seat ≡ Some a → (change s seat (Command (bc.Transaction d) parcel)).answer ≡ Accepted → MakesCall s o (change s seat (Command (bc.Transaction d) parcel)).space.buffers
 unfolding change
 command-makes s seat a d parcel o one_way target acts answer = actor-makes s a d parcel o one_way target (actor s seat) acts answer
 
-pub call-makes : (s : Space) (e : Entry) (o : ObjectId) → CallsOneWay s e o → Makes s o (change s e.seat e.step).space.buffers
+pub call-makes : (s : Space) (e : Entry) (o : ObjectId) → CallsOneWay s e o → MakesCall s o (change s e.seat e.step).space.buffers
 call-makes s e o h =
-    subst (λ x. Makes s o (change s e.seat x).space.buffers) (sym h.command)
+    subst (λ x. MakesCall s o (change s e.seat x).space.buffers) (sym h.command)
     (command-makes s e.seat h.actor_is h.fields h.parcel o h.one_way h.target h.acts (ap (λ x. (change s e.seat x).answer) (sym h.command) ∙ h.accepted))

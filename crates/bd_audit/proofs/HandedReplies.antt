@@ -47,7 +47,7 @@ use Rattle.bd_space.specs.Clearing.{clear_step, clear_check, death_done_step, de
 use Rattle.bd_space.specs.Commands.{command_step}
 use Rattle.bd_space.specs.Reading.{read_step, read_taking, read_fault, got}
 use Rattle.bd_space.specs.ReadItems.{taken, buffer_taken}
-use Rattle.bd_space.specs.Returns.{stream_of, bytes_read, buffer_in, record_of, one, returns_of, returns_of_object}
+use Rattle.bd_space.specs.Returns.{stream_of, bytes_read, buffer_in, data_of, one, returns_of, returns_of_object}
 use Rattle.bd_space.specs.ThreadExits.{exit_thread_step}
 use Rattle.bd_space.specs.ProcessExits.{exit_process_step}
 use Rattle.bd_space.specs.Outcomes.{Outcome, completed, refused, by_check}
@@ -96,7 +96,7 @@ notice-none references (Some x) =
 carried-none : (r : Return) → not (is_reply r) ≡ true → HasReply (r ∷ []) ≡ false
 carried-none r h = rw (not-true (is_reply r) h) refl
 
-call-none : (z : Space) (o : Option Buffer) → HasReply (one (option_map (λ (x : Buffer). br.Transaction (record_of z x)) o)) ≡ false
+call-none : (z : Space) (o : Option Buffer) → HasReply (one (option_map (λ (x : Buffer). br.Transaction (data_of z x)) o)) ≡ false
 call-none z None = refl
 call-none z (Some x) = refl
 
@@ -104,7 +104,7 @@ death-none : (o : Option DeathNotification) → HasReply (one (option_map (λ (x
 death-none None = refl
 death-none (Some x) = refl
 
-reply-is : (z : Space) (o : Option Buffer) → HasReply (one (option_map (λ (x : Buffer). br.Reply (record_of z x)) o)) ≡ is_some o
+reply-is : (z : Space) (o : Option Buffer) → HasReply (one (option_map (λ (x : Buffer). br.Reply (data_of z x)) o)) ≡ is_some o
 reply-is z None = refl
 reply-is z (Some x) = refl
 

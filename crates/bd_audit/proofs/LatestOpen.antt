@@ -23,7 +23,7 @@ use Rattle.bd_space.specs.Words.{when, first_of}
 use Rattle.bd_space.specs.Space.{Space, opening}
 use Rattle.bd_space.specs.Seats.{actor}
 use Rattle.bd_space.specs.Frames.{calls, is_frame, innermost, innermost_in, served_innermost, made_of}
-use Rattle.bd_space.specs.Todo.{has_unread, stands_in_way, is_on, same_list}
+use Rattle.bd_space.specs.Todo.{has_unread, keeps_from_calling, is_on, same_list}
 use Rattle.bd_space.specs.Delivery.{Delivery}
 use Rattle.bd_space.specs.Transactions.{transaction_check, transaction_outcome, transaction_step, caller_cause, is_one_way}
 use Rattle.bd_space.specs.Replies.{reply_check, reply_to, reply_outcome, reply_step, caller_of}
@@ -89,12 +89,12 @@ call-tested s e d parcel two_way h = at (actor s e.seat) refl h
 unread-stops : (s : Space) (seat b : ℕ) (w : Work) → In w s.todo → reply_of w.kind ≡ Some b → w.list ≡ OfThread seat → caller_cause s seat ≡ None → ⊥
 unfolding caller_cause has_unread
 unread-stops s seat b w l e on none =
-    at (is_some (innermost s seat) && is_none (served_innermost s seat)) (has_unread s seat) (any-in (λ (x : Work). is_on (OfThread seat) x && stands_in_way x.kind) w s.todo l (in-way (is_on (OfThread seat) w) (stands_in_way w.kind) listed (way w.kind e))) none
+    at (is_some (innermost s seat) && is_none (served_innermost s seat)) (has_unread s seat) (any-in (λ (x : Work). is_on (OfThread seat) x && keeps_from_calling x.kind) w s.todo l (in-way (is_on (OfThread seat) w) (keeps_from_calling w.kind) listed (way w.kind e))) none
   where
     listed : is_on (OfThread seat) w ≡ true
     listed = ap (λ x. same_list (OfThread seat) x) on ∙ eq-eqb seat seat refl
 
-    way : (k : WorkKind) → reply_of k ≡ Some b → stands_in_way k ≡ true
+    way : (k : WorkKind) → reply_of k ≡ Some b → keeps_from_calling k ≡ true
     way (work.Notice o) h = absurd (cc)
     way work.Complete h = absurd (cc)
     way (work.Refusal r) h = absurd (cc)

@@ -21,7 +21,7 @@ use Rattle.bd_space.specs.declared.space.WorkKind.TheVariants as work
 use Rattle.bd_space.specs.Words.{changed, is_some_and}
 use Rattle.bd_space.specs.Space.{Space, opening}
 use Rattle.bd_space.specs.Seats.{actor}
-use Rattle.bd_space.specs.Todo.{with_work, owe, is_on, same_list, is_item, handed_over, list_to_read}
+use Rattle.bd_space.specs.Todo.{with_work, owe, is_on, same_list, is_item, hands_out, list_to_read}
 use Rattle.bd_space.specs.Turns.{turn_of, turns_of, ripen, ripened, is_ripe}
 use Rattle.bd_space.specs.Notices.{follow, notify, work_goes, deaths_go}
 use Rattle.bd_space.specs.Names.{names_go, assign_numbers}
@@ -71,12 +71,12 @@ pub record HasBuffer (threads : List Thread) (buffers : List Buffer) (list : Tod
 -- the reply is read.
 pub record Held (threads : List Thread) (buffers : List Buffer) (todo : List Work) : Type 0 where
   pub buffer : (w : Work) (b : ℕ) → In w todo → reply_of w.kind ≡ Some b → HasBuffer threads buffers w.list b
-  pub one : (v w : Work) (b : ℕ) → In v todo → In w todo → handed_over v.kind ≡ Some b → reply_of w.kind ≡ Some b → v ≡ w
+  pub one : (v w : Work) (b : ℕ) → In v todo → In w todo → hands_out v.kind ≡ Some b → reply_of w.kind ≡ Some b → v ≡ w
 
 abbrev pub RepliesHeld : Space → Type 0
 RepliesHeld z = Held z.threads z.buffers z.todo
 
-pub reply-hands : (k : WorkKind) (b : ℕ) → reply_of k ≡ Some b → handed_over k ≡ Some b
+pub reply-hands : (k : WorkKind) (b : ℕ) → reply_of k ≡ Some b → hands_out k ≡ Some b
 reply-hands (work.Notice o) b e = absurd (cc)
 reply-hands work.Complete b e = absurd (cc)
 reply-hands (work.Refusal r) b e = absurd (cc)
@@ -108,7 +108,7 @@ one-buffer n bs todo h b c i j e = elim (pairs-either (Waits todo) bs h.waits b 
 -- ---- nothing more that hands a buffer over, and no buffer and no thread less
 
 record Grows (z y : Space) : Type 0 where
-  due : (w : Work) (m : ℕ) → In w z.todo → handed_over w.kind ≡ Some m → In w y.todo
+  due : (w : Work) (m : ℕ) → In w z.todo → hands_out w.kind ≡ Some m → In w y.todo
   buffers : (c : Buffer) → In c y.buffers → In c z.buffers
   threads : (t : Thread) → In t y.threads → (u : Thread) × In u z.threads × (u.seat ≡ t.seat) × (u.process ≡ t.process)
 
@@ -150,7 +150,7 @@ module _ (threads : List Thread) (buffers : List Buffer) (place : ℕ) (todo : L
     one = λ v w b i j e f. elim (in-push v _ todo i) [
       | inl l ↦ h.one v w b l (was w b j f) e f
       | inr is ↦ (
-          let k : Some n ≡ Some b = ap (λ (x : Work). handed_over x.kind) is ∙ e in
+          let k : Some n ≡ Some b = ap (λ (x : Work). hands_out x.kind) is ∙ e in
           absurd (none w (was w b j f) (f ∙ sym k)))
     ];
   }
@@ -159,7 +159,7 @@ module _ (threads : List Thread) (buffers : List Buffer) (place : ℕ) (todo : L
       was w b l e = elim (in-push w _ todo l) [ inl i ↦ i | inr is ↦ (let no : None ≡ reply_of w.kind = ap (λ (x : Work). reply_of x.kind) is in absurd (cc)) ]
 
   -- a reply whose buffer no item hands over
-  reply-held : (t n : ℕ) → ((v : Work) → In v todo → handed_over v.kind ≡ Some n → ⊥) → HasBuffer threads buffers (OfThread t) n → Held threads buffers todo
+  reply-held : (t n : ℕ) → ((v : Work) → In v todo → hands_out v.kind ≡ Some n → ⊥) → HasBuffer threads buffers (OfThread t) n → Held threads buffers todo
       → Held threads buffers (with_work place todo (OfThread t) (work.Reply n))
   reply-held t n none x h = record {
     buffer = λ w b l e. elim (in-push w _ todo l) [
@@ -175,7 +175,7 @@ module _ (threads : List Thread) (buffers : List Buffer) (place : ℕ) (todo : L
         | inr is ↦ (let k : Some n ≡ Some b = ap (λ (y : Work). reply_of y.kind) is ∙ f in absurd (none v l (e ∙ sym k)))
       ]
       | inr was ↦ elim (in-push w _ todo j) [
-        | inl m ↦ (let k : Some n ≡ Some b = ap (λ (y : Work). handed_over y.kind) was ∙ e in absurd (none w m (reply-hands w.kind b f ∙ sym k)))
+        | inl m ↦ (let k : Some n ≡ Some b = ap (λ (y : Work). hands_out y.kind) was ∙ e in absurd (none w m (reply-hands w.kind b f ∙ sym k)))
         | inr is ↦ sym was ∙ is
       ]
     ];
@@ -187,19 +187,19 @@ owe-buffers : (z : Space) (list : TodoList) (kind : WorkKind) → (owe z list ki
 unfolding owe
 owe-buffers z list kind = refl
 
-owed : (z : Space) (list : TodoList) (kind : WorkKind) → handed_over kind ≡ None → RepliesHeld z → RepliesHeld (owe z list kind)
+owed : (z : Space) (list : TodoList) (kind : WorkKind) → hands_out kind ≡ None → RepliesHeld z → RepliesHeld (owe z list kind)
 owed z list kind none h = calm (owe z list kind) z (owe-less z list kind none) (owe-buffers z list kind) (seated.owe-threads z list kind) h
 
 -- ---- transactions and replies
 
-delivered-due : (s : Space) (a : Actor) (d : TransactionData) (v : Delivery) (w : Work) (m : ℕ) → In w (delivered s a d v).todo → handed_over w.kind ≡ Some m → In w s.todo
+delivered-due : (s : Space) (a : Actor) (d : TransactionData) (v : Delivery) (w : Work) (m : ℕ) → In w (delivered s a d v).todo → hands_out w.kind ≡ Some m → In w s.todo
 unfolding delivered own_notices add_buffer known_by assign_numbers refer make_objects
 delivered-due s a d v w m l e = own_notices-less (add_buffer (known_by s v) (buffer_of (known_by s v) a d v)) a.thread.seat v.sending.items w m l e
 
 abbrev sent : Space → Actor → TransactionData → Delivery → Space
 sent s a d v = owe (delivered s a d v) (OfThread a.thread.seat) work.Complete
 
-sent-due : (s : Space) (a : Actor) (d : TransactionData) (v : Delivery) (w : Work) (m : ℕ) → In w (sent s a d v).todo → handed_over w.kind ≡ Some m → In w s.todo
+sent-due : (s : Space) (a : Actor) (d : TransactionData) (v : Delivery) (w : Work) (m : ℕ) → In w (sent s a d v).todo → hands_out w.kind ≡ Some m → In w s.todo
 sent-due s a d v w m l e = delivered-due s a d v w m ((owe-less (delivered s a d v) (OfThread a.thread.seat) work.Complete refl).due w m l e) e
 
 sent-buffers : (s : Space) (a : Actor) (d : TransactionData) (v : Delivery) → (sent s a d v).buffers ≡ s.buffers ++ buffer_of (known_by s v) a d v ∷ []
@@ -220,7 +220,7 @@ calls-out y seat p true none h = h
 calls-out y seat p false none h = call-held y.threads y.buffers y.steps y.todo (goes_to y seat p) y.steps none h
 
 -- nothing that is due hands over the buffer of a step to come
-unmade : (s : Space) → IsInTurn s → (w : Work) → In w s.todo → handed_over w.kind ≡ Some s.steps → ⊥
+unmade : (s : Space) → IsInTurn s → (w : Work) → In w s.todo → hands_out w.kind ≡ Some s.steps → ⊥
 unmade s turns w l e = let lt = turns.fresh s.steps (w, l, e) in absurd (omega arith)
 
 transacts : (s : Space) (a : Actor) (d : TransactionData) (v : Delivery) → IsInTurn s → RepliesHeld s → RepliesHeld (transacted s a d v)
@@ -232,7 +232,7 @@ transacts s a d v turns h =
     unmade s turns w (sent-due s a d v w s.steps l k) k)
     (sends s a d v h)
 
-answers : (y : Space) (caller : Option ℕ) (n : ℕ) → ((v : Work) → In v y.todo → handed_over v.kind ≡ Some n → ⊥)
+answers : (y : Space) (caller : Option ℕ) (n : ℕ) → ((v : Work) → In v y.todo → hands_out v.kind ≡ Some n → ⊥)
     → ((t : ℕ) → caller ≡ Some t → HasBuffer y.threads y.buffers (OfThread t) n) → RepliesHeld y
     → RepliesHeld (elim caller as (λ (o : Option ℕ). Space) [ None ↦ y | Some t ↦ owe y (OfThread t) (work.Reply n) ])
 unfolding owe
@@ -382,9 +382,9 @@ hands-over (Some m) n h = ap (λ i. Some i) (eqb-true m n h)
 module _ (z : Space) (seat : ℕ) (h : RepliesHeld z) where
   unlost : (w : Work) (b : ℕ) → In w z.todo → is_on (OfThread seat) w ≡ false → reply_of w.kind ≡ Some b → (q : Bool) → is_lost_with z.todo (OfThread seat) b ≡ q → not q ≡ true
   unlost w b l off e true k =
-      let v = any-found (λ (w : Work). is_on (OfThread seat) w && is_some_and (handed_over w.kind) (λ m. m == b)) z.todo k in
-      let p = both (is_on (OfThread seat) v.0) (is_some_and (handed_over v.0.kind) (λ m. m == b)) v.2 in
-      let is : v.0 ≡ w = h.one v.0 w b v.1 l (hands-over (handed_over v.0.kind) b p.1) e in
+      let v = any-found (λ (w : Work). is_on (OfThread seat) w && is_some_and (hands_out w.kind) (λ m. m == b)) z.todo k in
+      let p = both (is_on (OfThread seat) v.0) (is_some_and (hands_out v.0.kind) (λ m. m == b)) v.2 in
+      let is : v.0 ≡ w = h.one v.0 w b v.1 l (hands-over (hands_out v.0.kind) b p.1) e in
       let on : is_on (OfThread seat) w ≡ true = ap (λ (y : Work). is_on (OfThread seat) y) (sym is) ∙ p.0 in absurd (cc)
   unlost w b l off e false k = refl
 

@@ -15,7 +15,7 @@ use Rattle.bd_space.specs.declared.space.Process.{Process}
 use Rattle.bd_space.specs.declared.space.Buffer.{Buffer}
 use Rattle.bd_space.specs.Words.{changed, first_of}
 use Rattle.bd_space.specs.Seats.{lives_in, process_in}
-use Rattle.bd_space.specs.Room.{buffers_of}
+use Rattle.bd_space.specs.Windows.{buffers_of}
 use Rattle.bd_space.specs.Freeing.{is_made_at}
 use Rattle.bd_space.specs.Returns.{buffer_in}
 use Rattle.bd_space.specs.ReadItems.{hand_out, handed_buffers}
@@ -23,7 +23,7 @@ use Rattle.bd_buffers.specs.declared.window.Window.{Window}
 use Rattle.bd_buffers.specs.declared.windows.OwnedWindow.{OwnedWindow}
 use Rattle.bd_buffers.specs.declared.windows.Windows.{Windows}
 use Rattle.bd_buffers.specs.Window as single
-use Rattle.bd_buffers.specs.WindowsStand.{ProcessWindow, seen, window_of, with_buffers, is_owned_by, is_of, WindowsOf, Stands, room_of, CanTakeIn, made_of_buffer}
+use Rattle.bd_buffers.specs.WindowsStand.{ProcessWindow, seen, window_of, with_buffers, is_owned_by, is_of, WindowsOf, Stands, room_of, CanHoldIn, made_of_buffer}
 use Rattle.bd_space.proofs.Changed.{mapped-next}
 use Rattle.bd_buffers.proofs.Changes.{pairs_head, pairs_tail, found_has}
 use Rattle.bd_buffers.proofs.InSpace.{added, added_elsewhere, kept_in, handed_in, others_stay, made_in}
@@ -214,16 +214,16 @@ stay_seen t p i w new e at kept =
 pub stay : (t u : Windows) (bound : ℕ) (ps : List Process) (bs : List Buffer) → map seen u.windows.items ≡ map seen t.windows.items → WindowsOf t bound ps bs → WindowsOf u bound ps bs
 stay t u bound ps bs e stands = record { windows_are = e ∙ stands.windows_are; made = stands.made }
 
-pub can_take_at : (t : Windows) (p i : ℕ) (w : OwnedWindow) (one_way : Bool) (size start : ℕ) → find (is_owned_by p) t.windows.items ≡ Some w
-    → CanTakeIn (find (is_of p) (map seen t.windows.items)) one_way size start → CanTakeIn (Some (seen w)) one_way size start
-can_take_at t p i w one_way size start found can =
-    let P : Option ProcessWindow → Type 0 = λ o. CanTakeIn o one_way size start in
+pub can_hold_at : (t : Windows) (p i : ℕ) (w : OwnedWindow) (one_way : Bool) (size start : ℕ) → find (is_owned_by p) t.windows.items ≡ Some w
+    → CanHoldIn (find (is_of p) (map seen t.windows.items)) one_way size start → CanHoldIn (Some (seen w)) one_way size start
+can_hold_at t p i w one_way size start found can =
+    let P : Option ProcessWindow → Type 0 = λ o. CanHoldIn o one_way size start in
     subst P (find_map seen (is_of p) t.windows.items ∙ ap (option_map seen) found) can
 
-pub can_take_back : (t : Windows) (p : ℕ) (w : OwnedWindow) (one_way : Bool) (size start : ℕ) → find (is_owned_by p) t.windows.items ≡ Some w
-    → CanTakeIn (Some (seen w)) one_way size start → CanTakeIn (find (is_of p) (map seen t.windows.items)) one_way size start
-can_take_back t p w one_way size start found can =
-    let P : Option ProcessWindow → Type 0 = λ o. CanTakeIn o one_way size start in
+pub can_hold_back : (t : Windows) (p : ℕ) (w : OwnedWindow) (one_way : Bool) (size start : ℕ) → find (is_owned_by p) t.windows.items ≡ Some w
+    → CanHoldIn (Some (seen w)) one_way size start → CanHoldIn (find (is_of p) (map seen t.windows.items)) one_way size start
+can_hold_back t p w one_way size start found can =
+    let P : Option ProcessWindow → Type 0 = λ o. CanHoldIn o one_way size start in
     subst P (sym (find_map seen (is_of p) t.windows.items ∙ ap (option_map seen) found)) can
 
 -- ---- a buffer more
@@ -395,16 +395,16 @@ module _ {A : Type 0} (p : A → Bool) where
   pub none_at : (xs : List A) → position p xs ≡ None → find p xs ≡ None
   none_at xs e = past_all xs (none_before (position_or_len p xs) (length xs) (nat_lt (position_or_len p xs) (length xs)) refl e)
 
-pub can_take_nowhere : (t : Windows) (p : ℕ) (one_way : Bool) (size start : ℕ) → find (is_owned_by p) t.windows.items ≡ None
-    → CanTakeIn (find (is_of p) (map seen t.windows.items)) one_way size start → ⊥
-can_take_nowhere t p one_way size start missed can =
-    let P : Option ProcessWindow → Type 0 = λ o. CanTakeIn o one_way size start in
+pub can_hold_nowhere : (t : Windows) (p : ℕ) (one_way : Bool) (size start : ℕ) → find (is_owned_by p) t.windows.items ≡ None
+    → CanHoldIn (find (is_of p) (map seen t.windows.items)) one_way size start → ⊥
+can_hold_nowhere t p one_way size start missed can =
+    let P : Option ProcessWindow → Type 0 = λ o. CanHoldIn o one_way size start in
     subst P (find_map seen (is_of p) t.windows.items ∙ ap (option_map seen) missed) can
 
 pub room_of_none : (t : Windows) (p : ℕ) → find (is_owned_by p) t.windows.items ≡ None → 1 ≤ room_of (find (is_owned_by p) t.windows.items)
 room_of_none t p e = let is : room_of (find (is_owned_by p) t.windows.items) ≡ 1 = ap room_of e in omega (arith, is)
 
-pub fits_whole : (size : ℕ) (bs : List Buffer) (n : ℕ) (r : Result ℕ Cause) → single.IsWindow size bs → IfOk r (λ p. single.IsLeastRoom size bs n p) → IfOk r (λ p. n ≤ 4194304)
+pub fits_whole : (size : ℕ) (bs : List Buffer) (n : ℕ) (r : Result ℕ Cause) → single.IsWindow size bs → IfOk r (λ p. single.IsLeastFree size bs n p) → IfOk r (λ p. n ≤ 4194304)
 fits_whole size bs n (Ok p) is least = let inside = least.room.inside in let small = is.small in omega (arith, inside, small)
 fits_whole size bs n (Err x) is least = tt
 

@@ -9,7 +9,7 @@ use Rattle.std.specs.List.{items_where_true}
 use Rattle.std.specs.List.Retain.{IsFiltered}
 use Rattle.bd_space.specs.declared.space.Buffer.{Buffer}
 use Rattle.bd_space.specs.Words.{changed}
-use Rattle.bd_space.specs.Room.{needed, place_for}
+use Rattle.bd_space.specs.Windows.{needed, start_for}
 use Rattle.bd_space.specs.ReadItems.{hand_out}
 use Rattle.bd_buffers.specs.Buffer.{IsApart, IsPlaced}
 use Rattle.bd_buffers.specs.Window.{IsInBudget, IsWindow, one_way_size}
@@ -83,7 +83,7 @@ in_budget size bs b false e old more =
     omega (arith, sum, old)
 
 pub window_push : (size : ℕ) (bs : List Buffer) (b : Buffer) → IsWindow size bs → b.size ≡ needed (length b.bytes) (length b.offsets)
-    → place_for size bs b.one_way b.size ≡ Ok b.start → IsWindow size (bs ++ b ∷ [])
+    → start_for size bs b.one_way b.size ≡ Ok b.start → IsWindow size (bs ++ b ∷ [])
 window_push size bs b is sized place =
     let given = given_says size bs b.one_way b.size b.start place in
     let room = given.least.room in

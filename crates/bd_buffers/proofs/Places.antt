@@ -9,9 +9,9 @@ use Rattle.bd_uapi.specs.declared.fault.Cause.{Cause}
 use Rattle.bd_uapi.specs.declared.fault.Cause.TheVariants.{NoRoom, OverBudget}
 use Rattle.bd_space.specs.declared.space.Buffer.{Buffer}
 use Rattle.bd_space.specs.Words.{least, when, found_or, unless, and_then}
-use Rattle.bd_space.specs.Room.{is_apart, fits_in, place_in, over_budget_in, place_for, needed}
+use Rattle.bd_space.specs.Windows.{is_apart, fits_in, start_in, over_budget_in, start_for, needed}
 use Rattle.bd_buffers.specs.Buffer.{IsApart, IsPlaced}
-use Rattle.bd_buffers.specs.Window.{IsRoom, IsLeastRoom, IsInBudget, Refuses, IsWindow, one_way_size}
+use Rattle.bd_buffers.specs.Window.{IsFree, IsLeastFree, IsInBudget, Refuses, IsWindow, one_way_size}
 use Rattle.bd_buffers.proofs.Changes.{found_has, none_found}
 
 -- ---- the least number that passes
@@ -91,8 +91,8 @@ second_true : (a b : Bool) → (a && b) ≡ true → b ≡ true
 second_true true b t = t
 second_true false b t = cc
 
-pub fits_room : (size : ℕ) (buffers : List Buffer) (n p : ℕ) → p % 8 ≡ 0 → fits_in size buffers n p ≡ true → IsRoom size buffers n p
-fits_room size buffers n p aligned fits =
+pub fits_free : (size : ℕ) (buffers : List Buffer) (n p : ℕ) → p % 8 ≡ 0 → fits_in size buffers n p ≡ true → IsFree size buffers n p
+fits_free size buffers n p aligned fits =
     let in_window : nat_le (p + n) size ≡ true = first_true (nat_le (p + n) size) (list_all (is_apart p n) buffers) fits in
     let apart = AllPass-from_list_all (is_apart p n) buffers (second_true (nat_le (p + n) size) (list_all (is_apart p n) buffers) fits) in
     record {
@@ -101,8 +101,8 @@ fits_room size buffers n p aligned fits =
       free = All-weaker (λ b. is_apart p n b ≡ true) (IsApart p n) (apart_is p n) buffers apart;
     }
 
-pub room_fits : (size : ℕ) (buffers : List Buffer) (n p : ℕ) → IsRoom size buffers n p → fits_in size buffers n p ≡ true
-room_fits size buffers n p room =
+pub free_fits : (size : ℕ) (buffers : List Buffer) (n p : ℕ) → IsFree size buffers n p → fits_in size buffers n p ≡ true
+free_fits size buffers n p room =
     let inside : p + n ≤ size = room.inside in
     let in_window : nat_le (p + n) size ≡ true = search (rules, tests) in
     both_true (nat_le (p + n) size) (list_all (is_apart p n) buffers) in_window
@@ -117,82 +117,82 @@ not_true false never = refl
 eight_times : (q : ℕ) → q % 8 ≡ 0 → q ≡ 8 * (q / 8)
 eight_times q aligned = omega arith
 
-no_lower : (size : ℕ) (buffers : List Buffer) (n k j : ℕ) → IsLeastRoom size buffers n (8 * k) → j < k → fits_in size buffers n (8 * j) ≡ false
+no_lower : (size : ℕ) (buffers : List Buffer) (n k j : ℕ) → IsLeastFree size buffers n (8 * k) → j < k → fits_in size buffers n (8 * j) ≡ false
 no_lower size buffers n k j is lt =
     not_true (fits_in size buffers n (8 * j)) (λ fits.
-    let lower : 8 * k ≤ 8 * j = is.least (8 * j) (fits_room size buffers n (8 * j) (omega arith) fits) in
+    let lower : 8 * k ≤ 8 * j = is.least (8 * j) (fits_free size buffers n (8 * j) (omega arith) fits) in
     omega arith)
 
-place_is : (size : ℕ) (buffers : List Buffer) (n k : ℕ) → 8 ≤ n → IsLeastRoom size buffers n (8 * k) → place_in size buffers n ≡ Some (8 * k)
-unfolding place_in
+place_is : (size : ℕ) (buffers : List Buffer) (n k : ℕ) → 8 ≤ n → IsLeastFree size buffers n (8 * k) → start_in size buffers n ≡ Some (8 * k)
+unfolding start_in
 place_is size buffers n k filled is =
     let fits = λ (j : ℕ). fits_in size buffers n (8 * j) in
     let inside : 8 * k + n ≤ size = is.room.inside in
     let below : (j : ℕ) → 0 ≤ j → j < k → fits j ≡ false = λ j low high. no_lower size buffers n k j is high in
-    ap (option_map (λ j. 8 * j)) (least-is fits (size / 8) 0 k (omega arith) (omega arith) below (room_fits size buffers n (8 * k) is.room))
+    ap (option_map (λ j. 8 * j)) (least-is fits (size / 8) 0 k (omega arith) (omega arith) below (free_fits size buffers n (8 * k) is.room))
 
 -- where the least room is, there is the place
-pub place_at : (size : ℕ) (buffers : List Buffer) (n p : ℕ) → 8 ≤ n → IsLeastRoom size buffers n p → place_in size buffers n ≡ Some p
-place_at size buffers n p filled is =
+pub start_at : (size : ℕ) (buffers : List Buffer) (n p : ℕ) → 8 ≤ n → IsLeastFree size buffers n p → start_in size buffers n ≡ Some p
+start_at size buffers n p filled is =
     let whole = eight_times p is.room.aligned in
-    let P : ℕ → Type 0 = λ q. IsLeastRoom size buffers n q in
+    let P : ℕ → Type 0 = λ q. IsLeastFree size buffers n q in
     place_is size buffers n (p / 8) filled (subst P whole is) ∙ ap (λ q. Some q) (sym whole)
 
 -- where there is no room, there is no place
-pub no_place_at : (size : ℕ) (buffers : List Buffer) (n : ℕ) → ((p : ℕ) → IsRoom size buffers n p → ⊥) → place_in size buffers n ≡ None
-unfolding place_in
-no_place_at size buffers n none =
+pub no_start_at : (size : ℕ) (buffers : List Buffer) (n : ℕ) → ((p : ℕ) → IsFree size buffers n p → ⊥) → start_in size buffers n ≡ None
+unfolding start_in
+no_start_at size buffers n none =
     let fits = λ (j : ℕ). fits_in size buffers n (8 * j) in
     ap (option_map (λ j. 8 * j)) (least-none fits (size / 8) 0 (λ j low high.
-    not_true (fits j) (λ t. none (8 * j) (fits_room size buffers n (8 * j) (omega arith) t))))
+    not_true (fits j) (λ t. none (8 * j) (fits_free size buffers n (8 * j) (omega arith) t))))
 
 some_place : (size : ℕ) (buffers : List Buffer) (n p : ℕ) (o : Option ℕ) → least (size / 8) 0 (λ j. fits_in size buffers n (8 * j)) ≡ o
-    → option_map (λ j. 8 * j) o ≡ Some p → IsLeastRoom size buffers n p
+    → option_map (λ j. 8 * j) o ≡ Some p → IsLeastFree size buffers n p
 some_place size buffers n p None e f = cc
 some_place size buffers n p (Some k) e f =
     let fits = λ (j : ℕ). fits_in size buffers n (8 * j) in
     let is = least-says fits (size / 8) 0 k e in
     let at : 8 * k ≡ p = cc in
-    let P : ℕ → Type 0 = λ q. IsLeastRoom size buffers n q in
+    let P : ℕ → Type 0 = λ q. IsLeastFree size buffers n q in
     subst P at (record {
-      room = fits_room size buffers n (8 * k) (omega arith) is.passes;
+      room = fits_free size buffers n (8 * k) (omega arith) is.passes;
       least = λ q room. elim (cases_lt q (8 * k)) [
         | inl lt ↦ (
             let whole = eight_times q room.aligned in
-            let Q : ℕ → Type 0 = λ r. IsRoom size buffers n r in
+            let Q : ℕ → Type 0 = λ r. IsFree size buffers n r in
             let missed : fits (q / 8) ≡ false = is.below (q / 8) (omega arith) (omega arith) in
-            let met : fits (q / 8) ≡ true = room_fits size buffers n (8 * (q / 8)) (subst Q whole room) in
+            let met : fits (q / 8) ≡ true = free_fits size buffers n (8 * (q / 8)) (subst Q whole room) in
             cc)
         | inr le ↦ le
       ];
     })
 
 -- the place has the least room
-pub place_says : (size : ℕ) (buffers : List Buffer) (n p : ℕ) → place_in size buffers n ≡ Some p → IsLeastRoom size buffers n p
-unfolding place_in
-place_says size buffers n p e = some_place size buffers n p _ refl e
+pub start_says : (size : ℕ) (buffers : List Buffer) (n p : ℕ) → start_in size buffers n ≡ Some p → IsLeastFree size buffers n p
+unfolding start_in
+start_says size buffers n p e = some_place size buffers n p _ refl e
 
 no_place : (size : ℕ) (buffers : List Buffer) (n p : ℕ) (o : Option ℕ) → 8 ≤ n → least (size / 8) 0 (λ j. fits_in size buffers n (8 * j)) ≡ o
-    → option_map (λ j. 8 * j) o ≡ None → IsRoom size buffers n p → ⊥
+    → option_map (λ j. 8 * j) o ≡ None → IsFree size buffers n p → ⊥
 no_place size buffers n p (Some k) filled e f room = cc
 no_place size buffers n p None filled e f room =
     let fits = λ (j : ℕ). fits_in size buffers n (8 * j) in
     let inside : p + n ≤ size = room.inside in
     let whole = eight_times p room.aligned in
-    let Q : ℕ → Type 0 = λ r. IsRoom size buffers n r in
+    let Q : ℕ → Type 0 = λ r. IsFree size buffers n r in
     let missed : fits (p / 8) ≡ false = least-misses fits (size / 8) 0 e (p / 8) (omega arith) (omega arith) in
-    let met : fits (p / 8) ≡ true = room_fits size buffers n (8 * (p / 8)) (subst Q whole room) in
+    let met : fits (p / 8) ≡ true = free_fits size buffers n (8 * (p / 8)) (subst Q whole room) in
     cc
 
 -- where there is no place, there is no room
-pub no_place_says : (size : ℕ) (buffers : List Buffer) (n : ℕ) → 8 ≤ n → place_in size buffers n ≡ None → (p : ℕ) → IsRoom size buffers n p → ⊥
-unfolding place_in
-no_place_says size buffers n filled e p room = no_place size buffers n p _ filled refl e room
+pub no_start_says : (size : ℕ) (buffers : List Buffer) (n : ℕ) → 8 ≤ n → start_in size buffers n ≡ None → (p : ℕ) → IsFree size buffers n p → ⊥
+unfolding start_in
+no_start_says size buffers n filled e p room = no_place size buffers n p _ filled refl e room
 
 -- ---- the place and the budget
 
 pub record IsGiven (size : ℕ) (buffers : List Buffer) (one_way : Bool) (n p : ℕ) : Type 0 where
-  pub least : IsLeastRoom size buffers n p
+  pub least : IsLeastFree size buffers n p
   pub budget : IsTrue one_way → IsInBudget size buffers n
 
 in_budget : (size : ℕ) (buffers : List Buffer) (n : ℕ) (one_way : Bool) → (one_way && over_budget_in size buffers n) ≡ false → IsTrue one_way → IsInBudget size buffers n
@@ -205,42 +205,42 @@ unfolding over_budget_in
 over_budget size buffers n true e = (refl, search (rules, tests))
 over_budget size buffers n false e = cc
 
-given : (size : ℕ) (buffers : List Buffer) (one_way : Bool) (n p : ℕ) (o : Option ℕ) (over : Bool) → place_in size buffers n ≡ o → (one_way && over_budget_in size buffers n) ≡ over
+given : (size : ℕ) (buffers : List Buffer) (one_way : Bool) (n p : ℕ) (o : Option ℕ) (over : Bool) → start_in size buffers n ≡ o → (one_way && over_budget_in size buffers n) ≡ over
     → and_then (found_or o NoRoom) (unless (when over OverBudget)) ≡ Ok p → IsGiven size buffers one_way n p
 given size buffers one_way n p None over e f g = cc
 given size buffers one_way n p (Some q) true e f g = cc
 given size buffers one_way n p (Some q) false e f g =
     let same : q ≡ p = cc in
-    record { least = place_says size buffers n p (e ∙ ap (λ r. Some r) same); budget = in_budget size buffers n one_way f }
+    record { least = start_says size buffers n p (e ∙ ap (λ r. Some r) same); budget = in_budget size buffers n one_way f }
 
-refused : (size : ℕ) (buffers : List Buffer) (one_way : Bool) (n : ℕ) (x : Cause) (o : Option ℕ) (over : Bool) → 8 ≤ n → place_in size buffers n ≡ o
+refused : (size : ℕ) (buffers : List Buffer) (one_way : Bool) (n : ℕ) (x : Cause) (o : Option ℕ) (over : Bool) → 8 ≤ n → start_in size buffers n ≡ o
     → (one_way && over_budget_in size buffers n) ≡ over → and_then (found_or o NoRoom) (unless (when over OverBudget)) ≡ Err x → Refuses size buffers one_way n x
 refused size buffers one_way n x None over filled e f g =
     let P : Cause → Type 0 = λ y. Refuses size buffers one_way n y in
     let same : NoRoom ≡ x = cc in
-    subst P same (no_place_says size buffers n filled e)
+    subst P same (no_start_says size buffers n filled e)
 refused size buffers one_way n x (Some q) true filled e f g =
     let P : Cause → Type 0 = λ y. Refuses size buffers one_way n y in
     let same : OverBudget ≡ x = cc in
     let over = over_budget size buffers n one_way f in
-    subst P same (over.0, (q, (place_says size buffers n q e).room), over.1)
+    subst P same (over.0, (q, (start_says size buffers n q e).room), over.1)
 refused size buffers one_way n x (Some q) false filled e f g = cc
 
 -- what a place that is given has
-pub given_says : (size : ℕ) (buffers : List Buffer) (one_way : Bool) (n p : ℕ) → place_for size buffers one_way n ≡ Ok p → IsGiven size buffers one_way n p
-unfolding place_for
+pub given_says : (size : ℕ) (buffers : List Buffer) (one_way : Bool) (n p : ℕ) → start_for size buffers one_way n ≡ Ok p → IsGiven size buffers one_way n p
+unfolding start_for
 given_says size buffers one_way n p e = given size buffers one_way n p _ _ refl refl e
 
 -- when a place is refused
-pub refused_says : (size : ℕ) (buffers : List Buffer) (one_way : Bool) (n : ℕ) (x : Cause) → 8 ≤ n → place_for size buffers one_way n ≡ Err x → Refuses size buffers one_way n x
-unfolding place_for
+pub refused_says : (size : ℕ) (buffers : List Buffer) (one_way : Bool) (n : ℕ) (x : Cause) → 8 ≤ n → start_for size buffers one_way n ≡ Err x → Refuses size buffers one_way n x
+unfolding start_for
 refused_says size buffers one_way n x filled e = refused size buffers one_way n x _ _ filled refl refl e
 
 -- what is larger than the window has no place
-pub too_large : (size : ℕ) (buffers : List Buffer) (one_way : Bool) (n : ℕ) → size < n → place_for size buffers one_way n ≡ Err NoRoom
-unfolding place_for
+pub too_large : (size : ℕ) (buffers : List Buffer) (one_way : Bool) (n : ℕ) → size < n → start_for size buffers one_way n ≡ Err NoRoom
+unfolding start_for
 too_large size buffers one_way n large =
-    rw (no_place_at size buffers n (λ p room. let inside : p + n ≤ size = room.inside in omega arith)) refl
+    rw (no_start_at size buffers n (λ p room. let inside : p + n ≤ size = room.inside in omega arith)) refl
 
 -- ---- the search past the buffers that are in the way
 
@@ -253,12 +253,12 @@ is_false true e = cc
 is_false false e = refl
 
 -- nothing is in the way at p, and nothing lower has room
-pub none_in_way : (size : ℕ) (buffers : List Buffer) (n p : ℕ) → 8 ≤ n → p % 8 ≡ 0 → p + n ≤ size → ((q : ℕ) → IsRoom size buffers n q → p ≤ q)
-    → None ≡ find (λ b. not (is_apart p n b)) buffers → Some p ≡ place_in size buffers n
+pub none_in_way : (size : ℕ) (buffers : List Buffer) (n p : ℕ) → 8 ≤ n → p % 8 ≡ 0 → p + n ≤ size → ((q : ℕ) → IsFree size buffers n q → p ≤ q)
+    → None ≡ find (λ b. not (is_apart p n b)) buffers → Some p ≡ start_in size buffers n
 none_in_way size buffers n p filled aligned inside lower none =
     let apart = λ (b : Buffer) (e : not (is_apart p n b) ≡ false). apart_is p n b (is_true (is_apart p n b) e) in
     let free = All-weaker (λ b. not (is_apart p n b) ≡ false) (IsApart p n) apart buffers (none_found (λ b. not (is_apart p n b)) buffers (sym none)) in
-    sym (place_at size buffers n p filled (record { room = record { aligned = aligned; inside = inside; free = free }; least = lower }))
+    sym (start_at size buffers n p filled (record { room = record { aligned = aligned; inside = inside; free = free }; least = lower }))
 
 -- a buffer that is in the way of n bytes at p, and the first place past it
 pub record IsInWay (size : ℕ) (buffers : List Buffer) (n p : ℕ) (b : Buffer) : Type 0 where
@@ -266,7 +266,7 @@ pub record IsInWay (size : ℕ) (buffers : List Buffer) (n p : ℕ) (b : Buffer)
   pub ends : p < b.start + b.size
   pub inside : b.start + b.size ≤ size
   pub aligned : (b.start + b.size) % 8 ≡ 0
-  pub next : ((q : ℕ) → IsRoom size buffers n q → p ≤ q) → (q : ℕ) → IsRoom size buffers n q → b.start + b.size ≤ q
+  pub next : ((q : ℕ) → IsFree size buffers n q → p ≤ q) → (q : ℕ) → IsFree size buffers n q → b.start + b.size ≤ q
 
 meets : (p n : ℕ) (b : Buffer) → is_apart p n b ≡ false → (b.start < p + n) × (p < b.start + b.size)
 meets p n b e = search (rules, tests)
@@ -294,27 +294,27 @@ in_way size buffers n p b is found =
     }
 
 -- there is no room past the last place that n bytes fit at
-pub none_left : (size : ℕ) (buffers : List Buffer) (n p : ℕ) → size < p + n → ((q : ℕ) → IsRoom size buffers n q → p ≤ q) → None ≡ place_in size buffers n
+pub none_left : (size : ℕ) (buffers : List Buffer) (n p : ℕ) → size < p + n → ((q : ℕ) → IsFree size buffers n q → p ≤ q) → None ≡ start_in size buffers n
 none_left size buffers n p past lower =
-    sym (no_place_at size buffers n (λ q room. let low = lower q room in let inside : q + n ≤ size = room.inside in omega arith))
+    sym (no_start_at size buffers n (λ q room. let low = lower q room in let inside : q + n ≤ size = room.inside in omega arith))
 
 -- ---- what the answers of `place` say
 
-pub data_too_large : (size : ℕ) (buffers : List Buffer) (one_way : Bool) (bytes offsets : ℕ) → size < bytes → Err NoRoom ≡ place_for size buffers one_way (needed bytes offsets)
+pub data_too_large : (size : ℕ) (buffers : List Buffer) (one_way : Bool) (bytes offsets : ℕ) → size < bytes → Err NoRoom ≡ start_for size buffers one_way (needed bytes offsets)
 data_too_large size buffers one_way bytes offsets large = sym (too_large size buffers one_way (needed bytes offsets) (omega arith))
 
-pub offsets_too_large : (size : ℕ) (buffers : List Buffer) (one_way : Bool) (bytes offsets : ℕ) → size < offsets → Err NoRoom ≡ place_for size buffers one_way (needed bytes offsets)
+pub offsets_too_large : (size : ℕ) (buffers : List Buffer) (one_way : Bool) (bytes offsets : ℕ) → size < offsets → Err NoRoom ≡ start_for size buffers one_way (needed bytes offsets)
 offsets_too_large size buffers one_way bytes offsets large = sym (too_large size buffers one_way (needed bytes offsets) (omega arith))
 
-pub least_of : (size : ℕ) (buffers : List Buffer) (one_way : Bool) (n : ℕ) (r : Result ℕ Cause) → r ≡ place_for size buffers one_way n → IfOk r (λ p. IsLeastRoom size buffers n p)
+pub least_of : (size : ℕ) (buffers : List Buffer) (one_way : Bool) (n : ℕ) (r : Result ℕ Cause) → r ≡ start_for size buffers one_way n → IfOk r (λ p. IsLeastFree size buffers n p)
 least_of size buffers one_way n (Ok p) e = (given_says size buffers one_way n p (sym e)).least
 least_of size buffers one_way n (Err x) e = tt
 
-pub budget_of : (size : ℕ) (buffers : List Buffer) (one_way : Bool) (n : ℕ) (r : Result ℕ Cause) → r ≡ place_for size buffers one_way n → IfOk r (λ p. IsTrue one_way → IsInBudget size buffers n)
+pub budget_of : (size : ℕ) (buffers : List Buffer) (one_way : Bool) (n : ℕ) (r : Result ℕ Cause) → r ≡ start_for size buffers one_way n → IfOk r (λ p. IsTrue one_way → IsInBudget size buffers n)
 budget_of size buffers one_way n (Ok p) e = (given_says size buffers one_way n p (sym e)).budget
 budget_of size buffers one_way n (Err x) e = tt
 
-pub cause_of : (size : ℕ) (buffers : List Buffer) (one_way : Bool) (bytes offsets : ℕ) (r : Result ℕ Cause) → r ≡ place_for size buffers one_way (needed bytes offsets)
+pub cause_of : (size : ℕ) (buffers : List Buffer) (one_way : Bool) (bytes offsets : ℕ) (r : Result ℕ Cause) → r ≡ start_for size buffers one_way (needed bytes offsets)
     → IfErr r (λ x. Refuses size buffers one_way (needed bytes offsets) x)
 cause_of size buffers one_way bytes offsets (Ok p) e = tt
 cause_of size buffers one_way bytes offsets (Err x) e = refused_says size buffers one_way (needed bytes offsets) x (omega arith) (sym e)

@@ -4,7 +4,7 @@ use Rattle.bd_uapi.specs.declared.fault.Note.{Note}
 use Rattle.bd_uapi.specs.declared.fault.Note.TheVariants.{NoSuchBuffer, NotHandedOut}
 use Rattle.bd_space.specs.declared.space.Buffer.{Buffer}
 use Rattle.bd_space.specs.Words.{round_up}
-use Rattle.bd_space.specs.Room.{needed}
+use Rattle.bd_space.specs.Windows.{needed}
 use Rattle.bd_space.specs.Freeing.{pointer}
 
 -- n bytes from p on have no byte in common with a buffer

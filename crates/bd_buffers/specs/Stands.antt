@@ -1,7 +1,7 @@
 -- What a window stands for.
 use Rattle.std.specs.Prelude.{ℕ, ◌≡◌, ◌+◌, ◌≤◌, Bool, List, Ok}
 use Rattle.bd_space.specs.declared.space.Buffer.{Buffer}
-use Rattle.bd_space.specs.Room.{place_for}
+use Rattle.bd_space.specs.Windows.{start_for}
 use Rattle.bd_buffers.specs.declared.window.Window.{Window}
 
 -- a window of this size with these live buffers
@@ -18,15 +18,15 @@ abbrev pub WindowMakes : (ℕ → List Buffer → Type 0) → (ℕ → List Buff
 WindowMakes P Q f = (size : ℕ) (buffers : List Buffer) → P size buffers → Q size (f buffers)
 
 -- the window can take a buffer of this size at this place now
-unfoldable pub CanTake : Window → Bool → ℕ → ℕ → Type 0
-CanTake w one_way size start = place_for w.size w.buffers one_way size ≡ Ok start
+unfoldable pub CanHold : Window → Bool → ℕ → ℕ → Type 0
+CanHold w one_way size start = start_for w.size w.buffers one_way size ≡ Ok start
 
 -- a change takes room for at most so many buffers
-abbrev pub Takes : Window → Window → ℕ → Type 0
-Takes old new buffers = old.room ≤ new.room + buffers
+abbrev pub Uses : Window → Window → ℕ → Type 0
+Uses old new buffers = old.room ≤ new.room + buffers
 
-abbrev pub TakesNothing : Window → Window → Type 0
-TakesNothing old new = old.room ≤ new.room
+abbrev pub UsesNothing : Window → Window → Type 0
+UsesNothing old new = old.room ≤ new.room
 
 -- whatever is answered is what p says
 abbrev pub AnswersBy : {A : Type 0} → (A → Bool → Type 0) → (A → Bool) → Type 0

@@ -7,15 +7,15 @@ use Rattle.bd_space.specs.declared.space.Buffer.{Buffer}
 use Rattle.bd_buffers.specs.Buffer.{IsApart, IsPlaced, at_pointer, freed_buffer}
 
 -- n bytes at p are free, in a window of this size with these live buffers
-pub record IsRoom (size : ℕ) (buffers : List Buffer) (n p : ℕ) : Type 0 where
+pub record IsFree (size : ℕ) (buffers : List Buffer) (n p : ℕ) : Type 0 where
   pub aligned : p % 8 ≡ 0
   pub inside : p + n ≤ size
   pub free : All (IsApart p n) buffers
 
 -- and no lower place has room
-pub record IsLeastRoom (size : ℕ) (buffers : List Buffer) (n p : ℕ) : Type 0 where
-  pub room : IsRoom size buffers n p
-  pub least : (q : ℕ) → IsRoom size buffers n q → p ≤ q
+pub record IsLeastFree (size : ℕ) (buffers : List Buffer) (n p : ℕ) : Type 0 where
+  pub room : IsFree size buffers n p
+  pub least : (q : ℕ) → IsFree size buffers n q → p ≤ q
 
 -- the sizes of the one-way buffers together
 abbrev pub one_way_size : List Buffer → ℕ
@@ -27,9 +27,9 @@ IsInBudget size buffers more = 2 * (one_way_size buffers + more) ≤ size
 
 -- when a buffer is refused, by the cause: want of room is found first
 abbrev pub Refuses : ℕ → List Buffer → Bool → ℕ → Cause → Type 0
-Refuses size buffers one_way n NoRoom = (p : ℕ) → IsRoom size buffers n p → ⊥
+Refuses size buffers one_way n NoRoom = (p : ℕ) → IsFree size buffers n p → ⊥
 Refuses size buffers one_way n OverBudget =
-    IsTrue one_way × ((p : ℕ) × IsRoom size buffers n p) × (size < 2 * (one_way_size buffers + n))
+    IsTrue one_way × ((p : ℕ) × IsFree size buffers n p) × (size < 2 * (one_way_size buffers + n))
 Refuses size buffers one_way n _ = ⊥
 
 -- what is so of every window

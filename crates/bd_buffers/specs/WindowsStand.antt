@@ -4,7 +4,7 @@ use Rattle.bd_space.specs.declared.space.Process.{Process}
 use Rattle.bd_space.specs.declared.space.Buffer.{Buffer}
 use Rattle.bd_space.specs.Space.{Space}
 use Rattle.bd_space.specs.Seats.{lives_in}
-use Rattle.bd_space.specs.Room.{buffers_of, place_for}
+use Rattle.bd_space.specs.Windows.{buffers_of, start_for}
 use Rattle.bd_buffers.specs.declared.windows.OwnedWindow.{OwnedWindow}
 use Rattle.bd_buffers.specs.declared.windows.Windows.{Windows}
 use Rattle.bd_buffers.specs.Buffer as buffer
@@ -70,13 +70,13 @@ room_of (Some w) = w.window.room
 unfoldable pub buffer_room : Windows → ℕ → ℕ
 buffer_room t p = room_of (find (is_owned_by p) t.windows.items)
 
-abbrev pub CanTakeIn : Option ProcessWindow → Bool → ℕ → ℕ → Type 0
-CanTakeIn None one_way size start = ⊥
-CanTakeIn (Some x) one_way size start = place_for x.size x.buffers one_way size ≡ Ok start
+abbrev pub CanHoldIn : Option ProcessWindow → Bool → ℕ → ℕ → Type 0
+CanHoldIn None one_way size start = ⊥
+CanHoldIn (Some x) one_way size start = start_for x.size x.buffers one_way size ≡ Ok start
 
 -- the window of this process can take a buffer of this size there now
 unfoldable pub CanAdd : Windows → ℕ → Bool → ℕ → ℕ → Type 0
-CanAdd t p one_way size start = CanTakeIn (find (is_of p) (map seen t.windows.items)) one_way size start
+CanAdd t p one_way size start = CanHoldIn (find (is_of p) (map seen t.windows.items)) one_way size start
 
 -- ---- buffers
 

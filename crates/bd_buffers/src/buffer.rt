@@ -1,7 +1,7 @@
 //! A buffer: its room, its place and its pointer.
 
 ghost use Rattle.std.specs.Prelude.{◌≡◌, ◌+◌, ◌<◌, ◌^◌, ◌||◌, nat_le, ℕ};
-ghost use Rattle.bd_space.specs.Room as room;
+ghost use Rattle.bd_space.specs.Windows as room;
 ghost use Rattle.bd_space.specs.Freeing as freeing;
 ghost use Rattle.bd_buffers.specs.Buffer as spec;
 

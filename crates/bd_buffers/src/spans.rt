@@ -2,7 +2,7 @@
 
 ghost use Rattle.std.specs.Prelude.{◌≡◌, ◌+◌, ◌*◌, ◌<◌, ◌≤◌, ◌^◌, ◌==◌, not, true, false, IsTrue, MatchOption, length, slice_index_or, filter, find, sum_by, option_copied, vec_len, vec_capacity, Bool, ℕ};
 ghost use Rattle.std.specs.List.{list_all};
-ghost use Rattle.bd_space.specs.Room as room;
+ghost use Rattle.bd_space.specs.Windows as room;
 ghost use Rattle.bd_space.specs.Words.{changed};
 ghost use Rattle.bd_space.specs.Freeing.{is_made_at};
 ghost use Rattle.bd_space.specs.ReadItems.{hand_out};
@@ -25,11 +25,11 @@ fn blocker(buffers: &[Buffer], p: u32, n: u32) -> Option<&Buffer>
 }
 
 // The least place with room for n bytes: past each buffer that they would meet.
-fn least_place(size: u32, buffers: &[Buffer], n: u32) -> Option<u32>
+fn least_start(size: u32, buffers: &[Buffer], n: u32) -> Option<u32>
     requires window { IsWindow size buffers.now }
     requires filled { 8 ≤ n }
     requires small { n ≤ 8388608 }
-    ensures { result ≡ room.place_in size buffers.now n }
+    ensures { result ≡ room.start_in size buffers.now n }
 {
     let mut p = 0;
     while p + n <= size {
@@ -50,7 +50,7 @@ fn one_way_total(buffers: &[Buffer]) -> u32
 }
 
 // Whether the one-way buffers and n more bytes would take more than half of the window.
-#[tactic(auto, unfolding(bd_space::specs::Room::over_budget_in))]
+#[tactic(auto, unfolding(bd_space::specs::Windows::over_budget_in))]
 fn is_over_budget(size: u32, buffers: &[Buffer], n: u32) -> bool
     requires window { IsWindow size buffers.now }
     requires small { n ≤ 8388608 }
@@ -60,14 +60,14 @@ fn is_over_budget(size: u32, buffers: &[Buffer], n: u32) -> bool
 }
 
 // The place of a new buffer that takes n bytes.
-#[tactic(auto, unfolding(bd_space::specs::Room::place_for))]
+#[tactic(auto, unfolding(bd_space::specs::Windows::start_for))]
 fn place_of(size: u32, buffers: &[Buffer], one_way: bool, n: u32) -> Result<u32, Cause>
     requires window { IsWindow size buffers.now }
     requires filled { 8 ≤ n }
     requires small { n ≤ 8388608 }
-    ensures { result ≡ room.place_for size buffers.now one_way n }
+    ensures { result ≡ room.start_for size buffers.now one_way n }
 {
-    let Some(place) = least_place(size, buffers, n) else {
+    let Some(place) = least_start(size, buffers, n) else {
         return Err(Cause::NoRoom);
     };
     if one_way && is_over_budget(size, buffers, n) {
@@ -77,7 +77,7 @@ fn place_of(size: u32, buffers: &[Buffer], one_way: bool, n: u32) -> Result<u32,
 }
 
 /// The place of a new buffer for data and offsets of these sizes, in bytes.
-pub fn place_for(
+pub fn start_for(
     size: u32,
     buffers: &[Buffer],
     one_way: bool,
@@ -85,7 +85,7 @@ pub fn place_for(
     offsets_size: u64,
 ) -> Result<u32, Cause>
     requires { IsWindow size buffers.now }
-    ensures { result ≡ room.place_for size buffers.now one_way (room.needed data_size offsets_size) }
+    ensures { result ≡ room.start_for size buffers.now one_way (room.needed data_size offsets_size) }
 {
     if data_size > u64::from(size) || offsets_size > u64::from(size) {
         return Err(Cause::NoRoom);

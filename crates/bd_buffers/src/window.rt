@@ -3,7 +3,7 @@
 ghost use Rattle.std.specs.Prelude.{◌≡◌, ◌+◌, ◌*◌, ◌%◌, ◌≤◌, ◌==◌, [], ◌∷◌, ◌++◌, not, ℕ, Bool, List, length, filter, find, IsTrue, IsOk, IfOk, IfErr, IfSome, OnOk, OnErr, option_map, option_copied, None};
 ghost use Rattle.bd_space.specs.declared.space.Buffer.{Buffer};
 ghost use Rattle.bd_space.specs.Words.{changed};
-ghost use Rattle.bd_space.specs.Room.{needed, place_for};
+ghost use Rattle.bd_space.specs.Windows.{needed, start_for};
 ghost use Rattle.bd_space.specs.Freeing.{is_made_at};
 ghost use Rattle.bd_space.specs.ReadItems.{hand_out};
 ghost use Rattle.bd_space.specs.Returns.{buffer_in};
@@ -39,8 +39,8 @@ impl Model for Window {
 
 impl Window {
     ghost use Rattle.bd_buffers.specs.Buffer.{IsPlaced, at_pointer};
-    ghost use Rattle.bd_buffers.specs.Window.{IsLeastRoom, IsInBudget, Refuses, IsWindow, free_check};
-    ghost use Rattle.bd_buffers.specs.Stands.{Stands, CanTake, WindowTells, WindowMakes, Takes, TakesNothing, AnswersBy};
+    ghost use Rattle.bd_buffers.specs.Window.{IsLeastFree, IsInBudget, Refuses, IsWindow, free_check};
+    ghost use Rattle.bd_buffers.specs.Stands.{Stands, CanHold, WindowTells, WindowMakes, Uses, UsesNothing, AnswersBy};
 
     /// An empty window of a size in bytes, a multiple of 8 of at most 4194304. Takes no memory.
     pub fn new(alloc: Global, size: u32) -> Result<Window, AllocError>
@@ -59,25 +59,25 @@ impl Window {
     /// then `OverBudget` where one-way buffers would take more than half of the window.
     pub fn place(&self, one_way: bool, data_size: u64, offsets_size: u64) -> Result<u32, Cause>
         ensures computed { WindowTells (Stands self.now) result
-            (λ size bs. place_for size bs one_way (needed data_size offsets_size)) }
-        ensures can_take { IfOk result (λ p. CanTake self.now one_way (needed data_size offsets_size) p) }
+            (λ size bs. start_for size bs one_way (needed data_size offsets_size)) }
+        ensures can_take { IfOk result (λ p. CanHold self.now one_way (needed data_size offsets_size) p) }
         ensures least { (size : ℕ) (bs : List Buffer) → Stands self.now size bs
-            → IfOk result (λ p. IsLeastRoom size bs (needed data_size offsets_size) p) }
+            → IfOk result (λ p. IsLeastFree size bs (needed data_size offsets_size) p) }
         ensures budget { (size : ℕ) (bs : List Buffer) → Stands self.now size bs
             → IfOk result (λ p. IsTrue one_way → IsInBudget size bs (needed data_size offsets_size)) }
         ensures cause { (size : ℕ) (bs : List Buffer) → Stands self.now size bs
             → IfErr result (λ x. Refuses size bs one_way (needed data_size offsets_size) x) }
     {
-        spans::place_for(self.size, &self.buffers, one_way, data_size, offsets_size)
+        spans::start_for(self.size, &self.buffers, one_way, data_size, offsets_size)
     }
 
     /// Makes room to note one more buffer. The window stays as it was, also on an `Err`.
     pub fn reserve(&mut self) -> Result<(), AllocError>
         ensures stands { WindowMakes (Stands self.old) (Stands self.new) (λ bs. bs) }
-        ensures can_take { (one_way : Bool) (size start : ℕ) → CanTake self.old one_way size start
-            → CanTake self.new one_way size start }
+        ensures can_take { (one_way : Bool) (size start : ℕ) → CanHold self.old one_way size start
+            → CanHold self.new one_way size start }
         ensures room { OnOk result (1 ≤ self.new.room) }
-        ensures kept { TakesNothing self.old self.new }
+        ensures kept { UsesNothing self.old self.new }
         // Memory was asked for: there was no room.
         ensures grown { OnErr result (self.old.room ≡ 0) }
     {
@@ -88,9 +88,9 @@ impl Window {
     pub fn commit(&mut self, buffer: Buffer)
         requires room { 1 ≤ self.old.room }
         requires sized { buffer.size ≡ needed (length buffer.bytes) (length buffer.offsets) }
-        requires can_take { CanTake self.old buffer.one_way buffer.size buffer.start }
+        requires can_take { CanHold self.old buffer.one_way buffer.size buffer.start }
         ensures stands { WindowMakes (Stands self.old) (Stands self.new) (λ bs. bs ++ buffer ∷ []) }
-        ensures room { Takes self.old self.new 1 }
+        ensures room { Uses self.old self.new 1 }
     {
         self.buffers.push_reserved(buffer);
     }
@@ -126,7 +126,7 @@ impl Window {
     /// Ends the buffer made there.
     pub fn free(&mut self, made: u32)
         ensures stands { WindowMakes (Stands self.old) (Stands self.new) (filter (λ b. not (is_made_at made b))) }
-        ensures room { TakesNothing self.old self.new }
+        ensures room { UsesNothing self.old self.new }
     {
         spans::end(&mut self.buffers, made);
     }
@@ -134,7 +134,7 @@ impl Window {
     /// Marks the buffer made there as handed out.
     pub fn hand_out(&mut self, made: u32)
         ensures stands { WindowMakes (Stands self.old) (Stands self.new) (changed (is_made_at made) hand_out) }
-        ensures room { TakesNothing self.old self.new }
+        ensures room { UsesNothing self.old self.new }
     {
         spans::hand_out(&mut self.buffers, made);
     }
@@ -159,7 +159,7 @@ impl Window {
         ensures stands { (size : ℕ) (bs : List Buffer) (lost : ℕ → Bool) → Stands self.old size bs
             → AnswersBy (λ made b. F.post is_lost made b) lost
             → Stands self.new size (filter (λ b. not (lost b.made)) bs) }
-        ensures room { TakesNothing self.old self.new }
+        ensures room { UsesNothing self.old self.new }
     {
         spans::end_lost(&mut self.buffers, is_lost);
     }

@@ -11,7 +11,7 @@ ghost use Rattle.bd_space.specs.declared.space.TodoList.TheVariants.{OfThread};
 ghost use Rattle.bd_space.specs.Words.{first_of, changed};
 ghost use Rattle.bd_space.specs.Space.{Space, opening};
 ghost use Rattle.bd_space.specs.Seats.{process_in};
-ghost use Rattle.bd_space.specs.Room.{needed, place_for, buffers_of};
+ghost use Rattle.bd_space.specs.Windows.{needed, start_for, buffers_of};
 ghost use Rattle.bd_space.specs.Delivery.{add_buffer};
 ghost use Rattle.bd_space.specs.Freeing.{without_buffer, buffer_at_pointer, is_made_at};
 ghost use Rattle.bd_space.specs.Returns.{buffer_in};
@@ -164,7 +164,7 @@ impl Windows {
         offsets_size: u64,
     ) -> Result<u32, Cause>
         ensures computed { (s : Space) (q : Process) → StandsIn self.now s → process_in s.processes p ≡ Some q
-            → result ≡ place_for q.window (buffers_of s.buffers p) one_way (needed data_size offsets_size) }
+            → result ≡ start_for q.window (buffers_of s.buffers p) one_way (needed data_size offsets_size) }
         ensures can_add { IfOk result (λ start. CanAdd self.now p one_way (needed data_size offsets_size) start) }
         ensures fits { IfOk result (λ start. needed data_size offsets_size ≤ 4194304) }
         ensures no_process { (s : Space) → StandsIn self.now s → process_in s.processes p ≡ None → result ≡ Err NoRoom }

@@ -46,7 +46,7 @@ abbrev pub turn_count : CallTable → ℕ
 turn_count t = (rooms t).turn_count
 
 -- a change takes at most so much room, and adds at most so many frames and one-way calls
-pub record Takes (old new : CallTable) (room : Room) : Type 0 where
+pub record Uses (old new : CallTable) (room : Room) : Type 0 where
   pub threads_fit : thread_room old ≤ thread_room new + room.threads
   pub frames_fit : frame_room old ≤ frame_room new + room.frames
   pub turns_fit : turn_room old ≤ turn_room new + room.turns
@@ -57,8 +57,8 @@ pub record Takes (old new : CallTable) (room : Room) : Type 0 where
 abbrev pub nothing : Room
 nothing = record { threads = 0; frames = 0; turns = 0; works = 0 }
 
-abbrev pub TakesNothing : CallTable → CallTable → Type 0
-TakesNothing old new = Takes old new nothing
+abbrev pub UsesNothing : CallTable → CallTable → Type 0
+UsesNothing old new = Uses old new nothing
 
 -- room for a thread, a frame, a one-way call and so many work items, beside those that settling and ripening may make
 pub record HasRoom (t : CallTable) (works : ℕ) : Type 0 where

@@ -234,7 +234,7 @@ impl CallTable {
     ghost use Rattle.bd_space.specs.Transactions.{call_out};
     ghost use Rattle.bd_space.specs.Tables.{Tells, Makes};
     ghost use Rattle.bd_calls.specs.Stands.{Stands, StandsFor, MakesAt};
-    ghost use Rattle.bd_calls.specs.Room.{Takes, TakesNothing, nothing, frame_room, work_room, frame_count};
+    ghost use Rattle.bd_calls.specs.Room.{Uses, UsesNothing, nothing, frame_room, work_room, frame_count};
 
     /// The frame of the call made at this place.
     pub fn frame(&self, made: u32) -> Option<Frame>
@@ -272,7 +272,7 @@ impl CallTable {
         requires frames { 1 ≤ frame_room self.old }
         requires works { 1 ≤ work_room self.old }
         ensures stands { MakesAt place (StandsFor self.old) (StandsFor self.new) (λ s. call_out s seat process) }
-        ensures takes { Takes self.old self.new (record nothing { frames = 1; works = 1 }) }
+        ensures uses { Uses self.old self.new (record nothing { frames = 1; works = 1 }) }
     {
         let parent = innermost_made(&self.frames, seat);
         let list = self.goes_to(seat, process);
@@ -289,7 +289,7 @@ impl CallTable {
     /// A call's frame closes.
     pub fn close(&mut self, made: u32)
         ensures stands { Makes (StandsFor self.old) (StandsFor self.new) (λ s. spec.closed s made) }
-        ensures takes { TakesNothing self.old self.new }
+        ensures uses { UsesNothing self.old self.new }
     {
         close_frame(&mut self.frames, made);
     }
@@ -313,7 +313,7 @@ impl CallTable {
         requires { 1 ≤ work_room self.old }
         ensures stands { MakesAt place (StandsFor self.old) (StandsFor self.new)
             (λ s. settling.settle_one s (Some frame)) }
-        ensures takes { Takes self.old self.new (record nothing { works = 1 }) }
+        ensures uses { Uses self.old self.new (record nothing { works = 1 }) }
     {
         self.close(frame.made);
         self.tell_caller(place, frame, WorkKind::Verdict(Return::DeadReply));
@@ -325,7 +325,7 @@ impl CallTable {
         requires { 1 ≤ work_room self.old }
         ensures stands { MakesAt place (StandsFor self.old) (StandsFor self.new) settling.settle_step }
         ensures settled { (s : Space) → StandsFor self.old s → result ≡ false → settling.settle_step s ≡ s }
-        ensures takes { Takes self.old self.new (record nothing { works = 1 }) }
+        ensures uses { Uses self.old self.new (record nothing { works = 1 }) }
     {
         match self.oldest_abandoned() {
             Some(frame) => {
@@ -342,7 +342,7 @@ impl CallTable {
     pub fn settle(&mut self, place: u32)
         requires { frame_count self.old ≤ work_room self.old }
         ensures stands { MakesAt place (StandsFor self.old) (StandsFor self.new) settling.settle }
-        ensures takes { Takes self.old self.new (record nothing { works = frame_count self.old }) }
+        ensures uses { Uses self.old self.new (record nothing { works = frame_count self.old }) }
     {
         for _settled in 0..self.count_frames() {
             if !self.settle_step(place) {

@@ -26,7 +26,7 @@ impl CallTable {
     ghost use Rattle.bd_space.specs.ReadItems as reading;
     ghost use Rattle.bd_space.specs.Tables.{Tells, Makes};
     ghost use Rattle.bd_calls.specs.Stands.{Stands, StandsFor, MakesAt};
-    ghost use Rattle.bd_calls.specs.Room.{Takes, TakesNothing, nothing, HasRoom};
+    ghost use Rattle.bd_calls.specs.Room.{Uses, UsesNothing, nothing, HasRoom};
 
     /// An empty table. Takes no memory.
     pub fn new(alloc: Global) -> CallTable
@@ -56,7 +56,7 @@ impl CallTable {
     /// ripening may make. Fails for want of memory, and then changes nothing either.
     pub fn reserve(&mut self, works: usize) -> Result<(), AllocError>
         ensures stands { Makes (StandsFor self.old) (StandsFor self.new) (λ s. s) }
-        ensures takes { TakesNothing self.old self.new }
+        ensures uses { UsesNothing self.old self.new }
         ensures room { OnOk result (HasRoom self.new works) }
         // Memory was asked for, or would have been past what there can be: there was no room.
         ensures grown { OnErr result (HasRoom self.old works → ⊥) }
@@ -72,7 +72,7 @@ impl CallTable {
     /// one-way call among them is handed out.
     pub fn read_by(&mut self, seat: u32, taken: &[Work])
         ensures stands { Makes (StandsFor self.old) (StandsFor self.new) (λ s. reading.read_by s seat taken.now) }
-        ensures takes { TakesNothing self.old self.new }
+        ensures uses { UsesNothing self.old self.new }
     {
         serve(&mut self.frames, seat, taken);
         remove_taken(&mut self.todo, taken);
@@ -82,7 +82,7 @@ impl CallTable {
     /// The thread of a seat ends: it is gone from its frames, and its list goes with what that would have handed over.
     pub fn thread_goes(&mut self, seat: u32)
         ensures stands { Makes (StandsFor self.old) (StandsFor self.new) (λ s. thread_exits.thread_goes s seat) }
-        ensures takes { TakesNothing self.old self.new }
+        ensures uses { UsesNothing self.old self.new }
     {
         let list = TodoList::OfThread(seat);
         leave_frames(&mut self.frames, &self.todo, seat);
@@ -94,7 +94,7 @@ impl CallTable {
     /// A process without threads ends: its list goes, and the one-way calls in its window.
     pub fn process_goes(&mut self, process: u32)
         ensures stands { Makes (StandsFor self.old) (StandsFor self.new) (λ s. exits.without_process s process) }
-        ensures takes { TakesNothing self.old self.new }
+        ensures uses { UsesNothing self.old self.new }
     {
         let list = TodoList::OfProcess(process);
         lose_unread(&mut self.frames, &self.todo, list);

@@ -56,7 +56,7 @@ impl CallTable {
     ghost use Rattle.bd_space.specs.Commands.{with_looping};
     ghost use Rattle.bd_space.specs.Tables.{Tells, Makes};
     ghost use Rattle.bd_calls.specs.Stands.{Stands, StandsFor, MakesAt};
-    ghost use Rattle.bd_calls.specs.Room.{Takes, TakesNothing, nothing, thread_room};
+    ghost use Rattle.bd_calls.specs.Room.{Uses, UsesNothing, nothing, thread_room};
 
     /// The live thread of a seat.
     pub fn thread(&self, seat: u32) -> Option<Thread>
@@ -80,7 +80,7 @@ impl CallTable {
     pub fn add_thread(&mut self, place: u32, seat: u32, process: u32)
         requires { 1 ≤ thread_room self.old }
         ensures stands { MakesAt place (StandsFor self.old) (StandsFor self.new) (λ s. with_thread s seat process) }
-        ensures takes { Takes self.old self.new (record nothing { threads = 1 }) }
+        ensures uses { Uses self.old self.new (record nothing { threads = 1 }) }
     {
         self.threads.push_reserved(Thread {
             made: place,
@@ -93,7 +93,7 @@ impl CallTable {
     /// The thread of a seat enters or leaves the loop.
     pub fn set_looping(&mut self, seat: u32, looping: bool)
         ensures stands { Makes (StandsFor self.old) (StandsFor self.new) (λ s. with_looping s seat looping) }
-        ensures takes { TakesNothing self.old self.new }
+        ensures uses { UsesNothing self.old self.new }
     {
         mark_looping(&mut self.threads, seat, looping);
     }

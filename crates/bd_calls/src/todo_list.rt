@@ -14,7 +14,7 @@ ghost use Rattle.bd_calls.specs.TodoList.{AnswersBy};
 use crate::frame::innermost_of;
 use crate::table::CallTable;
 use crate::thread::thread_of;
-use crate::work::{hands_over, is_call, is_notice, is_on, is_taken, reply_of, stands_in_way};
+use crate::work::{hands_over, is_call, is_notice, is_on, is_taken, reply_of, keeps_from_calling};
 use bd_space::{Frame, Identity, ObjectId, Thread, TodoList, Work, WorkKind};
 
 fn has_work(todo: &[Work], list: TodoList) -> bool
@@ -24,9 +24,9 @@ fn has_work(todo: &[Work], list: TodoList) -> bool
 }
 
 fn has_in_way(todo: &[Work], list: TodoList) -> bool
-    ensures { result ≡ list_any (λ w. spec.is_on list w && spec.stands_in_way w.kind) todo.now }
+    ensures { result ≡ list_any (λ w. spec.is_on list w && spec.keeps_from_calling w.kind) todo.now }
 {
-    todo.iter().any(|w| is_on(list, w) && stands_in_way(w.kind))
+    todo.iter().any(|w| is_on(list, w) && keeps_from_calling(w.kind))
 }
 
 fn has_notice(todo: &[Work], object: ObjectId) -> bool
@@ -162,7 +162,7 @@ impl CallTable {
     ghost use Rattle.bd_space.specs.Histories.{is_ready};
     ghost use Rattle.bd_space.specs.Tables.{Tells, Makes};
     ghost use Rattle.bd_calls.specs.Stands.{Stands, StandsFor, MakesAt};
-    ghost use Rattle.bd_calls.specs.Room.{Takes, TakesNothing, nothing, work_room};
+    ghost use Rattle.bd_calls.specs.Room.{Uses, UsesNothing, nothing, work_room};
 
     /// Whether an unread call, reply or verdict on a thread's own list keeps it from calling.
     pub fn has_unread(&self, seat: u32) -> bool
@@ -214,7 +214,7 @@ impl CallTable {
     pub fn owe(&mut self, place: u32, list: TodoList, kind: WorkKind)
         requires { 1 ≤ work_room self.old }
         ensures stands { MakesAt place (StandsFor self.old) (StandsFor self.new) (λ s. spec.owe s list kind) }
-        ensures takes { Takes self.old self.new (record nothing { works = 1 }) }
+        ensures uses { Uses self.old self.new (record nothing { works = 1 }) }
     {
         push_work(&mut self.todo, place, list, kind);
     }
@@ -223,7 +223,7 @@ impl CallTable {
     pub fn tell_caller(&mut self, place: u32, frame: Frame, kind: WorkKind)
         requires { 1 ≤ work_room self.old }
         ensures stands { MakesAt place (StandsFor self.old) (StandsFor self.new) (λ s. spec.tell_caller s frame kind) }
-        ensures takes { Takes self.old self.new (record nothing { works = 1 }) }
+        ensures uses { Uses self.old self.new (record nothing { works = 1 }) }
     {
         if let Some(seat) = frame.caller {
             push_work(&mut self.todo, place, TodoList::OfThread(seat), kind);
@@ -240,7 +240,7 @@ impl CallTable {
         ensures stands { (s : Space) → StandsFor self.old s
             → AnswersBy (λ kind b. F.post f kind b) (notices.still_due s.processes s.objects s.references s.deaths)
             → StandsFor self.new (notices.work_goes s) }
-        ensures takes { TakesNothing self.old self.new }
+        ensures uses { UsesNothing self.old self.new }
     {
         keep_kinds(&mut self.todo, f);
     }
@@ -253,7 +253,7 @@ impl CallTable {
             → StandsFor self.new (record s {
               todo = notices.with_notice s.steps s.processes s.references list s.todo x;
             }) }
-        ensures takes { Takes self.old self.new (record nothing { works = 1 }) }
+        ensures uses { Uses self.old self.new (record nothing { works = 1 }) }
     {
         if wanted && !has_notice(&self.todo, object) {
             push_work(&mut self.todo, place, list, WorkKind::Notice(object));
@@ -264,7 +264,7 @@ impl CallTable {
     pub fn withdraw_notice(&mut self, object: ObjectId)
         ensures stands { Makes (StandsFor self.old) (StandsFor self.new)
             (λ s. record s { todo = filter (λ w. not (spec.is_notice object w.kind)) s.todo }) }
-        ensures takes { TakesNothing self.old self.new }
+        ensures uses { UsesNothing self.old self.new }
     {
         withdraw(&mut self.todo, object);
     }

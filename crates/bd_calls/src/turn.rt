@@ -75,7 +75,7 @@ fn hand_out(turns: &mut Vec<Turn>, made: u32)
 
 pub(crate) fn hand_out_taken(turns: &mut Vec<Turn>, taken: &[Work])
     ensures turns { turns.new.items ≡
-        handed_turns (words.first_of (map (λ w. works.handed_over w.kind) taken.now)) turns.old.items }
+        handed_turns (words.first_of (map (λ w. works.hands_out w.kind) taken.now)) turns.old.items }
     ensures len { vec_len turns.new ≡ vec_len turns.old }
     ensures capacity { vec_capacity turns.new ≡ vec_capacity turns.old }
 {
@@ -115,14 +115,14 @@ impl CallTable {
     ghost use Rattle.bd_space.specs.Freeing.{without_buffer};
     ghost use Rattle.bd_space.specs.Tables.{Tells, Makes};
     ghost use Rattle.bd_calls.specs.Stands.{Stands, StandsFor, MakesAt};
-    ghost use Rattle.bd_calls.specs.Room.{Takes, TakesNothing, nothing, turn_room, work_room, turn_count};
+    ghost use Rattle.bd_calls.specs.Room.{Uses, UsesNothing, nothing, turn_room, work_room, turn_count};
 
     /// The one-way call of a new buffer comes in, if it is one.
     pub fn add_turn(&mut self, turn: Option<Turn>)
         requires { 1 ≤ turn_room self.old }
         ensures stands { (s : Space) (b : Buffer) → StandsFor self.old s → turn ≡ spec.turn_of b
             → StandsFor self.new (add_buffer s b) }
-        ensures takes { Takes self.old self.new (record nothing { turns = 1 }) }
+        ensures uses { Uses self.old self.new (record nothing { turns = 1 }) }
     {
         push_turn(&mut self.turns, turn);
     }
@@ -130,7 +130,7 @@ impl CallTable {
     /// The one-way call of a freed buffer goes, if it is one.
     pub fn drop_turn(&mut self, made: u32)
         ensures stands { Makes (StandsFor self.old) (StandsFor self.new) (λ s. without_buffer s made) }
-        ensures takes { TakesNothing self.old self.new }
+        ensures uses { UsesNothing self.old self.new }
     {
         remove_turn(&mut self.turns, made);
     }
@@ -140,7 +140,7 @@ impl CallTable {
     pub fn ripen(&mut self, place: u32)
         requires { turn_count self.old ≤ work_room self.old }
         ensures stands { MakesAt place (StandsFor self.old) (StandsFor self.new) spec.ripen }
-        ensures takes { Takes self.old self.new (record nothing { works = turn_count self.old }) }
+        ensures uses { Uses self.old self.new (record nothing { works = turn_count self.old }) }
     {
         push_ripe(&mut self.todo, &self.turns, place);
     }

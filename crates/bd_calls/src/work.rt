@@ -15,8 +15,8 @@ pub(crate) fn is_on(list: TodoList, work: &Work) -> bool
 }
 
 // A call, a reply or a verdict.
-pub(crate) fn stands_in_way(kind: WorkKind) -> bool
-    ensures { result ≡ spec.stands_in_way kind }
+pub(crate) fn keeps_from_calling(kind: WorkKind) -> bool
+    ensures { result ≡ spec.keeps_from_calling kind }
 {
     matches!(
         kind,
@@ -38,8 +38,8 @@ pub(crate) fn is_call(buffer: u32, kind: WorkKind) -> bool
 }
 
 /// The buffer that is handed over by reading a work item of this kind.
-pub(crate) fn handed_over(kind: WorkKind) -> Option<u32>
-    ensures { result ≡ spec.handed_over kind }
+pub(crate) fn hands_out(kind: WorkKind) -> Option<u32>
+    ensures { result ≡ spec.hands_out kind }
 {
     match kind {
         WorkKind::Call(buffer) | WorkKind::Reply(buffer) => Some(buffer),
@@ -48,9 +48,9 @@ pub(crate) fn handed_over(kind: WorkKind) -> Option<u32>
 }
 
 pub(crate) fn hands_over(work: &Work, buffer: u32) -> bool
-    ensures { result ≡ words.is_some_and (spec.handed_over work.now.kind) (λ m. m == buffer) }
+    ensures { result ≡ words.is_some_and (spec.hands_out work.now.kind) (λ m. m == buffer) }
 {
-    handed_over(work.kind) == Some(buffer)
+    hands_out(work.kind) == Some(buffer)
 }
 
 // Where the reply of this kind was made.
@@ -71,10 +71,10 @@ pub(crate) fn is_taken(taken: &[Work], work: &Work) -> bool
 
 // The buffer that is handed over by reading these.
 pub(crate) fn handed_by(taken: &[Work]) -> Option<u32>
-    ensures { result ≡ words.first_of (map (λ w. spec.handed_over w.kind) taken.now) }
+    ensures { result ≡ words.first_of (map (λ w. spec.hands_out w.kind) taken.now) }
 {
     for work in taken {
-        let buffer = handed_over(work.kind);
+        let buffer = hands_out(work.kind);
         if buffer.is_some() {
             return buffer;
         }

@@ -5,7 +5,7 @@ use Rattle.std.specs.List.{fold}
 use Rattle.bd_uapi.specs.declared.command.TransactionData.{TransactionData}
 use Rattle.bd_space.specs.declared.space.Buffer.{Buffer}
 use Rattle.bd_space.specs.declared.space.Actor.{Actor}
-use Rattle.bd_space.specs.Room.{needed}
+use Rattle.bd_space.specs.Windows.{needed}
 use Rattle.bd_engine.specs.Deliveries.{OnlyWorks}
 use Rattle.std.proofs.lemmas.List.Sums.{fold_more}
 use Rattle.bd_uapi.specs.declared.object.FlatObject.{FlatObject}

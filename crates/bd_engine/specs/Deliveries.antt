@@ -9,7 +9,7 @@ use Rattle.bd_space.specs.declared.space.Object.{Object}
 use Rattle.bd_space.specs.declared.space.Item.{Item}
 use Rattle.bd_space.specs.Words.{and_then}
 use Rattle.bd_space.specs.Space.{Space}
-use Rattle.bd_space.specs.Room.{needed, buffers_of, place_for}
+use Rattle.bd_space.specs.Windows.{needed, buffers_of, start_for}
 use Rattle.bd_space.specs.Parcels.{Sending}
 use Rattle.bd_space.specs.Delivery.{Delivery}
 use Rattle.bd_objects.specs.Room as object_rooms
@@ -44,7 +44,7 @@ pub record IsDeliverable (t : Tables) (d : TransactionData) (v : Delivery) : Typ
 -- what is delivered to this process, on this object, where its window has a place
 abbrev pub placed_for : Space → TransactionData → Process → Option ObjectId → Bool → Sending → Result Delivery Cause
 placed_for s d receiver target one_way x =
-    and_then (place_for receiver.window (buffers_of s.buffers receiver.made) one_way (size_of d))
+    and_then (start_for receiver.window (buffers_of s.buffers receiver.made) one_way (size_of d))
     (λ start. Ok (record { receiver = receiver; target = target; one_way = one_way; sending = x; start = start }))
 
 -- memory for all that a delivery and what follows from it take
@@ -54,7 +54,7 @@ pub record IsReady (t : Tables) (v : Delivery) : Type 0 where
 
 -- a change takes room for so many frames, one-way calls and work items, and adds at most so many objects
 pub record Spends (old new : Tables) (objects frames turns works : ℕ) : Type 0 where
-  pub calls : call_rooms.Takes old.calls new.calls (record call_rooms.nothing { frames = frames; turns = turns; works = works })
+  pub calls : call_rooms.Uses old.calls new.calls (record call_rooms.nothing { frames = frames; turns = turns; works = works })
   pub objects_count : object_rooms.object_count new.objects ≤ object_rooms.object_count old.objects + objects
 
 abbrev pub SpendsNothing : Tables → Tables → Type 0
@@ -62,7 +62,7 @@ SpendsNothing old new = Spends old new 0 0 0 0
 
 -- a change of work items alone takes room for at most so many
 pub record OnlyWorks (old new : Tables) (works : ℕ) : Type 0 where
-  pub calls : call_rooms.Takes old.calls new.calls (record call_rooms.nothing { works = works })
+  pub calls : call_rooms.Uses old.calls new.calls (record call_rooms.nothing { works = works })
   pub objects_are : new.objects ≡ old.objects
   pub windows_are : new.windows ≡ old.windows
 

@@ -3,7 +3,7 @@
 ghost use Rattle.std.specs.Prelude.{◌≡◌, ◌≤◌, All, length, Some};
 ghost use Rattle.bd_space.specs.Space.{Space};
 ghost use Rattle.bd_space.specs.Seats.{process_in};
-ghost use Rattle.bd_space.specs.Room as room;
+ghost use Rattle.bd_space.specs.Windows as room;
 ghost use Rattle.bd_space.specs.Turns as turns;
 ghost use Rattle.bd_space.specs.Delivery as delivery;
 ghost use Rattle.bd_space.specs.Translation as translations;
@@ -13,7 +13,7 @@ ghost use Rattle.bd_space.specs.Outcomes.{completed};
 ghost use Rattle.bd_calls.specs.Room as call_rooms;
 ghost use Rattle.bd_buffers.specs.WindowsStand.{CanAdd, buffer_room};
 ghost use Rattle.bd_buffers.specs.Buffer.{freed_buffer};
-ghost use Rattle.bd_engine.specs.Stands.{Before, Within, Tells, CanFollow, MakesWithin, TakesNothing};
+ghost use Rattle.bd_engine.specs.Stands.{Before, Within, Tells, CanFollow, MakesWithin, UsesNothing};
 ghost use Rattle.bd_engine.specs.Meets.{IsBy, IsStep};
 ghost use Rattle.bd_engine.specs.Deliveries.{IsInside, Spends};
 
@@ -97,7 +97,7 @@ impl Tables {
     // The buffer goes, with the references that it held and its turn.
     fn drop_buffer(&mut self, made: u32)
         ensures stands { MakesWithin self.old self.new (λ s. freeing.without_buffer s made) }
-        ensures takes { TakesNothing self.old self.new }
+        ensures uses { UsesNothing self.old self.new }
     {
         self.windows.free(made);
         self.objects.without_buffer(made);

@@ -10,7 +10,7 @@ ghost use Rattle.bd_space.specs.Settle.{settle};
 ghost use Rattle.bd_space.specs.Outcomes.{completed};
 ghost use Rattle.bd_objects.specs.Room.{object_count};
 ghost use Rattle.bd_calls.specs.Room.{work_room, frame_count, turn_count};
-ghost use Rattle.bd_engine.specs.Stands.{StandsAt, Takes, CanFollow, MakesWithin, TakesNothing};
+ghost use Rattle.bd_engine.specs.Stands.{StandsAt, Uses, CanFollow, MakesWithin, UsesNothing};
 ghost use Rattle.bd_engine.specs.Notified.{notified};
 
 use crate::tables::Tables;
@@ -20,7 +20,7 @@ impl Tables {
     // Names go with the references that they rest on, objects that nothing keeps, and death notifications with their names.
     fn shed(&mut self)
         ensures stands { MakesWithin self.old self.new (λ s. deaths_go (objects_go (names_go s))) }
-        ensures takes { TakesNothing self.old self.new }
+        ensures uses { UsesNothing self.old self.new }
     {
         self.objects.names_go();
         self.objects.objects_go(self.processes.as_slice());
@@ -30,7 +30,7 @@ impl Tables {
     // Work items go of which nothing is left to say.
     fn work_goes(&mut self)
         ensures stands { MakesWithin self.old self.new work_goes }
-        ensures takes { TakesNothing self.old self.new }
+        ensures uses { UsesNothing self.old self.new }
     {
         let objects = &self.objects;
         let processes = self.processes.as_slice();
@@ -43,7 +43,7 @@ impl Tables {
         requires { 1 ≤ work_room self.old.calls }
         ensures stands { (n : ℕ) (s : Space) → StandsAt n self.old (notified s k)
             → StandsAt n self.new (notified s (k + 1)) }
-        ensures takes { Takes self.old self.new 0 0 0 1 }
+        ensures uses { Uses self.old self.new 0 0 0 1 }
     {
         if let Some(x) = self.objects.object_at(k) {
             let wanted = self.objects.wants_notice(self.processes.as_slice(), &x);
@@ -56,7 +56,7 @@ impl Tables {
     fn notify(&mut self)
         requires { object_count self.old.objects ≤ work_room self.old.calls }
         ensures stands { MakesWithin self.old self.new notify }
-        ensures takes { Takes self.old self.new 0 0 0 (object_count self.old.objects) }
+        ensures uses { Uses self.old self.new 0 0 0 (object_count self.old.objects) }
     {
         for k in 0..self.objects.object_count() {
             self.notify_at(k);
@@ -67,7 +67,7 @@ impl Tables {
     pub(crate) fn follow(&mut self)
         requires { object_count self.old.objects ≤ work_room self.old.calls }
         ensures stands { MakesWithin self.old self.new follow }
-        ensures takes { Takes self.old self.new 0 0 0 (object_count self.old.objects) }
+        ensures uses { Uses self.old self.new 0 0 0 (object_count self.old.objects) }
     {
         self.shed();
         self.work_goes();
@@ -78,7 +78,7 @@ impl Tables {
     pub(crate) fn settle(&mut self)
         requires { frame_count self.old.calls ≤ work_room self.old.calls }
         ensures stands { MakesWithin self.old self.new settle }
-        ensures takes { Takes self.old self.new 0 0 0 (frame_count self.old.calls) }
+        ensures uses { Uses self.old self.new 0 0 0 (frame_count self.old.calls) }
     {
         self.calls.settle(self.steps);
     }
@@ -87,7 +87,7 @@ impl Tables {
     fn ripen(&mut self)
         requires { turn_count self.old.calls ≤ work_room self.old.calls }
         ensures stands { MakesWithin self.old self.new ripen }
-        ensures takes { Takes self.old self.new 0 0 0 (turn_count self.old.calls) }
+        ensures uses { Uses self.old self.new 0 0 0 (turn_count self.old.calls) }
     {
         self.calls.ripen(self.steps);
     }
@@ -96,7 +96,7 @@ impl Tables {
     pub(crate) fn complete(&mut self)
         requires { CanFollow self.old 0 }
         ensures stands { MakesWithin self.old self.new completed }
-        ensures takes { Takes self.old self.new 0 0 0
+        ensures uses { Uses self.old self.new 0 0 0
             (turn_count self.old.calls + object_count self.old.objects + frame_count self.old.calls) }
     {
         self.ripen();

@@ -13,7 +13,7 @@ ghost use Rattle.bd_space.specs.Space.{Space};
 ghost use Rattle.bd_space.specs.ProcessExits as exits;
 ghost use Rattle.bd_objects.specs.Room.{death_room, death_count};
 ghost use Rattle.bd_calls.specs.Room.{work_room};
-ghost use Rattle.bd_engine.specs.Stands.{Takes, CanFollow, MakesWithin, TakesNothing, StandsAt};
+ghost use Rattle.bd_engine.specs.Stands.{Uses, CanFollow, MakesWithin, UsesNothing, StandsAt};
 ghost use Rattle.bd_engine.specs.Meets.{IsBy, IsStep};
 ghost use Rattle.bd_engine.specs.Telling.{owed, owed_deaths};
 
@@ -37,7 +37,7 @@ impl Tables {
     fn add_death(&mut self, p: u32, o: ObjectId, cookie: u64, phase: Phase)
         requires { 1 ≤ death_room self.old.objects }
         ensures stands { MakesWithin self.old self.new (λ s. deaths.with_death s p o cookie phase) }
-        ensures takes { TakesNothing self.old self.new }
+        ensures uses { UsesNothing self.old self.new }
     {
         self.objects.with_death(self.steps, p, o, cookie, phase);
     }
@@ -48,7 +48,7 @@ impl Tables {
         requires works { 1 ≤ work_room self.old.calls }
         ensures stands { MakesWithin self.old self.new
             (λ s. todo.owe (deaths.with_death s p o cookie Queued) (OfProcess p) (Death s.steps)) }
-        ensures takes { Takes self.old self.new 0 0 0 1 }
+        ensures uses { Uses self.old self.new 0 0 0 1 }
     {
         let place = self.steps;
         self.add_death(p, o, cookie, Phase::Queued);
@@ -60,7 +60,7 @@ impl Tables {
         requires deaths { 1 ≤ death_room self.old.objects }
         requires works { 1 ≤ work_room self.old.calls }
         ensures stands { MakesWithin self.old self.new (λ s. deaths.requested s p o cookie) }
-        ensures takes { Takes self.old self.new 0 0 0 1 }
+        ensures uses { Uses self.old self.new 0 0 0 1 }
     {
         if self.objects.owner_lives(self.processes.as_slice(), o) {
             self.add_death(p, o, cookie, Phase::Armed);
@@ -98,7 +98,7 @@ impl Tables {
     fn end_death(&mut self, seat: u32, x: DeathNotification)
         requires { 1 ≤ work_room self.old.calls }
         ensures stands { MakesWithin self.old self.new (λ s. clearing.death_ended s seat x) }
-        ensures takes { Takes self.old self.new 0 0 0 1 }
+        ensures uses { Uses self.old self.new 0 0 0 1 }
     {
         self.objects.without_death(x.made);
         self.add_work(TodoList::OfThread(seat), WorkKind::Cleared(x.cookie));
@@ -108,7 +108,7 @@ impl Tables {
     fn drop_request(&mut self, seat: u32, x: DeathNotification)
         requires { 1 ≤ work_room self.old.calls }
         ensures stands { MakesWithin self.old self.new (λ s. clearing.cleared s seat x) }
-        ensures takes { Takes self.old self.new 0 0 0 1 }
+        ensures uses { Uses self.old self.new 0 0 0 1 }
     {
         if is_out(x.phase) {
             self.objects.mark_cleared(x.made);
@@ -146,7 +146,7 @@ impl Tables {
     fn know_death(&mut self, seat: u32, x: DeathNotification)
         requires { 1 ≤ work_room self.old.calls }
         ensures stands { MakesWithin self.old self.new (λ s. clearing.death_done s seat x) }
-        ensures takes { Takes self.old self.new 0 0 0 1 }
+        ensures uses { Uses self.old self.new 0 0 0 1 }
     {
         if x.cleared {
             self.end_death(seat, x);
@@ -185,7 +185,7 @@ impl Tables {
         requires { 1 ≤ work_room self.old.calls }
         ensures stands { (n : ℕ) (s : Space) → StandsAt n self.old (owed s p k)
             → StandsAt n self.new (owed s p (k + 1)) }
-        ensures takes { Takes self.old self.new 0 0 0 1 }
+        ensures uses { Uses self.old self.new 0 0 0 1 }
     {
         if let Some(x) = self.objects.death_at(k) {
             if self.objects.tells_death(p, &x) {
@@ -199,7 +199,7 @@ impl Tables {
     fn owe_deaths(&mut self, p: u32)
         requires { death_count self.old.objects ≤ work_room self.old.calls }
         ensures stands { MakesWithin self.old self.new (λ s. record s { todo = owed_deaths s p s.deaths }) }
-        ensures takes { Takes self.old self.new 0 0 0 (death_count self.old.objects) }
+        ensures uses { Uses self.old self.new 0 0 0 (death_count self.old.objects) }
     {
         for k in 0..self.objects.death_count() {
             self.owe_death_at(p, k);
@@ -210,7 +210,7 @@ impl Tables {
     pub(crate) fn tell_deaths(&mut self, p: u32)
         requires { death_count self.old.objects ≤ work_room self.old.calls }
         ensures stands { MakesWithin self.old self.new (λ s. exits.tell_deaths s p) }
-        ensures takes { Takes self.old self.new 0 0 0 (death_count self.old.objects) }
+        ensures uses { Uses self.old self.new 0 0 0 (death_count self.old.objects) }
     {
         self.owe_deaths(p);
         self.objects.tell_deaths(p);

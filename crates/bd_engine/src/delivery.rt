@@ -6,7 +6,7 @@ ghost use Rattle.bd_uapi.specs.Kinds as kinds;
 ghost use Rattle.bd_space.specs.References.{object_in};
 ghost use Rattle.bd_space.specs.Space.{Space};
 ghost use Rattle.bd_space.specs.Seats.{process_in};
-ghost use Rattle.bd_space.specs.Room as room;
+ghost use Rattle.bd_space.specs.Windows as room;
 ghost use Rattle.bd_space.specs.Words as words;
 ghost use Rattle.bd_space.specs.Parcels as parcels;
 ghost use Rattle.bd_space.specs.Names.{names_go};

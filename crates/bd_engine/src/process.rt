@@ -11,7 +11,7 @@ ghost use Rattle.bd_space.specs.ThreadExits as thread_exits;
 ghost use Rattle.bd_objects.specs.Room.{death_count, object_count};
 ghost use Rattle.bd_calls.specs.Room.{thread_room, work_room, frame_count};
 ghost use Rattle.bd_buffers.specs.WindowsStand.{Stands, window_room};
-ghost use Rattle.bd_engine.specs.Stands.{Tells, Before, Within, TellsBefore, Takes, MakesWithin, TakesNothing};
+ghost use Rattle.bd_engine.specs.Stands.{Tells, Before, Within, TellsBefore, Uses, MakesWithin, UsesNothing};
 ghost use Rattle.bd_engine.specs.Meets.{IsAny, IsBy, IsKept, IsStep};
 
 use crate::answer::Plain;
@@ -121,7 +121,7 @@ impl Tables {
     // The threads of these seats end, one after the other.
     fn threads_go(&mut self, seats: &[u32])
         ensures stands { MakesWithin self.old self.new (λ s. fold thread_exits.thread_goes s seats.now) }
-        ensures takes { TakesNothing self.old self.new }
+        ensures uses { UsesNothing self.old self.new }
         ensures deaths { death_count self.new.objects ≤ death_count self.old.objects }
     {
         for seat in seats {
@@ -132,7 +132,7 @@ impl Tables {
     // All goes that is the process's.
     fn without_process(&mut self, p: u32)
         ensures stands { MakesWithin self.old self.new (λ s. exits.without_process s p) }
-        ensures takes { TakesNothing self.old self.new }
+        ensures uses { UsesNothing self.old self.new }
         ensures deaths { death_count self.new.objects ≤ death_count self.old.objects }
     {
         self.manager = self.objects.manager_without(self.manager, p);
@@ -183,7 +183,7 @@ impl Tables {
         ensures stands { (s : Space) → Within self.old s
             → seats.now ≡ map exits.seat_of (filter (λ t. t.process == p) s.threads)
             → Within self.new (exits.tell_deaths (exits.without_process (exits.threads_go s p) p) p) }
-        ensures takes { Takes self.old self.new 0 0 0 (death_count self.old.objects) }
+        ensures uses { Uses self.old self.new 0 0 0 (death_count self.old.objects) }
     {
         self.threads_go(seats);
         self.without_process(p);

@@ -13,7 +13,7 @@ ghost use Rattle.bd_space.specs.Returns as returns;
 ghost use Rattle.bd_buffers.specs.WindowsStand.{made_of_buffer};
 ghost use Rattle.bd_objects.specs.Room.{reference_room, object_count};
 ghost use Rattle.bd_calls.specs.Room.{work_room};
-ghost use Rattle.bd_engine.specs.Stands.{Before, Within, TellsBefore, TellsWithin, TakesNothing};
+ghost use Rattle.bd_engine.specs.Stands.{Before, Within, TellsBefore, TellsWithin, UsesNothing};
 ghost use Rattle.bd_engine.specs.Meets.{Meets, IsAny, IsBy, IsKept, IsStepTwice};
 ghost use Rattle.bd_engine.specs.Taking.{AreTaken};
 
@@ -42,8 +42,8 @@ fn ends_read(kind: WorkKind) -> bool
     )
 }
 
-fn handed_over(kind: WorkKind) -> Option<u32>
-    ensures { result ≡ todo.handed_over kind }
+fn hands_out(kind: WorkKind) -> Option<u32>
+    ensures { result ≡ todo.hands_out kind }
 {
     match kind {
         WorkKind::Call(buffer) | WorkKind::Reply(buffer) => Some(buffer),
@@ -53,10 +53,10 @@ fn handed_over(kind: WorkKind) -> Option<u32>
 
 // The buffer that is handed over by reading these.
 fn handed_by(works: &[Work]) -> Option<u32>
-    ensures { result ≡ first_of (map (λ w. todo.handed_over w.kind) works.now) }
+    ensures { result ≡ first_of (map (λ w. todo.hands_out w.kind) works.now) }
 {
     for work in works {
-        let buffer = handed_over(work.kind);
+        let buffer = hands_out(work.kind);
         if buffer.is_some() {
             return buffer;
         }
@@ -194,7 +194,7 @@ impl Tables {
         requires { 2 * length works.now ≤ reference_room self.old.objects }
         ensures stands { (s : Space) → Within self.old s → made ≡ option_map made_of_buffer (read_items.buffer_taken s works.now)
             → Within self.new (read_items.read_by s seat works.now) }
-        ensures takes { TakesNothing self.old self.new }
+        ensures uses { UsesNothing self.old self.new }
     {
         self.objects.read_by(self.steps, works);
         self.calls.read_by(seat, works);

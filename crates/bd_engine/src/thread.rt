@@ -10,7 +10,7 @@ ghost use Rattle.bd_space.specs.Outcomes.{accepted, completed};
 ghost use Rattle.bd_space.specs.ThreadExits as exits;
 ghost use Rattle.bd_objects.specs.Room.{death_count};
 ghost use Rattle.bd_calls.specs.Room.{thread_room};
-ghost use Rattle.bd_engine.specs.Stands.{Tells, Makes, CanFollow, MakesWithin, TakesNothing};
+ghost use Rattle.bd_engine.specs.Stands.{Tells, Makes, CanFollow, MakesWithin, UsesNothing};
 ghost use Rattle.bd_engine.specs.Meets.{IsAny, IsBy, IsStep};
 
 use crate::answer::Plain;
@@ -92,7 +92,7 @@ impl Tables {
     }
 
     // The thread of a seat enters or leaves the loop, and what follows from that.
-    fn turn_looping(&mut self, seat: u32, looping: bool)
+    fn change_looping(&mut self, seat: u32, looping: bool)
         requires { CanFollow self.old 0 }
         ensures stands { MakesWithin self.old self.new (λ s. completed (commands.with_looping s seat looping)) }
     {
@@ -108,14 +108,14 @@ impl Tables {
         if self.reserve(0, 0, 0, 0).is_err() {
             return Err(Why::NoMemory);
         }
-        self.turn_looping(a.thread.seat, looping);
+        self.change_looping(a.thread.seat, looping);
         Ok(Plain::Accepted)
     }
 
     // The thread of a seat ends; what is lost with its list is told by the list, which goes last.
     pub(crate) fn thread_goes(&mut self, seat: u32)
         ensures stands { MakesWithin self.old self.new (λ s. exits.thread_goes s seat) }
-        ensures takes { TakesNothing self.old self.new }
+        ensures uses { UsesNothing self.old self.new }
         ensures deaths { death_count self.new.objects ≤ death_count self.old.objects }
     {
         let list = TodoList::OfThread(seat);

@@ -6,7 +6,7 @@ ghost use Rattle.bd_space.specs.declared.space.WorkKind.TheVariants as kinds;
 ghost use Rattle.bd_space.specs.Todo as todo;
 ghost use Rattle.bd_space.specs.Outcomes as outcomes;
 ghost use Rattle.bd_calls.specs.Room.{work_room};
-ghost use Rattle.bd_engine.specs.Stands.{Makes, Takes, MakesWithin};
+ghost use Rattle.bd_engine.specs.Stands.{Makes, Uses, MakesWithin};
 ghost use Rattle.bd_engine.specs.Meets.{IsAny, IsStep};
 ghost use Rattle.bd_engine.specs.Deliveries.{Spends};
 
@@ -53,7 +53,7 @@ impl Tables {
     pub(crate) fn add_work(&mut self, list: TodoList, kind: WorkKind)
         requires { 1 ≤ work_room self.old.calls }
         ensures stands { MakesWithin self.old self.new (λ s. todo.owe s list kind) }
-        ensures takes { Takes self.old self.new 0 0 0 1 }
+        ensures uses { Uses self.old self.new 0 0 0 1 }
     {
         self.calls.owe(self.steps, list, kind);
     }

@@ -115,10 +115,10 @@ impl Tables {
     }
 
     // What the receiver of a buffer reads of it.
-    #[tactic(auto, unfolding(bd_space::specs::Returns::record_of))]
-    fn record_of(&self, b: &Buffer) -> TransactionData
+    #[tactic(auto, unfolding(bd_space::specs::Returns::data_of))]
+    fn data_of(&self, b: &Buffer) -> TransactionData
         requires { IsInWindow b.now }
-        ensures { TellsBefore self.now result (λ s. spec.record_of s b.now) }
+        ensures { TellsBefore self.now result (λ s. spec.data_of s b.now) }
     {
         let (target, cookie) = self.called_words(b);
         TransactionData {
@@ -137,10 +137,10 @@ impl Tables {
 
     // The record of the buffer made there, if it lives.
     fn record_at(&self, made: u32) -> Option<TransactionData>
-        ensures { TellsBefore self.now result (λ s. option_map (spec.record_of s) (spec.buffer_in s.buffers made)) }
+        ensures { TellsBefore self.now result (λ s. option_map (spec.data_of s) (spec.buffer_in s.buffers made)) }
     {
         match self.windows.buffer(made) {
-            Some(b) => Some(self.record_of(b)),
+            Some(b) => Some(self.data_of(b)),
             None => None,
         }
     }

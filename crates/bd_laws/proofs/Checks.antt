@@ -24,7 +24,7 @@ use Rattle.bd_space.specs.Delivery.{Delivery}
 use Rattle.bd_space.specs.Parcels.{sending_of}
 use Rattle.bd_space.specs.Transactions.{transaction_check, sent_to, placed, callee_of, target_of, with_owner, owner_of, handle_of, is_one_way, caller_cause}
 use Rattle.bd_space.specs.Replies.{reply_check, reply_sent_to, reply_placed, caller_of}
-use Rattle.bd_space.specs.Room.{place_for, buffers_of, needed}
+use Rattle.bd_space.specs.Windows.{start_for, buffers_of, needed}
 use Rattle.bd_space.specs.Asking.{asked_of, ask_check, ask_note}
 use Rattle.bd_laws.specs.Lists.{In}
 use Rattle.bd_laws.proofs.Lists.{find-in}
@@ -88,7 +88,7 @@ transaction-checked s a d parcel v h =
     let found = subst (λ (x : Callee). callee_of s a.process.made (handle_of d) ≡ Ok x) (unless-ok (cond (is_one_way d) None (caller_cause s a.thread.seat)) c.0 u.0 u.1).1 c.1 in
     let own = callee-owned s a.process.made (handle_of d) u.0 found in
     let x = and_then-ok (sending_of s a.process.made d parcel) (placed s d u.0) v u.2 in
-    let p = and_then-ok (place_for u.0.process.window (buffers_of s.buffers u.0.process.made) (is_one_way d) (needed d.data_size d.offsets_size))
+    let p = and_then-ok (start_for u.0.process.window (buffers_of s.buffers u.0.process.made) (is_one_way d) (needed d.data_size d.offsets_size))
     (λ (start : ℕ). Ok (record { receiver = u.0.process; target = Some u.0.object; one_way = is_one_way d; sending = x.0; start = start })) v x.2 in
     let is = ap (λ r. delivery r v) p.2 in
     record {
@@ -123,7 +123,7 @@ unfolding reply_check delivery
 reply-checked s a d parcel f v h =
     let c = and_then-ok (found_or (caller_of s f) CallerGone) (reply_sent_to s a d parcel) v h in
     let x = and_then-ok (sending_of s a.process.made d parcel) (reply_placed s d c.0) v c.2 in
-    let p = and_then-ok (place_for c.0.process.window (buffers_of s.buffers c.0.process.made) false (needed d.data_size d.offsets_size)) _ v x.2 in
+    let p = and_then-ok (start_for c.0.process.window (buffers_of s.buffers c.0.process.made) false (needed d.data_size d.offsets_size)) _ v x.2 in
     let is = ap (λ r. delivery r v) p.2 in
     record {
       caller = c.0;

@@ -29,7 +29,7 @@ use Rattle.bd_space.specs.Seats.{actor, thread_in}
 use Rattle.bd_space.specs.References.{objects_go, is_of_buffer, is_asking, is_shaking}
 use Rattle.bd_space.specs.Names.{names_go, assign_numbers}
 use Rattle.bd_space.specs.Frames.{closed, goes_to, waits_in, list_of_caller, ancestry, made_of, innermost_in}
-use Rattle.bd_space.specs.Todo.{with_work, owe, handed_over, is_on, same_list, is_item}
+use Rattle.bd_space.specs.Todo.{with_work, owe, hands_out, is_on, same_list, is_item}
 use Rattle.bd_space.specs.Turns.{turns_of, is_ripe, ripened, ripen}
 use Rattle.bd_space.specs.Notices.{deaths_go, work_goes, notify, follow}
 use Rattle.bd_space.specs.Settle.{settle, settle_one, settle_times, is_abandoned}
@@ -69,18 +69,18 @@ one-thread s h t u l m e = elim (pairs-either OtherSeat s.threads h.seats t u l 
 -- ---- what goes, and what hands nothing over
 
 less : (n m : ℕ) (ts : List Thread) (rs ss : List Reference) (td ud : List Work) → n ≤ m → ((r : Reference) (b q : ℕ) → In r ss → r.holder ≡ Carried b q → In r rs)
-    → ((w : Work) (b : ℕ) → In w ud → handed_over w.kind ≡ Some b → In w td) → Homed n ts rs td → Homed m ts ss ud
+    → ((w : Work) (b : ℕ) → In w ud → hands_out w.kind ≡ Some b → In w td) → Homed n ts rs td → Homed m ts ss ud
 less n m ts rs ss td ud le refs due h = record {
   seats = h.seats;
   home = λ w t b l on e. let k = h.home w t b (due w b l e) on e in (k.0, k.1, k.2, λ r q i c. k.3 r q (refs r b q i c) c);
   carried = λ r b q l c. let lt = h.carried r b q (refs r b q l c) c in omega arith;
 }
 
-owe-h : (n : ℕ) (z : Space) (list : TodoList) (kind : WorkKind) → handed_over kind ≡ None → H n z → H n (owe z list kind)
+owe-h : (n : ℕ) (z : Space) (list : TodoList) (kind : WorkKind) → hands_out kind ≡ None → H n z → H n (owe z list kind)
 unfolding owe
 owe-h n z list kind none h = less n n z.threads z.references z.references z.todo _ (omega arith) (λ r b q l c. l) (with_work-less z.steps z.todo list kind none) h
 
-told-h : (n : ℕ) (z : Space) (caller : Option ℕ) (kind : WorkKind) → handed_over kind ≡ None → H n z → H n (elim caller as (λ (o : Option ℕ). Space) [ None ↦ z | Some t ↦ owe z (OfThread t) kind ])
+told-h : (n : ℕ) (z : Space) (caller : Option ℕ) (kind : WorkKind) → hands_out kind ≡ None → H n z → H n (elim caller as (λ (o : Option ℕ). Space) [ None ↦ z | Some t ↦ owe z (OfThread t) kind ])
 told-h n z None kind none h = h
 told-h n z (Some t) kind none h = owe-h n z (OfThread t) kind none h
 
@@ -100,10 +100,10 @@ settle-h : (n : ℕ) (z : Space) → H n z → H n (settle z)
 unfolding settle
 settle-h n z h = settles-h n (length z.frames) z h
 
-follow-due : (z : Space) (w : Work) (b : ℕ) → In w (follow z).todo → handed_over w.kind ≡ Some b → In w z.todo
+follow-due : (z : Space) (w : Work) (b : ℕ) → In w (follow z).todo → hands_out w.kind ≡ Some b → In w z.todo
 follow-due z w b l e = (one_way.follow-less z).due w b l e
 
-follow-due-h : (n : ℕ) (z : Space) → ((w : Work) (b : ℕ) → In w (follow z).todo → handed_over w.kind ≡ Some b → In w z.todo) → H n z → H n (follow z)
+follow-due-h : (n : ℕ) (z : Space) → ((w : Work) (b : ℕ) → In w (follow z).todo → hands_out w.kind ≡ Some b → In w z.todo) → H n z → H n (follow z)
 unfolding follow notify work_goes deaths_go objects_go names_go
 follow-due-h n z due h = less n n z.threads z.references z.references z.todo _ (omega arith) (λ r b q l c. l) due h
 
@@ -176,7 +176,7 @@ module _ (s x : Space) (a : Actor) (d : TransactionData) (v : Delivery) (steps :
   abbrev sent : Space
   sent = owe (delivered x a d v) (OfThread a.thread.seat) work.Complete
 
-  pub sent-due : (w : Work) (m : ℕ) → In w sent.todo → handed_over w.kind ≡ Some m → In w s.todo
+  pub sent-due : (w : Work) (m : ℕ) → In w sent.todo → hands_out w.kind ≡ Some m → In w s.todo
   unfolding delivered own_notices add_buffer known_by assign_numbers refer make_objects owe
   sent-due w m l e =
       subst (In w) todo (own_notices-less (add_buffer (known_by x v) (buffer_of (known_by x v) a d v)) a.thread.seat v.sending.items w m
@@ -227,7 +227,7 @@ module _ (s x : Space) (a : Actor) (d : TransactionData) (v : Delivery) (steps :
   }
 
   -- one item more, which hands this step's buffer over
-  handing-h : (place : ℕ) (list : TodoList) (kind : WorkKind) → handed_over kind ≡ Some s.steps
+  handing-h : (place : ℕ) (list : TodoList) (kind : WorkKind) → hands_out kind ≡ Some s.steps
       → ((t : ℕ) → list ≡ OfThread t → (u : Thread) × In u sent.threads × (u.seat ≡ t) × (u.process ≡ v.receiver.made)) → Homed (suc s.steps) sent.threads sent.references (with_work place sent.todo list kind)
   handing-h place list kind hands to = record {
     seats = sent-h.seats;
@@ -235,7 +235,7 @@ module _ (s x : Space) (a : Actor) (d : TransactionData) (v : Delivery) (steps :
       | inl i ↦ sent-h.home w t b i on e
       | inr is ↦ (
           let u = to t (ap (λ (y : Work). y.list) is ∙ on) in
-          let k : Some s.steps ≡ Some b = sym hands ∙ ap (λ (y : Work). handed_over y.kind) is ∙ e in
+          let k : Some s.steps ≡ Some b = sym hands ∙ ap (λ (y : Work). hands_out y.kind) is ∙ e in
           let same : s.steps ≡ b = cc in
           (u.0, u.1, u.2, λ r q m c. u.3 ∙ new-carried r q m (c ∙ ap (λ n. Carried n q) (sym same))))
     ];

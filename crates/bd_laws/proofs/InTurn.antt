@@ -18,13 +18,13 @@ use Rattle.bd_space.specs.declared.space.WorkKind.TheVariants as work
 use Rattle.bd_space.specs.declared.space.TodoList.TheVariants.{OfThread}
 use Rattle.bd_space.specs.Words.{same, found_or}
 use Rattle.bd_space.specs.Space.{Space, opening}
-use Rattle.bd_space.specs.Todo.{is_call, handed_over}
+use Rattle.bd_space.specs.Todo.{is_call, hands_out}
 use Rattle.bd_space.specs.Turns.{turn_of, turns_of}
 use Rattle.bd_space.specs.Notices.{follow}
 use Rattle.bd_space.specs.Frames.{closed}
 use Rattle.bd_space.specs.Delivery.{Delivery}
 use Rattle.bd_space.specs.Parcels.{sending_of}
-use Rattle.bd_space.specs.Room.{place_for, buffers_of, needed}
+use Rattle.bd_space.specs.Windows.{start_for, buffers_of, needed}
 use Rattle.bd_space.specs.Replies.{caller_of, reply_check, reply_sent_to, reply_placed}
 use Rattle.bd_space.specs.Steps.{counted}
 use Rattle.bd_space.specs.Histories.{History, next, space_after}
@@ -51,7 +51,7 @@ unfolding reply_check one_way_of
 reply-two_way s a d parcel f v h =
     let p = and_then-ok (found_or (caller_of s f) CallerGone) (reply_sent_to s a d parcel) v h in
     let q = and_then-ok (sending_of s a.process.made d parcel) (reply_placed s d p.0) v p.2 in
-    let r = and_then-ok (place_for p.0.process.window (buffers_of s.buffers p.0.process.made) false (needed d.data_size d.offsets_size)) _ v q.2 in
+    let r = and_then-ok (start_for p.0.process.window (buffers_of s.buffers p.0.process.made) false (needed d.data_size d.offsets_size)) _ v q.2 in
     sym (ap one_way_of r.2)
 
 -- ---- every step
@@ -108,7 +108,7 @@ at_most_one (x ∷ y ∷ ys) h = absurd (h.0 y (inl refl))
 abbrev pub Alone : List Work → Turn → Turn → Type 0
 Alone todo t u = is_out todo u ≡ true → same t.target u.target ≡ true → ⊥
 
-pub is_call-hands : (m : ℕ) (k : WorkKind) → is_call m k ≡ true → handed_over k ≡ Some m
+pub is_call-hands : (m : ℕ) (k : WorkKind) → is_call m k ≡ true → hands_out k ≡ Some m
 is_call-hands m (work.Call b) i = ap (λ n. Some n) (eqb-true b m i)
 is_call-hands m (work.Notice o) i = absurd (cc)
 is_call-hands m work.Complete i = absurd (cc)

@@ -20,7 +20,7 @@ use Rattle.bd_space.specs.Space.{Space}
 use Rattle.bd_space.specs.Seats.{lives_in}
 use Rattle.bd_space.specs.References.{object_in, owned_in, held_in, strong_in, names_for, buffer_of_holder}
 use Rattle.bd_space.specs.Frames.{serves, is_gone, is_child_of}
-use Rattle.bd_space.specs.Todo.{is_on, is_call, is_notice, handed_over}
+use Rattle.bd_space.specs.Todo.{is_on, is_call, is_notice, hands_out}
 use Rattle.bd_space.specs.Notices.{wants_notice, is_name_of, follow}
 use Rattle.bd_space.specs.Settle.{settle, is_abandoned}
 use Rattle.bd_space.specs.ThreadExits.{thread_goes, is_lost_with, is_lost_reference, is_unread_on, unread_server, gone_server, frame_without}
@@ -184,7 +184,7 @@ module _ (s : Space) (gone : Reference → Bool) (seats : List ℕ) (lists : Lis
       at : (o : Option ℕ) → is_some_and o (is_lost_with z.todo list) ≡ true → is_some_and o (is_lost_with s.todo list) ≡ true
       at None k = absurd (cc)
       at (Some b) k =
-          let test = λ (w : Work). is_on list w && is_some_and (handed_over w.kind) (λ m. m == b) in
+          let test = λ (w : Work). is_on list w && is_some_and (hands_out w.kind) (λ m. m == b) in
           let w = any-found test z.todo k in any-in test w.0 s.todo (less w.0 w.1) w.2
 
   server-goes : (z : Space) (seat : ℕ) (f g : Frame) → In seat seats → In (OfThread seat) lists → ((w : Work) → In w z.todo → In w s.todo) → In f s.frames → g.made ≡ f.made → g.server ≡ f.server

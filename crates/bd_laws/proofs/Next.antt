@@ -29,7 +29,7 @@ use Rattle.bd_space.specs.Seats.{lives_in}
 use Rattle.bd_space.specs.References.{reference_of, object_in, owned_in, held_in, strong_in, stays_in}
 use Rattle.bd_space.specs.Names.{is_named_in}
 use Rattle.bd_space.specs.Frames.{is_gone, is_child_of}
-use Rattle.bd_space.specs.Todo.{owe, is_call, is_on, is_item, handed_over, without_taken, list_to_read}
+use Rattle.bd_space.specs.Todo.{owe, is_call, is_on, is_item, hands_out, without_taken, list_to_read}
 use Rattle.bd_space.specs.Turns.{turn_of, turns_of, is_ripe}
 use Rattle.bd_space.specs.Notices.{wants_notice, differs_in, follow}
 use Rattle.bd_space.specs.Settle.{settle, is_abandoned}
@@ -244,26 +244,26 @@ call-kind b (work.Cleared n) e = absurd (cc)
 
 -- what is taken hands that one over
 module _ (s : Space) where
-  taken-handed : (xs : List Work) (left : ℕ) (w : Work) (n : ℕ) → In w (taken s left xs) → handed_over w.kind ≡ Some n
-      → first_of (map (λ (w : Work). handed_over w.kind) (taken s left xs)) ≡ Some n
+  taken-handed : (xs : List Work) (left : ℕ) (w : Work) (n : ℕ) → In w (taken s left xs) → hands_out w.kind ≡ Some n
+      → first_of (map (λ (w : Work). hands_out w.kind) (taken s left xs)) ≡ Some n
   taken-handed [] left w n l e = absurd l
   taken-handed (x ∷ xs) left w n l e = at (nat_lt left 68) (ends_read x.kind) refl (λ i. taken-handed xs (left - length (bytes_read s x)) w n i e) l
     where
       at : (full ends : Bool) → ends_read x.kind ≡ ends
-          → (In w (taken s (left - length (bytes_read s x)) xs) → first_of (map (λ (w : Work). handed_over w.kind) (taken s (left - length (bytes_read s x)) xs)) ≡ Some n)
+          → (In w (taken s (left - length (bytes_read s x)) xs) → first_of (map (λ (w : Work). hands_out w.kind) (taken s (left - length (bytes_read s x)) xs)) ≡ Some n)
           → In w (cond full [] (x ∷ cond ends [] (taken s (left - length (bytes_read s x)) xs)))
-          → first_of (map (λ (w : Work). handed_over w.kind) (cond full [] (x ∷ cond ends [] (taken s (left - length (bytes_read s x)) xs)))) ≡ Some n
+          → first_of (map (λ (w : Work). hands_out w.kind) (cond full [] (x ∷ cond ends [] (taken s (left - length (bytes_read s x)) xs)))) ≡ Some n
       at true ends f rest i = absurd i
-      at false ends f rest (inl is) = first (handed_over x.kind) (ap (λ (v : Work). handed_over v.kind) is ∙ e)
+      at false ends f rest (inl is) = first (hands_out x.kind) (ap (λ (v : Work). hands_out v.kind) is ∙ e)
         where
-          first : (o : Option ℕ) → o ≡ Some n → first_of (o ∷ map (λ (w : Work). handed_over w.kind) (cond ends [] (taken s (left - length (bytes_read s x)) xs))) ≡ Some n
+          first : (o : Option ℕ) → o ≡ Some n → first_of (o ∷ map (λ (w : Work). hands_out w.kind) (cond ends [] (taken s (left - length (bytes_read s x)) xs))) ≡ Some n
           first None g = absurd (cc)
           first (Some m) g = g
       at false true f rest (inr i) = absurd i
       at false false f rest (inr i) = skip x.kind f (rest i)
         where
-          skip : (kind : WorkKind) → ends_read kind ≡ false → first_of (map (λ (w : Work). handed_over w.kind) (taken s (left - length (bytes_read s x)) xs)) ≡ Some n
-              → first_of (handed_over kind ∷ map (λ (w : Work). handed_over w.kind) (taken s (left - length (bytes_read s x)) xs)) ≡ Some n
+          skip : (kind : WorkKind) → ends_read kind ≡ false → first_of (map (λ (w : Work). hands_out w.kind) (taken s (left - length (bytes_read s x)) xs)) ≡ Some n
+              → first_of (hands_out kind ∷ map (λ (w : Work). hands_out w.kind) (taken s (left - length (bytes_read s x)) xs)) ≡ Some n
           skip (work.Notice o) g k = k
           skip work.Complete g k = k
           skip (work.Refusal r) g k = k
@@ -375,7 +375,7 @@ module _ (s : Space) (distinct : Distinct s.todo) (lists : OnLists s) (t : Threa
       let d = any-found (λ (d : Work). is_item v d) ws some in
       let hands_over = is_call-hands c.made v.kind call in
       let is = distinct v d.0 i (read-in s t left d.0 d.1) d.2 in
-      let hands : handed_over d.0.kind ≡ Some c.made = ap (λ (w : Work). handed_over w.kind) (sym is) ∙ is_call-hands c.made v.kind call in
+      let hands : hands_out d.0.kind ≡ Some c.made = ap (λ (w : Work). hands_out w.kind) (sym is) ∙ is_call-hands c.made v.kind call in
       let first = taken-handed s (list_to_read s t) left d.0 c.made d.1 hands in
       let found = find-some (is_made_at c.made) c s.buffers l (eq-eqb c.made c.made refl) in
       let b = given (buffer_in s.buffers c.made) c found (λ x e. eqb-true x.made c.made (find-in (is_made_at c.made) x s.buffers e).1) in
@@ -443,7 +443,7 @@ unfolding calls_stay
 called-stays z stays lists c l k t e calls =
     let made : t.made ≡ c.made = turn-made c t e in
     let v = any-found (λ (w : Work). is_call t.made w.kind) z.todo calls in
-    let hands : handed_over v.0.kind ≡ Some c.made = is_call-hands t.made v.0.kind v.2 ∙ ap (λ n. Some n) made in
+    let hands : hands_out v.0.kind ≡ Some c.made = is_call-hands t.made v.0.kind v.2 ∙ ap (λ n. Some n) made in
     any-in (λ (w : Work). is_call t.made w.kind) v.0 _ (filter-in stays v.0 z.todo v.1 (k v.0 (lists v.0 c t.target v.1 hands l (on-of c t e)))) v.2
 
 left-unripe : (z : Space) (seat : ℕ) → OnLists z → NoneRipe z.todo [] (turns_of z.buffers) → NoneRipe (thread_goes z seat).todo [] (turns_of (thread_goes z seat).buffers)

@@ -31,7 +31,7 @@ use Rattle.bd_space.specs.Space.{Space, opening}
 use Rattle.bd_space.specs.References.{object_in, held_in, owned_in, stays_in, objects_go, names_for, buffer_of_holder, is_asked_by, is_in_window, is_of_owner}
 use Rattle.bd_space.specs.Names.{named, is_named_in, names_go, assign_numbers}
 use Rattle.bd_space.specs.Frames.{closed, goes_to}
-use Rattle.bd_space.specs.Todo.{with_work, owe, is_notice, is_on, same_list, is_item, handed_over}
+use Rattle.bd_space.specs.Todo.{with_work, owe, is_notice, is_on, same_list, is_item, hands_out}
 use Rattle.bd_space.specs.Turns.{turns_of, is_ripe, ripened, ripen}
 use Rattle.bd_space.specs.Notices.{wants_notice, has_notice_in, with_notice, still_due, is_name_of, deaths_go, work_goes, notify, follow}
 use Rattle.bd_space.specs.Settle.{settle, settle_one, settle_times, is_abandoned}
@@ -442,9 +442,9 @@ module _ (s : Space) (p : ℕ) (h : Told s) (quiet : IsQuiet s) (home : AtHome s
       lost : (b : Bool) → is_lost_with z.todo (OfThread seat) carried.0 ≡ b → b ≡ false
       lost false e = refl
       lost true e =
-          let w = any-found (λ (w : Work). is_on (OfThread seat) w && is_some_and (handed_over w.kind) (λ m. m == carried.0)) z.todo e in
-          let c = both (is_on (OfThread seat) w.0) (is_some_and (handed_over w.0.kind) (λ m. m == carried.0)) w.2 in
-          let i = home.home w.0 seat carried.0 (k.0 w.0 w.1) (on-thread w.0.list c.0) (hands-over (handed_over w.0.kind) carried.0 c.1) in
+          let w = any-found (λ (w : Work). is_on (OfThread seat) w && is_some_and (hands_out w.kind) (λ m. m == carried.0)) z.todo e in
+          let c = both (is_on (OfThread seat) w.0) (is_some_and (hands_out w.0.kind) (λ m. m == carried.0)) w.2 in
+          let i = home.home w.0 seat carried.0 (k.0 w.0 w.1) (on-thread w.0.list c.0) (hands-over (hands_out w.0.kind) carried.0 c.1) in
           let same_thread = one-thread s home t i.0 live i.1 (at ∙ sym i.2) in
           absurd (other (sym (i.3 r q l carried.1) ∙ ap (λ (y : Thread). y.process) (sym same_thread) ∙ of))
 

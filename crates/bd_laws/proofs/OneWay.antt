@@ -12,7 +12,7 @@ use Rattle.bd_space.specs.declared.space.TodoList.{TodoList}
 use Rattle.bd_space.specs.declared.space.WorkKind.{WorkKind}
 use Rattle.bd_space.specs.declared.space.WorkKind.TheVariants as work
 use Rattle.bd_space.specs.Space.{Space}
-use Rattle.bd_space.specs.Todo.{with_work, handed_over, owe, is_on}
+use Rattle.bd_space.specs.Todo.{with_work, hands_out, owe, is_on}
 use Rattle.bd_space.specs.Turns.{turn_of}
 use Rattle.bd_space.specs.Notices.{with_notice, follow, notify, work_goes, deaths_go, still_due}
 use Rattle.bd_space.specs.Names.{names_go, assign_numbers}
@@ -44,9 +44,9 @@ pub record Less (z y : Space) : Type 0 where
   pub steps : z.steps ≡ y.steps
   pub buffers : (b : Buffer) → In b z.buffers → In b y.buffers
   pub pairs : (todo : List Work) → Pairs (Waits todo) y.buffers → Pairs (Waits todo) z.buffers
-  pub due : (w : Work) (m : ℕ) → In w z.todo → handed_over w.kind ≡ Some m → In w y.todo
+  pub due : (w : Work) (m : ℕ) → In w z.todo → hands_out w.kind ≡ Some m → In w y.todo
 
-pub less-same : (z y : Space) → z.steps ≡ y.steps → z.buffers ≡ y.buffers → ((w : Work) (m : ℕ) → In w z.todo → handed_over w.kind ≡ Some m → In w y.todo) → Less z y
+pub less-same : (z y : Space) → z.steps ≡ y.steps → z.buffers ≡ y.buffers → ((w : Work) (m : ℕ) → In w z.todo → hands_out w.kind ≡ Some m → In w y.todo) → Less z y
 less-same z y e d k = record { steps = e; buffers = λ b l. subst (In b) d l; pairs = λ todo h. subst (Pairs (Waits todo)) (sym d) h; due = k }
 
 pub less-refl : (z : Space) → Less z z
@@ -82,27 +82,27 @@ in_turn-less z y l h =
 -- ---- the parts of a step
 
 -- one work item more that hands nothing over
-pub with_work-less : (place : ℕ) (todo : List Work) (list : TodoList) (kind : WorkKind) → handed_over kind ≡ None
-    → (w : Work) (m : ℕ) → In w (with_work place todo list kind) → handed_over w.kind ≡ Some m → In w todo
+pub with_work-less : (place : ℕ) (todo : List Work) (list : TodoList) (kind : WorkKind) → hands_out kind ≡ None
+    → (w : Work) (m : ℕ) → In w (with_work place todo list kind) → hands_out w.kind ≡ Some m → In w todo
 with_work-less place todo list kind none w m l e =
     elim (in-push w _ todo l) [ inl k ↦ k | inr is ↦ (let same_kind : kind ≡ w.kind = ap (λ (x : Work). x.kind) is in absurd (cc)) ]
 
-pub owe-less : (z : Space) (list : TodoList) (kind : WorkKind) → handed_over kind ≡ None → Less (owe z list kind) z
+pub owe-less : (z : Space) (list : TodoList) (kind : WorkKind) → hands_out kind ≡ None → Less (owe z list kind) z
 unfolding owe
 owe-less z list kind none = less-same _ z refl refl (with_work-less z.steps z.todo list kind none)
 
 noticed : (place : ℕ) (todo : List Work) (list : TodoList) (x : ObjectId) (b : Bool)
-    → (w : Work) (m : ℕ) → In w (cond b (with_work place todo list (work.Notice x)) todo) → handed_over w.kind ≡ Some m → In w todo
+    → (w : Work) (m : ℕ) → In w (cond b (with_work place todo list (work.Notice x)) todo) → hands_out w.kind ≡ Some m → In w todo
 noticed place todo list x true = with_work-less place todo list (work.Notice x) refl
 noticed place todo list x false = λ w m l e. l
 
 pub with_notice-less : (place : ℕ) (processes : List Process) (references : List Reference) (list : TodoList) (todo : List Work) (x : Object)
-    → (w : Work) (m : ℕ) → In w (with_notice place processes references list todo x) → handed_over w.kind ≡ Some m → In w todo
+    → (w : Work) (m : ℕ) → In w (with_notice place processes references list todo x) → hands_out w.kind ≡ Some m → In w todo
 with_notice-less place processes references list todo x = noticed place todo list x.id _
 
 -- steps over a list, of which each adds nothing that hands over
-pub fold-less : {A : Type 0} (f : List Work → A → List Work) → ((todo : List Work) (x : A) (w : Work) (m : ℕ) → In w (f todo x) → handed_over w.kind ≡ Some m → In w todo)
-    → (xs : List A) (todo : List Work) (w : Work) (m : ℕ) → In w (fold f todo xs) → handed_over w.kind ≡ Some m → In w todo
+pub fold-less : {A : Type 0} (f : List Work → A → List Work) → ((todo : List Work) (x : A) (w : Work) (m : ℕ) → In w (f todo x) → hands_out w.kind ≡ Some m → In w todo)
+    → (xs : List A) (todo : List Work) (w : Work) (m : ℕ) → In w (fold f todo xs) → hands_out w.kind ≡ Some m → In w todo
 fold-less f k [] todo w m l e = l
 fold-less f k (x ∷ xs) todo w m l e = k todo x w m (fold-less f k xs (f todo x) w m l e) e
 
@@ -158,14 +158,14 @@ in_turn-push n bs todo more b h made handed k = record {
 }
 
 -- a work item that hands over what is no one-way call
-due-push : (place : ℕ) (todo : List Work) (list : TodoList) (kind : WorkKind) (n : ℕ) → handed_over kind ≡ Some n → (m : ℕ) → Due (with_work place todo list kind) m → Due todo m ⊎ (m ≡ n)
+due-push : (place : ℕ) (todo : List Work) (list : TodoList) (kind : WorkKind) (n : ℕ) → hands_out kind ≡ Some n → (m : ℕ) → Due (with_work place todo list kind) m → Due todo m ⊎ (m ≡ n)
 due-push place todo list kind n hands m d =
     elim (in-push d.0 _ todo d.1) [
       | inl k ↦ inl (d.0, k, d.2)
-      | inr is ↦ (let same_kind : kind ≡ d.0.kind = ap (λ (x : Work). x.kind) is in let e : handed_over kind ≡ Some m = ap handed_over same_kind ∙ d.2 in inr (cc))
+      | inr is ↦ (let same_kind : kind ≡ d.0.kind = ap (λ (x : Work). x.kind) is in let e : hands_out kind ≡ Some m = ap hands_out same_kind ∙ d.2 in inr (cc))
     ]
 
-pub in_turn-other : (place n : ℕ) (bs : List Buffer) (todo : List Work) (list : TodoList) (kind : WorkKind) → handed_over kind ≡ Some n
+pub in_turn-other : (place n : ℕ) (bs : List Buffer) (todo : List Work) (list : TodoList) (kind : WorkKind) → hands_out kind ≡ Some n
     → ((c : Buffer) → In c bs → c.made ≡ n → turn_of c ≡ None) → InTurn (suc n) bs todo → InTurn (suc n) bs (with_work place todo list kind)
 in_turn-other place n bs todo list kind hands none h = record {
   below = h.below;
@@ -189,13 +189,13 @@ withdrawn true p todo w l = (in-filter p w todo l).0
 withdrawn false p todo w l = l
 
 added : (place : ℕ) (processes : List Process) (references : List Reference) (list : TodoList) (todo : List Work) (own : Bool) (o : Option Object) (w : Work) (m : ℕ)
-    → In w (cond own (elim o as (λ (x : Option Object). List Work) [ None ↦ todo | Some x ↦ with_notice place processes references list todo x ]) todo) → handed_over w.kind ≡ Some m → In w todo
+    → In w (cond own (elim o as (λ (x : Option Object). List Work) [ None ↦ todo | Some x ↦ with_notice place processes references list todo x ]) todo) → hands_out w.kind ≡ Some m → In w todo
 added place processes references list todo false o w m l e = l
 added place processes references list todo true None w m l e = l
 added place processes references list todo true (Some x) w m l e = with_notice-less place processes references list todo x w m l e
 
 pub own_notices-less : (z : Space) (seat : ℕ) (items : List Item) (w : Work) (m : ℕ)
-    → In w (fold (add_notice z seat) (fold (withdraw_notice z.objects) z.todo items) items) → handed_over w.kind ≡ Some m → In w z.todo
+    → In w (fold (add_notice z seat) (fold (withdraw_notice z.objects) z.todo items) items) → hands_out w.kind ≡ Some m → In w z.todo
 own_notices-less z seat items w m l e =
     fold-less (withdraw_notice z.objects) (λ todo x v i j f. withdrawn _ _ todo v j) items z.todo w m
     (fold-less (add_notice z seat) (λ todo x v i j f. added z.steps z.processes z.references (OfThread seat) todo (is_own x.flat.kind) (object_in z.objects x.object) v i j f) items _ w m l e) e
@@ -275,7 +275,7 @@ replied-in_turn s a d f v one_way h =
 
 -- ---- what only goes
 
-filtered-less : (z y : Space) (p : Buffer → Bool) → z.steps ≡ y.steps → z.buffers ≡ filter p y.buffers → ((w : Work) (m : ℕ) → In w z.todo → handed_over w.kind ≡ Some m → In w y.todo) → Less z y
+filtered-less : (z y : Space) (p : Buffer → Bool) → z.steps ≡ y.steps → z.buffers ≡ filter p y.buffers → ((w : Work) (m : ℕ) → In w z.todo → hands_out w.kind ≡ Some m → In w y.todo) → Less z y
 filtered-less z y p e d k = record {
   steps = e;
   buffers = λ b l. (in-filter p b y.buffers (subst (In b) d l)).0;

@@ -27,7 +27,7 @@ use Rattle.bd_space.specs.Seats.{actor}
 use Rattle.bd_space.specs.References.{owned_in, objects_go}
 use Rattle.bd_space.specs.Names.{names_go, assign_numbers, named_in, strongly_named, if_strongly_named}
 use Rattle.bd_space.specs.Frames.{closed, goes_to, is_frame}
-use Rattle.bd_space.specs.Todo.{with_work, owe, handed_over, is_on, is_call}
+use Rattle.bd_space.specs.Todo.{with_work, owe, hands_out, is_on, is_call}
 use Rattle.bd_space.specs.Turns.{turns_of, is_ripe, ripened, ripen}
 use Rattle.bd_space.specs.Notices.{deaths_go, work_goes, notify, follow}
 use Rattle.bd_space.specs.Settle.{settle, settle_one, settle_times, is_abandoned}
@@ -69,13 +69,13 @@ same-frames : (z y : Space) → z.frames ≡ y.frames → (f : Frame) → In f z
 same-frames z y e f l = (f, subst (In f) e l, refl, λ t c. c)
 
 of-less : (z y : Space) → Less z y → z.frames ≡ y.frames → OfOthers y → OfOthers z
-of-less z y l e h = fewer z y (record { calls = λ w b t i k on. l.due w b i (ap handed_over k); frames = same-frames z y e }) h
+of-less z y l e h = fewer z y (record { calls = λ w b t i k on. l.due w b i (ap hands_out k); frames = same-frames z y e }) h
 
 owe-frames : (z : Space) (list : TodoList) (kind : WorkKind) → (owe z list kind).frames ≡ z.frames
 unfolding owe
 owe-frames z list kind = refl
 
-plain : (z : Space) (list : TodoList) (kind : WorkKind) → handed_over kind ≡ None → OfOthers z → OfOthers (owe z list kind)
+plain : (z : Space) (list : TodoList) (kind : WorkKind) → hands_out kind ≡ None → OfOthers z → OfOthers (owe z list kind)
 plain z list kind none h = of-less (owe z list kind) z (one_way.owe-less z list kind none) (owe-frames z list kind) h
 
 told : (z : Space) (caller : Option ℕ) (kind : WorkKind) → ((w : WorkKind) → w ≡ kind → (b : ℕ) → w ≡ work.Call b → ⊥) → OfOthers z
@@ -179,7 +179,7 @@ module _ (s : Space) (seat : ℕ) (a : Actor) (d : TransactionData) (parcel : Op
       apart (sym u.3 ∙ ap (λ (x : Thread). x.process) same_thread ∙ sym (eqb-true a.process.made a.thread.process q.1))
 
   y-others : OfOthers y
-  y-others = fewer y s (record { calls = λ w b t l e on. sent-due s s a d v refl refl refl refl home turns w b l (ap handed_over e); frames = same-frames y s y-frames }) h
+  y-others = fewer y s (record { calls = λ w b t l e on. sent-due s s a d v refl refl refl refl home turns w b l (ap hands_out e); frames = same-frames y s y-frames }) h
 
   calls-out : (steps : y.steps ≡ s.steps) → OfOthers (call_out y a.thread.seat v.receiver.made)
   unfolding call_out owe
@@ -188,7 +188,7 @@ module _ (s : Space) (seat : ℕ) (a : Actor) (d : TransactionData) (parcel : Op
       | inl m ↦ y-others w f t j e on m c
       | inr is ↦ (
           let made : s.steps ≡ f.made = sym steps ∙ ap (λ (g : Frame). g.made) is in
-          let lt = turns.fresh f.made (w, sent-due s s a d v refl refl refl refl home turns w f.made j (ap handed_over e), ap handed_over e) in absurd (omega arith))
+          let lt = turns.fresh f.made (w, sent-due s s a d v refl refl refl refl home turns w f.made j (ap hands_out e), ap hands_out e) in absurd (omega arith))
     ]
     | inr was ↦ elim (in-push f _ y.frames i) [
       | inl m ↦ (
@@ -227,7 +227,7 @@ replied-o s a d f v home turns h =
     let k = closed-same s f.made in
     let z = owe (delivered x a d v) (OfThread a.thread.seat) work.Complete in
     told z f.caller (work.Reply s.steps) (λ w e b i. let no = sym e ∙ i in cc)
-    (fewer z x (record { calls = λ w b t l e on. subst (In w) (sym k.3) (sent-due s x a d v k.0 k.1 k.2 k.3 home turns w b l (ap handed_over e)); frames = same-frames z x (sent-frames x a d v) })
+    (fewer z x (record { calls = λ w b t l e on. subst (In w) (sym k.3) (sent-due s x a d v k.0 k.1 k.2 k.3 home turns w b l (ap hands_out e)); frames = same-frames z x (sent-frames x a d v) })
     (closes s f.made h))
 
 serve-caller : (seat : ℕ) (c : Bool) (f : Frame) → ((cond c (serve seat f) f).made ≡ f.made) × ((cond c (serve seat f) f).caller ≡ f.caller)

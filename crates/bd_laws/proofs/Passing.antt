@@ -24,7 +24,7 @@ use Rattle.bd_space.specs.Space.{Space}
 use Rattle.bd_space.specs.Seats.{actor}
 use Rattle.bd_space.specs.References.{objects_go, stays_in}
 use Rattle.bd_space.specs.Names.{names_go, assign_numbers}
-use Rattle.bd_space.specs.Todo.{owe, with_work, handed_over, is_on, list_to_read, is_item}
+use Rattle.bd_space.specs.Todo.{owe, with_work, hands_out, is_on, list_to_read, is_item}
 use Rattle.bd_space.specs.Frames.{closed, goes_to}
 use Rattle.bd_space.specs.Turns.{turn_of, turns_of, is_ripe, ripened, ripen}
 use Rattle.bd_space.specs.Notices.{follow, notify, work_goes, deaths_go}
@@ -81,7 +81,7 @@ pub record Passed (s z : Space) : Type 0 where
   pub objects : (x : Object) → In x z.objects → ((y : Object) × In y s.objects × (x.id ≡ y.id) × (x.owner ≡ y.owner)) ⊎ ((x.id.place ≡ s.steps) × Lives s.processes x.owner)
   pub from : (c : Buffer) → In c z.buffers → ((b : Buffer) × In b s.buffers × Became s b c) ⊎ New s c
   pub to : (o : ObjectId) (b : Buffer) → In b s.buffers → On o b → ((c : Buffer) × In c z.buffers × Became s b c) ⊎ ((b.handed ≡ true) ⊎ Ended z b.receiver)
-  pub lists : (w : Work) (c : Buffer) (o : ObjectId) → In w z.todo → handed_over w.kind ≡ Some c.made → In c z.buffers → On o c → w.list ≡ OfProcess c.receiver
+  pub lists : (w : Work) (c : Buffer) (o : ObjectId) → In w z.todo → hands_out w.kind ≡ Some c.made → In c z.buffers → On o c → w.list ≡ OfProcess c.receiver
 
 same-buffer : (s : Space) (b : Buffer) → Became s b b
 same-buffer s b = record { made = refl; receiver = refl; one_way = refl; target = refl; handed = inl refl }
@@ -104,7 +104,7 @@ pub record After (z y : Space) : Type 0 where
   pub processes : z.processes ≡ y.processes
   pub objects : (x : Object) → In x z.objects → In x y.objects
   pub buffers : z.buffers ≡ y.buffers
-  pub due : (w : Work) (m : ℕ) → In w z.todo → handed_over w.kind ≡ Some m → In w y.todo
+  pub due : (w : Work) (m : ℕ) → In w z.todo → hands_out w.kind ≡ Some m → In w y.todo
 
 pub after-trans : (z y x : Space) → After z y → After y x → After z x
 after-trans z y x h k = record {
@@ -236,12 +236,12 @@ delivered-passed s a d v turns l lives made owned = record {
 }
 
 -- a further work item that hands over a buffer that is no one-way call
-handing : (s z : Space) (place : ℕ) (list : TodoList) (kind : WorkKind) (n : ℕ) → handed_over kind ≡ Some n → ((c : Buffer) (o : ObjectId) → In c z.buffers → c.made ≡ n → On o c → ⊥) → OnLists z
-    → (w : Work) (c : Buffer) (o : ObjectId) → In w (with_work place z.todo list kind) → handed_over w.kind ≡ Some c.made → In c z.buffers → On o c → w.list ≡ OfProcess c.receiver
+handing : (s z : Space) (place : ℕ) (list : TodoList) (kind : WorkKind) (n : ℕ) → hands_out kind ≡ Some n → ((c : Buffer) (o : ObjectId) → In c z.buffers → c.made ≡ n → On o c → ⊥) → OnLists z
+    → (w : Work) (c : Buffer) (o : ObjectId) → In w (with_work place z.todo list kind) → hands_out w.kind ≡ Some c.made → In c z.buffers → On o c → w.list ≡ OfProcess c.receiver
 handing s z place list kind n hands none l w c o i e j on =
     elim (in-push w _ z.todo i) [
       | inl k ↦ l w c o k e j on
-      | inr is ↦ (let k : kind ≡ w.kind = ap (λ (x : Work). x.kind) is in let f : handed_over kind ≡ Some c.made = ap handed_over k ∙ e in absurd (none c o j (cc) on))
+      | inr is ↦ (let k : kind ≡ w.kind = ap (λ (x : Work). x.kind) is in let f : hands_out kind ≡ Some c.made = ap hands_out k ∙ e in absurd (none c o j (cc) on))
     ]
 
 replace-lists : (s z y : Space) → z.steps ≡ y.steps → z.processes ≡ y.processes → z.objects ≡ y.objects → z.buffers ≡ y.buffers → OnLists z → Passed s y → Passed s z
@@ -289,7 +289,7 @@ none-new s a d v turns e c o i made on =
       | inr is ↦ (let f : v.one_way ≡ c.one_way = ap (λ (x : Buffer). x.one_way) is in let t = on.0 in absurd (cc))
     ]
 
-owe-after : (z : Space) (list : TodoList) (kind : WorkKind) → handed_over kind ≡ None → After (owe z list kind) z
+owe-after : (z : Space) (list : TodoList) (kind : WorkKind) → hands_out kind ≡ None → After (owe z list kind) z
 owe-after z list kind none = untouched-after (owe z list kind) z (Untouched.owe-untouched z list kind) (OneWay.owe-less z list kind none)
 
 none-after : (z y : Space) → After z y → NoneNew y → NoneNew z
@@ -440,13 +440,13 @@ on-turn o b on = rw (on.0, on.1) refl
 -- a one-way call that ripens stands on its receiver's list
 ripened-lists : (place : ℕ) (bs : List Buffer) (older ts : List Turn) (todo : List Work) → Pairs (λ (b c : Buffer). b.made < c.made) bs
     → ((t : Turn) → In t ts → (b : Buffer) × In b bs × (turn_of b ≡ Some t))
-    → ((w : Work) (c : Buffer) (o : ObjectId) → In w todo → handed_over w.kind ≡ Some c.made → In c bs → On o c → w.list ≡ OfProcess c.receiver)
-    → (w : Work) (c : Buffer) (o : ObjectId) → In w (ripened place older todo ts) → handed_over w.kind ≡ Some c.made → In c bs → On o c → w.list ≡ OfProcess c.receiver
+    → ((w : Work) (c : Buffer) (o : ObjectId) → In w todo → hands_out w.kind ≡ Some c.made → In c bs → On o c → w.list ≡ OfProcess c.receiver)
+    → (w : Work) (c : Buffer) (o : ObjectId) → In w (ripened place older todo ts) → hands_out w.kind ≡ Some c.made → In c bs → On o c → w.list ≡ OfProcess c.receiver
 ripened-lists place bs older [] todo rise own l w c o i e j on = l w c o i e j on
 ripened-lists place bs older (t ∷ ts) todo rise own l w c o i e j on =
     ripened-lists place bs (older ++ t ∷ []) ts _ rise (λ u k. own u (inr k)) (one (is_ripe todo older t)) w c o i e j on
   where
-    one : (b : Bool) → (w : Work) (c : Buffer) (o : ObjectId) → In w (cond b (with_work place todo (OfProcess t.receiver) (work.Call t.made)) todo) → handed_over w.kind ≡ Some c.made → In c bs → On o c
+    one : (b : Bool) → (w : Work) (c : Buffer) (o : ObjectId) → In w (cond b (with_work place todo (OfProcess t.receiver) (work.Call t.made)) todo) → hands_out w.kind ≡ Some c.made → In c bs → On o c
         → w.list ≡ OfProcess c.receiver
     one false w c o i e j on = l w c o i e j on
     one true w c o i e j on =
@@ -455,7 +455,7 @@ ripened-lists place bs older (t ∷ ts) todo rise own l w c o i e j on =
           | inr is ↦ (
               let b = own t (inl refl) in
               let parts = turn-parts b.0 t b.2 in
-              let f : Some t.made ≡ Some c.made = ap (λ (x : Work). handed_over x.kind) is ∙ e in
+              let f : Some t.made ≡ Some c.made = ap (λ (x : Work). hands_out x.kind) is ∙ e in
               let same_made : t.made ≡ c.made = cc in
               let same_buffer : b.0 ≡ c = elim (pairs-either (λ (b c : Buffer). b.made < c.made) bs rise b.0 c b.1 j) [
                 | inl x ↦ x
@@ -473,12 +473,12 @@ ripen-passed s z turns h =
 
 -- ---- ends of threads and processes
 
-pub lost-on : (todo : List Work) (list : TodoList) (m : ℕ) → is_lost_with todo list m ≡ true → (w : Work) × In w todo × (is_on list w ≡ true) × (handed_over w.kind ≡ Some m)
+pub lost-on : (todo : List Work) (list : TodoList) (m : ℕ) → is_lost_with todo list m ≡ true → (w : Work) × In w todo × (is_on list w ≡ true) × (hands_out w.kind ≡ Some m)
 lost-on todo list m h =
-    let test = λ (w : Work). is_on list w && is_some_and (handed_over w.kind) (λ i. i == m) in
+    let test = λ (w : Work). is_on list w && is_some_and (hands_out w.kind) (λ i. i == m) in
     let w = any-found test todo h in
-    let k = both (is_on list w.0) (is_some_and (handed_over w.0.kind) (λ i. i == m)) w.2 in
-    (w.0, w.1, k.0, hands (handed_over w.0.kind) k.1)
+    let k = both (is_on list w.0) (is_some_and (hands_out w.0.kind) (λ i. i == m)) w.2 in
+    (w.0, w.1, k.0, hands (hands_out w.0.kind) k.1)
   where
     hands : (o : Option ℕ) → is_some_and o (λ i. i == m) ≡ true → o ≡ Some m
     hands None k = absurd (cc)

@@ -14,7 +14,7 @@ use Rattle.bd_space.specs.declared.space.WorkKind.TheVariants as work
 use Rattle.bd_space.specs.Words.{is_some_and}
 use Rattle.bd_space.specs.Space.{Space}
 use Rattle.bd_space.specs.Frames.{closed, served_innermost, is_gone, is_child_of}
-use Rattle.bd_space.specs.Todo.{owe, tell_caller, handed_over}
+use Rattle.bd_space.specs.Todo.{owe, tell_caller, hands_out}
 use Rattle.bd_space.specs.Notices.{follow, notify, work_goes, deaths_go}
 use Rattle.bd_space.specs.Names.{names_go, assign_numbers}
 use Rattle.bd_space.specs.References.{objects_go}
@@ -32,8 +32,8 @@ use Rattle.bd_laws.proofs.Innermost.{innermost-is, innermost-childless}
 
 -- ---- what leaves the frames
 
-pub call-hands : (w : Work) (b : ℕ) → w.kind ≡ work.Call b → handed_over w.kind ≡ Some b
-call-hands w b e = ap handed_over e
+pub call-hands : (w : Work) (b : ℕ) → w.kind ≡ work.Call b → hands_out w.kind ≡ Some b
+call-hands w b e = ap hands_out e
 
 pub calm : (n : ℕ) (z y : Space) → Less z y → z.frames ≡ y.frames → OnPaths n y → OnPaths n z
 calm n z y l e h = (
@@ -56,7 +56,7 @@ delivered-frames s a d v = refl
 
 -- ---- a frame closes, and its caller is told
 
-told : (n : ℕ) (z : Space) (caller : Option ℕ) (kind : WorkKind) → handed_over kind ≡ None → OnPaths n z
+told : (n : ℕ) (z : Space) (caller : Option ℕ) (kind : WorkKind) → hands_out kind ≡ None → OnPaths n z
     → OnPaths n (elim caller as (λ (o : Option ℕ). Space) [ None ↦ z | Some t ↦ owe z (OfThread t) kind ])
 told n z None kind none h = h
 told n z (Some t) kind none h = calm n _ z (owe-less z (OfThread t) kind none) (owe-frames z (OfThread t) kind) h

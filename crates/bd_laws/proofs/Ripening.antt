@@ -15,7 +15,7 @@ use Rattle.bd_space.specs.declared.space.TodoList.TheVariants.{OfProcess}
 use Rattle.bd_space.specs.declared.space.WorkKind.TheVariants as work
 use Rattle.bd_space.specs.Words.{same, changed, first_of}
 use Rattle.bd_space.specs.Space.{Space}
-use Rattle.bd_space.specs.Todo.{with_work, handed_over, is_call, is_on, work_on, reads_in, list_to_read, without_taken, is_item}
+use Rattle.bd_space.specs.Todo.{with_work, hands_out, is_call, is_on, work_on, reads_in, list_to_read, without_taken, is_item}
 use Rattle.bd_space.specs.Turns.{turn_of, turns_of, is_ripe, ripened, ripen}
 use Rattle.bd_space.specs.Freeing.{is_made_at}
 use Rattle.bd_space.specs.Returns.{buffer_in, bytes_read}
@@ -87,7 +87,7 @@ module _ (n place : ℕ) (bs : List Buffer) where
   due-call todo t m d =
       elim (in-push d.0 _ todo d.1) [
         | inl k ↦ inl (d.0, k, d.2)
-        | inr is ↦ (let e : handed_over (work.Call t.made) ≡ Some m = ap (λ (x : Work). handed_over x.kind) is ∙ d.2 in let f : Some t.made ≡ Some m = e in inr (cc))
+        | inr is ↦ (let e : hands_out (work.Call t.made) ≡ Some m = ap (λ (x : Work). hands_out x.kind) is ∙ d.2 in let f : Some t.made ≡ Some m = e in inr (cc))
       ]
 
   ripens-one : (todo : List Work) (older ts : List Turn) (t : Turn) → turns_of bs ≡ older ++ t ∷ ts → is_ripe todo older t ≡ true → InTurn n bs todo
@@ -157,24 +157,24 @@ module _ (s : Space) where
   unfolding list_to_read
   read-in t left w h = on-list s.todo (reads_in s.frames s.todo t) w (taken-in (work_on s.todo (reads_in s.frames s.todo t)) left w h)
 
-pub first-handed : (ws : List Work) (m : ℕ) → first_of (map (λ (w : Work). handed_over w.kind) ws) ≡ Some m → (w : Work) × In w ws × (handed_over w.kind ≡ Some m)
+pub first-handed : (ws : List Work) (m : ℕ) → first_of (map (λ (w : Work). hands_out w.kind) ws) ≡ Some m → (w : Work) × In w ws × (hands_out w.kind ≡ Some m)
 first-handed [] m h = absurd (cc)
-first-handed (w ∷ ws) m h = at (handed_over w.kind) refl (first-handed ws m) h
+first-handed (w ∷ ws) m h = at (hands_out w.kind) refl (first-handed ws m) h
   where
-    at : (o : Option ℕ) → handed_over w.kind ≡ o → (first_of (map (λ (w : Work). handed_over w.kind) ws) ≡ Some m → (v : Work) × In v ws × (handed_over v.kind ≡ Some m))
-        → first_of (o ∷ map (λ (w : Work). handed_over w.kind) ws) ≡ Some m → (v : Work) × In v (w ∷ ws) × (handed_over v.kind ≡ Some m)
+    at : (o : Option ℕ) → hands_out w.kind ≡ o → (first_of (map (λ (w : Work). hands_out w.kind) ws) ≡ Some m → (v : Work) × In v ws × (hands_out v.kind ≡ Some m))
+        → first_of (o ∷ map (λ (w : Work). hands_out w.kind) ws) ≡ Some m → (v : Work) × In v (w ∷ ws) × (hands_out v.kind ≡ Some m)
     at None e k h = let z = k h in (z.0, inr z.1, z.2)
     at (Some x) e k h = (w, inl refl, e ∙ h)
 
 -- the buffer that is handed over was due by one of these
-pub taken-due : (s : Space) (ws : List Work) (b : Buffer) → buffer_taken s ws ≡ Some b → In b s.buffers × ((w : Work) × In w ws × (handed_over w.kind ≡ Some b.made))
+pub taken-due : (s : Space) (ws : List Work) (b : Buffer) → buffer_taken s ws ≡ Some b → In b s.buffers × ((w : Work) × In w ws × (hands_out w.kind ≡ Some b.made))
 unfolding buffer_taken
 taken-due s ws b h =
-    option_and_then_some (buffer_in s.buffers) (first_of (map (λ w. handed_over w.kind) ws)) b h
+    option_and_then_some (buffer_in s.buffers) (first_of (map (λ w. hands_out w.kind) ws)) b h
     (λ m e f.
     let l = find-in (is_made_at m) b s.buffers f in
     let w = first-handed ws m e in
-    (l.0, (w.0, w.1, subst (λ i. handed_over w.0.kind ≡ Some i) (sym (eqb-true b.made m l.1)) w.2)))
+    (l.0, (w.0, w.1, subst (λ i. hands_out w.0.kind ≡ Some i) (sym (eqb-true b.made m l.1)) w.2)))
 
 pub made-kept : (c : Bool) (b : Buffer) → (cond c (hand_out b) b).made ≡ b.made
 made-kept true b = refl

@@ -8,7 +8,7 @@ use Rattle.bd_space.specs.declared.space.TodoList.TheVariants.{OfThread, OfProce
 use Rattle.bd_space.specs.declared.space.WorkKind.TheVariants as work
 use Rattle.bd_space.specs.declared.space.DeathNotification.{DeathNotification}
 use Rattle.bd_space.specs.declared.space.Phase.TheVariants.{Queued}
-use Rattle.bd_space.specs.Todo.{is_item, handed_over}
+use Rattle.bd_space.specs.Todo.{is_item, hands_out}
 use Rattle.bd_space.specs.Space.{Space}
 use Rattle.bd_laws.specs.Lists.{In, Pairs}
 
@@ -36,7 +36,7 @@ Home ts rs t b = (u : Thread) × In u ts × (u.seat ≡ t) × ((r : Reference) (
 -- what stands on a thread's list hands over only what its own process receives
 pub record Homed (n : ℕ) (ts : List Thread) (rs : List Reference) (td : List Work) : Type 0 where
   pub seats : Pairs OtherSeat ts
-  pub home : (w : Work) (t b : ℕ) → In w td → w.list ≡ OfThread t → handed_over w.kind ≡ Some b → Home ts rs t b
+  pub home : (w : Work) (t b : ℕ) → In w td → w.list ≡ OfThread t → hands_out w.kind ≡ Some b → Home ts rs t b
   pub carried : (r : Reference) (b q : ℕ) → In r rs → r.holder ≡ Carried b q → b < n
 
 abbrev pub AtHome : Space → Type 0

@@ -7,7 +7,7 @@ use Rattle.bd_space.specs.declared.space.Turn.{Turn}
 use Rattle.bd_space.specs.declared.space.TodoList.TheVariants.{OfProcess}
 use Rattle.bd_space.specs.declared.space.Process.{Process}
 use Rattle.bd_space.specs.declared.space.Object.{Object}
-use Rattle.bd_space.specs.Todo.{handed_over}
+use Rattle.bd_space.specs.Todo.{hands_out}
 use Rattle.bd_space.specs.Words.{same}
 use Rattle.bd_space.specs.Turns.{turn_of}
 use Rattle.bd_space.specs.Space.{Space}
@@ -19,7 +19,7 @@ On o b = (b.one_way ≡ true) × (b.target ≡ Some o)
 
 -- a work item is there by which the buffer made at m is handed over
 abbrev pub Due : List Work → ℕ → Type 0
-Due todo m = (w : Work) × In w todo × (handed_over w.kind ≡ Some m)
+Due todo m = (w : Work) × In w todo × (hands_out w.kind ≡ Some m)
 
 -- its turn has come: it was handed out, or an item is to hand it over
 abbrev pub Out : List Work → Buffer → Type 0
@@ -45,7 +45,7 @@ IsInTurn s = InTurn s.steps s.buffers s.todo
 
 -- an item that hands a one-way call over stands on the list of the process that receives it
 abbrev pub OnLists : Space → Type 0
-OnLists z = (w : Work) (c : Buffer) (o : ObjectId) → In w z.todo → handed_over w.kind ≡ Some c.made → In c z.buffers → On o c → w.list ≡ OfProcess c.receiver
+OnLists z = (w : Work) (c : Buffer) (o : ObjectId) → In w z.todo → hands_out w.kind ≡ Some c.made → In c z.buffers → On o c → w.list ≡ OfProcess c.receiver
 
 -- an object's one-way calls have its owner as their receiver, and one receiver in any case; objects, owners and processes are of
 -- earlier steps

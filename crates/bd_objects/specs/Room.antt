@@ -49,7 +49,7 @@ pub record HasRoom (t : ObjectTable) (room : Room) : Type 0 where
   pub deaths_fit : room.deaths ≤ death_room t
 
 -- a change takes at most so much room, and adds at most so many objects and death notifications
-pub record Takes (old new : ObjectTable) (room : Room) : Type 0 where
+pub record Uses (old new : ObjectTable) (room : Room) : Type 0 where
   pub objects_fit : object_room old ≤ object_room new + room.objects
   pub references_fit : reference_room old ≤ reference_room new + room.references
   pub names_fit : name_room old ≤ name_room new + room.names
@@ -60,8 +60,8 @@ pub record Takes (old new : ObjectTable) (room : Room) : Type 0 where
 abbrev pub nothing : Room
 nothing = record { objects = 0; references = 0; names = 0; deaths = 0 }
 
-abbrev pub TakesNothing : ObjectTable → ObjectTable → Type 0
-TakesNothing old new = Takes old new nothing
+abbrev pub UsesNothing : ObjectTable → ObjectTable → Type 0
+UsesNothing old new = Uses old new nothing
 
 -- for the objects that a parcel makes, a reference and a name for each of its items, and a reference to the target
 abbrev pub delivery_room : List Object → List Item → Room

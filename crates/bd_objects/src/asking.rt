@@ -98,7 +98,7 @@ impl ObjectTable {
     ghost use Rattle.bd_space.specs.Tables.{Tells, Makes};
     ghost use Rattle.bd_objects.specs.Stands.{StandsFor, IsKept, HasManager, IsAtWith, TellsWhere, MakesWhere};
     ghost use Rattle.bd_objects.specs.Numbers.{SpaceIsPastLimit};
-    ghost use Rattle.bd_objects.specs.Room.{Takes, TakesNothing, nothing, reference_room, name_room};
+    ghost use Rattle.bd_objects.specs.Room.{Uses, UsesNothing, nothing, reference_room, name_room};
 
     /// The object that the process asks for by this number, weakly or strongly. Errors, the first that holds: no such
     /// number, nobody refers to it strongly, it is the process's own.
@@ -140,7 +140,7 @@ impl ObjectTable {
         ensures err { OnErr result (IsKept self.old self.new) }
         ensures full { OnErr result (MakesWhere (StandsFor self.old) (IsAtWith place manager) SpaceIsPastLimit
             (λ s. asking.ask s p o strong)) }
-        ensures takes { Takes self.old self.new (record nothing { references = 1; names = 1 }) }
+        ensures uses { Uses self.old self.new (record nothing { references = 1; names = 1 }) }
     {
         let references = self.references.len();
         self.references.push_reserved(Reference {
@@ -180,7 +180,7 @@ impl ObjectTable {
     #[tactic(auto, unfolding(bd_space::specs::Asking::drop_asked, crate::specs::Room::rooms))]
     pub fn drop_asked(&mut self, p: u32, o: ObjectId, strong: bool)
         ensures stands { Makes (StandsFor self.old) (StandsFor self.new) (λ s. asking.drop_asked s p o strong) }
-        ensures takes { TakesNothing self.old self.new }
+        ensures uses { UsesNothing self.old self.new }
     {
         drop_asking(&mut self.references, p, o, strong);
     }
@@ -202,7 +202,7 @@ impl ObjectTable {
     #[tactic(auto, unfolding(bd_space::specs::Asking::acknowledge, crate::specs::Room::rooms))]
     pub fn acknowledge(&mut self, o: ObjectId, strong: bool)
         ensures stands { Makes (StandsFor self.old) (StandsFor self.new) (λ s. asking.acknowledge s o strong) }
-        ensures takes { TakesNothing self.old self.new }
+        ensures uses { UsesNothing self.old self.new }
     {
         drop_shaking(&mut self.references, o, strong);
     }

@@ -125,13 +125,13 @@ fn queue_due(deaths: &mut Vec<DeathNotification>, objects: &[Object], p: u32)
 impl ObjectTable {
     ghost use Rattle.bd_space.specs.Tables.{Tells, Makes};
     ghost use Rattle.bd_objects.specs.Stands.{StandsFor, IsAt, MakesWhere};
-    ghost use Rattle.bd_objects.specs.Room.{Takes, TakesNothing, nothing, death_room, death_count};
+    ghost use Rattle.bd_objects.specs.Room.{Uses, UsesNothing, nothing, death_room, death_count};
 
     /// The uncleared notifications go whose name is gone.
     #[tactic(auto, unfolding(bd_space::specs::Notices::deaths_go, crate::specs::Room::rooms))]
     pub fn deaths_go(&mut self)
         ensures stands { Makes (StandsFor self.old) (StandsFor self.new) notices.deaths_go }
-        ensures takes { TakesNothing self.old self.new }
+        ensures uses { UsesNothing self.old self.new }
     {
         keep_deaths(&mut self.deaths, self.names.as_slice());
     }
@@ -155,7 +155,7 @@ impl ObjectTable {
         requires { 1 ≤ death_room self.old }
         ensures stands { MakesWhere (StandsFor self.old) (IsAt place) (StandsFor self.new)
             (λ s. deaths_of.with_death s p o cookie phase) }
-        ensures takes { Takes self.old self.new (record nothing { deaths = 1 }) }
+        ensures uses { Uses self.old self.new (record nothing { deaths = 1 }) }
     {
         self.deaths.push_reserved(DeathNotification {
             made: place,
@@ -185,7 +185,7 @@ impl ObjectTable {
     #[tactic(auto, unfolding(bd_space::specs::Clearing::mark_cleared, crate::specs::Room::rooms))]
     pub fn mark_cleared(&mut self, made: u32)
         ensures stands { Makes (StandsFor self.old) (StandsFor self.new) (λ s. clearing.mark_cleared s made) }
-        ensures takes { TakesNothing self.old self.new }
+        ensures uses { UsesNothing self.old self.new }
     {
         mark(&mut self.deaths, made);
     }
@@ -194,7 +194,7 @@ impl ObjectTable {
     #[tactic(auto, unfolding(bd_space::specs::Deaths::without_death, crate::specs::Room::rooms))]
     pub fn without_death(&mut self, made: u32)
         ensures stands { Makes (StandsFor self.old) (StandsFor self.new) (λ s. deaths_of.without_death s made) }
-        ensures takes { TakesNothing self.old self.new }
+        ensures uses { UsesNothing self.old self.new }
     {
         drop_death(&mut self.deaths, made);
     }
@@ -203,7 +203,7 @@ impl ObjectTable {
     #[tactic(auto, unfolding(bd_space::specs::Deaths::with_phase, crate::specs::Room::rooms))]
     pub fn with_phase(&mut self, made: u32, phase: Phase)
         ensures stands { Makes (StandsFor self.old) (StandsFor self.new) (λ s. deaths_of.with_phase s made phase) }
-        ensures takes { TakesNothing self.old self.new }
+        ensures uses { UsesNothing self.old self.new }
     {
         set_phase(&mut self.deaths, made, phase);
     }
@@ -251,7 +251,7 @@ impl ObjectTable {
     #[tactic(auto, unfolding(crate::specs::Room::rooms))]
     pub fn tell_deaths(&mut self, p: u32)
         ensures stands { Makes (StandsFor self.old) (StandsFor self.new) (λ s. exits.tell_deaths s p) }
-        ensures takes { TakesNothing self.old self.new }
+        ensures uses { UsesNothing self.old self.new }
     {
         queue_due(&mut self.deaths, self.objects.as_slice(), p);
     }

@@ -127,7 +127,7 @@ impl ObjectTable {
     ghost use Rattle.bd_objects.specs.Stands.{StandsFor, IsKept, IsAtWith, MakesWhere};
     ghost use Rattle.bd_objects.specs.Delivery.{delivered};
     ghost use Rattle.bd_objects.specs.Numbers.{SpaceIsPastLimit};
-    ghost use Rattle.bd_objects.specs.Room.{Takes, delivery_room, object_room, reference_room, name_room};
+    ghost use Rattle.bd_objects.specs.Room.{Uses, delivery_room, object_room, reference_room, name_room};
 
     /// The flat object as the process is to see it: its own by ptr and cookie, anybody else's by its number.
     pub fn translated(&self, q: u32, x: &Item) -> FlatObject
@@ -164,7 +164,7 @@ impl ObjectTable {
         ensures err { OnErr result (IsKept self.old self.new) }
         ensures full { OnErr result (MakesWhere (StandsFor self.old) (IsAtWith place manager) SpaceIsPastLimit
             (λ s. delivered s receiver made.now items.now target)) }
-        ensures takes { Takes self.old self.new (delivery_room made.now items.now) }
+        ensures uses { Uses self.old self.new (delivery_room made.now items.now) }
     {
         let objects = self.objects.len();
         let references = self.references.len();

@@ -73,7 +73,7 @@ impl ObjectTable {
     ghost use Rattle.bd_space.specs.Tables.{Makes};
     ghost use Rattle.bd_space.specs.declared.space.TodoList.TheVariants.{OfThread};
     ghost use Rattle.bd_objects.specs.Stands.{StandsFor, MakesWhere};
-    ghost use Rattle.bd_objects.specs.Room.{TakesNothing};
+    ghost use Rattle.bd_objects.specs.Room.{UsesNothing};
 
     /// The references go of the buffers that are lost with the thread of a seat; the caller says which those are.
     #[tactic(auto, unfolding(bd_space::specs::ThreadExits::thread_goes, crate::specs::Room::rooms))]
@@ -82,7 +82,7 @@ impl ObjectTable {
         ensures stands { (seat : ℕ) → MakesWhere (StandsFor self.old)
             (λ s. (b : ℕ) (r : Bool) → F.post lost b r → r ≡ exits.is_lost_with s.todo (OfThread seat) b)
             (StandsFor self.new) (λ s. exits.thread_goes s seat) }
-        ensures takes { TakesNothing self.old self.new }
+        ensures uses { UsesNothing self.old self.new }
     {
         drop_lost(&mut self.references, lost);
     }
@@ -91,7 +91,7 @@ impl ObjectTable {
     #[tactic(auto, unfolding(bd_space::specs::ProcessExits::without_process, crate::specs::Room::rooms))]
     pub fn without_process(&mut self, p: u32)
         ensures stands { Makes (StandsFor self.old) (StandsFor self.new) (λ s. process_exits.without_process s p) }
-        ensures takes { TakesNothing self.old self.new }
+        ensures uses { UsesNothing self.old self.new }
     {
         drop_references_of(&mut self.references, self.objects.as_slice(), p);
         drop_names_of(&mut self.names, p);

@@ -87,7 +87,7 @@ fn keep_named(names: &mut Vec<Name>, objects: &[Object], references: &[Reference
 impl ObjectTable {
     ghost use Rattle.bd_space.specs.Tables.{Tells, Makes};
     ghost use Rattle.bd_objects.specs.Stands.{StandsFor};
-    ghost use Rattle.bd_objects.specs.Room.{TakesNothing};
+    ghost use Rattle.bd_objects.specs.Room.{UsesNothing};
 
     /// The object that the number names for the process.
     #[tactic(auto, unfolding(bd_space::specs::Names::named))]
@@ -121,7 +121,7 @@ impl ObjectTable {
     #[tactic(auto, unfolding(bd_space::specs::Names::names_go, crate::specs::Room::rooms))]
     pub fn names_go(&mut self)
         ensures stands { Makes (StandsFor self.old) (StandsFor self.new) names_of.names_go }
-        ensures takes { TakesNothing self.old self.new }
+        ensures uses { UsesNothing self.old self.new }
     {
         keep_named(
             &mut self.names,

@@ -93,7 +93,7 @@ impl ObjectTable {
     ghost use Rattle.bd_space.specs.Steps as steps;
     ghost use Rattle.bd_space.specs.Tables.{Tells};
     ghost use Rattle.bd_objects.specs.Stands.{StandsFor, HasProcesses, IsAt, TellsWhere, MakesWhere};
-    ghost use Rattle.bd_objects.specs.Room.{Takes, TakesNothing, nothing, object_room, reference_room, object_count};
+    ghost use Rattle.bd_objects.specs.Room.{Uses, UsesNothing, nothing, object_room, reference_room, object_count};
 
     /// How many objects there are.
     #[tactic(auto, unfolding(crate::specs::Room::rooms))]
@@ -148,7 +148,7 @@ impl ObjectTable {
     pub fn objects_go(&mut self, processes: &[Process])
         ensures stands { MakesWhere (StandsFor self.old) (HasProcesses processes.now) (StandsFor self.new)
             refer.objects_go }
-        ensures takes { TakesNothing self.old self.new }
+        ensures uses { UsesNothing self.old self.new }
     {
         keep_objects(&mut self.objects, processes, self.references.as_slice());
     }
@@ -161,7 +161,7 @@ impl ObjectTable {
         requires references { 1 ≤ reference_room self.old }
         ensures stands { MakesWhere (StandsFor self.old) (IsAt place) (StandsFor self.new)
             (λ s. steps.with_manager s p) }
-        ensures takes { Takes self.old self.new (record nothing { objects = 1; references = 1 }) }
+        ensures uses { Uses self.old self.new (record nothing { objects = 1; references = 1 }) }
     {
         let id = managed(place);
         self.objects.push_reserved(Object {

@@ -215,7 +215,7 @@ fn add_handshakes(references: &mut Vec<Reference>, place: u32, objects: &[Object
 impl ObjectTable {
     ghost use Rattle.bd_space.specs.Tables.{Tells};
     ghost use Rattle.bd_objects.specs.Stands.{StandsFor, MakesWhere};
-    ghost use Rattle.bd_objects.specs.Room.{Takes, nothing, reference_room};
+    ghost use Rattle.bd_objects.specs.Room.{Uses, nothing, reference_room};
 
     /// What the owner of the object is told: `BR_INCREFS`, `BR_ACQUIRE`, `BR_RELEASE` and `BR_DECREFS`, each if it is
     /// to be told that.
@@ -236,7 +236,7 @@ impl ObjectTable {
         requires { 2 * length taken.now ≤ reference_room self.old }
         ensures stands { (seat : ℕ) → MakesWhere (StandsFor self.old) (IsAt place) (StandsFor self.new)
             (λ s. reading.read_by s seat taken.now) }
-        ensures takes { Takes self.old self.new (record nothing { references = 2 * length taken.now }) }
+        ensures uses { Uses self.old self.new (record nothing { references = 2 * length taken.now }) }
     {
         let before = self.references.len();
         add_handshakes(&mut self.references, place, self.objects.as_slice(), taken);

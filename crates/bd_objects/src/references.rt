@@ -32,13 +32,13 @@ impl ObjectTable {
     ghost use Rattle.bd_space.specs.Freeing as freeing;
     ghost use Rattle.bd_space.specs.Tables.{Makes};
     ghost use Rattle.bd_objects.specs.Stands.{StandsFor};
-    ghost use Rattle.bd_objects.specs.Room.{TakesNothing};
+    ghost use Rattle.bd_objects.specs.Room.{UsesNothing};
 
     /// The references go that a buffer held.
     #[tactic(auto, unfolding(bd_space::specs::Freeing::without_buffer, crate::specs::Room::rooms))]
     pub fn without_buffer(&mut self, made: u32)
         ensures stands { Makes (StandsFor self.old) (StandsFor self.new) (λ s. freeing.without_buffer s made) }
-        ensures takes { TakesNothing self.old self.new }
+        ensures uses { UsesNothing self.old self.new }
     {
         drop_buffer(&mut self.references, made);
     }

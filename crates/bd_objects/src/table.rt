@@ -18,7 +18,7 @@ pub struct ObjectTable {
 impl ObjectTable {
     ghost use Rattle.bd_space.specs.Space.{opening};
     ghost use Rattle.bd_objects.specs.Stands.{StandsFor, IsKept};
-    ghost use Rattle.bd_objects.specs.Room.{TakesNothing, HasRoom};
+    ghost use Rattle.bd_objects.specs.Room.{UsesNothing, HasRoom};
 
     /// An empty table.
     pub fn new(alloc: Global) -> ObjectTable
@@ -36,7 +36,7 @@ impl ObjectTable {
     #[tactic(auto, unfolding(crate::specs::Room::rooms))]
     pub fn reserve(&mut self, room: Room) -> Result<(), AllocError>
         ensures stands { IsKept self.old self.new }
-        ensures takes { TakesNothing self.old self.new }
+        ensures uses { UsesNothing self.old self.new }
         ensures room { OnOk result (HasRoom self.new room) }
         // Memory was asked for: there was no room.
         ensures grown { OnErr result (HasRoom self.old room → ⊥) }

@@ -12,7 +12,7 @@ use Rattle.bd_script.specs.Hex.{digit_of, hex_digit, hex_pair, hex_word, pairs_o
 use Rattle.bd_script.specs.Text.{lines, longs_of, offsets_of}
 use Rattle.bd_uapi.specs.declared.command.TransactionData.{TransactionData}
 use Rattle.bd_uapi.specs.declared.command.Command.{Command}
-use Rattle.bd_script.specs.Requests.{area_of, record_of, command_with, write_of, send}
+use Rattle.bd_script.specs.Requests.{area_of, data_of, command_with, write_of, send}
 use Rattle.bd_script.specs.Scripts.{Read, with_line, read_from, ends, script_of, error_at, SaysAs}
 use Rattle.bd_script.specs.declared.script.Trouble.{Trouble}
 use Rattle.bd_script.specs.declared.script.Trouble.TheVariants.{Bad, Memory}
@@ -169,8 +169,8 @@ whole_script text all e some = ap ends e ∙ by (eqb all.seats 0) refl
 
 -- ---- a transaction
 
-pub sent_is : (target : Option ℕ) (code flags n : ℕ) (bytes offsets area : List ℕ) (t : TransactionData) (c : Command) → n ≡ unwrap_or target 0 → t ≡ record_of n code flags bytes offsets → c ≡ command_with target t → area ≡ area_of bytes offsets
+pub sent_is : (target : Option ℕ) (code flags n : ℕ) (bytes offsets area : List ℕ) (t : TransactionData) (c : Command) → n ≡ unwrap_or target 0 → t ≡ data_of n code flags bytes offsets → c ≡ command_with target t → area ≡ area_of bytes offsets
     → write_of c area ≡ send target code flags bytes offsets
 sent_is target code flags n bytes offsets area t c is_target is_record is_command is_area =
-    ap (λ x. write_of x area) (is_command ∙ ap (command_with target) (is_record ∙ ap (λ m. record_of m code flags bytes offsets) is_target))
-    ∙ ap (write_of (command_with target (record_of (unwrap_or target 0) code flags bytes offsets))) is_area
+    ap (λ x. write_of x area) (is_command ∙ ap (command_with target) (is_record ∙ ap (λ m. data_of m code flags bytes offsets) is_target))
+    ∙ ap (write_of (command_with target (data_of (unwrap_or target 0) code flags bytes offsets))) is_area

@@ -27,8 +27,8 @@ abbrev pub area_of : List ℕ → List ℕ → List ℕ
 area_of bytes offsets = padded bytes ++ flat_map long offsets
 
 -- the record: the offsets stand behind the padded data, and what the verb doesn't name is 0
-abbrev pub record_of : ℕ → ℕ → ℕ → List ℕ → List ℕ → TransactionData
-record_of target code flags bytes offsets = record {
+abbrev pub data_of : ℕ → ℕ → ℕ → List ℕ → List ℕ → TransactionData
+data_of target code flags bytes offsets = record {
   target = target;
   cookie = 0;
   code = code;
@@ -52,7 +52,7 @@ command_with (Some target) sent = command.Transaction sent
 
 abbrev pub send : Option ℕ → ℕ → ℕ → List ℕ → List ℕ → Request
 send target code flags bytes offsets =
-    write_of (command_with target (record_of (unwrap_or target 0) code flags bytes offsets)) (area_of bytes offsets)
+    write_of (command_with target (data_of (unwrap_or target 0) code flags bytes offsets)) (area_of bytes offsets)
 
 -- the words are code, flags, data and offsets
 abbrev pub sent : Option ℕ → List (List ℕ) → Option Request

@@ -2,7 +2,7 @@
 
 ghost use Rattle.std.specs.Prelude.{◌≡◌, Some, None, length, IfOk, MatchResult};
 ghost use Rattle.bd_script.specs.Words.{ReadsAs, ReadsOrMemory, one_of, two_of, three_of, four_of, shown};
-ghost use Rattle.bd_script.specs.Requests.{alone, area_of, command_of, command_with, handle_and_cookie_of, one_number_of, longer_command_of, open_of, padded, pointer_and_cookie_of, one_long_of, post_of, record_of, request_of, send, sent, stream_and_area, tx_of, verb_of, write_of, write_with};
+ghost use Rattle.bd_script.specs.Requests.{alone, area_of, command_of, command_with, handle_and_cookie_of, one_number_of, longer_command_of, open_of, padded, pointer_and_cookie_of, one_long_of, post_of, data_of, request_of, send, sent, stream_and_area, tx_of, verb_of, write_of, write_with};
 ghost use Rattle.bd_script.specs.declared.script.Trouble.TheVariants.{Bad};
 
 use crate::script::{Trouble, Verb};
@@ -145,7 +145,7 @@ fn command_with(target: Option<u64>, sent: TransactionData) -> Command
 }
 
 // The record of a parcel, whose offsets stand behind the padded data.
-fn record_of(
+fn data_of(
     target: u64,
     code: u32,
     flags: u32,
@@ -154,7 +154,7 @@ fn record_of(
     front: usize,
 ) -> TransactionData
     requires { front ≡ length (padded bytes.now) }
-    ensures { result ≡ record_of target code flags bytes.now offsets.now }
+    ensures { result ≡ data_of target code flags bytes.now offsets.now }
 {
     TransactionData {
         target,
@@ -182,7 +182,7 @@ fn send(
     ensures { ReadsOrMemory result (Some (send target code flags bytes.now offsets.now)) }
 {
     let (area, front) = area_of(alloc, bytes, offsets)?;
-    let sent = record_of(target.unwrap_or(0), code, flags, bytes, offsets, front);
+    let sent = data_of(target.unwrap_or(0), code, flags, bytes, offsets, front);
     write_of(alloc, &command_with(target, sent), area)
 }
 

@@ -14,7 +14,7 @@ use Rattle.bd_space.specs.Space.{Space}
 use Rattle.bd_space.specs.declared.space.Actor.{Actor}
 use Rattle.bd_space.specs.References.{reference_of, object_in}
 use Rattle.bd_space.specs.Names.{assign_numbers}
-use Rattle.bd_space.specs.Room.{needed}
+use Rattle.bd_space.specs.Windows.{needed}
 use Rattle.bd_space.specs.Todo.{is_notice}
 use Rattle.bd_space.specs.Notices.{with_notice}
 use Rattle.bd_space.specs.declared.space.Item.{Item}

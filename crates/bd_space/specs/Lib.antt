@@ -4,7 +4,7 @@ pub mod Tables
 pub mod Seats
 pub mod References
 pub mod Names
-pub mod Room
+pub mod Windows
 pub mod Frames
 pub mod Todo
 pub mod Turns

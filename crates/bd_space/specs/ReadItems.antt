@@ -18,7 +18,7 @@ use Rattle.bd_space.specs.declared.space.Phase.TheVariants.{Told}
 use Rattle.bd_space.specs.Words.{first_of, is_some_and, same, changed}
 use Rattle.bd_space.specs.Space.{Space}
 use Rattle.bd_space.specs.References.{reference_of, held_in, strong_in}
-use Rattle.bd_space.specs.Todo.{notice_of, death_of, handed_over, is_call, without_taken}
+use Rattle.bd_space.specs.Todo.{notice_of, death_of, hands_out, is_call, without_taken}
 use Rattle.bd_space.specs.Freeing.{is_made_at}
 use Rattle.bd_space.specs.Returns.{buffer_in, returns_of, bytes_read}
 
@@ -42,7 +42,7 @@ taken s left (w ∷ ws) =
 
 -- the buffer that is handed over, if any
 unfoldable pub buffer_taken : Space → List Work → Option Buffer
-buffer_taken s ws = option_and_then (buffer_in s.buffers) (first_of (map (λ w. handed_over w.kind) ws))
+buffer_taken s ws = option_and_then (buffer_in s.buffers) (first_of (map (λ w. hands_out w.kind) ws))
 
 -- the owner is to acknowledge a BR_INCREFS and a BR_ACQUIRE
 abbrev pub shakes : Return → List Bool

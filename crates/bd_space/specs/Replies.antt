@@ -12,7 +12,7 @@ use Rattle.bd_space.specs.Words.{found_or, and_then}
 use Rattle.bd_space.specs.Space.{Space}
 use Rattle.bd_space.specs.declared.space.Actor.{Actor}
 use Rattle.bd_space.specs.Seats.{actor}
-use Rattle.bd_space.specs.Room.{needed, buffers_of, place_for}
+use Rattle.bd_space.specs.Windows.{needed, buffers_of, start_for}
 use Rattle.bd_space.specs.Frames.{served_innermost, closed}
 use Rattle.bd_space.specs.Todo.{owe, tell_caller}
 use Rattle.bd_space.specs.Parcels.{Sending, sending_of}
@@ -25,7 +25,7 @@ caller_of s f = option_and_then (actor s) f.caller
 
 abbrev pub reply_placed : Space → TransactionData → Actor → Sending → Result Delivery Cause
 reply_placed s d c x =
-    and_then (place_for c.process.window (buffers_of s.buffers c.process.made) false (needed d.data_size d.offsets_size))
+    and_then (start_for c.process.window (buffers_of s.buffers c.process.made) false (needed d.data_size d.offsets_size))
     (λ start. Ok (record { receiver = c.process; target = None; one_way = false; sending = x; start = start }))
 
 abbrev pub reply_sent_to : Space → Actor → TransactionData → Option Parcel → Actor → Result Delivery Cause

@@ -31,8 +31,8 @@ sender_pid s made =
 abbrev pub target_in : List Object → Buffer → Option Object
 target_in objects b = option_and_then (object_in objects) b.target
 
-unfoldable pub record_of : Space → Buffer → TransactionData
-record_of s b = record {
+unfoldable pub data_of : Space → Buffer → TransactionData
+data_of s b = record {
   target = unwrap_or (option_map (λ o. o.ptr) (target_in s.objects b)) 0;
   cookie = unwrap_or (option_map (λ o. o.cookie) (target_in s.objects b)) 0;
   code = b.code;
@@ -65,8 +65,8 @@ unfoldable pub returns_of : Space → WorkKind → List Return
 returns_of s (work.Notice o) = returns_of_object s.references (object_in s.objects o)
 returns_of s work.Complete = br.TransactionComplete ∷ []
 returns_of s (work.Refusal r) = r ∷ []
-returns_of s (work.Call b) = one (option_map (λ x. br.Transaction (record_of s x)) (buffer_in s.buffers b))
-returns_of s (work.Reply b) = one (option_map (λ x. br.Reply (record_of s x)) (buffer_in s.buffers b))
+returns_of s (work.Call b) = one (option_map (λ x. br.Transaction (data_of s x)) (buffer_in s.buffers b))
+returns_of s (work.Reply b) = one (option_map (λ x. br.Reply (data_of s x)) (buffer_in s.buffers b))
 returns_of s (work.Verdict r) = r ∷ []
 returns_of s (work.Death n) = one (option_map (λ x. br.DeadBinder x.cookie) (find (is_notification n) s.deaths))
 returns_of s (work.Cleared cookie) = br.ClearDeathNotificationDone cookie ∷ []

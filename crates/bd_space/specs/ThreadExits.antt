@@ -13,7 +13,7 @@ use Rattle.bd_space.specs.Words.{is_some_and}
 use Rattle.bd_space.specs.Space.{Space}
 use Rattle.bd_space.specs.declared.space.Actor.{Actor}
 use Rattle.bd_space.specs.References.{buffer_of_holder}
-use Rattle.bd_space.specs.Todo.{is_on, is_call, handed_over}
+use Rattle.bd_space.specs.Todo.{is_on, is_call, hands_out}
 use Rattle.bd_space.specs.Notices.{follow}
 use Rattle.bd_space.specs.Settle.{settle}
 use Rattle.bd_space.specs.Outcomes.{Outcome}
@@ -51,7 +51,7 @@ frame_without todo seat f =
 
 -- an unread call or reply on the list would have handed this buffer over
 abbrev pub is_lost_with : List Work → TodoList → ℕ → Bool
-is_lost_with todo list b = list_any (λ w. is_on list w && is_some_and (handed_over w.kind) (λ m. m == b)) todo
+is_lost_with todo list b = list_any (λ w. is_on list w && is_some_and (hands_out w.kind) (λ m. m == b)) todo
 
 abbrev pub is_lost_reference : List Work → TodoList → Reference → Bool
 is_lost_reference todo list r = is_some_and (buffer_of_holder r.holder) (is_lost_with todo list)

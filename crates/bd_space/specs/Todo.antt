@@ -52,14 +52,14 @@ unfoldable pub list_to_read : Space → Thread → List Work
 list_to_read s t = work_on s.todo (reads_in s.frames s.todo t)
 
 -- a call, a reply or a verdict on its own list keeps a thread from calling
-abbrev pub stands_in_way : WorkKind → Bool
-stands_in_way (work.Call b) = true
-stands_in_way (work.Reply b) = true
-stands_in_way (work.Verdict r) = true
-stands_in_way _ = false
+abbrev pub keeps_from_calling : WorkKind → Bool
+keeps_from_calling (work.Call b) = true
+keeps_from_calling (work.Reply b) = true
+keeps_from_calling (work.Verdict r) = true
+keeps_from_calling _ = false
 
 unfoldable pub has_unread : Space → ℕ → Bool
-has_unread s seat = list_any (λ w. is_on (OfThread seat) w && stands_in_way w.kind) s.todo
+has_unread s seat = list_any (λ w. is_on (OfThread seat) w && keeps_from_calling w.kind) s.todo
 
 abbrev pub is_call : ℕ → WorkKind → Bool
 is_call b (work.Call c) = c == b
@@ -78,10 +78,10 @@ death_of (work.Death n) = Some n
 death_of _ = None
 
 -- the buffer that is handed over by reading it
-abbrev pub handed_over : WorkKind → Option ℕ
-handed_over (work.Call b) = Some b
-handed_over (work.Reply b) = Some b
-handed_over _ = None
+abbrev pub hands_out : WorkKind → Option ℕ
+hands_out (work.Call b) = Some b
+hands_out (work.Reply b) = Some b
+hands_out _ = None
 
 -- one item: an item is told by its list and its identity
 abbrev pub is_item : Work → Work → Bool

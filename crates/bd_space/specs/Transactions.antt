@@ -18,7 +18,7 @@ use Rattle.bd_space.specs.declared.space.Actor.{Actor}
 use Rattle.bd_space.specs.Seats.{process_in}
 use Rattle.bd_space.specs.References.{object_in, owned_in}
 use Rattle.bd_space.specs.Names.{strongly_named}
-use Rattle.bd_space.specs.Room.{needed, buffers_of, place_for}
+use Rattle.bd_space.specs.Windows.{needed, buffers_of, start_for}
 use Rattle.bd_space.specs.Frames.{innermost, served_innermost, goes_to, made_of}
 use Rattle.bd_space.specs.Todo.{owe, has_unread}
 use Rattle.bd_space.specs.Parcels.{Sending, sending_of}
@@ -64,7 +64,7 @@ caller_cause s seat =
 
 abbrev pub placed : Space → TransactionData → Callee → Sending → Result Delivery Cause
 placed s d c x =
-    and_then (place_for c.process.window (buffers_of s.buffers c.process.made) (is_one_way d) (needed d.data_size d.offsets_size))
+    and_then (start_for c.process.window (buffers_of s.buffers c.process.made) (is_one_way d) (needed d.data_size d.offsets_size))
     (λ start. Ok (record { receiver = c.process; target = Some c.object; one_way = is_one_way d; sending = x; start = start }))
 
 abbrev pub sent_to : Space → Actor → TransactionData → Option Parcel → Callee → Result Delivery Cause

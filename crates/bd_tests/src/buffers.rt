@@ -1,7 +1,7 @@
 //! Places of buffers in windows, with ample memory.
 
 ghost use Rattle.std.specs.Prelude.{◌≡◌, ◌≤◌, vec_len};
-ghost use Rattle.bd_space.specs.Room.{needed};
+ghost use Rattle.bd_space.specs.Windows.{needed};
 
 use bd_buffers::{Window, Windows};
 use bd_space::{Buffer, Bytes, ObjectId};

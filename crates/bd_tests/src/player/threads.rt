@@ -27,7 +27,7 @@ fn script_of_calls(alloc: Global) -> Result<String, AllocError> {
 }
 
 // The place of a request's only step, with which its line ends.
-fn place_in(line: &str) -> Option<usize> {
+fn start_in(line: &str) -> Option<usize> {
     let mut words = line.rsplit(' ');
     let to = words.next()?.parse::<usize>().ok()?;
     let from = words.next()?.parse::<usize>().ok()?;
@@ -44,7 +44,7 @@ fn places_told(alloc: Global, text: &str, seat: usize) -> Result<Vec<usize>, Fai
 {
     let mut places = Vec::new(alloc);
     for line in text.lines().skip(seat * CALLS).take(CALLS) {
-        places.push(place_in(line).ok_or("a line of one step")?)?;
+        places.push(start_in(line).ok_or("a line of one step")?)?;
     }
     Ok(places)
 }

@@ -2,37 +2,37 @@ use Rattle.std.proofs.Common.{◌≡◌, ℕ, Bool, List, Ok, Err, sym, ap, ◌�
 use Rattle.std.specs.Prelude.{Result, IfOk}
 use Rattle.bd_uapi.specs.declared.fault.Cause.{Cause}
 use Rattle.bd_space.specs.declared.space.Buffer.{Buffer}
-use Rattle.bd_space.specs.Room.{place_for}
-use Rattle.bd_buffers.specs.Stands.{Stands, CanTake}
+use Rattle.bd_space.specs.Windows.{start_for}
+use Rattle.bd_buffers.specs.Stands.{Stands, CanHold}
 use Rattle.bd_buffers.specs.declared.window.Window.{Window}
 use Rattle.bd_buffers.proofs.Places.{least_of, budget_of, cause_of}
 use Rattle.bd_buffers.proofs.window.Window.place.Goals as goal
 
-can_take_of : (w : Window) (one_way : Bool) (n : ℕ) (r : Result ℕ Cause) → r ≡ place_for w.size w.buffers one_way n → IfOk r (λ p. CanTake w one_way n p)
-unfolding CanTake
+can_take_of : (w : Window) (one_way : Bool) (n : ℕ) (r : Result ℕ Cause) → r ≡ start_for w.size w.buffers one_way n → IfOk r (λ p. CanHold w one_way n p)
+unfolding CanHold
 can_take_of w one_way n (Ok p) e = sym e
 can_take_of w one_way n (Err x) e = tt
 
 -- the answer in the words of the view
-of_view : (old w : Window) (one_way : Bool) (n : ℕ) (bs : List Buffer) (r : Result ℕ Cause) → r ≡ place_for old.size bs one_way n → bs ≡ old.buffers → old ≡ w
-    → r ≡ place_for w.size w.buffers one_way n
-of_view old w one_way n bs r e f g = e ∙ ap (λ xs. place_for old.size xs one_way n) f ∙ ap (λ (v : Window). place_for v.size v.buffers one_way n) g
+of_view : (old w : Window) (one_way : Bool) (n : ℕ) (bs : List Buffer) (r : Result ℕ Cause) → r ≡ start_for old.size bs one_way n → bs ≡ old.buffers → old ≡ w
+    → r ≡ start_for w.size w.buffers one_way n
+of_view old w one_way n bs r e f g = e ∙ ap (λ xs. start_for old.size xs one_way n) f ∙ ap (λ (v : Window). start_for v.size v.buffers one_way n) g
 
 -- and in those of what the window stands for
-for_all : (old w : Window) (size : ℕ) (live : List Buffer) (one_way : Bool) (n : ℕ) (bs : List Buffer) (r : Result ℕ Cause) → r ≡ place_for old.size bs one_way n
-    → bs ≡ old.buffers → old ≡ w → Stands w size live → r ≡ place_for size live one_way n
+for_all : (old w : Window) (size : ℕ) (live : List Buffer) (one_way : Bool) (n : ℕ) (bs : List Buffer) (r : Result ℕ Cause) → r ≡ start_for old.size bs one_way n
+    → bs ≡ old.buffers → old ≡ w → Stands w size live → r ≡ start_for size live one_way n
 for_all old w size live one_way n bs r e f g is =
-    of_view old w one_way n bs r e f g ∙ ap (λ m. place_for m w.buffers one_way n) is.size_is ∙ ap (λ xs. place_for size xs one_way n) is.buffers_are
+    of_view old w one_way n bs r e f g ∙ ap (λ m. start_for m w.buffers one_way n) is.size_is ∙ ap (λ xs. start_for size xs one_way n) is.buffers_are
 
 pub returns-clause-can_take : goal.returns-clause-can_take
-returns-clause-can_take c = can_take_of c.args.self.now _ _ _ (of_view _ _ _ _ _ _ c.place_for.ensures c.deref.ensures.value c.self.view_is)
+returns-clause-can_take c = can_take_of c.args.self.now _ _ _ (of_view _ _ _ _ _ _ c.start_for.ensures c.deref.ensures.value c.self.view_is)
 
 pub returns-clause-least : goal.returns-clause-least
-returns-clause-least c = λ size bs is. least_of size bs c.args.one_way _ _ (for_all _ _ size bs _ _ _ _ c.place_for.ensures c.deref.ensures.value c.self.view_is is)
+returns-clause-least c = λ size bs is. least_of size bs c.args.one_way _ _ (for_all _ _ size bs _ _ _ _ c.start_for.ensures c.deref.ensures.value c.self.view_is is)
 
 pub returns-clause-budget : goal.returns-clause-budget
-returns-clause-budget c = λ size bs is. budget_of size bs c.args.one_way _ _ (for_all _ _ size bs _ _ _ _ c.place_for.ensures c.deref.ensures.value c.self.view_is is)
+returns-clause-budget c = λ size bs is. budget_of size bs c.args.one_way _ _ (for_all _ _ size bs _ _ _ _ c.start_for.ensures c.deref.ensures.value c.self.view_is is)
 
 pub returns-clause-cause : goal.returns-clause-cause
 returns-clause-cause c = λ size bs is.
-    cause_of size bs c.args.one_way c.args.data_size c.args.offsets_size _ (for_all _ _ size bs _ _ _ _ c.place_for.ensures c.deref.ensures.value c.self.view_is is)
+    cause_of size bs c.args.one_way c.args.data_size c.args.offsets_size _ (for_all _ _ size bs _ _ _ _ c.start_for.ensures c.deref.ensures.value c.self.view_is is)

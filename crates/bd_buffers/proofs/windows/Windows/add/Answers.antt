@@ -1,10 +1,10 @@
 use Rattle.std.proofs.Common.{ℕ, ◌≤◌, refl, sym, ap, ◌∙◌, subst}
 use Rattle.std.specs.List.{position}
 use Rattle.bd_space.specs.Delivery.{add_buffer}
-use Rattle.bd_buffers.specs.Stands.{CanTake}
+use Rattle.bd_buffers.specs.Stands.{CanHold}
 use Rattle.bd_buffers.specs.declared.windows.OwnedWindow.{OwnedWindow}
 use Rattle.bd_buffers.specs.WindowsStand.{is_owned_by, buffer_room, CanAdd}
-use Rattle.bd_buffers.proofs.AllWindows.{is_at, room_at, can_take_at, can_take_nowhere, none_at, buffer_added}
+use Rattle.bd_buffers.proofs.AllWindows.{is_at, room_at, can_hold_at, can_hold_nowhere, none_at, buffer_added}
 use Rattle.bd_buffers.proofs.windows.Windows.add.Goals as goal
 
 pub commit-requires-clause-room : goal.commit-requires-clause-room
@@ -17,12 +17,12 @@ commit-requires-clause-room c =
     subst P (room_at t p c.in-Some.at c.index_mut.result.now is) c.requires.room
 
 pub commit-requires-clause-can_take : goal.commit-requires-clause-can_take
-unfolding CanAdd CanTake
+unfolding CanAdd CanHold
 commit-requires-clause-can_take c =
     let t = c.args.self.now in
     let p = c.args.buffer.receiver in
     let is = is_at t p c.in-Some.at c.index_mut.result.now (sym (c.in-Some.ensures ∙ ap (position (is_owned_by p)) c.deref.ensures.value)) c.index_mut.ensures.value in
-    can_take_at t p c.in-Some.at c.index_mut.result.now c.args.buffer.one_way c.args.buffer.size c.args.buffer.start is.found c.requires.can_add
+    can_hold_at t p c.in-Some.at c.index_mut.result.now c.args.buffer.one_way c.args.buffer.size c.args.buffer.start is.found c.requires.can_add
 
 pub returns-in-Some : goal.returns-in-Some
 unfolding add_buffer
@@ -41,4 +41,4 @@ returns-in_default c = λ s stands e.
     let t = c.args.self.now in
     let p = c.args.buffer.receiver in
     let missed = none_at (is_owned_by p) t.windows.items (sym (ap (position (is_owned_by p)) c.deref.ensures.value) ∙ sym c.position_of.ensures ∙ c.in_default.is) in
-    absurd (can_take_nowhere t p c.args.buffer.one_way c.args.buffer.size c.args.buffer.start missed c.requires.can_add)
+    absurd (can_hold_nowhere t p c.args.buffer.one_way c.args.buffer.size c.args.buffer.start missed c.requires.can_add)

@@ -1,5 +1,5 @@
 use Rattle.std.proofs.Common.{sym, ap, ◌∙◌, ◌+◌, find}
-use Rattle.bd_space.specs.Room.{buffers_of}
+use Rattle.bd_space.specs.Windows.{buffers_of}
 use Rattle.bd_space.specs.Freeing.{buffer_at_pointer, is_buffer_at}
 use Rattle.bd_buffers.specs.WindowsStand.{is_owned_by}
 use Rattle.bd_buffers.proofs.InSpace.{at_pointer_in}

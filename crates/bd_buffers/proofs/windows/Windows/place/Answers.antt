@@ -1,18 +1,18 @@
 use Rattle.std.proofs.Common.{ℕ, Bool, ◌≡◌, ◌+◌, Some, Ok, Err, sym, ap, ◌∙◌, find, refl}
 use Rattle.std.specs.Prelude.{Result, IfOk}
 use Rattle.bd_uapi.specs.declared.fault.Cause.{Cause}
-use Rattle.bd_space.specs.Room.{buffers_of, place_for, needed}
-use Rattle.bd_buffers.specs.Stands.{CanTake}
+use Rattle.bd_space.specs.Windows.{buffers_of, start_for, needed}
+use Rattle.bd_buffers.specs.Stands.{CanHold}
 use Rattle.bd_buffers.specs.declared.windows.OwnedWindow.{OwnedWindow}
 use Rattle.bd_buffers.specs.declared.windows.Windows.{Windows}
 use Rattle.bd_buffers.specs.WindowsStand.{is_owned_by, CanAdd}
-use Rattle.bd_buffers.proofs.AllWindows.{owner_found, owner_missed, owner_gone, is_process, can_take_back, fits_whole}
+use Rattle.bd_buffers.proofs.AllWindows.{owner_found, owner_missed, owner_gone, is_process, can_hold_back, fits_whole}
 use Rattle.bd_buffers.proofs.windows.Windows.place.Goals as goal
 
 can_add_of : (t : Windows) (p : ℕ) (w : OwnedWindow) (one_way : Bool) (n : ℕ) (r : Result ℕ Cause) → find (is_owned_by p) t.windows.items ≡ Some w
-    → IfOk r (λ start. CanTake w.window one_way n start) → IfOk r (λ start. CanAdd t p one_way n start)
-unfolding CanAdd CanTake
-can_add_of t p w one_way n (Ok start) found can = can_take_back t p w one_way n start found can
+    → IfOk r (λ start. CanHold w.window one_way n start) → IfOk r (λ start. CanAdd t p one_way n start)
+unfolding CanAdd CanHold
+can_add_of t p w one_way n (Ok start) found can = can_hold_back t p w one_way n start found can
 can_add_of t p w one_way n (Err x) found can = tt
 
 pub returns-in-None-clause-computed : goal.returns-in-None-clause-computed
@@ -25,7 +25,7 @@ returns-in-Some-clause-computed c = λ s q stands lives.
     let found = sym (c.in-Some.ensures ∙ ap (find (is_owned_by c.args.p)) c.deref.ensures.value) in
     let own = owner_found c.args.self.now (s.steps + 1) c.args.p s.processes s.buffers q c.in-Some.w.now stands lives found in
     c.place.ensures.computed q.window (buffers_of s.buffers q.made) own
-    ∙ ap (λ m. place_for q.window (buffers_of s.buffers m) c.args.one_way (needed c.args.data_size c.args.offsets_size)) (is_process s.processes c.args.p q lives)
+    ∙ ap (λ m. start_for q.window (buffers_of s.buffers m) c.args.one_way (needed c.args.data_size c.args.offsets_size)) (is_process s.processes c.args.p q lives)
 
 pub returns-in-Some-clause-can_add : goal.returns-in-Some-clause-can_add
 returns-in-Some-clause-can_add c =

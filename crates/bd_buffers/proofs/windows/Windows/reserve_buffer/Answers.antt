@@ -2,7 +2,7 @@ use Rattle.std.proofs.Common.{ℕ, ◌≡◌, ◌≤◌, List, find, refl, sym, 
 use Rattle.std.specs.Prelude.{OnOk, OnErr}
 use Rattle.std.specs.List.{position}
 use Rattle.bd_buffers.specs.declared.windows.OwnedWindow.{OwnedWindow}
-use Rattle.bd_buffers.specs.WindowsStand.{ProcessWindow, is_owned_by, is_of, buffer_room, CanAdd, CanTakeIn}
+use Rattle.bd_buffers.specs.WindowsStand.{ProcessWindow, is_owned_by, is_of, buffer_room, CanAdd, CanHoldIn}
 use Rattle.bd_buffers.proofs.AllWindows.{is_at, room_at, room_left, room_of_none, none_at, stay, stay_seen}
 use Rattle.bd_buffers.proofs.windows.Windows.reserve_buffer.Goals as goal
 
@@ -21,7 +21,7 @@ pub returns-in-Some-clause-can_add : goal.returns-in-Some-clause-can_add
 unfolding CanAdd
 returns-in-Some-clause-can_add c = λ q one_way size start can.
     let found = sym (c.in-Some.ensures ∙ ap (position (is_owned_by c.args.p)) c.deref.ensures.value) in
-    let P : List ProcessWindow → Type 0 = λ xs. CanTakeIn (find (is_of q) xs) one_way size start in
+    let P : List ProcessWindow → Type 0 = λ xs. CanHoldIn (find (is_of q) xs) one_way size start in
     subst P (sym (stay_seen c.args.self.now c.args.p c.in-Some.at c.index_mut.result.now c.reserve.new.self found c.index_mut.ensures.value c.reserve.ensures.stands)) can
 
 pub returns-in-Some-clause-room : goal.returns-in-Some-clause-room

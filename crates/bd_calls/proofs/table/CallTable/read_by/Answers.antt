@@ -1,7 +1,7 @@
 use Rattle.std.proofs.Common.{◌∙◌, ap, sym, map}
 use Rattle.bd_space.specs.declared.space.Work.{Work}
 use Rattle.bd_space.specs.Words.{first_of}
-use Rattle.bd_space.specs.Todo.{handed_over, without_taken}
+use Rattle.bd_space.specs.Todo.{hands_out, without_taken}
 use Rattle.bd_space.specs.ReadItems.{read_by, served_frames, buffer_taken}
 use Rattle.bd_calls.specs.Turn.{handed_turns}
 use Rattle.bd_calls.proofs.OneWay.{turns-handed}
@@ -11,7 +11,7 @@ pub returns-clause-stands : goal.returns-clause-stands
 unfolding read_by buffer_taken
 returns-clause-stands c =
     λ s stands.
-    let made = first_of (map (λ (w : Work). handed_over w.kind) c.args.taken.now) in
+    let made = first_of (map (λ (w : Work). hands_out w.kind) c.args.taken.now) in
     record {
       threads_are = stands.threads_are;
       frames_are = c.serve.ensures.frames ∙ ap (served_frames c.args.seat c.args.taken.now) stands.frames_are;

@@ -1,7 +1,7 @@
 use Rattle.std.proofs.Common.{◌≡◌, ◌≤◌, length, ◌∙◌, sym, subst, arith, add-one, rules}
 use Rattle.bd_space.specs.Settle.{settle, settle_times, settle_step}
 use Rattle.bd_calls.specs.Stands.{StandsFor}
-use Rattle.bd_calls.proofs.Rooms.{takes-one_more}
+use Rattle.bd_calls.proofs.Rooms.{uses-one_more}
 use Rattle.bd_calls.proofs.Settling.{settle-steps, settle-stopped}
 use Rattle.bd_calls.proofs.table.CallTable.settle.Goals as goal
 
@@ -21,7 +21,7 @@ loop-settled-preserved c = record {
   stands = λ s stands place.
       let n = c.loop-settled._settled in
       rw add-one (c.settle_step.ensures.stands (settle_times n s) (c.loop-settled.invariant.stands s stands place) (settle-steps n s ∙ place));
-  takes = takes-one_more _ _ _ _ c.loop-settled.invariant.takes c.settle_step.ensures.takes;
+  uses = uses-one_more _ _ _ _ c.loop-settled.invariant.uses c.settle_step.ensures.uses;
 }
 
 pub returns-clause-stands : goal.returns-clause-stands

@@ -8,7 +8,7 @@ use Rattle.bd_engine.proofs.tables.Tables.owe_deaths.Goals as goal
 pub loop-k-preserved : goal.loop-k-preserved
 loop-k-preserved c = record {
   stands = λ s h. c.owe_death_at.ensures.stands (s.steps + 1) s (c.loop-k.invariant.stands s h);
-  takes = search rules;
+  uses = search rules;
 }
 
 pub returns-clause-stands : goal.returns-clause-stands

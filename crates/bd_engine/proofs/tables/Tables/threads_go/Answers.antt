@@ -10,6 +10,6 @@ loop-seat-preserved c = record {
   stands = λ s h.
       subst (λ (z : Space). StandsAt (z.steps + 1) c.thread_goes.new.self z) (sym (fold_more thread_goes s c.args.seats.now c.loop-seat.seat-index 0 c.loop-seat-test.true))
       (c.thread_goes.ensures.stands _ (c.loop-seat.invariant.stands s h));
-  takes = search rules;
+  uses = search rules;
   deaths = omega arith;
 }
