@@ -26,7 +26,7 @@ use Rattle.bd_player.specs.Workers.{Acts, SaysCall, SaysAwait, idles}
 use Rattle.bd_player.specs.Playing.{Play, Does, Runs, RunsLine, Plays, playing}
 use Rattle.bd_driver.specs.Rest.{is_waiting}
 
-pub whos : List SeatState → List ℕ
+abbrev pub whos : List SeatState → List ℕ
 whos [] = []
 whos (s ∷ ss) = s.view.who ∷ whos ss
 
@@ -99,9 +99,13 @@ lines_same : {S : Type 0} (seats turns : ℕ) (takes : S → ℕ → Said → S 
 lines_same {S} seats turns takes full [] p q h = ap (λ (x : Play S). whos x.seats) (sym h)
 lines_same seats turns takes full (line ∷ lines) p q h = lines_same seats turns takes full lines h.0 q h.2 ∙ line_same seats turns takes full p line h.0 h.1
 
+abbrev IsNil : List ℕ → Type 0
+IsNil [] = Unit {0}
+IsNil (n ∷ ns) = ⊥
+
 same_who : (xs ys : List SeatState) (i : ℕ) (s : SeatState) → whos ys ≡ whos xs → get_elem? xs i ≡ some s → (t : SeatState) × (get_elem? ys i ≡ some t) × (t.view.who ≡ s.view.who)
 same_who [] ys i s e at = absurd (some-ne-none s (sym at))
-same_who (x ∷ xs) [] i s e at = absurd (let n : 0 ≡ length (whos xs) + 1 = ap length e in omega (arith, n))
+same_who (x ∷ xs) [] i s e at = absurd (subst IsNil e tt)
 same_who (x ∷ xs) (y ∷ ys) zero s e at = (y, refl, ap (λ (l : List ℕ). get_or l 0 0) e ∙ ap (λ (t : SeatState). t.view.who) (some-injective x s at))
 same_who (x ∷ xs) (y ∷ ys) (suc i) s e at = same_who xs ys i s (ap (λ (l : List ℕ). drop 1 l) e) at
 
@@ -119,14 +123,14 @@ all_kept t n old new dealt same = λ who below.
     (h.0, k.0, k.1, k.2 ∙ h.3)
 
 -- what finish says of the seats that lines were run with
-pub whole : {S : Type 0} (seats turns : ℕ) (takes : S → ℕ → Said → S → Type 0) (full : S → Bool) (lines : List Line) (old new : List SeatState) (s u : S) (t : TableId) (len : ℕ) (r : Record)
-    → Plays seats turns takes full lines old s new u → old ≡ new_seats t seats 0 seats → length new ≡ length old → len ≡ length old
+pub whole : {S : Type 0} (seats turns : ℕ) (takes : S → ℕ → Said → S → Type 0) (full : S → Bool) (lines : List Line) (lent old new : List SeatState) (s u : S) (t : TableId) (len : ℕ) (r : Record)
+    → Plays seats turns takes full lines lent s new u → lent ≡ old → old ≡ new_seats t seats 0 seats → length new ≡ length old → len ≡ length old
     → (AllSeats seats (take len (new ++ drop (length new) old)) → IsFinal seats (take len (new ++ drop (length new) old)) r.seats r.entries)
     → IsHistory (history_in r)
-whole seats turns takes full lines old new s u t len r plays dealt same count final =
+whole seats turns takes full lines lent old new s u t len r plays is dealt same count final =
     let nothing : drop (length new) old ≡ [] = drop_all (length new) old (omega (arith, same)) in
     let joined : new ++ drop (length new) old ≡ new = ap (λ (ys : List SeatState). new ++ ys) nothing ∙ append-nil new in
     let back : take len (new ++ drop (length new) old) ≡ new = ap (take len) joined ∙ take_all len new (omega (arith, same, count)) in
-    let all : AllSeats seats new = all_kept t seats old new dealt (lines_same seats turns takes full plays.run (playing old [] s) (playing new plays.told u) plays.runs) in
+    let all : AllSeats seats new = all_kept t seats old new dealt (lines_same seats turns takes full plays.run (playing lent [] s) (playing new plays.told u) plays.runs ∙ ap whos is) in
     let ends : IsFinal seats (take len (new ++ drop (length new) old)) r.seats r.entries = final (subst (AllSeats seats) (sym back) all) in
     subst (λ (n : ℕ). IsHistory (record { seats = n; entries = r.entries })) (sym ends.seats_are) ends.lawful

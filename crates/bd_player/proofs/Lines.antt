@@ -1,5 +1,5 @@
 -- Lines played one after another.
-use Rattle.std.proofs.Common.{◌≡◌, ◌⊎◌, inl, inr, ℕ, ◌+◌, ◌<◌, ◌≤◌, Bool, true, false, not, arith, List, [], ◌∷◌, ◌++◌, length, get_or, set, refl, sym, ◌∙◌, ap, subst, append_assoc, append-nil, true≢false}
+use Rattle.std.proofs.Common.{◌≡◌, ◌⊎◌, inl, inr, ℕ, suc, ◌+◌, ◌<◌, ◌≤◌, Bool, true, false, not, arith, List, [], ◌∷◌, ◌++◌, length, get_or, set, refl, sym, ◌∙◌, ap, subst, append_assoc, append-nil, true≢false}
 use Rattle.std.specs.List.{FoldsTo}
 use Rattle.std.proofs.lemmas.Fn.{FoldsTo-push}
 use Rattle.bd_driver.specs.States.{SeatState}
@@ -101,7 +101,7 @@ ends_all seats turns takes full lines rest old new s t far none = record {
 }
 
 pub shorter : (n m : ℕ) (xs ys : List Line) (x : Line) → n ≡ length xs → xs ≡ x ∷ ys → m + 1 ≡ n → m ≡ length ys
-shorter n m xs ys x count is less = let e : length xs ≡ length ys + 1 = ap length is in omega (arith, count, less, e)
+shorter n m xs ys x count is less = let e : length xs ≡ suc (length ys) = ap length is in omega (arith, count, less, e)
 
 -- what has room isn't full
 pub room_left : (full room : Bool) → room ≡ not full → room ≡ true → full ≡ false

@@ -91,9 +91,12 @@ fn run_line<D: Desk, S: Sink>(
         return true;
     }
     let said = act(desk, &mut seats[place], line.verb, turns);
-    let done = said.status() == DONE;
+    let status = said.status();
     let has_room = sink.take(line.number, said);
-    done && has_room
+    if status != DONE {
+        return false;
+    }
+    has_room
 }
 
 /// Runs the lines in their order, up to one after which no more is to run: it asks for a status other than 0, or the
