@@ -21,4 +21,4 @@ IsVerdict bytes v = (r : Record) × Spells bytes r × Holds r v
 
 -- with the status 0 the bytes, where they are known, spell a history
 abbrev pub IsLawfulAt0 : Option (List ℕ) → ℕ → Type 0
-IsLawfulAt0 known status = status ≡ 0 → IfSome known (λ bytes. (r : Record) × Spells bytes r × IsHistory (history_of r))
+IsLawfulAt0 known status = status ≡ 0 → IfSome known (λ bytes. (r : Record) × Spells bytes r × IsHistory (history_in r))
