@@ -1,6 +1,6 @@
 -- Seats after lines: each is still there, so that the history is whole.
 use Rattle.std.proofs.Common.{◌≡◌, ◌≢◌, ◌⊎◌, inl, inr, ⊎_elim, ℕ, zero, suc, ◌+◌, ◌<◌, ◌≤◌, Bool, true, false, List, [], ◌∷◌, ◌++◌, length, get_or, set, take, drop, refl, sym, ◌∙◌, ap, subst, arith}
-use mathlib.Core.Option.{Option, none, some, some-ne-none, some-injective}
+use mathlib.Core.Option.{some, some-ne-none, some-injective}
 use mathlib.Core.Logic.{dite}
 use native.Mathlib.Decide.{ℕ_discrete}
 use lib.ListN.{get_elem?}
@@ -9,7 +9,7 @@ use Rattle.std.proofs.lemmas.List.{drop_all, take_all, append-nil}
 use Rattle.atomic_table.specs.Seated.{TableId}
 use Rattle.bd_space.specs.declared.step.Request.{Request}
 use Rattle.bd_space.specs.declared.record.Record.{Record}
-use Rattle.bd_space.specs.Histories.{History, IsHistory, history_in}
+use Rattle.bd_space.specs.Histories.{IsHistory}
 use Rattle.bd_driver.specs.States.{SeatState}
 use Rattle.bd_driver.specs.Together.{AllSeats, IsFinal, new_seats}
 use Rattle.bd_driver.specs.Handing.{Collects, Withdraws}

@@ -1,12 +1,12 @@
 -- Lines played one after another.
-use Rattle.std.proofs.Common.{◌≡◌, ◌⊎◌, inl, inr, ℕ, suc, ◌+◌, ◌<◌, ◌≤◌, Bool, true, false, not, arith, List, [], ◌∷◌, ◌++◌, length, get_or, set, refl, sym, ◌∙◌, ap, subst, append_assoc, append-nil, true≢false}
+use Rattle.std.proofs.Common.{◌≡◌, inl, inr, ℕ, suc, ◌+◌, ◌<◌, ◌≤◌, Bool, true, false, not, arith, List, [], ◌∷◌, ◌++◌, length, get_or, set, refl, sym, ◌∙◌, ap, append_assoc, true≢false}
 use Rattle.std.specs.List.{FoldsTo}
 use Rattle.std.proofs.lemmas.Fn.{FoldsTo-push}
 use Rattle.bd_driver.specs.States.{SeatState}
 use Rattle.bd_script.specs.declared.script.Line.{Line}
 use Rattle.bd_player.specs.declared.said.Said.{Said}
 use Rattle.bd_player.specs.Workers.{said_status}
-use Rattle.bd_player.specs.Playing.{Play, playing, EachDone, GoesOn, Does, Runs, RunsLine, RunsOn, Plays}
+use Rattle.bd_player.specs.Playing.{playing, EachDone, GoesOn, Does, Runs, RunsLine, RunsOn, Plays}
 
 done_more : (told : List (ℕ × Said)) (n : ℕ) (s : Said) → EachDone told → said_status s ≡ 0 → EachDone (told ++ (n, s) ∷ [])
 done_more [] n s h i = (i, tt)

@@ -1,4 +1,4 @@
-use Rattle.std.proofs.Common.{rules, arith, ◌≡◌, get_or, true, false, sym, ap, true≢false}
+use Rattle.std.proofs.Common.{rules, arith, ◌≡◌, get_or, false, sym, ap, true≢false}
 use Rattle.bd_player.proofs.Lines.{ran, room_left, has_room}
 use Rattle.bd_player.proofs.playing.run_line.Goals as goal
 
