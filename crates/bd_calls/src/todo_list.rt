@@ -14,7 +14,7 @@ ghost use Rattle.bd_calls.specs.TodoList.{AnswersBy};
 use crate::frame::innermost_of;
 use crate::table::CallTable;
 use crate::thread::thread_of;
-use crate::work::{hands_over, is_call, is_notice, is_on, is_taken, reply_of, keeps_from_calling};
+use crate::work::{hands_over, is_call, is_notice, is_on, is_taken, keeps_from_calling, reply_of};
 use bd_space::{Frame, Identity, ObjectId, Thread, TodoList, Work, WorkKind};
 
 fn has_work(todo: &[Work], list: TodoList) -> bool
@@ -26,7 +26,8 @@ fn has_work(todo: &[Work], list: TodoList) -> bool
 fn has_in_way(todo: &[Work], list: TodoList) -> bool
     ensures { result ≡ list_any (λ w. spec.is_on list w && spec.keeps_from_calling w.kind) todo.now }
 {
-    todo.iter().any(|w| is_on(list, w) && keeps_from_calling(w.kind))
+    todo.iter()
+        .any(|w| is_on(list, w) && keeps_from_calling(w.kind))
 }
 
 fn has_notice(todo: &[Work], object: ObjectId) -> bool
