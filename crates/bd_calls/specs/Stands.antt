@@ -1,5 +1,5 @@
 -- What a call table stands for: the threads, frames, work items and one-way calls of the object space.
-use Rattle.std.specs.Prelude.{ℕ, ◌≡◌, List}
+use Rattle.std.specs.Prelude.{◌≡◌, List}
 use Rattle.bd_space.specs.declared.space.Thread.{Thread}
 use Rattle.bd_space.specs.declared.space.Frame.{Frame}
 use Rattle.bd_space.specs.declared.space.Work.{Work}
@@ -17,7 +17,3 @@ pub record Stands (t : CallTable) (threads : List Thread) (frames : List Frame) 
 
 abbrev pub StandsFor : CallTable → Space → Type 0
 StandsFor t s = Stands t s.threads s.frames s.todo (turns_of s.buffers)
-
--- the step at this place makes by f one of the other kind from every such space
-abbrev pub MakesAt : ℕ → (Space → Type 0) → (Space → Type 0) → (Space → Space) → Type 0
-MakesAt place P Q f = (s : Space) → P s → s.steps ≡ place → Q (f s)

@@ -232,8 +232,8 @@ pub(crate) fn lose_unread(frames: &mut Vec<Frame>, todo: &[Work], list: TodoList
 impl CallTable {
     ghost use Rattle.bd_space.specs.Space.{Space};
     ghost use Rattle.bd_space.specs.Transactions.{call_out};
-    ghost use Rattle.bd_space.specs.Tables.{Tells, Makes};
-    ghost use Rattle.bd_calls.specs.Stands.{Stands, StandsFor, MakesAt};
+    ghost use Rattle.bd_space.specs.Tables.{Tells, Makes, MakesAt};
+    ghost use Rattle.bd_calls.specs.Stands.{Stands, StandsFor};
     ghost use Rattle.bd_calls.specs.Room.{Uses, UsesNothing, nothing, frame_room, work_room, frame_count};
 
     /// The frame of the call made at this place.

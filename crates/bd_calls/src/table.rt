@@ -24,8 +24,8 @@ impl CallTable {
     ghost use Rattle.bd_space.specs.ProcessExits as exits;
     ghost use Rattle.bd_space.specs.ThreadExits as thread_exits;
     ghost use Rattle.bd_space.specs.ReadItems as reading;
-    ghost use Rattle.bd_space.specs.Tables.{Tells, Makes};
-    ghost use Rattle.bd_calls.specs.Stands.{Stands, StandsFor, MakesAt};
+    ghost use Rattle.bd_space.specs.Tables.{Tells, Makes, MakesAt};
+    ghost use Rattle.bd_calls.specs.Stands.{Stands, StandsFor};
     ghost use Rattle.bd_calls.specs.Room.{Uses, UsesNothing, nothing, HasRoom};
 
     /// An empty table. Takes no memory.

@@ -54,8 +54,8 @@ impl CallTable {
     ghost use Rattle.bd_space.specs.Space.{Space};
     ghost use Rattle.bd_space.specs.Steps.{with_thread};
     ghost use Rattle.bd_space.specs.Commands.{with_looping};
-    ghost use Rattle.bd_space.specs.Tables.{Tells, Makes};
-    ghost use Rattle.bd_calls.specs.Stands.{Stands, StandsFor, MakesAt};
+    ghost use Rattle.bd_space.specs.Tables.{Tells, Makes, MakesAt};
+    ghost use Rattle.bd_calls.specs.Stands.{Stands, StandsFor};
     ghost use Rattle.bd_calls.specs.Room.{Uses, UsesNothing, nothing, thread_room};
 
     /// The live thread of a seat.

@@ -161,8 +161,8 @@ impl CallTable {
     ghost use Rattle.bd_space.specs.declared.space.Object.{Object};
     ghost use Rattle.bd_space.specs.Space.{Space};
     ghost use Rattle.bd_space.specs.Histories.{is_ready};
-    ghost use Rattle.bd_space.specs.Tables.{Tells, Makes};
-    ghost use Rattle.bd_calls.specs.Stands.{Stands, StandsFor, MakesAt};
+    ghost use Rattle.bd_space.specs.Tables.{Tells, Makes, MakesAt};
+    ghost use Rattle.bd_calls.specs.Stands.{Stands, StandsFor};
     ghost use Rattle.bd_calls.specs.Room.{Uses, UsesNothing, nothing, work_room};
 
     /// Whether an unread call, reply or verdict on a thread's own list keeps it from calling.

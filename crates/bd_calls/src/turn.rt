@@ -113,8 +113,8 @@ impl CallTable {
     ghost use Rattle.bd_space.specs.Space.{Space};
     ghost use Rattle.bd_space.specs.Delivery.{add_buffer};
     ghost use Rattle.bd_space.specs.Freeing.{without_buffer};
-    ghost use Rattle.bd_space.specs.Tables.{Tells, Makes};
-    ghost use Rattle.bd_calls.specs.Stands.{Stands, StandsFor, MakesAt};
+    ghost use Rattle.bd_space.specs.Tables.{Tells, Makes, MakesAt};
+    ghost use Rattle.bd_calls.specs.Stands.{Stands, StandsFor};
     ghost use Rattle.bd_calls.specs.Room.{Uses, UsesNothing, nothing, turn_room, work_room, turn_count};
 
     /// The one-way call of a new buffer comes in, if it is one.

@@ -12,7 +12,7 @@ use Rattle.bd_space.specs.Frames.{is_gone, is_frame, is_child_of, closed}
 use Rattle.bd_space.specs.Words.{is_some_and}
 use Rattle.bd_space.specs.Todo.{owe, tell_caller}
 use Rattle.bd_space.specs.Settle.{is_abandoned, settle_one, settle_step, settle_times, settle}
-use Rattle.bd_laws.specs.Local.{close_up}
+use Rattle.bd_space.specs.Local.{close_up}
 use Rattle.bd_laws.specs.Lists.{In}
 use Rattle.bd_laws.proofs.Lists.{in-filter, filter-in, any-found, any-in, find-in}
 use Rattle.bd_laws.proofs.Tests.{both, and-both, not-true, not-false}

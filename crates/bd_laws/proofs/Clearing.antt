@@ -14,7 +14,7 @@ use Rattle.bd_space.specs.Turns.{turns_of}
 use Rattle.bd_space.specs.Deaths.{is_notification, without_death, with_phase}
 use Rattle.bd_space.specs.Clearing.{mark_cleared, death_ended, cleared, death_done, told_death, is_out}
 use Rattle.bd_space.specs.Outcomes.{completed}
-use Rattle.bd_laws.specs.Local.{no_name}
+use Rattle.bd_space.specs.Local.{no_name}
 use Rattle.bd_laws.specs.Lists.{In}
 use Rattle.bd_laws.specs.Quiet.{IsQuiet, IsFollowed}
 use Rattle.bd_laws.specs.Tidy.{IsTidy}

@@ -10,7 +10,7 @@ use Rattle.bd_space.specs.Space.{Space}
 use Rattle.bd_space.specs.Frames.{is_gone, is_child_of, is_frame, closed}
 use Rattle.bd_space.specs.Todo.{tell_caller}
 use Rattle.bd_space.specs.Settle.{is_abandoned, settle, settle_one, settle_step, settle_times}
-use Rattle.bd_laws.specs.Local.{close_among}
+use Rattle.bd_space.specs.Local.{close_among}
 use Rattle.bd_laws.specs.Lists.{In}
 use Rattle.bd_laws.proofs.Lists.{in-filter, filter-in, any-found, any-in, find-in}
 use Rattle.bd_laws.proofs.Tests.{both, and-both, not-true, not-false}

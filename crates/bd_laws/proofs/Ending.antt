@@ -24,7 +24,8 @@ use Rattle.bd_space.specs.Settle.{settle}
 use Rattle.bd_space.specs.Deaths.{is_notification, with_phase}
 use Rattle.bd_space.specs.ThreadExits.{thread_goes, is_lost_reference, is_unread_on, unread_frame}
 use Rattle.bd_space.specs.ProcessExits.{threads_go, without_process, tell_death, tell_deaths, is_armed, is_dropped_with, seat_of}
-use Rattle.bd_laws.specs.Local.{no_name, follow_of, close_among, left_objects, seats_in, lists_in, lost_with_process, objects_ended, frames_ended}
+use Rattle.bd_space.specs.Local.{no_name, follow_of, close_among}
+use Rattle.bd_space.specs.LocalExits.{left_objects, seats_in, lists_in, lost_with_process, objects_ended, frames_ended}
 use Rattle.bd_laws.specs.Lists.{In}
 use Rattle.bd_laws.specs.Tidy.{IsTidy}
 use Rattle.bd_laws.proofs.Lists.{in-left, in-push, in-filter, filter-in, map-in, in-changed, any-found, any-in, fold-keeps}

@@ -18,7 +18,7 @@ use Rattle.bd_space.specs.Asking.{drop_asked, acknowledge}
 use Rattle.bd_space.specs.Turns.{turns_of}
 use Rattle.bd_space.specs.Settle.{settle}
 use Rattle.bd_space.specs.Outcomes.{completed}
-use Rattle.bd_laws.specs.Local.{NameTest, ObjectTest, follow_of, notify_of, work_goes_of, deaths_go_of, objects_go_of, names_go_of, at_name, no_name, at_object, names_of_references, objects_of_references}
+use Rattle.bd_space.specs.Local.{NameTest, ObjectTest, follow_of, notify_of, work_goes_of, deaths_go_of, objects_go_of, names_go_of, at_name, no_name, at_object, names_of_references, objects_of_references}
 use Rattle.bd_laws.specs.Lists.{In}
 use Rattle.bd_laws.specs.Quiet.{Elsewhere, IsSettled, NoneRipe, IsQuiet, IsFollowed}
 use Rattle.bd_laws.proofs.Lists.{find-in, filter-in, any-in}

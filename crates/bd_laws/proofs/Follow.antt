@@ -16,7 +16,7 @@ use Rattle.bd_space.specs.References.{object_in, stays_in, objects_go}
 use Rattle.bd_space.specs.Names.{is_named_in, names_go}
 use Rattle.bd_space.specs.Todo.{with_work, is_notice}
 use Rattle.bd_space.specs.Notices.{wants_notice, has_notice_in, with_notice, is_name_of, still_due, deaths_go, work_goes, notify, follow}
-use Rattle.bd_laws.specs.Local.{NameTest, ObjectTest, names_go_of, objects_go_of, deaths_go_of, is_touched, work_goes_of, notify_of, follow_of}
+use Rattle.bd_space.specs.Local.{NameTest, ObjectTest, names_go_of, objects_go_of, deaths_go_of, is_touched, work_goes_of, notify_of, follow_of}
 use Rattle.bd_laws.specs.Lists.{In}
 use Rattle.bd_laws.specs.Quiet.{Elsewhere}
 use Rattle.bd_laws.proofs.Lists.{in-left, in-filter, filter-in, any-found, any-in}

@@ -19,7 +19,7 @@ use Rattle.bd_space.specs.Freeing.{without_buffer, is_made_at}
 use Rattle.bd_space.specs.Turns.{turn_of, turns_of, is_ripe}
 use Rattle.bd_space.specs.Settle.{settle}
 use Rattle.bd_space.specs.Outcomes.{completed}
-use Rattle.bd_laws.specs.Local.{NameTest, ObjectTest, follow_of, notify_of, work_goes_of, deaths_go_of, objects_go_of, names_go_of, ripen_of, first_due, names_of_references, objects_of_references}
+use Rattle.bd_space.specs.Local.{NameTest, ObjectTest, follow_of, notify_of, work_goes_of, deaths_go_of, objects_go_of, names_go_of, ripen_of, first_due, names_of_references, objects_of_references}
 use Rattle.bd_laws.specs.Lists.{In}
 use Rattle.bd_laws.specs.Quiet.{Elsewhere, IsSettled, NoneRipe, IsQuiet}
 use Rattle.bd_laws.proofs.Lists.{in-push}

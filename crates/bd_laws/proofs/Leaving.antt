@@ -24,7 +24,8 @@ use Rattle.bd_space.specs.Todo.{is_on, is_call, is_notice, hands_out}
 use Rattle.bd_space.specs.Notices.{wants_notice, is_name_of, follow}
 use Rattle.bd_space.specs.Settle.{settle, is_abandoned}
 use Rattle.bd_space.specs.ThreadExits.{thread_goes, is_lost_with, is_lost_reference, is_unread_on, unread_server, gone_server, frame_without}
-use Rattle.bd_laws.specs.Local.{NameTest, ObjectTest, follow_of, notify_of, work_goes_of, deaths_go_of, objects_go_of, names_go_of, close_among, is_left_frame, left_frames, left_objects, lost_with_thread, names_left, objects_left, frames_left}
+use Rattle.bd_space.specs.Local.{NameTest, ObjectTest, follow_of, notify_of, work_goes_of, deaths_go_of, objects_go_of, names_go_of, close_among}
+use Rattle.bd_space.specs.LocalExits.{is_left_frame, left_frames, left_objects, lost_with_thread, names_left, objects_left, frames_left}
 use Rattle.bd_laws.specs.Lists.{In}
 use Rattle.bd_laws.specs.Quiet.{Elsewhere, IsSettled, IsFollowed}
 use Rattle.bd_laws.specs.Tidy.{IsTidy}

@@ -17,7 +17,8 @@ use Rattle.bd_space.specs.Todo.{is_on, same_list, is_call}
 use Rattle.bd_space.specs.Notices.{follow}
 use Rattle.bd_space.specs.Settle.{settle, is_abandoned}
 use Rattle.bd_space.specs.ThreadExits.{thread_goes, is_unread_on}
-use Rattle.bd_laws.specs.Local.{follow_of, close_up, is_left_frame, names_left, objects_left, frames_left}
+use Rattle.bd_space.specs.Local.{follow_of, close_up}
+use Rattle.bd_space.specs.LocalExits.{is_left_frame, names_left, objects_left, frames_left}
 use Rattle.bd_laws.specs.Lists.{In}
 use Rattle.bd_laws.specs.Frames.{Part, NoChild}
 use Rattle.bd_laws.specs.Tidy.{IsTidy}

@@ -31,7 +31,7 @@ use Rattle.bd_space.specs.Commands.{with_looping}
 use Rattle.bd_space.specs.Freeing.{without_buffer, is_made_at}
 use Rattle.bd_space.specs.References.{is_of_buffer}
 use Rattle.bd_space.specs.Outcomes.{completed}
-use Rattle.bd_laws.specs.Local.{ObjectTest, follow_of, no_name, at_object, names_of_references, objects_of_references}
+use Rattle.bd_space.specs.Local.{ObjectTest, follow_of, no_name, at_object, names_of_references, objects_of_references}
 use Rattle.bd_laws.specs.Lists.{In}
 use Rattle.bd_laws.specs.Quiet.{Elsewhere, IsSettled, NoneRipe, IsQuiet, IsFollowed}
 use Rattle.bd_laws.proofs.Lists.{in-last, in-push, any-in}

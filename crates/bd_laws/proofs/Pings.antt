@@ -34,7 +34,7 @@ use Rattle.bd_space.specs.Parcels.{Sending, resolve_own, resolve_handle, resolve
 use Rattle.bd_space.specs.Delivery.{Delivery}
 use Rattle.bd_space.specs.Transactions.{transaction_check, transacted, target_of, not_own, handle_of}
 use Rattle.bd_space.specs.Outcomes.{completed}
-use Rattle.bd_laws.specs.Local.{ObjectTest, no_name, objects_of_items, is_touched, names_go_of, objects_go_of, deaths_go_of, work_goes_of, notify_of, follow_of, ripen_of}
+use Rattle.bd_space.specs.Local.{ObjectTest, no_name, objects_of_items, is_touched, names_go_of, objects_go_of, deaths_go_of, work_goes_of, notify_of, follow_of, ripen_of}
 use Rattle.bd_laws.specs.Lists.{In}
 use Rattle.bd_laws.specs.Objects.{KeptBefore}
 use Rattle.bd_laws.specs.Tidy.{IsTidy}

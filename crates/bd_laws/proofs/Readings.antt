@@ -6,7 +6,7 @@ use Rattle.bd_space.specs.Todo.{list_to_read}
 use Rattle.bd_space.specs.Notices.{follow}
 use Rattle.bd_space.specs.ReadItems.{read_by, taken, is_told_by}
 use Rattle.bd_space.specs.Histories.{History, space_after}
-use Rattle.bd_laws.specs.Local.{no_name, follow_of}
+use Rattle.bd_space.specs.Local.{no_name, follow_of}
 use Rattle.bd_laws.specs.Items.{Distinct}
 use Rattle.bd_laws.specs.Tidy.{IsTidy}
 use Rattle.bd_laws.proofs.Taking.{read-local}

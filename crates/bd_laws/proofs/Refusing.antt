@@ -12,7 +12,7 @@ use Rattle.bd_space.specs.Frames.{closed, is_frame}
 use Rattle.bd_space.specs.Todo.{owe}
 use Rattle.bd_space.specs.Settle.{settle, is_abandoned}
 use Rattle.bd_space.specs.Replies.{reply_refused}
-use Rattle.bd_laws.specs.Local.{close_up}
+use Rattle.bd_space.specs.Local.{close_up}
 use Rattle.bd_laws.specs.Lists.{In}
 use Rattle.bd_laws.specs.Quiet.{IsSettled, IsQuiet}
 use Rattle.bd_laws.proofs.Lists.{in-filter}

@@ -18,7 +18,7 @@ use Rattle.bd_space.specs.Settle.{settle, is_abandoned}
 use Rattle.bd_space.specs.Outcomes.{completed}
 use Rattle.bd_space.specs.Delivery.{Delivery, delivered}
 use Rattle.bd_space.specs.Replies.{replied, reply_check}
-use Rattle.bd_laws.specs.Local.{NameTest, ObjectTest, follow_of, notify_of, work_goes_of, deaths_go_of, objects_go_of, names_go_of, no_name, objects_of_items, close_up}
+use Rattle.bd_space.specs.Local.{NameTest, ObjectTest, follow_of, notify_of, work_goes_of, deaths_go_of, objects_go_of, names_go_of, no_name, objects_of_items, close_up}
 use Rattle.bd_laws.specs.Lists.{In}
 use Rattle.bd_laws.specs.Quiet.{Elsewhere, NoneRipe}
 use Rattle.bd_laws.specs.Tidy.{IsTidy}

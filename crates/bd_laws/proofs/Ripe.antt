@@ -12,7 +12,7 @@ use Rattle.bd_space.specs.Words.{same}
 use Rattle.bd_space.specs.Space.{Space}
 use Rattle.bd_space.specs.Todo.{with_work, is_call}
 use Rattle.bd_space.specs.Turns.{turns_of, is_ripe, ripened, ripen}
-use Rattle.bd_laws.specs.Local.{first_due, ripen_of}
+use Rattle.bd_space.specs.Local.{first_due, ripen_of}
 use Rattle.bd_laws.specs.Lists.{In}
 use Rattle.bd_laws.specs.Quiet.{NoneRipe}
 use Rattle.bd_laws.proofs.Lists.{in-left, in-last, in-push, any-found, any-in}

@@ -34,7 +34,7 @@ use Rattle.bd_space.specs.Parcels.{object_of_item}
 use Rattle.bd_space.specs.Delivery.{Delivery, delivered, own_notices, add_buffer, known_by, refer, make_objects, buffer_of, buffer_references, withdraw_notice}
 use Rattle.bd_space.specs.Transactions.{transacted, called, call_out}
 use Rattle.bd_space.specs.Outcomes.{completed}
-use Rattle.bd_laws.specs.Local.{ObjectTest, follow_of, ripen_of, no_name, objects_of_items}
+use Rattle.bd_space.specs.Local.{ObjectTest, follow_of, ripen_of, no_name, objects_of_items}
 use Rattle.bd_laws.specs.Lists.{In}
 use Rattle.bd_laws.specs.Objects.{KeptBefore}
 use Rattle.bd_laws.specs.Quiet.{Elsewhere, IsSettled, NoneRipe, IsFollowed}

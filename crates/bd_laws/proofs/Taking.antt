@@ -22,7 +22,7 @@ use Rattle.bd_space.specs.Todo.{is_item, is_notice, notice_of, list_to_read, wit
 use Rattle.bd_space.specs.Notices.{wants_notice, is_name_of, follow}
 use Rattle.bd_space.specs.ReadItems.{read_by, taken, handshakes, handshakes_of, handshakes_for, shakes, is_told_by, told_of, told_objects, told_deaths, is_told_of_death}
 use Rattle.bd_space.specs.Returns.{returns_of}
-use Rattle.bd_laws.specs.Local.{ObjectTest, no_name, follow_of}
+use Rattle.bd_space.specs.Local.{ObjectTest, no_name, follow_of}
 use Rattle.bd_laws.specs.Lists.{In}
 use Rattle.bd_laws.specs.Quiet.{Elsewhere, IsQuiet}
 use Rattle.bd_laws.specs.Items.{Distinct}

@@ -11,7 +11,7 @@ use Rattle.bd_space.specs.Todo.{is_call}
 use Rattle.bd_space.specs.Turns.{turns_of}
 use Rattle.bd_space.specs.Notices.{follow}
 use Rattle.bd_space.specs.Histories.{History, space_after}
-use Rattle.bd_laws.specs.Local.{NameTest, ObjectTest, follow_of}
+use Rattle.bd_space.specs.Local.{NameTest, ObjectTest, follow_of}
 use Rattle.bd_laws.specs.Items.{Distinct}
 use Rattle.bd_laws.specs.Stacks.{AreStacks, frames_with, last_of}
 use Rattle.bd_laws.specs.Quiet.{Elsewhere, IsQuiet}

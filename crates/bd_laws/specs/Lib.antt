@@ -1,5 +1,4 @@
 pub mod Lists
-pub mod Local
 pub mod Objects
 pub mod OneWayCalls
 pub mod Items

@@ -16,7 +16,7 @@ use Rattle.bd_space.specs.Names.{is_named_in}
 use Rattle.bd_space.specs.Notices.{wants_notice, has_notice_in, is_name_of}
 use Rattle.bd_space.specs.Turns.{is_ripe, turns_of}
 use Rattle.bd_space.specs.Settle.{is_abandoned}
-use Rattle.bd_laws.specs.Local.{NameTest, ObjectTest}
+use Rattle.bd_space.specs.Local.{NameTest, ObjectTest}
 use Rattle.bd_laws.specs.Lists.{In, Pairs}
 use Rattle.bd_laws.specs.Objects.{Differ}
 

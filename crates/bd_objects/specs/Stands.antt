@@ -8,6 +8,7 @@ use Rattle.bd_space.specs.declared.space.Reference.{Reference}
 use Rattle.bd_space.specs.declared.space.Name.{Name}
 use Rattle.bd_space.specs.declared.space.DeathNotification.{DeathNotification}
 use Rattle.bd_space.specs.Space.{Space}
+use Rattle.bd_space.specs.Tables.{IsAt}
 use Rattle.bd_space.specs.Names.{has_number_past_limit}
 use Rattle.bd_objects.specs.declared.table.ObjectTable.{ObjectTable}
 
@@ -36,18 +37,6 @@ HasProcesses processes s = s.processes ≡ processes
 abbrev pub HasManager : Option ObjectId → Space → Type 0
 HasManager manager s = s.manager ≡ manager
 
--- the next step has this place
-abbrev pub IsAt : ℕ → Space → Type 0
-IsAt place s = s.steps ≡ place
-
 -- both
 abbrev pub IsAtWith : ℕ → Option ObjectId → Space → Type 0
 IsAtWith place manager s = IsAt place s × HasManager manager s
-
--- of every space that P and C hold of x is what f says
-abbrev pub TellsWhere : {A : Type 0} → (Space → Type 0) → (Space → Type 0) → A → (Space → A) → Type 0
-TellsWhere P C x f = (s : Space) → P s → C s → x ≡ f s
-
--- from every space that P and C hold of one is made by f that Q holds of
-abbrev pub MakesWhere : (Space → Type 0) → (Space → Type 0) → (Space → Type 0) → (Space → Space) → Type 0
-MakesWhere P C Q f = (s : Space) → P s → C s → Q (f s)

@@ -95,8 +95,8 @@ fn asked_in(manager: Option<ObjectId>, names: &[Name], p: u32, n: u32) -> Option
 }
 
 impl ObjectTable {
-    ghost use Rattle.bd_space.specs.Tables.{Tells, Makes};
-    ghost use Rattle.bd_objects.specs.Stands.{StandsFor, IsKept, HasManager, IsAtWith, TellsWhere, MakesWhere};
+    ghost use Rattle.bd_space.specs.Tables.{Tells, Makes, TellsWhere, MakesWhere};
+    ghost use Rattle.bd_objects.specs.Stands.{StandsFor, IsKept, HasManager, IsAtWith};
     ghost use Rattle.bd_objects.specs.Numbers.{SpaceIsPastLimit};
     ghost use Rattle.bd_objects.specs.Room.{Uses, UsesNothing, nothing, reference_room, name_room};
 

@@ -123,8 +123,8 @@ fn queue_due(deaths: &mut Vec<DeathNotification>, objects: &[Object], p: u32)
 }
 
 impl ObjectTable {
-    ghost use Rattle.bd_space.specs.Tables.{Tells, Makes};
-    ghost use Rattle.bd_objects.specs.Stands.{StandsFor, IsAt, MakesWhere};
+    ghost use Rattle.bd_space.specs.Tables.{Tells, Makes, IsAt, MakesWhere};
+    ghost use Rattle.bd_objects.specs.Stands.{StandsFor};
     ghost use Rattle.bd_objects.specs.Room.{Uses, UsesNothing, nothing, death_room, death_count};
 
     /// The uncleared notifications go whose name is gone.

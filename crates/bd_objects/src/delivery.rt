@@ -123,8 +123,8 @@ fn add_references(
 }
 
 impl ObjectTable {
-    ghost use Rattle.bd_space.specs.Tables.{Tells};
-    ghost use Rattle.bd_objects.specs.Stands.{StandsFor, IsKept, IsAtWith, MakesWhere};
+    ghost use Rattle.bd_space.specs.Tables.{Tells, MakesWhere};
+    ghost use Rattle.bd_objects.specs.Stands.{StandsFor, IsKept, IsAtWith};
     ghost use Rattle.bd_objects.specs.Delivery.{delivered};
     ghost use Rattle.bd_objects.specs.Numbers.{SpaceIsPastLimit};
     ghost use Rattle.bd_objects.specs.Room.{Uses, delivery_room, object_room, reference_room, name_room};

@@ -70,9 +70,9 @@ fn drop_lost<F: Fn(u32) -> bool>(references: &mut Vec<Reference>, lost: F)
 }
 
 impl ObjectTable {
-    ghost use Rattle.bd_space.specs.Tables.{Makes};
+    ghost use Rattle.bd_space.specs.Tables.{Makes, MakesWhere};
     ghost use Rattle.bd_space.specs.declared.space.TodoList.TheVariants.{OfThread};
-    ghost use Rattle.bd_objects.specs.Stands.{StandsFor, MakesWhere};
+    ghost use Rattle.bd_objects.specs.Stands.{StandsFor};
     ghost use Rattle.bd_objects.specs.Room.{UsesNothing};
 
     /// The references go of the buffers that are lost with the thread of a seat; the caller says which those are.

@@ -26,7 +26,8 @@ fn wants_notice_in(processes: &[Process], references: &[Reference], x: &Object) 
 impl ObjectTable {
     ghost use Rattle.bd_space.specs.Words.{is_some_and};
     ghost use Rattle.bd_space.specs.References.{object_in};
-    ghost use Rattle.bd_objects.specs.Stands.{StandsFor, HasProcesses, TellsWhere};
+    ghost use Rattle.bd_objects.specs.Stands.{StandsFor, HasProcesses};
+    ghost use Rattle.bd_space.specs.Tables.{TellsWhere};
 
     /// Whether the owner of this object lives and is to be told. Takes the live processes.
     pub fn wants_notice(&self, processes: &[Process], x: &Object) -> bool

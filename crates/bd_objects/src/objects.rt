@@ -91,8 +91,8 @@ fn managed(place: u32) -> ObjectId
 impl ObjectTable {
     ghost use Rattle.bd_space.specs.Deaths as deaths_of;
     ghost use Rattle.bd_space.specs.Steps as steps;
-    ghost use Rattle.bd_space.specs.Tables.{Tells};
-    ghost use Rattle.bd_objects.specs.Stands.{StandsFor, HasProcesses, IsAt, TellsWhere, MakesWhere};
+    ghost use Rattle.bd_space.specs.Tables.{Tells, IsAt, TellsWhere, MakesWhere};
+    ghost use Rattle.bd_objects.specs.Stands.{StandsFor, HasProcesses};
     ghost use Rattle.bd_objects.specs.Room.{Uses, UsesNothing, nothing, object_room, reference_room, object_count};
 
     /// How many objects there are.

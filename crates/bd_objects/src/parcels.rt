@@ -53,7 +53,8 @@ fn resolve_handle(o: Option<ObjectId>) -> Result<Resolved, Cause>
 }
 
 impl ObjectTable {
-    ghost use Rattle.bd_objects.specs.Stands.{StandsFor, TellsWhere, IsAt};
+    ghost use Rattle.bd_objects.specs.Stands.{StandsFor};
+    ghost use Rattle.bd_space.specs.Tables.{TellsWhere, IsAt};
 
     fn resolve_own(
         &self,

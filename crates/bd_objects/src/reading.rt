@@ -9,7 +9,7 @@ ghost use Rattle.bd_space.specs.References as refer;
 ghost use Rattle.bd_space.specs.ReadItems as reading;
 ghost use Rattle.bd_space.specs.Returns as returns;
 ghost use Rattle.bd_space.specs.Space.{Space};
-ghost use Rattle.bd_objects.specs.Stands.{IsAt};
+ghost use Rattle.bd_space.specs.Tables.{IsAt};
 ghost use Rattle.bd_objects.specs.Reading.{owed};
 ghost use Rattle.bd_space.specs.declared.space.Reference.{Reference};
 ghost use Rattle.bd_space.specs.declared.space.Holder.TheVariants.{Handshake};
@@ -213,8 +213,8 @@ fn add_handshakes(references: &mut Vec<Reference>, place: u32, objects: &[Object
 }
 
 impl ObjectTable {
-    ghost use Rattle.bd_space.specs.Tables.{Tells};
-    ghost use Rattle.bd_objects.specs.Stands.{StandsFor, MakesWhere};
+    ghost use Rattle.bd_space.specs.Tables.{Tells, MakesWhere};
+    ghost use Rattle.bd_objects.specs.Stands.{StandsFor};
     ghost use Rattle.bd_objects.specs.Room.{Uses, nothing, reference_room};
 
     /// What the owner of the object is told: `BR_INCREFS`, `BR_ACQUIRE`, `BR_RELEASE` and `BR_DECREFS`, each if it is

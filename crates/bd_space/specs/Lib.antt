@@ -26,6 +26,8 @@ pub mod ReadItems
 pub mod Reading
 pub mod ThreadExits
 pub mod ProcessExits
+pub mod Local
+pub mod LocalExits
 pub mod Steps
 pub mod Histories
 pub mod Streams

@@ -10,9 +10,6 @@ use Rattle.bd_space.specs.Space.{Space}
 abbrev pub lives_in : List Process → ℕ → Bool
 lives_in processes p = list_any (λ q. q.made == p) processes
 
-abbrev pub lives : Space → ℕ → Bool
-lives s p = lives_in s.processes p
-
 -- the live process with this identity, and the one with this pid
 abbrev pub process_in : List Process → ℕ → Option Process
 process_in processes p = find (λ q. q.made == p) processes
