@@ -6,6 +6,7 @@ ghost use Rattle.bd_space.specs.Histories.{most_steps};
 ghost use Rattle.bd_space.specs.Steps as steps;
 ghost use Rattle.bd_engine.specs.Stands.{Before};
 ghost use Rattle.bd_engine.specs.Refusals.{FullOnly, MemoryOnly, IsSeats, IsSeatFault};
+ghost use Rattle.bd_engine.specs.declared.why.Why.TheVariants.{NoMemory};
 
 use crate::tables::Tables;
 use crate::why::Why;
@@ -86,6 +87,17 @@ impl Engine {
         ensures { result ≡ length self.now.entries }
     {
         self.entries.len() as u32
+    }
+
+    /// Makes room for the entries of so many steps more, which then ask for no memory. Errors: memory was refused.
+    pub fn reserve(&mut self, steps: usize) -> Result<(), Why>
+        ensures stands { self.new ≡ self.old }
+        ensures memory { IfErr result (λ why. why ≡ NoMemory) }
+    {
+        match self.entries.reserve(steps) {
+            Ok(()) => Ok(()),
+            Err(_) => Err(Why::NoMemory),
+        }
     }
 
     // No step more has a place. It is asked before any growth is, so that a full history is always told as such.

@@ -81,18 +81,29 @@ pub fn print_ran<W: Write>(number: u64, ran: Ran, out: &mut W) -> Result<(), Bro
     Ok(())
 }
 
-/// Runs the requests of a script, and prints what each answers. What came of it is handed out.
-pub fn play_by_run<W: Write>(alloc: Global, text: &[u8], out: &mut W) -> Result<Record, Broken> {
-    let script = script_of(alloc, text)?;
-    let mut engine = engine_for(alloc, script.seats)?;
-    for line in script.lines {
+/// Runs the requests of a script's lines, and prints what each answers.
+pub fn run_lines<W: Write>(
+    alloc: Global,
+    engine: &mut Engine,
+    lines: Vec<Line>,
+    out: &mut W,
+) -> Result<(), Broken> {
+    for line in lines {
         let Line { number, seat, verb } = line;
         if let Verb::Call(request) = verb {
             if seat < engine.seats() {
-                let ran = run_whole(alloc, &mut engine, seat, &request, out)?;
+                let ran = run_whole(alloc, engine, seat, &request, out)?;
                 print_ran(number, ran, out)?;
             }
         }
     }
+    Ok(())
+}
+
+/// Runs the requests of a script, and prints what each answers. What came of it is handed out.
+pub fn play_by_run<W: Write>(alloc: Global, text: &[u8], out: &mut W) -> Result<Record, Broken> {
+    let script = script_of(alloc, text)?;
+    let mut engine = engine_for(alloc, script.seats)?;
+    run_lines(alloc, &mut engine, script.lines, out)?;
     Ok(engine.into_record())
 }

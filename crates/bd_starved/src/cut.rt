@@ -5,8 +5,9 @@ ghost use Rattle.std.specs.Prelude.{◌≡◌, All};
 use crate::again::again;
 use crate::broken::Broken;
 use crate::by_call::{driver_for, play_lines};
-use crate::by_run::script_of;
+use crate::by_run::{engine_for, run_lines, script_of};
 use bd_driver::{Driver, Outcome, Seat};
+use bd_engine::Engine;
 use bd_space::{Bytes, Request};
 use std::alloc::{AllocError, Global};
 use std::io::Write;
@@ -20,6 +21,13 @@ fn stream(alloc: Global) -> Result<Vec<u8>, AllocError> {
     let mut bytes = Vec::new(alloc);
     bytes.extend_from_slice(&STREAM)?;
     Ok(bytes)
+}
+
+fn write_of_two(alloc: Global) -> Result<Request, Broken> {
+    Ok(Request::Write {
+        stream: Bytes::new(again!(stream(alloc))?),
+        area: Bytes::new(Vec::new(alloc)),
+    })
 }
 
 fn print_outcome<W: Write>(outcome: &Outcome, out: &mut W) -> Result<(), Broken> {
@@ -41,14 +49,27 @@ fn write_once<W: Write>(
     requires { seat.old.table ≡ driver.now.table }
     ensures { seat.new.table ≡ seat.old.table }
 {
-    let request = Request::Write {
-        stream: Bytes::new(again!(stream(alloc))?),
-        area: Bytes::new(Vec::new(alloc)),
-    };
+    let request = write_of_two(alloc)?;
     if seat.is_waiting() {
         return Err(Broken::Never("something is handed over"));
     }
     print_outcome(&driver.call(seat, request), out)
+}
+
+// Runs it, which memory may leave whole, stop after its first command, or refuse.
+fn print_write<W: Write>(
+    engine: &mut Engine,
+    request: &Request,
+    out: &mut W,
+) -> Result<(), Broken> {
+    if engine.seats() == 0 {
+        return Err(Broken::Never("an engine has seats"));
+    }
+    match engine.run(0, request) {
+        Ok(ran) => writeln!(out, "{} {} {:?}", ran.from, ran.to, ran.answer)?,
+        Err(why) => writeln!(out, "refused {why:?}")?,
+    }
+    Ok(())
 }
 
 fn write_all<W: Write>(
@@ -75,4 +96,17 @@ pub fn play_cut<W: Write>(alloc: Global, text: &[u8], out: &mut W) -> Result<(),
         Some(seat) => write_all(alloc, &driver, seat, out),
         None => Err(Broken::Never("a script has seats")),
     }
+}
+
+/// Prints what comes of one write after the steps of a script, by an engine that has room for one step more than those: so
+/// it is the second command that asks for memory.
+pub fn play_reserved<W: Write>(alloc: Global, text: &[u8], out: &mut W) -> Result<(), Broken> {
+    let script = script_of(alloc, text)?;
+    let mut engine = engine_for(alloc, script.seats)?;
+    if again!(engine.reserve(script.lines.len() + 1)).is_err() {
+        return Err(Broken::Memory);
+    }
+    run_lines(alloc, &mut engine, script.lines, out)?;
+    let request = write_of_two(alloc)?;
+    print_write(&mut engine, &request, out)
 }

@@ -2,7 +2,7 @@
 //! it then answers: so a run in which any one growth is refused prints what an undisturbed run prints.
 //!
 //! The script is standard input. One word asks for something else than `play`: `cut` for the script by calls and then
-//! writes that aren't made again, `spellings` for those of all commands and returns, `limits` for numbers of seats that
+//! writes that aren't made again, `reserved` for one such write by an engine with room for its first command, `spellings` for those of all commands and returns, `limits` for numbers of seats that
 //! none can have.
 #![tactic(auto)]
 
@@ -23,7 +23,7 @@ mod writes;
 
 use again::again;
 use broken::Broken;
-use cut::play_cut;
+use cut::{play_cut, play_reserved};
 use every_way::play_every_way;
 use limits::print_limits;
 use spellings::spell_all;
@@ -36,6 +36,7 @@ use std::{env, io};
 enum Asked {
     Play,
     Cut,
+    Reserved,
     Spellings,
     Limits,
 }
@@ -48,6 +49,7 @@ impl Asked {
         match word.as_str() {
             "play" => Ok(Asked::Play),
             "cut" => Ok(Asked::Cut),
+            "reserved" => Ok(Asked::Reserved),
             "spellings" => Ok(Asked::Spellings),
             "limits" => Ok(Asked::Limits),
             _ => Err(Broken::Never("no word of this program")),
@@ -77,6 +79,7 @@ fn run<H: AllocGlobal + Input + Runtime<A = Global>, W: Write>(
     match Asked::of(words.as_slice())? {
         Asked::Play => play_every_way(alloc, &read_all(alloc, &mut rt.reader())?, out),
         Asked::Cut => play_cut(alloc, &read_all(alloc, &mut rt.reader())?, out),
+        Asked::Reserved => play_reserved(alloc, &read_all(alloc, &mut rt.reader())?, out),
         Asked::Spellings => spell_all(alloc, out),
         Asked::Limits => print_limits(alloc, out),
     }
