@@ -12,7 +12,7 @@ ghost use Rattle.bd_space.specs.Frames as frames;
 ghost use Rattle.bd_space.specs.Transactions as spec;
 ghost use Rattle.bd_calls.specs.Room.{work_room, frame_room};
 ghost use Rattle.bd_engine.specs.Stands.{StandsAt, CanFollow, Tells, TellsBefore, Makes, Begins, PassesLimit};
-ghost use Rattle.bd_engine.specs.Meets.{IsAny, IsBy, IsKept, IsStep};
+ghost use Rattle.bd_engine.specs.Meets.{IsBy, IsSending, IsKept, IsStep};
 ghost use Rattle.bd_engine.specs.Deliveries.{IsDeliverable, IsReady, Spends};
 
 use crate::answer::Plain;
@@ -198,18 +198,23 @@ impl Tables {
         }
     }
 
-    // The step of a transaction that nothing stands against.
+    // The step of a transaction that nothing stands against. From a two-way call without objects nothing follows.
     fn transact(&mut self, a: Actor, d: &TransactionData, v: Delivery) -> Result<Plain, Why>
         requires { IsDeliverable self.old d.now v }
-        ensures { IsStep self.old self.new IsAny (λ s. outcomes.accepted (spec.transacted s a d.now v)) result }
+        ensures { IsStep self.old self.new (IsSending a d.now v)
+            (λ s. outcomes.accepted (spec.transacted s a d.now v)) result }
     {
+        let plain = v.items().is_empty();
+        let one_way = v.is_one_way();
         if self.make_ready(&v).is_err() {
             return Err(Why::NoMemory);
         }
         match self.transacted(a, d, v) {
             Err(why) => Err(why),
             Ok(()) => {
-                self.complete();
+                if !plain || one_way {
+                    self.complete();
+                }
                 Ok(Plain::Accepted)
             }
         }
