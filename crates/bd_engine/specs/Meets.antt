@@ -9,7 +9,10 @@ use Rattle.bd_space.specs.Seats.{actor}
 use Rattle.bd_space.specs.Names.{has_number_past_limit}
 use Rattle.bd_space.specs.Outcomes.{Outcome}
 use Rattle.bd_space.specs.Delivery.{Delivery}
+use Rattle.bd_space.specs.declared.space.Frame.{Frame}
+use Rattle.bd_space.specs.Frames.{served_innermost}
 use Rattle.bd_space.specs.Transactions.{transaction_check}
+use Rattle.bd_space.specs.Replies.{reply_check}
 use Rattle.bd_laws.specs.Tidy.{IsTidy}
 use Rattle.bd_engine.specs.declared.tables.Tables.{Tables}
 use Rattle.bd_engine.specs.declared.why.Why.{Why}
@@ -39,6 +42,16 @@ IsAny s = IsTidy s
 pub record IsSending (a : Actor) (d : TransactionData) (v : Delivery) (s : Space) : Type 0 where
   pub tidy : IsTidy s
   pub checked : (parcel : Option Parcel) × (transaction_check s a d parcel ≡ Ok v)
+
+-- the thread of the seat serves this frame innermost
+pub record IsServing (seat : ℕ) (f : Frame) (s : Space) : Type 0 where
+  pub tidy : IsTidy s
+  pub serves : served_innermost s seat ≡ Some f
+
+-- and this is a reply of it, by some parcel, that nothing stands against
+pub record IsReplying (a : Actor) (d : TransactionData) (f : Frame) (v : Delivery) (s : Space) : Type 0 where
+  pub serving : IsServing a.thread.seat f s
+  pub checked : (parcel : Option Parcel) × (reply_check s a d parcel f ≡ Ok v)
 
 -- ---- how it ends
 
