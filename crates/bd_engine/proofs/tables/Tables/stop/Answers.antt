@@ -1,6 +1,4 @@
 use Rattle.std.proofs.Common.{◌+◌, refl, sym, subst}
-use Rattle.bd_space.specs.declared.space.TodoList.TheVariants.{OfThread}
-use Rattle.bd_space.specs.declared.space.WorkKind.TheVariants.{Refusal}
 use Rattle.bd_space.specs.Todo.{owe}
 use Rattle.bd_laws.proofs.Refusing.{refused-local}
 use Rattle.bd_engine.specs.Stands.{Within}
