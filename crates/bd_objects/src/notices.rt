@@ -37,7 +37,7 @@ impl ObjectTable {
         wants_notice_in(processes, self.references.as_slice(), x)
     }
 
-    pub(crate) fn is_notice_due(&self, processes: &[Process], o: ObjectId) -> bool
+    fn is_notice_due(&self, processes: &[Process], o: ObjectId) -> bool
         ensures { TellsWhere (StandsFor self.now) (HasProcesses processes.now) result
             (λ s. is_some_and (object_in s.objects o) (notices.wants_notice s.processes s.references)) }
     {

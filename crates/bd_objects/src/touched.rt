@@ -1,6 +1,6 @@
 //! What follows from a change at one name and one object: nothing else is looked at.
 
-ghost use Rattle.std.specs.Prelude.{◌≡◌, ◌==◌, ◌≤◌, ◌&&◌, ◌||◌, not, filter, vec_len, vec_capacity, option_and_then};
+ghost use Rattle.std.specs.Prelude.{◌≡◌, ◌==◌, ◌≤◌, ◌&&◌, ◌||◌, not, filter, vec_len, vec_capacity, false, option_and_then};
 ghost use Rattle.std.specs.List.{list_any};
 ghost use Rattle.bd_space.specs.Words.{when};
 ghost use Rattle.bd_space.specs.Names as names_of;
@@ -104,7 +104,7 @@ fn death_stays(deaths: &[DeathNotification], names: &[Name], p: u32, o: ObjectId
 }
 
 impl ObjectTable {
-    ghost use Rattle.bd_space.specs.Tables.{Makes, TellsWhere, MakesWhere};
+    ghost use Rattle.bd_space.specs.Tables.{Tells, Makes, TellsWhere, MakesWhere};
     ghost use Rattle.bd_objects.specs.Stands.{StandsFor, HasProcesses};
     ghost use Rattle.bd_objects.specs.Room.{UsesNothing};
 
@@ -142,18 +142,16 @@ impl ObjectTable {
         keep_deaths_at(&mut self.deaths, self.names.as_slice(), p, o);
     }
 
-    /// Whether a work item of this kind stays: only the object's notice, and items of deaths of the process's name of
-    /// it, are looked at. To be asked while the notifications are there that go with the name. Takes the live
-    /// processes.
+    /// Whether a work item of this kind stays: a death's item goes with its notification, if that is on the process's
+    /// name of the object and goes with the name. To be asked before the notifications go.
     #[tactic(auto, unfolding(bd_space::specs::Local::deaths_go_of))]
-    pub fn still_due_at(&self, processes: &[Process], p: u32, o: ObjectId, kind: &WorkKind) -> bool
-        ensures { TellsWhere (StandsFor self.now) (HasProcesses processes.now) result
-            (λ s. not (local.is_touched (local.at_name p o) (local.at_object o) s.deaths kind.now)
+    pub fn still_due_at(&self, p: u32, o: ObjectId, kind: &WorkKind) -> bool
+        ensures { Tells (StandsFor self.now) result
+            (λ s. not (local.is_touched (local.at_name p o) (λ i. false) s.deaths kind.now)
             || notices.still_due s.processes s.objects s.references
             (local.deaths_go_of (local.at_name p o) s).deaths kind.now) }
     {
         match *kind {
-            WorkKind::Notice(i) => !same(i, o) || self.is_notice_due(processes, i),
             WorkKind::Death(n) => {
                 !is_death_at(self.deaths.as_slice(), p, o, n)
                     || death_stays(self.deaths.as_slice(), self.names.as_slice(), p, o, n)
