@@ -9,13 +9,13 @@ use Rattle.bd_engine.specs.Stands.{Before, Within}
 use Rattle.bd_engine.specs.Meets.{Meets, IsKept}
 use Rattle.bd_engine.proofs.Standing.{within}
 
--- room was made, and then the change was made with what follows from it
+-- room was made, and then the change was made with what follows from it, which may rest on what the step asks of the space
 pub accepts : (old mid new : Tables) (P : Space → Type 0) (f : Space → Outcome) (g : Space → Space)
-    → IsKept old mid → ((s : Space) → Within mid s → Within new (completed (g s))) → ((s : Space) → Before old s → P s → f s ≡ accepted (g s))
+    → IsKept old mid → ((s : Space) → Within mid s → P s → Within new (completed (g s))) → ((s : Space) → Before old s → P s → f s ≡ accepted (g s))
     → Meets old new P f Accepted
 accepts old mid new P f g kept changed is = record {
   answered = λ s h p. sym (ap (λ (o : Outcome). o.answer) (is s h p));
-  stands = λ s h p. subst (λ (o : Outcome). Within new o.space) (sym (is s h p)) (changed s (within mid s (kept s h)));
+  stands = λ s h p. subst (λ (o : Outcome). Within new o.space) (sym (is s h p)) (changed s (within mid s (kept s h)) p);
 }
 
 -- nothing was changed

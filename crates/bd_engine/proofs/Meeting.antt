@@ -76,11 +76,11 @@ module _ (old : Tables) (a : Actor) (f : Space → Outcome) where
   -- where the definition asks for no live thread
   module _ (g : Space → Outcome) (same : (s : Space) → f s ≡ g s) where
     pub any-step : (new : Tables) (r : Result Plain Why) (t : Result Twice Why) → t ≡ both r → IsStep old new IsAny g r → IsStepTwice old new (IsBy a) f t
-    any-step new r t e m = twice-step old new (IsBy a) f r t e (as-step old IsAny (IsBy a) g f (λ s h by. (tt, same s)) new r m)
+    any-step new r t e m = twice-step old new (IsBy a) f r t e (as-step old IsAny (IsBy a) g f (λ s h by. (by.tidy, same s)) new r m)
 
   module _ (g : Space → Actor → Outcome) (same : (s : Space) → f s ≡ by_actor s (actor s a.thread.seat) (g s)) where
     pub by-same : (s : Space) → Before old s → IsBy a s → IsBy a s × (f s ≡ g s a)
-    by-same s h by = (by, same s ∙ ap (λ o. by_actor s o (g s)) by)
+    by-same s h by = (by, same s ∙ ap (λ o. by_actor s o (g s)) by.acts)
 
     pub by-step : (new : Tables) (r : Result Plain Why) (t : Result Twice Why) → t ≡ both r → IsStep old new (IsBy a) (λ s. g s a) r → IsStepTwice old new (IsBy a) f t
     by-step new r t e m = twice-step old new (IsBy a) f r t e (as-step old (IsBy a) (IsBy a) (λ s. g s a) f by-same new r m)

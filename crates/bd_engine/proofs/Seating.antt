@@ -11,6 +11,7 @@ use Rattle.bd_space.specs.declared.space.Process.{Process}
 use Rattle.bd_space.specs.declared.space.Actor.{Actor}
 use Rattle.bd_space.specs.Space.{Space}
 use Rattle.bd_space.specs.Seats.{actor, actor_of, thread_in, process_in}
+use Rattle.bd_laws.specs.Tidy.{IsTidy}
 use Rattle.bd_engine.specs.Meets.{IsBy}
 use Rattle.bd_engine.proofs.Finding.{found_passes}
 use Rattle.bd_space.specs.Steps.{change, by_actor, manager_step}
@@ -48,5 +49,5 @@ pub sits : (s : Space) (seat : ℕ) (a : Actor) → actor s seat ≡ Some a → 
 unfolding actor
 sits s seat a e = of_thread s seat (thread_in s.threads seat) a refl e
 
-pub acting-seat : (s : Space) (seat : ℕ) (a : Actor) (x : Step) → actor s seat ≡ Some a → IsBy a s × (change s seat x ≡ change s a.thread.seat x)
-acting-seat s seat a x e = let same = sym (sits s seat a e) in (subst (λ n. actor s n ≡ Some a) same e, ap (λ n. change s n x) same)
+pub acting-seat : (s : Space) (seat : ℕ) (a : Actor) (x : Step) → actor s seat ≡ Some a → IsTidy s → IsBy a s × (change s seat x ≡ change s a.thread.seat x)
+acting-seat s seat a x e q = let same = sym (sits s seat a e) in (record { acts = subst (λ n. actor s n ≡ Some a) same e; tidy = q }, ap (λ n. change s n x) same)

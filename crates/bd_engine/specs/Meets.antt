@@ -6,6 +6,7 @@ use Rattle.bd_space.specs.Space.{Space}
 use Rattle.bd_space.specs.Seats.{actor}
 use Rattle.bd_space.specs.Names.{has_number_past_limit}
 use Rattle.bd_space.specs.Outcomes.{Outcome}
+use Rattle.bd_laws.specs.Tidy.{IsTidy}
 use Rattle.bd_engine.specs.declared.tables.Tables.{Tables}
 use Rattle.bd_engine.specs.declared.why.Why.{Why}
 use Rattle.bd_engine.specs.declared.answer.Plain.{Plain}
@@ -14,17 +15,23 @@ use Rattle.bd_engine.specs.Plain.{answer_of}
 use Rattle.bd_engine.specs.Refusals.{FullOnly}
 use Rattle.bd_engine.specs.Stands.{Before, Within}
 
+-- ---- what a step asks of the space before it: who makes it, and what holds between any two steps
+
 -- the step's maker is this live thread, with its process
-abbrev pub IsBy : Actor → Space → Type 0
-IsBy a s = actor s a.thread.seat ≡ Some a
+pub record IsBy (a : Actor) (s : Space) : Type 0 where
+  pub acts : actor s a.thread.seat ≡ Some a
+  pub tidy : IsTidy s
 
 -- it is a seat without a live thread
-abbrev pub IsNobody : ℕ → Space → Type 0
-IsNobody seat s = actor s seat ≡ None
+pub record IsNobody (seat : ℕ) (s : Space) : Type 0 where
+  pub nobody : actor s seat ≡ None
+  pub tidy : IsTidy s
 
 -- it may be anybody's
 abbrev pub IsAny : Space → Type 0
-IsAny s = Unit {0}
+IsAny s = IsTidy s
+
+-- ---- how it ends
 
 -- the step was taken: its answer and the space after it are those of the definition
 pub record Meets (old new : Tables) (P : Space → Type 0) (f : Space → Outcome) (answer : StepAnswer) : Type 0 where

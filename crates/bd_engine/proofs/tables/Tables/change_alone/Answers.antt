@@ -11,18 +11,18 @@ pub returns-in-Open : goal.returns-in-Open
 unfolding change
 returns-in-Open c =
     as-step c.args.self.now IsAny (IsNobody c.args.seat) (λ s. open_step s c.args.seat c.in-Open.pid c.in-Open.euid c.in-Open.window) (λ s. change s c.args.seat c.args.step.now)
-    (λ s h by. (tt, ap (change s c.args.seat) c.in-Open.is)) _ _ c.open.ensures
+    (λ s h by. (by.tidy, ap (change s c.args.seat) c.in-Open.is)) _ _ c.open.ensures
 
 pub returns-in-Attach : goal.returns-in-Attach
 unfolding change
 returns-in-Attach c =
     as-step c.args.self.now IsAny (IsNobody c.args.seat) (λ s. attach_step s c.args.seat c.in-Attach.pid) (λ s. change s c.args.seat c.args.step.now)
-    (λ s h by. (tt, ap (change s c.args.seat) c.in-Attach.is)) _ _ c.attach.ensures
+    (λ s h by. (by.tidy, ap (change s c.args.seat) c.in-Attach.is)) _ _ c.attach.ensures
 
 pub returns-in_default : goal.returns-in_default
 returns-in_default c = record {
   ok = meets _ _ _ _ _ (λ s h nobody. in-case _ _ (λ (o : Outcome). o) _ _
-      (nobody-changes s c.args.seat c.args.step.now c.in_default.not-Open c.in_default.not-Attach nobody) (is-refused _ s NoProcess h));
+      (nobody-changes s c.args.seat c.args.step.now c.in_default.not-Open c.in_default.not-Attach nobody.nobody) (is-refused _ s NoProcess h));
   err = tt;
   full = tt;
 }

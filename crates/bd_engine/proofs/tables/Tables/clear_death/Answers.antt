@@ -17,7 +17,7 @@ pub returns : goal.returns
 unfolding clear_step
 returns c = record {
   ok =
-      accepts _ c.reserve.new.self _ _ _ (λ s. cleared s c.args.a.thread.seat c.in-Ok.x) c.reserve.ensures.stands c.disarm.ensures.stands
+      accepts _ c.reserve.new.self _ _ _ (λ s. cleared s c.args.a.thread.seat c.in-Ok.x) c.reserve.ensures.stands (λ s h by. c.disarm.ensures.stands s h)
       (λ s h by. sym (ap (by_check s (cleared s c.args.a.thread.seat)) (c.in-Ok.ensures s h.objects_stand)));
   err = tt;
   full = tt;

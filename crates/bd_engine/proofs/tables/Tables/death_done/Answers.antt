@@ -16,7 +16,7 @@ pub returns : goal.returns
 unfolding death_done_step
 returns c = record {
   ok =
-      accepts _ c.reserve.new.self _ _ _ (λ s. death_done s c.args.a.thread.seat c.in-Some.x) c.reserve.ensures.stands c.finish_death.ensures.stands
+      accepts _ c.reserve.new.self _ _ _ (λ s. death_done s c.args.a.thread.seat c.in-Some.x) c.reserve.ensures.stands (λ s h by. c.finish_death.ensures.stands s h)
       (λ s h by. sym (ap (death_done_outcome s c.args.a.thread.seat) (c.in-Some.ensures s h.objects_stand)));
   err = tt;
   full = tt;

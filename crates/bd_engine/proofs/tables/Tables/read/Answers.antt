@@ -39,7 +39,7 @@ returns-in-Ok c = record {
       let ok = c.in-Ok.ensures.ok in
       in-case _ _ (read_outcome s t.seat c.args.limit (list_to_read s t)) _ _ (readable c.args.limit (list_to_read s t) c.if-limit-lt72.false (c.in-Some.ensures.filled s h))
       (subst (λ (ws : List Work). IsOutcome c.read_list.new.self c.in-Ok.taken.answer (read_taking s t.seat (taken s (c.args.limit - 4) ws))) (sym (c.in-Some.ensures.some s h))
-      (record { answered = ok.answered s h tt; stands = ok.stands s h tt })));
+      (record { answered = ok.answered s h by.tidy; stands = ok.stands s h by.tidy })));
   twice = c.in-Ok.ensures.twice;
   err = tt;
   full = tt;

@@ -7,11 +7,11 @@ use Rattle.bd_engine.proofs.tables.Tables.reply_to.Goals as goal
 pub returns-in-Ok-Err : goal.returns-in-Ok-Err
 returns-in-Ok-Err c =
     as-step c.args.self.now IsAny IsAny _ _
-    (λ s h q. (tt, reply-stops s c.args.a c.args.d.now c.args.parcel.now c.args.f _ (sym c.in-Ok-Err.field-0-is ∙ c.in-Ok-Err.ensures.computed s h)))
+    (λ s h q. (q, reply-stops s c.args.a c.args.d.now c.args.parcel.now c.args.f _ (sym c.in-Ok-Err.field-0-is ∙ c.in-Ok-Err.ensures.computed s h)))
     c.stop_reply.new.self c.stop_reply.result c.stop_reply.ensures.step
 
 pub returns-in-Ok-Ok : goal.returns-in-Ok-Ok
 returns-in-Ok-Ok c =
     as-step c.args.self.now IsAny IsAny _ _
-    (λ s h q. (tt, reply-answers s c.args.a c.args.d.now c.args.parcel.now c.args.f _ (sym c.in-Ok-Ok.field-0-is ∙ c.in-Ok-Ok.ensures.computed s h)))
+    (λ s h q. (q, reply-answers s c.args.a c.args.d.now c.args.parcel.now c.args.f _ (sym c.in-Ok-Ok.field-0-is ∙ c.in-Ok-Ok.ensures.computed s h)))
     c.answer.new.self c.answer.result c.answer.ensures

@@ -17,7 +17,7 @@ pub returns : goal.returns
 unfolding request_step
 returns c = record {
   ok =
-      accepts _ c.reserve.new.self _ _ _ (λ s. requested s c.args.a.process.made c.in-Ok.o c.args.cookie) c.reserve.ensures.stands c.arm.ensures.stands
+      accepts _ c.reserve.new.self _ _ _ (λ s. requested s c.args.a.process.made c.in-Ok.o c.args.cookie) c.reserve.ensures.stands (λ s h by. c.arm.ensures.stands s h)
       (λ s h by. sym (ap (by_check s (λ o. requested s c.args.a.process.made o c.args.cookie)) (c.in-Ok.ensures s h.objects_stand)));
   err = tt;
   full = tt;

@@ -7,11 +7,11 @@ use Rattle.bd_engine.proofs.tables.Tables.transaction.Goals as goal
 pub returns-in-Ok-Err : goal.returns-in-Ok-Err
 returns-in-Ok-Err c =
     as-step c.args.self.now IsAny (IsBy c.args.a) _ _
-    (λ s h q. (tt, transaction-stops s c.args.a c.args.d.now c.args.parcel.now _ _ (sym c.in-Ok-Err.field-0-is ∙ c.in-Ok-Err.ensures.computed s h) c.refusal.ensures))
+    (λ s h q. (q.tidy, transaction-stops s c.args.a c.args.d.now c.args.parcel.now _ _ (sym c.in-Ok-Err.field-0-is ∙ c.in-Ok-Err.ensures.computed s h) c.refusal.ensures))
     c.stop.new.self c.stop.result c.stop.ensures.step
 
 pub returns-in-Ok-Ok : goal.returns-in-Ok-Ok
 returns-in-Ok-Ok c =
     as-step c.args.self.now IsAny (IsBy c.args.a) _ _
-    (λ s h q. (tt, transaction-sends s c.args.a c.args.d.now c.args.parcel.now _ (sym c.in-Ok-Ok.field-0-is ∙ c.in-Ok-Ok.ensures.computed s h)))
+    (λ s h q. (q.tidy, transaction-sends s c.args.a c.args.d.now c.args.parcel.now _ (sym c.in-Ok-Ok.field-0-is ∙ c.in-Ok-Ok.ensures.computed s h)))
     c.transact.new.self c.transact.result c.transact.ensures
