@@ -19,3 +19,4 @@ pub mod Deliveries
 pub mod Telling
 pub mod Stepping
 pub mod Finding
+pub mod Following
