@@ -17,7 +17,7 @@ unfolding closed owe
 told-steps s made None kind = refl
 told-steps s made (Some t) kind = refl
 
-one-steps : (s : Space) (o : Option Frame) → (settle_one s o).steps ≡ s.steps
+pub one-steps : (s : Space) (o : Option Frame) → (settle_one s o).steps ≡ s.steps
 one-steps s None = refl
 one-steps s (Some f) = told-steps s f.made f.caller (Verdict DeadReply)
 

@@ -5,6 +5,7 @@ ghost use Rattle.std.specs.Prelude.{ℕ, Bool, ◌≡◌, ◌==◌, ◌||◌, �
 ghost use Rattle.std.specs.List.{list_all, list_any};
 ghost use Rattle.bd_space.specs.Frames as spec;
 ghost use Rattle.bd_space.specs.Settle as settling;
+ghost use Rattle.bd_space.specs.Local as local;
 ghost use Rattle.bd_space.specs.ThreadExits as exits;
 ghost use Rattle.bd_space.specs.ReadItems as reading;
 ghost use Rattle.bd_space.specs.Todo as works;
@@ -124,6 +125,14 @@ fn list_of_caller(process: u32, frame: Option<Frame>) -> TodoList
     }
 }
 
+// Where a call to the process is read whose caller's innermost frame was made there.
+fn list_from(threads: &[Thread], frames: &[Frame], from: Option<u32>, process: u32) -> TodoList
+    ensures { result ≡ spec.list_of_caller process
+        (find (spec.waits_in threads.now process) (spec.ancestry from (reverse frames.now))) }
+{
+    list_of_caller(process, first_waiting(threads, frames, from, process))
+}
+
 fn push_frame(frames: &mut Vec<Frame>, frame: Frame)
     requires { vec_len frames.old < vec_capacity frames.old }
     ensures frames { frames.new.items ≡ frames.old.items ++ frame ∷ [] }
@@ -151,6 +160,15 @@ fn oldest_abandoned(frames: &[Frame]) -> Option<Frame>
     ensures { result ≡ find (settling.is_abandoned frames.now) frames.now }
 {
     frames.iter().copied().find(|f| is_abandoned(frames, f))
+}
+
+fn abandoned_made_at(frames: &[Frame], made: u32) -> Option<Frame>
+    ensures { result ≡ find (λ f. spec.is_frame made f && settling.is_abandoned frames.now f) frames.now }
+{
+    frames
+        .iter()
+        .copied()
+        .find(|f| is_frame(f, made) && is_abandoned(frames, f))
 }
 
 fn is_call_of(taken: &[Work], frame: &Frame) -> bool
@@ -235,6 +253,7 @@ impl CallTable {
     ghost use Rattle.bd_space.specs.Tables.{Tells, Makes, MakesAt};
     ghost use Rattle.bd_calls.specs.Stands.{Stands, StandsFor};
     ghost use Rattle.bd_calls.specs.Room.{Uses, UsesNothing, nothing, frame_room, work_room, frame_count};
+    ghost use Rattle.bd_calls.specs.Closing.{parent_of_abandoned};
 
     /// The frame of the call made at this place.
     pub fn frame(&self, made: u32) -> Option<Frame>
@@ -263,8 +282,7 @@ impl CallTable {
         ensures { Tells (StandsFor self.now) result (λ s. spec.goes_to s seat process) }
     {
         let from = innermost_made(&self.frames, seat);
-        let waiting = first_waiting(&self.threads, &self.frames, from, process);
-        list_of_caller(process, waiting)
+        list_from(&self.threads, &self.frames, from, process)
     }
 
     /// A thread calls a process, and waits: a frame comes in, and the call is due at once, both made at this place.
@@ -275,7 +293,7 @@ impl CallTable {
         ensures uses { Uses self.old self.new (record nothing { frames = 1; works = 1 }) }
     {
         let parent = innermost_made(&self.frames, seat);
-        let list = self.goes_to(seat, process);
+        let list = list_from(&self.threads, &self.frames, parent, process);
         push_work(&mut self.todo, place, list, WorkKind::Call(place));
         let frame = Frame {
             made: place,
@@ -348,6 +366,44 @@ impl CallTable {
             if !self.settle_step(place) {
                 return;
             }
+        }
+    }
+
+    fn abandoned_at(&self, made: u32) -> Option<Frame>
+        ensures { Tells (StandsFor self.now) result
+            (λ s. find (λ f. spec.is_frame made f && settling.is_abandoned s.frames f) s.frames) }
+    {
+        abandoned_made_at(&self.frames, made)
+    }
+
+    // The call made there closes if it is abandoned; which one is to be looked at next.
+    #[tactic(auto)]
+    fn close_if_abandoned(&mut self, place: u32, made: u32) -> Option<u32>
+        requires { 1 ≤ work_room self.old }
+        ensures stands { MakesAt place (StandsFor self.old) (StandsFor self.new) (local.close_up 1 (Some made)) }
+        ensures next { Tells (StandsFor self.old) result (parent_of_abandoned made) }
+        ensures uses { Uses self.old self.new (record nothing { works = 1 }) }
+    {
+        let frame = self.abandoned_at(made)?;
+        self.abandon(place, frame);
+        frame.parent
+    }
+
+    /// The call made there closes if it is abandoned, then the one in which it was made, and so on while one closes;
+    /// each caller that lives is told, by a work item made at this place.
+    #[tactic(auto)]
+    pub fn close_up(&mut self, place: u32, made: Option<u32>)
+        requires { frame_count self.old ≤ work_room self.old }
+        ensures stands { MakesAt place (StandsFor self.old) (StandsFor self.new)
+            (λ s. local.close_up (length s.frames) made s) }
+        ensures uses { Uses self.old self.new (record nothing { works = frame_count self.old }) }
+    {
+        let mut next = made;
+        for _closed in 0..self.count_frames() {
+            let Some(made) = next else {
+                return;
+            };
+            next = self.close_if_abandoned(place, made);
         }
     }
 }

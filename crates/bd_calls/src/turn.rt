@@ -1,5 +1,5 @@
 //! One-way calls: of one object's, one is due or handed out at a time, in the order in which they were made.
-#![tactic(auto, unfolding(bd_space::specs::Turns::ripen, crate::specs::Room::rooms))]
+#![tactic(auto, unfolding(bd_space::specs::Turns::ripen, bd_space::specs::Local::ripen_of, crate::specs::Room::rooms))]
 
 ghost use Rattle.std.specs.Prelude.{ℕ, Bool, ◌≡◌, ◌==◌, ◌||◌, ◌&&◌, ◌+◌, ◌<◌, ◌≤◌, ◌^◌, ◌++◌, ◌∷◌, [], false, not, nat_le, map, filter, find, reverse, length, count_by, Option, Some, None, option_map, IfOk, OnOk, OnErr, vec_len, vec_capacity};
 ghost use Rattle.std.specs.Option.{option_to_list};
@@ -9,6 +9,7 @@ ghost use Rattle.bd_space.specs.Words.{changed};
 ghost use Rattle.bd_space.specs.Todo as works;
 ghost use Rattle.bd_space.specs.ThreadExits as exits;
 ghost use Rattle.bd_space.specs.Turns as spec;
+ghost use Rattle.bd_space.specs.Local as local;
 ghost use Rattle.bd_calls.specs.Turn.{hand_turn, handed_turns};
 
 use crate::table::CallTable;
@@ -26,6 +27,43 @@ fn is_ripe(todo: &[Work], older: &[Turn], turn: &Turn) -> bool
     ensures { result ≡ spec.is_ripe todo.now older.now turn.now }
 {
     !turn.handed && !has_turn_on(older, turn.target) && !has_call(todo, turn.made)
+}
+
+fn oldest_on(turns: &[Turn], object: ObjectId) -> Option<Turn>
+    ensures { result ≡ find (λ t. words.same t.target object) turns.now }
+{
+    turns.iter().copied().find(|t| t.target == object)
+}
+
+// Nobody was told of it yet.
+fn is_untold(todo: &[Work], turn: Turn) -> bool
+    ensures { result ≡ (not turn.handed && not (list_any (λ w. works.is_call turn.made w.kind) todo.now)) }
+{
+    !turn.handed && !has_call(todo, turn.made)
+}
+
+// The call becomes due, unless somebody was told of it before.
+fn push_untold(todo: &mut Vec<Work>, turn: Turn, place: u32)
+    requires { vec_len todo.old < vec_capacity todo.old }
+    ensures todo { todo.new.items ≡ local.first_due place todo.old.items (Some turn) }
+    ensures len { vec_len todo.new ≤ vec_len todo.old + 1 }
+    ensures capacity { vec_capacity todo.new ≡ vec_capacity todo.old }
+{
+    if is_untold(todo, turn) {
+        let list = TodoList::OfProcess(turn.receiver);
+        push_work(todo, place, list, WorkKind::Call(turn.made));
+    }
+}
+
+fn push_first(todo: &mut Vec<Work>, turn: Option<Turn>, place: u32)
+    requires { vec_len todo.old < vec_capacity todo.old }
+    ensures todo { todo.new.items ≡ local.first_due place todo.old.items turn }
+    ensures len { vec_len todo.new ≤ vec_len todo.old + 1 }
+    ensures capacity { vec_capacity todo.new ≡ vec_capacity todo.old }
+{
+    if let Some(turn) = turn {
+        push_untold(todo, turn, place);
+    }
 }
 
 // The calls of the ripe ones become due.
@@ -143,5 +181,15 @@ impl CallTable {
         ensures uses { Uses self.old self.new (record nothing { works = turn_count self.old }) }
     {
         push_ripe(&mut self.todo, &self.turns, place);
+    }
+
+    /// The oldest one-way call on an object becomes due, made at this place, unless somebody was told of it before.
+    pub fn ripen_on(&mut self, place: u32, object: ObjectId)
+        requires { 1 ≤ work_room self.old }
+        ensures stands { MakesAt place (StandsFor self.old) (StandsFor self.new) (local.ripen_of object) }
+        ensures uses { Uses self.old self.new (record nothing { works = 1 }) }
+    {
+        let oldest = oldest_on(&self.turns, object);
+        push_first(&mut self.todo, oldest, place);
     }
 }

@@ -20,3 +20,5 @@ pub mod Telling
 pub mod Stepping
 pub mod Finding
 pub mod Following
+pub mod Clearing
+pub mod NoObjects
