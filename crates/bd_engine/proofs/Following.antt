@@ -1,10 +1,8 @@
 -- What follows at one name and one object: first at the name, then at the object.
-use Rattle.std.proofs.Common.{◌≡◌, ℕ, ◌==◌, Bool, true, false, cond, not, ◌&&◌, ◌||◌, List, [], ◌∷◌, Option, Some, None, option_and_then, inl, inr, refl, ap, sym, subst, ◌∙◌, filter, find}
+use Rattle.std.proofs.Common.{◌≡◌, ℕ, ◌==◌, Bool, true, false, cond, not, ◌&&◌, ◌||◌, List, [], ◌∷◌, Option, Some, None, option_and_then, inl, inr, refl, ap, sym, subst, ◌∙◌, filter}
 use Rattle.std.specs.List.{list_any, fold}
 use Rattle.bd_space.specs.declared.step.ObjectId.{ObjectId}
-use Rattle.bd_space.specs.declared.space.Process.{Process}
 use Rattle.bd_space.specs.declared.space.Object.{Object}
-use Rattle.bd_space.specs.declared.space.Reference.{Reference}
 use Rattle.bd_space.specs.declared.space.Name.{Name}
 use Rattle.bd_space.specs.declared.space.DeathNotification.{DeathNotification}
 use Rattle.bd_space.specs.declared.space.Work.{Work}
@@ -22,7 +20,7 @@ use Rattle.bd_engine.specs.Following.{deaths_followed}
 use Rattle.bd_laws.specs.Lists.{In, Pairs}
 use Rattle.bd_laws.specs.Objects.{Differ}
 use Rattle.bd_laws.proofs.Lists.{pairs-filter}
-use Rattle.bd_laws.proofs.Tests.{same-eq, eq-same}
+use Rattle.bd_laws.proofs.Tests.{same-eq}
 
 -- ---- lists
 

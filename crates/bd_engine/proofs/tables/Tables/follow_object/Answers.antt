@@ -1,7 +1,5 @@
-use Rattle.std.proofs.Common.{◌+◌, true, false, Some, None, sym, subst, ap, ◌∙◌}
-use Rattle.bd_space.specs.Space.{Space}
+use Rattle.std.proofs.Common.{sym, subst, ◌∙◌}
 use Rattle.bd_space.specs.declared.space.Object.{Object}
-use Rattle.bd_space.specs.declared.space.TodoList.TheVariants.{OfProcess}
 use Rattle.bd_space.specs.Words.{same}
 use Rattle.bd_space.specs.References.{object_in}
 use Rattle.bd_space.specs.Notices.{wants_notice}
