@@ -15,7 +15,8 @@ use Rattle.bd_space.specs.References.{object_in, stays_in}
 use Rattle.bd_space.specs.Names.{is_named_in}
 use Rattle.bd_space.specs.Todo.{is_notice}
 use Rattle.bd_space.specs.Notices.{wants_notice, with_notice, is_name_of, still_due}
-use Rattle.bd_space.specs.Local.{NameTest, ObjectTest, names_go_of, objects_go_of, deaths_go_of, is_touched, work_goes_of, notify_of, follow_of, no_name, at_object}
+use Rattle.bd_space.specs.Local.{NameTest, ObjectTest, names_go_of, objects_go_of, deaths_go_of, is_touched, work_goes_of, notify_of, follow_of, at_name, no_name, at_object}
+use Rattle.bd_objects.specs.Deaths.{is_lost}
 use Rattle.bd_engine.specs.Following.{deaths_followed}
 use Rattle.bd_laws.specs.Lists.{In, Pairs}
 use Rattle.bd_laws.specs.Objects.{Differ}
@@ -98,6 +99,57 @@ module _ (a : NameTest) (b : ObjectTest) (s : Space) where
       ap (λ ns. left ns deaths_left works_left) (sym (keeps-all (λ (m : Name). true) names_left (λ m. refl)))
       ∙ ap (λ ds. left (filter (λ (m : Name). true) names_left) ds works_left) (sym (keeps-all (λ (d : DeathNotification). true) deaths_left (λ d. refl)))
       ∙ ap (left (filter (λ (m : Name). true) names_left) (filter (λ (d : DeathNotification). true) deaths_left)) (twice _ _ _ s.todo (λ w. kinds w.kind))
+
+-- ---- where no notification is lost with the name, none goes
+
+stays-or-lost : (a c n : Bool) → (a && not c && not n) ≡ false → (not a || (c || n)) ≡ true
+stays-or-lost false c n h = refl
+stays-or-lost true true n h = refl
+stays-or-lost true false true h = refl
+stays-or-lost true false false h = absurd (cc)
+
+neither : (a b : Bool) → (a || b) ≡ false → (a ≡ false) × (b ≡ false)
+neither false b h = (refl, h)
+neither true b h = absurd (cc)
+
+or-true : (b : Bool) → (b || true) ≡ true
+or-true true = refl
+or-true false = refl
+
+module _ {A : Type 0} (p q : A → Bool) where
+  keeps-others : ((x : A) → q x ≡ false → p x ≡ true) → (xs : List A) → list_any q xs ≡ false → filter p xs ≡ xs
+  keeps-others k [] h = refl
+  keeps-others k (x ∷ xs) h = let e = neither (q x) (list_any q xs) h in rw (k x e.0) (ap (λ ys. x ∷ ys) (keeps-others k xs e.1))
+
+  fewer-found : (xs : List A) → (not (list_any (λ x. p x && q x) xs) || list_any p xs) ≡ true
+  fewer-found [] = refl
+  fewer-found (x ∷ xs) = at (p x) (fewer-found xs)
+    where
+      at : (b : Bool) → (not (list_any (λ y. p y && q y) xs) || list_any p xs) ≡ true → (not ((b && q x) || list_any (λ y. p y && q y) xs) || (b || list_any p xs)) ≡ true
+      at true k = or-true _
+      at false k = k
+
+module _ (p : ℕ) (o : ObjectId) (s : Space) where
+  abbrev stays : List DeathNotification → WorkKind → Bool
+  stays deaths k = not (is_touched (at_name p o) (λ i. false) s.deaths k) || still_due s.processes s.objects s.references deaths k
+
+  all-stay : (k : WorkKind) → stays s.deaths k ≡ true
+  all-stay (work.Notice i) = refl
+  all-stay work.Complete = refl
+  all-stay (work.Refusal r) = refl
+  all-stay (work.Call m) = refl
+  all-stay (work.Reply m) = refl
+  all-stay (work.Verdict r) = refl
+  all-stay (work.Death n) = fewer-found (λ (x : DeathNotification). x.made == n) (λ x. at_name p o x.process x.object) s.deaths
+  all-stay (work.Cleared c) = refl
+
+  pub none-lost : list_any (is_lost s.names p o) s.deaths ≡ false → deaths_followed (at_name p o) s ≡ s
+  unfolding deaths_followed work_goes_of deaths_go_of
+  none-lost h =
+      let kept = keeps-others (λ (x : DeathNotification). not (at_name p o x.process x.object) || (x.cleared || is_name_of s.names x.process x.object)) (is_lost s.names p o)
+      (λ x e. stays-or-lost (at_name p o x.process x.object) x.cleared (is_name_of s.names x.process x.object) e) s.deaths h in
+      ap (λ ds. let y : Space = record s { deaths = ds; todo = filter (λ w. stays ds w.kind) s.todo } in y) kept
+      ∙ ap (λ ws. let y : Space = record s { todo = ws } in y) (keeps-all (λ (w : Work). stays s.deaths w.kind) s.todo (λ w. all-stay w.kind))
 
 -- ---- then at the object
 

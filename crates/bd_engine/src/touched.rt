@@ -15,6 +15,9 @@ impl Tables {
         ensures stands { MakesWithin self.old self.new (deaths_followed (at_name p o)) }
         ensures uses { UsesNothing self.old self.new }
     {
+        if !self.objects.has_lost_death(p, o) {
+            return;
+        }
         let objects = &self.objects;
         self.calls
             .retain_work(|kind| objects.still_due_at(p, o, &kind));

@@ -7,6 +7,7 @@ ghost use Rattle.bd_space.specs.Names as names_of;
 ghost use Rattle.bd_space.specs.References as refer;
 ghost use Rattle.bd_space.specs.Notices as notices;
 ghost use Rattle.bd_space.specs.Local as local;
+ghost use Rattle.bd_objects.specs.Deaths as deaths_of;
 
 use crate::names::{is_name_of, is_named_in};
 use crate::objects::{object_in, same, stays_in};
@@ -73,6 +74,19 @@ fn notification_stays(names: &[Name], p: u32, o: ObjectId, x: &DeathNotification
     !is_at(p, o, x.process, x.object) || x.cleared || is_name_of(names, x.process, x.object)
 }
 
+/// Whether the notification is on this name, uncleared, and the name is gone.
+fn is_lost(names: &[Name], p: u32, o: ObjectId, x: &DeathNotification) -> bool
+    ensures { result ≡ deaths_of.is_lost names.now p o x.now }
+{
+    is_at(p, o, x.process, x.object) && !x.cleared && !is_name_of(names, x.process, x.object)
+}
+
+fn has_lost_in(deaths: &[DeathNotification], names: &[Name], p: u32, o: ObjectId) -> bool
+    ensures { result ≡ list_any (deaths_of.is_lost names.now p o) deaths.now }
+{
+    deaths.iter().any(|x| is_lost(names, p, o, x))
+}
+
 fn keep_deaths_at(deaths: &mut Vec<DeathNotification>, names: &[Name], p: u32, o: ObjectId)
     ensures items { deaths.new.items
         ≡ filter (λ x. not (local.at_name p o x.process x.object)
@@ -131,6 +145,13 @@ impl ObjectTable {
         ensures uses { UsesNothing self.old self.new }
     {
         keep_object(&mut self.objects, processes, self.references.as_slice(), o);
+    }
+
+    /// Whether a notification is to go with the process's name of the object, which is gone.
+    pub fn has_lost_death(&self, p: u32, o: ObjectId) -> bool
+        ensures { Tells (StandsFor self.now) result (λ s. list_any (deaths_of.is_lost s.names p o) s.deaths) }
+    {
+        has_lost_in(self.deaths.as_slice(), self.names.as_slice(), p, o)
     }
 
     /// The process's uncleared notifications on its name of the object go, if that is gone.
