@@ -19,5 +19,6 @@ pub mod Deliveries
 pub mod Telling
 pub mod Stepping
 pub mod Finding
+pub mod Following
 pub mod Clearing
 pub mod NoObjects

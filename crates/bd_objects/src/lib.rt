@@ -16,6 +16,7 @@ mod reading;
 mod references;
 mod room;
 mod table;
+mod touched;
 
 pub use carried::CarriedObjects;
 pub use numbers::NumbersFull;
