@@ -19,3 +19,5 @@ pub mod Deliveries
 pub mod Telling
 pub mod Stepping
 pub mod Finding
+pub mod Freeing
+pub mod Reading

@@ -9,3 +9,4 @@ pub mod Telling
 pub mod Taking
 pub mod Deliveries
 pub mod Looks
+pub mod Freed

@@ -1,13 +1,9 @@
-use Rattle.std.proofs.Common.{◌∙◌, ap, sym, subst, List, ℕ, Result, Ok, length, ◌+◌, ◌≤◌, arith}
+use Rattle.std.proofs.Common.{◌∙◌, ap, sym, subst, List, ℕ, length, ◌+◌, ◌≤◌, arith}
 use Rattle.std.specs.List.{slice_get, All}
 use Rattle.bd_uapi.specs.declared.object.FlatObject.{FlatObject}
 use Rattle.bd_parcel.specs.Parcels.{offsets_in}
-use Rattle.bd_space.specs.declared.space.Item.{Item}
-use Rattle.bd_space.specs.declared.space.Object.{Object}
-use Rattle.bd_space.specs.declared.step.Parcel.{Parcel}
-use Rattle.bd_uapi.specs.declared.fault.Cause.{Cause}
 use Rattle.bd_parcel.proofs.Walks.{as_many_objects}
-use Rattle.bd_space.specs.Parcels.{Sending, resolve}
+use Rattle.bd_space.specs.Parcels.{resolve}
 use Rattle.bd_engine.specs.Deliveries.{IsInside}
 use Rattle.bd_engine.proofs.Sendings.{resolved-more, resolved-stops, resolved-all, All-push, length-option}
 use Rattle.bd_engine.proofs.tables.Tables.resolve_all.Goals as goal
