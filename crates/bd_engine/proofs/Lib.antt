@@ -21,3 +21,5 @@ pub mod Stepping
 pub mod Finding
 pub mod Freeing
 pub mod Reading
+pub mod Clearing
+pub mod NoObjects

@@ -1,5 +1,5 @@
 -- How tables go on standing for a space.
-use Rattle.std.proofs.Common.{◌≡◌, ℕ, zero, suc, ◌+◌, true, [], length, Option, Some, None, refl, ap, sym, subst, ◌∙◌}
+use Rattle.std.proofs.Common.{◌≡◌, ℕ, zero, suc, ◌+◌, ◌&&◌, true, [], length, Option, Some, None, refl, ap, sym, subst, ◌∙◌}
 use Rattle.std.specs.List.{find}
 use Rattle.bd_uapi.specs.declared.command.Return.TheVariants.{DeadReply}
 use Rattle.bd_space.specs.declared.space.Frame.{Frame}
@@ -7,14 +7,15 @@ use Rattle.bd_space.specs.declared.space.WorkKind.{WorkKind}
 use Rattle.bd_space.specs.declared.space.WorkKind.TheVariants.{Verdict}
 use Rattle.bd_space.specs.declared.space.TodoList.TheVariants.{OfThread}
 use Rattle.bd_space.specs.Space.{Space}
-use Rattle.bd_space.specs.Frames.{closed}
-use Rattle.bd_space.specs.Todo.{owe}
+use Rattle.bd_space.specs.Frames.{closed, is_frame}
+use Rattle.bd_space.specs.Todo.{owe, tell_caller}
 use Rattle.bd_space.specs.References.{objects_go}
 use Rattle.bd_space.specs.Names.{names_go, has_number_past_limit}
 use Rattle.bd_space.specs.Turns.{ripen}
 use Rattle.bd_space.specs.Notices.{follow, notify, work_goes, deaths_go}
 use Rattle.bd_space.specs.Settle.{settle, settle_one, settle_times, is_abandoned}
 use Rattle.bd_space.specs.Outcomes.{completed}
+use Rattle.bd_space.specs.Local.{close_up}
 use Rattle.bd_objects.specs.Stands as objects
 use Rattle.bd_calls.specs.declared.table.CallTable.{CallTable}
 use Rattle.bd_calls.specs.Stands as calls
@@ -57,15 +58,25 @@ settle_rest : (s : Space) → rest (settle s) ≡ rest s
 unfolding settle
 settle_rest s = times_rest (length s.frames) s
 
+up_rest : (n : ℕ) (made : Option ℕ) (s : Space) → rest (close_up n made s) ≡ rest s
+up_rest zero made s = refl
+up_rest (suc n) None s = refl
+up_rest (suc n) (Some m) s = at (find (λ (f : Frame). is_frame m f && is_abandoned s.frames f) s.frames) (λ p z. up_rest n p z)
+  where
+    at : (o : Option Frame) → ((p : Option ℕ) (z : Space) → rest (close_up n p z) ≡ rest z)
+        → rest (elim o as (λ (o : Option Frame). Space) [ None ↦ s | Some f ↦ close_up n f.parent (tell_caller (closed s f.made) f (Verdict DeadReply)) ]) ≡ rest s
+    at None more = refl
+    at (Some f) more = more f.parent (tell_caller (closed s f.made) f (Verdict DeadReply)) ∙ told_rest s f.made f.caller (Verdict DeadReply)
+
 pub settle-steps : (s : Space) → (settle s).steps ≡ s.steps
 unfolding rest
 settle-steps s = ap (λ (z : Space). z.steps) (settle_rest s)
 
--- tables whose calls were settled
-pub settled-stands : (t : Tables) (cs : CallTable) (s : Space) → Within t s → calls.StandsFor cs (settle s) → Within (record t { calls = cs }) (settle s)
+-- tables whose calls alone were changed
+calls_changed : (t : Tables) (cs : CallTable) (s z : Space) → rest z ≡ rest s → Within t s → calls.StandsFor cs z → Within (record t { calls = cs }) z
 unfolding rest
-settled-stands t cs s h k =
-    let e = sym (settle_rest s) in
+calls_changed t cs s z same h k =
+    let e = sym same in
     record {
       steps_are = subst (λ z. z.steps ≡ t.steps) e h.steps_are;
       processes_are = subst (λ z. z.processes ≡ t.processes.list.items) e h.processes_are;
@@ -74,6 +85,13 @@ settled-stands t cs s h k =
       calls_stand = k;
       windows_stand = subst (λ z. WindowsOf t.windows (z.steps + 1) z.processes z.buffers) e h.windows_stand;
     }
+
+pub settled-stands : (t : Tables) (cs : CallTable) (s : Space) → Within t s → calls.StandsFor cs (settle s) → Within (record t { calls = cs }) (settle s)
+settled-stands t cs s h k = calls_changed t cs s (settle s) (settle_rest s) h k
+
+pub closed-up-stands : (t : Tables) (cs : CallTable) (s : Space) (made : Option ℕ) → Within t s → calls.StandsFor cs (close_up (length s.frames) made s)
+    → Within (record t { calls = cs }) (close_up (length s.frames) made s)
+closed-up-stands t cs s made h k = calls_changed t cs s _ (up_rest (length s.frames) made s) h k
 
 -- ---- numbers past the limit
 

@@ -1,11 +1,18 @@
 -- What a step of the tables meets: the definition, on every space that they stand for.
-use Rattle.std.specs.Prelude.{ℕ, ◌≡◌, true, Some, None, Result, IfOk, IfErr, OnErr}
+use Rattle.std.specs.Prelude.{ℕ, ◌≡◌, true, Option, Some, None, Result, Ok, IfOk, IfErr, OnErr}
+use Rattle.bd_uapi.specs.declared.command.TransactionData.{TransactionData}
+use Rattle.bd_space.specs.declared.step.Parcel.{Parcel}
 use Rattle.bd_space.specs.declared.step.StepAnswer.{StepAnswer}
 use Rattle.bd_space.specs.declared.space.Actor.{Actor}
 use Rattle.bd_space.specs.Space.{Space}
 use Rattle.bd_space.specs.Seats.{actor}
 use Rattle.bd_space.specs.Names.{has_number_past_limit}
 use Rattle.bd_space.specs.Outcomes.{Outcome}
+use Rattle.bd_space.specs.Delivery.{Delivery}
+use Rattle.bd_space.specs.declared.space.Frame.{Frame}
+use Rattle.bd_space.specs.Frames.{served_innermost}
+use Rattle.bd_space.specs.Transactions.{transaction_check}
+use Rattle.bd_space.specs.Replies.{reply_check}
 use Rattle.bd_laws.specs.Tidy.{IsTidy}
 use Rattle.bd_engine.specs.declared.tables.Tables.{Tables}
 use Rattle.bd_engine.specs.declared.why.Why.{Why}
@@ -30,6 +37,21 @@ pub record IsNobody (seat : ℕ) (s : Space) : Type 0 where
 -- it may be anybody's
 abbrev pub IsAny : Space → Type 0
 IsAny s = IsTidy s
+
+-- it is a transaction of this actor, by some parcel, that nothing stands against
+pub record IsSending (a : Actor) (d : TransactionData) (v : Delivery) (s : Space) : Type 0 where
+  pub tidy : IsTidy s
+  pub checked : (parcel : Option Parcel) × (transaction_check s a d parcel ≡ Ok v)
+
+-- the thread of the seat serves this frame innermost
+pub record IsServing (seat : ℕ) (f : Frame) (s : Space) : Type 0 where
+  pub tidy : IsTidy s
+  pub serves : served_innermost s seat ≡ Some f
+
+-- and this is a reply of it, by some parcel, that nothing stands against
+pub record IsReplying (a : Actor) (d : TransactionData) (f : Frame) (v : Delivery) (s : Space) : Type 0 where
+  pub serving : IsServing a.thread.seat f s
+  pub checked : (parcel : Option Parcel) × (reply_check s a d parcel f ≡ Ok v)
 
 -- ---- how it ends
 

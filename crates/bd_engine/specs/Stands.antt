@@ -2,6 +2,7 @@
 use Rattle.std.specs.Prelude.{ℕ, ◌≡◌, ◌+◌, ◌≤◌, true}
 use Rattle.bd_space.specs.Space.{Space}
 use Rattle.bd_space.specs.Names.{has_number_past_limit}
+use Rattle.bd_laws.specs.Tidy.{IsTidy}
 use Rattle.bd_objects.specs.Stands as objects
 use Rattle.bd_objects.specs.Room as object_rooms
 use Rattle.bd_calls.specs.Stands as calls
@@ -47,6 +48,10 @@ Makes old new f = (n : ℕ) (s : Space) → StandsAt n old s → StandsAt n new 
 -- within a step
 abbrev pub MakesWithin : Tables → Tables → (Space → Space) → Type 0
 MakesWithin old new f = (s : Space) → Within old s → Within new (f s)
+
+-- the same, of a space in which nothing is pending
+abbrev pub MakesOfTidy : Tables → Tables → (Space → Space) → Type 0
+MakesOfTidy old new f = (s : Space) → Within old s → IsTidy s → Within new (f s)
 
 -- from before a step to within it
 abbrev pub Begins : Tables → Tables → (Space → Space) → Type 0

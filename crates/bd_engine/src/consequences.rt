@@ -1,12 +1,13 @@
 //! What follows from a change: names, objects, death notifications and notices go or come, and calls are settled.
 
-ghost use Rattle.std.specs.Prelude.{ℕ, ◌+◌, ◌≤◌};
+ghost use Rattle.std.specs.Prelude.{ℕ, ◌+◌, ◌≤◌, length};
 ghost use Rattle.bd_space.specs.Space.{Space};
 ghost use Rattle.bd_space.specs.Names.{names_go};
 ghost use Rattle.bd_space.specs.References.{objects_go};
 ghost use Rattle.bd_space.specs.Notices.{deaths_go, work_goes, notify, follow};
 ghost use Rattle.bd_space.specs.Turns.{ripen};
 ghost use Rattle.bd_space.specs.Settle.{settle};
+ghost use Rattle.bd_space.specs.Local.{ripen_of, close_up};
 ghost use Rattle.bd_space.specs.Outcomes.{completed};
 ghost use Rattle.bd_objects.specs.Room.{object_count};
 ghost use Rattle.bd_calls.specs.Room.{work_room, frame_count, turn_count};
@@ -14,7 +15,7 @@ ghost use Rattle.bd_engine.specs.Stands.{StandsAt, Uses, CanFollow, MakesWithin,
 ghost use Rattle.bd_engine.specs.Notified.{notified};
 
 use crate::tables::Tables;
-use bd_space::TodoList;
+use bd_space::{ObjectId, TodoList};
 
 impl Tables {
     // Names go with the references that they rest on, objects that nothing keeps, and death notifications with their names.
@@ -90,6 +91,22 @@ impl Tables {
         ensures uses { Uses self.old self.new 0 0 0 (turn_count self.old.calls) }
     {
         self.calls.ripen(self.steps);
+    }
+
+    /// The oldest one-way call on the object becomes due, if it is ripe.
+    pub(crate) fn ripen_on(&mut self, o: ObjectId)
+        requires { 1 ≤ work_room self.old.calls }
+        ensures { MakesWithin self.old self.new (ripen_of o) }
+    {
+        self.calls.ripen_on(self.steps, o);
+    }
+
+    /// The call made there closes if it is abandoned, then the one in which it was made, and so on.
+    pub(crate) fn close_up(&mut self, made: Option<u32>)
+        requires { frame_count self.old.calls ≤ work_room self.old.calls }
+        ensures { MakesWithin self.old self.new (λ s. close_up (length s.frames) made s) }
+    {
+        self.calls.close_up(self.steps, made);
     }
 
     /// All that follows from an accepted command's change.

@@ -8,12 +8,11 @@ ghost use Rattle.bd_space.specs.declared.space.WorkKind.TheVariants.{Death};
 ghost use Rattle.bd_space.specs.Todo as todo;
 ghost use Rattle.bd_space.specs.Deaths as deaths;
 ghost use Rattle.bd_space.specs.Clearing as clearing;
-ghost use Rattle.bd_space.specs.Outcomes.{completed};
 ghost use Rattle.bd_space.specs.Space.{Space};
 ghost use Rattle.bd_space.specs.ProcessExits as exits;
 ghost use Rattle.bd_objects.specs.Room.{death_room, death_count};
 ghost use Rattle.bd_calls.specs.Room.{work_room};
-ghost use Rattle.bd_engine.specs.Stands.{Uses, CanFollow, MakesWithin, UsesNothing, StandsAt};
+ghost use Rattle.bd_engine.specs.Stands.{Uses, MakesWithin, UsesNothing, StandsAt};
 ghost use Rattle.bd_engine.specs.Meets.{IsBy, IsStep};
 ghost use Rattle.bd_engine.specs.Telling.{owed, owed_deaths};
 
@@ -46,9 +45,8 @@ impl Tables {
     fn add_told_death(&mut self, p: u32, o: ObjectId, cookie: u64)
         requires deaths { 1 ≤ death_room self.old.objects }
         requires works { 1 ≤ work_room self.old.calls }
-        ensures stands { MakesWithin self.old self.new
+        ensures { MakesWithin self.old self.new
             (λ s. todo.owe (deaths.with_death s p o cookie Queued) (OfProcess p) (Death s.steps)) }
-        ensures uses { Uses self.old self.new 0 0 0 1 }
     {
         let place = self.steps;
         self.add_death(p, o, cookie, Phase::Queued);
@@ -59,8 +57,7 @@ impl Tables {
     fn add_request(&mut self, p: u32, o: ObjectId, cookie: u64)
         requires deaths { 1 ≤ death_room self.old.objects }
         requires works { 1 ≤ work_room self.old.calls }
-        ensures stands { MakesWithin self.old self.new (λ s. deaths.requested s p o cookie) }
-        ensures uses { Uses self.old self.new 0 0 0 1 }
+        ensures { MakesWithin self.old self.new (λ s. deaths.requested s p o cookie) }
     {
         if self.objects.owner_lives(self.processes.as_slice(), o) {
             self.add_death(p, o, cookie, Phase::Armed);
@@ -69,17 +66,7 @@ impl Tables {
         }
     }
 
-    // A notification comes in, and what follows from that.
-    fn arm(&mut self, p: u32, o: ObjectId, cookie: u64)
-        requires deaths { 1 ≤ death_room self.old.objects }
-        requires works { CanFollow self.old 1 }
-        ensures stands { MakesWithin self.old self.new (λ s. completed (deaths.requested s p o cookie)) }
-    {
-        self.add_request(p, o, cookie);
-        self.complete();
-    }
-
-    /// The step by which a process asks to be told of an owner's end.
+    /// The step by which a process asks to be told of an owner's end. Nothing follows from it.
     pub(crate) fn request_death(&mut self, a: Actor, n: u32, cookie: u64) -> Result<Plain, Why>
         ensures { IsStep self.old self.new (IsBy a) (λ s. deaths.request_step s a.process.made n cookie) result }
     {
@@ -90,15 +77,14 @@ impl Tables {
         if self.reserve(0, 0, 0, 1).is_err() {
             return Err(Why::NoMemory);
         }
-        self.arm(a.process.made, o, cookie);
+        self.add_request(a.process.made, o, cookie);
         Ok(Plain::Accepted)
     }
 
     // A notification goes, and the thread is told.
     fn end_death(&mut self, seat: u32, x: DeathNotification)
         requires { 1 ≤ work_room self.old.calls }
-        ensures stands { MakesWithin self.old self.new (λ s. clearing.death_ended s seat x) }
-        ensures uses { Uses self.old self.new 0 0 0 1 }
+        ensures { MakesWithin self.old self.new (λ s. clearing.death_ended s seat x) }
     {
         self.objects.without_death(x.made);
         self.add_work(TodoList::OfThread(seat), WorkKind::Cleared(x.cookie));
@@ -107,8 +93,7 @@ impl Tables {
     // A notification is cleared: marked where it is queued or told; else it goes.
     fn drop_request(&mut self, seat: u32, x: DeathNotification)
         requires { 1 ≤ work_room self.old.calls }
-        ensures stands { MakesWithin self.old self.new (λ s. clearing.cleared s seat x) }
-        ensures uses { Uses self.old self.new 0 0 0 1 }
+        ensures { MakesWithin self.old self.new (λ s. clearing.cleared s seat x) }
     {
         if is_out(x.phase) {
             self.objects.mark_cleared(x.made);
@@ -117,16 +102,7 @@ impl Tables {
         }
     }
 
-    // A notification is cleared, and what follows from that.
-    fn disarm(&mut self, seat: u32, x: DeathNotification)
-        requires { CanFollow self.old 1 }
-        ensures stands { MakesWithin self.old self.new (λ s. completed (clearing.cleared s seat x)) }
-    {
-        self.drop_request(seat, x);
-        self.complete();
-    }
-
-    /// The step by which a process takes back that it asked to be told of an owner's end.
+    /// The step by which a process takes back that it asked to be told of an owner's end. Nothing follows from it.
     pub(crate) fn clear_death(&mut self, a: Actor, n: u32, cookie: u64) -> Result<Plain, Why>
         ensures { IsStep self.old self.new (IsBy a)
             (λ s. clearing.clear_step s a.thread.seat a.process.made n cookie) result }
@@ -138,15 +114,14 @@ impl Tables {
         if self.reserve(0, 0, 0, 1).is_err() {
             return Err(Why::NoMemory);
         }
-        self.disarm(a.thread.seat, x);
+        self.drop_request(a.thread.seat, x);
         Ok(Plain::Accepted)
     }
 
     // The process knows of the owner's end: a marked notification goes; else it is done.
     fn know_death(&mut self, seat: u32, x: DeathNotification)
         requires { 1 ≤ work_room self.old.calls }
-        ensures stands { MakesWithin self.old self.new (λ s. clearing.death_done s seat x) }
-        ensures uses { Uses self.old self.new 0 0 0 1 }
+        ensures { MakesWithin self.old self.new (λ s. clearing.death_done s seat x) }
     {
         if x.cleared {
             self.end_death(seat, x);
@@ -155,16 +130,7 @@ impl Tables {
         }
     }
 
-    // The process knows of the owner's end, and what follows from that.
-    fn finish_death(&mut self, seat: u32, x: DeathNotification)
-        requires { CanFollow self.old 1 }
-        ensures stands { MakesWithin self.old self.new (λ s. completed (clearing.death_done s seat x)) }
-    {
-        self.know_death(seat, x);
-        self.complete();
-    }
-
-    /// The step by which a process acknowledges that it was told of an owner's end.
+    /// The step by which a process acknowledges that it was told of an owner's end. Nothing follows from it.
     pub(crate) fn death_done(&mut self, a: Actor, cookie: u64) -> Result<Plain, Why>
         ensures { IsStep self.old self.new (IsBy a)
             (λ s. clearing.death_done_step s a.thread.seat a.process.made cookie) result }
@@ -176,7 +142,7 @@ impl Tables {
         if self.reserve(0, 0, 0, 1).is_err() {
             return Err(Why::NoMemory);
         }
-        self.finish_death(a.thread.seat, x);
+        self.know_death(a.thread.seat, x);
         Ok(Plain::Accepted)
     }
 

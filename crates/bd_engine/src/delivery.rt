@@ -1,7 +1,7 @@
 //! Delivery: the objects, references and names of a parcel, its buffer with the translated data, and the notices of its
 //! sender's own objects.
 
-ghost use Rattle.std.specs.Prelude.{◌≡◌, ◌+◌, ◌≤◌, IfOk, OnOk, OnErr, length, Some, fold, not, ◌&&◌};
+ghost use Rattle.std.specs.Prelude.{◌≡◌, ◌+◌, ◌≤◌, IfOk, OnOk, OnErr, length, Some, None, fold, not, ◌&&◌, if◌then◌else◌};
 ghost use Rattle.bd_uapi.specs.Kinds as kinds;
 ghost use Rattle.bd_space.specs.References.{object_in};
 ghost use Rattle.bd_space.specs.Space.{Space};
@@ -65,6 +65,13 @@ impl Delivery {
         ensures { result ≡ self.now.target }
     {
         self.target
+    }
+
+    /// The object that it calls one-way.
+    pub(crate) fn one_way_target(&self) -> Option<ObjectId>
+        ensures { result ≡ (if self.now.one_way then self.now.target else None) }
+    {
+        if self.one_way { self.target } else { None }
     }
 
     /// Whether one-way.
@@ -155,7 +162,7 @@ impl Tables {
     {
         let items = v.items().len();
         let references = items.checked_add(1).ok_or(AllocError)?;
-        let works = items.checked_add(2).ok_or(AllocError)?;
+        let works = items.checked_add(3).ok_or(AllocError)?;
         self.windows.reserve_buffer(v.receiver())?;
         self.reserve(v.made().len(), references, items, works)
     }

@@ -10,7 +10,7 @@ ghost use Rattle.bd_space.specs.Outcomes as outcomes;
 ghost use Rattle.bd_space.specs.Replies as spec;
 ghost use Rattle.bd_calls.specs.Room.{work_room};
 ghost use Rattle.bd_engine.specs.Stands.{CanFollow, TellsBefore, Makes, Begins, PassesLimit};
-ghost use Rattle.bd_engine.specs.Meets.{IsAny, IsBy, IsKept, IsStep};
+ghost use Rattle.bd_engine.specs.Meets.{IsBy, IsServing, IsReplying, IsKept, IsStep};
 ghost use Rattle.bd_engine.specs.Deliveries.{IsDeliverable, IsReady, Spends};
 
 use crate::answer::Plain;
@@ -74,7 +74,7 @@ impl Tables {
         }
     }
 
-    // The step of a reply that nothing stands against.
+    // The step of a reply that nothing stands against. Without objects, only calls around the one that ends may close.
     pub(crate) fn answer(
         &mut self,
         a: Actor,
@@ -83,15 +83,22 @@ impl Tables {
         v: Delivery,
     ) -> Result<Plain, Why>
         requires { IsDeliverable self.old d.now v }
-        ensures { IsStep self.old self.new IsAny (λ s. outcomes.accepted (spec.replied s a d.now f v)) result }
+        ensures { IsStep self.old self.new (IsReplying a d.now f v)
+            (λ s. outcomes.accepted (spec.replied s a d.now f v)) result }
     {
+        let plain = v.items().is_empty();
+        let parent = f.parent;
         if self.make_ready(&v).is_err() {
             return Err(Why::NoMemory);
         }
         match self.replied(a, d, f, v) {
             Err(why) => Err(why),
             Ok(()) => {
-                self.complete();
+                if plain {
+                    self.close_up(parent);
+                } else {
+                    self.complete();
+                }
                 Ok(Plain::Accepted)
             }
         }
@@ -110,7 +117,7 @@ impl Tables {
 
     // The step of a reply that this cause stands against.
     fn stop_reply(&mut self, seat: u32, cause: Cause, f: Frame) -> Result<Plain, Why>
-        ensures step { IsStep self.old self.new IsAny
+        ensures step { IsStep self.old self.new (IsServing seat f)
             (λ s. outcomes.stopped cause (spec.reply_refused s seat f)) result }
         ensures memory { IfErr result (λ why. why ≡ Why.NoMemory) }
     {
@@ -118,7 +125,7 @@ impl Tables {
             return Err(Why::NoMemory);
         }
         self.refuse_reply(seat, f);
-        self.settle();
+        self.close_up(f.parent);
         Ok(Plain::Stopped(cause))
     }
 
@@ -130,7 +137,8 @@ impl Tables {
         parcel: &Option<Parcel>,
         f: Frame,
     ) -> Result<Plain, Why>
-        ensures { IsStep self.old self.new IsAny (λ s. spec.reply_to s a d.now parcel.now (Some f)) result }
+        ensures { IsStep self.old self.new (IsServing a.thread.seat f)
+            (λ s. spec.reply_to s a d.now parcel.now (Some f)) result }
     {
         match self.reply_check(a, d, parcel, &f) {
             Err(_) => Err(Why::NoMemory),

@@ -1,16 +1,16 @@
 //! Threads: whose seat it is, which are ready, and how they attach, enter the loop, leave it and end.
 
-ghost use Rattle.std.specs.Prelude.{true, ◌≡◌, IfSome, ◌≤◌, ◌<◌, ◌^◌, if◌then◌else◌};
+ghost use Rattle.std.specs.Prelude.{true, ◌≡◌, Ok, IfSome, ◌≤◌, ◌<◌, ◌^◌, if◌then◌else◌};
 ghost use Rattle.bd_space.specs.Seats as seats;
 ghost use Rattle.bd_space.specs.Steps.{is_pid};
 ghost use Rattle.bd_space.specs.Histories.{is_ready, ready_below};
 ghost use Rattle.bd_space.specs.Steps as steps;
 ghost use Rattle.bd_space.specs.Commands as commands;
-ghost use Rattle.bd_space.specs.Outcomes.{accepted, completed};
+ghost use Rattle.bd_space.specs.Outcomes.{accepted};
 ghost use Rattle.bd_space.specs.ThreadExits as exits;
 ghost use Rattle.bd_objects.specs.Room.{death_count};
 ghost use Rattle.bd_calls.specs.Room.{thread_room};
-ghost use Rattle.bd_engine.specs.Stands.{Tells, Makes, CanFollow, MakesWithin, UsesNothing};
+ghost use Rattle.bd_engine.specs.Stands.{Tells, Makes, MakesWithin, UsesNothing};
 ghost use Rattle.bd_engine.specs.Meets.{IsAny, IsBy, IsStep};
 
 use crate::answer::Plain;
@@ -91,25 +91,13 @@ impl Tables {
         Ok(Plain::Opened)
     }
 
-    // The thread of a seat enters or leaves the loop, and what follows from that.
-    fn change_looping(&mut self, seat: u32, looping: bool)
-        requires { CanFollow self.old 0 }
-        ensures stands { MakesWithin self.old self.new (λ s. completed (commands.with_looping s seat looping)) }
-    {
-        self.calls.set_looping(seat, looping);
-        self.complete();
-    }
-
-    /// The step by which a thread enters the loop, or leaves it.
-    pub(crate) fn set_looping(&mut self, a: Actor, looping: bool) -> Result<Plain, Why>
+    /// The step by which a thread enters the loop, or leaves it. Nothing follows from it, and it takes no memory.
+    pub(crate) fn set_looping(&mut self, a: Actor, looping: bool) -> Plain
         ensures { IsStep self.old self.new (IsBy a)
-            (λ s. accepted (commands.with_looping s a.thread.seat looping)) result }
+            (λ s. accepted (commands.with_looping s a.thread.seat looping)) (Ok result) }
     {
-        if self.reserve(0, 0, 0, 0).is_err() {
-            return Err(Why::NoMemory);
-        }
-        self.change_looping(a.thread.seat, looping);
-        Ok(Plain::Accepted)
+        self.calls.set_looping(a.thread.seat, looping);
+        Plain::Accepted
     }
 
     // The thread of a seat ends; what is lost with its list is told by the list, which goes last.

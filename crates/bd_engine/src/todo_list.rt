@@ -6,7 +6,7 @@ ghost use Rattle.bd_space.specs.declared.space.WorkKind.TheVariants as kinds;
 ghost use Rattle.bd_space.specs.Todo as todo;
 ghost use Rattle.bd_space.specs.Outcomes as outcomes;
 ghost use Rattle.bd_calls.specs.Room.{work_room};
-ghost use Rattle.bd_engine.specs.Stands.{Makes, Uses, MakesWithin};
+ghost use Rattle.bd_engine.specs.Stands.{Makes, MakesWithin};
 ghost use Rattle.bd_engine.specs.Meets.{IsAny, IsStep};
 ghost use Rattle.bd_engine.specs.Deliveries.{Spends};
 
@@ -35,7 +35,7 @@ impl Tables {
         self.calls.tell_caller(self.steps, f, kind);
     }
 
-    /// A command is refused, and its writer has this to read.
+    /// A command is refused, and its writer has this to read. Nothing follows from it.
     pub(crate) fn stop(&mut self, seat: u32, cause: Cause, told: Return) -> Result<Plain, Why>
         ensures step { IsStep self.old self.new IsAny
             (λ s. outcomes.stopped cause (todo.owe s (OfThread seat) (kinds.Refusal told))) result }
@@ -45,15 +45,13 @@ impl Tables {
             return Err(Why::NoMemory);
         }
         self.owe(seat, WorkKind::Refusal(told));
-        self.settle();
         Ok(Plain::Stopped(cause))
     }
 
     // A work item comes onto a list.
     pub(crate) fn add_work(&mut self, list: TodoList, kind: WorkKind)
         requires { 1 ≤ work_room self.old.calls }
-        ensures stands { MakesWithin self.old self.new (λ s. todo.owe s list kind) }
-        ensures uses { Uses self.old self.new 0 0 0 1 }
+        ensures { MakesWithin self.old self.new (λ s. todo.owe s list kind) }
     {
         self.calls.owe(self.steps, list, kind);
     }

@@ -12,7 +12,7 @@ ghost use Rattle.bd_space.specs.Frames as frames;
 ghost use Rattle.bd_space.specs.Transactions as spec;
 ghost use Rattle.bd_calls.specs.Room.{work_room, frame_room};
 ghost use Rattle.bd_engine.specs.Stands.{StandsAt, CanFollow, Tells, TellsBefore, Makes, Begins, PassesLimit};
-ghost use Rattle.bd_engine.specs.Meets.{IsAny, IsBy, IsKept, IsStep};
+ghost use Rattle.bd_engine.specs.Meets.{IsBy, IsSending, IsKept, IsStep};
 ghost use Rattle.bd_engine.specs.Deliveries.{IsDeliverable, IsReady, Spends};
 
 use crate::answer::Plain;
@@ -183,7 +183,7 @@ impl Tables {
         ensures ok { OnOk result (Begins self.old self.new (λ s. spec.transacted s a d.now v)) }
         ensures err { OnErr result (IsKept self.old self.new) }
         ensures full { OnErr result (PassesLimit self.old (λ s. names_go (spec.transacted s a d.now v))) }
-        ensures follow { OnOk result (CanFollow self.new 0) }
+        ensures follow { OnOk result (CanFollow self.new 1) }
         // There is room by then, so that nothing else is a reason.
         ensures limit { IfErr result (λ why. why ≡ Why.HistoryFull) }
     {
@@ -198,18 +198,26 @@ impl Tables {
         }
     }
 
-    // The step of a transaction that nothing stands against.
+    // The step of a transaction that nothing stands against. Without objects, at most a one-way call is ripe after
+    // it.
     fn transact(&mut self, a: Actor, d: &TransactionData, v: Delivery) -> Result<Plain, Why>
         requires { IsDeliverable self.old d.now v }
-        ensures { IsStep self.old self.new IsAny (λ s. outcomes.accepted (spec.transacted s a d.now v)) result }
+        ensures { IsStep self.old self.new (IsSending a d.now v)
+            (λ s. outcomes.accepted (spec.transacted s a d.now v)) result }
     {
+        let plain = v.items().is_empty();
+        let one_way_target = v.one_way_target();
         if self.make_ready(&v).is_err() {
             return Err(Why::NoMemory);
         }
         match self.transacted(a, d, v) {
             Err(why) => Err(why),
             Ok(()) => {
-                self.complete();
+                if !plain {
+                    self.complete();
+                } else if let Some(o) = one_way_target {
+                    self.ripen_on(o);
+                }
                 Ok(Plain::Accepted)
             }
         }

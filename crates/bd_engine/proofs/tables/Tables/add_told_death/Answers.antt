@@ -7,8 +7,8 @@ use Rattle.bd_space.specs.Deaths.{with_death}
 use Rattle.bd_engine.specs.Stands.{Within}
 use Rattle.bd_engine.proofs.tables.Tables.add_told_death.Goals as goal
 
-pub returns-clause-stands : goal.returns-clause-stands
-returns-clause-stands c = λ s h.
+pub returns : goal.returns
+returns c = λ s h.
     let made = with_death s c.args.p c.args.o c.args.cookie Queued in
     subst (λ place. Within c.add_work.new.self (owe made (OfProcess c.args.p) (Death place))) (sym h.steps_are)
-    (c.add_work.ensures.stands made (c.add_death.ensures.stands s h))
+    (c.add_work.ensures made (c.add_death.ensures.stands s h))

@@ -1,7 +1,9 @@
 use Rattle.std.proofs.Common.{sym, ap}
 use Rattle.bd_space.specs.Clearing.{clear_step, cleared}
 use Rattle.bd_space.specs.Outcomes.{by_check}
-use Rattle.bd_engine.proofs.Accepting.{accepts, notes}
+use Rattle.bd_laws.proofs.Clearing.{cleared-local}
+use Rattle.bd_engine.proofs.Clearing.{cleared-there}
+use Rattle.bd_engine.proofs.Accepting.{accepts-alone, notes}
 use Rattle.bd_engine.proofs.tables.Tables.clear_death.Goals as goal
 
 pub returns-in-Err : goal.returns-in-Err
@@ -17,7 +19,8 @@ pub returns : goal.returns
 unfolding clear_step
 returns c = record {
   ok =
-      accepts _ c.reserve.new.self _ _ _ (λ s. cleared s c.args.a.thread.seat c.in-Ok.x) c.reserve.ensures.stands (λ s h by. c.disarm.ensures.stands s h)
+      accepts-alone _ c.reserve.new.self _ _ _ (λ s. cleared s c.args.a.thread.seat c.in-Ok.x) c.reserve.ensures.stands c.drop_request.ensures
+      (λ s h by. cleared-local s c.args.a.thread.seat c.in-Ok.x by.tidy (cleared-there s c.args.a.process.made c.args.n c.args.cookie c.in-Ok.x (sym (c.in-Ok.ensures s h.objects_stand))))
       (λ s h by. sym (ap (by_check s (cleared s c.args.a.thread.seat)) (c.in-Ok.ensures s h.objects_stand)));
   err = tt;
   full = tt;

@@ -4,8 +4,8 @@ use Rattle.bd_space.specs.Clearing.{death_ended}
 use Rattle.bd_engine.proofs.Changing.{with-objects}
 use Rattle.bd_engine.proofs.tables.Tables.end_death.Goals as goal
 
-pub returns-clause-stands : goal.returns-clause-stands
+pub returns : goal.returns
 unfolding death_ended without_death
-returns-clause-stands c = λ s h.
-    c.add_work.ensures.stands (without_death s c.args.x.made)
+returns c = λ s h.
+    c.add_work.ensures (without_death s c.args.x.made)
     (with-objects (s.steps + 1) c.args.self.now s _ _ _ _ _ h (c.without_death.ensures.stands s h.objects_stand))

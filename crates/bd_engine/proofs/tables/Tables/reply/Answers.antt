@@ -1,5 +1,5 @@
-use Rattle.bd_engine.specs.Meets.{IsAny, IsBy}
-use Rattle.std.proofs.Common.{None, Some}
+use Rattle.bd_engine.specs.Meets.{IsAny, IsBy, IsServing}
+use Rattle.std.proofs.Common.{None, Some, sym}
 use Rattle.bd_engine.proofs.Meeting.{as-step}
 use Rattle.bd_engine.proofs.Stepping.{reply-by-frame}
 use Rattle.bd_engine.proofs.tables.Tables.reply.Goals as goal
@@ -12,6 +12,6 @@ returns-in-None c =
 
 pub returns-in-Some : goal.returns-in-Some
 returns-in-Some c =
-    as-step c.args.self.now IsAny (IsBy c.args.a) _ _
-    (λ s h q. (q.tidy, reply-by-frame s c.args.a c.args.d.now c.args.parcel.now (Some c.in-Some.f) (c.in-Some.ensures s h.calls_stand)))
+    as-step c.args.self.now (IsServing c.args.a.thread.seat c.in-Some.f) (IsBy c.args.a) _ _
+    (λ s h q. (record { tidy = q.tidy; serves = sym (c.in-Some.ensures s h.calls_stand) }, reply-by-frame s c.args.a c.args.d.now c.args.parcel.now (Some c.in-Some.f) (c.in-Some.ensures s h.calls_stand)))
     c.reply_to.new.self c.reply_to.result c.reply_to.ensures

@@ -1,7 +1,8 @@
 use Rattle.std.proofs.Common.{sym, ap}
 use Rattle.bd_space.specs.Deaths.{request_step, requested}
 use Rattle.bd_space.specs.Outcomes.{by_check}
-use Rattle.bd_engine.proofs.Accepting.{accepts, notes}
+use Rattle.bd_laws.proofs.Others.{requested-local}
+use Rattle.bd_engine.proofs.Accepting.{accepts-alone, notes}
 use Rattle.bd_engine.proofs.tables.Tables.request_death.Goals as goal
 
 pub returns-in-Err : goal.returns-in-Err
@@ -17,7 +18,8 @@ pub returns : goal.returns
 unfolding request_step
 returns c = record {
   ok =
-      accepts _ c.reserve.new.self _ _ _ (λ s. requested s c.args.a.process.made c.in-Ok.o c.args.cookie) c.reserve.ensures.stands (λ s h by. c.arm.ensures.stands s h)
+      accepts-alone _ c.reserve.new.self _ _ _ (λ s. requested s c.args.a.process.made c.in-Ok.o c.args.cookie) c.reserve.ensures.stands c.add_request.ensures
+      (λ s h by. requested-local s c.args.a.process.made c.args.n c.args.cookie c.in-Ok.o by.tidy.quiet (sym (c.in-Ok.ensures s h.objects_stand)))
       (λ s h by. sym (ap (by_check s (λ o. requested s c.args.a.process.made o c.args.cookie)) (c.in-Ok.ensures s h.objects_stand)));
   err = tt;
   full = tt;

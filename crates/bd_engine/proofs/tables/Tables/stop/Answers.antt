@@ -1,7 +1,7 @@
-use Rattle.std.proofs.Common.{refl, ◌+◌}
-use Rattle.bd_space.specs.declared.space.TodoList.TheVariants.{OfThread}
-use Rattle.bd_space.specs.declared.space.WorkKind.TheVariants.{Refusal}
+use Rattle.std.proofs.Common.{◌+◌, refl, sym, subst}
 use Rattle.bd_space.specs.Todo.{owe}
+use Rattle.bd_laws.proofs.Refusing.{refused-local}
+use Rattle.bd_engine.specs.Stands.{Within}
 use Rattle.bd_engine.proofs.Standing.{within}
 use Rattle.bd_engine.proofs.tables.Tables.stop.Goals as goal
 
@@ -11,7 +11,7 @@ returns-clause-step c = record {
   ok =
       record {
         answered = λ s h p. refl;
-        stands = λ s h p. c.settle.ensures.stands (owe s (OfThread c.args.seat) (Refusal c.args.told))
+        stands = λ s h p. subst (Within c.owe.new.self) (sym (refused-local s c.args.seat c.args.told p.quiet))
             (c.owe.ensures.stands (s.steps + 1) s (within c.reserve.new.self s (c.reserve.ensures.stands s h)));
       };
   err = tt;

@@ -1,4 +1,4 @@
-use Rattle.bd_engine.specs.Meets.{IsAny, IsBy}
+use Rattle.bd_engine.specs.Meets.{IsAny, IsBy, IsSending}
 use Rattle.std.proofs.Common.{◌∙◌, sym}
 use Rattle.bd_engine.proofs.Meeting.{as-step}
 use Rattle.bd_engine.proofs.Stepping.{transaction-stops, transaction-sends}
@@ -12,6 +12,6 @@ returns-in-Ok-Err c =
 
 pub returns-in-Ok-Ok : goal.returns-in-Ok-Ok
 returns-in-Ok-Ok c =
-    as-step c.args.self.now IsAny (IsBy c.args.a) _ _
-    (λ s h q. (q.tidy, transaction-sends s c.args.a c.args.d.now c.args.parcel.now _ (sym c.in-Ok-Ok.field-0-is ∙ c.in-Ok-Ok.ensures.computed s h)))
+    as-step c.args.self.now (IsSending c.args.a c.args.d.now _) (IsBy c.args.a) _ _
+    (λ s h q. (record { tidy = q.tidy; checked = (c.args.parcel.now, sym (c.in-Ok-Ok.ensures.computed s h) ∙ c.in-Ok-Ok.field-0-is) }, transaction-sends s c.args.a c.args.d.now c.args.parcel.now _ (sym c.in-Ok-Ok.field-0-is ∙ c.in-Ok-Ok.ensures.computed s h)))
     c.transact.new.self c.transact.result c.transact.ensures
