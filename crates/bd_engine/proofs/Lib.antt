@@ -21,5 +21,6 @@ pub mod Stepping
 pub mod Finding
 pub mod Freeing
 pub mod Reading
+pub mod Following
 pub mod Clearing
 pub mod NoObjects

@@ -10,3 +10,4 @@ pub mod Taking
 pub mod Deliveries
 pub mod Looks
 pub mod Freed
+pub mod Following

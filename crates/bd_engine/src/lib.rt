@@ -22,6 +22,7 @@ mod step;
 mod tables;
 mod thread;
 mod todo_list;
+mod touched;
 mod transaction;
 mod why;
 mod work;

@@ -6,7 +6,8 @@ ghost use Rattle.bd_space.specs.Names.{has_number_past_limit};
 ghost use Rattle.bd_space.specs.Asking as asking;
 ghost use Rattle.bd_space.specs.Outcomes.{completed};
 ghost use Rattle.bd_objects.specs.Room.{reference_room, name_room};
-ghost use Rattle.bd_engine.specs.Stands.{CanFollow, MakesWithin, PassesLimit};
+ghost use Rattle.bd_calls.specs.Room.{work_room};
+ghost use Rattle.bd_engine.specs.Stands.{MakesOfTidy, PassesLimit};
 ghost use Rattle.bd_engine.specs.Meets.{IsBy, IsKept, IsStep};
 
 use crate::answer::Plain;
@@ -16,13 +17,13 @@ use bd_objects::NumbersFull;
 use bd_space::{Actor, ObjectId};
 
 impl Tables {
-    // The reference comes in that the process asks for, and a name with it, and what follows from that; or nothing, where a
-    // number past the limit would be needed.
+    // The reference comes in that the process asks for, and a name with it, and what follows at the object; or nothing,
+    // where a number past the limit would be needed.
     fn add_asked(&mut self, p: u32, o: ObjectId, strong: bool) -> Result<(), Why>
         requires references { 1 ≤ reference_room self.old.objects }
         requires names { 1 ≤ name_room self.old.objects }
-        requires works { CanFollow self.old 0 }
-        ensures stands { OnOk result (MakesWithin self.old self.new (λ s. completed (asking.ask s p o strong))) }
+        requires works { 1 ≤ work_room self.old.calls }
+        ensures stands { OnOk result (MakesOfTidy self.old self.new (λ s. completed (asking.ask s p o strong))) }
         ensures kept { OnErr result (IsKept self.old self.new) }
         ensures full { OnErr result (PassesLimit self.old (λ s. completed (asking.ask s p o strong))) }
         // There is room by then, so that nothing else is a reason.
@@ -30,7 +31,7 @@ impl Tables {
     {
         match self.objects.ask(self.steps, self.manager, p, o, strong) {
             Ok(()) => {
-                self.complete();
+                self.follow_object(o);
                 Ok(())
             }
             Err(NumbersFull) => Err(Why::HistoryFull),
@@ -57,13 +58,13 @@ impl Tables {
         }
     }
 
-    // The reference goes that the process asked for, and what follows from that.
+    // The reference goes that the process asked for, and what follows at its name and at the object.
     fn lose_asked(&mut self, p: u32, o: ObjectId, strong: bool)
-        requires { CanFollow self.old 0 }
-        ensures stands { MakesWithin self.old self.new (λ s. completed (asking.drop_asked s p o strong)) }
+        requires { 1 ≤ work_room self.old.calls }
+        ensures stands { MakesOfTidy self.old self.new (λ s. completed (asking.drop_asked s p o strong)) }
     {
         self.objects.drop_asked(p, o, strong);
-        self.complete();
+        self.follow_at(p, o);
     }
 
     /// The step by which a process drops a reference that it asked for.
@@ -81,13 +82,13 @@ impl Tables {
         Ok(Plain::Accepted)
     }
 
-    // The reference goes that stood for an acknowledgement, and what follows from that.
+    // The reference goes that stood for an acknowledgement, and what follows at the object.
     fn lose_handshake(&mut self, o: ObjectId, strong: bool)
-        requires { CanFollow self.old 0 }
-        ensures stands { MakesWithin self.old self.new (λ s. completed (asking.acknowledge s o strong)) }
+        requires { 1 ≤ work_room self.old.calls }
+        ensures stands { MakesOfTidy self.old self.new (λ s. completed (asking.acknowledge s o strong)) }
     {
         self.objects.acknowledge(o, strong);
-        self.complete();
+        self.follow_object(o);
     }
 
     /// The step by which a process acknowledges what it was told of an own object.

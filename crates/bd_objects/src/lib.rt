@@ -17,6 +17,7 @@ mod reading;
 mod references;
 mod room;
 mod table;
+mod touched;
 
 pub use carried::CarriedObjects;
 pub use numbers::NumbersFull;

@@ -68,7 +68,7 @@ pub(crate) fn own_with(objects: &[Object], p: u32, ptr: u64, cookie: u64) -> Opt
 }
 
 /// Whether the object stays: it is held, or its owner lives and was told that it is.
-fn stays_in(processes: &[Process], references: &[Reference], x: &Object) -> bool
+pub(crate) fn stays_in(processes: &[Process], references: &[Reference], x: &Object) -> bool
     ensures { result ≡ refer.stays_in processes.now references.now x.now }
 {
     held_in(references, x.id) || (lives_in(processes, x.owner) && (x.told_weak || x.told_strong))

@@ -17,7 +17,7 @@ pub returns : goal.returns
 unfolding done_step
 returns c = record {
   ok =
-      accepts _ c.reserve.new.self _ _ _ (λ s. acknowledge s c.in-Ok.x.id c.args.strong) c.reserve.ensures.stands (λ s h by. c.lose_handshake.ensures.stands s h)
+      accepts _ c.reserve.new.self _ _ _ (λ s. acknowledge s c.in-Ok.x.id c.args.strong) c.reserve.ensures.stands (λ s h by. c.lose_handshake.ensures.stands s h by.tidy)
       (λ s h by. sym (ap (by_check s (λ x. acknowledge s x.id c.args.strong)) (c.in-Ok.ensures s h.objects_stand)));
   err = tt;
   full = tt;

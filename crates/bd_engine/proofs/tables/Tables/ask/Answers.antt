@@ -18,7 +18,7 @@ pub returns-in-Ok-add_asked : goal.returns-in-Ok-add_asked
 unfolding ask_step
 returns-in-Ok-add_asked c = record {
   ok =
-      accepts _ c.reserve.new.self _ _ _ (λ s. ask s c.args.a.process.made c.in-Ok.o c.args.strong) c.reserve.ensures.stands (λ s h by. c.in-Ok-add_asked.ensures.stands s h)
+      accepts _ c.reserve.new.self _ _ _ (λ s. ask s c.args.a.process.made c.in-Ok.o c.args.strong) c.reserve.ensures.stands (λ s h by. c.in-Ok-add_asked.ensures.stands s h by.tidy)
       (λ s h by. sym (ap (by_check s (λ o. ask s c.args.a.process.made o c.args.strong)) (c.in-Ok.ensures s h.objects_stand h.manager_is)));
   err = tt;
   full = tt;

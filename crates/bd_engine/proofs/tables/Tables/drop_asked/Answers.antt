@@ -17,7 +17,7 @@ pub returns : goal.returns
 unfolding drop_step
 returns c = record {
   ok =
-      accepts _ c.reserve.new.self _ _ _ (λ s. drop_asked s c.args.a.process.made c.in-Ok.o c.args.strong) c.reserve.ensures.stands (λ s h by. c.lose_asked.ensures.stands s h)
+      accepts _ c.reserve.new.self _ _ _ (λ s. drop_asked s c.args.a.process.made c.in-Ok.o c.args.strong) c.reserve.ensures.stands (λ s h by. c.lose_asked.ensures.stands s h by.tidy)
       (λ s h by. sym (ap (by_check s (λ o. drop_asked s c.args.a.process.made o c.args.strong)) (c.in-Ok.ensures s h.objects_stand)));
   err = tt;
   full = tt;

@@ -1,0 +1,176 @@
+//! What follows from a change at one name and one object: nothing else is looked at.
+
+ghost use Rattle.std.specs.Prelude.{◌≡◌, ◌==◌, ◌≤◌, ◌&&◌, ◌||◌, not, filter, vec_len, vec_capacity, false, option_and_then};
+ghost use Rattle.std.specs.List.{list_any};
+ghost use Rattle.bd_space.specs.Words.{when};
+ghost use Rattle.bd_space.specs.Names as names_of;
+ghost use Rattle.bd_space.specs.References as refer;
+ghost use Rattle.bd_space.specs.Notices as notices;
+ghost use Rattle.bd_space.specs.Local as local;
+
+use crate::names::{is_name_of, is_named_in};
+use crate::objects::{object_in, same, stays_in};
+use crate::table::ObjectTable;
+use bd_space::{DeathNotification, Name, Object, ObjectId, Process, Reference, WorkKind};
+
+/// Whether what this process has of this object, a name or a notification, is `p`'s of `o`.
+fn is_at(p: u32, o: ObjectId, process: u32, object: ObjectId) -> bool
+    ensures { result ≡ local.at_name p o process object }
+{
+    process == p && same(object, o)
+}
+
+/// Whether the name stays: it is another one, or a reference carries it.
+fn name_stays(objects: &[Object], references: &[Reference], p: u32, o: ObjectId, m: &Name) -> bool
+    ensures { result ≡ (not (local.at_name p o m.now.process m.now.object)
+        || names_of.is_named_in objects.now references.now m.now.process m.now.object) }
+{
+    !is_at(p, o, m.process, m.object) || is_named_in(objects, references, m.process, m.object)
+}
+
+fn keep_named_at(
+    names: &mut Vec<Name>,
+    objects: &[Object],
+    references: &[Reference],
+    p: u32,
+    o: ObjectId,
+)
+    ensures items { names.new.items
+        ≡ filter (λ m. not (local.at_name p o m.process m.object)
+        || names_of.is_named_in objects.now references.now m.process m.object) names.old.items }
+    ensures capacity { vec_capacity names.new ≡ vec_capacity names.old }
+    ensures len { vec_len names.new ≤ vec_len names.old }
+{
+    names.retain(|m| name_stays(objects, references, p, o, m));
+}
+
+/// Whether the object stays: it is another one, or something keeps it.
+fn object_stays(processes: &[Process], references: &[Reference], o: ObjectId, x: &Object) -> bool
+    ensures { result ≡ (not (local.at_object o x.now.id) || refer.stays_in processes.now references.now x.now) }
+{
+    !same(x.id, o) || stays_in(processes, references, x)
+}
+
+fn keep_object(
+    objects: &mut Vec<Object>,
+    processes: &[Process],
+    references: &[Reference],
+    o: ObjectId,
+)
+    ensures items { objects.new.items
+        ≡ filter (λ x. not (local.at_object o x.id) || refer.stays_in processes.now references.now x) objects.old.items }
+    ensures capacity { vec_capacity objects.new ≡ vec_capacity objects.old }
+    ensures len { vec_len objects.new ≤ vec_len objects.old }
+{
+    objects.retain(|x| object_stays(processes, references, o, x));
+}
+
+/// Whether the notification stays: it is on another name, or cleared, or the name is there.
+fn notification_stays(names: &[Name], p: u32, o: ObjectId, x: &DeathNotification) -> bool
+    ensures { result ≡ (not (local.at_name p o x.now.process x.now.object)
+        || (x.now.cleared || notices.is_name_of names.now x.now.process x.now.object)) }
+{
+    !is_at(p, o, x.process, x.object) || x.cleared || is_name_of(names, x.process, x.object)
+}
+
+fn keep_deaths_at(deaths: &mut Vec<DeathNotification>, names: &[Name], p: u32, o: ObjectId)
+    ensures items { deaths.new.items
+        ≡ filter (λ x. not (local.at_name p o x.process x.object)
+        || (x.cleared || notices.is_name_of names.now x.process x.object)) deaths.old.items }
+    ensures capacity { vec_capacity deaths.new ≡ vec_capacity deaths.old }
+    ensures len { vec_len deaths.new ≤ vec_len deaths.old }
+{
+    deaths.retain(|x| notification_stays(names, p, o, x));
+}
+
+/// Whether the notification that was made there is on this name.
+fn is_death_at(deaths: &[DeathNotification], p: u32, o: ObjectId, made: u32) -> bool
+    ensures { result ≡ list_any (λ x. (x.made == made) && local.at_name p o x.process x.object) deaths.now }
+{
+    deaths
+        .iter()
+        .any(|x| x.made == made && is_at(p, o, x.process, x.object))
+}
+
+/// Whether the notification that was made there stays.
+fn death_stays(deaths: &[DeathNotification], names: &[Name], p: u32, o: ObjectId, made: u32) -> bool
+    ensures { result ≡ list_any (λ x. x.made == made) (filter (λ x. not (local.at_name p o x.process x.object)
+        || (x.cleared || notices.is_name_of names.now x.process x.object)) deaths.now) }
+{
+    deaths
+        .iter()
+        .filter(|x| notification_stays(names, p, o, x))
+        .any(|x| x.made == made)
+}
+
+impl ObjectTable {
+    ghost use Rattle.bd_space.specs.Tables.{Tells, Makes, TellsWhere, MakesWhere};
+    ghost use Rattle.bd_objects.specs.Stands.{StandsFor, HasProcesses};
+    ghost use Rattle.bd_objects.specs.Room.{UsesNothing};
+
+    /// The process's name of the object goes, if no reference carries it any more.
+    #[tactic(auto, unfolding(bd_space::specs::Local::names_go_of, crate::specs::Room::rooms))]
+    pub fn name_goes(&mut self, p: u32, o: ObjectId)
+        ensures stands { Makes (StandsFor self.old) (StandsFor self.new) (local.names_go_of (local.at_name p o)) }
+        ensures uses { UsesNothing self.old self.new }
+    {
+        keep_named_at(
+            &mut self.names,
+            self.objects.as_slice(),
+            self.references.as_slice(),
+            p,
+            o,
+        );
+    }
+
+    /// The object goes, if nothing keeps it. Takes the live processes.
+    #[tactic(auto, unfolding(bd_space::specs::Local::objects_go_of, crate::specs::Room::rooms))]
+    pub fn object_goes(&mut self, processes: &[Process], o: ObjectId)
+        ensures stands { MakesWhere (StandsFor self.old) (HasProcesses processes.now) (StandsFor self.new)
+            (local.objects_go_of (local.at_object o)) }
+        ensures uses { UsesNothing self.old self.new }
+    {
+        keep_object(&mut self.objects, processes, self.references.as_slice(), o);
+    }
+
+    /// The process's uncleared notifications on its name of the object go, if that is gone.
+    #[tactic(auto, unfolding(bd_space::specs::Local::deaths_go_of, crate::specs::Room::rooms))]
+    pub fn deaths_go_with(&mut self, p: u32, o: ObjectId)
+        ensures stands { Makes (StandsFor self.old) (StandsFor self.new) (local.deaths_go_of (local.at_name p o)) }
+        ensures uses { UsesNothing self.old self.new }
+    {
+        keep_deaths_at(&mut self.deaths, self.names.as_slice(), p, o);
+    }
+
+    /// Whether a work item of this kind stays: a death's item goes with its notification, if that is on the process's
+    /// name of the object and goes with the name. To be asked before the notifications go.
+    #[tactic(auto, unfolding(bd_space::specs::Local::deaths_go_of))]
+    pub fn still_due_at(&self, p: u32, o: ObjectId, kind: &WorkKind) -> bool
+        ensures { Tells (StandsFor self.now) result
+            (λ s. not (local.is_touched (local.at_name p o) (λ i. false) s.deaths kind.now)
+            || notices.still_due s.processes s.objects s.references
+            (local.deaths_go_of (local.at_name p o) s).deaths kind.now) }
+    {
+        match *kind {
+            WorkKind::Death(n) => {
+                !is_death_at(self.deaths.as_slice(), p, o, n)
+                    || death_stays(self.deaths.as_slice(), self.names.as_slice(), p, o, n)
+            }
+            _ => true,
+        }
+    }
+
+    /// The live owner that is to be told of the object. Takes the live processes.
+    pub fn owner_to_tell(&self, processes: &[Process], o: ObjectId) -> Option<u32>
+        ensures { TellsWhere (StandsFor self.now) (HasProcesses processes.now) result
+            (λ s. option_and_then (λ x. when (notices.wants_notice s.processes s.references x) x.owner)
+            (refer.object_in s.objects o)) }
+    {
+        let x = object_in(self.objects.as_slice(), o)?;
+        if self.wants_notice(processes, &x) {
+            Some(x.owner)
+        } else {
+            None
+        }
+    }
+}
