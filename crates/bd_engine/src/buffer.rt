@@ -11,12 +11,13 @@ ghost use Rattle.bd_space.specs.Translation as translations;
 ghost use Rattle.bd_space.specs.declared.space.Process.{Process};
 ghost use Rattle.bd_space.specs.Freeing as freeing;
 ghost use Rattle.bd_space.specs.Outcomes.{completed};
-ghost use Rattle.bd_laws.specs.Tidy.{IsTidy};
+ghost use Rattle.bd_objects.specs.Room.{object_count};
 ghost use Rattle.bd_calls.specs.Room as call_rooms;
 ghost use Rattle.bd_buffers.specs.WindowsStand.{CanAdd, buffer_room};
 ghost use Rattle.bd_buffers.specs.Buffer.{freed_buffer};
 ghost use Rattle.bd_engine.specs.Freed as freed;
-ghost use Rattle.bd_engine.specs.Stands.{Before, Within, Tells, TellsWithin, CanFollow, MakesWithin, Uses, UsesNothing};
+ghost use Rattle.bd_engine.specs.Stands.{Before, Within, Tells, TellsWithin, CanFollow, MakesWithin, MakesOfTidy, Uses, UsesNothing};
+ghost use Rattle.bd_engine.specs.Following.{MakesOfDiffering};
 ghost use Rattle.bd_engine.specs.Meets.{IsBy, IsStep};
 ghost use Rattle.bd_engine.specs.Deliveries.{IsInside, Spends};
 
@@ -135,16 +136,28 @@ impl Tables {
         }
     }
 
+    // What follows where a buffer has gone: at this object alone, if the buffer referred to nothing else.
+    fn follow_freed(&mut self, only: Option<ObjectId>)
+        requires one { 1 ≤ call_rooms.work_room self.old.calls }
+        requires all { object_count self.old.objects ≤ call_rooms.work_room self.old.calls }
+        ensures { MakesOfDiffering self.old self.new (freed.follow_freed only) }
+    {
+        match only {
+            Some(object) => self.follow_object(object),
+            None => self.follow(),
+        }
+    }
+
     // The buffer goes, and what follows from that. No call is abandoned by it, and none ripens but on its target.
     fn lose_buffer(&mut self, made: u32)
-        requires { CanFollow self.old 1 }
-        ensures stands { (s : Space) → Within self.old s → IsTidy s
-            → Within self.new (completed (freeing.without_buffer s made)) }
+        requires { CanFollow self.old 2 }
+        ensures stands { MakesOfTidy self.old self.new (λ s. completed (freeing.without_buffer s made)) }
     {
-        let target = self.turn_target_at(made);
+        let turn = self.turn_target_at(made);
+        let only = self.objects.only_target(made);
         self.drop_buffer(made);
-        self.ripen_next(target);
-        self.follow();
+        self.ripen_next(turn);
+        self.follow_freed(only);
     }
 
     /// The step by which a process frees a buffer that was handed out to it.
