@@ -19,6 +19,8 @@ pub mod Deliveries
 pub mod Telling
 pub mod Stepping
 pub mod Finding
+pub mod Freeing
+pub mod Reading
 pub mod Following
 pub mod Clearing
 pub mod NoObjects

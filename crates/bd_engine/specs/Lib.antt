@@ -9,4 +9,5 @@ pub mod Telling
 pub mod Taking
 pub mod Deliveries
 pub mod Looks
+pub mod Freed
 pub mod Following

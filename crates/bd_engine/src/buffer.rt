@@ -1,6 +1,7 @@
 //! Buffers: a delivery's bytes as the receiver sees them, and the step of `BC_FREE_BUFFER`.
 
 ghost use Rattle.std.specs.Prelude.{◌≡◌, ◌≤◌, All, length, Some};
+ghost use Rattle.std.specs.Option.{option_copied};
 ghost use Rattle.bd_space.specs.Space.{Space};
 ghost use Rattle.bd_space.specs.Seats.{process_in};
 ghost use Rattle.bd_space.specs.Windows as room;
@@ -10,10 +11,13 @@ ghost use Rattle.bd_space.specs.Translation as translations;
 ghost use Rattle.bd_space.specs.declared.space.Process.{Process};
 ghost use Rattle.bd_space.specs.Freeing as freeing;
 ghost use Rattle.bd_space.specs.Outcomes.{completed};
+ghost use Rattle.bd_objects.specs.Room.{object_count};
 ghost use Rattle.bd_calls.specs.Room as call_rooms;
 ghost use Rattle.bd_buffers.specs.WindowsStand.{CanAdd, buffer_room};
 ghost use Rattle.bd_buffers.specs.Buffer.{freed_buffer};
-ghost use Rattle.bd_engine.specs.Stands.{Before, Within, Tells, CanFollow, MakesWithin, UsesNothing};
+ghost use Rattle.bd_engine.specs.Freed as freed;
+ghost use Rattle.bd_engine.specs.Stands.{Before, Within, Tells, TellsWithin, CanFollow, MakesWithin, MakesOfTidy, Uses, UsesNothing};
+ghost use Rattle.bd_engine.specs.Following.{MakesOfDiffering};
 ghost use Rattle.bd_engine.specs.Meets.{IsBy, IsStep};
 ghost use Rattle.bd_engine.specs.Deliveries.{IsInside, Spends};
 
@@ -21,7 +25,7 @@ use crate::answer::Plain;
 use crate::tables::Tables;
 use crate::why::Why;
 use bd_parcel::put_object;
-use bd_space::{Actor, Buffer, Bytes, Item, Process, Turn};
+use bd_space::{Actor, Buffer, Bytes, Item, ObjectId, Process, Turn};
 use bd_uapi::Note;
 
 // A one-way call, by its buffer.
@@ -38,6 +42,16 @@ fn turn_of(b: &Buffer) -> Option<Turn>
         target,
         handed: b.handed,
     })
+}
+
+// The object on which a buffer is a one-way call.
+fn turn_target(buffer: Option<&Buffer>) -> Option<ObjectId>
+    ensures { result ≡ freed.turn_target (option_copied buffer.entry) }
+{
+    match buffer {
+        Some(b) => turn_of(b).map(|t| t.target),
+        None => None,
+    }
 }
 
 impl Tables {
@@ -104,13 +118,46 @@ impl Tables {
         self.calls.drop_turn(made);
     }
 
-    // The buffer goes, and what follows from that.
-    fn lose_buffer(&mut self, made: u32)
-        requires { CanFollow self.old 0 }
-        ensures stands { MakesWithin self.old self.new (λ s. completed (freeing.without_buffer s made)) }
+    // The object on which the buffer made there is a one-way call.
+    fn turn_target_at(&self, made: u32) -> Option<ObjectId>
+        ensures { TellsWithin self.now result (λ s. freed.turn_target_at s made) }
     {
+        turn_target(self.windows.buffer(made))
+    }
+
+    // The oldest one-way call on the object becomes due, if there is an object.
+    fn ripen_next(&mut self, object: Option<ObjectId>)
+        requires { 1 ≤ call_rooms.work_room self.old.calls }
+        ensures stands { MakesWithin self.old self.new (freed.ripen_next object) }
+        ensures uses { Uses self.old self.new 0 0 0 1 }
+    {
+        if let Some(object) = object {
+            self.calls.ripen_on(self.steps, object);
+        }
+    }
+
+    // What follows where a buffer has gone: at this object alone, if the buffer referred to nothing else.
+    fn follow_freed(&mut self, only: Option<ObjectId>)
+        requires one { 1 ≤ call_rooms.work_room self.old.calls }
+        requires all { object_count self.old.objects ≤ call_rooms.work_room self.old.calls }
+        ensures { MakesOfDiffering self.old self.new (freed.follow_freed only) }
+    {
+        match only {
+            Some(object) => self.follow_object(object),
+            None => self.follow(),
+        }
+    }
+
+    // The buffer goes, and what follows from that. No call is abandoned by it, and none ripens but on its target.
+    fn lose_buffer(&mut self, made: u32)
+        requires { CanFollow self.old 2 }
+        ensures stands { MakesOfTidy self.old self.new (λ s. completed (freeing.without_buffer s made)) }
+    {
+        let turn = self.turn_target_at(made);
+        let only = self.objects.only_target(made);
         self.drop_buffer(made);
-        self.complete();
+        self.ripen_next(turn);
+        self.follow_freed(only);
     }
 
     /// The step by which a process frees a buffer that was handed out to it.

@@ -1,7 +1,7 @@
 //! The step that reads.
 
 ghost use Rattle.std.specs.Prelude.{◌≡◌, ◌+◌, ◌-◌, ◌*◌, ◌≤◌, ◌++◌, ◌∷◌, [], map, false, None, Some, length, option_map, IfOk, IfSome, OnOk, OnErr, nat_lt};
-ghost use Rattle.std.specs.Option.{option_copied};
+ghost use Rattle.std.specs.Option.{option_copied, is_some};
 ghost use Rattle.bd_uapi.specs.declared.command.Return.TheVariants.{Noop};
 ghost use Rattle.bd_codec.specs.Spelling.{return_bytes};
 ghost use Rattle.bd_space.specs.Space.{Space};
@@ -13,9 +13,10 @@ ghost use Rattle.bd_space.specs.Returns as returns;
 ghost use Rattle.bd_buffers.specs.WindowsStand.{made_of_buffer};
 ghost use Rattle.bd_objects.specs.Room.{reference_room, object_count};
 ghost use Rattle.bd_calls.specs.Room.{work_room};
-ghost use Rattle.bd_engine.specs.Stands.{Before, Within, TellsBefore, TellsWithin, UsesNothing};
-ghost use Rattle.bd_engine.specs.Meets.{Meets, IsAny, IsBy, IsKept, IsStepTwice};
-ghost use Rattle.bd_engine.specs.Taking.{AreTaken};
+ghost use Rattle.bd_engine.specs.Stands.{Before, Within, TellsBefore, TellsWithin, MakesWithin, UsesNothing};
+ghost use Rattle.bd_engine.specs.Meets.{Meets, IsBy, IsKept, IsStepTwice};
+ghost use Rattle.bd_engine.specs.Taking as taking;
+ghost use Rattle.bd_engine.specs.Taking.{AreTaken, IsReading};
 
 use crate::answer::{Plain, Twice};
 use crate::tables::Tables;
@@ -62,6 +63,18 @@ fn handed_by(works: &[Work]) -> Option<u32>
         }
     }
     None
+}
+
+fn is_notice(kind: WorkKind) -> bool
+    ensures { result ≡ is_some (todo.notice_of kind) }
+{
+    matches!(kind, WorkKind::Notice(_))
+}
+
+fn has_notice(works: &[Work]) -> bool
+    ensures { result ≡ taking.has_notice works.now }
+{
+    works.iter().any(|w| is_notice(w.kind))
 }
 
 // Where the buffer was made.
@@ -201,11 +214,26 @@ impl Tables {
         self.windows.hand_out(made);
     }
 
-    // The thread of a seat reads a list.
-    fn read_list(&mut self, seat: u32, list: TodoList, limit: u32) -> Result<Twice, AllocError>
+    // What follows from reading these work items: nothing, unless a notice is among them.
+    fn follow_reading(&mut self, works: &[Work])
+        requires { object_count self.old.objects ≤ work_room self.old.calls }
+        ensures { MakesWithin self.old self.new (taking.follow_reading works.now) }
+    {
+        if has_notice(works) {
+            self.follow();
+        }
+    }
+
+    // A thread reads the list that is its to read.
+    fn read_list(
+        &mut self,
+        thread: &Thread,
+        list: TodoList,
+        limit: u32,
+    ) -> Result<Twice, AllocError>
         ensures ok { IfOk result
-            (λ x. Meets self.old self.new IsAny
-            (λ s. spec.read_taking s seat (read_items.taken s (limit - 4) (todo.work_on s.todo (Some list)))) x.answer) }
+            (λ x. Meets self.old self.new (IsReading thread.now list)
+            (λ s. spec.read_taking s thread.now.seat (read_items.taken s (limit - 4) (todo.work_on s.todo (Some list)))) x.answer) }
         ensures twice { IfOk result (λ x. x.again ≡ x.answer) }
         ensures err { OnErr result (IsKept self.old self.new) }
     {
@@ -215,8 +243,8 @@ impl Tables {
         let answer = got(self.alloc, buffer, stream)?;
         let again = answer.copied()?;
         self.reserve_read(works.len())?;
-        self.read_by(seat, works.as_slice(), made);
-        self.follow();
+        self.read_by(thread.seat, works.as_slice(), made);
+        self.follow_reading(works.as_slice());
         Ok(Twice { answer, again })
     }
 
@@ -230,7 +258,7 @@ impl Tables {
         let Some(list) = self.list_to_read(&a.thread) else {
             return Ok(Plain::Refused(Fault::Again).twice());
         };
-        match self.read_list(a.thread.seat, list, limit) {
+        match self.read_list(&a.thread, list, limit) {
             Ok(taken) => Ok(taken),
             Err(AllocError) => Err(Why::NoMemory),
         }

@@ -43,7 +43,7 @@ owe-elsewhere a b z list kind plain h = record {
   made = λ x l none wants. any-more (λ (w : Work). is_notice x.id w.kind) z.todo _ (h.made x l none wants);
 }
 
-ripen_of-elsewhere : (a : NameTest) (b : ObjectTest) (o : ObjectId) (z : Space) → Elsewhere a b z → Elsewhere a b (ripen_of o z)
+pub ripen_of-elsewhere : (a : NameTest) (b : ObjectTest) (o : ObjectId) (z : Space) → Elsewhere a b z → Elsewhere a b (ripen_of o z)
 unfolding ripen_of
 ripen_of-elsewhere a b o z h = at (find (λ (t : Turn). same t.target o) (turns_of z.buffers))
   where

@@ -5,3 +5,4 @@ pub mod Numbers
 pub mod Deaths
 pub mod Delivery
 pub mod Reading
+pub mod OnlyTarget

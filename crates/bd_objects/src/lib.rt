@@ -11,6 +11,7 @@ mod names;
 mod notices;
 mod numbers;
 mod objects;
+mod only_target;
 mod parcels;
 mod reading;
 mod references;

@@ -42,7 +42,7 @@ pub returns : goal.returns
 unfolding free_step
 returns c = record {
   ok =
-      accepts _ c.reserve.new.self _ _ _ (λ s. without_buffer s c.in-Ok.made) c.reserve.ensures.stands (λ s h by. c.lose_buffer.ensures.stands s h) (λ s h by.
+      accepts _ c.reserve.new.self _ _ _ (λ s. without_buffer s c.in-Ok.made) c.reserve.ensures.stands (λ s h by. c.lose_buffer.ensures.stands s h by.tidy) (λ s h by.
       let p = c.args.a.process.made in
       let checked = c.in-Ok.ensures s c.args.a.process (within c.args.self.now s h) (process-of s c.args.a.thread.seat c.args.a by.acts) in
       sym (ap (freed_outcome s) checked ∙ by_check s (buffer_at_pointer s p c.args.pointer)));

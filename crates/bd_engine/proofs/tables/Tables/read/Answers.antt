@@ -4,6 +4,7 @@ use Rattle.bd_space.specs.declared.space.Work.{Work}
 use Rattle.bd_space.specs.Todo.{list_to_read}
 use Rattle.bd_space.specs.Reading.{read_step, read_taking, is_empty}
 use Rattle.bd_space.specs.ReadItems.{taken}
+use Rattle.bd_engine.specs.Taking.{IsReading}
 use Rattle.bd_engine.proofs.Meeting.{IsOutcome, answer-is, meets, in-case, is-refused}
 use Rattle.bd_engine.proofs.TakingItems.{read_outcome, too-small, nothing, readable}
 use Rattle.bd_engine.proofs.tables.Tables.read.Goals as goal
@@ -37,9 +38,10 @@ returns-in-Ok c = record {
   ok = meets _ _ _ _ _ (λ s h by.
       let t = c.args.a.thread in
       let ok = c.in-Ok.ensures.ok in
+      let reading : IsReading t c.in-Some.list s = record { tidy = by.tidy; reads = c.in-Some.ensures.some s h } in
       in-case _ _ (read_outcome s t.seat c.args.limit (list_to_read s t)) _ _ (readable c.args.limit (list_to_read s t) c.if-limit-lt72.false (c.in-Some.ensures.filled s h))
       (subst (λ (ws : List Work). IsOutcome c.read_list.new.self c.in-Ok.taken.answer (read_taking s t.seat (taken s (c.args.limit - 4) ws))) (sym (c.in-Some.ensures.some s h))
-      (record { answered = ok.answered s h by.tidy; stands = ok.stands s h by.tidy })));
+      (record { answered = ok.answered s h reading; stands = ok.stands s h reading })));
   twice = c.in-Ok.ensures.twice;
   err = tt;
   full = tt;

@@ -9,6 +9,7 @@ use Rattle.bd_space.specs.Returns.{stream_of}
 use Rattle.bd_engine.specs.Stands.{Within}
 use Rattle.bd_engine.proofs.Standing.{within}
 use Rattle.bd_engine.proofs.Meeting.{meets}
+use Rattle.bd_engine.proofs.Reading.{reads-follow}
 use Rattle.bd_engine.proofs.tables.Tables.read_list.Goals as goal
 
 pub returns-clause-ok : goal.returns-clause-ok
@@ -19,10 +20,12 @@ returns-clause-ok c = meets _ _ _ _ _ (λ s h by.
     let buffer = c.buffer_taken-buffer.ensures s (within _ s h) in
     let made = c.made_of-made.ensures ∙ ap (option_map made_of_buffer) buffer
     ∙ ap (λ (ws : List Work). option_map made_of_buffer (buffer_taken s ws)) (c.as_slice.ensures.value ∙ sym c.as_slice-2.ensures.value) in
-    let read = subst (λ (ws : List Work). Within c.read_by.new.self (read_by s c.args.seat ws)) (c.as_slice-2.ensures.value ∙ t.works_are)
+    let read = subst (λ (ws : List Work). Within c.read_by.new.self (read_by s c.args.thread.now.seat ws)) (c.as_slice-2.ensures.value ∙ t.works_are)
     (c.read_by.ensures.stands s (within _ s (c.in_ok-reserve_read.ensures.stands s h)) made) in
     record {
       answered = c.in_ok-answer.ensures ∙ ap (λ bs. got bs (option_copied c.buffer_taken-buffer.result)) t.stream_is
           ∙ ap (got (stream_of s all)) buffer ∙ ap (λ (ws : List Work). got (stream_of s all) (buffer_taken s ws)) (c.as_slice.ensures.value ∙ t.works_are);
-      stands = c.follow.ensures.stands (read_by s c.args.seat all) read;
+      stands =
+          subst (Within c.follow_reading.new.self) (reads-follow s c.args.thread.now c.args.list c.args.thread.now.seat (c.args.limit - 4) _ by (c.as_slice-3.ensures.value ∙ t.works_are))
+          (c.follow_reading.ensures (read_by s c.args.thread.now.seat all) read);
     })
