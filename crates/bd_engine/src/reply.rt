@@ -74,7 +74,8 @@ impl Tables {
         }
     }
 
-    // The step of a reply that nothing stands against. Without objects, only calls around the one that ends may close.
+    // The step of a reply that nothing stands against. If it carries no objects, all that may follow is that calls
+    // close, from the one in which the answered call was made upwards.
     pub(crate) fn answer(
         &mut self,
         a: Actor,

@@ -198,8 +198,8 @@ impl Tables {
         }
     }
 
-    // The step of a transaction that nothing stands against. Without objects, at most a one-way call is ripe after
-    // it.
+    // The step of a transaction that nothing stands against. If it carries no objects, all that may follow is that a
+    // one-way call ripens.
     fn transact(&mut self, a: Actor, d: &TransactionData, v: Delivery) -> Result<Plain, Why>
         requires { IsDeliverable self.old d.now v }
         ensures { IsStep self.old self.new (IsSending a d.now v)
