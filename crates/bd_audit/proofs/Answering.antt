@@ -437,10 +437,12 @@ module _ (es : List Entry) (e : Entry) (h : Traced es (after opening es)) where
 
   pub kept : Keeps s e.seat e.step (Traced more) (Traced more)
   kept = record {
-    same = now;
-    opened = λ pid euid window. quietly _ (quiet.opened-quiet s e.seat pid euid window);
-    attached = λ p. quietly _ (quiet.attached-quiet s e.seat p);
-    managed = λ a i b. quietly _ (quiet.managed-quiet s a.process.made);
+    set_up = record {
+      same = now;
+      opened = λ pid euid window free. quietly _ (quiet.opened-quiet s e.seat pid euid window);
+      attached = λ p free. quietly _ (quiet.attached-quiet s e.seat p);
+      managed = λ a i b. quietly _ (quiet.managed-quiet s a.process.made);
+    };
     changes = record {
       transacts = λ a d parcel v x i t. transacted-traced a i d parcel v x t;
       replies = λ a d parcel f v x i g t. replied-traced a i d parcel f v x g t;
@@ -449,7 +451,7 @@ module _ (es : List Entry) (e : Entry) (h : Traced es (after opening es)) where
       drops = λ p o strong. quietly _ (quiet.drop_asked-quiet s p o strong);
       acknowledges = λ o strong i. quietly _ (quiet.acknowledge-quiet s o strong);
       loops = λ t looping. quietly _ (quiet.with_looping-quiet s t looping);
-      on_deaths = on-mapped s _ _ quietly (quiet.on_deaths-quiet s);
+      on_deaths = on-commands s _ (on-mapped s _ _ quietly (quiet.on_deaths-quiet s));
       reads = λ a limit i x n. read-traced a i limit x n;
       leaves = λ a i. quietly _ (quiet.thread_goes-quiet s a.thread.seat);
       ends = λ a i. quietly _ (quiet.ends-quiet s a.process.made);

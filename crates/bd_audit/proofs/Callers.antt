@@ -188,10 +188,12 @@ module _ (es : List Entry) (e : Entry) (h : HasCallers es (after opening es)) wh
   pub kept : Keeps s e.seat e.step (HasCallers more) (HasCallers more)
   unfolding with_process with_manager without_buffer ask assign_numbers drop_asked acknowledge with_looping ripen follow notify work_goes deaths_go objects_go names_go
   kept = record {
-    same = now;
-    opened = λ pid euid window. attaches s.steps (with_process s pid euid window) refl refl refl;
-    attached = λ p. attaches p s refl refl refl;
-    managed = λ a i b. stays (with_manager s a.process.made) refl refl;
+    set_up = record {
+      same = now;
+      opened = λ pid euid window free. attaches s.steps (with_process s pid euid window) refl refl refl;
+      attached = λ p free. attaches p s refl refl refl;
+      managed = λ a i b. stays (with_manager s a.process.made) refl refl;
+    };
     changes = record {
       transacts = λ a d parcel v x i t. transacts a d v i;
       replies = λ a d parcel f v x i g t. replies a d f v;
@@ -200,7 +202,7 @@ module _ (es : List Entry) (e : Entry) (h : HasCallers es (after opening es)) wh
       drops = λ p o strong. stays (drop_asked s p o strong) refl refl;
       acknowledges = λ o strong i. stays (acknowledge s o strong) refl refl;
       loops = λ t looping f m u l c k. now f m u l c (sym (made-changed (λ (v : Thread). v.seat == t) looping s.threads u) ∙ k);
-      on_deaths = on-mapped s _ _ (λ y k. stays y k.frames k.threads) (on_deaths-aside s);
+      on_deaths = on-commands s _ (on-mapped s _ _ (λ y k. stays y k.frames k.threads) (on_deaths-aside s));
       reads = λ a limit i x n. reads more s a.thread.seat (taken s (limit - 4) (list_to_read s a.thread)) now;
       leaves = λ a i. goes more s a.thread.seat now;
       ends = λ a i. ends more s a.process.made now;

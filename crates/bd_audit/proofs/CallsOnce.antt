@@ -222,10 +222,12 @@ module _ (s : Space) (m : ℕ) (turns : IsInTurn s) (single : One m s.todo) wher
 
   calling : (seat : ℕ) (x : Step) → Keeps s seat x (CalledIn s m) (CalledIn s m)
   calling seat x = record {
-    same = from-due s refl (λ w i. i.0);
-    opened = λ pid euid window. from-less _ (one_way.opened-less s seat pid euid window);
-    attached = λ p. from-less _ (one_way.attached-less s seat p);
-    managed = λ a i b. from-less _ (one_way.managed-less s a.process.made);
+    set_up = record {
+      same = from-due s refl (λ w i. i.0);
+      opened = λ pid euid window free. from-less _ (one_way.opened-less s seat pid euid window);
+      attached = λ p free. from-less _ (one_way.attached-less s seat p);
+      managed = λ a i b. from-less _ (one_way.managed-less s a.process.made);
+    };
     changes = record {
       transacts = λ a d parcel v e i t. transacts a d v;
       replies = λ a d parcel f v e i g t. replies a d f v;
@@ -234,7 +236,7 @@ module _ (s : Space) (m : ℕ) (turns : IsInTurn s) (single : One m s.todo) wher
       drops = λ p o strong. from-less _ (one_way.drop_asked-less s p o strong);
       acknowledges = λ o strong i. from-less _ (one_way.acknowledge-less s o strong);
       loops = λ t looping. from-less _ (one_way.with_looping-less s t looping);
-      on_deaths = on-mapped s _ _ from-less (one_way.on_deaths-less s);
+      on_deaths = on-commands s _ (on-mapped s _ _ from-less (one_way.on_deaths-less s));
       reads = λ a limit i e n. reads a.thread.seat _;
       leaves = λ a i. from-less _ (one_way.thread_goes-less s a.thread.seat);
       ends = λ a i. from-less _ (one_way.ends-less s a.process.made);

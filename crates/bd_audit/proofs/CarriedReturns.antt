@@ -204,10 +204,12 @@ follows z h =
 kept : (s : Space) (seat : ℕ) (x : Step) → IsPlain s → KeepsWhole s seat x IsPlain IsPlain
 unfolding with_thread with_process with_manager without_buffer ask assign_numbers drop_asked acknowledge with_looping read_by
 kept s seat x h = record {
-  same = h;
-  opened = λ pid euid window. h;
-  attached = λ p. h;
-  managed = λ a e b. h;
+  set_up = record {
+    same = h;
+    opened = λ pid euid window free. h;
+    attached = λ p free. h;
+    managed = λ a e b. h;
+  };
   changes = record {
     transacts = λ a d parcel v e i t. transacts s a d v h;
     replies = λ a d parcel f v e i g t. replies s a d f v h;
@@ -216,7 +218,7 @@ kept s seat x h = record {
     drops = λ p o strong. h;
     acknowledges = λ o strong i. h;
     loops = λ t looping. h;
-    on_deaths = on-kept IsPlain plain-on_deaths s h;
+    on_deaths = on-commands s _ (on-kept IsPlain plain-on_deaths s h);
     reads = λ a limit e i n. filter-plain (λ (w : Work). not (list_any (λ (d : Work). is_item w d) (taken s (limit - 4) (list_to_read s a.thread)))) s.todo h;
     leaves = λ a e. goes s a.thread.seat h;
     ends = λ a e. let p = a.process.made in tells-deaths (without_process (threads_go s p) p) p (process-goes (threads_go s p) p (all-go s p h));

@@ -208,10 +208,12 @@ exact-step : (s : Space) (seat : ℕ) (x : Step) → Before s → Noticing s →
 exact-step s seat x before noticing h =
     let k = kept-step s seat x before.objects in
     record {
-      same = h;
-      opened = λ pid euid window. opened-exact s seat pid euid window before h;
-      attached = λ p. attached-exact s seat p h;
-      managed = λ a e b. managed-exact s a.process.made before.objects noticing h;
+      set_up = record {
+        same = h;
+        opened = λ pid euid window free. opened-exact s seat pid euid window before h;
+        attached = λ p free. attached-exact s seat p h;
+        managed = λ a e b. managed-exact s a.process.made before.objects noticing h;
+      };
       changes = k.changes;
       follows = λ z l. follow-exact z l.differ;
       closes = λ z made l. closed-exact z made l;

@@ -401,10 +401,12 @@ module _ (es : List Entry) (e : Entry) (h : Answered es (after opening es)) wher
   kept =
       let k = calls-kept in
       record {
-        same = (k.same, now);
-        opened = λ pid euid window. (k.opened pid euid window, leaves _ s (attached-leaves s (with_process s pid euid window) e.seat s.steps refl refl refl refl) now);
-        attached = λ p. (k.attached p, leaves _ s (attached-leaves s s e.seat p refl refl refl refl) now);
-        managed = λ a i b. (k.managed a i b, same (with_manager s a.process.made) refl refl refl (λ w q l. l));
+        set_up = record {
+          same = (k.set_up.same, now);
+          opened = λ pid euid window free. (k.set_up.opened pid euid window free, leaves _ s (attached-leaves s (with_process s pid euid window) e.seat s.steps refl refl refl refl) now);
+          attached = λ p free. (k.set_up.attached p free, leaves _ s (attached-leaves s s e.seat p refl refl refl refl) now);
+          managed = λ a i b. (k.set_up.managed a i b, same (with_manager s a.process.made) refl refl refl (λ w q l. l));
+        };
         changes = record {
           transacts = λ a d parcel v x i t. (k.changes.transacts a d parcel v x i t, leaves _ s (transacted-leaves s a d v) now);
           replies = λ a d parcel f v x i g t. (k.changes.replies a d parcel f v x i g t, replies a d f v g);

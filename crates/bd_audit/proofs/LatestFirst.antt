@@ -288,10 +288,12 @@ module _ (s : Space) (h : OnPaths s.steps s) (top child : Frame) (here : In top 
   kept : (seat : ℕ) (x : Step) → KeepsWhole s seat x While While
   unfolding with_thread with_process with_manager without_buffer ask assign_numbers drop_asked acknowledge with_looping ripen follow notify work_goes deaths_go objects_go names_go
   kept seat x = record {
-    same = calm s refl;
-    opened = λ pid euid window. calm (with_thread (with_process s pid euid window) seat s.steps) refl;
-    attached = λ p. calm (with_thread s seat p) refl;
-    managed = λ a i b. calm (with_manager s a.process.made) refl;
+    set_up = record {
+      same = calm s refl;
+      opened = λ pid euid window free. calm (with_thread (with_process s pid euid window) seat s.steps) refl;
+      attached = λ p free. calm (with_thread s seat p) refl;
+      managed = λ a i b. calm (with_manager s a.process.made) refl;
+    };
     changes = record {
       transacts = λ a d parcel v e i g. transacts a d v;
       replies = λ a d parcel f v e i g c. replies a d f v g;
@@ -300,7 +302,7 @@ module _ (s : Space) (h : OnPaths s.steps s) (top child : Frame) (here : In top 
       drops = λ p o strong. calm (drop_asked s p o strong) refl;
       acknowledges = λ o strong i. calm (acknowledge s o strong) refl;
       loops = λ u looping. calm (with_looping s u looping) refl;
-      on_deaths = on-mapped s _ _ (λ y k. calm y k.frames) (on_deaths-aside s);
+      on_deaths = on-commands s _ (on-mapped s _ _ (λ y k. calm y k.frames) (on_deaths-aside s));
       reads = λ a limit i e n. reads a.thread (limit - 4);
       leaves = λ a i. goes s a.thread.seat (calm s refl);
       ends = λ a i. ends a.process.made;
@@ -349,10 +351,12 @@ earlier-way s h t m f g l k calls also lt =
 each-kept : {I : Type 0} (s : Space) (seat : ℕ) (x : Step) (P : I → Space → Type 0) → ((i : I) → KeepsWhole s seat x (P i) (P i))
     → KeepsWhole s seat x (λ z. (i : I) → P i z) (λ z. (i : I) → P i z)
 each-kept s seat x P k = record {
-  same = λ i. (k i).same;
-  opened = λ pid euid window i. (k i).opened pid euid window;
-  attached = λ p i. (k i).attached p;
-  managed = λ a e b i. (k i).managed a e b;
+  set_up = record {
+    same = λ i. (k i).same;
+    opened = λ pid euid window free i. (k i).opened pid euid window;
+    attached = λ p free i. (k i).attached p;
+    managed = λ a e b i. (k i).managed a e b;
+  };
   changes = record {
     transacts = λ a d parcel v e g c i. (k i).changes.transacts a d parcel v e g c;
     replies = λ a d parcel f v e g c r i. (k i).changes.replies a d parcel f v e g c r;

@@ -342,10 +342,12 @@ module _ (s : Space) (h : Lined s) where
   kept : (seat : ℕ) (x : Step) → Keeps s seat x Stands InLine
   unfolding with_thread with_process with_manager without_buffer ask assign_numbers drop_asked acknowledge with_looping
   kept seat x = record {
-    same = begun.0;
-    opened = λ pid euid window. begun.0;
-    attached = λ p. begun.0;
-    managed = λ a e b. begun.0;
+    set_up = record {
+      same = begun.0;
+      opened = λ pid euid window free. begun.0;
+      attached = λ p free. begun.0;
+      managed = λ a e b. begun.0;
+    };
     changes = record {
       transacts = λ a d parcel v e i t. sent-stands (transacted s a d v) (transacted-sent s a d v begun);
       replies = λ a d parcel f v e i g t. sent-stands (replied s a d f v) (replied-sent s a d f v begun);

@@ -509,10 +509,12 @@ owe-ends z list kind none h = work-due z.steps z.todo list kind none h
 
 kept : (s : Space) (seat : ℕ) (x : Step) → IsOwed s → Keeps s seat x Goes Ends
 kept s seat x h = record {
-  same = quiet-ends s s h (quiet.quiet-refl s);
-  opened = λ pid euid window. quiet-ends _ s h (quiet.opened-quiet s seat pid euid window);
-  attached = λ p. quiet-ends _ s h (quiet.attached-quiet s seat p);
-  managed = λ a e b. quiet-ends _ s h (quiet.managed-quiet s a.process.made);
+  set_up = record {
+    same = quiet-ends s s h (quiet.quiet-refl s);
+    opened = λ pid euid window free. quiet-ends _ s h (quiet.opened-quiet s seat pid euid window);
+    attached = λ p free. quiet-ends _ s h (quiet.attached-quiet s seat p);
+    managed = λ a e b. quiet-ends _ s h (quiet.managed-quiet s a.process.made);
+  };
   changes = record {
     transacts = λ a d parcel v e i t. transacted-goes s a d v h;
     replies = λ a d parcel f v e i g t. replied-goes s a d f v h;
@@ -521,7 +523,7 @@ kept s seat x h = record {
     drops = λ p o strong. quiet-goes _ s h (quiet.drop_asked-quiet s p o strong);
     acknowledges = λ o strong i. quiet-goes _ s h (quiet.acknowledge-quiet s o strong);
     loops = λ t looping. quiet-goes _ s h (quiet.with_looping-quiet s t looping);
-    on_deaths = on-mapped s _ _ (λ y k. quiet-goes y s h k) (quiet.on_deaths-quiet s);
+    on_deaths = on-commands s _ (on-mapped s _ _ (λ y k. quiet-goes y s h k) (quiet.on_deaths-quiet s));
     reads = λ a limit e i n. read-goes s a.thread.seat _ h;
     leaves = λ a e. quiet-goes _ s h (quiet.thread_goes-quiet s a.thread.seat);
     ends = λ a e. quiet-goes _ s h (quiet.ends-quiet s a.process.made);

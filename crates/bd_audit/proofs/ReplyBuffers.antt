@@ -495,10 +495,12 @@ unfolding with_manager ask assign_numbers drop_asked acknowledge follow notify w
 kept s seat x turns h =
     let k = turn.kept s seat x turns in
     record {
-      same = (k.same, h);
-      opened = λ pid euid window. (k.opened pid euid window, opened s seat pid euid window h);
-      attached = λ p. (k.attached p, attached s seat p h);
-      managed = λ a e b. (k.managed a e b, h);
+      set_up = record {
+        same = (k.set_up.same, h);
+        opened = λ pid euid window free. (k.set_up.opened pid euid window free, opened s seat pid euid window h);
+        attached = λ p free. (k.set_up.attached p free, attached s seat p h);
+        managed = λ a e b. (k.set_up.managed a e b, h);
+      };
       changes = record {
         transacts = λ a d parcel v e i t. (k.changes.transacts a d parcel v e i t, transacts s a d v turns h);
         replies = λ a d parcel f v e i g t. (k.changes.replies a d parcel f v e i g t, replies s a d parcel f v turns t h);

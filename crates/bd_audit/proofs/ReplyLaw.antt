@@ -108,10 +108,12 @@ from-read s seat ws = record {
 
 from-kept : (s : Space) (seat : ℕ) (x : Step) → Keeps s seat x (From s) (From s)
 from-kept s seat x = record {
-  same = from-same s;
-  opened = λ pid euid window. from-quietly s _ (quiet.opened-quiet s seat pid euid window);
-  attached = λ p. from-quietly s _ (quiet.attached-quiet s seat p);
-  managed = λ a i b. from-quietly s _ (quiet.managed-quiet s a.process.made);
+  set_up = record {
+    same = from-same s;
+    opened = λ pid euid window free. from-quietly s _ (quiet.opened-quiet s seat pid euid window);
+    attached = λ p free. from-quietly s _ (quiet.attached-quiet s seat p);
+    managed = λ a i b. from-quietly s _ (quiet.managed-quiet s a.process.made);
+  };
   changes = record {
     transacts = λ a d parcel v e i t. from-transacted s a d v;
     replies = λ a d parcel f v e i g t. from-replied s a d f v;
@@ -120,7 +122,7 @@ from-kept s seat x = record {
     drops = λ p o strong. from-quietly s _ (quiet.drop_asked-quiet s p o strong);
     acknowledges = λ o strong i. from-quietly s _ (quiet.acknowledge-quiet s o strong);
     loops = λ t looping. from-quietly s _ (quiet.with_looping-quiet s t looping);
-    on_deaths = on-mapped s _ _ (from-quietly s) (quiet.on_deaths-quiet s);
+    on_deaths = on-commands s _ (on-mapped s _ _ (from-quietly s) (quiet.on_deaths-quiet s));
     reads = λ a limit i e n. from-read s a.thread.seat _;
     leaves = λ a i. from-quietly s _ (quiet.thread_goes-quiet s a.thread.seat);
     ends = λ a i. from-quietly s _ (quiet.ends-quiet s a.process.made);

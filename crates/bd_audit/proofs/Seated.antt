@@ -161,10 +161,12 @@ module _ (es : List Entry) (e : Entry) (h : Seated es (after opening es)) where
   kept : Keeps s e.seat e.step (Seated more) (Seated more)
   unfolding with_process with_manager without_buffer ask assign_numbers drop_asked acknowledge with_looping read_by ripen follow notify work_goes deaths_go objects_go names_go closed
   kept = record {
-    same = now;
-    opened = λ pid euid window. attached s.steps (with_process s pid euid window) refl refl;
-    attached = λ p. attached p s refl refl;
-    managed = λ a i b. same (with_manager s a.process.made) refl;
+    set_up = record {
+      same = now;
+      opened = λ pid euid window free. attached s.steps (with_process s pid euid window) refl refl;
+      attached = λ p free. attached p s refl refl;
+      managed = λ a i b. same (with_manager s a.process.made) refl;
+    };
     changes = record {
       transacts = λ a d parcel v x i t. same (transacted s a d v) (transacted-threads s a d v);
       replies = λ a d parcel f v x i g t. same (replied s a d f v) (replied-threads s a d f v);
@@ -173,7 +175,7 @@ module _ (es : List Entry) (e : Entry) (h : Seated es (after opening es)) where
       drops = λ p o strong. same (drop_asked s p o strong) refl;
       acknowledges = λ o strong i. same (acknowledge s o strong) refl;
       loops = λ t looping u m k. now u m (sym (made-changed (λ (v : Thread). v.seat == t) looping s.threads u) ∙ k);
-      on_deaths = on-mapped s _ _ (λ y k. same y k.threads) (on_deaths-aside s);
+      on_deaths = on-commands s _ (on-mapped s _ _ (λ y k. same y k.threads) (on_deaths-aside s));
       reads = λ a limit i x n. same (read_by s a.thread.seat (taken s (limit - 4) (list_to_read s a.thread))) refl;
       leaves = λ a i. goes more s a.thread.seat now;
       ends = λ a i. ends more s a.process.made now;

@@ -290,14 +290,16 @@ module _ (es : List Entry) (e : Entry) (h : Single (after opening es).todo) wher
       let q = λ (z : Space) (i : Quiet z s) (j : NoneNew z.todo s.todo). quietly z i j in
       let same = none-same s.todo in
       record {
-        same = (k.same, l.same, q s (quiet.quiet-refl s) same);
-        opened = λ pid euid window. (
-          k.opened pid euid window,
-          l.opened pid euid window,
-          q (with_thread (with_process s pid euid window) e.seat s.steps) (quiet.opened-quiet s e.seat pid euid window) same,
-        );
-        attached = λ p. (k.attached p, l.attached p, q (with_thread s e.seat p) (quiet.attached-quiet s e.seat p) same);
-        managed = λ a i b. (k.managed a i b, l.managed a i b, q (with_manager s a.process.made) (quiet.managed-quiet s a.process.made) same);
+        set_up = record {
+          same = (k.set_up.same, l.set_up.same, q s (quiet.quiet-refl s) same);
+          opened = λ pid euid window free. (
+            k.set_up.opened pid euid window free,
+            l.set_up.opened pid euid window free,
+            q (with_thread (with_process s pid euid window) e.seat s.steps) (quiet.opened-quiet s e.seat pid euid window) same,
+          );
+          attached = λ p free. (k.set_up.attached p free, l.set_up.attached p free, q (with_thread s e.seat p) (quiet.attached-quiet s e.seat p) same);
+          managed = λ a i b. (k.set_up.managed a i b, l.set_up.managed a i b, q (with_manager s a.process.made) (quiet.managed-quiet s a.process.made) same);
+        };
         changes = record {
           transacts = λ a d parcel v x i t. (k.changes.transacts a d parcel v x i t, l.changes.transacts a d parcel v x i t, transacts a d v);
           replies = λ a d parcel f v x i g t. (k.changes.replies a d parcel f v x i g t, l.changes.replies a d parcel f v x i g t, replies a d f v g);

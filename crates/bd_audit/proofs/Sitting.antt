@@ -367,10 +367,12 @@ unfolding without_buffer ask assign_numbers drop_asked acknowledge
 sitting-step s seat x kept noticing h =
     let k = kept-step s seat x kept in
     record {
-      same = (k.same, h);
-      opened = λ pid euid window. (k.opened pid euid window, opened-sits s seat pid euid window h);
-      attached = λ p. (k.attached p, with_thread-sits s seat p h);
-      managed = λ a e b. (k.managed a e b, managed-sits s a.process.made kept noticing h);
+      set_up = record {
+        same = (k.set_up.same, h);
+        opened = λ pid euid window free. (k.set_up.opened pid euid window free, opened-sits s seat pid euid window h);
+        attached = λ p free. (k.set_up.attached p free, with_thread-sits s seat p h);
+        managed = λ a e b. (k.set_up.managed a e b, managed-sits s a.process.made kept noticing h);
+      };
       changes = record {
         transacts = λ a d parcel v e i t. (k.changes.transacts a d parcel v e i t, transacted-sits s seat a d parcel v kept noticing i t h);
         replies = λ a d parcel f v e i g t. (k.changes.replies a d parcel f v e i g t, replied-sits s seat a d parcel f v kept noticing i t h);

@@ -398,10 +398,12 @@ module _ (o : ObjectId) (st : Hearing) where
   quiet-step s seat x before h no_read no_done =
       let kept = before.objects in
       record {
-        same = h.tracks;
-        opened = λ pid euid window. opened-told s seat pid euid window before h.tracks;
-        attached = λ p. attached-told s seat p h.tracks;
-        managed = λ a e b. managed-told s a.process.made before h;
+        set_up = record {
+          same = h.tracks;
+          opened = λ pid euid window free. opened-told s seat pid euid window before h.tracks;
+          attached = λ p free. attached-told s seat p h.tracks;
+          managed = λ a e b. managed-told s a.process.made before h;
+        };
         changes = record {
           transacts = λ a d parcel v e i t. transacted-told s a d parcel v kept h t;
           replies = λ a d parcel f v e i g t. replied-told s a d parcel f v kept h t;
@@ -410,7 +412,7 @@ module _ (o : ObjectId) (st : Hearing) where
           drops = λ p i strong. drop_asked-told s p i strong h.tracks;
           acknowledges = λ i strong done. absurd (no_done strong done);
           loops = λ t looping. tracks-untouched ⊥ _ s (with_looping-untouched s t looping) h.tracks;
-          on_deaths = on-mapped s _ _ (λ y k. tracks-untouched ⊥ y s k h.tracks) (on_deaths-untouched s);
+          on_deaths = on-commands s _ (on-mapped s _ _ (λ y k. tracks-untouched ⊥ y s k h.tracks) (on_deaths-untouched s));
           reads = λ a limit e i n. absurd (no_read (limit, i));
           leaves = λ a e. thread_goes-told s a.thread.seat h.tracks;
           ends = λ a e. tracks-untouched ⊥ _ (without_process (threads_go s a.process.made) a.process.made) (tell_deaths-untouched (without_process (threads_go s a.process.made) a.process.made) a.process.made)

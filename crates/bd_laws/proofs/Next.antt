@@ -590,20 +590,13 @@ step-endings : (s : Space) (seat : ℕ) (x : Step) → Before s → Distinct s.t
 step-endings s seat x before distinct h =
     let k = kept-step s seat x before.objects in
     record {
-      same = h;
-      opened = λ pid euid window free. opened-quiet s seat pid euid window before h;
-      attached = λ p free. attached-quiet s seat p h;
-      managed = λ a e b. managed-quiet s a.process.made before.objects h;
-      transacts = k.changes.transacts;
-      replies = k.changes.replies;
-      frees = k.changes.frees;
-      asks = k.changes.asks;
-      drops = k.changes.drops;
-      acknowledges = k.changes.acknowledges;
-      loops = k.changes.loops;
-      requests = λ p n cookie o e. on-requested s IsKept k.changes.on_deaths p o cookie;
-      clears = λ t y. on-cleared s IsKept k.changes.on_deaths t y;
-      dones = λ t p cookie y e. on-done s IsKept k.changes.on_deaths t y;
+      set_up = record {
+        same = h;
+        opened = λ pid euid window free. opened-quiet s seat pid euid window before h;
+        attached = λ p free. attached-quiet s seat p h;
+        managed = λ a e b. managed-quiet s a.process.made before.objects h;
+      };
+      changes = k.changes;
       completes = λ z m. completed-quiet z m.differ;
       refuses = λ t c. refused-quiet s t c h;
       fails = λ a d parcel f e i g. failed-quiet s a.thread.seat f h;

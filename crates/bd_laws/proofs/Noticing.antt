@@ -44,7 +44,7 @@ use Rattle.bd_laws.specs.Lists.{In, Pairs}
 use Rattle.bd_laws.proofs.Lists.{in-left, in-push, in-filter, any-found, any-in, find-in, pairs-filter, pairs-push, fold-keeps}
 use Rattle.bd_laws.proofs.Tests.{both, not-true, same-eq, eq-same}
 use Rattle.bd_laws.proofs.EveryStep.{Keeps, every_step}
-use Rattle.bd_laws.proofs.Deaths.{KeptOnDeaths, on-kept, on-told}
+use Rattle.bd_laws.proofs.Deaths.{KeptOnDeaths, on-kept, on-told, on-commands}
 
 -- two work items are no Notices of one object
 abbrev pub Apart : Work → Work → Type 0
@@ -295,10 +295,12 @@ closed-noticing z made h = record { once = h.once; live = h.live }
 noticing-step : (s : Space) (seat : ℕ) (x : Step) → Noticing s → Keeps s seat x OnceIn Noticing
 unfolding without_buffer ask assign_numbers drop_asked acknowledge with_looping
 noticing-step s seat x h = record {
-  same = h;
-  opened = λ pid euid window. opened-noticing s seat pid euid window h;
-  attached = λ p. attached-noticing s seat p h;
-  managed = λ a e b. managed-noticing s a.process.made h;
+  set_up = record {
+    same = h;
+    opened = λ pid euid window free. opened-noticing s seat pid euid window h;
+    attached = λ p free. attached-noticing s seat p h;
+    managed = λ a e b. managed-noticing s a.process.made h;
+  };
   changes = record {
     transacts = λ a d parcel v e i t. transacted-once s a d v h.once;
     replies = λ a d parcel f v e i g t. replied-once s a d f v h.once;
@@ -307,7 +309,7 @@ noticing-step s seat x h = record {
     drops = λ p o strong. h.once;
     acknowledges = λ o strong i. h.once;
     loops = λ t looping. h.once;
-    on_deaths = on-kept OnceIn once-on_deaths s h.once;
+    on_deaths = on-commands s _ (on-kept OnceIn once-on_deaths s h.once);
     reads = λ a limit e i n. read-once s a.thread.seat _ h.once;
     leaves = λ a e. thread_goes-once s a.thread.seat h.once;
     ends = λ a e. tell_deaths-once (without_process (threads_go s a.process.made) a.process.made) a.process.made

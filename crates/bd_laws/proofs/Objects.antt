@@ -50,7 +50,7 @@ use Rattle.bd_laws.proofs.EveryStep.{Keeps, every_step, every_list}
 use Rattle.bd_laws.proofs.Checks.{transaction-checked, reply-checked, asked-checked}
 use Rattle.bd_laws.proofs.Untouched.{Untouched, owe-untouched, told-untouched, called-untouched, closed-untouched, ripen-untouched, notify-untouched, work_goes-untouched, deaths_go-untouched, with_looping-untouched, on_deaths-untouched, tell_deaths-untouched}
 use Rattle.bd_laws.proofs.Sendings.{HasName, Sent, Sends, sending-sends}
-use Rattle.bd_laws.proofs.Deaths.{on-mapped}
+use Rattle.bd_laws.proofs.Deaths.{on-mapped, on-commands}
 
 abbrev pub IsKept : Space → Type 0
 IsKept z = Kept (suc z.steps) z.manager z.objects z.references
@@ -394,10 +394,12 @@ pub kept-step : (s : Space) (seat : ℕ) (x : Step) → KeptBefore s → Keeps s
 kept-step s seat x h =
     let now = later s h in
     record {
-      same = now;
-      opened = λ pid euid window. opened-kept s seat pid euid window now;
-      attached = λ p. attached-kept s seat p now;
-      managed = λ a e b. managed-kept s a.process.made h;
+      set_up = record {
+        same = now;
+        opened = λ pid euid window free. opened-kept s seat pid euid window now;
+        attached = λ p free. attached-kept s seat p now;
+        managed = λ a e b. managed-kept s a.process.made h;
+      };
       changes = record {
         transacts = λ a d parcel v e i t. transacted-kept s a d parcel v h t;
         replies = λ a d parcel f v e i g t. replied-kept s a d parcel f v h t;
@@ -406,7 +408,7 @@ kept-step s seat x h =
         drops = λ p o strong. drop_asked-kept s p o strong now.kept;
         acknowledges = λ o strong i. acknowledge-kept s o strong now.kept;
         loops = λ t looping. kept-untouched _ s (with_looping-untouched s t looping) now.kept;
-        on_deaths = on-mapped s _ _ (λ y k. kept-untouched y s k now.kept) (on_deaths-untouched s);
+        on_deaths = on-commands s _ (on-mapped s _ _ (λ y k. kept-untouched y s k now.kept) (on_deaths-untouched s));
         reads = λ a limit e i n. read-kept s a.thread.seat _ now.kept;
         leaves = λ a e. thread_goes-kept s a.thread.seat now.kept;
         ends = λ a e. kept-untouched _ (without_process (threads_go s a.process.made) a.process.made) (tell_deaths-untouched (without_process (threads_go s a.process.made) a.process.made) a.process.made)

@@ -52,8 +52,9 @@ use Rattle.bd_laws.proofs.Tests.{both, and-both, not-true, eq-same, and_then-ok,
 use Rattle.bd_laws.proofs.Checks.{actor-lives, transaction-checked}
 use Rattle.bd_laws.proofs.OneWay as one_way
 use Rattle.bd_laws.proofs.OneWay.{Less, with_work-less}
-use Rattle.bd_laws.proofs.Deaths.{KeptOnDeaths, on-kept, on-told, on-requested, on-cleared, on-done}
-use Rattle.bd_laws.proofs.EveryEnding.{Endings, every_ending_step}
+use Rattle.bd_laws.proofs.Deaths.{KeptOnDeaths, on-kept, on-told, on-commands}
+use Rattle.bd_laws.proofs.EveryStep.{Keeps, every_step}
+use Rattle.bd_laws.proofs.Adding.{told-keeps, ripen-keeps}
 use Rattle.bd_laws.proofs.PathWords.{caller-stays}
 use Rattle.bd_laws.proofs.Homes.{one-thread, goes-home, sent-due, sent-steps, sent-threads}
 
@@ -78,31 +79,17 @@ owe-frames z list kind = refl
 plain : (z : Space) (list : TodoList) (kind : WorkKind) → hands_out kind ≡ None → OfOthers z → OfOthers (owe z list kind)
 plain z list kind none h = of-less (owe z list kind) z (one_way.owe-less z list kind none) (owe-frames z list kind) h
 
-told : (z : Space) (caller : Option ℕ) (kind : WorkKind) → ((w : WorkKind) → w ≡ kind → (b : ℕ) → w ≡ work.Call b → ⊥) → OfOthers z
-    → OfOthers (elim caller as (λ (o : Option ℕ). Space) [ None ↦ z | Some t ↦ owe z (OfThread t) kind ])
+uncalled : (z : Space) (list : TodoList) (kind : WorkKind) → ((b : ℕ) → kind ≡ work.Call b → ⊥) → OfOthers z → OfOthers (owe z list kind)
 unfolding owe
-told z None kind none h = h
-told z (Some t) kind none h =
-    fewer (owe z (OfThread t) kind) z (record {
-      calls = λ w b u l e on. elim (in-push w _ z.todo l) [ inl i ↦ i | inr is ↦ absurd (none w.kind (sym (ap (λ (v : Work). v.kind) is)) b e) ];
-      frames = same-frames (owe z (OfThread t) kind) z refl;
+uncalled z list kind none h =
+    fewer (owe z list kind) z (record {
+      calls = λ w b u l e on. elim (in-push w _ z.todo l) [ inl i ↦ i | inr is ↦ absurd (none b (ap (λ (v : Work). v.kind) is ∙ e)) ];
+      frames = same-frames (owe z list kind) z refl;
     }) h
 
 closes : (z : Space) (made : ℕ) → OfOthers z → OfOthers (closed z made)
 unfolding closed
 closes z made h w f t l e on i c = h w f t l e on (in-filter (λ g. not (is_frame made g)) f z.frames i).0 c
-
-settles : (m : ℕ) (z : Space) → OfOthers z → OfOthers (settle_times m z)
-settles zero z h = h
-settles (suc m) z h = at (find (is_abandoned (settle_times m z).frames) (settle_times m z).frames) (settles m z h)
-  where
-    at : (o : Option Frame) → OfOthers (settle_times m z) → OfOthers (settle_one (settle_times m z) o)
-    at None k = k
-    at (Some f) k = told _ f.caller (work.Verdict DeadReply) (λ w e b i. let no = sym e ∙ i in cc) (closes (settle_times m z) f.made k)
-
-settle-o : (z : Space) → OfOthers z → OfOthers (settle z)
-unfolding settle
-settle-o z h = settles (length z.frames) z h
 
 follow-same : (z : Space) → (follow z).frames ≡ z.frames
 unfolding follow notify work_goes deaths_go objects_go names_go
@@ -113,19 +100,11 @@ follow-o z h = of-less (follow z) z (one_way.follow-less z) (follow-same z) h
 
 ripen-o : (z : Space) → OfOthers z → OfOthers (ripen z)
 unfolding ripen
-ripen-o z h = fewer (ripen z) z (record { calls = λ w b t l e on. all (turns_of z.buffers) [] z.todo w t l on; frames = same-frames (ripen z) z refl }) h
-  where
-    one : (b : Bool) (td : List Work) (t : Turn) (w : Work) (u : ℕ) → In w (cond b (with_work z.steps td (OfProcess t.receiver) (work.Call t.made)) td) → w.list ≡ OfThread u → In w td
-    one false td t w u l on = l
-    one true td t w u l on = elim (in-push w _ td l) [ inl i ↦ i | inr is ↦ (let no : OfProcess t.receiver ≡ OfThread u = ap (λ (v : Work). v.list) is ∙ on in absurd (cc)) ]
-
-    all : (ts older : List Turn) (td : List Work) (w : Work) (u : ℕ) → In w (ripened z.steps older td ts) → w.list ≡ OfThread u → In w td
-    all [] older td w u l on = l
-    all (t ∷ ts) older td w u l on = one (is_ripe td older t) td t w u (all ts (older ++ t ∷ []) _ w u l on) on
-
-completes-o : (z : Space) → OfOthers z → OfOthers (completed z)
-unfolding completed
-completes-o z h = settle-o (follow (ripen z)) (follow-o (ripen z) (ripen-o z h))
+ripen-o z h = fewer (ripen z) z (record {
+  calls = λ w b t l e on. ripen-keeps (λ td. (w : Work) (t : ℕ) → In w td → w.list ≡ OfThread t → In w z.todo) z (λ td r k w t l on.
+      elim (in-push w _ td l) [ inl i ↦ k w t i on | inr is ↦ (let no : OfProcess r.receiver ≡ OfThread t = ap (λ (v : Work). v.list) is ∙ on in absurd (cc)) ]) (λ w t l on. l) w t l on;
+  frames = same-frames (ripen z) z refl;
+}) h
 
 -- ---- whom a call goes to doesn't belong to its caller
 
@@ -226,7 +205,7 @@ replied-o s a d f v home turns h =
     let x = closed s f.made in
     let k = closed-same s f.made in
     let z = owe (delivered x a d v) (OfThread a.thread.seat) work.Complete in
-    told z f.caller (work.Reply s.steps) (λ w e b i. let no = sym e ∙ i in cc)
+    told-keeps OfOthers (work.Reply s.steps) (λ z t. uncalled z (OfThread t) (work.Reply s.steps) (λ b e. cc)) z f.caller
     (fewer z x (record { calls = λ w b t l e on. subst (In w) (sym k.3) (sent-due s x a d v k.0 k.1 k.2 k.3 home turns w b l (ap hands_out e)); frames = same-frames z x (sent-frames x a d v) })
     (closes s f.made h))
 
@@ -266,42 +245,41 @@ on-deaths-o = record {
   clears = λ z t cookie h. plain z (OfThread t) (work.Cleared cookie) refl h;
 }
 
-refused-o : (s : Space) (t : ℕ) (f : Frame) → OfOthers s → OfOthers (reply_refused s t f)
-unfolding reply_refused
-refused-o s t f h = told _ f.caller (work.Verdict FailedReply) (λ w e b i. let no = sym e ∙ i in cc) (closes _ f.made (plain s (OfThread t) (work.Refusal TransactionComplete) refl h))
-
-step-o : (s : Space) (seat : ℕ) (x : Step) → AtHome s → IsInTurn s → ((f : Frame) → In f s.frames → f.made < s.steps) → OfOthers s → Endings s seat x OfOthers OfOthers
+step-o : (s : Space) (seat : ℕ) (x : Step) → AtHome s → IsInTurn s → ((f : Frame) → In f s.frames → f.made < s.steps) → OfOthers s → Keeps s seat x OfOthers OfOthers
 unfolding without_buffer ask assign_numbers drop_asked acknowledge with_looping with_thread with_process with_manager
 step-o s seat x home turns below h =
-    let deaths = on-kept OfOthers on-deaths-o s h in
     record {
-      same = h;
-      opened = λ pid euid window free. h;
-      attached = λ p free. h;
-      managed = λ a e b. h;
-      transacts = λ a d parcel v e i t. transacts-o s seat a d parcel v i t home turns below h;
-      replies = λ a d parcel f v e i g t. replied-o s a d f v home turns h;
-      frees = λ p ptr b e t. h;
-      asks = λ a k strong o e i t. h;
-      drops = λ p o strong. h;
-      acknowledges = λ o strong i. h;
-      loops = λ t looping. h;
-      requests = λ p k cookie o e. on-requested s OfOthers deaths p o cookie;
-      clears = λ t y. on-cleared s OfOthers deaths t y;
-      dones = λ t p cookie y e. on-done s OfOthers deaths t y;
-      completes = λ z k. completes-o z k;
-      refuses = λ t c. settle-o _ (plain s (OfThread t) (work.Refusal (refusal c)) refl h);
-      fails = λ a d parcel f e i g. settle-o _ (refused-o s a.thread.seat f h);
-      reads = λ a limit e i k. follow-o _ (reads-o s a.thread.seat _ h);
-      leaves = λ a e. settle-o _ (follow-o _ (leaves-o s a.thread.seat h));
-      ends = λ a e. settle-o _ (follow-o _ (on-told OfOthers on-deaths-o _ a.process.made (without-o _ a.process.made (threads-o s a.process.made h))));
+      set_up = record {
+        same = h;
+        opened = λ pid euid window free. h;
+        attached = λ p free. h;
+        managed = λ a e b. h;
+      };
+      changes = record {
+        transacts = λ a d parcel v e i t. transacts-o s seat a d parcel v i t home turns below h;
+        replies = λ a d parcel f v e i g t. replied-o s a d f v home turns h;
+        frees = λ p ptr b e t. h;
+        asks = λ a k strong o e i t. h;
+        drops = λ p o strong. h;
+        acknowledges = λ o strong i. h;
+        loops = λ t looping. h;
+        on_deaths = on-commands s _ (on-kept OfOthers on-deaths-o s h);
+        reads = λ a limit e i k. reads-o s a.thread.seat _ h;
+        leaves = λ a e. leaves-o s a.thread.seat h;
+        ends = λ a e. on-told OfOthers on-deaths-o _ a.process.made (without-o _ a.process.made (threads-o s a.process.made h));
+        ripens = ripen-o;
+      };
+      follows = follow-o;
+      closes = closes;
+      refuses = λ z t r. plain z (OfThread t) (work.Refusal r) refl;
+      tells = λ z t r. uncalled z (OfThread t) (work.Verdict r) (λ b e. cc);
     }
 
 -- ---- every history
 
 pub next-of_others : (s : Space) (e : Entry) → AtHome s → IsInTurn s → ((f : Frame) → In f s.frames → f.made < s.steps) → OfOthers s → OfOthers (next s e)
 unfolding counted
-next-of_others s e home turns below h = every_ending_step s e.seat e.step OfOthers OfOthers (step-o s e.seat e.step home turns below h)
+next-of_others s e home turns below h = every_step s e.seat e.step OfOthers OfOthers (step-o s e.seat e.step home turns below h)
 
 pub opening-of_others : OfOthers opening
 opening-of_others = λ w f t l e on i c. absurd l

@@ -50,7 +50,7 @@ use Rattle.bd_laws.proofs.Untouched
 use Rattle.bd_laws.proofs.Untouched.{Untouched}
 use Rattle.bd_laws.proofs.Sendings.{Made, sending-sends}
 use Rattle.bd_laws.proofs.Checks.{Owned, transaction-checked, reply-checked, actor-lives}
-use Rattle.bd_laws.proofs.Deaths.{on-mapped, on-both}
+use Rattle.bd_laws.proofs.Deaths.{on-mapped, on-both, on-commands}
 
 -- a live process
 abbrev pub Lives : List Process → ℕ → Type 0
@@ -583,12 +583,14 @@ passing-untouched s z y u l h = passing-after s z y (untouched-after z y u l) l 
 passing-step : (s : Space) (seat : ℕ) (x : Step) → InTurn s.steps s.buffers s.todo → OnLists s → Keeps s seat x (Passing s) (Passing s)
 passing-step s seat x turns l =
     let k = kept s seat x turns in
-    let none : Passing s s = record { turns = k.same; passed = passed-none s l } in
+    let none : Passing s s = record { turns = k.set_up.same; passed = passed-none s l } in
     record {
-      same = none;
-      opened = λ pid euid window. record { turns = k.opened pid euid window; passed = opened-passed s seat pid euid window l };
-      attached = λ p. record { turns = k.attached p; passed = attached-passed s seat p l };
-      managed = λ a e b. record { turns = k.managed a e b; passed = managed-passed s seat a e l };
+      set_up = record {
+        same = none;
+        opened = λ pid euid window free. record { turns = k.set_up.opened pid euid window free; passed = opened-passed s seat pid euid window l };
+        attached = λ p free. record { turns = k.set_up.attached p free; passed = attached-passed s seat p l };
+        managed = λ a e b. record { turns = k.set_up.managed a e b; passed = managed-passed s seat a e l };
+      };
       changes = record {
         transacts = λ a d parcel v e i t. record { turns = k.changes.transacts a d parcel v e i t; passed = transacted-passed s seat a d parcel v turns l i t };
         replies = λ a d parcel f v e i g t. record { turns = k.changes.replies a d parcel f v e i g t; passed = replied-passed s seat a d parcel f v turns l i t };
@@ -597,7 +599,7 @@ passing-step s seat x turns l =
         drops = λ p o strong. passing-after s _ s (drop_asked-after s p o strong) (OneWay.drop_asked-less s p o strong) none;
         acknowledges = λ o strong i. passing-after s _ s (acknowledge-after s o strong) (OneWay.acknowledge-less s o strong) none;
         loops = λ t looping. passing-untouched s _ s (Untouched.with_looping-untouched s t looping) (OneWay.with_looping-less s t looping) none;
-        on_deaths = on-mapped s _ _ (λ y k. passing-untouched s y s k.0 k.1 none) (on-both s _ _ (Untouched.on_deaths-untouched s) (OneWay.on_deaths-less s));
+        on_deaths = on-commands s _ (on-mapped s _ _ (λ y k. passing-untouched s y s k.0 k.1 none) (on-both s _ _ (Untouched.on_deaths-untouched s) (OneWay.on_deaths-less s)));
         reads = λ a limit e i n. record { turns = k.changes.reads a limit e i n; passed = read-passed s a.thread a.thread.seat _ l };
         leaves = λ a e. record { turns = k.changes.leaves a e; passed = thread_goes-passed s s a.thread.seat (passed-none s l) };
         ends = λ a e. record { turns = k.changes.ends a e; passed = ends-passed s a.process.made l };

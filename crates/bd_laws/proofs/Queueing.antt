@@ -52,7 +52,8 @@ use Rattle.bd_laws.specs.Items.{OtherDeath, OtherNotification, Queues, IsQueued}
 use Rattle.bd_laws.proofs.Lists.{in-push, in-filter, in-changed, any-found, any-in, find-in, pairs-push, pairs-filter, pairs-either, pairs-changed, fold-keeps}
 use Rattle.bd_laws.proofs.Tests.{both, and-both, not-true}
 use Rattle.bd_laws.proofs.Ripening.{read-in}
-use Rattle.bd_laws.proofs.EveryEnding.{Endings, every_ending_step}
+use Rattle.bd_laws.proofs.EveryStep.{Keeps, every_step}
+use Rattle.bd_laws.proofs.Adding.{told-keeps, notice-keeps, notify-keeps, ripen-keeps}
 use Rattle.bd_laws.proofs.Queued.{Silent, fewer-items, fewer-deaths, plain-item, death-item, phased, sit-changed}
 
 abbrev Q : ℕ → Space → Type 0
@@ -64,56 +65,21 @@ owe-plain : (n : ℕ) (z : Space) (list : TodoList) (kind : WorkKind) → ((m : 
 unfolding owe
 owe-plain n z list kind plain h = plain-item n z.steps z.todo z.deaths list kind plain h
 
-told-plain : (n : ℕ) (z : Space) (caller : Option ℕ) (kind : WorkKind) → ((m : ℕ) → kind ≡ work.Death m → ⊥) → Q n z
-    → Q n (elim caller as (λ (o : Option ℕ). Space) [ None ↦ z | Some t ↦ owe z (OfThread t) kind ])
-told-plain n z None kind plain h = h
-told-plain n z (Some t) kind plain h = owe-plain n z (OfThread t) kind plain h
-
 closed-q : (n : ℕ) (z : Space) (made : ℕ) → Q n z → Q n (closed z made)
 unfolding closed
 closed-q n z made h = h
 
-settles-q : (n m : ℕ) (z : Space) → Q n z → Q n (settle_times m z)
-settles-q n zero z h = h
-settles-q n (suc m) z h = at (find (is_abandoned (settle_times m z).frames) (settle_times m z).frames) (settles-q n m z h)
-  where
-    at : (o : Option Frame) → Q n (settle_times m z) → Q n (settle_one (settle_times m z) o)
-    at None k = k
-    at (Some f) k = told-plain n _ f.caller (work.Verdict DeadReply) (λ m e. cc) (closed-q n (settle_times m z) f.made k)
-
-settle-q : (n : ℕ) (z : Space) → Q n z → Q n (settle z)
-unfolding settle
-settle-q n z h = settles-q n (length z.frames) z h
-
-notice-if : (n place : ℕ) (todo : List Work) (deaths : List DeathNotification) (list : TodoList) (o : ObjectId) (b : Bool) → Queues n todo deaths
-    → Queues n (cond b (with_work place todo list (work.Notice o)) todo) deaths
-notice-if n place todo deaths list o true h = plain-item n place todo deaths list (work.Notice o) (λ m e. cc) h
-notice-if n place todo deaths list o false h = h
-
 follow-q : (n : ℕ) (z : Space) → Q n z → Q n (follow z)
-unfolding follow notify work_goes deaths_go objects_go names_go
+unfolding follow work_goes deaths_go objects_go names_go notify
 follow-q n z h =
     let y = deaths_go (objects_go (names_go z)) in
-    fold-keeps (λ todo. Queues n todo y.deaths) (λ todo (x : Object). with_notice z.steps z.processes z.references (OfProcess x.owner) todo x) y.objects
-    (λ todo x l k. notice-if n z.steps todo y.deaths (OfProcess x.owner) x.id (wants_notice z.processes z.references x && not (has_notice_in todo x.id)) k) _
+    notify-keeps (λ todo. Queues n todo y.deaths) (work_goes y) (λ todo x l. plain-item n z.steps todo y.deaths (OfProcess x.owner) (work.Notice x.id) (λ m e. cc))
     (fewer-items n z.todo y.deaths (λ (w : Work). still_due y.processes y.objects y.references y.deaths w.kind)
     (fewer-deaths n z.todo z.deaths (λ (x : DeathNotification). x.cleared || is_name_of (names_go z).names x.process x.object) h))
 
 ripen-q : (n : ℕ) (z : Space) → Q n z → Q n (ripen z)
 unfolding ripen
-ripen-q n z h = all (turns_of z.buffers) [] z.todo h
-  where
-    one : (b : Bool) (t : Turn) (todo : List Work) → Queues n todo z.deaths → Queues n (cond b (with_work z.steps todo (OfProcess t.receiver) (work.Call t.made)) todo) z.deaths
-    one true t todo k = plain-item n z.steps todo z.deaths (OfProcess t.receiver) (work.Call t.made) (λ m e. cc) k
-    one false t todo k = k
-
-    all : (ts older : List Turn) (todo : List Work) → Queues n todo z.deaths → Queues n (ripened z.steps older todo ts) z.deaths
-    all [] older todo k = k
-    all (t ∷ ts) older todo k = all ts (older ++ t ∷ []) _ (one (is_ripe todo older t) t todo k)
-
-completes-q : (n : ℕ) (z : Space) → Q n z → Q n (completed z)
-unfolding completed
-completes-q n z h = settle-q n (follow (ripen z)) (follow-q n (ripen z) (ripen-q n z h))
+ripen-q n z h = ripen-keeps (λ todo. Queues n todo z.deaths) z (λ todo t. plain-item n z.steps todo z.deaths (OfProcess t.receiver) (work.Call t.made) (λ m e. cc)) h
 
 -- ---- transactions and replies
 
@@ -131,7 +97,9 @@ delivered-q n s a d v h =
         → Queues n (cond own (elim f as (λ (f : Option Object). List Work) [ None ↦ todo | Some o ↦ with_notice s.steps s.processes (known_by s v).references (OfThread a.thread.seat) todo o ]) todo) s.deaths
     added x todo false f k = k
     added x todo true None k = k
-    added x todo true (Some o) k = notice-if n s.steps todo s.deaths (OfThread a.thread.seat) o.id (wants_notice s.processes (known_by s v).references o && not (has_notice_in todo o.id)) k
+    added x todo true (Some o) k =
+        notice-keeps (λ todo. Queues n todo s.deaths) s.steps s.processes (known_by s v).references (OfThread a.thread.seat) todo o
+        (plain-item n s.steps todo s.deaths (OfThread a.thread.seat) (work.Notice o.id) (λ m e. cc)) k
 
 called-q : (n : ℕ) (z : Space) (seat p : ℕ) (one_way : Bool) → Q n z → Q n (called z seat p one_way)
 unfolding call_out
@@ -145,11 +113,7 @@ transacted-q n s a d v h = called-q n _ a.thread.seat v.receiver.made v.one_way 
 replied-q : (n : ℕ) (s : Space) (a : Actor) (d : TransactionData) (f : Frame) (v : Delivery) → Q n s → Q n (replied s a d f v)
 unfolding replied
 replied-q n s a d f v h =
-    told-plain n _ f.caller (work.Reply s.steps) (λ m e. cc) (owe-plain n _ (OfThread a.thread.seat) work.Complete (λ m e. cc) (delivered-q n (closed s f.made) a d v (closed-q n s f.made h)))
-
-refused-q : (n : ℕ) (s : Space) (t : ℕ) (f : Frame) → Q n s → Q n (reply_refused s t f)
-unfolding reply_refused
-refused-q n s t f h = told-plain n _ f.caller (work.Verdict FailedReply) (λ m e. cc) (closed-q n _ f.made (owe-plain n s (OfThread t) (work.Refusal TransactionComplete) (λ m e. cc) h))
+    told-keeps (Q n) (work.Reply s.steps) (λ z t. owe-plain n z (OfThread t) (work.Reply s.steps) (λ m e. cc)) _ f.caller (owe-plain n _ (OfThread a.thread.seat) work.Complete (λ m e. cc) (delivered-q n (closed s f.made) a d v (closed-q n s f.made h)))
 
 -- ---- death notifications
 
@@ -436,32 +400,40 @@ managed-q : (n : ℕ) (s : Space) (p : ℕ) → Q n s → Q n (with_manager s p)
 unfolding with_manager
 managed-q n s p h = h
 
-step-q : (s : Space) (seat : ℕ) (x : Step) → Before s → Endings s seat x (Q (suc s.steps)) (Q (suc s.steps))
+step-q : (s : Space) (seat : ℕ) (x : Step) → Before s → Keeps s seat x (Q (suc s.steps)) (Q (suc s.steps))
 unfolding without_buffer ask assign_numbers drop_asked acknowledge with_looping
 step-q s seat x before =
     let n = suc s.steps in
     let h = now s before in
     record {
-      same = h;
-      opened = λ pid euid window free. opened-q n s seat pid euid window h;
-      attached = λ p free. attached-q n s seat p h;
-      managed = λ a e b. managed-q n s a.process.made h;
-      transacts = λ a d parcel v e i t. transacted-q n s a d v h;
-      replies = λ a d parcel f v e i g t. replied-q n s a d f v h;
-      frees = λ p ptr b e t. h;
-      asks = λ a k strong o e i t. h;
-      drops = λ p o strong. h;
-      acknowledges = λ o strong i. h;
-      loops = λ t looping. h;
-      requests = λ p k cookie o e. requested-q s p o cookie before;
-      clears = λ t y. cleared-q n s t y h;
-      dones = λ t p cookie y e. done-q n s t p cookie y e h;
-      completes = λ z k. completes-q n z k;
-      refuses = λ t c. settle-q n _ (owe-plain n s (OfThread t) (work.Refusal (refusal c)) (λ m e. cc) h);
-      fails = λ a d parcel f e i g. settle-q n _ (refused-q n s a.thread.seat f h);
-      reads = λ a limit e i k. follow-q n _ (read-q n s a.thread a.thread.seat _ h);
-      leaves = λ a e. settle-q n _ (follow-q n _ (left-q n s a.thread.seat h));
-      ends = λ a e. settle-q n _ (follow-q n _ (ends-q n _ a.process.made (without-q n _ a.process.made (threads-q n s a.process.made h))));
+      set_up = record {
+        same = h;
+        opened = λ pid euid window free. opened-q n s seat pid euid window h;
+        attached = λ p free. attached-q n s seat p h;
+        managed = λ a e b. managed-q n s a.process.made h;
+      };
+      changes = record {
+        transacts = λ a d parcel v e i t. transacted-q n s a d v h;
+        replies = λ a d parcel f v e i g t. replied-q n s a d f v h;
+        frees = λ p ptr b e t. h;
+        asks = λ a k strong o e i t. h;
+        drops = λ p o strong. h;
+        acknowledges = λ o strong i. h;
+        loops = λ t looping. h;
+        on_deaths = record {
+          requests = λ p k cookie o e. requested-q s p o cookie before;
+          clears = λ t y. cleared-q n s t y h;
+          dones = λ t p cookie y e. done-q n s t p cookie y e h;
+        };
+        reads = λ a limit e i k. read-q n s a.thread a.thread.seat _ h;
+        leaves = λ a e. left-q n s a.thread.seat h;
+        ends = λ a e. ends-q n _ a.process.made (without-q n _ a.process.made (threads-q n s a.process.made h));
+        ripens = ripen-q n;
+      };
+      follows = follow-q n;
+      closes = closed-q n;
+      refuses = λ z t r. owe-plain n z (OfThread t) (work.Refusal r) (λ m e. cc);
+      tells = λ z t r. owe-plain n z (OfThread t) (work.Verdict r) (λ m e. cc);
     }
 
 pub next-queued : (s : Space) (e : Entry) → (next s e).steps ≡ suc s.steps → IsQueued s → IsQuiet s → IsQueued (next s e)
@@ -473,7 +445,7 @@ next-queued s e steps h quiet =
           let is = eqb-true x.0.made m x.2 in let lt = h.fresh x.0 x.1 in omega arith);
     } in
     subst (λ n. Queues n (change s e.seat e.step).space.todo (change s e.seat e.step).space.deaths) (sym steps)
-    (every_ending_step s e.seat e.step (Q (suc s.steps)) (Q (suc s.steps)) (step-q s e.seat e.step before))
+    (every_step s e.seat e.step (Q (suc s.steps)) (Q (suc s.steps)) (step-q s e.seat e.step before))
 
 pub opening-queued : IsQueued opening
 unfolding IsQueued
