@@ -46,7 +46,7 @@ use Rattle.bd_laws.proofs.EveryStep.{Keeps, every_step}
 use Rattle.bd_laws.proofs.Lists.{in-push, in-filter, in-changed, find-in, any-found}
 use Rattle.bd_laws.proofs.Tests.{not-true}
 use Rattle.bd_laws.proofs.Checks.{actor-lives, transaction-checked}
-use Rattle.bd_laws.proofs.Deaths.{on-mapped}
+use Rattle.bd_laws.proofs.Deaths.{on-mapped, on-commands}
 use Rattle.bd_laws.proofs.PathWords.{served-is}
 use Rattle.bd_audit.specs.Replies.{made_in, thread_made, items_read, items_taken, items_unless, frame_of, Calls, TakesCall, AnswersCall, At}
 use Rattle.bd_audit.proofs.Beginnings.{after-append}

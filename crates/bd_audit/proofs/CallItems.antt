@@ -49,7 +49,7 @@ use Rattle.bd_laws.proofs.Checks.{Transacts, transaction-checked, reply-checked}
 use Rattle.bd_laws.proofs.Passing.{After, lost-on, not-on, at_pointer-in, ask-after, drop_asked-after, acknowledge-after, follow-after}
 use Rattle.bd_laws.proofs.Received.{one-buffer}
 use Rattle.bd_laws.proofs.PathWords.{same-item}
-use Rattle.bd_laws.proofs.Deaths.{on-mapped, on-both}
+use Rattle.bd_laws.proofs.Deaths.{on-mapped, on-both, on-commands}
 use Rattle.bd_audit.specs.Replies.{items_taken, items_read, items_unless}
 use Rattle.bd_audit.specs.TurnCalls.{CallsOneWay}
 use Rattle.bd_laws.proofs.OneWay

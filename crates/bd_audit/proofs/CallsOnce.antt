@@ -44,7 +44,7 @@ use Rattle.bd_laws.proofs.InTurn.{is_call-hands}
 use Rattle.bd_laws.proofs.Passing.{After, untouched-after, follow-after, step-passes}
 use Rattle.bd_laws.proofs.Received.{step-before, opening-before, on-before}
 use Rattle.bd_laws.proofs.PathWords.{same-item}
-use Rattle.bd_laws.proofs.Deaths.{on-mapped}
+use Rattle.bd_laws.proofs.Deaths.{on-mapped, on-commands}
 use Rattle.bd_audit.specs.Replies.{items_taken, items_read, items_unless, HandsOutCall, Calls, At}
 use Rattle.bd_audit.specs.Gifts.{Stands}
 use Rattle.bd_laws.proofs.OneWay as one_way

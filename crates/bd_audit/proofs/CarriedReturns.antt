@@ -41,7 +41,7 @@ use Rattle.bd_space.specs.Histories.{after, next}
 use Rattle.bd_laws.specs.Lists.{In}
 use Rattle.bd_laws.proofs.EveryStep.{KeepsWhole, every_whole_step, every_list}
 use Rattle.bd_laws.proofs.Lists.{in-push, in-filter, fold-keeps}
-use Rattle.bd_laws.proofs.Deaths.{KeptOnDeaths, on-kept, on-told}
+use Rattle.bd_laws.proofs.Deaths.{KeptOnDeaths, on-kept, on-told, on-commands}
 use Rattle.bd_audit.specs.HandedReplies.{is_reply}
 
 -- a return that the item itself carries is no BR_REPLY

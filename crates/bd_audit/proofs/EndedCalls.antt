@@ -49,7 +49,7 @@ use Rattle.bd_laws.proofs.Checks.{transaction-checked}
 use Rattle.bd_laws.proofs.Ripening.{read-in}
 use Rattle.bd_laws.proofs.Identities.{item-id}
 use Rattle.bd_laws.proofs.PathWords.{served-is}
-use Rattle.bd_laws.proofs.Deaths.{on-mapped, on-both}
+use Rattle.bd_laws.proofs.Deaths.{on-mapped, on-commands, commands-both}
 use Rattle.bd_audit.specs.Replies.{made_in, thread_made, items_taken, Calls, At}
 use Rattle.bd_audit.specs.Latest.{Closes, ReadsAnswer, is_answer, is_answer_of}
 use Rattle.bd_audit.proofs.Beginnings.{after-append}
@@ -424,7 +424,7 @@ module _ (es : List Entry) (e : Entry) (h : Answered es (after opening es)) wher
               answers = λ w u m lt i on q l. l;
             }) now,
           );
-          on_deaths = on-both s _ _ k.changes.on_deaths (on-mapped s _ _ (λ y l. leaves y s l now) (on_deaths-leaves s));
+          on_deaths = commands-both s _ _ k.changes.on_deaths (on-commands s _ (on-mapped s _ _ (λ y l. leaves y s l now) (on_deaths-leaves s)));
           reads = λ a limit i x n. (k.changes.reads a limit i x n, reads a limit i x n);
           leaves = λ a i. (k.changes.leaves a i, leaves _ s (goes-leaves s a.thread.seat) now);
           ends = λ a i. (k.changes.ends a i, leaves _ s (ends-leaves s a.process.made) now);

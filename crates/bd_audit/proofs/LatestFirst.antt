@@ -46,7 +46,7 @@ use Rattle.bd_laws.proofs.Innermost.{differ, true-calls}
 use Rattle.bd_laws.proofs.Paths.{abandoned-childless, served-childless}
 use Rattle.bd_laws.proofs.PathReadings.{kind-called}
 use Rattle.bd_laws.proofs.Always.{always-on_paths}
-use Rattle.bd_laws.proofs.Deaths.{tell_deaths-aside, on-mapped, on_deaths-aside}
+use Rattle.bd_laws.proofs.Deaths.{tell_deaths-aside, on-mapped, on-commands, on_deaths-aside}
 use Rattle.bd_audit.specs.Replies.{made_in, thread_made, At}
 use Rattle.bd_audit.specs.Latest.{IsLatest}
 use Rattle.bd_audit.specs.Ending.{EndsCall}
@@ -352,10 +352,10 @@ each-kept : {I : Type 0} (s : Space) (seat : ℕ) (x : Step) (P : I → Space �
     → KeepsWhole s seat x (λ z. (i : I) → P i z) (λ z. (i : I) → P i z)
 each-kept s seat x P k = record {
   set_up = record {
-    same = λ i. (k i).same;
-    opened = λ pid euid window free i. (k i).opened pid euid window;
-    attached = λ p free i. (k i).attached p;
-    managed = λ a e b i. (k i).managed a e b;
+    same = λ i. (k i).set_up.same;
+    opened = λ pid euid window free i. (k i).set_up.opened pid euid window free;
+    attached = λ p free i. (k i).set_up.attached p free;
+    managed = λ a e b i. (k i).set_up.managed a e b;
   };
   changes = record {
     transacts = λ a d parcel v e g c i. (k i).changes.transacts a d parcel v e g c;
@@ -366,9 +366,9 @@ each-kept s seat x P k = record {
     acknowledges = λ o strong e i. (k i).changes.acknowledges o strong e;
     loops = λ u looping i. (k i).changes.loops u looping;
     on_deaths = record {
-      others = λ ds i. (k i).changes.on_deaths.others ds;
-      dies = λ ds p made i. (k i).changes.on_deaths.dies ds p made;
-      clears = λ ds t cookie i. (k i).changes.on_deaths.clears ds t cookie;
+      requests = λ p n cookie o e i. (k i).changes.on_deaths.requests p n cookie o e;
+      clears = λ u y i. (k i).changes.on_deaths.clears u y;
+      dones = λ u p cookie y e i. (k i).changes.on_deaths.dones u p cookie y e;
     };
     reads = λ a limit e g n i. (k i).changes.reads a limit e g n;
     leaves = λ a e i. (k i).changes.leaves a e;

@@ -42,6 +42,7 @@ use Rattle.bd_space.specs.Commands.{with_looping}
 use Rattle.bd_space.specs.Deaths.{with_phase}
 use Rattle.bd_space.specs.Histories.{after, next}
 use Rattle.bd_laws.specs.Lists.{In, Pairs}
+use Rattle.bd_laws.proofs.Deaths.{on-commands}
 use Rattle.bd_laws.proofs.EveryStep.{Keeps, every_step, every_list}
 use Rattle.bd_laws.proofs.Lists.{in-push, in-filter, pairs-push, pairs-filter, fold-keeps}
 use Rattle.bd_audit.proofs.RepliesDue.{count_at, count-work, count-filter, Lasts, wanted-due, wanted-push, items-fresh}
@@ -356,12 +357,12 @@ module _ (s : Space) (h : Lined s) where
       drops = λ p o strong. plain-stands (drop_asked s p o strong) plain;
       acknowledges = λ o strong i. plain-stands (acknowledge s o strong) plain;
       loops = λ t looping. plain-stands (with_looping s t looping) plain;
-      on_deaths = record {
+      on_deaths = on-commands s _ (record {
         others = λ ds. plain-stands (record s { deaths = ds }) plain;
         dies = λ ds p made. let z = record s { deaths = ds } in plain-stands (owe z (OfProcess p) (work.Death made)) (owe-plain z p (work.Death made) plain);
         clears = λ ds t cookie. let z = record s { deaths = ds } in
             sent-stands (owe z (OfThread t) (work.Cleared cookie)) (owe-sent z (OfThread t) (work.Cleared cookie) refl refl (begun-sent z begun));
-      };
+      });
       reads = λ a limit e i n. (
           let ws = taken s (limit - 4) (list_to_read s a.thread) in plain-stands (read_by s a.thread.seat ws) (read-plain s a.thread.seat ws plain));
       leaves = λ a e. plain-stands (thread_goes s a.thread.seat) (thread_goes-plain s a.thread.seat plain);

@@ -41,12 +41,13 @@ use Rattle.bd_space.specs.Steps.{change, with_thread, with_process, with_manager
 use Rattle.bd_laws.specs.Lists.{In}
 use Rattle.bd_laws.proofs.Lists.{in-right, in-push, in-filter, filter-in, in-map, find-some}
 use Rattle.bd_laws.proofs.Tests.{both, and-both, not-true, eq-same}
-use Rattle.bd_laws.proofs.EveryStep.{Keeps, IsAsking, every_step}
+use Rattle.bd_laws.proofs.EveryEnding.{IsAsking}
+use Rattle.bd_laws.proofs.EveryStep.{Keeps, every_step}
 use Rattle.bd_laws.proofs.Untouched.{Untouched}
 use Rattle.bd_laws.proofs.Sendings.{Owns, HasName, Sent, Sends, sending-sends}
 use Rattle.bd_laws.proofs.Checks.{transaction-checked, reply-checked, asked-checked}
 use Rattle.bd_laws.proofs.Objects.{stays}
-use Rattle.bd_laws.proofs.Deaths.{on-mapped}
+use Rattle.bd_laws.proofs.Deaths.{on-mapped, on-commands}
 use Rattle.bd_laws.proofs.Untouched
 
 -- the name is new, since the acting process sent the object on

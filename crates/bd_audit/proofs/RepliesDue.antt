@@ -43,7 +43,7 @@ use Rattle.bd_laws.specs.Lists.{In}
 use Rattle.bd_laws.proofs.EveryStep.{Keeps, every_step, every_list}
 use Rattle.bd_laws.proofs.Lists.{in-push, in-filter, find-in, any-found, any-in}
 use Rattle.bd_laws.proofs.Tests.{both, same-eq}
-use Rattle.bd_laws.proofs.Deaths.{on-mapped}
+use Rattle.bd_laws.proofs.Deaths.{on-mapped, on-commands}
 use Rattle.bd_audit.proofs.Quiet as quiet
 use Rattle.bd_audit.proofs.Quiet.{Quiet, Adds, with_work-quiet, adds-trans}
 

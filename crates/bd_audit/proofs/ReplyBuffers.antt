@@ -49,7 +49,7 @@ use Rattle.bd_laws.proofs.OneWay.{Less, owe-less, own_notices-less}
 use Rattle.bd_laws.proofs.InTurn.{Turning, opening-in_turn}
 use Rattle.bd_laws.proofs.Ripening.{taken-due, read-in, turn-parts}
 use Rattle.bd_laws.proofs.PathWords.{same-item}
-use Rattle.bd_laws.proofs.Deaths.{tell_deaths-aside, on-mapped, on-both, on_deaths-aside}
+use Rattle.bd_laws.proofs.Deaths.{tell_deaths-aside, on-mapped, on-both, on-commands, commands-both, on_deaths-aside}
 use Rattle.bd_laws.proofs.OneWay as one_way
 use Rattle.bd_laws.proofs.InTurn as turn
 use Rattle.bd_laws.proofs.PathCalls as path_call
@@ -509,7 +509,7 @@ kept s seat x turns h =
         drops = λ p o strong. (k.changes.drops p o strong, h);
         acknowledges = λ o strong i. (k.changes.acknowledges o strong i, h);
         loops = λ t looping. (k.changes.loops t looping, loops s t looping h);
-        on_deaths = on-both s _ _ k.changes.on_deaths (on-mapped s _ _ (λ y l. calm y s l.0 l.1.buffers l.1.threads h) (on-both s _ _ (one_way.on_deaths-less s) (on_deaths-aside s)));
+        on_deaths = commands-both s _ _ k.changes.on_deaths (on-commands s _ (on-mapped s _ _ (λ y l. calm y s l.0 l.1.buffers l.1.threads h) (on-both s _ _ (one_way.on_deaths-less s) (on_deaths-aside s))));
         reads = λ a limit e i n. (k.changes.reads a limit e i n, reads s h a.thread (limit - 4));
         leaves = λ a e. (k.changes.leaves a e, goes s a.thread.seat h);
         ends = λ a e. (k.changes.ends a e, ends s a.process.made h);

@@ -40,7 +40,7 @@ use Rattle.bd_laws.proofs.Lists.{in-push, in-filter, in-changed, find-in}
 use Rattle.bd_laws.proofs.Tests.{both}
 use Rattle.bd_laws.proofs.PathWords.{served-is}
 use Rattle.bd_laws.proofs.Always.{always-on_paths}
-use Rattle.bd_laws.proofs.Deaths.{on-mapped, on-both}
+use Rattle.bd_laws.proofs.Deaths.{on-mapped, on-both, on-commands, commands-both, commands-mapped}
 use Rattle.bd_audit.specs.Replies.{made_in, thread_made}
 use Rattle.bd_audit.specs.Latest.{is_answer}
 use Rattle.bd_audit.proofs.Beginnings.{after-append}
@@ -310,7 +310,8 @@ module _ (es : List Entry) (e : Entry) (h : Single (after opening es).todo) wher
           loops = λ t looping. (k.changes.loops t looping, l.changes.loops t looping, q (with_looping s t looping) (quiet.with_looping-quiet s t looping) same);
           on_deaths =
               let apart = on-both s (λ y. Quiet y s) (λ y. NoneNew y.todo s.todo) (quiet.on_deaths-quiet s) (none-on_deaths s) in
-              on-mapped s _ All (λ y u. (u.0, u.1.0, q y u.1.1.0 u.1.1.1)) (on-both s _ _ k.changes.on_deaths (on-both s _ _ l.changes.on_deaths apart));
+              commands-mapped s _ All (λ y u. (u.0, u.1.0, u.1.1))
+              (commands-both s _ _ k.changes.on_deaths (commands-both s _ _ l.changes.on_deaths (on-commands s Now (on-mapped s _ Now (λ y u. q y u.0 u.1) apart))));
           reads = λ a limit i x n. (k.changes.reads a limit i x n, l.changes.reads a limit i x n, reads a.thread.seat (taken s (limit - 4) (list_to_read s a.thread)));
           leaves = λ a i. (k.changes.leaves a i, l.changes.leaves a i, q (thread_goes s a.thread.seat) (quiet.thread_goes-quiet s a.thread.seat) (none-goes s a.thread.seat));
           ends = λ a i. (

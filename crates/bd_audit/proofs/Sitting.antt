@@ -50,7 +50,7 @@ use Rattle.bd_laws.proofs.Checks.{transaction-checked, reply-checked, actor-live
 use Rattle.bd_laws.proofs.Sendings.{Sends, sending-sends}
 use Rattle.bd_laws.proofs.Objects.{IsKept, IsKeptWhole, kept-step, step-kept, opening-kept, closed-before, closed-sends, delivered-kept, told-id}
 use Rattle.bd_laws.proofs.Noticing.{Noticing, closed-noticing, step-noticing, opening-noticing}
-use Rattle.bd_laws.proofs.Deaths.{KeptOnDeaths, on-kept, on-told, on-both}
+use Rattle.bd_laws.proofs.Deaths.{KeptOnDeaths, on-kept, on-told, on-commands, commands-both}
 
 -- threads of q read the list
 abbrev pub Reaches : List Thread → TodoList → ℕ → Type 0
@@ -381,7 +381,7 @@ sitting-step s seat x kept noticing h =
         drops = λ p o strong. (k.changes.drops p o strong, h);
         acknowledges = λ o strong i. (k.changes.acknowledges o strong i, h);
         loops = λ t looping. (k.changes.loops t looping, with_looping-sits s t looping h);
-        on_deaths = on-both s _ _ k.changes.on_deaths (on-kept SitsIn sits-on_deaths s h);
+        on_deaths = commands-both s _ _ k.changes.on_deaths (on-commands s _ (on-kept SitsIn sits-on_deaths s h));
         reads = λ a limit e i n. (k.changes.reads a limit e i n, read-sits s a.thread.seat _ h);
         leaves = λ a e. (k.changes.leaves a e, thread_goes-sits s a.thread.seat h);
         ends = λ a e. (

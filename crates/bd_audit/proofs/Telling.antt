@@ -38,12 +38,13 @@ use Rattle.bd_laws.specs.Objects.{Differ, KeptBefore}
 use Rattle.bd_laws.specs.Tidy.{Before}
 use Rattle.bd_laws.proofs.Lists.{in-left, in-append, in-push, in-last, in-filter, filter-in, without-in, any-found, any-in, pairs-either, fold-keeps}
 use Rattle.bd_laws.proofs.Tests.{both, not-true, same-eq}
-use Rattle.bd_laws.proofs.EveryStep.{Keeps, IsReading, IsAcknowledging}
+use Rattle.bd_laws.proofs.EveryEnding.{IsReading, IsAcknowledging}
+use Rattle.bd_laws.proofs.EveryStep.{Keeps}
 use Rattle.bd_laws.proofs.Untouched.{Untouched, owe-untouched, told-untouched, called-untouched, closed-untouched, ripen-untouched, with_looping-untouched, on_deaths-untouched, tell_deaths-untouched}
 use Rattle.bd_laws.proofs.Checks.{transaction-checked, reply-checked}
 use Rattle.bd_laws.proofs.Sendings.{Sends, sending-sends}
 use Rattle.bd_laws.proofs.Objects.{and-false, closed-before, closed-sends, later, threads_go-kept}
-use Rattle.bd_laws.proofs.Deaths.{on-mapped}
+use Rattle.bd_laws.proofs.Deaths.{on-mapped, on-commands}
 use Rattle.bd_audit.proofs.Orders.{Hearing, unheard, weakly, strongly, ended}
 use Rattle.bd_audit.proofs.Tallies.{tally, tally-more, tally-none, tally-filter, tally-without}
 

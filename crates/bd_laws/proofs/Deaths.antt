@@ -52,6 +52,13 @@ on-commands s R k = record {
   dones = λ t p cookie x e. on-done s R k t x;
 }
 
+pub commands-mapped : (s : Space) (R S : Space → Type 0) → ((y : Space) → R y → S y) → DeathCommands s R → DeathCommands s S
+commands-mapped s R S f k = record {
+  requests = λ p n cookie o e. f _ (k.requests p n cookie o e);
+  clears = λ t x. f _ (k.clears t x);
+  dones = λ t p cookie x e. f _ (k.dones t p cookie x e);
+}
+
 pub commands-both : (s : Space) (R S : Space → Type 0) → DeathCommands s R → DeathCommands s S → DeathCommands s (λ y. R y × S y)
 commands-both s R S k l = record {
   requests = λ p n cookie o e. (k.requests p n cookie o e, l.requests p n cookie o e);
