@@ -50,6 +50,7 @@ use Rattle.bd_space.specs.Steps.{change, open_step, open_outcome, open_fault, at
 use Rattle.bd_space.specs.Histories.{after, next}
 use Rattle.bd_laws.proofs.Adding.{told-keeps}
 use Rattle.bd_laws.proofs.EveryEnding.{SetUp, Changes, Endings, every_ending_step}
+use Rattle.bd_laws.proofs.Settled.{settle-keeps}
 
 -- What the parts of a step by this seat keep: M up to what follows on, and F from there. A refusal is said with its cause,
 -- and a frame closes together with what its caller is told.
@@ -63,17 +64,8 @@ pub record KeepsWhole (s : Space) (seat : ℕ) (x : Step) (M F : Space → Type 
   pub abandons : (z : Space) (f : Frame) → find (is_abandoned z.frames) z.frames ≡ Some f → F z → F (tell_caller (closed z f.made) f (work.Verdict DeadReply))
 
 module _ (s : Space) (seat : ℕ) (x : Step) (M F : Space → Type 0) (k : KeepsWhole s seat x M F) where
-  settles-one : (z : Space) (o : Option Frame) → find (is_abandoned z.frames) z.frames ≡ o → F z → F (settle_one z o)
-  settles-one z None e h = h
-  settles-one z (Some f) e h = k.abandons z f e h
-
-  settles-times : (n : ℕ) (z : Space) → F z → F (settle_times n z)
-  settles-times zero z h = h
-  settles-times (suc n) z h = settles-one (settle_times n z) (find (is_abandoned (settle_times n z).frames) (settle_times n z).frames) refl (settles-times n z h)
-
   settles : (z : Space) → F z → F (settle z)
-  unfolding settle
-  settles z h = settles-times (length z.frames) z h
+  settles = settle-keeps F k.abandons
 
   completes : (z : Space) → M z → F (completed z)
   unfolding completed

@@ -57,6 +57,7 @@ use Rattle.bd_laws.proofs.OneWay.{with_work-less, own_notices-less}
 use Rattle.bd_laws.proofs.Deaths.{KeptOnDeaths, on-kept, on-told, on-commands}
 use Rattle.bd_laws.proofs.Adding.{told-keeps, ripen-keeps}
 use Rattle.bd_laws.proofs.EveryStep.{Keeps, every_step}
+use Rattle.bd_laws.proofs.Handshakes.{is-handshake}
 
 abbrev H : ℕ → Space → Type 0
 H n z = Homed n z.threads z.references z.todo
@@ -262,34 +263,11 @@ replied-h s a d parcel f v h turns check = at f.caller refl
 
 -- ---- the other steps
 
-shaken : (place k : ℕ) (o : ObjectId) (bs : List Bool) (r : Reference) → In r (handshakes_for place k o bs) → r.holder ≡ Handshake
-shaken place k o [] r l = absurd l
-shaken place k o (b ∷ bs) r (inl e) = sym (ap (λ (y : Reference). y.holder) e)
-shaken place k o (b ∷ bs) r (inr l) = shaken place (k + 1) o bs r l
-
-shakes-of : (s : Space) (k : ℕ) (kind : WorkKind) (r : Reference) → In r (handshakes_of s k kind) → r.holder ≡ Handshake
-shakes-of s k (work.Notice o) r l = shaken s.steps k o (flat_map shakes (returns_of s (work.Notice o))) r l
-shakes-of s k work.Complete r l = absurd l
-shakes-of s k (work.Refusal x) r l = absurd l
-shakes-of s k (work.Call b) r l = absurd l
-shakes-of s k (work.Reply b) r l = absurd l
-shakes-of s k (work.Verdict x) r l = absurd l
-shakes-of s k (work.Death n) r l = absurd l
-shakes-of s k (work.Cleared n) r l = absurd l
-
-all-shake : (s : Space) (ws : List Work) (k : ℕ) (r : Reference) → In r (handshakes s k ws) → r.holder ≡ Handshake
-all-shake s [] k r l = absurd l
-all-shake s (w ∷ ws) k r l =
-    elim (in-append r (handshakes_of s k w.kind) (handshakes s (k + length (handshakes_of s k w.kind)) ws) l) [
-      | inl i ↦ shakes-of s k w.kind r i
-      | inr i ↦ all-shake s ws (k + length (handshakes_of s k w.kind)) r i
-    ]
-
 read-h : (n : ℕ) (s : Space) (seat : ℕ) (ws : List Work) → H n s → H n (read_by s seat ws)
 unfolding read_by
 read-h n s seat ws h =
     less n n s.threads s.references (s.references ++ handshakes s 0 ws) s.todo _ (omega arith)
-    (λ r b q l c. elim (in-append r s.references (handshakes s 0 ws) l) [ inl i ↦ i | inr i ↦ (let e = all-shake s ws 0 r i in absurd (cc)) ])
+    (λ r b q l c. elim (in-append r s.references (handshakes s 0 ws) l) [ inl i ↦ i | inr i ↦ (let e = is-handshake s ws 0 r i in absurd (cc)) ])
     (λ w m l e. (in-filter (λ (w : Work). not (list_any (λ (d : Work). is_item w d) ws)) w s.todo l).0) h
 
 left-h : (n : ℕ) (z : Space) (seat : ℕ) → H n z → H n (thread_goes z seat)

@@ -112,13 +112,7 @@ Alone todo t u = is_out todo u ≡ true → same t.target u.target ≡ true → 
 
 pub is_call-hands : (m : ℕ) (k : WorkKind) → is_call m k ≡ true → hands_out k ≡ Some m
 is_call-hands m (work.Call b) i = ap (λ n. Some n) (eqb-true b m i)
-is_call-hands m (work.Notice o) i = absurd (cc)
-is_call-hands m work.Complete i = absurd (cc)
-is_call-hands m (work.Refusal r) i = absurd (cc)
-is_call-hands m (work.Reply b) i = absurd (cc)
-is_call-hands m (work.Verdict r) i = absurd (cc)
-is_call-hands m (work.Death n) i = absurd (cc)
-is_call-hands m (work.Cleared n) i = absurd (cc)
+is_call-hands m _ i = absurd (cc)
 
 out-of : (todo : List Work) (c : Buffer) (u : Turn) → turn_of c ≡ Some u → is_out todo u ≡ true → Out todo c
 out-of todo c u e h = let p = turn-parts c u e in either u.handed p.0 p.2 refl h

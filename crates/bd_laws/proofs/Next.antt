@@ -49,13 +49,13 @@ use Rattle.bd_laws.specs.Quiet.{IsSettled, NoneRipe, IsQuiet}
 use Rattle.bd_laws.specs.Items.{Distinct}
 use Rattle.bd_laws.specs.OneWayCalls.{On, OnLists}
 use Rattle.bd_laws.proofs.Lists.{in-last, in-push, in-filter, filter-in, in-changed, any-found, any-in, find-in, pairs-push}
-use Rattle.bd_laws.proofs.Tests.{both, and-both, same-eq, eq-same, not-true}
+use Rattle.bd_laws.proofs.Tests.{both, and-both, same-eq, eq-same, not-true, call-kind}
 use Rattle.bd_laws.proofs.Objects.{IsKept, kept-step}
 use Rattle.bd_laws.proofs.EveryStep.{every_list}
 use Rattle.bd_laws.proofs.Deaths.{on-told, on-requested, on-cleared, on-done}
 use Rattle.bd_laws.proofs.EveryEnding.{Endings, every_ending_step}
 use Rattle.bd_laws.proofs.Received.{step-before, opening-before}
-use Rattle.bd_laws.proofs.Quiet.{IsCalm, any-more, owe-calm, closed-calm, told-calm, settle-quiet, follow-calm, completed-quiet}
+use Rattle.bd_laws.proofs.Quiet.{IsCalm, any-more, owe-calm, closed-calm, told-calm, settle-quiet, follow-calm, completed-quiet, elsewhere-aside}
 use Rattle.bd_laws.proofs.Fewer.{to-false}
 use Rattle.bd_laws.proofs.Sending.{any-none, find-left, find-none, none-found}
 use Rattle.bd_laws.proofs.Freeing.{any-append}
@@ -126,19 +126,7 @@ opened-quiet s seat pid euid window before h = record {
 
 attached-quiet : (s : Space) (seat p : ℕ) → IsQuiet s → IsQuiet (with_thread s seat p)
 unfolding with_thread
-attached-quiet s seat p h = record {
-  differ = h.differ;
-  followed = record {
-    names = h.followed.names;
-    objects = h.followed.objects;
-    deaths = h.followed.deaths;
-    notices = h.followed.notices;
-    tellings = h.followed.tellings;
-    made = h.followed.made;
-  };
-  unripe = h.unripe;
-  settled = h.settled;
-}
+attached-quiet s seat p h = record { differ = h.differ; followed = elsewhere-aside _ _ s _ _ _ _ h.followed; unripe = h.unripe; settled = h.settled }
 
 -- ---- a new context manager
 
@@ -230,16 +218,6 @@ module _ (s : Space) (p : ℕ) (kept : KeptBefore s) (h : IsQuiet s) where
 on-of : (c : Buffer) (t : Turn) → turn_of c ≡ Some t → On t.target c
 on-of c t e = let k = turn-parts c t e in (k.3, k.4)
 
-call-kind : (b : ℕ) (kind : WorkKind) → is_call b kind ≡ true → kind ≡ work.Call b
-call-kind b (work.Notice o) e = absurd (cc)
-call-kind b work.Complete e = absurd (cc)
-call-kind b (work.Refusal r) e = absurd (cc)
-call-kind b (work.Call c) e = ap work.Call (eqb-true c b e)
-call-kind b (work.Reply c) e = absurd (cc)
-call-kind b (work.Verdict r) e = absurd (cc)
-call-kind b (work.Death n) e = absurd (cc)
-call-kind b (work.Cleared n) e = absurd (cc)
-
 -- ---- reading
 
 -- what is taken hands that one over
@@ -264,14 +242,9 @@ module _ (s : Space) where
         where
           skip : (kind : WorkKind) → ends_read kind ≡ false → first_of (map (λ (w : Work). hands_out w.kind) (taken s (left - length (bytes_read s x)) xs)) ≡ Some n
               → first_of (hands_out kind ∷ map (λ (w : Work). hands_out w.kind) (taken s (left - length (bytes_read s x)) xs)) ≡ Some n
-          skip (work.Notice o) g k = k
-          skip work.Complete g k = k
-          skip (work.Refusal r) g k = k
           skip (work.Call b) g k = absurd (cc)
           skip (work.Reply b) g k = absurd (cc)
-          skip (work.Verdict r) g k = k
-          skip (work.Death m) g k = k
-          skip (work.Cleared c) g k = k
+          skip _ g k = k
 
 -- frames that are served
 served-settled : (p : Frame → Bool) (seat : ℕ) (fs : List Frame) → IsSettled fs → IsSettled (changed p (serve seat) fs)
@@ -608,19 +581,7 @@ step-endings s seat x before distinct h =
 
 counted-quiet : (z : Space) → IsQuiet z → IsQuiet (counted z)
 unfolding counted
-counted-quiet z h = record {
-  differ = h.differ;
-  followed = record {
-    names = h.followed.names;
-    objects = h.followed.objects;
-    deaths = h.followed.deaths;
-    notices = h.followed.notices;
-    tellings = h.followed.tellings;
-    made = h.followed.made;
-  };
-  unripe = h.unripe;
-  settled = h.settled;
-}
+counted-quiet z h = record { differ = h.differ; followed = elsewhere-aside _ _ z _ _ _ _ h.followed; unripe = h.unripe; settled = h.settled }
 
 -- the law, where the items of each list have different identities
 pub next-quiet : (s : Space) (e : Entry) → Before s → Distinct s.todo → IsQuiet s → IsQuiet (next s e)

@@ -133,7 +133,7 @@ follow-owing n z h =
     let y = deaths_go (objects_go (names_go z)) in
     record {
       steps = h.steps;
-      todo = notify-keeps (Numbered n) (work_goes y) (λ todo x l k. numbers n z.steps todo (OfProcess x.owner) (work.Notice x.id) h.steps k)
+      todo = notify-keeps (Numbered n) (work_goes y) (λ todo x l due k. numbers n z.steps todo (OfProcess x.owner) (work.Notice x.id) h.steps k)
           (filter-numbered n z.todo (λ (w : Work). still_due y.processes y.objects y.references y.deaths w.kind) h.due h.todo);
     }
 
@@ -355,9 +355,7 @@ managed-owing s p h = same-owing s _ h refl refl
 names-for : (q : ℕ) (h : Holder) → names_for q h ≡ true → (h ≡ Asked q) ⊎ ((b : ℕ) × (h ≡ Carried b q))
 names-for q (Asked r) e = inl (ap (λ n. Asked n) (eqb-true r q e))
 names-for q (Carried b r) e = inr (b, ap (λ n. Carried b n) (eqb-true r q e))
-names-for q (Target b r) e = absurd (cc)
-names-for q Handshake e = absurd (cc)
-names-for q Manager e = absurd (cc)
+names-for q _ e = absurd (cc)
 
 not-eq : (a b : ℕ) → (a ≡ b → ⊥) → (a == b) ≡ false
 not-eq a b k = at (a == b) refl

@@ -34,7 +34,7 @@ use Rattle.bd_space.specs.Steps.{with_thread, with_process, with_manager}
 use Rattle.bd_laws.specs.Lists.{In, Pairs}
 use Rattle.bd_laws.specs.Objects.{Here, Differ, Kept, Named, KeptBefore}
 use Rattle.bd_laws.proofs.Lists.{in-left, in-append, in-last, in-filter, filter-in, in-without, without-in, in-changed, changed-in, any-found, any-in, all-in, find-in, find-some, pairs-filter, pairs-changed}
-use Rattle.bd_laws.proofs.Tests.{both, same-eq, eq-same}
+use Rattle.bd_laws.proofs.Tests.{both, same-eq, eq-same, notice-named}
 use Rattle.bd_space.specs.declared.step.Step.{Step}
 use Rattle.bd_space.specs.declared.step.Entry.{Entry}
 use Rattle.bd_space.specs.Space.{opening}
@@ -51,6 +51,7 @@ use Rattle.bd_laws.proofs.Checks.{transaction-checked, reply-checked, asked-chec
 use Rattle.bd_laws.proofs.Untouched.{Untouched, owe-untouched, told-untouched, called-untouched, closed-untouched, ripen-untouched, notify-untouched, work_goes-untouched, deaths_go-untouched, with_looping-untouched, on_deaths-untouched, tell_deaths-untouched}
 use Rattle.bd_laws.proofs.Sendings.{HasName, Sent, Sends, sending-sends}
 use Rattle.bd_laws.proofs.Deaths.{on-mapped, on-commands}
+use Rattle.bd_laws.proofs.Handshakes.{for-object, shaken-by}
 
 abbrev pub IsKept : Space → Type 0
 IsKept z = Kept (suc z.steps) z.manager z.objects z.references
@@ -290,31 +291,14 @@ no-object : (s : Space) (references : List Reference) (o : ObjectId) (found : Op
 no-object s references o None n k r e l = absurd l
 no-object s references o (Some x) n k r e l =
     let f = find-in (λ (y : Object). same y.id o) x s.objects e in
-    (x, f.0, same-eq x.id o f.1 ∙ sym (handshake-object (flat_map shakes (returns_of_object references (Some x))) n k r l))
-  where
-    handshake-object : (bs : List Bool) (n k : ℕ) (r : Reference) → In r (handshakes_for n k o bs) → r.object ≡ o
-    handshake-object [] n k r l = absurd l
-    handshake-object (b ∷ bs) n k r (inl e) = sym (ap (λ (y : Reference). y.object) e)
-    handshake-object (b ∷ bs) n k r (inr l) = handshake-object bs n (k + 1) r l
-
-handshake-here : (s : Space) (k : ℕ) (kind : WorkKind) (r : Reference) → In r (handshakes_of s k kind) → Here s.objects r.object
-unfolding returns_of
-handshake-here s k (work.Notice o) r l = no-object s s.references o (object_in s.objects o) s.steps k r refl l
-handshake-here s k work.Complete r l = absurd l
-handshake-here s k (work.Refusal x) r l = absurd l
-handshake-here s k (work.Call b) r l = absurd l
-handshake-here s k (work.Reply b) r l = absurd l
-handshake-here s k (work.Verdict x) r l = absurd l
-handshake-here s k (work.Death n) r l = absurd l
-handshake-here s k (work.Cleared n) r l = absurd l
+    (x, f.0, same-eq x.id o f.1 ∙ sym (for-object n k o (flat_map shakes (returns_of_object references (Some x))) r l))
 
 handshakes-here : (s : Space) (ws : List Work) (k : ℕ) (r : Reference) → In r (handshakes s k ws) → Here s.objects r.object
-handshakes-here s [] k r l = absurd l
-handshakes-here s (w ∷ ws) k r l =
-    elim (in-append r (handshakes_of s k w.kind) (handshakes s (k + length (handshakes_of s k w.kind)) ws) l) [
-      | inl i ↦ handshake-here s k w.kind r i
-      | inr i ↦ handshakes-here s ws (k + length (handshakes_of s k w.kind)) r i
-    ]
+unfolding returns_of
+handshakes-here s ws k r l =
+    let x = shaken-by s ws k r l in
+    no-object s s.references x.object (object_in s.objects x.object) s.steps x.number r refl
+    (subst (λ kind. In r (handshakes_for s.steps x.number x.object (flat_map shakes (returns_of s kind)))) (notice-named x.item.kind x.object x.tells) x.shakes_for)
 
 pub told-id : (references : List Reference) (b : Bool) (x : Object) → (cond b (told_of references x) x).id ≡ x.id
 told-id references true x = refl

@@ -51,6 +51,7 @@ use Rattle.bd_laws.proofs.Untouched.{Untouched}
 use Rattle.bd_laws.proofs.Sendings.{Made, sending-sends}
 use Rattle.bd_laws.proofs.Checks.{Owned, transaction-checked, reply-checked, actor-lives}
 use Rattle.bd_laws.proofs.Deaths.{on-mapped, on-both, on-commands}
+use Rattle.bd_laws.proofs.Following.{FollowedBy, follow-by}
 
 -- a live process
 abbrev pub Lives : List Process → ℕ → Type 0
@@ -157,16 +158,13 @@ unfolding objects_go
 objects_go-after z = record { steps = refl; processes = refl; objects = λ x i. (in-filter (stays_in z.processes z.references) x z.objects i).0; buffers = refl; due = λ w m l e. l }
 
 pub follow-after : (z : Space) → After (follow z) z
-unfolding follow
-follow-after z =
-    let a = names_go z in
-    let b = objects_go a in
-    let c = deaths_go b in
-    let d = work_goes c in
-    after-trans (notify d) d z (untouched-after (notify d) d (Untouched.notify-untouched d) (OneWay.notify-less d))
-    (after-trans d c z (untouched-after d c (Untouched.work_goes-untouched c) (OneWay.work_goes-less c))
-    (after-trans c b z (untouched-after c b (Untouched.deaths_go-untouched b) (OneWay.deaths_go-less b))
-    (after-trans b a z (objects_go-after a) (names_go-after z))))
+follow-after = follow-by After after-trans (record {
+  names = names_go-after;
+  objects = objects_go-after;
+  deaths = λ z. untouched-after (deaths_go z) z (Untouched.deaths_go-untouched z) (OneWay.deaths_go-less z);
+  work = λ z. untouched-after (work_goes z) z (Untouched.work_goes-untouched z) (OneWay.work_goes-less z);
+  notices = λ z. untouched-after (notify z) z (Untouched.notify-untouched z) (OneWay.notify-less z);
+})
 
 -- ---- opening and managing
 

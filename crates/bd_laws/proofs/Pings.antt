@@ -40,7 +40,7 @@ use Rattle.bd_laws.specs.Objects.{KeptBefore}
 use Rattle.bd_laws.specs.Tidy.{IsTidy}
 use Rattle.bd_laws.proofs.Lists.{in-last, in-push, in-append, any-found, any-in}
 use Rattle.bd_laws.proofs.Tests.{both, and-both, eq-same, and_then-ok, found-ok, unless-ok}
-use Rattle.bd_laws.proofs.Sendings.{sending-sends}
+use Rattle.bd_laws.proofs.Sendings.{sending-sends, resolved-by}
 use Rattle.bd_laws.proofs.Checks.{transaction-checked}
 use Rattle.bd_laws.proofs.Quiet.{any-more}
 use Rattle.bd_laws.proofs.Next.{calm}
@@ -68,13 +68,8 @@ no-death (x ∷ xs) n = at (x.made == n) (no-death xs n)
 module _ (b : ObjectTest) (none : (o : ObjectId) → b o ≡ false) where
   untouched : (deaths : List DeathNotification) (kind : WorkKind) → is_touched no_name b deaths kind ≡ false
   untouched deaths (work.Notice o) = none o
-  untouched deaths work.Complete = refl
-  untouched deaths (work.Refusal r) = refl
-  untouched deaths (work.Call m) = refl
-  untouched deaths (work.Reply m) = refl
-  untouched deaths (work.Verdict r) = refl
   untouched deaths (work.Death n) = no-death deaths n
-  untouched deaths (work.Cleared c) = refl
+  untouched deaths _ = refl
 
   names-none : (z : Space) → names_go_of no_name z ≡ z
   unfolding names_go_of
@@ -135,19 +130,8 @@ handle-made (Some y) r h o e =
     let none : None ≡ r.new = ap (λ (q : Resolved). q.new) is in absurd (cc)
 
 resolve-made : (s : Space) (p : ℕ) (made : List Object) (x : FlatObject) (r : Resolved) → resolve s p made x ≡ Ok r → (o : Object) → r.new ≡ Some o → r.object ≡ o.id
-unfolding resolve
-resolve-made s p made x r h o e = of x.kind h
-  where
-    of : (kind : ObjectKind) → elim kind as (λ (q : ObjectKind). Result Resolved Cause) [
-      | Binder ↦ resolve_own s p made x
-      | WeakBinder ↦ resolve_own s p made x
-      | Handle ↦ resolve_handle (strongly_named s p (x.binder % 2 ^ 32))
-      | WeakHandle ↦ resolve_handle (named s p (x.binder % 2 ^ 32))
-    ] ≡ Ok r → r.object ≡ o.id
-    of Binder k = own-made s p made x (own_in (s.objects ++ made) p x.binder) r k o e
-    of WeakBinder k = own-made s p made x (own_in (s.objects ++ made) p x.binder) r k o e
-    of Handle k = handle-made (strongly_named s p (x.binder % 2 ^ 32)) r k o e
-    of WeakHandle k = handle-made (named s p (x.binder % 2 ^ 32)) r k o e
+resolve-made s p made x r h o e =
+    resolved-by s p made x r (λ own. r.object ≡ o.id) (λ k. own-made s p made x (own_in (s.objects ++ made) p x.binder) r k o e) (λ f n k. handle-made f r k o e) h
 
 abbrev MadeSent : List Object → List Item → Type 0
 MadeSent made items = (x : Object) → In x made → objects_of_items items x.id ≡ true

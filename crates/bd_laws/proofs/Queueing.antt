@@ -33,7 +33,7 @@ use Rattle.bd_space.specs.Notices.{wants_notice, has_notice_in, with_notice, sti
 use Rattle.bd_space.specs.Settle.{settle, settle_one, settle_times, is_abandoned}
 use Rattle.bd_space.specs.Outcomes.{completed}
 use Rattle.bd_uapi.specs.Kinds.{is_own}
-use Rattle.bd_space.specs.Delivery.{Delivery, delivered, own_notices, add_buffer, known_by, refer, make_objects, withdraw_notice}
+use Rattle.bd_space.specs.Delivery.{Delivery, delivered, own_notices, add_buffer, known_by, refer, make_objects, buffer_of}
 use Rattle.bd_space.specs.Transactions.{transacted, called, call_out, refusal}
 use Rattle.bd_space.specs.Replies.{replied, reply_refused}
 use Rattle.bd_space.specs.Freeing.{without_buffer}
@@ -53,8 +53,9 @@ use Rattle.bd_laws.proofs.Lists.{in-push, in-filter, in-changed, any-found, any-
 use Rattle.bd_laws.proofs.Tests.{both, and-both, not-true}
 use Rattle.bd_laws.proofs.Ripening.{read-in}
 use Rattle.bd_laws.proofs.EveryStep.{Keeps, every_step}
-use Rattle.bd_laws.proofs.Adding.{told-keeps, notice-keeps, notify-keeps, ripen-keeps}
+use Rattle.bd_laws.proofs.Adding.{told-keeps, notify-keeps, own_notices-keeps, ripen-keeps}
 use Rattle.bd_laws.proofs.Queued.{Silent, fewer-items, fewer-deaths, plain-item, death-item, phased, sit-changed}
+use Rattle.bd_laws.proofs.PathWords.{same-item}
 
 abbrev Q : ℕ → Space → Type 0
 Q n z = Queues n z.todo z.deaths
@@ -73,7 +74,7 @@ follow-q : (n : ℕ) (z : Space) → Q n z → Q n (follow z)
 unfolding follow work_goes deaths_go objects_go names_go notify
 follow-q n z h =
     let y = deaths_go (objects_go (names_go z)) in
-    notify-keeps (λ todo. Queues n todo y.deaths) (work_goes y) (λ todo x l. plain-item n z.steps todo y.deaths (OfProcess x.owner) (work.Notice x.id) (λ m e. cc))
+    notify-keeps (λ todo. Queues n todo y.deaths) (work_goes y) (λ todo x l due. plain-item n z.steps todo y.deaths (OfProcess x.owner) (work.Notice x.id) (λ m e. cc))
     (fewer-items n z.todo y.deaths (λ (w : Work). still_due y.processes y.objects y.references y.deaths w.kind)
     (fewer-deaths n z.todo z.deaths (λ (x : DeathNotification). x.cleared || is_name_of (names_go z).names x.process x.object) h))
 
@@ -85,21 +86,10 @@ ripen-q n z h = ripen-keeps (λ todo. Queues n todo z.deaths) z (λ todo t. plai
 
 delivered-q : (n : ℕ) (s : Space) (a : Actor) (d : TransactionData) (v : Delivery) → Q n s → Q n (delivered s a d v)
 unfolding delivered own_notices add_buffer known_by assign_numbers refer make_objects
-delivered-q n s a d v h =
-    fold-keeps (λ todo. Queues n todo s.deaths) _ v.sending.items (λ todo x l k. added x todo (is_own x.flat.kind) (object_in (s.objects ++ v.sending.made) x.object) k) _
-    (fold-keeps (λ todo. Queues n todo s.deaths) (withdraw_notice (s.objects ++ v.sending.made)) v.sending.items (λ todo x l k. withdrawn x todo _ k) s.todo h)
-  where
-    withdrawn : (x : Item) (todo : List Work) (b : Bool) → Queues n todo s.deaths → Queues n (cond b (filter (λ (w : Work). not (is_notice x.object w.kind)) todo) todo) s.deaths
-    withdrawn x todo true k = fewer-items n todo s.deaths (λ (w : Work). not (is_notice x.object w.kind)) k
-    withdrawn x todo false k = k
-
-    added : (x : Item) (todo : List Work) (own : Bool) (f : Option Object) → Queues n todo s.deaths
-        → Queues n (cond own (elim f as (λ (f : Option Object). List Work) [ None ↦ todo | Some o ↦ with_notice s.steps s.processes (known_by s v).references (OfThread a.thread.seat) todo o ]) todo) s.deaths
-    added x todo false f k = k
-    added x todo true None k = k
-    added x todo true (Some o) k =
-        notice-keeps (λ todo. Queues n todo s.deaths) s.steps s.processes (known_by s v).references (OfThread a.thread.seat) todo o
-        (plain-item n s.steps todo s.deaths (OfThread a.thread.seat) (work.Notice o.id) (λ m e. cc)) k
+delivered-q n s a d v =
+    own_notices-keeps (λ todo. Queues n todo s.deaths) (add_buffer (known_by s v) (buffer_of (known_by s v) a d v)) a.thread.seat v.sending.items
+    (λ todo o. fewer-items n todo s.deaths (λ (w : Work). not (is_notice o w.kind)))
+    (λ todo x due. plain-item n s.steps todo s.deaths (OfThread a.thread.seat) (work.Notice x.id) (λ m e. cc))
 
 called-q : (n : ℕ) (z : Space) (seat p : ℕ) (one_way : Bool) → Q n z → Q n (called z seat p one_way)
 unfolding call_out
@@ -208,9 +198,7 @@ cleared-q n s t x h = at (is_out x.phase)
 
 told-phase : (phase : Phase) → is_told phase ≡ true → phase ≡ Queued → ⊥
 told-phase Armed e f = cc
-told-phase Queued e f = cc
-told-phase Told e f = cc
-told-phase Done e f = cc
+told-phase _ e f = cc
 
 pub found-told : (s : Space) (p cookie : ℕ) (x : DeathNotification) → told_death s p cookie ≡ Some x → In x s.deaths × (x.phase ≡ Queued → ⊥)
 unfolding told_death
@@ -232,21 +220,6 @@ done-q n s t p cookie x e h = at x.cleared
 
 -- ---- reading
 
-eq-identity : (a b : Identity) → a ≡ b → same_identity a b ≡ true
-eq-identity a b e = and-both (a.place == b.place) (a.index == b.index) (eq-eqb a.place b.place (ap (λ (x : Identity). x.place) e)) (eq-eqb a.index b.index (ap (λ (x : Identity). x.index) e))
-
-same_list-same : (l : TodoList) → same_list l l ≡ true
-same_list-same (OfThread t) = eq-eqb t t refl
-same_list-same (OfProcess p) = eq-eqb p p refl
-
-same-item : (v w : Work) → v ≡ w → is_item v w ≡ true
-same-item v w e =
-    and-both (same_identity v.id w.id) (is_on w.list v) (eq-identity v.id w.id (ap (λ (x : Work). x.id) e))
-    (ap (λ (x : Work). is_on w.list x) e ∙ same_list-same w.list)
-
-identity-same : (v w : Work) → v ≡ w → is_item v w ≡ true
-identity-same v w e = same-item v w e
-
 one-death : (todo : List Work) → Pairs OtherDeath todo → (v w : Work) (n : ℕ) → In v todo → In w todo → v.kind ≡ work.Death n → w.kind ≡ work.Death n → v ≡ w
 one-death todo h v w n l m e f = elim (pairs-either OtherDeath todo h v w l m) [
   | inl is ↦ is
@@ -254,14 +227,8 @@ one-death todo h v w n l m e f = elim (pairs-either OtherDeath todo h v w l m) [
 ]
 
 death-kind : (kind : WorkKind) (n : ℕ) → is_some_and (death_of kind) (λ m. m == n) ≡ true → kind ≡ work.Death n
-death-kind (work.Notice o) n e = absurd (cc)
-death-kind work.Complete n e = absurd (cc)
-death-kind (work.Refusal r) n e = absurd (cc)
-death-kind (work.Call b) n e = absurd (cc)
-death-kind (work.Reply b) n e = absurd (cc)
-death-kind (work.Verdict r) n e = absurd (cc)
 death-kind (work.Death m) n e = ap work.Death (eqb-true m n e)
-death-kind (work.Cleared m) n e = absurd (cc)
+death-kind _ n e = absurd (cc)
 
 read-q : (n : ℕ) (s : Space) (t : Thread) (seat left : ℕ) → Q n s → Q n (read_by s seat (taken s left (list_to_read s t)))
 unfolding read_by
@@ -297,7 +264,7 @@ read-q n s t seat left h =
         let kind = death-kind d.0.kind y.made d.2 in
         let y_made : m ≡ y.made = sym made ∙ ap (λ (z : DeathNotification). z.made) is ∙ made-kept (is_told_of_death ws y) y in
         let same_work = one-death s.todo h.once w d.0 y.made l (sub d.0 d.1) (e ∙ ap work.Death y_made) kind in
-        let some = any-in (λ (d : Work). is_item w d) d.0 ws d.1 (identity-same w d.0 same_work) in absurd (cc)
+        let some = any-in (λ (d : Work). is_item w d) d.0 ws d.1 (same-item w d.0 same_work) in absurd (cc)
 
 -- ---- exits
 
@@ -321,9 +288,7 @@ StillSilent xs todo = (x : DeathNotification) → In x xs → is_armed x.phase �
 
 armed-phase : (phase : Phase) → is_armed phase ≡ true → phase ≡ Queued → ⊥
 armed-phase Armed e f = cc
-armed-phase Queued e f = cc
-armed-phase Told e f = cc
-armed-phase Done e f = cc
+armed-phase _ e f = cc
 
 queued-item : (n : ℕ) (z : Space) (p made : ℕ) → Silent made z.todo → ((y : DeathNotification) → In y z.deaths → y.made ≡ made → y.process ≡ p) → Q n z → Q n (owe (with_phase z made Queued) (OfProcess p) (work.Death made))
 unfolding owe with_phase

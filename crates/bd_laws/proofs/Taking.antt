@@ -27,11 +27,12 @@ use Rattle.bd_laws.specs.Lists.{In}
 use Rattle.bd_laws.specs.Quiet.{Elsewhere, IsQuiet}
 use Rattle.bd_laws.specs.Items.{Distinct}
 use Rattle.bd_laws.proofs.Lists.{in-append, in-filter, filter-in, in-changed, any-found, any-in, find-in}
-use Rattle.bd_laws.proofs.Tests.{both, and-both, same-eq, eq-same}
+use Rattle.bd_laws.proofs.Tests.{both, and-both, same-eq, eq-same, notice-kind}
 use Rattle.bd_laws.proofs.Ripening.{read-in}
 use Rattle.bd_laws.proofs.Follow.{follow-local}
 use Rattle.bd_laws.proofs.Fewer.{to-false}
 use Rattle.bd_laws.proofs.Sending.{any-none, any-left}
+use Rattle.bd_laws.proofs.Handshakes.{shaken-by, shaken-object}
 
 module _ {A : Type 0} (p : A → Bool) (f : A → A) (q : A → Bool) (keeps : (x : A) → q (f x) ≡ q x) where
   pub any-changed : (xs : List A) → list_any q (changed p f xs) ≡ list_any q xs
@@ -57,32 +58,11 @@ module _ {A : Type 0} (p : A → Bool) (f : A → A) (q : A → Bool) (keeps : (
 
 -- ---- handshakes are with what was told
 
-for-object : (place k : ℕ) (o : ObjectId) (bs : List Bool) (r : Reference) → In r (handshakes_for place k o bs) → r.object ≡ o
-for-object place k o [] r l = absurd l
-for-object place k o (b ∷ bs) r (inl e) = sym (ap (λ (y : Reference). y.object) e)
-for-object place k o (b ∷ bs) r (inr l) = for-object place (k + 1) o bs r l
-
-of-notice : (s : Space) (k : ℕ) (kind : WorkKind) (r : Reference) → In r (handshakes_of s k kind) → is_some_and (notice_of kind) (same r.object) ≡ true
-of-notice s k (work.Notice o) r l = eq-same r.object o (for-object s.steps k o (flat_map shakes (returns_of s (work.Notice o))) r l)
-of-notice s k work.Complete r l = absurd l
-of-notice s k (work.Refusal x) r l = absurd l
-of-notice s k (work.Call b) r l = absurd l
-of-notice s k (work.Reply b) r l = absurd l
-of-notice s k (work.Verdict x) r l = absurd l
-of-notice s k (work.Death n) r l = absurd l
-of-notice s k (work.Cleared n) r l = absurd l
-
 handshake-told : (s : Space) (ws : List Work) (k : ℕ) (r : Reference) → In r (handshakes s k ws) → is_told_by ws r.object ≡ true
-handshake-told s [] k r l = absurd l
-handshake-told s (w ∷ ws) k r l =
-    elim (in-append r (handshakes_of s k w.kind) (handshakes s (k + length (handshakes_of s k w.kind)) ws) l) [
-      | inl i ↦ rw (of-notice s k w.kind r i) refl
-      | inr i ↦ or-right (is_some_and (notice_of w.kind) (same r.object)) _ (handshake-told s ws (k + length (handshakes_of s k w.kind)) r i)
-    ]
-  where
-    or-right : (a b : Bool) → b ≡ true → (a || b) ≡ true
-    or-right true b h = refl
-    or-right false b h = h
+handshake-told s ws k r l =
+    let x = shaken-by s ws k r l in
+    any-in (λ (w : Work). is_some_and (notice_of w.kind) (same r.object)) x.item ws x.here
+    (ap (λ f. is_some_and f (same r.object)) x.tells ∙ eq-same r.object x.object (shaken-object s ws r x))
 
 module _ (s : Space) (t : Thread) (seat left : ℕ) (h : IsQuiet s) (distinct : Distinct s.todo) where
   abbrev ws : List Work
@@ -163,14 +143,7 @@ module _ (s : Space) (t : Thread) (seat left : ℕ) (h : IsQuiet s) (distinct : 
       let it_is = any-in (λ (w : Work). is_some_and (notice_of w.kind) (same o)) d.0 ws d.1 (subst (λ (w : Work). is_some_and (notice_of w.kind) (same o) ≡ true) is named) in cc)) refl)) v.2
     where
       tells : (kind : WorkKind) → is_notice o kind ≡ true → is_some_and (notice_of kind) (same o) ≡ true
-      tells (work.Notice p) e = eq-same o p (sym (same-eq p o e))
-      tells work.Complete e = absurd (cc)
-      tells (work.Refusal r) e = absurd (cc)
-      tells (work.Call b) e = absurd (cc)
-      tells (work.Reply b) e = absurd (cc)
-      tells (work.Verdict r) e = absurd (cc)
-      tells (work.Death n) e = absurd (cc)
-      tells (work.Cleared n) e = absurd (cc)
+      tells kind e = subst (λ k. is_some_and (notice_of k) (same o) ≡ true) (sym (notice-kind o kind e)) (eq-same o o refl)
 
   read-elsewhere : Elsewhere no_name told (read_by s seat ws)
   unfolding read_by
