@@ -43,7 +43,7 @@ use Rattle.bd_space.specs.Histories.{after, next}
 use Rattle.bd_calls.specs.TodoList.{reply_of}
 use Rattle.bd_laws.specs.Lists.{In}
 use Rattle.bd_laws.proofs.EveryStep.{Keeps, every_step}
-use Rattle.bd_laws.proofs.Lists.{in-push, in-filter, in-changed, find-in, any-found}
+use Rattle.bd_laws.proofs.Lists.{in-push, in-filter, in-changed, find-in, any-found, by-last}
 use Rattle.bd_laws.proofs.Tests.{not-true}
 use Rattle.bd_laws.proofs.Checks.{actor-lives, transaction-checked}
 use Rattle.bd_laws.proofs.Deaths.{on-mapped, on-commands}
@@ -475,10 +475,5 @@ module _ (es : List Entry) (e : Entry) (h : Traced es (after opening es)) where
 opening-traced : Traced [] opening
 opening-traced = record { below = λ f l. absurd l; callers = λ f t l e. absurd l; servers = λ f t l e. absurd l; replies = λ w b t l e o. absurd l }
 
-from-here : (rest before : List Entry) → Traced before (after opening before) → Traced (before ++ rest) (after opening (before ++ rest))
-from-here [] before h = subst (λ es. Traced es (after opening es)) (sym (append-nil before)) h
-from-here (e ∷ rest) before h =
-    subst (λ es. Traced es (after opening es)) (append_assoc before (e ∷ []) rest) (from-here rest (before ++ e ∷ []) (step-traced before e h))
-
 pub always-traced : (es : List Entry) → Traced es (after opening es)
-always-traced es = from-here es [] opening-traced
+always-traced es = by-last (λ es. Traced es (after opening es)) step-traced opening-traced es

@@ -305,12 +305,7 @@ module _ (s : Space) (c : ℕ) (single : One c s.todo) where
   taken-gone : (seat : ℕ) (x : Step) → has_call (items_taken s seat x) ≡ true → NoCall c (change s seat x).space
   unfolding change
   taken-gone seat (Read limit) h = actor-gone limit (actor s seat) h
-  taken-gone seat (Open pid euid window) h = absurd (cc)
-  taken-gone seat (Attach pid) h = absurd (cc)
-  taken-gone seat SetManager h = absurd (cc)
-  taken-gone seat (Command y parcel) h = absurd (cc)
-  taken-gone seat ExitThread h = absurd (cc)
-  taken-gone seat ExitProcess h = absurd (cc)
+  taken-gone seat _ h = absurd (cc)
 
 -- ---- a two-way call has no turn, and none of it comes again
 

@@ -42,6 +42,7 @@ use Rattle.bd_laws.specs.Lists.{In}
 use Rattle.bd_laws.proofs.EveryStep.{KeepsWhole, every_whole_step, every_list}
 use Rattle.bd_laws.proofs.Lists.{in-push, in-filter, fold-keeps}
 use Rattle.bd_laws.proofs.Deaths.{KeptOnDeaths, on-kept, on-told, on-commands}
+use Rattle.bd_laws.proofs.Adding.{told-keeps, notify-keeps, own_notices-keeps, ripen-keeps}
 use Rattle.bd_audit.specs.HandedReplies.{is_reply}
 
 -- a return that the item itself carries is no BR_REPLY
@@ -79,16 +80,8 @@ refusal-plain cause.CallerGone = refl
 push-plain : (place : ℕ) (todo : List Work) (list : TodoList) (kind : WorkKind) → is_plain kind ≡ true → Plain todo → Plain (with_work place todo list kind)
 push-plain place todo list kind k h w l = elim (in-push w _ todo l) [ inl i ↦ h w i | inr is ↦ ap (λ (x : Work). is_plain x.kind) (sym is) ∙ k ]
 
-push-if : (b : Bool) (place : ℕ) (todo : List Work) (list : TodoList) (kind : WorkKind) → is_plain kind ≡ true → Plain todo → Plain (cond b (with_work place todo list kind) todo)
-push-if true place todo list kind k h = push-plain place todo list kind k h
-push-if false place todo list kind k h = h
-
 filter-plain : (p : Work → Bool) (todo : List Work) → Plain todo → Plain (filter p todo)
 filter-plain p todo h w l = h w (in-filter p w todo l).0
-
-filter-if : (b : Bool) (p : Work → Bool) (todo : List Work) → Plain todo → Plain (cond b (filter p todo) todo)
-filter-if true p todo h = filter-plain p todo h
-filter-if false p todo h = h
 
 owed : (z : Space) (list : TodoList) (kind : WorkKind) → is_plain kind ≡ true → IsPlain z → IsPlain (owe z list kind)
 unfolding owe
@@ -100,8 +93,7 @@ either false z y h k = k
 
 told : (z : Space) (caller : Option ℕ) (kind : WorkKind) → is_plain kind ≡ true → IsPlain z
     → IsPlain (elim caller as (λ (o : Option ℕ). Space) [ None ↦ z | Some t ↦ owe z (OfThread t) kind ])
-told z None kind k h = h
-told z (Some t) kind k h = owed z (OfThread t) kind k h
+told z caller kind k = told-keeps IsPlain kind (λ z t. owed z (OfThread t) kind k) z caller
 
 closes : (z : Space) (made : ℕ) → IsPlain z → IsPlain (closed z made)
 unfolding closed
@@ -109,26 +101,11 @@ closes z made h = h
 
 -- ---- transactions and replies
 
-adds-notice : (z : Space) (seat : ℕ) (todo : List Work) (x : Item) → Plain todo → Plain (add_notice z seat todo x)
-adds-notice z seat todo x h = at (is_own x.flat.kind) (object_in z.objects x.object)
-  where
-    at : (b : Bool) (o : Option Object)
-        → Plain (cond b (elim o as (λ (o : Option Object). List Work) [ None ↦ todo | Some y ↦ with_notice z.steps z.processes z.references (OfThread seat) todo y ]) todo)
-    at true None = h
-    at true (Some y) = push-if (wants_notice z.processes z.references y && not (has_notice_in todo y.id)) z.steps todo (OfThread seat) (work.Notice y.id) refl h
-    at false o = h
-
-withdraws-notice : (objects : List Object) (todo : List Work) (x : Item) → Plain todo → Plain (withdraw_notice objects todo x)
-withdraws-notice objects todo x h =
-    filter-if (is_own x.flat.kind && is_strong_kind x.flat.kind && is_some_and (object_in objects x.object) (λ o. not o.told_strong))
-    (λ (w : Work). not (is_notice x.object w.kind)) todo h
-
 delivers : (s : Space) (a : Actor) (d : TransactionData) (v : Delivery) → IsPlain s → IsPlain (delivered s a d v)
 unfolding delivered own_notices add_buffer known_by assign_numbers refer make_objects
-delivers s a d v h =
-    let z = add_buffer (known_by s v) (buffer_of (known_by s v) a d v) in
-    fold-keeps Plain (add_notice z a.thread.seat) v.sending.items (λ todo x l k. adds-notice z a.thread.seat todo x k) (fold (withdraw_notice z.objects) s.todo v.sending.items)
-    (fold-keeps Plain (withdraw_notice z.objects) v.sending.items (λ todo x l k. withdraws-notice z.objects todo x k) s.todo h)
+delivers s a d v =
+    own_notices-keeps Plain (add_buffer (known_by s v) (buffer_of (known_by s v) a d v)) a.thread.seat v.sending.items (λ todo o. filter-plain (λ (w : Work). not (is_notice o w.kind)) todo)
+    (λ todo x due. push-plain s.steps todo (OfThread a.thread.seat) (work.Notice x.id) refl)
 
 sends : (s : Space) (a : Actor) (d : TransactionData) (v : Delivery) → IsPlain s → IsPlain (owe (delivered s a d v) (OfThread a.thread.seat) work.Complete)
 sends s a d v h = owed (delivered s a d v) (OfThread a.thread.seat) work.Complete refl (delivers s a d v h)
@@ -182,22 +159,15 @@ tells-deaths z p h = on-told IsPlain plain-on_deaths z p h
 
 -- ---- what follows
 
-ripens-all : (place : ℕ) (ts older : List Turn) (todo : List Work) → Plain todo → Plain (ripened place older todo ts)
-ripens-all place [] older todo h = h
-ripens-all place (t ∷ ts) older todo h =
-    ripens-all place ts (older ++ t ∷ []) _ (push-if (is_ripe todo older t) place todo (OfProcess t.receiver) (work.Call t.made) refl h)
-
 ripens : (z : Space) → IsPlain z → IsPlain (ripen z)
-unfolding ripen
-ripens z h = ripens-all z.steps (turns_of z.buffers) [] z.todo h
+ripens z = ripen-keeps Plain z (λ todo t. push-plain z.steps todo (OfProcess t.receiver) (work.Call t.made) refl)
 
 follows : (z : Space) → IsPlain z → IsPlain (follow z)
 unfolding follow notify work_goes deaths_go objects_go names_go
 follows z h =
     let c = deaths_go (objects_go (names_go z)) in
-    fold-keeps Plain (λ todo (x : Object). with_notice z.steps z.processes z.references (OfProcess x.owner) todo x) c.objects
-    (λ todo x l k. push-if (wants_notice z.processes z.references x && not (has_notice_in todo x.id)) z.steps todo (OfProcess x.owner) (work.Notice x.id) refl k)
-    (work_goes c).todo (filter-plain (λ (w : Work). still_due c.processes c.objects c.references c.deaths w.kind) z.todo h)
+    notify-keeps Plain (work_goes c) (λ todo x l due. push-plain z.steps todo (OfProcess x.owner) (work.Notice x.id) refl)
+    (filter-plain (λ (w : Work). still_due c.processes c.objects c.references c.deaths w.kind) z.todo h)
 
 -- ---- every step
 

@@ -43,7 +43,7 @@ use Rattle.bd_space.specs.Steps.{change, counted, by_actor, with_process, with_m
 use Rattle.bd_space.specs.Histories.{after}
 use Rattle.bd_laws.specs.Lists.{In}
 use Rattle.bd_laws.proofs.EveryStep.{KeepsWhole, whole, every_whole_step}
-use Rattle.bd_laws.proofs.Lists.{in-last, in-push, in-filter, filter-in, changed-in, find-in, any-found, any-in}
+use Rattle.bd_laws.proofs.Lists.{in-last, in-push, in-filter, filter-in, changed-in, find-in, any-found, any-in, by-last}
 use Rattle.bd_laws.proofs.Tests.{both, and-both, not-false}
 use Rattle.bd_laws.proofs.Checks.{transaction-checked}
 use Rattle.bd_laws.proofs.Ripening.{read-in}
@@ -472,9 +472,5 @@ module _ (es : List Entry) (e : Entry) (h : Answered es (after opening es)) wher
         inl (subst (λ n. StandsIn (change s e.seat e.step).space n) (always-steps es ∙ sym at) (step-calls m calls)))
   ])
 
-from-here : (rest before : List Entry) → Answered before (after opening before) → Answered (before ++ rest) (after opening (before ++ rest))
-from-here [] before h = subst (λ es. Answered es (after opening es)) (sym (append-nil before)) h
-from-here (e ∷ rest) before h = subst (λ es. Answered es (after opening es)) (append_assoc before (e ∷ []) rest) (from-here rest (before ++ e ∷ []) (step-answered before e h))
-
 pub always-answered : (es : List Entry) → Answered es (after opening es)
-always-answered es = from-here es [] (λ j m t c i. let lt = at-below [] j (λ z e. Calls z e m) c in absurd (omega arith))
+always-answered es = by-last (λ es. Answered es (after opening es)) step-answered (λ j m t c i. let lt = at-below [] j (λ z e. Calls z e m) c in absurd (omega arith)) es

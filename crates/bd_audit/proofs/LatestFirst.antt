@@ -39,12 +39,11 @@ use Rattle.bd_laws.specs.Lists.{In}
 use Rattle.bd_laws.specs.Frames.{NoChild, Nested, OnPaths}
 use Rattle.bd_laws.proofs.EveryStep.{KeepsWhole, every_whole_step}
 use Rattle.bd_laws.proofs.Lists.{in-left, in-push, in-filter, filter-in, in-map, map-in, in-changed, changed-in, any-in, any-found, find-in, all-in}
-use Rattle.bd_laws.proofs.Tests.{both, not-false}
+use Rattle.bd_laws.proofs.Tests.{both, not-false, call-kind}
 use Rattle.bd_laws.proofs.Ripening.{read-in}
 use Rattle.bd_laws.proofs.Forests.{one-frame}
 use Rattle.bd_laws.proofs.Innermost.{differ, true-calls}
 use Rattle.bd_laws.proofs.Paths.{abandoned-childless, served-childless}
-use Rattle.bd_laws.proofs.PathReadings.{kind-called}
 use Rattle.bd_laws.proofs.Always.{always-on_paths}
 use Rattle.bd_laws.proofs.Deaths.{tell_deaths-aside, on-mapped, on-commands, on_deaths-aside}
 use Rattle.bd_audit.specs.Replies.{made_in, thread_made, At}
@@ -53,7 +52,7 @@ use Rattle.bd_audit.specs.Ending.{EndsCall}
 use Rattle.bd_laws.proofs.Paths as path
 use Rattle.bd_laws.proofs.PathCalls as path_call
 use Rattle.bd_audit.proofs.Seated as seated
-use Rattle.bd_audit.proofs.Seated.{made-before, none-left}
+use Rattle.bd_audit.proofs.Seated.{made-before, other-left}
 
 -- a frame made there, with the same parent, is among these
 abbrev Stays : Frame → List Frame → Type 0
@@ -225,7 +224,7 @@ module _ (s : Space) (h : OnPaths s.steps s) (top child : Frame) (here : In top 
     uncalled : (x : Frame) → In x s.frames → x.server ≡ Serving t → (b : Bool) → called-in x ≡ b → called-in x ≡ false
     uncalled x l e true k =
         let w = any-found (λ (v : Work). is_call x.made v.kind) (taken s left (list_to_read s u)) k in
-        absurd (h.1.unserved w.0 x t (read-in s u left w.0 w.1) (kind-called x.made w.0.kind w.2) l e)
+        absurd (h.1.unserved w.0 x t (read-in s u left w.0 w.1) (call-kind x.made w.0.kind w.2) l e)
     uncalled x l e false k = k
 
     reads : While (read_by s u.seat (taken s left (list_to_read s u)))
@@ -250,15 +249,8 @@ module _ (s : Space) (h : OnPaths s.steps s) (top child : Frame) (here : In top 
             let x = in-map (frame_without z.todo seat) g z.frames l in
             let before = k.server x.0 x.1 (ap (λ (y : Frame). y.made) x.2 ∙ e) in
             sym (ap (λ (y : Frame). y.server) x.2) ∙ ap (λ v. gone_server seat (unread_server z.todo (OfThread seat) x.0.made v)) before
-            ∙ ap (λ b. cond b Gone (Serving t)) (at (t == seat) refl);
+            ∙ ap (λ b. cond b Gone (Serving t)) (other-left z.threads seat t m i);
       }
-    where
-      at : (b : Bool) → (t == seat) ≡ b → (t == seat) ≡ false
-      at true e =
-          let none = none-left z.threads seat in
-          let some = subst (λ n. made_in (filter (λ (v : Thread). not (v.seat == seat)) z.threads) n ≡ Some m) (eqb-true t seat e) i in
-          absurd (cc)
-      at false e = e
 
   all-go : (seats : List ℕ) (z : Space) → While z → While (fold thread_goes z seats)
   all-go [] z w = w

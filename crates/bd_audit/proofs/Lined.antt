@@ -45,7 +45,9 @@ use Rattle.bd_laws.specs.Lists.{In, Pairs}
 use Rattle.bd_laws.proofs.Deaths.{on-commands}
 use Rattle.bd_laws.proofs.EveryStep.{Keeps, every_step, every_list}
 use Rattle.bd_laws.proofs.Lists.{in-push, in-filter, pairs-push, pairs-filter, fold-keeps}
-use Rattle.bd_audit.proofs.RepliesDue.{count_at, count-work, count-filter, Lasts, wanted-due, wanted-push, items-fresh}
+use Rattle.bd_laws.proofs.Identities.{count_at, count-filter, count-work}
+use Rattle.bd_laws.proofs.Adding.{notify-keeps, ripen-keeps}
+use Rattle.bd_audit.proofs.RepliesDue.{Lasts, wanted-due, wanted-push, items-fresh}
 
 -- no later item was made before
 abbrev pub NotLater : Work → Work → Type 0
@@ -292,25 +294,15 @@ ends-plain z p h = tell_deaths-plain (without_process (threads_go z p) p) p (wit
 -- ---- what follows
 
 -- one-way calls that become due are items of this step on processes' lists, and stay
-ripens-one : (z : Space) (b : Bool) (todo : List Work) (p m : ℕ) → (let y = record z { todo = todo } in Stands y)
-    → (let y = record z { todo = cond b (with_work z.steps todo (OfProcess p) (work.Call m)) todo } in Stands y)
-ripens-one z true todo p m h = (
-  push-line z.steps todo (OfProcess p) (work.Call m) h.0,
-  elim h.1 [
-    | inl bare ↦ inl (push-bare z.steps todo p (work.Call m) bare)
-    | inr lasts ↦ inr (wanted-push z.steps z.processes z.objects z.references todo (OfProcess p) (work.Call m) (inr (refl, refl)) lasts)
-  ],
-)
-ripens-one z false todo p m h = h
-
-ripened-stands : (z : Space) (ts older : List Turn) (todo : List Work) → (let y = record z { todo = todo } in Stands y)
-    → (let y = record z { todo = ripened z.steps older todo ts } in Stands y)
-ripened-stands z [] older todo h = h
-ripened-stands z (t ∷ ts) older todo h = ripened-stands z ts (older ++ t ∷ []) _ (ripens-one z (is_ripe todo older t) todo t.receiver t.made h)
-
 ripen-stands : (z : Space) → Stands z → Stands (ripen z)
 unfolding ripen
-ripen-stands z h = ripened-stands z (turns_of z.buffers) [] z.todo h
+ripen-stands z = ripen-keeps (λ todo. let y = record z { todo = todo } in Stands y) z (λ todo t h. (
+  push-line z.steps todo (OfProcess t.receiver) (work.Call t.made) h.0,
+  elim h.1 [
+    | inl bare ↦ inl (push-bare z.steps todo t.receiver (work.Call t.made) bare)
+    | inr lasts ↦ inr (wanted-push z.steps z.processes z.objects z.references todo (OfProcess t.receiver) (work.Call t.made) (inr (refl, refl)) lasts)
+  ],
+))
 
 follow-line : (z : Space) → Stands z → InLine (follow z)
 unfolding follow notify work_goes deaths_go objects_go names_go
@@ -320,8 +312,7 @@ follow-line z h =
       | inl bare ↦ inl bare
       | inr lasts ↦ inr (λ w l at. wanted-due z.processes z.objects z.references c.deaths w.kind (lasts w l at))
     ]) h.0 in
-    fold-keeps (Line z.steps) (λ todo (x : Object). with_notice z.steps z.processes z.references (OfProcess x.owner) todo x) c.objects
-    (λ todo x l g. push-if z.steps _ todo (OfProcess x.owner) (work.Notice x.id) g) (work_goes c).todo goes
+    notify-keeps (Line z.steps) (work_goes c) (λ todo x l due. push-line z.steps todo (OfProcess x.owner) (work.Notice x.id)) goes
 
 closed-line : (z : Space) (made : ℕ) → InLine z → InLine (closed z made)
 unfolding closed

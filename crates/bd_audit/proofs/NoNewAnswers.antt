@@ -15,7 +15,7 @@ use Rattle.bd_space.specs.declared.space.TodoList.TheVariants.{OfThread, OfProce
 use Rattle.bd_space.specs.declared.space.WorkKind.{WorkKind}
 use Rattle.bd_space.specs.declared.space.WorkKind.TheVariants as work
 use Rattle.bd_space.specs.Space.{Space}
-use Rattle.bd_space.specs.Todo.{with_work, owe, is_on, is_item}
+use Rattle.bd_space.specs.Todo.{with_work, owe, is_on, is_item, is_notice}
 use Rattle.bd_space.specs.Turns.{turns_of, ripen, ripened, is_ripe}
 use Rattle.bd_space.specs.Notices.{with_notice, follow, notify, work_goes, deaths_go, still_due}
 use Rattle.bd_space.specs.Names.{names_go, assign_numbers}
@@ -30,6 +30,7 @@ use Rattle.bd_space.specs.ProcessExits.{threads_go, without_process, tell_deaths
 use Rattle.bd_laws.specs.Lists.{In}
 use Rattle.bd_laws.proofs.Lists.{in-push, in-filter}
 use Rattle.bd_laws.proofs.Deaths.{OnDeaths, KeptOnDeaths, on-kept, on-told}
+use Rattle.bd_laws.proofs.Adding.{notify-keeps, own_notices-keeps, ripen-keeps}
 use Rattle.bd_audit.specs.Latest.{is_answer}
 
 -- no reply or verdict comes
@@ -48,16 +49,11 @@ none-push todo w apart v a l = elim (in-push v w todo l) [
   | inr is ↦ (let k : is_answer v.kind ≡ false = ap (λ (x : Work). is_answer x.kind) (sym is) ∙ apart in absurd (cc))
 ]
 
-none-if : (place : ℕ) (b : Bool) (todo : List Work) (list : TodoList) (kind : WorkKind) → is_answer kind ≡ false → NoneNew (cond b (with_work place todo list kind) todo) todo
-none-if place true todo list kind apart = none-push todo _ apart
-none-if place false todo list kind apart = none-same todo
-
 none-filter : (p : Work → Bool) (todo : List Work) → NoneNew (filter p todo) todo
 none-filter p todo w a l = (in-filter p w todo l).0
 
-none-fold : {A : Type 0} (f : List Work → A → List Work) → ((todo : List Work) (x : A) → NoneNew (f todo x) todo) → (xs : List A) (todo : List Work) → NoneNew (fold f todo xs) todo
-none-fold f k [] todo w a l = l
-none-fold f k (x ∷ xs) todo w a l = k todo x w a (none-fold f k xs (f todo x) w a l)
+none-work : (place : ℕ) (all todo : List Work) (list : TodoList) (kind : WorkKind) → is_answer kind ≡ false → NoneNew todo all → NoneNew (with_work place todo list kind) all
+none-work place all todo list kind apart = none-trans _ todo all (none-push todo _ apart)
 
 pub none-owe : (z : Space) (list : TodoList) (kind : WorkKind) → is_answer kind ≡ false → NoneNew (owe z list kind).todo z.todo
 unfolding owe
@@ -69,40 +65,18 @@ pub none-follow : (z : Space) → NoneNew (follow z).todo z.todo
 unfolding follow notify work_goes deaths_go objects_go names_go
 none-follow z =
     let c = deaths_go (objects_go (names_go z)) in
-    none-trans _ (work_goes c).todo z.todo
-    (none-fold (λ todo (x : Object). with_notice z.steps z.processes z.references (OfProcess x.owner) todo x)
-    (λ todo x. none-if z.steps _ todo (OfProcess x.owner) (work.Notice x.id) refl) c.objects (work_goes c).todo)
+    notify-keeps (λ todo. NoneNew todo z.todo) (work_goes c) (λ todo x l due. none-work z.steps z.todo todo (OfProcess x.owner) (work.Notice x.id) refl)
     (none-filter (λ w. still_due c.processes c.objects c.references c.deaths w.kind) z.todo)
 
-ripened-none : (place : ℕ) (ts older : List Turn) (todo : List Work) → NoneNew (ripened place older todo ts) todo
-ripened-none place [] older todo w a l = l
-ripened-none place (t ∷ ts) older todo w a l =
-    none-if place (is_ripe todo older t) todo (OfProcess t.receiver) (work.Call t.made) refl w a
-    (ripened-none place ts (older ++ t ∷ []) (cond (is_ripe todo older t) (with_work place todo (OfProcess t.receiver) (work.Call t.made)) todo) w a l)
-
 pub none-ripen : (z : Space) → NoneNew (ripen z).todo z.todo
-unfolding ripen
-none-ripen z = ripened-none z.steps (turns_of z.buffers) [] z.todo
+none-ripen z = ripen-keeps (λ todo. NoneNew todo z.todo) z (λ todo t. none-work z.steps z.todo todo (OfProcess t.receiver) (work.Call t.made) refl) (none-same z.todo)
 
 -- ---- deliveries
 
-withdrawn : (b : Bool) (p : Work → Bool) (todo : List Work) → NoneNew (cond b (filter p todo) todo) todo
-withdrawn true p todo = none-filter p todo
-withdrawn false p todo = none-same todo
-
-added : (place : ℕ) (processes : List Process) (references : List Reference) (list : TodoList) (todo : List Work) (own : Bool) (o : Option Object)
-    → NoneNew (cond own (elim o as (λ (x : Option Object). List Work) [ None ↦ todo | Some x ↦ with_notice place processes references list todo x ]) todo) todo
-added place processes references list todo false o = none-same todo
-added place processes references list todo true None = none-same todo
-added place processes references list todo true (Some x) = none-if place _ todo list (work.Notice x.id) refl
-
 noticed-none : (z : Space) (seat : ℕ) (items : List Item) → NoneNew (own_notices z seat items).todo z.todo
-unfolding own_notices
 noticed-none z seat items =
-    none-trans _ (fold (withdraw_notice z.objects) z.todo items) z.todo
-    (none-fold (add_notice z seat) (λ todo x. added z.steps z.processes z.references (OfThread seat) todo (is_own x.flat.kind) (object_in z.objects x.object)) items
-    (fold (withdraw_notice z.objects) z.todo items))
-    (none-fold (withdraw_notice z.objects) (λ todo x. withdrawn _ _ todo) items z.todo)
+    own_notices-keeps (λ todo. NoneNew todo z.todo) z seat items (λ todo o. none-trans _ todo z.todo (none-filter (λ (w : Work). not (is_notice o w.kind)) todo))
+    (λ todo x due. none-work z.steps z.todo todo (OfThread seat) (work.Notice x.id) refl) (none-same z.todo)
 
 delivered-none : (s : Space) (a : Actor) (d : TransactionData) (v : Delivery) → NoneNew (delivered s a d v).todo s.todo
 unfolding delivered add_buffer known_by assign_numbers refer make_objects

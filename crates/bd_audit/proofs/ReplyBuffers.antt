@@ -77,14 +77,8 @@ abbrev pub RepliesHeld : Space → Type 0
 RepliesHeld z = Held z.threads z.buffers z.todo
 
 pub reply-hands : (k : WorkKind) (b : ℕ) → reply_of k ≡ Some b → hands_out k ≡ Some b
-reply-hands (work.Notice o) b e = absurd (cc)
-reply-hands work.Complete b e = absurd (cc)
-reply-hands (work.Refusal r) b e = absurd (cc)
-reply-hands (work.Call c) b e = absurd (cc)
 reply-hands (work.Reply c) b e = e
-reply-hands (work.Verdict r) b e = absurd (cc)
-reply-hands (work.Death n) b e = absurd (cc)
-reply-hands (work.Cleared n) b e = absurd (cc)
+reply-hands _ b e = absurd (cc)
 
 has-moved : (ts us : List Thread) (bs cs : List Buffer) (list : TodoList) (b : ℕ) → (x : HasBuffer ts bs list b) → In x.buffer cs → In x.thread us → HasBuffer us cs list b
 has-moved ts us bs cs list b x here lives = record {

@@ -30,13 +30,8 @@ unfolding reply_taken
 unread s e never = at e.step refl
   where
     at : (x : Step) → e.step ≡ x → None ≡ first_reply_in (items_taken s e.seat x)
-    at (Open pid euid window) k = refl
-    at (Attach pid) k = refl
-    at SetManager k = refl
-    at (Command c parcel) k = refl
     at (Read limit) k = absurd (never limit k)
-    at ExitThread k = refl
-    at ExitProcess k = refl
+    at _ k = refl
 
 same-option : (a b : Option ℕ) → option_eq (λ x y. x == y) a b ≡ true → a ≡ b
 same-option None None h = refl

@@ -218,13 +218,8 @@ unfolding reply_taken
 is-reading s e r h = at e.step refl h
   where
     at : (x : Step) → e.step ≡ x → first_reply_in (items_taken s e.seat x) ≡ Some r → (limit : ℕ) × (e.step ≡ Read limit)
-    at (Open pid euid window) k h = absurd (cc)
-    at (Attach pid) k h = absurd (cc)
-    at SetManager k h = absurd (cc)
-    at (Command c parcel) k h = absurd (cc)
     at (Read limit) k h = (limit, k)
-    at ExitThread k h = absurd (cc)
-    at ExitProcess k h = absurd (cc)
+    at _ k h = absurd (cc)
 
 -- the item that a reading takes stood on its thread's list, and has gone
 pub record Took (s : Space) (e : Entry) (r : ℕ) : Type 0 where

@@ -34,6 +34,7 @@ use Rattle.bd_space.specs.Commands.{with_looping}
 use Rattle.bd_space.specs.Histories.{after}
 use Rattle.bd_laws.proofs.EveryStep.{Keeps, every_step}
 use Rattle.bd_laws.proofs.Deaths.{tell_deaths-aside, on-mapped, on_deaths-aside, on-commands}
+use Rattle.bd_laws.proofs.Lists.{by-last}
 use Rattle.bd_audit.specs.Replies.{made_in, thread_made}
 use Rattle.bd_audit.proofs.Beginnings.{after-append}
 use Rattle.bd_audit.proofs.Chains.{always-steps}
@@ -78,6 +79,17 @@ none-left (x ∷ ts) gone = at (x.seat == gone) refl (none-left ts gone)
         → made_in (cond (not b) (x ∷ filter (λ (v : Thread). not (v.seat == gone)) ts) (filter (λ (v : Thread). not (v.seat == gone)) ts)) gone ≡ None
     at true e k = k
     at false e k = ap (λ c. option_map (λ (v : Thread). v.made) (cond c (Some x) (thread_in (filter (λ (v : Thread). not (v.seat == gone)) ts) gone))) e ∙ k
+
+-- who is left sits elsewhere
+pub other-left : (ts : List Thread) (gone t m : ℕ) → made_in (filter (λ (v : Thread). not (v.seat == gone)) ts) t ≡ Some m → (t == gone) ≡ false
+other-left ts gone t m i = at (t == gone) refl
+  where
+    at : (b : Bool) → (t == gone) ≡ b → (t == gone) ≡ false
+    at true e =
+        let none = none-left ts gone in
+        let some = subst (λ n. made_in (filter (λ (v : Thread). not (v.seat == gone)) ts) n ≡ Some m) (eqb-true t gone e) i in
+        absurd (cc)
+    at false e = e
 
 pub made-before : (ts : List Thread) (gone t m : ℕ) → made_in (filter (λ (v : Thread). not (v.seat == gone)) ts) t ≡ Some m → made_in ts t ≡ Some m
 made-before ts gone t m h = at (t == gone) refl
@@ -191,9 +203,5 @@ module _ (es : List Entry) (e : Entry) (h : Seated es (after opening es)) where
   unfolding counted
   step-seated = subst (Seated more) (sym (after-append opening es (e ∷ []))) (every_step s e.seat e.step (Seated more) (Seated more) kept)
 
-from-here : (rest before : List Entry) → Seated before (after opening before) → Seated (before ++ rest) (after opening (before ++ rest))
-from-here [] before h = subst (λ es. Seated es (after opening es)) (sym (append-nil before)) h
-from-here (e ∷ rest) before h = subst (λ es. Seated es (after opening es)) (append_assoc before (e ∷ []) rest) (from-here rest (before ++ e ∷ []) (step-seated before e h))
-
 pub always-seated : (es : List Entry) → Seated es (after opening es)
-always-seated es = from-here es [] (λ t m k. absurd (cc))
+always-seated es = by-last (λ es. Seated es (after opening es)) step-seated (λ t m k. absurd (cc)) es

@@ -36,7 +36,7 @@ use Rattle.bd_space.specs.Histories.{after}
 use Rattle.bd_laws.specs.Lists.{In}
 use Rattle.bd_laws.specs.Frames.{OnPaths}
 use Rattle.bd_laws.proofs.EveryStep.{KeepsWhole, whole, every_whole_step}
-use Rattle.bd_laws.proofs.Lists.{in-push, in-filter, in-changed, find-in}
+use Rattle.bd_laws.proofs.Lists.{in-push, in-filter, in-changed, find-in, by-last}
 use Rattle.bd_laws.proofs.Tests.{both}
 use Rattle.bd_laws.proofs.PathWords.{served-is}
 use Rattle.bd_laws.proofs.Always.{always-on_paths}
@@ -335,9 +335,5 @@ module _ (es : List Entry) (e : Entry) (h : Single (after opening es).todo) wher
   unfolding counted
   step-single = subst (λ (z : Space). Single z.todo) (sym (after-append opening es (e ∷ []))) (every_whole_step s e.seat e.step All All kept).2.single
 
-from-here : (rest before : List Entry) → Single (after opening before).todo → Single (after opening (before ++ rest)).todo
-from-here [] before h = subst (λ es. Single (after opening es).todo) (sym (append-nil before)) h
-from-here (e ∷ rest) before h = subst (λ es. Single (after opening es).todo) (append_assoc before (e ∷ []) rest) (from-here rest (before ++ e ∷ []) (step-single before e h))
-
 pub always-single : (es : List Entry) → Single (after opening es).todo
-always-single es = from-here es [] (λ v w t i j on off a b p. absurd i)
+always-single es = by-last (λ es. Single (after opening es).todo) step-single (λ v w t i j on off a b p. absurd i) es

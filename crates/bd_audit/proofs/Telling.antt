@@ -115,31 +115,21 @@ shaking-parts o b r h =
 
 handshake-own : (h : Holder) → is_handshake h ≡ true → is_of_owner h ≡ true
 handshake-own Handshake e = refl
-handshake-own Manager e = absurd (cc)
-handshake-own (Asked q) e = absurd (cc)
-handshake-own (Carried b q) e = absurd (cc)
-handshake-own (Target b q) e = absurd (cc)
+handshake-own _ e = absurd (cc)
+
+own-holder : (h : Holder) (P : Holder → Type 0) → is_of_owner h ≡ true → P Handshake → P Manager → P h
+own-holder Handshake P e a b = a
+own-holder Manager P e a b = b
+own-holder _ P e a b = absurd (cc)
 
 own-unasked : (h : Holder) (p : ℕ) → is_of_owner h ≡ true → is_asked_by p h ≡ false
-own-unasked Handshake p e = refl
-own-unasked Manager p e = refl
-own-unasked (Asked q) p e = absurd (cc)
-own-unasked (Carried b q) p e = absurd (cc)
-own-unasked (Target b q) p e = absurd (cc)
+own-unasked h p e = own-holder h (λ k. is_asked_by p k ≡ false) e refl refl
 
 own-window : (h : Holder) (p : ℕ) → is_of_owner h ≡ true → is_in_window p h ≡ false
-own-window Handshake p e = refl
-own-window Manager p e = refl
-own-window (Asked q) p e = absurd (cc)
-own-window (Carried b q) p e = absurd (cc)
-own-window (Target b q) p e = absurd (cc)
+own-window h p e = own-holder h (λ k. is_in_window p k ≡ false) e refl refl
 
 own-buffer : (h : Holder) → is_of_owner h ≡ true → buffer_of_holder h ≡ None
-own-buffer Handshake e = refl
-own-buffer Manager e = refl
-own-buffer (Asked q) e = absurd (cc)
-own-buffer (Carried b q) e = absurd (cc)
-own-buffer (Target b q) e = absurd (cc)
+own-buffer h e = own-holder h (λ k. buffer_of_holder k ≡ None) e refl refl
 
 -- the owner's own references on the object are the same
 pub record Same (o : ObjectId) (more references : List Reference) : Type 0 where
