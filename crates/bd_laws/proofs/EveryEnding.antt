@@ -33,7 +33,7 @@ use Rattle.bd_space.specs.Replies.{reply_step, reply_to, reply_outcome, reply_ch
 use Rattle.bd_space.specs.Freeing.{free_step, free_outcome, buffer_at_pointer, without_buffer}
 use Rattle.bd_space.specs.Asking.{ask_step, ask_check, ask, drop_step, drop_asked, done_step, acknowledge}
 use Rattle.bd_space.specs.Deaths.{request_step, request_check, requested}
-use Rattle.bd_space.specs.Clearing.{told_death, cleared, death_done, clear_step, death_done_step, death_done_outcome}
+use Rattle.bd_space.specs.Clearing.{told_death, cleared, clear_step, death_done_step, death_done_outcome}
 use Rattle.bd_space.specs.Commands.{command_step, with_looping}
 use Rattle.bd_space.specs.Notices.{follow}
 use Rattle.bd_space.specs.Reading.{read_step, read_taking, read_fault}

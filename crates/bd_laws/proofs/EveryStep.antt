@@ -1,52 +1,30 @@
 -- What holds after every step, from what its parts keep.
-use Rattle.std.proofs.Common.{◌≡◌, ℕ, zero, suc, ◌-◌, Bool, true, false, cond, List, [], ◌∷◌, Option, Some, None, Result, Ok, Err, refl, length}
+use Rattle.std.proofs.Common.{◌≡◌, ℕ, List, [], ◌∷◌, Option, Some, None}
 use Rattle.std.specs.List.{find}
-use Rattle.std.specs.Option.{is_some}
-use Rattle.bd_uapi.specs.declared.command.Command as command
 use Rattle.bd_uapi.specs.declared.command.Command.TheVariants as bc
 use Rattle.bd_uapi.specs.declared.command.TransactionData.{TransactionData}
 use Rattle.bd_uapi.specs.declared.command.Return.{Return}
 use Rattle.bd_uapi.specs.declared.command.Return.TheVariants.{DeadReply, FailedReply, TransactionComplete}
-use Rattle.bd_uapi.specs.declared.fault.Fault.{Fault}
-use Rattle.bd_uapi.specs.declared.fault.Note.{Note}
 use Rattle.bd_uapi.specs.declared.fault.Cause.{Cause}
-use Rattle.bd_uapi.specs.declared.fault.Cause.TheVariants.{NoCall}
-use Rattle.bd_space.specs.declared.step.ObjectId.{ObjectId}
 use Rattle.bd_space.specs.declared.step.Parcel.{Parcel}
 use Rattle.bd_space.specs.declared.step.Step.{Step}
-use Rattle.bd_space.specs.declared.step.Step.TheVariants.{Open, Attach, SetManager, Command, Read, ExitThread, ExitProcess}
+use Rattle.bd_space.specs.declared.step.Step.TheVariants.{Command}
 use Rattle.bd_space.specs.declared.step.Entry.{Entry}
-use Rattle.bd_space.specs.declared.space.Process.{Process}
-use Rattle.bd_space.specs.declared.space.Object.{Object}
 use Rattle.bd_space.specs.declared.space.Frame.{Frame}
-use Rattle.bd_space.specs.declared.space.Buffer.{Buffer}
-use Rattle.bd_space.specs.declared.space.DeathNotification.{DeathNotification}
 use Rattle.bd_space.specs.declared.space.Actor.{Actor}
 use Rattle.bd_space.specs.declared.space.TodoList.TheVariants.{OfThread}
 use Rattle.bd_space.specs.declared.space.WorkKind.TheVariants as work
 use Rattle.bd_space.specs.Space.{Space}
-use Rattle.bd_space.specs.Seats.{actor, thread_in, process_with_pid}
+use Rattle.bd_space.specs.Seats.{actor}
 use Rattle.bd_space.specs.Frames.{served_innermost, closed}
-use Rattle.bd_space.specs.Todo.{owe, tell_caller, list_to_read}
-use Rattle.bd_space.specs.Settle.{settle, settle_one, settle_times, is_abandoned}
-use Rattle.bd_space.specs.Delivery.{Delivery}
-use Rattle.bd_space.specs.Transactions.{transaction_step, transaction_outcome, transaction_check, transacted, refusal}
-use Rattle.bd_space.specs.Replies.{reply_step, reply_to, reply_outcome, reply_check, replied, reply_refused}
-use Rattle.bd_space.specs.Freeing.{free_step, free_outcome, buffer_at_pointer, without_buffer}
-use Rattle.bd_space.specs.Asking.{ask_step, ask_check, ask, drop_step, drop_asked, done_step, acknowledge}
-use Rattle.bd_space.specs.Deaths.{request_step, requested}
-use Rattle.bd_space.specs.Clearing.{clear_step, death_done_step, death_done_outcome, cleared}
-use Rattle.bd_space.specs.Commands.{command_step, with_looping}
+use Rattle.bd_space.specs.Todo.{owe, tell_caller}
+use Rattle.bd_space.specs.Settle.{settle, is_abandoned}
+use Rattle.bd_space.specs.Transactions.{refusal}
+use Rattle.bd_space.specs.Replies.{reply_refused}
 use Rattle.bd_space.specs.Notices.{follow}
 use Rattle.bd_space.specs.Turns.{ripen}
-use Rattle.bd_space.specs.Reading.{read_step, read_taking, read_fault}
-use Rattle.bd_space.specs.ReadItems.{read_by, taken}
-use Rattle.bd_space.specs.ThreadExits.{thread_goes, exit_thread_step}
-use Rattle.bd_space.specs.ProcessExits.{threads_go, without_process, tell_deaths, exit_process_step}
-use Rattle.bd_space.specs.declared.step.StepAnswer.TheVariants.{Accepted, Noted}
-use Rattle.bd_uapi.specs.declared.fault.Note.TheVariants.{NotHandedOut}
-use Rattle.bd_space.specs.Outcomes.{Outcome, completed, refused, by_check}
-use Rattle.bd_space.specs.Steps.{change, open_step, open_outcome, open_fault, attach_step, attach_outcome, manager_step, manager_outcome, is_manager_busy, by_actor, with_thread, with_process, with_manager}
+use Rattle.bd_space.specs.Outcomes.{completed}
+use Rattle.bd_space.specs.Steps.{change}
 use Rattle.bd_space.specs.Histories.{after, next}
 use Rattle.bd_laws.proofs.Adding.{told-keeps}
 use Rattle.bd_laws.proofs.EveryEnding.{SetUp, Changes, Endings, every_ending_step}

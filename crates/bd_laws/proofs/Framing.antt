@@ -1,8 +1,7 @@
 -- Each frame has a place of its own.
-use Rattle.std.proofs.Common.{◌≡◌, ℕ, zero, suc, ◌==◌, Bool, true, false, cond, not, List, [], ◌∷◌, Option, Some, None, inl, inr, refl, ap, sym, subst, ◌∙◌, filter, find, map, length, arith}
+use Rattle.std.proofs.Common.{◌≡◌, ℕ, suc, Bool, true, false, cond, not, List, [], ◌∷◌, inl, inr, refl, ap, sym, subst, ◌∙◌, filter, map, arith}
 use Rattle.std.specs.List.{list_any}
 use Rattle.bd_uapi.specs.declared.command.TransactionData.{TransactionData}
-use Rattle.bd_uapi.specs.declared.command.Return.TheVariants.{DeadReply, FailedReply, TransactionComplete}
 use Rattle.bd_space.specs.declared.step.Step.{Step}
 use Rattle.bd_space.specs.declared.step.Entry.{Entry}
 use Rattle.bd_space.specs.declared.space.Frame.{Frame}
@@ -20,26 +19,25 @@ use Rattle.bd_space.specs.Frames.{closed, is_frame}
 use Rattle.bd_space.specs.Todo.{owe, is_call}
 use Rattle.bd_space.specs.Turns.{ripen}
 use Rattle.bd_space.specs.Notices.{deaths_go, work_goes, notify, follow}
-use Rattle.bd_space.specs.Settle.{settle, settle_one, settle_times, is_abandoned}
-use Rattle.bd_space.specs.Outcomes.{completed}
 use Rattle.bd_space.specs.Delivery.{Delivery, delivered, own_notices, add_buffer, known_by, refer, make_objects}
-use Rattle.bd_space.specs.Transactions.{transacted, called, call_out, refusal}
-use Rattle.bd_space.specs.Replies.{replied, reply_refused}
+use Rattle.bd_space.specs.Transactions.{transacted, called, call_out}
+use Rattle.bd_space.specs.Replies.{replied}
 use Rattle.bd_space.specs.Freeing.{without_buffer}
 use Rattle.bd_space.specs.Asking.{ask, drop_asked, acknowledge}
 use Rattle.bd_space.specs.Commands.{with_looping}
 use Rattle.bd_space.specs.ReadItems.{read_by, serve}
 use Rattle.bd_space.specs.ThreadExits.{thread_goes, frame_without, unread_frame}
-use Rattle.bd_space.specs.ProcessExits.{threads_go, without_process, seat_of}
+use Rattle.bd_space.specs.ProcessExits.{threads_go, without_process}
 use Rattle.bd_space.specs.Steps.{change, counted, with_thread, with_process, with_manager}
 use Rattle.bd_space.specs.Histories.{next}
 use Rattle.bd_laws.specs.Lists.{Pairs}
 use Rattle.bd_laws.specs.Frames.{OtherFrame, Framed, IsFramed}
-use Rattle.bd_laws.proofs.Lists.{in-push, in-filter, in-map, in-changed, pairs-push, pairs-filter, pairs-either, pairs-changed, fold-keeps}
+use Rattle.bd_laws.proofs.Lists.{in-push, in-filter, in-map, in-changed, pairs-push, pairs-filter, pairs-either, pairs-changed}
 use Rattle.bd_laws.proofs.Deaths.{KeptOnDeaths, on-kept, on-told, on-commands}
 use Rattle.bd_laws.proofs.Adding.{told-keeps}
 use Rattle.bd_laws.proofs.EveryStep.{Keeps, every_step}
 use Rattle.bd_laws.proofs.Abandoned.{OneEach}
+use Rattle.bd_laws.proofs.Following.{threads-keep}
 
 pairs-mapped : (f : Frame → Frame) → ((x : Frame) → (f x).made ≡ x.made) → (fs : List Frame) → Pairs OtherFrame fs → Pairs OtherFrame (map f fs)
 pairs-mapped f k [] h = tt
@@ -120,8 +118,7 @@ unfolding thread_goes
 left-g n z seat h = mapped n (frame_without z.todo seat) (λ f. refl) z.frames h
 
 threads-g : (n : ℕ) (z : Space) (p : ℕ) → G n z → G n (threads_go z p)
-unfolding threads_go
-threads-g n z p h = fold-keeps (G n) thread_goes (map seat_of (filter (λ t. t.process == p) z.threads)) (λ y t l k. left-g n y t k) z h
+threads-g n = threads-keep (G n) (left-g n)
 
 without-g : (n : ℕ) (z : Space) (p : ℕ) → G n z → G n (without_process z p)
 unfolding without_process

@@ -1,10 +1,9 @@
 -- A buffer that an item on a thread's list hands over is its process's.
-use Rattle.std.proofs.Common.{◌≡◌, ℕ, zero, suc, ◌+◌, ◌≤◌, ◌==◌, Bool, true, false, cond, not, List, [], ◌∷◌, ◌++◌, Option, Some, None, Ok, ◌⊎◌, inl, inr, refl, ap, sym, subst, ◌∙◌, filter, find, map, length, reverse, arith}
-use Rattle.std.specs.List.{list_any, flat_map}
+use Rattle.std.proofs.Common.{◌≡◌, ℕ, suc, ◌+◌, ◌≤◌, ◌==◌, Bool, true, false, cond, not, List, [], ◌∷◌, ◌++◌, Option, Some, None, Ok, ◌⊎◌, inl, inr, refl, ap, sym, subst, ◌∙◌, find, reverse, arith}
+use Rattle.std.specs.List.{list_any}
 use Rattle.std.specs.Option.{option_and_then, option_map}
 use Rattle.std.proofs.lemmas.Bool.{eqb-true, eq-eqb}
 use Rattle.bd_uapi.specs.declared.command.TransactionData.{TransactionData}
-use Rattle.bd_uapi.specs.declared.command.Return.TheVariants.{DeadReply, FailedReply, TransactionComplete}
 use Rattle.bd_space.specs.declared.step.ObjectId.{ObjectId}
 use Rattle.bd_space.specs.declared.step.Parcel.{Parcel}
 use Rattle.bd_space.specs.declared.step.Step.{Step}
@@ -13,10 +12,9 @@ use Rattle.bd_space.specs.declared.space.Process.{Process}
 use Rattle.bd_space.specs.declared.space.Thread.{Thread}
 use Rattle.bd_space.specs.declared.space.Reference.{Reference}
 use Rattle.bd_space.specs.declared.space.Holder.{Holder}
-use Rattle.bd_space.specs.declared.space.Holder.TheVariants.{Carried, Handshake}
+use Rattle.bd_space.specs.declared.space.Holder.TheVariants.{Carried}
 use Rattle.bd_space.specs.declared.space.Item.{Item}
 use Rattle.bd_space.specs.declared.space.Frame.{Frame}
-use Rattle.bd_space.specs.declared.space.Turn.{Turn}
 use Rattle.bd_space.specs.declared.space.Actor.{Actor}
 use Rattle.bd_space.specs.declared.space.Work.{Work}
 use Rattle.bd_space.specs.declared.space.TodoList.{TodoList}
@@ -30,34 +28,32 @@ use Rattle.bd_space.specs.References.{objects_go, is_of_buffer, is_asking, is_sh
 use Rattle.bd_space.specs.Names.{names_go, assign_numbers}
 use Rattle.bd_space.specs.Frames.{closed, goes_to, waits_in, list_of_caller, ancestry, made_of, innermost_in}
 use Rattle.bd_space.specs.Todo.{with_work, owe, hands_out, is_on, same_list, is_item}
-use Rattle.bd_space.specs.Turns.{turns_of, is_ripe, ripened, ripen}
+use Rattle.bd_space.specs.Turns.{ripen}
 use Rattle.bd_space.specs.Notices.{deaths_go, work_goes, notify, follow}
-use Rattle.bd_space.specs.Settle.{settle, settle_one, settle_times, is_abandoned}
-use Rattle.bd_space.specs.Outcomes.{completed}
 use Rattle.bd_space.specs.Delivery.{Delivery, delivered, own_notices, add_buffer, known_by, refer, make_objects, buffer_of, buffer_references}
-use Rattle.bd_space.specs.Transactions.{transacted, called, call_out, refusal}
-use Rattle.bd_space.specs.Replies.{caller_of, reply_check, replied, reply_refused}
+use Rattle.bd_space.specs.Transactions.{transacted, called, call_out}
+use Rattle.bd_space.specs.Replies.{caller_of, reply_check, replied}
 use Rattle.bd_space.specs.Freeing.{without_buffer}
 use Rattle.bd_space.specs.Asking.{ask, drop_asked, acknowledge}
 use Rattle.bd_space.specs.Commands.{with_looping}
-use Rattle.bd_space.specs.ReadItems.{read_by, handshakes, handshakes_of, handshakes_for, shakes}
-use Rattle.bd_space.specs.Returns.{returns_of}
+use Rattle.bd_space.specs.ReadItems.{read_by, handshakes}
 use Rattle.bd_space.specs.ThreadExits.{thread_goes, is_lost_reference}
-use Rattle.bd_space.specs.ProcessExits.{threads_go, without_process, seat_of, is_dropped_with}
+use Rattle.bd_space.specs.ProcessExits.{threads_go, without_process, is_dropped_with}
 use Rattle.bd_space.specs.Steps.{change, counted, with_thread, with_process, with_manager}
 use Rattle.bd_space.specs.Histories.{next}
 use Rattle.bd_laws.specs.Lists.{In, Pairs}
 use Rattle.bd_laws.specs.OneWayCalls.{IsInTurn}
 use Rattle.bd_laws.specs.Items.{OtherSeat, Homed, AtHome}
-use Rattle.bd_laws.proofs.Lists.{in-append, in-push, in-left, in-filter, filter-in, in-without, changed-in, find-in, find-some, pairs-push, pairs-filter, pairs-changed, pairs-either, fold-keeps}
+use Rattle.bd_laws.proofs.Lists.{in-append, in-push, in-left, in-filter, filter-in, in-without, changed-in, find-in, find-some, pairs-push, pairs-filter, pairs-changed, pairs-either}
 use Rattle.bd_laws.proofs.Tests.{not-true}
 use Rattle.bd_laws.proofs.Checks.{actor-lives, reply-checked}
 use Rattle.bd_laws.proofs.OneWay as one_way
 use Rattle.bd_laws.proofs.OneWay.{with_work-less, own_notices-less}
 use Rattle.bd_laws.proofs.Deaths.{KeptOnDeaths, on-kept, on-told, on-commands}
-use Rattle.bd_laws.proofs.Adding.{told-keeps, ripen-keeps}
+use Rattle.bd_laws.proofs.Adding.{ripen-keeps}
 use Rattle.bd_laws.proofs.EveryStep.{Keeps, every_step}
 use Rattle.bd_laws.proofs.Handshakes.{is-handshake}
+use Rattle.bd_laws.proofs.Following.{threads-keep}
 
 abbrev H : ℕ → Space → Type 0
 H n z = Homed n z.threads z.references z.todo
@@ -291,8 +287,7 @@ left-h n z seat h = record {
     other l t u on off at false k = refl
 
 threads-h : (n : ℕ) (z : Space) (p : ℕ) → H n z → H n (threads_go z p)
-unfolding threads_go
-threads-h n z p h = fold-keeps (H n) thread_goes (map seat_of (filter (λ t. t.process == p) z.threads)) (λ y t l k. left-h n y t k) z h
+threads-h n = threads-keep (H n) (left-h n)
 
 without-h : (n : ℕ) (z : Space) (p : ℕ) → H n z → H n (without_process z p)
 unfolding without_process

@@ -1,16 +1,14 @@
 -- At most one Notice of an object is due, and only while its owner lives.
-use Rattle.std.proofs.Common.{◌≡◌, ℕ, Bool, true, false, cond, not, ◌&&◌, List, [], ◌∷◌, ◌++◌, Option, Some, None, inl, inr, refl, ap, sym, ◌∙◌, map, filter, ◌==◌, subst}
+use Rattle.std.proofs.Common.{◌≡◌, ℕ, Bool, true, false, not, List, ◌++◌, Option, Some, None, inl, inr, refl, ap, sym, ◌∙◌, ◌==◌, subst}
 use Rattle.std.specs.List.{list_any}
 use Rattle.bd_uapi.specs.declared.command.TransactionData.{TransactionData}
 use Rattle.bd_space.specs.declared.step.ObjectId.{ObjectId}
 use Rattle.bd_space.specs.declared.step.Step.{Step}
 use Rattle.bd_space.specs.declared.step.Entry.{Entry}
 use Rattle.bd_space.specs.declared.space.Process.{Process}
-use Rattle.bd_space.specs.declared.space.Thread.{Thread}
 use Rattle.bd_space.specs.declared.space.Object.{Object}
 use Rattle.bd_space.specs.declared.space.Reference.{Reference}
 use Rattle.bd_space.specs.declared.space.Frame.{Frame}
-use Rattle.bd_space.specs.declared.space.Turn.{Turn}
 use Rattle.bd_space.specs.declared.space.Actor.{Actor}
 use Rattle.bd_space.specs.declared.space.Item.{Item}
 use Rattle.bd_space.specs.declared.space.DeathNotification.{DeathNotification}
@@ -26,10 +24,9 @@ use Rattle.bd_space.specs.References.{object_in, objects_go}
 use Rattle.bd_space.specs.Names.{names_go, assign_numbers}
 use Rattle.bd_space.specs.Frames.{goes_to, closed}
 use Rattle.bd_space.specs.Todo.{with_work, owe, is_on, is_notice, notice_of, is_item}
-use Rattle.bd_space.specs.Turns.{ripen, ripened, is_ripe, turns_of}
-use Rattle.bd_space.specs.Notices.{with_notice, wants_notice, differs_in, has_notice_in, still_due, work_goes, deaths_go, notify, follow}
-use Rattle.bd_uapi.specs.Kinds.{is_own}
-use Rattle.bd_space.specs.Delivery.{Delivery, delivered, own_notices, add_buffer, known_by, refer, make_objects, buffer_of, add_notice, withdraw_notice}
+use Rattle.bd_space.specs.Turns.{ripen}
+use Rattle.bd_space.specs.Notices.{wants_notice, differs_in, has_notice_in, still_due, work_goes, deaths_go, notify, follow}
+use Rattle.bd_space.specs.Delivery.{Delivery, delivered, own_notices, add_buffer, known_by, refer, make_objects, buffer_of}
 use Rattle.bd_space.specs.Transactions.{transacted, called, call_out}
 use Rattle.bd_space.specs.Replies.{replied}
 use Rattle.bd_space.specs.Freeing.{without_buffer}
@@ -37,15 +34,16 @@ use Rattle.bd_space.specs.Asking.{ask, drop_asked, acknowledge}
 use Rattle.bd_space.specs.Commands.{with_looping}
 use Rattle.bd_space.specs.ReadItems.{read_by}
 use Rattle.bd_space.specs.ThreadExits.{thread_goes}
-use Rattle.bd_space.specs.ProcessExits.{threads_go, without_process, tell_deaths, seat_of}
+use Rattle.bd_space.specs.ProcessExits.{threads_go, without_process, tell_deaths}
 use Rattle.bd_space.specs.Steps.{change, counted, with_thread, with_process, with_manager}
 use Rattle.bd_space.specs.Histories.{next}
 use Rattle.bd_laws.specs.Lists.{In, Pairs}
-use Rattle.bd_laws.proofs.Lists.{in-left, in-push, in-filter, any-found, any-in, find-in, pairs-filter, pairs-push, fold-keeps}
-use Rattle.bd_laws.proofs.Tests.{both, not-true, same-eq, eq-same, notice-named}
+use Rattle.bd_laws.proofs.Lists.{in-left, in-push, in-filter, any-found, any-in, find-in, pairs-filter, pairs-push}
+use Rattle.bd_laws.proofs.Tests.{both, same-eq, eq-same, notice-named}
 use Rattle.bd_laws.proofs.EveryStep.{Keeps, every_step}
 use Rattle.bd_laws.proofs.Deaths.{KeptOnDeaths, on-kept, on-told, on-commands}
 use Rattle.bd_laws.proofs.Adding.{notify-keeps, own_notices-keeps, ripen-keeps}
+use Rattle.bd_laws.proofs.Following.{threads-keep}
 
 -- two work items are no Notices of one object
 abbrev pub Apart : Work → Work → Type 0
@@ -146,8 +144,7 @@ unfolding thread_goes
 thread_goes-once z seat h = pairs-filter Apart (λ (w : Work). not (is_on (OfThread seat) w)) z.todo h
 
 threads_go-once : (z : Space) (p : ℕ) → Once z.todo → Once (threads_go z p).todo
-unfolding threads_go
-threads_go-once z p h = fold-keeps OnceIn thread_goes (map seat_of (filter (λ (t : Thread). t.process == p) z.threads)) (λ y t l k. thread_goes-once y t k) z h
+threads_go-once = threads-keep OnceIn thread_goes-once
 
 without_process-once : (z : Space) (p : ℕ) → Once z.todo → Once (without_process z p).todo
 unfolding without_process

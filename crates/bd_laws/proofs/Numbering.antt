@@ -1,20 +1,18 @@
 -- Each step keeps the identities of work items apart.
-use Rattle.std.proofs.Common.{◌≡◌, ℕ, zero, suc, ◌+◌, ◌==◌, Bool, true, false, cond, not, ◌&&◌, ◌||◌, List, [], ◌∷◌, ◌++◌, Option, Some, None, ◌⊎◌, inl, inr, refl, ap, sym, subst, ◌∙◌, filter, find, map, length, arith, Ok}
+use Rattle.std.proofs.Common.{◌≡◌, ℕ, suc, ◌+◌, ◌==◌, Bool, true, false, cond, not, ◌&&◌, ◌||◌, List, [], ◌∷◌, ◌++◌, Option, Some, None, ◌⊎◌, inl, inr, refl, ap, sym, subst, ◌∙◌, filter, map, arith, Ok}
 use Rattle.std.specs.List.{list_any, fold}
 use Rattle.std.proofs.lemmas.Bool.{eqb-true, eq-eqb}
 use Rattle.bd_uapi.specs.declared.command.TransactionData.{TransactionData}
-use Rattle.bd_uapi.specs.declared.command.Return.TheVariants.{DeadReply, FailedReply, TransactionComplete}
 use Rattle.bd_space.specs.declared.step.ObjectId.{ObjectId}
 use Rattle.bd_space.specs.declared.step.Step.{Step}
 use Rattle.bd_space.specs.declared.step.Entry.{Entry}
 use Rattle.bd_space.specs.declared.space.Object.{Object}
 use Rattle.bd_space.specs.declared.space.Reference.{Reference}
 use Rattle.bd_space.specs.declared.space.Holder.{Holder}
-use Rattle.bd_space.specs.declared.space.Holder.TheVariants.{Asked, Carried, Target, Handshake, Manager}
+use Rattle.bd_space.specs.declared.space.Holder.TheVariants.{Asked, Carried}
 use Rattle.bd_space.specs.declared.space.Thread.{Thread}
 use Rattle.bd_space.specs.declared.space.Name.{Name}
 use Rattle.bd_space.specs.declared.space.Frame.{Frame}
-use Rattle.bd_space.specs.declared.space.Turn.{Turn}
 use Rattle.bd_space.specs.declared.space.Item.{Item}
 use Rattle.bd_space.specs.declared.space.Actor.{Actor}
 use Rattle.bd_space.specs.declared.space.Work.{Work}
@@ -32,14 +30,12 @@ use Rattle.bd_space.specs.References.{object_in, held_in, owned_in, stays_in, ob
 use Rattle.bd_space.specs.Names.{named, is_named_in, names_go, assign_numbers}
 use Rattle.bd_space.specs.Frames.{closed, goes_to}
 use Rattle.bd_space.specs.Todo.{with_work, owe, is_notice, is_on, same_list, is_item, hands_out}
-use Rattle.bd_space.specs.Turns.{turns_of, is_ripe, ripened, ripen}
+use Rattle.bd_space.specs.Turns.{ripen}
 use Rattle.bd_space.specs.Notices.{wants_notice, has_notice_in, with_notice, still_due, is_name_of, deaths_go, work_goes, notify, follow}
-use Rattle.bd_space.specs.Settle.{settle, settle_one, settle_times, is_abandoned}
-use Rattle.bd_space.specs.Outcomes.{completed}
 use Rattle.bd_uapi.specs.Kinds.{is_own}
 use Rattle.bd_space.specs.Delivery.{Delivery, delivered, own_notices, add_buffer, known_by, refer, make_objects, buffer_references, withdraw_notice}
-use Rattle.bd_space.specs.Transactions.{transacted, called, call_out, refusal}
-use Rattle.bd_space.specs.Replies.{replied, reply_refused}
+use Rattle.bd_space.specs.Transactions.{transacted, called, call_out}
+use Rattle.bd_space.specs.Replies.{replied}
 use Rattle.bd_space.specs.Freeing.{without_buffer}
 use Rattle.bd_space.specs.Asking.{ask, drop_asked, acknowledge}
 use Rattle.bd_space.specs.Deaths.{request_check, request_note, requested, with_death, without_death, with_phase, is_notification, owner_lives_in}
@@ -61,7 +57,7 @@ use Rattle.bd_laws.proofs.Homes.{one-thread}
 use Rattle.bd_laws.proofs.Adding.{notify-keeps, ripen-keeps}
 use Rattle.bd_laws.proofs.EveryStep.{Keeps, every_step}
 use Rattle.bd_laws.proofs.Follow.{find-kept}
-use Rattle.bd_laws.proofs.Identities.{Below, Numbered, fresh-numbered, push-numbered, filter-numbered, numbered-distinct}
+use Rattle.bd_laws.proofs.Identities.{Numbered, fresh-numbered, push-numbered, filter-numbered, numbered-distinct}
 
 -- ---- this step's items are numbered, and none goes
 

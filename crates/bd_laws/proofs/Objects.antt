@@ -1,5 +1,5 @@
 -- Objects stay in the space as long as anything refers to them, and no two have one identity.
-use Rattle.std.proofs.Common.{◌≡◌, ℕ, suc, ◌+◌, ◌==◌, Bool, true, false, cond, not, ◌&&◌, ◌||◌, List, [], ◌∷◌, ◌++◌, Option, Some, None, Ok, ◌⊎◌, inl, inr, refl, ap, sym, subst, ◌∙◌, map, filter, length, arith}
+use Rattle.std.proofs.Common.{◌≡◌, ℕ, suc, ◌+◌, ◌==◌, Bool, true, false, cond, not, ◌&&◌, ◌||◌, List, [], ◌∷◌, ◌++◌, Option, Some, None, Ok, ◌⊎◌, inl, inr, refl, ap, sym, subst, ◌∙◌, map, filter, arith}
 use Rattle.std.specs.List.{list_all, fold, flat_map}
 use Rattle.std.specs.Option.{is_some}
 use Rattle.bd_uapi.specs.declared.command.TransactionData.{TransactionData}
@@ -14,7 +14,6 @@ use Rattle.bd_space.specs.declared.space.Holder.TheVariants.{Asked, Manager}
 use Rattle.bd_space.specs.declared.space.Name.{Name}
 use Rattle.bd_space.specs.declared.space.Item.{Item}
 use Rattle.bd_space.specs.declared.space.Work.{Work}
-use Rattle.bd_space.specs.declared.space.WorkKind.{WorkKind}
 use Rattle.bd_space.specs.declared.space.WorkKind.TheVariants as work
 use Rattle.bd_space.specs.declared.space.TodoList.TheVariants.{OfThread}
 use Rattle.bd_space.specs.Words.{same, without_first}
@@ -28,7 +27,7 @@ use Rattle.bd_space.specs.Asking.{ask_check, ask, drop_asked, acknowledge}
 use Rattle.bd_space.specs.Freeing.{without_buffer}
 use Rattle.bd_space.specs.ThreadExits.{thread_goes, is_lost_reference}
 use Rattle.bd_space.specs.ProcessExits.{threads_go, without_process, is_dropped_with, manager_without, seat_of}
-use Rattle.bd_space.specs.ReadItems.{read_by, handshakes, handshakes_of, handshakes_for, shakes, told_objects, told_of, is_told_by}
+use Rattle.bd_space.specs.ReadItems.{read_by, handshakes, handshakes_for, shakes, told_objects, told_of, is_told_by}
 use Rattle.bd_space.specs.Returns.{returns_of, returns_of_object}
 use Rattle.bd_space.specs.Steps.{with_thread, with_process, with_manager}
 use Rattle.bd_laws.specs.Lists.{In, Pairs}

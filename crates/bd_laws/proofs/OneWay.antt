@@ -1,10 +1,7 @@
 -- One-way calls whose buffers live: a buffer that is due or handed out has no older rival.
-use Rattle.std.proofs.Common.{◌≡◌, ℕ, suc, ◌≤◌, ◌==◌, Bool, true, false, cond, not, List, [], ◌∷◌, ◌++◌, Option, Some, None, ◌⊎◌, inl, inr, refl, ap, sym, subst, ◌∙◌, map, filter, arith}
+use Rattle.std.proofs.Common.{◌≡◌, ℕ, suc, ◌≤◌, ◌==◌, Bool, true, false, not, List, [], ◌∷◌, ◌++◌, Option, Some, None, ◌⊎◌, inl, inr, refl, ap, sym, subst, ◌∙◌, filter, arith}
 use Rattle.std.specs.List.{fold}
 use Rattle.bd_space.specs.declared.step.ObjectId.{ObjectId}
-use Rattle.bd_space.specs.declared.space.Object.{Object}
-use Rattle.bd_space.specs.declared.space.Process.{Process}
-use Rattle.bd_space.specs.declared.space.Reference.{Reference}
 use Rattle.bd_space.specs.declared.space.Buffer.{Buffer}
 use Rattle.bd_space.specs.declared.space.Work.{Work}
 use Rattle.bd_space.specs.declared.space.Item.{Item}
@@ -14,22 +11,20 @@ use Rattle.bd_space.specs.declared.space.WorkKind.TheVariants as work
 use Rattle.bd_space.specs.Space.{Space}
 use Rattle.bd_space.specs.Todo.{with_work, hands_out, owe, is_on, is_notice}
 use Rattle.bd_space.specs.Turns.{turn_of}
-use Rattle.bd_space.specs.Notices.{with_notice, follow, notify, work_goes, deaths_go, still_due}
+use Rattle.bd_space.specs.Notices.{follow, notify, work_goes, deaths_go, still_due}
 use Rattle.bd_space.specs.Names.{names_go, assign_numbers}
 use Rattle.bd_space.specs.declared.space.Actor.{Actor}
 use Rattle.bd_space.specs.declared.space.Frame.{Frame}
 use Rattle.bd_space.specs.declared.space.TodoList.TheVariants.{OfThread, OfProcess}
 use Rattle.bd_uapi.specs.declared.command.TransactionData.{TransactionData}
 use Rattle.bd_space.specs.Frames.{goes_to, closed}
-use Rattle.bd_uapi.specs.Kinds.{is_own}
 use Rattle.bd_space.specs.Delivery.{Delivery, delivered, own_notices, add_buffer, known_by, refer, make_objects, buffer_of, add_notice, withdraw_notice}
 use Rattle.bd_space.specs.Transactions.{transacted, called, call_out}
 use Rattle.bd_space.specs.Replies.{replied}
-use Rattle.bd_space.specs.References.{objects_go, object_in}
-use Rattle.bd_space.specs.declared.space.Thread.{Thread}
+use Rattle.bd_space.specs.References.{objects_go}
 use Rattle.bd_space.specs.Freeing.{without_buffer, is_made_at}
 use Rattle.bd_space.specs.ThreadExits.{thread_goes, is_lost_with}
-use Rattle.bd_space.specs.ProcessExits.{threads_go, without_process, tell_deaths, seat_of}
+use Rattle.bd_space.specs.ProcessExits.{threads_go, without_process, tell_deaths}
 use Rattle.bd_space.specs.Steps.{with_thread, with_process, with_manager}
 use Rattle.bd_space.specs.Asking.{ask, drop_asked, acknowledge}
 use Rattle.bd_space.specs.Commands.{with_looping}
@@ -38,7 +33,7 @@ use Rattle.bd_laws.specs.OneWayCalls.{Due, Waits, InTurn}
 use Rattle.bd_laws.proofs.Lists.{in-push, in-filter, pairs-map, pairs-filter, pairs-push}
 use Rattle.bd_laws.proofs.Deaths.{OnDeaths, KeptOnDeaths, on-kept, on-told}
 use Rattle.bd_laws.proofs.Adding.{notify-keeps, own_notices-keeps}
-use Rattle.bd_laws.proofs.Following.{FollowedBy, follow-by, ends-by}
+use Rattle.bd_laws.proofs.Following.{follow-by, ends-by, threads-by}
 
 -- ---- a space with no more buffers, and no more that are due
 
@@ -270,13 +265,8 @@ thread_goes-less z seat =
     filtered-less _ z (λ (b : Buffer). not (is_lost_with z.todo (OfThread seat) b.made)) refl refl
     (λ w m l e. (in-filter (λ (x : Work). not (is_on (OfThread seat) x)) w z.todo l).0)
 
-each-goes : (seats : List ℕ) (z : Space) → Less (fold thread_goes z seats) z
-each-goes [] z = less-refl z
-each-goes (t ∷ ts) z = less-trans _ (thread_goes z t) z (each-goes ts (thread_goes z t)) (thread_goes-less z t)
-
 pub threads_go-less : (z : Space) (p : ℕ) → Less (threads_go z p) z
-unfolding threads_go
-threads_go-less z p = each-goes (map seat_of (filter (λ (t : Thread). t.process == p) z.threads)) z
+threads_go-less = threads-by Less less-refl less-trans thread_goes-less
 
 pub without_process-less : (z : Space) (p : ℕ) → Less (without_process z p) z
 unfolding without_process

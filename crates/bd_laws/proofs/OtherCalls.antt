@@ -1,10 +1,9 @@
 -- No thread is to read a call of its own.
-use Rattle.std.proofs.Common.{◌≡◌, ℕ, zero, suc, ◌<◌, ◌==◌, Bool, true, false, cond, not, ◌&&◌, List, [], ◌∷◌, ◌++◌, Option, Some, None, Ok, inl, inr, refl, ap, sym, subst, ◌∙◌, filter, find, map, length, arith}
+use Rattle.std.proofs.Common.{◌≡◌, ℕ, ◌<◌, ◌==◌, Bool, true, false, cond, not, ◌&&◌, List, Option, Some, None, Ok, inl, inr, refl, ap, sym, subst, ◌∙◌, arith}
 use Rattle.std.specs.List.{list_any}
 use Rattle.std.proofs.lemmas.Option.{option_and_then_some}
 use Rattle.std.proofs.lemmas.Bool.{eqb-true, eq-eqb}
 use Rattle.bd_uapi.specs.declared.command.TransactionData.{TransactionData}
-use Rattle.bd_uapi.specs.declared.command.Return.TheVariants.{DeadReply, FailedReply, TransactionComplete}
 use Rattle.bd_uapi.specs.declared.fault.Cause.TheVariants.{NoManager, OwnManager, NotStronglyNamed}
 use Rattle.bd_space.specs.declared.step.ObjectId.{ObjectId}
 use Rattle.bd_space.specs.declared.step.Parcel.{Parcel}
@@ -14,7 +13,6 @@ use Rattle.bd_space.specs.declared.space.Process.{Process}
 use Rattle.bd_space.specs.declared.space.Thread.{Thread}
 use Rattle.bd_space.specs.declared.space.Object.{Object}
 use Rattle.bd_space.specs.declared.space.Frame.{Frame}
-use Rattle.bd_space.specs.declared.space.Turn.{Turn}
 use Rattle.bd_space.specs.declared.space.Actor.{Actor}
 use Rattle.bd_space.specs.declared.space.Work.{Work}
 use Rattle.bd_space.specs.declared.space.TodoList.{TodoList}
@@ -27,36 +25,35 @@ use Rattle.bd_space.specs.Seats.{actor}
 use Rattle.bd_space.specs.References.{owned_in, objects_go}
 use Rattle.bd_space.specs.Names.{names_go, assign_numbers, named_in, strongly_named, if_strongly_named}
 use Rattle.bd_space.specs.Frames.{closed, goes_to, is_frame}
-use Rattle.bd_space.specs.Todo.{with_work, owe, hands_out, is_on, is_call}
-use Rattle.bd_space.specs.Turns.{turns_of, is_ripe, ripened, ripen}
+use Rattle.bd_space.specs.Todo.{owe, hands_out, is_on, is_call}
+use Rattle.bd_space.specs.Turns.{ripen}
 use Rattle.bd_space.specs.Notices.{deaths_go, work_goes, notify, follow}
-use Rattle.bd_space.specs.Settle.{settle, settle_one, settle_times, is_abandoned}
-use Rattle.bd_space.specs.Outcomes.{completed}
 use Rattle.bd_space.specs.Delivery.{Delivery, delivered, own_notices, add_buffer, known_by, refer, make_objects}
-use Rattle.bd_space.specs.Transactions.{transaction_check, transacted, called, call_out, refusal, target_of, not_own, handle_of}
-use Rattle.bd_space.specs.Replies.{replied, reply_refused}
+use Rattle.bd_space.specs.Transactions.{transaction_check, transacted, called, call_out, target_of, not_own, handle_of}
+use Rattle.bd_space.specs.Replies.{replied}
 use Rattle.bd_space.specs.Freeing.{without_buffer}
 use Rattle.bd_space.specs.Asking.{ask, drop_asked, acknowledge}
 use Rattle.bd_space.specs.Commands.{with_looping}
 use Rattle.bd_space.specs.ReadItems.{read_by, serve}
 use Rattle.bd_space.specs.ThreadExits.{thread_goes, frame_without, unread_frame}
-use Rattle.bd_space.specs.ProcessExits.{threads_go, without_process, seat_of}
+use Rattle.bd_space.specs.ProcessExits.{threads_go, without_process}
 use Rattle.bd_space.specs.Steps.{counted, with_thread, with_process, with_manager}
 use Rattle.bd_space.specs.Histories.{next}
 use Rattle.bd_laws.specs.Lists.{In}
 use Rattle.bd_laws.specs.OneWayCalls.{IsInTurn}
 use Rattle.bd_laws.specs.Items.{AtHome}
 use Rattle.bd_laws.specs.Frames.{OfOthers}
-use Rattle.bd_laws.proofs.Lists.{in-push, in-filter, in-map, in-changed, find-in, any-in, fold-keeps}
+use Rattle.bd_laws.proofs.Lists.{in-push, in-filter, in-map, in-changed, find-in, any-in}
 use Rattle.bd_laws.proofs.Tests.{both, and-both, not-true, eq-same, and_then-ok, found-ok, unless-ok, when-none}
 use Rattle.bd_laws.proofs.Checks.{actor-lives, transaction-checked}
 use Rattle.bd_laws.proofs.OneWay as one_way
-use Rattle.bd_laws.proofs.OneWay.{Less, with_work-less}
+use Rattle.bd_laws.proofs.OneWay.{Less}
 use Rattle.bd_laws.proofs.Deaths.{KeptOnDeaths, on-kept, on-told, on-commands}
 use Rattle.bd_laws.proofs.EveryStep.{Keeps, every_step}
 use Rattle.bd_laws.proofs.Adding.{told-keeps, ripen-keeps}
 use Rattle.bd_laws.proofs.PathWords.{caller-stays}
 use Rattle.bd_laws.proofs.Homes.{one-thread, goes-home, sent-due, sent-steps, sent-threads}
+use Rattle.bd_laws.proofs.Following.{threads-keep}
 
 -- threads' lists have no further call, and frames keep their callers
 record Fewer (z y : Space) : Type 0 where
@@ -229,8 +226,7 @@ leaves-o z seat h w f t l e on i c =
     (caller-stays seat g.0.caller t (ap (λ (x : Frame). x.caller) g.2 ∙ c)).0
 
 threads-o : (z : Space) (p : ℕ) → OfOthers z → OfOthers (threads_go z p)
-unfolding threads_go
-threads-o z p h = fold-keeps OfOthers thread_goes (map seat_of (filter (λ t. t.process == p) z.threads)) (λ y t l k. leaves-o y t k) z h
+threads-o = threads-keep OfOthers leaves-o
 
 without-o : (z : Space) (p : ℕ) → OfOthers z → OfOthers (without_process z p)
 unfolding without_process

@@ -51,7 +51,7 @@ use Rattle.bd_laws.proofs.Untouched.{Untouched}
 use Rattle.bd_laws.proofs.Sendings.{Made, sending-sends}
 use Rattle.bd_laws.proofs.Checks.{Owned, transaction-checked, reply-checked, actor-lives}
 use Rattle.bd_laws.proofs.Deaths.{on-mapped, on-both, on-commands}
-use Rattle.bd_laws.proofs.Following.{FollowedBy, follow-by}
+use Rattle.bd_laws.proofs.Following.{follow-by}
 
 -- a live process
 abbrev pub Lives : List Process → ℕ → Type 0

@@ -1,12 +1,10 @@
 -- Of BC_TRANSACTION: what its delivery may rest on; and without objects in its parcel there is next to nothing to do.
-use Rattle.std.proofs.Common.{◌≡◌, ℕ, ◌%◌, ◌^◌, ◌==◌, Bool, true, false, cond, not, ◌&&◌, ◌||◌, List, [], ◌∷◌, ◌++◌, Option, Some, None, Result, Ok, Err, ◌⊎◌, inl, inr, refl, ap, sym, subst, ◌∙◌, filter, length}
+use Rattle.std.proofs.Common.{◌≡◌, ℕ, ◌%◌, ◌==◌, Bool, true, false, cond, not, ◌&&◌, ◌||◌, List, [], ◌∷◌, ◌++◌, Option, Some, None, Result, Ok, Err, ◌⊎◌, inl, inr, refl, ap, sym, subst, ◌∙◌, filter, length}
 use Rattle.std.specs.List.{list_any, fold}
 use Rattle.std.specs.Option.{option_to_list}
 use Rattle.std.proofs.lemmas.Option.{option_and_then_some}
 use Rattle.bd_uapi.specs.declared.command.TransactionData.{TransactionData}
 use Rattle.bd_uapi.specs.declared.object.FlatObject.{FlatObject}
-use Rattle.bd_uapi.specs.declared.object.ObjectKind.{ObjectKind}
-use Rattle.bd_uapi.specs.declared.object.ObjectKind.TheVariants.{Binder, WeakBinder, Handle, WeakHandle}
 use Rattle.bd_uapi.specs.declared.fault.Cause.{Cause}
 use Rattle.bd_uapi.specs.declared.fault.Cause.TheVariants.{OutsideArea, OffsetsSize, OtherCookie, NotStronglyNamed, NoManager, OwnManager}
 use Rattle.bd_parcel.specs.declared.fault.WalkFault.{WalkFault}
@@ -30,7 +28,7 @@ use Rattle.bd_space.specs.Space.{Space}
 use Rattle.bd_space.specs.References.{strong_in, owned_in, own_in, names_for}
 use Rattle.bd_space.specs.Names.{named, named_in, strongly_named, if_strongly_named, is_strongly_named_in}
 use Rattle.bd_space.specs.Notices.{with_notice}
-use Rattle.bd_space.specs.Parcels.{Sending, resolve_own, resolve_handle, resolve, resolve_all, new_object, resolve_walked, sending_of, is_cut}
+use Rattle.bd_space.specs.Parcels.{Sending, resolve_handle, resolve, resolve_all, new_object, resolve_walked, sending_of, is_cut}
 use Rattle.bd_space.specs.Delivery.{Delivery}
 use Rattle.bd_space.specs.Transactions.{transaction_check, transacted, target_of, not_own, handle_of}
 use Rattle.bd_space.specs.Outcomes.{completed}

@@ -1,20 +1,15 @@
 -- Each step keeps it that a Death item's notification is queued.
-use Rattle.std.proofs.Common.{◌≡◌, ℕ, zero, suc, ◌<◌, ◌==◌, Bool, true, false, cond, not, ◌&&◌, ◌||◌, List, [], ◌∷◌, ◌++◌, Option, Some, None, ◌⊎◌, inl, inr, refl, ap, sym, subst, ◌∙◌, filter, find, map, length, arith}
+use Rattle.std.proofs.Common.{◌≡◌, ℕ, suc, ◌<◌, ◌==◌, Bool, true, false, cond, not, ◌&&◌, ◌||◌, List, [], ◌∷◌, Some, ◌⊎◌, inl, inr, refl, ap, sym, subst, ◌∙◌, filter, arith}
 use Rattle.std.specs.List.{list_any, fold}
 use Rattle.std.proofs.lemmas.Bool.{eqb-true, eq-eqb}
 use Rattle.bd_uapi.specs.declared.command.TransactionData.{TransactionData}
-use Rattle.bd_uapi.specs.declared.command.Return.TheVariants.{DeadReply, FailedReply, TransactionComplete}
 use Rattle.bd_space.specs.declared.step.ObjectId.{ObjectId}
 use Rattle.bd_space.specs.declared.step.Step.{Step}
 use Rattle.bd_space.specs.declared.step.Entry.{Entry}
-use Rattle.bd_space.specs.declared.space.Object.{Object}
 use Rattle.bd_space.specs.declared.space.Frame.{Frame}
-use Rattle.bd_space.specs.declared.space.Turn.{Turn}
-use Rattle.bd_space.specs.declared.space.Item.{Item}
 use Rattle.bd_space.specs.declared.space.Actor.{Actor}
 use Rattle.bd_space.specs.declared.space.Thread.{Thread}
 use Rattle.bd_space.specs.declared.space.Work.{Work}
-use Rattle.bd_space.specs.declared.space.Identity.{Identity}
 use Rattle.bd_space.specs.declared.space.DeathNotification.{DeathNotification}
 use Rattle.bd_space.specs.declared.space.Phase.{Phase}
 use Rattle.bd_space.specs.declared.space.Phase.TheVariants.{Armed, Queued, Told, Done}
@@ -22,20 +17,17 @@ use Rattle.bd_space.specs.declared.space.WorkKind.{WorkKind}
 use Rattle.bd_space.specs.declared.space.WorkKind.TheVariants as work
 use Rattle.bd_space.specs.declared.space.TodoList.{TodoList}
 use Rattle.bd_space.specs.declared.space.TodoList.TheVariants.{OfThread, OfProcess}
-use Rattle.bd_space.specs.Words.{is_some_and, same_identity}
+use Rattle.bd_space.specs.Words.{is_some_and}
 use Rattle.bd_space.specs.Space.{Space, opening}
-use Rattle.bd_space.specs.References.{owned_in, object_in, objects_go}
+use Rattle.bd_space.specs.References.{owned_in, objects_go}
 use Rattle.bd_space.specs.Names.{names_go, assign_numbers}
 use Rattle.bd_space.specs.Frames.{closed, goes_to}
-use Rattle.bd_space.specs.Todo.{with_work, owe, same_list, is_on, is_item, is_notice, death_of, list_to_read}
-use Rattle.bd_space.specs.Turns.{turns_of, is_ripe, ripened, ripen}
-use Rattle.bd_space.specs.Notices.{wants_notice, has_notice_in, with_notice, still_due, is_name_of, deaths_go, work_goes, notify, follow}
-use Rattle.bd_space.specs.Settle.{settle, settle_one, settle_times, is_abandoned}
-use Rattle.bd_space.specs.Outcomes.{completed}
-use Rattle.bd_uapi.specs.Kinds.{is_own}
+use Rattle.bd_space.specs.Todo.{owe, is_on, is_item, is_notice, death_of, list_to_read}
+use Rattle.bd_space.specs.Turns.{ripen}
+use Rattle.bd_space.specs.Notices.{still_due, is_name_of, deaths_go, work_goes, notify, follow}
 use Rattle.bd_space.specs.Delivery.{Delivery, delivered, own_notices, add_buffer, known_by, refer, make_objects, buffer_of}
-use Rattle.bd_space.specs.Transactions.{transacted, called, call_out, refusal}
-use Rattle.bd_space.specs.Replies.{replied, reply_refused}
+use Rattle.bd_space.specs.Transactions.{transacted, called, call_out}
+use Rattle.bd_space.specs.Replies.{replied}
 use Rattle.bd_space.specs.Freeing.{without_buffer}
 use Rattle.bd_space.specs.Asking.{ask, drop_asked, acknowledge}
 use Rattle.bd_space.specs.Deaths.{is_notification, requested, with_death, without_death, with_phase, owner_lives_in}
@@ -43,19 +35,20 @@ use Rattle.bd_space.specs.Clearing.{mark_cleared, death_ended, cleared, death_do
 use Rattle.bd_space.specs.Commands.{with_looping}
 use Rattle.bd_space.specs.ReadItems.{read_by, taken, is_told_of_death}
 use Rattle.bd_space.specs.ThreadExits.{thread_goes}
-use Rattle.bd_space.specs.ProcessExits.{threads_go, without_process, tell_death, tell_deaths, seat_of, is_armed}
+use Rattle.bd_space.specs.ProcessExits.{threads_go, without_process, tell_death, tell_deaths, is_armed}
 use Rattle.bd_space.specs.Steps.{change, counted, with_thread, with_process, with_manager}
 use Rattle.bd_space.specs.Histories.{next}
 use Rattle.bd_laws.specs.Lists.{In, Pairs}
 use Rattle.bd_laws.specs.Quiet.{IsQuiet}
 use Rattle.bd_laws.specs.Items.{OtherDeath, OtherNotification, Queues, IsQueued}
-use Rattle.bd_laws.proofs.Lists.{in-push, in-filter, in-changed, any-found, any-in, find-in, pairs-push, pairs-filter, pairs-either, pairs-changed, fold-keeps}
-use Rattle.bd_laws.proofs.Tests.{both, and-both, not-true}
+use Rattle.bd_laws.proofs.Lists.{in-push, in-filter, in-changed, any-found, any-in, find-in, pairs-push, pairs-filter, pairs-either, pairs-changed}
+use Rattle.bd_laws.proofs.Tests.{both, not-true}
 use Rattle.bd_laws.proofs.Ripening.{read-in}
 use Rattle.bd_laws.proofs.EveryStep.{Keeps, every_step}
 use Rattle.bd_laws.proofs.Adding.{told-keeps, notify-keeps, own_notices-keeps, ripen-keeps}
 use Rattle.bd_laws.proofs.Queued.{Silent, fewer-items, fewer-deaths, plain-item, death-item, phased, sit-changed}
 use Rattle.bd_laws.proofs.PathWords.{same-item}
+use Rattle.bd_laws.proofs.Following.{threads-keep}
 
 abbrev Q : ℕ → Space → Type 0
 Q n z = Queues n z.todo z.deaths
@@ -273,8 +266,7 @@ unfolding thread_goes
 left-q n z seat h = fewer-items n z.todo z.deaths (λ (w : Work). not (is_on (OfThread seat) w)) h
 
 threads-q : (n : ℕ) (z : Space) (p : ℕ) → Q n z → Q n (threads_go z p)
-unfolding threads_go
-threads-q n z p h = fold-keeps (Q n) thread_goes (map seat_of (filter (λ t. t.process == p) z.threads)) (λ y t l k. left-q n y t k) z h
+threads-q n = threads-keep (Q n) (left-q n)
 
 without-q : (n : ℕ) (z : Space) (p : ℕ) → Q n z → Q n (without_process z p)
 unfolding without_process

@@ -1,5 +1,5 @@
 -- After a change and what follows from it nothing is pending.
-use Rattle.std.proofs.Common.{◌≡◌, ℕ, zero, suc, length, ◌==◌, Bool, true, false, cond, not, ◌&&◌, ◌||◌, List, [], ◌∷◌, ◌++◌, Option, Some, None, ◌⊎◌, inl, inr, refl, ap, sym, subst, ◌∙◌, filter, find}
+use Rattle.std.proofs.Common.{◌≡◌, ℕ, ◌==◌, Bool, true, false, cond, not, ◌&&◌, ◌||◌, List, [], ◌∷◌, ◌++◌, Option, Some, None, ◌⊎◌, inl, inr, refl, ap, sym, subst, ◌∙◌, filter, find}
 use Rattle.std.specs.List.{list_any, fold}
 use Rattle.bd_space.specs.declared.step.ObjectId.{ObjectId}
 use Rattle.bd_space.specs.declared.space.Process.{Process}
@@ -24,8 +24,8 @@ use Rattle.bd_space.specs.Space.{Space, opening}
 use Rattle.bd_space.specs.References.{object_in, owned_in, stays_in, objects_go}
 use Rattle.bd_space.specs.Names.{is_named_in, names_go}
 use Rattle.bd_space.specs.Todo.{with_work, owe, is_notice, notice_of, is_call}
-use Rattle.bd_space.specs.Turns.{turns_of, ripen}
-use Rattle.bd_space.specs.Settle.{settle, settle_one, settle_times, is_abandoned}
+use Rattle.bd_space.specs.Turns.{turns_of, is_ripe, ripen}
+use Rattle.bd_space.specs.Settle.{settle}
 use Rattle.bd_space.specs.Local.{NameTest, ObjectTest}
 use Rattle.bd_space.specs.Outcomes.{completed}
 use Rattle.bd_space.specs.Notices.{wants_notice, has_notice_in, with_notice, is_name_of, still_due, deaths_go, work_goes, notify, follow}
@@ -159,19 +159,30 @@ module _ (z : Space) where
 
 -- ---- after an accepted command's change, whatever it was
 
+module _ (todo more : List Work) where
+  abbrev pub CallsStay : Turn → Type 0
+  CallsStay t = list_any (λ (w : Work). is_call t.made w.kind) todo ≡ true → list_any (λ (w : Work). is_call t.made w.kind) more ≡ true
+
+  pub unripe-one : (older less : List Turn) (t : Turn) → list_any (λ (u : Turn). same u.target t.target) less ≡ list_any (λ (u : Turn). same u.target t.target) older → CallsStay t
+      → is_ripe todo older t ≡ false → is_ripe more less t ≡ false
+  unripe-one older less t e k h = ap (λ b. not t.handed && not b && not (list_any (λ (w : Work). is_call t.made w.kind) more)) e
+      ∙ at t.handed (list_any (λ (u : Turn). same u.target t.target) older) (list_any (λ (w : Work). is_call t.made w.kind) todo) k h
+    where
+      at : (a b c : Bool) → (c ≡ true → list_any (λ (w : Work). is_call t.made w.kind) more ≡ true) → (not a && not b && not c) ≡ false
+          → (not a && not b && not (list_any (λ (w : Work). is_call t.made w.kind) more)) ≡ false
+      at true b c i e = refl
+      at false true c i e = refl
+      at false false false i e = absurd (cc)
+      at false false true i e = rw (i refl) refl
+
+  pub unripe-kept : (ts older : List Turn) → NoneRipe todo older ts → ((t : Turn) → In t ts → CallsStay t) → NoneRipe more older ts
+  unripe-kept [] older h k = tt
+  unripe-kept (t ∷ ts) older h k = (unripe-one older older t refl (k t (inl refl)) h.0, unripe-kept ts (older ++ t ∷ []) h.1 (λ u l. k u (inr l)))
+
 -- following touches neither calls that are due nor frames
 pub still-unripe-if : (todo more : List Work) (z : Space) → ((n : ℕ) → list_any (λ (w : Work). is_call n w.kind) todo ≡ true → list_any (λ (w : Work). is_call n w.kind) more ≡ true)
     → (ts older : List Turn) → NoneRipe todo older ts → NoneRipe more older ts
-still-unripe-if todo more z k [] older h = tt
-still-unripe-if todo more z k (t ∷ ts) older h =
-    (at t.handed (list_any (λ (u : Turn). same u.target t.target) older) _ (k t.made) h.0, still-unripe-if todo more z k ts (older ++ t ∷ []) h.1)
-  where
-    at : (a b c : Bool) → (c ≡ true → list_any (λ (w : Work). is_call t.made w.kind) more ≡ true) → (not a && not b && not c) ≡ false
-        → (not a && not b && not (list_any (λ (w : Work). is_call t.made w.kind) more)) ≡ false
-    at true b c i e = refl
-    at false true c i e = refl
-    at false false false i e = absurd (cc)
-    at false false true i e = rw (i refl) refl
+still-unripe-if todo more z k ts older h = unripe-kept todo more ts older h (λ t l. k t.made)
 
 -- nothing is pending but abandoned calls
 pub record IsCalm (z : Space) : Type 0 where

@@ -1,6 +1,6 @@
 -- Of a reading: only objects whose Notices it takes need a look.
-use Rattle.std.proofs.Common.{◌≡◌, ℕ, ◌+◌, ◌==◌, Bool, true, false, cond, not, ◌&&◌, ◌||◌, List, [], ◌∷◌, ◌++◌, Option, Some, None, inl, inr, refl, ap, sym, subst, ◌∙◌, find, length}
-use Rattle.std.specs.List.{list_any, flat_map}
+use Rattle.std.proofs.Common.{◌≡◌, ℕ, ◌==◌, Bool, true, false, cond, not, ◌&&◌, ◌||◌, List, [], ◌∷◌, ◌++◌, Option, Some, None, refl, ap, sym, subst, ◌∙◌, find}
+use Rattle.std.specs.List.{list_any}
 use Rattle.std.specs.Option.{option_map}
 use mathlib.Core.Bool.{beq}
 use Rattle.bd_space.specs.declared.step.ObjectId.{ObjectId}
@@ -11,7 +11,6 @@ use Rattle.bd_space.specs.declared.space.Name.{Name}
 use Rattle.bd_space.specs.declared.space.DeathNotification.{DeathNotification}
 use Rattle.bd_space.specs.declared.space.Work.{Work}
 use Rattle.bd_space.specs.declared.space.WorkKind.{WorkKind}
-use Rattle.bd_space.specs.declared.space.WorkKind.TheVariants as work
 use Rattle.bd_space.specs.declared.space.Phase.TheVariants.{Told}
 use Rattle.bd_space.specs.Words.{same, is_some_and, changed}
 use Rattle.bd_space.specs.Space.{Space}
@@ -20,13 +19,12 @@ use Rattle.bd_space.specs.References.{object_in, owned_in, held_in, strong_in}
 use Rattle.bd_space.specs.Names.{is_named_in}
 use Rattle.bd_space.specs.Todo.{is_item, is_notice, notice_of, list_to_read, without_taken}
 use Rattle.bd_space.specs.Notices.{wants_notice, is_name_of, follow}
-use Rattle.bd_space.specs.ReadItems.{read_by, taken, handshakes, handshakes_of, handshakes_for, shakes, is_told_by, told_of, told_objects, told_deaths, is_told_of_death}
-use Rattle.bd_space.specs.Returns.{returns_of}
+use Rattle.bd_space.specs.ReadItems.{read_by, taken, handshakes, is_told_by, told_of, told_objects, told_deaths, is_told_of_death}
 use Rattle.bd_space.specs.Local.{ObjectTest, no_name, follow_of}
 use Rattle.bd_laws.specs.Lists.{In}
 use Rattle.bd_laws.specs.Quiet.{Elsewhere, IsQuiet}
 use Rattle.bd_laws.specs.Items.{Distinct}
-use Rattle.bd_laws.proofs.Lists.{in-append, in-filter, filter-in, in-changed, any-found, any-in, find-in}
+use Rattle.bd_laws.proofs.Lists.{in-filter, filter-in, in-changed, any-found, any-in, find-in}
 use Rattle.bd_laws.proofs.Tests.{both, and-both, same-eq, eq-same, notice-kind}
 use Rattle.bd_laws.proofs.Ripening.{read-in}
 use Rattle.bd_laws.proofs.Follow.{follow-local}
