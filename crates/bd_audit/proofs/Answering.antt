@@ -2,8 +2,6 @@
 use Rattle.std.proofs.Common.{◌≡◌, ℕ, zero, suc, ◌<◌, ◌+◌, ◌-◌, ◌==◌, Bool, true, false, cond, not, List, [], ◌∷◌, ◌++◌, length, Option, Some, None, Ok, inl, inr, refl, ap, sym, subst, ◌∙◌, append_assoc, length-append, arith}
 use Rattle.std.specs.List.{list_any, find}
 use Rattle.std.specs.Option.{option_map}
-use Rattle.std.proofs.lemmas.Option.{option_and_then_some}
-use Rattle.std.proofs.lemmas.List.{append-nil}
 use Rattle.std.proofs.lemmas.Bool.{eqb-true, eq-eqb}
 use Rattle.bd_uapi.specs.declared.command.Command.TheVariants as bc
 use Rattle.bd_uapi.specs.declared.command.TransactionData.{TransactionData}
@@ -17,8 +15,7 @@ use Rattle.bd_space.specs.declared.space.Thread.{Thread}
 use Rattle.bd_space.specs.declared.space.Work.{Work}
 use Rattle.bd_space.specs.declared.space.Frame.{Frame}
 use Rattle.bd_space.specs.declared.space.Actor.{Actor}
-use Rattle.bd_space.specs.declared.space.Server.TheVariants.{Pending, Serving, Gone}
-use Rattle.bd_space.specs.declared.space.Server.{Server}
+use Rattle.bd_space.specs.declared.space.Server.TheVariants.{Pending, Serving}
 use Rattle.bd_space.specs.declared.space.TodoList.{TodoList}
 use Rattle.bd_space.specs.declared.space.TodoList.TheVariants.{OfThread}
 use Rattle.bd_space.specs.declared.space.WorkKind.{WorkKind}
@@ -26,7 +23,7 @@ use Rattle.bd_space.specs.declared.space.WorkKind.TheVariants as work
 use Rattle.bd_space.specs.Space.{Space, opening}
 use Rattle.bd_space.specs.Seats.{actor}
 use Rattle.bd_space.specs.Todo.{owe, is_call, list_to_read, is_item}
-use Rattle.bd_space.specs.Frames.{closed, goes_to, is_frame, serves, innermost, innermost_in, served_innermost, if_served, made_of, is_deepest_in}
+use Rattle.bd_space.specs.Frames.{closed, goes_to, is_frame, innermost, innermost_in, served_innermost, made_of, is_deepest_in}
 use Rattle.bd_space.specs.Turns.{ripen}
 use Rattle.bd_space.specs.Notices.{follow}
 use Rattle.bd_space.specs.Settle.{settle, settle_one, settle_times, is_abandoned}

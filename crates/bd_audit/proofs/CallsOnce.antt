@@ -7,7 +7,7 @@ use Rattle.bd_uapi.specs.declared.command.TransactionData.{TransactionData}
 use Rattle.bd_uapi.specs.declared.fault.Fault.{Fault}
 use Rattle.bd_space.specs.declared.step.ObjectId.{ObjectId}
 use Rattle.bd_space.specs.declared.step.Step.{Step}
-use Rattle.bd_space.specs.declared.step.Step.TheVariants.{Open, Attach, SetManager, Command, Read, ExitThread, ExitProcess}
+use Rattle.bd_space.specs.declared.step.Step.TheVariants.{Command, Read}
 use Rattle.bd_space.specs.declared.step.Entry.{Entry}
 use Rattle.bd_space.specs.declared.space.Actor.{Actor}
 use Rattle.bd_space.specs.declared.space.Buffer.{Buffer}

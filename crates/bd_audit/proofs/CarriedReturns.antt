@@ -1,48 +1,43 @@
 -- What a refusal or a verdict tells its reader is never a BR_REPLY.
-use Rattle.std.proofs.Common.{◌≡◌, ℕ, ◌-◌, ◌==◌, Bool, true, false, cond, not, ◌&&◌, List, [], ◌∷◌, ◌++◌, Option, Some, None, inl, inr, refl, ap, sym, ◌∙◌, map, filter}
-use Rattle.std.specs.List.{fold, list_any}
+use Rattle.std.proofs.Common.{◌≡◌, ℕ, ◌-◌, Bool, true, false, cond, not, List, Option, Some, None, inl, inr, refl, ap, sym, ◌∙◌, filter}
+use Rattle.std.specs.List.{list_any}
 use Rattle.bd_uapi.specs.declared.command.TransactionData.{TransactionData}
 use Rattle.bd_uapi.specs.declared.command.Return.TheVariants.{DeadReply, FailedReply, TransactionComplete}
 use Rattle.bd_uapi.specs.declared.fault.Cause.{Cause}
 use Rattle.bd_uapi.specs.declared.fault.Cause.TheVariants as cause
 use Rattle.bd_space.specs.declared.step.Step.{Step}
 use Rattle.bd_space.specs.declared.step.Entry.{Entry}
-use Rattle.bd_space.specs.declared.space.Object.{Object}
-use Rattle.bd_space.specs.declared.space.Thread.{Thread}
 use Rattle.bd_space.specs.declared.space.Frame.{Frame}
-use Rattle.bd_space.specs.declared.space.Turn.{Turn}
 use Rattle.bd_space.specs.declared.space.Work.{Work}
-use Rattle.bd_space.specs.declared.space.Item.{Item}
 use Rattle.bd_space.specs.declared.space.Actor.{Actor}
 use Rattle.bd_space.specs.declared.space.TodoList.{TodoList}
 use Rattle.bd_space.specs.declared.space.TodoList.TheVariants.{OfThread, OfProcess}
 use Rattle.bd_space.specs.declared.space.WorkKind.{WorkKind}
 use Rattle.bd_space.specs.declared.space.WorkKind.TheVariants as work
-use Rattle.bd_space.specs.Words.{is_some_and}
 use Rattle.bd_space.specs.Space.{Space, opening}
 use Rattle.bd_space.specs.Todo.{with_work, owe, is_on, is_notice, is_item, list_to_read}
-use Rattle.bd_space.specs.Turns.{turns_of, ripen, ripened, is_ripe}
-use Rattle.bd_space.specs.Notices.{with_notice, wants_notice, has_notice_in, follow, notify, work_goes, deaths_go, still_due}
+use Rattle.bd_space.specs.Turns.{ripen}
+use Rattle.bd_space.specs.Notices.{follow, notify, work_goes, deaths_go, still_due}
 use Rattle.bd_space.specs.Names.{names_go, assign_numbers}
-use Rattle.bd_space.specs.References.{objects_go, object_in}
+use Rattle.bd_space.specs.References.{objects_go}
 use Rattle.bd_space.specs.Frames.{closed, goes_to}
-use Rattle.bd_uapi.specs.Kinds.{is_own, is_strong_kind}
-use Rattle.bd_space.specs.Delivery.{Delivery, delivered, own_notices, add_buffer, known_by, refer, make_objects, buffer_of, add_notice, withdraw_notice}
+use Rattle.bd_space.specs.Delivery.{Delivery, delivered, own_notices, add_buffer, known_by, refer, make_objects, buffer_of}
 use Rattle.bd_space.specs.Transactions.{transacted, called, call_out, refusal}
 use Rattle.bd_space.specs.Replies.{replied, reply_refused}
 use Rattle.bd_space.specs.Freeing.{without_buffer}
 use Rattle.bd_space.specs.ReadItems.{taken, read_by}
 use Rattle.bd_space.specs.ThreadExits.{thread_goes}
-use Rattle.bd_space.specs.ProcessExits.{threads_go, without_process, tell_deaths, seat_of}
+use Rattle.bd_space.specs.ProcessExits.{threads_go, without_process, tell_deaths}
 use Rattle.bd_space.specs.Steps.{counted, with_thread, with_process, with_manager}
 use Rattle.bd_space.specs.Asking.{ask, drop_asked, acknowledge}
 use Rattle.bd_space.specs.Commands.{with_looping}
 use Rattle.bd_space.specs.Histories.{after, next}
 use Rattle.bd_laws.specs.Lists.{In}
 use Rattle.bd_laws.proofs.EveryStep.{KeepsWhole, every_whole_step, every_list}
-use Rattle.bd_laws.proofs.Lists.{in-push, in-filter, fold-keeps}
+use Rattle.bd_laws.proofs.Lists.{in-push, in-filter}
 use Rattle.bd_laws.proofs.Deaths.{KeptOnDeaths, on-kept, on-told, on-commands}
 use Rattle.bd_laws.proofs.Adding.{told-keeps, notify-keeps, own_notices-keeps, ripen-keeps}
+use Rattle.bd_laws.proofs.Following.{threads-keep}
 use Rattle.bd_audit.specs.HandedReplies.{is_reply}
 
 -- a return that the item itself carries is no BR_REPLY
@@ -140,8 +135,7 @@ unfolding thread_goes
 goes z seat h = filter-plain (λ (w : Work). not (is_on (OfThread seat) w)) z.todo h
 
 all-go : (z : Space) (p : ℕ) → IsPlain z → IsPlain (threads_go z p)
-unfolding threads_go
-all-go z p h = fold-keeps IsPlain thread_goes (map seat_of (filter (λ (t : Thread). t.process == p) z.threads)) (λ y t l k. goes y t k) z h
+all-go = threads-keep IsPlain goes
 
 process-goes : (z : Space) (p : ℕ) → IsPlain z → IsPlain (without_process z p)
 unfolding without_process

@@ -1,5 +1,5 @@
 -- Work items stand in the order in which they were made, and on threads' own lists an identity names one item.
-use Rattle.std.proofs.Common.{◌≡◌, ℕ, suc, ◌-◌, ◌<◌, ◌≤◌, ◌==◌, Bool, true, false, cond, not, ◌&&◌, List, [], ◌∷◌, ◌++◌, Option, Some, None, ◌⊎◌, inl, inr, refl, ap, sym, ◌∙◌, map, filter, arith}
+use Rattle.std.proofs.Common.{◌≡◌, ℕ, suc, ◌-◌, ◌<◌, ◌≤◌, ◌==◌, Bool, true, false, cond, not, ◌&&◌, List, Option, Some, None, ◌⊎◌, inl, inr, refl, ap, sym, ◌∙◌, filter, arith}
 use Rattle.std.specs.List.{fold, list_any}
 use Rattle.std.proofs.lemmas.Bool.{eqb-true}
 use Rattle.bd_uapi.specs.declared.command.TransactionData.{TransactionData}
@@ -7,9 +7,7 @@ use Rattle.bd_space.specs.declared.step.Step.{Step}
 use Rattle.bd_space.specs.declared.step.Entry.{Entry}
 use Rattle.bd_space.specs.declared.space.Object.{Object}
 use Rattle.bd_space.specs.declared.space.Process.{Process}
-use Rattle.bd_space.specs.declared.space.Thread.{Thread}
 use Rattle.bd_space.specs.declared.space.Reference.{Reference}
-use Rattle.bd_space.specs.declared.space.Turn.{Turn}
 use Rattle.bd_space.specs.declared.space.Work.{Work}
 use Rattle.bd_space.specs.declared.space.Item.{Item}
 use Rattle.bd_space.specs.declared.space.Frame.{Frame}
@@ -23,7 +21,7 @@ use Rattle.bd_space.specs.declared.space.WorkKind.{WorkKind}
 use Rattle.bd_space.specs.declared.space.WorkKind.TheVariants as work
 use Rattle.bd_space.specs.Space.{Space, opening}
 use Rattle.bd_space.specs.Todo.{with_work, owe, is_on, notice_of, death_of, list_to_read, is_item}
-use Rattle.bd_space.specs.Turns.{turns_of, ripen, ripened, is_ripe}
+use Rattle.bd_space.specs.Turns.{ripen}
 use Rattle.bd_space.specs.Notices.{with_notice, follow, notify, work_goes, deaths_go, still_due}
 use Rattle.bd_space.specs.Names.{names_go, assign_numbers}
 use Rattle.bd_space.specs.References.{objects_go, object_in, owned_in}
@@ -35,7 +33,7 @@ use Rattle.bd_space.specs.Replies.{replied}
 use Rattle.bd_space.specs.Freeing.{without_buffer}
 use Rattle.bd_space.specs.ReadItems.{read_by, taken}
 use Rattle.bd_space.specs.ThreadExits.{thread_goes}
-use Rattle.bd_space.specs.ProcessExits.{threads_go, without_process, tell_death, tell_deaths, seat_of, is_armed}
+use Rattle.bd_space.specs.ProcessExits.{threads_go, without_process, tell_death, tell_deaths, is_armed}
 use Rattle.bd_space.specs.Steps.{counted, with_thread, with_process, with_manager}
 use Rattle.bd_space.specs.Asking.{ask, drop_asked, acknowledge}
 use Rattle.bd_space.specs.Commands.{with_looping}
@@ -47,6 +45,7 @@ use Rattle.bd_laws.proofs.EveryStep.{Keeps, every_step, every_list}
 use Rattle.bd_laws.proofs.Lists.{in-push, in-filter, pairs-push, pairs-filter, fold-keeps}
 use Rattle.bd_laws.proofs.Identities.{count_at, count-filter, count-work}
 use Rattle.bd_laws.proofs.Adding.{notify-keeps, ripen-keeps}
+use Rattle.bd_laws.proofs.Following.{threads-keep}
 use Rattle.bd_audit.proofs.RepliesDue.{Lasts, wanted-due, wanted-push, items-fresh}
 
 -- no later item was made before
@@ -271,8 +270,7 @@ unfolding thread_goes
 thread_goes-plain z seat h = filter-plain z.steps z.todo (λ (w : Work). not (is_on (OfThread seat) w)) h
 
 threads_go-plain : (z : Space) (p : ℕ) → Plain z → Plain (threads_go z p)
-unfolding threads_go
-threads_go-plain z p h = fold-keeps Plain thread_goes (map seat_of (filter (λ (t : Thread). t.process == p) z.threads)) (λ y t l. thread_goes-plain y t) z h
+threads_go-plain = threads-keep Plain thread_goes-plain
 
 without_process-plain : (z : Space) (p : ℕ) → Plain z → Plain (without_process z p)
 unfolding without_process

@@ -1,12 +1,7 @@
 -- Parts of a step that make no reply or verdict.
-use Rattle.std.proofs.Common.{◌≡◌, ℕ, ◌==◌, Bool, true, false, cond, not, List, [], ◌∷◌, ◌++◌, Option, Some, None, inl, inr, refl, ap, sym, ◌∙◌, map, filter}
-use Rattle.std.specs.List.{fold, list_any}
+use Rattle.std.proofs.Common.{◌≡◌, ℕ, Bool, true, false, not, List, [], ◌∷◌, ◌++◌, inl, inr, refl, ap, sym, ◌∙◌, filter}
+use Rattle.std.specs.List.{list_any}
 use Rattle.bd_uapi.specs.declared.command.TransactionData.{TransactionData}
-use Rattle.bd_space.specs.declared.space.Process.{Process}
-use Rattle.bd_space.specs.declared.space.Object.{Object}
-use Rattle.bd_space.specs.declared.space.Reference.{Reference}
-use Rattle.bd_space.specs.declared.space.Thread.{Thread}
-use Rattle.bd_space.specs.declared.space.Turn.{Turn}
 use Rattle.bd_space.specs.declared.space.Work.{Work}
 use Rattle.bd_space.specs.declared.space.Item.{Item}
 use Rattle.bd_space.specs.declared.space.Actor.{Actor}
@@ -16,21 +11,21 @@ use Rattle.bd_space.specs.declared.space.WorkKind.{WorkKind}
 use Rattle.bd_space.specs.declared.space.WorkKind.TheVariants as work
 use Rattle.bd_space.specs.Space.{Space}
 use Rattle.bd_space.specs.Todo.{with_work, owe, is_on, is_item, is_notice}
-use Rattle.bd_space.specs.Turns.{turns_of, ripen, ripened, is_ripe}
-use Rattle.bd_space.specs.Notices.{with_notice, follow, notify, work_goes, deaths_go, still_due}
+use Rattle.bd_space.specs.Turns.{ripen}
+use Rattle.bd_space.specs.Notices.{follow, notify, work_goes, deaths_go, still_due}
 use Rattle.bd_space.specs.Names.{names_go, assign_numbers}
-use Rattle.bd_space.specs.References.{objects_go, object_in}
+use Rattle.bd_space.specs.References.{objects_go}
 use Rattle.bd_space.specs.Frames.{goes_to}
-use Rattle.bd_uapi.specs.Kinds.{is_own}
-use Rattle.bd_space.specs.Delivery.{Delivery, delivered, own_notices, add_buffer, known_by, refer, make_objects, buffer_of, add_notice, withdraw_notice}
+use Rattle.bd_space.specs.Delivery.{Delivery, delivered, own_notices, add_buffer, known_by, refer, make_objects, buffer_of}
 use Rattle.bd_space.specs.Transactions.{transacted, called, call_out}
 use Rattle.bd_space.specs.ReadItems.{read_by}
 use Rattle.bd_space.specs.ThreadExits.{thread_goes}
-use Rattle.bd_space.specs.ProcessExits.{threads_go, without_process, tell_deaths, seat_of}
+use Rattle.bd_space.specs.ProcessExits.{threads_go, without_process, tell_deaths}
 use Rattle.bd_laws.specs.Lists.{In}
 use Rattle.bd_laws.proofs.Lists.{in-push, in-filter}
 use Rattle.bd_laws.proofs.Deaths.{OnDeaths, KeptOnDeaths, on-kept, on-told}
 use Rattle.bd_laws.proofs.Adding.{notify-keeps, own_notices-keeps, ripen-keeps}
+use Rattle.bd_laws.proofs.Following.{ends-by, threads-by}
 use Rattle.bd_audit.specs.Latest.{is_answer}
 
 -- no reply or verdict comes
@@ -106,10 +101,6 @@ pub none-goes : (z : Space) (seat : ℕ) → NoneNew (thread_goes z seat).todo z
 unfolding thread_goes
 none-goes z seat = none-filter (λ (w : Work). not (is_on (OfThread seat) w)) z.todo
 
-all-go-none : (seats : List ℕ) (z : Space) → NoneNew (fold thread_goes z seats).todo z.todo
-all-go-none [] z = none-same z.todo
-all-go-none (t ∷ ts) z = none-trans _ (thread_goes z t).todo z.todo (all-go-none ts (thread_goes z t)) (none-goes z t)
-
 process-none : (z : Space) (p : ℕ) → NoneNew (without_process z p).todo z.todo
 unfolding without_process
 process-none z p = none-filter (λ (w : Work). not (is_on (OfProcess p) w)) z.todo
@@ -125,9 +116,7 @@ pub none-on_deaths : (z : Space) → OnDeaths z (λ y. NoneNew y.todo z.todo)
 none-on_deaths z = on-kept _ (kept-on_deaths z) z (none-same z.todo)
 
 pub none-ends : (z : Space) (p : ℕ) → NoneNew (tell_deaths (without_process (threads_go z p) p) p).todo z.todo
-unfolding threads_go
-none-ends z p =
-    let a = fold thread_goes z (map seat_of (filter (λ (t : Thread). t.process == p) z.threads)) in
-    let b = without_process a p in
-    none-trans _ b.todo z.todo (on-told _ (kept-on_deaths b) b p (none-same b.todo))
-    (none-trans b.todo a.todo z.todo (process-none a p) (all-go-none (map seat_of (filter (λ (t : Thread). t.process == p) z.threads)) z))
+none-ends =
+    ends-by (λ z y. NoneNew z.todo y.todo) (λ z y x. none-trans z.todo y.todo x.todo)
+    (threads-by (λ z y. NoneNew z.todo y.todo) (λ z. none-same z.todo) (λ z y x. none-trans z.todo y.todo x.todo) none-goes) process-none
+    (λ z p. on-told _ (kept-on_deaths z) z p (none-same z.todo))

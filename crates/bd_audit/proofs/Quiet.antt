@@ -1,21 +1,15 @@
 -- Parts of a step that make no frame and no reply.
-use Rattle.std.proofs.Common.{◌≡◌, ℕ, ◌==◌, Bool, true, false, cond, not, List, [], ◌∷◌, ◌++◌, Option, Some, None, ◌⊎◌, inl, inr, refl, ap, sym, subst, ◌∙◌, map, filter}
-use Rattle.std.specs.List.{fold}
+use Rattle.std.proofs.Common.{◌≡◌, ℕ, ◌==◌, Bool, true, false, cond, not, List, [], ◌∷◌, ◌++◌, Some, None, ◌⊎◌, inl, inr, refl, ap, sym, subst, ◌∙◌, filter}
 use Rattle.std.specs.Option.{option_map}
 use Rattle.std.proofs.lemmas.Bool.{eqb-true, eq-eqb}
 use Rattle.bd_uapi.specs.declared.command.TransactionData.{TransactionData}
 use Rattle.bd_space.specs.declared.step.ObjectId.{ObjectId}
-use Rattle.bd_space.specs.declared.space.Object.{Object}
-use Rattle.bd_space.specs.declared.space.Process.{Process}
 use Rattle.bd_space.specs.declared.space.Thread.{Thread}
-use Rattle.bd_space.specs.declared.space.Reference.{Reference}
-use Rattle.bd_space.specs.declared.space.Turn.{Turn}
 use Rattle.bd_space.specs.declared.space.Work.{Work}
 use Rattle.bd_space.specs.declared.space.Item.{Item}
 use Rattle.bd_space.specs.declared.space.Frame.{Frame}
 use Rattle.bd_space.specs.declared.space.Actor.{Actor}
-use Rattle.bd_space.specs.declared.space.Server.{Server}
-use Rattle.bd_space.specs.declared.space.Server.TheVariants.{Pending, Serving, Gone}
+use Rattle.bd_space.specs.declared.space.Server.TheVariants.{Serving}
 use Rattle.bd_space.specs.declared.space.TodoList.{TodoList}
 use Rattle.bd_space.specs.declared.space.TodoList.TheVariants.{OfThread, OfProcess}
 use Rattle.bd_space.specs.declared.space.WorkKind.{WorkKind}
@@ -24,16 +18,15 @@ use Rattle.bd_space.specs.Words.{changed}
 use Rattle.bd_space.specs.Space.{Space}
 use Rattle.bd_space.specs.Seats.{thread_in}
 use Rattle.bd_space.specs.Todo.{with_work, owe, is_on, same_list, is_notice}
-use Rattle.bd_space.specs.Turns.{turns_of, ripen, ripened, is_ripe}
-use Rattle.bd_space.specs.Notices.{with_notice, follow, notify, work_goes, deaths_go, still_due}
+use Rattle.bd_space.specs.Turns.{ripen}
+use Rattle.bd_space.specs.Notices.{follow, notify, work_goes, deaths_go, still_due}
 use Rattle.bd_space.specs.Names.{names_go, assign_numbers}
-use Rattle.bd_space.specs.References.{objects_go, object_in}
+use Rattle.bd_space.specs.References.{objects_go}
 use Rattle.bd_space.specs.Frames.{closed, is_frame}
-use Rattle.bd_uapi.specs.Kinds.{is_own}
-use Rattle.bd_space.specs.Delivery.{Delivery, delivered, own_notices, add_buffer, known_by, refer, make_objects, buffer_of, add_notice, withdraw_notice}
+use Rattle.bd_space.specs.Delivery.{Delivery, delivered, own_notices, add_buffer, known_by, refer, make_objects, buffer_of}
 use Rattle.bd_space.specs.Freeing.{without_buffer}
-use Rattle.bd_space.specs.ThreadExits.{thread_goes, gone_caller, gone_server, unread_server, is_unread_on, frame_without, unread_frame}
-use Rattle.bd_space.specs.ProcessExits.{threads_go, without_process, tell_deaths, seat_of}
+use Rattle.bd_space.specs.ThreadExits.{thread_goes, frame_without, unread_frame}
+use Rattle.bd_space.specs.ProcessExits.{threads_go, without_process, tell_deaths}
 use Rattle.bd_space.specs.Steps.{with_thread, with_process, with_manager}
 use Rattle.bd_space.specs.Asking.{ask, drop_asked, acknowledge}
 use Rattle.bd_space.specs.Commands.{with_looping}
@@ -44,7 +37,7 @@ use Rattle.bd_laws.proofs.Tests.{not-true}
 use Rattle.bd_laws.proofs.Deaths.{OnDeaths, KeptOnDeaths, on-kept, on-told}
 use Rattle.bd_laws.proofs.PathWords.{caller-stays, server-stays, unread-serving}
 use Rattle.bd_laws.proofs.Adding.{notify-keeps, own_notices-keeps, ripen-keeps}
-use Rattle.bd_laws.proofs.Following.{FollowedBy, follow-by, ends-by}
+use Rattle.bd_laws.proofs.Following.{follow-by, ends-by, threads-by}
 use Rattle.bd_audit.specs.Replies.{made_in}
 
 -- a frame of this thread, or a reply that it is to read
@@ -290,13 +283,8 @@ module _ (z : Space) (seat : ℕ) where
     threads = λ t m h u. made-kept z.threads seat t (other-thread t u) ∙ h;
   }
 
-each-goes : (seats : List ℕ) (z : Space) → Quiet (fold thread_goes z seats) z
-each-goes [] z = quiet-refl z
-each-goes (t ∷ ts) z = quiet-trans _ (thread_goes z t) z (each-goes ts (thread_goes z t)) (thread_goes-quiet z t)
-
 threads_go-quiet : (z : Space) (p : ℕ) → Quiet (threads_go z p) z
-unfolding threads_go
-threads_go-quiet z p = each-goes (map seat_of (filter (λ (t : Thread). t.process == p) z.threads)) z
+threads_go-quiet = threads-by Quiet quiet-refl quiet-trans thread_goes-quiet
 
 without_process-quiet : (z : Space) (p : ℕ) → Quiet (without_process z p) z
 unfolding without_process

@@ -7,7 +7,7 @@ use Rattle.bd_uapi.specs.declared.fault.Fault.TheVariants.{NoMemory}
 use Rattle.std.specs.Option.{option_eq, option_map, option_and_then}
 use Rattle.std.proofs.lemmas.Bool.{eqb-true, eq-eqb}
 use Rattle.bd_space.specs.declared.step.Step.{Step}
-use Rattle.bd_space.specs.declared.step.Step.TheVariants.{Open, Attach, SetManager, Command, Read, ExitThread, ExitProcess}
+use Rattle.bd_space.specs.declared.step.Step.TheVariants.{Read}
 use Rattle.bd_space.specs.declared.step.Entry.{Entry}
 use Rattle.bd_space.specs.Space.{Space, opening}
 use Rattle.bd_space.specs.declared.space.Frame.{Frame}

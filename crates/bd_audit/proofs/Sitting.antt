@@ -1,5 +1,5 @@
 -- A Notice stands where threads of the process that owns its object read it.
-use Rattle.std.proofs.Common.{◌≡◌, ℕ, ◌==◌, Bool, true, false, cond, not, ◌&&◌, List, [], ◌∷◌, ◌++◌, Option, Some, None, Ok, inl, inr, refl, ap, sym, subst, ◌∙◌, map, filter, find, arith}
+use Rattle.std.proofs.Common.{◌≡◌, ℕ, ◌==◌, Bool, true, false, cond, not, ◌&&◌, List, [], ◌∷◌, ◌++◌, Option, Some, None, Ok, inl, inr, refl, ap, sym, subst, ◌∙◌, filter, find, arith}
 use Rattle.std.specs.List.{list_any}
 use Rattle.std.proofs.lemmas.Bool.{eqb-true, eq-eqb}
 use Rattle.bd_uapi.specs.declared.command.TransactionData.{TransactionData}
@@ -38,7 +38,7 @@ use Rattle.bd_space.specs.Asking.{ask, drop_asked, acknowledge}
 use Rattle.bd_space.specs.Commands.{with_looping}
 use Rattle.bd_space.specs.ReadItems.{read_by, told_of, is_told_by}
 use Rattle.bd_space.specs.ThreadExits.{thread_goes}
-use Rattle.bd_space.specs.ProcessExits.{threads_go, without_process, tell_deaths, seat_of}
+use Rattle.bd_space.specs.ProcessExits.{threads_go, without_process, tell_deaths}
 use Rattle.bd_space.specs.Steps.{change, counted, with_thread, with_process, with_manager}
 use Rattle.bd_space.specs.Histories.{next}
 use Rattle.bd_laws.specs.Lists.{In, Pairs}
@@ -51,6 +51,7 @@ use Rattle.bd_laws.proofs.Sendings.{Sends, sending-sends}
 use Rattle.bd_laws.proofs.Objects.{IsKept, IsKeptWhole, kept-step, step-kept, opening-kept, closed-before, closed-sends, delivered-kept, told-id}
 use Rattle.bd_laws.proofs.Noticing.{Noticing, closed-noticing, step-noticing, opening-noticing}
 use Rattle.bd_laws.proofs.Deaths.{KeptOnDeaths, on-kept, on-told, on-commands, commands-both}
+use Rattle.bd_laws.proofs.Following.{threads-keep}
 
 -- threads of q read the list
 abbrev pub Reaches : List Thread → TodoList → ℕ → Type 0
@@ -280,8 +281,7 @@ thread_goes-sits z seat h = λ w o x l e i is.
         at true g m = let yes = eq-eqb seat t (sym (eqb-true t seat g)) in absurd (cc)
 
 threads_go-sits : (z : Space) (p : ℕ) → SitsIn z → SitsIn (threads_go z p)
-unfolding threads_go
-threads_go-sits z p h = fold-keeps SitsIn thread_goes (map seat_of (filter (λ (t : Thread). t.process == p) z.threads)) (λ y t l k. thread_goes-sits y t k) z h
+threads_go-sits = threads-keep SitsIn thread_goes-sits
 
 without_process-sits : (z : Space) (p : ℕ) → SitsIn z → SitsIn (without_process z p)
 unfolding without_process

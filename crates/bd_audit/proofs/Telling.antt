@@ -1,18 +1,17 @@
 -- What an owner was told of an object agrees with what it has heard of it.
-use Rattle.std.proofs.Common.{◌≡◌, ℕ, ◌+◌, ◌≤◌, ◌==◌, Bool, true, false, cond, not, ◌&&◌, ◌||◌, List, [], ◌∷◌, ◌++◌, Option, Some, None, Ok, ◌⊎◌, inl, inr, refl, ap, sym, subst, ◌∙◌, map, filter, arith}
+use Rattle.std.proofs.Common.{◌≡◌, ℕ, ◌+◌, ◌≤◌, ◌==◌, Bool, true, false, cond, not, ◌&&◌, ◌||◌, List, [], ◌∷◌, ◌++◌, Option, Some, None, Ok, ◌⊎◌, inl, inr, refl, ap, sym, subst, ◌∙◌, filter, arith}
 use Rattle.std.proofs.lemmas.Bool.{eqb-true}
 use Rattle.bd_uapi.specs.declared.command.TransactionData.{TransactionData}
 use Rattle.bd_space.specs.declared.step.ObjectId.{ObjectId}
 use Rattle.bd_space.specs.declared.step.Parcel.{Parcel}
 use Rattle.bd_space.specs.declared.step.Step.{Step}
 use Rattle.bd_space.specs.declared.space.Process.{Process}
-use Rattle.bd_space.specs.declared.space.Thread.{Thread}
 use Rattle.bd_space.specs.declared.space.Actor.{Actor}
 use Rattle.bd_space.specs.declared.space.Frame.{Frame}
 use Rattle.bd_space.specs.declared.space.Object.{Object}
 use Rattle.bd_space.specs.declared.space.Reference.{Reference}
 use Rattle.bd_space.specs.declared.space.Holder.{Holder}
-use Rattle.bd_space.specs.declared.space.Holder.TheVariants.{Asked, Carried, Target, Handshake, Manager}
+use Rattle.bd_space.specs.declared.space.Holder.TheVariants.{Asked, Handshake, Manager}
 use Rattle.bd_space.specs.declared.space.Item.{Item}
 use Rattle.bd_space.specs.declared.space.WorkKind.TheVariants as work
 use Rattle.bd_space.specs.declared.space.TodoList.TheVariants.{OfThread}
@@ -31,12 +30,12 @@ use Rattle.bd_space.specs.Replies.{reply_check, replied}
 use Rattle.bd_space.specs.Asking.{ask, drop_asked}
 use Rattle.bd_space.specs.Freeing.{without_buffer}
 use Rattle.bd_space.specs.ThreadExits.{thread_goes, is_lost_reference}
-use Rattle.bd_space.specs.ProcessExits.{threads_go, without_process, is_dropped_with, seat_of}
+use Rattle.bd_space.specs.ProcessExits.{threads_go, without_process, is_dropped_with}
 use Rattle.bd_space.specs.Steps.{with_thread, with_process, with_manager}
 use Rattle.bd_laws.specs.Lists.{In, Pairs}
 use Rattle.bd_laws.specs.Objects.{Differ, KeptBefore}
 use Rattle.bd_laws.specs.Tidy.{Before}
-use Rattle.bd_laws.proofs.Lists.{in-left, in-append, in-push, in-last, in-filter, filter-in, without-in, any-found, any-in, pairs-either, fold-keeps}
+use Rattle.bd_laws.proofs.Lists.{in-left, in-append, in-push, in-last, in-filter, filter-in, without-in, any-found, any-in, pairs-either}
 use Rattle.bd_laws.proofs.Tests.{both, not-true, same-eq}
 use Rattle.bd_laws.proofs.EveryEnding.{IsReading, IsAcknowledging}
 use Rattle.bd_laws.proofs.EveryStep.{Keeps}
@@ -45,6 +44,7 @@ use Rattle.bd_laws.proofs.Checks.{transaction-checked, reply-checked}
 use Rattle.bd_laws.proofs.Sendings.{Sends, sending-sends}
 use Rattle.bd_laws.proofs.Objects.{and-false, closed-before, closed-sends, later, threads_go-kept}
 use Rattle.bd_laws.proofs.Deaths.{on-mapped, on-commands}
+use Rattle.bd_laws.proofs.Following.{threads-keep}
 use Rattle.bd_audit.proofs.Orders.{Hearing, unheard, weakly, strongly, ended}
 use Rattle.bd_audit.proofs.Tallies.{tally, tally-more, tally-none, tally-filter, tally-without}
 
@@ -215,8 +215,7 @@ module _ (o : ObjectId) (st : Hearing) where
       (same-filter o z.references (λ (r : Reference). not (is_lost_reference z.todo (OfThread seat) r)) (λ r e own. rw (own-buffer r.holder own) refl)) h
 
   threads_go-told : (z : Space) (p : ℕ) → H z → H (threads_go z p)
-  unfolding threads_go
-  threads_go-told z p h = fold-keeps H thread_goes (map seat_of (filter (λ (t : Thread). t.process == p) z.threads)) (λ y t l k. thread_goes-told y t k) z h
+  threads_go-told = threads-keep H thread_goes-told
 
   -- ---- a process ends
 

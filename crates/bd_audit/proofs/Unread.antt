@@ -1,5 +1,5 @@
 -- What a step leaves as it was: the frames, the threads, and what threads are still to read of their own calls.
-use Rattle.std.proofs.Common.{◌≡◌, ℕ, ◌<◌, ◌==◌, Bool, true, false, cond, not, List, [], ◌∷◌, ◌++◌, map, Option, Some, None, ◌⊎◌, inl, inr, refl, ap, sym, subst, ◌∙◌, filter, arith}
+use Rattle.std.proofs.Common.{◌≡◌, ℕ, ◌<◌, ◌==◌, Bool, true, false, not, List, [], ◌∷◌, ◌++◌, map, Some, ◌⊎◌, inl, inr, refl, ap, sym, subst, ◌∙◌, filter, arith}
 use Rattle.std.specs.List.{fold}
 use Rattle.std.proofs.lemmas.Bool.{eqb-true}
 use Rattle.bd_uapi.specs.declared.command.TransactionData.{TransactionData}
@@ -8,7 +8,6 @@ use Rattle.bd_space.specs.declared.space.Process.{Process}
 use Rattle.bd_space.specs.declared.space.Object.{Object}
 use Rattle.bd_space.specs.declared.space.Reference.{Reference}
 use Rattle.bd_space.specs.declared.space.Thread.{Thread}
-use Rattle.bd_space.specs.declared.space.Turn.{Turn}
 use Rattle.bd_space.specs.declared.space.Work.{Work}
 use Rattle.bd_space.specs.declared.space.Item.{Item}
 use Rattle.bd_space.specs.declared.space.Frame.{Frame}
@@ -20,18 +19,17 @@ use Rattle.bd_space.specs.declared.space.WorkKind.{WorkKind}
 use Rattle.bd_space.specs.declared.space.WorkKind.TheVariants as work
 use Rattle.bd_space.specs.Space.{Space}
 use Rattle.bd_space.specs.Todo.{with_work, owe, is_on, is_notice, same_list}
-use Rattle.bd_space.specs.Turns.{turns_of, ripen, ripened, is_ripe}
-use Rattle.bd_space.specs.Notices.{with_notice, follow, notify, work_goes, deaths_go, still_due}
+use Rattle.bd_space.specs.Turns.{ripen}
+use Rattle.bd_space.specs.Notices.{follow, notify, work_goes, deaths_go, still_due}
 use Rattle.bd_space.specs.Names.{names_go, assign_numbers}
-use Rattle.bd_space.specs.References.{objects_go, object_in}
-use Rattle.bd_uapi.specs.Kinds.{is_own}
-use Rattle.bd_space.specs.Delivery.{Delivery, delivered, own_notices, add_buffer, known_by, refer, make_objects, buffer_of, add_notice, withdraw_notice}
+use Rattle.bd_space.specs.References.{objects_go}
+use Rattle.bd_space.specs.Delivery.{Delivery, delivered, own_notices, add_buffer, known_by, refer, make_objects, buffer_of}
 use Rattle.bd_space.specs.Transactions.{transacted, called, call_out}
 use Rattle.bd_space.specs.ThreadExits.{thread_goes, frame_without, unread_frame}
 use Rattle.bd_space.specs.ProcessExits.{threads_go, without_process, tell_deaths, seat_of}
 use Rattle.bd_space.specs.Steps.{with_thread}
 use Rattle.bd_laws.specs.Lists.{In}
-use Rattle.bd_laws.proofs.Lists.{in-left, in-push, in-map, map-in, filter-in, fold-keeps}
+use Rattle.bd_laws.proofs.Lists.{in-left, in-push, in-map, map-in, filter-in}
 use Rattle.bd_laws.proofs.Tests.{not-false}
 use Rattle.bd_laws.proofs.Deaths.{OnDeaths, KeptOnDeaths, on-kept, on-told}
 use Rattle.bd_audit.specs.Replies.{made_in, thread_made}
