@@ -2,8 +2,6 @@
 use Rattle.std.proofs.Common.{◌≡◌, ℕ, zero, suc, ◌<◌, ◌+◌, ◌-◌, ◌==◌, Bool, true, false, cond, not, List, [], ◌∷◌, ◌++◌, length, Option, Some, None, Ok, inl, inr, refl, ap, sym, subst, ◌∙◌, append_assoc, length-append, arith}
 use Rattle.std.specs.List.{list_any, find}
 use Rattle.std.specs.Option.{option_map}
-use Rattle.std.proofs.lemmas.Option.{option_and_then_some}
-use Rattle.std.proofs.lemmas.List.{append-nil}
 use Rattle.std.proofs.lemmas.Bool.{eqb-true, eq-eqb}
 use Rattle.bd_uapi.specs.declared.command.Command.TheVariants as bc
 use Rattle.bd_uapi.specs.declared.command.TransactionData.{TransactionData}
@@ -17,8 +15,7 @@ use Rattle.bd_space.specs.declared.space.Thread.{Thread}
 use Rattle.bd_space.specs.declared.space.Work.{Work}
 use Rattle.bd_space.specs.declared.space.Frame.{Frame}
 use Rattle.bd_space.specs.declared.space.Actor.{Actor}
-use Rattle.bd_space.specs.declared.space.Server.TheVariants.{Pending, Serving, Gone}
-use Rattle.bd_space.specs.declared.space.Server.{Server}
+use Rattle.bd_space.specs.declared.space.Server.TheVariants.{Pending, Serving}
 use Rattle.bd_space.specs.declared.space.TodoList.{TodoList}
 use Rattle.bd_space.specs.declared.space.TodoList.TheVariants.{OfThread}
 use Rattle.bd_space.specs.declared.space.WorkKind.{WorkKind}
@@ -26,7 +23,7 @@ use Rattle.bd_space.specs.declared.space.WorkKind.TheVariants as work
 use Rattle.bd_space.specs.Space.{Space, opening}
 use Rattle.bd_space.specs.Seats.{actor}
 use Rattle.bd_space.specs.Todo.{owe, is_call, list_to_read, is_item}
-use Rattle.bd_space.specs.Frames.{closed, goes_to, is_frame, serves, innermost, innermost_in, served_innermost, if_served, made_of, is_deepest_in}
+use Rattle.bd_space.specs.Frames.{closed, goes_to, is_frame, innermost, innermost_in, served_innermost, made_of, is_deepest_in}
 use Rattle.bd_space.specs.Turns.{ripen}
 use Rattle.bd_space.specs.Notices.{follow}
 use Rattle.bd_space.specs.Settle.{settle, settle_one, settle_times, is_abandoned}
@@ -43,10 +40,10 @@ use Rattle.bd_space.specs.Histories.{after, next}
 use Rattle.bd_calls.specs.TodoList.{reply_of}
 use Rattle.bd_laws.specs.Lists.{In}
 use Rattle.bd_laws.proofs.EveryStep.{Keeps, every_step}
-use Rattle.bd_laws.proofs.Lists.{in-push, in-filter, in-changed, find-in, any-found}
+use Rattle.bd_laws.proofs.Lists.{in-push, in-filter, in-changed, find-in, any-found, by-last}
 use Rattle.bd_laws.proofs.Tests.{not-true}
 use Rattle.bd_laws.proofs.Checks.{actor-lives, transaction-checked}
-use Rattle.bd_laws.proofs.Deaths.{on-mapped}
+use Rattle.bd_laws.proofs.Deaths.{on-mapped, on-commands}
 use Rattle.bd_laws.proofs.PathWords.{served-is}
 use Rattle.bd_audit.specs.Replies.{made_in, thread_made, items_read, items_taken, items_unless, frame_of, Calls, TakesCall, AnswersCall, At}
 use Rattle.bd_audit.proofs.Beginnings.{after-append}
@@ -437,10 +434,12 @@ module _ (es : List Entry) (e : Entry) (h : Traced es (after opening es)) where
 
   pub kept : Keeps s e.seat e.step (Traced more) (Traced more)
   kept = record {
-    same = now;
-    opened = λ pid euid window. quietly _ (quiet.opened-quiet s e.seat pid euid window);
-    attached = λ p. quietly _ (quiet.attached-quiet s e.seat p);
-    managed = λ a i b. quietly _ (quiet.managed-quiet s a.process.made);
+    set_up = record {
+      same = now;
+      opened = λ pid euid window free. quietly _ (quiet.opened-quiet s e.seat pid euid window);
+      attached = λ p free. quietly _ (quiet.attached-quiet s e.seat p);
+      managed = λ a i b. quietly _ (quiet.managed-quiet s a.process.made);
+    };
     changes = record {
       transacts = λ a d parcel v x i t. transacted-traced a i d parcel v x t;
       replies = λ a d parcel f v x i g t. replied-traced a i d parcel f v x g t;
@@ -449,7 +448,7 @@ module _ (es : List Entry) (e : Entry) (h : Traced es (after opening es)) where
       drops = λ p o strong. quietly _ (quiet.drop_asked-quiet s p o strong);
       acknowledges = λ o strong i. quietly _ (quiet.acknowledge-quiet s o strong);
       loops = λ t looping. quietly _ (quiet.with_looping-quiet s t looping);
-      on_deaths = on-mapped s _ _ quietly (quiet.on_deaths-quiet s);
+      on_deaths = on-commands s _ (on-mapped s _ _ quietly (quiet.on_deaths-quiet s));
       reads = λ a limit i x n. read-traced a i limit x n;
       leaves = λ a i. quietly _ (quiet.thread_goes-quiet s a.thread.seat);
       ends = λ a i. quietly _ (quiet.ends-quiet s a.process.made);
@@ -473,10 +472,5 @@ module _ (es : List Entry) (e : Entry) (h : Traced es (after opening es)) where
 opening-traced : Traced [] opening
 opening-traced = record { below = λ f l. absurd l; callers = λ f t l e. absurd l; servers = λ f t l e. absurd l; replies = λ w b t l e o. absurd l }
 
-from-here : (rest before : List Entry) → Traced before (after opening before) → Traced (before ++ rest) (after opening (before ++ rest))
-from-here [] before h = subst (λ es. Traced es (after opening es)) (sym (append-nil before)) h
-from-here (e ∷ rest) before h =
-    subst (λ es. Traced es (after opening es)) (append_assoc before (e ∷ []) rest) (from-here rest (before ++ e ∷ []) (step-traced before e h))
-
 pub always-traced : (es : List Entry) → Traced es (after opening es)
-always-traced es = from-here es [] opening-traced
+always-traced es = by-last (λ es. Traced es (after opening es)) step-traced opening-traced es

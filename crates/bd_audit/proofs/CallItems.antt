@@ -49,7 +49,7 @@ use Rattle.bd_laws.proofs.Checks.{Transacts, transaction-checked, reply-checked}
 use Rattle.bd_laws.proofs.Passing.{After, lost-on, not-on, at_pointer-in, ask-after, drop_asked-after, acknowledge-after, follow-after}
 use Rattle.bd_laws.proofs.Received.{one-buffer}
 use Rattle.bd_laws.proofs.PathWords.{same-item}
-use Rattle.bd_laws.proofs.Deaths.{on-mapped, on-both}
+use Rattle.bd_laws.proofs.Deaths.{on-mapped, on-both, on-commands}
 use Rattle.bd_audit.specs.Replies.{items_taken, items_read, items_unless}
 use Rattle.bd_audit.specs.TurnCalls.{CallsOneWay}
 use Rattle.bd_laws.proofs.OneWay
@@ -486,10 +486,12 @@ module _ (s : Space) (e : Entry) (m : ℕ) where
 
     treating : Keeps s e.seat e.step (Treats s e m) (Treats s e m)
     treating = record {
-      same = at-start;
-      opened = λ pid euid window. treats-opened pid euid window at-start;
-      attached = λ p. treats-attached p at-start;
-      managed = λ a i b. treats-managed a.process.made at-start;
+      set_up = record {
+        same = at-start;
+        opened = λ pid euid window free. treats-opened pid euid window at-start;
+        attached = λ p free. treats-attached p at-start;
+        managed = λ a i b. treats-managed a.process.made at-start;
+      };
       changes = record {
         transacts = λ a d parcel v x i t. transacts a i d parcel v x t at-start;
         replies = λ a d parcel f v x i g t. replies a i d parcel f v x t at-start;
@@ -498,7 +500,7 @@ module _ (s : Space) (e : Entry) (m : ℕ) where
         drops = λ p o strong. treats-after _ s (drop_asked-after s p o strong) at-start;
         acknowledges = λ o strong i. treats-after _ s (acknowledge-after s o strong) at-start;
         loops = λ t looping. treats-untouched _ s (Untouched.with_looping-untouched s t looping) (OneWay.with_looping-less s t looping) at-start;
-        on_deaths = on-mapped s _ _ (λ y k. treats-untouched y s k.0 k.1 at-start) (on-both s _ _ (Untouched.on_deaths-untouched s) (OneWay.on_deaths-less s));
+        on_deaths = on-commands s _ (on-mapped s _ _ (λ y k. treats-untouched y s k.0 k.1 at-start) (on-both s _ _ (Untouched.on_deaths-untouched s) (OneWay.on_deaths-less s)));
         reads = λ a limit i x n. reads a limit i x n;
         leaves = λ a i. gone-thread s a.thread.seat at-start;
         ends = λ a i. gone-ends a.process.made at-start;

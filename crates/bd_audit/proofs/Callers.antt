@@ -1,8 +1,6 @@
 -- An open call has its caller as long as the thread that made it lives.
-use Rattle.std.proofs.Common.{◌≡◌, ℕ, zero, suc, ◌<◌, ◌-◌, ◌==◌, Bool, true, false, cond, not, List, [], ◌∷◌, ◌++◌, append_assoc, length, map, filter, Option, Some, None, inl, inr, refl, ap, sym, subst, ◌∙◌, arith}
+use Rattle.std.proofs.Common.{◌≡◌, ℕ, zero, suc, ◌<◌, ◌-◌, ◌==◌, Bool, true, false, cond, not, List, [], ◌∷◌, ◌++◌, length, map, filter, Option, Some, None, inl, inr, refl, ap, sym, subst, ◌∙◌, arith}
 use Rattle.std.specs.List.{fold, list_any}
-use Rattle.std.proofs.lemmas.List.{append-nil}
-use Rattle.std.proofs.lemmas.Bool.{eqb-true}
 use Rattle.bd_uapi.specs.declared.command.TransactionData.{TransactionData}
 use Rattle.bd_space.specs.declared.step.Entry.{Entry}
 use Rattle.bd_space.specs.declared.space.Work.{Work}
@@ -32,8 +30,8 @@ use Rattle.bd_space.specs.Commands.{with_looping}
 use Rattle.bd_space.specs.Histories.{after}
 use Rattle.bd_laws.specs.Lists.{In}
 use Rattle.bd_laws.proofs.EveryStep.{Keeps, every_step}
-use Rattle.bd_laws.proofs.Lists.{in-push, in-filter, in-map, in-changed}
-use Rattle.bd_laws.proofs.Deaths.{tell_deaths-aside, on-mapped, on_deaths-aside}
+use Rattle.bd_laws.proofs.Lists.{in-push, in-filter, in-map, in-changed, by-last}
+use Rattle.bd_laws.proofs.Deaths.{tell_deaths-aside, on-mapped, on_deaths-aside, on-commands}
 use Rattle.bd_audit.specs.Replies.{made_in, thread_made}
 use Rattle.bd_audit.proofs.Beginnings.{after-append}
 use Rattle.bd_audit.proofs.Chains.{always-steps}
@@ -42,7 +40,7 @@ use Rattle.bd_audit.proofs.Answering.{Called, always-traced, actor-made}
 use Rattle.bd_audit.proofs.ReplyLaw.{stood, placed}
 use Rattle.bd_audit.proofs.Places.{between}
 use Rattle.bd_audit.proofs.Seated as seated
-use Rattle.bd_audit.proofs.Seated.{seat_at, always-seated, made-pushed, made-before, none-left}
+use Rattle.bd_audit.proofs.Seated.{seat_at, always-seated, made-pushed, made-before, other-left}
 use Rattle.bd_laws.proofs.Paths as path
 use Rattle.bd_laws.proofs.PathCalls as path_call
 
@@ -75,14 +73,7 @@ goes es z seat h f m t l c i =
     let g = in-map (frame_without z.todo seat) f z.frames l in
     let made = ap (λ (x : Frame). x.made) g.2 in
     let caller = h g.0 m t g.1 (subst (λ n. Called es n m) (sym made) c) (made-before z.threads seat t m i) in
-    sym (ap (λ (x : Frame). x.caller) g.2) ∙ ap (gone_caller seat) caller ∙ ap (λ b. cond b None (Some t)) (at (t == seat) refl)
-  where
-    at : (b : Bool) → (t == seat) ≡ b → (t == seat) ≡ false
-    at true e =
-        let none = none-left z.threads seat in
-        let some = subst (λ n. made_in (filter (λ (v : Thread). not (v.seat == seat)) z.threads) n ≡ Some m) (eqb-true t seat e) i in
-        absurd (cc)
-    at false e = e
+    sym (ap (λ (x : Frame). x.caller) g.2) ∙ ap (gone_caller seat) caller ∙ ap (λ b. cond b None (Some t)) (other-left z.threads seat t m i)
 
 all-go : (es : List Entry) (seats : List ℕ) (z : Space) → HasCallers es z → HasCallers es (fold thread_goes z seats)
 all-go es [] z h = h
@@ -188,10 +179,12 @@ module _ (es : List Entry) (e : Entry) (h : HasCallers es (after opening es)) wh
   pub kept : Keeps s e.seat e.step (HasCallers more) (HasCallers more)
   unfolding with_process with_manager without_buffer ask assign_numbers drop_asked acknowledge with_looping ripen follow notify work_goes deaths_go objects_go names_go
   kept = record {
-    same = now;
-    opened = λ pid euid window. attaches s.steps (with_process s pid euid window) refl refl refl;
-    attached = λ p. attaches p s refl refl refl;
-    managed = λ a i b. stays (with_manager s a.process.made) refl refl;
+    set_up = record {
+      same = now;
+      opened = λ pid euid window free. attaches s.steps (with_process s pid euid window) refl refl refl;
+      attached = λ p free. attaches p s refl refl refl;
+      managed = λ a i b. stays (with_manager s a.process.made) refl refl;
+    };
     changes = record {
       transacts = λ a d parcel v x i t. transacts a d v i;
       replies = λ a d parcel f v x i g t. replies a d f v;
@@ -200,7 +193,7 @@ module _ (es : List Entry) (e : Entry) (h : HasCallers es (after opening es)) wh
       drops = λ p o strong. stays (drop_asked s p o strong) refl refl;
       acknowledges = λ o strong i. stays (acknowledge s o strong) refl refl;
       loops = λ t looping f m u l c k. now f m u l c (sym (made-changed (λ (v : Thread). v.seat == t) looping s.threads u) ∙ k);
-      on_deaths = on-mapped s _ _ (λ y k. stays y k.frames k.threads) (on_deaths-aside s);
+      on_deaths = on-commands s _ (on-mapped s _ _ (λ y k. stays y k.frames k.threads) (on_deaths-aside s));
       reads = λ a limit i x n. reads more s a.thread.seat (taken s (limit - 4) (list_to_read s a.thread)) now;
       leaves = λ a i. goes more s a.thread.seat now;
       ends = λ a i. ends more s a.process.made now;
@@ -216,9 +209,5 @@ module _ (es : List Entry) (e : Entry) (h : HasCallers es (after opening es)) wh
   unfolding counted
   step-callers = subst (HasCallers more) (sym (after-append opening es (e ∷ []))) (every_step s e.seat e.step (HasCallers more) (HasCallers more) kept)
 
-from-here : (rest before : List Entry) → HasCallers before (after opening before) → HasCallers (before ++ rest) (after opening (before ++ rest))
-from-here [] before h = subst (λ es. HasCallers es (after opening es)) (sym (append-nil before)) h
-from-here (e ∷ rest) before h = subst (λ es. HasCallers es (after opening es)) (append_assoc before (e ∷ []) rest) (from-here rest (before ++ e ∷ []) (step-callers before e h))
-
 pub always-callers : (es : List Entry) → HasCallers es (after opening es)
-always-callers es = from-here es [] (λ f m t l c i. absurd l)
+always-callers es = by-last (λ es. HasCallers es (after opening es)) step-callers (λ f m t l c i. absurd l) es

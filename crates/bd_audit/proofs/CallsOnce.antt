@@ -7,7 +7,7 @@ use Rattle.bd_uapi.specs.declared.command.TransactionData.{TransactionData}
 use Rattle.bd_uapi.specs.declared.fault.Fault.{Fault}
 use Rattle.bd_space.specs.declared.step.ObjectId.{ObjectId}
 use Rattle.bd_space.specs.declared.step.Step.{Step}
-use Rattle.bd_space.specs.declared.step.Step.TheVariants.{Open, Attach, SetManager, Command, Read, ExitThread, ExitProcess}
+use Rattle.bd_space.specs.declared.step.Step.TheVariants.{Command, Read}
 use Rattle.bd_space.specs.declared.step.Entry.{Entry}
 use Rattle.bd_space.specs.declared.space.Actor.{Actor}
 use Rattle.bd_space.specs.declared.space.Buffer.{Buffer}
@@ -44,7 +44,7 @@ use Rattle.bd_laws.proofs.InTurn.{is_call-hands}
 use Rattle.bd_laws.proofs.Passing.{After, untouched-after, follow-after, step-passes}
 use Rattle.bd_laws.proofs.Received.{step-before, opening-before, on-before}
 use Rattle.bd_laws.proofs.PathWords.{same-item}
-use Rattle.bd_laws.proofs.Deaths.{on-mapped}
+use Rattle.bd_laws.proofs.Deaths.{on-mapped, on-commands}
 use Rattle.bd_audit.specs.Replies.{items_taken, items_read, items_unless, HandsOutCall, Calls, At}
 use Rattle.bd_audit.specs.Gifts.{Stands}
 use Rattle.bd_laws.proofs.OneWay as one_way
@@ -222,10 +222,12 @@ module _ (s : Space) (m : ℕ) (turns : IsInTurn s) (single : One m s.todo) wher
 
   calling : (seat : ℕ) (x : Step) → Keeps s seat x (CalledIn s m) (CalledIn s m)
   calling seat x = record {
-    same = from-due s refl (λ w i. i.0);
-    opened = λ pid euid window. from-less _ (one_way.opened-less s seat pid euid window);
-    attached = λ p. from-less _ (one_way.attached-less s seat p);
-    managed = λ a i b. from-less _ (one_way.managed-less s a.process.made);
+    set_up = record {
+      same = from-due s refl (λ w i. i.0);
+      opened = λ pid euid window free. from-less _ (one_way.opened-less s seat pid euid window);
+      attached = λ p free. from-less _ (one_way.attached-less s seat p);
+      managed = λ a i b. from-less _ (one_way.managed-less s a.process.made);
+    };
     changes = record {
       transacts = λ a d parcel v e i t. transacts a d v;
       replies = λ a d parcel f v e i g t. replies a d f v;
@@ -234,7 +236,7 @@ module _ (s : Space) (m : ℕ) (turns : IsInTurn s) (single : One m s.todo) wher
       drops = λ p o strong. from-less _ (one_way.drop_asked-less s p o strong);
       acknowledges = λ o strong i. from-less _ (one_way.acknowledge-less s o strong);
       loops = λ t looping. from-less _ (one_way.with_looping-less s t looping);
-      on_deaths = on-mapped s _ _ from-less (one_way.on_deaths-less s);
+      on_deaths = on-commands s _ (on-mapped s _ _ from-less (one_way.on_deaths-less s));
       reads = λ a limit i e n. reads a.thread.seat _;
       leaves = λ a i. from-less _ (one_way.thread_goes-less s a.thread.seat);
       ends = λ a i. from-less _ (one_way.ends-less s a.process.made);
@@ -303,12 +305,7 @@ module _ (s : Space) (c : ℕ) (single : One c s.todo) where
   taken-gone : (seat : ℕ) (x : Step) → has_call (items_taken s seat x) ≡ true → NoCall c (change s seat x).space
   unfolding change
   taken-gone seat (Read limit) h = actor-gone limit (actor s seat) h
-  taken-gone seat (Open pid euid window) h = absurd (cc)
-  taken-gone seat (Attach pid) h = absurd (cc)
-  taken-gone seat SetManager h = absurd (cc)
-  taken-gone seat (Command y parcel) h = absurd (cc)
-  taken-gone seat ExitThread h = absurd (cc)
-  taken-gone seat ExitProcess h = absurd (cc)
+  taken-gone seat _ h = absurd (cc)
 
 -- ---- a two-way call has no turn, and none of it comes again
 

@@ -12,7 +12,7 @@ use Rattle.bd_uapi.specs.declared.fault.Cause.{Cause}
 use Rattle.bd_space.specs.declared.step.ObjectId.{ObjectId}
 use Rattle.bd_space.specs.declared.step.Parcel.{Parcel}
 use Rattle.bd_space.specs.declared.step.Step.{Step}
-use Rattle.bd_space.specs.declared.step.Step.TheVariants.{Open, Attach, SetManager, Command, Read, ExitThread, ExitProcess}
+use Rattle.bd_space.specs.declared.step.Step.TheVariants.{Command, Read}
 use Rattle.bd_space.specs.declared.step.StepAnswer.TheVariants.{Accepted}
 use Rattle.bd_space.specs.declared.step.Entry.{Entry}
 use Rattle.bd_space.specs.declared.space.Actor.{Actor}
@@ -64,12 +64,7 @@ read-due s limit (Some a) w i = unless-due s a limit (read_fault limit (list_to_
 
 pub items-due : (s : Space) (seat : ℕ) (x : Step) (w : Work) → In w (items_taken s seat x) → In w s.todo
 items-due s seat (Read limit) w i = read-due s limit (actor s seat) w i
-items-due s seat (Open pid euid window) w i = absurd i
-items-due s seat (Attach pid) w i = absurd i
-items-due s seat SetManager w i = absurd i
-items-due s seat (Command c parcel) w i = absurd i
-items-due s seat ExitThread w i = absurd i
-items-due s seat ExitProcess w i = absurd i
+items-due s seat _ w i = absurd i
 
 -- ---- the call among the items is what hands a buffer out
 
@@ -90,11 +85,7 @@ module _ (s : Space) (m : ℕ) where
       at false e f = absurd (cc)
   first-kind ws (work.Reply b) k h = absurd (cc)
   first-kind ws (work.Death n) k h = absurd (cc)
-  first-kind ws (work.Notice o) k h = k h
-  first-kind ws work.Complete k h = k h
-  first-kind ws (work.Refusal r) k h = k h
-  first-kind ws (work.Verdict r) k h = k h
-  first-kind ws (work.Cleared n) k h = k h
+  first-kind ws _ k h = k h
 
   first-call : (ws : List Work) (left : ℕ) → has_call (taken s left ws) ≡ true → first_handed (taken s left ws) ≡ Some m
   first-call [] left h = absurd (cc)
@@ -156,12 +147,7 @@ module _ (s : Space) (m : ℕ) where
     pub hands-out : (seat : ℕ) (x : Step) → has_call (items_taken s seat x) ≡ true → is_handed (change s seat x).space.buffers m ≡ true
     unfolding change
     hands-out seat (Read limit) h = actor-handed limit (actor s seat) h
-    hands-out seat (Open pid euid window) h = absurd (cc)
-    hands-out seat (Attach pid) h = absurd (cc)
-    hands-out seat SetManager h = absurd (cc)
-    hands-out seat (Command c parcel) h = absurd (cc)
-    hands-out seat ExitThread h = absurd (cc)
-    hands-out seat ExitProcess h = absurd (cc)
+    hands-out seat _ h = absurd (cc)
 
 -- ---- an accepted one-way transaction makes a buffer
 

@@ -1,47 +1,43 @@
 -- What a refusal or a verdict tells its reader is never a BR_REPLY.
-use Rattle.std.proofs.Common.{◌≡◌, ℕ, ◌-◌, ◌==◌, Bool, true, false, cond, not, ◌&&◌, List, [], ◌∷◌, ◌++◌, Option, Some, None, inl, inr, refl, ap, sym, ◌∙◌, map, filter}
-use Rattle.std.specs.List.{fold, list_any}
+use Rattle.std.proofs.Common.{◌≡◌, ℕ, ◌-◌, Bool, true, false, cond, not, List, Option, Some, None, inl, inr, refl, ap, sym, ◌∙◌, filter}
+use Rattle.std.specs.List.{list_any}
 use Rattle.bd_uapi.specs.declared.command.TransactionData.{TransactionData}
 use Rattle.bd_uapi.specs.declared.command.Return.TheVariants.{DeadReply, FailedReply, TransactionComplete}
 use Rattle.bd_uapi.specs.declared.fault.Cause.{Cause}
 use Rattle.bd_uapi.specs.declared.fault.Cause.TheVariants as cause
 use Rattle.bd_space.specs.declared.step.Step.{Step}
 use Rattle.bd_space.specs.declared.step.Entry.{Entry}
-use Rattle.bd_space.specs.declared.space.Object.{Object}
-use Rattle.bd_space.specs.declared.space.Thread.{Thread}
 use Rattle.bd_space.specs.declared.space.Frame.{Frame}
-use Rattle.bd_space.specs.declared.space.Turn.{Turn}
 use Rattle.bd_space.specs.declared.space.Work.{Work}
-use Rattle.bd_space.specs.declared.space.Item.{Item}
 use Rattle.bd_space.specs.declared.space.Actor.{Actor}
 use Rattle.bd_space.specs.declared.space.TodoList.{TodoList}
 use Rattle.bd_space.specs.declared.space.TodoList.TheVariants.{OfThread, OfProcess}
 use Rattle.bd_space.specs.declared.space.WorkKind.{WorkKind}
 use Rattle.bd_space.specs.declared.space.WorkKind.TheVariants as work
-use Rattle.bd_space.specs.Words.{is_some_and}
 use Rattle.bd_space.specs.Space.{Space, opening}
 use Rattle.bd_space.specs.Todo.{with_work, owe, is_on, is_notice, is_item, list_to_read}
-use Rattle.bd_space.specs.Turns.{turns_of, ripen, ripened, is_ripe}
-use Rattle.bd_space.specs.Notices.{with_notice, wants_notice, has_notice_in, follow, notify, work_goes, deaths_go, still_due}
+use Rattle.bd_space.specs.Turns.{ripen}
+use Rattle.bd_space.specs.Notices.{follow, notify, work_goes, deaths_go, still_due}
 use Rattle.bd_space.specs.Names.{names_go, assign_numbers}
-use Rattle.bd_space.specs.References.{objects_go, object_in}
+use Rattle.bd_space.specs.References.{objects_go}
 use Rattle.bd_space.specs.Frames.{closed, goes_to}
-use Rattle.bd_uapi.specs.Kinds.{is_own, is_strong_kind}
-use Rattle.bd_space.specs.Delivery.{Delivery, delivered, own_notices, add_buffer, known_by, refer, make_objects, buffer_of, add_notice, withdraw_notice}
+use Rattle.bd_space.specs.Delivery.{Delivery, delivered, own_notices, add_buffer, known_by, refer, make_objects, buffer_of}
 use Rattle.bd_space.specs.Transactions.{transacted, called, call_out, refusal}
 use Rattle.bd_space.specs.Replies.{replied, reply_refused}
 use Rattle.bd_space.specs.Freeing.{without_buffer}
 use Rattle.bd_space.specs.ReadItems.{taken, read_by}
 use Rattle.bd_space.specs.ThreadExits.{thread_goes}
-use Rattle.bd_space.specs.ProcessExits.{threads_go, without_process, tell_deaths, seat_of}
+use Rattle.bd_space.specs.ProcessExits.{threads_go, without_process, tell_deaths}
 use Rattle.bd_space.specs.Steps.{counted, with_thread, with_process, with_manager}
 use Rattle.bd_space.specs.Asking.{ask, drop_asked, acknowledge}
 use Rattle.bd_space.specs.Commands.{with_looping}
 use Rattle.bd_space.specs.Histories.{after, next}
 use Rattle.bd_laws.specs.Lists.{In}
 use Rattle.bd_laws.proofs.EveryStep.{KeepsWhole, every_whole_step, every_list}
-use Rattle.bd_laws.proofs.Lists.{in-push, in-filter, fold-keeps}
-use Rattle.bd_laws.proofs.Deaths.{KeptOnDeaths, on-kept, on-told}
+use Rattle.bd_laws.proofs.Lists.{in-push, in-filter}
+use Rattle.bd_laws.proofs.Deaths.{KeptOnDeaths, on-kept, on-told, on-commands}
+use Rattle.bd_laws.proofs.Adding.{told-keeps, notify-keeps, own_notices-keeps, ripen-keeps}
+use Rattle.bd_laws.proofs.Following.{threads-keep}
 use Rattle.bd_audit.specs.HandedReplies.{is_reply}
 
 -- a return that the item itself carries is no BR_REPLY
@@ -79,16 +75,8 @@ refusal-plain cause.CallerGone = refl
 push-plain : (place : ℕ) (todo : List Work) (list : TodoList) (kind : WorkKind) → is_plain kind ≡ true → Plain todo → Plain (with_work place todo list kind)
 push-plain place todo list kind k h w l = elim (in-push w _ todo l) [ inl i ↦ h w i | inr is ↦ ap (λ (x : Work). is_plain x.kind) (sym is) ∙ k ]
 
-push-if : (b : Bool) (place : ℕ) (todo : List Work) (list : TodoList) (kind : WorkKind) → is_plain kind ≡ true → Plain todo → Plain (cond b (with_work place todo list kind) todo)
-push-if true place todo list kind k h = push-plain place todo list kind k h
-push-if false place todo list kind k h = h
-
 filter-plain : (p : Work → Bool) (todo : List Work) → Plain todo → Plain (filter p todo)
 filter-plain p todo h w l = h w (in-filter p w todo l).0
-
-filter-if : (b : Bool) (p : Work → Bool) (todo : List Work) → Plain todo → Plain (cond b (filter p todo) todo)
-filter-if true p todo h = filter-plain p todo h
-filter-if false p todo h = h
 
 owed : (z : Space) (list : TodoList) (kind : WorkKind) → is_plain kind ≡ true → IsPlain z → IsPlain (owe z list kind)
 unfolding owe
@@ -100,8 +88,7 @@ either false z y h k = k
 
 told : (z : Space) (caller : Option ℕ) (kind : WorkKind) → is_plain kind ≡ true → IsPlain z
     → IsPlain (elim caller as (λ (o : Option ℕ). Space) [ None ↦ z | Some t ↦ owe z (OfThread t) kind ])
-told z None kind k h = h
-told z (Some t) kind k h = owed z (OfThread t) kind k h
+told z caller kind k = told-keeps IsPlain kind (λ z t. owed z (OfThread t) kind k) z caller
 
 closes : (z : Space) (made : ℕ) → IsPlain z → IsPlain (closed z made)
 unfolding closed
@@ -109,26 +96,11 @@ closes z made h = h
 
 -- ---- transactions and replies
 
-adds-notice : (z : Space) (seat : ℕ) (todo : List Work) (x : Item) → Plain todo → Plain (add_notice z seat todo x)
-adds-notice z seat todo x h = at (is_own x.flat.kind) (object_in z.objects x.object)
-  where
-    at : (b : Bool) (o : Option Object)
-        → Plain (cond b (elim o as (λ (o : Option Object). List Work) [ None ↦ todo | Some y ↦ with_notice z.steps z.processes z.references (OfThread seat) todo y ]) todo)
-    at true None = h
-    at true (Some y) = push-if (wants_notice z.processes z.references y && not (has_notice_in todo y.id)) z.steps todo (OfThread seat) (work.Notice y.id) refl h
-    at false o = h
-
-withdraws-notice : (objects : List Object) (todo : List Work) (x : Item) → Plain todo → Plain (withdraw_notice objects todo x)
-withdraws-notice objects todo x h =
-    filter-if (is_own x.flat.kind && is_strong_kind x.flat.kind && is_some_and (object_in objects x.object) (λ o. not o.told_strong))
-    (λ (w : Work). not (is_notice x.object w.kind)) todo h
-
 delivers : (s : Space) (a : Actor) (d : TransactionData) (v : Delivery) → IsPlain s → IsPlain (delivered s a d v)
 unfolding delivered own_notices add_buffer known_by assign_numbers refer make_objects
-delivers s a d v h =
-    let z = add_buffer (known_by s v) (buffer_of (known_by s v) a d v) in
-    fold-keeps Plain (add_notice z a.thread.seat) v.sending.items (λ todo x l k. adds-notice z a.thread.seat todo x k) (fold (withdraw_notice z.objects) s.todo v.sending.items)
-    (fold-keeps Plain (withdraw_notice z.objects) v.sending.items (λ todo x l k. withdraws-notice z.objects todo x k) s.todo h)
+delivers s a d v =
+    own_notices-keeps Plain (add_buffer (known_by s v) (buffer_of (known_by s v) a d v)) a.thread.seat v.sending.items (λ todo o. filter-plain (λ (w : Work). not (is_notice o w.kind)) todo)
+    (λ todo x due. push-plain s.steps todo (OfThread a.thread.seat) (work.Notice x.id) refl)
 
 sends : (s : Space) (a : Actor) (d : TransactionData) (v : Delivery) → IsPlain s → IsPlain (owe (delivered s a d v) (OfThread a.thread.seat) work.Complete)
 sends s a d v h = owed (delivered s a d v) (OfThread a.thread.seat) work.Complete refl (delivers s a d v h)
@@ -163,8 +135,7 @@ unfolding thread_goes
 goes z seat h = filter-plain (λ (w : Work). not (is_on (OfThread seat) w)) z.todo h
 
 all-go : (z : Space) (p : ℕ) → IsPlain z → IsPlain (threads_go z p)
-unfolding threads_go
-all-go z p h = fold-keeps IsPlain thread_goes (map seat_of (filter (λ (t : Thread). t.process == p) z.threads)) (λ y t l k. goes y t k) z h
+all-go = threads-keep IsPlain goes
 
 process-goes : (z : Space) (p : ℕ) → IsPlain z → IsPlain (without_process z p)
 unfolding without_process
@@ -182,32 +153,27 @@ tells-deaths z p h = on-told IsPlain plain-on_deaths z p h
 
 -- ---- what follows
 
-ripens-all : (place : ℕ) (ts older : List Turn) (todo : List Work) → Plain todo → Plain (ripened place older todo ts)
-ripens-all place [] older todo h = h
-ripens-all place (t ∷ ts) older todo h =
-    ripens-all place ts (older ++ t ∷ []) _ (push-if (is_ripe todo older t) place todo (OfProcess t.receiver) (work.Call t.made) refl h)
-
 ripens : (z : Space) → IsPlain z → IsPlain (ripen z)
-unfolding ripen
-ripens z h = ripens-all z.steps (turns_of z.buffers) [] z.todo h
+ripens z = ripen-keeps Plain z (λ todo t. push-plain z.steps todo (OfProcess t.receiver) (work.Call t.made) refl)
 
 follows : (z : Space) → IsPlain z → IsPlain (follow z)
 unfolding follow notify work_goes deaths_go objects_go names_go
 follows z h =
     let c = deaths_go (objects_go (names_go z)) in
-    fold-keeps Plain (λ todo (x : Object). with_notice z.steps z.processes z.references (OfProcess x.owner) todo x) c.objects
-    (λ todo x l k. push-if (wants_notice z.processes z.references x && not (has_notice_in todo x.id)) z.steps todo (OfProcess x.owner) (work.Notice x.id) refl k)
-    (work_goes c).todo (filter-plain (λ (w : Work). still_due c.processes c.objects c.references c.deaths w.kind) z.todo h)
+    notify-keeps Plain (work_goes c) (λ todo x l due. push-plain z.steps todo (OfProcess x.owner) (work.Notice x.id) refl)
+    (filter-plain (λ (w : Work). still_due c.processes c.objects c.references c.deaths w.kind) z.todo h)
 
 -- ---- every step
 
 kept : (s : Space) (seat : ℕ) (x : Step) → IsPlain s → KeepsWhole s seat x IsPlain IsPlain
 unfolding with_thread with_process with_manager without_buffer ask assign_numbers drop_asked acknowledge with_looping read_by
 kept s seat x h = record {
-  same = h;
-  opened = λ pid euid window. h;
-  attached = λ p. h;
-  managed = λ a e b. h;
+  set_up = record {
+    same = h;
+    opened = λ pid euid window free. h;
+    attached = λ p free. h;
+    managed = λ a e b. h;
+  };
   changes = record {
     transacts = λ a d parcel v e i t. transacts s a d v h;
     replies = λ a d parcel f v e i g t. replies s a d f v h;
@@ -216,7 +182,7 @@ kept s seat x h = record {
     drops = λ p o strong. h;
     acknowledges = λ o strong i. h;
     loops = λ t looping. h;
-    on_deaths = on-kept IsPlain plain-on_deaths s h;
+    on_deaths = on-commands s _ (on-kept IsPlain plain-on_deaths s h);
     reads = λ a limit e i n. filter-plain (λ (w : Work). not (list_any (λ (d : Work). is_item w d) (taken s (limit - 4) (list_to_read s a.thread)))) s.todo h;
     leaves = λ a e. goes s a.thread.seat h;
     ends = λ a e. let p = a.process.made in tells-deaths (without_process (threads_go s p) p) p (process-goes (threads_go s p) p (all-go s p h));

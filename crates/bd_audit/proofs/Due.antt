@@ -29,13 +29,12 @@ use Rattle.bd_laws.specs.Lists.{In, Pairs}
 use Rattle.bd_laws.specs.Objects.{Differ, KeptBefore}
 use Rattle.bd_laws.specs.Tidy.{Before}
 use Rattle.bd_laws.proofs.Lists.{in-push, in-last, in-left, in-filter, any-found, any-in, all-in, pairs-either, pairs-map, pairs-filter, fold-keeps}
-use Rattle.bd_laws.proofs.Tests.{same-eq, eq-same}
+use Rattle.bd_laws.proofs.Tests.{same-eq, eq-same, notice-kind}
 use Rattle.bd_laws.proofs.EveryStep.{Keeps, every_step, every_list}
 use Rattle.bd_laws.proofs.InTurn.{at_most_one}
 use Rattle.bd_laws.proofs.Objects.{IsKept, kept-step}
 use Rattle.bd_laws.proofs.Received.{step-before, opening-before}
 use Rattle.bd_laws.proofs.Noticing.{Apart, Once, Noticing, follow-wanted, step-noticing, opening-noticing}
-use Rattle.bd_audit.proofs.Returns.{is-notice}
 
 -- of each object there is a Notice where its owner is to be told, and else none
 abbrev pub Exact : Space → Type 0
@@ -47,7 +46,7 @@ any-skip p [] y h = rw h refl
 any-skip p (x ∷ xs) y h = ap (λ b. p x || b) (any-skip p xs y h)
 
 notice-named : (kind : WorkKind) (o : ObjectId) → is_notice o kind ≡ true → notice_of kind ≡ Some o
-notice-named kind o e = ap notice_of (is-notice kind o e)
+notice-named kind o e = ap notice_of (notice-kind o kind e)
 
 -- ---- what follows
 
@@ -208,10 +207,12 @@ exact-step : (s : Space) (seat : ℕ) (x : Step) → Before s → Noticing s →
 exact-step s seat x before noticing h =
     let k = kept-step s seat x before.objects in
     record {
-      same = h;
-      opened = λ pid euid window. opened-exact s seat pid euid window before h;
-      attached = λ p. attached-exact s seat p h;
-      managed = λ a e b. managed-exact s a.process.made before.objects noticing h;
+      set_up = record {
+        same = h;
+        opened = λ pid euid window free. opened-exact s seat pid euid window before h;
+        attached = λ p free. attached-exact s seat p h;
+        managed = λ a e b. managed-exact s a.process.made before.objects noticing h;
+      };
       changes = k.changes;
       follows = λ z l. follow-exact z l.differ;
       closes = λ z made l. closed-exact z made l;

@@ -1,9 +1,8 @@
 -- Each call of a thread that lives is open, or was answered: what its thread is told of that stands on the thread's list
 -- until it is read.
-use Rattle.std.proofs.Common.{◌≡◌, ℕ, zero, suc, ◌+◌, ◌<◌, ◌-◌, ◌==◌, Bool, true, false, cond, not, ◌&&◌, List, [], ◌∷◌, ◌++◌, append_assoc, length, length-append, Option, Some, None, Ok, Err, Result, ◌⊎◌, inl, inr, refl, ap, sym, subst, ◌∙◌, filter, arith}
+use Rattle.std.proofs.Common.{◌≡◌, ℕ, zero, suc, ◌+◌, ◌<◌, ◌-◌, ◌==◌, Bool, true, false, cond, not, ◌&&◌, List, [], ◌∷◌, ◌++◌, length, length-append, Option, Some, None, Ok, Err, Result, ◌⊎◌, inl, inr, refl, ap, sym, subst, ◌∙◌, filter, arith}
 use Rattle.std.specs.List.{list_any, find}
 use Rattle.std.specs.Option.{is_none}
-use Rattle.std.proofs.lemmas.List.{append-nil}
 use Rattle.std.proofs.lemmas.Bool.{eqb-true, eq-eqb, cases_lt}
 use Rattle.bd_uapi.specs.declared.command.Command.TheVariants as bc
 use Rattle.bd_uapi.specs.declared.command.TransactionData.{TransactionData}
@@ -43,13 +42,13 @@ use Rattle.bd_space.specs.Steps.{change, counted, by_actor, with_process, with_m
 use Rattle.bd_space.specs.Histories.{after}
 use Rattle.bd_laws.specs.Lists.{In}
 use Rattle.bd_laws.proofs.EveryStep.{KeepsWhole, whole, every_whole_step}
-use Rattle.bd_laws.proofs.Lists.{in-last, in-push, in-filter, filter-in, changed-in, find-in, any-found, any-in}
+use Rattle.bd_laws.proofs.Lists.{in-last, in-push, in-filter, filter-in, changed-in, find-in, any-found, any-in, by-last}
 use Rattle.bd_laws.proofs.Tests.{both, and-both, not-false}
 use Rattle.bd_laws.proofs.Checks.{transaction-checked}
 use Rattle.bd_laws.proofs.Ripening.{read-in}
 use Rattle.bd_laws.proofs.Identities.{item-id}
 use Rattle.bd_laws.proofs.PathWords.{served-is}
-use Rattle.bd_laws.proofs.Deaths.{on-mapped, on-both}
+use Rattle.bd_laws.proofs.Deaths.{on-mapped, on-commands, commands-both}
 use Rattle.bd_audit.specs.Replies.{made_in, thread_made, items_taken, Calls, At}
 use Rattle.bd_audit.specs.Latest.{Closes, ReadsAnswer, is_answer, is_answer_of}
 use Rattle.bd_audit.proofs.Beginnings.{after-append}
@@ -401,10 +400,12 @@ module _ (es : List Entry) (e : Entry) (h : Answered es (after opening es)) wher
   kept =
       let k = calls-kept in
       record {
-        same = (k.same, now);
-        opened = λ pid euid window. (k.opened pid euid window, leaves _ s (attached-leaves s (with_process s pid euid window) e.seat s.steps refl refl refl refl) now);
-        attached = λ p. (k.attached p, leaves _ s (attached-leaves s s e.seat p refl refl refl refl) now);
-        managed = λ a i b. (k.managed a i b, same (with_manager s a.process.made) refl refl refl (λ w q l. l));
+        set_up = record {
+          same = (k.set_up.same, now);
+          opened = λ pid euid window free. (k.set_up.opened pid euid window free, leaves _ s (attached-leaves s (with_process s pid euid window) e.seat s.steps refl refl refl refl) now);
+          attached = λ p free. (k.set_up.attached p free, leaves _ s (attached-leaves s s e.seat p refl refl refl refl) now);
+          managed = λ a i b. (k.set_up.managed a i b, same (with_manager s a.process.made) refl refl refl (λ w q l. l));
+        };
         changes = record {
           transacts = λ a d parcel v x i t. (k.changes.transacts a d parcel v x i t, leaves _ s (transacted-leaves s a d v) now);
           replies = λ a d parcel f v x i g t. (k.changes.replies a d parcel f v x i g t, replies a d f v g);
@@ -422,7 +423,7 @@ module _ (es : List Entry) (e : Entry) (h : Answered es (after opening es)) wher
               answers = λ w u m lt i on q l. l;
             }) now,
           );
-          on_deaths = on-both s _ _ k.changes.on_deaths (on-mapped s _ _ (λ y l. leaves y s l now) (on_deaths-leaves s));
+          on_deaths = commands-both s _ _ k.changes.on_deaths (on-commands s _ (on-mapped s _ _ (λ y l. leaves y s l now) (on_deaths-leaves s)));
           reads = λ a limit i x n. (k.changes.reads a limit i x n, reads a limit i x n);
           leaves = λ a i. (k.changes.leaves a i, leaves _ s (goes-leaves s a.thread.seat) now);
           ends = λ a i. (k.changes.ends a i, leaves _ s (ends-leaves s a.process.made) now);
@@ -470,9 +471,5 @@ module _ (es : List Entry) (e : Entry) (h : Answered es (after opening es)) wher
         inl (subst (λ n. StandsIn (change s e.seat e.step).space n) (always-steps es ∙ sym at) (step-calls m calls)))
   ])
 
-from-here : (rest before : List Entry) → Answered before (after opening before) → Answered (before ++ rest) (after opening (before ++ rest))
-from-here [] before h = subst (λ es. Answered es (after opening es)) (sym (append-nil before)) h
-from-here (e ∷ rest) before h = subst (λ es. Answered es (after opening es)) (append_assoc before (e ∷ []) rest) (from-here rest (before ++ e ∷ []) (step-answered before e h))
-
 pub always-answered : (es : List Entry) → Answered es (after opening es)
-always-answered es = from-here es [] (λ j m t c i. let lt = at-below [] j (λ z e. Calls z e m) c in absurd (omega arith))
+always-answered es = by-last (λ es. Answered es (after opening es)) step-answered (λ j m t c i. let lt = at-below [] j (λ z e. Calls z e m) c in absurd (omega arith)) es

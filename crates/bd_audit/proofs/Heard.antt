@@ -34,7 +34,8 @@ use Rattle.bd_laws.specs.Lists.{In}
 use Rattle.bd_laws.specs.Tidy.{Before}
 use Rattle.bd_laws.proofs.Lists.{find-in}
 use Rattle.bd_laws.proofs.Tests.{both, same-eq, eq-same}
-use Rattle.bd_laws.proofs.EveryStep.{IsReading, IsAcknowledging, every_step}
+use Rattle.bd_laws.proofs.EveryEnding.{IsReading, IsAcknowledging}
+use Rattle.bd_laws.proofs.EveryStep.{every_step}
 use Rattle.bd_laws.proofs.Ripening.{read-in}
 use Rattle.bd_laws.proofs.Received.{step-before, opening-before}
 use Rattle.bd_laws.proofs.Passing.{step-passes}

@@ -6,7 +6,7 @@ use Rattle.std.specs.Option.{is_none}
 use Rattle.std.proofs.lemmas.Bool.{eqb-true, eq-eqb, cases_lt}
 use Rattle.bd_uapi.specs.declared.fault.Fault.{Fault}
 use Rattle.bd_space.specs.declared.step.Step.{Step}
-use Rattle.bd_space.specs.declared.step.Step.TheVariants.{Open, Attach, SetManager, Command, Read, ExitThread, ExitProcess}
+use Rattle.bd_space.specs.declared.step.Step.TheVariants.{Read}
 use Rattle.bd_space.specs.declared.step.Entry.{Entry}
 use Rattle.bd_space.specs.declared.space.Work.{Work}
 use Rattle.bd_space.specs.declared.space.Thread.{Thread}
@@ -107,13 +107,8 @@ reading s e v l = at e.step refl l
     acting limit (Some a) i step k = faults limit a i (read_fault limit (list_to_read s a.thread)) step k
 
     at : (x : Step) → e.step ≡ x → In v (items_taken s e.seat x) → Reading s e
-    at (Open pid euid window) i k = absurd k
-    at (Attach pid) i k = absurd k
-    at SetManager i k = absurd k
-    at (Command c parcel) i k = absurd k
     at (Read limit) i k = acting limit (actor s e.seat) refl (ap (λ x. items_taken s e.seat x) i) k
-    at ExitThread i k = absurd k
-    at ExitProcess i k = absurd k
+    at _ i k = absurd k
 
 -- where something stands on the thread's own list, all that its reading takes is of it
 module _ (s : Space) (e : Entry) (v : Work) (here : In v s.todo) (on : v.list ≡ OfThread e.seat) where
@@ -133,14 +128,8 @@ module _ (s : Space) (e : Entry) (v : Work) (here : In v s.todo) (on : v.list �
 -- ---- a reply that is taken is the first
 
 reply-kind : (kind : WorkKind) (b : ℕ) → reply_of kind ≡ Some b → (is_answer kind ≡ true) × (ends_read kind ≡ true)
-reply-kind (work.Notice o) b h = absurd (cc)
-reply-kind work.Complete b h = absurd (cc)
-reply-kind (work.Refusal r) b h = absurd (cc)
-reply-kind (work.Call c) b h = absurd (cc)
 reply-kind (work.Reply c) b h = (refl, refl)
-reply-kind (work.Verdict r) b h = absurd (cc)
-reply-kind (work.Death n) b h = absurd (cc)
-reply-kind (work.Cleared n) b h = absurd (cc)
+reply-kind _ b h = absurd (cc)
 
 module _ (s : Space) (v : Work) (b : ℕ) (is_reply : reply_of v.kind ≡ Some b) where
   taken-first : (ws : List Work) (left : ℕ) → In v (taken s left ws) → first_reply_in (taken s left ws) ≡ Some b

@@ -39,21 +39,20 @@ use Rattle.bd_laws.specs.Lists.{In}
 use Rattle.bd_laws.specs.Frames.{NoChild, Nested, OnPaths}
 use Rattle.bd_laws.proofs.EveryStep.{KeepsWhole, every_whole_step}
 use Rattle.bd_laws.proofs.Lists.{in-left, in-push, in-filter, filter-in, in-map, map-in, in-changed, changed-in, any-in, any-found, find-in, all-in}
-use Rattle.bd_laws.proofs.Tests.{both, not-false}
+use Rattle.bd_laws.proofs.Tests.{both, not-false, call-kind}
 use Rattle.bd_laws.proofs.Ripening.{read-in}
 use Rattle.bd_laws.proofs.Forests.{one-frame}
 use Rattle.bd_laws.proofs.Innermost.{differ, true-calls}
 use Rattle.bd_laws.proofs.Paths.{abandoned-childless, served-childless}
-use Rattle.bd_laws.proofs.PathReadings.{kind-called}
 use Rattle.bd_laws.proofs.Always.{always-on_paths}
-use Rattle.bd_laws.proofs.Deaths.{tell_deaths-aside, on-mapped, on_deaths-aside}
+use Rattle.bd_laws.proofs.Deaths.{tell_deaths-aside, on-mapped, on-commands, on_deaths-aside}
 use Rattle.bd_audit.specs.Replies.{made_in, thread_made, At}
 use Rattle.bd_audit.specs.Latest.{IsLatest}
 use Rattle.bd_audit.specs.Ending.{EndsCall}
 use Rattle.bd_laws.proofs.Paths as path
 use Rattle.bd_laws.proofs.PathCalls as path_call
 use Rattle.bd_audit.proofs.Seated as seated
-use Rattle.bd_audit.proofs.Seated.{made-before, none-left}
+use Rattle.bd_audit.proofs.Seated.{made-before, other-left}
 
 -- a frame made there, with the same parent, is among these
 abbrev Stays : Frame → List Frame → Type 0
@@ -225,7 +224,7 @@ module _ (s : Space) (h : OnPaths s.steps s) (top child : Frame) (here : In top 
     uncalled : (x : Frame) → In x s.frames → x.server ≡ Serving t → (b : Bool) → called-in x ≡ b → called-in x ≡ false
     uncalled x l e true k =
         let w = any-found (λ (v : Work). is_call x.made v.kind) (taken s left (list_to_read s u)) k in
-        absurd (h.1.unserved w.0 x t (read-in s u left w.0 w.1) (kind-called x.made w.0.kind w.2) l e)
+        absurd (h.1.unserved w.0 x t (read-in s u left w.0 w.1) (call-kind x.made w.0.kind w.2) l e)
     uncalled x l e false k = k
 
     reads : While (read_by s u.seat (taken s left (list_to_read s u)))
@@ -250,15 +249,8 @@ module _ (s : Space) (h : OnPaths s.steps s) (top child : Frame) (here : In top 
             let x = in-map (frame_without z.todo seat) g z.frames l in
             let before = k.server x.0 x.1 (ap (λ (y : Frame). y.made) x.2 ∙ e) in
             sym (ap (λ (y : Frame). y.server) x.2) ∙ ap (λ v. gone_server seat (unread_server z.todo (OfThread seat) x.0.made v)) before
-            ∙ ap (λ b. cond b Gone (Serving t)) (at (t == seat) refl);
+            ∙ ap (λ b. cond b Gone (Serving t)) (other-left z.threads seat t m i);
       }
-    where
-      at : (b : Bool) → (t == seat) ≡ b → (t == seat) ≡ false
-      at true e =
-          let none = none-left z.threads seat in
-          let some = subst (λ n. made_in (filter (λ (v : Thread). not (v.seat == seat)) z.threads) n ≡ Some m) (eqb-true t seat e) i in
-          absurd (cc)
-      at false e = e
 
   all-go : (seats : List ℕ) (z : Space) → While z → While (fold thread_goes z seats)
   all-go [] z w = w
@@ -288,10 +280,12 @@ module _ (s : Space) (h : OnPaths s.steps s) (top child : Frame) (here : In top 
   kept : (seat : ℕ) (x : Step) → KeepsWhole s seat x While While
   unfolding with_thread with_process with_manager without_buffer ask assign_numbers drop_asked acknowledge with_looping ripen follow notify work_goes deaths_go objects_go names_go
   kept seat x = record {
-    same = calm s refl;
-    opened = λ pid euid window. calm (with_thread (with_process s pid euid window) seat s.steps) refl;
-    attached = λ p. calm (with_thread s seat p) refl;
-    managed = λ a i b. calm (with_manager s a.process.made) refl;
+    set_up = record {
+      same = calm s refl;
+      opened = λ pid euid window free. calm (with_thread (with_process s pid euid window) seat s.steps) refl;
+      attached = λ p free. calm (with_thread s seat p) refl;
+      managed = λ a i b. calm (with_manager s a.process.made) refl;
+    };
     changes = record {
       transacts = λ a d parcel v e i g. transacts a d v;
       replies = λ a d parcel f v e i g c. replies a d f v g;
@@ -300,7 +294,7 @@ module _ (s : Space) (h : OnPaths s.steps s) (top child : Frame) (here : In top 
       drops = λ p o strong. calm (drop_asked s p o strong) refl;
       acknowledges = λ o strong i. calm (acknowledge s o strong) refl;
       loops = λ u looping. calm (with_looping s u looping) refl;
-      on_deaths = on-mapped s _ _ (λ y k. calm y k.frames) (on_deaths-aside s);
+      on_deaths = on-commands s _ (on-mapped s _ _ (λ y k. calm y k.frames) (on_deaths-aside s));
       reads = λ a limit i e n. reads a.thread (limit - 4);
       leaves = λ a i. goes s a.thread.seat (calm s refl);
       ends = λ a i. ends a.process.made;
@@ -349,10 +343,12 @@ earlier-way s h t m f g l k calls also lt =
 each-kept : {I : Type 0} (s : Space) (seat : ℕ) (x : Step) (P : I → Space → Type 0) → ((i : I) → KeepsWhole s seat x (P i) (P i))
     → KeepsWhole s seat x (λ z. (i : I) → P i z) (λ z. (i : I) → P i z)
 each-kept s seat x P k = record {
-  same = λ i. (k i).same;
-  opened = λ pid euid window i. (k i).opened pid euid window;
-  attached = λ p i. (k i).attached p;
-  managed = λ a e b i. (k i).managed a e b;
+  set_up = record {
+    same = λ i. (k i).set_up.same;
+    opened = λ pid euid window free i. (k i).set_up.opened pid euid window free;
+    attached = λ p free i. (k i).set_up.attached p free;
+    managed = λ a e b i. (k i).set_up.managed a e b;
+  };
   changes = record {
     transacts = λ a d parcel v e g c i. (k i).changes.transacts a d parcel v e g c;
     replies = λ a d parcel f v e g c r i. (k i).changes.replies a d parcel f v e g c r;
@@ -362,9 +358,9 @@ each-kept s seat x P k = record {
     acknowledges = λ o strong e i. (k i).changes.acknowledges o strong e;
     loops = λ u looping i. (k i).changes.loops u looping;
     on_deaths = record {
-      others = λ ds i. (k i).changes.on_deaths.others ds;
-      dies = λ ds p made i. (k i).changes.on_deaths.dies ds p made;
-      clears = λ ds t cookie i. (k i).changes.on_deaths.clears ds t cookie;
+      requests = λ p n cookie o e i. (k i).changes.on_deaths.requests p n cookie o e;
+      clears = λ u y i. (k i).changes.on_deaths.clears u y;
+      dones = λ u p cookie y e i. (k i).changes.on_deaths.dones u p cookie y e;
     };
     reads = λ a limit e g n i. (k i).changes.reads a limit e g n;
     leaves = λ a e i. (k i).changes.leaves a e;

@@ -95,14 +95,8 @@ unread-stops s seat b w l e on none =
     listed = ap (λ x. same_list (OfThread seat) x) on ∙ eq-eqb seat seat refl
 
     way : (k : WorkKind) → reply_of k ≡ Some b → keeps_from_calling k ≡ true
-    way (work.Notice o) h = absurd (cc)
-    way work.Complete h = absurd (cc)
-    way (work.Refusal r) h = absurd (cc)
-    way (work.Call c) h = absurd (cc)
     way (work.Reply c) h = refl
-    way (work.Verdict r) h = absurd (cc)
-    way (work.Death n) h = absurd (cc)
-    way (work.Cleared n) h = absurd (cc)
+    way _ h = absurd (cc)
 
     in-way : (p q : Bool) → p ≡ true → q ≡ true → (p && q) ≡ true
     in-way p q h k = rw (h, k) refl

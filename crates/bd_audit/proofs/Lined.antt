@@ -1,5 +1,5 @@
 -- Work items stand in the order in which they were made, and on threads' own lists an identity names one item.
-use Rattle.std.proofs.Common.{◌≡◌, ℕ, suc, ◌-◌, ◌<◌, ◌≤◌, ◌==◌, Bool, true, false, cond, not, ◌&&◌, List, [], ◌∷◌, ◌++◌, Option, Some, None, ◌⊎◌, inl, inr, refl, ap, sym, ◌∙◌, map, filter, arith}
+use Rattle.std.proofs.Common.{◌≡◌, ℕ, suc, ◌-◌, ◌<◌, ◌≤◌, ◌==◌, Bool, true, false, cond, not, ◌&&◌, List, Option, Some, None, ◌⊎◌, inl, inr, refl, ap, sym, ◌∙◌, filter, arith}
 use Rattle.std.specs.List.{fold, list_any}
 use Rattle.std.proofs.lemmas.Bool.{eqb-true}
 use Rattle.bd_uapi.specs.declared.command.TransactionData.{TransactionData}
@@ -7,9 +7,7 @@ use Rattle.bd_space.specs.declared.step.Step.{Step}
 use Rattle.bd_space.specs.declared.step.Entry.{Entry}
 use Rattle.bd_space.specs.declared.space.Object.{Object}
 use Rattle.bd_space.specs.declared.space.Process.{Process}
-use Rattle.bd_space.specs.declared.space.Thread.{Thread}
 use Rattle.bd_space.specs.declared.space.Reference.{Reference}
-use Rattle.bd_space.specs.declared.space.Turn.{Turn}
 use Rattle.bd_space.specs.declared.space.Work.{Work}
 use Rattle.bd_space.specs.declared.space.Item.{Item}
 use Rattle.bd_space.specs.declared.space.Frame.{Frame}
@@ -23,7 +21,7 @@ use Rattle.bd_space.specs.declared.space.WorkKind.{WorkKind}
 use Rattle.bd_space.specs.declared.space.WorkKind.TheVariants as work
 use Rattle.bd_space.specs.Space.{Space, opening}
 use Rattle.bd_space.specs.Todo.{with_work, owe, is_on, notice_of, death_of, list_to_read, is_item}
-use Rattle.bd_space.specs.Turns.{turns_of, ripen, ripened, is_ripe}
+use Rattle.bd_space.specs.Turns.{ripen}
 use Rattle.bd_space.specs.Notices.{with_notice, follow, notify, work_goes, deaths_go, still_due}
 use Rattle.bd_space.specs.Names.{names_go, assign_numbers}
 use Rattle.bd_space.specs.References.{objects_go, object_in, owned_in}
@@ -35,16 +33,20 @@ use Rattle.bd_space.specs.Replies.{replied}
 use Rattle.bd_space.specs.Freeing.{without_buffer}
 use Rattle.bd_space.specs.ReadItems.{read_by, taken}
 use Rattle.bd_space.specs.ThreadExits.{thread_goes}
-use Rattle.bd_space.specs.ProcessExits.{threads_go, without_process, tell_death, tell_deaths, seat_of, is_armed}
+use Rattle.bd_space.specs.ProcessExits.{threads_go, without_process, tell_death, tell_deaths, is_armed}
 use Rattle.bd_space.specs.Steps.{counted, with_thread, with_process, with_manager}
 use Rattle.bd_space.specs.Asking.{ask, drop_asked, acknowledge}
 use Rattle.bd_space.specs.Commands.{with_looping}
 use Rattle.bd_space.specs.Deaths.{with_phase}
 use Rattle.bd_space.specs.Histories.{after, next}
 use Rattle.bd_laws.specs.Lists.{In, Pairs}
+use Rattle.bd_laws.proofs.Deaths.{on-commands}
 use Rattle.bd_laws.proofs.EveryStep.{Keeps, every_step, every_list}
 use Rattle.bd_laws.proofs.Lists.{in-push, in-filter, pairs-push, pairs-filter, fold-keeps}
-use Rattle.bd_audit.proofs.RepliesDue.{count_at, count-work, count-filter, Lasts, wanted-due, wanted-push, items-fresh}
+use Rattle.bd_laws.proofs.Identities.{count_at, count-filter, count-work}
+use Rattle.bd_laws.proofs.Adding.{notify-keeps, ripen-keeps}
+use Rattle.bd_laws.proofs.Following.{threads-keep}
+use Rattle.bd_audit.proofs.RepliesDue.{Lasts, wanted-due, wanted-push, items-fresh}
 
 -- no later item was made before
 abbrev pub NotLater : Work → Work → Type 0
@@ -268,8 +270,7 @@ unfolding thread_goes
 thread_goes-plain z seat h = filter-plain z.steps z.todo (λ (w : Work). not (is_on (OfThread seat) w)) h
 
 threads_go-plain : (z : Space) (p : ℕ) → Plain z → Plain (threads_go z p)
-unfolding threads_go
-threads_go-plain z p h = fold-keeps Plain thread_goes (map seat_of (filter (λ (t : Thread). t.process == p) z.threads)) (λ y t l. thread_goes-plain y t) z h
+threads_go-plain = threads-keep Plain thread_goes-plain
 
 without_process-plain : (z : Space) (p : ℕ) → Plain z → Plain (without_process z p)
 unfolding without_process
@@ -291,25 +292,15 @@ ends-plain z p h = tell_deaths-plain (without_process (threads_go z p) p) p (wit
 -- ---- what follows
 
 -- one-way calls that become due are items of this step on processes' lists, and stay
-ripens-one : (z : Space) (b : Bool) (todo : List Work) (p m : ℕ) → (let y = record z { todo = todo } in Stands y)
-    → (let y = record z { todo = cond b (with_work z.steps todo (OfProcess p) (work.Call m)) todo } in Stands y)
-ripens-one z true todo p m h = (
-  push-line z.steps todo (OfProcess p) (work.Call m) h.0,
-  elim h.1 [
-    | inl bare ↦ inl (push-bare z.steps todo p (work.Call m) bare)
-    | inr lasts ↦ inr (wanted-push z.steps z.processes z.objects z.references todo (OfProcess p) (work.Call m) (inr (refl, refl)) lasts)
-  ],
-)
-ripens-one z false todo p m h = h
-
-ripened-stands : (z : Space) (ts older : List Turn) (todo : List Work) → (let y = record z { todo = todo } in Stands y)
-    → (let y = record z { todo = ripened z.steps older todo ts } in Stands y)
-ripened-stands z [] older todo h = h
-ripened-stands z (t ∷ ts) older todo h = ripened-stands z ts (older ++ t ∷ []) _ (ripens-one z (is_ripe todo older t) todo t.receiver t.made h)
-
 ripen-stands : (z : Space) → Stands z → Stands (ripen z)
 unfolding ripen
-ripen-stands z h = ripened-stands z (turns_of z.buffers) [] z.todo h
+ripen-stands z = ripen-keeps (λ todo. let y = record z { todo = todo } in Stands y) z (λ todo t h. (
+  push-line z.steps todo (OfProcess t.receiver) (work.Call t.made) h.0,
+  elim h.1 [
+    | inl bare ↦ inl (push-bare z.steps todo t.receiver (work.Call t.made) bare)
+    | inr lasts ↦ inr (wanted-push z.steps z.processes z.objects z.references todo (OfProcess t.receiver) (work.Call t.made) (inr (refl, refl)) lasts)
+  ],
+))
 
 follow-line : (z : Space) → Stands z → InLine (follow z)
 unfolding follow notify work_goes deaths_go objects_go names_go
@@ -319,8 +310,7 @@ follow-line z h =
       | inl bare ↦ inl bare
       | inr lasts ↦ inr (λ w l at. wanted-due z.processes z.objects z.references c.deaths w.kind (lasts w l at))
     ]) h.0 in
-    fold-keeps (Line z.steps) (λ todo (x : Object). with_notice z.steps z.processes z.references (OfProcess x.owner) todo x) c.objects
-    (λ todo x l g. push-if z.steps _ todo (OfProcess x.owner) (work.Notice x.id) g) (work_goes c).todo goes
+    notify-keeps (Line z.steps) (work_goes c) (λ todo x l due. push-line z.steps todo (OfProcess x.owner) (work.Notice x.id)) goes
 
 closed-line : (z : Space) (made : ℕ) → InLine z → InLine (closed z made)
 unfolding closed
@@ -342,10 +332,12 @@ module _ (s : Space) (h : Lined s) where
   kept : (seat : ℕ) (x : Step) → Keeps s seat x Stands InLine
   unfolding with_thread with_process with_manager without_buffer ask assign_numbers drop_asked acknowledge with_looping
   kept seat x = record {
-    same = begun.0;
-    opened = λ pid euid window. begun.0;
-    attached = λ p. begun.0;
-    managed = λ a e b. begun.0;
+    set_up = record {
+      same = begun.0;
+      opened = λ pid euid window free. begun.0;
+      attached = λ p free. begun.0;
+      managed = λ a e b. begun.0;
+    };
     changes = record {
       transacts = λ a d parcel v e i t. sent-stands (transacted s a d v) (transacted-sent s a d v begun);
       replies = λ a d parcel f v e i g t. sent-stands (replied s a d f v) (replied-sent s a d f v begun);
@@ -354,12 +346,12 @@ module _ (s : Space) (h : Lined s) where
       drops = λ p o strong. plain-stands (drop_asked s p o strong) plain;
       acknowledges = λ o strong i. plain-stands (acknowledge s o strong) plain;
       loops = λ t looping. plain-stands (with_looping s t looping) plain;
-      on_deaths = record {
+      on_deaths = on-commands s _ (record {
         others = λ ds. plain-stands (record s { deaths = ds }) plain;
         dies = λ ds p made. let z = record s { deaths = ds } in plain-stands (owe z (OfProcess p) (work.Death made)) (owe-plain z p (work.Death made) plain);
         clears = λ ds t cookie. let z = record s { deaths = ds } in
             sent-stands (owe z (OfThread t) (work.Cleared cookie)) (owe-sent z (OfThread t) (work.Cleared cookie) refl refl (begun-sent z begun));
-      };
+      });
       reads = λ a limit e i n. (
           let ws = taken s (limit - 4) (list_to_read s a.thread) in plain-stands (read_by s a.thread.seat ws) (read-plain s a.thread.seat ws plain));
       leaves = λ a e. plain-stands (thread_goes s a.thread.seat) (thread_goes-plain s a.thread.seat plain);

@@ -41,12 +41,13 @@ use Rattle.bd_space.specs.Steps.{change, with_thread, with_process, with_manager
 use Rattle.bd_laws.specs.Lists.{In}
 use Rattle.bd_laws.proofs.Lists.{in-right, in-push, in-filter, filter-in, in-map, find-some}
 use Rattle.bd_laws.proofs.Tests.{both, and-both, not-true, eq-same}
-use Rattle.bd_laws.proofs.EveryStep.{Keeps, IsAsking, every_step}
+use Rattle.bd_laws.proofs.EveryEnding.{IsAsking}
+use Rattle.bd_laws.proofs.EveryStep.{Keeps, every_step}
 use Rattle.bd_laws.proofs.Untouched.{Untouched}
 use Rattle.bd_laws.proofs.Sendings.{Owns, HasName, Sent, Sends, sending-sends}
 use Rattle.bd_laws.proofs.Checks.{transaction-checked, reply-checked, asked-checked}
 use Rattle.bd_laws.proofs.Objects.{stays}
-use Rattle.bd_laws.proofs.Deaths.{on-mapped}
+use Rattle.bd_laws.proofs.Deaths.{on-mapped, on-commands}
 use Rattle.bd_laws.proofs.Untouched
 
 -- the name is new, since the acting process sent the object on
@@ -314,10 +315,12 @@ naming-step : (s : Space) (seat : ℕ) (x : Step) → Keeps s seat x (Naming s s
 naming-step s seat x =
     let none : Naming s seat x s = fewer-names s seat x s (λ m i. i) in
     record {
-      same = none;
-      opened = λ pid euid window. fewer-names s seat x _ (opened-names s seat pid euid window);
-      attached = λ p. fewer-names s seat x _ (attached-names s seat p);
-      managed = λ a e b. fewer-names s seat x _ (managed-names s a.process.made);
+      set_up = record {
+        same = none;
+        opened = λ pid euid window free. fewer-names s seat x _ (opened-names s seat pid euid window);
+        attached = λ p free. fewer-names s seat x _ (attached-names s seat p);
+        managed = λ a e b. fewer-names s seat x _ (managed-names s a.process.made);
+      };
       changes = record {
         transacts = λ a d parcel v e i t. transacted-naming s seat x a d parcel v i t;
         replies = λ a d parcel f v e i g t. replied-naming s seat x a d parcel f v i t;
@@ -326,7 +329,7 @@ naming-step s seat x =
         drops = λ p o strong. fewer-names s seat x _ (dropped-names s p o strong);
         acknowledges = λ o strong i. fewer-names s seat x _ (acknowledged-names s o strong);
         loops = λ t looping. naming-untouched s seat x _ s (Untouched.with_looping-untouched s t looping) none;
-        on_deaths = on-mapped s _ _ (λ y k. naming-untouched s seat x y s k none) (Untouched.on_deaths-untouched s);
+        on_deaths = on-commands s _ (on-mapped s _ _ (λ y k. naming-untouched s seat x y s k none) (Untouched.on_deaths-untouched s));
         reads = λ a limit e i n. fewer-names s seat x _ (read-names s a.thread.seat _);
         leaves = λ a e. fewer-names s seat x _ (left-names s a.thread.seat);
         ends = λ a e. ends-naming s seat x a.process.made;

@@ -1,21 +1,15 @@
 -- Parts of a step that make no frame and no reply.
-use Rattle.std.proofs.Common.{◌≡◌, ℕ, ◌==◌, Bool, true, false, cond, not, List, [], ◌∷◌, ◌++◌, Option, Some, None, ◌⊎◌, inl, inr, refl, ap, sym, subst, ◌∙◌, map, filter}
-use Rattle.std.specs.List.{fold}
+use Rattle.std.proofs.Common.{◌≡◌, ℕ, ◌==◌, Bool, true, false, cond, not, List, [], ◌∷◌, ◌++◌, Some, None, ◌⊎◌, inl, inr, refl, ap, sym, subst, ◌∙◌, filter}
 use Rattle.std.specs.Option.{option_map}
 use Rattle.std.proofs.lemmas.Bool.{eqb-true, eq-eqb}
 use Rattle.bd_uapi.specs.declared.command.TransactionData.{TransactionData}
 use Rattle.bd_space.specs.declared.step.ObjectId.{ObjectId}
-use Rattle.bd_space.specs.declared.space.Object.{Object}
-use Rattle.bd_space.specs.declared.space.Process.{Process}
 use Rattle.bd_space.specs.declared.space.Thread.{Thread}
-use Rattle.bd_space.specs.declared.space.Reference.{Reference}
-use Rattle.bd_space.specs.declared.space.Turn.{Turn}
 use Rattle.bd_space.specs.declared.space.Work.{Work}
 use Rattle.bd_space.specs.declared.space.Item.{Item}
 use Rattle.bd_space.specs.declared.space.Frame.{Frame}
 use Rattle.bd_space.specs.declared.space.Actor.{Actor}
-use Rattle.bd_space.specs.declared.space.Server.{Server}
-use Rattle.bd_space.specs.declared.space.Server.TheVariants.{Pending, Serving, Gone}
+use Rattle.bd_space.specs.declared.space.Server.TheVariants.{Serving}
 use Rattle.bd_space.specs.declared.space.TodoList.{TodoList}
 use Rattle.bd_space.specs.declared.space.TodoList.TheVariants.{OfThread, OfProcess}
 use Rattle.bd_space.specs.declared.space.WorkKind.{WorkKind}
@@ -23,17 +17,16 @@ use Rattle.bd_space.specs.declared.space.WorkKind.TheVariants as work
 use Rattle.bd_space.specs.Words.{changed}
 use Rattle.bd_space.specs.Space.{Space}
 use Rattle.bd_space.specs.Seats.{thread_in}
-use Rattle.bd_space.specs.Todo.{with_work, owe, is_on, same_list}
-use Rattle.bd_space.specs.Turns.{turns_of, ripen, ripened, is_ripe}
-use Rattle.bd_space.specs.Notices.{with_notice, follow, notify, work_goes, deaths_go, still_due}
+use Rattle.bd_space.specs.Todo.{with_work, owe, is_on, same_list, is_notice}
+use Rattle.bd_space.specs.Turns.{ripen}
+use Rattle.bd_space.specs.Notices.{follow, notify, work_goes, deaths_go, still_due}
 use Rattle.bd_space.specs.Names.{names_go, assign_numbers}
-use Rattle.bd_space.specs.References.{objects_go, object_in}
+use Rattle.bd_space.specs.References.{objects_go}
 use Rattle.bd_space.specs.Frames.{closed, is_frame}
-use Rattle.bd_uapi.specs.Kinds.{is_own}
-use Rattle.bd_space.specs.Delivery.{Delivery, delivered, own_notices, add_buffer, known_by, refer, make_objects, buffer_of, add_notice, withdraw_notice}
+use Rattle.bd_space.specs.Delivery.{Delivery, delivered, own_notices, add_buffer, known_by, refer, make_objects, buffer_of}
 use Rattle.bd_space.specs.Freeing.{without_buffer}
-use Rattle.bd_space.specs.ThreadExits.{thread_goes, gone_caller, gone_server, unread_server, is_unread_on, frame_without, unread_frame}
-use Rattle.bd_space.specs.ProcessExits.{threads_go, without_process, tell_deaths, seat_of}
+use Rattle.bd_space.specs.ThreadExits.{thread_goes, frame_without, unread_frame}
+use Rattle.bd_space.specs.ProcessExits.{threads_go, without_process, tell_deaths}
 use Rattle.bd_space.specs.Steps.{with_thread, with_process, with_manager}
 use Rattle.bd_space.specs.Asking.{ask, drop_asked, acknowledge}
 use Rattle.bd_space.specs.Commands.{with_looping}
@@ -43,6 +36,8 @@ use Rattle.bd_laws.proofs.Lists.{in-push, in-filter, in-map}
 use Rattle.bd_laws.proofs.Tests.{not-true}
 use Rattle.bd_laws.proofs.Deaths.{OnDeaths, KeptOnDeaths, on-kept, on-told}
 use Rattle.bd_laws.proofs.PathWords.{caller-stays, server-stays, unread-serving}
+use Rattle.bd_laws.proofs.Adding.{notify-keeps, own_notices-keeps, ripen-keeps}
+use Rattle.bd_laws.proofs.Following.{follow-by, ends-by, threads-by}
 use Rattle.bd_audit.specs.Replies.{made_in}
 
 -- a frame of this thread, or a reply that it is to read
@@ -124,17 +119,8 @@ Adds place more todo = (w : Work) → In w more → In w todo ⊎ ((w.id.place �
 pub adds-trans : (place : ℕ) (xs ys zs : List Work) → Adds place xs ys → Adds place ys zs → Adds place xs zs
 adds-trans place xs ys zs h k w l = elim (h w l) [ inl i ↦ k w i | inr n ↦ inr n ]
 
-adds-fold : {A : Type 0} (place : ℕ) (f : List Work → A → List Work) → ((todo : List Work) (x : A) → Adds place (f todo x) todo) → (xs : List A) (todo : List Work) → Adds place (fold f todo xs) todo
-adds-fold place f k [] todo w l = inl l
-adds-fold place f k (x ∷ xs) todo w l = elim (adds-fold place f k xs (f todo x) w l) [ inl i ↦ k todo x w i | inr n ↦ inr n ]
-
-adds-if : (place : ℕ) (b : Bool) (todo : List Work) (list : TodoList) (kind : WorkKind) → reply_of kind ≡ None → Adds place (cond b (with_work place todo list kind) todo) todo
-adds-if place true todo list kind none = with_work-quiet place todo list kind none
-adds-if place false todo list kind none = λ w l. inl l
-
-with_notice-adds : (place : ℕ) (processes : List Process) (references : List Reference) (list : TodoList) (todo : List Work) (x : Object)
-    → Adds place (with_notice place processes references list todo x) todo
-with_notice-adds place processes references list todo x = adds-if place _ todo list (work.Notice x.id) refl
+adds-work : (place : ℕ) (all todo : List Work) (list : TodoList) (kind : WorkKind) → reply_of kind ≡ None → Adds place todo all → Adds place (with_work place todo list kind) all
+adds-work place all todo list kind none = adds-trans place _ todo all (with_work-quiet place todo list kind none)
 
 -- ---- what follows
 
@@ -157,51 +143,26 @@ work_goes-quiet z = quiet-todo _ z refl refl refl (λ w l. inl (in-filter (λ (w
 notify-quiet : (z : Space) → Quiet (notify z) z
 unfolding notify
 notify-quiet z =
-    quiet-todo _ z refl refl refl
-    (adds-fold z.steps (λ todo (x : Object). with_notice z.steps z.processes z.references (OfProcess x.owner) todo x)
-    (λ todo x. with_notice-adds z.steps z.processes z.references (OfProcess x.owner) todo x) z.objects z.todo)
+    quiet-todo _ z refl refl refl (notify-keeps (λ todo. Adds z.steps todo z.todo) z (λ todo x l due. adds-work z.steps z.todo todo (OfProcess x.owner) (work.Notice x.id) refl) (λ w l. inl l))
 
 pub follow-quiet : (z : Space) → Quiet (follow z) z
-unfolding follow
-follow-quiet z =
-    let a = names_go z in
-    let b = objects_go a in
-    let c = deaths_go b in
-    let d = work_goes c in
-    quiet-trans (notify d) d z (notify-quiet d) (quiet-trans d c z (work_goes-quiet c) (quiet-trans c b z (deaths_go-quiet b) (quiet-trans b a z (objects_go-quiet a) (names_go-quiet z))))
+follow-quiet = follow-by Quiet quiet-trans (record { names = names_go-quiet; objects = objects_go-quiet; deaths = deaths_go-quiet; work = work_goes-quiet; notices = notify-quiet })
 
-pub ripened-adds : (place : ℕ) (ts older : List Turn) (todo : List Work) → Adds place (ripened place older todo ts) todo
-ripened-adds place [] older todo w l = inl l
-ripened-adds place (t ∷ ts) older todo w l =
-    elim (ripened-adds place ts (older ++ t ∷ []) (cond (is_ripe todo older t) (with_work place todo (OfProcess t.receiver) (work.Call t.made)) todo) w l) [
-      | inl i ↦ adds-if place (is_ripe todo older t) todo (OfProcess t.receiver) (work.Call t.made) refl w i
-      | inr n ↦ inr n
-    ]
+pub ripen-adds : (z : Space) → Adds z.steps (ripen z).todo z.todo
+ripen-adds z = ripen-keeps (λ todo. Adds z.steps todo z.todo) z (λ todo t. adds-work z.steps z.todo todo (OfProcess t.receiver) (work.Call t.made) refl) (λ w l. inl l)
 
 pub ripen-quiet : (z : Space) → Quiet (ripen z) z
 unfolding ripen
-ripen-quiet z = quiet-todo _ z refl refl refl (ripened-adds z.steps (turns_of z.buffers) [] z.todo)
+ripen-quiet z = quiet-todo _ z refl refl refl (ripen-adds z)
 
 -- ---- deliveries
-
-withdrawn : (b : Bool) (p : Work → Bool) (place : ℕ) (todo : List Work) → Adds place (cond b (filter p todo) todo) todo
-withdrawn true p place todo w l = inl (in-filter p w todo l).0
-withdrawn false p place todo w l = inl l
-
-added : (place : ℕ) (processes : List Process) (references : List Reference) (list : TodoList) (todo : List Work) (own : Bool) (o : Option Object)
-    → Adds place (cond own (elim o as (λ (x : Option Object). List Work) [ None ↦ todo | Some x ↦ with_notice place processes references list todo x ]) todo) todo
-added place processes references list todo false o = λ w l. inl l
-added place processes references list todo true None = λ w l. inl l
-added place processes references list todo true (Some x) = with_notice-adds place processes references list todo x
 
 pub own_notices-quiet : (z : Space) (seat : ℕ) (items : List Item) → Quiet (own_notices z seat items) z
 unfolding own_notices
 own_notices-quiet z seat items =
-    quiet-todo _ z refl refl refl (λ w l. elim (adds-fold z.steps (add_notice z seat)
-    (λ todo x. added z.steps z.processes z.references (OfThread seat) todo (is_own x.flat.kind) (object_in z.objects x.object)) items (fold (withdraw_notice z.objects) z.todo items) w l) [
-      | inl i ↦ adds-fold z.steps (withdraw_notice z.objects) (λ todo x. withdrawn _ _ z.steps todo) items z.todo w i
-      | inr n ↦ inr n
-    ])
+    quiet-todo _ z refl refl refl
+    (own_notices-keeps (λ todo. Adds z.steps todo z.todo) z seat items (λ todo o k w l. k w (in-filter (λ (w : Work). not (is_notice o w.kind)) w todo l).0)
+    (λ todo x due. adds-work z.steps z.todo todo (OfThread seat) (work.Notice x.id) refl) (λ w l. inl l))
 
 pub delivered-quiet : (s : Space) (a : Actor) (d : TransactionData) (v : Delivery) → Quiet (delivered s a d v) s
 unfolding delivered add_buffer known_by assign_numbers refer make_objects
@@ -322,13 +283,8 @@ module _ (z : Space) (seat : ℕ) where
     threads = λ t m h u. made-kept z.threads seat t (other-thread t u) ∙ h;
   }
 
-each-goes : (seats : List ℕ) (z : Space) → Quiet (fold thread_goes z seats) z
-each-goes [] z = quiet-refl z
-each-goes (t ∷ ts) z = quiet-trans _ (thread_goes z t) z (each-goes ts (thread_goes z t)) (thread_goes-quiet z t)
-
 threads_go-quiet : (z : Space) (p : ℕ) → Quiet (threads_go z p) z
-unfolding threads_go
-threads_go-quiet z p = each-goes (map seat_of (filter (λ (t : Thread). t.process == p) z.threads)) z
+threads_go-quiet = threads-by Quiet quiet-refl quiet-trans thread_goes-quiet
 
 without_process-quiet : (z : Space) (p : ℕ) → Quiet (without_process z p) z
 unfolding without_process
@@ -361,10 +317,7 @@ tell_deaths-quiet : (z : Space) (p : ℕ) → Quiet (tell_deaths z p) z
 tell_deaths-quiet z p = on-told _ (kept-on_deaths z) z p (quiet-refl z)
 
 pub ends-quiet : (z : Space) (p : ℕ) → Quiet (tell_deaths (without_process (threads_go z p) p) p) z
-ends-quiet z p =
-    let a = threads_go z p in
-    let b = without_process a p in
-    quiet-trans (tell_deaths b p) b z (tell_deaths-quiet b p) (quiet-trans b a z (without_process-quiet a p) (threads_go-quiet z p))
+ends-quiet = ends-by Quiet quiet-trans threads_go-quiet without_process-quiet tell_deaths-quiet
 
 -- ---- the other parts
 

@@ -1,9 +1,8 @@
 -- The replies that are due: each on a thread's list, and none with another item's identity.
-use Rattle.std.proofs.Common.{◌≡◌, ℕ, suc, ◌+◌, ◌<◌, ◌==◌, Bool, true, false, cond, not, ◌&&◌, ◌||◌, List, [], ◌∷◌, ◌++◌, Option, Some, None, ◌⊎◌, inl, inr, refl, ap, sym, subst, ◌∙◌, filter, arith}
+use Rattle.std.proofs.Common.{◌≡◌, ℕ, suc, ◌<◌, ◌==◌, Bool, true, false, cond, not, ◌&&◌, ◌||◌, List, [], ◌∷◌, ◌++◌, Option, Some, None, ◌⊎◌, inl, inr, refl, ap, sym, subst, ◌∙◌, filter, arith}
 use Rattle.std.specs.Bool.{beq}
-use Rattle.std.specs.List.{fold, list_any, count_by}
-use Rattle.std.proofs.lemmas.List.Sums.{sum_by-append, sum_by-cons}
-use Rattle.std.proofs.lemmas.Bool.{eqb-true, eq-eqb}
+use Rattle.std.specs.List.{fold, list_any}
+use Rattle.std.proofs.lemmas.Bool.{eqb-true}
 use Rattle.bd_uapi.specs.declared.command.TransactionData.{TransactionData}
 use Rattle.bd_space.specs.declared.step.ObjectId.{ObjectId}
 use Rattle.bd_space.specs.declared.step.Step.{Step}
@@ -43,7 +42,8 @@ use Rattle.bd_laws.specs.Lists.{In}
 use Rattle.bd_laws.proofs.EveryStep.{Keeps, every_step, every_list}
 use Rattle.bd_laws.proofs.Lists.{in-push, in-filter, find-in, any-found, any-in}
 use Rattle.bd_laws.proofs.Tests.{both, same-eq}
-use Rattle.bd_laws.proofs.Deaths.{on-mapped}
+use Rattle.bd_laws.proofs.Deaths.{on-mapped, on-commands}
+use Rattle.bd_laws.proofs.Identities.{count_at, count-filter, count-work}
 use Rattle.bd_audit.proofs.Quiet as quiet
 use Rattle.bd_audit.proofs.Quiet.{Quiet, Adds, with_work-quiet, adds-trans}
 
@@ -56,9 +56,6 @@ pub record Owed (n : ℕ) (todo : List Work) : Type 0 where
 -- the replies were made before
 abbrev pub Early : ℕ → List Work → Type 0
 Early n todo = (w : Work) (b : ℕ) → In w todo → reply_of w.kind ≡ Some b → b < n
-
-abbrev pub count_at : ℕ → List Work → ℕ
-count_at n todo = count_by (λ w. w.id.place == n) todo
 
 -- before the step at n ends: a reply of this step has no identity that an item to come may have
 pub record DueNow (n : ℕ) (todo : List Work) : Type 0 where
@@ -102,26 +99,6 @@ module _ (n : ℕ) (more todo : List Work) (k : Adds n more todo) (h : Owed (suc
 
   pub adds-early : Early n more
   adds-early w b l e = early w b (old w b l e) e
-
--- ---- counting
-
-count-push : (p : Work → Bool) (xs : List Work) (y : Work) → p y ≡ true → count_by p (xs ++ y ∷ []) ≡ count_by p xs + 1
-count-push p xs y h = sum_by-append (λ x. cond (p x) 1 0) xs (y ∷ []) ∙ ap (λ b. count_by p xs + (0 + cond b 1 0)) h
-
-pub count-filter : (p q : Work → Bool) (xs : List Work) → ((w : Work) → In w xs → q w ≡ true → p w ≡ true) → count_by q (filter p xs) ≡ count_by q xs
-count-filter p q [] h = refl
-count-filter p q (x ∷ xs) h = at (p x) refl (count-filter p q xs (λ w l e. h w (inr l) e))
-  where
-    none : (c : Bool) → p x ≡ false → q x ≡ c → count_by q xs ≡ count_by q (x ∷ xs)
-    none true e f = let wrong = h x (inl refl) f in absurd (cc)
-    none false e f = let c = sum_by-cons (λ y. cond (q y) 1 0) x xs in let z : cond {A = ℕ} (q x) 1 0 ≡ 0 = ap (λ (b : Bool). cond {A = ℕ} b 1 0) f in omega arith
-
-    at : (b : Bool) → p x ≡ b → count_by q (filter p xs) ≡ count_by q xs → count_by q (cond b (x ∷ filter p xs) (filter p xs)) ≡ count_by q (x ∷ xs)
-    at true e k = sum_by-cons (λ y. cond (q y) 1 0) x (filter p xs) ∙ ap (λ n. cond (q x) 1 0 + n) k ∙ sym (sum_by-cons (λ y. cond (q y) 1 0) x xs)
-    at false e k = k ∙ none (q x) e refl
-
-pub count-work : (n : ℕ) (todo : List Work) (list : TodoList) (kind : WorkKind) → count_at n (with_work n todo list kind) ≡ count_at n todo + 1
-count-work n todo list kind = count-push (λ w. w.id.place == n) todo _ (eq-eqb n n refl)
 
 -- each item of this step is numbered below their count
 abbrev pub Numbered : ℕ → List Work → Type 0
@@ -278,13 +255,8 @@ found-kept p (y ∷ ys) o x h t = at (same y.id o) refl (λ k. found-kept p ys o
 plain-due : (processes : List Process) (objects : List Object) (references : List Reference) (deaths : List DeathNotification) (kind : WorkKind)
     → notice_of kind ≡ None → death_of kind ≡ None → still_due processes objects references deaths kind ≡ true
 plain-due processes objects references deaths (work.Notice o) h k = absurd (cc)
-plain-due processes objects references deaths work.Complete h k = refl
-plain-due processes objects references deaths (work.Refusal r) h k = refl
-plain-due processes objects references deaths (work.Call b) h k = refl
-plain-due processes objects references deaths (work.Reply b) h k = refl
-plain-due processes objects references deaths (work.Verdict r) h k = refl
 plain-due processes objects references deaths (work.Death n) h k = absurd (cc)
-plain-due processes objects references deaths (work.Cleared n) h k = refl
+plain-due processes objects references deaths _ h k = refl
 
 pub wanted-due : (processes : List Process) (objects : List Object) (references : List Reference) (deaths : List DeathNotification) (kind : WorkKind)
     → Wanted processes objects references kind → still_due processes (filter (stays_in processes references) objects) references deaths kind ≡ true
@@ -479,7 +451,7 @@ read-goes s seat ws h = inl (adds-early-owed (read_by s seat ws) s h refl (λ w 
 ripen-goes : (z : Space) → Goes z → Goes (ripen z)
 unfolding ripen
 ripen-goes z (inl h) =
-    let k = (quiet.ripened-adds z.steps (turns_of z.buffers) [] z.todo) in
+    let k = (quiet.ripen-adds z) in
     inl (adds-owed z.steps _ z.todo k h.0 h.1, adds-early z.steps _ z.todo k h.0 h.1)
 ripen-goes z (inr h) = inr (ripened-goes z.steps z.processes z.objects z.references (turns_of z.buffers) [] z.todo h)
 
@@ -509,10 +481,12 @@ owe-ends z list kind none h = work-due z.steps z.todo list kind none h
 
 kept : (s : Space) (seat : ℕ) (x : Step) → IsOwed s → Keeps s seat x Goes Ends
 kept s seat x h = record {
-  same = quiet-ends s s h (quiet.quiet-refl s);
-  opened = λ pid euid window. quiet-ends _ s h (quiet.opened-quiet s seat pid euid window);
-  attached = λ p. quiet-ends _ s h (quiet.attached-quiet s seat p);
-  managed = λ a e b. quiet-ends _ s h (quiet.managed-quiet s a.process.made);
+  set_up = record {
+    same = quiet-ends s s h (quiet.quiet-refl s);
+    opened = λ pid euid window free. quiet-ends _ s h (quiet.opened-quiet s seat pid euid window);
+    attached = λ p free. quiet-ends _ s h (quiet.attached-quiet s seat p);
+    managed = λ a e b. quiet-ends _ s h (quiet.managed-quiet s a.process.made);
+  };
   changes = record {
     transacts = λ a d parcel v e i t. transacted-goes s a d v h;
     replies = λ a d parcel f v e i g t. replied-goes s a d f v h;
@@ -521,7 +495,7 @@ kept s seat x h = record {
     drops = λ p o strong. quiet-goes _ s h (quiet.drop_asked-quiet s p o strong);
     acknowledges = λ o strong i. quiet-goes _ s h (quiet.acknowledge-quiet s o strong);
     loops = λ t looping. quiet-goes _ s h (quiet.with_looping-quiet s t looping);
-    on_deaths = on-mapped s _ _ (λ y k. quiet-goes y s h k) (quiet.on_deaths-quiet s);
+    on_deaths = on-commands s _ (on-mapped s _ _ (λ y k. quiet-goes y s h k) (quiet.on_deaths-quiet s));
     reads = λ a limit e i n. read-goes s a.thread.seat _ h;
     leaves = λ a e. quiet-goes _ s h (quiet.thread_goes-quiet s a.thread.seat);
     ends = λ a e. quiet-goes _ s h (quiet.ends-quiet s a.process.made);

@@ -49,7 +49,7 @@ use Rattle.bd_laws.proofs.OneWay.{Less, owe-less, own_notices-less}
 use Rattle.bd_laws.proofs.InTurn.{Turning, opening-in_turn}
 use Rattle.bd_laws.proofs.Ripening.{taken-due, read-in, turn-parts}
 use Rattle.bd_laws.proofs.PathWords.{same-item}
-use Rattle.bd_laws.proofs.Deaths.{tell_deaths-aside, on-mapped, on-both, on_deaths-aside}
+use Rattle.bd_laws.proofs.Deaths.{tell_deaths-aside, on-mapped, on-both, on-commands, commands-both, on_deaths-aside}
 use Rattle.bd_laws.proofs.OneWay as one_way
 use Rattle.bd_laws.proofs.InTurn as turn
 use Rattle.bd_laws.proofs.PathCalls as path_call
@@ -77,14 +77,8 @@ abbrev pub RepliesHeld : Space → Type 0
 RepliesHeld z = Held z.threads z.buffers z.todo
 
 pub reply-hands : (k : WorkKind) (b : ℕ) → reply_of k ≡ Some b → hands_out k ≡ Some b
-reply-hands (work.Notice o) b e = absurd (cc)
-reply-hands work.Complete b e = absurd (cc)
-reply-hands (work.Refusal r) b e = absurd (cc)
-reply-hands (work.Call c) b e = absurd (cc)
 reply-hands (work.Reply c) b e = e
-reply-hands (work.Verdict r) b e = absurd (cc)
-reply-hands (work.Death n) b e = absurd (cc)
-reply-hands (work.Cleared n) b e = absurd (cc)
+reply-hands _ b e = absurd (cc)
 
 has-moved : (ts us : List Thread) (bs cs : List Buffer) (list : TodoList) (b : ℕ) → (x : HasBuffer ts bs list b) → In x.buffer cs → In x.thread us → HasBuffer us cs list b
 has-moved ts us bs cs list b x here lives = record {
@@ -495,10 +489,12 @@ unfolding with_manager ask assign_numbers drop_asked acknowledge follow notify w
 kept s seat x turns h =
     let k = turn.kept s seat x turns in
     record {
-      same = (k.same, h);
-      opened = λ pid euid window. (k.opened pid euid window, opened s seat pid euid window h);
-      attached = λ p. (k.attached p, attached s seat p h);
-      managed = λ a e b. (k.managed a e b, h);
+      set_up = record {
+        same = (k.set_up.same, h);
+        opened = λ pid euid window free. (k.set_up.opened pid euid window free, opened s seat pid euid window h);
+        attached = λ p free. (k.set_up.attached p free, attached s seat p h);
+        managed = λ a e b. (k.set_up.managed a e b, h);
+      };
       changes = record {
         transacts = λ a d parcel v e i t. (k.changes.transacts a d parcel v e i t, transacts s a d v turns h);
         replies = λ a d parcel f v e i g t. (k.changes.replies a d parcel f v e i g t, replies s a d parcel f v turns t h);
@@ -507,7 +503,7 @@ kept s seat x turns h =
         drops = λ p o strong. (k.changes.drops p o strong, h);
         acknowledges = λ o strong i. (k.changes.acknowledges o strong i, h);
         loops = λ t looping. (k.changes.loops t looping, loops s t looping h);
-        on_deaths = on-both s _ _ k.changes.on_deaths (on-mapped s _ _ (λ y l. calm y s l.0 l.1.buffers l.1.threads h) (on-both s _ _ (one_way.on_deaths-less s) (on_deaths-aside s)));
+        on_deaths = commands-both s _ _ k.changes.on_deaths (on-commands s _ (on-mapped s _ _ (λ y l. calm y s l.0 l.1.buffers l.1.threads h) (on-both s _ _ (one_way.on_deaths-less s) (on_deaths-aside s))));
         reads = λ a limit e i n. (k.changes.reads a limit e i n, reads s h a.thread (limit - 4));
         leaves = λ a e. (k.changes.leaves a e, goes s a.thread.seat h);
         ends = λ a e. (k.changes.ends a e, ends s a.process.made h);

@@ -7,7 +7,7 @@ use Rattle.bd_uapi.specs.declared.fault.Fault.TheVariants.{NoMemory}
 use Rattle.std.specs.Option.{option_eq, option_map, option_and_then}
 use Rattle.std.proofs.lemmas.Bool.{eqb-true, eq-eqb}
 use Rattle.bd_space.specs.declared.step.Step.{Step}
-use Rattle.bd_space.specs.declared.step.Step.TheVariants.{Open, Attach, SetManager, Command, Read, ExitThread, ExitProcess}
+use Rattle.bd_space.specs.declared.step.Step.TheVariants.{Read}
 use Rattle.bd_space.specs.declared.step.Entry.{Entry}
 use Rattle.bd_space.specs.Space.{Space, opening}
 use Rattle.bd_space.specs.declared.space.Frame.{Frame}
@@ -30,13 +30,8 @@ unfolding reply_taken
 unread s e never = at e.step refl
   where
     at : (x : Step) → e.step ≡ x → None ≡ first_reply_in (items_taken s e.seat x)
-    at (Open pid euid window) k = refl
-    at (Attach pid) k = refl
-    at SetManager k = refl
-    at (Command c parcel) k = refl
     at (Read limit) k = absurd (never limit k)
-    at ExitThread k = refl
-    at ExitProcess k = refl
+    at _ k = refl
 
 same-option : (a b : Option ℕ) → option_eq (λ x y. x == y) a b ≡ true → a ≡ b
 same-option None None h = refl

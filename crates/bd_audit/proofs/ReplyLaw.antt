@@ -6,7 +6,7 @@ use Rattle.std.proofs.lemmas.Option.{option_and_then_some}
 use Rattle.std.proofs.lemmas.Bool.{eqb-true, eq-eqb}
 use Rattle.bd_uapi.specs.declared.command.TransactionData.{TransactionData}
 use Rattle.bd_space.specs.declared.step.Step.{Step}
-use Rattle.bd_space.specs.declared.step.Step.TheVariants.{Open, Attach, SetManager, Command, Read, ExitThread, ExitProcess}
+use Rattle.bd_space.specs.declared.step.Step.TheVariants.{Read}
 use Rattle.bd_space.specs.declared.step.Entry.{Entry}
 use Rattle.bd_space.specs.declared.space.Work.{Work}
 use Rattle.bd_space.specs.declared.space.Frame.{Frame}
@@ -29,7 +29,7 @@ use Rattle.bd_engine.specs.Looks.{first_reply}
 use Rattle.bd_laws.specs.Lists.{In}
 use Rattle.bd_laws.proofs.EveryStep.{Keeps, every_step}
 use Rattle.bd_laws.proofs.Lists.{in-push, in-filter, in-changed, find-in, any-in}
-use Rattle.bd_laws.proofs.Deaths.{on-mapped}
+use Rattle.bd_laws.proofs.Deaths.{on-mapped, on-commands}
 use Rattle.bd_audit.specs.Gifts.{Stands}
 use Rattle.bd_audit.specs.Laws.{space_at}
 use Rattle.bd_audit.specs.Replies.{thread_made, items_taken, reply_taken, reply_taken_at, frame_of, call_closed_at, call_answered, AnswersCall, At, Answered}
@@ -108,10 +108,12 @@ from-read s seat ws = record {
 
 from-kept : (s : Space) (seat : ℕ) (x : Step) → Keeps s seat x (From s) (From s)
 from-kept s seat x = record {
-  same = from-same s;
-  opened = λ pid euid window. from-quietly s _ (quiet.opened-quiet s seat pid euid window);
-  attached = λ p. from-quietly s _ (quiet.attached-quiet s seat p);
-  managed = λ a i b. from-quietly s _ (quiet.managed-quiet s a.process.made);
+  set_up = record {
+    same = from-same s;
+    opened = λ pid euid window free. from-quietly s _ (quiet.opened-quiet s seat pid euid window);
+    attached = λ p free. from-quietly s _ (quiet.attached-quiet s seat p);
+    managed = λ a i b. from-quietly s _ (quiet.managed-quiet s a.process.made);
+  };
   changes = record {
     transacts = λ a d parcel v e i t. from-transacted s a d v;
     replies = λ a d parcel f v e i g t. from-replied s a d f v;
@@ -120,7 +122,7 @@ from-kept s seat x = record {
     drops = λ p o strong. from-quietly s _ (quiet.drop_asked-quiet s p o strong);
     acknowledges = λ o strong i. from-quietly s _ (quiet.acknowledge-quiet s o strong);
     loops = λ t looping. from-quietly s _ (quiet.with_looping-quiet s t looping);
-    on_deaths = on-mapped s _ _ (from-quietly s) (quiet.on_deaths-quiet s);
+    on_deaths = on-commands s _ (on-mapped s _ _ (from-quietly s) (quiet.on_deaths-quiet s));
     reads = λ a limit i e n. from-read s a.thread.seat _;
     leaves = λ a i. from-quietly s _ (quiet.thread_goes-quiet s a.thread.seat);
     ends = λ a i. from-quietly s _ (quiet.ends-quiet s a.process.made);
@@ -216,13 +218,8 @@ unfolding reply_taken
 is-reading s e r h = at e.step refl h
   where
     at : (x : Step) → e.step ≡ x → first_reply_in (items_taken s e.seat x) ≡ Some r → (limit : ℕ) × (e.step ≡ Read limit)
-    at (Open pid euid window) k h = absurd (cc)
-    at (Attach pid) k h = absurd (cc)
-    at SetManager k h = absurd (cc)
-    at (Command c parcel) k h = absurd (cc)
     at (Read limit) k h = (limit, k)
-    at ExitThread k h = absurd (cc)
-    at ExitProcess k h = absurd (cc)
+    at _ k h = absurd (cc)
 
 -- the item that a reading takes stood on its thread's list, and has gone
 pub record Took (s : Space) (e : Entry) (r : ℕ) : Type 0 where

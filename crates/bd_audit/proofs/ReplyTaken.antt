@@ -126,13 +126,8 @@ notices-first n processes references on (x ∷ xs) todo =
 reply-stays : (processes : List Process) (objects : List Object) (references : List Reference) (deaths : List DeathNotification) (kind : WorkKind) (b : ℕ)
     → reply_of kind ≡ Some b → still_due processes objects references deaths kind ≡ true
 reply-stays processes objects references deaths (work.Notice o) b h = absurd (cc)
-reply-stays processes objects references deaths work.Complete b h = refl
-reply-stays processes objects references deaths (work.Refusal r) b h = refl
-reply-stays processes objects references deaths (work.Call c) b h = refl
-reply-stays processes objects references deaths (work.Reply c) b h = refl
-reply-stays processes objects references deaths (work.Verdict r) b h = refl
 reply-stays processes objects references deaths (work.Death n) b h = absurd (cc)
-reply-stays processes objects references deaths (work.Cleared n) b h = refl
+reply-stays processes objects references deaths _ b h = refl
 
 follow-first : (z : Space) (seat : ℕ) → first_reply (follow z) seat ≡ first_reply z seat
 unfolding follow notify work_goes deaths_go objects_go names_go

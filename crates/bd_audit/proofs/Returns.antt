@@ -17,7 +17,7 @@ use Rattle.bd_space.specs.Returns.{returns_of}
 use Rattle.bd_space.specs.ReadItems.{shakes, handshakes_for, handshakes_of, handshakes, is_told_by}
 use Rattle.bd_laws.specs.Lists.{In}
 use Rattle.bd_laws.proofs.Lists.{in-append, any-found, any-in}
-use Rattle.bd_laws.proofs.Tests.{same-eq, eq-same}
+use Rattle.bd_laws.proofs.Tests.{same-eq, eq-same, notice-kind}
 use Rattle.bd_laws.proofs.Noticing.{Once, notice-is}
 use Rattle.bd_audit.specs.Hearing.{event_of, heard_in}
 use Rattle.bd_audit.proofs.Orders.{Hearing, unheard, weakly, strongly, ended, hears_all}
@@ -25,16 +25,6 @@ use Rattle.bd_audit.proofs.Tallies.{tally, tally-append, tally-none}
 use Rattle.bd_audit.proofs.Telling.{is_weak, is_strong, waits, number, shaken}
 
 -- ---- the items that are read
-
-pub is-notice : (kind : WorkKind) (o : ObjectId) → is_notice o kind ≡ true → kind ≡ work.Notice o
-is-notice (work.Notice p) o e = ap (λ i. work.Notice i) (same-eq p o e)
-is-notice work.Complete o e = absurd (cc)
-is-notice (work.Refusal r) o e = absurd (cc)
-is-notice (work.Call b) o e = absurd (cc)
-is-notice (work.Reply b) o e = absurd (cc)
-is-notice (work.Verdict r) o e = absurd (cc)
-is-notice (work.Death n) o e = absurd (cc)
-is-notice (work.Cleared n) o e = absurd (cc)
 
 told-notice : (f : Option ObjectId) (o : ObjectId) → is_some_and f (same o) ≡ true → f ≡ Some o
 told-notice None o e = absurd (cc)
@@ -77,7 +67,7 @@ module _ (s : Space) (o : ObjectId) where
   Silent ws = (w : Work) → In w ws → notice_of w.kind ≡ Some o → ⊥
 
   notice-of : (kind : WorkKind) → is_notice o kind ≡ true → notice_of kind ≡ Some o
-  notice-of kind e = ap notice_of (is-notice kind o e)
+  notice-of kind e = ap notice_of (notice-kind o kind e)
 
   pub silent-heard : (ws : List Work) → Silent ws → heard_in s o ws ≡ []
   silent-heard [] h = refl
@@ -130,7 +120,7 @@ module _ (s : Space) (o : ObjectId) where
       at : (b : Bool) → is_notice o v.kind ≡ b → (v ≡ w) ⊎ In w ws → (In w ws → heard_in s o ws ≡ filter_map event_of (returns_of s (work.Notice o)))
           → cond b (filter_map event_of (returns_of s v.kind)) [] ++ heard_in s o ws ≡ filter_map event_of (returns_of s (work.Notice o))
       at true f m more =
-          ap (λ k. filter_map event_of (returns_of s k) ++ heard_in s o ws) (is-notice v.kind o f)
+          ap (λ k. filter_map event_of (returns_of s k) ++ heard_in s o ws) (notice-kind o v.kind f)
           ∙ ap (λ es. filter_map event_of (returns_of s (work.Notice o)) ++ es) (silent-heard ws (rest-silent v ws h (notice-of v.kind f)))
           ∙ append-nil (filter_map event_of (returns_of s (work.Notice o)))
       at false f (inl is) more = let yes = notice-is v.kind o (ap (λ (x : Work). notice_of x.kind) is ∙ e) in absurd (cc)
@@ -146,7 +136,7 @@ module _ (s : Space) (o : ObjectId) where
       at : (c : Bool) → is_notice o v.kind ≡ c → (v ≡ w) ⊎ In w ws → (In w ws → shaken (handshakes s (k + length (handshakes_of s k v.kind)) ws) o b ≡ tally (is_strength b) (flat_map shakes (returns_of s (work.Notice o))))
           → shaken (handshakes_of s k v.kind) o b + shaken (handshakes s (k + length (handshakes_of s k v.kind)) ws) o b ≡ tally (is_strength b) (flat_map shakes (returns_of s (work.Notice o)))
       at true f m more =
-          last-none _ _ _ (ap (λ i. shaken (handshakes_of s k i) o b) (is-notice v.kind o f) ∙ for-own o b s.steps (flat_map shakes (returns_of s (work.Notice o))) k)
+          last-none _ _ _ (ap (λ i. shaken (handshakes_of s k i) o b) (notice-kind o v.kind f) ∙ for-own o b s.steps (flat_map shakes (returns_of s (work.Notice o))) k)
           (silent-shaken ws (k + length (handshakes_of s k v.kind)) b (rest-silent v ws h (notice-of v.kind f)))
       at false f (inl is) more = let yes = notice-is v.kind o (ap (λ (x : Work). notice_of x.kind) is ∙ e) in absurd (cc)
       at false f (inr m) more =

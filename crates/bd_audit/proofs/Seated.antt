@@ -1,9 +1,8 @@
 -- Each live thread was made by a step of its seat.
-use Rattle.std.proofs.Common.{◌≡◌, ℕ, zero, suc, ◌-◌, ◌==◌, Bool, true, false, cond, not, List, [], ◌∷◌, ◌++◌, append_assoc, length, Option, Some, None, ◌⊎◌, inl, inr, refl, ap, sym, subst, ◌∙◌, map, filter}
+use Rattle.std.proofs.Common.{◌≡◌, ℕ, zero, suc, ◌-◌, ◌==◌, Bool, true, false, cond, not, List, [], ◌∷◌, ◌++◌, length, Option, Some, None, ◌⊎◌, inl, inr, refl, ap, sym, subst, ◌∙◌, map, filter}
 use Rattle.std.specs.List.{fold, slice_get}
 use Rattle.std.specs.Option.{option_map}
 use Rattle.std.proofs.lemmas.Bool.{eqb-true}
-use Rattle.std.proofs.lemmas.List.{append-nil}
 use Rattle.bd_uapi.specs.declared.command.TransactionData.{TransactionData}
 use Rattle.bd_space.specs.declared.step.Entry.{Entry}
 use Rattle.bd_space.specs.declared.space.Thread.{Thread}
@@ -33,7 +32,8 @@ use Rattle.bd_space.specs.Asking.{ask, drop_asked, acknowledge}
 use Rattle.bd_space.specs.Commands.{with_looping}
 use Rattle.bd_space.specs.Histories.{after}
 use Rattle.bd_laws.proofs.EveryStep.{Keeps, every_step}
-use Rattle.bd_laws.proofs.Deaths.{tell_deaths-aside, on-mapped, on_deaths-aside}
+use Rattle.bd_laws.proofs.Deaths.{tell_deaths-aside, on-mapped, on_deaths-aside, on-commands}
+use Rattle.bd_laws.proofs.Lists.{by-last}
 use Rattle.bd_audit.specs.Replies.{made_in, thread_made}
 use Rattle.bd_audit.proofs.Beginnings.{after-append}
 use Rattle.bd_audit.proofs.Chains.{always-steps}
@@ -78,6 +78,17 @@ none-left (x ∷ ts) gone = at (x.seat == gone) refl (none-left ts gone)
         → made_in (cond (not b) (x ∷ filter (λ (v : Thread). not (v.seat == gone)) ts) (filter (λ (v : Thread). not (v.seat == gone)) ts)) gone ≡ None
     at true e k = k
     at false e k = ap (λ c. option_map (λ (v : Thread). v.made) (cond c (Some x) (thread_in (filter (λ (v : Thread). not (v.seat == gone)) ts) gone))) e ∙ k
+
+-- who is left sits elsewhere
+pub other-left : (ts : List Thread) (gone t m : ℕ) → made_in (filter (λ (v : Thread). not (v.seat == gone)) ts) t ≡ Some m → (t == gone) ≡ false
+other-left ts gone t m i = at (t == gone) refl
+  where
+    at : (b : Bool) → (t == gone) ≡ b → (t == gone) ≡ false
+    at true e =
+        let none = none-left ts gone in
+        let some = subst (λ n. made_in (filter (λ (v : Thread). not (v.seat == gone)) ts) n ≡ Some m) (eqb-true t gone e) i in
+        absurd (cc)
+    at false e = e
 
 pub made-before : (ts : List Thread) (gone t m : ℕ) → made_in (filter (λ (v : Thread). not (v.seat == gone)) ts) t ≡ Some m → made_in ts t ≡ Some m
 made-before ts gone t m h = at (t == gone) refl
@@ -161,10 +172,12 @@ module _ (es : List Entry) (e : Entry) (h : Seated es (after opening es)) where
   kept : Keeps s e.seat e.step (Seated more) (Seated more)
   unfolding with_process with_manager without_buffer ask assign_numbers drop_asked acknowledge with_looping read_by ripen follow notify work_goes deaths_go objects_go names_go closed
   kept = record {
-    same = now;
-    opened = λ pid euid window. attached s.steps (with_process s pid euid window) refl refl;
-    attached = λ p. attached p s refl refl;
-    managed = λ a i b. same (with_manager s a.process.made) refl;
+    set_up = record {
+      same = now;
+      opened = λ pid euid window free. attached s.steps (with_process s pid euid window) refl refl;
+      attached = λ p free. attached p s refl refl;
+      managed = λ a i b. same (with_manager s a.process.made) refl;
+    };
     changes = record {
       transacts = λ a d parcel v x i t. same (transacted s a d v) (transacted-threads s a d v);
       replies = λ a d parcel f v x i g t. same (replied s a d f v) (replied-threads s a d f v);
@@ -173,7 +186,7 @@ module _ (es : List Entry) (e : Entry) (h : Seated es (after opening es)) where
       drops = λ p o strong. same (drop_asked s p o strong) refl;
       acknowledges = λ o strong i. same (acknowledge s o strong) refl;
       loops = λ t looping u m k. now u m (sym (made-changed (λ (v : Thread). v.seat == t) looping s.threads u) ∙ k);
-      on_deaths = on-mapped s _ _ (λ y k. same y k.threads) (on_deaths-aside s);
+      on_deaths = on-commands s _ (on-mapped s _ _ (λ y k. same y k.threads) (on_deaths-aside s));
       reads = λ a limit i x n. same (read_by s a.thread.seat (taken s (limit - 4) (list_to_read s a.thread))) refl;
       leaves = λ a i. goes more s a.thread.seat now;
       ends = λ a i. ends more s a.process.made now;
@@ -189,9 +202,5 @@ module _ (es : List Entry) (e : Entry) (h : Seated es (after opening es)) where
   unfolding counted
   step-seated = subst (Seated more) (sym (after-append opening es (e ∷ []))) (every_step s e.seat e.step (Seated more) (Seated more) kept)
 
-from-here : (rest before : List Entry) → Seated before (after opening before) → Seated (before ++ rest) (after opening (before ++ rest))
-from-here [] before h = subst (λ es. Seated es (after opening es)) (sym (append-nil before)) h
-from-here (e ∷ rest) before h = subst (λ es. Seated es (after opening es)) (append_assoc before (e ∷ []) rest) (from-here rest (before ++ e ∷ []) (step-seated before e h))
-
 pub always-seated : (es : List Entry) → Seated es (after opening es)
-always-seated es = from-here es [] (λ t m k. absurd (cc))
+always-seated es = by-last (λ es. Seated es (after opening es)) step-seated (λ t m k. absurd (cc)) es

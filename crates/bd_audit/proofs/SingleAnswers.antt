@@ -1,8 +1,7 @@
 -- On one thread's list one step leaves one reply or verdict at most: of two calls of a thread that lives on, the earlier
 -- stays open through a step, so that a step closes one of them at most.
-use Rattle.std.proofs.Common.{◌≡◌, ℕ, ◌<◌, ◌-◌, Bool, true, false, cond, not, List, [], ◌∷◌, ◌++◌, append_assoc, Option, Some, None, ◌⊎◌, inl, inr, refl, ap, sym, subst, ◌∙◌, arith}
+use Rattle.std.proofs.Common.{◌≡◌, ℕ, ◌<◌, ◌-◌, Bool, true, false, cond, not, List, [], ◌∷◌, ◌++◌, Option, Some, None, ◌⊎◌, inl, inr, refl, ap, sym, subst, ◌∙◌, arith}
 use Rattle.std.specs.List.{list_any, find}
-use Rattle.std.proofs.lemmas.List.{append-nil}
 use Rattle.std.proofs.lemmas.Bool.{cases_lt}
 use Rattle.bd_uapi.specs.declared.command.TransactionData.{TransactionData}
 use Rattle.bd_uapi.specs.declared.command.Return.TheVariants.{DeadReply, FailedReply, TransactionComplete}
@@ -36,11 +35,11 @@ use Rattle.bd_space.specs.Histories.{after}
 use Rattle.bd_laws.specs.Lists.{In}
 use Rattle.bd_laws.specs.Frames.{OnPaths}
 use Rattle.bd_laws.proofs.EveryStep.{KeepsWhole, whole, every_whole_step}
-use Rattle.bd_laws.proofs.Lists.{in-push, in-filter, in-changed, find-in}
+use Rattle.bd_laws.proofs.Lists.{in-push, in-filter, in-changed, find-in, by-last}
 use Rattle.bd_laws.proofs.Tests.{both}
 use Rattle.bd_laws.proofs.PathWords.{served-is}
 use Rattle.bd_laws.proofs.Always.{always-on_paths}
-use Rattle.bd_laws.proofs.Deaths.{on-mapped, on-both}
+use Rattle.bd_laws.proofs.Deaths.{on-mapped, on-both, on-commands, commands-both, commands-mapped}
 use Rattle.bd_audit.specs.Replies.{made_in, thread_made}
 use Rattle.bd_audit.specs.Latest.{is_answer}
 use Rattle.bd_audit.proofs.Beginnings.{after-append}
@@ -290,14 +289,16 @@ module _ (es : List Entry) (e : Entry) (h : Single (after opening es).todo) wher
       let q = λ (z : Space) (i : Quiet z s) (j : NoneNew z.todo s.todo). quietly z i j in
       let same = none-same s.todo in
       record {
-        same = (k.same, l.same, q s (quiet.quiet-refl s) same);
-        opened = λ pid euid window. (
-          k.opened pid euid window,
-          l.opened pid euid window,
-          q (with_thread (with_process s pid euid window) e.seat s.steps) (quiet.opened-quiet s e.seat pid euid window) same,
-        );
-        attached = λ p. (k.attached p, l.attached p, q (with_thread s e.seat p) (quiet.attached-quiet s e.seat p) same);
-        managed = λ a i b. (k.managed a i b, l.managed a i b, q (with_manager s a.process.made) (quiet.managed-quiet s a.process.made) same);
+        set_up = record {
+          same = (k.set_up.same, l.set_up.same, q s (quiet.quiet-refl s) same);
+          opened = λ pid euid window free. (
+            k.set_up.opened pid euid window free,
+            l.set_up.opened pid euid window free,
+            q (with_thread (with_process s pid euid window) e.seat s.steps) (quiet.opened-quiet s e.seat pid euid window) same,
+          );
+          attached = λ p free. (k.set_up.attached p free, l.set_up.attached p free, q (with_thread s e.seat p) (quiet.attached-quiet s e.seat p) same);
+          managed = λ a i b. (k.set_up.managed a i b, l.set_up.managed a i b, q (with_manager s a.process.made) (quiet.managed-quiet s a.process.made) same);
+        };
         changes = record {
           transacts = λ a d parcel v x i t. (k.changes.transacts a d parcel v x i t, l.changes.transacts a d parcel v x i t, transacts a d v);
           replies = λ a d parcel f v x i g t. (k.changes.replies a d parcel f v x i g t, l.changes.replies a d parcel f v x i g t, replies a d f v g);
@@ -308,7 +309,8 @@ module _ (es : List Entry) (e : Entry) (h : Single (after opening es).todo) wher
           loops = λ t looping. (k.changes.loops t looping, l.changes.loops t looping, q (with_looping s t looping) (quiet.with_looping-quiet s t looping) same);
           on_deaths =
               let apart = on-both s (λ y. Quiet y s) (λ y. NoneNew y.todo s.todo) (quiet.on_deaths-quiet s) (none-on_deaths s) in
-              on-mapped s _ All (λ y u. (u.0, u.1.0, q y u.1.1.0 u.1.1.1)) (on-both s _ _ k.changes.on_deaths (on-both s _ _ l.changes.on_deaths apart));
+              commands-mapped s _ All (λ y u. (u.0, u.1.0, u.1.1))
+              (commands-both s _ _ k.changes.on_deaths (commands-both s _ _ l.changes.on_deaths (on-commands s Now (on-mapped s _ Now (λ y u. q y u.0 u.1) apart))));
           reads = λ a limit i x n. (k.changes.reads a limit i x n, l.changes.reads a limit i x n, reads a.thread.seat (taken s (limit - 4) (list_to_read s a.thread)));
           leaves = λ a i. (k.changes.leaves a i, l.changes.leaves a i, q (thread_goes s a.thread.seat) (quiet.thread_goes-quiet s a.thread.seat) (none-goes s a.thread.seat));
           ends = λ a i. (
@@ -332,9 +334,5 @@ module _ (es : List Entry) (e : Entry) (h : Single (after opening es).todo) wher
   unfolding counted
   step-single = subst (λ (z : Space). Single z.todo) (sym (after-append opening es (e ∷ []))) (every_whole_step s e.seat e.step All All kept).2.single
 
-from-here : (rest before : List Entry) → Single (after opening before).todo → Single (after opening (before ++ rest)).todo
-from-here [] before h = subst (λ es. Single (after opening es).todo) (sym (append-nil before)) h
-from-here (e ∷ rest) before h = subst (λ es. Single (after opening es).todo) (append_assoc before (e ∷ []) rest) (from-here rest (before ++ e ∷ []) (step-single before e h))
-
 pub always-single : (es : List Entry) → Single (after opening es).todo
-always-single es = from-here es [] (λ v w t i j on off a b p. absurd i)
+always-single es = by-last (λ es. Single (after opening es).todo) step-single (λ v w t i j on off a b p. absurd i) es

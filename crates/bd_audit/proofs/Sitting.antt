@@ -1,5 +1,5 @@
 -- A Notice stands where threads of the process that owns its object read it.
-use Rattle.std.proofs.Common.{◌≡◌, ℕ, ◌==◌, Bool, true, false, cond, not, ◌&&◌, List, [], ◌∷◌, ◌++◌, Option, Some, None, Ok, inl, inr, refl, ap, sym, subst, ◌∙◌, map, filter, find, arith}
+use Rattle.std.proofs.Common.{◌≡◌, ℕ, ◌==◌, Bool, true, false, cond, not, ◌&&◌, List, [], ◌∷◌, ◌++◌, Option, Some, None, Ok, inl, inr, refl, ap, sym, subst, ◌∙◌, filter, find, arith}
 use Rattle.std.specs.List.{list_any}
 use Rattle.std.proofs.lemmas.Bool.{eqb-true, eq-eqb}
 use Rattle.bd_uapi.specs.declared.command.TransactionData.{TransactionData}
@@ -38,7 +38,7 @@ use Rattle.bd_space.specs.Asking.{ask, drop_asked, acknowledge}
 use Rattle.bd_space.specs.Commands.{with_looping}
 use Rattle.bd_space.specs.ReadItems.{read_by, told_of, is_told_by}
 use Rattle.bd_space.specs.ThreadExits.{thread_goes}
-use Rattle.bd_space.specs.ProcessExits.{threads_go, without_process, tell_deaths, seat_of}
+use Rattle.bd_space.specs.ProcessExits.{threads_go, without_process, tell_deaths}
 use Rattle.bd_space.specs.Steps.{change, counted, with_thread, with_process, with_manager}
 use Rattle.bd_space.specs.Histories.{next}
 use Rattle.bd_laws.specs.Lists.{In, Pairs}
@@ -50,7 +50,8 @@ use Rattle.bd_laws.proofs.Checks.{transaction-checked, reply-checked, actor-live
 use Rattle.bd_laws.proofs.Sendings.{Sends, sending-sends}
 use Rattle.bd_laws.proofs.Objects.{IsKept, IsKeptWhole, kept-step, step-kept, opening-kept, closed-before, closed-sends, delivered-kept, told-id}
 use Rattle.bd_laws.proofs.Noticing.{Noticing, closed-noticing, step-noticing, opening-noticing}
-use Rattle.bd_laws.proofs.Deaths.{KeptOnDeaths, on-kept, on-told, on-both}
+use Rattle.bd_laws.proofs.Deaths.{KeptOnDeaths, on-kept, on-told, on-commands, commands-both}
+use Rattle.bd_laws.proofs.Following.{threads-keep}
 
 -- threads of q read the list
 abbrev pub Reaches : List Thread → TodoList → ℕ → Type 0
@@ -280,8 +281,7 @@ thread_goes-sits z seat h = λ w o x l e i is.
         at true g m = let yes = eq-eqb seat t (sym (eqb-true t seat g)) in absurd (cc)
 
 threads_go-sits : (z : Space) (p : ℕ) → SitsIn z → SitsIn (threads_go z p)
-unfolding threads_go
-threads_go-sits z p h = fold-keeps SitsIn thread_goes (map seat_of (filter (λ (t : Thread). t.process == p) z.threads)) (λ y t l k. thread_goes-sits y t k) z h
+threads_go-sits = threads-keep SitsIn thread_goes-sits
 
 without_process-sits : (z : Space) (p : ℕ) → SitsIn z → SitsIn (without_process z p)
 unfolding without_process
@@ -367,10 +367,12 @@ unfolding without_buffer ask assign_numbers drop_asked acknowledge
 sitting-step s seat x kept noticing h =
     let k = kept-step s seat x kept in
     record {
-      same = (k.same, h);
-      opened = λ pid euid window. (k.opened pid euid window, opened-sits s seat pid euid window h);
-      attached = λ p. (k.attached p, with_thread-sits s seat p h);
-      managed = λ a e b. (k.managed a e b, managed-sits s a.process.made kept noticing h);
+      set_up = record {
+        same = (k.set_up.same, h);
+        opened = λ pid euid window free. (k.set_up.opened pid euid window free, opened-sits s seat pid euid window h);
+        attached = λ p free. (k.set_up.attached p free, with_thread-sits s seat p h);
+        managed = λ a e b. (k.set_up.managed a e b, managed-sits s a.process.made kept noticing h);
+      };
       changes = record {
         transacts = λ a d parcel v e i t. (k.changes.transacts a d parcel v e i t, transacted-sits s seat a d parcel v kept noticing i t h);
         replies = λ a d parcel f v e i g t. (k.changes.replies a d parcel f v e i g t, replied-sits s seat a d parcel f v kept noticing i t h);
@@ -379,7 +381,7 @@ sitting-step s seat x kept noticing h =
         drops = λ p o strong. (k.changes.drops p o strong, h);
         acknowledges = λ o strong i. (k.changes.acknowledges o strong i, h);
         loops = λ t looping. (k.changes.loops t looping, with_looping-sits s t looping h);
-        on_deaths = on-both s _ _ k.changes.on_deaths (on-kept SitsIn sits-on_deaths s h);
+        on_deaths = commands-both s _ _ k.changes.on_deaths (on-commands s _ (on-kept SitsIn sits-on_deaths s h));
         reads = λ a limit e i n. (k.changes.reads a limit e i n, read-sits s a.thread.seat _ h);
         leaves = λ a e. (k.changes.leaves a e, thread_goes-sits s a.thread.seat h);
         ends = λ a e. (

@@ -1,18 +1,17 @@
 -- What an owner was told of an object agrees with what it has heard of it.
-use Rattle.std.proofs.Common.{◌≡◌, ℕ, ◌+◌, ◌≤◌, ◌==◌, Bool, true, false, cond, not, ◌&&◌, ◌||◌, List, [], ◌∷◌, ◌++◌, Option, Some, None, Ok, ◌⊎◌, inl, inr, refl, ap, sym, subst, ◌∙◌, map, filter, arith}
+use Rattle.std.proofs.Common.{◌≡◌, ℕ, ◌+◌, ◌≤◌, ◌==◌, Bool, true, false, cond, not, ◌&&◌, ◌||◌, List, [], ◌∷◌, ◌++◌, Option, Some, None, Ok, ◌⊎◌, inl, inr, refl, ap, sym, subst, ◌∙◌, filter, arith}
 use Rattle.std.proofs.lemmas.Bool.{eqb-true}
 use Rattle.bd_uapi.specs.declared.command.TransactionData.{TransactionData}
 use Rattle.bd_space.specs.declared.step.ObjectId.{ObjectId}
 use Rattle.bd_space.specs.declared.step.Parcel.{Parcel}
 use Rattle.bd_space.specs.declared.step.Step.{Step}
 use Rattle.bd_space.specs.declared.space.Process.{Process}
-use Rattle.bd_space.specs.declared.space.Thread.{Thread}
 use Rattle.bd_space.specs.declared.space.Actor.{Actor}
 use Rattle.bd_space.specs.declared.space.Frame.{Frame}
 use Rattle.bd_space.specs.declared.space.Object.{Object}
 use Rattle.bd_space.specs.declared.space.Reference.{Reference}
 use Rattle.bd_space.specs.declared.space.Holder.{Holder}
-use Rattle.bd_space.specs.declared.space.Holder.TheVariants.{Asked, Carried, Target, Handshake, Manager}
+use Rattle.bd_space.specs.declared.space.Holder.TheVariants.{Asked, Handshake, Manager}
 use Rattle.bd_space.specs.declared.space.Item.{Item}
 use Rattle.bd_space.specs.declared.space.WorkKind.TheVariants as work
 use Rattle.bd_space.specs.declared.space.TodoList.TheVariants.{OfThread}
@@ -31,19 +30,21 @@ use Rattle.bd_space.specs.Replies.{reply_check, replied}
 use Rattle.bd_space.specs.Asking.{ask, drop_asked}
 use Rattle.bd_space.specs.Freeing.{without_buffer}
 use Rattle.bd_space.specs.ThreadExits.{thread_goes, is_lost_reference}
-use Rattle.bd_space.specs.ProcessExits.{threads_go, without_process, is_dropped_with, seat_of}
+use Rattle.bd_space.specs.ProcessExits.{threads_go, without_process, is_dropped_with}
 use Rattle.bd_space.specs.Steps.{with_thread, with_process, with_manager}
 use Rattle.bd_laws.specs.Lists.{In, Pairs}
 use Rattle.bd_laws.specs.Objects.{Differ, KeptBefore}
 use Rattle.bd_laws.specs.Tidy.{Before}
-use Rattle.bd_laws.proofs.Lists.{in-left, in-append, in-push, in-last, in-filter, filter-in, without-in, any-found, any-in, pairs-either, fold-keeps}
+use Rattle.bd_laws.proofs.Lists.{in-left, in-append, in-push, in-last, in-filter, filter-in, without-in, any-found, any-in, pairs-either}
 use Rattle.bd_laws.proofs.Tests.{both, not-true, same-eq}
-use Rattle.bd_laws.proofs.EveryStep.{Keeps, IsReading, IsAcknowledging}
+use Rattle.bd_laws.proofs.EveryEnding.{IsReading, IsAcknowledging}
+use Rattle.bd_laws.proofs.EveryStep.{Keeps}
 use Rattle.bd_laws.proofs.Untouched.{Untouched, owe-untouched, told-untouched, called-untouched, closed-untouched, ripen-untouched, with_looping-untouched, on_deaths-untouched, tell_deaths-untouched}
 use Rattle.bd_laws.proofs.Checks.{transaction-checked, reply-checked}
 use Rattle.bd_laws.proofs.Sendings.{Sends, sending-sends}
 use Rattle.bd_laws.proofs.Objects.{and-false, closed-before, closed-sends, later, threads_go-kept}
-use Rattle.bd_laws.proofs.Deaths.{on-mapped}
+use Rattle.bd_laws.proofs.Deaths.{on-mapped, on-commands}
+use Rattle.bd_laws.proofs.Following.{threads-keep}
 use Rattle.bd_audit.proofs.Orders.{Hearing, unheard, weakly, strongly, ended}
 use Rattle.bd_audit.proofs.Tallies.{tally, tally-more, tally-none, tally-filter, tally-without}
 
@@ -114,31 +115,21 @@ shaking-parts o b r h =
 
 handshake-own : (h : Holder) → is_handshake h ≡ true → is_of_owner h ≡ true
 handshake-own Handshake e = refl
-handshake-own Manager e = absurd (cc)
-handshake-own (Asked q) e = absurd (cc)
-handshake-own (Carried b q) e = absurd (cc)
-handshake-own (Target b q) e = absurd (cc)
+handshake-own _ e = absurd (cc)
+
+own-holder : (h : Holder) (P : Holder → Type 0) → is_of_owner h ≡ true → P Handshake → P Manager → P h
+own-holder Handshake P e a b = a
+own-holder Manager P e a b = b
+own-holder _ P e a b = absurd (cc)
 
 own-unasked : (h : Holder) (p : ℕ) → is_of_owner h ≡ true → is_asked_by p h ≡ false
-own-unasked Handshake p e = refl
-own-unasked Manager p e = refl
-own-unasked (Asked q) p e = absurd (cc)
-own-unasked (Carried b q) p e = absurd (cc)
-own-unasked (Target b q) p e = absurd (cc)
+own-unasked h p e = own-holder h (λ k. is_asked_by p k ≡ false) e refl refl
 
 own-window : (h : Holder) (p : ℕ) → is_of_owner h ≡ true → is_in_window p h ≡ false
-own-window Handshake p e = refl
-own-window Manager p e = refl
-own-window (Asked q) p e = absurd (cc)
-own-window (Carried b q) p e = absurd (cc)
-own-window (Target b q) p e = absurd (cc)
+own-window h p e = own-holder h (λ k. is_in_window p k ≡ false) e refl refl
 
 own-buffer : (h : Holder) → is_of_owner h ≡ true → buffer_of_holder h ≡ None
-own-buffer Handshake e = refl
-own-buffer Manager e = refl
-own-buffer (Asked q) e = absurd (cc)
-own-buffer (Carried b q) e = absurd (cc)
-own-buffer (Target b q) e = absurd (cc)
+own-buffer h e = own-holder h (λ k. buffer_of_holder k ≡ None) e refl refl
 
 -- the owner's own references on the object are the same
 pub record Same (o : ObjectId) (more references : List Reference) : Type 0 where
@@ -224,8 +215,7 @@ module _ (o : ObjectId) (st : Hearing) where
       (same-filter o z.references (λ (r : Reference). not (is_lost_reference z.todo (OfThread seat) r)) (λ r e own. rw (own-buffer r.holder own) refl)) h
 
   threads_go-told : (z : Space) (p : ℕ) → H z → H (threads_go z p)
-  unfolding threads_go
-  threads_go-told z p h = fold-keeps H thread_goes (map seat_of (filter (λ (t : Thread). t.process == p) z.threads)) (λ y t l k. thread_goes-told y t k) z h
+  threads_go-told = threads-keep H thread_goes-told
 
   -- ---- a process ends
 
@@ -398,10 +388,12 @@ module _ (o : ObjectId) (st : Hearing) where
   quiet-step s seat x before h no_read no_done =
       let kept = before.objects in
       record {
-        same = h.tracks;
-        opened = λ pid euid window. opened-told s seat pid euid window before h.tracks;
-        attached = λ p. attached-told s seat p h.tracks;
-        managed = λ a e b. managed-told s a.process.made before h;
+        set_up = record {
+          same = h.tracks;
+          opened = λ pid euid window free. opened-told s seat pid euid window before h.tracks;
+          attached = λ p free. attached-told s seat p h.tracks;
+          managed = λ a e b. managed-told s a.process.made before h;
+        };
         changes = record {
           transacts = λ a d parcel v e i t. transacted-told s a d parcel v kept h t;
           replies = λ a d parcel f v e i g t. replied-told s a d parcel f v kept h t;
@@ -410,7 +402,7 @@ module _ (o : ObjectId) (st : Hearing) where
           drops = λ p i strong. drop_asked-told s p i strong h.tracks;
           acknowledges = λ i strong done. absurd (no_done strong done);
           loops = λ t looping. tracks-untouched ⊥ _ s (with_looping-untouched s t looping) h.tracks;
-          on_deaths = on-mapped s _ _ (λ y k. tracks-untouched ⊥ y s k h.tracks) (on_deaths-untouched s);
+          on_deaths = on-commands s _ (on-mapped s _ _ (λ y k. tracks-untouched ⊥ y s k h.tracks) (on_deaths-untouched s));
           reads = λ a limit e i n. absurd (no_read (limit, i));
           leaves = λ a e. thread_goes-told s a.thread.seat h.tracks;
           ends = λ a e. tracks-untouched ⊥ _ (without_process (threads_go s a.process.made) a.process.made) (tell_deaths-untouched (without_process (threads_go s a.process.made) a.process.made) a.process.made)

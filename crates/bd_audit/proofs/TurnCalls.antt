@@ -217,23 +217,17 @@ module _ (o : ObjectId) (es : List Entry) (e : Entry) (ts : List Turn) (k : Tell
     new-calls : CallsOneWay s e o
     new-calls = (treated t.made (fresh-once s before.turns t.made n.1)).made o c n.0 n.4 n.5
 
+    -- no step comes after the one that makes it
+    nowhere : {A : Type 0} (p : ℕ) → t.made < p → p < length more → A
+    nowhere p later below = let l = length-append es (e ∷ []) in let steps = always-steps es in let made = n.1 in absurd (omega arith)
+
     new-tells : TellsOf more o t
     new-tells = record {
       made = now t.made (λ z e. CallsOneWay z e o) n.1 new-calls;
       handed = λ p f. let none = n.2 in absurd (cc);
-      unhanded = λ p h.
-          let lt = handed-later more p t.made h in
-          let below = at-below more p (HandsOutCall t.made) h in
-          let l = length-append es (e ∷ []) in
-          let steps = always-steps es in
-          let made = n.1 in absurd (omega arith);
+      unhanded = λ p h. nowhere p (handed-later more p t.made h) (at-below more p (HandsOutCall t.made) h);
       ended = λ p f. let none = n.3 in absurd (cc);
-      unended = λ p h.
-          let lt = ends-later more p t.made h in
-          let below = at-below more p (EndsBuffer t.made) h in
-          let l = length-append es (e ∷ []) in
-          let steps = always-steps es in
-          let made = n.1 in absurd (omega arith);
+      unended = λ p h. nowhere p (ends-later more p t.made h) (at-below more p (EndsBuffer t.made) h);
       lives = lives-more t i;
     }
 

@@ -5,23 +5,19 @@ use Rattle.std.specs.Option.{is_some}
 use Rattle.std.proofs.lemmas.Bool.{eqb-true, eq-eqb}
 use Rattle.bd_space.specs.declared.step.ObjectId.{ObjectId}
 use Rattle.bd_space.specs.declared.step.Entry.{Entry}
-use Rattle.bd_space.specs.declared.space.Process.{Process}
 use Rattle.bd_space.specs.declared.space.Object.{Object}
 use Rattle.bd_space.specs.declared.space.Buffer.{Buffer}
 use Rattle.bd_space.specs.Words.{same, when, is_some_and}
 use Rattle.bd_space.specs.Space.{Space, opening}
 use Rattle.bd_space.specs.Freeing.{is_made_at}
 use Rattle.bd_space.specs.Steps.{change, counted}
-use Rattle.bd_space.specs.Histories.{History, next, space_after}
+use Rattle.bd_space.specs.Histories.{History, next}
 use Rattle.bd_laws.specs.Lists.{In, Pairs}
-use Rattle.bd_laws.specs.OneWayCalls.{Due, Rivals, Waits, IsInTurn, On, OnLists}
-use Rattle.bd_laws.specs.Objects.{Differ, KeptBefore}
+use Rattle.bd_laws.specs.OneWayCalls.{Due, Rivals, Waits, On}
 use Rattle.bd_laws.specs.Tidy.{Before}
-use Rattle.bd_laws.proofs.EveryStep.{every_list}
 use Rattle.bd_laws.proofs.Lists.{in-append, in-map, any-found, any-in, in-filter_map, pairs-either}
 use Rattle.bd_laws.proofs.Tests.{both, and-both, same-eq, eq-same, not-true}
-use Rattle.bd_laws.proofs.InTurn.{Turning, step-in_turn, opening-in_turn}
-use Rattle.bd_laws.proofs.Objects.{step-kept, opening-kept}
+use Rattle.bd_laws.proofs.InTurn.{Turning}
 use Rattle.bd_laws.proofs.Passing.{Lives, Became, Ended, Passed, step-passes, on-turn}
 use Rattle.bd_laws.proofs.Received.{owner-before, on-before, on-after, one-buffer, step-before, opening-before}
 use Rattle.bd_audit.specs.declared.turns.Turn.{Turn}

@@ -1,5 +1,5 @@
 -- What a step leaves as it was: the frames, the threads, and what threads are still to read of their own calls.
-use Rattle.std.proofs.Common.{◌≡◌, ℕ, ◌<◌, ◌==◌, Bool, true, false, cond, not, List, [], ◌∷◌, ◌++◌, map, Option, Some, None, ◌⊎◌, inl, inr, refl, ap, sym, subst, ◌∙◌, filter, arith}
+use Rattle.std.proofs.Common.{◌≡◌, ℕ, ◌<◌, ◌==◌, Bool, true, false, not, List, [], ◌∷◌, ◌++◌, map, Some, ◌⊎◌, inl, inr, refl, ap, sym, subst, ◌∙◌, filter, arith}
 use Rattle.std.specs.List.{fold}
 use Rattle.std.proofs.lemmas.Bool.{eqb-true}
 use Rattle.bd_uapi.specs.declared.command.TransactionData.{TransactionData}
@@ -8,7 +8,6 @@ use Rattle.bd_space.specs.declared.space.Process.{Process}
 use Rattle.bd_space.specs.declared.space.Object.{Object}
 use Rattle.bd_space.specs.declared.space.Reference.{Reference}
 use Rattle.bd_space.specs.declared.space.Thread.{Thread}
-use Rattle.bd_space.specs.declared.space.Turn.{Turn}
 use Rattle.bd_space.specs.declared.space.Work.{Work}
 use Rattle.bd_space.specs.declared.space.Item.{Item}
 use Rattle.bd_space.specs.declared.space.Frame.{Frame}
@@ -20,18 +19,17 @@ use Rattle.bd_space.specs.declared.space.WorkKind.{WorkKind}
 use Rattle.bd_space.specs.declared.space.WorkKind.TheVariants as work
 use Rattle.bd_space.specs.Space.{Space}
 use Rattle.bd_space.specs.Todo.{with_work, owe, is_on, is_notice, same_list}
-use Rattle.bd_space.specs.Turns.{turns_of, ripen, ripened, is_ripe}
-use Rattle.bd_space.specs.Notices.{with_notice, follow, notify, work_goes, deaths_go, still_due}
+use Rattle.bd_space.specs.Turns.{ripen}
+use Rattle.bd_space.specs.Notices.{follow, notify, work_goes, deaths_go, still_due}
 use Rattle.bd_space.specs.Names.{names_go, assign_numbers}
-use Rattle.bd_space.specs.References.{objects_go, object_in}
-use Rattle.bd_uapi.specs.Kinds.{is_own}
-use Rattle.bd_space.specs.Delivery.{Delivery, delivered, own_notices, add_buffer, known_by, refer, make_objects, buffer_of, add_notice, withdraw_notice}
+use Rattle.bd_space.specs.References.{objects_go}
+use Rattle.bd_space.specs.Delivery.{Delivery, delivered, own_notices, add_buffer, known_by, refer, make_objects, buffer_of}
 use Rattle.bd_space.specs.Transactions.{transacted, called, call_out}
 use Rattle.bd_space.specs.ThreadExits.{thread_goes, frame_without, unread_frame}
 use Rattle.bd_space.specs.ProcessExits.{threads_go, without_process, tell_deaths, seat_of}
 use Rattle.bd_space.specs.Steps.{with_thread}
 use Rattle.bd_laws.specs.Lists.{In}
-use Rattle.bd_laws.proofs.Lists.{in-left, in-push, in-map, map-in, filter-in, fold-keeps}
+use Rattle.bd_laws.proofs.Lists.{in-left, in-push, in-map, map-in, filter-in}
 use Rattle.bd_laws.proofs.Tests.{not-false}
 use Rattle.bd_laws.proofs.Deaths.{OnDeaths, KeptOnDeaths, on-kept, on-told}
 use Rattle.bd_audit.specs.Replies.{made_in, thread_made}
@@ -39,6 +37,7 @@ use Rattle.bd_audit.specs.Latest.{is_answer}
 use Rattle.bd_audit.proofs.Seated as seated
 use Rattle.bd_audit.proofs.Seated.{made-pushed, made-before, none-left}
 use Rattle.bd_laws.proofs.PathCalls as path_call
+use Rattle.bd_laws.proofs.Adding.{notify-keeps, own_notices-keeps, ripen-keeps}
 
 -- no reply or verdict goes
 abbrev pub Holds : List Work → List Work → Type 0
@@ -54,76 +53,41 @@ pub holds-owe : (z : Space) (list : TodoList) (kind : WorkKind) → Holds (owe z
 unfolding owe
 holds-owe z list kind = holds-push z.todo _
 
-holds-if : (place : ℕ) (b : Bool) (todo : List Work) (list : TodoList) (kind : WorkKind) → Holds (cond b (with_work place todo list kind) todo) todo
-holds-if place true todo list kind = holds-push todo _
-holds-if place false todo list kind = λ w a l. l
+holds-work : (place : ℕ) (all todo : List Work) (list : TodoList) (kind : WorkKind) → Holds todo all → Holds (with_work place todo list kind) all
+holds-work place all todo list kind = holds-trans _ todo all (holds-push todo _)
 
 holds-filter : (p : Work → Bool) (todo : List Work) → ((w : Work) → is_answer w.kind ≡ true → p w ≡ true) → Holds (filter p todo) todo
 holds-filter p todo k w a l = filter-in p w todo l (k w a)
-
-holds-fold : {A : Type 0} (f : List Work → A → List Work) → ((todo : List Work) (x : A) → Holds (f todo x) todo) → (xs : List A) (todo : List Work) → Holds (fold f todo xs) todo
-holds-fold f k xs todo w a l = fold-keeps (λ ws. In w ws) f xs (λ ws x i. k ws x w a) todo l
 
 -- ---- what follows
 
 answer-due : (processes : List Process) (objects : List Object) (references : List Reference) (deaths : List DeathNotification) (kind : WorkKind)
     → is_answer kind ≡ true → still_due processes objects references deaths kind ≡ true
 answer-due processes objects references deaths (work.Notice o) h = absurd (cc)
-answer-due processes objects references deaths work.Complete h = refl
-answer-due processes objects references deaths (work.Refusal r) h = refl
-answer-due processes objects references deaths (work.Call b) h = refl
-answer-due processes objects references deaths (work.Reply b) h = refl
-answer-due processes objects references deaths (work.Verdict r) h = refl
 answer-due processes objects references deaths (work.Death n) h = absurd (cc)
-answer-due processes objects references deaths (work.Cleared n) h = refl
+answer-due processes objects references deaths _ h = refl
 
 pub holds-follow : (z : Space) → Holds (follow z).todo z.todo
 unfolding follow notify work_goes deaths_go objects_go names_go
 holds-follow z =
     let c = deaths_go (objects_go (names_go z)) in
-    holds-trans _ (work_goes c).todo z.todo
-    (holds-fold (λ todo (x : Object). with_notice z.steps z.processes z.references (OfProcess x.owner) todo x)
-    (λ todo x. holds-if z.steps _ todo (OfProcess x.owner) (work.Notice x.id)) c.objects (work_goes c).todo)
+    notify-keeps (λ todo. Holds todo z.todo) (work_goes c) (λ todo x l due. holds-work z.steps z.todo todo (OfProcess x.owner) (work.Notice x.id))
     (holds-filter (λ w. still_due c.processes c.objects c.references c.deaths w.kind) z.todo (λ w a. answer-due c.processes c.objects c.references c.deaths w.kind a))
 
-ripened-holds : (place : ℕ) (ts older : List Turn) (todo : List Work) → Holds (ripened place older todo ts) todo
-ripened-holds place [] older todo w a l = l
-ripened-holds place (t ∷ ts) older todo w a l =
-    ripened-holds place ts (older ++ t ∷ []) _ w a (holds-if place (is_ripe todo older t) todo (OfProcess t.receiver) (work.Call t.made) w a l)
-
 pub holds-ripen : (z : Space) → Holds (ripen z).todo z.todo
-unfolding ripen
-holds-ripen z = ripened-holds z.steps (turns_of z.buffers) [] z.todo
+holds-ripen z = ripen-keeps (λ todo. Holds todo z.todo) z (λ todo t. holds-work z.steps z.todo todo (OfProcess t.receiver) (work.Call t.made)) (λ w a l. l)
 
 -- ---- deliveries
 
 no-notice : (o : ObjectId) (kind : WorkKind) → is_answer kind ≡ true → not (is_notice o kind) ≡ true
 no-notice o (work.Notice p) h = absurd (cc)
-no-notice o work.Complete h = refl
-no-notice o (work.Refusal r) h = refl
-no-notice o (work.Call b) h = refl
-no-notice o (work.Reply b) h = refl
-no-notice o (work.Verdict r) h = refl
-no-notice o (work.Death n) h = refl
-no-notice o (work.Cleared n) h = refl
-
-withdrawn : (b : Bool) (o : ObjectId) (todo : List Work) → Holds (cond b (filter (λ (w : Work). not (is_notice o w.kind)) todo) todo) todo
-withdrawn true o todo = holds-filter (λ (w : Work). not (is_notice o w.kind)) todo (λ w a. no-notice o w.kind a)
-withdrawn false o todo = λ w a l. l
-
-added : (place : ℕ) (processes : List Process) (references : List Reference) (list : TodoList) (todo : List Work) (own : Bool) (o : Option Object)
-    → Holds (cond own (elim o as (λ (x : Option Object). List Work) [ None ↦ todo | Some x ↦ with_notice place processes references list todo x ]) todo) todo
-added place processes references list todo false o = λ w a l. l
-added place processes references list todo true None = λ w a l. l
-added place processes references list todo true (Some x) = holds-if place _ todo list (work.Notice x.id)
+no-notice o _ h = refl
 
 noticed-holds : (z : Space) (seat : ℕ) (items : List Item) → Holds (own_notices z seat items).todo z.todo
-unfolding own_notices
 noticed-holds z seat items =
-    holds-trans _ (fold (withdraw_notice z.objects) z.todo items) z.todo
-    (holds-fold (add_notice z seat) (λ todo x. added z.steps z.processes z.references (OfThread seat) todo (is_own x.flat.kind) (object_in z.objects x.object)) items
-    (fold (withdraw_notice z.objects) z.todo items))
-    (holds-fold (withdraw_notice z.objects) (λ todo x. withdrawn _ x.object todo) items z.todo)
+    own_notices-keeps (λ todo. Holds todo z.todo) z seat items
+    (λ todo o. holds-trans _ todo z.todo (holds-filter (λ (w : Work). not (is_notice o w.kind)) todo (λ w a. no-notice o w.kind a)))
+    (λ todo x due. holds-work z.steps z.todo todo (OfThread seat) (work.Notice x.id)) (λ w a l. l)
 
 delivered-holds : (s : Space) (a : Actor) (d : TransactionData) (v : Delivery) → Holds (delivered s a d v).todo s.todo
 unfolding delivered add_buffer known_by assign_numbers refer make_objects

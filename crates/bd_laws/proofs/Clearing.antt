@@ -4,9 +4,10 @@ use Rattle.std.proofs.lemmas.Bool.{eqb-true}
 use Rattle.bd_space.specs.declared.space.Work.{Work}
 use Rattle.bd_space.specs.declared.space.DeathNotification.{DeathNotification}
 use Rattle.bd_space.specs.declared.space.Phase.{Phase}
-use Rattle.bd_space.specs.declared.space.Phase.TheVariants.{Armed, Queued, Told, Done}
+use Rattle.bd_space.specs.declared.space.Phase.TheVariants.{Armed, Queued, Done}
 use Rattle.bd_space.specs.declared.space.WorkKind.TheVariants as work
 use Rattle.bd_space.specs.declared.space.TodoList.TheVariants.{OfThread}
+use Rattle.bd_space.specs.Words.{changed}
 use Rattle.bd_space.specs.Space.{Space}
 use Rattle.bd_space.specs.Notices.{is_name_of}
 use Rattle.bd_space.specs.Todo.{owe}
@@ -53,51 +54,38 @@ ended-local s t x tidy l never =
     let e = owe-elsewhere no_name no_object (without_death s x.made) (OfThread t) (work.Cleared x.cookie) ((λ o e. cc), (λ n e. cc)) (without-followed s x tidy l never) in
     nothing-local (death_ended s t x) e (item-more s.todo _ (turns_of s.buffers) s tidy.quiet.unripe) tidy.quiet.settled
 
-marked-followed : (s : Space) (made : ℕ) → IsQuiet s → IsFollowed (mark_cleared s made)
-unfolding mark_cleared
-marked-followed s made quiet =
+-- a change of one notification that keeps its place and lets it stand
+changed-followed : (s : Space) (made : ℕ) (f : DeathNotification → DeathNotification) → ((x : DeathNotification) → (f x).made ≡ x.made)
+    → ((x : DeathNotification) → (x.cleared || is_name_of s.names x.process x.object) ≡ true → ((f x).cleared || is_name_of s.names (f x).process (f x).object) ≡ true)
+    → IsQuiet s → IsFollowed (record s { deaths = changed (is_notification made) f s.deaths })
+changed-followed s made f same stands quiet =
     let h = quiet.followed in
-    let f = λ (x : DeathNotification). (let y : DeathNotification = record x { cleared = true } in y) in
     record {
       names = h.names;
       objects = h.objects;
       deaths = λ d i none. (let y = in-changed (is_notification made) f d s.deaths i in
           subst (λ (x : DeathNotification). (x.cleared || is_name_of s.names x.process x.object) ≡ true) (sym y.2) (at (is_notification made y.0) y.0 (h.deaths y.0 y.1 refl)));
       notices = h.notices;
-      tellings = λ w n i e. any-changed (is_notification made) f (λ (x : DeathNotification). x.made == n) (λ x. refl) s.deaths ∙ h.tellings w n i e;
+      tellings = λ w n i e. any-changed (is_notification made) f (λ (x : DeathNotification). x.made == n) (λ x. ap (λ m. m == n) (same x)) s.deaths ∙ h.tellings w n i e;
       made = h.made;
     }
   where
     at : (b : Bool) (y : DeathNotification) → (y.cleared || is_name_of s.names y.process y.object) ≡ true
-        → (let x : DeathNotification = cond b (record y { cleared = true }) y in (x.cleared || is_name_of s.names x.process x.object) ≡ true)
-    at true y k = refl
+        → (let x = cond b (f y) y in (x.cleared || is_name_of s.names x.process x.object) ≡ true)
+    at true y k = stands y k
     at false y k = k
+
+marked-followed : (s : Space) (made : ℕ) → IsQuiet s → IsFollowed (mark_cleared s made)
+unfolding mark_cleared
+marked-followed s made = changed-followed s made (λ x. record x { cleared = true }) (λ x. refl) (λ x k. refl)
 
 phased-followed : (s : Space) (made : ℕ) (phase : Phase) → IsQuiet s → IsFollowed (with_phase s made phase)
 unfolding with_phase
-phased-followed s made phase quiet =
-    let h = quiet.followed in
-    let f = λ (x : DeathNotification). (let y : DeathNotification = record x { phase = phase } in y) in
-    record {
-      names = h.names;
-      objects = h.objects;
-      deaths = λ d i none. (let y = in-changed (is_notification made) f d s.deaths i in
-          subst (λ (x : DeathNotification). (x.cleared || is_name_of s.names x.process x.object) ≡ true) (sym y.2) (at (is_notification made y.0) y.0 (h.deaths y.0 y.1 refl)));
-      notices = h.notices;
-      tellings = λ w n i e. any-changed (is_notification made) f (λ (x : DeathNotification). x.made == n) (λ x. refl) s.deaths ∙ h.tellings w n i e;
-      made = h.made;
-    }
-  where
-    at : (b : Bool) (y : DeathNotification) → (y.cleared || is_name_of s.names y.process y.object) ≡ true
-        → (let x : DeathNotification = cond b (record y { phase = phase }) y in (x.cleared || is_name_of s.names x.process x.object) ≡ true)
-    at true y k = k
-    at false y k = k
+phased-followed s made phase = changed-followed s made (λ x. record x { phase = phase }) (λ x. refl) (λ x k. k)
 
 out-queued : (phase : Phase) → is_out phase ≡ false → phase ≡ Queued → ⊥
 out-queued Armed e f = cc
-out-queued Queued e f = cc
-out-queued Told e f = cc
-out-queued Done e f = cc
+out-queued _ e f = cc
 
 pub cleared-local : (s : Space) (t : ℕ) (x : DeathNotification) → IsTidy s → In x s.deaths → completed (cleared s t x) ≡ cleared s t x
 unfolding cleared mark_cleared

@@ -1,5 +1,5 @@
 -- Parts of a step that change death notifications, and add work items of them alone.
-use Rattle.std.proofs.Common.{◌≡◌, ℕ, Bool, true, false, cond, List, ◌&&◌, refl}
+use Rattle.std.proofs.Common.{◌≡◌, ℕ, Bool, true, false, cond, List, ◌&&◌, Some, Ok, refl}
 use Rattle.bd_space.specs.declared.step.ObjectId.{ObjectId}
 use Rattle.bd_space.specs.declared.space.DeathNotification.{DeathNotification}
 use Rattle.bd_space.specs.declared.space.TodoList.TheVariants.{OfThread, OfProcess}
@@ -7,8 +7,8 @@ use Rattle.bd_space.specs.declared.space.WorkKind.TheVariants as work
 use Rattle.bd_space.specs.Space.{Space}
 use Rattle.bd_space.specs.Todo.{owe}
 use Rattle.bd_space.specs.References.{owned_in}
-use Rattle.bd_space.specs.Deaths.{with_phase, with_death, without_death, requested, owner_lives_in}
-use Rattle.bd_space.specs.Clearing.{mark_cleared, death_ended, cleared, death_done, is_out}
+use Rattle.bd_space.specs.Deaths.{request_check, with_phase, with_death, without_death, requested, owner_lives_in}
+use Rattle.bd_space.specs.Clearing.{told_death, mark_cleared, death_ended, cleared, death_done, is_out}
 use Rattle.bd_space.specs.ProcessExits.{tell_death, tell_deaths, is_armed}
 use Rattle.bd_laws.proofs.Lists.{fold-keeps}
 
@@ -38,6 +38,33 @@ module _ (z : Space) (R : Space → Type 0) (k : OnDeaths z R) where
   pub on-done : (t : ℕ) (x : DeathNotification) → R (death_done z t x)
   unfolding death_done with_phase
   on-done t x = either R x.cleared _ _ (on-ended t x) (k.others _)
+
+-- what the commands on death notifications leave
+pub record DeathCommands (s : Space) (R : Space → Type 0) : Type 0 where
+  pub requests : (p n cookie : ℕ) (o : ObjectId) → request_check s p n ≡ Ok o → R (requested s p o cookie)
+  pub clears : (t : ℕ) (x : DeathNotification) → R (cleared s t x)
+  pub dones : (t p cookie : ℕ) (x : DeathNotification) → told_death s p cookie ≡ Some x → R (death_done s t x)
+
+pub on-commands : (s : Space) (R : Space → Type 0) → OnDeaths s R → DeathCommands s R
+on-commands s R k = record {
+  requests = λ p n cookie o e. on-requested s R k p o cookie;
+  clears = on-cleared s R k;
+  dones = λ t p cookie x e. on-done s R k t x;
+}
+
+pub commands-mapped : (s : Space) (R S : Space → Type 0) → ((y : Space) → R y → S y) → DeathCommands s R → DeathCommands s S
+commands-mapped s R S f k = record {
+  requests = λ p n cookie o e. f _ (k.requests p n cookie o e);
+  clears = λ t x. f _ (k.clears t x);
+  dones = λ t p cookie x e. f _ (k.dones t p cookie x e);
+}
+
+pub commands-both : (s : Space) (R S : Space → Type 0) → DeathCommands s R → DeathCommands s S → DeathCommands s (λ y. R y × S y)
+commands-both s R S k l = record {
+  requests = λ p n cookie o e. (k.requests p n cookie o e, l.requests p n cookie o e);
+  clears = λ t x. (k.clears t x, l.clears t x);
+  dones = λ t p cookie x e. (k.dones t p cookie x e, l.dones t p cookie x e);
+}
 
 -- the same, kept by each
 pub record KeptOnDeaths (R : Space → Type 0) : Type 0 where

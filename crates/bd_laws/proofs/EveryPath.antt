@@ -18,7 +18,7 @@ use Rattle.bd_laws.proofs.EveryStep.{KeepsWhole, every_whole_step}
 use Rattle.bd_laws.proofs.OneWay as one_way
 use Rattle.bd_laws.proofs.OneWay.{Less, owe-less}
 use Rattle.bd_laws.proofs.Forests.{forest-more}
-use Rattle.bd_laws.proofs.Deaths.{on-mapped, on-both, on_deaths-aside}
+use Rattle.bd_laws.proofs.Deaths.{on-mapped, on-both, on_deaths-aside, on-commands}
 use Rattle.bd_laws.proofs.Paths.{calm, owe-frames, follow-frames, abandons, refuses-reply}
 use Rattle.bd_laws.proofs.PathCalls.{transacts, replies}
 use Rattle.bd_laws.proofs.PathReadings.{ripens, reads}
@@ -42,10 +42,12 @@ module _ (s : Space) (h : OnPaths s.steps s) where
   kept : (seat : ℕ) (x : Step) → KeepsWhole s seat x After After
   unfolding with_thread with_process with_manager without_buffer ask assign_numbers drop_asked acknowledge with_looping
   kept seat x = record {
-    same = now_on;
-    opened = λ pid euid window. calmly _ (one_way.opened-less s seat pid euid window) refl;
-    attached = λ p. calmly _ (one_way.attached-less s seat p) refl;
-    managed = λ a i b. calmly _ (one_way.managed-less s a.process.made) refl;
+    set_up = record {
+      same = now_on;
+      opened = λ pid euid window free. calmly _ (one_way.opened-less s seat pid euid window) refl;
+      attached = λ p free. calmly _ (one_way.attached-less s seat p) refl;
+      managed = λ a i b. calmly _ (one_way.managed-less s a.process.made) refl;
+    };
     changes = record {
       transacts = λ a d parcel v e i t. transacts s h a d parcel v t;
       replies = λ a d parcel f v e i g t. replies s h a d parcel v f g;
@@ -54,7 +56,7 @@ module _ (s : Space) (h : OnPaths s.steps s) where
       drops = λ p o strong. calmly _ (one_way.drop_asked-less s p o strong) refl;
       acknowledges = λ o strong i. calmly _ (one_way.acknowledge-less s o strong) refl;
       loops = λ t looping. calmly _ (one_way.with_looping-less s t looping) refl;
-      on_deaths = on-mapped s _ _ (λ y k. calmly y k.0 k.1.frames) (on-both s _ _ (one_way.on_deaths-less s) (on_deaths-aside s));
+      on_deaths = on-commands s _ (on-mapped s _ _ (λ y k. calmly y k.0 k.1.frames) (on-both s _ _ (one_way.on_deaths-less s) (on_deaths-aside s)));
       reads = λ a limit i e n. reads (suc s.steps) s now_on a.thread (limit - 4);
       leaves = λ a i. exits (suc s.steps) s now_on a.thread.seat;
       ends = λ a i. ends (suc s.steps) s a.process.made now_on;

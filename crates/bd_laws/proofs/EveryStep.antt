@@ -1,92 +1,39 @@
 -- What holds after every step, from what its parts keep.
-use Rattle.std.proofs.Common.{◌≡◌, ℕ, zero, suc, ◌-◌, Bool, true, false, cond, List, [], ◌∷◌, Option, Some, None, Result, Ok, Err, refl, length}
+use Rattle.std.proofs.Common.{◌≡◌, ℕ, List, [], ◌∷◌, Option, Some, None}
 use Rattle.std.specs.List.{find}
-use Rattle.std.specs.Option.{is_some}
-use Rattle.bd_uapi.specs.declared.command.Command as command
 use Rattle.bd_uapi.specs.declared.command.Command.TheVariants as bc
 use Rattle.bd_uapi.specs.declared.command.TransactionData.{TransactionData}
 use Rattle.bd_uapi.specs.declared.command.Return.{Return}
 use Rattle.bd_uapi.specs.declared.command.Return.TheVariants.{DeadReply, FailedReply, TransactionComplete}
-use Rattle.bd_uapi.specs.declared.fault.Fault.{Fault}
-use Rattle.bd_uapi.specs.declared.fault.Note.{Note}
 use Rattle.bd_uapi.specs.declared.fault.Cause.{Cause}
-use Rattle.bd_uapi.specs.declared.fault.Cause.TheVariants.{NoCall}
-use Rattle.bd_space.specs.declared.step.ObjectId.{ObjectId}
 use Rattle.bd_space.specs.declared.step.Parcel.{Parcel}
 use Rattle.bd_space.specs.declared.step.Step.{Step}
-use Rattle.bd_space.specs.declared.step.Step.TheVariants.{Open, Attach, SetManager, Command, Read, ExitThread, ExitProcess}
+use Rattle.bd_space.specs.declared.step.Step.TheVariants.{Command}
 use Rattle.bd_space.specs.declared.step.Entry.{Entry}
-use Rattle.bd_space.specs.declared.space.Process.{Process}
-use Rattle.bd_space.specs.declared.space.Object.{Object}
 use Rattle.bd_space.specs.declared.space.Frame.{Frame}
-use Rattle.bd_space.specs.declared.space.Buffer.{Buffer}
-use Rattle.bd_space.specs.declared.space.DeathNotification.{DeathNotification}
 use Rattle.bd_space.specs.declared.space.Actor.{Actor}
 use Rattle.bd_space.specs.declared.space.TodoList.TheVariants.{OfThread}
 use Rattle.bd_space.specs.declared.space.WorkKind.TheVariants as work
 use Rattle.bd_space.specs.Space.{Space}
-use Rattle.bd_space.specs.Seats.{actor, thread_in, process_with_pid}
+use Rattle.bd_space.specs.Seats.{actor}
 use Rattle.bd_space.specs.Frames.{served_innermost, closed}
-use Rattle.bd_space.specs.Todo.{owe, tell_caller, list_to_read}
-use Rattle.bd_space.specs.Settle.{settle, settle_one, settle_times, is_abandoned}
-use Rattle.bd_space.specs.Delivery.{Delivery}
-use Rattle.bd_space.specs.Transactions.{transaction_step, transaction_outcome, transaction_check, transacted, refusal}
-use Rattle.bd_space.specs.Replies.{reply_step, reply_to, reply_outcome, reply_check, replied, reply_refused}
-use Rattle.bd_space.specs.Freeing.{free_step, free_outcome, buffer_at_pointer, without_buffer}
-use Rattle.bd_space.specs.Asking.{ask_step, ask_check, ask, drop_step, drop_asked, done_step, acknowledge}
-use Rattle.bd_space.specs.Deaths.{request_step, requested}
-use Rattle.bd_space.specs.Clearing.{clear_step, death_done_step, death_done_outcome, cleared}
-use Rattle.bd_space.specs.Commands.{command_step, with_looping}
+use Rattle.bd_space.specs.Todo.{owe, tell_caller}
+use Rattle.bd_space.specs.Settle.{settle, is_abandoned}
+use Rattle.bd_space.specs.Transactions.{refusal}
+use Rattle.bd_space.specs.Replies.{reply_refused}
 use Rattle.bd_space.specs.Notices.{follow}
 use Rattle.bd_space.specs.Turns.{ripen}
-use Rattle.bd_space.specs.Reading.{read_step, read_taking, read_fault}
-use Rattle.bd_space.specs.ReadItems.{read_by, taken}
-use Rattle.bd_space.specs.ThreadExits.{thread_goes, exit_thread_step}
-use Rattle.bd_space.specs.ProcessExits.{threads_go, without_process, tell_deaths, exit_process_step}
-use Rattle.bd_space.specs.declared.step.StepAnswer.TheVariants.{Accepted, Noted}
-use Rattle.bd_uapi.specs.declared.fault.Note.TheVariants.{NotHandedOut}
-use Rattle.bd_space.specs.Outcomes.{Outcome, completed, refused, by_check}
-use Rattle.bd_space.specs.Steps.{change, open_step, open_outcome, open_fault, attach_step, attach_outcome, manager_step, manager_outcome, is_manager_busy, by_actor, with_thread, with_process, with_manager}
+use Rattle.bd_space.specs.Outcomes.{completed}
+use Rattle.bd_space.specs.Steps.{change}
 use Rattle.bd_space.specs.Histories.{after, next}
-use Rattle.bd_laws.proofs.Deaths.{OnDeaths, on-requested, on-cleared, on-done}
-
--- a step that asks for a reference through this handle
-abbrev pub IsAsking : Step → ℕ → Bool → Type 0
-IsAsking x n strong = (parcel : Option Parcel) × (x ≡ Command (cond strong (bc.Acquire n) (bc.Increfs n)) parcel)
-
--- a step that acknowledges in this strength, and one that reads
-abbrev pub IsAcknowledging : Step → Bool → Type 0
-IsAcknowledging x strong = (ptr : ℕ) × (cookie : ℕ) × (parcel : Option Parcel) × (x ≡ Command (cond strong (bc.AcquireDone ptr cookie) (bc.IncrefsDone ptr cookie)) parcel)
-
-abbrev pub IsReading : Step → Type 0
-IsReading x = (limit : ℕ) × (x ≡ Read limit)
-
--- What the parts of a step by this seat make of its space, up to what follows on: M holds after each, and while buffers'
--- turns ripen. Each part is said with what its step has tested.
-pub record Changes (s : Space) (seat : ℕ) (x : Step) (M : Space → Type 0) : Type 0 where
-  pub transacts : (a : Actor) (d : TransactionData) (parcel : Option Parcel) (v : Delivery) → x ≡ Command (bc.Transaction d) parcel → actor s seat ≡ Some a
-      → transaction_check s a d parcel ≡ Ok v → M (transacted s a d v)
-  pub replies : (a : Actor) (d : TransactionData) (parcel : Option Parcel) (f : Frame) (v : Delivery) → x ≡ Command (bc.Reply d) parcel → actor s seat ≡ Some a
-      → served_innermost s a.thread.seat ≡ Some f → reply_check s a d parcel f ≡ Ok v → M (replied s a d f v)
-  pub frees : (p ptr : ℕ) (b : Buffer) → buffer_at_pointer s p ptr ≡ Some b → b.handed ≡ true → M (without_buffer s b.made)
-  pub asks : (a : Actor) (n : ℕ) (strong : Bool) (o : ObjectId) → actor s seat ≡ Some a → IsAsking x n strong → ask_check s a.process.made n strong ≡ Ok o → M (ask s a.process.made o strong)
-  pub drops : (p : ℕ) (o : ObjectId) (strong : Bool) → M (drop_asked s p o strong)
-  pub acknowledges : (o : ObjectId) (strong : Bool) → IsAcknowledging x strong → M (acknowledge s o strong)
-  pub loops : (t : ℕ) (looping : Bool) → M (with_looping s t looping)
-  pub on_deaths : OnDeaths s M
-  pub reads : (a : Actor) (limit : ℕ) → actor s seat ≡ Some a → x ≡ Read limit → read_fault limit (list_to_read s a.thread) ≡ None
-      → M (read_by s a.thread.seat (taken s (limit - 4) (list_to_read s a.thread)))
-  pub leaves : (a : Actor) → actor s seat ≡ Some a → M (thread_goes s a.thread.seat)
-  pub ends : (a : Actor) → actor s seat ≡ Some a → M (tell_deaths (without_process (threads_go s a.process.made) a.process.made) a.process.made)
-  pub ripens : (z : Space) → M z → M (ripen z)
+use Rattle.bd_laws.proofs.Adding.{told-keeps}
+use Rattle.bd_laws.proofs.EveryEnding.{SetUp, Changes, Endings, every_ending_step}
+use Rattle.bd_laws.proofs.Settled.{settle-keeps}
 
 -- What the parts of a step by this seat keep: M up to what follows on, and F from there. A refusal is said with its cause,
 -- and a frame closes together with what its caller is told.
 pub record KeepsWhole (s : Space) (seat : ℕ) (x : Step) (M F : Space → Type 0) : Type 0 where
-  pub same : F s
-  pub opened : (pid euid window : ℕ) → F (with_thread (with_process s pid euid window) seat s.steps)
-  pub attached : (p : ℕ) → F (with_thread s seat p)
-  pub managed : (a : Actor) → actor s seat ≡ Some a → is_manager_busy s a.process.made ≡ false → F (with_manager s a.process.made)
+  pub set_up : SetUp s seat F
   pub changes : Changes s seat x M
   pub follows : (z : Space) → M z → F (follow z)
   pub refuses : (t : ℕ) (c : Cause) → F (owe s (OfThread t) (work.Refusal (refusal c)))
@@ -95,131 +42,32 @@ pub record KeepsWhole (s : Space) (seat : ℕ) (x : Step) (M F : Space → Type 
   pub abandons : (z : Space) (f : Frame) → find (is_abandoned z.frames) z.frames ≡ Some f → F z → F (tell_caller (closed z f.made) f (work.Verdict DeadReply))
 
 module _ (s : Space) (seat : ℕ) (x : Step) (M F : Space → Type 0) (k : KeepsWhole s seat x M F) where
-  settles-one : (z : Space) (o : Option Frame) → find (is_abandoned z.frames) z.frames ≡ o → F z → F (settle_one z o)
-  settles-one z None e h = h
-  settles-one z (Some f) e h = k.abandons z f e h
-
-  settles-times : (n : ℕ) (z : Space) → F z → F (settle_times n z)
-  settles-times zero z h = h
-  settles-times (suc n) z h = settles-one (settle_times n z) (find (is_abandoned (settle_times n z).frames) (settle_times n z).frames) refl (settles-times n z h)
-
   settles : (z : Space) → F z → F (settle z)
-  unfolding settle
-  settles z h = settles-times (length z.frames) z h
+  settles = settle-keeps F k.abandons
 
   completes : (z : Space) → M z → F (completed z)
   unfolding completed
   completes z h = settles (follow (ripen z)) (k.follows (ripen z) (k.changes.ripens z h))
 
-  opens : (pid euid window : ℕ) (o : Option Fault) → F (open_outcome s seat pid euid window o).space
-  opens pid euid window None = k.opened pid euid window
-  opens pid euid window (Some f) = k.same
-
-  attaches : (q : Option Process) (b : Bool) → F (attach_outcome s seat q b).space
-  attaches q true = k.same
-  attaches None false = k.same
-  attaches (Some q) false = k.attached q.made
-
-  manages : (a : Actor) → actor s seat ≡ Some a → (b : Bool) → is_manager_busy s a.process.made ≡ b → F (manager_outcome s a.process.made b).space
-  manages a e true h = k.same
-  manages a e false h = k.managed a e h
-
-  acts : (o : Option Actor) (f : Actor → Outcome) → actor s seat ≡ o → ((a : Actor) → actor s seat ≡ Some a → F (f a).space) → F (by_actor s o f).space
-  acts None f e h = k.same
-  acts (Some a) f e h = h a e
-
-  transacts-to : (a : Actor) (d : TransactionData) (parcel : Option Parcel) (r : Result Delivery Cause) → x ≡ Command (bc.Transaction d) parcel → actor s seat ≡ Some a
-      → transaction_check s a d parcel ≡ r → F (transaction_outcome s a d r).space
-  transacts-to a d parcel (Err c) e h t = settles _ (k.refuses a.thread.seat c)
-  transacts-to a d parcel (Ok v) e h t = completes _ (k.changes.transacts a d parcel v e h t)
-
-  replies-with : (a : Actor) (d : TransactionData) (parcel : Option Parcel) (f : Frame) (r : Result Delivery Cause) → x ≡ Command (bc.Reply d) parcel → actor s seat ≡ Some a
-      → served_innermost s a.thread.seat ≡ Some f → reply_check s a d parcel f ≡ r → F (reply_outcome s a d f r).space
-  replies-with a d parcel f (Err c) e h i t = settles _ (k.fails a d parcel f e h i)
-  replies-with a d parcel f (Ok v) e h i t = completes _ (k.changes.replies a d parcel f v e h i t)
-
-  replies-to : (a : Actor) (d : TransactionData) (parcel : Option Parcel) (o : Option Frame) → x ≡ Command (bc.Reply d) parcel → actor s seat ≡ Some a
-      → served_innermost s a.thread.seat ≡ o → F (reply_to s a d parcel o).space
-  replies-to a d parcel None e h i = settles _ (k.refuses a.thread.seat NoCall)
-  replies-to a d parcel (Some f) e h i = replies-with a d parcel f (reply_check s a d parcel f) e h i refl
-
-  frees-if : (p ptr : ℕ) (b : Buffer) → buffer_at_pointer s p ptr ≡ Some b → (handed : Bool) → b.handed ≡ handed
-      → F (cond {A = Outcome} handed (record { answer = Accepted; space = completed (without_buffer s b.made) }) (record { answer = Noted NotHandedOut; space = s })).space
-  frees-if p ptr b e true h = completes _ (k.changes.frees p ptr b e h)
-  frees-if p ptr b e false h = k.same
-
-  frees-at : (p ptr : ℕ) (o : Option Buffer) → buffer_at_pointer s p ptr ≡ o → F (free_outcome s o).space
-  frees-at p ptr None e = k.same
-  frees-at p ptr (Some b) e = frees-if p ptr b e b.handed refl
-
-  asks-for : (a : Actor) (n : ℕ) (strong : Bool) (r : Result ObjectId Note) → actor s seat ≡ Some a → IsAsking x n strong → ask_check s a.process.made n strong ≡ r
-      → F (by_check s (λ o. ask s a.process.made o strong) r).space
-  asks-for a n strong (Err m) e i t = k.same
-  asks-for a n strong (Ok o) e i t = completes _ (k.changes.asks a n strong o e i t)
-
-  drops-of : (p : ℕ) (strong : Bool) (r : Result ObjectId Note) → F (by_check s (λ o. drop_asked s p o strong) r).space
-  drops-of p strong (Err m) = k.same
-  drops-of p strong (Ok o) = completes _ (k.changes.drops p o strong)
-
-  acknowledges-of : (strong : Bool) (r : Result Object Note) → IsAcknowledging x strong → F (by_check s (λ x. acknowledge s x.id strong) r).space
-  acknowledges-of strong (Err m) i = k.same
-  acknowledges-of strong (Ok o) i = completes _ (k.changes.acknowledges o.id strong i)
-
-  requests-of : (p cookie : ℕ) (r : Result ObjectId Note) → F (by_check s (λ o. requested s p o cookie) r).space
-  requests-of p cookie (Err m) = k.same
-  requests-of p cookie (Ok o) = completes _ (on-requested s M k.changes.on_deaths p o cookie)
-
-  clears-of : (t : ℕ) (r : Result DeathNotification Note) → F (by_check s (cleared s t) r).space
-  clears-of t (Err m) = k.same
-  clears-of t (Ok y) = completes _ (on-cleared s M k.changes.on_deaths t y)
-
-  is_done-of : (t : ℕ) (o : Option DeathNotification) → F (death_done_outcome s t o).space
-  is_done-of t None = k.same
-  is_done-of t (Some y) = completes _ (on-done s M k.changes.on_deaths t y)
-
-  commands : (a : Actor) (c : command.Command) (parcel : Option Parcel) → x ≡ Command c parcel → actor s seat ≡ Some a → F (command_step s a c parcel).space
-  unfolding command_step transaction_step reply_step free_step ask_step drop_step done_step request_step clear_step death_done_step
-  commands a (bc.Transaction d) parcel e h = transacts-to a d parcel (transaction_check s a d parcel) e h refl
-  commands a (bc.Reply d) parcel e h = replies-to a d parcel (served_innermost s a.thread.seat) e h refl
-  commands a (bc.FreeBuffer ptr) parcel e h = frees-at a.process.made ptr (buffer_at_pointer s a.process.made ptr) refl
-  commands a (bc.Increfs n) parcel e h = asks-for a n false (ask_check s a.process.made n false) h (parcel, e) refl
-  commands a (bc.Acquire n) parcel e h = asks-for a n true (ask_check s a.process.made n true) h (parcel, e) refl
-  commands a (bc.Release n) parcel e h = drops-of a.process.made true _
-  commands a (bc.Decrefs n) parcel e h = drops-of a.process.made false _
-  commands a (bc.IncrefsDone ptr cookie) parcel e h = acknowledges-of false _ (ptr, cookie, parcel, e)
-  commands a (bc.AcquireDone ptr cookie) parcel e h = acknowledges-of true _ (ptr, cookie, parcel, e)
-  commands a bc.EnterLooper parcel e h = completes _ (k.changes.loops a.thread.seat true)
-  commands a bc.ExitLooper parcel e h = completes _ (k.changes.loops a.thread.seat false)
-  commands a (bc.RequestDeathNotification n cookie) parcel e h = requests-of a.process.made cookie _
-  commands a (bc.ClearDeathNotification n cookie) parcel e h = clears-of a.thread.seat _
-  commands a (bc.DeadBinderDone cookie) parcel e h = is_done-of a.thread.seat _
-
-  reads-list : (a : Actor) (limit : ℕ) (o : Option Fault) → x ≡ Read limit → actor s seat ≡ Some a → read_fault limit (list_to_read s a.thread) ≡ o
-      → F (elim o as (λ (o : Option Fault). Outcome) [ Some y ↦ refused s y | None ↦ read_taking s a.thread.seat (taken s (limit - 4) (list_to_read s a.thread)) ]).space
-  unfolding read_taking
-  reads-list a limit (Some y) i e h = k.same
-  reads-list a limit None i e h = k.follows _ (k.changes.reads a limit e i h)
-
-  changes : (y : Step) → x ≡ y → F (change s seat y).space
-  unfolding change open_step attach_step manager_step read_step exit_thread_step exit_process_step
-  changes (Open pid euid window) e = opens pid euid window (open_fault s seat pid window)
-  changes (Attach pid) e = attaches (process_with_pid s.processes pid) (is_some (thread_in s.threads seat))
-  changes SetManager e = acts (actor s seat) _ refl (λ a h. manages a h (is_manager_busy s a.process.made) refl)
-  changes (Command c parcel) e = acts (actor s seat) _ refl (λ a h. commands a c parcel e h)
-  changes (Read limit) e = acts (actor s seat) _ refl (λ a h. reads-list a limit (read_fault limit (list_to_read s a.thread)) e h refl)
-  changes ExitThread e = acts (actor s seat) _ refl (λ a h. settles _ (k.follows _ (k.changes.leaves a h)))
-  changes ExitProcess e = acts (actor s seat) _ refl (λ a h. settles _ (k.follows _ (k.changes.ends a h)))
+  kept-endings : Endings s seat x M F
+  kept-endings = record {
+    set_up = k.set_up;
+    changes = k.changes;
+    completes = completes;
+    refuses = λ t c. settles _ (k.refuses t c);
+    fails = λ a d parcel f e h i. settles _ (k.fails a d parcel f e h i);
+    reads = λ a limit e h i. k.follows _ (k.changes.reads a limit e h i);
+    leaves = λ a e. settles _ (k.follows _ (k.changes.leaves a e));
+    ends = λ a e. settles _ (k.follows _ (k.changes.ends a e));
+  }
 
   -- what the parts keep, the step keeps
   pub every_whole_step : F (change s seat x).space
-  every_whole_step = changes x refl
+  every_whole_step = every_ending_step s seat x M F kept-endings
 
 -- The same, where closing a frame and telling its caller keep F each by itself.
 pub record Keeps (s : Space) (seat : ℕ) (x : Step) (M F : Space → Type 0) : Type 0 where
-  pub same : F s
-  pub opened : (pid euid window : ℕ) → F (with_thread (with_process s pid euid window) seat s.steps)
-  pub attached : (p : ℕ) → F (with_thread s seat p)
-  pub managed : (a : Actor) → actor s seat ≡ Some a → is_manager_busy s a.process.made ≡ false → F (with_manager s a.process.made)
+  pub set_up : SetUp s seat F
   pub changes : Changes s seat x M
   pub follows : (z : Space) → M z → F (follow z)
   pub closes : (z : Space) (made : ℕ) → F z → F (closed z made)
@@ -227,25 +75,21 @@ pub record Keeps (s : Space) (seat : ℕ) (x : Step) (M F : Space → Type 0) : 
   pub tells : (z : Space) (t : ℕ) (r : Return) → F z → F (owe z (OfThread t) (work.Verdict r))
 
 module _ (s : Space) (seat : ℕ) (x : Step) (M F : Space → Type 0) (k : Keeps s seat x M F) where
-  told : (z : Space) (caller : Option ℕ) (r : Return) → F z → F (elim caller as (λ (o : Option ℕ). Space) [ None ↦ z | Some t ↦ owe z (OfThread t) (work.Verdict r) ])
-  told z None r h = h
-  told z (Some t) r h = k.tells z t r h
+  told : (r : Return) (z : Space) (caller : Option ℕ) → F z → F (elim caller as (λ (o : Option ℕ). Space) [ None ↦ z | Some t ↦ owe z (OfThread t) (work.Verdict r) ])
+  told r = told-keeps F (work.Verdict r) (λ z t. k.tells z t r)
 
   refuses-reply : (t : ℕ) (f : Frame) → F (reply_refused s t f)
   unfolding reply_refused
-  refuses-reply t f = told _ f.caller FailedReply (k.closes _ f.made (k.refuses s t TransactionComplete k.same))
+  refuses-reply t f = told FailedReply _ f.caller (k.closes _ f.made (k.refuses s t TransactionComplete k.set_up.same))
 
   pub whole : KeepsWhole s seat x M F
   whole = record {
-    same = k.same;
-    opened = k.opened;
-    attached = k.attached;
-    managed = k.managed;
+    set_up = k.set_up;
     changes = k.changes;
     follows = k.follows;
-    refuses = λ t c. k.refuses s t (refusal c) k.same;
+    refuses = λ t c. k.refuses s t (refusal c) k.set_up.same;
     fails = λ a d parcel f e h i. refuses-reply a.thread.seat f;
-    abandons = λ z f e h. told (closed z f.made) f.caller DeadReply (k.closes z f.made h);
+    abandons = λ z f e h. told DeadReply (closed z f.made) f.caller (k.closes z f.made h);
   }
 
   pub every_step : F (change s seat x).space

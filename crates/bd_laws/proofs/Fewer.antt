@@ -8,7 +8,7 @@ use Rattle.bd_space.specs.declared.space.Process.{Process}
 use Rattle.bd_space.specs.declared.space.Object.{Object}
 use Rattle.bd_space.specs.declared.space.Reference.{Reference}
 use Rattle.bd_space.specs.declared.space.Holder.{Holder}
-use Rattle.bd_space.specs.declared.space.Holder.TheVariants.{Asked, Carried, Target, Handshake, Manager}
+use Rattle.bd_space.specs.declared.space.Holder.TheVariants.{Asked}
 use Rattle.bd_space.specs.Words.{same, is_some_and, without_first}
 use Rattle.bd_space.specs.Space.{Space}
 use Rattle.bd_space.specs.Seats.{lives_in}
@@ -96,10 +96,7 @@ asking-name p q o i strong r h k =
   where
     at : (h : Holder) → is_asked_by p h ≡ true → names_for q h ≡ true → (q == p) ≡ true
     at (Asked w) e f = eq-eqb q p (sym (eqb-true w q f) ∙ eqb-true w p e)
-    at (Carried b w) e f = absurd (cc)
-    at (Target b w) e f = absurd (cc)
-    at Handshake e f = absurd (cc)
-    at Manager e f = absurd (cc)
+    at _ e f = absurd (cc)
 
 asking-object : (p : ℕ) (o i : ObjectId) (strong : Bool) (r : Reference) → is_asking p o strong r ≡ true → same r.object i ≡ true → at_object o i ≡ true
 asking-object p o i strong r h k =
@@ -146,10 +143,7 @@ shaking-object o i strong r h k =
 
 shaking-none : (q : ℕ) (h : Holder) → is_handshake h ≡ true → names_for q h ≡ true → ⊥
 shaking-none q (Asked w) e f = cc
-shaking-none q (Carried b w) e f = cc
-shaking-none q (Target b w) e f = cc
-shaking-none q Handshake e f = cc
-shaking-none q Manager e f = cc
+shaking-none q _ e f = cc
 
 pub acknowledged-said : (o : ObjectId) (strong : Bool) (references : List Reference)
     → SameSaid no_name (at_object o) references (without_first (is_shaking o strong) references)

@@ -20,7 +20,7 @@ use Rattle.bd_space.specs.Local.{NameTest, ObjectTest, names_go_of, objects_go_o
 use Rattle.bd_laws.specs.Lists.{In}
 use Rattle.bd_laws.specs.Quiet.{Elsewhere}
 use Rattle.bd_laws.proofs.Lists.{in-left, in-filter, filter-in, any-found, any-in}
-use Rattle.bd_laws.proofs.Tests.{both, and-both, same-eq}
+use Rattle.bd_laws.proofs.Tests.{both, and-both, same-eq, notice-kind}
 
 -- ---- lists
 
@@ -109,13 +109,8 @@ module _ (a : NameTest) (b : ObjectTest) (z : Space) (h : Elsewhere a b z) where
   due : (w : Work) (kind : WorkKind) → In w z.todo → w.kind ≡ kind → is_touched a b z.deaths kind ≡ false
       → still_due here.processes here.objects here.references here.deaths kind ≡ true
   due w (work.Notice o) l e none = due-notice o none (h.notices w o l e none)
-  due w work.Complete l e none = refl
-  due w (work.Refusal r) l e none = refl
-  due w (work.Call m) l e none = refl
-  due w (work.Reply m) l e none = refl
-  due w (work.Verdict r) l e none = refl
   due w (work.Death n) l e none = due-death n none (h.tellings w n l e)
-  due w (work.Cleared c) l e none = refl
+  due w _ l e none = refl
 
   here-todo : here.todo ≡ z.todo
   unfolding here deaths_go_of objects_go_of names_go_of
@@ -142,14 +137,7 @@ module _ (a : NameTest) (b : ObjectTest) (z : Space) (h : Elsewhere a b z) where
       (rw (of_notice w.0.kind w.2) refl)) w.2
     where
       of_notice : (kind : WorkKind) → is_notice o kind ≡ true → is_touched a b z.deaths kind ≡ false
-      of_notice (work.Notice p) e = rw (same-eq p o e) none
-      of_notice work.Complete e = absurd (cc)
-      of_notice (work.Refusal r) e = absurd (cc)
-      of_notice (work.Call m) e = absurd (cc)
-      of_notice (work.Reply m) e = absurd (cc)
-      of_notice (work.Verdict r) e = absurd (cc)
-      of_notice (work.Death n) e = absurd (cc)
-      of_notice (work.Cleared c) e = absurd (cc)
+      of_notice kind e = subst (λ k. is_touched a b z.deaths k ≡ false) (sym (notice-kind o kind e)) none
 
   tell : List Work → Object → List Work
   tell todo x = with_notice z.steps z.processes z.references (OfProcess x.owner) todo x

@@ -26,9 +26,11 @@ abbrev pub Kept : List Buffer → List Buffer → Type 0
 Kept cs bs = (c : Buffer) → In c cs → (b : Buffer) × In b bs × (b.made ≡ c.made) × (b.one_way ≡ c.one_way)
 
 module _ (n : ℕ) (root : ℕ → ℕ) (fs : List Frame) (bs : List Buffer) (td : List Work) (h : Forest n root fs bs td) where
-  forest-on : (m : ℕ) (cs : List Buffer) (ud : List Work) → n ≤ m → Calls ud td → ((c : Buffer) → In c cs → c.made < m)
-      → ((c : Buffer) (f : Frame) → In c cs → c.one_way ≡ true → In f fs → f.made ≡ c.made → ⊥) → Forest m root fs cs ud
-  forest-on m cs ud le c buffers turns = record {
+  -- with these buffers and items: no item calls for a frame that didn't, and each call is due once
+  forest-with : (m : ℕ) (cs : List Buffer) (ud : List Work) → n ≤ m → ((w : Work) (f : Frame) → In w ud → w.kind ≡ work.Call f.made → In f fs → In w td)
+      → ((v w : Work) (b : ℕ) → In v ud → In w ud → v.kind ≡ work.Call b → w.kind ≡ work.Call b → v ≡ w) → ((w : Work) (b : ℕ) → In w ud → w.kind ≡ work.Call b → b < m)
+      → ((c : Buffer) → In c cs → c.made < m) → ((c : Buffer) (f : Frame) → In c cs → c.one_way ≡ true → In f fs → f.made ≡ c.made → ⊥) → Forest m root fs cs ud
+  forest-with m cs ud le old one due buffers turns = record {
     below = λ f l. let lt = h.below f l in omega arith;
     rooted = h.rooted;
     sorted = h.sorted;
@@ -36,14 +38,19 @@ module _ (n : ℕ) (root : ℕ → ℕ) (fs : List Frame) (bs : List Buffer) (td
     linked = h.linked;
     leaf = h.leaf;
     shared = h.shared;
-    waiting = λ w t f l e o i. h.waiting w t f (c w f.made l e) e o i;
-    childless = λ w f l e i. h.childless w f (c w f.made l e) e i;
-    unserved = λ w f t l e i s. h.unserved w f t (c w f.made l e) e i s;
-    one = λ v w b l k e o. h.one v w b (c v b l e) (c w b k o) e o;
-    due = λ w b l e. let lt = h.due w b (c w b l e) e in omega arith;
+    waiting = λ w t f l e o i. h.waiting w t f (old w f l e i) e o i;
+    childless = λ w f l e i. h.childless w f (old w f l e i) e i;
+    unserved = λ w f t l e i s. h.unserved w f t (old w f l e i) e i s;
+    one = one;
+    due = due;
     buffers = buffers;
     turns = turns;
   }
+
+  forest-on : (m : ℕ) (cs : List Buffer) (ud : List Work) → n ≤ m → Calls ud td → ((c : Buffer) → In c cs → c.made < m)
+      → ((c : Buffer) (f : Frame) → In c cs → c.one_way ≡ true → In f fs → f.made ≡ c.made → ⊥) → Forest m root fs cs ud
+  forest-on m cs ud le c =
+      forest-with m cs ud le (λ w f l e i. c w f.made l e) (λ v w b l k e o. h.one v w b (c v b l e) (c w b k o) e o) (λ w b l e. let lt = h.due w b (c w b l e) e in omega arith)
 
   pub forest-same : (cs : List Buffer) (ud : List Work) → Kept cs bs → Calls ud td → Forest n root fs cs ud
   forest-same cs ud k c =
@@ -64,34 +71,22 @@ module _ (n : ℕ) (root : ℕ → ℕ) (fs : List Frame) (bs : List Buffer) (td
 
   pub forest-work : (nw : Work) (b p : ℕ) → nw.kind ≡ work.Call b → nw.list ≡ OfProcess p → b < n → ((f : Frame) → In f fs → f.made ≡ b → ⊥)
       → ((w : Work) → In w td → w.kind ≡ work.Call b → ⊥) → Forest n root fs bs (td ++ nw ∷ [])
-  forest-work nw b p kind list lt free new = record {
-    below = h.below;
-    rooted = h.rooted;
-    sorted = h.sorted;
-    parents = h.parents;
-    linked = h.linked;
-    leaf = h.leaf;
-    shared = h.shared;
-    waiting = λ w t f l e o i. h.waiting w t f (old w f l e i) e o i;
-    childless = λ w f l e i. h.childless w f (old w f l e i) e i;
-    unserved = λ w f t l e i s. h.unserved w f t (old w f l e i) e i s;
-    one = λ v w c l m e o. elim (in-push v nw td l) [
-      | inl i ↦ elim (in-push w nw td m) [
-        | inl j ↦ h.one v w c i j e o
-        | inr is ↦ absurd (new v i (e ∙ sym o ∙ ap (λ (x : Work). x.kind) (sym is) ∙ kind))
-      ]
-      | inr is ↦ elim (in-push w nw td m) [
-        | inl j ↦ absurd (new w j (o ∙ sym e ∙ ap (λ (x : Work). x.kind) (sym is) ∙ kind))
-        | inr same ↦ sym is ∙ same
-      ]
-    ];
-    due = λ w c l e. elim (in-push w nw td l) [
-      | inl i ↦ h.due w c i e
-      | inr is ↦ (let k : work.Call b ≡ work.Call c = sym kind ∙ ap (λ (x : Work). x.kind) is ∙ e in let j : b ≡ c = cc in omega arith)
-    ];
-    buffers = h.buffers;
-    turns = h.turns;
-  }
+  forest-work nw b p kind list lt free new =
+      forest-with n bs (td ++ nw ∷ []) (omega arith) old
+      (λ v w c l m e o. elim (in-push v nw td l) [
+        | inl i ↦ elim (in-push w nw td m) [
+          | inl j ↦ h.one v w c i j e o
+          | inr is ↦ absurd (new v i (e ∙ sym o ∙ ap (λ (x : Work). x.kind) (sym is) ∙ kind))
+        ]
+        | inr is ↦ elim (in-push w nw td m) [
+          | inl j ↦ absurd (new w j (o ∙ sym e ∙ ap (λ (x : Work). x.kind) (sym is) ∙ kind))
+          | inr same ↦ sym is ∙ same
+        ]
+      ])
+      (λ w c l e. elim (in-push w nw td l) [
+        | inl i ↦ h.due w c i e
+        | inr is ↦ (let k : work.Call b ≡ work.Call c = sym kind ∙ ap (λ (x : Work). x.kind) is ∙ e in let j : b ≡ c = cc in omega arith)
+      ]) h.buffers h.turns
     where
       old : (w : Work) (f : Frame) → In w (td ++ nw ∷ []) → w.kind ≡ work.Call f.made → In f fs → In w td
       old w f l e i = elim (in-push w nw td l) [

@@ -1,8 +1,7 @@
 -- Each frame has a place of its own.
-use Rattle.std.proofs.Common.{◌≡◌, ℕ, zero, suc, ◌==◌, Bool, true, false, cond, not, List, [], ◌∷◌, Option, Some, None, inl, inr, refl, ap, sym, subst, ◌∙◌, filter, find, map, length, arith}
+use Rattle.std.proofs.Common.{◌≡◌, ℕ, suc, Bool, true, false, cond, not, List, [], ◌∷◌, inl, inr, refl, ap, sym, subst, ◌∙◌, filter, map, arith}
 use Rattle.std.specs.List.{list_any}
 use Rattle.bd_uapi.specs.declared.command.TransactionData.{TransactionData}
-use Rattle.bd_uapi.specs.declared.command.Return.TheVariants.{DeadReply, FailedReply, TransactionComplete}
 use Rattle.bd_space.specs.declared.step.Step.{Step}
 use Rattle.bd_space.specs.declared.step.Entry.{Entry}
 use Rattle.bd_space.specs.declared.space.Frame.{Frame}
@@ -20,25 +19,25 @@ use Rattle.bd_space.specs.Frames.{closed, is_frame}
 use Rattle.bd_space.specs.Todo.{owe, is_call}
 use Rattle.bd_space.specs.Turns.{ripen}
 use Rattle.bd_space.specs.Notices.{deaths_go, work_goes, notify, follow}
-use Rattle.bd_space.specs.Settle.{settle, settle_one, settle_times, is_abandoned}
-use Rattle.bd_space.specs.Outcomes.{completed}
 use Rattle.bd_space.specs.Delivery.{Delivery, delivered, own_notices, add_buffer, known_by, refer, make_objects}
-use Rattle.bd_space.specs.Transactions.{transacted, called, call_out, refusal}
-use Rattle.bd_space.specs.Replies.{replied, reply_refused}
+use Rattle.bd_space.specs.Transactions.{transacted, called, call_out}
+use Rattle.bd_space.specs.Replies.{replied}
 use Rattle.bd_space.specs.Freeing.{without_buffer}
 use Rattle.bd_space.specs.Asking.{ask, drop_asked, acknowledge}
 use Rattle.bd_space.specs.Commands.{with_looping}
 use Rattle.bd_space.specs.ReadItems.{read_by, serve}
 use Rattle.bd_space.specs.ThreadExits.{thread_goes, frame_without, unread_frame}
-use Rattle.bd_space.specs.ProcessExits.{threads_go, without_process, seat_of}
+use Rattle.bd_space.specs.ProcessExits.{threads_go, without_process}
 use Rattle.bd_space.specs.Steps.{change, counted, with_thread, with_process, with_manager}
 use Rattle.bd_space.specs.Histories.{next}
 use Rattle.bd_laws.specs.Lists.{Pairs}
 use Rattle.bd_laws.specs.Frames.{OtherFrame, Framed, IsFramed}
-use Rattle.bd_laws.proofs.Lists.{in-push, in-filter, in-map, in-changed, pairs-push, pairs-filter, pairs-either, pairs-changed, fold-keeps}
-use Rattle.bd_laws.proofs.Deaths.{KeptOnDeaths, on-kept, on-told, on-requested, on-cleared, on-done}
-use Rattle.bd_laws.proofs.EveryEnding.{Endings, every_ending_step}
+use Rattle.bd_laws.proofs.Lists.{in-push, in-filter, in-map, in-changed, pairs-push, pairs-filter, pairs-either, pairs-changed}
+use Rattle.bd_laws.proofs.Deaths.{KeptOnDeaths, on-kept, on-told, on-commands}
+use Rattle.bd_laws.proofs.Adding.{told-keeps}
+use Rattle.bd_laws.proofs.EveryStep.{Keeps, every_step}
 use Rattle.bd_laws.proofs.Abandoned.{OneEach}
+use Rattle.bd_laws.proofs.Following.{threads-keep}
 
 pairs-mapped : (f : Frame → Frame) → ((x : Frame) → (f x).made ≡ x.made) → (fs : List Frame) → Pairs OtherFrame fs → Pairs OtherFrame (map f fs)
 pairs-mapped f k [] h = tt
@@ -74,33 +73,13 @@ owe-g : (n : ℕ) (z : Space) (list : TodoList) (kind : WorkKind) → G n z → 
 unfolding owe
 owe-g n z list kind h = h
 
-told-g : (n : ℕ) (z : Space) (caller : Option ℕ) (kind : WorkKind) → G n z → G n (elim caller as (λ (o : Option ℕ). Space) [ None ↦ z | Some t ↦ owe z (OfThread t) kind ])
-told-g n z None kind h = h
-told-g n z (Some t) kind h = owe-g n z (OfThread t) kind h
-
 closed-g : (n : ℕ) (z : Space) (made : ℕ) → G n z → G n (closed z made)
 unfolding closed
 closed-g n z made h = fewer n (λ g. not (is_frame made g)) z.frames h
 
-settles-g : (n m : ℕ) (z : Space) → G n z → G n (settle_times m z)
-settles-g n zero z h = h
-settles-g n (suc m) z h = at (find (is_abandoned (settle_times m z).frames) (settle_times m z).frames) (settles-g n m z h)
-  where
-    at : (o : Option Frame) → G n (settle_times m z) → G n (settle_one (settle_times m z) o)
-    at None k = k
-    at (Some f) k = told-g n _ f.caller (work.Verdict DeadReply) (closed-g n (settle_times m z) f.made k)
-
-settle-g : (n : ℕ) (z : Space) → G n z → G n (settle z)
-unfolding settle
-settle-g n z h = settles-g n (length z.frames) z h
-
 follow-g : (n : ℕ) (z : Space) → G n z → G n (follow z)
 unfolding follow notify work_goes deaths_go objects_go names_go
 follow-g n z h = h
-
-completes-g : (n : ℕ) (z : Space) → G n z → G n (completed z)
-unfolding completed ripen
-completes-g n z h = settle-g n (follow (ripen z)) (follow-g n (ripen z) h)
 
 delivered-g : (n : ℕ) (s : Space) (a : Actor) (d : TransactionData) (v : Delivery) → G n s → G n (delivered s a d v)
 unfolding delivered own_notices add_buffer known_by assign_numbers refer make_objects
@@ -128,11 +107,7 @@ transacted-g s a d v h =
 
 replied-g : (n : ℕ) (s : Space) (a : Actor) (d : TransactionData) (f : Frame) (v : Delivery) → G n s → G n (replied s a d f v)
 unfolding replied
-replied-g n s a d f v h = told-g n _ f.caller (work.Reply s.steps) (owe-g n _ (OfThread a.thread.seat) work.Complete (delivered-g n (closed s f.made) a d v (closed-g n s f.made h)))
-
-refused-g : (n : ℕ) (s : Space) (t : ℕ) (f : Frame) → G n s → G n (reply_refused s t f)
-unfolding reply_refused
-refused-g n s t f h = told-g n _ f.caller (work.Verdict FailedReply) (closed-g n _ f.made (owe-g n s (OfThread t) (work.Refusal TransactionComplete) h))
+replied-g n s a d f v h = told-keeps (G n) (work.Reply s.steps) (λ z t. owe-g n z (OfThread t) (work.Reply s.steps)) _ f.caller (owe-g n _ (OfThread a.thread.seat) work.Complete (delivered-g n (closed s f.made) a d v (closed-g n s f.made h)))
 
 read-g : (n : ℕ) (s : Space) (seat : ℕ) (ws : List Work) → G n s → G n (read_by s seat ws)
 unfolding read_by
@@ -143,8 +118,7 @@ unfolding thread_goes
 left-g n z seat h = mapped n (frame_without z.todo seat) (λ f. refl) z.frames h
 
 threads-g : (n : ℕ) (z : Space) (p : ℕ) → G n z → G n (threads_go z p)
-unfolding threads_go
-threads-g n z p h = fold-keeps (G n) thread_goes (map seat_of (filter (λ t. t.process == p) z.threads)) (λ y t l k. left-g n y t k) z h
+threads-g n = threads-keep (G n) (left-g n)
 
 without-g : (n : ℕ) (z : Space) (p : ℕ) → G n z → G n (without_process z p)
 unfolding without_process
@@ -160,39 +134,42 @@ on-deaths-g n = record {
 same-frames : (n : ℕ) (z y : Space) → y.frames ≡ z.frames → G n z → G n y
 same-frames n z y e h = subst (Framed n) (sym e) h
 
-step-g : (s : Space) (seat : ℕ) (x : Step) → G s.steps s → Endings s seat x (G (suc s.steps)) (G (suc s.steps))
-unfolding without_buffer ask assign_numbers drop_asked acknowledge with_looping with_thread with_process with_manager
+step-g : (s : Space) (seat : ℕ) (x : Step) → G s.steps s → Keeps s seat x (G (suc s.steps)) (G (suc s.steps))
+unfolding without_buffer ask assign_numbers drop_asked acknowledge with_looping with_thread with_process with_manager ripen
 step-g s seat x before =
     let n = suc s.steps in
     let h : G n s = record { below = λ f l. let lt = before.below f l in omega arith; differ = before.differ } in
-    let deaths = on-kept (G n) (on-deaths-g n) s h in
     record {
-      same = h;
-      opened = λ pid euid window free. h;
-      attached = λ p free. h;
-      managed = λ a e b. h;
-      transacts = λ a d parcel v e i t. transacted-g s a d v before;
-      replies = λ a d parcel f v e i g t. replied-g n s a d f v h;
-      frees = λ p ptr b e t. h;
-      asks = λ a k strong o e i t. h;
-      drops = λ p o strong. h;
-      acknowledges = λ o strong i. h;
-      loops = λ t looping. h;
-      requests = λ p k cookie o e. on-requested s (G n) deaths p o cookie;
-      clears = λ t y. on-cleared s (G n) deaths t y;
-      dones = λ t p cookie y e. on-done s (G n) deaths t y;
-      completes = λ z k. completes-g n z k;
-      refuses = λ t c. settle-g n _ (owe-g n s (OfThread t) (work.Refusal (refusal c)) h);
-      fails = λ a d parcel f e i g. settle-g n _ (refused-g n s a.thread.seat f h);
-      reads = λ a limit e i k. follow-g n _ (read-g n s a.thread.seat _ h);
-      leaves = λ a e. settle-g n _ (follow-g n _ (left-g n s a.thread.seat h));
-      ends = λ a e. settle-g n _ (follow-g n _ (on-told (G n) (on-deaths-g n) _ a.process.made (without-g n _ a.process.made (threads-g n s a.process.made h))));
+      set_up = record {
+        same = h;
+        opened = λ pid euid window free. h;
+        attached = λ p free. h;
+        managed = λ a e b. h;
+      };
+      changes = record {
+        transacts = λ a d parcel v e i t. transacted-g s a d v before;
+        replies = λ a d parcel f v e i g t. replied-g n s a d f v h;
+        frees = λ p ptr b e t. h;
+        asks = λ a k strong o e i t. h;
+        drops = λ p o strong. h;
+        acknowledges = λ o strong i. h;
+        loops = λ t looping. h;
+        on_deaths = on-commands s _ (on-kept (G n) (on-deaths-g n) s h);
+        reads = λ a limit e i k. read-g n s a.thread.seat _ h;
+        leaves = λ a e. left-g n s a.thread.seat h;
+        ends = λ a e. on-told (G n) (on-deaths-g n) _ a.process.made (without-g n _ a.process.made (threads-g n s a.process.made h));
+        ripens = λ z k. k;
+      };
+      follows = follow-g n;
+      closes = closed-g n;
+      refuses = λ z t r. owe-g n z (OfThread t) (work.Refusal r);
+      tells = λ z t r. owe-g n z (OfThread t) (work.Verdict r);
     }
 
 pub next-framed : (s : Space) (e : Entry) → (next s e).steps ≡ suc s.steps → IsFramed s → IsFramed (next s e)
 unfolding counted IsFramed
 next-framed s e steps h =
-    subst (λ n. Framed n (change s e.seat e.step).space.frames) (sym steps) (every_ending_step s e.seat e.step (G (suc s.steps)) (G (suc s.steps)) (step-g s e.seat e.step h))
+    subst (λ n. Framed n (change s e.seat e.step).space.frames) (sym steps) (every_step s e.seat e.step (G (suc s.steps)) (G (suc s.steps)) (step-g s e.seat e.step h))
 
 pub opening-framed : IsFramed opening
 unfolding IsFramed

@@ -1,10 +1,9 @@
 -- A buffer that an item on a thread's list hands over is its process's.
-use Rattle.std.proofs.Common.{◌≡◌, ℕ, zero, suc, ◌+◌, ◌≤◌, ◌==◌, Bool, true, false, cond, not, List, [], ◌∷◌, ◌++◌, Option, Some, None, Ok, ◌⊎◌, inl, inr, refl, ap, sym, subst, ◌∙◌, filter, find, map, length, reverse, arith}
-use Rattle.std.specs.List.{list_any, flat_map}
+use Rattle.std.proofs.Common.{◌≡◌, ℕ, suc, ◌+◌, ◌≤◌, ◌==◌, Bool, true, false, cond, not, List, [], ◌∷◌, ◌++◌, Option, Some, None, Ok, ◌⊎◌, inl, inr, refl, ap, sym, subst, ◌∙◌, find, reverse, arith}
+use Rattle.std.specs.List.{list_any}
 use Rattle.std.specs.Option.{option_and_then, option_map}
 use Rattle.std.proofs.lemmas.Bool.{eqb-true, eq-eqb}
 use Rattle.bd_uapi.specs.declared.command.TransactionData.{TransactionData}
-use Rattle.bd_uapi.specs.declared.command.Return.TheVariants.{DeadReply, FailedReply, TransactionComplete}
 use Rattle.bd_space.specs.declared.step.ObjectId.{ObjectId}
 use Rattle.bd_space.specs.declared.step.Parcel.{Parcel}
 use Rattle.bd_space.specs.declared.step.Step.{Step}
@@ -13,10 +12,9 @@ use Rattle.bd_space.specs.declared.space.Process.{Process}
 use Rattle.bd_space.specs.declared.space.Thread.{Thread}
 use Rattle.bd_space.specs.declared.space.Reference.{Reference}
 use Rattle.bd_space.specs.declared.space.Holder.{Holder}
-use Rattle.bd_space.specs.declared.space.Holder.TheVariants.{Carried, Handshake}
+use Rattle.bd_space.specs.declared.space.Holder.TheVariants.{Carried}
 use Rattle.bd_space.specs.declared.space.Item.{Item}
 use Rattle.bd_space.specs.declared.space.Frame.{Frame}
-use Rattle.bd_space.specs.declared.space.Turn.{Turn}
 use Rattle.bd_space.specs.declared.space.Actor.{Actor}
 use Rattle.bd_space.specs.declared.space.Work.{Work}
 use Rattle.bd_space.specs.declared.space.TodoList.{TodoList}
@@ -30,32 +28,32 @@ use Rattle.bd_space.specs.References.{objects_go, is_of_buffer, is_asking, is_sh
 use Rattle.bd_space.specs.Names.{names_go, assign_numbers}
 use Rattle.bd_space.specs.Frames.{closed, goes_to, waits_in, list_of_caller, ancestry, made_of, innermost_in}
 use Rattle.bd_space.specs.Todo.{with_work, owe, hands_out, is_on, same_list, is_item}
-use Rattle.bd_space.specs.Turns.{turns_of, is_ripe, ripened, ripen}
+use Rattle.bd_space.specs.Turns.{ripen}
 use Rattle.bd_space.specs.Notices.{deaths_go, work_goes, notify, follow}
-use Rattle.bd_space.specs.Settle.{settle, settle_one, settle_times, is_abandoned}
-use Rattle.bd_space.specs.Outcomes.{completed}
 use Rattle.bd_space.specs.Delivery.{Delivery, delivered, own_notices, add_buffer, known_by, refer, make_objects, buffer_of, buffer_references}
-use Rattle.bd_space.specs.Transactions.{transacted, called, call_out, refusal}
-use Rattle.bd_space.specs.Replies.{caller_of, reply_check, replied, reply_refused}
+use Rattle.bd_space.specs.Transactions.{transacted, called, call_out}
+use Rattle.bd_space.specs.Replies.{caller_of, reply_check, replied}
 use Rattle.bd_space.specs.Freeing.{without_buffer}
 use Rattle.bd_space.specs.Asking.{ask, drop_asked, acknowledge}
 use Rattle.bd_space.specs.Commands.{with_looping}
-use Rattle.bd_space.specs.ReadItems.{read_by, handshakes, handshakes_of, handshakes_for, shakes}
-use Rattle.bd_space.specs.Returns.{returns_of}
+use Rattle.bd_space.specs.ReadItems.{read_by, handshakes}
 use Rattle.bd_space.specs.ThreadExits.{thread_goes, is_lost_reference}
-use Rattle.bd_space.specs.ProcessExits.{threads_go, without_process, seat_of, is_dropped_with}
+use Rattle.bd_space.specs.ProcessExits.{threads_go, without_process, is_dropped_with}
 use Rattle.bd_space.specs.Steps.{change, counted, with_thread, with_process, with_manager}
 use Rattle.bd_space.specs.Histories.{next}
 use Rattle.bd_laws.specs.Lists.{In, Pairs}
 use Rattle.bd_laws.specs.OneWayCalls.{IsInTurn}
 use Rattle.bd_laws.specs.Items.{OtherSeat, Homed, AtHome}
-use Rattle.bd_laws.proofs.Lists.{in-append, in-push, in-left, in-filter, filter-in, in-without, changed-in, find-in, find-some, pairs-push, pairs-filter, pairs-changed, pairs-either, fold-keeps}
+use Rattle.bd_laws.proofs.Lists.{in-append, in-push, in-left, in-filter, filter-in, in-without, changed-in, find-in, find-some, pairs-push, pairs-filter, pairs-changed, pairs-either}
 use Rattle.bd_laws.proofs.Tests.{not-true}
 use Rattle.bd_laws.proofs.Checks.{actor-lives, reply-checked}
 use Rattle.bd_laws.proofs.OneWay as one_way
 use Rattle.bd_laws.proofs.OneWay.{with_work-less, own_notices-less}
-use Rattle.bd_laws.proofs.Deaths.{KeptOnDeaths, on-kept, on-told, on-requested, on-cleared, on-done}
-use Rattle.bd_laws.proofs.EveryEnding.{Endings, every_ending_step}
+use Rattle.bd_laws.proofs.Deaths.{KeptOnDeaths, on-kept, on-told, on-commands}
+use Rattle.bd_laws.proofs.Adding.{ripen-keeps}
+use Rattle.bd_laws.proofs.EveryStep.{Keeps, every_step}
+use Rattle.bd_laws.proofs.Handshakes.{is-handshake}
+use Rattle.bd_laws.proofs.Following.{threads-keep}
 
 abbrev H : ℕ → Space → Type 0
 H n z = Homed n z.threads z.references z.todo
@@ -80,25 +78,9 @@ owe-h : (n : ℕ) (z : Space) (list : TodoList) (kind : WorkKind) → hands_out 
 unfolding owe
 owe-h n z list kind none h = less n n z.threads z.references z.references z.todo _ (omega arith) (λ r b q l c. l) (with_work-less z.steps z.todo list kind none) h
 
-told-h : (n : ℕ) (z : Space) (caller : Option ℕ) (kind : WorkKind) → hands_out kind ≡ None → H n z → H n (elim caller as (λ (o : Option ℕ). Space) [ None ↦ z | Some t ↦ owe z (OfThread t) kind ])
-told-h n z None kind none h = h
-told-h n z (Some t) kind none h = owe-h n z (OfThread t) kind none h
-
 closed-h : (n : ℕ) (z : Space) (made : ℕ) → H n z → H n (closed z made)
 unfolding closed
 closed-h n z made h = h
-
-settles-h : (n m : ℕ) (z : Space) → H n z → H n (settle_times m z)
-settles-h n zero z h = h
-settles-h n (suc m) z h = at (find (is_abandoned (settle_times m z).frames) (settle_times m z).frames) (settles-h n m z h)
-  where
-    at : (o : Option Frame) → H n (settle_times m z) → H n (settle_one (settle_times m z) o)
-    at None k = k
-    at (Some f) k = told-h n _ f.caller (work.Verdict DeadReply) refl (closed-h n (settle_times m z) f.made k)
-
-settle-h : (n : ℕ) (z : Space) → H n z → H n (settle z)
-unfolding settle
-settle-h n z h = settles-h n (length z.frames) z h
 
 follow-due : (z : Space) (w : Work) (b : ℕ) → In w (follow z).todo → hands_out w.kind ≡ Some b → In w z.todo
 follow-due z w b l e = (one_way.follow-less z).due w b l e
@@ -123,19 +105,7 @@ process-item n place p ts rs td kind h = record {
 
 ripen-h : (n : ℕ) (z : Space) → H n z → H n (ripen z)
 unfolding ripen
-ripen-h n z h = all (turns_of z.buffers) [] z.todo h
-  where
-    one : (b : Bool) (td : List Work) (t : Turn) → Homed n z.threads z.references td → Homed n z.threads z.references (cond b (with_work z.steps td (OfProcess t.receiver) (work.Call t.made)) td)
-    one false td t k = k
-    one true td t k = process-item n z.steps t.receiver z.threads z.references td (work.Call t.made) k
-
-    all : (ts older : List Turn) (td : List Work) → Homed n z.threads z.references td → Homed n z.threads z.references (ripened z.steps older td ts)
-    all [] older td k = k
-    all (t ∷ ts) older td k = all ts (older ++ t ∷ []) _ (one (is_ripe td older t) td t k)
-
-completes-h : (n : ℕ) (z : Space) → H n z → H n (completed z)
-unfolding completed
-completes-h n z h = settle-h n (follow (ripen z)) (follow-h n (ripen z) (ripen-h n z h))
+ripen-h n z h = ripen-keeps (Homed n z.threads z.references) z (λ td t. process-item n z.steps t.receiver z.threads z.references td (work.Call t.made)) h
 
 -- ---- what is sent
 
@@ -289,34 +259,11 @@ replied-h s a d parcel f v h turns check = at f.caller refl
 
 -- ---- the other steps
 
-shaken : (place k : ℕ) (o : ObjectId) (bs : List Bool) (r : Reference) → In r (handshakes_for place k o bs) → r.holder ≡ Handshake
-shaken place k o [] r l = absurd l
-shaken place k o (b ∷ bs) r (inl e) = sym (ap (λ (y : Reference). y.holder) e)
-shaken place k o (b ∷ bs) r (inr l) = shaken place (k + 1) o bs r l
-
-shakes-of : (s : Space) (k : ℕ) (kind : WorkKind) (r : Reference) → In r (handshakes_of s k kind) → r.holder ≡ Handshake
-shakes-of s k (work.Notice o) r l = shaken s.steps k o (flat_map shakes (returns_of s (work.Notice o))) r l
-shakes-of s k work.Complete r l = absurd l
-shakes-of s k (work.Refusal x) r l = absurd l
-shakes-of s k (work.Call b) r l = absurd l
-shakes-of s k (work.Reply b) r l = absurd l
-shakes-of s k (work.Verdict x) r l = absurd l
-shakes-of s k (work.Death n) r l = absurd l
-shakes-of s k (work.Cleared n) r l = absurd l
-
-all-shake : (s : Space) (ws : List Work) (k : ℕ) (r : Reference) → In r (handshakes s k ws) → r.holder ≡ Handshake
-all-shake s [] k r l = absurd l
-all-shake s (w ∷ ws) k r l =
-    elim (in-append r (handshakes_of s k w.kind) (handshakes s (k + length (handshakes_of s k w.kind)) ws) l) [
-      | inl i ↦ shakes-of s k w.kind r i
-      | inr i ↦ all-shake s ws (k + length (handshakes_of s k w.kind)) r i
-    ]
-
 read-h : (n : ℕ) (s : Space) (seat : ℕ) (ws : List Work) → H n s → H n (read_by s seat ws)
 unfolding read_by
 read-h n s seat ws h =
     less n n s.threads s.references (s.references ++ handshakes s 0 ws) s.todo _ (omega arith)
-    (λ r b q l c. elim (in-append r s.references (handshakes s 0 ws) l) [ inl i ↦ i | inr i ↦ (let e = all-shake s ws 0 r i in absurd (cc)) ])
+    (λ r b q l c. elim (in-append r s.references (handshakes s 0 ws) l) [ inl i ↦ i | inr i ↦ (let e = is-handshake s ws 0 r i in absurd (cc)) ])
     (λ w m l e. (in-filter (λ (w : Work). not (list_any (λ (d : Work). is_item w d) ws)) w s.todo l).0) h
 
 left-h : (n : ℕ) (z : Space) (seat : ℕ) → H n z → H n (thread_goes z seat)
@@ -340,8 +287,7 @@ left-h n z seat h = record {
     other l t u on off at false k = refl
 
 threads-h : (n : ℕ) (z : Space) (p : ℕ) → H n z → H n (threads_go z p)
-unfolding threads_go
-threads-h n z p h = fold-keeps (H n) thread_goes (map seat_of (filter (λ t. t.process == p) z.threads)) (λ y t l k. left-h n y t k) z h
+threads-h n = threads-keep (H n) (left-h n)
 
 without-h : (n : ℕ) (z : Space) (p : ℕ) → H n z → H n (without_process z p)
 unfolding without_process
@@ -355,10 +301,6 @@ on-deaths-h n = record {
   dies = λ z p made h. owe-h n z (OfProcess p) (work.Death made) refl h;
   clears = λ z t cookie h. owe-h n z (OfThread t) (work.Cleared cookie) refl h;
 }
-
-refused-h : (n : ℕ) (s : Space) (t : ℕ) (f : Frame) → H n s → H n (reply_refused s t f)
-unfolding reply_refused
-refused-h n s t f h = told-h n _ f.caller (work.Verdict FailedReply) refl (closed-h n _ f.made (owe-h n s (OfThread t) (work.Refusal TransactionComplete) refl h))
 
 attached-h : (n : ℕ) (s : Space) (seat p : ℕ) → thread_in s.threads seat ≡ None → H n s → H n (with_thread s seat p)
 unfolding with_thread
@@ -403,39 +345,42 @@ asks-h n s p o strong h =
     less n n s.threads s.references _ s.todo s.todo (omega arith)
     (λ r b q l c. elim (in-push r _ s.references l) [ inl i ↦ i | inr is ↦ (let no = sym (ap (λ (y : Reference). y.holder) is) in absurd (cc)) ]) (λ w m l e. l) h
 
-step-h : (s : Space) (seat : ℕ) (x : Step) → IsInTurn s → AtHome s → Endings s seat x (H (suc s.steps)) (H (suc s.steps))
+step-h : (s : Space) (seat : ℕ) (x : Step) → IsInTurn s → AtHome s → Keeps s seat x (H (suc s.steps)) (H (suc s.steps))
 unfolding without_buffer drop_asked acknowledge
 step-h s seat x turns before =
     let n = suc s.steps in
     let h : H n s = less s.steps n s.threads s.references s.references s.todo s.todo (omega arith) (λ r b q l c. l) (λ w m l e. l) before in
-    let deaths = on-kept (H n) (on-deaths-h n) s h in
     record {
-      same = h;
-      opened = λ pid euid window free. opened-h n s seat pid euid window free h;
-      attached = λ p free. attached-h n s seat p free h;
-      managed = λ a e b. managed-h n s a.process.made h;
-      transacts = λ a d parcel v e i t. transacted-h s a d v before turns;
-      replies = λ a d parcel f v e i g t. replied-h s a d parcel f v before turns t;
-      frees = λ p ptr b e t. fewer-h n s.threads s.references _ s.todo (λ r l. (in-filter (λ (r : Reference). not (is_of_buffer b.made r.holder)) r s.references l).0) h;
-      asks = λ a k strong o e i t. asks-h n s a.process.made o strong h;
-      drops = λ p o strong. fewer-h n s.threads s.references _ s.todo (λ r l. in-without (is_asking p o strong) r s.references l) h;
-      acknowledges = λ o strong i. fewer-h n s.threads s.references _ s.todo (λ r l. in-without (is_shaking o strong) r s.references l) h;
-      loops = λ t looping. looping-h n s t looping h;
-      requests = λ p k cookie o e. on-requested s (H n) deaths p o cookie;
-      clears = λ t y. on-cleared s (H n) deaths t y;
-      dones = λ t p cookie y e. on-done s (H n) deaths t y;
-      completes = λ z k. completes-h n z k;
-      refuses = λ t c. settle-h n _ (owe-h n s (OfThread t) (work.Refusal (refusal c)) refl h);
-      fails = λ a d parcel f e i g. settle-h n _ (refused-h n s a.thread.seat f h);
-      reads = λ a limit e i k. follow-h n _ (read-h n s a.thread.seat _ h);
-      leaves = λ a e. settle-h n _ (follow-h n _ (left-h n s a.thread.seat h));
-      ends = λ a e. settle-h n _ (follow-h n _ (on-told (H n) (on-deaths-h n) _ a.process.made (without-h n _ a.process.made (threads-h n s a.process.made h))));
+      set_up = record {
+        same = h;
+        opened = λ pid euid window free. opened-h n s seat pid euid window free h;
+        attached = λ p free. attached-h n s seat p free h;
+        managed = λ a e b. managed-h n s a.process.made h;
+      };
+      changes = record {
+        transacts = λ a d parcel v e i t. transacted-h s a d v before turns;
+        replies = λ a d parcel f v e i g t. replied-h s a d parcel f v before turns t;
+        frees = λ p ptr b e t. fewer-h n s.threads s.references _ s.todo (λ r l. (in-filter (λ (r : Reference). not (is_of_buffer b.made r.holder)) r s.references l).0) h;
+        asks = λ a k strong o e i t. asks-h n s a.process.made o strong h;
+        drops = λ p o strong. fewer-h n s.threads s.references _ s.todo (λ r l. in-without (is_asking p o strong) r s.references l) h;
+        acknowledges = λ o strong i. fewer-h n s.threads s.references _ s.todo (λ r l. in-without (is_shaking o strong) r s.references l) h;
+        loops = λ t looping. looping-h n s t looping h;
+        on_deaths = on-commands s _ (on-kept (H n) (on-deaths-h n) s h);
+        reads = λ a limit e i k. read-h n s a.thread.seat _ h;
+        leaves = λ a e. left-h n s a.thread.seat h;
+        ends = λ a e. on-told (H n) (on-deaths-h n) _ a.process.made (without-h n _ a.process.made (threads-h n s a.process.made h));
+        ripens = ripen-h n;
+      };
+      follows = follow-h n;
+      closes = closed-h n;
+      refuses = λ z t r. owe-h n z (OfThread t) (work.Refusal r) refl;
+      tells = λ z t r. owe-h n z (OfThread t) (work.Verdict r) refl;
     }
 
 pub next-home : (s : Space) (e : Entry) → (next s e).steps ≡ suc s.steps → IsInTurn s → AtHome s → AtHome (next s e)
 unfolding counted
 next-home s e steps turns h =
-    subst (λ n. H n (change s e.seat e.step).space) (sym steps) (every_ending_step s e.seat e.step (H (suc s.steps)) (H (suc s.steps)) (step-h s e.seat e.step turns h))
+    subst (λ n. H n (change s e.seat e.step).space) (sym steps) (every_step s e.seat e.step (H (suc s.steps)) (H (suc s.steps)) (step-h s e.seat e.step turns h))
 
 pub opening-home : AtHome opening
 opening-home = record { seats = tt; home = λ w t b l on e. absurd l; carried = λ r b q l c. absurd l }

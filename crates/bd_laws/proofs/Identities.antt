@@ -13,7 +13,7 @@ use Rattle.bd_space.specs.Todo.{with_work, is_item, is_on}
 use Rattle.bd_laws.specs.Lists.{In, Pairs}
 use Rattle.bd_laws.specs.Items.{Distinct, Fresh}
 use Rattle.bd_laws.proofs.Lists.{in-push, in-filter, pairs-push, pairs-filter, pairs-either}
-use Rattle.bd_laws.proofs.Tests.{both}
+use Rattle.bd_laws.proofs.Tests.{both, both-eq}
 
 abbrev pub count_at : ℕ → List Work → ℕ
 count_at n todo = count_by (λ w. w.id.place == n) todo
@@ -41,11 +41,7 @@ count-work n todo list kind = count-push (λ w. w.id.place == n) todo _ (eq-eqb 
 -- ---- what is kept before the step at n ends
 
 pub identity-eq : (a b : Identity) → same_identity a b ≡ true → a ≡ b
-identity-eq a b h =
-    let k = both (a.place == b.place) (a.index == b.index) h in
-    let p : a.place ≡ b.place = eqb-true a.place b.place k.0 in
-    let q : a.index ≡ b.index = eqb-true a.index b.index k.1 in
-    (λ i. record { place = p i; index = q i })
+identity-eq a b h = let k = both-eq a.place a.index b.place b.index h in (λ i. record { place = k.0 i; index = k.1 i })
 
 pub item-id : (v w : Work) → is_item v w ≡ true → v.id ≡ w.id
 item-id v w h = identity-eq v.id w.id (both (same_identity v.id w.id) (is_on w.list v) h).0

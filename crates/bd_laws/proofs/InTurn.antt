@@ -38,7 +38,7 @@ use Rattle.bd_laws.proofs.OneWay
 use Rattle.bd_laws.proofs.OneWay.{in_turn-less, more-steps}
 use Rattle.bd_laws.proofs.Ripening.{ripen-in_turn, read-in_turn, turn-parts}
 use Rattle.std.proofs.lemmas.Bool.{eqb-true}
-use Rattle.bd_laws.proofs.Deaths.{on-mapped}
+use Rattle.bd_laws.proofs.Deaths.{on-mapped, on-commands}
 
 -- ---- a reply is no one-way call
 
@@ -63,10 +63,12 @@ pub kept : (s : Space) (seat : ℕ) (x : Step) → InTurn s.steps s.buffers s.to
 kept s seat x h =
     let now : Turning s = more-steps s.steps (suc s.steps) s.buffers s.todo (omega arith) h in
     record {
-      same = now;
-      opened = λ pid euid window. in_turn-less _ s (OneWay.opened-less s seat pid euid window) now;
-      attached = λ p. in_turn-less _ s (OneWay.attached-less s seat p) now;
-      managed = λ a e b. in_turn-less _ s (OneWay.managed-less s a.process.made) now;
+      set_up = record {
+        same = now;
+        opened = λ pid euid window free. in_turn-less _ s (OneWay.opened-less s seat pid euid window) now;
+        attached = λ p free. in_turn-less _ s (OneWay.attached-less s seat p) now;
+        managed = λ a e b. in_turn-less _ s (OneWay.managed-less s a.process.made) now;
+      };
       changes = record {
         transacts = λ a d parcel v e i t. OneWay.transacted-in_turn s a d v h;
         replies = λ a d parcel f v e i g t. OneWay.replied-in_turn s a d f v (reply-two_way s a d parcel f v t) h;
@@ -75,7 +77,7 @@ kept s seat x h =
         drops = λ p o strong. in_turn-less _ s (OneWay.drop_asked-less s p o strong) now;
         acknowledges = λ o strong i. in_turn-less _ s (OneWay.acknowledge-less s o strong) now;
         loops = λ t looping. in_turn-less _ s (OneWay.with_looping-less s t looping) now;
-        on_deaths = on-mapped s _ _ (λ y k. in_turn-less y s k now) (OneWay.on_deaths-less s);
+        on_deaths = on-commands s _ (on-mapped s _ _ (λ y k. in_turn-less y s k now) (OneWay.on_deaths-less s));
         reads = λ a limit e i n. read-in_turn s a.thread a.thread.seat _ now;
         leaves = λ a e. in_turn-less _ s (OneWay.thread_goes-less s a.thread.seat) now;
         ends = λ a e. in_turn-less _ s (OneWay.ends-less s a.process.made) now;
@@ -110,13 +112,7 @@ Alone todo t u = is_out todo u ≡ true → same t.target u.target ≡ true → 
 
 pub is_call-hands : (m : ℕ) (k : WorkKind) → is_call m k ≡ true → hands_out k ≡ Some m
 is_call-hands m (work.Call b) i = ap (λ n. Some n) (eqb-true b m i)
-is_call-hands m (work.Notice o) i = absurd (cc)
-is_call-hands m work.Complete i = absurd (cc)
-is_call-hands m (work.Refusal r) i = absurd (cc)
-is_call-hands m (work.Reply b) i = absurd (cc)
-is_call-hands m (work.Verdict r) i = absurd (cc)
-is_call-hands m (work.Death n) i = absurd (cc)
-is_call-hands m (work.Cleared n) i = absurd (cc)
+is_call-hands m _ i = absurd (cc)
 
 out-of : (todo : List Work) (c : Buffer) (u : Turn) → turn_of c ≡ Some u → is_out todo u ≡ true → Out todo c
 out-of todo c u e h = let p = turn-parts c u e in either u.handed p.0 p.2 refl h

@@ -3,10 +3,8 @@ use Rattle.std.proofs.Common.{◌≡◌, ℕ, ◌≤◌, ◌==◌, Bool, true, f
 use Rattle.std.specs.List.{list_any}
 use Rattle.std.proofs.lemmas.Bool.{eqb-true, eq-eqb}
 use Rattle.bd_space.specs.declared.space.Frame.{Frame}
-use Rattle.bd_space.specs.declared.space.Server.{Server}
-use Rattle.bd_space.specs.declared.space.Server.TheVariants.{Pending, Serving, Gone}
+use Rattle.bd_space.specs.declared.space.Server.TheVariants.{Serving}
 use Rattle.bd_space.specs.declared.space.Work.{Work}
-use Rattle.bd_space.specs.declared.space.WorkKind.{WorkKind}
 use Rattle.bd_space.specs.declared.space.WorkKind.TheVariants as work
 use Rattle.bd_space.specs.declared.space.TodoList.{TodoList}
 use Rattle.bd_space.specs.declared.space.TodoList.TheVariants.{OfThread, OfProcess}
@@ -23,31 +21,17 @@ use Rattle.bd_laws.specs.Lists.{In}
 use Rattle.bd_laws.specs.Frames.{Part, NoChild}
 use Rattle.bd_laws.specs.Tidy.{IsTidy}
 use Rattle.bd_laws.proofs.Lists.{any-found, any-in}
-use Rattle.bd_laws.proofs.Tests.{both, not-true}
+use Rattle.bd_laws.proofs.Tests.{both, not-true, call-kind}
 use Rattle.bd_laws.proofs.Follow.{follow-local}
 use Rattle.bd_laws.proofs.Forests.{one-frame}
 use Rattle.bd_laws.proofs.Abandoned.{OneEach, OnlyAt, settle-up}
 use Rattle.bd_laws.proofs.Framing.{one-each}
 use Rattle.bd_laws.proofs.Leaving.{left, left-parts, left-one, parts-elsewhere, abandoned-touched, follow-frames}
-
-is-call : (n : ℕ) (kind : WorkKind) → is_call n kind ≡ true → kind ≡ work.Call n
-is-call n (work.Notice o) e = absurd (cc)
-is-call n work.Complete e = absurd (cc)
-is-call n (work.Refusal r) e = absurd (cc)
-is-call n (work.Call b) e = ap work.Call (eqb-true b n e)
-is-call n (work.Reply b) e = absurd (cc)
-is-call n (work.Verdict r) e = absurd (cc)
-is-call n (work.Death m) e = absurd (cc)
-is-call n (work.Cleared m) e = absurd (cc)
+use Rattle.bd_laws.proofs.PathWords.{is-serving}
 
 on-thread : (seat : ℕ) (list : TodoList) → same_list (OfThread seat) list ≡ true → list ≡ OfThread seat
 on-thread seat (OfThread u) e = ap (λ n. OfThread n) (sym (eqb-true seat u e))
 on-thread seat (OfProcess u) e = absurd (cc)
-
-is-serving : (t : ℕ) (v : Server) → serves t v ≡ true → v ≡ Serving t
-is-serving t Pending e = absurd (cc)
-is-serving t (Serving u) e = ap (λ n. Serving n) (eqb-true u t e)
-is-serving t Gone e = absurd (cc)
 
 -- its call is unread on the list
 abbrev pub Unread : List Work → TodoList → ℕ → Type 0
@@ -93,7 +77,7 @@ module _ (s : Space) (seat : ℕ) (h : IsTidy s) where
       at f false e true i t =
           let w = any-found (λ (w : Work). is_on (OfThread seat) w && is_call f.made w.kind) s.todo i in
           let c = both (is_on (OfThread seat) w.0) (is_call f.made w.0.kind) w.2 in
-          inr (w.0, w.1, is-call f.made w.0.kind c.1, on-thread seat w.0.list c.0)
+          inr (w.0, w.1, call-kind f.made w.0.kind c.1, on-thread seat w.0.list c.0)
       at f false e false i t = absurd (cc)
 
   -- the thread takes part somewhere on the path of such a frame

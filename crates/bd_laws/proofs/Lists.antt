@@ -1,5 +1,5 @@
 -- Membership in lists, and lists of which each two elements are related.
-use Rattle.std.proofs.Common.{ℕ, ◌≡◌, Bool, true, false, cond, ◌&&◌, ◌||◌, List, [], ◌∷◌, ◌++◌, Option, Some, None, ◌⊎◌, inl, inr, refl, ap, sym, subst, ◌∙◌, map, filter, find, zero, suc, ◌<◌, length, get_or, arith}
+use Rattle.std.proofs.Common.{append-nil, append_assoc, ℕ, ◌≡◌, Bool, true, false, cond, ◌&&◌, ◌||◌, List, [], ◌∷◌, ◌++◌, Option, Some, None, ◌⊎◌, inl, inr, refl, ap, sym, subst, ◌∙◌, map, filter, find, zero, suc, ◌<◌, length, get_or, arith}
 use Rattle.std.specs.List.{list_any, list_all, cons_option, filter_map, AllPairs, fold}
 use Rattle.std.specs.Option.{is_some}
 use Rattle.bd_space.specs.Words.{changed, without_first}
@@ -193,6 +193,16 @@ module _ {A : Type 0} (p : A → Bool) where
   find-some x [] h t = absurd h
   find-some x (y ∷ ys) (inl h) t = some-or (p y) y (find p ys) (inl (ap p h ∙ t))
   find-some x (y ∷ ys) (inr h) t = some-or (p y) y (find p ys) (inr (find-some x ys h t))
+
+-- ---- by one more at the end
+
+module _ {A : Type 0} (P : List A → Type 0) (more : (xs : List A) (x : A) → P xs → P (xs ++ x ∷ [])) where
+  grown : (rest before : List A) → P before → P (before ++ rest)
+  grown [] before h = subst P (sym (append-nil before)) h
+  grown (x ∷ rest) before h = subst P (append_assoc before (x ∷ []) rest) (grown rest (before ++ x ∷ []) (more before x h))
+
+  pub by-last : P [] → (xs : List A) → P xs
+  by-last h xs = grown xs [] h
 
 -- ---- by index
 

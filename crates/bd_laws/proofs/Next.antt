@@ -30,7 +30,7 @@ use Rattle.bd_space.specs.References.{reference_of, object_in, owned_in, held_in
 use Rattle.bd_space.specs.Names.{is_named_in}
 use Rattle.bd_space.specs.Frames.{is_gone, is_child_of}
 use Rattle.bd_space.specs.Todo.{owe, is_call, is_on, is_item, hands_out, without_taken, list_to_read}
-use Rattle.bd_space.specs.Turns.{turn_of, turns_of, is_ripe}
+use Rattle.bd_space.specs.Turns.{turn_of, turns_of}
 use Rattle.bd_space.specs.Notices.{wants_notice, differs_in, follow}
 use Rattle.bd_space.specs.Settle.{settle, is_abandoned}
 use Rattle.bd_space.specs.Replies.{reply_refused}
@@ -52,10 +52,10 @@ use Rattle.bd_laws.proofs.Lists.{in-last, in-push, in-filter, filter-in, in-chan
 use Rattle.bd_laws.proofs.Tests.{both, and-both, same-eq, eq-same, not-true}
 use Rattle.bd_laws.proofs.Objects.{IsKept, kept-step}
 use Rattle.bd_laws.proofs.EveryStep.{every_list}
-use Rattle.bd_laws.proofs.Deaths.{on-told, on-requested, on-cleared, on-done}
+use Rattle.bd_laws.proofs.Deaths.{on-told}
 use Rattle.bd_laws.proofs.EveryEnding.{Endings, every_ending_step}
 use Rattle.bd_laws.proofs.Received.{step-before, opening-before}
-use Rattle.bd_laws.proofs.Quiet.{IsCalm, any-more, owe-calm, closed-calm, told-calm, settle-quiet, follow-calm, completed-quiet}
+use Rattle.bd_laws.proofs.Quiet.{IsCalm, any-more, owe-calm, closed-calm, told-calm, settle-quiet, follow-calm, completed-quiet, elsewhere-aside, CallsStay, unripe-one, unripe-kept}
 use Rattle.bd_laws.proofs.Fewer.{to-false}
 use Rattle.bd_laws.proofs.Sending.{any-none, find-left, find-none, none-found}
 use Rattle.bd_laws.proofs.Freeing.{any-append}
@@ -126,19 +126,7 @@ opened-quiet s seat pid euid window before h = record {
 
 attached-quiet : (s : Space) (seat p : ℕ) → IsQuiet s → IsQuiet (with_thread s seat p)
 unfolding with_thread
-attached-quiet s seat p h = record {
-  differ = h.differ;
-  followed = record {
-    names = h.followed.names;
-    objects = h.followed.objects;
-    deaths = h.followed.deaths;
-    notices = h.followed.notices;
-    tellings = h.followed.tellings;
-    made = h.followed.made;
-  };
-  unripe = h.unripe;
-  settled = h.settled;
-}
+attached-quiet s seat p h = record { differ = h.differ; followed = elsewhere-aside _ _ s _ _ _ _ h.followed; unripe = h.unripe; settled = h.settled }
 
 -- ---- a new context manager
 
@@ -230,16 +218,6 @@ module _ (s : Space) (p : ℕ) (kept : KeptBefore s) (h : IsQuiet s) where
 on-of : (c : Buffer) (t : Turn) → turn_of c ≡ Some t → On t.target c
 on-of c t e = let k = turn-parts c t e in (k.3, k.4)
 
-call-kind : (b : ℕ) (kind : WorkKind) → is_call b kind ≡ true → kind ≡ work.Call b
-call-kind b (work.Notice o) e = absurd (cc)
-call-kind b work.Complete e = absurd (cc)
-call-kind b (work.Refusal r) e = absurd (cc)
-call-kind b (work.Call c) e = ap work.Call (eqb-true c b e)
-call-kind b (work.Reply c) e = absurd (cc)
-call-kind b (work.Verdict r) e = absurd (cc)
-call-kind b (work.Death n) e = absurd (cc)
-call-kind b (work.Cleared n) e = absurd (cc)
-
 -- ---- reading
 
 -- what is taken hands that one over
@@ -264,14 +242,9 @@ module _ (s : Space) where
         where
           skip : (kind : WorkKind) → ends_read kind ≡ false → first_of (map (λ (w : Work). hands_out w.kind) (taken s (left - length (bytes_read s x)) xs)) ≡ Some n
               → first_of (hands_out kind ∷ map (λ (w : Work). hands_out w.kind) (taken s (left - length (bytes_read s x)) xs)) ≡ Some n
-          skip (work.Notice o) g k = k
-          skip work.Complete g k = k
-          skip (work.Refusal r) g k = k
           skip (work.Call b) g k = absurd (cc)
           skip (work.Reply b) g k = absurd (cc)
-          skip (work.Verdict r) g k = k
-          skip (work.Death m) g k = k
-          skip (work.Cleared c) g k = k
+          skip _ g k = k
 
 -- frames that are served
 served-settled : (p : Frame → Bool) (seat : ℕ) (fs : List Frame) → IsSettled fs → IsSettled (changed p (serve seat) fs)
@@ -293,26 +266,6 @@ served-settled p seat fs h = find-none (is_abandoned (changed p (serve seat) fs)
     each f false k = ap (λ c. is_gone f.server && not c) (children f fs) ∙ k
 
 module _ (todo more : List Work) where
-  calls_stay : Turn → Type 0
-  calls_stay t = list_any (λ (w : Work). is_call t.made w.kind) todo ≡ true → list_any (λ (w : Work). is_call t.made w.kind) more ≡ true
-
-  unripe-one : (older less : List Turn) (t : Turn) → list_any (λ (u : Turn). same u.target t.target) less ≡ list_any (λ (u : Turn). same u.target t.target) older → calls_stay t
-      → is_ripe todo older t ≡ false → is_ripe more less t ≡ false
-  unfolding calls_stay
-  unripe-one older less t e k h = ap (λ b. not t.handed && not b && not (list_any (λ (w : Work). is_call t.made w.kind) more)) e
-      ∙ at t.handed (list_any (λ (u : Turn). same u.target t.target) older) (list_any (λ (w : Work). is_call t.made w.kind) todo) k h
-    where
-      at : (a b c : Bool) → (c ≡ true → list_any (λ (w : Work). is_call t.made w.kind) more ≡ true) → (not a && not b && not c) ≡ false
-          → (not a && not b && not (list_any (λ (w : Work). is_call t.made w.kind) more)) ≡ false
-      at true b c i e = refl
-      at false true c i e = refl
-      at false false false i e = absurd (cc)
-      at false false true i e = rw (i refl) refl
-
-  unripe-kept : (ts older : List Turn) → NoneRipe todo older ts → ((t : Turn) → In t ts → calls_stay t) → NoneRipe more older ts
-  unripe-kept [] older h k = tt
-  unripe-kept (t ∷ ts) older h k = (unripe-one older older t refl (k t (inl refl)) h.0, unripe-kept ts (older ++ t ∷ []) h.1 (λ u l. k u (inr l)))
-
   -- the same targets
   abbrev SameTargets : List Turn → List Turn → Type 0
   SameTargets older less = (i : ObjectId) → list_any (λ (u : Turn). same u.target i) less ≡ list_any (λ (u : Turn). same u.target i) older
@@ -342,7 +295,7 @@ module _ (todo more : List Work) where
 
   module _ (p : Buffer → Bool) where
     unripe-handed : (bs : List Buffer) (older less : List Turn) → SameTargets older less → NoneRipe todo older (turns_of bs)
-        → ((c : Buffer) → In c bs → (t : Turn) → turn_of c ≡ Some t → p c ≡ false → calls_stay t) → NoneRipe more less (turns_of (changed p hand_out bs))
+        → ((c : Buffer) → In c bs → (t : Turn) → turn_of c ≡ Some t → p c ≡ false → CallsStay todo more t) → NoneRipe more less (turns_of (changed p hand_out bs))
     unripe-handed [] older less e h k = tt
     unripe-handed (c ∷ cs) older less e h k = at (p c) refl (turn_of c) refl h (λ o l f i. unripe-handed cs o l f i (λ d j. k d (inr j)))
       where
@@ -356,7 +309,7 @@ module _ (todo more : List Work) where
         at false i None f h rest = subst (λ g. NoneRipe more less (cons_option g (turns_of (changed p hand_out cs)))) (sym f) (rest older less e h)
         at false i (Some t) f h rest =
             subst (λ g. NoneRipe more less (cons_option g (turns_of (changed p hand_out cs)))) (sym f)
-            (unripe-one older less t (e t.target) (k c (inl refl) t f i) h.0, rest (older ++ t ∷ []) (less ++ t ∷ []) (same-targets-push older less t t refl e) h.1)
+            (unripe-one todo more older less t (e t.target) (k c (inl refl) t f i) h.0, rest (older ++ t ∷ []) (less ++ t ∷ []) (same-targets-push older less t t refl e) h.1)
 
 -- what a reading leaves unread
 module _ (s : Space) (distinct : Distinct s.todo) (lists : OnLists s) (t : Thread) (left : ℕ) where
@@ -382,8 +335,7 @@ module _ (s : Space) (distinct : Distinct s.todo) (lists : OnLists s) (t : Threa
       (b.0, ap (λ o. option_and_then (buffer_in s.buffers) o) first ∙ b.1, b.2)
 
   call-stays : (c : Buffer) → In c s.buffers → (u : Turn) → turn_of c ≡ Some u → ((b : Buffer) → buffer_taken s ws ≡ Some b → is_made_at b.made c ≡ false)
-      → calls_stay s.todo (without_taken ws s.todo) u
-  unfolding calls_stay
+      → CallsStay s.todo (without_taken ws s.todo) u
   call-stays c l u e none calls =
       let made : u.made ≡ c.made = turn-made c u e in
       let v = any-found (λ (w : Work). is_call u.made w.kind) s.todo calls in
@@ -438,8 +390,7 @@ not-false-true false e = absurd (cc)
 
 -- on its receiver's list, a call goes only with that list
 called-stays : (z : Space) (stays : Work → Bool) → OnLists z → (c : Buffer) → In c z.buffers → ((w : Work) → w.list ≡ OfProcess c.receiver → stays w ≡ true) → (t : Turn) → turn_of c ≡ Some t
-    → calls_stay z.todo (filter stays z.todo) t
-unfolding calls_stay
+    → CallsStay z.todo (filter stays z.todo) t
 called-stays z stays lists c l k t e calls =
     let made : t.made ≡ c.made = turn-made c t e in
     let v = any-found (λ (w : Work). is_call t.made w.kind) z.todo calls in
@@ -500,7 +451,7 @@ module _ (todo more : List Work) (keep : Buffer → Bool) where
   unripe-parted : (bs : List Buffer) (older less : List Turn)
       → ((c : Buffer) → In c bs → keep c ≡ true → (t : Turn) → turn_of c ≡ Some t → list_any (λ (u : Turn). same u.target t.target) less ≡ list_any (λ (u : Turn). same u.target t.target) older)
       → NoneRipe todo older (turns_of bs)
-      → ((c : Buffer) → In c bs → keep c ≡ true → (t : Turn) → turn_of c ≡ Some t → calls_stay todo more t)
+      → ((c : Buffer) → In c bs → keep c ≡ true → (t : Turn) → turn_of c ≡ Some t → CallsStay todo more t)
       → ((c d : Buffer) → In c bs → In d bs → keep c ≡ false → keep d ≡ true → (t u : Turn) → turn_of c ≡ Some t → turn_of d ≡ Some u → same t.target u.target ≡ false)
       → NoneRipe more less (turns_of (filter keep bs))
   unripe-parted [] older less e h k apart = tt
@@ -557,8 +508,7 @@ without-unripe s z p before h =
     other : (c : Buffer) → not (c.receiver == p) ≡ true → (p == c.receiver) ≡ false
     other c e = to-false (p == c.receiver) (λ f. let no = not-true (c.receiver == p) e in let is = eq-eqb c.receiver p (sym (eqb-true p c.receiver f)) in cc)
 
-one-call : (todo : List Work) (w : Work) (t : Turn) → calls_stay todo (todo ++ w ∷ []) t
-unfolding calls_stay
+one-call : (todo : List Work) (w : Work) (t : Turn) → CallsStay todo (todo ++ w ∷ []) t
 one-call todo w t e = any-more (λ (v : Work). is_call t.made v.kind) todo w e
 
 one-item : (todo : List Work) (w : Work) (ts : List Turn) → NoneRipe todo [] ts → NoneRipe (todo ++ w ∷ []) [] ts
@@ -590,20 +540,13 @@ step-endings : (s : Space) (seat : ℕ) (x : Step) → Before s → Distinct s.t
 step-endings s seat x before distinct h =
     let k = kept-step s seat x before.objects in
     record {
-      same = h;
-      opened = λ pid euid window free. opened-quiet s seat pid euid window before h;
-      attached = λ p free. attached-quiet s seat p h;
-      managed = λ a e b. managed-quiet s a.process.made before.objects h;
-      transacts = k.changes.transacts;
-      replies = k.changes.replies;
-      frees = k.changes.frees;
-      asks = k.changes.asks;
-      drops = k.changes.drops;
-      acknowledges = k.changes.acknowledges;
-      loops = k.changes.loops;
-      requests = λ p n cookie o e. on-requested s IsKept k.changes.on_deaths p o cookie;
-      clears = λ t y. on-cleared s IsKept k.changes.on_deaths t y;
-      dones = λ t p cookie y e. on-done s IsKept k.changes.on_deaths t y;
+      set_up = record {
+        same = h;
+        opened = λ pid euid window free. opened-quiet s seat pid euid window before h;
+        attached = λ p free. attached-quiet s seat p h;
+        managed = λ a e b. managed-quiet s a.process.made before.objects h;
+      };
+      changes = k.changes;
       completes = λ z m. completed-quiet z m.differ;
       refuses = λ t c. refused-quiet s t c h;
       fails = λ a d parcel f e i g. failed-quiet s a.thread.seat f h;
@@ -615,19 +558,7 @@ step-endings s seat x before distinct h =
 
 counted-quiet : (z : Space) → IsQuiet z → IsQuiet (counted z)
 unfolding counted
-counted-quiet z h = record {
-  differ = h.differ;
-  followed = record {
-    names = h.followed.names;
-    objects = h.followed.objects;
-    deaths = h.followed.deaths;
-    notices = h.followed.notices;
-    tellings = h.followed.tellings;
-    made = h.followed.made;
-  };
-  unripe = h.unripe;
-  settled = h.settled;
-}
+counted-quiet z h = record { differ = h.differ; followed = elsewhere-aside _ _ z _ _ _ _ h.followed; unripe = h.unripe; settled = h.settled }
 
 -- the law, where the items of each list have different identities
 pub next-quiet : (s : Space) (e : Entry) → Before s → Distinct s.todo → IsQuiet s → IsQuiet (next s e)

@@ -1,16 +1,14 @@
 -- At most one Notice of an object is due, and only while its owner lives.
-use Rattle.std.proofs.Common.{◌≡◌, ℕ, Bool, true, false, cond, not, ◌&&◌, List, [], ◌∷◌, ◌++◌, Option, Some, None, inl, inr, refl, ap, sym, ◌∙◌, map, filter, ◌==◌}
+use Rattle.std.proofs.Common.{◌≡◌, ℕ, Bool, true, false, not, List, ◌++◌, Option, Some, None, inl, inr, refl, ap, sym, ◌∙◌, ◌==◌, subst}
 use Rattle.std.specs.List.{list_any}
 use Rattle.bd_uapi.specs.declared.command.TransactionData.{TransactionData}
 use Rattle.bd_space.specs.declared.step.ObjectId.{ObjectId}
 use Rattle.bd_space.specs.declared.step.Step.{Step}
 use Rattle.bd_space.specs.declared.step.Entry.{Entry}
 use Rattle.bd_space.specs.declared.space.Process.{Process}
-use Rattle.bd_space.specs.declared.space.Thread.{Thread}
 use Rattle.bd_space.specs.declared.space.Object.{Object}
 use Rattle.bd_space.specs.declared.space.Reference.{Reference}
 use Rattle.bd_space.specs.declared.space.Frame.{Frame}
-use Rattle.bd_space.specs.declared.space.Turn.{Turn}
 use Rattle.bd_space.specs.declared.space.Actor.{Actor}
 use Rattle.bd_space.specs.declared.space.Item.{Item}
 use Rattle.bd_space.specs.declared.space.DeathNotification.{DeathNotification}
@@ -26,10 +24,9 @@ use Rattle.bd_space.specs.References.{object_in, objects_go}
 use Rattle.bd_space.specs.Names.{names_go, assign_numbers}
 use Rattle.bd_space.specs.Frames.{goes_to, closed}
 use Rattle.bd_space.specs.Todo.{with_work, owe, is_on, is_notice, notice_of, is_item}
-use Rattle.bd_space.specs.Turns.{ripen, ripened, is_ripe, turns_of}
-use Rattle.bd_space.specs.Notices.{with_notice, wants_notice, differs_in, has_notice_in, still_due, work_goes, deaths_go, notify, follow}
-use Rattle.bd_uapi.specs.Kinds.{is_own}
-use Rattle.bd_space.specs.Delivery.{Delivery, delivered, own_notices, add_buffer, known_by, refer, make_objects, buffer_of, add_notice, withdraw_notice}
+use Rattle.bd_space.specs.Turns.{ripen}
+use Rattle.bd_space.specs.Notices.{wants_notice, differs_in, has_notice_in, still_due, work_goes, deaths_go, notify, follow}
+use Rattle.bd_space.specs.Delivery.{Delivery, delivered, own_notices, add_buffer, known_by, refer, make_objects, buffer_of}
 use Rattle.bd_space.specs.Transactions.{transacted, called, call_out}
 use Rattle.bd_space.specs.Replies.{replied}
 use Rattle.bd_space.specs.Freeing.{without_buffer}
@@ -37,14 +34,16 @@ use Rattle.bd_space.specs.Asking.{ask, drop_asked, acknowledge}
 use Rattle.bd_space.specs.Commands.{with_looping}
 use Rattle.bd_space.specs.ReadItems.{read_by}
 use Rattle.bd_space.specs.ThreadExits.{thread_goes}
-use Rattle.bd_space.specs.ProcessExits.{threads_go, without_process, tell_deaths, seat_of}
+use Rattle.bd_space.specs.ProcessExits.{threads_go, without_process, tell_deaths}
 use Rattle.bd_space.specs.Steps.{change, counted, with_thread, with_process, with_manager}
 use Rattle.bd_space.specs.Histories.{next}
 use Rattle.bd_laws.specs.Lists.{In, Pairs}
-use Rattle.bd_laws.proofs.Lists.{in-left, in-push, in-filter, any-found, any-in, find-in, pairs-filter, pairs-push, fold-keeps}
-use Rattle.bd_laws.proofs.Tests.{both, not-true, same-eq, eq-same}
+use Rattle.bd_laws.proofs.Lists.{in-left, in-push, in-filter, any-found, any-in, find-in, pairs-filter, pairs-push}
+use Rattle.bd_laws.proofs.Tests.{both, same-eq, eq-same, notice-named}
 use Rattle.bd_laws.proofs.EveryStep.{Keeps, every_step}
-use Rattle.bd_laws.proofs.Deaths.{KeptOnDeaths, on-kept, on-told}
+use Rattle.bd_laws.proofs.Deaths.{KeptOnDeaths, on-kept, on-told, on-commands}
+use Rattle.bd_laws.proofs.Adding.{notify-keeps, own_notices-keeps, ripen-keeps}
+use Rattle.bd_laws.proofs.Following.{threads-keep}
 
 -- two work items are no Notices of one object
 abbrev pub Apart : Work → Work → Type 0
@@ -86,45 +85,22 @@ owe-noticing : (z : Space) (list : TodoList) (kind : WorkKind) → notice_of kin
 owe-noticing z list kind none h = record { once = owe-once z list kind none h.once; live = owe-live z list kind none h.live }
 
 pub notice-is : (kind : WorkKind) (o : ObjectId) → notice_of kind ≡ Some o → is_notice o kind ≡ true
-notice-is (work.Notice p) o e = eq-same p o (cc)
-notice-is work.Complete o e = absurd (cc)
-notice-is (work.Refusal r) o e = absurd (cc)
-notice-is (work.Call b) o e = absurd (cc)
-notice-is (work.Reply b) o e = absurd (cc)
-notice-is (work.Verdict r) o e = absurd (cc)
-notice-is (work.Death n) o e = absurd (cc)
-notice-is (work.Cleared n) o e = absurd (cc)
+notice-is kind o e = subst (λ k. is_notice o k ≡ true) (sym (notice-named kind o e)) (eq-same o o refl)
 
-once-notice : (place : ℕ) (processes : List Process) (references : List Reference) (list : TodoList) (todo : List Work) (x : Object) → Once todo
-    → Once (with_notice place processes references list todo x)
-once-notice place processes references list todo x h = at (wants_notice processes references x && not (has_notice_in todo x.id)) refl
-  where
-    at : (b : Bool) → (wants_notice processes references x && not (has_notice_in todo x.id)) ≡ b → Once (cond b (with_work place todo list (work.Notice x.id)) todo)
-    at false e = h
-    at true e =
-        let none = not-true (has_notice_in todo x.id) (both (wants_notice processes references x) (not (has_notice_in todo x.id)) e).1 in
-        pairs-push Apart _ todo h (λ w l o f g.
-        let is : x.id ≡ o = cc in
-        let has = any-in (λ (v : Work). is_notice x.id v.kind) w todo l (notice-is w.kind x.id (f ∙ ap (λ i. Some i) (sym is))) in
-        absurd (cc))
+-- one that was missing
+once-missing : (place : ℕ) (list : TodoList) (todo : List Work) (x : Object) → has_notice_in todo x.id ≡ false → Once todo → Once (with_work place todo list (work.Notice x.id))
+once-missing place list todo x none h =
+    pairs-push Apart _ todo h (λ w l o f g.
+    let is : x.id ≡ o = cc in
+    let has = any-in (λ (v : Work). is_notice x.id v.kind) w todo l (notice-is w.kind x.id (f ∙ ap (λ i. Some i) (sym is))) in
+    absurd (cc))
 
 -- ---- transactions and replies
 
-withdrawn-once : (b : Bool) (p : Work → Bool) (todo : List Work) → Once todo → Once (cond b (filter p todo) todo)
-withdrawn-once true p todo h = pairs-filter Apart p todo h
-withdrawn-once false p todo h = h
-
-added-once : (place : ℕ) (processes : List Process) (references : List Reference) (list : TodoList) (todo : List Work) (own : Bool) (o : Option Object) → Once todo
-    → Once (cond own (elim o as (λ (x : Option Object). List Work) [ None ↦ todo | Some x ↦ with_notice place processes references list todo x ]) todo)
-added-once place processes references list todo false o h = h
-added-once place processes references list todo true None h = h
-added-once place processes references list todo true (Some x) h = once-notice place processes references list todo x h
-
 own_notices-once : (z : Space) (seat : ℕ) (items : List Item) → Once z.todo → Once (own_notices z seat items).todo
-unfolding own_notices
-own_notices-once z seat items h =
-    fold-keeps Once (add_notice z seat) items (λ todo x l k. added-once z.steps z.processes z.references (OfThread seat) todo (is_own x.flat.kind) (object_in z.objects x.object) k) _
-    (fold-keeps Once (withdraw_notice z.objects) items (λ todo x l k. withdrawn-once _ _ todo k) z.todo h)
+own_notices-once z seat items =
+    own_notices-keeps Once z seat items (λ todo o. pairs-filter Apart (λ (w : Work). not (is_notice o w.kind)) todo)
+    (λ todo x due. once-missing z.steps (OfThread seat) todo x due.1)
 
 delivered-once : (s : Space) (a : Actor) (d : TransactionData) (v : Delivery) → Once s.todo → Once (delivered s a d v).todo
 unfolding delivered add_buffer known_by assign_numbers refer make_objects
@@ -168,8 +144,7 @@ unfolding thread_goes
 thread_goes-once z seat h = pairs-filter Apart (λ (w : Work). not (is_on (OfThread seat) w)) z.todo h
 
 threads_go-once : (z : Space) (p : ℕ) → Once z.todo → Once (threads_go z p).todo
-unfolding threads_go
-threads_go-once z p h = fold-keeps OnceIn thread_goes (map seat_of (filter (λ (t : Thread). t.process == p) z.threads)) (λ y t l k. thread_goes-once y t k) z h
+threads_go-once = threads-keep OnceIn thread_goes-once
 
 without_process-once : (z : Space) (p : ℕ) → Once z.todo → Once (without_process z p).todo
 unfolding without_process
@@ -184,17 +159,8 @@ read-once : (s : Space) (seat : ℕ) (ws : List Work) → Once s.todo → Once (
 unfolding read_by
 read-once s seat ws h = pairs-filter Apart (λ (w : Work). not (list_any (λ (d : Work). is_item w d) ws)) s.todo h
 
-ripens-if : (place : ℕ) (b : Bool) (todo : List Work) (t : Turn) → Once todo → Once (cond b (with_work place todo (OfProcess t.receiver) (work.Call t.made)) todo)
-ripens-if place true todo t h = once-other place todo (OfProcess t.receiver) (work.Call t.made) refl h
-ripens-if place false todo t h = h
-
-ripened-once : (place : ℕ) (ts older : List Turn) (todo : List Work) → Once todo → Once (ripened place older todo ts)
-ripened-once place [] older todo h = h
-ripened-once place (t ∷ ts) older todo h = ripened-once place ts (older ++ t ∷ []) _ (ripens-if place (is_ripe todo older t) todo t h)
-
 ripen-once : (z : Space) → Once z.todo → Once (ripen z).todo
-unfolding ripen
-ripen-once z h = ripened-once z.steps (turns_of z.buffers) [] z.todo h
+ripen-once z = ripen-keeps Once z (λ todo t. once-other z.steps todo (OfProcess t.receiver) (work.Call t.made) refl)
 
 -- ---- what follows
 
@@ -203,10 +169,7 @@ unfolding work_goes
 work_goes-once z h = pairs-filter Apart (λ (w : Work). still_due z.processes z.objects z.references z.deaths w.kind) z.todo h
 
 notify-once : (z : Space) → Once z.todo → Once (notify z).todo
-unfolding notify
-notify-once z h =
-    fold-keeps Once (λ todo (x : Object). with_notice z.steps z.processes z.references (OfProcess x.owner) todo x) z.objects
-    (λ todo x l k. once-notice z.steps z.processes z.references (OfProcess x.owner) todo x k) z.todo h
+notify-once z = notify-keeps Once z (λ todo x l due. once-missing z.steps (OfProcess x.owner) todo x due.1)
 
 follow-once : (z : Space) → Once z.todo → Once (follow z).todo
 unfolding follow deaths_go objects_go names_go
@@ -228,12 +191,7 @@ due-wanted processes objects references deaths (work.Notice p) o e h = at (objec
     at None g k = absurd (cc)
     at (Some x) g k = let l = find-in (λ (y : Object). same y.id p) x objects g in (x, l.0, same-eq x.id p l.1 ∙ cc, k)
 due-wanted processes objects references deaths work.Complete o e h = absurd (cc)
-due-wanted processes objects references deaths (work.Refusal r) o e h = absurd (cc)
-due-wanted processes objects references deaths (work.Call b) o e h = absurd (cc)
-due-wanted processes objects references deaths (work.Reply b) o e h = absurd (cc)
-due-wanted processes objects references deaths (work.Verdict r) o e h = absurd (cc)
-due-wanted processes objects references deaths (work.Death n) o e h = absurd (cc)
-due-wanted processes objects references deaths (work.Cleared n) o e h = absurd (cc)
+due-wanted processes objects references deaths _ o e h = absurd (cc)
 
 work_goes-wanted : (z : Space) → WantedIn (work_goes z)
 unfolding work_goes
@@ -242,19 +200,13 @@ work_goes-wanted z = λ w o l e.
 
 notify-wanted : (z : Space) → WantedIn z → WantedIn (notify z)
 unfolding notify
-notify-wanted z h =
-    fold-keeps (Wanted z.processes z.references z.objects) (λ todo (x : Object). with_notice z.steps z.processes z.references (OfProcess x.owner) todo x) z.objects
-    (λ todo x l k. one x todo (wants_notice z.processes z.references x && not (has_notice_in todo x.id)) l refl k) z.todo h
-  where
-    one : (x : Object) (todo : List Work) (b : Bool) → In x z.objects → (wants_notice z.processes z.references x && not (has_notice_in todo x.id)) ≡ b → Wanted z.processes z.references z.objects todo
-        → Wanted z.processes z.references z.objects (cond b (with_work z.steps todo (OfProcess x.owner) (work.Notice x.id)) todo)
-    one x todo false i e k = k
-    one x todo true i e k = λ w o l f. elim (in-push w _ todo l) [
-      | inl j ↦ k w o j f
+notify-wanted z =
+    notify-keeps (Wanted z.processes z.references z.objects) z (λ todo x i due k w o l e. elim (in-push w _ todo l) [
+      | inl j ↦ k w o j e
       | inr is ↦ (
           let same_kind : notice_of (work.Notice x.id) ≡ notice_of w.kind = ap (λ (v : Work). notice_of v.kind) is in
-          (x, i, cc, (both (wants_notice z.processes z.references x) (not (has_notice_in todo x.id)) e).0))
-    ]
+          (x, i, cc, due.0))
+    ])
 
 pub follow-wanted : (z : Space) → WantedIn (follow z)
 unfolding follow
@@ -295,10 +247,12 @@ closed-noticing z made h = record { once = h.once; live = h.live }
 noticing-step : (s : Space) (seat : ℕ) (x : Step) → Noticing s → Keeps s seat x OnceIn Noticing
 unfolding without_buffer ask assign_numbers drop_asked acknowledge with_looping
 noticing-step s seat x h = record {
-  same = h;
-  opened = λ pid euid window. opened-noticing s seat pid euid window h;
-  attached = λ p. attached-noticing s seat p h;
-  managed = λ a e b. managed-noticing s a.process.made h;
+  set_up = record {
+    same = h;
+    opened = λ pid euid window free. opened-noticing s seat pid euid window h;
+    attached = λ p free. attached-noticing s seat p h;
+    managed = λ a e b. managed-noticing s a.process.made h;
+  };
   changes = record {
     transacts = λ a d parcel v e i t. transacted-once s a d v h.once;
     replies = λ a d parcel f v e i g t. replied-once s a d f v h.once;
@@ -307,7 +261,7 @@ noticing-step s seat x h = record {
     drops = λ p o strong. h.once;
     acknowledges = λ o strong i. h.once;
     loops = λ t looping. h.once;
-    on_deaths = on-kept OnceIn once-on_deaths s h.once;
+    on_deaths = on-commands s _ (on-kept OnceIn once-on_deaths s h.once);
     reads = λ a limit e i n. read-once s a.thread.seat _ h.once;
     leaves = λ a e. thread_goes-once s a.thread.seat h.once;
     ends = λ a e. tell_deaths-once (without_process (threads_go s a.process.made) a.process.made) a.process.made

@@ -1,20 +1,18 @@
 -- Each step keeps the identities of work items apart.
-use Rattle.std.proofs.Common.{◌≡◌, ℕ, zero, suc, ◌+◌, ◌==◌, Bool, true, false, cond, not, ◌&&◌, ◌||◌, List, [], ◌∷◌, ◌++◌, Option, Some, None, ◌⊎◌, inl, inr, refl, ap, sym, subst, ◌∙◌, filter, find, map, length, arith, Ok}
+use Rattle.std.proofs.Common.{◌≡◌, ℕ, suc, ◌+◌, ◌==◌, Bool, true, false, cond, not, ◌&&◌, ◌||◌, List, [], ◌∷◌, ◌++◌, Option, Some, None, ◌⊎◌, inl, inr, refl, ap, sym, subst, ◌∙◌, filter, map, arith, Ok}
 use Rattle.std.specs.List.{list_any, fold}
 use Rattle.std.proofs.lemmas.Bool.{eqb-true, eq-eqb}
 use Rattle.bd_uapi.specs.declared.command.TransactionData.{TransactionData}
-use Rattle.bd_uapi.specs.declared.command.Return.TheVariants.{DeadReply, FailedReply, TransactionComplete}
 use Rattle.bd_space.specs.declared.step.ObjectId.{ObjectId}
 use Rattle.bd_space.specs.declared.step.Step.{Step}
 use Rattle.bd_space.specs.declared.step.Entry.{Entry}
 use Rattle.bd_space.specs.declared.space.Object.{Object}
 use Rattle.bd_space.specs.declared.space.Reference.{Reference}
 use Rattle.bd_space.specs.declared.space.Holder.{Holder}
-use Rattle.bd_space.specs.declared.space.Holder.TheVariants.{Asked, Carried, Target, Handshake, Manager}
+use Rattle.bd_space.specs.declared.space.Holder.TheVariants.{Asked, Carried}
 use Rattle.bd_space.specs.declared.space.Thread.{Thread}
 use Rattle.bd_space.specs.declared.space.Name.{Name}
 use Rattle.bd_space.specs.declared.space.Frame.{Frame}
-use Rattle.bd_space.specs.declared.space.Turn.{Turn}
 use Rattle.bd_space.specs.declared.space.Item.{Item}
 use Rattle.bd_space.specs.declared.space.Actor.{Actor}
 use Rattle.bd_space.specs.declared.space.Work.{Work}
@@ -32,14 +30,12 @@ use Rattle.bd_space.specs.References.{object_in, held_in, owned_in, stays_in, ob
 use Rattle.bd_space.specs.Names.{named, is_named_in, names_go, assign_numbers}
 use Rattle.bd_space.specs.Frames.{closed, goes_to}
 use Rattle.bd_space.specs.Todo.{with_work, owe, is_notice, is_on, same_list, is_item, hands_out}
-use Rattle.bd_space.specs.Turns.{turns_of, is_ripe, ripened, ripen}
+use Rattle.bd_space.specs.Turns.{ripen}
 use Rattle.bd_space.specs.Notices.{wants_notice, has_notice_in, with_notice, still_due, is_name_of, deaths_go, work_goes, notify, follow}
-use Rattle.bd_space.specs.Settle.{settle, settle_one, settle_times, is_abandoned}
-use Rattle.bd_space.specs.Outcomes.{completed}
 use Rattle.bd_uapi.specs.Kinds.{is_own}
 use Rattle.bd_space.specs.Delivery.{Delivery, delivered, own_notices, add_buffer, known_by, refer, make_objects, buffer_references, withdraw_notice}
-use Rattle.bd_space.specs.Transactions.{transacted, called, call_out, refusal}
-use Rattle.bd_space.specs.Replies.{replied, reply_refused}
+use Rattle.bd_space.specs.Transactions.{transacted, called, call_out}
+use Rattle.bd_space.specs.Replies.{replied}
 use Rattle.bd_space.specs.Freeing.{without_buffer}
 use Rattle.bd_space.specs.Asking.{ask, drop_asked, acknowledge}
 use Rattle.bd_space.specs.Deaths.{request_check, request_note, requested, with_death, without_death, with_phase, is_notification, owner_lives_in}
@@ -58,15 +54,10 @@ use Rattle.bd_laws.proofs.Tests.{both, and-both, same-eq, eq-same, not-true, and
 use Rattle.bd_laws.proofs.Sendings.{named-has}
 use Rattle.bd_laws.proofs.Untouched.{tell_deaths-untouched}
 use Rattle.bd_laws.proofs.Homes.{one-thread}
-use Rattle.bd_laws.proofs.EveryEnding.{Endings, every_ending_step}
+use Rattle.bd_laws.proofs.Adding.{notify-keeps, ripen-keeps}
+use Rattle.bd_laws.proofs.EveryStep.{Keeps, every_step}
 use Rattle.bd_laws.proofs.Follow.{find-kept}
-use Rattle.bd_laws.proofs.Identities.{Below, Numbered, fresh-numbered, push-numbered, filter-numbered, numbered-distinct}
-
--- after it, but for the count of steps
-record After (n : ℕ) (z : Space) : Type 0 where
-  steps : z.steps ≡ n
-  below : Below n z.todo
-  distinct : Distinct z.todo
+use Rattle.bd_laws.proofs.Identities.{Numbered, fresh-numbered, push-numbered, filter-numbered, numbered-distinct}
 
 -- ---- this step's items are numbered, and none goes
 
@@ -90,11 +81,14 @@ fresh-mid s z h e f = record {
   due = λ w l at. let lt = h.fresh w (subst (In w) f l) in absurd (omega arith);
 }
 
+numbers : (n place : ℕ) (todo : List Work) (list : TodoList) (kind : WorkKind) → place ≡ n → Numbered n todo → Numbered n (with_work place todo list kind)
+numbers n place todo list kind e h = subst (λ m. Numbered n (with_work m todo list kind)) (sym e) (push-numbered n todo list kind h)
+
 mid-owe : (n : ℕ) (z : Space) (list : TodoList) (kind : WorkKind) → Due z kind → Mid n z → Mid n (owe z list kind)
 unfolding owe deaths_go objects_go names_go
 mid-owe n z list kind d h = record {
   steps = h.steps;
-  todo = subst (λ m. Numbered n (with_work m z.todo list kind)) (sym h.steps) (push-numbered n z.todo list kind h.todo);
+  todo = numbers n z.steps z.todo list kind h.steps h.todo;
   due = λ w l e. elim (in-push w _ z.todo l) [
     | inl i ↦ h.due w i e
     | inr is ↦ (let same_kind : kind ≡ w.kind = ap (λ (v : Work). v.kind) is in subst (Due z) same_kind d)
@@ -105,29 +99,15 @@ mid-owe n z list kind d h = record {
 ripens-mid : (n : ℕ) (z : Space) → Mid n z → Mid n (ripen z)
 unfolding ripen deaths_go objects_go names_go
 ripens-mid n z h =
-    let k = all (turns_of z.buffers) [] z.todo h.todo h.due in
-    record { steps = h.steps; todo = k.0; due = k.1 }
-  where
-    P : List Work → Type 0
-    P todo = Numbered n todo × ((w : Work) → In w todo → w.id.place ≡ n → Due z w.kind)
-
-    one : (b : Bool) (todo : List Work) (t : Turn) → P todo → P (cond b (with_work z.steps todo (OfProcess t.receiver) (work.Call t.made)) todo)
-    one false todo t p = p
-    one true todo t p = (
-      subst (λ m. Numbered n (with_work m todo (OfProcess t.receiver) (work.Call t.made))) (sym h.steps) (push-numbered n todo (OfProcess t.receiver) (work.Call t.made) p.0),
+    let k = ripen-keeps (λ todo. Numbered n todo × ((w : Work) → In w todo → w.id.place ≡ n → Due z w.kind)) z (λ todo t p. (
+      numbers n z.steps todo (OfProcess t.receiver) (work.Call t.made) h.steps p.0,
       λ w l e. elim (in-push w _ todo l) [ inl i ↦ p.1 w i e | inr is ↦ (let same_kind : work.Call t.made ≡ w.kind = ap (λ (v : Work). v.kind) is in subst (Due z) same_kind refl) ],
-    )
-
-    all : (ts older : List Turn) (todo : List Work) → Numbered n todo → ((w : Work) → In w todo → w.id.place ≡ n → Due z w.kind) → P (ripened z.steps older todo ts)
-    all [] older todo a b = (a, b)
-    all (t ∷ ts) older todo a b = let p = one (is_ripe todo older t) todo t (a, b) in all ts (older ++ t ∷ []) _ p.0 p.1
+    )) (h.todo, h.due) in
+    record { steps = h.steps; todo = k.0; due = k.1 }
 
 record Owing (n : ℕ) (z : Space) : Type 0 where
   steps : z.steps ≡ n
   todo : Numbered n z.todo
-
-owing-after : (n : ℕ) (z : Space) → Owing n z → After n z
-owing-after n z h = record { steps = h.steps; below = h.todo.below; distinct = numbered-distinct n z.todo h.todo }
 
 now-owing : (s : Space) → Told s → Owing s.steps s
 now-owing s h = record { steps = refl; todo = fresh-numbered s.steps s.todo h.fresh h.distinct }
@@ -137,27 +117,11 @@ same-owing s z h e f = record { steps = e; todo = subst (Numbered s.steps) (sym 
 
 owe-owing : (n : ℕ) (z : Space) (list : TodoList) (kind : WorkKind) → Owing n z → Owing n (owe z list kind)
 unfolding owe
-owe-owing n z list kind h = record { steps = h.steps; todo = subst (λ m. Numbered n (with_work m z.todo list kind)) (sym h.steps) (push-numbered n z.todo list kind h.todo) }
-
-told-owing : (n : ℕ) (z : Space) (caller : Option ℕ) (kind : WorkKind) → Owing n z → Owing n (elim caller as (λ (o : Option ℕ). Space) [ None ↦ z | Some t ↦ owe z (OfThread t) kind ])
-told-owing n z None kind h = h
-told-owing n z (Some t) kind h = owe-owing n z (OfThread t) kind h
+owe-owing n z list kind h = record { steps = h.steps; todo = numbers n z.steps z.todo list kind h.steps h.todo }
 
 closed-owing : (n : ℕ) (z : Space) (made : ℕ) → Owing n z → Owing n (closed z made)
 unfolding closed
 closed-owing n z made h = record { steps = h.steps; todo = h.todo }
-
-settles-owing : (n m : ℕ) (z : Space) → Owing n z → Owing n (settle_times m z)
-settles-owing n zero z h = h
-settles-owing n (suc m) z h = at (find (is_abandoned (settle_times m z).frames) (settle_times m z).frames) (settles-owing n m z h)
-  where
-    at : (o : Option Frame) → Owing n (settle_times m z) → Owing n (settle_one (settle_times m z) o)
-    at None k = k
-    at (Some f) k = told-owing n _ f.caller (work.Verdict DeadReply) (closed-owing n (settle_times m z) f.made k)
-
-settle-owing : (n : ℕ) (z : Space) → Owing n z → Owing n (settle z)
-unfolding settle
-settle-owing n z h = settles-owing n (length z.frames) z h
 
 follow-owing : (n : ℕ) (z : Space) → Mid n z → Owing n (follow z)
 unfolding follow notify work_goes deaths_go objects_go names_go
@@ -165,18 +129,9 @@ follow-owing n z h =
     let y = deaths_go (objects_go (names_go z)) in
     record {
       steps = h.steps;
-      todo = fold-keeps (Numbered n) (λ todo (x : Object). with_notice z.steps z.processes z.references (OfProcess x.owner) todo x) y.objects
-          (λ todo x l k. at x todo k (wants_notice z.processes z.references x && not (has_notice_in todo x.id))) _
+      todo = notify-keeps (Numbered n) (work_goes y) (λ todo x l due k. numbers n z.steps todo (OfProcess x.owner) (work.Notice x.id) h.steps k)
           (filter-numbered n z.todo (λ (w : Work). still_due y.processes y.objects y.references y.deaths w.kind) h.due h.todo);
     }
-  where
-    at : (x : Object) (todo : List Work) → Numbered n todo → (b : Bool) → Numbered n (cond b (with_work z.steps todo (OfProcess x.owner) (work.Notice x.id)) todo)
-    at x todo k false = k
-    at x todo k true = subst (λ m. Numbered n (with_work m todo (OfProcess x.owner) (work.Notice x.id))) (sym h.steps) (push-numbered n todo (OfProcess x.owner) (work.Notice x.id) k)
-
-completes-after : (n : ℕ) (z : Space) → Mid n z → After n (completed z)
-unfolding completed settle
-completes-after n z h = owing-after n _ (settles-owing n (length (follow (ripen z)).frames) (follow (ripen z)) (follow-owing n (ripen z) (ripens-mid n z h)))
 
 -- ---- what is sent
 
@@ -390,21 +345,13 @@ managed-owing : (s : Space) (p : ℕ) → Told s → Owing s.steps (with_manager
 unfolding with_manager
 managed-owing s p h = same-owing s _ h refl refl
 
-fails-owing : (s : Space) (t : ℕ) (f : Frame) → Told s → Owing s.steps (reply_refused s t f)
-unfolding reply_refused
-fails-owing s t f h =
-    told-owing s.steps _ f.caller (work.Verdict FailedReply)
-    (closed-owing s.steps _ f.made (owe-owing s.steps s (OfThread t) (work.Refusal TransactionComplete) (now-owing s h)))
-
 -- ---- a process ends: each Death that this makes stays due
 
 -- p asked for the reference that a name rests on, or received it in its window
 names-for : (q : ℕ) (h : Holder) → names_for q h ≡ true → (h ≡ Asked q) ⊎ ((b : ℕ) × (h ≡ Carried b q))
 names-for q (Asked r) e = inl (ap (λ n. Asked n) (eqb-true r q e))
 names-for q (Carried b r) e = inr (b, ap (λ n. Carried b n) (eqb-true r q e))
-names-for q (Target b r) e = absurd (cc)
-names-for q Handshake e = absurd (cc)
-names-for q Manager e = absurd (cc)
+names-for q _ e = absurd (cc)
 
 not-eq : (a b : ℕ) → (a ≡ b → ⊥) → (a == b) ≡ false
 not-eq a b k = at (a == b) refl
@@ -554,7 +501,7 @@ module _ (s : Space) (p : ℕ) (h : Told s) (quiet : IsQuiet s) (home : AtHome s
       at false = k
       at true = record {
         steps = k.steps;
-        todo = subst (λ m. Numbered s.steps (with_work m z.todo (OfProcess x.process) (work.Death x.made))) (sym k.steps) (push-numbered s.steps z.todo (OfProcess x.process) (work.Death x.made) k.todo);
+        todo = numbers s.steps z.steps z.todo (OfProcess x.process) (work.Death x.made) k.steps k.todo;
         due = λ w m e. elim (in-push w _ z.todo m) [
           | inl i ↦ k.due w i e
           | inr is ↦ (x, l, sym (ap (λ (v : Work). v.kind) is))
@@ -600,44 +547,53 @@ module _ (s : Space) (p : ℕ) (h : Told s) (quiet : IsQuiet s) (home : AtHome s
   ends-mid : Mid s.steps (tell_deaths rest p)
   ends-mid = record { steps = all-told.steps; todo = all-told.todo; due = ends-due }
 
-step-after : (s : Space) (seat : ℕ) (x : Step) → Told s → IsQuiet s → AtHome s → Endings s seat x (Mid s.steps) (After s.steps)
+step-owing : (s : Space) (seat : ℕ) (x : Step) → Told s → IsQuiet s → AtHome s → Keeps s seat x (Mid s.steps) (Owing s.steps)
 unfolding without_buffer ask assign_numbers drop_asked acknowledge with_looping
-step-after s seat x h quiet home =
-    let owing = λ (z : Space) (k : Owing s.steps z). owing-after s.steps z k in
+step-owing s seat x h quiet home =
     record {
-      same = owing s (now-owing s h);
-      opened = λ pid euid window free. owing _ (opened-owing s seat pid euid window h);
-      attached = λ p free. owing _ (attached-owing s seat p h);
-      managed = λ a e b. owing _ (managed-owing s a.process.made h);
-      transacts = λ a d parcel v e i t. transacts-mid s a d v h;
-      replies = λ a d parcel f v e i g t. replies-mid s a d f v h;
-      frees = λ p ptr b e t. fresh-mid s _ h refl refl;
-      asks = λ a n strong o e i t. fresh-mid s _ h refl refl;
-      drops = λ p o strong. fresh-mid s _ h refl refl;
-      acknowledges = λ o strong i. fresh-mid s _ h refl refl;
-      loops = λ t looping. fresh-mid s _ h refl refl;
-      requests = λ p n cookie o e. requests-mid s p n cookie o h quiet e;
-      clears = λ t y. clears-mid s t y h;
-      dones = λ t p cookie y e. dones-mid s t y h;
-      completes = λ z m. completes-after s.steps z m;
-      refuses = λ t c. owing _ (settle-owing s.steps _ (owe-owing s.steps s (OfThread t) (work.Refusal (refusal c)) (now-owing s h)));
-      fails = λ a d parcel f e i g. owing _ (settle-owing s.steps _ (fails-owing s a.thread.seat f h));
-      reads = λ a limit e i n. owing _ (follow-owing s.steps _ (reads-mid s a.thread.seat _ h));
-      leaves = λ a e. owing _ (settle-owing s.steps _ (follow-owing s.steps _ (leaves-mid s a.thread.seat h)));
-      ends = λ a e. owing _ (settle-owing s.steps _ (follow-owing s.steps _ (ends-mid s a.process.made h quiet home)));
+      set_up = record {
+        same = now-owing s h;
+        opened = λ pid euid window free. opened-owing s seat pid euid window h;
+        attached = λ p free. attached-owing s seat p h;
+        managed = λ a e b. managed-owing s a.process.made h;
+      };
+      changes = record {
+        transacts = λ a d parcel v e i t. transacts-mid s a d v h;
+        replies = λ a d parcel f v e i g t. replies-mid s a d f v h;
+        frees = λ p ptr b e t. fresh-mid s _ h refl refl;
+        asks = λ a n strong o e i t. fresh-mid s _ h refl refl;
+        drops = λ p o strong. fresh-mid s _ h refl refl;
+        acknowledges = λ o strong i. fresh-mid s _ h refl refl;
+        loops = λ t looping. fresh-mid s _ h refl refl;
+        on_deaths = record {
+          requests = λ p n cookie o e. requests-mid s p n cookie o h quiet e;
+          clears = λ t y. clears-mid s t y h;
+          dones = λ t p cookie y e. dones-mid s t y h;
+        };
+        reads = λ a limit e i n. reads-mid s a.thread.seat _ h;
+        leaves = λ a e. leaves-mid s a.thread.seat h;
+        ends = λ a e. ends-mid s a.process.made h quiet home;
+        ripens = ripens-mid s.steps;
+      };
+      follows = follow-owing s.steps;
+      closes = closed-owing s.steps;
+      refuses = λ z t r. owe-owing s.steps z (OfThread t) (work.Refusal r);
+      tells = λ z t r. owe-owing s.steps z (OfThread t) (work.Verdict r);
     }
 
-counted-told : (n : ℕ) (z : Space) → After n z → Told (counted z)
+counted-told : (n : ℕ) (z : Space) → Owing n z → Told (counted z)
 unfolding counted
-counted-told n z h = record { fresh = λ w l. let le = h.below w l in let e = h.steps in omega arith; distinct = h.distinct }
+counted-told n z h = record { fresh = λ w l. let le = h.todo.below w l in let e = h.steps in omega arith; distinct = numbered-distinct n z.todo h.todo }
+
+changed-owing : (s : Space) (e : Entry) → Told s → IsQuiet s → AtHome s → Owing s.steps (change s e.seat e.step).space
+changed-owing s e h quiet home = every_step s e.seat e.step (Mid s.steps) (Owing s.steps) (step-owing s e.seat e.step h quiet home)
 
 pub next-told : (s : Space) (e : Entry) → Told s → IsQuiet s → AtHome s → Told (next s e)
-next-told s e h quiet home =
-    counted-told s.steps (change s e.seat e.step).space (every_ending_step s e.seat e.step (Mid s.steps) (After s.steps) (step-after s e.seat e.step h quiet home))
+next-told s e h quiet home = counted-told s.steps (change s e.seat e.step).space (changed-owing s e h quiet home)
 
 pub opening-told : Told opening
 opening-told = record { fresh = λ w l. absurd l; distinct = λ v w l m same. absurd l }
 
 pub next-steps : (s : Space) (e : Entry) → Told s → IsQuiet s → AtHome s → (next s e).steps ≡ suc s.steps
 unfolding counted
-next-steps s e h quiet home = ap suc (every_ending_step s e.seat e.step (Mid s.steps) (After s.steps) (step-after s e.seat e.step h quiet home)).steps
+next-steps s e h quiet home = ap suc (changed-owing s e h quiet home).steps

@@ -1,5 +1,5 @@
 -- Objects stay in the space as long as anything refers to them, and no two have one identity.
-use Rattle.std.proofs.Common.{◌≡◌, ℕ, suc, ◌+◌, ◌==◌, Bool, true, false, cond, not, ◌&&◌, ◌||◌, List, [], ◌∷◌, ◌++◌, Option, Some, None, Ok, ◌⊎◌, inl, inr, refl, ap, sym, subst, ◌∙◌, map, filter, length, arith}
+use Rattle.std.proofs.Common.{◌≡◌, ℕ, suc, ◌+◌, ◌==◌, Bool, true, false, cond, not, ◌&&◌, ◌||◌, List, [], ◌∷◌, ◌++◌, Option, Some, None, Ok, ◌⊎◌, inl, inr, refl, ap, sym, subst, ◌∙◌, map, filter, arith}
 use Rattle.std.specs.List.{list_all, fold, flat_map}
 use Rattle.std.specs.Option.{is_some}
 use Rattle.bd_uapi.specs.declared.command.TransactionData.{TransactionData}
@@ -14,7 +14,6 @@ use Rattle.bd_space.specs.declared.space.Holder.TheVariants.{Asked, Manager}
 use Rattle.bd_space.specs.declared.space.Name.{Name}
 use Rattle.bd_space.specs.declared.space.Item.{Item}
 use Rattle.bd_space.specs.declared.space.Work.{Work}
-use Rattle.bd_space.specs.declared.space.WorkKind.{WorkKind}
 use Rattle.bd_space.specs.declared.space.WorkKind.TheVariants as work
 use Rattle.bd_space.specs.declared.space.TodoList.TheVariants.{OfThread}
 use Rattle.bd_space.specs.Words.{same, without_first}
@@ -28,13 +27,13 @@ use Rattle.bd_space.specs.Asking.{ask_check, ask, drop_asked, acknowledge}
 use Rattle.bd_space.specs.Freeing.{without_buffer}
 use Rattle.bd_space.specs.ThreadExits.{thread_goes, is_lost_reference}
 use Rattle.bd_space.specs.ProcessExits.{threads_go, without_process, is_dropped_with, manager_without, seat_of}
-use Rattle.bd_space.specs.ReadItems.{read_by, handshakes, handshakes_of, handshakes_for, shakes, told_objects, told_of, is_told_by}
+use Rattle.bd_space.specs.ReadItems.{read_by, handshakes, handshakes_for, shakes, told_objects, told_of, is_told_by}
 use Rattle.bd_space.specs.Returns.{returns_of, returns_of_object}
 use Rattle.bd_space.specs.Steps.{with_thread, with_process, with_manager}
 use Rattle.bd_laws.specs.Lists.{In, Pairs}
 use Rattle.bd_laws.specs.Objects.{Here, Differ, Kept, Named, KeptBefore}
 use Rattle.bd_laws.proofs.Lists.{in-left, in-append, in-last, in-filter, filter-in, in-without, without-in, in-changed, changed-in, any-found, any-in, all-in, find-in, find-some, pairs-filter, pairs-changed}
-use Rattle.bd_laws.proofs.Tests.{both, same-eq, eq-same}
+use Rattle.bd_laws.proofs.Tests.{both, same-eq, eq-same, notice-named}
 use Rattle.bd_space.specs.declared.step.Step.{Step}
 use Rattle.bd_space.specs.declared.step.Entry.{Entry}
 use Rattle.bd_space.specs.Space.{opening}
@@ -50,7 +49,8 @@ use Rattle.bd_laws.proofs.EveryStep.{Keeps, every_step, every_list}
 use Rattle.bd_laws.proofs.Checks.{transaction-checked, reply-checked, asked-checked}
 use Rattle.bd_laws.proofs.Untouched.{Untouched, owe-untouched, told-untouched, called-untouched, closed-untouched, ripen-untouched, notify-untouched, work_goes-untouched, deaths_go-untouched, with_looping-untouched, on_deaths-untouched, tell_deaths-untouched}
 use Rattle.bd_laws.proofs.Sendings.{HasName, Sent, Sends, sending-sends}
-use Rattle.bd_laws.proofs.Deaths.{on-mapped}
+use Rattle.bd_laws.proofs.Deaths.{on-mapped, on-commands}
+use Rattle.bd_laws.proofs.Handshakes.{for-object, shaken-by}
 
 abbrev pub IsKept : Space → Type 0
 IsKept z = Kept (suc z.steps) z.manager z.objects z.references
@@ -290,31 +290,14 @@ no-object : (s : Space) (references : List Reference) (o : ObjectId) (found : Op
 no-object s references o None n k r e l = absurd l
 no-object s references o (Some x) n k r e l =
     let f = find-in (λ (y : Object). same y.id o) x s.objects e in
-    (x, f.0, same-eq x.id o f.1 ∙ sym (handshake-object (flat_map shakes (returns_of_object references (Some x))) n k r l))
-  where
-    handshake-object : (bs : List Bool) (n k : ℕ) (r : Reference) → In r (handshakes_for n k o bs) → r.object ≡ o
-    handshake-object [] n k r l = absurd l
-    handshake-object (b ∷ bs) n k r (inl e) = sym (ap (λ (y : Reference). y.object) e)
-    handshake-object (b ∷ bs) n k r (inr l) = handshake-object bs n (k + 1) r l
-
-handshake-here : (s : Space) (k : ℕ) (kind : WorkKind) (r : Reference) → In r (handshakes_of s k kind) → Here s.objects r.object
-unfolding returns_of
-handshake-here s k (work.Notice o) r l = no-object s s.references o (object_in s.objects o) s.steps k r refl l
-handshake-here s k work.Complete r l = absurd l
-handshake-here s k (work.Refusal x) r l = absurd l
-handshake-here s k (work.Call b) r l = absurd l
-handshake-here s k (work.Reply b) r l = absurd l
-handshake-here s k (work.Verdict x) r l = absurd l
-handshake-here s k (work.Death n) r l = absurd l
-handshake-here s k (work.Cleared n) r l = absurd l
+    (x, f.0, same-eq x.id o f.1 ∙ sym (for-object n k o (flat_map shakes (returns_of_object references (Some x))) r l))
 
 handshakes-here : (s : Space) (ws : List Work) (k : ℕ) (r : Reference) → In r (handshakes s k ws) → Here s.objects r.object
-handshakes-here s [] k r l = absurd l
-handshakes-here s (w ∷ ws) k r l =
-    elim (in-append r (handshakes_of s k w.kind) (handshakes s (k + length (handshakes_of s k w.kind)) ws) l) [
-      | inl i ↦ handshake-here s k w.kind r i
-      | inr i ↦ handshakes-here s ws (k + length (handshakes_of s k w.kind)) r i
-    ]
+unfolding returns_of
+handshakes-here s ws k r l =
+    let x = shaken-by s ws k r l in
+    no-object s s.references x.object (object_in s.objects x.object) s.steps x.number r refl
+    (subst (λ kind. In r (handshakes_for s.steps x.number x.object (flat_map shakes (returns_of s kind)))) (notice-named x.item.kind x.object x.tells) x.shakes_for)
 
 pub told-id : (references : List Reference) (b : Bool) (x : Object) → (cond b (told_of references x) x).id ≡ x.id
 told-id references true x = refl
@@ -394,10 +377,12 @@ pub kept-step : (s : Space) (seat : ℕ) (x : Step) → KeptBefore s → Keeps s
 kept-step s seat x h =
     let now = later s h in
     record {
-      same = now;
-      opened = λ pid euid window. opened-kept s seat pid euid window now;
-      attached = λ p. attached-kept s seat p now;
-      managed = λ a e b. managed-kept s a.process.made h;
+      set_up = record {
+        same = now;
+        opened = λ pid euid window free. opened-kept s seat pid euid window now;
+        attached = λ p free. attached-kept s seat p now;
+        managed = λ a e b. managed-kept s a.process.made h;
+      };
       changes = record {
         transacts = λ a d parcel v e i t. transacted-kept s a d parcel v h t;
         replies = λ a d parcel f v e i g t. replied-kept s a d parcel f v h t;
@@ -406,7 +391,7 @@ kept-step s seat x h =
         drops = λ p o strong. drop_asked-kept s p o strong now.kept;
         acknowledges = λ o strong i. acknowledge-kept s o strong now.kept;
         loops = λ t looping. kept-untouched _ s (with_looping-untouched s t looping) now.kept;
-        on_deaths = on-mapped s _ _ (λ y k. kept-untouched y s k now.kept) (on_deaths-untouched s);
+        on_deaths = on-commands s _ (on-mapped s _ _ (λ y k. kept-untouched y s k now.kept) (on_deaths-untouched s));
         reads = λ a limit e i n. read-kept s a.thread.seat _ now.kept;
         leaves = λ a e. thread_goes-kept s a.thread.seat now.kept;
         ends = λ a e. kept-untouched _ (without_process (threads_go s a.process.made) a.process.made) (tell_deaths-untouched (without_process (threads_go s a.process.made) a.process.made) a.process.made)

@@ -1,10 +1,7 @@
 -- One-way calls whose buffers live: a buffer that is due or handed out has no older rival.
-use Rattle.std.proofs.Common.{◌≡◌, ℕ, suc, ◌≤◌, ◌==◌, Bool, true, false, cond, not, List, [], ◌∷◌, ◌++◌, Option, Some, None, ◌⊎◌, inl, inr, refl, ap, sym, subst, ◌∙◌, map, filter, arith}
+use Rattle.std.proofs.Common.{◌≡◌, ℕ, suc, ◌≤◌, ◌==◌, Bool, true, false, not, List, [], ◌∷◌, ◌++◌, Option, Some, None, ◌⊎◌, inl, inr, refl, ap, sym, subst, ◌∙◌, filter, arith}
 use Rattle.std.specs.List.{fold}
 use Rattle.bd_space.specs.declared.step.ObjectId.{ObjectId}
-use Rattle.bd_space.specs.declared.space.Object.{Object}
-use Rattle.bd_space.specs.declared.space.Process.{Process}
-use Rattle.bd_space.specs.declared.space.Reference.{Reference}
 use Rattle.bd_space.specs.declared.space.Buffer.{Buffer}
 use Rattle.bd_space.specs.declared.space.Work.{Work}
 use Rattle.bd_space.specs.declared.space.Item.{Item}
@@ -12,24 +9,22 @@ use Rattle.bd_space.specs.declared.space.TodoList.{TodoList}
 use Rattle.bd_space.specs.declared.space.WorkKind.{WorkKind}
 use Rattle.bd_space.specs.declared.space.WorkKind.TheVariants as work
 use Rattle.bd_space.specs.Space.{Space}
-use Rattle.bd_space.specs.Todo.{with_work, hands_out, owe, is_on}
+use Rattle.bd_space.specs.Todo.{with_work, hands_out, owe, is_on, is_notice}
 use Rattle.bd_space.specs.Turns.{turn_of}
-use Rattle.bd_space.specs.Notices.{with_notice, follow, notify, work_goes, deaths_go, still_due}
+use Rattle.bd_space.specs.Notices.{follow, notify, work_goes, deaths_go, still_due}
 use Rattle.bd_space.specs.Names.{names_go, assign_numbers}
 use Rattle.bd_space.specs.declared.space.Actor.{Actor}
 use Rattle.bd_space.specs.declared.space.Frame.{Frame}
 use Rattle.bd_space.specs.declared.space.TodoList.TheVariants.{OfThread, OfProcess}
 use Rattle.bd_uapi.specs.declared.command.TransactionData.{TransactionData}
 use Rattle.bd_space.specs.Frames.{goes_to, closed}
-use Rattle.bd_uapi.specs.Kinds.{is_own}
 use Rattle.bd_space.specs.Delivery.{Delivery, delivered, own_notices, add_buffer, known_by, refer, make_objects, buffer_of, add_notice, withdraw_notice}
 use Rattle.bd_space.specs.Transactions.{transacted, called, call_out}
 use Rattle.bd_space.specs.Replies.{replied}
-use Rattle.bd_space.specs.References.{objects_go, object_in}
-use Rattle.bd_space.specs.declared.space.Thread.{Thread}
+use Rattle.bd_space.specs.References.{objects_go}
 use Rattle.bd_space.specs.Freeing.{without_buffer, is_made_at}
 use Rattle.bd_space.specs.ThreadExits.{thread_goes, is_lost_with}
-use Rattle.bd_space.specs.ProcessExits.{threads_go, without_process, tell_deaths, seat_of}
+use Rattle.bd_space.specs.ProcessExits.{threads_go, without_process, tell_deaths}
 use Rattle.bd_space.specs.Steps.{with_thread, with_process, with_manager}
 use Rattle.bd_space.specs.Asking.{ask, drop_asked, acknowledge}
 use Rattle.bd_space.specs.Commands.{with_looping}
@@ -37,6 +32,8 @@ use Rattle.bd_laws.specs.Lists.{In, Pairs}
 use Rattle.bd_laws.specs.OneWayCalls.{Due, Waits, InTurn}
 use Rattle.bd_laws.proofs.Lists.{in-push, in-filter, pairs-map, pairs-filter, pairs-push}
 use Rattle.bd_laws.proofs.Deaths.{OnDeaths, KeptOnDeaths, on-kept, on-told}
+use Rattle.bd_laws.proofs.Adding.{notify-keeps, own_notices-keeps}
+use Rattle.bd_laws.proofs.Following.{follow-by, ends-by, threads-by}
 
 -- ---- a space with no more buffers, and no more that are due
 
@@ -91,21 +88,6 @@ pub owe-less : (z : Space) (list : TodoList) (kind : WorkKind) → hands_out kin
 unfolding owe
 owe-less z list kind none = less-same _ z refl refl (with_work-less z.steps z.todo list kind none)
 
-noticed : (place : ℕ) (todo : List Work) (list : TodoList) (x : ObjectId) (b : Bool)
-    → (w : Work) (m : ℕ) → In w (cond b (with_work place todo list (work.Notice x)) todo) → hands_out w.kind ≡ Some m → In w todo
-noticed place todo list x true = with_work-less place todo list (work.Notice x) refl
-noticed place todo list x false = λ w m l e. l
-
-pub with_notice-less : (place : ℕ) (processes : List Process) (references : List Reference) (list : TodoList) (todo : List Work) (x : Object)
-    → (w : Work) (m : ℕ) → In w (with_notice place processes references list todo x) → hands_out w.kind ≡ Some m → In w todo
-with_notice-less place processes references list todo x = noticed place todo list x.id _
-
--- steps over a list, of which each adds nothing that hands over
-pub fold-less : {A : Type 0} (f : List Work → A → List Work) → ((todo : List Work) (x : A) (w : Work) (m : ℕ) → In w (f todo x) → hands_out w.kind ≡ Some m → In w todo)
-    → (xs : List A) (todo : List Work) (w : Work) (m : ℕ) → In w (fold f todo xs) → hands_out w.kind ≡ Some m → In w todo
-fold-less f k [] todo w m l e = l
-fold-less f k (x ∷ xs) todo w m l e = k todo x w m (fold-less f k xs (f todo x) w m l e) e
-
 same-less : (z y : Space) → z.steps ≡ y.steps → z.buffers ≡ y.buffers → z.todo ≡ y.todo → Less z y
 same-less z y e d k = less-same z y e d (λ w m l f. subst (In w) k l)
 
@@ -125,20 +107,19 @@ pub work_goes-less : (z : Space) → Less (work_goes z) z
 unfolding work_goes
 work_goes-less z = less-same _ z refl refl (λ w m l e. (in-filter (λ (w : Work). still_due z.processes z.objects z.references z.deaths w.kind) w z.todo l).0)
 
+-- what still hands over was there
+abbrev Fewer : List Work → List Work → Type 0
+Fewer less todo = (w : Work) (m : ℕ) → In w less → hands_out w.kind ≡ Some m → In w todo
+
+fewer-push : (place : ℕ) (all todo : List Work) (list : TodoList) (kind : WorkKind) → hands_out kind ≡ None → Fewer todo all → Fewer (with_work place todo list kind) all
+fewer-push place all todo list kind none k w m l e = k w m (with_work-less place todo list kind none w m l e) e
+
 pub notify-less : (z : Space) → Less (notify z) z
 unfolding notify
-notify-less z =
-    less-same _ z refl refl
-    (fold-less (λ todo (x : Object). with_notice z.steps z.processes z.references (OfProcess x.owner) todo x) (λ todo x. with_notice-less z.steps z.processes z.references (OfProcess x.owner) todo x) z.objects z.todo)
+notify-less z = less-same _ z refl refl (notify-keeps (λ todo. Fewer todo z.todo) z (λ todo x l due. fewer-push z.steps z.todo todo (OfProcess x.owner) (work.Notice x.id) refl) (λ w m l e. l))
 
 pub follow-less : (z : Space) → Less (follow z) z
-unfolding follow
-follow-less z =
-    let a = names_go z in
-    let b = objects_go a in
-    let c = deaths_go b in
-    let d = work_goes c in
-    less-trans (notify d) d z (notify-less d) (less-trans d c z (work_goes-less c) (less-trans c b z (deaths_go-less b) (less-trans b a z (objects_go-less a) (names_go-less z))))
+follow-less = follow-by Less less-trans (record { names = names_go-less; objects = objects_go-less; deaths = deaths_go-less; work = work_goes-less; notices = notify-less })
 
 -- ---- a new buffer
 
@@ -184,21 +165,12 @@ in_turn-other place n bs todo list kind hands none h = record {
 
 -- ---- transactions and replies
 
-withdrawn : (b : Bool) (p : Work → Bool) (todo : List Work) (w : Work) → In w (cond b (filter p todo) todo) → In w todo
-withdrawn true p todo w l = (in-filter p w todo l).0
-withdrawn false p todo w l = l
-
-added : (place : ℕ) (processes : List Process) (references : List Reference) (list : TodoList) (todo : List Work) (own : Bool) (o : Option Object) (w : Work) (m : ℕ)
-    → In w (cond own (elim o as (λ (x : Option Object). List Work) [ None ↦ todo | Some x ↦ with_notice place processes references list todo x ]) todo) → hands_out w.kind ≡ Some m → In w todo
-added place processes references list todo false o w m l e = l
-added place processes references list todo true None w m l e = l
-added place processes references list todo true (Some x) w m l e = with_notice-less place processes references list todo x w m l e
-
 pub own_notices-less : (z : Space) (seat : ℕ) (items : List Item) (w : Work) (m : ℕ)
     → In w (fold (add_notice z seat) (fold (withdraw_notice z.objects) z.todo items) items) → hands_out w.kind ≡ Some m → In w z.todo
-own_notices-less z seat items w m l e =
-    fold-less (withdraw_notice z.objects) (λ todo x v i j f. withdrawn _ _ todo v j) items z.todo w m
-    (fold-less (add_notice z seat) (λ todo x v i j f. added z.steps z.processes z.references (OfThread seat) todo (is_own x.flat.kind) (object_in z.objects x.object) v i j f) items _ w m l e) e
+unfolding own_notices
+own_notices-less z seat items =
+    own_notices-keeps (λ todo. Fewer todo z.todo) z seat items (λ todo o k w m l. k w m (in-filter (λ (w : Work). not (is_notice o w.kind)) w todo l).0)
+    (λ todo o due. fewer-push z.steps z.todo todo (OfThread seat) (work.Notice o.id) refl) (λ w m l e. l)
 
 pub delivered-in_turn : (s : Space) (a : Actor) (d : TransactionData) (v : Delivery) → InTurn s.steps s.buffers s.todo
     → InTurn (suc (delivered s a d v).steps) (delivered s a d v).buffers (delivered s a d v).todo
@@ -293,13 +265,8 @@ thread_goes-less z seat =
     filtered-less _ z (λ (b : Buffer). not (is_lost_with z.todo (OfThread seat) b.made)) refl refl
     (λ w m l e. (in-filter (λ (x : Work). not (is_on (OfThread seat) x)) w z.todo l).0)
 
-each-goes : (seats : List ℕ) (z : Space) → Less (fold thread_goes z seats) z
-each-goes [] z = less-refl z
-each-goes (t ∷ ts) z = less-trans _ (thread_goes z t) z (each-goes ts (thread_goes z t)) (thread_goes-less z t)
-
 pub threads_go-less : (z : Space) (p : ℕ) → Less (threads_go z p) z
-unfolding threads_go
-threads_go-less z p = each-goes (map seat_of (filter (λ (t : Thread). t.process == p) z.threads)) z
+threads_go-less = threads-by Less less-refl less-trans thread_goes-less
 
 pub without_process-less : (z : Space) (p : ℕ) → Less (without_process z p) z
 unfolding without_process
@@ -321,10 +288,7 @@ pub tell_deaths-less : (z : Space) (p : ℕ) → Less (tell_deaths z p) z
 tell_deaths-less z p = on-told _ (kept-on_deaths z) z p (less-refl z)
 
 pub ends-less : (z : Space) (p : ℕ) → Less (tell_deaths (without_process (threads_go z p) p) p) z
-ends-less z p =
-    let a = threads_go z p in
-    let b = without_process a p in
-    less-trans (tell_deaths b p) b z (tell_deaths-less b p) (less-trans b a z (without_process-less a p) (threads_go-less z p))
+ends-less = ends-by Less less-trans threads_go-less without_process-less tell_deaths-less
 
 -- ---- what changes neither
 

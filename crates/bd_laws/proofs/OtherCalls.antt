@@ -1,10 +1,9 @@
 -- No thread is to read a call of its own.
-use Rattle.std.proofs.Common.{◌≡◌, ℕ, zero, suc, ◌<◌, ◌==◌, Bool, true, false, cond, not, ◌&&◌, List, [], ◌∷◌, ◌++◌, Option, Some, None, Ok, inl, inr, refl, ap, sym, subst, ◌∙◌, filter, find, map, length, arith}
+use Rattle.std.proofs.Common.{◌≡◌, ℕ, ◌<◌, ◌==◌, Bool, true, false, cond, not, ◌&&◌, List, Option, Some, None, Ok, inl, inr, refl, ap, sym, subst, ◌∙◌, arith}
 use Rattle.std.specs.List.{list_any}
 use Rattle.std.proofs.lemmas.Option.{option_and_then_some}
 use Rattle.std.proofs.lemmas.Bool.{eqb-true, eq-eqb}
 use Rattle.bd_uapi.specs.declared.command.TransactionData.{TransactionData}
-use Rattle.bd_uapi.specs.declared.command.Return.TheVariants.{DeadReply, FailedReply, TransactionComplete}
 use Rattle.bd_uapi.specs.declared.fault.Cause.TheVariants.{NoManager, OwnManager, NotStronglyNamed}
 use Rattle.bd_space.specs.declared.step.ObjectId.{ObjectId}
 use Rattle.bd_space.specs.declared.step.Parcel.{Parcel}
@@ -14,7 +13,6 @@ use Rattle.bd_space.specs.declared.space.Process.{Process}
 use Rattle.bd_space.specs.declared.space.Thread.{Thread}
 use Rattle.bd_space.specs.declared.space.Object.{Object}
 use Rattle.bd_space.specs.declared.space.Frame.{Frame}
-use Rattle.bd_space.specs.declared.space.Turn.{Turn}
 use Rattle.bd_space.specs.declared.space.Actor.{Actor}
 use Rattle.bd_space.specs.declared.space.Work.{Work}
 use Rattle.bd_space.specs.declared.space.TodoList.{TodoList}
@@ -27,35 +25,35 @@ use Rattle.bd_space.specs.Seats.{actor}
 use Rattle.bd_space.specs.References.{owned_in, objects_go}
 use Rattle.bd_space.specs.Names.{names_go, assign_numbers, named_in, strongly_named, if_strongly_named}
 use Rattle.bd_space.specs.Frames.{closed, goes_to, is_frame}
-use Rattle.bd_space.specs.Todo.{with_work, owe, hands_out, is_on, is_call}
-use Rattle.bd_space.specs.Turns.{turns_of, is_ripe, ripened, ripen}
+use Rattle.bd_space.specs.Todo.{owe, hands_out, is_on, is_call}
+use Rattle.bd_space.specs.Turns.{ripen}
 use Rattle.bd_space.specs.Notices.{deaths_go, work_goes, notify, follow}
-use Rattle.bd_space.specs.Settle.{settle, settle_one, settle_times, is_abandoned}
-use Rattle.bd_space.specs.Outcomes.{completed}
 use Rattle.bd_space.specs.Delivery.{Delivery, delivered, own_notices, add_buffer, known_by, refer, make_objects}
-use Rattle.bd_space.specs.Transactions.{transaction_check, transacted, called, call_out, refusal, target_of, not_own, handle_of}
-use Rattle.bd_space.specs.Replies.{replied, reply_refused}
+use Rattle.bd_space.specs.Transactions.{transaction_check, transacted, called, call_out, target_of, not_own, handle_of}
+use Rattle.bd_space.specs.Replies.{replied}
 use Rattle.bd_space.specs.Freeing.{without_buffer}
 use Rattle.bd_space.specs.Asking.{ask, drop_asked, acknowledge}
 use Rattle.bd_space.specs.Commands.{with_looping}
 use Rattle.bd_space.specs.ReadItems.{read_by, serve}
 use Rattle.bd_space.specs.ThreadExits.{thread_goes, frame_without, unread_frame}
-use Rattle.bd_space.specs.ProcessExits.{threads_go, without_process, seat_of}
+use Rattle.bd_space.specs.ProcessExits.{threads_go, without_process}
 use Rattle.bd_space.specs.Steps.{counted, with_thread, with_process, with_manager}
 use Rattle.bd_space.specs.Histories.{next}
 use Rattle.bd_laws.specs.Lists.{In}
 use Rattle.bd_laws.specs.OneWayCalls.{IsInTurn}
 use Rattle.bd_laws.specs.Items.{AtHome}
 use Rattle.bd_laws.specs.Frames.{OfOthers}
-use Rattle.bd_laws.proofs.Lists.{in-push, in-filter, in-map, in-changed, find-in, any-in, fold-keeps}
+use Rattle.bd_laws.proofs.Lists.{in-push, in-filter, in-map, in-changed, find-in, any-in}
 use Rattle.bd_laws.proofs.Tests.{both, and-both, not-true, eq-same, and_then-ok, found-ok, unless-ok, when-none}
 use Rattle.bd_laws.proofs.Checks.{actor-lives, transaction-checked}
 use Rattle.bd_laws.proofs.OneWay as one_way
-use Rattle.bd_laws.proofs.OneWay.{Less, with_work-less}
-use Rattle.bd_laws.proofs.Deaths.{KeptOnDeaths, on-kept, on-told, on-requested, on-cleared, on-done}
-use Rattle.bd_laws.proofs.EveryEnding.{Endings, every_ending_step}
+use Rattle.bd_laws.proofs.OneWay.{Less}
+use Rattle.bd_laws.proofs.Deaths.{KeptOnDeaths, on-kept, on-told, on-commands}
+use Rattle.bd_laws.proofs.EveryStep.{Keeps, every_step}
+use Rattle.bd_laws.proofs.Adding.{told-keeps, ripen-keeps}
 use Rattle.bd_laws.proofs.PathWords.{caller-stays}
 use Rattle.bd_laws.proofs.Homes.{one-thread, goes-home, sent-due, sent-steps, sent-threads}
+use Rattle.bd_laws.proofs.Following.{threads-keep}
 
 -- threads' lists have no further call, and frames keep their callers
 record Fewer (z y : Space) : Type 0 where
@@ -78,31 +76,17 @@ owe-frames z list kind = refl
 plain : (z : Space) (list : TodoList) (kind : WorkKind) → hands_out kind ≡ None → OfOthers z → OfOthers (owe z list kind)
 plain z list kind none h = of-less (owe z list kind) z (one_way.owe-less z list kind none) (owe-frames z list kind) h
 
-told : (z : Space) (caller : Option ℕ) (kind : WorkKind) → ((w : WorkKind) → w ≡ kind → (b : ℕ) → w ≡ work.Call b → ⊥) → OfOthers z
-    → OfOthers (elim caller as (λ (o : Option ℕ). Space) [ None ↦ z | Some t ↦ owe z (OfThread t) kind ])
+uncalled : (z : Space) (list : TodoList) (kind : WorkKind) → ((b : ℕ) → kind ≡ work.Call b → ⊥) → OfOthers z → OfOthers (owe z list kind)
 unfolding owe
-told z None kind none h = h
-told z (Some t) kind none h =
-    fewer (owe z (OfThread t) kind) z (record {
-      calls = λ w b u l e on. elim (in-push w _ z.todo l) [ inl i ↦ i | inr is ↦ absurd (none w.kind (sym (ap (λ (v : Work). v.kind) is)) b e) ];
-      frames = same-frames (owe z (OfThread t) kind) z refl;
+uncalled z list kind none h =
+    fewer (owe z list kind) z (record {
+      calls = λ w b u l e on. elim (in-push w _ z.todo l) [ inl i ↦ i | inr is ↦ absurd (none b (ap (λ (v : Work). v.kind) is ∙ e)) ];
+      frames = same-frames (owe z list kind) z refl;
     }) h
 
 closes : (z : Space) (made : ℕ) → OfOthers z → OfOthers (closed z made)
 unfolding closed
 closes z made h w f t l e on i c = h w f t l e on (in-filter (λ g. not (is_frame made g)) f z.frames i).0 c
-
-settles : (m : ℕ) (z : Space) → OfOthers z → OfOthers (settle_times m z)
-settles zero z h = h
-settles (suc m) z h = at (find (is_abandoned (settle_times m z).frames) (settle_times m z).frames) (settles m z h)
-  where
-    at : (o : Option Frame) → OfOthers (settle_times m z) → OfOthers (settle_one (settle_times m z) o)
-    at None k = k
-    at (Some f) k = told _ f.caller (work.Verdict DeadReply) (λ w e b i. let no = sym e ∙ i in cc) (closes (settle_times m z) f.made k)
-
-settle-o : (z : Space) → OfOthers z → OfOthers (settle z)
-unfolding settle
-settle-o z h = settles (length z.frames) z h
 
 follow-same : (z : Space) → (follow z).frames ≡ z.frames
 unfolding follow notify work_goes deaths_go objects_go names_go
@@ -113,19 +97,11 @@ follow-o z h = of-less (follow z) z (one_way.follow-less z) (follow-same z) h
 
 ripen-o : (z : Space) → OfOthers z → OfOthers (ripen z)
 unfolding ripen
-ripen-o z h = fewer (ripen z) z (record { calls = λ w b t l e on. all (turns_of z.buffers) [] z.todo w t l on; frames = same-frames (ripen z) z refl }) h
-  where
-    one : (b : Bool) (td : List Work) (t : Turn) (w : Work) (u : ℕ) → In w (cond b (with_work z.steps td (OfProcess t.receiver) (work.Call t.made)) td) → w.list ≡ OfThread u → In w td
-    one false td t w u l on = l
-    one true td t w u l on = elim (in-push w _ td l) [ inl i ↦ i | inr is ↦ (let no : OfProcess t.receiver ≡ OfThread u = ap (λ (v : Work). v.list) is ∙ on in absurd (cc)) ]
-
-    all : (ts older : List Turn) (td : List Work) (w : Work) (u : ℕ) → In w (ripened z.steps older td ts) → w.list ≡ OfThread u → In w td
-    all [] older td w u l on = l
-    all (t ∷ ts) older td w u l on = one (is_ripe td older t) td t w u (all ts (older ++ t ∷ []) _ w u l on) on
-
-completes-o : (z : Space) → OfOthers z → OfOthers (completed z)
-unfolding completed
-completes-o z h = settle-o (follow (ripen z)) (follow-o (ripen z) (ripen-o z h))
+ripen-o z h = fewer (ripen z) z (record {
+  calls = λ w b t l e on. ripen-keeps (λ td. (w : Work) (t : ℕ) → In w td → w.list ≡ OfThread t → In w z.todo) z (λ td r k w t l on.
+      elim (in-push w _ td l) [ inl i ↦ k w t i on | inr is ↦ (let no : OfProcess r.receiver ≡ OfThread t = ap (λ (v : Work). v.list) is ∙ on in absurd (cc)) ]) (λ w t l on. l) w t l on;
+  frames = same-frames (ripen z) z refl;
+}) h
 
 -- ---- whom a call goes to doesn't belong to its caller
 
@@ -226,7 +202,7 @@ replied-o s a d f v home turns h =
     let x = closed s f.made in
     let k = closed-same s f.made in
     let z = owe (delivered x a d v) (OfThread a.thread.seat) work.Complete in
-    told z f.caller (work.Reply s.steps) (λ w e b i. let no = sym e ∙ i in cc)
+    told-keeps OfOthers (work.Reply s.steps) (λ z t. uncalled z (OfThread t) (work.Reply s.steps) (λ b e. cc)) z f.caller
     (fewer z x (record { calls = λ w b t l e on. subst (In w) (sym k.3) (sent-due s x a d v k.0 k.1 k.2 k.3 home turns w b l (ap hands_out e)); frames = same-frames z x (sent-frames x a d v) })
     (closes s f.made h))
 
@@ -250,8 +226,7 @@ leaves-o z seat h w f t l e on i c =
     (caller-stays seat g.0.caller t (ap (λ (x : Frame). x.caller) g.2 ∙ c)).0
 
 threads-o : (z : Space) (p : ℕ) → OfOthers z → OfOthers (threads_go z p)
-unfolding threads_go
-threads-o z p h = fold-keeps OfOthers thread_goes (map seat_of (filter (λ t. t.process == p) z.threads)) (λ y t l k. leaves-o y t k) z h
+threads-o = threads-keep OfOthers leaves-o
 
 without-o : (z : Space) (p : ℕ) → OfOthers z → OfOthers (without_process z p)
 unfolding without_process
@@ -266,42 +241,41 @@ on-deaths-o = record {
   clears = λ z t cookie h. plain z (OfThread t) (work.Cleared cookie) refl h;
 }
 
-refused-o : (s : Space) (t : ℕ) (f : Frame) → OfOthers s → OfOthers (reply_refused s t f)
-unfolding reply_refused
-refused-o s t f h = told _ f.caller (work.Verdict FailedReply) (λ w e b i. let no = sym e ∙ i in cc) (closes _ f.made (plain s (OfThread t) (work.Refusal TransactionComplete) refl h))
-
-step-o : (s : Space) (seat : ℕ) (x : Step) → AtHome s → IsInTurn s → ((f : Frame) → In f s.frames → f.made < s.steps) → OfOthers s → Endings s seat x OfOthers OfOthers
+step-o : (s : Space) (seat : ℕ) (x : Step) → AtHome s → IsInTurn s → ((f : Frame) → In f s.frames → f.made < s.steps) → OfOthers s → Keeps s seat x OfOthers OfOthers
 unfolding without_buffer ask assign_numbers drop_asked acknowledge with_looping with_thread with_process with_manager
 step-o s seat x home turns below h =
-    let deaths = on-kept OfOthers on-deaths-o s h in
     record {
-      same = h;
-      opened = λ pid euid window free. h;
-      attached = λ p free. h;
-      managed = λ a e b. h;
-      transacts = λ a d parcel v e i t. transacts-o s seat a d parcel v i t home turns below h;
-      replies = λ a d parcel f v e i g t. replied-o s a d f v home turns h;
-      frees = λ p ptr b e t. h;
-      asks = λ a k strong o e i t. h;
-      drops = λ p o strong. h;
-      acknowledges = λ o strong i. h;
-      loops = λ t looping. h;
-      requests = λ p k cookie o e. on-requested s OfOthers deaths p o cookie;
-      clears = λ t y. on-cleared s OfOthers deaths t y;
-      dones = λ t p cookie y e. on-done s OfOthers deaths t y;
-      completes = λ z k. completes-o z k;
-      refuses = λ t c. settle-o _ (plain s (OfThread t) (work.Refusal (refusal c)) refl h);
-      fails = λ a d parcel f e i g. settle-o _ (refused-o s a.thread.seat f h);
-      reads = λ a limit e i k. follow-o _ (reads-o s a.thread.seat _ h);
-      leaves = λ a e. settle-o _ (follow-o _ (leaves-o s a.thread.seat h));
-      ends = λ a e. settle-o _ (follow-o _ (on-told OfOthers on-deaths-o _ a.process.made (without-o _ a.process.made (threads-o s a.process.made h))));
+      set_up = record {
+        same = h;
+        opened = λ pid euid window free. h;
+        attached = λ p free. h;
+        managed = λ a e b. h;
+      };
+      changes = record {
+        transacts = λ a d parcel v e i t. transacts-o s seat a d parcel v i t home turns below h;
+        replies = λ a d parcel f v e i g t. replied-o s a d f v home turns h;
+        frees = λ p ptr b e t. h;
+        asks = λ a k strong o e i t. h;
+        drops = λ p o strong. h;
+        acknowledges = λ o strong i. h;
+        loops = λ t looping. h;
+        on_deaths = on-commands s _ (on-kept OfOthers on-deaths-o s h);
+        reads = λ a limit e i k. reads-o s a.thread.seat _ h;
+        leaves = λ a e. leaves-o s a.thread.seat h;
+        ends = λ a e. on-told OfOthers on-deaths-o _ a.process.made (without-o _ a.process.made (threads-o s a.process.made h));
+        ripens = ripen-o;
+      };
+      follows = follow-o;
+      closes = closes;
+      refuses = λ z t r. plain z (OfThread t) (work.Refusal r) refl;
+      tells = λ z t r. uncalled z (OfThread t) (work.Verdict r) (λ b e. cc);
     }
 
 -- ---- every history
 
 pub next-of_others : (s : Space) (e : Entry) → AtHome s → IsInTurn s → ((f : Frame) → In f s.frames → f.made < s.steps) → OfOthers s → OfOthers (next s e)
 unfolding counted
-next-of_others s e home turns below h = every_ending_step s e.seat e.step OfOthers OfOthers (step-o s e.seat e.step home turns below h)
+next-of_others s e home turns below h = every_step s e.seat e.step OfOthers OfOthers (step-o s e.seat e.step home turns below h)
 
 pub opening-of_others : OfOthers opening
 opening-of_others = λ w f t l e on i c. absurd l

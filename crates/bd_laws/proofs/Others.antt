@@ -37,7 +37,7 @@ use Rattle.bd_laws.specs.Quiet.{Elsewhere, IsSettled, NoneRipe, IsQuiet, IsFollo
 use Rattle.bd_laws.proofs.Lists.{in-last, in-push, any-in}
 use Rattle.bd_laws.proofs.Tests.{both, and-both, same-eq, eq-same, and_then-ok, found-ok, unless-ok}
 use Rattle.bd_laws.proofs.Sendings.{named-has}
-use Rattle.bd_laws.proofs.Quiet.{any-more, still-unripe-if}
+use Rattle.bd_laws.proofs.Quiet.{any-more, still-unripe-if, elsewhere-aside}
 use Rattle.bd_laws.proofs.Fewer.{elsewhere-said, filtered-said, completed-local, found-same, to-false}
 use Rattle.bd_laws.proofs.Freeing.{references_of_buffer}
 use Rattle.bd_laws.proofs.Sending.{with_names-named, name-stays, any-none}
@@ -56,14 +56,7 @@ nothing-local z h unripe settled = completed-local no_name no_object z h unripe 
 pub looping-local : (s : Space) (seat : ℕ) (looping : Bool) → IsQuiet s → completed (with_looping s seat looping) ≡ with_looping s seat looping
 unfolding with_looping
 looping-local s seat looping h =
-    nothing-local (with_looping s seat looping) (record {
-      names = h.followed.names;
-      objects = h.followed.objects;
-      deaths = h.followed.deaths;
-      notices = h.followed.notices;
-      tellings = h.followed.tellings;
-      made = h.followed.made;
-    }) h.unripe h.settled
+    nothing-local (with_looping s seat looping) (elsewhere-aside _ _ s _ _ _ _ h.followed) h.unripe h.settled
 
 -- ---- BC_INCREFS and BC_ACQUIRE
 

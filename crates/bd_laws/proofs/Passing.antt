@@ -50,7 +50,8 @@ use Rattle.bd_laws.proofs.Untouched
 use Rattle.bd_laws.proofs.Untouched.{Untouched}
 use Rattle.bd_laws.proofs.Sendings.{Made, sending-sends}
 use Rattle.bd_laws.proofs.Checks.{Owned, transaction-checked, reply-checked, actor-lives}
-use Rattle.bd_laws.proofs.Deaths.{on-mapped, on-both}
+use Rattle.bd_laws.proofs.Deaths.{on-mapped, on-both, on-commands}
+use Rattle.bd_laws.proofs.Following.{follow-by}
 
 -- a live process
 abbrev pub Lives : List Process → ℕ → Type 0
@@ -157,16 +158,13 @@ unfolding objects_go
 objects_go-after z = record { steps = refl; processes = refl; objects = λ x i. (in-filter (stays_in z.processes z.references) x z.objects i).0; buffers = refl; due = λ w m l e. l }
 
 pub follow-after : (z : Space) → After (follow z) z
-unfolding follow
-follow-after z =
-    let a = names_go z in
-    let b = objects_go a in
-    let c = deaths_go b in
-    let d = work_goes c in
-    after-trans (notify d) d z (untouched-after (notify d) d (Untouched.notify-untouched d) (OneWay.notify-less d))
-    (after-trans d c z (untouched-after d c (Untouched.work_goes-untouched c) (OneWay.work_goes-less c))
-    (after-trans c b z (untouched-after c b (Untouched.deaths_go-untouched b) (OneWay.deaths_go-less b))
-    (after-trans b a z (objects_go-after a) (names_go-after z))))
+follow-after = follow-by After after-trans (record {
+  names = names_go-after;
+  objects = objects_go-after;
+  deaths = λ z. untouched-after (deaths_go z) z (Untouched.deaths_go-untouched z) (OneWay.deaths_go-less z);
+  work = λ z. untouched-after (work_goes z) z (Untouched.work_goes-untouched z) (OneWay.work_goes-less z);
+  notices = λ z. untouched-after (notify z) z (Untouched.notify-untouched z) (OneWay.notify-less z);
+})
 
 -- ---- opening and managing
 
@@ -583,12 +581,14 @@ passing-untouched s z y u l h = passing-after s z y (untouched-after z y u l) l 
 passing-step : (s : Space) (seat : ℕ) (x : Step) → InTurn s.steps s.buffers s.todo → OnLists s → Keeps s seat x (Passing s) (Passing s)
 passing-step s seat x turns l =
     let k = kept s seat x turns in
-    let none : Passing s s = record { turns = k.same; passed = passed-none s l } in
+    let none : Passing s s = record { turns = k.set_up.same; passed = passed-none s l } in
     record {
-      same = none;
-      opened = λ pid euid window. record { turns = k.opened pid euid window; passed = opened-passed s seat pid euid window l };
-      attached = λ p. record { turns = k.attached p; passed = attached-passed s seat p l };
-      managed = λ a e b. record { turns = k.managed a e b; passed = managed-passed s seat a e l };
+      set_up = record {
+        same = none;
+        opened = λ pid euid window free. record { turns = k.set_up.opened pid euid window free; passed = opened-passed s seat pid euid window l };
+        attached = λ p free. record { turns = k.set_up.attached p free; passed = attached-passed s seat p l };
+        managed = λ a e b. record { turns = k.set_up.managed a e b; passed = managed-passed s seat a e l };
+      };
       changes = record {
         transacts = λ a d parcel v e i t. record { turns = k.changes.transacts a d parcel v e i t; passed = transacted-passed s seat a d parcel v turns l i t };
         replies = λ a d parcel f v e i g t. record { turns = k.changes.replies a d parcel f v e i g t; passed = replied-passed s seat a d parcel f v turns l i t };
@@ -597,7 +597,7 @@ passing-step s seat x turns l =
         drops = λ p o strong. passing-after s _ s (drop_asked-after s p o strong) (OneWay.drop_asked-less s p o strong) none;
         acknowledges = λ o strong i. passing-after s _ s (acknowledge-after s o strong) (OneWay.acknowledge-less s o strong) none;
         loops = λ t looping. passing-untouched s _ s (Untouched.with_looping-untouched s t looping) (OneWay.with_looping-less s t looping) none;
-        on_deaths = on-mapped s _ _ (λ y k. passing-untouched s y s k.0 k.1 none) (on-both s _ _ (Untouched.on_deaths-untouched s) (OneWay.on_deaths-less s));
+        on_deaths = on-commands s _ (on-mapped s _ _ (λ y k. passing-untouched s y s k.0 k.1 none) (on-both s _ _ (Untouched.on_deaths-untouched s) (OneWay.on_deaths-less s)));
         reads = λ a limit e i n. record { turns = k.changes.reads a limit e i n; passed = read-passed s a.thread a.thread.seat _ l };
         leaves = λ a e. record { turns = k.changes.leaves a e; passed = thread_goes-passed s s a.thread.seat (passed-none s l) };
         ends = λ a e. record { turns = k.changes.ends a e; passed = ends-passed s a.process.made l };

@@ -25,7 +25,7 @@ use Rattle.bd_space.specs.Returns.{bytes_read}
 use Rattle.bd_laws.specs.Lists.{In}
 use Rattle.bd_laws.specs.Frames.{Forest, Part, Nested, OnPaths}
 use Rattle.bd_laws.proofs.Lists.{in-filter, in-changed, in-filter_map, any-found, any-in}
-use Rattle.bd_laws.proofs.Tests.{not-true}
+use Rattle.bd_laws.proofs.Tests.{not-true, call-kind}
 use Rattle.bd_laws.proofs.Ripening.{read-in, taken-in, turn-parts}
 use Rattle.bd_laws.proofs.PathWords.{same-item}
 use Rattle.bd_laws.proofs.Forests.{Kept, forest-work}
@@ -86,16 +86,6 @@ handed-kept bs (Some b) c l = let z = in-changed (is_made_at b.made) hand_out c 
     at true x e = (ap (λ (y : Buffer). y.made) (sym e), ap (λ (y : Buffer). y.one_way) (sym e))
     at false x e = (ap (λ (y : Buffer). y.made) (sym e), ap (λ (y : Buffer). y.one_way) (sym e))
 
-pub kind-called : (b : ℕ) (k : WorkKind) → is_call b k ≡ true → k ≡ work.Call b
-kind-called b (work.Notice o) e = absurd (cc)
-kind-called b work.Complete e = absurd (cc)
-kind-called b (work.Refusal r) e = absurd (cc)
-kind-called b (work.Call c) e = ap (λ n. work.Call n) (eqb-true c b e)
-kind-called b (work.Reply c) e = absurd (cc)
-kind-called b (work.Verdict r) e = absurd (cc)
-kind-called b (work.Death n) e = absurd (cc)
-kind-called b (work.Cleared n) e = absurd (cc)
-
 -- an item that ends the reading is the last one
 taken-ends : (s : Space) (ws : List Work) (left : ℕ) (v w : Work) → In v (taken s left ws) → In w (taken s left ws) → ends_read v.kind ≡ true → ends_read w.kind ≡ true → v ≡ w
 taken-ends s [] left v w l m e f = absurd l
@@ -122,7 +112,7 @@ module _ (n : ℕ) (s : Space) (h : OnPaths n s) (t : Thread) (left : ℕ) where
   called-in f = list_any (λ (w : Work). is_call f.made w.kind) ws
 
   item : (f : Frame) → called-in f ≡ true → (w : Work) × In w ws × (w.kind ≡ work.Call f.made)
-  item f e = let k = any-found (λ (w : Work). is_call f.made w.kind) ws e in (k.0, k.1, kind-called f.made k.0.kind k.2)
+  item f e = let k = any-found (λ (w : Work). is_call f.made w.kind) ws e in (k.0, k.1, call-kind f.made k.0.kind k.2)
 
   -- the list is the thread's own, or its process's while the thread is in no frame
   Source : Type 0

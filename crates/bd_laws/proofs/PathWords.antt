@@ -16,18 +16,17 @@ use Rattle.bd_space.specs.Todo.{is_item, is_on, same_list}
 use Rattle.bd_space.specs.ThreadExits.{is_unread_on, unread_server, gone_caller, gone_server}
 use Rattle.bd_laws.proofs.Tests.{and-both}
 
+pub is-serving : (seat : ℕ) (v : Server) → serves seat v ≡ true → v ≡ Serving seat
+is-serving seat (Serving t) e = ap (λ n. Serving n) (eqb-true t seat e)
+is-serving seat _ e = absurd (cc)
+
 pub served-is : (s : Space) (seat : ℕ) (f : Frame) → served_innermost s seat ≡ Some f → (innermost_in s.frames seat ≡ Some f) × (f.server ≡ Serving seat)
 unfolding served_innermost
 served-is s seat f h = option_and_then_some (if_served seat) (innermost_in s.frames seat) f h (λ g e k. at g e (serves seat g.server) refl k)
   where
-    server : (x : Server) → serves seat x ≡ true → x ≡ Serving seat
-    server Pending e = absurd (cc)
-    server (Serving t) e = ap (λ n. Serving n) (eqb-true t seat e)
-    server Gone e = absurd (cc)
-
     at : (g : Frame) → innermost_in s.frames seat ≡ Some g → (b : Bool) → serves seat g.server ≡ b → cond b (Some g) None ≡ Some f
         → (innermost_in s.frames seat ≡ Some f) × (f.server ≡ Serving seat)
-    at g e true i k = let is : g ≡ f = cc in (e ∙ ap (λ x. Some x) is, subst (λ (x : Frame). x.server ≡ Serving seat) is (server g.server i))
+    at g e true i k = let is : g ≡ f = cc in (e ∙ ap (λ x. Some x) is, subst (λ (x : Frame). x.server ≡ Serving seat) is (is-serving seat g.server i))
     at g e false i k = absurd (cc)
 
 eq-identity : (a b : Identity) → a ≡ b → same_identity a b ≡ true
@@ -42,13 +41,17 @@ same-item v w e =
     and-both (same_identity v.id w.id) (is_on w.list v) (eq-identity v.id w.id (ap (λ (x : Work). x.id) e))
     (ap (λ (x : Work). is_on w.list x) e ∙ same_list-same w.list)
 
+-- of this thread is told what it is when it is gone, of another one what it was
+other-stays : {A : Type 0} (of : ℕ → A) (gone : A) (seat u t : ℕ) → (gone ≡ of t → ⊥) → (of u ≡ of t → u ≡ t) → cond (u == seat) gone (of u) ≡ of t → (of u ≡ of t) × ((t == seat) ≡ false)
+other-stays of gone seat u t never same h = at (u == seat) refl h
+  where
+    at : (b : Bool) → (u == seat) ≡ b → cond b gone (of u) ≡ of t → (of u ≡ of t) × ((t == seat) ≡ false)
+    at true e h = absurd (never h)
+    at false e h = (h, subst (λ n. (n == seat) ≡ false) (same h) e)
+
 pub caller-stays : (seat : ℕ) (c : Option ℕ) (t : ℕ) → gone_caller seat c ≡ Some t → (c ≡ Some t) × ((t == seat) ≡ false)
 caller-stays seat None t h = absurd (cc)
-caller-stays seat (Some c) t h = at (c == seat) refl h
-  where
-    at : (b : Bool) → (c == seat) ≡ b → cond b None (Some c) ≡ Some t → (Some c ≡ Some t) × ((t == seat) ≡ false)
-    at true e h = absurd (cc)
-    at false e h = let is : c ≡ t = cc in (h, subst (λ n. (n == seat) ≡ false) is e)
+caller-stays seat (Some c) t h = other-stays (λ n. Some n) None seat c t (λ e. cc) (λ e. cc) h
 
 pub unread-serving : (todo : List Work) (list : TodoList) (n : ℕ) (v : Server) (t : ℕ) → unread_server todo list n v ≡ Serving t → v ≡ Serving t
 unread-serving todo list n Pending t h = at (is_unread_on todo list n) h
@@ -61,9 +64,5 @@ unread-serving todo list n Gone t h = absurd (cc)
 
 pub server-stays : (seat : ℕ) (v : Server) (t : ℕ) → gone_server seat v ≡ Serving t → (v ≡ Serving t) × ((t == seat) ≡ false)
 server-stays seat Pending t h = absurd (cc)
-server-stays seat (Serving u) t h = at (u == seat) refl h
-  where
-    at : (b : Bool) → (u == seat) ≡ b → cond b Gone (Serving u) ≡ Serving t → (Serving u ≡ Serving t) × ((t == seat) ≡ false)
-    at true e h = absurd (cc)
-    at false e h = let is : u ≡ t = cc in (h, subst (λ n. (n == seat) ≡ false) is e)
+server-stays seat (Serving u) t h = other-stays (λ n. Serving n) Gone seat u t (λ e. cc) (λ e. cc) h
 server-stays seat Gone t h = absurd (cc)

@@ -1,12 +1,10 @@
 -- Of BC_TRANSACTION: what its delivery may rest on; and without objects in its parcel there is next to nothing to do.
-use Rattle.std.proofs.Common.{◌≡◌, ℕ, ◌%◌, ◌^◌, ◌==◌, Bool, true, false, cond, not, ◌&&◌, ◌||◌, List, [], ◌∷◌, ◌++◌, Option, Some, None, Result, Ok, Err, ◌⊎◌, inl, inr, refl, ap, sym, subst, ◌∙◌, filter, length}
+use Rattle.std.proofs.Common.{◌≡◌, ℕ, ◌%◌, ◌==◌, Bool, true, false, cond, not, ◌&&◌, ◌||◌, List, [], ◌∷◌, ◌++◌, Option, Some, None, Result, Ok, Err, ◌⊎◌, inl, inr, refl, ap, sym, subst, ◌∙◌, filter, length}
 use Rattle.std.specs.List.{list_any, fold}
 use Rattle.std.specs.Option.{option_to_list}
 use Rattle.std.proofs.lemmas.Option.{option_and_then_some}
 use Rattle.bd_uapi.specs.declared.command.TransactionData.{TransactionData}
 use Rattle.bd_uapi.specs.declared.object.FlatObject.{FlatObject}
-use Rattle.bd_uapi.specs.declared.object.ObjectKind.{ObjectKind}
-use Rattle.bd_uapi.specs.declared.object.ObjectKind.TheVariants.{Binder, WeakBinder, Handle, WeakHandle}
 use Rattle.bd_uapi.specs.declared.fault.Cause.{Cause}
 use Rattle.bd_uapi.specs.declared.fault.Cause.TheVariants.{OutsideArea, OffsetsSize, OtherCookie, NotStronglyNamed, NoManager, OwnManager}
 use Rattle.bd_parcel.specs.declared.fault.WalkFault.{WalkFault}
@@ -30,7 +28,7 @@ use Rattle.bd_space.specs.Space.{Space}
 use Rattle.bd_space.specs.References.{strong_in, owned_in, own_in, names_for}
 use Rattle.bd_space.specs.Names.{named, named_in, strongly_named, if_strongly_named, is_strongly_named_in}
 use Rattle.bd_space.specs.Notices.{with_notice}
-use Rattle.bd_space.specs.Parcels.{Sending, resolve_own, resolve_handle, resolve, resolve_all, new_object, resolve_walked, sending_of, is_cut}
+use Rattle.bd_space.specs.Parcels.{Sending, resolve_handle, resolve, resolve_all, new_object, resolve_walked, sending_of, is_cut}
 use Rattle.bd_space.specs.Delivery.{Delivery}
 use Rattle.bd_space.specs.Transactions.{transaction_check, transacted, target_of, not_own, handle_of}
 use Rattle.bd_space.specs.Outcomes.{completed}
@@ -40,7 +38,7 @@ use Rattle.bd_laws.specs.Objects.{KeptBefore}
 use Rattle.bd_laws.specs.Tidy.{IsTidy}
 use Rattle.bd_laws.proofs.Lists.{in-last, in-push, in-append, any-found, any-in}
 use Rattle.bd_laws.proofs.Tests.{both, and-both, eq-same, and_then-ok, found-ok, unless-ok}
-use Rattle.bd_laws.proofs.Sendings.{sending-sends}
+use Rattle.bd_laws.proofs.Sendings.{sending-sends, resolved-by}
 use Rattle.bd_laws.proofs.Checks.{transaction-checked}
 use Rattle.bd_laws.proofs.Quiet.{any-more}
 use Rattle.bd_laws.proofs.Next.{calm}
@@ -68,13 +66,8 @@ no-death (x ∷ xs) n = at (x.made == n) (no-death xs n)
 module _ (b : ObjectTest) (none : (o : ObjectId) → b o ≡ false) where
   untouched : (deaths : List DeathNotification) (kind : WorkKind) → is_touched no_name b deaths kind ≡ false
   untouched deaths (work.Notice o) = none o
-  untouched deaths work.Complete = refl
-  untouched deaths (work.Refusal r) = refl
-  untouched deaths (work.Call m) = refl
-  untouched deaths (work.Reply m) = refl
-  untouched deaths (work.Verdict r) = refl
   untouched deaths (work.Death n) = no-death deaths n
-  untouched deaths (work.Cleared c) = refl
+  untouched deaths _ = refl
 
   names-none : (z : Space) → names_go_of no_name z ≡ z
   unfolding names_go_of
@@ -135,19 +128,8 @@ handle-made (Some y) r h o e =
     let none : None ≡ r.new = ap (λ (q : Resolved). q.new) is in absurd (cc)
 
 resolve-made : (s : Space) (p : ℕ) (made : List Object) (x : FlatObject) (r : Resolved) → resolve s p made x ≡ Ok r → (o : Object) → r.new ≡ Some o → r.object ≡ o.id
-unfolding resolve
-resolve-made s p made x r h o e = of x.kind h
-  where
-    of : (kind : ObjectKind) → elim kind as (λ (q : ObjectKind). Result Resolved Cause) [
-      | Binder ↦ resolve_own s p made x
-      | WeakBinder ↦ resolve_own s p made x
-      | Handle ↦ resolve_handle (strongly_named s p (x.binder % 2 ^ 32))
-      | WeakHandle ↦ resolve_handle (named s p (x.binder % 2 ^ 32))
-    ] ≡ Ok r → r.object ≡ o.id
-    of Binder k = own-made s p made x (own_in (s.objects ++ made) p x.binder) r k o e
-    of WeakBinder k = own-made s p made x (own_in (s.objects ++ made) p x.binder) r k o e
-    of Handle k = handle-made (strongly_named s p (x.binder % 2 ^ 32)) r k o e
-    of WeakHandle k = handle-made (named s p (x.binder % 2 ^ 32)) r k o e
+resolve-made s p made x r h o e =
+    resolved-by s p made x r (λ own. r.object ≡ o.id) (λ k. own-made s p made x (own_in (s.objects ++ made) p x.binder) r k o e) (λ f n k. handle-made f r k o e) h
 
 abbrev MadeSent : List Object → List Item → Type 0
 MadeSent made items = (x : Object) → In x made → objects_of_items items x.id ≡ true

@@ -1,20 +1,15 @@
 -- Each step keeps it that a Death item's notification is queued.
-use Rattle.std.proofs.Common.{◌≡◌, ℕ, zero, suc, ◌<◌, ◌==◌, Bool, true, false, cond, not, ◌&&◌, ◌||◌, List, [], ◌∷◌, ◌++◌, Option, Some, None, ◌⊎◌, inl, inr, refl, ap, sym, subst, ◌∙◌, filter, find, map, length, arith}
+use Rattle.std.proofs.Common.{◌≡◌, ℕ, suc, ◌<◌, ◌==◌, Bool, true, false, cond, not, ◌&&◌, ◌||◌, List, [], ◌∷◌, Some, ◌⊎◌, inl, inr, refl, ap, sym, subst, ◌∙◌, filter, arith}
 use Rattle.std.specs.List.{list_any, fold}
 use Rattle.std.proofs.lemmas.Bool.{eqb-true, eq-eqb}
 use Rattle.bd_uapi.specs.declared.command.TransactionData.{TransactionData}
-use Rattle.bd_uapi.specs.declared.command.Return.TheVariants.{DeadReply, FailedReply, TransactionComplete}
 use Rattle.bd_space.specs.declared.step.ObjectId.{ObjectId}
 use Rattle.bd_space.specs.declared.step.Step.{Step}
 use Rattle.bd_space.specs.declared.step.Entry.{Entry}
-use Rattle.bd_space.specs.declared.space.Object.{Object}
 use Rattle.bd_space.specs.declared.space.Frame.{Frame}
-use Rattle.bd_space.specs.declared.space.Turn.{Turn}
-use Rattle.bd_space.specs.declared.space.Item.{Item}
 use Rattle.bd_space.specs.declared.space.Actor.{Actor}
 use Rattle.bd_space.specs.declared.space.Thread.{Thread}
 use Rattle.bd_space.specs.declared.space.Work.{Work}
-use Rattle.bd_space.specs.declared.space.Identity.{Identity}
 use Rattle.bd_space.specs.declared.space.DeathNotification.{DeathNotification}
 use Rattle.bd_space.specs.declared.space.Phase.{Phase}
 use Rattle.bd_space.specs.declared.space.Phase.TheVariants.{Armed, Queued, Told, Done}
@@ -22,20 +17,17 @@ use Rattle.bd_space.specs.declared.space.WorkKind.{WorkKind}
 use Rattle.bd_space.specs.declared.space.WorkKind.TheVariants as work
 use Rattle.bd_space.specs.declared.space.TodoList.{TodoList}
 use Rattle.bd_space.specs.declared.space.TodoList.TheVariants.{OfThread, OfProcess}
-use Rattle.bd_space.specs.Words.{is_some_and, same_identity}
+use Rattle.bd_space.specs.Words.{is_some_and}
 use Rattle.bd_space.specs.Space.{Space, opening}
-use Rattle.bd_space.specs.References.{owned_in, object_in, objects_go}
+use Rattle.bd_space.specs.References.{owned_in, objects_go}
 use Rattle.bd_space.specs.Names.{names_go, assign_numbers}
 use Rattle.bd_space.specs.Frames.{closed, goes_to}
-use Rattle.bd_space.specs.Todo.{with_work, owe, same_list, is_on, is_item, is_notice, death_of, list_to_read}
-use Rattle.bd_space.specs.Turns.{turns_of, is_ripe, ripened, ripen}
-use Rattle.bd_space.specs.Notices.{wants_notice, has_notice_in, with_notice, still_due, is_name_of, deaths_go, work_goes, notify, follow}
-use Rattle.bd_space.specs.Settle.{settle, settle_one, settle_times, is_abandoned}
-use Rattle.bd_space.specs.Outcomes.{completed}
-use Rattle.bd_uapi.specs.Kinds.{is_own}
-use Rattle.bd_space.specs.Delivery.{Delivery, delivered, own_notices, add_buffer, known_by, refer, make_objects, withdraw_notice}
-use Rattle.bd_space.specs.Transactions.{transacted, called, call_out, refusal}
-use Rattle.bd_space.specs.Replies.{replied, reply_refused}
+use Rattle.bd_space.specs.Todo.{owe, is_on, is_item, is_notice, death_of, list_to_read}
+use Rattle.bd_space.specs.Turns.{ripen}
+use Rattle.bd_space.specs.Notices.{still_due, is_name_of, deaths_go, work_goes, notify, follow}
+use Rattle.bd_space.specs.Delivery.{Delivery, delivered, own_notices, add_buffer, known_by, refer, make_objects, buffer_of}
+use Rattle.bd_space.specs.Transactions.{transacted, called, call_out}
+use Rattle.bd_space.specs.Replies.{replied}
 use Rattle.bd_space.specs.Freeing.{without_buffer}
 use Rattle.bd_space.specs.Asking.{ask, drop_asked, acknowledge}
 use Rattle.bd_space.specs.Deaths.{is_notification, requested, with_death, without_death, with_phase, owner_lives_in}
@@ -43,17 +35,20 @@ use Rattle.bd_space.specs.Clearing.{mark_cleared, death_ended, cleared, death_do
 use Rattle.bd_space.specs.Commands.{with_looping}
 use Rattle.bd_space.specs.ReadItems.{read_by, taken, is_told_of_death}
 use Rattle.bd_space.specs.ThreadExits.{thread_goes}
-use Rattle.bd_space.specs.ProcessExits.{threads_go, without_process, tell_death, tell_deaths, seat_of, is_armed}
+use Rattle.bd_space.specs.ProcessExits.{threads_go, without_process, tell_death, tell_deaths, is_armed}
 use Rattle.bd_space.specs.Steps.{change, counted, with_thread, with_process, with_manager}
 use Rattle.bd_space.specs.Histories.{next}
 use Rattle.bd_laws.specs.Lists.{In, Pairs}
 use Rattle.bd_laws.specs.Quiet.{IsQuiet}
 use Rattle.bd_laws.specs.Items.{OtherDeath, OtherNotification, Queues, IsQueued}
-use Rattle.bd_laws.proofs.Lists.{in-push, in-filter, in-changed, any-found, any-in, find-in, pairs-push, pairs-filter, pairs-either, pairs-changed, fold-keeps}
-use Rattle.bd_laws.proofs.Tests.{both, and-both, not-true}
+use Rattle.bd_laws.proofs.Lists.{in-push, in-filter, in-changed, any-found, any-in, find-in, pairs-push, pairs-filter, pairs-either, pairs-changed}
+use Rattle.bd_laws.proofs.Tests.{both, not-true}
 use Rattle.bd_laws.proofs.Ripening.{read-in}
-use Rattle.bd_laws.proofs.EveryEnding.{Endings, every_ending_step}
+use Rattle.bd_laws.proofs.EveryStep.{Keeps, every_step}
+use Rattle.bd_laws.proofs.Adding.{told-keeps, notify-keeps, own_notices-keeps, ripen-keeps}
 use Rattle.bd_laws.proofs.Queued.{Silent, fewer-items, fewer-deaths, plain-item, death-item, phased, sit-changed}
+use Rattle.bd_laws.proofs.PathWords.{same-item}
+use Rattle.bd_laws.proofs.Following.{threads-keep}
 
 abbrev Q : ℕ → Space → Type 0
 Q n z = Queues n z.todo z.deaths
@@ -64,74 +59,30 @@ owe-plain : (n : ℕ) (z : Space) (list : TodoList) (kind : WorkKind) → ((m : 
 unfolding owe
 owe-plain n z list kind plain h = plain-item n z.steps z.todo z.deaths list kind plain h
 
-told-plain : (n : ℕ) (z : Space) (caller : Option ℕ) (kind : WorkKind) → ((m : ℕ) → kind ≡ work.Death m → ⊥) → Q n z
-    → Q n (elim caller as (λ (o : Option ℕ). Space) [ None ↦ z | Some t ↦ owe z (OfThread t) kind ])
-told-plain n z None kind plain h = h
-told-plain n z (Some t) kind plain h = owe-plain n z (OfThread t) kind plain h
-
 closed-q : (n : ℕ) (z : Space) (made : ℕ) → Q n z → Q n (closed z made)
 unfolding closed
 closed-q n z made h = h
 
-settles-q : (n m : ℕ) (z : Space) → Q n z → Q n (settle_times m z)
-settles-q n zero z h = h
-settles-q n (suc m) z h = at (find (is_abandoned (settle_times m z).frames) (settle_times m z).frames) (settles-q n m z h)
-  where
-    at : (o : Option Frame) → Q n (settle_times m z) → Q n (settle_one (settle_times m z) o)
-    at None k = k
-    at (Some f) k = told-plain n _ f.caller (work.Verdict DeadReply) (λ m e. cc) (closed-q n (settle_times m z) f.made k)
-
-settle-q : (n : ℕ) (z : Space) → Q n z → Q n (settle z)
-unfolding settle
-settle-q n z h = settles-q n (length z.frames) z h
-
-notice-if : (n place : ℕ) (todo : List Work) (deaths : List DeathNotification) (list : TodoList) (o : ObjectId) (b : Bool) → Queues n todo deaths
-    → Queues n (cond b (with_work place todo list (work.Notice o)) todo) deaths
-notice-if n place todo deaths list o true h = plain-item n place todo deaths list (work.Notice o) (λ m e. cc) h
-notice-if n place todo deaths list o false h = h
-
 follow-q : (n : ℕ) (z : Space) → Q n z → Q n (follow z)
-unfolding follow notify work_goes deaths_go objects_go names_go
+unfolding follow work_goes deaths_go objects_go names_go notify
 follow-q n z h =
     let y = deaths_go (objects_go (names_go z)) in
-    fold-keeps (λ todo. Queues n todo y.deaths) (λ todo (x : Object). with_notice z.steps z.processes z.references (OfProcess x.owner) todo x) y.objects
-    (λ todo x l k. notice-if n z.steps todo y.deaths (OfProcess x.owner) x.id (wants_notice z.processes z.references x && not (has_notice_in todo x.id)) k) _
+    notify-keeps (λ todo. Queues n todo y.deaths) (work_goes y) (λ todo x l due. plain-item n z.steps todo y.deaths (OfProcess x.owner) (work.Notice x.id) (λ m e. cc))
     (fewer-items n z.todo y.deaths (λ (w : Work). still_due y.processes y.objects y.references y.deaths w.kind)
     (fewer-deaths n z.todo z.deaths (λ (x : DeathNotification). x.cleared || is_name_of (names_go z).names x.process x.object) h))
 
 ripen-q : (n : ℕ) (z : Space) → Q n z → Q n (ripen z)
 unfolding ripen
-ripen-q n z h = all (turns_of z.buffers) [] z.todo h
-  where
-    one : (b : Bool) (t : Turn) (todo : List Work) → Queues n todo z.deaths → Queues n (cond b (with_work z.steps todo (OfProcess t.receiver) (work.Call t.made)) todo) z.deaths
-    one true t todo k = plain-item n z.steps todo z.deaths (OfProcess t.receiver) (work.Call t.made) (λ m e. cc) k
-    one false t todo k = k
-
-    all : (ts older : List Turn) (todo : List Work) → Queues n todo z.deaths → Queues n (ripened z.steps older todo ts) z.deaths
-    all [] older todo k = k
-    all (t ∷ ts) older todo k = all ts (older ++ t ∷ []) _ (one (is_ripe todo older t) t todo k)
-
-completes-q : (n : ℕ) (z : Space) → Q n z → Q n (completed z)
-unfolding completed
-completes-q n z h = settle-q n (follow (ripen z)) (follow-q n (ripen z) (ripen-q n z h))
+ripen-q n z h = ripen-keeps (λ todo. Queues n todo z.deaths) z (λ todo t. plain-item n z.steps todo z.deaths (OfProcess t.receiver) (work.Call t.made) (λ m e. cc)) h
 
 -- ---- transactions and replies
 
 delivered-q : (n : ℕ) (s : Space) (a : Actor) (d : TransactionData) (v : Delivery) → Q n s → Q n (delivered s a d v)
 unfolding delivered own_notices add_buffer known_by assign_numbers refer make_objects
-delivered-q n s a d v h =
-    fold-keeps (λ todo. Queues n todo s.deaths) _ v.sending.items (λ todo x l k. added x todo (is_own x.flat.kind) (object_in (s.objects ++ v.sending.made) x.object) k) _
-    (fold-keeps (λ todo. Queues n todo s.deaths) (withdraw_notice (s.objects ++ v.sending.made)) v.sending.items (λ todo x l k. withdrawn x todo _ k) s.todo h)
-  where
-    withdrawn : (x : Item) (todo : List Work) (b : Bool) → Queues n todo s.deaths → Queues n (cond b (filter (λ (w : Work). not (is_notice x.object w.kind)) todo) todo) s.deaths
-    withdrawn x todo true k = fewer-items n todo s.deaths (λ (w : Work). not (is_notice x.object w.kind)) k
-    withdrawn x todo false k = k
-
-    added : (x : Item) (todo : List Work) (own : Bool) (f : Option Object) → Queues n todo s.deaths
-        → Queues n (cond own (elim f as (λ (f : Option Object). List Work) [ None ↦ todo | Some o ↦ with_notice s.steps s.processes (known_by s v).references (OfThread a.thread.seat) todo o ]) todo) s.deaths
-    added x todo false f k = k
-    added x todo true None k = k
-    added x todo true (Some o) k = notice-if n s.steps todo s.deaths (OfThread a.thread.seat) o.id (wants_notice s.processes (known_by s v).references o && not (has_notice_in todo o.id)) k
+delivered-q n s a d v =
+    own_notices-keeps (λ todo. Queues n todo s.deaths) (add_buffer (known_by s v) (buffer_of (known_by s v) a d v)) a.thread.seat v.sending.items
+    (λ todo o. fewer-items n todo s.deaths (λ (w : Work). not (is_notice o w.kind)))
+    (λ todo x due. plain-item n s.steps todo s.deaths (OfThread a.thread.seat) (work.Notice x.id) (λ m e. cc))
 
 called-q : (n : ℕ) (z : Space) (seat p : ℕ) (one_way : Bool) → Q n z → Q n (called z seat p one_way)
 unfolding call_out
@@ -145,11 +96,7 @@ transacted-q n s a d v h = called-q n _ a.thread.seat v.receiver.made v.one_way 
 replied-q : (n : ℕ) (s : Space) (a : Actor) (d : TransactionData) (f : Frame) (v : Delivery) → Q n s → Q n (replied s a d f v)
 unfolding replied
 replied-q n s a d f v h =
-    told-plain n _ f.caller (work.Reply s.steps) (λ m e. cc) (owe-plain n _ (OfThread a.thread.seat) work.Complete (λ m e. cc) (delivered-q n (closed s f.made) a d v (closed-q n s f.made h)))
-
-refused-q : (n : ℕ) (s : Space) (t : ℕ) (f : Frame) → Q n s → Q n (reply_refused s t f)
-unfolding reply_refused
-refused-q n s t f h = told-plain n _ f.caller (work.Verdict FailedReply) (λ m e. cc) (closed-q n _ f.made (owe-plain n s (OfThread t) (work.Refusal TransactionComplete) (λ m e. cc) h))
+    told-keeps (Q n) (work.Reply s.steps) (λ z t. owe-plain n z (OfThread t) (work.Reply s.steps) (λ m e. cc)) _ f.caller (owe-plain n _ (OfThread a.thread.seat) work.Complete (λ m e. cc) (delivered-q n (closed s f.made) a d v (closed-q n s f.made h)))
 
 -- ---- death notifications
 
@@ -244,9 +191,7 @@ cleared-q n s t x h = at (is_out x.phase)
 
 told-phase : (phase : Phase) → is_told phase ≡ true → phase ≡ Queued → ⊥
 told-phase Armed e f = cc
-told-phase Queued e f = cc
-told-phase Told e f = cc
-told-phase Done e f = cc
+told-phase _ e f = cc
 
 pub found-told : (s : Space) (p cookie : ℕ) (x : DeathNotification) → told_death s p cookie ≡ Some x → In x s.deaths × (x.phase ≡ Queued → ⊥)
 unfolding told_death
@@ -268,21 +213,6 @@ done-q n s t p cookie x e h = at x.cleared
 
 -- ---- reading
 
-eq-identity : (a b : Identity) → a ≡ b → same_identity a b ≡ true
-eq-identity a b e = and-both (a.place == b.place) (a.index == b.index) (eq-eqb a.place b.place (ap (λ (x : Identity). x.place) e)) (eq-eqb a.index b.index (ap (λ (x : Identity). x.index) e))
-
-same_list-same : (l : TodoList) → same_list l l ≡ true
-same_list-same (OfThread t) = eq-eqb t t refl
-same_list-same (OfProcess p) = eq-eqb p p refl
-
-same-item : (v w : Work) → v ≡ w → is_item v w ≡ true
-same-item v w e =
-    and-both (same_identity v.id w.id) (is_on w.list v) (eq-identity v.id w.id (ap (λ (x : Work). x.id) e))
-    (ap (λ (x : Work). is_on w.list x) e ∙ same_list-same w.list)
-
-identity-same : (v w : Work) → v ≡ w → is_item v w ≡ true
-identity-same v w e = same-item v w e
-
 one-death : (todo : List Work) → Pairs OtherDeath todo → (v w : Work) (n : ℕ) → In v todo → In w todo → v.kind ≡ work.Death n → w.kind ≡ work.Death n → v ≡ w
 one-death todo h v w n l m e f = elim (pairs-either OtherDeath todo h v w l m) [
   | inl is ↦ is
@@ -290,14 +220,8 @@ one-death todo h v w n l m e f = elim (pairs-either OtherDeath todo h v w l m) [
 ]
 
 death-kind : (kind : WorkKind) (n : ℕ) → is_some_and (death_of kind) (λ m. m == n) ≡ true → kind ≡ work.Death n
-death-kind (work.Notice o) n e = absurd (cc)
-death-kind work.Complete n e = absurd (cc)
-death-kind (work.Refusal r) n e = absurd (cc)
-death-kind (work.Call b) n e = absurd (cc)
-death-kind (work.Reply b) n e = absurd (cc)
-death-kind (work.Verdict r) n e = absurd (cc)
 death-kind (work.Death m) n e = ap work.Death (eqb-true m n e)
-death-kind (work.Cleared m) n e = absurd (cc)
+death-kind _ n e = absurd (cc)
 
 read-q : (n : ℕ) (s : Space) (t : Thread) (seat left : ℕ) → Q n s → Q n (read_by s seat (taken s left (list_to_read s t)))
 unfolding read_by
@@ -333,7 +257,7 @@ read-q n s t seat left h =
         let kind = death-kind d.0.kind y.made d.2 in
         let y_made : m ≡ y.made = sym made ∙ ap (λ (z : DeathNotification). z.made) is ∙ made-kept (is_told_of_death ws y) y in
         let same_work = one-death s.todo h.once w d.0 y.made l (sub d.0 d.1) (e ∙ ap work.Death y_made) kind in
-        let some = any-in (λ (d : Work). is_item w d) d.0 ws d.1 (identity-same w d.0 same_work) in absurd (cc)
+        let some = any-in (λ (d : Work). is_item w d) d.0 ws d.1 (same-item w d.0 same_work) in absurd (cc)
 
 -- ---- exits
 
@@ -342,8 +266,7 @@ unfolding thread_goes
 left-q n z seat h = fewer-items n z.todo z.deaths (λ (w : Work). not (is_on (OfThread seat) w)) h
 
 threads-q : (n : ℕ) (z : Space) (p : ℕ) → Q n z → Q n (threads_go z p)
-unfolding threads_go
-threads-q n z p h = fold-keeps (Q n) thread_goes (map seat_of (filter (λ t. t.process == p) z.threads)) (λ y t l k. left-q n y t k) z h
+threads-q n = threads-keep (Q n) (left-q n)
 
 without-q : (n : ℕ) (z : Space) (p : ℕ) → Q n z → Q n (without_process z p)
 unfolding without_process
@@ -357,9 +280,7 @@ StillSilent xs todo = (x : DeathNotification) → In x xs → is_armed x.phase �
 
 armed-phase : (phase : Phase) → is_armed phase ≡ true → phase ≡ Queued → ⊥
 armed-phase Armed e f = cc
-armed-phase Queued e f = cc
-armed-phase Told e f = cc
-armed-phase Done e f = cc
+armed-phase _ e f = cc
 
 queued-item : (n : ℕ) (z : Space) (p made : ℕ) → Silent made z.todo → ((y : DeathNotification) → In y z.deaths → y.made ≡ made → y.process ≡ p) → Q n z → Q n (owe (with_phase z made Queued) (OfProcess p) (work.Death made))
 unfolding owe with_phase
@@ -436,32 +357,40 @@ managed-q : (n : ℕ) (s : Space) (p : ℕ) → Q n s → Q n (with_manager s p)
 unfolding with_manager
 managed-q n s p h = h
 
-step-q : (s : Space) (seat : ℕ) (x : Step) → Before s → Endings s seat x (Q (suc s.steps)) (Q (suc s.steps))
+step-q : (s : Space) (seat : ℕ) (x : Step) → Before s → Keeps s seat x (Q (suc s.steps)) (Q (suc s.steps))
 unfolding without_buffer ask assign_numbers drop_asked acknowledge with_looping
 step-q s seat x before =
     let n = suc s.steps in
     let h = now s before in
     record {
-      same = h;
-      opened = λ pid euid window free. opened-q n s seat pid euid window h;
-      attached = λ p free. attached-q n s seat p h;
-      managed = λ a e b. managed-q n s a.process.made h;
-      transacts = λ a d parcel v e i t. transacted-q n s a d v h;
-      replies = λ a d parcel f v e i g t. replied-q n s a d f v h;
-      frees = λ p ptr b e t. h;
-      asks = λ a k strong o e i t. h;
-      drops = λ p o strong. h;
-      acknowledges = λ o strong i. h;
-      loops = λ t looping. h;
-      requests = λ p k cookie o e. requested-q s p o cookie before;
-      clears = λ t y. cleared-q n s t y h;
-      dones = λ t p cookie y e. done-q n s t p cookie y e h;
-      completes = λ z k. completes-q n z k;
-      refuses = λ t c. settle-q n _ (owe-plain n s (OfThread t) (work.Refusal (refusal c)) (λ m e. cc) h);
-      fails = λ a d parcel f e i g. settle-q n _ (refused-q n s a.thread.seat f h);
-      reads = λ a limit e i k. follow-q n _ (read-q n s a.thread a.thread.seat _ h);
-      leaves = λ a e. settle-q n _ (follow-q n _ (left-q n s a.thread.seat h));
-      ends = λ a e. settle-q n _ (follow-q n _ (ends-q n _ a.process.made (without-q n _ a.process.made (threads-q n s a.process.made h))));
+      set_up = record {
+        same = h;
+        opened = λ pid euid window free. opened-q n s seat pid euid window h;
+        attached = λ p free. attached-q n s seat p h;
+        managed = λ a e b. managed-q n s a.process.made h;
+      };
+      changes = record {
+        transacts = λ a d parcel v e i t. transacted-q n s a d v h;
+        replies = λ a d parcel f v e i g t. replied-q n s a d f v h;
+        frees = λ p ptr b e t. h;
+        asks = λ a k strong o e i t. h;
+        drops = λ p o strong. h;
+        acknowledges = λ o strong i. h;
+        loops = λ t looping. h;
+        on_deaths = record {
+          requests = λ p k cookie o e. requested-q s p o cookie before;
+          clears = λ t y. cleared-q n s t y h;
+          dones = λ t p cookie y e. done-q n s t p cookie y e h;
+        };
+        reads = λ a limit e i k. read-q n s a.thread a.thread.seat _ h;
+        leaves = λ a e. left-q n s a.thread.seat h;
+        ends = λ a e. ends-q n _ a.process.made (without-q n _ a.process.made (threads-q n s a.process.made h));
+        ripens = ripen-q n;
+      };
+      follows = follow-q n;
+      closes = closed-q n;
+      refuses = λ z t r. owe-plain n z (OfThread t) (work.Refusal r) (λ m e. cc);
+      tells = λ z t r. owe-plain n z (OfThread t) (work.Verdict r) (λ m e. cc);
     }
 
 pub next-queued : (s : Space) (e : Entry) → (next s e).steps ≡ suc s.steps → IsQueued s → IsQuiet s → IsQueued (next s e)
@@ -473,7 +402,7 @@ next-queued s e steps h quiet =
           let is = eqb-true x.0.made m x.2 in let lt = h.fresh x.0 x.1 in omega arith);
     } in
     subst (λ n. Queues n (change s e.seat e.step).space.todo (change s e.seat e.step).space.deaths) (sym steps)
-    (every_ending_step s e.seat e.step (Q (suc s.steps)) (Q (suc s.steps)) (step-q s e.seat e.step before))
+    (every_step s e.seat e.step (Q (suc s.steps)) (Q (suc s.steps)) (step-q s e.seat e.step before))
 
 pub opening-queued : IsQueued opening
 unfolding IsQueued

@@ -1,5 +1,5 @@
 -- After a change and what follows from it nothing is pending.
-use Rattle.std.proofs.Common.{◌≡◌, ℕ, zero, suc, length, ◌==◌, Bool, true, false, cond, not, ◌&&◌, ◌||◌, List, [], ◌∷◌, ◌++◌, Option, Some, None, ◌⊎◌, inl, inr, refl, ap, sym, subst, ◌∙◌, filter, find}
+use Rattle.std.proofs.Common.{◌≡◌, ℕ, ◌==◌, Bool, true, false, cond, not, ◌&&◌, ◌||◌, List, [], ◌∷◌, ◌++◌, Option, Some, None, ◌⊎◌, inl, inr, refl, ap, sym, subst, ◌∙◌, filter, find}
 use Rattle.std.specs.List.{list_any, fold}
 use Rattle.bd_space.specs.declared.step.ObjectId.{ObjectId}
 use Rattle.bd_space.specs.declared.space.Process.{Process}
@@ -8,6 +8,7 @@ use Rattle.bd_space.specs.declared.space.Reference.{Reference}
 use Rattle.bd_space.specs.declared.space.Name.{Name}
 use Rattle.bd_space.specs.declared.space.DeathNotification.{DeathNotification}
 use Rattle.bd_space.specs.declared.space.Work.{Work}
+use Rattle.bd_space.specs.declared.space.Thread.{Thread}
 use Rattle.bd_space.specs.declared.space.Turn.{Turn}
 use Rattle.bd_space.specs.declared.space.Buffer.{Buffer}
 use Rattle.bd_space.specs.declared.space.Frame.{Frame}
@@ -23,18 +24,20 @@ use Rattle.bd_space.specs.Space.{Space, opening}
 use Rattle.bd_space.specs.References.{object_in, owned_in, stays_in, objects_go}
 use Rattle.bd_space.specs.Names.{is_named_in, names_go}
 use Rattle.bd_space.specs.Todo.{with_work, owe, is_notice, notice_of, is_call}
-use Rattle.bd_space.specs.Turns.{turns_of, ripen}
-use Rattle.bd_space.specs.Settle.{settle, settle_one, settle_times, is_abandoned}
+use Rattle.bd_space.specs.Turns.{turns_of, is_ripe, ripen}
+use Rattle.bd_space.specs.Settle.{settle}
+use Rattle.bd_space.specs.Local.{NameTest, ObjectTest}
 use Rattle.bd_space.specs.Outcomes.{completed}
 use Rattle.bd_space.specs.Notices.{wants_notice, has_notice_in, with_notice, is_name_of, still_due, deaths_go, work_goes, notify, follow}
 use Rattle.bd_laws.specs.Lists.{In, Pairs}
 use Rattle.bd_laws.specs.Objects.{Differ}
-use Rattle.bd_laws.specs.Quiet.{NoneRipe, IsFollowed, IsQuiet}
+use Rattle.bd_laws.specs.Quiet.{Elsewhere, NoneRipe, IsFollowed, IsQuiet}
 use Rattle.bd_laws.proofs.Lists.{in-left, in-last, in-push, in-filter, filter-in, any-found, any-in, pairs-filter, fold-keeps}
 use Rattle.bd_laws.proofs.Tests.{both, and-both, not-true, same-eq, eq-same}
 use Rattle.bd_laws.proofs.Noticing.{follow-wanted}
-use Rattle.bd_laws.proofs.Settled.{settle-settles}
+use Rattle.bd_laws.proofs.Settled.{settle-settles, settle-keeps}
 use Rattle.bd_laws.proofs.Ripe.{ripen-none}
+use Rattle.bd_laws.proofs.Adding.{told-keeps, notice-keeps, notify-keeps}
 
 -- ---- an object is found by its identity
 
@@ -92,22 +95,14 @@ module _ (z : Space) where
   abbrev AllTell : List DeathNotification → List Work → Type 0
   AllTell deaths todo = (w : Work) (n : ℕ) → In w todo → w.kind ≡ work.Death n → list_any (λ (x : DeathNotification). x.made == n) deaths ≡ true
 
-  told-tell : (deaths : List DeathNotification) (todo : List Work) (x : Object) → AllTell deaths todo → AllTell deaths (told todo x)
-  unfolding told
-  told-tell deaths todo x k = at (wants_notice z.processes z.references x && not (has_notice_in todo x.id))
-    where
-      at : (b : Bool) → AllTell deaths (cond b (with_work z.steps todo (OfProcess x.owner) (work.Notice x.id)) todo)
-      at false = k
-      at true = λ w n l e. elim (in-push w _ todo l) [
-        | inl i ↦ k w n i e
-        | inr is ↦ (let kinds : work.Notice x.id ≡ work.Death n = ap (λ (v : Work). v.kind) is ∙ e in absurd (cc))
-      ]
-
   follow-tellings : AllTell (follow z).deaths (follow z).todo
   unfolding follow notify told work_goes deaths_go objects_go names_go
   follow-tellings =
       let y = deaths_go (objects_go (names_go z)) in
-      fold-keeps (AllTell y.deaths) told (objects_go (names_go z)).objects (λ todo x l k. told-tell y.deaths todo x k) (work_goes y).todo
+      notify-keeps (AllTell y.deaths) (work_goes y) (λ todo x i due k w n l e. elim (in-push w _ todo l) [
+        | inl j ↦ k w n j e
+        | inr is ↦ (let kinds : work.Notice x.id ≡ work.Death n = ap (λ (v : Work). v.kind) is ∙ e in absurd (cc))
+      ])
       (λ w n l e.
       let k = (in-filter (λ (w : Work). still_due y.processes y.objects y.references y.deaths w.kind) w y.todo l).1 in
       subst (λ kind. still_due y.processes y.objects y.references y.deaths kind ≡ true) e k)
@@ -127,11 +122,9 @@ module _ (z : Space) where
 
   told-stays : (todo : List Work) (y : Object) (o : ObjectId) → has_notice_in todo o ≡ true → has_notice_in (told todo y) o ≡ true
   unfolding told
-  told-stays todo y o h = at (wants_notice z.processes z.references y && not (has_notice_in todo y.id))
-    where
-      at : (b : Bool) → has_notice_in (cond b (with_work z.steps todo (OfProcess y.owner) (work.Notice y.id)) todo) o ≡ true
-      at false = h
-      at true = let w = any-found (λ (w : Work). is_notice o w.kind) todo h in any-in (λ (w : Work). is_notice o w.kind) w.0 _ (in-left w.0 todo _ w.1) w.2
+  told-stays todo y o =
+      notice-keeps (λ todo. has_notice_in todo o ≡ true) z.steps z.processes z.references (OfProcess y.owner) todo y
+      (λ due h. let w = any-found (λ (w : Work). is_notice o w.kind) todo h in any-in (λ (w : Work). is_notice o w.kind) w.0 _ (in-left w.0 todo _ w.1) w.2)
 
   told-made : (todo : List Work) (x : Object) → wants_notice z.processes z.references x ≡ true → has_notice_in (told todo x) x.id ≡ true
   unfolding told
@@ -166,25 +159,41 @@ module _ (z : Space) where
 
 -- ---- after an accepted command's change, whatever it was
 
+module _ (todo more : List Work) where
+  abbrev pub CallsStay : Turn → Type 0
+  CallsStay t = list_any (λ (w : Work). is_call t.made w.kind) todo ≡ true → list_any (λ (w : Work). is_call t.made w.kind) more ≡ true
+
+  pub unripe-one : (older less : List Turn) (t : Turn) → list_any (λ (u : Turn). same u.target t.target) less ≡ list_any (λ (u : Turn). same u.target t.target) older → CallsStay t
+      → is_ripe todo older t ≡ false → is_ripe more less t ≡ false
+  unripe-one older less t e k h = ap (λ b. not t.handed && not b && not (list_any (λ (w : Work). is_call t.made w.kind) more)) e
+      ∙ at t.handed (list_any (λ (u : Turn). same u.target t.target) older) (list_any (λ (w : Work). is_call t.made w.kind) todo) k h
+    where
+      at : (a b c : Bool) → (c ≡ true → list_any (λ (w : Work). is_call t.made w.kind) more ≡ true) → (not a && not b && not c) ≡ false
+          → (not a && not b && not (list_any (λ (w : Work). is_call t.made w.kind) more)) ≡ false
+      at true b c i e = refl
+      at false true c i e = refl
+      at false false false i e = absurd (cc)
+      at false false true i e = rw (i refl) refl
+
+  pub unripe-kept : (ts older : List Turn) → NoneRipe todo older ts → ((t : Turn) → In t ts → CallsStay t) → NoneRipe more older ts
+  unripe-kept [] older h k = tt
+  unripe-kept (t ∷ ts) older h k = (unripe-one older older t refl (k t (inl refl)) h.0, unripe-kept ts (older ++ t ∷ []) h.1 (λ u l. k u (inr l)))
+
 -- following touches neither calls that are due nor frames
 pub still-unripe-if : (todo more : List Work) (z : Space) → ((n : ℕ) → list_any (λ (w : Work). is_call n w.kind) todo ≡ true → list_any (λ (w : Work). is_call n w.kind) more ≡ true)
     → (ts older : List Turn) → NoneRipe todo older ts → NoneRipe more older ts
-still-unripe-if todo more z k [] older h = tt
-still-unripe-if todo more z k (t ∷ ts) older h =
-    (at t.handed (list_any (λ (u : Turn). same u.target t.target) older) _ (k t.made) h.0, still-unripe-if todo more z k ts (older ++ t ∷ []) h.1)
-  where
-    at : (a b c : Bool) → (c ≡ true → list_any (λ (w : Work). is_call t.made w.kind) more ≡ true) → (not a && not b && not c) ≡ false
-        → (not a && not b && not (list_any (λ (w : Work). is_call t.made w.kind) more)) ≡ false
-    at true b c i e = refl
-    at false true c i e = refl
-    at false false false i e = absurd (cc)
-    at false false true i e = rw (i refl) refl
+still-unripe-if todo more z k ts older h = unripe-kept todo more ts older h (λ t l. k t.made)
 
 -- nothing is pending but abandoned calls
 pub record IsCalm (z : Space) : Type 0 where
   pub differ : Pairs Differ z.objects
   pub followed : IsFollowed z
   pub unripe : NoneRipe z.todo [] (turns_of z.buffers)
+
+-- where nothing is pending it is the same with other threads, frames and buffers, at any step
+pub elsewhere-aside : (a : NameTest) (b : ObjectTest) (z : Space) (n : ℕ) (ts : List Thread) (fs : List Frame) (bs : List Buffer) → Elsewhere a b z
+    → Elsewhere a b (record z { steps = n; threads = ts; frames = fs; buffers = bs })
+elsewhere-aside a b z n ts fs bs h = record { names = h.names; objects = h.objects; deaths = h.deaths; notices = h.notices; tellings = h.tellings; made = h.made }
 
 -- it tells neither of an object nor of a death
 abbrev pub IsPlainKind : WorkKind → Type 0
@@ -216,54 +225,27 @@ owe-calm z list kind plain h = record {
 
 pub closed-calm : (z : Space) (made : ℕ) → IsCalm z → IsCalm (closed z made)
 unfolding closed
-closed-calm z made h = record {
-  differ = h.differ;
-  followed = record {
-    names = h.followed.names;
-    objects = h.followed.objects;
-    deaths = h.followed.deaths;
-    notices = h.followed.notices;
-    tellings = h.followed.tellings;
-    made = h.followed.made;
-  };
-  unripe = h.unripe;
-}
+closed-calm z made h = record { differ = h.differ; followed = elsewhere-aside _ _ z _ _ _ _ h.followed; unripe = h.unripe }
 
 pub told-calm : (z : Space) (caller : Option ℕ) (kind : WorkKind) → IsPlainKind kind → IsCalm z
     → IsCalm (elim caller as (λ (o : Option ℕ). Space) [ None ↦ z | Some t ↦ owe z (OfThread t) kind ])
-told-calm z None kind plain h = h
-told-calm z (Some t) kind plain h = owe-calm z (OfThread t) kind plain h
+told-calm z caller kind plain = told-keeps IsCalm kind (λ z t. owe-calm z (OfThread t) kind plain) z caller
 
 verdict-plain : (r : Return) → IsPlainKind (work.Verdict r)
 verdict-plain r = (λ o e. cc, λ n e. cc)
 
-settles-one : (z : Space) (o : Option Frame) → IsCalm z → IsCalm (settle_one z o)
-settles-one z None h = h
-settles-one z (Some f) h = told-calm (closed z f.made) f.caller (work.Verdict DeadReply) (verdict-plain DeadReply) (closed-calm z f.made h)
-
-settles-times : (n : ℕ) (z : Space) → IsCalm z → IsCalm (settle_times n z)
-settles-times zero z h = h
-settles-times (suc n) z h = settles-one (settle_times n z) (find (is_abandoned (settle_times n z).frames) (settle_times n z).frames) (settles-times n z h)
-
 -- settling a calm space makes it quiet
 pub settle-quiet : (z : Space) → IsCalm z → IsQuiet (settle z)
-unfolding settle
 settle-quiet z h =
-    let k = settles-times (length z.frames) z h in
+    let k = settle-keeps IsCalm (λ z f e h. told-calm (closed z f.made) f.caller (work.Verdict DeadReply) (verdict-plain DeadReply) (closed-calm z f.made h)) z h in
     record { differ = k.differ; followed = k.followed; unripe = k.unripe; settled = settle-settles z }
 
 -- ---- what follows keeps the calls that are due
 
 call-due : (processes : List Process) (objects : List Object) (references : List Reference) (deaths : List DeathNotification) (n : ℕ) (kind : WorkKind)
     → is_call n kind ≡ true → still_due processes objects references deaths kind ≡ true
-call-due processes objects references deaths n (work.Notice o) e = absurd (cc)
-call-due processes objects references deaths n work.Complete e = absurd (cc)
-call-due processes objects references deaths n (work.Refusal r) e = absurd (cc)
 call-due processes objects references deaths n (work.Call b) e = refl
-call-due processes objects references deaths n (work.Reply b) e = absurd (cc)
-call-due processes objects references deaths n (work.Verdict r) e = absurd (cc)
-call-due processes objects references deaths n (work.Death m) e = absurd (cc)
-call-due processes objects references deaths n (work.Cleared c) e = absurd (cc)
+call-due processes objects references deaths n _ e = absurd (cc)
 
 follow-calls : (z : Space) (n : ℕ) → list_any (λ (w : Work). is_call n w.kind) z.todo ≡ true → list_any (λ (w : Work). is_call n w.kind) (follow z).todo ≡ true
 unfolding follow notify told work_goes deaths_go objects_go names_go
@@ -272,14 +254,8 @@ follow-calls z n h =
     let w = any-found (λ (w : Work). is_call n w.kind) z.todo h in
     let stays = filter-in (λ (w : Work). still_due y.processes y.objects y.references y.deaths w.kind) w.0 z.todo w.1
     (call-due y.processes y.objects y.references y.deaths n w.0.kind w.2) in
-    fold-keeps (λ todo. list_any (λ (w : Work). is_call n w.kind) todo ≡ true) (told z) (objects_go (names_go z)).objects
-    (λ todo x l k. at x todo k (wants_notice z.processes z.references x && not (has_notice_in todo x.id)))
-    (work_goes y).todo (any-in (λ (w : Work). is_call n w.kind) w.0 _ stays w.2)
-  where
-    at : (x : Object) (todo : List Work) → list_any (λ (w : Work). is_call n w.kind) todo ≡ true → (b : Bool)
-        → list_any (λ (w : Work). is_call n w.kind) (cond b (with_work z.steps todo (OfProcess x.owner) (work.Notice x.id)) todo) ≡ true
-    at x todo k true = any-more (λ (w : Work). is_call n w.kind) todo _ k
-    at x todo k false = k
+    notify-keeps (λ todo. list_any (λ (w : Work). is_call n w.kind) todo ≡ true) (work_goes y) (λ todo x l due. any-more (λ (w : Work). is_call n w.kind) todo _)
+    (any-in (λ (w : Work). is_call n w.kind) w.0 _ stays w.2)
 
 follow-buffers : (z : Space) → (follow z).buffers ≡ z.buffers
 unfolding follow notify work_goes deaths_go objects_go names_go

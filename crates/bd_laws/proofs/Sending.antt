@@ -226,23 +226,11 @@ module _ (s : Space) (v : Delivery) (h : IsFollowed s) (kept : KeptBefore s) (k 
     where
       call : (n : ℕ) (kind : WorkKind) → is_call n kind ≡ true → not (is_notice x.object kind) ≡ true
       call n (work.Notice o) e = absurd (cc)
-      call n work.Complete e = refl
-      call n (work.Refusal r) e = refl
-      call n (work.Call b) e = refl
-      call n (work.Reply b) e = refl
-      call n (work.Verdict r) e = refl
-      call n (work.Death m) e = refl
-      call n (work.Cleared c) e = refl
+      call n _ e = refl
 
       other : (o : ObjectId) → is_sent o ≡ false → (kind : WorkKind) → is_notice o kind ≡ true → not (is_notice x.object kind) ≡ true
       other o none (work.Notice i) e = let no = to-false (same i x.object) (λ f. sent-item x o l none (eq-same x.object o (sym (same-eq i x.object f) ∙ same-eq i o e))) in rw no refl
-      other o none work.Complete e = refl
-      other o none (work.Refusal r) e = refl
-      other o none (work.Call b) e = refl
-      other o none (work.Reply b) e = refl
-      other o none (work.Verdict r) e = refl
-      other o none (work.Death m) e = refl
-      other o none (work.Cleared c) e = refl
+      other o none _ e = refl
 
   adds-work : (todo : List Work) (list : TodoList) (kind : WorkKind) → ((o : ObjectId) → kind ≡ work.Notice o → is_sent o ≡ false → ⊥) → ((n : ℕ) → kind ≡ work.Death n → ⊥) → Todo todo
       → Todo (with_work s.steps todo list kind)

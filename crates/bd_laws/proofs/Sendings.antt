@@ -129,20 +129,25 @@ handle-resolves s p made (Some o) r n h k =
     let is : (let q : Resolved = record { object = o; new = None } in q) ≡ r = cc in
     subst (Resolves s p made false) is (record { owned = λ f. absurd (cc); sent = inr (n o refl); makes = made-none s p made h })
 
-pub resolves : (s : Space) (p : ℕ) (made : List Object) (x : FlatObject) (r : Resolved) → Made s p made → resolve s p made x ≡ Ok r → Resolves s p made (is_own x.kind) r
+-- an item is of its sender's own object, or of one that the sender has a name for
+pub resolved-by : (s : Space) (p : ℕ) (made : List Object) (x : FlatObject) (r : Resolved) (R : Bool → Type 0) → (resolve_own s p made x ≡ Ok r → R true)
+    → ((f : Option ObjectId) → ((o : ObjectId) → f ≡ Some o → HasName s.names p o) → resolve_handle f ≡ Ok r → R false) → resolve s p made x ≡ Ok r → R (is_own x.kind)
 unfolding resolve
-resolves s p made x r h k = of x.kind k
+resolved-by s p made x r R own handle = of x.kind
   where
     of : (kind : ObjectKind) → elim kind as (λ (q : ObjectKind). Result Resolved Cause) [
       | Binder ↦ resolve_own s p made x
       | WeakBinder ↦ resolve_own s p made x
       | Handle ↦ resolve_handle (strongly_named s p (x.binder % 2 ^ 32))
       | WeakHandle ↦ resolve_handle (named s p (x.binder % 2 ^ 32))
-    ] ≡ Ok r → Resolves s p made (is_own kind) r
-    of Binder e = own-resolves s p made x r h e
-    of WeakBinder e = own-resolves s p made x r h e
-    of Handle e = handle-resolves s p made (strongly_named s p (x.binder % 2 ^ 32)) r (λ o f. strongly_named-has s p (x.binder % 2 ^ 32) o f) h e
-    of WeakHandle e = handle-resolves s p made (named s p (x.binder % 2 ^ 32)) r (λ o f. named-has s p (x.binder % 2 ^ 32) o f) h e
+    ] ≡ Ok r → R (is_own kind)
+    of Binder e = own e
+    of WeakBinder e = own e
+    of Handle e = handle (strongly_named s p (x.binder % 2 ^ 32)) (λ o f. strongly_named-has s p (x.binder % 2 ^ 32) o f) e
+    of WeakHandle e = handle (named s p (x.binder % 2 ^ 32)) (λ o f. named-has s p (x.binder % 2 ^ 32) o f) e
+
+pub resolves : (s : Space) (p : ℕ) (made : List Object) (x : FlatObject) (r : Resolved) → Made s p made → resolve s p made x ≡ Ok r → Resolves s p made (is_own x.kind) r
+resolves s p made x r h = resolved-by s p made x r (λ own. Resolves s p made own r) (own-resolves s p made x r h) (λ f n. handle-resolves s p made f r n h)
 
 -- ---- all of a parcel
 

@@ -8,7 +8,7 @@ use Rattle.bd_space.specs.declared.space.WorkKind.{WorkKind}
 use Rattle.bd_space.specs.declared.space.WorkKind.TheVariants.{Verdict}
 use Rattle.bd_space.specs.Space.{Space}
 use Rattle.bd_space.specs.Frames.{closed, is_frame}
-use Rattle.bd_space.specs.Todo.{owe}
+use Rattle.bd_space.specs.Todo.{owe, tell_caller}
 use Rattle.bd_space.specs.Settle.{is_abandoned, settle_one, settle_step, settle_times, settle}
 use Rattle.bd_laws.specs.Lists.{In}
 use Rattle.bd_laws.specs.Quiet.{IsSettled}
@@ -74,3 +74,17 @@ times-still (suc n) z h = ap settle_step (times-still n z h) ∙ ap (settle_one 
 pub settle-still : (z : Space) → IsSettled z.frames → settle z ≡ z
 unfolding settle
 settle-still z h = times-still (length z.frames) z h
+
+-- what closing an abandoned frame and telling its caller keeps, settling keeps
+module _ (R : Space → Type 0) (abandons : (z : Space) (f : Frame) → find (is_abandoned z.frames) z.frames ≡ Some f → R z → R (tell_caller (closed z f.made) f (Verdict DeadReply))) where
+  one-keeps : (z : Space) (o : Option Frame) → find (is_abandoned z.frames) z.frames ≡ o → R z → R (settle_one z o)
+  one-keeps z None e h = h
+  one-keeps z (Some f) e h = abandons z f e h
+
+  times-keep : (n : ℕ) (z : Space) → R z → R (settle_times n z)
+  times-keep zero z h = h
+  times-keep (suc n) z h = one-keeps (settle_times n z) (find (is_abandoned (settle_times n z).frames) (settle_times n z).frames) refl (times-keep n z h)
+
+  pub settle-keeps : (z : Space) → R z → R (settle z)
+  unfolding settle
+  settle-keeps z h = times-keep (length z.frames) z h

@@ -1,6 +1,6 @@
 -- Of a reading: only objects whose Notices it takes need a look.
-use Rattle.std.proofs.Common.{◌≡◌, ℕ, ◌+◌, ◌==◌, Bool, true, false, cond, not, ◌&&◌, ◌||◌, List, [], ◌∷◌, ◌++◌, Option, Some, None, inl, inr, refl, ap, sym, subst, ◌∙◌, find, length}
-use Rattle.std.specs.List.{list_any, flat_map}
+use Rattle.std.proofs.Common.{◌≡◌, ℕ, ◌==◌, Bool, true, false, cond, not, ◌&&◌, ◌||◌, List, [], ◌∷◌, ◌++◌, Option, Some, None, refl, ap, sym, subst, ◌∙◌, find}
+use Rattle.std.specs.List.{list_any}
 use Rattle.std.specs.Option.{option_map}
 use mathlib.Core.Bool.{beq}
 use Rattle.bd_space.specs.declared.step.ObjectId.{ObjectId}
@@ -11,7 +11,6 @@ use Rattle.bd_space.specs.declared.space.Name.{Name}
 use Rattle.bd_space.specs.declared.space.DeathNotification.{DeathNotification}
 use Rattle.bd_space.specs.declared.space.Work.{Work}
 use Rattle.bd_space.specs.declared.space.WorkKind.{WorkKind}
-use Rattle.bd_space.specs.declared.space.WorkKind.TheVariants as work
 use Rattle.bd_space.specs.declared.space.Phase.TheVariants.{Told}
 use Rattle.bd_space.specs.Words.{same, is_some_and, changed}
 use Rattle.bd_space.specs.Space.{Space}
@@ -20,18 +19,18 @@ use Rattle.bd_space.specs.References.{object_in, owned_in, held_in, strong_in}
 use Rattle.bd_space.specs.Names.{is_named_in}
 use Rattle.bd_space.specs.Todo.{is_item, is_notice, notice_of, list_to_read, without_taken}
 use Rattle.bd_space.specs.Notices.{wants_notice, is_name_of, follow}
-use Rattle.bd_space.specs.ReadItems.{read_by, taken, handshakes, handshakes_of, handshakes_for, shakes, is_told_by, told_of, told_objects, told_deaths, is_told_of_death}
-use Rattle.bd_space.specs.Returns.{returns_of}
+use Rattle.bd_space.specs.ReadItems.{read_by, taken, handshakes, is_told_by, told_of, told_objects, told_deaths, is_told_of_death}
 use Rattle.bd_space.specs.Local.{ObjectTest, no_name, follow_of}
 use Rattle.bd_laws.specs.Lists.{In}
 use Rattle.bd_laws.specs.Quiet.{Elsewhere, IsQuiet}
 use Rattle.bd_laws.specs.Items.{Distinct}
-use Rattle.bd_laws.proofs.Lists.{in-append, in-filter, filter-in, in-changed, any-found, any-in, find-in}
-use Rattle.bd_laws.proofs.Tests.{both, and-both, same-eq, eq-same}
+use Rattle.bd_laws.proofs.Lists.{in-filter, filter-in, in-changed, any-found, any-in, find-in}
+use Rattle.bd_laws.proofs.Tests.{both, and-both, same-eq, eq-same, notice-kind}
 use Rattle.bd_laws.proofs.Ripening.{read-in}
 use Rattle.bd_laws.proofs.Follow.{follow-local}
 use Rattle.bd_laws.proofs.Fewer.{to-false}
 use Rattle.bd_laws.proofs.Sending.{any-none, any-left}
+use Rattle.bd_laws.proofs.Handshakes.{shaken-by, shaken-object}
 
 module _ {A : Type 0} (p : A → Bool) (f : A → A) (q : A → Bool) (keeps : (x : A) → q (f x) ≡ q x) where
   pub any-changed : (xs : List A) → list_any q (changed p f xs) ≡ list_any q xs
@@ -57,32 +56,11 @@ module _ {A : Type 0} (p : A → Bool) (f : A → A) (q : A → Bool) (keeps : (
 
 -- ---- handshakes are with what was told
 
-for-object : (place k : ℕ) (o : ObjectId) (bs : List Bool) (r : Reference) → In r (handshakes_for place k o bs) → r.object ≡ o
-for-object place k o [] r l = absurd l
-for-object place k o (b ∷ bs) r (inl e) = sym (ap (λ (y : Reference). y.object) e)
-for-object place k o (b ∷ bs) r (inr l) = for-object place (k + 1) o bs r l
-
-of-notice : (s : Space) (k : ℕ) (kind : WorkKind) (r : Reference) → In r (handshakes_of s k kind) → is_some_and (notice_of kind) (same r.object) ≡ true
-of-notice s k (work.Notice o) r l = eq-same r.object o (for-object s.steps k o (flat_map shakes (returns_of s (work.Notice o))) r l)
-of-notice s k work.Complete r l = absurd l
-of-notice s k (work.Refusal x) r l = absurd l
-of-notice s k (work.Call b) r l = absurd l
-of-notice s k (work.Reply b) r l = absurd l
-of-notice s k (work.Verdict x) r l = absurd l
-of-notice s k (work.Death n) r l = absurd l
-of-notice s k (work.Cleared n) r l = absurd l
-
 handshake-told : (s : Space) (ws : List Work) (k : ℕ) (r : Reference) → In r (handshakes s k ws) → is_told_by ws r.object ≡ true
-handshake-told s [] k r l = absurd l
-handshake-told s (w ∷ ws) k r l =
-    elim (in-append r (handshakes_of s k w.kind) (handshakes s (k + length (handshakes_of s k w.kind)) ws) l) [
-      | inl i ↦ rw (of-notice s k w.kind r i) refl
-      | inr i ↦ or-right (is_some_and (notice_of w.kind) (same r.object)) _ (handshake-told s ws (k + length (handshakes_of s k w.kind)) r i)
-    ]
-  where
-    or-right : (a b : Bool) → b ≡ true → (a || b) ≡ true
-    or-right true b h = refl
-    or-right false b h = h
+handshake-told s ws k r l =
+    let x = shaken-by s ws k r l in
+    any-in (λ (w : Work). is_some_and (notice_of w.kind) (same r.object)) x.item ws x.here
+    (ap (λ f. is_some_and f (same r.object)) x.tells ∙ eq-same r.object x.object (shaken-object s ws r x))
 
 module _ (s : Space) (t : Thread) (seat left : ℕ) (h : IsQuiet s) (distinct : Distinct s.todo) where
   abbrev ws : List Work
@@ -163,14 +141,7 @@ module _ (s : Space) (t : Thread) (seat left : ℕ) (h : IsQuiet s) (distinct : 
       let it_is = any-in (λ (w : Work). is_some_and (notice_of w.kind) (same o)) d.0 ws d.1 (subst (λ (w : Work). is_some_and (notice_of w.kind) (same o) ≡ true) is named) in cc)) refl)) v.2
     where
       tells : (kind : WorkKind) → is_notice o kind ≡ true → is_some_and (notice_of kind) (same o) ≡ true
-      tells (work.Notice p) e = eq-same o p (sym (same-eq p o e))
-      tells work.Complete e = absurd (cc)
-      tells (work.Refusal r) e = absurd (cc)
-      tells (work.Call b) e = absurd (cc)
-      tells (work.Reply b) e = absurd (cc)
-      tells (work.Verdict r) e = absurd (cc)
-      tells (work.Death n) e = absurd (cc)
-      tells (work.Cleared n) e = absurd (cc)
+      tells kind e = subst (λ k. is_some_and (notice_of k) (same o) ≡ true) (sym (notice-kind o kind e)) (eq-same o o refl)
 
   read-elsewhere : Elsewhere no_name told (read_by s seat ws)
   unfolding read_by

@@ -1,6 +1,10 @@
 -- Parts of a step that leave processes, objects, references, names and buffers as they are.
 use Rattle.std.proofs.Common.{◌≡◌, ℕ, Bool, true, false, List, Option, Some, None, refl, ◌∙◌}
 use Rattle.bd_space.specs.declared.space.Item.{Item}
+use Rattle.bd_space.specs.declared.space.Thread.{Thread}
+use Rattle.bd_space.specs.declared.space.Frame.{Frame}
+use Rattle.bd_space.specs.declared.space.Work.{Work}
+use Rattle.bd_space.specs.declared.space.DeathNotification.{DeathNotification}
 use Rattle.bd_space.specs.declared.space.TodoList.{TodoList}
 use Rattle.bd_space.specs.declared.space.TodoList.TheVariants.{OfThread, OfProcess}
 use Rattle.bd_space.specs.declared.space.WorkKind.{WorkKind}
@@ -25,8 +29,11 @@ pub record Untouched (z y : Space) : Type 0 where
   pub names : z.names ≡ y.names
   pub buffers : z.buffers ≡ y.buffers
 
+other : (z : Space) (ts : List Thread) (fs : List Frame) (td : List Work) (ds : List DeathNotification) → Untouched (record z { threads = ts; frames = fs; todo = td; deaths = ds }) z
+other z ts fs td ds = record { steps = refl; processes = refl; manager = refl; objects = refl; references = refl; names = refl; buffers = refl }
+
 pub untouched : (z : Space) → Untouched z z
-untouched z = record { steps = refl; processes = refl; manager = refl; objects = refl; references = refl; names = refl; buffers = refl }
+untouched z = other z z.threads z.frames z.todo z.deaths
 
 pub untouched-trans : (z y x : Space) → Untouched z y → Untouched y x → Untouched z x
 untouched-trans z y x h k = record {
@@ -41,7 +48,7 @@ untouched-trans z y x h k = record {
 
 pub owe-untouched : (z : Space) (list : TodoList) (kind : WorkKind) → Untouched (owe z list kind) z
 unfolding owe
-owe-untouched z list kind = record { steps = refl; processes = refl; manager = refl; objects = refl; references = refl; names = refl; buffers = refl }
+owe-untouched z list kind = other _ _ _ _ _
 
 pub told-untouched : (z : Space) (caller : Option ℕ) (kind : WorkKind) → Untouched (elim caller as (λ (o : Option ℕ). Space) [ None ↦ z | Some t ↦ owe z (OfThread t) kind ]) z
 told-untouched z None kind = untouched z
@@ -49,31 +56,31 @@ told-untouched z (Some t) kind = owe-untouched z (OfThread t) kind
 
 pub closed-untouched : (z : Space) (made : ℕ) → Untouched (closed z made) z
 unfolding closed
-closed-untouched z made = record { steps = refl; processes = refl; manager = refl; objects = refl; references = refl; names = refl; buffers = refl }
+closed-untouched z made = other _ _ _ _ _
 
 pub ripen-untouched : (z : Space) → Untouched (ripen z) z
 unfolding ripen
-ripen-untouched z = record { steps = refl; processes = refl; manager = refl; objects = refl; references = refl; names = refl; buffers = refl }
+ripen-untouched z = other _ _ _ _ _
 
 pub notify-untouched : (z : Space) → Untouched (notify z) z
 unfolding notify
-notify-untouched z = record { steps = refl; processes = refl; manager = refl; objects = refl; references = refl; names = refl; buffers = refl }
+notify-untouched z = other _ _ _ _ _
 
 pub work_goes-untouched : (z : Space) → Untouched (work_goes z) z
 unfolding work_goes
-work_goes-untouched z = record { steps = refl; processes = refl; manager = refl; objects = refl; references = refl; names = refl; buffers = refl }
+work_goes-untouched z = other _ _ _ _ _
 
 pub deaths_go-untouched : (z : Space) → Untouched (deaths_go z) z
 unfolding deaths_go
-deaths_go-untouched z = record { steps = refl; processes = refl; manager = refl; objects = refl; references = refl; names = refl; buffers = refl }
+deaths_go-untouched z = other _ _ _ _ _
 
 pub own_notices-untouched : (z : Space) (seat : ℕ) (items : List Item) → Untouched (own_notices z seat items) z
 unfolding own_notices
-own_notices-untouched z seat items = record { steps = refl; processes = refl; manager = refl; objects = refl; references = refl; names = refl; buffers = refl }
+own_notices-untouched z seat items = other _ _ _ _ _
 
 call_out-untouched : (z : Space) (seat p : ℕ) → Untouched (call_out z seat p) z
 unfolding call_out owe
-call_out-untouched z seat p = record { steps = refl; processes = refl; manager = refl; objects = refl; references = refl; names = refl; buffers = refl }
+call_out-untouched z seat p = other _ _ _ _ _
 
 pub called-untouched : (z : Space) (seat p : ℕ) (one_way : Bool) → Untouched (called z seat p one_way) z
 called-untouched z seat p true = untouched z
@@ -81,11 +88,11 @@ called-untouched z seat p false = call_out-untouched z seat p
 
 pub with_looping-untouched : (z : Space) (t : ℕ) (looping : Bool) → Untouched (with_looping z t looping) z
 unfolding with_looping
-with_looping-untouched z t looping = record { steps = refl; processes = refl; manager = refl; objects = refl; references = refl; names = refl; buffers = refl }
+with_looping-untouched z t looping = other _ _ _ _ _
 
 kept-on_deaths : (z : Space) → KeptOnDeaths (λ y. Untouched y z)
 kept-on_deaths z = record {
-  others = λ y ds h. untouched-trans _ y z (record { steps = refl; processes = refl; manager = refl; objects = refl; references = refl; names = refl; buffers = refl }) h;
+  others = λ y ds h. untouched-trans _ y z (other _ _ _ _ _) h;
   dies = λ y p made h. untouched-trans _ y z (owe-untouched y (OfProcess p) (work.Death made)) h;
   clears = λ y t cookie h. untouched-trans _ y z (owe-untouched y (OfThread t) (work.Cleared cookie)) h;
 }
