@@ -26,7 +26,8 @@ impl Tables {
 
     // The process's name of the object goes with the references that it rests on, and its death notifications with it.
     fn follow_name(&mut self, p: u32, o: ObjectId)
-        ensures stands { MakesWithin self.old self.new (λ s. deaths_followed (at_name p o) (names_go_of (at_name p o) s)) }
+        ensures stands { MakesWithin self.old self.new
+            (λ s. deaths_followed (at_name p o) (names_go_of (at_name p o) s)) }
         ensures uses { UsesNothing self.old self.new }
     {
         self.objects.name_goes(p, o);

@@ -1,6 +1,7 @@
 //! What follows from a change at one name and one object: nothing else is looked at.
 
-ghost use Rattle.std.specs.Prelude.{◌≡◌, ◌==◌, ◌≤◌, ◌&&◌, ◌||◌, not, filter, vec_len, vec_capacity, false, option_and_then};
+ghost use Rattle.std.specs.Prelude.{◌≡◌, ◌==◌, ◌≤◌, ◌&&◌, ◌||◌, not, filter, false, option_and_then};
+ghost use Rattle.std.specs.Prelude.{vec_len, vec_capacity};
 ghost use Rattle.std.specs.List.{list_any};
 ghost use Rattle.bd_space.specs.Words.{when};
 ghost use Rattle.bd_space.specs.Names as names_of;
@@ -59,7 +60,8 @@ fn keep_object(
     o: ObjectId,
 )
     ensures items { objects.new.items
-        ≡ filter (λ x. not (local.at_object o x.id) || refer.stays_in processes.now references.now x) objects.old.items }
+        ≡ filter (λ x. not (local.at_object o x.id)
+        || refer.stays_in processes.now references.now x) objects.old.items }
     ensures capacity { vec_capacity objects.new ≡ vec_capacity objects.old }
     ensures len { vec_len objects.new ≤ vec_len objects.old }
 {
