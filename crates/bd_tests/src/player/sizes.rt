@@ -2,9 +2,8 @@
 
 ghost use Rattle.std.specs.Prelude.{◌<◌, ◌≤◌};
 
-use super::examples::{play_one, played};
-use bd_audit::{gift_chain, replay};
-use bd_space::Record;
+use super::playing::{checked, lawful_history_of, played, written};
+use bd_audit::gift_chain;
 use std::alloc::{AllocError, Global};
 use std::process::Abort;
 use std::test::Fail;
@@ -59,19 +58,10 @@ fn script_of_gifts(alloc: Global) -> Result<String, AllocError> {
     Ok(script)
 }
 
-// The history of a script, which is lawful.
-fn history_of(alloc: Global, script: &str) -> Result<Record, Fail> {
-    let (_, history) = played(alloc, script);
-    let history = history.ok_or("a script with no bad line runs")?;
-    Ok(history)
-}
-
 #[test]
 fn follows_long_gift_chains(rt: HostRuntime) -> Result<(), Fail> {
     let script = script_of_gifts(rt.alloc())?;
-    let record = history_of(rt.alloc(), &script)?;
-    assert!(rt; 1 <= record.seats && record.seats <= 16);
-    replay(rt.alloc(), &record)?;
+    let record = lawful_history_of(rt.alloc(), &script)?;
     for seat in 2..12usize {
         let chain = gift_chain(rt.alloc(), &record, 100 + seat as u32, 1)?;
         let chain = chain.ok_or("each of them has the handle 1")?;
@@ -101,7 +91,13 @@ fn play_completions(rt: &impl Abort, alloc: Global, count: usize) -> Result<(), 
         last + 1
     )?;
     prints.push_str(&read)?;
-    play_one(rt, alloc, "completions", &script, &prints)
+    let (printed, history) = played(alloc, &script);
+    printed.expect(rt, "completions", &prints, "", 0);
+    let history = history.ok_or("a script with no bad line runs")?;
+    let verdict = checked(alloc, &written(alloc, &history)?);
+    let lawful = format!(in alloc; "lawful {}\n", last + 1)?;
+    verdict.expect(rt, "completions", &lawful, "", 0);
+    Ok(())
 }
 
 #[test]

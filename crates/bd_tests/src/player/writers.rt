@@ -1,13 +1,11 @@
 //! Writers that fail: after some bytes, at one line, or at their flush.
 
-use super::examples::{Printed, checked, played, written};
+use super::playing::{Printed, checked, history_of, written};
 use bd_driver::Why;
 use bd_player::{
     DONE, FAULT, Fault, MEMORY, Manner, Said, TURNS, after_writing, check_journal, play, play_from,
     print, tell, write_journal,
 };
-use bd_space::Record;
-use std::alloc::Global;
 use std::io;
 use std::io::{ErrorKind, Write};
 use std::test::Fail;
@@ -92,15 +90,9 @@ fn lost() -> io::Result<()> {
     Err(io::Error::from(ErrorKind::StorageFull))
 }
 
-fn history_of(alloc: Global) -> Result<Record, Fail> {
-    let (_, history) = played(alloc, SCRIPT);
-    let history = history.ok_or("a script with no bad line runs")?;
-    Ok(history)
-}
-
 #[test]
 fn leaves_a_beginning_of_the_journal(rt: HostRuntime) -> Result<(), Fail> {
-    let history = history_of(rt.alloc())?;
+    let history = history_of(rt.alloc(), SCRIPT)?;
     let whole = written(rt.alloc(), &history)?;
     assert!(rt; whole.len() > 300);
     for room in 0..whole.len() {
@@ -119,7 +111,7 @@ fn leaves_a_beginning_of_the_journal(rt: HostRuntime) -> Result<(), Fail> {
 
 #[test]
 fn tells_of_a_flush_that_fails(rt: HostRuntime) -> Result<(), Fail> {
-    let history = history_of(rt.alloc())?;
+    let history = history_of(rt.alloc(), SCRIPT)?;
     let kept = Vec::new(rt.alloc());
     let mut out = Unflushed { kept };
     assert!(rt; !write_journal(&history, &mut out));
@@ -150,7 +142,7 @@ fn goes_on_after_a_line_that_is_lost(rt: HostRuntime) -> Result<(), Fail> {
 
 #[test]
 fn tells_of_a_verdict_that_is_lost(rt: HostRuntime) -> Result<(), Fail> {
-    let history = history_of(rt.alloc())?;
+    let history = history_of(rt.alloc(), SCRIPT)?;
     let journal = written(rt.alloc(), &history)?;
     let kept = Vec::new(rt.alloc());
     let mut out = Full { kept, room: 0 };
