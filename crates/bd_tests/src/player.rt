@@ -1,5 +1,5 @@
-//! Tests of the player: certificates, script errors, journals, sizes, writers that fail, and threads. The worked
-//! examples are played by `tools/examples`.
+//! Tests of the player: certificates, script errors, journals, writers that fail, and threads. The worked examples are
+//! played by `tools/examples`, and what is large by `tools/program`.
 
 mod certificates;
 mod flags;
@@ -7,6 +7,5 @@ mod handing;
 mod journals;
 mod playing;
 mod scripts;
-mod sizes;
 mod threads;
 mod writers;

@@ -97,15 +97,6 @@ static CHAINS: [(&str, u32, u32, &[u32]); 4] = [
     (DEAD_SERVER_OVER_AN_OPEN_CHILD, 200, 1, &[6, 12]),
 ];
 
-// A turn by the places where it was made, handed out and ended.
-const fn turn(made: u32, handed: Option<u32>, ended: Option<u32>) -> Turn {
-    Turn {
-        made,
-        handed,
-        ended,
-    }
-}
-
 // A script, the object whose turns are asked for, by the place of the step that made it first, and the turns. Those of
 // the window that ended are the manager's, and those of the manager after it.
 static TURNS: [(&str, u32, &[Turn]); 3] = [
@@ -113,20 +104,47 @@ static TURNS: [(&str, u32, &[Turn]); 3] = [
         ONE_WAY_TURNS,
         1,
         &[
-            turn(4, Some(7), Some(9)),
-            turn(5, Some(10), Some(11)),
-            turn(6, Some(12), None),
+            Turn {
+                made: 4,
+                handed: Some(7),
+                ended: Some(9),
+            },
+            Turn {
+                made: 5,
+                handed: Some(10),
+                ended: Some(11),
+            },
+            Turn {
+                made: 6,
+                handed: Some(12),
+                ended: None,
+            },
         ],
     ),
     (
         WINDOW_OF_A_PROCESS_THAT_ENDED,
         1,
-        &[turn(4, Some(6), Some(10)), turn(9, None, Some(10))],
+        &[
+            Turn {
+                made: 4,
+                handed: Some(6),
+                ended: Some(10),
+            },
+            Turn {
+                made: 9,
+                handed: None,
+                ended: Some(10),
+            },
+        ],
     ),
     (
         WINDOW_OF_A_PROCESS_THAT_ENDED,
         15,
-        &[turn(19, Some(20), None)],
+        &[Turn {
+            made: 19,
+            handed: Some(20),
+            ended: None,
+        }],
     ),
 ];
 
