@@ -3,8 +3,6 @@
 
 mod arguments;
 mod files;
-#[cfg(test)]
-mod tests;
 
 use arguments::{Order, Refused, order_of};
 use bd_player::{DONE, Fault, after_writing, tell};

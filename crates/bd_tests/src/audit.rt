@@ -73,11 +73,8 @@ fn take(engine: &mut Engine, seat: u32, step: Step) -> bool {
 }
 
 #[test]
-fn tells_the_call_of_a_reply(rt: HostRuntime) {
-    let Ok(mut engine) = Engine::new(rt.alloc(), 2) else {
-        assert!(rt; false, "no memory");
-        return;
-    };
+fn tells_the_call_of_a_reply(rt: HostRuntime) -> Result<(), Fail> {
+    let mut engine = Engine::new(rt.alloc(), 2)?;
     for place in 0..10 {
         let (seat, step) = reply_step(rt.alloc(), place);
         assert!(rt; take(&mut engine, seat, step), "at {place}");
@@ -85,11 +82,10 @@ fn tells_the_call_of_a_reply(rt: HostRuntime) {
     let record = engine.into_record();
     assert_eq!(rt; record.seats, 2);
     for (place, want) in [(8, Some(4)), (5, None), (6, None), (7, None), (10, None)] {
-        match call_of_reply(rt.alloc(), &record, place) {
-            Ok(found) => assert_eq!(rt; found, want, "at {place}"),
-            Err(_) => assert!(rt; false, "no memory"),
-        }
+        let found = call_of_reply(rt.alloc(), &record, place)?;
+        assert_eq!(rt; found, want, "at {place}");
     }
+    Ok(())
 }
 
 // An object of the sender's own, with this ptr.

@@ -4,13 +4,7 @@
 #[cfg(test)]
 mod audit;
 #[cfg(test)]
-mod buffers;
-#[cfg(test)]
-mod calls;
-#[cfg(test)]
 mod codec;
-#[cfg(test)]
-mod objects;
 #[cfg(test)]
 mod parcel;
 #[cfg(test)]

@@ -1,23 +1,11 @@
-//! Tests of the player: the worked examples of docs/EXAMPLES.md, certificates, script errors, journals, writers that
-//! fail, and threads.
+//! Tests of the player: certificates, script errors, journals, writers that fail, and threads. The worked examples are
+//! played by `tools/examples`, and what is large by `tools/program`.
 
-mod buffers;
-mod calls;
 mod certificates;
-mod deaths;
-mod definitions;
-mod definitions_more;
-mod examples;
 mod flags;
 mod handing;
 mod journals;
-mod objects;
-mod open_endings;
-mod open_points;
-mod rules;
-mod rules_more;
+mod playing;
 mod scripts;
-mod sizes;
 mod threads;
 mod writers;
-mod writing;

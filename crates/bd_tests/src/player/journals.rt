@@ -1,6 +1,6 @@
 //! The journal of the shortest run, written and judged.
 
-use super::examples::{checked, played, written};
+use super::playing::{checked, history_of, written};
 use std::test::Fail;
 
 // As docs/FORMATS.md has it.
@@ -11,8 +11,7 @@ const JOURNAL: [u8; 42] = [
 
 #[test]
 fn writes_the_shortest(rt: HostRuntime) -> Result<(), Fail> {
-    let (_, history) = played(rt.alloc(), "seats 1\n0 open 100 1000 4096");
-    let history = history.ok_or("a script with no bad line runs")?;
+    let history = history_of(rt.alloc(), "seats 1\n0 open 100 1000 4096")?;
     let journal = written(rt.alloc(), &history)?;
     assert_eq!(rt; journal.as_slice(), JOURNAL.as_slice());
     Ok(())

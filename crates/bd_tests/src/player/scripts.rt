@@ -1,6 +1,40 @@
-//! Scripts with a bad line.
+//! What lines print, and scripts with a bad line.
 
-use super::examples::played;
+use super::playing::played;
+
+// A line of each kind.
+const SCRIPT: &str = "\
+seats 2
+0 open 100 1000 4096
+0 manager
+0 open 100 1000 4096
+0 free 0
+0 tx 5 1 0 - -
+0 write 0d63 -
+0 read 256
+0 look
+0 post enter
+0 withdraw
+0 collect
+1 serve
+0 exitprocess
+";
+
+const PRINTS: &str = "\
+2: opened 0 1
+3: set 1 2
+4: refused F5 2 3
+5: wrote 12 3 4 0:N5
+6: wrote 68 4 5 stop X1
+7: wrote 0 5 5 stop F1
+8: got 0c72000011720000 - - 5 6
+9: page 6 0 0
+10: handed
+11: back withdrawn
+12: idle
+13: served 0
+14: exited 6 7
+";
 
 // A script, and the fault.
 static BAD_SCRIPTS: [(&str, &str); 8] = [
@@ -16,6 +50,12 @@ static BAD_SCRIPTS: [(&str, &str); 8] = [
     ("seats 1\n#\ta tab\n", "fault: line 2\n"),
     ("seats 1\n0 read 4294967296\n", "fault: line 2\n"),
 ];
+
+#[test]
+fn prints_what_lines_say(rt: HostRuntime) {
+    let (printed, _) = played(rt.alloc(), SCRIPT);
+    printed.expect(&rt, "each kind", PRINTS, "", 0);
+}
 
 #[test]
 fn tells_the_first_bad_line(rt: HostRuntime) {

@@ -1,13 +1,11 @@
 //! Writers that fail: after some bytes, at one line, or at their flush.
 
-use super::examples::{Printed, checked, played, written};
+use super::playing::{Printed, checked, history_of, written};
 use bd_driver::Why;
 use bd_player::{
-    DONE, FAULT, Fault, MEMORY, Manner, Said, TURNS, after_writing, check_journal, play, play_from,
-    print, tell, write_journal,
+    DONE, FAULT, Fault, MEMORY, Manner, Said, TURNS, check_journal, play, play_from, print, tell,
+    write_journal,
 };
-use bd_space::Record;
-use std::alloc::Global;
 use std::io;
 use std::io::{ErrorKind, Write};
 use std::test::Fail;
@@ -88,19 +86,9 @@ impl Write for Gap {
     }
 }
 
-fn lost() -> io::Result<()> {
-    Err(io::Error::from(ErrorKind::StorageFull))
-}
-
-fn history_of(alloc: Global) -> Result<Record, Fail> {
-    let (_, history) = played(alloc, SCRIPT);
-    let history = history.ok_or("a script with no bad line runs")?;
-    Ok(history)
-}
-
 #[test]
 fn leaves_a_beginning_of_the_journal(rt: HostRuntime) -> Result<(), Fail> {
-    let history = history_of(rt.alloc())?;
+    let history = history_of(rt.alloc(), SCRIPT)?;
     let whole = written(rt.alloc(), &history)?;
     assert!(rt; whole.len() > 300);
     for room in 0..whole.len() {
@@ -119,7 +107,7 @@ fn leaves_a_beginning_of_the_journal(rt: HostRuntime) -> Result<(), Fail> {
 
 #[test]
 fn tells_of_a_flush_that_fails(rt: HostRuntime) -> Result<(), Fail> {
-    let history = history_of(rt.alloc())?;
+    let history = history_of(rt.alloc(), SCRIPT)?;
     let kept = Vec::new(rt.alloc());
     let mut out = Unflushed { kept };
     assert!(rt; !write_journal(&history, &mut out));
@@ -150,7 +138,7 @@ fn goes_on_after_a_line_that_is_lost(rt: HostRuntime) -> Result<(), Fail> {
 
 #[test]
 fn tells_of_a_verdict_that_is_lost(rt: HostRuntime) -> Result<(), Fail> {
-    let history = history_of(rt.alloc())?;
+    let history = history_of(rt.alloc(), SCRIPT)?;
     let journal = written(rt.alloc(), &history)?;
     let kept = Vec::new(rt.alloc());
     let mut out = Full { kept, room: 0 };
@@ -160,44 +148,53 @@ fn tells_of_a_verdict_that_is_lost(rt: HostRuntime) -> Result<(), Fail> {
     Ok(())
 }
 
-// What is said, what it prints, and the status after these statuses.
+// The status after what is said, where it was this.
 #[test]
 fn keeps_the_greatest_status(rt: HostRuntime) -> Result<(), Fail> {
+    let rows = [
+        (Said::Back(Why::HistoryFull), DONE, 0),
+        (Said::Back(Why::NoMemory), DONE, 3),
+        (Said::Turns, DONE, 2),
+        (Said::Turns, MEMORY, 3),
+        (Said::Passed, TURNS, 2),
+        (Said::Idle, FAULT, 1),
+    ];
     let mut out = Vec::new(rt.alloc());
-    assert_eq!(rt; print(1, &Said::Back(Why::HistoryFull), &mut out, DONE), 0);
-    assert_eq!(rt; print(2, &Said::Back(Why::NoMemory), &mut out, DONE), 3);
-    assert_eq!(rt; print(3, &Said::Turns, &mut out, DONE), 2);
-    assert_eq!(rt; print(4, &Said::Turns, &mut out, MEMORY), 3);
-    assert_eq!(rt; print(5, &Said::Passed, &mut out, TURNS), 2);
-    assert_eq!(rt; print(6, &Said::Idle, &mut out, FAULT), 1);
-    let text = str::from_utf8(out.as_slice())?;
-    let want = "1: back full\n2: back memory\n3: turns\n4: turns\n5: passed\n6: idle\n";
-    assert_eq!(rt; text, want);
-    let kept = Vec::new(rt.alloc());
-    let mut lost = Full { kept, room: 0 };
-    assert_eq!(rt; print(1, &Said::Passed, &mut lost, DONE), 1);
-    assert_eq!(rt; print(1, &Said::Turns, &mut lost, DONE), 2);
+    for (said, status, want) in &rows {
+        assert_eq!(rt; print(7, said, &mut out, *status), *want);
+    }
+    let want = "7: back full\n7: back memory\n7: turns\n7: turns\n7: passed\n7: idle\n";
+    assert_eq!(rt; str::from_utf8(out.as_slice())?, want);
     Ok(())
 }
 
-// The faults with their texts and statuses, and what couldn't be written.
+// The status after what can't be written.
 #[test]
-fn tells_each_fault(rt: HostRuntime) -> Result<(), Fail> {
-    let mut err = Vec::new(rt.alloc());
-    assert_eq!(rt; tell(Fault::Arguments, &mut err), 1);
-    assert_eq!(rt; tell(Fault::File, &mut err), 1);
-    assert_eq!(rt; tell(Fault::Line(7), &mut err), 1);
-    assert_eq!(rt; tell(Fault::Journal, &mut err), 1);
-    assert_eq!(rt; tell(Fault::Memory, &mut err), 3);
-    assert_eq!(rt; tell(Fault::Thread, &mut err), 1);
-    let text = str::from_utf8(err.as_slice())?;
-    let want =
-        "fault: arguments\nfault: file\nfault: line 7\nfault: journal\nfault: memory\nfault: thread\n";
-    assert_eq!(rt; text, want);
-    assert_eq!(rt; after_writing(lost(), DONE), 1);
-    assert_eq!(rt; after_writing(lost(), TURNS), 2);
-    assert_eq!(rt; after_writing(Ok(()), DONE), 0);
-    Ok(())
+fn keeps_it_where_a_line_is_lost(rt: HostRuntime) {
+    for (said, want) in &[(Said::Passed, 1), (Said::Turns, 2)] {
+        let kept = Vec::new(rt.alloc());
+        let mut lost = Full { kept, room: 0 };
+        assert_eq!(rt; print(1, said, &mut lost, DONE), *want);
+    }
+}
+
+// The faults with their texts and statuses.
+static FAULTS: [(Fault, &str, u8); 6] = [
+    (Fault::Arguments, "fault: arguments\n", 1),
+    (Fault::File, "fault: file\n", 1),
+    (Fault::Line(7), "fault: line 7\n", 1),
+    (Fault::Journal, "fault: journal\n", 1),
+    (Fault::Memory, "fault: memory\n", 3),
+    (Fault::Thread, "fault: thread\n", 1),
+];
+
+#[test]
+fn tells_each_fault(rt: HostRuntime) {
+    for (fault, text, status) in &FAULTS {
+        let mut err = Vec::new(rt.alloc());
+        assert_eq!(rt; tell(*fault, &mut err), *status);
+        assert_eq!(rt; err.as_slice(), text.as_bytes());
+    }
 }
 
 // One turn is enough for what needs one.
