@@ -2,6 +2,7 @@
 use Rattle.std.specs.Prelude.{ℕ, ◌≡◌, ◌+◌, ◌≤◌, true}
 use Rattle.bd_space.specs.Space.{Space}
 use Rattle.bd_space.specs.Names.{has_number_past_limit}
+use Rattle.bd_space.specs.Tables as tables
 use Rattle.bd_laws.specs.Tidy.{IsTidy}
 use Rattle.bd_objects.specs.Stands as objects
 use Rattle.bd_objects.specs.Room as object_rooms
@@ -31,31 +32,31 @@ Within t s = StandsAt (s.steps + 1) t s
 
 -- of each, x is what f says
 abbrev pub Tells : {A : Type 0} → Tables → A → (Space → A) → Type 0
-Tells t x f = (n : ℕ) (s : Space) → StandsAt n t s → x ≡ f s
+Tells t x f = (n : ℕ) → tables.Tells (StandsAt n t) x f
 
 -- before a step
 abbrev pub TellsBefore : {A : Type 0} → Tables → A → (Space → A) → Type 0
-TellsBefore t x f = (s : Space) → Before t s → x ≡ f s
+TellsBefore t x f = tables.Tells (Before t) x f
 
 -- within one
 abbrev pub TellsWithin : {A : Type 0} → Tables → A → (Space → A) → Type 0
-TellsWithin t x f = (s : Space) → Within t s → x ≡ f s
+TellsWithin t x f = tables.Tells (Within t) x f
 
 -- a change of the tables makes what f makes of each
 abbrev pub Makes : Tables → Tables → (Space → Space) → Type 0
-Makes old new f = (n : ℕ) (s : Space) → StandsAt n old s → StandsAt n new (f s)
+Makes old new f = (n : ℕ) → tables.Makes (StandsAt n old) (StandsAt n new) f
 
 -- within a step
 abbrev pub MakesWithin : Tables → Tables → (Space → Space) → Type 0
-MakesWithin old new f = (s : Space) → Within old s → Within new (f s)
+MakesWithin old new f = tables.Makes (Within old) (Within new) f
 
 -- the same, of a space in which nothing is pending
 abbrev pub MakesOfTidy : Tables → Tables → (Space → Space) → Type 0
-MakesOfTidy old new f = (s : Space) → Within old s → IsTidy s → Within new (f s)
+MakesOfTidy old new f = tables.MakesWhere (Within old) IsTidy (Within new) f
 
 -- from before a step to within it
 abbrev pub Begins : Tables → Tables → (Space → Space) → Type 0
-Begins old new f = (s : Space) → Before old s → Within new (f s)
+Begins old new f = tables.Makes (Before old) (Within new) f
 
 -- what f makes needs a number past the limit
 abbrev pub PassesLimit : Tables → (Space → Space) → Type 0
