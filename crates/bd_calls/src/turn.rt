@@ -4,8 +4,7 @@
 ghost use Rattle.std.specs.Prelude.{ℕ, Bool, ◌≡◌, ◌==◌, ◌||◌, ◌&&◌, ◌+◌, ◌<◌, ◌≤◌, ◌^◌, ◌++◌, ◌∷◌, [], false, not, nat_le, map, filter, find, reverse, length, count_by, Option, Some, None, option_map, IfOk, OnOk, OnErr, vec_len, vec_capacity};
 ghost use Rattle.std.specs.Option.{option_to_list};
 ghost use Rattle.std.specs.List.{list_any};
-ghost use Rattle.bd_space.specs.Words as words;
-ghost use Rattle.bd_space.specs.Words.{changed};
+ghost use Rattle.bd_space.specs.Words.{changed, first_of, same};
 ghost use Rattle.bd_space.specs.Todo as works;
 ghost use Rattle.bd_space.specs.ThreadExits as exits;
 ghost use Rattle.bd_space.specs.Turns as spec;
@@ -18,7 +17,7 @@ use crate::work::handed_by;
 use bd_space::{ObjectId, TodoList, Turn, Work, WorkKind};
 
 fn has_turn_on(turns: &[Turn], object: ObjectId) -> bool
-    ensures { result ≡ list_any (λ t. words.same t.target object) turns.now }
+    ensures { result ≡ list_any (λ t. same t.target object) turns.now }
 {
     turns.iter().any(|t| t.target == object)
 }
@@ -30,7 +29,7 @@ fn is_ripe(todo: &[Work], older: &[Turn], turn: &Turn) -> bool
 }
 
 fn oldest_on(turns: &[Turn], object: ObjectId) -> Option<Turn>
-    ensures { result ≡ find (λ t. words.same t.target object) turns.now }
+    ensures { result ≡ find (λ t. same t.target object) turns.now }
 {
     turns.iter().copied().find(|t| t.target == object)
 }
@@ -113,7 +112,7 @@ fn hand_out(turns: &mut Vec<Turn>, made: u32)
 
 pub(crate) fn hand_out_taken(turns: &mut Vec<Turn>, taken: &[Work])
     ensures turns { turns.new.items ≡
-        handed_turns (words.first_of (map (λ w. works.hands_out w.kind) taken.now)) turns.old.items }
+        handed_turns (first_of (map (λ w. works.hands_out w.kind) taken.now)) turns.old.items }
     ensures len { vec_len turns.new ≡ vec_len turns.old }
     ensures capacity { vec_capacity turns.new ≡ vec_capacity turns.old }
 {

@@ -1,16 +1,15 @@
 -- A random history of 55 steps by 6 seats, with the answers that the rules give: calls without a manager, and calls with handles that are not held.
-use Rattle.std.specs.Prelude.{ℕ, List, [], ◌∷◌, ◌++◌, Some, negsuc}
+use Rattle.std.specs.Prelude.{[], ◌∷◌, ◌++◌, Some, negsuc}
 use Rattle.bd_uapi.specs.declared.command.Command.TheVariants as bc
 use Rattle.bd_uapi.specs.declared.fault.Note.TheVariants as note
 use Rattle.bd_uapi.specs.declared.fault.Cause.TheVariants as cause
 use Rattle.bd_uapi.specs.declared.fault.Fault.TheVariants as fault
-use Rattle.bd_space.specs.declared.step.StepAnswer.{StepAnswer}
 use Rattle.bd_space.specs.declared.step.StepAnswer.TheVariants.{Opened, Set, Exited, Accepted, Noted, Stopped, Got, Refused}
-use Rattle.bd_space.specs.declared.step.Step.{Step}
 use Rattle.bd_space.specs.declared.step.Step.TheVariants.{Open, Attach, SetManager, Command, Read, ExitThread}
+use Rattle.bd_examples.specs.Histories.{History}
 use Rattle.bd_examples.specs.Script.{hex, sending, tx, reply, act, enter, zeros}
 
-abbrev pub calls_without_a_manager : List (ℕ × Step × StepAnswer)
+abbrev pub calls_without_a_manager : History
 calls_without_a_manager =
     (5, Open 300 2000 4096, Opened)
     ∷ (4, Open 77 2000 4096, Opened)

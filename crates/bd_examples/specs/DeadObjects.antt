@@ -1,21 +1,18 @@
 -- A random history of 103 steps by 3 seats, with the answers that the rules give: dead objects that are sent and asked for, and death notifications cleared while they are queued or told.
-use Rattle.std.specs.Prelude.{ℕ, List, [], ◌∷◌, Some, None}
+use Rattle.std.specs.Prelude.{[], ◌∷◌, ◌++◌, Some, None}
 use Rattle.bd_uapi.specs.declared.command.Command.TheVariants as bc
 use Rattle.bd_uapi.specs.declared.fault.Note.TheVariants as note
 use Rattle.bd_uapi.specs.declared.fault.Cause.TheVariants as cause
 use Rattle.bd_uapi.specs.declared.fault.Fault.TheVariants as fault
-use Rattle.bd_space.specs.declared.step.StepAnswer.{StepAnswer}
-use Rattle.bd_space.specs.declared.step.StepAnswer.TheVariants.{Opened, Set, Exited, Accepted, Noted, Stopped, Got, Refused}
-use Rattle.bd_space.specs.declared.step.Step.{Step}
+use Rattle.bd_space.specs.declared.step.StepAnswer.TheVariants.{Opened, Exited, Accepted, Noted, Stopped, Got, Refused}
 use Rattle.bd_space.specs.declared.step.Step.TheVariants.{Open, Attach, SetManager, Command, Read, ExitThread, ExitProcess}
+use Rattle.bd_examples.specs.Histories.{History, manager_opens}
 use Rattle.bd_examples.specs.Script.{hex, sending, tx, reply, act, enter}
 
-abbrev pub dead_objects : List (ℕ × Step × StepAnswer)
+abbrev pub dead_objects : History
 dead_objects =
-    (0, Open 200 0 4096, Opened)
-    ∷ (0, enter, Accepted)
-    ∷ (0, SetManager, Set)
-    ∷ (1, Open 1 10 4096, Opened)
+    manager_opens 200
+    ++ (1, Open 1 10 4096, Opened)
     ∷ (2, Open 2147483647 20 4096, Opened)
     ∷ (2, act (bc.IncrefsDone 8 0), Noted note.NoSuchObject)
     ∷ (2, act (bc.Increfs 0), Accepted)

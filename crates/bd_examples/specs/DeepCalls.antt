@@ -1,16 +1,15 @@
 -- A random history of 87 steps by 4 seats, with the answers that the rules give: nested calls, unread replies, and notices made anew.
-use Rattle.std.specs.Prelude.{ℕ, List, [], ◌∷◌, ◌++◌}
+use Rattle.std.specs.Prelude.{[], ◌∷◌, ◌++◌}
 use Rattle.bd_uapi.specs.declared.command.Command.TheVariants as bc
 use Rattle.bd_uapi.specs.declared.fault.Note.TheVariants as note
 use Rattle.bd_uapi.specs.declared.fault.Cause.TheVariants as cause
 use Rattle.bd_uapi.specs.declared.fault.Fault.TheVariants as fault
-use Rattle.bd_space.specs.declared.step.StepAnswer.{StepAnswer}
 use Rattle.bd_space.specs.declared.step.StepAnswer.TheVariants.{Opened, Set, Accepted, Noted, Stopped, Got, Refused}
-use Rattle.bd_space.specs.declared.step.Step.{Step}
 use Rattle.bd_space.specs.declared.step.Step.TheVariants.{Open, Attach, SetManager, Read}
+use Rattle.bd_examples.specs.Histories.{History}
 use Rattle.bd_examples.specs.Script.{hex, tx, reply, act, enter, zeros}
 
-abbrev pub deep_calls : List (ℕ × Step × StepAnswer)
+abbrev pub deep_calls : History
 deep_calls =
     (0, Open 200 1000 4096, Opened)
     ∷ (3, Open 1 4000 4096, Opened)

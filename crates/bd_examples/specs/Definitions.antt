@@ -1,30 +1,26 @@
 -- Worked examples that pin one definition each: a slip in any of these definitions leaves the other examples as they are.
 use Rattle.std.specs.Prelude.{ℕ, ◌≡◌, List, [], ◌∷◌, ◌++◌, map}
+use Rattle.bd_uapi.specs.Bytes.{long}
 use Rattle.bd_uapi.specs.declared.command.Command.TheVariants as bc
 use Rattle.bd_uapi.specs.declared.fault.Note.TheVariants as note
 use Rattle.bd_uapi.specs.declared.fault.Cause.TheVariants as cause
 use Rattle.bd_uapi.specs.declared.fault.Fault.TheVariants as fault
 use Rattle.bd_space.specs.declared.step.StepAnswer.TheVariants.{Opened, Set, Exited, Accepted, Noted, Stopped, Got, Refused}
-use Rattle.bd_space.specs.declared.step.Step.{Step}
-use Rattle.bd_space.specs.declared.step.Step.TheVariants.{Open, Attach, SetManager, Read, ExitThread, ExitProcess}
+use Rattle.bd_space.specs.declared.step.Step.TheVariants.{Open, SetManager, Read, ExitThread, ExitProcess}
 use Rattle.bd_space.specs.Space.{opening}
 use Rattle.bd_examples.specs.Playing.{ends}
-use Rattle.bd_examples.specs.Worked.{Runs, Plays}
-use Rattle.bd_examples.specs.Common.{complete_read, told_read, untold_read, object_read, object_call_read, death_read}
+use Rattle.bd_examples.specs.Histories.{History, asked}
+use Rattle.bd_examples.specs.Worked.{Plays}
+use Rattle.bd_examples.specs.Common.{complete_read, untold_read, object_call_read, death_read, object_sent, handshakes_done, two_watched, second_thread}
 use Rattle.bd_examples.specs.Script.{hex, tx, reply, act, enter, base, OBJ, HOBJ, OBJ2, HOBJ2, zeros}
 
--- the second object with another cookie, and both as weak ones, with theirs and with others
+-- the second object with another cookie
 abbrev pub OBJ2X : List ℕ
 OBJ2X = hex "852a6273000000000810000000000000 0920000000000000"
 
-abbrev pub WOBJ2 : List ℕ
-WOBJ2 = hex "852a6277000000000810000000000000 0820000000000000"
-
-abbrev pub WOBJX : List ℕ
-WOBJX = hex "852a6277000000000010000000000000 0120000000000000"
-
-abbrev pub WOBJ2X : List ℕ
-WOBJ2X = hex "852a6277000000000810000000000000 0920000000000000"
+-- a WEAK_BINDER with this ptr and cookie
+abbrev pub weak : ℕ → ℕ → List ℕ
+weak ptr cookie = hex "852a627700000000" ++ long ptr ++ long cookie
 
 -- a BINDER at 0, and another one at 20, in its cookie
 abbrev pub nested : List ℕ
@@ -46,11 +42,8 @@ one_way_bit_of_a_reply =
 -- objects too: yet the second is still told, and each completes its clearing when it is acknowledged.
 abbrev pub cleared_notifications_outlive_the_name : Type 0
 cleared_notifications_outlive_the_name =
-    Plays ((1, tx 0 1 1 (OBJ ++ OBJ2) (0 ∷ 24 ∷ []), Accepted)
-    ∷ (0, Read 256, Got (hex "0c720000 02724080 0000000000000000 0000000000000000 01000000 01000000 00000000 d0070000 3000000000000000 1000000000000000 0000010000000000 3000010000000000") (HOBJ ++ HOBJ2) (hex "00000000000000001800000000000000"))
-    ∷ (0, act (bc.RequestDeathNotification 1 77), Accepted)
-    ∷ (0, act (bc.RequestDeathNotification 2 78), Accepted)
-    ∷ (1, ExitProcess, Exited)
+    Plays (two_watched 77 78
+    ++ (1, ExitProcess, Exited)
     ∷ (0, Read 256, death_read)
     ∷ (0, act (bc.ClearDeathNotification 1 77), Accepted)
     ∷ (0, act (bc.ClearDeathNotification 2 78), Accepted)
@@ -62,56 +55,36 @@ cleared_notifications_outlive_the_name =
     ∷ (0, act (bc.DeadBinderDone 77), Noted note.NoneTold)
     ∷ (0, Read 256, Got (hex "0c720000 10720880 4e00000000000000 10720880 4d00000000000000") [] []) ∷ [])
 
--- an object is called, and its owner ends
-abbrev pub owner_ends : List (ℕ × Step)
-owner_ends =
-    (1, tx 0 1 1 OBJ (0 ∷ []))
-    ∷ (1, Read 256)
-    ∷ (0, Read 256)
-    ∷ (1, act (bc.IncrefsDone 4096 8192))
-    ∷ (1, act (bc.AcquireDone 4096 8192))
-    ∷ (0, act (bc.Increfs 1))
-    ∷ (0, tx 1 2 1 [] [])
-    ∷ (0, act (bc.FreeBuffer 65536))
-    ∷ (0, act (bc.Acquire 1))
-    ∷ (0, act (bc.Release 1))
-    ∷ (1, ExitProcess)
-    ∷ (0, act (bc.Acquire 1))
-    ∷ (0, act (bc.Decrefs 1))
-    ∷ (0, act (bc.Increfs 1)) ∷ []
-
--- only the manager's object, which the step at 1 made, is left
-abbrev pub target_is_gone : Type 0
-target_is_gone = map (λ x. x.id.place) (ends opening (base ++ owner_ends)).objects ≡ 1 ∷ []
-
 -- The buffer of an unread call makes its target strong, so that a weak name can be acquired. When the owner ends, its
 -- window's buffers go with that reference: nobody holds the object strongly any more (N3), and with the last name it is
 -- gone.
+abbrev pub owner_ends : History
+owner_ends =
+    object_sent
+    ++ handshakes_done
+    ++ (0, act (bc.Increfs 1), Accepted)
+    ∷ (0, tx 1 2 1 [] [], Accepted)
+    ∷ (0, act (bc.FreeBuffer 65536), Accepted)
+    ∷ (0, act (bc.Acquire 1), Accepted)
+    ∷ (0, act (bc.Release 1), Accepted)
+    ∷ (1, ExitProcess, Exited)
+    ∷ (0, act (bc.Acquire 1), Noted note.NotStrong)
+    ∷ (0, act (bc.Decrefs 1), Accepted)
+    ∷ (0, act (bc.Increfs 1), Noted note.NoSuchNumber) ∷ []
+
 abbrev pub target_of_a_window_that_ended : Type 0
-target_of_a_window_that_ended =
-    Runs owner_ends
-    (Accepted
-    ∷ told_read
-    ∷ object_read
-    ∷ Accepted
-    ∷ Accepted
-    ∷ Accepted
-    ∷ Accepted
-    ∷ Accepted
-    ∷ Accepted
-    ∷ Accepted
-    ∷ Exited
-    ∷ Noted note.NotStrong
-    ∷ Accepted
-    ∷ Noted note.NoSuchNumber ∷ [])
+target_of_a_window_that_ended = Plays owner_ends
+
+-- only the manager's object, which the step at 1 made, is left
+abbrev pub target_is_gone : Type 0
+target_is_gone = map (λ x. x.id.place) (ends opening (base ++ map asked owner_ends)).objects ≡ 1 ∷ []
 
 -- Of the two Notices on the ended thread's list one is still wanted, and stands on the process's list now. The other
 -- isn't: its object was held only by the reply that was lost with the thread, and is gone.
 abbrev pub notices_made_anew_when_a_thread_ends : Type 0
 notices_made_anew_when_a_thread_ends =
-    Plays ((2, Attach 200, Opened)
-    ∷ (2, enter, Accepted)
-    ∷ (1, tx 0 1 0 (OBJ ++ OBJ2) (0 ∷ 24 ∷ []), Accepted)
+    Plays (second_thread
+    ++ (1, tx 0 1 0 (OBJ ++ OBJ2) (0 ∷ 24 ∷ []), Accepted)
     ∷ (0, Read 256, Got (hex "0c720000 02724080 0000000000000000 0000000000000000 01000000 00000000 c8000000 d0070000 3000000000000000 1000000000000000 0000010000000000 3000010000000000") (HOBJ ++ HOBJ2) (hex "00000000000000001800000000000000"))
     ∷ (0, act (bc.Increfs 2), Accepted)
     ∷ (0, reply 0 0 HOBJ (0 ∷ []), Accepted)
@@ -126,11 +99,11 @@ notices_made_anew_when_a_thread_ends =
 abbrev pub weak_binder_with_another_cookie : Type 0
 weak_binder_with_another_cookie =
     Plays ((1, tx 0 1 1 OBJ (0 ∷ []), Accepted)
-    ∷ (1, tx 0 1 1 WOBJX (0 ∷ []), Stopped cause.OtherCookie)
-    ∷ (1, tx 0 1 1 (OBJ2 ++ WOBJ2X) (0 ∷ 24 ∷ []), Stopped cause.OtherCookie)
-    ∷ (1, tx 0 1 1 (WOBJ2 ++ OBJ2X) (0 ∷ 24 ∷ []), Stopped cause.OtherCookie)
-    ∷ (1, tx 0 1 1 (WOBJ2 ++ WOBJ2X) (0 ∷ 24 ∷ []), Stopped cause.OtherCookie)
-    ∷ (1, tx 0 1 1 (WOBJ2 ++ OBJ2) (0 ∷ 24 ∷ []), Accepted)
+    ∷ (1, tx 0 1 1 (weak 4096 8193) (0 ∷ []), Stopped cause.OtherCookie)
+    ∷ (1, tx 0 1 1 (OBJ2 ++ weak 4104 8201) (0 ∷ 24 ∷ []), Stopped cause.OtherCookie)
+    ∷ (1, tx 0 1 1 (weak 4104 8200 ++ OBJ2X) (0 ∷ 24 ∷ []), Stopped cause.OtherCookie)
+    ∷ (1, tx 0 1 1 (weak 4104 8200 ++ weak 4104 8201) (0 ∷ 24 ∷ []), Stopped cause.OtherCookie)
+    ∷ (1, tx 0 1 1 (weak 4104 8200 ++ OBJ2) (0 ∷ 24 ∷ []), Accepted)
     ∷ (1, Read 256, Got (hex "0c720000 07721080 0010000000000000 0020000000000000 08721080 0010000000000000 0020000000000000 06720000 11720000 11720000 11720000 11720000 07721080 0810000000000000 0820000000000000 08721080 0810000000000000 0820000000000000 06720000") [] []) ∷ [])
 
 -- The second BINDER begins in the cookie of the first, at 20. Each may stand alone; both together may not, in either
@@ -158,48 +131,28 @@ unsupported_objects_cut_short =
     ∷ (1, tx 0 1 1 (hex "852a627300000000001000000000000000200000" ++ hex "852a64660000000000000000000000000000000000000000") (0 ∷ 20 ∷ []), Stopped cause.BadObject) ∷ [])
 
 -- one buffer is handed out, one waits for its turn, and then their process ends
-abbrev pub window_ends : List (ℕ × Step)
+abbrev pub window_ends : History
 window_ends =
-    (1, tx 0 1 1 OBJ (0 ∷ []))
-    ∷ (1, Read 256)
-    ∷ (0, Read 256)
-    ∷ (1, act (bc.IncrefsDone 4096 8192))
-    ∷ (1, act (bc.AcquireDone 4096 8192))
-    ∷ (1, tx 0 2 1 (hex "6869") [])
-    ∷ (0, ExitProcess) ∷ []
+    object_sent
+    ++ handshakes_done
+    ++ (1, tx 0 2 1 (hex "6869") [], Accepted)
+    ∷ (0, ExitProcess, Exited) ∷ []
 
 -- no buffer is left, not even of another identity than a later process could ask for
 abbrev pub no_buffer_is_left : Type 0
-no_buffer_is_left = (ends opening (base ++ window_ends)).buffers ≡ []
+no_buffer_is_left = (ends opening (base ++ map asked window_ends)).buffers ≡ []
 
 -- Its buffers go with the process, one handed out and one that waited for its turn: what they carried is released to
 -- its owner, and who opens with the same pid has an empty window, its whole budget and no call to read.
 abbrev pub window_of_a_process_that_ended : Type 0
 window_of_a_process_that_ended =
-    Runs (window_ends ++ (1, enter)
-    ∷ (1, Read 256)
-    ∷ (1, Read 256)
-    ∷ (0, Open 100 1000 4096)
-    ∷ (0, SetManager)
-    ∷ (0, enter)
-    ∷ (0, act (bc.FreeBuffer 65536))
-    ∷ (0, Read 256)
-    ∷ (1, tx 0 3 1 (zeros 2048) [])
-    ∷ (0, Read 256) ∷ [])
-    (Accepted
-    ∷ told_read
-    ∷ object_read
-    ∷ Accepted
-    ∷ Accepted
-    ∷ Accepted
-    ∷ Exited
-    ∷ Accepted
-    ∷ complete_read
-    ∷ untold_read
-    ∷ Opened
-    ∷ Set
-    ∷ Accepted
-    ∷ Noted note.NoSuchBuffer
-    ∷ Refused fault.Again
-    ∷ Accepted
-    ∷ Got (hex "0c720000 02724080 0000000000000000 0000000000000000 03000000 01000000 00000000 d0070000 0008000000000000 0000000000000000 0000010000000000 0008010000000000") (zeros 2048) [] ∷ [])
+    Plays (window_ends ++ (1, enter, Accepted)
+    ∷ (1, Read 256, complete_read)
+    ∷ (1, Read 256, untold_read)
+    ∷ (0, Open 100 1000 4096, Opened)
+    ∷ (0, SetManager, Set)
+    ∷ (0, enter, Accepted)
+    ∷ (0, act (bc.FreeBuffer 65536), Noted note.NoSuchBuffer)
+    ∷ (0, Read 256, Refused fault.Again)
+    ∷ (1, tx 0 3 1 (zeros 2048) [], Accepted)
+    ∷ (0, Read 256, Got (hex "0c720000 02724080 0000000000000000 0000000000000000 03000000 01000000 00000000 d0070000 0008000000000000 0000000000000000 0000010000000000 0008010000000000") (zeros 2048) []) ∷ [])

@@ -1,13 +1,15 @@
 -- Worked examples at the edges of the rules: a slip in any of them leaves the other examples as they are.
-use Rattle.std.specs.Prelude.{[], ◌∷◌, ◌++◌, None}
+use Rattle.std.specs.Prelude.{ℕ, List, [], ◌∷◌, ◌++◌, None}
 use Rattle.bd_uapi.specs.declared.command.Command.TheVariants as bc
 use Rattle.bd_uapi.specs.declared.fault.Note.TheVariants as note
 use Rattle.bd_uapi.specs.declared.fault.Cause.TheVariants as cause
 use Rattle.bd_uapi.specs.declared.fault.Fault.TheVariants as fault
+use Rattle.bd_space.specs.declared.step.StepAnswer.{StepAnswer}
 use Rattle.bd_space.specs.declared.step.StepAnswer.TheVariants.{Opened, Set, Exited, Accepted, Noted, Stopped, Got, Refused}
 use Rattle.bd_space.specs.declared.step.Step.TheVariants.{Open, Attach, SetManager, Command, Read, ExitThread, ExitProcess}
+use Rattle.bd_examples.specs.Histories.{History}
 use Rattle.bd_examples.specs.Worked.{Plays}
-use Rattle.bd_examples.specs.Common.{complete_read, told_read, untold_read, object_read, object_call_read, call_read, death_read, cleared_read}
+use Rattle.bd_examples.specs.Common.{complete_read, told_read, untold_read, object_read, object_call_read, call_read, death_read, cleared_read, object_sent, handshakes_done, kept_weakly, two_watched, second_thread}
 use Rattle.bd_examples.specs.Script.{hex, sending, tx, reply, act, enter, OBJ, HOBJ, OBJ2, OBJ3, OBJ0, HOBJ2, WOBJ, WHOBJ, zeros}
 
 -- Handle 1 is free again while 2 is in use: the next new handle is 1, and not 3.
@@ -50,12 +52,9 @@ strong_handle_of_a_weak_name =
 -- the owner hasn't acknowledged; then it is a target.
 abbrev pub acquire_through_a_weak_name : Type 0
 acquire_through_a_weak_name =
-    Plays ((1, tx 0 1 1 OBJ (0 ∷ []), Accepted)
-    ∷ (1, Read 256, told_read)
-    ∷ (0, Read 256, object_read)
-    ∷ (0, act (bc.Increfs 1), Accepted)
-    ∷ (0, act (bc.FreeBuffer 65536), Accepted)
-    ∷ (0, tx 1 1 1 [] [], Stopped cause.NotStronglyNamed)
+    Plays (object_sent
+    ++ kept_weakly
+    ++ (0, tx 1 1 1 [] [], Stopped cause.NotStronglyNamed)
     ∷ (0, act (bc.Acquire 1), Accepted)
     ∷ (0, tx 1 1 1 [] [], Accepted) ∷ [])
 
@@ -71,9 +70,8 @@ abbrev pub target_held : Type 0
 target_held =
     Plays ((1, tx 0 1 1 OBJ (0 ∷ []), Accepted)
     ∷ (1, Read 256, told_read)
-    ∷ (1, act (bc.IncrefsDone 4096 8192), Accepted)
-    ∷ (1, act (bc.AcquireDone 4096 8192), Accepted)
-    ∷ (0, Read 256, object_read)
+    ∷ handshakes_done
+    ++ (0, Read 256, object_read)
     ∷ (0, act (bc.Acquire 1), Accepted)
     ∷ (0, act (bc.FreeBuffer 65536), Accepted)
     ∷ (0, tx 1 1 1 [] [], Accepted)
@@ -137,23 +135,22 @@ budget_of_one_way_calls_alone =
     Plays ((1, tx 0 1 0 (zeros 2048) [], Accepted)
     ∷ (1, tx 0 1 1 (zeros 2048) [], Accepted) ∷ [])
 
+-- two threads of one process send these, and then read these
+abbrev pub sent_by_two : List ℕ → List ℕ → StepAnswer → StepAnswer → History
+sent_by_two a b first second =
+    (2, Attach 200, Opened)
+    ∷ (1, tx 0 1 1 a (0 ∷ []), Accepted)
+    ∷ (2, tx 0 1 1 b (0 ∷ []), Accepted)
+    ∷ (1, Read 256, first)
+    ∷ (2, Read 256, second) ∷ []
+
 -- Seat 2 is another thread of seat 1's process. Its sending as BINDER takes the Notice over to its own list.
 abbrev pub notice_moves_with_binder : Type 0
-notice_moves_with_binder =
-    Plays ((2, Attach 200, Opened)
-    ∷ (1, tx 0 1 1 WOBJ (0 ∷ []), Accepted)
-    ∷ (2, tx 0 1 1 OBJ (0 ∷ []), Accepted)
-    ∷ (1, Read 256, complete_read)
-    ∷ (2, Read 256, told_read) ∷ [])
+notice_moves_with_binder = Plays (sent_by_two WOBJ OBJ complete_read told_read)
 
 -- A sending as WEAK_BINDER leaves it where it is.
 abbrev pub notice_stays_with_weak_binder : Type 0
-notice_stays_with_weak_binder =
-    Plays ((2, Attach 200, Opened)
-    ∷ (1, tx 0 1 1 OBJ (0 ∷ []), Accepted)
-    ∷ (2, tx 0 1 1 WOBJ (0 ∷ []), Accepted)
-    ∷ (1, Read 256, told_read)
-    ∷ (2, Read 256, complete_read) ∷ [])
+notice_stays_with_weak_binder = Plays (sent_by_two OBJ WOBJ told_read complete_read)
 
 -- In one step the Death comes before the Notice on the same list, and nothing is read after BR_DEAD_BINDER.
 abbrev pub death_before_notices : Type 0
@@ -163,9 +160,8 @@ death_before_notices =
     ∷ (1, act (bc.RequestDeathNotification 0 77), Accepted)
     ∷ (1, tx 0 1 1 OBJ (0 ∷ []), Accepted)
     ∷ (1, Read 256, told_read)
-    ∷ (1, act (bc.IncrefsDone 4096 8192), Accepted)
-    ∷ (1, act (bc.AcquireDone 4096 8192), Accepted)
-    ∷ (0, ExitProcess, Exited)
+    ∷ handshakes_done
+    ++ (0, ExitProcess, Exited)
     ∷ (1, Read 256, death_read)
     ∷ (1, Read 256, untold_read) ∷ [])
 
@@ -197,11 +193,8 @@ clearing_a_done_notification =
 -- was cleared, completes its clearing.
 abbrev pub least_told_notification : Type 0
 least_told_notification =
-    Plays ((1, tx 0 1 1 (OBJ ++ OBJ2) (0 ∷ 24 ∷ []), Accepted)
-    ∷ (0, Read 256, Got (hex "0c720000 02724080 0000000000000000 0000000000000000 01000000 01000000 00000000 d0070000 3000000000000000 1000000000000000 0000010000000000 3000010000000000") (HOBJ ++ HOBJ2) (hex "00000000000000001800000000000000"))
-    ∷ (0, act (bc.RequestDeathNotification 1 77), Accepted)
-    ∷ (0, act (bc.RequestDeathNotification 2 77), Accepted)
-    ∷ (1, ExitProcess, Exited)
+    Plays (two_watched 77 77
+    ++ (1, ExitProcess, Exited)
     ∷ (0, Read 256, death_read)
     ∷ (0, Read 256, death_read)
     ∷ (0, act (bc.ClearDeathNotification 2 77), Accepted)
@@ -233,9 +226,8 @@ one_list_a_read =
 -- the process.
 abbrev pub thread_ends_with_a_call_unread : Type 0
 thread_ends_with_a_call_unread =
-    Plays ((2, Attach 200, Opened)
-    ∷ (2, enter, Accepted)
-    ∷ (1, tx 0 1 0 OBJ (0 ∷ []), Accepted)
+    Plays (second_thread
+    ++ (1, tx 0 1 0 OBJ (0 ∷ []), Accepted)
     ∷ (0, Read 256, object_call_read)
     ∷ (0, tx 1 2 0 [] [], Accepted)
     ∷ (1, ExitThread, Exited)
@@ -248,9 +240,8 @@ thread_ends_with_a_call_unread =
 -- The reply's buffer goes with it: the next buffer in that window gets its place, 65536.
 abbrev pub thread_ends_with_a_reply_unread : Type 0
 thread_ends_with_a_reply_unread =
-    Plays ((2, Attach 200, Opened)
-    ∷ (2, enter, Accepted)
-    ∷ (2, tx 0 7 1 OBJ (0 ∷ []), Accepted)
+    Plays (second_thread
+    ++ (2, tx 0 7 1 OBJ (0 ∷ []), Accepted)
     ∷ (2, Read 256, told_read)
     ∷ (0, Read 256, Got (hex "0c720000 02724080 0000000000000000 0000000000000000 07000000 01000000 00000000 d0070000 1800000000000000 0800000000000000 0000010000000000 1800010000000000") HOBJ (hex "0000000000000000"))
     ∷ (1, tx 0 1 0 [] [], Accepted)
@@ -263,12 +254,9 @@ thread_ends_with_a_reply_unread =
 -- A dead owner's unacknowledged Handshake no longer makes the object strong (N3).
 abbrev pub handshakes_end_with_the_process : Type 0
 handshakes_end_with_the_process =
-    Plays ((1, tx 0 1 1 OBJ (0 ∷ []), Accepted)
-    ∷ (1, Read 256, told_read)
-    ∷ (0, Read 256, object_read)
-    ∷ (0, act (bc.Increfs 1), Accepted)
-    ∷ (0, act (bc.FreeBuffer 65536), Accepted)
-    ∷ (1, ExitProcess, Exited)
+    Plays (object_sent
+    ++ kept_weakly
+    ++ (1, ExitProcess, Exited)
     ∷ (0, act (bc.Acquire 1), Noted note.NotStrong) ∷ [])
 
 -- F7, F8, F5, F6: each tried where all that come later hold too.

@@ -1,24 +1,20 @@
 -- A random history of 94 steps by 4 seats, with the answers that the rules give: exits with calls and notifications open.
-use Rattle.std.specs.Prelude.{ℕ, List, [], ◌∷◌, ◌++◌}
+use Rattle.std.specs.Prelude.{[], ◌∷◌, ◌++◌}
 use Rattle.bd_uapi.specs.declared.command.Command.TheVariants as bc
 use Rattle.bd_uapi.specs.declared.fault.Note.TheVariants as note
 use Rattle.bd_uapi.specs.declared.fault.Cause.TheVariants as cause
 use Rattle.bd_uapi.specs.declared.fault.Fault.TheVariants as fault
-use Rattle.bd_space.specs.declared.step.StepAnswer.{StepAnswer}
 use Rattle.bd_space.specs.declared.step.StepAnswer.TheVariants.{Opened, Set, Exited, Accepted, Noted, Stopped, Got, Refused}
-use Rattle.bd_space.specs.declared.step.Step.{Step}
 use Rattle.bd_space.specs.declared.step.Step.TheVariants.{Open, Attach, SetManager, Read, ExitThread, ExitProcess}
+use Rattle.bd_examples.specs.Histories.{History, server_opens}
 use Rattle.bd_examples.specs.Script.{hex, tx, reply, act, enter, zeros}
 
-abbrev pub exits : List (ℕ × Step × StepAnswer)
+abbrev pub exits : History
 exits =
     (0, Open 1 0 4096, Opened)
     ∷ (0, SetManager, Set)
-    ∷ (1, Open 2147483647 10 4096, Opened)
-    ∷ (1, enter, Accepted)
-    ∷ (2, Open 200 20 4096, Opened)
-    ∷ (2, enter, Accepted)
-    ∷ (1, tx 0 1 0 (hex "00000000852a62730000000008100000000000001020000000000000") (4 ∷ []), Accepted)
+    ∷ server_opens 1 2147483647 10 ++ server_opens 2 200 20
+    ++ (1, tx 0 1 0 (hex "00000000852a62730000000008100000000000001020000000000000") (4 ∷ []), Accepted)
     ∷ (1, tx 0 4294967295 17 (hex "852a62730000000000000000000000000100000000000000852a6273ffffffff08000000000000001100000000000000852a62737f01000010100000000000002120000000000000852a62737f01000008100000000000001020000000000000") (0 ∷ 24 ∷ 48 ∷ 72 ∷ []), Accepted)
     ∷ (1, act (bc.Decrefs 7), Noted note.NoSuchNumber)
     ∷ (1, tx 0 0 1 (hex "49d2547265000000852a627300000000f8ffffffffffffff0000000000000000") (10 ∷ []), Stopped cause.BadObject)

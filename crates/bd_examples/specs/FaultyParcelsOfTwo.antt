@@ -1,21 +1,18 @@
 -- A random history of 109 steps by 2 seats, with the answers that the rules give: two seats with other cookies, unsupported objects, and dead objects known by a handle.
-use Rattle.std.specs.Prelude.{ℕ, List, [], ◌∷◌, ◌++◌, Some}
+use Rattle.std.specs.Prelude.{[], ◌∷◌, ◌++◌, Some}
 use Rattle.bd_uapi.specs.declared.command.Command.TheVariants as bc
 use Rattle.bd_uapi.specs.declared.fault.Note.TheVariants as note
 use Rattle.bd_uapi.specs.declared.fault.Cause.TheVariants as cause
 use Rattle.bd_uapi.specs.declared.fault.Fault.TheVariants as fault
-use Rattle.bd_space.specs.declared.step.StepAnswer.{StepAnswer}
-use Rattle.bd_space.specs.declared.step.StepAnswer.TheVariants.{Opened, Set, Exited, Accepted, Noted, Stopped, Got, Refused}
-use Rattle.bd_space.specs.declared.step.Step.{Step}
-use Rattle.bd_space.specs.declared.step.Step.TheVariants.{Open, SetManager, Command, Read, ExitThread, ExitProcess}
+use Rattle.bd_space.specs.declared.step.StepAnswer.TheVariants.{Opened, Exited, Accepted, Noted, Stopped, Got, Refused}
+use Rattle.bd_space.specs.declared.step.Step.TheVariants.{Open, Command, Read, ExitThread, ExitProcess}
+use Rattle.bd_examples.specs.Histories.{History, manager_opens}
 use Rattle.bd_examples.specs.Script.{hex, sending, tx, reply, act, enter, zeros}
 
-abbrev pub faulty_parcels_of_two : List (ℕ × Step × StepAnswer)
+abbrev pub faulty_parcels_of_two : History
 faulty_parcels_of_two =
-    (0, Open 2147483647 0 4096, Opened)
-    ∷ (0, enter, Accepted)
-    ∷ (0, SetManager, Set)
-    ∷ (1, Open 100 10 4096, Opened)
+    manager_opens 2147483647
+    ++ (1, Open 100 10 4096, Opened)
     ∷ (0, tx 0 1 0 (hex "2105fc9593230000852a6273ffffffff080000000000000011" ++ zeros 4105) (8 ∷ []), Stopped cause.OwnManager)
     ∷ (0, Read 256, Got (hex "0c720000 11720000") [] [])
     ∷ (1, enter, Accepted)

@@ -1,16 +1,15 @@
 -- A random history of 92 steps by 3 seats, with the answers that the rules give: notifications that were acknowledged, cleared or gone with a name, and refused openings.
-use Rattle.std.specs.Prelude.{ℕ, List, [], ◌∷◌, None}
+use Rattle.std.specs.Prelude.{[], ◌∷◌, ◌++◌, None}
 use Rattle.bd_uapi.specs.declared.command.Command.TheVariants as bc
 use Rattle.bd_uapi.specs.declared.fault.Note.TheVariants as note
 use Rattle.bd_uapi.specs.declared.fault.Cause.TheVariants as cause
 use Rattle.bd_uapi.specs.declared.fault.Fault.TheVariants as fault
-use Rattle.bd_space.specs.declared.step.StepAnswer.{StepAnswer}
 use Rattle.bd_space.specs.declared.step.StepAnswer.TheVariants.{Opened, Set, Exited, Accepted, Noted, Stopped, Got, Refused}
-use Rattle.bd_space.specs.declared.step.Step.{Step}
 use Rattle.bd_space.specs.declared.step.Step.TheVariants.{Open, Attach, SetManager, Command, Read, ExitThread, ExitProcess}
+use Rattle.bd_examples.specs.Histories.{History, server_opens}
 use Rattle.bd_examples.specs.Script.{hex, sending, tx, reply, act, enter}
 
-abbrev pub finished_notifications : List (ℕ × Step × StepAnswer)
+abbrev pub finished_notifications : History
 finished_notifications =
     (2, Open 100 4000 4096, Opened)
     ∷ (0, Open 500 1000 4194304, Opened)
@@ -59,9 +58,8 @@ finished_notifications =
     ∷ (2, act (bc.DeadBinderDone 77), Accepted)
     ∷ (0, Read 72, Got (hex "0c720000 107208804d00000000000000") [] [])
     ∷ (1, ExitThread, Exited)
-    ∷ (1, Open 77 3000 4096, Opened)
-    ∷ (1, enter, Accepted)
-    ∷ (1, ExitProcess, Exited)
+    ∷ server_opens 1 77 3000
+    ++ (1, ExitProcess, Exited)
     ∷ (1, Open 400 4000 4096, Opened)
     ∷ (0, act (bc.RequestDeathNotification 0 77), Noted note.AlreadyAsked)
     ∷ (0, act (bc.RequestDeathNotification 0 77), Noted note.AlreadyAsked)

@@ -1,21 +1,18 @@
 -- A random history of 88 steps by 4 seats, with the answers that the rules give: windows without room, one-way budgets, turns that ripen, and frames whose server is gone.
-use Rattle.std.specs.Prelude.{ℕ, List, [], ◌∷◌, ◌++◌, Some, None}
+use Rattle.std.specs.Prelude.{[], ◌∷◌, ◌++◌, Some, None}
 use Rattle.bd_uapi.specs.declared.command.Command.TheVariants as bc
 use Rattle.bd_uapi.specs.declared.fault.Note.TheVariants as note
 use Rattle.bd_uapi.specs.declared.fault.Cause.TheVariants as cause
 use Rattle.bd_uapi.specs.declared.fault.Fault.TheVariants as fault
-use Rattle.bd_space.specs.declared.step.StepAnswer.{StepAnswer}
 use Rattle.bd_space.specs.declared.step.StepAnswer.TheVariants.{Opened, Set, Exited, Accepted, Noted, Stopped, Got, Refused}
-use Rattle.bd_space.specs.declared.step.Step.{Step}
 use Rattle.bd_space.specs.declared.step.Step.TheVariants.{Open, Attach, SetManager, Command, Read, ExitThread, ExitProcess}
+use Rattle.bd_examples.specs.Histories.{History, manager_opens}
 use Rattle.bd_examples.specs.Script.{hex, sending, tx, reply, act, enter, zeros}
 
-abbrev pub full_windows : List (ℕ × Step × StepAnswer)
+abbrev pub full_windows : History
 full_windows =
-    (0, Open 200 0 4096, Opened)
-    ∷ (0, enter, Accepted)
-    ∷ (0, SetManager, Set)
-    ∷ (1, Open 100 10 4096, Opened)
+    manager_opens 200
+    ++ (1, Open 100 10 4096, Opened)
     ∷ (2, Open 400 20 4096, Opened)
     ∷ (1, tx 0 1 17 [] [], Accepted)
     ∷ (0, Read 4294967295, Got (hex "0c720000 02724080000000000000000000000000000000000100000011000000000000000a0000000000000000000000000000000000000000000100000000000000010000000000") [] [])

@@ -1,9 +1,15 @@
 -- Histories of steps with their answers.
-use Rattle.std.specs.Prelude.{ℕ, ◌≡◌, List, map}
+use Rattle.std.specs.Prelude.{ℕ, ◌≡◌, List, [], ◌∷◌, ◌++◌, map}
 use Rattle.bd_space.specs.declared.step.StepAnswer.{StepAnswer}
+use Rattle.bd_space.specs.declared.step.StepAnswer.TheVariants.{Opened, Set, Accepted}
 use Rattle.bd_space.specs.declared.step.Step.{Step}
+use Rattle.bd_space.specs.declared.step.Step.TheVariants.{Open, SetManager}
 use Rattle.bd_space.specs.Space.{opening}
 use Rattle.bd_examples.specs.Playing.{answers}
+use Rattle.bd_examples.specs.Script.{enter}
+
+abbrev pub History : Type 0
+History = List (ℕ × Step × StepAnswer)
 
 -- a seat's step and its answer
 abbrev pub asked : ℕ × Step × StepAnswer → ℕ × Step
@@ -13,5 +19,13 @@ abbrev pub given : ℕ × Step × StepAnswer → StepAnswer
 given x = x.2
 
 -- each step has its answer
-abbrev pub Stands : List (ℕ × Step × StepAnswer) → Type 0
+abbrev pub Stands : History → Type 0
 Stands history = answers opening (map asked history) ≡ map given history
+
+-- a process opens with the least window, and its thread enters the loop
+abbrev pub server_opens : ℕ → ℕ → ℕ → History
+server_opens seat pid euid = (seat, Open pid euid 4096, Opened) ∷ (seat, enter, Accepted) ∷ []
+
+-- seat 0's, which is the manager then
+abbrev pub manager_opens : ℕ → History
+manager_opens pid = server_opens 0 pid 0 ++ (0, SetManager, Set) ∷ []

@@ -1,16 +1,15 @@
 -- A random history of 101 steps by 15 seats, with the answers that the rules give: faulty parcels of many seats, and buffers that may not be freed.
-use Rattle.std.specs.Prelude.{ℕ, List, [], ◌∷◌, Some, None, negsuc}
+use Rattle.std.specs.Prelude.{[], ◌∷◌, Some, None, negsuc}
 use Rattle.bd_uapi.specs.declared.command.Command.TheVariants as bc
 use Rattle.bd_uapi.specs.declared.fault.Note.TheVariants as note
 use Rattle.bd_uapi.specs.declared.fault.Cause.TheVariants as cause
 use Rattle.bd_uapi.specs.declared.fault.Fault.TheVariants as fault
-use Rattle.bd_space.specs.declared.step.StepAnswer.{StepAnswer}
 use Rattle.bd_space.specs.declared.step.StepAnswer.TheVariants.{Opened, Set, Exited, Accepted, Noted, Stopped, Got, Refused}
-use Rattle.bd_space.specs.declared.step.Step.{Step}
 use Rattle.bd_space.specs.declared.step.Step.TheVariants.{Open, Attach, SetManager, Command, Read, ExitThread, ExitProcess}
+use Rattle.bd_examples.specs.Histories.{History}
 use Rattle.bd_examples.specs.Script.{hex, sending, tx, reply, act, enter}
 
-abbrev pub hostile_writes : List (ℕ × Step × StepAnswer)
+abbrev pub hostile_writes : History
 hostile_writes =
     (14, Open 100 2000 4096, Opened)
     ∷ (9, Attach 100, Opened)

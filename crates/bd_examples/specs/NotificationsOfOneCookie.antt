@@ -1,16 +1,15 @@
 -- A random history of 106 steps by 4 seats, with the answers that the rules give: several notifications with one cookie, a name 0 beside the manager, and frames that close together.
-use Rattle.std.specs.Prelude.{ℕ, List, [], ◌∷◌, Some, None, negsuc}
+use Rattle.std.specs.Prelude.{[], ◌∷◌, ◌++◌, Some, None, negsuc}
 use Rattle.bd_uapi.specs.declared.command.Command.TheVariants as bc
 use Rattle.bd_uapi.specs.declared.fault.Note.TheVariants as note
 use Rattle.bd_uapi.specs.declared.fault.Cause.TheVariants as cause
 use Rattle.bd_uapi.specs.declared.fault.Fault.TheVariants as fault
-use Rattle.bd_space.specs.declared.step.StepAnswer.{StepAnswer}
 use Rattle.bd_space.specs.declared.step.StepAnswer.TheVariants.{Opened, Set, Exited, Accepted, Noted, Stopped, Got, Refused}
-use Rattle.bd_space.specs.declared.step.Step.{Step}
 use Rattle.bd_space.specs.declared.step.Step.TheVariants.{Open, Attach, SetManager, Command, Read, ExitThread, ExitProcess}
+use Rattle.bd_examples.specs.Histories.{History, server_opens}
 use Rattle.bd_examples.specs.Script.{hex, sending, tx, reply, act, enter}
 
-abbrev pub notifications_of_one_cookie : List (ℕ × Step × StepAnswer)
+abbrev pub notifications_of_one_cookie : History
 notifications_of_one_cookie =
     (1, Open 400 3000 4096, Opened)
     ∷ (0, Open 600 1 0, Refused fault.WindowSize)
@@ -50,9 +49,8 @@ notifications_of_one_cookie =
     ∷ (1, reply 5 1 (hex "852a62730000000000100000000000000220000000000000852a62730000000008000000000000001200000000000000852a62770000000008100000000000001220000000000000852a62730000000008000000000000001200000000000000") (0 ∷ 24 ∷ 48 ∷ 72 ∷ []), Stopped cause.NoCall)
     ∷ (0, SetManager, Set)
     ∷ (1, Read 72, Got (hex "0c720000 11720000") [] [])
-    ∷ (3, Open 300 2000 4096, Opened)
-    ∷ (3, enter, Accepted)
-    ∷ (3, tx 0 7 0 (hex "43fad7e7b5566855c4e90000852a62770000000000100000000000000120000000000000852a62777f01000008000000000000001100000000000000") (12 ∷ 36 ∷ []), Accepted)
+    ∷ server_opens 3 300 2000
+    ++ (3, tx 0 7 0 (hex "43fad7e7b5566855c4e90000852a62770000000000100000000000000120000000000000852a62777f01000008000000000000001100000000000000") (12 ∷ 36 ∷ []), Accepted)
     ∷ (2, act (bc.Acquire 0), Accepted)
     ∷ (1, tx 0 0 126 (hex "852a627300000000101000000000000020200000000000000000000000000000852a62777f01000010100000000000002020000000000000852a62730000000010100000000000002020000000000000") (0 ∷ 32 ∷ 56 ∷ []), Accepted)
     ∷ (1, Read 72, Got (hex "0c720000 0772108010100000000000002020000000000000 0872108010100000000000002020000000000000") [] [])

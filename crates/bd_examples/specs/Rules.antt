@@ -1,5 +1,5 @@
 -- Worked examples of rules in which a slip went unseen by the examples before.
-use Rattle.std.specs.Prelude.{ℕ, ◌≡◌, List, [], ◌∷◌, Some, None}
+use Rattle.std.specs.Prelude.{ℕ, ◌≡◌, List, [], ◌∷◌, ◌++◌, Some, None}
 use Rattle.bd_uapi.specs.declared.command.Command.TheVariants as bc
 use Rattle.bd_uapi.specs.declared.fault.Note.TheVariants as note
 use Rattle.bd_uapi.specs.declared.fault.Cause.TheVariants as cause
@@ -12,17 +12,15 @@ use Rattle.bd_space.specs.Steps.{step}
 use Rattle.bd_space.specs.Histories.{ready_below}
 use Rattle.bd_examples.specs.Playing.{ends}
 use Rattle.bd_examples.specs.Worked.{Plays}
-use Rattle.bd_examples.specs.Common.{complete_read, told_read, untold_read, object_read, call_read, death_read, cleared_read}
+use Rattle.bd_examples.specs.Common.{complete_read, told_read, untold_read, object_read, call_read, death_read, cleared_read, object_sent, handshakes_done, kept_weakly, second_thread, objects_of_two}
 use Rattle.bd_examples.specs.Script.{hex, sending, parcel, tx, reply, act, enter, base, OBJ, HOBJ, OBJ2, HOBJ2, OBJ3, zeros}
 
 -- The owner that got its own object back has no name for it: its number 1 is free (N1, X1), and goes to the next object
 -- of another process.
 abbrev pub own_object_in_the_own_window : Type 0
 own_object_in_the_own_window =
-    Plays ((1, tx 0 1 1 OBJ (0 ∷ []), Accepted)
-    ∷ (1, Read 256, told_read)
-    ∷ (0, Read 256, object_read)
-    ∷ (1, enter, Accepted)
+    Plays (object_sent
+    ++ (1, enter, Accepted)
     ∷ (0, tx 1 5 1 HOBJ (0 ∷ []), Accepted)
     ∷ (1, Read 256, Got (hex "0c720000 02724080 0010000000000000 0020000000000000 05000000 01000000 00000000 e8030000 1800000000000000 0800000000000000 0000010000000000 1800010000000000") OBJ (hex "0000000000000000"))
     ∷ (1, act (bc.Increfs 1), Noted note.NoSuchNumber)
@@ -36,11 +34,8 @@ own_object_in_the_own_window =
 -- be released by it; nor can what was asked of another object (N2).
 abbrev pub references_of_others : Type 0
 references_of_others =
-    Plays ((2, Open 300 3000 4096, Opened)
-    ∷ (1, tx 0 1 1 OBJ (0 ∷ []), Accepted)
-    ∷ (2, tx 0 1 1 OBJ2 (0 ∷ []), Accepted)
-    ∷ (0, Read 256, object_read)
-    ∷ (0, act (bc.Acquire 1), Accepted)
+    Plays (objects_of_two
+    ++ (0, act (bc.Acquire 1), Accepted)
     ∷ (0, act (bc.FreeBuffer 65536), Accepted)
     ∷ (0, Read 256, Got (hex "0c720000 02724080 0000000000000000 0000000000000000 01000000 01000000 00000000 b80b0000 1800000000000000 0800000000000000 2000010000000000 3800010000000000") HOBJ2 (hex "0000000000000000"))
     ∷ (0, act (bc.Release 2), Noted note.NothingAsked)
@@ -63,15 +58,11 @@ references_of_others =
 -- They go with it, the strong one and the weak one, and the owner is told.
 abbrev pub references_asked_by_a_process_that_ended : Type 0
 references_asked_by_a_process_that_ended =
-    Plays ((1, tx 0 1 1 OBJ (0 ∷ []), Accepted)
-    ∷ (1, Read 256, told_read)
-    ∷ (0, Read 256, object_read)
-    ∷ (1, act (bc.IncrefsDone 4096 8192), Accepted)
-    ∷ (1, act (bc.AcquireDone 4096 8192), Accepted)
-    ∷ (0, act (bc.Acquire 1), Accepted)
-    ∷ (0, act (bc.Increfs 1), Accepted)
-    ∷ (0, act (bc.FreeBuffer 65536), Accepted)
-    ∷ (1, enter, Accepted)
+    Plays (object_sent
+    ++ handshakes_done
+    ++ (0, act (bc.Acquire 1), Accepted)
+    ∷ kept_weakly
+    ++ (1, enter, Accepted)
     ∷ (1, Read 256, Refused fault.Again)
     ∷ (0, ExitProcess, Exited)
     ∷ (1, Read 256, untold_read) ∷ [])
@@ -79,9 +70,8 @@ references_asked_by_a_process_that_ended =
 -- A Notice goes with its object, and when what the owner was told is so again: there is nothing to read (F12).
 abbrev pub notices_no_longer_wanted : Type 0
 notices_no_longer_wanted =
-    Plays ((2, Attach 200, Opened)
-    ∷ (2, enter, Accepted)
-    ∷ (1, tx 0 1 1 OBJ (0 ∷ []), Accepted)
+    Plays (second_thread
+    ++ (1, tx 0 1 1 OBJ (0 ∷ []), Accepted)
     ∷ (1, ExitThread, Exited)
     ∷ (0, Read 256, object_read)
     ∷ (0, act (bc.FreeBuffer 65536), Accepted)
@@ -100,14 +90,10 @@ notices_no_longer_wanted =
 -- that was told (N11), each once, though all have one cookie.
 abbrev pub notifications_of_others : Type 0
 notifications_of_others =
-    Plays ((2, Open 300 3000 4096, Opened)
-    ∷ (1, tx 0 1 1 OBJ (0 ∷ []), Accepted)
-    ∷ (2, tx 0 1 1 OBJ2 (0 ∷ []), Accepted)
-    ∷ (0, Read 256, object_read)
-    ∷ (0, act (bc.RequestDeathNotification 1 77), Accepted)
-    ∷ (0, act (bc.Increfs 1), Accepted)
-    ∷ (0, act (bc.FreeBuffer 65536), Accepted)
-    ∷ (0, Read 256, Got (hex "0c720000 02724080 0000000000000000 0000000000000000 01000000 01000000 00000000 b80b0000 1800000000000000 0800000000000000 2000010000000000 3800010000000000") HOBJ2 (hex "0000000000000000"))
+    Plays (objects_of_two
+    ++ (0, act (bc.RequestDeathNotification 1 77), Accepted)
+    ∷ kept_weakly
+    ++ (0, Read 256, Got (hex "0c720000 02724080 0000000000000000 0000000000000000 01000000 01000000 00000000 b80b0000 1800000000000000 0800000000000000 2000010000000000 3800010000000000") HOBJ2 (hex "0000000000000000"))
     ∷ (0, act (bc.RequestDeathNotification 2 77), Accepted)
     ∷ (2, ExitProcess, Exited)
     ∷ (0, Read 256, death_read)
@@ -127,9 +113,8 @@ death_item_gone_with_its_name =
     Plays ((1, tx 0 1 1 OBJ (0 ∷ []), Accepted)
     ∷ (1, tx 0 2 1 OBJ2 (0 ∷ []), Accepted)
     ∷ (0, Read 256, object_read)
-    ∷ (0, act (bc.Increfs 1), Accepted)
-    ∷ (0, act (bc.FreeBuffer 65536), Accepted)
-    ∷ (0, Read 256, Got (hex "0c720000 02724080 0000000000000000 0000000000000000 02000000 01000000 00000000 d0070000 1800000000000000 0800000000000000 2000010000000000 3800010000000000") HOBJ2 (hex "0000000000000000"))
+    ∷ kept_weakly
+    ++ (0, Read 256, Got (hex "0c720000 02724080 0000000000000000 0000000000000000 02000000 01000000 00000000 d0070000 1800000000000000 0800000000000000 2000010000000000 3800010000000000") HOBJ2 (hex "0000000000000000"))
     ∷ (0, act (bc.RequestDeathNotification 1 77), Accepted)
     ∷ (0, act (bc.RequestDeathNotification 2 78), Accepted)
     ∷ (1, ExitProcess, Exited)

@@ -28,19 +28,25 @@ unhex (a ∷ b ∷ cs) = if a == 32 then unhex (b ∷ cs) else ((16 * digit a + 
 abbrev pub hex : String → List ℕ
 hex t = unhex (codes t)
 
-abbrev pub sending : ℕ → ℕ → ℕ → List ℕ → List ℕ → TransactionData
-sending target code flags bytes offsets = record {
+-- a record as its receiver reads it, by target, cookie, code, flags, pid, euid, both sizes and where the buffer lies
+abbrev pub seen : ℕ → ℕ → ℕ → ℕ → ℕ → ℕ → ℕ → ℕ → ℕ → TransactionData
+seen target cookie code flags pid euid size objects place = record {
   target = target;
-  cookie = 0;
+  cookie = cookie;
   code = code;
   flags = record { 0 = flags };
-  sender_pid = pos 0;
-  sender_euid = 0;
-  data_size = length bytes;
-  offsets_size = 8 * length offsets;
-  buffer = 0;
-  offsets = round_up (length bytes);
+  sender_pid = pos pid;
+  sender_euid = euid;
+  data_size = size;
+  offsets_size = 8 * objects;
+  buffer = 65536 + place;
+  offsets = 65536 + place + round_up size;
 }
+
+-- a record as its sender writes it, with its data and then its offsets at the front of the area
+abbrev pub sending : ℕ → ℕ → ℕ → List ℕ → List ℕ → TransactionData
+sending target code flags bytes offsets =
+    record (seen target 0 code flags 0 0 (length bytes) (length offsets) 0) { buffer = 0; offsets = round_up (length bytes) }
 
 abbrev pub parcel : List ℕ → List ℕ → Parcel
 parcel bytes offsets = record { bytes = bytes; offsets = concat (map (bytes_low_first 0 8) offsets) }
@@ -88,21 +94,6 @@ WHOBJ = hex "852a6877000000000100000000000000 0000000000000000"
 
 abbrev pub zeros : ℕ → List ℕ
 zeros n = bytes_low_first 0 n 0
-
--- a record as its receiver reads it, by target, cookie, code, flags, pid, euid, both sizes and where the buffer lies
-abbrev pub seen : ℕ → ℕ → ℕ → ℕ → ℕ → ℕ → ℕ → ℕ → ℕ → TransactionData
-seen target cookie code flags pid euid size objects place = record {
-  target = target;
-  cookie = cookie;
-  code = code;
-  flags = record { 0 = flags };
-  sender_pid = pos pid;
-  sender_euid = euid;
-  data_size = size;
-  offsets_size = 8 * objects;
-  buffer = 65536 + place;
-  offsets = 65536 + place + round_up size;
-}
 
 -- what is read: a BR_NOOP, these returns, and the parcel
 abbrev pub reads : List Return → List ℕ → List ℕ → StepAnswer

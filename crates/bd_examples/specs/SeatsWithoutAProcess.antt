@@ -1,24 +1,20 @@
 -- A random history of 97 steps by 6 seats, with the answers that the rules give: exits of seats without a process, unread work outside the loop, and replies with weak handles.
-use Rattle.std.specs.Prelude.{ℕ, List, [], ◌∷◌, ◌++◌, Some, None}
+use Rattle.std.specs.Prelude.{[], ◌∷◌, ◌++◌, Some, None}
 use Rattle.bd_uapi.specs.declared.command.Command.TheVariants as bc
 use Rattle.bd_uapi.specs.declared.fault.Note.TheVariants as note
 use Rattle.bd_uapi.specs.declared.fault.Cause.TheVariants as cause
 use Rattle.bd_uapi.specs.declared.fault.Fault.TheVariants as fault
-use Rattle.bd_space.specs.declared.step.StepAnswer.{StepAnswer}
 use Rattle.bd_space.specs.declared.step.StepAnswer.TheVariants.{Opened, Set, Exited, Accepted, Noted, Stopped, Got, Refused}
-use Rattle.bd_space.specs.declared.step.Step.{Step}
 use Rattle.bd_space.specs.declared.step.Step.TheVariants.{Open, Attach, SetManager, Command, Read, ExitProcess}
+use Rattle.bd_examples.specs.Histories.{History, server_opens}
 use Rattle.bd_examples.specs.Script.{hex, sending, tx, reply, act, enter, zeros}
 
-abbrev pub seats_without_a_process : List (ℕ × Step × StepAnswer)
+abbrev pub seats_without_a_process : History
 seats_without_a_process =
     (0, Open 500 0 4096, Opened)
     ∷ (0, SetManager, Set)
-    ∷ (1, Open 77 10 4096, Opened)
-    ∷ (1, enter, Accepted)
-    ∷ (2, Open 1 20 4096, Opened)
-    ∷ (2, enter, Accepted)
-    ∷ (3, Attach 77, Opened)
+    ∷ server_opens 1 77 10 ++ server_opens 2 1 20
+    ++ (3, Attach 77, Opened)
     ∷ (1, tx 0 0 16 (hex "852a6273000000000810000000000000112000000000000000000000") (0 ∷ []), Accepted)
     ∷ (1, Read 256, Got (hex "0c720000 0772108008100000000000001120000000000000 0872108008100000000000001120000000000000 06720000") [] [])
     ∷ (1, act (bc.AcquireDone 4104 8209), Accepted)

@@ -1,25 +1,20 @@
 -- A random history of 55 steps by 3 seats, with the answers that the rules give: weak handles of dead objects, and buffers that are no more.
-use Rattle.std.specs.Prelude.{ℕ, List, [], ◌∷◌, None}
+use Rattle.std.specs.Prelude.{[], ◌∷◌, ◌++◌, None}
 use Rattle.bd_uapi.specs.declared.command.Command.TheVariants as bc
 use Rattle.bd_uapi.specs.declared.fault.Note.TheVariants as note
 use Rattle.bd_uapi.specs.declared.fault.Cause.TheVariants as cause
 use Rattle.bd_uapi.specs.declared.fault.Fault.TheVariants as fault
-use Rattle.bd_space.specs.declared.step.StepAnswer.{StepAnswer}
-use Rattle.bd_space.specs.declared.step.StepAnswer.TheVariants.{Opened, Set, Exited, Accepted, Noted, Stopped, Got, Refused}
-use Rattle.bd_space.specs.declared.step.Step.{Step}
-use Rattle.bd_space.specs.declared.step.Step.TheVariants.{Open, SetManager, Command, Read, ExitThread, ExitProcess}
+use Rattle.bd_space.specs.declared.step.StepAnswer.TheVariants.{Opened, Exited, Accepted, Noted, Stopped, Got, Refused}
+use Rattle.bd_space.specs.declared.step.Step.TheVariants.{Open, Command, Read, ExitThread, ExitProcess}
+use Rattle.bd_examples.specs.Histories.{History, manager_opens, server_opens}
 use Rattle.bd_examples.specs.Script.{hex, sending, tx, reply, act, enter}
 
-abbrev pub weak_handles_of_the_dead : List (ℕ × Step × StepAnswer)
+abbrev pub weak_handles_of_the_dead : History
 weak_handles_of_the_dead =
-    (0, Open 500 0 4096, Opened)
-    ∷ (0, enter, Accepted)
-    ∷ (0, SetManager, Set)
-    ∷ (1, Open 77 10 4096, Opened)
-    ∷ (1, enter, Accepted)
-    ∷ (2, Open 400 20 4096, Opened)
-    ∷ (2, enter, Accepted)
-    ∷ (1, tx 0 1 1 (hex "852a6273000000000810000000000000112000000000000000000000852a62777f01000000100000000000000120000000000000") (0 ∷ 28 ∷ []), Accepted)
+    manager_opens 500
+    ++ server_opens 1 77 10
+    ++ server_opens 2 400 20
+    ++ (1, tx 0 1 1 (hex "852a6273000000000810000000000000112000000000000000000000852a62777f01000000100000000000000120000000000000") (0 ∷ 28 ∷ []), Accepted)
     ∷ (1, tx 0 0 16 [] [], Accepted)
     ∷ (0, Read 72, Got (hex "0c720000 02724080000000000000000000000000000000000100000001000000000000000a0000003400000000000000100000000000000000000100000000003800010000000000") (hex "852a6873000000000100000000000000000000000000000000000000852a68777f01000002000000000000000000000000000000") (hex "00000000000000001c00000000000000"))
     ∷ (1, Read 72, Got (hex "0c720000 0772108008100000000000001120000000000000 0872108008100000000000001120000000000000") [] [])

@@ -1,16 +1,15 @@
 -- A random history of 50 steps by 6 seats, with the answers that the rules give: weak and strong objects on their way, names that go, and verdicts.
-use Rattle.std.specs.Prelude.{ℕ, List, [], ◌∷◌}
+use Rattle.std.specs.Prelude.{[], ◌∷◌}
 use Rattle.bd_uapi.specs.declared.command.Command.TheVariants as bc
 use Rattle.bd_uapi.specs.declared.fault.Note.TheVariants as note
 use Rattle.bd_uapi.specs.declared.fault.Cause.TheVariants as cause
 use Rattle.bd_uapi.specs.declared.fault.Fault.TheVariants as fault
-use Rattle.bd_space.specs.declared.step.StepAnswer.{StepAnswer}
 use Rattle.bd_space.specs.declared.step.StepAnswer.TheVariants.{Opened, Set, Exited, Accepted, Noted, Stopped, Got, Refused}
-use Rattle.bd_space.specs.declared.step.Step.{Step}
 use Rattle.bd_space.specs.declared.step.Step.TheVariants.{Open, Attach, SetManager, Read, ExitProcess}
+use Rattle.bd_examples.specs.Histories.{History}
 use Rattle.bd_examples.specs.Script.{hex, tx, reply, act, enter}
 
-abbrev pub weak_objects_and_verdicts : List (ℕ × Step × StepAnswer)
+abbrev pub weak_objects_and_verdicts : History
 weak_objects_and_verdicts =
     (4, Open 77 1000 4096, Opened)
     ∷ (0, Open 2147483647 2000 65536, Opened)

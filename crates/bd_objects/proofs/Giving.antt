@@ -1,7 +1,8 @@
 -- Names that come in one after the other: none goes, and a number past the limit stays.
-use Rattle.std.proofs.Common.{◌≡◌, ℕ, zero, suc, ◌+◌, ◌<◌, Bool, true, false, cond, List, [], ◌∷◌, ◌++◌, Option, Result, Ok, Err, OnErr, take, drop, length, get_or, fold, filter, refl, ap, sym, ◌∙◌, subst, append-nil, arith}
+use Rattle.std.proofs.Common.{◌≡◌, ℕ, zero, suc, ◌+◌, ◌<◌, Bool, true, false, cond, List, [], ◌∷◌, ◌++◌, Option, Result, Ok, Err, OnOk, OnErr, take, drop, length, get_or, fold, filter, map, refl, ap, sym, ◌∙◌, subst, append-nil, arith}
 use Rattle.std.specs.Prelude.{nat_lt}
-use Rattle.std.proofs.lemmas.List.Folds.{list_any-append}
+use Rattle.std.specs.Result.{is_err}
+use Rattle.std.proofs.lemmas.List.Folds.{fold-map, list_any-append}
 use Rattle.std.proofs.lemmas.List.Sums.{fold_more}
 use Rattle.std.proofs.lemmas.List.Elements.{filter-append}
 use Rattle.bd_space.specs.declared.step.ObjectId.{ObjectId}
@@ -9,6 +10,7 @@ use Rattle.bd_space.specs.declared.space.Item.{Item}
 use Rattle.bd_space.specs.declared.space.Name.{Name}
 use Rattle.bd_space.specs.declared.space.Object.{Object}
 use Rattle.bd_space.specs.declared.space.Reference.{Reference}
+use Rattle.bd_space.specs.Parcels.{object_of_item}
 use Rattle.bd_space.specs.Names.{with_name, has_number_past_limit}
 
 module _ (manager : Option ObjectId) (objects : List Object) (refs : List Reference) (p : ℕ) (q : Name → Bool) where
@@ -45,10 +47,20 @@ module _ (manager : Option ObjectId) (objects : List Object) (refs : List Refere
 
   -- one number past the limit on the way, and one at the end
   pub past-at : (xs : List Item) (ns ms : List Name) (i : ℕ) (d : Item) → i < length xs → ms ≡ fold give ns (take i xs)
-      → has_number_past_limit (filter q (give ms (get_or xs i d))) ≡ true → has_number_past_limit (filter q (fold give ns xs)) ≡ true
+      → has_number_past_limit (filter q (give ms (get_or xs i d))) ≡ true
+      → has_number_past_limit (filter q (fold (with_name manager objects refs p) ns (map object_of_item xs))) ≡ true
   past-at xs ns ms i d h e past =
-      rw (fold-at xs ns i d h) (past-fold (drop (suc i) xs) _ (subst (λ ks. has_number_past_limit (filter q (give ks (get_or xs i d))) ≡ true) e past))
+      rw (fold-map (with_name manager objects refs p) object_of_item ns xs, fold-at xs ns i d h) (past-fold (drop (suc i) xs) _ (subst (λ ks. has_number_past_limit (filter q (give ks (get_or xs i d))) ≡ true) e past))
 
 pub on-err : {T E : Type 0} (r : Result T E) {P : Type 0} → P → OnErr r P
 on-err (Ok x) h = tt
 on-err (Err e) h = h
+
+-- what holds of a result by what it is
+pub of-ok : {T E : Type 0} {P : Type 0} (r : Result T E) → is_err r ≡ false → OnOk r P → P
+of-ok (Ok x) e h = h
+of-ok (Err x) e h = absurd (cc)
+
+pub of-err : {T E : Type 0} {P : Type 0} (r : Result T E) → is_err r ≡ true → OnErr r P → P
+of-err (Ok x) e h = absurd (cc)
+of-err (Err x) e h = h

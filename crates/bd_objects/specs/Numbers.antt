@@ -1,14 +1,12 @@
 -- The numbers (handles) that new names get, and their limit.
-use Rattle.std.specs.Prelude.{ℕ, suc, ◌≡◌, ◌==◌, ◌&&◌, Bool, not, true, false, List, Option, length, filter, fold, unwrap_or}
+use Rattle.std.specs.Prelude.{ℕ, suc, ◌≡◌, ◌==◌, ◌&&◌, Bool, not, true, false, List, length, filter, unwrap_or}
 use Rattle.std.specs.List.{list_any}
-use Rattle.bd_space.specs.declared.step.ObjectId.{ObjectId}
-use Rattle.bd_space.specs.declared.space.Item.{Item}
 use Rattle.bd_space.specs.declared.space.Object.{Object}
 use Rattle.bd_space.specs.declared.space.Reference.{Reference}
 use Rattle.bd_space.specs.declared.space.Name.{Name}
 use Rattle.bd_space.specs.Words.{least}
 use Rattle.bd_space.specs.Space.{Space}
-use Rattle.bd_space.specs.Names.{is_named_in, with_name, names_go, has_number_past_limit}
+use Rattle.bd_space.specs.Names.{is_named_in, names_go, has_number_past_limit}
 
 -- p has a name with this number
 abbrev pub is_used_in : List Name → ℕ → ℕ → Bool
@@ -17,11 +15,6 @@ is_used_in names p n = list_any (λ m. (m.process == p) && (m.number == n)) name
 -- the least number from the first on that p doesn't use
 abbrev pub free_number_from : List Name → ℕ → ℕ → ℕ
 free_number_from names p first = unwrap_or (least (suc (length names)) first (λ n. not (is_used_in names p n))) 0
-
--- the names with one for the object of each item that p lacks, in their order
-abbrev pub with_each : Option ObjectId → List Object → List Reference → ℕ → List Name → List Item → List Name
-with_each manager objects references p names items =
-    fold (λ ns x. with_name manager objects references p ns x.object) names items
 
 -- where no number was past the limit, none is now
 abbrev pub KeepsLimit : List Name → List Name → Type 0

@@ -1,12 +1,11 @@
 //! Death notifications.
 
-ghost use Rattle.std.specs.Prelude.{◌≡◌, ◌==◌, ◌≤◌, ◌||◌, not, filter, find, length, slice_get, vec_len, vec_capacity};
-ghost use Rattle.std.specs.Prelude.{Option, true};
+ghost use Rattle.std.specs.Prelude.{◌≡◌, ◌==◌, ◌≤◌, ◌||◌, not, filter, find, length, slice_get, vec_len, vec_capacity, Option, true};
 ghost use Rattle.std.specs.List.{list_any};
 ghost use Rattle.bd_space.specs.Deaths as deaths_of;
 ghost use Rattle.bd_space.specs.Clearing as clearing;
 ghost use Rattle.bd_space.specs.Notices as notices;
-ghost use Rattle.bd_space.specs.ProcessExits as exits;
+ghost use Rattle.bd_space.specs.ProcessExits.{is_armed, tell_deaths};
 ghost use Rattle.bd_space.specs.Words.{changed};
 ghost use Rattle.bd_space.specs.declared.space.Phase.TheVariants.{Queued};
 ghost use Rattle.bd_objects.specs.Deaths as due;
@@ -45,7 +44,7 @@ fn is_told(phase: Phase) -> bool
 }
 
 fn is_armed(phase: Phase) -> bool
-    ensures { result ≡ exits.is_armed phase }
+    ensures { result ≡ is_armed phase }
 {
     matches!(phase, Phase::Armed)
 }
@@ -250,7 +249,7 @@ impl ObjectTable {
     /// make.
     #[tactic(auto, unfolding(crate::specs::Room::rooms))]
     pub fn tell_deaths(&mut self, p: u32)
-        ensures stands { Makes (StandsFor self.old) (StandsFor self.new) (λ s. exits.tell_deaths s p) }
+        ensures stands { Makes (StandsFor self.old) (StandsFor self.new) (λ s. tell_deaths s p) }
         ensures uses { UsesNothing self.old self.new }
     {
         queue_due(&mut self.deaths, self.objects.as_slice(), p);

@@ -101,32 +101,8 @@ pub(crate) fn give_name(
     Ok(())
 }
 
-/// Gives the process a number for the object of each item, in their order. Needs room for as many names.
-fn give_each(
-    names: &mut Vec<Name>,
-    manager: Option<ObjectId>,
-    objects: &[Object],
-    references: &[Reference],
-    p: u32,
-    items: &[Item],
-) -> Result<(), NumbersFull>
-    requires { vec_len names.old + length items.now ≤ vec_capacity names.old }
-    ensures ok { OnOk result (names.new.items
-        ≡ numbers.with_each manager objects.now references.now p names.old.items items.now) }
-    ensures fits { KeepsLimit names.old.items names.new.items }
-    ensures grows { (added : List Name) × (names.new.items ≡ names.old.items ++ added) }
-    ensures full { OnErr result (IsPastLimit objects.now references.now
-        (numbers.with_each manager objects.now references.now p names.old.items items.now)) }
-    ensures len { vec_len names.new ≤ vec_len names.old + length items.now }
-    ensures capacity { vec_capacity names.new ≡ vec_capacity names.old }
-{
-    for x in items {
-        give_name(names, manager, objects, references, p, x.object)?;
-    }
-    Ok(())
-}
-
-/// The same, or nothing where a number past the limit would be needed.
+/// Gives the process a number for the object of each item, in their order, or nothing where a number past the limit
+/// would be needed. Needs room for as many names.
 pub(crate) fn give_names(
     names: &mut Vec<Name>,
     manager: Option<ObjectId>,
@@ -146,9 +122,12 @@ pub(crate) fn give_names(
     ensures capacity { vec_capacity names.new ≡ vec_capacity names.old }
 {
     let before = names.len();
-    let given = give_each(names, manager, objects, references, p, items);
-    if given.is_err() {
-        names.truncate(before);
+    for x in items {
+        let given = give_name(names, manager, objects, references, p, x.object);
+        if given.is_err() {
+            names.truncate(before);
+            return given;
+        }
     }
-    given
+    Ok(())
 }

@@ -56,32 +56,6 @@ impl ObjectTable {
     ghost use Rattle.bd_objects.specs.Stands.{StandsFor};
     ghost use Rattle.bd_space.specs.Tables.{TellsWhere, IsAt};
 
-    fn resolve_own(
-        &self,
-        place: u32,
-        p: u32,
-        made: &[Object],
-        x: &FlatObject,
-    ) -> Result<Resolved, Cause>
-        requires { length made.now < 2 ^ 32 }
-        ensures { TellsWhere (StandsFor self.now) (IsAt place) result (λ s. parcels.resolve_own s p made.now x.now) }
-    {
-        match own_or_made(self.objects.as_slice(), made, p, x.binder) {
-            None => {
-                let o = new_object(place, p, made, x);
-                Ok(Resolved {
-                    object: o.id,
-                    new: Some(o),
-                })
-            }
-            Some(o) if o.cookie == x.cookie => Ok(Resolved {
-                object: o.id,
-                new: None,
-            }),
-            Some(_) => Err(Cause::OtherCookie),
-        }
-    }
-
     /// The object that the process sends by this flat object, where the step of this place has made these already: an
     /// own object is known by its ptr or made, a handle names another's. Errors: a known ptr with another cookie, or a
     /// handle that the process has no name with, or for a strong one no strong name.
@@ -97,8 +71,22 @@ impl ObjectTable {
         ensures { TellsWhere (StandsFor self.now) (IsAt place) result (λ s. parcels.resolve s p made.now x.now) }
     {
         match x.kind {
-            ObjectKind::Binder => self.resolve_own(place, p, made, x),
-            ObjectKind::WeakBinder => self.resolve_own(place, p, made, x),
+            ObjectKind::Binder | ObjectKind::WeakBinder => {
+                match own_or_made(self.objects.as_slice(), made, p, x.binder) {
+                    None => {
+                        let o = new_object(place, p, made, x);
+                        Ok(Resolved {
+                            object: o.id,
+                            new: Some(o),
+                        })
+                    }
+                    Some(o) if o.cookie == x.cookie => Ok(Resolved {
+                        object: o.id,
+                        new: None,
+                    }),
+                    Some(_) => Err(Cause::OtherCookie),
+                }
+            }
             ObjectKind::Handle => resolve_handle(self.strongly_named(p, handle_in(x.binder))),
             ObjectKind::WeakHandle => resolve_handle(self.named(p, handle_in(x.binder))),
         }

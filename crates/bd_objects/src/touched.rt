@@ -1,10 +1,9 @@
 //! What follows from a change at one name and one object: nothing else is looked at.
 
-ghost use Rattle.std.specs.Prelude.{◌≡◌, ◌==◌, ◌≤◌, ◌&&◌, ◌||◌, not, filter, false, option_and_then};
-ghost use Rattle.std.specs.Prelude.{vec_len, vec_capacity};
+ghost use Rattle.std.specs.Prelude.{◌≡◌, ◌==◌, ◌≤◌, ◌&&◌, ◌||◌, not, filter, false, option_and_then, vec_len, vec_capacity};
 ghost use Rattle.std.specs.List.{list_any};
 ghost use Rattle.bd_space.specs.Words.{when};
-ghost use Rattle.bd_space.specs.Names as names_of;
+ghost use Rattle.bd_space.specs.Names.{is_named_in};
 ghost use Rattle.bd_space.specs.References as refer;
 ghost use Rattle.bd_space.specs.Notices as notices;
 ghost use Rattle.bd_space.specs.Local as local;
@@ -25,7 +24,7 @@ fn is_at(p: u32, o: ObjectId, process: u32, object: ObjectId) -> bool
 /// Whether the name stays: it is another one, or a reference carries it.
 fn name_stays(objects: &[Object], references: &[Reference], p: u32, o: ObjectId, m: &Name) -> bool
     ensures { result ≡ (not (local.at_name p o m.now.process m.now.object)
-        || names_of.is_named_in objects.now references.now m.now.process m.now.object) }
+        || is_named_in objects.now references.now m.now.process m.now.object) }
 {
     !is_at(p, o, m.process, m.object) || is_named_in(objects, references, m.process, m.object)
 }
@@ -39,7 +38,7 @@ fn keep_named_at(
 )
     ensures items { names.new.items
         ≡ filter (λ m. not (local.at_name p o m.process m.object)
-        || names_of.is_named_in objects.now references.now m.process m.object) names.old.items }
+        || is_named_in objects.now references.now m.process m.object) names.old.items }
     ensures capacity { vec_capacity names.new ≡ vec_capacity names.old }
     ensures len { vec_len names.new ≤ vec_len names.old }
 {

@@ -1,7 +1,7 @@
 use Rattle.std.proofs.Common.{◌≡◌, ◌+◌, ◌≤◌, false, List, ◌++◌, take, vec_len, vec_capacity, fold}
 use Rattle.bd_space.specs.declared.space.Name.{Name}
 use Rattle.bd_space.specs.Names.{with_name, has_number_past_limit}
-use Rattle.bd_objects.proofs.numbers.give_each.Given as goal
+use Rattle.bd_objects.proofs.numbers.give_names.Given as goal
 
 abbrev pub invariant-loop-x : goal.invariant-loop-x
 invariant-loop-x l = record {
