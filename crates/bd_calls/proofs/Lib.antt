@@ -1,4 +1,5 @@
 pub mod AncestryLength
+pub mod Choosing
 pub mod Closing
 pub mod OneWay
 pub mod Plain

@@ -1,7 +1,7 @@
 //! Frames: open two-way calls.
 #![tactic(auto, unfolding(bd_space::specs::Frames::innermost, bd_space::specs::Frames::served_innermost, bd_space::specs::Frames::goes_to, bd_space::specs::Frames::closed, bd_space::specs::Transactions::call_out, bd_space::specs::Todo::owe, crate::specs::Room::rooms))]
 
-ghost use Rattle.std.specs.Prelude.{ℕ, Bool, ◌≡◌, ◌==◌, ◌||◌, ◌&&◌, ◌+◌, ◌<◌, ◌≤◌, ◌^◌, ◌++◌, ◌∷◌, [], false, not, nat_le, map, filter, find, reverse, length, count_by, Option, Some, None, option_map, IfOk, OnOk, OnErr, vec_len, vec_capacity};
+ghost use Rattle.std.specs.Prelude.{ℕ, Bool, ◌≡◌, ◌==◌, ◌||◌, ◌&&◌, ◌+◌, ◌<◌, ◌≤◌, ◌^◌, ◌++◌, ◌∷◌, [], true, false, not, nat_le, map, filter, find, reverse, length, count_by, Option, Some, None, option_map, IfOk, OnOk, OnErr, vec_len, vec_capacity};
 ghost use Rattle.std.specs.List.{list_all, list_any};
 ghost use Rattle.bd_space.specs.Frames as spec;
 ghost use Rattle.bd_space.specs.Settle as settling;
@@ -9,6 +9,8 @@ ghost use Rattle.bd_space.specs.Local as local;
 ghost use Rattle.bd_space.specs.ThreadExits as exits;
 ghost use Rattle.bd_space.specs.ReadItems as reading;
 ghost use Rattle.bd_space.specs.Todo as works;
+ghost use Rattle.bd_space.specs.Words.{changed};
+ghost use Rattle.bd_calls.specs.Closing.{is_place_among};
 
 use crate::ancestry::ancestry_of;
 use crate::server::{gone_server, is_gone, serves};
@@ -18,6 +20,7 @@ use crate::todo_list::{is_unread_on, push_work};
 use crate::work::is_call;
 use bd_space::{Frame, Server, Thread, TodoList, Work, WorkKind};
 use bd_uapi::Return;
+use std::alloc::AllocError;
 
 fn is_child_of(frame: &Frame, child: &Frame) -> bool
     ensures { result ≡ spec.is_child_of frame.now child.now }
@@ -171,6 +174,45 @@ fn abandoned_made_at(frames: &[Frame], made: u32) -> Option<Frame>
         .find(|f| is_frame(f, made) && is_abandoned(frames, f))
 }
 
+// The frame's call was made at one of these places.
+fn is_among(chosen: &[u32], frame: &Frame) -> bool
+    ensures { result ≡ is_place_among chosen.now frame.now.made }
+{
+    chosen.iter().any(|made| *made == frame.made)
+}
+
+fn oldest_abandoned_among(frames: &[Frame], chosen: &[u32]) -> Option<Frame>
+    ensures { result ≡ find (λ f. is_place_among chosen.now f.made && settling.is_abandoned frames.now f) frames.now }
+{
+    frames
+        .iter()
+        .copied()
+        .find(|f| is_among(chosen, f) && is_abandoned(frames, f))
+}
+
+// In the place of a call that closes the one is chosen in which it was made.
+fn choose_parent(chosen: &mut [u32], made: u32, parent: u32)
+    ensures { chosen.new ≡ changed (λ m. m == made) (λ m. parent) chosen.old }
+{
+    for one in chosen.iter_mut() {
+        if *one == made {
+            *one = parent;
+        }
+    }
+}
+
+fn push_served(frames: &[Frame], seat: u32, served: &mut Vec<u32>) -> Result<(), AllocError>
+    ensures { OnOk result (served.new.items
+        ≡ served.old.items ++ map spec.made_of (filter (λ f. spec.serves seat f.server) frames.now)) }
+{
+    for frame in frames {
+        if serves(seat, frame.server) {
+            served.push(frame.made)?;
+        }
+    }
+    Ok(())
+}
+
 fn is_call_of(taken: &[Work], frame: &Frame) -> bool
     ensures { result ≡ list_any (λ w. works.is_call frame.now.made w.kind) taken.now }
 {
@@ -253,7 +295,7 @@ impl CallTable {
     ghost use Rattle.bd_space.specs.Tables.{Tells, Makes, MakesAt};
     ghost use Rattle.bd_calls.specs.Stands.{Stands, StandsFor};
     ghost use Rattle.bd_calls.specs.Room.{Uses, UsesNothing, nothing, frame_room, work_room, frame_count};
-    ghost use Rattle.bd_calls.specs.Closing.{parent_of_abandoned};
+    ghost use Rattle.bd_calls.specs.Closing.{parent_of_abandoned, IsAmongAt};
 
     /// The frame of the call made at this place.
     pub fn frame(&self, made: u32) -> Option<Frame>
@@ -405,5 +447,50 @@ impl CallTable {
             };
             next = self.close_if_abandoned(place, made);
         }
+    }
+
+    // The oldest abandoned call among the chosen ones closes, and the one in which it was made is chosen for it;
+    // whether there was one.
+    #[tactic(auto)]
+    fn close_oldest_among(&mut self, place: u32, chosen: &mut [u32]) -> bool
+        requires { 1 ≤ work_room self.old }
+        ensures goes_on { (left : ℕ) (whole : Space) → result ≡ true
+            → IsAmongAt self.old place chosen.old (left + 1) whole → IsAmongAt self.new place chosen.new left whole }
+        ensures done { (left : ℕ) (whole : Space) → result ≡ false → IsAmongAt self.old place chosen.old left whole
+            → StandsFor self.new whole }
+        ensures uses { Uses self.old self.new (record nothing { works = 1 }) }
+    {
+        let Some(oldest) = oldest_abandoned_among(&self.frames, chosen) else {
+            return false;
+        };
+        self.abandon(place, oldest);
+        if let Some(parent) = oldest.parent {
+            choose_parent(chosen, oldest.made, parent);
+        }
+        true
+    }
+
+    /// Of the chosen calls those close that are abandoned, oldest first, until there are none left; where one closes, the
+    /// one in which it was made is chosen for it. Each caller that lives is told, by a work item made at this place.
+    #[tactic(auto)]
+    pub fn close_among(&mut self, place: u32, chosen: &mut [u32])
+        requires { frame_count self.old ≤ work_room self.old }
+        ensures stands { MakesAt place (StandsFor self.old) (StandsFor self.new)
+            (λ s. local.close_among (length s.frames) (is_place_among chosen.old) s) }
+        ensures uses { Uses self.old self.new (record nothing { works = frame_count self.old }) }
+    {
+        for _closed in 0..self.count_frames() {
+            if !self.close_oldest_among(place, chosen) {
+                return;
+            }
+        }
+    }
+
+    /// Where the calls were made that the thread of a seat serves, put after what is there. Fails for want of memory alone.
+    pub fn served(&self, seat: u32, served: &mut Vec<u32>) -> Result<(), AllocError>
+        ensures { OnOk result (Tells (StandsFor self.now) served.new.items
+            (λ s. served.old.items ++ map spec.made_of (filter (λ f. spec.serves seat f.server) s.frames))) }
+    {
+        push_served(&self.frames, seat, served)
     }
 }

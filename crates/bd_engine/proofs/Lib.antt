@@ -3,6 +3,7 @@ pub mod Notifying
 pub mod Meeting
 pub mod Seating
 pub mod Places
+pub mod Gathering
 pub mod Keeping
 pub mod Commands
 pub mod Courses

@@ -32,10 +32,10 @@ pub filled : (ws : List Work) (w : Work) → slice_get ws 0 ≡ Some w → is_em
 filled [] w e = absurd (none-some w e)
 filled (x ∷ xs) w e = refl
 
-pub none_left : (ws : List Work) (k : ℕ) → slice_get ws k ≡ None → drop k ws ≡ []
+pub none_left : {A : Type 0} (ws : List A) (k : ℕ) → slice_get ws k ≡ None → drop k ws ≡ []
 none_left ws k e = drop_all k ws (past ws k e)
 
-pub one_left : (ws : List Work) (k : ℕ) (w : Work) → slice_get ws k ≡ Some w → drop k ws ≡ w ∷ drop (k + 1) ws
+pub one_left : {A : Type 0} (ws : List A) (k : ℕ) (w : A) → slice_get ws k ≡ Some w → drop k ws ≡ w ∷ drop (k + 1) ws
 one_left ws k w e =
     let lt = slice_get_within ws k w e in
     drop-cons ws k w lt ∙ sym (ap (λ n. get_or ws k w ∷ drop n ws) (add-one k)) ∙ ap (λ x. x ∷ drop (k + 1) ws) (get_or_from_slice_get ws k w w e)

@@ -7,6 +7,7 @@ mod consequences;
 mod death_notification;
 mod delivery;
 mod engine;
+mod exit;
 mod frame;
 mod looks;
 mod manager;

@@ -24,7 +24,7 @@ use Rattle.bd_space.specs.Settle.{settle}
 use Rattle.bd_space.specs.Deaths.{is_notification, with_phase}
 use Rattle.bd_space.specs.ThreadExits.{thread_goes, is_lost_reference, is_unread_on, unread_frame}
 use Rattle.bd_space.specs.ProcessExits.{threads_go, without_process, tell_death, tell_deaths, is_armed, is_dropped_with, seat_of}
-use Rattle.bd_space.specs.Local.{no_name, follow_of, close_among}
+use Rattle.bd_space.specs.Local.{ObjectTest, no_name, follow_of, close_among}
 use Rattle.bd_space.specs.LocalExits.{left_objects, seats_in, lists_in, lost_with_process, objects_ended, frames_ended}
 use Rattle.bd_laws.specs.Lists.{In}
 use Rattle.bd_laws.specs.Tidy.{IsTidy}
@@ -39,7 +39,7 @@ use Rattle.bd_laws.proofs.Queueing.{sits-on}
 use Rattle.bd_laws.proofs.Abandoned.{OneEach}
 use Rattle.bd_laws.proofs.Framing.{one-each}
 use Rattle.bd_laws.proofs.Closings.{Covered, settle-among}
-use Rattle.bd_laws.proofs.Leaving.{neither, or-right, Left, left-none, left-step, AllWent, went-map, unread-or, cover-unread, Parts, parts-elsewhere, untouched-reference, untouched-notice, abandoned-touched, one-map, left-one, follow-frames}
+use Rattle.bd_laws.proofs.Leaving.{neither, or-right, Left, left-none, left-step, AllWent, went-map, unread-or, cover-unread, Parts, parts-elsewhere, elsewhere-more, untouched-reference, untouched-notice, abandoned-touched, one-map, left-one, follow-frames}
 
 not-eq : (a b : ℕ) → (a ≡ b → ⊥) → (a == b) ≡ false
 not-eq a b k = to-false (a == b) (λ e. k (eqb-true a b e))
@@ -286,15 +286,17 @@ module _ (s : Space) (p : ℕ) (h : IsTidy s) where
         ];
       }
 
-  -- Of ExitProcess: other processes keep their names. Objects to look at are its own, and those of the lists and references
-  -- that it loses; frames to look at are its threads'.
-  pub ending-local : settle (follow ended) ≡ close_among (length ended.frames) (frames_ended s p) (follow_of no_name (objects_ended s p) ended)
-  ending-local =
-      let y = follow_of no_name (objects_ended s p) ended in
-      let same_frames = follow-frames no_name (objects_ended s p) ended in
+  -- Of ExitProcess: other processes keep their names. Where its own objects, those of the lists and references that it loses,
+  -- and its threads' frames are looked at, nothing else has to be
+  pub ending-local : (b : ObjectTest) (c : ℕ → Bool) → ((o : ObjectId) → objects_ended s p o ≡ true → b o ≡ true) → ((m : ℕ) → frames_ended s p m ≡ true → c m ≡ true)
+      → settle (follow ended) ≡ close_among (length ended.frames) c (follow_of no_name b ended)
+  ending-local b c objects among =
+      let y = follow_of no_name b ended in
+      let same_frames = follow-frames no_name b ended in
       let aside = (tell_deaths-aside rest p).frames in
       let one : OneEach ended.frames = subst OneEach (sym aside) (without-one threadless p (threads-one s p (one-each s h.framed))) in
-      let covered : Covered (frames_ended s p) ended.frames = subst (Covered (frames_ended s p)) (sym aside) (abandoned-touched (frames_ended s p) s.frames rest.frames h.quiet.settled rest-frames) in
-      ap settle (follow-local no_name (objects_ended s p) ended (parts-elsewhere no_name (objects_ended s p) s ended h.quiet.followed ended-parts))
-      ∙ settle-among (frames_ended s p) y (subst OneEach (sym same_frames) one) (subst (Covered (frames_ended s p)) (sym same_frames) covered)
-      ∙ ap (λ (fs : List Frame). close_among (length fs) (frames_ended s p) y) same_frames
+      let covered : Covered c ended.frames = subst (Covered c) (sym aside) (λ f l e. among f.made (abandoned-touched (frames_ended s p) s.frames rest.frames h.quiet.settled rest-frames f l e)) in
+      let quiet = elsewhere-more no_name no_name (objects_ended s p) b ended (λ q o e. e) objects (parts-elsewhere no_name (objects_ended s p) s ended h.quiet.followed ended-parts) in
+      ap settle (follow-local no_name b ended quiet)
+      ∙ settle-among c y (subst OneEach (sym same_frames) one) (subst (Covered c) (sym same_frames) covered)
+      ∙ ap (λ (fs : List Frame). close_among (length fs) c y) same_frames

@@ -1,12 +1,15 @@
 -- A thread ends: what is touched.
 use Rattle.std.proofs.Common.{◌≡◌, ℕ, ◌==◌, Bool, true, false, cond, not, ◌&&◌, ◌||◌, List, [], ◌∷◌, Option, Some, None, length, ◌⊎◌, inl, inr, refl, ap, sym, subst, ◌∙◌, map, filter}
 use Rattle.std.specs.List.{list_any}
-use Rattle.std.proofs.lemmas.Bool.{eq-eqb}
+use Rattle.std.proofs.lemmas.Bool.{eqb-true, eq-eqb}
 use mathlib.Core.Bool.{beq}
 use Rattle.bd_space.specs.declared.step.ObjectId.{ObjectId}
 use Rattle.bd_space.specs.declared.space.Object.{Object}
 use Rattle.bd_space.specs.declared.space.Reference.{Reference}
 use Rattle.bd_space.specs.declared.space.Name.{Name}
+use Rattle.bd_space.specs.declared.space.Thread.{Thread}
+use Rattle.bd_space.specs.declared.space.Holder.{Holder}
+use Rattle.bd_space.specs.declared.space.Holder.TheVariants.{Asked, Carried, Target, Handshake, Manager}
 use Rattle.bd_space.specs.declared.space.Frame.{Frame}
 use Rattle.bd_space.specs.declared.space.Server.{Server}
 use Rattle.bd_space.specs.declared.space.Server.TheVariants.{Pending, Serving, Gone}
@@ -14,13 +17,13 @@ use Rattle.bd_space.specs.declared.space.DeathNotification.{DeathNotification}
 use Rattle.bd_space.specs.declared.space.Work.{Work}
 use Rattle.bd_space.specs.declared.space.WorkKind.TheVariants as work
 use Rattle.bd_space.specs.declared.space.TodoList.{TodoList}
-use Rattle.bd_space.specs.declared.space.TodoList.TheVariants.{OfThread}
+use Rattle.bd_space.specs.declared.space.TodoList.TheVariants.{OfThread, OfProcess}
 use Rattle.bd_space.specs.Words.{same, is_some_and}
 use Rattle.bd_space.specs.Space.{Space}
 use Rattle.bd_space.specs.Seats.{lives_in}
 use Rattle.bd_space.specs.References.{object_in, owned_in, held_in, strong_in, names_for, buffer_of_holder}
 use Rattle.bd_space.specs.Frames.{serves, is_gone, is_child_of}
-use Rattle.bd_space.specs.Todo.{is_on, is_call, is_notice, hands_out}
+use Rattle.bd_space.specs.Todo.{is_on, same_list, is_call, is_notice, hands_out}
 use Rattle.bd_space.specs.Notices.{wants_notice, is_name_of, follow}
 use Rattle.bd_space.specs.Settle.{settle, is_abandoned}
 use Rattle.bd_space.specs.ThreadExits.{thread_goes, is_lost_with, is_lost_reference, is_unread_on, unread_server, gone_server, frame_without}
@@ -36,7 +39,12 @@ use Rattle.bd_laws.proofs.Fewer.{to-false}
 use Rattle.bd_laws.proofs.Sending.{none-found}
 use Rattle.bd_laws.proofs.Abandoned.{OneEach}
 use Rattle.bd_laws.proofs.Framing.{one-each}
+use Rattle.bd_laws.proofs.Homes.{one-thread}
 use Rattle.bd_laws.proofs.Closings.{Covered, settle-among}
+
+pub on-thread : (seat : ℕ) (list : TodoList) → same_list (OfThread seat) list ≡ true → list ≡ OfThread seat
+on-thread seat (OfThread u) e = ap (λ n. OfThread n) (sym (eqb-true seat u e))
+on-thread seat (OfProcess u) e = absurd (cc)
 
 pub or-left : (a b : Bool) → a ≡ true → (a || b) ≡ true
 or-left a b h = rw h refl
@@ -280,6 +288,22 @@ module _ (a : NameTest) (b : ObjectTest) (s z : Space) (h : IsFollowed s) (k : P
         any-in (λ (w : Work). is_notice x.id w.kind) w.0 z.todo (k.more w.0 x.id w.1 w.2 none) w.2;
   }
 
+-- ---- more may be looked at than is touched
+
+pub not-more : (a b : Bool) → (a ≡ true → b ≡ true) → b ≡ false → a ≡ false
+not-more true b h none = (let t = h refl in absurd (cc))
+not-more false b h none = refl
+
+pub elsewhere-more : (a c : NameTest) (b d : ObjectTest) (z : Space) → ((p : ℕ) (o : ObjectId) → a p o ≡ true → c p o ≡ true) → ((o : ObjectId) → b o ≡ true → d o ≡ true) → Elsewhere a b z → Elsewhere c d z
+elsewhere-more a c b d z more_names more_objects h = record {
+  names = λ m l none. h.names m l (not-more _ _ (more_names m.process m.object) none);
+  objects = λ x l none. h.objects x l (not-more _ _ (more_objects x.id) none);
+  deaths = λ x l none. h.deaths x l (not-more _ _ (more_names x.process x.object) none);
+  notices = λ w o l e none. h.notices w o l e (not-more _ _ (more_objects o) none);
+  tellings = h.tellings;
+  made = λ x l none wants. h.made x l (not-more _ _ (more_objects x.id) none) wants;
+}
+
 -- ---- what isn't touched
 
 pub untouched-reference : (s : Space) (gone : Reference → Bool) (lists : List TodoList) (r : Reference) → In r s.references → left_objects gone lists s r.object ≡ false → gone r ≡ false
@@ -335,13 +359,40 @@ module _ (s : Space) (seat : ℕ) (h : IsTidy s) where
   one-left : OneEach (thread_goes s seat).frames
   one-left = left-one s seat (one-each s h.framed)
 
-  -- Of ExitThread: names and objects of lost references, objects of lost Notices, and the thread's frames are looked at
-  pub leaving-local : settle (follow (thread_goes s seat))
-      ≡ close_among (length (thread_goes s seat).frames) (frames_left s seat) (follow_of (names_left s seat) (objects_left s seat) (thread_goes s seat))
-  leaving-local =
+  -- Of ExitThread: where the names and objects of lost references, the objects of lost Notices, and the thread's frames are
+  -- looked at, nothing else has to be
+  pub leaving-local : (a : NameTest) (b : ObjectTest) (c : ℕ → Bool) → ((p : ℕ) (o : ObjectId) → names_left s seat p o ≡ true → a p o ≡ true) → ((o : ObjectId) → objects_left s seat o ≡ true → b o ≡ true)
+      → ((m : ℕ) → frames_left s seat m ≡ true → c m ≡ true) → settle (follow (thread_goes s seat)) ≡ close_among (length (thread_goes s seat).frames) c (follow_of a b (thread_goes s seat))
+  leaving-local a b c names objects among =
       let z = thread_goes s seat in
-      let y = follow_of (names_left s seat) (objects_left s seat) z in
-      let frames = follow-frames (names_left s seat) (objects_left s seat) z in
-      ap settle (follow-local (names_left s seat) (objects_left s seat) z (parts-elsewhere (names_left s seat) (objects_left s seat) s z h.quiet.followed left-parts))
-      ∙ settle-among (frames_left s seat) y (subst OneEach (sym frames) one-left) (subst (Covered (frames_left s seat)) (sym frames) (abandoned-touched (frames_left s seat) s.frames z.frames h.quiet.settled left.frames))
-      ∙ ap (λ (fs : List Frame). close_among (length fs) (frames_left s seat) y) frames
+      let y = follow_of a b z in
+      let frames = follow-frames a b z in
+      let quiet = elsewhere-more (names_left s seat) a (objects_left s seat) b z names objects (parts-elsewhere (names_left s seat) (objects_left s seat) s z h.quiet.followed left-parts) in
+      let covered : Covered c z.frames = λ f l e. among f.made (abandoned-touched (frames_left s seat) s.frames z.frames h.quiet.settled left.frames f l e) in
+      ap settle (follow-local a b z quiet) ∙ settle-among c y (subst OneEach (sym frames) one-left) (subst (Covered c) (sym frames) covered) ∙ ap (λ (fs : List Frame). close_among (length fs) c y) frames
+
+  -- the names to look at are the process's, and their objects are looked at too
+  pub left-names : (t : Thread) → In t s.threads → t.seat ≡ seat → (p : ℕ) (o : ObjectId) → names_left s seat p o ≡ true → (t.process ≡ p) × (objects_left s seat o ≡ true)
+  left-names t here at p o e =
+      let test = λ (r : Reference). same r.object o && names_for p r.holder in
+      let r = any-found test (filter gone s.references) e in
+      let i = in-filter gone r.0 s.references r.1 in
+      let c = both (same r.0.object o) (names_for p r.0.holder) r.2 in
+      let touched = any-in (λ (q : Reference). same q.object o && gone q) r.0 s.references i.0 (and-both (same r.0.object o) (gone r.0) c.0 i.1) in
+      (by_holder r.0 i.0 r.0.holder refl c.1 i.1, or-left _ (list_any (λ (w : Work). is_notice o w.kind && list_any (λ (l : TodoList). is_on l w) (OfThread seat ∷ [])) s.todo) touched)
+    where
+      handed : (w : Work) (b : ℕ) → (k : Option ℕ) → hands_out w.kind ≡ k → is_some_and k (λ m. m == b) ≡ true → hands_out w.kind ≡ Some b
+      handed w b None f g = absurd (cc)
+      handed w b (Some m) f g = f ∙ ap (λ n. Some n) (eqb-true m b g)
+
+      by_holder : (r : Reference) → In r s.references → (c : Holder) → r.holder ≡ c → names_for p c ≡ true → is_some_and (buffer_of_holder c) (is_lost_with s.todo (OfThread seat)) ≡ true → t.process ≡ p
+      by_holder r l (Asked q) f named lost = absurd (cc)
+      by_holder r l (Carried b q) f named lost =
+          let w = any-found (λ (w : Work). is_on (OfThread seat) w && is_some_and (hands_out w.kind) (λ m. m == b)) s.todo lost in
+          let k = both (is_on (OfThread seat) w.0) (is_some_and (hands_out w.0.kind) (λ m. m == b)) w.2 in
+          let u = h.home.home w.0 seat b w.1 (on-thread seat w.0.list k.0) (handed w.0 b (hands_out w.0.kind) refl k.1) in
+          let is = one-thread s h.home t u.0 here u.1 (at ∙ sym u.2) in
+          ap (λ (x : Thread). x.process) is ∙ u.3 r q l f ∙ eqb-true q p named
+      by_holder r l (Target b q) f named lost = absurd (cc)
+      by_holder r l Handshake f named lost = absurd (cc)
+      by_holder r l Manager f named lost = absurd (cc)

@@ -7,11 +7,11 @@ use Rattle.bd_space.specs.declared.space.Server.TheVariants.{Serving}
 use Rattle.bd_space.specs.declared.space.Work.{Work}
 use Rattle.bd_space.specs.declared.space.WorkKind.TheVariants as work
 use Rattle.bd_space.specs.declared.space.TodoList.{TodoList}
-use Rattle.bd_space.specs.declared.space.TodoList.TheVariants.{OfThread, OfProcess}
+use Rattle.bd_space.specs.declared.space.TodoList.TheVariants.{OfThread}
 use Rattle.bd_space.specs.Words.{is_some_and}
 use Rattle.bd_space.specs.Space.{Space}
 use Rattle.bd_space.specs.Frames.{serves, is_gone, is_child_of}
-use Rattle.bd_space.specs.Todo.{is_on, same_list, is_call}
+use Rattle.bd_space.specs.Todo.{is_on, is_call}
 use Rattle.bd_space.specs.Notices.{follow}
 use Rattle.bd_space.specs.Settle.{settle, is_abandoned}
 use Rattle.bd_space.specs.ThreadExits.{thread_goes, is_unread_on}
@@ -26,12 +26,8 @@ use Rattle.bd_laws.proofs.Follow.{follow-local}
 use Rattle.bd_laws.proofs.Forests.{one-frame}
 use Rattle.bd_laws.proofs.Abandoned.{OneEach, OnlyAt, settle-up}
 use Rattle.bd_laws.proofs.Framing.{one-each}
-use Rattle.bd_laws.proofs.Leaving.{left, left-parts, left-one, parts-elsewhere, abandoned-touched, follow-frames}
+use Rattle.bd_laws.proofs.Leaving.{left, left-parts, left-one, parts-elsewhere, abandoned-touched, follow-frames, on-thread}
 use Rattle.bd_laws.proofs.PathWords.{is-serving}
-
-on-thread : (seat : ℕ) (list : TodoList) → same_list (OfThread seat) list ≡ true → list ≡ OfThread seat
-on-thread seat (OfThread u) e = ap (λ n. OfThread n) (sym (eqb-true seat u e))
-on-thread seat (OfProcess u) e = absurd (cc)
 
 -- its call is unread on the list
 abbrev pub Unread : List Work → TodoList → ℕ → Type 0

@@ -1,6 +1,6 @@
 //! What goes when a thread or a process ends.
 
-ghost use Rattle.std.specs.Prelude.{◌≡◌, ◌==◌, ◌≤◌, ◌||◌, ◌&&◌, ℕ, Bool, not, filter, vec_len, vec_capacity, Option};
+ghost use Rattle.std.specs.Prelude.{◌≡◌, ◌==◌, ◌≤◌, ◌||◌, ◌&&◌, ◌++◌, ℕ, Bool, not, map, filter, vec_len, vec_capacity, Option, OnOk};
 ghost use Rattle.bd_space.specs.Words.{is_some_and};
 ghost use Rattle.bd_space.specs.References as refer;
 ghost use Rattle.bd_space.specs.ThreadExits as exits;
@@ -9,7 +9,8 @@ ghost use Rattle.bd_space.specs.ProcessExits as process_exits;
 use crate::holders::{buffer_of_holder, is_asked_by, is_in_window, is_of_owner};
 use crate::objects::owned_in;
 use crate::table::ObjectTable;
-use bd_space::{DeathNotification, Holder, Name, Object, Reference};
+use bd_space::{DeathNotification, Holder, Name, Object, ObjectId, Reference};
+use std::alloc::AllocError;
 
 /// Whether it goes with the process.
 fn is_dropped_with(objects: &[Object], p: u32, r: &Reference) -> bool
@@ -69,8 +70,37 @@ fn drop_lost<F: Fn(u32) -> bool>(references: &mut Vec<Reference>, lost: F)
     references.retain(|r| !is_lost_with(&lost, r.holder));
 }
 
+fn push_owned(objects: &[Object], p: u32, touched: &mut Vec<ObjectId>) -> Result<(), AllocError>
+    ensures { OnOk result (touched.new.items
+        ≡ touched.old.items ++ map (λ x. x.id) (filter (λ x. x.owner == p) objects.now)) }
+{
+    for x in objects {
+        if x.owner == p {
+            touched.push(x.id)?;
+        }
+    }
+    Ok(())
+}
+
+fn push_dropped(
+    references: &[Reference],
+    objects: &[Object],
+    p: u32,
+    touched: &mut Vec<ObjectId>,
+) -> Result<(), AllocError>
+    ensures { OnOk result (touched.new.items ≡ touched.old.items
+        ++ map (λ r. r.object) (filter (process_exits.is_dropped_with objects.now p) references.now)) }
+{
+    for r in references {
+        if is_dropped_with(objects, p, r) {
+            touched.push(r.object)?;
+        }
+    }
+    Ok(())
+}
+
 impl ObjectTable {
-    ghost use Rattle.bd_space.specs.Tables.{Makes, MakesWhere};
+    ghost use Rattle.bd_space.specs.Tables.{Tells, Makes, MakesWhere};
     ghost use Rattle.bd_space.specs.declared.space.TodoList.TheVariants.{OfThread};
     ghost use Rattle.bd_objects.specs.Stands.{StandsFor};
     ghost use Rattle.bd_objects.specs.Room.{UsesNothing};
@@ -96,5 +126,16 @@ impl ObjectTable {
         drop_references_of(&mut self.references, self.objects.as_slice(), p);
         drop_names_of(&mut self.names, p);
         drop_deaths_of(&mut self.deaths, p);
+    }
+
+    /// The objects that the process owns, and then those of the references that go with it, put after what is there.
+    /// Fails for want of memory alone.
+    pub fn touched_by_end(&self, p: u32, touched: &mut Vec<ObjectId>) -> Result<(), AllocError>
+        ensures { OnOk result (Tells (StandsFor self.now) touched.new.items
+            (λ s. (touched.old.items ++ map (λ x. x.id) (filter (λ x. x.owner == p) s.objects))
+            ++ map (λ r. r.object) (filter (process_exits.is_dropped_with s.objects p) s.references))) }
+    {
+        push_owned(&self.objects, p, touched)?;
+        push_dropped(&self.references, &self.objects, p, touched)
     }
 }

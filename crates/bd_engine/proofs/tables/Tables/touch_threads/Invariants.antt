@@ -1,0 +1,11 @@
+use Rattle.bd_space.specs.Space.{Space}
+use Rattle.bd_engine.specs.Stands.{Before}
+use Rattle.bd_engine.specs.Exits.{Grows, HasThread}
+use Rattle.bd_engine.proofs.Gathering.{Until}
+use Rattle.bd_engine.proofs.tables.Tables.touch_threads.Given as goal
+
+abbrev pub invariant-loop-seat : goal.invariant-loop-seat
+invariant-loop-seat l = record {
+  has : (s : Space) → Before l.self s → Until (HasThread l.exit s) l.seats l.seat-index;
+  grows : Grows l.fn.exit l.exit;
+}
