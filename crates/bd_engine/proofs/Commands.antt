@@ -1,5 +1,5 @@
 -- One command of a write after another.
-use Rattle.std.proofs.Common.{◌≡◌, ℕ, zero, suc, ◌+◌, ◌-◌, ◌<◌, ◌≤◌, List, [], ◌∷◌, ◌++◌, length, take, drop, Option, Some, None, Ok, Err, true, false, ltb, refl, sym, ap, subst, ◌∙◌, inl, inr, arith, add-one, add-zero, zero-add, add_assoc, append_assoc, length-append, length-drop}
+use Rattle.std.proofs.Common.{◌≡◌, ℕ, zero, suc, ◌+◌, ◌-◌, ◌<◌, ◌≤◌, List, [], ◌∷◌, ◌++◌, length, take, drop, Option, Some, None, Result, Ok, Err, true, false, ltb, refl, sym, ap, subst, ◌∙◌, inl, inr, arith, add-one, add-zero, zero-add, add_assoc, append_assoc, length-append, length-drop}
 use Rattle.std.specs.Option.{option_map}
 use Rattle.std.proofs.lemmas.Bool.{le-ltb}
 use Rattle.std.proofs.lemmas.List.{drop-drop, drop_all, append-nil}
@@ -89,23 +89,15 @@ joined-goes_on : (run : List Entry) (consumed : ℕ) (notes : List (ℕ × Note)
     → joined run consumed notes (goes_on e size ns w) ≡ joined (run ++ e ∷ []) (consumed + size) (notes ++ ns) w
 joined-goes_on run consumed notes e size ns w = simp (append_assoc, add_assoc)
 
--- a stream that begins with a command
-readable-command : (n : ℕ) (bytes : List ℕ) (c : Command × ℕ) → 0 < length bytes → command_at bytes ≡ Ok c
-    → readable (suc n) bytes ≡ record { commands = c ∷ (readable n (drop c.1 bytes)).commands; fault = (readable n (drop c.1 bytes)).fault }
-readable-command n [] c h e = absurd (omega arith)
-readable-command n (b ∷ bs) c h e =
-    ap (λ r. elim r [
-      | Ok d ↦ (let rest = readable n (drop d.1 (b ∷ bs)) in let x : Readable = record { commands = d ∷ rest.commands; fault = rest.fault } in x)
-      | Err x ↦ record { commands = []; fault = Some x }
-    ]) e
+-- a stream that isn't at its end, by what its next command is
+abbrev readable-from : ℕ → List ℕ → Result (Command × ℕ) Fault → Readable
+readable-from n bytes (Ok c) = let rest = readable n (drop c.1 bytes) in record { commands = c ∷ rest.commands; fault = rest.fault }
+readable-from n bytes (Err x) = record { commands = []; fault = Some x }
 
-readable-fault : (n : ℕ) (bytes : List ℕ) (x : Fault) → 0 < length bytes → command_at bytes ≡ Err x → readable (suc n) bytes ≡ record { commands = []; fault = Some x }
-readable-fault n [] x h e = absurd (omega arith)
-readable-fault n (b ∷ bs) y h e =
-    ap (λ r. elim r [
-      | Ok d ↦ (let rest = readable n (drop d.1 (b ∷ bs)) in let x : Readable = record { commands = d ∷ rest.commands; fault = rest.fault } in x)
-      | Err x ↦ record { commands = []; fault = Some x }
-    ]) e
+readable-next : (n : ℕ) (bytes : List ℕ) (r : Result (Command × ℕ) Fault) → 0 < length bytes → command_at bytes ≡ r
+    → readable (suc n) bytes ≡ readable-from n bytes r
+readable-next n [] r h e = absurd (omega arith)
+readable-next n (b ∷ bs) r h e = ap (readable-from n (b ∷ bs)) e
 
 readable-end : (n : ℕ) → readable n [] ≡ record { commands = []; fault = None }
 readable-end zero = refl
@@ -211,7 +203,7 @@ module _ (old now : History) (seat : ℕ) (stream area : List ℕ) (consumed cou
 
   pub finished-fault : (x : Fault) → consumed < length stream → command_at (drop consumed stream) ≡ Err x
       → HasRun old now seat (Write stream area) (Wrote consumed notes (Some (stop.Fault x))) (length old.entries) (length now.entries)
-  finished-fault x k e = finished (Some x) (ap (λ n. readable n (drop consumed stream)) (fuel-suc k) ∙ readable-fault (h.fuel - 1) (drop consumed stream) x (omega (arith, length-drop consumed stream)) e)
+  finished-fault x k e = finished (Some x) (ap (λ n. readable n (drop consumed stream)) (fuel-suc k) ∙ readable-next (h.fuel - 1) (drop consumed stream) (Err x) (omega (arith, length-drop consumed stream)) e)
 
   -- a command follows
   module _ (c : Command) (size : ℕ) (is_next : IsNext stream consumed c size) where
@@ -221,7 +213,7 @@ module _ (old now : History) (seat : ℕ) (stream area : List ℕ) (consumed cou
     left-command : left ≡ record { commands = (c, size) ∷ others.commands; fault = others.fault }
     left-command =
         ap (λ n. readable n (drop consumed stream)) (fuel-suc (omega (arith, is_next.some, is_next.fits)))
-        ∙ readable-command (h.fuel - 1) (drop consumed stream) (c, size) (omega (arith, length-drop consumed stream, is_next.some, is_next.fits)) is_next.read
+        ∙ readable-next (h.fuel - 1) (drop consumed stream) (Ok (c, size)) (omega (arith, length-drop consumed stream, is_next.some, is_next.fits)) is_next.read
         ∙ ap (λ bytes. let r = readable (h.fuel - 1) bytes in let x : Readable = record { commands = (c, size) ∷ r.commands; fault = r.fault } in x) (drop-drop size consumed stream)
 
     cs_are : (commands_of stream).commands ≡ h.done ++ (c, size) ∷ others.commands
