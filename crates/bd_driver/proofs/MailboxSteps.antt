@@ -180,6 +180,14 @@ module _ (seats slots id : ℕ) (me : Hands) (one : me.0 ≡ view_of me.0 ∷ []
   missed s k at i old new b w there ne pick stays fits =
       subst (λ hit. Kept seats (stepped s (suc i) (either hit new (get_or s.words (suc i) 0)) id me.1 (w ∷ []) keeps)) (sym (ne_eqb (get_or s.words (suc i) 0) old ne)) (unmoved seats s k id me at one w i b there stays pick fits)
 
+  -- the own mailbox, by what it is: where it stands, the word found there, and the own places while nothing of it waits
+  known : (s : State Slot (List View)) (k : Kept seats s) (at : get_elem? s.views id ≡ some me.0) (b : Mailbox) → (mine seats s k id me at one).mailbox ≡ b → pending b ≡ []
+      → (get_elem? k.mailboxes x.who ≡ some b) × (get_or s.words (suc x.who) 0 ≡ mark b) × (x.own ++ [] ≡ places_of x.who k.entries)
+  known s k at b is idle =
+      let f = mine seats s k id me at one in
+      let there : get_elem? k.mailboxes x.who ≡ some b = f.has_mailbox ∙ ap some is in
+      (there, found_mark seats s k id me at one x.who b there, ap (λ l. x.own ++ l) (sym (ap pending is ∙ idle)) ∙ f.own)
+
   withdraw_miss : (s : State Slot (List View)) (k : Kept seats s) (at : get_elem? s.views id ≡ some me.0) (b : Mailbox) → (mine seats s k id me at one).mailbox ≡ b → mark b ≢ 1 → Granted seats id me s (suc x.who) (λ n. either (eqb n 1) 0 n) (withdrew (step slots (suc x.who) 1 0 none) me)
   withdraw_miss s k at b is low =
       let there = (mine seats s k id me at one).has_mailbox ∙ ap some is in
@@ -195,18 +203,16 @@ module _ (seats slots id : ℕ) (me : Hands) (one : me.0 ≡ view_of me.0 ∷ []
   withdraw_case s k at r since waits empty is fits_mailbox = absurd (cc)
   withdraw_case s k at r since waits (posted q n) is fits_mailbox =
       let f = mine seats s k id me at one in
-      let there : get_elem? k.mailboxes x.who ≡ some (posted q n) = f.has_mailbox ∙ ap some is in
-      let found : get_or s.words (suc x.who) 0 ≡ 1 = found_mark seats s k id me at one x.who (posted q n) there in
+      let y = known s k at (posted q n) is refl in
       let w = withdrawn_at x (get_or s.words (suc x.who) 0) in
-      let off : is_picked f.mailbox ≡ false = ap is_picked is in
-      let own : w.own ++ [] ≡ places_of x.who k.entries = ap (λ l. x.own ++ l) (sym (ap pending is)) ∙ f.own in (
+      let off : is_picked f.mailbox ≡ false = ap is_picked is in (
         w ∷ [],
         takes (suc x.who) (Posted q),
-        found_inside seats s k id me at one x.who (posted q n) there,
-        subst (λ (m : ℕ). Kept seats (stepped s (suc x.who) m id me.1 (w ∷ []) (takes (suc x.who) (Posted q)))) (sym (ap (λ (z : ℕ). either (eqb z 1) 0 z) found))
+        found_inside seats s k id me at one x.who (posted q n) y.0,
+        subst (λ (m : ℕ). Kept seats (stepped s (suc x.who) m id me.1 (w ∷ []) (takes (suc x.who) (Posted q)))) (sym (ap (λ (z : ℕ). either (eqb z 1) 0 z) y.1))
             (remailbox seats s k id me at one w x.who empty 0 (takes (suc x.who) (Posted q)) (omega arith) refl refl (own_taker seats s k id me at one w x.who empty (λ t. t) refl refl)
-            (own_fits seats s k id me at one w empty refl refl f.begins refl own f.takes refl refl off) (own_others seats s k id me at one empty off)),
-        ((refl, refl, refl), (λ _. (q, n, fits_mailbox.0, (k.entries, f.begins, sym own ∙ append-nil x.own), refl)), (λ ne. absurd (ne found))),
+            (own_fits seats s k id me at one w empty refl refl f.begins refl y.2 f.takes refl refl off) (own_others seats s k id me at one empty off)),
+        ((refl, refl, refl), (λ _. (q, n, fits_mailbox.0, (k.entries, f.begins, sym y.2 ∙ append-nil x.own), refl)), (λ ne. absurd (ne y.1))),
       )
   withdraw_case s k at r since waits (picked q n start count) is fits_mailbox = withdraw_miss s k at (picked q n start count) is (λ e. absurd (omega arith))
   withdraw_case s k at r since waits (answered q n o) is fits_mailbox = withdraw_miss s k at (answered q n o) is (λ e. absurd (omega arith))
@@ -221,17 +227,15 @@ module _ (seats slots id : ℕ) (me : Hands) (one : me.0 ≡ view_of me.0 ∷ []
       go : (b : Mailbox) → (mine seats s k id me at one).mailbox ≡ b → MailboxFits seats k.entries x.who x.handover b → Granted seats id me s (suc x.who) (λ n. n) (opened (step slots (suc x.who) 0 0 none) me)
       go shut is fits_mailbox =
           let f = mine seats s k id me at one in
-          let there : get_elem? k.mailboxes x.who ≡ some shut = f.has_mailbox ∙ ap some is in
-          let found : get_or s.words (suc x.who) 0 ≡ 0 = found_mark seats s k id me at one x.who shut there in
+          let y = known s k at shut is refl in
           let w = opened_at x 0 in
-          let off : is_picked f.mailbox ≡ false = ap is_picked is in
-          let own : w.own ++ [] ≡ places_of x.who k.entries = ap (λ l. x.own ++ l) (sym (ap pending is)) ∙ f.own in (
+          let off : is_picked f.mailbox ≡ false = ap is_picked is in (
             w ∷ [],
             takes (suc x.who) Empty,
-            found_inside seats s k id me at one x.who shut there,
-            remailbox seats s k id me at one w x.who empty (get_or s.words (suc x.who) 0) (takes (suc x.who) Empty) (omega arith) found refl (own_taker seats s k id me at one w x.who empty (λ t. t) refl refl)
-                (own_fits seats s k id me at one w empty refl refl f.begins refl own f.takes refl refl off) (own_others seats s k id me at one empty off),
-            ((refl, refl, refl), found, refl),
+            found_inside seats s k id me at one x.who shut y.0,
+            remailbox seats s k id me at one w x.who empty (get_or s.words (suc x.who) 0) (takes (suc x.who) Empty) (omega arith) y.1 refl (own_taker seats s k id me at one w x.who empty (λ t. t) refl refl)
+                (own_fits seats s k id me at one w empty refl refl f.begins refl y.2 f.takes refl refl off) (own_others seats s k id me at one empty off),
+            ((refl, refl, refl), y.1, refl),
           )
       go empty is fits_mailbox = absurd (cc)
       go (posted q n) is fits_mailbox = let y = fits_mailbox.0 in absurd (cc)
@@ -242,17 +246,15 @@ module _ (seats slots id : ℕ) (me : Hands) (one : me.0 ≡ view_of me.0 ∷ []
   closes_mailbox handover held s k len at small =
       let f = mine seats s k id me at one in
       let is : f.mailbox ≡ empty = open_mailbox seats k.entries x.who x.handover f.mailbox f.fits_mailbox handover in
-      let there : get_elem? k.mailboxes x.who ≡ some empty = f.has_mailbox ∙ ap some is in
-      let found : get_or s.words (suc x.who) 0 ≡ 0 = found_mark seats s k id me at one x.who empty there in
+      let y = known s k at empty is refl in
       let w = closed_at x 0 in
-      let off : is_picked f.mailbox ≡ false = ap is_picked is in
-      let own : w.own ++ [] ≡ places_of x.who k.entries = ap (λ l. x.own ++ l) (sym (ap pending is)) ∙ f.own in (
+      let off : is_picked f.mailbox ≡ false = ap is_picked is in (
         w ∷ [],
         gives,
         tt,
-        remailbox seats s k id me at one w x.who shut (get_or s.words (suc x.who) 0) gives (omega arith) found (ap (put_back s.homes) held) (own_taker seats s k id me at one w x.who shut (λ t. t) refl refl)
-            (own_fits seats s k id me at one w shut refl refl f.begins refl own f.takes refl refl off) (own_others seats s k id me at one shut off),
-        ((refl, refl, refl), found, refl),
+        remailbox seats s k id me at one w x.who shut (get_or s.words (suc x.who) 0) gives (omega arith) y.1 (ap (put_back s.homes) held) (own_taker seats s k id me at one w x.who shut (λ t. t) refl refl)
+            (own_fits seats s k id me at one w shut refl refl f.begins refl y.2 f.takes refl refl off) (own_others seats s k id me at one shut off),
+        ((refl, refl, refl), y.1, refl),
       )
 
   -- a look into the own mailbox for an answer

@@ -23,7 +23,7 @@ use Rattle.bd_driver.specs.declared.view.Pick.TheVariants.{Nothing, Picked}
 use Rattle.bd_driver.specs.declared.slot.Slot.{Slot}
 use Rattle.bd_driver.specs.declared.slot.Slot.TheVariants.{Home, Answered, Empty}
 use Rattle.bd_driver.specs.declared.outcome.Outcome.{Outcome}
-use Rattle.bd_driver.specs.Mailboxes.{RunAt, IsReason}
+use Rattle.bd_driver.specs.Mailboxes.{RunAt, IsReason, IsTold, answer_places}
 use Rattle.bd_driver.specs.Steps.{Hands, entries_in, picked_as, with_places, served_at, served, letter_to, answered_at, answered_as}
 use Rattle.std.specs.Prelude.{slice_set, MatchBool, if◌then◌else◌, Result, Ok, Err, MatchResult, IfOk, IfErr, OnErr}
 use Rattle.bd_driver.specs.declared.view.Tally.{Tally}
@@ -121,6 +121,18 @@ module _ (m : Hands) (i : ℕ) (r : Request) (e0 : History) (p : IsPicked m i r 
   runs_as e1 (Err why) o is h same full place some =
       subst (λ z. RunsAs v.seats i r z v.seen e1.entries) (sym is) (refl, ap (λ (e : History). e.entries) same ∙ entries_are, reason_is why full place some)
 
+  -- an outcome that tells what is published then
+  answers_pick : (e1 : History) (o : Outcome) (n : ℕ) → IsTold v.seats e1.entries i r p.since o → places (length v.seen) (length e1.entries - length v.seen) ≡ answer_places o → AnswersPick (served_at v n e1.entries) i o
+  answers_pick e1 o n told same = record {
+    request = r;
+    since = p.since;
+    start = length v.seen;
+    count = length e1.entries - length v.seen;
+    pick = ap (λ q. with_places q (length v.seen) (length e1.entries - length v.seen)) p.pick;
+    is_told = told;
+    same_places = same;
+  }
+
   -- once it is published, the outcome answers what was picked
   pub answers_ran : (e1 : History) (ran : Result HasRan Refused) (o : Outcome) (n : ℕ) (m' : Hands) → MatchResult ran (λ x. o ≡ Done x.answer x.from x.to) (λ why. o ≡ Back r (reason_of why)) → IfOk ran (λ x. HasRun e0 e1 i r x.answer x.from x.to)
       → OnErr ran (e1 ≡ e0) → IfErr ran (λ why. FullOnly why (IsAtLimit e0 i r)) → IfErr ran (λ why. MemoryOnly why (HasPlace e0)) → IfErr ran (λ _. HasEntry e0 i r) → m' ≡ (served_at v n e1.entries ∷ [], (i + 1, Empty) ∷ rest m.1) → AnswersPick (view_of m'.0) i o
@@ -132,27 +144,12 @@ module _ (m : Hands) (i : ℕ) (r : Request) (e0 : History) (p : IsPicked m i r 
       go (Ok x) is h same full place some =
           let st : length v.seen ≡ x.from = sym (h.starts ∙ ap length entries_are) in
           let co : length e1.entries - length v.seen ≡ x.to - x.from = λ j. sym h.ends j - st j in
-          subst (AnswersPick (served_at v n e1.entries) i) (sym is) (record {
-            request = r;
-            since = p.since;
-            start = length v.seen;
-            count = length e1.entries - length v.seen;
-            pick = ap (λ q. with_places q (length v.seen) (length e1.entries - length v.seen)) p.pick;
-            is_told = run_here e1 x.answer x.from x.to h;
-            same_places = λ j. places (st j) (co j);
-          })
+          subst (AnswersPick (served_at v n e1.entries) i) (sym is) (answers_pick e1 (Done x.answer x.from x.to) n (run_here e1 x.answer x.from x.to h) (λ j. places (st j) (co j)))
       go (Err why) is h same full place some =
           let entries : e1.entries ≡ v.seen = ap (λ (e : History). e.entries) same ∙ entries_are in
           let none_more : length e1.entries - length v.seen ≡ 0 = let a = ap (length {A = Entry}) entries in omega arith in
-          subst (AnswersPick (served_at v n e1.entries) i) (sym is) (record {
-            request = r;
-            since = p.since;
-            start = length v.seen;
-            count = length e1.entries - length v.seen;
-            pick = ap (λ q. with_places q (length v.seen) (length e1.entries - length v.seen)) p.pick;
-            is_told = (refl, subst (λ l. IsReason v.seats l i r (reason_of why)) (sym entries) (reason_is why full place some));
-            same_places = ap (places (length v.seen)) none_more;
-          })
+          subst (AnswersPick (served_at v n e1.entries) i) (sym is) (answers_pick e1 (Back r (reason_of why)) n (refl, subst (λ l. IsReason v.seats l i r (reason_of why)) (sym entries) (reason_is why full place some))
+              (ap (places (length v.seen)) none_more))
 
   -- the whole of it, once answered
   pub ran_picked : (e1 : History) (o : Outcome) (n : ℕ) (m' m'' : Hands) → RunsAs v.seats i r o v.seen e1.entries → m' ≡ (served_at v n e1.entries ∷ [], (i + 1, Empty) ∷ rest m.1) → m'' ≡ (answered_at (view_of m'.0) 2 o ∷ [], rest m'.1) → RanPicked m i r m''

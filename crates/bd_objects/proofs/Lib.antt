@@ -6,3 +6,4 @@ pub mod BufferReferences
 pub mod Grown
 pub mod Handshakes
 pub mod Telling
+pub mod NamesLeft

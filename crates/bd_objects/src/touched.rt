@@ -4,10 +4,10 @@ ghost use Rattle.std.specs.Prelude.{◌≡◌, ◌==◌, ◌≤◌, ◌&&◌, �
 ghost use Rattle.std.specs.List.{list_any};
 ghost use Rattle.bd_space.specs.Words.{when};
 ghost use Rattle.bd_space.specs.Names.{is_named_in};
-ghost use Rattle.bd_space.specs.References as refer;
+ghost use Rattle.bd_space.specs.References.{object_in, stays_in};
 ghost use Rattle.bd_space.specs.Notices as notices;
 ghost use Rattle.bd_space.specs.Local as local;
-ghost use Rattle.bd_objects.specs.Deaths as deaths_of;
+ghost use Rattle.bd_objects.specs.Deaths.{is_lost};
 
 use crate::names::{is_name_of, is_named_in};
 use crate::objects::{object_in, same, stays_in};
@@ -47,7 +47,7 @@ fn keep_named_at(
 
 /// Whether the object stays: it is another one, or something keeps it.
 fn object_stays(processes: &[Process], references: &[Reference], o: ObjectId, x: &Object) -> bool
-    ensures { result ≡ (not (local.at_object o x.now.id) || refer.stays_in processes.now references.now x.now) }
+    ensures { result ≡ (not (local.at_object o x.now.id) || stays_in processes.now references.now x.now) }
 {
     !same(x.id, o) || stays_in(processes, references, x)
 }
@@ -60,7 +60,7 @@ fn keep_object(
 )
     ensures items { objects.new.items
         ≡ filter (λ x. not (local.at_object o x.id)
-        || refer.stays_in processes.now references.now x) objects.old.items }
+        || stays_in processes.now references.now x) objects.old.items }
     ensures capacity { vec_capacity objects.new ≡ vec_capacity objects.old }
     ensures len { vec_len objects.new ≤ vec_len objects.old }
 {
@@ -77,13 +77,13 @@ fn notification_stays(names: &[Name], p: u32, o: ObjectId, x: &DeathNotification
 
 /// Whether the notification is on this name, uncleared, and the name is gone.
 fn is_lost(names: &[Name], p: u32, o: ObjectId, x: &DeathNotification) -> bool
-    ensures { result ≡ deaths_of.is_lost names.now p o x.now }
+    ensures { result ≡ is_lost names.now p o x.now }
 {
     is_at(p, o, x.process, x.object) && !x.cleared && !is_name_of(names, x.process, x.object)
 }
 
 fn has_lost_in(deaths: &[DeathNotification], names: &[Name], p: u32, o: ObjectId) -> bool
-    ensures { result ≡ list_any (deaths_of.is_lost names.now p o) deaths.now }
+    ensures { result ≡ list_any (is_lost names.now p o) deaths.now }
 {
     deaths.iter().any(|x| is_lost(names, p, o, x))
 }
@@ -150,7 +150,7 @@ impl ObjectTable {
 
     /// Whether a notification is to go with the process's name of the object, which is gone.
     pub fn has_lost_death(&self, p: u32, o: ObjectId) -> bool
-        ensures { Tells (StandsFor self.now) result (λ s. list_any (deaths_of.is_lost s.names p o) s.deaths) }
+        ensures { Tells (StandsFor self.now) result (λ s. list_any (is_lost s.names p o) s.deaths) }
     {
         has_lost_in(self.deaths.as_slice(), self.names.as_slice(), p, o)
     }
@@ -186,7 +186,7 @@ impl ObjectTable {
     pub fn owner_to_tell(&self, processes: &[Process], o: ObjectId) -> Option<u32>
         ensures { TellsWhere (StandsFor self.now) (HasProcesses processes.now) result
             (λ s. option_and_then (λ x. when (notices.wants_notice s.processes s.references x) x.owner)
-            (refer.object_in s.objects o)) }
+            (object_in s.objects o)) }
     {
         let x = object_in(self.objects.as_slice(), o)?;
         if self.wants_notice(processes, &x) {
