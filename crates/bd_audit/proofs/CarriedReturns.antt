@@ -28,11 +28,12 @@ use Rattle.bd_space.specs.Freeing.{without_buffer}
 use Rattle.bd_space.specs.ReadItems.{taken, read_by}
 use Rattle.bd_space.specs.ThreadExits.{thread_goes}
 use Rattle.bd_space.specs.ProcessExits.{threads_go, without_process, tell_deaths}
-use Rattle.bd_space.specs.Steps.{counted, with_thread, with_process, with_manager}
+use Rattle.bd_space.specs.Steps.{counted}
 use Rattle.bd_space.specs.Asking.{ask, drop_asked, acknowledge}
 use Rattle.bd_space.specs.Commands.{with_looping}
 use Rattle.bd_space.specs.Histories.{after, next}
 use Rattle.bd_laws.specs.Lists.{In}
+use Rattle.bd_laws.proofs.EveryEnding.{set_up-beside}
 use Rattle.bd_laws.proofs.EveryStep.{KeepsWhole, every_whole_step, every_list}
 use Rattle.bd_laws.proofs.Lists.{in-push, in-filter}
 use Rattle.bd_laws.proofs.Deaths.{KeptOnDeaths, on-kept, on-told, on-commands}
@@ -166,14 +167,9 @@ follows z h =
 -- ---- every step
 
 kept : (s : Space) (seat : ℕ) (x : Step) → IsPlain s → KeepsWhole s seat x IsPlain IsPlain
-unfolding with_thread with_process with_manager without_buffer ask assign_numbers drop_asked acknowledge with_looping read_by
+unfolding without_buffer ask assign_numbers drop_asked acknowledge with_looping read_by
 kept s seat x h = record {
-  set_up = record {
-    same = h;
-    opened = λ pid euid window free. h;
-    attached = λ p free. h;
-    managed = λ a e b. h;
-  };
+  set_up = set_up-beside s seat IsPlain (λ qs ts os rs m. h);
   changes = record {
     transacts = λ a d parcel v e i t. transacts s a d v h;
     replies = λ a d parcel f v e i g t. replies s a d f v h;

@@ -40,9 +40,10 @@ use Rattle.bd_space.specs.Commands.{with_looping}
 use Rattle.bd_space.specs.Histories.{after, next}
 use Rattle.bd_calls.specs.TodoList.{reply_of}
 use Rattle.bd_laws.specs.Lists.{In}
-use Rattle.bd_laws.specs.OneWayCalls.{InTurn, Waits, IsInTurn}
+use Rattle.bd_laws.specs.OneWayCalls.{IsInTurn}
 use Rattle.bd_laws.proofs.EveryStep.{Keeps, every_step, every_list}
-use Rattle.bd_laws.proofs.Lists.{in-left, in-last, in-push, in-filter, filter-in, in-filter_map, changed-in, map-in, any-found, any-in, find-in, pairs-either, fold-keeps}
+use Rattle.bd_laws.proofs.Received.{one-made}
+use Rattle.bd_laws.proofs.Lists.{in-left, in-last, in-push, in-filter, filter-in, in-filter_map, changed-in, map-in, any-found, any-in, find-in, fold-keeps}
 use Rattle.bd_laws.proofs.Tests.{both, not-true}
 use Rattle.bd_laws.proofs.Checks.{actor-lives, reply-checked}
 use Rattle.bd_laws.proofs.OneWay.{Less, owe-less, own_notices-less}
@@ -81,23 +82,8 @@ reply-hands (work.Reply c) b e = e
 reply-hands _ b e = absurd (cc)
 
 has-moved : (ts us : List Thread) (bs cs : List Buffer) (list : TodoList) (b : ℕ) → (x : HasBuffer ts bs list b) → In x.buffer cs → In x.thread us → HasBuffer us cs list b
-has-moved ts us bs cs list b x here lives = record {
-  buffer = x.buffer;
-  here = here;
-  made = x.made;
-  handed = x.handed;
-  two_way = x.two_way;
-  thread = x.thread;
-  lives = lives;
-  on = x.on;
-  receiver = x.receiver;
-}
-
-one-buffer : (n : ℕ) (bs : List Buffer) (todo : List Work) → InTurn n bs todo → (b c : Buffer) → In b bs → In c bs → b.made ≡ c.made → b ≡ c
-one-buffer n bs todo h b c i j e = elim (pairs-either (Waits todo) bs h.waits b c i j) [
-  | inl is ↦ is
-  | inr k ↦ elim k [ inl w ↦ (let lt = w.earlier in absurd (omega arith)) | inr w ↦ (let lt = w.earlier in absurd (omega arith)) ]
-]
+has-moved ts us bs cs list b x here lives =
+    record { buffer = x.buffer; here = here; made = x.made; handed = x.handed; two_way = x.two_way; thread = x.thread; lives = lives; on = x.on; receiver = x.receiver }
 
 -- ---- nothing more that hands a buffer over, and no buffer and no thread less
 
@@ -306,7 +292,7 @@ ripens z turns h =
     (λ t l c i e.
     let x = in-filter_map turn_of t z.buffers l in
     let k = turn-parts x.0 t x.2 in
-    let is : c ≡ x.0 = one-buffer (suc z.steps) z.buffers z.todo turns c x.0 i x.1 (e ∙ k.0) in
+    let is : c ≡ x.0 = one-made (suc z.steps) z.buffers z.todo turns c x.0 i x.1 (e ∙ k.0) in
     ap (λ (y : Buffer). y.one_way) is ∙ k.3) h
 
 -- ---- a buffer that is freed was handed out
@@ -328,7 +314,7 @@ frees s b turns here out h = record {
   where
     other : (c : Buffer) → In c s.buffers → c.handed ≡ false → (q : Bool) → is_made_at b.made c ≡ q → not q ≡ true
     other c i kept true k =
-        let is : c ≡ b = one-buffer s.steps s.buffers s.todo turns c b i here (eqb-true c.made b.made k) in
+        let is : c ≡ b = one-made s.steps s.buffers s.todo turns c b i here (eqb-true c.made b.made k) in
         let yes : c.handed ≡ true = ap (λ (y : Buffer). y.handed) is ∙ out in absurd (cc)
     other c i kept false k = refl
 

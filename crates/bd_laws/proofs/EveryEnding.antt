@@ -1,5 +1,5 @@
 -- What holds after every step, from what its parts leave: the walk over them.
-use Rattle.std.proofs.Common.{◌≡◌, ℕ, ◌-◌, Bool, true, false, cond, not, [], ◌∷◌, Option, Some, None, Result, Ok, Err, refl}
+use Rattle.std.proofs.Common.{◌≡◌, ℕ, ◌-◌, Bool, true, false, cond, not, [], ◌∷◌, List, Option, Some, None, Result, Ok, Err, refl}
 use Rattle.std.specs.Option.{is_some}
 use Rattle.bd_uapi.specs.declared.command.Command as command
 use Rattle.bd_uapi.specs.declared.command.Command.TheVariants as bc
@@ -16,6 +16,7 @@ use Rattle.bd_space.specs.declared.space.Process.{Process}
 use Rattle.bd_space.specs.declared.space.Thread.{Thread}
 use Rattle.bd_space.specs.Words.{first_of, when}
 use Rattle.bd_space.specs.declared.space.Object.{Object}
+use Rattle.bd_space.specs.declared.space.Reference.{Reference}
 use Rattle.bd_space.specs.declared.space.Frame.{Frame}
 use Rattle.bd_space.specs.declared.space.Buffer.{Buffer}
 use Rattle.bd_space.specs.declared.space.DeathNotification.{DeathNotification}
@@ -64,6 +65,14 @@ pub record SetUp (s : Space) (seat : ℕ) (F : Space → Type 0) : Type 0 where
   pub opened : (pid euid window : ℕ) → thread_in s.threads seat ≡ None → F (with_thread (with_process s pid euid window) seat s.steps)
   pub attached : (p : ℕ) → thread_in s.threads seat ≡ None → F (with_thread s seat p)
   pub managed : (a : Actor) → actor s seat ≡ Some a → is_manager_busy s a.process.made ≡ false → F (with_manager s a.process.made)
+
+-- it touches neither frames nor work
+pub set_up-beside : (s : Space) (seat : ℕ) (F : Space → Type 0)
+    → ((qs : List Process) (ts : List Thread) (os : List Object) (rs : List Reference) (m : Option ObjectId) → F (record s { processes = qs; threads = ts; objects = os; references = rs; manager = m }))
+    → SetUp s seat F
+unfolding with_thread with_process with_manager
+set_up-beside s seat F h =
+    record { same = h s.processes s.threads s.objects s.references s.manager; opened = λ pid euid window free. h _ _ _ _ _; attached = λ p free. h _ _ _ _ _; managed = λ a e b. h _ _ _ _ _ }
 
 -- What the parts of a step by this seat make of its space, up to what follows on: M holds after each, and while buffers'
 -- turns ripen. Each part is said with what its step has tested.

@@ -21,11 +21,9 @@ module _ (R : Space → Space → Type 0) (trans : (z y x : Space) → R z y →
   pub follow-by : FollowedBy R → (z : Space) → R (follow z) z
   unfolding follow
   follow-by k z =
-      let a = names_go z in
-      let b = objects_go a in
-      let c = deaths_go b in
-      let d = work_goes c in
-      trans (notify d) d z (k.notices d) (trans d c z (k.work c) (trans c b z (k.deaths b) (trans b a z (k.objects a) (k.names z))))
+      let shed = deaths_go (objects_go (names_go z)) in
+      trans (notify (work_goes shed)) (work_goes shed) z (k.notices (work_goes shed)) (trans (work_goes shed) shed z (k.work shed)
+      (trans shed (objects_go (names_go z)) z (k.deaths (objects_go (names_go z))) (trans (objects_go (names_go z)) (names_go z) z (k.objects (names_go z)) (k.names z))))
 
   -- a process ends: its threads go, then what it has, and deaths are told
   pub ends-by : ((z : Space) (p : ℕ) → R (threads_go z p) z) → ((z : Space) (p : ℕ) → R (without_process z p) z) → ((z : Space) (p : ℕ) → R (tell_deaths z p) z)

@@ -28,13 +28,14 @@ use Rattle.bd_space.specs.Commands.{with_looping}
 use Rattle.bd_space.specs.ReadItems.{read_by, serve}
 use Rattle.bd_space.specs.ThreadExits.{thread_goes, frame_without, unread_frame}
 use Rattle.bd_space.specs.ProcessExits.{threads_go, without_process}
-use Rattle.bd_space.specs.Steps.{change, counted, with_thread, with_process, with_manager}
+use Rattle.bd_space.specs.Steps.{change, counted}
 use Rattle.bd_space.specs.Histories.{next}
 use Rattle.bd_laws.specs.Lists.{Pairs}
 use Rattle.bd_laws.specs.Frames.{OtherFrame, Framed, IsFramed}
 use Rattle.bd_laws.proofs.Lists.{in-push, in-filter, in-map, in-changed, pairs-push, pairs-filter, pairs-either, pairs-changed}
 use Rattle.bd_laws.proofs.Deaths.{KeptOnDeaths, on-kept, on-told, on-commands}
 use Rattle.bd_laws.proofs.Adding.{told-keeps}
+use Rattle.bd_laws.proofs.EveryEnding.{set_up-beside}
 use Rattle.bd_laws.proofs.EveryStep.{Keeps, every_step}
 use Rattle.bd_laws.proofs.Abandoned.{OneEach}
 use Rattle.bd_laws.proofs.Following.{threads-keep}
@@ -135,17 +136,12 @@ same-frames : (n : ℕ) (z y : Space) → y.frames ≡ z.frames → G n z → G 
 same-frames n z y e h = subst (Framed n) (sym e) h
 
 step-g : (s : Space) (seat : ℕ) (x : Step) → G s.steps s → Keeps s seat x (G (suc s.steps)) (G (suc s.steps))
-unfolding without_buffer ask assign_numbers drop_asked acknowledge with_looping with_thread with_process with_manager ripen
+unfolding without_buffer ask assign_numbers drop_asked acknowledge with_looping ripen
 step-g s seat x before =
     let n = suc s.steps in
     let h : G n s = record { below = λ f l. let lt = before.below f l in omega arith; differ = before.differ } in
     record {
-      set_up = record {
-        same = h;
-        opened = λ pid euid window free. h;
-        attached = λ p free. h;
-        managed = λ a e b. h;
-      };
+      set_up = set_up-beside s seat (G n) (λ qs ts os rs m. h);
       changes = record {
         transacts = λ a d parcel v e i t. transacted-g s a d v before;
         replies = λ a d parcel f v e i g t. replied-g n s a d f v h;

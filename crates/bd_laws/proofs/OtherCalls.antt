@@ -37,7 +37,7 @@ use Rattle.bd_space.specs.Commands.{with_looping}
 use Rattle.bd_space.specs.ReadItems.{read_by, serve}
 use Rattle.bd_space.specs.ThreadExits.{thread_goes, frame_without, unread_frame}
 use Rattle.bd_space.specs.ProcessExits.{threads_go, without_process}
-use Rattle.bd_space.specs.Steps.{counted, with_thread, with_process, with_manager}
+use Rattle.bd_space.specs.Steps.{counted}
 use Rattle.bd_space.specs.Histories.{next}
 use Rattle.bd_laws.specs.Lists.{In}
 use Rattle.bd_laws.specs.OneWayCalls.{IsInTurn}
@@ -49,6 +49,7 @@ use Rattle.bd_laws.proofs.Checks.{actor-lives, transaction-checked}
 use Rattle.bd_laws.proofs.OneWay as one_way
 use Rattle.bd_laws.proofs.OneWay.{Less}
 use Rattle.bd_laws.proofs.Deaths.{KeptOnDeaths, on-kept, on-told, on-commands}
+use Rattle.bd_laws.proofs.EveryEnding.{set_up-beside}
 use Rattle.bd_laws.proofs.EveryStep.{Keeps, every_step}
 use Rattle.bd_laws.proofs.Adding.{told-keeps, ripen-keeps}
 use Rattle.bd_laws.proofs.PathWords.{caller-stays}
@@ -242,15 +243,10 @@ on-deaths-o = record {
 }
 
 step-o : (s : Space) (seat : ℕ) (x : Step) → AtHome s → IsInTurn s → ((f : Frame) → In f s.frames → f.made < s.steps) → OfOthers s → Keeps s seat x OfOthers OfOthers
-unfolding without_buffer ask assign_numbers drop_asked acknowledge with_looping with_thread with_process with_manager
+unfolding without_buffer ask assign_numbers drop_asked acknowledge with_looping
 step-o s seat x home turns below h =
     record {
-      set_up = record {
-        same = h;
-        opened = λ pid euid window free. h;
-        attached = λ p free. h;
-        managed = λ a e b. h;
-      };
+      set_up = set_up-beside s seat OfOthers (λ qs ts os rs m. h);
       changes = record {
         transacts = λ a d parcel v e i t. transacts-o s seat a d parcel v i t home turns below h;
         replies = λ a d parcel f v e i g t. replied-o s a d f v home turns h;

@@ -1,14 +1,15 @@
 -- One-way calls, objects and their receivers in the space of every history.
-use Rattle.std.proofs.Common.{◌≡◌, ℕ, ◌<◌, inl, inr, ap, sym, ◌∙◌, arith}
+use Rattle.std.proofs.Common.{◌≡◌, ℕ, ◌<◌, List, inl, inr, ap, sym, ◌∙◌, arith}
 use Rattle.bd_space.specs.declared.step.ObjectId.{ObjectId}
 use Rattle.bd_space.specs.declared.step.Entry.{Entry}
 use Rattle.bd_space.specs.declared.space.Object.{Object}
 use Rattle.bd_space.specs.declared.space.Buffer.{Buffer}
+use Rattle.bd_space.specs.declared.space.Work.{Work}
 use Rattle.bd_space.specs.Space.{Space, opening}
 use Rattle.bd_space.specs.Steps.{change, counted}
 use Rattle.bd_space.specs.Histories.{History, next, space_after}
 use Rattle.bd_laws.specs.Lists.{In}
-use Rattle.bd_laws.specs.OneWayCalls.{Waits, IsInTurn, On, Received}
+use Rattle.bd_laws.specs.OneWayCalls.{Waits, InTurn, IsInTurn, On, Received}
 use Rattle.bd_laws.specs.Objects.{Differ, KeptBefore}
 use Rattle.bd_laws.specs.Tidy.{Before}
 use Rattle.bd_laws.proofs.EveryStep.{every_list}
@@ -29,12 +30,15 @@ pub one-object : (s : Space) → KeptBefore s → (x y : Object) → In x s.obje
 one-object s h x y i j e =
     elim (pairs-either Differ s.objects h.kept.differ x y i j) [ inl k ↦ k | inr k ↦ elim k [ inl d ↦ absurd (d e) | inr d ↦ absurd (d (sym e)) ] ]
 
-pub one-buffer : (s : Space) → IsInTurn s → (b c : Buffer) → In b s.buffers → In c s.buffers → b.made ≡ c.made → b ≡ c
-one-buffer s h b c i j e =
-    elim (pairs-either (Waits s.todo) s.buffers h.waits b c i j) [
+pub one-made : (n : ℕ) (bs : List Buffer) (todo : List Work) → InTurn n bs todo → (b c : Buffer) → In b bs → In c bs → b.made ≡ c.made → b ≡ c
+one-made n bs todo h b c i j e =
+    elim (pairs-either (Waits todo) bs h.waits b c i j) [
       | inl k ↦ k
       | inr k ↦ elim k [ inl w ↦ (let lt = w.earlier in absurd (omega arith)) | inr w ↦ (let lt = w.earlier in absurd (omega arith)) ]
     ]
+
+pub one-buffer : (s : Space) → IsInTurn s → (b c : Buffer) → In b s.buffers → In c s.buffers → b.made ≡ c.made → b ≡ c
+one-buffer s h b c i j e = one-made s.steps s.buffers s.todo h b c i j e
 
 module _ (s z : Space) (h : Before s) (p : Passed s z) where
   -- the owner of an object that was there
