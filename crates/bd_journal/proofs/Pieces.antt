@@ -12,7 +12,7 @@ use Rattle.bd_codec.specs.Spelling.{command_bytes}
 use Rattle.bd_space.specs.declared.step.Parcel.{Parcel}
 use Rattle.bd_space.specs.declared.step.Step.TheVariants as step
 use Rattle.bd_space.specs.declared.step.Entry.{Entry}
-use Rattle.bd_journal.specs.Spelling.{block, parcel_bytes, step_bytes, answer_bytes, entry_bytes, heading_bytes}
+use Rattle.bd_journal.specs.Spelling.{block, magic, parcel_bytes, step_bytes, answer_bytes, entry_bytes, heading_bytes}
 use Rattle.bd_journal.specs.Writing.{Begins, Sends}
 
 pub begins_part : (a b : Option (List ℕ)) (n : ℕ) (x : List ℕ) → Appends a b (take n x) → Begins a b x
@@ -68,8 +68,8 @@ begins_next {X} f xs i d a b c lt s t =
     subst (Begins a c) parts (begins_then a b c (flat_map f (take i xs)) (f at ++ after) s (begins_first b c (f at) after t))
 
 -- how pieces make up a heading, a step and an entry
-pub heading_parts : (seats count : ℕ) (a b c d : List ℕ) → a ≡ word 0x4a444e42 → b ≡ word 0x31303030 → c ≡ word seats → d ≡ word count → a ++ (b ++ (c ++ (d ++ []))) ≡ heading_bytes seats count
-heading_parts seats count a b c d p q r s = rw (p, q, r, s) refl
+pub heading_parts : (seats count : ℕ) (a b : List ℕ) → a ≡ word seats → b ≡ word count → magic ++ (a ++ (b ++ [])) ≡ heading_bytes seats count
+heading_parts seats count a b p q = rw (p, q) refl
 
 pub open_parts : (pid euid window : ℕ) (a b c : List ℕ) → a ≡ word pid → b ≡ word euid → c ≡ word window → (0 ∷ []) ++ (a ++ (b ++ (c ++ []))) ≡ step_bytes (step.Open pid euid window)
 open_parts pid euid window a b c p q r = rw (p, q, r) refl

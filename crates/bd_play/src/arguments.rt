@@ -1,5 +1,9 @@
 //! The program's words.
 
+ghost use Rattle.std.specs.Prelude.{◌<◌, length, IfSome, IsOkAnd};
+ghost use Rattle.clap.specs.Matches.{found_of};
+ghost use Rattle.bd_play.specs.Orders.{IsManner, PlaysFound, PlaysInput};
+
 use bd_player::{Fault, Manner};
 use clap::error::ErrorKind;
 use clap::{Arg, ArgAction, ArgMatches, Command, Error, value_parser};
@@ -79,11 +83,16 @@ impl From<AllocError> for Refused {
     }
 }
 
-fn run_command<'a>(alloc: Global) -> Result<Command<'a>, Error> {
-    let file = Arg::new(alloc, "file")
+// The file that a command reads.
+fn file_arg<'a>(alloc: Global, help: &'a str) -> Arg<'a> {
+    Arg::new(alloc, "file")
         .value_name("FILE")
         .required(true)
-        .help("The script, or - for standard input");
+        .help(help)
+}
+
+fn run_command<'a>(alloc: Global) -> Result<Command<'a>, Error> {
+    let file = file_arg(alloc, "The script, or - for standard input");
     let threads = Arg::new(alloc, "threads")
         .long("threads")
         .action(ArgAction::SetTrue)
@@ -108,10 +117,7 @@ fn run_command<'a>(alloc: Global) -> Result<Command<'a>, Error> {
 }
 
 fn check_command<'a>(alloc: Global) -> Result<Command<'a>, Error> {
-    let file = Arg::new(alloc, "file")
-        .value_name("FILE")
-        .required(true)
-        .help("The journal, or - for standard input");
+    let file = file_arg(alloc, "The journal, or - for standard input");
     let command = Command::new(alloc, "check")
         .about("Judges a journal")
         .after_help(CHECK_HELP)
@@ -130,14 +136,23 @@ fn matches_of<'a>(alloc: Global, words: &'a [String]) -> Result<ArgMatches<'a>, 
     command.try_get_matches_from(words)
 }
 
-fn run_order<'a>(matches: &ArgMatches<'a>) -> Option<Order<'a>> {
-    let manner = Manner {
+// In which manner a script is to be played.
+fn manner_in(matches: &ArgMatches<'_>) -> Manner
+    ensures { IsManner (found_of matches.now) result }
+{
+    Manner {
         threads: matches.get_flag("threads"),
         turns: matches.get_one::<u32>("turns").unwrap_or(TURNS),
-    };
+    }
+}
+
+// To play the script that was found.
+fn run_order<'a>(matches: &ArgMatches<'a>) -> Option<Order<'a>>
+    ensures { IfSome result (PlaysFound (found_of matches.now)) }
+{
     Some(Order::Run {
         file: matches.get_str("file")?,
-        manner,
+        manner: manner_in(matches),
         journal: matches.get_str("journal"),
     })
 }
@@ -162,7 +177,9 @@ fn refusal(error: Error) -> Refused {
 }
 
 /// What the words ask for, the program's name first. With no other word it is to play standard input.
-pub fn order_of<'a>(alloc: Global, words: &'a [String]) -> Result<Order<'a>, Refused> {
+pub fn order_of<'a>(alloc: Global, words: &'a [String]) -> Result<Order<'a>, Refused>
+    ensures { length words.now < 2 → IsOkAnd result PlaysInput }
+{
     if words.len() < 2 {
         return Ok(Order::Run {
             file: "-",

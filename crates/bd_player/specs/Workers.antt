@@ -107,3 +107,4 @@ fault_status (fault.Line number) = 1
 fault_status fault.Journal = 1
 fault_status fault.Memory = 3
 fault_status fault.Thread = 1
+fault_status fault.Output = 1

@@ -37,6 +37,9 @@ pub enum Fault {
     /// A seat's thread can't be started.
     #[error("fault: thread")]
     Thread,
+    /// Something couldn't be written to standard output.
+    #[error("fault: output")]
+    Output,
 }
 
 impl From<io::Error> for Fault {
