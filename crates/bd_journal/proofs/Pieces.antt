@@ -58,6 +58,13 @@ err_of_sends (Err u) a b x s = s
 pub sends_same : {T E : Type 0} (r : Result T E) (a b : Option (List ℕ)) (x y : List ℕ) → x ≡ y → Sends a b r x → Sends a b r y
 sends_same r a b x y e s = subst (Sends a b r) e s
 
+-- what a `?` hands on, and all of two parts, where the bytes are said in another way
+pub sends_part : {T E : Type 0} (r : Result T E) (a b : Option (List ℕ)) (x y : List ℕ) → x ≡ y → IsErr r → Begins a b x → Sends a b r y
+sends_part r a b x y e is s = sends_err r a b y is (subst (Begins a b) e s)
+
+pub sends_both : {T E : Type 0} (r : Result T E) (a b c : Option (List ℕ)) (x y z : List ℕ) → x ++ y ≡ z → Appends a b x → Sends b c r y → Sends a c r z
+sends_both r a b c x y z e s t = sends_same r a c (x ++ y) z e (sends_then r a b c x y s t)
+
 -- the pieces before, and a beginning of the next
 pub begins_next : {X : Type 0} (f : X → List ℕ) (xs : List X) (i : ℕ) (d : X) (a b c : Option (List ℕ)) → i < length xs → Appends a b (flat_map f (take i xs)) → Begins b c (f (get_or xs i d)) → Begins a c (flat_map f xs)
 begins_next {X} f xs i d a b c lt s t =

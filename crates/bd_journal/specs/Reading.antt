@@ -82,12 +82,12 @@ command_step_from bytes = do
   parcel ← parcel_from command spelled.1
   Some (step.Command command parcel.0, parcel.1)
 
+-- three values of one kind, one after the other
+abbrev pub thrice : {A V : Type 0} → (List ℕ → Option (V × List ℕ)) → (V → V → V → A) → List ℕ → Option (A × List ℕ)
+thrice read make bytes = read bytes >>= λ a. read a.1 >>= λ b. read b.1 >>= λ c. Some (make a.0 b.0 c.0, c.1)
+
 unfoldable pub open_from : List ℕ → Option (Step × List ℕ)
-open_from bytes = do
-  pid ← word_from bytes
-  euid ← word_from pid.1
-  window ← word_from euid.1
-  Some (step.Open pid.0 euid.0 window.0, window.1)
+open_from bytes = thrice word_from step.Open bytes
 
 -- a step of one number
 abbrev pub number_step_from : (ℕ → Step) → List ℕ → Option (Step × List ℕ)
@@ -123,11 +123,7 @@ abbrev pub numbered_from : {A : Type 0} → (A → ℕ) → List A → (A → St
 numbered_from number xs make bytes = byte_from bytes >>= λ n. numbered number xs n.0 >>= λ x. Some (make x, n.1)
 
 unfoldable pub got_from : List ℕ → Option (StepAnswer × List ℕ)
-got_from bytes = do
-  stream ← block_from bytes
-  carried ← block_from stream.1
-  offsets ← block_from carried.1
-  Some (answer.Got stream.0 carried.0 offsets.0, offsets.1)
+got_from bytes = thrice block_from answer.Got bytes
 
 abbrev pub answer_rows : List (ℕ × (List ℕ → Option (StepAnswer × List ℕ)))
 answer_rows =

@@ -204,7 +204,9 @@ fn entries_at(
     let mut rest = bytes;
     for _ in 0..count {
         let (entry, after) = entry_at(alloc, seats, rest)?;
-        entries.push(entry)?;
+        let Ok(()) = entries.push(entry) else {
+            return Err(ReadError::Memory);
+        };
         rest = after;
     }
     Ok((entries, rest))

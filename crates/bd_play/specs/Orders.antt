@@ -1,5 +1,5 @@
 -- What the program's words ask for, by what a parse found of them.
-use Rattle.std.specs.Prelude.{◌≡◌, ℕ, ◌<◌, ◌^◌, true, false, List, Option, Some, None, codes}
+use Rattle.std.specs.Prelude.{◌≡◌, ℕ, ◌<◌, ◌^◌, true, false, List, Some, None, codes}
 use Rattle.std.specs.Option.{option_map}
 use Rattle.std.specs.Str.Parse.{IsNumeral, digits_value, without_leading_plus}
 use Rattle.clap.specs.declared.parser.matches.Found.{Found}
@@ -26,13 +26,13 @@ pub record IsManner (found : Found) (m : Manner) : Type 0 where
 
 -- the file, the manner and the journal that were found
 abbrev pub PlaysFound : Found → Order → Type 0
-PlaysFound found (order.Run file manner journal) =
-    (first_value found (codes "file") ≡ Some file.now) × IsManner found manner
-    × (option_map (λ name. name.now) journal ≡ first_value found (codes "journal"))
+PlaysFound found (order.Run run) =
+    (first_value found (codes "file") ≡ Some run.file.now) × IsManner found run.manner
+    × (option_map (λ name. name.now) run.journal ≡ first_value found (codes "journal"))
 PlaysFound found (order.Check file) = ⊥
 
 -- standard input, line by line, and no journal is written
 abbrev pub PlaysInput : Order → Type 0
-PlaysInput (order.Run file manner journal) =
-    (file.now ≡ codes "-") × (manner ≡ record { threads = false; turns = usual_turns }) × (journal ≡ None)
+PlaysInput (order.Run run) =
+    (run.file.now ≡ codes "-") × (run.manner ≡ record { threads = false; turns = usual_turns }) × (run.journal ≡ None)
 PlaysInput (order.Check file) = ⊥

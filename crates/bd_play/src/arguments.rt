@@ -53,19 +53,24 @@ from those before, from 0.
 
 Statuses: 0 lawful; 1 unlawful, or a fault, told on standard error; 3 memory refused.";
 
+/// A run of a script.
+#[derive(Clone, Copy, Debug)]
+pub struct Run<'a> {
+    /// The script's file.
+    pub file: &'a str,
+    /// How it is played.
+    pub manner: Manner,
+    /// Where the journal of the run is to stand, if it is written.
+    pub journal: Option<&'a str>,
+}
+
 /// What the words ask for.
 #[derive(Clone, Copy, Debug)]
 pub enum Order<'a> {
-    /// Plays a script, and writes the journal of the run.
-    Run {
-        file: &'a str,
-        manner: Manner,
-        journal: Option<&'a str>,
-    },
-    /// Judges a journal.
-    Check {
-        file: &'a str,
-    },
+    /// Plays a script.
+    Run(Run<'a>),
+    /// Judges the journal in a file.
+    Check(&'a str),
 }
 
 /// Why there is no order.
@@ -150,11 +155,11 @@ fn manner_in(matches: &ArgMatches<'_>) -> Manner
 fn run_order<'a>(matches: &ArgMatches<'a>) -> Option<Order<'a>>
     ensures { IfSome result (PlaysFound (found_of matches.now)) }
 {
-    Some(Order::Run {
+    Some(Order::Run(Run {
         file: matches.get_str("file")?,
         manner: manner_in(matches),
         journal: matches.get_str("journal"),
-    })
+    }))
 }
 
 fn order_in<'a>(matches: &ArgMatches<'a>) -> Option<Order<'a>> {
@@ -162,9 +167,7 @@ fn order_in<'a>(matches: &ArgMatches<'a>) -> Option<Order<'a>> {
     if name == "run" {
         run_order(inner)
     } else {
-        Some(Order::Check {
-            file: inner.get_str("file")?,
-        })
+        Some(Order::Check(inner.get_str("file")?))
     }
 }
 
@@ -181,14 +184,15 @@ pub fn order_of<'a>(alloc: Global, words: &'a [String]) -> Result<Order<'a>, Ref
     ensures { length words.now < 2 → IsOkAnd result PlaysInput }
 {
     if words.len() < 2 {
-        return Ok(Order::Run {
+        let manner = Manner {
+            threads: false,
+            turns: TURNS,
+        };
+        return Ok(Order::Run(Run {
             file: "-",
-            manner: Manner {
-                threads: false,
-                turns: TURNS,
-            },
+            manner,
             journal: None,
-        });
+        }));
     }
     match matches_of(alloc, words) {
         Ok(matches) => order_in(&matches).ok_or(Refused::Fault(Fault::Arguments)),

@@ -1,7 +1,8 @@
 //! The program's files.
 
+use crate::arguments::Run;
 use crate::draft::{Draft, draft_for};
-use bd_player::{Fault, Manner, check_journal, play_from, tell};
+use bd_player::{Fault, check_journal, play_from, tell};
 use bd_space::Record;
 use std::fs;
 use std::fs::File;
@@ -31,14 +32,15 @@ fn is_same<H: Files>(rt: &H, path: &str, other: &str) -> bool {
     }
 }
 
-// A draft of the journal, where one is asked for: not of a file that the run reads or prints to.
-fn draft_of<H: AllocGlobal + Files>(
-    rt: &H,
-    script: &str,
-    journal: Option<&str>,
-) -> Result<Option<Draft<H::File>>, Fault> {
-    let Some(journal) = journal else {
+// A draft of the run's journal, where one is to be written: not of a file that the run reads or prints to.
+fn draft_of<H: AllocGlobal + Files>(rt: &H, run: Run<'_>) -> Result<Option<Draft<H::File>>, Fault> {
+    let Some(journal) = run.journal else {
         return Ok(None);
+    };
+    let script = if run.file == INPUT {
+        INPUT_FILE
+    } else {
+        run.file
     };
     if is_same(rt, journal, script) || is_same(rt, journal, OUTPUT_FILE) {
         return Err(Fault::Arguments);
@@ -62,21 +64,19 @@ fn settle<H: AllocGlobal + Files>(
     }
 }
 
-// Plays a script that is read from the file of this name.
+// Plays a script that a reader has.
 fn run_script<H: AllocGlobal + Files + Threads + Wait + Sync, R: Read, W: Write, E: Write>(
     rt: &H,
     script: &mut R,
-    name: &str,
-    manner: Manner,
-    journal: Option<&str>,
+    run: Run<'_>,
     out: &mut W,
     err: &mut E,
 ) -> u8 {
-    let draft = match draft_of(rt, name, journal) {
+    let draft = match draft_of(rt, run) {
         Ok(draft) => draft,
         Err(fault) => return tell(fault, err),
     };
-    let played = play_from(rt, script, manner, out, err);
+    let played = play_from(rt, script, run.manner, out, err);
     match settle(rt, draft, &played.history) {
         Ok(()) => played.status,
         Err(fault) => played.status.max(tell(fault, err)),
@@ -86,17 +86,15 @@ fn run_script<H: AllocGlobal + Files + Threads + Wait + Sync, R: Read, W: Write,
 /// Plays the script in a file, and writes the journal of the run where one is asked for.
 pub fn run_file<H: AllocGlobal + Files + Input + Threads + Wait + Sync, W: Write, E: Write>(
     rt: &H,
-    name: &str,
-    manner: Manner,
-    journal: Option<&str>,
+    run: Run<'_>,
     out: &mut W,
     err: &mut E,
 ) -> u8 {
-    if name == INPUT {
-        return run_script(rt, &mut rt.reader(), INPUT_FILE, manner, journal, out, err);
+    if run.file == INPUT {
+        return run_script(rt, &mut rt.reader(), run, out, err);
     }
-    match File::open(rt, name) {
-        Ok(mut file) => run_script(rt, &mut file, name, manner, journal, out, err),
+    match File::open(rt, run.file) {
+        Ok(mut file) => run_script(rt, &mut file, run, out, err),
         Err(error) => tell(Fault::from(error), err),
     }
 }

@@ -34,12 +34,8 @@ fn obey<H: AllocGlobal + Files + Input + Threads + Wait + Sync, W: Write + Drop,
     err: &mut E,
 ) -> u8 {
     let status = match order {
-        Order::Run {
-            file,
-            manner,
-            journal,
-        } => run_file(rt, file, manner, journal, out, err),
-        Order::Check { file } => check_file(rt, file, out, err),
+        Order::Run(run) => run_file(rt, run, out, err),
+        Order::Check(name) => check_file(rt, name, out, err),
     };
     status.max(ended(out.end(), err))
 }

@@ -11,7 +11,7 @@ use crate::printing::Printer;
 use crate::sink::Sink;
 use crate::worker::act;
 use bd_driver::{Desk, Driver, Seat};
-use bd_script::{Line, Script, ScriptError, read_script};
+use bd_script::{Line, Script, ScriptError, explain, read_script};
 use bd_space::Record;
 use std::alloc::Global;
 use std::io::{Read, Write};
@@ -56,7 +56,7 @@ pub fn script_from<R: Read>(alloc: Global, reader: &mut R) -> Result<Script, Fau
     let bytes = read_on(alloc, &[], reader)?;
     match read_script(alloc, &bytes) {
         Ok(script) => Ok(script),
-        Err(ScriptError::Line(number)) => Err(Fault::Line(number)),
+        Err(ScriptError::Line(number)) => Err(Fault::Line(number, explain(&bytes, number))),
         Err(ScriptError::Memory) => Err(Fault::Memory),
     }
 }
