@@ -1,5 +1,5 @@
-/* Preloaded into a program: refuses its Nth request for memory (STARVE=N; 0 refuses none), and writes how many requests there were
-   to the file that STARVE_COUNT names, if it is set. */
+/* Preloaded into a program: refuses its Nth request for memory (STARVE=N; 0 refuses none) and each that is larger than STARVE_MOST
+   bytes, if that is set, and writes how many requests there were to the file that STARVE_COUNT names, if it is set. */
 #define _GNU_SOURCE
 #include <dlfcn.h>
 #include <errno.h>
@@ -10,6 +10,7 @@
 #include <unistd.h>
 
 static long refused = -1, requests;
+static size_t most = (size_t)-1;
 static void *(*real_malloc)(size_t);
 static void *(*real_calloc)(size_t, size_t);
 static void *(*real_realloc)(void *, size_t);
@@ -30,7 +31,7 @@ static void *early_block(size_t size)
 
 static void look_up(void)
 {
-    const char *number = getenv("STARVE");
+    const char *number = getenv("STARVE"), *limit = getenv("STARVE_MOST");
     looking = 1;
     real_malloc = dlsym(RTLD_NEXT, "malloc");
     real_calloc = dlsym(RTLD_NEXT, "calloc");
@@ -38,14 +39,15 @@ static void look_up(void)
     real_posix_memalign = dlsym(RTLD_NEXT, "posix_memalign");
     real_aligned_alloc = dlsym(RTLD_NEXT, "aligned_alloc");
     refused = number ? atol(number) : 0;
+    most = limit ? strtoul(limit, NULL, 10) : most;
     looking = 0;
 }
 
-static int is_refused(void)
+static int is_refused(size_t size)
 {
     if (refused < 0)
         look_up();
-    if (__atomic_add_fetch(&requests, 1, __ATOMIC_SEQ_CST) != refused)
+    if (__atomic_add_fetch(&requests, 1, __ATOMIC_SEQ_CST) != refused && size <= most)
         return 0;
     errno = ENOMEM;
     return 1;
@@ -55,29 +57,29 @@ void *malloc(size_t size)
 {
     if (looking)
         return early_block(size);
-    return is_refused() ? NULL : real_malloc(size);
+    return is_refused(size) ? NULL : real_malloc(size);
 }
 
 void *calloc(size_t count, size_t size)
 {
     if (looking)
         return early_block(count * size);
-    return is_refused() ? NULL : real_calloc(count, size);
+    return is_refused(count * size) ? NULL : real_calloc(count, size);
 }
 
 void *realloc(void *block, size_t size)
 {
-    return is_refused() ? NULL : real_realloc(block, size);
+    return is_refused(size) ? NULL : real_realloc(block, size);
 }
 
 int posix_memalign(void **block, size_t alignment, size_t size)
 {
-    return is_refused() ? ENOMEM : real_posix_memalign(block, alignment, size);
+    return is_refused(size) ? ENOMEM : real_posix_memalign(block, alignment, size);
 }
 
 void *aligned_alloc(size_t alignment, size_t size)
 {
-    return is_refused() ? NULL : real_aligned_alloc(alignment, size);
+    return is_refused(size) ? NULL : real_aligned_alloc(alignment, size);
 }
 
 __attribute__((destructor)) static void tell(void)

@@ -1,11 +1,14 @@
 -- Reading undoes spelling, and spelling undoes reading.
-use Rattle.std.proofs.Common.{◌≡◌, ℕ, zero, suc, ◌^◌, ◌<◌, ◌≤◌, Bool, true, false, cond, eqb, ltb, leb, eq-eqb, ◌&&◌, List, [], ◌∷◌, ◌++◌, length, take, Option, Some, None, Result, Ok, Err, refl, sym, ap, subst, ◌∙◌, append_assoc, arith}
+use Rattle.std.proofs.Common.{◌≡◌, ℕ, zero, suc, ◌^◌, ◌<◌, ◌≤◌, Bool, true, false, cond, eqb, ltb, leb, eq-eqb, ◌&&◌, List, [], ◌∷◌, ◌++◌, length, take, drop, Option, Some, None, Result, Ok, Err, refl, sym, ap, subst, ◌∙◌, append_assoc, arith}
 use Rattle.std.specs.Prelude.{IfOk}
 use Rattle.std.specs.List.{flat_map, AllByRecursion}
+use Rattle.std.specs.Str.{bytes_eq}
+use Rattle.std.specs.Cmp.Lexicographic.{same_text}
 use Rattle.std.proofs.lemmas.Bool.{eqb-true, ltb-true, leb-true, lt-ltb, le-leb}
-use Rattle.std.proofs.lemmas.List.{append-nil, nil_from_length, take_all, length-append}
+use Rattle.std.proofs.lemmas.List.{append-nil, nil_from_length, take_all, take-append-drop, length-append}
 use Rattle.std.proofs.lemmas.List.Concat.{flat_map-cons}
 use Rattle.bd_uapi.specs.Bytes.{IsBytes, word}
+use Rattle.bd_uapi.proofs.Pieces.{IsBytes-drop}
 use Rattle.bd_uapi.specs.declared.fault.Fault.{Fault}
 use Rattle.bd_uapi.specs.declared.command.Command.{Command}
 use Rattle.bd_codec.specs.Spelling.{command_bytes, IsCommand}
@@ -23,7 +26,7 @@ use Rattle.bd_uapi.specs.declared.fault.Cause.{Cause}
 use Rattle.bd_journal.specs.declared.fault.ReadError.{ReadError}
 use Rattle.bd_journal.specs.Codes.{numbered, note_number, notes, cause_number, causes, fault_number, faults}
 use Rattle.bd_journal.specs.Spelling.{block, magic, carries, parcel_bytes, step_bytes, answer_bytes, entry_bytes, heading_bytes, journal_bytes, IsBlock, IsParcel, IsStep, IsAnswer, IsEntry, IsJournal}
-use Rattle.bd_journal.specs.Reading.{◌>>=◌, Gives, byte_from, word_from, block_from, whole, whole_block_from, spelled_by, command_in, blocks_from, parcel_by, parcel_from, command_step_from, open_from, number_step_from, step_rows, step_from, got_from, answer_rows, answer_from, entry_from, entries_from, seats_from, journal_in}
+use Rattle.bd_journal.specs.Reading.{◌>>=◌, Gives, byte_from, word_from, block_from, whole, whole_block_from, spelled_by, command_in, blocks_from, parcel_by, parcel_from, command_step_from, open_from, number_step_from, step_rows, step_from, got_from, answer_rows, answer_from, entry_from, entries_from, behind_magic, seats_from, journal_in}
 use Rattle.bd_journal.proofs.FieldLaws.{bind_some, demand_some, some_is, Takes, Takes-then, Takes-behind, IsBytes-rest, byte_takes, words, blocks, block_bytes}
 use Rattle.bd_journal.proofs.Tags.{Row, RowOf, bare_row, once_row, thrice_row, thrice_again, numbered_row, rows_take}
 
@@ -316,33 +319,39 @@ both_true : (a b : Bool) → (a && b) ≡ true → (a ≡ true) × (b ≡ true)
 both_true true b e = (refl, e)
 both_true false b e = absurd cc
 
-abbrev seats_fit : ℕ → ℕ → ℕ → Bool
-seats_fit kind version n = (eqb kind 0x4a444e42) && (eqb version 0x31303030) && leb 1 n && leb n 16
+magic_takes : (bytes rest : List ℕ) → IsBytes bytes → behind_magic bytes ≡ Some rest → Takes bytes magic rest
+unfolding behind_magic
+magic_takes bytes rest fits e =
+    let d = demand_some (bytes_eq (take 8 bytes) magic) (Some (drop 8 bytes)) rest e in
+    let front : take 8 bytes ≡ magic = same_text (take 8 bytes) magic (sym d.0) in
+    let made : Takes bytes magic (drop 8 bytes) = record { parts = sym (take-append-drop 8 bytes) ∙ ap (λ (t : List ℕ). t ++ drop 8 bytes) front; rest_fits = IsBytes-drop 8 bytes fits } in
+    subst (λ (y : List ℕ). Takes bytes magic y) (some_is (drop 8 bytes) rest d.1) made
+
+magic_again : (rest : List ℕ) → behind_magic (magic ++ rest) ≡ Some rest
+unfolding behind_magic
+magic_again rest = refl
+
+abbrev seats_fit : ℕ → Bool
+seats_fit n = leb 1 n && leb n 16
 
 seats_take : (bytes : List ℕ) (x : ℕ × List ℕ) → IsBytes bytes → seats_from bytes ≡ Some x → Takes bytes (magic ++ word x.0) x.1 × (1 ≤ x.0) × (x.0 ≤ 16)
 unfolding seats_from
 seats_take bytes x fits e =
-    let p = bind_some (word_from bytes) (λ a. word_from a.1 >>= λ b. word_from b.1 >>= λ c. cond (seats_fit a.0 b.0 c.0) (Some c) None) x e in
-    let q = bind_some (word_from p.0.1) (λ b. word_from b.1 >>= λ c. cond (seats_fit p.0.0 b.0 c.0) (Some c) None) x p.2 in
-    let u = bind_some (word_from q.0.1) (λ c. cond (seats_fit p.0.0 q.0.0 c.0) (Some c) None) x q.2 in
-    let d = demand_some (seats_fit p.0.0 q.0.0 u.0.0) (Some u.0) x u.2 in
-    let upper = both_true _ _ d.0 in
-    let lower = both_true _ _ upper.0 in
-    let heads = both_true _ _ lower.0 in
-    let t0 = words.takes bytes p.0 fits p.1 in
-    let t1 = words.takes p.0.1 q.0 t0.0.rest_fits q.1 in
-    let t2 = words.takes q.0.1 u.0 t1.0.rest_fits u.1 in
-    let kind : Takes bytes (word 0x4a444e42) p.0.1 = subst (λ (n : ℕ). Takes bytes (word n) p.0.1) (eqb-true _ _ heads.0) t0.0 in
-    let version : Takes p.0.1 (word 0x31303030) q.0.1 = subst (λ (n : ℕ). Takes p.0.1 (word n) q.0.1) (eqb-true _ _ heads.1) t1.0 in
-    let all : Takes bytes (magic ++ word u.0.0) u.0.1 = Takes-then bytes magic q.0.1 (word u.0.0) u.0.1 (Takes-then bytes (word 0x4a444e42) p.0.1 (word 0x31303030) q.0.1 kind version) t2.0 in
-    let made : Takes bytes (magic ++ word u.0.0) u.0.1 × (1 ≤ u.0.0) × (u.0.0 ≤ 16) = (all, leb-true _ _ lower.1, leb-true _ _ upper.1) in
-    subst (λ (y : ℕ × List ℕ). Takes bytes (magic ++ word y.0) y.1 × (1 ≤ y.0) × (y.0 ≤ 16)) (some_is u.0 x d.1) made
+    let p = bind_some (behind_magic bytes) (λ a. word_from a >>= λ b. cond (seats_fit b.0) (Some b) None) x e in
+    let q = bind_some (word_from p.0) (λ b. cond (seats_fit b.0) (Some b) None) x p.2 in
+    let d = demand_some (seats_fit q.0.0) (Some q.0) x q.2 in
+    let limits = both_true _ _ d.0 in
+    let t0 = magic_takes bytes p.0 fits p.1 in
+    let t1 = words.takes p.0 q.0 t0.rest_fits q.1 in
+    let all : Takes bytes (magic ++ word q.0.0) q.0.1 = Takes-then bytes magic p.0 (word q.0.0) q.0.1 t0 t1.0 in
+    let made : Takes bytes (magic ++ word q.0.0) q.0.1 × (1 ≤ q.0.0) × (q.0.0 ≤ 16) = (all, leb-true _ _ limits.0, leb-true _ _ limits.1) in
+    subst (λ (y : ℕ × List ℕ). Takes bytes (magic ++ word y.0) y.1 × (1 ≤ y.0) × (y.0 ≤ 16)) (some_is q.0 x d.1) made
 
 seats_again : (n : ℕ) (rest : List ℕ) → 1 ≤ n → n ≤ 16 → seats_from (magic ++ (word n ++ rest)) ≡ Some (n, rest)
 unfolding seats_from
 seats_again n rest some few =
     let small : n < 2 ^ 32 = omega arith in
-    rw (words.again 0x4a444e42 (word 0x31303030 ++ (word n ++ rest)) (omega arith), words.again 0x31303030 (word n ++ rest) (omega arith), words.again n rest small, le-leb 1 n some, le-leb n 16 few) refl
+    rw (magic_again (word n ++ rest), words.again n rest small, le-leb 1 n some, le-leb n 16 few) refl
 
 pub journal_takes : (bytes : List ℕ) (r : Record) → IsBytes bytes → journal_in bytes ≡ Some r → IsJournal r × (bytes ≡ journal_bytes r)
 unfolding journal_in

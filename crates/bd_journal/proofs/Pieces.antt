@@ -12,7 +12,7 @@ use Rattle.bd_codec.specs.Spelling.{command_bytes}
 use Rattle.bd_space.specs.declared.step.Parcel.{Parcel}
 use Rattle.bd_space.specs.declared.step.Step.TheVariants as step
 use Rattle.bd_space.specs.declared.step.Entry.{Entry}
-use Rattle.bd_journal.specs.Spelling.{block, parcel_bytes, step_bytes, answer_bytes, entry_bytes, heading_bytes}
+use Rattle.bd_journal.specs.Spelling.{block, magic, parcel_bytes, step_bytes, answer_bytes, entry_bytes, heading_bytes}
 use Rattle.bd_journal.specs.Writing.{Begins, Sends}
 
 pub begins_part : (a b : Option (List ℕ)) (n : ℕ) (x : List ℕ) → Appends a b (take n x) → Begins a b x
@@ -58,6 +58,13 @@ err_of_sends (Err u) a b x s = s
 pub sends_same : {T E : Type 0} (r : Result T E) (a b : Option (List ℕ)) (x y : List ℕ) → x ≡ y → Sends a b r x → Sends a b r y
 sends_same r a b x y e s = subst (Sends a b r) e s
 
+-- what a `?` hands on, and all of two parts, where the bytes are said in another way
+pub sends_part : {T E : Type 0} (r : Result T E) (a b : Option (List ℕ)) (x y : List ℕ) → x ≡ y → IsErr r → Begins a b x → Sends a b r y
+sends_part r a b x y e is s = sends_err r a b y is (subst (Begins a b) e s)
+
+pub sends_both : {T E : Type 0} (r : Result T E) (a b c : Option (List ℕ)) (x y z : List ℕ) → x ++ y ≡ z → Appends a b x → Sends b c r y → Sends a c r z
+sends_both r a b c x y z e s t = sends_same r a c (x ++ y) z e (sends_then r a b c x y s t)
+
 -- the pieces before, and a beginning of the next
 pub begins_next : {X : Type 0} (f : X → List ℕ) (xs : List X) (i : ℕ) (d : X) (a b c : Option (List ℕ)) → i < length xs → Appends a b (flat_map f (take i xs)) → Begins b c (f (get_or xs i d)) → Begins a c (flat_map f xs)
 begins_next {X} f xs i d a b c lt s t =
@@ -68,8 +75,8 @@ begins_next {X} f xs i d a b c lt s t =
     subst (Begins a c) parts (begins_then a b c (flat_map f (take i xs)) (f at ++ after) s (begins_first b c (f at) after t))
 
 -- how pieces make up a heading, a step and an entry
-pub heading_parts : (seats count : ℕ) (a b c d : List ℕ) → a ≡ word 0x4a444e42 → b ≡ word 0x31303030 → c ≡ word seats → d ≡ word count → a ++ (b ++ (c ++ (d ++ []))) ≡ heading_bytes seats count
-heading_parts seats count a b c d p q r s = rw (p, q, r, s) refl
+pub heading_parts : (seats count : ℕ) (a b : List ℕ) → a ≡ word seats → b ≡ word count → magic ++ (a ++ (b ++ [])) ≡ heading_bytes seats count
+heading_parts seats count a b p q = rw (p, q) refl
 
 pub open_parts : (pid euid window : ℕ) (a b c : List ℕ) → a ≡ word pid → b ≡ word euid → c ≡ word window → (0 ∷ []) ++ (a ++ (b ++ (c ++ []))) ≡ step_bytes (step.Open pid euid window)
 open_parts pid euid window a b c p q r = rw (p, q, r) refl

@@ -4,7 +4,7 @@ use Rattle.std.specs.List.{AllByRecursion}
 use Rattle.std.proofs.lemmas.Bool.{eqb-true}
 use Rattle.bd_uapi.specs.Bytes.{IsBytes}
 use Rattle.bd_journal.specs.Codes.{numbered}
-use Rattle.bd_journal.specs.Reading.{◌>>=◌, byte_from, tagged, bare}
+use Rattle.bd_journal.specs.Reading.{◌>>=◌, byte_from, tagged, bare, thrice}
 use Rattle.bd_journal.proofs.FieldLaws.{bind_some, some_is, Takes, Takes-then, Takes-behind, IsBytes-rest, Reads, byte_takes}
 
 -- what is read behind a tag is spelled with it
@@ -20,10 +20,6 @@ bare_row {A} spell Fits tag v spelled fit = record {
       let made : Takes (tag ∷ bytes) (spell v) bytes × Fits v = (record { parts = ap (λ (t : List ℕ). t ++ bytes) (sym spelled); rest_fits = fits }, fit) in
       subst (λ (y : A × List ℕ). Takes (tag ∷ bytes) (spell y.0) y.1 × Fits y.0) (some_is (v, bytes) x e) made;
 }
-
--- three values of one kind, one after the other
-abbrev pub thrice : {A V : Type 0} → (List ℕ → Option (V × List ℕ)) → (V → V → V → A) → List ℕ → Option (A × List ℕ)
-thrice read make bytes = read bytes >>= λ a. read a.1 >>= λ b. read b.1 >>= λ c. Some (make a.0 b.0 c.0, c.1)
 
 -- one and three values of one kind
 pub once_row : {A V : Type 0} (spell : A → List ℕ) (Fits : A → Type 0) (read : List ℕ → Option (V × List ℕ)) (s : V → List ℕ) (F : V → Type 0) → Reads read s F

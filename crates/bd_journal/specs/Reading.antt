@@ -1,5 +1,6 @@
 -- Reading a journal from left to right, on lists of bytes.
 use Rattle.std.specs.Prelude.{◌≡◌, ℕ, zero, suc, nat_lt, nat_le, ◌==◌, Bool, ◌&&◌, List, [], ◌∷◌, length, take, drop, Option, Some, None, Result, Ok, Err, if◌then◌else◌}
+use Rattle.std.specs.Str.{bytes_eq}
 use Rattle.bd_uapi.specs.Bytes.{word_at}
 use Rattle.bd_uapi.specs.declared.fault.Fault.{Fault}
 use Rattle.bd_uapi.specs.declared.command.Command.{Command}
@@ -14,7 +15,7 @@ use Rattle.bd_space.specs.declared.record.Record.{Record}
 use Rattle.bd_journal.specs.declared.fault.ReadError.{ReadError}
 use Rattle.bd_journal.specs.declared.fault.ReadError.TheVariants as errors
 use Rattle.bd_journal.specs.Codes.{numbered, note_number, notes, cause_number, causes, fault_number, faults}
-use Rattle.bd_journal.specs.Spelling.{carries}
+use Rattle.bd_journal.specs.Spelling.{carries, magic}
 
 infixl 10 ◌>>=◌
 abbrev pub ◌>>=◌ : {A B : Type 0} → Option A → (A → Option B) → Option B
@@ -81,12 +82,12 @@ command_step_from bytes = do
   parcel ← parcel_from command spelled.1
   Some (step.Command command parcel.0, parcel.1)
 
+-- three values of one kind, one after the other
+abbrev pub thrice : {A V : Type 0} → (List ℕ → Option (V × List ℕ)) → (V → V → V → A) → List ℕ → Option (A × List ℕ)
+thrice read make bytes = read bytes >>= λ a. read a.1 >>= λ b. read b.1 >>= λ c. Some (make a.0 b.0 c.0, c.1)
+
 unfoldable pub open_from : List ℕ → Option (Step × List ℕ)
-open_from bytes = do
-  pid ← word_from bytes
-  euid ← word_from pid.1
-  window ← word_from euid.1
-  Some (step.Open pid.0 euid.0 window.0, window.1)
+open_from bytes = thrice word_from step.Open bytes
 
 -- a step of one number
 abbrev pub number_step_from : (ℕ → Step) → List ℕ → Option (Step × List ℕ)
@@ -122,11 +123,7 @@ abbrev pub numbered_from : {A : Type 0} → (A → ℕ) → List A → (A → St
 numbered_from number xs make bytes = byte_from bytes >>= λ n. numbered number xs n.0 >>= λ x. Some (make x, n.1)
 
 unfoldable pub got_from : List ℕ → Option (StepAnswer × List ℕ)
-got_from bytes = do
-  stream ← block_from bytes
-  carried ← block_from stream.1
-  offsets ← block_from carried.1
-  Some (answer.Got stream.0 carried.0 offsets.0, offsets.1)
+got_from bytes = thrice block_from answer.Got bytes
 
 abbrev pub answer_rows : List (ℕ × (List ℕ → Option (StepAnswer × List ℕ)))
 answer_rows =
@@ -159,13 +156,16 @@ entries_from seats (suc n) bytes = do
   others ← entries_from seats n first.1
   Some (first.0 ∷ others.0, others.1)
 
--- the number of seats, behind what each journal begins with
+-- what stands behind the bytes that each journal begins with
+unfoldable pub behind_magic : List ℕ → Option (List ℕ)
+behind_magic bytes = if bytes_eq (take 8 bytes) magic then Some (drop 8 bytes) else None
+
+-- the number of seats, behind them
 unfoldable pub seats_from : List ℕ → Option (ℕ × List ℕ)
 seats_from bytes = do
-  kind ← word_from bytes
-  version ← word_from kind.1
-  seats ← word_from version.1
-  if (kind.0 == 0x4a444e42) && (version.0 == 0x31303030) && nat_le 1 seats.0 && nat_le seats.0 16 then Some seats else None
+  rest ← behind_magic bytes
+  seats ← word_from rest
+  if nat_le 1 seats.0 && nat_le seats.0 16 then Some seats else None
 
 unfoldable pub journal_in : List ℕ → Option Record
 journal_in bytes = do

@@ -10,5 +10,5 @@ mod writing;
 
 pub use codes::{cause_number, fault_number, note_number};
 pub use fault::{ReadError, WriteError};
-pub use reading::read_journal;
+pub use reading::{behind_magic, read_journal};
 pub use writing::write_journal;

@@ -1,9 +1,10 @@
 //! Reading a journal.
 
 ghost use Rattle.std.specs.Prelude.{◌≡◌, List, ℕ, length, IfOk, Some};
+ghost use Rattle.std.specs.Option.{option_map};
 ghost use Rattle.bd_space.specs.declared.record.Record.{Record};
 ghost use Rattle.bd_journal.specs.Spelling.{IsJournal, journal_bytes, carries};
-ghost use Rattle.bd_journal.specs.Reading.{Gives, command_in, parcel_from, command_step_from, open_from, step_from, got_from, answer_from, whole_block_from, entry_from, entries_from, seats_from, journal_in};
+ghost use Rattle.bd_journal.specs.Reading.{Gives, command_in, parcel_from, command_step_from, open_from, step_from, got_from, answer_from, whole_block_from, entry_from, entries_from, behind_magic, seats_from, journal_in};
 
 use crate::codes::{cause_with, fault_with, note_with};
 use crate::fault::ReadError;
@@ -13,10 +14,8 @@ use bd_space::{Entries, Entry, MOST_SEATS, Parcel, Record, Step, StepAnswer};
 use bd_uapi::Command;
 use std::alloc::Global;
 
-// What a journal begins with, as two numbers: BNDJ, and 0001.
-pub const KIND: u32 = 0x4a44_4e42;
-
-pub const VERSION: u32 = 0x3130_3030;
+// What each journal begins with.
+pub const MAGIC: [u8; 8] = *b"BNDJ0001";
 
 // Whether a parcel can stand beside the command.
 pub fn carries_parcel(command: &Command) -> bool
@@ -205,20 +204,28 @@ fn entries_at(
     let mut rest = bytes;
     for _ in 0..count {
         let (entry, after) = entry_at(alloc, seats, rest)?;
-        entries.push(entry)?;
+        let Ok(()) = entries.push(entry) else {
+            return Err(ReadError::Memory);
+        };
         rest = after;
     }
     Ok((entries, rest))
+}
+
+/// What stands behind the eight bytes that each journal begins with; None of what begins otherwise, which is none.
+#[tactic(auto, unfolding(crate::specs::Reading::behind_magic))]
+pub fn behind_magic(bytes: &[u8]) -> Option<&[u8]>
+    ensures { option_map (λ rest. rest.now) result ≡ behind_magic bytes.now }
+{
+    bytes.strip_prefix(&MAGIC)
 }
 
 #[tactic(auto, unfolding(crate::specs::Reading::seats_from))]
 fn seats_at(bytes: &[u8]) -> Result<(u32, &[u8]), ReadError>
     ensures { Gives (λ x. (x.0, x.1.now)) result (seats_from bytes.now) }
 {
-    let (kind, rest) = word_at(bytes)?;
-    let (version, rest) = word_at(rest)?;
-    let (seats, rest) = word_at(rest)?;
-    if kind != KIND || version != VERSION || seats < 1 || seats > MOST_SEATS {
+    let (seats, rest) = word_at(numbered(behind_magic(bytes))?)?;
+    if seats < 1 || seats > MOST_SEATS {
         return Err(ReadError::Malformed);
     }
     Ok((seats, rest))

@@ -10,7 +10,7 @@ ghost use Rattle.bd_journal.specs.Spelling.{IsBlock, IsParcel, IsStep, IsAnswer,
 
 use crate::codes::{cause_number, fault_number, note_number};
 use crate::fault::{Refused, WriteError};
-use crate::reading::{KIND, VERSION, carries_parcel};
+use crate::reading::{MAGIC, carries_parcel};
 use crate::sending::{send, send_all};
 use bd_codec::spell_command;
 use bd_space::{Bytes, Entry, MOST_SEATS, Parcel, Record, Step, StepAnswer};
@@ -221,10 +221,8 @@ fn send_heading<W: Write>(seats: u32, count: usize, out: &mut W) -> Result<(), W
     if seats < 1 || seats > MOST_SEATS || count > u32::MAX as usize {
         return Err(WriteError::Unspellable);
     }
-    let kind = KIND.to_le_bytes();
-    let version = VERSION.to_le_bytes();
     let count = count as u32;
-    let pieces: [&[u8]; 4] = [&kind, &version, &seats.to_le_bytes(), &count.to_le_bytes()];
+    let pieces: [&[u8]; 3] = [&MAGIC, &seats.to_le_bytes(), &count.to_le_bytes()];
     Ok(send_all(&pieces, out)?)
 }
 

@@ -1,5 +1,9 @@
 //! The program's words.
 
+ghost use Rattle.std.specs.Prelude.{◌<◌, length, IfSome, IsOkAnd};
+ghost use Rattle.clap.specs.Matches.{found_of};
+ghost use Rattle.bd_play.specs.Orders.{IsManner, PlaysFound, PlaysInput};
+
 use bd_player::{Fault, Manner};
 use clap::error::ErrorKind;
 use clap::{Arg, ArgAction, ArgMatches, Command, Error, value_parser};
@@ -49,19 +53,24 @@ from those before, from 0.
 
 Statuses: 0 lawful; 1 unlawful, or a fault, told on standard error; 3 memory refused.";
 
+/// A run of a script.
+#[derive(Clone, Copy, Debug)]
+pub struct Run<'a> {
+    /// The script's file.
+    pub file: &'a str,
+    /// How it is played.
+    pub manner: Manner,
+    /// Where the journal of the run is to stand, if it is written.
+    pub journal: Option<&'a str>,
+}
+
 /// What the words ask for.
 #[derive(Clone, Copy, Debug)]
 pub enum Order<'a> {
-    /// Plays a script, and writes the journal of the run.
-    Run {
-        file: &'a str,
-        manner: Manner,
-        journal: Option<&'a str>,
-    },
-    /// Judges a journal.
-    Check {
-        file: &'a str,
-    },
+    /// Plays a script.
+    Run(Run<'a>),
+    /// Judges the journal in a file.
+    Check(&'a str),
 }
 
 /// Why there is no order.
@@ -79,11 +88,16 @@ impl From<AllocError> for Refused {
     }
 }
 
-fn run_command<'a>(alloc: Global) -> Result<Command<'a>, Error> {
-    let file = Arg::new(alloc, "file")
+// The file that a command reads.
+fn file_arg<'a>(alloc: Global, help: &'a str) -> Arg<'a> {
+    Arg::new(alloc, "file")
         .value_name("FILE")
         .required(true)
-        .help("The script, or - for standard input");
+        .help(help)
+}
+
+fn run_command<'a>(alloc: Global) -> Result<Command<'a>, Error> {
+    let file = file_arg(alloc, "The script, or - for standard input");
     let threads = Arg::new(alloc, "threads")
         .long("threads")
         .action(ArgAction::SetTrue)
@@ -108,10 +122,7 @@ fn run_command<'a>(alloc: Global) -> Result<Command<'a>, Error> {
 }
 
 fn check_command<'a>(alloc: Global) -> Result<Command<'a>, Error> {
-    let file = Arg::new(alloc, "file")
-        .value_name("FILE")
-        .required(true)
-        .help("The journal, or - for standard input");
+    let file = file_arg(alloc, "The journal, or - for standard input");
     let command = Command::new(alloc, "check")
         .about("Judges a journal")
         .after_help(CHECK_HELP)
@@ -130,16 +141,25 @@ fn matches_of<'a>(alloc: Global, words: &'a [String]) -> Result<ArgMatches<'a>, 
     command.try_get_matches_from(words)
 }
 
-fn run_order<'a>(matches: &ArgMatches<'a>) -> Option<Order<'a>> {
-    let manner = Manner {
+// In which manner a script is to be played.
+fn manner_in(matches: &ArgMatches<'_>) -> Manner
+    ensures { IsManner (found_of matches.now) result }
+{
+    Manner {
         threads: matches.get_flag("threads"),
         turns: matches.get_one::<u32>("turns").unwrap_or(TURNS),
-    };
-    Some(Order::Run {
+    }
+}
+
+// To play the script that was found.
+fn run_order<'a>(matches: &ArgMatches<'a>) -> Option<Order<'a>>
+    ensures { IfSome result (PlaysFound (found_of matches.now)) }
+{
+    Some(Order::Run(Run {
         file: matches.get_str("file")?,
-        manner,
+        manner: manner_in(matches),
         journal: matches.get_str("journal"),
-    })
+    }))
 }
 
 fn order_in<'a>(matches: &ArgMatches<'a>) -> Option<Order<'a>> {
@@ -147,9 +167,7 @@ fn order_in<'a>(matches: &ArgMatches<'a>) -> Option<Order<'a>> {
     if name == "run" {
         run_order(inner)
     } else {
-        Some(Order::Check {
-            file: inner.get_str("file")?,
-        })
+        Some(Order::Check(inner.get_str("file")?))
     }
 }
 
@@ -162,16 +180,19 @@ fn refusal(error: Error) -> Refused {
 }
 
 /// What the words ask for, the program's name first. With no other word it is to play standard input.
-pub fn order_of<'a>(alloc: Global, words: &'a [String]) -> Result<Order<'a>, Refused> {
+pub fn order_of<'a>(alloc: Global, words: &'a [String]) -> Result<Order<'a>, Refused>
+    ensures { length words.now < 2 → IsOkAnd result PlaysInput }
+{
     if words.len() < 2 {
-        return Ok(Order::Run {
+        let manner = Manner {
+            threads: false,
+            turns: TURNS,
+        };
+        return Ok(Order::Run(Run {
             file: "-",
-            manner: Manner {
-                threads: false,
-                turns: TURNS,
-            },
+            manner,
             journal: None,
-        });
+        }));
     }
     match matches_of(alloc, words) {
         Ok(matches) => order_in(&matches).ok_or(Refused::Fault(Fault::Arguments)),

@@ -1,50 +1,102 @@
 //! The program's files.
 
-use bd_player::{Fault, Manner, check_journal, play_from, tell, write_journal};
+use crate::arguments::Run;
+use crate::draft::{Draft, draft_for};
+use bd_player::{Fault, check_journal, play_from, tell};
 use bd_space::Record;
+use std::fs;
 use std::fs::File;
-use std::io::{BufWriter, Write};
+use std::io::{Read, Write};
+use std::os::unix::fs::MetadataExt;
 use std::rt::Files;
 use std::sync::Wait;
 use std::thread::Threads;
 
-// Standard input.
+// Standard input, as a word and as a file.
 const INPUT: &str = "-";
 
-// Writes the journal of a run.
-fn write_file<H: AllocGlobal + Files>(rt: &H, history: &Record, name: &str) -> Result<(), Fault> {
-    let file = File::create(rt, name)?;
-    let mut out = BufWriter::new(rt.alloc(), file)?;
-    if !write_journal(history, &mut out) {
-        return Err(Fault::File);
+const INPUT_FILE: &str = "/dev/stdin";
+// The file of standard output.
+const OUTPUT_FILE: &str = "/dev/stdout";
+
+// Whether both paths lead to one file, by whatever names.
+fn is_same<H: Files>(rt: &H, path: &str, other: &str) -> bool {
+    if path == other {
+        return true;
     }
-    Ok(())
+    match (fs::metadata(rt, path), fs::metadata(rt, other)) {
+        (Ok(one), Ok(other)) => {
+            one.is_file() && one.dev() == other.dev() && one.ino() == other.ino()
+        }
+        _ => false,
+    }
+}
+
+// A draft of the run's journal, where one is to be written: not of a file that the run reads or prints to.
+fn draft_of<H: AllocGlobal + Files>(rt: &H, run: Run<'_>) -> Result<Option<Draft<H::File>>, Fault> {
+    let Some(journal) = run.journal else {
+        return Ok(None);
+    };
+    let script = if run.file == INPUT {
+        INPUT_FILE
+    } else {
+        run.file
+    };
+    if is_same(rt, journal, script) || is_same(rt, journal, OUTPUT_FILE) {
+        return Err(Fault::Arguments);
+    }
+    Ok(Some(draft_for(rt, journal)?))
+}
+
+// Makes a draft the journal of a run, or takes it away where nothing ran.
+fn settle<H: AllocGlobal + Files>(
+    rt: &H,
+    draft: Option<Draft<H::File>>,
+    history: &Option<Record>,
+) -> Result<(), Fault> {
+    match (draft, history) {
+        (Some(draft), Some(history)) => draft.finish(rt, history),
+        (Some(draft), None) => {
+            draft.abandon(rt);
+            Ok(())
+        }
+        (None, _) => Ok(()),
+    }
+}
+
+// Plays a script that a reader has.
+fn run_script<H: AllocGlobal + Files + Threads + Wait + Sync, R: Read, W: Write, E: Write>(
+    rt: &H,
+    script: &mut R,
+    run: Run<'_>,
+    out: &mut W,
+    err: &mut E,
+) -> u8 {
+    let draft = match draft_of(rt, run) {
+        Ok(draft) => draft,
+        Err(fault) => return tell(fault, err),
+    };
+    let played = play_from(rt, script, run.manner, out, err);
+    match settle(rt, draft, &played.history) {
+        Ok(()) => played.status,
+        Err(fault) => played.status.max(tell(fault, err)),
+    }
 }
 
 /// Plays the script in a file, and writes the journal of the run where one is asked for.
 pub fn run_file<H: AllocGlobal + Files + Input + Threads + Wait + Sync, W: Write, E: Write>(
     rt: &H,
-    name: &str,
-    manner: Manner,
-    journal: Option<&str>,
+    run: Run<'_>,
     out: &mut W,
     err: &mut E,
 ) -> u8 {
-    let played = if name == INPUT {
-        play_from(rt, &mut rt.reader(), manner, out, err)
-    } else {
-        match File::open(rt, name) {
-            Ok(mut file) => play_from(rt, &mut file, manner, out, err),
-            Err(error) => return tell(Fault::from(error), err),
-        }
-    };
-    let mut status = played.status;
-    if let (Some(history), Some(name)) = (&played.history, journal) {
-        if let Err(fault) = write_file(rt, history, name) {
-            status = status.max(tell(fault, err));
-        }
+    if run.file == INPUT {
+        return run_script(rt, &mut rt.reader(), run, out, err);
     }
-    status
+    match File::open(rt, run.file) {
+        Ok(mut file) => run_script(rt, &mut file, run, out, err),
+        Err(error) => tell(Fault::from(error), err),
+    }
 }
 
 /// Judges the journal in a file.

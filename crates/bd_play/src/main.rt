@@ -2,11 +2,14 @@
 #![tactic(auto)]
 
 mod arguments;
+mod draft;
 mod files;
+mod output;
 
 use arguments::{Order, Refused, order_of};
-use bd_player::{DONE, Fault, after_writing, tell};
+use bd_player::{DONE, Fault, tell};
 use files::{check_file, run_file};
+use output::Output;
 use std::alloc::Global;
 use std::io::{BufWriter, Write};
 use std::process::ExitCode;
@@ -15,22 +18,26 @@ use std::sync::Wait;
 use std::thread::Threads;
 use std::{env, io};
 
+// The status where this came of it, which is told.
+fn ended<E: Write>(came: Result<(), Fault>, err: &mut E) -> u8 {
+    match came {
+        Ok(()) => DONE,
+        Err(fault) => tell(fault, err),
+    }
+}
+
 // Does what the words ask for.
-fn obey<H: AllocGlobal + Files + Input + Threads + Wait + Sync, W: Write, E: Write>(
+fn obey<H: AllocGlobal + Files + Input + Threads + Wait + Sync, W: Write + Drop, E: Write>(
     rt: &H,
     order: Order<'_>,
-    out: &mut W,
+    out: &mut Output<W>,
     err: &mut E,
 ) -> u8 {
     let status = match order {
-        Order::Run {
-            file,
-            manner,
-            journal,
-        } => run_file(rt, file, manner, journal, out, err),
-        Order::Check { file } => check_file(rt, file, out, err),
+        Order::Run(run) => run_file(rt, run, out, err),
+        Order::Check(name) => check_file(rt, name, out, err),
     };
-    after_writing(out.flush(), status)
+    status.max(ended(out.end(), err))
 }
 
 fn run<H: Runtime<A = Global> + Threads + Wait + Sync, E: Write>(rt: &H, err: &mut E) -> u8 {
@@ -45,11 +52,11 @@ fn run<H: Runtime<A = Global> + Threads + Wait + Sync, E: Write>(rt: &H, err: &m
         Ok(order) => order,
         Err(Refused::Fault(fault)) => return tell(fault, err),
         Err(Refused::Help(help)) => {
-            return after_writing(help.print(rt), DONE);
+            return ended(help.print(rt).map_err(|_| Fault::Output), err);
         }
     };
     match BufWriter::new(rt.alloc(), io::writer(rt)) {
-        Ok(mut out) => obey(rt, order, &mut out, err),
+        Ok(out) => obey(rt, order, &mut Output::new(out), err),
         Err(_) => tell(Fault::Memory, err),
     }
 }

@@ -103,7 +103,8 @@ said_status said.Idle = 0
 abbrev pub fault_status : Fault → ℕ
 fault_status fault.Arguments = 1
 fault_status fault.File = 1
-fault_status (fault.Line number) = 1
+fault_status (fault.Line number why) = 1
 fault_status fault.Journal = 1
 fault_status fault.Memory = 3
 fault_status fault.Thread = 1
+fault_status fault.Output = 1

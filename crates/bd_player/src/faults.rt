@@ -3,6 +3,7 @@
 ghost use Rattle.std.specs.Prelude.{◌≡◌, ◌≤◌, MatchResult, max};
 ghost use Rattle.bd_player.specs.Workers.{fault_status};
 
+use bd_script::Reason;
 use std::io;
 use std::io::{ErrorKind, Write};
 use thiserror::Error;
@@ -25,9 +26,9 @@ pub enum Fault {
     /// A file can't be read, or the journal not be written.
     #[error("fault: file")]
     File,
-    /// This line of the script is bad.
-    #[error("fault: line {0}")]
-    Line(u64),
+    /// The line of the script with this number is bad, and why.
+    #[error("fault: line {0}\n{1}")]
+    Line(u64, Reason),
     /// The journal can't be read.
     #[error("fault: journal")]
     Journal,
@@ -37,6 +38,9 @@ pub enum Fault {
     /// A seat's thread can't be started.
     #[error("fault: thread")]
     Thread,
+    /// Something couldn't be written to standard output.
+    #[error("fault: output")]
+    Output,
 }
 
 impl From<io::Error> for Fault {

@@ -1,15 +1,16 @@
 //! Writing and judging journals.
 
-ghost use Rattle.std.specs.Prelude.{◌≤◌};
+ghost use Rattle.std.specs.Prelude.{◌≡◌, ◌≤◌, IfOk, IfSome};
 ghost use Rattle.bd_player.specs.Journals.{Wrote};
 ghost use Rattle.bd_player.specs.Verdicts.{IsLawfulAt0};
 
-use crate::faults::{DONE, FAULT, after_writing, tell};
-use crate::playing::read_all;
+use crate::faults::{DONE, FAULT, Fault, after_writing, tell};
+use crate::playing::read_on;
 use crate::verdicts::{Verdict, verdict_on};
+use bd_journal::behind_magic;
 use bd_space::Record;
 use std::alloc::Global;
-use std::io::{Read, Write};
+use std::io::{ErrorKind, Read, Write};
 
 /// Writes the record's journal and flushes it; whether every byte went out. Where not, a beginning may be written. It
 /// takes no memory.
@@ -30,6 +31,23 @@ fn print<W: Write>(verdict: &str, number: usize, out: &mut W, status: u8) -> u8
     after_writing(writeln!(out, "{verdict} {number}"), status)
 }
 
+// What the reader has, if it begins as each journal does. Of what doesn't, no more than these first bytes is read.
+fn journal_from<R: Read>(alloc: Global, journal: &mut R) -> Result<Vec<u8>, Fault>
+    ensures { IfOk result (λ v. IfSome (R.remaining journal.old) (λ bytes. v.items ≡ bytes)) }
+{
+    let mut first = [0; 8];
+    if let Err(error) = journal.read_exact(&mut first) {
+        return Err(match error.kind() {
+            ErrorKind::UnexpectedEof => Fault::Journal,
+            _ => Fault::from(error),
+        });
+    }
+    if behind_magic(&first).is_none() {
+        return Err(Fault::Journal);
+    }
+    read_on(alloc, &first, journal)
+}
+
 /// Judges a journal: whether its entries are a history, or else the first that doesn't follow from those before.
 #[tactic(auto, using(crate::proofs::Kept::judged, crate::proofs::Kept::not_judged))]
 pub fn check_journal<R: Read, W: Write, E: Write>(
@@ -41,7 +59,7 @@ pub fn check_journal<R: Read, W: Write, E: Write>(
     // The status is 0 only where the journal is that of a history.
     ensures { IsLawfulAt0 (R.remaining journal.old) result }
 {
-    let bytes = match read_all(alloc, journal) {
+    let bytes = match journal_from(alloc, journal) {
         Ok(bytes) => bytes,
         Err(fault) => return tell(fault, err),
     };

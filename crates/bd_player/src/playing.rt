@@ -1,6 +1,6 @@
 //! Playing a script line by line.
 
-ghost use Rattle.std.specs.Prelude.{◌≡◌, ◌≤◌, false, All, IfOk, IfSome, None};
+ghost use Rattle.std.specs.Prelude.{◌≡◌, ◌≤◌, ◌++◌, false, All, IfOk, IfSome, None};
 ghost use Rattle.bd_space.specs.Histories.{IsHistory, history_in};
 ghost use Rattle.bd_driver.specs.Together.{new_seats};
 ghost use Rattle.bd_player.specs.Playing.{Plays, RunsOn};
@@ -11,7 +11,7 @@ use crate::printing::Printer;
 use crate::sink::Sink;
 use crate::worker::act;
 use bd_driver::{Desk, Driver, Seat};
-use bd_script::{Line, Script, ScriptError, read_script};
+use bd_script::{Line, Script, ScriptError, explain, read_script};
 use bd_space::Record;
 use std::alloc::Global;
 use std::io::{Read, Write};
@@ -38,11 +38,13 @@ impl Played {
     }
 }
 
-/// All that a reader has.
-pub fn read_all<R: Read>(alloc: Global, reader: &mut R) -> Result<Vec<u8>, Fault>
-    ensures { IfOk result (λ v. IfSome (R.remaining reader.old) (λ bytes. v.items ≡ bytes)) }
+// These bytes, and behind them all that a reader has.
+pub fn read_on<R: Read>(alloc: Global, first: &[u8], reader: &mut R) -> Result<Vec<u8>, Fault>
+    ensures { IfOk result (λ v. IfSome (R.remaining reader.old) (λ bytes. v.items ≡ first.now ++ bytes)) }
 {
-    let mut bytes = Vec::new(alloc);
+    let Ok(mut bytes) = Vec::from_slice(alloc, first) else {
+        return Err(Fault::Memory);
+    };
     reader.read_to_end(&mut bytes)?;
     Ok(bytes)
 }
@@ -51,10 +53,10 @@ pub fn read_all<R: Read>(alloc: Global, reader: &mut R) -> Result<Vec<u8>, Fault
 pub fn script_from<R: Read>(alloc: Global, reader: &mut R) -> Result<Script, Fault>
     ensures seats { IfOk result (λ s. (1 ≤ s.seats) × (s.seats ≤ 16)) }
 {
-    let bytes = read_all(alloc, reader)?;
+    let bytes = read_on(alloc, &[], reader)?;
     match read_script(alloc, &bytes) {
         Ok(script) => Ok(script),
-        Err(ScriptError::Line(number)) => Err(Fault::Line(number)),
+        Err(ScriptError::Line(number)) => Err(Fault::Line(number, explain(&bytes, number))),
         Err(ScriptError::Memory) => Err(Fault::Memory),
     }
 }

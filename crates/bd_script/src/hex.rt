@@ -47,6 +47,12 @@ fn pairs_in(alloc: Global, word: &[u8]) -> Result<Option<Vec<u8>>, AllocError>
     Ok(if rest.is_empty() { Some(bytes) } else { None })
 }
 
+// Whether a word spells bytes.
+pub fn is_hex(word: &[u8]) -> bool {
+    let is_whole = word.len() % 2 == 0 && !word.is_empty() && word.len() <= 2 * MOST_BYTES;
+    is_nothing(word) || is_whole && word.iter().all(|byte| digit_value(*byte).is_some())
+}
+
 /// What bytes are spelled as is read as these bytes, up to the most that a word spells.
 pub fn hex_is_read()
     ensures { (bytes : List ℕ) → IsBytes bytes → length bytes ≤ 4194304 → hex_of (hex_word bytes) ≡ Some bytes }

@@ -107,7 +107,7 @@ fn has_bad_byte(text: &[u8]) -> bool
 }
 
 // Whether a line does nothing: it is empty, or a comment.
-fn is_idle(text: &[u8]) -> bool
+pub fn is_idle(text: &[u8]) -> bool
     ensures { result ≡ is_idle text.now }
 {
     match text {

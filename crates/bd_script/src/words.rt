@@ -89,3 +89,15 @@ pub fn offsets_in(alloc: Global, word: &[u8]) -> Result<Vec<u64>, Trouble>
     }
     Ok(offsets)
 }
+
+// Whether a word is numbers of 64 bits with commas between them, or nothing.
+pub fn are_numbers(word: &[u8]) -> bool {
+    let mut count = 0usize;
+    for part in word.split(|b| *b == b',') {
+        if count == MOST_OFFSETS || number(part, u64::MAX).is_none() {
+            return is_nothing(word);
+        }
+        count = count.saturating_add(1);
+    }
+    true
+}

@@ -38,17 +38,38 @@ const PRINTS: &str = "\
 
 // A script, and the fault.
 static BAD_SCRIPTS: [(&str, &str); 8] = [
-    ("", "fault: line 0\n"),
-    ("# nothing\n\n", "fault: line 0\n"),
-    ("0 open 100 1000 4096\n", "fault: line 1\n"),
-    ("seats 0\n", "fault: line 1\n"),
-    ("seats 17\n", "fault: line 1\n"),
+    (
+        "",
+        "fault: line 0\ncolumn 1, word 1: expected the word seats, found the end of the line\n",
+    ),
+    (
+        "# nothing\n\n",
+        "fault: line 0\ncolumn 1, word 1: expected the word seats, found the end of the line\n",
+    ),
+    (
+        "0 open 100 1000 4096\n",
+        "fault: line 1\ncolumn 1, word 1: expected the word seats, found this\n",
+    ),
+    (
+        "seats 0\n",
+        "fault: line 1\ncolumn 7, word 2: expected how many seats there are, 1 to 16, found this\n",
+    ),
+    (
+        "seats 17\n",
+        "fault: line 1\ncolumn 7, word 2: expected how many seats there are, 1 to 16, found this\n",
+    ),
     (
         "seats 2\n\n# one\n0 open 100 1000 4096\n2 look\n",
-        "fault: line 5\n",
+        "fault: line 5\ncolumn 1, word 1: expected a seat, below the number of seats, found this\n",
     ),
-    ("seats 1\n#\ta tab\n", "fault: line 2\n"),
-    ("seats 1\n0 read 4294967296\n", "fault: line 2\n"),
+    (
+        "seats 1\n#\ta tab\n",
+        "fault: line 2\ncolumn 2, word 1: expected ASCII without TAB and CR, found a TAB\n",
+    ),
+    (
+        "seats 1\n0 read 4294967296\n",
+        "fault: line 2\ncolumn 8, word 3: expected a number up to 4294967295, found this\n",
+    ),
 ];
 
 #[test]

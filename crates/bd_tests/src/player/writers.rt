@@ -6,6 +6,7 @@ use bd_player::{
     DONE, FAULT, Fault, MEMORY, Manner, Said, TURNS, check_journal, play, play_from, print, tell,
     write_journal,
 };
+use bd_script::Reason;
 use std::io;
 use std::io::{ErrorKind, Write};
 use std::test::Fail;
@@ -179,13 +180,26 @@ fn keeps_it_where_a_line_is_lost(rt: HostRuntime) {
 }
 
 // The faults with their texts and statuses.
-static FAULTS: [(Fault, &str, u8); 6] = [
+static FAULTS: [(Fault, &str, u8); 7] = [
     (Fault::Arguments, "fault: arguments\n", 1),
     (Fault::File, "fault: file\n", 1),
-    (Fault::Line(7), "fault: line 7\n", 1),
+    (
+        Fault::Line(
+            7,
+            Reason {
+                column: 3,
+                word: 2,
+                expected: "a verb",
+                found: "this",
+            },
+        ),
+        "fault: line 7\ncolumn 3, word 2: expected a verb, found this\n",
+        1,
+    ),
     (Fault::Journal, "fault: journal\n", 1),
     (Fault::Memory, "fault: memory\n", 3),
     (Fault::Thread, "fault: thread\n", 1),
+    (Fault::Output, "fault: output\n", 1),
 ];
 
 #[test]

@@ -10,7 +10,7 @@ returns-in_err-entry c =
 
 pub loop-preserved : goal.loop-preserved
 loop-preserved c =
-    rw c.in_ok-push.ensures.items (goes_on c.args.seats c.loop.entries.items c.args.count c.loop.counter c.loop.rest.now c.in_ok-entry.entry c.in_ok-entry.after.now (entries_from c.args.seats c.args.count c.args.bytes.now) c.loop-test.true c.in_ok-entry.ensures c.loop.invariant)
+    rw c.in-Ok.ensures.items (goes_on c.args.seats c.loop.entries.items c.args.count c.loop.counter c.loop.rest.now c.in_ok-entry.entry c.in_ok-entry.after.now (entries_from c.args.seats c.args.count c.args.bytes.now) c.loop-test.true c.in_ok-entry.ensures c.loop.invariant)
 
 pub returns : goal.returns
 returns c = is_done c.args.seats c.loop.entries.items c.args.count c.loop.counter c.loop.rest.now (entries_from c.args.seats c.args.count c.args.bytes.now) c.loop-test.false c.loop.invariant

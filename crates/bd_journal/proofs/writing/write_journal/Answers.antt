@@ -1,11 +1,9 @@
-use Rattle.std.proofs.Common.{◌++◌, List, ℕ, length, subst}
-use Rattle.std.specs.Prelude.{OnOk, OnErr}
+use Rattle.std.proofs.Common.{◌++◌, List, ℕ, length, ap, subst}
 use Rattle.std.specs.List.{flat_map}
-use Rattle.std.specs.Io.KnownBytes.{Appends}
 use Rattle.bd_space.specs.declared.step.Entry.{Entry}
 use Rattle.bd_journal.specs.Spelling.{heading_bytes, entry_bytes}
 use Rattle.bd_journal.specs.Writing.{Begins}
-use Rattle.bd_journal.proofs.Pieces.{begins_first, sends_then, on_err, ok_of_sends, err_of_sends}
+use Rattle.bd_journal.proofs.Pieces.{begins_first, sends_both, on_err, ok_of_sends, err_of_sends}
 use Rattle.bd_journal.proofs.writing.write_journal.Goals as goal
 
 abbrev parts : ℕ → List Entry → List ℕ
@@ -23,17 +21,10 @@ returns-in_err-send_heading-clause-beginning g c =
 pub returns-clause-ok : goal.returns-clause-ok
 returns-clause-ok g c =
     let at = g.W.Write.contents in
-    let seats = c.args.history.now.seats in
-    let es = c.as_slice-entries.result.now in
-    subst (λ (es : List Entry). OnOk c.send_entries.result (Appends (at c.args.out.now) (at c.send_entries.new.out) (parts seats es))) c.as_slice-entries.ensures
-    (ok_of_sends c.send_entries.result (at c.args.out.now) (at c.send_entries.new.out) (parts seats es)
-    (sends_then c.send_entries.result (at c.args.out.now) (at c.send_heading.new.out) (at c.send_entries.new.out) (heading_bytes seats (length es)) (flat_map entry_bytes es) c.in_ok-send_heading.ensures.sends c.send_entries.ensures.sends))
+    ok_of_sends c.send_entries.result (at c.args.out.now) (at c.send_entries.new.out) _
+    (sends_both c.send_entries.result (at c.args.out.now) (at c.send_heading.new.out) (at c.send_entries.new.out) _ _ _ (ap (parts c.args.history.now.seats) c.as_slice-entries.ensures) c.in_ok-send_heading.ensures.sends c.send_entries.ensures.sends)
 
 pub returns-clause-beginning : goal.returns-clause-beginning
 returns-clause-beginning g c =
-    let at = g.W.Write.contents in
-    let seats = c.args.history.now.seats in
-    let es = c.as_slice-entries.result.now in
-    subst (λ (es : List Entry). OnErr c.send_entries.result (Begins (at c.args.out.now) (at c.send_entries.new.out) (parts seats es))) c.as_slice-entries.ensures
-    (err_of_sends c.send_entries.result (at c.args.out.now) (at c.send_entries.new.out) (parts seats es)
-    (sends_then c.send_entries.result (at c.args.out.now) (at c.send_heading.new.out) (at c.send_entries.new.out) (heading_bytes seats (length es)) (flat_map entry_bytes es) c.in_ok-send_heading.ensures.sends c.send_entries.ensures.sends))
+    err_of_sends c.send_entries.result (g.W.Write.contents c.args.out.now) (g.W.Write.contents c.send_entries.new.out) _
+    (sends_both c.send_entries.result _ (g.W.Write.contents c.send_heading.new.out) _ _ _ _ (ap (parts c.args.history.now.seats) c.as_slice-entries.ensures) c.in_ok-send_heading.ensures.sends c.send_entries.ensures.sends)

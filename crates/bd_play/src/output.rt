@@ -1,0 +1,42 @@
+//! Standard output.
+
+use bd_player::Fault;
+use std::io;
+use std::io::{ErrorKind, Write};
+
+/// A writer that notes whether something couldn't be written.
+#[derive(Drop)]
+pub struct Output<W: Drop> {
+    out: W,
+    failed: bool,
+}
+
+impl<W: Write + Drop> Output<W> {
+    /// Writes here.
+    pub fn new(out: W) -> Output<W> {
+        Output { out, failed: false }
+    }
+
+    /// Writes what is kept back. Whether everything could be written.
+    pub fn end(&mut self) -> Result<(), Fault> {
+        if self.out.flush().is_err() || self.failed {
+            return Err(Fault::Output);
+        }
+        Ok(())
+    }
+}
+
+impl<W: Write + Drop> Write for Output<W> {
+    fn write(&mut self, buf: &[u8]) -> io::Result<usize> {
+        let written = self.out.write(buf);
+        if let Err(error) = &written {
+            // What was interrupted is tried again.
+            self.failed |= error.kind() != ErrorKind::Interrupted;
+        }
+        written
+    }
+
+    fn flush(&mut self) -> io::Result<()> {
+        self.out.flush()
+    }
+}
