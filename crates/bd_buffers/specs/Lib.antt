@@ -1,4 +1,5 @@
 pub mod Buffer
+pub mod Holes
 pub mod Window
 pub mod Stands
 pub mod WindowsStand

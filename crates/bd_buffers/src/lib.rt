@@ -2,6 +2,7 @@
 #![tactic(auto)]
 
 mod buffer;
+mod hole;
 mod spans;
 mod window;
 mod windows;
