@@ -7,6 +7,8 @@ use Rattle.std.proofs.lemmas.List.Elements.{All-push}
 use Rattle.std.proofs.lemmas.List.Edits.{length-remove, get_or-remove_below, get_or-remove_above}
 use Rattle.bd_space.specs.declared.space.Buffer.{Buffer}
 use Rattle.bd_buffers.specs.declared.hole.Hole.{Hole}
+use Rattle.bd_buffers.specs.declared.spot.Spot.{Spot}
+use Rattle.bd_buffers.proofs.Listed.{spots_handed}
 use Rattle.bd_buffers.specs.Holes.{IsFreeByte, IsHoles, first_fit, taken, released}
 use Rattle.bd_buffers.specs.Buffer.{IsApart, IsPlaced}
 use Rattle.bd_space.specs.Words.{changed}
@@ -127,9 +129,9 @@ handed_free size q p bs f = (f.0, All-changed p hand_out (λ b. (q < b.start) �
 free_handed : (size q : ℕ) (p : Buffer → Bool) (bs : List Buffer) → IsFreeByte size (changed p hand_out bs) q → IsFreeByte size bs q
 free_handed size q p bs f = (f.0, All-unchanged p hand_out (λ b. (q < b.start) ⊎ (b.start + b.size ≤ q)) (λ b x. x) bs f.1)
 
-pub keeps_handed : (size one_way tail used capacity : ℕ) (p : Buffer → Bool) (bs : List Buffer) (holes : List Hole) → Keeps size one_way bs tail holes used capacity
-    → Keeps size one_way (changed p hand_out bs) tail holes used capacity
-keeps_handed size one_way tail used capacity p bs holes is = record {
+pub keeps_handed : (size one_way tail used capacity : ℕ) (p : Buffer → Bool) (bs : List Buffer) (holes : List Hole) (spots : List Spot) → Keeps size one_way bs tail holes spots used capacity
+    → Keeps size one_way (changed p hand_out bs) tail holes spots used capacity
+keeps_handed size one_way tail used capacity p bs holes spots is = record {
   window = window_handed size p bs is.window;
   free = record {
     spaced = is.free.spaced;
@@ -137,6 +139,7 @@ keeps_handed size one_way tail used capacity p bs holes is = record {
     free = λ q c. handed_free size q p bs (is.free.free q c);
     covered = λ q f. is.free.covered q (free_handed size q p bs f);
   };
+  starts = spots_handed p bs spots is.starts;
   total = is.total ∙ sym (one_way_handed p bs);
   spare = is.spare;
 }

@@ -5,6 +5,7 @@ pub mod Merging
 pub mod Split
 pub mod Made
 pub mod Kept
+pub mod Listed
 pub mod Exact
 pub mod InSpace
 pub mod Order

@@ -5,7 +5,9 @@ use Rattle.bd_uapi.specs.declared.fault.Cause.TheVariants.{NoRoom, OverBudget}
 use Rattle.bd_space.specs.declared.space.Buffer.{Buffer}
 use Rattle.bd_buffers.specs.Buffer.{IsApart, IsPlaced}
 use Rattle.bd_buffers.specs.declared.hole.Hole.{Hole}
+use Rattle.bd_buffers.specs.declared.spot.Spot.{Spot}
 use Rattle.bd_buffers.specs.Holes.{IsHoles}
+use Rattle.bd_buffers.specs.Spots.{AreSpots}
 
 -- n bytes at p are free, in a window of this size with these live buffers
 pub record IsFree (size : ℕ) (buffers : List Buffer) (n p : ℕ) : Type 0 where
@@ -42,15 +44,18 @@ pub record IsWindow (size : ℕ) (buffers : List Buffer) : Type 0 where
   pub apart : AllPairs (λ a b. IsApart b.start b.size a) buffers
   pub budget : IsInBudget size buffers 0
 
--- what a window keeps: what is free are its holes and its tail
-pub record Keeps (size one_way : ℕ) (buffers : List Buffer) (tail : ℕ) (holes : List Hole) (used capacity : ℕ) : Type 0 where
+-- what a window keeps: what is free are its holes and its tail, and each buffer is found by its pointer
+pub record Keeps (size one_way : ℕ) (buffers : List Buffer) (tail : ℕ) (holes : List Hole) (spots : List Spot) (used capacity : ℕ) : Type 0 where
   pub window : IsWindow size buffers
   pub free : IsHoles size buffers tail holes
+  pub starts : AreSpots buffers spots
   pub total : one_way ≡ one_way_size buffers
   pub spare : used ≤ capacity
 
--- a window as contracts see it: its size, its live buffers, oldest first, and how many more it has room to note
+-- a window as contracts see it: its size, its live buffers, oldest first, what they leave free, and how many more it has room to note
 pub record WindowView : Type 0 where
   pub size : ℕ
   pub buffers : List Buffer
+  pub holes : List Hole
+  pub tail : ℕ
   pub room : ℕ

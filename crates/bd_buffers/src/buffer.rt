@@ -25,13 +25,6 @@ pub fn pointer_of(b: &Buffer) -> u64
     FIRST_POINTER + u64::from(b.start)
 }
 
-/// Whether the receiver knows a buffer by a pointer.
-pub fn is_at(b: &Buffer, pointer: u64) -> bool
-    ensures { result ≡ spec.at_pointer pointer b.now }
-{
-    pointer_of(b) == pointer
-}
-
 /// What a buffer adds to the one-way ones.
 pub fn one_way_share(b: &Buffer) -> u32
     ensures { result ≡ spec.one_way_share b.now }

@@ -5,7 +5,7 @@ ghost use Rattle.std.specs.List.Sorted.{IsNonDecreasingBy, IsPartitionPoint};
 ghost use Rattle.bd_buffers.specs.Holes as free;
 
 // A free span that ends where a buffer begins.
-#[derive(Clone, Copy, Debug, PartialEq, Eq)]
+#[derive(Clone, Copy)]
 pub(crate) struct Hole {
     pub(crate) start: u32,
     pub(crate) end: u32,

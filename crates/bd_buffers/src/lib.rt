@@ -4,6 +4,7 @@
 mod buffer;
 mod hole;
 mod spans;
+mod spot;
 mod window;
 mod windows;
 

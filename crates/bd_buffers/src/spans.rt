@@ -5,8 +5,9 @@ ghost use Rattle.bd_space.specs.declared.space.Buffer.{Buffer};
 ghost use Rattle.bd_space.specs.Freeing.{is_made_at};
 ghost use Rattle.bd_space.specs.Returns.{buffer_in};
 ghost use Rattle.bd_buffers.specs.Buffer.{at_pointer};
+ghost use Rattle.bd_buffers.specs.Spots.{AreSpots};
 
-use crate::buffer::is_at;
+use crate::spot::{Spot, made_from};
 use bd_space::Buffer;
 
 /// The index of the buffer made there.
@@ -36,8 +37,13 @@ pub fn made_at(buffers: &[Buffer], made: u32) -> Option<&Buffer>
 }
 
 /// The buffer at a pointer.
-pub fn at(buffers: &[Buffer], pointer: u64) -> Option<&Buffer>
+pub(crate) fn at<'a>(buffers: &'a [Buffer], spots: &[Spot], pointer: u64) -> Option<&'a Buffer>
+    requires order { AllPairs (λ a b. a.made < b.made) buffers.now }
+    requires listed { AreSpots buffers.now spots.now }
     ensures { option_copied result ≡ find (at_pointer pointer) buffers.now }
 {
-    buffers.iter().find(|b| is_at(b, pointer))
+    match made_from(spots, pointer) {
+        None => None,
+        Some(made) => made_at(buffers, made),
+    }
 }

@@ -8,9 +8,10 @@ ghost use Rattle.bd_space.specs.Freeing.{is_made_at};
 ghost use Rattle.bd_space.specs.ReadItems.{hand_out};
 ghost use Rattle.bd_space.specs.Returns.{buffer_in};
 
-use crate::buffer::{needed, one_way_share};
+use crate::buffer::{needed, one_way_share, pointer_of};
 use crate::hole::{Hole, first_place, give_back, take};
 use crate::spans;
+use crate::spot::{Spot, forget, note};
 use bd_space::Buffer;
 use bd_uapi::Cause;
 use std::alloc::{AllocError, Global};
@@ -25,6 +26,8 @@ pub struct Window {
     one_way: u32,
     // In the order in which they were made.
     buffers: Vec<Buffer>,
+    // The pointers of the buffers, in order.
+    spots: Vec<Spot>,
     // What is free between the buffers, in order of place. No two holes touch.
     holes: Vec<Hole>,
     // Where the last buffer ends. All is free from there on.
@@ -40,18 +43,21 @@ impl Model for Window {
     ghost view = { λ w. record {
       size = w.size;
       buffers = w.buffers.items;
-      room = min (vec_capacity w.buffers - vec_len w.buffers)
+      holes = w.holes.items;
+      tail = w.tail;
+      room = min (min (vec_capacity w.buffers - vec_len w.buffers) (vec_capacity w.spots - vec_len w.spots))
           (vec_capacity w.holes - (vec_len w.holes + vec_len w.buffers));
     } };
 
     // A buffer pays for the hole that it leaves, so that its end takes no memory.
-    ghost invariant = { λ w. Keeps w.size w.one_way w.buffers.items w.tail w.holes.items
+    ghost invariant = { λ w. Keeps w.size w.one_way w.buffers.items w.tail w.holes.items w.spots.items
         (vec_len w.holes + vec_len w.buffers) (vec_capacity w.holes) };
 }
 
 impl Window {
     ghost use Rattle.bd_buffers.specs.Buffer.{IsPlaced, at_pointer};
     ghost use Rattle.bd_buffers.specs.Window.{IsLeastFree, IsInBudget, Refuses, IsWindow};
+    ghost use Rattle.bd_buffers.specs.Holes.{IsHoles};
     ghost use Rattle.bd_buffers.specs.Stands.{Stands, CanHold, WindowTells, WindowMakes, Uses, UsesNothing, AnswersBy};
 
     /// An empty window of a size in bytes, a multiple of 8 of at most 4194304. Takes no memory.
@@ -64,6 +70,7 @@ impl Window {
             size,
             one_way: 0,
             buffers: Vec::new(alloc),
+            spots: Vec::new(alloc),
             holes: Vec::new(alloc),
             tail: 0,
         })
@@ -142,6 +149,7 @@ impl Window {
         ensures grown { OnErr result (self.old.room ≡ 0) }
     {
         self.buffers.reserve(1)?;
+        self.spots.reserve(1)?;
         self.holes.reserve(self.buffers.len() + 1)
     }
 
@@ -166,6 +174,7 @@ impl Window {
     {
         let tail = take(&mut self.holes, self.tail, buffer.start, buffer.size);
         let share = one_way_share(&buffer);
+        note(&mut self.spots, pointer_of(&buffer), buffer.made);
         self.tail = tail;
         self.one_way += share;
         self.buffers.push_reserved(buffer);
@@ -184,7 +193,7 @@ impl Window {
         ensures found { WindowTells (Stands self.now) (option_copied result) (λ size bs. find (at_pointer pointer) bs) }
         ensures placed { IfSome result (λ b. IsPlaced 4194304 b.now) }
     {
-        spans::at(&self.buffers, pointer)
+        spans::at(&self.buffers, &self.spots, pointer)
     }
 
     // Ends the buffer at an index.
@@ -198,6 +207,7 @@ impl Window {
         let end = buffer.start + buffer.size;
         let tail = give_back(&mut self.holes, self.tail, buffer.start, end);
         let share = one_way_share(&buffer);
+        forget(&mut self.spots, pointer_of(&buffer));
         self.tail = tail;
         self.one_way -= share;
     }
@@ -240,9 +250,12 @@ impl Window {
     }
 
     /// What is so of every window: no two live buffers meet, each lies inside and is as large as its data and
-    /// offsets need, and the one-way ones take at most half of the window.
+    /// offsets need, and the one-way ones take at most half of the window. Its holes and its tail are what no buffer
+    /// spans.
     pub fn check(&self)
-        ensures { (size : ℕ) (bs : List Buffer) → Stands self.now size bs → IsWindow size bs }
+        ensures window { (size : ℕ) (bs : List Buffer) → Stands self.now size bs → IsWindow size bs }
+        ensures holes { (size : ℕ) (bs : List Buffer) → Stands self.now size bs
+            → IsHoles size bs self.now.tail self.now.holes }
     {
         let _size = self.size;
     }

@@ -1,8 +1,10 @@
-use Rattle.std.proofs.Common.{◌≡◌, ◌<◌, ◌∙◌, ap, arith, length, get_or}
+use Rattle.std.proofs.Common.{sym, ◌≡◌, ◌<◌, ◌∙◌, ap, arith, length, get_or}
 use Rattle.std.proofs.lemmas.List.{get_or_default}
 use Rattle.bd_space.specs.declared.space.Buffer.{Buffer}
 use Rattle.bd_buffers.specs.Buffer.{one_way_share}
 use Rattle.bd_buffers.proofs.Exact.{holes_released}
+use Rattle.bd_buffers.proofs.Listed.{spots_forgotten}
+use Rattle.bd_space.specs.Freeing.{pointer}
 use Rattle.bd_buffers.proofs.Kept.{window_removed, one_way_removed}
 use Rattle.bd_buffers.proofs.window.Window.end_at.Goals as goal
 
@@ -30,6 +32,7 @@ invariant_of-self c =
     rw (c.remove-buffer.ensures.items, c.give_back-tail.ensures.holes, c.give_back-tail.ensures.tail) (record {
       window = window_removed w.size c.args.i w.buffers.items b c.self.invariant.window lt;
       free = holes_released w.size w.tail c.args.i w.buffers.items w.holes.items b c.self.invariant.window c.self.invariant.free lt at;
+      starts = spots_forgotten w.size c.args.i c.pointer_of.result w.buffers.items w.spots.items c.forget.new.spots.items c.self.invariant.starts c.self.invariant.window lt (λ d. ap pointer (sym (at d)) ∙ sym c.pointer_of.ensures) c.forget.ensures.left;
       total = omega (arith, left, total, share, own);
       spare = omega (arith, c.remove-buffer.ensures.len, c.remove-buffer.ensures.capacity, c.give_back-tail.ensures.len, c.give_back-tail.ensures.capacity, c.self.invariant.spare);
     })

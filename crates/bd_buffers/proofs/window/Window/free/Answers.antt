@@ -3,7 +3,7 @@ use Rattle.std.specs.Prelude.{filter, not, remove}
 use Rattle.bd_space.specs.declared.space.Buffer.{Buffer}
 use Rattle.bd_space.specs.Freeing.{is_made_at}
 use Rattle.bd_buffers.specs.declared.window.Window.{Window}
-use Rattle.bd_buffers.proofs.Made.{filter_at, filter_none}
+use Rattle.bd_buffers.proofs.Made.{distinct, filter_at, filter_none}
 use Rattle.bd_buffers.proofs.window.Window.free.Goals as goal
 
 pub returns-in-Some-clause-stands : goal.returns-in-Some-clause-stands
@@ -17,7 +17,7 @@ returns-in-Some-clause-stands c = λ size bs is.
       size_is = c.end_at.ensures.size ∙ is.size_is;
       buffers_are = c.end_at.ensures.left
           ∙ ap (λ (v : Window). remove v.buffers c.in-Some.i) (sym c.self.view_is)
-          ∙ sym (filter_at (λ (b : Buffer). b.made) made w.buffers.items c.in-Some.i c.self.invariant.window.in_order lt at)
+          ∙ sym (filter_at (λ (b : Buffer). b.made) made w.buffers.items c.in-Some.i (distinct (λ (b : Buffer). b.made) w.buffers.items c.self.invariant.window.in_order) lt at)
           ∙ ap (filter (λ (b : Buffer). not (is_made_at made b))) live;
     }
 
