@@ -5,7 +5,7 @@ use Rattle.std.specs.List.{position, position_or_len}
 use Rattle.bd_uapi.specs.declared.fault.Cause.{Cause}
 use Rattle.std.proofs.lemmas.Bool.{false≢true, eqb-true}
 use Rattle.std.proofs.lemmas.List.{map_push, map-set, get_or-map, length-map}
-use Rattle.std.proofs.lemmas.List.Elements.{All-head, All-tail}
+use Rattle.std.proofs.lemmas.List.Elements.{All-head, All-tail, All-filter}
 use Rattle.std.proofs.lemmas.List.Folds.{find-set}
 use Rattle.std.proofs.lemmas.List.Sums.{position_or_len_is}
 use Rattle.std.proofs.lemmas.List.Quantifiers.{position-Some}
@@ -144,6 +144,18 @@ owned : (t : Windows) (bound p : ℕ) (ps : List Process) (bs : List Buffer) →
     → option_map seen (find (is_owned_by p) t.windows.items) ≡ option_map (window_of bs) (process_in ps p)
 owned t bound p ps bs stands =
     sym (find_map seen (is_of p) t.windows.items) ∙ ap (find (is_of p)) stands.windows_are ∙ find_map (window_of bs) (is_of p) ps
+
+-- its live buffers were all made before the step
+pub older : (t : Windows) (bound p : ℕ) (ps : List Process) (bs : List Buffer) (w : OwnedWindow) → WindowsOf t bound ps bs → find (is_owned_by p) t.windows.items ≡ Some w
+    → All (λ b. b.made < bound) w.window.buffers
+older t bound p ps bs w stands found = by_process (process_in ps p) (sym (ap (option_map seen) found) ∙ owned t bound p ps bs stands)
+  where
+    by_process : (o : Option Process) → Some (seen w) ≡ option_map (window_of bs) o → All (λ b. b.made < bound) w.window.buffers
+    by_process None e = cc
+    by_process (Some q) e =
+        let same : seen w ≡ window_of bs q = cc in
+        let P : List Buffer → Type 0 = λ xs. All (λ b. b.made < bound) xs in
+        subst P (sym (ap (λ (x : ProcessWindow). x.buffers) same)) (All-filter (λ b. b.receiver == q.made) (λ b. b.made < bound) bs stands.made.buffers_before)
 
 -- the window of a live process is found
 pub owner_found : (t : Windows) (bound p : ℕ) (ps : List Process) (bs : List Buffer) (q : Process) (w : OwnedWindow) → WindowsOf t bound ps bs

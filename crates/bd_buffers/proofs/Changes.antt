@@ -1,8 +1,9 @@
 -- Lists with some elements changed or left out.
-use Rattle.std.proofs.Common.{◌≡◌, zero, suc, Bool, true, false, cond, List, [], ◌∷◌, refl, ap, sym, ◌∙◌, arith, All, subst}
-use Rattle.std.specs.Prelude.{AllPairs, find, Some, None}
+use Rattle.std.proofs.Common.{◌≡◌, ℕ, zero, suc, ◌+◌, ◌<◌, length, inl, inr, Bool, true, false, cond, List, [], ◌∷◌, refl, ap, sym, ◌∙◌, arith, All, subst}
+use Rattle.std.specs.Prelude.{AllPairs, find, remove, Some, None}
 use Rattle.std.proofs.lemmas.List.Elements.{All-cons, All-head, All-tail}
-use Rattle.std.specs.List.{items_where_true}
+use Rattle.std.proofs.lemmas.Bool.{cases_lt}
+use Rattle.std.proofs.lemmas.List.Edits.{length-remove, get_or-remove_below, get_or-remove_above}
 use Rattle.bd_space.specs.Words.{changed}
 
 -- what each element keeps where those that pass are changed
@@ -12,13 +13,27 @@ All-changed p f P k (x ∷ xs) all =
     let head : P (cond (p x) (f x) x) = elim (p x) as (λ b. P (cond b (f x) x)) [ true ↦ k x (All-head P x xs all) | false ↦ All-head P x xs all ] in
     All-cons P (cond (p x) (f x) x) (changed p f xs) head (All-changed p f P k xs (All-tail P x xs all))
 
--- ---- what is left where some elements go
+-- and what each has had
+pub All-unchanged : {A : Type 0} (p : A → Bool) (f : A → A) (P : A → Type 0) → ((x : A) → P (f x) → P x) → (xs : List A) → All P (changed p f xs) → All P xs
+All-unchanged p f P k [] all = all
+All-unchanged p f P k (x ∷ xs) all =
+    let first = All-head P (cond (p x) (f x) x) (changed p f xs) all in
+    let head : P x = before p f P k x (p x) first in
+    All-cons P x xs head (All-unchanged p f P k xs (All-tail P (cond (p x) (f x) x) (changed p f xs) all))
+  where
+    before : {A : Type 0} (p : A → Bool) (f : A → A) (P : A → Type 0) → ((x : A) → P (f x) → P x) → (x : A) (b : Bool) → P (cond b (f x) x) → P x
+    before p f P k x true h = k x h
+    before p f P k x false h = h
 
-pub All-picked : {A : Type 0} (P : A → Type 0) (bs : List Bool) (xs : List A) → All P xs → All P (items_where_true bs xs)
-All-picked P [] xs all = λ k d h. absurd (omega arith)
-All-picked P (b ∷ bs) [] all = all
-All-picked P (true ∷ bs) (x ∷ xs) all = All-cons P x (items_where_true bs xs) (All-head P x xs all) (All-picked P bs xs (All-tail P x xs all))
-All-picked P (false ∷ bs) (x ∷ xs) all = All-picked P bs xs (All-tail P x xs all)
+-- what each has of those left where one goes
+pub All-removed : {A : Type 0} (P : A → Type 0) (xs : List A) (i : ℕ) → i < length xs → All P xs → All P (remove xs i)
+All-removed P xs i lt all k d within =
+    elim (cases_lt k i) [
+      | inl before ↦ rw (get_or-remove_below xs i d k before lt) (all k d (omega (arith, length-remove xs i lt)))
+      | inr ge ↦ rw (get_or-remove_above xs i d k ge lt) (all (k + 1) d (omega (arith, length-remove xs i lt)))
+    ]
+
+-- ---- what is found
 
 first_found : {A : Type 0} (P : A → Type 0) (q : A → Bool) (y : A) (xs : List A) (x : A) (b : Bool) → q y ≡ b
     → (find q xs ≡ Some x → All P xs → P x × (q x ≡ true)) → All P (y ∷ xs) → cond b (Some y) (find q xs) ≡ Some x → P x × (q x ≡ true)
@@ -53,13 +68,6 @@ module _ {A : Type 0} (R : A → A → Type 0) where
   pairs_cons x xs all pairs zero (suc j) d lt h = all j d (omega arith)
   pairs_cons x xs all pairs (suc i) zero d lt h = absurd (omega arith)
   pairs_cons x xs all pairs (suc i) (suc j) d lt h = pairs i j d (omega arith) (omega arith)
-
-  pub pairs_picked : (bs : List Bool) (xs : List A) → AllPairs R xs → AllPairs R (items_where_true bs xs)
-  pairs_picked [] xs pairs = λ i j d lt h. absurd (omega arith)
-  pairs_picked (b ∷ bs) [] pairs = pairs
-  pairs_picked (true ∷ bs) (x ∷ xs) pairs =
-      pairs_cons x (items_where_true bs xs) (All-picked (R x) bs xs (pairs_head x xs pairs)) (pairs_picked bs xs (pairs_tail x xs pairs))
-  pairs_picked (false ∷ bs) (x ∷ xs) pairs = pairs_picked bs xs (pairs_tail x xs pairs)
 
   pub pairs_changed : (p : A → Bool) (f : A → A) → ((x y : A) → R x y → R (f x) y) → ((x y : A) → R x y → R x (f y)) → (xs : List A) → AllPairs R xs → AllPairs R (changed p f xs)
   pairs_changed p f left right [] pairs = pairs

@@ -1,32 +1,38 @@
 -- What a window keeps through each change.
-use Rattle.std.proofs.Common.{◌≡◌, ℕ, ◌+◌, ◌%◌, ◌≤◌, Bool, true, false, cond, List, [], ◌∷◌, ◌++◌, length, refl, ap, sym, ◌∙◌, arith, subst}
-use Rattle.std.specs.Prelude.{Ok, Option, Some, None, IsTrue, IfSome, filter, find, option_copied}
+use Rattle.std.proofs.Common.{◌≡◌, ℕ, zero, suc, ◌+◌, ◌%◌, ◌<◌, ◌≤◌, Bool, true, false, cond, List, [], ◌∷◌, ◌++◌, length, get_or, refl, ap, sym, ◌∙◌, arith, All}
+use Rattle.std.specs.Prelude.{Ok, Option, Some, None, IsTrue, IfSome, filter, find, remove, option_copied}
 use denote.Ref.{Bor}
 use Rattle.std.proofs.lemmas.List.Elements.{All-push}
-use Rattle.std.proofs.lemmas.List.Quantifiers.{all_pairs_push}
+use Rattle.std.proofs.lemmas.List.Quantifiers.{all_pairs_push, all_pairs_remove}
 use Rattle.std.proofs.lemmas.List.Sums.{sum_by-cons}
-use Rattle.std.specs.List.{items_where_true}
-use Rattle.std.specs.List.Retain.{IsFiltered}
 use Rattle.bd_space.specs.declared.space.Buffer.{Buffer}
 use Rattle.bd_space.specs.Words.{changed}
 use Rattle.bd_space.specs.Windows.{needed, start_for}
 use Rattle.bd_space.specs.ReadItems.{hand_out}
-use Rattle.bd_buffers.specs.Buffer.{IsApart, IsPlaced}
+use Rattle.bd_buffers.specs.Buffer.{IsApart, IsPlaced, one_way_share}
 use Rattle.bd_buffers.specs.Window.{IsInBudget, IsWindow, one_way_size}
-use Rattle.bd_buffers.proofs.Changes.{All-changed, All-picked, pairs_picked, pairs_changed, found_has}
+use Rattle.bd_buffers.proofs.Changes.{All-changed, All-removed, pairs_changed, found_has}
 use Rattle.bd_buffers.proofs.Places.{given_says}
 
 -- ---- the one-way sizes
 
 -- what a buffer adds
-abbrev share : Bool → ℕ → ℕ
+abbrev pub share : Bool → ℕ → ℕ
 share one_way n = cond one_way n 0
+
+share_within : (b : Buffer) (one_way : Bool) → share one_way b.size ≤ b.size
+share_within b true = omega arith
+share_within b false = omega arith
+
+-- no more than the buffer takes
+pub one_way_within : (b : Buffer) → one_way_share b ≤ b.size
+one_way_within b = share_within b b.one_way
 
 one_way_cons : (b : Buffer) (bs : List Buffer) (one_way : Bool) → b.one_way ≡ one_way → one_way_size (b ∷ bs) ≡ share one_way b.size + one_way_size bs
 one_way_cons b bs true e = rw e (sum_by-cons (λ (x : Buffer). x.size) b (filter (λ x. x.one_way) bs))
 one_way_cons b bs false e = rw e (omega arith)
 
-one_way_push : (bs : List Buffer) (b : Buffer) → one_way_size (bs ++ b ∷ []) ≡ one_way_size bs + share b.one_way b.size
+pub one_way_push : (bs : List Buffer) (b : Buffer) → one_way_size (bs ++ b ∷ []) ≡ one_way_size bs + share b.one_way b.size
 one_way_push [] b =
     let alone = one_way_cons b [] b.one_way refl in
     omega arith
@@ -36,20 +42,7 @@ one_way_push (x ∷ bs) b =
     let one = one_way_cons x bs x.one_way refl in
     omega arith
 
-one_way_picked : (keep : List Bool) (bs : List Buffer) → one_way_size (items_where_true keep bs) ≤ one_way_size bs
-one_way_picked [] bs = omega arith
-one_way_picked (k ∷ keep) [] = omega arith
-one_way_picked (true ∷ keep) (x ∷ bs) =
-    let rest = one_way_picked keep bs in
-    let one = one_way_cons x bs x.one_way refl in
-    let both = one_way_cons x (items_where_true keep bs) x.one_way refl in
-    omega arith
-one_way_picked (false ∷ keep) (x ∷ bs) =
-    let rest = one_way_picked keep bs in
-    let one = one_way_cons x bs x.one_way refl in
-    omega arith
-
-one_way_handed : (p : Buffer → Bool) (bs : List Buffer) → one_way_size (changed p hand_out bs) ≡ one_way_size bs
+pub one_way_handed : (p : Buffer → Bool) (bs : List Buffer) → one_way_size (changed p hand_out bs) ≡ one_way_size bs
 one_way_handed p [] = refl
 one_way_handed p (x ∷ bs) =
     let rest = one_way_handed p bs in
@@ -64,6 +57,7 @@ pub window_empty : (size : ℕ) → size % 8 ≡ 0 → size ≤ 4194304 → IsWi
 window_empty size whole small = record {
   whole = whole;
   small = small;
+  in_order = λ i j d lt h. absurd (omega arith);
   placed = λ k d h. absurd (omega arith);
   apart = λ i j d lt h. absurd (omega arith);
   budget = omega arith;
@@ -82,36 +76,42 @@ in_budget size bs b false e old more =
     let sum = one_way_push bs b ∙ ap (λ o. one_way_size bs + share o b.size) e in
     omega (arith, sum, old)
 
-pub window_push : (size : ℕ) (bs : List Buffer) (b : Buffer) → IsWindow size bs → b.size ≡ needed (length b.bytes) (length b.offsets)
+pub window_push : (size : ℕ) (bs : List Buffer) (b : Buffer) → IsWindow size bs → All (λ x. x.made < b.made) bs → b.size ≡ needed (length b.bytes) (length b.offsets)
     → start_for size bs b.one_way b.size ≡ Ok b.start → IsWindow size (bs ++ b ∷ [])
-window_push size bs b is sized place =
+window_push size bs b is newest sized place =
     let given = given_says size bs b.one_way b.size b.start place in
     let room = given.least.room in
     record {
       whole = is.whole;
       small = is.small;
+      in_order = all_pairs_push (λ x y. x.made < y.made) bs b is.in_order newest;
       placed = All-push (IsPlaced size) bs b is.placed (placed size b room.aligned sized room.inside);
       apart = all_pairs_push (λ x y. IsApart y.start y.size x) bs b is.apart room.free;
       budget = in_budget size bs b b.one_way refl is.budget given.budget;
     }
 
-window_picked : (size : ℕ) (keep : List Bool) (bs : List Buffer) → IsWindow size bs → IsWindow size (items_where_true keep bs)
-window_picked size keep bs is =
-    let less = one_way_picked keep bs in
+pub one_way_removed : (bs : List Buffer) (i : ℕ) (d : Buffer) → i < length bs → one_way_size (remove bs i) + share (get_or bs i d).one_way (get_or bs i d).size ≡ one_way_size bs
+one_way_removed [] i d lt = absurd (omega arith)
+one_way_removed (x ∷ bs) zero d lt = let one = one_way_cons x bs x.one_way refl in omega (arith, one)
+one_way_removed (x ∷ bs) (suc i) d lt =
+    let rest = one_way_removed bs i d (omega arith) in
+    let one = one_way_cons x bs x.one_way refl in
+    let both = one_way_cons x (remove bs i) x.one_way refl in
+    omega (arith, rest, one, both)
+
+-- where one buffer ends
+pub window_removed : (size i : ℕ) (bs : List Buffer) (d : Buffer) → IsWindow size bs → i < length bs → IsWindow size (remove bs i)
+window_removed size i bs d is lt =
+    let less = one_way_removed bs i d lt in
     let old = is.budget in
     record {
       whole = is.whole;
       small = is.small;
-      placed = All-picked (IsPlaced size) keep bs is.placed;
-      apart = pairs_picked (λ x y. IsApart y.start y.size x) keep bs is.apart;
+      in_order = all_pairs_remove (λ x y. x.made < y.made) bs i lt is.in_order;
+      placed = All-removed (IsPlaced size) bs i lt is.placed;
+      apart = all_pairs_remove (λ x y. IsApart y.start y.size x) bs i lt is.apart;
       budget = omega (arith, less, old);
     }
-
--- whatever a `retain` leaves
-pub window_retained : {F : Type 0} (R : F → Buffer → Bool → F → Type 0) (f : F) (size : ℕ) (bs left : List Buffer) → IsFiltered R f bs left → IsWindow size bs → IsWindow size left
-window_retained R f size bs left filtered is =
-    let P : List Buffer → Type 0 = λ xs. IsWindow size xs in
-    subst P (sym filtered.4) (window_picked size filtered.0 bs is)
 
 handed_placed : (size : ℕ) (b : Buffer) → IsPlaced size b → IsPlaced size (hand_out b)
 handed_placed size b is =
@@ -125,6 +125,7 @@ window_handed size p bs is =
       whole = is.whole;
       small = is.small;
       placed = All-changed p hand_out (IsPlaced size) (handed_placed size) bs is.placed;
+      in_order = pairs_changed (λ x y. x.made < y.made) p hand_out (λ x y lt. lt) (λ x y lt. lt) bs is.in_order;
       apart = pairs_changed (λ x y. IsApart y.start y.size x) p hand_out (λ x y apart. apart) (λ x y apart. apart) bs is.apart;
       budget = omega (arith, same, old);
     }

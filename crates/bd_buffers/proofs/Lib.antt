@@ -1,6 +1,12 @@
 pub mod Changes
 pub mod Places
+pub mod Fits
+pub mod Merging
+pub mod Split
+pub mod Made
 pub mod Kept
+pub mod Listed
+pub mod Exact
 pub mod InSpace
 pub mod Order
 pub mod AllWindows

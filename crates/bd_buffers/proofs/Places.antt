@@ -1,6 +1,6 @@
 -- The least place that fits.
 use Rattle.std.proofs.Common.{subst, ◌≡◌, ℕ, zero, suc, ◌+◌, ◌*◌, ◌/◌, ◌%◌, ◌<◌, ◌≤◌, Bool, true, false, List, refl, ap, sym, ◌∙◌, arith, inl, inr, rules, tests, nat_le}
-use Rattle.std.specs.Prelude.{Option, Some, None, Result, Ok, Err, option_map, find, not, ◌&&◌, IsTrue, IfOk, IfErr}
+use Rattle.std.specs.Prelude.{Option, Some, None, Result, Ok, Err, option_map, ◌&&◌, IsTrue, IfOk, IfErr}
 use Rattle.std.specs.List.{list_all}
 use Rattle.std.proofs.lemmas.List.Sums.{AllPass-from_list_all, list_all-from_AllPass}
 use Rattle.std.proofs.lemmas.List.Elements.{All-weaker}
@@ -10,9 +10,8 @@ use Rattle.bd_uapi.specs.declared.fault.Cause.TheVariants.{NoRoom, OverBudget}
 use Rattle.bd_space.specs.declared.space.Buffer.{Buffer}
 use Rattle.bd_space.specs.Words.{least, when, found_or, unless, and_then}
 use Rattle.bd_space.specs.Windows.{is_apart, fits_in, start_in, over_budget_in, start_for, needed}
-use Rattle.bd_buffers.specs.Buffer.{IsApart, IsPlaced}
-use Rattle.bd_buffers.specs.Window.{IsFree, IsLeastFree, IsInBudget, Refuses, IsWindow, one_way_size}
-use Rattle.bd_buffers.proofs.Changes.{found_has, none_found}
+use Rattle.bd_buffers.specs.Buffer.{IsApart}
+use Rattle.bd_buffers.specs.Window.{IsFree, IsLeastFree, IsInBudget, Refuses, one_way_size}
 
 -- ---- the least number that passes
 
@@ -241,62 +240,6 @@ pub too_large : (size : ℕ) (buffers : List Buffer) (one_way : Bool) (n : ℕ) 
 unfolding start_for
 too_large size buffers one_way n large =
     rw (no_start_at size buffers n (λ p room. let inside : p + n ≤ size = room.inside in omega arith)) refl
-
--- ---- the search past the buffers that are in the way
-
-is_true : (b : Bool) → not b ≡ false → b ≡ true
-is_true true e = refl
-is_true false e = cc
-
-is_false : (b : Bool) → not b ≡ true → b ≡ false
-is_false true e = cc
-is_false false e = refl
-
--- nothing is in the way at p, and nothing lower has room
-pub none_in_way : (size : ℕ) (buffers : List Buffer) (n p : ℕ) → 8 ≤ n → p % 8 ≡ 0 → p + n ≤ size → ((q : ℕ) → IsFree size buffers n q → p ≤ q)
-    → None ≡ find (λ b. not (is_apart p n b)) buffers → Some p ≡ start_in size buffers n
-none_in_way size buffers n p filled aligned inside lower none =
-    let apart = λ (b : Buffer) (e : not (is_apart p n b) ≡ false). apart_is p n b (is_true (is_apart p n b) e) in
-    let free = All-weaker (λ b. not (is_apart p n b) ≡ false) (IsApart p n) apart buffers (none_found (λ b. not (is_apart p n b)) buffers (sym none)) in
-    sym (start_at size buffers n p filled (record { room = record { aligned = aligned; inside = inside; free = free }; least = lower }))
-
--- a buffer that is in the way of n bytes at p, and the first place past it
-pub record IsInWay (size : ℕ) (buffers : List Buffer) (n p : ℕ) (b : Buffer) : Type 0 where
-  pub begins : b.start < p + n
-  pub ends : p < b.start + b.size
-  pub inside : b.start + b.size ≤ size
-  pub aligned : (b.start + b.size) % 8 ≡ 0
-  pub next : ((q : ℕ) → IsFree size buffers n q → p ≤ q) → (q : ℕ) → IsFree size buffers n q → b.start + b.size ≤ q
-
-meets : (p n : ℕ) (b : Buffer) → is_apart p n b ≡ false → (b.start < p + n) × (p < b.start + b.size)
-meets p n b e = search (rules, tests)
-
-past : (p n q : ℕ) (b : Buffer) → b.start < p + n → p ≤ q → IsApart q n b → b.start + b.size ≤ q
-past p n q b meets above (inl before) = absurd (omega arith)
-past p n q b meets above (inr after) = after
-
-end_aligned : (size : ℕ) (b : Buffer) → IsPlaced size b → (b.start + b.size) % 8 ≡ 0
-end_aligned size b is =
-    let aligned = is.aligned in
-    let sized = is.sized in
-    omega arith
-
-pub in_way : (size : ℕ) (buffers : List Buffer) (n p : ℕ) (b : Buffer) → IsWindow size buffers → Some b ≡ find (λ b. not (is_apart p n b)) buffers → IsInWay size buffers n p b
-in_way size buffers n p b is found =
-    let has = found_has (IsPlaced size) (λ b. not (is_apart p n b)) buffers b (sym found) is.placed in
-    let met = meets p n b (is_false (is_apart p n b) has.1) in
-    record {
-      begins = met.0;
-      ends = met.1;
-      inside = has.0.inside;
-      aligned = end_aligned size b has.0;
-      next = λ lower q room. past p n q b met.0 (lower q room) (found_has (IsApart q n) (λ b. not (is_apart p n b)) buffers b (sym found) room.free).0;
-    }
-
--- there is no room past the last place that n bytes fit at
-pub none_left : (size : ℕ) (buffers : List Buffer) (n p : ℕ) → size < p + n → ((q : ℕ) → IsFree size buffers n q → p ≤ q) → None ≡ start_in size buffers n
-none_left size buffers n p past lower =
-    sym (no_start_at size buffers n (λ q room. let low = lower q room in let inside : q + n ≤ size = room.inside in omega arith))
 
 -- ---- what the answers of `place` say
 

@@ -24,6 +24,10 @@ pub record IsPlaced (size : ℕ) (b : Buffer) : Type 0 where
 abbrev pub at_pointer : ℕ → Buffer → Bool
 at_pointer ptr b = pointer b == ptr
 
+-- what a buffer adds to the sizes of the one-way ones
+abbrev pub one_way_share : Buffer → ℕ
+one_way_share b = if b.one_way then b.size else 0
+
 -- the place at which a buffer that may be freed was made, or why there is none
 abbrev pub freed_buffer : Option Buffer → Result ℕ Note
 freed_buffer None = Err NoSuchBuffer

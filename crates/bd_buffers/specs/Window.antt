@@ -1,10 +1,13 @@
 -- A window: room for a buffer, the budget of one-way buffers, and what is so of every window.
-use Rattle.std.specs.Prelude.{ℕ, ◌≡◌, ◌+◌, ◌*◌, ◌%◌, ◌<◌, ◌≤◌, ◌==◌, ◌⊎◌, Bool, IsTrue, List, Option, Some, None, Result, Ok, Err, All, AllPairs, find, filter, sum_by, length, if◌then◌else◌}
+use Rattle.std.specs.Prelude.{ℕ, ◌≡◌, ◌+◌, ◌*◌, ◌%◌, ◌<◌, ◌≤◌, Bool, IsTrue, List, All, AllPairs, filter, sum_by}
 use Rattle.bd_uapi.specs.declared.fault.Cause.{Cause}
 use Rattle.bd_uapi.specs.declared.fault.Cause.TheVariants.{NoRoom, OverBudget}
-use Rattle.bd_uapi.specs.declared.fault.Note.{Note}
 use Rattle.bd_space.specs.declared.space.Buffer.{Buffer}
-use Rattle.bd_buffers.specs.Buffer.{IsApart, IsPlaced, at_pointer, freed_buffer}
+use Rattle.bd_buffers.specs.Buffer.{IsApart, IsPlaced}
+use Rattle.bd_buffers.specs.declared.hole.Hole.{Hole}
+use Rattle.bd_buffers.specs.declared.spot.Spot.{Spot}
+use Rattle.bd_buffers.specs.Holes.{IsHoles}
+use Rattle.bd_buffers.specs.Spots.{AreSpots}
 
 -- n bytes at p are free, in a window of this size with these live buffers
 pub record IsFree (size : ℕ) (buffers : List Buffer) (n p : ℕ) : Type 0 where
@@ -36,16 +39,23 @@ Refuses size buffers one_way n _ = ⊥
 pub record IsWindow (size : ℕ) (buffers : List Buffer) : Type 0 where
   pub whole : size % 8 ≡ 0
   pub small : size ≤ 4194304
+  pub in_order : AllPairs (λ a b. a.made < b.made) buffers
   pub placed : All (IsPlaced size) buffers
   pub apart : AllPairs (λ a b. IsApart b.start b.size a) buffers
   pub budget : IsInBudget size buffers 0
 
--- where the buffer at a pointer was made, if it may be freed
-abbrev pub free_check : List Buffer → ℕ → Result ℕ Note
-free_check buffers ptr = freed_buffer (find (at_pointer ptr) buffers)
+-- what a window keeps: what is free are its holes and its tail, and each buffer is found by its pointer
+pub record Keeps (size one_way : ℕ) (buffers : List Buffer) (tail : ℕ) (holes : List Hole) (spots : List Spot) (used capacity : ℕ) : Type 0 where
+  pub window : IsWindow size buffers
+  pub free : IsHoles size buffers tail holes
+  pub starts : AreSpots buffers spots
+  pub total : one_way ≡ one_way_size buffers
+  pub spare : used ≤ capacity
 
--- a window as contracts see it: its size, its live buffers, oldest first, and how many more it has room to note
+-- a window as contracts see it: its size, its live buffers, oldest first, what they leave free, and how many more it has room to note
 pub record WindowView : Type 0 where
   pub size : ℕ
   pub buffers : List Buffer
+  pub holes : List Hole
+  pub tail : ℕ
   pub room : ℕ

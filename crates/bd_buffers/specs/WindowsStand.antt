@@ -1,5 +1,5 @@
 -- What the windows of all live processes stand for.
-use Rattle.std.specs.Prelude.{ℕ, ◌≡◌, ◌+◌, ◌-◌, ◌<◌, ◌≤◌, ◌==◌, Bool, true, List, map, find, length, Option, Some, None, Ok, All, AllPairs, vec_len, vec_capacity}
+use Rattle.std.specs.Prelude.{ℕ, ◌≡◌, ◌+◌, ◌-◌, ◌<◌, ◌==◌, Bool, true, List, map, find, Option, Some, None, Ok, All, AllPairs, vec_len, vec_capacity}
 use Rattle.bd_space.specs.declared.space.Process.{Process}
 use Rattle.bd_space.specs.declared.space.Buffer.{Buffer}
 use Rattle.bd_space.specs.Space.{Space}

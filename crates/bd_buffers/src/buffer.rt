@@ -1,6 +1,6 @@
 //! A buffer: its room, its place and its pointer.
 
-ghost use Rattle.std.specs.Prelude.{◌≡◌, ◌+◌, ◌<◌, ◌^◌, ◌||◌, nat_le, ℕ};
+ghost use Rattle.std.specs.Prelude.{◌≡◌, ◌+◌, ◌<◌, ◌^◌, ℕ};
 ghost use Rattle.bd_space.specs.Windows as room;
 ghost use Rattle.bd_space.specs.Freeing as freeing;
 ghost use Rattle.bd_buffers.specs.Buffer as spec;
@@ -25,31 +25,9 @@ pub fn pointer_of(b: &Buffer) -> u64
     FIRST_POINTER + u64::from(b.start)
 }
 
-/// Whether the receiver knows a buffer by a pointer.
-pub fn is_at(b: &Buffer, pointer: u64) -> bool
-    ensures { result ≡ spec.at_pointer pointer b.now }
+/// What a buffer adds to the one-way ones.
+pub fn one_way_share(b: &Buffer) -> u32
+    ensures { result ≡ spec.one_way_share b.now }
 {
-    pointer_of(b) == pointer
-}
-
-/// Whether a buffer was made there.
-pub fn is_made_at(b: &Buffer, made: u32) -> bool
-    ensures { result ≡ freeing.is_made_at made b.now }
-{
-    b.made == made
-}
-
-// Where a buffer ends.
-fn end_of(b: &Buffer) -> u64
-    ensures { result ≡ b.now.start + b.now.size }
-{
-    u64::from(b.start) + u64::from(b.size)
-}
-
-/// Whether n bytes at p and a buffer have no byte in common.
-pub fn is_apart(b: &Buffer, p: u32, n: u32) -> bool
-    requires { p + n < 2 ^ 32 }
-    ensures { result ≡ room.is_apart p n b.now }
-{
-    p + n <= b.start || end_of(b) <= u64::from(p)
+    if b.one_way { b.size } else { 0 }
 }

@@ -2,7 +2,9 @@
 #![tactic(auto)]
 
 mod buffer;
+mod hole;
 mod spans;
+mod spot;
 mod window;
 mod windows;
 

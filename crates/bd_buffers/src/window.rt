@@ -1,45 +1,63 @@
 //! A window.
 
-ghost use Rattle.std.specs.Prelude.{◌≡◌, ◌+◌, ◌*◌, ◌%◌, ◌≤◌, ◌==◌, [], ◌∷◌, ◌++◌, not, ℕ, Bool, List, length, filter, find, IsTrue, IsOk, IfOk, IfErr, IfSome, OnOk, OnErr, option_map, option_copied, None};
+ghost use Rattle.std.specs.Prelude.{◌≡◌, ◌↔◌, ◌+◌, ◌*◌, ◌%◌, ◌<◌, ◌≤◌, ◌==◌, [], ◌∷◌, ◌++◌, not, ℕ, Bool, List, All, length, filter, find, remove, IsTrue, IsOk, IfOk, IfErr, IfSome, OnOk, OnErr, option_copied};
 ghost use Rattle.bd_space.specs.declared.space.Buffer.{Buffer};
 ghost use Rattle.bd_space.specs.Words.{changed};
-ghost use Rattle.bd_space.specs.Windows.{needed, start_for};
+ghost use Rattle.bd_space.specs.Windows.{needed, start_in, over_budget_in, start_for};
 ghost use Rattle.bd_space.specs.Freeing.{is_made_at};
 ghost use Rattle.bd_space.specs.ReadItems.{hand_out};
 ghost use Rattle.bd_space.specs.Returns.{buffer_in};
 
+use crate::buffer::{needed, one_way_share, pointer_of};
+use crate::hole::{Hole, first_place, give_back, take};
 use crate::spans;
-use bd_space::{Buffer, Bytes};
-use bd_uapi::{Cause, Note};
+use crate::spot::{Spot, forget, note};
+use bd_space::Buffer;
+use bd_uapi::Cause;
 use std::alloc::{AllocError, Global};
 use std::marker::Model;
 
 /// The window of a process: its live buffers, of which no two meet, and of which the one-way ones take at most
-/// half of it.
+/// half of it; and what they leave free.
 #[derive(Drop)]
 pub struct Window {
     size: u32,
+    // The sizes of the one-way buffers together.
+    one_way: u32,
+    // In the order in which they were made.
     buffers: Vec<Buffer>,
+    // The pointers of the buffers, in order.
+    spots: Vec<Spot>,
+    // What is free between the buffers, in order of place. No two holes touch.
+    holes: Vec<Hole>,
+    // Where the last buffer ends. All is free from there on.
+    tail: u32,
 }
 
 impl Model for Window {
-    ghost use Rattle.std.specs.Prelude.{◌-◌, vec_len, vec_capacity};
-    ghost use Rattle.bd_buffers.specs.Window.{WindowView, IsWindow};
+    ghost use Rattle.std.specs.Prelude.{◌-◌, ◌+◌, min, vec_len, vec_capacity};
+    ghost use Rattle.bd_buffers.specs.Window.{WindowView, Keeps};
 
     ghost Value = { WindowView };
 
     ghost view = { λ w. record {
       size = w.size;
       buffers = w.buffers.items;
-      room = vec_capacity w.buffers - vec_len w.buffers;
+      holes = w.holes.items;
+      tail = w.tail;
+      room = min (min (vec_capacity w.buffers - vec_len w.buffers) (vec_capacity w.spots - vec_len w.spots))
+          (vec_capacity w.holes - (vec_len w.holes + vec_len w.buffers));
     } };
 
-    ghost invariant = { λ w. IsWindow w.size w.buffers.items };
+    // A buffer pays for the hole that it leaves, so that its end takes no memory.
+    ghost invariant = { λ w. Keeps w.size w.one_way w.buffers.items w.tail w.holes.items w.spots.items
+        (vec_len w.holes + vec_len w.buffers) (vec_capacity w.holes) };
 }
 
 impl Window {
     ghost use Rattle.bd_buffers.specs.Buffer.{IsPlaced, at_pointer};
-    ghost use Rattle.bd_buffers.specs.Window.{IsLeastFree, IsInBudget, Refuses, IsWindow, free_check};
+    ghost use Rattle.bd_buffers.specs.Window.{IsLeastFree, IsInBudget, Refuses, IsWindow};
+    ghost use Rattle.bd_buffers.specs.Holes.{IsHoles};
     ghost use Rattle.bd_buffers.specs.Stands.{Stands, CanHold, WindowTells, WindowMakes, Uses, UsesNothing, AnswersBy};
 
     /// An empty window of a size in bytes, a multiple of 8 of at most 4194304. Takes no memory.
@@ -50,8 +68,57 @@ impl Window {
     {
         Ok(Window {
             size,
+            one_way: 0,
             buffers: Vec::new(alloc),
+            spots: Vec::new(alloc),
+            holes: Vec::new(alloc),
+            tail: 0,
         })
+    }
+
+    // The least place with room for n bytes.
+    fn least_start(&self, n: u32) -> Option<u32>
+        requires filled { 8 ≤ n }
+        requires small { n ≤ 8388608 }
+        ensures { result ≡ start_in self.now.size self.now.buffers n }
+    {
+        first_place(self.size, self.tail, &self.holes, n)
+    }
+
+    // Whether the one-way buffers and n more bytes would take more than half of the window.
+    #[tactic(auto, unfolding(bd_space::specs::Windows::over_budget_in))]
+    fn is_over_budget(&self, n: u32) -> bool
+        requires small { n ≤ 8388608 }
+        ensures { result ≡ over_budget_in self.now.size self.now.buffers n }
+    {
+        2 * (self.one_way + n) > self.size
+    }
+
+    // The place of a new buffer that takes n bytes.
+    #[tactic(auto, unfolding(bd_space::specs::Windows::start_for))]
+    fn place_of(&self, one_way: bool, n: u32) -> Result<u32, Cause>
+        requires filled { 8 ≤ n }
+        requires small { n ≤ 8388608 }
+        ensures { result ≡ start_for self.now.size self.now.buffers one_way n }
+    {
+        let Some(place) = self.least_start(n) else {
+            return Err(Cause::NoRoom);
+        };
+        if one_way && self.is_over_budget(n) {
+            return Err(Cause::OverBudget);
+        }
+        Ok(place)
+    }
+
+    // The place of a new buffer for data and offsets of these sizes.
+    fn place_for(&self, one_way: bool, data_size: u64, offsets_size: u64) -> Result<u32, Cause>
+        ensures { result ≡ start_for self.now.size self.now.buffers one_way (needed data_size offsets_size) }
+    {
+        let size = u64::from(self.size);
+        if data_size > size || offsets_size > size {
+            return Err(Cause::NoRoom);
+        }
+        self.place_of(one_way, needed(data_size, offsets_size))
     }
 
     /// Where a buffer for data and offsets of these sizes in bytes would begin: at the least multiple of 8 with
@@ -68,7 +135,7 @@ impl Window {
         ensures cause { (size : ℕ) (bs : List Buffer) → Stands self.now size bs
             → IfErr result (λ x. Refuses size bs one_way (needed data_size offsets_size) x) }
     {
-        spans::start_for(self.size, &self.buffers, one_way, data_size, offsets_size)
+        self.place_for(one_way, data_size, offsets_size)
     }
 
     /// Makes room to note one more buffer. The window stays as it was, also on an `Err`.
@@ -81,17 +148,35 @@ impl Window {
         // Memory was asked for: there was no room.
         ensures grown { OnErr result (self.old.room ≡ 0) }
     {
-        self.buffers.reserve(1)
+        self.buffers.reserve(1)?;
+        self.spots.reserve(1)?;
+        self.holes.reserve(self.buffers.len() + 1)
     }
 
-    /// Takes a buffer in, at a place that the window can take it at. Takes no memory.
+    /// Whether all live buffers were made before that place.
+    pub fn is_newest(&self, made: u32) -> bool
+        ensures { IsTrue result ↔ All (λ b. b.made < made) self.now.buffers }
+    {
+        match self.buffers.last() {
+            None => true,
+            Some(b) => b.made < made,
+        }
+    }
+
+    /// Takes the newest buffer in, at a place that the window can take it at. Takes no memory.
     pub fn commit(&mut self, buffer: Buffer)
         requires room { 1 ≤ self.old.room }
+        requires newest { All (λ b. b.made < buffer.made) self.old.buffers }
         requires sized { buffer.size ≡ needed (length buffer.bytes) (length buffer.offsets) }
         requires can_take { CanHold self.old buffer.one_way buffer.size buffer.start }
         ensures stands { WindowMakes (Stands self.old) (Stands self.new) (λ bs. bs ++ buffer ∷ []) }
         ensures room { Uses self.old self.new 1 }
     {
+        let tail = take(&mut self.holes, self.tail, buffer.start, buffer.size);
+        let share = one_way_share(&buffer);
+        note(&mut self.spots, pointer_of(&buffer), buffer.made);
+        self.tail = tail;
+        self.one_way += share;
         self.buffers.push_reserved(buffer);
     }
 
@@ -108,19 +193,23 @@ impl Window {
         ensures found { WindowTells (Stands self.now) (option_copied result) (λ size bs. find (at_pointer pointer) bs) }
         ensures placed { IfSome result (λ b. IsPlaced 4194304 b.now) }
     {
-        spans::at(&self.buffers, pointer)
+        spans::at(&self.buffers, &self.spots, pointer)
     }
 
-    /// Where the buffer at a pointer was made, if the process may free it: there has to be one
-    /// (`NoSuchBuffer`), and it has to be handed out (`NotHandedOut`).
-    pub fn free_check(&self, pointer: u64) -> Result<u32, Note>
-        ensures { WindowTells (Stands self.now) result (λ size bs. free_check bs pointer) }
+    // Ends the buffer at an index.
+    fn end_at(&mut self, i: usize)
+        requires { i < length self.old.buffers }
+        ensures size { self.new.size ≡ self.old.size }
+        ensures left { self.new.buffers ≡ remove self.old.buffers i }
+        ensures room { UsesNothing self.old self.new }
     {
-        match spans::at(&self.buffers, pointer) {
-            None => Err(Note::NoSuchBuffer),
-            Some(b) if b.handed => Ok(b.made),
-            Some(_) => Err(Note::NotHandedOut),
-        }
+        let buffer = self.buffers.remove(i);
+        let end = buffer.start + buffer.size;
+        let tail = give_back(&mut self.holes, self.tail, buffer.start, end);
+        let share = one_way_share(&buffer);
+        forget(&mut self.spots, pointer_of(&buffer));
+        self.tail = tail;
+        self.one_way -= share;
     }
 
     /// Ends the buffer made there.
@@ -128,7 +217,9 @@ impl Window {
         ensures stands { WindowMakes (Stands self.old) (Stands self.new) (filter (λ b. not (is_made_at made b))) }
         ensures room { UsesNothing self.old self.new }
     {
-        spans::end(&mut self.buffers, made);
+        if let Some(i) = spans::index_of(&self.buffers, made) {
+            self.end_at(i);
+        }
     }
 
     /// Marks the buffer made there as handed out.
@@ -136,20 +227,8 @@ impl Window {
         ensures stands { WindowMakes (Stands self.old) (Stands self.new) (changed (is_made_at made) hand_out) }
         ensures room { UsesNothing self.old self.new }
     {
-        spans::hand_out(&mut self.buffers, made);
-    }
-
-    /// The data and the offsets of the live buffer made there, in memory of their own.
-    pub fn bytes(&self, made: u32) -> Result<Option<(Bytes, Bytes)>, AllocError>
-        ensures copied { IfOk result (λ r. WindowTells (Stands self.now) r
-            (λ size bs. option_map (λ b. (b.bytes, b.offsets)) (buffer_in bs made))) }
-        // Where there is no buffer no memory is asked for.
-        ensures missing { (size : ℕ) (bs : List Buffer) → Stands self.now size bs → buffer_in bs made ≡ None
-            → IsOk result }
-    {
-        match spans::made_at(&self.buffers, made) {
-            None => Ok(None),
-            Some(b) => Ok(Some((b.bytes.copied()?, b.offsets.copied()?))),
+        if let Some(i) = spans::index_of(&self.buffers, made) {
+            self.buffers[i].handed = true;
         }
     }
 
@@ -161,13 +240,22 @@ impl Window {
             → Stands self.new size (filter (λ b. not (lost b.made)) bs) }
         ensures room { UsesNothing self.old self.new }
     {
-        spans::end_lost(&mut self.buffers, is_lost);
+        let mut i = self.buffers.len();
+        while i > 0 {
+            i -= 1;
+            if is_lost(self.buffers[i].made) {
+                self.end_at(i);
+            }
+        }
     }
 
     /// What is so of every window: no two live buffers meet, each lies inside and is as large as its data and
-    /// offsets need, and the one-way ones take at most half of the window.
+    /// offsets need, and the one-way ones take at most half of the window. Its holes and its tail are what no buffer
+    /// spans.
     pub fn check(&self)
-        ensures { (size : ℕ) (bs : List Buffer) → Stands self.now size bs → IsWindow size bs }
+        ensures window { (size : ℕ) (bs : List Buffer) → Stands self.now size bs → IsWindow size bs }
+        ensures holes { (size : ℕ) (bs : List Buffer) → Stands self.now size bs
+            → IsHoles size bs self.now.tail self.now.holes }
     {
         let _size = self.size;
     }

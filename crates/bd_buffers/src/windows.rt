@@ -201,7 +201,11 @@ impl Windows {
         ensures { (s : Space) → StandsFor self.old s → s.steps ≡ buffer.made → StandsIn self.new (add_buffer s buffer) }
     {
         if let Some(at) = position_of(&self.windows, buffer.receiver) {
-            self.windows[at].window.commit(buffer);
+            let window = &mut self.windows[at].window;
+            // Each step's buffer is newer than all that are live.
+            if window.is_newest(buffer.made) {
+                window.commit(buffer);
+            }
         }
     }
 

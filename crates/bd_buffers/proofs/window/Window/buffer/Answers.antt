@@ -5,5 +5,5 @@ use Rattle.bd_buffers.proofs.window.Window.buffer.Goals as goal
 
 pub returns-clause-placed : goal.returns-clause-placed
 returns-clause-placed c =
-    found_placed c.self.inside.size (is_made_at c.args.made) c.self.inside.buffers.items c.made_at.result c.self.invariant
+    found_placed c.self.inside.size (is_made_at c.args.made) c.self.inside.buffers.items c.made_at.result c.self.invariant.window
     (c.made_at.ensures ∙ ap (find (is_made_at c.args.made)) c.deref.ensures.value)

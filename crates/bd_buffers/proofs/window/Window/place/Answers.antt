@@ -13,26 +13,21 @@ unfolding CanHold
 can_take_of w one_way n (Ok p) e = sym e
 can_take_of w one_way n (Err x) e = tt
 
--- the answer in the words of the view
-of_view : (old w : Window) (one_way : Bool) (n : ℕ) (bs : List Buffer) (r : Result ℕ Cause) → r ≡ start_for old.size bs one_way n → bs ≡ old.buffers → old ≡ w
-    → r ≡ start_for w.size w.buffers one_way n
-of_view old w one_way n bs r e f g = e ∙ ap (λ xs. start_for old.size xs one_way n) f ∙ ap (λ (v : Window). start_for v.size v.buffers one_way n) g
-
--- and in those of what the window stands for
-for_all : (old w : Window) (size : ℕ) (live : List Buffer) (one_way : Bool) (n : ℕ) (bs : List Buffer) (r : Result ℕ Cause) → r ≡ start_for old.size bs one_way n
-    → bs ≡ old.buffers → old ≡ w → Stands w size live → r ≡ start_for size live one_way n
-for_all old w size live one_way n bs r e f g is =
-    of_view old w one_way n bs r e f g ∙ ap (λ m. start_for m w.buffers one_way n) is.size_is ∙ ap (λ xs. start_for size xs one_way n) is.buffers_are
+-- the answer in the words of what the window stands for
+for_all : (w : Window) (size : ℕ) (live : List Buffer) (one_way : Bool) (n : ℕ) (r : Result ℕ Cause) → r ≡ start_for w.size w.buffers one_way n → Stands w size live
+    → r ≡ start_for size live one_way n
+for_all w size live one_way n r e is =
+    e ∙ ap (λ m. start_for m w.buffers one_way n) is.size_is ∙ ap (λ xs. start_for size xs one_way n) is.buffers_are
 
 pub returns-clause-can_take : goal.returns-clause-can_take
-returns-clause-can_take c = can_take_of c.args.self.now _ _ _ (of_view _ _ _ _ _ _ c.start_for.ensures c.deref.ensures.value c.self.view_is)
+returns-clause-can_take c = can_take_of c.args.self.now _ _ _ c.place_for.ensures
 
 pub returns-clause-least : goal.returns-clause-least
-returns-clause-least c = λ size bs is. least_of size bs c.args.one_way _ _ (for_all _ _ size bs _ _ _ _ c.start_for.ensures c.deref.ensures.value c.self.view_is is)
+returns-clause-least c = λ size bs is. least_of size bs c.args.one_way _ _ (for_all c.args.self.now size bs _ _ _ c.place_for.ensures is)
 
 pub returns-clause-budget : goal.returns-clause-budget
-returns-clause-budget c = λ size bs is. budget_of size bs c.args.one_way _ _ (for_all _ _ size bs _ _ _ _ c.start_for.ensures c.deref.ensures.value c.self.view_is is)
+returns-clause-budget c = λ size bs is. budget_of size bs c.args.one_way _ _ (for_all c.args.self.now size bs _ _ _ c.place_for.ensures is)
 
 pub returns-clause-cause : goal.returns-clause-cause
 returns-clause-cause c = λ size bs is.
-    cause_of size bs c.args.one_way c.args.data_size c.args.offsets_size _ (for_all _ _ size bs _ _ _ _ c.start_for.ensures c.deref.ensures.value c.self.view_is is)
+    cause_of size bs c.args.one_way c.args.data_size c.args.offsets_size _ (for_all c.args.self.now size bs _ _ _ c.place_for.ensures is)

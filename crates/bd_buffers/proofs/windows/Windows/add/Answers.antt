@@ -1,10 +1,11 @@
-use Rattle.std.proofs.Common.{ℕ, ◌≤◌, refl, sym, ap, ◌∙◌, subst}
+use Rattle.std.proofs.Common.{ℕ, ◌≤◌, ◌<◌, All, refl, sym, ap, ◌∙◌, subst}
 use Rattle.std.specs.List.{position}
+use Rattle.std.proofs.lemmas.Bool.{false≢true}
 use Rattle.bd_space.specs.Delivery.{add_buffer}
 use Rattle.bd_buffers.specs.Stands.{CanHold}
 use Rattle.bd_buffers.specs.declared.windows.OwnedWindow.{OwnedWindow}
 use Rattle.bd_buffers.specs.WindowsStand.{is_owned_by, buffer_room, CanAdd}
-use Rattle.bd_buffers.proofs.AllWindows.{is_at, room_at, can_hold_at, can_hold_nowhere, none_at, buffer_added}
+use Rattle.bd_buffers.proofs.AllWindows.{is_at, room_at, can_hold_at, can_hold_nowhere, none_at, older, buffer_added}
 use Rattle.bd_buffers.proofs.windows.Windows.add.Goals as goal
 
 pub commit-requires-clause-room : goal.commit-requires-clause-room
@@ -24,9 +25,9 @@ commit-requires-clause-can_take c =
     let is = is_at t p c.in-Some.at c.index_mut.result.now (sym (c.in-Some.ensures ∙ ap (position (is_owned_by p)) c.deref.ensures.value)) c.index_mut.ensures.value in
     can_hold_at t p c.in-Some.at c.index_mut.result.now c.args.buffer.one_way c.args.buffer.size c.args.buffer.start is.found c.requires.can_add
 
-pub returns-in-Some : goal.returns-in-Some
+pub returns-then-is_newest : goal.returns-then-is_newest
 unfolding add_buffer
-returns-in-Some c = λ s stands e.
+returns-then-is_newest c = λ s stands e.
     let t = c.args.self.now in
     let p = c.args.buffer.receiver in
     let w = c.index_mut.result.now in
@@ -34,6 +35,16 @@ returns-in-Some c = λ s stands e.
     let x : OwnedWindow = record { owner = w.owner; window = c.commit.new.self } in
     buffer_added t _ s.steps c.in-Some.at s.processes s.buffers c.args.buffer w x (sym e) is refl
     (c.commit.ensures.stands w.window.size w.window.buffers (record { size_is = refl; buffers_are = refl })) refl stands
+
+pub returns-else-is_newest : goal.returns-else-is_newest
+returns-else-is_newest c = λ s stands e.
+    let t = c.args.self.now in
+    let p = c.args.buffer.receiver in
+    let w = c.index_mut.result.now in
+    let is = is_at t p c.in-Some.at w (sym (c.in-Some.ensures ∙ ap (position (is_owned_by p)) c.deref.ensures.value)) c.index_mut.ensures.value in
+    let P : ℕ → Type 0 = λ n. All (λ b. b.made < n) w.window.buffers in
+    let newest = c.is_newest.ensures.1 (subst P e (older t s.steps p s.processes s.buffers w stands is.found)) in
+    absurd (false≢true (sym c.if-is_newest.false ∙ newest))
 
 pub returns-in_default : goal.returns-in_default
 unfolding CanAdd

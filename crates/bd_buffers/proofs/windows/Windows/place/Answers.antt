@@ -36,7 +36,7 @@ pub returns-in-Some-clause-fits : goal.returns-in-Some-clause-fits
 returns-in-Some-clause-fits c =
     let w = c.in-Some.w.now.window in
     fits_whole w.size w.buffers (needed c.args.data_size c.args.offsets_size) c.place.result
-    (c.check.ensures w.size w.buffers (record { size_is = refl; buffers_are = refl }))
+    (c.check.ensures.window w.size w.buffers (record { size_is = refl; buffers_are = refl }))
     (c.place.ensures.least w.size w.buffers (record { size_is = refl; buffers_are = refl }))
 
 pub returns-in-Some-clause-no_process : goal.returns-in-Some-clause-no_process
