@@ -1,6 +1,6 @@
 -- The gifts that are noted step by step, and the chain that is found among them from its end.
-use Rattle.std.proofs.Common.{◌≡◌, ℕ, ◌+◌, ◌≤◌, ◌==◌, Bool, true, false, ◌&&◌, ◌||◌, not, List, [], ◌∷◌, ◌++◌, Option, Some, None, ◌⊎◌, inl, inr, refl, ap, sym, subst, ◌∙◌, length, take, drop, reverse, find, map, arith, length-append, append_assoc}
-use Rattle.std.specs.Option.{is_some, option_map}
+use Rattle.std.proofs.Common.{◌≡◌, ℕ, ◌+◌, ◌<◌, ◌≤◌, ◌==◌, Bool, true, false, ◌&&◌, ◌||◌, not, List, [], ◌∷◌, ◌++◌, Option, Some, None, ◌⊎◌, inl, inr, refl, ap, sym, subst, ◌∙◌, length, take, drop, reverse, find, map, arith, length-append, append_assoc}
+use Rattle.std.specs.Option.{is_some, option_map, option_and_then}
 use Rattle.std.proofs.lemmas.Bool.{eqb-true, eq-eqb}
 use Rattle.std.proofs.lemmas.List.{reverse-append}
 use Rattle.std.proofs.Math.Seq.{take-append_seam}
@@ -14,7 +14,7 @@ use Rattle.bd_space.specs.declared.space.Name.{Name}
 use Rattle.bd_space.specs.Words.{same, when, is_some_and}
 use Rattle.bd_space.specs.Space.{Space, opening}
 use Rattle.bd_space.specs.Seats.{actor}
-use Rattle.bd_space.specs.References.{object_in}
+use Rattle.bd_space.specs.References.{owned_in, object_in}
 use Rattle.bd_space.specs.Names.{number_in, named}
 use Rattle.bd_space.specs.Steps.{change}
 use Rattle.bd_space.specs.Histories.{History, after, next, space_after}
@@ -32,9 +32,9 @@ use Rattle.bd_audit.specs.declared.gifts.Gift.{Gift}
 use Rattle.bd_audit.specs.declared.gifts.Holder.{Holder}
 use Rattle.bd_audit.specs.Replays.{with_entry}
 use Rattle.bd_audit.specs.Gifts.{Stands, IsChainFrom, IsGiftChain, IsChainOf}
-use Rattle.bd_audit.specs.GiftSearch.{knows_after, giver_of, gift_of, gifts_made, GivenBy, HolderGives, IsGift, CameTo, GiverCameTo, AreInTurn, AreNoted, IsChainIn, IsHolder}
+use Rattle.bd_audit.specs.GiftSearch.{knows_after, giver_of, gift_of, gifts_made, GivenBy, HolderGives, IsGift, HasGift, CameTo, GiverCameTo, AreInTurn, AreNoted, IsChainIn, IsHolder}
 use Rattle.bd_audit.proofs.Beginnings.{after-append}
-use Rattle.bd_audit.proofs.Naming.{ByHand, Began, step-naming, began-past, old-or-past, has-number}
+use Rattle.bd_audit.proofs.Naming.{ByHand, ByAsking, Began, step-naming, began-past, old-or-past, has-number}
 use Rattle.bd_audit.proofs.Chains.{stands-more, begins-more, here, sends, asks, owns-test, counted-objects, counted-names, always-steps}
 
 -- ---- names and actors

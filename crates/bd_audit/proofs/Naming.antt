@@ -1,5 +1,6 @@
 -- What a step's new names rest on.
 use Rattle.std.proofs.Common.{◌≡◌, ℕ, ◌+◌, ◌<◌, ◌≤◌, ◌==◌, Bool, true, false, cond, not, ◌&&◌, List, [], ◌∷◌, ◌++◌, Option, Some, None, Ok, ◌⊎◌, inl, inr, refl, ap, sym, subst, ◌∙◌, length, drop, map, filter, find, arith, append-nil, append_assoc}
+use Rattle.std.specs.List.{fold, list_any}
 use Rattle.std.specs.Option.{is_some, option_map}
 use Rattle.std.proofs.lemmas.Bool.{eq-eqb}
 use Rattle.std.proofs.lemmas.List.{drop_all}
@@ -10,6 +11,7 @@ use Rattle.bd_uapi.specs.declared.command.TransactionData.{TransactionData}
 use Rattle.bd_space.specs.declared.step.ObjectId.{ObjectId}
 use Rattle.bd_space.specs.declared.step.Parcel.{Parcel}
 use Rattle.bd_space.specs.declared.step.Step.{Step}
+use Rattle.bd_space.specs.declared.space.Thread.{Thread}
 use Rattle.bd_space.specs.declared.space.Actor.{Actor}
 use Rattle.bd_space.specs.declared.space.Frame.{Frame}
 use Rattle.bd_space.specs.declared.space.Object.{Object}
@@ -17,6 +19,7 @@ use Rattle.bd_space.specs.declared.space.Reference.{Reference}
 use Rattle.bd_space.specs.declared.space.Holder.TheVariants.{Asked, Carried}
 use Rattle.bd_space.specs.declared.space.Name.{Name}
 use Rattle.bd_space.specs.declared.space.Item.{Item}
+use Rattle.bd_space.specs.declared.space.Work.{Work}
 use Rattle.bd_space.specs.declared.space.TodoList.TheVariants.{OfThread}
 use Rattle.bd_space.specs.declared.space.WorkKind.TheVariants as work
 use Rattle.bd_space.specs.Words.{same}
@@ -24,27 +27,28 @@ use Rattle.bd_space.specs.Space.{Space}
 use Rattle.bd_space.specs.Seats.{actor}
 use Rattle.bd_space.specs.References.{reference_of, stays_in, objects_go, owned_in, names_for}
 use Rattle.bd_space.specs.Names.{is_named_in, number_in, free_number, with_name, with_names, assign_numbers, names_go}
+use Rattle.bd_space.specs.Todo.{owe}
 use Rattle.bd_space.specs.Frames.{closed}
 use Rattle.bd_space.specs.Turns.{ripen}
 use Rattle.bd_space.specs.Notices.{follow, notify, work_goes, deaths_go}
 use Rattle.bd_space.specs.Delivery.{Delivery, delivered, own_notices, add_buffer, known_by, refer, make_objects, buffer_references}
 use Rattle.bd_uapi.specs.Kinds.{is_strong_kind}
-use Rattle.bd_space.specs.Parcels.{object_of_item, sending_of}
+use Rattle.bd_space.specs.Parcels.{object_of_item}
 use Rattle.bd_space.specs.Translation.{translation}
-use Rattle.bd_space.specs.Transactions.{transacted}
-use Rattle.bd_space.specs.Replies.{replied}
+use Rattle.bd_space.specs.Transactions.{transaction_check, transacted, called}
+use Rattle.bd_space.specs.Replies.{reply_check, replied}
 use Rattle.bd_space.specs.Freeing.{without_buffer}
 use Rattle.bd_space.specs.Asking.{ask_check, ask, drop_asked, acknowledge}
 use Rattle.bd_space.specs.ThreadExits.{thread_goes}
-use Rattle.bd_space.specs.ProcessExits.{threads_go, without_process, tell_deaths}
+use Rattle.bd_space.specs.ProcessExits.{threads_go, without_process, tell_deaths, seat_of}
 use Rattle.bd_space.specs.ReadItems.{read_by}
 use Rattle.bd_space.specs.Steps.{change, with_thread, with_process, with_manager}
 use Rattle.bd_laws.specs.Lists.{In}
+use Rattle.bd_laws.specs.Objects.{KeptBefore}
 use Rattle.bd_laws.specs.Tidy.{IsTidy}
 use Rattle.bd_laws.proofs.Lists.{in-left, in-right, in-append, in-filter, filter-in, in-map, any-found, any-in, find-some}
 use Rattle.bd_laws.proofs.Tests.{both, and-both, not-true, not-false, eq-same, same-eq}
 use Rattle.bd_laws.proofs.EveryEnding.{IsAsking}
-use Rattle.bd_laws.proofs.Following.{threads-keep}
 use Rattle.bd_laws.proofs.EveryStep.{Keeps, every_step}
 use Rattle.bd_laws.proofs.Untouched.{Untouched}
 use Rattle.bd_laws.proofs.Sendings.{Owns, HasName, Sent, Sends, sending-sends}
@@ -301,28 +305,38 @@ follow-naming s seat x z h =
 
 -- ---- the changes
 
-delivered-changed : (s : Space) (seat : ℕ) (x : Step) (a : Actor) (d : TransactionData) (parcel : Option Parcel) (v : Delivery) → IsTidy s → actor s seat ≡ Some a
-    → sending_of s a.process.made d parcel ≡ Ok v.sending → Changed s seat x (delivered s a d v)
-delivered-changed s seat x a d parcel v h acts sending =
-    let sends = sending-sends s a.process.made d parcel v.sending sending in
-    inr (delivered-more s seat x a d v acts sends, delivered-named s a d v h sends)
-
-transacted-delivered : (s : Space) (a : Actor) (d : TransactionData) (v : Delivery) → Untouched (transacted s a d v) (delivered s a d v)
+transacted-changed : (s : Space) (seat : ℕ) (x : Step) (a : Actor) (d : TransactionData) (parcel : Option Parcel) (v : Delivery) → IsTidy s → actor s seat ≡ Some a
+    → transaction_check s a d parcel ≡ Ok v → Changed s seat x (transacted s a d v)
 unfolding transacted
-transacted-delivered s a d v =
-    Untouched.untouched-trans _ _ (delivered s a d v) (Untouched.called-untouched _ a.thread.seat v.receiver.made v.one_way) (Untouched.owe-untouched (delivered s a d v) (OfThread a.thread.seat) work.Complete)
+transacted-changed s seat x a d parcel v h acts check =
+    let t = transaction-checked s a d parcel v check in
+    let sends = sending-sends s a.process.made d parcel v.sending t.sends in
+    let z = delivered s a d v in
+    let y = owe z (OfThread a.thread.seat) work.Complete in
+    changed-untouched s seat x (called y a.thread.seat v.receiver.made v.one_way) y (Untouched.called-untouched y a.thread.seat v.receiver.made v.one_way)
+    (changed-untouched s seat x y z (Untouched.owe-untouched z (OfThread a.thread.seat) work.Complete)
+    (inr (delivered-more s seat x a d v acts sends, delivered-named s a d v h sends)))
+
+closed-actor : (s : Space) (made seat : ℕ) → actor (closed s made) seat ≡ actor s seat
+unfolding closed actor
+closed-actor s made seat = refl
 
 -- a delivery leaves frames alone
 closed-delivered : (s : Space) (made : ℕ) (a : Actor) (d : TransactionData) (v : Delivery) → Untouched (delivered (closed s made) a d v) (delivered s a d v)
 unfolding closed delivered own_notices add_buffer known_by assign_numbers refer make_objects translation
 closed-delivered s made a d v = record { steps = refl; processes = refl; manager = refl; objects = refl; references = refl; names = refl; buffers = refl }
 
-replied-delivered : (s : Space) (a : Actor) (d : TransactionData) (f : Frame) (v : Delivery) → Untouched (replied s a d f v) (delivered s a d v)
+replied-changed : (s : Space) (seat : ℕ) (x : Step) (a : Actor) (d : TransactionData) (parcel : Option Parcel) (f : Frame) (v : Delivery) → IsTidy s → actor s seat ≡ Some a
+    → reply_check s a d parcel f ≡ Ok v → Changed s seat x (replied s a d f v)
 unfolding replied
-replied-delivered s a d f v =
+replied-changed s seat x a d parcel f v h acts check =
+    let t = reply-checked s a d parcel f v check in
+    let sends = sending-sends s a.process.made d parcel v.sending t.sends in
     let z = delivered (closed s f.made) a d v in
-    Untouched.untouched-trans _ _ (delivered s a d v) (Untouched.told-untouched _ f.caller (work.Reply s.steps))
-    (Untouched.untouched-trans _ z (delivered s a d v) (Untouched.owe-untouched z (OfThread a.thread.seat) work.Complete) (closed-delivered s f.made a d v))
+    let y = owe z (OfThread a.thread.seat) work.Complete in
+    changed-untouched s seat x _ y (Untouched.told-untouched y f.caller (work.Reply s.steps))
+    (changed-untouched s seat x y z (Untouched.owe-untouched z (OfThread a.thread.seat) work.Complete)
+    (changed-untouched s seat x z (delivered s a d v) (closed-delivered s f.made a d v) (inr (delivered-more s seat x a d v acts sends, delivered-named s a d v h sends))))
 
 ask-changed : (s : Space) (seat : ℕ) (x : Step) (a : Actor) (n : ℕ) (strong : Bool) (o : ObjectId) → IsTidy s → actor s seat ≡ Some a → IsAsking x n strong
     → ask_check s a.process.made n strong ≡ Ok o → Changed s seat x (ask s a.process.made o strong)
@@ -357,42 +371,80 @@ ask-changed s seat x a n strong o h acts asks check =
       λ m i. subst (λ os. is_named_in os (s.references ++ more) m.process m.object ≡ true) (append-nil s.objects) (still-named s h [] more (λ y l. absurd l) m i),
     )
 
--- ---- an exit
+-- ---- names that stay or go
 
-threads-fewer : (s : Space) (p : ℕ) → Fewer s (threads_go s p)
+opened-names : (s : Space) (seat pid euid window : ℕ) → (with_thread (with_process s pid euid window) seat s.steps).names ≡ s.names
+unfolding with_thread with_process
+opened-names s seat pid euid window = refl
+
+attached-names : (s : Space) (seat p : ℕ) → (with_thread s seat p).names ≡ s.names
+unfolding with_thread
+attached-names s seat p = refl
+
+managed-names : (s : Space) (p : ℕ) → (with_manager s p).names ≡ s.names
+unfolding with_manager
+managed-names s p = refl
+
+freed-names : (s : Space) (made : ℕ) → (without_buffer s made).names ≡ s.names
+unfolding without_buffer
+freed-names s made = refl
+
+dropped-names : (s : Space) (p : ℕ) (o : ObjectId) (strong : Bool) → (drop_asked s p o strong).names ≡ s.names
+unfolding drop_asked
+dropped-names s p o strong = refl
+
+acknowledged-names : (s : Space) (o : ObjectId) (strong : Bool) → (acknowledge s o strong).names ≡ s.names
+unfolding acknowledge
+acknowledged-names s o strong = refl
+
+read-names : (s : Space) (seat : ℕ) (ws : List Work) → (read_by s seat ws).names ≡ s.names
+unfolding read_by
+read-names s seat ws = refl
+
+left-names : (s : Space) (seat : ℕ) → (thread_goes s seat).names ≡ s.names
 unfolding thread_goes
-threads-fewer s p = threads-keep (λ z. Fewer s z) (λ z seat h. fewer-after s (thread_goes z seat) z refl h) s p (same-names s s refl)
+left-names s seat = refl
+
+each-names : (seats : List ℕ) (s : Space) → (fold thread_goes s seats).names ≡ s.names
+each-names [] s = refl
+each-names (t ∷ ts) s = each-names ts (thread_goes s t) ∙ left-names s t
+
+all-left-names : (s : Space) (p : ℕ) → (threads_go s p).names ≡ s.names
+unfolding threads_go
+all-left-names s p = each-names (map seat_of (filter (λ (t : Thread). t.process == p) s.threads)) s
+
+without-fewer : (s z : Space) (p : ℕ) → z.names ≡ s.names → Fewer s (without_process z p)
+unfolding without_process
+without-fewer s z p e = fewer-filter s (without_process z p) z (λ (m : Name). not (m.process == p)) refl (same-names s z e)
 
 ends-fewer : (s : Space) (p : ℕ) → Fewer s (tell_deaths (without_process (threads_go s p) p) p)
-unfolding without_process
 ends-fewer s p =
     let a = threads_go s p in
     let b = without_process a p in
-    fewer-after s (tell_deaths b p) b (Untouched.tell_deaths-untouched b p).names (fewer-filter s b a (λ (m : Name). not (m.process == p)) refl (threads-fewer s p))
+    fewer-after s (tell_deaths b p) b (Untouched.tell_deaths-untouched b p).names (without-fewer s a p (all-left-names s p))
 
 -- ---- every step
 
 naming-step : (s : Space) (seat : ℕ) (x : Step) → IsTidy s → Keeps s seat x (Changed s seat x) (Naming s seat x)
-unfolding with_thread with_process with_manager without_buffer drop_asked acknowledge read_by thread_goes
 naming-step s seat x h =
     record {
       set_up = record {
         same = inl (same-names s s refl);
-        opened = λ pid euid window free. inl (same-names s _ refl);
-        attached = λ p free. inl (same-names s _ refl);
-        managed = λ a e b. inl (same-names s _ refl);
+        opened = λ pid euid window free. inl (same-names s _ (opened-names s seat pid euid window));
+        attached = λ p free. inl (same-names s _ (attached-names s seat p));
+        managed = λ a e b. inl (same-names s _ (managed-names s a.process.made));
       };
       changes = record {
-        transacts = λ a d parcel v e i t. changed-untouched s seat x _ _ (transacted-delivered s a d v) (delivered-changed s seat x a d parcel v h i (transaction-checked s a d parcel v t).sends);
-        replies = λ a d parcel f v e i g t. changed-untouched s seat x _ _ (replied-delivered s a d f v) (delivered-changed s seat x a d parcel v h i (reply-checked s a d parcel f v t).sends);
-        frees = λ p ptr b e t. inl (same-names s _ refl);
+        transacts = λ a d parcel v e i t. transacted-changed s seat x a d parcel v h i t;
+        replies = λ a d parcel f v e i g t. replied-changed s seat x a d parcel f v h i t;
+        frees = λ p ptr b e t. inl (same-names s _ (freed-names s b.made));
         asks = λ a n strong o e i t. ask-changed s seat x a n strong o h e i t;
-        drops = λ p o strong. inl (same-names s _ refl);
-        acknowledges = λ o strong i. inl (same-names s _ refl);
+        drops = λ p o strong. inl (same-names s _ (dropped-names s p o strong));
+        acknowledges = λ o strong i. inl (same-names s _ (acknowledged-names s o strong));
         loops = λ t looping. inl (same-names s _ (Untouched.with_looping-untouched s t looping).names);
         on_deaths = on-commands s _ (on-mapped s _ _ (λ y k. inl (same-names s y k.names)) (Untouched.on_deaths-untouched s));
-        reads = λ a limit e i n. inl (same-names s _ refl);
-        leaves = λ a e. inl (same-names s _ refl);
+        reads = λ a limit e i n. inl (same-names s _ (read-names s a.thread.seat _));
+        leaves = λ a e. inl (same-names s _ (left-names s a.thread.seat));
         ends = λ a e. inl (ends-fewer s a.process.made);
         ripens = λ z. changed-untouched s seat x (ripen z) z (Untouched.ripen-untouched z);
       };
