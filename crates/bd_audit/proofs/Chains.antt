@@ -25,16 +25,16 @@ use Rattle.bd_space.specs.Commands.{command_step}
 use Rattle.bd_space.specs.Steps.{change, counted}
 use Rattle.bd_space.specs.Histories.{History, after, next, space_after}
 use Rattle.bd_laws.specs.Lists.{In}
-use Rattle.bd_laws.specs.Tidy.{IsTidy}
+use Rattle.bd_laws.specs.Tidy.{Before}
 use Rattle.bd_laws.proofs.Lists.{any-in}
 use Rattle.bd_laws.proofs.Tests.{and-both, eq-same}
 use Rattle.bd_laws.proofs.Sendings.{Owns, named-has}
 use Rattle.bd_laws.proofs.Passing.{step-passes}
-use Rattle.bd_laws.proofs.Always.{step-tidy, opening-tidy}
+use Rattle.bd_laws.proofs.Received.{step-before, opening-before}
 use Rattle.bd_audit.specs.Gifts as gifts
 use Rattle.bd_audit.specs.Gifts.{is_by, is_carried_to, is_asking_0, AsksManager, Stands, Gives, OwnerGives, ManagerGives, IsChainFrom, IsGiftChain}
 use Rattle.bd_audit.proofs.Beginnings.{after-append}
-use Rattle.bd_audit.proofs.Naming.{ByHand, ByAsking, step-naming, began-past, old-or-past, has-number}
+use Rattle.bd_audit.proofs.Naming.{ByHand, ByAsking, step-naming, has-number}
 
 -- ---- more entries
 
@@ -173,24 +173,23 @@ module _ (es : List Entry) (s : Space) (e : Entry) (at : s ≡ after opening es)
   asked-chain : (m : Name) → ByAsking s e.seat e.step m → (is : List ℕ) × IsGiftChain (es ++ e ∷ []) m.object is m.process
   asked-chain m g = (length es ∷ [], (m.process, inr (es, e, here es e, subst (λ (y : Space). AsksManager y e m.object m.process) at (asks s e m g)), refl))
 
-  chained-step : IsTidy s → Chained (es ++ e ∷ []) (next s e)
+  chained-step : Before s → Chained (es ++ e ∷ []) (next s e)
   chained-step h =
       let z = (change s e.seat e.step).space in
-      let passed = (step-passes s e h.before.turns h.before.received.lists).passed in
-      let naming = step-naming s e.seat e.step h in
+      let passed = (step-passes s e h.turns h.received.lists).passed in
       record {
         steps = counted-steps z ∙ ap suc (passed.steps ∙ log.steps) ∙ (let l = length-append es (e ∷ []) in omega (arith, l));
-        chains = λ m i. elim (old-or-past s e.seat e.step z naming m (subst (In m) (counted-names z) i)) [
+        chains = λ m i. elim (step-naming s e.seat e.step m (subst (In m) (counted-names z) i)) [
           | inl k ↦ (let c = log.chains m k in (c.0, chain-more es (e ∷ []) m.object c.0 m.process c.1))
-          | inr k ↦ elim (began-past s e.seat e.step z naming m k).given [ inl g ↦ hand-chain m g | inr g ↦ asked-chain m g ]
+          | inr k ↦ elim k [ inl g ↦ hand-chain m g | inr g ↦ asked-chain m g ]
         ];
       }
 
-chained-all : (fs es : List Entry) (s : Space) → s ≡ after opening es → IsTidy s → Chained es s → Chained (es ++ fs) (after s fs)
+chained-all : (fs es : List Entry) (s : Space) → s ≡ after opening es → Before s → Chained es s → Chained (es ++ fs) (after s fs)
 chained-all [] es s at h log = subst (λ xs. Chained xs s) (sym (append-nil es)) log
 chained-all (e ∷ fs) es s at h log =
     subst (λ xs. Chained xs (after (next s e) fs)) (append_assoc es (e ∷ []) fs)
-    (chained-all fs (es ++ e ∷ []) (next s e) (ap (λ (y : Space). next y e) at ∙ sym (after-append opening es (e ∷ []))) (step-tidy s e h) (chained-step es s e at log h))
+    (chained-all fs (es ++ e ∷ []) (next s e) (ap (λ (y : Space). next y e) at ∙ sym (after-append opening es (e ∷ []))) (step-before s e h) (chained-step es s e at log h))
 
 none-chained : Chained [] opening
 none-chained = record { steps = refl; chains = λ m i. absurd i }
@@ -199,11 +198,11 @@ pub name-chain : (h : History) (p number : ℕ) (o : ObjectId) → named (space_
 unfolding space_after
 name-chain h p number o e =
     let s = after opening h.entries in
-    let log = chained-all h.entries [] opening refl opening-tidy none-chained in
+    let log = chained-all h.entries [] opening refl opening-before none-chained in
     let m = named-has s p number o e in
     let c = log.chains m.0 m.1 in
     (c.0, subst (λ x. IsGiftChain h.entries x c.0 p) m.3 (subst (λ x. IsGiftChain h.entries m.0.object c.0 x) m.2 c.1))
 
 -- how many steps there were
 pub always-steps : (es : List Entry) → (after opening es).steps ≡ length es
-always-steps es = (chained-all es [] opening refl opening-tidy none-chained).steps
+always-steps es = (chained-all es [] opening refl opening-before none-chained).steps

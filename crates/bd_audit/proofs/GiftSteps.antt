@@ -1,40 +1,33 @@
--- The gifts that are noted step by step, and the chain that is found among them from its end.
-use Rattle.std.proofs.Common.{◌≡◌, ℕ, ◌+◌, ◌<◌, ◌≤◌, ◌==◌, Bool, true, false, ◌&&◌, ◌||◌, not, List, [], ◌∷◌, ◌++◌, Option, Some, None, ◌⊎◌, inl, inr, refl, ap, sym, subst, ◌∙◌, length, take, drop, reverse, find, map, arith, length-append, append_assoc}
-use Rattle.std.specs.Option.{is_some, option_map, option_and_then}
-use Rattle.std.proofs.lemmas.Bool.{eqb-true, eq-eqb}
-use Rattle.std.proofs.lemmas.List.{reverse-append}
+-- The gift by which a name began, and the chain that such gifts make, found from its end.
+use Rattle.std.proofs.Common.{◌≡◌, ℕ, ◌+◌, ◌<◌, ◌≤◌, ◌==◌, Bool, true, false, ◌&&◌, not, List, [], ◌∷◌, ◌++◌, Option, Some, None, inl, inr, refl, ap, sym, subst, ◌∙◌, length, take, drop, reverse, find, arith, length-append}
+use Rattle.std.specs.Option.{is_some, option_map, option_and_then, option_or, IsSomeAnd}
+use Rattle.std.proofs.lemmas.Bool.{eqb-true}
+use Rattle.std.proofs.lemmas.List.{reverse-append, take-append-drop, length-take-le}
 use Rattle.std.proofs.Math.Seq.{take-append_seam}
 use Rattle.bd_space.specs.declared.step.ObjectId.{ObjectId}
 use Rattle.bd_space.specs.declared.step.Entry.{Entry}
 use Rattle.bd_space.specs.declared.space.Process.{Process}
 use Rattle.bd_space.specs.declared.space.Thread.{Thread}
 use Rattle.bd_space.specs.declared.space.Actor.{Actor}
-use Rattle.bd_space.specs.declared.space.Object.{Object}
 use Rattle.bd_space.specs.declared.space.Name.{Name}
-use Rattle.bd_space.specs.Words.{same, when, is_some_and}
+use Rattle.bd_space.specs.Words.{same, when}
 use Rattle.bd_space.specs.Space.{Space, opening}
 use Rattle.bd_space.specs.Seats.{actor}
-use Rattle.bd_space.specs.References.{owned_in, object_in}
+use Rattle.bd_space.specs.References.{owned_in}
 use Rattle.bd_space.specs.Names.{number_in, named}
 use Rattle.bd_space.specs.Steps.{change}
 use Rattle.bd_space.specs.Histories.{History, after, next, space_after}
-use Rattle.bd_laws.specs.Lists.{In, Pairs}
-use Rattle.bd_laws.specs.Objects.{Differ}
-use Rattle.bd_laws.specs.Tidy.{IsTidy}
 use Rattle.bd_engine.specs.Looks.{knows, process_of}
-use Rattle.bd_laws.proofs.Lists.{find-in, in-append, in-left, in-right, in-push, in-map, map-in}
+use Rattle.bd_laws.proofs.Lists.{find-in}
 use Rattle.bd_laws.proofs.Tests.{both, same-eq}
-use Rattle.bd_laws.proofs.Sendings.{Owns, HasName, named-has}
+use Rattle.bd_laws.proofs.Sendings.{HasName, named-has}
 use Rattle.bd_laws.proofs.Checks.{actor-lives}
-use Rattle.bd_laws.proofs.Quiet.{find-only}
-use Rattle.bd_laws.proofs.Always.{step-tidy, always-tidy}
 use Rattle.bd_audit.specs.declared.gifts.Gift.{Gift}
-use Rattle.bd_audit.specs.declared.gifts.Holder.{Holder}
 use Rattle.bd_audit.specs.Replays.{with_entry}
-use Rattle.bd_audit.specs.Gifts.{Stands, IsChainFrom, IsGiftChain, IsChainOf}
-use Rattle.bd_audit.specs.GiftSearch.{knows_after, giver_of, gift_of, gifts_made, GivenBy, HolderGives, IsGift, HasGift, CameTo, GiverCameTo, AreInTurn, AreNoted, IsChainIn, IsHolder}
+use Rattle.bd_audit.specs.Gifts.{Stands, IsChainFrom, IsGiftChain}
+use Rattle.bd_audit.specs.GiftSearch.{knows_after, giver_in, gift_made, GivenBy, IsGift, IsHolder}
 use Rattle.bd_audit.proofs.Beginnings.{after-append}
-use Rattle.bd_audit.proofs.Naming.{ByHand, ByAsking, Began, step-naming, began-past, old-or-past, has-number}
+use Rattle.bd_audit.proofs.Naming.{ByHand, ByAsking, step-naming, has-number}
 use Rattle.bd_audit.proofs.Chains.{stands-more, begins-more, here, sends, asks, owns-test, counted-objects, counted-names, always-steps}
 
 -- ---- names and actors
@@ -49,7 +42,7 @@ number-has names p o h = at (find (λ (m : Name). (m.process == p) && same m.obj
         let t = both (m.process == p) (same m.object o) l.1 in
         (m, l.0, eqb-true m.process p t.0, same-eq m.object o t.1)
 
-named-knows : (s : Space) (p n : ℕ) (o : ObjectId) → named s p n ≡ Some o → knows s p o ≡ true
+pub named-knows : (s : Space) (p n : ℕ) (o : ObjectId) → named s p n ≡ Some o → knows s p o ≡ true
 named-knows s p n o h = has-number s.names p o (named-has s p n o h)
 
 actor-process : (s : Space) (seat : ℕ) (a : Actor) → actor s seat ≡ Some a → process_of s seat ≡ Some a.process.made
@@ -58,32 +51,98 @@ actor-process s seat a h =
     let q = find-in (λ (q : Process). q.made == a.thread.process) a.process s.processes l.1 in
     ap (option_map (λ (t : Thread). t.process)) l.0 ∙ ap (λ n. Some n) (sym (eqb-true a.process.made a.thread.process q.1))
 
--- ---- who gave
+actor-giver : (s : Space) (seat : ℕ) (a : Actor) (o : ObjectId) → actor s seat ≡ Some a → giver_in s seat o ≡ when (knows s a.process.made o) a.process.made
+actor-giver s seat a o h = ap (option_and_then (λ p. when (knows s p o) p)) (actor-process s seat a h)
 
--- the owner of an object is found by the object's identity
-owner-found : (os : List Object) (p : ℕ) (o : ObjectId) → Pairs Differ os → Owns os p o → is_some_and (option_map (λ (x : Object). x.owner) (object_in os o)) (λ q. q == p) ≡ true
-owner-found os p o differ own = rw (find-only os own.0 o differ own.1 own.2) (eq-eqb own.0.owner p own.3)
+-- ---- the step at which a name begins
 
-found-owns : (os : List Object) (p : ℕ) (o : ObjectId) → is_some_and (option_map (λ (x : Object). x.owner) (object_in os o)) (λ q. q == p) ≡ true → Owns os p o
-found-owns os p o h = at (object_in os o) refl h
-  where
-    at : (f : Option Object) → object_in os o ≡ f → is_some_and (option_map (λ (x : Object). x.owner) f) (λ q. q == p) ≡ true → Owns os p o
-    at None e k = absurd (cc)
-    at (Some x) e k = let l = find-in (λ (x : Object). same x.id o) x os e in (x, l.0, same-eq x.id o l.1, eqb-true x.owner p k)
+module _ (es : List Entry) (e : Entry) where
+  -- the acting process has a name for the object, or it doesn't
+  by-hand : (m : Name) (g : ByHand (after opening es) e.seat m (change (after opening es) e.seat e.step).space) (b : Bool) → knows_after es g.by.process.made m.object ≡ b
+      → GivenBy (es ++ e ∷ []) (length es) m.object m.process (when b g.by.process.made)
+  by-hand m g true k = (es, e, here es e, sends (after opening es) (length es) e m (always-steps es) g, k)
+  by-hand m g false k =
+      let s = after opening es in
+      let z = (change s e.seat e.step).space in
+      let p = g.by.process.made in
+      elim g.has [
+        | inl own ↦ inl (es, e, p, here es e, sends s (length es) e m (always-steps es) g, subst (λ os. owned_in os p m.object ≡ true) (sym (counted-objects z)) (owns-test z.objects p m.object own))
+        | inr has ↦ (let yes = has-number s.names p m.object has in absurd (cc))
+      ]
 
-either : (a b : Bool) → (a || b) ≡ true → (a ≡ true) ⊎ (b ≡ true)
-either true b h = inl refl
-either false b h = inr h
+  hand-gives : (m : Name) → ByHand (after opening es) e.seat m (change (after opening es) e.seat e.step).space
+      → GivenBy (es ++ e ∷ []) (length es) m.object m.process (giver_in (after opening es) e.seat m.object)
+  hand-gives m g =
+      subst (GivenBy (es ++ e ∷ []) (length es) m.object m.process) (sym (actor-giver (after opening es) e.seat g.by m.object g.acts))
+      (by-hand m g (knows_after es g.by.process.made m.object) refl)
 
-neither : (a b : Bool) → (a || b) ≡ false → b ≡ true → ⊥
-neither true b h k = absurd (cc)
-neither false b h k = absurd (cc)
+  asked-gives : (m : Name) → ByAsking (after opening es) e.seat e.step m → knows_after es m.process m.object ≡ false
+      → GivenBy (es ++ e ∷ []) (length es) m.object m.process (giver_in (after opening es) e.seat m.object)
+  asked-gives m g new =
+      let s = after opening es in
+      let p = g.by.process.made in
+      let none : giver_in s e.seat m.object ≡ None =
+      actor-giver s e.seat g.by m.object g.acts ∙ ap (λ b. when b p) (subst (λ q. knows s q m.object ≡ false) (sym g.process) new) in
+      subst (GivenBy (es ++ e ∷ []) (length es) m.object m.process) (sym none) (inr (es, e, here es e, asks s e m g))
+
+  name-given : (o : ObjectId) (q : ℕ) → knows_after es q o ≡ false → knows_after (es ++ e ∷ []) q o ≡ true
+      → GivenBy (es ++ e ∷ []) (length es) o q (giver_in (after opening es) e.seat o)
+  name-given o q new now =
+      let s = after opening es in
+      let z = (change s e.seat e.step).space in
+      let knows_now : knows (next s e) q o ≡ true = subst (λ (y : Space). knows y q o ≡ true) (after-append opening es (e ∷ [])) now in
+      let has = subst (λ ns. HasName ns q o) (counted-names z) (number-has (next s e).names q o knows_now) in
+      let m = has.0 in
+      let old : knows s m.process m.object ≡ false = subst (λ p. knows s p m.object ≡ false) (sym has.2) (subst (λ x. knows s q x ≡ false) (sym has.3) new) in
+      let given : GivenBy (es ++ e ∷ []) (length es) m.object m.process (giver_in s e.seat m.object) = elim (step-naming s e.seat e.step m has.1) [
+        | inl k ↦ (let yes = has-number s.names m.process m.object (m, k, refl, refl) in absurd (cc))
+        | inr k ↦ elim k [ inl g ↦ hand-gives m g | inr g ↦ asked-gives m g old ]
+      ] in
+      subst (λ x. GivenBy (es ++ e ∷ []) (length es) x q (giver_in s e.seat x)) has.3
+      (subst (λ p. GivenBy (es ++ e ∷ []) (length es) m.object p (giver_in s e.seat m.object)) has.2 given)
+
+-- as an engine finds it
+pub gift-is : (h k : History) (e : Entry) (q : ℕ) (o : ObjectId) (knew now : Bool) (n : ℕ) (giver : Option ℕ) → k ≡ with_entry h e → knew ≡ knows (space_after h) q o
+    → now ≡ knows (space_after k) q o → n ≡ length h.entries → giver ≡ giver_in (space_after h) e.seat o
+    → when (not knew && now) (let g : Gift = record { place = n; giver = giver } in g) ≡ gift_made h.entries e q o
+unfolding space_after
+gift-is h k e q o knew now n giver at a b c d = rw (a, b, at, c, d) refl
 
 -- ---- more entries
 
 given-more : (es fs : List Entry) (i : ℕ) (o : ObjectId) (q : ℕ) (giver : Option ℕ) → GivenBy es i o q giver → GivenBy (es ++ fs) i o q giver
 given-more es fs i o q None h = begins-more es fs i o q h
 given-more es fs i o q (Some p) h = (h.0, h.1, stands-more es fs i h.0 h.1 h.2, h.3, h.4)
+
+gift-more : (es fs : List Entry) (o : ObjectId) (q : ℕ) (g : Gift) → IsGift es o q g → IsGift (es ++ fs) o q g
+gift-more es fs o q g h = (let l = length-append es fs in let below = h.0 in omega (arith, l), given-more es fs g.place o q g.giver h.1)
+
+-- the latest gift so far, where the process has a name after these entries
+abbrev pub Found : List Entry → ObjectId → ℕ → Option Gift → Type 0
+Found es o q last = knows_after es q o ≡ true → IsSomeAnd last (IsGift es o q)
+
+module _ (es : List Entry) (e : Entry) (o : ObjectId) (q : ℕ) (last : Option Gift) (before : Found es o q last) where
+  found-at : (a b : Bool) → knows_after es q o ≡ a → knows_after (es ++ e ∷ []) q o ≡ b → b ≡ true
+      → IsSomeAnd (option_or (when (not a && b) (let g : Gift = record { place = length es; giver = giver_in (after opening es) e.seat o } in g)) last) (IsGift (es ++ e ∷ []) o q)
+  found-at true b old now h = more last (before old)
+    where
+      more : (l : Option Gift) → IsSomeAnd l (IsGift es o q) → IsSomeAnd l (IsGift (es ++ e ∷ []) o q)
+      more None h = h
+      more (Some g) h = gift-more es (e ∷ []) o q g h
+  found-at false true old now h = (let l = length-append es (e ∷ []) in omega (arith, l), name-given es e o q old now)
+  found-at false false old now h = absurd (cc)
+
+  pub found-next : (fs : List Entry) (made after : Option Gift) → fs ≡ es ++ e ∷ [] → made ≡ gift_made es e q o → after ≡ option_or made last → Found fs o q after
+  found-next fs made after at m a =
+      let all : Found (es ++ e ∷ []) o q (option_or (gift_made es e q o) last) = λ yes. found-at (knows_after es q o) (knows_after (es ++ e ∷ []) q o) refl refl yes in
+      subst (λ xs. Found xs o q after) (sym at) (subst (Found (es ++ e ∷ []) o q) (sym (a ∙ ap (λ x. option_or x last) m)) all)
+
+-- ---- the chain, from its end
+
+-- the places found so far, last first, lead on to q: from this giver, which has a name after n entries; with none they are a chain
+abbrev pub LeadsOn : List Entry → ObjectId → ℕ → List ℕ → ℕ → Option ℕ → Type 0
+LeadsOn es o n places q None = IsGiftChain es o (reverse places) q
+LeadsOn es o n places q (Some p) = (knows_after (take n es) p o ≡ true) × IsChainFrom es o p n (reverse places) q
 
 chain_from-later : (es : List Entry) (o : ObjectId) (is : List ℕ) (p j k q : ℕ) → j ≤ k → IsChainFrom es o p k is q → IsChainFrom es o p j is q
 chain_from-later es o [] p j k q le h = h
@@ -92,232 +151,27 @@ chain_from-later es o (i ∷ is) p j k q le h = (h.0, (let below = h.1 in omega 
 stands-take : (es : List Entry) (i : ℕ) (before : List Entry) (e : Entry) → Stands es i before e → take i es ≡ before
 stands-take es i before e h = ap (λ xs. take i xs) h.all ∙ ap (λ n. take n (before ++ e ∷ h.rest)) (sym h.at) ∙ take-append_seam before (e ∷ h.rest)
 
-gift-more : (es fs : List Entry) (g : Gift) → IsGift es g → IsGift (es ++ fs) g
-gift-more es fs g h = (let l = length-append es fs in let below = h.0 in omega (arith, l), given-more es fs g.place g.object g.receiver g.giver h.1)
-
--- an element of two lists, with those before it
-split : {A : Type 0} (xs ys before rest : List A) (x : A) → xs ++ ys ≡ before ++ x ∷ rest
-    → ((more : List A) × (xs ≡ before ++ x ∷ more)) ⊎ ((more : List A) × (before ≡ xs ++ more) × (ys ≡ more ++ x ∷ rest))
-split [] ys before rest x h = inr (before, refl, h)
-split (y ∷ xs) ys [] rest x h = inl (xs, (cc))
-split (y ∷ xs) ys (b ∷ before) rest x h = elim (split xs ys before rest x (cc)) [
-  | inl k ↦ inl (k.0, (let is = k.1 in let first : y ≡ b = cc in rw (first, is) refl))
-  | inr k ↦ inr (k.0, (let is = k.1 in let first : y ≡ b = cc in rw (first, is) refl), k.2)
-]
-
--- ---- the step with which a name begins
-
-module _ (es : List Entry) (e : Entry) (tidy : IsTidy (after opening es)) where
-  abbrev s : Space
-  s = after opening es
-
-  abbrev z : Space
-  z = (change (after opening es) e.seat e.step).space
-
-  abbrev y : Space
-  y = next (after opening es) e
-
-  differ : Pairs Differ y.objects
-  differ = (step-tidy s e tidy).quiet.differ
-
-  owned : (p : ℕ) (o : ObjectId) → Owns z.objects p o → Owns y.objects p o
-  owned p o own = subst (λ os. Owns os p o) (sym (counted-objects z)) own
-
-  module _ (m : Name) (b : Began s e.seat e.step z m) where
-    owner-gives : (g : ByHand s e.seat m z) → Owns y.objects g.by.process.made m.object → GivenBy (es ++ e ∷ []) (length es) m.object m.process None
-    owner-gives g own = inl (es, e, g.by.process.made, here es e, sends s (length es) e m (always-steps es) g, owns-test y.objects g.by.process.made m.object own)
-
-    by-hand : (g : ByHand s e.seat m z) (own : Bool)
-        → ((g.by.process.made == m.process) || is_some_and (option_map (λ (x : Object). x.owner) (object_in y.objects m.object)) (λ q. q == g.by.process.made)) ≡ own
-        → GivenBy (es ++ e ∷ []) (length es) m.object m.process (when (not own) g.by.process.made)
-    by-hand g true k = elim g.has [
-      | inl own ↦ owner-gives g (owned g.by.process.made m.object own)
-      | inr has ↦ elim (either (g.by.process.made == m.process) _ k) [
-        | inl self ↦ absurd (b.fresh (subst (λ p. HasName s.names p m.object) (eqb-true g.by.process.made m.process self) has))
-        | inr own ↦ owner-gives g (found-owns y.objects g.by.process.made m.object own)
-      ]
-    ]
-    by-hand g false k = elim g.has [
-      | inl own ↦ absurd (neither (g.by.process.made == m.process) _ k (owner-found y.objects g.by.process.made m.object differ (owned g.by.process.made m.object own)))
-      | inr has ↦ (es, e, here es e, sends s (length es) e m (always-steps es) g, has-number s.names g.by.process.made m.object has)
-    ]
-
-    pub gives : GivenBy (es ++ e ∷ []) (length es) m.object m.process (giver_of y (process_of s e.seat) m)
-    gives = elim b.given [
-      | inl g ↦ rw (actor-process s e.seat g.by g.acts) (by-hand g _ refl)
-      | inr g ↦ (
-          let self = eq-eqb g.by.process.made m.process g.process in
-          rw (actor-process s e.seat g.by g.acts, self) (inr (es, e, here es e, asks s e m g)))
-    ]
-
-  -- ---- one step more
-
-  abbrev gift : Name → Gift
-  gift = gift_of y (length es) (process_of s e.seat)
-
-  abbrev new : List Name
-  new = drop (length s.names) y.names
-
-  began : (m : Name) → In m new → Began s e.seat e.step z m
-  began m i =
-      began-past s e.seat e.step z (step-naming s e.seat e.step tidy) m (subst (λ ns. In m (drop (length s.names) ns)) (counted-names z) i)
-
-  given : (g : Gift) → In g (map gift new) → IsGift (es ++ e ∷ []) g
-  given g i =
-      let m = in-map gift g new i in
-      subst (IsGift (es ++ e ∷ [])) m.2 ((let l = length-append es (e ∷ []) in omega (arith, l)), gives m.0 (began m.0 m.1))
-
-  at-place : (g : Gift) → In g (map gift new) → g.place ≡ length es
-  at-place g i = let m = in-map gift g new i in sym (ap (λ (k : Gift). k.place) m.2)
-
-  -- who gives by a name had it before
-  giver-knew : (o : ObjectId) (q r : ℕ) → HolderGives (es ++ e ∷ []) (length es) o r q → knows_after es r o ≡ true
-  giver-knew o q r k =
-      subst (λ xs. knows_after xs r o ≡ true) (sym (stands-take (es ++ e ∷ []) (length es) k.0 k.1 k.2) ∙ take-append_seam es (e ∷ [])) k.4
-
-  module _ (gifts : List Gift) (h : AreNoted es gifts) where
-    came : (o : ObjectId) (r : ℕ) (some rest : List Gift) → knows_after es r o ≡ true → map gift new ≡ some ++ rest → CameTo (gifts ++ some) r o (length es)
-    came o r some rest knew is =
-        let has = h.named r o knew in
-        record {
-          has = (has.0, in-left has.0 gifts some has.1, has.2, has.3);
-          earlier = λ g i to of. elim (in-append g gifts some i) [
-            | inl k ↦ (h.all g k).0
-            | inr k ↦ (
-                let m = in-map gift g new (subst (In g) (sym is) (in-left g some rest k)) in
-                let name = number-has s.names r o knew in
-                let process : m.0.process ≡ r = ap (λ (k : Gift). k.receiver) m.2 ∙ to in
-                let object : m.0.object ≡ o = ap (λ (k : Gift). k.object) m.2 ∙ of in
-                absurd ((began m.0 m.1).fresh (name.0, name.1, name.2 ∙ sym process, name.3 ∙ sym object)))
-          ];
-        }
-
-    new-in_turn : (some rest : List Gift) (g : Gift) → map gift new ≡ some ++ g ∷ rest → GiverCameTo (gifts ++ some) g.giver g.object g.place
-    new-in_turn some rest g is =
-        let i = subst (In g) (sym is) (in-right g some (g ∷ rest) (inl refl)) in
-        rw (at-place g i) (at g.giver (subst (λ n. GivenBy (es ++ e ∷ []) n g.object g.receiver g.giver) (at-place g i) (given g i).1))
-      where
-        at : (giver : Option ℕ) → GivenBy (es ++ e ∷ []) (length es) g.object g.receiver giver → GiverCameTo (gifts ++ some) giver g.object (length es)
-        at None k = tt
-        at (Some r) k = came g.object r some (g ∷ rest) (giver-knew g.object g.receiver r k) is
-
-    pub noted-step : AreNoted (es ++ e ∷ []) (gifts ++ map gift new)
-    noted-step = record {
-      all = λ g i. elim (in-append g gifts (map gift new) i) [ inl k ↦ gift-more es (e ∷ []) g (h.all g k) | inr k ↦ given g k ];
-      in_turn = λ some rest g is. elim (split gifts (map gift new) some rest g is) [
-        | inl k ↦ h.in_turn some k.0 g k.1
-        | inr k ↦ subst (λ gs. GiverCameTo gs g.giver g.object g.place) (sym k.1) (new-in_turn k.0 rest g k.2)
-      ];
-      named = λ p o knows.
-          let knows_now : is_some (number_in y.names p o) ≡ true = subst (λ (x : Space). is_some (number_in x.names p o) ≡ true) (after-append opening es (e ∷ [])) knows in
-          let m = number-has y.names p o knows_now in
-          elim (old-or-past s e.seat e.step z (step-naming s e.seat e.step tidy) m.0 (subst (In m.0) (counted-names z) m.1)) [
-            | inl k ↦ (
-                let g = h.named p o (has-number s.names p o (m.0, k, m.2, m.3)) in
-                (g.0, in-left g.0 gifts (map gift new) g.1, g.2, g.3))
-            | inr k ↦ (
-              gift m.0,
-              in-right (gift m.0) gifts (map gift new) (map-in gift m.0 new (subst (λ ns. In m.0 (drop (length s.names) ns)) (sym (counted-names z)) k)),
-              m.2,
-              m.3,
-            )
-          ];
-    }
-
--- as an engine notes them
-pub noted-next : (h : History) (e : Entry) (k : History) (gifts more : List Gift) → k ≡ with_entry h e → AreNoted h.entries gifts → more ≡ gifts ++ gifts_made h e → AreNoted k.entries more
-unfolding space_after
-noted-next h e k gifts more at noted is =
-    let made = ap (λ (z : Space). gifts ++ map (gift_of z (length h.entries) (process_of (after opening h.entries) e.seat)) (drop (length (after opening h.entries).names) z.names))
-    (after-append opening h.entries (e ∷ [])) in
-    subst (λ (x : History). AreNoted x.entries more) (sym at) (subst (AreNoted (h.entries ++ e ∷ [])) (sym (is ∙ made))
-    (noted-step h.entries e (always-tidy h) gifts noted))
-
--- ---- the chain, from its end
-
--- the places found so far, last first, lead on to q: from the next giver, who came to the object by one of these gifts; with none they
--- are a chain
-abbrev LeadsOn : List Entry → ObjectId → List Gift → List ℕ → ℕ → Option ℕ → Type 0
-LeadsOn es o gifts places q None = IsGiftChain es o (reverse places) q
-LeadsOn es o gifts places q (Some p) = (n : ℕ) × IsChainFrom es o p n (reverse places) q × CameTo gifts p o n
-
--- with these gifts left
-pub record Goes (es : List Entry) (o : ObjectId) (q : ℕ) (gifts : List Gift) (places : List ℕ) (to : Option ℕ) : Type 0 where
-  pub all : (g : Gift) → In g gifts → IsGift es g
-  pub in_turn : AreInTurn gifts
-  pub leads : LeadsOn es o gifts places q to
-
 module _ (es : List Entry) (o : ObjectId) (q : ℕ) where
-  pub goes-from : (gifts : List Gift) (places : List ℕ) → places ≡ [] → AreNoted es gifts → knows_after es q o ≡ true → Goes es o q gifts places (Some q)
-  goes-from gifts places none h knows = record {
-    all = h.all;
-    in_turn = h.in_turn;
-    leads = subst (λ ps. LeadsOn es o gifts ps q (Some q)) (sym none) (length es, refl, record { has = h.named q o knows; earlier = λ g i to of. (h.all g i).0 });
-  }
+  leads-given : (n p i : ℕ) (places : List ℕ) (giver : Option ℕ) → i < n → IsChainFrom es o p n (reverse places) q → GivenBy es i o p giver → LeadsOn es o i (places ++ i ∷ []) q giver
+  leads-given n p i places None lt h g =
+      subst (λ is. IsGiftChain es o is q) (sym (reverse-append places (i ∷ []))) (p, g, chain_from-later es o (reverse places) p (i + 1) n q (omega arith) h)
+  leads-given n p i places (Some r) lt h g = (
+    subst (λ xs. knows_after xs r o ≡ true) (sym (stands-take es i g.0 g.1 g.2)) g.4,
+    subst (λ is. IsChainFrom es o r i is q) (sym (reverse-append places (i ∷ [])))
+        (p, omega arith, (g.0, g.1, g.2, g.3), chain_from-later es o (reverse places) p (i + 1) n q (omega arith) h),
+  )
 
-  module _ (gifts rest : List Gift) (g : Gift) (places : List ℕ) (to : Option ℕ) (last : gifts ≡ rest ++ g ∷ []) (h : Goes es o q gifts places to) where
-    in-rest : (k : Gift) → In k rest → In k gifts
-    in-rest k i = subst (In k) (sym last) (in-left k rest (g ∷ []) i)
+  pub gift-below : (n p : ℕ) (g : Gift) → n ≤ length es → IsGift (take n es) o p g → g.place < n
+  gift-below n p g le h = let l = length-take-le n es le in let below = h.0 in omega (arith, l)
 
-    rest-all : (k : Gift) → In k rest → IsGift es k
-    rest-all k i = h.all k (in-rest k i)
-
-    rest-in_turn : AreInTurn rest
-    rest-in_turn some more k is = h.in_turn some (more ++ g ∷ []) k (last ∙ ap (λ gs. gs ++ g ∷ []) is ∙ append_assoc some (k ∷ more) (g ∷ []))
-
-    passed : (x : Option ℕ) → (g.object ≡ o → x ≡ Some g.receiver → ⊥) → LeadsOn es o gifts places q x → LeadsOn es o rest places q x
-    passed None other k = k
-    passed (Some p) other k = (
-      k.0,
-      k.1,
-      record {
-        has =
-            let has = k.2.has in
-            elim (in-push has.0 g rest (subst (In has.0) last has.1)) [
-              | inl i ↦ (has.0, i, has.2, has.3)
-              | inr is ↦ absurd (other (ap (λ (x : Gift). x.object) is ∙ has.3) (ap (λ n. Some n) (sym (ap (λ (x : Gift). x.receiver) is ∙ has.2))))
-            ];
-        earlier = λ x i to of. k.2.earlier x (in-rest x i) to of;
-      },
-    )
-
-    -- the gift is another one's
-    pub goes-past : (g.object ≡ o → to ≡ Some g.receiver → ⊥) → Goes es o q rest places to
-    goes-past other = record { all = rest-all; in_turn = rest-in_turn; leads = passed to other h.leads }
-
-    taken : (giver : Option ℕ) → LeadsOn es o gifts places q (Some g.receiver) → g.object ≡ o → GivenBy es g.place o g.receiver giver → GiverCameTo rest giver o g.place
-        → LeadsOn es o rest (places ++ g.place ∷ []) q giver
-    taken None k of given came =
-        let lt = k.2.earlier g (subst (In g) (sym last) (in-right g rest (g ∷ []) (inl refl))) refl of in
-        subst (λ is. IsGiftChain es o is q) (sym (reverse-append places (g.place ∷ [])))
-        (g.receiver, given, chain_from-later es o (reverse places) g.receiver (g.place + 1) k.0 q (omega (arith, lt)) k.1)
-    taken (Some r) k of given came =
-        let lt = k.2.earlier g (subst (In g) (sym last) (in-right g rest (g ∷ []) (inl refl))) refl of in (
-          g.place,
-          subst (λ is. IsChainFrom es o r g.place is q) (sym (reverse-append places (g.place ∷ [])))
-              (g.receiver, omega arith, (given.0, given.1, given.2, given.3), chain_from-later es o (reverse places) g.receiver (g.place + 1) k.0 q (omega (arith, lt)) k.1),
-          came,
-        )
-
-    -- it is the one that is looked for
-    pub goes-on : g.object ≡ o → to ≡ Some g.receiver → Goes es o q rest (places ++ g.place ∷ []) g.giver
-    goes-on of is = record {
-      all = rest-all;
-      in_turn = rest-in_turn;
-      leads = taken g.giver (subst (LeadsOn es o gifts places q) is h.leads) of
-          (subst (λ x. GivenBy es g.place x g.receiver g.giver) of (h.all g (subst (In g) (sym last) (in-right g rest (g ∷ []) (inl refl)))).1)
-          (subst (λ x. GiverCameTo rest g.giver x g.place) of (h.in_turn rest [] g last));
-    }
+  pub leads-next : (n p : ℕ) (places : List ℕ) (g : Gift) → n ≤ length es → LeadsOn es o n places q (Some p) → IsGift (take n es) o p g
+      → LeadsOn es o g.place (places ++ g.place ∷ []) q g.giver
+  leads-next n p places g le h k =
+      leads-given n p g.place places g.giver (gift-below n p g le k) h.1
+      (subst (λ xs. GivenBy xs g.place o p g.giver) (take-append-drop n es) (given-more (take n es) (drop n es) g.place o p g.giver k.1))
 
 -- ---- what the number names
 
-pub chain-told : (h g : History) (pid n : ℕ) (k : Holder) (gifts : List Gift) (places : List ℕ) → g ≡ h → AreNoted g.entries gifts → IsHolder (space_after g) pid n k.process k.object
-    → IsChainIn gifts k places → IsChainOf h pid n places
+pub holder-knows : (h : History) (pid n p : ℕ) (o : ObjectId) → IsHolder (space_after h) pid n p o → knows_after h.entries p o ≡ true
 unfolding space_after
-chain-told h g pid n k gifts places at noted is chain = subst (λ (x : History). IsChainOf x pid n places) at (record {
-  process = is.process;
-  object = k.object;
-  lives = is.lives;
-  names = subst (λ p. named (space_after g) p n ≡ Some k.object) (sym is.made) is.names;
-  chain = subst (IsGiftChain g.entries k.object places) (sym is.made) (chain g.entries noted (named-knows (space_after g) k.process n k.object is.names));
-})
+holder-knows h pid n p o k = named-knows (space_after h) p n o k.names

@@ -33,13 +33,13 @@ unread s e never = at e.step refl
     at (Read limit) k = absurd (never limit k)
     at _ k = refl
 
-pub same-option : (a b : Option ℕ) → option_eq (λ x y. x == y) a b ≡ true → a ≡ b
+same-option : (a b : Option ℕ) → option_eq (λ x y. x == y) a b ≡ true → a ≡ b
 same-option None None h = refl
 same-option None (Some y) h = absurd (cc)
 same-option (Some x) None h = absurd (cc)
 same-option (Some x) (Some y) h = ap (λ n. Some n) (eqb-true x y h)
 
-pub option-same : (a b : Option ℕ) → option_eq (λ x y. x == y) a b ≡ false → a ≡ b → ⊥
+option-same : (a b : Option ℕ) → option_eq (λ x y. x == y) a b ≡ false → a ≡ b → ⊥
 option-same a None h e = let wrong : option_eq (λ x y. x == y) None None ≡ false = subst (λ o. option_eq (λ x y. x == y) o None ≡ false) e h in absurd (cc)
 option-same a (Some y) h e =
     let wrong : (y == y) ≡ false = subst (λ o. option_eq (λ x y. x == y) o (Some y) ≡ false) e h in

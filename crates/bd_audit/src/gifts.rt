@@ -1,16 +1,16 @@
 //! The gifts by which a process came to a name.
 
-ghost use Rattle.std.specs.Prelude.{◌≡◌, ◌≤◌, ◌++◌, drop, IfOk, IfErr, IfSome, is_some};
+ghost use Rattle.std.specs.Prelude.{◌≡◌, ◌≤◌, true, IfOk, IfErr, IfSome, MatchResult, is_some};
 ghost use Rattle.bd_uapi.specs.declared.fault.Fault.TheVariants as faults;
 ghost use Rattle.bd_space.specs.Histories.{IsHistory, space_after, history_in};
 ghost use Rattle.bd_engine.specs.Looks as looks;
 ghost use Rattle.bd_audit.specs.Replays.{with_entry};
-ghost use Rattle.bd_audit.specs.Gifts.{IsChainOf};
+ghost use Rattle.bd_audit.specs.Gifts.{IsGiftChain, IsChainOf};
 ghost use Rattle.bd_audit.specs.GiftSearch as spec;
 
-use crate::playing::advance;
+use crate::playing::{advance, played};
 use bd_engine::Engine;
-use bd_space::{Entry, Name, ObjectId, Record};
+use bd_space::{Entry, ObjectId, Record};
 use bd_uapi::Fault;
 use std::alloc::Global;
 
@@ -19,10 +19,6 @@ use std::alloc::Global;
 pub(crate) struct Gift {
     /// The place of its step.
     place: u32,
-    /// The object.
-    object: ObjectId,
-    /// The process whose name began.
-    receiver: u32,
     /// The process that gave the object by its own name for it; without one a gift chain begins here.
     giver: Option<u32>,
 }
@@ -36,72 +32,96 @@ pub(crate) struct Holder {
     object: ObjectId,
 }
 
-// The names past so many.
-fn names_from(engine: &Engine, count: usize) -> &[Name]
-    ensures { result.now ≡ drop count (space_after engine.now).names }
+// The process of a seat, if it has a name for the object.
+fn giver_of(engine: &Engine, seat: u32, object: ObjectId) -> Option<u32>
+    ensures { result ≡ spec.giver_in (space_after engine.now) seat object }
 {
-    let names = engine.names();
-    if count < names.len() {
-        &names[count..]
-    } else {
-        &[]
+    match engine.process_of(seat) {
+        Some(process) => {
+            if engine.knows(process, object) {
+                Some(process)
+            } else {
+                None
+            }
+        }
+        None => None,
     }
 }
 
-// Who gave, by a name of its own, the name that began with the last step, which this process made: it did, unless the
-// name is its own or it owns the object.
-fn giver_of(engine: &Engine, process: Option<u32>, name: &Name) -> Option<u32>
-    ensures { result ≡ spec.giver_of (space_after engine.now) process name.now }
-{
-    let giver = process?;
-    let is_owner = matches!(engine.owner(name.object), Some(owner) if owner == giver);
-    if giver == name.process || is_owner {
-        None
-    } else {
-        Some(giver)
-    }
-}
-
-// Makes the step of an entry of a history, and notes the gifts by which names begin with it.
-fn note(engine: &mut Engine, entry: &Entry, gifts: &mut Vec<Gift>) -> Result<(), Fault>
+// Makes the step of an entry of a history. Answers its gift, if the receiver's name for the object begins with it.
+fn gift_made(
+    engine: &mut Engine,
+    entry: &Entry,
+    receiver: u32,
+    object: ObjectId,
+) -> Result<Option<Gift>, Fault>
     requires lawful { IsHistory (with_entry engine.old entry.now) }
     ensures ok { IfOk result (λ _. engine.new ≡ with_entry engine.old entry.now) }
-    ensures gifts { IfOk result (λ _. gifts.new.items ≡ gifts.old.items ++ spec.gifts_made engine.old entry.now) }
+    ensures gift { IfOk result (λ g. g ≡ spec.gift_made engine.old.entries entry.now receiver object) }
     ensures fault { IfErr result (λ f. f ≡ faults.NoMemory) }
 {
-    let place = engine.len();
-    let process = engine.process_of(entry.seat);
-    let count = engine.names().len();
+    let gift = Gift {
+        place: engine.len(),
+        giver: giver_of(engine, entry.seat, object),
+    };
+    let knew = engine.knows(receiver, object);
     advance(engine, entry)?;
-    let engine = &*engine;
-    for name in names_from(engine, count) {
-        let gift = Gift {
-            place,
-            object: name.object,
-            receiver: name.process,
-            giver: giver_of(engine, process, name),
-        };
-        if gifts.push(gift).is_err() {
-            return Err(Fault::NoMemory);
-        }
+    if !knew && engine.knows(receiver, object) {
+        Ok(Some(gift))
+    } else {
+        Ok(None)
     }
-    Ok(())
 }
 
-// The gift chain of the holder's name, found from its end.
-fn chain_to(alloc: Global, mut gifts: Vec<Gift>, holder: Holder) -> Result<Vec<u32>, Fault>
-    ensures chain { IfOk result (λ v. spec.IsChainIn gifts.items holder v.items) }
-    ensures fault { IfErr result (λ f. f ≡ faults.NoMemory) }
+// A gift by which the receiver came to its name for the object, which it has after these entries: the latest.
+fn gift_to(
+    alloc: Global,
+    seats: u32,
+    entries: &[Entry],
+    receiver: u32,
+    object: ObjectId,
+) -> Result<Gift, Fault>
+    requires seats { (1 ≤ seats) × (seats ≤ 16) }
+    requires lawful { IsHistory (record { seats = seats; entries = entries.now }) }
+    requires named { spec.knows_after entries.now receiver object ≡ true }
+    ensures { MatchResult result (spec.IsGift entries.now object receiver) (λ f. f ≡ faults.NoMemory) }
 {
+    let Ok(mut engine) = Engine::new(alloc, seats) else {
+        return Err(Fault::NoMemory);
+    };
+    let mut last = None;
+    for entry in entries {
+        last = gift_made(&mut engine, entry, receiver, object)?.or(last);
+    }
+    match last {
+        Some(gift) => Ok(gift),
+        None => unreachable!(),
+    }
+}
+
+// A gift chain of the object to the receiver, found from its end.
+fn chain_to(
+    alloc: Global,
+    record: &Record,
+    receiver: u32,
+    object: ObjectId,
+) -> Result<Vec<u32>, Fault>
+    requires seats { (1 ≤ «record».now.seats) × («record».now.seats ≤ 16) }
+    requires lawful { IsHistory (history_in «record».now) }
+    requires named { spec.knows_after «record».now.entries receiver object ≡ true }
+    ensures { MatchResult result (λ v. IsGiftChain «record».now.entries object v.items receiver) (λ f. f ≡ faults.NoMemory) }
+{
+    let entries = record.entries.as_slice();
     let mut places = Vec::new(alloc);
-    let mut next = Some(holder.process);
-    while let Some(gift) = gifts.pop() {
-        if gift.object == holder.object && next == Some(gift.receiver) {
-            if places.push(gift.place).is_err() {
-                return Err(Fault::NoMemory);
-            }
-            next = gift.giver;
+    let mut before = entries.len();
+    let mut next = Some(receiver);
+    while let Some(process) = next {
+        let gift = gift_to(alloc, record.seats, &entries[..before], process, object)?;
+        if places.push(gift.place).is_err() {
+            return Err(Fault::NoMemory);
         }
+        before = gift.place as usize;
+        next = gift.giver;
     }
     places.reverse();
     Ok(places)
@@ -121,28 +141,22 @@ fn holder_in(engine: &Engine, pid: u32, number: u32) -> Option<Holder>
 /// such live process or name. The record is a history; the only fault is `NoMemory`.
 pub fn gift_chain(
     alloc: Global,
-    history: &Record,
+    record: &Record,
     pid: u32,
     number: u32,
 ) -> Result<Option<Vec<u32>>, Fault>
-    requires seats { (1 ≤ history.now.seats) × (history.now.seats ≤ 16) }
-    requires lawful { IsHistory (history_in history.now) }
+    requires seats { (1 ≤ «record».now.seats) × («record».now.seats ≤ 16) }
+    requires lawful { IsHistory (history_in «record».now) }
     // The places are a gift chain for what the number names.
-    ensures chain { IfOk result (λ c. IfSome c (λ v. IsChainOf (history_in history.now) pid number v.items)) }
+    ensures chain { IfOk result (λ c. IfSome c (λ v. IsChainOf (history_in «record».now) pid number v.items)) }
     // There is one exactly where there is such a process and name.
-    ensures none { IfOk result (λ c. is_some c ≡ is_some (looks.named_by (space_after (history_in history.now)) pid number)) }
+    ensures none { IfOk result (λ c. is_some c ≡ is_some (looks.named_by (space_after (history_in «record».now)) pid number)) }
     ensures fault { IfErr result (λ f. f ≡ faults.NoMemory) }
 {
-    let Ok(mut engine) = Engine::new(alloc, history.seats) else {
-        return Err(Fault::NoMemory);
-    };
-    let mut gifts = Vec::new(alloc);
-    for entry in history.entries.as_slice() {
-        note(&mut engine, entry, &mut gifts)?;
-    }
+    let engine = played(alloc, record.seats, record.entries.as_slice())?;
     let Some(holder) = holder_in(&engine, pid, number) else {
         return Ok(None);
     };
-    let places = chain_to(alloc, gifts, holder)?;
+    let places = chain_to(alloc, record, holder.process, holder.object)?;
     Ok(Some(places))
 }

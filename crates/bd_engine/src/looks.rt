@@ -11,7 +11,7 @@ use crate::engine::Engine;
 use crate::tables::Tables;
 use bd_calls::serves;
 use bd_objects::CarriedObjects;
-use bd_space::{Buffer, Name, ObjectId, TodoList};
+use bd_space::{Buffer, ObjectId, TodoList};
 
 impl Tables {
     pub(crate) fn process_of(&self, seat: u32) -> Option<u32>
@@ -127,13 +127,6 @@ impl Engine {
         ensures { result ≡ looks.knows (space_after self.now) process o }
     {
         self.tables().is_known_to(process, o)
-    }
-
-    /// All names (handles) of processes for objects, in the order in which they began. Takes no memory.
-    pub fn names(&self) -> &[Name]
-        ensures { result.now ≡ (space_after self.now).names }
-    {
-        self.tables().objects.names()
     }
 
     /// The live buffer made there. Takes no memory.

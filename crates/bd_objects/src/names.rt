@@ -89,13 +89,6 @@ impl ObjectTable {
     ghost use Rattle.bd_objects.specs.Stands.{StandsFor};
     ghost use Rattle.bd_objects.specs.Room.{UsesNothing};
 
-    /// All names, in the order in which they began.
-    pub fn names(&self) -> &[Name]
-        ensures { Tells (StandsFor self.now) result.now (λ s. s.names) }
-    {
-        self.names.as_slice()
-    }
-
     /// The object that the number names for the process.
     #[tactic(auto, unfolding(bd_space::specs::Names::named))]
     pub fn named(&self, p: u32, n: u32) -> Option<ObjectId>
