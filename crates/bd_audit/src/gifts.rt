@@ -102,21 +102,21 @@ fn gift_to(
 // A gift chain of the object to the receiver, found from its end.
 fn chain_to(
     alloc: Global,
-    record: &Record,
+    history: &Record,
     receiver: u32,
     object: ObjectId,
 ) -> Result<Vec<u32>, Fault>
-    requires seats { (1 ≤ «record».now.seats) × («record».now.seats ≤ 16) }
-    requires lawful { IsHistory (history_in «record».now) }
-    requires named { spec.knows_after «record».now.entries receiver object ≡ true }
-    ensures { MatchResult result (λ v. IsGiftChain «record».now.entries object v.items receiver) (λ f. f ≡ faults.NoMemory) }
+    requires seats { (1 ≤ history.now.seats) × (history.now.seats ≤ 16) }
+    requires lawful { IsHistory (history_in history.now) }
+    requires named { spec.knows_after history.now.entries receiver object ≡ true }
+    ensures { MatchResult result (λ v. IsGiftChain history.now.entries object v.items receiver) (λ f. f ≡ faults.NoMemory) }
 {
-    let entries = record.entries.as_slice();
+    let entries = history.entries.as_slice();
     let mut places = Vec::new(alloc);
     let mut before = entries.len();
     let mut next = Some(receiver);
     while let Some(process) = next {
-        let gift = gift_to(alloc, record.seats, &entries[..before], process, object)?;
+        let gift = gift_to(alloc, history.seats, &entries[..before], process, object)?;
         if places.push(gift.place).is_err() {
             return Err(Fault::NoMemory);
         }
@@ -141,22 +141,22 @@ fn holder_in(engine: &Engine, pid: u32, number: u32) -> Option<Holder>
 /// such live process or name. The record is a history; the only fault is `NoMemory`.
 pub fn gift_chain(
     alloc: Global,
-    record: &Record,
+    history: &Record,
     pid: u32,
     number: u32,
 ) -> Result<Option<Vec<u32>>, Fault>
-    requires seats { (1 ≤ «record».now.seats) × («record».now.seats ≤ 16) }
-    requires lawful { IsHistory (history_in «record».now) }
+    requires seats { (1 ≤ history.now.seats) × (history.now.seats ≤ 16) }
+    requires lawful { IsHistory (history_in history.now) }
     // The places are a gift chain for what the number names.
-    ensures chain { IfOk result (λ c. IfSome c (λ v. IsChainOf (history_in «record».now) pid number v.items)) }
+    ensures chain { IfOk result (λ c. IfSome c (λ v. IsChainOf (history_in history.now) pid number v.items)) }
     // There is one exactly where there is such a process and name.
-    ensures none { IfOk result (λ c. is_some c ≡ is_some (looks.named_by (space_after (history_in «record».now)) pid number)) }
+    ensures none { IfOk result (λ c. is_some c ≡ is_some (looks.named_by (space_after (history_in history.now)) pid number)) }
     ensures fault { IfErr result (λ f. f ≡ faults.NoMemory) }
 {
-    let engine = played(alloc, record.seats, record.entries.as_slice())?;
+    let engine = played(alloc, history.seats, history.entries.as_slice())?;
     let Some(holder) = holder_in(&engine, pid, number) else {
         return Ok(None);
     };
-    let places = chain_to(alloc, record, holder.process, holder.object)?;
+    let places = chain_to(alloc, history, holder.process, holder.object)?;
     Ok(Some(places))
 }

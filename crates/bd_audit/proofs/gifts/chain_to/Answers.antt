@@ -7,11 +7,11 @@ use Rattle.bd_audit.proofs.GiftSteps.{LeadsOn, gift-below, leads-next}
 use Rattle.bd_audit.proofs.gifts.chain_to.Goals as goal
 
 pub gift_to-requires-clause-lawful : goal.gift_to-requires-clause-lawful
-gift_to-requires-clause-lawful c = front-lawful c.loop-next.before (history_in c.args.record.now) c.as_slice-entries.result.now c.as_slice-entries.ensures c.requires.lawful
+gift_to-requires-clause-lawful c = front-lawful c.loop-next.before (history_in c.args.history.now) c.as_slice-entries.result.now c.as_slice-entries.ensures c.requires.lawful
 
 pub loop-next-preserved : goal.loop-next-preserved
 loop-next-preserved c =
-    let es = c.args.record.now.entries in
+    let es = c.args.history.now.entries in
     let o = c.args.object in
     let q = c.args.receiver in
     let n = c.loop-next.before in
