@@ -76,6 +76,13 @@ no_name q i = false
 abbrev pub at_object : ObjectId → ObjectTest
 at_object o i = same i o
 
+-- these objects, and p's names of them
+abbrev pub is_among : List ObjectId → ObjectTest
+is_among os i = list_any (λ o. at_object o i) os
+
+abbrev pub names_among : ℕ → List ObjectId → NameTest
+names_among p os q i = list_any (λ o. at_name p o q i) os
+
 -- all that these references refer to, and its names
 abbrev pub names_of_references : List Reference → NameTest
 names_of_references rs p o = list_any (λ r. same r.object o && names_for p r.holder) rs
