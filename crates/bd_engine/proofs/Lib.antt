@@ -24,4 +24,4 @@ pub mod Reading
 pub mod Following
 pub mod FollowingObjects
 pub mod Clearing
-pub mod NoObjects
+pub mod Afterwards
