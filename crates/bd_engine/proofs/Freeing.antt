@@ -1,38 +1,39 @@
--- Freeing a buffer between two steps: only a one-way call on its target may ripen, no call is abandoned, and where it referred to
--- its target alone, nothing else is looked at.
-use Rattle.std.proofs.Common.{◌≡◌, ℕ, Bool, true, false, not, ◌&&◌, ◌||◌, List, [], ◌∷◌, Option, Some, None, inl, inr, refl, ap, sym, subst, ◌∙◌, filter, find, arith}
-use Rattle.std.specs.Prelude.{option_and_then}
-use Rattle.std.specs.List.{list_all}
+-- Freeing a buffer between two steps: only a one-way call on its target may ripen, no call is abandoned, and what it referred to is
+-- looked at alone.
+use Rattle.std.proofs.Common.{◌≡◌, ℕ, ◌==◌, Bool, true, false, ◌&&◌, List, Option, Some, None, Ok, Err, inl, inr, refl, ap, sym, ◌∙◌, find, arith}
+use Rattle.std.specs.Prelude.{if◌then◌else◌}
 use Rattle.std.specs.Option.{option_map}
-use Rattle.std.proofs.lemmas.Bool.{eqb-true}
+use Rattle.std.proofs.lemmas.Bool.{eqb-true, eq-eqb}
+use Rattle.bd_uapi.specs.declared.fault.Note.TheVariants.{NotHandedOut}
 use Rattle.bd_space.specs.declared.step.ObjectId.{ObjectId}
 use Rattle.bd_space.specs.declared.space.Buffer.{Buffer}
 use Rattle.bd_space.specs.declared.space.Reference.{Reference}
 use Rattle.bd_space.specs.declared.space.Turn.{Turn}
 use Rattle.bd_space.specs.declared.space.Holder.{Holder}
 use Rattle.bd_space.specs.declared.space.Holder.TheVariants.{Asked, Carried, Target, Handshake, Manager}
-use Rattle.bd_space.specs.Words.{same, when}
+use Rattle.bd_space.specs.Words.{same}
 use Rattle.bd_space.specs.Space.{Space}
 use Rattle.bd_space.specs.References.{is_of_buffer, names_for}
 use Rattle.bd_space.specs.Returns.{buffer_in}
-use Rattle.bd_space.specs.Freeing.{without_buffer, is_made_at}
+use Rattle.bd_space.specs.Freeing.{without_buffer, is_made_at, is_buffer_at, buffer_at_pointer}
 use Rattle.bd_space.specs.Turns.{turn_of}
 use Rattle.bd_space.specs.Notices.{follow}
 use Rattle.bd_space.specs.Outcomes.{completed}
-use Rattle.bd_space.specs.Local.{names_of_references, objects_of_references, no_name, at_object, ripen_of}
+use Rattle.bd_space.specs.Local.{NameTest, ObjectTest, names_of_references, objects_of_references, at_name, at_object, is_among, names_among, follow_of, ripen_of}
+use Rattle.bd_buffers.specs.Buffer.{freed_buffer}
 use Rattle.bd_laws.specs.Lists.{In, Pairs}
-use Rattle.bd_laws.specs.Objects.{Differ}
+use Rattle.bd_laws.specs.Objects.{Earlier}
 use Rattle.bd_laws.specs.OneWayCalls.{Waits}
 use Rattle.bd_laws.specs.Quiet.{Elsewhere}
 use Rattle.bd_laws.specs.Tidy.{IsTidy}
-use Rattle.bd_laws.proofs.Lists.{find-in, find-some, pairs-either}
-use Rattle.bd_laws.proofs.Tests.{both, same-eq, eq-same}
+use Rattle.bd_laws.proofs.Lists.{in-filter, map-in, any-found, any-in, find-in, find-some, pairs-either}
+use Rattle.bd_laws.proofs.Tests.{both, and-both, same-eq, eq-same}
 use Rattle.bd_laws.proofs.Follow.{follow-local}
-use Rattle.bd_laws.proofs.Fewer.{SameSaid, any-filtered, elsewhere-said, filtered-said, to-false}
+use Rattle.bd_laws.proofs.Fewer.{elsewhere-said, filtered-said, to-false}
 use Rattle.bd_laws.proofs.Freeing.{references_of_buffer, ripen_of-elsewhere, freed-local}
 use Rattle.bd_laws.proofs.Others.{freed-two_way}
-use Rattle.bd_objects.specs.OnlyTarget.{is_target, is_only_target, only_target_in}
-use Rattle.bd_engine.specs.Freed.{turn_target, turn_target_at, ripen_next, follow_freed}
+use Rattle.bd_engine.specs.Freed.{turn_target, turn_target_at, ripen_next, referred, IsFreeing}
+use Rattle.bd_engine.proofs.Afterwards.{ripened-ordered}
 
 module _ (s : Space) (made : ℕ) (tidy : IsTidy s) where
   -- one buffer at most was made there
@@ -73,79 +74,74 @@ module _ (s : Space) (made : ℕ) (tidy : IsTidy s) where
       some : {a b : ObjectId} → Some a ≡ Some b → a ≡ b
       some h = cc
 
--- ---- the buffer's references are all of its target
+-- ---- the buffer's references are of these objects, and in its receiver's window
 
-in-all : {A : Type 0} (p : A → Bool) (x : A) (xs : List A) → list_all p xs ≡ true → In x xs → p x ≡ true
-in-all p x [] h l = absurd l
-in-all p x (y ∷ ys) h (inl is) = ap p (sym is) ∙ (both (p y) (list_all p ys) h).0
-in-all p x (y ∷ ys) h (inr l) = in-all p x ys (both (p y) (list_all p ys) h).1 l
+-- where more is looked at, nothing is pending elsewhere either
+more-elsewhere : (a c : NameTest) (b e : ObjectTest) (z : Space) → ((p : ℕ) (o : ObjectId) → c p o ≡ false → a p o ≡ false) → ((o : ObjectId) → e o ≡ false → b o ≡ false)
+    → Elsewhere a b z → Elsewhere c e z
+more-elsewhere a c b e z names objects h = record {
+  names = λ m l none. h.names m l (names m.process m.object none);
+  objects = λ x l none. h.objects x l (objects x.id none);
+  deaths = λ d l none. h.deaths d l (names d.process d.object none);
+  notices = λ w o l k none. h.notices w o l k (objects o none);
+  tellings = h.tellings;
+  made = λ x l none wants. h.made x l (objects x.id none) wants;
+}
 
-all-on : (made : ℕ) (references : List Reference) (o : ObjectId) → only_target_in made references ≡ Some o → list_all (is_only_target made o) references ≡ true
-all-on made references o e = at (find (λ (r : Reference). is_of_buffer made r.holder) references) e
-  where
-    at_first : (b : Bool) (i : ObjectId) → list_all (is_only_target made i) references ≡ b → when b i ≡ Some o → list_all (is_only_target made o) references ≡ true
-    at_first true i f h = let is : i ≡ o = cc in subst (λ j. list_all (is_only_target made j) references ≡ true) is f
-    at_first false i f h = absurd (cc)
+-- who has a name by the reference of a buffer receives it
+window-name : (q made : ℕ) (h : Holder) → is_of_buffer made h ≡ true → names_for q h ≡ true → h ≡ Carried made q
+window-name q made (Carried b p) e f = ap (λ n. Carried n p) (eqb-true b made e) ∙ ap (Carried made) (eqb-true p q f)
+window-name q made (Target b p) e f = absurd (cc)
+window-name q made (Asked p) e f = absurd (cc)
+window-name q made Handshake e f = absurd (cc)
+window-name q made Manager e f = absurd (cc)
 
-    at : (f : Option Reference) → option_and_then (λ (r : Reference). when (list_all (is_only_target made r.object) references) r.object) f ≡ Some o
-        → list_all (is_only_target made o) references ≡ true
-    at None h = absurd (cc)
-    at (Some r) h = at_first (list_all (is_only_target made r.object) references) r.object refl h
+module _ (s : Space) (p made : ℕ) (os : List ObjectId) (k : IsFreeing p made os s) where
+  referred-object : (o : ObjectId) → objects_of_references (references_of_buffer s made) o ≡ true → is_among os o ≡ true
+  referred-object o e =
+      let r = any-found (λ (r : Reference). same r.object o) (references_of_buffer s made) e in
+      ap (λ (b : ObjectTest). b o) k.touches.among
+      ∙ any-in (λ i. at_object i o) r.0.object (referred s made) (map-in (λ (r : Reference). r.object) r.0 (references_of_buffer s made) r.1) (eq-same o r.0.object (sym (same-eq r.0.object o r.2)))
 
-target-only : (made : ℕ) (o : ObjectId) (r : Reference) → is_only_target made o r ≡ true → not (is_of_buffer made r.holder) ≡ false → (same r.object o ≡ true) × (is_target r.holder ≡ true)
-target-only made o r h gone = both (same r.object o) (is_target r.holder) (at (is_of_buffer made r.holder) h gone)
-  where
-    at : (b : Bool) → (not b || (same r.object o && is_target r.holder)) ≡ true → not b ≡ false → (same r.object o && is_target r.holder) ≡ true
-    at true k e = k
-    at false k e = absurd (cc)
+  referred-name : (q : ℕ) (o : ObjectId) → names_of_references (references_of_buffer s made) q o ≡ true → names_among p os q o ≡ true
+  referred-name q o e =
+      let r = any-found (λ (r : Reference). same r.object o && names_for q r.holder) (references_of_buffer s made) e in
+      let t = both (same r.0.object o) (names_for q r.0.holder) r.2 in
+      let i = in-filter (λ (r : Reference). is_of_buffer made r.holder) r.0 s.references r.1 in
+      let carried = window-name q made r.0.holder i.1 t.1 in
+      let its = k.tidy.in_windows r.0 k.buffer q i.0 k.here (carried ∙ ap (λ n. Carried n q) (sym k.made_there)) in
+      let x = any-found (λ i. at_object i o) os (referred-object o (any-in (λ (r : Reference). same r.object o) r.0 (references_of_buffer s made) r.1 t.0)) in
+      any-in (λ i. at_name p i q o) x.0 os x.1 (and-both (q == p) (same o x.0) (eq-eqb q p (sym its ∙ k.is_its)) x.2)
 
--- a target's reference gives nobody a name
-target-unnamed : (p : ℕ) (h : Holder) → is_target h ≡ true → names_for p h ≡ false
-target-unnamed p (Target b q) e = refl
-target-unnamed p (Asked q) e = absurd (cc)
-target-unnamed p (Carried b q) e = absurd (cc)
-target-unnamed p Handshake e = absurd (cc)
-target-unnamed p Manager e = absurd (cc)
+  freed-elsewhere : (turn : Option ObjectId) → Elsewhere (names_among p os) (is_among os) (ripen_next turn (without_buffer s made))
+  freed-elsewhere turn =
+      at turn (more-elsewhere _ (names_among p os) _ (is_among os) (without_buffer s made)
+      (λ q o none. to-false _ (λ e. let yes = referred-name q o e in cc)) (λ o none. to-false _ (λ e. let yes = referred-object o e in cc)) (gone-elsewhere s made k.tidy))
+    where
+      at : (turn : Option ObjectId) → Elsewhere (names_among p os) (is_among os) (without_buffer s made) → Elsewhere (names_among p os) (is_among os) (ripen_next turn (without_buffer s made))
+      at None h = h
+      at (Some o) h = ripen_of-elsewhere (names_among p os) (is_among os) o (without_buffer s made) h
 
-module _ (made : ℕ) (o : ObjectId) (references : List Reference) (only : list_all (is_only_target made o) references ≡ true) where
-  gone-on : (r : Reference) → In r references → not (is_of_buffer made r.holder) ≡ false → (same r.object o ≡ true) × (is_target r.holder ≡ true)
-  gone-on r l e = target-only made o r (in-all (is_only_target made o) r references only l) e
-
-  gone-object : (i : ObjectId) → at_object o i ≡ false → (r : Reference) → In r references → not (is_of_buffer made r.holder) ≡ false → same r.object i ≡ false
-  gone-object i none r l e = to-false (same r.object i) (λ k.
-      let yes = eq-same i o (sym (same-eq r.object i k) ∙ same-eq r.object o (gone-on r l e).0) in cc)
-
-  target-said : SameSaid no_name (at_object o) references (filter (λ r. not (is_of_buffer made r.holder)) references)
-  target-said = record {
-    named = λ p i none. any-filtered _ (λ r. not (is_of_buffer made r.holder)) references (λ r l e. to-false _ (λ k.
-        let named = (both (same r.object i) (names_for p r.holder) k).1 in let unnamed = target-unnamed p r.holder (gone-on r l e).1 in cc));
-    held = λ i none. any-filtered _ (λ r. not (is_of_buffer made r.holder)) references (λ r l e. gone-object i none r l e);
-    strong = λ i none. any-filtered _ (λ r. not (is_of_buffer made r.holder)) references (λ r l e. to-false _ (λ k.
-        let is = (both r.strong (same r.object i) k).1 in let no = gone-object i none r l e in cc));
-  }
-
-module _ (s : Space) (made : ℕ) (tidy : IsTidy s) where
-  target-elsewhere : (o : ObjectId) → only_target_in made s.references ≡ Some o → Elsewhere no_name (at_object o) (without_buffer s made)
-  unfolding without_buffer
-  target-elsewhere o e =
-      let k = elsewhere-said no_name (at_object o) s _ tidy.quiet.followed (target-said made o s.references (all-on made s.references o e)) in
-      record { names = k.names; objects = k.objects; deaths = k.deaths; notices = k.notices; tellings = k.tellings; made = k.made }
-
-  next-elsewhere : (o : ObjectId) (turn : Option ObjectId) → Elsewhere no_name (at_object o) (without_buffer s made) → Elsewhere no_name (at_object o) (ripen_next turn (without_buffer s made))
-  next-elsewhere o None h = h
-  next-elsewhere o (Some i) h = ripen_of-elsewhere no_name (at_object o) i (without_buffer s made) h
-
-  followed : (turn only : Option ObjectId) → only_target_in made s.references ≡ only
-      → follow (ripen_next turn (without_buffer s made)) ≡ follow_freed only (ripen_next turn (without_buffer s made))
-  followed turn None e = refl
-  followed turn (Some o) e = follow-local no_name (at_object o) (ripen_next turn (without_buffer s made)) (next-elsewhere o turn (target-elsewhere o e))
-
-  pub freed-followed : (turn only : Option ObjectId) → turn_target_at s made ≡ turn → only_target_in made s.references ≡ only
-      → completed (without_buffer s made) ≡ follow_freed only (ripen_next turn (without_buffer s made))
-  freed-followed turn only e f = freed-follows s made tidy turn e ∙ followed turn only f
+  pub freed-followed : (turn : Option ObjectId) → turn_target_at s made ≡ turn
+      → completed (without_buffer s made) ≡ follow_of (names_among p os) (is_among os) (ripen_next turn (without_buffer s made))
+  freed-followed turn e =
+      freed-follows s made k.tidy turn e ∙ follow-local (names_among p os) (is_among os) (ripen_next turn (without_buffer s made)) (freed-elsewhere turn)
 
 -- freeing leaves the objects
-pub freed-differ : (s : Space) (made : ℕ) (turn : Option ObjectId) → Pairs Differ s.objects → Pairs Differ (ripen_next turn (without_buffer s made)).objects
-unfolding without_buffer ripen_of
-freed-differ s made None h = h
-freed-differ s made (Some o) h = h
+pub freed-ordered : (s : Space) (made : ℕ) (turn : Option ObjectId) → Pairs Earlier s.objects → Pairs Earlier (ripen_next turn (without_buffer s made)).objects
+unfolding without_buffer
+freed-ordered s made turn h = ripened-ordered turn (without_buffer s made) h
+
+-- ---- the buffer that may be freed is the process's
+
+pub freed-buffer : (s : Space) (p pointer made : ℕ) → Ok made ≡ freed_buffer (buffer_at_pointer s p pointer) → (b : Buffer) × In b s.buffers × (b.made ≡ made) × (b.receiver ≡ p)
+unfolding buffer_at_pointer
+freed-buffer s p pointer made e = at (find (is_buffer_at p pointer) s.buffers) refl e
+  where
+    handed : (b : Buffer) → In b s.buffers → b.receiver ≡ p → (h : Bool) → Ok made ≡ (if h then Ok b.made else Err NotHandedOut) → (c : Buffer) × In c s.buffers × (c.made ≡ made) × (c.receiver ≡ p)
+    handed b l its true k = (b, l, cc, its)
+    handed b l its false k = absurd (cc)
+
+    at : (f : Option Buffer) → find (is_buffer_at p pointer) s.buffers ≡ f → Ok made ≡ freed_buffer f → (b : Buffer) × In b s.buffers × (b.made ≡ made) × (b.receiver ≡ p)
+    at None f k = absurd (cc)
+    at (Some b) f k = let l = find-in (is_buffer_at p pointer) b s.buffers f in handed b l.0 (eqb-true b.receiver p (both (b.receiver == p) _ l.1).0) b.handed k

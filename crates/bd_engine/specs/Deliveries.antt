@@ -1,5 +1,5 @@
 -- What is so of a sending that was read, and of a delivery that its receiver's window can take.
-use Rattle.std.specs.Prelude.{ℕ, ◌≡◌, ◌+◌, ◌≤◌, Bool, List, Option, Result, Ok, All, length}
+use Rattle.std.specs.Prelude.{ℕ, ◌≡◌, ◌+◌, ◌*◌, ◌≤◌, Bool, List, Option, Result, Ok, All, length}
 use Rattle.bd_uapi.specs.declared.command.TransactionData.{TransactionData}
 use Rattle.bd_uapi.specs.declared.fault.Cause.{Cause}
 use Rattle.bd_space.specs.declared.step.ObjectId.{ObjectId}
@@ -49,7 +49,7 @@ placed_for s d receiver target one_way x =
 
 -- memory for all that a delivery and what follows from it take
 pub record IsReady (t : Tables) (v : Delivery) : Type 0 where
-  pub room : HasRoom t (length v.sending.made) (length v.sending.items + 1) (length v.sending.items) (length v.sending.items + 3)
+  pub room : HasRoom t (length v.sending.made) (length v.sending.items + 1) (length v.sending.items) (2 * length v.sending.items + 3)
   pub buffer : 1 ≤ buffer_room t.windows v.receiver.made
 
 -- a change takes room for so many frames, one-way calls and work items, and adds at most so many objects

@@ -74,16 +74,16 @@ pub record Uses (old new : Tables) (objects frames turns works : ℕ) : Type 0 w
 abbrev pub UsesNothing : Tables → Tables → Type 0
 UsesNothing old new = Uses old new 0 0 0 0
 
--- room for the work items that follow from a change, and for so many more
+-- room for the work items of the calls that may close, and for so many more
 abbrev pub CanFollow : Tables → ℕ → Type 0
-CanFollow t works = call_rooms.frame_count t.calls + call_rooms.turn_count t.calls + object_rooms.object_count t.objects + works ≤ call_rooms.work_room t.calls
+CanFollow t works = call_rooms.frame_count t.calls + works ≤ call_rooms.work_room t.calls
 
 -- room for a step: for so many objects, references, names and work items, a thread, a frame, a one-way call and a death
--- notification, and for the work items that follow from them all
+-- notification, for a call that ripens and for those that may close
 pub record HasRoom (t : Tables) (objects references names works : ℕ) : Type 0 where
   pub in_objects : object_rooms.HasRoom t.objects
       (record { objects = objects; references = references; names = names; deaths = 1 })
   pub threads_fit : 1 ≤ call_rooms.thread_room t.calls
   pub frames_fit : 1 ≤ call_rooms.frame_room t.calls
   pub turns_fit : 1 ≤ call_rooms.turn_room t.calls
-  pub can_follow : CanFollow t (objects + works + 2)
+  pub can_follow : CanFollow t (works + 2)

@@ -1,13 +1,10 @@
 -- How a read takes work items off a list.
-use Rattle.std.specs.Prelude.{ℕ, ◌≡◌, ◌-◌, Bool, List, Some, if◌then◌else◌}
-use Rattle.std.specs.Option.{is_some}
-use Rattle.std.specs.List.{list_any}
+use Rattle.std.specs.Prelude.{ℕ, ◌≡◌, ◌-◌, List, Some}
 use Rattle.bd_space.specs.declared.space.Thread.{Thread}
 use Rattle.bd_space.specs.declared.space.TodoList.{TodoList}
 use Rattle.bd_space.specs.declared.space.Work.{Work}
 use Rattle.bd_space.specs.Space.{Space}
-use Rattle.bd_space.specs.Todo.{notice_of, list_to_read, work_on}
-use Rattle.bd_space.specs.Notices.{follow}
+use Rattle.bd_space.specs.Todo.{list_to_read, work_on}
 use Rattle.bd_space.specs.ReadItems.{taken}
 use Rattle.bd_space.specs.Returns.{stream_of}
 use Rattle.bd_laws.specs.Tidy.{IsTidy}
@@ -21,12 +18,3 @@ pub record AreTaken (s : Space) (limit : ℕ) (list works : List Work) (stream :
 pub record IsReading (t : Thread) (list : TodoList) (s : Space) : Type 0 where
   pub tidy : IsTidy s
   pub reads : list_to_read s t ≡ work_on s.todo (Some list)
-
--- ---- what follows from reading these
-
-abbrev pub has_notice : List Work → Bool
-has_notice ws = list_any (λ w. is_some (notice_of w.kind)) ws
-
--- nothing, where there is no Notice among them
-abbrev pub follow_reading : List Work → Space → Space
-follow_reading ws s = if has_notice ws then follow s else s

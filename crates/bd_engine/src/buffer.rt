@@ -1,6 +1,6 @@
 //! Buffers: a delivery's bytes as the receiver sees them, and the step of `BC_FREE_BUFFER`.
 
-ghost use Rattle.std.specs.Prelude.{◌≡◌, ◌≤◌, All, length, Some};
+ghost use Rattle.std.specs.Prelude.{◌≡◌, ◌+◌, ◌≤◌, All, IfOk, length, Some};
 ghost use Rattle.std.specs.Option.{option_copied};
 ghost use Rattle.bd_space.specs.Space.{Space};
 ghost use Rattle.bd_space.specs.Seats.{process_in};
@@ -11,22 +11,26 @@ ghost use Rattle.bd_space.specs.Translation as translations;
 ghost use Rattle.bd_space.specs.declared.space.Process.{Process};
 ghost use Rattle.bd_space.specs.Freeing as freeing;
 ghost use Rattle.bd_space.specs.Outcomes.{completed};
-ghost use Rattle.bd_objects.specs.Room.{object_count};
+ghost use Rattle.bd_space.specs.Local.{is_among};
+ghost use Rattle.bd_laws.specs.Lists.{Pairs};
+ghost use Rattle.bd_laws.specs.Objects.{NotLater};
 ghost use Rattle.bd_calls.specs.Room as call_rooms;
 ghost use Rattle.bd_buffers.specs.WindowsStand.{CanAdd, buffer_room};
 ghost use Rattle.bd_buffers.specs.Buffer.{freed_buffer};
 ghost use Rattle.bd_engine.specs.Freed as freed;
-ghost use Rattle.bd_engine.specs.Stands.{Before, Within, Tells, TellsWithin, CanFollow, MakesWithin, MakesOfTidy, Uses, UsesNothing};
-ghost use Rattle.bd_engine.specs.Following.{MakesOfDiffering};
-ghost use Rattle.bd_engine.specs.Meets.{IsBy, IsStep};
+ghost use Rattle.bd_engine.specs.Stands.{Before, Within, Tells, TellsWithin, CanFollow, MakesWithin, UsesNothing};
+ghost use Rattle.bd_engine.specs.Following.{AreTouched};
+ghost use Rattle.bd_engine.specs.Meets.{IsBy, IsKept, IsStep};
 ghost use Rattle.bd_engine.specs.Deliveries.{IsInside, Spends};
 
 use crate::answer::Plain;
 use crate::tables::Tables;
+use crate::touched::in_order;
 use crate::why::Why;
 use bd_parcel::put_object;
 use bd_space::{Actor, Buffer, Bytes, Item, ObjectId, Process, Turn};
 use bd_uapi::Note;
+use std::alloc::AllocError;
 
 // A one-way call, by its buffer.
 fn turn_of(b: &Buffer) -> Option<Turn>
@@ -125,39 +129,31 @@ impl Tables {
         turn_target(self.windows.buffer(made))
     }
 
-    // The oldest one-way call on the object becomes due, if there is an object.
-    fn ripen_next(&mut self, object: Option<ObjectId>)
-        requires { 1 ≤ call_rooms.work_room self.old.calls }
-        ensures stands { MakesWithin self.old self.new (freed.ripen_next object) }
-        ensures uses { Uses self.old self.new 0 0 0 1 }
+    // The objects that the buffer refers to in the order in which they were made, and room for what follows at them.
+    fn ready_to_free(&mut self, made: u32) -> Result<Vec<ObjectId>, AllocError>
+        ensures stands { IsKept self.old self.new }
+        ensures in_order { IfOk result (λ os. Pairs NotLater os.items) }
+        ensures touched { IfOk result
+            (λ os. (s : Space) → Before self.old s → AreTouched (is_among (freed.referred s made)) os.items) }
+        ensures room { IfOk result (λ os. CanFollow self.new (length os.items + 2)) }
     {
-        if let Some(object) = object {
-            self.calls.ripen_on(self.steps, object);
-        }
+        let touched = in_order(self.objects.referred(self.alloc, made)?);
+        self.reserve(0, 0, 0, touched.len())?;
+        Ok(touched)
     }
 
-    // What follows where a buffer has gone: at this object alone, if the buffer referred to nothing else.
-    fn follow_freed(&mut self, only: Option<ObjectId>)
-        requires one { 1 ≤ call_rooms.work_room self.old.calls }
-        requires all { object_count self.old.objects ≤ call_rooms.work_room self.old.calls }
-        ensures { MakesOfDiffering self.old self.new (freed.follow_freed only) }
+    // The process's buffer goes, and what follows from that: a call may ripen on its target, and the process's names go, and
+    // the objects, that it alone kept. No call is abandoned by it.
+    fn lose_buffer(&mut self, p: u32, made: u32, touched: &[ObjectId])
+        requires in_order { Pairs NotLater touched.now }
+        requires room { CanFollow self.old (length touched.now + 2) }
+        ensures { (s : Space) → Within self.old s → freed.IsFreeing p made touched.now s
+            → Within self.new (completed (freeing.without_buffer s made)) }
     {
-        match only {
-            Some(object) => self.follow_object(object),
-            None => self.follow(),
-        }
-    }
-
-    // The buffer goes, and what follows from that. No call is abandoned by it, and none ripens but on its target.
-    fn lose_buffer(&mut self, made: u32)
-        requires { CanFollow self.old 2 }
-        ensures stands { MakesOfTidy self.old self.new (λ s. completed (freeing.without_buffer s made)) }
-    {
-        let turn = self.turn_target_at(made);
-        let only = self.objects.only_target(made);
+        let target = self.turn_target_at(made);
         self.drop_buffer(made);
-        self.ripen_next(turn);
-        self.follow_freed(only);
+        self.ripen_next(target);
+        self.follow_among(p, touched, touched);
     }
 
     /// The step by which a process frees a buffer that was handed out to it.
@@ -168,10 +164,10 @@ impl Tables {
             Ok(made) => made,
             Err(note) => return Ok(Plain::Noted(note)),
         };
-        if self.reserve(0, 0, 0, 0).is_err() {
+        let Ok(touched) = self.ready_to_free(made) else {
             return Err(Why::NoMemory);
-        }
-        self.lose_buffer(made);
+        };
+        self.lose_buffer(a.process.made, made, touched.as_slice());
         Ok(Plain::Accepted)
     }
 }

@@ -5,14 +5,13 @@ ghost use Rattle.bd_space.specs.Space.{Space};
 ghost use Rattle.bd_space.specs.Names.{names_go};
 ghost use Rattle.bd_space.specs.References.{objects_go};
 ghost use Rattle.bd_space.specs.Notices.{deaths_go, work_goes, notify, follow};
-ghost use Rattle.bd_space.specs.Turns.{ripen};
 ghost use Rattle.bd_space.specs.Settle.{settle};
-ghost use Rattle.bd_space.specs.Local.{ripen_of, close_up};
-ghost use Rattle.bd_space.specs.Outcomes.{completed};
+ghost use Rattle.bd_space.specs.Local.{close_up};
 ghost use Rattle.bd_objects.specs.Room.{object_count};
-ghost use Rattle.bd_calls.specs.Room.{work_room, frame_count, turn_count};
-ghost use Rattle.bd_engine.specs.Stands.{StandsAt, Uses, CanFollow, MakesWithin, UsesNothing};
+ghost use Rattle.bd_calls.specs.Room.{work_room, frame_count};
+ghost use Rattle.bd_engine.specs.Stands.{StandsAt, Uses, MakesWithin, UsesNothing};
 ghost use Rattle.bd_engine.specs.Notified.{notified};
+ghost use Rattle.bd_engine.specs.Freed.{ripen_next};
 
 use crate::tables::Tables;
 use bd_space::{ObjectId, TodoList};
@@ -84,21 +83,15 @@ impl Tables {
         self.calls.settle(self.steps);
     }
 
-    // One-way calls that are ripe become due.
-    fn ripen(&mut self)
-        requires { turn_count self.old.calls ≤ work_room self.old.calls }
-        ensures stands { MakesWithin self.old self.new ripen }
-        ensures uses { Uses self.old self.new 0 0 0 (turn_count self.old.calls) }
-    {
-        self.calls.ripen(self.steps);
-    }
-
-    /// The oldest one-way call on the object becomes due, if it is ripe.
-    pub(crate) fn ripen_on(&mut self, o: ObjectId)
+    /// The oldest one-way call on the object becomes due if it is ripe, where there is an object.
+    pub(crate) fn ripen_next(&mut self, object: Option<ObjectId>)
         requires { 1 ≤ work_room self.old.calls }
-        ensures { MakesWithin self.old self.new (ripen_of o) }
+        ensures stands { MakesWithin self.old self.new (ripen_next object) }
+        ensures uses { Uses self.old self.new 0 0 0 1 }
     {
-        self.calls.ripen_on(self.steps, o);
+        if let Some(o) = object {
+            self.calls.ripen_on(self.steps, o);
+        }
     }
 
     /// The call made there closes if it is abandoned, then the one in which it was made, and so on.
@@ -107,17 +100,5 @@ impl Tables {
         ensures { MakesWithin self.old self.new (λ s. close_up (length s.frames) made s) }
     {
         self.calls.close_up(self.steps, made);
-    }
-
-    /// All that follows from an accepted command's change.
-    pub(crate) fn complete(&mut self)
-        requires { CanFollow self.old 0 }
-        ensures stands { MakesWithin self.old self.new completed }
-        ensures uses { Uses self.old self.new 0 0 0
-            (turn_count self.old.calls + object_count self.old.objects + frame_count self.old.calls) }
-    {
-        self.ripen();
-        self.follow();
-        self.settle();
     }
 }

@@ -1,7 +1,7 @@
 //! Delivery: the objects, references and names of a parcel, its buffer with the translated data, and the notices of its
 //! sender's own objects.
 
-ghost use Rattle.std.specs.Prelude.{◌≡◌, ◌+◌, ◌≤◌, IfOk, OnOk, OnErr, length, Some, None, fold, not, ◌&&◌, if◌then◌else◌};
+ghost use Rattle.std.specs.Prelude.{◌≡◌, ◌+◌, ◌≤◌, IfOk, OnOk, OnErr, length, Some, None, map, fold, not, ◌&&◌, if◌then◌else◌};
 ghost use Rattle.bd_uapi.specs.Kinds as kinds;
 ghost use Rattle.bd_space.specs.References.{object_in};
 ghost use Rattle.bd_space.specs.Space.{Space};
@@ -12,20 +12,23 @@ ghost use Rattle.bd_space.specs.Parcels as parcels;
 ghost use Rattle.bd_space.specs.Names.{names_go};
 ghost use Rattle.bd_space.specs.Delivery as spec;
 ghost use Rattle.bd_space.specs.Translation as translations;
+ghost use Rattle.bd_space.specs.Local.{objects_of_items};
 ghost use Rattle.bd_objects.specs.Room as object_rooms;
 ghost use Rattle.bd_calls.specs.Room as call_rooms;
 ghost use Rattle.bd_buffers.specs.WindowsStand.{CanAdd, buffer_room};
 ghost use Rattle.bd_engine.specs.Stands.{Before, Tells, Makes, Begins, PassesLimit};
 ghost use Rattle.bd_engine.specs.Meets.{IsKept};
+ghost use Rattle.bd_engine.specs.Following.{AreTouched};
 ghost use Rattle.bd_engine.specs.Deliveries.{IsSound, IsDeliverable, IsReady, Spends, OnlyWorks, OnlyObjects, placed_for, sending};
 
 use crate::sending::Sending;
 use crate::tables::Tables;
+use crate::touched::in_order;
 use bd_buffers::needed;
 use bd_objects::NumbersFull;
 use bd_space::{Actor, Buffer, Item, Object, ObjectId, Parcel, Process, TodoList};
 use bd_uapi::{Cause, TransactionData};
-use std::alloc::AllocError;
+use std::alloc::{AllocError, Global};
 use std::marker::Model;
 
 /// What is delivered: to which process, on which object, whether one-way, what, and where in the receiver's window.
@@ -96,6 +99,12 @@ impl Delivery {
     }
 }
 
+fn objects_of(alloc: Global, items: &[Item]) -> Result<Vec<ObjectId>, AllocError>
+    ensures { IfOk result (λ os. os.items ≡ map parcels.object_of_item items.now) }
+{
+    items.iter().map(|x| x.object).collect(alloc)
+}
+
 impl Tables {
     // Where the sending goes in its receiver's window. Its parcel is copied only where there is a place for it.
     fn placed_for(
@@ -154,17 +163,25 @@ impl Tables {
         }
     }
 
-    /// Makes room for a delivery and for what follows from it. Changes nothing else, also where memory is refused.
-    pub(crate) fn make_ready(&mut self, v: &Delivery) -> Result<(), AllocError>
+    /// Makes room for a delivery and for what follows from it, and tells at which objects, in the order in which they were
+    /// made. Changes nothing else, also where memory is refused.
+    pub(crate) fn make_ready(&mut self, v: &Delivery) -> Result<Vec<ObjectId>, AllocError>
         ensures stands { IsKept self.old self.new }
         ensures deliverable { (d : TransactionData) → IsDeliverable self.old d v.now → IsDeliverable self.new d v.now }
         ensures ready { OnOk result (IsReady self.new v.now) }
+        ensures touched { IfOk result (λ os. AreTouched (objects_of_items v.now.sending.items) os.items) }
+        ensures len { IfOk result (λ os. length os.items ≡ length v.now.sending.items) }
     {
         let items = v.items().len();
         let references = items.checked_add(1).ok_or(AllocError)?;
-        let works = items.checked_add(3).ok_or(AllocError)?;
+        let works = items
+            .checked_mul(2)
+            .and_then(|n| n.checked_add(3))
+            .ok_or(AllocError)?;
+        let touched = in_order(objects_of(self.alloc, v.items())?);
         self.windows.reserve_buffer(v.receiver())?;
-        self.reserve(v.made().len(), references, items, works)
+        self.reserve(v.made().len(), references, items, works)?;
+        Ok(touched)
     }
 
     // The buffer of a delivery.

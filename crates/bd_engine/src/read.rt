@@ -1,7 +1,8 @@
 //! The step that reads.
 
 ghost use Rattle.std.specs.Prelude.{◌≡◌, ◌+◌, ◌-◌, ◌*◌, ◌≤◌, ◌++◌, ◌∷◌, [], map, false, None, Some, length, option_map, IfOk, IfSome, OnOk, OnErr, nat_lt};
-ghost use Rattle.std.specs.Option.{option_copied, is_some};
+ghost use Rattle.std.specs.Option.{option_copied};
+ghost use Rattle.std.specs.List.{filter_map};
 ghost use Rattle.bd_uapi.specs.declared.command.Return.TheVariants.{Noop};
 ghost use Rattle.bd_codec.specs.Spelling.{return_bytes};
 ghost use Rattle.bd_space.specs.Space.{Space};
@@ -11,18 +12,18 @@ ghost use Rattle.bd_space.specs.Reading as spec;
 ghost use Rattle.bd_space.specs.ReadItems as read_items;
 ghost use Rattle.bd_space.specs.Returns as returns;
 ghost use Rattle.bd_buffers.specs.WindowsStand.{made_of_buffer};
-ghost use Rattle.bd_objects.specs.Room.{reference_room, object_count};
+ghost use Rattle.bd_objects.specs.Room.{reference_room};
 ghost use Rattle.bd_calls.specs.Room.{work_room};
-ghost use Rattle.bd_engine.specs.Stands.{Before, Within, TellsBefore, TellsWithin, MakesWithin, UsesNothing};
+ghost use Rattle.bd_engine.specs.Stands.{Before, Within, TellsBefore, TellsWithin, UsesNothing};
 ghost use Rattle.bd_engine.specs.Meets.{Meets, IsBy, IsKept, IsStepTwice};
-ghost use Rattle.bd_engine.specs.Taking as taking;
 ghost use Rattle.bd_engine.specs.Taking.{AreTaken, IsReading};
 
 use crate::answer::{Plain, Twice};
 use crate::tables::Tables;
+use crate::touched::in_order;
 use crate::why::Why;
 use bd_codec::write_return;
-use bd_space::{Actor, Buffer, Bytes, StepAnswer, Thread, TodoList, Work, WorkKind};
+use bd_space::{Actor, Buffer, Bytes, ObjectId, StepAnswer, Thread, TodoList, Work, WorkKind};
 use bd_uapi::{Fault, Return};
 use std::alloc::{AllocError, Global};
 
@@ -65,16 +66,23 @@ fn handed_by(works: &[Work]) -> Option<u32>
     None
 }
 
-fn is_notice(kind: WorkKind) -> bool
-    ensures { result ≡ is_some (todo.notice_of kind) }
+fn notice_of(kind: WorkKind) -> Option<ObjectId>
+    ensures { result ≡ todo.notice_of kind }
 {
-    matches!(kind, WorkKind::Notice(_))
+    match kind {
+        WorkKind::Notice(o) => Some(o),
+        _ => None,
+    }
 }
 
-fn has_notice(works: &[Work]) -> bool
-    ensures { result ≡ taking.has_notice works.now }
+// The objects of whose notices these are.
+fn noticed(alloc: Global, works: &[Work]) -> Result<Vec<ObjectId>, AllocError>
+    ensures { IfOk result (λ os. os.items ≡ filter_map (λ w. todo.notice_of w.kind) works.now) }
 {
-    works.iter().any(|w| is_notice(w.kind))
+    works
+        .iter()
+        .filter_map(|w| notice_of(w.kind))
+        .collect(alloc)
 }
 
 // Where the buffer was made.
@@ -192,14 +200,14 @@ impl Tables {
         }
     }
 
-    // Makes room for the reading of so many work items.
-    fn reserve_read(&mut self, works: usize) -> Result<(), AllocError>
+    // Makes room for the reading of so many work items, and for what follows at so many objects.
+    fn reserve_read(&mut self, works: usize, touched: usize) -> Result<(), AllocError>
         ensures stands { IsKept self.old self.new }
         ensures references { OnOk result (2 * works ≤ reference_room self.new.objects) }
-        ensures works { OnOk result (object_count self.new.objects ≤ work_room self.new.calls) }
+        ensures works { OnOk result (touched ≤ work_room self.new.calls) }
     {
         let references = works.checked_mul(2).ok_or(AllocError)?;
-        self.reserve(0, references, 0, 0)
+        self.reserve(0, references, 0, touched)
     }
 
     // The thread of a seat has read these work items, by which the buffer made there is handed over.
@@ -212,16 +220,6 @@ impl Tables {
         self.objects.read_by(self.steps, works);
         self.calls.read_by(seat, works);
         self.windows.hand_out(made);
-    }
-
-    // What follows from reading these work items: nothing, unless a notice is among them.
-    fn follow_reading(&mut self, works: &[Work])
-        requires { object_count self.old.objects ≤ work_room self.old.calls }
-        ensures { MakesWithin self.old self.new (taking.follow_reading works.now) }
-    {
-        if has_notice(works) {
-            self.follow();
-        }
     }
 
     // A thread reads the list that is its to read.
@@ -242,9 +240,10 @@ impl Tables {
         let made = made_of(buffer);
         let answer = got(self.alloc, buffer, stream)?;
         let again = answer.copied()?;
-        self.reserve_read(works.len())?;
+        let touched = in_order(noticed(self.alloc, works.as_slice())?);
+        self.reserve_read(works.len(), touched.len())?;
         self.read_by(thread.seat, works.as_slice(), made);
-        self.follow_reading(works.as_slice());
+        self.follow_objects(touched.as_slice());
         Ok(Twice { answer, again })
     }
 

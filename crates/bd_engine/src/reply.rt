@@ -1,6 +1,6 @@
 //! The step of BC_REPLY.
 
-ghost use Rattle.std.specs.Prelude.{◌≡◌, ◌≤◌, Some, IfOk, IfErr, OnOk, OnErr};
+ghost use Rattle.std.specs.Prelude.{◌≡◌, ◌≤◌, length, Some, IfOk, IfErr, OnOk, OnErr};
 ghost use Rattle.bd_space.specs.declared.space.TodoList.TheVariants.{OfThread};
 ghost use Rattle.bd_space.specs.declared.space.WorkKind.TheVariants as kinds;
 ghost use Rattle.bd_space.specs.Todo as todo;
@@ -61,7 +61,7 @@ impl Tables {
         ensures ok { OnOk result (Begins self.old self.new (λ s. spec.replied s a d.now f v)) }
         ensures err { OnErr result (IsKept self.old self.new) }
         ensures full { OnErr result (PassesLimit self.old (λ s. names_go (spec.replied s a d.now f v))) }
-        ensures follow { OnOk result (CanFollow self.new 0) }
+        ensures follow { OnOk result (CanFollow self.new (length v.sending.items)) }
         // There is room by then, so that nothing else is a reason.
         ensures limit { IfErr result (λ why. why ≡ Why.HistoryFull) }
     {
@@ -74,8 +74,8 @@ impl Tables {
         }
     }
 
-    // The step of a reply that nothing stands against. If it carries no objects, all that may follow is that calls
-    // close, from the one in which the answered call was made upwards.
+    // The step of a reply that nothing stands against. All that may follow is what follows at the objects of its parcel, and
+    // that calls close, from the one in which the answered call was made upwards.
     pub(crate) fn answer(
         &mut self,
         a: Actor,
@@ -87,19 +87,15 @@ impl Tables {
         ensures { IsStep self.old self.new (IsReplying a d.now f v)
             (λ s. outcomes.accepted (spec.replied s a d.now f v)) result }
     {
-        let plain = v.items().is_empty();
         let parent = f.parent;
-        if self.make_ready(&v).is_err() {
+        let Ok(touched) = self.make_ready(&v) else {
             return Err(Why::NoMemory);
-        }
+        };
         match self.replied(a, d, f, v) {
             Err(why) => Err(why),
             Ok(()) => {
-                if plain {
-                    self.close_up(parent);
-                } else {
-                    self.complete();
-                }
+                self.follow_objects(touched.as_slice());
+                self.close_up(parent);
                 Ok(Plain::Accepted)
             }
         }

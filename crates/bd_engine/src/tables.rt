@@ -1,6 +1,6 @@
 //! The tables that a space is kept in, and room in them.
 
-ghost use Rattle.std.specs.Prelude.{◌≡◌, ◌+◌, ◌<◌, IfOk, OnOk};
+ghost use Rattle.std.specs.Prelude.{◌≡◌, ◌≤◌, OnOk};
 
 use crate::processes::Processes;
 use bd_buffers::Windows;
@@ -43,19 +43,8 @@ impl Tables {
         }
     }
 
-    // The work items that may follow from a step that adds so many objects and makes so many work items.
-    fn works_to_reserve(&self, objects: usize, works: usize) -> Result<usize, AllocError>
-        ensures { IfOk result (λ n. n ≡ object_rooms.object_count self.now.objects + objects + works) }
-    {
-        self.objects
-            .object_count()
-            .checked_add(objects)
-            .and_then(|n| n.checked_add(works))
-            .ok_or(AllocError)
-    }
-
-    /// Makes room for a step: for so many objects, references, names and work items, and for all that may follow. Changes
-    /// nothing else, also where memory is refused.
+    /// Makes room for a step: for so many objects, references, names and work items, and for the calls that may ripen or
+    /// close. Changes nothing else, also where memory is refused.
     pub(crate) fn reserve(
         &mut self,
         objects: usize,
@@ -66,14 +55,14 @@ impl Tables {
         ensures stands { IsKept self.old self.new }
         ensures room { OnOk result (HasRoom self.new objects references names works) }
         ensures windows { self.new.windows ≡ self.old.windows }
+        ensures count { object_rooms.object_count self.new.objects ≤ object_rooms.object_count self.old.objects }
     {
-        let more = self.works_to_reserve(objects, works)?;
         self.objects.reserve(Room {
             objects,
             references,
             names,
             deaths: 1,
         })?;
-        self.calls.reserve(more)
+        self.calls.reserve(works)
     }
 }

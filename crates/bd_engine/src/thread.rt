@@ -117,7 +117,8 @@ impl Tables {
     pub(crate) fn exit_thread(&mut self, a: Actor) -> Result<Plain, Why>
         ensures { IsStep self.old self.new (IsBy a) (λ s. exits.exit_thread_step s a) result }
     {
-        if self.reserve(0, 0, 0, 0).is_err() {
+        let objects = self.objects.object_count();
+        if self.reserve(0, 0, 0, objects).is_err() {
             return Err(Why::NoMemory);
         }
         self.thread_goes(a.thread.seat);

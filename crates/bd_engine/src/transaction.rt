@@ -1,6 +1,6 @@
 //! The step of BC_TRANSACTION.
 
-ghost use Rattle.std.specs.Prelude.{ℕ, ◌≡◌, ◌≤◌, ◌&&◌, Some, None, is_some, is_none, option_and_then, if◌then◌else◌, IfOk, IfErr, IfSome, OnOk, OnErr};
+ghost use Rattle.std.specs.Prelude.{ℕ, ◌≡◌, ◌+◌, ◌≤◌, ◌&&◌, length, Some, None, is_some, is_none, option_and_then, if◌then◌else◌, IfOk, IfErr, IfSome, OnOk, OnErr};
 ghost use Rattle.bd_space.specs.Space.{Space};
 ghost use Rattle.bd_space.specs.Seats.{process_in};
 ghost use Rattle.bd_space.specs.declared.space.TodoList.TheVariants.{OfThread};
@@ -183,7 +183,7 @@ impl Tables {
         ensures ok { OnOk result (Begins self.old self.new (λ s. spec.transacted s a d.now v)) }
         ensures err { OnErr result (IsKept self.old self.new) }
         ensures full { OnErr result (PassesLimit self.old (λ s. names_go (spec.transacted s a d.now v))) }
-        ensures follow { OnOk result (CanFollow self.new 1) }
+        ensures follow { OnOk result (CanFollow self.new (length v.sending.items + 1)) }
         // There is room by then, so that nothing else is a reason.
         ensures limit { IfErr result (λ why. why ≡ Why.HistoryFull) }
     {
@@ -198,26 +198,22 @@ impl Tables {
         }
     }
 
-    // The step of a transaction that nothing stands against. If it carries no objects, all that may follow is that a
-    // one-way call ripens.
+    // The step of a transaction that nothing stands against. All that may follow is that a one-way call ripens on its target,
+    // and what follows at the objects of its parcel.
     fn transact(&mut self, a: Actor, d: &TransactionData, v: Delivery) -> Result<Plain, Why>
         requires { IsDeliverable self.old d.now v }
         ensures { IsStep self.old self.new (IsSending a d.now v)
             (λ s. outcomes.accepted (spec.transacted s a d.now v)) result }
     {
-        let plain = v.items().is_empty();
-        let one_way_target = v.one_way_target();
-        if self.make_ready(&v).is_err() {
+        let target = v.one_way_target();
+        let Ok(touched) = self.make_ready(&v) else {
             return Err(Why::NoMemory);
-        }
+        };
         match self.transacted(a, d, v) {
             Err(why) => Err(why),
             Ok(()) => {
-                if !plain {
-                    self.complete();
-                } else if let Some(o) = one_way_target {
-                    self.ripen_on(o);
-                }
+                self.ripen_next(target);
+                self.follow_objects(touched.as_slice());
                 Ok(Plain::Accepted)
             }
         }

@@ -5,4 +5,3 @@ pub mod Numbers
 pub mod Deaths
 pub mod Delivery
 pub mod Reading
-pub mod OnlyTarget

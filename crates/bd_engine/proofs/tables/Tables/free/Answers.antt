@@ -1,4 +1,4 @@
-use Rattle.std.proofs.Common.{◌≡◌, ℕ, Bool, true, false, Option, Some, None, Result, Ok, Err, refl, sym, ap, ◌∙◌}
+use Rattle.std.proofs.Common.{◌≡◌, ℕ, Bool, true, false, Option, Some, None, Result, Ok, Err, refl, sym, subst, ap, ◌∙◌}
 use Rattle.std.specs.Prelude.{if◌then◌else◌}
 use Rattle.bd_uapi.specs.declared.fault.Note.{Note}
 use Rattle.bd_uapi.specs.declared.fault.Note.TheVariants.{NotHandedOut}
@@ -7,15 +7,26 @@ use Rattle.bd_space.specs.Space.{Space}
 use Rattle.bd_space.specs.Outcomes.{Outcome, accepted, noted}
 use Rattle.bd_space.specs.Freeing.{free_step, free_outcome, without_buffer, buffer_at_pointer}
 use Rattle.bd_buffers.specs.Buffer.{freed_buffer}
+use Rattle.bd_space.specs.Local.{is_among}
+use Rattle.bd_laws.specs.Lists.{Pairs}
+use Rattle.bd_laws.specs.Objects.{NotLater}
+use Rattle.bd_engine.specs.Stands.{Within}
+use Rattle.bd_engine.specs.Freed.{referred}
+use Rattle.bd_engine.specs.Following.{AreTouched}
 use Rattle.bd_engine.proofs.Standing.{within}
+use Rattle.bd_engine.proofs.Meeting.{meets}
+use Rattle.bd_engine.proofs.Freeing.{freed-buffer}
 use Rattle.bd_engine.proofs.Acting.{process-of}
-use Rattle.bd_engine.proofs.Accepting.{accepts, notes}
+use Rattle.bd_engine.proofs.Accepting.{notes}
 use Rattle.bd_engine.proofs.tables.Tables.free.Goals as goal
 
 -- the outcome by what the check answers
 abbrev freed_outcome : Space → Result ℕ Note → Outcome
 freed_outcome s (Err n) = noted s n
 freed_outcome s (Ok made) = accepted (without_buffer s made)
+
+pub lose_buffer-requires-clause-in_order : goal.lose_buffer-requires-clause-in_order
+lose_buffer-requires-clause-in_order c = subst (Pairs NotLater) (sym c.as_slice.ensures.value) c.in-Ok-ready_to_free.ensures.in_order
 
 if_handed : (s : Space) (made : ℕ) (handed : Bool)
     → freed_outcome s (if handed then Ok made else Err NotHandedOut) ≡ (if handed then accepted (without_buffer s made) else noted s NotHandedOut)
@@ -40,12 +51,27 @@ returns-in-Err c = record {
 
 pub returns : goal.returns
 unfolding free_step
-returns c = record {
-  ok =
-      accepts _ c.reserve.new.self _ _ _ (λ s. without_buffer s c.in-Ok.made) c.reserve.ensures.stands (λ s h by. c.lose_buffer.ensures.stands s h by.tidy) (λ s h by.
-      let p = c.args.a.process.made in
-      let checked = c.in-Ok.ensures s c.args.a.process (within c.args.self.now s h) (process-of s c.args.a.thread.seat c.args.a by.acts) in
-      sym (ap (freed_outcome s) checked ∙ by_check s (buffer_at_pointer s p c.args.pointer)));
-  err = tt;
-  full = tt;
-}
+returns c =
+    let p = c.args.a.process.made in
+    let made = c.in-Ok.made in
+    record {
+      ok =
+          meets _ _ _ _ _ (λ s h by.
+          let checked = c.in-Ok.ensures s c.args.a.process (within c.args.self.now s h) (process-of s c.args.a.thread.seat c.args.a by.acts) in
+          let is = ap (freed_outcome s) checked ∙ by_check s (buffer_at_pointer s p c.args.pointer) in
+          let b = freed-buffer s p c.args.pointer made checked in
+          record {
+            answered = ap (λ (o : Outcome). o.answer) is;
+            stands = subst (λ (o : Outcome). Within c.lose_buffer.new.self o.space) is
+                (c.lose_buffer.ensures s (within _ s (c.in-Ok-ready_to_free.ensures.stands s h)) (record {
+                  tidy = by.tidy;
+                  buffer = b.0;
+                  here = b.1;
+                  made_there = b.2;
+                  is_its = b.3;
+                  touches = subst (AreTouched (is_among (referred s made))) (sym c.as_slice.ensures.value) (c.in-Ok-ready_to_free.ensures.touched s h);
+                }));
+          });
+      err = tt;
+      full = tt;
+    }

@@ -3,7 +3,7 @@ use Rattle.bd_space.specs.Replies.{reply_refused}
 use Rattle.bd_laws.proofs.Refusing.{refused_reply-local}
 use Rattle.bd_engine.specs.Stands.{Within}
 use Rattle.bd_engine.proofs.Standing.{within}
-use Rattle.bd_engine.proofs.NoObjects.{one-frame-each, served-there}
+use Rattle.bd_engine.proofs.Afterwards.{one-frame-each, served-there}
 use Rattle.bd_engine.proofs.Stepping.{refused-stands}
 use Rattle.bd_engine.proofs.tables.Tables.stop_reply.Goals as goal
 

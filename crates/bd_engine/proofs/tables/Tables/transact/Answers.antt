@@ -1,46 +1,38 @@
-use Rattle.std.proofs.Common.{◌==◌, List, length, refl, ap, sym, subst, ◌∙◌}
-use Rattle.bd_space.specs.declared.space.Item.{Item}
+use Rattle.std.proofs.Common.{Option, ap, sym, subst, ◌∙◌, refl}
+use Rattle.bd_space.specs.declared.step.ObjectId.{ObjectId}
 use Rattle.bd_space.specs.Transactions.{transacted}
+use Rattle.bd_space.specs.Local.{ObjectTest, follow_of, no_name, is_among, objects_of_items}
 use Rattle.bd_engine.specs.Stands.{Within}
+use Rattle.bd_engine.specs.Freed.{ripen_next}
 use Rattle.bd_engine.proofs.Standing.{numbers-completed}
 use Rattle.bd_engine.proofs.Keeping.{full-if}
-use Rattle.bd_engine.proofs.NoObjects.{no-items, one_way-ripens, two_way-still}
+use Rattle.bd_engine.proofs.Afterwards.{sent-followed, sent-ordered, ripened-ordered}
 use Rattle.bd_engine.proofs.tables.Tables.transact.Goals as goal
 
 pub returns-in-Err : goal.returns-in-Err
 returns-in-Err c = record {
   ok = tt;
-  err = λ s h. c.in-Err.ensures.err s (c.make_ready.ensures.stands s h);
-  full = λ s h p. full-if _ _ (numbers-completed (transacted s c.args.a c.args.d.now c.args.v) (c.in-Err.ensures.full s (c.make_ready.ensures.stands s h)));
+  err = λ s h. c.in-Err.ensures.err s (c.in-Ok.ensures.stands s h);
+  full = λ s h p. full-if _ _ (numbers-completed (transacted s c.args.a c.args.d.now c.args.v) (c.in-Err.ensures.full s (c.in-Ok.ensures.stands s h)));
 }
 
--- without objects, one-way
-pub returns-in-Some : goal.returns-in-Some
-returns-in-Some c = record {
+pub returns : goal.returns
+returns c = record {
   ok =
       record {
         answered = λ s h p. refl;
         stands = λ s h p.
-            let empty = no-items c.args.v.sending.items (ap (λ (xs : List Item). length xs == 0) (sym c.items.ensures) ∙ sym c.is_empty-plain.ensures ∙ c.if-not-plain.false) in
-            let target = sym c.one_way_target-one_way_target.ensures ∙ c.in-Some.is in
-            subst (Within c.ripen_on.new.self) (sym (one_way-ripens s c.args.a c.args.d.now c.args.v p empty c.in-Some.o target))
-            (c.ripen_on.ensures (transacted s c.args.a c.args.d.now c.args.v) (c.in-Ok.ensures.ok s (c.make_ready.ensures.stands s h)));
-      };
-  err = tt;
-  full = tt;
-}
-
--- without objects, two-way
-pub returns-in_default : goal.returns-in_default
-returns-in_default c = record {
-  ok =
-      record {
-        answered = λ s h p. refl;
-        stands = λ s h p.
-            let empty = no-items c.args.v.sending.items (ap (λ (xs : List Item). length xs == 0) (sym c.items.ensures) ∙ sym c.is_empty-plain.ensures ∙ c.if-not-plain.false) in
-            let target = sym c.one_way_target-one_way_target.ensures ∙ c.in_default.is in
-            subst (Within c.transacted.new.self) (sym (two_way-still s c.args.a c.args.d.now c.args.v p empty target))
-            (c.in-Ok.ensures.ok s (c.make_ready.ensures.stands s h));
+            let z = transacted s c.args.a c.args.d.now c.args.v in
+            let target = c.one_way_target-target.result in
+            let sent = objects_of_items c.args.v.sending.items in
+            let looked = ap is_among c.as_slice.ensures.value ∙ c.in-Ok.ensures.touched.among in
+            subst (Within c.follow_objects.new.self)
+            (ap (λ (b : ObjectTest). follow_of no_name b (ripen_next target z)) looked
+            ∙ ap (λ (o : Option ObjectId). follow_of no_name sent (ripen_next o z)) c.one_way_target-target.ensures
+            ∙ sym (sent-followed s c.args.a c.args.d.now c.args.v p))
+            (c.follow_objects.ensures.stands (ripen_next target z)
+            (c.ripen_next.ensures.stands z (c.in-Ok-transacted.ensures.ok s (c.in-Ok.ensures.stands s h)))
+            (ripened-ordered target z (sent-ordered s c.args.a c.args.d.now c.args.v p)));
       };
   err = tt;
   full = tt;
