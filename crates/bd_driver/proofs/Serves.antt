@@ -149,7 +149,7 @@ module _ (m : Hands) (i : ℕ) (r : Request) (e0 : History) (p : IsPicked m i r 
           let entries : e1.entries ≡ v.seen = ap (λ (e : History). e.entries) same ∙ entries_are in
           let none_more : length e1.entries - length v.seen ≡ 0 = let a = ap (length {A = Entry}) entries in omega arith in
           subst (AnswersPick (served_at v n e1.entries) i) (sym is) (answers_pick e1 (Back r (reason_of why)) n (refl, subst (λ l. IsReason v.seats l i r (reason_of why)) (sym entries) (reason_is why full place some))
-              (ap (places (length v.seen)) none_more))
+          (ap (places (length v.seen)) none_more))
 
   -- the whole of it, once answered
   pub ran_picked : (e1 : History) (o : Outcome) (n : ℕ) (m' m'' : Hands) → RunsAs v.seats i r o v.seen e1.entries → m' ≡ (served_at v n e1.entries ∷ [], (i + 1, Empty) ∷ rest m.1) → m'' ≡ (answered_at (view_of m'.0) 2 o ∷ [], rest m'.1) → RanPicked m i r m''

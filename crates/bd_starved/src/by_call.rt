@@ -1,16 +1,13 @@
-//! Scripts by `Driver::call`.
+//! Requests by `Driver::call`.
 
-ghost use Rattle.std.specs.Prelude.{◌≡◌, All, IfOk, false};
-ghost use Rattle.bd_driver.specs.Rest.{is_waiting};
+ghost use Rattle.std.specs.Prelude.{◌≡◌, All, IfOk};
 
 use crate::again::again;
 use crate::broken::Broken;
-use crate::by_run::{print_ran, script_of};
-use crate::writes::{joined, rest_of, was_cut_short};
+use crate::writes::{joined, rest_after};
 use bd_driver::{Driver, Outcome, Seat, Why};
 use bd_engine::Ran;
-use bd_script::Verb;
-use bd_space::{Answer, Record, Request};
+use bd_space::Request;
 use bd_uapi::Fault;
 use std::alloc::Global;
 use std::io::Write;
@@ -65,8 +62,8 @@ fn call<W: Write>(
     }
 }
 
-// Calls, and calls with the rest where memory stopped a write after some commands.
-fn call_whole<W: Write>(
+/// Calls, and calls with the rest where memory stopped a write after some commands.
+pub fn call_whole<W: Write>(
     alloc: Global,
     driver: &Driver,
     seat: &mut Seat,
@@ -78,47 +75,8 @@ fn call_whole<W: Write>(
     ensures same { seat.new.table ≡ seat.old.table }
 {
     let first = call(driver, seat, request, out)?;
-    let Answer::Wrote { consumed, .. } = &first.answer else {
-        return Ok(first);
-    };
-    if !was_cut_short(&first.answer) {
-        return Ok(first);
+    match rest_after(alloc, &first, spare)? {
+        None => Ok(first),
+        Some(rest) => joined(alloc, &first, &call(driver, seat, rest, out)?),
     }
-    let rest = rest_of(alloc, spare, *consumed)?;
-    let second = call(driver, seat, rest, out)?;
-    joined(alloc, &first, &second)
-}
-
-/// Calls with the requests of a script, and prints what each answers. Each line is read twice, since a write that was cut
-/// short has no request left.
-pub fn play_lines<W: Write>(
-    alloc: Global,
-    driver: &Driver,
-    seats: &mut [Seat],
-    text: &[u8],
-    out: &mut W,
-) -> Result<(), Broken>
-    requires { All (λ s. s.table ≡ driver.now.table) seats.old }
-    ensures { All (λ s. s.table ≡ driver.now.table) seats.new }
-{
-    let script = script_of(alloc, text)?;
-    let spare = script_of(alloc, text)?;
-    for (line, same) in script.lines.into_iter().zip(spare.lines.into_iter()) {
-        let place = line.seat as usize;
-        if let (Verb::Call(request), Verb::Call(spare)) = (line.verb, same.verb) {
-            if place < seats.len() {
-                let ran = call_whole(alloc, driver, &mut seats[place], request, &spare, out)?;
-                print_ran(line.number, ran, out)?;
-            }
-        }
-    }
-    Ok(())
-}
-
-/// Calls with the requests of a script, and prints what each answers. What came of it is handed out.
-pub fn play_by_call<W: Write>(alloc: Global, text: &[u8], out: &mut W) -> Result<Record, Broken> {
-    let script = script_of(alloc, text)?;
-    let (driver, mut seats) = driver_for(alloc, script.seats)?;
-    play_lines(alloc, &driver, &mut seats, text, out)?;
-    Ok(driver.finish(seats))
 }

@@ -1,15 +1,13 @@
-//! Scripts by `post`, `withdraw`, `serve` and `collect`.
+//! Requests by `post`, `withdraw`, `serve` and `collect`.
 
 ghost use Rattle.std.specs.Prelude.{◌≡◌, All};
 
 use crate::broken::Broken;
-use crate::by_call::{driver_for, ran_of};
-use crate::by_run::{print_ran, script_of};
-use crate::writes::{joined, rest_of, was_cut_short};
+use crate::by_call::ran_of;
+use crate::writes::{joined, rest_after};
 use bd_driver::{Driver, Outcome, Seat, Served, Why};
 use bd_engine::Ran;
-use bd_script::Verb;
-use bd_space::{Answer, Record, Request};
+use bd_space::Request;
 use std::alloc::Global;
 use std::io::Write;
 
@@ -110,8 +108,8 @@ fn run<W: Write>(
     }
 }
 
-// The same, and with the rest where memory stopped a write after some commands.
-fn run_whole<W: Write>(
+/// The same, and with the rest where memory stopped a write after some commands.
+pub fn hand_over_whole<W: Write>(
     alloc: Global,
     driver: &Driver,
     seats: &mut [Seat],
@@ -124,48 +122,8 @@ fn run_whole<W: Write>(
     ensures { All (λ s. s.table ≡ driver.now.table) seats.new }
 {
     let first = run(driver, seats, place, request, out)?;
-    let Answer::Wrote { consumed, .. } = &first.answer else {
-        return Ok(first);
-    };
-    if !was_cut_short(&first.answer) {
-        return Ok(first);
+    match rest_after(alloc, &first, spare)? {
+        None => Ok(first),
+        Some(rest) => joined(alloc, &first, &run(driver, seats, place, rest, out)?),
     }
-    let rest = rest_of(alloc, spare, *consumed)?;
-    let second = run(driver, seats, place, rest, out)?;
-    joined(alloc, &first, &second)
-}
-
-// Hands the requests over, and prints what each answers. Each line is read twice, as for calls.
-fn play_lines<W: Write>(
-    alloc: Global,
-    driver: &Driver,
-    seats: &mut [Seat],
-    text: &[u8],
-    out: &mut W,
-) -> Result<(), Broken>
-    requires { All (λ s. s.table ≡ driver.now.table) seats.old }
-    ensures { All (λ s. s.table ≡ driver.now.table) seats.new }
-{
-    let script = script_of(alloc, text)?;
-    let spare = script_of(alloc, text)?;
-    for (line, same) in script.lines.into_iter().zip(spare.lines.into_iter()) {
-        let place = line.seat as usize;
-        if let (Verb::Call(request), Verb::Call(spare)) = (line.verb, same.verb) {
-            let ran = run_whole(alloc, driver, seats, place, request, &spare, out)?;
-            print_ran(line.number, ran, out)?;
-        }
-    }
-    Ok(())
-}
-
-/// Hands each request of a script over to another seat, and prints what each answers. What came of it is handed out.
-pub fn play_by_hand_over<W: Write>(
-    alloc: Global,
-    text: &[u8],
-    out: &mut W,
-) -> Result<Record, Broken> {
-    let script = script_of(alloc, text)?;
-    let (driver, mut seats) = driver_for(alloc, script.seats)?;
-    play_lines(alloc, &driver, &mut seats, text, out)?;
-    Ok(driver.finish(seats))
 }

@@ -1,14 +1,12 @@
 //! Scripts by `Engine::run`.
 
-ghost use Rattle.std.specs.Prelude.{◌≡◌, ◌<◌};
-
 use crate::again::again;
 use crate::broken::Broken;
 use crate::fingerprint::fingerprint;
-use crate::writes::{joined, rest_of, was_cut_short};
+use crate::writes::{joined, rest_after};
 use bd_engine::{Engine, Ran, Why};
 use bd_script::{Line, Script, ScriptError, Verb, read_script};
-use bd_space::{Answer, Record, Request};
+use bd_space::{Record, Request};
 use std::alloc::Global;
 use std::io::Write;
 
@@ -31,10 +29,10 @@ fn run<W: Write>(
     seat: u32,
     request: &Request,
     out: &mut W,
-) -> Result<Ran, Broken>
-    requires { seat < engine.old.seats }
-    ensures { engine.new.seats ≡ engine.old.seats }
-{
+) -> Result<Ran, Broken> {
+    if engine.seats() <= seat {
+        return Err(Broken::Never("a line is for another seat"));
+    }
     let before = fingerprint(engine);
     match engine.run(seat, request) {
         Ok(ran) => Ok(ran),
@@ -58,20 +56,12 @@ fn run_whole<W: Write>(
     seat: u32,
     request: &Request,
     out: &mut W,
-) -> Result<Ran, Broken>
-    requires { seat < engine.old.seats }
-    ensures { engine.new.seats ≡ engine.old.seats }
-{
+) -> Result<Ran, Broken> {
     let first = run(engine, seat, request, out)?;
-    let Answer::Wrote { consumed, .. } = &first.answer else {
-        return Ok(first);
-    };
-    if !was_cut_short(&first.answer) {
-        return Ok(first);
+    match rest_after(alloc, &first, request)? {
+        None => Ok(first),
+        Some(rest) => joined(alloc, &first, &run(engine, seat, &rest, out)?),
     }
-    let rest = rest_of(alloc, request, *consumed)?;
-    let second = run(engine, seat, &rest, out)?;
-    joined(alloc, &first, &second)
 }
 
 /// Prints what the request of a line came to.
@@ -91,10 +81,8 @@ pub fn run_lines<W: Write>(
     for line in lines {
         let Line { number, seat, verb } = line;
         if let Verb::Call(request) = verb {
-            if seat < engine.seats() {
-                let ran = run_whole(alloc, engine, seat, &request, out)?;
-                print_ran(number, ran, out)?;
-            }
+            let ran = run_whole(alloc, engine, seat, &request, out)?;
+            print_ran(number, ran, out)?;
         }
     }
     Ok(())

@@ -1,7 +1,6 @@
 //! The verdict on a record, and the certificates that are asked of it.
 
-ghost use Rattle.std.specs.Prelude.{◌≤◌};
-ghost use Rattle.bd_space.specs.Histories.{IsHistory, history_in};
+ghost use Rattle.bd_starved.specs.Certificates.{IsAsked};
 
 use crate::again::again;
 use crate::broken::Broken;
@@ -22,6 +21,14 @@ fn broken_by(fault: Fault) -> Broken {
     }
 }
 
+// A lawful record, of which certificates can be asked, and an engine that has its steps.
+#[derive(Drop)]
+struct Lawful<'a> {
+    alloc: Global,
+    of: &'a Record,
+    engine: &'a Engine,
+}
+
 fn print_places<W: Write>(places: &[u32], out: &mut W) -> Result<(), Broken> {
     for place in places {
         write!(out, " {place}")?;
@@ -31,17 +38,14 @@ fn print_places<W: Write>(places: &[u32], out: &mut W) -> Result<(), Broken> {
 }
 
 // Prints the gift chain of what a handle names, if it names something.
-fn ask_chain<W: Write>(
-    alloc: Global,
-    record: &Record,
-    pid: u32,
-    number: u32,
-    out: &mut W,
-) -> Result<(), Broken>
-    requires seats { (1 ≤ «record».now.seats) × («record».now.seats ≤ 16) }
-    requires lawful { IsHistory (history_in «record».now) }
+fn ask_chain<W: Write>(lawful: &Lawful, pid: u32, number: u32, out: &mut W) -> Result<(), Broken>
+    requires { IsAsked lawful.now.of.now }
 {
-    let chain = again!(gift_chain(alloc, record, pid, number), Fault::NoMemory).map_err(broken_by)?;
+    let chain = again!(
+        gift_chain(lawful.alloc, lawful.of, pid, number),
+        Fault::NoMemory
+    )
+    .map_err(broken_by)?;
     if let Some(places) = chain {
         write!(out, "chain {pid} {number}:")?;
         print_places(&places, out)?;
@@ -49,35 +53,22 @@ fn ask_chain<W: Write>(
     Ok(())
 }
 
-fn ask_chains_of<W: Write>(
-    alloc: Global,
-    record: &Record,
-    engine: &Engine,
-    pid: u32,
-    out: &mut W,
-) -> Result<(), Broken>
-    requires seats { (1 ≤ «record».now.seats) × («record».now.seats ≤ 16) }
-    requires lawful { IsHistory (history_in «record».now) }
+fn ask_chains_of<W: Write>(lawful: &Lawful, pid: u32, out: &mut W) -> Result<(), Broken>
+    requires { IsAsked lawful.now.of.now }
 {
     for number in 0..MOST_HANDLES {
-        if engine.named(pid, number).is_some() {
-            ask_chain(alloc, record, pid, number, out)?;
+        if lawful.engine.named(pid, number).is_some() {
+            ask_chain(lawful, pid, number, out)?;
         }
     }
     Ok(())
 }
 
-fn ask_chains<W: Write>(
-    alloc: Global,
-    record: &Record,
-    engine: &Engine,
-    out: &mut W,
-) -> Result<(), Broken>
-    requires seats { (1 ≤ «record».now.seats) × («record».now.seats ≤ 16) }
-    requires lawful { IsHistory (history_in «record».now) }
+fn ask_chains<W: Write>(lawful: &Lawful, out: &mut W) -> Result<(), Broken>
+    requires { IsAsked lawful.now.of.now }
 {
     for pid in PIDS {
-        ask_chains_of(alloc, record, engine, pid, out)?;
+        ask_chains_of(lawful, pid, out)?;
     }
     Ok(())
 }
@@ -106,25 +97,28 @@ fn takes_reply(answer: &StepAnswer) -> bool {
 }
 
 // Prints the call that a reading answers.
-fn ask_call<W: Write>(alloc: Global, record: &Record, place: u32, out: &mut W) -> Result<(), Broken>
-    requires seats { (1 ≤ «record».now.seats) × («record».now.seats ≤ 16) }
-    requires lawful { IsHistory (history_in «record».now) }
+fn ask_call<W: Write>(lawful: &Lawful, place: u32, out: &mut W) -> Result<(), Broken>
+    requires { IsAsked lawful.now.of.now }
 {
-    match again!(call_of_reply(alloc, record, place), Fault::NoMemory).map_err(broken_by)? {
+    match again!(
+        call_of_reply(lawful.alloc, lawful.of, place),
+        Fault::NoMemory
+    )
+    .map_err(broken_by)?
+    {
         Some(call) => writeln!(out, "call of reply {place}: {call}")?,
         None => writeln!(out, "call of reply {place}: none")?,
     }
     Ok(())
 }
 
-fn ask_calls<W: Write>(alloc: Global, record: &Record, out: &mut W) -> Result<(), Broken>
-    requires seats { (1 ≤ «record».now.seats) × («record».now.seats ≤ 16) }
-    requires lawful { IsHistory (history_in «record».now) }
+fn ask_calls<W: Write>(lawful: &Lawful, out: &mut W) -> Result<(), Broken>
+    requires { IsAsked lawful.now.of.now }
 {
     let mut place = 0;
-    for entry in record.entries.as_slice() {
+    for entry in lawful.of.entries.as_slice() {
         if takes_reply(&entry.answer) {
-            ask_call(alloc, record, place, out)?;
+            ask_call(lawful, place, out)?;
         }
         place = place.saturating_add(1);
     }
@@ -152,19 +146,15 @@ fn print_turns<W: Write>(turns: &[Turn], out: &mut W) -> Result<(), Broken> {
 }
 
 // Prints the turns of the manager's object, if there is one.
-fn ask_turns<W: Write>(
-    alloc: Global,
-    record: &Record,
-    engine: &Engine,
-    out: &mut W,
-) -> Result<(), Broken>
-    requires seats { (1 ≤ «record».now.seats) × («record».now.seats ≤ 16) }
-    requires lawful { IsHistory (history_in «record».now) }
+fn ask_turns<W: Write>(lawful: &Lawful, out: &mut W) -> Result<(), Broken>
+    requires { IsAsked lawful.now.of.now }
 {
-    if let Some(object) = engine.manager() {
-        let turns = again!(oneway_turns(alloc, record, object), Fault::NoMemory).map_err(
-            broken_by,
-        )?;
+    if let Some(object) = lawful.engine.manager() {
+        let turns = again!(
+            oneway_turns(lawful.alloc, lawful.of, object),
+            Fault::NoMemory
+        )
+        .map_err(broken_by)?;
         print_turns(&turns, out)?;
     }
     Ok(())
@@ -189,7 +179,12 @@ pub fn judge<W: Write>(
         }
         Err(AuditFault::NoMemory) => return Err(Broken::Memory),
     }
-    ask_chains(alloc, record, engine, out)?;
-    ask_calls(alloc, record, out)?;
-    ask_turns(alloc, record, engine, out)
+    let lawful = Lawful {
+        alloc,
+        of: record,
+        engine,
+    };
+    ask_chains(&lawful, out)?;
+    ask_calls(&lawful, out)?;
+    ask_turns(&lawful, out)
 }

@@ -4,7 +4,8 @@ ghost use Rattle.std.specs.Prelude.{◌≡◌, All};
 
 use crate::again::again;
 use crate::broken::Broken;
-use crate::by_call::{driver_for, play_lines};
+use crate::by_call::driver_for;
+use crate::by_driver::{Way, play_lines};
 use crate::by_run::{engine_for, run_lines, script_of};
 use bd_driver::{Driver, Outcome, Seat};
 use bd_engine::Engine;
@@ -39,23 +40,6 @@ fn print_outcome<W: Write>(outcome: &Outcome, out: &mut W) -> Result<(), Broken>
     Ok(())
 }
 
-// Writes it, which memory may leave whole, stop after its first command, or give back.
-fn write_once<W: Write>(
-    alloc: Global,
-    driver: &Driver,
-    seat: &mut Seat,
-    out: &mut W,
-) -> Result<(), Broken>
-    requires { seat.old.table ≡ driver.now.table }
-    ensures { seat.new.table ≡ seat.old.table }
-{
-    let request = write_of_two(alloc)?;
-    if seat.is_waiting() {
-        return Err(Broken::Never("something is handed over"));
-    }
-    print_outcome(&driver.call(seat, request), out)
-}
-
 // Runs it, which memory may leave whole, stop after its first command, or refuse.
 fn print_write<W: Write>(
     engine: &mut Engine,
@@ -72,6 +56,7 @@ fn print_write<W: Write>(
     Ok(())
 }
 
+// Writes it again and again, which memory may each time leave whole, stop after its first command, or give back.
 fn write_all<W: Write>(
     alloc: Global,
     driver: &Driver,
@@ -82,7 +67,11 @@ fn write_all<W: Write>(
     ensures { seat.new.table ≡ seat.old.table }
 {
     for _round in 0..WRITES {
-        write_once(alloc, driver, seat, out)?;
+        let request = write_of_two(alloc)?;
+        if seat.is_waiting() {
+            return Err(Broken::Never("something is handed over"));
+        }
+        print_outcome(&driver.call(seat, request), out)?;
     }
     Ok(())
 }
@@ -91,7 +80,7 @@ fn write_all<W: Write>(
 pub fn play_cut<W: Write>(alloc: Global, text: &[u8], out: &mut W) -> Result<(), Broken> {
     let script = script_of(alloc, text)?;
     let (driver, mut seats) = driver_for(alloc, script.seats)?;
-    play_lines(alloc, &driver, &mut seats, text, out)?;
+    play_lines(alloc, &driver, &mut seats, text, Way::Call, out)?;
     match seats.get_mut(0) {
         Some(seat) => write_all(alloc, &driver, seat, out),
         None => Err(Broken::Never("a script has seats")),

@@ -1,8 +1,7 @@
 //! One script in each way.
 
 use crate::broken::Broken;
-use crate::by_call::play_by_call;
-use crate::by_hand_over::play_by_hand_over;
+use crate::by_driver::{Way, play_by_driver};
 use crate::by_run::play_by_run;
 use crate::by_step::play_by_step;
 use crate::certificates::judge;
@@ -18,10 +17,10 @@ pub fn play_every_way<W: Write>(alloc: Global, text: &[u8], out: &mut W) -> Resu
     let journal = journal_of(alloc, &record)?;
     print_journal(&journal, out)?;
     writeln!(out, "== by call")?;
-    let called = play_by_call(alloc, text, out)?;
+    let called = play_by_driver(alloc, text, Way::Call, out)?;
     print_again(&journal_of(alloc, &called)?, &journal, out)?;
     writeln!(out, "== handed over")?;
-    let handed = play_by_hand_over(alloc, text, out)?;
+    let handed = play_by_driver(alloc, text, Way::HandOver, out)?;
     print_again(&journal_of(alloc, &handed)?, &journal, out)?;
     writeln!(out, "== by step")?;
     let engine = play_by_step(alloc, &record, out)?;

@@ -9,6 +9,7 @@
 mod again;
 mod broken;
 mod by_call;
+mod by_driver;
 mod by_hand_over;
 mod by_run;
 mod by_step;

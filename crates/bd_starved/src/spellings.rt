@@ -78,31 +78,26 @@ fn print_spelled<W: Write>(
     }
 }
 
-fn spell_command<W: Write>(alloc: Global, command: &Command, out: &mut W) -> Result<(), Broken> {
+// Appends a spelling to nothing, and once more where memory was refused.
+fn spell<W: Write, F: Fn(&mut Vec<u8>) -> Result<(), Fault>>(
+    alloc: Global,
+    write: F,
+    out: &mut W,
+) -> Result<(), Broken>
+    requires { F.IsAlwaysCallable write }
+{
     let mut bytes = Vec::new(alloc);
-    let first = write_command(command, &mut bytes);
-    if print_spelled(first, &bytes, out)? {
-        return Ok(());
+    let first = write(&mut bytes);
+    if !print_spelled(first, &bytes, out)? {
+        let second = write(&mut bytes);
+        print_spelled(second, &bytes, out)?;
     }
-    let second = write_command(command, &mut bytes);
-    print_spelled(second, &bytes, out)?;
-    Ok(())
-}
-
-fn spell_return<W: Write>(alloc: Global, given: &Return, out: &mut W) -> Result<(), Broken> {
-    let mut bytes = Vec::new(alloc);
-    let first = write_return(given, &mut bytes);
-    if print_spelled(first, &bytes, out)? {
-        return Ok(());
-    }
-    let second = write_return(given, &mut bytes);
-    print_spelled(second, &bytes, out)?;
     Ok(())
 }
 
 fn spell_returns<W: Write>(alloc: Global, out: &mut W) -> Result<(), Broken> {
     for given in &RETURNS {
-        spell_return(alloc, given, out)?;
+        spell(alloc, |bytes: &mut Vec<u8>| write_return(given, bytes), out)?;
     }
     Ok(())
 }
@@ -111,7 +106,11 @@ fn spell_returns<W: Write>(alloc: Global, out: &mut W) -> Result<(), Broken> {
 pub fn spell_all<W: Write>(alloc: Global, out: &mut W) -> Result<(), Broken> {
     writeln!(out, "== spellings")?;
     for command in &COMMANDS {
-        spell_command(alloc, command, out)?;
+        spell(
+            alloc,
+            |bytes: &mut Vec<u8>| write_command(command, bytes),
+            out,
+        )?;
     }
     spell_returns(alloc, out)
 }

@@ -10,8 +10,8 @@ use bd_space::{Answer, Bytes, Notes, Request, Stop};
 use bd_uapi::{Fault, Note};
 use std::alloc::Global;
 
-/// Whether memory stopped a write after some of its commands.
-pub fn was_cut_short(answer: &Answer) -> bool
+// Whether memory stopped a write after some of its commands.
+fn was_cut_short(answer: &Answer) -> bool
     ensures { result ≡ is_cut_short answer.now }
 {
     matches!(
@@ -31,8 +31,8 @@ fn bytes_from(alloc: Global, bytes: &[u8]) -> Result<Bytes, Broken>
     Ok(Bytes::new(copy))
 }
 
-/// The write of what is left of a stream after so many bytes.
-pub fn rest_of(alloc: Global, request: &Request, consumed: u32) -> Result<Request, Broken>
+// The write of what is left of a stream after so many bytes.
+fn rest_of(alloc: Global, request: &Request, consumed: u32) -> Result<Request, Broken>
     ensures { IfOk result (IsRest request.now consumed) }
 {
     let Request::Write { stream, area } = request else {
@@ -44,6 +44,20 @@ pub fn rest_of(alloc: Global, request: &Request, consumed: u32) -> Result<Reques
             area: again!(bytes_from(alloc, area.as_slice()))?,
         }),
         None => Err(Broken::Never("more was consumed than there was")),
+    }
+}
+
+/// The rest of a request, if memory stopped it after some of its commands.
+pub fn rest_after(
+    alloc: Global,
+    first: &Ran,
+    request: &Request,
+) -> Result<Option<Request>, Broken> {
+    match &first.answer {
+        Answer::Wrote { consumed, .. } if was_cut_short(&first.answer) => {
+            Ok(Some(rest_of(alloc, request, *consumed)?))
+        }
+        _ => Ok(None),
     }
 }
 

@@ -1,6 +1,6 @@
 use Rattle.std.proofs.Common.{◌≡◌}
 use Rattle.bd_driver.proofs.Seats.{left_in}
-use Rattle.bd_starved.proofs.by_call.play_by_call.Goals as goal
+use Rattle.bd_starved.proofs.by_driver.play_by_driver.Goals as goal
 
 pub play_lines-requires : goal.play_lines-requires
 play_lines-requires g c = rw c.deref_mut.ensures.value c.in_ok-driver.ensures

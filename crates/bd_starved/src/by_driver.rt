@@ -1,0 +1,68 @@
+//! Scripts by a driver.
+
+ghost use Rattle.std.specs.Prelude.{◌≡◌, All};
+
+use crate::broken::Broken;
+use crate::by_call::{call_whole, driver_for};
+use crate::by_hand_over::hand_over_whole;
+use crate::by_run::{print_ran, script_of};
+use bd_driver::{Driver, Seat};
+use bd_script::Verb;
+use bd_space::Record;
+use std::alloc::Global;
+use std::io::Write;
+
+/// How a driver runs a seat's request.
+#[derive(Clone, Copy)]
+pub enum Way {
+    /// The seat calls.
+    Call,
+    /// It hands the request over to another seat.
+    HandOver,
+}
+
+/// Has the requests of a script run, and prints what each answers. Each line is read twice, since a write that was cut
+/// short has no request left.
+pub fn play_lines<W: Write>(
+    alloc: Global,
+    driver: &Driver,
+    seats: &mut [Seat],
+    text: &[u8],
+    way: Way,
+    out: &mut W,
+) -> Result<(), Broken>
+    requires { All (λ s. s.table ≡ driver.now.table) seats.old }
+    ensures { All (λ s. s.table ≡ driver.now.table) seats.new }
+{
+    let script = script_of(alloc, text)?;
+    let spare = script_of(alloc, text)?;
+    for (line, same) in script.lines.into_iter().zip(spare.lines.into_iter()) {
+        let place = line.seat as usize;
+        if let (Verb::Call(request), Verb::Call(spare)) = (line.verb, same.verb) {
+            let ran = match way {
+                Way::HandOver => {
+                    hand_over_whole(alloc, driver, seats, place, request, &spare, out)?
+                }
+                Way::Call if place < seats.len() => {
+                    call_whole(alloc, driver, &mut seats[place], request, &spare, out)?
+                }
+                Way::Call => return Err(Broken::Never("a line is for another seat")),
+            };
+            print_ran(line.number, ran, out)?;
+        }
+    }
+    Ok(())
+}
+
+/// The same, with a driver of its own. What came of it is handed out.
+pub fn play_by_driver<W: Write>(
+    alloc: Global,
+    text: &[u8],
+    way: Way,
+    out: &mut W,
+) -> Result<Record, Broken> {
+    let script = script_of(alloc, text)?;
+    let (driver, mut seats) = driver_for(alloc, script.seats)?;
+    play_lines(alloc, &driver, &mut seats, text, way, out)?;
+    Ok(driver.finish(seats))
+}
