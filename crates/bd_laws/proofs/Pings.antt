@@ -26,7 +26,7 @@ use Rattle.bd_space.specs.declared.space.TodoList.TheVariants.{OfProcess}
 use Rattle.bd_space.specs.Words.{same, and_then, found_or, when}
 use Rattle.bd_space.specs.Space.{Space}
 use Rattle.bd_space.specs.References.{strong_in, owned_in, own_in, names_for}
-use Rattle.bd_space.specs.Names.{named, named_in, strongly_named, if_strongly_named, is_strongly_named_in}
+use Rattle.bd_space.specs.Names.{named_in, strongly_named, if_strongly_named, is_strongly_named_in}
 use Rattle.bd_space.specs.Notices.{with_notice}
 use Rattle.bd_space.specs.Parcels.{Sending, resolve_handle, resolve, resolve_all, new_object, resolve_walked, sending_of, is_cut}
 use Rattle.bd_space.specs.Delivery.{Delivery}
