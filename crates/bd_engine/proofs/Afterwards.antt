@@ -1,6 +1,6 @@
 -- What follows from a transaction and from a reply: a look at the objects of the parcel does it all, but for a call that ripens
 -- and those that close.
-use Rattle.std.proofs.Common.{◌≡◌, ℕ, Bool, true, false, Option, Some, None, length, refl, ap, sym, subst, ◌∙◌}
+use Rattle.std.proofs.Common.{◌≡◌, ℕ, Bool, true, false, Option, Some, None, length, refl, ap, sym, ◌∙◌}
 use Rattle.std.specs.Prelude.{if◌then◌else◌}
 use Rattle.bd_uapi.specs.declared.command.TransactionData.{TransactionData}
 use Rattle.bd_space.specs.declared.step.ObjectId.{ObjectId}

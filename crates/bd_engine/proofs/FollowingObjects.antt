@@ -1,5 +1,5 @@
 -- What follows at some objects: first they go, or their Notices, and then the Notices that are missing are made.
-use Rattle.std.proofs.Common.{◌≡◌, ℕ, ◌+◌, ◌==◌, ◌<◌, Bool, true, false, cond, not, ◌&&◌, ◌||◌, List, [], ◌∷◌, ◌++◌, Option, Some, None, option_and_then, length, get_or, take, inl, inr, refl, ap, sym, subst, ◌∙◌, filter, map}
+use Rattle.std.proofs.Common.{◌≡◌, ℕ, ◌+◌, ◌<◌, Bool, true, false, cond, not, ◌&&◌, ◌||◌, List, [], ◌∷◌, Option, Some, None, option_and_then, length, get_or, take, refl, ap, sym, subst, ◌∙◌, filter, map}
 use Rattle.std.specs.List.{fold, filter_map, cons_option}
 use Rattle.std.specs.Option.{is_some}
 use Rattle.std.proofs.Math.Path.{fun_ext}
@@ -37,6 +37,10 @@ use Rattle.bd_engine.proofs.Following.{keeps-all, keeps-none, same-tests, twice,
 or-false : (b : Bool) → (b || false) ≡ b
 or-false true = refl
 or-false false = refl
+
+or-true : (b : Bool) → (b || true) ≡ true
+or-true true = refl
+or-true false = refl
 
 among-next : (os : List ObjectId) (k : ℕ) (d : ObjectId) → k < length os
     → is_among (take (k + 1) os) ≡ (λ i. is_among (take k os) i || at_object (get_or os k d) i)
@@ -117,10 +121,6 @@ module _ (b c : ObjectTest) (s : Space) where
       (λ x l is.
       let stays = stays-if (b x.id) _ (in-filter (λ (x : Object). not (b x.id) || stays_in s.processes s.references x) x s.objects l).1 (ap b (same-eq x.id o is) ∙ e) in
       rw stays (or-true (not (c x.id))))
-    where
-      or-true : (p : Bool) → (p || true) ≡ true
-      or-true true = refl
-      or-true false = refl
 
   abbrev left : List Object → List Work → Space
   left objects todo = record s { objects = objects; todo = todo }
@@ -166,47 +166,25 @@ module _ (o : ObjectId) (s : Space) where
   abbrev here : Space
   here = objects_go_of (at_object o) s
 
-  -- the Notice of an object whose owner is to be told stays
-  all-stay : is_some_and (object_in here.objects o) (wants_notice s.processes s.references) ≡ true → (k : WorkKind) → notice_stays (at_object o) here k ≡ true
+  -- its Notice stays exactly while its owner is to be told, and the others stay
+  kinds-stay : (b : Bool) → is_some_and (object_in here.objects o) (wants_notice s.processes s.references) ≡ b → (k : WorkKind) → notice_stays (at_object o) here k ≡ (b || not (is_notice o k))
   unfolding objects_go_of
-  all-stay e (work.Notice i) = at (same i o) refl
+  kinds-stay b e (work.Notice i) = at (same i o) refl
     where
-      at : (b : Bool) → same i o ≡ b → (not b || is_some_and (object_in here.objects i) (wants_notice s.processes s.references)) ≡ true
-      at true j = subst (λ (q : ObjectId). is_some_and (object_in here.objects q) (wants_notice s.processes s.references) ≡ true) (sym (same-eq i o j)) e
-      at false j = refl
-  all-stay e work.Complete = refl
-  all-stay e (work.Refusal r) = refl
-  all-stay e (work.Call m) = refl
-  all-stay e (work.Reply m) = refl
-  all-stay e (work.Verdict r) = refl
-  all-stay e (work.Death n) = refl
-  all-stay e (work.Cleared n) = refl
+      at : (c : Bool) → same i o ≡ c → (not c || is_some_and (object_in here.objects i) (wants_notice s.processes s.references)) ≡ (b || not c)
+      at true j = ap (λ (q : ObjectId). is_some_and (object_in here.objects q) (wants_notice s.processes s.references)) (same-eq i o j) ∙ e ∙ sym (or-false b)
+      at false j = sym (or-true b)
+  kinds-stay b e _ = sym (or-true b)
 
   pub shed-wanted : is_some_and (object_in here.objects o) (wants_notice s.processes s.references) ≡ true → shed_of (at_object o) s ≡ here
   unfolding shed_of objects_go_of
-  shed-wanted e = ap (λ (ws : List Work). let z : Space = record here { todo = ws } in z) (keeps-all (λ (w : Work). notice_stays (at_object o) here w.kind) s.todo (λ w. all-stay e w.kind))
-
-  -- and otherwise it goes
-  others-stay : is_some_and (object_in here.objects o) (wants_notice s.processes s.references) ≡ false → (k : WorkKind) → notice_stays (at_object o) here k ≡ not (is_notice o k)
-  unfolding objects_go_of
-  others-stay e (work.Notice i) = at (same i o) refl
-    where
-      at : (b : Bool) → same i o ≡ b → (not b || is_some_and (object_in here.objects i) (wants_notice s.processes s.references)) ≡ not b
-      at true j = subst (λ (q : ObjectId). is_some_and (object_in here.objects q) (wants_notice s.processes s.references) ≡ false) (sym (same-eq i o j)) e
-      at false j = refl
-  others-stay e work.Complete = refl
-  others-stay e (work.Refusal r) = refl
-  others-stay e (work.Call m) = refl
-  others-stay e (work.Reply m) = refl
-  others-stay e (work.Verdict r) = refl
-  others-stay e (work.Death n) = refl
-  others-stay e (work.Cleared n) = refl
+  shed-wanted e = ap (λ (ws : List Work). let z : Space = record here { todo = ws } in z) (keeps-all (λ (w : Work). notice_stays (at_object o) here w.kind) s.todo (λ w. kinds-stay true e w.kind))
 
   pub shed-unwanted : is_some_and (object_in here.objects o) (wants_notice s.processes s.references) ≡ false
       → shed_of (at_object o) s ≡ record here { todo = filter (λ w. not (is_notice o w.kind)) here.todo }
   unfolding shed_of objects_go_of
   shed-unwanted e = ap (λ (ws : List Work). let z : Space = record here { todo = ws } in z)
-      (same-tests (λ (w : Work). notice_stays (at_object o) here w.kind) (λ w. not (is_notice o w.kind)) s.todo (λ w. others-stay e w.kind))
+      (same-tests (λ (w : Work). notice_stays (at_object o) here w.kind) (λ w. not (is_notice o w.kind)) s.todo (λ w. kinds-stay false e w.kind))
 
 -- ---- the Notices that are missing
 

@@ -5,7 +5,7 @@ use Rattle.bd_space.specs.declared.space.Thread.{Thread}
 use Rattle.bd_space.specs.declared.space.TodoList.{TodoList}
 use Rattle.bd_space.specs.declared.space.Work.{Work}
 use Rattle.bd_space.specs.Space.{Space}
-use Rattle.bd_space.specs.Todo.{list_to_read, work_on}
+use Rattle.bd_space.specs.Todo.{work_on}
 use Rattle.bd_space.specs.Notices.{follow}
 use Rattle.bd_space.specs.ReadItems.{read_by, taken, is_told_by}
 use Rattle.bd_space.specs.Local.{ObjectTest, follow_of, no_name, is_among}

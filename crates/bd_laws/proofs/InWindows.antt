@@ -1,5 +1,5 @@
 -- What a buffer carries lies in its receiver's window.
-use Rattle.std.proofs.Common.{◌≡◌, ℕ, ◌==◌, Bool, true, false, cond, not, List, [], ◌∷◌, ◌++◌, Option, Some, None, inl, inr, refl, ap, sym, subst, ◌∙◌, arith}
+use Rattle.std.proofs.Common.{◌≡◌, ℕ, ◌==◌, Bool, true, false, cond, not, List, ◌++◌, Option, Some, None, inl, inr, refl, ap, sym, subst, ◌∙◌, arith}
 use Rattle.bd_uapi.specs.declared.command.TransactionData.{TransactionData}
 use Rattle.bd_space.specs.declared.step.ObjectId.{ObjectId}
 use Rattle.bd_space.specs.declared.step.Step.{Step}
@@ -27,7 +27,7 @@ use Rattle.bd_space.specs.Asking.{ask, drop_asked, acknowledge}
 use Rattle.bd_space.specs.ReadItems.{read_by, handshakes, hand_out, handed_buffers, buffer_taken}
 use Rattle.bd_space.specs.ThreadExits.{thread_goes, is_lost_reference, is_lost_with}
 use Rattle.bd_space.specs.ProcessExits.{threads_go, without_process, is_dropped_with}
-use Rattle.bd_space.specs.Steps.{change, counted, with_thread, with_process, with_manager}
+use Rattle.bd_space.specs.Steps.{counted, with_thread, with_process, with_manager}
 use Rattle.bd_space.specs.Histories.{next}
 use Rattle.bd_laws.specs.Lists.{In}
 use Rattle.bd_laws.specs.OneWayCalls.{IsInTurn}

@@ -1,4 +1,4 @@
-use Rattle.std.proofs.Common.{◌+◌, ◌∷◌, [], ◌∙◌, ap, sym, subst}
+use Rattle.std.proofs.Common.{◌+◌, ◌∙◌, ap, sym, subst}
 use Rattle.bd_space.specs.Asking.{ask}
 use Rattle.bd_space.specs.Names.{assign_numbers}
 use Rattle.bd_space.specs.Local.{follow_of, no_name}
