@@ -1,7 +1,7 @@
 -- Taking and giving back at the index where a search among the holes ends.
 use Rattle.std.proofs.Common.{◌≡◌, ℕ, zero, suc, ◌+◌, ◌<◌, ◌≤◌, List, length, get_or, drop, take, refl, sym, ap, ◌∙◌, [], ◌∷◌, ◌++◌, arith, set, add-one, inl, inr}
 use Rattle.std.specs.Prelude.{remove}
-use Rattle.std.specs.List.Sorted.{IsNonDecreasingBy}
+use Rattle.std.specs.List.Sorted.{IsNonDecreasingBy, IsPartitionPoint}
 use Rattle.std.proofs.lemmas.Bool.{eq-eqb, ne_eqb, lt-ltb, le-ltb, cases_lt}
 use Rattle.std.proofs.lemmas.List.{drop_more, drop_all, take_all, set_split, length-take, take_at, drop_at}
 use Rattle.bd_buffers.specs.declared.hole.Hole.{Hole}
@@ -29,6 +29,10 @@ behind xs f = record { holes = xs ++ f.holes; tail = f.tail }
 -- the first i holes end before p
 abbrev pub EndBefore : ℕ → ℕ → List Hole → Type 0
 EndBefore p i holes = (k : ℕ) (d : Hole) → k < i → (get_or holes k d).end < p
+
+-- the holes before p, where a search ends
+pub before_of : (xs holes : List Hole) (p i : ℕ) → xs ≡ holes → ((k : ℕ) (d : Hole) → 0 ≤ k → k < i → (get_or xs k d).end < p) → EndBefore p i holes
+before_of xs holes p i e point = λ k d lt. rw e at (point k d (omega arith) lt)
 
 released-past : (s e tail : ℕ) (h : Hole) (hs : List Hole) → h.end < s → released s e tail (h ∷ hs) ≡ after h (released s e tail hs)
 unfolding released
@@ -68,6 +72,21 @@ begins_at p n tail low (suc i) (h ∷ hs) d lt sp b before here =
       | inr y ↦ begins_at p n tail (h.end + 1) i hs d (omega arith) sp.4 y.1 (λ k d lt. before (suc k) d (omega arith)) here
     ]
 
+-- the hole where the search for p ends
+pub record IsHoleAt (p i : ℕ) (holes : List Hole) (h : Hole) : Type 0 where
+  pub within : i < length holes
+  pub before : EndBefore p i holes
+  pub at : h ≡ get_or holes i h
+  pub start : h.start ≡ p
+
+pub hole_at : (p n tail i : ℕ) (xs holes : List Hole) (h : Hole) → xs ≡ holes → IsPartitionPoint (λ h. h.end < p) (λ h. p ≤ h.end) xs i → Spaced tail 0 holes
+    → Begins tail p n holes → i < length holes → h ≡ get_or holes i h → IsHoleAt p i holes h
+hole_at p n tail i xs holes h e point sp begins lt at =
+    let before = before_of xs holes p i e point.0 in
+    let from : p ≤ (get_or holes i h).end = rw e at (point.1 i h (omega arith) (rw e lt)) in
+    let here = begins_at p n tail 0 i holes h lt sp begins before from in
+    record { within = lt; before = before; at = at; start = ap (λ (x : Hole). x.start) at ∙ here.0 }
+
 taken-at : (p n tail : ℕ) (h : Hole) (hs : List Hole) → h.start ≡ p → taken p n tail (h ∷ hs) ≡ record { holes = shortened n h hs; tail = tail }
 unfolding taken
 taken-at p n tail h hs here = rw (eq-eqb h.start p here) refl
@@ -91,25 +110,33 @@ taken_tail p n tail low i holes le ge sp before =
     append_end xs t = ap (λ ys. record { holes = ys; tail = t }) (append_nil xs)
 
 -- a hole goes
-pub taken_whole : (p n tail low i : ℕ) (holes : List Hole) (h : Hole) → i < length holes → Spaced tail low holes → EndBefore p i holes → h ≡ get_or holes i h → h.start ≡ p → h.start + n ≡ h.end
+pub taken_whole : (p n tail low i : ℕ) (holes : List Hole) (h : Hole) → Spaced tail low holes → IsHoleAt p i holes h → p + n ≡ h.end
     → taken p n tail holes ≡ record { holes = remove holes i; tail = tail }
-taken_whole p n tail low i holes h lt sp before is here whole =
+taken_whole p n tail low i holes h sp is whole =
+    let lt = is.within in
+    let start = is.start in
+    let whole' : h.start + n ≡ h.end = omega (arith, start, whole) in
     let one : taken p n tail (drop i holes) ≡ record { holes = drop (i + 1) holes; tail = tail } =
-    ap (taken p n tail) (split_at holes i h lt is) ∙ taken-at p n tail h (drop (i + 1) holes) here ∙ rw (eq-eqb _ _ whole) refl in
-    taken_behind p n tail low i holes (omega arith) sp before ∙ ap (behind (take i holes)) one ∙ rw add-one refl
+    ap (taken p n tail) (split_at holes i h lt is.at) ∙ taken-at p n tail h (drop (i + 1) holes) start ∙ rw (eq-eqb _ _ whole') refl in
+    taken_behind p n tail low i holes (omega (arith, lt)) sp is.before ∙ ap (behind (take i holes)) one ∙ rw add-one refl
+
+abbrev shifted : ℕ → ℕ → ℕ → Hole
+shifted k n e = record { start = k + n; end = e }
 
 -- a hole is shortened
-pub taken_part : (p n tail low i : ℕ) (holes : List Hole) (h new : Hole) → i < length holes → Spaced tail low holes → EndBefore p i holes → h ≡ get_or holes i h → h.start ≡ p
-    → (h.start + n ≡ h.end → ⊥) → new ≡ record { start = h.start + n; end = h.end } → taken p n tail holes ≡ record { holes = set holes i new; tail = tail }
-taken_part p n tail low i holes h new lt sp before is here part new-is =
+pub taken_part : (p n tail low i : ℕ) (holes : List Hole) (h : Hole) → Spaced tail low holes → IsHoleAt p i holes h → (p + n ≡ h.end → ⊥)
+    → taken p n tail holes ≡ record { holes = set holes i (record { start = p + n; end = h.end }); tail = tail }
+taken_part p n tail low i holes h sp is part =
+    let lt = is.within in
+    let start = is.start in
+    let new : Hole = record { start = p + n; end = h.end } in
+    let same : record { start = h.start + n; end = h.end } ≡ new = ap (λ (k : ℕ). shifted k n h.end) start in
+    let part' : h.start + n ≡ h.end → ⊥ = λ e. part (ap (λ (k : ℕ). k + n) (sym start) ∙ e) in
     let one : taken p n tail (drop i holes) ≡ record { holes = new ∷ drop (i + 1) holes; tail = tail } =
-    ap (taken p n tail) (split_at holes i h lt is) ∙ taken-at p n tail h (drop (i + 1) holes) here ∙ rw (ne_eqb _ _ part, new-is) refl in
-    taken_behind p n tail low i holes (omega arith) sp before ∙ ap (behind (take i holes)) one
+    ap (taken p n tail) (split_at holes i h lt is.at) ∙ taken-at p n tail h (drop (i + 1) holes) start ∙ rw (ne_eqb _ _ part') refl
+    ∙ ap (λ (x : Hole). record { holes = x ∷ drop (i + 1) holes; tail = tail }) same in
+    taken_behind p n tail low i holes (omega (arith, lt)) sp is.before ∙ ap (behind (take i holes)) one
     ∙ ap (λ xs. record { holes = xs; tail = tail }) (sym (set_split holes i new lt ∙ rw (← add-one) refl))
-
--- the holes before p, where a search ends
-pub before_of : (xs holes : List Hole) (p i : ℕ) → xs ≡ holes → ((k : ℕ) (d : Hole) → 0 ≤ k → k < i → (get_or xs k d).end < p) → EndBefore p i holes
-before_of xs holes p i e point = λ k d lt. rw e at (point k d (omega arith) lt)
 
 -- ---- giving back
 
@@ -174,3 +201,10 @@ released_else s e tail i holes le before later =
           let split : drop i holes ≡ h ∷ drop (i + 1) holes = drop_more holes i no_hole lt in
           ap (released s e tail) split ∙ released-before s e tail h (drop (i + 1) holes) (later no_hole lt) ∙ ap (joined s e tail) (sym split)
     ])
+
+-- as the parts are
+pub free_is : (f : Free) (xs : List Hole) (t : ℕ) → xs ≡ f.holes → t ≡ f.tail → f ≡ record { holes = xs; tail = t }
+free_is f xs t e g = ap (λ ys. made_of ys f.tail) (sym e) ∙ ap (λ n. made_of xs n) (sym g)
+  where
+    made_of : List Hole → ℕ → Free
+    made_of ys n = record { holes = ys; tail = n }

@@ -54,8 +54,7 @@ pub(crate) fn take(holes: &mut Vec<Hole>, tail: u32, place: u32, n: u32) -> u32
     requires spaced { free.Spaced tail 0 holes.old.items }
     requires begins { free.Begins tail place n holes.old.items }
     requires fits { (place + n < 2 ^ 32) × (tail + n < 2 ^ 32) }
-    ensures holes { holes.new.items ≡ (free.taken place n tail holes.old.items).holes }
-    ensures tail { result ≡ (free.taken place n tail holes.old.items).tail }
+    ensures left { free.taken place n tail holes.old.items ≡ record { holes = holes.new.items; tail = result } }
     ensures len { vec_len holes.new ≤ vec_len holes.old }
     ensures capacity { vec_capacity holes.new ≡ vec_capacity holes.old }
 {
@@ -78,7 +77,8 @@ pub(crate) fn take(holes: &mut Vec<Hole>, tail: u32, place: u32, n: u32) -> u32
 fn join(holes: &mut Vec<Hole>, tail: u32, i: usize, start: u32, end: u32) -> u32
     requires within { i ≤ vec_len holes.old }
     requires room { vec_len holes.old < vec_capacity holes.old }
-    ensures holes { holes.new.items ≡ take i holes.old.items ++ (free.joined start end tail (drop i holes.old.items)).holes }
+    ensures holes { holes.new.items
+        ≡ take i holes.old.items ++ (free.joined start end tail (drop i holes.old.items)).holes }
     ensures tail { result ≡ (free.joined start end tail (drop i holes.old.items)).tail }
     ensures len { vec_len holes.new ≤ vec_len holes.old + 1 }
     ensures capacity { vec_capacity holes.new ≡ vec_capacity holes.old }
@@ -100,8 +100,7 @@ fn join(holes: &mut Vec<Hole>, tail: u32, i: usize, start: u32, end: u32) -> u32
 pub(crate) fn give_back(holes: &mut Vec<Hole>, tail: u32, start: u32, end: u32) -> u32
     requires spaced { free.Spaced tail 0 holes.old.items }
     requires room { vec_len holes.old < vec_capacity holes.old }
-    ensures holes { holes.new.items ≡ (free.released start end tail holes.old.items).holes }
-    ensures tail { result ≡ (free.released start end tail holes.old.items).tail }
+    ensures left { free.released start end tail holes.old.items ≡ record { holes = holes.new.items; tail = result } }
     ensures len { vec_len holes.new ≤ vec_len holes.old + 1 }
     ensures capacity { vec_capacity holes.new ≡ vec_capacity holes.old }
 {

@@ -64,7 +64,8 @@ pub(crate) fn note(spots: &mut Vec<Spot>, pointer: u64, made: u32)
     requires room { vec_len spots.old < vec_capacity spots.old }
     ensures order { AllPairs (λ a b. a.pointer < b.pointer) spots.new.items }
     ensures found { (p : ℕ) → find (is_spot_at p) spots.new.items
-        ≡ (if pointer == p then Some (record { pointer = pointer; made = made }) else find (is_spot_at p) spots.old.items) }
+        ≡ (if pointer == p then Some (record { pointer = pointer; made = made })
+        else find (is_spot_at p) spots.old.items) }
     ensures len { vec_len spots.new ≡ vec_len spots.old + 1 }
     ensures capacity { vec_capacity spots.new ≡ vec_capacity spots.old }
 {

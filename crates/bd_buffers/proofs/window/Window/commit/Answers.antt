@@ -1,9 +1,10 @@
-use Rattle.std.proofs.Common.{◌∙◌, ◌≡◌, ap, arith, Ok, All, refl, ◌<◌}
+use Rattle.std.proofs.Common.{sym, ◌∙◌, ◌≡◌, ap, arith, Ok, All, refl, ◌<◌}
 use Rattle.bd_space.specs.Windows.{start_for}
 use Rattle.bd_buffers.specs.declared.window.Window.{Window}
 use Rattle.bd_buffers.specs.Stands.{CanHold}
 use Rattle.bd_buffers.proofs.Places.{given_says}
 use Rattle.bd_buffers.proofs.Fits.{fit_begins, placed_fit}
+use Rattle.bd_buffers.specs.Holes.{Free}
 use Rattle.bd_buffers.proofs.Exact.{holes_taken}
 use Rattle.bd_buffers.proofs.Listed.{none_there, no_spot, spots_noted}
 use Rattle.bd_buffers.specs.Spots.{is_spot_at}
@@ -77,7 +78,7 @@ invariant_of-self c =
     let share = c.one_way_share-share.ensures in
     let new = none_there w.size b.size w.buffers.items b c.self.invariant.window (omega (arith, sized)) (given_says w.size w.buffers.items b.one_way b.size b.start place).least.room.free in
     let same = c.pointer_of.ensures in
-    rw (c.push_reserved.ensures.items, c.take-tail.ensures.holes, c.take-tail.ensures.tail) (record {
+    rw (c.push_reserved.ensures.items, ap (λ (f : Free). f.holes) (sym c.take-tail.ensures.left), ap (λ (f : Free). f.tail) (sym c.take-tail.ensures.left)) (record {
       window = window_push w.size w.buffers.items b c.self.invariant.window newest sized place;
       free = holes_taken w.size w.tail b.size b.start w.buffers.items w.holes.items b c.self.invariant.free (omega (arith, sized)) inside fit refl refl;
       starts = spots_noted w.buffers.items b w.spots.items c.note.new.spots.items c.self.invariant.starts new c.note.ensures.order (λ p. subst (λ k. find (is_spot_at p) c.note.new.spots.items ≡ cond (k == p) (Some (record { pointer = k; made = b.made })) (find (is_spot_at p) w.spots.items)) same (c.note.ensures.found p));

@@ -2,6 +2,7 @@ use Rattle.std.proofs.Common.{sym, ◌≡◌, ◌<◌, ◌∙◌, ap, arith, len
 use Rattle.std.proofs.lemmas.List.{get_or_default}
 use Rattle.bd_space.specs.declared.space.Buffer.{Buffer}
 use Rattle.bd_buffers.specs.Buffer.{one_way_share}
+use Rattle.bd_buffers.specs.Holes.{Free}
 use Rattle.bd_buffers.proofs.Exact.{holes_released}
 use Rattle.bd_buffers.proofs.Listed.{spots_forgotten}
 use Rattle.bd_space.specs.Freeing.{pointer}
@@ -29,7 +30,7 @@ invariant_of-self c =
     let left = one_way_removed w.buffers.items c.args.i b lt in
     let total = c.self.invariant.total in
     let share = c.one_way_share-share.ensures in
-    rw (c.remove-buffer.ensures.items, c.give_back-tail.ensures.holes, c.give_back-tail.ensures.tail) (record {
+    rw (c.remove-buffer.ensures.items, ap (λ (f : Free). f.holes) (sym c.give_back-tail.ensures.left), ap (λ (f : Free). f.tail) (sym c.give_back-tail.ensures.left)) (record {
       window = window_removed w.size c.args.i w.buffers.items b c.self.invariant.window lt;
       free = holes_released w.size w.tail c.args.i w.buffers.items w.holes.items b c.self.invariant.window c.self.invariant.free lt at;
       starts = spots_forgotten w.size c.args.i c.pointer_of.result w.buffers.items w.spots.items c.forget.new.spots.items c.self.invariant.starts c.self.invariant.window lt (λ d. ap pointer (sym (at d)) ∙ sym c.pointer_of.ensures) c.forget.ensures.left;
