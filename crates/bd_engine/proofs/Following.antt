@@ -1,6 +1,9 @@
--- What follows at one name and one object: first at the name, then at the object.
-use Rattle.std.proofs.Common.{◌≡◌, ℕ, ◌==◌, Bool, true, false, cond, not, ◌&&◌, ◌||◌, List, [], ◌∷◌, Option, Some, None, option_and_then, inl, inr, refl, ap, sym, subst, ◌∙◌, filter}
+-- What follows at some names, and that the objects may come after them.
+use Rattle.std.proofs.Common.{◌≡◌, ℕ, ◌+◌, ◌==◌, ◌<◌, Bool, true, false, cond, not, ◌&&◌, ◌||◌, List, [], ◌∷◌, ◌++◌, length, get_or, take, inl, inr, refl, ap, sym, ◌∙◌, filter}
 use Rattle.std.specs.List.{list_any, fold}
+use Rattle.std.proofs.Math.Path.{fun_ext}
+use Rattle.std.proofs.lemmas.Bool.{eqb-true}
+use Rattle.std.proofs.lemmas.List.{take_more}
 use Rattle.bd_space.specs.declared.step.ObjectId.{ObjectId}
 use Rattle.bd_space.specs.declared.space.Object.{Object}
 use Rattle.bd_space.specs.declared.space.Name.{Name}
@@ -9,37 +12,36 @@ use Rattle.bd_space.specs.declared.space.Work.{Work}
 use Rattle.bd_space.specs.declared.space.WorkKind.{WorkKind}
 use Rattle.bd_space.specs.declared.space.WorkKind.TheVariants as work
 use Rattle.bd_space.specs.declared.space.TodoList.TheVariants.{OfProcess}
-use Rattle.bd_space.specs.Words.{same, is_some_and, when}
+use Rattle.bd_space.specs.Words.{same}
 use Rattle.bd_space.specs.Space.{Space}
-use Rattle.bd_space.specs.References.{object_in, stays_in}
+use Rattle.bd_space.specs.References.{stays_in}
 use Rattle.bd_space.specs.Names.{is_named_in}
-use Rattle.bd_space.specs.Todo.{is_notice}
-use Rattle.bd_space.specs.Notices.{wants_notice, with_notice, is_name_of, still_due}
-use Rattle.bd_space.specs.Local.{NameTest, ObjectTest, names_go_of, objects_go_of, deaths_go_of, is_touched, work_goes_of, notify_of, follow_of, at_name, no_name, at_object}
+use Rattle.bd_space.specs.Notices.{with_notice, is_name_of, still_due}
+use Rattle.bd_space.specs.Local.{NameTest, ObjectTest, names_go_of, objects_go_of, deaths_go_of, is_touched, work_goes_of, notify_of, follow_of, at_name, no_name, names_among}
 use Rattle.bd_objects.specs.Deaths.{is_lost}
-use Rattle.bd_engine.specs.Following.{deaths_followed}
-use Rattle.bd_laws.specs.Lists.{In, Pairs}
-use Rattle.bd_laws.specs.Objects.{Differ}
-use Rattle.bd_laws.proofs.Lists.{pairs-filter}
-use Rattle.bd_laws.proofs.Tests.{same-eq}
+use Rattle.bd_laws.specs.Lists.{In}
+use Rattle.bd_laws.proofs.Lists.{in-filter, filter-in, any-found, any-in}
+use Rattle.bd_laws.proofs.Tests.{both, and-both, same-eq}
+use Rattle.bd_laws.proofs.Freeing.{any-append}
+use Rattle.bd_engine.specs.Following.{deaths_followed, names_followed}
 
 -- ---- lists
 
 module _ {A : Type 0} where
-  keeps-all : (p : A → Bool) (xs : List A) → ((x : A) → p x ≡ true) → filter p xs ≡ xs
+  pub keeps-all : (p : A → Bool) (xs : List A) → ((x : A) → p x ≡ true) → filter p xs ≡ xs
   keeps-all p [] h = refl
   keeps-all p (x ∷ xs) h = rw (h x) (ap (λ ys. x ∷ ys) (keeps-all p xs h))
 
-  keeps-none : (p : A → Bool) (xs : List A) → ((x : A) → In x xs → p x ≡ false) → filter p xs ≡ []
+  pub keeps-none : (p : A → Bool) (xs : List A) → ((x : A) → In x xs → p x ≡ false) → filter p xs ≡ []
   keeps-none p [] h = refl
   keeps-none p (x ∷ xs) h = rw (h x (inl refl)) (keeps-none p xs (λ y l. h y (inr l)))
 
-  same-tests : (p q : A → Bool) (xs : List A) → ((x : A) → p x ≡ q x) → filter p xs ≡ filter q xs
+  pub same-tests : (p q : A → Bool) (xs : List A) → ((x : A) → p x ≡ q x) → filter p xs ≡ filter q xs
   same-tests p q [] h = refl
   same-tests p q (x ∷ xs) h = rw (h x) (ap (λ ys. cond (q x) (x ∷ ys) ys) (same-tests p q xs h))
 
   -- one test after the other
-  twice : (p q r : A → Bool) (xs : List A) → ((x : A) → p x ≡ (q x && r x)) → filter p xs ≡ filter r (filter q xs)
+  pub twice : (p q r : A → Bool) (xs : List A) → ((x : A) → p x ≡ (q x && r x)) → filter p xs ≡ filter r (filter q xs)
   twice p q r [] h = refl
   twice p q r (x ∷ xs) h = at (q x) refl (twice p q r xs h)
     where
@@ -47,7 +49,7 @@ module _ {A : Type 0} where
       at true e k = rw (h x, e) (ap (λ ys. cond (r x) (x ∷ ys) ys) k)
       at false e k = rw (h x, e) k
 
-no-deaths : (n : ℕ) (ds : List DeathNotification) → list_any (λ (x : DeathNotification). (x.made == n) && false) ds ≡ false
+pub no-deaths : (n : ℕ) (ds : List DeathNotification) → list_any (λ (x : DeathNotification). (x.made == n) && false) ds ≡ false
 no-deaths n [] = refl
 no-deaths n (d ∷ ds) = at (d.made == n) (no-deaths n ds)
   where
@@ -55,7 +57,7 @@ no-deaths n (d ∷ ds) = at (d.made == n) (no-deaths n ds)
     at true k = k
     at false k = k
 
--- ---- first at the name
+-- ---- first at the names
 
 and-true : (b : Bool) → b ≡ (b && true)
 and-true true = refl
@@ -93,9 +95,9 @@ module _ (a : NameTest) (b : ObjectTest) (s : Space) where
   kinds (work.Death n) = rw (no-deaths n deaths_left) (and-true _)
   kinds (work.Cleared c) = refl
 
-  pub name-first : follow_of a b s ≡ follow_of no_name b (deaths_followed a (names_go_of a s))
-  unfolding follow_of notify_of work_goes_of deaths_go_of objects_go_of names_go_of deaths_followed
-  name-first =
+  pub names-first : follow_of a b s ≡ follow_of no_name b (names_followed a s)
+  unfolding follow_of notify_of work_goes_of deaths_go_of objects_go_of names_go_of deaths_followed names_followed
+  names-first =
       ap (λ ns. left ns deaths_left works_left) (sym (keeps-all (λ (m : Name). true) names_left (λ m. refl)))
       ∙ ap (λ ds. left (filter (λ (m : Name). true) names_left) ds works_left) (sym (keeps-all (λ (d : DeathNotification). true) deaths_left (λ d. refl)))
       ∙ ap (left (filter (λ (m : Name). true) names_left) (filter (λ (d : DeathNotification). true) deaths_left)) (twice _ _ _ s.todo (λ w. kinds w.kind))
@@ -151,114 +153,179 @@ module _ (p : ℕ) (o : ObjectId) (s : Space) where
       ap (λ ds. let y : Space = record s { deaths = ds; todo = filter (λ w. stays ds w.kind) s.todo } in y) kept
       ∙ ap (λ ws. let y : Space = record s { todo = ws } in y) (keeps-all (λ (w : Work). stays s.deaths w.kind) s.todo (λ w. all-stay w.kind))
 
--- ---- then at the object
+-- ---- one name more
 
-filter-only : (xs : List Object) (o : ObjectId) → Pairs Differ xs → (f : Option Object) → object_in xs o ≡ f
-    → filter (λ x. at_object o x.id) xs ≡ elim f [ None ↦ [] | Some x ↦ x ∷ [] ]
-filter-only [] o h f e = subst (λ (g : Option Object). [] ≡ elim g [ None ↦ [] | Some x ↦ x ∷ [] ]) e refl
-filter-only (y ∷ ys) o h f e = at (same y.id o) refl e (filter-only ys o h.1)
-  where
-    at : (b : Bool) → same y.id o ≡ b → cond b (Some y) (object_in ys o) ≡ f → ((g : Option Object) → object_in ys o ≡ g → filter (λ x. at_object o x.id) ys ≡ elim g [ None ↦ [] | Some x ↦ x ∷ [] ])
-        → cond b (y ∷ filter (λ x. at_object o x.id) ys) (filter (λ x. at_object o x.id) ys) ≡ elim f [ None ↦ [] | Some x ↦ x ∷ [] ]
-    at true i k rest = subst (λ (g : Option Object). y ∷ filter (λ x. at_object o x.id) ys ≡ elim g [ None ↦ [] | Some x ↦ x ∷ [] ]) k
-        (ap (λ zs. y ∷ zs) (keeps-none (λ (x : Object). at_object o x.id) ys (λ z l. other z l (same z.id o) refl)))
-      where
-        other : (z : Object) → In z ys → (c : Bool) → same z.id o ≡ c → c ≡ false
-        other z l true j = absurd (h.0 z l (same-eq y.id o i ∙ sym (same-eq z.id o j)))
-        other z l false j = refl
-    at false i k rest = rest f k
+or-false : (b : Bool) → (b || false) ≡ b
+or-false true = refl
+or-false false = refl
 
-module _ (o : ObjectId) (s : Space) (h : Pairs Differ s.objects) where
-  abbrev objects_kept : List Object
-  objects_kept = filter (λ x. not (at_object o x.id) || stays_in s.processes s.references x) s.objects
+named-next : (p : ℕ) (os : List ObjectId) (k : ℕ) (d : ObjectId) → k < length os
+    → names_among p (take (k + 1) os) ≡ (λ q i. names_among p (take k os) q i || at_name p (get_or os k d) q i)
+named-next p os k d lt = fun_ext (λ q. fun_ext (λ i.
+    ap (λ (xs : List ObjectId). names_among p xs q i) (take_more os k d lt)
+    ∙ any-append (λ x. at_name p x q i) (take k os) (get_or os k d ∷ [])
+    ∙ ap (λ b. names_among p (take k os) q i || b) (or-false (at_name p (get_or os k d) q i))))
 
-  abbrev wants : Object → Bool
-  wants x = wants_notice s.processes s.references x
+pub named-one : (p : ℕ) (o : ObjectId) → names_among p (o ∷ []) ≡ at_name p o
+named-one p o = fun_ext (λ q. fun_ext (λ i. or-false (at_name p o q i)))
 
-  abbrev still : WorkKind → Bool
-  still k = not (is_touched no_name (at_object o) s.deaths k) || still_due s.processes objects_kept s.references (filter (λ x. true) s.deaths) k
+module _ (a b : NameTest) (s : Space) where
+  abbrev either : NameTest
+  either q i = a q i || b q i
 
-  abbrev told_in : List Object → List Work → List Work
-  told_in xs todo = fold (λ ws x. with_notice s.steps s.processes s.references (OfProcess x.owner) ws x) todo xs
+  abbrev first : List Name
+  first = filter (λ m. not (a m.process m.object) || is_named_in s.objects s.references m.process m.object) s.names
 
-  abbrev followed : List Name → List DeathNotification → List Work → Space
-  followed names deaths todo = record s { names = names; objects = objects_kept; deaths = deaths; todo = todo }
+  abbrev both_gone : List Name
+  both_gone = filter (λ m. not (b m.process m.object) || is_named_in s.objects s.references m.process m.object) first
 
-  kept-differ : Pairs Differ objects_kept
-  kept-differ = pairs-filter Differ (λ (x : Object). not (at_object o x.id) || stays_in s.processes s.references x) s.objects h
+  abbrev first_deaths : List DeathNotification
+  first_deaths = filter (λ x. not (a x.process x.object) || (x.cleared || is_name_of first x.process x.object)) s.deaths
 
-  only-todo : (todo : List Work) → told_in (filter (λ x. at_object o x.id) objects_kept) (filter (λ w. still w.kind) s.todo) ≡ todo
-      → follow_of no_name (at_object o) s ≡ record s { objects = objects_kept; todo = todo }
-  unfolding follow_of notify_of work_goes_of deaths_go_of objects_go_of names_go_of
-  only-todo todo e =
-      ap (λ ns. followed ns (filter (λ (d : DeathNotification). true) s.deaths) (told_in (filter (λ x. at_object o x.id) objects_kept) (filter (λ w. still w.kind) s.todo))) (keeps-all (λ (m : Name). true) s.names (λ m. refl))
-      ∙ ap (λ ds. followed s.names ds (told_in (filter (λ x. at_object o x.id) objects_kept) (filter (λ w. still w.kind) s.todo))) (keeps-all (λ (d : DeathNotification). true) s.deaths (λ d. refl))
-      ∙ ap (followed s.names s.deaths) e
+  abbrev deaths_gone : List DeathNotification
+  deaths_gone = filter (λ x. not (b x.process x.object) || (x.cleared || is_name_of both_gone x.process x.object)) first_deaths
 
-  -- a Notice of a wanted object stays
-  all-still : is_some_and (object_in objects_kept o) wants ≡ true → (k : WorkKind) → still k ≡ true
-  all-still e (work.Notice i) = at (same i o) refl
+  either-or : (p q n : Bool) → (not (p || q) || n) ≡ ((not p || n) && (not q || n))
+  either-or true true true = refl
+  either-or true true false = refl
+  either-or true false true = refl
+  either-or true false false = refl
+  either-or false q n = refl
+
+  -- a name that goes at the second look, and was there after the first
+  named-still : (p : ℕ) (o : ObjectId) → b p o ≡ false → is_name_of first p o ≡ true → is_name_of both_gone p o ≡ true
+  named-still p o none has =
+      let m = any-found (λ (m : Name). (m.process == p) && same m.object o) first has in
+      let t = both (m.0.process == p) (same m.0.object o) m.2 in
+      let at : b m.0.process m.0.object ≡ false = rw (eqb-true m.0.process p t.0, same-eq m.0.object o t.1) none in
+      any-in (λ (m : Name). (m.process == p) && same m.object o) m.0 _
+      (filter-in (λ (m : Name). not (b m.process m.object) || is_named_in s.objects s.references m.process m.object) m.0 first m.1 (rw at refl)) m.2
+
+  named-before : (p : ℕ) (o : ObjectId) → is_name_of both_gone p o ≡ true → is_name_of first p o ≡ true
+  named-before p o has =
+      let m = any-found (λ (m : Name). (m.process == p) && same m.object o) both_gone has in
+      any-in (λ (m : Name). (m.process == p) && same m.object o) m.0 first
+      (in-filter (λ (m : Name). not (b m.process m.object) || is_named_in s.objects s.references m.process m.object) m.0 first m.1).0 m.2
+
+  death-stays : (p q c n m : Bool) → (m ≡ true → n ≡ true) → (q ≡ false → n ≡ true → m ≡ true) → (not (p || q) || (c || m)) ≡ ((not p || (c || n)) && (not q || (c || m)))
+  death-stays false q c n m h k = refl
+  death-stays true true true n m h k = refl
+  death-stays true true false true true h k = refl
+  death-stays true true false true false h k = refl
+  death-stays true true false false false h k = refl
+  death-stays true true false false true h k = absurd (let no = h refl in cc)
+  death-stays true false true n m h k = refl
+  death-stays true false false true true h k = refl
+  death-stays true false false true false h k = absurd (let no = k refl refl in cc)
+  death-stays true false false false true h k = absurd (let no = h refl in cc)
+  death-stays true false false false false h k = refl
+
+  abbrev made_at : ℕ → DeathNotification → Bool
+  made_at n x = x.made == n
+
+  -- of a death's item: its notification is looked at, and is left
+  abbrev looked : NameTest → List DeathNotification → ℕ → Bool
+  looked c ds n = list_any (λ x. (x.made == n) && c x.process x.object) ds
+
+  item-stays : (ab a1 b1 d1 d2 : Bool) → (d2 ≡ true → d1 ≡ true) → (a1 ≡ true → ab ≡ true) → (b1 ≡ true → ab ≡ true) → (b1 ≡ false → d1 ≡ true → d2 ≡ true) → (ab ≡ true → a1 ≡ false → b1 ≡ true)
+      → (not ab || d2) ≡ ((not a1 || d1) && (not b1 || d2))
+  item-stays false true b1 d1 d2 f1 f2 f3 f4 f5 = absurd (let no = f2 refl in cc)
+  item-stays false false true d1 d2 f1 f2 f3 f4 f5 = absurd (let no = f3 refl in cc)
+  item-stays false false false d1 d2 f1 f2 f3 f4 f5 = refl
+  item-stays true true b1 false true f1 f2 f3 f4 f5 = absurd (let no = f1 refl in cc)
+  item-stays true true b1 false false f1 f2 f3 f4 f5 = refl
+  item-stays true true true true d2 f1 f2 f3 f4 f5 = refl
+  item-stays true true false true true f1 f2 f3 f4 f5 = refl
+  item-stays true true false true false f1 f2 f3 f4 f5 = absurd (let no = f4 refl refl in cc)
+  item-stays true false true d1 d2 f1 f2 f3 f4 f5 = refl
+  item-stays true false false d1 d2 f1 f2 f3 f4 f5 = absurd (let no = f5 refl refl in cc)
+
+  abbrev a-stays : DeathNotification → Bool
+  a-stays x = not (a x.process x.object) || (x.cleared || is_name_of first x.process x.object)
+
+  abbrev b-stays : DeathNotification → Bool
+  b-stays x = not (b x.process x.object) || (x.cleared || is_name_of both_gone x.process x.object)
+
+  split-or : (p q : Bool) → (p || q) ≡ true → p ≡ false → q ≡ true
+  split-or true q h e = absurd (cc)
+  split-or false q h e = h
+
+  or-left : (p q : Bool) → p ≡ true → (p || q) ≡ true
+  or-left p q h = rw h refl
+
+  or-right : (p q : Bool) → q ≡ true → (p || q) ≡ true
+  or-right true q h = refl
+  or-right false q h = h
+
+  kinds-then : (k : WorkKind) → (not (is_touched either (λ i. false) s.deaths k) || still_due s.processes s.objects s.references deaths_gone k)
+      ≡ ((not (is_touched a (λ i. false) s.deaths k) || still_due s.processes s.objects s.references first_deaths k)
+      && (not (is_touched b (λ i. false) first_deaths k) || still_due s.processes s.objects s.references deaths_gone k))
+  kinds-then (work.Notice i) = refl
+  kinds-then work.Complete = refl
+  kinds-then (work.Refusal r) = refl
+  kinds-then (work.Call m) = refl
+  kinds-then (work.Reply m) = refl
+  kinds-then (work.Verdict r) = refl
+  kinds-then (work.Death n) = item-stays (looked either s.deaths n) (looked a s.deaths n) (looked b first_deaths n) (list_any (made_at n) first_deaths) (list_any (made_at n) deaths_gone)
+      (λ e. let x = any-found (made_at n) deaths_gone e in any-in (made_at n) x.0 first_deaths (in-filter b-stays x.0 first_deaths x.1).0 x.2)
+      (λ e. let x = any-found (λ (x : DeathNotification). (x.made == n) && a x.process x.object) s.deaths e in
+      let t = both (x.0.made == n) (a x.0.process x.0.object) x.2 in
+      any-in (λ (x : DeathNotification). (x.made == n) && (a x.process x.object || b x.process x.object)) x.0 s.deaths x.1 (and-both _ _ t.0 (or-left _ _ t.1)))
+      (λ e. let x = any-found (λ (x : DeathNotification). (x.made == n) && b x.process x.object) first_deaths e in
+      let t = both (x.0.made == n) (b x.0.process x.0.object) x.2 in
+      any-in (λ (x : DeathNotification). (x.made == n) && (a x.process x.object || b x.process x.object)) x.0 s.deaths (in-filter a-stays x.0 s.deaths x.1).0 (and-both _ _ t.0 (or-right _ _ t.1)))
+      (λ none e. let x = any-found (made_at n) first_deaths e in
+      any-in (made_at n) x.0 deaths_gone (filter-in b-stays x.0 first_deaths x.1 (untouched x.0 n x.1 x.2 none (b x.0.process x.0.object) refl)) x.2)
+      (λ e none. let x = any-found (λ (x : DeathNotification). (x.made == n) && (a x.process x.object || b x.process x.object)) s.deaths e in
+      let t = both (x.0.made == n) (a x.0.process x.0.object || b x.0.process x.0.object) x.2 in
+      missed x.0 n x.1 t.0 t.1 none (a x.0.process x.0.object) refl)
     where
-      at : (b : Bool) → same i o ≡ b → (not b || is_some_and (object_in objects_kept i) wants) ≡ true
-      at true j = subst (λ (q : ObjectId). is_some_and (object_in objects_kept q) wants ≡ true) (sym (same-eq i o j)) e
-      at false j = refl
-  all-still e work.Complete = refl
-  all-still e (work.Refusal r) = refl
-  all-still e (work.Call m) = refl
-  all-still e (work.Reply m) = refl
-  all-still e (work.Verdict r) = refl
-  all-still e (work.Death n) = rw (no-deaths n s.deaths) refl
-  all-still e (work.Cleared c) = refl
+      untouched : (x : DeathNotification) (n : ℕ) → In x first_deaths → (x.made == n) ≡ true → looked b first_deaths n ≡ false → (c : Bool) → b x.process x.object ≡ c → b-stays x ≡ true
+      untouched x n l m none true e = let some = any-in (λ (x : DeathNotification). (x.made == n) && b x.process x.object) x first_deaths l (and-both _ _ m e) in absurd (cc)
+      untouched x n l m none false e = rw e refl
 
-  -- and of an unwanted one it goes
-  others-still : is_some_and (object_in objects_kept o) wants ≡ false → (k : WorkKind) → still k ≡ not (is_notice o k)
-  others-still e (work.Notice i) = at (same i o) refl
-    where
-      at : (b : Bool) → same i o ≡ b → (not b || is_some_and (object_in objects_kept i) wants) ≡ not b
-      at true j = subst (λ (q : ObjectId). is_some_and (object_in objects_kept q) wants ≡ false) (sym (same-eq i o j)) e
-      at false j = refl
-  others-still e work.Complete = refl
-  others-still e (work.Refusal r) = refl
-  others-still e (work.Call m) = refl
-  others-still e (work.Reply m) = refl
-  others-still e (work.Verdict r) = refl
-  others-still e (work.Death n) = rw (no-deaths n s.deaths) refl
-  others-still e (work.Cleared c) = refl
+      missed : (x : DeathNotification) (n : ℕ) → In x s.deaths → (x.made == n) ≡ true → (a x.process x.object || b x.process x.object) ≡ true → looked a s.deaths n ≡ false
+          → (c : Bool) → a x.process x.object ≡ c → looked b first_deaths n ≡ true
+      missed x n l m h none true e = let some = any-in (λ (x : DeathNotification). (x.made == n) && a x.process x.object) x s.deaths l (and-both _ _ m e) in absurd (cc)
+      missed x n l m h none false e =
+          any-in (λ (x : DeathNotification). (x.made == n) && b x.process x.object) x first_deaths (filter-in a-stays x s.deaths l (rw e refl)) (and-both _ _ m (split-or _ _ h e))
+  kinds-then (work.Cleared c) = refl
 
-  pub told : (x : Object) (p : ℕ) → object_in objects_kept o ≡ Some x → wants x ≡ true → x.owner ≡ p
-      → follow_of no_name (at_object o) s
-      ≡ record s { objects = objects_kept; todo = with_notice s.steps s.processes s.references (OfProcess p) s.todo x }
-  told x p e w owns = only-todo _ (ap (λ xs. told_in xs (filter (λ w. still w.kind) s.todo)) (filter-only objects_kept o kept-differ (Some x) e)
-      ∙ ap (λ ws. with_notice s.steps s.processes s.references (OfProcess x.owner) ws x)
-      (keeps-all (λ (w : Work). still w.kind) s.todo (λ v. all-still (ap (λ (f : Option Object). is_some_and f wants) e ∙ w) v.kind))
-      ∙ ap (λ q. with_notice s.steps s.processes s.references (OfProcess q) s.todo x) owns)
+  abbrev out : List Name → List DeathNotification → List Work → Space
+  out names deaths todo = record s { names = names; deaths = deaths; todo = todo }
 
-  pub untold : is_some_and (object_in objects_kept o) wants ≡ false
-      → follow_of no_name (at_object o) s ≡ record s { objects = objects_kept; todo = filter (λ w. not (is_notice o w.kind)) s.todo }
-  untold e = only-todo _ (ap (λ xs. told_in xs (filter (λ w. still w.kind) s.todo)) (filter-only objects_kept o kept-differ (object_in objects_kept o) refl)
-      ∙ none (object_in objects_kept o) e
-      ∙ same-tests (λ (w : Work). still w.kind) (λ w. not (is_notice o w.kind)) s.todo (λ w. others-still e w.kind))
-    where
-      none : (f : Option Object) → is_some_and f wants ≡ false
-          → told_in (elim f [ None ↦ [] | Some x ↦ x ∷ [] ]) (filter (λ w. still w.kind) s.todo) ≡ filter (λ w. still w.kind) s.todo
-      none None k = refl
-      none (Some x) k = rw k refl
+  pub names-then : names_followed b (names_followed a s) ≡ names_followed (λ q i. a q i || b q i) s
+  unfolding names_followed deaths_followed work_goes_of deaths_go_of names_go_of
+  names-then =
+      let deaths_if = λ (ns : List Name). filter (λ (x : DeathNotification). not (either x.process x.object) || (x.cleared || is_name_of ns x.process x.object)) s.deaths in
+      let todo_if = λ (ds : List DeathNotification). filter (λ (w : Work). not (is_touched either (λ i. false) s.deaths w.kind) || still_due s.processes s.objects s.references ds w.kind) s.todo in
+      sym (ap (λ ns. out ns (deaths_if ns) (todo_if (deaths_if ns))) (twice _ _ _ s.names (λ m. either-or (a m.process m.object) (b m.process m.object) (is_named_in s.objects s.references m.process m.object)))
+      ∙ ap (λ ds. out both_gone ds (todo_if ds)) (twice _ _ _ s.deaths (λ x. death-stays (a x.process x.object) (b x.process x.object) x.cleared _ _ (named-before x.process x.object) (named-still x.process x.object)))
+      ∙ ap (out both_gone deaths_gone) (twice _ _ _ s.todo (λ w. kinds-then w.kind)))
 
--- ---- the owner that is to be told
+pub names-next : (p : ℕ) (os : List ObjectId) (k : ℕ) (d : ObjectId) (s : Space) → k < length os
+    → names_followed (at_name p (get_or os k d)) (names_followed (names_among p (take k os)) s) ≡ names_followed (names_among p (take (k + 1) os)) s
+names-next p os k d s lt = names-then (names_among p (take k os)) (at_name p (get_or os k d)) s ∙ ap (λ a. names_followed a s) (sym (named-next p os k d lt))
 
-pub owner-told : (f : Option Object) (w : Object → Bool) (p : ℕ) → option_and_then (λ x. when (w x) x.owner) f ≡ Some p
-    → (x : Object) × (f ≡ Some x) × (w x ≡ true) × (x.owner ≡ p)
-owner-told None w p e = absurd (cc)
-owner-told (Some x) w p e = at (w x) refl e
+pub names-none : (p : ℕ) (s : Space) → names_followed (names_among p []) s ≡ s
+unfolding names_followed deaths_followed work_goes_of deaths_go_of names_go_of
+names-none p s =
+    let still = λ (ds : List DeathNotification). filter (λ (w : Work). not (is_touched (names_among p []) (λ i. false) s.deaths w.kind) || still_due s.processes s.objects s.references ds w.kind) s.todo in
+    ap (λ (ns : List Name). let z : Space = record s { names = ns; deaths = filter (λ (d : DeathNotification). true) s.deaths; todo = still (filter (λ (d : DeathNotification). true) s.deaths) } in z)
+    (keeps-all (λ (m : Name). true) s.names (λ m. refl))
+    ∙ ap (λ (ds : List DeathNotification). let z : Space = record s { deaths = ds; todo = still ds } in z) (keeps-all (λ (d : DeathNotification). true) s.deaths (λ d. refl))
+    ∙ ap (λ (ws : List Work). let z : Space = record s { todo = ws } in z) (keeps-all _ s.todo (λ w. stays w.kind))
   where
-    at : (b : Bool) → w x ≡ b → when b x.owner ≡ Some p → (y : Object) × (Some x ≡ Some y) × (w y ≡ true) × (y.owner ≡ p)
-    at true i k = (x, refl, i, cc)
-    at false i k = absurd (cc)
+    stays : (k : WorkKind) → (not (is_touched (names_among p []) (λ i. false) s.deaths k) || still_due s.processes s.objects s.references s.deaths k) ≡ true
+    stays (work.Notice i) = refl
+    stays work.Complete = refl
+    stays (work.Refusal r) = refl
+    stays (work.Call m) = refl
+    stays (work.Reply m) = refl
+    stays (work.Verdict r) = refl
+    stays (work.Death n) = rw (no-deaths n s.deaths) refl
+    stays (work.Cleared n) = refl
 
-pub owner-untold : (f : Option Object) (w : Object → Bool) → option_and_then (λ x. when (w x) x.owner) f ≡ None → is_some_and f w ≡ false
-owner-untold None w e = refl
-owner-untold (Some x) w e = at (w x) refl e
-  where
-    at : (b : Bool) → w x ≡ b → when b x.owner ≡ None → w x ≡ false
-    at true i k = absurd (cc)
-    at false i k = i
+pub followed-objects : (a : NameTest) (s : Space) → (names_followed a s).objects ≡ s.objects
+unfolding names_followed deaths_followed work_goes_of deaths_go_of names_go_of
+followed-objects a s = refl

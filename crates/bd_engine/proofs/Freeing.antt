@@ -21,7 +21,7 @@ use Rattle.bd_space.specs.Notices.{follow}
 use Rattle.bd_space.specs.Outcomes.{completed}
 use Rattle.bd_space.specs.Local.{names_of_references, objects_of_references, no_name, at_object, ripen_of}
 use Rattle.bd_laws.specs.Lists.{In, Pairs}
-use Rattle.bd_laws.specs.Objects.{Differ}
+use Rattle.bd_laws.specs.Objects.{Earlier}
 use Rattle.bd_laws.specs.OneWayCalls.{Waits}
 use Rattle.bd_laws.specs.Quiet.{Elsewhere}
 use Rattle.bd_laws.specs.Tidy.{IsTidy}
@@ -145,7 +145,7 @@ module _ (s : Space) (made : ℕ) (tidy : IsTidy s) where
   freed-followed turn only e f = freed-follows s made tidy turn e ∙ followed turn only f
 
 -- freeing leaves the objects
-pub freed-differ : (s : Space) (made : ℕ) (turn : Option ObjectId) → Pairs Differ s.objects → Pairs Differ (ripen_next turn (without_buffer s made)).objects
+pub freed-ordered : (s : Space) (made : ℕ) (turn : Option ObjectId) → Pairs Earlier s.objects → Pairs Earlier (ripen_next turn (without_buffer s made)).objects
 unfolding without_buffer ripen_of
-freed-differ s made None h = h
-freed-differ s made (Some o) h = h
+freed-ordered s made None h = h
+freed-ordered s made (Some o) h = h

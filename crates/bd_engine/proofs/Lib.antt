@@ -23,5 +23,6 @@ pub mod Finding
 pub mod Freeing
 pub mod Reading
 pub mod Following
+pub mod FollowingObjects
 pub mod Clearing
 pub mod NoObjects

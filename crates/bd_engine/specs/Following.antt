@@ -1,9 +1,17 @@
--- What follows from a change at chosen names alone, and where every object has an identity of its own.
-use Rattle.std.specs.Prelude.{false}
+-- What follows from a change at chosen names and objects alone.
+use Rattle.std.specs.Prelude.{false, true, Bool, not, ◌||◌, List, filter, fold, None, Some}
+use Rattle.bd_space.specs.declared.step.ObjectId.{ObjectId}
+use Rattle.bd_space.specs.declared.space.Work.{Work}
+use Rattle.bd_space.specs.declared.space.WorkKind.{WorkKind}
+use Rattle.bd_space.specs.declared.space.WorkKind.TheVariants as work
+use Rattle.bd_space.specs.declared.space.TodoList.TheVariants.{OfProcess}
+use Rattle.bd_space.specs.Words.{is_some_and}
 use Rattle.bd_space.specs.Space.{Space}
-use Rattle.bd_space.specs.Local.{NameTest, deaths_go_of, work_goes_of}
+use Rattle.bd_space.specs.References.{object_in}
+use Rattle.bd_space.specs.Notices.{wants_notice, with_notice}
+use Rattle.bd_space.specs.Local.{NameTest, ObjectTest, names_go_of, objects_go_of, deaths_go_of, work_goes_of}
 use Rattle.bd_laws.specs.Lists.{Pairs}
-use Rattle.bd_laws.specs.Objects.{Differ}
+use Rattle.bd_laws.specs.Objects.{Earlier}
 use Rattle.bd_engine.specs.declared.tables.Tables.{Tables}
 use Rattle.bd_engine.specs.Stands.{Within}
 
@@ -11,6 +19,27 @@ use Rattle.bd_engine.specs.Stands.{Within}
 unfoldable pub deaths_followed : NameTest → Space → Space
 deaths_followed a s = work_goes_of a (λ i. false) s.deaths (deaths_go_of a s)
 
--- a change within a step makes what f makes of each space whose objects differ
-abbrev pub MakesOfDiffering : Tables → Tables → (Space → Space) → Type 0
-MakesOfDiffering old new f = (s : Space) → Within old s → Pairs Differ s.objects → Within new (f s)
+-- and the names go first, with the references that they rested on
+unfoldable pub names_followed : NameTest → Space → Space
+names_followed a s = deaths_followed a (names_go_of a s)
+
+-- the Notice of a chosen object stays while its owner is to be told
+abbrev pub notice_stays : ObjectTest → Space → WorkKind → Bool
+notice_stays b s (work.Notice o) = not (b o) || is_some_and (object_in s.objects o) (wants_notice s.processes s.references)
+notice_stays b s _ = true
+
+-- of chosen objects those go that nothing keeps, and the Notices that have nothing left to say
+unfoldable pub shed_of : ObjectTest → Space → Space
+shed_of b s = let z = objects_go_of b s in record z { todo = filter (λ w. notice_stays b z w.kind) z.todo }
+
+-- the object's Notice is made on its owner's list, if it is missing
+abbrev pub told_at : Space → List Work → ObjectId → List Work
+told_at s todo o = elim (object_in s.objects o) [ None ↦ todo | Some x ↦ with_notice s.steps s.processes s.references (OfProcess x.owner) todo x ]
+
+-- one object's after the other's
+unfoldable pub told_of : List ObjectId → Space → Space
+told_of os s = record s { todo = fold (told_at s) s.todo os }
+
+-- a change within a step makes what f makes of each space whose objects stand in the order in which they were made
+abbrev pub MakesOfOrdered : Tables → Tables → (Space → Space) → Type 0
+MakesOfOrdered old new f = (s : Space) → Within old s → Pairs Earlier s.objects → Within new (f s)

@@ -17,7 +17,7 @@ ghost use Rattle.bd_buffers.specs.WindowsStand.{CanAdd, buffer_room};
 ghost use Rattle.bd_buffers.specs.Buffer.{freed_buffer};
 ghost use Rattle.bd_engine.specs.Freed as freed;
 ghost use Rattle.bd_engine.specs.Stands.{Before, Within, Tells, TellsWithin, CanFollow, MakesWithin, MakesOfTidy, Uses, UsesNothing};
-ghost use Rattle.bd_engine.specs.Following.{MakesOfDiffering};
+ghost use Rattle.bd_engine.specs.Following.{MakesOfOrdered};
 ghost use Rattle.bd_engine.specs.Meets.{IsBy, IsStep};
 ghost use Rattle.bd_engine.specs.Deliveries.{IsInside, Spends};
 
@@ -132,7 +132,7 @@ impl Tables {
         ensures uses { Uses self.old self.new 0 0 0 1 }
     {
         if let Some(object) = object {
-            self.calls.ripen_on(self.steps, object);
+            self.ripen_on(object);
         }
     }
 
@@ -140,10 +140,10 @@ impl Tables {
     fn follow_freed(&mut self, only: Option<ObjectId>)
         requires one { 1 ≤ call_rooms.work_room self.old.calls }
         requires all { object_count self.old.objects ≤ call_rooms.work_room self.old.calls }
-        ensures { MakesOfDiffering self.old self.new (freed.follow_freed only) }
+        ensures { MakesOfOrdered self.old self.new (freed.follow_freed only) }
     {
         match only {
-            Some(object) => self.follow_object(object),
+            Some(object) => self.follow_objects(&[object]),
             None => self.follow(),
         }
     }

@@ -96,7 +96,8 @@ impl Tables {
     /// The oldest one-way call on the object becomes due, if it is ripe.
     pub(crate) fn ripen_on(&mut self, o: ObjectId)
         requires { 1 ≤ work_room self.old.calls }
-        ensures { MakesWithin self.old self.new (ripen_of o) }
+        ensures stands { MakesWithin self.old self.new (ripen_of o) }
+        ensures uses { Uses self.old self.new 0 0 0 1 }
     {
         self.calls.ripen_on(self.steps, o);
     }

@@ -31,7 +31,7 @@ impl Tables {
     {
         match self.objects.ask(self.steps, self.manager, p, o, strong) {
             Ok(()) => {
-                self.follow_object(o);
+                self.follow_objects(&[o]);
                 Ok(())
             }
             Err(NumbersFull) => Err(Why::HistoryFull),
@@ -64,7 +64,7 @@ impl Tables {
         ensures stands { MakesOfTidy self.old self.new (λ s. completed (asking.drop_asked s p o strong)) }
     {
         self.objects.drop_asked(p, o, strong);
-        self.follow_at(p, o);
+        self.follow_among(p, &[o], &[o]);
     }
 
     /// The step by which a process drops a reference that it asked for.
@@ -88,7 +88,7 @@ impl Tables {
         ensures stands { MakesOfTidy self.old self.new (λ s. completed (asking.acknowledge s o strong)) }
     {
         self.objects.acknowledge(o, strong);
-        self.follow_object(o);
+        self.follow_objects(&[o]);
     }
 
     /// The step by which a process acknowledges what it was told of an own object.

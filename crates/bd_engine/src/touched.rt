@@ -1,10 +1,12 @@
-//! What follows from a change at one name and one object: nothing else is looked at.
+//! What follows from a change at some names and objects: nothing else is looked at.
 
-ghost use Rattle.std.specs.Prelude.{◌≤◌};
-ghost use Rattle.bd_space.specs.Local.{names_go_of, follow_of, at_name, no_name, at_object};
+ghost use Rattle.std.specs.Prelude.{◌≡◌, ◌≤◌, length};
+ghost use Rattle.bd_space.specs.Local.{follow_of, at_name, no_name, is_among, names_among};
+ghost use Rattle.bd_laws.specs.Lists.{Pairs};
+ghost use Rattle.bd_laws.specs.Objects.{NotLater};
 ghost use Rattle.bd_calls.specs.Room.{work_room};
 ghost use Rattle.bd_engine.specs.Stands.{Uses, MakesWithin, UsesNothing};
-ghost use Rattle.bd_engine.specs.Following.{deaths_followed, MakesOfDiffering};
+ghost use Rattle.bd_engine.specs.Following.{deaths_followed, names_followed, shed_of, told_of, MakesOfOrdered};
 
 use crate::tables::Tables;
 use bd_space::{ObjectId, TodoList};
@@ -26,36 +28,63 @@ impl Tables {
 
     // The process's name of the object goes with the references that it rests on, and its death notifications with it.
     fn follow_name(&mut self, p: u32, o: ObjectId)
-        ensures stands { MakesWithin self.old self.new
-            (λ s. deaths_followed (at_name p o) (names_go_of (at_name p o) s)) }
+        ensures stands { MakesWithin self.old self.new (names_followed (at_name p o)) }
         ensures uses { UsesNothing self.old self.new }
     {
         self.objects.name_goes(p, o);
         self.follow_deaths(p, o);
     }
 
-    /// The object goes if nothing keeps it, and its notice stands exactly while its owner is to be told.
-    pub(crate) fn follow_object(&mut self, o: ObjectId)
-        requires { 1 ≤ work_room self.old.calls }
-        ensures stands { MakesOfDiffering self.old self.new (follow_of no_name (at_object o)) }
-        ensures uses { Uses self.old self.new 0 0 0 1 }
+    // Of these objects those go that nothing keeps, and the notices that have nothing left to say.
+    fn shed_objects(&mut self, touched: &[ObjectId])
+        ensures stands { MakesWithin self.old self.new (shed_of (is_among touched.now)) }
+        ensures uses { UsesNothing self.old self.new }
     {
-        self.objects.object_goes(self.processes.as_slice(), o);
-        match self.objects.owner_to_tell(self.processes.as_slice(), o) {
-            Some(p) => self
-                .calls
-                .add_notice(self.steps, TodoList::OfProcess(p), o, true),
-            None => self.calls.withdraw_notice(o),
+        for o in touched {
+            self.objects.object_goes(self.processes.as_slice(), *o);
+            let owner = self.objects.owner_to_tell(self.processes.as_slice(), *o);
+            if owner.is_none() {
+                self.calls.withdraw_notice(*o);
+            }
         }
     }
 
-    /// What follows at the process's name of the object, and then at the object.
-    pub(crate) fn follow_at(&mut self, p: u32, o: ObjectId)
-        requires { 1 ≤ work_room self.old.calls }
-        ensures stands { MakesOfDiffering self.old self.new (follow_of (at_name p o) (at_object o)) }
-        ensures uses { Uses self.old self.new 0 0 0 1 }
+    // The notices that are missing are made on their owners' lists, in this order of the objects.
+    fn notify_objects(&mut self, touched: &[ObjectId])
+        requires { length touched.now ≤ work_room self.old.calls }
+        ensures stands { MakesWithin self.old self.new (told_of touched.now) }
+        ensures uses { Uses self.old self.new 0 0 0 (length touched.now) }
     {
-        self.follow_name(p, o);
-        self.follow_object(o);
+        for o in touched {
+            let owner = self.objects.owner_to_tell(self.processes.as_slice(), *o);
+            if let Some(p) = owner {
+                let list = TodoList::OfProcess(p);
+                self.calls.add_notice(self.steps, list, *o, true);
+            }
+        }
+    }
+
+    /// What follows at these objects, given in the order in which they were made.
+    pub(crate) fn follow_objects(&mut self, touched: &[ObjectId])
+        requires in_order { Pairs NotLater touched.now }
+        requires room { length touched.now ≤ work_room self.old.calls }
+        ensures stands { MakesOfOrdered self.old self.new (follow_of no_name (is_among touched.now)) }
+        ensures uses { Uses self.old self.new 0 0 0 (length touched.now) }
+    {
+        self.shed_objects(touched);
+        self.notify_objects(touched);
+    }
+
+    /// What follows at the process's names of these objects, in any order, and then at the touched objects.
+    pub(crate) fn follow_among(&mut self, p: u32, named: &[ObjectId], touched: &[ObjectId])
+        requires in_order { Pairs NotLater touched.now }
+        requires room { length touched.now ≤ work_room self.old.calls }
+        ensures stands { MakesOfOrdered self.old self.new (follow_of (names_among p named.now) (is_among touched.now)) }
+        ensures uses { Uses self.old self.new 0 0 0 (length touched.now) }
+    {
+        for o in named {
+            self.follow_name(p, *o);
+        }
+        self.follow_objects(touched);
     }
 }

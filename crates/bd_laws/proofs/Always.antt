@@ -8,6 +8,7 @@ use Rattle.bd_laws.specs.Frames.{OnPaths}
 use Rattle.bd_laws.proofs.EveryStep.{every_list}
 use Rattle.bd_laws.proofs.Received.{step-before, opening-before}
 use Rattle.bd_laws.proofs.Homes.{next-home, opening-home}
+use Rattle.bd_laws.proofs.InWindows.{next-in_windows, opening-in_windows}
 use Rattle.bd_laws.proofs.OtherCalls.{next-of_others, opening-of_others}
 use Rattle.bd_laws.proofs.EveryPath.{next-on_paths, opening-on_paths}
 use Rattle.bd_laws.proofs.Numbering.{next-told, next-steps, opening-told}
@@ -21,6 +22,7 @@ step-tidy s e h = record {
   before = step-before s e h.before;
   told = next-told s e h.told h.quiet h.home;
   home = next-home s e (next-steps s e h.told h.quiet h.home) h.before.turns h.home;
+  in_windows = next-in_windows s e h.home h.before.turns h.in_windows;
   on_paths = next-on_paths s e (next-steps s e h.told h.quiet h.home) h.on_paths;
   of_others = next-of_others s e h.home h.before.turns h.on_paths.1.below h.of_others;
   quiet = next-quiet s e h.before h.told.distinct h.quiet;
@@ -29,7 +31,7 @@ step-tidy s e h = record {
 }
 
 pub opening-tidy : IsTidy opening
-opening-tidy = record { before = opening-before; told = opening-told; home = opening-home; on_paths = opening-on_paths; of_others = opening-of_others; quiet = opening-quiet; queued = opening-queued; framed = opening-framed }
+opening-tidy = record { before = opening-before; told = opening-told; home = opening-home; in_windows = opening-in_windows; on_paths = opening-on_paths; of_others = opening-of_others; quiet = opening-quiet; queued = opening-queued; framed = opening-framed }
 
 pub always-tidy : (h : History) → IsTidy (space_after h)
 unfolding space_after

@@ -117,7 +117,7 @@ carried-same : (b q c r : ℕ) → Carried b q ≡ Carried c r → (b ≡ c) × 
 unfolding carried-is
 carried-same b q c r e = let k : Some (b, q) ≡ Some (c, r) = ap carried-is e in let p : (b, q) ≡ (c, r) = cc in (ap (λ (x : ℕ × ℕ). x.0) p, ap (λ (x : ℕ × ℕ). x.1) p)
 
-carries : (b q k : ℕ) (items : List Item) (target : Option ObjectId) (r : Reference) (c p : ℕ) → In r (buffer_references b q k items target) → r.holder ≡ Carried c p → (b ≡ c) × (q ≡ p)
+pub carries : (b q k : ℕ) (items : List Item) (target : Option ObjectId) (r : Reference) (c p : ℕ) → In r (buffer_references b q k items target) → r.holder ≡ Carried c p → (b ≡ c) × (q ≡ p)
 carries b q k [] None r c p l e = absurd l
 carries b q k [] (Some o) r c p (inl is) e = let no = sym (ap (λ (x : Reference). x.holder) is) in absurd (cc)
 carries b q k [] (Some o) r c p (inr l) e = absurd l

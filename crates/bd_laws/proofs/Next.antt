@@ -50,6 +50,7 @@ use Rattle.bd_laws.specs.Items.{Distinct}
 use Rattle.bd_laws.specs.OneWayCalls.{On, OnLists}
 use Rattle.bd_laws.proofs.Lists.{in-last, in-push, in-filter, filter-in, in-changed, any-found, any-in, find-in, pairs-push}
 use Rattle.bd_laws.proofs.Tests.{both, and-both, same-eq, eq-same, not-true}
+use Rattle.bd_laws.proofs.Earlier.{in_order-differ}
 use Rattle.bd_laws.proofs.Objects.{IsKept, kept-step}
 use Rattle.bd_laws.proofs.EveryStep.{every_list}
 use Rattle.bd_laws.proofs.Deaths.{on-told}
@@ -547,12 +548,12 @@ step-endings s seat x before distinct h =
         managed = λ a e b. managed-quiet s a.process.made before.objects h;
       };
       changes = k.changes;
-      completes = λ z m. completed-quiet z m.differ;
+      completes = λ z m. completed-quiet z (in_order-differ z.objects m.in_order);
       refuses = λ t c. refused-quiet s t c h;
       fails = λ a d parcel f e i g. failed-quiet s a.thread.seat f h;
-      reads = λ a limit e i n. read-quiet s a.thread a.thread.seat (limit - 4) distinct before.received.lists h (k.changes.reads a limit e i n).differ;
-      leaves = λ a e. settle-quiet _ (follow-calm _ (k.changes.leaves a e).differ (left-unripe s a.thread.seat before.received.lists h.unripe));
-      ends = λ a e. settle-quiet _ (follow-calm _ (k.changes.ends a e).differ
+      reads = λ a limit e i n. read-quiet s a.thread a.thread.seat (limit - 4) distinct before.received.lists h (in_order-differ _ (k.changes.reads a limit e i n).in_order);
+      leaves = λ a e. settle-quiet _ (follow-calm _ (in_order-differ _ (k.changes.leaves a e).in_order) (left-unripe s a.thread.seat before.received.lists h.unripe));
+      ends = λ a e. settle-quiet _ (follow-calm _ (in_order-differ _ (k.changes.ends a e).in_order)
           (told-unripe _ a.process.made (without-unripe s (threads_go s a.process.made) a.process.made before (threads-leave s a.process.made before.received.lists h.unripe))));
     }
 

@@ -1,5 +1,5 @@
 -- Objects stay in the space as long as anything refers to them, and no two have one identity.
-use Rattle.std.proofs.Common.{◌≡◌, ℕ, suc, ◌+◌, ◌==◌, Bool, true, false, cond, not, ◌&&◌, ◌||◌, List, [], ◌∷◌, ◌++◌, Option, Some, None, Ok, ◌⊎◌, inl, inr, refl, ap, sym, subst, ◌∙◌, map, filter, arith}
+use Rattle.std.proofs.Common.{◌≡◌, ℕ, suc, ◌+◌, ◌==◌, ◌<◌, Bool, true, false, cond, not, ◌&&◌, ◌||◌, List, [], ◌∷◌, ◌++◌, Option, Some, None, Ok, ◌⊎◌, inl, inr, refl, ap, sym, subst, ◌∙◌, map, filter, arith}
 use Rattle.std.specs.List.{list_all, fold, flat_map}
 use Rattle.std.specs.Option.{is_some}
 use Rattle.bd_uapi.specs.declared.command.TransactionData.{TransactionData}
@@ -31,9 +31,10 @@ use Rattle.bd_space.specs.ReadItems.{read_by, handshakes, handshakes_for, shakes
 use Rattle.bd_space.specs.Returns.{returns_of, returns_of_object}
 use Rattle.bd_space.specs.Steps.{with_thread, with_process, with_manager}
 use Rattle.bd_laws.specs.Lists.{In, Pairs}
-use Rattle.bd_laws.specs.Objects.{Here, Differ, Kept, Named, KeptBefore}
+use Rattle.bd_laws.specs.Objects.{Here, Earlier, Kept, Named, KeptBefore}
 use Rattle.bd_laws.proofs.Lists.{in-left, in-append, in-last, in-filter, filter-in, in-without, without-in, in-changed, changed-in, any-found, any-in, all-in, find-in, find-some, pairs-filter, pairs-changed}
 use Rattle.bd_laws.proofs.Tests.{both, same-eq, eq-same, notice-named}
+use Rattle.bd_laws.proofs.Earlier.{place-earlier}
 use Rattle.bd_space.specs.declared.step.Step.{Step}
 use Rattle.bd_space.specs.declared.step.Entry.{Entry}
 use Rattle.bd_space.specs.Space.{opening}
@@ -61,7 +62,7 @@ pub record IsKeptWhole (z : Space) : Type 0 where
 
 pub later : (z : Space) → KeptBefore z → IsKeptWhole z
 later z h = record {
-  kept = record { refs = h.kept.refs; manages = h.kept.manages; below = λ x l. let lt = h.kept.below x l in omega arith; differ = h.kept.differ };
+  kept = record { refs = h.kept.refs; manages = h.kept.manages; below = λ x l. let lt = h.kept.below x l in omega arith; in_order = h.kept.in_order };
   named = h.named;
 }
 
@@ -90,7 +91,7 @@ fewer n manager objects more references less stay h = record {
   refs = λ r l. h.refs r (less r l);
   manages = λ o e. let r = h.manages o e in (r.0, stay r.0 r.1 r.3, r.2, r.3, r.4);
   below = h.below;
-  differ = h.differ;
+  in_order = h.in_order;
 }
 
 pub filtered-references : (n : ℕ) (manager : Option ObjectId) (objects : List Object) (references : List Reference) (p : Reference → Bool)
@@ -154,23 +155,23 @@ without_process-kept z p h = record {
       let own : owned_in z.objects p r.0.object ≡ false = subst (λ x. owned_in z.objects p x ≡ false) (sym r.2) m.1 in
       (r.0, filter-in (λ (r : Reference). not (is_dropped_with z.objects p r)) r.0 z.references r.1 (rw (r.3, own) refl), r.2, r.3, r.4);
   below = h.below;
-  differ = h.differ;
+  in_order = h.in_order;
 }
 
 -- ---- references and objects that come
 
 pub grown : (n : ℕ) (manager : Option ObjectId) (objects made : List Object) (references new : List Reference) → Kept n manager objects references
-    → ((x : Object) → In x made → x.id.place ≡ n) → Pairs Differ made → ((r : Reference) → In r new → Here (objects ++ made) r.object)
+    → ((x : Object) → In x made → x.id.place ≡ n) → Pairs Earlier made → ((r : Reference) → In r new → Here (objects ++ made) r.object)
     → Kept (suc n) manager (objects ++ made) (references ++ new)
-grown n manager objects made references new h place differ here = record {
+grown n manager objects made references new h place in_order here = record {
   refs = λ r l. elim (in-append r references new l) [ inl k ↦ (let x = h.refs r k in (x.0, in-left x.0 objects made x.1, x.2)) | inr k ↦ here r k ];
   manages = λ o e. let r = h.manages o e in (r.0, in-left r.0 references new r.1, r.2, r.3, r.4);
   below = λ x l. elim (in-append x objects made l) [ inl k ↦ (let lt = h.below x k in omega arith) | inr k ↦ (let e = place x k in omega arith) ];
-  differ = joined objects h.differ (λ x y l m e. let is : x.id.place ≡ y.id.place = ap (λ (i : ObjectId). i.place) e in let at = place y m in let lt = h.below x l in absurd (omega arith));
+  in_order = joined objects h.in_order (λ x y l m. place-earlier x.id y.id (subst (λ k. x.id.place < k) (sym (place y m)) (h.below x l)));
 }
   where
-    joined : (xs : List Object) → Pairs Differ xs → ((x y : Object) → In x xs → In y made → Differ x y) → Pairs Differ (xs ++ made)
-    joined [] k d = differ
+    joined : (xs : List Object) → Pairs Earlier xs → ((x y : Object) → In x xs → In y made → Earlier x y) → Pairs Earlier (xs ++ made)
+    joined [] k d = in_order
     joined (x ∷ xs) k d = ((λ y l. elim (in-append y xs made l) [ inl i ↦ k.0 y i | inr i ↦ d x y (inl refl) i ]), joined xs k.1 (λ a b l m. d a b (inr l) m))
 
 -- the references of a buffer: to the objects of its parcel and to its target
@@ -195,7 +196,7 @@ pub delivered-kept : (s : Space) (a : Actor) (d : TransactionData) (v : Delivery
 unfolding delivered own_notices add_buffer known_by assign_numbers refer make_objects
 delivered-kept s a d v h sends target =
     grown s.steps s.manager s.objects v.sending.made s.references (buffer_references s.steps v.receiver.made 0 v.sending.items v.target) h.kept
-    sends.makes.place sends.makes.differ
+    sends.makes.place sends.makes.in_order
     (λ r l. elim (buffer-reference s.steps v.receiver.made v.sending.items v.target 0 r l) [
       | inl i ↦ subst (Here (s.objects ++ v.sending.made)) i.2 (sent-here s a.process.made v.sending.made i.0.object h (sends.sent i.0 i.1))
       | inr e ↦ (let x = target r.object e in (x.0, in-left x.0 s.objects v.sending.made x.1, x.2))
@@ -219,7 +220,7 @@ closed-before s made h = record { kept = h.kept; named = h.named }
 pub closed-sends : (s : Space) (made p : ℕ) (objects : List Object) (items : List Item) → Sends s p objects items → Sends (closed s made) p objects items
 unfolding closed
 closed-sends s made p objects items h =
-    record { owned = h.owned; sent = h.sent; makes = record { place = h.makes.place; index = h.makes.index; owner = h.makes.owner; untold = h.makes.untold; differ = h.makes.differ } }
+    record { owned = h.owned; sent = h.sent; makes = record { place = h.makes.place; index = h.makes.index; owner = h.makes.owner; untold = h.makes.untold; in_order = h.makes.in_order } }
 
 pub replied-kept : (s : Space) (a : Actor) (d : TransactionData) (parcel : Option Parcel) (f : Frame) (v : Delivery) → KeptBefore s → reply_check s a d parcel f ≡ Ok v → IsKept (replied s a d f v)
 unfolding replied
@@ -244,7 +245,7 @@ referred n manager objects references new h here = record {
   refs = λ r l. elim (in-append r references new l) [ inl k ↦ h.refs r k | inr k ↦ here r k ];
   manages = λ o e. let r = h.manages o e in (r.0, in-left r.0 references new r.1, r.2, r.3, r.4);
   below = h.below;
-  differ = h.differ;
+  in_order = h.in_order;
 }
 
 pub ask-kept : (s : Space) (p n : ℕ) (strong : Bool) (o : ObjectId) → KeptBefore s → ask_check s p n strong ≡ Ok o → IsKept (ask s p o strong)
@@ -269,7 +270,7 @@ managed-kept s p h =
     let o : ObjectId = record { place = s.steps; index = 0 } in
     let x : Object = record { id = o; owner = p; ptr = 0; cookie = 0; told_weak = true; told_strong = true } in
     let r = reference_of s.steps 0 o true Manager in
-    let none : Kept s.steps None s.objects s.references = record { refs = h.kept.refs; manages = λ y e. absurd (cc); below = h.kept.below; differ = h.kept.differ } in
+    let none : Kept s.steps None s.objects s.references = record { refs = h.kept.refs; manages = λ y e. absurd (cc); below = h.kept.below; in_order = h.kept.in_order } in
     let k = grown s.steps None s.objects (x ∷ []) s.references (r ∷ []) none
     (λ y l. elim l [ inl e ↦ sym (ap (λ (z : Object). z.id.place) e) | inr none ↦ absurd none ]) ((λ y l. absurd l), tt)
     (λ q l. elim l [ inl e ↦ (x, in-last x s.objects, ap (λ (z : Reference). z.object) e) | inr none ↦ absurd none ]) in
@@ -278,7 +279,7 @@ managed-kept s p h =
         refs = k.refs;
         manages = λ y e. (r, in-last r s.references, cc, refl, refl);
         below = k.below;
-        differ = k.differ;
+        in_order = k.in_order;
       };
       named = λ m l. let q = h.named m l in (q.0, in-left q.0 s.references (r ∷ []) q.1, q.2);
     }
@@ -318,7 +319,7 @@ read-kept s seat ws h =
       below = λ x l. let z = in-changed told f x s.objects l in
           let e : x.id.place ≡ z.0.id.place = ap (λ (y : Object). y.id.place) z.2 ∙ ap (λ (i : ObjectId). i.place) (told-id s.references (told z.0) z.0) in
           let lt = h.below z.0 z.1 in omega arith;
-      differ = pairs-changed Differ told f (λ x y d e. d (sym (told-id s.references (told x) x) ∙ e ∙ told-id s.references (told y) y)) s.objects h.differ;
+      in_order = pairs-changed Earlier told f (λ x y d. rw (told-id s.references (told x) x, told-id s.references (told y) y) d) s.objects h.in_order;
     }
 
 -- ---- what follows
@@ -338,7 +339,7 @@ objects_go-kept z h =
       refs = λ r l. let x = h.refs r l in (x.0, filter-in p x.0 z.objects x.1 (stays z.processes z.references x.0 r l x.2), x.2);
       manages = h.manages;
       below = λ x l. h.below x (in-filter p x z.objects l).0;
-      differ = pairs-filter Differ p z.objects h.differ;
+      in_order = pairs-filter Earlier p z.objects h.in_order;
     }
 
 names_go-whole : (z : Space) → IsKept z → IsKeptWhole (names_go z)
@@ -413,7 +414,7 @@ step-kept s e h = counted-kept (change s e.seat e.step).space (every_step s e.se
 
 pub opening-kept : KeptBefore opening
 opening-kept = record {
-  kept = record { refs = λ r l. absurd l; manages = λ o e. absurd (cc); below = λ x l. absurd l; differ = tt };
+  kept = record { refs = λ r l. absurd l; manages = λ o e. absurd (cc); below = λ x l. absurd l; in_order = tt };
   named = λ m l. absurd l;
 }
 

@@ -322,7 +322,7 @@ closed-turns s made h = h
 
 closed-made : (s : Space) (made p : ℕ) (objects : List Object) → Made s p objects → Made (closed s made) p objects
 unfolding closed
-closed-made s made p objects h = record { place = h.place; index = h.index; owner = h.owner; untold = h.untold; differ = h.differ }
+closed-made s made p objects h = record { place = h.place; index = h.index; owner = h.owner; untold = h.untold; in_order = h.in_order }
 
 closed-back : (s z : Space) (made : ℕ) → Passed (closed s made) z → Passed s z
 unfolding closed

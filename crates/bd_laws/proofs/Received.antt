@@ -12,6 +12,7 @@ use Rattle.bd_laws.specs.OneWayCalls.{Waits, IsInTurn, On, Received}
 use Rattle.bd_laws.specs.Objects.{Differ, KeptBefore}
 use Rattle.bd_laws.specs.Tidy.{Before}
 use Rattle.bd_laws.proofs.EveryStep.{every_list}
+use Rattle.bd_laws.proofs.Earlier.{in_order-differ}
 use Rattle.bd_laws.proofs.Lists.{pairs-either}
 use Rattle.bd_laws.proofs.InTurn.{step-in_turn, opening-in_turn}
 use Rattle.bd_laws.proofs.Objects.{step-kept, opening-kept}
@@ -27,7 +28,7 @@ on-after s o b c k on = (k.one_way ∙ on.0, k.target ∙ on.1)
 
 pub one-object : (s : Space) → KeptBefore s → (x y : Object) → In x s.objects → In y s.objects → x.id ≡ y.id → x ≡ y
 one-object s h x y i j e =
-    elim (pairs-either Differ s.objects h.kept.differ x y i j) [ inl k ↦ k | inr k ↦ elim k [ inl d ↦ absurd (d e) | inr d ↦ absurd (d (sym e)) ] ]
+    elim (pairs-either Differ s.objects (in_order-differ s.objects h.kept.in_order) x y i j) [ inl k ↦ k | inr k ↦ elim k [ inl d ↦ absurd (d e) | inr d ↦ absurd (d (sym e)) ] ]
 
 pub one-buffer : (s : Space) → IsInTurn s → (b c : Buffer) → In b s.buffers → In c s.buffers → b.made ≡ c.made → b ≡ c
 one-buffer s h b c i j e =

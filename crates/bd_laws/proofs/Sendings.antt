@@ -24,9 +24,10 @@ use Rattle.bd_uapi.specs.Kinds.{is_own}
 use Rattle.bd_space.specs.Parcels.{Sending, new_object, resolve, resolve_own, resolve_handle, resolve_all, resolve_walked, is_cut, sending_of}
 use Rattle.std.proofs.lemmas.Bool.{eqb-true}
 use Rattle.bd_laws.specs.Lists.{In, Pairs}
-use Rattle.bd_laws.specs.Objects.{Differ}
+use Rattle.bd_laws.specs.Objects.{Earlier}
 use Rattle.bd_laws.proofs.Lists.{in-left, in-right, in-append, in-push, in-last, pairs-push, find-in}
 use Rattle.bd_laws.proofs.Tests.{both, and_then-ok}
+use Rattle.bd_laws.proofs.Earlier.{index-earlier}
 
 -- p's own object, in the list
 abbrev pub Owns : List Object → ℕ → ObjectId → Type 0
@@ -70,7 +71,7 @@ pub record Made (s : Space) (p : ℕ) (made : List Object) : Type 0 where
   pub index : (y : Object) → In y made → y.id.index < length made
   pub owner : (y : Object) → In y made → y.owner ≡ p
   pub untold : (y : Object) → In y made → (y.told_weak ≡ false) × (y.told_strong ≡ false)
-  pub differ : Pairs Differ made
+  pub in_order : Pairs Earlier made
 
 -- what one more object makes of this; it may be sent as the sender's own
 pub record Resolves (s : Space) (p : ℕ) (made : List Object) (own : Bool) (r : Resolved) : Type 0 where
@@ -90,7 +91,7 @@ made-one s p made x h =
       index = λ y i. elim (in-push y o made i) [ inl k ↦ (let lt = h.index y k in omega arith) | inr e ↦ (let is : length made ≡ y.id.index = ap (λ (z : Object). z.id.index) e in omega arith) ];
       owner = λ y i. elim (in-push y o made i) [ inl k ↦ h.owner y k | inr e ↦ sym (ap (λ (z : Object). z.owner) e) ];
       untold = λ y i. elim (in-push y o made i) [ inl k ↦ h.untold y k | inr e ↦ (sym (ap (λ (z : Object). z.told_weak) e), sym (ap (λ (z : Object). z.told_strong) e)) ];
-      differ = pairs-push Differ o made h.differ (λ y i e. let is : y.id.index ≡ length made = ap (λ (z : ObjectId). z.index) e in let lt = h.index y i in absurd (omega arith));
+      in_order = pairs-push Earlier o made h.in_order (λ y i. index-earlier y.id o.id (h.place y i) (h.index y i));
     }
 
 own-if : (s : Space) (p : ℕ) (made : List Object) (x : FlatObject) (o : Object) (b : Bool) (r : Resolved) → In o (s.objects ++ made) → o.owner ≡ p → Made s p made
@@ -188,7 +189,7 @@ all-sent s p bytes offsets (at ∷ ats) made items v h k =
     }) r.2
 
 none-made : (s : Space) (p : ℕ) → Made s p []
-none-made s p = record { place = λ y l. absurd l; index = λ y l. absurd l; owner = λ y l. absurd l; untold = λ y l. absurd l; differ = tt }
+none-made s p = record { place = λ y l. absurd l; index = λ y l. absurd l; owner = λ y l. absurd l; untold = λ y l. absurd l; in_order = tt }
 
 pub sending-sends : (s : Space) (p : ℕ) (d : TransactionData) (parcel : Option Parcel) (v : Sending) → sending_of s p d parcel ≡ Ok v → Sends s p v.made v.items
 unfolding sending_of

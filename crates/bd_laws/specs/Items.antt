@@ -3,6 +3,7 @@ use Rattle.std.specs.Prelude.{◌≡◌, true, List, ℕ, ◌<◌, Some}
 use Rattle.bd_space.specs.declared.space.Work.{Work}
 use Rattle.bd_space.specs.declared.space.Thread.{Thread}
 use Rattle.bd_space.specs.declared.space.Reference.{Reference}
+use Rattle.bd_space.specs.declared.space.Buffer.{Buffer}
 use Rattle.bd_space.specs.declared.space.Holder.TheVariants.{Carried}
 use Rattle.bd_space.specs.declared.space.TodoList.TheVariants.{OfThread, OfProcess}
 use Rattle.bd_space.specs.declared.space.WorkKind.TheVariants as work
@@ -41,6 +42,13 @@ pub record Homed (n : ℕ) (ts : List Thread) (rs : List Reference) (td : List W
 
 abbrev pub AtHome : Space → Type 0
 AtHome s = Homed s.steps s.threads s.references s.todo
+
+-- what a buffer carries lies in its receiver's window
+abbrev pub AllInWindows : List Reference → List Buffer → Type 0
+AllInWindows rs bs = (r : Reference) (c : Buffer) (q : ℕ) → In r rs → In c bs → r.holder ≡ Carried c.made q → c.receiver ≡ q
+
+abbrev pub IsInWindows : Space → Type 0
+IsInWindows s = AllInWindows s.references s.buffers
 
 -- if both tell of a death, they are two notifications'
 abbrev pub OtherDeath : Work → Work → Type 0

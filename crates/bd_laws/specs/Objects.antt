@@ -1,5 +1,5 @@
 -- Objects, and what refers to them, between two steps.
-use Rattle.std.specs.Prelude.{◌≡◌, List, ℕ, ◌<◌, true, Option, Some}
+use Rattle.std.specs.Prelude.{◌≡◌, List, ℕ, ◌<◌, ◌==◌, Bool, true, false, ◌&&◌, ◌||◌, nat_lt, Option, Some}
 use Rattle.bd_space.specs.declared.step.ObjectId.{ObjectId}
 use Rattle.bd_space.specs.declared.space.Object.{Object}
 use Rattle.bd_space.specs.declared.space.Reference.{Reference}
@@ -16,17 +16,28 @@ Here objects o = (x : Object) × In x objects × (x.id ≡ o)
 abbrev pub Differ : Object → Object → Type 0
 Differ x y = x.id ≡ y.id → ⊥
 
+-- it was made before the other: by an earlier step, or by the same one
+abbrev pub is_earlier : ObjectId → ObjectId → Bool
+is_earlier o i = nat_lt o.place i.place || ((o.place == i.place) && nat_lt o.index i.index)
+
+abbrev pub Earlier : Object → Object → Type 0
+Earlier x y = is_earlier x.id y.id ≡ true
+
+-- the other wasn't made before it
+abbrev pub NotLater : ObjectId → ObjectId → Type 0
+NotLater o i = is_earlier i o ≡ false
+
 -- there is a reference to it
 abbrev pub Held : List Reference → ObjectId → Type 0
 Held references o = (r : Reference) × In r references × (r.object ≡ o)
 
--- each reference's object is there, the manager's is held strongly by the context, and identities are of steps below n, each
--- one object's
+-- each reference's object is there, the manager's is held strongly by the context, and objects stand in the order in which
+-- they were made, by steps below n
 pub record Kept (n : ℕ) (manager : Option ObjectId) (objects : List Object) (references : List Reference) : Type 0 where
   pub refs : (r : Reference) → In r references → Here objects r.object
   pub manages : (o : ObjectId) → manager ≡ Some o → (r : Reference) × In r references × (r.object ≡ o) × (r.holder ≡ Manager) × (r.strong ≡ true)
   pub below : (x : Object) → In x objects → x.id.place < n
-  pub differ : Pairs Differ objects
+  pub in_order : Pairs Earlier objects
 
 -- what a name stands for is held
 abbrev pub Named : List Name → List Reference → Type 0

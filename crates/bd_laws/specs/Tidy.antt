@@ -2,7 +2,7 @@
 use Rattle.bd_space.specs.Space.{Space}
 use Rattle.bd_laws.specs.OneWayCalls.{IsInTurn, Received}
 use Rattle.bd_laws.specs.Objects.{KeptBefore}
-use Rattle.bd_laws.specs.Items.{AtHome, Told, IsQueued}
+use Rattle.bd_laws.specs.Items.{AtHome, IsInWindows, Told, IsQueued}
 use Rattle.bd_laws.specs.Frames.{IsFramed, OnPaths, OfOthers}
 use Rattle.bd_laws.specs.Quiet.{IsQuiet}
 
@@ -17,6 +17,7 @@ pub record IsTidy (s : Space) : Type 0 where
   pub before : Before s
   pub told : Told s
   pub home : AtHome s
+  pub in_windows : IsInWindows s
   pub on_paths : OnPaths s.steps s
   pub of_others : OfOthers s
   pub quiet : IsQuiet s

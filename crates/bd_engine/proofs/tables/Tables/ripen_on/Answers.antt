@@ -3,7 +3,7 @@ use Rattle.bd_space.specs.Local.{ripen_of}
 use Rattle.bd_engine.proofs.Changing.{with-calls}
 use Rattle.bd_engine.proofs.tables.Tables.ripen_on.Goals as goal
 
-pub returns : goal.returns
+pub returns-clause-stands : goal.returns-clause-stands
 unfolding ripen_of
-returns c = λ s h.
+returns-clause-stands c = λ s h.
     with-calls (s.steps + 1) c.args.self.now s _ _ _ _ h (c.ripen_on.ensures.stands s h.calls_stand h.steps_are)

@@ -24,7 +24,7 @@ returns-in-Some c = record {
             let empty = no-items c.args.v.sending.items (ap (λ (xs : List Item). length xs == 0) (sym c.items.ensures) ∙ sym c.is_empty-plain.ensures ∙ c.if-not-plain.false) in
             let target = sym c.one_way_target-one_way_target.ensures ∙ c.in-Some.is in
             subst (Within c.ripen_on.new.self) (sym (one_way-ripens s c.args.a c.args.d.now c.args.v p empty c.in-Some.o target))
-            (c.ripen_on.ensures (transacted s c.args.a c.args.d.now c.args.v) (c.in-Ok.ensures.ok s (c.make_ready.ensures.stands s h)));
+            (c.ripen_on.ensures.stands (transacted s c.args.a c.args.d.now c.args.v) (c.in-Ok.ensures.ok s (c.make_ready.ensures.stands s h)));
       };
   err = tt;
   full = tt;
