@@ -28,6 +28,7 @@ use Rattle.bd_space.specs.Histories.{History, next, space_after}
 use Rattle.bd_laws.specs.Lists.{In, Pairs}
 use Rattle.bd_laws.specs.Objects.{Differ, KeptBefore}
 use Rattle.bd_laws.specs.Tidy.{Before}
+use Rattle.bd_laws.proofs.Earlier.{in_order-differ}
 use Rattle.bd_laws.proofs.Lists.{in-push, in-last, in-left, in-filter, any-found, any-in, all-in, pairs-either, pairs-map, pairs-filter, fold-keeps}
 use Rattle.bd_laws.proofs.Tests.{same-eq, eq-same, notice-kind}
 use Rattle.bd_laws.proofs.EveryStep.{Keeps, every_step, every_list}
@@ -214,7 +215,7 @@ exact-step s seat x before noticing h =
         managed = λ a e b. managed-exact s a.process.made before.objects noticing h;
       };
       changes = k.changes;
-      follows = λ z l. follow-exact z l.differ;
+      follows = λ z l. follow-exact z (in_order-differ z.objects l.in_order);
       closes = λ z made l. closed-exact z made l;
       refuses = λ z t r l. owe-exact z (OfThread t) (work.Refusal r) (λ o. refl) l;
       tells = λ z t r l. owe-exact z (OfThread t) (work.Verdict r) (λ o. refl) l;

@@ -202,7 +202,7 @@ transacted-naming s seat x a d parcel v acts check =
 closed-sends : (s : Space) (made p : ℕ) (objects : List Object) (items : List Item) → Sends s p objects items → Sends (closed s made) p objects items
 unfolding closed
 closed-sends s made p objects items h =
-    record { owned = h.owned; sent = h.sent; makes = record { place = h.makes.place; index = h.makes.index; owner = h.makes.owner; untold = h.makes.untold; differ = h.makes.differ } }
+    record { owned = h.owned; sent = h.sent; makes = record { place = h.makes.place; index = h.makes.index; owner = h.makes.owner; untold = h.makes.untold; in_order = h.makes.in_order } }
 
 closed-actor : (s : Space) (made seat : ℕ) → actor (closed s made) seat ≡ actor s seat
 unfolding closed actor

@@ -43,6 +43,7 @@ use Rattle.bd_space.specs.Steps.{change, counted, with_thread, with_process, wit
 use Rattle.bd_space.specs.Histories.{next}
 use Rattle.bd_laws.specs.Lists.{In, Pairs}
 use Rattle.bd_laws.specs.Objects.{Here, Differ, KeptBefore}
+use Rattle.bd_laws.proofs.Earlier.{in_order-differ}
 use Rattle.bd_laws.proofs.Lists.{in-append, in-push, in-filter, in-changed, find-in, pairs-either, pairs-filter, fold-keeps}
 use Rattle.bd_laws.proofs.Tests.{same-eq}
 use Rattle.bd_laws.proofs.EveryStep.{Keeps, every_step}
@@ -156,7 +157,7 @@ called-sits z seat p false h = owe-sits _ (goes_to z seat p) (work.Call z.steps)
 -- what the delivery makes differs from what there was
 delivered-differ : (s : Space) (a : Actor) (d : TransactionData) (v : Delivery) → KeptBefore s → Sends s a.process.made v.sending.made v.sending.items → ((o : ObjectId) → v.target ≡ Some o → Here s.objects o)
     → Pairs Differ (delivered s a d v).objects
-delivered-differ s a d v kept sends target = (delivered-kept s a d v kept sends target).differ
+delivered-differ s a d v kept sends target = in_order-differ (delivered s a d v).objects (delivered-kept s a d v kept sends target).in_order
 
 transacted-sits : (s : Space) (seat : ℕ) (a : Actor) (d : TransactionData) (parcel : Option Parcel) (v : Delivery) → KeptBefore s → Noticing s → actor s seat ≡ Some a → transaction_check s a d parcel ≡ Ok v
     → SitsIn s → SitsIn (transacted s a d v)
@@ -391,7 +392,7 @@ sitting-step s seat x kept noticing h =
         );
         ripens = λ z l. (k.changes.ripens z l.0, ripen-sits z l.1);
       };
-      follows = λ z l. (k.follows z l.0, follow-sits z l.0.differ l.1);
+      follows = λ z l. (k.follows z l.0, follow-sits z (in_order-differ z.objects l.0.in_order) l.1);
       closes = λ z made l. (k.closes z made l.0, closed-sits z made l.1);
       refuses = λ z t r l. (k.refuses z t r l.0, owe-sits z (OfThread t) (work.Refusal r) refl l.1);
       tells = λ z t r l. (k.tells z t r l.0, owe-sits z (OfThread t) (work.Verdict r) refl l.1);

@@ -35,6 +35,7 @@ use Rattle.bd_space.specs.Steps.{with_thread, with_process, with_manager}
 use Rattle.bd_laws.specs.Lists.{In, Pairs}
 use Rattle.bd_laws.specs.Objects.{Differ, KeptBefore}
 use Rattle.bd_laws.specs.Tidy.{Before}
+use Rattle.bd_laws.proofs.Earlier.{in_order-differ}
 use Rattle.bd_laws.proofs.Lists.{in-left, in-append, in-push, in-last, in-filter, filter-in, without-in, any-found, any-in, pairs-either}
 use Rattle.bd_laws.proofs.Tests.{both, not-true, same-eq}
 use Rattle.bd_laws.proofs.EveryEnding.{IsReading, IsAcknowledging}
@@ -406,7 +407,7 @@ module _ (o : ObjectId) (st : Hearing) where
           reads = λ a limit e i n. absurd (no_read (limit, i));
           leaves = λ a e. thread_goes-told s a.thread.seat h.tracks;
           ends = λ a e. tracks-untouched ⊥ _ (without_process (threads_go s a.process.made) a.process.made) (tell_deaths-untouched (without_process (threads_go s a.process.made) a.process.made) a.process.made)
-              (without_process-told (threads_go s a.process.made) a.process.made (threads_go-kept s a.process.made (later s kept).kept).differ (threads_go-told s a.process.made h.tracks));
+              (without_process-told (threads_go s a.process.made) a.process.made (in_order-differ _ (threads_go-kept s a.process.made (later s kept).kept).in_order) (threads_go-told s a.process.made h.tracks));
           ripens = λ z k. tracks-untouched ⊥ (ripen z) z (ripen-untouched z) k;
         };
         follows = λ z k. follow-told z (tracks-weaker _ z k);
