@@ -4,6 +4,7 @@ pub mod Meeting
 pub mod Seating
 pub mod Places
 pub mod Gathering
+pub mod Exiting
 pub mod Keeping
 pub mod Commands
 pub mod Courses

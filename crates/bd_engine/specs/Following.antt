@@ -1,5 +1,5 @@
 -- What follows from a change at chosen names and objects alone.
-use Rattle.std.specs.Prelude.{false, true, Bool, not, ◌||◌, List, filter, fold, None, Some}
+use Rattle.std.specs.Prelude.{◌≡◌, false, true, Bool, not, ◌||◌, List, filter, fold, None, Some}
 use Rattle.bd_space.specs.declared.step.ObjectId.{ObjectId}
 use Rattle.bd_space.specs.declared.space.Work.{Work}
 use Rattle.bd_space.specs.declared.space.WorkKind.{WorkKind}
@@ -9,9 +9,9 @@ use Rattle.bd_space.specs.Words.{is_some_and}
 use Rattle.bd_space.specs.Space.{Space}
 use Rattle.bd_space.specs.References.{object_in}
 use Rattle.bd_space.specs.Notices.{wants_notice, with_notice}
-use Rattle.bd_space.specs.Local.{NameTest, ObjectTest, names_go_of, objects_go_of, deaths_go_of, work_goes_of}
+use Rattle.bd_space.specs.Local.{NameTest, ObjectTest, names_go_of, objects_go_of, deaths_go_of, work_goes_of, is_among}
 use Rattle.bd_laws.specs.Lists.{Pairs}
-use Rattle.bd_laws.specs.Objects.{Earlier}
+use Rattle.bd_laws.specs.Objects.{Earlier, NotLater}
 use Rattle.bd_engine.specs.declared.tables.Tables.{Tables}
 use Rattle.bd_engine.specs.Stands.{Within}
 
@@ -43,3 +43,8 @@ told_of os s = record s { todo = fold (told_at s) s.todo os }
 -- a change within a step makes what f makes of each space whose objects stand in the order in which they were made
 abbrev pub MakesOfOrdered : Tables → Tables → (Space → Space) → Type 0
 MakesOfOrdered old new f = (s : Space) → Within old s → Pairs Earlier s.objects → Within new (f s)
+
+-- these are the objects that the test is true of, in the order in which they were made
+pub record AreTouched (b : ObjectTest) (os : List ObjectId) : Type 0 where
+  pub in_order : Pairs NotLater os
+  pub among : is_among os ≡ b

@@ -7,9 +7,10 @@ ghost use Rattle.bd_space.specs.References.{objects_go};
 ghost use Rattle.bd_space.specs.Notices.{deaths_go, work_goes, notify, follow};
 ghost use Rattle.bd_space.specs.Turns.{ripen};
 ghost use Rattle.bd_space.specs.Settle.{settle};
-ghost use Rattle.bd_space.specs.Local.{ripen_of, close_up};
+ghost use Rattle.bd_space.specs.Local.{ripen_of, close_up, close_among};
 ghost use Rattle.bd_space.specs.Outcomes.{completed};
 ghost use Rattle.bd_objects.specs.Room.{object_count};
+ghost use Rattle.bd_calls.specs.Closing.{is_place_among};
 ghost use Rattle.bd_calls.specs.Room.{work_room, frame_count, turn_count};
 ghost use Rattle.bd_engine.specs.Stands.{StandsAt, Uses, CanFollow, MakesWithin, UsesNothing};
 ghost use Rattle.bd_engine.specs.Notified.{notified};
@@ -108,6 +109,14 @@ impl Tables {
         ensures { MakesWithin self.old self.new (λ s. close_up (length s.frames) made s) }
     {
         self.calls.close_up(self.steps, made);
+    }
+
+    /// Of the chosen calls those close that are abandoned, oldest first, and then the ones in which they were made.
+    pub(crate) fn close_among(&mut self, chosen: &mut [u32])
+        requires { frame_count self.old.calls ≤ work_room self.old.calls }
+        ensures { MakesWithin self.old self.new (λ s. close_among (length s.frames) (is_place_among chosen.old) s) }
+    {
+        self.calls.close_among(self.steps, chosen);
     }
 
     /// All that follows from an accepted command's change.

@@ -6,10 +6,19 @@ ghost use Rattle.bd_laws.specs.Lists.{Pairs};
 ghost use Rattle.bd_laws.specs.Objects.{NotLater};
 ghost use Rattle.bd_calls.specs.Room.{work_room};
 ghost use Rattle.bd_engine.specs.Stands.{Uses, MakesWithin, UsesNothing};
-ghost use Rattle.bd_engine.specs.Following.{deaths_followed, names_followed, shed_of, told_of, MakesOfOrdered};
+ghost use Rattle.bd_engine.specs.Following.{deaths_followed, names_followed, shed_of, told_of, AreTouched, MakesOfOrdered};
 
 use crate::tables::Tables;
 use bd_space::{ObjectId, TodoList};
+
+/// The objects in the order in which they were made.
+pub(crate) fn in_order(mut objects: Vec<ObjectId>) -> Vec<ObjectId>
+    ensures touched { AreTouched (is_among objects.items) result.items }
+    ensures len { length result.items ≡ length objects.items }
+{
+    objects.sort_unstable_by_key(|o| (o.place, o.index));
+    objects
+}
 
 impl Tables {
     // The death notifications go whose name of the object is gone, and their work items.
