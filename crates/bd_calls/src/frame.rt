@@ -159,12 +159,6 @@ fn is_abandoned(frames: &[Frame], frame: &Frame) -> bool
     is_gone(frame.server) && !has_child(frames, frame)
 }
 
-fn oldest_abandoned(frames: &[Frame]) -> Option<Frame>
-    ensures { result ≡ find (settling.is_abandoned frames.now) frames.now }
-{
-    frames.iter().copied().find(|f| is_abandoned(frames, f))
-}
-
 fn abandoned_made_at(frames: &[Frame], made: u32) -> Option<Frame>
     ensures { result ≡ find (λ f. spec.is_frame made f && settling.is_abandoned frames.now f) frames.now }
 {
@@ -361,12 +355,6 @@ impl CallTable {
         self.frames.len()
     }
 
-    fn oldest_abandoned(&self) -> Option<Frame>
-        ensures { Tells (StandsFor self.now) result (λ s. find (settling.is_abandoned s.frames) s.frames) }
-    {
-        oldest_abandoned(&self.frames)
-    }
-
     // A call closes, and its caller is told, if it lives.
     #[tactic(auto)]
     fn abandon(&mut self, place: u32, frame: Frame)
@@ -377,38 +365,6 @@ impl CallTable {
     {
         self.close(frame.made);
         self.tell_caller(place, frame, WorkKind::Verdict(Return::DeadReply));
-    }
-
-    // The oldest abandoned call closes; whether there was one.
-    #[tactic(auto)]
-    fn settle_step(&mut self, place: u32) -> bool
-        requires { 1 ≤ work_room self.old }
-        ensures stands { MakesAt place (StandsFor self.old) (StandsFor self.new) settling.settle_step }
-        ensures settled { (s : Space) → StandsFor self.old s → result ≡ false → settling.settle_step s ≡ s }
-        ensures uses { Uses self.old self.new (record nothing { works = 1 }) }
-    {
-        match self.oldest_abandoned() {
-            Some(frame) => {
-                self.abandon(place, frame);
-                true
-            }
-            None => false,
-        }
-    }
-
-    /// Calls whose server has gone and which have no open call inside close, oldest first, until there are none left,
-    /// and each caller that lives is told, by a work item made at this place.
-    #[tactic(auto)]
-    pub fn settle(&mut self, place: u32)
-        requires { frame_count self.old ≤ work_room self.old }
-        ensures stands { MakesAt place (StandsFor self.old) (StandsFor self.new) settling.settle }
-        ensures uses { Uses self.old self.new (record nothing { works = frame_count self.old }) }
-    {
-        for _settled in 0..self.count_frames() {
-            if !self.settle_step(place) {
-                return;
-            }
-        }
     }
 
     fn abandoned_at(&self, made: u32) -> Option<Frame>

@@ -16,18 +16,6 @@ use crate::todo_list::{has_call, is_lost_with, push_work};
 use crate::work::handed_by;
 use bd_space::{ObjectId, TodoList, Turn, Work, WorkKind};
 
-fn has_turn_on(turns: &[Turn], object: ObjectId) -> bool
-    ensures { result ≡ list_any (λ t. same t.target object) turns.now }
-{
-    turns.iter().any(|t| t.target == object)
-}
-
-fn is_ripe(todo: &[Work], older: &[Turn], turn: &Turn) -> bool
-    ensures { result ≡ spec.is_ripe todo.now older.now turn.now }
-{
-    !turn.handed && !has_turn_on(older, turn.target) && !has_call(todo, turn.made)
-}
-
 fn oldest_on(turns: &[Turn], object: ObjectId) -> Option<Turn>
     ensures { result ≡ find (λ t. same t.target object) turns.now }
 {
@@ -62,21 +50,6 @@ fn push_first(todo: &mut Vec<Work>, turn: Option<Turn>, place: u32)
 {
     if let Some(turn) = turn {
         push_untold(todo, turn, place);
-    }
-}
-
-// The calls of the ripe ones become due.
-fn push_ripe(todo: &mut Vec<Work>, turns: &[Turn], place: u32)
-    requires { vec_len todo.old + length turns.now ≤ vec_capacity todo.old }
-    ensures todo { todo.new.items ≡ spec.ripened place [] todo.old.items turns.now }
-    ensures len { vec_len todo.new ≤ vec_len todo.old + length turns.now }
-    ensures capacity { vec_capacity todo.new ≡ vec_capacity todo.old }
-{
-    for (i, turn) in turns.iter().enumerate() {
-        if is_ripe(todo, &turns[..i], turn) {
-            let list = TodoList::OfProcess(turn.receiver);
-            push_work(todo, place, list, WorkKind::Call(turn.made));
-        }
     }
 }
 
@@ -170,16 +143,6 @@ impl CallTable {
         ensures uses { UsesNothing self.old self.new }
     {
         remove_turn(&mut self.turns, made);
-    }
-
-    /// The one-way calls that are ripe become due, made at this place: those not handed out, with no older one on their
-    /// object.
-    pub fn ripen(&mut self, place: u32)
-        requires { turn_count self.old ≤ work_room self.old }
-        ensures stands { MakesAt place (StandsFor self.old) (StandsFor self.new) spec.ripen }
-        ensures uses { Uses self.old self.new (record nothing { works = turn_count self.old }) }
-    {
-        push_ripe(&mut self.todo, &self.turns, place);
     }
 
     /// The oldest one-way call on an object becomes due, made at this place, unless somebody was told of it before.

@@ -20,9 +20,7 @@ pub with-objects : (n : ℕ) (t : Tables) (s : Space) (table : ObjectTable) (os 
     → StandsAt n t s → objects.Stands table os rs ns ds
     → StandsAt n (record t { objects = table }) (record s { objects = os; references = rs; names = ns; deaths = ds })
 with-objects n t s table os rs ns ds h k = record {
-  steps_are = h.steps_are;
-  processes_are = h.processes_are;
-  manager_is = h.manager_is;
+  own = h.own;
   objects_stand = k;
   calls_stand = h.calls_stand;
   windows_stand = h.windows_stand;
@@ -32,9 +30,7 @@ pub with-calls : (n : ℕ) (t : Tables) (s : Space) (table : CallTable) (ts : Li
     → StandsAt n t s → calls.Stands table ts fs ws (turns_of s.buffers)
     → StandsAt n (record t { calls = table }) (record s { threads = ts; frames = fs; todo = ws })
 with-calls n t s table ts fs ws h k = record {
-  steps_are = h.steps_are;
-  processes_are = h.processes_are;
-  manager_is = h.manager_is;
+  own = h.own;
   objects_stand = h.objects_stand;
   calls_stand = k;
   windows_stand = h.windows_stand;

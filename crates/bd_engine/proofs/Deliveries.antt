@@ -74,9 +74,7 @@ unfolding assign_numbers refer make_objects
 known-stands t os s v q made items target a b c e h k =
     let P : Space → Type 0 = λ z. Before (record t { objects = os }) z in
     subst P (known-is s v q made items target a b c e) (record {
-      steps_are = h.steps_are;
-      processes_are = h.processes_are;
-      manager_is = h.manager_is;
+      own = h.own;
       objects_stand = k;
       calls_stand = h.calls_stand;
       windows_stand = h.windows_stand;

@@ -1,8 +1,9 @@
 -- What is gathered before an exit: one thing after the other, and then all that the exit touches.
-use Rattle.std.proofs.Common.{◌≡◌, ℕ, ◌+◌, ◌≤◌, ◌==◌, Bool, true, false, not, ◌&&◌, ◌||◌, List, [], ◌∷◌, ◌++◌, drop, length, map, filter, Option, Some, None, ◌⊎◌, inl, inr, refl, ap, sym, subst, ◌∙◌}
+use Rattle.std.proofs.Common.{◌≡◌, ℕ, ◌+◌, ◌<◌, ◌==◌, Bool, true, false, not, ◌&&◌, ◌||◌, List, [], ◌∷◌, ◌++◌, drop, length, get_or, append_assoc, map, filter, Option, Some, None, ◌⊎◌, inl, inr, refl, ap, sym, subst, ◌∙◌}
 use Rattle.std.specs.List.{list_any, slice_get}
 use Rattle.std.proofs.lemmas.Bool.{eqb-true, eq-eqb}
-use Rattle.std.proofs.lemmas.List.{drop_all}
+use Rattle.std.proofs.lemmas.List.{append-nil}
+use Rattle.std.proofs.lemmas.Option.{slice_get-get_or}
 use Rattle.std.proofs.lemmas.List.Folds.{list_any-append}
 use Rattle.bd_space.specs.declared.step.ObjectId.{ObjectId}
 use Rattle.bd_space.specs.declared.space.Object.{Object}
@@ -50,6 +51,9 @@ module _ {A : Type 0} where
       at : In x (y ∷ drop (k + 1) xs) → Q x ⊎ In x (drop (k + 1) xs)
       at (inl same) = inl (subst Q same is)
       at (inr i) = inr i
+
+  pub until-at : (P Q : A → Type 0) (xs : List A) (k : ℕ) (d : A) → k < length xs → Until P xs k → ((x : A) → P x → Q x) → Q (get_or xs k d) → Until Q xs (k + 1)
+  until-at P Q xs k d lt h more is = until-next P Q xs k (get_or xs k d) (slice_get-get_or xs k d lt) h more is
 
   pub until-all : (P : A → Type 0) (xs : List A) (k : ℕ) → drop k xs ≡ [] → Until P xs k → (x : A) → In x xs → P x
   until-all P xs k e h x l = elim (h x l) [
@@ -126,13 +130,6 @@ module _ (s : Space) (old new : Exit) where
     call = λ m t. place-new new old.frames.items (b ∷ []) m f (or-left (b == m) false t);
   }
 
-  pub served-gathered : (seat : ℕ) → new.frames.items ≡ old.frames.items ++ map (λ (f : Frame). f.made) (filter (λ (f : Frame). serves seat f.server) s.frames)
-      → (f : Frame) → In f s.frames → serves seat f.server ≡ true → HasFrame new f.made
-  served-gathered seat e f l t =
-      place-new new old.frames.items _ f.made e
-      (any-in (λ m. m == f.made) f.made (map (λ (f : Frame). f.made) (filter (λ (f : Frame). serves seat f.server) s.frames)) (map-in (λ (f : Frame). f.made) f (filter (λ (f : Frame). serves seat f.server) s.frames)
-      (filter-in (λ (f : Frame). serves seat f.server) f s.frames l t)) (eq-eqb f.made f.made refl))
-
   pub owned-gathered : (p : ℕ) (after : List ObjectId) → new.objects.items ≡ (old.objects.items ++ map (λ (y : Object). y.id) (filter (λ (y : Object). y.owner == p) s.objects)) ++ after
       → (y : Object) → In y s.objects → (y.owner == p) ≡ true → HasObject new y.id
   owned-gathered p after e y l t =
@@ -144,11 +141,41 @@ module _ (s : Space) (old new : Exit) where
       → (r : Reference) → In r s.references → is_dropped_with s.objects p r ≡ true → HasObject new r.object
   dropped-gathered p before e r l t = among-new new before _ r.object e (map-among (λ (r : Reference). r.object) (is_dropped_with s.objects p) s.references r l t)
 
-pub nothing-gathered : (x : Exit) (s : Space) (kind : WorkKind) → ((o : ObjectId) → is_notice o kind ≡ true → ⊥) → hands_out kind ≡ None → ((m : ℕ) → is_call m kind ≡ true → ⊥) → HasWork x s kind
-nothing-gathered x s kind none e no_call = record {
-  notice = λ o t. absurd (none o t);
-  handed = λ b r f l t. absurd (cc);
-  call = λ m t. absurd (no_call m t);
+pub served-gathered : (s : Space) (seat : ℕ) (ms ns : List ℕ) → ms ≡ ns ++ map (λ (f : Frame). f.made) (filter (λ (f : Frame). serves seat f.server) s.frames)
+    → (f : Frame) → In f s.frames → serves seat f.server ≡ true → is_place_among ms f.made ≡ true
+served-gathered s seat ms ns e f l t =
+    let mine = map (λ (f : Frame). f.made) (filter (λ (f : Frame). serves seat f.server) s.frames) in
+    ap (λ zs. is_place_among zs f.made) e ∙ list_any-append (λ n. n == f.made) ns mine
+    ∙ or-right (is_place_among ns f.made) _ (any-in (λ m. m == f.made) f.made mine (map-in (λ (f : Frame). f.made) f (filter (λ (f : Frame). serves seat f.server) s.frames)
+    (filter-in (λ (f : Frame). serves seat f.server) f s.frames l t)) (eq-eqb f.made f.made refl))
+
+-- where only frames were gathered
+pub frames-then : (x y z : Exit) (ms : List ℕ) → y.objects.items ≡ x.objects.items → y.frames.items ≡ x.frames.items ++ ms → Grows y z → Grows x z
+frames-then x y z ms e f h = grows-then x y z (grows-by x y [] ms (e ∙ sym (append-nil x.objects.items)) f) h
+
+pub process-gathered : (s : Space) (seats : List ℕ) (p : ℕ) (x y z : Exit) → HasThreads x s seats → HasList y s (OfProcess p) → Grows x y → z.frames.items ≡ y.frames.items
+    → z.objects.items ≡ (y.objects.items ++ map (λ (o : Object). o.id) (filter (λ (o : Object). o.owner == p) s.objects)) ++ map (λ (r : Reference). r.object) (filter (is_dropped_with s.objects p) s.references) → HasProcess z s seats p
+process-gathered s seats p x y z threads list h f e =
+    let own = map (λ (o : Object). o.id) (filter (λ (o : Object). o.owner == p) s.objects) in
+    let dropped = map (λ (r : Reference). r.object) (filter (is_dropped_with s.objects p) s.references) in
+    let more = grows-by y z (own ++ dropped) [] (e ∙ append_assoc y.objects.items own dropped) (f ∙ sym (append-nil y.frames.items)) in
+    record {
+      threads = λ t l. more-thread y z s t more (more-thread x y s t h (threads t l));
+      list = λ w l. more-work y z s w.kind more (list w l);
+      owned = owned-gathered s y z p dropped e;
+      dropped = dropped-gathered s y z p (y.objects.items ++ own) e;
+    }
+
+-- the order doesn't matter
+pub grows-as : (x y : Exit) → is_among y.objects.items ≡ is_among x.objects.items → y.frames.items ≡ x.frames.items → Grows x y
+grows-as x y e f = record { objects = λ o h. ap (λ b. b o) e ∙ h; frames = λ m h. ap (λ ms. is_place_among ms m) f ∙ h }
+
+pub more-process : (x y : Exit) (s : Space) (seats : List ℕ) (p : ℕ) → Grows x y → HasProcess x s seats p → HasProcess y s seats p
+more-process x y s seats p h k = record {
+  threads = λ t l. more-thread x y s t h (k.threads t l);
+  list = λ w l. more-work x y s w.kind h (k.list w l);
+  owned = λ o l e. h.objects o.id (k.owned o l e);
+  dropped = λ r l e. h.objects r.object (k.dropped r l e);
 }
 
 -- ---- all that an exit touches

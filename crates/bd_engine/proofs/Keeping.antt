@@ -59,9 +59,11 @@ unfolding counted
 counted-stands t z h =
     let more : z.steps + 1 ≡ suc z.steps = omega arith in
     record {
-      steps_are = sym more ∙ ap (λ n. n + 1) h.steps_are;
-      processes_are = h.processes_are;
-      manager_is = h.manager_is;
+      own = record {
+        steps_are = sym more ∙ ap (λ n. n + 1) h.own.steps_are;
+        processes_are = h.own.processes_are;
+        manager_is = h.own.manager_is;
+      };
       objects_stand = h.objects_stand;
       calls_stand = h.calls_stand;
       windows_stand = subst (λ n. WindowsOf t.windows n z.processes z.buffers) more h.windows_stand;

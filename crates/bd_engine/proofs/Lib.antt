@@ -1,9 +1,9 @@
 pub mod Standing
-pub mod Notifying
 pub mod Meeting
 pub mod Seating
 pub mod Places
 pub mod Gathering
+pub mod Exiting
 pub mod Keeping
 pub mod Commands
 pub mod Courses

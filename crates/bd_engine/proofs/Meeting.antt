@@ -29,6 +29,10 @@ pub meets : (old new : Tables) (P : Space → Type 0) (f : Space → Outcome) (a
     → ((s : Space) → Before old s → P s → IsOutcome new answer (f s)) → Meets old new P f answer
 meets old new P f answer k = record { answered = λ s h p. (k s h p).answered; stands = λ s h p. (k s h p).stands }
 
+-- a step that is taken meets no other clause
+pub taken-step : (old new : Tables) (P : Space → Type 0) (f : Space → Outcome) (x : Plain) → Meets old new P f (answer_of x) → IsStep old new P f (Ok x)
+taken-step old new P f x m = record { ok = m; err = tt; full = tt }
+
 -- steps that change nothing
 pub is-refused : (t : Tables) (s : Space) (x : Fault) → Before t s → IsOutcome t (Refused x) (refused s x)
 is-refused t s x h = record { answered = refl; stands = within t s h }

@@ -64,9 +64,11 @@ told-stands t os s p h k =
     let e = sym all.rest_is in
     let todo = sym all.todo_is in
     record {
-      steps_are = subst (λ z. z.steps ≡ t.steps) e h.steps_are;
-      processes_are = subst (λ z. z.processes ≡ t.processes.list.items) e h.processes_are;
-      manager_is = subst (λ z. z.manager ≡ t.manager) e h.manager_is;
+      own = record {
+        steps_are = subst (λ z. z.steps ≡ t.steps) e h.own.steps_are;
+        processes_are = subst (λ z. z.processes ≡ t.processes.list.items) e h.own.processes_are;
+        manager_is = subst (λ z. z.manager ≡ t.manager) e h.own.manager_is;
+      };
       objects_stand = k;
       calls_stand = subst (λ z. calls.Stands t.calls z.threads z.frames (tell_deaths s p).todo (turns_of z.buffers)) e
           (subst (λ ws. calls.Stands t.calls s.threads s.frames ws (turns_of s.buffers)) todo h.calls_stand);

@@ -1,11 +1,12 @@
 -- How tables go on standing for a space.
-use Rattle.std.proofs.Common.{◌≡◌, ℕ, zero, suc, ◌+◌, ◌&&◌, true, [], length, Option, Some, None, refl, ap, sym, subst, ◌∙◌}
+use Rattle.std.proofs.Common.{◌≡◌, ℕ, zero, suc, ◌+◌, ◌&&◌, ◌||◌, ◌==◌, Bool, true, [], length, Option, Some, None, refl, ap, sym, subst, ◌∙◌}
 use Rattle.std.specs.List.{find}
 use Rattle.bd_uapi.specs.declared.command.Return.TheVariants.{DeadReply}
 use Rattle.bd_space.specs.declared.space.Frame.{Frame}
 use Rattle.bd_space.specs.declared.space.WorkKind.{WorkKind}
 use Rattle.bd_space.specs.declared.space.WorkKind.TheVariants.{Verdict}
 use Rattle.bd_space.specs.declared.space.TodoList.TheVariants.{OfThread}
+use Rattle.bd_space.specs.Words.{is_some_and}
 use Rattle.bd_space.specs.Space.{Space}
 use Rattle.bd_space.specs.Frames.{closed, is_frame}
 use Rattle.bd_space.specs.Todo.{owe, tell_caller}
@@ -15,7 +16,7 @@ use Rattle.bd_space.specs.Turns.{ripen}
 use Rattle.bd_space.specs.Notices.{follow, notify, work_goes, deaths_go}
 use Rattle.bd_space.specs.Settle.{settle, settle_one, settle_times, is_abandoned}
 use Rattle.bd_space.specs.Outcomes.{completed}
-use Rattle.bd_space.specs.Local.{close_up}
+use Rattle.bd_space.specs.Local.{close_up, close_among}
 use Rattle.bd_objects.specs.Stands as objects
 use Rattle.bd_calls.specs.declared.table.CallTable.{CallTable}
 use Rattle.bd_calls.specs.Stands as calls
@@ -28,9 +29,7 @@ use Rattle.bd_engine.specs.Stands.{Before, Within}
 
 pub within : (t : Tables) (s : Space) → Before t s → Within t s
 within t s h = record {
-  steps_are = h.steps_are;
-  processes_are = h.processes_are;
-  manager_is = h.manager_is;
+  own = h.own;
   objects_stand = h.objects_stand;
   calls_stand = h.calls_stand;
   windows_stand = stands_in t.windows s h.windows_stand;
@@ -68,6 +67,15 @@ up_rest (suc n) (Some m) s = at (find (λ (f : Frame). is_frame m f && is_abando
     at None more = refl
     at (Some f) more = more f.parent (tell_caller (closed s f.made) f (Verdict DeadReply)) ∙ told_rest s f.made f.caller (Verdict DeadReply)
 
+among_rest : (n : ℕ) (c : ℕ → Bool) (s : Space) → rest (close_among n c s) ≡ rest s
+among_rest zero c s = refl
+among_rest (suc n) c s = at (find (λ (f : Frame). c f.made && is_abandoned s.frames f) s.frames) (λ d z. among_rest n d z)
+  where
+    at : (o : Option Frame) → ((d : ℕ → Bool) (z : Space) → rest (close_among n d z) ≡ rest z)
+        → rest (elim o as (λ (o : Option Frame). Space) [ None ↦ s | Some f ↦ close_among n (λ m. c m || is_some_and f.parent (λ p. p == m)) (tell_caller (closed s f.made) f (Verdict DeadReply)) ]) ≡ rest s
+    at None more = refl
+    at (Some f) more = more (λ m. c m || is_some_and f.parent (λ p. p == m)) (tell_caller (closed s f.made) f (Verdict DeadReply)) ∙ told_rest s f.made f.caller (Verdict DeadReply)
+
 pub settle-steps : (s : Space) → (settle s).steps ≡ s.steps
 unfolding rest
 settle-steps s = ap (λ (z : Space). z.steps) (settle_rest s)
@@ -78,9 +86,11 @@ unfolding rest
 calls_changed t cs s z same h k =
     let e = sym same in
     record {
-      steps_are = subst (λ z. z.steps ≡ t.steps) e h.steps_are;
-      processes_are = subst (λ z. z.processes ≡ t.processes.list.items) e h.processes_are;
-      manager_is = subst (λ z. z.manager ≡ t.manager) e h.manager_is;
+      own = record {
+        steps_are = subst (λ z. z.steps ≡ t.steps) e h.own.steps_are;
+        processes_are = subst (λ z. z.processes ≡ t.processes.list.items) e h.own.processes_are;
+        manager_is = subst (λ z. z.manager ≡ t.manager) e h.own.manager_is;
+      };
       objects_stand = subst (objects.StandsFor t.objects) e h.objects_stand;
       calls_stand = k;
       windows_stand = subst (λ z. WindowsOf t.windows (z.steps + 1) z.processes z.buffers) e h.windows_stand;
@@ -92,6 +102,10 @@ settled-stands t cs s h k = calls_changed t cs s (settle s) (settle_rest s) h k
 pub closed-up-stands : (t : Tables) (cs : CallTable) (s : Space) (made : Option ℕ) → Within t s → calls.StandsFor cs (close_up (length s.frames) made s)
     → Within (record t { calls = cs }) (close_up (length s.frames) made s)
 closed-up-stands t cs s made h k = calls_changed t cs s _ (up_rest (length s.frames) made s) h k
+
+pub closed-among-stands : (t : Tables) (cs : CallTable) (s : Space) (c : ℕ → Bool) → Within t s → calls.StandsFor cs (close_among (length s.frames) c s)
+    → Within (record t { calls = cs }) (close_among (length s.frames) c s)
+closed-among-stands t cs s c h k = calls_changed t cs s _ (among_rest (length s.frames) c s) h k
 
 -- ---- numbers past the limit
 

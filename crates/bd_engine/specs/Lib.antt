@@ -1,7 +1,6 @@
 pub mod Stands
 pub mod Refusals
 pub mod Meets
-pub mod Notified
 pub mod Plain
 pub mod Keeps
 pub mod Writing

@@ -1,5 +1,7 @@
 -- What the tables of an engine stand for: a space.
-use Rattle.std.specs.Prelude.{ℕ, ◌≡◌, ◌+◌, ◌≤◌, true}
+use Rattle.std.specs.Prelude.{ℕ, ◌≡◌, ◌+◌, ◌≤◌, true, List, Option}
+use Rattle.bd_space.specs.declared.step.ObjectId.{ObjectId}
+use Rattle.bd_space.specs.declared.space.Process.{Process}
 use Rattle.bd_space.specs.Space.{Space}
 use Rattle.bd_space.specs.Names.{has_number_past_limit}
 use Rattle.bd_space.specs.Tables as tables
@@ -11,11 +13,15 @@ use Rattle.bd_calls.specs.Room as call_rooms
 use Rattle.bd_buffers.specs.WindowsStand.{WindowsOf}
 use Rattle.bd_engine.specs.declared.tables.Tables.{Tables}
 
+-- what isn't in a table: the place of the next step, the live processes, the context manager's object
+pub record Own (steps : ℕ) (processes : List Process) (manager : Option ObjectId) (steps' : ℕ) (processes' : List Process) (manager' : Option ObjectId) : Type 0 where
+  pub steps_are : steps ≡ steps'
+  pub processes_are : processes ≡ processes'
+  pub manager_is : manager ≡ manager'
+
 -- every member was made by a step before this place
 pub record StandsAt (bound : ℕ) (t : Tables) (s : Space) : Type 0 where
-  pub steps_are : s.steps ≡ t.steps
-  pub processes_are : s.processes ≡ t.processes.list.items
-  pub manager_is : s.manager ≡ t.manager
+  pub own : Own s.steps s.processes s.manager t.steps t.processes.list.items t.manager
   pub objects_stand : objects.StandsFor t.objects s
   pub calls_stand : calls.StandsFor t.calls s
   pub windows_stand : WindowsOf t.windows bound s.processes s.buffers

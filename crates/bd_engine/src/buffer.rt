@@ -137,7 +137,9 @@ impl Tables {
             (λ os. (s : Space) → Before self.old s → AreTouched (is_among (freed.referred s made)) os.items) }
         ensures room { IfOk result (λ os. CanFollow self.new (length os.items + 2)) }
     {
-        let touched = in_order(self.objects.referred(self.alloc, made)?);
+        let mut touched = Vec::new(self.alloc);
+        self.objects.referred(made, &mut touched)?;
+        let touched = in_order(touched);
         self.reserve(0, 0, 0, touched.len())?;
         Ok(touched)
     }

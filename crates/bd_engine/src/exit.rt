@@ -1,11 +1,17 @@
 //! What an exit touches, gathered before anything changes: nothing else is looked at afterwards.
 
-ghost use Rattle.std.specs.Prelude.{◌≡◌, [], OnOk, IfOk};
+ghost use Rattle.std.specs.Prelude.{◌≡◌, ◌+◌, ◌≤◌, length, OnOk, IfOk};
 ghost use Rattle.bd_space.specs.Space.{Space};
+ghost use Rattle.bd_laws.specs.Lists.{Pairs};
+ghost use Rattle.bd_laws.specs.Objects.{NotLater};
+ghost use Rattle.bd_objects.specs.Room.{death_count};
+ghost use Rattle.bd_calls.specs.Room.{frame_count, work_room};
 ghost use Rattle.bd_engine.specs.Stands.{Before};
+ghost use Rattle.bd_engine.specs.Meets.{IsKept};
 ghost use Rattle.bd_engine.specs.Exits.{Grows, HasWork, HasList, HasThread, HasThreads, HasProcess};
 
 use crate::tables::Tables;
+use crate::touched::in_order;
 use bd_space::{ObjectId, TodoList, WorkKind};
 use std::alloc::{AllocError, Global};
 
@@ -31,25 +37,23 @@ impl Tables {
     // and a call that nobody reads any more has lost its server.
     fn touch_work(&self, kind: WorkKind, exit: &mut Exit) -> Result<(), AllocError>
         ensures has { OnOk result ((s : Space) → Before self.now s → HasWork exit.new s kind) }
-        ensures grows { OnOk result (Grows exit.old exit.new) }
+        ensures grows { OnOk result ((s : Space) → Before self.now s → Grows exit.old exit.new) }
     {
         match kind {
-            WorkKind::Notice(o) => {
-                exit.objects.push(o)?;
-                Ok(())
-            }
-            WorkKind::Reply(b) => self.objects.referred(b, &mut exit.objects),
+            WorkKind::Notice(o) => exit.objects.push(o)?,
+            WorkKind::Reply(b) => self.objects.referred(b, &mut exit.objects)?,
             WorkKind::Call(b) => {
                 exit.frames.push(b)?;
-                self.objects.referred(b, &mut exit.objects)
+                self.objects.referred(b, &mut exit.objects)?;
             }
-            _ => Ok(()),
+            _ => {}
         }
+        Ok(())
     }
 
     fn touch_list(&self, list: TodoList, exit: &mut Exit) -> Result<(), AllocError>
         ensures has { OnOk result ((s : Space) → Before self.now s → HasList exit.new s list) }
-        ensures grows { OnOk result (Grows exit.old exit.new) }
+        ensures grows { OnOk result ((s : Space) → Before self.now s → Grows exit.old exit.new) }
     {
         for k in 0..usize::MAX {
             let Some(work) = self.calls.work_at(list, k) else {
@@ -63,15 +67,16 @@ impl Tables {
 
     fn touch_thread(&self, seat: u32, exit: &mut Exit) -> Result<(), AllocError>
         ensures has { OnOk result ((s : Space) → Before self.now s → HasThread exit.new s seat) }
-        ensures grows { OnOk result (Grows exit.old exit.new) }
+        ensures grows { OnOk result ((s : Space) → Before self.now s → Grows exit.old exit.new) }
     {
         self.calls.served(seat, &mut exit.frames)?;
-        self.touch_list(TodoList::OfThread(seat), exit)
+        self.touch_list(TodoList::OfThread(seat), exit)?;
+        Ok(())
     }
 
     fn touch_threads(&self, seats: &[u32], exit: &mut Exit) -> Result<(), AllocError>
         ensures has { OnOk result ((s : Space) → Before self.now s → HasThreads exit.new s seats.now) }
-        ensures grows { OnOk result (Grows exit.old exit.new) }
+        ensures grows { OnOk result ((s : Space) → Before self.now s → Grows exit.old exit.new) }
     {
         for seat in seats {
             self.touch_thread(*seat, exit)?;
@@ -79,8 +84,8 @@ impl Tables {
         Ok(())
     }
 
-    /// What the end of a thread touches.
-    pub(crate) fn touched_by_thread(&self, seat: u32) -> Result<Exit, AllocError>
+    // What the end of a thread touches.
+    fn touched_by_thread(&self, seat: u32) -> Result<Exit, AllocError>
         ensures has { IfOk result (λ exit. (s : Space) → Before self.now s → HasThread exit s seat) }
     {
         let mut exit = Exit::new(self.alloc);
@@ -88,8 +93,8 @@ impl Tables {
         Ok(exit)
     }
 
-    /// What the end of a process touches whose threads have these seats.
-    pub(crate) fn touched_by_process(&self, seats: &[u32], p: u32) -> Result<Exit, AllocError>
+    // What the end of a process touches whose threads have these seats.
+    fn touched_by_process(&self, seats: &[u32], p: u32) -> Result<Exit, AllocError>
         ensures has { IfOk result (λ exit. (s : Space) → Before self.now s → HasProcess exit s seats.now p) }
     {
         let mut exit = Exit::new(self.alloc);
@@ -97,5 +102,51 @@ impl Tables {
         self.touch_list(TodoList::OfProcess(p), &mut exit)?;
         self.objects.touched_by_end(p, &mut exit.objects)?;
         Ok(exit)
+    }
+
+    // Puts what an exit touches in order, and makes room for all that may follow, and for so many work items more.
+    fn reserve_exit(&mut self, exit: Exit, works: usize) -> Result<Exit, AllocError>
+        ensures stands { IsKept self.old self.new }
+        ensures grows { IfOk result (Grows exit) }
+        ensures objects { self.new.objects ≡ self.old.objects }
+        ensures in_order { IfOk result (λ x. Pairs NotLater x.objects.items) }
+        ensures room { IfOk result (λ x.
+            frame_count self.new.calls + (length x.objects.items + works) ≤ work_room self.new.calls) }
+    {
+        let objects = in_order(exit.objects);
+        let works = objects.len().checked_add(works).ok_or(AllocError)?;
+        self.calls.reserve(works)?;
+        Ok(Exit {
+            objects,
+            frames: exit.frames,
+        })
+    }
+
+    /// What the end of a thread touches, with room for what follows.
+    pub(crate) fn begin_thread_exit(&mut self, seat: u32) -> Result<Exit, AllocError>
+        ensures stands { IsKept self.old self.new }
+        ensures has { IfOk result (λ x. (s : Space) → Before self.old s → HasThread x s seat) }
+        ensures in_order { IfOk result (λ x. Pairs NotLater x.objects.items) }
+        ensures room { IfOk result (λ x.
+            frame_count self.new.calls + length x.objects.items ≤ work_room self.new.calls) }
+    {
+        let exit = self.touched_by_thread(seat)?;
+        let ready = self.reserve_exit(exit, 0)?;
+        Ok(ready)
+    }
+
+    /// What the end of a process touches whose threads have these seats, with room for what follows.
+    pub(crate) fn begin_process_exit(&mut self, seats: &[u32], p: u32) -> Result<Exit, AllocError>
+        ensures stands { IsKept self.old self.new }
+        ensures has { IfOk result (λ x. (s : Space) → Before self.old s → HasProcess x s seats.now p) }
+        ensures in_order { IfOk result (λ x. Pairs NotLater x.objects.items) }
+        ensures room { IfOk result (λ x.
+            frame_count self.new.calls + (length x.objects.items + death_count self.new.objects)
+            ≤ work_room self.new.calls) }
+    {
+        let exit = self.touched_by_process(seats, p)?;
+        let deaths = self.objects.death_count();
+        let ready = self.reserve_exit(exit, deaths)?;
+        Ok(ready)
     }
 }

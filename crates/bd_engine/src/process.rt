@@ -1,20 +1,23 @@
 //! Processes: how they are found, open and end.
 
-ghost use Rattle.std.specs.Prelude.{◌≡◌, ◌==◌, ◌<◌, [], true, filter, IfSome, OnOk, vec_len, vec_capacity, ◌≤◌, IfOk, None, ◌+◌, map, fold};
+ghost use Rattle.std.specs.Prelude.{◌≡◌, ◌==◌, ◌<◌, [], true, filter, IfSome, OnOk, vec_len, vec_capacity, ◌≤◌, IfOk, None, ◌+◌, length, map, fold};
 ghost use Rattle.bd_space.specs.Seats as seats;
 ghost use Rattle.bd_space.specs.Space.{Space};
 ghost use Rattle.bd_space.specs.Steps as steps;
-ghost use Rattle.bd_space.specs.Notices.{follow};
-ghost use Rattle.bd_space.specs.Settle.{settle};
 ghost use Rattle.bd_space.specs.ProcessExits as exits;
 ghost use Rattle.bd_space.specs.ThreadExits as thread_exits;
-ghost use Rattle.bd_objects.specs.Room.{death_count, object_count};
+ghost use Rattle.bd_space.specs.LocalExits.{seats_in};
+ghost use Rattle.bd_laws.specs.Lists.{Pairs};
+ghost use Rattle.bd_laws.specs.Objects.{NotLater};
+ghost use Rattle.bd_objects.specs.Room.{death_count};
 ghost use Rattle.bd_calls.specs.Room.{thread_room, work_room, frame_count};
 ghost use Rattle.bd_buffers.specs.WindowsStand.{Stands, window_room};
 ghost use Rattle.bd_engine.specs.Stands.{Tells, Before, Within, TellsBefore, Uses, MakesWithin, UsesNothing};
+ghost use Rattle.bd_engine.specs.Exits.{HasProcess};
 ghost use Rattle.bd_engine.specs.Meets.{IsAny, IsBy, IsKept, IsStep};
 
 use crate::answer::Plain;
+use crate::exit::Exit;
 use crate::tables::Tables;
 use crate::why::Why;
 use bd_buffers::Window;
@@ -142,39 +145,19 @@ impl Tables {
         self.processes.remove(p);
     }
 
-    // The work items that may be made when a process ends, by what is told of it and by what follows.
-    fn works_at_exit(&self) -> Result<usize, AllocError>
-        ensures { IfOk result (λ n. n ≡ object_count self.now.objects + death_count self.now.objects) }
-    {
-        self.objects
-            .object_count()
-            .checked_add(self.objects.death_count())
-            .ok_or(AllocError)
-    }
-
-    // Makes room for the end of a process, and finds the seats of its threads.
-    fn reserve_exit(&mut self, p: u32) -> Result<Vec<u32>, AllocError>
+    // The seats of a process's threads, and what its end touches, with room for what follows.
+    fn begin_exit(&mut self, p: u32) -> Result<(Vec<u32>, Exit), AllocError>
         ensures stands { IsKept self.old self.new }
-        ensures seats { IfOk result
-            (λ seats. TellsBefore self.old seats.items
-            (λ s. map exits.seat_of (filter (λ t. t.process == p) s.threads))) }
-        ensures room { OnOk result
-            (frame_count self.new.calls + object_count self.new.objects
-            + death_count self.new.objects ≤ work_room self.new.calls) }
+        ensures seats { IfOk result (λ x. TellsBefore self.old x.0.items (λ s. seats_in s p)) }
+        ensures has { IfOk result (λ x. (s : Space) → Before self.old s → HasProcess x.1 s (seats_in s p) p) }
+        ensures in_order { IfOk result (λ x. Pairs NotLater x.1.objects.items) }
+        ensures room { IfOk result (λ x.
+            frame_count self.new.calls + (length x.1.objects.items + death_count self.new.objects)
+            ≤ work_room self.new.calls) }
     {
         let seats = self.calls.seats_of(self.alloc, p)?;
-        let works = self.works_at_exit()?;
-        self.calls.reserve(works)?;
-        Ok(seats)
-    }
-
-    // Names, objects, death notifications and notices follow from an exit, and the calls close that it abandoned.
-    pub(crate) fn after_exit(&mut self)
-        requires { frame_count self.old.calls + object_count self.old.objects ≤ work_room self.old.calls }
-        ensures { MakesWithin self.old self.new (λ s. settle (follow s)) }
-    {
-        self.follow();
-        self.settle();
+        let exit = self.begin_process_exit(seats.as_slice(), p)?;
+        Ok((seats, exit))
     }
 
     // A process ends, with its threads, and that is told.
@@ -190,16 +173,17 @@ impl Tables {
         self.tell_deaths(p);
     }
 
-    /// The step that ends a process with all its threads.
+    /// The step that ends a process with all its threads. What it touches is gathered before anything changes.
     pub(crate) fn exit_process(&mut self, a: Actor) -> Result<Plain, Why>
         ensures { IsStep self.old self.new (IsBy a) (λ s. exits.exit_process_step s a) result }
     {
         let p = a.process.made;
-        let Ok(seats) = self.reserve_exit(p) else {
+        let Ok((seats, mut exit)) = self.begin_exit(p) else {
             return Err(Why::NoMemory);
         };
         self.process_goes(seats.as_slice(), p);
-        self.after_exit();
+        self.follow_objects(exit.objects.as_slice());
+        self.close_among(exit.frames.as_mut_slice());
         Ok(Plain::Exited)
     }
 }

@@ -113,16 +113,18 @@ impl Tables {
         self.calls.thread_goes(seat);
     }
 
-    /// The step that ends a thread.
+    /// The step that ends a thread. What it touches is gathered before anything changes.
     pub(crate) fn exit_thread(&mut self, a: Actor) -> Result<Plain, Why>
         ensures { IsStep self.old self.new (IsBy a) (λ s. exits.exit_thread_step s a) result }
     {
-        let objects = self.objects.object_count();
-        if self.reserve(0, 0, 0, objects).is_err() {
+        let seat = a.thread.seat;
+        let Ok(mut exit) = self.begin_thread_exit(seat) else {
             return Err(Why::NoMemory);
-        }
-        self.thread_goes(a.thread.seat);
-        self.after_exit();
+        };
+        self.thread_goes(seat);
+        let objects = exit.objects.as_slice();
+        self.follow_among(a.thread.process, objects, objects);
+        self.close_among(exit.frames.as_mut_slice());
         Ok(Plain::Exited)
     }
 }

@@ -257,7 +257,7 @@ module _ (s : Space) (p : ℕ) (h : IsTidy s) where
       let here : is_on (OfProcess p) w ≡ true = ap (same_list (OfProcess p)) on ∙ eq-eqb p x.0.process (sym is) in
       let not_here = i.1 in cc)))
 
-  ended-parts : Parts no_name (objects_ended s p) s ended
+  pub ended-parts : Parts no_name (objects_ended s p) s ended
   ended-parts =
       let u = tell_deaths-untouched rest p in
       let told = all-tell rest p in

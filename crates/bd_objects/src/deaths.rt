@@ -16,12 +16,6 @@ use crate::table::ObjectTable;
 use bd_space::{DeathNotification, Name, Object, ObjectId, Phase};
 use bd_uapi::Note;
 
-pub(crate) fn is_death_in(deaths: &[DeathNotification], made: u32) -> bool
-    ensures { result ≡ list_any (λ x. x.made == made) deaths.now }
-{
-    deaths.iter().any(|x| x.made == made)
-}
-
 fn death_in(deaths: &[DeathNotification], made: u32) -> Option<DeathNotification>
     ensures { result ≡ find (deaths_of.is_notification made) deaths.now }
 {
@@ -53,15 +47,6 @@ fn told_death_in(deaths: &[DeathNotification], p: u32, cookie: u64) -> Option<De
     ensures { result ≡ find (clearing.is_told_with p cookie) deaths.now }
 {
     deaths.iter().copied().find(|x| is_told(x.phase) && x.process == p && x.cookie == cookie)
-}
-
-fn keep_deaths(deaths: &mut Vec<DeathNotification>, names: &[Name])
-    ensures items { deaths.new.items
-        ≡ filter (λ x. x.cleared || notices.is_name_of names.now x.process x.object) deaths.old.items }
-    ensures len { vec_len deaths.new ≤ vec_len deaths.old }
-    ensures capacity { vec_capacity deaths.new ≡ vec_capacity deaths.old }
-{
-    deaths.retain(|x| x.cleared || is_name_of(names, x.process, x.object));
 }
 
 fn drop_death(deaths: &mut Vec<DeathNotification>, made: u32)
@@ -125,15 +110,6 @@ impl ObjectTable {
     ghost use Rattle.bd_space.specs.Tables.{Tells, Makes, IsAt, MakesWhere};
     ghost use Rattle.bd_objects.specs.Stands.{StandsFor};
     ghost use Rattle.bd_objects.specs.Room.{Uses, UsesNothing, nothing, death_room, death_count};
-
-    /// The uncleared notifications go whose name is gone.
-    #[tactic(auto, unfolding(bd_space::specs::Notices::deaths_go, crate::specs::Room::rooms))]
-    pub fn deaths_go(&mut self)
-        ensures stands { Makes (StandsFor self.old) (StandsFor self.new) notices.deaths_go }
-        ensures uses { UsesNothing self.old self.new }
-    {
-        keep_deaths(&mut self.deaths, self.names.as_slice());
-    }
 
     /// The object that the process asks to be told of, by its number. Errors: no such number, or an uncleared
     /// notification stands on the name already.

@@ -14,7 +14,6 @@ mod objects;
 mod parcels;
 mod reading;
 mod references;
-mod referred;
 mod room;
 mod table;
 mod touched;

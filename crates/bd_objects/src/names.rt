@@ -75,15 +75,6 @@ pub(crate) fn number_in(names: &[Name], p: u32, o: ObjectId) -> Option<u32>
     name_of(names, p, o).map(|m| m.number)
 }
 
-fn keep_named(names: &mut Vec<Name>, objects: &[Object], references: &[Reference])
-    ensures items { names.new.items
-        ≡ filter (λ m. names_of.is_named_in objects.now references.now m.process m.object) names.old.items }
-    ensures capacity { vec_capacity names.new ≡ vec_capacity names.old }
-    ensures len { vec_len names.new ≤ vec_len names.old }
-{
-    names.retain(|m| is_named_in(objects, references, m.process, m.object));
-}
-
 impl ObjectTable {
     ghost use Rattle.bd_space.specs.Tables.{Tells, Makes};
     ghost use Rattle.bd_objects.specs.Stands.{StandsFor};
@@ -115,18 +106,5 @@ impl ObjectTable {
         ensures { Tells (StandsFor self.now) result (λ s. names_of.number_in s.names p o) }
     {
         number_in(self.names.as_slice(), p, o)
-    }
-
-    /// The names go that no reference carries any more.
-    #[tactic(auto, unfolding(bd_space::specs::Names::names_go, crate::specs::Room::rooms))]
-    pub fn names_go(&mut self)
-        ensures stands { Makes (StandsFor self.old) (StandsFor self.new) names_of.names_go }
-        ensures uses { UsesNothing self.old self.new }
-    {
-        keep_named(
-            &mut self.names,
-            self.objects.as_slice(),
-            self.references.as_slice(),
-        );
     }
 }

@@ -74,14 +74,6 @@ pub(crate) fn stays_in(processes: &[Process], references: &[Reference], x: &Obje
     held_in(references, x.id) || (lives_in(processes, x.owner) && (x.told_weak || x.told_strong))
 }
 
-fn keep_objects(objects: &mut Vec<Object>, processes: &[Process], references: &[Reference])
-    ensures items { objects.new.items ≡ filter (refer.stays_in processes.now references.now) objects.old.items }
-    ensures len { vec_len objects.new ≤ vec_len objects.old }
-    ensures capacity { vec_capacity objects.new ≡ vec_capacity objects.old }
-{
-    objects.retain(|x| stays_in(processes, references, x));
-}
-
 fn managed(place: u32) -> ObjectId
     ensures { result ≡ record { place = place; index = 0 } }
 {
@@ -94,22 +86,6 @@ impl ObjectTable {
     ghost use Rattle.bd_space.specs.Tables.{Tells, IsAt, TellsWhere, MakesWhere};
     ghost use Rattle.bd_objects.specs.Stands.{StandsFor, HasProcesses};
     ghost use Rattle.bd_objects.specs.Room.{Uses, UsesNothing, nothing, object_room, reference_room, object_count};
-
-    /// How many objects there are.
-    #[tactic(auto, unfolding(crate::specs::Room::rooms))]
-    pub fn object_count(&self) -> usize
-        ensures count { Tells (StandsFor self.now) result (λ s. length s.objects) }
-        ensures counted { result ≡ object_count self.now }
-    {
-        self.objects.len()
-    }
-
-    /// The object of an index, in the order in which they were made.
-    pub fn object_at(&self, k: usize) -> Option<Object>
-        ensures { Tells (StandsFor self.now) result (λ s. slice_get s.objects k) }
-    {
-        self.objects.get(k).copied()
-    }
 
     /// The object with this identity.
     pub fn object(&self, o: ObjectId) -> Option<Object>
@@ -141,16 +117,6 @@ impl ObjectTable {
         ensures { Tells (StandsFor self.now) result (λ s. refer.own_in s.objects p ptr) }
     {
         own_in(self.objects.as_slice(), p, ptr)
-    }
-
-    /// The objects go that nothing keeps. Takes the live processes.
-    #[tactic(auto, unfolding(bd_space::specs::References::objects_go, crate::specs::Room::rooms))]
-    pub fn objects_go(&mut self, processes: &[Process])
-        ensures stands { MakesWhere (StandsFor self.old) (HasProcesses processes.now) (StandsFor self.new)
-            refer.objects_go }
-        ensures uses { UsesNothing self.old self.new }
-    {
-        keep_objects(&mut self.objects, processes, self.references.as_slice());
     }
 
     /// The context manager's object, with its reference: the object has ptr 0 and cookie 0, and its owner counts as

@@ -17,7 +17,7 @@ overflow_add-self c =
     let s = space_after h in
     let stands = c.in-Ok.ensures.ok.stands s c.self.invariant.stands (always-tidy h) in
     let short : length h.entries < 4294967295 = short-of-full h _ _ c.is_full.ensures c.if-is_full.false c.self.view_is in
-    omega (arith, stands.steps_are, change-steps s c.args.seat c.args.step, place h, short)
+    omega (arith, stands.own.steps_are, change-steps s c.args.seat c.args.step, place h, short)
 
 pub invariant_of-self-in-Ok : goal.invariant_of-self-in-Ok
 invariant_of-self-in-Ok c =

@@ -4,9 +4,7 @@ use Rattle.bd_engine.proofs.tables.Tables.add_buffer.Goals as goal
 pub returns-clause-stands : goal.returns-clause-stands
 unfolding add_buffer
 returns-clause-stands c = λ s h m. record {
-  steps_are = h.steps_are;
-  processes_are = h.processes_are;
-  manager_is = h.manager_is;
+  own = h.own;
   objects_stand = h.objects_stand;
   calls_stand = c.add_turn.ensures.stands s c.args.buffer h.calls_stand c.turn_of.ensures;
   windows_stand = c.add.ensures s h.windows_stand m;

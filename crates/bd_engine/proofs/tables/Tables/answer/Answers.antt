@@ -6,6 +6,7 @@ use Rattle.bd_engine.specs.Stands.{Within}
 use Rattle.bd_engine.proofs.Standing.{numbers-completed}
 use Rattle.bd_engine.proofs.Keeping.{full-if}
 use Rattle.bd_engine.proofs.Afterwards.{replied-followed, replied-ordered}
+use Rattle.bd_engine.proofs.Meeting.{taken-step}
 use Rattle.bd_engine.proofs.tables.Tables.answer.Goals as goal
 
 pub returns-in-Err : goal.returns-in-Err
@@ -16,8 +17,7 @@ returns-in-Err c = record {
 }
 
 pub returns : goal.returns
-returns c = record {
-  ok =
+returns c = taken-step _ _ _ _ _ (
       record {
         answered = λ s h p. refl;
         stands = λ s h p.
@@ -29,7 +29,4 @@ returns c = record {
             ∙ sym (replied-followed s c.args.a c.args.d.now f c.args.v p))
             (c.close_up.ensures (follow_of no_name (is_among c.as_slice.result.now) z)
             (c.follow_objects.ensures.stands z (c.in-Ok-replied.ensures.ok s (c.in-Ok.ensures.stands s h)) (replied-ordered s c.args.a c.args.d.now f c.args.v p)));
-      };
-  err = tt;
-  full = tt;
-}
+      })

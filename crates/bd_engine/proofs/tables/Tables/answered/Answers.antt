@@ -11,4 +11,4 @@ unfolding owe closed
 returns-clause-stands c = λ n s h.
     let z = owe (closed s c.args.f.made) (OfThread c.args.seat) Complete in
     let k = c.owe.ensures.stands n (closed s c.args.f.made) (c.close.ensures.stands n s h) in
-    subst (λ (m : ℕ). StandsAt n c.tell_caller.new.self (tell_caller z c.args.f (Reply m))) (sym k.steps_are) (c.tell_caller.ensures.stands n z k)
+    subst (λ (m : ℕ). StandsAt n c.tell_caller.new.self (tell_caller z c.args.f (Reply m))) (sym k.own.steps_are) (c.tell_caller.ensures.stands n z k)

@@ -4,25 +4,19 @@ use Rattle.bd_space.specs.Names.{has_number_past_limit}
 use Rattle.bd_space.specs.Asking.{ask_step, ask}
 use Rattle.bd_engine.proofs.Accepting.{accepts, notes}
 use Rattle.bd_engine.proofs.Keeping.{full-if}
+use Rattle.bd_engine.proofs.Meeting.{taken-step}
 use Rattle.bd_engine.proofs.tables.Tables.ask.Goals as goal
 
 pub returns-in-Err : goal.returns-in-Err
 unfolding ask_step
-returns-in-Err c = record {
-  ok = notes _ _ _ _ (λ s h by. sym (ap (by_check s (λ o. ask s c.args.a.process.made o c.args.strong)) (c.in-Err.ensures s h.objects_stand h.manager_is)));
-  err = tt;
-  full = tt;
-}
+returns-in-Err c = taken-step _ _ _ _ _ (
+      notes _ _ _ _ (λ s h by. sym (ap (by_check s (λ o. ask s c.args.a.process.made o c.args.strong)) (c.in-Err.ensures s h.objects_stand h.own.manager_is))))
 
 pub returns-in-Ok-add_asked : goal.returns-in-Ok-add_asked
 unfolding ask_step
-returns-in-Ok-add_asked c = record {
-  ok =
+returns-in-Ok-add_asked c = taken-step _ _ _ _ _ (
       accepts _ c.reserve.new.self _ _ _ (λ s. ask s c.args.a.process.made c.in-Ok.o c.args.strong) c.reserve.ensures.stands (λ s h by. c.in-Ok-add_asked.ensures.stands s h by.tidy)
-      (λ s h by. sym (ap (by_check s (λ o. ask s c.args.a.process.made o c.args.strong)) (c.in-Ok.ensures s h.objects_stand h.manager_is)));
-  err = tt;
-  full = tt;
-}
+      (λ s h by. sym (ap (by_check s (λ o. ask s c.args.a.process.made o c.args.strong)) (c.in-Ok.ensures s h.objects_stand h.own.manager_is))))
 
 pub returns-in-Err-add_asked : goal.returns-in-Err-add_asked
 unfolding ask_step
@@ -30,6 +24,6 @@ returns-in-Err-add_asked c = record {
   ok = tt;
   err = λ s h. c.in-Err-add_asked.ensures.kept s (c.reserve.ensures.stands s h);
   full = λ s h by. full-if _ _ (subst (λ (o : Outcome). has_number_past_limit o.space.names ≡ true)
-      (ap (by_check s (λ o. ask s c.args.a.process.made o c.args.strong)) (c.in-Ok.ensures s h.objects_stand h.manager_is))
+      (ap (by_check s (λ o. ask s c.args.a.process.made o c.args.strong)) (c.in-Ok.ensures s h.objects_stand h.own.manager_is))
       (c.in-Err-add_asked.ensures.full s (c.reserve.ensures.stands s h)));
 }

@@ -3,7 +3,7 @@ use Rattle.bd_space.specs.Steps.{change, open_step, attach_step}
 use Rattle.bd_engine.specs.Meets.{IsAny, IsNobody}
 use Rattle.bd_uapi.specs.declared.fault.Fault.TheVariants.{NoProcess}
 use Rattle.bd_space.specs.Outcomes.{Outcome}
-use Rattle.bd_engine.proofs.Meeting.{as-step, meets, in-case, is-refused}
+use Rattle.bd_engine.proofs.Meeting.{taken-step, as-step, meets, in-case, is-refused}
 use Rattle.bd_engine.proofs.Seating.{nobody-changes}
 use Rattle.bd_engine.proofs.tables.Tables.change_alone.Goals as goal
 
@@ -20,9 +20,6 @@ returns-in-Attach c =
     (λ s h by. (by.tidy, ap (change s c.args.seat) c.in-Attach.is)) _ _ c.attach.ensures
 
 pub returns-in_default : goal.returns-in_default
-returns-in_default c = record {
-  ok = meets _ _ _ _ _ (λ s h nobody. in-case _ _ (λ (o : Outcome). o) _ _
-      (nobody-changes s c.args.seat c.args.step.now c.in_default.not-Open c.in_default.not-Attach nobody.nobody) (is-refused _ s NoProcess h));
-  err = tt;
-  full = tt;
-}
+returns-in_default c = taken-step _ _ _ _ _ (
+      meets _ _ _ _ _ (λ s h nobody. in-case _ _ (λ (o : Outcome). o) _ _
+      (nobody-changes s c.args.seat c.args.step.now c.in_default.not-Open c.in_default.not-Attach nobody.nobody) (is-refused _ s NoProcess h)))

@@ -4,9 +4,7 @@ use Rattle.bd_engine.proofs.tables.Tables.drop_buffer.Goals as goal
 pub returns-clause-stands : goal.returns-clause-stands
 unfolding without_buffer
 returns-clause-stands c = λ s h. record {
-  steps_are = h.steps_are;
-  processes_are = h.processes_are;
-  manager_is = h.manager_is;
+  own = h.own;
   objects_stand = c.without_buffer.ensures.stands s h.objects_stand;
   calls_stand = c.drop_turn.ensures.stands s h.calls_stand;
   windows_stand = c.free.ensures s h.windows_stand;

@@ -11,9 +11,7 @@ unfolding deaths_followed deaths_go_of work_goes_of
 returns-clause-stands c = λ s h.
     let a = at_name c.args.p c.args.o in
     record {
-      steps_are = h.steps_are;
-      processes_are = h.processes_are;
-      manager_is = h.manager_is;
+      own = h.own;
       objects_stand = c.deaths_go_with.ensures.stands s h.objects_stand;
       calls_stand = c.retain_work.ensures.kept s
           (λ k. not (is_touched a (λ i. false) s.deaths k) || still_due s.processes s.objects s.references (deaths_go_of a s).deaths k)

@@ -10,9 +10,9 @@ use Rattle.bd_engine.proofs.tables.Tables.known_by.Goals as goal
 pub returns-clause-ok : goal.returns-clause-ok
 returns-clause-ok c =
     on_ok_weaker {Q = (s : Space) → Before c.args.self.now s → Before (record c.args.self.now { objects = c.deliver.new.self }) (known_by s c.args.v.now)} c.deliver.result
-    (λ f s h. known-stands c.args.self.now c.deliver.new.self s c.args.v.now _ _ _ _ c.receiver.ensures c.made.ensures c.items.ensures c.target.ensures h (f s h.objects_stand (h.steps_are, h.manager_is))) c.deliver.ensures.ok
+    (λ f s h. known-stands c.args.self.now c.deliver.new.self s c.args.v.now _ _ _ _ c.receiver.ensures c.made.ensures c.items.ensures c.target.ensures h (f s h.objects_stand (h.own.steps_are, h.own.manager_is))) c.deliver.ensures.ok
 
 pub returns-clause-full : goal.returns-clause-full
 returns-clause-full c =
     on_err_weaker {Q = (s : Space) → Before c.args.self.now s → has_number_past_limit (names_go (known_by s c.args.v.now)).names ≡ true} c.deliver.result
-    (λ f s h. known-full s c.args.v.now _ _ _ _ c.receiver.ensures c.made.ensures c.items.ensures c.target.ensures (f s h.objects_stand (h.steps_are, h.manager_is))) c.deliver.ensures.full
+    (λ f s h. known-full s c.args.v.now _ _ _ _ c.receiver.ensures c.made.ensures c.items.ensures c.target.ensures (f s h.objects_stand (h.own.steps_are, h.own.manager_is))) c.deliver.ensures.full

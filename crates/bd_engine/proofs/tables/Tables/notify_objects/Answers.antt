@@ -30,16 +30,14 @@ loop-o-preserved c =
         stands = λ s h.
             let z = told_of (take k os) s in
             let i = c.loop-o.invariant.stands s h in
-            let asked = c.owner_to_tell-owner.ensures z i.objects_stand (i.processes_are ∙ sym c.as_slice.ensures.value) in
+            let asked = c.owner_to_tell-owner.ensures z i.objects_stand (i.own.processes_are ∙ sym c.as_slice.ensures.value) in
             let t = owner-told (object_in s.objects (get_or os k _)) (wants_notice s.processes s.references) w.in-Some.p (sym asked ∙ w.in-Some.is) in
             let found = find-in (λ (x : Object). same x.id (get_or os k _)) t.0 s.objects t.1 in
             let told = ap (λ (ws : List Work). let y : Space = record s { todo = ws } in y) (told-owner s z.todo (get_or os k _) t.0 w.in-Some.p t.1 t.3) in
             subst (Within _) (told ∙ told-next os k _ s c.loop-o-test.true) (record {
-              steps_are = i.steps_are;
-              processes_are = i.processes_are;
-              manager_is = i.manager_is;
+              own = i.own;
               objects_stand = i.objects_stand;
-              calls_stand = w.add_notice.ensures.stands z t.0 i.calls_stand i.steps_are (same-eq t.0.id _ found.1) (sym t.2);
+              calls_stand = w.add_notice.ensures.stands z t.0 i.calls_stand i.own.steps_are (same-eq t.0.id _ found.1) (sym t.2);
               windows_stand = i.windows_stand;
             });
         uses = search rules;
@@ -48,7 +46,7 @@ loop-o-preserved c =
         stands = λ s h.
             let z = told_of (take k os) s in
             let i = c.loop-o.invariant.stands s h in
-            let asked = c.owner_to_tell-owner.ensures z i.objects_stand (i.processes_are ∙ sym c.as_slice.ensures.value) in
+            let asked = c.owner_to_tell-owner.ensures z i.objects_stand (i.own.processes_are ∙ sym c.as_slice.ensures.value) in
             let told = ap (λ (ws : List Work). let y : Space = record s { todo = ws } in y) (told-nobody s z.todo (get_or os k _) (sym asked ∙ w.in_default.is)) in
             subst (Within _) (told ∙ told-next os k _ s c.loop-o-test.true) i;
         uses = search rules;

@@ -11,11 +11,9 @@ returns-then-tells_death-clause-stands c = λ n s h.
     with-todo s c.args.p c.args.k n _
     (owed-due s c.args.p c.args.k c.in-Some.x (sym (c.death_at.ensures z h.objects_stand) ∙ c.in-Some.is) (sym (c.tells_death.ensures z h.objects_stand) ∙ c.if-tells_death.true))
     (record {
-      steps_are = h.steps_are;
-      processes_are = h.processes_are;
-      manager_is = h.manager_is;
+      own = h.own;
       objects_stand = h.objects_stand;
-      calls_stand = c.owe.ensures.stands z h.calls_stand h.steps_are;
+      calls_stand = c.owe.ensures.stands z h.calls_stand h.own.steps_are;
       windows_stand = h.windows_stand;
     })
 

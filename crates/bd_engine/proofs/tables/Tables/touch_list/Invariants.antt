@@ -10,5 +10,5 @@ use Rattle.bd_engine.proofs.tables.Tables.touch_list.Given as goal
 abbrev pub invariant-loop-k : goal.invariant-loop-k
 invariant-loop-k l = record {
   has : (s : Space) → Before l.self s → Until (λ (w : Work). HasWork l.exit s w.kind) (work_on s.todo (Some l.list)) l.k;
-  grows : Grows l.fn.exit l.exit;
+  grows : (s : Space) → Before l.self s → Grows l.fn.exit l.exit;
 }

@@ -7,5 +7,5 @@ use Rattle.bd_engine.proofs.tables.Tables.touch_threads.Given as goal
 abbrev pub invariant-loop-seat : goal.invariant-loop-seat
 invariant-loop-seat l = record {
   has : (s : Space) → Before l.self s → Until (HasThread l.exit s) l.seats l.seat-index;
-  grows : Grows l.fn.exit l.exit;
+  grows : (s : Space) → Before l.self s → Grows l.fn.exit l.exit;
 }

@@ -7,6 +7,7 @@ use Rattle.bd_engine.specs.Freed.{ripen_next}
 use Rattle.bd_engine.proofs.Standing.{numbers-completed}
 use Rattle.bd_engine.proofs.Keeping.{full-if}
 use Rattle.bd_engine.proofs.Afterwards.{sent-followed, sent-ordered, ripened-ordered}
+use Rattle.bd_engine.proofs.Meeting.{taken-step}
 use Rattle.bd_engine.proofs.tables.Tables.transact.Goals as goal
 
 pub returns-in-Err : goal.returns-in-Err
@@ -17,8 +18,7 @@ returns-in-Err c = record {
 }
 
 pub returns : goal.returns
-returns c = record {
-  ok =
+returns c = taken-step _ _ _ _ _ (
       record {
         answered = λ s h p. refl;
         stands = λ s h p.
@@ -33,7 +33,4 @@ returns c = record {
             (c.follow_objects.ensures.stands (ripen_next target z)
             (c.ripen_next.ensures.stands z (c.in-Ok-transacted.ensures.ok s (c.in-Ok.ensures.stands s h)))
             (ripened-ordered target z (sent-ordered s c.args.a c.args.d.now c.args.v p)));
-      };
-  err = tt;
-  full = tt;
-}
+      })

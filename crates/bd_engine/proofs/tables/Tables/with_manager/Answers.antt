@@ -7,10 +7,12 @@ pub returns : goal.returns
 unfolding with_manager
 returns c = record {
   stands = λ n s h. record {
-    steps_are = h.steps_are;
-    processes_are = h.processes_are;
-    manager_is = ap (λ place. let o : ObjectId = record { place = place; index = 0 } in Some o) h.steps_are;
-    objects_stand = c.with_manager.ensures.stands s h.objects_stand h.steps_are;
+    own = record {
+      steps_are = h.own.steps_are;
+      processes_are = h.own.processes_are;
+      manager_is = ap (λ place. let o : ObjectId = record { place = place; index = 0 } in Some o) h.own.steps_are;
+    };
+    objects_stand = c.with_manager.ensures.stands s h.objects_stand h.own.steps_are;
     calls_stand = h.calls_stand;
     windows_stand = h.windows_stand;
   };

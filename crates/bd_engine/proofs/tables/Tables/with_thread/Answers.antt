@@ -5,11 +5,9 @@ pub returns : goal.returns
 unfolding with_thread
 returns c = record {
   stands = λ n s h. record {
-    steps_are = h.steps_are;
-    processes_are = h.processes_are;
-    manager_is = h.manager_is;
+    own = h.own;
     objects_stand = h.objects_stand;
-    calls_stand = c.add_thread.ensures.stands s h.calls_stand h.steps_are;
+    calls_stand = c.add_thread.ensures.stands s h.calls_stand h.own.steps_are;
     windows_stand = h.windows_stand;
   };
 }

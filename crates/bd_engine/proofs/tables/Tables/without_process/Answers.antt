@@ -7,9 +7,11 @@ use Rattle.bd_engine.proofs.tables.Tables.without_process.Goals as goal
 pub returns-clause-stands : goal.returns-clause-stands
 unfolding without_process
 returns-clause-stands c = λ s h. record {
-  steps_are = h.steps_are;
-  processes_are = ap (filter (λ (q : Process). not (q.made == c.args.p))) h.processes_are ∙ sym c.remove.ensures.items;
-  manager_is = ap (manager_without s.objects c.args.p) h.manager_is ∙ sym (c.manager_without-self.ensures s h.objects_stand);
+  own = record {
+    steps_are = h.own.steps_are;
+    processes_are = ap (filter (λ (q : Process). not (q.made == c.args.p))) h.own.processes_are ∙ sym c.remove.ensures.items;
+    manager_is = ap (manager_without s.objects c.args.p) h.own.manager_is ∙ sym (c.manager_without-self.ensures s h.objects_stand);
+  };
   objects_stand = c.without_process.ensures.stands s h.objects_stand;
   calls_stand = c.process_goes.ensures.stands s h.calls_stand;
   windows_stand = c.close.ensures s h.windows_stand;

@@ -1,8 +1,0 @@
-use Rattle.std.proofs.Common.{rules, tests, ◌||◌}
-use Rattle.std.proofs.lemmas.Fn.{filter_same}
-use Rattle.bd_space.specs.declared.space.DeathNotification.{DeathNotification}
-use Rattle.bd_space.specs.Notices.{is_name_of}
-use Rattle.bd_objects.proofs.deaths.keep_deaths.Goals as goal
-
-pub returns-clause-items : goal.returns-clause-items
-returns-clause-items c = filter_same _ (λ (x : DeathNotification). x.cleared || is_name_of c.args.names.now x.process x.object) _ (λ x b f' k. search (rules, tests)) _ _ c.retain.ensures.filtered
