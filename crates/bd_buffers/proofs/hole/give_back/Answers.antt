@@ -1,7 +1,6 @@
 use Rattle.std.proofs.Common.{◌≡◌, ◌≤◌, ◌<◌, ap, ◌∙◌, sym, arith, length, subst, List, ℕ, get_or}
 use Rattle.std.specs.List.Sorted.{IsNonDecreasingBy}
 use Rattle.bd_buffers.specs.declared.hole.Hole.{Hole}
-use Rattle.bd_buffers.specs.Holes.{Free}
 use Rattle.bd_buffers.proofs.Split.{before_of, in_order, free_is, released_touch, released_else}
 use Rattle.std.proofs.lemmas.List.{get_or_default}
 use Rattle.bd_buffers.proofs.hole.give_back.Goals as goal

@@ -1,4 +1,4 @@
-use Rattle.std.proofs.Common.{◌≡◌, ◌≤◌, ◌<◌, ap, ◌∙◌, sym, arith, length, subst, List}
+use Rattle.std.proofs.Common.{◌≤◌, ◌<◌, ap, ◌∙◌, sym, arith, length, subst, List}
 use Rattle.std.specs.List.Sorted.{IsNonDecreasingBy}
 use Rattle.bd_buffers.specs.declared.hole.Hole.{Hole}
 use Rattle.bd_buffers.specs.Holes.{Free}
