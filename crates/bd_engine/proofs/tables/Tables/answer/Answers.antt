@@ -18,15 +18,15 @@ returns-in-Err c = record {
 
 pub returns : goal.returns
 returns c = taken-step _ _ _ _ _ (
-      record {
-        answered = λ s h p. refl;
-        stands = λ s h p.
-            let f = c.args.f in
-            let z = replied s c.args.a c.args.d.now f c.args.v in
-            let looked = ap is_among c.as_slice.ensures.value ∙ c.in-Ok.ensures.touched.among in
-            subst (Within c.close_up.new.self)
-            (ap (λ (b : ObjectTest). let y : Space = follow_of no_name b z in close_up (length y.frames) f.parent y) looked
-            ∙ sym (replied-followed s c.args.a c.args.d.now f c.args.v p))
-            (c.close_up.ensures (follow_of no_name (is_among c.as_slice.result.now) z)
-            (c.follow_objects.ensures.stands z (c.in-Ok-replied.ensures.ok s (c.in-Ok.ensures.stands s h)) (replied-ordered s c.args.a c.args.d.now f c.args.v p)));
-      })
+    record {
+      answered = λ s h p. refl;
+      stands = λ s h p.
+          let f = c.args.f in
+          let z = replied s c.args.a c.args.d.now f c.args.v in
+          let looked = ap is_among c.as_slice.ensures.value ∙ c.in-Ok.ensures.touched.among in
+          subst (Within c.close_up.new.self)
+          (ap (λ (b : ObjectTest). let y : Space = follow_of no_name b z in close_up (length y.frames) f.parent y) looked
+          ∙ sym (replied-followed s c.args.a c.args.d.now f c.args.v p))
+          (c.close_up.ensures (follow_of no_name (is_among c.as_slice.result.now) z)
+          (c.follow_objects.ensures.stands z (c.in-Ok-replied.ensures.ok s (c.in-Ok.ensures.stands s h)) (replied-ordered s c.args.a c.args.d.now f c.args.v p)));
+    })

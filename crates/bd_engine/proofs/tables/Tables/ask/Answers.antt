@@ -10,13 +10,13 @@ use Rattle.bd_engine.proofs.tables.Tables.ask.Goals as goal
 pub returns-in-Err : goal.returns-in-Err
 unfolding ask_step
 returns-in-Err c = taken-step _ _ _ _ _ (
-      notes _ _ _ _ (λ s h by. sym (ap (by_check s (λ o. ask s c.args.a.process.made o c.args.strong)) (c.in-Err.ensures s h.objects_stand h.own.manager_is))))
+    notes _ _ _ _ (λ s h by. sym (ap (by_check s (λ o. ask s c.args.a.process.made o c.args.strong)) (c.in-Err.ensures s h.objects_stand h.own.manager_is))))
 
 pub returns-in-Ok-add_asked : goal.returns-in-Ok-add_asked
 unfolding ask_step
 returns-in-Ok-add_asked c = taken-step _ _ _ _ _ (
-      accepts _ c.reserve.new.self _ _ _ (λ s. ask s c.args.a.process.made c.in-Ok.o c.args.strong) c.reserve.ensures.stands (λ s h by. c.in-Ok-add_asked.ensures.stands s h by.tidy)
-      (λ s h by. sym (ap (by_check s (λ o. ask s c.args.a.process.made o c.args.strong)) (c.in-Ok.ensures s h.objects_stand h.own.manager_is))))
+    accepts _ c.reserve.new.self _ _ _ (λ s. ask s c.args.a.process.made c.in-Ok.o c.args.strong) c.reserve.ensures.stands (λ s h by. c.in-Ok-add_asked.ensures.stands s h by.tidy)
+    (λ s h by. sym (ap (by_check s (λ o. ask s c.args.a.process.made o c.args.strong)) (c.in-Ok.ensures s h.objects_stand h.own.manager_is))))
 
 pub returns-in-Err-add_asked : goal.returns-in-Err-add_asked
 unfolding ask_step

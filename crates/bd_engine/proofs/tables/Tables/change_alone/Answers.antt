@@ -21,5 +21,5 @@ returns-in-Attach c =
 
 pub returns-in_default : goal.returns-in_default
 returns-in_default c = taken-step _ _ _ _ _ (
-      meets _ _ _ _ _ (λ s h nobody. in-case _ _ (λ (o : Outcome). o) _ _
-      (nobody-changes s c.args.seat c.args.step.now c.in_default.not-Open c.in_default.not-Attach nobody.nobody) (is-refused _ s NoProcess h)))
+    meets _ _ _ _ _ (λ s h nobody. in-case _ _ (λ (o : Outcome). o) _ _
+    (nobody-changes s c.args.seat c.args.step.now c.in_default.not-Open c.in_default.not-Attach nobody.nobody) (is-refused _ s NoProcess h)))

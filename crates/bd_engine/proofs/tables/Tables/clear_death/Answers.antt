@@ -10,11 +10,11 @@ use Rattle.bd_engine.proofs.tables.Tables.clear_death.Goals as goal
 pub returns-in-Err : goal.returns-in-Err
 unfolding clear_step
 returns-in-Err c = taken-step _ _ _ _ _ (
-      notes _ _ _ _ (λ s h by. sym (ap (by_check s (cleared s c.args.a.thread.seat)) (c.in-Err.ensures s h.objects_stand))))
+    notes _ _ _ _ (λ s h by. sym (ap (by_check s (cleared s c.args.a.thread.seat)) (c.in-Err.ensures s h.objects_stand))))
 
 pub returns : goal.returns
 unfolding clear_step
 returns c = taken-step _ _ _ _ _ (
-      accepts-alone _ c.reserve.new.self _ _ _ (λ s. cleared s c.args.a.thread.seat c.in-Ok.x) c.reserve.ensures.stands c.drop_request.ensures
-      (λ s h by. cleared-local s c.args.a.thread.seat c.in-Ok.x by.tidy (cleared-there s c.args.a.process.made c.args.n c.args.cookie c.in-Ok.x (sym (c.in-Ok.ensures s h.objects_stand))))
-      (λ s h by. sym (ap (by_check s (cleared s c.args.a.thread.seat)) (c.in-Ok.ensures s h.objects_stand))))
+    accepts-alone _ c.reserve.new.self _ _ _ (λ s. cleared s c.args.a.thread.seat c.in-Ok.x) c.reserve.ensures.stands c.drop_request.ensures
+    (λ s h by. cleared-local s c.args.a.thread.seat c.in-Ok.x by.tidy (cleared-there s c.args.a.process.made c.args.n c.args.cookie c.in-Ok.x (sym (c.in-Ok.ensures s h.objects_stand))))
+    (λ s h by. sym (ap (by_check s (cleared s c.args.a.thread.seat)) (c.in-Ok.ensures s h.objects_stand))))

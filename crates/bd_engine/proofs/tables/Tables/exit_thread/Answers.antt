@@ -8,9 +8,9 @@ use Rattle.bd_engine.proofs.tables.Tables.exit_thread.Goals as goal
 pub returns : goal.returns
 unfolding exit_thread_step
 returns c = taken-step _ _ _ _ _ (
-      meets _ _ _ _ _ (λ s h by. record {
-        answered = refl;
-        stands =
-            thread-ends _ _ _ s c.args.a c.in-Ok.exit _ _ c.as_slice-objects.ensures.value c.as_mut_slice.ensures.value by (c.in-Ok.ensures.has s h)
-            (c.thread_goes.ensures.stands s (within _ s (c.begin_thread_exit.ensures.stands s h))) c.follow_among.ensures.stands c.close_among.ensures;
-      }))
+    meets _ _ _ _ _ (λ s h by. record {
+      answered = refl;
+      stands =
+          thread-ends _ _ _ s c.args.a c.in-Ok.exit _ _ c.as_slice-objects.ensures.value c.as_mut_slice.ensures.value by (c.in-Ok.ensures.has s h)
+          (c.thread_goes.ensures.stands s (within _ s (c.begin_thread_exit.ensures.stands s h))) c.follow_among.ensures.stands c.close_among.ensures;
+    }))

@@ -40,10 +40,10 @@ by_check s (Some b) = if_handed s b.made b.handed
 pub returns-in-Err : goal.returns-in-Err
 unfolding free_step
 returns-in-Err c = taken-step _ _ _ _ _ (
-      notes _ _ _ _ (λ s h by.
-      let p = c.args.a.process.made in
-      let checked = c.in-Err.ensures s c.args.a.process (within c.args.self.now s h) (process-of s c.args.a.thread.seat c.args.a by.acts) in
-      sym (ap (freed_outcome s) checked ∙ by_check s (buffer_at_pointer s p c.args.pointer))))
+    notes _ _ _ _ (λ s h by.
+    let p = c.args.a.process.made in
+    let checked = c.in-Err.ensures s c.args.a.process (within c.args.self.now s h) (process-of s c.args.a.thread.seat c.args.a by.acts) in
+    sym (ap (freed_outcome s) checked ∙ by_check s (buffer_at_pointer s p c.args.pointer))))
 
 pub returns : goal.returns
 unfolding free_step

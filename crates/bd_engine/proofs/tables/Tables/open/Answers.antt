@@ -7,15 +7,15 @@ use Rattle.bd_engine.proofs.tables.Tables.open.Goals as goal
 pub returns-in-Some : goal.returns-in-Some
 unfolding open_step
 returns-in-Some c = taken-step _ _ _ _ _ (
-      meets _ _ _ _ _ (λ s h by.
-      in-case _ _ (open_outcome s c.args.seat c.args.pid c.args.euid c.args.size) _ _ (sym (c.open_fault.ensures.fault s h) ∙ c.in-Some.is)
-      (is-refused _ s c.in-Some.fault h)))
+    meets _ _ _ _ _ (λ s h by.
+    in-case _ _ (open_outcome s c.args.seat c.args.pid c.args.euid c.args.size) _ _ (sym (c.open_fault.ensures.fault s h) ∙ c.in-Some.is)
+    (is-refused _ s c.in-Some.fault h)))
 
 pub returns : goal.returns
 unfolding open_step with_process with_thread
 returns c = taken-step _ _ _ _ _ (
-      meets _ _ _ _ _ (λ s h by.
-      let opened = c.with_process.ensures.stands s (c.reserve_process.ensures.stands s h) c.in-Ok.ensures.window in
-      let both = c.with_thread.ensures.stands (s.steps + 1) _ opened in
-      in-case _ _ (open_outcome s c.args.seat c.args.pid c.args.euid c.args.size) _ _ (sym (c.open_fault.ensures.fault s h) ∙ c.in_default.is)
-      (record { answered = refl; stands = subst (λ p. StandsAt (s.steps + 1) c.with_thread.new.self (with_thread (with_process s c.args.pid c.args.euid c.args.size) c.args.seat p)) (sym opened.own.steps_are) both })))
+    meets _ _ _ _ _ (λ s h by.
+    let opened = c.with_process.ensures.stands s (c.reserve_process.ensures.stands s h) c.in-Ok.ensures.window in
+    let both = c.with_thread.ensures.stands (s.steps + 1) _ opened in
+    in-case _ _ (open_outcome s c.args.seat c.args.pid c.args.euid c.args.size) _ _ (sym (c.open_fault.ensures.fault s h) ∙ c.in_default.is)
+    (record { answered = refl; stands = subst (λ p. StandsAt (s.steps + 1) c.with_thread.new.self (with_thread (with_process s c.args.pid c.args.euid c.args.size) c.args.seat p)) (sym opened.own.steps_are) both })))

@@ -9,11 +9,11 @@ use Rattle.bd_engine.proofs.tables.Tables.request_death.Goals as goal
 pub returns-in-Err : goal.returns-in-Err
 unfolding request_step
 returns-in-Err c = taken-step _ _ _ _ _ (
-      notes _ _ _ _ (λ s h by. sym (ap (by_check s (λ o. requested s c.args.a.process.made o c.args.cookie)) (c.in-Err.ensures s h.objects_stand))))
+    notes _ _ _ _ (λ s h by. sym (ap (by_check s (λ o. requested s c.args.a.process.made o c.args.cookie)) (c.in-Err.ensures s h.objects_stand))))
 
 pub returns : goal.returns
 unfolding request_step
 returns c = taken-step _ _ _ _ _ (
-      accepts-alone _ c.reserve.new.self _ _ _ (λ s. requested s c.args.a.process.made c.in-Ok.o c.args.cookie) c.reserve.ensures.stands c.add_request.ensures
-      (λ s h by. requested-local s c.args.a.process.made c.args.n c.args.cookie c.in-Ok.o by.tidy.quiet (sym (c.in-Ok.ensures s h.objects_stand)))
-      (λ s h by. sym (ap (by_check s (λ o. requested s c.args.a.process.made o c.args.cookie)) (c.in-Ok.ensures s h.objects_stand))))
+    accepts-alone _ c.reserve.new.self _ _ _ (λ s. requested s c.args.a.process.made c.in-Ok.o c.args.cookie) c.reserve.ensures.stands c.add_request.ensures
+    (λ s h by. requested-local s c.args.a.process.made c.args.n c.args.cookie c.in-Ok.o by.tidy.quiet (sym (c.in-Ok.ensures s h.objects_stand)))
+    (λ s h by. sym (ap (by_check s (λ o. requested s c.args.a.process.made o c.args.cookie)) (c.in-Ok.ensures s h.objects_stand))))

@@ -8,13 +8,13 @@ use Rattle.bd_engine.proofs.tables.Tables.set_manager.Goals as goal
 pub returns-then-is_manager_busy : goal.returns-then-is_manager_busy
 unfolding manager_step
 returns-then-is_manager_busy c = taken-step _ _ _ _ _ (
-      meets _ _ _ _ _ (λ s h by.
-      in-case _ _ (manager_outcome s c.args.a.process.made) _ _ (sym (c.is_manager_busy.ensures s h) ∙ c.if-is_manager_busy.true)
-      (is-refused _ s ManagerBusy h)))
+    meets _ _ _ _ _ (λ s h by.
+    in-case _ _ (manager_outcome s c.args.a.process.made) _ _ (sym (c.is_manager_busy.ensures s h) ∙ c.if-is_manager_busy.true)
+    (is-refused _ s ManagerBusy h)))
 
 pub returns : goal.returns
 unfolding manager_step with_manager
 returns c = taken-step _ _ _ _ _ (
-      meets _ _ _ _ _ (λ s h by.
-      in-case _ _ (manager_outcome s c.args.a.process.made) _ _ (sym (c.is_manager_busy.ensures s h) ∙ c.if-is_manager_busy.false)
-      (record { answered = refl; stands = c.with_manager.ensures.stands (s.steps + 1) s (within _ s (c.reserve.ensures.stands s h)) })))
+    meets _ _ _ _ _ (λ s h by.
+    in-case _ _ (manager_outcome s c.args.a.process.made) _ _ (sym (c.is_manager_busy.ensures s h) ∙ c.if-is_manager_busy.false)
+    (record { answered = refl; stands = c.with_manager.ensures.stands (s.steps + 1) s (within _ s (c.reserve.ensures.stands s h)) })))

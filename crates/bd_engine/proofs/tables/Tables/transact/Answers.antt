@@ -19,18 +19,18 @@ returns-in-Err c = record {
 
 pub returns : goal.returns
 returns c = taken-step _ _ _ _ _ (
-      record {
-        answered = λ s h p. refl;
-        stands = λ s h p.
-            let z = transacted s c.args.a c.args.d.now c.args.v in
-            let target = c.one_way_target-target.result in
-            let sent = objects_of_items c.args.v.sending.items in
-            let looked = ap is_among c.as_slice.ensures.value ∙ c.in-Ok.ensures.touched.among in
-            subst (Within c.follow_objects.new.self)
-            (ap (λ (b : ObjectTest). follow_of no_name b (ripen_next target z)) looked
-            ∙ ap (λ (o : Option ObjectId). follow_of no_name sent (ripen_next o z)) c.one_way_target-target.ensures
-            ∙ sym (sent-followed s c.args.a c.args.d.now c.args.v p))
-            (c.follow_objects.ensures.stands (ripen_next target z)
-            (c.ripen_next.ensures.stands z (c.in-Ok-transacted.ensures.ok s (c.in-Ok.ensures.stands s h)))
-            (ripened-ordered target z (sent-ordered s c.args.a c.args.d.now c.args.v p)));
-      })
+    record {
+      answered = λ s h p. refl;
+      stands = λ s h p.
+          let z = transacted s c.args.a c.args.d.now c.args.v in
+          let target = c.one_way_target-target.result in
+          let sent = objects_of_items c.args.v.sending.items in
+          let looked = ap is_among c.as_slice.ensures.value ∙ c.in-Ok.ensures.touched.among in
+          subst (Within c.follow_objects.new.self)
+          (ap (λ (b : ObjectTest). follow_of no_name b (ripen_next target z)) looked
+          ∙ ap (λ (o : Option ObjectId). follow_of no_name sent (ripen_next o z)) c.one_way_target-target.ensures
+          ∙ sym (sent-followed s c.args.a c.args.d.now c.args.v p))
+          (c.follow_objects.ensures.stands (ripen_next target z)
+          (c.ripen_next.ensures.stands z (c.in-Ok-transacted.ensures.ok s (c.in-Ok.ensures.stands s h)))
+          (ripened-ordered target z (sent-ordered s c.args.a c.args.d.now c.args.v p)));
+    })
