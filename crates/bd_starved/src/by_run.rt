@@ -49,6 +49,19 @@ fn run<W: Write>(
     }
 }
 
+// Runs the rest of a request, of which memory left the first commands.
+fn run_rest<W: Write>(
+    alloc: Global,
+    engine: &mut Engine,
+    seat: u32,
+    first: &Ran,
+    rest: &Request,
+    out: &mut W,
+) -> Result<Ran, Broken> {
+    let second = run(engine, seat, rest, out)?;
+    joined(alloc, first, &second)
+}
+
 // Runs a request, and the rest of it where memory stopped it after some commands.
 fn run_whole<W: Write>(
     alloc: Global,
@@ -60,7 +73,7 @@ fn run_whole<W: Write>(
     let first = run(engine, seat, request, out)?;
     match rest_after(alloc, &first, request)? {
         None => Ok(first),
-        Some(rest) => joined(alloc, &first, &run(engine, seat, &rest, out)?),
+        Some(rest) => run_rest(alloc, engine, seat, &first, &rest, out),
     }
 }
 

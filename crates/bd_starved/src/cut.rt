@@ -56,7 +56,25 @@ fn print_write<W: Write>(
     Ok(())
 }
 
-// Writes it again and again, which memory may each time leave whole, stop after its first command, or give back.
+// Writes it, which memory may leave whole, stop after its first command, or give back.
+fn write_once<W: Write>(
+    alloc: Global,
+    driver: &Driver,
+    seat: &mut Seat,
+    out: &mut W,
+) -> Result<(), Broken>
+    requires { seat.old.table ≡ driver.now.table }
+    ensures { seat.new.table ≡ seat.old.table }
+{
+    let request = write_of_two(alloc)?;
+    if seat.is_waiting() {
+        return Err(Broken::Never("something is handed over"));
+    }
+    let outcome = driver.call(seat, request);
+    print_outcome(&outcome, out)
+}
+
+// Writes it again and again.
 fn write_all<W: Write>(
     alloc: Global,
     driver: &Driver,
@@ -67,11 +85,7 @@ fn write_all<W: Write>(
     ensures { seat.new.table ≡ seat.old.table }
 {
     for _round in 0..WRITES {
-        let request = write_of_two(alloc)?;
-        if seat.is_waiting() {
-            return Err(Broken::Never("something is handed over"));
-        }
-        print_outcome(&driver.call(seat, request), out)?;
+        write_once(alloc, driver, seat, out)?;
     }
     Ok(())
 }
