@@ -5,7 +5,7 @@ ghost use Rattle.std.specs.Prelude.{◌≡◌, All};
 use crate::broken::Broken;
 use crate::by_call::{call_whole, driver_for};
 use crate::by_hand_over::hand_over_whole;
-use crate::by_run::{print_ran, script_of};
+use crate::by_run::{print_ran, script_of, seats_of};
 use bd_driver::{Driver, Seat};
 use bd_engine::Ran;
 use bd_script::{Line, Verb};
@@ -113,8 +113,7 @@ pub fn play_by_driver<W: Write>(
     way: Way,
     out: &mut W,
 ) -> Result<Record, Broken> {
-    let script = script_of(alloc, text)?;
-    let (driver, mut seats) = driver_for(alloc, script.seats)?;
+    let (driver, mut seats) = driver_for(alloc, seats_of(alloc, text)?)?;
     play_lines(alloc, &driver, &mut seats, text, way, out)?;
     Ok(driver.finish(seats))
 }

@@ -15,6 +15,11 @@ pub fn script_of(alloc: Global, text: &[u8]) -> Result<Script, Broken> {
     Ok(again!(read_script(alloc, text), ScriptError::Memory)?)
 }
 
+/// How many seats a script has.
+pub fn seats_of(alloc: Global, text: &[u8]) -> Result<u32, Broken> {
+    Ok(script_of(alloc, text)?.seats)
+}
+
 /// An engine for so many seats.
 pub fn engine_for(alloc: Global, seats: u32) -> Result<Engine, Broken> {
     match Engine::new(alloc, seats) {
