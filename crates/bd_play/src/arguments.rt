@@ -120,14 +120,14 @@ fn journal_arg<'a>(alloc: Global) -> Arg<'a> {
 
 // The command with the words that only a run has. Each is made when the one before has its place: what lives across few
 // calls is proved in a tenth of the time.
-fn with_manner(alloc: Global, command: Command<'_>) -> Result<Command<'_>, Error> {
+fn with_manner(alloc: Global, command: Command<'_>) -> Result<Command<'_>, AllocError> {
     command
         .arg(threads_arg(alloc))?
         .arg(turns_arg(alloc))?
         .arg(journal_arg(alloc))
 }
 
-fn run_command<'a>(alloc: Global) -> Result<Command<'a>, Error> {
+fn run_command<'a>(alloc: Global) -> Result<Command<'a>, AllocError> {
     let command = Command::new(alloc, "run")
         .about("Plays a script")
         .after_help(RUN_HELP)
@@ -135,7 +135,7 @@ fn run_command<'a>(alloc: Global) -> Result<Command<'a>, Error> {
     with_manner(alloc, command)
 }
 
-fn check_command<'a>(alloc: Global) -> Result<Command<'a>, Error> {
+fn check_command<'a>(alloc: Global) -> Result<Command<'a>, AllocError> {
     Command::new(alloc, "check")
         .about("Judges a journal")
         .after_help(CHECK_HELP)
@@ -153,12 +153,12 @@ fn program<'a>(alloc: Global) -> Result<Command<'a>, Error> {
     )
 }
 
-fn with_run(alloc: Global, program: Command<'_>) -> Result<Command<'_>, Error> {
+fn with_run(alloc: Global, program: Command<'_>) -> Result<Command<'_>, AllocError> {
     let run = run_command(alloc)?;
     program.subcommand(run)
 }
 
-fn with_check(alloc: Global, program: Command<'_>) -> Result<Command<'_>, Error> {
+fn with_check(alloc: Global, program: Command<'_>) -> Result<Command<'_>, AllocError> {
     let check = check_command(alloc)?;
     program.subcommand(check)
 }
