@@ -96,78 +96,49 @@ fn file_arg<'a>(alloc: Global, help: &'a str) -> Arg<'a> {
         .help(help)
 }
 
-fn threads_arg<'a>(alloc: Global) -> Arg<'a> {
-    Arg::new(alloc, "threads")
+fn run_command<'a>(alloc: Global) -> Result<Command<'a>, Error> {
+    let file = file_arg(alloc, "The script, or - for standard input");
+    let threads = Arg::new(alloc, "threads")
         .long("threads")
         .action(ArgAction::SetTrue)
-        .help("Run each seat's lines on a thread of their own, and print seat by seat")
-}
-
-fn turns_arg<'a>(alloc: Global) -> Arg<'a> {
-    Arg::new(alloc, "turns")
+        .help("Run each seat's lines on a thread of their own, and print seat by seat");
+    let turns = Arg::new(alloc, "turns")
         .long("turns")
         .value_name("N")
         .value_parser(value_parser!(u32).range(1..))
-        .help("How many turns a line has, 1 to 4294967295 [default: 100000000]")
-}
-
-fn journal_arg<'a>(alloc: Global) -> Arg<'a> {
-    Arg::new(alloc, "journal")
+        .help("How many turns a line has, 1 to 4294967295 [default: 100000000]");
+    let journal = Arg::new(alloc, "journal")
         .long("journal")
         .value_name("OUT")
-        .help("Write the journal of the run here")
-}
-
-// The command with the words that only a run has. Each is made when the one before has its place: what lives across few
-// calls is proved in a tenth of the time.
-fn with_manner(alloc: Global, command: Command<'_>) -> Result<Command<'_>, AllocError> {
-    command
-        .arg(threads_arg(alloc))?
-        .arg(turns_arg(alloc))?
-        .arg(journal_arg(alloc))
-}
-
-fn run_command<'a>(alloc: Global) -> Result<Command<'a>, AllocError> {
+        .help("Write the journal of the run here");
     let command = Command::new(alloc, "run")
         .about("Plays a script")
         .after_help(RUN_HELP)
-        .arg(file_arg(alloc, "The script, or - for standard input"))?;
-    with_manner(alloc, command)
+        .arg(file)?
+        .arg(threads)?
+        .arg(turns)?
+        .arg(journal)?;
+    Ok(command)
 }
 
-fn check_command<'a>(alloc: Global) -> Result<Command<'a>, AllocError> {
-    Command::new(alloc, "check")
+fn check_command<'a>(alloc: Global) -> Result<Command<'a>, Error> {
+    let file = file_arg(alloc, "The journal, or - for standard input");
+    let command = Command::new(alloc, "check")
         .about("Judges a journal")
         .after_help(CHECK_HELP)
-        .arg(file_arg(alloc, "The journal, or - for standard input"))
-}
-
-// The program, without its commands.
-fn program<'a>(alloc: Global) -> Result<Command<'a>, Error> {
-    let command = Command::new(alloc, "bplay").bin_name("bplay")?;
-    Ok(
-        command
-            .about(ABOUT)
-            .after_help(PROGRAM_HELP)
-            .subcommand_required(true),
-    )
-}
-
-fn with_run(alloc: Global, program: Command<'_>) -> Result<Command<'_>, AllocError> {
-    let run = run_command(alloc)?;
-    program.subcommand(run)
-}
-
-fn with_check(alloc: Global, program: Command<'_>) -> Result<Command<'_>, AllocError> {
-    let check = check_command(alloc)?;
-    program.subcommand(check)
+        .arg(file)?;
+    Ok(command)
 }
 
 fn matches_of<'a>(alloc: Global, words: &'a [String]) -> Result<ArgMatches<'a>, Error> {
-    let program = program(alloc)?;
-    let program = with_run(alloc, program)?;
-    let program = with_check(alloc, program)?;
-    program.try_get_matches_from(words)
+    let command = Command::new(alloc, "bplay")
+        .bin_name("bplay")?
+        .about(ABOUT)
+        .after_help(PROGRAM_HELP)
+        .subcommand_required(true)
+        .subcommand(run_command(alloc)?)?
+        .subcommand(check_command(alloc)?)?;
+    command.try_get_matches_from(words)
 }
 
 // In which manner a script is to be played.
