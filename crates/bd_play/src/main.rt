@@ -40,24 +40,44 @@ fn obey<H: AllocGlobal + Files + Input + Threads + Wait + Sync, W: Write + Drop,
     status.max(ended(out.end(), err))
 }
 
-fn run<H: Runtime<A = Global> + Threads + Wait + Sync, E: Write>(rt: &H, err: &mut E) -> u8 {
-    let args = match env::args(rt) {
-        Ok(args) => args,
-        Err(error) => return tell(Fault::Arguments.or_memory(&error), err),
-    };
-    let Ok(words) = args.collect::<Vec<String>>(rt.alloc()) else {
-        return tell(Fault::Memory, err);
-    };
-    let order = match order_of(rt.alloc(), words.as_slice()) {
-        Ok(order) => order,
-        Err(Refused::Fault(fault)) => return tell(fault, err),
-        Err(Refused::Help(help)) => {
-            return ended(help.print(rt).map_err(|_| Fault::Output), err);
-        }
-    };
+// The words of the program.
+fn words<H: Runtime<A = Global>>(rt: &H) -> Result<Vec<String>, Fault> {
+    match env::args(rt) {
+        Ok(args) => args
+            .collect::<Vec<String>>(rt.alloc())
+            .map_err(|_| Fault::Memory),
+        Err(error) => Err(Fault::Arguments.or_memory(&error)),
+    }
+}
+
+// The status where there is no order: what is amiss is told, or help is printed.
+fn refuse<H: Runtime<A = Global>, E: Write>(rt: &H, refused: Refused, err: &mut E) -> u8 {
+    match refused {
+        Refused::Fault(fault) => tell(fault, err),
+        Refused::Help(help) => ended(help.print(rt).map_err(|_| Fault::Output), err),
+    }
+}
+
+// Does what was ordered, and prints to standard output.
+fn print<H: Runtime<A = Global> + Threads + Wait + Sync, E: Write>(
+    rt: &H,
+    order: Order<'_>,
+    err: &mut E,
+) -> u8 {
     match BufWriter::new(rt.alloc(), io::writer(rt)) {
         Ok(out) => obey(rt, order, &mut Output::new(out), err),
         Err(_) => tell(Fault::Memory, err),
+    }
+}
+
+fn run<H: Runtime<A = Global> + Threads + Wait + Sync, E: Write>(rt: &H, err: &mut E) -> u8 {
+    let words = match words(rt) {
+        Ok(words) => words,
+        Err(fault) => return tell(fault, err),
+    };
+    match order_of(rt.alloc(), words.as_slice()) {
+        Ok(order) => print(rt, order, err),
+        Err(refused) => refuse(rt, refused, err),
     }
 }
 

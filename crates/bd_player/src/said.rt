@@ -6,7 +6,7 @@ ghost use Rattle.bd_player.specs.Workers.{said_of, said_status};
 use crate::faults::{DONE, MEMORY, TURNS};
 use bd_driver::{Outcome, Page, Served, Why};
 use bd_journal::{cause_number, fault_number, note_number};
-use bd_space::{Answer, Stop};
+use bd_space::{Answer, Bytes, Notes, Stop};
 use std::fmt;
 
 /// What came of a line.
@@ -89,6 +89,38 @@ impl fmt::Display for StopText {
     }
 }
 
+// What a write left out, each with the index of its command.
+fn print_notes<W: fmt::Write>(notes: &Notes, f: &mut fmt::Formatter<W>) -> fmt::Result {
+    for (index, note) in notes.as_slice() {
+        let number = note_number(*note);
+        write!(f, " {index}:N{number}")?;
+    }
+    Ok(())
+}
+
+fn print_stop<W: fmt::Write>(stop: Option<Stop>, f: &mut fmt::Formatter<W>) -> fmt::Result {
+    match stop {
+        Some(stop) => {
+            let stop = StopText(stop);
+            write!(f, "{stop}")
+        }
+        None => Ok(()),
+    }
+}
+
+// What was read: returns, and a parcel.
+fn print_got<W: fmt::Write>(
+    stream: &Bytes,
+    bytes: &Bytes,
+    offsets: &Bytes,
+    f: &mut fmt::Formatter<W>,
+) -> fmt::Result {
+    let stream = Hex(stream.as_slice());
+    let bytes = Hex(bytes.as_slice());
+    let offsets = Hex(offsets.as_slice());
+    write!(f, "got {stream} {bytes} {offsets}")
+}
+
 // An answer with its places.
 #[derive(Drop)]
 struct AnswerText<'a>(&'a Answer, u32, u32);
@@ -106,27 +138,16 @@ impl fmt::Display for AnswerText<'_> {
                 stop,
             } => {
                 write!(f, "wrote {consumed} {from} {to}")?;
-                for (index, note) in notes.as_slice() {
-                    let number = note_number(*note);
-                    write!(f, " {index}:N{number}")?;
-                }
-                match stop {
-                    Some(stop) => {
-                        let stop = StopText(*stop);
-                        write!(f, "{stop}")
-                    }
-                    None => Ok(()),
-                }
+                print_notes(notes, f)?;
+                print_stop(*stop, f)
             }
             Answer::Got {
                 stream,
                 bytes,
                 offsets,
             } => {
-                let stream = Hex(stream.as_slice());
-                let bytes = Hex(bytes.as_slice());
-                let offsets = Hex(offsets.as_slice());
-                write!(f, "got {stream} {bytes} {offsets} {from} {to}")
+                print_got(stream, bytes, offsets, f)?;
+                write!(f, " {from} {to}")
             }
             Answer::Refused(fault) => {
                 let number = fault_number(*fault);
@@ -136,6 +157,23 @@ impl fmt::Display for AnswerText<'_> {
     }
 }
 
+// Why a request came back. One that found the driver taken has used its turns up.
+fn back_text(why: Why) -> &'static str {
+    match why {
+        Why::NoMemory => "back memory",
+        Why::HistoryFull => "back full",
+        Why::Withdrawn => "back withdrawn",
+        Why::Taken => "turns",
+    }
+}
+
+fn print_page<W: fmt::Write>(page: &Page, f: &mut fmt::Formatter<W>) -> fmt::Result {
+    let stamp = page.stamp;
+    let ready = page.ready;
+    let taken = u8::from(page.taken);
+    write!(f, "page {stamp} {ready} {taken}")
+}
+
 impl fmt::Display for Said {
     fn fmt<W: fmt::Write>(&self, f: &mut fmt::Formatter<W>) -> fmt::Result {
         match self {
@@ -143,21 +181,14 @@ impl fmt::Display for Said {
                 let text = AnswerText(answer, *from, *to);
                 write!(f, "{text}")
             }
-            Said::Back(Why::NoMemory) => write!(f, "back memory"),
-            Said::Back(Why::HistoryFull) => write!(f, "back full"),
-            Said::Back(Why::Withdrawn) => write!(f, "back withdrawn"),
-            Said::Back(Why::Taken) | Said::Turns => write!(f, "turns"),
-            Said::Handed => write!(f, "handed"),
-            Said::Served(Served::Taken) => write!(f, "served taken"),
+            Said::Back(why) => f.write_str(back_text(*why)),
+            Said::Turns => f.write_str("turns"),
+            Said::Handed => f.write_str("handed"),
+            Said::Served(Served::Taken) => f.write_str("served taken"),
             Said::Served(Served::Ran { picked }) => write!(f, "served {picked}"),
-            Said::Page(page) => {
-                let stamp = page.stamp;
-                let ready = page.ready;
-                let taken = u8::from(page.taken);
-                write!(f, "page {stamp} {ready} {taken}")
-            }
-            Said::Passed => write!(f, "passed"),
-            Said::Idle => write!(f, "idle"),
+            Said::Page(page) => print_page(page, f),
+            Said::Passed => f.write_str("passed"),
+            Said::Idle => f.write_str("idle"),
         }
     }
 }

@@ -62,6 +62,22 @@ fn call<W: Write>(
     }
 }
 
+// Calls with the rest of a write, of which memory left the first commands.
+fn call_rest<W: Write>(
+    alloc: Global,
+    driver: &Driver,
+    seat: &mut Seat,
+    first: &Ran,
+    rest: Request,
+    out: &mut W,
+) -> Result<Ran, Broken>
+    requires table { seat.old.table ≡ driver.now.table }
+    ensures same { seat.new.table ≡ seat.old.table }
+{
+    let second = call(driver, seat, rest, out)?;
+    joined(alloc, first, &second)
+}
+
 /// Calls, and calls with the rest where memory stopped a write after some commands.
 pub fn call_whole<W: Write>(
     alloc: Global,
@@ -77,6 +93,6 @@ pub fn call_whole<W: Write>(
     let first = call(driver, seat, request, out)?;
     match rest_after(alloc, &first, spare)? {
         None => Ok(first),
-        Some(rest) => joined(alloc, &first, &call(driver, seat, rest, out)?),
+        Some(rest) => call_rest(alloc, driver, seat, &first, rest, out),
     }
 }

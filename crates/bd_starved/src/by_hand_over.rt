@@ -108,6 +108,23 @@ fn run<W: Write>(
     }
 }
 
+// The same with the rest of a write, of which memory left the first commands.
+fn run_rest<W: Write>(
+    alloc: Global,
+    driver: &Driver,
+    seats: &mut [Seat],
+    place: usize,
+    first: &Ran,
+    rest: Request,
+    out: &mut W,
+) -> Result<Ran, Broken>
+    requires { All (λ s. s.table ≡ driver.now.table) seats.old }
+    ensures { All (λ s. s.table ≡ driver.now.table) seats.new }
+{
+    let second = run(driver, seats, place, rest, out)?;
+    joined(alloc, first, &second)
+}
+
 /// The same, and with the rest where memory stopped a write after some commands.
 pub fn hand_over_whole<W: Write>(
     alloc: Global,
@@ -124,6 +141,6 @@ pub fn hand_over_whole<W: Write>(
     let first = run(driver, seats, place, request, out)?;
     match rest_after(alloc, &first, spare)? {
         None => Ok(first),
-        Some(rest) => joined(alloc, &first, &run(driver, seats, place, rest, out)?),
+        Some(rest) => run_rest(alloc, driver, seats, place, &first, rest, out),
     }
 }

@@ -15,6 +15,11 @@ pub fn script_of(alloc: Global, text: &[u8]) -> Result<Script, Broken> {
     Ok(again!(read_script(alloc, text), ScriptError::Memory)?)
 }
 
+/// How many seats a script has.
+pub fn seats_of(alloc: Global, text: &[u8]) -> Result<u32, Broken> {
+    Ok(script_of(alloc, text)?.seats)
+}
+
 /// An engine for so many seats.
 pub fn engine_for(alloc: Global, seats: u32) -> Result<Engine, Broken> {
     match Engine::new(alloc, seats) {
@@ -49,6 +54,19 @@ fn run<W: Write>(
     }
 }
 
+// Runs the rest of a request, of which memory left the first commands.
+fn run_rest<W: Write>(
+    alloc: Global,
+    engine: &mut Engine,
+    seat: u32,
+    first: &Ran,
+    rest: &Request,
+    out: &mut W,
+) -> Result<Ran, Broken> {
+    let second = run(engine, seat, rest, out)?;
+    joined(alloc, first, &second)
+}
+
 // Runs a request, and the rest of it where memory stopped it after some commands.
 fn run_whole<W: Write>(
     alloc: Global,
@@ -60,7 +78,7 @@ fn run_whole<W: Write>(
     let first = run(engine, seat, request, out)?;
     match rest_after(alloc, &first, request)? {
         None => Ok(first),
-        Some(rest) => joined(alloc, &first, &run(engine, seat, &rest, out)?),
+        Some(rest) => run_rest(alloc, engine, seat, &first, &rest, out),
     }
 }
 

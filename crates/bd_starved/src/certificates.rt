@@ -133,13 +133,18 @@ fn print_place<W: Write>(place: Option<u32>, out: &mut W) -> Result<(), Broken> 
     Ok(())
 }
 
+fn print_turn<W: Write>(turn: &Turn, out: &mut W) -> Result<(), Broken> {
+    write!(out, " {}", turn.made)?;
+    print_place(turn.handed, out)?;
+    print_place(turn.ended, out)?;
+    write!(out, ";")?;
+    Ok(())
+}
+
 fn print_turns<W: Write>(turns: &[Turn], out: &mut W) -> Result<(), Broken> {
     write!(out, "turns:")?;
     for turn in turns {
-        write!(out, " {}", turn.made)?;
-        print_place(turn.handed, out)?;
-        print_place(turn.ended, out)?;
-        write!(out, ";")?;
+        print_turn(turn, out)?;
     }
     writeln!(out)?;
     Ok(())

@@ -6,9 +6,10 @@ use crate::again::again;
 use crate::broken::Broken;
 use crate::by_call::driver_for;
 use crate::by_driver::{Way, play_lines};
-use crate::by_run::{engine_for, run_lines, script_of};
+use crate::by_run::{engine_for, run_lines, script_of, seats_of};
 use bd_driver::{Driver, Outcome, Seat};
 use bd_engine::Engine;
+use bd_script::Script;
 use bd_space::{Bytes, Request};
 use std::alloc::{AllocError, Global};
 use std::io::Write;
@@ -56,7 +57,25 @@ fn print_write<W: Write>(
     Ok(())
 }
 
-// Writes it again and again, which memory may each time leave whole, stop after its first command, or give back.
+// Writes it, which memory may leave whole, stop after its first command, or give back.
+fn write_once<W: Write>(
+    alloc: Global,
+    driver: &Driver,
+    seat: &mut Seat,
+    out: &mut W,
+) -> Result<(), Broken>
+    requires { seat.old.table ≡ driver.now.table }
+    ensures { seat.new.table ≡ seat.old.table }
+{
+    let request = write_of_two(alloc)?;
+    if seat.is_waiting() {
+        return Err(Broken::Never("something is handed over"));
+    }
+    let outcome = driver.call(seat, request);
+    print_outcome(&outcome, out)
+}
+
+// Writes it again and again.
 fn write_all<W: Write>(
     alloc: Global,
     driver: &Driver,
@@ -67,35 +86,52 @@ fn write_all<W: Write>(
     ensures { seat.new.table ≡ seat.old.table }
 {
     for _round in 0..WRITES {
-        let request = write_of_two(alloc)?;
-        if seat.is_waiting() {
-            return Err(Broken::Never("something is handed over"));
-        }
-        print_outcome(&driver.call(seat, request), out)?;
+        write_once(alloc, driver, seat, out)?;
     }
     Ok(())
 }
 
-/// Prints what comes of the writes after a script's lines.
-pub fn play_cut<W: Write>(alloc: Global, text: &[u8], out: &mut W) -> Result<(), Broken> {
-    let script = script_of(alloc, text)?;
-    let (driver, mut seats) = driver_for(alloc, script.seats)?;
-    play_lines(alloc, &driver, &mut seats, text, Way::Call, out)?;
+// The writes of the first seat.
+fn write_at_first<W: Write>(
+    alloc: Global,
+    driver: &Driver,
+    seats: &mut [Seat],
+    out: &mut W,
+) -> Result<(), Broken>
+    requires { All (λ s. s.table ≡ driver.now.table) seats.old }
+{
     match seats.get_mut(0) {
-        Some(seat) => write_all(alloc, &driver, seat, out),
+        Some(seat) => write_all(alloc, driver, seat, out),
         None => Err(Broken::Never("a script has seats")),
     }
+}
+
+/// Prints what comes of the writes after a script's lines.
+pub fn play_cut<W: Write>(alloc: Global, text: &[u8], out: &mut W) -> Result<(), Broken> {
+    let (driver, mut seats) = driver_for(alloc, seats_of(alloc, text)?)?;
+    play_lines(alloc, &driver, &mut seats, text, Way::Call, out)?;
+    write_at_first(alloc, &driver, &mut seats, out)
+}
+
+// An engine with room for so many steps.
+fn reserved(alloc: Global, seats: u32, steps: usize) -> Result<Engine, Broken> {
+    let mut engine = engine_for(alloc, seats)?;
+    match again!(engine.reserve(steps)) {
+        Ok(()) => Ok(engine),
+        Err(_) => Err(Broken::Memory),
+    }
+}
+
+fn write_into<W: Write>(alloc: Global, engine: &mut Engine, out: &mut W) -> Result<(), Broken> {
+    let request = write_of_two(alloc)?;
+    print_write(engine, &request, out)
 }
 
 /// Prints what comes of one write after the steps of a script, by an engine that has room for one step more than those: so
 /// it is the second command that asks for memory.
 pub fn play_reserved<W: Write>(alloc: Global, text: &[u8], out: &mut W) -> Result<(), Broken> {
-    let script = script_of(alloc, text)?;
-    let mut engine = engine_for(alloc, script.seats)?;
-    if again!(engine.reserve(script.lines.len() + 1)).is_err() {
-        return Err(Broken::Memory);
-    }
-    run_lines(alloc, &mut engine, script.lines, out)?;
-    let request = write_of_two(alloc)?;
-    print_write(&mut engine, &request, out)
+    let Script { seats, lines } = script_of(alloc, text)?;
+    let mut engine = reserved(alloc, seats, lines.len() + 1)?;
+    run_lines(alloc, &mut engine, lines, out)?;
+    write_into(alloc, &mut engine, out)
 }

@@ -71,16 +71,24 @@ fn read_all<R: Read>(alloc: Global, reader: &mut R) -> Result<Vec<u8>, Broken> {
     Ok(bytes)
 }
 
+fn what_is_asked<H: Runtime<A = Global>>(rt: &H) -> Result<Asked, Broken> {
+    let words = again!(words(rt))?;
+    Asked::of(words.as_slice())
+}
+
+fn input<H: AllocGlobal + Input>(rt: &H) -> Result<Vec<u8>, Broken> {
+    read_all(rt.alloc(), &mut rt.reader())
+}
+
 fn run<H: AllocGlobal + Input + Runtime<A = Global>, W: Write>(
     rt: &H,
     out: &mut W,
 ) -> Result<(), Broken> {
-    let words = again!(words(rt))?;
     let alloc = rt.alloc();
-    match Asked::of(words.as_slice())? {
-        Asked::Play => play_every_way(alloc, &read_all(alloc, &mut rt.reader())?, out),
-        Asked::Cut => play_cut(alloc, &read_all(alloc, &mut rt.reader())?, out),
-        Asked::Reserved => play_reserved(alloc, &read_all(alloc, &mut rt.reader())?, out),
+    match what_is_asked(rt)? {
+        Asked::Play => play_every_way(alloc, &input(rt)?, out),
+        Asked::Cut => play_cut(alloc, &input(rt)?, out),
+        Asked::Reserved => play_reserved(alloc, &input(rt)?, out),
         Asked::Spellings => spell_all(alloc, out),
         Asked::Limits => print_limits(alloc, out),
     }
