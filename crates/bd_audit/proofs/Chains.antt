@@ -88,9 +88,13 @@ pub counted-objects : (z : Space) → (counted z).objects ≡ z.objects
 unfolding counted
 counted-objects z = refl
 
-counted-references : (z : Space) → (counted z).references ≡ z.references
+pub counted-references : (z : Space) → (counted z).references ≡ z.references
 unfolding counted
 counted-references z = refl
+
+pub counted-buffers : (z : Space) → (counted z).buffers ≡ z.buffers
+unfolding counted
+counted-buffers z = refl
 
 pub counted-names : (z : Space) → (counted z).names ≡ z.names
 unfolding counted
@@ -135,8 +139,8 @@ unfolding change command_step ask_step
 accepts s seat a o true parcel acts check = rw (acts, check) refl
 accepts s seat a o false parcel acts check = rw (acts, check) refl
 
-pub asks : (s : Space) (e : Entry) (m : Name) → ByAsking s e.seat e.step m → AsksManager s e m.object m.process
-asks s e m g = record {
+pub asks : (s : Space) (e : Entry) (m : Name) (z : Space) → ByAsking s e.seat e.step m z → AsksManager s e m.object m.process
+asks s e m z g = record {
   by = subst (λ p. is_by s e p ≡ true) g.process (by-actor s e.seat g.by g.acts);
   asks = subst (λ x. is_asking_0 x ≡ true) (sym g.asks.1) (asking-0 g.strong g.asks.0);
   accepted = subst (λ x. (change s e.seat x).answer ≡ Accepted) (sym g.asks.1) (accepts s e.seat g.by m.object g.strong g.asks.0 g.acts g.check);
@@ -170,8 +174,8 @@ module _ (es : List Entry) (s : Space) (e : Entry) (at : s ≡ after opening es)
             (c.0 ++ length es ∷ [], chain-push es e m.object p m.process (es, e, here es e, subst (λ (y : Space). gifts.Sends y (length es) e m.object p m.process) at sent) c.0 chain))
       ]
 
-  asked-chain : (m : Name) → ByAsking s e.seat e.step m → (is : List ℕ) × IsGiftChain (es ++ e ∷ []) m.object is m.process
-  asked-chain m g = (length es ∷ [], (m.process, inr (es, e, here es e, subst (λ (y : Space). AsksManager y e m.object m.process) at (asks s e m g)), refl))
+  asked-chain : (m : Name) → ByAsking s e.seat e.step m (change s e.seat e.step).space → (is : List ℕ) × IsGiftChain (es ++ e ∷ []) m.object is m.process
+  asked-chain m g = (length es ∷ [], (m.process, inr (es, e, here es e, subst (λ (y : Space). AsksManager y e m.object m.process) at (asks s e m (change s e.seat e.step).space g)), refl))
 
   chained-step : Before s → Chained (es ++ e ∷ []) (next s e)
   chained-step h =

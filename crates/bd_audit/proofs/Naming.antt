@@ -12,6 +12,7 @@ use Rattle.bd_space.specs.declared.space.Actor.{Actor}
 use Rattle.bd_space.specs.declared.space.Frame.{Frame}
 use Rattle.bd_space.specs.declared.space.Object.{Object}
 use Rattle.bd_space.specs.declared.space.Reference.{Reference}
+use Rattle.bd_space.specs.declared.space.Buffer.{Buffer}
 use Rattle.bd_space.specs.declared.space.Holder.TheVariants.{Asked, Carried}
 use Rattle.bd_space.specs.declared.space.Name.{Name}
 use Rattle.bd_space.specs.declared.space.Item.{Item}
@@ -27,7 +28,7 @@ use Rattle.bd_space.specs.Todo.{owe}
 use Rattle.bd_space.specs.Frames.{closed}
 use Rattle.bd_space.specs.Turns.{ripen}
 use Rattle.bd_space.specs.Notices.{follow, notify, work_goes, deaths_go}
-use Rattle.bd_space.specs.Delivery.{Delivery, delivered, own_notices, add_buffer, known_by, refer, make_objects, buffer_references}
+use Rattle.bd_space.specs.Delivery.{Delivery, delivered, buffer_of, own_notices, add_buffer, known_by, refer, make_objects, buffer_references}
 use Rattle.bd_uapi.specs.Kinds.{is_strong_kind}
 use Rattle.bd_space.specs.Parcels.{object_of_item}
 use Rattle.bd_space.specs.Transactions.{transaction_check, transacted, called}
@@ -39,7 +40,7 @@ use Rattle.bd_space.specs.ProcessExits.{threads_go, without_process, tell_deaths
 use Rattle.bd_space.specs.ReadItems.{read_by}
 use Rattle.bd_space.specs.Steps.{change, with_thread, with_process, with_manager}
 use Rattle.bd_laws.specs.Lists.{In}
-use Rattle.bd_laws.proofs.Lists.{in-right, in-push, in-filter, filter-in, in-map, find-some}
+use Rattle.bd_laws.proofs.Lists.{in-right, in-push, in-last, in-filter, filter-in, in-map, find-some}
 use Rattle.bd_laws.proofs.Tests.{both, and-both, not-true, eq-same}
 use Rattle.bd_laws.proofs.EveryEnding.{IsAsking}
 use Rattle.bd_laws.proofs.EveryStep.{Keeps, every_step}
@@ -56,9 +57,10 @@ pub record ByHand (s : Space) (seat : ℕ) (m : Name) (z : Space) : Type 0 where
   pub acts : actor s seat ≡ Some by
   pub has : Owns z.objects by.process.made m.object ⊎ HasName s.names by.process.made m.object
   pub carried : (r : Reference) × In r z.references × (r.object ≡ m.object) × (r.holder ≡ Carried s.steps m.process)
+  pub buffer : (b : Buffer) × In b z.buffers × (b.made ≡ s.steps)
 
--- or since its process asked for the context manager's object
-pub record ByAsking (s : Space) (seat : ℕ) (x : Step) (m : Name) : Type 0 where
+-- or since its process asked for the context manager's object, by which no buffer is made
+pub record ByAsking (s : Space) (seat : ℕ) (x : Step) (m : Name) (z : Space) : Type 0 where
   pub by : Actor
   pub strong : Bool
   pub acts : actor s seat ≡ Some by
@@ -66,9 +68,10 @@ pub record ByAsking (s : Space) (seat : ℕ) (x : Step) (m : Name) : Type 0 wher
   pub process : by.process.made ≡ m.process
   pub manager : s.manager ≡ Some m.object
   pub check : ask_check s by.process.made 0 strong ≡ Ok m.object
+  pub buffers : z.buffers ≡ s.buffers
 
 abbrev pub Given : Space → ℕ → Step → Space → Name → Type 0
-Given s seat x z m = In m s.names ⊎ (ByHand s seat m z ⊎ ByAsking s seat x m)
+Given s seat x z m = In m s.names ⊎ (ByHand s seat m z ⊎ ByAsking s seat x m z)
 
 abbrev pub Naming : Space → ℕ → Step → Space → Type 0
 Naming s seat x z = (m : Name) → In m z.names → Given s seat x z m
@@ -119,6 +122,7 @@ delivered-hand s seat a d v acts sends =
             acts = acts;
             has = subst (Sent s a.process.made v.sending.made) item.2 (sends.sent item.0 item.1);
             carried = (r.0, in-right r.0 s.references (buffer_references s.steps v.receiver.made 0 v.sending.items v.target) r.1, r.2 ∙ item.2, r.3 ∙ ap (λ q. Carried s.steps q) (sym k.0));
+            buffer = (buffer_of (known_by s v) a d v, in-last (buffer_of (known_by s v) a d v) s.buffers, refl);
           }))
     ]
 
@@ -128,7 +132,19 @@ delivered-naming s seat x a d v acts sends = λ m i. elim (delivered-hand s seat
 
 -- ---- what comes later
 
-pub naming-untouched : (s : Space) (seat : ℕ) (x : Step) (z y : Space) → Untouched z y → Naming s seat x y → Naming s seat x z
+pub asking-with : (s : Space) (seat : ℕ) (x : Step) (m : Name) (y z : Space) → z.buffers ≡ y.buffers → ByAsking s seat x m y → ByAsking s seat x m z
+asking-with s seat x m y z same_buffers g = record {
+  by = g.by;
+  strong = g.strong;
+  acts = g.acts;
+  asks = g.asks;
+  process = g.process;
+  manager = g.manager;
+  check = g.check;
+  buffers = same_buffers ∙ g.buffers;
+}
+
+naming-untouched : (s : Space) (seat : ℕ) (x : Step) (z y : Space) → Untouched z y → Naming s seat x y → Naming s seat x z
 naming-untouched s seat x z y u h =
     λ m i. elim (h m (subst (In m) u.names i)) [
       | inl k ↦ inl k
@@ -138,8 +154,9 @@ naming-untouched s seat x z y u h =
           acts = g.acts;
           has = subst (λ os. Owns os g.by.process.made m.object ⊎ HasName s.names g.by.process.made m.object) (sym u.objects) g.has;
           carried = subst (λ rs. (r : Reference) × In r rs × (r.object ≡ m.object) × (r.holder ≡ Carried s.steps m.process)) (sym u.references) g.carried;
+          buffer = subst (λ bs. (b : Buffer) × In b bs × (b.made ≡ s.steps)) (sym u.buffers) g.buffer;
         })
-        | inr g ↦ inr g
+        | inr g ↦ inr (asking-with s seat x m y z u.buffers g)
       ])
     ]
 
@@ -152,7 +169,10 @@ unfolding names_go
 names_go-naming s seat x z h =
     λ m i. elim (h m (in-filter (λ (m : Name). is_named_in z.objects z.references m.process m.object) m z.names i).0) [
       | inl k ↦ inl k
-      | inr k ↦ inr (elim k [ inl g ↦ inl (record { by = g.by; acts = g.acts; has = g.has; carried = g.carried }) | inr g ↦ inr g ])
+      | inr k ↦ inr (elim k [
+        | inl g ↦ inl (record { by = g.by; acts = g.acts; has = g.has; carried = g.carried; buffer = g.buffer })
+        | inr g ↦ inr (asking-with s seat x m z (names_go z) refl g)
+      ])
     ]
 
 objects_go-naming : (s : Space) (seat : ℕ) (x : Step) (z : Space) → Naming s seat x z → Naming s seat x (objects_go z)
@@ -169,8 +189,9 @@ objects_go-naming s seat x z h =
             | inr n ↦ inr n
           ];
           carried = g.carried;
+          buffer = g.buffer;
         })
-        | inr g ↦ inr g
+        | inr g ↦ inr (asking-with s seat x m z (objects_go z) refl g)
       ])
     ]
 
@@ -213,7 +234,7 @@ unfolding closed
 closed-naming s seat x made z h =
     λ m i. elim (h m i) [
       | inl k ↦ inl k
-      | inr g ↦ inr (inl (record { by = g.by; acts = sym (closed-actor s made seat) ∙ g.acts; has = g.has; carried = g.carried }))
+      | inr g ↦ inr (inl (record { by = g.by; acts = sym (closed-actor s made seat) ∙ g.acts; has = g.has; carried = g.carried; buffer = g.buffer }))
     ]
 
 replied-naming : (s : Space) (seat : ℕ) (x : Step) (a : Actor) (d : TransactionData) (parcel : Option Parcel) (f : Frame) (v : Delivery) → actor s seat ≡ Some a → reply_check s a d parcel f ≡ Ok v
@@ -252,6 +273,7 @@ ask-naming s seat x a n strong o acts asks check =
           process = sym k.0;
           manager = g.1 ∙ ap (λ y. Some y) (sym k.1);
           check = subst (λ j. ask_check s a.process.made j strong ≡ Ok m.object) g.0 (check ∙ ap (λ y. Ok y) (sym k.1));
+          buffers = refl;
         }))
         | inr g ↦ (let yes = has-number s.names a.process.made o g in let none = k.2 in absurd (cc))
       ]

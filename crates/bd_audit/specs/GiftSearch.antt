@@ -1,16 +1,19 @@
--- The gift by which a name began, as the search for a gift chain finds it.
-use Rattle.std.specs.Prelude.{ℕ, ◌≡◌, ◌<◌, ◌⊎◌, Bool, true, not, ◌&&◌, List, [], ◌∷◌, ◌++◌, length, Option, Some, None, option_and_then}
+-- The gifts by which names begin, as the search for a gift chain finds them.
+use Rattle.std.specs.Prelude.{ℕ, ◌+◌, ◌≡◌, ◌<◌, ◌⊎◌, Bool, true, false, not, ◌&&◌, List, [], ◌∷◌, ◌++◌, length, take, get_or, Option, Some, None, option_map, option_and_then, IfSome, IsSomeAnd}
 use Rattle.bd_space.specs.declared.step.ObjectId.{ObjectId}
 use Rattle.bd_space.specs.declared.step.Entry.{Entry}
 use Rattle.bd_space.specs.declared.space.Process.{Process}
+use Rattle.bd_space.specs.declared.space.Buffer.{Buffer}
 use Rattle.bd_space.specs.Words.{when}
 use Rattle.bd_space.specs.Space.{Space, opening}
 use Rattle.bd_space.specs.Seats.{process_with_pid}
 use Rattle.bd_space.specs.Names.{named}
+use Rattle.bd_space.specs.Returns.{buffer_in}
 use Rattle.bd_space.specs.Histories.{after}
+use Rattle.bd_laws.specs.Lists.{In}
 use Rattle.bd_engine.specs.Looks.{knows, process_of}
 use Rattle.bd_audit.specs.declared.gifts.Gift.{Gift}
-use Rattle.bd_audit.specs.Gifts.{Stands, Sends, OwnerGives, ManagerGives}
+use Rattle.bd_audit.specs.Gifts.{Stands, Sends, OwnerGives, ManagerGives, IsGiftChain}
 
 -- p has a name for the object after these entries
 abbrev pub knows_after : List Entry → ℕ → ObjectId → Bool
@@ -23,7 +26,21 @@ giver_in s seat o = option_and_then (λ p. when (knows s p o) p) (process_of s s
 -- what one entry more gives, if q's name for the object begins there
 abbrev pub gift_made : List Entry → Entry → ℕ → ObjectId → Option Gift
 gift_made es e q o =
-    when (not (knows_after es q o) && knows_after (es ++ e ∷ []) q o) (record { place = length es; giver = giver_in (after opening es) e.seat o })
+    when (not (knows_after es q o) && knows_after (es ++ e ∷ []) q o)
+    (record { receiver = q; place = length es; giver = giver_in (after opening es) e.seat o })
+
+-- the process in whose window the buffer made at this place lies
+abbrev pub receiver_at : Space → ℕ → Option ℕ
+receiver_at s place = option_map (λ (b : Buffer). b.receiver) (buffer_in s.buffers place)
+
+-- the process in whose window this entry's step makes a buffer
+abbrev pub receiver_of : List Entry → Entry → Option ℕ
+receiver_of es e = receiver_at (after opening (es ++ e ∷ [])) (length es)
+
+-- at each place, the process in whose window its step makes a buffer
+pub record AreReceivers (es : List Entry) (rs : List (Option ℕ)) : Type 0 where
+  pub all : length rs ≡ length es
+  pub each : (i : ℕ) → i < length es → get_or rs i None ≡ receiver_at (after opening (take (i + 1) es)) i
 
 -- at this place p, which had a name for the object, gives it to q
 abbrev pub HolderGives : List Entry → ℕ → ObjectId → ℕ → ℕ → Type 0
@@ -35,8 +52,56 @@ abbrev pub GivenBy : List Entry → ℕ → ObjectId → ℕ → Option ℕ → 
 GivenBy es i o q None = OwnerGives es i o q ⊎ ManagerGives es i o q
 GivenBy es i o q (Some p) = HolderGives es i o p q
 
-abbrev pub IsGift : List Entry → ObjectId → ℕ → Gift → Type 0
-IsGift es o q g = (g.place < length es) × GivenBy es g.place o q g.giver
+abbrev pub IsGift : List Entry → ObjectId → Gift → Type 0
+IsGift es o g = (g.place < length es) × GivenBy es g.place o g.receiver g.giver
+
+-- q's name for the object begins with this entry
+abbrev pub BeginsAt : List Entry → Entry → ObjectId → ℕ → Type 0
+BeginsAt es e o q = (knows_after es q o ≡ false) × (knows_after (es ++ e ∷ []) q o ≡ true)
+
+-- and with this gift
+pub record BeginsWith (es : List Entry) (e : Entry) (o : ObjectId) (g : Gift) : Type 0 where
+  pub begins : BeginsAt es e o g.receiver
+  pub place : g.place ≡ length es
+  pub giver : g.giver ≡ giver_in (after opening es) e.seat o
+
+-- what this entry gives: the gift to the process whose name for the object begins there; with none no name begins
+pub record IsGiftOf (es : List Entry) (e : Entry) (o : ObjectId) (gift : Option Gift) : Type 0 where
+  pub made : IfSome gift (BeginsWith es e o)
+  pub every : (q : ℕ) → BeginsAt es e o q → IsSomeAnd gift (λ g. g.receiver ≡ q)
+
+-- ---- gifts in the order of their places
+
+-- one of them is to q
+abbrev pub HasGift : List Gift → ℕ → Type 0
+HasGift gs q = (g : Gift) × In g gs × (g.receiver ≡ q)
+
+-- those before are at earlier places, and one of them is to its giver
+pub record Follows (before : List Gift) (g : Gift) : Type 0 where
+  pub later : (h : Gift) → In h before → h.place < g.place
+  pub given : IfSome g.giver (HasGift before)
+
+abbrev pub FollowAfter : List Gift → List Gift → Type 0
+FollowAfter before [] = Unit {0}
+FollowAfter before (g ∷ gs) = Follows before g × FollowAfter (before ++ g ∷ []) gs
+
+-- each follows those before it
+abbrev pub IsLinked : List Gift → Type 0
+IsLinked gs = FollowAfter [] gs
+
+-- gifts of the object in these entries
+abbrev pub AllGifts : List Entry → ObjectId → List Gift → Type 0
+AllGifts es o gs = (g : Gift) → In g gs → IsGift es o g
+
+-- they are linked, with one to each process that has a name for the object after these entries
+pub record AreGifts (es : List Entry) (o : ObjectId) (gs : List Gift) : Type 0 where
+  pub linked : IsLinked gs
+  pub gifts : AllGifts es o gs
+  pub known : (q : ℕ) → knows_after es q o ≡ true → HasGift gs q
+
+-- wherever these are gifts of an object, the places are a gift chain of it to q
+abbrev pub IsWay : List Gift → List ℕ → ℕ → Type 0
+IsWay gs places q = (es : List Entry) (o : ObjectId) → AllGifts es o gs → IsGiftChain es o places q
 
 -- p is the live process with this pid, and this number names the object for it
 pub record IsHolder (s : Space) (pid number p : ℕ) (o : ObjectId) : Type 0 where

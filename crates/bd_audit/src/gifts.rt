@@ -1,14 +1,14 @@
 //! The gifts by which a process came to a name.
 
-ghost use Rattle.std.specs.Prelude.{◌≡◌, ◌≤◌, true, IfOk, IfErr, IfSome, MatchResult, is_some};
+ghost use Rattle.std.specs.Prelude.{◌≡◌, ◌≤◌, IfOk, IfErr, IfSome, MatchResult, is_some};
 ghost use Rattle.bd_uapi.specs.declared.fault.Fault.TheVariants as faults;
 ghost use Rattle.bd_space.specs.Histories.{IsHistory, space_after, history_in};
 ghost use Rattle.bd_engine.specs.Looks as looks;
 ghost use Rattle.bd_audit.specs.Replays.{with_entry};
-ghost use Rattle.bd_audit.specs.Gifts.{IsGiftChain, IsChainOf};
+ghost use Rattle.bd_audit.specs.Gifts.{IsChainOf};
 ghost use Rattle.bd_audit.specs.GiftSearch as spec;
 
-use crate::playing::{advance, played};
+use crate::playing::advance;
 use bd_engine::Engine;
 use bd_space::{Entry, ObjectId, Record};
 use bd_uapi::Fault;
@@ -17,10 +17,21 @@ use std::alloc::Global;
 /// A gift of an object to a process, by which its name for the object began.
 #[derive(Clone, Copy)]
 pub(crate) struct Gift {
+    /// The process.
+    receiver: u32,
     /// The place of its step.
     place: u32,
     /// The process that gave the object by its own name for it; without one a gift chain begins here.
     giver: Option<u32>,
+}
+
+/// What a first replay tells.
+#[derive(Drop)]
+pub(crate) struct Received {
+    /// The engine after the last step.
+    engine: Engine,
+    /// For each entry, the process in whose window its step made a buffer.
+    receivers: Vec<Option<u32>>,
 }
 
 /// A process, and an object that it has a name for.
@@ -48,6 +59,38 @@ fn giver_of(engine: &Engine, seat: u32, object: ObjectId) -> Option<u32>
     }
 }
 
+// The process in whose window the buffer made at this place lies.
+fn receiver_at(engine: &Engine, place: u32) -> Option<u32>
+    ensures { result ≡ spec.receiver_at (space_after engine.now) place }
+{
+    match engine.buffer(place) {
+        Some(buffer) => Some(buffer.receiver),
+        None => None,
+    }
+}
+
+// An engine that has made the steps of these entries, and the process that received at each of them.
+fn receivers_of(alloc: Global, seats: u32, entries: &[Entry]) -> Result<Received, Fault>
+    requires seats { (1 ≤ seats) × (seats ≤ 16) }
+    requires lawful { IsHistory (record { seats = seats; entries = entries.now }) }
+    ensures engine { IfOk result (λ r. r.engine ≡ record { seats = seats; entries = entries.now }) }
+    ensures receivers { IfOk result (λ r. spec.AreReceivers entries.now r.receivers.items) }
+    ensures fault { IfErr result (λ f. f ≡ faults.NoMemory) }
+{
+    let Ok(mut engine) = Engine::new(alloc, seats) else {
+        return Err(Fault::NoMemory);
+    };
+    let mut receivers = Vec::new(alloc);
+    for entry in entries {
+        let place = engine.len();
+        advance(&mut engine, entry)?;
+        if receivers.push(receiver_at(&engine, place)).is_err() {
+            return Err(Fault::NoMemory);
+        }
+    }
+    Ok(Received { engine, receivers })
+}
+
 // Makes the step of an entry of a history. Answers its gift, if the receiver's name for the object begins with it.
 fn gift_made(
     engine: &mut Engine,
@@ -61,6 +104,7 @@ fn gift_made(
     ensures fault { IfErr result (λ f. f ≡ faults.NoMemory) }
 {
     let gift = Gift {
+        receiver,
         place: engine.len(),
         giver: giver_of(engine, entry.seat, object),
     };
@@ -73,55 +117,73 @@ fn gift_made(
     }
 }
 
-// A gift by which the receiver came to its name for the object, which it has after these entries: the latest.
-fn gift_to(
-    alloc: Global,
-    seats: u32,
-    entries: &[Entry],
-    receiver: u32,
+// Makes the step of an entry of a history. Answers its gift, if a name for the object begins with it: to the process that
+// receives there, or else to the one that asks.
+fn next_gift(
+    engine: &mut Engine,
+    entry: &Entry,
+    receiver: Option<u32>,
     object: ObjectId,
-) -> Result<Gift, Fault>
-    requires seats { (1 ≤ seats) × (seats ≤ 16) }
-    requires lawful { IsHistory (record { seats = seats; entries = entries.now }) }
-    requires named { spec.knows_after entries.now receiver object ≡ true }
-    ensures { MatchResult result (spec.IsGift entries.now object receiver) (λ f. f ≡ faults.NoMemory) }
+) -> Result<Option<Gift>, Fault>
+    requires lawful { IsHistory (with_entry engine.old entry.now) }
+    requires receiver { receiver ≡ spec.receiver_of engine.old.entries entry.now }
+    ensures ok { IfOk result (λ _. engine.new ≡ with_entry engine.old entry.now) }
+    ensures gift { IfOk result (spec.IsGiftOf engine.old.entries entry.now object) }
+    ensures fault { IfErr result (λ f. f ≡ faults.NoMemory) }
 {
-    let Ok(mut engine) = Engine::new(alloc, seats) else {
-        return Err(Fault::NoMemory);
-    };
-    let mut last = None;
-    for entry in entries {
-        last = gift_made(&mut engine, entry, receiver, object)?.or(last);
-    }
-    match last {
-        Some(gift) => Ok(gift),
-        None => unreachable!(),
+    match receiver.or(engine.process_of(entry.seat)) {
+        Some(process) => gift_made(engine, entry, process, object),
+        None => {
+            advance(engine, entry)?;
+            Ok(None)
+        }
     }
 }
 
-// A gift chain of the object to the receiver, found from its end.
-fn chain_to(
+// The gifts by which names for the object began, in the order of their places.
+fn gifts_of(
     alloc: Global,
     history: &Record,
-    receiver: u32,
+    receivers: &[Option<u32>],
     object: ObjectId,
-) -> Result<Vec<u32>, Fault>
+) -> Result<Vec<Gift>, Fault>
     requires seats { (1 ≤ history.now.seats) × (history.now.seats ≤ 16) }
     requires lawful { IsHistory (history_in history.now) }
-    requires named { spec.knows_after history.now.entries receiver object ≡ true }
-    ensures { MatchResult result (λ v. IsGiftChain history.now.entries object v.items receiver) (λ f. f ≡ faults.NoMemory) }
+    requires receivers { spec.AreReceivers history.now.entries receivers.now }
+    ensures { MatchResult result (λ v. spec.AreGifts history.now.entries object v.items) (λ f. f ≡ faults.NoMemory) }
 {
-    let entries = history.entries.as_slice();
-    let mut places = Vec::new(alloc);
-    let mut before = entries.len();
-    let mut next = Some(receiver);
-    while let Some(process) = next {
-        let gift = gift_to(alloc, history.seats, &entries[..before], process, object)?;
-        if places.push(gift.place).is_err() {
-            return Err(Fault::NoMemory);
+    let Ok(mut engine) = Engine::new(alloc, history.seats) else {
+        return Err(Fault::NoMemory);
+    };
+    let mut gifts = Vec::new(alloc);
+    for entry in history.entries.as_slice() {
+        let receiver = receivers[engine.len() as usize];
+        if let Some(gift) = next_gift(&mut engine, entry, receiver, object)? {
+            if gifts.push(gift).is_err() {
+                return Err(Fault::NoMemory);
+            }
         }
-        before = gift.place as usize;
-        next = gift.giver;
+    }
+    Ok(gifts)
+}
+
+// The places of the gifts on the way to the receiver, found from its end: the latest gift to it, the latest one before that
+// to its giver, and so on.
+fn way_to(alloc: Global, gifts: Vec<Gift>, receiver: u32) -> Result<Vec<u32>, Fault>
+    requires linked { spec.IsLinked gifts.items }
+    requires given { spec.HasGift gifts.items receiver }
+    ensures { MatchResult result (λ v. spec.IsWay gifts.items v.items receiver) (λ f. f ≡ faults.NoMemory) }
+{
+    let mut left = gifts;
+    let mut places = Vec::new(alloc);
+    let mut next = Some(receiver);
+    while let Some(gift) = left.pop() {
+        if next == Some(gift.receiver) {
+            if places.push(gift.place).is_err() {
+                return Err(Fault::NoMemory);
+            }
+            next = gift.giver;
+        }
     }
     places.reverse();
     Ok(places)
@@ -153,10 +215,11 @@ pub fn gift_chain(
     ensures none { IfOk result (λ c. is_some c ≡ is_some (looks.named_by (space_after (history_in history.now)) pid number)) }
     ensures fault { IfErr result (λ f. f ≡ faults.NoMemory) }
 {
-    let engine = played(alloc, history.seats, history.entries.as_slice())?;
-    let Some(holder) = holder_in(&engine, pid, number) else {
+    let first = receivers_of(alloc, history.seats, history.entries.as_slice())?;
+    let Some(holder) = holder_in(&first.engine, pid, number) else {
         return Ok(None);
     };
-    let places = chain_to(alloc, history, holder.process, holder.object)?;
+    let gifts = gifts_of(alloc, history, &first.receivers, holder.object)?;
+    let places = way_to(alloc, gifts, holder.process)?;
     Ok(Some(places))
 }

@@ -1,11 +1,22 @@
 use Rattle.std.proofs.Common.{◌≡◌, subst}
 use Rattle.bd_space.specs.Histories.{History, space_after, history_in}
 use Rattle.bd_audit.specs.GiftSearch.{IsHolder}
-use Rattle.bd_audit.proofs.GiftSteps.{holder-knows}
+use Rattle.bd_audit.proofs.GiftSteps.{holder-knows, chain-of}
 use Rattle.bd_audit.proofs.gifts.gift_chain.Goals as goal
 
-pub chain_to-requires-clause-named : goal.chain_to-requires-clause-named
-chain_to-requires-clause-named c =
-    let whole : c.in_ok-engine.engine ≡ history_in c.args.history.now = cc (c.in_ok-engine.ensures, c.as_slice.ensures) in
-    holder-knows (history_in c.args.history.now) c.args.pid c.args.number c.in-Some.holder.process c.in-Some.holder.object
-    (subst (λ (h : History). IsHolder (space_after h) c.args.pid c.args.number c.in-Some.holder.process c.in-Some.holder.object) whole c.in-Some.ensures.some)
+pub way_to-requires-clause-given : goal.way_to-requires-clause-given
+way_to-requires-clause-given c =
+    let h = history_in c.args.history.now in
+    let k = c.in-Some.holder in
+    let whole : c.in_ok-first.first.engine ≡ h = cc (c.in_ok-first.ensures.engine, c.as_slice.ensures) in
+    c.in_ok-gifts.ensures.known k.process
+    (holder-knows h c.args.pid c.args.number k.process k.object
+    (subst (λ (x : History). IsHolder (space_after x) c.args.pid c.args.number k.process k.object) whole c.in-Some.ensures.some))
+
+pub returns-clause-chain : goal.returns-clause-chain
+returns-clause-chain c =
+    let h = history_in c.args.history.now in
+    let k = c.in-Some.holder in
+    let whole : c.in_ok-first.first.engine ≡ h = cc (c.in_ok-first.ensures.engine, c.as_slice.ensures) in
+    chain-of h c.in_ok-first.first.engine c.args.pid c.args.number k.process k.object c.in_ok-places.places.items whole c.in-Some.ensures.some
+    (c.in_ok-places.ensures h.entries k.object c.in_ok-gifts.ensures.gifts)

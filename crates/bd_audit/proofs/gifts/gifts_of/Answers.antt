@@ -1,0 +1,38 @@
+use Rattle.std.proofs.Common.{rules, ◌≡◌, [], ◌∷◌, ◌++◌, None, subst, sym}
+use Rattle.bd_space.specs.Histories.{history_in}
+use Rattle.bd_audit.specs.GiftSearch.{AreGifts}
+use Rattle.bd_audit.proofs.Beginnings.{next-beginning, next-lawful}
+use Rattle.bd_audit.proofs.GiftSteps.{receiver-there, gifts-same, gifts-more}
+use Rattle.bd_audit.proofs.gifts.gifts_of.Goals as goal
+use Rattle.bd_audit.proofs.gifts.gifts_of.Goals.{in-Some+else-is_err, in_default-2}
+
+pub next_gift-requires-clause-lawful : goal.next_gift-requires-clause-lawful
+next_gift-requires-clause-lawful c =
+    next-lawful (history_in c.args.history.now) c.loop-entry.engine c.loop-entry.entry-index c.entry-item.result c.as_slice-entry-items.result.now c.requires.lawful
+    c.loop-entry.invariant.engine c.as_slice-entry-items.ensures c.loop-entry-test.true c.entry-item.is
+
+pub next_gift-requires-clause-receiver : goal.next_gift-requires-clause-receiver
+next_gift-requires-clause-receiver c =
+    receiver-there (history_in c.args.history.now) c.loop-entry.engine c.loop-entry.entry-index c.entry-item.result c.as_slice-entry-items.result.now c.args.receivers.now c.len.result
+    c.requires.receivers c.loop-entry.invariant.engine c.as_slice-entry-items.ensures c.loop-entry-test.true c.entry-item.is c.len.ensures
+
+pub loop-entry-preserved : goal.loop-entry-preserved
+loop-entry-preserved c =
+    let h = c.loop-entry.engine in
+    let k = c.next_gift.new.engine in
+    let gs = c.loop-entry.gifts.items in
+    record {
+      engine = next-beginning (history_in c.args.history.now) h k c.loop-entry.entry-index c.entry-item.result c.as_slice-entry-items.result.now
+          c.loop-entry.invariant.engine c.as_slice-entry-items.ensures c.loop-entry-test.true c.entry-item.is c.in_ok-gift.ensures.ok;
+      gifts = elim c.match-branch-2.branch [
+        | in-Some+else-is_err w ↦ (
+            let g = w.in-Some.gift in
+            let pushed : c.match-branch-2.gifts.items ≡ gs ++ g ∷ [] = search rules in
+            gifts-more h k c.entry-item.result c.args.object gs c.in_ok-gift.field-0 c.in_ok-gift.ensures.ok c.loop-entry.invariant.gifts c.in_ok-gift.ensures.gift g c.match-branch-2.gifts.items w.in-Some.is pushed)
+        | in_default-2 w ↦ (
+            let stays : c.match-branch-2.gifts.items ≡ gs = search rules in
+            let none : c.in_ok-gift.field-0 ≡ None = search rules in
+            subst (AreGifts k.entries c.args.object) (sym stays)
+            (gifts-same h k c.entry-item.result c.args.object gs c.in_ok-gift.field-0 c.in_ok-gift.ensures.ok c.loop-entry.invariant.gifts c.in_ok-gift.ensures.gift none))
+      ];
+    }
