@@ -37,7 +37,7 @@ use Rattle.bd_space.specs.ReadItems.{taken, read_by, serve, served_frames}
 use Rattle.bd_space.specs.Reading.{read_fault}
 use Rattle.bd_space.specs.Steps.{change, counted, by_actor}
 use Rattle.bd_space.specs.Histories.{after, next}
-use Rattle.bd_calls.specs.TodoList.{reply_of}
+use Rattle.bd_links.specs.TodoList.{reply_of}
 use Rattle.bd_laws.specs.Lists.{In}
 use Rattle.bd_laws.proofs.EveryStep.{Keeps, every_step}
 use Rattle.bd_laws.proofs.Lists.{in-push, in-filter, in-changed, find-in, any-found, by-last}

@@ -53,7 +53,7 @@ use Rattle.bd_space.specs.ProcessExits.{exit_process_step}
 use Rattle.bd_space.specs.Outcomes.{Outcome, completed, refused, by_check}
 use Rattle.bd_space.specs.Steps.{change, open_step, open_outcome, open_fault, attach_step, attach_outcome, manager_step, manager_outcome, is_manager_busy, by_actor}
 use Rattle.bd_space.specs.Histories.{History, IsHistory, Follows, after}
-use Rattle.bd_calls.specs.TodoList.{reply_of, first_reply_in}
+use Rattle.bd_links.specs.TodoList.{reply_of, first_reply_in}
 use Rattle.bd_laws.specs.Lists.{In}
 use Rattle.bd_laws.proofs.Lists.{find-some}
 use Rattle.bd_laws.proofs.Tests.{not-true}

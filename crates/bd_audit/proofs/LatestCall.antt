@@ -24,7 +24,7 @@ use Rattle.bd_space.specs.ReadItems.{taken, ends_read}
 use Rattle.bd_space.specs.Reading.{read_fault}
 use Rattle.bd_space.specs.Returns.{bytes_read}
 use Rattle.bd_space.specs.Histories.{History, after}
-use Rattle.bd_calls.specs.TodoList.{reply_of, first_reply_in}
+use Rattle.bd_links.specs.TodoList.{reply_of, first_reply_in}
 use Rattle.bd_laws.specs.Lists.{In, Pairs}
 use Rattle.bd_laws.proofs.Lists.{in-filter, filter-in, pairs-filter, any-found, any-in}
 use Rattle.bd_laws.proofs.Tests.{both, and-both}

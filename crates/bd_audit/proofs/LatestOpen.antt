@@ -30,7 +30,7 @@ use Rattle.bd_space.specs.Replies.{reply_check, reply_to, reply_outcome, reply_s
 use Rattle.bd_space.specs.Commands.{command_step}
 use Rattle.bd_space.specs.Steps.{change, by_actor}
 use Rattle.bd_space.specs.Histories.{History, after}
-use Rattle.bd_calls.specs.TodoList.{reply_of}
+use Rattle.bd_links.specs.TodoList.{reply_of}
 use Rattle.bd_laws.specs.Lists.{In}
 use Rattle.bd_laws.proofs.Lists.{any-in, all-in}
 use Rattle.bd_laws.proofs.Checks.{reply-checked, transaction-may_call}

@@ -30,7 +30,7 @@ use Rattle.bd_space.specs.ProcessExits.{threads_go, without_process, tell_deaths
 use Rattle.bd_space.specs.Steps.{with_thread, with_process, with_manager}
 use Rattle.bd_space.specs.Asking.{ask, drop_asked, acknowledge}
 use Rattle.bd_space.specs.Commands.{with_looping}
-use Rattle.bd_calls.specs.TodoList.{reply_of}
+use Rattle.bd_links.specs.TodoList.{reply_of}
 use Rattle.bd_laws.specs.Lists.{In}
 use Rattle.bd_laws.proofs.Lists.{in-push, in-filter, in-map}
 use Rattle.bd_laws.proofs.Tests.{not-true}

@@ -37,7 +37,7 @@ use Rattle.bd_space.specs.Replies.{replied}
 use Rattle.bd_space.specs.ReadItems.{read_by}
 use Rattle.bd_space.specs.Steps.{counted}
 use Rattle.bd_space.specs.Histories.{History, next, space_after}
-use Rattle.bd_calls.specs.TodoList.{reply_of}
+use Rattle.bd_links.specs.TodoList.{reply_of}
 use Rattle.bd_laws.specs.Lists.{In}
 use Rattle.bd_laws.proofs.EveryStep.{Keeps, every_step, every_list}
 use Rattle.bd_laws.proofs.Lists.{in-push, in-filter, find-in, any-found, any-in}

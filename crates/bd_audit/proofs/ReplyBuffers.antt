@@ -38,7 +38,7 @@ use Rattle.bd_space.specs.Steps.{counted, with_thread, with_process, with_manage
 use Rattle.bd_space.specs.Asking.{ask, drop_asked, acknowledge}
 use Rattle.bd_space.specs.Commands.{with_looping}
 use Rattle.bd_space.specs.Histories.{after, next}
-use Rattle.bd_calls.specs.TodoList.{reply_of}
+use Rattle.bd_links.specs.TodoList.{reply_of}
 use Rattle.bd_laws.specs.Lists.{In}
 use Rattle.bd_laws.specs.OneWayCalls.{IsInTurn}
 use Rattle.bd_laws.proofs.EveryStep.{Keeps, every_step, every_list}

@@ -13,7 +13,7 @@ use Rattle.bd_space.specs.Space.{Space, opening}
 use Rattle.bd_space.specs.declared.space.Frame.{Frame}
 use Rattle.bd_space.specs.Frames.{innermost, serves}
 use Rattle.bd_space.specs.Histories.{History, next, space_after}
-use Rattle.bd_calls.specs.TodoList.{first_reply_in}
+use Rattle.bd_links.specs.TodoList.{first_reply_in}
 use Rattle.bd_engine.specs.Looks.{first_reply, innermost_of}
 use Rattle.bd_audit.specs.Replays.{with_entry, beginning}
 use Rattle.bd_audit.specs.Laws.{space_at}

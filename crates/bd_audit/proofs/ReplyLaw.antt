@@ -24,7 +24,7 @@ use Rattle.bd_space.specs.Replies.{replied}
 use Rattle.bd_space.specs.ReadItems.{read_by, serve}
 use Rattle.bd_space.specs.Steps.{change, counted}
 use Rattle.bd_space.specs.Histories.{History, after, next, space_after}
-use Rattle.bd_calls.specs.TodoList.{reply_of, first_reply_in}
+use Rattle.bd_links.specs.TodoList.{reply_of, first_reply_in}
 use Rattle.bd_engine.specs.Looks.{first_reply}
 use Rattle.bd_laws.specs.Lists.{In}
 use Rattle.bd_laws.proofs.EveryStep.{Keeps, every_step}

@@ -34,7 +34,7 @@ use Rattle.bd_space.specs.Reading.{read_fault, read_step, read_taking}
 use Rattle.bd_space.specs.Returns.{bytes_read}
 use Rattle.bd_space.specs.Steps.{change, counted, by_actor}
 use Rattle.bd_space.specs.Histories.{next}
-use Rattle.bd_calls.specs.TodoList.{reply_of, first_reply_in}
+use Rattle.bd_links.specs.TodoList.{reply_of, first_reply_in}
 use Rattle.bd_engine.specs.Looks.{first_reply}
 use Rattle.bd_laws.specs.Lists.{In}
 use Rattle.bd_laws.proofs.Lists.{in-filter, any-found, any-in, find-in}

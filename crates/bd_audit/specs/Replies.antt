@@ -21,7 +21,7 @@ use Rattle.bd_space.specs.Steps.{step}
 use Rattle.bd_space.specs.ReadItems.{taken}
 use Rattle.bd_space.specs.Reading.{read_fault}
 use Rattle.bd_space.specs.Histories.{History, IsHistory, after, next}
-use Rattle.bd_calls.specs.TodoList.{first_reply_in}
+use Rattle.bd_links.specs.TodoList.{first_reply_in}
 use Rattle.bd_audit.specs.Gifts.{Stands}
 use Rattle.bd_audit.specs.Laws.{space_at}
 

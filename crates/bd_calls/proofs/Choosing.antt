@@ -1,5 +1,5 @@
 -- Closing among chosen calls step by step: in the place of one that closes its parent is chosen.
-use Rattle.std.proofs.Common.{◌≡◌, ℕ, zero, suc, ◌==◌, Bool, true, false, cond, not, ◌&&◌, ◌||◌, List, [], ◌∷◌, Option, Some, None, refl, ap, sym, subst, ◌∙◌, filter, find, arith}
+use Rattle.std.proofs.Common.{◌≡◌, ℕ, zero, suc, ◌==◌, Bool, true, false, cond, not, ◌&&◌, ◌||◌, List, [], ◌∷◌, Option, Some, None, refl, ap, sym, subst, ◌∙◌, map, filter, find, arith}
 use Rattle.std.specs.List.{list_any}
 use Rattle.std.proofs.lemmas.Bool.{eqb-true}
 use Rattle.std.proofs.lemmas.Map.Views.{any-filter_same}
@@ -7,7 +7,7 @@ use Rattle.bd_uapi.specs.declared.command.Return.TheVariants.{DeadReply}
 use Rattle.bd_space.specs.declared.space.Frame.{Frame}
 use Rattle.bd_space.specs.declared.space.TodoList.TheVariants.{OfThread}
 use Rattle.bd_space.specs.declared.space.WorkKind.TheVariants.{Verdict}
-use Rattle.bd_space.specs.Words.{changed, is_some_and}
+use Rattle.bd_space.specs.Words.{is_some_and}
 use Rattle.bd_space.specs.Space.{Space}
 use Rattle.bd_space.specs.Frames.{is_frame, closed}
 use Rattle.bd_space.specs.Settle.{is_abandoned, settle_one}
@@ -15,7 +15,7 @@ use Rattle.bd_space.specs.Todo.{owe}
 use Rattle.bd_space.specs.Local.{close_among}
 use Rattle.bd_calls.specs.declared.table.CallTable.{CallTable}
 use Rattle.bd_calls.specs.Stands.{StandsFor}
-use Rattle.bd_calls.specs.Closing.{is_place_among, IsAmongAt}
+use Rattle.bd_calls.specs.Closing.{is_place_among, chosen_after, IsAmongAt}
 use Rattle.bd_calls.proofs.Settling.{one-steps}
 
 -- ---- what is chosen
@@ -24,7 +24,7 @@ abbrev or_parent : (ℕ → Bool) → Option ℕ → ℕ → Bool
 or_parent c parent m = c m || is_some_and parent (λ p. p == m)
 
 -- any other place than this one is among them as before, and the new one is
-other-chosen : (m p k : ℕ) → ((m == k) ≡ false) → (xs : List ℕ) → is_place_among (changed (λ x. x == m) (λ x. p) xs) k ≡ (is_place_among xs k || (is_place_among xs m && (p == k)))
+other-chosen : (m p k : ℕ) → ((m == k) ≡ false) → (xs : List ℕ) → is_place_among (map (chosen_after m p) xs) k ≡ (is_place_among xs k || (is_place_among xs m && (p == k)))
 other-chosen m p k other [] = refl
 other-chosen m p k other (x ∷ xs) = at (x == m) refl (other-chosen m p k other xs)
   where
@@ -39,8 +39,8 @@ other-chosen m p k other (x ∷ xs) = at (x == m) refl (other-chosen m p k other
     apart true a b = refl
     apart false a b = refl
 
-    at : (b : Bool) → (x == m) ≡ b → is_place_among (changed (λ x. x == m) (λ x. p) xs) k ≡ (is_place_among xs k || (is_place_among xs m && (p == k)))
-        → ((cond b p x == k) || is_place_among (changed (λ x. x == m) (λ x. p) xs) k) ≡ (((x == k) || is_place_among xs k) || ((b || is_place_among xs m) && (p == k)))
+    at : (b : Bool) → (x == m) ≡ b → is_place_among (map (chosen_after m p) xs) k ≡ (is_place_among xs k || (is_place_among xs m && (p == k)))
+        → ((cond b p x == k) || is_place_among (map (chosen_after m p) xs) k) ≡ (((x == k) || is_place_among xs k) || ((b || is_place_among xs m) && (p == k)))
     at true e rest =
         let none : (x == k) ≡ false = ap (λ n. n == k) (eqb-true x m e) ∙ other in
         ap (λ b. (p == k) || b) rest ∙ come (p == k) (is_place_among xs k) (is_place_among xs m) ∙ ap (λ b. (b || is_place_among xs k) || (p == k)) (sym none)
@@ -129,9 +129,9 @@ module _ (s : Space) (f : Frame) (chosen : List ℕ) (left : ℕ) (found : find 
       or-false true = refl
       or-false false = refl
 
-  pub closes-up : (p : ℕ) → f.parent ≡ Some p → close_among left (is_place_among (changed (λ m. m == f.made) (λ m. p) chosen)) (next s f) ≡ close_among (suc left) (is_place_among chosen) s
+  pub closes-up : (p : ℕ) → f.parent ≡ Some p → close_among left (is_place_among (map (chosen_after f.made p) chosen)) (next s f) ≡ close_among (suc left) (is_place_among chosen) s
   closes-up p is =
-      among-same left f.made (is_place_among (changed (λ m. m == f.made) (λ m. p) chosen)) (or_parent (is_place_among chosen) f.parent) (next s f) (gone-frame s f)
+      among-same left f.made (is_place_among (map (chosen_after f.made p) chosen)) (or_parent (is_place_among chosen) f.parent) (next s f) (gone-frame s f)
       (λ k e. other-chosen f.made p k (swapped k f.made e) chosen
       ∙ ap (λ b. is_place_among chosen k || (b && (p == k))) (first-true (is_place_among chosen f.made) (is_abandoned s.frames f) (found-passes _ s.frames f found))
       ∙ ap (λ o. is_place_among chosen k || is_some_and o (λ p. p == k)) (sym is))
@@ -160,15 +160,9 @@ among-none t place (suc left) chosen whole h none = subst (StandsFor t) (sym (ap
     up None = h.mid
     up (Some f) = close_among left (or_parent (is_place_among chosen) f.parent) (next h.mid f)
 
-pub among-over : (t : CallTable) (place left : ℕ) (chosen : List ℕ) (whole : Space) → left ≡ 0 → IsAmongAt t place chosen left whole → StandsFor t whole
-among-over t place left chosen whole none h = subst (StandsFor t) (sym (ap (λ n. close_among n (is_place_among chosen) h.mid) none) ∙ h.goes_on) h.stands
-
 abbrev oldest : List ℕ → List Frame → Option Frame
 oldest chosen fs = find (λ f. is_place_among chosen f.made && is_abandoned fs f) fs
 
 -- what is found in the slice is what is found in the space
 pub found-in : (t : CallTable) (s : Space) (chosen : List ℕ) (o : Option Frame) (fs : List Frame) → StandsFor t s → fs ≡ t.frames.items → o ≡ oldest chosen fs → oldest chosen s.frames ≡ o
 found-in t s chosen o fs h e k = sym (k ∙ ap (oldest chosen) (e ∙ h.frames_are))
-
-pub among-left : (t : CallTable) (place n k : ℕ) (chosen : List ℕ) (whole : Space) → n ≡ k → IsAmongAt t place chosen n whole → IsAmongAt t place chosen k whole
-among-left t place n k chosen whole is h = record { mid = h.mid; stands = h.stands; at = h.at; goes_on = ap (λ m. close_among m (is_place_among chosen) h.mid) (sym is) ∙ h.goes_on }

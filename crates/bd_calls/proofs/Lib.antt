@@ -5,3 +5,4 @@ pub mod OneWay
 pub mod Plain
 pub mod Rooms
 pub mod Settling
+pub mod Works

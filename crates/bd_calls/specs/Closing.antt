@@ -1,5 +1,5 @@
 -- Calls that close one after the other: each the parent of the last, or the oldest of those that are chosen.
-use Rattle.std.specs.Prelude.{ℕ, ◌≡◌, ◌==◌, ◌&&◌, Bool, List, Option, find}
+use Rattle.std.specs.Prelude.{ℕ, ◌≡◌, ◌==◌, ◌&&◌, Bool, List, Option, find, if◌then◌else◌}
 use Rattle.std.specs.Option.{option_and_then}
 use Rattle.std.specs.List.{list_any}
 use Rattle.bd_space.specs.Space.{Space}
@@ -16,9 +16,17 @@ parent_of_abandoned made s = option_and_then (λ f. f.parent) (find (λ f. is_fr
 abbrev pub is_place_among : List ℕ → ℕ → Bool
 is_place_among chosen made = list_any (λ m. m == made) chosen
 
--- the table stands for a space from which closing among the chosen calls goes on, so many at most, to the whole
-pub record IsAmongAt (t : CallTable) (place : ℕ) (chosen : List ℕ) (left : ℕ) (whole : Space) : Type 0 where
+-- what is chosen for one of them, once the call made here has closed
+abbrev pub chosen_after : ℕ → ℕ → ℕ → ℕ
+chosen_after made parent one = if one == made then parent else one
+
+-- the table stands for a space from which closing goes on, so many calls at most, to the whole
+pub record IsClosingAt (t : CallTable) (place : ℕ) (close : ℕ → Space → Space) (left : ℕ) (whole : Space) : Type 0 where
   pub mid : Space
   pub stands : StandsFor t mid
   pub at : mid.steps ≡ place
-  pub goes_on : close_among left (is_place_among chosen) mid ≡ whole
+  pub goes_on : close left mid ≡ whole
+
+-- among the chosen calls
+abbrev pub IsAmongAt : CallTable → ℕ → List ℕ → ℕ → Space → Type 0
+IsAmongAt t place chosen left whole = IsClosingAt t place (λ n. close_among n (is_place_among chosen)) left whole

@@ -1,5 +1,6 @@
 -- How many things a call table holds and has room for, for what reserves and commits.
 use Rattle.std.specs.Prelude.{ℕ, ◌+◌, ◌-◌, ◌≤◌, vec_len, vec_capacity}
+use Rattle.bd_links.specs.Stands as links
 use Rattle.bd_calls.specs.declared.table.CallTable.{CallTable}
 
 -- so many threads, frames, one-way calls and work items
@@ -21,7 +22,7 @@ rooms t = record {
     threads = vec_capacity t.threads - vec_len t.threads;
     frames = vec_capacity t.frames - vec_len t.frames;
     turns = vec_capacity t.turns - vec_len t.turns;
-    works = vec_capacity t.todo - vec_len t.todo;
+    works = links.work_room t.todo;
   };
   frame_count = vec_len t.frames;
   turn_count = vec_len t.turns;
@@ -60,9 +61,10 @@ nothing = record { threads = 0; frames = 0; turns = 0; works = 0 }
 abbrev pub UsesNothing : CallTable → CallTable → Type 0
 UsesNothing old new = Uses old new nothing
 
--- room for a thread, a frame, a one-way call and so many work items, beside those that settling and ripening may make
+-- room for a thread, a frame, a one-way call and so many work items, beside those that settling may make, that of a call that
+-- ripens, and what a step itself does
 pub record HasRoom (t : CallTable) (works : ℕ) : Type 0 where
   pub one_thread : 1 ≤ thread_room t
   pub one_frame : 1 ≤ frame_room t
   pub one_turn : 1 ≤ turn_room t
-  pub all_works : works + frame_count t + turn_count t + 8 ≤ work_room t
+  pub all_works : works + frame_count t + 9 ≤ work_room t

@@ -9,15 +9,15 @@ ghost use Rattle.bd_space.specs.Local as local;
 ghost use Rattle.bd_space.specs.ThreadExits as exits;
 ghost use Rattle.bd_space.specs.ReadItems as reading;
 ghost use Rattle.bd_space.specs.Todo as works;
-ghost use Rattle.bd_space.specs.Words.{changed};
-ghost use Rattle.bd_calls.specs.Closing.{is_place_among};
+ghost use Rattle.bd_links.specs.Stands as links;
+ghost use Rattle.bd_calls.specs.Closing.{is_place_among, chosen_after};
 
 use crate::ancestry::ancestry_of;
 use crate::server::{gone_server, is_gone, serves};
 use crate::table::CallTable;
 use crate::thread::thread_of;
-use crate::todo_list::{is_unread_on, push_work};
-use crate::work::is_call;
+use crate::work::has_call;
+use bd_links::WorkTable;
 use bd_space::{Frame, Server, Thread, TodoList, Work, WorkKind};
 use bd_uapi::Return;
 use std::alloc::AllocError;
@@ -185,13 +185,17 @@ fn oldest_abandoned_among(frames: &[Frame], chosen: &[u32]) -> Option<Frame>
 }
 
 // In the place of a call that closes the one is chosen in which it was made.
+fn parent_or_same(one: u32, made: u32, parent: u32) -> u32
+    ensures { result ≡ chosen_after made parent one }
+{
+    if one == made { parent } else { one }
+}
+
 fn choose_parent(chosen: &mut [u32], made: u32, parent: u32)
-    ensures { chosen.new ≡ changed (λ m. m == made) (λ m. parent) chosen.old }
+    ensures { chosen.new ≡ map (chosen_after made parent) chosen.old }
 {
     for one in chosen.iter_mut() {
-        if *one == made {
-            *one = parent;
-        }
+        *one = parent_or_same(*one, made, parent);
     }
 }
 
@@ -207,12 +211,6 @@ fn push_served(frames: &[Frame], seat: u32, served: &mut Vec<u32>) -> Result<(),
     Ok(())
 }
 
-fn is_call_of(taken: &[Work], frame: &Frame) -> bool
-    ensures { result ≡ list_any (λ w. works.is_call frame.now.made w.kind) taken.now }
-{
-    taken.iter().any(|w| is_call(frame.made, w.kind))
-}
-
 // Whoever read the call of a frame is its server.
 pub(crate) fn serve(frames: &mut Vec<Frame>, seat: u32, taken: &[Work])
     ensures frames { frames.new.items ≡ reading.served_frames seat taken.now frames.old.items }
@@ -220,7 +218,7 @@ pub(crate) fn serve(frames: &mut Vec<Frame>, seat: u32, taken: &[Work])
     ensures capacity { vec_capacity frames.new ≡ vec_capacity frames.old }
 {
     for frame in frames.iter_mut() {
-        if is_call_of(taken, frame) {
+        if has_call(taken, frame.made) {
             frame.server = Server::Serving(seat);
         }
     }
@@ -232,17 +230,17 @@ fn gone_caller(seat: u32, caller: Option<u32>) -> Option<u32>
     caller.filter(|c| *c != seat)
 }
 
-fn unread_server(todo: &[Work], list: TodoList, made: u32, server: Server) -> Server
-    ensures { result ≡ exits.unread_server todo.now list made server }
+fn unread_server(todo: &WorkTable, list: TodoList, made: u32, server: Server) -> Server
+    ensures { links.Tells todo.now result (λ l. exits.unread_server l list made server) }
 {
     match server {
-        Server::Pending if is_unread_on(todo, list, made) => Server::Gone,
+        Server::Pending if todo.is_unread_on(list, made) => Server::Gone,
         _ => server,
     }
 }
 
-fn frame_without(todo: &[Work], seat: u32, frame: Frame) -> Frame
-    ensures { result ≡ exits.frame_without todo.now seat frame }
+fn frame_without(todo: &WorkTable, seat: u32, frame: Frame) -> Frame
+    ensures { links.Tells todo.now result (λ l. exits.frame_without l seat frame) }
 {
     let unread = unread_server(todo, TodoList::OfThread(seat), frame.made, frame.server);
     Frame {
@@ -252,8 +250,8 @@ fn frame_without(todo: &[Work], seat: u32, frame: Frame) -> Frame
     }
 }
 
-fn unread_frame(todo: &[Work], list: TodoList, frame: Frame) -> Frame
-    ensures { result ≡ exits.unread_frame todo.now list frame }
+fn unread_frame(todo: &WorkTable, list: TodoList, frame: Frame) -> Frame
+    ensures { links.Tells todo.now result (λ l. exits.unread_frame l list frame) }
 {
     Frame {
         server: unread_server(todo, list, frame.made, frame.server),
@@ -262,8 +260,8 @@ fn unread_frame(todo: &[Work], list: TodoList, frame: Frame) -> Frame
 }
 
 // The thread is gone from its frames.
-pub(crate) fn leave_frames(frames: &mut Vec<Frame>, todo: &[Work], seat: u32)
-    ensures frames { frames.new.items ≡ map (exits.frame_without todo.now seat) frames.old.items }
+pub(crate) fn leave_frames(frames: &mut Vec<Frame>, todo: &WorkTable, seat: u32)
+    ensures frames { links.Tells todo.now frames.new.items (λ l. map (exits.frame_without l seat) frames.old.items) }
     ensures len { vec_len frames.new ≡ vec_len frames.old }
     ensures capacity { vec_capacity frames.new ≡ vec_capacity frames.old }
 {
@@ -273,8 +271,8 @@ pub(crate) fn leave_frames(frames: &mut Vec<Frame>, todo: &[Work], seat: u32)
 }
 
 // The calls that stand unread on the list have lost their server.
-pub(crate) fn lose_unread(frames: &mut Vec<Frame>, todo: &[Work], list: TodoList)
-    ensures frames { frames.new.items ≡ map (exits.unread_frame todo.now list) frames.old.items }
+pub(crate) fn lose_unread(frames: &mut Vec<Frame>, todo: &WorkTable, list: TodoList)
+    ensures frames { links.Tells todo.now frames.new.items (λ l. map (exits.unread_frame l list) frames.old.items) }
     ensures len { vec_len frames.new ≡ vec_len frames.old }
     ensures capacity { vec_capacity frames.new ≡ vec_capacity frames.old }
 {
@@ -330,7 +328,7 @@ impl CallTable {
     {
         let parent = innermost_made(&self.frames, seat);
         let list = list_from(&self.threads, &self.frames, parent, process);
-        push_work(&mut self.todo, place, list, WorkKind::Call(place));
+        self.todo.push(place, list, WorkKind::Call(place));
         let frame = Frame {
             made: place,
             caller: Some(seat),

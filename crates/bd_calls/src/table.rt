@@ -5,8 +5,8 @@ ghost use Rattle.std.specs.Prelude.{ℕ, Bool, ◌≡◌, ◌==◌, ◌||◌, �
 
 use crate::frame::{leave_frames, lose_unread, serve};
 use crate::thread::remove_thread;
-use crate::todo_list::{clear_list, remove_taken};
 use crate::turn::{hand_out_taken, lose_turns, remove_received};
+use bd_links::WorkTable;
 use bd_space::{Frame, Thread, TodoList, Turn, Work};
 use std::alloc::{AllocError, Global};
 
@@ -15,7 +15,7 @@ use std::alloc::{AllocError, Global};
 pub struct CallTable {
     pub(crate) threads: Vec<Thread>,
     pub(crate) frames: Vec<Frame>,
-    pub(crate) todo: Vec<Work>,
+    pub(crate) todo: WorkTable,
     pub(crate) turns: Vec<Turn>,
 }
 
@@ -35,25 +35,24 @@ impl CallTable {
         CallTable {
             threads: Vec::new(alloc),
             frames: Vec::new(alloc),
-            todo: Vec::new(alloc),
+            todo: WorkTable::new(alloc),
             turns: Vec::new(alloc),
         }
     }
 
-    // As many as settling and ripening may make, and what the steps themselves do.
+    // As many as settling may make, the one of a call that ripens, and what the steps themselves do.
     fn works_to_reserve(&self, works: usize) -> Result<usize, AllocError>
-        ensures sum { IfOk result (λ n. n ≡ works + vec_len self.now.frames + vec_len self.now.turns + 8) }
-        ensures past { OnErr result (2 ^ 64 ≤ works + vec_len self.now.frames + vec_len self.now.turns + 8) }
+        ensures sum { IfOk result (λ n. n ≡ works + vec_len self.now.frames + 9) }
+        ensures past { OnErr result (2 ^ 64 ≤ works + vec_len self.now.frames + 9) }
     {
         works
             .checked_add(self.frames.len())
-            .and_then(|n| n.checked_add(self.turns.len()))
-            .and_then(|n| n.checked_add(8))
+            .and_then(|n| n.checked_add(9))
             .ok_or(AllocError)
     }
 
-    /// Makes room for a thread, a frame, a one-way call and so many work items, beside those that settling and
-    /// ripening may make. Fails for want of memory, and then changes nothing either.
+    /// Makes room for a thread, a frame, a one-way call and so many work items, beside those that settling may make
+    /// and the one of a call that ripens. Fails for want of memory, and then changes nothing either.
     pub fn reserve(&mut self, works: usize) -> Result<(), AllocError>
         ensures stands { Makes (StandsFor self.old) (StandsFor self.new) (λ s. s) }
         ensures uses { UsesNothing self.old self.new }
@@ -75,7 +74,7 @@ impl CallTable {
         ensures uses { UsesNothing self.old self.new }
     {
         serve(&mut self.frames, seat, taken);
-        remove_taken(&mut self.todo, taken);
+        self.todo.remove_taken(taken);
         hand_out_taken(&mut self.turns, taken);
     }
 
@@ -87,7 +86,7 @@ impl CallTable {
         let list = TodoList::OfThread(seat);
         leave_frames(&mut self.frames, &self.todo, seat);
         lose_turns(&mut self.turns, &self.todo, list);
-        clear_list(&mut self.todo, list);
+        self.todo.clear_list(list);
         remove_thread(&mut self.threads, seat);
     }
 
@@ -99,6 +98,6 @@ impl CallTable {
         let list = TodoList::OfProcess(process);
         lose_unread(&mut self.frames, &self.todo, list);
         remove_received(&mut self.turns, process);
-        clear_list(&mut self.todo, list);
+        self.todo.clear_list(list);
     }
 }

@@ -8,84 +8,21 @@ ghost use Rattle.bd_space.specs.Todo as spec;
 ghost use Rattle.bd_space.specs.ThreadExits as exits;
 ghost use Rattle.bd_space.specs.Reading as reading;
 ghost use Rattle.bd_space.specs.Notices as notices;
-ghost use Rattle.bd_calls.specs.TodoList as replies;
-ghost use Rattle.bd_calls.specs.TodoList.{AnswersBy};
+ghost use Rattle.bd_links.specs.Stands as links;
+ghost use Rattle.bd_links.specs.TodoList as replies;
+ghost use Rattle.bd_links.specs.TodoList.{AnswersBy};
 
 use crate::frame::innermost_of;
 use crate::table::CallTable;
 use crate::thread::thread_of;
-use crate::work::{hands_over, is_call, is_notice, is_on, is_taken, keeps_from_calling, reply_of};
-use bd_space::{Frame, Identity, ObjectId, Thread, TodoList, Work, WorkKind};
+use bd_links::{WorkTable, Works};
+use bd_space::{Frame, ObjectId, Thread, TodoList, Work, WorkKind};
 
-fn has_work(todo: &[Work], list: TodoList) -> bool
-    ensures { result ≡ spec.has_work_in todo.now list }
-{
-    todo.iter().any(|w| is_on(list, w))
-}
-
-fn has_in_way(todo: &[Work], list: TodoList) -> bool
-    ensures { result ≡ list_any (λ w. spec.is_on list w && spec.keeps_from_calling w.kind) todo.now }
-{
-    todo.iter()
-        .any(|w| is_on(list, w) && keeps_from_calling(w.kind))
-}
-
-fn has_notice(todo: &[Work], object: ObjectId) -> bool
-    ensures { result ≡ notices.has_notice_in todo.now object }
-{
-    todo.iter().any(|w| is_notice(object, w.kind))
-}
-
-pub(crate) fn has_call(todo: &[Work], buffer: u32) -> bool
-    ensures { result ≡ list_any (λ w. spec.is_call buffer w.kind) todo.now }
-{
-    todo.iter().any(|w| is_call(buffer, w.kind))
-}
-
-fn count_at(todo: &[Work], place: u32) -> usize
-    ensures { result ≡ count_by (λ w. w.id.place == place) todo.now }
-{
-    todo.iter().filter(|w| w.id.place == place).count()
-}
-
-/// One work item more, made at this place. Takes no memory.
-pub(crate) fn push_work(todo: &mut Vec<Work>, place: u32, list: TodoList, kind: WorkKind)
-    requires { vec_len todo.old < vec_capacity todo.old }
-    ensures todo { todo.new.items ≡ spec.with_work place todo.old.items list kind }
-    ensures len { vec_len todo.new ≡ vec_len todo.old + 1 }
-    ensures capacity { vec_capacity todo.new ≡ vec_capacity todo.old }
-{
-    let index = count_at(todo, place) as u64;
-    todo.push_reserved(Work {
-        id: Identity { place, index },
-        list,
-        kind,
-    });
-}
-
-fn keep_kinds<F: Fn(WorkKind) -> bool>(todo: &mut Vec<Work>, f: F)
-    requires { F.IsAlwaysCallable f }
-    ensures todo { (p : WorkKind → Bool) → AnswersBy (λ kind b. F.post f kind b) p
-        → todo.new.items ≡ filter (λ w. p w.kind) todo.old.items }
-    ensures len { vec_len todo.new ≤ vec_len todo.old }
-    ensures capacity { vec_capacity todo.new ≡ vec_capacity todo.old }
-{
-    todo.retain(|w| f(w.kind));
-}
-
-fn withdraw(todo: &mut Vec<Work>, object: ObjectId)
-    ensures todo { todo.new.items ≡ filter (λ w. not (spec.is_notice object w.kind)) todo.old.items }
-    ensures len { vec_len todo.new ≤ vec_len todo.old }
-    ensures capacity { vec_capacity todo.new ≡ vec_capacity todo.old }
-{
-    todo.retain(|w| !is_notice(object, w.kind));
-}
-
-fn reads_in(frames: &[Frame], todo: &[Work], thread: &Thread) -> Option<TodoList>
-    ensures { result ≡ spec.reads_in frames.now todo.now thread.now }
+fn reads_in(frames: &[Frame], todo: &WorkTable, thread: &Thread) -> Option<TodoList>
+    ensures { links.Tells todo.now result (λ l. spec.reads_in frames.now l thread.now) }
 {
     let own = TodoList::OfThread(thread.seat);
-    if has_work(todo, own) {
+    if todo.has_any(own) {
         Some(own)
     } else if thread.looping && innermost_of(frames, thread.seat).is_none() {
         Some(TodoList::OfProcess(thread.process))
@@ -94,67 +31,20 @@ fn reads_in(frames: &[Frame], todo: &[Work], thread: &Thread) -> Option<TodoList
     }
 }
 
-fn work_on(todo: &[Work], list: TodoList, k: usize) -> Option<Work>
-    ensures { result ≡ slice_get (spec.work_on todo.now (Some list)) k }
-{
-    todo.iter().copied().filter(|w| is_on(list, w)).nth(k)
-}
-
-fn has_on(todo: &[Work], list: Option<TodoList>) -> bool
-    ensures { result ≡ not (reading.is_empty (spec.work_on todo.now list)) }
+fn has_on(todo: &WorkTable, list: Option<TodoList>) -> bool
+    ensures { links.Tells todo.now result (λ l. not (reading.is_empty (spec.work_on l list))) }
 {
     match list {
-        Some(list) => has_work(todo, list),
+        Some(list) => todo.has_any(list),
         None => false,
     }
 }
 
-fn has_to_read(frames: &[Frame], todo: &[Work], thread: &Thread) -> bool
-    ensures { result ≡ not (reading.is_empty (spec.work_on todo.now (spec.reads_in frames.now todo.now thread.now))) }
+fn has_to_read(frames: &[Frame], todo: &WorkTable, thread: &Thread) -> bool
+    ensures { links.Tells todo.now result
+        (λ l. not (reading.is_empty (spec.work_on l (spec.reads_in frames.now l thread.now)))) }
 {
     has_on(todo, reads_in(frames, todo, thread))
-}
-
-fn first_reply_on(todo: &[Work], list: TodoList) -> Option<u32>
-    ensures { result ≡ replies.first_reply_in (spec.work_on todo.now (Some list)) }
-{
-    for work in todo {
-        if is_on(list, work) {
-            let reply = reply_of(work.kind);
-            if reply.is_some() {
-                return reply;
-            }
-        }
-    }
-    None
-}
-
-pub(crate) fn remove_taken(todo: &mut Vec<Work>, taken: &[Work])
-    ensures todo { todo.new.items ≡ spec.without_taken taken.now todo.old.items }
-    ensures len { vec_len todo.new ≤ vec_len todo.old }
-    ensures capacity { vec_capacity todo.new ≡ vec_capacity todo.old }
-{
-    todo.retain(|w| !is_taken(taken, w));
-}
-
-pub(crate) fn is_unread_on(todo: &[Work], list: TodoList, made: u32) -> bool
-    ensures { result ≡ exits.is_unread_on todo.now list made }
-{
-    todo.iter().any(|w| is_on(list, w) && is_call(made, w.kind))
-}
-
-pub(crate) fn is_lost_with(todo: &[Work], list: TodoList, buffer: u32) -> bool
-    ensures { result ≡ exits.is_lost_with todo.now list buffer }
-{
-    todo.iter().any(|w| is_on(list, w) && hands_over(w, buffer))
-}
-
-pub(crate) fn clear_list(todo: &mut Vec<Work>, list: TodoList)
-    ensures todo { todo.new.items ≡ filter (λ w. not (spec.is_on list w)) todo.old.items }
-    ensures len { vec_len todo.new ≤ vec_len todo.old }
-    ensures capacity { vec_capacity todo.new ≡ vec_capacity todo.old }
-{
-    todo.retain(|w| !is_on(list, w));
 }
 
 impl CallTable {
@@ -169,7 +59,7 @@ impl CallTable {
     pub fn has_unread(&self, seat: u32) -> bool
         ensures { Tells (StandsFor self.now) result (λ s. spec.has_unread s seat) }
     {
-        has_in_way(&self.todo, TodoList::OfThread(seat))
+        self.todo.keeps_from_calling(TodoList::OfThread(seat))
     }
 
     /// Which list a thread reads: its own if anything is on it, else its process's if it is in no call and has entered
@@ -180,18 +70,25 @@ impl CallTable {
         reads_in(&self.frames, &self.todo, thread)
     }
 
+    /// The work items on a list, oldest first.
+    pub fn works_on(&self, list: TodoList) -> Works<'_>
+        ensures { Tells (StandsFor self.now) result (λ s. spec.work_on s.todo (Some list)) }
+    {
+        self.todo.works_on(list)
+    }
+
     /// The `k`-th work item on a list, oldest first.
     pub fn work_at(&self, list: TodoList, k: usize) -> Option<Work>
         ensures { Tells (StandsFor self.now) result (λ s. slice_get (spec.work_on s.todo (Some list)) k) }
     {
-        work_on(&self.todo, list, k)
+        self.todo.work_at(list, k)
     }
 
     /// Where the first reply on a list was made.
     pub fn first_reply(&self, list: TodoList) -> Option<u32>
         ensures { Tells (StandsFor self.now) result (λ s. replies.first_reply_in (spec.work_on s.todo (Some list))) }
     {
-        first_reply_on(&self.todo, list)
+        self.todo.first_reply(list)
     }
 
     /// Whether a seat's thread has anything to read.
@@ -208,7 +105,7 @@ impl CallTable {
     pub fn is_lost(&self, list: TodoList, buffer: u32) -> bool
         ensures { Tells (StandsFor self.now) result (λ s. exits.is_lost_with s.todo list buffer) }
     {
-        is_lost_with(&self.todo, list, buffer)
+        self.todo.is_lost_with(list, buffer)
     }
 
     /// A work item comes onto a list, made at this place.
@@ -217,7 +114,7 @@ impl CallTable {
         ensures stands { MakesAt place (StandsFor self.old) (StandsFor self.new) (λ s. spec.owe s list kind) }
         ensures uses { Uses self.old self.new (record nothing { works = 1 }) }
     {
-        push_work(&mut self.todo, place, list, kind);
+        self.todo.push(place, list, kind);
     }
 
     /// The caller of a frame, if it lives, gets a work item, made at this place.
@@ -227,7 +124,7 @@ impl CallTable {
         ensures uses { Uses self.old self.new (record nothing { works = 1 }) }
     {
         if let Some(seat) = frame.caller {
-            push_work(&mut self.todo, place, TodoList::OfThread(seat), kind);
+            self.todo.push(place, TodoList::OfThread(seat), kind);
         }
     }
 
@@ -243,7 +140,7 @@ impl CallTable {
             → StandsFor self.new (notices.work_goes s) }
         ensures uses { UsesNothing self.old self.new }
     {
-        keep_kinds(&mut self.todo, f);
+        self.todo.keep_kinds(f);
     }
 
     /// The notice of an object whose owner is to be told comes onto a list, if it is missing, made at this place.
@@ -256,8 +153,8 @@ impl CallTable {
             }) }
         ensures uses { Uses self.old self.new (record nothing { works = 1 }) }
     {
-        if wanted && !has_notice(&self.todo, object) {
-            push_work(&mut self.todo, place, list, WorkKind::Notice(object));
+        if wanted && !self.todo.has_notice(object) {
+            self.todo.push(place, list, WorkKind::Notice(object));
         }
     }
 
@@ -267,6 +164,6 @@ impl CallTable {
             (λ s. record s { todo = filter (λ w. not (spec.is_notice object w.kind)) s.todo }) }
         ensures uses { UsesNothing self.old self.new }
     {
-        withdraw(&mut self.todo, object);
+        self.todo.withdraw_notice(object);
     }
 }

@@ -9,11 +9,12 @@ ghost use Rattle.bd_space.specs.Todo as works;
 ghost use Rattle.bd_space.specs.ThreadExits as exits;
 ghost use Rattle.bd_space.specs.Turns as spec;
 ghost use Rattle.bd_space.specs.Local as local;
+ghost use Rattle.bd_links.specs.Stands as links;
 ghost use Rattle.bd_calls.specs.Turn.{hand_turn, handed_turns};
 
 use crate::table::CallTable;
-use crate::todo_list::{has_call, is_lost_with, push_work};
 use crate::work::handed_by;
+use bd_links::WorkTable;
 use bd_space::{ObjectId, TodoList, Turn, Work, WorkKind};
 
 fn oldest_on(turns: &[Turn], object: ObjectId) -> Option<Turn>
@@ -23,30 +24,29 @@ fn oldest_on(turns: &[Turn], object: ObjectId) -> Option<Turn>
 }
 
 // Nobody was told of it yet.
-fn is_untold(todo: &[Work], turn: Turn) -> bool
-    ensures { result ≡ (not turn.handed && not (list_any (λ w. works.is_call turn.made w.kind) todo.now)) }
+fn is_untold(todo: &WorkTable, turn: Turn) -> bool
+    ensures { links.Tells todo.now result
+        (λ l. not turn.handed && not (list_any (λ w. works.is_call turn.made w.kind) l)) }
 {
-    !turn.handed && !has_call(todo, turn.made)
+    !turn.handed && !todo.has_call(turn.made)
 }
 
 // The call becomes due, unless somebody was told of it before.
-fn push_untold(todo: &mut Vec<Work>, turn: Turn, place: u32)
-    requires { vec_len todo.old < vec_capacity todo.old }
-    ensures todo { todo.new.items ≡ local.first_due place todo.old.items (Some turn) }
-    ensures len { vec_len todo.new ≤ vec_len todo.old + 1 }
-    ensures capacity { vec_capacity todo.new ≡ vec_capacity todo.old }
+fn push_untold(todo: &mut WorkTable, turn: Turn, place: u32)
+    requires { 1 ≤ links.work_room todo.old }
+    ensures todo { links.Makes todo.old todo.new (λ l. local.first_due place l (Some turn)) }
+    ensures uses { links.work_room todo.old ≤ links.work_room todo.new + 1 }
 {
     if is_untold(todo, turn) {
         let list = TodoList::OfProcess(turn.receiver);
-        push_work(todo, place, list, WorkKind::Call(turn.made));
+        todo.push(place, list, WorkKind::Call(turn.made));
     }
 }
 
-fn push_first(todo: &mut Vec<Work>, turn: Option<Turn>, place: u32)
-    requires { vec_len todo.old < vec_capacity todo.old }
-    ensures todo { todo.new.items ≡ local.first_due place todo.old.items turn }
-    ensures len { vec_len todo.new ≤ vec_len todo.old + 1 }
-    ensures capacity { vec_capacity todo.new ≡ vec_capacity todo.old }
+fn push_first(todo: &mut WorkTable, turn: Option<Turn>, place: u32)
+    requires { 1 ≤ links.work_room todo.old }
+    ensures todo { links.Makes todo.old todo.new (λ l. local.first_due place l turn) }
+    ensures uses { links.work_room todo.old ≤ links.work_room todo.new + 1 }
 {
     if let Some(turn) = turn {
         push_untold(todo, turn, place);
@@ -102,12 +102,13 @@ fn remove_turn(turns: &mut Vec<Turn>, made: u32)
     turns.retain(|t| !is_turn(t, made));
 }
 
-pub(crate) fn lose_turns(turns: &mut Vec<Turn>, todo: &[Work], list: TodoList)
-    ensures turns { turns.new.items ≡ filter (λ t. not (exits.is_lost_with todo.now list t.made)) turns.old.items }
+pub(crate) fn lose_turns(turns: &mut Vec<Turn>, todo: &WorkTable, list: TodoList)
+    ensures turns { links.Tells todo.now turns.new.items
+        (λ l. filter (λ t. not (exits.is_lost_with l list t.made)) turns.old.items) }
     ensures len { vec_len turns.new ≤ vec_len turns.old }
     ensures capacity { vec_capacity turns.new ≡ vec_capacity turns.old }
 {
-    turns.retain(|t| !is_lost_with(todo, list, t.made));
+    turns.retain(|t| !todo.is_lost_with(list, t.made));
 }
 
 pub(crate) fn remove_received(turns: &mut Vec<Turn>, process: u32)

@@ -33,7 +33,7 @@ use Rattle.bd_driver.specs.Steps.{took_at, put_at}
 use Rattle.bd_driver.specs.Driver.{Takes}
 use Rattle.bd_driver.specs.Served.{Serves}
 use Rattle.bd_driver.specs.declared.outcome.Served.TheVariants.{Ran}
-use Rattle.bd_driver.specs.Serve.{Serving, IsPicked, FollowsFor, AnswersPick, RunsAs, AnswersOne, letter_ticks, OnlyServes, RanPicked, ServedOne, AnswersAll, ServedAll, ticks, ones}
+use Rattle.bd_driver.specs.Serve.{Serving, IsPicked, PicksOne, FollowsFor, AnswersPick, RunsAs, AnswersOne, letter_ticks, OnlyServes, RanPicked, ServedOne, AnswersAll, ServedAll, ticks, ones}
 use Rattle.bd_driver.proofs.Views.{starts_all}
 use Rattle.bd_driver.proofs.MailboxSteps.{picks, serves, answers}
 
@@ -152,6 +152,23 @@ module _ (m : Hands) (i : ℕ) (r : Request) (e0 : History) (p : IsPicked m i r 
           (ap (places (length v.seen)) none_more))
 
   -- the whole of it, once answered
+  seats_after : (e1 : History) (ran : Result HasRan Refused) → IfOk ran (λ x. HasRun e0 e1 i r x.answer x.from x.to) → OnErr ran (e1 ≡ e0) → e1.seats ≡ e0.seats
+  seats_after e1 (Ok x) h same = h.seats
+  seats_after e1 (Err why) h same = ap (λ (e : History). e.seats) same
+
+  -- once that is answered the taker serves on
+  pub serves_on : (e1 : History) (ran : Result HasRan Refused) → IfOk ran (λ x. HasRun e0 e1 i r x.answer x.from x.to) → OnErr ran (e1 ≡ e0) → (o : Outcome) (n : ℕ) (m' m'' : Hands)
+      → m' ≡ (served_at v n e1.entries ∷ [], (i + 1, Empty) ∷ rest m.1) → m'' ≡ (answered_at (view_of m'.0) 2 o ∷ [], rest m'.1) → Serving m'' e1 × (e1.seats ≡ e0.seats)
+  serves_on e1 ran h same o n m' m'' after last =
+      let seats = seats_after e1 ran h same in
+      (subst (λ x. Serving x e1) (sym (last ∙ ap (λ (x : Hands). (answered_at (view_of x.0) 2 o ∷ [], rest x.1)) after)) (record {
+        one = refl;
+        on = p.on;
+        none_picked = refl;
+        held = p.below;
+        stands = ap (λ n. history_of n e1.entries) (seats ∙ ap (λ (e : History). e.seats) p.stands);
+      }), seats)
+
   pub ran_picked : (e1 : History) (o : Outcome) (n : ℕ) (m' m'' : Hands) → RunsAs v.seats i r o v.seen e1.entries → m' ≡ (served_at v n e1.entries ∷ [], (i + 1, Empty) ∷ rest m.1) → m'' ≡ (answered_at (view_of m'.0) 2 o ∷ [], rest m'.1) → RanPicked m i r m''
   ran_picked e1 o n m' m'' runs after last =
       let pick : with_places v.pick (length v.seen) (length e1.entries - length v.seen) ≡ Picked i r p.since (length v.seen) (length e1.entries - length v.seen) = ap (λ q. with_places q (length v.seen) (length e1.entries - length v.seen)) p.pick in
@@ -264,6 +281,19 @@ served_more v xs k m m' d n b a s is =
       only = then_only v (view_of m.0) (view_of m'.0) a.only s.only;
       slots = s.slots ∙ a.slots;
     }
+
+-- what was picked while serving is picked
+pub picks_serving : (m m' : Hands) (i : ℕ) (r : Request) (e : History) → Serving m e → PicksOne m i m' (Some r) → IsPicked m' i r e
+picks_serving m m' i r e s p = subst (λ x. IsPicked x i r e) (sym p.view.1.2) (record {
+  one = refl;
+  on = s.on;
+  since = p.view.1.0;
+  early = p.view.1.1;
+  pick = refl;
+  held = refl;
+  below = s.held;
+  stands = s.stands;
+})
 
 pub takes_serving : (v : View) (xs : List (ℕ × Slot)) (m : Hands) (e : History) (none_picked : v.pick ≡ Nothing) → Takes v xs m (Some e) → Serving m e
 takes_serving v xs m e none_picked t =

@@ -1,5 +1,5 @@
 -- What a whole call says, from what its parts say.
-use Rattle.std.proofs.Common.{◌≡◌, ℕ, ◌-◌, ◌≤◌, List, ◌++◌, length, Some, refl, sym, ap, ◌∙◌, subst, arith, length-append, append-nil}
+use Rattle.std.proofs.Common.{◌≡◌, ℕ, ◌-◌, ◌≤◌, List, [], ◌++◌, length, Some, refl, sym, ap, ◌∙◌, subst, arith, length-append, append-nil}
 use Rattle.bd_space.specs.declared.step.Entry.{Entry}
 use Rattle.bd_space.specs.declared.step.Request.{Request}
 use Rattle.bd_space.specs.declared.step.Answer.{Answer}
@@ -17,8 +17,24 @@ use Rattle.bd_driver.specs.declared.outcome.Outcome.TheVariants.{Done, Back}
 use Rattle.bd_driver.specs.declared.slot.Slot.{Slot}
 use Rattle.bd_driver.specs.Reasons.{reason_of}
 use Rattle.bd_driver.specs.Steps.{Hands, took_at, published_at, put_at}
-use Rattle.bd_driver.specs.Driver.{Takes, Gives, IsWhy, PageSteps, Calls}
+use Rattle.bd_driver.specs.Driver.{Takes, Follows, Gives, IsWhy, PageSteps, Calls}
 use Rattle.bd_driver.proofs.Views.{starts_longer}
+
+-- what an engine has run that was taken is of this seat, and comes after what the seat has then seen
+pub run_follows : (v : View) (number : ℕ) (me : number ≡ v.who) (xs : List (ℕ × Slot)) (m : Hands) (e0 e1 : History) (request : Request) → Takes v xs m (Some e0)
+    → (ran : Result Ran Refused) → IfOk ran (λ x. HasRun e0 e1 number request x.answer x.from x.to) → OnErr ran (e1 ≡ e0) → Follows (view_of m.0) e1
+run_follows v number me xs m e0 e1 request t (Ok x) h same = subst (λ w. Follows w e1) (sym (ap view_of t.view)) (record {
+  seats = h.seats ∙ ap (λ (e : History). e.seats) t.engine.1;
+  run = h.run;
+  grown = h.grown ∙ ap (λ (e : History). e.entries ++ h.run) t.engine.1;
+  by_seat = subst (λ z. AllBy z h.run) me h.by_seat;
+})
+run_follows v number me xs m e0 e1 request t (Err why) h same = subst (λ w. Follows w e1) (sym (ap view_of t.view)) (record {
+  seats = ap (λ (e : History). e.seats) (same ∙ t.engine.1);
+  run = [];
+  grown = ap (λ (e : History). e.entries) (same ∙ t.engine.1) ∙ sym (append-nil t.entries);
+  by_seat = tt;
+})
 
 module _ (v : View) (number : ℕ) (me : number ≡ v.who) (m m' : Hands) (e0 e1 : History) (request : Request) (xs : List (ℕ × Slot)) (t : Takes v xs m (Some e0)) (g : Gives (view_of m.0) xs e1.entries m') where
   abbrev w : View

@@ -5,7 +5,7 @@ use Rattle.bd_space.specs.declared.step.StepAnswer.TheVariants.{Accepted, Noted}
 use Rattle.bd_space.specs.Space.{Space}
 use Rattle.bd_space.specs.Outcomes.{Outcome, completed, accepted, noted}
 use Rattle.bd_engine.specs.declared.tables.Tables.{Tables}
-use Rattle.bd_engine.specs.Stands.{Before, Within, MakesWithin}
+use Rattle.bd_engine.specs.Stands.{Before, Within}
 use Rattle.bd_engine.specs.Meets.{Meets, IsKept}
 use Rattle.bd_engine.proofs.Standing.{within}
 
@@ -18,13 +18,13 @@ accepts old mid new P f g kept changed is = record {
   stands = λ s h p. subst (λ (o : Outcome). Within new o.space) (sym (is s h p)) (changed s (within mid s (kept s h)) p);
 }
 
--- the same, where nothing follows from the change
+-- the same, where nothing follows from the change, which may rest on what is so of the space
 pub accepts-alone : (old mid new : Tables) (P : Space → Type 0) (f : Space → Outcome) (g : Space → Space)
-    → IsKept old mid → MakesWithin mid new g → ((s : Space) → Before old s → P s → completed (g s) ≡ g s) → ((s : Space) → Before old s → P s → f s ≡ accepted (g s))
+    → IsKept old mid → ((s : Space) → Before old s → P s → Within mid s → Within new (g s)) → ((s : Space) → Before old s → P s → completed (g s) ≡ g s) → ((s : Space) → Before old s → P s → f s ≡ accepted (g s))
     → Meets old new P f Accepted
 accepts-alone old mid new P f g kept changed still is = record {
   answered = λ s h p. sym (ap (λ (o : Outcome). o.answer) (is s h p));
-  stands = λ s h p. subst (Within new) (sym (ap (λ (o : Outcome). o.space) (is s h p) ∙ still s h p)) (changed s (within mid s (kept s h)));
+  stands = λ s h p. subst (Within new) (sym (ap (λ (o : Outcome). o.space) (is s h p) ∙ still s h p)) (changed s h p (within mid s (kept s h)));
 }
 
 -- nothing was changed

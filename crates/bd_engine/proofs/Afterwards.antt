@@ -16,7 +16,7 @@ use Rattle.bd_laws.specs.Lists.{In, Pairs}
 use Rattle.bd_laws.specs.Objects.{Earlier}
 use Rattle.bd_laws.specs.Tidy.{IsTidy}
 use Rattle.bd_laws.proofs.Objects.{transacted-kept, replied-kept}
-use Rattle.bd_laws.proofs.Checks.{transaction-checked}
+use Rattle.bd_laws.proofs.Checks.{transaction-checked, reply-checked}
 use Rattle.bd_laws.proofs.Next.{calm}
 use Rattle.bd_laws.proofs.Framing.{one-each}
 use Rattle.bd_laws.proofs.Abandoned.{OneEach}
@@ -25,7 +25,9 @@ use Rattle.bd_laws.proofs.Pings.{transaction-delivers}
 use Rattle.bd_laws.proofs.Sending.{one_way-local, two_way-local}
 use Rattle.bd_laws.proofs.Replying.{reply-local}
 use Rattle.bd_engine.specs.Meets.{IsSending, IsServing, IsReplying}
+use Rattle.bd_engine.specs.Deliveries.{SendsNew}
 use Rattle.bd_engine.specs.Freed.{ripen_next}
+use Rattle.bd_engine.proofs.New.{sending-new}
 
 pub ripened-ordered : (target : Option ObjectId) (s : Space) → Pairs Earlier s.objects → Pairs Earlier (ripen_next target s).objects
 unfolding ripen_of
@@ -35,6 +37,9 @@ ripened-ordered (Some o) s h = h
 -- ---- a transaction
 
 module _ (s : Space) (a : Actor) (d : TransactionData) (v : Delivery) (p : IsSending a d v s) where
+  pub sent-new : SendsNew v s
+  sent-new = sending-new s a.process.made p.tidy d p.checked.0 v.sending (transaction-checked s a d p.checked.0 v p.checked.1).sends
+
   pub sent-ordered : Pairs Earlier (transacted s a d v).objects
   sent-ordered = (transacted-kept s a d p.checked.0 v p.tidy.before.objects p.checked.1).in_order
 
@@ -58,6 +63,9 @@ pub served-there : (s : Space) (seat : ℕ) (f : Frame) → IsServing seat f s �
 served-there s seat f p = (replied-childless s seat f p.tidy p.serves).0
 
 module _ (s : Space) (a : Actor) (d : TransactionData) (f : Frame) (v : Delivery) (p : IsReplying a d f v s) where
+  pub replied-new : SendsNew v s
+  replied-new = sending-new s a.process.made p.serving.tidy d p.checked.0 v.sending (reply-checked s a d p.checked.0 f v p.checked.1).sends
+
   pub replied-ordered : Pairs Earlier (replied s a d f v).objects
   replied-ordered = (replied-kept s a d p.checked.0 f v p.serving.tidy.before.objects p.checked.1).in_order
 

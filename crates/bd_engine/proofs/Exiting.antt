@@ -1,5 +1,5 @@
 -- What follows from an exit, where all that it touches was gathered.
-use Rattle.std.proofs.Common.{◌≡◌, ℕ, ◌==◌, true, ◌&&◌, List, length, ap, sym, subst, ◌∙◌}
+use Rattle.std.proofs.Common.{◌≡◌, ℕ, ◌==◌, true, List, length, ap, sym, subst, ◌∙◌}
 use Rattle.std.proofs.lemmas.Bool.{eqb-true, eq-eqb}
 use Rattle.bd_space.specs.declared.step.ObjectId.{ObjectId}
 use Rattle.bd_space.specs.declared.space.Thread.{Thread}
@@ -7,12 +7,11 @@ use Rattle.bd_space.specs.declared.space.Frame.{Frame}
 use Rattle.bd_space.specs.declared.space.Actor.{Actor}
 use Rattle.bd_space.specs.Words.{same}
 use Rattle.bd_space.specs.Space.{Space}
-use Rattle.bd_space.specs.Seats.{actor}
 use Rattle.bd_space.specs.Notices.{follow}
 use Rattle.bd_space.specs.Settle.{settle}
 use Rattle.bd_space.specs.ThreadExits.{thread_goes}
 use Rattle.bd_space.specs.ProcessExits.{threads_go, without_process, tell_deaths}
-use Rattle.bd_space.specs.Local.{NameTest, ObjectTest, at_name, no_name, is_among, names_among, follow_of, close_among}
+use Rattle.bd_space.specs.Local.{NameTest, at_name, no_name, is_among, names_among, follow_of, close_among}
 use Rattle.bd_space.specs.LocalExits.{seats_in}
 use Rattle.bd_laws.specs.Lists.{Pairs}
 use Rattle.bd_laws.specs.Objects.{Earlier}

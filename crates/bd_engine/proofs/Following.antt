@@ -23,7 +23,7 @@ use Rattle.bd_laws.specs.Lists.{In}
 use Rattle.bd_laws.proofs.Lists.{in-filter, filter-in, any-found, any-in}
 use Rattle.bd_laws.proofs.Tests.{both, and-both, same-eq}
 use Rattle.bd_laws.proofs.Freeing.{any-append}
-use Rattle.bd_engine.specs.Following.{deaths_followed, names_followed}
+use Rattle.bd_engine.specs.Following.{deaths_followed, names_followed, notice_stays}
 
 -- ---- lists
 
@@ -57,6 +57,37 @@ no-deaths n (d ∷ ds) = at (d.made == n) (no-deaths n ds)
     at true k = k
     at false k = k
 
+-- ---- items of which no name is looked at
+
+-- only a Notice has to be due still
+pub due-as-notice : (b : ObjectTest) (deaths : List DeathNotification) (s : Space) (k : WorkKind)
+    → (not (is_touched no_name b deaths k) || still_due s.processes s.objects s.references deaths k) ≡ notice_stays b s k
+due-as-notice b deaths s (work.Death n) = rw (no-deaths n deaths) refl
+due-as-notice b deaths s _ = refl
+
+-- and where no object is looked at either, all stay
+pub unlooked-stays : (s : Space) (k : WorkKind) → notice_stays (λ i. false) s k ≡ true
+unlooked-stays s (work.Notice i) = refl
+unlooked-stays s _ = refl
+
+-- ---- two tests
+
+pub or-true : (b : Bool) → (b || true) ≡ true
+or-true true = refl
+or-true false = refl
+
+pub or-false : (b : Bool) → (b || false) ≡ b
+or-false true = refl
+or-false false = refl
+
+-- what stays for either stays for both
+pub either-or : (p q n : Bool) → (not (p || q) || n) ≡ ((not p || n) && (not q || n))
+either-or true true true = refl
+either-or true true false = refl
+either-or true false true = refl
+either-or true false false = refl
+either-or false q n = refl
+
 -- ---- first at the names
 
 and-true : (b : Bool) → b ≡ (b && true)
@@ -86,14 +117,8 @@ module _ (a : NameTest) (b : ObjectTest) (s : Space) where
       → (not (is_touched a b s.deaths k) || still_due s.processes objects_left s.references deaths_left k)
       ≡ ((not (is_touched a (λ i. false) s.deaths k) || still_due s.processes s.objects s.references deaths_left k)
       && (not (is_touched no_name b deaths_left k) || still_due s.processes objects_left s.references (filter (λ x. true) deaths_left) k))
-  kinds (work.Notice i) = refl
-  kinds work.Complete = refl
-  kinds (work.Refusal r) = refl
-  kinds (work.Call m) = refl
-  kinds (work.Reply m) = refl
-  kinds (work.Verdict r) = refl
   kinds (work.Death n) = rw (no-deaths n deaths_left) (and-true _)
-  kinds (work.Cleared c) = refl
+  kinds _ = refl
 
   pub names-first : follow_of a b s ≡ follow_of no_name b (names_followed a s)
   unfolding follow_of notify_of work_goes_of deaths_go_of objects_go_of names_go_of deaths_followed names_followed
@@ -114,10 +139,6 @@ neither : (a b : Bool) → (a || b) ≡ false → (a ≡ false) × (b ≡ false)
 neither false b h = (refl, h)
 neither true b h = absurd (cc)
 
-or-true : (b : Bool) → (b || true) ≡ true
-or-true true = refl
-or-true false = refl
-
 module _ {A : Type 0} (p q : A → Bool) where
   keeps-others : ((x : A) → q x ≡ false → p x ≡ true) → (xs : List A) → list_any q xs ≡ false → filter p xs ≡ xs
   keeps-others k [] h = refl
@@ -136,14 +157,8 @@ module _ (p : ℕ) (o : ObjectId) (s : Space) where
   stays deaths k = not (is_touched (at_name p o) (λ i. false) s.deaths k) || still_due s.processes s.objects s.references deaths k
 
   all-stay : (k : WorkKind) → stays s.deaths k ≡ true
-  all-stay (work.Notice i) = refl
-  all-stay work.Complete = refl
-  all-stay (work.Refusal r) = refl
-  all-stay (work.Call m) = refl
-  all-stay (work.Reply m) = refl
-  all-stay (work.Verdict r) = refl
   all-stay (work.Death n) = fewer-found (λ (x : DeathNotification). x.made == n) (λ x. at_name p o x.process x.object) s.deaths
-  all-stay (work.Cleared c) = refl
+  all-stay _ = refl
 
   pub none-lost : list_any (is_lost s.names p o) s.deaths ≡ false → deaths_followed (at_name p o) s ≡ s
   unfolding deaths_followed work_goes_of deaths_go_of
@@ -154,10 +169,6 @@ module _ (p : ℕ) (o : ObjectId) (s : Space) where
       ∙ ap (λ ws. let y : Space = record s { todo = ws } in y) (keeps-all (λ (w : Work). stays s.deaths w.kind) s.todo (λ w. all-stay w.kind))
 
 -- ---- one name more
-
-or-false : (b : Bool) → (b || false) ≡ b
-or-false true = refl
-or-false false = refl
 
 named-next : (p : ℕ) (os : List ObjectId) (k : ℕ) (d : ObjectId) → k < length os
     → names_among p (take (k + 1) os) ≡ (λ q i. names_among p (take k os) q i || at_name p (get_or os k d) q i)
@@ -184,13 +195,6 @@ module _ (a b : NameTest) (s : Space) where
 
   abbrev deaths_gone : List DeathNotification
   deaths_gone = filter (λ x. not (b x.process x.object) || (x.cleared || is_name_of both_gone x.process x.object)) first_deaths
-
-  either-or : (p q n : Bool) → (not (p || q) || n) ≡ ((not p || n) && (not q || n))
-  either-or true true true = refl
-  either-or true true false = refl
-  either-or true false true = refl
-  either-or true false false = refl
-  either-or false q n = refl
 
   -- a name that goes at the second look, and was there after the first
   named-still : (p : ℕ) (o : ObjectId) → b p o ≡ false → is_name_of first p o ≡ true → is_name_of both_gone p o ≡ true
@@ -260,12 +264,6 @@ module _ (a b : NameTest) (s : Space) where
   kinds-then : (k : WorkKind) → (not (is_touched either (λ i. false) s.deaths k) || still_due s.processes s.objects s.references deaths_gone k)
       ≡ ((not (is_touched a (λ i. false) s.deaths k) || still_due s.processes s.objects s.references first_deaths k)
       && (not (is_touched b (λ i. false) first_deaths k) || still_due s.processes s.objects s.references deaths_gone k))
-  kinds-then (work.Notice i) = refl
-  kinds-then work.Complete = refl
-  kinds-then (work.Refusal r) = refl
-  kinds-then (work.Call m) = refl
-  kinds-then (work.Reply m) = refl
-  kinds-then (work.Verdict r) = refl
   kinds-then (work.Death n) = item-stays (looked either s.deaths n) (looked a s.deaths n) (looked b first_deaths n) (list_any (made_at n) first_deaths) (list_any (made_at n) deaths_gone)
       (λ e. let x = any-found (made_at n) deaths_gone e in any-in (made_at n) x.0 first_deaths (in-filter b-stays x.0 first_deaths x.1).0 x.2)
       (λ e. let x = any-found (λ (x : DeathNotification). (x.made == n) && a x.process x.object) s.deaths e in
@@ -289,7 +287,7 @@ module _ (a b : NameTest) (s : Space) where
       missed x n l m h none true e = let some = any-in (λ (x : DeathNotification). (x.made == n) && a x.process x.object) x s.deaths l (and-both _ _ m e) in absurd (cc)
       missed x n l m h none false e =
           any-in (λ (x : DeathNotification). (x.made == n) && b x.process x.object) x first_deaths (filter-in a-stays x s.deaths l (rw e refl)) (and-both _ _ m (split-or _ _ h e))
-  kinds-then (work.Cleared c) = refl
+  kinds-then _ = refl
 
   abbrev out : List Name → List DeathNotification → List Work → Space
   out names deaths todo = record s { names = names; deaths = deaths; todo = todo }
@@ -314,17 +312,7 @@ names-none p s =
     ap (λ (ns : List Name). let z : Space = record s { names = ns; deaths = filter (λ (d : DeathNotification). true) s.deaths; todo = still (filter (λ (d : DeathNotification). true) s.deaths) } in z)
     (keeps-all (λ (m : Name). true) s.names (λ m. refl))
     ∙ ap (λ (ds : List DeathNotification). let z : Space = record s { deaths = ds; todo = still ds } in z) (keeps-all (λ (d : DeathNotification). true) s.deaths (λ d. refl))
-    ∙ ap (λ (ws : List Work). let z : Space = record s { todo = ws } in z) (keeps-all _ s.todo (λ w. stays w.kind))
-  where
-    stays : (k : WorkKind) → (not (is_touched (names_among p []) (λ i. false) s.deaths k) || still_due s.processes s.objects s.references s.deaths k) ≡ true
-    stays (work.Notice i) = refl
-    stays work.Complete = refl
-    stays (work.Refusal r) = refl
-    stays (work.Call m) = refl
-    stays (work.Reply m) = refl
-    stays (work.Verdict r) = refl
-    stays (work.Death n) = rw (no-deaths n s.deaths) refl
-    stays (work.Cleared n) = refl
+    ∙ ap (λ (ws : List Work). let z : Space = record s { todo = ws } in z) (keeps-all _ s.todo (λ w. due-as-notice (λ i. false) s.deaths s w.kind ∙ unlooked-stays s w.kind))
 
 pub followed-objects : (a : NameTest) (s : Space) → (names_followed a s).objects ≡ s.objects
 unfolding names_followed deaths_followed work_goes_of deaths_go_of names_go_of

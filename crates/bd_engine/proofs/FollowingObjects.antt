@@ -30,17 +30,9 @@ use Rattle.bd_laws.proofs.Earlier.{never-earlier}
 use Rattle.bd_laws.proofs.Follow.{filter-same, find-kept}
 use Rattle.bd_laws.proofs.Freeing.{any-append}
 use Rattle.bd_engine.specs.Following.{notice_stays, shed_of, told_at, told_of}
-use Rattle.bd_engine.proofs.Following.{keeps-all, keeps-none, same-tests, twice, no-deaths}
+use Rattle.bd_engine.proofs.Following.{keeps-all, keeps-none, same-tests, twice, or-true, or-false, either-or, due-as-notice, unlooked-stays}
 
 -- ---- one object more
-
-or-false : (b : Bool) → (b || false) ≡ b
-or-false true = refl
-or-false false = refl
-
-or-true : (b : Bool) → (b || true) ≡ true
-or-true true = refl
-or-true false = refl
 
 among-next : (os : List ObjectId) (k : ℕ) (d : ObjectId) → k < length os
     → is_among (take (k + 1) os) ≡ (λ i. is_among (take k os) i || at_object (get_or os k d) i)
@@ -93,13 +85,6 @@ module _ (b c : ObjectTest) (s : Space) where
   abbrev either : ObjectTest
   either o = b o || c o
 
-  either-or : (p q n : Bool) → (not (p || q) || n) ≡ ((not p || n) && (not q || n))
-  either-or true true true = refl
-  either-or true true false = refl
-  either-or true false true = refl
-  either-or true false false = refl
-  either-or false q n = refl
-
   -- where the later test leaves what the earlier one found
   either-found : (p q n m : Bool) → (p ≡ true → m ≡ n) → (not (p || q) || m) ≡ ((not p || n) && (not q || m))
   either-found true true true m e = e refl ∙ sym (e refl)
@@ -127,13 +112,7 @@ module _ (b c : ObjectTest) (s : Space) where
 
   kinds : (k : WorkKind) → notice_stays either (left both_gone s.todo) k ≡ (notice_stays b (left first s.todo) k && notice_stays c (left both_gone s.todo) k)
   kinds (work.Notice o) = either-found (b o) (c o) _ _ (λ e. ap (λ (f : Option Object). is_some_and f (wants_notice s.processes s.references)) (found-still o e))
-  kinds work.Complete = refl
-  kinds (work.Refusal r) = refl
-  kinds (work.Call m) = refl
-  kinds (work.Reply m) = refl
-  kinds (work.Verdict r) = refl
-  kinds (work.Death n) = refl
-  kinds (work.Cleared n) = refl
+  kinds _ = refl
 
   pub shed-then : shed_of c (shed_of b s) ≡ shed_of (λ o. b o || c o) s
   unfolding shed_of objects_go_of
@@ -150,17 +129,7 @@ unfolding shed_of objects_go_of
 shed-none s =
     ap (λ (os : List Object). let z : Space = record s { objects = os; todo = filter (λ (w : Work). notice_stays (is_among []) (record s { objects = os }) w.kind) s.todo } in z)
     (keeps-all (λ (x : Object). true) s.objects (λ x. refl))
-    ∙ ap (λ (ws : List Work). let z : Space = record s { todo = ws } in z) (keeps-all (λ (w : Work). notice_stays (is_among []) s w.kind) s.todo (λ w. stays w.kind))
-  where
-    stays : (k : WorkKind) → notice_stays (is_among []) s k ≡ true
-    stays (work.Notice i) = refl
-    stays work.Complete = refl
-    stays (work.Refusal r) = refl
-    stays (work.Call m) = refl
-    stays (work.Reply m) = refl
-    stays (work.Verdict r) = refl
-    stays (work.Death n) = refl
-    stays (work.Cleared n) = refl
+    ∙ ap (λ (ws : List Work). let z : Space = record s { todo = ws } in z) (keeps-all (λ (w : Work). notice_stays (is_among []) s w.kind) s.todo (λ w. unlooked-stays s w.kind))
 
 module _ (o : ObjectId) (s : Space) where
   abbrev here : Space
@@ -286,7 +255,7 @@ unfolding follow_of notify_of work_goes_of deaths_go_of objects_go_of names_go_o
 follow-shed b s =
     ap (λ ns. followed ns (filter (λ (d : DeathNotification). true) s.deaths) (still (filter (λ (d : DeathNotification). true) s.deaths))) (keeps-all (λ (m : Name). true) s.names (λ m. refl))
     ∙ ap (λ ds. followed s.names ds (still ds)) (keeps-all (λ (d : DeathNotification). true) s.deaths (λ d. refl))
-    ∙ ap (followed s.names s.deaths) (same-tests _ _ s.todo (λ w. kinds w.kind))
+    ∙ ap (followed s.names s.deaths) (same-tests _ _ s.todo (λ w. due-as-notice b s.deaths (record s { objects = objects }) w.kind))
   where
     objects : List Object
     objects = filter (λ x. not (b x.id) || stays_in s.processes s.references x) s.objects
@@ -296,16 +265,6 @@ follow-shed b s =
 
     followed : List Name → List DeathNotification → List Work → Space
     followed ns ds ws = record s { names = ns; objects = objects; deaths = ds; todo = fold (tell s) ws (filter (λ x. b x.id) objects) }
-
-    kinds : (k : WorkKind) → (not (is_touched no_name b s.deaths k) || still_due s.processes objects s.references s.deaths k) ≡ notice_stays b (record s { objects = objects }) k
-    kinds (work.Notice i) = refl
-    kinds work.Complete = refl
-    kinds (work.Refusal r) = refl
-    kinds (work.Call m) = refl
-    kinds (work.Reply m) = refl
-    kinds (work.Verdict r) = refl
-    kinds (work.Death n) = rw (no-deaths n s.deaths) refl
-    kinds (work.Cleared n) = refl
 
 pub objects-followed : (os : List ObjectId) (s : Space) → Pairs NotLater os → Pairs Earlier s.objects → told_of os (shed_of (is_among os) s) ≡ follow_of no_name (is_among os) s
 unfolding told_of shed_of objects_go_of notify_of

@@ -1,5 +1,5 @@
 -- What is gathered before an exit: one thing after the other, and then all that the exit touches.
-use Rattle.std.proofs.Common.{◌≡◌, ℕ, ◌+◌, ◌<◌, ◌==◌, Bool, true, false, not, ◌&&◌, ◌||◌, List, [], ◌∷◌, ◌++◌, drop, length, get_or, append_assoc, map, filter, Option, Some, None, ◌⊎◌, inl, inr, refl, ap, sym, subst, ◌∙◌}
+use Rattle.std.proofs.Common.{◌≡◌, ℕ, ◌+◌, ◌<◌, ◌==◌, Bool, true, false, ◌&&◌, ◌||◌, List, [], ◌∷◌, ◌++◌, drop, length, get_or, map, filter, Option, Some, None, ◌⊎◌, inl, inr, refl, ap, sym, subst, ◌∙◌}
 use Rattle.std.specs.List.{list_any, slice_get}
 use Rattle.std.proofs.lemmas.Bool.{eqb-true, eq-eqb}
 use Rattle.std.proofs.lemmas.List.{append-nil}
@@ -18,7 +18,7 @@ use Rattle.bd_space.specs.Words.{same, is_some_and}
 use Rattle.bd_space.specs.Space.{Space}
 use Rattle.bd_space.specs.References.{owned_in, buffer_of_holder, is_of_buffer}
 use Rattle.bd_space.specs.Frames.{is_frame, serves}
-use Rattle.bd_space.specs.Todo.{is_on, is_call, is_notice, hands_out, work_on}
+use Rattle.bd_space.specs.Todo.{is_on, is_call, is_notice, hands_out}
 use Rattle.bd_space.specs.ThreadExits.{is_lost_with, is_lost_reference, is_unread_on}
 use Rattle.bd_space.specs.ProcessExits.{is_dropped_with}
 use Rattle.bd_space.specs.Local.{is_among}
@@ -27,42 +27,53 @@ use Rattle.bd_laws.specs.Lists.{In}
 use Rattle.bd_laws.proofs.Lists.{filter-in, in-map, map-in, any-found, any-in}
 use Rattle.bd_laws.proofs.Tests.{both, same-eq, eq-same}
 use Rattle.bd_laws.proofs.Leaving.{or-left, or-right}
+use Rattle.bd_nodes.specs.New.{HasAll}
 use Rattle.bd_calls.specs.Closing.{is_place_among}
 use Rattle.bd_engine.specs.declared.exit.Exit.{Exit}
 use Rattle.bd_engine.specs.Exits.{HasObject, HasFrame, Grows, HasWork, HasWorks, HasList, HasThread, HasThreads, HasProcess}
-use Rattle.bd_engine.proofs.TakingItems.{one_left, none_left}
+use Rattle.bd_engine.proofs.TakingItems.{one_left}
 
 -- ---- one after the other
 
--- of these it is so of each that isn't left from k on
+-- of these it is so of each that isn't left
+abbrev pub Besides : {A : Type 0} → (A → Type 0) → (xs rest : List A) → Type 0
+Besides {A} P xs rest = (x : A) → In x xs → P x ⊎ In x rest
+
+-- or isn't left from k on
 abbrev pub Until : {A : Type 0} → (A → Type 0) → List A → ℕ → Type 0
-Until {A} P xs k = (x : A) → In x xs → P x ⊎ In x (drop k xs)
+Until P xs k = Besides P xs (drop k xs)
 
 module _ {A : Type 0} where
   pub until-none : (P : A → Type 0) (xs : List A) → Until P xs 0
   until-none P xs x l = inr l
 
-  pub until-next : (P Q : A → Type 0) (xs : List A) (k : ℕ) (y : A) → slice_get xs k ≡ Some y → Until P xs k → ((x : A) → P x → Q x) → Q y → Until Q xs (k + 1)
-  until-next P Q xs k y e h more is x l = elim (h x l) [
+  pub besides-next : (P Q : A → Type 0) (xs before rest : List A) (y : A) → before ≡ y ∷ rest → Besides P xs before → ((x : A) → P x → Q x) → Q y → Besides Q xs rest
+  besides-next P Q xs before rest y e h more is x l = elim (h x l) [
     | inl a ↦ inl (more x a)
-    | inr i ↦ at (subst (In x) (one_left xs k y e) i)
+    | inr i ↦ at (subst (In x) e i)
   ]
     where
-      at : In x (y ∷ drop (k + 1) xs) → Q x ⊎ In x (drop (k + 1) xs)
+      at : In x (y ∷ rest) → Q x ⊎ In x rest
       at (inl same) = inl (subst Q same is)
       at (inr i) = inr i
+
+  pub until-next : (P Q : A → Type 0) (xs : List A) (k : ℕ) (y : A) → slice_get xs k ≡ Some y → Until P xs k → ((x : A) → P x → Q x) → Q y → Until Q xs (k + 1)
+  until-next P Q xs k y e h more is = besides-next P Q xs (drop k xs) (drop (k + 1) xs) y (one_left xs k y e) h more is
 
   pub until-at : (P Q : A → Type 0) (xs : List A) (k : ℕ) (d : A) → k < length xs → Until P xs k → ((x : A) → P x → Q x) → Q (get_or xs k d) → Until Q xs (k + 1)
   until-at P Q xs k d lt h more is = until-next P Q xs k (get_or xs k d) (slice_get-get_or xs k d lt) h more is
 
-  pub until-all : (P : A → Type 0) (xs : List A) (k : ℕ) → drop k xs ≡ [] → Until P xs k → (x : A) → In x xs → P x
-  until-all P xs k e h x l = elim (h x l) [
+  pub besides-none : (P : A → Type 0) (xs rest : List A) → rest ≡ [] → Besides P xs rest → (x : A) → In x xs → P x
+  besides-none P xs rest e h x l = elim (h x l) [
     | inl a ↦ a
     | inr i ↦ none (subst (In x) e i)
   ]
     where
       none : In x [] → P x
       none i = absurd i
+
+  pub until-all : (P : A → Type 0) (xs : List A) (k : ℕ) → drop k xs ≡ [] → Until P xs k → (x : A) → In x xs → P x
+  until-all P xs k e h = besides-none P xs (drop k xs) e h
 
 -- ---- more
 
@@ -72,10 +83,16 @@ grows-refl x = record { objects = λ o h. h; frames = λ m h. h }
 pub grows-then : (x y z : Exit) → Grows x y → Grows y z → Grows x z
 grows-then x y z h k = record { objects = λ o i. k.objects o (h.objects o i); frames = λ m i. k.frames m (h.frames m i) }
 
+among-before : (xs ys : List ObjectId) → HasAll (xs ++ ys) xs
+among-before xs ys o h = list_any-append (λ i. same o i) xs ys ∙ or-left (is_among xs o) (is_among ys o) h
+
+among-after : (xs ys : List ObjectId) → HasAll (xs ++ ys) ys
+among-after xs ys o h = list_any-append (λ i. same o i) xs ys ∙ or-right (is_among xs o) (is_among ys o) h
+
 pub grows-by : (x y : Exit) (os : List ObjectId) (ms : List ℕ) → y.objects.items ≡ x.objects.items ++ os → y.frames.items ≡ x.frames.items ++ ms → Grows x y
 grows-by x y os ms e f = record {
-  objects = λ o h. ap (λ xs. is_among xs o) e ∙ list_any-append (λ i. same o i) x.objects.items os ∙ or-left _ (is_among os o) h;
-  frames = λ m h. ap (λ xs. is_place_among xs m) f ∙ list_any-append (λ n. n == m) x.frames.items ms ∙ or-left _ (is_place_among ms m) h;
+  objects = λ o h. ap (λ xs. is_among xs o) e ∙ among-before x.objects.items os o h;
+  frames = λ m h. ap (λ ms. is_place_among ms m) f ∙ list_any-append (λ n. n == m) x.frames.items ms ∙ or-left _ (is_place_among ms m) h;
 }
 
 pub more-work : (x y : Exit) (s : Space) (kind : WorkKind) → Grows x y → HasWork x s kind → HasWork y s kind
@@ -94,7 +111,7 @@ more-thread x y s seat h k = record {
 -- ---- an item
 
 among-new : (x : Exit) (xs ys : List ObjectId) (o : ObjectId) → x.objects.items ≡ xs ++ ys → is_among ys o ≡ true → HasObject x o
-among-new x xs ys o e h = ap (λ zs. is_among zs o) e ∙ list_any-append (λ i. same o i) xs ys ∙ or-right (is_among xs o) _ h
+among-new x xs ys o e h = ap (λ zs. is_among zs o) e ∙ among-after xs ys o h
 
 place-new : (x : Exit) (ms ns : List ℕ) (m : ℕ) → x.frames.items ≡ ms ++ ns → is_place_among ns m ≡ true → HasFrame x m
 place-new x ms ns m e h = ap (λ zs. is_place_among zs m) e ∙ list_any-append (λ n. n == m) ms ns ∙ or-right (is_place_among ms m) _ h
@@ -130,17 +147,6 @@ module _ (s : Space) (old new : Exit) where
     call = λ m t. place-new new old.frames.items (b ∷ []) m f (or-left (b == m) false t);
   }
 
-  pub owned-gathered : (p : ℕ) (after : List ObjectId) → new.objects.items ≡ (old.objects.items ++ map (λ (y : Object). y.id) (filter (λ (y : Object). y.owner == p) s.objects)) ++ after
-      → (y : Object) → In y s.objects → (y.owner == p) ≡ true → HasObject new y.id
-  owned-gathered p after e y l t =
-      let owned = map (λ (y : Object). y.id) (filter (λ (y : Object). y.owner == p) s.objects) in
-      ap (λ zs. is_among zs y.id) e ∙ list_any-append (λ i. same y.id i) (old.objects.items ++ owned) after
-      ∙ or-left _ (is_among after y.id) (list_any-append (λ i. same y.id i) old.objects.items owned ∙ or-right (is_among old.objects.items y.id) _ (map-among (λ (y : Object). y.id) (λ (y : Object). y.owner == p) s.objects y l t))
-
-  pub dropped-gathered : (p : ℕ) (before : List ObjectId) → new.objects.items ≡ before ++ map (λ (r : Reference). r.object) (filter (is_dropped_with s.objects p) s.references)
-      → (r : Reference) → In r s.references → is_dropped_with s.objects p r ≡ true → HasObject new r.object
-  dropped-gathered p before e r l t = among-new new before _ r.object e (map-among (λ (r : Reference). r.object) (is_dropped_with s.objects p) s.references r l t)
-
 pub served-gathered : (s : Space) (seat : ℕ) (ms ns : List ℕ) → ms ≡ ns ++ map (λ (f : Frame). f.made) (filter (λ (f : Frame). serves seat f.server) s.frames)
     → (f : Frame) → In f s.frames → serves seat f.server ≡ true → is_place_among ms f.made ≡ true
 served-gathered s seat ms ns e f l t =
@@ -154,16 +160,20 @@ pub frames-then : (x y z : Exit) (ms : List ℕ) → y.objects.items ≡ x.objec
 frames-then x y z ms e f h = grows-then x y z (grows-by x y [] ms (e ∙ sym (append-nil x.objects.items)) f) h
 
 pub process-gathered : (s : Space) (seats : List ℕ) (p : ℕ) (x y z : Exit) → HasThreads x s seats → HasList y s (OfProcess p) → Grows x y → z.frames.items ≡ y.frames.items
-    → z.objects.items ≡ (y.objects.items ++ map (λ (o : Object). o.id) (filter (λ (o : Object). o.owner == p) s.objects)) ++ map (λ (r : Reference). r.object) (filter (is_dropped_with s.objects p) s.references) → HasProcess z s seats p
-process-gathered s seats p x y z threads list h f e =
+    → HasAll z.objects.items ((y.objects.items ++ map (λ (o : Object). o.id) (filter (λ (o : Object). o.owner == p) s.objects)) ++ map (λ (r : Reference). r.object) (filter (is_dropped_with s.objects p) s.references)) → HasProcess z s seats p
+process-gathered s seats p x y z threads list h f all =
     let own = map (λ (o : Object). o.id) (filter (λ (o : Object). o.owner == p) s.objects) in
     let dropped = map (λ (r : Reference). r.object) (filter (is_dropped_with s.objects p) s.references) in
-    let more = grows-by y z (own ++ dropped) [] (e ∙ append_assoc y.objects.items own dropped) (f ∙ sym (append-nil y.frames.items)) in
+    let before = y.objects.items ++ own in
+    let more : Grows y z = record {
+      objects = λ o i. all o (among-before before dropped o (among-before y.objects.items own o i));
+      frames = λ m i. ap (λ ms. is_place_among ms m) f ∙ i;
+    } in
     record {
       threads = λ t l. more-thread y z s t more (more-thread x y s t h (threads t l));
       list = λ w l. more-work y z s w.kind more (list w l);
-      owned = owned-gathered s y z p dropped e;
-      dropped = dropped-gathered s y z p (y.objects.items ++ own) e;
+      owned = λ o l t. all o.id (among-before before dropped o.id (among-after y.objects.items own o.id (map-among (λ (o : Object). o.id) (λ (o : Object). o.owner == p) s.objects o l t)));
+      dropped = λ r l t. all r.object (among-after before dropped r.object (map-among (λ (r : Reference). r.object) (is_dropped_with s.objects p) s.references r l t));
     }
 
 -- the order doesn't matter

@@ -17,6 +17,7 @@ use Rattle.bd_engine.specs.Keeps.{Keeps}
 use Rattle.bd_engine.specs.declared.why.Why.{Why}
 use Rattle.bd_engine.specs.declared.why.Why.TheVariants.{NoMemory, HistoryFull}
 use Rattle.bd_engine.specs.Refusals.{FullOnly}
+use Rattle.bd_objects.proofs.Fitting.{numbers-fit}
 use Rattle.bd_engine.proofs.Places.{change-steps}
 
 pub keeps-new : (seats : ℕ) (t : Tables) → 1 ≤ seats → seats ≤ 16 → Before t opening → Keeps (history_of seats []) t
@@ -84,7 +85,7 @@ keeps-more h old new seat x answer k seated short answered stands =
       lawful = record {
         short = omega (arith, length-append h.entries (e ∷ []));
         seats = list_all-append (λ (y : Entry). nat_lt y.seat h.seats) h.entries (e ∷ []) ∙ ap (λ b. b && (nat_lt seat h.seats && true)) k.lawful.seats ∙ ap (λ b. b && true) lt;
-        follows = follows-more opening h.entries e k.lawful.follows (record { answer = sym answered; numbers = stands.objects_stand.numbers_fit });
+        follows = follows-more opening h.entries e k.lawful.follows (record { answer = sym answered; numbers = numbers-fit _ _ _ _ _ stands.objects_stand });
       };
       stands = subst (Before (record new { steps = new.steps + 1 })) (sym (after-more opening h.entries e)) (counted-stands new z stands);
     }

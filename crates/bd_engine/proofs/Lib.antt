@@ -25,4 +25,5 @@ pub mod Reading
 pub mod Following
 pub mod FollowingObjects
 pub mod Clearing
+pub mod New
 pub mod Afterwards

@@ -2,7 +2,7 @@
 use Rattle.std.proofs.Common.{◌≡◌, ℕ, ◌+◌, ◌-◌, ◌<◌, ◌≤◌, true, false, cond, List, [], ◌∷◌, ◌++◌, drop, length, get_or, map, Option, Some, None, refl, ap, sym, subst, ◌∙◌, append_assoc, length-append, drop-cons, add-one, arith, rules, tests}
 use Rattle.std.specs.Prelude.{nat_lt}
 use Rattle.std.specs.List.{concat, slice_get}
-use Rattle.std.proofs.lemmas.List.{append-nil, drop_all}
+use Rattle.std.proofs.lemmas.List.{drop_all}
 use Rattle.std.proofs.lemmas.Option.{none-some, slice_get_within, get_or_from_slice_get}
 use Rattle.bd_uapi.specs.declared.command.Return.TheVariants.{Noop}
 use Rattle.bd_codec.specs.Spelling.{return_bytes}
@@ -15,7 +15,6 @@ use Rattle.bd_space.specs.Outcomes.{Outcome, refused}
 use Rattle.bd_space.specs.ReadItems.{taken, ends_read}
 use Rattle.bd_space.specs.Returns.{bytes_read, stream_of}
 use Rattle.bd_space.specs.Reading.{is_empty, read_fault, read_taking}
-use Rattle.bd_engine.specs.Taking.{AreTaken}
 use Rattle.bd_engine.proofs.Folds.{past}
 
 -- ---- tests
@@ -46,12 +45,6 @@ module _ (s : Space) (left : ℕ) (w : Work) (ws : List Work) where
   abbrev then_rest : List Work
   then_rest = taken s (left - length (bytes_read s w)) ws
 
-  pub taken-full : nat_lt left 68 ≡ true → taken s left (w ∷ ws) ≡ []
-  taken-full e = ap (λ b. cond b [] (w ∷ cond (ends_read w.kind) [] then_rest)) e
-
-  pub taken-last : nat_lt left 68 ≡ false → ends_read w.kind ≡ true → taken s left (w ∷ ws) ≡ w ∷ []
-  taken-last e t = ap (λ b. cond b [] (w ∷ cond (ends_read w.kind) [] then_rest)) e ∙ ap (λ b. w ∷ cond b [] then_rest) t
-
   pub taken-on : nat_lt left 68 ≡ false → ends_read w.kind ≡ false → taken s left (w ∷ ws) ≡ w ∷ then_rest
   taken-on e t = ap (λ b. cond b [] (w ∷ cond (ends_read w.kind) [] then_rest)) e ∙ ap (λ b. w ∷ cond b [] then_rest) t
 
@@ -76,38 +69,20 @@ module _ (s : Space) (limit : ℕ) (list : List Work) where
   abbrev all : List Work
   all = taken s (limit - 4) list
 
-  done : (works : List Work) (stream : List ℕ) → IsSoFar s all works stream [] → AreTaken s limit list works stream
-  done works stream h = record { works_are = sym (append-nil works) ∙ h.works_are; stream_is = sym (append-nil stream) ∙ h.stream_is }
+  -- with this rest of the list
+  abbrev pub IsAt : List Work → List Work → List ℕ → Type 0
+  IsAt rest works stream = IsSoFar s all works stream (taken s (limit - length stream) rest)
 
-  -- with the list from place k on
-  abbrev pub IsAt : ℕ → List Work → List ℕ → Type 0
-  IsAt k works stream = IsSoFar s all works stream (taken s (limit - length stream) (drop k list))
+  pub at-start : (rest works : List Work) (stream : List ℕ) → rest ≡ list → works ≡ [] → stream ≡ return_bytes Noop → IsAt rest works stream
+  at-start rest works stream r e f = rw (r, e, f) (begun s all)
 
-  pub at-start : (works : List Work) (stream : List ℕ) → works ≡ [] → stream ≡ return_bytes Noop → IsAt 0 works stream
-  at-start works stream e f = rw (e, f) (begun s all)
+  module _ (before rest : List Work) (w : Work) (works : List Work) (stream : List ℕ) where
+    -- the item is the first of the rest
+    there : IsAt before works stream → before ≡ w ∷ rest → IsAt (w ∷ rest) works stream
+    there h e = subst (λ ws. IsAt ws works stream) e h
 
-  pub at-end : (k : ℕ) (works : List Work) (stream : List ℕ) → IsAt k works stream → slice_get list k ≡ None → AreTaken s limit list works stream
-  at-end k works stream h e =
-      done works stream (subst (λ ws. IsSoFar s all works stream (taken s (limit - length stream) ws)) (none_left list k e) h)
-
-  module _ (k : ℕ) (w : Work) (works : List Work) (stream : List ℕ) where
-    abbrev rest : List Work
-    rest = drop (k + 1) list
-
-    -- the item stands there
-    there : IsAt k works stream → slice_get list k ≡ Some w → IsSoFar s all works stream (taken s (limit - length stream) (w ∷ rest))
-    there h e = subst (λ ws. IsSoFar s all works stream (taken s (limit - length stream) ws)) (one_left list k w e) h
-
-    pub at-full : IsAt k works stream → slice_get list k ≡ Some w → nat_lt (limit - length stream) 68 ≡ true → AreTaken s limit list works stream
-    at-full h e full = done works stream (subst (IsSoFar s all works stream) (taken-full s (limit - length stream) w rest full) (there h e))
-
-    pub at-last : (works' : List Work) (stream' : List ℕ) → IsAt k works stream → slice_get list k ≡ Some w → nat_lt (limit - length stream) 68 ≡ false → ends_read w.kind ≡ true
-        → works' ≡ works ++ w ∷ [] → stream' ≡ stream ++ bytes_read s w → AreTaken s limit list works' stream'
-    at-last works' stream' h e room ends f g =
-        done works' stream' (pushed s all works works' stream stream' w [] (subst (IsSoFar s all works stream) (taken-last s (limit - length stream) w rest room ends) (there h e)) f g)
-
-    pub at-next : (works' : List Work) (stream' : List ℕ) → IsAt k works stream → slice_get list k ≡ Some w → nat_lt (limit - length stream) 68 ≡ false → ends_read w.kind ≡ false
-        → works' ≡ works ++ w ∷ [] → stream' ≡ stream ++ bytes_read s w → IsAt (k + 1) works' stream'
+    pub at-next : (works' : List Work) (stream' : List ℕ) → IsAt before works stream → before ≡ w ∷ rest → nat_lt (limit - length stream) 68 ≡ false → ends_read w.kind ≡ false
+        → works' ≡ works ++ w ∷ [] → stream' ≡ stream ++ bytes_read s w → IsAt rest works' stream'
     at-next works' stream' h e room ends f g =
         let less : limit - length stream' ≡ limit - length stream - length (bytes_read s w) = omega (arith, ap length g, length-append stream (bytes_read s w)) in
         rw less (pushed s all works works' stream stream' w _ (subst (IsSoFar s all works stream) (taken-on s (limit - length stream) w rest room ends) (there h e)) f g)

@@ -12,11 +12,13 @@ use Rattle.bd_space.specs.Space.{Space}
 use Rattle.bd_space.specs.Windows.{needed, buffers_of, start_for}
 use Rattle.bd_space.specs.Parcels.{Sending}
 use Rattle.bd_space.specs.Delivery.{Delivery}
+use Rattle.bd_space.specs.Tables as tables
+use Rattle.bd_nodes.specs.New.{AreNewIn}
 use Rattle.bd_objects.specs.Room as object_rooms
 use Rattle.bd_calls.specs.Room as call_rooms
 use Rattle.bd_buffers.specs.WindowsStand.{CanAdd, buffer_room}
 use Rattle.bd_engine.specs.declared.tables.Tables.{Tables}
-use Rattle.bd_engine.specs.Stands.{HasRoom}
+use Rattle.bd_engine.specs.Stands.{Before, Within, HasRoom}
 
 abbrev pub sending : Parcel → List Object → List Item → Sending
 sending q made items = record { bytes = q.bytes; offsets = q.offsets; made = made; items = items }
@@ -51,6 +53,14 @@ placed_for s d receiver target one_way x =
 pub record IsReady (t : Tables) (v : Delivery) : Type 0 where
   pub room : HasRoom t (length v.sending.made) (length v.sending.items + 1) (length v.sending.items) (2 * length v.sending.items + 3)
   pub buffer : 1 ≤ buffer_room t.windows v.receiver.made
+
+-- what it makes is new
+abbrev pub SendsNew : Delivery → Space → Type 0
+SendsNew v s = AreNewIn s.objects v.sending.made
+
+-- from before a step to within it a delivery makes what f makes of each space in which what it makes is new
+abbrev pub Delivers : Tables → Tables → Delivery → (Space → Space) → Type 0
+Delivers old new v f = tables.MakesWhere (Before old) (SendsNew v) (Within new) f
 
 -- a change takes room for so many frames, one-way calls and work items, and adds at most so many objects
 pub record Spends (old new : Tables) (objects frames turns works : ℕ) : Type 0 where

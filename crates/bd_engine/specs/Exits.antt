@@ -15,6 +15,7 @@ use Rattle.bd_space.specs.Todo.{work_on, hands_out, is_call, is_notice}
 use Rattle.bd_space.specs.ProcessExits.{is_dropped_with}
 use Rattle.bd_space.specs.Local.{is_among}
 use Rattle.bd_laws.specs.Lists.{In}
+use Rattle.bd_nodes.specs.New.{HasAll}
 use Rattle.bd_calls.specs.Closing.{is_place_among}
 use Rattle.bd_engine.specs.declared.exit.Exit.{Exit}
 
@@ -26,7 +27,7 @@ HasFrame x m = is_place_among x.frames.items m ≡ true
 
 -- what was gathered stays
 pub record Grows (old new : Exit) : Type 0 where
-  pub objects : (o : ObjectId) → HasObject old o → HasObject new o
+  pub objects : HasAll new.objects.items old.objects.items
   pub frames : (m : ℕ) → HasFrame old m → HasFrame new m
 
 -- of a work item: its notice's object, the objects to which the buffer refers that it hands over, and its call's frame

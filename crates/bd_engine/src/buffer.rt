@@ -155,7 +155,7 @@ impl Tables {
         let target = self.turn_target_at(made);
         self.drop_buffer(made);
         self.ripen_next(target);
-        self.follow_among(p, touched, touched);
+        self.follow_among(p, touched);
     }
 
     /// The step by which a process frees a buffer that was handed out to it.

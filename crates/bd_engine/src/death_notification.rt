@@ -10,9 +10,11 @@ ghost use Rattle.bd_space.specs.Deaths as deaths;
 ghost use Rattle.bd_space.specs.Clearing as clearing;
 ghost use Rattle.bd_space.specs.Space.{Space};
 ghost use Rattle.bd_space.specs.ProcessExits as exits;
+ghost use Rattle.bd_space.specs.Tables.{MakesWhere};
 ghost use Rattle.bd_objects.specs.Room.{death_room, death_count};
+ghost use Rattle.bd_objects.specs.New.{IsNewDeath};
 ghost use Rattle.bd_calls.specs.Room.{work_room};
-ghost use Rattle.bd_engine.specs.Stands.{Uses, MakesWithin, UsesNothing, StandsAt};
+ghost use Rattle.bd_engine.specs.Stands.{Uses, Within, MakesWithin, UsesNothing, StandsAt};
 ghost use Rattle.bd_engine.specs.Meets.{IsBy, IsStep};
 ghost use Rattle.bd_engine.specs.Telling.{owed, owed_deaths};
 
@@ -35,7 +37,8 @@ impl Tables {
     // A notification comes in, this far.
     fn add_death(&mut self, p: u32, o: ObjectId, cookie: u64, phase: Phase)
         requires { 1 ≤ death_room self.old.objects }
-        ensures stands { MakesWithin self.old self.new (λ s. deaths.with_death s p o cookie phase) }
+        ensures stands { MakesWhere (Within self.old) (IsNewDeath self.old.steps p o) (Within self.new)
+            (λ s. deaths.with_death s p o cookie phase) }
         ensures uses { UsesNothing self.old self.new }
     {
         self.objects.with_death(self.steps, p, o, cookie, phase);
@@ -45,7 +48,7 @@ impl Tables {
     fn add_told_death(&mut self, p: u32, o: ObjectId, cookie: u64)
         requires deaths { 1 ≤ death_room self.old.objects }
         requires works { 1 ≤ work_room self.old.calls }
-        ensures { MakesWithin self.old self.new
+        ensures { MakesWhere (Within self.old) (IsNewDeath self.old.steps p o) (Within self.new)
             (λ s. todo.owe (deaths.with_death s p o cookie Queued) (OfProcess p) (Death s.steps)) }
     {
         let place = self.steps;
@@ -57,7 +60,8 @@ impl Tables {
     fn add_request(&mut self, p: u32, o: ObjectId, cookie: u64)
         requires deaths { 1 ≤ death_room self.old.objects }
         requires works { 1 ≤ work_room self.old.calls }
-        ensures { MakesWithin self.old self.new (λ s. deaths.requested s p o cookie) }
+        ensures { MakesWhere (Within self.old) (IsNewDeath self.old.steps p o) (Within self.new)
+            (λ s. deaths.requested s p o cookie) }
     {
         if self.objects.owner_lives(self.processes.as_slice(), o) {
             self.add_death(p, o, cookie, Phase::Armed);

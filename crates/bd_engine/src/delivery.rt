@@ -16,10 +16,11 @@ ghost use Rattle.bd_space.specs.Local.{objects_of_items};
 ghost use Rattle.bd_objects.specs.Room as object_rooms;
 ghost use Rattle.bd_calls.specs.Room as call_rooms;
 ghost use Rattle.bd_buffers.specs.WindowsStand.{CanAdd, buffer_room};
+ghost use Rattle.bd_space.specs.Tables.{MakesWhere};
 ghost use Rattle.bd_engine.specs.Stands.{Before, Tells, Makes, Begins, PassesLimit};
 ghost use Rattle.bd_engine.specs.Meets.{IsKept};
 ghost use Rattle.bd_engine.specs.Following.{AreTouched};
-ghost use Rattle.bd_engine.specs.Deliveries.{IsSound, IsDeliverable, IsReady, Spends, OnlyWorks, OnlyObjects, placed_for, sending};
+ghost use Rattle.bd_engine.specs.Deliveries.{IsSound, IsDeliverable, IsReady, SendsNew, Delivers, Spends, OnlyWorks, OnlyObjects, placed_for, sending};
 
 use crate::sending::Sending;
 use crate::tables::Tables;
@@ -293,7 +294,8 @@ impl Tables {
     fn known_by(&mut self, v: &Delivery) -> Result<(), NumbersFull>
         requires { object_rooms.HasRoom self.old.objects
             (record (object_rooms.delivery_room v.now.sending.made v.now.sending.items) { deaths = 1 }) }
-        ensures ok { OnOk result ((s : Space) → Before self.old s → Before self.new (spec.known_by s v.now)) }
+        ensures ok { OnOk result (MakesWhere (Before self.old) (SendsNew v.now) (Before self.new)
+            (λ s. spec.known_by s v.now)) }
         ensures err { OnErr result (IsKept self.old self.new) }
         ensures full { OnErr result (PassesLimit self.old (λ s. names_go (spec.known_by s v.now))) }
         ensures objects { OnlyObjects self.old self.new (length v.now.sending.made) }
@@ -332,7 +334,7 @@ impl Tables {
     ) -> Result<(), NumbersFull>
         requires deliverable { IsDeliverable self.old d.now v }
         requires ready { IsReady self.old v }
-        ensures ok { OnOk result (Begins self.old self.new (λ s. spec.delivered s a d.now v)) }
+        ensures ok { OnOk result (Delivers self.old self.new v (λ s. spec.delivered s a d.now v)) }
         ensures err { OnErr result (IsKept self.old self.new) }
         ensures full { OnErr result (PassesLimit self.old (λ s. names_go (spec.known_by s v))) }
         ensures spends { OnOk result (Spends self.old self.new (length v.sending.made) 0 1 (length v.sending.items)) }

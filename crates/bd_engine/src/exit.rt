@@ -18,8 +18,8 @@ use std::alloc::{AllocError, Global};
 /// The objects to look at, at their names too, and the calls that may have lost their server.
 #[derive(Drop)]
 pub(crate) struct Exit {
-    pub(crate) objects: Vec<ObjectId>,
-    pub(crate) frames: Vec<u32>,
+    objects: Vec<ObjectId>,
+    frames: Vec<u32>,
 }
 
 impl Exit {
@@ -29,6 +29,20 @@ impl Exit {
             objects: Vec::new(alloc),
             frames: Vec::new(alloc),
         }
+    }
+
+    /// The objects, in the order in which they were made.
+    pub(crate) fn objects(&self) -> &[ObjectId]
+        ensures { result.now ≡ self.now.objects.items }
+    {
+        self.objects.as_slice()
+    }
+
+    /// The calls, in any order.
+    pub(crate) fn into_frames(self) -> Vec<u32>
+        ensures { result.items ≡ self.frames.items }
+    {
+        self.frames
     }
 }
 
@@ -55,14 +69,10 @@ impl Tables {
         ensures has { OnOk result ((s : Space) → Before self.now s → HasList exit.new s list) }
         ensures grows { OnOk result ((s : Space) → Before self.now s → Grows exit.old exit.new) }
     {
-        for k in 0..usize::MAX {
-            let Some(work) = self.calls.work_at(list, k) else {
-                return Ok(());
-            };
+        for work in self.calls.works_on(list) {
             self.touch_work(work.kind, exit)?;
         }
-        // No memory holds so many.
-        Err(AllocError)
+        Ok(())
     }
 
     fn touch_thread(&self, seat: u32, exit: &mut Exit) -> Result<(), AllocError>
@@ -84,28 +94,8 @@ impl Tables {
         Ok(())
     }
 
-    // What the end of a thread touches.
-    fn touched_by_thread(&self, seat: u32) -> Result<Exit, AllocError>
-        ensures has { IfOk result (λ exit. (s : Space) → Before self.now s → HasThread exit s seat) }
-    {
-        let mut exit = Exit::new(self.alloc);
-        self.touch_thread(seat, &mut exit)?;
-        Ok(exit)
-    }
-
-    // What the end of a process touches whose threads have these seats.
-    fn touched_by_process(&self, seats: &[u32], p: u32) -> Result<Exit, AllocError>
-        ensures has { IfOk result (λ exit. (s : Space) → Before self.now s → HasProcess exit s seats.now p) }
-    {
-        let mut exit = Exit::new(self.alloc);
-        self.touch_threads(seats, &mut exit)?;
-        self.touch_list(TodoList::OfProcess(p), &mut exit)?;
-        self.objects.touched_by_end(p, &mut exit.objects)?;
-        Ok(exit)
-    }
-
     // Puts what an exit touches in order, and makes room for all that may follow, and for so many work items more.
-    fn reserve_exit(&mut self, exit: Exit, works: usize) -> Result<Exit, AllocError>
+    fn reserve_exit(&mut self, mut exit: Exit, works: usize) -> Result<Exit, AllocError>
         ensures stands { IsKept self.old self.new }
         ensures grows { IfOk result (Grows exit) }
         ensures objects { self.new.objects ≡ self.old.objects }
@@ -113,13 +103,10 @@ impl Tables {
         ensures room { IfOk result (λ x.
             frame_count self.new.calls + (length x.objects.items + works) ≤ work_room self.new.calls) }
     {
-        let objects = in_order(exit.objects);
-        let works = objects.len().checked_add(works).ok_or(AllocError)?;
+        exit.objects = in_order(exit.objects);
+        let works = exit.objects.len().checked_add(works).ok_or(AllocError)?;
         self.calls.reserve(works)?;
-        Ok(Exit {
-            objects,
-            frames: exit.frames,
-        })
+        Ok(exit)
     }
 
     /// What the end of a thread touches, with room for what follows.
@@ -130,9 +117,9 @@ impl Tables {
         ensures room { IfOk result (λ x.
             frame_count self.new.calls + length x.objects.items ≤ work_room self.new.calls) }
     {
-        let exit = self.touched_by_thread(seat)?;
-        let ready = self.reserve_exit(exit, 0)?;
-        Ok(ready)
+        let mut exit = Exit::new(self.alloc);
+        self.touch_thread(seat, &mut exit)?;
+        self.reserve_exit(exit, 0)
     }
 
     /// What the end of a process touches whose threads have these seats, with room for what follows.
@@ -144,9 +131,11 @@ impl Tables {
             frame_count self.new.calls + (length x.objects.items + death_count self.new.objects)
             ≤ work_room self.new.calls) }
     {
-        let exit = self.touched_by_process(seats, p)?;
+        let mut exit = Exit::new(self.alloc);
+        self.touch_threads(seats, &mut exit)?;
+        self.touch_list(TodoList::OfProcess(p), &mut exit)?;
+        self.objects.touched_by_end(p, &mut exit.objects)?;
         let deaths = self.objects.death_count();
-        let ready = self.reserve_exit(exit, deaths)?;
-        Ok(ready)
+        self.reserve_exit(exit, deaths)
     }
 }

@@ -2,8 +2,10 @@
 
 ghost use Rattle.std.specs.Prelude.{◌≤◌};
 ghost use Rattle.bd_space.specs.Steps as steps;
+ghost use Rattle.bd_space.specs.Tables.{MakesWhere};
 ghost use Rattle.bd_objects.specs.Room.{object_room, reference_room};
-ghost use Rattle.bd_engine.specs.Stands.{TellsBefore, Makes};
+ghost use Rattle.bd_objects.specs.New.{IsNewManager};
+ghost use Rattle.bd_engine.specs.Stands.{TellsBefore, Within};
 ghost use Rattle.bd_engine.specs.Meets.{IsBy, IsStep};
 
 use crate::answer::Plain;
@@ -24,7 +26,8 @@ impl Tables {
     fn with_manager(&mut self, p: u32)
         requires objects { 1 ≤ object_room self.old.objects }
         requires references { 1 ≤ reference_room self.old.objects }
-        ensures stands { Makes self.old self.new (λ s. steps.with_manager s p) }
+        ensures stands { MakesWhere (Within self.old) (IsNewManager self.old.steps p) (Within self.new)
+            (λ s. steps.with_manager s p) }
     {
         self.objects.with_manager(self.steps, p);
         self.manager = Some(ObjectId {

@@ -178,12 +178,13 @@ impl Tables {
         ensures { IsStep self.old self.new (IsBy a) (λ s. exits.exit_process_step s a) result }
     {
         let p = a.process.made;
-        let Ok((seats, mut exit)) = self.begin_exit(p) else {
+        let Ok((seats, exit)) = self.begin_exit(p) else {
             return Err(Why::NoMemory);
         };
         self.process_goes(seats.as_slice(), p);
-        self.follow_objects(exit.objects.as_slice());
-        self.close_among(exit.frames.as_mut_slice());
+        self.follow_objects(exit.objects());
+        let mut frames = exit.into_frames();
+        self.close_among(frames.as_mut_slice());
         Ok(Plain::Exited)
     }
 }

@@ -174,10 +174,7 @@ impl Tables {
             → AreTaken s limit (todo.work_on s.todo (Some list)) t.works.items t.stream.items) }
     {
         let mut taking = begin(self.alloc)?;
-        for k in 0..usize::MAX {
-            let Some(work) = self.calls.work_at(list, k) else {
-                return Ok(taking);
-            };
+        for work in self.calls.works_on(list) {
             if taking.is_full(limit) {
                 return Ok(taking);
             }
@@ -186,8 +183,7 @@ impl Tables {
                 return Ok(taking);
             }
         }
-        // No memory holds so many.
-        Err(AllocError)
+        Ok(taking)
     }
 
     // The buffer that is handed over by reading these.

@@ -64,7 +64,7 @@ impl Tables {
         ensures stands { MakesOfTidy self.old self.new (λ s. completed (asking.drop_asked s p o strong)) }
     {
         self.objects.drop_asked(p, o, strong);
-        self.follow_among(p, &[o], &[o]);
+        self.follow_among(p, &[o]);
     }
 
     /// The step by which a process drops a reference that it asked for.

@@ -9,9 +9,9 @@ ghost use Rattle.bd_space.specs.Names.{names_go};
 ghost use Rattle.bd_space.specs.Outcomes as outcomes;
 ghost use Rattle.bd_space.specs.Replies as spec;
 ghost use Rattle.bd_calls.specs.Room.{work_room};
-ghost use Rattle.bd_engine.specs.Stands.{CanFollow, TellsBefore, Makes, Begins, PassesLimit};
+ghost use Rattle.bd_engine.specs.Stands.{CanFollow, TellsBefore, Makes, PassesLimit};
 ghost use Rattle.bd_engine.specs.Meets.{IsBy, IsServing, IsReplying, IsKept, IsStep};
-ghost use Rattle.bd_engine.specs.Deliveries.{IsDeliverable, IsReady, Spends};
+ghost use Rattle.bd_engine.specs.Deliveries.{IsDeliverable, IsReady, Delivers, Spends};
 
 use crate::answer::Plain;
 use crate::delivery::Delivery;
@@ -58,7 +58,7 @@ impl Tables {
     fn replied(&mut self, a: Actor, d: &TransactionData, f: Frame, v: Delivery) -> Result<(), Why>
         requires deliverable { IsDeliverable self.old d.now v }
         requires ready { IsReady self.old v }
-        ensures ok { OnOk result (Begins self.old self.new (λ s. spec.replied s a d.now f v)) }
+        ensures ok { OnOk result (Delivers self.old self.new v (λ s. spec.replied s a d.now f v)) }
         ensures err { OnErr result (IsKept self.old self.new) }
         ensures full { OnErr result (PassesLimit self.old (λ s. names_go (spec.replied s a d.now f v))) }
         ensures follow { OnOk result (CanFollow self.new (length v.sending.items)) }

@@ -118,13 +118,13 @@ impl Tables {
         ensures { IsStep self.old self.new (IsBy a) (λ s. exits.exit_thread_step s a) result }
     {
         let seat = a.thread.seat;
-        let Ok(mut exit) = self.begin_thread_exit(seat) else {
+        let Ok(exit) = self.begin_thread_exit(seat) else {
             return Err(Why::NoMemory);
         };
         self.thread_goes(seat);
-        let objects = exit.objects.as_slice();
-        self.follow_among(a.thread.process, objects, objects);
-        self.close_among(exit.frames.as_mut_slice());
+        self.follow_among(a.thread.process, exit.objects());
+        let mut frames = exit.into_frames();
+        self.close_among(frames.as_mut_slice());
         Ok(Plain::Exited)
     }
 }

@@ -84,14 +84,15 @@ impl Tables {
         self.notify_objects(touched);
     }
 
-    /// What follows at the process's names of these objects, in any order, and then at the touched objects.
-    pub(crate) fn follow_among(&mut self, p: u32, named: &[ObjectId], touched: &[ObjectId])
+    /// What follows at the process's names of these objects, given in the order in which they were made, and then at the
+    /// objects themselves.
+    pub(crate) fn follow_among(&mut self, p: u32, touched: &[ObjectId])
         requires in_order { Pairs NotLater touched.now }
         requires room { length touched.now ≤ work_room self.old.calls }
-        ensures stands { MakesOfOrdered self.old self.new (follow_of (names_among p named.now) (is_among touched.now)) }
+        ensures stands { MakesOfOrdered self.old self.new (follow_of (names_among p touched.now) (is_among touched.now)) }
         ensures uses { Uses self.old self.new 0 0 0 (length touched.now) }
     {
-        for o in named {
+        for o in touched {
             self.follow_name(p, *o);
         }
         self.follow_objects(touched);

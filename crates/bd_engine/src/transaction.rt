@@ -11,9 +11,9 @@ ghost use Rattle.bd_space.specs.Outcomes as outcomes;
 ghost use Rattle.bd_space.specs.Frames as frames;
 ghost use Rattle.bd_space.specs.Transactions as spec;
 ghost use Rattle.bd_calls.specs.Room.{work_room, frame_room};
-ghost use Rattle.bd_engine.specs.Stands.{StandsAt, CanFollow, Tells, TellsBefore, Makes, Begins, PassesLimit};
+ghost use Rattle.bd_engine.specs.Stands.{StandsAt, CanFollow, Tells, TellsBefore, Makes, PassesLimit};
 ghost use Rattle.bd_engine.specs.Meets.{IsBy, IsSending, IsKept, IsStep};
-ghost use Rattle.bd_engine.specs.Deliveries.{IsDeliverable, IsReady, Spends};
+ghost use Rattle.bd_engine.specs.Deliveries.{IsDeliverable, IsReady, Delivers, Spends};
 
 use crate::answer::Plain;
 use crate::delivery::Delivery;
@@ -180,7 +180,7 @@ impl Tables {
     fn transacted(&mut self, a: Actor, d: &TransactionData, v: Delivery) -> Result<(), Why>
         requires deliverable { IsDeliverable self.old d.now v }
         requires ready { IsReady self.old v }
-        ensures ok { OnOk result (Begins self.old self.new (λ s. spec.transacted s a d.now v)) }
+        ensures ok { OnOk result (Delivers self.old self.new v (λ s. spec.transacted s a d.now v)) }
         ensures err { OnErr result (IsKept self.old self.new) }
         ensures full { OnErr result (PassesLimit self.old (λ s. names_go (spec.transacted s a d.now v))) }
         ensures follow { OnOk result (CanFollow self.new (length v.sending.items + 1)) }

@@ -1,15 +1,11 @@
 -- Of BC_TRANSACTION: what its delivery may rest on; and without objects in its parcel there is next to nothing to do.
-use Rattle.std.proofs.Common.{◌≡◌, ℕ, ◌%◌, ◌==◌, Bool, true, false, cond, not, ◌&&◌, ◌||◌, List, [], ◌∷◌, ◌++◌, Option, Some, None, Result, Ok, Err, ◌⊎◌, inl, inr, refl, ap, sym, subst, ◌∙◌, filter, length}
+use Rattle.std.proofs.Common.{◌≡◌, ℕ, ◌==◌, Bool, true, false, cond, not, ◌&&◌, ◌||◌, List, [], ◌∷◌, ◌++◌, Option, Some, None, Ok, ◌⊎◌, inl, inr, refl, ap, subst, ◌∙◌, filter}
 use Rattle.std.specs.List.{list_any, fold}
 use Rattle.std.specs.Option.{option_to_list}
 use Rattle.std.proofs.lemmas.Option.{option_and_then_some}
 use Rattle.bd_uapi.specs.declared.command.TransactionData.{TransactionData}
 use Rattle.bd_uapi.specs.declared.object.FlatObject.{FlatObject}
-use Rattle.bd_uapi.specs.declared.fault.Cause.{Cause}
-use Rattle.bd_uapi.specs.declared.fault.Cause.TheVariants.{OutsideArea, OffsetsSize, OtherCookie, NotStronglyNamed, NoManager, OwnManager}
-use Rattle.bd_parcel.specs.declared.fault.WalkFault.{WalkFault}
-use Rattle.bd_parcel.specs.Parcels.{offsets_in, fault_in}
-use Rattle.bd_parcel.specs.Reading.{object_at}
+use Rattle.bd_uapi.specs.declared.fault.Cause.TheVariants.{NotStronglyNamed, NoManager, OwnManager}
 use Rattle.bd_space.specs.declared.step.ObjectId.{ObjectId}
 use Rattle.bd_space.specs.declared.step.Parcel.{Parcel}
 use Rattle.bd_space.specs.declared.space.Object.{Object}
@@ -25,10 +21,10 @@ use Rattle.bd_space.specs.declared.space.WorkKind.TheVariants as work
 use Rattle.bd_space.specs.declared.space.TodoList.TheVariants.{OfProcess}
 use Rattle.bd_space.specs.Words.{same, and_then, found_or, when}
 use Rattle.bd_space.specs.Space.{Space}
-use Rattle.bd_space.specs.References.{strong_in, owned_in, own_in, names_for}
+use Rattle.bd_space.specs.References.{strong_in, owned_in, names_for}
 use Rattle.bd_space.specs.Names.{named_in, strongly_named, if_strongly_named, is_strongly_named_in}
 use Rattle.bd_space.specs.Notices.{with_notice}
-use Rattle.bd_space.specs.Parcels.{Sending, resolve_handle, resolve, resolve_all, new_object, resolve_walked, sending_of, is_cut}
+use Rattle.bd_space.specs.Parcels.{Sending, resolve, new_object, sending_of}
 use Rattle.bd_space.specs.Delivery.{Delivery}
 use Rattle.bd_space.specs.Transactions.{transaction_check, transacted, target_of, not_own, handle_of}
 use Rattle.bd_space.specs.Outcomes.{completed}
@@ -38,7 +34,7 @@ use Rattle.bd_laws.specs.Objects.{KeptBefore}
 use Rattle.bd_laws.specs.Tidy.{IsTidy}
 use Rattle.bd_laws.proofs.Lists.{in-last, in-push, in-append, any-found, any-in}
 use Rattle.bd_laws.proofs.Tests.{both, and-both, eq-same, and_then-ok, found-ok, unless-ok}
-use Rattle.bd_laws.proofs.Sendings.{sending-sends, resolved-by}
+use Rattle.bd_laws.proofs.Sendings.{sending-sends, sending-keeps, resolved-by}
 use Rattle.bd_laws.proofs.Checks.{transaction-checked}
 use Rattle.bd_laws.proofs.Quiet.{any-more}
 use Rattle.bd_laws.proofs.Next.{calm}
@@ -102,34 +98,10 @@ module _ (b : ObjectTest) (none : (o : ObjectId) → b o ≡ false) where
 
 -- ---- what is made is sent
 
-own-made : (s : Space) (p : ℕ) (made : List Object) (x : FlatObject) (f : Option Object) (r : Resolved)
-    → elim f as (λ (f : Option Object). Result Resolved Cause) [
-      | None ↦ let o = new_object s.steps p made x in Ok (record { object = o.id; new = Some o })
-      | Some o ↦ cond (o.cookie == x.cookie) (Ok (record { object = o.id; new = None })) (Err OtherCookie)
-    ] ≡ Ok r → (o : Object) → r.new ≡ Some o → r.object ≡ o.id
-own-made s p made x None r h o e =
-    let y = new_object s.steps p made x in
-    let is : (let q : Resolved = record { object = y.id; new = Some y } in q) ≡ r = cc in
-    let new : Some y ≡ r.new = ap (λ (q : Resolved). q.new) is in
-    let same_object : y ≡ o = cc in
-    sym (ap (λ (q : Resolved). q.object) is) ∙ ap (λ (z : Object). z.id) same_object
-own-made s p made x (Some y) r h o e = at (y.cookie == x.cookie) h
-  where
-    at : (b : Bool) → cond {A = Result Resolved Cause} b (Ok (record { object = y.id; new = None })) (Err OtherCookie) ≡ Ok r → r.object ≡ o.id
-    at true k =
-        let is : (let q : Resolved = record { object = y.id; new = None } in q) ≡ r = cc in
-        let none : None ≡ r.new = ap (λ (q : Resolved). q.new) is in absurd (cc)
-    at false k = absurd (cc)
-
-handle-made : (f : Option ObjectId) (r : Resolved) → resolve_handle f ≡ Ok r → (o : Object) → r.new ≡ Some o → r.object ≡ o.id
-handle-made None r h o e = absurd (cc)
-handle-made (Some y) r h o e =
-    let is : (let q : Resolved = record { object = y; new = None } in q) ≡ r = cc in
-    let none : None ≡ r.new = ap (λ (q : Resolved). q.new) is in absurd (cc)
-
 resolve-made : (s : Space) (p : ℕ) (made : List Object) (x : FlatObject) (r : Resolved) → resolve s p made x ≡ Ok r → (o : Object) → r.new ≡ Some o → r.object ≡ o.id
-resolve-made s p made x r h o e =
-    resolved-by s p made x r (λ own. r.object ≡ o.id) (λ k. own-made s p made x (own_in (s.objects ++ made) p x.binder) r k o e) (λ f n k. handle-made f r k o e) h
+resolve-made s p made x r h =
+    resolved-by s p made x (λ own q. (o : Object) → q.new ≡ Some o → q.object ≡ o.id)
+    (λ none o e. let is : new_object s.steps p made x ≡ o = cc in ap (λ (z : Object). z.id) is) (λ y e o f. absurd (cc)) (λ i n o f. absurd (cc)) r h
 
 abbrev MadeSent : List Object → List Item → Type 0
 MadeSent made items = (x : Object) → In x made → objects_of_items items x.id ≡ true
@@ -141,34 +113,17 @@ option-in : (made : List Object) (o : Option Object) (x : Object) → In x (made
 option-in made None x l = elim (in-append x made [] l) [ inl i ↦ inl i | inr none ↦ absurd none ]
 option-in made (Some y) x l = elim (in-push x y made l) [ inl i ↦ inl i | inr is ↦ inr (ap (λ z. Some z) is) ]
 
-all-made_sent : (s : Space) (p : ℕ) (bytes offsets : List ℕ) (ats : List ℕ) (made : List Object) (items : List Item) (v : Sending) → MadeSent made items
-    → resolve_all s p bytes offsets made items ats ≡ Ok v → MadeSent v.made v.items
-all-made_sent s p bytes offsets [] made items v h k =
-    let is : (let q : Sending = record { bytes = bytes; offsets = offsets; made = made; items = items } in q) ≡ v = cc in
-    subst (λ (q : Sending). MadeSent q.made q.items) is h
-all-made_sent s p bytes offsets (at ∷ ats) made items v h k =
-    let r = and_then-ok (resolve s p made (object_at at bytes)) _ v k in
-    let item : Item = record { at = at; flat = object_at at bytes; object = r.0.object } in
-    all-made_sent s p bytes offsets ats (made ++ option_to_list r.0.new) (items ++ item ∷ []) v
-    (λ x l. elim (option-in made r.0.new x l) [
-      | inl i ↦ sent-more items item x.id (h x i)
-      | inr e ↦ any-in (λ (y : Item). same y.object x.id) item (items ++ item ∷ []) (in-last item items)
-          (eq-same r.0.object x.id (resolve-made s p made (object_at at bytes) r.0 r.1 x e))
-    ]) r.2
+made_sent-more : (s : Space) (p : ℕ) (made : List Object) (items : List Item) (i : Item) (r : Resolved) → i.object ≡ r.object → resolve s p made i.flat ≡ Ok r → MadeSent made items
+    → MadeSent (made ++ option_to_list r.new) (items ++ i ∷ [])
+made_sent-more s p made items i r same_object e h x l =
+    elim (option-in made r.new x l) [
+      | inl m ↦ sent-more items i x.id (h x m)
+      | inr is ↦ any-in (λ (y : Item). same y.object x.id) i (items ++ i ∷ []) (in-last i items)
+          (eq-same i.object x.id (same_object ∙ resolve-made s p made i.flat r e x is))
+    ]
 
 pub sending-made_sent : (s : Space) (p : ℕ) (d : TransactionData) (parcel : Option Parcel) (v : Sending) → sending_of s p d parcel ≡ Ok v → MadeSent v.made v.items
-unfolding sending_of
-sending-made_sent s p d None v h = absurd (cc)
-sending-made_sent s p d (Some q) v h = cut (not (is_cut d q)) (not (length q.offsets % 8 == 0)) (fault_in q.bytes (offsets_in q.offsets)) h
-  where
-    walked : (f : Option WalkFault) → resolve_walked s p q f ≡ Ok v → MadeSent v.made v.items
-    walked (Some f) k = absurd (cc)
-    walked None k = all-made_sent s p q.bytes q.offsets (offsets_in q.offsets) [] [] v (λ x l. absurd l) k
-
-    cut : (a b : Bool) (f : Option WalkFault) → cond {A = Result Sending Cause} a (Err OutsideArea) (cond b (Err OffsetsSize) (resolve_walked s p q f)) ≡ Ok v → MadeSent v.made v.items
-    cut true b f k = absurd (cc)
-    cut false true f k = absurd (cc)
-    cut false false f k = walked f k
+sending-made_sent s p d parcel v h = sending-keeps s p MadeSent (λ x l. absurd l) (made_sent-more s p) d parcel v h
 
 -- ---- whom is called is held strongly
 

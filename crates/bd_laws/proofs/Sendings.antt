@@ -94,61 +94,64 @@ made-one s p made x h =
       in_order = pairs-push Earlier o made h.in_order (λ y i. index-earlier y.id o.id (h.place y i) (h.index y i));
     }
 
-own-if : (s : Space) (p : ℕ) (made : List Object) (x : FlatObject) (o : Object) (b : Bool) (r : Resolved) → In o (s.objects ++ made) → o.owner ≡ p → Made s p made
-    → cond {A = Result Resolved Cause} b (Ok (record { object = o.id; new = None })) (Err OtherCookie) ≡ Ok r → Resolves s p made true r
-own-if s p made x o true r l own h e =
-    let is : (let q : Resolved = record { object = o.id; new = None } in q) ≡ r = cc in
-    let here = subst (λ m. In o (s.objects ++ m)) (sym (append-nil made)) l in
-    subst (Resolves s p made true) is (record { owned = λ f. (o, here, refl, own); sent = inl (o, here, refl, own); makes = made-none s p made h })
-own-if s p made x o false r l own h e = absurd (cc)
+abbrev pub resolved : ObjectId → Option Object → Resolved
+resolved o new = record { object = o; new = new }
 
-own-found : (s : Space) (p : ℕ) (made : List Object) (x : FlatObject) (f : Option Object) (r : Resolved) → own_in (s.objects ++ made) p x.binder ≡ f → Made s p made
-    → elim f as (λ (f : Option Object). Result Resolved Cause) [
-      | None ↦ let o = new_object s.steps p made x in Ok (record { object = o.id; new = Some o })
-      | Some o ↦ cond (o.cookie == x.cookie) (Ok (record { object = o.id; new = None })) (Err OtherCookie)
-    ] ≡ Ok r → Resolves s p made true r
-own-found s p made x None r e h k =
-    let o = new_object s.steps p made x in
-    let is : (let q : Resolved = record { object = o.id; new = Some o } in q) ≡ r = cc in
-    let here = in-right o s.objects (made ++ o ∷ []) (in-last o made) in
-    subst (Resolves s p made true) is (record {
-      owned = λ f. (o, here, refl, refl);
-      sent = inl (o, here, refl, refl);
-      makes = made-one s p made x h;
-    })
-own-found s p made x (Some o) r e h k =
-    let l = find-in (λ (y : Object). (y.owner == p) && (y.ptr == x.binder)) o (s.objects ++ made) e in
-    own-if s p made x o (o.cookie == x.cookie) r l.0 (eqb-true o.owner p (both (o.owner == p) (o.ptr == x.binder) l.1).0) h k
+-- an object of a parcel is made, or known by its ptr, or the sender has a name for it
+module _ (s : Space) (p : ℕ) (made : List Object) (x : FlatObject) (R : Bool → Resolved → Type 0)
+    (makes : own_in (s.objects ++ made) p x.binder ≡ None → R true (resolved (new_object s.steps p made x).id (Some (new_object s.steps p made x))))
+    (knows : (o : Object) → own_in (s.objects ++ made) p x.binder ≡ Some o → R true (resolved o.id None))
+    (names : (o : ObjectId) → HasName s.names p o → R false (resolved o None)) where
+  known-if : (o : Object) → own_in (s.objects ++ made) p x.binder ≡ Some o → (b : Bool) (r : Resolved)
+      → cond {A = Result Resolved Cause} b (Ok (resolved o.id None)) (Err OtherCookie) ≡ Ok r → R true r
+  known-if o e true r h = let is : resolved o.id None ≡ r = cc in subst (R true) is (knows o e)
+  known-if o e false r h = absurd (cc)
 
-own-resolves : (s : Space) (p : ℕ) (made : List Object) (x : FlatObject) (r : Resolved) → Made s p made → resolve_own s p made x ≡ Ok r → Resolves s p made true r
-own-resolves s p made x r h k = own-found s p made x (own_in (s.objects ++ made) p x.binder) r refl h k
+  own-found : (f : Option Object) (r : Resolved) → own_in (s.objects ++ made) p x.binder ≡ f
+      → elim f as (λ (f : Option Object). Result Resolved Cause) [
+        | None ↦ let o = new_object s.steps p made x in Ok (record { object = o.id; new = Some o })
+        | Some o ↦ cond (o.cookie == x.cookie) (Ok (record { object = o.id; new = None })) (Err OtherCookie)
+      ] ≡ Ok r → R true r
+  own-found None r e h =
+      let o = new_object s.steps p made x in
+      let is : resolved o.id (Some o) ≡ r = cc in subst (R true) is (makes e)
+  own-found (Some o) r e h = known-if o e (o.cookie == x.cookie) r h
 
-handle-resolves : (s : Space) (p : ℕ) (made : List Object) (f : Option ObjectId) (r : Resolved) → ((o : ObjectId) → f ≡ Some o → HasName s.names p o) → Made s p made
-    → resolve_handle f ≡ Ok r → Resolves s p made false r
-handle-resolves s p made None r n h k = absurd (cc)
-handle-resolves s p made (Some o) r n h k =
-    let is : (let q : Resolved = record { object = o; new = None } in q) ≡ r = cc in
-    subst (Resolves s p made false) is (record { owned = λ f. absurd (cc); sent = inr (n o refl); makes = made-none s p made h })
+  own-by : (r : Resolved) → resolve_own s p made x ≡ Ok r → R true r
+  own-by r h = own-found (own_in (s.objects ++ made) p x.binder) r refl h
 
--- an item is of its sender's own object, or of one that the sender has a name for
-pub resolved-by : (s : Space) (p : ℕ) (made : List Object) (x : FlatObject) (r : Resolved) (R : Bool → Type 0) → (resolve_own s p made x ≡ Ok r → R true)
-    → ((f : Option ObjectId) → ((o : ObjectId) → f ≡ Some o → HasName s.names p o) → resolve_handle f ≡ Ok r → R false) → resolve s p made x ≡ Ok r → R (is_own x.kind)
-unfolding resolve
-resolved-by s p made x r R own handle = of x.kind
-  where
-    of : (kind : ObjectKind) → elim kind as (λ (q : ObjectKind). Result Resolved Cause) [
-      | Binder ↦ resolve_own s p made x
-      | WeakBinder ↦ resolve_own s p made x
-      | Handle ↦ resolve_handle (strongly_named s p (x.binder % 2 ^ 32))
-      | WeakHandle ↦ resolve_handle (named s p (x.binder % 2 ^ 32))
-    ] ≡ Ok r → R (is_own kind)
-    of Binder e = own e
-    of WeakBinder e = own e
-    of Handle e = handle (strongly_named s p (x.binder % 2 ^ 32)) (λ o f. strongly_named-has s p (x.binder % 2 ^ 32) o f) e
-    of WeakHandle e = handle (named s p (x.binder % 2 ^ 32)) (λ o f. named-has s p (x.binder % 2 ^ 32) o f) e
+  handle-by : (f : Option ObjectId) (r : Resolved) → ((o : ObjectId) → f ≡ Some o → HasName s.names p o) → resolve_handle f ≡ Ok r → R false r
+  handle-by None r n h = absurd (cc)
+  handle-by (Some o) r n h = let is : resolved o None ≡ r = cc in subst (R false) is (names o (n o refl))
+
+  pub resolved-by : (r : Resolved) → resolve s p made x ≡ Ok r → R (is_own x.kind) r
+  unfolding resolve
+  resolved-by r = of x.kind
+    where
+      of : (kind : ObjectKind) → elim kind as (λ (q : ObjectKind). Result Resolved Cause) [
+        | Binder ↦ resolve_own s p made x
+        | WeakBinder ↦ resolve_own s p made x
+        | Handle ↦ resolve_handle (strongly_named s p (x.binder % 2 ^ 32))
+        | WeakHandle ↦ resolve_handle (named s p (x.binder % 2 ^ 32))
+      ] ≡ Ok r → R (is_own kind) r
+      of Binder e = own-by r e
+      of WeakBinder e = own-by r e
+      of Handle e = handle-by (strongly_named s p (x.binder % 2 ^ 32)) r (λ o f. strongly_named-has s p (x.binder % 2 ^ 32) o f) e
+      of WeakHandle e = handle-by (named s p (x.binder % 2 ^ 32)) r (λ o f. named-has s p (x.binder % 2 ^ 32) o f) e
 
 pub resolves : (s : Space) (p : ℕ) (made : List Object) (x : FlatObject) (r : Resolved) → Made s p made → resolve s p made x ≡ Ok r → Resolves s p made (is_own x.kind) r
-resolves s p made x r h = resolved-by s p made x r (λ own. Resolves s p made own r) (own-resolves s p made x r h) (λ f n. handle-resolves s p made f r n h)
+resolves s p made x r h =
+    resolved-by s p made x (Resolves s p made)
+    (λ e.
+    let o = new_object s.steps p made x in
+    let its : Owns (s.objects ++ (made ++ o ∷ [])) p o.id = (o, in-right o s.objects (made ++ o ∷ []) (in-last o made), refl, refl) in
+    record { owned = λ f. its; sent = inl its; makes = made-one s p made x h })
+    (λ o e.
+    let l = find-in (λ (y : Object). (y.owner == p) && (y.ptr == x.binder)) o (s.objects ++ made) e in
+    let its : Owns (s.objects ++ (made ++ [])) p o.id =
+    (o, subst (λ m. In o (s.objects ++ m)) (sym (append-nil made)) l.0, refl, eqb-true o.owner p (both (o.owner == p) (o.ptr == x.binder) l.1).0) in
+    record { owned = λ f. its; sent = inl its; makes = made-none s p made h })
+    (λ o n. record { owned = λ f. absurd (cc); sent = inr n; makes = made-none s p made h }) r
 
 -- ---- all of a parcel
 
@@ -165,42 +168,55 @@ sent-more : (s : Space) (p : ℕ) (made more : List Object) (o : ObjectId) → S
 sent-more s p made more o (inl w) = inl (owns-more s p made more o w)
 sent-more s p made more o (inr m) = inr m
 
-all-sent : (s : Space) (p : ℕ) (bytes offsets : List ℕ) (ats : List ℕ) (made : List Object) (items : List Item) (v : Sending) → Sends s p made items
-    → resolve_all s p bytes offsets made items ats ≡ Ok v → Sends s p v.made v.items
-all-sent s p bytes offsets [] made items v h k =
-    let is : (let q : Sending = record { bytes = bytes; offsets = offsets; made = made; items = items } in q) ≡ v = cc in
-    subst (λ (q : Sending). Sends s p q.made q.items) is h
-all-sent s p bytes offsets (at ∷ ats) made items v h k =
-    let r = and_then-ok (resolve s p made (object_at at bytes)) _ v k in
-    let one = resolves s p made (object_at at bytes) r.0 h.makes r.1 in
-    let item : Item = record { at = at; flat = object_at at bytes; object = r.0.object } in
-    all-sent s p bytes offsets ats (made ++ option_to_list r.0.new) (items ++ item ∷ []) v (record {
-      owned = λ i l own. elim (in-push i item items l) [
-        | inl m ↦ owns-more s p made (option_to_list r.0.new) i.object (h.owned i m own)
-        | inr e ↦ (
-            let kind : is_own item.flat.kind ≡ is_own i.flat.kind = ap (λ (x : Item). is_own x.flat.kind) e in
-            subst (Owns (s.objects ++ (made ++ option_to_list r.0.new)) p) (ap (λ (x : Item). x.object) e) (one.owned (kind ∙ own)))
+-- what one object more keeps, all of a parcel keep
+module _ (s : Space) (p : ℕ) (P : List Object → List Item → Type 0) (none : P [] [])
+    (more : (made : List Object) (items : List Item) (i : Item) (r : Resolved) → i.object ≡ r.object → resolve s p made i.flat ≡ Ok r → P made items
+    → P (made ++ option_to_list r.new) (items ++ i ∷ [])) where
+  all-keep : (bytes offsets ats : List ℕ) (made : List Object) (items : List Item) (v : Sending) → P made items → resolve_all s p bytes offsets made items ats ≡ Ok v
+      → P v.made v.items
+  all-keep bytes offsets [] made items v h k =
+      let is : (let q : Sending = record { bytes = bytes; offsets = offsets; made = made; items = items } in q) ≡ v = cc in
+      subst (λ (q : Sending). P q.made q.items) is h
+  all-keep bytes offsets (at ∷ ats) made items v h k =
+      let r = and_then-ok (resolve s p made (object_at at bytes)) _ v k in
+      let i : Item = record { at = at; flat = object_at at bytes; object = r.0.object } in
+      all-keep bytes offsets ats (made ++ option_to_list r.0.new) (items ++ i ∷ []) v (more made items i r.0 refl r.1 h) r.2
+
+  pub sending-keeps : (d : TransactionData) (parcel : Option Parcel) (v : Sending) → sending_of s p d parcel ≡ Ok v → P v.made v.items
+  unfolding sending_of
+  sending-keeps d None v h = absurd (cc)
+  sending-keeps d (Some q) v h = cut (not (is_cut d q)) (not (length q.offsets % 8 == 0)) (fault_in q.bytes (offsets_in q.offsets)) h
+    where
+      walked : (f : Option WalkFault) → resolve_walked s p q f ≡ Ok v → P v.made v.items
+      walked (Some f) k = absurd (cc)
+      walked None k = all-keep q.bytes q.offsets (offsets_in q.offsets) [] [] v none k
+
+      cut : (a b : Bool) (f : Option WalkFault) → cond {A = Result Sending Cause} a (Err OutsideArea) (cond b (Err OffsetsSize) (resolve_walked s p q f)) ≡ Ok v → P v.made v.items
+      cut true b f k = absurd (cc)
+      cut false true f k = absurd (cc)
+      cut false false f k = walked f k
+
+sends-more : (s : Space) (p : ℕ) (made : List Object) (items : List Item) (i : Item) (r : Resolved) → i.object ≡ r.object → resolve s p made i.flat ≡ Ok r → Sends s p made items
+    → Sends s p (made ++ option_to_list r.new) (items ++ i ∷ [])
+sends-more s p made items i r same_object e h =
+    let one = resolves s p made i.flat r h.makes e in
+    record {
+      owned = λ j l own. elim (in-push j i items l) [
+        | inl m ↦ owns-more s p made (option_to_list r.new) j.object (h.owned j m own)
+        | inr is ↦ (
+            let kind : is_own i.flat.kind ≡ is_own j.flat.kind = ap (λ (x : Item). is_own x.flat.kind) is in
+            subst (Owns (s.objects ++ (made ++ option_to_list r.new)) p) (sym same_object ∙ ap (λ (x : Item). x.object) is) (one.owned (kind ∙ own)))
       ];
-      sent = λ i l. elim (in-push i item items l) [
-        | inl m ↦ sent-more s p made (option_to_list r.0.new) i.object (h.sent i m)
-        | inr e ↦ subst (Sent s p (made ++ option_to_list r.0.new)) (ap (λ (x : Item). x.object) e) one.sent
+      sent = λ j l. elim (in-push j i items l) [
+        | inl m ↦ sent-more s p made (option_to_list r.new) j.object (h.sent j m)
+        | inr is ↦ subst (Sent s p (made ++ option_to_list r.new)) (sym same_object ∙ ap (λ (x : Item). x.object) is) one.sent
       ];
       makes = one.makes;
-    }) r.2
+    }
 
-none-made : (s : Space) (p : ℕ) → Made s p []
+pub none-made : (s : Space) (p : ℕ) → Made s p []
 none-made s p = record { place = λ y l. absurd l; index = λ y l. absurd l; owner = λ y l. absurd l; untold = λ y l. absurd l; in_order = tt }
 
 pub sending-sends : (s : Space) (p : ℕ) (d : TransactionData) (parcel : Option Parcel) (v : Sending) → sending_of s p d parcel ≡ Ok v → Sends s p v.made v.items
-unfolding sending_of
-sending-sends s p d None v h = absurd (cc)
-sending-sends s p d (Some q) v h = cut (not (is_cut d q)) (not (length q.offsets % 8 == 0)) (fault_in q.bytes (offsets_in q.offsets)) h
-  where
-    walked : (f : Option WalkFault) → resolve_walked s p q f ≡ Ok v → Sends s p v.made v.items
-    walked (Some f) k = absurd (cc)
-    walked None k = all-sent s p q.bytes q.offsets (offsets_in q.offsets) [] [] v (record { owned = λ i l own. absurd l; sent = λ i l. absurd l; makes = none-made s p }) k
-
-    cut : (a b : Bool) (f : Option WalkFault) → cond {A = Result Sending Cause} a (Err OutsideArea) (cond b (Err OffsetsSize) (resolve_walked s p q f)) ≡ Ok v → Sends s p v.made v.items
-    cut true b f k = absurd (cc)
-    cut false true f k = absurd (cc)
-    cut false false f k = walked f k
+sending-sends s p d parcel v h =
+    sending-keeps s p (Sends s p) (record { owned = λ i l own. absurd l; sent = λ i l. absurd l; makes = none-made s p }) (sends-more s p) d parcel v h

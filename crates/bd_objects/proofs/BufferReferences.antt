@@ -1,6 +1,6 @@
 -- The references of a buffer, one item after the other.
-use Rattle.std.proofs.Common.{◌≡◌, ℕ, ◌+◌, ◌<◌, ◌≤◌, Bool, List, [], ◌∷◌, ◌++◌, Option, drop, length, get_or, refl, ap, subst, sym, ◌∙◌, append_assoc, arith, add-one, drop-cons}
-use Rattle.std.proofs.Math.ListN.{drop_of_length-le}
+use Rattle.std.proofs.Common.{◌≡◌, ℕ, suc, ◌+◌, ◌<◌, List, [], ◌∷◌, ◌++◌, Option, None, Some, take, length, get_or, refl, ap, sym, ◌∙◌, append_assoc, arith}
+use Rattle.std.proofs.lemmas.List.{take_more, length-take-le}
 use Rattle.bd_space.specs.declared.step.ObjectId.{ObjectId}
 use Rattle.bd_space.specs.declared.space.Item.{Item}
 use Rattle.bd_space.specs.declared.space.Reference.{Reference}
@@ -9,22 +9,35 @@ use Rattle.bd_space.specs.References.{reference_of}
 use Rattle.bd_uapi.specs.Kinds.{is_strong_kind}
 use Rattle.bd_space.specs.Delivery.{buffer_references}
 
-module _ (place q : ℕ) (items : List Item) (target : Option ObjectId) where
+module _ (place q : ℕ) where
+  abbrev held : ℕ → List Item → Option ObjectId → List Reference
+  held k items target = buffer_references place q k items target
+
   abbrev carried : ℕ → Item → Reference
-  carried i x = reference_of place i x.object (is_strong_kind x.flat.kind) (Carried place q)
+  carried k x = reference_of place k x.object (is_strong_kind x.flat.kind) (Carried place q)
 
-  from : (i : ℕ) (d : Item) → i < length items
-      → buffer_references place q i (drop i items) target ≡ carried i (get_or items i d) ∷ buffer_references place q (i + 1) (drop (i + 1) items) target
-  from i d h = ap (λ xs. buffer_references place q i xs target) (drop-cons items i d h) ∙ rw add-one refl
+  next : (k n : ℕ) → k + 1 + n ≡ k + suc n
+  next k n = omega arith
 
-  pub carried-more : (refs new base : List Reference) (i : ℕ) (d : Item) (strong : Bool) → i < length items → strong ≡ is_strong_kind (get_or items i d).flat.kind
-      → new ≡ refs ++ reference_of place i (get_or items i d).object strong (Carried place q) ∷ []
-      → refs ++ buffer_references place q i (drop i items) target ≡ base → new ++ buffer_references place q (i + 1) (drop (i + 1) items) target ≡ base
-  carried-more refs new base i d strong h k n e =
-      let rest = buffer_references place q (i + 1) (drop (i + 1) items) target in
-      let r : new ≡ refs ++ carried i (get_or items i d) ∷ [] = n ∙ ap (λ b. refs ++ reference_of place i (get_or items i d).object b (Carried place q) ∷ []) k in
-      ap (λ xs. xs ++ rest) r ∙ append_assoc refs (carried i (get_or items i d) ∷ []) rest ∙ ap (λ xs. refs ++ xs) (sym (from i d h)) ∙ e
+  same : (k : ℕ) → k ≡ k + 0
+  same k = omega arith
 
-  pub carried-all : (refs base : List Reference) (i : ℕ) → i ≡ length items → refs ++ buffer_references place q i (drop i items) target ≡ base
-      → refs ++ buffer_references place q (length items) [] target ≡ base
-  carried-all refs base i h e = let le : length items ≤ i = omega arith in rw (← h) (let none = drop_of_length-le items le in subst (λ xs. refs ++ buffer_references place q i xs target ≡ base) none e)
+  -- the target's comes last
+  pub with-target : (items : List Item) (k : ℕ) (target : Option ObjectId) → held k items target ≡ held k items None ++ held (k + length items) [] target
+  with-target [] k None = refl
+  with-target [] k (Some o) = ap (λ n. held n [] (Some o)) (same k)
+  with-target (x ∷ xs) k target =
+      ap (λ rs. carried k x ∷ rs) (with-target xs (k + 1) target ∙ ap (λ n. held (k + 1) xs None ++ held n [] target) (next k (length xs)))
+
+  one-more : (items : List Item) (x : Item) (k : ℕ) → held k (items ++ x ∷ []) None ≡ held k items None ++ held (k + length items) (x ∷ []) None
+  one-more [] x k = ap (λ n. held n (x ∷ []) None) (same k)
+  one-more (y ∷ ys) x k =
+      ap (λ rs. carried k y ∷ rs) (one-more ys x (k + 1) ∙ ap (λ n. held (k + 1) ys None ++ held n (x ∷ []) None) (next k (length ys)))
+
+  pub carried-more : (refs : List Reference) (items : List Item) (i : ℕ) (d : Item) → i < length items
+      → (refs ++ held 0 (take i items) None) ++ held i (get_or items i d ∷ []) None ≡ refs ++ held 0 (take (i + 1) items) None
+  carried-more refs items i d h =
+      let long : 0 + length (take i items) ≡ i = omega (arith, length-take-le i items) in
+      append_assoc refs (held 0 (take i items) None) _
+      ∙ ap (λ rs. refs ++ rs) (ap (λ n. held 0 (take i items) None ++ held n (get_or items i d ∷ []) None) (sym long)
+      ∙ sym (one-more (take i items) (get_or items i d) 0) ∙ ap (λ xs. held 0 xs None) (sym (take_more items i d h)))

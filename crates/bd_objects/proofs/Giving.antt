@@ -1,7 +1,8 @@
--- Names that come in one after the other: none goes, and a number past the limit stays.
-use Rattle.std.proofs.Common.{◌≡◌, ℕ, zero, suc, ◌+◌, ◌<◌, Bool, true, false, cond, List, [], ◌∷◌, ◌++◌, Option, Result, Ok, Err, OnOk, OnErr, take, drop, length, get_or, fold, filter, map, refl, ap, sym, ◌∙◌, subst, append-nil, arith}
-use Rattle.std.specs.Prelude.{nat_lt}
-use Rattle.std.specs.Result.{is_err}
+-- The names that come with references, given one after the other: an object that a process comes to refer to is to be
+-- named unless it is its own.
+use Rattle.std.proofs.Common.{◌≡◌, ℕ, zero, suc, ◌+◌, ◌<◌, Bool, true, false, not, ◌&&◌, ◌||◌, if◌then◌else◌, List, [], ◌∷◌, ◌++◌, Option, take, drop, length, get_or, fold, filter, map, refl, ap, sym, ◌∙◌, subst, append-nil, arith}
+use Rattle.std.specs.Prelude.{◌==◌, nat_lt, is_some}
+use Rattle.std.proofs.lemmas.Bool.{lt-ltb, or_right}
 use Rattle.std.proofs.lemmas.List.Folds.{fold-map, list_any-append}
 use Rattle.std.proofs.lemmas.List.Sums.{fold_more}
 use Rattle.std.proofs.lemmas.List.Elements.{filter-append}
@@ -10,57 +11,108 @@ use Rattle.bd_space.specs.declared.space.Item.{Item}
 use Rattle.bd_space.specs.declared.space.Name.{Name}
 use Rattle.bd_space.specs.declared.space.Object.{Object}
 use Rattle.bd_space.specs.declared.space.Reference.{Reference}
+use Rattle.bd_space.specs.Words.{same}
+use Rattle.bd_space.specs.References.{owned_in}
 use Rattle.bd_space.specs.Parcels.{object_of_item}
-use Rattle.bd_space.specs.Names.{with_name, has_number_past_limit}
+use Rattle.bd_space.specs.Names.{is_named_in, is_object, number_in, with_name, with_names, has_number_past_limit}
+use Rattle.bd_names.specs.Numbers.{IsFull, new_number}
+use Rattle.bd_objects.specs.Naming.{with_name_unless, with_other_name, is_referred, AreReferred}
+use Rattle.bd_objects.specs.Numbers.{IsPastLimit}
 
-module _ (manager : Option ObjectId) (objects : List Object) (refs : List Reference) (p : ℕ) (q : Name → Bool) where
-  abbrev give : List Name → Item → List Name
-  give ns x = with_name manager objects refs p ns x.object
+by-cases : {A : Type 0} (own some : Bool) (xs ys : A) → (if own then xs else (if some then xs else ys)) ≡ (if (not own && true) && not some then ys else xs)
+by-cases true some xs ys = refl
+by-cases false true xs ys = refl
+by-cases false false xs ys = refl
 
-  grown-case : (ns : List Name) (n : Name) (b : Bool) → (added : List Name) × (cond b (ns ++ n ∷ []) ns ≡ ns ++ added)
-  grown-case ns n true = (n ∷ [], refl)
-  grown-case ns n false = ([], sym (append-nil ns))
+module _ (manager : Option ObjectId) (objects : List Object) (p : ℕ) where
+  abbrev other : List Name → ObjectId → List Name
+  other ns o = with_other_name manager objects p ns o
 
-  grown : (ns : List Name) (x : Item) → (added : List Name) × (give ns x ≡ ns ++ added)
-  grown ns x = grown-case ns _ _
+  abbrev pub give : List Name → Item → List Name
+  give ns x = other ns x.object
 
-  past-append : (ns added : List Name) → has_number_past_limit (filter q ns) ≡ true → has_number_past_limit (filter q (ns ++ added)) ≡ true
-  past-append ns added h = rw (filter-append q ns added, list_any-append (λ m. nat_lt 4294967294 m.number) (filter q ns) (filter q added), h) refl
+  pub same-name : (refs : List Reference) (ns : List Name) (o : ObjectId) → is_referred refs p o ≡ true → other ns o ≡ with_name manager objects refs p ns o
+  same-name refs ns o h = rw h (by-cases (owned_in objects p o) (is_some (number_in ns p o)) _ _)
 
-  past-give : (ns : List Name) (x : Item) → has_number_past_limit (filter q ns) ≡ true → has_number_past_limit (filter q (give ns x)) ≡ true
-  past-give ns x h = let g = grown ns x in subst (λ ms. has_number_past_limit (filter q ms) ≡ true) (sym g.1) (past-append ns g.0 h)
+  pub same-names : (refs : List Reference) (os : List ObjectId) (ns : List Name) → AreReferred refs p os → fold (with_other_name manager objects p) ns os ≡ with_names manager objects refs p ns os
+  same-names refs [] ns h = refl
+  same-names refs (o ∷ os) ns h = ap (λ ms. fold (with_other_name manager objects p) ms os) (same-name refs ns o h.0) ∙ same-names refs os (with_name manager objects refs p ns o) h.1
 
-  past-fold : (xs : List Item) (ns : List Name) → has_number_past_limit (filter q ns) ≡ true → has_number_past_limit (filter q (fold give ns xs)) ≡ true
-  past-fold [] ns h = h
-  past-fold (x ∷ xs) ns h = past-fold xs (give ns x) (past-give ns x h)
-
-  fold-at : (xs : List Item) (ns : List Name) (i : ℕ) (d : Item) → i < length xs
-      → fold give ns xs ≡ fold give (give (fold give ns (take i xs)) (get_or xs i d)) (drop (suc i) xs)
-  fold-at [] ns i d h = absurd (omega arith)
-  fold-at (x ∷ xs) ns zero d h = refl
-  fold-at (x ∷ xs) ns (suc i) d h = fold-at xs (give ns x) i d (omega arith)
+  -- ---- in a loop over items
 
   -- one name more
-  pub give-more : (xs : List Item) (ns ms ks : List Name) (i : ℕ) (d : Item) → i < length xs → ms ≡ fold give ns (take i xs) → ks ≡ give ms (get_or xs i d)
-      → ks ≡ fold give ns (take (i + 1) xs)
-  give-more xs ns ms ks i d h e k = k ∙ ap (λ zs. give zs (get_or xs i d)) e ∙ sym (fold_more give ns xs i d h)
+  pub give-next : (xs : List Item) (ns : List Name) (i : ℕ) (d : Item) (own : Bool) → i < length xs → own ≡ owned_in objects p (get_or xs i d).object
+      → with_name_unless own manager p (fold give ns (take i xs)) (get_or xs i d).object ≡ fold give ns (take (i + 1) xs)
+  give-next xs ns i d own h e = ap (λ b. with_name_unless b manager p (fold give ns (take i xs)) (get_or xs i d).object) e ∙ sym (fold_more give ns xs i d h)
 
-  -- one number past the limit on the way, and one at the end
-  pub past-at : (xs : List Item) (ns ms : List Name) (i : ℕ) (d : Item) → i < length xs → ms ≡ fold give ns (take i xs)
-      → has_number_past_limit (filter q (give ms (get_or xs i d))) ≡ true
-      → has_number_past_limit (filter q (fold (with_name manager objects refs p) ns (map object_of_item xs))) ≡ true
-  past-at xs ns ms i d h e past =
-      rw (fold-map (with_name manager objects refs p) object_of_item ns xs, fold-at xs ns i d h) (past-fold (drop (suc i) xs) _ (subst (λ ks. has_number_past_limit (filter q (give ks (get_or xs i d))) ≡ true) e past))
+  pub give-all : (xs : List Item) (ns : List Name) → fold give ns xs ≡ fold (with_other_name manager objects p) ns (map object_of_item xs)
+  give-all xs ns = sym (fold-map (with_other_name manager objects p) object_of_item ns xs)
 
-pub on-err : {T E : Type 0} (r : Result T E) {P : Type 0} → P → OnErr r P
-on-err (Ok x) h = tt
-on-err (Err e) h = h
+  -- ---- a number past the limit
 
--- what holds of a result by what it is
-pub of-ok : {T E : Type 0} {P : Type 0} (r : Result T E) → is_err r ≡ false → OnOk r P → P
-of-ok (Ok x) e h = h
-of-ok (Err x) e h = absurd (cc)
+  module _ (q : Name → Bool) where
+    grown-twice-case : (ns : List Name) (n : Name) (a b : Bool) → (added : List Name) × ((if a then ns else (if b then ns else ns ++ n ∷ [])) ≡ ns ++ added)
+    grown-twice-case ns n true b = ([], sym (append-nil ns))
+    grown-twice-case ns n false true = ([], sym (append-nil ns))
+    grown-twice-case ns n false false = (n ∷ [], refl)
 
-pub of-err : {T E : Type 0} {P : Type 0} (r : Result T E) → is_err r ≡ true → OnErr r P → P
-of-err (Ok x) e h = absurd (cc)
-of-err (Err x) e h = h
+    grown : (ns : List Name) (x : Item) → (added : List Name) × (give ns x ≡ ns ++ added)
+    grown ns x = grown-twice-case ns _ _ _
+
+    past-append : (ns added : List Name) → has_number_past_limit (filter q ns) ≡ true → has_number_past_limit (filter q (ns ++ added)) ≡ true
+    past-append ns added h = rw (filter-append q ns added, list_any-append (λ m. nat_lt 4294967294 m.number) (filter q ns) (filter q added), h) refl
+
+    past-give : (ns : List Name) (x : Item) → has_number_past_limit (filter q ns) ≡ true → has_number_past_limit (filter q (give ns x)) ≡ true
+    past-give ns x h = let g = grown ns x in subst (λ ms. has_number_past_limit (filter q ms) ≡ true) (sym g.1) (past-append ns g.0 h)
+
+    past-fold : (xs : List Item) (ns : List Name) → has_number_past_limit (filter q ns) ≡ true → has_number_past_limit (filter q (fold give ns xs)) ≡ true
+    past-fold [] ns h = h
+    past-fold (x ∷ xs) ns h = past-fold xs (give ns x) (past-give ns x h)
+
+    fold-at : (xs : List Item) (ns : List Name) (i : ℕ) (d : Item) → i < length xs
+        → fold give ns xs ≡ fold give (give (fold give ns (take i xs)) (get_or xs i d)) (drop (suc i) xs)
+    fold-at [] ns i d h = absurd (omega arith)
+    fold-at (x ∷ xs) ns zero d h = refl
+    fold-at (x ∷ xs) ns (suc i) d h = fold-at xs (give ns x) i d (omega arith)
+
+    -- one number past the limit on the way, and one at the end
+    past-at : (xs : List Item) (ns : List Name) (i : ℕ) (d : Item) → i < length xs
+        → has_number_past_limit (filter q (give (fold give ns (take i xs)) (get_or xs i d))) ≡ true
+        → has_number_past_limit (filter q (fold give ns xs)) ≡ true
+    past-at xs ns i d h past = rw (fold-at xs ns i d h) (past-fold (drop (suc i) xs) _ past)
+
+    past-push : (ms : List Name) (n : Name) → q n ≡ true → 4294967294 < n.number → has_number_past_limit (filter q (ms ++ n ∷ [])) ≡ true
+    past-push ms n e h =
+        let one : has_number_past_limit (filter q (n ∷ [])) ≡ true = rw (e, lt-ltb 4294967294 n.number h) refl in
+        rw (filter-append q ms (n ∷ []), list_any-append (λ m. nat_lt 4294967294 m.number) (filter q ms) (filter q (n ∷ []))) (or_right _ _ one)
+
+  named : (refs : List Reference) (o : ObjectId) → owned_in objects p o ≡ false → is_referred refs p o ≡ true → is_named_in objects refs p o ≡ true
+  named refs o e h = rw (e, h) refl
+
+  -- the name that would be needed stays, since a reference carries it
+  pub past-one : (refs : List Reference) (ms : List Name) (o : ObjectId) → owned_in objects p o ≡ false → is_referred refs p o ≡ true → IsFull (is_object manager o) p ms o
+      → IsPastLimit objects refs (other ms o)
+  past-one refs ms o e h f =
+      let q = λ (m : Name). is_named_in objects refs m.process m.object in
+      let n : Name = record { process = p; number = new_number (is_object manager o) p ms; object = o } in
+      let given : other ms o ≡ ms ++ n ∷ [] = rw (e, f.lacks) refl in
+      subst (λ ns. has_number_past_limit (filter q ns) ≡ true) (sym given) (past-push q ms n (named refs o e h) f.past)
+
+  referred-at : (refs : List Reference) (xs : List Item) (i : ℕ) (d : Item) → i < length xs → AreReferred refs p (map object_of_item xs) → is_referred refs p (get_or xs i d).object ≡ true
+  referred-at refs [] i d h r = absurd (omega arith)
+  referred-at refs (x ∷ xs) zero d h r = r.0
+  referred-at refs (x ∷ xs) (suc i) d h r = referred-at refs xs i d (omega arith) r.1
+
+  pub past-all : (refs : List Reference) (xs : List Item) (ns : List Name) (i : ℕ) (d : Item) → i < length xs → owned_in objects p (get_or xs i d).object ≡ false
+      → AreReferred refs p (map object_of_item xs) → IsFull (is_object manager (get_or xs i d).object) p (fold give ns (take i xs)) (get_or xs i d).object
+      → IsPastLimit objects refs (fold (with_other_name manager objects p) ns (map object_of_item xs))
+  past-all refs xs ns i d h e r f =
+      let q = λ (m : Name). is_named_in objects refs m.process m.object in
+      subst (λ ms. has_number_past_limit (filter q ms) ≡ true) (give-all xs ns)
+      (past-at q xs ns i d h (past-one refs _ _ e (referred-at refs xs i d h r) f))
+
+-- those that are made count alike
+pub owned-alike : (objects made kept : List Object) (p : ℕ) (o : ObjectId) → owned_in kept p o ≡ owned_in made p o → owned_in (objects ++ kept) p o ≡ owned_in (objects ++ made) p o
+owned-alike objects made kept p o e =
+    let owns = λ (x : Object). same x.id o && (x.owner == p) in
+    list_any-append owns objects kept ∙ ap (λ b. owned_in objects p o || b) e ∙ sym (list_any-append owns objects made)

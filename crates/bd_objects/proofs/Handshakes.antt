@@ -1,18 +1,35 @@
 -- What is left to be acknowledged, one work item after the other.
-use Rattle.std.proofs.Common.{◌≡◌, ℕ, suc, ◌+◌, ◌-◌, ◌<◌, ◌≤◌, List, ◌++◌, drop, length, get_or, ap, sym, ◌∙◌, append_assoc, arith, add-one, length-append, drop-cons}
-use Rattle.bd_space.specs.declared.space.Reference.{Reference}
+use Rattle.std.proofs.Common.{◌≡◌, ℕ, ◌+◌, ◌<◌, List, [], ◌∷◌, ◌++◌, take, length, get_or, ap, sym, ◌∙◌, append_assoc, append-nil, arith, length-append, subst}
+use Rattle.std.proofs.lemmas.List.{take_more}
 use Rattle.bd_space.specs.declared.space.Work.{Work}
 use Rattle.bd_space.specs.Space.{Space}
 use Rattle.bd_space.specs.ReadItems.{handshakes, handshakes_of}
+use Rattle.bd_references.specs.declared.table.ReferenceTable.{ReferenceTable}
+use Rattle.bd_references.specs.Stands.{ReferencesAre}
 
-pub handshakes-more : (s : Space) (ws : List Work) (refs new base : List Reference) (before i : ℕ) (d : Work) → i < length ws → before ≤ length refs
-    → new ≡ refs ++ handshakes_of s (length refs - before) (get_or ws i d).kind
-    → refs ++ handshakes s (length refs - before) (drop i ws) ≡ base
-    → new ++ handshakes s (length new - before) (drop (i + 1) ws) ≡ base
-handshakes-more s ws refs new base before i d h le n e =
-    let k = length refs - before in
-    let hs = handshakes_of s k (get_or ws i d).kind in
-    let long : length new ≡ length refs + length hs = ap length n ∙ length-append refs hs in
-    let next : length new - before ≡ k + length hs = omega arith in
-    let rest : handshakes s k (drop i ws) ≡ hs ++ handshakes s (k + length hs) (drop (suc i) ws) = ap (λ xs. handshakes s k xs) (drop-cons ws i d h) in
-    rw (next, n, add-one) (append_assoc refs hs _ ∙ ap (λ xs. refs ++ xs) (sym rest) ∙ e)
+module _ (s : Space) where
+  one-more : (ws : List Work) (w : Work) (k : ℕ) → handshakes s k (ws ++ w ∷ []) ≡ handshakes s k ws ++ handshakes_of s (k + length (handshakes s k ws)) w.kind
+  one-more [] w k = let same : k ≡ k + 0 = omega arith in append-nil (handshakes_of s k w.kind) ∙ ap (λ n. handshakes_of s n w.kind) same
+  one-more (v ∷ vs) w k =
+      let hs = handshakes_of s k v.kind in
+      let more = handshakes s (k + length hs) vs in
+      let long : k + length hs + length more ≡ k + length (hs ++ more) = omega (arith, length-append hs more) in
+      ap (λ rs. hs ++ rs) (one-more vs w (k + length hs) ∙ ap (λ n. more ++ handshakes_of s n w.kind) long) ∙ sym (append_assoc hs more _)
+
+  pub handshakes-more : (ws : List Work) (i : ℕ) (d : Work) → i < length ws
+      → handshakes s 0 (take (i + 1) ws) ≡ handshakes s 0 (take i ws) ++ handshakes_of s (length (handshakes s 0 (take i ws))) (get_or ws i d).kind
+  handshakes-more ws i d h =
+      let before = handshakes s 0 (take i ws) in
+      let start : 0 + length before ≡ length before = omega arith in
+      ap (λ xs. handshakes s 0 xs) (take_more ws i d h) ∙ one-more (take i ws) (get_or ws i d) 0 ∙ ap (λ n. before ++ handshakes_of s n (get_or ws i d).kind) start
+
+  -- those of one item more, in a table
+  pub handshakes-next : (ws : List Work) (i : ℕ) (d : Work) (index result : ℕ) (t : ReferenceTable) → i < length ws → index ≡ length (handshakes s 0 (take i ws))
+      → ReferencesAre t ((s.references ++ handshakes s 0 (take i ws)) ++ handshakes_of s index (get_or ws i d).kind) × (result ≡ index + length (handshakes_of s index (get_or ws i d).kind))
+      → ReferencesAre t (s.references ++ handshakes s 0 (take (i + 1) ws)) × (result ≡ length (handshakes s 0 (take (i + 1) ws)))
+  handshakes-next ws i d index result t h e g =
+      let before = handshakes s 0 (take i ws) in
+      let more = handshakes_of s index (get_or ws i d).kind in
+      let all : handshakes s 0 (take (i + 1) ws) ≡ before ++ more = handshakes-more ws i d h ∙ ap (λ n. before ++ handshakes_of s n (get_or ws i d).kind) (sym e) in
+      let long : index + length more ≡ length (before ++ more) = ap (λ n. n + length more) e ∙ sym (length-append before more) in
+      (subst (λ rs. ReferencesAre t rs) (append_assoc s.references before more ∙ ap (λ rs. s.references ++ rs) (sym all)) g.0, g.1 ∙ long ∙ ap length (sym all))

@@ -1,5 +1,5 @@
 -- Which death notifications are told of a process's end: those whose name a due one has, whatever stood changed in between.
-use Rattle.std.proofs.Common.{◌≡◌, ℕ, zero, suc, ◌+◌, ◌<◌, Bool, true, false, cond, ◌||◌, ◌&&◌, List, [], ◌∷◌, take, length, get_or, fold, refl, ap, sym, ◌∙◌, subst, arith}
+use Rattle.std.proofs.Common.{◌≡◌, ℕ, ◌+◌, ◌<◌, Bool, true, false, cond, ◌||◌, ◌&&◌, List, [], ◌∷◌, take, length, get_or, fold, refl, ap, sym, ◌∙◌, subst}
 use Rattle.std.specs.Prelude.{◌==◌}
 use Rattle.std.specs.List.{list_any}
 use Rattle.std.proofs.lemmas.List.Folds.{list_any_more}
@@ -15,34 +15,7 @@ use Rattle.bd_space.specs.References.{owned_in}
 use Rattle.bd_space.specs.Deaths.{is_notification, with_phase}
 use Rattle.bd_space.specs.Todo.{owe}
 use Rattle.bd_space.specs.ProcessExits.{is_armed, tell_death}
-
-module _ {A : Type 0} (f : A → A) where
-  none : (p : A → Bool) (xs : List A) → ((x : A) → p x ≡ false) → changed p f xs ≡ xs
-  none p [] h = refl
-  none p (x ∷ xs) h = rw (h x) (ap (λ ys. x ∷ ys) (none p xs h))
-
-  same_tests : (p q : A → Bool) (xs : List A) → ((x : A) → p x ≡ q x) → changed p f xs ≡ changed q f xs
-  same_tests p q [] h = refl
-  same_tests p q (x ∷ xs) h = rw (h x, same_tests p q xs h) refl
-
-  head-twice : (x : A) (p : A → Bool) (a : Bool) → p (f x) ≡ p x → f (f x) ≡ f x
-      → cond (p (cond a (f x) x)) (f (cond a (f x) x)) (cond a (f x) x) ≡ cond (a || p x) (f x) x
-  head-twice x p true e g = rw (e, g) (elim (p x) as (λ b. cond b (f x) (f x) ≡ f x) [ true ↦ refl | false ↦ refl ])
-  head-twice x p false e g = refl
-
-  twice : (p q : A → Bool) (xs : List A) → ((x : A) → p (f x) ≡ p x) → ((x : A) → f (f x) ≡ f x)
-      → changed p f (changed q f xs) ≡ changed (λ x. q x || p x) f xs
-  twice p q [] e g = refl
-  twice p q (x ∷ xs) e g = rw (head-twice x p (q x) (e x) (g x), twice p q xs e g) refl
-
-  at : (p : A → Bool) (xs : List A) (i : ℕ) (d : A) → i < length xs → get_or (changed p f xs) i d ≡ cond (p (get_or xs i d)) (f (get_or xs i d)) (get_or xs i d)
-  at p [] i d h = absurd (omega arith)
-  at p (x ∷ xs) zero d h = refl
-  at p (x ∷ xs) (suc i) d h = at p xs i d (omega arith)
-
-  guarded : (p : A → Bool) (xs : List A) (b : Bool) → cond b (changed p f xs) xs ≡ changed (λ x. b && p x) f xs
-  guarded p xs true = refl
-  guarded p xs false = sym (none (λ x. false) xs (λ x. refl))
+use Rattle.bd_objects.proofs.Changes.{none, same_tests, twice, at, guarded}
 
 -- the members that telling leaves alone, and the notifications
 pub record Told (s t : Space) (deaths : List DeathNotification) : Type 0 where

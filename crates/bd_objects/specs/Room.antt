@@ -2,6 +2,9 @@
 use Rattle.std.specs.Prelude.{ℕ, ◌+◌, ◌-◌, ◌≤◌, List, length, vec_len, vec_capacity}
 use Rattle.bd_space.specs.declared.space.Item.{Item}
 use Rattle.bd_space.specs.declared.space.Object.{Object}
+use Rattle.bd_nodes.specs.Room.{node_room, node_count}
+use Rattle.bd_references.specs.Room.{reference_room as reference_room_of}
+use Rattle.bd_names.specs.Stands.{name_room as name_room_of}
 use Rattle.bd_objects.specs.declared.table.ObjectTable.{ObjectTable}
 use Rattle.bd_objects.specs.declared.room.Room.{Room}
 
@@ -14,12 +17,12 @@ pub record Rooms : Type 0 where
 unfoldable pub rooms : ObjectTable → Rooms
 rooms t = record {
   left = record {
-    objects = vec_capacity t.objects - vec_len t.objects;
-    references = vec_capacity t.references - vec_len t.references;
-    names = vec_capacity t.names - vec_len t.names;
+    objects = node_room t.nodes;
+    references = reference_room_of t.references;
+    names = name_room_of t.names;
     deaths = vec_capacity t.deaths - vec_len t.deaths;
   };
-  object_count = vec_len t.objects;
+  object_count = node_count t.nodes;
   death_count = vec_len t.deaths;
 }
 

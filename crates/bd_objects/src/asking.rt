@@ -1,96 +1,27 @@
 //! What a process asks for itself: `BC_INCREFS`, `BC_ACQUIRE`, `BC_RELEASE`, `BC_DECREFS`, and its acknowledgements.
 
-ghost use Rattle.std.specs.Prelude.{◌≡◌, ◌==◌, ◌≤◌, ◌∷◌, [], position, if◌then◌else◌, vec_len, vec_capacity};
-ghost use Rattle.std.specs.Prelude.{Option, Result, OnOk, OnErr};
-ghost use Rattle.std.specs.List.{list_any};
-ghost use Rattle.bd_space.specs.Words.{first_of, without_first};
-ghost use Rattle.bd_space.specs.References as refer;
+ghost use Rattle.std.specs.Prelude.{◌≡◌, ◌==◌, ◌≤◌, ◌∷◌, [], if◌then◌else◌, List, Option, Result, OnOk, OnErr};
+ghost use Rattle.bd_space.specs.Words.{first_of};
 ghost use Rattle.bd_space.specs.Asking as asking;
 ghost use Rattle.bd_space.specs.Names.{named_in as named_in_list};
+ghost use Rattle.bd_space.specs.declared.space.Name.{Name};
+ghost use Rattle.bd_names.specs.Stands.{NamesAre};
 
-use crate::holders::{is_asked_by, is_handshake};
-use crate::names::named_in;
-use crate::numbers::{NumbersFull, give_name};
-use crate::objects::{own_with, owned_in, same};
-use crate::references::strong_in;
+use crate::naming::give_name;
 use crate::table::ObjectTable;
-use bd_space::{Holder, Identity, Name, Object, ObjectId, Reference};
+use bd_names::{NameTable, NumbersFull};
+use bd_space::{Holder, Identity, Object, ObjectId, Reference};
 use bd_uapi::Note;
 
-fn same_strength(strong: bool, r: &Reference) -> bool
-    ensures { result ≡ refer.same_strength strong r.now }
-{
-    if strong { r.strong } else { !r.strong }
-}
-
-/// Whether the process asked for the object, in this strength.
-fn is_asking(p: u32, o: ObjectId, strong: bool, r: &Reference) -> bool
-    ensures { result ≡ refer.is_asking p o strong r.now }
-{
-    same_strength(strong, r) && same(r.object, o) && is_asked_by(p, r.holder)
-}
-
-/// Whether the owner is to acknowledge the object, in this strength.
-fn is_shaking(o: ObjectId, strong: bool, r: &Reference) -> bool
-    ensures { result ≡ refer.is_shaking o strong r.now }
-{
-    same_strength(strong, r) && same(r.object, o) && is_handshake(r.holder)
-}
-
-fn first_asking(references: &[Reference], p: u32, o: ObjectId, strong: bool) -> Option<usize>
-    ensures { result ≡ position (refer.is_asking p o strong) references.now }
-{
-    references.iter().position(|r| is_asking(p, o, strong, r))
-}
-
-fn first_shaking(references: &[Reference], o: ObjectId, strong: bool) -> Option<usize>
-    ensures { result ≡ position (refer.is_shaking o strong) references.now }
-{
-    references.iter().position(|r| is_shaking(o, strong, r))
-}
-
-fn is_asked(references: &[Reference], p: u32, o: ObjectId, strong: bool) -> bool
-    ensures { result ≡ list_any (refer.is_asking p o strong) references.now }
-{
-    references.iter().any(|r| is_asking(p, o, strong, r))
-}
-
-fn is_shaken(references: &[Reference], o: ObjectId, strong: bool) -> bool
-    ensures { result ≡ list_any (refer.is_shaking o strong) references.now }
-{
-    references.iter().any(|r| is_shaking(o, strong, r))
-}
-
-/// Drops the least reference of this strength that the process asked for, if there is one.
-fn drop_asking(references: &mut Vec<Reference>, p: u32, o: ObjectId, strong: bool)
-    ensures items { references.new.items ≡ without_first (refer.is_asking p o strong) references.old.items }
-    ensures len { vec_len references.new ≤ vec_len references.old }
-    ensures capacity { vec_capacity references.new ≡ vec_capacity references.old }
-{
-    if let Some(i) = first_asking(references.as_slice(), p, o, strong) {
-        let _dropped = references.remove(i);
-    }
-}
-
-fn drop_shaking(references: &mut Vec<Reference>, o: ObjectId, strong: bool)
-    ensures items { references.new.items ≡ without_first (refer.is_shaking o strong) references.old.items }
-    ensures len { vec_len references.new ≤ vec_len references.old }
-    ensures capacity { vec_capacity references.new ≡ vec_capacity references.old }
-{
-    if let Some(i) = first_shaking(references.as_slice(), o, strong) {
-        let _dropped = references.remove(i);
-    }
-}
-
 /// The object that the process means by the number: 0 is the context manager's while there is one.
-fn asked_in(manager: Option<ObjectId>, names: &[Name], p: u32, n: u32) -> Option<ObjectId>
-    ensures { result ≡ (if n == 0
-        then first_of (manager ∷ named_in_list names.now p 0 ∷ [])
-        else named_in_list names.now p n) }
+fn asked_in(manager: Option<ObjectId>, names: &NameTable, p: u32, n: u32) -> Option<ObjectId>
+    ensures { (l : List Name) → NamesAre names.now l → result ≡ (if n == 0
+        then first_of (manager ∷ named_in_list l p 0 ∷ [])
+        else named_in_list l p n) }
 {
     match manager {
         Some(o) if n == 0 => Some(o),
-        _ => named_in(names, p, n),
+        _ => names.named(p, n),
     }
 }
 
@@ -112,11 +43,11 @@ impl ObjectTable {
     ) -> Result<ObjectId, Note>
         ensures { TellsWhere (StandsFor self.now) (HasManager manager) result (λ s. asking.ask_check s p n strong) }
     {
-        let o = asked_in(manager, self.names.as_slice(), p, n).ok_or(Note::NoSuchNumber)?;
-        if strong && !strong_in(self.references.as_slice(), o) {
+        let o = asked_in(manager, &self.names, p, n).ok_or(Note::NoSuchNumber)?;
+        if strong && !self.references.is_strong(o) {
             return Err(Note::NotStrong);
         }
-        if owned_in(self.objects.as_slice(), p, o) {
+        if self.nodes.owns(p, o) {
             return Err(Note::OwnManager);
         }
         Ok(o)
@@ -142,25 +73,16 @@ impl ObjectTable {
             (λ s. asking.ask s p o strong)) }
         ensures uses { Uses self.old self.new (record nothing { references = 1; names = 1 }) }
     {
-        let references = self.references.len();
-        self.references.push_reserved(Reference {
+        let own = self.nodes.owns(p, o);
+        give_name(&mut self.names, manager, own, p, o)?;
+        self.names.settle();
+        self.references.push(Reference {
             id: Identity { place, index: 0 },
             object: o,
             strong,
             holder: Holder::Asked(p),
         });
-        let given = give_name(
-            &mut self.names,
-            manager,
-            self.objects.as_slice(),
-            self.references.as_slice(),
-            p,
-            o,
-        );
-        if given.is_err() {
-            self.references.truncate(references);
-        }
-        given
+        Ok(())
     }
 
     /// The object of which the process drops a reference of this strength. Errors: no such number, or it asked for
@@ -169,8 +91,8 @@ impl ObjectTable {
     pub fn drop_check(&self, p: u32, n: u32, strong: bool) -> Result<ObjectId, Note>
         ensures { Tells (StandsFor self.now) result (λ s. asking.drop_check s p n strong) }
     {
-        let o = named_in(self.names.as_slice(), p, n).ok_or(Note::NoSuchNumber)?;
-        if !is_asked(self.references.as_slice(), p, o, strong) {
+        let o = self.names.named(p, n).ok_or(Note::NoSuchNumber)?;
+        if !self.references.is_asked(p, o, strong) {
             return Err(Note::NothingAsked);
         }
         Ok(o)
@@ -182,7 +104,7 @@ impl ObjectTable {
         ensures stands { Makes (StandsFor self.old) (StandsFor self.new) (λ s. asking.drop_asked s p o strong) }
         ensures uses { UsesNothing self.old self.new }
     {
-        drop_asking(&mut self.references, p, o, strong);
+        self.references.drop_asked(p, o, strong);
     }
 
     /// The own object that the process acknowledges, by ptr and cookie. Errors: it has no such object, or that waits
@@ -191,8 +113,11 @@ impl ObjectTable {
     pub fn done_check(&self, p: u32, ptr: u64, cookie: u64, strong: bool) -> Result<Object, Note>
         ensures { Tells (StandsFor self.now) result (λ s. asking.done_check s p ptr cookie strong) }
     {
-        let x = own_with(self.objects.as_slice(), p, ptr, cookie).ok_or(Note::NoSuchObject)?;
-        if !is_shaken(self.references.as_slice(), x.id, strong) {
+        let x = self
+            .nodes
+            .own_with(p, ptr, cookie)
+            .ok_or(Note::NoSuchObject)?;
+        if !self.references.is_shaken(x.id, strong) {
             return Err(Note::NoHandshake);
         }
         Ok(x)
@@ -204,6 +129,6 @@ impl ObjectTable {
         ensures stands { Makes (StandsFor self.old) (StandsFor self.new) (λ s. asking.acknowledge s o strong) }
         ensures uses { UsesNothing self.old self.new }
     {
-        drop_shaking(&mut self.references, o, strong);
+        self.references.drop_shaken(o, strong);
     }
 }

@@ -1,6 +1,6 @@
 //! Death notifications.
 
-ghost use Rattle.std.specs.Prelude.{◌≡◌, ◌==◌, ◌≤◌, ◌||◌, not, filter, find, length, slice_get, vec_len, vec_capacity, Option, true};
+ghost use Rattle.std.specs.Prelude.{◌≡◌, ◌==◌, ◌≤◌, ◌||◌, not, filter, find, length, slice_get, vec_len, vec_capacity, List, Option, true};
 ghost use Rattle.std.specs.List.{list_any};
 ghost use Rattle.bd_space.specs.Deaths as deaths_of;
 ghost use Rattle.bd_space.specs.Clearing as clearing;
@@ -8,12 +8,14 @@ ghost use Rattle.bd_space.specs.Notices as notices;
 ghost use Rattle.bd_space.specs.ProcessExits.{is_armed, tell_deaths};
 ghost use Rattle.bd_space.specs.Words.{changed};
 ghost use Rattle.bd_space.specs.declared.space.Phase.TheVariants.{Queued};
+ghost use Rattle.bd_space.specs.declared.space.Object.{Object};
+ghost use Rattle.bd_nodes.specs.Stands.{NodesAre};
 ghost use Rattle.bd_objects.specs.Deaths as due;
 
-use crate::names::{is_name_of, named_in};
-use crate::objects::{owned_in, same};
+use crate::objects::same;
 use crate::table::ObjectTable;
-use bd_space::{DeathNotification, Name, Object, ObjectId, Phase};
+use bd_nodes::NodeTable;
+use bd_space::{DeathNotification, ObjectId, Phase};
 use bd_uapi::Note;
 
 fn death_in(deaths: &[DeathNotification], made: u32) -> Option<DeathNotification>
@@ -84,30 +86,31 @@ fn set_phase(deaths: &mut Vec<DeathNotification>, made: u32, phase: Phase)
 }
 
 /// Whether the end of the process is to be told by this notification.
-fn is_due(objects: &[Object], p: u32, x: &DeathNotification) -> bool
-    ensures { result ≡ due.is_due objects.now p x.now }
+fn is_due(nodes: &NodeTable, p: u32, x: &DeathNotification) -> bool
+    ensures { (objects : List Object) → NodesAre nodes.now objects → result ≡ due.is_due objects p x.now }
 {
-    is_armed(x.phase) && owned_in(objects, p, x.object)
+    is_armed(x.phase) && nodes.owns(p, x.object)
 }
 
 /// Queues the notifications with the name of one by which the end of the process is to be told.
-fn queue_due(deaths: &mut Vec<DeathNotification>, objects: &[Object], p: u32)
-    ensures items { deaths.new.items
-        ≡ changed (due.is_queued_in deaths.old.items objects.now p)
+fn queue_due(deaths: &mut Vec<DeathNotification>, nodes: &NodeTable, p: u32)
+    ensures items { (objects : List Object) → NodesAre nodes.now objects → deaths.new.items
+        ≡ changed (due.is_queued_in deaths.old.items objects p)
         (λ x. record x { phase = Queued }) deaths.old.items }
     ensures len { vec_len deaths.new ≡ vec_len deaths.old }
     ensures capacity { vec_capacity deaths.new ≡ vec_capacity deaths.old }
 {
     for k in 0..deaths.len() {
         let x = deaths[k];
-        if is_due(objects, p, &x) {
+        if is_due(nodes, p, &x) {
             set_phase(deaths, x.made, Phase::Queued);
         }
     }
 }
 
 impl ObjectTable {
-    ghost use Rattle.bd_space.specs.Tables.{Tells, Makes, IsAt, MakesWhere};
+    ghost use Rattle.bd_space.specs.Tables.{Tells, Makes, MakesWhere};
+    ghost use Rattle.bd_objects.specs.New.{IsNewDeath};
     ghost use Rattle.bd_objects.specs.Stands.{StandsFor};
     ghost use Rattle.bd_objects.specs.Room.{Uses, UsesNothing, nothing, death_room, death_count};
 
@@ -117,18 +120,19 @@ impl ObjectTable {
     pub fn request_check(&self, p: u32, n: u32) -> Result<ObjectId, Note>
         ensures { Tells (StandsFor self.now) result (λ s. deaths_of.request_check s p n) }
     {
-        let o = named_in(self.names.as_slice(), p, n).ok_or(Note::NoSuchNumber)?;
+        let o = self.names.named(p, n).ok_or(Note::NoSuchNumber)?;
         if uncleared_in(self.deaths.as_slice(), p, o).is_some() {
             return Err(Note::AlreadyAsked);
         }
         Ok(o)
     }
 
-    /// A new notification of the process on its name of the object, made by the step of this place.
+    /// A new notification of the process on its name of the object, made by the step of this place. Of a space where
+    /// none was made here, and the process has no uncleared one on the object.
     #[tactic(auto, unfolding(bd_space::specs::Deaths::with_death, crate::specs::Room::rooms))]
     pub fn with_death(&mut self, place: u32, p: u32, o: ObjectId, cookie: u64, phase: Phase)
         requires { 1 ≤ death_room self.old }
-        ensures stands { MakesWhere (StandsFor self.old) (IsAt place) (StandsFor self.new)
+        ensures stands { MakesWhere (StandsFor self.old) (IsNewDeath place p o) (StandsFor self.new)
             (λ s. deaths_of.with_death s p o cookie phase) }
         ensures uses { Uses self.old self.new (record nothing { deaths = 1 }) }
     {
@@ -148,7 +152,7 @@ impl ObjectTable {
     pub fn clear_check(&self, p: u32, n: u32, cookie: u64) -> Result<DeathNotification, Note>
         ensures { Tells (StandsFor self.now) result (λ s. clearing.clear_check s p n cookie) }
     {
-        let o = named_in(self.names.as_slice(), p, n).ok_or(Note::NoSuchNumber)?;
+        let o = self.names.named(p, n).ok_or(Note::NoSuchNumber)?;
         let x = uncleared_in(self.deaths.as_slice(), p, o).ok_or(Note::NoneAsked)?;
         if x.cookie != cookie {
             return Err(Note::NoneAsked);
@@ -218,7 +222,7 @@ impl ObjectTable {
     pub fn tells_death(&self, p: u32, x: &DeathNotification) -> bool
         ensures { Tells (StandsFor self.now) result (λ s. due.is_due s.objects p x.now) }
     {
-        is_due(self.objects.as_slice(), p, x)
+        is_due(&self.nodes, p, x)
     }
 
     /// Queues the notifications by which the end of the process is to be told. Their work items are the caller's to
@@ -228,6 +232,6 @@ impl ObjectTable {
         ensures stands { Makes (StandsFor self.old) (StandsFor self.new) (λ s. tell_deaths s p) }
         ensures uses { UsesNothing self.old self.new }
     {
-        queue_due(&mut self.deaths, self.objects.as_slice(), p);
+        queue_due(&mut self.deaths, &self.nodes, p);
     }
 }

@@ -1,42 +1,12 @@
 //! What goes when a thread or a process ends.
 
-ghost use Rattle.std.specs.Prelude.{◌≡◌, ◌==◌, ◌≤◌, ◌||◌, ◌&&◌, ◌++◌, ℕ, Bool, not, map, filter, vec_len, vec_capacity, Option, OnOk};
-ghost use Rattle.bd_space.specs.Words.{is_some_and};
-ghost use Rattle.bd_space.specs.References as refer;
+ghost use Rattle.std.specs.Prelude.{◌≡◌, ◌==◌, ◌≤◌, ◌++◌, ℕ, Bool, not, map, filter, vec_len, vec_capacity, OnOk};
 ghost use Rattle.bd_space.specs.ThreadExits as exits;
 ghost use Rattle.bd_space.specs.ProcessExits as process_exits;
 
-use crate::holders::{buffer_of_holder, is_asked_by, is_in_window, is_of_owner};
-use crate::objects::owned_in;
 use crate::table::ObjectTable;
-use bd_space::{DeathNotification, Holder, Name, Object, ObjectId, Reference};
+use bd_space::{DeathNotification, ObjectId};
 use std::alloc::AllocError;
-
-/// Whether it goes with the process.
-fn is_dropped_with(objects: &[Object], p: u32, r: &Reference) -> bool
-    ensures { result ≡ process_exits.is_dropped_with objects.now p r.now }
-{
-    is_asked_by(p, r.holder)
-        || is_in_window(p, r.holder)
-        || (owned_in(objects, p, r.object) && is_of_owner(r.holder))
-}
-
-fn drop_references_of(references: &mut Vec<Reference>, objects: &[Object], p: u32)
-    ensures items { references.new.items
-        ≡ filter (λ r. not (process_exits.is_dropped_with objects.now p r)) references.old.items }
-    ensures len { vec_len references.new ≤ vec_len references.old }
-    ensures capacity { vec_capacity references.new ≡ vec_capacity references.old }
-{
-    references.retain(|r| !is_dropped_with(objects, p, r));
-}
-
-fn drop_names_of(names: &mut Vec<Name>, p: u32)
-    ensures items { names.new.items ≡ filter (λ m. not (m.process == p)) names.old.items }
-    ensures len { vec_len names.new ≤ vec_len names.old }
-    ensures capacity { vec_capacity names.new ≡ vec_capacity names.old }
-{
-    names.retain(|m| m.process != p);
-}
 
 fn drop_deaths_of(deaths: &mut Vec<DeathNotification>, p: u32)
     ensures items { deaths.new.items ≡ filter (λ x. not (x.process == p)) deaths.old.items }
@@ -46,61 +16,10 @@ fn drop_deaths_of(deaths: &mut Vec<DeathNotification>, p: u32)
     deaths.retain(|x| x.process != p);
 }
 
-/// Whether its buffer is lost.
-fn is_lost_with<F: Fn(u32) -> bool>(lost: &F, holder: Holder) -> bool
-    requires { F.IsAlwaysCallable lost.now }
-    ensures { (is_lost : ℕ → Bool) → ((b : ℕ) (r : Bool) → F.post lost.now b r → r ≡ is_lost b)
-        → result ≡ is_some_and (refer.buffer_of_holder holder) is_lost }
-{
-    match buffer_of_holder(holder) {
-        Some(b) => lost(b),
-        None => false,
-    }
-}
-
-/// Drops the references of the buffers that are lost.
-fn drop_lost<F: Fn(u32) -> bool>(references: &mut Vec<Reference>, lost: F)
-    requires { F.IsAlwaysCallable lost }
-    ensures items { (is_lost : ℕ → Bool) → ((b : ℕ) (r : Bool) → F.post lost b r → r ≡ is_lost b)
-        → references.new.items
-        ≡ filter (λ r. not (is_some_and (refer.buffer_of_holder r.holder) is_lost)) references.old.items }
-    ensures len { vec_len references.new ≤ vec_len references.old }
-    ensures capacity { vec_capacity references.new ≡ vec_capacity references.old }
-{
-    references.retain(|r| !is_lost_with(&lost, r.holder));
-}
-
-fn push_owned(objects: &[Object], p: u32, touched: &mut Vec<ObjectId>) -> Result<(), AllocError>
-    ensures { OnOk result (touched.new.items
-        ≡ touched.old.items ++ map (λ x. x.id) (filter (λ x. x.owner == p) objects.now)) }
-{
-    for x in objects {
-        if x.owner == p {
-            touched.push(x.id)?;
-        }
-    }
-    Ok(())
-}
-
-fn push_dropped(
-    references: &[Reference],
-    objects: &[Object],
-    p: u32,
-    touched: &mut Vec<ObjectId>,
-) -> Result<(), AllocError>
-    ensures { OnOk result (touched.new.items ≡ touched.old.items
-        ++ map (λ r. r.object) (filter (process_exits.is_dropped_with objects.now p) references.now)) }
-{
-    for r in references {
-        if is_dropped_with(objects, p, r) {
-            touched.push(r.object)?;
-        }
-    }
-    Ok(())
-}
-
 impl ObjectTable {
-    ghost use Rattle.bd_space.specs.Tables.{Tells, Makes, MakesWhere};
+    ghost use Rattle.bd_space.specs.Space.{Space};
+    ghost use Rattle.bd_nodes.specs.New.{HasAll};
+    ghost use Rattle.bd_space.specs.Tables.{Makes, MakesWhere};
     ghost use Rattle.bd_space.specs.declared.space.TodoList.TheVariants.{OfThread};
     ghost use Rattle.bd_objects.specs.Stands.{StandsFor};
     ghost use Rattle.bd_objects.specs.Room.{UsesNothing};
@@ -114,7 +33,7 @@ impl ObjectTable {
             (StandsFor self.new) (λ s. exits.thread_goes s seat) }
         ensures uses { UsesNothing self.old self.new }
     {
-        drop_lost(&mut self.references, lost);
+        self.references.drop_lost(lost);
     }
 
     /// The references, names and death notifications go that go with the process.
@@ -123,19 +42,21 @@ impl ObjectTable {
         ensures stands { Makes (StandsFor self.old) (StandsFor self.new) (λ s. process_exits.without_process s p) }
         ensures uses { UsesNothing self.old self.new }
     {
-        drop_references_of(&mut self.references, self.objects.as_slice(), p);
-        drop_names_of(&mut self.names, p);
+        let nodes = &self.nodes;
+        self.references.drop_with_process(p, |o| nodes.owns(p, o));
+        self.names.drop_process(p);
         drop_deaths_of(&mut self.deaths, p);
     }
 
-    /// The objects that the process owns, and then those of the references that go with it, put after what is there.
-    /// Fails for want of memory alone.
+    /// Puts the objects that the process owns, and those of the references that go with it, to what is there, in some
+    /// order. Fails for want of memory alone.
     pub fn touched_by_end(&self, p: u32, touched: &mut Vec<ObjectId>) -> Result<(), AllocError>
-        ensures { OnOk result (Tells (StandsFor self.now) touched.new.items
-            (λ s. (touched.old.items ++ map (λ x. x.id) (filter (λ x. x.owner == p) s.objects))
+        ensures { OnOk result ((s : Space) → StandsFor self.now s → HasAll touched.new.items
+            ((touched.old.items ++ map (λ x. x.id) (filter (λ x. x.owner == p) s.objects))
             ++ map (λ r. r.object) (filter (process_exits.is_dropped_with s.objects p) s.references))) }
     {
-        push_owned(&self.objects, p, touched)?;
-        push_dropped(&self.references, &self.objects, p, touched)
+        self.nodes.owned_by(p, touched)?;
+        // Those that go because it owns the object are on objects that stand there already.
+        self.references.dropped_with_process(p, touched)
     }
 }

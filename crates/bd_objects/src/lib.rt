@@ -2,14 +2,12 @@
 #![tactic(auto)]
 
 mod asking;
-mod carried;
 mod deaths;
 mod delivery;
 mod exits;
-mod holders;
 mod names;
+mod naming;
 mod notices;
-mod numbers;
 mod objects;
 mod parcels;
 mod reading;
@@ -18,7 +16,7 @@ mod room;
 mod table;
 mod touched;
 
-pub use carried::CarriedObjects;
-pub use numbers::NumbersFull;
+pub use bd_names::NumbersFull;
+pub use bd_references::CarriedObjects;
 pub use room::Room;
 pub use table::ObjectTable;

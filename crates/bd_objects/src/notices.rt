@@ -1,24 +1,20 @@
 //! What owners are told of their objects.
 
-ghost use Rattle.std.specs.Prelude.{◌≡◌};
+ghost use Rattle.std.specs.Prelude.{◌≡◌, List};
 ghost use Rattle.bd_space.specs.Notices as notices;
+ghost use Rattle.bd_space.specs.declared.space.Reference.{Reference};
+ghost use Rattle.bd_references.specs.Stands.{ReferencesAre};
 
 use crate::objects::lives_in;
-use crate::references::{held_in, strong_in};
 use crate::table::ObjectTable;
-use bd_space::{Object, Process, Reference};
+use bd_references::ReferenceTable;
+use bd_space::{Object, Process};
 
 /// Whether what the owner was told isn't what is so.
-fn differs_in(references: &[Reference], x: &Object) -> bool
-    ensures { result ≡ notices.differs_in references.now x.now }
+fn differs_in(references: &ReferenceTable, x: &Object) -> bool
+    ensures { (l : List Reference) → ReferencesAre references.now l → result ≡ notices.differs_in l x.now }
 {
-    x.told_weak != held_in(references, x.id) || x.told_strong != strong_in(references, x.id)
-}
-
-fn wants_notice_in(processes: &[Process], references: &[Reference], x: &Object) -> bool
-    ensures { result ≡ notices.wants_notice processes.now references.now x.now }
-{
-    lives_in(processes, x.owner) && differs_in(references, x)
+    x.told_weak != references.is_held(x.id) || x.told_strong != references.is_strong(x.id)
 }
 
 impl ObjectTable {
@@ -30,6 +26,6 @@ impl ObjectTable {
         ensures { TellsWhere (StandsFor self.now) (HasProcesses processes.now) result
             (λ s. notices.wants_notice s.processes s.references x.now) }
     {
-        wants_notice_in(processes, self.references.as_slice(), x)
+        lives_in(processes, x.owner) && differs_in(&self.references, x)
     }
 }

@@ -1,14 +1,11 @@
 //! Objects (nodes), and who owns them.
 
-ghost use Rattle.std.specs.Prelude.{◌≡◌, ◌==◌, ◌≤◌, ◌<◌, ◌+◌, ◌++◌, ◌∷◌, ◌&&◌, [], length, find, filter, slice_get};
-ghost use Rattle.std.specs.Prelude.{vec_len, vec_capacity, Option};
+ghost use Rattle.std.specs.Prelude.{◌≡◌, ◌≤◌, Option};
 ghost use Rattle.bd_space.specs.Words as words;
 ghost use Rattle.bd_space.specs.Seats as seats;
 ghost use Rattle.bd_space.specs.References as refer;
 ghost use Rattle.bd_space.specs.ProcessExits as exits;
-ghost use Rattle.bd_space.specs.Asking as asking;
 
-use crate::references::held_in;
 use crate::table::ObjectTable;
 use bd_space::{Holder, Identity, Object, ObjectId, Process, Reference};
 
@@ -26,54 +23,6 @@ pub(crate) fn lives_in(processes: &[Process], p: u32) -> bool
     processes.iter().any(|q| q.made == p)
 }
 
-pub(crate) fn object_in(objects: &[Object], o: ObjectId) -> Option<Object>
-    ensures { result ≡ refer.object_in objects.now o }
-{
-    objects.iter().copied().find(|x| same(x.id, o))
-}
-
-pub(crate) fn owned_in(objects: &[Object], p: u32, o: ObjectId) -> bool
-    ensures { result ≡ refer.owned_in objects.now p o }
-{
-    objects.iter().any(|x| same(x.id, o) && x.owner == p)
-}
-
-pub(crate) fn own_in(objects: &[Object], p: u32, ptr: u64) -> Option<Object>
-    ensures { result ≡ refer.own_in objects.now p ptr }
-{
-    objects
-        .iter()
-        .copied()
-        .find(|x| x.owner == p && x.ptr == ptr)
-}
-
-/// The object of this identity, if the process owns it.
-pub(crate) fn own_object(objects: &[Object], p: u32, o: ObjectId) -> Option<Object>
-    ensures { result ≡ find (λ x. words.same x.id o && (x.owner == p)) objects.now }
-{
-    objects
-        .iter()
-        .copied()
-        .find(|x| same(x.id, o) && x.owner == p)
-}
-
-/// The process's own object with this ptr and this cookie.
-pub(crate) fn own_with(objects: &[Object], p: u32, ptr: u64, cookie: u64) -> Option<Object>
-    ensures { result ≡ find (asking.is_own_with p ptr cookie) objects.now }
-{
-    objects
-        .iter()
-        .copied()
-        .find(|x| x.owner == p && x.ptr == ptr && x.cookie == cookie)
-}
-
-/// Whether the object stays: it is held, or its owner lives and was told that it is.
-pub(crate) fn stays_in(processes: &[Process], references: &[Reference], x: &Object) -> bool
-    ensures { result ≡ refer.stays_in processes.now references.now x.now }
-{
-    held_in(references, x.id) || (lives_in(processes, x.owner) && (x.told_weak || x.told_strong))
-}
-
 fn managed(place: u32) -> ObjectId
     ensures { result ≡ record { place = place; index = 0 } }
 {
@@ -83,22 +32,23 @@ fn managed(place: u32) -> ObjectId
 impl ObjectTable {
     ghost use Rattle.bd_space.specs.Deaths as deaths_of;
     ghost use Rattle.bd_space.specs.Steps as steps;
-    ghost use Rattle.bd_space.specs.Tables.{Tells, IsAt, TellsWhere, MakesWhere};
+    ghost use Rattle.bd_space.specs.Tables.{Tells, TellsWhere, MakesWhere};
     ghost use Rattle.bd_objects.specs.Stands.{StandsFor, HasProcesses};
-    ghost use Rattle.bd_objects.specs.Room.{Uses, UsesNothing, nothing, object_room, reference_room, object_count};
+    ghost use Rattle.bd_objects.specs.New.{IsNewManager};
+    ghost use Rattle.bd_objects.specs.Room.{Uses, nothing, object_room, reference_room};
 
     /// The object with this identity.
     pub fn object(&self, o: ObjectId) -> Option<Object>
         ensures { Tells (StandsFor self.now) result (λ s. refer.object_in s.objects o) }
     {
-        object_in(self.objects.as_slice(), o)
+        self.nodes.object(o)
     }
 
     /// Whether the process owns the object.
     pub fn owns(&self, p: u32, o: ObjectId) -> bool
         ensures { Tells (StandsFor self.now) result (λ s. refer.owned_in s.objects p o) }
     {
-        owned_in(self.objects.as_slice(), p, o)
+        self.nodes.owns(p, o)
     }
 
     /// Whether the object's owner lives. Takes the live processes.
@@ -106,7 +56,7 @@ impl ObjectTable {
         ensures { TellsWhere (StandsFor self.now) (HasProcesses processes.now) result
             (λ s. deaths_of.owner_lives_in s.processes s.objects o) }
     {
-        match object_in(self.objects.as_slice(), o) {
+        match self.nodes.object(o) {
             Some(x) => lives_in(processes, x.owner),
             None => false,
         }
@@ -116,21 +66,22 @@ impl ObjectTable {
     pub fn own_with_ptr(&self, p: u32, ptr: u64) -> Option<Object>
         ensures { Tells (StandsFor self.now) result (λ s. refer.own_in s.objects p ptr) }
     {
-        own_in(self.objects.as_slice(), p, ptr)
+        self.nodes.own_with_ptr(p, ptr)
     }
 
     /// The context manager's object, with its reference: the object has ptr 0 and cookie 0, and its owner counts as
-    /// told. Who the manager is, is the caller's to keep.
+    /// told. Who the manager is, is the caller's to keep. Of a space where the process has no object with ptr 0, and
+    /// none was made here.
     #[tactic(auto, unfolding(bd_space::specs::Steps::with_manager, crate::specs::Room::rooms))]
     pub fn with_manager(&mut self, place: u32, p: u32)
         requires objects { 1 ≤ object_room self.old }
         requires references { 1 ≤ reference_room self.old }
-        ensures stands { MakesWhere (StandsFor self.old) (IsAt place) (StandsFor self.new)
+        ensures stands { MakesWhere (StandsFor self.old) (IsNewManager place p) (StandsFor self.new)
             (λ s. steps.with_manager s p) }
         ensures uses { Uses self.old self.new (record nothing { objects = 1; references = 1 }) }
     {
         let id = managed(place);
-        self.objects.push_reserved(Object {
+        self.nodes.push(Object {
             id,
             owner: p,
             ptr: 0,
@@ -138,7 +89,7 @@ impl ObjectTable {
             told_weak: true,
             told_strong: true,
         });
-        self.references.push_reserved(Reference {
+        self.references.push(Reference {
             id: Identity { place, index: 0 },
             object: id,
             strong: true,
@@ -151,7 +102,7 @@ impl ObjectTable {
         ensures { Tells (StandsFor self.now) result (λ s. exits.manager_without s.objects p manager) }
     {
         match manager {
-            Some(o) if owned_in(self.objects.as_slice(), p, o) => None,
+            Some(o) if self.nodes.owns(p, o) => None,
             _ => manager,
         }
     }

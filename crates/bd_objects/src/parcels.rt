@@ -1,11 +1,13 @@
 //! The objects that a parcel sends.
 
-ghost use Rattle.std.specs.Prelude.{◌≡◌, ◌==◌, ◌<◌, ◌%◌, ◌^◌, ◌++◌, length, Option, Result};
+ghost use Rattle.std.specs.Prelude.{◌≡◌, ◌==◌, ◌<◌, ◌%◌, ◌^◌, ◌++◌, length, List, Option, Result};
 ghost use Rattle.bd_space.specs.References as refer;
 ghost use Rattle.bd_space.specs.Parcels as parcels;
+ghost use Rattle.bd_space.specs.declared.space.Object.{Object};
+ghost use Rattle.bd_nodes.specs.Stands.{NodesAre};
 
-use crate::objects::own_in;
 use crate::table::ObjectTable;
+use bd_nodes::NodeTable;
 use bd_space::{Object, ObjectId, Resolved};
 use bd_uapi::{Cause, FlatObject, ObjectKind};
 
@@ -16,11 +18,17 @@ fn handle_in(binder: u64) -> u32
     (binder % 0x1_0000_0000) as u32
 }
 
-/// The process's own object with this ptr, one of these or one of those that are being made.
-fn own_or_made(objects: &[Object], made: &[Object], p: u32, ptr: u64) -> Option<Object>
-    ensures { result ≡ refer.own_in (objects.now ++ made.now) p ptr }
+fn own_in(made: &[Object], p: u32, ptr: u64) -> Option<Object>
+    ensures { result ≡ refer.own_in made.now p ptr }
 {
-    match own_in(objects, p, ptr) {
+    made.iter().copied().find(|x| x.owner == p && x.ptr == ptr)
+}
+
+/// The process's own object with this ptr, one of these or one of those that are being made.
+fn own_or_made(nodes: &NodeTable, made: &[Object], p: u32, ptr: u64) -> Option<Object>
+    ensures { (objects : List Object) → NodesAre nodes.now objects → result ≡ refer.own_in (objects ++ made.now) p ptr }
+{
+    match nodes.own_with_ptr(p, ptr) {
         Some(x) => Some(x),
         None => own_in(made, p, ptr),
     }
@@ -72,7 +80,7 @@ impl ObjectTable {
     {
         match x.kind {
             ObjectKind::Binder | ObjectKind::WeakBinder => {
-                match own_or_made(self.objects.as_slice(), made, p, x.binder) {
+                match own_or_made(&self.nodes, made, p, x.binder) {
                     None => {
                         let o = new_object(place, p, made, x);
                         Ok(Resolved {

@@ -1,7 +1,6 @@
 //! What owners are told of their objects by reading.
 
-ghost use Rattle.std.specs.Prelude.{◌≡◌, ◌==◌, ◌≤◌, ◌<◌, ◌+◌, ◌-◌, ◌*◌, ◌++◌, ◌∷◌, [], ℕ, true, false, if◌then◌else◌};
-ghost use Rattle.std.specs.Prelude.{List, Option, length, take, vec_len, vec_capacity};
+ghost use Rattle.std.specs.Prelude.{◌≡◌, ◌==◌, ◌≤◌, ◌+◌, ◌*◌, ◌++◌, ℕ, List, length, vec_len, vec_capacity};
 ghost use Rattle.std.specs.List.{flat_map};
 ghost use Rattle.bd_space.specs.Words.{changed, when, is_some_and, same as same_object};
 ghost use Rattle.bd_space.specs.Todo.{notice_of, death_of};
@@ -10,13 +9,19 @@ ghost use Rattle.bd_space.specs.ReadItems as reading;
 ghost use Rattle.bd_space.specs.Returns as returns;
 ghost use Rattle.bd_space.specs.Space.{Space};
 ghost use Rattle.bd_space.specs.Tables.{IsAt};
-ghost use Rattle.bd_objects.specs.Reading.{owed};
+ghost use Rattle.bd_space.specs.declared.space.Object.{Object};
 ghost use Rattle.bd_space.specs.declared.space.Reference.{Reference};
 ghost use Rattle.bd_space.specs.declared.space.Holder.TheVariants.{Handshake};
+ghost use Rattle.bd_nodes.specs.Stands.{NodesAre};
+ghost use Rattle.bd_nodes.specs.Room as node_rooms;
+ghost use Rattle.bd_references.specs.Stands.{ReferencesAre};
+ghost use Rattle.bd_references.specs.Room.{reference_room as room_in};
+ghost use Rattle.bd_objects.specs.Reading.{owed, HoldsAlike};
 
-use crate::objects::{object_in, same};
-use crate::references::{held_in, strong_in};
+use crate::objects::same;
 use crate::table::ObjectTable;
+use bd_nodes::NodeTable;
+use bd_references::ReferenceTable;
 use bd_space::{
     DeathNotification, Holder, Identity, Object, ObjectId, Phase, Reference, Work, WorkKind,
 };
@@ -30,32 +35,18 @@ fn return_when(test: bool, r: Return) -> Option<Return>
 }
 
 /// What the owner of this object is told, by the references as they stand.
-fn notice_returns_of(references: &[Reference], x: &Object) -> [Option<Return>; 4]
-    ensures { flat_map returns.one result ≡ returns.notice_returns references.now x.now }
+fn notice_returns_of(references: &ReferenceTable, x: &Object) -> [Option<Return>; 4]
+    ensures { (l : List Reference) → ReferencesAre references.now l
+        → flat_map returns.one result ≡ returns.notice_returns l x.now }
 {
-    let held = held_in(references, x.id);
-    let strong = strong_in(references, x.id);
+    let held = references.is_held(x.id);
+    let strong = references.is_strong(x.id);
     [
         return_when(held && !x.told_weak, Return::Increfs(x.ptr, x.cookie)),
         return_when(strong && !x.told_strong, Return::Acquire(x.ptr, x.cookie)),
         return_when(x.told_strong && !strong, Return::Release(x.ptr, x.cookie)),
         return_when(x.told_weak && !held, Return::Decrefs(x.ptr, x.cookie)),
     ]
-}
-
-fn is_notice_of(w: &Work, o: ObjectId) -> bool
-    ensures { result ≡ is_some_and (notice_of w.now.kind) (same_object o) }
-{
-    match w.kind {
-        WorkKind::Notice(p) => same(o, p),
-        _ => false,
-    }
-}
-
-fn is_told_by(taken: &[Work], o: ObjectId) -> bool
-    ensures { result ≡ reading.is_told_by taken.now o }
-{
-    taken.iter().any(|w| is_notice_of(w, o))
 }
 
 fn is_death_of(w: &Work, made: u32) -> bool
@@ -73,27 +64,37 @@ fn is_told_of_death(taken: &[Work], x: &DeathNotification) -> bool
     taken.iter().any(|w| is_death_of(w, x.made))
 }
 
-/// The object whose owner knows what is so.
-fn told_of(references: &[Reference], x: Object) -> Object
-    ensures { result ≡ reading.told_of references.now x }
+/// The object that the notice is on.
+fn notice_of(kind: WorkKind) -> Option<ObjectId>
+    ensures { result ≡ notice_of kind }
 {
-    Object {
-        told_weak: held_in(references, x.id),
-        told_strong: strong_in(references, x.id),
-        ..x
+    match kind {
+        WorkKind::Notice(o) => Some(o),
+        _ => None,
     }
 }
 
-fn tell_owners(objects: &mut Vec<Object>, references: &[Reference], taken: &[Work])
-    ensures items { objects.new.items
-        ≡ changed (λ x. reading.is_told_by taken.now x.id) (reading.told_of references.now) objects.old.items }
-    ensures len { vec_len objects.new ≡ vec_len objects.old }
-    ensures capacity { vec_capacity objects.new ≡ vec_capacity objects.old }
+/// The owner of a notice's object knows what is so.
+fn tell_owner(nodes: &mut NodeTable, references: &ReferenceTable, kind: WorkKind)
+    ensures stands { (objects : List Object) (l : List Reference) → NodesAre nodes.old objects
+        → ReferencesAre references.now l → NodesAre nodes.new
+        (changed (λ x. is_some_and (notice_of kind) (same_object x.id)) (reading.told_of l) objects) }
+    ensures uses { node_rooms.Uses nodes.old nodes.new 0 }
 {
-    for x in objects.iter_mut() {
-        if is_told_by(taken, x.id) {
-            *x = told_of(references, *x);
-        }
+    match notice_of(kind) {
+        Some(o) => nodes.set_told(o, references.is_held(o), references.is_strong(o)),
+        None => {}
+    }
+}
+
+fn tell_owners(nodes: &mut NodeTable, references: &ReferenceTable, taken: &[Work])
+    ensures stands { (objects : List Object) (l : List Reference) → NodesAre nodes.old objects
+        → ReferencesAre references.now l → NodesAre nodes.new
+        (changed (λ x. reading.is_told_by taken.now x.id) (reading.told_of l) objects) }
+    ensures uses { node_rooms.Uses nodes.old nodes.new 0 }
+{
+    for w in taken {
+        tell_owner(nodes, references, w.kind);
     }
 }
 
@@ -110,105 +111,96 @@ fn mark_told(deaths: &mut Vec<DeathNotification>, taken: &[Work])
 }
 
 /// Whether the owner is to acknowledge the object weakly, and strongly, once it has read what it is to be told.
-fn acknowledgements(objects: &[Object], references: &[Reference], o: ObjectId) -> (bool, bool)
-    ensures { flat_map reading.shakes (returns.returns_of_object references.now (refer.object_in objects.now o))
-        ≡ owed result.0 result.1 }
+fn acknowledgements(nodes: &NodeTable, references: &ReferenceTable, o: ObjectId) -> (bool, bool)
+    ensures { (objects : List Object) (l : List Reference) → NodesAre nodes.now objects
+        → ReferencesAre references.now l
+        → flat_map reading.shakes (returns.returns_of_object l (refer.object_in objects o)) ≡ owed result.0 result.1 }
 {
-    match object_in(objects, o) {
+    match nodes.object(o) {
         Some(x) => (
-            held_in(references, x.id) && !x.told_weak,
-            strong_in(references, x.id) && !x.told_strong,
+            references.is_held(x.id) && !x.told_weak,
+            references.is_strong(x.id) && !x.told_strong,
         ),
         None => (false, false),
     }
 }
 
-fn add_handshake(
-    references: &mut Vec<Reference>,
-    before: usize,
+/// The references that stand for these acknowledgements, of this index and the next. Gives the index after them.
+fn add_acknowledgements(
+    references: &mut ReferenceTable,
     place: u32,
+    index: u64,
     o: ObjectId,
+    weak: bool,
     strong: bool,
-)
-    requires inside { before ≤ length references.old.items }
-    requires room { vec_len references.old < vec_capacity references.old }
-    ensures items { references.new.items ≡ references.old.items
-        ++ refer.reference_of place (length references.old.items - before) o strong Handshake ∷ [] }
-    ensures len { vec_len references.new ≡ vec_len references.old + 1 }
-    ensures capacity { vec_capacity references.new ≡ vec_capacity references.old }
+) -> u64
+    requires room { 2 ≤ room_in references.old }
+    requires index { index + 2 ≤ 18446744073709551615 }
+    ensures stands { (l : List Reference) → ReferencesAre references.old l
+        → ReferencesAre references.new (l ++ reading.handshakes_for place index o (owed weak strong)) }
+    ensures index { result ≡ index + length (owed weak strong) }
+    ensures uses { room_in references.old ≤ room_in references.new + 2 }
 {
-    let index = (references.len() - before) as u64;
-    references.push_reserved(Reference {
+    let mut next = index;
+    if weak {
+        references.push(handshake(place, next, o, false));
+        next += 1;
+    }
+    if strong {
+        references.push(handshake(place, next, o, true));
+        next += 1;
+    }
+    next
+}
+
+fn handshake(place: u32, index: u64, o: ObjectId, strong: bool) -> Reference
+    ensures { result ≡ refer.reference_of place index o strong Handshake }
+{
+    Reference {
         id: Identity { place, index },
         object: o,
         strong,
         holder: Holder::Handshake,
-    });
-}
-
-/// The references that stand for these acknowledgements.
-fn add_acknowledgements(
-    references: &mut Vec<Reference>,
-    before: usize,
-    place: u32,
-    o: ObjectId,
-    weak: bool,
-    strong: bool,
-)
-    requires inside { before ≤ length references.old.items }
-    requires room { vec_len references.old + 2 ≤ vec_capacity references.old }
-    ensures items { references.new.items ≡ references.old.items
-        ++ reading.handshakes_for place (length references.old.items - before) o (owed weak strong) }
-    ensures len { vec_len references.new ≤ vec_len references.old + 2 }
-    ensures capacity { vec_capacity references.new ≡ vec_capacity references.old }
-{
-    if weak {
-        add_handshake(references, before, place, o, false);
-    }
-    if strong {
-        add_handshake(references, before, place, o, true);
     }
 }
 
-/// The references that stand for what a work item leaves to be acknowledged. The first ones are those that stood before
-/// the reading.
+/// The references that stand for what a work item leaves to be acknowledged, from this index. Gives the index after
+/// them. What is held, and strongly, is what was so before the reading.
 #[tactic(auto, unfolding(bd_space::specs::Returns::returns_of))]
 fn add_handshakes_of(
-    references: &mut Vec<Reference>,
-    before: usize,
+    references: &mut ReferenceTable,
+    nodes: &NodeTable,
     place: u32,
-    objects: &[Object],
+    index: u64,
     kind: WorkKind,
-)
-    requires inside { before ≤ length references.old.items }
-    requires room { vec_len references.old + 2 ≤ vec_capacity references.old }
-    ensures items { (s : Space) → s.references ≡ take before references.old.items → s.objects ≡ objects.now
-        → IsAt place s
-        → references.new.items
-        ≡ references.old.items ++ reading.handshakes_of s (length references.old.items - before) kind }
-    ensures grows { (added : List Reference) × (references.new.items ≡ references.old.items ++ added) }
-    ensures len { vec_len references.new ≤ vec_len references.old + 2 }
-    ensures capacity { vec_capacity references.new ≡ vec_capacity references.old }
+) -> u64
+    requires room { 2 ≤ room_in references.old }
+    requires index { index + 2 ≤ 18446744073709551615 }
+    ensures stands { (s : Space) (l : List Reference) → NodesAre nodes.now s.objects → IsAt place s
+        → HoldsAlike s.references l → ReferencesAre references.old l
+        → ReferencesAre references.new (l ++ reading.handshakes_of s index kind)
+        × (result ≡ index + length (reading.handshakes_of s index kind)) }
+    ensures index { result ≤ index + 2 }
+    ensures uses { room_in references.old ≤ room_in references.new + 2 }
 {
     let WorkKind::Notice(o) = kind else {
-        return;
+        return index;
     };
-    let (weak, strong) = acknowledgements(objects, &references[..before], o);
-    add_acknowledgements(references, before, place, o, weak, strong);
+    let (weak, strong) = acknowledgements(nodes, references, o);
+    add_acknowledgements(references, place, index, o, weak, strong)
 }
 
 /// The references that stand for what is left to be acknowledged.
-fn add_handshakes(references: &mut Vec<Reference>, place: u32, objects: &[Object], taken: &[Work])
-    requires { vec_len references.old + 2 * length taken.now ≤ vec_capacity references.old }
-    ensures items { (s : Space) → s.references ≡ references.old.items → s.objects ≡ objects.now → IsAt place s
-        → references.new.items ≡ references.old.items ++ reading.handshakes s 0 taken.now }
-    ensures grows { (added : List Reference) × (references.new.items ≡ references.old.items ++ added) }
-    ensures len { vec_len references.new ≤ vec_len references.old + 2 * length taken.now }
-    ensures capacity { vec_capacity references.new ≡ vec_capacity references.old }
+fn add_handshakes(references: &mut ReferenceTable, nodes: &NodeTable, place: u32, taken: &[Work])
+    requires { 2 * length taken.now ≤ room_in references.old }
+    ensures stands { (s : Space) → NodesAre nodes.now s.objects → IsAt place s
+        → ReferencesAre references.old s.references
+        → ReferencesAre references.new (s.references ++ reading.handshakes s 0 taken.now) }
+    ensures uses { room_in references.old ≤ room_in references.new + 2 * length taken.now }
 {
-    let before = references.len();
+    let mut index = 0;
     for w in taken {
-        add_handshakes_of(references, before, place, objects, w.kind);
+        index = add_handshakes_of(references, nodes, place, index, w.kind);
     }
 }
 
@@ -223,8 +215,8 @@ impl ObjectTable {
         ensures { Tells (StandsFor self.now) (flat_map returns.one result)
             (λ s. returns.returns_of_object s.references (refer.object_in s.objects o)) }
     {
-        match object_in(self.objects.as_slice(), o) {
-            Some(x) => notice_returns_of(self.references.as_slice(), &x),
+        match self.nodes.object(o) {
+            Some(x) => notice_returns_of(&self.references, &x),
             None => [None, None, None, None],
         }
     }
@@ -238,9 +230,10 @@ impl ObjectTable {
             (λ s. reading.read_by s seat taken.now) }
         ensures uses { Uses self.old self.new (record nothing { references = 2 * length taken.now }) }
     {
-        let before = self.references.len();
-        add_handshakes(&mut self.references, place, self.objects.as_slice(), taken);
-        tell_owners(&mut self.objects, &self.references[..before], taken);
+        // What is owed is told by the old told values. An acknowledgement keeps an object that is kept already: what
+        // is held is the same afterwards.
+        add_handshakes(&mut self.references, &self.nodes, place, taken);
+        tell_owners(&mut self.nodes, &self.references, taken);
         mark_told(&mut self.deaths, taken);
     }
 }

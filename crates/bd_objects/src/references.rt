@@ -1,55 +1,26 @@
 //! References to objects.
 
-ghost use Rattle.std.specs.Prelude.{◌≡◌, ◌==◌, ◌≤◌, ◌++◌, not, map, filter, vec_len, vec_capacity, Option, OnOk};
+ghost use Rattle.std.specs.Prelude.{◌++◌, map, filter, OnOk};
 ghost use Rattle.bd_space.specs.References as refer;
 
-use crate::holders::is_of_buffer;
-use crate::objects::same;
 use crate::table::ObjectTable;
-use bd_space::{ObjectId, Reference};
+use bd_references::CarriedObjects;
+use bd_space::ObjectId;
 use std::alloc::AllocError;
-
-pub(crate) fn held_in(references: &[Reference], o: ObjectId) -> bool
-    ensures { result ≡ refer.held_in references.now o }
-{
-    references.iter().any(|r| same(r.object, o))
-}
-
-pub(crate) fn strong_in(references: &[Reference], o: ObjectId) -> bool
-    ensures { result ≡ refer.strong_in references.now o }
-{
-    references.iter().any(|r| r.strong && same(r.object, o))
-}
-
-fn drop_buffer(references: &mut Vec<Reference>, b: u32)
-    ensures items { references.new.items ≡ filter (λ r. not (refer.is_of_buffer b r.holder)) references.old.items }
-    ensures capacity { vec_capacity references.new ≡ vec_capacity references.old }
-    ensures len { vec_len references.new ≤ vec_len references.old }
-{
-    references.retain(|r| !is_of_buffer(b, r.holder));
-}
-
-fn push_referred(
-    references: &[Reference],
-    b: u32,
-    touched: &mut Vec<ObjectId>,
-) -> Result<(), AllocError>
-    ensures { OnOk result (touched.new.items
-        ≡ touched.old.items ++ map (λ r. r.object) (filter (λ r. refer.is_of_buffer b r.holder) references.now)) }
-{
-    for r in references {
-        if is_of_buffer(b, r.holder) {
-            touched.push(r.object)?;
-        }
-    }
-    Ok(())
-}
 
 impl ObjectTable {
     ghost use Rattle.bd_space.specs.Freeing as freeing;
     ghost use Rattle.bd_space.specs.Tables.{Tells, Makes};
+    ghost use Rattle.bd_references.specs.Carried.{carried_in};
     ghost use Rattle.bd_objects.specs.Stands.{StandsFor};
     ghost use Rattle.bd_objects.specs.Room.{UsesNothing};
+
+    /// The objects that the buffer made there carries, one for each object of its parcel, in their order.
+    pub fn carried(&self, made: u32) -> CarriedObjects<'_>
+        ensures { Tells (StandsFor self.now) result (λ s. carried_in s.references made) }
+    {
+        self.references.carried(made)
+    }
 
     /// The references go that a buffer held.
     #[tactic(auto, unfolding(bd_space::specs::Freeing::without_buffer, crate::specs::Room::rooms))]
@@ -57,7 +28,7 @@ impl ObjectTable {
         ensures stands { Makes (StandsFor self.old) (StandsFor self.new) (λ s. freeing.without_buffer s made) }
         ensures uses { UsesNothing self.old self.new }
     {
-        drop_buffer(&mut self.references, made);
+        self.references.drop_buffer(made);
     }
 
     /// The objects to which a buffer refers, put after what is there. Fails for want of memory alone.
@@ -66,6 +37,6 @@ impl ObjectTable {
             (λ s. touched.old.items
             ++ map (λ r. r.object) (filter (λ r. refer.is_of_buffer made r.holder) s.references))) }
     {
-        push_referred(&self.references, made, touched)
+        self.references.referred(made, touched)
     }
 }

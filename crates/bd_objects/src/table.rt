@@ -3,15 +3,18 @@
 ghost use Rattle.std.specs.Prelude.{OnOk, OnErr};
 
 use crate::room::Room;
-use bd_space::{DeathNotification, Name, Object, Reference};
+use bd_names::NameTable;
+use bd_nodes::NodeTable;
+use bd_references::ReferenceTable;
+use bd_space::DeathNotification;
 use std::alloc::{AllocError, Global};
 
 /// The objects of a space, with the references to them, their names and the death notifications on them.
 #[derive(Drop)]
 pub struct ObjectTable {
-    pub(crate) objects: Vec<Object>,
-    pub(crate) references: Vec<Reference>,
-    pub(crate) names: Vec<Name>,
+    pub(crate) nodes: NodeTable,
+    pub(crate) references: ReferenceTable,
+    pub(crate) names: NameTable,
     pub(crate) deaths: Vec<DeathNotification>,
 }
 
@@ -25,9 +28,9 @@ impl ObjectTable {
         ensures { StandsFor result opening }
     {
         ObjectTable {
-            objects: Vec::new(alloc),
-            references: Vec::new(alloc),
-            names: Vec::new(alloc),
+            nodes: NodeTable::new(alloc),
+            references: ReferenceTable::new(alloc),
+            names: NameTable::new(alloc),
             deaths: Vec::new(alloc),
         }
     }
@@ -41,7 +44,7 @@ impl ObjectTable {
         // Memory was asked for: there was no room.
         ensures grown { OnErr result (HasRoom self.old room → ⊥) }
     {
-        self.objects.reserve(room.objects)?;
+        self.nodes.reserve(room.objects)?;
         self.references.reserve(room.references)?;
         self.names.reserve(room.names)?;
         self.deaths.reserve(room.deaths)?;

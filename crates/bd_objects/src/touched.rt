@@ -3,16 +3,14 @@
 ghost use Rattle.std.specs.Prelude.{◌≡◌, ◌==◌, ◌≤◌, ◌&&◌, ◌||◌, not, filter, false, option_and_then, vec_len, vec_capacity};
 ghost use Rattle.std.specs.List.{list_any};
 ghost use Rattle.bd_space.specs.Words.{when};
-ghost use Rattle.bd_space.specs.Names.{is_named_in};
 ghost use Rattle.bd_space.specs.References.{object_in, stays_in};
 ghost use Rattle.bd_space.specs.Notices as notices;
 ghost use Rattle.bd_space.specs.Local as local;
 ghost use Rattle.bd_objects.specs.Deaths.{is_lost};
 
-use crate::names::{is_name_of, is_named_in};
-use crate::objects::{object_in, same, stays_in};
+use crate::objects::{lives_in, same};
 use crate::table::ObjectTable;
-use bd_space::{DeathNotification, Name, Object, ObjectId, Process, Reference, WorkKind};
+use bd_space::{DeathNotification, Object, ObjectId, Process, WorkKind};
 
 /// Whether what this process has of this object, a name or a notification, is `p`'s of `o`.
 fn is_at(p: u32, o: ObjectId, process: u32, object: ObjectId) -> bool
@@ -21,81 +19,33 @@ fn is_at(p: u32, o: ObjectId, process: u32, object: ObjectId) -> bool
     process == p && same(object, o)
 }
 
-/// Whether the name stays: it is another one, or a reference carries it.
-fn name_stays(objects: &[Object], references: &[Reference], p: u32, o: ObjectId, m: &Name) -> bool
-    ensures { result ≡ (not (local.at_name p o m.now.process m.now.object)
-        || is_named_in objects.now references.now m.now.process m.now.object) }
+/// Whether the notification is on this name, and uncleared: it goes with the name.
+fn is_uncleared_at(p: u32, o: ObjectId, x: &DeathNotification) -> bool
+    ensures { result ≡ (local.at_name p o x.now.process x.now.object && not x.now.cleared) }
 {
-    !is_at(p, o, m.process, m.object) || is_named_in(objects, references, m.process, m.object)
+    is_at(p, o, x.process, x.object) && !x.cleared
 }
 
-fn keep_named_at(
-    names: &mut Vec<Name>,
-    objects: &[Object],
-    references: &[Reference],
-    p: u32,
-    o: ObjectId,
-)
-    ensures items { names.new.items
-        ≡ filter (λ m. not (local.at_name p o m.process m.object)
-        || is_named_in objects.now references.now m.process m.object) names.old.items }
-    ensures capacity { vec_capacity names.new ≡ vec_capacity names.old }
-    ensures len { vec_len names.new ≤ vec_len names.old }
+fn has_uncleared_at(deaths: &[DeathNotification], p: u32, o: ObjectId) -> bool
+    ensures { result ≡ list_any (λ x. local.at_name p o x.process x.object && not x.cleared) deaths.now }
 {
-    names.retain(|m| name_stays(objects, references, p, o, m));
+    deaths.iter().any(|x| is_uncleared_at(p, o, x))
 }
 
-/// Whether the object stays: it is another one, or something keeps it.
-fn object_stays(processes: &[Process], references: &[Reference], o: ObjectId, x: &Object) -> bool
-    ensures { result ≡ (not (local.at_object o x.now.id) || stays_in processes.now references.now x.now) }
+/// Whether the notification stays, where the name is there or not.
+fn stays_at(named: bool, p: u32, o: ObjectId, x: &DeathNotification) -> bool
+    ensures { result ≡ (not (local.at_name p o x.now.process x.now.object) || (x.now.cleared || named)) }
 {
-    !same(x.id, o) || stays_in(processes, references, x)
+    !is_at(p, o, x.process, x.object) || x.cleared || named
 }
 
-fn keep_object(
-    objects: &mut Vec<Object>,
-    processes: &[Process],
-    references: &[Reference],
-    o: ObjectId,
-)
-    ensures items { objects.new.items
-        ≡ filter (λ x. not (local.at_object o x.id)
-        || stays_in processes.now references.now x) objects.old.items }
-    ensures capacity { vec_capacity objects.new ≡ vec_capacity objects.old }
-    ensures len { vec_len objects.new ≤ vec_len objects.old }
-{
-    objects.retain(|x| object_stays(processes, references, o, x));
-}
-
-/// Whether the notification stays: it is on another name, or cleared, or the name is there.
-fn notification_stays(names: &[Name], p: u32, o: ObjectId, x: &DeathNotification) -> bool
-    ensures { result ≡ (not (local.at_name p o x.now.process x.now.object)
-        || (x.now.cleared || notices.is_name_of names.now x.now.process x.now.object)) }
-{
-    !is_at(p, o, x.process, x.object) || x.cleared || is_name_of(names, x.process, x.object)
-}
-
-/// Whether the notification is on this name, uncleared, and the name is gone.
-fn is_lost(names: &[Name], p: u32, o: ObjectId, x: &DeathNotification) -> bool
-    ensures { result ≡ is_lost names.now p o x.now }
-{
-    is_at(p, o, x.process, x.object) && !x.cleared && !is_name_of(names, x.process, x.object)
-}
-
-fn has_lost_in(deaths: &[DeathNotification], names: &[Name], p: u32, o: ObjectId) -> bool
-    ensures { result ≡ list_any (is_lost names.now p o) deaths.now }
-{
-    deaths.iter().any(|x| is_lost(names, p, o, x))
-}
-
-fn keep_deaths_at(deaths: &mut Vec<DeathNotification>, names: &[Name], p: u32, o: ObjectId)
-    ensures items { deaths.new.items
-        ≡ filter (λ x. not (local.at_name p o x.process x.object)
-        || (x.cleared || notices.is_name_of names.now x.process x.object)) deaths.old.items }
+fn keep_deaths_at(deaths: &mut Vec<DeathNotification>, named: bool, p: u32, o: ObjectId)
+    ensures items { deaths.new.items ≡ filter
+        (λ x. not (local.at_name p o x.process x.object) || (x.cleared || named)) deaths.old.items }
     ensures capacity { vec_capacity deaths.new ≡ vec_capacity deaths.old }
     ensures len { vec_len deaths.new ≤ vec_len deaths.old }
 {
-    deaths.retain(|x| notification_stays(names, p, o, x));
+    deaths.retain(|x| stays_at(named, p, o, x));
 }
 
 /// Whether the notification that was made there is on this name.
@@ -107,14 +57,14 @@ fn is_death_at(deaths: &[DeathNotification], p: u32, o: ObjectId, made: u32) -> 
         .any(|x| x.made == made && is_at(p, o, x.process, x.object))
 }
 
-/// Whether the notification that was made there stays.
-fn death_stays(deaths: &[DeathNotification], names: &[Name], p: u32, o: ObjectId, made: u32) -> bool
-    ensures { result ≡ list_any (λ x. x.made == made) (filter (λ x. not (local.at_name p o x.process x.object)
-        || (x.cleared || notices.is_name_of names.now x.process x.object)) deaths.now) }
+/// Whether the notification that was made there stays, where the name is there or not.
+fn death_stays(deaths: &[DeathNotification], named: bool, p: u32, o: ObjectId, made: u32) -> bool
+    ensures { result ≡ list_any (λ x. x.made == made)
+        (filter (λ x. not (local.at_name p o x.process x.object) || (x.cleared || named)) deaths.now) }
 {
     deaths
         .iter()
-        .filter(|x| notification_stays(names, p, o, x))
+        .filter(|x| stays_at(named, p, o, x))
         .any(|x| x.made == made)
 }
 
@@ -129,13 +79,18 @@ impl ObjectTable {
         ensures stands { Makes (StandsFor self.old) (StandsFor self.new) (local.names_go_of (local.at_name p o)) }
         ensures uses { UsesNothing self.old self.new }
     {
-        keep_named_at(
-            &mut self.names,
-            self.objects.as_slice(),
-            self.references.as_slice(),
-            p,
-            o,
-        );
+        if !self.is_named(p, o) {
+            self.names.drop(p, o);
+        }
+    }
+
+    /// Whether the object stays: it is held, or its owner lives and was told that it is.
+    fn stays(&self, processes: &[Process], x: &Object) -> bool
+        ensures { TellsWhere (StandsFor self.now) (HasProcesses processes.now) result
+            (λ s. stays_in s.processes s.references x.now) }
+    {
+        self.references.is_held(x.id)
+            || (lives_in(processes, x.owner) && (x.told_weak || x.told_strong))
     }
 
     /// The object goes, if nothing keeps it. Takes the live processes.
@@ -145,14 +100,18 @@ impl ObjectTable {
             (local.objects_go_of (local.at_object o)) }
         ensures uses { UsesNothing self.old self.new }
     {
-        keep_object(&mut self.objects, processes, self.references.as_slice(), o);
+        if let Some(x) = self.nodes.object(o) {
+            if !self.stays(processes, &x) {
+                self.nodes.remove(o);
+            }
+        }
     }
 
     /// Whether a notification is to go with the process's name of the object, which is gone.
     pub fn has_lost_death(&self, p: u32, o: ObjectId) -> bool
         ensures { Tells (StandsFor self.now) result (λ s. list_any (is_lost s.names p o) s.deaths) }
     {
-        has_lost_in(self.deaths.as_slice(), self.names.as_slice(), p, o)
+        !self.names.has(p, o) && has_uncleared_at(self.deaths.as_slice(), p, o)
     }
 
     /// The process's uncleared notifications on its name of the object go, if that is gone.
@@ -161,7 +120,7 @@ impl ObjectTable {
         ensures stands { Makes (StandsFor self.old) (StandsFor self.new) (local.deaths_go_of (local.at_name p o)) }
         ensures uses { UsesNothing self.old self.new }
     {
-        keep_deaths_at(&mut self.deaths, self.names.as_slice(), p, o);
+        keep_deaths_at(&mut self.deaths, self.names.has(p, o), p, o);
     }
 
     /// Whether a work item of this kind stays: a death's item goes with its notification, if that is on the process's
@@ -176,7 +135,7 @@ impl ObjectTable {
         match *kind {
             WorkKind::Death(n) => {
                 !is_death_at(self.deaths.as_slice(), p, o, n)
-                    || death_stays(self.deaths.as_slice(), self.names.as_slice(), p, o, n)
+                    || death_stays(self.deaths.as_slice(), self.names.has(p, o), p, o, n)
             }
             _ => true,
         }
@@ -188,7 +147,7 @@ impl ObjectTable {
             (λ s. option_and_then (λ x. when (notices.wants_notice s.processes s.references x) x.owner)
             (object_in s.objects o)) }
     {
-        let x = object_in(self.objects.as_slice(), o)?;
+        let x = self.nodes.object(o)?;
         if self.wants_notice(processes, &x) {
             Some(x.owner)
         } else {

@@ -1,13 +1,7 @@
-use Rattle.std.proofs.Common.{ℕ, rules, tests, ◌==◌, ◌∙◌, arith}
-use Rattle.bd_space.proofs.Changed.{changed-then, changed-else}
+use Rattle.std.proofs.Common.{arith}
+use Rattle.bd_space.proofs.Changed.{mapped-next}
+use Rattle.bd_calls.specs.Closing.{chosen_after}
 use Rattle.bd_calls.proofs.frame.choose_parent.Goals as goal
-use Rattle.bd_calls.proofs.frame.choose_parent.Goals.{then-one-made, else-one-made}
 
 pub loop-one-preserved : goal.loop-one-preserved
-loop-one-preserved c =
-    let p = λ (m : ℕ). m == c.args.made in
-    let f = λ (m : ℕ). c.args.parent in
-    elim c.if-one-made.branch [
-      | then-one-made w ↦ w.chosen-is ∙ changed-then p f _ _ _ 0 c.loop-one.invariant (omega arith) (search (rules, tests))
-      | else-one-made w ↦ w.chosen-is ∙ changed-else p f _ _ _ 0 c.loop-one.invariant (omega arith) (search (rules, tests))
-    ]
+loop-one-preserved c = mapped-next (chosen_after c.args.made c.args.parent) _ _ _ _ _ c.loop-one.invariant (omega arith) c.parent_or_same.ensures

@@ -4,4 +4,4 @@ use Rattle.bd_calls.proofs.Plain.{any_left}
 use Rattle.bd_calls.proofs.todo_list.has_on.Goals as goal
 
 pub returns-in-Some : goal.returns-in-Some
-returns-in-Some c = rw c.in-Some.is (c.has_work.ensures ∙ any_left (is_on c.in-Some.list) c.args.todo.now)
+returns-in-Some c = λ l are. rw c.in-Some.is (c.has_any.ensures l are ∙ any_left (is_on c.in-Some.list) l)

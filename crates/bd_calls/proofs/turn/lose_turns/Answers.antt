@@ -5,4 +5,4 @@ use Rattle.bd_space.specs.ThreadExits.{is_lost_with}
 use Rattle.bd_calls.proofs.turn.lose_turns.Goals as goal
 
 pub returns-clause-turns : goal.returns-clause-turns
-returns-clause-turns c = filter_same _ (λ (t : Turn). not (is_lost_with c.args.todo.now c.args.list t.made)) _ (λ x b f' k. search (rules, tests)) _ _ c.retain.ensures.filtered
+returns-clause-turns c = λ l are. filter_same _ (λ (t : Turn). not (is_lost_with l c.args.list t.made)) _ (λ x b f' k. search (rules, tests, are)) _ _ c.retain.ensures.filtered

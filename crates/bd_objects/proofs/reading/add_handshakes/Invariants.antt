@@ -1,15 +1,15 @@
-use Rattle.std.proofs.Common.{◌≡◌, ◌+◌, ◌-◌, ◌*◌, ◌≤◌, ◌++◌, List, drop, length, vec_len, vec_capacity}
+use Rattle.std.proofs.Common.{◌≡◌, ◌+◌, ◌*◌, ◌≤◌, ◌++◌, take, length}
 use Rattle.bd_space.specs.Space.{Space}
-use Rattle.bd_space.specs.declared.space.Reference.{Reference}
 use Rattle.bd_space.specs.ReadItems.{handshakes}
+use Rattle.bd_nodes.specs.Stands.{NodesAre}
+use Rattle.bd_references.specs.Stands.{ReferencesAre}
+use Rattle.bd_references.specs.Room.{reference_room}
 use Rattle.bd_objects.proofs.reading.add_handshakes.Given as goal
 
 abbrev pub invariant-loop-w : goal.invariant-loop-w
 invariant-loop-w l = record {
-  so_far : (s : Space) → s.references ≡ l.fn.references.items → s.objects ≡ l.objects → s.steps ≡ l.place
-      → l.references.items ++ handshakes s (length l.references.items - l.before) (drop l.w-index l.taken) ≡ l.fn.references.items ++ handshakes s 0 l.taken;
-  before : l.before ≡ length l.fn.references.items;
-  grows : (added : List Reference) × (l.references.items ≡ l.fn.references.items ++ added);
-  len : vec_len l.references ≤ vec_len l.fn.references + 2 * l.w-index;
-  capacity : vec_capacity l.references ≡ vec_capacity l.fn.references;
+  so_far : (s : Space) → NodesAre l.nodes s.objects → s.steps ≡ l.place → ReferencesAre l.fn.references s.references
+      → ReferencesAre l.references (s.references ++ handshakes s 0 (take l.w-index l.taken)) × (l.index ≡ length (handshakes s 0 (take l.w-index l.taken)));
+  bound : l.index ≤ 2 * l.w-index;
+  room : reference_room l.fn.references ≤ reference_room l.references + 2 * l.w-index;
 }

@@ -1,15 +1,27 @@
-use Rattle.std.proofs.Common.{◌∙◌, sym, ap, arith, set}
-use Rattle.bd_space.specs.declared.space.Object.{Object}
+use Rattle.std.proofs.Common.{subst, arith}
+use Rattle.std.proofs.lemmas.List.{take_all}
+use Rattle.bd_space.specs.Words.{changed}
 use Rattle.bd_space.specs.ReadItems.{is_told_by, told_of}
-use Rattle.bd_space.proofs.Changed.{changed-then, changed-else}
+use Rattle.bd_nodes.specs.Stands.{NodesAre}
+use Rattle.bd_objects.proofs.Owners.{told-none, told-more}
 use Rattle.bd_objects.proofs.reading.tell_owners.Goals as goal
-use Rattle.bd_objects.proofs.reading.tell_owners.Goals.{then-is_told_by, else-is_told_by}
 
-pub loop-x-preserved : goal.loop-x-preserved
-loop-x-preserved c =
-    let p = λ (x : Object). is_told_by c.args.taken.now x.id in
-    let f = told_of c.args.references.now in
-    elim c.if-is_told_by.branch [
-      | then-is_told_by w ↦ w.x-items-is ∙ ap (λ y. set c.loop-x.x-items c.loop-x.x-index y) w.told_of.ensures ∙ changed-then p f _ _ _ _ c.loop-x.invariant (omega arith) (sym c.is_told_by.ensures ∙ w.if-is_told_by.true)
-      | else-is_told_by w ↦ w.x-items-is ∙ changed-else p f _ _ _ _ c.loop-x.invariant (omega arith) (sym c.is_told_by.ensures ∙ w.if-is_told_by.false)
-    ]
+pub loop-w-init : goal.loop-w-init
+loop-w-init c = record {
+  so_far = λ objects rs n r. subst (λ xs. NodesAre c.args.nodes.now xs) (told-none rs objects) n;
+  uses = record { room = omega arith; count = omega arith };
+}
+
+pub loop-w-preserved : goal.loop-w-preserved
+loop-w-preserved c = record {
+  so_far = λ objects rs n r. subst (λ xs. NodesAre c.tell_owner.new.nodes xs) (told-more rs objects c.args.taken.now c.loop-w.w-index _ (omega arith))
+      (c.tell_owner.ensures.stands _ rs (c.loop-w.invariant.so_far objects rs n r) r);
+  uses = record {
+    room = omega (arith, c.loop-w.invariant.uses.room, c.tell_owner.ensures.uses.room);
+    count = omega (arith, c.loop-w.invariant.uses.count, c.tell_owner.ensures.uses.count);
+  };
+}
+
+pub returns-clause-stands : goal.returns-clause-stands
+returns-clause-stands c = λ objects l n r.
+    subst (λ ws. NodesAre c.loop-w.nodes (changed (λ x. is_told_by ws x.id) (told_of l) objects)) (take_all c.loop-w.w-index c.args.taken.now (omega arith)) (c.loop-w.invariant.so_far objects l n r)

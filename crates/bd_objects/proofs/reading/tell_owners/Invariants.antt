@@ -1,7 +1,16 @@
-use Rattle.std.proofs.Common.{◌≡◌, ◌++◌, take, drop}
+use Rattle.std.proofs.Common.{take, List}
 use Rattle.bd_space.specs.Words.{changed}
 use Rattle.bd_space.specs.ReadItems.{is_told_by, told_of}
+use Rattle.bd_space.specs.declared.space.Object.{Object}
+use Rattle.bd_space.specs.declared.space.Reference.{Reference}
+use Rattle.bd_nodes.specs.Stands.{NodesAre}
+use Rattle.bd_nodes.specs.Room.{Uses}
+use Rattle.bd_references.specs.Stands.{ReferencesAre}
 use Rattle.bd_objects.proofs.reading.tell_owners.Given as goal
 
-abbrev pub invariant-loop-x : goal.invariant-loop-x
-invariant-loop-x l = l.x-items ≡ changed (λ x. is_told_by l.taken x.id) (told_of l.references) (take l.x-index l.initial.x-items) ++ drop l.x-index l.initial.x-items
+abbrev pub invariant-loop-w : goal.invariant-loop-w
+invariant-loop-w l = record {
+  so_far : (objects : List Object) (rs : List Reference) → NodesAre l.fn.nodes objects → ReferencesAre l.references rs
+      → NodesAre l.nodes (changed (λ x. is_told_by (take l.w-index l.taken) x.id) (told_of rs) objects);
+  uses : Uses l.fn.nodes l.nodes 0;
+}

@@ -1,21 +1,11 @@
-use Rattle.std.proofs.Common.{◌≡◌, ◌-◌, ◌+◌, suc, length, ap, arith, rules}
+use Rattle.std.proofs.Common.{◌≡◌, ◌-◌, ◌+◌, suc, length, refl, arith, rules}
 use Rattle.bd_space.specs.Local.{close_up}
 use Rattle.bd_calls.proofs.Rooms.{uses-one_more}
-use Rattle.bd_calls.proofs.Closing.{up-done, up-over, up-more}
+use Rattle.bd_calls.proofs.Closing.{closing-begins, closing-over, up-done, up-more}
 use Rattle.bd_calls.proofs.table.CallTable.close_up.Goals as goal
 
 pub loop-closed-init : goal.loop-closed-init
-loop-closed-init c = record {
-  stands = λ s stands place.
-      let all : length s.frames - 0 ≡ length s.frames = omega arith in
-      record {
-        mid = s;
-        stands = stands;
-        at = place;
-        goes_on = ap (λ n. close_up n c.args.made s) all;
-      };
-  uses = search rules;
-}
+loop-closed-init c = record { stands = closing-begins _ _ (λ n. close_up n c.args.made); uses = search rules }
 
 pub returns-in_default-clause-stands : goal.returns-in_default-clause-stands
 returns-in_default-clause-stands c =
@@ -35,4 +25,4 @@ pub returns-clause-stands : goal.returns-clause-stands
 returns-clause-stands c =
     λ s stands place.
     let none : length s.frames - c.loop-closed._closed ≡ 0 = omega (arith, c.count_frames-closed-end.ensures.frames s stands) in
-    up-over _ _ _ _ _ none (c.loop-closed.invariant.stands s stands place)
+    closing-over _ _ (λ n. close_up n c.loop-closed.next) _ _ (λ x. refl) none (c.loop-closed.invariant.stands s stands place)

@@ -1,8 +1,6 @@
-use Rattle.std.proofs.Common.{◌==◌, ◌∙◌, ap, sym, not, map, filter, List}
-use Rattle.bd_space.specs.declared.space.Work.{Work}
+use Rattle.std.proofs.Common.{◌==◌, ◌∙◌, ap, sym, not, map, filter}
 use Rattle.bd_space.specs.declared.space.Turn.{Turn}
 use Rattle.bd_space.specs.declared.space.TodoList.TheVariants.{OfProcess}
-use Rattle.bd_space.specs.Todo.{is_on}
 use Rattle.bd_space.specs.ProcessExits.{without_process}
 use Rattle.bd_space.specs.ThreadExits.{unread_frame}
 use Rattle.bd_calls.proofs.OneWay.{turns-received}
@@ -16,7 +14,7 @@ returns-clause-stands c =
     let list = OfProcess p in
     record {
       threads_are = stands.threads_are;
-      frames_are = c.lose_unread.ensures.frames ∙ ap (λ (ws : List Work). map (unread_frame ws list) c.args.self.now.frames.items) (c.deref.ensures.value ∙ stands.todo_are) ∙ ap (map (unread_frame s.todo list)) stands.frames_are;
-      todo_are = c.clear_list.ensures.todo ∙ ap (filter (λ (w : Work). not (is_on list w))) stands.todo_are;
+      frames_are = c.lose_unread.ensures.frames s.todo stands.todo_are ∙ ap (map (unread_frame s.todo list)) stands.frames_are;
+      todo_are = c.clear_list.ensures.stands _ stands.todo_are;
       turns_are = c.remove_received.ensures.turns ∙ ap (filter (λ (t : Turn). not (t.receiver == p))) stands.turns_are ∙ sym (turns-received p s.buffers);
     }

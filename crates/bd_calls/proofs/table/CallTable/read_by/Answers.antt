@@ -1,7 +1,7 @@
 use Rattle.std.proofs.Common.{◌∙◌, ap, sym, map}
 use Rattle.bd_space.specs.declared.space.Work.{Work}
 use Rattle.bd_space.specs.Words.{first_of}
-use Rattle.bd_space.specs.Todo.{hands_out, without_taken}
+use Rattle.bd_space.specs.Todo.{hands_out}
 use Rattle.bd_space.specs.ReadItems.{read_by, served_frames, buffer_taken}
 use Rattle.bd_calls.specs.Turn.{handed_turns}
 use Rattle.bd_calls.proofs.OneWay.{turns-handed}
@@ -15,6 +15,6 @@ returns-clause-stands c =
     record {
       threads_are = stands.threads_are;
       frames_are = c.serve.ensures.frames ∙ ap (served_frames c.args.seat c.args.taken.now) stands.frames_are;
-      todo_are = c.remove_taken.ensures.todo ∙ ap (without_taken c.args.taken.now) stands.todo_are;
+      todo_are = c.remove_taken.ensures.stands _ stands.todo_are;
       turns_are = c.hand_out_taken.ensures.turns ∙ ap (handed_turns made) stands.turns_are ∙ sym (turns-handed s.buffers made);
     }

@@ -5,5 +5,5 @@ use Rattle.bd_engine.proofs.tables.Tables.add_death.Goals as goal
 
 pub returns-clause-stands : goal.returns-clause-stands
 unfolding with_death
-returns-clause-stands c = λ s h.
-    with-objects (s.steps + 1) c.args.self.now s _ _ _ _ _ h (c.with_death.ensures.stands s h.objects_stand h.own.steps_are)
+returns-clause-stands c = λ s h new.
+    with-objects (s.steps + 1) c.args.self.now s _ _ _ _ _ h (c.with_death.ensures.stands s h.objects_stand new)

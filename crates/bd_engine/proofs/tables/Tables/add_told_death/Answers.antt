@@ -8,7 +8,7 @@ use Rattle.bd_engine.specs.Stands.{Within}
 use Rattle.bd_engine.proofs.tables.Tables.add_told_death.Goals as goal
 
 pub returns : goal.returns
-returns c = λ s h.
+returns c = λ s h new.
     let made = with_death s c.args.p c.args.o c.args.cookie Queued in
     subst (λ place. Within c.add_work.new.self (owe made (OfProcess c.args.p) (Death place))) (sym h.own.steps_are)
-    (c.add_work.ensures made (c.add_death.ensures.stands s h))
+    (c.add_work.ensures made (c.add_death.ensures.stands s h new))

@@ -5,7 +5,7 @@ use Rattle.bd_space.specs.Local.{ObjectTest, follow_of, close_up, no_name, is_am
 use Rattle.bd_engine.specs.Stands.{Within}
 use Rattle.bd_engine.proofs.Standing.{numbers-completed}
 use Rattle.bd_engine.proofs.Keeping.{full-if}
-use Rattle.bd_engine.proofs.Afterwards.{replied-followed, replied-ordered}
+use Rattle.bd_engine.proofs.Afterwards.{replied-new, replied-followed, replied-ordered}
 use Rattle.bd_engine.proofs.Meeting.{taken-step}
 use Rattle.bd_engine.proofs.tables.Tables.answer.Goals as goal
 
@@ -28,5 +28,5 @@ returns c = taken-step _ _ _ _ _ (
           (ap (λ (b : ObjectTest). let y : Space = follow_of no_name b z in close_up (length y.frames) f.parent y) looked
           ∙ sym (replied-followed s c.args.a c.args.d.now f c.args.v p))
           (c.close_up.ensures (follow_of no_name (is_among c.as_slice.result.now) z)
-          (c.follow_objects.ensures.stands z (c.in-Ok-replied.ensures.ok s (c.in-Ok.ensures.stands s h)) (replied-ordered s c.args.a c.args.d.now f c.args.v p)));
+          (c.follow_objects.ensures.stands z (c.in-Ok-replied.ensures.ok s (c.in-Ok.ensures.stands s h) (replied-new s c.args.a c.args.d.now f c.args.v p)) (replied-ordered s c.args.a c.args.d.now f c.args.v p)));
     })

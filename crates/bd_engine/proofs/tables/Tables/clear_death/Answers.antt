@@ -15,6 +15,6 @@ returns-in-Err c = taken-step _ _ _ _ _ (
 pub returns : goal.returns
 unfolding clear_step
 returns c = taken-step _ _ _ _ _ (
-    accepts-alone _ c.reserve.new.self _ _ _ (λ s. cleared s c.args.a.thread.seat c.in-Ok.x) c.reserve.ensures.stands c.drop_request.ensures
+    accepts-alone _ c.reserve.new.self _ _ _ (λ s. cleared s c.args.a.thread.seat c.in-Ok.x) c.reserve.ensures.stands (λ s h by. c.drop_request.ensures s)
     (λ s h by. cleared-local s c.args.a.thread.seat c.in-Ok.x by.tidy (cleared-there s c.args.a.process.made c.args.n c.args.cookie c.in-Ok.x (sym (c.in-Ok.ensures s h.objects_stand))))
     (λ s h by. sym (ap (by_check s (cleared s c.args.a.thread.seat)) (c.in-Ok.ensures s h.objects_stand))))

@@ -13,6 +13,6 @@ returns-in-None c = taken-step _ _ _ _ _ (
 pub returns : goal.returns
 unfolding death_done_step
 returns c = taken-step _ _ _ _ _ (
-    accepts-alone _ c.reserve.new.self _ _ _ (λ s. death_done s c.args.a.thread.seat c.in-Some.x) c.reserve.ensures.stands c.know_death.ensures
+    accepts-alone _ c.reserve.new.self _ _ _ (λ s. death_done s c.args.a.thread.seat c.in-Some.x) c.reserve.ensures.stands (λ s h by. c.know_death.ensures s)
     (λ s h by. done-local s c.args.a.thread.seat c.args.a.process.made c.args.cookie c.in-Some.x by.tidy (sym (c.in-Some.ensures s h.objects_stand)))
     (λ s h by. sym (ap (death_done_outcome s c.args.a.thread.seat) (c.in-Some.ensures s h.objects_stand))))

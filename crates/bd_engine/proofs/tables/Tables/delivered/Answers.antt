@@ -3,4 +3,4 @@ use Rattle.bd_engine.proofs.tables.Tables.delivered.Goals as goal
 
 pub returns-in-Ok-clause-ok : goal.returns-in-Ok-clause-ok
 unfolding delivered
-returns-in-Ok-clause-ok c = λ s h. c.fill.ensures.stands (known_by s c.args.v) (c.in-Ok.ensures.ok s h)
+returns-in-Ok-clause-ok c = λ s h new. c.fill.ensures.stands (known_by s c.args.v) (c.in-Ok.ensures.ok s h new)

@@ -1,4 +1,4 @@
-use Rattle.std.proofs.Common.{refl}
+use Rattle.std.proofs.Common.{refl, ◌∙◌}
 use Rattle.bd_space.specs.ThreadExits.{exit_thread_step}
 use Rattle.bd_engine.proofs.Standing.{within}
 use Rattle.bd_engine.proofs.Meeting.{taken-step, meets}
@@ -11,6 +11,6 @@ returns c = taken-step _ _ _ _ _ (
     meets _ _ _ _ _ (λ s h by. record {
       answered = refl;
       stands =
-          thread-ends _ _ _ s c.args.a c.in-Ok.exit _ _ c.as_slice-objects.ensures.value c.as_mut_slice.ensures.value by (c.in-Ok.ensures.has s h)
+          thread-ends _ _ _ s c.args.a c.in-Ok.exit _ _ c.objects.ensures (c.as_mut_slice.ensures.value ∙ c.into_frames-frames.ensures) by (c.in-Ok.ensures.has s h)
           (c.thread_goes.ensures.stands s (within _ s (c.begin_thread_exit.ensures.stands s h))) c.follow_among.ensures.stands c.close_among.ensures;
     }))

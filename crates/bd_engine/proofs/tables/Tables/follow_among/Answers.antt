@@ -16,15 +16,15 @@ loop-o-init c = record {
 
 pub loop-o-preserved : goal.loop-o-preserved
 loop-o-preserved c = record {
-  stands = λ s h. subst (Within c.follow_name.new.self) (names-next c.args.p c.args.named.now c.loop-o.o-index _ s c.loop-o-test.true)
-      (c.follow_name.ensures.stands (names_followed (names_among c.args.p (take c.loop-o.o-index c.args.named.now)) s) (c.loop-o.invariant.stands s h));
+  stands = λ s h. subst (Within c.follow_name.new.self) (names-next c.args.p c.args.touched.now c.loop-o.o-index _ s c.loop-o-test.true)
+      (c.follow_name.ensures.stands (names_followed (names_among c.args.p (take c.loop-o.o-index c.args.touched.now)) s) (c.loop-o.invariant.stands s h));
   uses = search rules;
 }
 
 pub returns-clause-stands : goal.returns-clause-stands
 returns-clause-stands c = λ s h ordered.
     let p = c.args.p in
-    let a = names_among p c.args.named.now in
-    let all = subst (λ os. Within c.loop-o.self (names_followed (names_among p os) s)) (take_all c.loop-o.o-index c.args.named.now c.loop-o-test.false) (c.loop-o.invariant.stands s h) in
+    let a = names_among p c.args.touched.now in
+    let all = subst (λ os. Within c.loop-o.self (names_followed (names_among p os) s)) (take_all c.loop-o.o-index c.args.touched.now c.loop-o-test.false) (c.loop-o.invariant.stands s h) in
     subst (Within c.follow_objects.new.self) (sym (names-first a (is_among c.args.touched.now) s))
     (c.follow_objects.ensures.stands (names_followed a s) all (subst (Pairs Earlier) (sym (followed-objects a s)) ordered))

@@ -6,6 +6,6 @@ use Rattle.bd_engine.proofs.tables.Tables.follow_among.Given as goal
 
 abbrev pub invariant-loop-o : goal.invariant-loop-o
 invariant-loop-o l = record {
-  stands : MakesWithin l.fn.self l.self (names_followed (names_among l.p (take l.o-index l.named)));
+  stands : MakesWithin l.fn.self l.self (names_followed (names_among l.p (take l.o-index l.touched)));
   uses : UsesNothing l.fn.self l.self;
 }

@@ -3,4 +3,4 @@ use Rattle.bd_engine.proofs.Gathering.{grows-as}
 use Rattle.bd_engine.proofs.tables.Tables.reserve_exit.Goals as goal
 
 pub returns-clause-grows : goal.returns-clause-grows
-returns-clause-grows c = grows-as _ _ c.in_order-objects.ensures.touched.among refl
+returns-clause-grows c = grows-as _ _ c.in_order.ensures.touched.among refl

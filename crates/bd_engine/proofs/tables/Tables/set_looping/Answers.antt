@@ -10,5 +10,5 @@ pub returns : goal.returns
 unfolding with_looping
 returns c = taken-step _ _ _ _ _ (
     accepts-alone c.args.self.now c.args.self.now _ _ _ (λ s. with_looping s c.args.a.thread.seat c.args.looping) (λ s h. h)
-    (λ s h. with-calls (s.steps + 1) c.args.self.now s _ _ _ _ h (c.set_looping.ensures.stands s h.calls_stand))
+    (λ s h by w. with-calls (s.steps + 1) c.args.self.now s _ _ _ _ w (c.set_looping.ensures.stands s w.calls_stand))
     (λ s h by. looping-local s c.args.a.thread.seat c.args.looping by.tidy.quiet) (λ s h by. refl))

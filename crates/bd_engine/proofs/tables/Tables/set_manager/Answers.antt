@@ -1,8 +1,9 @@
-use Rattle.std.proofs.Common.{◌+◌, refl, sym, ◌∙◌}
+use Rattle.std.proofs.Common.{refl, sym, ◌∙◌}
 use Rattle.bd_uapi.specs.declared.fault.Fault.TheVariants.{ManagerBusy}
 use Rattle.bd_space.specs.Steps.{manager_step, manager_outcome, with_manager}
 use Rattle.bd_engine.proofs.Standing.{within}
 use Rattle.bd_engine.proofs.Meeting.{taken-step, meets, in-case, is-refused}
+use Rattle.bd_engine.proofs.New.{new-manager}
 use Rattle.bd_engine.proofs.tables.Tables.set_manager.Goals as goal
 
 pub returns-then-is_manager_busy : goal.returns-then-is_manager_busy
@@ -17,4 +18,9 @@ unfolding manager_step with_manager
 returns c = taken-step _ _ _ _ _ (
     meets _ _ _ _ _ (λ s h by.
     in-case _ _ (manager_outcome s c.args.a.process.made) _ _ (sym (c.is_manager_busy.ensures s h) ∙ c.if-is_manager_busy.false)
-    (record { answered = refl; stands = c.with_manager.ensures.stands (s.steps + 1) s (within _ s (c.reserve.ensures.stands s h)) })))
+    (record {
+      answered = refl;
+      stands =
+          let w = within _ s (c.reserve.ensures.stands s h) in
+          c.with_manager.ensures.stands s w (new-manager s _ c.args.a.process.made w.own.steps_are by.tidy (sym (c.is_manager_busy.ensures s h) ∙ c.if-is_manager_busy.false));
+    })))

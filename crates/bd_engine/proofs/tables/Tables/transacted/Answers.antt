@@ -7,6 +7,6 @@ pub returns-in-Err-clause-full : goal.returns-in-Err-clause-full
 returns-in-Err-clause-full c = λ s h. transacted-full s c.args.a c.args.d.now c.args.v (c.in-Err.ensures.full s h)
 
 pub returns-in-Ok-clause-ok : goal.returns-in-Ok-clause-ok
-returns-in-Ok-clause-ok c = λ s h.
+returns-in-Ok-clause-ok c = λ s h new.
     let z = delivered s c.args.a c.args.d.now c.args.v in
-    transacted-stands _ s c.args.a c.args.d.now c.args.v _ _ c.receiver-receiver.ensures c.is_one_way-one_way.ensures (c.called.ensures.stands (z.steps + 1) z (c.in-Ok.ensures.ok s h))
+    transacted-stands _ s c.args.a c.args.d.now c.args.v _ _ c.receiver-receiver.ensures c.is_one_way-one_way.ensures (c.called.ensures.stands (z.steps + 1) z (c.in-Ok.ensures.ok s h new))

@@ -1,6 +1,8 @@
-use Rattle.std.proofs.Common.{refl, sym, ap, ◌∙◌}
+use Rattle.std.proofs.Common.{refl, sym, subst}
 use Rattle.bd_space.specs.ProcessExits.{tell_deaths}
-use Rattle.bd_space.specs.Names.{has_number_past_limit}
+use Rattle.bd_nodes.specs.Stands.{NodesAre}
+use Rattle.bd_references.specs.Stands.{ReferencesAre}
+use Rattle.bd_names.specs.Stands.{NamesAre}
 use Rattle.bd_objects.proofs.Telling.{Told-all}
 use Rattle.bd_objects.proofs.table.ObjectTable.tell_deaths.Goals as goal
 
@@ -8,10 +10,10 @@ pub returns-clause-stands : goal.returns-clause-stands
 unfolding tell_deaths
 returns-clause-stands c = λ s h.
     let told = Told-all s.objects c.args.p s.deaths s refl in
+    let t = c.args.self.now in
     record {
-      objects_are = h.objects_are ∙ sym told.objects_are;
-      references_are = h.references_are ∙ sym told.references_are;
-      names_are = h.names_are ∙ sym told.names_are;
-      deaths_are = rw (told.deaths_are, ← h.deaths_are, ← h.objects_are, ← c.as_slice.ensures.value) c.queue_due.ensures.items;
-      numbers_fit = ap has_number_past_limit told.names_are ∙ h.numbers_fit;
+      objects_are = subst (λ xs. NodesAre t.nodes xs) (sym told.objects_are) h.objects_are;
+      references_are = subst (λ xs. ReferencesAre t.references xs) (sym told.references_are) h.references_are;
+      names_are = subst (λ xs. NamesAre t.names xs) (sym told.names_are) h.names_are;
+      deaths_are = rw (told.deaths_are, ← h.deaths_are) (c.queue_due.ensures.items s.objects h.objects_are);
     }

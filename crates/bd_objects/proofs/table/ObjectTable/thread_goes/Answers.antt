@@ -6,8 +6,7 @@ pub returns-clause-stands : goal.returns-clause-stands
 unfolding thread_goes
 returns-clause-stands g c = λ seat s h post. record {
   objects_are = h.objects_are;
-  references_are = rw (← h.references_are) (c.drop_lost.ensures.items (is_lost_with s.todo (OfThread seat)) post);
+  references_are = c.drop_lost.ensures.stands (is_lost_with s.todo (OfThread seat)) post s.references h.references_are;
   names_are = h.names_are;
   deaths_are = h.deaths_are;
-  numbers_fit = h.numbers_fit;
 }

@@ -1,14 +1,16 @@
-use Rattle.std.proofs.Common.{rules, not, ◌==◌}
-use Rattle.bd_objects.proofs.Filters.{numbers-filter}
+use Rattle.std.proofs.Common.{rules, subst}
+use Rattle.bd_space.specs.References.{owned_in}
 use Rattle.bd_space.specs.ProcessExits.{without_process}
+use Rattle.bd_references.specs.Stands.{ReferencesAre}
+use Rattle.bd_objects.proofs.Covering.{left}
 use Rattle.bd_objects.proofs.table.ObjectTable.without_process.Goals as goal
 
 pub returns-clause-stands : goal.returns-clause-stands
 unfolding without_process
 returns-clause-stands c = λ s h. record {
   objects_are = h.objects_are;
-  references_are = search rules;
-  names_are = search rules;
-  deaths_are = search rules;
-  numbers_fit = numbers-filter (λ m. not (m.process == c.args.p)) s.names h.numbers_fit;
+  references_are = subst (λ rs. ReferencesAre c.drop_with_process.new.self rs) (left c.args.p s.objects s.references)
+      (c.drop_with_process.ensures.stands (owned_in s.objects c.args.p) (λ o b k. search rules) s.references h.references_are);
+  names_are = c.drop_process.ensures.stands s.names h.names_are;
+  deaths_are = rw (← h.deaths_are) c.drop_deaths_of.ensures.items;
 }

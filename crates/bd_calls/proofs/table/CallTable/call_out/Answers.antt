@@ -1,0 +1,37 @@
+use Rattle.std.proofs.Common.{◌∙◌, sym, ap, subst, ◌++◌, ◌∷◌, [], Some, List, Option, ℕ}
+use Rattle.std.specs.Prelude.{find, reverse, option_map}
+use Rattle.bd_space.specs.declared.space.Frame.{Frame}
+use Rattle.bd_space.specs.declared.space.Server.TheVariants.{Pending}
+use Rattle.bd_space.specs.declared.space.WorkKind.TheVariants.{Call}
+use Rattle.bd_space.specs.Frames.{innermost, innermost_in, goes_to, list_of_caller, waits_in, ancestry, made_of}
+use Rattle.bd_space.specs.Todo.{owe, with_work}
+use Rattle.bd_space.specs.Transactions.{call_out}
+use Rattle.bd_links.specs.Stands.{WorksAre}
+use Rattle.bd_calls.proofs.table.CallTable.call_out.Goals as goal
+
+-- a call's frame that nobody has read
+abbrev new_frame : ℕ → ℕ → Option ℕ → Frame
+new_frame made seat parent = record { made = made; caller = Some seat; server = Pending; parent = parent }
+
+pub returns-clause-stands : goal.returns-clause-stands
+unfolding call_out owe goes_to innermost
+returns-clause-stands c = λ s h at.
+    let seat = c.args.seat in
+    let p = c.args.process in
+    let from = option_map made_of (innermost_in s.frames seat) in
+    let parent = c.innermost_made-parent.ensures ∙ ap (λ fs. option_map made_of (innermost_in fs seat)) (c.deref.ensures.value ∙ h.frames_are) in
+    let list = c.list_from-list.ensures
+    ∙ ap (λ ts. list_of_caller p (find (waits_in ts p) (ancestry c.innermost_made-parent.result (reverse c.deref-3.result.now)))) (c.deref-2.ensures.value ∙ h.threads_are)
+    ∙ ap (λ fs. list_of_caller p (find (waits_in s.threads p) (ancestry c.innermost_made-parent.result (reverse fs)))) (c.deref-3.ensures.value ∙ h.frames_are)
+    ∙ ap (λ f. list_of_caller p (find (waits_in s.threads p) (ancestry f (reverse s.frames)))) parent
+    in
+    record {
+      threads_are = h.threads_are;
+      frames_are = c.push_frame.ensures.frames
+          ∙ ap (λ fs. fs ++ new_frame c.args.place seat c.innermost_made-parent.result ∷ []) h.frames_are
+          ∙ ap (λ n. s.frames ++ new_frame n seat c.innermost_made-parent.result ∷ []) (sym at)
+          ∙ ap (λ f. s.frames ++ new_frame s.steps seat f ∷ []) parent;
+      todo_are = subst (λ n. WorksAre c.push.new.self (with_work n s.todo (goes_to s seat p) (Call n))) (sym at)
+          (subst (λ l. WorksAre c.push.new.self (with_work c.args.place s.todo l (Call c.args.place))) list (c.push.ensures.stands s.todo h.todo_are));
+      turns_are = h.turns_are;
+    }

@@ -1,0 +1,10 @@
+use Rattle.std.proofs.Common.{sym, subst}
+use Rattle.bd_space.specs.Todo.{owe, with_work}
+use Rattle.bd_links.specs.Stands.{WorksAre}
+use Rattle.bd_calls.proofs.Works.{works-stand}
+use Rattle.bd_calls.proofs.table.CallTable.owe.Goals as goal
+
+pub returns-clause-stands : goal.returns-clause-stands
+unfolding owe
+returns-clause-stands c = λ s h at. works-stand _ _ s _ h
+    (subst (λ n. WorksAre c.push.new.self (with_work n s.todo c.args.list c.args.kind)) (sym at) (c.push.ensures.stands s.todo h.todo_are))

@@ -1,0 +1,11 @@
+use Rattle.std.proofs.Common.{sym, subst}
+use Rattle.bd_space.specs.declared.space.TodoList.TheVariants.{OfThread}
+use Rattle.bd_space.specs.Todo.{owe, with_work}
+use Rattle.bd_links.specs.Stands.{WorksAre}
+use Rattle.bd_calls.proofs.Works.{works-stand}
+use Rattle.bd_calls.proofs.table.CallTable.tell_caller.Goals as goal
+
+pub returns-in-Some-clause-stands : goal.returns-in-Some-clause-stands
+unfolding owe
+returns-in-Some-clause-stands c = λ s h at. rw c.in-Some.is (works-stand _ _ s _ h
+    (subst (λ n. WorksAre c.push.new.self (with_work n s.todo (OfThread c.in-Some.seat) c.args.kind)) (sym at) (c.push.ensures.stands s.todo h.todo_are)))

@@ -1,0 +1,113 @@
+-- What a step takes in is new, by what holds between two steps.
+use Rattle.std.proofs.Common.{◌≡◌, ◌==◌, ◌||◌, ℕ, Bool, true, false, List, [], ◌∷◌, ◌++◌, inl, inr, append-nil, append_assoc, length, find, Option, Some, None, Ok, refl, ap, sym, subst, arith}
+use Rattle.std.specs.Option.{option_to_list, is_some}
+use Rattle.std.proofs.lemmas.Bool.{eqb-true}
+use Rattle.bd_uapi.specs.declared.command.TransactionData.{TransactionData}
+use Rattle.bd_uapi.specs.declared.object.FlatObject.{FlatObject}
+use Rattle.bd_uapi.specs.declared.fault.Note.TheVariants.{NoSuchNumber, AlreadyAsked}
+use Rattle.bd_space.specs.declared.step.ObjectId.{ObjectId}
+use Rattle.bd_space.specs.declared.step.Parcel.{Parcel}
+use Rattle.bd_space.specs.declared.space.Object.{Object}
+use Rattle.bd_space.specs.declared.space.Item.{Item}
+use Rattle.bd_space.specs.declared.space.Resolved.{Resolved}
+use Rattle.bd_space.specs.Words.{same, found_or, unless}
+use Rattle.bd_space.specs.Space.{Space}
+use Rattle.bd_space.specs.References.{object_in, own_in}
+use Rattle.bd_space.specs.Names.{named}
+use Rattle.bd_space.specs.Deaths.{is_notification, uncleared_in, request_check, request_note}
+use Rattle.bd_space.specs.Parcels.{Sending, new_object, resolve, sending_of}
+use Rattle.bd_space.specs.Steps.{is_manager_busy}
+use Rattle.bd_laws.specs.Lists.{In}
+use Rattle.bd_laws.specs.Items.{IsQueued}
+use Rattle.bd_laws.specs.Tidy.{IsTidy}
+use Rattle.bd_laws.proofs.Lists.{in-append}
+use Rattle.bd_laws.proofs.Tests.{same-eq, and_then-ok, unless-ok, when-none}
+use Rattle.bd_laws.proofs.Fewer.{to-false}
+use Rattle.bd_laws.proofs.Sending.{find-none}
+use Rattle.bd_laws.proofs.Sendings.{Made, none-made, resolves, resolved-by, sending-keeps}
+use Rattle.bd_nodes.specs.New.{IsNewIn, AreNewIn}
+use Rattle.bd_objects.specs.New.{IsNewManager, IsNewDeath}
+
+is-none : {A : Type 0} (o : Option A) → is_some o ≡ false → o ≡ None
+is-none None h = refl
+is-none (Some x) h = absurd (cc)
+
+-- ---- objects
+
+-- no object has an identity that each differs from
+object-none : (objects : List Object) (o : ObjectId) → ((x : Object) → In x objects → x.id ≡ o → ⊥) → object_in objects o ≡ None
+object-none objects o h = find-none (λ (x : Object). same x.id o) objects (λ x l. to-false (same x.id o) (λ e. h x l (same-eq x.id o e)))
+
+-- objects are of earlier steps
+earlier : (s : Space) (i : ℕ) → IsTidy s → (x : Object) → In x s.objects → x.id ≡ (let o : ObjectId = record { place = s.steps; index = i } in o) → ⊥
+earlier s i tidy x l e =
+    let lt = tidy.before.objects.kept.below x l in
+    let at : x.id.place ≡ s.steps = ap (λ (o : ObjectId). o.place) e in
+    omega arith
+
+are-new-push : (objects made : List Object) (o : Object) → AreNewIn objects made → IsNewIn (objects ++ made) o → AreNewIn objects (made ++ o ∷ [])
+are-new-push objects [] o h k = (subst (λ xs. IsNewIn xs o) (append-nil objects) k, tt)
+are-new-push objects (x ∷ xs) o h k =
+    (h.0, are-new-push (objects ++ x ∷ []) xs o h.1 (subst (λ ys. IsNewIn ys o) (sym (append_assoc objects (x ∷ []) xs)) k))
+
+module _ (s : Space) (p : ℕ) (tidy : IsTidy s) where
+  -- what the sending of p made so far is new, and numbered
+  record MadeNew (made : List Object) (items : List Item) : Type 0 where
+    pub makes : Made s p made
+    pub new : AreNewIn s.objects made
+
+  new-object : (made : List Object) (x : FlatObject) → Made s p made → own_in (s.objects ++ made) p x.binder ≡ None → IsNewIn (s.objects ++ made) (new_object s.steps p made x)
+  new-object made x h none =
+      let o = new_object s.steps p made x in (
+        object-none (s.objects ++ made) o.id (λ y l e. elim (in-append y s.objects made l) [
+          | inl i ↦ earlier s (length made) tidy y i e
+          | inr i ↦ (let lt = h.index y i in let at : y.id.index ≡ length made = ap (λ (o : ObjectId). o.index) e in omega arith)
+        ]),
+        none,
+      )
+
+  made-more : (made : List Object) (items : List Item) (i : Item) (r : Resolved) → i.object ≡ r.object → resolve s p made i.flat ≡ Ok r → MadeNew made items
+      → MadeNew (made ++ option_to_list r.new) (items ++ i ∷ [])
+  made-more made items i r same_object e h =
+      let still = subst (AreNewIn s.objects) (sym (append-nil made)) h.new in
+      record {
+        makes = (resolves s p made i.flat r h.makes e).makes;
+        new = resolved-by s p made i.flat (λ own q. AreNewIn s.objects (made ++ option_to_list q.new))
+            (λ none. are-new-push s.objects made _ h.new (new-object made i.flat h.makes none)) (λ o found. still) (λ o n. still) r e;
+      }
+
+  -- what a parcel makes is new
+  pub sending-new : (d : TransactionData) (parcel : Option Parcel) (v : Sending) → sending_of s p d parcel ≡ Ok v → AreNewIn s.objects v.made
+  sending-new d parcel v h = (sending-keeps s p MadeNew (record { makes = none-made s p; new = tt }) made-more d parcel v h).new
+
+-- ---- the context manager
+
+busy-parts : (a b : Bool) → (a || b) ≡ false → b ≡ false
+busy-parts true b h = absurd (cc)
+busy-parts false b h = h
+
+pub new-manager : (s : Space) (place p : ℕ) → s.steps ≡ place → IsTidy s → is_manager_busy s p ≡ false → IsNewManager place p s
+new-manager s place p at tidy idle = record {
+  at = at;
+  id = subst (λ n. object_in s.objects (record { place = n; index = 0 }) ≡ None) at (object-none s.objects (record { place = s.steps; index = 0 }) (earlier s 0 tidy));
+  ptr = is-none (own_in s.objects p 0) (busy-parts (is_some s.manager) (is_some (own_in s.objects p 0)) idle);
+}
+
+-- ---- death notifications
+
+-- notifications are of earlier steps
+unnotified : (s : Space) (place : ℕ) → s.steps ≡ place → IsTidy s → find (is_notification place) s.deaths ≡ None
+unfolding IsQueued
+unnotified s place at tidy =
+    find-none (is_notification place) s.deaths (λ x l. to-false (x.made == place) (λ e. let lt = tidy.queued.fresh x l in let is = eqb-true x.made place e in omega arith))
+
+pub new-death : (s : Space) (place p n : ℕ) (o : ObjectId) → s.steps ≡ place → IsTidy s → request_check s p n ≡ Ok o → IsNewDeath place p o s
+unfolding request_check
+new-death s place p n o at tidy check =
+    let c = and_then-ok (found_or (named s p n) NoSuchNumber) (λ (o : ObjectId). unless (request_note s p o) o) o check in
+    let k = unless-ok (request_note s p c.0) c.0 o c.2 in
+    record {
+      at = at;
+      made = unnotified s place at tidy;
+      asked = subst (λ i. uncleared_in s.deaths p i ≡ None) k.1 (is-none (uncleared_in s.deaths p c.0) (when-none (is_some (uncleared_in s.deaths p c.0)) AlreadyAsked k.0));
+    }

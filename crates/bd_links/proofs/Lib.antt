@@ -1,0 +1,14 @@
+pub mod Fits
+pub mod Plain
+pub mod RingLemmas
+pub mod Moves
+pub mod QueueLemmas
+pub mod Growing
+pub mod Steps
+pub mod Walking
+pub mod Sweeping
+pub mod Counting
+pub mod Dating
+pub mod AnyNode
+pub mod WorksStand
+pub mod Fronts

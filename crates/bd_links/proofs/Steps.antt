@@ -1,0 +1,135 @@
+-- The steps of the code, over queues.
+use Rattle.std.proofs.Common.{◌≡◌, ◌≢◌, ◌⊎◌, inl, inr, ℕ, ◌+◌, ◌-◌, ◌≤◌, List, [], ◌∷◌, ◌++◌, filter, length, ◌==◌, true, false, not, eq-eqb, Some, None, get_or, set, refl, sym, ap, ◌∙◌, arith}
+use Rattle.bd_space.specs.declared.space.Work.{Work}
+use Rattle.bd_space.specs.declared.space.TodoList.{TodoList}
+use Rattle.bd_space.specs.Words.{without_first}
+use Rattle.bd_space.specs.Todo.{is_on}
+use Rattle.bd_links.specs.declared.queues.Queues.{Queues}
+use Rattle.bd_links.specs.declared.queues.Listed.{Listed}
+use Rattle.bd_links.specs.declared.links.Node.{Node}
+use Rattle.std.proofs.lemmas.List.{length-map}
+use Rattle.bd_links.specs.Rings.{without}
+use Rattle.bd_links.specs.Nodes.{nexts, prevs, rows, works}
+use Rattle.bd_links.specs.Queues.{head_in}
+use Rattle.bd_links.specs.Moved.{cut_next, cut_prev, moved_next, moved_prev, moved_order}
+use Rattle.bd_links.specs.QueuesStand.{Empty, Shows, Stands}
+use Rattle.bd_links.proofs.QueueLemmas.{push_shows, pop_shows, pop_nothing, unlisted, without_first-none}
+use Rattle.bd_links.proofs.Growing.{begun, grown, head_listed, zero_added}
+
+-- the node x is moved to the end of the ring of s
+pub record Moved (old new : List Node) (x s : ℕ) : Type 0 where
+  pub nexts_are : nexts new ≡ moved_next (nexts old) (prevs old) x s
+  pub prevs_are : prevs new ≡ moved_prev (nexts old) (prevs old) x s
+  pub rows_are : rows new ≡ set (rows old) x s
+
+pub push_stands : (t u : Queues) (todo : List Work) (x s : ℕ) (w : Work) → Stands t todo → 1 ≤ t.free → x ≡ get_or (nexts t.nodes.items) 0 0 → head_in t.lists.items w.list ≡ Some s
+    → Moved t.nodes.items u.nodes.items x s → works u.nodes.items ≡ set (works t.nodes.items) x w → u.lists.items ≡ t.lists.items → u.free ≡ t.free - 1
+    → Stands u (todo ++ w ∷ [])
+push_stands t u todo x s w h one is found m ws ls fr = record { either = of h.either }
+  where
+    of : Empty t todo ⊎ ((order : List ℕ) × Shows t todo order) → Empty u (todo ++ w ∷ []) ⊎ ((order : List ℕ) × Shows u (todo ++ w ∷ []) order)
+    of (inl e) = let free = e.none_free in absurd (omega arith)
+    of (inr k) = inr (
+      moved_order x k.0,
+      rw (ls, fr) (push_shows (nexts t.nodes.items) (prevs t.nodes.items) (rows t.nodes.items) (works t.nodes.items) t.lists.items t.free todo k.0 k.1 one x s w is found
+          (nexts u.nodes.items) (prevs u.nodes.items) (rows u.nodes.items) (works u.nodes.items) m.nexts_are m.prevs_are m.rows_are ws),
+    )
+
+pub pop_stands : (t u : Queues) (todo : List Work) (x s : ℕ) (l : TodoList) → Stands t todo → x ≡ get_or (nexts t.nodes.items) s 0 → head_in t.lists.items l ≡ Some s → x ≢ s
+    → Moved t.nodes.items u.nodes.items x 0 → works u.nodes.items ≡ works t.nodes.items → u.lists.items ≡ t.lists.items → u.free ≤ t.free + 1
+    → Stands u (without_first (is_on l) todo)
+pop_stands t u todo x s l h is found far m ws ls fr = record { either = of h.either }
+  where
+    of : Empty t todo ⊎ ((order : List ℕ) × Shows t todo order) → Empty u (without_first (is_on l) todo) ⊎ ((order : List ℕ) × Shows u (without_first (is_on l) todo) order)
+    of (inl e) = absurd (clash (sym (ap (λ ls. head_in ls l) e.no_lists) ∙ found))
+      where
+        clash : None ≡ Some s → ⊥
+        clash d = cc
+    of (inr k) = inr (
+      moved_order x k.0,
+      rw ls (pop_shows (nexts t.nodes.items) (prevs t.nodes.items) (rows t.nodes.items) (works t.nodes.items) t.lists.items t.free todo k.0 k.1 x s l is found far
+          (nexts u.nodes.items) (prevs u.nodes.items) (rows u.nodes.items) (works u.nodes.items) u.free m.nexts_are m.prevs_are m.rows_are ws fr),
+    )
+
+-- nothing is on the list
+pub pop_none : (t : Queues) (todo : List Work) (s : ℕ) (l : TodoList) → Stands t todo → get_or (nexts t.nodes.items) s 0 ≡ s → head_in t.lists.items l ≡ Some s → without_first (is_on l) todo ≡ todo
+pop_none t todo s l h is found = of h.either
+  where
+    of : Empty t todo ⊎ ((order : List ℕ) × Shows t todo order) → without_first (is_on l) todo ≡ todo
+    of (inl e) = without_first-none (is_on l) todo (ap (filter (is_on l)) e.none)
+    of (inr k) = pop_nothing (nexts t.nodes.items) (prevs t.nodes.items) (rows t.nodes.items) (works t.nodes.items) t.lists.items t.free todo k.0 k.1 s l is found
+
+-- no head stands for the list
+pub pop_unlisted : (t : Queues) (todo : List Work) (l : TodoList) → Stands t todo → head_in t.lists.items l ≡ None → without_first (is_on l) todo ≡ todo
+pop_unlisted t todo l h missing = of h.either
+  where
+    of : Empty t todo ⊎ ((order : List ℕ) × Shows t todo order) → without_first (is_on l) todo ≡ todo
+    of (inl e) = without_first-none (is_on l) todo (ap (filter (is_on l)) e.none)
+    of (inr k) = without_first-none (is_on l) todo (unlisted _ _ _ _ _ k.0 todo k.1.queued l missing)
+
+-- ---- growing
+
+pub begin_stands : (t u : Queues) (todo : List Work) (n : Node) → Stands t todo → t.nodes.items ≡ [] → n.prev ≡ 0 → n.next ≡ 0 → n.row ≡ 0
+    → u.nodes.items ≡ n ∷ [] → u.lists.items ≡ t.lists.items → u.free ≡ t.free → Stands u todo
+begin_stands t u todo n h none p x r ns ls fr = record { either = of h.either }
+  where
+    of : Empty t todo ⊎ ((order : List ℕ) × Shows t todo order) → Empty u todo ⊎ ((order : List ℕ) × Shows u todo order)
+    of (inl e) = inr (
+      [],
+      rw (ns, ls, e.no_lists, p, x, r) (record {
+        queued = record { rings = begun; works = refl; listed = λ y k u. elim k [ ]; todo_are = e.none };
+        free = let f = e.none_free in omega (arith, fr, f);
+        covered = λ y u. absurd (unused y u);
+      }),
+    )
+      where
+        unused : (y : ℕ) → not (get_or (0 ∷ []) y 0 == 0) ≡ true → ⊥
+        unused y u = let none : not (get_or (0 ∷ []) y 0 == 0) ≡ false = ap (λ r. not (r == 0)) (zero_added [] y) ∙ ap not (eq-eqb 0 0 refl) in cc
+    of (inr k) = let low = k.1.queued.rings.within.0 in let l = ap length none in let m = length-map t.nodes.items (λ (n : Node). n.next) in absurd (omega (arith, low, l, m))
+
+pub grow_stands : (t u : Queues) (todo : List Work) (x : ℕ) (n : Node) → Stands t todo → 1 ≤ length t.nodes.items → x ≡ length t.nodes.items → n.prev ≡ 0 → n.next ≡ 0 → n.row ≡ 0
+    → nexts u.nodes.items ≡ set (set (nexts t.nodes.items ++ n.next ∷ []) (get_or (prevs t.nodes.items ++ n.prev ∷ []) 0 0) x) x 0
+    → prevs u.nodes.items ≡ set (set (prevs t.nodes.items ++ n.prev ∷ []) x (get_or (prevs t.nodes.items ++ n.prev ∷ []) 0 0)) 0 x
+    → rows u.nodes.items ≡ set (rows t.nodes.items ++ n.row ∷ []) x 0 → works u.nodes.items ≡ works t.nodes.items ++ n.work ∷ []
+    → u.lists.items ≡ t.lists.items → u.free ≡ t.free + 1 → Stands u todo
+grow_stands t u todo x n h some at np nx nr nn pp rr ww ls fr = record { either = of h.either }
+  where
+    of : Empty t todo ⊎ ((order : List ℕ) × Shows t todo order) → Empty u todo ⊎ ((order : List ℕ) × Shows u todo order)
+    of (inl e) = let l = ap length e.no_nodes in absurd (omega (arith, l))
+    of (inr k) = inr (
+      k.0 ++ x ∷ [],
+      rw (nn, pp, rr, ww, ls, fr, np, nx, nr)
+          (grown (nexts t.nodes.items) (prevs t.nodes.items) (rows t.nodes.items) (works t.nodes.items) t.lists.items t.free todo k.0 k.1 x n.work (at ∙ sym (length-map t.nodes.items (λ (n : Node). n.next)))),
+    )
+
+-- ---- a list gets a head
+
+pub head_stands : (t u : Queues) (todo : List Work) (x : ℕ) (e : Listed) → Stands t todo → 1 ≤ t.free → x ≡ get_or (nexts t.nodes.items) 0 0 → e.head ≡ x → head_in t.lists.items e.list ≡ None
+    → nexts u.nodes.items ≡ set (cut_next (nexts t.nodes.items) (prevs t.nodes.items) x) x x
+    → prevs u.nodes.items ≡ set (cut_prev (nexts t.nodes.items) (prevs t.nodes.items) x) x x
+    → rows u.nodes.items ≡ rows t.nodes.items → works u.nodes.items ≡ works t.nodes.items
+    → u.lists.items ≡ t.lists.items ++ e ∷ [] → u.free ≡ t.free - 1 → Stands u todo
+head_stands t u todo x e h some is head missing nn pp rr ww ls fr = record { either = of h.either }
+  where
+    of : Empty t todo ⊎ ((order : List ℕ) × Shows t todo order) → Empty u todo ⊎ ((order : List ℕ) × Shows u todo order)
+    of (inl k) = let none = k.none_free in absurd (omega arith)
+    of (inr k) = inr (
+      without x k.0,
+      rw (nn, pp, rr, ww, ls, fr)
+          (head_listed (nexts t.nodes.items) (prevs t.nodes.items) (rows t.nodes.items) (works t.nodes.items) t.lists.items t.free todo k.0 k.1 x e is head missing some),
+    )
+
+pub new_stands : (t : Queues) → t.nodes.items ≡ [] → t.lists.items ≡ [] → t.free ≡ 0 → Stands t []
+new_stands t ns ls fr = record { either = inl (record { no_nodes = ns; no_lists = ls; none_free = fr; none = refl }) }
+
+pub no_length : {A : Type 0} (xs : List A) → length xs ≡ 0 → xs ≡ []
+no_length [] e = refl
+no_length (x ∷ xs) e = absurd (omega arith)
+
+-- room alone changes nothing
+pub same_stands : (t u : Queues) (todo : List Work) → Stands t todo → u.nodes.items ≡ t.nodes.items → u.lists.items ≡ t.lists.items → u.free ≡ t.free → Stands u todo
+same_stands t u todo h ns ls fr = record { either = of h.either }
+  where
+    of : Empty t todo ⊎ ((order : List ℕ) × Shows t todo order) → Empty u todo ⊎ ((order : List ℕ) × Shows u todo order)
+    of (inl e) = inl (record { no_nodes = ns ∙ e.no_nodes; no_lists = ls ∙ e.no_lists; none_free = fr ∙ e.none_free; none = e.none })
+    of (inr k) = inr (k.0, rw (ns, ls, fr) (k.1))

@@ -1,0 +1,12 @@
+pub mod Stands
+pub mod TodoList
+pub mod Rings
+pub mod Moved
+pub mod Nodes
+pub mod Queues
+pub mod Shown
+pub mod QueuesStand
+pub mod Walk
+pub mod Sweep
+pub mod Dated
+pub mod Front

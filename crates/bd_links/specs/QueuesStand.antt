@@ -1,0 +1,23 @@
+-- What the queues stand for: the work items of the space, in its order.
+use Rattle.std.specs.Prelude.{◌≡◌, ◌⊎◌, ℕ, ◌/◌, ◌-◌, min, List, [], vec_len, vec_capacity}
+use Rattle.bd_space.specs.declared.space.Work.{Work}
+use Rattle.bd_links.specs.declared.queues.Queues.{Queues}
+use Rattle.bd_links.specs.Nodes.{nexts, prevs, rows, works}
+use Rattle.bd_links.specs.Shown.{ShowsAt}
+
+-- no node was made yet
+pub record Empty (t : Queues) (todo : List Work) : Type 0 where
+  pub no_nodes : t.nodes.items ≡ []
+  pub no_lists : t.lists.items ≡ []
+  pub none_free : t.free ≡ 0
+  pub none : todo ≡ []
+
+abbrev pub Shows : Queues → List Work → List ℕ → Type 0
+Shows t todo order = ShowsAt (nexts t.nodes.items) (prevs t.nodes.items) (rows t.nodes.items) (works t.nodes.items) t.lists.items t.free todo order
+
+pub record Stands (t : Queues) (todo : List Work) : Type 0 where
+  pub either : Empty t todo ⊎ ((order : List ℕ) × Shows t todo order)
+
+-- so many work items more take no memory: one may need two nodes, the second for the head of its list
+abbrev pub queue_room : Queues → ℕ
+queue_room t = min (t.free / 2) (vec_capacity t.lists - vec_len t.lists)

@@ -1,0 +1,22 @@
+-- What a table of work items stands for: the work items of the space, in its order.
+use Rattle.std.specs.Prelude.{ℕ, ◌≡◌, List}
+use Rattle.bd_space.specs.declared.space.Work.{Work}
+use Rattle.bd_links.specs.declared.table.WorkTable.{WorkTable}
+use Rattle.bd_links.specs.Dated.{Dated}
+use Rattle.bd_links.specs.QueuesStand as queues
+
+pub record WorksAre (t : WorkTable) (l : List Work) : Type 0 where
+  pub queues_stand : queues.Stands t.queues l
+  pub dated : Dated t.latest t.count l
+
+-- how many items more it takes without memory
+unfoldable pub work_room : WorkTable → ℕ
+work_room t = queues.queue_room t.queues
+
+-- of every list that the table stands for x is what f says
+abbrev pub Tells : {A : Type 0} → WorkTable → A → (List Work → A) → Type 0
+Tells t x f = (l : List Work) → WorksAre t l → x ≡ f l
+
+-- every list that the table stood for was changed by f
+abbrev pub Makes : WorkTable → WorkTable → (List Work → List Work) → Type 0
+Makes t u f = (l : List Work) → WorksAre t l → WorksAre u (f l)

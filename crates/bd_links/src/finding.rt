@@ -1,0 +1,167 @@
+//! What is found among the work items: on a list by its ring, and on any list by a look at all nodes.
+
+ghost use Rattle.std.specs.Prelude.{◌≡◌, ◌==◌, ◌&&◌, not, true, List, Some};
+ghost use Rattle.std.specs.List.{list_any, slice_get};
+ghost use Rattle.bd_space.specs.declared.space.Work.{Work};
+ghost use Rattle.bd_space.specs.Words as words;
+ghost use Rattle.bd_space.specs.Todo as spec;
+ghost use Rattle.bd_space.specs.ThreadExits as exits;
+ghost use Rattle.bd_space.specs.Notices as notices;
+ghost use Rattle.bd_links.specs.TodoList as replies;
+ghost use Rattle.bd_links.specs.Front as front;
+ghost use Rattle.bd_links.specs.QueuesStand.{Stands};
+
+use crate::links::Node;
+use crate::queues::Queues;
+use crate::unread::Works;
+use crate::work::{hands_over, is_call, is_notice, keeps_from_calling, reply_of};
+use bd_space::{Identity, ObjectId, TodoList, Work};
+
+fn any_keeps_from_calling(works: Works<'_>) -> bool
+    ensures { result ≡ list_any (λ w. spec.keeps_from_calling w.kind) works.entry }
+{
+    for work in works {
+        if keeps_from_calling(work.kind) {
+            return true;
+        }
+    }
+    false
+}
+
+fn any_is_call(works: Works<'_>, buffer: u32) -> bool
+    ensures { result ≡ list_any (λ w. spec.is_call buffer w.kind) works.entry }
+{
+    for work in works {
+        if is_call(buffer, work.kind) {
+            return true;
+        }
+    }
+    false
+}
+
+fn any_hands_over(works: Works<'_>, buffer: u32) -> bool
+    ensures { result ≡ list_any (λ w. words.is_some_and (spec.hands_out w.kind) (λ m. m == buffer)) works.entry }
+{
+    for work in works {
+        if hands_over(&work, buffer) {
+            return true;
+        }
+    }
+    false
+}
+
+fn first_reply_among(works: Works<'_>) -> Option<u32>
+    ensures { result ≡ replies.first_reply_in works.entry }
+{
+    for work in works {
+        let reply = reply_of(work.kind);
+        if reply.is_some() {
+            return reply;
+        }
+    }
+    None
+}
+
+// A node holds the notice of the object.
+fn any_is_notice(nodes: &[Node], object: ObjectId) -> bool
+    ensures { result ≡ list_any (λ n. not (n.row == 0) && spec.is_notice object n.work.kind) nodes.now }
+{
+    nodes
+        .iter()
+        .any(|n| n.row != 0 && is_notice(object, n.work.kind))
+}
+
+// A node holds the call of the buffer.
+fn any_node_is_call(nodes: &[Node], buffer: u32) -> bool
+    ensures { result ≡ list_any (λ n. not (n.row == 0) && spec.is_call buffer n.work.kind) nodes.now }
+{
+    nodes
+        .iter()
+        .any(|n| n.row != 0 && is_call(buffer, n.work.kind))
+}
+
+// The first is called so, and no other is.
+fn is_front(works: Works<'_>, id: Identity) -> bool
+    ensures { result ≡ front.is_front id true works.entry }
+{
+    let mut first = true;
+    for work in works {
+        if first {
+            if work.id != id {
+                return false;
+            }
+            first = false;
+        } else if work.id == id {
+            return false;
+        }
+    }
+    !first
+}
+
+impl Queues {
+    /// Whether a work item is the first on its list, and no other on it is called the same.
+    pub fn is_first(&self, item: &Work) -> bool
+        ensures { (todo : List Work) → Stands self.now todo
+            → result ≡ front.is_front item.now.id true (spec.work_on todo (Some item.now.list)) }
+    {
+        is_front(self.works_on(item.list), item.id)
+    }
+
+    /// Whether anything is on a list.
+    pub fn has_any(&self, list: TodoList) -> bool
+        ensures { (todo : List Work) → Stands self.now todo → result ≡ spec.has_work_in todo list }
+    {
+        self.work_at(list, 0).is_some()
+    }
+
+    /// Whether a call, a reply or a verdict is on a list.
+    pub fn keeps_from_calling(&self, list: TodoList) -> bool
+        ensures { (todo : List Work) → Stands self.now todo
+            → result ≡ list_any (λ w. spec.is_on list w && spec.keeps_from_calling w.kind) todo }
+    {
+        any_keeps_from_calling(self.works_on(list))
+    }
+
+    /// Whether the notice of an object is on any list.
+    pub fn has_notice(&self, object: ObjectId) -> bool
+        ensures { (todo : List Work) → Stands self.now todo → result ≡ notices.has_notice_in todo object }
+    {
+        any_is_notice(&self.nodes, object)
+    }
+
+    /// Whether the call of a buffer is on any list.
+    pub fn has_call(&self, buffer: u32) -> bool
+        ensures { (todo : List Work) → Stands self.now todo → result ≡ list_any (λ w. spec.is_call buffer w.kind) todo }
+    {
+        any_node_is_call(&self.nodes, buffer)
+    }
+
+    /// The `k`-th work item on a list, oldest first.
+    pub fn work_at(&self, list: TodoList, k: usize) -> Option<Work>
+        ensures { (todo : List Work) → Stands self.now todo → result ≡ slice_get (spec.work_on todo (Some list)) k }
+    {
+        self.works_on(list).nth(k)
+    }
+
+    /// Where the first reply on a list was made.
+    pub fn first_reply(&self, list: TodoList) -> Option<u32>
+        ensures { (todo : List Work) → Stands self.now todo
+            → result ≡ replies.first_reply_in (spec.work_on todo (Some list)) }
+    {
+        first_reply_among(self.works_on(list))
+    }
+
+    /// Whether the call made there stands unread on a list.
+    pub fn is_unread_on(&self, list: TodoList, made: u32) -> bool
+        ensures { (todo : List Work) → Stands self.now todo → result ≡ exits.is_unread_on todo list made }
+    {
+        any_is_call(self.works_on(list), made)
+    }
+
+    /// Whether an unread call or reply on the list would have handed this buffer over.
+    pub fn is_lost_with(&self, list: TodoList, buffer: u32) -> bool
+        ensures { (todo : List Work) → Stands self.now todo → result ≡ exits.is_lost_with todo list buffer }
+    {
+        any_hands_over(self.works_on(list), buffer)
+    }
+}

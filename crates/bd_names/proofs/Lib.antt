@@ -1,0 +1,10 @@
+mod Bits
+mod Freeing
+pub mod FreeNumbers
+mod Given
+pub mod Limits
+mod Lookups
+mod Marking
+mod Moved
+mod Naming
+mod Singles

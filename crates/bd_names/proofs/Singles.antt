@@ -1,0 +1,106 @@
+-- Lists of which one element at most passes a test.
+use Rattle.std.proofs.Common.{◌≡◌, ◌+◌, ◌≤◌, Bool, true, false, not, cond, List, [], ◌∷◌, ◌++◌, Option, Some, None, find, filter, refl, ap, sym, ◌∙◌, subst, append-nil, arith}
+use Rattle.std.specs.List.{count_by}
+use Rattle.std.specs.Option.{option_and_then}
+use Rattle.std.proofs.lemmas.List.Sums.{sum_by-cons, sum_by-append}
+use Rattle.std.proofs.lemmas.List.Elements.{filter-append}
+
+module _ {A : Type 0} (key : A → Bool) where
+  count-yes : (x : A) (xs : List A) → key x ≡ true → count_by key (x ∷ xs) ≡ 1 + count_by key xs
+  count-yes x xs e = sum_by-cons (λ y. cond (key y) 1 0) x xs ∙ ap (λ b. cond b 1 0 + count_by key xs) e
+
+  count-no : (x : A) (xs : List A) → key x ≡ false → count_by key (x ∷ xs) ≡ count_by key xs
+  count-no x xs e =
+      let s : count_by key (x ∷ xs) ≡ 0 + count_by key xs = sum_by-cons (λ y. cond (key y) 1 0) x xs ∙ ap (λ b. cond b 1 0 + count_by key xs) e in
+      omega arith
+
+  count-push : (xs : List A) (x : A) → count_by key (xs ++ x ∷ []) ≡ count_by key xs + count_by key (x ∷ [])
+  count-push xs x = sum_by-append (λ y. cond (key y) 1 0) xs (x ∷ [])
+
+  pub none-count : (xs : List A) → find key xs ≡ None → count_by key xs ≡ 0
+  none-count [] h = refl
+  none-count (x ∷ xs) h = at (key x) refl h (λ k. none-count xs k)
+    where
+      at : (b : Bool) → key x ≡ b → cond b (Some x) (find key xs) ≡ None → (find key xs ≡ None → count_by key xs ≡ 0) → count_by key (x ∷ xs) ≡ 0
+      at true e h rest = absurd (cc)
+      at false e h rest = count-no x xs e ∙ rest h
+
+  pub count-none : (xs : List A) → count_by key xs ≤ 0 → find key xs ≡ None
+  count-none [] h = refl
+  count-none (x ∷ xs) h = at (key x) refl (λ k. count-none xs k)
+    where
+      at : (b : Bool) → key x ≡ b → (count_by key xs ≤ 0 → find key xs ≡ None) → cond b (Some x) (find key xs) ≡ None
+      at true e rest = absurd (let c = count-yes x xs e in omega arith)
+      at false e rest = rest (let c = count-no x xs e in omega arith)
+
+  -- what is left where none passes
+  pub none-dropped : (xs : List A) → count_by key xs ≤ 0 → filter (λ x. not (key x)) xs ≡ xs
+  none-dropped [] h = refl
+  none-dropped (x ∷ xs) h = at (key x) refl (λ k. none-dropped xs k)
+    where
+      at : (b : Bool) → key x ≡ b → (count_by key xs ≤ 0 → filter (λ y. not (key y)) xs ≡ xs) → cond (not b) (x ∷ filter (λ y. not (key y)) xs) (filter (λ y. not (key y)) xs) ≡ x ∷ xs
+      at true e rest = absurd (let c = count-yes x xs e in omega arith)
+      at false e rest = ap (λ ys. x ∷ ys) (rest (let c = count-no x xs e in omega arith))
+
+  -- where the last one alone passes
+  pub last-dropped : (xs : List A) (x : A) → key x ≡ true → count_by key (xs ++ x ∷ []) ≤ 1 → filter (λ y. not (key y)) (xs ++ x ∷ []) ≡ xs
+  last-dropped xs x e h =
+      let c = count-push xs x in
+      let d = count-yes x [] e in
+      let none = none-dropped xs (omega arith) in
+      let gone : filter (λ y. not (key y)) (x ∷ []) ≡ [] = rw e refl in
+      filter-append (λ y. not (key y)) xs (x ∷ []) ∙ ap (λ ys. filter (λ y. not (key y)) xs ++ ys) gone ∙ append-nil (filter (λ y. not (key y)) xs) ∙ none
+
+  pub few-push : (xs : List A) (x : A) → count_by key xs ≤ 1 → (key x ≡ true → find key xs ≡ None) → count_by key (xs ++ x ∷ []) ≤ 1
+  few-push xs x h free = at (key x) refl
+    where
+      at : (b : Bool) → key x ≡ b → count_by key (xs ++ x ∷ []) ≤ 1
+      at true e = let c = count-push xs x in let d = count-yes x [] e in let n = none-count xs (free e) in omega arith
+      at false e = let c = count-push xs x in let d = count-no x [] e in omega arith
+
+  pub few-filter : (keep : A → Bool) (xs : List A) → count_by key (filter keep xs) ≤ count_by key xs
+  few-filter keep [] = omega arith
+  few-filter keep (x ∷ xs) = at (keep x) (key x) refl (few-filter keep xs)
+    where
+      at : (a b : Bool) → key x ≡ b → count_by key (filter keep xs) ≤ count_by key xs → count_by key (cond a (x ∷ filter keep xs) (filter keep xs)) ≤ count_by key (x ∷ xs)
+      at true true e rest = let c = count-yes x xs e in let d = count-yes x (filter keep xs) e in omega arith
+      at true false e rest = let c = count-no x xs e in let d = count-no x (filter keep xs) e in omega arith
+      at false true e rest = let c = count-yes x xs e in omega arith
+      at false false e rest = let c = count-no x xs e in omega arith
+
+  abbrev pub kept : (A → Bool) → A → Option A
+  kept keep x = cond (keep x) (Some x) None
+
+  -- what is found of what was kept
+  pub find-filter : (keep : A → Bool) (xs : List A) → count_by key xs ≤ 1 → find key (filter keep xs) ≡ option_and_then (kept keep) (find key xs)
+  find-filter keep [] h = refl
+  find-filter keep (x ∷ xs) h = at (key x) (keep x) refl refl (λ k. find-filter keep xs k)
+    where
+      at : (a b : Bool) → key x ≡ a → keep x ≡ b → (count_by key xs ≤ 1 → find key (filter keep xs) ≡ option_and_then (kept keep) (find key xs))
+          → find key (cond b (x ∷ filter keep xs) (filter keep xs)) ≡ option_and_then (kept keep) (cond a (Some x) (find key xs))
+      at true true e f rest = rw (e, f) refl
+      at true false e f rest =
+          rw f (let c = count-yes x xs e in let d = few-filter keep xs in count-none (filter keep xs) (omega arith))
+      at false true e f rest = rw e (rest (let c = count-no x xs e in omega arith))
+      at false false e f rest = rest (let c = count-no x xs e in omega arith)
+
+pub found-passes : {A : Type 0} (p : A → Bool) (xs : List A) (x : A) → find p xs ≡ Some x → p x ≡ true
+found-passes p [] x h = absurd (cc)
+found-passes p (y ∷ xs) x h = at (p y) refl h (λ k. found-passes p xs x k)
+  where
+    at : (b : Bool) → p y ≡ b → cond b (Some y) (find p xs) ≡ Some x → (find p xs ≡ Some x → p x ≡ true) → p x ≡ true
+    at true e h rest = let s : y ≡ x = cc in subst (λ z. p z ≡ true) s e
+    at false e h rest = rest h
+
+-- one that another test finds is the one
+pub only : {A : Type 0} (key other : A → Bool) (xs : List A) (x : A) → count_by key xs ≤ 1 → find other xs ≡ Some x → key x ≡ true → find key xs ≡ Some x
+only key other [] x few h t = absurd (cc)
+only key other (y ∷ xs) x few h t = at (key y) (other y) refl refl h (λ k l. only key other xs x k l t)
+  where
+    at : (a b : Bool) → key y ≡ a → other y ≡ b → cond b (Some y) (find other xs) ≡ Some x → (count_by key xs ≤ 1 → find other xs ≡ Some x → find key xs ≡ Some x)
+        → cond a (Some y) (find key xs) ≡ Some x
+    at true true e f h rest = h
+    at true false e f h rest =
+        absurd (let c = count-yes key y xs e in let none = count-none key xs (omega arith) in let some = rest (omega arith) h in let z : None ≡ Some x = sym none ∙ some in cc)
+    at false true e f h rest = let s : y ≡ x = cc in absurd (let u = sym e ∙ ap key s ∙ t in cc)
+    at false false e f h rest = rest (let c = count-no key y xs e in omega arith) h

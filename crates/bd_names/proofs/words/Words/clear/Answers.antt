@@ -1,0 +1,9 @@
+use Rattle.bd_names.specs.Bits.{word_at}
+use Rattle.bd_names.proofs.Bits.{clear-word}
+use Rattle.bd_names.proofs.words.Words.clear.Goals as goal
+
+pub returns-then-x-eq0-clause-bits : goal.returns-then-x-eq0-clause-bits
+returns-then-x-eq0-clause-bits c = clear-word (word_at c.args.self.now) (word_at c.forget.new.self) c.args.p c.args.i (rw (← c.word.ensures, c.if-x-eq0.true) c.forget.ensures.words)
+
+pub returns-else-x-eq0-clause-bits : goal.returns-else-x-eq0-clause-bits
+returns-else-x-eq0-clause-bits c = clear-word (word_at c.args.self.now) (word_at c.replace.new.self) c.args.p c.args.i (rw (← c.word.ensures) c.replace.ensures.words)

@@ -1,0 +1,18 @@
+-- What the maps of names say of a process's number, and of an object.
+use Rattle.std.specs.Prelude.{ℕ, ◌==◌, ◌&&◌, Bool, Option}
+use Rattle.std.specs.HashMap.{HashMap, get_by}
+use Rattle.bd_space.specs.declared.step.ObjectId.{ObjectId}
+use Rattle.bd_names.specs.declared.keys.NumberKey.{NumberKey}
+use Rattle.bd_names.specs.declared.keys.ObjectKey.{ObjectKey}
+
+abbrev pub is_number_key : ℕ → ℕ → NumberKey → Bool
+is_number_key p n k = (p == k.process) && (n == k.number)
+
+abbrev pub is_object_key : ℕ → ObjectId → ObjectKey → Bool
+is_object_key p o k = (p == k.process) && ((o.place == k.object.place) && (o.index == k.object.index))
+
+abbrev pub object_at : {S : Type 0} → HashMap NumberKey ObjectId S → ℕ → ℕ → Option ObjectId
+object_at objects p n = get_by (is_number_key p n) objects
+
+abbrev pub number_at : {S : Type 0} → HashMap ObjectKey ℕ S → ℕ → ObjectId → Option ℕ
+number_at numbers p o = get_by (is_object_key p o) numbers

@@ -1,0 +1,21 @@
+-- What the maps and marks of names stand for.
+use Rattle.std.specs.Prelude.{ℕ, ◌≡◌, List, false, is_some, min}
+use Rattle.std.specs.HashMap.{spare}
+use Rattle.bd_space.specs.declared.step.ObjectId.{ObjectId}
+use Rattle.bd_space.specs.declared.space.Name.{Name}
+use Rattle.bd_space.specs.Names.{named_in, number_in, has_number_past_limit}
+use Rattle.bd_names.specs.declared.names.Names.{Names}
+use Rattle.bd_names.specs.Keys.{object_at, number_at}
+use Rattle.bd_names.specs.Marked.{NumbersMarked, mark_room}
+use Rattle.bd_names.specs.Sound.{Sound}
+
+pub record Named (t : Names) (l : List Name) : Type 0 where
+  pub sound : Sound l
+  pub objects_are : (p n : ℕ) → named_in l p n ≡ object_at t.objects p n
+  pub numbers_are : (p : ℕ) (o : ObjectId) → number_in l p o ≡ number_at t.numbers p o
+  pub marks_are : NumbersMarked t.marks (λ p n. is_some (named_in l p n))
+  pub fits : has_number_past_limit l ≡ false
+
+-- how many names can come in without memory
+abbrev pub index_room : Names → ℕ
+index_room t = min (min (spare t.objects) (spare t.numbers)) (mark_room t.marks)

@@ -1,0 +1,143 @@
+//! Names, found by number and by object.
+
+ghost use Rattle.std.specs.Prelude.{◌≡◌, ◌==◌, ◌≤◌, ◌<◌, ◌+◌, ◌++◌, ◌∷◌, [], not, filter, None, List, Some, MatchOption, OnOk, OnErr};
+ghost use Rattle.bd_space.specs.declared.space.Name as declared;
+ghost use Rattle.bd_space.specs.Names as names_of;
+ghost use Rattle.bd_names.specs.Numbers as numbers;
+ghost use Rattle.bd_names.specs.Sound.{has_object};
+ghost use Rattle.bd_names.specs.Named.{Named, index_room};
+
+use crate::keys::{
+    NumberKey, ObjectKey, number_of, object_of, put_number, put_object, take_number,
+    take_numbers_of, take_object, take_objects_of,
+};
+use crate::marks::Marks;
+use bd_space::{Name, ObjectId};
+use std::alloc::{AllocError, Global};
+use std::collections::HashMap;
+
+/// The names of all processes.
+#[derive(Drop)]
+pub struct Names {
+    pub(crate) objects: HashMap<NumberKey, ObjectId>,
+    pub(crate) numbers: HashMap<ObjectKey, u32>,
+    pub(crate) marks: Marks,
+}
+
+impl Names {
+    /// No names.
+    pub fn new(alloc: Global) -> Names
+        ensures { Named result [] }
+    {
+        Names {
+            objects: HashMap::new(alloc),
+            numbers: HashMap::new(alloc),
+            marks: Marks::new(alloc),
+        }
+    }
+
+    /// Room for so many names more.
+    pub fn reserve(&mut self, more: usize) -> Result<(), AllocError>
+        ensures stands { (l : List declared.Name) → Named self.old l → Named self.new l }
+        ensures uses { index_room self.old ≤ index_room self.new }
+        ensures room { OnOk result (more ≤ index_room self.new) }
+        ensures grown { OnErr result (more ≤ index_room self.old → ⊥) }
+    {
+        self.objects.reserve(more)?;
+        self.numbers.reserve(more)?;
+        self.marks.reserve(more)
+    }
+
+    /// The object that the number names for the process.
+    pub fn named(&self, p: u32, n: u32) -> Option<ObjectId>
+        ensures { (l : List declared.Name) → Named self.now l → result ≡ names_of.named_in l p n }
+    {
+        object_of(&self.objects, p, n)
+    }
+
+    /// The process's number of the object.
+    pub fn number_of(&self, p: u32, o: ObjectId) -> Option<u32>
+        ensures { (l : List declared.Name) → Named self.now l → result ≡ names_of.number_in l p o }
+    {
+        number_of(&self.numbers, p, o)
+    }
+
+    // The least number from 1 on that the process doesn't use, if it is within the limit.
+    fn free_from_one(&self, p: u32) -> Option<u32>
+        ensures { (l : List declared.Name) → Named self.now l → let free = numbers.free_number_from l p 1 in
+            MatchOption result (4294967294 < free) (λ n. (n ≡ free) × (n ≤ 4294967294)) }
+    {
+        match self.marks.least(p) {
+            Some(i) => Some(i + 1),
+            None => None,
+        }
+    }
+
+    // The same from 0 on.
+    fn free_from_zero(&self, p: u32) -> Option<u32>
+        ensures { (l : List declared.Name) → Named self.now l → let free = numbers.free_number_from l p 0 in
+            MatchOption result (4294967294 < free) (λ n. (n ≡ free) × (n ≤ 4294967294)) }
+    {
+        match self.named(p, 0) {
+            Some(_) => self.free_from_one(p),
+            None => Some(0),
+        }
+    }
+
+    /// The number for a new name of the process, if it is within the limit.
+    pub fn free_number(&self, from_zero: bool, p: u32) -> Option<u32>
+        ensures { (l : List declared.Name) → Named self.now l → let free = numbers.new_number from_zero p l in
+            MatchOption result (4294967294 < free) (λ n. (n ≡ free) × (n ≤ 4294967294)) }
+    {
+        if from_zero {
+            self.free_from_zero(p)
+        } else {
+            self.free_from_one(p)
+        }
+    }
+
+    /// A name comes in.
+    pub fn enter(&mut self, m: Name)
+        requires { 1 ≤ index_room self.old }
+        ensures stands { (l : List declared.Name) → Named self.old l → m.number ≤ 4294967294
+            → names_of.named_in l m.process m.number ≡ None → names_of.number_in l m.process m.object ≡ None
+            → Named self.new (l ++ m ∷ []) }
+        ensures uses { index_room self.old ≤ index_room self.new + 1 }
+    {
+        put_object(&mut self.objects, m.process, m.number, m.object);
+        put_number(&mut self.numbers, m.process, m.object, m.number);
+        self.marks.mark_number(m.process, m.number);
+    }
+
+    // The process's name of the object goes, which has this number.
+    fn remove(&mut self, p: u32, o: ObjectId, n: u32)
+        ensures stands { (l : List declared.Name) → Named self.old l → names_of.number_in l p o ≡ Some n
+            → Named self.new (filter (λ m. not (has_object p o m)) l) }
+        ensures uses { index_room self.old ≤ index_room self.new }
+    {
+        take_object(&mut self.objects, p, n);
+        take_number(&mut self.numbers, p, o);
+        self.marks.unmark_number(p, n);
+    }
+
+    /// The process's name of the object goes, if it has one.
+    pub fn forget(&mut self, p: u32, o: ObjectId)
+        ensures stands { (l : List declared.Name) → Named self.old l → Named self.new (filter (λ m. not (has_object p o m)) l) }
+        ensures uses { index_room self.old ≤ index_room self.new }
+    {
+        match self.number_of(p, o) {
+            Some(n) => self.remove(p, o, n),
+            None => {}
+        }
+    }
+
+    /// All names of the process go.
+    pub fn forget_process(&mut self, p: u32)
+        ensures stands { (l : List declared.Name) → Named self.old l → Named self.new (filter (λ m. not (m.process == p)) l) }
+        ensures uses { index_room self.old ≤ index_room self.new }
+    {
+        take_objects_of(&mut self.objects, p);
+        take_numbers_of(&mut self.numbers, p);
+        self.marks.unmark_process(p);
+    }
+}

@@ -1,0 +1,149 @@
+//! Sets of numbers, one a process, as words of 64 bits.
+
+ghost use Rattle.std.specs.Prelude.{ℕ, ◌≡◌, ◌≢◌, ◌==◌, ◌≤◌, ◌<◌, ◌+◌, ◌-◌, ◌*◌, ◌/◌, ◌^◌, ◌&&◌, false, MatchOption, if◌then◌else◌, OnOk, OnErr};
+ghost use Rattle.std.specs.HashMap.{spare};
+ghost use Rattle.bd_names.specs.Bits.{word_at, bit_of};
+
+use std::alloc::{AllocError, Global};
+use std::collections::HashMap;
+
+/// One of a process's words.
+#[derive(Clone, Copy, PartialEq, Eq, Hash)]
+pub struct WordKey {
+    pub process: u32,
+    pub index: u32,
+}
+
+/// The words that aren't 0.
+#[derive(Drop)]
+pub struct Words {
+    pub(crate) words: HashMap<WordKey, u64>,
+}
+
+impl Words {
+    /// Empty sets.
+    pub fn new(alloc: Global) -> Words
+        ensures { (p w : ℕ) → word_at result p w ≡ 0 }
+    {
+        Words {
+            words: HashMap::new(alloc),
+        }
+    }
+
+    /// Room for so many words more.
+    pub fn reserve(&mut self, more: usize) -> Result<(), AllocError>
+        ensures same { (p w : ℕ) → word_at self.new p w ≡ word_at self.old p w }
+        ensures spare { spare self.old.words ≤ spare self.new.words }
+        ensures room { OnOk result (more ≤ spare self.new.words) }
+        ensures grown { OnErr result (more ≤ spare self.old.words → ⊥) }
+    {
+        self.words.reserve(more)
+    }
+
+    /// A word of the process.
+    pub fn word(&self, p: u32, w: u32) -> u64
+        ensures { result ≡ word_at self.now p w }
+    {
+        match self.words.get(&WordKey {
+            process: p,
+            index: w,
+        }) {
+            Some(x) => *x,
+            None => 0,
+        }
+    }
+
+    // A word is set, which may be a new one.
+    fn raise(&mut self, p: u32, w: u32, x: u64)
+        requires { 0 < spare self.old.words }
+        ensures words { (q v : ℕ) → word_at self.new q v ≡ (if (p == q) && (w == v) then x else word_at self.old q v) }
+        ensures spare { spare self.old.words ≤ spare self.new.words + 1 }
+    {
+        match self.words.insert(
+            WordKey {
+                process: p,
+                index: w,
+            },
+            x,
+        ) {
+            Ok(_) => {}
+            Err(_) => {}
+        }
+    }
+
+    // A word becomes 0.
+    fn forget(&mut self, p: u32, w: u32)
+        ensures words { (q v : ℕ) → word_at self.new q v ≡ (if (p == q) && (w == v) then 0 else word_at self.old q v) }
+        ensures spare { spare self.old.words ≤ spare self.new.words }
+    {
+        let _gone = self.words.remove(&WordKey {
+            process: p,
+            index: w,
+        });
+    }
+
+    // A word that isn't 0 is set.
+    fn replace(&mut self, p: u32, w: u32, x: u64)
+        requires { word_at self.old p w ≢ 0 }
+        ensures words { (q v : ℕ) → word_at self.new q v ≡ (if (p == q) && (w == v) then x else word_at self.old q v) }
+        ensures spare { spare self.old.words ≤ spare self.new.words }
+    {
+        match self.words.get_mut(&WordKey {
+            process: p,
+            index: w,
+        }) {
+            Some(word) => *word = x,
+            None => {}
+        }
+    }
+
+    /// The number comes into the process's set.
+    pub fn set(&mut self, p: u32, i: u32)
+        requires { 0 < spare self.old.words }
+        ensures bits { (q j : ℕ) → bit_of (word_at self.new) q j
+            ≡ (if (p == q) && (i == j) then 1 else bit_of (word_at self.old) q j) }
+        ensures others { (q v : ℕ) → ((p == q) && (i / 64 == v)) ≡ false → word_at self.new q v ≡ word_at self.old q v }
+        ensures spare { spare self.old.words ≤ spare self.new.words + 1 }
+    {
+        let x = self.word(p, i / 64) | 1 << (i % 64);
+        self.raise(p, i / 64, x);
+    }
+
+    /// The number goes out of the process's set.
+    pub fn clear(&mut self, p: u32, i: u32)
+        ensures bits { (q j : ℕ) → bit_of (word_at self.new) q j
+            ≡ (if (p == q) && (i == j) then 0 else bit_of (word_at self.old) q j) }
+        ensures others { (q v : ℕ) → ((p == q) && (i / 64 == v)) ≡ false → word_at self.new q v ≡ word_at self.old q v }
+        ensures gap { word_at self.new p (i / 64) ≢ 2 ^ 64 - 1 }
+        ensures spare { spare self.old.words ≤ spare self.new.words }
+    {
+        let x = self.word(p, i / 64) & !(1 << (i % 64));
+        if x == 0 {
+            self.forget(p, i / 64);
+        } else {
+            self.replace(p, i / 64, x);
+        }
+    }
+
+    /// The process's set becomes empty.
+    pub fn clear_process(&mut self, p: u32)
+        ensures words { (q v : ℕ) → word_at self.new q v ≡ (if p == q then 0 else word_at self.old q v) }
+        ensures spare { spare self.old.words ≤ spare self.new.words }
+    {
+        self.words.retain(|k, _| k.process != p);
+    }
+
+    /// The least number below 2 ^ 26 that isn't in the process's set.
+    pub fn first_clear(&self, p: u32) -> Option<u32>
+        ensures { MatchOption result ((j : ℕ) → j < 2 ^ 26 → bit_of (word_at self.now) p j ≡ 1)
+            (λ i. (i < 2 ^ 26) × (bit_of (word_at self.now) p i ≡ 0) × ((j : ℕ) → j < i → bit_of (word_at self.now) p j ≡ 1)) }
+    {
+        for w in 0..1048576 {
+            let x = self.word(p, w);
+            if x != u64::MAX {
+                return Some(w * 64 + x.trailing_ones());
+            }
+        }
+        None
+    }
+}

@@ -1,0 +1,24 @@
+-- What is said of each object with an identity is said of one.
+use Rattle.std.proofs.Common.{◌≡◌, Bool, not, ◌||◌, if◌then◌else◌, List, Some, None, filter}
+use Rattle.bd_space.specs.declared.step.ObjectId.{ObjectId}
+use Rattle.bd_space.specs.declared.space.Object.{Object}
+use Rattle.bd_space.specs.Words.{same}
+use Rattle.bd_space.specs.References.{object_in}
+use Rattle.bd_nodes.specs.declared.table.NodeTable.{NodeTable}
+use Rattle.bd_nodes.specs.Stands.{NodesAre}
+use Rattle.bd_nodes.specs.Keys.{same_node, id_key, node_key}
+use Rattle.bd_nodes.proofs.Tests.{node-eq, node-self}
+use Rattle.bd_nodes.proofs.Distinct.{some-stays, none-stays}
+
+-- the only object with the identity stays, or it goes
+pub apart-some : (t : NodeTable) (objects : List Object) (o : ObjectId) (x : Object) (stays : Object → Bool)
+    → NodesAre t objects → object_in objects o ≡ Some x
+    → filter (λ y. not (same y.id o) || stays y) objects ≡
+    (if stays x then objects else filter (λ y. not (same y.id o)) objects)
+apart-some t objects o x stays n e =
+    some-stays id_key same_node node-eq node-self stays (node_key o) x objects n.ids e
+
+-- there is none
+pub apart-none : (objects : List Object) (o : ObjectId) (stays : Object → Bool) → object_in objects o ≡ None
+    → filter (λ y. not (same y.id o) || stays y) objects ≡ objects
+apart-none objects o stays e = none-stays id_key same_node stays (node_key o) objects e

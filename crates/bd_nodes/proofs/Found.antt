@@ -1,0 +1,162 @@
+-- What is found by its key, in a list of which no two elements have one key.
+use Rattle.std.proofs.Common.{◌≡◌, suc, ◌+◌, Bool, true, false, not, ◌&&◌, ◌||◌, cond, List, [], ◌∷◌, Option, Some, None, find, filter, length, option_map, is_some, refl, ap, sym, subst, ◌∙◌, arith}
+use Rattle.std.specs.List.{list_any}
+use Rattle.bd_space.specs.Words.{changed}
+use Rattle.bd_nodes.specs.Keys.{kept}
+use Rattle.bd_nodes.specs.Stands.{AreDistinct}
+use Rattle.bd_nodes.proofs.Distinct.{cons-none, none-cons, filter-none, away-none}
+
+-- what is found passes
+pub found-passes : {A : Type 0} (p : A → Bool) (xs : List A) (x : A) → find p xs ≡ Some x → p x ≡ true
+found-passes p [] x h = absurd (cc)
+found-passes {A} p (y ∷ ys) x h = by (p y) refl h (found-passes p ys x)
+  where
+    by : (b : Bool) → p y ≡ b → cond b (Some y) (find p ys) ≡ Some x → (find p ys ≡ Some x → p x ≡ true) → p x ≡ true
+    by true e h further = let is : y ≡ x = cc in subst (λ z. p z ≡ true) is e
+    by false e h further = further h
+
+pub any-some : {A : Type 0} (p : A → Bool) (xs : List A) → list_any p xs ≡ is_some (find p xs)
+any-some p [] = refl
+any-some {A} p (x ∷ xs) = by (p x) (any-some p xs)
+  where
+    by : (b : Bool) → list_any p xs ≡ is_some (find p xs)
+        → (b || list_any p xs) ≡ is_some (cond b (Some x) (find p xs))
+    by true e = refl
+    by false e = e
+
+pub option-same : {A : Type 0} (o : Option A) → option_map (λ x. x) o ≡ o
+option-same None = refl
+option-same (Some x) = refl
+
+pub length-changed : {A : Type 0} (p : A → Bool) (f : A → A) (xs : List A) → length (changed p f xs) ≡ length xs
+length-changed p f [] = refl
+length-changed p f (x ∷ xs) = ap suc (length-changed p f xs)
+
+module _ {A K : Type 0} (key : A → K) (eq : K → K → Bool) (alike : (a b : K) → eq a b ≡ true → a ≡ b)
+    (itself : (a : K) → eq a a ≡ true) where
+  abbrev on : K → A → Bool
+  on k x = eq (key x) k
+
+  pub turned : (a b : K) → eq a b ≡ false → eq b a ≡ false
+  turned a b e = by (eq b a) refl
+    where
+      by : (t : Bool) → eq b a ≡ t → t ≡ false
+      by false h = refl
+      by true h = let same : eq a b ≡ true = subst (λ c. eq a c ≡ true) (sym (alike b a h)) (itself a) in absurd (cc)
+
+  pub turn : (a b : K) → eq a b ≡ eq b a
+  turn a b = by (eq a b) refl
+    where
+      by : (t : Bool) → eq a b ≡ t → t ≡ eq b a
+      by true h = sym (subst (λ c. eq c a ≡ true) (alike a b h) (itself a))
+      by false h = sym (turned a b h)
+
+  -- an element is found by its own key
+  pub found-own : (p : A → Bool) (xs : List A) (x : A) → AreDistinct key eq xs → find p xs ≡ Some x
+      → find (on (key x)) xs ≡ Some x
+  found-own p [] x d h = absurd (cc)
+  found-own p (y ∷ ys) x d h = by (p y) refl h (found-own p ys x d.1)
+    where
+      other : find (on (key x)) ys ≡ Some x → (b : Bool) → on (key x) y ≡ b
+          → cond b (Some y) (find (on (key x)) ys) ≡ Some x
+      other f false e = f
+      other f true e = let none : find (on (key x)) ys ≡ None =
+          subst (λ k. find (on k) ys ≡ None) (alike (key y) (key x) e) d.0 in absurd (cc)
+
+      by : (b : Bool) → p y ≡ b → cond b (Some y) (find p ys) ≡ Some x
+          → (find p ys ≡ Some x → find (on (key x)) ys ≡ Some x)
+          → cond (on (key x) y) (Some y) (find (on (key x)) ys) ≡ Some x
+      by true e h further =
+          let is : y ≡ x = cc in
+          let hit : on (key x) y ≡ true = subst (λ z. eq (key y) (key z) ≡ true) is (itself (key y)) in
+          ap (λ b. cond b (Some y) (find (on (key x)) ys)) hit ∙ ap Some is
+      by false e h further = other (further h) (on (key x) y) refl
+
+  past : (y : A) (ys : List A) (k : K) → find (on (key y)) ys ≡ None → on k y ≡ true → find (on k) ys ≡ None
+  past y ys k h e = subst (λ l. find (on l) ys ≡ None) (alike (key y) k e) h
+
+  -- of a filtered list
+  pub found-filter : (q : A → Bool) (k : K) (xs : List A) → AreDistinct key eq xs
+      → find (on k) (filter q xs) ≡ kept q (find (on k) xs)
+  found-filter q k [] d = refl
+  found-filter q k (y ∷ ys) d = by (on k y) refl (found-filter q k ys d.1)
+    where
+      rest : List A
+      rest = filter q ys
+
+      hit : (c : Bool) → find (on k) rest ≡ None → on k y ≡ true
+          → find (on k) (cond c (y ∷ rest) rest) ≡ cond c (Some y) None
+      hit true none e = ap (λ b. cond b (Some y) (find (on k) rest)) e
+      hit false none e = none
+
+      miss : (c : Bool) → on k y ≡ false → find (on k) (cond c (y ∷ rest) rest) ≡ find (on k) rest
+      miss true e = ap (λ b. cond b (Some y) (find (on k) rest)) e
+      miss false e = refl
+
+      by : (b : Bool) → on k y ≡ b → find (on k) rest ≡ kept q (find (on k) ys)
+          → find (on k) (cond (q y) (y ∷ rest) rest) ≡ kept q (cond b (Some y) (find (on k) ys))
+      by true e h = hit (q y) (filter-none key eq q k ys (past y ys k d.0 e)) e
+      by false e h = miss (q y) e ∙ h
+
+  and-none : (q : A → Bool) (k : K) (xs : List A) → find (on k) xs ≡ None → find (λ x. on k x && q x) xs ≡ None
+  and-none q k [] h = refl
+  and-none q k (x ∷ xs) h =
+      let c = cons-none (on k x) x (find (on k) xs) h in none-cons (on k x && q x) x _ (ap (λ b. b && q x) c.0)
+      (and-none q k xs c.1)
+
+  -- with one more test
+  pub found-and : (q : A → Bool) (k : K) (xs : List A) → AreDistinct key eq xs
+      → find (λ x. on k x && q x) xs ≡ kept q (find (on k) xs)
+  found-and q k [] d = refl
+  found-and q k (y ∷ ys) d = by (on k y) refl (found-and q k ys d.1)
+    where
+      both : Option A
+      both = find (λ x. on k x && q x) ys
+
+      by : (b : Bool) → on k y ≡ b → both ≡ kept q (find (on k) ys)
+          → cond (b && q y) (Some y) both ≡ kept q (cond b (Some y) (find (on k) ys))
+      by true e h = ap (λ o. cond (q y) (Some y) o) (and-none q k ys (past y ys k d.0 e))
+      by false e h = h
+
+  -- without the one that has the key
+  pub length-without : (k : K) (x : A) (xs : List A) → AreDistinct key eq xs → find (on k) xs ≡ Some x
+      → length (filter (λ y. not (on k y)) xs) + 1 ≡ length xs
+  length-without k x [] d h = absurd (cc)
+  length-without k x (y ∷ ys) d h = by (on k y) refl h (length-without k x ys d.1)
+    where
+      away : List A
+      away = filter (λ z. not (on k z)) ys
+
+      by : (b : Bool) → on k y ≡ b → cond b (Some y) (find (on k) ys) ≡ Some x
+          → (find (on k) ys ≡ Some x → length away + 1 ≡ length ys)
+          → length (cond (not b) (y ∷ away) away) + 1 ≡ suc (length ys)
+      by true e h further = let all = ap length (away-none key eq k ys (past y ys k d.0 e)) in omega (arith, all)
+      by false e h further = let rest = further h in omega (arith, rest)
+
+  -- a change where nothing has the key
+  pub changed-nothing : (k : K) (f : A → A) (xs : List A) → find (on k) xs ≡ None → changed (on k) f xs ≡ xs
+  changed-nothing k f [] h = refl
+  changed-nothing k f (x ∷ xs) h =
+      let c = cons-none (on k x) x (find (on k) xs) h in
+      ap (λ b. cond b (f x) x ∷ changed (on k) f xs) c.0 ∙ ap (λ ys. x ∷ ys) (changed-nothing k f xs c.1)
+
+  -- of a changed list, where the keys stay
+  module _ (p : A → Bool) (f : A → A) (stays : (x : A) → key (f x) ≡ key x) where
+    abbrev by_test : A → A
+    by_test x = cond (p x) (f x) x
+
+    key-stays : (b : Bool) (x : A) → key (cond b (f x) x) ≡ key x
+    key-stays true x = stays x
+    key-stays false x = refl
+
+    pub found-changed : (k : K) (xs : List A) → find (on k) (changed p f xs) ≡ option_map by_test (find (on k) xs)
+    found-changed k [] = refl
+    found-changed k (y ∷ ys) =
+        ap (λ l. cond (eq l k) (Some (by_test y)) (find (on k) (changed p f ys))) (key-stays (p y) y)
+        ∙ by (on k y) (found-changed k ys)
+      where
+        by : (b : Bool) → find (on k) (changed p f ys) ≡ option_map by_test (find (on k) ys)
+            → cond b (Some (by_test y)) (find (on k) (changed p f ys)) ≡ option_map by_test
+            (cond b (Some y) (find (on k) ys))
+        by true h = refl
+        by false h = h

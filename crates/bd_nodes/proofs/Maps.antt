@@ -1,0 +1,111 @@
+-- Maps that have at each key what is shown of the first with that key, when the list changes.
+use Rattle.std.proofs.Common.{◌≡◌, Bool, true, false, not, cond, List, [], ◌∷◌, ◌++◌, Option, Some, None, find, filter, option_map, refl, ap, sym, subst, ◌∙◌}
+use Rattle.std.specs.Option.{option_or}
+use Rattle.std.specs.HashMap.{HashMap, get}
+use Rattle.std.proofs.lemmas.List.Folds.{find-append}
+use Rattle.bd_space.specs.Words.{changed}
+use Rattle.bd_nodes.specs.Keys.{kept}
+use Rattle.bd_nodes.specs.Stands.{AreDistinct, Finds}
+use Rattle.bd_nodes.proofs.Found.{found-filter, found-changed, found-passes, turned, turn}
+
+or-none : {A : Type 0} (o : Option A) → option_or o None ≡ o
+or-none None = refl
+or-none (Some x) = refl
+
+neither : {A : Type 0} (b : Bool) (o : Option A) → o ≡ None → cond b None o ≡ None
+neither true o h = refl
+neither false o h = h
+
+-- what n has, where m got v at the key k
+abbrev pub Puts : {K V S : Type 0} → (K → K → Bool) → HashMap K V S → HashMap K V S → K → Option V → Type 0
+Puts {K = K} eq m n k v = (l : K) → get eq n l ≡ cond (eq k l) v (get eq m l)
+
+module _ {A K V S : Type 0} (key : A → K) (eq : K → K → Bool) (alike : (a b : K) → eq a b ≡ true → a ≡ b)
+    (itself : (a : K) → eq a a ≡ true) (shown : A → V) where
+  -- a new one comes in
+  pub finds-push : (m n : HashMap K V S) (xs : List A) (x : A) → Finds eq key shown m xs
+      → find (λ y. eq (key y) (key x)) xs ≡ None → Puts eq m n (key x) (Some (shown x))
+      → Finds eq key shown n (xs ++ x ∷ [])
+  finds-push m n xs x f new puts = λ k. puts k ∙ at k (eq (key x) k) refl
+      ∙ ap (option_map shown) (sym (find-append (λ y. eq (key y) k) xs (x ∷ [])))
+    where
+      at : (k : K) (b : Bool) → eq (key x) k ≡ b
+          → cond b (Some (shown x)) (get eq m k) ≡ option_map shown
+          (option_or (find (λ y. eq (key y) k) xs) (cond b (Some x) None))
+      at k true e =
+          let none : find (λ y. eq (key y) k) xs ≡ None =
+          subst (λ l. find (λ y. eq (key y) l) xs ≡ None) (alike (key x) k e) new in
+          ap (λ o. option_map shown (option_or o (Some x))) (sym none)
+      at k false e = f k ∙ ap (option_map shown) (sym (or-none (find (λ y. eq (key y) k) xs)))
+
+  -- those go that don't pass, of which there is one, at the key k
+  pub finds-remove : (m n : HashMap K V S) (xs : List A) (q : A → Bool) (k : K) → Finds eq key shown m xs
+      → AreDistinct key eq xs → Puts eq m n k None
+      → ((l : K) (y : A) → find (λ y. eq (key y) l) xs ≡ Some y → q y ≡ not (eq k l))
+      → Finds eq key shown n (filter q xs)
+  finds-remove m n xs q k f d puts only = λ l. puts l ∙ at l (find (λ y. eq (key y) l) xs) refl
+      ∙ ap (option_map shown) (sym (found-filter key eq alike itself q l xs d))
+    where
+      stays : (b : Bool) (y : A) → cond b None (Some (shown y)) ≡ option_map shown (cond (not b) (Some y) None)
+      stays true y = refl
+      stays false y = refl
+
+      at : (l : K) (o : Option A) → find (λ y. eq (key y) l) xs ≡ o
+          → cond (eq k l) None (get eq m l) ≡ option_map shown (kept q o)
+      at l None e = ap (λ g. cond (eq k l) None g) (f l ∙ ap (option_map shown) e) ∙ neither (eq k l) None refl
+      at l (Some y) e =
+          ap (λ g. cond (eq k l) None g) (f l ∙ ap (option_map shown) e) ∙ stays (eq k l) y
+          ∙ ap (λ b. option_map shown (cond b (Some y) None)) (sym (only l y e))
+
+  -- a change that doesn't show
+  pub finds-hidden : (m : HashMap K V S) (xs : List A) (p : A → Bool) (g : A → A) → ((x : A) → key (g x) ≡ key x)
+      → ((x : A) → shown (g x) ≡ shown x)
+      → Finds eq key shown m xs → Finds eq key shown m (changed p g xs)
+  finds-hidden m xs p g stays same f = λ k. f k ∙ at (find (λ y. eq (key y) k) xs)
+      ∙ ap (option_map shown) (sym (found-changed key eq alike itself p g stays k xs))
+    where
+      hidden : (b : Bool) (x : A) → shown x ≡ shown (cond b (g x) x)
+      hidden true x = sym (same x)
+      hidden false x = refl
+
+      at : (o : Option A) → option_map shown o ≡ option_map shown (option_map (λ x. cond (p x) (g x) x) o)
+      at None = refl
+      at (Some x) = ap Some (hidden (p x) x)
+
+module _ {A K S : Type 0} (key : A → K) (eq : K → K → Bool) (alike : (a b : K) → eq a b ≡ true → a ≡ b)
+    (itself : (a : K) → eq a a ≡ true) where
+  -- the one at the key k is changed
+  pub finds-changed : (m n : HashMap K A S) (xs : List A) (k : K) (x : A) (g : A → A) → ((x : A) → key (g x) ≡ key x)
+      → Finds eq key (λ x. x) m xs → find (λ y. eq (key y) k) xs ≡ Some x → Puts eq m n k (Some (g x))
+      → Finds eq key (λ x. x) n (changed (λ y. eq (key y) k) g xs)
+  finds-changed m n xs k x g stays f has puts =
+      λ l. puts l ∙ at l (eq k l) refl
+      ∙ ap (option_map (λ y. y)) (sym (found-changed key eq alike itself (λ y. eq (key y) k) g stays l xs))
+    where
+      by_test : A → A
+      by_test y = cond (eq (key y) k) (g y) y
+
+      other : (l : K) → eq k l ≡ false → (o : Option A) → find (λ y. eq (key y) l) xs ≡ o
+          → option_map (λ y. y) o ≡ option_map (λ y. y) (option_map by_test o)
+      other l e None h = refl
+      other l e (Some y) h =
+          let is : key y ≡ l = alike (key y) l (found-passes (λ y. eq (key y) l) xs y h) in
+          let no : eq (key y) k ≡ false = subst (λ j. eq j k ≡ false) (sym is) (turned key eq alike itself k l e) in
+          ap (λ b. Some (cond b (g y) y)) (sym no)
+
+      at : (l : K) (b : Bool) → eq k l ≡ b
+          → cond b (Some (g x)) (get eq m l) ≡ option_map (λ y. y) (option_map by_test (find (λ y. eq (key y) l) xs))
+      at l true e =
+          let here : find (λ y. eq (key y) l) xs ≡ Some x =
+          subst (λ j. find (λ y. eq (key y) j) xs ≡ Some x) (alike k l e) has in
+          let yes : eq (key x) k ≡ true = found-passes (λ y. eq (key y) k) xs x has in
+          ap (λ b. Some (cond b (g x) x)) (sym yes) ∙ ap (λ o. option_map (λ y. y) (option_map by_test o)) (sym here)
+      at l false e = f l ∙ other l e (find (λ y. eq (key y) l) xs) refl
+
+-- of one key there is one
+pub only-key : {A K : Type 0} (key : A → K) (eq : K → K → Bool) (alike : (a b : K) → eq a b ≡ true → a ≡ b)
+    (itself : (a : K) → eq a a ≡ true) (xs : List A) (k l : K) (y : A)
+    → find (λ x. eq (key x) l) xs ≡ Some y → not (eq (key y) k) ≡ not (eq k l)
+only-key key eq alike itself xs k l y e =
+    let is : key y ≡ l = alike (key y) l (found-passes (λ x. eq (key x) l) xs y e) in
+    ap (λ j. not (eq j k)) is ∙ ap not (turn key eq alike itself l k)

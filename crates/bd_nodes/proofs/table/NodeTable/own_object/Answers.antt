@@ -1,0 +1,12 @@
+use Rattle.std.proofs.Common.{◌==◌, ◌∙◌, ap, sym}
+use Rattle.bd_space.specs.declared.space.Object.{Object}
+use Rattle.bd_nodes.specs.Keys.{same_node, id_key, node_key, kept}
+use Rattle.bd_nodes.proofs.Tests.{node-eq, node-self}
+use Rattle.bd_nodes.proofs.Found.{found-and}
+use Rattle.bd_nodes.proofs.table.NodeTable.own_object.Goals as goal
+
+pub returns : goal.returns
+returns c = λ objects n.
+    let is_owned = λ (x : Object). x.owner == c.args.p in
+    c.owned.ensures ∙ ap (kept is_owned) (c.object.ensures objects n)
+    ∙ sym (found-and id_key same_node node-eq node-self is_owned (node_key c.args.o) objects n.ids)

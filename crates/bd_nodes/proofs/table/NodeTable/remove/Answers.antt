@@ -1,0 +1,60 @@
+use Rattle.std.proofs.Common.{◌≡◌, ◌+◌, not, Option, None, Some, length, is_some, if◌then◌else◌, arith, ap, sym, subst, ◌∙◌}
+use Rattle.std.specs.HashMap.{get, hash_map_len}
+use Rattle.std.specs.Map.{lookup}
+use Rattle.bd_space.specs.declared.space.Object.{Object}
+use Rattle.bd_space.specs.Words.{same}
+use Rattle.bd_space.specs.References.{object_in}
+use Rattle.bd_nodes.specs.declared.key.NodeKey.{NodeKey}
+use Rattle.bd_nodes.specs.declared.key.OwnKey.{OwnKey}
+use Rattle.bd_nodes.specs.Keys.{same_node, same_own, node_key, id_key, own_key}
+use Rattle.bd_nodes.specs.Stands.{NodesAre}
+use Rattle.bd_nodes.proofs.Tests.{node-eq, node-self, own-eq, own-self}
+use Rattle.bd_nodes.proofs.Changes.{none-then, only-own}
+use Rattle.bd_nodes.proofs.Distinct.{filter-distinct, away-none}
+use Rattle.bd_nodes.proofs.Found.{option-same, length-without}
+use Rattle.bd_nodes.proofs.Maps.{Puts, finds-remove, only-key}
+use Rattle.bd_nodes.proofs.table.NodeTable.remove.Goals as goal
+
+pub returns-in-Some-clause-stands : goal.returns-in-Some-clause-stands
+returns-in-Some-clause-stands c = λ objects n.
+    let others = λ (y : Object). not (same y.id c.args.o) in
+    let x = c.in-Some.x in
+    let has : object_in objects c.args.o ≡ Some x =
+    sym (option-same _) ∙ sym (n.found (node_key c.args.o))
+    ∙ ap (get same_node c.args.self.now.objects) (sym c.node_key.ensures) ∙ sym c.remove.ensures.value
+    ∙ c.in-Some.is in
+    let less : hash_map_len c.remove.new.self + 1 ≡ hash_map_len c.args.self.now.objects =
+    ap (λ (r : Option Object). hash_map_len c.remove.new.self + (if is_some r then 1 else 0)) (sym c.in-Some.is)
+    ∙ c.remove.ensures.len in
+    let fewer = length-without id_key same_node node-eq node-self (node_key c.args.o) x objects n.ids has in
+    record {
+      found = finds-remove id_key same_node node-eq node-self (λ y. y) c.args.self.now.objects c.remove.new.self
+          objects others (node_key c.args.o) n.found n.ids
+          (subst (λ (k : NodeKey). Puts same_node c.args.self.now.objects c.remove.new.self k None) c.node_key.ensures
+          c.remove.ensures.updates.0)
+          (only-key id_key same_node node-eq node-self objects (node_key c.args.o));
+      owned = finds-remove own_key same_own own-eq own-self (λ y. y.id) c.args.self.now.owns c.remove-in-Some.new.self
+          objects others (own_key x) n.owned n.owns
+          (subst (λ (k : OwnKey). Puts same_own c.args.self.now.owns c.remove-in-Some.new.self k None)
+          c.own_key.ensures c.remove-in-Some.ensures.updates.0)
+          (only-own objects c.args.o x n.ids n.owns has);
+      count = omega (arith, less, fewer, n.count);
+      ids = filter-distinct id_key same_node others objects n.ids;
+      owns = filter-distinct own_key same_own others objects n.owns;
+    }
+
+pub returns-in_default-clause-stands : goal.returns-in_default-clause-stands
+returns-in_default-clause-stands c = λ objects n.
+    let none : object_in objects c.args.o ≡ None =
+    sym (option-same _) ∙ sym (n.found (node_key c.args.o))
+    ∙ ap (get same_node c.args.self.now.objects) (sym c.node_key.ensures) ∙ sym c.remove.ensures.value
+    ∙ c.in_default.is in
+    let same_entries = none-then c.remove.result c.in_default.is c.remove.ensures.unchanged in
+    subst (NodesAre (record { objects = c.remove.new.self; owns = c.args.self.now.owns }))
+    (sym (away-none id_key same_node (node_key c.args.o) objects none)) (record {
+      found = λ k. ap (lookup (same_node k)) same_entries ∙ n.found k;
+      owned = n.owned;
+      count = ap length same_entries ∙ n.count;
+      ids = n.ids;
+      owns = n.owns;
+    })

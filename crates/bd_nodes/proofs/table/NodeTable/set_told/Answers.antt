@@ -1,0 +1,52 @@
+use Rattle.std.proofs.Common.{◌≡◌, None, Some, refl, ap, sym, subst, ◌∙◌, is_some}
+use Rattle.std.specs.Option.{option_copied_mut}
+use Rattle.std.specs.HashMap.{get}
+use Rattle.bd_space.specs.declared.space.Object.{Object}
+use Rattle.bd_space.specs.Words.{same}
+use Rattle.bd_space.specs.References.{object_in}
+use Rattle.bd_nodes.specs.declared.key.NodeKey.{NodeKey}
+use Rattle.bd_nodes.specs.Keys.{same_node, same_own, node_key, id_key, own_key}
+use Rattle.bd_nodes.specs.Stands.{NodesAre}
+use Rattle.bd_nodes.proofs.Tests.{node-eq, node-self, own-eq, own-self}
+use Rattle.bd_nodes.proofs.Distinct.{changed-distinct}
+use Rattle.bd_nodes.proofs.Found.{option-same, length-changed, changed-nothing}
+use Rattle.bd_nodes.proofs.Maps.{Puts, finds-changed, finds-hidden}
+use Rattle.bd_nodes.proofs.table.NodeTable.set_told.Goals as goal
+
+pub returns-in-Some-clause-stands : goal.returns-in-Some-clause-stands
+returns-in-Some-clause-stands c = λ objects n.
+    let p = λ (y : Object). same y.id c.args.o in
+    let f = λ (y : Object). record y { told_weak = c.args.weak; told_strong = c.args.strong } in
+    let x = c.in-Some.x.now in
+    let there : get same_node c.args.self.now.objects c.node_key.result ≡ Some x = sym c.get_mut.ensures.value
+    ∙ ap option_copied_mut c.in-Some.is in
+    let has : object_in objects c.args.o ≡ Some x =
+    sym (option-same _) ∙ sym (n.found (node_key c.args.o))
+    ∙ ap (get same_node c.args.self.now.objects) (sym c.node_key.ensures) ∙ there in
+    let writes = c.get_mut.follows.holds (f x) in
+    let new = c.get_mut.follows.lender (f x) in
+    record {
+      found = finds-changed id_key same_node node-eq node-self c.args.self.now.objects new objects (node_key c.args.o)
+          x f (λ y. refl) n.found has
+          (subst (λ (k : NodeKey). Puts same_node c.args.self.now.objects new k (Some (f x))) c.node_key.ensures
+          (writes.3 (ap is_some there)).0);
+      owned = finds-hidden own_key same_own own-eq own-self (λ y. y.id) c.args.self.now.owns objects p f (λ y. refl)
+          (λ y. refl) n.owned;
+      count = writes.2 ∙ n.count ∙ sym (length-changed p f objects);
+      ids = changed-distinct id_key same_node p f (λ y. refl) objects n.ids;
+      owns = changed-distinct own_key same_own p f (λ y. refl) objects n.owns;
+    }
+
+pub returns-in_default-clause-stands : goal.returns-in_default-clause-stands
+returns-in_default-clause-stands c = λ objects n.
+    let f = λ (y : Object). record y { told_weak = c.args.weak; told_strong = c.args.strong } in
+    let none : object_in objects c.args.o ≡ None =
+    sym (option-same _) ∙ sym (n.found (node_key c.args.o))
+    ∙ ap (get same_node c.args.self.now.objects) (sym c.node_key.ensures) ∙ sym c.get_mut.ensures.value
+    ∙ ap option_copied_mut c.in_default.is in
+    let stays : NodesAre (record { objects = c.get_mut.follows.lender-at-none; owns = c.args.self.now.owns }) objects
+    =
+    subst (λ m. NodesAre (record { objects = m; owns = c.args.self.now.owns }) objects)
+    (sym c.get_mut.follows.holds-at-none) n in
+    subst (NodesAre (record { objects = c.get_mut.follows.lender-at-none; owns = c.args.self.now.owns }))
+    (sym (changed-nothing id_key same_node node-eq node-self (node_key c.args.o) f objects none)) stays

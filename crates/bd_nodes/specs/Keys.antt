@@ -1,0 +1,28 @@
+-- By what an object is found: its identity, or its owner and the ptr by which that knows it.
+use Rattle.std.specs.Prelude.{Bool, cond, Option, Some, None}
+use Rattle.bd_space.specs.declared.step.ObjectId.{ObjectId}
+use Rattle.bd_space.specs.declared.space.Object.{Object}
+use Rattle.bd_nodes.specs.declared.key.NodeKey.{NodeKey}
+use Rattle.bd_nodes.specs.declared.key.OwnKey.{OwnKey}
+use Rattle.bd_nodes.specs.contracts.key.NodeKeyPartialEq.TheImpl as nodes
+use Rattle.bd_nodes.specs.contracts.key.OwnKeyPartialEq.TheImpl as owns
+
+abbrev pub same_node : NodeKey → NodeKey → Bool
+same_node = (nodes.ghosts).eq
+
+abbrev pub same_own : OwnKey → OwnKey → Bool
+same_own = (owns.ghosts).eq
+
+abbrev pub node_key : ObjectId → NodeKey
+node_key o = record { place = o.place; index = o.index }
+
+abbrev pub id_key : Object → NodeKey
+id_key x = node_key x.id
+
+abbrev pub own_key : Object → OwnKey
+own_key x = record { owner = x.owner; ptr = x.ptr }
+
+-- what is there, if it passes
+abbrev pub kept : {A : Type 0} → (A → Bool) → Option A → Option A
+kept q None = None
+kept q (Some x) = cond (q x) (Some x) None

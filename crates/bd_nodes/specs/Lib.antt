@@ -1,0 +1,4 @@
+pub mod Keys
+pub mod New
+pub mod Room
+pub mod Stands

@@ -1,0 +1,19 @@
+-- Objects that are new.
+use Rattle.std.specs.Prelude.{◌≡◌, true, List, [], ◌∷◌, ◌++◌, None}
+use Rattle.bd_space.specs.declared.step.ObjectId.{ObjectId}
+use Rattle.bd_space.specs.declared.space.Object.{Object}
+use Rattle.bd_space.specs.References.{object_in, own_in}
+use Rattle.bd_space.specs.Local.{is_among}
+
+-- no object has its identity, and its owner has none with its ptr
+abbrev pub IsNewIn : List Object → Object → Type 0
+IsNewIn objects x = (object_in objects x.id ≡ None) × (own_in objects x.owner x.ptr ≡ None)
+
+-- each is new, beside those before it too
+abbrev pub AreNewIn : List Object → List Object → Type 0
+AreNewIn objects [] = Unit {0}
+AreNewIn objects (x ∷ xs) = IsNewIn objects x × AreNewIn (objects ++ x ∷ []) xs
+
+-- what the others list is among these
+abbrev pub HasAll : List ObjectId → List ObjectId → Type 0
+HasAll these others = (o : ObjectId) → is_among others o ≡ true → is_among these o ≡ true

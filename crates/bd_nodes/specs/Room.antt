@@ -1,0 +1,15 @@
+-- How many objects a table may still take without memory, how many it has, and what a change takes of that.
+use Rattle.std.specs.Prelude.{ℕ, ◌+◌, ◌≤◌, min}
+use Rattle.std.specs.HashMap.{hash_map_len, spare}
+use Rattle.bd_nodes.specs.declared.table.NodeTable.{NodeTable}
+
+unfoldable pub node_room : NodeTable → ℕ
+node_room t = min (spare t.objects) (spare t.owns)
+
+unfoldable pub node_count : NodeTable → ℕ
+node_count t = hash_map_len t.objects
+
+-- a change takes room for at most n objects, and adds at most n
+pub record Uses (old new : NodeTable) (n : ℕ) : Type 0 where
+  pub room : node_room old ≤ node_room new + n
+  pub count : node_count new ≤ node_count old + n

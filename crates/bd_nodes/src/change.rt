@@ -1,0 +1,65 @@
+//! Changes of the objects.
+
+ghost use Rattle.std.specs.Prelude.{◌≡◌, ◌≤◌, ◌++◌, ◌∷◌, [], not, filter, length, List};
+ghost use Rattle.bd_space.specs.Words as words;
+
+use crate::key::{node_key, own_key};
+use crate::table::NodeTable;
+use bd_space::{Object, ObjectId};
+
+impl NodeTable {
+    ghost use Rattle.bd_space.specs.declared.space.Object.{Object};
+    ghost use Rattle.bd_nodes.specs.Stands.{NodesAre};
+    ghost use Rattle.bd_nodes.specs.New.{IsNewIn, AreNewIn};
+    ghost use Rattle.bd_nodes.specs.Room.{Uses, node_room};
+
+    /// Puts a new object to them.
+    #[tactic(auto, unfolding(crate::specs::Room::node_room, crate::specs::Room::node_count))]
+    pub fn push(&mut self, x: Object)
+        requires { 1 ≤ node_room self.old }
+        ensures stands { (objects : List Object) → NodesAre self.old objects → IsNewIn objects x
+            → NodesAre self.new (objects ++ x ∷ []) }
+        ensures uses { Uses self.old self.new 1 }
+    {
+        let _ = self.owns.insert(own_key(&x), x.id);
+        let _ = self.objects.insert(node_key(x.id), x);
+    }
+
+    /// Puts new objects to them.
+    pub fn push_all(&mut self, made: &[Object])
+        requires { length made.now ≤ node_room self.old }
+        ensures stands { (objects : List Object) → NodesAre self.old objects → AreNewIn objects made.now
+            → NodesAre self.new (objects ++ made.now) }
+        ensures uses { Uses self.old self.new (length made.now) }
+    {
+        for x in made {
+            self.push(*x);
+        }
+    }
+
+    /// The owner was told of the object: whether it is referred to, and whether strongly.
+    #[tactic(auto, unfolding(crate::specs::Room::node_room, crate::specs::Room::node_count))]
+    pub fn set_told(&mut self, o: ObjectId, weak: bool, strong: bool)
+        ensures stands { (objects : List Object) → NodesAre self.old objects
+            → NodesAre self.new (words.changed (λ x. words.same x.id o)
+            (λ x. record x { told_weak = weak; told_strong = strong }) objects) }
+        ensures uses { Uses self.old self.new 0 }
+    {
+        if let Some(x) = self.objects.get_mut(&node_key(o)) {
+            x.told_weak = weak;
+            x.told_strong = strong;
+        }
+    }
+
+    /// The object goes.
+    #[tactic(auto, unfolding(crate::specs::Room::node_room, crate::specs::Room::node_count))]
+    pub fn remove(&mut self, o: ObjectId)
+        ensures stands { (objects : List Object) → NodesAre self.old objects
+            → NodesAre self.new (filter (λ x. not (words.same x.id o)) objects) }
+        ensures uses { Uses self.old self.new 0 }
+    {
+        if let Some(x) = self.objects.remove(&node_key(o)) {
+            self.owns.remove(&own_key(&x));
+        }
+    }
+}

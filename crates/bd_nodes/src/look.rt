@@ -1,0 +1,68 @@
+//! Looking at the objects.
+
+ghost use Rattle.std.specs.Prelude.{◌≡◌, ◌==◌, ◌&&◌, find, List};
+ghost use Rattle.bd_space.specs.Words as words;
+ghost use Rattle.bd_nodes.specs.Keys as keys;
+
+use crate::key::{OwnKey, node_key};
+use crate::table::NodeTable;
+use bd_space::{Object, ObjectId};
+
+/// What was found, if the process owns it.
+fn owned(found: Option<Object>, p: u32) -> Option<Object>
+    ensures { result ≡ keys.kept (λ x. x.owner == p) found }
+{
+    found.filter(|x| x.owner == p)
+}
+
+/// What was found, if it has this cookie.
+fn with_cookie(found: Option<Object>, cookie: u64) -> Option<Object>
+    ensures { result ≡ keys.kept (λ x. x.cookie == cookie) found }
+{
+    found.filter(|x| x.cookie == cookie)
+}
+
+impl NodeTable {
+    ghost use Rattle.bd_space.specs.References as refer;
+    ghost use Rattle.bd_space.specs.Asking as asking;
+    ghost use Rattle.bd_space.specs.declared.space.Object.{Object};
+    ghost use Rattle.bd_nodes.specs.Stands.{NodesAre};
+
+    /// The object with this identity.
+    pub fn object(&self, o: ObjectId) -> Option<Object>
+        ensures { (objects : List Object) → NodesAre self.now objects → result ≡ refer.object_in objects o }
+    {
+        self.objects.get(&node_key(o)).copied()
+    }
+
+    /// Whether the process owns the object.
+    pub fn owns(&self, p: u32, o: ObjectId) -> bool
+        ensures { (objects : List Object) → NodesAre self.now objects → result ≡ refer.owned_in objects p o }
+    {
+        self.own_object(p, o).is_some()
+    }
+
+    /// The process's own object with this ptr.
+    pub fn own_with_ptr(&self, p: u32, ptr: u64) -> Option<Object>
+        ensures { (objects : List Object) → NodesAre self.now objects → result ≡ refer.own_in objects p ptr }
+    {
+        let o = *self.owns.get(&OwnKey { owner: p, ptr })?;
+        self.object(o)
+    }
+
+    /// The object of this identity, if the process owns it.
+    pub fn own_object(&self, p: u32, o: ObjectId) -> Option<Object>
+        ensures { (objects : List Object) → NodesAre self.now objects
+            → result ≡ find (λ x. words.same x.id o && (x.owner == p)) objects }
+    {
+        owned(self.object(o), p)
+    }
+
+    /// The process's own object with this ptr and this cookie.
+    pub fn own_with(&self, p: u32, ptr: u64, cookie: u64) -> Option<Object>
+        ensures { (objects : List Object) → NodesAre self.now objects
+            → result ≡ find (asking.is_own_with p ptr cookie) objects }
+    {
+        with_cookie(self.own_with_ptr(p, ptr), cookie)
+    }
+}

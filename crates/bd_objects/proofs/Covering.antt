@@ -1,0 +1,98 @@
+-- What goes with a process is on objects that it owns, or goes whoever owns it.
+use Rattle.std.proofs.Common.{◌≡◌, ℕ, ◌==◌, Bool, true, false, not, ◌&&◌, ◌||◌, cond, List, [], ◌∷◌, ◌++◌, map, filter, refl, ap, sym, ◌∙◌, subst, inl, inr, ◌⊎◌}
+use Rattle.std.proofs.lemmas.Bool.{and_parts, or_left, or_right}
+use Rattle.std.proofs.lemmas.List.Folds.{list_any-append}
+use Rattle.bd_space.specs.declared.step.ObjectId.{ObjectId}
+use Rattle.bd_space.specs.declared.space.Object.{Object}
+use Rattle.bd_space.specs.declared.space.Reference.{Reference}
+use Rattle.bd_space.specs.Words.{same}
+use Rattle.bd_space.specs.Local.{is_among}
+use Rattle.bd_space.specs.References.{owned_in, is_asked_by, is_in_window, is_of_owner}
+use Rattle.bd_space.specs.ProcessExits.{is_dropped_with}
+use Rattle.bd_nodes.specs.New.{HasAll}
+use Rattle.bd_objects.proofs.Same.{same-eq, same-self}
+
+either : (a b : Bool) → (a || b) ≡ true → (a ≡ true) ⊎ (b ≡ true)
+either true b h = inl refl
+either false b h = inr h
+
+among-append : (xs ys : List ObjectId) (o : ObjectId) → is_among (xs ++ ys) o ≡ (is_among xs o || is_among ys o)
+among-append xs ys o = list_any-append (λ i. same o i) xs ys
+
+-- in a list of those that pass
+module _ {A : Type 0} (p : A → Bool) (key : A → ObjectId) (o : ObjectId) where
+  put : (x : A) (xs : List A) → p x ≡ true → same o (key x) ≡ true → is_among (map key (filter p (x ∷ xs))) o ≡ true
+  put x xs e h = rw e (or_left _ _ h)
+
+  further : (x : A) (xs : List A) → is_among (map key (filter p xs)) o ≡ true → is_among (map key (filter p (x ∷ xs))) o ≡ true
+  further x xs h = elim (p x) as (λ b. is_among (map key (cond b (x ∷ filter p xs) (filter p xs))) o ≡ true) [ true ↦ or_right _ _ h | false ↦ h ]
+
+  taken : (x : A) (xs : List A) → is_among (map key (filter p (x ∷ xs))) o ≡ true → ((p x ≡ true) × (same o (key x) ≡ true)) ⊎ (is_among (map key (filter p xs)) o ≡ true)
+  taken x xs h = by (p x) refl h
+    where
+      by : (b : Bool) → p x ≡ b → is_among (map key (cond b (x ∷ filter p xs) (filter p xs))) o ≡ true → ((p x ≡ true) × (same o (key x) ≡ true)) ⊎ (is_among (map key (filter p xs)) o ≡ true)
+      by true e h = elim (either (same o (key x)) _ h) [ inl k ↦ inl (e, k) | inr k ↦ inr k ]
+      by false e h = inr h
+
+module _ (p : ℕ) (objects : List Object) where
+  abbrev owned : List ObjectId
+  owned = map (λ x. x.id) (filter (λ x. x.owner == p) objects)
+
+  abbrev goes_anyway : Reference → Bool
+  goes_anyway r = is_asked_by p r.holder || is_in_window p r.holder
+
+  among-owned : (xs : List Object) (o : ObjectId) → owned_in xs p o ≡ true → is_among (map (λ x. x.id) (filter (λ x. x.owner == p) xs)) o ≡ true
+  among-owned [] o h = absurd (cc)
+  among-owned (x ∷ xs) o h = elim (either (same x.id o && (x.owner == p)) (owned_in xs p o) h) [
+    | inl e ↦ (let k = and_parts (same x.id o) (x.owner == p) e in
+        put (λ (y : Object). y.owner == p) (λ y. y.id) o x xs k.1 (subst (λ i. same o i ≡ true) (sym (same-eq x.id o k.0)) (same-self o)))
+    | inr e ↦ further (λ (y : Object). y.owner == p) (λ y. y.id) o x xs (among-owned xs o e)
+  ]
+
+  why : (r : Reference) → is_dropped_with objects p r ≡ true → (goes_anyway r ≡ true) ⊎ (owned_in objects p r.object ≡ true)
+  why r h = elim (either (goes_anyway r) (owned_in objects p r.object && is_of_owner r.holder) h) [
+    | inl a ↦ inl a
+    | inr k ↦ inr (and_parts _ _ k).0
+  ]
+
+  among-dropped : (rs : List Reference) (o : ObjectId) → is_among (map (λ r. r.object) (filter (is_dropped_with objects p) rs)) o ≡ true
+      → (is_among (map (λ r. r.object) (filter goes_anyway rs)) o ≡ true) ⊎ (is_among owned o ≡ true)
+  among-dropped [] o h = absurd (cc)
+  among-dropped (r ∷ rs) o h = elim (taken (is_dropped_with objects p) (λ r. r.object) o r rs h) [
+    | inl e ↦ (elim (why r e.0) [
+      | inl a ↦ inl (put goes_anyway (λ r. r.object) o r rs a e.1)
+      | inr w ↦ inr (among-owned objects o (subst (λ i. owned_in objects p i ≡ true) (sym (same-eq o r.object e.1)) w))
+    ])
+    | inr k ↦ (elim (among-dropped rs o k) [
+      | inl a ↦ inl (further goes_anyway (λ r. r.object) o r rs a)
+      | inr w ↦ inr w
+    ])
+  ]
+
+  pub has-dropped : (refs : List Reference) (old mid new : List ObjectId) → HasAll mid (old ++ owned) → HasAll new (mid ++ map (λ r. r.object) (filter goes_anyway refs))
+      → HasAll new ((old ++ owned) ++ map (λ r. r.object) (filter (is_dropped_with objects p) refs))
+  has-dropped refs old mid new h g = λ o e.
+      let first = λ (k : is_among (old ++ owned) o ≡ true). g o (among-append mid _ o ∙ or_left _ _ (h o k)) in
+      elim (either (is_among (old ++ owned) o) _ (sym (among-append (old ++ owned) _ o) ∙ e)) [
+        | inl k ↦ first k
+        | inr k ↦ (elim (among-dropped refs o k) [
+          | inl a ↦ g o (among-append mid _ o ∙ or_right _ _ a)
+          | inr w ↦ first (among-append old owned o ∙ or_right _ _ w)
+        ])
+      ]
+
+  -- ---- what is dropped, as a table of references says it
+
+  or_assoc : (x y z : Bool) → (x || (y || z)) ≡ (x || y || z)
+  or_assoc true y z = refl
+  or_assoc false y z = refl
+
+  abbrev goes_with : Reference → Bool
+  goes_with r = is_asked_by p r.holder || (is_in_window p r.holder || (owned_in objects p r.object && is_of_owner r.holder))
+
+  pub left : (refs : List Reference) → filter (λ r. not (goes_with r)) refs ≡ filter (λ r. not (is_dropped_with objects p r)) refs
+  left [] = refl
+  left (r ∷ rs) =
+      let e : goes_with r ≡ is_dropped_with objects p r = or_assoc (is_asked_by p r.holder) (is_in_window p r.holder) _ in
+      ap (λ b. cond (not b) (r ∷ filter (λ x. not (goes_with x)) rs) (filter (λ x. not (goes_with x)) rs)) e
+      ∙ ap (λ xs. cond (not (is_dropped_with objects p r)) (r ∷ xs) xs) (left rs)

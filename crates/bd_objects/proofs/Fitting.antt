@@ -1,0 +1,14 @@
+-- No name of a table has a number past the limit.
+use Rattle.std.proofs.Common.{◌≡◌, false, List}
+use Rattle.bd_space.specs.declared.space.Object.{Object}
+use Rattle.bd_space.specs.declared.space.Reference.{Reference}
+use Rattle.bd_space.specs.declared.space.Name.{Name}
+use Rattle.bd_space.specs.declared.space.DeathNotification.{DeathNotification}
+use Rattle.bd_space.specs.Names.{has_number_past_limit}
+use Rattle.bd_objects.specs.declared.table.ObjectTable.{ObjectTable}
+use Rattle.bd_objects.specs.Stands.{Stands}
+use Rattle.bd_names.proofs.Limits as limits
+
+pub numbers-fit : (t : ObjectTable) (objects : List Object) (references : List Reference) (names : List Name)
+    (deaths : List DeathNotification) → Stands t objects references names deaths → has_number_past_limit names ≡ false
+numbers-fit t objects references names deaths h = limits.numbers-fit t.names names names h.names_are

@@ -1,0 +1,13 @@
+use Rattle.std.proofs.Common.{◌==◌, ◌&&◌, refl}
+use Rattle.std.proofs.lemmas.List.Folds.{list_any-append}
+use Rattle.bd_space.specs.declared.space.Object.{Object}
+use Rattle.bd_space.specs.Words.{same}
+use Rattle.bd_objects.proofs.naming.is_own.Goals as goal
+
+pub returns-else-owns : goal.returns-else-owns
+returns-else-owns c = λ objects n.
+    rw (list_any-append (λ (x : Object). same x.id c.args.o && (x.owner == c.args.p)) objects c.args.made.now, ← c.owns.ensures objects n, c.if-owns.false) c.owned_in.ensures
+
+pub returns-then-owns : goal.returns-then-owns
+returns-then-owns c = λ objects n.
+    rw (list_any-append (λ (x : Object). same x.id c.args.o && (x.owner == c.args.p)) objects c.args.made.now, ← c.owns.ensures objects n, c.if-owns.true) refl

@@ -1,0 +1,19 @@
+use Rattle.std.proofs.Common.{◌∙◌, ◌++◌, ap, subst}
+use Rattle.bd_space.specs.ReadItems.{read_by, handshakes, told_deaths}
+use Rattle.bd_nodes.specs.Stands.{NodesAre}
+use Rattle.bd_objects.proofs.Owners.{told-alike}
+use Rattle.bd_objects.proofs.Holding.{holds-alike}
+use Rattle.bd_objects.proofs.table.ObjectTable.read_by.Goals as goal
+
+pub returns-clause-stands : goal.returns-clause-stands
+unfolding read_by
+returns-clause-stands c = λ seat s h at.
+    let ws = c.args.taken.now in
+    let refs = s.references ++ handshakes s 0 ws in
+    let held = c.add_handshakes.ensures.stands s h.objects_are at h.references_are in
+    record {
+      objects_are = subst (λ xs. NodesAre c.tell_owners.new.nodes xs) (told-alike s.references refs ws s.objects (holds-alike s ws)) (c.tell_owners.ensures.stands s.objects refs h.objects_are held);
+      references_are = held;
+      names_are = h.names_are;
+      deaths_are = c.mark_told.ensures.items ∙ ap (told_deaths ws) h.deaths_are;
+    }

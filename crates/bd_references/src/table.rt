@@ -1,0 +1,49 @@
+//! The table, and its memory.
+
+ghost use Rattle.std.specs.Prelude.{◌≡◌, ◌+◌, ◌≤◌, ◌++◌, ◌∷◌, [], List, OnOk, OnErr};
+ghost use Rattle.bd_space.specs.declared.space.Reference.{Reference};
+
+use bd_space::Reference;
+use std::alloc::{AllocError, Global};
+
+/// The references of a space to its objects.
+#[derive(Drop)]
+pub struct ReferenceTable {
+    pub(crate) references: Vec<Reference>,
+}
+
+impl ReferenceTable {
+    ghost use Rattle.bd_references.specs.Stands.{ReferencesAre};
+    ghost use Rattle.bd_references.specs.Room.{reference_room};
+
+    /// No references.
+    pub fn new(alloc: Global) -> ReferenceTable
+        ensures { ReferencesAre result [] }
+    {
+        ReferenceTable {
+            references: Vec::new(alloc),
+        }
+    }
+
+    /// Makes room for so many more. Changes nothing else.
+    #[tactic(auto, unfolding(crate::specs::Room::reference_room))]
+    pub fn reserve(&mut self, more: usize) -> Result<(), AllocError>
+        ensures stands { (l : List Reference) → ReferencesAre self.old l → ReferencesAre self.new l }
+        ensures uses { reference_room self.old ≤ reference_room self.new }
+        ensures room { OnOk result (more ≤ reference_room self.new) }
+        // Memory was asked for: there was no room.
+        ensures grown { OnErr result (more ≤ reference_room self.old → ⊥) }
+    {
+        self.references.reserve(more)
+    }
+
+    /// One reference more, after the others.
+    #[tactic(auto, unfolding(crate::specs::Room::reference_room))]
+    pub fn push(&mut self, r: Reference)
+        requires { 1 ≤ reference_room self.old }
+        ensures stands { (l : List Reference) → ReferencesAre self.old l → ReferencesAre self.new (l ++ r ∷ []) }
+        ensures uses { reference_room self.old ≤ reference_room self.new + 1 }
+    {
+        self.references.push_reserved(r);
+    }
+}
