@@ -160,14 +160,16 @@ module _ (m : Hands) (i : ℕ) (r : Request) (e0 : History) (p : IsPicked m i r 
   pub serves_on : (e1 : History) (ran : Result HasRan Refused) → IfOk ran (λ x. HasRun e0 e1 i r x.answer x.from x.to) → OnErr ran (e1 ≡ e0) → (o : Outcome) (n : ℕ) (m' m'' : Hands)
       → m' ≡ (served_at v n e1.entries ∷ [], (i + 1, Empty) ∷ rest m.1) → m'' ≡ (answered_at (view_of m'.0) 2 o ∷ [], rest m'.1) → Serving m'' e1 × (e1.seats ≡ e0.seats)
   serves_on e1 ran h same o n m' m'' after last =
-      let seats = seats_after e1 ran h same in
-      (subst (λ x. Serving x e1) (sym (last ∙ ap (λ (x : Hands). (answered_at (view_of x.0) 2 o ∷ [], rest x.1)) after)) (record {
-        one = refl;
-        on = p.on;
-        none_picked = refl;
-        held = p.below;
-        stands = ap (λ n. history_of n e1.entries) (seats ∙ ap (λ (e : History). e.seats) p.stands);
-      }), seats)
+      let seats = seats_after e1 ran h same in (
+        subst (λ x. Serving x e1) (sym (last ∙ ap (λ (x : Hands). (answered_at (view_of x.0) 2 o ∷ [], rest x.1)) after)) (record {
+          one = refl;
+          on = p.on;
+          none_picked = refl;
+          held = p.below;
+          stands = ap (λ n. history_of n e1.entries) (seats ∙ ap (λ (e : History). e.seats) p.stands);
+        }),
+        seats,
+      )
 
   pub ran_picked : (e1 : History) (o : Outcome) (n : ℕ) (m' m'' : Hands) → RunsAs v.seats i r o v.seen e1.entries → m' ≡ (served_at v n e1.entries ∷ [], (i + 1, Empty) ∷ rest m.1) → m'' ≡ (answered_at (view_of m'.0) 2 o ∷ [], rest m'.1) → RanPicked m i r m''
   ran_picked e1 o n m' m'' runs after last =
