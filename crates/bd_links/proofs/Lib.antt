@@ -9,6 +9,8 @@ pub mod Walking
 pub mod Sweeping
 pub mod Counting
 pub mod Dating
-pub mod AnyNode
+pub mod OnList
 pub mod WorksStand
 pub mod Fronts
+pub mod SoughtCounts
+pub mod Registering

@@ -7,6 +7,7 @@ use Rattle.bd_space.specs.declared.space.TodoList.{TodoList}
 use Rattle.bd_space.specs.declared.space.TodoList.TheVariants.{OfThread, OfProcess}
 use Rattle.bd_space.specs.Words.{without_first}
 use Rattle.bd_space.specs.Todo.{same_list, is_on}
+use Rattle.std.specs.List.{list_any}
 use Rattle.bd_links.specs.declared.queues.Listed.{Listed}
 use Rattle.std.proofs.Common.{◌-◌}
 use Rattle.bd_links.specs.Rings.{Off, In, Distinct, Path, is_in_ring, ring, without, Rings}
@@ -14,6 +15,7 @@ use Rattle.bd_links.specs.Queues.{no_work, work_in, is_used, used, head_in, head
 use Rattle.bd_links.specs.Shown.{ShowsAt}
 use Rattle.bd_links.specs.Moved.{cut_next, cut_prev, moved_next, moved_prev, moved_order}
 use Rattle.bd_links.proofs.RingLemmas.{apart_from, Off-append, Off-left, Distinct-right, Distinct-across, Distinct-back, In-left, In-right, Below-at}
+use Rattle.bd_links.proofs.OnList.{any_some}
 use Rattle.bd_links.proofs.Moves.{filter_filter, filter-append, filter_agree, In-filter, In-from_filter, Distinct-filter, without_off, without_gone, cut_at, on_ring, node_of, detached, attached}
 
 -- ---- lists by name
@@ -299,15 +301,6 @@ without_front W p (y ∷ ys) x rest apart e = one (p (work_in W y)) refl e (with
         let far : y ≢ x = apart_from y x ys apart.0 r.0 in
         ap (λ zs. work_in W y ∷ zs) (k e) ∙ sym (ap (map (work_in W)) (ap (λ b. cond (not b) (y ∷ without x ys) (without x ys)) (ne_eqb y x far)))
 
--- nothing goes where nothing is on the list
-pub without_first-none : (p : Work → Bool) (ws : List Work) → filter p ws ≡ [] → without_first p ws ≡ ws
-without_first-none p [] e = refl
-without_first-none p (w ∷ ws) e = one (p w) e (without_first-none p ws)
-  where
-    one : (b : Bool) → cond b (w ∷ filter p ws) (filter p ws) ≡ [] → (filter p ws ≡ [] → without_first p ws ≡ ws) → cond b ws (w ∷ without_first p ws) ≡ w ∷ ws
-    one true e k = cc
-    one false e k = ap (λ vs. w ∷ vs) (k e)
-
 -- ---- the steps of the code
 
 -- no used node is missing after a move
@@ -335,12 +328,12 @@ push_shows N P R W lists f todo order h one x s w is found N' P' R' W' eN eP eR 
       covered = covered_moved R order x s h.covered;
     })
 
-pub pop_shows : (N P R : List ℕ) (W : List Work) (lists : List Listed) (f : ℕ) (todo : List Work) (order : List ℕ) → ShowsAt N P R W lists f todo order
+-- the first node of a list's ring, and its item
+pub front_shows : (N P R : List ℕ) (W : List Work) (lists : List Listed) (f : ℕ) (todo : List Work) (order : List ℕ) → ShowsAt N P R W lists f todo order
     → (x s : ℕ) (l : TodoList) → x ≡ get_or N s 0 → head_in lists l ≡ Some s → x ≢ s
-    → (N' P' R' : List ℕ) (W' : List Work) (f' : ℕ) → N' ≡ moved_next N P x 0 → P' ≡ moved_prev N P x 0 → R' ≡ set R x 0 → W' ≡ W → f' ≤ f + 1
-    → ShowsAt N' P' R' W' lists f' (without_first (is_on l) todo) (moved_order x order)
-pop_shows N P R W lists f todo order h x s l is found far N' P' R' W' f' eN eP eR eW ef =
-    elim (first_is N P s (ring R order s) (h.queued.rings.rings s (inr there))) as (λ _. ShowsAt N' P' R' W' lists f' (without_first (is_on l) todo) (moved_order x order)) [
+    → In x (used R order) × (without_first (is_on l) todo ≡ map (work_in W) (without x (used R order))) × (list_any (is_on l) todo ≡ true)
+front_shows N P R W lists f todo order h x s l is found far =
+    elim (first_is N P s (ring R order s) (h.queued.rings.rings s (inr there))) as (λ _. In x (used R order) × (without_first (is_on l) todo ≡ map (work_in W) (without x (used R order))) × (list_any (is_on l) todo ≡ true)) [
       | first_none e i ↦ absurd (far (is ∙ i))
       | first_some rest e ↦ go rest (e ∙ ap (λ y. y ∷ rest) (sym is))
     ]
@@ -348,27 +341,21 @@ pop_shows N P R W lists f todo order h x s l is found far N' P' R' W' f' eN eP e
     there : In s (heads_of lists)
     there = head_in-In lists l s found
 
-    apart : 0 ≢ s
-    apart = apart_from 0 s (heads_of lists) (Off-left 0 (heads_of lists) order h.queued.rings.apart.0) there
-
-    go : (rest : List ℕ) → ring R order s ≡ x ∷ rest → ShowsAt N' P' R' W' lists f' (without_first (is_on l) todo) (moved_order x order)
+    go : (rest : List ℕ) → ring R order s ≡ x ∷ rest → In x (used R order) × (without_first (is_on l) todo ≡ map (work_in W) (without x (used R order))) × (list_any (is_on l) todo ≡ true)
     go rest e =
         let q = h.queued in
-        let node = node_of N P R (0 ∷ heads_of lists) order q.rings s x (subst (In x) (sym e) (inl refl)) in
-        let more = free_dropped N P R W lists order todo q x node.0 (λ i. apart (i ∙ node.1)) in
-        let gone : without_first (is_on l) todo ≡ map (work_in W) (without x (used R order)) =
-        ap (without_first (is_on l)) q.todo_are ∙ without_front W (is_on l) (used R order) x rest (Distinct-filter (is_used R) order (Distinct-right (0 ∷ heads_of lists) order q.rings.apart)) (on_list N P R W lists order todo q l s found ∙ e) in
-        rw (eN, eP, eR, eW, gone) (record {
-          queued = dropped N P R W lists order todo q x node.0;
-          free = omega (arith, more, h.free, ef);
-          covered = covered_moved R order x 0 h.covered;
-        })
+        let node = node_of N P R (0 ∷ heads_of lists) order q.rings s x (subst (In x) (sym e) (inl refl)) in (
+          In-filter x (is_used R) order node.0 (used_off_zero N P R W lists order todo q x s there node.1),
+          ap (without_first (is_on l)) q.todo_are ∙ without_front W (is_on l) (used R order) x rest (Distinct-filter (is_used R) order (Distinct-right (0 ∷ heads_of lists) order q.rings.apart)) (on_list N P R W lists order todo q l s found ∙ e),
+          any_some (is_on l) todo (work_in W x) (map (work_in W) rest) (queue_is N P R W lists order todo q l s found ∙ ap (map (work_in W)) e),
+        )
 
-pub pop_nothing : (N P R : List ℕ) (W : List Work) (lists : List Listed) (f : ℕ) (todo : List Work) (order : List ℕ) → ShowsAt N P R W lists f todo order
-    → (s : ℕ) (l : TodoList) → get_or N s 0 ≡ s → head_in lists l ≡ Some s → without_first (is_on l) todo ≡ todo
-pop_nothing N P R W lists f todo order h s l is found =
-    elim (first_is N P s (ring R order s) (h.queued.rings.rings s (inr (head_in-In lists l s found)))) as (λ _. without_first (is_on l) todo ≡ todo) [
-      | first_none e i ↦ without_first-none (is_on l) todo (queue_is N P R W lists order todo h.queued l s found ∙ ap (map (work_in W)) e)
+-- a ring without nodes
+pub ring_empty : (N P R : List ℕ) (W : List Work) (lists : List Listed) (f : ℕ) (todo : List Work) (order : List ℕ) → ShowsAt N P R W lists f todo order
+    → (s : ℕ) (l : TodoList) → get_or N s 0 ≡ s → head_in lists l ≡ Some s → filter (is_on l) todo ≡ []
+ring_empty N P R W lists f todo order h s l is found =
+    elim (first_is N P s (ring R order s) (h.queued.rings.rings s (inr (head_in-In lists l s found)))) as (λ _. filter (is_on l) todo ≡ []) [
+      | first_none e i ↦ queue_is N P R W lists order todo h.queued l s found ∙ ap (map (work_in W)) e
       | first_some rest e ↦
           let ks = head_in-In lists l s found in
           let off = Distinct-across s (0 ∷ heads_of lists) order h.queued.rings.apart (inr ks) in
@@ -408,10 +395,3 @@ remove_shows N P R W lists f todo order h x k N' P' R' W' f' eN eP eR eW ef =
   where
     clash : not (get_or R x 0 == 0) ≡ not (0 == 0) → is_used R x ≡ true → ⊥
     clash e u = let z : not (0 == 0) ≡ false = ap not (eq-eqb 0 0 refl) in cc
-
--- the items that a test passes go with their one node
-pub withdrawn : (N P R : List ℕ) (W : List Work) (lists : List Listed) (order : List ℕ) (todo : List Work) → Queued N P R W lists order todo → (p : Work → Bool) (x : ℕ)
-    → p (work_in W x) ≡ true → ((y : ℕ) → In y (used R order) → p (work_in W y) ≡ true → y ≡ x) → filter (λ w. not (p w)) todo ≡ map (work_in W) (without x (used R order))
-withdrawn N P R W lists order todo q p x is one =
-    ap (filter (λ w. not (p w))) q.todo_are ∙ filter-map (work_in W) (λ w. not (p w)) (used R order)
-    ∙ ap (map (work_in W)) (filter_agree (λ y. not (p (work_in W y))) (λ y. not (y == x)) (used R order) (λ y k. ap not (bools (p (work_in W y)) (y == x) (λ t. eq-eqb y x (one y k t)) (λ t. ap (λ z. p (work_in W z)) (eqb-true y x t) ∙ is))))

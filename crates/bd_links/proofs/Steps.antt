@@ -1,8 +1,8 @@
 -- The steps of the code, over queues.
 use Rattle.std.proofs.Common.{◌≡◌, ◌≢◌, ◌⊎◌, inl, inr, ℕ, ◌+◌, ◌-◌, ◌≤◌, List, [], ◌∷◌, ◌++◌, filter, length, ◌==◌, true, false, not, eq-eqb, Some, None, get_or, set, refl, sym, ap, ◌∙◌, arith}
+use Rattle.std.specs.List.{list_any}
 use Rattle.bd_space.specs.declared.space.Work.{Work}
 use Rattle.bd_space.specs.declared.space.TodoList.{TodoList}
-use Rattle.bd_space.specs.Words.{without_first}
 use Rattle.bd_space.specs.Todo.{is_on}
 use Rattle.bd_links.specs.declared.queues.Queues.{Queues}
 use Rattle.bd_links.specs.declared.queues.Listed.{Listed}
@@ -12,8 +12,9 @@ use Rattle.bd_links.specs.Rings.{without}
 use Rattle.bd_links.specs.Nodes.{nexts, prevs, rows, works}
 use Rattle.bd_links.specs.Queues.{head_in}
 use Rattle.bd_links.specs.Moved.{cut_next, cut_prev, moved_next, moved_prev, moved_order}
-use Rattle.bd_links.specs.QueuesStand.{Empty, Shows, Stands}
-use Rattle.bd_links.proofs.QueueLemmas.{push_shows, pop_shows, pop_nothing, unlisted, without_first-none}
+use Rattle.bd_links.specs.QueuesStand.{Empty, Shows, Stands, FrontIn}
+use Rattle.bd_links.proofs.OnList.{any_none}
+use Rattle.bd_links.proofs.QueueLemmas.{push_shows, front_shows, ring_empty}
 use Rattle.bd_links.proofs.Growing.{begun, grown, head_listed, zero_added}
 
 -- the node x is moved to the end of the ring of s
@@ -35,37 +36,27 @@ push_stands t u todo x s w h one is found m ws ls fr = record { either = of h.ei
           (nexts u.nodes.items) (prevs u.nodes.items) (rows u.nodes.items) (works u.nodes.items) m.nexts_are m.prevs_are m.rows_are ws),
     )
 
-pub pop_stands : (t u : Queues) (todo : List Work) (x s : ℕ) (l : TodoList) → Stands t todo → x ≡ get_or (nexts t.nodes.items) s 0 → head_in t.lists.items l ≡ Some s → x ≢ s
-    → Moved t.nodes.items u.nodes.items x 0 → works u.nodes.items ≡ works t.nodes.items → u.lists.items ≡ t.lists.items → u.free ≤ t.free + 1
-    → Stands u (without_first (is_on l) todo)
-pop_stands t u todo x s l h is found far m ws ls fr = record { either = of h.either }
+-- the first node of a list's ring
+pub front_stands : (t : Queues) (todo : List Work) (x s : ℕ) (l : TodoList) → Stands t todo → x ≡ get_or (nexts t.nodes.items) s 0 → head_in t.lists.items l ≡ Some s → x ≢ s
+    → FrontIn t todo l x × (true ≡ list_any (is_on l) todo)
+front_stands t todo x s l h is found far = of h.either
   where
-    of : Empty t todo ⊎ ((order : List ℕ) × Shows t todo order) → Empty u (without_first (is_on l) todo) ⊎ ((order : List ℕ) × Shows u (without_first (is_on l) todo) order)
+    clash : None ≡ Some s → ⊥
+    clash d = cc
+
+    of : Empty t todo ⊎ ((order : List ℕ) × Shows t todo order) → FrontIn t todo l x × (true ≡ list_any (is_on l) todo)
     of (inl e) = absurd (clash (sym (ap (λ ls. head_in ls l) e.no_lists) ∙ found))
-      where
-        clash : None ≡ Some s → ⊥
-        clash d = cc
-    of (inr k) = inr (
-      moved_order x k.0,
-      rw ls (pop_shows (nexts t.nodes.items) (prevs t.nodes.items) (rows t.nodes.items) (works t.nodes.items) t.lists.items t.free todo k.0 k.1 x s l is found far
-          (nexts u.nodes.items) (prevs u.nodes.items) (rows u.nodes.items) (works u.nodes.items) u.free m.nexts_are m.prevs_are m.rows_are ws fr),
-    )
+    of (inr k) =
+        let f = front_shows (nexts t.nodes.items) (prevs t.nodes.items) (rows t.nodes.items) (works t.nodes.items) t.lists.items t.free todo k.0 k.1 x s l is found far in
+        ((k.0, k.1, f.0, f.1), sym f.2)
 
--- nothing is on the list
-pub pop_none : (t : Queues) (todo : List Work) (s : ℕ) (l : TodoList) → Stands t todo → get_or (nexts t.nodes.items) s 0 ≡ s → head_in t.lists.items l ≡ Some s → without_first (is_on l) todo ≡ todo
-pop_none t todo s l h is found = of h.either
+-- a ring without nodes
+pub front_none : (t : Queues) (todo : List Work) (s : ℕ) (l : TodoList) → Stands t todo → get_or (nexts t.nodes.items) s 0 ≡ s → head_in t.lists.items l ≡ Some s → false ≡ list_any (is_on l) todo
+front_none t todo s l h is found = sym (any_none (is_on l) todo (of h.either))
   where
-    of : Empty t todo ⊎ ((order : List ℕ) × Shows t todo order) → without_first (is_on l) todo ≡ todo
-    of (inl e) = without_first-none (is_on l) todo (ap (filter (is_on l)) e.none)
-    of (inr k) = pop_nothing (nexts t.nodes.items) (prevs t.nodes.items) (rows t.nodes.items) (works t.nodes.items) t.lists.items t.free todo k.0 k.1 s l is found
-
--- no head stands for the list
-pub pop_unlisted : (t : Queues) (todo : List Work) (l : TodoList) → Stands t todo → head_in t.lists.items l ≡ None → without_first (is_on l) todo ≡ todo
-pop_unlisted t todo l h missing = of h.either
-  where
-    of : Empty t todo ⊎ ((order : List ℕ) × Shows t todo order) → without_first (is_on l) todo ≡ todo
-    of (inl e) = without_first-none (is_on l) todo (ap (filter (is_on l)) e.none)
-    of (inr k) = without_first-none (is_on l) todo (unlisted _ _ _ _ _ k.0 todo k.1.queued l missing)
+    of : Empty t todo ⊎ ((order : List ℕ) × Shows t todo order) → filter (is_on l) todo ≡ []
+    of (inl e) = ap (filter (is_on l)) e.none
+    of (inr k) = ring_empty (nexts t.nodes.items) (prevs t.nodes.items) (rows t.nodes.items) (works t.nodes.items) t.lists.items t.free todo k.0 k.1 s l is found
 
 -- ---- growing
 

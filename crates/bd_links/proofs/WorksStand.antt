@@ -1,21 +1,33 @@
 -- The table as a whole: a work item comes, or some go.
-use Rattle.std.proofs.Common.{◌≡◌, ◌⊎◌, inl, inr, ℕ, ◌+◌, ◌%◌, ◌^◌, ◌<◌, ◌≤◌, ◌==◌, nat_le, Bool, true, false, List, [], ◌∷◌, ◌++◌, length, filter, count_by, refl, sym, ap, ◌∙◌, subst, arith, mod-eq_of_lt, length-append, leb-true, leb-false}
+use Rattle.std.proofs.Common.{◌≡◌, ◌⊎◌, inl, inr, ℕ, zero, suc, ◌^◌, ◌<◌, ◌≤◌, ◌==◌, nat_lt, Bool, not, cond, map, true, List, [], ◌∷◌, ◌++◌, length, filter, count_by, refl, sym, ap, ◌∙◌, subst, arith, length-append}
 use Rattle.std.proofs.lemmas.List.{length-map}
-use Rattle.std.proofs.lemmas.List.Sums.{count_by-le-length}
 use Rattle.bd_space.specs.declared.space.Work.{Work}
 use Rattle.bd_space.specs.declared.space.TodoList.{TodoList}
 use Rattle.bd_space.specs.declared.space.WorkKind.{WorkKind}
-use Rattle.bd_space.specs.Todo.{with_work}
+use Rattle.bd_space.specs.Todo.{with_work, is_on, is_notice, is_call}
 use Rattle.bd_links.specs.declared.links.Node.{Node}
 use Rattle.bd_links.specs.declared.queues.Queues.{Queues}
 use Rattle.bd_links.specs.declared.table.WorkTable.{WorkTable}
-use Rattle.bd_links.specs.Dated.{Dated}
-use Rattle.bd_links.specs.QueuesStand.{Empty, Shows, Stands}
+use Rattle.std.specs.List.{list_any}
+use Rattle.bd_space.specs.declared.step.ObjectId.{ObjectId}
+use Rattle.bd_space.specs.declared.space.WorkKind.TheVariants as kinds
+use Rattle.bd_space.specs.Words.{without_first}
+use Rattle.bd_links.specs.declared.spots.Sought.TheVariants.{Notice, Call}
+use Rattle.bd_links.specs.Rings.{In, without}
+use Rattle.bd_links.specs.Moved.{moved_order}
+use Rattle.bd_links.specs.Nodes.{rows, works}
+use Rattle.bd_links.specs.Queues.{is_used, used, work_in}
+use Rattle.bd_links.specs.Spots.{is_sought, count_at}
+use Rattle.bd_links.specs.Registered.{Registered}
+use Rattle.bd_links.proofs.Moves.{In-filter}
+use Rattle.bd_links.proofs.SoughtCounts.{count-less, none_pass, any_counted}
+use Rattle.bd_links.proofs.Sweeping.{node_cut}
+use Rattle.bd_links.specs.QueuesStand.{Empty, Shows, Stands, FrontIn}
 use Rattle.bd_links.specs.Stands.{WorksAre}
 use Rattle.bd_links.proofs.Growing.{works_fit}
-use Rattle.bd_links.proofs.Dating.{dated_new, dated_older, dated_filter, none_later}
+use Rattle.bd_links.proofs.Dating.{none_later}
 
-works_few : (t : Queues) (todo : List Work) → Stands t todo → length todo ≤ length t.nodes.items
+pub works_few : (t : Queues) (todo : List Work) → Stands t todo → length todo ≤ length t.nodes.items
 works_few t todo h = of h.either
   where
     of : Empty t todo ⊎ ((order : List ℕ) × Shows t todo order) → length todo ≤ length t.nodes.items
@@ -24,44 +36,96 @@ works_few t todo h = of h.either
 
 pub works_pushed : (t u : WorkTable) (place index : ℕ) (list : TodoList) (kind : WorkKind) (l : List Work) → WorksAre t l → index ≡ count_by (λ w. w.id.place == place) l
     → Stands u.queues (l ++ record { id = record { place = place; index = index }; list = list; kind = kind } ∷ []) → length u.queues.nodes.items < 2 ^ 64
-    → (t.latest ≤ place → (u.latest ≡ place) × (u.count ≡ (index + 1) % 2 ^ 64)) → (place < t.latest → (u.latest ≡ t.latest) × (u.count ≡ t.count))
+    → ((todo : List Work) → length todo < 18446744073709551615 → index ≡ count_by (λ w. w.id.place == place) todo → Registered t.register todo
+    → Registered u.register (todo ++ record { id = record { place = place; index = index }; list = list; kind = kind } ∷ []))
     → WorksAre u (with_work place l list kind)
-works_pushed t u place index list kind l h is stands fits newer older = record {
+works_pushed t u place index list kind l h is stands fits reg = record {
   queues_stand = subst (λ i. Stands u.queues (l ++ item i ∷ [])) is stands;
-  dated = at (nat_le t.latest place) refl;
+  registered = subst (λ i. Registered u.register (l ++ item i ∷ [])) is (reg l small is h.registered);
 }
   where
     item : ℕ → Work
     item i = record { id = record { place = place; index = i }; list = list; kind = kind }
 
-    small : index + 1 < 2 ^ 64
-    small = let few = works_few u.queues (l ++ item index ∷ []) stands in let c = count_by-le-length (λ (w : Work). w.id.place == place) l in let a = length-append l (item index ∷ []) in omega (arith, few, c, a, is)
-
-    at : (b : Bool) → nat_le t.latest place ≡ b → Dated u.latest u.count (with_work place l list kind)
-    at true e =
-        let v = newer (leb-true t.latest place e) in
-        subst (λ n. Dated n u.count (with_work place l list kind)) (sym v.0)
-        (subst (λ n. Dated place n (with_work place l list kind)) (sym (v.1 ∙ mod-eq_of_lt small))
-        (dated_new t.latest t.count index l (item (count_by (λ (w : Work). w.id.place == place) l)) h.dated (leb-true t.latest place e) is))
-    at false e =
-        let v = older (let k = leb-false t.latest place e in omega arith) in
-        subst (λ n. Dated n u.count (with_work place l list kind)) (sym v.0)
-        (subst (λ n. Dated t.latest n (with_work place l list kind)) (sym v.1)
-        (dated_older t.latest t.count l (item (count_by (λ (w : Work). w.id.place == place) l)) h.dated (let k = leb-false t.latest place e in omega arith)))
-
-pub works_kept : (t u : WorkTable) (p : Work → Bool) (l : List Work) → WorksAre t l → Stands u.queues (filter p l) → u.latest ≡ t.latest
-    → u.count ≡ count_by (λ w. w.id.place == t.latest) (filter p l) → WorksAre u (filter p l)
-works_kept t u p l h stands late counts = record {
-  queues_stand = stands;
-  dated = subst (λ n. Dated n u.count (filter p l)) (sym late) (dated_filter t.latest t.count u.count p l h.dated counts);
-}
-
-pub works_same : (t u : WorkTable) (l : List Work) → WorksAre t l → Stands u.queues l → u.latest ≡ t.latest → u.count ≡ t.count → WorksAre u l
-works_same t u l h stands late counts = record { queues_stand = stands; dated = subst (λ n. Dated n u.count l) (sym late) (subst (λ n. Dated t.latest n l) (sym counts) h.dated) }
+    small : length l < 18446744073709551615
+    small = let few = works_few u.queues (l ++ item index ∷ []) stands in let a = length-append l (item index ∷ []) in omega (arith, few, a)
 
 -- nothing was made at a later place
-pub none_at : (t : WorkTable) (place : ℕ) (l : List Work) → WorksAre t l → t.latest < place → 0 ≡ count_by (λ w. w.id.place == place) l
-none_at t place l h late = sym (none_later t.latest place l h.dated.none_past late)
+pub none_at : (t : WorkTable) (place : ℕ) (l : List Work) → WorksAre t l → t.register.latest < place → 0 ≡ count_by (λ w. w.id.place == place) l
+none_at t place l h late = sym (none_later t.register.latest place l h.registered.dated.none_past late)
 
-pub all_at : (t : WorkTable) (place : ℕ) (l : List Work) → WorksAre t l → place ≡ t.latest → t.count ≡ count_by (λ w. w.id.place == place) l
-all_at t place l h same = h.dated.counted ∙ ap (λ n. count_by (λ (w : Work). w.id.place == n) l) (sym same)
+pub all_at : (t : WorkTable) (place : ℕ) (l : List Work) → WorksAre t l → place ≡ t.register.latest → t.register.count ≡ count_by (λ w. w.id.place == place) l
+all_at t place l h same = h.registered.dated.counted ∙ ap (λ n. count_by (λ (w : Work). w.id.place == n) l) (sym same)
+
+-- ---- the one notice
+
+notice_key : (o : ObjectId) (kind : WorkKind) → is_notice o kind ≡ is_sought (Notice o.place o.index) kind
+notice_key o (kinds.Notice p) = refl
+notice_key o (kinds.Call b) = refl
+notice_key o _ = refl
+
+call_key : (b : ℕ) (kind : WorkKind) → is_call b kind ≡ is_sought (Call b) kind
+call_key b (kinds.Notice p) = refl
+call_key b (kinds.Call c) = refl
+call_key b _ = refl
+
+notice_count : (o : ObjectId) (l : List Work) → count_by (λ w. is_notice o w.kind) l ≡ count_by (λ w. is_sought (Notice o.place o.index) w.kind) l
+notice_count o l = λ i. count_by (λ (w : Work). notice_key o w.kind i) l
+
+call_count : (b : ℕ) (l : List Work) → count_by (λ w. is_call b w.kind) l ≡ count_by (λ w. is_sought (Call b) w.kind) l
+call_count b l = λ i. count_by (λ (w : Work). call_key b w.kind i) l
+
+pub has_notice_is : (t : WorkTable) (o : ObjectId) (l : List Work) → WorksAre t l → nat_lt 0 (count_at t.register.spots (Notice o.place o.index)) ≡ list_any (λ w. is_notice o w.kind) l
+has_notice_is t o l h = ap (nat_lt 0) (h.registered.counted (Notice o.place o.index) ∙ sym (notice_count o l)) ∙ any_counted (λ (w : Work). is_notice o w.kind) l
+
+pub has_call_is : (t : WorkTable) (b : ℕ) (l : List Work) → WorksAre t l → nat_lt 0 (count_at t.register.spots (Call b)) ≡ list_any (λ w. is_call b w.kind) l
+has_call_is t b l h = ap (nat_lt 0) (h.registered.counted (Call b) ∙ sym (call_count b l)) ∙ any_counted (λ (w : Work). is_call b w.kind) l
+
+cut_one : (p : Work → Bool) (before : List Work) (w : Work) (after : List Work) → p w ≡ true → filter (λ v. not (p v)) (before ++ w ∷ after) ≡ filter (λ v. not (p v)) (before ++ after)
+cut_one p [] w after e = ap (λ b. cond (not b) (w ∷ filter (λ v. not (p v)) after) (filter (λ v. not (p v)) after)) e
+cut_one p (v ∷ before) w after e = ap (λ vs. cond (not (p v)) (v ∷ vs) vs) (cut_one p before w after e)
+
+pub only_goes : (t u : WorkTable) (p : Work → Bool) (l : List Work) (x : ℕ) → WorksAre t l → is_used (rows t.queues.nodes.items) x ≡ true → p (work_in (works t.queues.nodes.items) x) ≡ true → count_by p l ≡ 1
+    → ((l : List Work) (order : List ℕ) → Shows t.queues l order → In x (used (rows t.queues.nodes.items) order) → Shows u.queues (map (work_in (works t.queues.nodes.items)) (without x (used (rows t.queues.nodes.items) order))) (moved_order x order))
+    → ((l : List Work) (order : List ℕ) → Shows t.queues l order → Registered t.register l → In x (used (rows t.queues.nodes.items) order) → Registered u.register (map (work_in (works t.queues.nodes.items)) (without x (used (rows t.queues.nodes.items) order))))
+    → WorksAre u (filter (λ w. not (p w)) l)
+only_goes t u p l x h on is one gone went = of h.queues_stand.either
+  where
+    nowhere : (y : ℕ) → is_used [] y ≡ true → ⊥
+    nowhere zero k = cc
+    nowhere (suc y) k = cc
+
+    of : Empty t.queues l ⊎ ((order : List ℕ) × Shows t.queues l order) → WorksAre u (filter (λ w. not (p w)) l)
+    of (inl e) = absurd (nowhere x (sym (ap (λ ns. is_used (rows ns) x) e.no_nodes) ∙ on))
+    of (inr k) =
+        let there = In-filter x (is_used (rows t.queues.nodes.items)) k.0 (k.1.covered x on) on in
+        let c = node_cut t.queues l k.0 x k.1 there in
+        let w = work_in (works t.queues.nodes.items) x in
+        let less = ap (count_by p) (sym c.whole) in
+        let split = count-less p c.before w c.after in
+        let its = ap {B = ℕ} (λ b. cond b 1 0) is in
+        let left : filter (λ v. not (p v)) l ≡ map (work_in (works t.queues.nodes.items)) (without x (used (rows t.queues.nodes.items) k.0)) =
+        ap (filter (λ v. not (p v))) c.whole ∙ cut_one p c.before w c.after is ∙ none_pass p (c.before ++ c.after) (omega (arith, less, split, its, one)) ∙ sym c.rest in
+        record {
+          queues_stand = record { either = inr (moved_order x k.0, subst (λ ws. Shows u.queues ws (moved_order x k.0)) (sym left) (gone l k.0 k.1 there)) };
+          registered = subst (Registered u.register) (sym left) (went l k.0 k.1 h.registered there);
+        }
+
+pub one_notice : (t : WorkTable) (o : ObjectId) (l : List Work) → WorksAre t l → count_at t.register.spots (Notice o.place o.index) ≡ 1 → count_by (λ w. is_notice o w.kind) l ≡ 1
+one_notice t o l h one = notice_count o l ∙ sym (h.registered.counted (Notice o.place o.index)) ∙ one
+
+-- ---- the first of a list
+
+pub front_went : (t u : WorkTable) (l : List Work) (list : TodoList) (x : ℕ) → WorksAre t l → FrontIn t.queues l list x
+    → ((l : List Work) (order : List ℕ) → Shows t.queues l order → In x (used (rows t.queues.nodes.items) order) → Shows u.queues (map (work_in (works t.queues.nodes.items)) (without x (used (rows t.queues.nodes.items) order))) (moved_order x order))
+    → ((l : List Work) (order : List ℕ) → Shows t.queues l order → Registered t.register l → In x (used (rows t.queues.nodes.items) order) → Registered u.register (map (work_in (works t.queues.nodes.items)) (without x (used (rows t.queues.nodes.items) order))))
+    → WorksAre u (without_first (is_on list) l)
+front_went t u l list x h f gone went = record {
+  queues_stand = record { either = inr (moved_order x f.0, subst (λ ws. Shows u.queues ws (moved_order x f.0)) (sym f.3) (gone l f.0 f.1 f.2)) };
+  registered = subst (Registered u.register) (sym f.3) (went l f.0 f.1 h.registered f.2);
+}
+
+-- nothing stays of nothing
+pub none_left : (p : Work → Bool) (ws : List Work) → length ws ≡ 0 → filter (λ w. not (p w)) ws ≡ ws
+none_left p [] e = refl
+none_left p (w ∷ ws) e = absurd (omega arith)

@@ -1,11 +1,11 @@
 -- The latest place of a work item, and how many items were made there.
-use Rattle.std.specs.Prelude.{◌≡◌, ℕ, ◌==◌, ◌≤◌, List, [], ◌∷◌, count_by}
+use Rattle.std.specs.Prelude.{◌≡◌, ℕ, ◌==◌, ◌≤◌, List, count_by}
 use Rattle.bd_space.specs.declared.space.Work.{Work}
+use Rattle.bd_links.specs.Rising.{Each}
 
 -- none of them was made later
 abbrev pub NonePast : ℕ → List Work → Type 0
-NonePast latest [] = Unit {0}
-NonePast latest (w ∷ ws) = (w.id.place ≤ latest) × NonePast latest ws
+NonePast latest todo = Each (λ w. w.id.place ≤ latest) todo
 
 pub record Dated (latest count : ℕ) (todo : List Work) : Type 0 where
   pub none_past : NonePast latest todo

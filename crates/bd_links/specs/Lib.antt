@@ -10,3 +10,6 @@ pub mod Walk
 pub mod Sweep
 pub mod Dated
 pub mod Front
+pub mod Spots
+pub mod Rising
+pub mod Registered

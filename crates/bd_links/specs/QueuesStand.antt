@@ -1,7 +1,12 @@
 -- What the queues stand for: the work items of the space, in its order.
-use Rattle.std.specs.Prelude.{◌≡◌, ◌⊎◌, ℕ, ◌/◌, ◌-◌, min, List, [], vec_len, vec_capacity}
+use Rattle.std.specs.Prelude.{◌≡◌, ◌⊎◌, ℕ, ◌/◌, ◌-◌, min, List, [], map, vec_len, vec_capacity}
 use Rattle.bd_space.specs.declared.space.Work.{Work}
+use Rattle.bd_space.specs.declared.space.TodoList.{TodoList}
+use Rattle.bd_space.specs.Words.{without_first}
+use Rattle.bd_space.specs.Todo.{is_on}
 use Rattle.bd_links.specs.declared.queues.Queues.{Queues}
+use Rattle.bd_links.specs.Rings.{In, without}
+use Rattle.bd_links.specs.Queues.{used, work_in}
 use Rattle.bd_links.specs.Nodes.{nexts, prevs, rows, works}
 use Rattle.bd_links.specs.Shown.{ShowsAt}
 
@@ -21,3 +26,9 @@ pub record Stands (t : Queues) (todo : List Work) : Type 0 where
 -- so many work items more take no memory: one may need two nodes, the second for the head of its list
 abbrev pub queue_room : Queues → ℕ
 queue_room t = min (t.free / 2) (vec_capacity t.lists - vec_len t.lists)
+
+-- the node holds the first work item on the list, as some order shows
+abbrev pub FrontIn : Queues → List Work → TodoList → ℕ → Type 0
+FrontIn t todo list x =
+    (order : List ℕ) × Shows t todo order × In x (used (rows t.nodes.items) order)
+    × (without_first (is_on list) todo ≡ map (work_in (works t.nodes.items)) (without x (used (rows t.nodes.items) order)))

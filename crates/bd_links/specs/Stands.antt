@@ -1,17 +1,18 @@
 -- What a table of work items stands for: the work items of the space, in its order.
-use Rattle.std.specs.Prelude.{ℕ, ◌≡◌, List}
+use Rattle.std.specs.Prelude.{ℕ, ◌≡◌, List, min}
+use Rattle.std.specs.HashMap.{spare}
 use Rattle.bd_space.specs.declared.space.Work.{Work}
 use Rattle.bd_links.specs.declared.table.WorkTable.{WorkTable}
-use Rattle.bd_links.specs.Dated.{Dated}
+use Rattle.bd_links.specs.Registered.{Registered}
 use Rattle.bd_links.specs.QueuesStand as queues
 
 pub record WorksAre (t : WorkTable) (l : List Work) : Type 0 where
   pub queues_stand : queues.Stands t.queues l
-  pub dated : Dated t.latest t.count l
+  pub registered : Registered t.register l
 
 -- how many items more it takes without memory
 unfoldable pub work_room : WorkTable → ℕ
-work_room t = queues.queue_room t.queues
+work_room t = min (queues.queue_room t.queues) (spare t.register.spots.spots)
 
 -- of every list that the table stands for x is what f says
 abbrev pub Tells : {A : Type 0} → WorkTable → A → (List Work → A) → Type 0

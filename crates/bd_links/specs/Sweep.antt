@@ -1,10 +1,11 @@
 -- A walk over all nodes, up to one of them.
 use Rattle.std.specs.Prelude.{ℕ, ◌≡◌, nat_lt, Bool, not, ◌||◌, ◌&&◌, List, map, filter}
 use Rattle.bd_space.specs.declared.space.Work.{Work}
-use Rattle.bd_links.specs.declared.queues.Queues.{Queues}
+use Rattle.bd_links.specs.declared.table.WorkTable.{WorkTable}
 use Rattle.bd_links.specs.Nodes.{rows, works}
 use Rattle.bd_links.specs.Queues.{work_in, used}
 use Rattle.bd_links.specs.QueuesStand.{Shows}
+use Rattle.bd_links.specs.Registered.{Registered}
 
 -- the walk hasn't come to the node, or its item stays
 abbrev pub stays : (Work → Bool) → List Work → ℕ → ℕ → Bool
@@ -14,9 +15,10 @@ stays p W i x = not (nat_lt x i) || p (work_in W x)
 abbrev pub is_seen : (Work → Bool) → List Work → ℕ → ℕ → Bool
 is_seen p W i x = nat_lt x i && p (work_in W x)
 
--- what is left of the queues that an order showed, after a walk up to the node i
-pub record Swept (p : Work → Bool) (old new : Queues) (i : ℕ) (order : List ℕ) : Type 0 where
+-- what is left of the work items that an order showed, after a walk up to the node i
+pub record Swept (p : Work → Bool) (old new : WorkTable) (i : ℕ) (order : List ℕ) : Type 0 where
   pub now : List ℕ
-  pub shows : Shows new (map (work_in (works old.nodes.items)) (used (rows new.nodes.items) now)) now
-  pub works_are : works new.nodes.items ≡ works old.nodes.items
-  pub left : used (rows new.nodes.items) now ≡ filter (stays p (works old.nodes.items) i) (used (rows old.nodes.items) order)
+  pub shows : Shows new.queues (map (work_in (works old.queues.nodes.items)) (used (rows new.queues.nodes.items) now)) now
+  pub registered : Registered new.register (map (work_in (works old.queues.nodes.items)) (used (rows new.queues.nodes.items) now))
+  pub works_are : works new.queues.nodes.items ≡ works old.queues.nodes.items
+  pub left : used (rows new.queues.nodes.items) now ≡ filter (stays p (works old.queues.nodes.items) i) (used (rows old.queues.nodes.items) order)

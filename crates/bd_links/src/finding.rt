@@ -1,21 +1,19 @@
-//! What is found among the work items: on a list by its ring, and on any list by a look at all nodes.
+//! What is found among the work items on a list, by its ring.
 
-ghost use Rattle.std.specs.Prelude.{◌≡◌, ◌==◌, ◌&&◌, not, true, List, Some};
+ghost use Rattle.std.specs.Prelude.{◌≡◌, ◌==◌, ◌&&◌, true, List, Some};
 ghost use Rattle.std.specs.List.{list_any, slice_get};
 ghost use Rattle.bd_space.specs.declared.space.Work.{Work};
 ghost use Rattle.bd_space.specs.Words as words;
 ghost use Rattle.bd_space.specs.Todo as spec;
 ghost use Rattle.bd_space.specs.ThreadExits as exits;
-ghost use Rattle.bd_space.specs.Notices as notices;
 ghost use Rattle.bd_links.specs.TodoList as replies;
 ghost use Rattle.bd_links.specs.Front as front;
 ghost use Rattle.bd_links.specs.QueuesStand.{Stands};
 
-use crate::links::Node;
 use crate::queues::Queues;
 use crate::unread::Works;
-use crate::work::{hands_over, is_call, is_notice, keeps_from_calling, reply_of};
-use bd_space::{Identity, ObjectId, TodoList, Work};
+use crate::work::{hands_over, is_call, keeps_from_calling, reply_of};
+use bd_space::{Identity, TodoList, Work};
 
 fn any_keeps_from_calling(works: Works<'_>) -> bool
     ensures { result ≡ list_any (λ w. spec.keeps_from_calling w.kind) works.entry }
@@ -62,24 +60,6 @@ fn first_reply_among(works: Works<'_>) -> Option<u32>
     None
 }
 
-// A node holds the notice of the object.
-fn any_is_notice(nodes: &[Node], object: ObjectId) -> bool
-    ensures { result ≡ list_any (λ n. not (n.row == 0) && spec.is_notice object n.work.kind) nodes.now }
-{
-    nodes
-        .iter()
-        .any(|n| n.row != 0 && is_notice(object, n.work.kind))
-}
-
-// A node holds the call of the buffer.
-fn any_node_is_call(nodes: &[Node], buffer: u32) -> bool
-    ensures { result ≡ list_any (λ n. not (n.row == 0) && spec.is_call buffer n.work.kind) nodes.now }
-{
-    nodes
-        .iter()
-        .any(|n| n.row != 0 && is_call(buffer, n.work.kind))
-}
-
 // The first is called so, and no other is.
 fn is_front(works: Works<'_>, id: Identity) -> bool
     ensures { result ≡ front.is_front id true works.entry }
@@ -120,20 +100,6 @@ impl Queues {
             → result ≡ list_any (λ w. spec.is_on list w && spec.keeps_from_calling w.kind) todo }
     {
         any_keeps_from_calling(self.works_on(list))
-    }
-
-    /// Whether the notice of an object is on any list.
-    pub fn has_notice(&self, object: ObjectId) -> bool
-        ensures { (todo : List Work) → Stands self.now todo → result ≡ notices.has_notice_in todo object }
-    {
-        any_is_notice(&self.nodes, object)
-    }
-
-    /// Whether the call of a buffer is on any list.
-    pub fn has_call(&self, buffer: u32) -> bool
-        ensures { (todo : List Work) → Stands self.now todo → result ≡ list_any (λ w. spec.is_call buffer w.kind) todo }
-    {
-        any_node_is_call(&self.nodes, buffer)
     }
 
     /// The `k`-th work item on a list, oldest first.

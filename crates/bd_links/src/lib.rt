@@ -4,6 +4,8 @@
 mod finding;
 mod links;
 mod queues;
+mod register;
+mod spots;
 mod sweep;
 mod table;
 mod unread;

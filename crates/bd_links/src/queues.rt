@@ -1,6 +1,7 @@
 //! Queues.
 
-ghost use Rattle.std.specs.Prelude.{ℕ, ◌≡◌, ◌+◌, ◌^◌, ◌<◌, ◌≤◌, ◌++◌, ◌∷◌, [], List, Some, map, set, find, vec_len, vec_capacity, OnOk, OnErr, ◌/◌, ◌-◌};
+ghost use Rattle.std.specs.Prelude.{ℕ, ◌≡◌, ◌+◌, ◌^◌, ◌<◌, ◌≤◌, ◌++◌, ◌∷◌, [], List, Some, map, set, find, is_some, IfSome, vec_len, vec_capacity, OnOk, OnErr, ◌/◌, ◌-◌};
+ghost use Rattle.std.specs.List.{list_any};
 ghost use Rattle.bd_space.specs.declared.space.Work.{Work};
 ghost use Rattle.bd_links.specs.Queues.{head_in, no_work};
 
@@ -55,13 +56,12 @@ fn free_node() -> Node
 }
 
 impl Queues {
-    ghost use Rattle.bd_space.specs.Words.{without_first};
     ghost use Rattle.bd_space.specs.Todo.{is_on};
     ghost use Rattle.bd_links.specs.Rings.{In, without};
     ghost use Rattle.bd_links.specs.Moved.{moved_order};
     ghost use Rattle.bd_links.specs.Nodes.{rows, works};
     ghost use Rattle.bd_links.specs.Queues.{used, work_in};
-    ghost use Rattle.bd_links.specs.QueuesStand.{Shows, Stands, queue_room};
+    ghost use Rattle.bd_links.specs.QueuesStand.{Shows, Stands, FrontIn, queue_room};
 
     /// No queues. Takes no memory.
     pub fn new(alloc: Global) -> Queues
@@ -156,18 +156,18 @@ impl Queues {
         x
     }
 
-    /// One work item more.
-    pub fn push(&mut self, work: Work)
+    /// One work item more. Answers its node.
+    pub fn push(&mut self, work: Work) -> usize
         requires { 1 ≤ queue_room self.old }
         ensures stands { (todo : List Work) → Stands self.old todo → Stands self.new (todo ++ work ∷ []) }
         ensures uses { queue_room self.old ≤ queue_room self.new + 1 }
     {
         let head = self.head_for(work.list);
-        self.push_at(head, work);
+        self.push_at(head, work)
     }
 
     // One work item more, at the end of the ring of its list's head.
-    fn push_at(&mut self, head: usize, work: Work)
+    fn push_at(&mut self, head: usize, work: Work) -> usize
         requires { 1 ≤ self.old.free }
         ensures stands { (todo : List Work) → Stands self.old todo → head_in self.old.lists.items work.list ≡ Some head → Stands self.new (todo ++ work ∷ []) }
         ensures lists { self.new.lists ≡ self.old.lists }
@@ -177,6 +177,7 @@ impl Queues {
         move_last(&mut self.nodes, x, head);
         set_work(&mut self.nodes, x, work);
         self.free -= 1;
+        x
     }
 
     /// The work item of a node goes, wherever it stands.
@@ -191,17 +192,17 @@ impl Queues {
         self.free = self.free.saturating_add(1);
     }
 
-    /// The first work item on a list goes.
-    pub fn pop_front(&mut self, list: TodoList)
-        ensures stands { (todo : List Work) → Stands self.old todo → Stands self.new (without_first (is_on list) todo) }
-        ensures uses { queue_room self.old ≤ queue_room self.new }
+    /// The node of the first work item on a list.
+    pub fn front(&self, list: TodoList) -> Option<usize>
+        ensures any { (todo : List Work) → Stands self.now todo → is_some result ≡ list_any (is_on list) todo }
+        ensures some { (todo : List Work) → Stands self.now todo → IfSome result (FrontIn self.now todo list) }
     {
         if let Some(head) = head_of(&self.lists, list) {
             let x = next_of(&self.nodes, head);
             if x != head {
-                move_last(&mut self.nodes, x, 0);
-                self.free = self.free.saturating_add(1);
+                return Some(x);
             }
         }
+        None
     }
 }

@@ -1,40 +1,44 @@
 //! The table: its room, its changes and what it tells.
 #![tactic(auto, unfolding(crate::specs::Stands::work_room))]
 
-ghost use Rattle.std.specs.Prelude.{ℕ, Bool, true, List, ◌≡◌, ◌-◌, if◌then◌else◌, ◌&&◌, ◌+◌, ◌≤◌, ◌==◌, [], count_by, not, filter, Some, OnOk, OnErr};
+ghost use Rattle.std.specs.Prelude.{ℕ, Bool, true, List, ◌≡◌, ◌-◌, if◌then◌else◌, ◌&&◌, ◌+◌, ◌≤◌, ◌==◌, [], count_by, not, filter, Some, OnOk, OnErr, IfSome};
 ghost use Rattle.std.specs.List.{list_any, slice_get};
 ghost use Rattle.bd_space.specs.declared.space.Work.{Work};
 ghost use Rattle.bd_space.specs.declared.space.WorkKind.{WorkKind};
+ghost use Rattle.bd_space.specs.Words as words;
 ghost use Rattle.bd_space.specs.Todo as spec;
 ghost use Rattle.bd_space.specs.ThreadExits as exits;
 ghost use Rattle.bd_space.specs.Notices as notices;
 ghost use Rattle.bd_links.specs.Front.{is_front};
+ghost use Rattle.bd_links.specs.Nodes.{rows, works};
+ghost use Rattle.bd_links.specs.Queues as queues;
+ghost use Rattle.bd_links.specs.Spots.{count_at};
+ghost use Rattle.bd_links.specs.declared.spots.Sought.TheVariants as sought;
 ghost use Rattle.bd_links.specs.TodoList as replies;
 ghost use Rattle.bd_links.specs.TodoList.{AnswersBy};
 
 use crate::queues::Queues;
+use crate::register::Register;
+use crate::spots::{Sought, sought_notice};
+use crate::sweep::{is_used, work_in};
 use crate::unread::Works;
-use crate::work::{is_item, is_notice, is_on};
+use crate::work::{is_item, is_notice};
 use bd_space::{Identity, ObjectId, TodoList, Work, WorkKind};
 use std::alloc::{AllocError, Global};
 
 /// The work items of a driver: each is still to be read, on its list.
 #[derive(Debug, Drop)]
 pub struct WorkTable {
-    queues: Queues,
-    // No work item was made later than at this place, and so many were made there.
-    latest: u32,
-    count: u64,
+    pub(crate) queues: Queues,
+    pub(crate) register: Register,
 }
 
-// One less, if it is so.
-fn without_one(count: u64, is_so: bool) -> u64
-    ensures { result ≡ (if is_so then count - 1 else count) }
+fn has_id(work: Option<Work>, id: Identity) -> bool
+    ensures { result ≡ words.is_some_and work (λ w. words.same_identity w.id id) }
 {
-    if is_so {
-        count.saturating_sub(1)
-    } else {
-        count
+    match work {
+        Some(work) => work.id == id,
+        None => false,
     }
 }
 
@@ -47,8 +51,7 @@ impl WorkTable {
     {
         WorkTable {
             queues: Queues::new(alloc),
-            latest: 0,
-            count: 0,
+            register: Register::new(alloc),
         }
     }
 
@@ -60,41 +63,47 @@ impl WorkTable {
         // Memory was asked for, or would have been past what there can be: there was no room.
         ensures grown { OnErr result (more ≤ work_room self.old → ⊥) }
     {
-        self.queues.reserve(more)
+        self.queues.reserve(more)?;
+        self.register.reserve(more)
     }
 
     // How many were made at this place.
     fn index_at(&self, place: u32) -> u64
         ensures { Tells self.now result (λ l. count_by (λ w. w.id.place == place) l) }
     {
-        if place == self.latest {
-            self.count
-        } else if self.latest < place {
+        if place == self.register.latest {
+            self.register.count
+        } else if self.register.latest < place {
             0
         } else {
             self.queues.count_at(place)
         }
     }
 
-    // Only the work items for which `f` answers `true` stay.
-    fn keep<F: Fn(Work) -> bool>(&mut self, f: F)
-        requires { F.IsAlwaysCallable f }
-        ensures stands { (p : Work → Bool) → AnswersBy (λ w b. F.post f w b) p → Makes self.old self.new (λ l. filter p l) }
+    // The first work item on a list goes, if there is one.
+    fn pop(&mut self, list: TodoList) -> bool
+        ensures stands { Makes self.old self.new (λ l. words.without_first (spec.is_on list) l) }
+        ensures popped { Tells self.old result (λ l. spec.has_work_in l list) }
         ensures uses { work_room self.old ≤ work_room self.new }
     {
-        self.queues.retain(f);
-        self.count = self.queues.count_at(self.latest);
+        match self.queues.front(list) {
+            Some(x) => {
+                self.remove_at(x);
+                true
+            }
+            None => false,
+        }
     }
 
-    // The first work item of its list goes.
-    fn take_first(&mut self, item: &Work)
-        ensures stands { (l : List Work) → WorksAre self.old l
-            → is_front item.now.id true (spec.work_on l (Some item.now.list)) ≡ true
-            → WorksAre self.new (filter (λ w. not (spec.is_item w item.now)) l) }
-        ensures uses { work_room self.old ≤ work_room self.new }
+    // Whether a work item is the first on its list, and no other on it is called the same.
+    fn is_first(&self, item: &Work) -> bool
+        ensures { Tells self.now result (λ l. is_front item.now.id true (spec.work_on l (Some item.now.list))) }
     {
-        self.queues.pop_front(item.list);
-        self.count = without_one(self.count, item.id.place == self.latest);
+        if self.register.rises {
+            has_id(self.queues.work_at(item.list, 0), item.id)
+        } else {
+            self.queues.is_first(item)
+        }
     }
 
     // A work item goes: from the front of its list, if it is there and no other is called the same.
@@ -102,8 +111,8 @@ impl WorkTable {
         ensures stands { Makes self.old self.new (λ l. filter (λ w. not (spec.is_item w item.now)) l) }
         ensures uses { work_room self.old ≤ work_room self.new }
     {
-        if self.queues.is_first(item) {
-            self.take_first(item);
+        if self.is_first(item) {
+            let _ = self.pop(item.list);
         } else {
             self.keep(|w| !is_item(item, &w));
         }
@@ -116,15 +125,13 @@ impl WorkTable {
         ensures uses { work_room self.old ≤ work_room self.new + 1 }
     {
         let index = self.index_at(place);
-        self.queues.push(Work {
+        let work = Work {
             id: Identity { place, index },
             list,
             kind,
-        });
-        if self.latest <= place {
-            self.latest = place;
-            self.count = index.wrapping_add(1);
-        }
+        };
+        let node = self.queues.push(work);
+        self.register.add(work, node);
     }
 
     /// Whether anything is on a list.
@@ -145,14 +152,14 @@ impl WorkTable {
     pub fn has_notice(&self, object: ObjectId) -> bool
         ensures { Tells self.now result (λ l. notices.has_notice_in l object) }
     {
-        self.queues.has_notice(object)
+        self.register.spots.has(sought_notice(object))
     }
 
     /// Whether the call of a buffer is on any list.
     pub fn has_call(&self, buffer: u32) -> bool
         ensures { Tells self.now result (λ l. list_any (λ w. spec.is_call buffer w.kind) l) }
     {
-        self.queues.has_call(buffer)
+        self.register.spots.has(Sought::Call { buffer })
     }
 
     /// The work items on a list, oldest first.
@@ -200,13 +207,30 @@ impl WorkTable {
         }
     }
 
+    // The node of the object's notice, where it has just one and that is the latest.
+    fn only_notice(&self, object: ObjectId) -> Option<usize>
+        ensures { IfSome result (λ x. (queues.is_used (rows self.now.queues.nodes.items) x ≡ true)
+            × (spec.is_notice object (queues.work_in (works self.now.queues.nodes.items) x).kind ≡ true)
+            × (count_at self.now.register.spots (sought.Notice object.place object.index) ≡ 1)) }
+    {
+        let spot = self.register.spots.spot(sought_notice(object))?;
+        let nodes = &self.queues.nodes;
+        let is_it = is_used(nodes, spot.node) && is_notice(object, work_in(nodes, spot.node).kind);
+        if spot.count == 1 && is_it {
+            Some(spot.node)
+        } else {
+            None
+        }
+    }
+
     /// The notice of an object goes.
     pub fn withdraw_notice(&mut self, object: ObjectId)
         ensures stands { Makes self.old self.new (λ l. filter (λ w. not (spec.is_notice object w.kind)) l) }
         ensures uses { work_room self.old ≤ work_room self.new }
     {
-        // Most have none, and to look is quicker than to go over all that stay.
-        if self.has_notice(object) {
+        if let Some(x) = self.only_notice(object) {
+            self.remove_at(x);
+        } else if self.has_notice(object) {
             self.keep(|w| !is_notice(object, w.kind));
         }
     }
@@ -226,6 +250,10 @@ impl WorkTable {
         ensures stands { Makes self.old self.new (λ l. filter (λ w. not (spec.is_on list w)) l) }
         ensures uses { work_room self.old ≤ work_room self.new }
     {
-        self.keep(|w| !is_on(list, &w));
+        for _ in 0..self.queues.nodes.len() {
+            if !self.pop(list) {
+                return;
+            }
+        }
     }
 }

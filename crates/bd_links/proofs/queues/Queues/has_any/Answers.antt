@@ -1,6 +1,6 @@
 use Rattle.std.proofs.Common.{◌∙◌, ap, is_some}
 use Rattle.bd_space.specs.Todo.{is_on}
-use Rattle.bd_links.proofs.AnyNode.{any_first}
+use Rattle.bd_links.proofs.OnList.{any_first}
 use Rattle.bd_links.proofs.queues.Queues.has_any.Goals as goal
 
 pub returns : goal.returns

@@ -3,7 +3,7 @@ use Rattle.std.specs.List.{list_any}
 use Rattle.bd_space.specs.declared.space.Work.{Work}
 use Rattle.bd_space.specs.Words.{is_some_and}
 use Rattle.bd_space.specs.Todo.{is_on, hands_out}
-use Rattle.bd_links.proofs.AnyNode.{any-filter}
+use Rattle.bd_links.proofs.OnList.{any-filter}
 use Rattle.bd_links.proofs.queues.Queues.is_lost_with.Goals as goal
 
 pub returns : goal.returns

@@ -2,7 +2,7 @@ use Rattle.std.proofs.Common.{◌∙◌, ap}
 use Rattle.std.specs.List.{list_any}
 use Rattle.bd_space.specs.declared.space.Work.{Work}
 use Rattle.bd_space.specs.Todo.{is_on, is_call}
-use Rattle.bd_links.proofs.AnyNode.{any-filter}
+use Rattle.bd_links.proofs.OnList.{any-filter}
 use Rattle.bd_links.proofs.queues.Queues.is_unread_on.Goals as goal
 
 pub returns : goal.returns

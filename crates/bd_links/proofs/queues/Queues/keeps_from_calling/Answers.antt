@@ -2,7 +2,7 @@ use Rattle.std.proofs.Common.{◌∙◌, ap}
 use Rattle.std.specs.List.{list_any}
 use Rattle.bd_space.specs.declared.space.Work.{Work}
 use Rattle.bd_space.specs.Todo.{is_on, keeps_from_calling}
-use Rattle.bd_links.proofs.AnyNode.{any-filter}
+use Rattle.bd_links.proofs.OnList.{any-filter}
 use Rattle.bd_links.proofs.queues.Queues.keeps_from_calling.Goals as goal
 
 pub returns : goal.returns

@@ -1,0 +1,131 @@
+-- The register, as a work item comes or goes.
+use Rattle.std.proofs.Common.{◌≡◌, ℕ, ◌+◌, ◌-◌, ◌*◌, ◌<◌, ◌≤◌, ◌==◌, nat_le, nat_lt, Bool, true, false, not, ◌&&◌, ◌||◌, cond, List, [], ◌∷◌, ◌++◌, length, filter, count_by, min, refl, sym, ap, ◌∙◌, subst, arith, length-append, leb-true, leb-false, ltb-true, eqb-true}
+use Rattle.std.specs.List.{slice_get}
+use Rattle.std.proofs.lemmas.List.Sums.{count_by-le-length}
+use Rattle.bd_space.specs.declared.space.Identity.{Identity}
+use Rattle.bd_space.specs.declared.space.Work.{Work}
+use Rattle.bd_space.specs.Words.{same_identity, is_some_and}
+use Rattle.bd_links.specs.declared.register.Register.{Register}
+use Rattle.bd_links.specs.Dated.{Dated}
+use Rattle.bd_links.specs.Front.{is_front}
+use Rattle.bd_links.specs.Rising.{Each, rank, Rises, RisesTo}
+use Rattle.bd_links.specs.Spots.{Counted}
+use Rattle.bd_links.specs.Registered.{Registered}
+use Rattle.bd_links.proofs.Dating.{each-push, each-cut, dated_new, dated_older, dated_cut}
+
+rises-push : (ws : List Work) (w : Work) → Rises ws → Each (λ v. rank v.id < rank w.id) ws → Rises (ws ++ w ∷ [])
+rises-push [] w h k = (tt, tt)
+rises-push (v ∷ ws) w h k = (each-push (λ (x : Work). rank v.id < rank x.id) ws w h.0 k.0, rises-push ws w h.1 k.1)
+
+rises-cut : (before : List Work) (w : Work) (after : List Work) → Rises (before ++ w ∷ after) → Rises (before ++ after)
+rises-cut [] w after h = h.1
+rises-cut (v ∷ before) w after h = (each-cut (λ (x : Work). rank v.id < rank x.id) before w after h.0, rises-cut before w after h.1)
+
+below : (a b : ℕ) (ws : List Work) → a < b → Each (λ v. rank v.id ≤ a) ws → Each (λ v. rank v.id < b) ws
+below a b [] l h = tt
+below a b (w ∷ ws) l h = (let k = h.0 in omega arith, below a b ws l h.1)
+
+up_to : (b : ℕ) (ws : List Work) → Each (λ v. rank v.id < b) ws → Each (λ v. rank v.id ≤ b) ws
+up_to b [] h = tt
+up_to b (w ∷ ws) h = (let k = h.0 in omega arith, up_to b ws h.1)
+
+pub register_came : (t u : Register) (w : Work) (todo : List Work) → Registered t todo → length todo < 18446744073709551615 → w.id.index ≡ count_by (λ v. v.id.place == w.id.place) todo
+    → Counted u.spots (todo ++ w ∷ []) → u.len ≡ min (t.len + 1) 18446744073709551615 → (u.rises ≡ true → ((t.len == 0) || (t.rises && nat_lt (rank t.last) (rank w.id))) ≡ true) → u.last ≡ w.id
+    → (t.latest ≤ w.id.place → (u.latest ≡ w.id.place) × (u.count ≡ min (w.id.index + 1) 18446744073709551615)) → (w.id.place < t.latest → (u.latest ≡ t.latest) × (u.count ≡ t.count))
+    → Registered u (todo ++ w ∷ [])
+register_came t u w todo h few is counts len rises last newer older = record {
+  counted = counts;
+  dated = dated (nat_le t.latest w.id.place) refl;
+  len = let a = length-append todo (w ∷ []) in let n = h.len in omega (arith, a, n, len, few);
+  rising = λ r. subst (λ i. RisesTo i (todo ++ w ∷ [])) (sym last) (rising (t.len == 0) refl (rises r));
+}
+  where
+    low : w.id.index + 1 ≤ 18446744073709551615
+    low = let c = count_by-le-length (λ (v : Work). v.id.place == w.id.place) todo in omega (arith, c, is, few)
+
+    dated : (b : Bool) → nat_le t.latest w.id.place ≡ b → Dated u.latest u.count (todo ++ w ∷ [])
+    dated true e =
+        let v = newer (leb-true t.latest w.id.place e) in
+        let n : u.count ≡ w.id.index + 1 = let m = v.1 in omega (arith, m, low) in
+        subst (λ n. Dated n u.count (todo ++ w ∷ [])) (sym v.0) (subst (λ n. Dated w.id.place n (todo ++ w ∷ [])) (sym n) (dated_new t.latest t.count w.id.index todo w h.dated (leb-true t.latest w.id.place e) is))
+    dated false e =
+        let late : w.id.place < t.latest = let k = leb-false t.latest w.id.place e in omega arith in
+        let v = older late in
+        subst (λ n. Dated n u.count (todo ++ w ∷ [])) (sym v.0) (subst (λ n. Dated t.latest n (todo ++ w ∷ [])) (sym v.1) (dated_older t.latest t.count todo w h.dated late))
+
+    none : (ws : List Work) → length ws ≡ 0 → RisesTo w.id (ws ++ w ∷ [])
+    none [] e = ((tt, tt), (omega arith, tt))
+    none (v ∷ ws) e = absurd (omega arith)
+
+    rising : (b : Bool) → (t.len == 0) ≡ b → (b || (t.rises && nat_lt (rank t.last) (rank w.id))) ≡ true → RisesTo w.id (todo ++ w ∷ [])
+    rising true e k = none todo (sym h.len ∙ eqb-true t.len 0 e)
+    rising false e k = at t.rises refl k
+      where
+        at : (b : Bool) → t.rises ≡ b → (b && nat_lt (rank t.last) (rank w.id)) ≡ true → RisesTo w.id (todo ++ w ∷ [])
+        at true r l =
+            let was = h.rising r in
+            let all = below (rank t.last) (rank w.id) todo (ltb-true (rank t.last) (rank w.id) l) was.1 in
+            (rises-push todo w was.0 all, each-push (λ (v : Work). rank v.id ≤ rank w.id) todo w (up_to (rank w.id) todo all) (omega arith))
+        at false r l = absurd cc
+
+pub register_went : (t u : Register) (before : List Work) (w : Work) (after : List Work) → Registered t (before ++ w ∷ after)
+    → Counted u.spots (before ++ after) → u.len ≡ t.len - 1 → u.rises ≡ t.rises → u.last ≡ t.last → u.latest ≡ t.latest → u.count ≡ cond (w.id.place == t.latest) (t.count - 1) t.count
+    → Registered u (before ++ after)
+register_went t u before w after h counts len rises last late count = record {
+  counted = counts;
+  dated = subst (λ n. Dated n u.count (before ++ after)) (sym late) (dated_cut t.latest t.count u.count before w after h.dated count);
+  len = let n = h.len in let a = length-append before (w ∷ after) in let b = length-append before after in omega (arith, n, a, b, len);
+  rising = λ r.
+      let was = h.rising (sym rises ∙ r) in
+      subst (λ i. RisesTo i (before ++ after)) (sym last) (rises-cut before w after was.0, each-cut (λ (v : Work). rank v.id ≤ rank t.last) before w after was.1);
+}
+
+-- ---- the first of a list, where identities rise
+
+each-filter : (P : Work → Type 0) (p : Work → Bool) (ws : List Work) → Each P ws → Each P (filter p ws)
+each-filter P p [] h = tt
+each-filter P p (w ∷ ws) h = one (p w) (each-filter P p ws h.1)
+  where
+    one : (b : Bool) → Each P (filter p ws) → Each P (cond b (w ∷ filter p ws) (filter p ws))
+    one true k = (h.0, k)
+    one false k = k
+
+rises-filter : (p : Work → Bool) (ws : List Work) → Rises ws → Rises (filter p ws)
+rises-filter p [] h = tt
+rises-filter p (w ∷ ws) h = one (p w) (rises-filter p ws h.1)
+  where
+    one : (b : Bool) → Rises (filter p ws) → Rises (cond b (w ∷ filter p ws) (filter p ws))
+    one true k = (each-filter (λ (v : Work). rank w.id < rank v.id) p ws h.0, k)
+    one false k = k
+
+same-rank : (a b : Identity) → same_identity a b ≡ true → rank a ≡ rank b
+same-rank a b h =
+    let r = both (a.place == b.place) (a.index == b.index) h in
+    ap (λ n. n * 18446744073709551616 + a.index) (eqb-true a.place b.place r.0) ∙ ap (λ n. b.place * 18446744073709551616 + n) (eqb-true a.index b.index r.1)
+  where
+    both : (a b : Bool) → (a && b) ≡ true → (a ≡ true) × (b ≡ true)
+    both true b h = (refl, h)
+    both false b h = cc
+
+no_other : (i : Identity) (ws : List Work) → Each (λ v. rank i < rank v.id) ws → is_front i false ws ≡ true
+no_other i [] h = refl
+no_other i (w ∷ ws) h = at (same_identity w.id i) refl (no_other i ws h.1)
+  where
+    at : (b : Bool) → same_identity w.id i ≡ b → is_front i false ws ≡ true → (not b && is_front i false ws) ≡ true
+    at true e k = let r = same-rank w.id i e in let l = h.0 in absurd (omega (arith, r, l))
+    at false e k = k
+
+first_is_front : (i : Identity) (ws : List Work) → Rises ws → is_front i true ws ≡ is_some_and (slice_get ws 0) (λ w. same_identity w.id i)
+first_is_front i [] h = refl
+first_is_front i (w ∷ ws) h = at (same_identity w.id i) refl
+  where
+    at : (b : Bool) → same_identity w.id i ≡ b → (b && is_front i false ws) ≡ b
+    at true e = no_other i ws (next ws h.0)
+      where
+        next : (vs : List Work) → Each (λ v. rank w.id < rank v.id) vs → Each (λ v. rank i < rank v.id) vs
+        next [] k = tt
+        next (v ∷ vs) k = (let l = k.0 in let r = same-rank w.id i e in omega (arith, r, l), next vs k.1)
+    at false e = refl
+
+pub front_rising : (t : Register) (todo : List Work) (p : Work → Bool) (i : Identity) → Registered t todo → t.rises ≡ true → is_some_and (slice_get (filter p todo) 0) (λ w. same_identity w.id i) ≡ is_front i true (filter p todo)
+front_rising t todo p i h r = sym (first_is_front i (filter p todo) (rises-filter p todo (h.rising r).0))

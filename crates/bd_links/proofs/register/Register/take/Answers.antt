@@ -1,0 +1,7 @@
+use Rattle.std.proofs.Common.{refl}
+use Rattle.bd_links.proofs.Registering.{register_went}
+use Rattle.bd_links.proofs.register.Register.take.Goals as goal
+
+pub returns-clause-stands : goal.returns-clause-stands
+returns-clause-stands c = λ before after h.
+    register_went c.args.self.now _ before c.args.work after h (c.take.ensures.counted before after h.counted) c.saturating_sub-self.ensures refl refl refl c.without_one-self.ensures
