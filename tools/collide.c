@@ -4,13 +4,13 @@
 
    The map's seed is fixed, so whoever chooses the keys can compute where they go. A key is the owner's number (4 bytes) and the ptr (8).
    Its hash is folded to 32 bits: the low ones say in which group of lanes the search begins, the high 8 tell the entries of a group apart.
-   Those found agree in the low 12 and the high 8, so up to 4,096 groups (36,864 entries) none is told from another but by comparing keys. */
+   Those found agree in the low 11 and the high 8, so up to 2,048 groups (18,432 entries) none is told from another but by comparing keys. */
 #include <stdint.h>
 #include <stdio.h>
 #include <stdlib.h>
 
 static const uint64_t MULTIPLIER = 0x9e3779b97f4a7c15, SEED = 0x243f6a8885a308d3;
-static const uint32_t AGREE = 0xff000fff;
+static const uint32_t AGREE = 0xff0007ff;
 
 static uint64_t folded(uint64_t a, uint64_t b)
 {
