@@ -28,7 +28,7 @@ use Rattle.bd_driver.specs.Steps.{Hands, entries_in, picked_as, with_places, ser
 use Rattle.std.specs.Prelude.{slice_set, MatchBool, if◌then◌else◌, Result, Ok, Err, MatchResult, IfOk, IfErr, OnErr}
 use Rattle.bd_driver.specs.declared.view.Tally.{Tally}
 use Rattle.bd_driver.specs.declared.view.Letter.{Letter}
-use Rattle.bd_driver.specs.Steps.{tally_at}
+use Rattle.bd_driver.specs.Steps.{tally_at, picked_at}
 use Rattle.bd_driver.specs.Steps.{took_at, put_at}
 use Rattle.bd_driver.specs.Driver.{Takes}
 use Rattle.bd_driver.specs.Served.{Serves}
@@ -249,6 +249,40 @@ starts_later seen more entries h g = (h.0 ++ g.0, g.1 ∙ (ap (λ l. l ++ g.0) h
 all_grow : (seats k : ℕ) (xs : List ℕ) (p : ℕ) (ls : List Letter) (seen now : List Entry) → AnswersAll seats k xs p ls seen now → BeginsWith now seen
 all_grow seats k [] p ls seen now h = subst (λ l. BeginsWith l seen) (sym h.1) (starts_all seen)
 all_grow seats k (x ∷ xs) p ls seen now h = starts_later seen h.2 now (grows seats k (x == 1) p h.0 seen h.2 h.4) (all_grow seats (k + 1) xs (p + length h.0) h.1 h.2 now h.5)
+
+-- a mailbox was picked, and what was picked ran
+pub serves_one : (m m' m'' : Hands) (i : ℕ) (r : Request) → PicksOne m i m' (Some r) → RanPicked m' i r m'' → ServedOne (view_of m.0) (rest m.1) i m'' true
+serves_one m m' m'' i r p h =
+    let v = view_of m.0 in
+    let picked : Hands = (picked_at v i p.word r p.view.1.0 ∷ [], (i + 1, Empty) ∷ m.1) in
+    let ran : RanPicked picked i r m'' = subst (λ x. RanPicked x i r m'') p.view.1.2 h in
+    let now = (view_of m''.0).seen in
+    let o = ran.only in
+    record {
+      word = p.word;
+      hit = p.view.0;
+      picks = ran.picks;
+      letters = record { seat = i; request = r; outcome = ran.outcome; publishes = v.publishes.count + 1; stamp = length now } ∷ [];
+      answers = ran.answers;
+      answered = (r, ran.outcome, refl, ran.runs);
+      answer_steps = ran.answer_step;
+      publishes = ran.publishes;
+      only = record {
+        seats = o.seats;
+        who = o.who;
+        own = o.own;
+        handover = o.handover;
+        takes = o.takes;
+        puts = o.puts;
+        looks = o.looks;
+        posts = o.posts;
+        withdraws = o.withdraws;
+        collects = o.collects;
+        opens = o.opens;
+        shuts = o.shuts;
+      };
+      slots = ran.slots;
+    }
 
 pub served_none : (m : Hands) → ServedAll (view_of m.0) (rest m.1) 0 m 0
 served_none m = record {
