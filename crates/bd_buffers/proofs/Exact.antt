@@ -61,7 +61,7 @@ others_free size i q bs b is lt at low high k d within other =
           elim r [ inl x ↦ inr (omega (arith, x)) | inr y ↦ inl (omega (arith, y)) ]
     ]
 
--- a byte that is free without a buffer is free, or the buffer's
+-- without one buffer, only its own bytes are free besides
 free_without : (size i q : ℕ) (bs : List Buffer) (b : Buffer) → i < length bs → ((d : Buffer) → b ≡ get_or bs i d) → IsFreeByte size (remove bs i) q
     → (q < b.start) ⊎ (b.start + b.size ≤ q) → IsFreeByte size bs q
 free_without size i q bs b lt at f own = (

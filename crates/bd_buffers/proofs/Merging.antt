@@ -123,7 +123,7 @@ tail_after size tail s e lt le none =
       ])
     ]
 
--- holes that begin past s, and cover nothing before e, begin from e on
+-- where nothing between s and e is a hole's, holes behind s lie behind e too
 raise : (size tail s e : ℕ) (holes : List Hole) → s < e → e ≤ size → Spaced tail (s + 1) holes → IsUncovered size tail s e holes → Spaced tail e holes
 raise size tail s e [] lt le sp none = (tail_after size tail s e lt le none, sp.1)
 raise size tail s e (h ∷ hs) lt le sp none =

@@ -12,7 +12,8 @@ Covered size tail (h ∷ hs) q = ((h.start ≤ q) × (q < h.end)) ⊎ Covered si
 abbrev pub IsFreeByte : ℕ → List Buffer → ℕ → Type 0
 IsFreeByte size buffers q = (q < size) × All (λ b. (q < b.start) ⊎ (b.start + b.size ≤ q)) buffers
 
--- the holes from a place on: in order, none empty, no two touching, none touching the tail, all ends multiples of 8
+-- holes in order of place, each behind `low` and of a byte or more, with something between each two and before the tail; their
+-- ends, and the tail, are multiples of 8
 abbrev pub Spaced : ℕ → ℕ → List Hole → Type 0
 Spaced tail low [] = (low ≤ tail) × (tail % 8 ≡ 0)
 Spaced tail low (h ∷ hs) = (low ≤ h.start) × (h.start < h.end) × (h.start % 8 ≡ 0) × (h.end % 8 ≡ 0) × Spaced tail (h.end + 1) hs
