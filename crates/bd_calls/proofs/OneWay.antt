@@ -10,7 +10,8 @@ use Rattle.bd_space.specs.Turns.{turn_of, turns_of}
 use Rattle.bd_space.specs.Freeing.{is_made_at}
 use Rattle.bd_space.specs.Returns.{buffer_in}
 use Rattle.bd_space.specs.ReadItems.{hand_out, handed_buffers}
-use Rattle.bd_calls.specs.Turn.{hand_turn, handed_turns}
+use Rattle.bd_turns.specs.Turn.{hand_turn}
+use Rattle.bd_calls.specs.Turn.{handed_turns}
 
 -- ---- one more
 

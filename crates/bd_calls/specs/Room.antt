@@ -1,6 +1,7 @@
 -- How many things a call table holds and has room for, for what reserves and commits.
 use Rattle.std.specs.Prelude.{ℕ, ◌+◌, ◌-◌, ◌≤◌, vec_len, vec_capacity}
 use Rattle.bd_links.specs.Stands as links
+use Rattle.bd_turns.specs.Room as turns
 use Rattle.bd_calls.specs.declared.table.CallTable.{CallTable}
 
 -- so many threads, frames, one-way calls and work items
@@ -21,11 +22,11 @@ rooms t = record {
   left = record {
     threads = vec_capacity t.threads - vec_len t.threads;
     frames = vec_capacity t.frames - vec_len t.frames;
-    turns = vec_capacity t.turns - vec_len t.turns;
+    turns = turns.turn_room t.turns;
     works = links.work_room t.todo;
   };
   frame_count = vec_len t.frames;
-  turn_count = vec_len t.turns;
+  turn_count = turns.turn_count t.turns;
 }
 
 abbrev pub thread_room : CallTable → ℕ

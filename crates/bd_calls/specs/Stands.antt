@@ -7,6 +7,7 @@ use Rattle.bd_space.specs.declared.space.Turn.{Turn}
 use Rattle.bd_space.specs.Space.{Space}
 use Rattle.bd_space.specs.Turns.{turns_of}
 use Rattle.bd_links.specs.Stands.{WorksAre}
+use Rattle.bd_turns.specs.Stands.{TurnsAre}
 use Rattle.bd_calls.specs.declared.table.CallTable.{CallTable}
 
 pub record Stands (t : CallTable) (threads : List Thread) (frames : List Frame) (todo : List Work)
@@ -14,7 +15,7 @@ pub record Stands (t : CallTable) (threads : List Thread) (frames : List Frame) 
   pub threads_are : t.threads.items ≡ threads
   pub frames_are : t.frames.items ≡ frames
   pub todo_are : WorksAre t.todo todo
-  pub turns_are : t.turns.items ≡ turns
+  pub turns_are : TurnsAre t.turns turns
 
 abbrev pub StandsFor : CallTable → Space → Type 0
 StandsFor t s = Stands t s.threads s.frames s.todo (turns_of s.buffers)

@@ -1,10 +1,8 @@
 -- One-way calls that are handed out.
-use Rattle.std.specs.Prelude.{ℕ, ◌==◌, true, List, Option, Some, None}
+use Rattle.std.specs.Prelude.{ℕ, ◌==◌, List, Option, Some, None}
 use Rattle.bd_space.specs.declared.space.Turn.{Turn}
 use Rattle.bd_space.specs.Words.{changed}
-
-abbrev pub hand_turn : Turn → Turn
-hand_turn t = record t { handed = true }
+use Rattle.bd_turns.specs.Turn.{hand_turn}
 
 -- the one made here is handed out, if there is one
 abbrev pub handed_turns : Option ℕ → List Turn → List Turn

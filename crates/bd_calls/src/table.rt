@@ -5,9 +5,10 @@ ghost use Rattle.std.specs.Prelude.{ℕ, Bool, ◌≡◌, ◌==◌, ◌||◌, �
 
 use crate::frame::{leave_frames, lose_unread, serve};
 use crate::thread::remove_thread;
-use crate::turn::{hand_out_taken, lose_turns, remove_received};
+use crate::turn::{hand_out_taken, lose_turns};
 use bd_links::WorkTable;
-use bd_space::{Frame, Thread, TodoList, Turn, Work};
+use bd_space::{Frame, Thread, TodoList, Work};
+use bd_turns::TurnTable;
 use std::alloc::{AllocError, Global};
 
 /// The threads, the open calls, the work items and the one-way calls of a driver.
@@ -16,7 +17,7 @@ pub struct CallTable {
     pub(crate) threads: Vec<Thread>,
     pub(crate) frames: Vec<Frame>,
     pub(crate) todo: WorkTable,
-    pub(crate) turns: Vec<Turn>,
+    pub(crate) turns: TurnTable,
 }
 
 impl CallTable {
@@ -36,7 +37,7 @@ impl CallTable {
             threads: Vec::new(alloc),
             frames: Vec::new(alloc),
             todo: WorkTable::new(alloc),
-            turns: Vec::new(alloc),
+            turns: TurnTable::new(alloc),
         }
     }
 
@@ -97,7 +98,7 @@ impl CallTable {
     {
         let list = TodoList::OfProcess(process);
         lose_unread(&mut self.frames, &self.todo, list);
-        remove_received(&mut self.turns, process);
+        self.turns.remove_received(process);
         self.todo.clear_list(list);
     }
 }

@@ -1,27 +1,25 @@
 //! One-way calls: of one object's, one is due or handed out at a time, in the order in which they were made.
 #![tactic(auto, unfolding(bd_space::specs::Turns::ripen, bd_space::specs::Local::ripen_of, crate::specs::Room::rooms))]
 
-ghost use Rattle.std.specs.Prelude.{ℕ, Bool, ◌≡◌, ◌==◌, ◌||◌, ◌&&◌, ◌+◌, ◌<◌, ◌≤◌, ◌^◌, ◌++◌, ◌∷◌, [], false, not, nat_le, map, filter, find, reverse, length, count_by, Option, Some, None, option_map, IfOk, OnOk, OnErr, vec_len, vec_capacity};
+ghost use Rattle.std.specs.Prelude.{ℕ, Bool, List, ◌≡◌, ◌==◌, ◌||◌, ◌&&◌, ◌+◌, ◌<◌, ◌≤◌, ◌^◌, ◌++◌, ◌∷◌, [], false, not, nat_le, map, filter, find, reverse, length, count_by, Option, Some, None, option_map, IfOk, OnOk, OnErr, vec_len, vec_capacity};
 ghost use Rattle.std.specs.Option.{option_to_list};
 ghost use Rattle.std.specs.List.{list_any};
-ghost use Rattle.bd_space.specs.Words.{changed, first_of, same};
+ghost use Rattle.bd_space.specs.Words.{first_of};
 ghost use Rattle.bd_space.specs.Todo as works;
 ghost use Rattle.bd_space.specs.ThreadExits as exits;
 ghost use Rattle.bd_space.specs.Turns as spec;
 ghost use Rattle.bd_space.specs.Local as local;
 ghost use Rattle.bd_links.specs.Stands as links;
-ghost use Rattle.bd_calls.specs.Turn.{hand_turn, handed_turns};
+ghost use Rattle.bd_space.specs.declared.space.Work as declared;
+ghost use Rattle.bd_turns.specs.Stands as turn_table;
+ghost use Rattle.bd_turns.specs.Room as turn_rooms;
+ghost use Rattle.bd_calls.specs.Turn.{handed_turns};
 
 use crate::table::CallTable;
 use crate::work::handed_by;
 use bd_links::WorkTable;
 use bd_space::{ObjectId, TodoList, Turn, Work, WorkKind};
-
-fn oldest_on(turns: &[Turn], object: ObjectId) -> Option<Turn>
-    ensures { result ≡ find (λ t. same t.target object) turns.now }
-{
-    turns.iter().copied().find(|t| t.target == object)
-}
+use bd_turns::TurnTable;
 
 // Nobody was told of it yet.
 fn is_untold(todo: &WorkTable, turn: Turn) -> bool
@@ -53,70 +51,32 @@ fn push_first(todo: &mut WorkTable, turn: Option<Turn>, place: u32)
     }
 }
 
-fn push_turn(turns: &mut Vec<Turn>, turn: Option<Turn>)
-    requires { vec_len turns.old < vec_capacity turns.old }
-    ensures turns { turns.new.items ≡ turns.old.items ++ option_to_list turn }
-    ensures len { vec_len turns.new ≤ vec_len turns.old + 1 }
-    ensures capacity { vec_capacity turns.new ≡ vec_capacity turns.old }
+fn push_turn(turns: &mut TurnTable, turn: Option<Turn>)
+    requires { 1 ≤ turn_rooms.turn_room turns.old }
+    ensures turns { turn_table.Makes turns.old turns.new (λ l. l ++ option_to_list turn) }
+    ensures uses { turn_rooms.Uses turns.old turns.new 1 }
 {
     if let Some(turn) = turn {
-        turns.push_reserved(turn);
+        turns.push(turn);
     }
 }
 
-// The one-way call made at this place.
-fn is_turn(turn: &Turn, made: u32) -> bool
-    ensures { result ≡ (turn.now.made == made) }
-{
-    turn.made == made
-}
-
-fn hand_out(turns: &mut Vec<Turn>, made: u32)
-    ensures turns { turns.new.items ≡ changed (λ t. t.made == made) hand_turn turns.old.items }
-    ensures len { vec_len turns.new ≡ vec_len turns.old }
-    ensures capacity { vec_capacity turns.new ≡ vec_capacity turns.old }
-{
-    for turn in turns.iter_mut() {
-        if is_turn(turn, made) {
-            turn.handed = true;
-        }
-    }
-}
-
-pub(crate) fn hand_out_taken(turns: &mut Vec<Turn>, taken: &[Work])
-    ensures turns { turns.new.items ≡
-        handed_turns (first_of (map (λ w. works.hands_out w.kind) taken.now)) turns.old.items }
-    ensures len { vec_len turns.new ≡ vec_len turns.old }
-    ensures capacity { vec_capacity turns.new ≡ vec_capacity turns.old }
+pub(crate) fn hand_out_taken(turns: &mut TurnTable, taken: &[Work])
+    ensures turns { turn_table.Makes turns.old turns.new
+        (λ l. handed_turns (first_of (map (λ w. works.hands_out w.kind) taken.now)) l) }
+    ensures uses { turn_rooms.Uses turns.old turns.new 0 }
 {
     if let Some(made) = handed_by(taken) {
-        hand_out(turns, made);
+        turns.hand_out(made);
     }
 }
 
-fn remove_turn(turns: &mut Vec<Turn>, made: u32)
-    ensures turns { turns.new.items ≡ filter (λ t. not (t.made == made)) turns.old.items }
-    ensures len { vec_len turns.new ≤ vec_len turns.old }
-    ensures capacity { vec_capacity turns.new ≡ vec_capacity turns.old }
-{
-    turns.retain(|t| !is_turn(t, made));
-}
-
-pub(crate) fn lose_turns(turns: &mut Vec<Turn>, todo: &WorkTable, list: TodoList)
-    ensures turns { links.Tells todo.now turns.new.items
-        (λ l. filter (λ t. not (exits.is_lost_with l list t.made)) turns.old.items) }
-    ensures len { vec_len turns.new ≤ vec_len turns.old }
-    ensures capacity { vec_capacity turns.new ≡ vec_capacity turns.old }
+pub(crate) fn lose_turns(turns: &mut TurnTable, todo: &WorkTable, list: TodoList)
+    ensures turns { (works : List declared.Work) → links.WorksAre todo.now works → turn_table.Makes turns.old turns.new
+        (λ l. filter (λ t. not (exits.is_lost_with works list t.made)) l) }
+    ensures uses { turn_rooms.Uses turns.old turns.new 0 }
 {
     turns.retain(|t| !todo.is_lost_with(list, t.made));
-}
-
-pub(crate) fn remove_received(turns: &mut Vec<Turn>, process: u32)
-    ensures turns { turns.new.items ≡ filter (λ t. not (t.receiver == process)) turns.old.items }
-    ensures len { vec_len turns.new ≤ vec_len turns.old }
-    ensures capacity { vec_capacity turns.new ≡ vec_capacity turns.old }
-{
-    turns.retain(|t| t.receiver != process);
 }
 
 impl CallTable {
@@ -143,7 +103,7 @@ impl CallTable {
         ensures stands { Makes (StandsFor self.old) (StandsFor self.new) (λ s. without_buffer s made) }
         ensures uses { UsesNothing self.old self.new }
     {
-        remove_turn(&mut self.turns, made);
+        self.turns.remove(made);
     }
 
     /// The oldest one-way call on an object becomes due, made at this place, unless somebody was told of it before.
@@ -152,7 +112,7 @@ impl CallTable {
         ensures stands { MakesAt place (StandsFor self.old) (StandsFor self.new) (local.ripen_of object) }
         ensures uses { Uses self.old self.new (record nothing { works = 1 }) }
     {
-        let oldest = oldest_on(&self.turns, object);
+        let oldest = self.turns.oldest_on(object);
         push_first(&mut self.todo, oldest, place);
     }
 }

@@ -11,7 +11,8 @@ use Rattle.bd_space.specs.References.{held_in, strong_in}
 use Rattle.bd_space.specs.ReadItems.{is_told_by, told_of}
 use Rattle.bd_objects.proofs.Same.{same-eq}
 use Rattle.bd_objects.specs.Reading.{HoldsAlike}
-use Rattle.bd_objects.proofs.Changes.{none, same_tests, twice, same_changes}
+use Rattle.bd_deaths.proofs.Changes.{none, same_tests, twice}
+use Rattle.bd_objects.proofs.Changes.{same_changes}
 
 pub told-one : (refs : List Reference) (o : ObjectId) (weak strong : Bool) (objects : List Object) → weak ≡ held_in refs o → strong ≡ strong_in refs o
     → changed (λ x. same x.id o) (λ x. record x { told_weak = weak; told_strong = strong }) objects ≡ changed (λ x. same x.id o) (told_of refs) objects

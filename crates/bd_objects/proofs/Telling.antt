@@ -1,9 +1,5 @@
--- Which death notifications are told of a process's end: those whose name a due one has, whatever stood changed in between.
-use Rattle.std.proofs.Common.{◌≡◌, ℕ, ◌+◌, ◌<◌, Bool, true, false, cond, ◌||◌, ◌&&◌, List, [], ◌∷◌, take, length, get_or, fold, refl, ap, sym, ◌∙◌, subst}
-use Rattle.std.specs.Prelude.{◌==◌}
-use Rattle.std.specs.List.{list_any}
-use Rattle.std.proofs.lemmas.List.Folds.{list_any_more}
-use Rattle.std.proofs.lemmas.Bool.{eqb-true}
+-- The space after the end of a process was told, by one death notification after the other.
+use Rattle.std.proofs.Common.{◌≡◌, ℕ, Bool, true, false, cond, ◌&&◌, List, [], ◌∷◌, fold, refl, ap, sym, ◌∙◌, subst}
 use Rattle.bd_space.specs.declared.space.Object.{Object}
 use Rattle.bd_space.specs.declared.space.DeathNotification.{DeathNotification}
 use Rattle.bd_space.specs.declared.space.Phase.TheVariants.{Queued}
@@ -15,7 +11,8 @@ use Rattle.bd_space.specs.References.{owned_in}
 use Rattle.bd_space.specs.Deaths.{is_notification, with_phase}
 use Rattle.bd_space.specs.Todo.{owe}
 use Rattle.bd_space.specs.ProcessExits.{is_armed, tell_death}
-use Rattle.bd_objects.proofs.Changes.{none, same_tests, twice, at, guarded}
+use Rattle.bd_deaths.proofs.Changes.{none}
+use Rattle.bd_deaths.proofs.Telling.{queued, told_by, told, told-more}
 
 -- the members that telling leaves alone, and the notifications
 pub record Told (s t : Space) (deaths : List DeathNotification) : Type 0 where
@@ -25,43 +22,19 @@ pub record Told (s t : Space) (deaths : List DeathNotification) : Type 0 where
   pub deaths_are : t.deaths ≡ deaths
 
 module _ (objects : List Object) (p : ℕ) where
-  abbrev pub due : DeathNotification → Bool
-  due x = is_armed x.phase && owned_in objects p x.object
-
-  abbrev pub queued : DeathNotification → DeathNotification
-  queued x = record x { phase = Queued }
-
-  abbrev due_with : ℕ → DeathNotification → Bool
-  due_with made x = due x && (made == x.made)
-
-  -- one of these is due and has this name
-  abbrev pub told_by : List DeathNotification → DeathNotification → Bool
-  told_by xs y = list_any (due_with y.made) xs
-
-  -- what one notification does to the list
-  abbrev told : DeathNotification → List DeathNotification → List DeathNotification
-  told x ys = cond (due x) (changed (is_notification x.made) queued ys) ys
-
-  told-more : (x : DeathNotification) (xs ys : List DeathNotification) → changed (told_by xs) queued (told x ys) ≡ changed (told_by (x ∷ xs)) queued ys
-  told-more x xs ys =
-      ap (λ zs. changed (told_by xs) queued zs) (guarded queued (is_notification x.made) ys (due x))
-      ∙ twice queued (told_by xs) (λ y. due x && is_notification x.made y) ys (λ y. refl) (λ y. refl)
-
-  -- ---- as the space says it
-
   Told-case : (s : Space) (x : DeathNotification) (b : Bool)
-      → Told s (cond b (owe (with_phase s x.made Queued) (OfProcess x.process) (Death x.made)) s) (cond b (changed (is_notification x.made) queued s.deaths) s.deaths)
+      → Told s (cond b (owe (with_phase s x.made Queued) (OfProcess x.process) (Death x.made)) s) (cond b (changed (is_notification x.made) (queued objects p) s.deaths) s.deaths)
   unfolding owe with_phase
   Told-case s x true = record { objects_are = refl; references_are = refl; names_are = refl; deaths_are = refl }
   Told-case s x false = record { objects_are = refl; references_are = refl; names_are = refl; deaths_are = refl }
 
-  Told-one : (s : Space) (x : DeathNotification) → s.objects ≡ objects → Told s (tell_death p s x) (told x s.deaths)
+  Told-one : (s : Space) (x : DeathNotification) → s.objects ≡ objects → Told s (tell_death p s x) (told objects p x s.deaths)
   Told-one s x e =
-      let at = λ (os : List Object). Told s (tell_death p s x) (cond (is_armed x.phase && owned_in os p x.object) (changed (is_notification x.made) queued s.deaths) s.deaths) in
+      let at = λ (os : List Object). Told s (tell_death p s x) (cond (is_armed x.phase && owned_in os p x.object) (changed (is_notification x.made) (queued objects p) s.deaths) s.deaths) in
       subst at e (Told-case s x (is_armed x.phase && owned_in s.objects p x.object))
 
-  pub Told-all : (xs : List DeathNotification) (s : Space) → s.objects ≡ objects → Told s (fold (tell_death p) s xs) (changed (told_by xs) queued s.deaths)
-  Told-all [] s e = record { objects_are = refl; references_are = refl; names_are = refl; deaths_are = sym (none queued (λ y. false) s.deaths (λ y. refl)) }
+  pub Told-all : (xs : List DeathNotification) (s : Space) → s.objects ≡ objects → Told s (fold (tell_death p) s xs) (changed (told_by objects p xs) (queued objects p) s.deaths)
+  Told-all [] s e = record { objects_are = refl; references_are = refl; names_are = refl; deaths_are = sym (none (queued objects p) (λ y. false) s.deaths (λ y. refl)) }
   Told-all (x ∷ xs) s e =
       let one = Told-one s x e in
       let rest = Told-all xs (tell_death p s x) (one.objects_are ∙ e) in
@@ -69,52 +42,5 @@ module _ (objects : List Object) (p : ℕ) where
         objects_are = rest.objects_are ∙ one.objects_are;
         references_are = rest.references_are ∙ one.references_are;
         names_are = rest.names_are ∙ one.names_are;
-        deaths_are = rest.deaths_are ∙ ap (λ ys. changed (told_by xs) queued ys) one.deaths_are ∙ told-more x xs s.deaths;
+        deaths_are = rest.deaths_are ∙ ap (λ ys. changed (told_by objects p xs) (queued objects p) ys) one.deaths_are ∙ told-more objects p x xs s.deaths;
       }
-
-  -- ---- as a loop does it, which looks at the list that it changes
-
-  or-false : (a : Bool) → (a || false) ≡ a
-  or-false true = refl
-  or-false false = refl
-
-  and-false : (a : Bool) → (a && false) ≡ false
-  and-false true = refl
-  and-false false = refl
-
-  absorbed-case : (R : ℕ → Bool) (m n : ℕ) (b c : Bool) → (m == n) ≡ c → R n ≡ true → (R m || (b && c)) ≡ R m
-  absorbed-case R m n b true e h = let same : R m ≡ true = ap R (eqb-true m n e) ∙ h in rw same refl
-  absorbed-case R m n b false e h = rw (and-false b) (or-false (R m))
-
-  -- the names that the first notifications gave
-  abbrev first_told : List DeathNotification → ℕ → ℕ → Bool
-  first_told xs k m = list_any (due_with m) (take k xs)
-
-  step-case : (R : ℕ → Bool) (x z : DeathNotification) (b : Bool) → R x.made ≡ b → z ≡ cond b (queued x) x
-      → (y : DeathNotification) → (R y.made || (due z && (y.made == z.made))) ≡ (R y.made || (due x && (y.made == x.made)))
-  step-case R x z true h e y = rw e (or-false (R y.made) ∙ sym (absorbed-case R y.made x.made (due x) _ refl h))
-  step-case R x z false h e y = rw e refl
-
-  -- z stands where x stood
-  told-next : (xs ds : List DeathNotification) (k : ℕ) (d z : DeathNotification) → k < length xs → ds ≡ changed (told_by (take k xs)) queued xs → z ≡ get_or ds k d
-      → told z ds ≡ changed (told_by (take (k + 1) xs)) queued xs
-  told-next xs ds k d z h e g =
-      let x = get_or xs k d in
-      let before = λ (y : DeathNotification). first_told xs k y.made in
-      let z-is : z ≡ cond (before x) (queued x) x = g ∙ ap (λ ys. get_or ys k d) e ∙ at queued before xs k d h in
-      guarded queued (is_notification z.made) ds (due z)
-      ∙ ap (λ ys. changed (λ y. due z && is_notification z.made y) queued ys) e
-      ∙ twice queued (λ y. due z && is_notification z.made y) before xs (λ y. refl) (λ y. refl)
-      ∙ same_tests queued (λ y. before y || (due z && is_notification z.made y)) (told_by (take (k + 1) xs)) xs
-      (λ y. step-case (first_told xs k) x z (before x) refl z-is y ∙ sym (list_any_more (due_with y.made) xs k d h))
-
-  pub told-then : (xs ds new : List DeathNotification) (k : ℕ) (d z : DeathNotification) → k < length xs → ds ≡ changed (told_by (take k xs)) queued xs → z ≡ get_or ds k d
-      → due z ≡ true → new ≡ changed (is_notification z.made) queued ds → new ≡ changed (told_by (take (k + 1) xs)) queued xs
-  told-then xs ds new k d z h e g t n = n ∙ sym (ap (λ b. cond b (changed (is_notification z.made) queued ds) ds) t) ∙ told-next xs ds k d z h e g
-
-  pub told-else : (xs ds : List DeathNotification) (k : ℕ) (d z : DeathNotification) → k < length xs → ds ≡ changed (told_by (take k xs)) queued xs → z ≡ get_or ds k d
-      → due z ≡ false → ds ≡ changed (told_by (take (k + 1) xs)) queued xs
-  told-else xs ds k d z h e g t = sym (ap (λ b. cond b (changed (is_notification z.made) queued ds) ds) t) ∙ told-next xs ds k d z h e g
-
-  pub told-none : (xs : List DeathNotification) → xs ≡ changed (told_by []) queued xs
-  told-none xs = sym (none queued (λ y. false) xs (λ y. refl))

@@ -1,10 +1,11 @@
 -- How many members a table may still take without memory, and what a change takes of that.
-use Rattle.std.specs.Prelude.{ℕ, ◌+◌, ◌-◌, ◌≤◌, List, length, vec_len, vec_capacity}
+use Rattle.std.specs.Prelude.{ℕ, ◌+◌, ◌≤◌, List, length}
 use Rattle.bd_space.specs.declared.space.Item.{Item}
 use Rattle.bd_space.specs.declared.space.Object.{Object}
 use Rattle.bd_nodes.specs.Room.{node_room, node_count}
 use Rattle.bd_references.specs.Room.{reference_room as reference_room_of}
 use Rattle.bd_names.specs.Stands.{name_room as name_room_of}
+use Rattle.bd_deaths.specs.Room.{death_room as death_room_of, death_count as death_count_of}
 use Rattle.bd_objects.specs.declared.table.ObjectTable.{ObjectTable}
 use Rattle.bd_objects.specs.declared.room.Room.{Room}
 
@@ -20,10 +21,10 @@ rooms t = record {
     objects = node_room t.nodes;
     references = reference_room_of t.references;
     names = name_room_of t.names;
-    deaths = vec_capacity t.deaths - vec_len t.deaths;
+    deaths = death_room_of t.deaths;
   };
   object_count = node_count t.nodes;
-  death_count = vec_len t.deaths;
+  death_count = death_count_of t.deaths;
 }
 
 abbrev pub object_room : ObjectTable → ℕ

@@ -12,6 +12,7 @@ use Rattle.bd_space.specs.Tables.{IsAt}
 use Rattle.bd_nodes.specs.Stands.{NodesAre}
 use Rattle.bd_references.specs.Stands.{ReferencesAre}
 use Rattle.bd_names.specs.Stands.{NamesAre}
+use Rattle.bd_deaths.specs.Stands.{DeathsAre}
 use Rattle.bd_objects.specs.declared.table.ObjectTable.{ObjectTable}
 
 pub record Stands (t : ObjectTable) (objects : List Object) (references : List Reference) (names : List Name)
@@ -19,7 +20,7 @@ pub record Stands (t : ObjectTable) (objects : List Object) (references : List R
   pub objects_are : NodesAre t.nodes objects
   pub references_are : ReferencesAre t.references references
   pub names_are : NamesAre t.names names
-  pub deaths_are : t.deaths.items ≡ deaths
+  pub deaths_are : DeathsAre t.deaths deaths
 
 abbrev pub StandsFor : ObjectTable → Space → Type 0
 StandsFor t s = Stands t s.objects s.references s.names s.deaths

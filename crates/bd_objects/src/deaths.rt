@@ -1,112 +1,15 @@
 //! Death notifications.
 
-ghost use Rattle.std.specs.Prelude.{◌≡◌, ◌==◌, ◌≤◌, ◌||◌, not, filter, find, length, slice_get, vec_len, vec_capacity, List, Option, true};
-ghost use Rattle.std.specs.List.{list_any};
+ghost use Rattle.std.specs.Prelude.{◌≡◌, ◌≤◌, find, length, slice_get};
 ghost use Rattle.bd_space.specs.Deaths as deaths_of;
 ghost use Rattle.bd_space.specs.Clearing as clearing;
-ghost use Rattle.bd_space.specs.Notices as notices;
-ghost use Rattle.bd_space.specs.ProcessExits.{is_armed, tell_deaths};
-ghost use Rattle.bd_space.specs.Words.{changed};
-ghost use Rattle.bd_space.specs.declared.space.Phase.TheVariants.{Queued};
-ghost use Rattle.bd_space.specs.declared.space.Object.{Object};
-ghost use Rattle.bd_nodes.specs.Stands.{NodesAre};
-ghost use Rattle.bd_objects.specs.Deaths as due;
+ghost use Rattle.bd_space.specs.ProcessExits.{tell_deaths};
+ghost use Rattle.bd_deaths.specs.Due as due;
 
-use crate::objects::same;
 use crate::table::ObjectTable;
-use bd_nodes::NodeTable;
+use bd_deaths::is_due;
 use bd_space::{DeathNotification, ObjectId, Phase};
 use bd_uapi::Note;
-
-fn death_in(deaths: &[DeathNotification], made: u32) -> Option<DeathNotification>
-    ensures { result ≡ find (deaths_of.is_notification made) deaths.now }
-{
-    deaths.iter().copied().find(|x| x.made == made)
-}
-
-fn uncleared_in(deaths: &[DeathNotification], p: u32, o: ObjectId) -> Option<DeathNotification>
-    ensures { result ≡ deaths_of.uncleared_in deaths.now p o }
-{
-    deaths
-        .iter()
-        .copied()
-        .find(|x| !x.cleared && x.process == p && same(x.object, o))
-}
-
-fn is_told(phase: Phase) -> bool
-    ensures { result ≡ clearing.is_told phase }
-{
-    matches!(phase, Phase::Told)
-}
-
-fn is_armed(phase: Phase) -> bool
-    ensures { result ≡ is_armed phase }
-{
-    matches!(phase, Phase::Armed)
-}
-
-fn told_death_in(deaths: &[DeathNotification], p: u32, cookie: u64) -> Option<DeathNotification>
-    ensures { result ≡ find (clearing.is_told_with p cookie) deaths.now }
-{
-    deaths.iter().copied().find(|x| is_told(x.phase) && x.process == p && x.cookie == cookie)
-}
-
-fn drop_death(deaths: &mut Vec<DeathNotification>, made: u32)
-    ensures items { deaths.new.items ≡ filter (λ x. not (deaths_of.is_notification made x)) deaths.old.items }
-    ensures len { vec_len deaths.new ≤ vec_len deaths.old }
-    ensures capacity { vec_capacity deaths.new ≡ vec_capacity deaths.old }
-{
-    deaths.retain(|x| x.made != made);
-}
-
-fn mark(deaths: &mut Vec<DeathNotification>, made: u32)
-    ensures items { deaths.new.items
-        ≡ changed (deaths_of.is_notification made) (λ x. record x { cleared = true }) deaths.old.items }
-    ensures len { vec_len deaths.new ≡ vec_len deaths.old }
-    ensures capacity { vec_capacity deaths.new ≡ vec_capacity deaths.old }
-{
-    for x in deaths.iter_mut() {
-        if x.made == made {
-            x.cleared = true;
-        }
-    }
-}
-
-fn set_phase(deaths: &mut Vec<DeathNotification>, made: u32, phase: Phase)
-    ensures items { deaths.new.items
-        ≡ changed (deaths_of.is_notification made) (λ x. record x { phase = phase }) deaths.old.items }
-    ensures len { vec_len deaths.new ≡ vec_len deaths.old }
-    ensures capacity { vec_capacity deaths.new ≡ vec_capacity deaths.old }
-{
-    for x in deaths.iter_mut() {
-        if x.made == made {
-            x.phase = phase;
-        }
-    }
-}
-
-/// Whether the end of the process is to be told by this notification.
-fn is_due(nodes: &NodeTable, p: u32, x: &DeathNotification) -> bool
-    ensures { (objects : List Object) → NodesAre nodes.now objects → result ≡ due.is_due objects p x.now }
-{
-    is_armed(x.phase) && nodes.owns(p, x.object)
-}
-
-/// Queues the notifications with the name of one by which the end of the process is to be told.
-fn queue_due(deaths: &mut Vec<DeathNotification>, nodes: &NodeTable, p: u32)
-    ensures items { (objects : List Object) → NodesAre nodes.now objects → deaths.new.items
-        ≡ changed (due.is_queued_in deaths.old.items objects p)
-        (λ x. record x { phase = Queued }) deaths.old.items }
-    ensures len { vec_len deaths.new ≡ vec_len deaths.old }
-    ensures capacity { vec_capacity deaths.new ≡ vec_capacity deaths.old }
-{
-    for k in 0..deaths.len() {
-        let x = deaths[k];
-        if is_due(nodes, p, &x) {
-            set_phase(deaths, x.made, Phase::Queued);
-        }
-    }
-}
 
 impl ObjectTable {
     ghost use Rattle.bd_space.specs.Tables.{Tells, Makes, MakesWhere};
@@ -121,7 +24,7 @@ impl ObjectTable {
         ensures { Tells (StandsFor self.now) result (λ s. deaths_of.request_check s p n) }
     {
         let o = self.names.named(p, n).ok_or(Note::NoSuchNumber)?;
-        if uncleared_in(self.deaths.as_slice(), p, o).is_some() {
+        if self.deaths.uncleared(p, o).is_some() {
             return Err(Note::AlreadyAsked);
         }
         Ok(o)
@@ -136,7 +39,7 @@ impl ObjectTable {
             (λ s. deaths_of.with_death s p o cookie phase) }
         ensures uses { Uses self.old self.new (record nothing { deaths = 1 }) }
     {
-        self.deaths.push_reserved(DeathNotification {
+        self.deaths.push(DeathNotification {
             made: place,
             process: p,
             object: o,
@@ -153,7 +56,7 @@ impl ObjectTable {
         ensures { Tells (StandsFor self.now) result (λ s. clearing.clear_check s p n cookie) }
     {
         let o = self.names.named(p, n).ok_or(Note::NoSuchNumber)?;
-        let x = uncleared_in(self.deaths.as_slice(), p, o).ok_or(Note::NoneAsked)?;
+        let x = self.deaths.uncleared(p, o).ok_or(Note::NoneAsked)?;
         if x.cookie != cookie {
             return Err(Note::NoneAsked);
         }
@@ -166,7 +69,7 @@ impl ObjectTable {
         ensures stands { Makes (StandsFor self.old) (StandsFor self.new) (λ s. clearing.mark_cleared s made) }
         ensures uses { UsesNothing self.old self.new }
     {
-        mark(&mut self.deaths, made);
+        self.deaths.mark_cleared(made);
     }
 
     /// The notification goes.
@@ -175,7 +78,7 @@ impl ObjectTable {
         ensures stands { Makes (StandsFor self.old) (StandsFor self.new) (λ s. deaths_of.without_death s made) }
         ensures uses { UsesNothing self.old self.new }
     {
-        drop_death(&mut self.deaths, made);
+        self.deaths.remove(made);
     }
 
     /// The notification is this far.
@@ -184,7 +87,7 @@ impl ObjectTable {
         ensures stands { Makes (StandsFor self.old) (StandsFor self.new) (λ s. deaths_of.with_phase s made phase) }
         ensures uses { UsesNothing self.old self.new }
     {
-        set_phase(&mut self.deaths, made, phase);
+        self.deaths.set_phase(made, phase);
     }
 
     /// The least told notification of the process with this cookie.
@@ -192,14 +95,14 @@ impl ObjectTable {
     pub fn told_death(&self, p: u32, cookie: u64) -> Option<DeathNotification>
         ensures { Tells (StandsFor self.now) result (λ s. clearing.told_death s p cookie) }
     {
-        told_death_in(self.deaths.as_slice(), p, cookie)
+        self.deaths.told(p, cookie)
     }
 
     /// The notification of this place.
     pub fn death(&self, made: u32) -> Option<DeathNotification>
         ensures { Tells (StandsFor self.now) result (λ s. find (deaths_of.is_notification made) s.deaths) }
     {
-        death_in(self.deaths.as_slice(), made)
+        self.deaths.death(made)
     }
 
     /// How many notifications there are.
@@ -215,7 +118,7 @@ impl ObjectTable {
     pub fn death_at(&self, k: usize) -> Option<DeathNotification>
         ensures { Tells (StandsFor self.now) result (λ s. slice_get s.deaths k) }
     {
-        self.deaths.get(k).copied()
+        self.deaths.at(k)
     }
 
     /// Whether the end of the process is to be told by this notification.
@@ -232,6 +135,6 @@ impl ObjectTable {
         ensures stands { Makes (StandsFor self.old) (StandsFor self.new) (λ s. tell_deaths s p) }
         ensures uses { UsesNothing self.old self.new }
     {
-        queue_due(&mut self.deaths, &self.nodes, p);
+        self.deaths.queue_due(&self.nodes, p);
     }
 }

@@ -1,20 +1,12 @@
 //! What goes when a thread or a process ends.
 
-ghost use Rattle.std.specs.Prelude.{◌≡◌, ◌==◌, ◌≤◌, ◌++◌, ℕ, Bool, not, map, filter, vec_len, vec_capacity, OnOk};
+ghost use Rattle.std.specs.Prelude.{◌≡◌, ◌==◌, ◌++◌, ℕ, Bool, map, filter, OnOk};
 ghost use Rattle.bd_space.specs.ThreadExits as exits;
 ghost use Rattle.bd_space.specs.ProcessExits as process_exits;
 
 use crate::table::ObjectTable;
-use bd_space::{DeathNotification, ObjectId};
+use bd_space::ObjectId;
 use std::alloc::AllocError;
-
-fn drop_deaths_of(deaths: &mut Vec<DeathNotification>, p: u32)
-    ensures items { deaths.new.items ≡ filter (λ x. not (x.process == p)) deaths.old.items }
-    ensures len { vec_len deaths.new ≤ vec_len deaths.old }
-    ensures capacity { vec_capacity deaths.new ≡ vec_capacity deaths.old }
-{
-    deaths.retain(|x| x.process != p);
-}
 
 impl ObjectTable {
     ghost use Rattle.bd_space.specs.Space.{Space};
@@ -45,7 +37,7 @@ impl ObjectTable {
         let nodes = &self.nodes;
         self.references.drop_with_process(p, |o| nodes.owns(p, o));
         self.names.drop_process(p);
-        drop_deaths_of(&mut self.deaths, p);
+        self.deaths.drop_process(p);
     }
 
     /// Puts the objects that the process owns, and those of the references that go with it, to what is there, in some

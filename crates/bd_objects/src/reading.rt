@@ -3,7 +3,7 @@
 ghost use Rattle.std.specs.Prelude.{◌≡◌, ◌==◌, ◌≤◌, ◌+◌, ◌*◌, ◌++◌, ℕ, List, length, vec_len, vec_capacity};
 ghost use Rattle.std.specs.List.{flat_map};
 ghost use Rattle.bd_space.specs.Words.{changed, when, is_some_and, same as same_object};
-ghost use Rattle.bd_space.specs.Todo.{notice_of, death_of};
+ghost use Rattle.bd_space.specs.Todo.{notice_of};
 ghost use Rattle.bd_space.specs.References as refer;
 ghost use Rattle.bd_space.specs.ReadItems as reading;
 ghost use Rattle.bd_space.specs.Returns as returns;
@@ -22,9 +22,7 @@ use crate::objects::same;
 use crate::table::ObjectTable;
 use bd_nodes::NodeTable;
 use bd_references::ReferenceTable;
-use bd_space::{
-    DeathNotification, Holder, Identity, Object, ObjectId, Phase, Reference, Work, WorkKind,
-};
+use bd_space::{Holder, Identity, Object, ObjectId, Reference, Work, WorkKind};
 use bd_uapi::Return;
 
 /// The return, where it is to be read.
@@ -47,21 +45,6 @@ fn notice_returns_of(references: &ReferenceTable, x: &Object) -> [Option<Return>
         return_when(x.told_strong && !strong, Return::Release(x.ptr, x.cookie)),
         return_when(x.told_weak && !held, Return::Decrefs(x.ptr, x.cookie)),
     ]
-}
-
-fn is_death_of(w: &Work, made: u32) -> bool
-    ensures { result ≡ is_some_and (death_of w.now.kind) (λ n. n == made) }
-{
-    match w.kind {
-        WorkKind::Death(n) => n == made,
-        _ => false,
-    }
-}
-
-fn is_told_of_death(taken: &[Work], x: &DeathNotification) -> bool
-    ensures { result ≡ reading.is_told_of_death taken.now x.now }
-{
-    taken.iter().any(|w| is_death_of(w, x.made))
 }
 
 /// The object that the notice is on.
@@ -95,18 +78,6 @@ fn tell_owners(nodes: &mut NodeTable, references: &ReferenceTable, taken: &[Work
 {
     for w in taken {
         tell_owner(nodes, references, w.kind);
-    }
-}
-
-fn mark_told(deaths: &mut Vec<DeathNotification>, taken: &[Work])
-    ensures items { deaths.new.items ≡ reading.told_deaths taken.now deaths.old.items }
-    ensures len { vec_len deaths.new ≡ vec_len deaths.old }
-    ensures capacity { vec_capacity deaths.new ≡ vec_capacity deaths.old }
-{
-    for x in deaths.iter_mut() {
-        if is_told_of_death(taken, x) {
-            x.phase = Phase::Told;
-        }
     }
 }
 
@@ -234,6 +205,6 @@ impl ObjectTable {
         // is held is the same afterwards.
         add_handshakes(&mut self.references, &self.nodes, place, taken);
         tell_owners(&mut self.nodes, &self.references, taken);
-        mark_told(&mut self.deaths, taken);
+        self.deaths.read(taken);
     }
 }

@@ -3,10 +3,10 @@
 ghost use Rattle.std.specs.Prelude.{OnOk, OnErr};
 
 use crate::room::Room;
+use bd_deaths::DeathTable;
 use bd_names::NameTable;
 use bd_nodes::NodeTable;
 use bd_references::ReferenceTable;
-use bd_space::DeathNotification;
 use std::alloc::{AllocError, Global};
 
 /// The objects of a space, with the references to them, their names and the death notifications on them.
@@ -15,7 +15,7 @@ pub struct ObjectTable {
     pub(crate) nodes: NodeTable,
     pub(crate) references: ReferenceTable,
     pub(crate) names: NameTable,
-    pub(crate) deaths: Vec<DeathNotification>,
+    pub(crate) deaths: DeathTable,
 }
 
 impl ObjectTable {
@@ -31,7 +31,7 @@ impl ObjectTable {
             nodes: NodeTable::new(alloc),
             references: ReferenceTable::new(alloc),
             names: NameTable::new(alloc),
-            deaths: Vec::new(alloc),
+            deaths: DeathTable::new(alloc),
         }
     }
 

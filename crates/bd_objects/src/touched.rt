@@ -1,6 +1,6 @@
 //! What follows from a change at one name and one object: nothing else is looked at.
 
-ghost use Rattle.std.specs.Prelude.{◌≡◌, ◌==◌, ◌≤◌, ◌&&◌, ◌||◌, not, filter, false, option_and_then, vec_len, vec_capacity};
+ghost use Rattle.std.specs.Prelude.{◌≡◌, ◌||◌, not, false, option_and_then};
 ghost use Rattle.std.specs.List.{list_any};
 ghost use Rattle.bd_space.specs.Words.{when};
 ghost use Rattle.bd_space.specs.References.{object_in, stays_in};
@@ -8,65 +8,9 @@ ghost use Rattle.bd_space.specs.Notices as notices;
 ghost use Rattle.bd_space.specs.Local as local;
 ghost use Rattle.bd_objects.specs.Deaths.{is_lost};
 
-use crate::objects::{lives_in, same};
+use crate::objects::lives_in;
 use crate::table::ObjectTable;
-use bd_space::{DeathNotification, Object, ObjectId, Process, WorkKind};
-
-/// Whether what this process has of this object, a name or a notification, is `p`'s of `o`.
-fn is_at(p: u32, o: ObjectId, process: u32, object: ObjectId) -> bool
-    ensures { result ≡ local.at_name p o process object }
-{
-    process == p && same(object, o)
-}
-
-/// Whether the notification is on this name, and uncleared: it goes with the name.
-fn is_uncleared_at(p: u32, o: ObjectId, x: &DeathNotification) -> bool
-    ensures { result ≡ (local.at_name p o x.now.process x.now.object && not x.now.cleared) }
-{
-    is_at(p, o, x.process, x.object) && !x.cleared
-}
-
-fn has_uncleared_at(deaths: &[DeathNotification], p: u32, o: ObjectId) -> bool
-    ensures { result ≡ list_any (λ x. local.at_name p o x.process x.object && not x.cleared) deaths.now }
-{
-    deaths.iter().any(|x| is_uncleared_at(p, o, x))
-}
-
-/// Whether the notification stays, where the name is there or not.
-fn stays_at(named: bool, p: u32, o: ObjectId, x: &DeathNotification) -> bool
-    ensures { result ≡ (not (local.at_name p o x.now.process x.now.object) || (x.now.cleared || named)) }
-{
-    !is_at(p, o, x.process, x.object) || x.cleared || named
-}
-
-fn keep_deaths_at(deaths: &mut Vec<DeathNotification>, named: bool, p: u32, o: ObjectId)
-    ensures items { deaths.new.items ≡ filter
-        (λ x. not (local.at_name p o x.process x.object) || (x.cleared || named)) deaths.old.items }
-    ensures capacity { vec_capacity deaths.new ≡ vec_capacity deaths.old }
-    ensures len { vec_len deaths.new ≤ vec_len deaths.old }
-{
-    deaths.retain(|x| stays_at(named, p, o, x));
-}
-
-/// Whether the notification that was made there is on this name.
-fn is_death_at(deaths: &[DeathNotification], p: u32, o: ObjectId, made: u32) -> bool
-    ensures { result ≡ list_any (λ x. (x.made == made) && local.at_name p o x.process x.object) deaths.now }
-{
-    deaths
-        .iter()
-        .any(|x| x.made == made && is_at(p, o, x.process, x.object))
-}
-
-/// Whether the notification that was made there stays, where the name is there or not.
-fn death_stays(deaths: &[DeathNotification], named: bool, p: u32, o: ObjectId, made: u32) -> bool
-    ensures { result ≡ list_any (λ x. x.made == made)
-        (filter (λ x. not (local.at_name p o x.process x.object) || (x.cleared || named)) deaths.now) }
-{
-    deaths
-        .iter()
-        .filter(|x| stays_at(named, p, o, x))
-        .any(|x| x.made == made)
-}
+use bd_space::{Object, ObjectId, Process, WorkKind};
 
 impl ObjectTable {
     ghost use Rattle.bd_space.specs.Tables.{Tells, Makes, TellsWhere, MakesWhere};
@@ -111,7 +55,7 @@ impl ObjectTable {
     pub fn has_lost_death(&self, p: u32, o: ObjectId) -> bool
         ensures { Tells (StandsFor self.now) result (λ s. list_any (is_lost s.names p o) s.deaths) }
     {
-        !self.names.has(p, o) && has_uncleared_at(self.deaths.as_slice(), p, o)
+        !self.names.has(p, o) && self.deaths.has_uncleared(p, o)
     }
 
     /// The process's uncleared notifications on its name of the object go, if that is gone.
@@ -120,7 +64,7 @@ impl ObjectTable {
         ensures stands { Makes (StandsFor self.old) (StandsFor self.new) (local.deaths_go_of (local.at_name p o)) }
         ensures uses { UsesNothing self.old self.new }
     {
-        keep_deaths_at(&mut self.deaths, self.names.has(p, o), p, o);
+        self.deaths.go_with(self.names.has(p, o), p, o);
     }
 
     /// Whether a work item of this kind stays: a death's item goes with its notification, if that is on the process's
@@ -134,8 +78,7 @@ impl ObjectTable {
     {
         match *kind {
             WorkKind::Death(n) => {
-                !is_death_at(self.deaths.as_slice(), p, o, n)
-                    || death_stays(self.deaths.as_slice(), self.names.has(p, o), p, o, n)
+                !self.deaths.is_on(p, o, n) || self.deaths.stays(self.names.has(p, o), p, o, n)
             }
             _ => true,
         }

@@ -11,3 +11,5 @@ mod parcel;
 mod player;
 #[cfg(test)]
 mod script;
+#[cfg(test)]
+mod tables;

@@ -1,5 +1,4 @@
-use Rattle.std.proofs.Common.{◌∙◌, sym, ap, subst, ℕ, Bool, List, Option}
-use Rattle.bd_space.specs.declared.space.Name.{Name}
+use Rattle.std.proofs.Common.{sym, subst}
 use Rattle.bd_names.specs.Numbers.{IsFull}
 use Rattle.bd_names.specs.Stands.{NamesSince}
 use Rattle.bd_names.specs.Numbers.{with_number}

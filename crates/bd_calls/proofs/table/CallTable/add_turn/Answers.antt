@@ -1,7 +1,8 @@
-use Rattle.std.proofs.Common.{◌∙◌, ap, sym, ◌++◌}
+use Rattle.std.proofs.Common.{◌∙◌, ap, sym, subst, ◌++◌}
 use Rattle.std.specs.Option.{option_to_list}
 use Rattle.bd_space.specs.Turns.{turns_of}
 use Rattle.bd_space.specs.Delivery.{add_buffer}
+use Rattle.bd_turns.specs.Stands.{TurnsAre}
 use Rattle.bd_calls.proofs.OneWay.{turns-add}
 use Rattle.bd_calls.proofs.table.CallTable.add_turn.Goals as goal
 
@@ -12,5 +13,6 @@ returns-clause-stands c =
       threads_are = stands.threads_are;
       frames_are = stands.frames_are;
       todo_are = stands.todo_are;
-      turns_are = c.push_turn.ensures.turns ∙ ap (λ ts. ts ++ option_to_list c.args.turn) stands.turns_are ∙ ap (λ o. turns_of s.buffers ++ option_to_list o) is ∙ sym (turns-add s.buffers b);
+      turns_are = subst (TurnsAre c.push_turn.new.turns) (ap (λ o. turns_of s.buffers ++ option_to_list o) is ∙ sym (turns-add s.buffers b))
+          (c.push_turn.ensures.turns _ stands.turns_are);
     }

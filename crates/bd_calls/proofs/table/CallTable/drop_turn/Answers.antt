@@ -1,6 +1,6 @@
-use Rattle.std.proofs.Common.{◌==◌, ◌∙◌, ap, sym, not, filter}
-use Rattle.bd_space.specs.declared.space.Turn.{Turn}
+use Rattle.std.proofs.Common.{sym, subst}
 use Rattle.bd_space.specs.Freeing.{without_buffer}
+use Rattle.bd_turns.specs.Stands.{TurnsAre}
 use Rattle.bd_calls.proofs.OneWay.{turns-without}
 use Rattle.bd_calls.proofs.table.CallTable.drop_turn.Goals as goal
 
@@ -11,5 +11,5 @@ returns-clause-stands c =
       threads_are = stands.threads_are;
       frames_are = stands.frames_are;
       todo_are = stands.todo_are;
-      turns_are = c.remove_turn.ensures.turns ∙ ap (filter (λ (t : Turn). not (t.made == c.args.made))) stands.turns_are ∙ sym (turns-without c.args.made s.buffers);
+      turns_are = subst (TurnsAre c.remove.new.self) (sym (turns-without c.args.made s.buffers)) (c.remove.ensures.stands _ stands.turns_are);
     }

@@ -1,8 +1,8 @@
-use Rattle.std.proofs.Common.{◌==◌, ◌∙◌, ap, sym, not, map, filter}
-use Rattle.bd_space.specs.declared.space.Turn.{Turn}
+use Rattle.std.proofs.Common.{◌∙◌, ap, sym, subst, map}
 use Rattle.bd_space.specs.declared.space.TodoList.TheVariants.{OfProcess}
 use Rattle.bd_space.specs.ProcessExits.{without_process}
 use Rattle.bd_space.specs.ThreadExits.{unread_frame}
+use Rattle.bd_turns.specs.Stands.{TurnsAre}
 use Rattle.bd_calls.proofs.OneWay.{turns-received}
 use Rattle.bd_calls.proofs.table.CallTable.process_goes.Goals as goal
 
@@ -16,5 +16,5 @@ returns-clause-stands c =
       threads_are = stands.threads_are;
       frames_are = c.lose_unread.ensures.frames s.todo stands.todo_are ∙ ap (map (unread_frame s.todo list)) stands.frames_are;
       todo_are = c.clear_list.ensures.stands _ stands.todo_are;
-      turns_are = c.remove_received.ensures.turns ∙ ap (filter (λ (t : Turn). not (t.receiver == p))) stands.turns_are ∙ sym (turns-received p s.buffers);
+      turns_are = subst (TurnsAre c.remove_received.new.self) (sym (turns-received p s.buffers)) (c.remove_received.ensures.stands _ stands.turns_are);
     }

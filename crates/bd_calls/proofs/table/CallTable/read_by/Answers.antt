@@ -1,9 +1,9 @@
-use Rattle.std.proofs.Common.{◌∙◌, ap, sym, map}
+use Rattle.std.proofs.Common.{◌∙◌, ap, sym, subst, map}
 use Rattle.bd_space.specs.declared.space.Work.{Work}
 use Rattle.bd_space.specs.Words.{first_of}
 use Rattle.bd_space.specs.Todo.{hands_out}
 use Rattle.bd_space.specs.ReadItems.{read_by, served_frames, buffer_taken}
-use Rattle.bd_calls.specs.Turn.{handed_turns}
+use Rattle.bd_turns.specs.Stands.{TurnsAre}
 use Rattle.bd_calls.proofs.OneWay.{turns-handed}
 use Rattle.bd_calls.proofs.table.CallTable.read_by.Goals as goal
 
@@ -16,5 +16,5 @@ returns-clause-stands c =
       threads_are = stands.threads_are;
       frames_are = c.serve.ensures.frames ∙ ap (served_frames c.args.seat c.args.taken.now) stands.frames_are;
       todo_are = c.remove_taken.ensures.stands _ stands.todo_are;
-      turns_are = c.hand_out_taken.ensures.turns ∙ ap (handed_turns made) stands.turns_are ∙ sym (turns-handed s.buffers made);
+      turns_are = subst (TurnsAre c.hand_out_taken.new.turns) (sym (turns-handed s.buffers made)) (c.hand_out_taken.ensures.turns _ stands.turns_are);
     }

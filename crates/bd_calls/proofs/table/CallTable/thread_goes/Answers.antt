@@ -1,8 +1,8 @@
-use Rattle.std.proofs.Common.{◌==◌, ◌∙◌, ap, sym, not, map, filter}
+use Rattle.std.proofs.Common.{◌==◌, ◌∙◌, ap, sym, subst, not, map, filter}
 use Rattle.bd_space.specs.declared.space.Thread.{Thread}
-use Rattle.bd_space.specs.declared.space.Turn.{Turn}
 use Rattle.bd_space.specs.declared.space.TodoList.TheVariants.{OfThread}
 use Rattle.bd_space.specs.ThreadExits.{thread_goes, frame_without, is_lost_with}
+use Rattle.bd_turns.specs.Stands.{TurnsAre}
 use Rattle.bd_calls.proofs.OneWay.{turns-lost}
 use Rattle.bd_calls.proofs.table.CallTable.thread_goes.Goals as goal
 
@@ -16,6 +16,6 @@ returns-clause-stands c =
       threads_are = c.remove_thread.ensures.threads ∙ ap (filter (λ (t : Thread). not (t.seat == seat))) stands.threads_are;
       frames_are = c.leave_frames.ensures.frames s.todo stands.todo_are ∙ ap (map (frame_without s.todo seat)) stands.frames_are;
       todo_are = c.clear_list.ensures.stands _ stands.todo_are;
-      turns_are = c.lose_turns.ensures.turns s.todo stands.todo_are
-          ∙ ap (filter (λ (t : Turn). not (is_lost_with s.todo list t.made))) stands.turns_are ∙ sym (turns-lost (is_lost_with s.todo list) s.buffers);
+      turns_are = subst (TurnsAre c.lose_turns.new.turns) (sym (turns-lost (is_lost_with s.todo list) s.buffers))
+          (c.lose_turns.ensures.turns s.todo stands.todo_are _ stands.turns_are);
     }

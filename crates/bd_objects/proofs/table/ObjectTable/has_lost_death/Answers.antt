@@ -4,7 +4,7 @@ use Rattle.bd_objects.proofs.table.ObjectTable.has_lost_death.Goals as goal
 
 pub returns-then-not-has : goal.returns-then-not-has
 returns-then-not-has c = λ s h.
-    rw (← lost-gone s.names c.args.p c.args.o _ (c.has.ensures s.names s.names h.names_are) c.if-not-has.true s.deaths, ← h.deaths_are, ← c.as_slice.ensures.value) c.has_uncleared_at.ensures
+    c.has_uncleared.ensures s.deaths h.deaths_are ∙ lost-gone s.names c.args.p c.args.o _ (c.has.ensures s.names s.names h.names_are) c.if-not-has.true s.deaths
 
 pub returns-else-not-has : goal.returns-else-not-has
 returns-else-not-has c = λ s h. ap not c.if-not-has.false ∙ lost-none s.names c.args.p c.args.o _ (c.has.ensures s.names s.names h.names_are) c.if-not-has.false s.deaths

@@ -1,5 +1,5 @@
-use Rattle.std.proofs.Common.{◌∙◌, ◌++◌, ap, subst}
-use Rattle.bd_space.specs.ReadItems.{read_by, handshakes, told_deaths}
+use Rattle.std.proofs.Common.{◌++◌, subst}
+use Rattle.bd_space.specs.ReadItems.{read_by, handshakes}
 use Rattle.bd_nodes.specs.Stands.{NodesAre}
 use Rattle.bd_objects.proofs.Owners.{told-alike}
 use Rattle.bd_objects.proofs.Holding.{holds-alike}
@@ -15,5 +15,5 @@ returns-clause-stands c = λ seat s h at.
       objects_are = subst (λ xs. NodesAre c.tell_owners.new.nodes xs) (told-alike s.references refs ws s.objects (holds-alike s ws)) (c.tell_owners.ensures.stands s.objects refs h.objects_are held);
       references_are = held;
       names_are = h.names_are;
-      deaths_are = c.mark_told.ensures.items ∙ ap (told_deaths ws) h.deaths_are;
+      deaths_are = c.read.ensures.stands s.deaths h.deaths_are;
     }

@@ -12,5 +12,5 @@ returns-clause-stands c = λ s h. record {
   references_are = subst (λ rs. ReferencesAre c.drop_with_process.new.self rs) (left c.args.p s.objects s.references)
       (c.drop_with_process.ensures.stands (owned_in s.objects c.args.p) (λ o b k. search rules) s.references h.references_are);
   names_are = c.drop_process.ensures.stands s.names h.names_are;
-  deaths_are = rw (← h.deaths_are) c.drop_deaths_of.ensures.items;
+  deaths_are = c.drop_process-2.ensures.stands s.deaths h.deaths_are;
 }

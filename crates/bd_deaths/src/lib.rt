@@ -1,0 +1,11 @@
+//! Death notifications: each found by the step that made it, by its process and cookie, and by its process and object.
+#![tactic(auto)]
+
+mod change;
+mod end;
+mod look;
+mod name;
+mod table;
+
+pub use end::is_due;
+pub use table::DeathTable;

@@ -1,0 +1,72 @@
+//! Looks by the step that made a notification, by process and cookie, and by process and object.
+
+ghost use Rattle.std.specs.Prelude.{◌≡◌, find, List, Option};
+ghost use Rattle.bd_space.specs.Words as words;
+ghost use Rattle.bd_space.specs.Deaths as deaths_of;
+ghost use Rattle.bd_space.specs.Clearing as clearing;
+ghost use Rattle.bd_space.specs.declared.space.DeathNotification as declared;
+
+use crate::table::DeathTable;
+use bd_space::{DeathNotification, ObjectId, Phase};
+
+/// Whether the two are one object.
+pub(crate) fn same(a: ObjectId, b: ObjectId) -> bool
+    ensures { result ≡ words.same a b }
+{
+    a.place == b.place && a.index == b.index
+}
+
+fn is_told(phase: Phase) -> bool
+    ensures { result ≡ clearing.is_told phase }
+{
+    matches!(phase, Phase::Told)
+}
+
+fn death_in(deaths: &[DeathNotification], made: u32) -> Option<DeathNotification>
+    ensures { result ≡ find (deaths_of.is_notification made) deaths.now }
+{
+    deaths.iter().copied().find(|x| x.made == made)
+}
+
+fn uncleared_in(deaths: &[DeathNotification], p: u32, o: ObjectId) -> Option<DeathNotification>
+    ensures { result ≡ deaths_of.uncleared_in deaths.now p o }
+{
+    deaths
+        .iter()
+        .copied()
+        .find(|x| !x.cleared && x.process == p && same(x.object, o))
+}
+
+fn told_in(deaths: &[DeathNotification], p: u32, cookie: u64) -> Option<DeathNotification>
+    ensures { result ≡ find (clearing.is_told_with p cookie) deaths.now }
+{
+    deaths.iter().copied().find(|x| is_told(x.phase) && x.process == p && x.cookie == cookie)
+}
+
+impl DeathTable {
+    ghost use Rattle.bd_deaths.specs.Stands.{DeathsAre};
+
+    /// The notification of this place.
+    pub fn death(&self, made: u32) -> Option<DeathNotification>
+        ensures { (l : List declared.DeathNotification) → DeathsAre self.now l
+            → result ≡ find (deaths_of.is_notification made) l }
+    {
+        death_in(&self.deaths, made)
+    }
+
+    /// The uncleared notification on the process's name of the object.
+    pub fn uncleared(&self, p: u32, o: ObjectId) -> Option<DeathNotification>
+        ensures { (l : List declared.DeathNotification) → DeathsAre self.now l
+            → result ≡ deaths_of.uncleared_in l p o }
+    {
+        uncleared_in(&self.deaths, p, o)
+    }
+
+    /// The least told notification of the process with this cookie.
+    pub fn told(&self, p: u32, cookie: u64) -> Option<DeathNotification>
+        ensures { (l : List declared.DeathNotification) → DeathsAre self.now l
+            → result ≡ find (clearing.is_told_with p cookie) l }
+    {
+        told_in(&self.deaths, p, cookie)
+    }
+}

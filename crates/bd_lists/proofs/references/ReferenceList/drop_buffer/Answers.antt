@@ -1,0 +1,10 @@
+use Rattle.std.proofs.Common.{rules, tests, not}
+use Rattle.std.proofs.lemmas.Fn.{filter_same}
+use Rattle.bd_space.specs.declared.space.Reference.{Reference}
+use Rattle.bd_space.specs.References.{is_of_buffer}
+use Rattle.bd_lists.proofs.references.ReferenceList.drop_buffer.Goals as goal
+
+pub returns : goal.returns
+returns c =
+    filter_same _ (λ (x : Reference). not (is_of_buffer c.args.b x.holder)) _
+    (λ x b f' k. search (rules, tests)) _ _ c.retain.ensures.filtered

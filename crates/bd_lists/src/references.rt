@@ -1,0 +1,194 @@
+//! References to objects: who refers to which, weakly or strongly, and what each buffer holds.
+
+ghost use Rattle.std.specs.Prelude.{ℕ, Bool, ◌≡◌, ◌==◌, ◌&&◌, ◌||◌, ◌+◌, ◌<◌, ◌≤◌};
+ghost use Rattle.std.specs.Prelude.{◌++◌, ◌∷◌, [], not, map, filter, position, vec_len, vec_capacity, OnOk};
+ghost use Rattle.std.specs.List.{list_any};
+ghost use Rattle.bd_space.specs.declared.step.ObjectId as declared;
+ghost use Rattle.bd_space.specs.Words as words;
+ghost use Rattle.bd_space.specs.Words.{is_some_and, without_first};
+ghost use Rattle.bd_space.specs.References as refer;
+
+use crate::held::{
+    buffer_of, is_asked_by, is_asking, is_in_window, is_of_owner, is_shaking, names_for,
+};
+use bd_space::{ObjectId, Reference};
+use std::alloc::{AllocError, Global};
+
+/// The references of a space to its objects, in the order in which they came.
+#[derive(Drop)]
+pub struct ReferenceList {
+    /// The references.
+    pub references: Vec<Reference>,
+}
+
+fn first_asking(references: &[Reference], p: u32, o: ObjectId, strong: bool) -> Option<usize>
+    ensures { result ≡ position (refer.is_asking p o strong) references.now }
+{
+    references.iter().position(|r| is_asking(p, o, strong, r))
+}
+
+fn first_shaking(references: &[Reference], o: ObjectId, strong: bool) -> Option<usize>
+    ensures { result ≡ position (refer.is_shaking o strong) references.now }
+{
+    references.iter().position(|r| is_shaking(o, strong, r))
+}
+
+impl ReferenceList {
+    /// No references.
+    pub fn new(alloc: Global) -> ReferenceList
+        ensures { result.references.items ≡ [] }
+    {
+        ReferenceList {
+            references: Vec::new(alloc),
+        }
+    }
+
+    /// Makes room for so many more. Changes nothing else.
+    pub fn reserve(&mut self, more: usize) -> Result<(), AllocError>
+        ensures items { self.new.references.items ≡ self.old.references.items }
+        ensures room { OnOk result (vec_len self.new.references + more ≤ vec_capacity self.new.references) }
+    {
+        self.references.reserve(more)
+    }
+
+    /// One reference more, after the others.
+    pub fn push(&mut self, r: Reference)
+        requires { vec_len self.old.references < vec_capacity self.old.references }
+        ensures { self.new.references.items ≡ self.old.references.items ++ r ∷ [] }
+    {
+        self.references.push_reserved(r);
+    }
+
+    /// Whether anything refers to the object.
+    pub fn is_held(&self, o: ObjectId) -> bool
+        ensures { result ≡ refer.held_in self.now.references.items o }
+    {
+        self.references.iter().any(|r| r.object == o)
+    }
+
+    /// Whether anything refers to it strongly.
+    pub fn is_strong(&self, o: ObjectId) -> bool
+        ensures { result ≡ refer.strong_in self.now.references.items o }
+    {
+        self.references.iter().any(|r| r.strong && r.object == o)
+    }
+
+    /// Whether the process refers to it: it asked for it, or a buffer in its window carries it.
+    pub fn refers(&self, p: u32, o: ObjectId) -> bool
+        ensures { result
+            ≡ list_any (λ r. words.same r.object o && refer.names_for p r.holder) self.now.references.items }
+    {
+        self.references
+            .iter()
+            .any(|r| r.object == o && names_for(p, r.holder))
+    }
+
+    /// The same, strongly.
+    pub fn refers_strongly(&self, p: u32, o: ObjectId) -> bool
+        ensures { result ≡ list_any (λ r. r.strong && words.same r.object o && refer.names_for p r.holder)
+            self.now.references.items }
+    {
+        self.references
+            .iter()
+            .any(|r| r.strong && r.object == o && names_for(p, r.holder))
+    }
+
+    /// Whether the process asked for the object in this strength.
+    pub fn is_asked(&self, p: u32, o: ObjectId, strong: bool) -> bool
+        ensures { result ≡ list_any (refer.is_asking p o strong) self.now.references.items }
+    {
+        self.references.iter().any(|r| is_asking(p, o, strong, r))
+    }
+
+    /// Whether the owner is to acknowledge the object in this strength.
+    pub fn is_shaken(&self, o: ObjectId, strong: bool) -> bool
+        ensures { result ≡ list_any (refer.is_shaking o strong) self.now.references.items }
+    {
+        self.references.iter().any(|r| is_shaking(o, strong, r))
+    }
+
+    /// The least reference of this strength goes that the process asked for, if there is one.
+    pub fn drop_asked(&mut self, p: u32, o: ObjectId, strong: bool)
+        ensures { self.new.references.items ≡ without_first (refer.is_asking p o strong) self.old.references.items }
+    {
+        if let Some(i) = first_asking(&self.references, p, o, strong) {
+            let _dropped = self.references.remove(i);
+        }
+    }
+
+    /// The least reference of this strength goes that stands for an acknowledgement, if there is one.
+    pub fn drop_shaken(&mut self, o: ObjectId, strong: bool)
+        ensures { self.new.references.items ≡ without_first (refer.is_shaking o strong) self.old.references.items }
+    {
+        if let Some(i) = first_shaking(&self.references, o, strong) {
+            let _dropped = self.references.remove(i);
+        }
+    }
+
+    /// The references go that the buffer held.
+    pub fn drop_buffer(&mut self, b: u32)
+        ensures { self.new.references.items
+            ≡ filter (λ r. not (refer.is_of_buffer b r.holder)) self.old.references.items }
+    {
+        self.references.retain(|r| buffer_of(r.holder) != Some(b));
+    }
+
+    /// The objects to which the buffer refers, put after what is there. Fails for want of memory alone.
+    pub fn referred(&self, b: u32, touched: &mut Vec<ObjectId>) -> Result<(), AllocError>
+        ensures { OnOk result (touched.new.items ≡ touched.old.items
+            ++ map (λ r. r.object) (filter (λ r. refer.is_of_buffer b r.holder) self.now.references.items)) }
+    {
+        for r in &self.references {
+            if buffer_of(r.holder) == Some(b) {
+                touched.push(r.object)?;
+            }
+        }
+        Ok(())
+    }
+
+    /// The references go of the buffers that are lost; the caller says which those are.
+    pub fn drop_lost<F: Fn(u32) -> bool>(&mut self, lost: F)
+        requires { F.IsAlwaysCallable lost }
+        ensures { (is_lost : ℕ → Bool) → ((b : ℕ) (r : Bool) → F.post lost b r → r ≡ is_lost b)
+            → self.new.references.items
+            ≡ filter (λ r. not (is_some_and (refer.buffer_of_holder r.holder) is_lost)) self.old.references.items }
+    {
+        self.references
+            .retain(|r| !buffer_of(r.holder).is_some_and(|b| lost(b)));
+    }
+
+    /// The references go that go with the process: it asked for them, they lie in its window, or they are its own as
+    /// owner. The caller says which objects it owns.
+    pub fn drop_with_process<F: Fn(ObjectId) -> bool>(&mut self, p: u32, owned: F)
+        requires { F.IsAlwaysCallable owned }
+        ensures { (is_owned : declared.ObjectId → Bool)
+            → ((o : declared.ObjectId) (b : Bool) → F.post owned o b → b ≡ is_owned o)
+            → self.new.references.items ≡ filter (λ r. not (refer.is_asked_by p r.holder
+            || (refer.is_in_window p r.holder || (is_owned r.object && refer.is_of_owner r.holder))))
+            self.old.references.items }
+    {
+        self.references.retain(|r| {
+            !(is_asked_by(p, r.holder)
+                || is_in_window(p, r.holder)
+                || (is_of_owner(r.holder) && owned(r.object)))
+        });
+    }
+
+    /// Puts the objects of the references that the process asked for, or that lie in its window, after what is there.
+    /// Fails for want of memory alone.
+    pub fn dropped_with_process(
+        &self,
+        p: u32,
+        touched: &mut Vec<ObjectId>,
+    ) -> Result<(), AllocError>
+        ensures { OnOk result (touched.new.items ≡ touched.old.items ++ map (λ r. r.object)
+            (filter (λ r. refer.is_asked_by p r.holder || refer.is_in_window p r.holder) self.now.references.items)) }
+    {
+        for r in &self.references {
+            if is_asked_by(p, r.holder) || is_in_window(p, r.holder) {
+                touched.push(r.object)?;
+            }
+        }
+        Ok(())
+    }
+}

@@ -1,0 +1,7 @@
+//! Random calls on each table and on a plain list of what it stands for: after each call all looks answer the same.
+
+mod names;
+mod nodes;
+mod random;
+mod references;
+mod works;

@@ -1,0 +1,6 @@
+//! The table of one-way calls: of one object's, the oldest comes first.
+#![tactic(auto)]
+
+mod table;
+
+pub use table::TurnTable;

@@ -1,0 +1,116 @@
+//! The table: its room, its changes and what it tells.
+#![tactic(auto, unfolding(crate::specs::Room::turn_room, crate::specs::Room::turn_count))]
+
+ghost use Rattle.std.specs.Prelude.{ℕ, Bool, List, ◌≡◌, ◌==◌, ◌≤◌, ◌++◌, ◌∷◌, [], not, filter, find, OnOk, OnErr, vec_len, vec_capacity};
+ghost use Rattle.bd_space.specs.declared.space.Turn as declared;
+ghost use Rattle.bd_space.specs.Words.{changed, same};
+ghost use Rattle.bd_turns.specs.Turn.{hand_turn};
+ghost use Rattle.bd_turns.specs.Room.{Uses, turn_room};
+
+use bd_space::{ObjectId, Turn};
+use std::alloc::{AllocError, Global};
+
+/// The one-way calls of a driver whose buffers live.
+#[derive(Debug, Drop)]
+pub struct TurnTable {
+    pub(crate) turns: Vec<Turn>,
+}
+
+fn oldest_in(turns: &[Turn], object: ObjectId) -> Option<Turn>
+    ensures { result ≡ find (λ t. same t.target object) turns.now }
+{
+    turns.iter().copied().find(|t| t.target == object)
+}
+
+// The one-way call made at this place.
+fn is_turn(turn: &Turn, made: u32) -> bool
+    ensures { result ≡ (turn.now.made == made) }
+{
+    turn.made == made
+}
+
+fn hand_out(turns: &mut Vec<Turn>, made: u32)
+    ensures turns { turns.new.items ≡ changed (λ t. t.made == made) hand_turn turns.old.items }
+    ensures len { vec_len turns.new ≡ vec_len turns.old }
+    ensures capacity { vec_capacity turns.new ≡ vec_capacity turns.old }
+{
+    for turn in turns.iter_mut() {
+        if is_turn(turn, made) {
+            turn.handed = true;
+        }
+    }
+}
+
+impl TurnTable {
+    ghost use Rattle.bd_turns.specs.Stands.{TurnsAre, Tells, Makes};
+
+    /// An empty table. Takes no memory.
+    pub fn new(alloc: Global) -> TurnTable
+        ensures { TurnsAre result [] }
+    {
+        TurnTable {
+            turns: Vec::new(alloc),
+        }
+    }
+
+    /// Makes room for so many more. Fails for want of memory, and then changes nothing either.
+    pub fn reserve(&mut self, more: usize) -> Result<(), AllocError>
+        ensures stands { Makes self.old self.new (λ l. l) }
+        ensures room { OnOk result (more ≤ turn_room self.new) }
+        ensures uses { Uses self.old self.new 0 }
+        // Memory was asked for, or would have been past what there can be: there was no room.
+        ensures grown { OnErr result (more ≤ turn_room self.old → ⊥) }
+    {
+        self.turns.reserve(more)
+    }
+
+    /// A one-way call comes in. Takes no memory.
+    pub fn push(&mut self, turn: Turn)
+        requires { 1 ≤ turn_room self.old }
+        ensures stands { Makes self.old self.new (λ l. l ++ turn ∷ []) }
+        ensures uses { Uses self.old self.new 1 }
+    {
+        self.turns.push_reserved(turn);
+    }
+
+    /// The oldest one-way call on an object.
+    pub fn oldest_on(&self, object: ObjectId) -> Option<Turn>
+        ensures { Tells self.now result (λ l. find (λ t. same t.target object) l) }
+    {
+        oldest_in(&self.turns, object)
+    }
+
+    /// The one-way call made at this place is handed out, if there is one.
+    pub fn hand_out(&mut self, made: u32)
+        ensures stands { Makes self.old self.new (λ l. changed (λ t. t.made == made) hand_turn l) }
+        ensures uses { Uses self.old self.new 0 }
+    {
+        hand_out(&mut self.turns, made);
+    }
+
+    /// The one-way call made at this place goes, if there is one.
+    pub fn remove(&mut self, made: u32)
+        ensures stands { Makes self.old self.new (λ l. filter (λ t. not (t.made == made)) l) }
+        ensures uses { Uses self.old self.new 0 }
+    {
+        self.retain(|t| t.made != made);
+    }
+
+    /// The one-way calls in a process's window go.
+    pub fn remove_received(&mut self, process: u32)
+        ensures stands { Makes self.old self.new (λ l. filter (λ t. not (t.receiver == process)) l) }
+        ensures uses { Uses self.old self.new 0 }
+    {
+        self.retain(|t| t.receiver != process);
+    }
+
+    /// Only the one-way calls for which `f` answers `true` stay.
+    pub fn retain<F: Fn(Turn) -> bool>(&mut self, f: F)
+        requires { F.IsAlwaysCallable f }
+        ensures stands { (p : declared.Turn → Bool) → ((t : declared.Turn) (b : Bool) → F.post f t b → b ≡ p t)
+            → Makes self.old self.new (λ l. filter p l) }
+        ensures uses { Uses self.old self.new 0 }
+    {
+        self.turns.retain(|t| f(*t));
+    }
+}
