@@ -1,5 +1,5 @@
 -- A call goes, or is handed out: its slot stays.
-use Rattle.std.proofs.Common.{◌≡◌, ◌≢◌, ◌==◌, ◌⊎◌, inl, inr, ℕ, zero, suc, ◌<◌, Bool, true, false, cond, ◌&&◌, List, [], ◌∷◌, length, get_or, Option, Some, None, refl, ap, sym, ◌∙◌, subst, arith}
+use Rattle.std.proofs.Common.{◌≡◌, ◌==◌, ◌⊎◌, inl, inr, ℕ, zero, suc, ◌<◌, Bool, true, false, cond, ◌&&◌, List, [], ◌∷◌, Option, Some, None, refl, ap, sym, ◌∙◌, subst, arith}
 use Rattle.std.specs.Option.{option_or, option_map, option_and_then}
 use Rattle.std.specs.List.{slice_get}
 use Rattle.bd_space.specs.declared.step.ObjectId.{ObjectId}
@@ -10,7 +10,7 @@ use Rattle.bd_turns.specs.Slots.{is_on, is_live_on, position, last_position, aft
 use Rattle.bd_turns.specs.Ends.{ends_in}
 use Rattle.std.proofs.lemmas.Bool.{eqb-true, eqb-false}
 use Rattle.bd_turns.proofs.Pushing.{first-in}
-use Rattle.bd_turns.proofs.Tests.{same-eq, and-false, up, up-some}
+use Rattle.bd_turns.proofs.Tests.{same-eq, up, up-some}
 
 -- ---- what a change of one doesn't show
 

@@ -1,5 +1,5 @@
 -- A walk over the slots.
-use Rattle.std.proofs.Common.{◌≡◌, ◌⊎◌, inl, inr, ℕ, zero, suc, ◌+◌, ◌==◌, ◌<◌, ◌≤◌, Bool, true, false, not, cond, List, [], ◌∷◌, map, filter, length, Option, Some, None, refl, ap, sym, ◌∙◌, subst, arith, add-one}
+use Rattle.std.proofs.Common.{◌≡◌, ◌⊎◌, inl, inr, ℕ, zero, suc, ◌+◌, ◌==◌, ◌<◌, ◌≤◌, Bool, true, false, not, cond, List, [], ◌∷◌, map, filter, Some, refl, ap, sym, ◌∙◌, subst, arith, add-one}
 use Rattle.std.specs.List.{slice_get}
 use Rattle.bd_space.specs.declared.space.Turn.{Turn}
 use Rattle.bd_space.specs.Words.{changed}

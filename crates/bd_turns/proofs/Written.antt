@@ -1,5 +1,5 @@
 -- One element of a vector is written.
-use Rattle.std.proofs.Common.{◌≡◌, ℕ, zero, suc, ◌≤◌, List, [], ◌∷◌, length, map, get_or, set, refl, ap, sym, arith}
+use Rattle.std.proofs.Common.{◌≡◌, ℕ, zero, suc, ◌≤◌, List, [], ◌∷◌, length, map, get_or, set, refl, ap, arith}
 use Rattle.bd_turns.specs.Slots.{changed_at}
 
 pub shown-written : {A B : Type 0} (show : A → B) (f : B → B) (xs : List A) (i : ℕ) (y d : A) → show y ≡ f (show (get_or xs i d)) → map show (set xs i y) ≡ changed_at i f (map show xs)

@@ -1,5 +1,5 @@
 -- The two ends of each object's chain.
-use Rattle.std.specs.Prelude.{ℕ, ◌==◌, ◌&&◌, Bool, List, Option, option_map}
+use Rattle.std.specs.Prelude.{◌==◌, ◌&&◌, Bool, List, Option, option_map}
 use Rattle.std.specs.HashMap.{HashMap, get_by}
 use Rattle.bd_space.specs.declared.step.ObjectId.{ObjectId}
 use Rattle.bd_turns.specs.declared.slots.Entry.{Entry}

@@ -12,13 +12,18 @@ use crate::table::TurnTable;
 use std::alloc::{AllocError, Global};
 use std::collections::HashMap;
 
+// A table that grows has no fewer slots, so that a small one isn't renewed at each call.
+const LEAST_SLOTS: usize = 16;
+
 // So many slots that those which go later are paid for by the calls that come in until then.
 fn slots_for(live: usize, more: usize) -> Result<usize, AllocError>
     ensures { IfOk result (λ n. live + more ≤ n) }
 {
-    live.checked_mul(2)
+    let slots = live
+        .checked_mul(2)
         .and_then(|twice| twice.checked_add(more))
-        .ok_or(AllocError)
+        .ok_or(AllocError)?;
+    Ok(slots.max(LEAST_SLOTS))
 }
 
 // The calls that haven't gone come into another table.

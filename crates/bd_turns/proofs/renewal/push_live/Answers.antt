@@ -1,4 +1,4 @@
-use Rattle.std.proofs.Common.{rules, ◌≡◌, ◌++◌, ◌∷◌, [], length, true, List, refl, ap, sym, ◌∙◌, subst, arith}
+use Rattle.std.proofs.Common.{rules, ◌+◌, ◌++◌, length, true, List, ap, sym, ◌∙◌, subst, arith}
 use Rattle.std.proofs.lemmas.List.{take_all, append_assoc, append-nil}
 use Rattle.bd_space.specs.declared.space.Turn.{Turn}
 use Rattle.bd_turns.specs.declared.slots.Slot.{Slot}

@@ -1,7 +1,7 @@
-use Rattle.std.proofs.Common.{◌≡◌, cond, Some, None, Option, ap, sym, ◌∙◌, arith, length}
+use Rattle.std.proofs.Common.{cond, Some, ap, sym, ◌∙◌, arith}
 use Rattle.std.proofs.lemmas.List.{length-map}
 use Rattle.bd_turns.specs.declared.slots.Slot.{Slot}
-use Rattle.bd_turns.specs.Slots.{entries, is_live_on, after, live_at}
+use Rattle.bd_turns.specs.Slots.{entries, is_live_on, after}
 use Rattle.bd_turns.proofs.Chains.{after-none, after-step, after-later, after-past}
 use Rattle.bd_turns.proofs.slots.live_after.Goals as goal
 

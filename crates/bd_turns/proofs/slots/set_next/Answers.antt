@@ -1,4 +1,4 @@
-use Rattle.std.proofs.Common.{ℕ, Option, Some, ap, refl, arith}
+use Rattle.std.proofs.Common.{Some, ap, refl, arith}
 use Rattle.std.proofs.Math.Seq.{map-set_same}
 use Rattle.bd_turns.specs.declared.slots.Slot.{Slot}
 use Rattle.bd_turns.proofs.Written.{shown-written, written-past}

@@ -1,4 +1,4 @@
-use Rattle.std.proofs.Common.{◌≡◌, Option, Some, cond, ap, ◌∙◌}
+use Rattle.std.proofs.Common.{cond, ap, ◌∙◌}
 use Rattle.std.specs.Option.{option_map}
 use Rattle.bd_space.specs.Words.{same}
 use Rattle.bd_turns.specs.declared.ends.Ends.{Ends}

@@ -1,4 +1,4 @@
-use Rattle.std.proofs.Common.{rules, tests, ◌≡◌, List, filter, cond, Some, refl, ap, sym, ◌∙◌, subst, arith}
+use Rattle.std.proofs.Common.{rules, List, filter, cond, refl, ap, sym, ◌∙◌, subst, arith}
 use Rattle.std.specs.List.{slice_get}
 use Rattle.bd_turns.specs.declared.slots.Slot.{Slot}
 use Rattle.bd_turns.specs.Slots.{entries, gone, turns_in}

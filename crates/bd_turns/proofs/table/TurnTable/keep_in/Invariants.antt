@@ -1,4 +1,4 @@
-use Rattle.std.proofs.Common.{◌≡◌, ℕ, Bool, List, vec_len}
+use Rattle.std.proofs.Common.{◌≡◌, Bool, List}
 use Rattle.bd_space.specs.declared.space.Turn.{Turn}
 use Rattle.bd_turns.specs.Slots.{entries, turns_in}
 use Rattle.bd_turns.specs.Sweep.{walked, kept}

@@ -1,7 +1,7 @@
-use Rattle.std.proofs.Common.{◌≡◌, List, Some, None, refl, ap, sym, ◌∙◌}
+use Rattle.std.proofs.Common.{◌≡◌, List, Some, refl, ap, sym, ◌∙◌}
 use Rattle.std.specs.List.{slice_get}
 use Rattle.bd_turns.specs.declared.slots.Slot.{Slot}
-use Rattle.bd_turns.specs.Slots.{entries, nexts, gone, changed_at, turns_in, is_live_on, after}
+use Rattle.bd_turns.specs.Slots.{entries, nexts, gone, changed_at, turns_in}
 use Rattle.bd_turns.specs.Ends.{ends_at}
 use Rattle.bd_turns.proofs.Going.{after-stays, rising-stays, ends-gone, changed-nowhere}
 use Rattle.bd_turns.proofs.Standing.{stands-by}

@@ -1,4 +1,4 @@
-use Rattle.std.proofs.Common.{◌≡◌, ℕ, length, List, [], ap, sym, ◌∙◌, subst, arith}
+use Rattle.std.proofs.Common.{ℕ, length, List, [], ap, sym, ◌∙◌, subst, arith}
 use Rattle.bd_turns.specs.declared.slots.Slot.{Slot}
 use Rattle.bd_turns.specs.Slots.{entries, turns_in}
 use Rattle.bd_turns.specs.Room.{turn_count}
