@@ -1,9 +1,8 @@
 -- Where places rise along the slots, and where one is found.
-use Rattle.std.proofs.Common.{◌≡◌, ℕ, zero, suc, ◌+◌, ◌==◌, ◌<◌, ◌≤◌, ◌⊎◌, inl, inr, Bool, true, List, [], ◌∷◌, map, length, get_or, Option, Some, refl, ap, sym, ◌∙◌, arith}
+use Rattle.std.proofs.Common.{◌≡◌, ℕ, zero, suc, ◌+◌, ◌==◌, ◌<◌, ◌≤◌, inl, inr, true, List, [], ◌∷◌, length, get_or, Some, refl, ap, ◌∙◌, arith}
 use Rattle.std.specs.List.{slice_get}
 use Rattle.std.specs.List.Sorted.{IsNonDecreasingBy}
 use Rattle.std.proofs.lemmas.Bool.{cases_lt, eqb-true}
-use Rattle.std.proofs.lemmas.List.{length-map}
 use Rattle.std.proofs.lemmas.Option.{slice_get_within, get_or_from_slice_get}
 use Rattle.bd_turns.specs.declared.slots.Entry.{Entry}
 use Rattle.bd_turns.specs.declared.slots.Slot.{Slot}
@@ -51,12 +50,13 @@ made-within ss made i rising below from = λ k e there is. at k e there is
         let u = slot-of ss k e there in
         let s = u.0 in
         let within : k < length ss = slice_get_within ss k s u.1 in
-        let here : made_of (get_or ss k s) ≡ made = ap made_of (get_or_from_slice_get ss k s s u.1) ∙ ap (λ (x : Entry). x.turn.made) u.2 ∙ eqb-true e.turn.made made is in
-        (elim (cases_lt k i) [
-          | inl before ↦ absurd (let low = below k s (omega arith) before in omega (arith, low, here))
-          | inr ge ↦ omega (arith, ge)
-        ],
-        elim (cases_lt i k) [
-          | inl after ↦ absurd (let up = rises-at ss i k s rising after within in let high = from i s (omega arith) (omega (arith, after, within)) in omega (arith, up, high, here))
-          | inr ge ↦ omega (arith, ge)
-        ])
+        let here : made_of (get_or ss k s) ≡ made = ap made_of (get_or_from_slice_get ss k s s u.1) ∙ ap (λ (x : Entry). x.turn.made) u.2 ∙ eqb-true e.turn.made made is in (
+          elim (cases_lt k i) [
+            | inl before ↦ absurd (let low = below k s (omega arith) before in omega (arith, low, here))
+            | inr ge ↦ omega (arith, ge)
+          ],
+          elim (cases_lt i k) [
+            | inl after ↦ absurd (let up = rises-at ss i k s rising after within in let high = from i s (omega arith) (omega (arith, after, within)) in omega (arith, up, high, here))
+            | inr ge ↦ omega (arith, ge)
+          ],
+        )

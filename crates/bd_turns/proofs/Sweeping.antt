@@ -49,12 +49,12 @@ walked-map f (e ∷ es) from to h = at from to (h 0 e refl) (λ i x k. h (suc i)
   where
     at : (from to : ℕ) → (f e ≡ e) ⊎ ((from ≤ 0) × (0 < to)) → ((i : ℕ) (x : Entry) → slice_get es i ≡ Some x → (f x ≡ x) ⊎ ((from ≤ suc i) × (suc i < to)))
         → ((a b : ℕ) → Stays f a b es → walked f a b es ≡ map f es) → walked f from to (e ∷ es) ≡ f e ∷ map f es
-    at zero zero (inl is) h rest = ap (λ x. x ∷ walked f 0 0 es) (sym is) ∙ ap (λ xs. f e ∷ xs) (rest 0 0 (λ i x k. elim (h i x k) [ | inl s ↦ inl s | inr r ↦ absurd (let low = r.1 in omega (arith, low)) ]))
+    at zero zero (inl is) h rest = ap (λ x. x ∷ walked f 0 0 es) (sym is) ∙ ap (λ xs. f e ∷ xs) (rest 0 0 (λ i x k. elim (h i x k) [ inl s ↦ inl s | inr r ↦ absurd (let low = r.1 in omega (arith, low)) ]))
     at zero zero (inr r) h rest = absurd (let low = r.1 in omega (arith, low))
-    at zero (suc to) is h rest = ap (λ xs. f e ∷ xs) (rest 0 to (λ i x k. elim (h i x k) [ | inl s ↦ inl s | inr r ↦ inr (let low = r.1 in (omega arith, omega (arith, low))) ]))
-    at (suc from) zero (inl is) h rest = ap (λ x. x ∷ walked f from 0 es) (sym is) ∙ ap (λ xs. f e ∷ xs) (rest from 0 (λ i x k. elim (h i x k) [ | inl s ↦ inl s | inr r ↦ absurd (let low = r.1 in omega (arith, low)) ]))
+    at zero (suc to) is h rest = ap (λ xs. f e ∷ xs) (rest 0 to (λ i x k. elim (h i x k) [ inl s ↦ inl s | inr r ↦ inr (let low = r.1 in (omega arith, omega (arith, low))) ]))
+    at (suc from) zero (inl is) h rest = ap (λ x. x ∷ walked f from 0 es) (sym is) ∙ ap (λ xs. f e ∷ xs) (rest from 0 (λ i x k. elim (h i x k) [ inl s ↦ inl s | inr r ↦ absurd (let low = r.1 in omega (arith, low)) ]))
     at (suc from) zero (inr r) h rest = absurd (let low = r.1 in omega (arith, low))
-    at (suc from) (suc to) (inl is) h rest = ap (λ x. x ∷ walked f from to es) (sym is) ∙ ap (λ xs. f e ∷ xs) (rest from to (λ i x k. elim (h i x k) [ | inl s ↦ inl s | inr r ↦ inr (let a = r.0 in let b = r.1 in (omega (arith, a), omega (arith, b))) ]))
+    at (suc from) (suc to) (inl is) h rest = ap (λ x. x ∷ walked f from to es) (sym is) ∙ ap (λ xs. f e ∷ xs) (rest from to (λ i x k. elim (h i x k) [ inl s ↦ inl s | inr r ↦ inr (let a = r.0 in let b = r.1 in (omega (arith, a), omega (arith, b))) ]))
     at (suc from) (suc to) (inr r) h rest = absurd (let low = r.0 in omega (arith, low))
 
 -- an entry that doesn't pass stays, or is in the range

@@ -16,7 +16,9 @@ ghost use Rattle.bd_turns.specs.Slots as spec;
 ghost use Rattle.bd_turns.specs.Sweep.{handed_if, Within};
 
 use crate::ends::{Ends, IdKey, ends_of, is_first, put_ends, set_first, with_last};
-use crate::slots::{Entry, Slot, entry_at, is_latest, link_last, live_after, mark_gone, mark_handed};
+use crate::slots::{
+    Entry, Slot, entry_at, is_latest, link_last, live_after, mark_gone, mark_handed,
+};
 use bd_space::{ObjectId, Turn};
 use std::alloc::{AllocError, Global};
 use std::collections::HashMap;

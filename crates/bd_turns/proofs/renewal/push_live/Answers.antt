@@ -30,29 +30,29 @@ loop-slot-preserved c =
     let inv = c.loop-slot.invariant in
     elim c.if-slot.branch [
       | then-slot w ↦ rw w.table-is (
-        let one = one-more ss i _ c.loop-slot-test.true w.if-slot.true in
-        let was = inv.uses in
-        let now = w.push.ensures.uses in
-        record {
-        uses = record {
-          room = let a = was.room in let b = now.room in omega (arith, one, a, b);
-          count = let a = was.count in let b = now.count in omega (arith, one, a, b);
-        };
-        stands = λ ts are.
-            subst (TurnsAre w.push.new.self)
-            (append_assoc ts (live_before i ss) _ ∙ ap (λ xs. ts ++ xs) (sym (live-next ss i _ true c.loop-slot-test.true w.if-slot.true)))
-            (w.push.ensures.stands _ (inv.stands ts are));
-      })
+          let one = one-more ss i _ c.loop-slot-test.true w.if-slot.true in
+          let was = inv.uses in
+          let now = w.push.ensures.uses in
+          record {
+            uses = record {
+              room = let a = was.room in let b = now.room in omega (arith, one, a, b);
+              count = let a = was.count in let b = now.count in omega (arith, one, a, b);
+            };
+            stands = λ ts are.
+                subst (TurnsAre w.push.new.self)
+                (append_assoc ts (live_before i ss) _ ∙ ap (λ xs. ts ++ xs) (sym (live-next ss i _ true c.loop-slot-test.true w.if-slot.true)))
+                (w.push.ensures.stands _ (inv.stands ts are));
+          })
       | else-slot w ↦ rw w.table-is (
-        let same = no-more ss i _ c.loop-slot-test.true w.if-slot.false in
-        let was = inv.uses in
-        record {
-        uses = record {
-          room = let a = was.room in let n = ap (λ (xs : List Turn). length xs) same in omega (arith, n, a);
-          count = let a = was.count in let n = ap (λ (xs : List Turn). length xs) same in omega (arith, n, a);
-        };
-        stands = λ ts are. subst (TurnsAre c.loop-slot.table) (ap (λ xs. ts ++ xs) (sym same)) (inv.stands ts are);
-      })
+          let same = no-more ss i _ c.loop-slot-test.true w.if-slot.false in
+          let was = inv.uses in
+          record {
+            uses = record {
+              room = let a = was.room in let n = ap (λ (xs : List Turn). length xs) same in omega (arith, n, a);
+              count = let a = was.count in let n = ap (λ (xs : List Turn). length xs) same in omega (arith, n, a);
+            };
+            stands = λ ts are. subst (TurnsAre c.loop-slot.table) (ap (λ xs. ts ++ xs) (sym same)) (inv.stands ts are);
+          })
     ]
 
 pub returns-clause-stands : goal.returns-clause-stands

@@ -1,4 +1,4 @@
-use Rattle.std.proofs.Common.{◌≡◌, ◌==◌, Bool, true, false, cond, List, Some, refl, ap, sym, ◌∙◌}
+use Rattle.std.proofs.Common.{cond, List, refl, ap, sym, ◌∙◌}
 use Rattle.std.specs.List.{slice_get}
 use Rattle.std.proofs.lemmas.Bool.{eq-eqb, ne_eqb}
 use Rattle.bd_turns.specs.declared.slots.Slot.{Slot}

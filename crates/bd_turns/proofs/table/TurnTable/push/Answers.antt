@@ -24,9 +24,9 @@ returns-clause-stands c = λ l are.
     let len : length next ≡ length es = length-map old.slots.items (λ (s : Slot). s.next) ∙ sym (length-map old.slots.items (λ (s : Slot). s.entry)) in
     let ends = c.ends_of-ends.ensures ∙ are.ends_are o in
     let first : option_or (option_and_then (λ (e : Ends). e.first) c.ends_of-ends.result) (Some c.len-at.result) ≡ option_or (position (is_live_on o) es) (Some (length es)) =
-        ap (λ r. option_or r (Some c.len-at.result)) (ap (option_and_then (λ (e : Ends). e.first)) ends ∙ first-in es o) ∙ ap (λ n. option_or (position (is_live_on o) es) (Some n)) count in
+    ap (λ r. option_or r (Some c.len-at.result)) (ap (option_and_then (λ (e : Ends). e.first)) ends ∙ first-in es o) ∙ ap (λ n. option_or (position (is_live_on o) es) (Some n)) count in
     let new : c.with_last.result ≡ record { first = option_or (position (is_live_on o) es) (Some (length es)); last = length es } =
-        c.with_last.ensures ∙ (λ i. record { first = first i; last = count i }) in
+    c.with_last.ensures ∙ (λ i. record { first = first i; last = count i }) in
     stands-by _ (linked c.ends_of-ends.result (length es) next ++ None ∷ []) (es ++ x ∷ []) _
     (ap nexts c.push_reserved.ensures.items ∙ map-append (λ (s : Slot). s.next) _ (slot ∷ [])
     ∙ ap (λ ns. ns ++ None ∷ []) (c.link_last.ensures.nexts ∙ ap (λ n. linked c.ends_of-ends.result n next) count))
