@@ -1,3 +1,6 @@
 pub mod Turn
+pub mod Slots
+pub mod Sweep
+pub mod Ends
 pub mod Stands
 pub mod Room

@@ -1,6 +1,9 @@
 //! The table of one-way calls: of one object's, the oldest comes first.
 #![tactic(auto)]
 
+mod ends;
+mod renewal;
+mod slots;
 mod table;
 
 pub use table::TurnTable;

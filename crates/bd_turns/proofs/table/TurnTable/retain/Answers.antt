@@ -1,8 +1,6 @@
-use Rattle.std.proofs.Common.{rules, tests, ap, filter, ◌∙◌}
-use Rattle.std.proofs.lemmas.Fn.{filter_same}
+use Rattle.std.proofs.Common.{arith}
+use Rattle.bd_turns.proofs.Places.{entry-within}
 use Rattle.bd_turns.proofs.table.TurnTable.retain.Goals as goal
 
 pub returns-clause-stands : goal.returns-clause-stands
-returns-clause-stands g c = λ p answers l are. record {
-  turns_are = filter_same _ p _ (λ x b f' k. search (rules, tests, answers)) _ _ c.retain.ensures.filtered ∙ ap (filter p) are.turns_are;
-}
+returns-clause-stands g c = λ p answers l are. c.keep_in.ensures.stands p answers l are (λ i e there no. let low = entry-within c.args.self.now.slots.items i e there in (omega arith, omega (arith, low)))

@@ -1,0 +1,9 @@
+pub mod Written
+pub mod Tests
+pub mod Chains
+pub mod Pushing
+pub mod Going
+pub mod Standing
+pub mod Sweeping
+pub mod Places
+pub mod Renewing

@@ -1,0 +1,18 @@
+-- The two ends of each object's chain.
+use Rattle.std.specs.Prelude.{◌==◌, ◌&&◌, Bool, List, Option, option_map}
+use Rattle.std.specs.HashMap.{HashMap, get_by}
+use Rattle.bd_space.specs.declared.step.ObjectId.{ObjectId}
+use Rattle.bd_turns.specs.declared.slots.Entry.{Entry}
+use Rattle.bd_turns.specs.declared.ends.IdKey.{IdKey}
+use Rattle.bd_turns.specs.declared.ends.Ends.{Ends}
+use Rattle.bd_turns.specs.Slots.{is_on, is_live_on, position, last_position}
+
+abbrev pub is_key : ObjectId → IdKey → Bool
+is_key o k = (o.place == k.place) && (o.index == k.index)
+
+abbrev pub ends_at : {S : Type 0} → HashMap IdKey Ends S → ObjectId → Option Ends
+ends_at objects o = get_by (is_key o) objects
+
+-- its first call that hasn't gone, and its last slot
+abbrev pub ends_in : List Entry → ObjectId → Option Ends
+ends_in es o = option_map (λ l. record { first = position (is_live_on o) es; last = l }) (last_position (is_on o) es)

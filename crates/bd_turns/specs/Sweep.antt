@@ -1,0 +1,26 @@
+-- A walk over the slots, from one place up to another.
+use Rattle.std.specs.Prelude.{ℕ, zero, suc, ◌≡◌, ◌==◌, ◌≤◌, ◌<◌, Bool, true, List, [], ◌∷◌, Some, if◌then◌else◌}
+use Rattle.std.specs.List.{slice_get}
+use Rattle.bd_space.specs.declared.space.Turn.{Turn}
+use Rattle.bd_turns.specs.declared.slots.Entry.{Entry}
+use Rattle.bd_turns.specs.Slots.{gone, handed}
+
+-- those from the first place up to the second are changed
+abbrev pub walked : (Entry → Entry) → ℕ → ℕ → List Entry → List Entry
+walked f from to [] = []
+walked f zero zero (e ∷ es) = e ∷ walked f zero zero es
+walked f zero (suc to) (e ∷ es) = f e ∷ walked f zero to es
+walked f (suc from) zero (e ∷ es) = e ∷ walked f from zero es
+walked f (suc from) (suc to) (e ∷ es) = e ∷ walked f from to es
+
+-- it goes if its call doesn't pass
+abbrev pub kept : (Turn → Bool) → Entry → Entry
+kept p e = if p e.turn then e else gone e
+
+-- it is handed out if its call was made there
+abbrev pub handed_if : ℕ → Entry → Entry
+handed_if made e = if e.turn.made == made then handed e else e
+
+-- each call that passes is from the first place up to the second
+abbrev pub Within : (Turn → Bool) → ℕ → ℕ → List Entry → Type 0
+Within p from to es = (i : ℕ) (e : Entry) → slice_get es i ≡ Some e → p e.turn ≡ true → (from ≤ i) × (i < to)

@@ -1,0 +1,76 @@
+//! A table's live calls in a table of their own, without the slots of calls that have gone.
+#![tactic(auto, unfolding(crate::specs::Room::turn_room, crate::specs::Room::turn_count))]
+
+ghost use Rattle.std.specs.Prelude.{ℕ, List, ◌≡◌, ◌≤◌, ◌+◌, ◌++◌, [], IfOk, length, count_by};
+ghost use Rattle.bd_space.specs.declared.space.Turn as declared;
+ghost use Rattle.bd_turns.specs.Room.{Uses, turn_room, turn_count};
+ghost use Rattle.bd_turns.specs.Slots.{entries, turns_in};
+ghost use Rattle.bd_turns.specs.Stands.{TurnsAre};
+
+use crate::slots::{Slot, count_live};
+use crate::table::TurnTable;
+use std::alloc::{AllocError, Global};
+use std::collections::HashMap;
+
+// A table that grows has no fewer slots, so that a small one isn't renewed at each call.
+const LEAST_SLOTS: usize = 16;
+
+// So many slots that those which go later are paid for by the calls that come in until then.
+fn slots_for(live: usize, more: usize) -> Result<usize, AllocError>
+    ensures { IfOk result (λ n. live + more ≤ n) }
+{
+    let slots = live
+        .checked_mul(2)
+        .and_then(|twice| twice.checked_add(more))
+        .ok_or(AllocError)?;
+    Ok(slots.max(LEAST_SLOTS))
+}
+
+// The calls that haven't gone come into another table.
+fn push_live(slots: &[Slot], table: &mut TurnTable)
+    requires { length (turns_in (entries slots.now)) ≤ turn_room table.old }
+    ensures stands { (l : List declared.Turn) → TurnsAre table.old l
+        → TurnsAre table.new (l ++ turns_in (entries slots.now)) }
+    ensures uses { Uses table.old table.new (length (turns_in (entries slots.now))) }
+{
+    for slot in slots {
+        if slot.entry.live {
+            table.push(slot.entry.turn);
+        }
+    }
+}
+
+impl TurnTable {
+    // An empty table with room for so many calls.
+    fn with_capacity(alloc: Global, calls: usize) -> Result<TurnTable, AllocError>
+        ensures stands { IfOk result (λ t. TurnsAre t []) }
+        ensures room { IfOk result (λ t. calls ≤ turn_room t) }
+        ensures count { IfOk result (λ t. turn_count t ≡ 0) }
+    {
+        Ok(TurnTable {
+            slots: Vec::with_capacity(alloc, calls)?,
+            objects: HashMap::with_capacity(alloc, calls)?,
+            rising: true,
+        })
+    }
+
+    // How many calls may come in without memory.
+    pub(crate) fn room(&self) -> usize
+        ensures { result ≡ turn_room self.now }
+    {
+        let slots = self.slots.capacity() - self.slots.len();
+        slots.min(self.objects.capacity() - self.objects.len())
+    }
+
+    /// A table of the same calls, with room for so many more.
+    pub(crate) fn renewed(&self, more: usize) -> Result<TurnTable, AllocError>
+        ensures stands { IfOk result (λ t. (l : List declared.Turn) → TurnsAre self.now l → TurnsAre t l) }
+        ensures room { IfOk result (λ t. more ≤ turn_room t) }
+        ensures count { IfOk result (λ t. turn_count t ≤ turn_count self.now) }
+    {
+        let calls = slots_for(count_live(&self.slots), more)?;
+        let mut table = TurnTable::with_capacity(*self.slots.allocator(), calls)?;
+        push_live(&self.slots, &mut table);
+        Ok(table)
+    }
+}
