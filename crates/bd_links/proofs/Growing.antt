@@ -191,21 +191,24 @@ module _ (N P R : List ℕ) (W : List Work) (H : TodoList → Option ℕ) (f : �
       ring_now = filter-append (is_in_ring (set R x 0) 0) order (x ∷ []) ∙ ap (λ ys. ys ++ filter (is_in_ring (set R x 0) 0) (x ∷ [])) (filter_agree (is_in_ring (set R x 0) 0) (is_in_ring R 0) order (λ y k. ap (λ r. r == 0) (row y k)))
           ∙ ap (λ b. ring R order 0 ++ cond b (x ∷ []) []) (ap (λ r. r == 0) own ∙ eq-eqb 0 0 refl)
 
-  -- one more node at the end of the vector
-  pub lengthened : (v : Work) → ShowsAt (N ++ 0 ∷ []) (P ++ 0 ∷ []) (R ++ 0 ∷ []) (W ++ v ∷ []) H f todo order
-  lengthened v = record {
-    heads = h.heads;
-    queued = record {
-      rings = extended N P R (0 ∷ h.heads) order q.rings 0 0 0;
-      works = let w = q.works in omega (arith, w, length-append W (v ∷ []), length-append N (0 ∷ []));
-      listed = λ y k u. ap (λ (w : Work). H w.list) (work y k) ∙ q.listed y k (sym (ap (λ r. not (r == 0)) (zero_added R y)) ∙ u) ∙ ap Some (sym (zero_added R y));
-      todo_are = q.todo_are ∙ sym (ap (map (work_in (W ++ v ∷ []))) nodes ∙ map_agree (work_in (W ++ v ∷ [])) (work_in W) (used R order) (λ y k. work y (In-from_filter y (is_used R) order k).0));
-      headed = q.headed;
-      one_list = q.one_list;
-    };
-    free = let room = h.free in let e = ap length ring_now in omega (arith, e, room);
-    covered = λ y u. h.covered y (sym (ap (λ r. not (r == 0)) (zero_added R y)) ∙ u);
-  }
+  -- one more node at the end of the vector, which no ring has yet
+  pub lengthened : (v : Work) → (sh : ShowsAt (N ++ 0 ∷ []) (P ++ 0 ∷ []) (R ++ 0 ∷ []) (W ++ v ∷ []) H f todo order) × Off (length N) ((0 ∷ sh.heads) ++ order)
+  lengthened v = (
+    record {
+      heads = h.heads;
+      queued = record {
+        rings = extended N P R (0 ∷ h.heads) order q.rings 0 0 0;
+        works = let w = q.works in omega (arith, w, length-append W (v ∷ []), length-append N (0 ∷ []));
+        listed = λ y k u. ap (λ (w : Work). H w.list) (work y k) ∙ q.listed y k (sym (ap (λ r. not (r == 0)) (zero_added R y)) ∙ u) ∙ ap Some (sym (zero_added R y));
+        todo_are = q.todo_are ∙ sym (ap (map (work_in (W ++ v ∷ []))) nodes ∙ map_agree (work_in (W ++ v ∷ [])) (work_in W) (used R order) (λ y k. work y (In-from_filter y (is_used R) order k).0));
+        headed = q.headed;
+        one_list = q.one_list;
+      };
+      free = let room = h.free in let e = ap length ring_now in omega (arith, e, room);
+      covered = λ y u. h.covered y (sym (ap (λ r. not (r == 0)) (zero_added R y)) ∙ u);
+    },
+    off_below (length N) ((0 ∷ h.heads) ++ order) q.rings.within,
+  )
     where
       work : (y : ℕ) → In y order → work_in (W ++ v ∷ []) y ≡ work_in W y
       work y k = get_or_append_left W (v ∷ []) no_work y (let l = Below-at (length N) y order low k in let w = q.works in omega arith)

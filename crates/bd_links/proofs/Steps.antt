@@ -101,17 +101,15 @@ grow_stands t u todo x n h some at np nx nr nn pp rr ww ls fr = record { either 
   where
     of : Empty t todo ⊎ ((order : List ℕ) × Shows t todo order) → Empty u todo ⊎ ((order : List ℕ) × Shows u todo order)
     of (inl e) = let l = ap length e.no_nodes in absurd (omega (arith, l))
-    of (inr k) = inr (
-      k.0 ++ x ∷ [],
-      rw (nn, pp, rr, ww, ls, fr, np, nx, nr)
-          (freed _ _ _ _ _ _ _ _ (longer k.0 k.1) x (off k.0 k.1) (let l = length-append (nexts t.nodes.items) (0 ∷ []) in let m = length-map t.nodes.items (λ (n : Node). n.next) in omega (arith, l, m, at))),
-    )
-      where
-        longer : (order : List ℕ) → (sh : Shows t todo order) → ShowsAt (nexts t.nodes.items ++ 0 ∷ []) (prevs t.nodes.items ++ 0 ∷ []) (rows t.nodes.items ++ 0 ∷ []) (works t.nodes.items ++ n.work ∷ []) (head_at t.lists) t.free todo order
-        longer order sh = lengthened (nexts t.nodes.items) (prevs t.nodes.items) (rows t.nodes.items) (works t.nodes.items) (head_at t.lists) t.free todo order sh n.work
-
-        off : (order : List ℕ) → (sh : Shows t todo order) → Off x ((0 ∷ sh.heads) ++ order)
-        off order sh = subst (λ m. Off m ((0 ∷ sh.heads) ++ order)) (sym (at ∙ sym (length-map t.nodes.items (λ (n : Node). n.next)))) (off_below (length (nexts t.nodes.items)) ((0 ∷ sh.heads) ++ order) sh.queued.rings.within)
+    of (inr k) =
+        let ns = t.nodes.items in
+        let g = lengthened (nexts ns) (prevs ns) (rows ns) (works ns) (head_at t.lists) t.free todo k.0 k.1 n.work in
+        let l = length-map ns (λ (n : Node). n.next) in
+        inr (
+          k.0 ++ x ∷ [],
+          rw (nn, pp, rr, ww, ls, fr, np, nx, nr)
+              (freed _ _ _ _ _ _ _ _ g.0 x (subst (λ m. Off m ((0 ∷ g.0.heads) ++ k.0)) (l ∙ sym at) g.1) (let m = length-append (nexts ns) (0 ∷ []) in omega (arith, l, m, at))),
+        )
 
 -- ---- a list gets a head
 

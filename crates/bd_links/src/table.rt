@@ -256,6 +256,7 @@ impl WorkTable {
             }
         }
     }
+
     /// A list is emptied.
     pub fn clear_list(&mut self, list: TodoList)
         ensures stands { Makes self.old self.new (λ l. filter (λ w. not (spec.is_on list w)) l) }
