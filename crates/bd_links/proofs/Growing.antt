@@ -10,8 +10,8 @@ use Rattle.bd_links.specs.Rings.{Off, In, Distinct, Below, Path, is_in_ring, rin
 use Rattle.bd_links.specs.Moved.{cut_next, cut_prev}
 use Rattle.bd_links.specs.Queues.{no_work, work_in, is_used, used, Queued}
 use Rattle.bd_links.specs.Shown.{ShowsAt}
-use Rattle.bd_links.proofs.RingLemmas.{apart_from, Off-append, Off-left, Off-right, Distinct-right, Distinct-across, Distinct-back, In-right, In-left, Below-at, Below-left, next_kept, prev_kept}
-use Rattle.bd_links.proofs.Moves.{on_ring, Off-filter, Below-filter, filter_agree, filter-append, Below-append, Below-right, Distinct-filter, filter_filter, In-filter, In-from_filter, without_off, without_gone, Cut, cut_at, node_of, ring_below, ring_distinct, detached, attached}
+use Rattle.bd_links.proofs.RingLemmas.{apart_from, Off-append, Off-left, Off-right, Distinct-right, Distinct-across, Distinct-back, In-right, In-left, In-snoc, Below-at, Below-left, next_kept, prev_kept}
+use Rattle.bd_links.proofs.Moves.{on_ring, Off-filter, Off-failed, Below-filter, filter_agree, filter-append, Below-append, Below-right, Distinct-filter, filter_filter, In-filter, In-from_filter, without_off, without_gone, Cut, cut_at, node_of, ring_below, ring_distinct, detached, attached}
 use Rattle.bd_links.proofs.QueueLemmas.{map_agree, first_in, same_list-eq, same_list-refl}
 
 -- ---- a node more, in no ring
@@ -58,18 +58,12 @@ module _ (N P R heads nodes : List ℕ) (h : Rings N P R heads nodes) where
     prevs = length-set P x x ∙ h.prevs ∙ sym (length-set N x x);
     rows = h.rows ∙ sym (length-set N x x);
     headed = λ y k. In-left (get_or R y 0) heads (x ∷ []) (h.headed y k);
-    rings = λ s k. of s (in_snoc s heads k);
+    rings = λ s k. of s (In-snoc x s heads k);
   }
     where
       insert : (hs : List ℕ) → Distinct (hs ++ nodes) → Off x (hs ++ nodes) → Distinct ((hs ++ x ∷ []) ++ nodes)
       insert [] a o = (o, a)
       insert (y ∷ hs) a o = (Off-append y (hs ++ x ∷ []) nodes (Off-append y hs (x ∷ []) (Off-left y hs nodes a.0) ((λ e. o.0 (sym e)), tt)) (Off-right y hs nodes a.0), insert hs a.1 o.1)
-
-      in_snoc : (y : ℕ) (ys : List ℕ) → In y (ys ++ x ∷ []) → In y ys ⊎ (y ≡ x)
-      in_snoc y [] (inl e) = inr e
-      in_snoc y [] (inr k) = elim k [ ]
-      in_snoc y (z ∷ ys) (inl e) = inl (inl e)
-      in_snoc y (z ∷ ys) (inr k) = elim (in_snoc y ys k) as (λ _. In y (z ∷ ys) ⊎ (y ≡ x)) [ inl i ↦ inl (inr i) | inr e ↦ inr e ]
 
       none : (ys : List ℕ) → ((y : ℕ) → In y ys → In (get_or R y 0) heads) → ring R ys x ≡ []
       none [] k = refl
@@ -80,16 +74,8 @@ module _ (N P R heads nodes : List ℕ) (h : Rings N P R heads nodes) where
       of : (s : ℕ) → In s heads ⊎ (s ≡ x) → Path (set N x x) (set P x x) s (ring R nodes s) s
       of s (inl k) =
           let far : x ≢ s = apart_from x s heads (Off-left x heads nodes off) k in
-          let off_ring : Off x (ring R nodes s) = Off-ring nodes (Off-right x heads nodes off) in
+          let off_ring : Off x (ring R nodes s) = Off-filter x (is_in_ring R s) nodes (Off-right x heads nodes off) in
           next_kept N (set P x x) x x s (ring R nodes s) s (far, off_ring) (prev_kept N P x x s (ring R nodes s) s off_ring far (h.rings s k))
-        where
-          Off-ring : (ys : List ℕ) → Off x ys → Off x (ring R ys s)
-          Off-ring [] o = tt
-          Off-ring (y ∷ ys) o = one (is_in_ring R s y) o.0 (Off-ring ys o.1)
-            where
-              one : (b : Bool) → x ≢ y → Off x (ring R ys s) → Off x (cond b (y ∷ ring R ys s) (ring R ys s))
-              one true n o = (n, o)
-              one false n o = o
       of s (inr e) =
           subst (λ z. Path (set N x x) (set P x x) z (ring R nodes z) z) (sym e)
           (subst (λ ys. Path (set N x x) (set P x x) x ys x) (sym (none nodes h.headed)) (get_or-set_same N x x 0 bound, get_or-set_same P x x 0 (subst (λ m. x < m) (sym h.prevs) bound)))
@@ -165,14 +151,8 @@ module _ (N P R : List ℕ) (W : List Work) (H : TodoList → Option ℕ) (f : �
       own : get_or (set R x 0) x 0 ≡ 0
       own = get_or-set_same R x 0 0 (let r = q.rings.rows in omega (arith, r, bound))
 
-      in_snoc : (y : ℕ) (ys : List ℕ) → In y (ys ++ x ∷ []) → In y ys ⊎ (y ≡ x)
-      in_snoc y [] (inl e) = inr e
-      in_snoc y [] (inr k) = elim k [ ]
-      in_snoc y (z ∷ ys) (inl e) = inl (inl e)
-      in_snoc y (z ∷ ys) (inr k) = elim (in_snoc y ys k) as (λ _. In y (z ∷ ys) ⊎ (y ≡ x)) [ inl i ↦ inl (inr i) | inr e ↦ inr e ]
-
       listed : (y : ℕ) → In y (order ++ x ∷ []) → is_used (set R x 0) y ≡ true → H (work_in W y).list ≡ Some (get_or (set R x 0) y 0)
-      listed y k u = elim (in_snoc y order k) as (λ _. H (work_in W y).list ≡ Some (get_or (set R x 0) y 0)) [
+      listed y k u = elim (In-snoc x y order k) as (λ _. H (work_in W y).list ≡ Some (get_or (set R x 0) y 0)) [
         | inl i ↦ q.listed y i (sym (ap (λ r. not (r == 0)) (row y i)) ∙ u) ∙ ap Some (sym (row y i))
         | inr e ↦ let no : is_used (set R x 0) y ≡ false = ap (λ z. is_used (set R x 0) z) e ∙ ap (λ r. not (r == 0)) own ∙ ap not (eq-eqb 0 0 refl) in absurd cc
       ]
@@ -243,8 +223,11 @@ module _ (N P R : List ℕ) (W : List Work) (H : TodoList → Option ℕ) (f : �
       node : In x order × (get_or R x 0 ≡ 0)
       node = node_of N P R (0 ∷ h.heads) order q.rings 0 x free
 
+      free_x : is_used R x ≡ false
+      free_x = ap (λ r. not (r == 0)) node.1 ∙ ap not (eq-eqb 0 0 refl)
+
       unused_x : is_used R x ≡ true → ⊥
-      unused_x u = let none : is_used R x ≡ false = ap (λ r. not (r == 0)) node.1 ∙ ap not (eq-eqb 0 0 refl) in cc
+      unused_x u = let none = free_x in cc
 
       made : Rings (set (cut_next N P x) x x) (set (cut_prev N P x) x x) R ((0 ∷ h.heads) ++ x ∷ []) (without x order)
       made = head_made (cut_next N P x) (cut_prev N P x) R (0 ∷ h.heads) (without x order) (detached N P R (0 ∷ h.heads) order q.rings x (get_or P x 0) (get_or N x 0) node.0 refl refl) x
@@ -271,25 +254,11 @@ module _ (N P R : List ℕ) (W : List Work) (H : TodoList → Option ℕ) (f : �
       still m r e = at (same_list l m) refl
         where
           at : (b : Bool) → same_list l m ≡ b → H' m ≡ Some r
-          at true s = absurd (clash (sym missing ∙ ap H (same_list-eq l m s) ∙ e))
-            where
-              clash : None ≡ Some r → ⊥
-              clash d = cc
+          at true s = let d : None ≡ Some r = sym missing ∙ ap H (same_list-eq l m s) ∙ e in absurd cc
           at false s = now m ∙ ap (λ b. cond {A = Option ℕ} b (Some x) (H m)) s ∙ e
 
       unused : Off x (used R order)
-      unused = off order
-        where
-          off : (ys : List ℕ) → Off x (used R ys)
-          off [] = tt
-          off (y ∷ ys) = elim (cases_eq x y) as (λ _. Off x (used R (y ∷ ys))) [
-            | inl i ↦ rw (ap not (ap (λ r. r == 0) (ap (λ z. get_or R z 0) (sym i) ∙ node.1) ∙ eq-eqb 0 0 refl)) (off ys)
-            | inr n ↦ one (is_used R y) n (off ys)
-          ]
-            where
-              one : (b : Bool) → x ≢ y → Off x (used R ys) → Off x (cond b (y ∷ used R ys) (used R ys))
-              one true n o = (n, o)
-              one false n o = o
+      unused = Off-failed x (is_used R) order free_x
 
       rest : used R (without x order) ≡ used R order
       rest = filter_filter (is_used R) (λ y. not (y == x)) order ∙ without_off x (used R order) unused
@@ -364,10 +333,7 @@ module _ (N P R : List ℕ) (W : List Work) (H : TodoList → Option ℕ) (f : �
       of_head m g false e k = In-filter g (λ z. not (z == s)) h.heads (q.headed m g (was m g k)) (ap not (ne_eqb g s far))
         where
           far : g ≢ s
-          far i = let same : l ≡ m = q.one_list l m s found (was m g k ∙ ap Some i) in let t : same_list l m ≡ true = ap (same_list l) (sym same) ∙ same_list-refl l in absurd (differ (sym e ∙ t))
-            where
-              differ : false ≡ true → ⊥
-              differ d = cc
+          far i = let same : l ≡ m = q.one_list l m s found (was m g k ∙ ap Some i) in let t : same_list l m ≡ true = ap (same_list l) (sym same) ∙ same_list-refl l in let d : false ≡ true = sym e ∙ t in absurd cc
 
   pub free_less : (f' : ℕ) → f' ≤ f → ShowsAt N P R W H f' todo order
   free_less f' less = record { heads = h.heads; queued = h.queued; free = let room = h.free in omega (arith, room, less); covered = h.covered }

@@ -13,9 +13,9 @@ use Rattle.bd_links.specs.Rings.{Off, In, Distinct, Path, is_in_ring, ring, with
 use Rattle.bd_links.specs.Queues.{no_work, work_in, is_used, used, Queued}
 use Rattle.bd_links.specs.Shown.{ShowsAt}
 use Rattle.bd_links.specs.Moved.{cut_next, cut_prev, moved_next, moved_prev, moved_order}
-use Rattle.bd_links.proofs.RingLemmas.{apart_from, Off-append, Off-left, Distinct-right, Distinct-across, Distinct-back, In-left, In-right, Below-at}
+use Rattle.bd_links.proofs.RingLemmas.{apart_from, Off-append, Off-left, Distinct-right, Distinct-across, Distinct-back, In-left, In-right, In-snoc, Below-at}
 use Rattle.bd_links.proofs.OnList.{any_some}
-use Rattle.bd_links.proofs.Moves.{filter_filter, filter-append, filter_agree, In-filter, In-from_filter, Distinct-filter, without_off, without_gone, cut_at, on_ring, node_of, detached, attached}
+use Rattle.bd_links.proofs.Moves.{filter_filter, filter-append, filter_agree, In-filter, In-from_filter, Distinct-filter, Off-failed, without_off, without_gone, cut_at, on_ring, node_of, detached, attached}
 
 -- ---- lists by name
 
@@ -102,16 +102,10 @@ moved N P R heads order h x s k ks =
 
 -- a node in the new order is the moved one, or was there and is another
 pub in_moved : (x y : ℕ) (order : List ℕ) → In y (moved_order x order) → (y ≡ x) ⊎ (In y order × (x ≢ y))
-in_moved x y order k = elim (in_snoc (without x order) k) as (λ _. (y ≡ x) ⊎ (In y order × (x ≢ y))) [
+in_moved x y order k = elim (In-snoc x y (without x order) k) as (λ _. (y ≡ x) ⊎ (In y order × (x ≢ y))) [
   | inl i ↦ inr ((In-from_filter y (λ z. not (z == x)) order i).0, apart_from x y (without x order) (without_gone x order) i)
   | inr e ↦ inl e
 ]
-  where
-    in_snoc : (ys : List ℕ) → In y (ys ++ x ∷ []) → In y ys ⊎ (y ≡ x)
-    in_snoc [] (inl e) = inr e
-    in_snoc [] (inr k) = elim k [ ]
-    in_snoc (z ∷ ys) (inl e) = inl (inl e)
-    in_snoc (z ∷ ys) (inr k) = elim (in_snoc ys k) as (λ _. In y (z ∷ ys) ⊎ (y ≡ x)) [ inl i ↦ inl (inr i) | inr e ↦ inr e ]
 
 module _ (N P R : List ℕ) (W : List Work) (H : TodoList → Option ℕ) (heads : List ℕ) (order : List ℕ) (todo : List Work) (q : Queued N P R W H heads order todo) (x : ℕ) (k : In x order) where
   bound : x < length N
@@ -161,18 +155,7 @@ module _ (N P R : List ℕ) (W : List Work) (H : TodoList → Option ℕ) (heads
       ]
 
       unused : Off x (used R order)
-      unused = off order
-        where
-          off : (ys : List ℕ) → Off x (used R ys)
-          off [] = tt
-          off (y ∷ ys) = elim (cases_eq x y) as (λ _. Off x (used R (y ∷ ys))) [
-            | inl e ↦ rw (ap not (ap (λ r. r == 0) (ap (λ z. get_or R z 0) (sym e) ∙ free) ∙ eq-eqb 0 0 refl)) (off ys)
-            | inr n ↦ one (is_used R y) n (off ys)
-          ]
-            where
-              one : (b : Bool) → x ≢ y → Off x (used R ys) → Off x (cond b (y ∷ used R ys) (used R ys))
-              one true n o = (n, o)
-              one false n o = o
+      unused = Off-failed x (is_used R) order (ap not (ap (λ r. r == 0) free ∙ eq-eqb 0 0 refl))
 
       last : used (set R x s) (x ∷ []) ≡ x ∷ []
       last = ap (λ b. cond b (x ∷ []) []) (ap (λ r. not (r == 0)) (row_of_own s) ∙ ap not (ne_eqb s 0 (λ e. apart_from 0 s (heads) (Off-left 0 (heads) order q.rings.apart.0) there (sym e))))
@@ -231,15 +214,8 @@ module _ (N P R : List ℕ) (W : List Work) (H : TodoList → Option ℕ) (heads
   pub free_dropped : 0 ≢ get_or R x 0 → length (ring (set R x 0) (moved_order x order) 0) ≡ length (ring R order 0) + 1
   free_dropped far =
       let e : ring (set R x 0) (moved_order x order) 0 ≡ ring R order 0 ++ x ∷ [] =
-      ring_moved 0 0 ∙ ap (λ b. without x (ring R order 0) ++ cond b (x ∷ []) []) (eq-eqb 0 0 refl) ∙ ap (λ ys. ys ++ x ∷ []) (without_off x (ring R order 0) (off_ring order)) in
+      ring_moved 0 0 ∙ ap (λ b. without x (ring R order 0) ++ cond b (x ∷ []) []) (eq-eqb 0 0 refl) ∙ ap (λ ys. ys ++ x ∷ []) (without_off x (ring R order 0) (Off-failed x (is_in_ring R 0) order (ne_eqb (get_or R x 0) 0 (λ i. far (sym i))))) in
       rw e (omega (arith, length-append (ring R order 0) (x ∷ [])))
-    where
-      off_ring : (ys : List ℕ) → Off x (ring R ys 0)
-      off_ring [] = tt
-      off_ring (y ∷ ys) = elim (cases_eq (get_or R y 0) 0) as (λ _. Off x (ring R (y ∷ ys) 0)) [
-        | inl i ↦ rw (eq-eqb (get_or R y 0) 0 i) ((λ j. far (sym i ∙ ap (λ z. get_or R z 0) (sym j))), off_ring ys)
-        | inr n ↦ rw (ne_eqb (get_or R y 0) 0 n) (off_ring ys)
-      ]
 
 -- ---- the first of a ring
 
@@ -348,10 +324,7 @@ unlisted N P R W H heads order todo q l missing =
     no : (x : ℕ) → In x order → (a b : Bool) → is_used R x ≡ a → is_on l (work_in W x) ≡ b → (a && b) ≡ false
     no x k false b e f = refl
     no x k true false e f = refl
-    no x k true true e f = let g = q.listed x k e in let same = same_list-eq l (work_in W x).list f in absurd (differ (sym missing ∙ ap (H) same ∙ g))
-      where
-        differ : None ≡ Some (get_or R x 0) → ⊥
-        differ d = cc
+    no x k true true e f = let g = q.listed x k e in let same = same_list-eq l (work_in W x).list f in let d : None ≡ Some (get_or R x 0) = sym missing ∙ ap H same ∙ g in absurd cc
 
 -- ---- a node goes from the midst
 
