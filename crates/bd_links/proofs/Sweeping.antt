@@ -133,7 +133,7 @@ swept_cut p t u v i order h on goes gone went rr ww = record {
     there = In-filter i (is_used (rows u.queues.nodes.items)) h.now in_now on
 
     nodes : used (rows v.queues.nodes.items) (moved_order i h.now) ≡ without i (used (rows u.queues.nodes.items) h.now)
-    nodes = ap (λ r. used r (moved_order i h.now)) rr ∙ used_dropped _ _ (rows u.queues.nodes.items) _ _ h.now _ h.shows.queued i in_now
+    nodes = ap (λ r. used r (moved_order i h.now)) rr ∙ used_dropped _ _ (rows u.queues.nodes.items) _ _ _ h.now _ h.shows.queued i in_now
 
     left : map (work_in (works u.queues.nodes.items)) (without i (used (rows u.queues.nodes.items) h.now)) ≡ map (work_in (works t.queues.nodes.items)) (used (rows v.queues.nodes.items) (moved_order i h.now))
     left = ap (λ ws. map (work_in ws) (without i (used (rows u.queues.nodes.items) h.now))) h.works_are ∙ ap (map (work_in (works t.queues.nodes.items))) (sym nodes)
