@@ -1,5 +1,5 @@
 -- The room of a table is a number of the machine.
-use Rattle.std.proofs.Common.{ℕ, ◌<◌, ◌^◌, min, arith}
+use Rattle.std.proofs.Common.{◌<◌, ◌^◌, min, arith}
 use Rattle.std.specs.HashMap.{spare}
 use Rattle.std.proofs.Math.Nat.{min-le_right}
 use Rattle.bd_links.specs.declared.table.WorkTable.{WorkTable}

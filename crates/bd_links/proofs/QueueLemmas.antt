@@ -1,5 +1,5 @@
 -- Queues as work items: what stands on a list, and what a move of a node changes.
-use Rattle.std.proofs.Common.{◌≡◌, ◌≢◌, ◌⊎◌, inl, inr, ℕ, ◌+◌, ◌<◌, ◌==◌, Bool, true, false, not, ◌&&◌, cond, ◌≤◌, List, [], ◌∷◌, ◌++◌, length, map, filter, find, Option, Some, None, option_map, get_or, set, refl, sym, ap, ◌∙◌, subst, arith, append-nil, length-set, length-append, eqb-true, eq-eqb, ne_eqb}
+use Rattle.std.proofs.Common.{◌≡◌, ◌≢◌, ◌⊎◌, inl, inr, ℕ, ◌+◌, ◌<◌, ◌==◌, Bool, true, false, not, ◌&&◌, cond, ◌≤◌, List, [], ◌∷◌, ◌++◌, length, map, filter, Option, Some, None, get_or, set, refl, sym, ap, ◌∙◌, subst, arith, append-nil, length-set, length-append, eqb-true, eq-eqb, ne_eqb}
 use Rattle.std.proofs.lemmas.Bool.{cases_eq}
 use Rattle.std.proofs.lemmas.List.{get_or-set_same, get_or-set_other, map-append}
 use Rattle.bd_space.specs.declared.space.Work.{Work}

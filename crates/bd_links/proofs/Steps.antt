@@ -1,5 +1,5 @@
 -- The steps of the code, over queues.
-use Rattle.std.proofs.Common.{◌≡◌, ◌≢◌, ◌⊎◌, inl, inr, ℕ, ◌+◌, ◌-◌, ◌≤◌, List, [], ◌∷◌, ◌++◌, filter, map, cond, length, length-append, subst, ◌<◌, ◌==◌, true, false, not, eq-eqb, Some, None, get_or, set, refl, sym, ap, ◌∙◌, arith}
+use Rattle.std.proofs.Common.{◌≡◌, ◌≢◌, ◌⊎◌, inl, inr, ℕ, ◌+◌, ◌-◌, ◌≤◌, List, [], ◌∷◌, ◌++◌, filter, map, cond, length, length-append, subst, ◌==◌, true, false, not, eq-eqb, Some, None, get_or, set, refl, sym, ap, ◌∙◌, arith}
 use Rattle.std.specs.List.{list_any}
 use Rattle.bd_space.specs.declared.space.Work.{Work}
 use Rattle.bd_space.specs.declared.space.TodoList.{TodoList}
@@ -11,12 +11,11 @@ use Rattle.bd_links.specs.Rings.{Off, without, ring}
 use Rattle.bd_links.specs.Nodes.{nexts, prevs, rows, works}
 use Rattle.bd_links.specs.Queues.{work_in}
 use Rattle.bd_links.specs.Heads.{head_at}
-use Rattle.bd_links.specs.Shown.{ShowsAt}
 use Rattle.bd_links.specs.Moved.{cut_next, cut_prev, moved_next, moved_prev, moved_order}
 use Rattle.bd_links.specs.QueuesStand.{Empty, Shows, Stands, FrontIn}
 use Rattle.bd_links.proofs.OnList.{any_none, any_left}
 use Rattle.bd_links.proofs.QueueLemmas.{push_shows, front_shows, ring_empty, queue_is}
-use Rattle.bd_links.proofs.Growing.{begun, freed, lengthened, head_listed, unheaded, free_less, off_below, zero_added}
+use Rattle.bd_links.proofs.Growing.{begun, freed, lengthened, head_listed, unheaded, free_less, zero_added}
 use Rattle.bd_links.proofs.RingLemmas.{Below-at, In-left}
 use Rattle.bd_space.specs.Reading.{is_empty}
 
@@ -149,7 +148,7 @@ give_stands t u todo s l h found none nn pp rr ww ls fr = record { either = of h
         let ns = t.nodes.items in
         let q = k.1.queued in
         let g = unheaded (nexts ns) (prevs ns) (rows ns) (works ns) (head_at t.lists) t.free todo k.0 k.1 s l (head_at u.lists) found
-            (no_nodes (rows ns) k.0 (sym (queue_is (nexts ns) (prevs ns) (rows ns) (works ns) (head_at t.lists) k.1.heads k.0 todo q l s found) ∙ none_left)) ls in
+        (no_nodes (rows ns) k.0 (sym (queue_is (nexts ns) (prevs ns) (rows ns) (works ns) (head_at t.lists) k.1.heads k.0 todo q l s found) ∙ none_left)) ls in
         inr (
           k.0 ++ s ∷ [],
           rw (nn, pp, rr, ww)
