@@ -7,7 +7,7 @@ use Rattle.bd_space.specs.declared.space.Work.{Work}
 use Rattle.bd_links.specs.declared.queues.Queues.{Queues}
 use Rattle.bd_links.specs.Rings.{In, Distinct, without}
 use Rattle.bd_links.specs.Nodes.{rows, works}
-use Rattle.bd_links.specs.Queues.{work_in, is_used, used, heads_of}
+use Rattle.bd_links.specs.Queues.{work_in, is_used, used}
 use Rattle.bd_links.specs.QueuesStand.{Empty, Shows, Stands}
 use Rattle.bd_links.specs.Sweep.{is_seen}
 use Rattle.bd_links.proofs.RingLemmas.{Distinct-right}
@@ -61,7 +61,7 @@ module _ (p : Work → Bool) (W : List Work) (i : ℕ) where
 -- ---- the queues
 
 pub used_apart : (t : Queues) (todo : List Work) (order : List ℕ) → Shows t todo order → Distinct (used (rows t.nodes.items) order)
-used_apart t todo order h = Distinct-filter (is_used (rows t.nodes.items)) order (Distinct-right (0 ∷ heads_of t.lists.items) order h.queued.rings.apart)
+used_apart t todo order h = Distinct-filter (is_used (rows t.nodes.items)) order (Distinct-right (0 ∷ h.heads) order h.queued.rings.apart)
 
 module _ (p : Work → Bool) (t : Queues) (todo : List Work) (order : List ℕ) (h : Shows t todo order) (count i : ℕ) where
   pub count_first : count ≡ 0 → i ≡ 0 → count ≡ count_by (is_seen p (works t.nodes.items) i) (used (rows t.nodes.items) order)

@@ -1,9 +1,9 @@
 -- A node leaves its ring, and comes to the end of another: all rings stay rings.
-use Rattle.std.proofs.Common.{◌≡◌, ◌≢◌, ◌⊎◌, inl, inr, ℕ, ◌<◌, ◌==◌, Bool, true, false, not, cond, List, [], ◌∷◌, ◌++◌, length, filter, get_or, set, refl, sym, ap, ◌∙◌, subst, append-nil, append_assoc, length-set, eqb-true, eq-eqb, ne_eqb}
+use Rattle.std.proofs.Common.{◌≡◌, ◌≢◌, inl, inr, ℕ, ◌<◌, ◌==◌, Bool, true, false, not, cond, List, [], ◌∷◌, ◌++◌, length, filter, get_or, set, refl, sym, ap, ◌∙◌, subst, append-nil, append_assoc, length-set, eqb-true, eq-eqb, ne_eqb}
 use Rattle.std.proofs.lemmas.Bool.{cases_eq}
 use Rattle.std.proofs.lemmas.List.{get_or-set_same, get_or-set_other}
 use Rattle.bd_links.specs.Rings.{Off, In, Distinct, Below, Path, is_in_ring, ring, without, Rings}
-use Rattle.bd_links.proofs.RingLemmas.{apart_from, Off-append, Off-left, Off-right, Distinct-right, Distinct-across, In-right, In-left, Below-at, Below-left, next_kept, prev_kept, path_before, path_after, before_end, unlink, link_last}
+use Rattle.bd_links.proofs.RingLemmas.{apart_from, Off-append, Off-left, Off-right, Distinct-right, Distinct-across, In-right, In-left, In-snoc, Below-at, Below-left, next_kept, prev_kept, path_before, path_after, before_end, unlink, link_last}
 
 -- ---- filters
 
@@ -45,6 +45,15 @@ Off-filter x p (y ∷ ys) h = one (p y) (Off-filter x p ys h.1)
     one : (b : Bool) → Off x (filter p ys) → Off x (cond b (y ∷ filter p ys) (filter p ys))
     one true k = (h.0, k)
     one false k = k
+
+-- nor where it fails the test
+pub Off-failed : (x : ℕ) (p : ℕ → Bool) (ys : List ℕ) → p x ≡ false → Off x (filter p ys)
+Off-failed x p [] e = tt
+Off-failed x p (y ∷ ys) e = at (p y) refl (Off-failed x p ys e)
+  where
+    at : (b : Bool) → p y ≡ b → Off x (filter p ys) → Off x (cond b (y ∷ filter p ys) (filter p ys))
+    at true t o = ((λ i. let d : false ≡ true = sym e ∙ ap p i ∙ t in cc), o)
+    at false t o = o
 
 pub Distinct-filter : (p : ℕ → Bool) (ys : List ℕ) → Distinct ys → Distinct (filter p ys)
 Distinct-filter p [] h = tt
@@ -170,14 +179,7 @@ module _ (N P R heads nodes : List ℕ) (h : Rings N P R heads nodes) where
       subst (λ y. Off y (s ∷ ring R nodes s)) (sym e) ((λ i. far (sym i)), Off-filter g (is_in_ring R s) nodes (Distinct-across g heads nodes h.apart kg))
   one_ring g s x kg ks far (inr k) =
       let node = node_of g x k in
-      ((λ e. apart_from s x nodes (Distinct-across s heads nodes h.apart ks) node.0 (sym e)), off_ring node.1 nodes)
-    where
-      off_ring : get_or R x 0 ≡ g → (ys : List ℕ) → Off x (ring R ys s)
-      off_ring e [] = tt
-      off_ring e (y ∷ ys) = elim (cases_eq (get_or R y 0) s) as (λ _. Off x (ring R (y ∷ ys) s)) [
-        | inl i ↦ rw (eq-eqb (get_or R y 0) s i) ((λ j. far (sym i ∙ ap (λ z. get_or R z 0) (sym j) ∙ e)), off_ring e ys)
-        | inr n ↦ rw (ne_eqb (get_or R y 0) s n) (off_ring e ys)
-      ]
+      ((λ e. apart_from s x nodes (Distinct-across s heads nodes h.apart ks) node.0 (sym e)), Off-failed x (is_in_ring R s) nodes (ap (λ r. r == s) node.1 ∙ ne_eqb g s (λ e. far (sym e))))
 
   -- a node leaves its ring
   pub detached : (x p n : ℕ) → In x nodes → get_or P x 0 ≡ p → get_or N x 0 ≡ n → Rings (set N p n) (set P n p) R heads (without x nodes)
@@ -228,12 +230,6 @@ module _ (N P R heads nodes : List ℕ) (h : Rings N P R heads nodes) where
     rings = all;
   }
     where
-      in_snoc : (y : ℕ) (ys : List ℕ) → In y (ys ++ x ∷ []) → In y ys ⊎ (y ≡ x)
-      in_snoc y [] (inl e) = inr e
-      in_snoc y [] (inr k) = elim k [ ]
-      in_snoc y (z ∷ ys) (inl e) = inl (inl e)
-      in_snoc y (z ∷ ys) (inr k) = elim (in_snoc y ys k) as (λ _. In y (z ∷ ys) ⊎ (y ≡ x)) [ inl i ↦ inl (inr i) | inr e ↦ inr e ]
-
       offn : Off x nodes
       offn = Off-right x heads nodes off
 
@@ -244,7 +240,7 @@ module _ (N P R heads nodes : List ℕ) (h : Rings N P R heads nodes) where
       own = get_or-set_same R x s 0 (subst (λ m. x < m) (sym h.rows) bound)
 
       of_snoc : (y : ℕ) → In y (nodes ++ x ∷ []) → In (get_or (set R x s) y 0) heads
-      of_snoc y i = elim (in_snoc y nodes i) as (λ _. In (get_or (set R x s) y 0) heads) [
+      of_snoc y i = elim (In-snoc x y nodes i) as (λ _. In (get_or (set R x s) y 0) heads) [
         | inl k ↦ subst (λ r. In r heads) (sym (other y k)) (h.headed y k)
         | inr e ↦ subst (λ r. In r heads) (sym (ap (λ z. get_or (set R x s) z 0) e ∙ own)) ks
       ]

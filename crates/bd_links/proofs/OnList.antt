@@ -41,6 +41,15 @@ pub nothing_goes : (p : Work → Bool) (ws : List Work) → list_any p ws ≡ fa
 nothing_goes p [] e = refl
 nothing_goes p (w ∷ ws) e = let h = neither (p w) (list_any p ws) e in rw h.0 (ap (λ vs. w ∷ vs) (nothing_goes p ws h.1))
 
+-- none that is to go is among those that stay
+pub none_stays : (p : Work → Bool) (ws : List Work) → list_any p (filter (λ w. not (p w)) ws) ≡ false
+none_stays p [] = refl
+none_stays p (w ∷ ws) = at (p w) refl (none_stays p ws)
+  where
+    at : (b : Bool) → p w ≡ b → list_any p (filter (λ w. not (p w)) ws) ≡ false → list_any p (cond (not b) (w ∷ filter (λ w. not (p w)) ws) (filter (λ w. not (p w)) ws)) ≡ false
+    at true e k = k
+    at false e k = ap (λ b. b || list_any p (filter (λ w. not (p w)) ws)) e ∙ k
+
 pub no_first : (p : Work → Bool) (ws : List Work) → list_any p ws ≡ false → without_first p ws ≡ ws
 no_first p [] e = refl
 no_first p (w ∷ ws) e = let h = neither (p w) (list_any p ws) e in rw h.0 (ap (λ vs. w ∷ vs) (no_first p ws h.1))

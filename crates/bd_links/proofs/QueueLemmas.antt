@@ -1,5 +1,5 @@
 -- Queues as work items: what stands on a list, and what a move of a node changes.
-use Rattle.std.proofs.Common.{◌≡◌, ◌≢◌, ◌⊎◌, inl, inr, ℕ, ◌+◌, ◌<◌, ◌==◌, Bool, true, false, not, ◌&&◌, cond, ◌≤◌, List, [], ◌∷◌, ◌++◌, length, map, filter, find, Option, Some, None, option_map, get_or, set, refl, sym, ap, ◌∙◌, subst, arith, append-nil, length-set, length-append, eqb-true, eq-eqb, ne_eqb}
+use Rattle.std.proofs.Common.{◌≡◌, ◌≢◌, ◌⊎◌, inl, inr, ℕ, ◌+◌, ◌<◌, ◌==◌, Bool, true, false, not, ◌&&◌, cond, ◌≤◌, List, [], ◌∷◌, ◌++◌, length, map, filter, Option, Some, None, get_or, set, refl, sym, ap, ◌∙◌, subst, arith, append-nil, length-set, length-append, eqb-true, eq-eqb, ne_eqb}
 use Rattle.std.proofs.lemmas.Bool.{cases_eq}
 use Rattle.std.proofs.lemmas.List.{get_or-set_same, get_or-set_other, map-append}
 use Rattle.bd_space.specs.declared.space.Work.{Work}
@@ -8,15 +8,14 @@ use Rattle.bd_space.specs.declared.space.TodoList.TheVariants.{OfThread, OfProce
 use Rattle.bd_space.specs.Words.{without_first}
 use Rattle.bd_space.specs.Todo.{same_list, is_on}
 use Rattle.std.specs.List.{list_any}
-use Rattle.bd_links.specs.declared.queues.Listed.{Listed}
 use Rattle.std.proofs.Common.{◌-◌}
 use Rattle.bd_links.specs.Rings.{Off, In, Distinct, Path, is_in_ring, ring, without, Rings}
-use Rattle.bd_links.specs.Queues.{no_work, work_in, is_used, used, head_in, heads_of, Queued}
+use Rattle.bd_links.specs.Queues.{no_work, work_in, is_used, used, Queued}
 use Rattle.bd_links.specs.Shown.{ShowsAt}
 use Rattle.bd_links.specs.Moved.{cut_next, cut_prev, moved_next, moved_prev, moved_order}
-use Rattle.bd_links.proofs.RingLemmas.{apart_from, Off-append, Off-left, Distinct-right, Distinct-across, Distinct-back, In-left, In-right, Below-at}
+use Rattle.bd_links.proofs.RingLemmas.{apart_from, Off-append, Off-left, Distinct-right, Distinct-across, Distinct-back, In-left, In-right, In-snoc, Below-at}
 use Rattle.bd_links.proofs.OnList.{any_some}
-use Rattle.bd_links.proofs.Moves.{filter_filter, filter-append, filter_agree, In-filter, In-from_filter, Distinct-filter, without_off, without_gone, cut_at, on_ring, node_of, detached, attached}
+use Rattle.bd_links.proofs.Moves.{filter_filter, filter-append, filter_agree, In-filter, In-from_filter, Distinct-filter, Off-failed, without_off, without_gone, cut_at, on_ring, node_of, detached, attached}
 
 -- ---- lists by name
 
@@ -29,30 +28,6 @@ same_list-eq (OfProcess p) (OfProcess q) h = ap OfProcess (eqb-true p q h)
 pub same_list-refl : (a : TodoList) → same_list a a ≡ true
 same_list-refl (OfThread t) = eq-eqb t t refl
 same_list-refl (OfProcess p) = eq-eqb p p refl
-
-pub head_in-In : (lists : List Listed) (l : TodoList) (h : ℕ) → head_in lists l ≡ Some h → In h (heads_of lists)
-head_in-In [] l h e = cc
-head_in-In (x ∷ xs) l h e = first (same_list x.list l) (head_in-In xs l h) e
-  where
-    first : (b : Bool) → (head_in xs l ≡ Some h → In h (heads_of xs)) → option_map (λ (e : Listed). e.head) (cond b (Some x) (find (λ e. same_list e.list l) xs)) ≡ Some h → In h (heads_of (x ∷ xs))
-    first true k e = inl cc
-    first false k e = inr (k e)
-
-pub head_in-same : (lists : List Listed) (a b : TodoList) (h : ℕ) → Distinct (heads_of lists) → head_in lists a ≡ Some h → head_in lists b ≡ Some h → a ≡ b
-head_in-same [] a b h apart e f = cc
-head_in-same (x ∷ xs) a b h apart e f = both (same_list x.list a) (same_list x.list b) refl refl e f (head_in-same xs a b h apart.1) (head_in-In xs a h) (head_in-In xs b h)
-  where
-    get : (c : TodoList) → Bool → Option ℕ
-    get c t = option_map (λ (e : Listed). e.head) (cond t (Some x) (find (λ e. same_list e.list c) xs))
-
-    both : (s t : Bool) → same_list x.list a ≡ s → same_list x.list b ≡ t
-        → option_map (λ (e : Listed). e.head) (cond s (Some x) (find (λ e. same_list e.list a) xs)) ≡ Some h
-        → option_map (λ (e : Listed). e.head) (cond t (Some x) (find (λ e. same_list e.list b) xs)) ≡ Some h
-        → (head_in xs a ≡ Some h → head_in xs b ≡ Some h → a ≡ b) → (head_in xs a ≡ Some h → In h (heads_of xs)) → (head_in xs b ≡ Some h → In h (heads_of xs)) → a ≡ b
-    both true true p q e f k i j = sym (same_list-eq x.list a p) ∙ same_list-eq x.list b q
-    both true false p q e f k i j = let far : x.head ≢ h = apart_from x.head h (heads_of xs) apart.0 (j f) in absurd (far cc)
-    both false true p q e f k i j = let far : x.head ≢ h = apart_from x.head h (heads_of xs) apart.0 (i e) in absurd (far cc)
-    both false false p q e f k i j = k e f
 
 -- ---- what stands on a list
 
@@ -82,28 +57,21 @@ bools true false h k = sym (h refl)
 bools false true h k = k refl
 bools false false h k = refl
 
-module _ (N P R : List ℕ) (W : List Work) (lists : List Listed) (order : List ℕ) (todo : List Work) (q : Queued N P R W lists order todo) where
-  pub used_off_zero : (x h : ℕ) → In h (heads_of lists) → get_or R x 0 ≡ h → is_used R x ≡ true
+module _ (N P R : List ℕ) (W : List Work) (H : TodoList → Option ℕ) (heads : List ℕ) (order : List ℕ) (todo : List Work) (q : Queued N P R W H heads order todo) where
+  pub used_off_zero : (x h : ℕ) → In h (heads) → get_or R x 0 ≡ h → is_used R x ≡ true
   used_off_zero x h k e =
-      let far : 0 ≢ h = apart_from 0 h (heads_of lists) (Off-left 0 (heads_of lists) order q.rings.apart.0) k in
+      let far : 0 ≢ h = apart_from 0 h (heads) (Off-left 0 (heads) order q.rings.apart.0) k in
       ap not (ap (λ r. r == 0) e ∙ ne_eqb h 0 (λ i. far (sym i)))
 
-  pub heads_apart : Distinct (heads_of lists)
-  heads_apart = left (heads_of lists) order q.rings.apart.1
-    where
-      left : (xs ys : List ℕ) → Distinct (xs ++ ys) → Distinct xs
-      left [] ys h = tt
-      left (x ∷ xs) ys h = (Off-left x xs ys h.0, left xs ys h.1)
-
   -- the ring of a list's head is the nodes of the list's items
-  pub on_list : (l : TodoList) (h : ℕ) → head_in lists l ≡ Some h → filter (λ x. is_on l (work_in W x)) (used R order) ≡ ring R order h
+  pub on_list : (l : TodoList) (h : ℕ) → H l ≡ Some h → filter (λ x. is_on l (work_in W x)) (used R order) ≡ ring R order h
   on_list l h e = filter_both (λ x. is_on l (work_in W x)) (is_used R) order ∙ filter_agree _ _ order agree
     where
       here : (x : ℕ) → In x order → (is_used R x && is_on l (work_in W x)) ≡ true → is_in_ring R h x ≡ true
       here x k t =
           let both : (is_used R x ≡ true) × (is_on l (work_in W x) ≡ true) = split (is_used R x) (is_on l (work_in W x)) t in
           let is : l ≡ (work_in W x).list = same_list-eq l (work_in W x).list both.1 in
-          let found : Some (get_or R x 0) ≡ Some h = sym (q.listed x k both.0) ∙ ap (head_in lists) (sym is) ∙ e in
+          let found : Some (get_or R x 0) ≡ Some h = sym (q.listed x k both.0) ∙ ap (H) (sym is) ∙ e in
           eq-eqb (get_or R x 0) h cc
         where
           split : (a b : Bool) → (a && b) ≡ true → (a ≡ true) × (b ≡ true)
@@ -113,15 +81,15 @@ module _ (N P R : List ℕ) (W : List Work) (lists : List Listed) (order : List 
       there : (x : ℕ) → In x order → is_in_ring R h x ≡ true → (is_used R x && is_on l (work_in W x)) ≡ true
       there x k t =
           let is : get_or R x 0 ≡ h = eqb-true (get_or R x 0) h t in
-          let u : is_used R x ≡ true = used_off_zero x h (head_in-In lists l h e) is in
-          let same : l ≡ (work_in W x).list = head_in-same lists l (work_in W x).list h heads_apart e (q.listed x k u ∙ ap Some is) in
+          let u : is_used R x ≡ true = used_off_zero x h (q.headed l h e) is in
+          let same : l ≡ (work_in W x).list = q.one_list l (work_in W x).list h e (q.listed x k u ∙ ap Some is) in
           ap (λ b. b && is_on l (work_in W x)) u ∙ ap (same_list l) (sym same) ∙ same_list-refl l
 
       agree : (x : ℕ) → In x order → (is_used R x && is_on l (work_in W x)) ≡ is_in_ring R h x
       agree x k = bools _ _ (here x k) (there x k)
 
   -- a queue, read from its front, is the work items on the list
-  pub queue_is : (l : TodoList) (h : ℕ) → head_in lists l ≡ Some h → filter (is_on l) todo ≡ map (work_in W) (ring R order h)
+  pub queue_is : (l : TodoList) (h : ℕ) → H l ≡ Some h → filter (is_on l) todo ≡ map (work_in W) (ring R order h)
   queue_is l h e = ap (filter (is_on l)) q.todo_are ∙ filter-map (work_in W) (is_on l) (used R order) ∙ ap (map (work_in W)) (on_list l h e)
 
 -- ---- a node moves to the end of another ring
@@ -134,20 +102,14 @@ moved N P R heads order h x s k ks =
 
 -- a node in the new order is the moved one, or was there and is another
 pub in_moved : (x y : ℕ) (order : List ℕ) → In y (moved_order x order) → (y ≡ x) ⊎ (In y order × (x ≢ y))
-in_moved x y order k = elim (in_snoc (without x order) k) as (λ _. (y ≡ x) ⊎ (In y order × (x ≢ y))) [
+in_moved x y order k = elim (In-snoc x y (without x order) k) as (λ _. (y ≡ x) ⊎ (In y order × (x ≢ y))) [
   | inl i ↦ inr ((In-from_filter y (λ z. not (z == x)) order i).0, apart_from x y (without x order) (without_gone x order) i)
   | inr e ↦ inl e
 ]
-  where
-    in_snoc : (ys : List ℕ) → In y (ys ++ x ∷ []) → In y ys ⊎ (y ≡ x)
-    in_snoc [] (inl e) = inr e
-    in_snoc [] (inr k) = elim k [ ]
-    in_snoc (z ∷ ys) (inl e) = inl (inl e)
-    in_snoc (z ∷ ys) (inr k) = elim (in_snoc ys k) as (λ _. In y (z ∷ ys) ⊎ (y ≡ x)) [ inl i ↦ inl (inr i) | inr e ↦ inr e ]
 
-module _ (N P R : List ℕ) (W : List Work) (lists : List Listed) (order : List ℕ) (todo : List Work) (q : Queued N P R W lists order todo) (x : ℕ) (k : In x order) where
+module _ (N P R : List ℕ) (W : List Work) (H : TodoList → Option ℕ) (heads : List ℕ) (order : List ℕ) (todo : List Work) (q : Queued N P R W H heads order todo) (x : ℕ) (k : In x order) where
   bound : x < length N
-  bound = Below-at (length N) x ((0 ∷ heads_of lists) ++ order) q.rings.within (In-right x (0 ∷ heads_of lists) order k)
+  bound = Below-at (length N) x ((0 ∷ heads) ++ order) q.rings.within (In-right x (0 ∷ heads) order k)
 
   off_rest : Off x (without x order)
   off_rest = without_gone x order
@@ -168,44 +130,35 @@ module _ (N P R : List ℕ) (W : List Work) (lists : List Listed) (order : List 
   work_of_other w y far = get_or-set_other W x y w no_work (λ e. far (sym e))
 
   -- a free node becomes the last of a list
-  pub pushed : (w : Work) (s : ℕ) → get_or R x 0 ≡ 0 → head_in lists w.list ≡ Some s
-      → Queued (moved_next N P x s) (moved_prev N P x s) (set R x s) (set W x w) lists (moved_order x order) (todo ++ w ∷ [])
+  pub pushed : (w : Work) (s : ℕ) → get_or R x 0 ≡ 0 → H w.list ≡ Some s
+      → Queued (moved_next N P x s) (moved_prev N P x s) (set R x s) (set W x w) H heads (moved_order x order) (todo ++ w ∷ [])
   pushed w s free found = record {
-    rings = moved N P R (0 ∷ heads_of lists) order q.rings x s k (inr there);
+    rings = moved N P R (0 ∷ heads) order q.rings x s k (inr there);
     works = length-set W x w ∙ q.works ∙ sym (length-set (set (cut_next N P x) (get_or (cut_prev N P x) s 0) x) x s ∙ length-set (cut_next N P x) (get_or (cut_prev N P x) s 0) x ∙ length-set N (get_or P x 0) (get_or N x 0));
     listed = listed;
     todo_are = sym all;
+    headed = q.headed;
+    one_list = q.one_list;
   }
     where
-      there : In s (heads_of lists)
-      there = head_in-In lists w.list s found
+      there : In s (heads)
+      there = q.headed w.list s found
 
       own : work_in (set W x w) x ≡ w
       own = get_or-set_same W x w no_work (subst (λ m. x < m) (sym q.works) bound)
 
-      listed : (y : ℕ) → In y (moved_order x order) → is_used (set R x s) y ≡ true → head_in lists (work_in (set W x w) y).list ≡ Some (get_or (set R x s) y 0)
-      listed y i u = elim (in_moved x y order i) as (λ _. head_in lists (work_in (set W x w) y).list ≡ Some (get_or (set R x s) y 0)) [
-        | inl e ↦ subst (λ z. head_in lists (work_in (set W x w) z).list ≡ Some (get_or (set R x s) z 0)) (sym e) (ap (λ (v : Work). head_in lists v.list) own ∙ found ∙ ap Some (sym (row_of_own s)))
+      listed : (y : ℕ) → In y (moved_order x order) → is_used (set R x s) y ≡ true → H (work_in (set W x w) y).list ≡ Some (get_or (set R x s) y 0)
+      listed y i u = elim (in_moved x y order i) as (λ _. H (work_in (set W x w) y).list ≡ Some (get_or (set R x s) y 0)) [
+        | inl e ↦ subst (λ z. H (work_in (set W x w) z).list ≡ Some (get_or (set R x s) z 0)) (sym e) (ap (λ (v : Work). H v.list) own ∙ found ∙ ap Some (sym (row_of_own s)))
         | inr o ↦
-            ap (λ (v : Work). head_in lists v.list) (work_of_other w y o.1) ∙ q.listed y o.0 (sym (ap (λ r. not (r == 0)) (row_of_other s y o.1)) ∙ u) ∙ ap Some (sym (row_of_other s y o.1))
+            ap (λ (v : Work). H v.list) (work_of_other w y o.1) ∙ q.listed y o.0 (sym (ap (λ r. not (r == 0)) (row_of_other s y o.1)) ∙ u) ∙ ap Some (sym (row_of_other s y o.1))
       ]
 
       unused : Off x (used R order)
-      unused = off order
-        where
-          off : (ys : List ℕ) → Off x (used R ys)
-          off [] = tt
-          off (y ∷ ys) = elim (cases_eq x y) as (λ _. Off x (used R (y ∷ ys))) [
-            | inl e ↦ rw (ap not (ap (λ r. r == 0) (ap (λ z. get_or R z 0) (sym e) ∙ free) ∙ eq-eqb 0 0 refl)) (off ys)
-            | inr n ↦ one (is_used R y) n (off ys)
-          ]
-            where
-              one : (b : Bool) → x ≢ y → Off x (used R ys) → Off x (cond b (y ∷ used R ys) (used R ys))
-              one true n o = (n, o)
-              one false n o = o
+      unused = Off-failed x (is_used R) order (ap not (ap (λ r. r == 0) free ∙ eq-eqb 0 0 refl))
 
       last : used (set R x s) (x ∷ []) ≡ x ∷ []
-      last = ap (λ b. cond b (x ∷ []) []) (ap (λ r. not (r == 0)) (row_of_own s) ∙ ap not (ne_eqb s 0 (λ e. apart_from 0 s (heads_of lists) (Off-left 0 (heads_of lists) order q.rings.apart.0) there (sym e))))
+      last = ap (λ b. cond b (x ∷ []) []) (ap (λ r. not (r == 0)) (row_of_own s) ∙ ap not (ne_eqb s 0 (λ e. apart_from 0 s (heads) (Off-left 0 (heads) order q.rings.apart.0) there (sym e))))
 
       nodes : used (set R x s) (moved_order x order) ≡ used R order ++ x ∷ []
       nodes = filter-append (is_used (set R x s)) (without x order) (x ∷ []) ∙ ap (λ ys. ys ++ used (set R x s) (x ∷ [])) (used_rest s ∙ without_off x (used R order) unused) ∙ ap (λ ys. used R order ++ ys) last
@@ -223,16 +176,18 @@ module _ (N P R : List ℕ) (W : List Work) (lists : List Listed) (order : List 
       last = ap (λ b. cond b (x ∷ []) []) (ap (λ r. not (r == 0)) (row_of_own 0) ∙ ap not (eq-eqb 0 0 refl))
 
   -- a used node becomes free
-  pub dropped : Queued (moved_next N P x 0) (moved_prev N P x 0) (set R x 0) W lists (moved_order x order) (map (work_in W) (without x (used R order)))
+  pub dropped : Queued (moved_next N P x 0) (moved_prev N P x 0) (set R x 0) W H heads (moved_order x order) (map (work_in W) (without x (used R order)))
   dropped = record {
-    rings = moved N P R (0 ∷ heads_of lists) order q.rings x 0 k (inl refl);
+    rings = moved N P R (0 ∷ heads) order q.rings x 0 k (inl refl);
     works = q.works ∙ sym (length-set (set (cut_next N P x) (get_or (cut_prev N P x) 0 0) x) x 0 ∙ length-set (cut_next N P x) (get_or (cut_prev N P x) 0 0) x ∙ length-set N (get_or P x 0) (get_or N x 0));
     listed = listed;
     todo_are = ap (map (work_in W)) (sym used_dropped);
+    headed = q.headed;
+    one_list = q.one_list;
   }
     where
-      listed : (y : ℕ) → In y (moved_order x order) → is_used (set R x 0) y ≡ true → head_in lists (work_in W y).list ≡ Some (get_or (set R x 0) y 0)
-      listed y i u = elim (in_moved x y order i) as (λ _. head_in lists (work_in W y).list ≡ Some (get_or (set R x 0) y 0)) [
+      listed : (y : ℕ) → In y (moved_order x order) → is_used (set R x 0) y ≡ true → H (work_in W y).list ≡ Some (get_or (set R x 0) y 0)
+      listed y i u = elim (in_moved x y order i) as (λ _. H (work_in W y).list ≡ Some (get_or (set R x 0) y 0)) [
         | inl e ↦ let no : is_used (set R x 0) y ≡ false = ap (λ z. is_used (set R x 0) z) e ∙ ap (λ r. not (r == 0)) (row_of_own 0) ∙ ap not (eq-eqb 0 0 refl) in absurd cc
         | inr o ↦ q.listed y o.0 (sym (ap (λ r. not (r == 0)) (row_of_other 0 y o.1)) ∙ u) ∙ ap Some (sym (row_of_other 0 y o.1))
       ]
@@ -250,7 +205,7 @@ module _ (N P R : List ℕ) (W : List Work) (lists : List Listed) (order : List 
   pub free_pushed : (s : ℕ) → get_or R x 0 ≡ 0 → 0 ≢ s → length (ring (set R x s) (moved_order x order) 0) + 1 ≡ length (ring R order 0)
   free_pushed s free far =
       let here : In x (ring R order 0) = In-filter x (is_in_ring R 0) order k (on_ring R 0 x free) in
-      let c = cut_at x (ring R order 0) (Distinct-filter (is_in_ring R 0) order (Distinct-right (0 ∷ heads_of lists) order q.rings.apart)) here in
+      let c = cut_at x (ring R order 0) (Distinct-filter (is_in_ring R 0) order (Distinct-right (0 ∷ heads) order q.rings.apart)) here in
       let e : ring (set R x s) (moved_order x order) 0 ≡ c.before ++ c.after = ring_moved s 0 ∙ ap (λ b. without x (ring R order 0) ++ cond b (x ∷ []) []) (ne_eqb s 0 (λ i. far (sym i))) ∙ append-nil (without x (ring R order 0)) ∙ c.rest in
       let le = ap length e in let lw = ap length c.whole in
       omega (arith, le, lw, length-append c.before c.after, length-append c.before (x ∷ c.after))
@@ -259,15 +214,8 @@ module _ (N P R : List ℕ) (W : List Work) (lists : List Listed) (order : List 
   pub free_dropped : 0 ≢ get_or R x 0 → length (ring (set R x 0) (moved_order x order) 0) ≡ length (ring R order 0) + 1
   free_dropped far =
       let e : ring (set R x 0) (moved_order x order) 0 ≡ ring R order 0 ++ x ∷ [] =
-      ring_moved 0 0 ∙ ap (λ b. without x (ring R order 0) ++ cond b (x ∷ []) []) (eq-eqb 0 0 refl) ∙ ap (λ ys. ys ++ x ∷ []) (without_off x (ring R order 0) (off_ring order)) in
+      ring_moved 0 0 ∙ ap (λ b. without x (ring R order 0) ++ cond b (x ∷ []) []) (eq-eqb 0 0 refl) ∙ ap (λ ys. ys ++ x ∷ []) (without_off x (ring R order 0) (Off-failed x (is_in_ring R 0) order (ne_eqb (get_or R x 0) 0 (λ i. far (sym i))))) in
       rw e (omega (arith, length-append (ring R order 0) (x ∷ [])))
-    where
-      off_ring : (ys : List ℕ) → Off x (ring R ys 0)
-      off_ring [] = tt
-      off_ring (y ∷ ys) = elim (cases_eq (get_or R y 0) 0) as (λ _. Off x (ring R (y ∷ ys) 0)) [
-        | inl i ↦ rw (eq-eqb (get_or R y 0) 0 i) ((λ j. far (sym i ∙ ap (λ z. get_or R z 0) (sym j))), off_ring ys)
-        | inr n ↦ rw (ne_eqb (get_or R y 0) 0 n) (off_ring ys)
-      ]
 
 -- ---- the first of a ring
 
@@ -312,60 +260,61 @@ covered_moved R order x s h y u = elim (cases_eq x y) as (λ _. In y (moved_orde
       In-left y (without x order) (x ∷ []) (In-filter y (λ z. not (z == x)) order (h y was) (ap not (ne_eqb y x (λ e. far (sym e)))))
 ]
 
-pub push_shows : (N P R : List ℕ) (W : List Work) (lists : List Listed) (f : ℕ) (todo : List Work) (order : List ℕ) → ShowsAt N P R W lists f todo order → 1 ≤ f
-    → (x s : ℕ) (w : Work) → x ≡ get_or N 0 0 → head_in lists w.list ≡ Some s
+pub push_shows : (N P R : List ℕ) (W : List Work) (H : TodoList → Option ℕ) (f : ℕ) (todo : List Work) (order : List ℕ) → ShowsAt N P R W H f todo order → 1 ≤ f
+    → (x s : ℕ) (w : Work) → x ≡ get_or N 0 0 → H w.list ≡ Some s
     → (N' P' R' : List ℕ) (W' : List Work) → N' ≡ moved_next N P x s → P' ≡ moved_prev N P x s → R' ≡ set R x s → W' ≡ set W x w
-    → ShowsAt N' P' R' W' lists (f - 1) (todo ++ w ∷ []) (moved_order x order)
-push_shows N P R W lists f todo order h one x s w is found N' P' R' W' eN eP eR eW =
+    → ShowsAt N' P' R' W' H (f - 1) (todo ++ w ∷ []) (moved_order x order)
+push_shows N P R W H f todo order h one x s w is found N' P' R' W' eN eP eR eW =
     let q = h.queued in
     let free : In x (ring R order 0) = subst (λ y. In y (ring R order 0)) (sym is) (first_in N P 0 (ring R order 0) (q.rings.rings 0 (inl refl)) (omega (arith, h.free))) in
-    let node = node_of N P R (0 ∷ heads_of lists) order q.rings 0 x free in
-    let far : 0 ≢ s = apart_from 0 s (heads_of lists) (Off-left 0 (heads_of lists) order q.rings.apart.0) (head_in-In lists w.list s found) in
-    let less = free_pushed N P R W lists order todo q x node.0 s node.1 far in
+    let node = node_of N P R (0 ∷ h.heads) order q.rings 0 x free in
+    let far : 0 ≢ s = apart_from 0 s (h.heads) (Off-left 0 (h.heads) order q.rings.apart.0) (h.queued.headed w.list s found) in
+    let less = free_pushed N P R W H h.heads order todo q x node.0 s node.1 far in
     rw (eN, eP, eR, eW) (record {
-      queued = pushed N P R W lists order todo q x node.0 w s node.1 found;
+      heads = h.heads;
+      queued = pushed N P R W H h.heads order todo q x node.0 w s node.1 found;
       free = omega (arith, less, h.free);
       covered = covered_moved R order x s h.covered;
     })
 
 -- the first node of a list's ring, and its item
-pub front_shows : (N P R : List ℕ) (W : List Work) (lists : List Listed) (f : ℕ) (todo : List Work) (order : List ℕ) → ShowsAt N P R W lists f todo order
-    → (x s : ℕ) (l : TodoList) → x ≡ get_or N s 0 → head_in lists l ≡ Some s → x ≢ s
+pub front_shows : (N P R : List ℕ) (W : List Work) (H : TodoList → Option ℕ) (f : ℕ) (todo : List Work) (order : List ℕ) → ShowsAt N P R W H f todo order
+    → (x s : ℕ) (l : TodoList) → x ≡ get_or N s 0 → H l ≡ Some s → x ≢ s
     → In x (used R order) × (without_first (is_on l) todo ≡ map (work_in W) (without x (used R order))) × (list_any (is_on l) todo ≡ true)
-front_shows N P R W lists f todo order h x s l is found far =
+front_shows N P R W H f todo order h x s l is found far =
     elim (first_is N P s (ring R order s) (h.queued.rings.rings s (inr there))) as (λ _. In x (used R order) × (without_first (is_on l) todo ≡ map (work_in W) (without x (used R order))) × (list_any (is_on l) todo ≡ true)) [
       | first_none e i ↦ absurd (far (is ∙ i))
       | first_some rest e ↦ go rest (e ∙ ap (λ y. y ∷ rest) (sym is))
     ]
   where
-    there : In s (heads_of lists)
-    there = head_in-In lists l s found
+    there : In s (h.heads)
+    there = h.queued.headed l s found
 
     go : (rest : List ℕ) → ring R order s ≡ x ∷ rest → In x (used R order) × (without_first (is_on l) todo ≡ map (work_in W) (without x (used R order))) × (list_any (is_on l) todo ≡ true)
     go rest e =
         let q = h.queued in
-        let node = node_of N P R (0 ∷ heads_of lists) order q.rings s x (subst (In x) (sym e) (inl refl)) in (
-          In-filter x (is_used R) order node.0 (used_off_zero N P R W lists order todo q x s there node.1),
-          ap (without_first (is_on l)) q.todo_are ∙ without_front W (is_on l) (used R order) x rest (Distinct-filter (is_used R) order (Distinct-right (0 ∷ heads_of lists) order q.rings.apart)) (on_list N P R W lists order todo q l s found ∙ e),
-          any_some (is_on l) todo (work_in W x) (map (work_in W) rest) (queue_is N P R W lists order todo q l s found ∙ ap (map (work_in W)) e),
+        let node = node_of N P R (0 ∷ h.heads) order q.rings s x (subst (In x) (sym e) (inl refl)) in (
+          In-filter x (is_used R) order node.0 (used_off_zero N P R W H h.heads order todo q x s there node.1),
+          ap (without_first (is_on l)) q.todo_are ∙ without_front W (is_on l) (used R order) x rest (Distinct-filter (is_used R) order (Distinct-right (0 ∷ h.heads) order q.rings.apart)) (on_list N P R W H h.heads order todo q l s found ∙ e),
+          any_some (is_on l) todo (work_in W x) (map (work_in W) rest) (queue_is N P R W H h.heads order todo q l s found ∙ ap (map (work_in W)) e),
         )
 
 -- a ring without nodes
-pub ring_empty : (N P R : List ℕ) (W : List Work) (lists : List Listed) (f : ℕ) (todo : List Work) (order : List ℕ) → ShowsAt N P R W lists f todo order
-    → (s : ℕ) (l : TodoList) → get_or N s 0 ≡ s → head_in lists l ≡ Some s → filter (is_on l) todo ≡ []
-ring_empty N P R W lists f todo order h s l is found =
-    elim (first_is N P s (ring R order s) (h.queued.rings.rings s (inr (head_in-In lists l s found)))) as (λ _. filter (is_on l) todo ≡ []) [
-      | first_none e i ↦ queue_is N P R W lists order todo h.queued l s found ∙ ap (map (work_in W)) e
+pub ring_empty : (N P R : List ℕ) (W : List Work) (H : TodoList → Option ℕ) (f : ℕ) (todo : List Work) (order : List ℕ) → ShowsAt N P R W H f todo order
+    → (s : ℕ) (l : TodoList) → get_or N s 0 ≡ s → H l ≡ Some s → filter (is_on l) todo ≡ []
+ring_empty N P R W H f todo order h s l is found =
+    elim (first_is N P s (ring R order s) (h.queued.rings.rings s (inr (h.queued.headed l s found)))) as (λ _. filter (is_on l) todo ≡ []) [
+      | first_none e i ↦ queue_is N P R W H h.heads order todo h.queued l s found ∙ ap (map (work_in W)) e
       | first_some rest e ↦
-          let ks = head_in-In lists l s found in
-          let off = Distinct-across s (0 ∷ heads_of lists) order h.queued.rings.apart (inr ks) in
-          let node = node_of N P R (0 ∷ heads_of lists) order h.queued.rings s (get_or N s 0) (subst (In (get_or N s 0)) (sym e) (inl refl)) in
+          let ks = h.queued.headed l s found in
+          let off = Distinct-across s (0 ∷ h.heads) order h.queued.rings.apart (inr ks) in
+          let node = node_of N P R (0 ∷ h.heads) order h.queued.rings s (get_or N s 0) (subst (In (get_or N s 0)) (sym e) (inl refl)) in
           absurd (apart_from s (get_or N s 0) order off node.0 (sym is))
     ]
 
 -- a list without a head has nothing on it
-pub unlisted : (N P R : List ℕ) (W : List Work) (lists : List Listed) (order : List ℕ) (todo : List Work) → Queued N P R W lists order todo → (l : TodoList) → head_in lists l ≡ None → filter (is_on l) todo ≡ []
-unlisted N P R W lists order todo q l missing =
+pub unlisted : (N P R : List ℕ) (W : List Work) (H : TodoList → Option ℕ) (heads : List ℕ) (order : List ℕ) (todo : List Work) → Queued N P R W H heads order todo → (l : TodoList) → H l ≡ None → filter (is_on l) todo ≡ []
+unlisted N P R W H heads order todo q l missing =
     ap (filter (is_on l)) q.todo_are ∙ filter-map (work_in W) (is_on l) (used R order) ∙ ap (map (work_in W)) (filter_both (λ x. is_on l (work_in W x)) (is_used R) order ∙ filter_agree _ (λ x. false) order (λ x k. no x k (is_used R x) (is_on l (work_in W x)) refl refl) ∙ nothing order)
   where
     nothing : (xs : List ℕ) → filter (λ x. false) xs ≡ []
@@ -375,23 +324,20 @@ unlisted N P R W lists order todo q l missing =
     no : (x : ℕ) → In x order → (a b : Bool) → is_used R x ≡ a → is_on l (work_in W x) ≡ b → (a && b) ≡ false
     no x k false b e f = refl
     no x k true false e f = refl
-    no x k true true e f = let g = q.listed x k e in let same = same_list-eq l (work_in W x).list f in absurd (differ (sym missing ∙ ap (head_in lists) same ∙ g))
-      where
-        differ : None ≡ Some (get_or R x 0) → ⊥
-        differ d = cc
+    no x k true true e f = let g = q.listed x k e in let same = same_list-eq l (work_in W x).list f in let d : None ≡ Some (get_or R x 0) = sym missing ∙ ap H same ∙ g in absurd cc
 
 -- ---- a node goes from the midst
 
-pub remove_shows : (N P R : List ℕ) (W : List Work) (lists : List Listed) (f : ℕ) (todo : List Work) (order : List ℕ) → ShowsAt N P R W lists f todo order → (x : ℕ) → In x (used R order)
+pub remove_shows : (N P R : List ℕ) (W : List Work) (H : TodoList → Option ℕ) (f : ℕ) (todo : List Work) (order : List ℕ) → ShowsAt N P R W H f todo order → (x : ℕ) → In x (used R order)
     → (N' P' R' : List ℕ) (W' : List Work) (f' : ℕ) → N' ≡ moved_next N P x 0 → P' ≡ moved_prev N P x 0 → R' ≡ set R x 0 → W' ≡ W → f' ≤ f + 1
-    → ShowsAt N' P' R' W' lists f' (map (work_in W) (without x (used R order))) (moved_order x order)
-remove_shows N P R W lists f todo order h x k N' P' R' W' f' eN eP eR eW ef =
+    → ShowsAt N' P' R' W' H f' (map (work_in W) (without x (used R order))) (moved_order x order)
+remove_shows N P R W H f todo order h x k N' P' R' W' f' eN eP eR eW ef =
     let q = h.queued in
     let node = In-from_filter x (is_used R) order k in
     let far : 0 ≢ get_or R x 0 = λ e. clash (ap (λ r. not (r == 0)) (sym e)) node.1 in
-    let more = free_dropped N P R W lists order todo q x node.0 far in
+    let more = free_dropped N P R W H h.heads order todo q x node.0 far in
     let room = h.free in
-    rw (eN, eP, eR, eW) (record { queued = dropped N P R W lists order todo q x node.0; free = omega (arith, more, room, ef); covered = covered_moved R order x 0 h.covered })
+    rw (eN, eP, eR, eW) (record { heads = h.heads; queued = dropped N P R W H h.heads order todo q x node.0; free = omega (arith, more, room, ef); covered = covered_moved R order x 0 h.covered })
   where
     clash : not (get_or R x 0 == 0) ≡ not (0 == 0) → is_used R x ≡ true → ⊥
     clash e u = let z : not (0 == 0) ≡ false = ap not (eq-eqb 0 0 refl) in cc

@@ -1,5 +1,5 @@
 -- What is written into rings keeps them.
-use Rattle.std.proofs.Common.{◌≡◌, ◌≢◌, inl, inr, ℕ, ◌<◌, List, [], ◌∷◌, ◌++◌, length, get_or, set, refl, sym, ◌∙◌, subst, append-nil, length-set}
+use Rattle.std.proofs.Common.{◌≡◌, ◌≢◌, ◌⊎◌, inl, inr, ℕ, ◌<◌, List, [], ◌∷◌, ◌++◌, length, get_or, set, refl, sym, ◌∙◌, subst, append-nil, length-set}
 use Rattle.std.proofs.lemmas.List.{get_or-set_same, get_or-set_other}
 use Rattle.std.proofs.lemmas.Grind.{get_or-set_at}
 use Rattle.bd_links.specs.Rings.{Off, In, Distinct, Below, Path}
@@ -49,6 +49,13 @@ pub In-left : (x : ℕ) (xs ys : List ℕ) → In x xs → In x (xs ++ ys)
 In-left x [] ys h = elim h [ ]
 In-left x (z ∷ xs) ys (inl e) = inl e
 In-left x (z ∷ xs) ys (inr h) = inr (In-left x xs ys h)
+
+-- of a list with one more at its end
+pub In-snoc : (x y : ℕ) (ys : List ℕ) → In y (ys ++ x ∷ []) → In y ys ⊎ (y ≡ x)
+In-snoc x y [] (inl e) = inr e
+In-snoc x y [] (inr k) = elim k [ ]
+In-snoc x y (z ∷ ys) (inl e) = inl (inl e)
+In-snoc x y (z ∷ ys) (inr k) = elim (In-snoc x y ys k) as (λ _. In y (z ∷ ys) ⊎ (y ≡ x)) [ inl i ↦ inl (inr i) | inr e ↦ inr e ]
 
 pub Below-at : (n x : ℕ) (xs : List ℕ) → Below n xs → In x xs → x < n
 Below-at n x [] h k = elim k [ ]

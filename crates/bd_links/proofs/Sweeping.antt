@@ -10,7 +10,7 @@ use Rattle.bd_links.specs.declared.table.WorkTable.{WorkTable}
 use Rattle.bd_links.specs.Rings.{In, without}
 use Rattle.bd_links.specs.Moved.{moved_order}
 use Rattle.bd_links.specs.Nodes.{rows, works}
-use Rattle.bd_links.specs.Queues.{work_in, is_used, used, heads_of}
+use Rattle.bd_links.specs.Queues.{work_in, is_used, used}
 use Rattle.bd_links.specs.QueuesStand.{Empty, Shows}
 use Rattle.bd_links.specs.Sweep.{stays, Swept}
 use Rattle.bd_links.specs.Registered.{Registered}
@@ -78,7 +78,7 @@ pub node_cut : (t : Queues) (todo : List Work) (order : List ℕ) (x : ℕ) → 
 node_cut t todo order x h there =
     let W = works t.nodes.items in
     let us = used (rows t.nodes.items) order in
-    let c = cut_at x us (Distinct-filter (is_used (rows t.nodes.items)) order (Distinct-right (0 ∷ heads_of t.lists.items) order h.queued.rings.apart)) there in
+    let c = cut_at x us (Distinct-filter (is_used (rows t.nodes.items)) order (Distinct-right (0 ∷ h.heads) order h.queued.rings.apart)) there in
     record {
       before = map (work_in W) c.before;
       after = map (work_in W) c.after;
@@ -133,14 +133,14 @@ swept_cut p t u v i order h on goes gone went rr ww = record {
     there = In-filter i (is_used (rows u.queues.nodes.items)) h.now in_now on
 
     nodes : used (rows v.queues.nodes.items) (moved_order i h.now) ≡ without i (used (rows u.queues.nodes.items) h.now)
-    nodes = ap (λ r. used r (moved_order i h.now)) rr ∙ used_dropped _ _ (rows u.queues.nodes.items) _ _ h.now _ h.shows.queued i in_now
+    nodes = ap (λ r. used r (moved_order i h.now)) rr ∙ used_dropped _ _ (rows u.queues.nodes.items) _ _ _ h.now _ h.shows.queued i in_now
 
     left : map (work_in (works u.queues.nodes.items)) (without i (used (rows u.queues.nodes.items) h.now)) ≡ map (work_in (works t.queues.nodes.items)) (used (rows v.queues.nodes.items) (moved_order i h.now))
     left = ap (λ ws. map (work_in ws) (without i (used (rows u.queues.nodes.items) h.now))) h.works_are ∙ ap (map (work_in (works t.queues.nodes.items))) (sym nodes)
 
 pub below_nodes : (t : Queues) (todo : List Work) (order : List ℕ) → Shows t todo order → (x : ℕ) → In x (used (rows t.nodes.items) order) → x < length t.nodes.items
 below_nodes t todo order h x k =
-    let low = Below-at _ x order (Below-right _ (0 ∷ heads_of t.lists.items) order h.queued.rings.within) (In-from_filter x (is_used (rows t.nodes.items)) order k).0 in
+    let low = Below-at _ x order (Below-right _ (0 ∷ h.heads) order h.queued.rings.within) (In-from_filter x (is_used (rows t.nodes.items)) order k).0 in
     let l = length-map t.nodes.items (λ (n : Node). n.next) in
     omega arith
 

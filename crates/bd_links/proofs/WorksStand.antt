@@ -32,7 +32,7 @@ works_few t todo h = of h.either
   where
     of : Empty t todo ⊎ ((order : List ℕ) × Shows t todo order) → length todo ≤ length t.nodes.items
     of (inl e) = let l = ap length e.none in omega (arith, l)
-    of (inr k) = let l = works_fit _ _ _ _ _ k.0 todo k.1.queued in let m = length-map t.nodes.items (λ (n : Node). n.next) in omega arith
+    of (inr k) = let l = works_fit _ _ _ _ _ _ k.0 todo k.1.queued in let m = length-map t.nodes.items (λ (n : Node). n.next) in omega arith
 
 pub works_pushed : (t u : WorkTable) (place index : ℕ) (list : TodoList) (kind : WorkKind) (l : List Work) → WorksAre t l → index ≡ count_by (λ w. w.id.place == place) l
     → Stands u.queues (l ++ record { id = record { place = place; index = index }; list = list; kind = kind } ∷ []) → length u.queues.nodes.items < 2 ^ 64

@@ -3,6 +3,7 @@ pub mod TodoList
 pub mod Rings
 pub mod Moved
 pub mod Nodes
+pub mod Heads
 pub mod Queues
 pub mod Shown
 pub mod QueuesStand

@@ -1,11 +1,9 @@
--- What a vector of nodes with a head for each list stands for: work items, each list of them a ring.
-use Rattle.std.specs.Prelude.{◌≡◌, ℕ, ◌==◌, Bool, true, not, List, ◌∷◌, length, map, filter, find, Option, Some, option_map, get_or}
+-- What a vector of nodes stands for: work items, each list of them a ring.
+use Rattle.std.specs.Prelude.{◌≡◌, ℕ, ◌==◌, Bool, true, not, List, ◌∷◌, length, map, filter, Option, Some, get_or}
 use Rattle.bd_space.specs.declared.space.Work.{Work}
 use Rattle.bd_space.specs.declared.space.TodoList.{TodoList}
 use Rattle.bd_space.specs.declared.space.TodoList.TheVariants.{OfThread}
 use Rattle.bd_space.specs.declared.space.WorkKind.TheVariants.{Complete}
-use Rattle.bd_space.specs.Todo.{same_list}
-use Rattle.bd_links.specs.declared.queues.Listed.{Listed}
 use Rattle.bd_links.specs.Rings.{In, Rings}
 
 -- in no node
@@ -22,16 +20,11 @@ is_used R x = not (get_or R x 0 == 0)
 abbrev pub used : List ℕ → List ℕ → List ℕ
 used R order = filter (is_used R) order
 
--- the head of a list's ring
-abbrev pub head_in : List Listed → TodoList → Option ℕ
-head_in lists l = option_map (λ e. e.head) (find (λ e. same_list e.list l) lists)
-
-abbrev pub heads_of : List Listed → List ℕ
-heads_of lists = map (λ e. e.head) lists
-
--- the used nodes in order hold the work items in order, and each is in the ring of its item's list
-pub record Queued (N P R : List ℕ) (W : List Work) (lists : List Listed) (order : List ℕ) (todo : List Work) : Type 0 where
-  pub rings : Rings N P R (0 ∷ heads_of lists) order
+-- the used nodes in order hold the work items in order, each in the ring of its item's list; a head is of one list alone
+pub record Queued (N P R : List ℕ) (W : List Work) (H : TodoList → Option ℕ) (heads order : List ℕ) (todo : List Work) : Type 0 where
+  pub rings : Rings N P R (0 ∷ heads) order
   pub works : length W ≡ length N
-  pub listed : (x : ℕ) → In x order → is_used R x ≡ true → head_in lists (work_in W x).list ≡ Some (get_or R x 0)
+  pub listed : (x : ℕ) → In x order → is_used R x ≡ true → H (work_in W x).list ≡ Some (get_or R x 0)
   pub todo_are : todo ≡ map (work_in W) (used R order)
+  pub headed : (l : TodoList) (h : ℕ) → H l ≡ Some h → In h heads
+  pub one_list : (l m : TodoList) (h : ℕ) → H l ≡ Some h → H m ≡ Some h → l ≡ m

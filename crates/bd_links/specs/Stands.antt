@@ -10,9 +10,9 @@ pub record WorksAre (t : WorkTable) (l : List Work) : Type 0 where
   pub queues_stand : queues.Stands t.queues l
   pub registered : Registered t.register l
 
--- how many items more it takes without memory
+-- how many items more it takes without memory, as a number of the machine
 unfoldable pub work_room : WorkTable → ℕ
-work_room t = min (queues.queue_room t.queues) (spare t.register.spots.spots)
+work_room t = min (min (queues.queue_room t.queues) (spare t.register.spots.spots)) 18446744073709551615
 
 -- of every list that the table stands for x is what f says
 abbrev pub Tells : {A : Type 0} → WorkTable → A → (List Work → A) → Type 0

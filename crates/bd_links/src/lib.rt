@@ -2,6 +2,7 @@
 #![tactic(auto)]
 
 mod finding;
+mod heads;
 mod links;
 mod queues;
 mod register;

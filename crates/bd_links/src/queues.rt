@@ -1,34 +1,26 @@
 //! Queues.
 
-ghost use Rattle.std.specs.Prelude.{ℕ, ◌≡◌, ◌+◌, ◌^◌, ◌<◌, ◌≤◌, ◌++◌, ◌∷◌, [], List, Some, map, set, find, is_some, IfSome, vec_len, vec_capacity, OnOk, OnErr, ◌/◌, ◌-◌};
+ghost use Rattle.std.specs.Prelude.{ℕ, ◌≡◌, ◌+◌, ◌^◌, ◌<◌, ◌≤◌, ◌++◌, ◌∷◌, [], List, Some, false, map, set, is_some, IfSome, vec_len, vec_capacity, OnOk, OnErr, ◌/◌, ◌-◌};
 ghost use Rattle.std.specs.List.{list_any};
 ghost use Rattle.bd_space.specs.declared.space.Work.{Work};
-ghost use Rattle.bd_links.specs.Queues.{head_in, no_work};
+ghost use Rattle.bd_links.specs.Heads.{head_at};
+ghost use Rattle.bd_links.specs.Queues.{no_work};
+ghost use Rattle.std.specs.HashMap.{spare};
 
+use crate::heads::{ListKey, head_of, put_head, take_head};
 use crate::links::{Node, attach, detach, move_last, next_of, set_next, set_prev, set_work};
 use bd_space::{Identity, TodoList, Work, WorkKind};
 use std::alloc::{AllocError, Global};
-
-/// Where the ring of a list begins.
-#[derive(Clone, Copy, Debug, PartialEq, Eq)]
-pub struct Listed {
-    pub list: TodoList,
-    pub head: usize,
-}
+use std::collections::HashMap;
 
 /// Work items in queues.
 #[derive(Debug, Drop)]
 pub struct Queues {
     pub nodes: Vec<Node>,
-    pub lists: Vec<Listed>,
+    // Where the ring of each list begins that has one.
+    pub lists: HashMap<ListKey, usize>,
     // At least so many nodes are free.
     pub free: usize,
-}
-
-pub(crate) fn head_of(lists: &[Listed], list: TodoList) -> Option<usize>
-    ensures { result ≡ head_in lists.now list }
-{
-    lists.iter().find(|e| e.list == list).map(|e| e.head)
 }
 
 // What a free node holds.
@@ -69,7 +61,7 @@ impl Queues {
     {
         Queues {
             nodes: Vec::new(alloc),
-            lists: Vec::new(alloc),
+            lists: HashMap::new(alloc),
             free: 0,
         }
     }
@@ -138,11 +130,11 @@ impl Queues {
     // The head of a list's ring, which is made where there is none.
     fn head_for(&mut self, list: TodoList) -> usize
         requires node { 1 ≤ self.old.free }
-        requires room { vec_len self.old.lists < vec_capacity self.old.lists }
+        requires room { 0 < spare self.old.lists }
         ensures stands { (todo : List Work) → Stands self.old todo → Stands self.new todo }
-        ensures head { head_in self.new.lists.items list ≡ Some result }
+        ensures head { head_at self.new.lists list ≡ Some result }
         ensures free { self.old.free ≤ self.new.free + 1 }
-        ensures lists { vec_capacity self.old.lists - vec_len self.old.lists ≤ vec_capacity self.new.lists - vec_len self.new.lists + 1 }
+        ensures lists { spare self.old.lists ≤ spare self.new.lists + 1 }
     {
         if let Some(head) = head_of(&self.lists, list) {
             return head;
@@ -151,7 +143,7 @@ impl Queues {
         detach(&mut self.nodes, x);
         set_next(&mut self.nodes, x, x);
         set_prev(&mut self.nodes, x, x);
-        self.lists.push_reserved(Listed { list, head: x });
+        put_head(&mut self.lists, list, x);
         self.free -= 1;
         x
     }
@@ -169,7 +161,7 @@ impl Queues {
     // One work item more, at the end of the ring of its list's head.
     fn push_at(&mut self, head: usize, work: Work) -> usize
         requires { 1 ≤ self.old.free }
-        ensures stands { (todo : List Work) → Stands self.old todo → head_in self.old.lists.items work.list ≡ Some head → Stands self.new (todo ++ work ∷ []) }
+        ensures stands { (todo : List Work) → Stands self.old todo → head_at self.old.lists work.list ≡ Some head → Stands self.new (todo ++ work ∷ []) }
         ensures lists { self.new.lists ≡ self.old.lists }
         ensures free { self.new.free + 1 ≡ self.old.free }
     {
@@ -190,6 +182,18 @@ impl Queues {
     {
         move_last(&mut self.nodes, x, 0);
         self.free = self.free.saturating_add(1);
+    }
+
+    /// A list on which nothing is needs no head: its node is free again.
+    pub fn give_back(&mut self, list: TodoList)
+        ensures stands { (todo : List Work) → Stands self.old todo → list_any (is_on list) todo ≡ false → Stands self.new todo }
+        ensures uses { queue_room self.old ≤ queue_room self.new }
+    {
+        if let Some(head) = head_of(&self.lists, list) {
+            take_head(&mut self.lists, list);
+            attach(&mut self.nodes, head, 0);
+            self.free = self.free.saturating_add(1);
+        }
     }
 
     /// The node of the first work item on a list.

@@ -245,8 +245,8 @@ impl WorkTable {
         self.keep(|w| f(w.kind));
     }
 
-    /// A list is emptied.
-    pub fn clear_list(&mut self, list: TodoList)
+    // All work items on a list go.
+    fn pop_all(&mut self, list: TodoList)
         ensures stands { Makes self.old self.new (λ l. filter (λ w. not (spec.is_on list w)) l) }
         ensures uses { work_room self.old ≤ work_room self.new }
     {
@@ -255,5 +255,14 @@ impl WorkTable {
                 return;
             }
         }
+    }
+
+    /// A list is emptied.
+    pub fn clear_list(&mut self, list: TodoList)
+        ensures stands { Makes self.old self.new (λ l. filter (λ w. not (spec.is_on list w)) l) }
+        ensures uses { work_room self.old ≤ work_room self.new }
+    {
+        self.pop_all(list);
+        self.queues.give_back(list);
     }
 }

@@ -5,8 +5,9 @@ ghost use Rattle.std.specs.Iterator.{YieldsFirst, item_count};
 ghost use Rattle.bd_space.specs.declared.space.Work.{Work};
 ghost use Rattle.bd_links.specs.Walk.{works_from};
 
+use crate::heads::head_of;
 use crate::links::{Node, next_of};
-use crate::queues::{Queues, head_of};
+use crate::queues::Queues;
 use bd_space::{TodoList, Work};
 use std::marker::Model;
 

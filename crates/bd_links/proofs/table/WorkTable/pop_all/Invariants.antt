@@ -2,7 +2,7 @@ use Rattle.std.proofs.Common.{◌≡◌, ◌≤◌, ◌+◌, not, List, length, 
 use Rattle.bd_space.specs.declared.space.Work.{Work}
 use Rattle.bd_space.specs.Todo.{is_on}
 use Rattle.bd_links.specs.Stands.{WorksAre, work_room}
-use Rattle.bd_links.proofs.table.WorkTable.clear_list.Given as goal
+use Rattle.bd_links.proofs.table.WorkTable.pop_all.Given as goal
 
 abbrev pub invariant-loop : goal.invariant-loop
 invariant-loop l = record {

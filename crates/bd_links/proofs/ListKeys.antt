@@ -1,0 +1,12 @@
+-- Lists and their keys are alike.
+use Rattle.std.proofs.Common.{◌≡◌, refl}
+use Rattle.bd_space.specs.declared.space.TodoList.{TodoList}
+use Rattle.bd_space.specs.declared.space.TodoList.TheVariants.{OfThread, OfProcess}
+use Rattle.bd_space.specs.Todo.{same_list}
+use Rattle.bd_links.specs.Heads.{list_key, same_key}
+
+pub same_keys : (a b : TodoList) → same_list a b ≡ same_key (list_key a) (list_key b)
+same_keys (OfThread t) (OfThread u) = refl
+same_keys (OfThread t) (OfProcess q) = refl
+same_keys (OfProcess p) (OfThread u) = refl
+same_keys (OfProcess p) (OfProcess q) = refl

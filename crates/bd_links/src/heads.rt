@@ -1,0 +1,55 @@
+//! Where the ring of each list begins.
+
+ghost use Rattle.std.specs.Prelude.{ℕ, ◌≡◌, ◌≤◌, ◌<◌, ◌+◌, Some, None, if◌then◌else◌};
+ghost use Rattle.std.specs.HashMap.{spare};
+ghost use Rattle.bd_space.specs.declared.space.TodoList as declared;
+ghost use Rattle.bd_space.specs.Todo.{same_list};
+ghost use Rattle.bd_links.specs.Heads as heads;
+
+use bd_space::TodoList;
+use std::collections::HashMap;
+
+/// Whose list it is.
+#[derive(Clone, Copy, Debug, PartialEq, Eq, Hash)]
+pub enum ListKey {
+    Thread { seat: u32 },
+    Process { process: u32 },
+}
+
+fn list_key(list: TodoList) -> ListKey
+    ensures { result ≡ heads.list_key list }
+{
+    match list {
+        TodoList::OfThread(seat) => ListKey::Thread { seat },
+        TodoList::OfProcess(process) => ListKey::Process { process },
+    }
+}
+
+/// The head of a list's ring.
+pub fn head_of(lists: &HashMap<ListKey, usize>, list: TodoList) -> Option<usize>
+    ensures { result ≡ heads.head_at lists.now list }
+{
+    lists.get(&list_key(list)).copied()
+}
+
+/// The ring of a list begins there from now on.
+pub fn put_head(lists: &mut HashMap<ListKey, usize>, list: TodoList, head: usize)
+    requires { 0 < spare lists.old }
+    ensures heads { (l : declared.TodoList) → heads.head_at lists.new l
+        ≡ (if same_list list l then Some head else heads.head_at lists.old l) }
+    ensures spare { spare lists.old ≤ spare lists.new + 1 }
+{
+    match lists.insert(list_key(list), head) {
+        Ok(_) => {}
+        Err(_) => {}
+    }
+}
+
+/// The list has no ring from now on.
+pub fn take_head(lists: &mut HashMap<ListKey, usize>, list: TodoList)
+    ensures heads { (l : declared.TodoList) → heads.head_at lists.new l
+        ≡ (if same_list list l then None else heads.head_at lists.old l) }
+    ensures spare { spare lists.old ≤ spare lists.new }
+{
+    let _gone = lists.remove(&list_key(list));
+}
