@@ -1,6 +1,8 @@
 -- Which references have a key.
-use Rattle.std.proofs.Common.{◌≡◌, ℕ, ◌==◌, Bool, true, false, not, ◌&&◌, ◌||◌, List, [], ◌∷◌, refl, ap, ◌∙◌}
+use Rattle.std.proofs.Common.{◌≡◌, ℕ, ◌==◌, Bool, true, false, not, ◌&&◌, ◌||◌, List, [], ◌∷◌, refl, ap, sym, ◌∙◌}
 use Rattle.std.specs.List.{list_any}
+use Rattle.std.proofs.Math.Bool.{or-false}
+use Rattle.std.proofs.lemmas.Bool.{and_parts}
 use mathlib.Core.Bool.{beq}
 use Rattle.bd_space.specs.declared.step.ObjectId.{ObjectId}
 use Rattle.bd_space.specs.declared.space.Reference.{Reference}
@@ -48,11 +50,7 @@ shaken-kind holders.Handshake = refl
 shaken-kind holders.Manager = refl
 
 named-kind : (p : ℕ) (h : Holder) → names_for p h ≡ (same_kind (kind_of h) (Asked p) || same_kind (kind_of h) (Carried p))
-named-kind p (holders.Asked q) = by (q == p)
-  where
-    by : (b : Bool) → b ≡ (b || false)
-    by true = refl
-    by false = refl
+named-kind p (holders.Asked q) = sym (or-false (q == p))
 named-kind p (holders.Carried b q) = refl
 named-kind p (holders.Target b q) = refl
 named-kind p holders.Handshake = refl
@@ -161,10 +159,6 @@ or-else a true c d h e k = absurd (cc)
 or-else a false c d h e k = k
 
 -- what a process asked for, and what is to be acknowledged, no buffer holds
-second : (a b : Bool) → (a && b) ≡ true → b ≡ true
-second true b h = h
-second false b h = absurd (cc)
-
 asked-free : (p b : ℕ) (h : Holder) → is_asked_by p h ≡ true → is_of_buffer b h ≡ false
 asked-free p b (holders.Asked q) h = refl
 asked-free p b holders.Handshake h = refl
@@ -180,7 +174,7 @@ shaken-free b (holders.Carried c q) h = absurd (cc)
 shaken-free b (holders.Target c q) h = absurd (cc)
 
 pub asked-apart : (p : ℕ) (o : ObjectId) (strong : Bool) (b : ℕ) (r : Reference) → is_asking p o strong r ≡ true → is_of_buffer b r.holder ≡ false
-asked-apart p o strong b r h = asked-free p b r.holder (second (same_strength strong r && same r.object o) (is_asked_by p r.holder) h)
+asked-apart p o strong b r h = asked-free p b r.holder (and_parts (same_strength strong r && same r.object o) (is_asked_by p r.holder) h).1
 
 pub shaken-apart : (o : ObjectId) (strong : Bool) (b : ℕ) (r : Reference) → is_shaking o strong r ≡ true → is_of_buffer b r.holder ≡ false
-shaken-apart o strong b r h = shaken-free b r.holder (second (same_strength strong r && same r.object o) (is_handshake r.holder) h)
+shaken-apart o strong b r h = shaken-free b r.holder (and_parts (same_strength strong r && same r.object o) (is_handshake r.holder) h).1

@@ -3,6 +3,7 @@ use Rattle.std.proofs.Common.{◌≡◌, ℕ, ◌+◌, ◌≤◌, Bool, true, fa
 use Rattle.std.specs.Prelude.{nat_lt}
 use Rattle.std.specs.List.{list_any, count_by}
 use Rattle.std.proofs.lemmas.Bool.Decides.{nat_tests}
+use Rattle.std.proofs.Math.Bool.{and_comm}
 use Rattle.std.proofs.lemmas.List.Sums.{sum_by-cons, sum_by_push, sum_by-append}
 use Rattle.bd_space.specs.Words.{without_first}
 
@@ -79,12 +80,6 @@ module _ {A : Type 0} where
       by true rest = omega arith
       by false rest = omega (arith, rest)
 
-  and-comm : (a b : Bool) → (a && b) ≡ (b && a)
-  and-comm true true = refl
-  and-comm true false = refl
-  and-comm false true = refl
-  and-comm false false = refl
-
   within-step : (a b c : Bool) (n m t : ℕ) → (a ≡ true → c ≡ b) → n ≡ cond b m 0 → t ≡ cond a 1 0 + m
       → cond (a && c) 1 0 + n ≡ cond b t 0
   within-step true true true n m t same h k = omega (arith, h, k)
@@ -112,4 +107,4 @@ module _ {A : Type 0} where
       → count_by p (filter (λ y. not (q y)) xs) ≡ cond b 0 (count_by p xs)
   count-away p q b xs h =
       away-step b (count_by p (filter (λ y. not (q y)) xs)) (count_by (λ y. q y && p y) xs) (count_by p xs) (count-filter p q xs)
-      (ap (λ t. count_by t xs) (λ i x. and-comm (q x) (p x) i) ∙ count-within q p b xs h)
+      (ap (λ t. count_by t xs) (λ i x. and_comm (q x) (p x) i) ∙ count-within q p b xs h)

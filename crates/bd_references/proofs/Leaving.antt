@@ -2,6 +2,7 @@
 use Rattle.std.proofs.Common.{◌≡◌, ℕ, ◌==◌, Bool, true, false, not, ◌&&◌, ◌||◌, List, [], ◌∷◌, ◌++◌, map, filter, cond, refl, ap, sym, ◌∙◌}
 use Rattle.std.specs.List.{IsDistinct, list_any}
 use Rattle.std.specs.Map.{keys_of}
+use Rattle.std.proofs.Math.Bool.{and-true, and-false, or-false}
 use Rattle.std.proofs.lemmas.List.Folds.{list_any-append}
 use Rattle.bd_space.specs.declared.step.ObjectId.{ObjectId}
 use Rattle.bd_space.specs.declared.space.Reference.{Reference}
@@ -13,12 +14,7 @@ use Rattle.bd_nodes.specs.New.{HasAll}
 use Rattle.bd_references.specs.declared.keys.CountKey.{CountKey}
 use Rattle.bd_references.specs.Keys.{same_key, use_key, kind_of, object_of, is_of_process, goes_with}
 use Rattle.bd_references.proofs.ByKind.{any-same}
-use Rattle.bd_references.proofs.Lost.{and-false}
 use Rattle.bd_references.proofs.Weights.{CountsAll, has-key}
-
-and-true : (a : Bool) → a ≡ (a && true)
-and-true true = refl
-and-true false = refl
 
 -- its holder says whether it goes with the process p, which owns these objects
 abbrev pub goes : ℕ → (ObjectId → Bool) → Reference → Bool
@@ -32,14 +28,14 @@ goes-key p is_owned r = by (is_owned r.object) r.holder
     by w (holders.Asked q) = ap (λ y. (q == p) || y) (sym (and-false w))
     by w (holders.Carried b q) = ap (λ y. (q == p) || y) (sym (and-false w))
     by w (holders.Target b q) = ap (λ y. (q == p) || y) (sym (and-false w))
-    by w holders.Handshake = and-true w
-    by w holders.Manager = and-true w
+    by w holders.Handshake = sym (and-true w)
+    by w holders.Manager = sym (and-true w)
 
 -- of what a buffer holds, just what lies in the window
 module _ (p d : ℕ) (w : Bool) where
   inside : (x y : Bool) → (y && not x) ≡ (not (x || (w && false)) && y)
   inside true y = and-false y
-  inside false y = sym (and-true y) ∙ ap (λ z. not z && y) (sym (and-false w))
+  inside false y = and-true y ∙ ap (λ z. not z && y) (sym (and-false w))
 
   pub window-alike : (h : Holder) → (is_of_buffer d h && not (is_in_window p h))
       ≡ (not (is_asked_by p h || (is_in_window p h || (w && is_of_owner h))) && is_of_buffer d h)
@@ -50,11 +46,7 @@ module _ (p d : ℕ) (w : Bool) where
   window-alike holders.Manager = sym (and-false (not (w && true)))
 
 of-process : (p : ℕ) (h : Holder) → (is_asked_by p h || is_in_window p h) ≡ is_of_process p (kind_of h)
-of-process p (holders.Asked q) = by (q == p)
-  where
-    by : (b : Bool) → (b || false) ≡ b
-    by true = refl
-    by false = refl
+of-process p (holders.Asked q) = or-false (q == p)
 of-process p (holders.Carried b q) = refl
 of-process p (holders.Target b q) = refl
 of-process p holders.Handshake = refl

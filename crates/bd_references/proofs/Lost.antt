@@ -1,6 +1,7 @@
 -- What some buffers hold, together.
 use Rattle.std.proofs.Common.{◌≡◌, ℕ, ◌+◌, ◌-◌, ◌==◌, Bool, true, false, not, cond, ◌&&◌, ◌||◌, List, [], ◌∷◌, ◌++◌, filter, map, unwrap_or, is_some, Option, Some, None, refl, ap, sym, subst, ◌∙◌, arith}
 use Rattle.std.specs.List.{IsDistinct, AllByRecursion, count_by, list_any}
+use Rattle.std.proofs.Math.Bool.{and_comm, and-false}
 use Rattle.std.proofs.lemmas.Bool.{eqb-true, eq-eqb}
 use Rattle.bd_space.specs.declared.space.Reference.{Reference}
 use Rattle.bd_space.specs.declared.space.Holder.{Holder}
@@ -12,15 +13,6 @@ use Rattle.bd_references.specs.Held.{lost_items}
 use Rattle.bd_references.specs.Carried.{is_carried_by, carried_in}
 use Rattle.bd_references.proofs.Counting.{count-append, count-filter, count-both}
 use Rattle.bd_references.proofs.Loads.{filter-twice, filter-swap}
-
-pub and-false : (a : Bool) → (a && false) ≡ false
-and-false true = refl
-and-false false = refl
-
-pub and-comm : (a b : Bool) → (a && b) ≡ (b && a)
-and-comm true true = refl
-and-comm true false = refl
-and-comm false b = sym (and-false b)
 
 none-pass : {A : Type 0} (xs : List A) → filter (λ x. false) xs ≡ []
 none-pass [] = refl
@@ -112,7 +104,7 @@ module _ (is_lost : ℕ → Bool) where
         let here : count_by (λ r. of_one b r && p r) (filter lost l) ≡ count_by p (cond (is_lost b) (filter (of_one b) l) []) =
         count-both p (of_one b) (filter lost l) ∙ ap (count_by p) (lost-of b l) in
         let there : count_by p (filter (λ r. not (of_one b r)) (filter lost l)) ≡ count_by p (filter lost (filter (λ r. not (of_one b r)) l)) =
-        ap (count_by p) (filter-swap (λ r. not (of_one b r)) lost (λ r. not (of_one b r)) lost l (λ r. and-comm (lost r) (not (of_one b r)))) in
+        ap (count_by p) (filter-swap (λ r. not (of_one b r)) lost (λ r. not (of_one b r)) lost l (λ r. and_comm (lost r) (not (of_one b r)))) in
         omega (arith, parts, here, there)
 
     module _ (f : ℕ → List Reference) where

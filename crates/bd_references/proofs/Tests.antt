@@ -1,6 +1,6 @@
 -- The keys of references, and their tests.
 use Rattle.std.proofs.Common.{◌≡◌, ℕ, ◌==◌, Bool, true, false, ◌&&◌, refl, ap}
-use Rattle.std.proofs.lemmas.Bool.{eqb-true, eq-eqb}
+use Rattle.std.proofs.lemmas.Bool.{eqb-true, eq-eqb, and_parts}
 use mathlib.Core.Bool.{beq}
 use Rattle.bd_references.specs.declared.keys.Kind.{Kind}
 use Rattle.bd_references.specs.declared.keys.Kind.TheVariants.{Asked, Carried, Target, Handshake, Manager, Any}
@@ -29,10 +29,6 @@ kind-self Handshake = refl
 kind-self Manager = refl
 kind-self Any = refl
 
-pub both : (a b : Bool) → (a && b) ≡ true → (a ≡ true) × (b ≡ true)
-both true b h = (refl, h)
-both false b h = absurd (cc)
-
 strong-eq : (a b : Bool) → beq a b ≡ true → a ≡ b
 strong-eq true true h = refl
 strong-eq true false h = absurd (cc)
@@ -46,9 +42,9 @@ strong-self false = refl
 pub key-eq : (a b : CountKey) → same_key a b ≡ true → a ≡ b
 unfolding same_key
 key-eq a b h =
-    let k = both (a.place == b.place) _ h in
-    let l = both (a.index == b.index) _ k.1 in
-    let m = both (same_kind a.kind b.kind) _ l.1 in
+    let k = and_parts (a.place == b.place) _ h in
+    let l = and_parts (a.index == b.index) _ k.1 in
+    let m = and_parts (same_kind a.kind b.kind) _ l.1 in
     (λ i. record {
       place = eqb-true a.place b.place k.0 i;
       index = eqb-true a.index b.index l.0 i;
@@ -62,7 +58,7 @@ key-self a = rw (eq-eqb a.place a.place refl, eq-eqb a.index a.index refl, kind-
 
 pub item-eq : (a b : ItemKey) → same_item a b ≡ true → a ≡ b
 unfolding same_item
-item-eq a b h = let k = both (a.buffer == b.buffer) (a.index == b.index) h in
+item-eq a b h = let k = and_parts (a.buffer == b.buffer) (a.index == b.index) h in
     (λ i. record { buffer = eqb-true a.buffer b.buffer k.0 i; index = eqb-true a.index b.index k.1 i })
 
 pub item-self : (a : ItemKey) → same_item a a ≡ true

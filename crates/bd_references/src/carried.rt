@@ -1,10 +1,9 @@
 //! The objects that a buffer carries.
 
-ghost use Rattle.std.specs.Prelude.{◌≡◌, ◌-◌, List};
+ghost use Rattle.std.specs.Prelude.{◌≡◌, List};
 ghost use Rattle.std.specs.Iterator.{YieldsFirst, item_count};
 ghost use Rattle.bd_space.specs.declared.step.ObjectId.{ObjectId};
 ghost use Rattle.bd_space.specs.declared.space.Reference.{Reference};
-ghost use Rattle.bd_references.specs.Gathered as gather;
 ghost use Rattle.bd_references.specs.Carried.{is_carried_by, carried_in};
 
 use crate::held::HeldReferences;
@@ -29,8 +28,7 @@ pub struct CarriedObjects<'a> {
 impl<'a> Model for CarriedObjects<'a> {
     ghost Value = { List ObjectId };
 
-    ghost view = { λ c. carried_in (gather.gathered (gather.item_in c.references.held.now c.references.buffer)
-        c.references.index (c.references.end - c.references.index)) c.made };
+    ghost view = { λ c. carried_in c.references c.made };
 }
 
 impl Iterator for CarriedObjects<'_> {

@@ -1,6 +1,7 @@
 use Rattle.std.proofs.Common.{rules, tests, ◌≡◌, ◌≤◌, ◌==◌, ℕ, not, cond, [], filter, is_some, ap, sym, subst, ◌∙◌, arith}
 use Rattle.std.specs.List.{list_any}
 use Rattle.std.specs.HashMap.{keys, get_by}
+use Rattle.std.proofs.Math.Bool.{and_comm}
 use Rattle.std.proofs.lemmas.Map.Made.{is_some-lookup}
 use Rattle.bd_space.specs.declared.space.Reference.{Reference}
 use Rattle.bd_space.specs.declared.space.Holder.{Holder}
@@ -9,7 +10,7 @@ use Rattle.bd_space.specs.References.{is_of_buffer, buffer_of_holder}
 use Rattle.bd_references.specs.Gathered.{item_in}
 use Rattle.bd_references.specs.Held.{items_of}
 use Rattle.bd_references.proofs.Loads.{fewer-pass, filter-swap}
-use Rattle.bd_references.proofs.Lost.{lost, lost-counted, only-used, and-comm}
+use Rattle.bd_references.proofs.Lost.{lost, lost-counted, only-used}
 use Rattle.bd_references.proofs.Tallying.{tallied-without, taken-same}
 use Rattle.bd_references.proofs.table.ReferenceTable.drop_lost.Goals as goal
 
@@ -31,7 +32,7 @@ returns-clause-stands g c = λ is_lost h l are.
           c.drop_passing.ensures.items (λ (k : Holder). is_some_and (buffer_of_holder k) is_lost) (λ k b post. search (rules, tests)) d
           ∙ ap (filter (λ (r : Reference). not (gone r))) (are.held d)
           ∙ filter-swap (λ (r : Reference). not (gone r)) (λ r. is_of_buffer d r.holder) (λ r. not (gone r)) (λ r. is_of_buffer d r.holder) l
-          (λ r. and-comm (is_of_buffer d r.holder) (not (gone r)));
+          (λ r. and_comm (is_of_buffer d r.holder) (not (gone r)));
       few = omega (arith, fewer, are.few);
       ends = λ d. (let less = c.drop_passing.ensures.ends d in omega (arith, less, are.ends d));
     }
