@@ -11,6 +11,19 @@ any-case : (b : Bool) (n : ℕ) (c : Bool) → nat_lt 0 n ≡ c → nat_lt 0 (co
 any-case true n c h = grind (arith, nat_tests)
 any-case false n c h = let e : 0 + n ≡ n = omega arith in rw e h
 
+within-step : (a b c : Bool) (n m t : ℕ) → (a ≡ true → c ≡ b) → n ≡ cond b m 0 → t ≡ cond a 1 0 + m
+    → cond (a && c) 1 0 + n ≡ cond b t 0
+within-step true true true n m t same h k = omega (arith, h, k)
+within-step true true false n m t same h k = let no = same refl in absurd (cc)
+within-step true false true n m t same h k = let no = same refl in absurd (cc)
+within-step true false false n m t same h k = omega (arith, h)
+within-step false true c n m t same h k = omega (arith, h, k)
+within-step false false c n m t same h k = omega (arith, h)
+
+away-step : (b : Bool) (u v t : ℕ) → u + v ≡ t → v ≡ cond b t 0 → u ≡ cond b 0 t
+away-step true u v t h k = omega (arith, h, k)
+away-step false u v t h k = omega (arith, h, k)
+
 module _ {A : Type 0} where
   pub count-cons : (p : A → Bool) (x : A) (xs : List A) → count_by p (x ∷ xs) ≡ cond (p x) 1 0 + count_by p xs
   count-cons p x xs = sum_by-cons (λ y. cond (p y) 1 0) x xs
@@ -80,15 +93,6 @@ module _ {A : Type 0} where
       by true rest = omega arith
       by false rest = omega (arith, rest)
 
-  within-step : (a b c : Bool) (n m t : ℕ) → (a ≡ true → c ≡ b) → n ≡ cond b m 0 → t ≡ cond a 1 0 + m
-      → cond (a && c) 1 0 + n ≡ cond b t 0
-  within-step true true true n m t same h k = omega (arith, h, k)
-  within-step true true false n m t same h k = let no = same refl in absurd (cc)
-  within-step true false true n m t same h k = let no = same refl in absurd (cc)
-  within-step true false false n m t same h k = omega (arith, h)
-  within-step false true c n m t same h k = omega (arith, h, k)
-  within-step false false c n m t same h k = omega (arith, h)
-
   -- all that pass q are alike for p
   pub count-within : (p q : A → Bool) (b : Bool) (xs : List A) → ((x : A) → q x ≡ true → p x ≡ b)
       → count_by (λ x. q x && p x) xs ≡ cond b (count_by q xs) 0
@@ -97,10 +101,6 @@ module _ {A : Type 0} where
   count-within p q b (x ∷ xs) h = count-cons (λ y. q y && p y) x xs
       ∙ within-step (q x) b (p x) (count_by (λ y. q y && p y) xs) (count_by q xs) (count_by q (x ∷ xs)) (h x)
       (count-within p q b xs h) (count-cons q x xs)
-
-  away-step : (b : Bool) (u v t : ℕ) → u + v ≡ t → v ≡ cond b t 0 → u ≡ cond b 0 t
-  away-step true u v t h k = omega (arith, h, k)
-  away-step false u v t h k = omega (arith, h, k)
 
   -- those that pass q go, and those that pass p are alike for q
   pub count-away : (p q : A → Bool) (b : Bool) (xs : List A) → ((x : A) → p x ≡ true → q x ≡ b)

@@ -1,7 +1,7 @@
 -- What some buffers hold, together.
 use Rattle.std.proofs.Common.{◌≡◌, ℕ, ◌+◌, ◌-◌, ◌==◌, Bool, true, false, not, cond, ◌&&◌, ◌||◌, List, [], ◌∷◌, ◌++◌, filter, map, unwrap_or, is_some, Option, Some, None, refl, ap, sym, subst, ◌∙◌, arith}
 use Rattle.std.specs.List.{IsDistinct, AllByRecursion, count_by, list_any}
-use Rattle.std.proofs.Math.Bool.{and_comm, and-false}
+use Rattle.std.proofs.Math.Bool.{and_comm, and_self, and-false}
 use Rattle.std.proofs.lemmas.Bool.{eqb-true, eq-eqb}
 use Rattle.bd_space.specs.declared.space.Reference.{Reference}
 use Rattle.bd_space.specs.declared.space.Holder.{Holder}
@@ -136,35 +136,32 @@ module _ (is_lost : ℕ → Bool) where
           (lost-counted bs gone d.1 (rest b bs l (none-in b bs d.0) are))
           ∙ apart b l
 
--- one buffer more is looked at
-pub lost-step : (is_lost : ℕ → Bool) (f : ℕ → List Reference) (p : Reference → Bool) (b : ℕ) (bs : List ℕ) (now next all : ℕ)
-    → is_lost b ≡ true → next ≡ now - count_by p (f b) → now - count_by p (lost_items is_lost f (b ∷ bs)) ≡ all
-    → next - count_by p (lost_items is_lost f bs) ≡ all
-lost-step is_lost f p b bs now next all yes taken were =
-    let both = count-append p (f b) (lost_items is_lost f bs) in
-    let is : count_by p (lost_items is_lost f (b ∷ bs)) ≡ count_by p (f b ++ lost_items is_lost f bs) =
-    ap (λ x. count_by p (cond x (f b) [] ++ lost_items is_lost f bs)) yes in
-    omega (arith, both, is, taken, were)
+-- a loop over the buffers: what it takes, and what is left to take
+module _ (is_lost : ℕ → Bool) (f : ℕ → List Reference) (p : Reference → Bool) (now all : ℕ) (left : List ℕ)
+    (were : now - count_by p (lost_items is_lost f left) ≡ all) where
+  pub lost-step : (b : ℕ) (bs : List ℕ) (next : ℕ) (xs : List Reference) → left ≡ b ∷ bs → is_lost b ≡ true → xs ≡ f b
+      → next ≡ now - count_by p xs → next - count_by p (lost_items is_lost f bs) ≡ all
+  lost-step b bs next xs first gone same taken =
+      let both = count-append p (f b) (lost_items is_lost f bs) in
+      let is : count_by p (lost_items is_lost f left) ≡ count_by p (f b ++ lost_items is_lost f bs) =
+      ap (λ ds. count_by p (lost_items is_lost f ds)) first ∙ ap (λ x. count_by p (cond x (f b) [] ++ lost_items is_lost f bs)) gone in
+      let alike : count_by p xs ≡ count_by p (f b) = ap (count_by p) same in
+      omega (arith, both, is, taken, were, alike)
 
-pub kept-step : (is_lost : ℕ → Bool) (f : ℕ → List Reference) (p : Reference → Bool) (b : ℕ) (bs : List ℕ) (now all : ℕ)
-    → is_lost b ≡ false → now - count_by p (lost_items is_lost f (b ∷ bs)) ≡ all
-    → now - count_by p (lost_items is_lost f bs) ≡ all
-kept-step is_lost f p b bs now all no were =
-    let is : count_by p (lost_items is_lost f (b ∷ bs)) ≡ count_by p (lost_items is_lost f bs) =
-    ap (λ x. count_by p (cond x (f b) [] ++ lost_items is_lost f bs)) no in
-    omega (arith, is, were)
+  pub kept-step : (b : ℕ) (bs : List ℕ) → left ≡ b ∷ bs → is_lost b ≡ false → now - count_by p (lost_items is_lost f bs) ≡ all
+  kept-step b bs first stays =
+      let is : count_by p (lost_items is_lost f left) ≡ count_by p (lost_items is_lost f bs) =
+      ap (λ ds. count_by p (lost_items is_lost f ds)) first ∙ ap (λ x. count_by p (cond x (f b) [] ++ lost_items is_lost f bs)) stays in
+      omega (arith, is, were)
+
+  pub all-lost : left ≡ [] → now ≡ all
+  all-lost done =
+      let is : count_by p (lost_items is_lost f left) ≡ 0 = ap (λ ds. count_by p (lost_items is_lost f ds)) done in
+      omega (arith, is, were)
 
 -- what a buffer carries, it holds
 carried-alike : (b : ℕ) (h : Holder) → (is_of_buffer b h && is_carried_by b h) ≡ is_carried_by b h
-carried-alike b (holders.Carried c q) = by (c == b) refl
-  where
-    by : (x : Bool) → (c == b) ≡ x → (x && (b == c)) ≡ (b == c)
-    by true e = refl
-    by false e = other (b == c) refl
-      where
-        other : (y : Bool) → (b == c) ≡ y → false ≡ y
-        other false f = refl
-        other true f = let yes : (c == b) ≡ true = eq-eqb c b (sym (eqb-true b c f)) in absurd (cc)
+carried-alike b (holders.Carried c q) = and_self (c == b)
 carried-alike b (holders.Target c q) = and-false (c == b)
 carried-alike b (holders.Asked q) = refl
 carried-alike b holders.Handshake = refl

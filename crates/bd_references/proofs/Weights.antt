@@ -81,12 +81,20 @@ has-key key p es l d are h = by (list_any p (keys_of es)) refl
         let no : false ≡ true = ap (λ n. ltb 0 n) none ∙ any-count (λ r. p (key r)) l ∙ h in
         no
 
--- one entry more is looked at
-pub weigh-step : (goes a : Bool) (n w now next all : ℕ) → goes ≡ true → next ≡ now - cond a n 0
-    → now - (cond (goes && a) n 0 + w) ≡ all → next - w ≡ all
-weigh-step true a n w now next all yes taken were = omega (arith, taken, were)
-weigh-step false a n w now next all yes taken were = absurd (cc)
+-- a loop over the entries: what it takes, and what is left to take
+module _ (p : CountKey → Bool) (now all : ℕ) (left : List (CountKey × ℕ)) (were : now - weight p left ≡ all) where
+  pub weigh-step : (e : CountKey × ℕ) (es : List (CountKey × ℕ)) (next : ℕ) → left ≡ e ∷ es → next ≡ now - cond (p e.0) e.1 0
+      → next - weight p es ≡ all
+  weigh-step e es next first taken =
+      let is : weight p left ≡ cond (p e.0) e.1 0 + weight p es = ap (weight p) first in
+      omega (arith, is, taken, were)
 
-pub skip-step : (goes a : Bool) (n w now all : ℕ) → goes ≡ false → now - (cond (goes && a) n 0 + w) ≡ all → now - w ≡ all
-skip-step true a n w now all no were = absurd (cc)
-skip-step false a n w now all no were = omega (arith, were)
+  pub skip-step : (e : CountKey × ℕ) (es : List (CountKey × ℕ)) → left ≡ e ∷ es → p e.0 ≡ false → now - weight p es ≡ all
+  skip-step e es first stays =
+      let is : weight p left ≡ 0 + weight p es = ap (weight p) first ∙ ap (λ b. cond b e.1 0 + weight p es) stays in
+      omega (arith, is, were)
+
+  pub all-weighed : left ≡ [] → now ≡ all
+  all-weighed done =
+      let is : weight p left ≡ 0 = ap (weight p) done in
+      omega (arith, is, were)
