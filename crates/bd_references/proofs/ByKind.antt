@@ -10,8 +10,7 @@ use Rattle.bd_space.specs.declared.space.Holder.{Holder}
 use Rattle.bd_space.specs.declared.space.Holder.TheVariants as holders
 use Rattle.bd_space.specs.Words.{same}
 use Rattle.bd_space.specs.References.{is_asked_by, is_handshake, is_asking, is_shaking, is_of_buffer, same_strength, names_for}
-use Rattle.bd_references.specs.declared.keys.Kind.TheVariants.{Asked, Carried, Target, Handshake, Manager, Any}
-use Rattle.bd_references.specs.declared.keys.CountKey.{CountKey}
+use Rattle.bd_references.specs.declared.keys.Kind.TheVariants.{Asked, Carried, Handshake, Any}
 use Rattle.bd_references.specs.Keys.{same_key, use_key, total_key, count_key, kind_of, names_with}
 use Rattle.bd_references.proofs.Tests.{same_kind}
 

@@ -1,5 +1,5 @@
 -- What some buffers hold, together.
-use Rattle.std.proofs.Common.{◌≡◌, ℕ, ◌+◌, ◌-◌, ◌==◌, Bool, true, false, not, cond, ◌&&◌, ◌||◌, List, [], ◌∷◌, ◌++◌, filter, map, unwrap_or, is_some, Option, Some, None, refl, ap, sym, subst, ◌∙◌, arith}
+use Rattle.std.proofs.Common.{◌≡◌, ℕ, ◌+◌, ◌-◌, ◌==◌, Bool, true, false, not, cond, ◌&&◌, ◌||◌, List, [], ◌∷◌, ◌++◌, filter, map, unwrap_or, is_some, Option, Some, None, refl, ap, sym, ◌∙◌, arith}
 use Rattle.std.specs.List.{IsDistinct, AllByRecursion, count_by, list_any}
 use Rattle.std.proofs.Math.Bool.{and_comm, and_self, and-false}
 use Rattle.std.proofs.lemmas.Bool.{eqb-true, eq-eqb}

@@ -1,5 +1,5 @@
 -- Counters of a list, as the list changes.
-use Rattle.std.proofs.Common.{◌≡◌, ℕ, ◌+◌, ◌-◌, ◌<◌, ◌≤◌, ◌^◌, Bool, true, false, not, cond, ltb, ◌&&◌, List, [], ◌∷◌, ◌++◌, length, filter, refl, ap, sym, ◌∙◌, arith}
+use Rattle.std.proofs.Common.{◌≡◌, ℕ, ◌+◌, ◌-◌, ◌<◌, ◌^◌, Bool, true, not, cond, ltb, List, [], ◌∷◌, ◌++◌, length, filter, refl, ap, sym, ◌∙◌, arith}
 use Rattle.std.specs.List.{list_any, count_by}
 use Rattle.std.proofs.lemmas.List.Sums.{count_by-le-length}
 use Rattle.bd_space.specs.declared.space.Reference.{Reference}

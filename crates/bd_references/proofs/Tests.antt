@@ -1,5 +1,5 @@
 -- The keys of references, and their tests.
-use Rattle.std.proofs.Common.{◌≡◌, ℕ, ◌==◌, Bool, true, false, ◌&&◌, refl, ap}
+use Rattle.std.proofs.Common.{◌≡◌, ◌==◌, Bool, true, false, refl, ap}
 use Rattle.std.proofs.lemmas.Bool.{eqb-true, eq-eqb, and_parts}
 use mathlib.Core.Bool.{beq}
 use Rattle.bd_references.specs.declared.keys.Kind.{Kind}

@@ -1,5 +1,5 @@
 -- The counters of some keys, together.
-use Rattle.std.proofs.Common.{◌≡◌, ℕ, ◌+◌, ◌-◌, Bool, true, false, not, cond, ltb, ◌&&◌, ◌||◌, List, [], ◌∷◌, filter, unwrap_or, Option, Some, None, refl, ap, sym, subst, ◌∙◌, arith}
+use Rattle.std.proofs.Common.{◌≡◌, ℕ, ◌+◌, ◌-◌, Bool, true, false, not, cond, ltb, ◌&&◌, ◌||◌, List, [], ◌∷◌, filter, unwrap_or, Some, None, refl, ap, sym, ◌∙◌, arith}
 use Rattle.std.specs.List.{IsDistinct, count_by, list_any}
 use Rattle.std.specs.Map.{lookup, keys_of}
 use Rattle.bd_space.specs.declared.space.Reference.{Reference}

@@ -1,4 +1,4 @@
-use Rattle.std.proofs.Common.{◌≡◌, ℕ, ◌==◌, Bool, rules, tests, ap, ◌∙◌}
+use Rattle.std.proofs.Common.{ℕ, ◌==◌, rules, tests, ap, ◌∙◌}
 use Rattle.std.specs.Map.{lookup}
 use Rattle.std.specs.HashMap.{get_by}
 use Rattle.std.proofs.lemmas.Bool.{eqb-true}

@@ -1,4 +1,4 @@
-use Rattle.std.proofs.Common.{◌≡◌, ℕ, rules, tests, not, ap, ◌∙◌}
+use Rattle.std.proofs.Common.{ℕ, rules, tests, not, ap, ◌∙◌}
 use Rattle.std.specs.Map.{lookup}
 use Rattle.std.specs.HashMap.{get}
 use Rattle.std.proofs.lemmas.Map.Made.{filter_same_pairs}

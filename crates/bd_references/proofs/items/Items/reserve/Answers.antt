@@ -1,8 +1,6 @@
-use Rattle.std.proofs.Common.{ℕ, ◌∙◌, ap, unwrap_or}
-use Rattle.bd_references.specs.declared.keys.ItemKey.{ItemKey}
+use Rattle.std.proofs.Common.{◌∙◌, ap, unwrap_or}
 use Rattle.bd_references.specs.Keys.{same_item}
 use Rattle.bd_references.specs.Gathered.{item_in, gathered}
-use Rattle.bd_references.specs.Held.{end_at}
 use Rattle.bd_references.proofs.Gathers.{agrees}
 use Rattle.bd_references.proofs.items.Items.reserve.Goals as goal
 

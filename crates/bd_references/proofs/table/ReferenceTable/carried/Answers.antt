@@ -1,5 +1,4 @@
-use Rattle.std.proofs.Common.{◌≡◌, map, ap, ◌∙◌}
-use Rattle.bd_space.specs.declared.space.Reference.{Reference}
+use Rattle.std.proofs.Common.{ap, ◌∙◌}
 use Rattle.bd_references.specs.Carried.{carried_in}
 use Rattle.bd_references.proofs.Lost.{carried-of}
 use Rattle.bd_references.proofs.table.ReferenceTable.carried.Goals as goal

@@ -1,4 +1,4 @@
-use Rattle.std.proofs.Common.{◌≡◌, ◌≤◌, ◌==◌, not, cond, [], filter, ap, sym, subst, ◌∙◌, arith}
+use Rattle.std.proofs.Common.{◌==◌, not, cond, [], ap, subst, ◌∙◌, arith}
 use Rattle.bd_space.specs.declared.space.Reference.{Reference}
 use Rattle.bd_space.specs.References.{is_of_buffer}
 use Rattle.bd_references.specs.Tallied.{TakenBack}

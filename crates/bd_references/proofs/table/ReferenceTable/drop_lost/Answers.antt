@@ -1,4 +1,4 @@
-use Rattle.std.proofs.Common.{rules, tests, ◌≡◌, ◌≤◌, ◌==◌, ℕ, not, cond, [], filter, is_some, ap, sym, subst, ◌∙◌, arith}
+use Rattle.std.proofs.Common.{rules, tests, ◌≡◌, ◌==◌, ℕ, not, cond, [], filter, ap, sym, ◌∙◌, arith}
 use Rattle.std.specs.List.{list_any}
 use Rattle.std.specs.HashMap.{keys, get_by}
 use Rattle.std.proofs.Math.Bool.{and_comm}

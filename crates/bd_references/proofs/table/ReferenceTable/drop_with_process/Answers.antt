@@ -1,6 +1,5 @@
-use Rattle.std.proofs.Common.{rules, tests, ◌≡◌, ◌≤◌, Bool, not, ◌||◌, ◌&&◌, filter, ap, sym, subst, ◌∙◌, arith}
+use Rattle.std.proofs.Common.{rules, tests, Bool, not, filter, ap, subst, ◌∙◌, arith}
 use Rattle.bd_space.specs.declared.space.Reference.{Reference}
-use Rattle.bd_space.specs.declared.space.Holder.{Holder}
 use Rattle.bd_space.specs.References.{is_of_buffer, is_in_window}
 use Rattle.bd_references.specs.Tallied.{Tallied}
 use Rattle.bd_references.proofs.Leaving.{goes, goes-key, window-alike}

@@ -1,10 +1,8 @@
-use Rattle.std.proofs.Common.{◌≡◌, ◌<◌, Bool, true, false, List, ltb, ap, sym, subst, ◌∙◌}
+use Rattle.std.proofs.Common.{◌≡◌, true, false, ltb, ap, sym, subst, ◌∙◌}
 use Rattle.std.specs.List.{list_any}
 use Rattle.std.proofs.lemmas.Bool.{lt-ltb, le-ltb}
 use Rattle.bd_space.specs.declared.space.Reference.{Reference}
-use Rattle.bd_references.specs.declared.keys.CountKey.{CountKey}
-use Rattle.bd_references.specs.Keys.{same_key, use_key, total_key, any_kind}
-use Rattle.bd_references.specs.Counted.{count_at}
+use Rattle.bd_references.specs.Keys.{use_key, total_key, any_kind}
 use Rattle.bd_references.specs.Tallied.{Tallied}
 use Rattle.bd_references.proofs.Counting.{without-none}
 use Rattle.bd_references.proofs.Tallying.{each-first, any-keyed}

@@ -1,7 +1,5 @@
-use Rattle.std.proofs.Common.{rules, tests, ◌≡◌, ◌-◌, ℕ, not, cond, ◌&&◌, filter, ap, sym, ◌∙◌}
-use Rattle.std.specs.List.{count_by}
+use Rattle.std.proofs.Common.{rules, tests, ◌-◌, ℕ, cond, ◌&&◌, ap, sym, ◌∙◌}
 use Rattle.bd_space.specs.declared.space.Reference.{Reference}
-use Rattle.bd_references.specs.declared.keys.CountKey.{CountKey}
 use Rattle.bd_references.specs.Keys.{same_key, use_key, total_key, goes_with, any_kind}
 use Rattle.bd_references.specs.Counted.{count_at}
 use Rattle.bd_references.proofs.Counting.{count-away, count-both}

@@ -1,4 +1,4 @@
-use Rattle.std.proofs.Common.{◌≡◌, ltb, ap, refl, ◌∙◌}
+use Rattle.std.proofs.Common.{ltb, ap, refl, ◌∙◌}
 use Rattle.bd_space.specs.declared.space.Reference.{Reference}
 use Rattle.bd_references.specs.Keys.{same_key, use_key, count_key}
 use Rattle.bd_references.specs.Counted.{count_at}

@@ -1,7 +1,4 @@
-use Rattle.std.proofs.Common.{◌+◌, ◌-◌, ◌<◌, ◌^◌, cond, subst}
-use Rattle.bd_references.specs.Keys.{same_key, use_key, total_key}
-use Rattle.bd_references.specs.declared.keys.CountKey.{CountKey}
-use Rattle.bd_references.specs.Counted.{count_at}
+use Rattle.bd_references.specs.Keys.{use_key, total_key}
 use Rattle.bd_references.proofs.Tallying.{each-push}
 use Rattle.bd_references.proofs.tallies.Tallies.push.Goals as goal
 
