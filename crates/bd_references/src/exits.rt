@@ -47,6 +47,7 @@ fn take_lost<F: Fn(u32) -> bool>(tallies: &mut Tallies, items: &Items, lost: &F)
     }
 }
 
+// The objects of the counters that go with the process.
 #[tactic(auto, unfolding(crate::specs::Keys::same_key))]
 fn push_dropped(
     counts: &HashMap<CountKey, u64>,

@@ -38,7 +38,7 @@ impl ReferenceTable {
         ensures stands { (l : List Reference) → ReferencesAre self.old l → ReferencesAre self.new l }
         ensures uses { reference_room self.old ≤ reference_room self.new }
         ensures room { OnOk result (more ≤ reference_room self.new) }
-        // Memory was asked for: there was no room.
+        // There was no room: memory was asked for, or more would come in than `made` can count.
         ensures grown { OnErr result (more ≤ reference_room self.old → ⊥) }
     {
         if more as u64 > u64::MAX - self.made {

@@ -134,6 +134,7 @@ impl Tallies {
             self.totals.take(any_kind(k), 1);
         }
     }
+
     /// Those of a process go. The caller says which objects it owns.
     pub(crate) fn drop_with_process<F: Fn(ObjectId) -> bool>(&mut self, p: u32, owned: &F)
         requires { F.IsAlwaysCallable owned.now }
