@@ -1,1 +1,12 @@
-mod Firsts
+pub mod Updated
+pub mod Tests
+pub mod Keyed
+pub mod Gathers
+pub mod Entries
+pub mod Counting
+pub mod Tallying
+pub mod ByKind
+pub mod Loads
+pub mod Weights
+pub mod Lost
+pub mod Leaving

@@ -1,34 +1,22 @@
 //! What a buffer refers to.
 
-ghost use Rattle.std.specs.Prelude.{◌≡◌, ◌≤◌, ◌++◌, not, map, filter, vec_len, vec_capacity, List, OnOk};
+ghost use Rattle.std.specs.Prelude.{◌≡◌, ◌≤◌, ◌++◌, not, map, filter, List, OnOk};
 ghost use Rattle.bd_space.specs.declared.space.Reference.{Reference};
 ghost use Rattle.bd_space.specs.References as refer;
 
-use crate::holders::is_of_buffer;
+use crate::held::HeldReferences;
 use crate::table::ReferenceTable;
-use bd_space::{ObjectId, Reference};
+use bd_space::ObjectId;
 use std::alloc::AllocError;
 
-fn drop_of_buffer(references: &mut Vec<Reference>, b: u32)
-    ensures items { references.new.items ≡ filter (λ r. not (refer.is_of_buffer b r.holder)) references.old.items }
-    ensures capacity { vec_capacity references.new ≡ vec_capacity references.old }
-    ensures len { vec_len references.new ≤ vec_len references.old }
-{
-    references.retain(|r| !is_of_buffer(b, r.holder));
-}
-
-fn push_referred(
-    references: &[Reference],
-    b: u32,
+fn push_objects(
+    references: HeldReferences<'_>,
     touched: &mut Vec<ObjectId>,
 ) -> Result<(), AllocError>
-    ensures { OnOk result (touched.new.items
-        ≡ touched.old.items ++ map (λ r. r.object) (filter (λ r. refer.is_of_buffer b r.holder) references.now)) }
+    ensures { OnOk result (touched.new.items ≡ touched.old.items ++ map (λ r. r.object) references.entry) }
 {
     for r in references {
-        if is_of_buffer(b, r.holder) {
-            touched.push(r.object)?;
-        }
+        touched.push(r.object)?;
     }
     Ok(())
 }
@@ -44,7 +32,8 @@ impl ReferenceTable {
             → ReferencesAre self.new (filter (λ r. not (refer.is_of_buffer b r.holder)) l) }
         ensures uses { reference_room self.old ≤ reference_room self.new }
     {
-        drop_of_buffer(&mut self.references, b);
+        self.tallies.take_each(self.items.of(b));
+        self.items.clear(b);
     }
 
     /// The objects to which the buffer refers, put after what is there. Fails for want of memory alone.
@@ -52,6 +41,6 @@ impl ReferenceTable {
         ensures { OnOk result ((l : List Reference) → ReferencesAre self.now l → touched.new.items
             ≡ touched.old.items ++ map (λ r. r.object) (filter (λ r. refer.is_of_buffer b r.holder) l)) }
     {
-        push_referred(&self.references, b, touched)
+        push_objects(self.items.of(b), touched)
     }
 }

@@ -1,16 +1,15 @@
 //! The objects that a buffer carries.
 
 ghost use Rattle.std.specs.Prelude.{◌≡◌, List};
-ghost use Rattle.std.specs.Slice.Iter.{iter_rest};
 ghost use Rattle.std.specs.Iterator.{YieldsFirst, item_count};
 ghost use Rattle.bd_space.specs.declared.step.ObjectId.{ObjectId};
 ghost use Rattle.bd_space.specs.declared.space.Reference.{Reference};
 ghost use Rattle.bd_references.specs.Carried.{is_carried_by, carried_in};
 
+use crate::held::HeldReferences;
 use crate::table::ReferenceTable;
-use bd_space::{Holder, ObjectId, Reference};
+use bd_space::{Holder, ObjectId};
 use std::marker::Model;
-use std::slice::Iter;
 
 fn is_carried_by(made: u32, holder: Holder) -> bool
     ensures { result ≡ is_carried_by made holder }
@@ -23,13 +22,13 @@ fn is_carried_by(made: u32, holder: Holder) -> bool
 pub struct CarriedObjects<'a> {
     made: u32,
     // Those that are still to be looked at.
-    references: Iter<'a, Reference>,
+    references: HeldReferences<'a>,
 }
 
 impl<'a> Model for CarriedObjects<'a> {
     ghost Value = { List ObjectId };
 
-    ghost view = { λ c. carried_in (iter_rest c.references) c.made };
+    ghost view = { λ c. carried_in c.references c.made };
 }
 
 impl Iterator for CarriedObjects<'_> {
@@ -58,7 +57,7 @@ impl ReferenceTable {
     {
         CarriedObjects {
             made: b,
-            references: self.references.iter(),
+            references: self.items.of(b),
         }
     }
 }

@@ -1,15 +1,24 @@
 //! What goes when a thread or a process ends.
 
-ghost use Rattle.std.specs.Prelude.{◌≡◌, ◌≤◌, ◌||◌, ◌&&◌, ◌++◌, ℕ, Bool, not, map, filter, vec_len, vec_capacity, List, Option, OnOk};
+ghost use Rattle.std.specs.Prelude.{◌≡◌, ◌==◌, ◌≤◌, ◌||◌, ◌&&◌, ◌++◌, ℕ, Bool, not, map, filter, List, Option, OnOk};
+ghost use Rattle.std.specs.List.{IsDistinct};
+ghost use Rattle.std.specs.HashMap.{keys};
 ghost use Rattle.bd_space.specs.declared.step.ObjectId.{ObjectId};
 ghost use Rattle.bd_space.specs.declared.space.Reference.{Reference};
 ghost use Rattle.bd_space.specs.Words.{is_some_and};
 ghost use Rattle.bd_space.specs.References as refer;
+ghost use Rattle.bd_references.specs.Keys as keyed;
+ghost use Rattle.bd_references.specs.Held.{items_of, lost_items};
+ghost use Rattle.bd_references.specs.Tallied.{TakenBack, tally_room};
 
-use crate::holders::{buffer_of_holder, is_asked_by, is_in_window, is_of_owner};
+use crate::holders::{buffer_of_holder, is_in_window};
+use crate::items::Items;
+use crate::keys::{CountKey, is_of_process, object_of};
 use crate::table::ReferenceTable;
-use bd_space::{Holder, ObjectId, Reference};
+use crate::tallies::Tallies;
+use bd_space::{Holder, ObjectId};
 use std::alloc::AllocError;
+use std::collections::HashMap;
 
 /// Whether its buffer is lost.
 fn is_lost_with<F: Fn(u32) -> bool>(lost: &F, holder: Holder) -> bool
@@ -23,51 +32,35 @@ fn is_lost_with<F: Fn(u32) -> bool>(lost: &F, holder: Holder) -> bool
     }
 }
 
-fn drop_of_lost<F: Fn(u32) -> bool>(references: &mut Vec<Reference>, lost: F)
-    requires { F.IsAlwaysCallable lost }
-    ensures items { (is_lost : ℕ → Bool) → ((b : ℕ) (r : Bool) → F.post lost b r → r ≡ is_lost b)
-        → references.new.items
-        ≡ filter (λ r. not (is_some_and (refer.buffer_of_holder r.holder) is_lost)) references.old.items }
-    ensures len { vec_len references.new ≤ vec_len references.old }
-    ensures capacity { vec_capacity references.new ≡ vec_capacity references.old }
+// What the lost buffers hold is no longer counted.
+fn take_lost<F: Fn(u32) -> bool>(tallies: &mut Tallies, items: &Items, lost: &F)
+    requires { F.IsAlwaysCallable lost.now }
+    ensures taken { (is_lost : ℕ → Bool) → ((b : ℕ) (r : Bool) → F.post lost.now b r → r ≡ is_lost b)
+        → TakenBack tallies.old tallies.new (lost_items is_lost (items_of items.now) (keys items.now.ends)) }
+    ensures unique { IsDistinct (λ b c. b == c) (keys items.now.ends) }
+    ensures uses { tally_room tallies.old ≤ tally_room tallies.new }
 {
-    references.retain(|r| !is_lost_with(&lost, r.holder));
+    for b in items.ends.keys() {
+        if lost(*b) {
+            tallies.take_each(items.of(*b));
+        }
+    }
 }
 
-/// Whether it goes with the process, which owns the objects that the caller says.
-fn is_dropped_with<F: Fn(ObjectId) -> bool>(owned: &F, p: u32, r: &Reference) -> bool
-    requires { F.IsAlwaysCallable owned.now }
-    ensures { (is_owned : ObjectId → Bool) → ((o : ObjectId) (b : Bool) → F.post owned.now o b → b ≡ is_owned o)
-        → result ≡ (refer.is_asked_by p r.now.holder
-        || (refer.is_in_window p r.now.holder || (is_owned r.now.object && refer.is_of_owner r.now.holder))) }
-{
-    is_asked_by(p, r.holder)
-        || is_in_window(p, r.holder)
-        || (is_of_owner(r.holder) && owned(r.object))
-}
-
-fn drop_of_process<F: Fn(ObjectId) -> bool>(references: &mut Vec<Reference>, p: u32, owned: F)
-    requires { F.IsAlwaysCallable owned }
-    ensures items { (is_owned : ObjectId → Bool) → ((o : ObjectId) (b : Bool) → F.post owned o b → b ≡ is_owned o)
-        → references.new.items ≡ filter (λ r. not (refer.is_asked_by p r.holder
-        || (refer.is_in_window p r.holder || (is_owned r.object && refer.is_of_owner r.holder)))) references.old.items }
-    ensures len { vec_len references.new ≤ vec_len references.old }
-    ensures capacity { vec_capacity references.new ≡ vec_capacity references.old }
-{
-    references.retain(|r| !is_dropped_with(&owned, p, r));
-}
-
+// The objects of the counters that go with the process.
+#[tactic(auto, unfolding(crate::specs::Keys::same_key))]
 fn push_dropped(
-    references: &[Reference],
+    counts: &HashMap<CountKey, u64>,
     p: u32,
     touched: &mut Vec<ObjectId>,
 ) -> Result<(), AllocError>
-    ensures { OnOk result (touched.new.items ≡ touched.old.items ++ map (λ r. r.object)
-        (filter (λ r. refer.is_asked_by p r.holder || refer.is_in_window p r.holder) references.now)) }
+    ensures pushed { OnOk result (touched.new.items ≡ touched.old.items
+        ++ map keyed.object_of (filter (λ k. keyed.is_of_process p k.kind) (keys counts.now))) }
+    ensures unique { IsDistinct keyed.same_key (keys counts.now) }
 {
-    for r in references {
-        if is_asked_by(p, r.holder) || is_in_window(p, r.holder) {
-            touched.push(r.object)?;
+    for k in counts.keys() {
+        if is_of_process(p, k.kind) {
+            touched.push(object_of(*k))?;
         }
     }
     Ok(())
@@ -87,7 +80,8 @@ impl ReferenceTable {
             → ReferencesAre self.new (filter (λ r. not (is_some_and (refer.buffer_of_holder r.holder) is_lost)) l) }
         ensures uses { reference_room self.old ≤ reference_room self.new }
     {
-        drop_of_lost(&mut self.references, lost);
+        take_lost(&mut self.tallies, &self.items, &lost);
+        self.items.drop_passing(|h| is_lost_with(&lost, h));
     }
 
     /// The references go that go with the process: it asked for them, they lie in its window, or they are its own as
@@ -101,7 +95,8 @@ impl ReferenceTable {
             || (refer.is_in_window p r.holder || (is_owned r.object && refer.is_of_owner r.holder)))) l) }
         ensures uses { reference_room self.old ≤ reference_room self.new }
     {
-        drop_of_process(&mut self.references, p, owned);
+        self.tallies.drop_with_process(p, &owned);
+        self.items.drop_passing(|h| is_in_window(p, h));
     }
 
     /// Puts the objects of the references that the process asked for, or that lie in its window, to what is there, in
@@ -115,6 +110,6 @@ impl ReferenceTable {
             (touched.old.items ++ map (λ r. r.object)
             (filter (λ r. refer.is_asked_by p r.holder || refer.is_in_window p r.holder) l))) }
     {
-        push_dropped(&self.references, p, touched)
+        push_dropped(&self.tallies.uses.counts, p, touched)
     }
 }

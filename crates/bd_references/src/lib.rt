@@ -4,10 +4,15 @@
 mod asking;
 mod buffers;
 mod carried;
+mod counts;
 mod exits;
+mod held;
 mod holders;
+mod items;
+mod keys;
 mod references;
 mod table;
+mod tallies;
 
 pub use carried::CarriedObjects;
 pub use table::ReferenceTable;

@@ -3,13 +3,18 @@
 ghost use Rattle.std.specs.Prelude.{◌≡◌, ◌+◌, ◌≤◌, ◌++◌, ◌∷◌, [], List, OnOk, OnErr};
 ghost use Rattle.bd_space.specs.declared.space.Reference.{Reference};
 
+use crate::items::Items;
+use crate::tallies::Tallies;
 use bd_space::Reference;
 use std::alloc::{AllocError, Global};
 
 /// The references of a space to its objects.
 #[derive(Drop)]
 pub struct ReferenceTable {
-    pub(crate) references: Vec<Reference>,
+    pub(crate) tallies: Tallies,
+    pub(crate) items: Items,
+    // How many ever came in. No counter is above it.
+    pub(crate) made: u64,
 }
 
 impl ReferenceTable {
@@ -21,7 +26,9 @@ impl ReferenceTable {
         ensures { ReferencesAre result [] }
     {
         ReferenceTable {
-            references: Vec::new(alloc),
+            tallies: Tallies::new(alloc),
+            items: Items::new(alloc),
+            made: 0,
         }
     }
 
@@ -31,10 +38,14 @@ impl ReferenceTable {
         ensures stands { (l : List Reference) → ReferencesAre self.old l → ReferencesAre self.new l }
         ensures uses { reference_room self.old ≤ reference_room self.new }
         ensures room { OnOk result (more ≤ reference_room self.new) }
-        // Memory was asked for: there was no room.
+        // There was no room: memory was asked for, or more would come in than `made` can count.
         ensures grown { OnErr result (more ≤ reference_room self.old → ⊥) }
     {
-        self.references.reserve(more)
+        if more as u64 > u64::MAX - self.made {
+            return Err(AllocError);
+        }
+        self.tallies.reserve(more)?;
+        self.items.reserve(more)
     }
 
     /// One reference more, after the others.
@@ -44,6 +55,8 @@ impl ReferenceTable {
         ensures stands { (l : List Reference) → ReferencesAre self.old l → ReferencesAre self.new (l ++ r ∷ []) }
         ensures uses { reference_room self.old ≤ reference_room self.new + 1 }
     {
-        self.references.push_reserved(r);
+        self.tallies.push(r);
+        self.items.hold(r);
+        self.made = self.made.saturating_add(1);
     }
 }

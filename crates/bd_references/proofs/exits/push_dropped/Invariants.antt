@@ -1,9 +1,10 @@
-use Rattle.std.proofs.Common.{◌≡◌, ◌++◌, ◌||◌, map, filter, drop}
-use Rattle.bd_space.specs.declared.space.Reference.{Reference}
-use Rattle.bd_space.specs.References.{is_asked_by, is_in_window}
+use Rattle.std.proofs.Common.{◌≡◌, ◌++◌, map, filter}
+use Rattle.std.specs.HashMap.{keys}
+use Rattle.bd_references.specs.declared.keys.CountKey.{CountKey}
+use Rattle.bd_references.specs.Keys.{object_of, is_of_process}
 use Rattle.bd_references.proofs.exits.push_dropped.Given as goal
 
-abbrev pub invariant-loop-r : goal.invariant-loop-r
-invariant-loop-r l =
-    l.initial.touched.items ++ map (λ (r : Reference). r.object) (filter (λ r. is_asked_by l.p r.holder || is_in_window l.p r.holder) l.references)
-    ≡ l.touched.items ++ map (λ (r : Reference). r.object) (filter (λ r. is_asked_by l.p r.holder || is_in_window l.p r.holder) (drop l.r-index l.references))
+abbrev pub invariant-loop-k : goal.invariant-loop-k
+invariant-loop-k l =
+    l.initial.touched.items ++ map object_of (filter (λ (k : CountKey). is_of_process l.p k.kind) (keys l.counts))
+    ≡ l.touched.items ++ map object_of (filter (λ k. is_of_process l.p k.kind) l.k-iterator)

@@ -1,10 +1,11 @@
 use Rattle.std.proofs.Common.{◌≡◌, length}
-use Rattle.std.specs.Slice.Iter.{iter_rest}
 use Rattle.bd_references.specs.Carried.{carried_in}
 use Rattle.bd_references.proofs.carried.CarriedObjectsIterator.next.Given as goal
 
 abbrev pub invariant-loop-reference : goal.invariant-loop-reference
-invariant-loop-reference l = carried_in (iter_rest l.initial.self-inside.references) l.initial.self-inside.made ≡ carried_in (iter_rest l.self-inside.references) l.self-inside.made
+invariant-loop-reference l =
+    carried_in l.initial.self-inside.references l.initial.self-inside.made
+    ≡ carried_in l.self-inside.references l.self-inside.made
 
 abbrev pub decreases-loop-reference : goal.decreases-loop-reference
-decreases-loop-reference l = length (iter_rest l.self-inside.references)
+decreases-loop-reference l = length l.self-inside.references

@@ -1,0 +1,22 @@
+-- Counters by key, as one changes.
+use Rattle.std.proofs.Common.{◌≡◌, ℕ, ◌+◌, ◌-◌, ◌<◌, ◌^◌, Bool, true, false, cond, min, refl, ap, arith}
+use Rattle.bd_references.specs.declared.keys.CountKey.{CountKey}
+use Rattle.bd_references.specs.Keys.{same_key}
+use Rattle.bd_references.proofs.Tests.{key-eq}
+
+module _ (f : CountKey → ℕ) (k q : CountKey) (n new : ℕ) (set : new ≡ cond (same_key k q) n (f q)) where
+  -- one more
+  pub set-more : n ≡ min (f k + 1) (2 ^ 64 - 1) → f k < 2 ^ 64 - 1 → new ≡ f q + cond (same_key k q) 1 0
+  set-more is few = at (same_key k q) refl set
+    where
+      at : (b : Bool) → same_key k q ≡ b → new ≡ cond b n (f q) → new ≡ f q + cond b 1 0
+      at true e h = let same : f k ≡ f q = ap f (key-eq k q e) in omega (arith, is, few, same, h)
+      at false e h = omega (arith, h)
+
+  -- some fewer
+  pub set-fewer : (m : ℕ) → n ≡ f k - m → new ≡ f q - cond (same_key k q) m 0
+  set-fewer m is = at (same_key k q) refl set
+    where
+      at : (b : Bool) → same_key k q ≡ b → new ≡ cond b n (f q) → new ≡ f q - cond b m 0
+      at true e h = let same : f k ≡ f q = ap f (key-eq k q e) in omega (arith, is, same, h)
+      at false e h = omega (arith, h)

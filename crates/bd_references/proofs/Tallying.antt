@@ -1,0 +1,85 @@
+-- Counters of a list, as the list changes.
+use Rattle.std.proofs.Common.{◌≡◌, ℕ, ◌+◌, ◌-◌, ◌<◌, ◌^◌, Bool, true, not, cond, ltb, List, [], ◌∷◌, ◌++◌, length, filter, refl, ap, sym, ◌∙◌, arith}
+use Rattle.std.specs.List.{list_any, count_by}
+use Rattle.std.proofs.lemmas.List.Sums.{count_by-le-length}
+use Rattle.bd_space.specs.declared.space.Reference.{Reference}
+use Rattle.bd_space.specs.Words.{without_first}
+use Rattle.bd_references.specs.declared.keys.CountKey.{CountKey}
+use Rattle.bd_references.specs.declared.counts.Counts.{Counts}
+use Rattle.bd_references.specs.declared.tallies.Tallies.{Tallies}
+use Rattle.bd_references.specs.Keys.{same_key, use_key, total_key}
+use Rattle.bd_references.specs.Tallied.{Tallied, TakenBack}
+use Rattle.bd_references.specs.Counted.{count_at, keyed, CountsEach, Lacks}
+use Rattle.bd_references.proofs.Counting.{count-cons, count-push, count-append, count-filter, count-both, count-without_first, any-count}
+
+module _ (key : Reference → CountKey) (old new : Counts) where
+  -- one more
+  pub each-push : (r : Reference) (l : List Reference) → CountsEach key old l → length l < 2 ^ 64 - 1
+      → ((q : CountKey) → count_at old (key r) < 2 ^ 64 - 1 → count_at new q ≡ count_at old q + cond (same_key (key r) q) 1 0)
+      → CountsEach key new (l ++ r ∷ [])
+  each-push r l are few more = λ k.
+      let small = count_by-le-length (λ x. same_key (key x) (key r)) l in
+      let fits : count_at old (key r) < 2 ^ 64 - 1 = omega (arith, small, few, are (key r)) in
+      more k fits ∙ ap (λ n. n + cond (same_key (key r) k) 1 0) (are k) ∙ sym (count-push (λ x. same_key (key x) k) l r)
+
+  -- those that pass go
+  pub each-without : (q : Reference → Bool) (l : List Reference) → CountsEach key old l → Lacks key old new (filter q l)
+      → CountsEach key new (filter (λ r. not (q r)) l)
+  each-without q l are lacks = λ k.
+      let p = λ (x : Reference). same_key (key x) k in
+      let parts = count-filter p q l in
+      let gone = count-both p q l in
+      omega (arith, lacks k, are k, parts, gone)
+
+-- the first of those with one key goes, if there is one
+module _ (key : Reference → CountKey) (old new : Counts) (test : Reference → Bool) (k : CountKey) (l : List Reference) where
+  pub each-first : ((r : Reference) → test r ≡ true → key r ≡ k) → list_any test l ≡ true → CountsEach key old l
+      → ((q : CountKey) → count_at new q ≡ count_at old q - cond (same_key k q) 1 0) → CountsEach key new (without_first test l)
+  each-first all some are less = λ q.
+      let p = λ (x : Reference). same_key (key x) q in
+      let part = count-without_first p test (same_key k q) l (λ r h. ap (λ c. same_key c q) (all r h)) in
+      let n : ℕ = cond (same_key k q) 1 0 in
+      let one : cond (list_any test l) n 0 ≡ n = ap (λ b. cond b n 0) some in
+      omega (arith, less q, are q, part, one)
+
+-- whether one with the key is there
+pub any-keyed : (key : Reference → CountKey) (t : Counts) (test : Reference → Bool) (k : CountKey) (l : List Reference)
+    → ((r : Reference) → test r ≡ same_key (key r) k) → CountsEach key t l → ltb 0 (count_at t k) ≡ list_any test l
+any-keyed key t test k l is are = ap (λ n. ltb 0 n) (are k) ∙ any-count (λ r. same_key (key r) k) l
+    ∙ ap (λ p. list_any p l) (λ i r. sym (is r) i)
+
+-- more were taken
+pub lacks-more : (key : Reference → CountKey) (old mid new : Counts) (xs : List Reference) (r : Reference)
+    → Lacks key old mid xs → Lacks key mid new (r ∷ []) → Lacks key old new (xs ++ r ∷ [])
+lacks-more key old mid new xs r a b = λ k.
+    let p = λ (x : Reference). same_key (key x) k in
+    let both = count-append p xs (r ∷ []) in
+    omega (arith, a k, b k, both)
+
+pub lacks-none : (key : Reference → CountKey) (old : Counts) → Lacks key old old []
+lacks-none key old = λ k. let none : keyed key k [] ≡ 0 = refl in omega (arith, none)
+
+pub lacks-one : (key : Reference → CountKey) (old new : Counts) (r : Reference)
+    → ((q : CountKey) → count_at new q ≡ count_at old q - cond (same_key (key r) q) 1 0) → Lacks key old new (r ∷ [])
+lacks-one key old new r less = λ k.
+    let p = λ (x : Reference). same_key (key x) k in
+    let one = count-cons p r [] in
+    let none : count_by p [] ≡ 0 = refl in
+    let is : keyed key k (r ∷ []) ≡ cond (same_key (key r) k) 1 0 = omega (arith, one, none) in
+    less k ∙ ap (λ n. count_at old k - n) (sym is)
+
+-- those that pass are taken back
+pub tallied-without : (old new : Tallies) (q : Reference → Bool) (l : List Reference) → Tallied old l
+    → TakenBack old new (filter q l) → Tallied new (filter (λ r. not (q r)) l)
+tallied-without old new q l t taken = record {
+  uses_are = each-without use_key old.uses new.uses q l t.uses_are taken.uses_lack;
+  totals_are = each-without total_key old.totals new.totals q l t.totals_are taken.totals_lack;
+}
+
+-- the same are taken back, in some order
+pub taken-same : (old new : Tallies) (xs ys : List Reference) → ((p : Reference → Bool) → count_by p xs ≡ count_by p ys)
+    → TakenBack old new xs → TakenBack old new ys
+taken-same old new xs ys same taken = record {
+  uses_lack = λ k. taken.uses_lack k ∙ ap (λ n. count_at old.uses k - n) (same (λ r. same_key (use_key r) k));
+  totals_lack = λ k. taken.totals_lack k ∙ ap (λ n. count_at old.totals k - n) (same (λ r. same_key (total_key r) k));
+}

@@ -1,0 +1,66 @@
+-- The keys of references, and their tests.
+use Rattle.std.proofs.Common.{◌≡◌, ◌==◌, Bool, true, false, refl, ap}
+use Rattle.std.proofs.lemmas.Bool.{eqb-true, eq-eqb, and_parts}
+use mathlib.Core.Bool.{beq}
+use Rattle.bd_references.specs.declared.keys.Kind.{Kind}
+use Rattle.bd_references.specs.declared.keys.Kind.TheVariants.{Asked, Carried, Target, Handshake, Manager, Any}
+use Rattle.bd_references.specs.declared.keys.CountKey.{CountKey}
+use Rattle.bd_references.specs.declared.keys.ItemKey.{ItemKey}
+use Rattle.bd_references.specs.contracts.keys.KindPartialEq.TheImpl as kinds
+use Rattle.bd_references.specs.Keys.{same_key, same_item}
+
+abbrev pub same_kind : Kind → Kind → Bool
+same_kind = (kinds.ghosts).eq
+
+kind-eq : (a b : Kind) → same_kind a b ≡ true → a ≡ b
+kind-eq (Asked p) (Asked q) h = ap Asked (eqb-true p q h)
+kind-eq (Carried p) (Carried q) h = ap Carried (eqb-true p q h)
+kind-eq (Target p) (Target q) h = ap Target (eqb-true p q h)
+kind-eq Handshake Handshake h = refl
+kind-eq Manager Manager h = refl
+kind-eq Any Any h = refl
+kind-eq _ _ h = absurd (cc)
+
+kind-self : (a : Kind) → same_kind a a ≡ true
+kind-self (Asked p) = eq-eqb p p refl
+kind-self (Carried p) = eq-eqb p p refl
+kind-self (Target p) = eq-eqb p p refl
+kind-self Handshake = refl
+kind-self Manager = refl
+kind-self Any = refl
+
+strong-eq : (a b : Bool) → beq a b ≡ true → a ≡ b
+strong-eq true true h = refl
+strong-eq true false h = absurd (cc)
+strong-eq false true h = absurd (cc)
+strong-eq false false h = refl
+
+strong-self : (a : Bool) → beq a a ≡ true
+strong-self true = refl
+strong-self false = refl
+
+pub key-eq : (a b : CountKey) → same_key a b ≡ true → a ≡ b
+unfolding same_key
+key-eq a b h =
+    let k = and_parts (a.place == b.place) _ h in
+    let l = and_parts (a.index == b.index) _ k.1 in
+    let m = and_parts (same_kind a.kind b.kind) _ l.1 in
+    (λ i. record {
+      place = eqb-true a.place b.place k.0 i;
+      index = eqb-true a.index b.index l.0 i;
+      kind = kind-eq a.kind b.kind m.0 i;
+      strong = strong-eq a.strong b.strong m.1 i;
+    })
+
+pub key-self : (a : CountKey) → same_key a a ≡ true
+unfolding same_key
+key-self a = rw (eq-eqb a.place a.place refl, eq-eqb a.index a.index refl, kind-self a.kind) (strong-self a.strong)
+
+pub item-eq : (a b : ItemKey) → same_item a b ≡ true → a ≡ b
+unfolding same_item
+item-eq a b h = let k = and_parts (a.buffer == b.buffer) (a.index == b.index) h in
+    (λ i. record { buffer = eqb-true a.buffer b.buffer k.0 i; index = eqb-true a.index b.index k.1 i })
+
+pub item-self : (a : ItemKey) → same_item a a ≡ true
+unfolding same_item
+item-self a = rw (eq-eqb a.buffer a.buffer refl, eq-eqb a.index a.index refl) refl

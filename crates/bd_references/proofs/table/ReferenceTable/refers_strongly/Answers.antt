@@ -1,0 +1,14 @@
+use Rattle.std.proofs.Common.{true, ◌&&◌, sym, ◌∙◌}
+use Rattle.bd_space.specs.declared.space.Reference.{Reference}
+use Rattle.bd_space.specs.Words.{same}
+use Rattle.bd_space.specs.References.{names_for}
+use Rattle.bd_references.specs.Keys.{names_with}
+use Rattle.bd_references.proofs.ByKind.{any-same, naming-strongly}
+use Rattle.bd_references.proofs.table.ReferenceTable.refers_strongly.Goals as goal
+
+pub returns : goal.returns
+returns c = λ l are.
+    let p = c.args.p in
+    let o = c.args.o in
+    c.names.ensures l are.tallied
+    ∙ sym (any-same (λ (r : Reference). r.strong && same r.object o && names_for p r.holder) (names_with p o true) l (naming-strongly p o))

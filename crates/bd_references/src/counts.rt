@@ -1,0 +1,121 @@
+//! How many references there are, by what they are to, what for, and how strong.
+
+ghost use Rattle.std.specs.Prelude.{ℕ, Bool, ◌≡◌, ◌≤◌, ◌<◌, ◌+◌, ◌-◌, ◌^◌, if◌then◌else◌, OnOk, OnErr};
+ghost use Rattle.std.specs.List.{IsDistinct};
+ghost use Rattle.std.specs.HashMap.{keys, spare};
+ghost use Rattle.bd_references.specs.Keys.{same_key};
+ghost use Rattle.bd_references.specs.Counted.{count_at};
+
+use crate::keys::CountKey;
+use std::alloc::{AllocError, Global};
+use std::collections::HashMap;
+
+/// The counters that aren't 0.
+#[derive(Drop)]
+pub(crate) struct Counts {
+    pub(crate) counts: HashMap<CountKey, u64>,
+}
+
+impl Counts {
+    ghost use Rattle.bd_references.specs.declared.keys.CountKey as declared;
+
+    /// Nothing is counted.
+    #[tactic(auto, unfolding(crate::specs::Keys::same_key))]
+    pub(crate) fn new(alloc: Global) -> Counts
+        ensures { (k : declared.CountKey) → count_at result k ≡ 0 }
+    {
+        Counts {
+            counts: HashMap::new(alloc),
+        }
+    }
+
+    /// Room for so many counters more.
+    pub(crate) fn reserve(&mut self, more: usize) -> Result<(), AllocError>
+        ensures same { (k : declared.CountKey) → count_at self.new k ≡ count_at self.old k }
+        ensures spare { spare self.old.counts ≤ spare self.new.counts }
+        ensures room { OnOk result (more ≤ spare self.new.counts) }
+        ensures grown { OnErr result (more ≤ spare self.old.counts → ⊥) }
+    {
+        self.counts.reserve(more)
+    }
+
+    /// How many there are.
+    #[tactic(auto, unfolding(crate::specs::Keys::same_key))]
+    pub(crate) fn at(&self, k: CountKey) -> u64
+        ensures { result ≡ count_at self.now k }
+    {
+        match self.counts.get(&k) {
+            Some(n) => *n,
+            None => 0,
+        }
+    }
+
+    // A counter is set, which may be a new one.
+    fn raise(&mut self, k: CountKey, n: u64)
+        requires { 0 < spare self.old.counts }
+        ensures counts { (q : declared.CountKey) → count_at self.new q ≡ (if same_key k q then n else count_at self.old q) }
+        ensures spare { spare self.old.counts ≤ spare self.new.counts + 1 }
+    {
+        match self.counts.insert(k, n) {
+            Ok(_) => {}
+            Err(_) => {}
+        }
+    }
+
+    // A counter becomes 0.
+    fn forget(&mut self, k: CountKey)
+        ensures counts { (q : declared.CountKey) → count_at self.new q ≡ (if same_key k q then 0 else count_at self.old q) }
+        ensures spare { spare self.old.counts ≤ spare self.new.counts }
+    {
+        let _gone = self.counts.remove(&k);
+    }
+
+    // A counter that isn't 0 is set.
+    #[tactic(auto, unfolding(crate::specs::Keys::same_key))]
+    fn lower(&mut self, k: CountKey, n: u64)
+        requires { 0 < count_at self.old k }
+        ensures counts { (q : declared.CountKey) → count_at self.new q ≡ (if same_key k q then n else count_at self.old q) }
+        ensures spare { spare self.old.counts ≤ spare self.new.counts }
+    {
+        match self.counts.get_mut(&k) {
+            Some(count) => *count = n,
+            None => {}
+        }
+    }
+
+    /// One more.
+    pub(crate) fn add(&mut self, k: CountKey)
+        requires { 0 < spare self.old.counts }
+        ensures counts { (q : declared.CountKey) → count_at self.old k < 2 ^ 64 - 1
+            → count_at self.new q ≡ count_at self.old q + (if same_key k q then 1 else 0) }
+        ensures spare { spare self.old.counts ≤ spare self.new.counts + 1 }
+    {
+        let n = self.at(k).saturating_add(1);
+        self.raise(k, n);
+    }
+
+    /// So many fewer.
+    pub(crate) fn take(&mut self, k: CountKey, fewer: u64)
+        ensures counts { (q : declared.CountKey) → count_at self.new q ≡ count_at self.old q - (if same_key k q then fewer else 0) }
+        ensures spare { spare self.old.counts ≤ spare self.new.counts }
+    {
+        let n = self.at(k).saturating_sub(fewer);
+        if n == 0 {
+            self.forget(k);
+        } else {
+            self.lower(k, n);
+        }
+    }
+
+    /// The counters go whose keys pass.
+    #[tactic(auto, unfolding(crate::specs::Keys::same_key))]
+    pub(crate) fn drop_passing<F: Fn(CountKey) -> bool>(&mut self, goes: F)
+        requires { F.IsAlwaysCallable goes }
+        ensures counts { (is_gone : declared.CountKey → Bool) → ((k : declared.CountKey) (g : Bool) → F.post goes k g → g ≡ is_gone k)
+            → (q : declared.CountKey) → count_at self.new q ≡ (if is_gone q then 0 else count_at self.old q) }
+        ensures unique { IsDistinct same_key (keys self.old.counts) }
+        ensures spare { spare self.old.counts ≤ spare self.new.counts }
+    {
+        self.counts.retain(|k, _| !goes(*k));
+    }
+}

@@ -1,0 +1,118 @@
+//! By what references are counted and found.
+
+ghost use Rattle.std.specs.Prelude.{◌≡◌, Bool};
+ghost use Rattle.bd_space.specs.declared.step.ObjectId as declared;
+ghost use Rattle.bd_references.specs.Keys as keys;
+
+use bd_space::{Holder, ObjectId, Reference};
+
+/// What a reference is for.
+#[derive(Clone, Copy, PartialEq, Eq, Hash)]
+pub(crate) enum Kind {
+    /// The process asked for it.
+    Asked(u32),
+    /// A buffer in the process's window carries it.
+    Carried(u32),
+    /// A buffer in the process's window was sent to it.
+    Target(u32),
+    /// The owner is to acknowledge it.
+    Handshake,
+    /// It is the context manager's.
+    Manager,
+    /// Any of these.
+    Any,
+}
+
+/// References to one object, of one kind and one strength.
+#[derive(Clone, Copy, PartialEq, Eq, Hash)]
+pub(crate) struct CountKey {
+    pub(crate) place: u32,
+    pub(crate) index: u32,
+    pub(crate) kind: Kind,
+    pub(crate) strong: bool,
+}
+
+/// Which of its references a buffer holds there.
+#[derive(Clone, Copy, PartialEq, Eq, Hash)]
+pub(crate) struct ItemKey {
+    pub(crate) buffer: u32,
+    pub(crate) index: u64,
+}
+
+fn kind_of(holder: Holder) -> Kind
+    ensures { result ≡ keys.kind_of holder }
+{
+    match holder {
+        Holder::Asked(p) => Kind::Asked(p),
+        Holder::Carried(_, p) => Kind::Carried(p),
+        Holder::Target(_, p) => Kind::Target(p),
+        Holder::Handshake => Kind::Handshake,
+        Holder::Manager => Kind::Manager,
+    }
+}
+
+/// The key of these references.
+pub(crate) fn count_key(o: ObjectId, kind: Kind, strong: bool) -> CountKey
+    ensures { result ≡ keys.count_key o kind strong }
+{
+    CountKey {
+        place: o.place,
+        index: o.index,
+        kind,
+        strong,
+    }
+}
+
+/// Under which key the reference counts among those of its kind.
+pub(crate) fn use_key(r: Reference) -> CountKey
+    ensures { result ≡ keys.use_key r }
+{
+    count_key(r.object, kind_of(r.holder), r.strong)
+}
+
+/// Under which key it counts among all.
+pub(crate) fn total_key(r: Reference) -> CountKey
+    ensures { result ≡ keys.total_key r }
+{
+    count_key(r.object, Kind::Any, r.strong)
+}
+
+/// To which object references with the key are.
+pub(crate) fn object_of(k: CountKey) -> ObjectId
+    ensures { result ≡ keys.object_of k }
+{
+    ObjectId {
+        place: k.place,
+        index: k.index,
+    }
+}
+
+/// Whether the process asked for it, or it lies in the process's window.
+pub(crate) fn is_of_process(p: u32, kind: Kind) -> bool
+    ensures { result ≡ keys.is_of_process p kind }
+{
+    match kind {
+        Kind::Asked(q) | Kind::Carried(q) | Kind::Target(q) => q == p,
+        _ => false,
+    }
+}
+
+/// Whether references with the key go with the process, which owns the objects that the caller says.
+pub(crate) fn goes_with<F: Fn(ObjectId) -> bool>(owned: &F, p: u32, k: CountKey) -> bool
+    requires { F.IsAlwaysCallable owned.now }
+    ensures { (is_owned : declared.ObjectId → Bool) → ((o : declared.ObjectId) (b : Bool) → F.post owned.now o b → b ≡ is_owned o)
+        → result ≡ keys.goes_with p is_owned k }
+{
+    is_of_process(p, k.kind)
+        || (matches!(k.kind, Kind::Handshake | Kind::Manager) && owned(object_of(k)))
+}
+
+/// Under which key these count among all.
+pub(crate) fn any_kind(k: CountKey) -> CountKey
+    ensures { result ≡ keys.any_kind k }
+{
+    CountKey {
+        kind: Kind::Any,
+        ..k
+    }
+}
