@@ -4,4 +4,5 @@ pub mod Keys
 pub mod Parts
 pub mod Places
 pub mod Removing
+pub mod Room
 pub mod Telling
