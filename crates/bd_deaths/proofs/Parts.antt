@@ -1,12 +1,13 @@
 -- What is looked for in a part of the list, outside of which nothing passes.
-use Rattle.std.proofs.Common.{◌≡◌, ℕ, zero, suc, ◌+◌, ◌≤◌, ◌<◌, ◌==◌, Bool, true, false, not, ◌&&◌, ◌||◌, cond, List, [], ◌∷◌, ◌++◌, Option, Some, None, filter, find, take, drop, length, get_or, is_some, ltb, MatchOption, refl, ap, sym, subst, ◌∙◌, arith}
+use Rattle.std.proofs.Common.{◌≡◌, ℕ, zero, suc, ◌+◌, ◌≤◌, ◌<◌, ◌==◌, Bool, true, false, not, ◌&&◌, ◌||◌, cond, List, [], ◌∷◌, ◌++◌, Option, Some, None, filter, find, take, drop, length, get_or, set, is_some, ltb, MatchOption, refl, ap, sym, subst, ◌∙◌, arith}
 use Rattle.std.specs.List.{list_any, between, position, position_or_len}
 use Rattle.std.proofs.lemmas.List.Quantifiers.{position-Some}
 use Rattle.std.proofs.lemmas.Slice.{between_is}
-use Rattle.std.proofs.lemmas.List.{take-append-drop, get_or-drop, get_or-take}
+use Rattle.std.proofs.lemmas.List.{take-append-drop, get_or-drop, get_or-take, get_or_default, set-get_or}
 use Rattle.std.proofs.lemmas.Bool.{ltb-false}
 use Rattle.bd_space.specs.declared.space.DeathNotification.{DeathNotification}
 use Rattle.bd_space.specs.Words.{changed}
+use Rattle.bd_space.proofs.Changed.{changed-then, changed-else}
 use Rattle.bd_nodes.proofs.Found.{any-some}
 use Rattle.bd_deaths.specs.Keys.{shared}
 use Rattle.bd_deaths.specs.declared.key.Shared.{Shared}
@@ -46,6 +47,16 @@ pub changed-last : (q : DeathNotification → Bool) (f : DeathNotification → D
 changed-last q f xs i j w =
     ap (λ ys. changed q f (take j xs) ++ ys) (sym (changed-none q f (drop j xs) w.after))
     ∙ sym (changed-append q f (take j xs) (drop j xs)) ∙ ap (changed q f) (take-append-drop j xs)
+
+-- one more, read as d and written as x
+pub changed-written : {A : Type 0} (q : A → Bool) (f : A → A) (xs ys : List A) (i : ℕ) (d x : A) → ys ≡ changed q f (take i xs) ++ drop i xs → i < length xs → i < length ys
+    → d ≡ get_or ys i d → x ≡ get_or ys i x → q d ≡ true → set ys i (f x) ≡ changed q f (take (i + 1) xs) ++ drop (i + 1) xs
+changed-written q f xs ys i d x e h k read same t =
+    ap (λ z. set ys i (f z)) (same ∙ get_or_default ys i x d k) ∙ changed-then q f xs ys i d e h (ap q (sym read) ∙ t)
+
+pub changed-left : {A : Type 0} (q : A → Bool) (f : A → A) (xs ys : List A) (i : ℕ) (d : A) → ys ≡ changed q f (take i xs) ++ drop i xs → i < length xs
+    → d ≡ get_or ys i d → q d ≡ false → ys ≡ changed q f (take (i + 1) xs) ++ drop (i + 1) xs
+changed-left q f xs ys i d e h read t = sym (set-get_or ys i d) ∙ changed-else q f xs ys i d e h (ap q (sym read) ∙ t)
 
 -- ---- of those that stay
 

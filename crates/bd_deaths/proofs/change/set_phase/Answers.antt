@@ -1,8 +1,9 @@
-use Rattle.std.proofs.Common.{◌≡◌, ◌++◌, rules, tests, refl, true, take, drop, ap, sym, ◌∙◌, arith, vec_len, vec_capacity}
+use Rattle.std.proofs.Common.{◌≡◌, ◌++◌, ◌<◌, length, rules, tests, refl, true, take, drop, ap, sym, ◌∙◌, arith, vec_len, vec_capacity}
+use Rattle.std.proofs.lemmas.Bool.{eq-eqb, ne_eqb}
 use Rattle.bd_space.specs.Words.{changed}
 use Rattle.bd_space.specs.declared.space.DeathNotification.{DeathNotification}
 use Rattle.bd_space.specs.Deaths.{is_notification}
-use Rattle.bd_deaths.proofs.Parts.{changed-first, changed-last}
+use Rattle.bd_deaths.proofs.Parts.{changed-first, changed-last, changed-written, changed-left}
 use Rattle.bd_deaths.proofs.change.set_phase.Goals as goal
 use Rattle.bd_deaths.proofs.change.set_phase.Goals.{then-index-made, else-index-made}
 
@@ -17,9 +18,24 @@ pub loop-i-preserved : goal.loop-i-preserved
 loop-i-preserved c =
     let inv = c.loop-i.invariant in
     let q = is_notification c.args.made in
+    let f = λ (x : DeathNotification). record x { phase = c.args.phase } in
+    let xs = c.args.deaths.now.items in
+    let ys = c.loop-i.deaths.items in
+    let i = c.loop-i.i in
+    let d = c.index.result.now in
+    let within : i < length xs = omega arith in
     elim c.if-index-made.branch [
-      | then-index-made w ↦ let a = w.if-index-made in let b = w.index_mut in let e = w.deaths-is in ?
-      | else-index-made w ↦ let a = w.if-index-made in let e = w.deaths-is in ?
+      | then-index-made w ↦ record {
+        so_far = λ r. ap (λ v. v.items) w.deaths-is
+            ∙ changed-written q f xs ys i d w.index_mut.result.now (inv.so_far r) within (omega arith) c.index.ensures w.index_mut.ensures.value (eq-eqb d.made c.args.made w.if-index-made.true);
+        len = ap vec_len w.deaths-is ∙ inv.len;
+        capacity = ap vec_capacity w.deaths-is ∙ inv.capacity;
+      }
+      | else-index-made w ↦ record {
+        so_far = λ r. ap (λ v. v.items) w.deaths-is ∙ changed-left q f xs ys i d (inv.so_far r) within c.index.ensures (ne_eqb d.made c.args.made w.if-index-made.false);
+        len = ap vec_len w.deaths-is ∙ inv.len;
+        capacity = ap vec_capacity w.deaths-is ∙ inv.capacity;
+      }
     ]
 
 pub returns-clause-items : goal.returns-clause-items

@@ -31,6 +31,6 @@ read-next ws k d xs h =
 pub loop-w-preserved : goal.loop-w-preserved
 loop-w-preserved c = record {
   so_far = λ xs h.
-      subst (DeathsAre c.read_one.new.self) (read-next c.args.taken.now c.loop-w.w-index ? xs c.loop-w-test.true) (c.read_one.ensures.stands _ (c.loop-w.invariant.so_far xs h));
+      subst (DeathsAre c.read_one.new.self) (read-next c.args.taken.now c.loop-w.w-index _ xs c.loop-w-test.true) (c.read_one.ensures.stands _ (c.loop-w.invariant.so_far xs h));
   uses = uses-then _ _ _ c.loop-w.invariant.uses c.read_one.ensures.uses;
 }
