@@ -1,12 +1,12 @@
 -- A change that doesn't show in the keys.
-use Rattle.std.proofs.Common.{◌≡◌, ℕ, ◌==◌, ◌&&◌, Bool, List, filter, refl, ap, sym, subst, ◌∙◌}
+use Rattle.std.proofs.Common.{◌≡◌, Bool, List, refl, ap, sym, subst, ◌∙◌}
 use Rattle.std.specs.HashMap.{get}
 use Rattle.bd_space.specs.declared.space.DeathNotification.{DeathNotification}
 use Rattle.bd_space.specs.Words.{changed}
 use Rattle.bd_deaths.specs.declared.key.Key.{Key}
 use Rattle.bd_deaths.specs.declared.key.Key.TheVariants.{Name, Cookie}
 use Rattle.bd_deaths.specs.declared.table.DeathTable.{DeathTable}
-use Rattle.bd_deaths.specs.Keys.{same_key, has, shared}
+use Rattle.bd_deaths.specs.Keys.{same_key, has}
 use Rattle.bd_deaths.specs.Stands.{DeathsAre, IsRising}
 use Rattle.bd_deaths.proofs.Keys.{shared-stays}
 use Rattle.bd_deaths.proofs.Places.{rising-changed}

@@ -1,14 +1,14 @@
 -- Keys, and which notifications have one, when the list changes.
-use Rattle.std.proofs.Common.{◌≡◌, ℕ, zero, suc, ◌+◌, ◌<◌, ◌==◌, Bool, true, false, not, ◌&&◌, cond, List, [], ◌∷◌, ◌++◌, Option, Some, None, filter, length, get_or, refl, ap, sym, subst, ◌∙◌, arith}
-use Rattle.std.specs.List.{remove, list_any}
-use Rattle.std.proofs.lemmas.Bool.{eqb-true, eq-eqb, and_parts}
+use Rattle.std.proofs.Common.{◌≡◌, ℕ, zero, suc, ◌+◌, ◌<◌, ◌==◌, Bool, true, false, not, cond, List, [], ◌∷◌, ◌++◌, Option, Some, filter, length, get_or, refl, ap, sym, ◌∙◌, arith}
+use Rattle.std.specs.List.{remove}
+use Rattle.std.proofs.lemmas.Bool.{eqb-true, and_parts}
 use Rattle.std.proofs.lemmas.List.Elements.{filter-append}
 use Rattle.bd_space.specs.declared.space.DeathNotification.{DeathNotification}
 use Rattle.bd_space.specs.Words.{changed}
 use Rattle.bd_deaths.specs.declared.key.Key.{Key}
 use Rattle.bd_deaths.specs.declared.key.Key.TheVariants.{Name, Cookie}
 use Rattle.bd_deaths.specs.declared.key.Shared.{Shared}
-use Rattle.bd_deaths.specs.declared.key.Shared.TheVariants.{One, Several}
+use Rattle.bd_deaths.specs.declared.key.Shared.TheVariants.{One}
 use Rattle.bd_deaths.specs.Keys.{same_key, name_key, has, is_of, shared, with_one, left}
 
 pub cond-not : {A : Type 0} (b : Bool) (x y : A) → cond (not b) x y ≡ cond b y x

@@ -1,5 +1,5 @@
 -- What is looked for in a part of the list, outside of which nothing passes.
-use Rattle.std.proofs.Common.{◌≡◌, ℕ, zero, suc, ◌+◌, ◌≤◌, ◌<◌, ◌==◌, Bool, true, false, not, ◌&&◌, ◌||◌, cond, List, [], ◌∷◌, ◌++◌, Option, Some, None, filter, find, take, drop, length, get_or, set, is_some, ltb, MatchOption, refl, ap, sym, subst, ◌∙◌, arith}
+use Rattle.std.proofs.Common.{◌≡◌, ℕ, zero, suc, ◌+◌, ◌≤◌, ◌<◌, Bool, true, false, not, ◌&&◌, ◌||◌, cond, List, [], ◌∷◌, ◌++◌, Option, Some, None, filter, find, take, drop, length, get_or, set, is_some, ltb, MatchOption, refl, ap, sym, ◌∙◌, arith}
 use Rattle.std.specs.List.{list_any, between, position, position_or_len}
 use Rattle.std.proofs.lemmas.List.Quantifiers.{position-Some}
 use Rattle.std.proofs.lemmas.Slice.{between_is}
@@ -9,8 +9,6 @@ use Rattle.bd_space.specs.declared.space.DeathNotification.{DeathNotification}
 use Rattle.bd_space.specs.Words.{changed}
 use Rattle.bd_space.proofs.Changed.{changed-then, changed-else}
 use Rattle.bd_nodes.proofs.Found.{any-some}
-use Rattle.bd_deaths.specs.Keys.{shared}
-use Rattle.bd_deaths.specs.declared.key.Shared.{Shared}
 use Rattle.bd_deaths.specs.Stands.{IsWithin, IsPartOf}
 use Rattle.bd_deaths.proofs.Places.{find-none, changed-none, no-head, within-fewer, implies-all}
 

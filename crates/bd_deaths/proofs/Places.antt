@@ -1,15 +1,12 @@
 -- Where in the list those are that pass.
-use Rattle.std.proofs.Common.{◌≡◌, ℕ, zero, suc, ◌+◌, ◌≤◌, ◌<◌, ◌==◌, Bool, true, false, not, ◌&&◌, ◌||◌, cond, List, [], ◌∷◌, ◌++◌, Option, Some, None, filter, find, take, drop, length, get_or, ltb, refl, ap, sym, subst, ◌∙◌, arith}
-use Rattle.std.specs.List.{remove, list_any, between}
-use Rattle.std.specs.Option.{option_or}
+use Rattle.std.proofs.Common.{◌≡◌, ℕ, zero, suc, ◌+◌, ◌≤◌, ◌<◌, ◌==◌, Bool, true, false, not, ◌||◌, cond, List, [], ◌∷◌, ◌++◌, Some, None, filter, find, take, drop, length, get_or, ltb, refl, sym, subst, ◌∙◌, arith}
+use Rattle.std.specs.List.{remove, list_any}
 use Rattle.std.specs.List.Sorted.{IsPartitionedBy, IsPartitionPoint}
 use Rattle.std.proofs.lemmas.Bool.{eq-eqb, ne_eqb, ltb-true, ltb-false, lt-ltb}
-use Rattle.std.proofs.lemmas.List.{take-append-drop}
-use Rattle.std.proofs.lemmas.List.Folds.{find-append}
 use Rattle.bd_space.specs.declared.space.DeathNotification.{DeathNotification}
 use Rattle.bd_space.specs.Words.{changed}
 use Rattle.bd_space.specs.Deaths.{is_notification}
-use Rattle.bd_deaths.specs.declared.key.Shared.TheVariants.{One, Several}
+use Rattle.bd_deaths.specs.declared.key.Shared.TheVariants.{One}
 use Rattle.bd_deaths.specs.Keys.{shared}
 use Rattle.bd_deaths.specs.Stands.{IsRising, IsWithin}
 

@@ -1,5 +1,5 @@
 -- Changes that take no room, one after the other.
-use Rattle.std.proofs.Common.{◌≤◌, arith}
+use Rattle.std.proofs.Common.{arith}
 use Rattle.bd_deaths.specs.declared.table.DeathTable.{DeathTable}
 use Rattle.bd_deaths.specs.Room.{Uses}
 

@@ -41,10 +41,7 @@ fn uncleared_in(deaths: &[DeathNotification], p: u32, o: ObjectId) -> Option<Dea
 fn told_in(deaths: &[DeathNotification], p: u32, cookie: u64) -> Option<DeathNotification>
     ensures { result ≡ find (clearing.is_told_with p cookie) deaths.now }
 {
-    deaths
-        .iter()
-        .copied()
-        .find(|x| is_told(x.phase) && x.process == p && x.cookie == cookie)
+    deaths.iter().copied().find(|x| is_told(x.phase) && x.process == p && x.cookie == cookie)
 }
 
 impl DeathTable {

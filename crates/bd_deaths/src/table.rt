@@ -74,8 +74,16 @@ impl DeathTable {
         ensures uses { Uses self.old self.new 0 }
     {
         let x = self.deaths.remove(i);
-        take(&mut self.shared, name_key(x.process, x.object), &self.deaths);
-        take(&mut self.shared, Key::Cookie(x.process, x.cookie), &self.deaths);
+        take(
+            &mut self.shared,
+            name_key(x.process, x.object),
+            &self.deaths,
+        );
+        take(
+            &mut self.shared,
+            Key::Cookie(x.process, x.cookie),
+            &self.deaths,
+        );
     }
 
     /// How many there are.

@@ -1,4 +1,4 @@
-use Rattle.std.proofs.Common.{◌≡◌, ◌++◌, ◌<◌, length, rules, tests, refl, true, take, drop, ap, sym, ◌∙◌, arith, vec_len, vec_capacity}
+use Rattle.std.proofs.Common.{◌≡◌, ◌++◌, ◌<◌, length, refl, true, take, drop, ap, ◌∙◌, arith, vec_len, vec_capacity}
 use Rattle.std.proofs.lemmas.Bool.{eq-eqb, ne_eqb}
 use Rattle.bd_space.specs.Words.{changed}
 use Rattle.bd_space.specs.declared.space.DeathNotification.{DeathNotification}

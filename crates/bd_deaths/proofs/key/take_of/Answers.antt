@@ -1,4 +1,4 @@
-use Rattle.std.proofs.Common.{◌≡◌, rules, tests, not, cond, None, Option, ap, ◌∙◌}
+use Rattle.std.proofs.Common.{rules, tests, not, None, ap, ◌∙◌}
 use Rattle.std.specs.Map.{lookup}
 use Rattle.std.proofs.lemmas.Map.Made.{filter_same_pairs}
 use Rattle.std.proofs.lemmas.Map.Entries.{lookup-filter-keys}

@@ -1,6 +1,5 @@
 use Rattle.std.proofs.Common.{◌≡◌, ◌==◌, ◌∙◌, Bool, true, false, not, cond, List, [], filter, None, Option, refl, ap, sym}
 use Rattle.bd_space.specs.declared.space.DeathNotification.{DeathNotification}
-use Rattle.bd_deaths.specs.declared.key.Key.{Key}
 use Rattle.bd_deaths.specs.declared.key.Shared.{Shared}
 use Rattle.bd_deaths.specs.Keys.{has, is_of, shared}
 use Rattle.bd_deaths.proofs.Keys.{has-process}

@@ -1,4 +1,4 @@
-use Rattle.std.proofs.Common.{◌≡◌, ◌==◌, ◌&&◌, ◌||◌, not, true, false, Bool, filter, refl, ap, sym, subst, ◌∙◌}
+use Rattle.std.proofs.Common.{◌==◌, ◌||◌, not, true, false, Bool, filter, refl, ap, sym, subst, ◌∙◌}
 use Rattle.bd_space.specs.declared.space.DeathNotification.{DeathNotification}
 use Rattle.bd_space.specs.Words.{same}
 use Rattle.bd_space.specs.Deaths.{is_uncleared_on}

@@ -1,5 +1,4 @@
 use Rattle.std.proofs.Common.{◌≡◌, ◌==◌, ◌&&◌, not, Bool, true, false, is_some, refl, ap, sym, ◌∙◌}
-use Rattle.bd_space.specs.declared.space.DeathNotification.{DeathNotification}
 use Rattle.bd_space.specs.Words.{same}
 use Rattle.bd_space.specs.Deaths.{is_uncleared_on}
 use Rattle.bd_space.specs.Local.{at_name}

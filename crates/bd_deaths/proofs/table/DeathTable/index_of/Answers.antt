@@ -1,12 +1,7 @@
-use Rattle.std.proofs.Common.{◌≡◌, ◌==◌, ◌&&◌, not, false, None, Some, ap, sym, subst, ◌∙◌}
-use Rattle.std.specs.List.{between, list_any}
-use Rattle.bd_space.specs.Words.{same}
+use Rattle.std.proofs.Common.{ap, sym, ◌∙◌}
+use Rattle.std.specs.List.{between}
 use Rattle.bd_space.specs.Deaths.{is_notification}
-use Rattle.bd_deaths.specs.declared.key.Key.{Key}
-use Rattle.bd_deaths.specs.Keys.{has, name_key}
-use Rattle.bd_deaths.specs.Stands.{IsWithin}
-use Rattle.bd_deaths.proofs.Places.{within-fewer, implies-all}
-use Rattle.bd_deaths.proofs.Parts.{any-between, position-none, position-between, last-two, on-none}
+use Rattle.bd_deaths.proofs.Parts.{any-between, position-none, position-between, on-none}
 use Rattle.bd_deaths.proofs.table.DeathTable.index_of.Goals as goal
 
 pub returns-in_err-i-clause-first : goal.returns-in_err-i-clause-first

@@ -1,5 +1,5 @@
-use Rattle.std.proofs.Common.{◌≡◌, ◌==◌, ◌&&◌, not, false, None, Some, ap, sym, subst, ◌∙◌}
-use Rattle.std.specs.List.{between, list_any}
+use Rattle.std.proofs.Common.{◌==◌, not, ap, sym, subst, ◌∙◌}
+use Rattle.std.specs.List.{between}
 use Rattle.bd_space.specs.Words.{same}
 use Rattle.bd_space.specs.Deaths.{is_uncleared_on}
 use Rattle.bd_deaths.specs.declared.key.Key.{Key}

@@ -1,10 +1,9 @@
-use Rattle.std.proofs.Common.{◌≡◌, ◌++◌, ◌∷◌, [], cond, Some, Option, subst, ap, sym, ◌∙◌, arith, true}
+use Rattle.std.proofs.Common.{◌≡◌, ◌++◌, ◌∷◌, [], cond, Some, Option, subst, ap, sym, ◌∙◌}
 use Rattle.std.proofs.lemmas.Bool.{leb-true}
 use Rattle.std.specs.HashMap.{get}
 use Rattle.bd_deaths.specs.declared.key.Key.{Key}
 use Rattle.bd_deaths.specs.declared.key.Shared.{Shared}
 use Rattle.bd_deaths.specs.Keys.{same_key, with_one}
-use Rattle.bd_deaths.specs.Stands.{IsRising}
 use Rattle.bd_deaths.proofs.Keys.{keyed-push}
 use Rattle.bd_deaths.proofs.Places.{rising-push}
 use Rattle.bd_deaths.proofs.table.DeathTable.push.Goals as goal

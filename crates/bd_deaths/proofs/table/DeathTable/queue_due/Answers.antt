@@ -1,10 +1,8 @@
-use Rattle.std.proofs.Common.{◌≡◌, refl, sym, subst, ◌∙◌, ap, arith, take, length, List, get_or, ℕ, ◌+◌, ◌<◌, vec_len}
+use Rattle.std.proofs.Common.{◌≡◌, refl, sym, subst, ◌∙◌, ap, arith, take, length, List, get_or, ◌+◌, ◌<◌, vec_len}
 use Rattle.std.proofs.lemmas.List.{take_all}
 use Rattle.bd_space.specs.Words.{changed}
 use Rattle.bd_space.specs.declared.space.Object.{Object}
 use Rattle.bd_space.specs.declared.space.DeathNotification.{DeathNotification}
-use Rattle.bd_space.specs.Deaths.{is_notification}
-use Rattle.bd_nodes.specs.Stands.{NodesAre}
 use Rattle.bd_deaths.specs.Stands.{DeathsAre}
 use Rattle.bd_deaths.specs.Room.{Uses}
 use Rattle.bd_deaths.specs.declared.table.DeathTable.{DeathTable}

@@ -1,4 +1,4 @@
-use Rattle.std.proofs.Common.{◌≡◌, ◌==◌, false, refl, sym, subst, ◌∙◌}
+use Rattle.std.proofs.Common.{◌==◌, false, refl, sym, subst, ◌∙◌}
 use Rattle.bd_space.specs.declared.space.DeathNotification.{DeathNotification}
 use Rattle.bd_space.specs.declared.space.Phase.TheVariants.{Told}
 use Rattle.bd_space.specs.Words.{changed, is_some_and}

@@ -1,5 +1,4 @@
-use Rattle.std.proofs.Common.{◌≡◌, ℕ, suc, ◌<◌, length, vec_len, arith}
-use Rattle.bd_space.specs.declared.space.DeathNotification.{DeathNotification}
+use Rattle.std.proofs.Common.{◌<◌, length, arith}
 use Rattle.bd_space.specs.Deaths.{is_uncleared_on}
 use Rattle.bd_deaths.proofs.Removing.{removes-none, removes-next, removes-all}
 use Rattle.bd_deaths.proofs.Room.{uses-none, uses-then}

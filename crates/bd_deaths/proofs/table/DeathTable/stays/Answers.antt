@@ -1,5 +1,4 @@
 use Rattle.std.proofs.Common.{◌∙◌, ◌==◌, ◌&&◌, ◌||◌, not, sym}
-use Rattle.bd_space.specs.Deaths.{is_notification}
 use Rattle.bd_space.specs.Local.{at_name}
 use Rattle.bd_space.specs.declared.space.DeathNotification.{DeathNotification}
 use Rattle.bd_deaths.proofs.Parts.{any-of, any-filtered, first-of-both}

@@ -1,4 +1,4 @@
-use Rattle.std.proofs.Common.{◌∙◌, ◌==◌, ◌&&◌}
+use Rattle.std.proofs.Common.{◌∙◌, ◌==◌}
 use Rattle.bd_space.specs.Clearing.{is_told_with, is_told}
 use Rattle.bd_deaths.specs.declared.key.Key.TheVariants.{Cookie}
 use Rattle.bd_deaths.specs.Keys.{has}

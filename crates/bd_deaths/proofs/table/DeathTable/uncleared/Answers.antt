@@ -1,4 +1,4 @@
-use Rattle.std.proofs.Common.{◌∙◌, ◌==◌, ◌&&◌, not, subst}
+use Rattle.std.proofs.Common.{◌∙◌, ◌==◌, not, subst}
 use Rattle.bd_space.specs.Words.{same}
 use Rattle.bd_space.specs.Deaths.{is_uncleared_on}
 use Rattle.bd_deaths.specs.declared.key.Key.{Key}
