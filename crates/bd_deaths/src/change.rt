@@ -64,7 +64,7 @@ fn first_made(deaths: &[DeathNotification], made: u32) -> Option<usize>
 
 impl DeathTable {
     ghost use Rattle.bd_deaths.specs.Stands.{DeathsAre};
-    ghost use Rattle.bd_deaths.specs.Room.{Uses};
+    ghost use Rattle.bd_deaths.specs.Room.{Uses, death_count};
 
     /// Marks the notification as cleared.
     #[tactic(auto, unfolding(crate::specs::Room::death_room, crate::specs::Room::death_count))]
@@ -83,7 +83,7 @@ impl DeathTable {
         ensures stands { (l : List declared.DeathNotification) → DeathsAre self.old l
             → DeathsAre self.new (changed (deaths_of.is_notification made) (λ x. record x { phase = phase }) l) }
         ensures uses { Uses self.old self.new 0 }
-        ensures len { vec_len self.new.deaths ≡ vec_len self.old.deaths }
+        ensures count { death_count self.new ≡ death_count self.old }
     {
         let range = self.made_range(made);
         set_phase(&mut self.deaths, range, made, phase);

@@ -4,7 +4,7 @@ use Rattle.bd_space.specs.Words.{changed}
 use Rattle.bd_space.specs.declared.space.Object.{Object}
 use Rattle.bd_space.specs.declared.space.DeathNotification.{DeathNotification}
 use Rattle.bd_deaths.specs.Stands.{DeathsAre}
-use Rattle.bd_deaths.specs.Room.{Uses}
+use Rattle.bd_deaths.specs.Room.{Uses, death_count}
 use Rattle.bd_deaths.specs.declared.table.DeathTable.{DeathTable}
 use Rattle.bd_deaths.proofs.Telling.{told_by, queued, told-then, told-else, told-none}
 use Rattle.bd_deaths.proofs.Room.{uses-none, uses-then}
@@ -27,6 +27,7 @@ at : (c : goal.Joined-is_due) (objects : List Object) (xs : List DeathNotificati
 at c objects xs stood = c.index.ensures ∙ ap (λ ds. get_or ds c.loop-k.k c.index.result.now) stood.items_are
 
 pub loop-k-preserved : goal.loop-k-preserved
+unfolding death_count
 loop-k-preserved c =
     let inv = c.loop-k.invariant in
     elim c.if-is_due.branch [
@@ -36,7 +37,7 @@ loop-k-preserved c =
             subst (λ t. DeathsAre t (changed (told_by objects c.args.p (take (c.loop-k.k + 1) xs)) (queued objects c.args.p) xs)) (sym w.self-is)
             (subst (DeathsAre w.set_phase.new.self) (told-then objects c.args.p xs _ _ c.loop-k.k _ _ (within c xs h) refl (at c objects xs stood) (sym (c.is_due.ensures objects n) ∙ w.if-is_due.true) refl)
             (w.set_phase.ensures.stands _ stood));
-        len = ap (λ (t : DeathTable). vec_len t.deaths) w.self-is ∙ w.set_phase.ensures.len ∙ inv.len;
+        len = ap (λ (t : DeathTable). vec_len t.deaths) w.self-is ∙ w.set_phase.ensures.count ∙ inv.len;
         uses = subst (λ t. Uses c.args.self.now t 0) (sym w.self-is) (uses-then _ _ _ inv.uses w.set_phase.ensures.uses);
       }
       | else-is_due w ↦ record {
