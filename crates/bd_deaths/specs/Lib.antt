@@ -1,3 +1,4 @@
 pub mod Stands
 pub mod Room
 pub mod Due
+pub mod Keys

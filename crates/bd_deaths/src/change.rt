@@ -1,79 +1,70 @@
 //! Changes of one notification, and of those that are read.
 
-ghost use Rattle.std.specs.Prelude.{◌≡◌, ◌==◌, ◌≤◌, not, filter, vec_len, vec_capacity, List, true};
+ghost use Rattle.std.specs.Prelude.{◌≡◌, ◌==◌, ◌≤◌, ◌<◌, not, filter, vec_len, vec_capacity, length, position, Option, List, true, false, IfSome, MatchOption, slice_index_or};
+ghost use Rattle.std.specs.List.{list_any};
 ghost use Rattle.bd_space.specs.Words.{changed, is_some_and};
 ghost use Rattle.bd_space.specs.Deaths as deaths_of;
 ghost use Rattle.bd_space.specs.Todo.{death_of};
 ghost use Rattle.bd_space.specs.ReadItems as reading;
+ghost use Rattle.bd_space.specs.declared.space.Phase.TheVariants.{Told};
 ghost use Rattle.bd_space.specs.declared.space.DeathNotification as declared;
+ghost use Rattle.bd_deaths.specs.Stands.{IsWithin};
 
+use crate::place::part;
 use crate::table::DeathTable;
 use bd_space::{DeathNotification, Phase, Work, WorkKind};
+use std::ops::Range;
 
-fn drop_death(deaths: &mut Vec<DeathNotification>, made: u32)
-    ensures items { deaths.new.items ≡ filter (λ x. not (deaths_of.is_notification made x)) deaths.old.items }
-    ensures len { vec_len deaths.new ≤ vec_len deaths.old }
-    ensures capacity { vec_capacity deaths.new ≡ vec_capacity deaths.old }
-{
-    deaths.retain(|x| x.made != made);
-}
-
-fn mark(deaths: &mut Vec<DeathNotification>, made: u32)
-    ensures items { deaths.new.items
+fn mark(deaths: &mut Vec<DeathNotification>, range: Range<usize>, made: u32)
+    requires from { range.start ≤ range.end }
+    requires to { range.end ≤ vec_len deaths.old }
+    ensures items { IsWithin (deaths_of.is_notification made) range.start range.end deaths.old.items → deaths.new.items
         ≡ changed (deaths_of.is_notification made) (λ x. record x { cleared = true }) deaths.old.items }
     ensures len { vec_len deaths.new ≡ vec_len deaths.old }
     ensures capacity { vec_capacity deaths.new ≡ vec_capacity deaths.old }
 {
-    for x in deaths.iter_mut() {
-        if x.made == made {
-            x.cleared = true;
+    for i in range.start..range.end {
+        if deaths[i].made == made {
+            deaths[i].cleared = true;
         }
     }
 }
 
-pub(crate) fn set_phase(deaths: &mut Vec<DeathNotification>, made: u32, phase: Phase)
-    ensures items { deaths.new.items
+fn set_phase(deaths: &mut Vec<DeathNotification>, range: Range<usize>, made: u32, phase: Phase)
+    requires from { range.start ≤ range.end }
+    requires to { range.end ≤ vec_len deaths.old }
+    ensures items { IsWithin (deaths_of.is_notification made) range.start range.end deaths.old.items → deaths.new.items
         ≡ changed (deaths_of.is_notification made) (λ x. record x { phase = phase }) deaths.old.items }
     ensures len { vec_len deaths.new ≡ vec_len deaths.old }
     ensures capacity { vec_capacity deaths.new ≡ vec_capacity deaths.old }
 {
-    for x in deaths.iter_mut() {
-        if x.made == made {
-            x.phase = phase;
+    for i in range.start..range.end {
+        if deaths[i].made == made {
+            deaths[i].phase = phase;
         }
     }
 }
 
-fn is_death_of(w: &Work, made: u32) -> bool
-    ensures { result ≡ is_some_and (death_of w.now.kind) (λ n. n == made) }
+/// The notification that the item is of.
+fn death_of(kind: WorkKind) -> Option<u32>
+    ensures { result ≡ death_of kind }
 {
-    match w.kind {
-        WorkKind::Death(n) => n == made,
-        _ => false,
+    match kind {
+        WorkKind::Death(made) => Some(made),
+        _ => None,
     }
 }
 
-fn is_told_of_death(taken: &[Work], x: &DeathNotification) -> bool
-    ensures { result ≡ reading.is_told_of_death taken.now x.now }
+fn first_made(deaths: &[DeathNotification], made: u32) -> Option<usize>
+    ensures first { result ≡ position (deaths_of.is_notification made) deaths.now }
+    ensures within { IfSome result (λ i. i < length deaths.now) }
 {
-    taken.iter().any(|w| is_death_of(w, x.made))
-}
-
-fn mark_told(deaths: &mut Vec<DeathNotification>, taken: &[Work])
-    ensures items { deaths.new.items ≡ reading.told_deaths taken.now deaths.old.items }
-    ensures len { vec_len deaths.new ≡ vec_len deaths.old }
-    ensures capacity { vec_capacity deaths.new ≡ vec_capacity deaths.old }
-{
-    for x in deaths.iter_mut() {
-        if is_told_of_death(taken, x) {
-            x.phase = Phase::Told;
-        }
-    }
+    deaths.iter().position(|x| x.made == made)
 }
 
 impl DeathTable {
     ghost use Rattle.bd_deaths.specs.Stands.{DeathsAre};
-    ghost use Rattle.bd_deaths.specs.Room.{Uses};
+    ghost use Rattle.bd_deaths.specs.Room.{Uses, death_count};
 
     /// Marks the notification as cleared.
     #[tactic(auto, unfolding(crate::specs::Room::death_room, crate::specs::Room::death_count))]
@@ -82,7 +73,8 @@ impl DeathTable {
             → DeathsAre self.new (changed (deaths_of.is_notification made) (λ x. record x { cleared = true }) l) }
         ensures uses { Uses self.old self.new 0 }
     {
-        mark(&mut self.deaths, made);
+        let range = self.made_range(made);
+        mark(&mut self.deaths, range, made);
     }
 
     /// The notification is this far.
@@ -91,8 +83,23 @@ impl DeathTable {
         ensures stands { (l : List declared.DeathNotification) → DeathsAre self.old l
             → DeathsAre self.new (changed (deaths_of.is_notification made) (λ x. record x { phase = phase }) l) }
         ensures uses { Uses self.old self.new 0 }
+        ensures count { death_count self.new ≡ death_count self.old }
     {
-        set_phase(&mut self.deaths, made, phase);
+        let range = self.made_range(made);
+        set_phase(&mut self.deaths, range, made, phase);
+    }
+
+    // The index of the first notification of this place.
+    fn index_of(&self, made: u32) -> Option<usize>
+        ensures within { IfSome result (λ i. i < vec_len self.now.deaths) }
+        ensures first { (l : List declared.DeathNotification) → DeathsAre self.now l
+            → MatchOption result (list_any (deaths_of.is_notification made) l ≡ false)
+            (λ i. (d : declared.DeathNotification) → deaths_of.is_notification made (slice_index_or l i d) ≡ true) }
+    {
+        let range = self.made_range(made);
+        let start = range.start;
+        let i = first_made(part(&self.deaths, range), made)?;
+        Some(start + i)
     }
 
     /// The notification goes.
@@ -102,16 +109,32 @@ impl DeathTable {
             → DeathsAre self.new (filter (λ x. not (deaths_of.is_notification made x)) l) }
         ensures uses { Uses self.old self.new 0 }
     {
-        drop_death(&mut self.deaths, made);
+        while let Some(i) = self.index_of(made) {
+            self.remove_at(i);
+        }
+    }
+
+    // What the item told of is told.
+    #[tactic(auto, unfolding(crate::specs::Room::death_room, crate::specs::Room::death_count))]
+    fn read_one(&mut self, kind: WorkKind)
+        ensures stands { (l : List declared.DeathNotification) → DeathsAre self.old l → DeathsAre self.new
+            (changed (λ x. is_some_and (death_of kind) (λ n. n == x.made)) (λ x. record x { phase = Told }) l) }
+        ensures uses { Uses self.old self.new 0 }
+    {
+        match death_of(kind) {
+            Some(made) => self.set_phase(made, Phase::Told),
+            None => {}
+        }
     }
 
     /// The notifications of which these work items told are told.
-    #[tactic(auto, unfolding(crate::specs::Room::death_room, crate::specs::Room::death_count))]
     pub fn read(&mut self, taken: &[Work])
         ensures stands { (l : List declared.DeathNotification) → DeathsAre self.old l
             → DeathsAre self.new (reading.told_deaths taken.now l) }
         ensures uses { Uses self.old self.new 0 }
     {
-        mark_told(&mut self.deaths, taken);
+        for w in taken {
+            self.read_one(w.kind);
+        }
     }
 }

@@ -9,7 +9,7 @@ ghost use Rattle.bd_space.specs.declared.space.DeathNotification as declared;
 ghost use Rattle.bd_nodes.specs.Stands.{NodesAre};
 ghost use Rattle.bd_deaths.specs.Due as due;
 
-use crate::change::set_phase;
+use crate::key::take_of;
 use crate::table::DeathTable;
 use bd_nodes::NodeTable;
 use bd_space::{DeathNotification, Phase};
@@ -25,22 +25,6 @@ pub fn is_due(nodes: &NodeTable, p: u32, x: &DeathNotification) -> bool
     ensures { (objects : List Object) → NodesAre nodes.now objects → result ≡ due.is_due objects p x.now }
 {
     is_armed(x.phase) && nodes.owns(p, x.object)
-}
-
-/// Queues the notifications with the name of one by which the end of the process is to be told.
-fn queue_due(deaths: &mut Vec<DeathNotification>, nodes: &NodeTable, p: u32)
-    ensures items { (objects : List Object) → NodesAre nodes.now objects → deaths.new.items
-        ≡ changed (due.is_queued_in deaths.old.items objects p)
-        (λ x. record x { phase = Queued }) deaths.old.items }
-    ensures len { vec_len deaths.new ≡ vec_len deaths.old }
-    ensures capacity { vec_capacity deaths.new ≡ vec_capacity deaths.old }
-{
-    for k in 0..deaths.len() {
-        let x = deaths[k];
-        if is_due(nodes, p, &x) {
-            set_phase(deaths, x.made, Phase::Queued);
-        }
-    }
 }
 
 fn drop_deaths_of(deaths: &mut Vec<DeathNotification>, p: u32)
@@ -63,7 +47,12 @@ impl DeathTable {
             (changed (due.is_queued_in l objects p) (λ x. record x { phase = Queued }) l) }
         ensures uses { Uses self.old self.new 0 }
     {
-        queue_due(&mut self.deaths, nodes, p);
+        for k in 0..self.deaths.len() {
+            let x = self.deaths[k];
+            if is_due(nodes, p, &x) {
+                self.set_phase(x.made, Phase::Queued);
+            }
+        }
     }
 
     /// The notifications of the process go.
@@ -74,5 +63,6 @@ impl DeathTable {
         ensures uses { Uses self.old self.new 0 }
     {
         drop_deaths_of(&mut self.deaths, p);
+        take_of(&mut self.shared, p);
     }
 }

@@ -3,8 +3,10 @@
 
 mod change;
 mod end;
+mod key;
 mod look;
 mod name;
+mod place;
 mod table;
 
 pub use end::is_due;

@@ -6,6 +6,7 @@ ghost use Rattle.bd_space.specs.Deaths as deaths_of;
 ghost use Rattle.bd_space.specs.Clearing as clearing;
 ghost use Rattle.bd_space.specs.declared.space.DeathNotification as declared;
 
+use crate::key::{Key, name_key};
 use crate::table::DeathTable;
 use bd_space::{DeathNotification, ObjectId, Phase};
 
@@ -51,7 +52,7 @@ impl DeathTable {
         ensures { (l : List declared.DeathNotification) → DeathsAre self.now l
             → result ≡ find (deaths_of.is_notification made) l }
     {
-        death_in(&self.deaths, made)
+        death_in(self.made_part(made), made)
     }
 
     /// The uncleared notification on the process's name of the object.
@@ -59,7 +60,7 @@ impl DeathTable {
         ensures { (l : List declared.DeathNotification) → DeathsAre self.now l
             → result ≡ deaths_of.uncleared_in l p o }
     {
-        uncleared_in(&self.deaths, p, o)
+        uncleared_in(self.key_part(name_key(p, o)), p, o)
     }
 
     /// The least told notification of the process with this cookie.
@@ -67,6 +68,6 @@ impl DeathTable {
         ensures { (l : List declared.DeathNotification) → DeathsAre self.now l
             → result ≡ find (clearing.is_told_with p cookie) l }
     {
-        told_in(&self.deaths, p, cookie)
+        told_in(self.key_part(Key::Cookie(p, cookie)), p, cookie)
     }
 }

@@ -1,11 +1,14 @@
 //! What is on a process's name of an object, and goes with the name.
 
-ghost use Rattle.std.specs.Prelude.{◌≡◌, ◌==◌, ◌≤◌, ◌&&◌, ◌||◌, not, filter, vec_len, vec_capacity, List};
+ghost use Rattle.std.specs.Prelude.{◌≡◌, ◌==◌, ◌<◌, ◌&&◌, ◌||◌, not, filter, false, true, vec_len, length, position, Option, List, IfSome, MatchOption, slice_index_or};
 ghost use Rattle.std.specs.List.{list_any};
+ghost use Rattle.bd_space.specs.Deaths as deaths_of;
 ghost use Rattle.bd_space.specs.Local as local;
 ghost use Rattle.bd_space.specs.declared.space.DeathNotification as declared;
 
+use crate::key::name_key;
 use crate::look::same;
+use crate::place::part;
 use crate::table::DeathTable;
 use bd_space::{DeathNotification, ObjectId};
 
@@ -16,33 +19,11 @@ fn is_at(p: u32, o: ObjectId, x: &DeathNotification) -> bool
     x.process == p && same(x.object, o)
 }
 
-/// Whether it is on this name, and uncleared: it goes with the name.
-fn is_uncleared_at(p: u32, o: ObjectId, x: &DeathNotification) -> bool
-    ensures { result ≡ (local.at_name p o x.now.process x.now.object && not x.now.cleared) }
-{
-    is_at(p, o, x) && !x.cleared
-}
-
-fn has_uncleared_at(deaths: &[DeathNotification], p: u32, o: ObjectId) -> bool
-    ensures { result ≡ list_any (λ x. local.at_name p o x.process x.object && not x.cleared) deaths.now }
-{
-    deaths.iter().any(|x| is_uncleared_at(p, o, x))
-}
-
 /// Whether the notification stays, where the name is there or not.
 fn stays_at(named: bool, p: u32, o: ObjectId, x: &DeathNotification) -> bool
     ensures { result ≡ (not (local.at_name p o x.now.process x.now.object) || (x.now.cleared || named)) }
 {
     !is_at(p, o, x) || x.cleared || named
-}
-
-fn keep_deaths_at(deaths: &mut Vec<DeathNotification>, named: bool, p: u32, o: ObjectId)
-    ensures items { deaths.new.items ≡ filter
-        (λ x. not (local.at_name p o x.process x.object) || (x.cleared || named)) deaths.old.items }
-    ensures capacity { vec_capacity deaths.new ≡ vec_capacity deaths.old }
-    ensures len { vec_len deaths.new ≤ vec_len deaths.old }
-{
-    deaths.retain(|x| stays_at(named, p, o, x));
 }
 
 fn is_death_at(deaths: &[DeathNotification], p: u32, o: ObjectId, made: u32) -> bool
@@ -52,13 +33,21 @@ fn is_death_at(deaths: &[DeathNotification], p: u32, o: ObjectId, made: u32) -> 
 }
 
 fn death_stays(deaths: &[DeathNotification], named: bool, p: u32, o: ObjectId, made: u32) -> bool
-    ensures { result ≡ list_any (λ x. x.made == made)
-        (filter (λ x. not (local.at_name p o x.process x.object) || (x.cleared || named)) deaths.now) }
+    ensures { result ≡ list_any (λ x. (x.made == made)
+        && (not (local.at_name p o x.process x.object) || (x.cleared || named))) deaths.now }
 {
     deaths
         .iter()
-        .filter(|x| stays_at(named, p, o, x))
-        .any(|x| x.made == made)
+        .any(|x| x.made == made && stays_at(named, p, o, x))
+}
+
+fn first_uncleared(deaths: &[DeathNotification], p: u32, o: ObjectId) -> Option<usize>
+    ensures first { result ≡ position (deaths_of.is_uncleared_on p o) deaths.now }
+    ensures within { IfSome result (λ i. i < length deaths.now) }
+{
+    deaths
+        .iter()
+        .position(|x| !x.cleared && x.process == p && same(x.object, o))
 }
 
 impl DeathTable {
@@ -70,7 +59,7 @@ impl DeathTable {
         ensures { (l : List declared.DeathNotification) → DeathsAre self.now l
             → result ≡ list_any (λ x. local.at_name p o x.process x.object && not x.cleared) l }
     {
-        has_uncleared_at(&self.deaths, p, o)
+        self.uncleared(p, o).is_some()
     }
 
     /// Whether the notification that was made there is on the name.
@@ -78,7 +67,7 @@ impl DeathTable {
         ensures { (l : List declared.DeathNotification) → DeathsAre self.now l
             → result ≡ list_any (λ x. (x.made == made) && local.at_name p o x.process x.object) l }
     {
-        is_death_at(&self.deaths, p, o, made)
+        is_death_at(self.made_part(made), p, o, made)
     }
 
     /// Whether the notification that was made there stays, where the name is there or not.
@@ -87,7 +76,32 @@ impl DeathTable {
             → result ≡ list_any (λ x. x.made == made)
             (filter (λ x. not (local.at_name p o x.process x.object) || (x.cleared || named)) l) }
     {
-        death_stays(&self.deaths, named, p, o, made)
+        death_stays(self.made_part(made), named, p, o, made)
+    }
+
+    // The index of the first uncleared notification on the name.
+    fn index_of_uncleared(&self, p: u32, o: ObjectId) -> Option<usize>
+        ensures within { IfSome result (λ i. i < vec_len self.now.deaths) }
+        ensures first { (l : List declared.DeathNotification) → DeathsAre self.now l
+            → MatchOption result (list_any (deaths_of.is_uncleared_on p o) l ≡ false)
+            (λ i. (d : declared.DeathNotification) → deaths_of.is_uncleared_on p o (slice_index_or l i d) ≡ true) }
+    {
+        let range = self.key_range(name_key(p, o));
+        let start = range.start;
+        let i = first_uncleared(part(&self.deaths, range), p, o)?;
+        Some(start + i)
+    }
+
+    // The uncleared notifications on the name go.
+    #[tactic(auto, unfolding(crate::specs::Room::death_room, crate::specs::Room::death_count))]
+    fn remove_uncleared(&mut self, p: u32, o: ObjectId)
+        ensures stands { (l : List declared.DeathNotification) → DeathsAre self.old l → DeathsAre self.new
+            (filter (λ x. not (deaths_of.is_uncleared_on p o x)) l) }
+        ensures uses { Uses self.old self.new 0 }
+    {
+        while let Some(i) = self.index_of_uncleared(p, o) {
+            self.remove_at(i);
+        }
     }
 
     /// The uncleared notifications on the name go, unless the name is there.
@@ -97,6 +111,8 @@ impl DeathTable {
             (filter (λ x. not (local.at_name p o x.process x.object) || (x.cleared || named)) l) }
         ensures uses { Uses self.old self.new 0 }
     {
-        keep_deaths_at(&mut self.deaths, named, p, o);
+        if !named {
+            self.remove_uncleared(p, o);
+        }
     }
 }

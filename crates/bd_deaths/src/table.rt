@@ -1,15 +1,23 @@
 //! The table, and its memory.
 
-ghost use Rattle.std.specs.Prelude.{◌≡◌, ◌≤◌, ◌++◌, ◌∷◌, [], List, OnOk, OnErr, length, slice_get};
+ghost use Rattle.std.specs.Prelude.{◌≡◌, ◌≤◌, ◌<◌, ◌+◌, ◌++◌, ◌∷◌, [], List, OnOk, OnErr, length, slice_get, vec_len};
+ghost use Rattle.std.specs.List.{remove as list_remove};
 ghost use Rattle.bd_space.specs.declared.space.DeathNotification as declared;
 
+use crate::key::{Key, Shared, add, name_key, take};
 use bd_space::DeathNotification;
 use std::alloc::{AllocError, Global};
+use std::collections::HashMap;
 
-/// The death notifications of all processes, in the order in which they were made.
+/// The death notifications of all processes.
 #[derive(Drop)]
 pub struct DeathTable {
     pub(crate) deaths: Vec<DeathNotification>,
+    // Whether each was made after the one before, so that a place is found by halves.
+    pub(crate) in_order: bool,
+    // The place after the latest, while they are in order.
+    pub(crate) end: u64,
+    pub(crate) shared: HashMap<Key, Shared>,
 }
 
 impl DeathTable {
@@ -22,6 +30,9 @@ impl DeathTable {
     {
         DeathTable {
             deaths: Vec::new(alloc),
+            in_order: true,
+            end: 0,
+            shared: HashMap::new(alloc),
         }
     }
 
@@ -34,7 +45,8 @@ impl DeathTable {
         // Memory was asked for: there was no room.
         ensures grown { OnErr result (more ≤ death_room self.old → ⊥) }
     {
-        self.deaths.reserve(more)
+        self.deaths.reserve(more)?;
+        self.shared.reserve(more * 2)
     }
 
     /// One notification more, after the others.
@@ -45,7 +57,33 @@ impl DeathTable {
             → DeathsAre self.new (l ++ x ∷ []) }
         ensures uses { Uses self.old self.new 1 }
     {
+        self.in_order = self.in_order && self.end <= x.made as u64;
+        self.end = x.made as u64 + 1;
+        add(&mut self.shared, name_key(x.process, x.object), x.made);
+        add(&mut self.shared, Key::Cookie(x.process, x.cookie), x.made);
         self.deaths.push_reserved(x);
+    }
+
+    /// The notification of this index goes.
+    #[tactic(auto, unfolding(crate::specs::Room::death_room, crate::specs::Room::death_count))]
+    pub(crate) fn remove_at(&mut self, i: usize)
+        requires { i < vec_len self.old.deaths }
+        ensures stands { (l : List declared.DeathNotification) → DeathsAre self.old l
+            → DeathsAre self.new (list_remove l i) }
+        ensures len { vec_len self.new.deaths + 1 ≡ vec_len self.old.deaths }
+        ensures uses { Uses self.old self.new 0 }
+    {
+        let x = self.deaths.remove(i);
+        take(
+            &mut self.shared,
+            name_key(x.process, x.object),
+            &self.deaths,
+        );
+        take(
+            &mut self.shared,
+            Key::Cookie(x.process, x.cookie),
+            &self.deaths,
+        );
     }
 
     /// How many there are.

@@ -1,0 +1,11 @@
+use Rattle.std.proofs.Common.{◌∙◌, ◌==◌, ◌&&◌, ◌||◌, not, sym}
+use Rattle.bd_space.specs.Local.{at_name}
+use Rattle.bd_space.specs.declared.space.DeathNotification.{DeathNotification}
+use Rattle.bd_deaths.proofs.Parts.{any-of, any-filtered, first-of-both}
+use Rattle.bd_deaths.proofs.table.DeathTable.stays.Goals as goal
+
+pub returns : goal.returns
+returns c = λ l h.
+    let made = λ (x : DeathNotification). x.made == c.args.made in
+    let stays = λ (x : DeathNotification). not (at_name c.args.p c.args.o x.process x.object) || (x.cleared || c.args.named) in
+    c.death_stays.ensures ∙ any-of (λ x. made x && stays x) made _ l (λ x e. first-of-both (made x) _ e) (c.made_part.ensures l h) ∙ sym (any-filtered made stays l)
