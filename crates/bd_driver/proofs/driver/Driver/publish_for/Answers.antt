@@ -3,7 +3,7 @@ use Rattle.atomic_table.specs.Table.{rest}
 use Rattle.bd_driver.specs.Views.{ready_of, view_of}
 use Rattle.bd_driver.specs.Words.{page_word}
 use Rattle.bd_driver.specs.declared.slot.Slot.TheVariants.{Home, Empty}
-use Rattle.bd_driver.specs.Steps.{Hands}
+use Rattle.bd_driver.specs.Steps.{Hands, served_at}
 use Rattle.bd_driver.proofs.OwnMailbox.{refill, first_held}
 use Rattle.bd_driver.proofs.Serves.{serves_at, after_serve}
 use Rattle.bd_driver.proofs.driver.Driver.publish_for.Goals as goal
@@ -28,3 +28,11 @@ exchange-requires-2 c =
     let held = refill c.args.table_seat.now.me c.exchange.new.seat.me v _ (c.args.number + 1) Empty (Home e) r.held c.exchange.ensures.3 in
     let is = ap (λ (m : Hands). m.1) (after_serve _ _ v (rest c.args.table_seat.now.me.1) _ e _ held c.swap.ensures.2.1) in
     (search rules, (Home e, first_held _ _ (c.args.number + 1) (Home e) is))
+
+pub returns-clause-view : goal.returns-clause-view
+returns-clause-view c =
+    let e = c.args.engine in
+    let v = view_of c.args.table_seat.now.me.0 in
+    let held = refill c.args.table_seat.now.me c.exchange.new.seat.me v _ (c.args.number + 1) Empty (Home e) c.requires.held c.exchange.ensures.3 in
+    let then = after_serve _ _ v (rest c.args.table_seat.now.me.1) _ e _ held c.swap.ensures.2.1 in
+    (c.swap.result, refill c.swap.new.seat.me c.exchange-2.new.seat.me (served_at v c.swap.result e.entries) _ (c.args.number + 1) (Home e) Empty then c.exchange-2.ensures.3)
