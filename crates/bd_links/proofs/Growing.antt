@@ -12,6 +12,7 @@ use Rattle.bd_links.specs.Queues.{no_work, work_in, is_used, used, Queued}
 use Rattle.bd_links.specs.Shown.{ShowsAt}
 use Rattle.bd_links.proofs.RingLemmas.{apart_from, Off-append, Off-left, Off-right, Distinct-right, Distinct-across, Distinct-back, In-right, In-left, In-snoc, Below-at, Below-left, next_kept, prev_kept}
 use Rattle.bd_links.proofs.Moves.{on_ring, Off-filter, Off-failed, Below-filter, filter_agree, filter-append, Below-append, Below-right, Distinct-filter, filter_filter, In-filter, In-from_filter, without_off, without_gone, Cut, cut_at, node_of, ring_below, ring_distinct, detached, attached}
+use Rattle.bd_links.proofs.Plain.{none_some}
 use Rattle.bd_links.proofs.QueueLemmas.{map_agree, first_in, same_list-eq, same_list-refl}
 
 -- ---- a node more, in no ring
@@ -318,18 +319,15 @@ module _ (N P R : List ℕ) (W : List Work) (H : TodoList → Option ℕ) (f : �
       listed y k u true e = absurd (not_on y k (let same : Some (get_or R y 0) ≡ Some s = sym (q.listed y k u) ∙ ap H (sym (same_list-eq l (work_in W y).list e)) ∙ found in cc))
       listed y k u false e = now (work_in W y).list ∙ ap (λ b. cond {A = Option ℕ} b None (H (work_in W y).list)) e ∙ q.listed y k u
 
-      clash : (g : ℕ) → None ≡ Some g → ⊥
-      clash g d = cc
-
       was : (m : TodoList) (g : ℕ) → H' m ≡ Some g → H m ≡ Some g
       was m g e = at (same_list l m) (sym (now m) ∙ e)
         where
           at : (b : Bool) → cond {A = Option ℕ} b None (H m) ≡ Some g → H m ≡ Some g
-          at true k = absurd (clash g k)
+          at true k = absurd (none_some g k)
           at false k = k
 
       of_head : (m : TodoList) (g : ℕ) (b : Bool) → same_list l m ≡ b → H' m ≡ Some g → In g (without s h.heads)
-      of_head m g true e k = absurd (clash g (sym (now m ∙ ap (λ b. cond {A = Option ℕ} b None (H m)) e) ∙ k))
+      of_head m g true e k = absurd (none_some g (sym (now m ∙ ap (λ b. cond {A = Option ℕ} b None (H m)) e) ∙ k))
       of_head m g false e k = In-filter g (λ z. not (z == s)) h.heads (q.headed m g (was m g k)) (ap not (ne_eqb g s far))
         where
           far : g ≢ s

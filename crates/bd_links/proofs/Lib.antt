@@ -1,5 +1,6 @@
 pub mod Fits
 pub mod Plain
+pub mod Columns
 pub mod RingLemmas
 pub mod ListKeys
 pub mod Moves

@@ -14,6 +14,7 @@ use Rattle.bd_links.specs.Heads.{head_at}
 use Rattle.bd_links.specs.Moved.{cut_next, cut_prev, moved_next, moved_prev, moved_order}
 use Rattle.bd_links.specs.QueuesStand.{Empty, Shows, Stands, FrontIn}
 use Rattle.bd_links.proofs.OnList.{any_none, any_left}
+use Rattle.bd_links.proofs.Plain.{none_some}
 use Rattle.bd_links.proofs.QueueLemmas.{push_shows, front_shows, ring_empty, queue_is}
 use Rattle.bd_links.proofs.Growing.{begun, freed, lengthened, head_listed, unheaded, free_less, zero_added}
 use Rattle.bd_links.proofs.RingLemmas.{Below-at, In-left}
@@ -43,11 +44,8 @@ pub front_stands : (t : Queues) (todo : List Work) (x s : ℕ) (l : TodoList) �
     → FrontIn t todo l x × (true ≡ list_any (is_on l) todo)
 front_stands t todo x s l h is found far = of h.either
   where
-    clash : None ≡ Some s → ⊥
-    clash d = cc
-
     of : Empty t todo ⊎ ((order : List ℕ) × Shows t todo order) → FrontIn t todo l x × (true ≡ list_any (is_on l) todo)
-    of (inl e) = absurd (clash (sym (e.no_lists l) ∙ found))
+    of (inl e) = absurd (none_some s (sym (e.no_lists l) ∙ found))
     of (inr k) =
         let f = front_shows (nexts t.nodes.items) (prevs t.nodes.items) (rows t.nodes.items) (works t.nodes.items) (head_at t.lists) t.free todo k.0 k.1 x s l is found far in
         ((k.0, k.1, f.0, f.1), sym f.2)
@@ -76,17 +74,14 @@ begin_stands t u todo n h none p x r ns ls fr = record { either = of h.either }
           works = refl;
           listed = λ y k u. elim k [ ];
           todo_are = e.none;
-          headed = λ l g k. absurd (unlisted g (sym (e.no_lists l) ∙ k));
-          one_list = λ l m g k i. absurd (unlisted g (sym (e.no_lists l) ∙ k));
+          headed = λ l g k. absurd (none_some g (sym (e.no_lists l) ∙ k));
+          one_list = λ l m g k i. absurd (none_some g (sym (e.no_lists l) ∙ k));
         };
         free = let f = e.none_free in omega (arith, fr, f);
         covered = λ y u. absurd (unused y u);
       }),
     )
       where
-        unlisted : (g : ℕ) → None ≡ Some g → ⊥
-        unlisted g d = cc
-
         unused : (y : ℕ) → not (get_or (0 ∷ []) y 0 == 0) ≡ true → ⊥
         unused y u = let none : not (get_or (0 ∷ []) y 0 == 0) ≡ false = ap (λ r. not (r == 0)) (zero_added [] y) ∙ ap not (eq-eqb 0 0 refl) in cc
     of (inr k) = let low = k.1.queued.rings.within.0 in let l = ap length none in let m = length-map t.nodes.items (λ (n : Node). n.next) in absurd (omega (arith, low, l, m))
@@ -139,11 +134,8 @@ pub give_stands : (t u : Queues) (todo : List Work) (s : ℕ) (l : TodoList) →
     → ((m : TodoList) → head_at u.lists m ≡ cond (same_list l m) None (head_at t.lists m)) → u.free ≤ t.free + 1 → Stands u todo
 give_stands t u todo s l h found none nn pp rr ww ls fr = record { either = of h.either }
   where
-    clash : None ≡ Some s → ⊥
-    clash d = cc
-
     of : Empty t todo ⊎ ((order : List ℕ) × Shows t todo order) → Empty u todo ⊎ ((order : List ℕ) × Shows u todo order)
-    of (inl e) = absurd (clash (sym (e.no_lists l) ∙ found))
+    of (inl e) = absurd (none_some s (sym (e.no_lists l) ∙ found))
     of (inr k) =
         let ns = t.nodes.items in
         let q = k.1.queued in

@@ -13,6 +13,7 @@ use Rattle.bd_links.specs.Heads.{head_at}
 use Rattle.bd_links.specs.QueuesStand.{Empty, Shows, Stands}
 use Rattle.bd_links.specs.Rings.{Off, Below, Path, ring}
 use Rattle.bd_links.proofs.Moves.{ring_distinct, ring_below}
+use Rattle.bd_links.proofs.Plain.{none_some}
 use Rattle.bd_links.proofs.QueueLemmas.{queue_is, unlisted}
 use Rattle.bd_links.proofs.Growing.{pigeons}
 use Rattle.bd_links.specs.Walk.{walk, works_from}
@@ -31,11 +32,8 @@ pub works_are : (t : Queues) (todo : List Work) (l : TodoList) (h : ℕ) → Sta
     → works_from t.nodes.items h (get_or (nexts t.nodes.items) h 0) (length t.nodes.items) ≡ filter (is_on l) todo
 works_are t todo l h stands found = of stands.either
   where
-    clash : None ≡ Some h → ⊥
-    clash d = cc
-
     of : Empty t todo ⊎ ((order : List ℕ) × Shows t todo order) → works_from t.nodes.items h (get_or (nexts t.nodes.items) h 0) (length t.nodes.items) ≡ filter (is_on l) todo
-    of (inl e) = absurd (clash (sym (e.no_lists l) ∙ found))
+    of (inl e) = absurd (none_some h (sym (e.no_lists l) ∙ found))
     of (inr k) =
         let q = k.1.queued in
         let there = q.headed l h found in

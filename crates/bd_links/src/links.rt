@@ -1,6 +1,6 @@
 //! Nodes in rings: each node names the one before it and the one after it in its ring.
 
-ghost use Rattle.std.specs.Prelude.{◌≡◌, ℕ, List, set, get_or, length, vec_len, vec_capacity};
+ghost use Rattle.std.specs.Prelude.{◌≡◌, ℕ, List, set, get_or, length, vec_len};
 ghost use Rattle.bd_space.specs.declared.space.Work.{Work};
 ghost use Rattle.bd_links.specs.Nodes.{nexts, prevs, rows, works};
 ghost use Rattle.bd_links.specs.Moved.{moved_next, moved_prev};
@@ -40,7 +40,6 @@ pub fn set_next(nodes: &mut Vec<Node>, at: usize, to: usize)
     ensures rows { rows nodes.new.items ≡ rows nodes.old.items }
     ensures works { works nodes.new.items ≡ works nodes.old.items }
     ensures len { vec_len nodes.new ≡ vec_len nodes.old }
-    ensures capacity { vec_capacity nodes.new ≡ vec_capacity nodes.old }
 {
     if at < nodes.len() {
         nodes[at].next = to;
@@ -53,7 +52,6 @@ pub fn set_prev(nodes: &mut Vec<Node>, at: usize, to: usize)
     ensures rows { rows nodes.new.items ≡ rows nodes.old.items }
     ensures works { works nodes.new.items ≡ works nodes.old.items }
     ensures len { vec_len nodes.new ≡ vec_len nodes.old }
-    ensures capacity { vec_capacity nodes.new ≡ vec_capacity nodes.old }
 {
     if at < nodes.len() {
         nodes[at].prev = to;
@@ -66,7 +64,6 @@ pub fn set_row(nodes: &mut Vec<Node>, at: usize, to: usize)
     ensures rows { rows nodes.new.items ≡ set (rows nodes.old.items) at to }
     ensures works { works nodes.new.items ≡ works nodes.old.items }
     ensures len { vec_len nodes.new ≡ vec_len nodes.old }
-    ensures capacity { vec_capacity nodes.new ≡ vec_capacity nodes.old }
 {
     if at < nodes.len() {
         nodes[at].row = to;
@@ -79,7 +76,6 @@ pub fn set_work(nodes: &mut Vec<Node>, at: usize, to: Work)
     ensures rows { rows nodes.new.items ≡ rows nodes.old.items }
     ensures works { works nodes.new.items ≡ set (works nodes.old.items) at to }
     ensures len { vec_len nodes.new ≡ vec_len nodes.old }
-    ensures capacity { vec_capacity nodes.new ≡ vec_capacity nodes.old }
 {
     if at < nodes.len() {
         nodes[at].work = to;
@@ -93,7 +89,6 @@ pub fn detach(nodes: &mut Vec<Node>, x: usize)
     ensures rows { rows nodes.new.items ≡ rows nodes.old.items }
     ensures works { works nodes.new.items ≡ works nodes.old.items }
     ensures len { vec_len nodes.new ≡ vec_len nodes.old }
-    ensures capacity { vec_capacity nodes.new ≡ vec_capacity nodes.old }
 {
     let before = prev_of(nodes, x);
     let after = next_of(nodes, x);
@@ -108,7 +103,6 @@ pub fn attach(nodes: &mut Vec<Node>, x: usize, head: usize)
     ensures rows { rows nodes.new.items ≡ set (rows nodes.old.items) x head }
     ensures works { works nodes.new.items ≡ works nodes.old.items }
     ensures len { vec_len nodes.new ≡ vec_len nodes.old }
-    ensures capacity { vec_capacity nodes.new ≡ vec_capacity nodes.old }
 {
     let last = prev_of(nodes, head);
     set_next(nodes, last, x);
@@ -125,7 +119,6 @@ pub fn move_last(nodes: &mut Vec<Node>, x: usize, head: usize)
     ensures rows { rows nodes.new.items ≡ set (rows nodes.old.items) x head }
     ensures works { works nodes.new.items ≡ works nodes.old.items }
     ensures len { vec_len nodes.new ≡ vec_len nodes.old }
-    ensures capacity { vec_capacity nodes.new ≡ vec_capacity nodes.old }
 {
     detach(nodes, x);
     attach(nodes, x, head);

@@ -1,6 +1,6 @@
 //! Queues.
 
-ghost use Rattle.std.specs.Prelude.{ℕ, ◌≡◌, ◌+◌, ◌^◌, ◌<◌, ◌≤◌, ◌++◌, ◌∷◌, [], List, Some, false, map, set, is_some, IfSome, vec_len, vec_capacity, OnOk, OnErr, ◌/◌, ◌-◌};
+ghost use Rattle.std.specs.Prelude.{ℕ, ◌≡◌, ◌+◌, ◌^◌, ◌<◌, ◌≤◌, ◌++◌, ◌∷◌, [], List, Some, false, map, set, is_some, IfSome, vec_len, OnOk, OnErr, ◌/◌, ◌-◌};
 ghost use Rattle.std.specs.List.{list_any};
 ghost use Rattle.bd_space.specs.declared.space.Work.{Work};
 ghost use Rattle.bd_links.specs.Heads.{head_at};
