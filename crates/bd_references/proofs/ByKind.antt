@@ -56,14 +56,16 @@ named-kind p holders.Handshake = refl
 named-kind p holders.Manager = refl
 
 -- what a process asked for, and what the owner is to acknowledge
-pub asking-key : (p : ℕ) (o : ObjectId) (strong : Bool) (r : Reference) → is_asking p o strong r ≡ same_key (use_key r) (count_key o (Asked p) strong)
+pub asking-key : (p : ℕ) (o : ObjectId) (strong : Bool) (r : Reference)
+    → is_asking p o strong r ≡ same_key (use_key r) (count_key o (Asked p) strong)
 unfolding same_key
 asking-key p o true r = strongly r.strong (r.object.place == o.place) (r.object.index == o.index) (is_asked_by p r.holder)
     ∙ ap (λ c. (r.object.place == o.place) && ((r.object.index == o.index) && (c && beq r.strong true))) (asked-kind p r.holder)
 asking-key p o false r = weakly r.strong (r.object.place == o.place) (r.object.index == o.index) (is_asked_by p r.holder)
     ∙ ap (λ c. (r.object.place == o.place) && ((r.object.index == o.index) && (c && beq r.strong false))) (asked-kind p r.holder)
 
-pub shaking-key : (o : ObjectId) (strong : Bool) (r : Reference) → is_shaking o strong r ≡ same_key (use_key r) (count_key o Handshake strong)
+pub shaking-key : (o : ObjectId) (strong : Bool) (r : Reference)
+    → is_shaking o strong r ≡ same_key (use_key r) (count_key o Handshake strong)
 unfolding same_key
 shaking-key o true r = strongly r.strong (r.object.place == o.place) (r.object.index == o.index) (is_handshake r.holder)
     ∙ ap (λ c. (r.object.place == o.place) && ((r.object.index == o.index) && (c && beq r.strong true))) (shaken-kind r.holder)
@@ -85,7 +87,8 @@ alone false true false = refl
 alone false false b = refl
 
 -- all that refer to the object, and strongly
-pub total-key : (o : ObjectId) (r : Reference) → same r.object o ≡ (same_key (total_key r) (count_key o Any true) || same_key (total_key r) (count_key o Any false))
+pub total-key : (o : ObjectId) (r : Reference)
+    → same r.object o ≡ (same_key (total_key r) (count_key o Any true) || same_key (total_key r) (count_key o Any false))
 unfolding same_key
 total-key o r = either (r.object.place == o.place) (r.object.index == o.index) r.strong
 
@@ -124,15 +127,19 @@ split-all false true false c d = refl
 split-all false false b c d = refl
 
 -- those that give the process a name
-pub naming-strongly : (p : ℕ) (o : ObjectId) (r : Reference) → (r.strong && same r.object o && names_for p r.holder) ≡ names_with p o true r
+pub naming-strongly : (p : ℕ) (o : ObjectId) (r : Reference)
+    → (r.strong && same r.object o && names_for p r.holder) ≡ names_with p o true r
 unfolding same_key
 naming-strongly p o r = ap (λ c. r.strong && same r.object o && c) (named-kind p r.holder)
-    ∙ split-strongly r.strong (r.object.place == o.place) (r.object.index == o.index) (same_kind (kind_of r.holder) (Asked p)) (same_kind (kind_of r.holder) (Carried p))
+    ∙ split-strongly r.strong (r.object.place == o.place) (r.object.index == o.index)
+    (same_kind (kind_of r.holder) (Asked p)) (same_kind (kind_of r.holder) (Carried p))
 
-pub naming : (p : ℕ) (o : ObjectId) (r : Reference) → (same r.object o && names_for p r.holder) ≡ (names_with p o true r || names_with p o false r)
+pub naming : (p : ℕ) (o : ObjectId) (r : Reference)
+    → (same r.object o && names_for p r.holder) ≡ (names_with p o true r || names_with p o false r)
 unfolding same_key
 naming p o r = ap (λ c. same r.object o && c) (named-kind p r.holder)
-    ∙ split-all r.strong (r.object.place == o.place) (r.object.index == o.index) (same_kind (kind_of r.holder) (Asked p)) (same_kind (kind_of r.holder) (Carried p))
+    ∙ split-all r.strong (r.object.place == o.place) (r.object.index == o.index)
+    (same_kind (kind_of r.holder) (Asked p)) (same_kind (kind_of r.holder) (Carried p))
 
 -- one of two kinds
 pub any-either : {A : Type 0} (p q : A → Bool) (xs : List A) → list_any (λ x. p x || q x) xs ≡ (list_any p xs || list_any q xs)
@@ -172,8 +179,10 @@ shaken-free b holders.Manager h = refl
 shaken-free b (holders.Carried c q) h = absurd (cc)
 shaken-free b (holders.Target c q) h = absurd (cc)
 
-pub asked-apart : (p : ℕ) (o : ObjectId) (strong : Bool) (b : ℕ) (r : Reference) → is_asking p o strong r ≡ true → is_of_buffer b r.holder ≡ false
+pub asked-apart : (p : ℕ) (o : ObjectId) (strong : Bool) (b : ℕ) (r : Reference)
+    → is_asking p o strong r ≡ true → is_of_buffer b r.holder ≡ false
 asked-apart p o strong b r h = asked-free p b r.holder (and_parts (same_strength strong r && same r.object o) (is_asked_by p r.holder) h).1
 
-pub shaken-apart : (o : ObjectId) (strong : Bool) (b : ℕ) (r : Reference) → is_shaking o strong r ≡ true → is_of_buffer b r.holder ≡ false
+pub shaken-apart : (o : ObjectId) (strong : Bool) (b : ℕ) (r : Reference)
+    → is_shaking o strong r ≡ true → is_of_buffer b r.holder ≡ false
 shaken-apart o strong b r h = shaken-free b r.holder (and_parts (same_strength strong r && same r.object o) (is_handshake r.holder) h).1

@@ -37,7 +37,9 @@ total_key r = count_key r.object kinds.Any r.strong
 
 -- it gives the process a name: the process asked for it, or a buffer in its window carries it
 abbrev pub names_with : ℕ → ObjectId → Bool → Reference → Bool
-names_with p o strong r = same_key (use_key r) (count_key o (kinds.Asked p) strong) || same_key (use_key r) (count_key o (kinds.Carried p) strong)
+names_with p o strong r =
+    same_key (use_key r) (count_key o (kinds.Asked p) strong)
+    || same_key (use_key r) (count_key o (kinds.Carried p) strong)
 
 abbrev pub object_of : CountKey → ObjectId
 object_of k = record { place = k.place; index = k.index }

@@ -13,9 +13,13 @@ loop-b-preserved-then-lost g c =
     let first = rest_more deref _ _ _ c.in-Some.b c.in-Some.is c.next.ensures.steps in
     let taken = c.take_each.ensures.taken in
     record {
-      uses = λ is_lost h k. lost-step is_lost items (λ (r : Reference). same_key (use_key r) k) _ _ _ (c.loop-b.invariant.uses is_lost h k) _ _ _ _
+      uses = λ is_lost h k.
+          lost-step is_lost items (λ (r : Reference). same_key (use_key r) k) _ _ _
+          (c.loop-b.invariant.uses is_lost h k) _ _ _ _
           first (sym (h _ _ c.lost.ensures) ∙ c.if-lost.true) c.of.ensures (taken.uses_lack k);
-      totals = λ is_lost h k. lost-step is_lost items (λ (r : Reference). same_key (total_key r) k) _ _ _ (c.loop-b.invariant.totals is_lost h k) _ _ _ _
+      totals = λ is_lost h k.
+          lost-step is_lost items (λ (r : Reference). same_key (total_key r) k) _ _ _
+          (c.loop-b.invariant.totals is_lost h k) _ _ _ _
           first (sym (h _ _ c.lost.ensures) ∙ c.if-lost.true) c.of.ensures (taken.totals_lack k);
       room = omega (arith, c.loop-b.invariant.room, c.take_each.ensures.uses);
     }
@@ -25,9 +29,13 @@ loop-b-preserved g c =
     let items = items_of c.args.items.now in
     let first = rest_more deref _ _ _ c.in-Some.b c.in-Some.is c.next.ensures.steps in
     record {
-      uses = λ is_lost h k. kept-step is_lost items (λ (r : Reference). same_key (use_key r) k) _ _ _ (c.loop-b.invariant.uses is_lost h k) _ _
+      uses = λ is_lost h k.
+          kept-step is_lost items (λ (r : Reference). same_key (use_key r) k) _ _ _
+          (c.loop-b.invariant.uses is_lost h k) _ _
           first (sym (h _ _ c.lost.ensures) ∙ c.if-lost.false);
-      totals = λ is_lost h k. kept-step is_lost items (λ (r : Reference). same_key (total_key r) k) _ _ _ (c.loop-b.invariant.totals is_lost h k) _ _
+      totals = λ is_lost h k.
+          kept-step is_lost items (λ (r : Reference). same_key (total_key r) k) _ _ _
+          (c.loop-b.invariant.totals is_lost h k) _ _
           first (sym (h _ _ c.lost.ensures) ∙ c.if-lost.false);
       room = c.loop-b.invariant.room;
     }
@@ -37,6 +45,8 @@ returns-clause-taken g c = λ is_lost h.
     let items = items_of c.args.items.now in
     let done = rest_all deref _ _ _ c.in-None.is c.next.ensures.steps in
     record {
-      uses_lack = λ k. all-lost is_lost items (λ (r : Reference). same_key (use_key r) k) _ _ _ (c.loop-b.invariant.uses is_lost h k) done;
-      totals_lack = λ k. all-lost is_lost items (λ (r : Reference). same_key (total_key r) k) _ _ _ (c.loop-b.invariant.totals is_lost h k) done;
+      uses_lack = λ k.
+          all-lost is_lost items (λ (r : Reference). same_key (use_key r) k) _ _ _ (c.loop-b.invariant.uses is_lost h k) done;
+      totals_lack = λ k.
+          all-lost is_lost items (λ (r : Reference). same_key (total_key r) k) _ _ _ (c.loop-b.invariant.totals is_lost h k) done;
     }

@@ -15,7 +15,8 @@ loop-k-preserved-then-goes_with g c =
     let first = rest_more deref_pair _ _ _ (c.in-Some.k, c.in-Some.n) c.in-Some.is c.next.ensures.steps in
     record {
       counts = λ is_owned h q.
-          weigh-step (λ (j : CountKey). goes_with c.args.p is_owned j && same_key (any_kind j) q) _ _ _ (c.loop-k.invariant.counts is_owned h q) _ _ _ first
+          weigh-step (λ (j : CountKey). goes_with c.args.p is_owned j && same_key (any_kind j) q) _ _ _
+          (c.loop-k.invariant.counts is_owned h q) _ _ _ first
           (c.take.ensures.counts q
           ∙ ap (λ (j : CountKey). count_at now q - cond {A = ℕ} (same_key j q) n 0) c.any_kind.ensures
           ∙ ap (λ (b : Bool). count_at now q - cond {A = ℕ} (b && same_key (any_kind k) q) n 0)
@@ -29,7 +30,8 @@ loop-k-preserved g c =
     let first = rest_more deref_pair _ _ _ (c.in-Some.k, c.in-Some.n) c.in-Some.is c.next.ensures.steps in
     record {
       counts = λ is_owned h q.
-          skip-step (λ (j : CountKey). goes_with c.args.p is_owned j && same_key (any_kind j) q) _ _ _ (c.loop-k.invariant.counts is_owned h q) _ _ first
+          skip-step (λ (j : CountKey). goes_with c.args.p is_owned j && same_key (any_kind j) q) _ _ _
+          (c.loop-k.invariant.counts is_owned h q) _ _ first
           (ap (λ (b : Bool). b && same_key (any_kind k) q) (sym (c.goes_with.ensures is_owned h) ∙ c.if-goes_with.false));
       spare = c.loop-k.invariant.spare;
     }

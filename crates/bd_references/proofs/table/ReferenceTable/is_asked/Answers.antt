@@ -9,4 +9,6 @@ use Rattle.bd_references.proofs.table.ReferenceTable.is_asked.Goals as goal
 pub returns : goal.returns
 returns c = λ l are.
     c.has.ensures l are.tallied
-    ∙ sym (any-same (is_asking c.args.p c.args.o c.args.strong) (λ (r : Reference). same_key (use_key r) (count_key c.args.o (Asked c.args.p) c.args.strong)) l (asking-key c.args.p c.args.o c.args.strong))
+    ∙ sym (any-same (is_asking c.args.p c.args.o c.args.strong)
+    (λ (r : Reference). same_key (use_key r) (count_key c.args.o (Asked c.args.p) c.args.strong)) l
+    (asking-key c.args.p c.args.o c.args.strong))

@@ -19,5 +19,6 @@ returns-else-has_any c = λ l are.
     let o = c.args.o in
     let a = λ (r : Reference). same_key (total_key r) (count_key o Any true) in
     let b = λ (r : Reference). same_key (total_key r) (count_key o Any false) in
-    or-else c.has_any.result _ _ c.has_any-else-has_any.result c.if-has_any.false (c.has_any.ensures l are.tallied) (c.has_any-else-has_any.ensures l are.tallied)
+    or-else c.has_any.result _ _ c.has_any-else-has_any.result c.if-has_any.false
+    (c.has_any.ensures l are.tallied) (c.has_any-else-has_any.ensures l are.tallied)
     ∙ sym (any-either a b l) ∙ sym (any-same (λ r. same r.object o) (λ r. a r || b r) l (total-key o))

@@ -9,4 +9,6 @@ use Rattle.bd_references.proofs.table.ReferenceTable.is_shaken.Goals as goal
 pub returns : goal.returns
 returns c = λ l are.
     c.has.ensures l are.tallied
-    ∙ sym (any-same (is_shaking c.args.o c.args.strong) (λ (r : Reference). same_key (use_key r) (count_key c.args.o Handshake c.args.strong)) l (shaking-key c.args.o c.args.strong))
+    ∙ sym (any-same (is_shaking c.args.o c.args.strong)
+    (λ (r : Reference). same_key (use_key r) (count_key c.args.o Handshake c.args.strong)) l
+    (shaking-key c.args.o c.args.strong))

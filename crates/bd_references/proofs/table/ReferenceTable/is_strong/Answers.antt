@@ -9,4 +9,5 @@ use Rattle.bd_references.proofs.table.ReferenceTable.is_strong.Goals as goal
 pub returns : goal.returns
 returns c = λ l are.
     c.has_any.ensures l are.tallied
-    ∙ sym (any-same (λ (r : Reference). r.strong && same r.object c.args.o) (λ r. same_key (total_key r) (count_key c.args.o Any true)) l (strong-key c.args.o))
+    ∙ sym (any-same (λ (r : Reference). r.strong && same r.object c.args.o)
+    (λ r. same_key (total_key r) (count_key c.args.o Any true)) l (strong-key c.args.o))

@@ -10,13 +10,17 @@ pub returns-then-names : goal.returns-then-names
 returns-then-names c = λ l are.
     let p = c.args.p in
     let o = c.args.o in
-    or-then c.names.result _ _ c.if-names.true (c.names.ensures l are.tallied) ∙ sym (any-either (names_with p o true) (names_with p o false) l)
-    ∙ sym (any-same (λ (r : Reference). same r.object o && names_for p r.holder) (λ r. names_with p o true r || names_with p o false r) l (naming p o))
+    or-then c.names.result _ _ c.if-names.true (c.names.ensures l are.tallied)
+    ∙ sym (any-either (names_with p o true) (names_with p o false) l)
+    ∙ sym (any-same (λ (r : Reference). same r.object o && names_for p r.holder)
+    (λ r. names_with p o true r || names_with p o false r) l (naming p o))
 
 pub returns-else-names : goal.returns-else-names
 returns-else-names c = λ l are.
     let p = c.args.p in
     let o = c.args.o in
-    or-else c.names.result _ _ c.names-else-names.result c.if-names.false (c.names.ensures l are.tallied) (c.names-else-names.ensures l are.tallied)
+    or-else c.names.result _ _ c.names-else-names.result c.if-names.false
+    (c.names.ensures l are.tallied) (c.names-else-names.ensures l are.tallied)
     ∙ sym (any-either (names_with p o true) (names_with p o false) l)
-    ∙ sym (any-same (λ (r : Reference). same r.object o && names_for p r.holder) (λ r. names_with p o true r || names_with p o false r) l (naming p o))
+    ∙ sym (any-same (λ (r : Reference). same r.object o && names_for p r.holder)
+    (λ r. names_with p o true r || names_with p o false r) l (naming p o))

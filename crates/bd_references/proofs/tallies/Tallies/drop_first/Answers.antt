@@ -17,12 +17,15 @@ returns-then-at-gt0-clause-stands c = λ l test is t.
     sym (any-keyed use_key old.uses test k l is t.uses_are) ∙ ap (λ n. ltb 0 n) (sym c.at.ensures) ∙ lt-ltb 0 _ c.if-at-gt0.true in
     let all = λ (r : Reference) (h : test r ≡ true). key-eq (use_key r) k (sym (is r) ∙ h) in
     record {
-      uses_are = each-first use_key old.uses c.take.new.self test k l all some t.uses_are c.take.ensures.counts;
-      totals_are = each-first total_key old.totals c.take-then-at-gt0.new.self test (any_kind k) l (λ r h. ap any_kind (all r h)) some t.totals_are (rw (← c.any_kind.ensures) c.take-then-at-gt0.ensures.counts);
+      uses_are = each-first use_key old.uses c.take.new.self test k l
+          all some t.uses_are c.take.ensures.counts;
+      totals_are = each-first total_key old.totals c.take-then-at-gt0.new.self test (any_kind k) l
+          (λ r h. ap any_kind (all r h)) some t.totals_are (rw (← c.any_kind.ensures) c.take-then-at-gt0.ensures.counts);
     }
 
 pub returns-else-at-gt0-clause-stands : goal.returns-else-at-gt0-clause-stands
 returns-else-at-gt0-clause-stands c = λ l test is t.
     let none : list_any test l ≡ false =
-    sym (any-keyed use_key c.args.self.now.uses test c.args.k l is t.uses_are) ∙ ap (λ n. ltb 0 n) (sym c.at.ensures) ∙ le-ltb 0 _ c.if-at-gt0.false in
+    sym (any-keyed use_key c.args.self.now.uses test c.args.k l is t.uses_are) ∙ ap (λ n. ltb 0 n) (sym c.at.ensures)
+    ∙ le-ltb 0 _ c.if-at-gt0.false in
     subst (λ xs. Tallied c.args.self.now xs) (sym (without-none test l none)) t

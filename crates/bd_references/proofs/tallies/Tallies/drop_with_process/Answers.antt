@@ -20,6 +20,7 @@ returns-clause-stands g c = λ is_owned h l t.
           ∙ sym (count-away (λ (r : Reference). same_key (use_key r) k) gone (goes k) l (λ r e. ap goes (key-eq (use_key r) k e)));
       totals_are = each-without total_key old.totals c.take_dropped.new.totals gone l t.totals_are
           (λ q. c.take_dropped.ensures.taken is_owned h q
-          ∙ ap (λ n. count_at old.totals q - n) (weighs use_key (λ k. goes k && same_key (any_kind k) q) old.uses.counts.entries l c.drop_passing.ensures.unique t.uses_are
+          ∙ ap (λ n. count_at old.totals q - n) (weighs use_key (λ k. goes k && same_key (any_kind k) q) old.uses.counts.entries l
+          c.drop_passing.ensures.unique t.uses_are
           ∙ count-both (λ (r : Reference). same_key (total_key r) q) gone l));
     }

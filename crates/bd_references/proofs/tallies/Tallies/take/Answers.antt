@@ -4,6 +4,8 @@ use Rattle.bd_references.proofs.tallies.Tallies.take.Goals as goal
 
 pub returns-clause-taken : goal.returns-clause-taken
 returns-clause-taken c = record {
-  uses_lack = lacks-one use_key c.args.self.now.uses c.take.new.self c.args.r (rw (← c.use_key.ensures) c.take.ensures.counts);
-  totals_lack = lacks-one total_key c.args.self.now.totals c.take-2.new.self c.args.r (rw (← c.total_key.ensures) c.take-2.ensures.counts);
+  uses_lack = lacks-one use_key c.args.self.now.uses c.take.new.self c.args.r
+      (rw (← c.use_key.ensures) c.take.ensures.counts);
+  totals_lack = lacks-one total_key c.args.self.now.totals c.take-2.new.self c.args.r
+      (rw (← c.total_key.ensures) c.take-2.ensures.counts);
 }
