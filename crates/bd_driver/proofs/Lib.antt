@@ -12,5 +12,6 @@ pub mod Moves
 pub mod Serves
 pub mod WholeCalls
 pub mod Deals
+pub mod Emptied
 pub mod Ends
 pub mod Seats

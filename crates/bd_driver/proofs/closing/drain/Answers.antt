@@ -1,0 +1,18 @@
+use Rattle.std.proofs.Common.{◌≡◌, ◌+◌, ◌<◌, ◌≤◌, false, Bool, List, subst, sym, ◌∙◌, arith}
+use Rattle.std.specs.Prelude.{IsTrue, slice_index_or}
+use Rattle.std.specs.Slots.{slots_filled}
+use Rattle.bd_driver.proofs.Emptied.{emptied, left_after}
+use Rattle.bd_driver.proofs.closing.drain.Goals as goal
+
+-- src/closing.rt:88:5
+pub loop-at-preserved : goal.loop-at-preserved
+loop-at-preserved c =
+    let i = c.loop-at.invariant in
+    let o = c.take.ensures.others in
+    let filled = slots_filled c.loop-at.closed.slots in
+    record {
+      len = o.2 ∙ i.len;
+      done = λ k below. subst (λ (l : List Bool). slice_index_or l k false ≡ false) (sym o.1) (emptied filled c.loop-at.at k below i.done);
+      left = λ k above within. subst (λ (l : List Bool). IsTrue (slice_index_or l k false)) (sym o.1)
+      (left_after filled c.loop-at.at k above (i.left k (omega (arith, above)) (subst (λ n. k < n) o.2 within)));
+    }
