@@ -14,5 +14,5 @@ loop-at-preserved c =
       len = o.2 ∙ i.len;
       done = λ k below. subst (λ (l : List Bool). slice_index_or l k false ≡ false) (sym o.1) (emptied filled c.loop-at.at k below i.done);
       left = λ k above within. subst (λ (l : List Bool). IsTrue (slice_index_or l k false)) (sym o.1)
-      (left_after filled c.loop-at.at k above (i.left k (omega (arith, above)) (subst (λ n. k < n) o.2 within)));
+          (left_after filled c.loop-at.at k above (i.left k (omega (arith, above)) (subst (λ n. k < n) o.2 within)));
     }
