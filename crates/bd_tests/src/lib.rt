@@ -9,6 +9,7 @@ mod codec;
 mod parcel;
 #[cfg(test)]
 mod player;
+pub mod random;
 #[cfg(test)]
 mod script;
 #[cfg(test)]

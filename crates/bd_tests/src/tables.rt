@@ -2,6 +2,5 @@
 
 mod names;
 mod nodes;
-mod random;
 mod references;
 mod works;

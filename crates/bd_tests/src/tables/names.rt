@@ -1,6 +1,6 @@
 //! The table of names.
 
-use super::random::{Random, object_of};
+use crate::random::{Random, object_of};
 use bd_lists::NameList;
 use bd_names::NameTable;
 use bd_space::ObjectId;

@@ -1,6 +1,6 @@
 //! The table of objects.
 
-use super::random::{Random, has_all, object_of};
+use crate::random::{Random, has_all, object_of};
 use bd_lists::NodeList;
 use bd_nodes::NodeTable;
 use bd_space::{Object, ObjectId};

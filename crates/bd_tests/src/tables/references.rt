@@ -1,6 +1,6 @@
 //! The table of references.
 
-use super::random::{Random, has_all, is_among, object_of};
+use crate::random::{Random, has_all, is_among, object_of};
 use bd_lists::ReferenceList;
 use bd_references::ReferenceTable;
 use bd_space::{Holder, Identity, ObjectId, Reference};

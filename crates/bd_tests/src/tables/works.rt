@@ -2,7 +2,7 @@
 
 ghost use Rattle.std.specs.Prelude.{◌≡◌, ◌<◌};
 
-use super::random::{Random, is_among, object_of};
+use crate::random::{Random, is_among, object_of};
 use bd_links::WorkTable;
 use bd_lists::WorkList;
 use bd_space::{Identity, ObjectId, TodoList, Work, WorkKind};
