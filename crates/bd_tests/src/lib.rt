@@ -1,4 +1,5 @@
-//! Tests that need public calls only. They stand here so that the crates that they test are proved once.
+//! Tests that need public calls only. They stand here so that the crates that they test are proved once. Their random
+//! numbers are no test: the gate tries edits by a check that reads no test.
 #![tactic(auto)]
 
 #[cfg(test)]
