@@ -1,6 +1,6 @@
 -- The windows of all live processes through each change.
-use Rattle.std.proofs.Common.{◌≡◌, ◌≢◌, ℕ, zero, suc, ◌+◌, ◌<◌, ◌≤◌, Bool, true, false, cond, List, [], ◌∷◌, ◌++◌, length, get_or, set, take, drop, map, refl, ap, sym, ◌∙◌, arith, add-one, subst, All, eq-eqb, ne_eqb, Some, None, Ok, Err, nat_lt, rules, tests}
-use Rattle.std.specs.Prelude.{◌==◌, ◌||◌, not, filter, find, Option, AllPairs, option_map, IfOk, Result}
+use Rattle.std.proofs.Common.{◌≡◌, ◌≢◌, ℕ, zero, suc, ◌+◌, ◌<◌, ◌≤◌, Bool, true, false, cond, List, [], ◌∷◌, ◌++◌, length, get_or, set, take, drop, map, refl, ap, sym, ◌∙◌, arith, subst, All, eq-eqb, ne_eqb, Some, None, Ok, Err, nat_lt, rules, tests}
+use Rattle.std.specs.Prelude.{◌==◌, ◌||◌, not, filter, find, Option, AllPairs, option_map, IfOk, IfSome, Result}
 use Rattle.std.specs.List.{position, position_or_len}
 use Rattle.bd_uapi.specs.declared.fault.Cause.{Cause}
 use Rattle.std.proofs.lemmas.Bool.{false≢true, eqb-true}
@@ -11,9 +11,11 @@ use Rattle.std.proofs.lemmas.List.Sums.{position_or_len_is}
 use Rattle.std.proofs.lemmas.List.Quantifiers.{position-Some}
 use Rattle.std.proofs.Math.Seq.{map-set_same}
 use Rattle.std.proofs.Math.ListN as list
+use Rattle.bd_words.specs.declared.map.WordMap.{WordMap}
+use Rattle.bd_words.specs.Look.{look}
 use Rattle.bd_space.specs.declared.space.Process.{Process}
 use Rattle.bd_space.specs.declared.space.Buffer.{Buffer}
-use Rattle.bd_space.specs.Words.{changed, first_of}
+use Rattle.bd_space.specs.Words.{changed}
 use Rattle.bd_space.specs.Seats.{lives_in, process_in}
 use Rattle.bd_space.specs.Windows.{buffers_of}
 use Rattle.bd_space.specs.Freeing.{is_made_at}
@@ -22,12 +24,16 @@ use Rattle.bd_space.specs.ReadItems.{hand_out, handed_buffers}
 use Rattle.bd_buffers.specs.declared.window.Window.{Window}
 use Rattle.bd_buffers.specs.declared.windows.OwnedWindow.{OwnedWindow}
 use Rattle.bd_buffers.specs.declared.windows.Windows.{Windows}
+use Rattle.bd_buffers.specs.Homes.{home_key, AreHomes}
+use Rattle.bd_buffers.specs.Owners.{AreInOrder}
 use Rattle.bd_buffers.specs.Window as single
 use Rattle.bd_buffers.specs.WindowsStand.{ProcessWindow, seen, window_of, with_buffers, is_owned_by, is_of, WindowsOf, Stands, room_of, CanHoldIn, made_of_buffer}
 use Rattle.bd_space.proofs.Changed.{mapped-next}
-use Rattle.bd_buffers.proofs.Changes.{pairs_head, pairs_tail, found_has}
-use Rattle.bd_buffers.proofs.InSpace.{added, added_elsewhere, kept_in, handed_in, others_stay, made_in}
-use Rattle.bd_buffers.proofs.Order.{lives_below, process_made, buffer_made, made_kept, made_handed, process_gone}
+use Rattle.bd_buffers.proofs.Changes.{pairs_head, pairs_tail, found_has, none_found}
+use Rattle.bd_buffers.proofs.Homes.{homes_handed, home_finds, others_home}
+use Rattle.bd_buffers.proofs.Made.{Rising, distinct, changed_at, changed_none, find_none}
+use Rattle.bd_buffers.proofs.InSpace.{added, added_elsewhere, kept_in, handed_in, others_stay}
+use Rattle.bd_buffers.proofs.Order.{All-filtered, lives_below, process_made, buffer_made, made_kept, made_handed, process_gone}
 
 -- a window that stands for these buffers now
 pub seen_as : (w old : OwnedWindow) (f : List Buffer → List Buffer) → w.owner ≡ old.owner → Stands w.window old.window.size (f old.window.buffers) → seen w ≡ with_buffers f (seen old)
@@ -82,35 +88,39 @@ none_for ps bound (b ∷ bs) before all =
     ∙ none_for ps bound bs before (All-tail P b bs all)
 
 pub opened : (t u : Windows) (bound : ℕ) (ps : List Process) (bs : List Buffer) (q : Process) (w : OwnedWindow) → q.made ≡ bound → w.owner ≡ q.made → Stands w.window q.window []
-    → u.windows.items ≡ t.windows.items ++ w ∷ [] → WindowsOf t bound ps bs → WindowsOf u (bound + 1) (ps ++ q ∷ []) bs
-opened t u bound ps bs q w e own is pushed stands =
+    → u.windows ≡ t.windows ++ w ∷ [] → u.homes ≡ t.homes → WindowsOf t bound ps bs → WindowsOf u (bound + 1) (ps ++ q ∷ []) bs
+opened t u bound ps bs q w e own is pushed homes stands =
     let made = stands.made in
     let none : buffers_of bs q.made ≡ [] = ap (buffers_of bs) e ∙ none_for ps bound bs made.processes_before made.received in
     let size = is.size_is in
     let buffers = is.buffers_are in
     let last : seen w ≡ window_of bs q = cc in
     record {
-      windows_are = ap (map seen) pushed ∙ map_push seen t.windows.items w ∙ ap (λ xs. xs ++ seen w ∷ []) stands.windows_are
+      windows_are = ap (map seen) pushed ∙ map_push seen t.windows w ∙ ap (λ xs. xs ++ seen w ∷ []) stands.windows_are
           ∙ ap (λ x. map (window_of bs) ps ++ x ∷ []) last ∙ sym (map_push (window_of bs) ps q);
       made = process_made bound ps bs q e made;
+      homes_are = subst (λ h. AreHomes h bs) (sym homes) stands.homes_are;
     }
 
 -- ---- buffers that go, and one that is handed out
 
 pub kept : (t u : Windows) (bound : ℕ) (ps : List Process) (bs : List Buffer) (keep : Buffer → Bool)
-    → map seen u.windows.items ≡ map (with_buffers (filter keep)) (map seen t.windows.items) → WindowsOf t bound ps bs → WindowsOf u bound ps (filter keep bs)
-kept t u bound ps bs keep e stands = record {
+    → map seen u.windows ≡ map (with_buffers (filter keep)) (map seen t.windows) → AreHomes u.homes (filter keep bs) → WindowsOf t bound ps bs
+    → WindowsOf u bound ps (filter keep bs)
+kept t u bound ps bs keep e homes stands = record {
   windows_are = e ∙ ap (map (with_buffers (filter keep))) stands.windows_are ∙ each_is (filter keep) bs (filter keep bs) (λ p. sym (kept_in keep bs p)) ps;
   made = made_kept bound ps keep bs stands.made;
+  homes_are = homes;
 }
 
 pub handed : (t u : Windows) (bound : ℕ) (ps : List Process) (bs : List Buffer) (made : ℕ)
-    → map seen u.windows.items ≡ map (with_buffers (changed (is_made_at made) hand_out)) (map seen t.windows.items) → WindowsOf t bound ps bs
+    → map seen u.windows ≡ map (with_buffers (changed (is_made_at made) hand_out)) (map seen t.windows) → u.homes ≡ t.homes → WindowsOf t bound ps bs
     → WindowsOf u bound ps (changed (is_made_at made) hand_out bs)
-handed t u bound ps bs made e stands = record {
+handed t u bound ps bs made e homes stands = record {
   windows_are = e ∙ ap (map (with_buffers (changed (is_made_at made) hand_out))) stands.windows_are
       ∙ each_is (changed (is_made_at made) hand_out) bs (changed (is_made_at made) hand_out bs) (λ p. sym (handed_in bs p made)) ps;
   made = made_handed bound ps (is_made_at made) bs stands.made;
+  homes_are = subst (λ h. AreHomes h (changed (is_made_at made) hand_out bs)) (sym homes) (homes_handed t.homes bs (is_made_at made) stands.homes_are);
 }
 
 -- ---- a process that ends
@@ -131,22 +141,23 @@ close_all : (bs : List Buffer) (p : ℕ) (ps : List Process) → filter (λ x. n
 close_all bs p [] = refl
 close_all bs p (q ∷ ps) = close_first bs p q ps (q.made == p) refl (close_all bs p ps)
 
-pub closed : (t u : Windows) (bound p : ℕ) (ps : List Process) (bs : List Buffer) → u.windows.items ≡ filter (λ w. not (is_owned_by p w)) t.windows.items
-    → WindowsOf t bound ps bs → WindowsOf u bound (filter (λ q. not (q.made == p)) ps) (filter (λ b. not (b.receiver == p)) bs)
-closed t u bound p ps bs e stands = record {
-  windows_are = ap (map seen) e ∙ filter_map_same seen (λ x. not (is_of p x)) t.windows.items ∙ ap (filter (λ x. not (is_of p x))) stands.windows_are ∙ close_all bs p ps;
+pub closed : (t u : Windows) (bound p : ℕ) (ps : List Process) (bs : List Buffer) → u.windows ≡ filter (λ w. not (is_owned_by p w)) t.windows
+    → AreHomes u.homes (filter (λ b. not (b.receiver == p)) bs) → WindowsOf t bound ps bs → WindowsOf u bound (filter (λ q. not (q.made == p)) ps) (filter (λ b. not (b.receiver == p)) bs)
+closed t u bound p ps bs e homes stands = record {
+  windows_are = ap (map seen) e ∙ filter_map_same seen (λ x. not (is_of p x)) t.windows ∙ ap (filter (λ x. not (is_of p x))) stands.windows_are ∙ close_all bs p ps;
   made = process_gone bound p ps bs stands.made;
+  homes_are = homes;
 }
 
 -- ---- one window of them
 
 owned : (t : Windows) (bound p : ℕ) (ps : List Process) (bs : List Buffer) → WindowsOf t bound ps bs
-    → option_map seen (find (is_owned_by p) t.windows.items) ≡ option_map (window_of bs) (process_in ps p)
+    → option_map seen (find (is_owned_by p) t.windows) ≡ option_map (window_of bs) (process_in ps p)
 owned t bound p ps bs stands =
-    sym (find_map seen (is_of p) t.windows.items) ∙ ap (find (is_of p)) stands.windows_are ∙ find_map (window_of bs) (is_of p) ps
+    sym (find_map seen (is_of p) t.windows) ∙ ap (find (is_of p)) stands.windows_are ∙ find_map (window_of bs) (is_of p) ps
 
 -- its live buffers were all made before the step
-pub older : (t : Windows) (bound p : ℕ) (ps : List Process) (bs : List Buffer) (w : OwnedWindow) → WindowsOf t bound ps bs → find (is_owned_by p) t.windows.items ≡ Some w
+pub older : (t : Windows) (bound p : ℕ) (ps : List Process) (bs : List Buffer) (w : OwnedWindow) → WindowsOf t bound ps bs → find (is_owned_by p) t.windows ≡ Some w
     → All (λ b. b.made < bound) w.window.buffers
 older t bound p ps bs w stands found = by_process (process_in ps p) (sym (ap (option_map seen) found) ∙ owned t bound p ps bs stands)
   where
@@ -159,21 +170,21 @@ older t bound p ps bs w stands found = by_process (process_in ps p) (sym (ap (op
 
 -- the window of a live process is found
 pub owner_found : (t : Windows) (bound p : ℕ) (ps : List Process) (bs : List Buffer) (q : Process) (w : OwnedWindow) → WindowsOf t bound ps bs
-    → process_in ps p ≡ Some q → find (is_owned_by p) t.windows.items ≡ Some w → Stands w.window q.window (buffers_of bs q.made)
+    → process_in ps p ≡ Some q → find (is_owned_by p) t.windows ≡ Some w → Stands w.window q.window (buffers_of bs q.made)
 owner_found t bound p ps bs q w stands lives found =
     let both : Some (seen w) ≡ Some (window_of bs q) = sym (ap (option_map seen) found) ∙ owned t bound p ps bs stands ∙ ap (option_map (window_of bs)) lives in
     let same : seen w ≡ window_of bs q = cc in
     record { size_is = ap (λ (x : ProcessWindow). x.size) same; buffers_are = ap (λ (x : ProcessWindow). x.buffers) same }
 
 pub owner_missed : (t : Windows) (bound p : ℕ) (ps : List Process) (bs : List Buffer) (q : Process) → WindowsOf t bound ps bs
-    → process_in ps p ≡ Some q → find (is_owned_by p) t.windows.items ≡ None → ⊥
+    → process_in ps p ≡ Some q → find (is_owned_by p) t.windows ≡ None → ⊥
 owner_missed t bound p ps bs q stands lives found =
     let both : None ≡ Some (window_of bs q) = sym (ap (option_map seen) found) ∙ owned t bound p ps bs stands ∙ ap (option_map (window_of bs)) lives in
     cc
 
 -- a process that doesn't live has no window
 pub owner_gone : (t : Windows) (bound p : ℕ) (ps : List Process) (bs : List Buffer) (w : OwnedWindow) → WindowsOf t bound ps bs
-    → process_in ps p ≡ None → find (is_owned_by p) t.windows.items ≡ Some w → ⊥
+    → process_in ps p ≡ None → find (is_owned_by p) t.windows ≡ Some w → ⊥
 owner_gone t bound p ps bs w stands gone found =
     let both : Some (seen w) ≡ None = sym (ap (option_map seen) found) ∙ owned t bound p ps bs stands ∙ ap (option_map (window_of bs)) gone in
     cc
@@ -183,11 +194,11 @@ is_process ps p q e = eqb-true q.made p (found_has (λ x. Unit) (λ (x : Process
 
 -- the window at the place that is found
 pub record IsAt (t : Windows) (p i : ℕ) (w : OwnedWindow) : Type 0 where
-  pub within : i < length t.windows.items
+  pub within : i < length t.windows
   pub owner_is : w.owner ≡ p
-  pub found : find (is_owned_by p) t.windows.items ≡ Some w
-  pub at : w ≡ get_or t.windows.items i w
-  pub first : i ≡ position_or_len (is_owned_by p) t.windows.items
+  pub found : find (is_owned_by p) t.windows ≡ Some w
+  pub at : w ≡ get_or t.windows i w
+  pub first : i ≡ position_or_len (is_owned_by p) t.windows
 
 find_at : {A : Type 0} (r : A → Bool) (xs : List A) (i : ℕ) (d : A) → i < length xs → r (get_or xs i d) ≡ true → ((k : ℕ) → k < i → r (get_or xs k d) ≡ false)
     → find r xs ≡ Some (get_or xs i d)
@@ -196,47 +207,47 @@ find_at r (x ∷ xs) zero d h passes below = ap (λ b. cond b (Some x) (find r x
 find_at r (x ∷ xs) (suc i) d h passes below =
     ap (λ b. cond b (Some x) (find r xs)) (below zero (omega arith)) ∙ find_at r xs i d (omega arith) passes (λ k lt. below (suc k) (omega arith))
 
-pub is_at : (t : Windows) (p i : ℕ) (w : OwnedWindow) → position (is_owned_by p) t.windows.items ≡ Some i → w ≡ get_or t.windows.items i w → IsAt t p i w
+pub is_at : (t : Windows) (p i : ℕ) (w : OwnedWindow) → position (is_owned_by p) t.windows ≡ Some i → w ≡ get_or t.windows i w → IsAt t p i w
 is_at t p i w e at =
-    let is = position-Some (is_owned_by p) t.windows.items i w e in
+    let is = position-Some (is_owned_by p) t.windows i w e in
     let within = is.0 in
     record {
       within = within;
       owner_is = eqb-true w.owner p (ap (is_owned_by p) at ∙ is.1);
-      found = find_at (is_owned_by p) t.windows.items i w is.0 is.1 is.2 ∙ ap (λ x. Some x) (sym at);
+      found = find_at (is_owned_by p) t.windows i w is.0 is.1 is.2 ∙ ap (λ x. Some x) (sym at);
       at = at;
-      first = sym (position_or_len_is (is_owned_by p) t.windows.items i w (omega arith) is.2 (λ h. is.1));
+      first = sym (position_or_len_is (is_owned_by p) t.windows i w (omega arith) is.2 (λ h. is.1));
     }
 
-pub room_at : (t : Windows) (p i : ℕ) (w : OwnedWindow) → IsAt t p i w → room_of (find (is_owned_by p) t.windows.items) ≡ w.window.room
+pub room_at : (t : Windows) (p i : ℕ) (w : OwnedWindow) → IsAt t p i w → room_of (find (is_owned_by p) t.windows) ≡ w.window.room
 room_at t p i w is = ap room_of is.found
 
-pub room_left : (t : Windows) (p i : ℕ) (w x : OwnedWindow) → IsAt t p i w → x.owner ≡ w.owner → room_of (find (is_owned_by p) (set t.windows.items i x)) ≡ x.window.room
+pub room_left : (t : Windows) (p i : ℕ) (w x : OwnedWindow) → IsAt t p i w → x.owner ≡ w.owner → room_of (find (is_owned_by p) (set t.windows i x)) ≡ x.window.room
 room_left t p i w x is own =
-    ap room_of (find-set (is_owned_by p) t.windows.items i x is.first is.within (eq-eqb x.owner p (own ∙ is.owner_is)))
+    ap room_of (find-set (is_owned_by p) t.windows i x is.first is.within (eq-eqb x.owner p (own ∙ is.owner_is)))
 
 -- the windows are seen as before where one is changed that still stands for the same
-pub stay_seen : (t : Windows) (p i : ℕ) (w : OwnedWindow) (new : Window) → position (is_owned_by p) t.windows.items ≡ Some i → w ≡ get_or t.windows.items i w
-    → ((size : ℕ) (bs : List Buffer) → Stands w.window size bs → Stands new size bs) → map seen (set t.windows.items i (record { owner = w.owner; window = new })) ≡ map seen t.windows.items
+pub stay_seen : (t : Windows) (p i : ℕ) (w : OwnedWindow) (new : Window) → position (is_owned_by p) t.windows ≡ Some i → w ≡ get_or t.windows i w
+    → ((size : ℕ) (bs : List Buffer) → Stands w.window size bs → Stands new size bs) → map seen (set t.windows i (record { owner = w.owner; window = new })) ≡ map seen t.windows
 stay_seen t p i w new e at kept =
     let x : OwnedWindow = record { owner = w.owner; window = new } in
     let same : seen x ≡ seen w = seen_as x w (λ bs. bs) refl (kept w.window.size w.window.buffers (record { size_is = refl; buffers_are = refl })) in
-    map-set_same seen t.windows.items i x w (same ∙ ap seen at)
+    map-set_same seen t.windows i x w (same ∙ ap seen at)
 
-pub stay : (t u : Windows) (bound : ℕ) (ps : List Process) (bs : List Buffer) → map seen u.windows.items ≡ map seen t.windows.items → WindowsOf t bound ps bs → WindowsOf u bound ps bs
-stay t u bound ps bs e stands = record { windows_are = e ∙ stands.windows_are; made = stands.made }
+pub stay : (t u : Windows) (bound : ℕ) (ps : List Process) (bs : List Buffer) → map seen u.windows ≡ map seen t.windows → AreHomes u.homes bs → WindowsOf t bound ps bs → WindowsOf u bound ps bs
+stay t u bound ps bs e homes stands = record { windows_are = e ∙ stands.windows_are; made = stands.made; homes_are = homes }
 
-pub can_hold_at : (t : Windows) (p i : ℕ) (w : OwnedWindow) (one_way : Bool) (size start : ℕ) → find (is_owned_by p) t.windows.items ≡ Some w
-    → CanHoldIn (find (is_of p) (map seen t.windows.items)) one_way size start → CanHoldIn (Some (seen w)) one_way size start
+pub can_hold_at : (t : Windows) (p i : ℕ) (w : OwnedWindow) (one_way : Bool) (size start : ℕ) → find (is_owned_by p) t.windows ≡ Some w
+    → CanHoldIn (find (is_of p) (map seen t.windows)) one_way size start → CanHoldIn (Some (seen w)) one_way size start
 can_hold_at t p i w one_way size start found can =
     let P : Option ProcessWindow → Type 0 = λ o. CanHoldIn o one_way size start in
-    subst P (find_map seen (is_of p) t.windows.items ∙ ap (option_map seen) found) can
+    subst P (find_map seen (is_of p) t.windows ∙ ap (option_map seen) found) can
 
-pub can_hold_back : (t : Windows) (p : ℕ) (w : OwnedWindow) (one_way : Bool) (size start : ℕ) → find (is_owned_by p) t.windows.items ≡ Some w
-    → CanHoldIn (Some (seen w)) one_way size start → CanHoldIn (find (is_of p) (map seen t.windows.items)) one_way size start
+pub can_hold_back : (t : Windows) (p : ℕ) (w : OwnedWindow) (one_way : Bool) (size start : ℕ) → find (is_owned_by p) t.windows ≡ Some w
+    → CanHoldIn (Some (seen w)) one_way size start → CanHoldIn (find (is_of p) (map seen t.windows)) one_way size start
 can_hold_back t p w one_way size start found can =
     let P : Option ProcessWindow → Type 0 = λ o. CanHoldIn o one_way size start in
-    subst P (sym (find_map seen (is_of p) t.windows.items ∙ ap (option_map seen) found)) can
+    subst P (sym (find_map seen (is_of p) t.windows ∙ ap (option_map seen) found)) can
 
 -- ---- a buffer more
 
@@ -279,116 +290,122 @@ lives_at (q ∷ ps) (suc i) d r h e =
     elim (q.made == r) as (λ b. (b || lives_in ps r) ≡ true) [ true ↦ refl | false ↦ lives_at ps i d r (omega arith) e ]
 
 pub buffer_added : (t u : Windows) (bound i : ℕ) (ps : List Process) (bs : List Buffer) (b : Buffer) (w x : OwnedWindow) → b.made ≡ bound → IsAt t b.receiver i w
-    → x.owner ≡ w.owner → Stands x.window w.window.size (w.window.buffers ++ b ∷ []) → u.windows.items ≡ set t.windows.items i x → WindowsOf t bound ps bs
+    → x.owner ≡ w.owner → Stands x.window w.window.size (w.window.buffers ++ b ∷ []) → u.windows ≡ set t.windows i x → AreHomes u.homes (bs ++ b ∷ []) → WindowsOf t bound ps bs
     → WindowsOf u (bound + 1) ps (bs ++ b ∷ [])
-buffer_added t u bound i ps bs b w x e is own as_one is_set stands =
+buffer_added t u bound i ps bs b w x e is own as_one is_set homes stands =
     let within = is.within in
-    let h : i < length ps = omega (arith, length-map t.windows.items seen, ap length stands.windows_are, length-map ps (window_of bs)) in
+    let h : i < length ps = omega (arith, length-map t.windows seen, ap length stands.windows_are, length-map ps (window_of bs)) in
     let q = get_or ps i no_process in
     let at : seen w ≡ window_of bs q =
-    ap seen is.at ∙ sym (list.get_or-map seen t.windows.items i w) ∙ ap (λ xs. get_or xs i (seen w)) stands.windows_are
+    ap seen is.at ∙ sym (list.get_or-map seen t.windows i w) ∙ ap (λ xs. get_or xs i (seen w)) stands.windows_are
     ∙ get_or-map (window_of bs) ps i no_process (seen w) h in
     let made : q.made ≡ b.receiver = sym (ap (λ (y : ProcessWindow). y.owner) at) ∙ is.owner_is in
     let new : seen x ≡ with_added b (window_of bs q) = seen_as x w (λ xs. xs ++ b ∷ []) own as_one ∙ ap (with_added b) at in
     record {
-      windows_are = ap (map seen) is_set ∙ map-set seen t.windows.items i x ∙ ap (λ xs. set xs i (seen x)) stands.windows_are
+      windows_are = ap (map seen) is_set ∙ map-set seen t.windows i x ∙ ap (λ xs. set xs i (seen x)) stands.windows_are
           ∙ set_added ps i no_process bs b (seen x) stands.made.processes_in_order h made new;
       made = buffer_made bound ps bs b e (lives_at ps i no_process b.receiver h made) stands.made;
+      homes_are = homes;
     }
 
 -- ---- the buffer that a step made
 
-first_none : (made : ℕ) (x : Buffer) (xs : List Buffer) (p : ℕ) (b : Bool) → (x.made == made) ≡ false → buffer_in (buffers_of xs p) made ≡ None
-    → buffer_in (cond b (x ∷ buffers_of xs p) (buffers_of xs p)) made ≡ None
-first_none made x xs p true e rest = ap (λ c. cond c (Some x) (buffer_in (buffers_of xs p) made)) e ∙ rest
-first_none made x xs p false e rest = rest
+each_first : (f : List Buffer → List Buffer) (bs : List Buffer) (p : ℕ) (q : Process) (b : Bool) → (q.made == p) ≡ b → ((r : ℕ) → r ≢ p → f (buffers_of bs r) ≡ buffers_of bs r)
+    → cond b (with_buffers f (window_of bs q)) (window_of bs q) ≡ with_buffers f (window_of bs q)
+each_first f bs p q true e other = refl
+each_first f bs p q false e other =
+    ap (λ xs. record { owner = q.made; size = q.window; buffers = xs }) (sym (other q.made (λ same. absurd (false≢true (sym e ∙ eq-eqb q.made p same)))))
 
--- no later buffer was made there
-none_later : (bs : List Buffer) (made p : ℕ) → All (λ (b : Buffer). made < b.made) bs → buffer_in (buffers_of bs p) made ≡ None
-none_later [] made p later = refl
-none_later (b ∷ bs) made p later =
-    let P : Buffer → Type 0 = λ x. made < x.made in
-    let lt = All-head P b bs later in
-    first_none made b bs p (b.receiver == p) (ne_eqb b.made made (λ e. absurd (omega (arith, e, lt)))) (none_later bs made p (All-tail P b bs later))
+each_other : (f : List Buffer → List Buffer) (bs : List Buffer) (p : ℕ) (ps : List Process) → ((r : ℕ) → r ≢ p → f (buffers_of bs r) ≡ buffers_of bs r)
+    → changed (is_of p) (with_buffers f) (map (window_of bs) ps) ≡ map (with_buffers f) (map (window_of bs) ps)
+each_other f bs p [] other = refl
+each_other f bs p (q ∷ ps) other =
+    let head = each_first f bs p q (q.made == p) refl other in
+    let rest = each_other f bs p ps other in
+    cc
 
-missed_first : (made : ℕ) (x : Buffer) (xs : List Buffer) (p : ℕ) (b : Bool) → (x.made == made) ≡ b → (buffer_in xs made ≡ None → buffer_in (buffers_of xs p) made ≡ None)
-    → cond b (Some x) (buffer_in xs made) ≡ None → buffer_in (buffers_of (x ∷ xs) p) made ≡ None
-missed_first made x xs p true e rest f = cc
-missed_first made x xs p false e rest f = first_none made x xs p (x.receiver == p) e (rest f)
+-- where the buffers of other windows stay, a change of one window is that of all
+pub all_changed : (t : Windows) (bound p : ℕ) (ps : List Process) (bs : List Buffer) (f : List Buffer → List Buffer) → WindowsOf t bound ps bs
+    → ((r : ℕ) → r ≢ p → f (buffers_of bs r) ≡ buffers_of bs r) → changed (is_of p) (with_buffers f) (map seen t.windows) ≡ map (with_buffers f) (map seen t.windows)
+all_changed t bound p ps bs f stands other =
+    ap (changed (is_of p) (with_buffers f)) stands.windows_are ∙ each_other f bs p ps other ∙ ap (map (with_buffers f)) (sym stands.windows_are)
 
-none_in : (bs : List Buffer) (made p : ℕ) → buffer_in bs made ≡ None → buffer_in (buffers_of bs p) made ≡ None
-none_in [] made p e = refl
-none_in (b ∷ bs) made p e = missed_first made b bs p (b.made == made) refl (none_in bs made p) e
+pub none_changed : (t : Windows) (bound : ℕ) (ps : List Process) (bs : List Buffer) (f : List Buffer → List Buffer) → WindowsOf t bound ps bs
+    → ((r : ℕ) → f (buffers_of bs r) ≡ buffers_of bs r) → map seen t.windows ≡ map (with_buffers f) (map seen t.windows)
+none_changed t bound ps bs f stands same = stands.windows_are ∙ sym (each_is f bs bs same ps) ∙ ap (map (with_buffers f)) (sym stands.windows_are)
 
-else_first : (made : ℕ) (x : Buffer) (xs : List Buffer) (y : Buffer) (p : ℕ) (b : Bool) → (x.made == made) ≡ b → All (λ (z : Buffer). x.made < z.made) xs → y.receiver ≢ p
-    → (buffer_in xs made ≡ Some y → buffer_in (buffers_of xs p) made ≡ None) → cond b (Some x) (buffer_in xs made) ≡ Some y → buffer_in (buffers_of (x ∷ xs) p) made ≡ None
-else_first made x xs y p true e later other rest f =
-    let same : x ≡ y = cc in
-    let here = eqb-true x.made made e in
-    ap (λ c. buffer_in (cond c (x ∷ buffers_of xs p) (buffers_of xs p)) made) (ne_eqb x.receiver p (λ r. other (sym (ap (λ (z : Buffer). z.receiver) same) ∙ r)))
-    ∙ none_later xs made p (λ k d h. (let lt = later k d h in omega (arith, lt, here)))
-else_first made x xs y p false e later other rest f = first_none made x xs p (x.receiver == p) e (rest f)
+not_living : (ps : List Process) (p : ℕ) → process_in ps p ≡ None → lives_in ps p ≡ false
+not_living ps p none = nobody ps (none_found (λ (q : Process). q.made == p) ps none)
+  where
+    nobody : (ps : List Process) → All (λ (q : Process). (q.made == p) ≡ false) ps → lives_in ps p ≡ false
+    nobody [] all = refl
+    nobody (q ∷ ps) all =
+        let P : Process → Type 0 = λ x. (x.made == p) ≡ false in
+        ap (λ b. b || lives_in ps p) (All-head P q ps all) ∙ nobody ps (All-tail P q ps all)
 
--- it lies in no other process's window
-elsewhere : (bs : List Buffer) (made p : ℕ) (b : Buffer) → AllPairs (λ a c. a.made < c.made) bs → buffer_in bs made ≡ Some b → b.receiver ≢ p
-    → buffer_in (buffers_of bs p) made ≡ None
-elsewhere [] made p b order e other = cc
-elsewhere (x ∷ bs) made p b order e other =
-    else_first made x bs b p (x.made == made) refl (pairs_head (λ (a : Buffer) (c : Buffer). a.made < c.made) x bs order) other
-    (λ f. elsewhere bs made p b (pairs_tail (λ (a : Buffer) (c : Buffer). a.made < c.made) x bs order) f other) e
+-- what was made there lies in the window of the process whose home it is
+pub looked_up : (t : Windows) (bound made p : ℕ) (ps : List Process) (bs : List Buffer) (w : OwnedWindow) → WindowsOf t bound ps bs → look t.homes (home_key made) ≡ Some p
+    → find (is_owned_by p) t.windows ≡ Some w → buffer_in w.window.buffers made ≡ buffer_in bs made
+looked_up t bound made p ps bs w stands home found = by_process (process_in ps p) refl
+  where
+    by_process : (o : Option Process) → process_in ps p ≡ o → buffer_in w.window.buffers made ≡ buffer_in bs made
+    by_process None e = absurd (owner_gone t bound p ps bs w stands e found)
+    by_process (Some q) e =
+        let own = owner_found t bound p ps bs q w stands e found in
+        ap (λ xs. buffer_in xs made) own.buffers_are ∙ ap (λ m. buffer_in (buffers_of bs m) made) (is_process ps p q e) ∙ home_finds t.homes bs made p stands.homes_are home
 
-abbrev look : List Buffer → ℕ → List Process → Option Buffer
-look bs made ps = first_of (map (λ q. buffer_in (buffers_of bs q.made) made) ps)
+pub looked_past : (t : Windows) (bound made p : ℕ) (ps : List Process) (bs : List Buffer) → WindowsOf t bound ps bs → look t.homes (home_key made) ≡ Some p
+    → find (is_owned_by p) t.windows ≡ None → buffer_in bs made ≡ None
+looked_past t bound made p ps bs stands home missed = by_process (process_in ps p) refl
+  where
+    by_process : (o : Option Process) → process_in ps p ≡ o → buffer_in bs made ≡ None
+    by_process (Some q) e = absurd (owner_missed t bound p ps bs q stands e missed)
+    by_process None e = by_buffer (buffer_in bs made) refl
+      where
+        by_buffer : (o : Option Buffer) → buffer_in bs made ≡ o → o ≡ None
+        by_buffer None f = refl
+        by_buffer (Some b) f =
+            let lives = found_has (λ (x : Buffer). lives_in ps x.receiver ≡ true) (is_made_at made) bs b f stands.made.received in
+            let there = found_has (λ (x : Buffer). look t.homes (home_key x.made) ≡ Some x.receiver) (is_made_at made) bs b f stands.homes_are in
+            let home' : look t.homes (home_key made) ≡ Some b.receiver = subst (λ k. look t.homes (home_key k) ≡ Some b.receiver) (eqb-true b.made made there.1) there.0 in
+            let same : b.receiver ≡ p = cc in
+            absurd (false≢true (sym (not_living ps p e) ∙ ap (lives_in ps) (sym same) ∙ lives.0))
 
-look_none : (bs : List Buffer) (made : ℕ) (ps : List Process) → buffer_in bs made ≡ None → look bs made ps ≡ None
-look_none bs made [] e = refl
-look_none bs made (q ∷ ps) e =
-    ap (λ o. first_of (o ∷ map (λ (q : Process). buffer_in (buffers_of bs q.made) made) ps)) (none_in bs made q.made e) ∙ look_none bs made ps e
+-- the homes of all others stay where one process's buffers lose theirs
+pub homes_left : (t : Windows) (bound p : ℕ) (ps : List Process) (bs : List Buffer) (left : WordMap ℕ) → WindowsOf t bound ps bs
+    → ((m : ℕ) → IfSome (find (is_owned_by p) t.windows) (λ w. buffer_in w.window.buffers m ≡ None) → look left (home_key m) ≡ look t.homes (home_key m))
+    → AreHomes left (filter (λ b. not (b.receiver == p)) bs)
+homes_left t bound p ps bs left stands same =
+    All-filtered (λ b. not (b.receiver == p)) (λ b. look t.homes (home_key b.made) ≡ Some b.receiver) (λ b. look left (home_key b.made) ≡ Some b.receiver) stays bs stands.homes_are
+  where
+    stays : (b : Buffer) → not (b.receiver == p) ≡ true → look t.homes (home_key b.made) ≡ Some b.receiver → look left (home_key b.made) ≡ Some b.receiver
+    stays b other h = same b.made (nowhere (find (is_owned_by p) t.windows) refl) ∙ h
+      where
+        differs : (q : Process) → process_in ps p ≡ Some q → q.made ≢ b.receiver
+        differs q f e = false≢true (sym (ap not (eq-eqb b.receiver p (sym e ∙ is_process ps p q f))) ∙ other)
 
-look_first : (bs : List Buffer) (made : ℕ) (b : Buffer) (q : Process) (ps : List Process) (k : Bool) → (q.made == b.receiver) ≡ k → AllPairs (λ a c. a.made < c.made) bs
-    → buffer_in bs made ≡ Some b → (lives_in ps b.receiver ≡ true → look bs made ps ≡ Some b) → (k || lives_in ps b.receiver) ≡ true → look bs made (q ∷ ps) ≡ Some b
-look_first bs made b q ps true e order f rest lives =
-    ap (λ o. first_of (o ∷ map (λ (q : Process). buffer_in (buffers_of bs q.made) made) ps)) (made_in bs q.made made b f (sym (eqb-true q.made b.receiver e)))
-look_first bs made b q ps false e order f rest lives =
-    ap (λ o. first_of (o ∷ map (λ (q : Process). buffer_in (buffers_of bs q.made) made) ps))
-    (elsewhere bs made q.made b order f (λ same. absurd (false≢true (sym e ∙ eq-eqb q.made b.receiver (sym same)))))
-    ∙ rest lives
+        by_process : (w : OwnedWindow) (o : Option Process) → find (is_owned_by p) t.windows ≡ Some w → process_in ps p ≡ o → buffer_in w.window.buffers b.made ≡ None
+        by_process w None e f = absurd (owner_gone t bound p ps bs w stands f e)
+        by_process w (Some q) e f =
+            let own = owner_found t bound p ps bs q w stands f e in
+            ap (λ xs. buffer_in xs b.made) own.buffers_are
+            ∙ find_none (λ (x : Buffer). x.made) b.made (buffers_of bs q.made) (others_home t.homes bs b.made b.receiver q.made stands.homes_are h (differs q f))
 
-look_some : (bs : List Buffer) (made : ℕ) (b : Buffer) (ps : List Process) → AllPairs (λ a c. a.made < c.made) bs → buffer_in bs made ≡ Some b
-    → lives_in ps b.receiver ≡ true → look bs made ps ≡ Some b
-look_some bs made b [] order e lives = absurd (false≢true lives)
-look_some bs made b (q ∷ ps) order e lives =
-    look_first bs made b q ps (q.made == b.receiver) refl order e (look_some bs made b ps order e) lives
+        nowhere : (o : Option OwnedWindow) → find (is_owned_by p) t.windows ≡ o → IfSome o (λ w. buffer_in w.window.buffers b.made ≡ None)
+        nowhere None e = tt
+        nowhere (Some w) e = by_process w (process_in ps p) e refl
 
-look_is : (bs : List Buffer) (made : ℕ) (ps : List Process) (o : Option Buffer) → AllPairs (λ a c. a.made < c.made) bs
-    → All (λ (b : Buffer). lives_in ps b.receiver ≡ true) bs → buffer_in bs made ≡ o → look bs made ps ≡ o
-look_is bs made ps None order received e = look_none bs made ps e
-look_is bs made ps (Some b) order received e =
-    look_some bs made b ps order e (found_has (λ (b : Buffer). lives_in ps b.receiver ≡ true) (is_made_at made) bs b e received).0
+-- ---- a change of one window
 
-seen_buffers : (made : ℕ) (ws : List OwnedWindow) → map (λ (w : OwnedWindow). buffer_in w.window.buffers made) ws ≡ map (λ (x : ProcessWindow). buffer_in x.buffers made) (map seen ws)
-seen_buffers made [] = refl
-seen_buffers made (w ∷ ws) = ap (λ os. buffer_in w.window.buffers made ∷ os) (seen_buffers made ws)
-
-of_processes : (made : ℕ) (bs : List Buffer) (ps : List Process) → map (λ (x : ProcessWindow). buffer_in x.buffers made) (map (window_of bs) ps) ≡ map (λ (q : Process). buffer_in (buffers_of bs q.made) made) ps
-of_processes made bs [] = refl
-of_processes made bs (q ∷ ps) = ap (λ os. buffer_in (buffers_of bs q.made) made ∷ os) (of_processes made bs ps)
-
-pub looked_up : (t : Windows) (bound made : ℕ) (ps : List Process) (bs : List Buffer) → WindowsOf t bound ps bs
-    → first_of (map (λ (w : OwnedWindow). buffer_in w.window.buffers made) t.windows.items) ≡ buffer_in bs made
-looked_up t bound made ps bs stands =
-    ap first_of (seen_buffers made t.windows.items ∙ ap (map (λ (x : ProcessWindow). buffer_in x.buffers made)) stands.windows_are ∙ of_processes made bs ps)
-    ∙ look_is bs made ps (buffer_in bs made) stands.made.buffers_in_order stands.made.received refl
+rising_seen : (ws : List OwnedWindow) (w : OwnedWindow) → AreInOrder ws → Rising (λ (x : ProcessWindow). x.owner) (map seen ws)
+rising_seen ws w order i j d lt h =
+    let within : j < length ws = omega (arith, h, length-map ws seen) in
+    let first = ap (λ (x : ProcessWindow). x.owner) (get_or-map seen ws i w d (omega (arith, lt, within))) in
+    let second = ap (λ (x : ProcessWindow). x.owner) (get_or-map seen ws j w d within) in
+    let up = order i j w lt within in
+    omega (arith, first, second, up)
 
 -- ---- the answers of the table
-
-look_on : {A B : Type 0} (f : A → Option B) (xs : List A) (i : ℕ) (d : A) → i < length xs → f (get_or xs i d) ≡ None → first_of (map f (drop i xs)) ≡ first_of (map f (drop (suc i) xs))
-look_on f [] i d h e = absurd (omega arith)
-look_on f (x ∷ xs) zero d h e = ap (λ o. first_of (o ∷ map f xs)) e
-look_on f (x ∷ xs) (suc i) d h e = look_on f xs i d (omega arith) e
-
-pub look_next : {A B : Type 0} (f : A → Option B) (xs : List A) (i : ℕ) (d : A) → i < length xs → f (get_or xs i d) ≡ None → first_of (map f (drop i xs)) ≡ first_of (map f (drop (i + 1) xs))
-look_next f xs i d h e = rw add-one (look_on f xs i d h e)
 
 module _ {A : Type 0} (p : A → Bool) where
   pass_first : (x : A) (xs : List A) (b : Bool) → (length xs ≤ position_or_len p xs → find p xs ≡ None) → suc (length xs) ≤ cond (not b) (1 + position_or_len p xs) 0
@@ -407,14 +424,29 @@ module _ {A : Type 0} (p : A → Bool) where
   pub none_at : (xs : List A) → position p xs ≡ None → find p xs ≡ None
   none_at xs e = past_all xs (none_before (position_or_len p xs) (length xs) (nat_lt (position_or_len p xs) (length xs)) refl e)
 
-pub can_hold_nowhere : (t : Windows) (p : ℕ) (one_way : Bool) (size start : ℕ) → find (is_owned_by p) t.windows.items ≡ None
-    → CanHoldIn (find (is_of p) (map seen t.windows.items)) one_way size start → ⊥
+pub one_changed : (ws : List OwnedWindow) (p i : ℕ) (w x : OwnedWindow) (f : List Buffer → List Buffer) → AreInOrder ws → position (is_owned_by p) ws ≡ Some i → w ≡ get_or ws i w
+    → seen x ≡ with_buffers f (seen w) → map seen (set ws i x) ≡ changed (is_of p) (with_buffers f) (map seen ws)
+one_changed ws p i w x f order e at is =
+    let there = position-Some (is_owned_by p) ws i w e in
+    let within = there.0 in
+    let owner = λ (y : ProcessWindow). y.owner in
+    let here : (d : ProcessWindow) → (get_or (map seen ws) i d).owner ≡ p = λ d. ap owner (get_or-map seen ws i w d within) ∙ eqb-true (get_or ws i w).owner p there.1 in
+    map-set seen ws i x ∙ ap (set (map seen ws) i) (is ∙ ap (with_buffers f) (ap seen at ∙ sym (list.get_or-map seen ws i w)))
+    ∙ sym (changed_at owner (with_buffers f) p (map seen ws) i (seen w) (distinct owner (map seen ws) (rising_seen ws w order)) (omega (arith, within, length-map ws seen)) here)
+
+pub one_missed : (ws : List OwnedWindow) (p : ℕ) (f : List Buffer → List Buffer) → position (is_owned_by p) ws ≡ None → map seen ws ≡ changed (is_of p) (with_buffers f) (map seen ws)
+one_missed ws p f e =
+    sym (changed_none (λ (y : ProcessWindow). y.owner) (with_buffers f) p (map seen ws)
+    (none_found (is_of p) (map seen ws) (find_map seen (is_of p) ws ∙ ap (option_map seen) (none_at (is_owned_by p) ws e))))
+
+pub can_hold_nowhere : (t : Windows) (p : ℕ) (one_way : Bool) (size start : ℕ) → find (is_owned_by p) t.windows ≡ None
+    → CanHoldIn (find (is_of p) (map seen t.windows)) one_way size start → ⊥
 can_hold_nowhere t p one_way size start missed can =
     let P : Option ProcessWindow → Type 0 = λ o. CanHoldIn o one_way size start in
-    subst P (find_map seen (is_of p) t.windows.items ∙ ap (option_map seen) missed) can
+    subst P (find_map seen (is_of p) t.windows ∙ ap (option_map seen) missed) can
 
-pub room_of_none : (t : Windows) (p : ℕ) → find (is_owned_by p) t.windows.items ≡ None → 1 ≤ room_of (find (is_owned_by p) t.windows.items)
-room_of_none t p e = let is : room_of (find (is_owned_by p) t.windows.items) ≡ 1 = ap room_of e in omega (arith, is)
+pub room_of_none : (t : Windows) (p : ℕ) → find (is_owned_by p) t.windows ≡ None → 1 ≤ room_of (find (is_owned_by p) t.windows)
+room_of_none t p e = let is : room_of (find (is_owned_by p) t.windows) ≡ 1 = ap room_of e in omega (arith, is)
 
 pub fits_whole : (size : ℕ) (bs : List Buffer) (n : ℕ) (r : Result ℕ Cause) → single.IsWindow size bs → IfOk r (λ p. single.IsLeastFree size bs n p) → IfOk r (λ p. n ≤ 4194304)
 fits_whole size bs n (Ok p) is least = let inside = least.room.inside in let small = is.small in omega (arith, inside, small)
@@ -422,13 +454,13 @@ fits_whole size bs n (Err x) is least = tt
 
 -- what is read hands over the buffer that was made there
 pub handed_by : (t u : Windows) (bound : ℕ) (ps : List Process) (bs : List Buffer) (o : Option Buffer) (made : ℕ) → Some made ≡ option_map made_of_buffer o
-    → map seen u.windows.items ≡ map (with_buffers (changed (is_made_at made) hand_out)) (map seen t.windows.items) → WindowsOf t bound ps bs
+    → map seen u.windows ≡ map (with_buffers (changed (is_made_at made) hand_out)) (map seen t.windows) → u.homes ≡ t.homes → WindowsOf t bound ps bs
     → WindowsOf u bound ps (handed_buffers bs o)
-handed_by t u bound ps bs None made e f stands = cc
-handed_by t u bound ps bs (Some b) made e f stands =
+handed_by t u bound ps bs None made e f homes stands = cc
+handed_by t u bound ps bs (Some b) made e f homes stands =
     let same : made ≡ b.made = cc in
     let P : ℕ → Type 0 = λ m. WindowsOf u bound ps (changed (is_made_at m) hand_out bs) in
-    subst P same (handed t u bound ps bs made f stands)
+    subst P same (handed t u bound ps bs made f homes stands)
 
 pub none_handed_by : (t : Windows) (bound : ℕ) (ps : List Process) (bs : List Buffer) (o : Option Buffer) → None ≡ option_map made_of_buffer o → WindowsOf t bound ps bs
     → WindowsOf t bound ps (handed_buffers bs o)

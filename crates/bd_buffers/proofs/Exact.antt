@@ -1,21 +1,28 @@
 -- The holes stay what no buffer spans.
-use Rattle.std.proofs.Common.{◌≡◌, ℕ, ◌+◌, ◌-◌, ◌<◌, ◌≤◌, ◌%◌, List, length, get_or, refl, sym, ◌∙◌, Bool, [], ◌∷◌, ◌++◌, Some, arith, inl, inr, ◌⊎◌}
-use Rattle.std.specs.Prelude.{remove}
+use Rattle.std.proofs.Common.{◌≡◌, ℕ, ◌+◌, ◌-◌, ◌<◌, ◌≤◌, ◌%◌, List, length, get_or, refl, sym, ap, ◌∙◌, subst, cond, Bool, [], ◌∷◌, ◌++◌, Some, arith, inl, inr, ◌⊎◌}
+use Rattle.std.specs.Prelude.{remove, None, vec_len, vec_capacity}
 use Rattle.std.proofs.lemmas.Bool.{cases_lt}
 use Rattle.std.proofs.lemmas.List.{length_push, get_or_append_left, get_or_push}
 use Rattle.std.proofs.lemmas.List.Elements.{All-push}
 use Rattle.std.proofs.lemmas.List.Edits.{length-remove, get_or-remove_below, get_or-remove_above}
 use Rattle.bd_space.specs.declared.space.Buffer.{Buffer}
 use Rattle.bd_buffers.specs.declared.hole.Hole.{Hole}
-use Rattle.bd_buffers.specs.declared.spot.Spot.{Spot}
-use Rattle.bd_buffers.proofs.Listed.{spots_handed}
-use Rattle.bd_buffers.specs.Holes.{IsFreeByte, IsHoles, first_fit, taken, released}
-use Rattle.bd_buffers.specs.Buffer.{IsApart, IsPlaced}
+use Rattle.bd_buffers.specs.declared.ground.Ground.{Ground}
+use Rattle.bd_words.specs.declared.key.WordKey.{WordKey}
+use Rattle.bd_words.specs.Keys.{same_word}
+use Rattle.bd_words.specs.Look.{look}
+use Rattle.bd_space.specs.Freeing.{pointer}
+use Rattle.bd_buffers.specs.Spots.{spot_key}
+use Rattle.bd_buffers.specs.Rows.{IsWithout}
+use Rattle.bd_buffers.proofs.Live.{changed_length, one_less}
+use Rattle.bd_buffers.proofs.Listed.{spots_handed, spots_forgotten}
+use Rattle.bd_buffers.specs.Holes.{Free, IsFreeByte, IsHoles, first_fit, taken, released}
+use Rattle.bd_buffers.specs.Buffer.{IsApart, IsPlaced, one_way_share}
 use Rattle.bd_space.specs.Words.{changed}
 use Rattle.bd_space.specs.ReadItems.{hand_out}
-use Rattle.bd_buffers.specs.Window.{IsWindow, Keeps}
+use Rattle.bd_buffers.specs.Window.{IsWindow, Keeps, one_way_size}
 use Rattle.bd_buffers.proofs.Changes.{All-changed, All-unchanged}
-use Rattle.bd_buffers.proofs.Kept.{window_handed, one_way_handed}
+use Rattle.bd_buffers.proofs.Kept.{window_handed, one_way_handed, window_removed, one_way_removed}
 use Rattle.bd_buffers.proofs.Fits.{filled, fit_begins}
 use Rattle.bd_buffers.proofs.Merging.{IsOutside, IsUncovered, taken_to, taken_from, spaced_taken, taken_within, released_to, released_from, spaced_released, released_tail}
 
@@ -129,17 +136,43 @@ handed_free size q p bs f = (f.0, All-changed p hand_out (λ b. (q < b.start) �
 free_handed : (size q : ℕ) (p : Buffer → Bool) (bs : List Buffer) → IsFreeByte size (changed p hand_out bs) q → IsFreeByte size bs q
 free_handed size q p bs f = (f.0, All-unchanged p hand_out (λ b. (q < b.start) ⊎ (b.start + b.size ≤ q)) (λ b x. x) bs f.1)
 
-pub keeps_handed : (size one_way tail used capacity : ℕ) (p : Buffer → Bool) (bs : List Buffer) (holes : List Hole) (spots : List Spot) → Keeps size one_way bs tail holes spots used capacity
-    → Keeps size one_way (changed p hand_out bs) tail holes spots used capacity
-keeps_handed size one_way tail used capacity p bs holes spots is = record {
-  window = window_handed size p bs is.window;
-  free = record {
-    spaced = is.free.spaced;
-    within = is.free.within;
-    free = λ q c. handed_free size q p bs (is.free.free q c);
-    covered = λ q f. is.free.covered q (free_handed size q p bs f);
-  };
-  starts = spots_handed p bs spots is.starts;
-  total = is.total ∙ sym (one_way_handed p bs);
-  spare = is.spare;
-}
+pub keeps_handed : (p : Buffer → Bool) (bs : List Buffer) (g : Ground) → Keeps bs g → Keeps (changed p hand_out bs) g
+keeps_handed p bs g is =
+    let spare = is.spare in
+    let same = changed_length p bs in
+    record {
+      window = window_handed g.size p bs is.window;
+      free = record {
+        spaced = is.free.spaced;
+        within = is.free.within;
+        free = λ q c. handed_free g.size q p bs (is.free.free q c);
+        covered = λ q f. is.free.covered q (free_handed g.size q p bs f);
+      };
+      starts = spots_handed p bs g.spots is.starts;
+      total = is.total ∙ sym (one_way_handed p bs);
+      spare = omega (arith, spare, same);
+    }
+
+-- where one buffer ended, and its room is free again
+pub keeps_without : (b : Buffer) (bs new : List Buffer) (g left : Ground) → Keeps bs g → IsWithout b bs new → left.size ≡ g.size
+    → released b.start (b.start + b.size) g.tail g.holes.items ≡ record { holes = left.holes.items; tail = left.tail }
+    → ((k : WordKey) → look left.spots k ≡ cond (same_word (spot_key (pointer b)) k) None (look g.spots k))
+    → left.one_way + one_way_share b ≡ g.one_way → vec_len left.holes ≤ vec_len g.holes + 1 → vec_capacity left.holes ≡ vec_capacity g.holes → Keeps new left
+keeps_without b bs new g left is gone size free spots share len capacity =
+    let window : IsWindow g.size new = subst (IsWindow g.size) (sym gone.left) (window_removed g.size gone.index bs b is.window gone.within) in
+    let holes : IsHoles g.size new (released b.start (b.start + b.size) g.tail g.holes.items).tail (released b.start (b.start + b.size) g.tail g.holes.items).holes =
+    subst (λ xs. IsHoles g.size xs (released b.start (b.start + b.size) g.tail g.holes.items).tail (released b.start (b.start + b.size) g.tail g.holes.items).holes) (sym gone.left)
+    (holes_released g.size g.tail gone.index bs g.holes.items b is.window is.free gone.within gone.at) in
+    let spare = is.spare in
+    let total = is.total in
+    let own = ap one_way_share (gone.at b) in
+    let less = one_way_removed bs gone.index b gone.within in
+    let rest = ap one_way_size gone.left in
+    let fewer = one_less b bs new gone in
+    record {
+      window = subst (λ n. IsWindow n new) (sym size) window;
+      free = subst (λ n. IsHoles n new left.tail left.holes.items) (sym size) (subst (λ (f : Free). IsHoles g.size new f.tail f.holes) free holes);
+      starts = spots_forgotten g.size b bs new g.spots left.spots is.starts is.window gone spots;
+      total = omega (arith, total, own, less, rest, share);
+      spare = omega (arith, spare, fewer, len, capacity);
+    }

@@ -4,10 +4,13 @@ pub mod Fits
 pub mod Merging
 pub mod Split
 pub mod Made
+pub mod Live
 pub mod Kept
 pub mod Listed
 pub mod Exact
 pub mod InSpace
 pub mod Order
+pub mod Homes
+pub mod Owners
 pub mod AllWindows
 pub mod WindowLaws

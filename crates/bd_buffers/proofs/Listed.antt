@@ -1,23 +1,39 @@
 -- Each live buffer is found by its pointer, through each change.
-use Rattle.std.proofs.Common.{◌≡◌, ℕ, ◌<◌, Bool, true, false, cond, List, [], ◌∷◌, ◌++◌, length, get_or, refl, ap, sym, ◌∙◌, arith, All, subst, inl, inr}
-use Rattle.std.specs.Prelude.{◌==◌, not, find, filter, remove, Some, None, Option, option_map, AllPairs}
+use Rattle.std.proofs.Common.{◌≡◌, ℕ, ◌<◌, Bool, true, false, cond, List, [], ◌∷◌, ◌++◌, get_or, refl, ap, sym, ◌∙◌, arith, All, subst, inl, inr}
+use Rattle.std.specs.Prelude.{◌==◌, not, find, filter, Some, None, Option, option_map}
 use Rattle.std.proofs.lemmas.List.{append-nil}
-use Rattle.std.proofs.lemmas.Bool.{eqb-true, eqb-false}
-use Rattle.std.proofs.lemmas.List.Kept.{AllPairs-filter}
+use Rattle.std.proofs.lemmas.Bool.{eqb-true, eqb-false, false≢true}
 use Rattle.bd_space.specs.declared.space.Buffer.{Buffer}
 use Rattle.bd_space.specs.Words.{changed}
 use Rattle.bd_space.specs.ReadItems.{hand_out}
 use Rattle.bd_space.specs.Freeing.{pointer}
-use Rattle.bd_buffers.specs.declared.spot.Spot.{Spot}
+use Rattle.bd_words.specs.declared.key.WordKey.{WordKey}
+use Rattle.bd_words.specs.declared.map.WordMap.{WordMap}
+use Rattle.bd_words.specs.Keys.{same_word}
+use Rattle.bd_words.specs.Look.{look}
+use Rattle.bd_words.proofs.Keys.{word-eq, word-self}
 use Rattle.bd_buffers.specs.Buffer.{IsApart, at_pointer}
 use Rattle.bd_buffers.specs.Window.{IsWindow}
-use Rattle.bd_buffers.specs.Spots.{AreSpots, is_spot_at}
+use Rattle.bd_buffers.specs.Spots.{AreSpots, spot_key}
+use Rattle.bd_buffers.specs.Rows.{IsWithout}
 use Rattle.bd_buffers.proofs.Changes.{none_found}
 use Rattle.bd_buffers.proofs.Fits.{cases_bool, filled}
-use Rattle.bd_buffers.proofs.Made.{Distinct, find_none, find_beside, find_new, find_gone, find_stays, filter_at, none_of}
+use Rattle.bd_buffers.proofs.Made.{Distinct, find_none, find_beside, find_new, find_gone, find_stays, filter_at}
 
-pub spots_empty : AreSpots [] []
-spots_empty = record { in_order = λ i j d lt h. absurd (omega arith); found = λ p. refl }
+pub spots_empty : (spots : WordMap ℕ) → ((k : WordKey) → look spots k ≡ None) → AreSpots [] spots
+spots_empty spots none = λ p. none (spot_key p)
+
+word_by : (p q : ℕ) (t b : Bool) → same_word (spot_key p) (spot_key q) ≡ t → (p == q) ≡ b → t ≡ b
+word_by p q true true e f = refl
+word_by p q true false e f = absurd (eqb-false p q f (ap (λ (k : WordKey). k.word) (word-eq (spot_key p) (spot_key q) e)))
+word_by p q false true e f =
+    let same = eqb-true p q f in
+    absurd (false≢true (sym e ∙ ap (λ k. same_word (spot_key p) (spot_key k)) (sym same) ∙ word-self (spot_key p)))
+word_by p q false false e f = refl
+
+-- the keys of two pointers are the same where the pointers are
+pub key_word : (p q : ℕ) → same_word (spot_key p) (spot_key q) ≡ (p == q)
+key_word p q = word_by p q (same_word (spot_key p) (spot_key q)) (p == q) refl refl
 
 -- buffers that lie apart begin at different places
 starts_differ : (p n : ℕ) (b : Buffer) → 0 < n → 0 < b.size → IsApart p n b → b.start ≡ p → ⊥
@@ -47,58 +63,41 @@ none_there size n bs b is pos free =
     differs : (x : Buffer) → (pointer x ≡ pointer b → ⊥) → (pointer x == pointer b) ≡ false
     differs x other = not_true (pointer x == pointer b) (λ t. other (eqb-true (pointer x) (pointer b) t))
 
-pub no_spot : (bs : List Buffer) (spots : List Spot) (p : ℕ) → AreSpots bs spots → find (at_pointer p) bs ≡ None → find (is_spot_at p) spots ≡ None
-no_spot bs spots p is none = sym (none_of (λ (s : Spot). s.made) (find (is_spot_at p) spots) (sym (is.found p ∙ ap (option_map (λ (b : Buffer). b.made)) none)))
-
 all_false : (p : ℕ) (bs : List Buffer) → find (at_pointer p) bs ≡ None → All (λ b. at_pointer p b ≡ false) bs
 all_false p bs e = none_found (at_pointer p) bs e
 
 -- a buffer comes
-pub spots_noted : (bs : List Buffer) (b : Buffer) (spots left : List Spot) → AreSpots bs spots → find (at_pointer (pointer b)) bs ≡ None → AllPairs (λ a b. a.pointer < b.pointer) left
-    → ((p : ℕ) → find (is_spot_at p) left ≡ cond (pointer b == p) (Some (record { pointer = pointer b; made = b.made })) (find (is_spot_at p) spots))
-    → AreSpots (bs ++ b ∷ []) left
-spots_noted bs b spots left is new in_order found = record {
-  in_order = in_order;
-  found = λ p. elim (cases_bool (pointer b == p)) [
-    | inl here ↦ (
-        let same = eqb-true (pointer b) p here in
-        let none : All (λ x. at_pointer p x ≡ false) (bs ++ []) =
-        subst (λ xs. All (λ x. at_pointer p x ≡ false) xs) (sym (append-nil bs)) (all_false p bs (ap (λ k. find (at_pointer k) bs) (sym same) ∙ new)) in
-        ap (option_map (λ (s : Spot). s.made)) (found p ∙ ap (λ t. cond t (Some (record { pointer = pointer b; made = b.made })) (find (is_spot_at p) spots)) here)
-        ∙ sym (ap (option_map (λ (x : Buffer). x.made)) (find_new (at_pointer p) b bs [] here none)))
-    | inr other ↦
-        ap (option_map (λ (s : Spot). s.made)) (found p ∙ ap (λ t. cond t (Some (record { pointer = pointer b; made = b.made })) (find (is_spot_at p) spots)) other)
-        ∙ is.found p
-        ∙ sym (ap (option_map (λ (x : Buffer). x.made)) (find_beside (at_pointer p) b bs [] other ∙ ap (find (at_pointer p)) (append-nil bs)))
-  ];
-}
+pub spots_noted : (bs : List Buffer) (b : Buffer) (spots left : WordMap ℕ) → AreSpots bs spots → find (at_pointer (pointer b)) bs ≡ None
+    → ((k : WordKey) → look left k ≡ cond (same_word (spot_key (pointer b)) k) (Some b.made) (look spots k)) → AreSpots (bs ++ b ∷ []) left
+spots_noted bs b spots left is new found = λ p.
+    found (spot_key p) ∙ ap (λ t. cond t (Some b.made) (look spots (spot_key p))) (key_word (pointer b) p)
+    ∙ elim (cases_bool (pointer b == p)) [
+      | inl here ↦ (
+          let same = eqb-true (pointer b) p here in
+          let none : All (λ x. at_pointer p x ≡ false) (bs ++ []) =
+          subst (λ xs. All (λ x. at_pointer p x ≡ false) xs) (sym (append-nil bs)) (all_false p bs (ap (λ k. find (at_pointer k) bs) (sym same) ∙ new)) in
+          ap (λ t. cond t (Some b.made) (look spots (spot_key p))) here ∙ sym (ap (option_map (λ (x : Buffer). x.made)) (find_new (at_pointer p) b bs [] here none)))
+      | inr other ↦
+          ap (λ t. cond t (Some b.made) (look spots (spot_key p))) other ∙ is p
+          ∙ sym (ap (option_map (λ (x : Buffer). x.made)) (find_beside (at_pointer p) b bs [] other ∙ ap (find (at_pointer p)) (append-nil bs)))
+    ]
 
 -- a buffer goes
-pub spots_forgotten : (size i m : ℕ) (bs : List Buffer) (spots left : List Spot) → AreSpots bs spots → IsWindow size bs → i < length bs → ((d : Buffer) → pointer (get_or bs i d) ≡ m)
-    → left ≡ filter (λ s. not (is_spot_at m s)) spots → AreSpots (remove bs i) left
-spots_forgotten size i m bs spots left is window lt at left-is = record {
-  in_order =
-      (let P : List Spot → Type 0 = λ xs. AllPairs (λ a b. a.pointer < b.pointer) xs in
-      subst P (sym left-is) (AllPairs-filter (λ (a : Spot) (b : Spot). a.pointer < b.pointer) (λ s. not (is_spot_at m s)) spots is.in_order));
-  found = λ p.
-      (let gone : filter (λ b. not (at_pointer m b)) bs ≡ remove bs i = filter_at pointer m bs i (distinct_pointers size bs window) lt at in
-      let on_left = ap (λ xs. option_map (λ (s : Spot). s.made) (find (is_spot_at p) xs)) left-is in
-      let on_right = ap (λ xs. option_map (λ (b : Buffer). b.made) (find (at_pointer p) xs)) gone in
-      on_left
-      ∙ elim (cases_bool (p == m)) [
-        | inl here ↦ (
-            let same = eqb-true p m here in
-            let P : ℕ → Type 0 = λ k. option_map (λ (s : Spot). s.made) (find (is_spot_at k) (filter (λ s. not (is_spot_at m s)) spots))
-            ≡ option_map (λ (b : Buffer). b.made) (find (at_pointer k) (filter (λ b. not (at_pointer m b)) bs)) in
-            subst P (sym same)
-            (ap (option_map (λ (s : Spot). s.made)) (find_gone (λ (s : Spot). s.pointer) m spots) ∙ sym (ap (option_map (λ (b : Buffer). b.made)) (find_gone pointer m bs))))
-        | inr other ↦ (
-            let apart = eqb-false p m other in
-            ap (option_map (λ (s : Spot). s.made)) (find_stays (λ (s : Spot). s.pointer) m p spots apart) ∙ is.found p
-            ∙ sym (ap (option_map (λ (b : Buffer). b.made)) (find_stays pointer m p bs apart)))
-      ]
-      ∙ on_right);
-}
+pub spots_forgotten : (size : ℕ) (b : Buffer) (bs new : List Buffer) (spots left : WordMap ℕ) → AreSpots bs spots → IsWindow size bs → IsWithout b bs new
+    → ((k : WordKey) → look left k ≡ cond (same_word (spot_key (pointer b)) k) None (look spots k)) → AreSpots new left
+spots_forgotten size b bs new spots left is window gone found = λ p.
+    let m = pointer b in
+    let rest : filter (λ x. not (at_pointer m x)) bs ≡ new = filter_at pointer m bs gone.index (distinct_pointers size bs window) gone.within (λ d. ap pointer (sym (gone.at d))) ∙ sym gone.left in
+    found (spot_key p) ∙ ap (λ t. cond t None (look spots (spot_key p))) (key_word m p)
+    ∙ elim (cases_bool (m == p)) [
+      | inl here ↦ (
+          let P : ℕ → Type 0 = λ k. find (at_pointer k) (filter (λ x. not (at_pointer m x)) bs) ≡ None in
+          ap (λ t. cond t None (look spots (spot_key p))) here ∙ sym (ap (option_map (λ (x : Buffer). x.made)) (subst P (eqb-true m p here) (find_gone pointer m bs))))
+      | inr other ↦ (
+          let apart = eqb-false m p other in
+          ap (λ t. cond t None (look spots (spot_key p))) other ∙ is p ∙ sym (ap (option_map (λ (x : Buffer). x.made)) (find_stays pointer m p bs (λ e. apart (sym e)))))
+    ]
+    ∙ ap (λ xs. option_map (λ (x : Buffer). x.made) (find (at_pointer p) xs)) rest
 
 -- a buffer is handed out
 handed_first : (p : ℕ) (x : Buffer) (b : Bool) (o r : Option Buffer) → option_map (λ (y : Buffer). y.made) o ≡ option_map (λ (y : Buffer). y.made) r
@@ -120,5 +119,5 @@ made_handed : (p : ℕ) (q : Buffer → Bool) (bs : List Buffer)
 made_handed p q [] = refl
 made_handed p q (x ∷ bs) = handed_first p x (q x) (find (at_pointer p) (changed q hand_out bs)) (find (at_pointer p) bs) (made_handed p q bs)
 
-pub spots_handed : (q : Buffer → Bool) (bs : List Buffer) (spots : List Spot) → AreSpots bs spots → AreSpots (changed q hand_out bs) spots
-spots_handed q bs spots is = record { in_order = is.in_order; found = λ p. is.found p ∙ sym (made_handed p q bs) }
+pub spots_handed : (q : Buffer → Bool) (bs : List Buffer) (spots : WordMap ℕ) → AreSpots bs spots → AreSpots (changed q hand_out bs) spots
+spots_handed q bs spots is = λ p. is p ∙ sym (made_handed p q bs)

@@ -1,14 +1,13 @@
 -- Lists in which a key rises: an element is found by its key alone.
-use Rattle.std.proofs.Common.{◌≡◌, ℕ, zero, suc, ◌-◌, ◌<◌, ◌≤◌, Bool, true, false, cond, List, [], ◌∷◌, ◌++◌, length, get_or, take, drop, set, subst, refl, ap, sym, ◌∙◌, arith, All, eq-eqb, ne_eqb, inl, inr}
+use Rattle.std.proofs.Common.{◌≡◌, ℕ, zero, suc, ◌-◌, ◌<◌, ◌≤◌, Bool, true, false, cond, List, [], ◌∷◌, ◌++◌, length, get_or, set, refl, ap, sym, ◌∙◌, arith, All, eq-eqb, ne_eqb, inl, inr}
 use Rattle.std.specs.Prelude.{◌==◌, not, find, filter, remove, Some, None, Option, option_map, AllPairs}
 use Rattle.std.specs.List.{slice_get}
-use Rattle.std.proofs.lemmas.Option.{slice_get_within, get_or_from_slice_get}
+use Rattle.std.proofs.lemmas.Option.{get_or_from_slice_get}
 use Rattle.std.specs.List.Sorted.{IsNonDecreasingBy}
 use Rattle.std.proofs.lemmas.Bool.{cases_lt, eqb-true}
-use Rattle.std.proofs.lemmas.List.{append-nil, drop_all, take_all, take-append-drop}
-use Rattle.std.proofs.lemmas.List.Elements.{All-head, All-tail, All-cons}
+use Rattle.std.proofs.lemmas.List.Elements.{All-head, All-tail}
 use Rattle.bd_space.specs.Words.{changed}
-use Rattle.bd_buffers.proofs.Changes.{pairs_head, pairs_tail, pairs_cons, found_has, none_found}
+use Rattle.bd_buffers.proofs.Changes.{pairs_head, pairs_tail, found_has}
 
 module _ {A : Type 0} (key : A → ℕ) where
   abbrev pub Rising : List A → Type 0
@@ -36,12 +35,6 @@ module _ {A : Type 0} (key : A → ℕ) where
         | inl before ↦ let up = rising k (length xs - 1) d before (omega arith) in omega (arith, up, last, low)
         | inr ge ↦ let same : k ≡ length xs - 1 = omega arith in rw same (omega (arith, last, low))
       ]
-
-  pub newest_last : (xs : List A) (b : A) (n : ℕ) → slice_get xs (length xs - 1) ≡ Some b → All (λ x. key x < n) xs → key b < n
-  newest_last xs b n is all =
-      let last = ap key (get_or_from_slice_get xs (length xs - 1) b b is) in
-      let low = all (length xs - 1) b (slice_get_within xs (length xs - 1) b is) in
-      omega (arith, last, low)
 
   later_differ : (m : ℕ) (xs : List A) → All (λ y. m < key y) xs → All (λ y. (key y == m) ≡ false) xs
   later_differ m xs later k d lt = let up = later k d lt in ne_eqb (key (get_or xs k d)) m (λ e. absurd (omega (arith, e, up)))
@@ -116,24 +109,6 @@ module _ {A : Type 0} (key : A → ℕ) where
       ap (λ b. cond b (f x) x ∷ changed (λ y. key y == m) f xs) (first_differs m x xs i apart (omega arith) is)
       ∙ ap (λ ys. x ∷ ys) (changed_at f m xs i d (pairs_tail (λ a b. key a ≡ key b → ⊥) x xs apart) (omega arith) is)
 
--- ---- an element comes at its place
-
-module _ {A : Type 0} (key : A → ℕ) where
-  All-between : (P : A → Type 0) (xs : List A) (i : ℕ) (s : A) → P s → All P xs → All P (take i xs ++ s ∷ drop i xs)
-  All-between P xs zero s new all = All-cons P s xs new all
-  All-between P [] (suc i) s new all = All-cons P s [] new all
-  All-between P (x ∷ xs) (suc i) s new all =
-      All-cons P x (take i xs ++ s ∷ drop i xs) (All-head P x xs all) (All-between P xs i s new (All-tail P x xs all))
-
-  pub rising_between : (xs : List A) (i : ℕ) (s : A) → i ≤ length xs → Rising key xs → ((k : ℕ) (d : A) → k < i → key (get_or xs k d) < key s)
-      → ((k : ℕ) (d : A) → i ≤ k → k < length xs → key s < key (get_or xs k d)) → Rising key (take i xs ++ s ∷ drop i xs)
-  rising_between xs zero s le rising below from = pairs_cons (λ a b. key a < key b) s xs (λ k d lt. from k d (omega arith) lt) rising
-  rising_between [] (suc i) s le rising below from = absurd (omega arith)
-  rising_between (x ∷ xs) (suc i) s le rising below from =
-      pairs_cons (λ a b. key a < key b) x (take i xs ++ s ∷ drop i xs)
-      (All-between (λ y. key x < key y) xs i s (below zero x (omega arith)) (pairs_head (λ a b. key a < key b) x xs rising))
-      (rising_between xs i s (omega arith) (pairs_tail (λ a b. key a < key b) x xs rising) (λ k d lt. below (suc k) d (omega arith)) (λ k d ge lt. from (suc k) d (omega arith) (omega arith)))
-
 -- ---- what is found where an element comes between others
 
 module _ {A : Type 0} (q : A → Bool) (s : A) where
@@ -146,22 +121,6 @@ module _ {A : Type 0} (q : A → Bool) (s : A) where
   find_new (x ∷ xs) ys e none =
       let P : A → Type 0 = λ y. q y ≡ false in
       ap (λ t. cond t (Some x) (find q (xs ++ s ∷ ys))) (All-head P x (xs ++ ys) none) ∙ find_new xs ys e (All-tail P x (xs ++ ys) none)
-
-module _ {A : Type 0} (key : A → ℕ) where
-  found_first : (s : A) (xs : List A) (i p : ℕ) (b : Bool) → (key s == p) ≡ b → find (λ y. key y == key s) xs ≡ None
-      → find (λ y. key y == p) (take i xs ++ s ∷ drop i xs) ≡ cond b (Some s) (find (λ y. key y == p) xs)
-  found_first s xs i p true e none =
-      let same = eqb-true (key s) p e in
-      let P : ℕ → Type 0 = λ k. find (λ y. key y == k) xs ≡ None in
-      let Q : List A → Type 0 = λ ys. All (λ y. (key y == p) ≡ false) ys in
-      find_new (λ y. key y == p) s (take i xs) (drop i xs) e (subst Q (sym (take-append-drop i xs)) (none_found (λ y. key y == p) xs (subst P same none)))
-  found_first s xs i p false e none =
-      find_beside (λ y. key y == p) s (take i xs) (drop i xs) e ∙ ap (find (λ y. key y == p)) (take-append-drop i xs)
-
-  -- where one comes whose key is new
-  pub find_put : (s : A) (xs : List A) (i p : ℕ) → find (λ y. key y == key s) xs ≡ None
-      → find (λ y. key y == p) (take i xs ++ s ∷ drop i xs) ≡ cond (key s == p) (Some s) (find (λ y. key y == p) xs)
-  find_put s xs i p none = found_first s xs i p (key s == p) refl none
 
 -- ---- what is found where those with a key go
 
@@ -217,52 +176,3 @@ module _ {A : Type 0} (key : A → ℕ) (q : A → Bool) where
 pub none_of : {A B : Type 0} (f : A → B) (o : Option A) → None ≡ option_map f o → None ≡ o
 none_of f None e = refl
 none_of f (Some x) e = cc
-
--- ---- a walk from the end, which removes those that aren't kept
-
-module _ {A : Type 0} (keep : A → Bool) where
-  -- what the walk has left at the index i
-  abbrev pub walked : ℕ → List A → List A
-  walked i xs = take i xs ++ filter keep (drop i xs)
-
-  pub walked_none : (xs : List A) (n : ℕ) → length xs ≤ n → xs ≡ walked n xs
-  walked_none xs n le = rw (drop_all n xs le, take_all n xs le) (sym (append-nil xs))
-
-  removed_there : (xs : List A) (k : ℕ) (ys : List A) → k < length xs → remove (take (suc k) xs ++ ys) k ≡ take k xs ++ ys
-  removed_there [] k ys lt = absurd (omega arith)
-  removed_there (x ∷ xs) zero ys lt = refl
-  removed_there (x ∷ xs) (suc k) ys lt = ap (λ zs. x ∷ zs) (removed_there xs k ys (omega arith))
-
-  element_there : (xs : List A) (k : ℕ) (ys : List A) (d : A) → k < length xs → get_or (take (suc k) xs ++ ys) k d ≡ get_or xs k d
-  element_there [] k ys d lt = absurd (omega arith)
-  element_there (x ∷ xs) zero ys d lt = refl
-  element_there (x ∷ xs) (suc k) ys d lt = element_there xs k ys d (omega arith)
-
-  split_there : (xs : List A) (k : ℕ) (ys : List A) (d : A) → k < length xs → take (suc k) xs ++ ys ≡ take k xs ++ get_or xs k d ∷ ys
-  split_there [] k ys d lt = absurd (omega arith)
-  split_there (x ∷ xs) zero ys d lt = refl
-  split_there (x ∷ xs) (suc k) ys d lt = ap (λ zs. x ∷ zs) (split_there xs k ys d (omega arith))
-
-  rest_there : (xs : List A) (k : ℕ) (d : A) → k < length xs → drop k xs ≡ get_or xs k d ∷ drop (suc k) xs
-  rest_there [] k d lt = absurd (omega arith)
-  rest_there (x ∷ xs) zero d lt = refl
-  rest_there (x ∷ xs) (suc k) d lt = rest_there xs k d (omega arith)
-
-  filter_there : (xs : List A) (k : ℕ) (d : A) (b : Bool) → k < length xs → keep (get_or xs k d) ≡ b
-      → filter keep (drop k xs) ≡ cond b (get_or xs k d ∷ filter keep (drop (suc k) xs)) (filter keep (drop (suc k) xs))
-  filter_there xs k d b lt e =
-      ap (filter keep) (rest_there xs k d lt) ∙ ap (λ t. cond t (get_or xs k d ∷ filter keep (drop (suc k) xs)) (filter keep (drop (suc k) xs))) e
-
-  same_there : (xs now : List A) (k : ℕ) (x : A) → k < length xs → now ≡ walked (suc k) xs → x ≡ get_or now k x → get_or xs k x ≡ x
-  same_there xs now k x lt is at =
-      sym (at ∙ ap (λ zs. get_or zs k x) is ∙ element_there xs k (filter keep (drop (suc k) xs)) x lt)
-
-  pub walked_gone : (xs now : List A) (k : ℕ) (x : A) → k < length xs → now ≡ walked (suc k) xs → x ≡ get_or now k x → keep x ≡ false → remove now k ≡ walked k xs
-  walked_gone xs now k x lt is at gone =
-      ap (λ zs. remove zs k) is ∙ removed_there xs k (filter keep (drop (suc k) xs)) lt
-      ∙ ap (λ zs. take k xs ++ zs) (sym (filter_there xs k x false lt (ap keep (same_there xs now k x lt is at) ∙ gone)))
-
-  pub walked_kept : (xs now : List A) (k : ℕ) (x : A) → k < length xs → now ≡ walked (suc k) xs → x ≡ get_or now k x → keep x ≡ true → now ≡ walked k xs
-  walked_kept xs now k x lt is at kept =
-      is ∙ split_there xs k (filter keep (drop (suc k) xs)) x lt
-      ∙ ap (λ zs. take k xs ++ zs) (sym (filter_there xs k x true lt (ap keep (same_there xs now k x lt is at) ∙ kept)))

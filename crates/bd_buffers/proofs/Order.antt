@@ -40,7 +40,7 @@ module _ {A : Type 0} (p : A → Bool) (P Q : A → Type 0) where
   first_filtered k x xs true e head rest = All-cons Q x (filter p xs) (k x e head) rest
   first_filtered k x xs false e head rest = rest
 
-  All-filtered : ((x : A) → p x ≡ true → P x → Q x) → (xs : List A) → All P xs → All Q (filter p xs)
+  pub All-filtered : ((x : A) → p x ≡ true → P x → Q x) → (xs : List A) → All P xs → All Q (filter p xs)
   All-filtered k [] all = λ i d h. absurd (omega arith)
   All-filtered k (x ∷ xs) all = first_filtered k x xs (p x) refl (All-head P x xs all) (All-filtered k xs (All-tail P x xs all))
 

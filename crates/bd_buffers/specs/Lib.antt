@@ -1,6 +1,9 @@
 pub mod Buffer
 pub mod Holes
+pub mod Rows
 pub mod Spots
 pub mod Window
 pub mod Stands
+pub mod Homes
+pub mod Owners
 pub mod WindowsStand

@@ -1,13 +1,15 @@
 -- The live buffers of a window by their pointers.
-use Rattle.std.specs.Prelude.{ℕ, ◌≡◌, ◌<◌, ◌==◌, Bool, List, AllPairs, find, option_map}
+use Rattle.std.specs.Prelude.{ℕ, ◌≡◌, List, find, option_map}
 use Rattle.bd_space.specs.declared.space.Buffer.{Buffer}
+use Rattle.bd_words.specs.declared.key.WordKey.{WordKey}
+use Rattle.bd_words.specs.declared.map.WordMap.{WordMap}
+use Rattle.bd_words.specs.Look.{look}
 use Rattle.bd_buffers.specs.Buffer.{at_pointer}
-use Rattle.bd_buffers.specs.declared.spot.Spot.{Spot}
 
-abbrev pub is_spot_at : ℕ → Spot → Bool
-is_spot_at p s = s.pointer == p
+-- all of them are one process's, so the pointer alone tells them apart
+abbrev pub spot_key : ℕ → WordKey
+spot_key p = record { process = 0; word = p }
 
--- the spots are those of the live buffers, in order
-pub record AreSpots (buffers : List Buffer) (spots : List Spot) : Type 0 where
-  pub in_order : AllPairs (λ a b. a.pointer < b.pointer) spots
-  pub found : (p : ℕ) → option_map (λ s. s.made) (find (is_spot_at p) spots) ≡ option_map (λ b. b.made) (find (at_pointer p) buffers)
+-- at each pointer is where the live buffer with it was made
+abbrev pub AreSpots : List Buffer → WordMap ℕ → Type 0
+AreSpots buffers spots = (p : ℕ) → look spots (spot_key p) ≡ option_map (λ b. b.made) (find (at_pointer p) buffers)

@@ -1,12 +1,15 @@
 -- A window: room for a buffer, the budget of one-way buffers, and what is so of every window.
-use Rattle.std.specs.Prelude.{ℕ, ◌≡◌, ◌+◌, ◌*◌, ◌%◌, ◌<◌, ◌≤◌, Bool, IsTrue, List, All, AllPairs, filter, sum_by}
+use Rattle.std.specs.Prelude.{ℕ, ◌≡◌, ◌+◌, ◌-◌, min, length, vec_len, vec_capacity, ◌*◌, ◌%◌, ◌<◌, ◌≤◌, Bool, IsTrue, List, All, AllPairs, filter, sum_by}
 use Rattle.bd_uapi.specs.declared.fault.Cause.{Cause}
 use Rattle.bd_uapi.specs.declared.fault.Cause.TheVariants.{NoRoom, OverBudget}
 use Rattle.bd_space.specs.declared.space.Buffer.{Buffer}
 use Rattle.bd_buffers.specs.Buffer.{IsApart, IsPlaced}
 use Rattle.bd_buffers.specs.declared.hole.Hole.{Hole}
-use Rattle.bd_buffers.specs.declared.spot.Spot.{Spot}
+use Rattle.bd_buffers.specs.declared.rows.Rows.{Rows}
+use Rattle.bd_buffers.specs.declared.ground.Ground.{Ground}
+use Rattle.bd_words.specs.Look.{word_room}
 use Rattle.bd_buffers.specs.Holes.{IsHoles}
+use Rattle.bd_buffers.specs.Rows.{live}
 use Rattle.bd_buffers.specs.Spots.{AreSpots}
 
 -- n bytes at p are free, in a window of this size with these live buffers
@@ -44,13 +47,18 @@ pub record IsWindow (size : ℕ) (buffers : List Buffer) : Type 0 where
   pub apart : AllPairs (λ a b. IsApart b.start b.size a) buffers
   pub budget : IsInBudget size buffers 0
 
--- what a window keeps: what is free are its holes and its tail, and each buffer is found by its pointer
-pub record Keeps (size one_way : ℕ) (buffers : List Buffer) (tail : ℕ) (holes : List Hole) (spots : List Spot) (used capacity : ℕ) : Type 0 where
-  pub window : IsWindow size buffers
-  pub free : IsHoles size buffers tail holes
-  pub starts : AreSpots buffers spots
-  pub total : one_way ≡ one_way_size buffers
-  pub spare : used ≤ capacity
+-- what a window keeps: what is free are its holes and its tail, and each buffer is found by its pointer. A buffer pays
+-- for the hole that it leaves, so that its end takes no memory
+pub record Keeps (buffers : List Buffer) (g : Ground) : Type 0 where
+  pub window : IsWindow g.size buffers
+  pub free : IsHoles g.size buffers g.tail g.holes.items
+  pub starts : AreSpots buffers g.spots
+  pub total : g.one_way ≡ one_way_size buffers
+  pub spare : vec_len g.holes + length buffers ≤ vec_capacity g.holes
+
+-- how many more buffers there is room for
+abbrev pub room_left : Rows → Ground → ℕ
+room_left t g = min (min t.room (word_room g.spots)) (vec_capacity g.holes - (vec_len g.holes + length (live t.rows)))
 
 -- a window as contracts see it: its size, its live buffers, oldest first, what they leave free, and how many more it has room to note
 pub record WindowView : Type 0 where

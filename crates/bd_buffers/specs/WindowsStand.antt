@@ -1,5 +1,5 @@
 -- What the windows of all live processes stand for.
-use Rattle.std.specs.Prelude.{ℕ, ◌≡◌, ◌+◌, ◌-◌, ◌<◌, ◌==◌, Bool, true, List, map, find, Option, Some, None, Ok, All, AllPairs, vec_len, vec_capacity}
+use Rattle.std.specs.Prelude.{ℕ, ◌≡◌, ◌+◌, ◌<◌, ◌==◌, Bool, true, List, map, find, Option, Some, None, Ok, All, AllPairs, min}
 use Rattle.bd_space.specs.declared.space.Process.{Process}
 use Rattle.bd_space.specs.declared.space.Buffer.{Buffer}
 use Rattle.bd_space.specs.Space.{Space}
@@ -7,6 +7,8 @@ use Rattle.bd_space.specs.Seats.{lives_in}
 use Rattle.bd_space.specs.Windows.{buffers_of, start_for}
 use Rattle.bd_buffers.specs.declared.windows.OwnedWindow.{OwnedWindow}
 use Rattle.bd_buffers.specs.declared.windows.Windows.{Windows}
+use Rattle.bd_words.specs.Look.{word_room}
+use Rattle.bd_buffers.specs.Homes.{AreHomes}
 use Rattle.bd_buffers.specs.Buffer as buffer
 pub use Rattle.bd_buffers.specs.Stands.{Stands}
 
@@ -45,8 +47,9 @@ pub record AreMade (bound : ℕ) (processes : List Process) (buffers : List Buff
   pub received : All (λ b. lives_in processes b.receiver ≡ true) buffers
 
 pub record WindowsOf (t : Windows) (bound : ℕ) (processes : List Process) (buffers : List Buffer) : Type 0 where
-  pub windows_are : map seen t.windows.items ≡ map (window_of buffers) processes
+  pub windows_are : map seen t.windows ≡ map (window_of buffers) processes
   pub made : AreMade bound processes buffers
+  pub homes_are : AreHomes t.homes buffers
 
 -- before a step
 abbrev pub StandsFor : Windows → Space → Type 0
@@ -60,7 +63,7 @@ StandsIn t s = WindowsOf t (s.steps + 1) s.processes s.buffers
 
 -- how many more processes may be opened
 unfoldable pub window_room : Windows → ℕ
-window_room t = vec_capacity t.windows - vec_len t.windows
+window_room t = t.room
 
 abbrev pub room_of : Option OwnedWindow → ℕ
 room_of None = 1
@@ -68,7 +71,7 @@ room_of (Some w) = w.window.room
 
 -- how many more buffers may be added to the window of a process; nothing is added where there is none
 unfoldable pub buffer_room : Windows → ℕ → ℕ
-buffer_room t p = room_of (find (is_owned_by p) t.windows.items)
+buffer_room t p = min (room_of (find (is_owned_by p) t.windows)) (word_room t.homes)
 
 abbrev pub CanHoldIn : Option ProcessWindow → Bool → ℕ → ℕ → Type 0
 CanHoldIn None one_way size start = ⊥
@@ -76,7 +79,7 @@ CanHoldIn (Some x) one_way size start = start_for x.size x.buffers one_way size 
 
 -- the window of this process can take a buffer of this size there now
 unfoldable pub CanAdd : Windows → ℕ → Bool → ℕ → ℕ → Type 0
-CanAdd t p one_way size start = CanHoldIn (find (is_of p) (map seen t.windows.items)) one_way size start
+CanAdd t p one_way size start = CanHoldIn (find (is_of p) (map seen t.windows)) one_way size start
 
 -- ---- buffers
 

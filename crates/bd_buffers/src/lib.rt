@@ -2,9 +2,10 @@
 #![tactic(auto)]
 
 mod buffer;
+mod ground;
 mod hole;
-mod spans;
-mod spot;
+mod home;
+mod rows;
 mod window;
 mod windows;
 

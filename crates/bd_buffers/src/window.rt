@@ -1,6 +1,6 @@
 //! A window.
 
-ghost use Rattle.std.specs.Prelude.{◌≡◌, ◌↔◌, ◌+◌, ◌*◌, ◌%◌, ◌<◌, ◌≤◌, ◌==◌, [], ◌∷◌, ◌++◌, not, ℕ, Bool, List, All, length, filter, find, remove, IsTrue, IsOk, IfOk, IfErr, IfSome, OnOk, OnErr, option_copied};
+ghost use Rattle.std.specs.Prelude.{◌≡◌, ◌↔◌, ◌+◌, ◌*◌, ◌%◌, ◌<◌, ◌≤◌, [], ◌∷◌, ◌++◌, not, ℕ, Bool, List, All, length, filter, find, IsTrue, IsOk, IfOk, IfErr, IfSome, OnOk, OnErr, option_copied, None};
 ghost use Rattle.bd_space.specs.declared.space.Buffer.{Buffer};
 ghost use Rattle.bd_space.specs.Words.{changed};
 ghost use Rattle.bd_space.specs.Windows.{needed, start_in, over_budget_in, start_for};
@@ -9,11 +9,12 @@ ghost use Rattle.bd_space.specs.ReadItems.{hand_out};
 ghost use Rattle.bd_space.specs.Returns.{buffer_in};
 
 use crate::buffer::{needed, one_way_share, pointer_of};
-use crate::hole::{Hole, first_place, give_back, take};
-use crate::spans;
-use crate::spot::{Spot, forget, note};
+use crate::ground::{Ground, end_row, key_at};
+use crate::hole::{first_place, take};
+use crate::rows::Rows;
 use bd_space::Buffer;
 use bd_uapi::Cause;
+use bd_words::WordMap;
 use std::alloc::{AllocError, Global};
 use std::marker::Model;
 
@@ -21,37 +22,26 @@ use std::marker::Model;
 /// half of it; and what they leave free.
 #[derive(Drop)]
 pub struct Window {
-    size: u32,
-    // The sizes of the one-way buffers together.
-    one_way: u32,
     // In the order in which they were made.
-    buffers: Vec<Buffer>,
-    // The pointers of the buffers, in order.
-    spots: Vec<Spot>,
-    // What is free between the buffers, in order of place. No two holes touch.
-    holes: Vec<Hole>,
-    // Where the last buffer ends. All is free from there on.
-    tail: u32,
+    buffers: Rows,
+    ground: Ground,
 }
 
 impl Model for Window {
-    ghost use Rattle.std.specs.Prelude.{◌-◌, ◌+◌, min, vec_len, vec_capacity};
-    ghost use Rattle.bd_buffers.specs.Window.{WindowView, Keeps};
+    ghost use Rattle.bd_buffers.specs.Rows.{live};
+    ghost use Rattle.bd_buffers.specs.Window.{WindowView, Keeps, room_left};
 
     ghost Value = { WindowView };
 
     ghost view = { λ w. record {
-      size = w.size;
-      buffers = w.buffers.items;
-      holes = w.holes.items;
-      tail = w.tail;
-      room = min (min (vec_capacity w.buffers - vec_len w.buffers) (vec_capacity w.spots - vec_len w.spots))
-          (vec_capacity w.holes - (vec_len w.holes + vec_len w.buffers));
+      size = w.ground.size;
+      buffers = live w.buffers.rows;
+      holes = w.ground.holes.items;
+      tail = w.ground.tail;
+      room = room_left w.buffers w.ground;
     } };
 
-    // A buffer pays for the hole that it leaves, so that its end takes no memory.
-    ghost invariant = { λ w. Keeps w.size w.one_way w.buffers.items w.tail w.holes.items w.spots.items
-        (vec_len w.holes + vec_len w.buffers) (vec_capacity w.holes) };
+    ghost invariant = { λ w. Keeps (live w.buffers.rows) w.ground };
 }
 
 impl Window {
@@ -67,12 +57,14 @@ impl Window {
         ensures made { IsOk result }
     {
         Ok(Window {
-            size,
-            one_way: 0,
-            buffers: Vec::new(alloc),
-            spots: Vec::new(alloc),
-            holes: Vec::new(alloc),
-            tail: 0,
+            buffers: Rows::new(alloc),
+            ground: Ground {
+                size,
+                one_way: 0,
+                spots: WordMap::new(alloc),
+                holes: Vec::new(alloc),
+                tail: 0,
+            },
         })
     }
 
@@ -82,7 +74,7 @@ impl Window {
         requires small { n ≤ 8388608 }
         ensures { result ≡ start_in self.now.size self.now.buffers n }
     {
-        first_place(self.size, self.tail, &self.holes, n)
+        first_place(self.ground.size, self.ground.tail, &self.ground.holes, n)
     }
 
     // Whether the one-way buffers and n more bytes would take more than half of the window.
@@ -91,7 +83,7 @@ impl Window {
         requires small { n ≤ 8388608 }
         ensures { result ≡ over_budget_in self.now.size self.now.buffers n }
     {
-        2 * (self.one_way + n) > self.size
+        2 * (self.ground.one_way + n) > self.ground.size
     }
 
     // The place of a new buffer that takes n bytes.
@@ -114,7 +106,7 @@ impl Window {
     fn place_for(&self, one_way: bool, data_size: u64, offsets_size: u64) -> Result<u32, Cause>
         ensures { result ≡ start_for self.now.size self.now.buffers one_way (needed data_size offsets_size) }
     {
-        let size = u64::from(self.size);
+        let size = u64::from(self.ground.size);
         if data_size > size || offsets_size > size {
             return Err(Cause::NoRoom);
         }
@@ -149,18 +141,15 @@ impl Window {
         ensures grown { OnErr result (self.old.room ≡ 0) }
     {
         self.buffers.reserve(1)?;
-        self.spots.reserve(1)?;
-        self.holes.reserve(self.buffers.len() + 1)
+        self.ground.spots.reserve(1)?;
+        self.ground.holes.reserve(self.buffers.count() + 1)
     }
 
     /// Whether all live buffers were made before that place.
     pub fn is_newest(&self, made: u32) -> bool
         ensures { IsTrue result ↔ All (λ b. b.made < made) self.now.buffers }
     {
-        match self.buffers.last() {
-            None => true,
-            Some(b) => b.made < made,
-        }
+        self.buffers.is_newest(made)
     }
 
     /// Takes the newest buffer in, at a place that the window can take it at. Takes no memory.
@@ -172,12 +161,18 @@ impl Window {
         ensures stands { WindowMakes (Stands self.old) (Stands self.new) (λ bs. bs ++ buffer ∷ []) }
         ensures room { Uses self.old self.new 1 }
     {
-        let tail = take(&mut self.holes, self.tail, buffer.start, buffer.size);
+        let tail = take(
+            &mut self.ground.holes,
+            self.ground.tail,
+            buffer.start,
+            buffer.size,
+        );
         let share = one_way_share(&buffer);
-        note(&mut self.spots, pointer_of(&buffer), buffer.made);
-        self.tail = tail;
-        self.one_way += share;
-        self.buffers.push_reserved(buffer);
+        let key = key_at(pointer_of(&buffer));
+        self.ground.spots.insert(key, buffer.made);
+        self.ground.tail = tail;
+        self.ground.one_way += share;
+        self.buffers.push(buffer);
     }
 
     /// The live buffer made there.
@@ -185,7 +180,7 @@ impl Window {
         ensures found { WindowTells (Stands self.now) (option_copied result) (λ size bs. buffer_in bs made) }
         ensures placed { IfSome result (λ b. IsPlaced 4194304 b.now) }
     {
-        spans::made_at(&self.buffers, made)
+        self.buffers.made_at(made)
     }
 
     /// The live buffer that the process knows by a pointer, handed out or not.
@@ -193,23 +188,25 @@ impl Window {
         ensures found { WindowTells (Stands self.now) (option_copied result) (λ size bs. find (at_pointer pointer) bs) }
         ensures placed { IfSome result (λ b. IsPlaced 4194304 b.now) }
     {
-        spans::at(&self.buffers, &self.spots, pointer)
+        match self.ground.spots.get(key_at(pointer)) {
+            None => None,
+            Some(made) => self.buffers.made_at(made),
+        }
     }
 
-    // Ends the buffer at an index.
-    fn end_at(&mut self, i: usize)
-        requires { i < length self.old.buffers }
-        ensures size { self.new.size ≡ self.old.size }
-        ensures left { self.new.buffers ≡ remove self.old.buffers i }
-        ensures room { UsesNothing self.old self.new }
+    /// How many rows there are to look through for live buffers.
+    pub(crate) fn rows(&self) -> usize {
+        self.buffers.len()
+    }
+
+    /// Where the live buffer in a row was made.
+    pub(crate) fn made_in_row(&self, i: usize) -> Option<u32>
+        ensures { IfSome result (λ m. buffer_in self.now.buffers m ≡ None → ⊥) }
     {
-        let buffer = self.buffers.remove(i);
-        let end = buffer.start + buffer.size;
-        let tail = give_back(&mut self.holes, self.tail, buffer.start, end);
-        let share = one_way_share(&buffer);
-        forget(&mut self.spots, pointer_of(&buffer));
-        self.tail = tail;
-        self.one_way -= share;
+        match self.buffers.in_row(i) {
+            None => None,
+            Some(b) => Some(b.made),
+        }
     }
 
     /// Ends the buffer made there.
@@ -217,8 +214,8 @@ impl Window {
         ensures stands { WindowMakes (Stands self.old) (Stands self.new) (filter (λ b. not (is_made_at made b))) }
         ensures room { UsesNothing self.old self.new }
     {
-        if let Some(i) = spans::index_of(&self.buffers, made) {
-            self.end_at(i);
+        if let Some(i) = self.buffers.index_of(made) {
+            end_row(&mut self.buffers, &mut self.ground, i);
         }
     }
 
@@ -227,9 +224,7 @@ impl Window {
         ensures stands { WindowMakes (Stands self.old) (Stands self.new) (changed (is_made_at made) hand_out) }
         ensures room { UsesNothing self.old self.new }
     {
-        if let Some(i) = spans::index_of(&self.buffers, made) {
-            self.buffers[i].handed = true;
-        }
+        self.buffers.hand_out(made);
     }
 
     /// Ends the buffers whose making step is lost.
@@ -243,8 +238,10 @@ impl Window {
         let mut i = self.buffers.len();
         while i > 0 {
             i -= 1;
-            if is_lost(self.buffers[i].made) {
-                self.end_at(i);
+            if let Some(b) = self.buffers.in_row(i) {
+                if is_lost(b.made) {
+                    end_row(&mut self.buffers, &mut self.ground, i);
+                }
             }
         }
     }
@@ -257,6 +254,6 @@ impl Window {
         ensures holes { (size : ℕ) (bs : List Buffer) → Stands self.now size bs
             → IsHoles size bs self.now.tail self.now.holes }
     {
-        let _size = self.size;
+        let _size = self.ground.size;
     }
 }

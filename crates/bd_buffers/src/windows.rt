@@ -1,6 +1,6 @@
 //! The windows of all live processes.
 
-ghost use Rattle.std.specs.Prelude.{◌++◌, ◌∷◌, ◌≡◌, ◌≤◌, ◌<◌, ◌+◌, ◌==◌, not, ℕ, Bool, IfOk, IfSome, OnOk, OnErr, Some, None, Err, length, map, filter, find, List, [], vec_len, vec_capacity, option_map};
+ghost use Rattle.std.specs.Prelude.{◌++◌, ◌∷◌, ◌≡◌, ◌≤◌, ◌<◌, ◌+◌, ◌==◌, not, ℕ, Bool, false, ◌↔◌, All, IsTrue, IfOk, IfSome, OnOk, OnErr, Some, None, Err, length, map, filter, find, List, [], vec_len, vec_capacity, option_map};
 ghost use Rattle.std.specs.List.{position};
 ghost use Rattle.std.specs.Option.{option_copied};
 ghost use Rattle.bd_uapi.specs.declared.fault.Cause.TheVariants.{NoRoom};
@@ -21,12 +21,18 @@ ghost use Rattle.bd_space.specs.ThreadExits.{thread_goes, is_lost_with};
 ghost use Rattle.bd_space.specs.ProcessExits.{without_process};
 ghost use Rattle.bd_space.specs.Tables.{Tells, Makes};
 ghost use Rattle.bd_buffers.specs.Stands.{AnswersBy};
-ghost use Rattle.bd_buffers.specs.WindowsStand.{StandsFor, StandsIn, Stands, window_room, buffer_room, made_of_buffer, CanAdd, IsInWindow, is_owned_by, seen, with_buffers};
+ghost use Rattle.bd_words.specs.Look.{look};
+ghost use Rattle.bd_buffers.specs.Homes as spec;
+ghost use Rattle.bd_buffers.specs.Owners.{AreInOrder, owners};
+ghost use Rattle.bd_buffers.specs.WindowsStand.{StandsFor, StandsIn, Stands, window_room, buffer_room, made_of_buffer, CanAdd, IsInWindow, is_of, is_owned_by, seen, with_buffers};
 
+use crate::home::{forget, forget_lost, home_key};
 use crate::window::Window;
 use bd_space::Buffer;
 use bd_uapi::Cause;
+use bd_words::WordMap;
 use std::alloc::{AllocError, Global};
+use std::marker::Model;
 
 // The window of a live process.
 #[derive(Drop)]
@@ -43,77 +49,129 @@ impl OwnedWindow {
     }
 }
 
-/// The windows of all live processes, in the order in which these were opened.
+/// The windows of all live processes.
 #[derive(Drop)]
 pub struct Windows {
+    // In the order in which the processes were opened.
     windows: Vec<OwnedWindow>,
+    // Whose window each live buffer is in, by where it was made.
+    homes: WordMap<u32>,
+}
+
+impl Model for Windows {
+    ghost use Rattle.std.specs.Prelude.{◌-◌, vec_len, vec_capacity};
+    ghost use Rattle.bd_buffers.specs.Owners.{AreInOrder, WindowsView};
+    ghost use Rattle.bd_words.specs.contracts.map.WordMap as words;
+    ghost use Rattle.std.specs.Coded.{codes};
+    ghost use denote.Builtin as builtin;
+
+    ghost Value = { WindowsView };
+
+    ghost coded = { Prim.hlevel (codes, (words.the_row builtin.u32).coded) };
+
+    ghost view = { λ t. record {
+      windows = t.windows.items;
+      homes = t.homes;
+      room = vec_capacity t.windows - vec_len t.windows;
+    } };
+
+    ghost invariant = { λ t. AreInOrder t.windows.items };
 }
 
 // Where the window of a process stands.
 fn position_of(windows: &[OwnedWindow], p: u32) -> Option<usize>
+    requires order { AreInOrder windows.now }
     ensures { result ≡ position (is_owned_by p) windows.now }
 {
-    windows.iter().position(|w| w.is_of(p))
+    let i = windows.partition_point(|w| w.owner < p);
+    if i < windows.len() && windows[i].owner == p {
+        Some(i)
+    } else {
+        None
+    }
 }
 
 // The window of a process.
 fn owned_by(windows: &[OwnedWindow], p: u32) -> Option<&OwnedWindow>
+    requires order { AreInOrder windows.now }
     ensures { option_copied result ≡ find (is_owned_by p) windows.now }
 {
-    windows.iter().find(|w| w.is_of(p))
+    match position_of(windows, p) {
+        None => None,
+        Some(i) => windows.get(i),
+    }
 }
 
-// The live buffer made there, in whichever window it lies.
-fn buffer_among(windows: &[OwnedWindow], made: u32) -> Option<&Buffer>
-    ensures found { option_copied result ≡ first_of (map (λ w. buffer_in w.window.buffers made) windows.now) }
-    ensures placed { IfSome result (λ b. IsInWindow b.now) }
+// Whether the window of this process would come after all.
+fn is_last(windows: &[OwnedWindow], owner: u32) -> bool
+    requires order { AreInOrder windows.now }
+    ensures { IsTrue result ↔ All (λ w. w.owner < owner) windows.now }
+{
+    match windows.last() {
+        None => true,
+        Some(w) => w.owner < owner,
+    }
+}
+
+// Ends the buffer made there, in the window of a process.
+fn free_in(windows: &mut Vec<OwnedWindow>, p: u32, made: u32)
+    requires order { AreInOrder windows.old.items }
+    ensures { map seen windows.new.items ≡
+        changed (is_of p) (with_buffers (filter (λ b. not (is_made_at made b)))) (map seen windows.old.items) }
+{
+    if let Some(at) = position_of(windows, p) {
+        windows[at].window.free(made);
+    }
+}
+
+// Marks the buffer made there, in the window of a process, as handed out.
+fn hand_out_in(windows: &mut Vec<OwnedWindow>, p: u32, made: u32)
+    requires order { AreInOrder windows.old.items }
+    ensures { map seen windows.new.items ≡
+        changed (is_of p) (with_buffers (changed (is_made_at made) hand_out)) (map seen windows.old.items) }
+{
+    if let Some(at) = position_of(windows, p) {
+        windows[at].window.hand_out(made);
+    }
+}
+
+// Forgets the homes of the buffers whose making step is lost.
+fn forget_lost_among<F: Fn(u32) -> bool>(
+    homes: &mut WordMap<u32>,
+    windows: &[OwnedWindow],
+    is_lost: F,
+)
+    requires { F.IsAlwaysCallable is_lost }
+    ensures { (lost : ℕ → Bool) → AnswersBy (λ made b. F.post is_lost made b) lost
+        → (m : ℕ) → lost m ≡ false → look homes.new (spec.home_key m) ≡ look homes.old (spec.home_key m) }
 {
     for w in windows {
-        if let Some(b) = w.window.buffer(made) {
-            return Some(b);
-        }
-    }
-    None
-}
-
-// Ends the buffer made there.
-fn free_among(windows: &mut Vec<OwnedWindow>, made: u32)
-    ensures { map seen windows.new.items ≡
-        map (with_buffers (filter (λ b. not (is_made_at made b)))) (map seen windows.old.items) }
-{
-    for w in windows.iter_mut() {
-        w.window.free(made);
-    }
-}
-
-// Marks the buffer made there as handed out.
-fn hand_out_among(windows: &mut Vec<OwnedWindow>, made: u32)
-    ensures { map seen windows.new.items ≡
-        map (with_buffers (changed (is_made_at made) hand_out)) (map seen windows.old.items) }
-{
-    for w in windows.iter_mut() {
-        w.window.hand_out(made);
+        forget_lost(homes, &w.window, &is_lost);
     }
 }
 
 // Ends the buffers whose making step is lost.
 fn drop_lost_among<F: Fn(u32) -> bool>(windows: &mut Vec<OwnedWindow>, is_lost: F)
     requires { F.IsAlwaysCallable is_lost }
-    ensures { (lost : ℕ → Bool) → AnswersBy (λ made b. F.post is_lost made b) lost
+    ensures left { (lost : ℕ → Bool) → AnswersBy (λ made b. F.post is_lost made b) lost
         → map seen windows.new.items ≡
         map (with_buffers (filter (λ b. not (lost b.made)))) (map seen windows.old.items) }
+    ensures owners { owners windows.new.items ≡ owners windows.old.items }
 {
     for w in windows.iter_mut() {
         w.window.drop_lost(&is_lost);
     }
 }
 
-// One window more, of this owner.
-fn open_among(windows: &mut Vec<OwnedWindow>, owner: u32, window: Window)
-    requires { vec_len windows.old < vec_capacity windows.old }
-    ensures { windows.new.items ≡ windows.old.items ++ record { owner = owner; window = window } ∷ [] }
+// Forgets the homes of the live buffers of a process.
+fn forget_in(homes: &mut WordMap<u32>, windows: &[OwnedWindow], p: u32)
+    requires order { AreInOrder windows.now }
+    ensures { (m : ℕ) → IfSome (find (is_owned_by p) windows.now) (λ w. buffer_in w.window.buffers m ≡ None)
+        → look homes.new (spec.home_key m) ≡ look homes.old (spec.home_key m) }
 {
-    windows.push_reserved(OwnedWindow { owner, window });
+    if let Some(w) = owned_by(windows, p) {
+        forget(homes, &w.window);
+    }
 }
 
 // Ends the window of a process.
@@ -130,6 +188,7 @@ impl Windows {
     {
         Windows {
             windows: Vec::new(alloc),
+            homes: WordMap::new(alloc),
         }
     }
 
@@ -150,7 +209,13 @@ impl Windows {
         ensures { (s : Space) (pid euid size : ℕ) → StandsFor self.old s → s.steps ≡ place → Stands window size []
             → StandsIn self.new (with_process s pid euid size) }
     {
-        open_among(&mut self.windows, place, window);
+        // Each step's process is newer than all that live.
+        if is_last(&self.windows, place) {
+            self.windows.push_reserved(OwnedWindow {
+                owner: place,
+                window,
+            });
+        }
     }
 
     /// Where a buffer for data and offsets of these sizes in bytes would begin in the window of a process.
@@ -187,6 +252,7 @@ impl Windows {
         // Memory was asked for: there was no room.
         ensures grown { OnErr result (buffer_room self.old p ≡ 0) }
     {
+        self.homes.reserve(1)?;
         match position_of(&self.windows, p) {
             None => Ok(()),
             Some(at) => self.windows[at].window.reserve(),
@@ -204,6 +270,7 @@ impl Windows {
             let window = &mut self.windows[at].window;
             // Each step's buffer is newer than all that are live.
             if window.is_newest(buffer.made) {
+                self.homes.insert(home_key(buffer.made), buffer.receiver);
                 window.commit(buffer);
             }
         }
@@ -214,7 +281,9 @@ impl Windows {
         ensures found { Tells (StandsIn self.now) (option_copied result) (λ s. buffer_in s.buffers made) }
         ensures placed { IfSome result (λ b. IsInWindow b.now) }
     {
-        buffer_among(&self.windows, made)
+        let p = self.homes.get(home_key(made))?;
+        let w = owned_by(&self.windows, p)?;
+        w.window.buffer(made)
     }
 
     /// The live buffer that a process knows by a pointer, handed out or not.
@@ -234,7 +303,9 @@ impl Windows {
     pub fn free(&mut self, made: u32)
         ensures { Makes (StandsIn self.old) (StandsIn self.new) (λ s. without_buffer s made) }
     {
-        free_among(&mut self.windows, made);
+        if let Some(p) = self.homes.remove(home_key(made)) {
+            free_in(&mut self.windows, p, made);
+        }
     }
 
     /// Marks the buffer that is handed over by reading these work items, if any.
@@ -243,7 +314,9 @@ impl Windows {
             → made ≡ option_map made_of_buffer (buffer_taken s ws) → StandsIn self.new (read_by s seat ws) }
     {
         if let Some(made) = made {
-            hand_out_among(&mut self.windows, made);
+            if let Some(p) = self.homes.get(home_key(made)) {
+                hand_out_in(&mut self.windows, p, made);
+            }
         }
     }
 
@@ -254,6 +327,7 @@ impl Windows {
             → AnswersBy (λ made b. F.post lost made b) (is_lost_with s.todo (OfThread seat))
             → StandsIn self.new (thread_goes s seat) }
     {
+        forget_lost_among(&mut self.homes, &self.windows, &lost);
         drop_lost_among(&mut self.windows, lost);
     }
 
@@ -261,6 +335,7 @@ impl Windows {
     pub fn close(&mut self, p: u32)
         ensures { Makes (StandsIn self.old) (StandsIn self.new) (λ s. without_process s p) }
     {
+        forget_in(&mut self.homes, &self.windows, p);
         close_among(&mut self.windows, p);
     }
 }

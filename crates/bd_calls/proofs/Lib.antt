@@ -1,6 +1,6 @@
-pub mod AncestryLength
 pub mod Choosing
 pub mod Closing
+pub mod InCalls
 pub mod OneWay
 pub mod Plain
 pub mod Rooms

@@ -1,8 +1,10 @@
 -- Plain facts on options and lists.
-use Rattle.std.proofs.Common.{◌≡◌, refl, Bool, true, false, cond, not, ◌||◌, List, [], ◌∷◌, Option, Some, None, filter}
+use Rattle.std.proofs.Common.{◌≡◌, refl, sym, ◌∙◌, Bool, true, false, cond, not, ◌||◌, ◌&&◌, List, [], ◌∷◌, Option, Some, None, filter}
 use Rattle.std.specs.Option.{option_map}
 use Rattle.std.specs.List.{list_any}
+use Rattle.bd_space.specs.declared.space.TodoList.{TodoList}
 use Rattle.bd_space.specs.declared.space.Work.{Work}
+use Rattle.bd_space.specs.Todo.{has_work_in, is_on, work_on}
 use Rattle.bd_space.specs.Reading.{is_empty}
 
 pub as_it_is : {A : Type 0} (o : Option A) → o ≡ option_map (λ x. x) o
@@ -17,3 +19,21 @@ any_left p (w ∷ ws) = first (p w) (any_left p ws)
     first : (b : Bool) → list_any p ws ≡ not (is_empty (filter p ws)) → (b || list_any p ws) ≡ not (is_empty (cond b (w ∷ filter p ws) (filter p ws)))
     first true h = refl
     first false h = h
+
+-- whether there is anything to read is told by the lists alone where they are empty
+pub anything-to-read : (todo : List Work) (own shared : TodoList) (idle : Bool)
+    → (has_work_in todo own || (has_work_in todo shared && idle)) ≡ not (is_empty (work_on todo (cond (has_work_in todo own) (Some own) (cond idle (Some shared) None))))
+anything-to-read todo own shared idle = at (has_work_in todo own) refl idle
+  where
+    last : (b : Bool) → (b && true) ≡ b
+    last true = refl
+    last false = refl
+
+    never : (b : Bool) → (b && false) ≡ false
+    never true = refl
+    never false = refl
+
+    at : (a : Bool) → has_work_in todo own ≡ a → (i : Bool) → (a || (has_work_in todo shared && i)) ≡ not (is_empty (work_on todo (cond a (Some own) (cond i (Some shared) None))))
+    at true e i = sym e ∙ any_left (is_on own) todo
+    at false e true = last (has_work_in todo shared) ∙ any_left (is_on shared) todo
+    at false e false = never (has_work_in todo shared)

@@ -2,3 +2,4 @@ pub mod Turn
 pub mod Stands
 pub mod Room
 pub mod Closing
+pub mod Stacked

@@ -37,7 +37,6 @@ impl Iterator for Ancestry<'_> {
 pub(crate) fn ancestry_of(frames: &[Frame], from: Option<u32>) -> Ancestry<'_>
     ensures from { result.from ≡ from }
     ensures older { iter_rest result.older ≡ frames.now }
-    ensures bound { length frames.now < 2 ^ 64 }
 {
     Ancestry {
         from,

@@ -1,8 +1,9 @@
-//! Frames: open two-way calls.
+//! Frames: open two-way calls. A thread's innermost frame is looked for from the newest on, as its frames are a stack.
 #![tactic(auto, unfolding(bd_space::specs::Frames::innermost, bd_space::specs::Frames::served_innermost, bd_space::specs::Frames::goes_to, bd_space::specs::Frames::closed, bd_space::specs::Transactions::call_out, bd_space::specs::Todo::owe, crate::specs::Room::rooms))]
 
 ghost use Rattle.std.specs.Prelude.{ℕ, Bool, ◌≡◌, ◌==◌, ◌||◌, ◌&&◌, ◌+◌, ◌<◌, ◌≤◌, ◌^◌, ◌++◌, ◌∷◌, [], true, false, not, nat_le, map, filter, find, reverse, length, count_by, Option, Some, None, option_map, IfOk, OnOk, OnErr, vec_len, vec_capacity};
-ghost use Rattle.std.specs.List.{list_all, list_any};
+ghost use Rattle.std.specs.List.{list_any};
+ghost use Rattle.std.specs.Option.{is_none};
 ghost use Rattle.bd_space.specs.Frames as spec;
 ghost use Rattle.bd_space.specs.Settle as settling;
 ghost use Rattle.bd_space.specs.Local as local;
@@ -11,6 +12,7 @@ ghost use Rattle.bd_space.specs.ReadItems as reading;
 ghost use Rattle.bd_space.specs.Todo as works;
 ghost use Rattle.bd_links.specs.Stands as links;
 ghost use Rattle.bd_calls.specs.Closing.{is_place_among, chosen_after};
+ghost use Rattle.bd_calls.specs.Stacked.{newest_in};
 
 use crate::ancestry::ancestry_of;
 use crate::server::{gone_server, is_gone, serves};
@@ -46,36 +48,24 @@ fn takes_part(frame: &Frame, seat: u32) -> bool
     calls(frame, seat) || serves(seat, frame.server)
 }
 
-fn depth_of(frames: &[Frame], frame: &Frame) -> usize
-    ensures { result ≡ spec.depth_in frames.now frame.now }
+/// The newest frame in which the thread takes part.
+pub(crate) fn newest_of(frames: &[Frame], seat: u32) -> Option<Frame>
+    ensures { result ≡ newest_in frames.now seat }
 {
-    ancestry_of(frames, Some(frame.made)).count()
+    frames.iter().rev().copied().find(|f| takes_part(f, seat))
 }
 
-fn is_no_deeper(frames: &[Frame], seat: u32, frame: &Frame, depth: usize) -> bool
-    ensures { result ≡ (not (spec.takes_part seat frame.now) || nat_le (spec.depth_in frames.now frame.now) depth) }
+fn is_in_call(frames: &[Frame], seat: u32) -> bool
+    ensures { result ≡ list_any (spec.takes_part seat) frames.now }
 {
-    !takes_part(frame, seat) || depth_of(frames, frame) <= depth
+    frames.iter().any(|f| takes_part(f, seat))
 }
 
-fn none_is_deeper(frames: &[Frame], seat: u32, depth: usize) -> bool
-    ensures { result ≡ list_all (λ f. not (spec.takes_part seat f) || nat_le (spec.depth_in frames.now f) depth)
-        frames.now }
+/// The thread takes part in no frame.
+pub(crate) fn is_in_no_call(frames: &[Frame], seat: u32) -> bool
+    ensures { result ≡ is_none (spec.innermost_in frames.now seat) }
 {
-    frames.iter().all(|f| is_no_deeper(frames, seat, f, depth))
-}
-
-fn is_deepest(frames: &[Frame], seat: u32, frame: &Frame) -> bool
-    ensures { result ≡ spec.is_deepest_in frames.now seat frame.now }
-{
-    takes_part(frame, seat) && none_is_deeper(frames, seat, depth_of(frames, frame))
-}
-
-/// A thread's innermost frame.
-pub(crate) fn innermost_of(frames: &[Frame], seat: u32) -> Option<Frame>
-    ensures { result ≡ spec.innermost_in frames.now seat }
-{
-    frames.iter().copied().find(|f| is_deepest(frames, seat, f))
+    !is_in_call(frames, seat)
 }
 
 // The frame of the call made at this place.
@@ -101,10 +91,10 @@ fn waits(threads: &[Thread], process: u32, frame: &Frame) -> bool
         .is_some_and(|thread| thread.process == process)
 }
 
-fn innermost_made(frames: &[Frame], seat: u32) -> Option<u32>
-    ensures { result ≡ option_map spec.made_of (spec.innermost_in frames.now seat) }
+fn newest_made(frames: &[Frame], seat: u32) -> Option<u32>
+    ensures { result ≡ option_map spec.made_of (newest_in frames.now seat) }
 {
-    innermost_of(frames, seat).map(|f| f.made)
+    newest_of(frames, seat).map(|f| f.made)
 }
 
 // The first frame on the way whose caller is a thread of the process.
@@ -286,6 +276,7 @@ impl CallTable {
     ghost use Rattle.bd_space.specs.Transactions.{call_out};
     ghost use Rattle.bd_space.specs.Tables.{Tells, Makes, MakesAt};
     ghost use Rattle.bd_calls.specs.Stands.{Stands, StandsFor};
+    ghost use Rattle.bd_calls.specs.Stacked.{TellsOfStacked, MakesOfStackedAt};
     ghost use Rattle.bd_calls.specs.Room.{Uses, UsesNothing, nothing, frame_room, work_room, frame_count};
     ghost use Rattle.bd_calls.specs.Closing.{parent_of_abandoned, IsAmongAt};
 
@@ -296,26 +287,26 @@ impl CallTable {
         frame_made_at(&self.frames, made)
     }
 
-    /// The innermost frame of a thread: of those that it called or serves, the deepest.
+    /// The innermost frame of a thread: of those that it called or serves, the newest.
     pub fn innermost(&self, seat: u32) -> Option<Frame>
-        ensures { Tells (StandsFor self.now) result (λ s. spec.innermost s seat) }
+        ensures { TellsOfStacked self.now result (λ s. spec.innermost s seat) }
     {
-        innermost_of(&self.frames, seat)
+        newest_of(&self.frames, seat)
     }
 
     /// A thread's innermost frame, if the thread serves it.
     pub fn served_innermost(&self, seat: u32) -> Option<Frame>
-        ensures { Tells (StandsFor self.now) result (λ s. spec.served_innermost s seat) }
+        ensures { TellsOfStacked self.now result (λ s. spec.served_innermost s seat) }
     {
-        innermost_of(&self.frames, seat).filter(|f| serves(seat, f.server))
+        newest_of(&self.frames, seat).filter(|f| serves(seat, f.server))
     }
 
     /// Where a two-way call of a thread to a process is read: by the first thread of the process that waits on the way
     /// from the caller's innermost frame by parents, else by the process.
     pub fn goes_to(&self, seat: u32, process: u32) -> TodoList
-        ensures { Tells (StandsFor self.now) result (λ s. spec.goes_to s seat process) }
+        ensures { TellsOfStacked self.now result (λ s. spec.goes_to s seat process) }
     {
-        let from = innermost_made(&self.frames, seat);
+        let from = newest_made(&self.frames, seat);
         list_from(&self.threads, &self.frames, from, process)
     }
 
@@ -323,10 +314,10 @@ impl CallTable {
     pub fn call_out(&mut self, place: u32, seat: u32, process: u32)
         requires frames { 1 ≤ frame_room self.old }
         requires works { 1 ≤ work_room self.old }
-        ensures stands { MakesAt place (StandsFor self.old) (StandsFor self.new) (λ s. call_out s seat process) }
+        ensures stands { MakesOfStackedAt place self.old self.new (λ s. call_out s seat process) }
         ensures uses { Uses self.old self.new (record nothing { frames = 1; works = 1 }) }
     {
-        let parent = innermost_made(&self.frames, seat);
+        let parent = newest_made(&self.frames, seat);
         let list = list_from(&self.threads, &self.frames, parent, process);
         self.todo.push(place, list, WorkKind::Call(place));
         let frame = Frame {

@@ -4,6 +4,8 @@
 ghost use Rattle.std.specs.Prelude.{ℕ, Bool, ◌≡◌, ◌==◌, ◌||◌, ◌&&◌, ◌+◌, ◌<◌, ◌≤◌, ◌^◌, ◌++◌, ◌∷◌, [], false, not, nat_le, map, filter, find, reverse, length, count_by, Option, Some, None, option_map, IfOk, OnOk, OnErr, vec_len, vec_capacity};
 ghost use Rattle.std.specs.List.{list_any, slice_get};
 ghost use Rattle.bd_space.specs.declared.space.WorkKind.{WorkKind};
+ghost use Rattle.std.specs.Option.{is_none};
+ghost use Rattle.bd_space.specs.Frames.{innermost_in};
 ghost use Rattle.bd_space.specs.Todo as spec;
 ghost use Rattle.bd_space.specs.ThreadExits as exits;
 ghost use Rattle.bd_space.specs.Reading as reading;
@@ -12,11 +14,18 @@ ghost use Rattle.bd_links.specs.Stands as links;
 ghost use Rattle.bd_links.specs.TodoList as replies;
 ghost use Rattle.bd_links.specs.TodoList.{AnswersBy};
 
-use crate::frame::innermost_of;
+use crate::frame::is_in_no_call;
 use crate::table::CallTable;
 use crate::thread::thread_of;
 use bd_links::{WorkTable, Works};
 use bd_space::{Frame, ObjectId, Thread, TodoList, Work, WorkKind};
+
+// The thread has entered the loop and is in no call.
+fn is_idle(frames: &[Frame], thread: &Thread) -> bool
+    ensures { result ≡ (thread.now.looping && is_none (innermost_in frames.now thread.now.seat)) }
+{
+    thread.looping && is_in_no_call(frames, thread.seat)
+}
 
 fn reads_in(frames: &[Frame], todo: &WorkTable, thread: &Thread) -> Option<TodoList>
     ensures { links.Tells todo.now result (λ l. spec.reads_in frames.now l thread.now) }
@@ -24,27 +33,20 @@ fn reads_in(frames: &[Frame], todo: &WorkTable, thread: &Thread) -> Option<TodoL
     let own = TodoList::OfThread(thread.seat);
     if todo.has_any(own) {
         Some(own)
-    } else if thread.looping && innermost_of(frames, thread.seat).is_none() {
+    } else if is_idle(frames, thread) {
         Some(TodoList::OfProcess(thread.process))
     } else {
         None
     }
 }
 
-fn has_on(todo: &WorkTable, list: Option<TodoList>) -> bool
-    ensures { links.Tells todo.now result (λ l. not (reading.is_empty (spec.work_on l list))) }
-{
-    match list {
-        Some(list) => todo.has_any(list),
-        None => false,
-    }
-}
-
+// It is asked of every thread after every step: the frames are looked at only where its process has work.
 fn has_to_read(frames: &[Frame], todo: &WorkTable, thread: &Thread) -> bool
     ensures { links.Tells todo.now result
         (λ l. not (reading.is_empty (spec.work_on l (spec.reads_in frames.now l thread.now)))) }
 {
-    has_on(todo, reads_in(frames, todo, thread))
+    todo.has_any(TodoList::OfThread(thread.seat))
+        || (todo.has_any(TodoList::OfProcess(thread.process)) && is_idle(frames, thread))
 }
 
 impl CallTable {

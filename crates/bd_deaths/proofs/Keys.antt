@@ -1,47 +1,62 @@
--- Keys, and which notifications have one, when the list changes.
-use Rattle.std.proofs.Common.{◌≡◌, ℕ, zero, suc, ◌+◌, ◌<◌, ◌==◌, Bool, true, false, not, cond, List, [], ◌∷◌, ◌++◌, Option, Some, filter, length, get_or, refl, ap, sym, ◌∙◌, arith}
+-- What is kept of those that pass, when the list changes.
+use Rattle.std.proofs.Common.{◌≡◌, ℕ, zero, suc, ◌+◌, ◌-◌, ◌%◌, ◌^◌, ◌<◌, ◌≤◌, Bool, true, false, cond, List, [], ◌∷◌, ◌++◌, Option, Some, filter, length, get_or, refl, ap, sym, subst, ◌∙◌, arith}
+use Rattle.std.specs.Prelude.{All, sum_by, nat_le}
 use Rattle.std.specs.List.{remove}
-use Rattle.std.proofs.lemmas.Bool.{eqb-true, and_parts}
-use Rattle.std.proofs.lemmas.List.Elements.{filter-append}
+use Rattle.std.proofs.lemmas.List.Elements.{filter-append, All-cons, All-head, All-tail}
+use Rattle.std.proofs.lemmas.List.Sums.{sum_by-cons, sum_by_push, length-filter, count_by-le-length}
+use Rattle.std.proofs.lemmas.Bool.{leb-true}
+use Rattle.std.proofs.Math.Nat.{mod-add-mod, add-mod_right, mod-eq_of_lt}
 use Rattle.bd_space.specs.declared.space.DeathNotification.{DeathNotification}
 use Rattle.bd_space.specs.Words.{changed}
-use Rattle.bd_deaths.specs.declared.key.Key.{Key}
-use Rattle.bd_deaths.specs.declared.key.Key.TheVariants.{Name, Cookie}
-use Rattle.bd_deaths.specs.declared.key.Shared.{Shared}
-use Rattle.bd_deaths.specs.declared.key.Shared.TheVariants.{One}
-use Rattle.bd_deaths.specs.Keys.{same_key, name_key, has, is_of, shared, with_one, left}
+use Rattle.bd_deaths.specs.declared.key.Group.{Group}
+use Rattle.bd_deaths.specs.Keys.{group, with_one, without_one}
 
-pub cond-not : {A : Type 0} (b : Bool) (x y : A) → cond (not b) x y ≡ cond b y x
-cond-not true x y = refl
-cond-not false x y = refl
+abbrev pub made_of : DeathNotification → ℕ
+made_of x = x.made
 
-pub key-eq : (a b : Key) → same_key a b ≡ true → b ≡ a
-key-eq (Name p o i) (Name q u j) h =
-    let k = and_parts _ _ h in
-    let m = and_parts _ _ k.1 in
-    let a = eqb-true p q k.0 in
-    let b = eqb-true o u m.0 in
-    let c = eqb-true i j m.1 in
-    sym (λ t. Name (a t) (b t) (c t))
-key-eq (Name p o i) (Cookie q d) h = absurd (cc)
-key-eq (Cookie p c) (Name q u j) h = absurd (cc)
-key-eq (Cookie p c) (Cookie q d) h =
-    let k = and_parts _ _ h in
-    let a = eqb-true p q k.0 in
-    let b = eqb-true c d k.1 in
-    sym (λ t. Cookie (a t) (b t))
+abbrev pub places : List DeathNotification → ℕ
+places ys = sum_by made_of ys
+
+abbrev kept_as : ℕ → ℕ → Option Group
+kept_as count sum = Some (record { count = count; sum = sum })
+
+same-kept : (m n s t : ℕ) → m ≡ n → s ≡ t → kept_as m s ≡ kept_as n t
+same-kept m n s t e f = ap (λ c. kept_as c s) e ∙ ap (λ z. kept_as n z) f
+
+pub same-group : (ys zs : List DeathNotification) → length ys ≡ length zs → places ys ≡ places zs → group ys ≡ group zs
+same-group [] [] e f = refl
+same-group [] (z ∷ zs) e f = absurd (omega (arith, e))
+same-group (y ∷ ys) [] e f = absurd (omega (arith, e))
+same-group (y ∷ ys) (z ∷ zs) e f = same-kept _ _ _ _ e (ap (λ n. n % 2 ^ 32) f)
 
 -- ---- one more, after the others
 
-pub shared-more : (ys : List DeathNotification) (x : DeathNotification) → shared (ys ++ x ∷ []) ≡ Some (with_one x.made (shared ys))
-shared-more [] x = refl
-shared-more (y ∷ []) x = refl
-shared-more (y ∷ z ∷ ys) x = refl
+length-push : (ys : List DeathNotification) (x : DeathNotification) → length (ys ++ x ∷ []) ≡ length ys + 1
+length-push [] x = refl
+length-push (y ∷ ys) x = let e = length-push ys x in omega (arith, e)
 
-pub shared-push : (q : DeathNotification → Bool) (xs : List DeathNotification) (x : DeathNotification) (b : Bool) → q x ≡ b
-    → shared (filter q (xs ++ x ∷ [])) ≡ cond b (Some (with_one x.made (shared (filter q xs)))) (shared (filter q xs))
-shared-push q xs x true h = rw (filter-append q xs (x ∷ []), h) (shared-more (filter q xs) x)
-shared-push q xs x false h = rw (filter-append q xs (x ∷ []), h) (ap shared (nothing (filter q xs)))
+-- the sum of one is its place
+pub sum-of-one : (made : ℕ) → made < 2 ^ 32 → (0 + made) % 2 ^ 32 ≡ made
+sum-of-one made fits = let e : 0 + made ≡ made = omega arith in ap (λ n. n % 2 ^ 32) e ∙ mod-eq_of_lt fits
+
+group-more : (ys : List DeathNotification) (x : DeathNotification) → length ys + 1 < 2 ^ 64 → x.made < 2 ^ 32
+    → group (ys ++ x ∷ []) ≡ Some (with_one x.made (group ys))
+group-more [] x few fits = same-kept 1 1 ((0 + x.made) % 2 ^ 32) x.made refl (sum-of-one x.made fits)
+group-more (y ∷ ys) x few fits = same-kept _ _ _ _
+    (length-push (y ∷ ys) x ∙ sym (mod-eq_of_lt few))
+    (ap (λ n. n % 2 ^ 32) (sum_by_push made_of (y ∷ ys) x)
+    ∙ sym (mod-add-mod (places (y ∷ ys)) (2 ^ 32) x.made))
+
+pub few-pass : (q : DeathNotification → Bool) (xs : List DeathNotification) → length (filter q xs) ≤ length xs
+few-pass q xs = subst (λ n. n ≤ length xs) (sym (length-filter q xs)) (count_by-le-length q xs)
+
+pub group-push : (q : DeathNotification → Bool) (xs : List DeathNotification) (x : DeathNotification)
+    → length xs + 1 < 2 ^ 64 → x.made < 2 ^ 32 → (b : Bool) → q x ≡ b
+    → group (filter q (xs ++ x ∷ [])) ≡ cond b (Some (with_one x.made (group (filter q xs)))) (group (filter q xs))
+group-push q xs x few fits true h =
+    let fewer = few-pass q xs in
+    rw (filter-append q xs (x ∷ []), h) (group-more (filter q xs) x (omega (arith, few, fewer)) fits)
+group-push q xs x few fits false h = rw (filter-append q xs (x ∷ []), h) (ap group (nothing (filter q xs)))
   where
     nothing : (ys : List DeathNotification) → ys ++ [] ≡ ys
     nothing [] = refl
@@ -64,15 +79,59 @@ length-remove q (x ∷ xs) (suc i) d h e = by (q x) (length-remove q xs i d (ome
     by true g = omega (arith, g)
     by false g = g
 
-left-of : (ys zs : List DeathNotification) → length zs + 1 ≡ length ys → left (shared ys) (shared zs) ≡ shared zs
-left-of [] zs h = absurd (omega (arith, h))
-left-of (y ∷ []) [] h = refl
-left-of (y ∷ []) (z ∷ zs) h = absurd (omega (arith, h))
-left-of (y ∷ x ∷ ys) zs h = refl
+places-remove : (q : DeathNotification → Bool) (xs : List DeathNotification) (i : ℕ) (d : DeathNotification)
+    → i < length xs → q (get_or xs i d) ≡ true → places (filter q (remove xs i)) + (get_or xs i d).made ≡ places (filter q xs)
+places-remove q [] i d h e = absurd (omega arith)
+places-remove q (x ∷ xs) zero d h e = rw e (let s = sum_by-cons made_of x (filter q xs) in omega (arith, s))
+places-remove q (x ∷ xs) (suc i) d h e = by (q x) (places-remove q xs i d (omega arith) e)
+  where
+    by : (b : Bool) → places (filter q (remove xs i)) + (get_or xs i d).made ≡ places (filter q xs)
+        → places (cond b (x ∷ filter q (remove xs i)) (filter q (remove xs i))) + (get_or xs i d).made
+        ≡ places (cond b (x ∷ filter q xs) (filter q xs))
+    by true g =
+        let s = sum_by-cons made_of x (filter q (remove xs i)) in
+        let t = sum_by-cons made_of x (filter q xs) in
+        omega (arith, g, s, t)
+    by false g = g
 
-pub shared-remove : (q : DeathNotification → Bool) (xs : List DeathNotification) (i : ℕ) (d : DeathNotification) → i < length xs → q (get_or xs i d) ≡ true
-    → left (shared (filter q xs)) (shared (filter q (remove xs i))) ≡ shared (filter q (remove xs i))
-shared-remove q xs i d h e = left-of (filter q xs) (filter q (remove xs i)) (length-remove q xs i d h e)
+-- what was added is taken off, whether or not the sum wrapped
+taken-off : (s t m : ℕ) → m < 2 ^ 32 → t + m ≡ s → (s % 2 ^ 32 + (2 ^ 32 - m)) % 2 ^ 32 ≡ t % 2 ^ 32
+taken-off s t m fits e =
+    mod-add-mod s (2 ^ 32) (2 ^ 32 - m)
+    ∙ ap (λ n. n % 2 ^ 32) (omega (arith, fits, e))
+    ∙ add-mod_right t (2 ^ 32)
+
+several : (n : ℕ) → 1 < n → nat_le n 1 ≡ false
+several n h = by (nat_le n 1) refl
+  where
+    by : (b : Bool) → nat_le n 1 ≡ b → b ≡ false
+    by true e = let few = leb-true n 1 e in absurd (omega (arith, few, h))
+    by false e = refl
+
+group-less : (ys zs : List DeathNotification) (m : ℕ) → m < 2 ^ 32 → length zs + 1 ≡ length ys
+    → places zs + m ≡ places ys → without_one m (group ys) ≡ group zs
+group-less [] zs m fits h e = absurd (omega (arith, h))
+group-less (y ∷ []) [] m fits h e = refl
+group-less (y ∷ []) (z ∷ zs) m fits h e = absurd (omega (arith, h))
+group-less (y ∷ x ∷ ys) [] m fits h e = absurd (omega (arith, h))
+group-less (y ∷ x ∷ ys) (z ∷ zs) m fits h e =
+    rw (several (length (y ∷ x ∷ ys)) (omega arith))
+    (same-kept (length (y ∷ x ∷ ys) - 1) (length (z ∷ zs))
+    ((places (y ∷ x ∷ ys) % 2 ^ 32 + (2 ^ 32 - m)) % 2 ^ 32) (places (z ∷ zs) % 2 ^ 32)
+    (omega (arith, h)) (taken-off (places (y ∷ x ∷ ys)) (places (z ∷ zs)) m fits e))
+
+pub group-remove : (q : DeathNotification → Bool) (xs : List DeathNotification) (i : ℕ) (d : DeathNotification)
+    → i < length xs → (get_or xs i d).made < 2 ^ 32 → q (get_or xs i d) ≡ true
+    → without_one (get_or xs i d).made (group (filter q xs)) ≡ group (filter q (remove xs i))
+group-remove q xs i d h fits e =
+    group-less (filter q xs) (filter q (remove xs i)) (get_or xs i d).made fits (length-remove q xs i d h e)
+    (places-remove q xs i d h e)
+
+pub All-remove : {A : Type 0} (P : A → Type 0) (xs : List A) (i : ℕ) → i < length xs → All P xs → All P (remove xs i)
+All-remove P [] i h all = absurd (omega arith)
+All-remove P (x ∷ xs) zero h all = All-tail P x xs all
+All-remove P (x ∷ xs) (suc i) h all =
+    All-cons P x (remove xs i) (All-head P x xs all) (All-remove P xs i (omega arith) (All-tail P x xs all))
 
 -- ---- changed where it doesn't show
 
@@ -81,10 +140,26 @@ module _ (p : DeathNotification → Bool) (f : DeathNotification → DeathNotifi
   made-stays true x = made x
   made-stays false x = refl
 
-  shared-changed : (xs : List DeathNotification) → shared (changed p f xs) ≡ shared xs
-  shared-changed [] = refl
-  shared-changed (x ∷ []) = ap (λ m. Some (One m)) (made-stays (p x) x)
-  shared-changed (x ∷ y ∷ xs) = refl
+  length-changed : (xs : List DeathNotification) → length (changed p f xs) ≡ length xs
+  length-changed [] = refl
+  length-changed (x ∷ xs) = ap (λ n. suc n) (length-changed xs)
+
+  places-changed : (xs : List DeathNotification) → places (changed p f xs) ≡ places xs
+  places-changed [] = refl
+  places-changed (x ∷ xs) =
+      let s = sum_by-cons made_of (cond (p x) (f x) x) (changed p f xs) in
+      let t = sum_by-cons made_of x xs in
+      let e = made-stays (p x) x in
+      let g = places-changed xs in
+      omega (arith, s, t, e, g)
+
+  pub places-fit : (xs : List DeathNotification) → All (λ x. x.made < 2 ^ 32) xs
+      → All (λ x. x.made < 2 ^ 32) (changed p f xs)
+  places-fit [] h = h
+  places-fit (x ∷ xs) h =
+      let fits = λ (y : DeathNotification). y.made < 2 ^ 32 in
+      All-cons fits (cond (p x) (f x) x) (changed p f xs)
+      (subst (λ n. n < 2 ^ 32) (sym (made-stays (p x) x)) (All-head fits x xs h)) (places-fit xs (All-tail fits x xs h))
 
   filter-changed : (q : DeathNotification → Bool) → ((x : DeathNotification) → q (f x) ≡ q x) → (xs : List DeathNotification) → filter q (changed p f xs) ≡ changed p f (filter q xs)
   filter-changed q h [] = refl
@@ -98,51 +173,9 @@ module _ (p : DeathNotification → Bool) (f : DeathNotification → DeathNotifi
       by true = refl
       by false = refl
 
-  pub shared-stays : (q : DeathNotification → Bool) → ((x : DeathNotification) → q (f x) ≡ q x) → (xs : List DeathNotification) → shared (filter q (changed p f xs)) ≡ shared (filter q xs)
-  shared-stays q h xs = ap shared (filter-changed q h xs) ∙ shared-changed (filter q xs)
-
--- ---- of the two keys of a notification
-
-module _ (x : DeathNotification) (g₀ g₁ g₂ : Key → Option Shared) (xs : List DeathNotification) (stood : (k : Key) → g₀ k ≡ shared (filter (has k) xs)) where
-  abbrev on_name : Key
-  on_name = name_key x.process x.object
-
-  abbrev with_cookie : Key
-  with_cookie = Cookie x.process x.cookie
-
-  put : (a k : Key) (b : Bool) → same_key a k ≡ b → has k x ≡ b → (r : Option Shared) → r ≡ cond b (Some (with_one x.made (g₀ a))) (g₀ k) → r ≡ shared (filter (has k) (xs ++ x ∷ []))
-  put a k true e h r g =
-      let is : shared (filter (has a) xs) ≡ shared (filter (has k) xs) = ap (λ j. shared (filter (has j) xs)) (sym (key-eq a k e)) in
-      g ∙ ap (λ s. Some (with_one x.made s)) (stood a ∙ is) ∙ sym (shared-push (has k) xs x true h)
-  put a k false e h r g = g ∙ stood k ∙ sym (shared-push (has k) xs x false h)
-
-  pub keyed-push : ((k : Key) → g₁ k ≡ cond (same_key on_name k) (Some (with_one x.made (g₀ on_name))) (g₀ k))
-      → ((k : Key) → g₂ k ≡ cond (same_key with_cookie k) (Some (with_one x.made (g₁ with_cookie))) (g₁ k))
-      → (k : Key) → g₂ k ≡ shared (filter (has k) (xs ++ x ∷ []))
-  keyed-push first second (Name p o i) = put on_name (Name p o i) (has (Name p o i) x) refl refl _ (second (Name p o i) ∙ first (Name p o i))
-  keyed-push first second (Cookie p c) =
-      put with_cookie (Cookie p c) (has (Cookie p c) x) refl refl _ (second (Cookie p c) ∙ ap (λ s. cond (has (Cookie p c) x) (Some (with_one x.made s)) (g₁ (Cookie p c))) (first with_cookie)
-      ∙ ap (λ s. cond (has (Cookie p c) x) (Some (with_one x.made (g₀ with_cookie))) s) (first (Cookie p c)))
-
-  module _ (i : ℕ) (within : i < length xs) (at : get_or xs i x ≡ x) where
-    abbrev rest : List DeathNotification
-    rest = remove xs i
-
-    took : (a k : Key) (b : Bool) → same_key a k ≡ b → has k x ≡ b → (r : Option Shared) → r ≡ cond b (left (g₀ a) (shared (filter (has a) rest))) (g₀ k) → r ≡ shared (filter (has k) rest)
-    took a k true e h r g =
-        let is = key-eq a k e in
-        g ∙ ap (λ j. left (g₀ j) (shared (filter (has j) rest))) (sym is) ∙ ap (λ s. left s (shared (filter (has k) rest))) (stood k)
-        ∙ shared-remove (has k) xs i x within (ap (has k) at ∙ h)
-    took a k false e h r g = g ∙ stood k ∙ ap shared (sym (filter-remove (has k) xs i x within (ap (has k) at ∙ h)))
-
-    pub keyed-remove : ((k : Key) → g₁ k ≡ cond (same_key on_name k) (left (g₀ on_name) (shared (filter (has on_name) rest))) (g₀ k))
-        → ((k : Key) → g₂ k ≡ cond (same_key with_cookie k) (left (g₁ with_cookie) (shared (filter (has with_cookie) rest))) (g₁ k))
-        → (k : Key) → g₂ k ≡ shared (filter (has k) rest)
-    keyed-remove first second (Name p o j) = took on_name (Name p o j) (has (Name p o j) x) refl refl _ (second (Name p o j) ∙ first (Name p o j))
-    keyed-remove first second (Cookie p c) =
-        took with_cookie (Cookie p c) (has (Cookie p c) x) refl refl _ (second (Cookie p c) ∙ ap (λ s. cond (has (Cookie p c) x) (left s (shared (filter (has with_cookie) rest))) (g₁ (Cookie p c))) (first with_cookie)
-        ∙ ap (λ s. cond (has (Cookie p c) x) (left (g₀ with_cookie) (shared (filter (has with_cookie) rest))) s) (first (Cookie p c)))
-
-pub has-process : (p : ℕ) (k : Key) (x : DeathNotification) → has k x ≡ true → (x.process == p) ≡ is_of p k
-has-process p (Name q o i) x e = let a = eqb-true x.process q (and_parts _ _ e).0 in ap (λ n. n == p) a
-has-process p (Cookie q c) x e = let a = eqb-true x.process q (and_parts _ _ e).0 in ap (λ n. n == p) a
+  pub group-stays : (q : DeathNotification → Bool) → ((x : DeathNotification) → q (f x) ≡ q x)
+      → (xs : List DeathNotification) → group (filter q (changed p f xs)) ≡ group (filter q xs)
+  group-stays q h xs =
+      ap group (filter-changed q h xs)
+      ∙ same-group (changed p f (filter q xs)) (filter q xs) (length-changed (filter q xs))
+      (places-changed (filter q xs))

@@ -5,4 +5,5 @@ pub mod Parts
 pub mod Places
 pub mod Removing
 pub mod Room
+pub mod SharedKeys
 pub mod Telling

@@ -1,14 +1,17 @@
 -- Where in the list those are that pass.
-use Rattle.std.proofs.Common.{◌≡◌, ℕ, zero, suc, ◌+◌, ◌≤◌, ◌<◌, ◌==◌, Bool, true, false, not, ◌||◌, cond, List, [], ◌∷◌, ◌++◌, Some, None, filter, find, take, drop, length, get_or, ltb, refl, sym, subst, ◌∙◌, arith}
+use Rattle.std.proofs.Common.{◌≡◌, ℕ, zero, suc, ◌+◌, ◌%◌, ◌^◌, ◌≤◌, ◌<◌, ◌==◌, Bool, true, false, not, ◌||◌, cond, List, [], ◌∷◌, ◌++◌, Some, None, filter, find, take, drop, length, get_or, ltb, refl, sym, subst, ◌∙◌, arith}
+use Rattle.std.specs.Prelude.{All}
 use Rattle.std.specs.List.{remove, list_any}
+use Rattle.std.proofs.lemmas.List.Elements.{All-head, All-tail}
 use Rattle.std.specs.List.Sorted.{IsPartitionedBy, IsPartitionPoint}
 use Rattle.std.proofs.lemmas.Bool.{eq-eqb, ne_eqb, ltb-true, ltb-false, lt-ltb}
 use Rattle.bd_space.specs.declared.space.DeathNotification.{DeathNotification}
 use Rattle.bd_space.specs.Words.{changed}
 use Rattle.bd_space.specs.Deaths.{is_notification}
-use Rattle.bd_deaths.specs.declared.key.Shared.TheVariants.{One}
-use Rattle.bd_deaths.specs.Keys.{shared}
+use Rattle.bd_deaths.specs.declared.key.Group.{Group}
+use Rattle.bd_deaths.specs.Keys.{group}
 use Rattle.bd_deaths.specs.Stands.{IsRising, IsWithin}
+use Rattle.bd_deaths.proofs.Keys.{sum-of-one}
 
 -- ---- in the order of their places
 
@@ -104,14 +107,16 @@ within-fewer q r xs i j h w = record { before = fewer-before q r xs i h w.before
 
 -- ---- of those with a key
 
-empty : (ys : List DeathNotification) → shared ys ≡ None → ys ≡ []
+empty : (ys : List DeathNotification) → group ys ≡ None → ys ≡ []
 empty [] h = refl
-empty (y ∷ []) h = absurd (cc)
-empty (y ∷ z ∷ ys) h = absurd (cc)
+empty (y ∷ ys) h = absurd (cc)
 
-single : (x : DeathNotification) (ys : List DeathNotification) (m : ℕ) → shared (x ∷ ys) ≡ Some (One m) → (x.made ≡ m) × (ys ≡ [])
-single x [] m h = (cc, refl)
-single x (y ∷ ys) m h = absurd (cc)
+single : (x : DeathNotification) (ys : List DeathNotification) (g : Group) → x.made < 2 ^ 32 → group (x ∷ ys) ≡ Some g
+    → g.count ≡ 1 → (x.made ≡ g.sum) × (ys ≡ [])
+single x [] g fits h one =
+    let is : (0 + x.made) % 2 ^ 32 ≡ g.sum = cc in (sym (sum-of-one x.made fits) ∙ is, refl)
+single x (y ∷ ys) g fits h one =
+    let is : length (x ∷ y ∷ ys) ≡ g.count = cc in absurd (omega (arith, is, one))
 
 none-pass : (q : DeathNotification → Bool) (xs : List DeathNotification) → filter q xs ≡ [] → list_any q xs ≡ false
 none-pass q [] h = refl
@@ -121,25 +126,35 @@ none-pass q (x ∷ xs) h = by (q x) h (none-pass q xs)
     by true g further = absurd (cc)
     by false g further = further g
 
-pub within-none : (q : DeathNotification → Bool) (xs : List DeathNotification) → shared (filter q xs) ≡ None → IsWithin q 0 0 xs
+pub within-none : (q : DeathNotification → Bool) (xs : List DeathNotification) → group (filter q xs) ≡ None
+    → IsWithin q 0 0 xs
 within-none q xs h = record { before = refl; after = none-pass q xs (empty (filter q xs) h) }
 
 nothing-implies : {A : Type 0} (q r : A → Bool) (xs : List A) → list_any q xs ≡ false → Implies q r xs
 nothing-implies q r [] h = tt
 nothing-implies q r (x ∷ xs) h = let g = no-head (q x) _ h in (λ e. absurd (cc), nothing-implies q r xs g.1)
 
-one-implies : (q : DeathNotification → Bool) (m : ℕ) (xs : List DeathNotification) → shared (filter q xs) ≡ Some (One m) → Implies q (is_notification m) xs
-one-implies q m [] h = tt
-one-implies q m (x ∷ xs) h = by (q x) refl h (one-implies q m xs)
+-- one passes, of the place that its group says
+one-implies : (q : DeathNotification → Bool) (g : Group) → g.count ≡ 1 → (xs : List DeathNotification)
+    → All (λ x. x.made < 2 ^ 32) xs → group (filter q xs) ≡ Some g → Implies q (is_notification g.sum) xs
+one-implies q g one [] fit h = tt
+one-implies q g one (x ∷ xs) fit h = by (q x) refl h (one-implies q g one xs (All-tail fits x xs fit))
   where
-    by : (b : Bool) → q x ≡ b → shared (cond b (x ∷ filter q xs) (filter q xs)) ≡ Some (One m)
-        → (shared (filter q xs) ≡ Some (One m) → Implies q (is_notification m) xs)
-        → (q x ≡ true → (x.made == m) ≡ true) × Implies q (is_notification m) xs
-    by true e g further = let s = single x (filter q xs) m g in (λ _. eq-eqb x.made m s.0, nothing-implies q (is_notification m) xs (none-pass q xs s.1))
-    by false e g further = (λ t. absurd (cc), further g)
+    fits : DeathNotification → Type 0
+    fits y = y.made < 2 ^ 32
 
-pub within-one : (q : DeathNotification → Bool) (m i j : ℕ) (xs : List DeathNotification) → shared (filter q xs) ≡ Some (One m) → IsWithin (is_notification m) i j xs → IsWithin q i j xs
-within-one q m i j xs h w = within-fewer q (is_notification m) xs i j (one-implies q m xs h) w
+    by : (b : Bool) → q x ≡ b → group (cond b (x ∷ filter q xs) (filter q xs)) ≡ Some g
+        → (group (filter q xs) ≡ Some g → Implies q (is_notification g.sum) xs)
+        → (q x ≡ true → (x.made == g.sum) ≡ true) × Implies q (is_notification g.sum) xs
+    by true e h further =
+        let s = single x (filter q xs) g (All-head fits x xs fit) h one in
+        (λ _. eq-eqb x.made g.sum s.0, nothing-implies q (is_notification g.sum) xs (none-pass q xs s.1))
+    by false e h further = (λ t. absurd (cc), further h)
+
+pub within-one : (q : DeathNotification → Bool) (g : Group) → g.count ≡ 1 → (i j : ℕ) (xs : List DeathNotification)
+    → All (λ x. x.made < 2 ^ 32) xs → group (filter q xs) ≡ Some g
+    → IsWithin (is_notification g.sum) i j xs → IsWithin q i j xs
+within-one q g one i j xs fit h w = within-fewer q (is_notification g.sum) xs i j (one-implies q g one xs fit h) w
 
 -- ---- what passes is looked for there alone
 

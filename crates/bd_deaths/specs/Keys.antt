@@ -1,43 +1,52 @@
--- By what notifications are looked for, and which one has a key.
-use Rattle.std.specs.Prelude.{ℕ, ◌==◌, ◌&&◌, Bool, List, [], ◌∷◌, Option, Some, None}
+-- By what notifications are looked for, and what is kept of those with a key.
+use Rattle.std.specs.Prelude.{ℕ, ◌+◌, ◌-◌, ◌%◌, ◌^◌, nat_le, if◌then◌else◌, Bool, List, [], ◌∷◌, length, sum_by, Option, Some, None}
+use Rattle.bd_words.specs.declared.key.WordKey.{WordKey}
+use Rattle.bd_words.specs.Keys.{same_word}
 use Rattle.bd_space.specs.declared.step.ObjectId.{ObjectId}
 use Rattle.bd_space.specs.declared.space.DeathNotification.{DeathNotification}
+use Rattle.bd_deaths.specs.declared.key.NameKey.{NameKey}
 use Rattle.bd_deaths.specs.declared.key.Key.{Key}
 use Rattle.bd_deaths.specs.declared.key.Key.TheVariants.{Name, Cookie}
-use Rattle.bd_deaths.specs.declared.key.Shared.{Shared}
-use Rattle.bd_deaths.specs.declared.key.Shared.TheVariants.{One, Several}
-use Rattle.bd_deaths.specs.contracts.key.KeyPartialEq.TheImpl as keys
+use Rattle.bd_deaths.specs.declared.key.Group.{Group}
+use Rattle.bd_deaths.specs.contracts.key.NameKeyPartialEq.TheImpl as names
 
-abbrev pub same_key : Key → Key → Bool
-same_key = (keys.ghosts).eq
+abbrev pub same_name : NameKey → NameKey → Bool
+same_name = (names.ghosts).eq
 
 abbrev pub name_key : ℕ → ObjectId → Key
-name_key p o = Name p o.place o.index
+name_key p o = Name (record { process = p; place = o.place; index = o.index })
+
+abbrev pub cookie_key : ℕ → ℕ → Key
+cookie_key p cookie = Cookie (record { process = p; word = cookie })
+
+abbrev pub name_of : DeathNotification → NameKey
+name_of x = record { process = x.process; place = x.object.place; index = x.object.index }
+
+abbrev pub cookie_of : DeathNotification → WordKey
+cookie_of x = record { process = x.process; word = x.cookie }
 
 abbrev pub has : Key → DeathNotification → Bool
-has (Name p place index) x = (x.process == p) && ((x.object.place == place) && (x.object.index == index))
-has (Cookie p cookie) x = (x.process == p) && (x.cookie == cookie)
+has (Name k) x = same_name (name_of x) k
+has (Cookie k) x = same_word (cookie_of x) k
 
-abbrev pub is_of : ℕ → Key → Bool
-is_of p (Name q place index) = q == p
-is_of p (Cookie q cookie) = q == p
+-- what is kept of these: the sum of their places wraps, and is the place where there is one
+abbrev pub group : List DeathNotification → Option Group
+group [] = None
+group (x ∷ xs) = Some (record { count = length (x ∷ xs); sum = sum_by (λ y. y.made) (x ∷ xs) % 2 ^ 32 })
 
--- which of these it is, where they are those with a key
-abbrev pub shared : List DeathNotification → Option Shared
-shared [] = None
-shared (x ∷ []) = Some (One x.made)
-shared (x ∷ y ∷ ys) = Some Several
+-- one more, of this place
+abbrev pub with_one : ℕ → Option Group → Group
+with_one made None = record { count = 1; sum = made }
+with_one made (Some g) = record { count = (g.count + 1) % 2 ^ 64; sum = (g.sum + made) % 2 ^ 32 }
 
-abbrev pub with_one : ℕ → Option Shared → Shared
-with_one made None = One made
-with_one made (Some s) = Several
-
--- which is left of those that had a key, where it is now so if there were several
-abbrev pub left : Option Shared → Option Shared → Option Shared
-left (Some Several) now = now
-left _ now = None
+-- one less, of this place
+abbrev pub without_one : ℕ → Option Group → Option Group
+without_one made None = None
+without_one made (Some g) =
+    if nat_le g.count 1 then None
+    else Some (record { count = g.count - 1; sum = (g.sum + (2 ^ 32 - made)) % 2 ^ 32 })
 
 -- this, where there was something
-abbrev pub instead : Shared → Option Shared → Option Shared
+abbrev pub instead : Group → Option Group → Option Group
 instead now None = None
-instead now (Some s) = Some now
+instead now (Some g) = Some now

@@ -1,11 +1,10 @@
 -- How many notifications a table may still take without memory, how many it has, and what a change takes of that.
-use Rattle.std.specs.Prelude.{ℕ, ◌+◌, ◌-◌, ◌/◌, ◌≤◌, min, vec_len, vec_capacity}
-use Rattle.std.specs.HashMap.{spare}
+use Rattle.std.specs.Prelude.{ℕ, ◌+◌, ◌-◌, ◌≤◌, min, vec_len, vec_capacity}
 use Rattle.bd_deaths.specs.declared.table.DeathTable.{DeathTable}
+use Rattle.bd_deaths.specs.SharedAt.{key_room}
 
--- each has two keys
 unfoldable pub death_room : DeathTable → ℕ
-death_room t = min (vec_capacity t.deaths - vec_len t.deaths) (spare t.shared / 2)
+death_room t = min (vec_capacity t.deaths - vec_len t.deaths) (key_room t.sharing)
 
 unfoldable pub death_count : DeathTable → ℕ
 death_count t = vec_len t.deaths

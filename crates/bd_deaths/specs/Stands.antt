@@ -1,11 +1,9 @@
 -- What a table of death notifications stands for: those of a space, in their order.
-use Rattle.std.specs.Prelude.{ℕ, suc, ◌≡◌, ◌≤◌, true, Bool, false, List, [], ◌∷◌, take, drop, filter}
+use Rattle.std.specs.Prelude.{ℕ, suc, ◌≡◌, ◌≤◌, true, Bool, false, List, [], ◌∷◌, take, drop}
 use Rattle.std.specs.List.{list_any, between}
-use Rattle.std.specs.HashMap.{get}
 use Rattle.bd_space.specs.declared.space.DeathNotification.{DeathNotification}
-use Rattle.bd_deaths.specs.declared.key.Key.{Key}
 use Rattle.bd_deaths.specs.declared.table.DeathTable.{DeathTable}
-use Rattle.bd_deaths.specs.Keys.{same_key, has, shared}
+use Rattle.bd_deaths.specs.SharedAt.{AreShared}
 
 -- each was made after the one before, from one place on and before another
 abbrev pub IsRising : ℕ → ℕ → List DeathNotification → Type 0
@@ -15,7 +13,7 @@ IsRising from end (x ∷ xs) = (from ≤ x.made) × IsRising (suc x.made) end xs
 pub record DeathsAre (t : DeathTable) (l : List DeathNotification) : Type 0 where
   pub items_are : t.deaths.items ≡ l
   pub rising : t.in_order ≡ true → IsRising 0 t.end l
-  pub keyed : (k : Key) → get same_key t.shared k ≡ shared (filter (has k) l)
+  pub keyed : AreShared t.sharing l
 
 -- all that pass lie between the two indices
 pub record IsWithin (q : DeathNotification → Bool) (from to : ℕ) (l : List DeathNotification) : Type 0 where

@@ -9,7 +9,6 @@ ghost use Rattle.bd_space.specs.declared.space.DeathNotification as declared;
 ghost use Rattle.bd_nodes.specs.Stands.{NodesAre};
 ghost use Rattle.bd_deaths.specs.Due as due;
 
-use crate::key::take_of;
 use crate::table::DeathTable;
 use bd_nodes::NodeTable;
 use bd_space::{DeathNotification, Phase};
@@ -62,7 +61,7 @@ impl DeathTable {
             → DeathsAre self.new (filter (λ x. not (x.process == p)) l) }
         ensures uses { Uses self.old self.new 0 }
     {
+        self.sharing.drop_process(&self.deaths, p);
         drop_deaths_of(&mut self.deaths, p);
-        take_of(&mut self.shared, p);
     }
 }

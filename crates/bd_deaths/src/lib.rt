@@ -7,6 +7,7 @@ mod key;
 mod look;
 mod name;
 mod place;
+mod sharing;
 mod table;
 
 pub use end::is_due;

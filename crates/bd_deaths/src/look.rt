@@ -6,7 +6,7 @@ ghost use Rattle.bd_space.specs.Deaths as deaths_of;
 ghost use Rattle.bd_space.specs.Clearing as clearing;
 ghost use Rattle.bd_space.specs.declared.space.DeathNotification as declared;
 
-use crate::key::{Key, name_key};
+use crate::key::{cookie_key, name_key};
 use crate::table::DeathTable;
 use bd_space::{DeathNotification, ObjectId, Phase};
 
@@ -68,6 +68,6 @@ impl DeathTable {
         ensures { (l : List declared.DeathNotification) → DeathsAre self.now l
             → result ≡ find (clearing.is_told_with p cookie) l }
     {
-        told_in(self.key_part(Key::Cookie(p, cookie)), p, cookie)
+        told_in(self.key_part(cookie_key(p, cookie)), p, cookie)
     }
 }

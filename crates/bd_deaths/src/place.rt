@@ -7,7 +7,7 @@ ghost use Rattle.bd_space.specs.declared.space.DeathNotification as declared;
 ghost use Rattle.bd_deaths.specs.Keys as keys;
 ghost use Rattle.bd_deaths.specs.Stands.{IsRising, IsWithin, IsPartOf, DeathsAre};
 
-use crate::key::{Key, Shared, shared_at};
+use crate::key::Key;
 use crate::table::DeathTable;
 use bd_space::DeathNotification;
 use std::ops::Range;
@@ -59,10 +59,15 @@ impl DeathTable {
         ensures within { (l : List declared.DeathNotification) → DeathsAre self.now l
             → IsWithin (keys.has key) result.start result.end l }
     {
-        match shared_at(&self.shared, key) {
+        match self.sharing.at(key) {
             None => 0..0,
-            Some(Shared::One(made)) => self.made_range(made),
-            Some(Shared::Several) => 0..self.deaths.len(),
+            Some(group) => {
+                if group.count == 1 {
+                    self.made_range(group.sum)
+                } else {
+                    0..self.deaths.len()
+                }
+            }
         }
     }
 

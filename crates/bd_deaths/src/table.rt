@@ -4,10 +4,9 @@ ghost use Rattle.std.specs.Prelude.{◌≡◌, ◌≤◌, ◌<◌, ◌+◌, ◌+
 ghost use Rattle.std.specs.List.{remove as list_remove};
 ghost use Rattle.bd_space.specs.declared.space.DeathNotification as declared;
 
-use crate::key::{Key, Shared, add, name_key, take};
+use crate::sharing::Sharing;
 use bd_space::DeathNotification;
 use std::alloc::{AllocError, Global};
-use std::collections::HashMap;
 
 /// The death notifications of all processes.
 #[derive(Drop)]
@@ -17,7 +16,7 @@ pub struct DeathTable {
     pub(crate) in_order: bool,
     // The place after the latest, while they are in order.
     pub(crate) end: u64,
-    pub(crate) shared: HashMap<Key, Shared>,
+    pub(crate) sharing: Sharing,
 }
 
 impl DeathTable {
@@ -32,7 +31,7 @@ impl DeathTable {
             deaths: Vec::new(alloc),
             in_order: true,
             end: 0,
-            shared: HashMap::new(alloc),
+            sharing: Sharing::new(alloc),
         }
     }
 
@@ -46,7 +45,7 @@ impl DeathTable {
         ensures grown { OnErr result (more ≤ death_room self.old → ⊥) }
     {
         self.deaths.reserve(more)?;
-        self.shared.reserve(more * 2)
+        self.sharing.reserve(more)
     }
 
     /// One notification more, after the others.
@@ -59,9 +58,10 @@ impl DeathTable {
     {
         self.in_order = self.in_order && self.end <= x.made as u64;
         self.end = x.made as u64 + 1;
-        add(&mut self.shared, name_key(x.process, x.object), x.made);
-        add(&mut self.shared, Key::Cookie(x.process, x.cookie), x.made);
+        self.sharing.add(&x);
         self.deaths.push_reserved(x);
+        // A length is a usize: so no group's count wraps.
+        let _ = self.deaths.len();
     }
 
     /// The notification of this index goes.
@@ -74,16 +74,7 @@ impl DeathTable {
         ensures uses { Uses self.old self.new 0 }
     {
         let x = self.deaths.remove(i);
-        take(
-            &mut self.shared,
-            name_key(x.process, x.object),
-            &self.deaths,
-        );
-        take(
-            &mut self.shared,
-            Key::Cookie(x.process, x.cookie),
-            &self.deaths,
-        );
+        self.sharing.take(&x);
     }
 
     /// How many there are.

@@ -18,6 +18,7 @@ pub mod TakingItems
 pub mod Sendings
 pub mod Deliveries
 pub mod Telling
+pub mod Stacked
 pub mod Stepping
 pub mod Finding
 pub mod Freeing

@@ -1,22 +1,24 @@
 -- What a step takes in is new, by what holds between two steps.
-use Rattle.std.proofs.Common.{◌≡◌, ◌==◌, ◌||◌, ℕ, Bool, true, false, List, [], ◌∷◌, ◌++◌, inl, inr, append-nil, append_assoc, length, find, Option, Some, None, Ok, refl, ap, sym, subst, arith}
+use Rattle.std.proofs.Common.{◌≡◌, ◌==◌, ◌||◌, ℕ, Bool, true, false, not, List, [], ◌∷◌, ◌++◌, inl, inr, append-nil, append_assoc, length, find, Option, Some, None, Ok, refl, ap, sym, subst, arith}
 use Rattle.std.specs.Option.{option_to_list, is_some}
 use Rattle.std.proofs.lemmas.Bool.{eqb-true}
 use Rattle.bd_uapi.specs.declared.command.TransactionData.{TransactionData}
 use Rattle.bd_uapi.specs.declared.object.FlatObject.{FlatObject}
+use Rattle.bd_uapi.specs.declared.fault.Fault.{Fault}
 use Rattle.bd_uapi.specs.declared.fault.Note.TheVariants.{NoSuchNumber, AlreadyAsked}
 use Rattle.bd_space.specs.declared.step.ObjectId.{ObjectId}
 use Rattle.bd_space.specs.declared.step.Parcel.{Parcel}
 use Rattle.bd_space.specs.declared.space.Object.{Object}
 use Rattle.bd_space.specs.declared.space.Item.{Item}
 use Rattle.bd_space.specs.declared.space.Resolved.{Resolved}
-use Rattle.bd_space.specs.Words.{same, found_or, unless}
+use Rattle.bd_space.specs.Words.{same, found_or, unless, when, first_of}
 use Rattle.bd_space.specs.Space.{Space}
+use Rattle.bd_space.specs.Seats.{thread_in, process_with_pid}
 use Rattle.bd_space.specs.References.{object_in, own_in}
 use Rattle.bd_space.specs.Names.{named}
 use Rattle.bd_space.specs.Deaths.{is_notification, uncleared_in, request_check, request_note}
 use Rattle.bd_space.specs.Parcels.{Sending, new_object, resolve, sending_of}
-use Rattle.bd_space.specs.Steps.{is_manager_busy}
+use Rattle.bd_space.specs.Steps.{is_manager_busy, is_pid, is_window, open_fault}
 use Rattle.bd_laws.specs.Lists.{In}
 use Rattle.bd_laws.specs.Items.{IsQueued}
 use Rattle.bd_laws.specs.Tidy.{IsTidy}
@@ -111,3 +113,17 @@ new-death s place p n o at tidy check =
       made = unnotified s place at tidy;
       asked = subst (λ i. uncleared_in s.deaths p i ≡ None) k.1 (is-none (uncleared_in s.deaths p c.0) (when-none (is_some (uncleared_in s.deaths p c.0)) AlreadyAsked k.0));
     }
+
+-- ---- processes
+
+unfaulted : (a b c d : Bool) (w x y z : Fault) → first_of (when a w ∷ when b x ∷ when c y ∷ when d z ∷ []) ≡ None → d ≡ false
+unfaulted true b c d w x y z e = absurd (cc)
+unfaulted false true c d w x y z e = absurd (cc)
+unfaulted false false true d w x y z e = absurd (cc)
+unfaulted false false false true w x y z e = absurd (cc)
+unfaulted false false false false w x y z e = refl
+
+pub new-pid : (s : Space) (seat pid window : ℕ) → open_fault s seat pid window ≡ None → process_with_pid s.processes pid ≡ None
+new-pid s seat pid window e =
+    is-none (process_with_pid s.processes pid)
+    (unfaulted (not (is_pid pid)) (not (is_window window)) (is_some (thread_in s.threads seat)) (is_some (process_with_pid s.processes pid)) _ _ _ _ e)

@@ -13,6 +13,7 @@ use Rattle.bd_space.specs.Turns.{turns_of}
 use Rattle.bd_space.specs.Todo.{owe, with_work}
 use Rattle.bd_space.specs.ProcessExits.{is_armed, tell_death, tell_deaths}
 use Rattle.bd_objects.specs.declared.table.ObjectTable.{ObjectTable}
+use Rattle.bd_processes.specs.Stands.{ProcessesAre}
 use Rattle.bd_objects.specs.Stands as objects
 use Rattle.bd_calls.specs.Stands as calls
 use Rattle.bd_buffers.specs.WindowsStand.{WindowsOf}
@@ -66,7 +67,7 @@ told-stands t os s p h k =
     record {
       own = record {
         steps_are = subst (λ z. z.steps ≡ t.steps) e h.own.steps_are;
-        processes_are = subst (λ z. z.processes ≡ t.processes.list.items) e h.own.processes_are;
+        processes_are = subst (λ z. ProcessesAre t.processes z.processes) e h.own.processes_are;
         manager_is = subst (λ z. z.manager ≡ t.manager) e h.own.manager_is;
       };
       objects_stand = k;

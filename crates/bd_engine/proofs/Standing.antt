@@ -17,6 +17,7 @@ use Rattle.bd_space.specs.Notices.{follow, notify, work_goes, deaths_go}
 use Rattle.bd_space.specs.Settle.{settle, settle_one, settle_times, is_abandoned}
 use Rattle.bd_space.specs.Outcomes.{completed}
 use Rattle.bd_space.specs.Local.{close_up, close_among}
+use Rattle.bd_processes.specs.Stands.{ProcessesAre}
 use Rattle.bd_objects.specs.Stands as objects
 use Rattle.bd_calls.specs.declared.table.CallTable.{CallTable}
 use Rattle.bd_calls.specs.Stands as calls
@@ -88,7 +89,7 @@ calls_changed t cs s z same h k =
     record {
       own = record {
         steps_are = subst (λ z. z.steps ≡ t.steps) e h.own.steps_are;
-        processes_are = subst (λ z. z.processes ≡ t.processes.list.items) e h.own.processes_are;
+        processes_are = subst (λ z. ProcessesAre t.processes z.processes) e h.own.processes_are;
         manager_is = subst (λ z. z.manager ≡ t.manager) e h.own.manager_is;
       };
       objects_stand = subst (objects.StandsFor t.objects) e h.objects_stand;

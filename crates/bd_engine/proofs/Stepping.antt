@@ -29,6 +29,7 @@ use Rattle.bd_space.specs.Translation.{translation}
 use Rattle.bd_space.specs.Outcomes.{accepted, stopped}
 use Rattle.bd_space.specs.Transactions.{is_one_way, handle_of, not_own, target_of, owner_of, with_owner, callee_of, caller_cause, sent_to, transaction_check, call_out, called, transacted, refusal, transaction_step, transaction_outcome}
 use Rattle.bd_space.specs.Replies.{caller_of, reply_sent_to, reply_check, replied, reply_refused, reply_outcome, reply_to, reply_step}
+use Rattle.bd_calls.specs.Stacked.{IsStacked}
 use Rattle.bd_engine.specs.declared.tables.Tables.{Tables}
 use Rattle.bd_engine.specs.Stands.{StandsAt, Within}
 use Rattle.bd_engine.specs.Deliveries.{placed_for}
@@ -100,6 +101,11 @@ pub transacted-full : (s : Space) (a : Actor) (d : TransactionData) (v : Deliver
 unfolding transacted owe delivered own_notices add_buffer names_go
 transacted-full s a d v e =
     ap has_number_past_limit (called_names (owe (delivered s a d v) (OfThread a.thread.seat) Complete) a.thread.seat v.receiver.made v.one_way) ∙ e
+
+-- a delivery leaves the frames as they are
+pub sent-stacked : (s : Space) (a : Actor) (d : TransactionData) (v : Delivery) → IsStacked s → IsStacked (delivered s a d v)
+unfolding delivered own_notices add_buffer known_by assign_numbers refer make_objects
+sent-stacked s a d v k = k
 
 called_within : (t : Tables) (z : Space) (seat p : ℕ) (b : Bool) → StandsAt (z.steps + 1) t (called (owe z (OfThread seat) Complete) seat p b) → Within t (called (owe z (OfThread seat) Complete) seat p b)
 unfolding call_out owe

@@ -16,6 +16,7 @@ use Rattle.bd_space.specs.Tables as tables
 use Rattle.bd_nodes.specs.New.{AreNewIn}
 use Rattle.bd_objects.specs.Room as object_rooms
 use Rattle.bd_calls.specs.Room as call_rooms
+use Rattle.bd_calls.specs.Stacked.{IsStacked}
 use Rattle.bd_buffers.specs.WindowsStand.{CanAdd, buffer_room}
 use Rattle.bd_engine.specs.declared.tables.Tables.{Tables}
 use Rattle.bd_engine.specs.Stands.{Before, Within, HasRoom}
@@ -61,6 +62,10 @@ SendsNew v s = AreNewIn s.objects v.sending.made
 -- from before a step to within it a delivery makes what f makes of each space in which what it makes is new
 abbrev pub Delivers : Tables → Tables → Delivery → (Space → Space) → Type 0
 Delivers old new v f = tables.MakesWhere (Before old) (SendsNew v) (Within new) f
+
+-- the same, of each in which a thread's innermost frame is its newest as well
+abbrev pub DeliversOfStacked : Tables → Tables → Delivery → (Space → Space) → Type 0
+DeliversOfStacked old new v f = tables.MakesWhere (Before old) (λ s. SendsNew v s × IsStacked s) (Within new) f
 
 -- a change takes room for so many frames, one-way calls and work items, and adds at most so many objects
 pub record Spends (old new : Tables) (objects frames turns works : ℕ) : Type 0 where

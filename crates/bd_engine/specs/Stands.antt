@@ -6,22 +6,25 @@ use Rattle.bd_space.specs.Space.{Space}
 use Rattle.bd_space.specs.Names.{has_number_past_limit}
 use Rattle.bd_space.specs.Tables as tables
 use Rattle.bd_laws.specs.Tidy.{IsTidy}
+use Rattle.bd_processes.specs.declared.table.ProcessTable.{ProcessTable}
+use Rattle.bd_processes.specs.Stands.{ProcessesAre}
 use Rattle.bd_objects.specs.Stands as objects
 use Rattle.bd_objects.specs.Room as object_rooms
 use Rattle.bd_calls.specs.Stands as calls
 use Rattle.bd_calls.specs.Room as call_rooms
+use Rattle.bd_calls.specs.Stacked.{IsStacked}
 use Rattle.bd_buffers.specs.WindowsStand.{WindowsOf}
 use Rattle.bd_engine.specs.declared.tables.Tables.{Tables}
 
--- what isn't in a table: the place of the next step, the live processes, the context manager's object
-pub record Own (steps : ℕ) (processes : List Process) (manager : Option ObjectId) (steps' : ℕ) (processes' : List Process) (manager' : Option ObjectId) : Type 0 where
+-- the place of the next step, the live processes, the context manager's object
+pub record Own (steps : ℕ) (processes : List Process) (manager : Option ObjectId) (steps' : ℕ) (processes' : ProcessTable) (manager' : Option ObjectId) : Type 0 where
   pub steps_are : steps ≡ steps'
-  pub processes_are : processes ≡ processes'
+  pub processes_are : ProcessesAre processes' processes
   pub manager_is : manager ≡ manager'
 
 -- every member was made by a step before this place
 pub record StandsAt (bound : ℕ) (t : Tables) (s : Space) : Type 0 where
-  pub own : Own s.steps s.processes s.manager t.steps t.processes.list.items t.manager
+  pub own : Own s.steps s.processes s.manager t.steps t.processes t.manager
   pub objects_stand : objects.StandsFor t.objects s
   pub calls_stand : calls.StandsFor t.calls s
   pub windows_stand : WindowsOf t.windows bound s.processes s.buffers
@@ -48,9 +51,21 @@ TellsBefore t x f = tables.Tells (Before t) x f
 abbrev pub TellsWithin : {A : Type 0} → Tables → A → (Space → A) → Type 0
 TellsWithin t x f = tables.Tells (Within t) x f
 
+-- of each in which a thread's innermost frame is its newest
+abbrev pub TellsOfStacked : {A : Type 0} → Tables → A → (Space → A) → Type 0
+TellsOfStacked t x f = (n : ℕ) → tables.TellsWhere (StandsAt n t) IsStacked x f
+
+-- of such a one before a step
+abbrev pub TellsBeforeOfStacked : {A : Type 0} → Tables → A → (Space → A) → Type 0
+TellsBeforeOfStacked t x f = tables.TellsWhere (Before t) IsStacked x f
+
 -- a change of the tables makes what f makes of each
 abbrev pub Makes : Tables → Tables → (Space → Space) → Type 0
 Makes old new f = (n : ℕ) → tables.Makes (StandsAt n old) (StandsAt n new) f
+
+-- of each in which a thread's innermost frame is its newest
+abbrev pub MakesOfStacked : Tables → Tables → (Space → Space) → Type 0
+MakesOfStacked old new f = (n : ℕ) → tables.MakesWhere (StandsAt n old) IsStacked (StandsAt n new) f
 
 -- within a step
 abbrev pub MakesWithin : Tables → Tables → (Space → Space) → Type 0

@@ -63,7 +63,7 @@ impl Tables {
         ensures { MakesWhere (Within self.old) (IsNewDeath self.old.steps p o) (Within self.new)
             (λ s. deaths.requested s p o cookie) }
     {
-        if self.objects.owner_lives(self.processes.as_slice(), o) {
+        if self.objects.owner_lives(&self.processes, o) {
             self.add_death(p, o, cookie, Phase::Armed);
         } else {
             self.add_told_death(p, o, cookie);

@@ -263,7 +263,7 @@ impl Tables {
             return;
         }
         if let Some(o) = self.objects.object(x.object) {
-            let wanted = self.objects.wants_notice(self.processes.as_slice(), &o);
+            let wanted = self.objects.wants_notice(&self.processes, &o);
             let list = TodoList::OfThread(seat);
             self.calls.add_notice(self.steps, list, o.id, wanted);
         }

@@ -8,7 +8,7 @@ ghost use Rattle.bd_space.specs.Space.{Space};
 ghost use Rattle.bd_space.specs.Seats.{process_in};
 ghost use Rattle.bd_space.specs.Replies as replies;
 ghost use Rattle.bd_calls.specs.Room.{work_room, frame_room};
-ghost use Rattle.bd_engine.specs.Stands.{Makes, Tells, StandsAt, TellsBefore};
+ghost use Rattle.bd_engine.specs.Stands.{Makes, MakesOfStacked, Tells, StandsAt, TellsBefore};
 ghost use Rattle.bd_engine.specs.Deliveries.{Spends, SpendsNothing};
 
 use crate::tables::Tables;
@@ -19,7 +19,7 @@ impl Tables {
     pub(crate) fn call_out(&mut self, seat: u32, process: u32)
         requires frames { 1 ≤ frame_room self.old.calls }
         requires works { 1 ≤ work_room self.old.calls }
-        ensures stands { Makes self.old self.new (λ s. transactions.call_out s seat process) }
+        ensures stands { MakesOfStacked self.old self.new (λ s. transactions.call_out s seat process) }
         ensures spends { Spends self.old self.new 0 1 0 1 }
     {
         self.calls.call_out(self.steps, seat, process);

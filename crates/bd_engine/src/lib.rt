@@ -13,7 +13,6 @@ mod looks;
 mod manager;
 mod parcel;
 mod process;
-mod processes;
 mod read;
 mod reference;
 mod reply;

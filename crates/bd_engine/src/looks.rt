@@ -5,7 +5,7 @@ ghost use Rattle.std.specs.Option.{option_copied};
 ghost use Rattle.bd_space.specs.Histories.{space_after};
 ghost use Rattle.bd_space.specs.Returns.{buffer_in};
 ghost use Rattle.bd_engine.specs.Looks as looks;
-ghost use Rattle.bd_engine.specs.Stands.{Tells};
+ghost use Rattle.bd_engine.specs.Stands.{Tells, TellsOfStacked};
 
 use crate::engine::Engine;
 use crate::tables::Tables;
@@ -51,7 +51,7 @@ impl Tables {
     }
 
     pub(crate) fn innermost_of(&self, seat: u32) -> Option<(u32, bool)>
-        ensures { Tells self.now result (λ s. looks.innermost_of s seat) }
+        ensures { TellsOfStacked self.now result (λ s. looks.innermost_of s seat) }
     {
         match self.calls.innermost(seat) {
             Some(f) => Some((f.made, serves(seat, f.server))),

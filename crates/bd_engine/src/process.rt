@@ -1,6 +1,6 @@
 //! Processes: how they are found, open and end.
 
-ghost use Rattle.std.specs.Prelude.{◌≡◌, ◌==◌, ◌<◌, [], true, filter, IfSome, OnOk, vec_len, vec_capacity, ◌≤◌, IfOk, None, ◌+◌, length, map, fold};
+ghost use Rattle.std.specs.Prelude.{◌≡◌, ◌==◌, [], true, filter, IfSome, OnOk, ◌≤◌, IfOk, None, ◌+◌, length, map, fold};
 ghost use Rattle.bd_space.specs.Seats as seats;
 ghost use Rattle.bd_space.specs.Space.{Space};
 ghost use Rattle.bd_space.specs.Steps as steps;
@@ -9,6 +9,7 @@ ghost use Rattle.bd_space.specs.ThreadExits as thread_exits;
 ghost use Rattle.bd_space.specs.LocalExits.{seats_in};
 ghost use Rattle.bd_laws.specs.Lists.{Pairs};
 ghost use Rattle.bd_laws.specs.Objects.{NotLater};
+ghost use Rattle.bd_processes.specs.Room.{process_room};
 ghost use Rattle.bd_objects.specs.Room.{death_count};
 ghost use Rattle.bd_calls.specs.Room.{thread_room, work_room, frame_count};
 ghost use Rattle.bd_buffers.specs.WindowsStand.{Stands, window_room};
@@ -73,13 +74,13 @@ impl Tables {
         None
     }
 
-    // A process comes in, with its window.
+    // A process comes in, with its window. Of a space where none has its pid.
     fn with_process(&mut self, pid: u32, euid: u32, size: u32, window: Window)
-        requires processes { vec_len self.old.processes.list < vec_capacity self.old.processes.list }
+        requires processes { 1 ≤ process_room self.old.processes }
         requires windows { 1 ≤ window_room self.old.windows }
         requires pid { steps.is_pid pid ≡ true }
-        ensures stands { (s : Space) → Before self.old s → Stands window size []
-            → Within self.new (steps.with_process s pid euid size) }
+        ensures stands { (s : Space) → Before self.old s → seats.process_with_pid s.processes pid ≡ None
+            → Stands window size [] → Within self.new (steps.with_process s pid euid size) }
         ensures threads { thread_room self.new.calls ≡ thread_room self.old.calls }
     {
         self.processes.add(Process {
@@ -96,7 +97,7 @@ impl Tables {
         requires { steps.is_window size ≡ true }
         ensures stands { IsKept self.old self.new }
         ensures window { IfOk result (λ w. Stands w size []) }
-        ensures processes { OnOk result (vec_len self.new.processes.list < vec_capacity self.new.processes.list) }
+        ensures processes { OnOk result (1 ≤ process_room self.new.processes) }
         ensures windows { OnOk result (1 ≤ window_room self.new.windows) }
         ensures threads { OnOk result (1 ≤ thread_room self.new.calls) }
     {

@@ -5,10 +5,12 @@ ghost use Rattle.std.specs.Option.{option_to_list};
 ghost use Rattle.bd_parcel.specs.Parcels.{offsets_in, fault_in};
 ghost use Rattle.bd_parcel.specs.Reading.{objects_at};
 ghost use Rattle.bd_space.specs.Parcels as parcels;
+ghost use Rattle.bd_objects.specs.Made.{made_items};
 ghost use Rattle.bd_engine.specs.Stands.{Tells};
 ghost use Rattle.bd_engine.specs.Deliveries.{IsInside, IsSound, sending};
 
 use crate::tables::Tables;
+use bd_objects::Made;
 use bd_parcel::{Objects, WalkFault, walk};
 use bd_space::{Item, Object, Parcel, Resolved};
 use bd_uapi::{Cause, FlatObject, TransactionData};
@@ -65,18 +67,19 @@ fn is_cut(d: &TransactionData, q: &Parcel) -> bool
 
 // One object more.
 fn add(
-    made: &mut Vec<Object>,
+    made: &mut Made,
     items: &mut Vec<Item>,
     at: usize,
     flat: FlatObject,
     resolved: Resolved,
 ) -> Result<(), AllocError>
-    ensures made { OnOk result (made.new.items ≡ made.old.items ++ option_to_list resolved.new) }
+    ensures made { OnOk result (made_items made.new ≡ made_items made.old ++ option_to_list resolved.new) }
     ensures items { OnOk result
         (items.new.items ≡ items.old.items ++ record { at = at; flat = flat; object = resolved.object } ∷ []) }
 {
     if let Some(o) = resolved.new {
-        made.push(o)?;
+        made.reserve(1)?;
+        made.push(o);
     }
     items.push(Item {
         at: at as u64,
@@ -107,21 +110,18 @@ impl Tables {
         if objects.len() > MOST_OBJECTS {
             return Err(AllocError);
         }
-        let mut made = Vec::new(self.alloc);
+        let mut made = Made::new(self.alloc);
         let mut items = Vec::new(self.alloc);
         for k in 0..objects.len() {
             let x = objects.get(k);
-            match self
-                .objects
-                .resolve(self.steps, p, made.as_slice(), &x.object)
-            {
+            match self.objects.resolve(self.steps, p, &made, &x.object) {
                 Err(cause) => return Ok(Err(cause)),
                 Ok(resolved) => add(&mut made, &mut items, x.start, x.object, resolved)?,
             }
         }
         Ok(Ok(Sending {
             parcel,
-            made,
+            made: made.into_objects(),
             items,
         }))
     }

@@ -2,10 +2,10 @@
 
 ghost use Rattle.std.specs.Prelude.{◌≡◌, ◌≤◌, OnOk};
 
-use crate::processes::Processes;
 use bd_buffers::Windows;
 use bd_calls::CallTable;
 use bd_objects::{ObjectTable, Room};
+use bd_processes::ProcessTable;
 use bd_space::ObjectId;
 use std::alloc::{AllocError, Global};
 
@@ -14,7 +14,7 @@ use std::alloc::{AllocError, Global};
 pub(crate) struct Tables {
     /// How many steps there were: the place of the next.
     pub(crate) steps: u32,
-    pub(crate) processes: Processes,
+    pub(crate) processes: ProcessTable,
     pub(crate) manager: Option<ObjectId>,
     pub(crate) objects: ObjectTable,
     pub(crate) calls: CallTable,
@@ -34,7 +34,7 @@ impl Tables {
     {
         Tables {
             steps: 0,
-            processes: Processes::new(alloc),
+            processes: ProcessTable::new(alloc),
             manager: None,
             objects: ObjectTable::new(alloc),
             calls: CallTable::new(alloc),

@@ -50,8 +50,8 @@ impl Tables {
         ensures uses { UsesNothing self.old self.new }
     {
         for o in touched {
-            self.objects.object_goes(self.processes.as_slice(), *o);
-            let owner = self.objects.owner_to_tell(self.processes.as_slice(), *o);
+            self.objects.object_goes(&self.processes, *o);
+            let owner = self.objects.owner_to_tell(&self.processes, *o);
             if owner.is_none() {
                 self.calls.withdraw_notice(*o);
             }
@@ -65,7 +65,7 @@ impl Tables {
         ensures uses { Uses self.old self.new 0 0 0 (length touched.now) }
     {
         for o in touched {
-            let owner = self.objects.owner_to_tell(self.processes.as_slice(), *o);
+            let owner = self.objects.owner_to_tell(&self.processes, *o);
             if let Some(p) = owner {
                 let list = TodoList::OfProcess(p);
                 self.calls.add_notice(self.steps, list, *o, true);

@@ -11,9 +11,10 @@ ghost use Rattle.bd_space.specs.Outcomes as outcomes;
 ghost use Rattle.bd_space.specs.Frames as frames;
 ghost use Rattle.bd_space.specs.Transactions as spec;
 ghost use Rattle.bd_calls.specs.Room.{work_room, frame_room};
-ghost use Rattle.bd_engine.specs.Stands.{StandsAt, CanFollow, Tells, TellsBefore, Makes, PassesLimit};
+ghost use Rattle.bd_engine.specs.Stands.{StandsAt, CanFollow, Tells, PassesLimit};
+ghost use Rattle.bd_engine.specs.Stands.{TellsOfStacked, TellsBeforeOfStacked, MakesOfStacked};
 ghost use Rattle.bd_engine.specs.Meets.{IsBy, IsSending, IsKept, IsStep};
-ghost use Rattle.bd_engine.specs.Deliveries.{IsDeliverable, IsReady, Delivers, Spends};
+ghost use Rattle.bd_engine.specs.Deliveries.{IsDeliverable, IsReady, DeliversOfStacked, Spends};
 
 use crate::answer::Plain;
 use crate::delivery::Delivery;
@@ -118,7 +119,7 @@ impl Tables {
     // Why the thread may not call and wait.
     #[tactic(auto, unfolding(bd_space::specs::Transactions::caller_cause, bd_space::specs::Frames::innermost, bd_space::specs::Frames::served_innermost))]
     fn caller_cause(&self, seat: u32) -> Option<Cause>
-        ensures { Tells self.now result (λ s. spec.caller_cause s seat) }
+        ensures { TellsOfStacked self.now result (λ s. spec.caller_cause s seat) }
     {
         if is_unserved(seat, self.calls.innermost(seat)) {
             return Some(Cause::NotServing);
@@ -131,7 +132,7 @@ impl Tables {
 
     // Why the thread may not call: a one-way call waits for nothing.
     fn call_cause(&self, seat: u32, one_way: bool) -> Option<Cause>
-        ensures { Tells self.now result (λ s. if one_way then None else spec.caller_cause s seat) }
+        ensures { TellsOfStacked self.now result (λ s. if one_way then None else spec.caller_cause s seat) }
     {
         if one_way {
             None
@@ -148,7 +149,7 @@ impl Tables {
         parcel: &Option<Parcel>,
     ) -> Result<Result<Delivery, Cause>, AllocError>
         ensures computed { IfOk result
-            (λ r. TellsBefore self.now r (λ s. spec.transaction_check s a d.now parcel.now)) }
+            (λ r. TellsBeforeOfStacked self.now r (λ s. spec.transaction_check s a d.now parcel.now)) }
         ensures deliverable { IfOk result (λ r. IfOk r (IsDeliverable self.now d.now)) }
     {
         let callee = match self.callee_of(a.process.made, handle_of(d)) {
@@ -166,7 +167,7 @@ impl Tables {
     fn called(&mut self, seat: u32, receiver: u32, one_way: bool)
         requires frames { 1 ≤ frame_room self.old.calls }
         requires works { 2 ≤ work_room self.old.calls }
-        ensures stands { Makes self.old self.new
+        ensures stands { MakesOfStacked self.old self.new
             (λ s. spec.called (todo.owe s (OfThread seat) kinds.Complete) seat receiver one_way) }
         ensures spends { Spends self.old self.new 0 1 0 2 }
     {
@@ -180,7 +181,7 @@ impl Tables {
     fn transacted(&mut self, a: Actor, d: &TransactionData, v: Delivery) -> Result<(), Why>
         requires deliverable { IsDeliverable self.old d.now v }
         requires ready { IsReady self.old v }
-        ensures ok { OnOk result (Delivers self.old self.new v (λ s. spec.transacted s a d.now v)) }
+        ensures ok { OnOk result (DeliversOfStacked self.old self.new v (λ s. spec.transacted s a d.now v)) }
         ensures err { OnErr result (IsKept self.old self.new) }
         ensures full { OnErr result (PassesLimit self.old (λ s. names_go (spec.transacted s a d.now v))) }
         ensures follow { OnOk result (CanFollow self.new (length v.sending.items + 1)) }

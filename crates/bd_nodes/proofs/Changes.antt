@@ -1,13 +1,15 @@
 -- What the calls on maps leave, where they succeed.
 use Rattle.std.proofs.Common.{◌≡◌, ℕ, ◌+◌, Bool, true, false, not, if◌then◌else◌, List, Option, Some, None, Result, Ok, Err, OnOk, IfOk, IfNone, IsOk, is_some, option_map, find, refl, ap, sym, subst, ◌∙◌}
+use Rattle.bd_words.specs.declared.key.WordKey.{WordKey}
+use Rattle.bd_words.specs.Keys.{same_word}
+use Rattle.bd_words.proofs.Keys.{word-eq, word-self}
 use Rattle.bd_space.specs.declared.step.ObjectId.{ObjectId}
 use Rattle.bd_space.specs.declared.space.Object.{Object}
 use Rattle.bd_space.specs.Words.{same}
 use Rattle.bd_space.specs.References.{object_in}
-use Rattle.bd_nodes.specs.declared.key.OwnKey.{OwnKey}
-use Rattle.bd_nodes.specs.Keys.{same_node, same_own, node_key, id_key, own_key}
+use Rattle.bd_nodes.specs.Keys.{same_node, node_key, id_key, own_key}
 use Rattle.bd_nodes.specs.Stands.{AreDistinct}
-use Rattle.bd_nodes.proofs.Tests.{node-eq, node-self, own-eq, own-self}
+use Rattle.bd_nodes.proofs.Tests.{node-eq, node-self}
 use Rattle.bd_nodes.proofs.Found.{found-passes, found-own}
 
 pub ok-then : {T E P : Type 0} (r : Result T E) → IsOk r → OnOk r P → P
@@ -26,13 +28,13 @@ len-new (Ok old) n m was ok e l none = l ∙ ap (λ o. m + (if is_some o then 0 
 len-new (Err e) n m was ok f l none = absurd (cc)
 
 -- an own object is found by its identity
-pub by-own : (objects : List Object) (k : OwnKey) (o : ObjectId) → AreDistinct id_key same_node objects
-    → option_map (λ (x : Object). x.id) (find (λ x. same_own (own_key x) k) objects) ≡ Some o
-    → object_in objects o ≡ find (λ x. same_own (own_key x) k) objects
+pub by-own : (objects : List Object) (k : WordKey) (o : ObjectId) → AreDistinct id_key same_node objects
+    → option_map (λ (x : Object). x.id) (find (λ x. same_word (own_key x) k) objects) ≡ Some o
+    → object_in objects o ≡ find (λ x. same_word (own_key x) k) objects
 by-own objects k o d h = at (find test objects) refl h
   where
     test : Object → Bool
-    test x = same_own (own_key x) k
+    test x = same_word (own_key x) k
 
     at : (found : Option Object) → find test objects ≡ found → option_map (λ (x : Object). x.id) found ≡ Some o
         → object_in objects o ≡ find test objects
@@ -44,18 +46,18 @@ by-own objects k o d h = at (find test objects) refl h
 
 -- of all own objects, the one with the identity goes
 pub only-own : (objects : List Object) (o : ObjectId) (x : Object) → AreDistinct id_key same_node objects
-    → AreDistinct own_key same_own objects → object_in objects o ≡ Some x
-    → (l : OwnKey) (y : Object) → find (λ z. same_own (own_key z) l) objects ≡ Some y
-    → not (same y.id o) ≡ not (same_own (own_key x) l)
-only-own objects o x ids owns h l y e = ap not (at (same y.id o) refl (same_own (own_key x) l) refl)
+    → AreDistinct own_key same_word objects → object_in objects o ≡ Some x
+    → (l : WordKey) (y : Object) → find (λ z. same_word (own_key z) l) objects ≡ Some y
+    → not (same y.id o) ≡ not (same_word (own_key x) l)
+only-own objects o x ids owns h l y e = ap not (at (same y.id o) refl (same_word (own_key x) l) refl)
   where
     test : Object → Bool
-    test z = same_own (own_key z) l
+    test z = same_word (own_key z) l
 
     own : own_key y ≡ l
-    own = own-eq (own_key y) l (found-passes test objects y e)
+    own = word-eq (own_key y) l (found-passes test objects y e)
 
-    at : (a : Bool) → same y.id o ≡ a → (b : Bool) → same_own (own_key x) l ≡ b → a ≡ b
+    at : (a : Bool) → same y.id o ≡ a → (b : Bool) → same_word (own_key x) l ≡ b → a ≡ b
     at true f true g = refl
     at false f false g = refl
     at true f false g =
@@ -63,14 +65,14 @@ only-own objects o x ids owns h l y e = ap not (at (same y.id o) refl (same_own 
         subst (λ k. find (λ z. same_node (id_key z) k) objects ≡ Some y) (node-eq (id_key y) (node_key o) f)
         (found-own id_key same_node node-eq node-self test objects y ids e) in
         let is : x ≡ y = cc in
-        let yes : same_own (own_key x) l ≡ true =
-        subst (λ k. same_own k l ≡ true) (sym (ap own_key is ∙ own)) (own-self l) in
+        let yes : same_word (own_key x) l ≡ true =
+        subst (λ k. same_word k l ≡ true) (sym (ap own_key is ∙ own)) (word-self l) in
         absurd (cc)
     at false f true g =
-        let found = found-own own_key same_own own-eq own-self (λ z. same_node (id_key z) (node_key o)) objects x owns
-        h in
+        let found = found-own own_key same_word word-eq word-self (λ z. same_node (id_key z) (node_key o)) objects x
+        owns h in
         let there : find test objects ≡ Some x =
-        subst (λ k. find (λ z. same_own (own_key z) k) objects ≡ Some x) (own-eq (own_key x) l g) found in
+        subst (λ k. find (λ z. same_word (own_key z) k) objects ≡ Some x) (word-eq (own_key x) l g) found in
         let is : x ≡ y = cc in
         let yes : same y.id o ≡ true =
         subst (λ z. same z.id o ≡ true) is (found-passes (λ z. same z.id o) objects x h) in

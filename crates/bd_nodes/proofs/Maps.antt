@@ -1,7 +1,6 @@
 -- Maps that have at each key what is shown of the first with that key, when the list changes.
 use Rattle.std.proofs.Common.{◌≡◌, Bool, true, false, not, cond, List, [], ◌∷◌, ◌++◌, Option, Some, None, find, filter, option_map, refl, ap, sym, subst, ◌∙◌}
 use Rattle.std.specs.Option.{option_or}
-use Rattle.std.specs.HashMap.{HashMap, get}
 use Rattle.std.proofs.lemmas.List.Folds.{find-append}
 use Rattle.bd_space.specs.Words.{changed}
 use Rattle.bd_nodes.specs.Keys.{kept}
@@ -16,21 +15,21 @@ neither : {A : Type 0} (b : Bool) (o : Option A) → o ≡ None → cond b None 
 neither true o h = refl
 neither false o h = h
 
--- what n has, where m got v at the key k
-abbrev pub Puts : {K V S : Type 0} → (K → K → Bool) → HashMap K V S → HashMap K V S → K → Option V → Type 0
-Puts {K = K} eq m n k v = (l : K) → get eq n l ≡ cond (eq k l) v (get eq m l)
+-- what n has, where m got v at the key k; each is told by its look
+abbrev pub Puts : {K V : Type 0} → (K → K → Bool) → (K → Option V) → (K → Option V) → K → Option V → Type 0
+Puts {K = K} eq m n k v = (l : K) → n l ≡ cond (eq k l) v (m l)
 
-module _ {A K V S : Type 0} (key : A → K) (eq : K → K → Bool) (alike : (a b : K) → eq a b ≡ true → a ≡ b)
+module _ {A K V : Type 0} (key : A → K) (eq : K → K → Bool) (alike : (a b : K) → eq a b ≡ true → a ≡ b)
     (itself : (a : K) → eq a a ≡ true) (shown : A → V) where
   -- a new one comes in
-  pub finds-push : (m n : HashMap K V S) (xs : List A) (x : A) → Finds eq key shown m xs
+  pub finds-push : (m n : K → Option V) (xs : List A) (x : A) → Finds eq key shown m xs
       → find (λ y. eq (key y) (key x)) xs ≡ None → Puts eq m n (key x) (Some (shown x))
       → Finds eq key shown n (xs ++ x ∷ [])
   finds-push m n xs x f new puts = λ k. puts k ∙ at k (eq (key x) k) refl
       ∙ ap (option_map shown) (sym (find-append (λ y. eq (key y) k) xs (x ∷ [])))
     where
       at : (k : K) (b : Bool) → eq (key x) k ≡ b
-          → cond b (Some (shown x)) (get eq m k) ≡ option_map shown
+          → cond b (Some (shown x)) (m k) ≡ option_map shown
           (option_or (find (λ y. eq (key y) k) xs) (cond b (Some x) None))
       at k true e =
           let none : find (λ y. eq (key y) k) xs ≡ None =
@@ -39,7 +38,7 @@ module _ {A K V S : Type 0} (key : A → K) (eq : K → K → Bool) (alike : (a 
       at k false e = f k ∙ ap (option_map shown) (sym (or-none (find (λ y. eq (key y) k) xs)))
 
   -- those go that don't pass, of which there is one, at the key k
-  pub finds-remove : (m n : HashMap K V S) (xs : List A) (q : A → Bool) (k : K) → Finds eq key shown m xs
+  pub finds-remove : (m n : K → Option V) (xs : List A) (q : A → Bool) (k : K) → Finds eq key shown m xs
       → AreDistinct key eq xs → Puts eq m n k None
       → ((l : K) (y : A) → find (λ y. eq (key y) l) xs ≡ Some y → q y ≡ not (eq k l))
       → Finds eq key shown n (filter q xs)
@@ -51,14 +50,14 @@ module _ {A K V S : Type 0} (key : A → K) (eq : K → K → Bool) (alike : (a 
       stays false y = refl
 
       at : (l : K) (o : Option A) → find (λ y. eq (key y) l) xs ≡ o
-          → cond (eq k l) None (get eq m l) ≡ option_map shown (kept q o)
+          → cond (eq k l) None (m l) ≡ option_map shown (kept q o)
       at l None e = ap (λ g. cond (eq k l) None g) (f l ∙ ap (option_map shown) e) ∙ neither (eq k l) None refl
       at l (Some y) e =
           ap (λ g. cond (eq k l) None g) (f l ∙ ap (option_map shown) e) ∙ stays (eq k l) y
           ∙ ap (λ b. option_map shown (cond b (Some y) None)) (sym (only l y e))
 
   -- a change that doesn't show
-  pub finds-hidden : (m : HashMap K V S) (xs : List A) (p : A → Bool) (g : A → A) → ((x : A) → key (g x) ≡ key x)
+  pub finds-hidden : (m : K → Option V) (xs : List A) (p : A → Bool) (g : A → A) → ((x : A) → key (g x) ≡ key x)
       → ((x : A) → shown (g x) ≡ shown x)
       → Finds eq key shown m xs → Finds eq key shown m (changed p g xs)
   finds-hidden m xs p g stays same f = λ k. f k ∙ at (find (λ y. eq (key y) k) xs)
@@ -72,10 +71,10 @@ module _ {A K V S : Type 0} (key : A → K) (eq : K → K → Bool) (alike : (a 
       at None = refl
       at (Some x) = ap Some (hidden (p x) x)
 
-module _ {A K S : Type 0} (key : A → K) (eq : K → K → Bool) (alike : (a b : K) → eq a b ≡ true → a ≡ b)
+module _ {A K : Type 0} (key : A → K) (eq : K → K → Bool) (alike : (a b : K) → eq a b ≡ true → a ≡ b)
     (itself : (a : K) → eq a a ≡ true) where
   -- the one at the key k is changed
-  pub finds-changed : (m n : HashMap K A S) (xs : List A) (k : K) (x : A) (g : A → A) → ((x : A) → key (g x) ≡ key x)
+  pub finds-changed : (m n : K → Option A) (xs : List A) (k : K) (x : A) (g : A → A) → ((x : A) → key (g x) ≡ key x)
       → Finds eq key (λ x. x) m xs → find (λ y. eq (key y) k) xs ≡ Some x → Puts eq m n k (Some (g x))
       → Finds eq key (λ x. x) n (changed (λ y. eq (key y) k) g xs)
   finds-changed m n xs k x g stays f has puts =
@@ -94,7 +93,7 @@ module _ {A K S : Type 0} (key : A → K) (eq : K → K → Bool) (alike : (a b 
           ap (λ b. Some (cond b (g y) y)) (sym no)
 
       at : (l : K) (b : Bool) → eq k l ≡ b
-          → cond b (Some (g x)) (get eq m l) ≡ option_map (λ y. y) (option_map by_test (find (λ y. eq (key y) l) xs))
+          → cond b (Some (g x)) (m l) ≡ option_map (λ y. y) (option_map by_test (find (λ y. eq (key y) l) xs))
       at l true e =
           let here : find (λ y. eq (key y) l) xs ≡ Some x =
           subst (λ j. find (λ y. eq (key y) j) xs ≡ Some x) (alike k l e) has in

@@ -1,9 +1,8 @@
--- The keys of objects, and their tests.
+-- The keys of identities, and their tests.
 use Rattle.std.proofs.Common.{◌≡◌, ℕ, ◌==◌, Bool, true, false, ◌&&◌, refl}
 use Rattle.std.proofs.lemmas.Bool.{eqb-true, eq-eqb}
 use Rattle.bd_nodes.specs.declared.key.NodeKey.{NodeKey}
-use Rattle.bd_nodes.specs.declared.key.OwnKey.{OwnKey}
-use Rattle.bd_nodes.specs.Keys.{same_node, same_own}
+use Rattle.bd_nodes.specs.Keys.{same_node}
 
 pub both : (a b : Bool) → (a && b) ≡ true → (a ≡ true) × (b ≡ true)
 both true b h = (refl, h)
@@ -20,9 +19,3 @@ node-eq a b h = let k = both-eq a.place a.index b.place b.index h in (λ i. reco
 
 pub node-self : (a : NodeKey) → same_node a a ≡ true
 node-self a = both-self a.place a.index
-
-pub own-eq : (a b : OwnKey) → same_own a b ≡ true → a ≡ b
-own-eq a b h = let k = both-eq a.owner a.ptr b.owner b.ptr h in (λ i. record { owner = k.0 i; ptr = k.1 i })
-
-pub own-self : (a : OwnKey) → same_own a a ≡ true
-own-self a = both-self a.owner a.ptr

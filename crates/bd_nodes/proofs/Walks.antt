@@ -1,7 +1,7 @@
 -- The objects of a process, as a walk over a map meets them.
 use Rattle.std.proofs.Common.{◌≡◌, Bool, true, false, ◌&&◌, ◌||◌, cond, List, [], ◌∷◌, ◌++◌, map, Option, Some, None, find, filter, option_map, is_some, refl, ap, sym, ◌∙◌}
 use Rattle.std.specs.List.{list_any}
-use Rattle.std.specs.HashMap.{HashMap, values}
+use Rattle.std.specs.HashMap.{HashMap, get, values}
 use Rattle.std.specs.Map.{lookup, values_of}
 use Rattle.std.proofs.lemmas.List.Folds.{list_any-append}
 use Rattle.bd_space.specs.declared.step.ObjectId.{ObjectId}
@@ -56,7 +56,8 @@ either true b c f h = refl
 either false b c f h = f h
 
 module _ {S : Type 0} (m : HashMap NodeKey Object S) (objects : List Object)
-    (f : Finds same_node id_key (λ x. x) m objects) (d : AreDistinct id_key same_node objects) (r : Object → Bool) where
+    (f : Finds same_node id_key (λ x. x) (get same_node m) objects) (d : AreDistinct id_key same_node objects)
+    (r : Object → Bool) where
   here : (o : ObjectId) → list_any (λ (x : Object). same o x.id) (filter r objects) ≡ true
       → list_any (λ (x : Object). same o x.id) (filter r (values m)) ≡ true
   here o h =

@@ -1,17 +1,13 @@
 -- By what an object is found: its identity, or its owner and the ptr by which that knows it.
 use Rattle.std.specs.Prelude.{Bool, cond, Option, Some, None}
+use Rattle.bd_words.specs.declared.key.WordKey.{WordKey}
 use Rattle.bd_space.specs.declared.step.ObjectId.{ObjectId}
 use Rattle.bd_space.specs.declared.space.Object.{Object}
 use Rattle.bd_nodes.specs.declared.key.NodeKey.{NodeKey}
-use Rattle.bd_nodes.specs.declared.key.OwnKey.{OwnKey}
 use Rattle.bd_nodes.specs.contracts.key.NodeKeyPartialEq.TheImpl as nodes
-use Rattle.bd_nodes.specs.contracts.key.OwnKeyPartialEq.TheImpl as owns
 
 abbrev pub same_node : NodeKey → NodeKey → Bool
 same_node = (nodes.ghosts).eq
-
-abbrev pub same_own : OwnKey → OwnKey → Bool
-same_own = (owns.ghosts).eq
 
 abbrev pub node_key : ObjectId → NodeKey
 node_key o = record { place = o.place; index = o.index }
@@ -19,8 +15,8 @@ node_key o = record { place = o.place; index = o.index }
 abbrev pub id_key : Object → NodeKey
 id_key x = node_key x.id
 
-abbrev pub own_key : Object → OwnKey
-own_key x = record { owner = x.owner; ptr = x.ptr }
+abbrev pub own_key : Object → WordKey
+own_key x = record { process = x.owner; word = x.ptr }
 
 -- what is there, if it passes
 abbrev pub kept : {A : Type 0} → (A → Bool) → Option A → Option A

@@ -1,10 +1,11 @@
 -- How many objects a table may still take without memory, how many it has, and what a change takes of that.
 use Rattle.std.specs.Prelude.{ℕ, ◌+◌, ◌≤◌, min}
 use Rattle.std.specs.HashMap.{hash_map_len, spare}
+use Rattle.bd_words.specs.Look.{word_room}
 use Rattle.bd_nodes.specs.declared.table.NodeTable.{NodeTable}
 
 unfoldable pub node_room : NodeTable → ℕ
-node_room t = min (spare t.objects) (spare t.owns)
+node_room t = min (spare t.objects) (word_room t.owns)
 
 unfoldable pub node_count : NodeTable → ℕ
 node_count t = hash_map_len t.objects

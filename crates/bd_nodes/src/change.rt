@@ -21,7 +21,7 @@ impl NodeTable {
             → NodesAre self.new (objects ++ x ∷ []) }
         ensures uses { Uses self.old self.new 1 }
     {
-        let _ = self.owns.insert(own_key(&x), x.id);
+        self.owns.insert(own_key(&x), x.id);
         let _ = self.objects.insert(node_key(x.id), x);
     }
 
@@ -59,7 +59,7 @@ impl NodeTable {
         ensures uses { Uses self.old self.new 0 }
     {
         if let Some(x) = self.objects.remove(&node_key(o)) {
-            self.owns.remove(&own_key(&x));
+            self.owns.remove(own_key(&x));
         }
     }
 }

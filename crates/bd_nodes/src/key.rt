@@ -4,19 +4,13 @@ ghost use Rattle.std.specs.Prelude.{◌≡◌};
 ghost use Rattle.bd_nodes.specs.Keys as keys;
 
 use bd_space::{Object, ObjectId};
+use bd_words::WordKey;
 
 /// Its identity.
 #[derive(Clone, Copy, PartialEq, Eq, Hash)]
 pub(crate) struct NodeKey {
     pub(crate) place: u32,
     pub(crate) index: u32,
-}
-
-/// What its owner knows it by.
-#[derive(Clone, Copy, PartialEq, Eq, Hash)]
-pub(crate) struct OwnKey {
-    pub(crate) owner: u32,
-    pub(crate) ptr: u64,
 }
 
 pub(crate) fn node_key(o: ObjectId) -> NodeKey
@@ -28,11 +22,12 @@ pub(crate) fn node_key(o: ObjectId) -> NodeKey
     }
 }
 
-pub(crate) fn own_key(x: &Object) -> OwnKey
+/// What its owner knows it by.
+pub(crate) fn own_key(x: &Object) -> WordKey
     ensures { result ≡ keys.own_key x.now }
 {
-    OwnKey {
-        owner: x.owner,
-        ptr: x.ptr,
+    WordKey {
+        process: x.owner,
+        word: x.ptr,
     }
 }

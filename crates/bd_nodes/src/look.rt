@@ -4,9 +4,10 @@ ghost use Rattle.std.specs.Prelude.{◌≡◌, ◌==◌, ◌&&◌, find, List};
 ghost use Rattle.bd_space.specs.Words as words;
 ghost use Rattle.bd_nodes.specs.Keys as keys;
 
-use crate::key::{OwnKey, node_key};
+use crate::key::node_key;
 use crate::table::NodeTable;
 use bd_space::{Object, ObjectId};
+use bd_words::WordKey;
 
 /// What was found, if the process owns it.
 fn owned(found: Option<Object>, p: u32) -> Option<Object>
@@ -46,7 +47,10 @@ impl NodeTable {
     pub fn own_with_ptr(&self, p: u32, ptr: u64) -> Option<Object>
         ensures { (objects : List Object) → NodesAre self.now objects → result ≡ refer.own_in objects p ptr }
     {
-        let o = *self.owns.get(&OwnKey { owner: p, ptr })?;
+        let o = self.owns.get(WordKey {
+            process: p,
+            word: ptr,
+        })?;
         self.object(o)
     }
 

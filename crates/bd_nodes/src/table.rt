@@ -2,8 +2,9 @@
 
 ghost use Rattle.std.specs.Prelude.{◌≡◌, ◌≤◌, [], List, length, OnOk, OnErr};
 
-use crate::key::{NodeKey, OwnKey};
+use crate::key::NodeKey;
 use bd_space::{Object, ObjectId};
+use bd_words::WordMap;
 use std::alloc::{AllocError, Global};
 use std::collections::HashMap;
 
@@ -11,8 +12,8 @@ use std::collections::HashMap;
 #[derive(Drop)]
 pub struct NodeTable {
     pub(crate) objects: HashMap<NodeKey, Object>,
-    // Each object's identity, by its owner and ptr.
-    pub(crate) owns: HashMap<OwnKey, ObjectId>,
+    // Each object's identity, by its owner and ptr. A process picks its ptrs: whatever it picks, a look stays short.
+    pub(crate) owns: WordMap<ObjectId>,
 }
 
 impl NodeTable {
@@ -26,7 +27,7 @@ impl NodeTable {
     {
         NodeTable {
             objects: HashMap::new(alloc),
-            owns: HashMap::new(alloc),
+            owns: WordMap::new(alloc),
         }
     }
 

@@ -11,3 +11,4 @@ pub mod Handshakes
 pub mod Telling
 pub mod AtName
 pub mod Covering
+pub mod Later

@@ -6,3 +6,5 @@ pub mod Deaths
 pub mod Delivery
 pub mod Reading
 pub mod New
+pub mod Later
+pub mod Made

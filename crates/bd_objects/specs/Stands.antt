@@ -2,13 +2,14 @@
 -- notifications, each in a table of its own.
 use Rattle.std.specs.Prelude.{ℕ, ◌≡◌, List, Option}
 use Rattle.bd_space.specs.declared.step.ObjectId.{ObjectId}
-use Rattle.bd_space.specs.declared.space.Process.{Process}
 use Rattle.bd_space.specs.declared.space.Object.{Object}
 use Rattle.bd_space.specs.declared.space.Reference.{Reference}
 use Rattle.bd_space.specs.declared.space.Name.{Name}
 use Rattle.bd_space.specs.declared.space.DeathNotification.{DeathNotification}
 use Rattle.bd_space.specs.Space.{Space}
 use Rattle.bd_space.specs.Tables.{IsAt}
+use Rattle.bd_processes.specs.declared.table.ProcessTable.{ProcessTable}
+use Rattle.bd_processes.specs.Stands.{ProcessesAre}
 use Rattle.bd_nodes.specs.Stands.{NodesAre}
 use Rattle.bd_references.specs.Stands.{ReferencesAre}
 use Rattle.bd_names.specs.Stands.{NamesAre}
@@ -31,9 +32,9 @@ IsKept old new = (s : Space) → StandsFor old s → StandsFor new s
 
 -- ---- what the table doesn't have, and a caller says
 
--- these are the live processes
-abbrev pub HasProcesses : List Process → Space → Type 0
-HasProcesses processes s = s.processes ≡ processes
+-- whose live processes the table has
+abbrev pub HasProcesses : ProcessTable → Space → Type 0
+HasProcesses processes s = ProcessesAre processes s.processes
 
 -- this is the context manager's object
 abbrev pub HasManager : Option ObjectId → Space → Type 0

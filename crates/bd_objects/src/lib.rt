@@ -5,6 +5,7 @@ mod asking;
 mod deaths;
 mod delivery;
 mod exits;
+mod made;
 mod names;
 mod naming;
 mod notices;
@@ -18,5 +19,6 @@ mod touched;
 
 pub use bd_names::NumbersFull;
 pub use bd_references::CarriedObjects;
+pub use made::Made;
 pub use room::Room;
 pub use table::ObjectTable;

@@ -5,10 +5,10 @@ ghost use Rattle.bd_space.specs.Notices as notices;
 ghost use Rattle.bd_space.specs.declared.space.Reference.{Reference};
 ghost use Rattle.bd_references.specs.Stands.{ReferencesAre};
 
-use crate::objects::lives_in;
 use crate::table::ObjectTable;
+use bd_processes::ProcessTable;
 use bd_references::ReferenceTable;
-use bd_space::{Object, Process};
+use bd_space::Object;
 
 /// Whether what the owner was told isn't what is so.
 fn differs_in(references: &ReferenceTable, x: &Object) -> bool
@@ -22,10 +22,10 @@ impl ObjectTable {
     ghost use Rattle.bd_space.specs.Tables.{TellsWhere};
 
     /// Whether the owner of this object lives and is to be told. Takes the live processes.
-    pub fn wants_notice(&self, processes: &[Process], x: &Object) -> bool
+    pub fn wants_notice(&self, processes: &ProcessTable, x: &Object) -> bool
         ensures { TellsWhere (StandsFor self.now) (HasProcesses processes.now) result
             (λ s. notices.wants_notice s.processes s.references x.now) }
     {
-        lives_in(processes, x.owner) && differs_in(&self.references, x)
+        processes.lives(x.owner) && differs_in(&self.references, x)
     }
 }

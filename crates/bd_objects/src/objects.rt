@@ -2,25 +2,18 @@
 
 ghost use Rattle.std.specs.Prelude.{◌≡◌, ◌≤◌, Option};
 ghost use Rattle.bd_space.specs.Words as words;
-ghost use Rattle.bd_space.specs.Seats as seats;
 ghost use Rattle.bd_space.specs.References as refer;
 ghost use Rattle.bd_space.specs.ProcessExits as exits;
 
 use crate::table::ObjectTable;
-use bd_space::{Holder, Identity, Object, ObjectId, Process, Reference};
+use bd_processes::ProcessTable;
+use bd_space::{Holder, Identity, Object, ObjectId, Reference};
 
 /// Whether the two are one object.
 pub(crate) fn same(a: ObjectId, b: ObjectId) -> bool
     ensures { result ≡ words.same a b }
 {
     a.place == b.place && a.index == b.index
-}
-
-/// Whether the process lives.
-pub(crate) fn lives_in(processes: &[Process], p: u32) -> bool
-    ensures { result ≡ seats.lives_in processes.now p }
-{
-    processes.iter().any(|q| q.made == p)
 }
 
 fn managed(place: u32) -> ObjectId
@@ -52,12 +45,12 @@ impl ObjectTable {
     }
 
     /// Whether the object's owner lives. Takes the live processes.
-    pub fn owner_lives(&self, processes: &[Process], o: ObjectId) -> bool
+    pub fn owner_lives(&self, processes: &ProcessTable, o: ObjectId) -> bool
         ensures { TellsWhere (StandsFor self.now) (HasProcesses processes.now) result
             (λ s. deaths_of.owner_lives_in s.processes s.objects o) }
     {
         match self.nodes.object(o) {
-            Some(x) => lives_in(processes, x.owner),
+            Some(x) => processes.lives(x.owner),
             None => false,
         }
     }

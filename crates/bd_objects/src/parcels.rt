@@ -5,7 +5,9 @@ ghost use Rattle.bd_space.specs.References as refer;
 ghost use Rattle.bd_space.specs.Parcels as parcels;
 ghost use Rattle.bd_space.specs.declared.space.Object.{Object};
 ghost use Rattle.bd_nodes.specs.Stands.{NodesAre};
+ghost use Rattle.bd_objects.specs.Made.{made_items};
 
+use crate::made::Made;
 use crate::table::ObjectTable;
 use bd_nodes::NodeTable;
 use bd_space::{Object, ObjectId, Resolved};
@@ -18,19 +20,14 @@ fn handle_in(binder: u64) -> u32
     (binder % 0x1_0000_0000) as u32
 }
 
-fn own_in(made: &[Object], p: u32, ptr: u64) -> Option<Object>
-    ensures { result ≡ refer.own_in made.now p ptr }
-{
-    made.iter().copied().find(|x| x.owner == p && x.ptr == ptr)
-}
-
 /// The process's own object with this ptr, one of these or one of those that are being made.
-fn own_or_made(nodes: &NodeTable, made: &[Object], p: u32, ptr: u64) -> Option<Object>
-    ensures { (objects : List Object) → NodesAre nodes.now objects → result ≡ refer.own_in (objects ++ made.now) p ptr }
+fn own_or_made(nodes: &NodeTable, made: &Made, p: u32, ptr: u64) -> Option<Object>
+    ensures { (objects : List Object) → NodesAre nodes.now objects
+        → result ≡ refer.own_in (objects ++ made_items made.now) p ptr }
 {
     match nodes.own_with_ptr(p, ptr) {
         Some(x) => Some(x),
-        None => own_in(made, p, ptr),
+        None => made.find_own(p, ptr),
     }
 }
 
@@ -72,17 +69,18 @@ impl ObjectTable {
         &self,
         place: u32,
         p: u32,
-        made: &[Object],
+        made: &Made,
         x: &FlatObject,
     ) -> Result<Resolved, Cause>
-        requires { length made.now < 2 ^ 32 }
-        ensures { TellsWhere (StandsFor self.now) (IsAt place) result (λ s. parcels.resolve s p made.now x.now) }
+        requires { length (made_items made.now) < 2 ^ 32 }
+        ensures { TellsWhere (StandsFor self.now) (IsAt place) result
+            (λ s. parcels.resolve s p (made_items made.now) x.now) }
     {
         match x.kind {
             ObjectKind::Binder | ObjectKind::WeakBinder => {
                 match own_or_made(&self.nodes, made, p, x.binder) {
                     None => {
-                        let o = new_object(place, p, made, x);
+                        let o = new_object(place, p, made.as_slice(), x);
                         Ok(Resolved {
                             object: o.id,
                             new: Some(o),

@@ -8,9 +8,9 @@ ghost use Rattle.bd_space.specs.Notices as notices;
 ghost use Rattle.bd_space.specs.Local as local;
 ghost use Rattle.bd_objects.specs.Deaths.{is_lost};
 
-use crate::objects::lives_in;
 use crate::table::ObjectTable;
-use bd_space::{Object, ObjectId, Process, WorkKind};
+use bd_processes::ProcessTable;
+use bd_space::{Object, ObjectId, WorkKind};
 
 impl ObjectTable {
     ghost use Rattle.bd_space.specs.Tables.{Tells, Makes, TellsWhere, MakesWhere};
@@ -29,17 +29,17 @@ impl ObjectTable {
     }
 
     /// Whether the object stays: it is held, or its owner lives and was told that it is.
-    fn stays(&self, processes: &[Process], x: &Object) -> bool
+    fn stays(&self, processes: &ProcessTable, x: &Object) -> bool
         ensures { TellsWhere (StandsFor self.now) (HasProcesses processes.now) result
             (λ s. stays_in s.processes s.references x.now) }
     {
         self.references.is_held(x.id)
-            || (lives_in(processes, x.owner) && (x.told_weak || x.told_strong))
+            || (processes.lives(x.owner) && (x.told_weak || x.told_strong))
     }
 
     /// The object goes, if nothing keeps it. Takes the live processes.
     #[tactic(auto, unfolding(bd_space::specs::Local::objects_go_of, crate::specs::Room::rooms))]
-    pub fn object_goes(&mut self, processes: &[Process], o: ObjectId)
+    pub fn object_goes(&mut self, processes: &ProcessTable, o: ObjectId)
         ensures stands { MakesWhere (StandsFor self.old) (HasProcesses processes.now) (StandsFor self.new)
             (local.objects_go_of (local.at_object o)) }
         ensures uses { UsesNothing self.old self.new }
@@ -85,7 +85,7 @@ impl ObjectTable {
     }
 
     /// The live owner that is to be told of the object. Takes the live processes.
-    pub fn owner_to_tell(&self, processes: &[Process], o: ObjectId) -> Option<u32>
+    pub fn owner_to_tell(&self, processes: &ProcessTable, o: ObjectId) -> Option<u32>
         ensures { TellsWhere (StandsFor self.now) (HasProcesses processes.now) result
             (λ s. option_and_then (λ x. when (notices.wants_notice s.processes s.references x) x.owner)
             (object_in s.objects o)) }

@@ -3,4 +3,5 @@
 mod names;
 mod nodes;
 mod references;
+mod words;
 mod works;

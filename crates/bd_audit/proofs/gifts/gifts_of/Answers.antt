@@ -1,7 +1,8 @@
-use Rattle.std.proofs.Common.{rules, ◌≡◌, [], ◌∷◌, ◌++◌, None, subst, sym}
-use Rattle.bd_space.specs.Histories.{history_in}
+use Rattle.std.proofs.Common.{rules, arith, ◌≡◌, [], ◌∷◌, ◌++◌, None, subst, sym}
+use Rattle.std.proofs.lemmas.Result.{err_from_is_err_and}
+use Rattle.bd_space.specs.Histories.{History, history_in}
 use Rattle.bd_audit.specs.GiftSearch.{AreGifts}
-use Rattle.bd_audit.proofs.Beginnings.{next-beginning, next-lawful}
+use Rattle.bd_audit.proofs.Beginnings.{all-played, next-beginning, next-lawful}
 use Rattle.bd_audit.proofs.GiftSteps.{receiver-there, gifts-same, gifts-more}
 use Rattle.bd_audit.proofs.gifts.gifts_of.Goals as goal
 use Rattle.bd_audit.proofs.gifts.gifts_of.Goals.{in-Some+else-is_err, in_default-2}
@@ -36,3 +37,14 @@ loop-entry-preserved c =
             (gifts-same h k c.entry-item.result c.args.object gs c.in_ok-gift.field-0 c.in_ok-gift.ensures.ok c.loop-entry.invariant.gifts c.in_ok-gift.ensures.gift none))
       ];
     }
+
+pub returns-in_err-gift : goal.returns-in_err-gift
+returns-in_err-gift c =
+    let p = err_from_is_err_and c.from_residual.result c.from_residual.ensures.1 in
+    rw (p.1, p.2) c.in_err-gift.ensures.fault
+
+pub returns : goal.returns
+returns c =
+    let done = c.loop-entry-test.false in
+    let played = all-played (history_in c.args.history.now) c.loop-entry.engine c.loop-entry.entry-index c.as_slice-entry-items.result.now c.loop-entry.invariant.engine c.as_slice-entry-items.ensures (omega arith) in
+    subst (λ (h : History). AreGifts h.entries c.args.object c.loop-entry.gifts.items) played c.loop-entry.invariant.gifts

@@ -1,4 +1,5 @@
 use Rattle.std.proofs.Common.{rules, refl}
+use Rattle.std.proofs.lemmas.Result.{err_from_is_err_and}
 use Rattle.bd_audit.proofs.Beginnings.{next-beginning, next-lawful}
 use Rattle.bd_audit.proofs.GiftSteps.{receivers-next}
 use Rattle.bd_audit.proofs.gifts.receivers_of.Goals as goal
@@ -16,3 +17,8 @@ loop-entry-preserved c = record {
   receivers = receivers-next c.loop-entry.engine c.advance.new.engine c.entry-item.result c.loop-entry.receivers.items c.push.new.self.items c.len-place.result c.receiver_at.result
       c.loop-entry.invariant.receivers c.in_ok-advance.ensures.ok c.len-place.ensures c.receiver_at.ensures (search rules);
 }
+
+pub returns-in_err-advance-clause-fault : goal.returns-in_err-advance-clause-fault
+returns-in_err-advance-clause-fault c =
+    let p = err_from_is_err_and c.from_residual.result c.from_residual.ensures.1 in
+    rw (p.1, p.2) c.in_err-advance.ensures.fault

@@ -1,4 +1,5 @@
 use Rattle.std.proofs.Common.{◌∙◌, sym, ap, subst, arith}
+use Rattle.std.proofs.lemmas.Result.{err_from_is_err_and}
 use Rattle.bd_space.specs.Histories.{History, history_in}
 use Rattle.bd_audit.specs.TurnSearch.{turns_on}
 use Rattle.bd_audit.specs.TurnCalls.{AreTurns}
@@ -34,3 +35,13 @@ returns c =
     let done = c.loop-entry-test.false in
     let played = all-played h c.loop-entry.engine c.loop-entry.entry-index c.as_slice-entry-items.result.now c.loop-entry.invariant.engine c.as_slice-entry-items.ensures (omega arith) in
     subst (λ ts. AreTurns h.entries o ts) (sym (c.loop-entry.invariant.turns ∙ ap (λ (g : History). turns_on o g) played)) (turns-are h o)
+
+pub returns-in_err-advance : goal.returns-in_err-advance
+returns-in_err-advance c =
+    let p = err_from_is_err_and c.from_residual.result c.from_residual.ensures.1 in
+    rw (p.1, p.2) c.in_err-advance.ensures.fault
+
+pub returns-in_err-note : goal.returns-in_err-note
+returns-in_err-note c =
+    let p = err_from_is_err_and c.from_residual-in_err-note.result c.from_residual-in_err-note.ensures.1 in
+    rw (p.1, p.2) c.in_err-note.ensures.fault

@@ -1,14 +1,15 @@
 use Rattle.std.proofs.Common.{◌==◌, ◌&&◌, refl}
 use Rattle.std.proofs.lemmas.List.Folds.{find-append}
 use Rattle.bd_space.specs.declared.space.Object.{Object}
+use Rattle.bd_objects.specs.Made.{made_items}
 use Rattle.bd_objects.proofs.parcels.own_or_made.Goals as goal
 
 pub returns-in-Some : goal.returns-in-Some
 returns-in-Some c = λ objects h.
     let is_own = λ (x : Object). (x.owner == c.args.p) && (x.ptr == c.args.ptr) in
-    rw (find-append is_own objects c.args.made.now, ← c.in-Some.ensures objects h) refl
+    rw (find-append is_own objects (made_items c.args.made.now), ← c.in-Some.ensures objects h) refl
 
 pub returns-in-None : goal.returns-in-None
 returns-in-None c = λ objects h.
     let is_own = λ (x : Object). (x.owner == c.args.p) && (x.ptr == c.args.ptr) in
-    rw (find-append is_own objects c.args.made.now, ← c.in-None.ensures objects h) c.own_in.ensures
+    rw (find-append is_own objects (made_items c.args.made.now), ← c.in-None.ensures objects h) c.find_own.ensures

@@ -1,5 +1,6 @@
 use Rattle.std.proofs.Common.{ap, ◌∙◌}
 use Rattle.bd_space.specs.Windows.{start_in}
+use Rattle.bd_buffers.specs.Rows.{live}
 use Rattle.bd_buffers.specs.declared.window.Window.{Window}
 use Rattle.bd_buffers.specs.Holes.{first_fit}
 use Rattle.bd_buffers.proofs.Fits.{fit_is}
@@ -8,6 +9,6 @@ use Rattle.bd_buffers.proofs.window.Window.least_start.Goals as goal
 pub returns : goal.returns
 returns c =
     let w = c.self.inside in
-    c.first_place.ensures ∙ ap (first_fit w.size w.tail c.args.n) c.deref.ensures.value
-    ∙ fit_is w.size w.tail c.args.n w.buffers.items w.holes.items c.self.invariant.free c.self.invariant.window c.requires.filled
+    c.first_place.ensures ∙ ap (first_fit w.ground.size w.ground.tail c.args.n) c.deref.ensures.value
+    ∙ fit_is w.ground.size w.ground.tail c.args.n (live w.buffers.rows) w.ground.holes.items c.self.invariant.free c.self.invariant.window c.requires.filled
     ∙ ap (λ (v : Window). start_in v.size v.buffers c.args.n) c.self.view_is

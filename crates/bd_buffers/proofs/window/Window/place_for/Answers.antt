@@ -1,5 +1,6 @@
 use Rattle.std.proofs.Common.{ap, ◌∙◌, arith}
 use Rattle.bd_space.specs.Windows.{start_for, needed}
+use Rattle.bd_buffers.specs.Rows.{live}
 use Rattle.bd_buffers.specs.declared.window.Window.{Window}
 use Rattle.bd_buffers.proofs.Places.{data_too_large, offsets_too_large}
 use Rattle.bd_buffers.proofs.window.Window.place_for.Goals as goal
@@ -10,7 +11,7 @@ returns-then-data_size-size c =
     let w = c.self.inside in
     let n = needed c.args.data_size c.args.offsets_size in
     elim c.then-data_size-size.branch [
-      | then-data_size-size-via-then-data_size-size s ↦ data_too_large w.size w.buffers.items c.args.one_way c.args.data_size c.args.offsets_size (omega arith)
-      | then-data_size-size-via-else-data_size-size+then-offsets_size-size s ↦ offsets_too_large w.size w.buffers.items c.args.one_way c.args.data_size c.args.offsets_size (omega arith)
+      | then-data_size-size-via-then-data_size-size s ↦ data_too_large w.ground.size (live w.buffers.rows) c.args.one_way c.args.data_size c.args.offsets_size (omega arith)
+      | then-data_size-size-via-else-data_size-size+then-offsets_size-size s ↦ offsets_too_large w.ground.size (live w.buffers.rows) c.args.one_way c.args.data_size c.args.offsets_size (omega arith)
     ]
     ∙ ap (λ (v : Window). start_for v.size v.buffers c.args.one_way n) c.self.view_is

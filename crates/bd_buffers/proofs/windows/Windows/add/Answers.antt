@@ -1,10 +1,16 @@
-use Rattle.std.proofs.Common.{ℕ, ◌≤◌, ◌<◌, All, refl, sym, ap, ◌∙◌, subst}
+use Rattle.std.proofs.Common.{ℕ, ◌≤◌, ◌<◌, All, refl, sym, ap, ◌∙◌, subst, get_or, set, min, find, cond, Some, arith}
 use Rattle.std.specs.List.{position}
 use Rattle.std.proofs.lemmas.Bool.{false≢true}
+use Rattle.bd_words.specs.Keys.{same_word}
+use Rattle.bd_words.specs.Look.{look, word_room}
+use Rattle.bd_space.specs.declared.space.Buffer.{Buffer}
 use Rattle.bd_space.specs.Delivery.{add_buffer}
 use Rattle.bd_buffers.specs.Stands.{CanHold}
 use Rattle.bd_buffers.specs.declared.windows.OwnedWindow.{OwnedWindow}
-use Rattle.bd_buffers.specs.WindowsStand.{is_owned_by, buffer_room, CanAdd}
+use Rattle.bd_buffers.specs.declared.windows.Windows.{Windows}
+use Rattle.bd_buffers.specs.WindowsStand.{is_owned_by, buffer_room, room_of, CanAdd}
+use Rattle.bd_buffers.specs.Homes.{home_key}
+use Rattle.bd_buffers.proofs.Homes.{homes_noted}
 use Rattle.bd_buffers.proofs.AllWindows.{is_at, room_at, can_hold_at, can_hold_nowhere, none_at, older, buffer_added}
 use Rattle.bd_buffers.proofs.windows.Windows.add.Goals as goal
 
@@ -13,17 +19,27 @@ unfolding buffer_room
 commit-requires-clause-room c =
     let t = c.args.self.now in
     let p = c.args.buffer.receiver in
-    let is = is_at t p c.in-Some.at c.index_mut.result.now (sym (c.in-Some.ensures ∙ ap (position (is_owned_by p)) c.deref.ensures.value)) c.index_mut.ensures.value in
+    let is = is_at t p c.in-Some.at c.index_mut.result.now (sym (c.in-Some.ensures ∙ ap (position (is_owned_by p)) c.deref.ensures.value ∙ ap (λ (v : Windows). position (is_owned_by p) v.windows) c.self.view_is)) (c.index_mut.ensures.value ∙ ap (λ (v : Windows). get_or v.windows c.in-Some.at c.index_mut.result.now) c.self.view_is) in
     let P : ℕ → Type 0 = λ k. 1 ≤ k in
-    subst P (room_at t p c.in-Some.at c.index_mut.result.now is) c.requires.room
+    let room : 1 ≤ min (room_of (find (is_owned_by p) t.windows)) (word_room t.homes) = c.requires.room in
+    let one : 1 ≤ room_of (find (is_owned_by p) t.windows) = omega (arith, room) in
+    subst P (room_at t p c.in-Some.at c.index_mut.result.now is) one
 
 pub commit-requires-clause-can_take : goal.commit-requires-clause-can_take
 unfolding CanAdd CanHold
 commit-requires-clause-can_take c =
     let t = c.args.self.now in
     let p = c.args.buffer.receiver in
-    let is = is_at t p c.in-Some.at c.index_mut.result.now (sym (c.in-Some.ensures ∙ ap (position (is_owned_by p)) c.deref.ensures.value)) c.index_mut.ensures.value in
+    let is = is_at t p c.in-Some.at c.index_mut.result.now (sym (c.in-Some.ensures ∙ ap (position (is_owned_by p)) c.deref.ensures.value ∙ ap (λ (v : Windows). position (is_owned_by p) v.windows) c.self.view_is)) (c.index_mut.ensures.value ∙ ap (λ (v : Windows). get_or v.windows c.in-Some.at c.index_mut.result.now) c.self.view_is) in
     can_hold_at t p c.in-Some.at c.index_mut.result.now c.args.buffer.one_way c.args.buffer.size c.args.buffer.start is.found c.requires.can_add
+
+pub insert-requires : goal.insert-requires
+unfolding buffer_room
+insert-requires c =
+    let t = c.args.self.now in
+    let room : 1 ≤ min (room_of (find (is_owned_by c.args.buffer.receiver) t.windows)) (word_room t.homes) = c.requires.room in
+    let same = ap (λ (v : Windows). word_room v.homes) c.self.view_is in
+    omega (arith, room, same)
 
 pub returns-then-is_newest : goal.returns-then-is_newest
 unfolding add_buffer
@@ -31,17 +47,21 @@ returns-then-is_newest c = λ s stands e.
     let t = c.args.self.now in
     let p = c.args.buffer.receiver in
     let w = c.index_mut.result.now in
-    let is = is_at t p c.in-Some.at w (sym (c.in-Some.ensures ∙ ap (position (is_owned_by p)) c.deref.ensures.value)) c.index_mut.ensures.value in
+    let is = is_at t p c.in-Some.at w (sym (c.in-Some.ensures ∙ ap (position (is_owned_by p)) c.deref.ensures.value ∙ ap (λ (v : Windows). position (is_owned_by p) v.windows) c.self.view_is)) (c.index_mut.ensures.value ∙ ap (λ (v : Windows). get_or v.windows c.in-Some.at c.index_mut.result.now) c.self.view_is) in
     let x : OwnedWindow = record { owner = w.owner; window = c.commit.new.self } in
+    let Q : ℕ → Type 0 = λ n. All (λ (b : Buffer). b.made < n) s.buffers in
     buffer_added t _ s.steps c.in-Some.at s.processes s.buffers c.args.buffer w x (sym e) is refl
-    (c.commit.ensures.stands w.window.size w.window.buffers (record { size_is = refl; buffers_are = refl })) refl stands
+    (c.commit.ensures.stands w.window.size w.window.buffers (record { size_is = refl; buffers_are = refl })) (ap (λ (v : Windows). set v.windows c.in-Some.at x) c.self.view_is)
+    (homes_noted t.homes c.insert.new.self s.buffers c.args.buffer stands.homes_are (subst Q e stands.made.buffers_before) (λ k. c.insert.ensures.put k
+    ∙ ap (λ key. cond (same_word key k) (Some c.args.buffer.receiver) (look c.self.inside.homes k)) c.home_key.ensures
+    ∙ ap (λ (v : Windows). cond (same_word (home_key c.args.buffer.made) k) (Some c.args.buffer.receiver) (look v.homes k)) c.self.view_is)) stands
 
 pub returns-else-is_newest : goal.returns-else-is_newest
 returns-else-is_newest c = λ s stands e.
     let t = c.args.self.now in
     let p = c.args.buffer.receiver in
     let w = c.index_mut.result.now in
-    let is = is_at t p c.in-Some.at w (sym (c.in-Some.ensures ∙ ap (position (is_owned_by p)) c.deref.ensures.value)) c.index_mut.ensures.value in
+    let is = is_at t p c.in-Some.at w (sym (c.in-Some.ensures ∙ ap (position (is_owned_by p)) c.deref.ensures.value ∙ ap (λ (v : Windows). position (is_owned_by p) v.windows) c.self.view_is)) (c.index_mut.ensures.value ∙ ap (λ (v : Windows). get_or v.windows c.in-Some.at c.index_mut.result.now) c.self.view_is) in
     let P : ℕ → Type 0 = λ n. All (λ b. b.made < n) w.window.buffers in
     let newest = c.is_newest.ensures.1 (subst P e (older t s.steps p s.processes s.buffers w stands is.found)) in
     absurd (false≢true (sym c.if-is_newest.false ∙ newest))
@@ -51,5 +71,5 @@ unfolding CanAdd
 returns-in_default c = λ s stands e.
     let t = c.args.self.now in
     let p = c.args.buffer.receiver in
-    let missed = none_at (is_owned_by p) t.windows.items (sym (ap (position (is_owned_by p)) c.deref.ensures.value) ∙ sym c.position_of.ensures ∙ c.in_default.is) in
+    let missed = none_at (is_owned_by p) t.windows (sym (ap (position (is_owned_by p)) c.deref.ensures.value ∙ ap (λ (v : Windows). position (is_owned_by p) v.windows) c.self.view_is) ∙ sym c.position_of.ensures ∙ c.in_default.is) in
     absurd (can_hold_nowhere t p c.args.buffer.one_way c.args.buffer.size c.args.buffer.start missed c.requires.can_add)

@@ -1,8 +1,53 @@
-use Rattle.std.proofs.Common.{◌+◌, not}
+use Rattle.std.proofs.Common.{◌≡◌, ◌≢◌, ◌+◌, ◌∙◌, ℕ, Some, None, cond, ap, sym, map, not}
+use Rattle.std.specs.Prelude.{filter}
+use Rattle.bd_words.specs.Keys.{same_word}
+use Rattle.bd_words.specs.Look.{look}
+use Rattle.bd_space.specs.declared.space.Buffer.{Buffer}
+use Rattle.bd_space.specs.Words.{changed}
+use Rattle.bd_space.specs.Windows.{buffers_of}
 use Rattle.bd_space.specs.Freeing.{without_buffer, is_made_at}
-use Rattle.bd_buffers.proofs.AllWindows.{kept}
+use Rattle.bd_buffers.specs.declared.windows.Windows.{Windows}
+use Rattle.bd_buffers.specs.WindowsStand.{seen, with_buffers, is_of}
+use Rattle.bd_buffers.specs.Homes.{home_key}
+use Rattle.bd_buffers.proofs.Made.{filter_none}
+use Rattle.bd_buffers.proofs.Homes.{homes_forgotten, none_home, none_of, others_home}
+use Rattle.bd_buffers.proofs.AllWindows.{kept, all_changed, none_changed}
+use Rattle.bd_buffers.proofs.Owners.{order_one}
 use Rattle.bd_buffers.proofs.windows.Windows.free.Goals as goal
 
-pub returns : goal.returns
+pub returns-in-Some : goal.returns-in-Some
 unfolding without_buffer
-returns c = λ s stands. kept c.args.self.now _ (s.steps + 1) s.processes s.buffers (λ b. not (is_made_at c.args.made b)) c.free_among.ensures stands
+returns-in-Some c = λ s stands.
+    let t = c.args.self.now in
+    let made = c.args.made in
+    let p = c.in-Some.p in
+    let keep = λ (b : Buffer). not (is_made_at made b) in
+    let home : look t.homes (home_key made) ≡ Some p =
+    sym (c.in-Some.ensures.taken ∙ ap (look c.self.inside.homes) c.home_key.ensures ∙ ap (λ (v : Windows). look v.homes (home_key made)) c.self.view_is) in
+    let other : (r : ℕ) → r ≢ p → filter keep (buffers_of s.buffers r) ≡ buffers_of s.buffers r =
+    λ r ne. filter_none (λ (b : Buffer). b.made) made (buffers_of s.buffers r) (others_home t.homes s.buffers made p r stands.homes_are home ne) in
+    kept t _ (s.steps + 1) s.processes s.buffers keep
+    (c.free_in.ensures ∙ ap (λ (v : Windows). changed (is_of p) (with_buffers (filter keep)) (map seen v.windows)) c.self.view_is
+    ∙ all_changed t (s.steps + 1) p s.processes s.buffers (filter keep) stands other)
+    (homes_forgotten t.homes c.remove.new.self s.buffers made stands.homes_are (λ k. c.remove.ensures.gone k
+    ∙ ap (λ key. cond (same_word key k) None (look c.self.inside.homes k)) c.home_key.ensures
+    ∙ ap (λ (v : Windows). cond (same_word (home_key made) k) None (look v.homes k)) c.self.view_is)) stands
+
+pub invariant_of-self : goal.invariant_of-self
+invariant_of-self c = order_one (filter (λ (b : Buffer). not (is_made_at c.args.made b))) c.in-Some.p c.self.inside.windows.items _ c.free_in.ensures c.self.invariant
+
+pub returns-in_default : goal.returns-in_default
+unfolding without_buffer
+returns-in_default c = λ s stands.
+    let t = c.args.self.now in
+    let made = c.args.made in
+    let keep = λ (b : Buffer). not (is_made_at made b) in
+    let none : look t.homes (home_key made) ≡ None =
+    sym (c.remove.ensures.taken ∙ ap (look c.self.inside.homes) c.home_key.ensures ∙ ap (λ (v : Windows). look v.homes (home_key made)) c.self.view_is) ∙ c.in_default.is in
+    let same : (r : ℕ) → filter keep (buffers_of s.buffers r) ≡ buffers_of s.buffers r =
+    λ r. filter_none (λ (b : Buffer). b.made) made (buffers_of s.buffers r) (none_of s.buffers made r (none_home t.homes s.buffers made stands.homes_are none)) in
+    kept t _ (s.steps + 1) s.processes s.buffers keep
+    (ap (λ (v : Windows). map seen v.windows) c.self.view_is ∙ none_changed t (s.steps + 1) s.processes s.buffers (filter keep) stands same)
+    (homes_forgotten t.homes c.remove.new.self s.buffers made stands.homes_are (λ k. c.remove.ensures.gone k
+    ∙ ap (λ key. cond (same_word key k) None (look c.self.inside.homes k)) c.home_key.ensures
+    ∙ ap (λ (v : Windows). cond (same_word (home_key made) k) None (look v.homes k)) c.self.view_is)) stands

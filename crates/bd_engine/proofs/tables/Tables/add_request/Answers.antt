@@ -1,4 +1,4 @@
-use Rattle.std.proofs.Common.{ℕ, Bool, ◌∙◌, sym, subst}
+use Rattle.std.proofs.Common.{ℕ, Bool, subst}
 use Rattle.std.specs.Prelude.{if◌then◌else◌}
 use Rattle.bd_space.specs.declared.space.Phase.TheVariants.{Armed, Queued}
 use Rattle.bd_space.specs.declared.space.TodoList.TheVariants.{OfProcess}
@@ -19,10 +19,10 @@ pub returns-then-owner_lives : goal.returns-then-owner_lives
 unfolding requested
 returns-then-owner_lives c = λ s h new.
     subst (λ lives. Within c.add_death.new.self (requested_if s c.args.p c.args.o c.args.cookie lives))
-    (c.if-owner_lives.ensures s h.objects_stand (h.own.processes_are ∙ sym c.as_slice.ensures.value)) (c.add_death.ensures.stands s h new)
+    (c.if-owner_lives.ensures s h.objects_stand h.own.processes_are) (c.add_death.ensures.stands s h new)
 
 pub returns-else-owner_lives : goal.returns-else-owner_lives
 unfolding requested
 returns-else-owner_lives c = λ s h new.
     subst (λ lives. Within c.add_told_death.new.self (requested_if s c.args.p c.args.o c.args.cookie lives))
-    (c.if-owner_lives.ensures s h.objects_stand (h.own.processes_are ∙ sym c.as_slice.ensures.value)) (c.add_told_death.ensures s h new)
+    (c.if-owner_lives.ensures s h.objects_stand h.own.processes_are) (c.add_told_death.ensures s h new)

@@ -5,6 +5,6 @@ use Rattle.bd_engine.proofs.tables.Tables.call_out.Goals as goal
 
 pub returns-clause-stands : goal.returns-clause-stands
 unfolding call_out owe
-returns-clause-stands c = λ n s h.
+returns-clause-stands c = λ n s h k.
     let z = call_out s c.args.seat c.args.process in
-    with-calls n c.args.self.now s c.call_out.new.self s.threads z.frames z.todo h (c.call_out.ensures.stands s h.calls_stand h.own.steps_are)
+    with-calls n c.args.self.now s c.call_out.new.self s.threads z.frames z.todo h (c.call_out.ensures.stands s h.calls_stand (h.own.steps_are, k))

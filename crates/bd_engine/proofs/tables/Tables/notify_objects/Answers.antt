@@ -1,4 +1,5 @@
-use Rattle.std.proofs.Common.{rules, List, get_or, take, ap, sym, subst, ◌∙◌}
+use Rattle.std.proofs.Common.{rules, arith, List, get_or, take, take_all, ap, sym, subst, ◌∙◌}
+use Rattle.bd_space.specs.declared.step.ObjectId.{ObjectId}
 use Rattle.bd_space.specs.declared.space.Object.{Object}
 use Rattle.bd_space.specs.declared.space.Work.{Work}
 use Rattle.bd_space.specs.Words.{same}
@@ -30,7 +31,7 @@ loop-o-preserved c =
         stands = λ s h.
             let z = told_of (take k os) s in
             let i = c.loop-o.invariant.stands s h in
-            let asked = c.owner_to_tell-owner.ensures z i.objects_stand (i.own.processes_are ∙ sym c.as_slice.ensures.value) in
+            let asked = c.owner_to_tell-owner.ensures z i.objects_stand i.own.processes_are in
             let t = owner-told (object_in s.objects (get_or os k _)) (wants_notice s.processes s.references) w.in-Some.p (sym asked ∙ w.in-Some.is) in
             let found = find-in (λ (x : Object). same x.id (get_or os k _)) t.0 s.objects t.1 in
             let told = ap (λ (ws : List Work). let y : Space = record s { todo = ws } in y) (told-owner s z.todo (get_or os k _) t.0 w.in-Some.p t.1 t.3) in
@@ -46,9 +47,14 @@ loop-o-preserved c =
         stands = λ s h.
             let z = told_of (take k os) s in
             let i = c.loop-o.invariant.stands s h in
-            let asked = c.owner_to_tell-owner.ensures z i.objects_stand (i.own.processes_are ∙ sym c.as_slice.ensures.value) in
+            let asked = c.owner_to_tell-owner.ensures z i.objects_stand i.own.processes_are in
             let told = ap (λ (ws : List Work). let y : Space = record s { todo = ws } in y) (told-nobody s z.todo (get_or os k _) (sym asked ∙ w.in_default.is)) in
             subst (Within _) (told ∙ told-next os k _ s c.loop-o-test.true) i;
         uses = search rules;
       })
     ]
+
+pub returns-clause-stands : goal.returns-clause-stands
+returns-clause-stands c = λ s h.
+    let all = take_all c.loop-o.o-index c.args.touched.now (omega (arith, c.loop-o-test.false)) in
+    subst (λ (os : List ObjectId). Within c.loop-o.self (told_of os s)) all (c.loop-o.invariant.stands s h)

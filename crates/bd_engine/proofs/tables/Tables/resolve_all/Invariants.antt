@@ -2,6 +2,7 @@ use Rattle.std.proofs.Common.{ℕ, ◌≡◌, ◌≤◌, [], All, drop, length}
 use Rattle.bd_parcel.specs.Parcels.{offsets_in}
 use Rattle.bd_space.specs.Space.{Space}
 use Rattle.bd_space.specs.Parcels.{resolve_all}
+use Rattle.bd_objects.specs.Made.{made_items}
 use Rattle.bd_engine.specs.Stands.{StandsAt}
 use Rattle.bd_engine.specs.Deliveries.{IsInside}
 use Rattle.bd_engine.proofs.tables.Tables.resolve_all.Given as goal
@@ -9,7 +10,7 @@ use Rattle.bd_engine.proofs.tables.Tables.resolve_all.Given as goal
 abbrev pub invariant-loop-k : goal.invariant-loop-k
 invariant-loop-k l = record {
   so_far : (n : ℕ) (s : Space) → StandsAt n l.self s
-      → resolve_all s l.p l.parcel.bytes l.parcel.offsets l.made.items l.items.items (drop l.k (offsets_in l.parcel.offsets)) ≡ resolve_all s l.p l.parcel.bytes l.parcel.offsets [] [] (offsets_in l.parcel.offsets);
-  few : length l.made.items ≤ l.k;
+      → resolve_all s l.p l.parcel.bytes l.parcel.offsets (made_items l.made) l.items.items (drop l.k (offsets_in l.parcel.offsets)) ≡ resolve_all s l.p l.parcel.bytes l.parcel.offsets [] [] (offsets_in l.parcel.offsets);
+  few : length (made_items l.made) ≤ l.k;
   inside : All (IsInside l.parcel.bytes) l.items.items;
 }

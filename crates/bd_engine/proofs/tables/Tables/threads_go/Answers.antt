@@ -1,8 +1,9 @@
-use Rattle.std.proofs.Common.{◌+◌, sym, subst, arith, rules}
+use Rattle.std.proofs.Common.{ℕ, ◌+◌, List, take_all, sym, subst, arith, rules}
+use Rattle.std.specs.List.{fold}
 use Rattle.std.proofs.lemmas.List.Sums.{fold_more}
 use Rattle.bd_space.specs.Space.{Space}
 use Rattle.bd_space.specs.ThreadExits.{thread_goes}
-use Rattle.bd_engine.specs.Stands.{StandsAt}
+use Rattle.bd_engine.specs.Stands.{StandsAt, Within}
 use Rattle.bd_engine.proofs.tables.Tables.threads_go.Goals as goal
 
 pub loop-seat-preserved : goal.loop-seat-preserved
@@ -13,3 +14,8 @@ loop-seat-preserved c = record {
   uses = search rules;
   deaths = omega arith;
 }
+
+pub returns-clause-stands : goal.returns-clause-stands
+returns-clause-stands c = λ s h.
+    let all = take_all c.loop-seat.seat-index c.args.seats.now (omega (arith, c.loop-seat-test.false)) in
+    subst (λ (ns : List ℕ). Within c.loop-seat.self (fold thread_goes s ns)) all (c.loop-seat.invariant.stands s h)

@@ -1,6 +1,4 @@
-use Rattle.std.proofs.Common.{◌∙◌, ap, not, ◌==◌, sym}
-use Rattle.std.specs.List.{filter}
-use Rattle.bd_space.specs.declared.space.Process.{Process}
+use Rattle.std.proofs.Common.{◌∙◌, ap, sym}
 use Rattle.bd_space.specs.ProcessExits.{without_process, manager_without}
 use Rattle.bd_engine.proofs.tables.Tables.without_process.Goals as goal
 
@@ -9,7 +7,7 @@ unfolding without_process
 returns-clause-stands c = λ s h. record {
   own = record {
     steps_are = h.own.steps_are;
-    processes_are = ap (filter (λ (q : Process). not (q.made == c.args.p))) h.own.processes_are ∙ sym c.remove.ensures.items;
+    processes_are = c.remove.ensures.stands s.processes h.own.processes_are;
     manager_is = ap (manager_without s.objects c.args.p) h.own.manager_is ∙ sym (c.manager_without-self.ensures s h.objects_stand);
   };
   objects_stand = c.without_process.ensures.stands s h.objects_stand;

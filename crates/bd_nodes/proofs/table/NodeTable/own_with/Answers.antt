@@ -1,7 +1,8 @@
 use Rattle.std.proofs.Common.{◌==◌, ◌∙◌, ap, sym}
 use Rattle.bd_space.specs.declared.space.Object.{Object}
-use Rattle.bd_nodes.specs.Keys.{same_own, own_key, kept}
-use Rattle.bd_nodes.proofs.Tests.{own-eq, own-self}
+use Rattle.bd_words.specs.Keys.{same_word}
+use Rattle.bd_words.proofs.Keys.{word-eq, word-self}
+use Rattle.bd_nodes.specs.Keys.{own_key, kept}
 use Rattle.bd_nodes.proofs.Found.{found-and}
 use Rattle.bd_nodes.proofs.table.NodeTable.own_with.Goals as goal
 
@@ -9,5 +10,5 @@ pub returns : goal.returns
 returns c = λ objects n.
     let has_cookie = λ (x : Object). x.cookie == c.args.cookie in
     c.with_cookie.ensures ∙ ap (kept has_cookie) (c.own_with_ptr.ensures objects n)
-    ∙ sym (found-and own_key same_own own-eq own-self has_cookie (record { owner = c.args.p; ptr = c.args.ptr })
+    ∙ sym (found-and own_key same_word word-eq word-self has_cookie (record { process = c.args.p; word = c.args.ptr })
     objects n.owns)

@@ -1,12 +1,11 @@
-use Rattle.std.proofs.Common.{◌∙◌, ap, sym}
-use Rattle.std.specs.Option.{option_copied}
-use Rattle.bd_nodes.specs.declared.key.OwnKey.{OwnKey}
+use Rattle.std.proofs.Common.{◌∙◌, sym}
+use Rattle.bd_words.specs.declared.key.WordKey.{WordKey}
 use Rattle.bd_nodes.proofs.Changes.{by-own}
 use Rattle.bd_nodes.proofs.table.NodeTable.own_with_ptr.Goals as goal
 
 pub returns : goal.returns
 returns c = λ objects n.
-    let k : OwnKey = record { owner = c.args.p; ptr = c.args.ptr } in
+    let k : WordKey = record { process = c.args.p; word = c.args.ptr } in
     c.object.ensures objects n
-    ∙ by-own objects k c.in_ok-o.field-0.now n.ids
-    (sym (n.owned k) ∙ sym c.get.ensures.value ∙ ap option_copied c.in_ok-o.was)
+    ∙ by-own objects k c.in_ok-o.o n.ids
+    (sym (n.owned k) ∙ sym c.get.ensures ∙ c.in_ok-o.was)

@@ -1,11 +1,14 @@
 use Rattle.std.proofs.Common.{◌≡◌, ◌<◌, ◌∷◌, [], None, Some, length-append, option_map, arith, ap, subst, ◌∙◌}
 use Rattle.std.specs.HashMap.{get, spare}
+use Rattle.bd_words.specs.declared.key.WordKey.{WordKey}
+use Rattle.bd_words.specs.Keys.{same_word}
+use Rattle.bd_words.specs.Look.{look}
+use Rattle.bd_words.proofs.Keys.{word-eq, word-self}
 use Rattle.bd_space.specs.declared.space.Object.{Object}
 use Rattle.bd_nodes.specs.declared.key.NodeKey.{NodeKey}
-use Rattle.bd_nodes.specs.declared.key.OwnKey.{OwnKey}
-use Rattle.bd_nodes.specs.Keys.{same_node, same_own, id_key, own_key}
+use Rattle.bd_nodes.specs.Keys.{same_node, id_key, own_key}
 use Rattle.bd_nodes.specs.Room.{node_room}
-use Rattle.bd_nodes.proofs.Tests.{node-eq, node-self, own-eq, own-self}
+use Rattle.bd_nodes.proofs.Tests.{node-eq, node-self}
 use Rattle.bd_nodes.proofs.Changes.{ok-then, len-new}
 use Rattle.bd_nodes.proofs.Distinct.{push-distinct}
 use Rattle.bd_nodes.proofs.Maps.{Puts, finds-push}
@@ -15,9 +18,7 @@ pub returns-clause-stands : goal.returns-clause-stands
 unfolding node_room
 returns-clause-stands c = λ objects n new.
     let x = c.args.x in
-    let some_own : 0 < spare c.args.self.now.owns = omega (arith, c.requires) in
     let some_node : 0 < spare c.args.self.now.objects = omega (arith, c.requires) in
-    let own = c.insert.ensures.succeeds some_own in
     let node = c.insert-2.ensures.succeeds some_node in
     let none : get same_node c.args.self.now.objects (id_key x) ≡ None = n.found (id_key x)
     ∙ ap (option_map (λ (y : Object). y)) new.0 in
@@ -25,15 +26,17 @@ returns-clause-stands c = λ objects n new.
     (ap (get same_node c.args.self.now.objects) c.node_key.ensures ∙ none) in
     let long = length-append objects (x ∷ []) in
     record {
-      found = finds-push id_key same_node node-eq node-self (λ y. y) c.args.self.now.objects c.insert-2.new.self
+      found = finds-push id_key same_node node-eq node-self (λ y. y) (get same_node c.args.self.now.objects)
+          (get same_node c.insert-2.new.self)
           objects x n.found new.0
-          (subst (λ (k : NodeKey). Puts same_node c.args.self.now.objects c.insert-2.new.self k (Some x))
+          (subst (λ (k : NodeKey). Puts same_node (get same_node c.args.self.now.objects)
+          (get same_node c.insert-2.new.self) k (Some x))
           c.node_key.ensures (ok-then c.insert-2.result node c.insert-2.ensures.updates).0);
-      owned = finds-push own_key same_own own-eq own-self (λ y. y.id) c.args.self.now.owns c.insert.new.self objects x
-          n.owned new.1
-          (subst (λ (k : OwnKey). Puts same_own c.args.self.now.owns c.insert.new.self k (Some x.id)) c.own_key.ensures
-          (ok-then c.insert.result own c.insert.ensures.updates).0);
+      owned = finds-push own_key same_word word-eq word-self (λ y. y.id) (look c.args.self.now.owns)
+          (look c.insert.new.self) objects x n.owned new.1
+          (subst (λ (k : WordKey). Puts same_word (look c.args.self.now.owns) (look c.insert.new.self) k (Some x.id))
+          c.own_key.ensures c.insert.ensures.put);
       count = omega (arith, len, long, n.count);
       ids = push-distinct id_key same_node node-eq node-self x objects n.ids new.0;
-      owns = push-distinct own_key same_own own-eq own-self x objects n.owns new.1;
+      owns = push-distinct own_key same_word word-eq word-self x objects n.owns new.1;
     }

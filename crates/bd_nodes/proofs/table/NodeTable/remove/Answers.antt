@@ -1,14 +1,17 @@
 use Rattle.std.proofs.Common.{◌≡◌, ◌+◌, not, Option, None, Some, length, is_some, if◌then◌else◌, arith, ap, sym, subst, ◌∙◌}
 use Rattle.std.specs.HashMap.{get, hash_map_len}
 use Rattle.std.specs.Map.{lookup}
+use Rattle.bd_words.specs.declared.key.WordKey.{WordKey}
+use Rattle.bd_words.specs.Keys.{same_word}
+use Rattle.bd_words.specs.Look.{look}
+use Rattle.bd_words.proofs.Keys.{word-eq, word-self}
 use Rattle.bd_space.specs.declared.space.Object.{Object}
 use Rattle.bd_space.specs.Words.{same}
 use Rattle.bd_space.specs.References.{object_in}
 use Rattle.bd_nodes.specs.declared.key.NodeKey.{NodeKey}
-use Rattle.bd_nodes.specs.declared.key.OwnKey.{OwnKey}
-use Rattle.bd_nodes.specs.Keys.{same_node, same_own, node_key, id_key, own_key}
+use Rattle.bd_nodes.specs.Keys.{same_node, node_key, id_key, own_key}
 use Rattle.bd_nodes.specs.Stands.{NodesAre}
-use Rattle.bd_nodes.proofs.Tests.{node-eq, node-self, own-eq, own-self}
+use Rattle.bd_nodes.proofs.Tests.{node-eq, node-self}
 use Rattle.bd_nodes.proofs.Changes.{none-then, only-own}
 use Rattle.bd_nodes.proofs.Distinct.{filter-distinct, away-none}
 use Rattle.bd_nodes.proofs.Found.{option-same, length-without}
@@ -28,19 +31,22 @@ returns-in-Some-clause-stands c = λ objects n.
     ∙ c.remove.ensures.len in
     let fewer = length-without id_key same_node node-eq node-self (node_key c.args.o) x objects n.ids has in
     record {
-      found = finds-remove id_key same_node node-eq node-self (λ y. y) c.args.self.now.objects c.remove.new.self
+      found = finds-remove id_key same_node node-eq node-self (λ y. y) (get same_node c.args.self.now.objects)
+          (get same_node c.remove.new.self)
           objects others (node_key c.args.o) n.found n.ids
-          (subst (λ (k : NodeKey). Puts same_node c.args.self.now.objects c.remove.new.self k None) c.node_key.ensures
+          (subst (λ (k : NodeKey). Puts same_node (get same_node c.args.self.now.objects)
+          (get same_node c.remove.new.self) k None) c.node_key.ensures
           c.remove.ensures.updates.0)
           (only-key id_key same_node node-eq node-self objects (node_key c.args.o));
-      owned = finds-remove own_key same_own own-eq own-self (λ y. y.id) c.args.self.now.owns c.remove-in-Some.new.self
+      owned = finds-remove own_key same_word word-eq word-self (λ y. y.id) (look c.args.self.now.owns)
+          (look c.remove-in-Some.new.self)
           objects others (own_key x) n.owned n.owns
-          (subst (λ (k : OwnKey). Puts same_own c.args.self.now.owns c.remove-in-Some.new.self k None)
-          c.own_key.ensures c.remove-in-Some.ensures.updates.0)
+          (subst (λ (k : WordKey). Puts same_word (look c.args.self.now.owns) (look c.remove-in-Some.new.self) k None)
+          c.own_key.ensures c.remove-in-Some.ensures.gone)
           (only-own objects c.args.o x n.ids n.owns has);
       count = omega (arith, less, fewer, n.count);
       ids = filter-distinct id_key same_node others objects n.ids;
-      owns = filter-distinct own_key same_own others objects n.owns;
+      owns = filter-distinct own_key same_word others objects n.owns;
     }
 
 pub returns-in_default-clause-stands : goal.returns-in_default-clause-stands

@@ -1,13 +1,16 @@
 use Rattle.std.proofs.Common.{◌≡◌, None, Some, refl, ap, sym, subst, ◌∙◌, is_some}
 use Rattle.std.specs.Option.{option_copied_mut}
 use Rattle.std.specs.HashMap.{get}
+use Rattle.bd_words.specs.Keys.{same_word}
+use Rattle.bd_words.specs.Look.{look}
+use Rattle.bd_words.proofs.Keys.{word-eq, word-self}
 use Rattle.bd_space.specs.declared.space.Object.{Object}
 use Rattle.bd_space.specs.Words.{same}
 use Rattle.bd_space.specs.References.{object_in}
 use Rattle.bd_nodes.specs.declared.key.NodeKey.{NodeKey}
-use Rattle.bd_nodes.specs.Keys.{same_node, same_own, node_key, id_key, own_key}
+use Rattle.bd_nodes.specs.Keys.{same_node, node_key, id_key, own_key}
 use Rattle.bd_nodes.specs.Stands.{NodesAre}
-use Rattle.bd_nodes.proofs.Tests.{node-eq, node-self, own-eq, own-self}
+use Rattle.bd_nodes.proofs.Tests.{node-eq, node-self}
 use Rattle.bd_nodes.proofs.Distinct.{changed-distinct}
 use Rattle.bd_nodes.proofs.Found.{option-same, length-changed, changed-nothing}
 use Rattle.bd_nodes.proofs.Maps.{Puts, finds-changed, finds-hidden}
@@ -26,15 +29,16 @@ returns-in-Some-clause-stands c = λ objects n.
     let writes = c.get_mut.follows.holds (f x) in
     let new = c.get_mut.follows.lender (f x) in
     record {
-      found = finds-changed id_key same_node node-eq node-self c.args.self.now.objects new objects (node_key c.args.o)
-          x f (λ y. refl) n.found has
-          (subst (λ (k : NodeKey). Puts same_node c.args.self.now.objects new k (Some (f x))) c.node_key.ensures
+      found = finds-changed id_key same_node node-eq node-self (get same_node c.args.self.now.objects)
+          (get same_node new) objects (node_key c.args.o) x f (λ y. refl) n.found has
+          (subst (λ (k : NodeKey). Puts same_node (get same_node c.args.self.now.objects)
+          (get same_node new) k (Some (f x))) c.node_key.ensures
           (writes.3 (ap is_some there)).0);
-      owned = finds-hidden own_key same_own own-eq own-self (λ y. y.id) c.args.self.now.owns objects p f (λ y. refl)
-          (λ y. refl) n.owned;
+      owned = finds-hidden own_key same_word word-eq word-self (λ y. y.id) (look c.args.self.now.owns) objects p f
+          (λ y. refl) (λ y. refl) n.owned;
       count = writes.2 ∙ n.count ∙ sym (length-changed p f objects);
       ids = changed-distinct id_key same_node p f (λ y. refl) objects n.ids;
-      owns = changed-distinct own_key same_own p f (λ y. refl) objects n.owns;
+      owns = changed-distinct own_key same_word p f (λ y. refl) objects n.owns;
     }
 
 pub returns-in_default-clause-stands : goal.returns-in_default-clause-stands

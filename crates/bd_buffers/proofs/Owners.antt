@@ -1,0 +1,122 @@
+-- Windows by whose they are: their owners rise.
+use Rattle.std.proofs.Common.{◌≡◌, ℕ, ◌<◌, Bool, true, false, cond, List, [], ◌∷◌, length, get_or, set, map, refl, ap, sym, ◌∙◌, arith, All, Some, None, nat_lt, rules, tests, eq-eqb, ne_eqb, ◌+◌, ◌-◌, not, subst, ltb}
+use Rattle.std.specs.Prelude.{◌==◌, find, filter, Option, IfSome, option_copied, is_some}
+use Rattle.std.specs.List.{position, position_or_len, slice_get}
+use Rattle.std.proofs.lemmas.Bool.{ltb-true, ltb-false}
+use Rattle.std.proofs.lemmas.Option.{get_or_from_slice_get, slice_get_past, slice_get_read}
+use Rattle.std.proofs.lemmas.List.{length-map, get_or-map}
+use Rattle.std.proofs.lemmas.List.Elements.{All-head, All-tail}
+use Rattle.std.proofs.lemmas.List.Kept.{AllPairs-filter}
+use Rattle.std.proofs.lemmas.List.Folds.{find_at}
+use Rattle.std.proofs.lemmas.List.Sums.{position_or_len_is}
+use Rattle.std.proofs.Math.Seq.{map-set_same}
+use Rattle.std.proofs.Math.ListN as list
+use denote.Ref.{Bor}
+use Rattle.bd_space.specs.declared.space.Process.{Process}
+use Rattle.bd_space.specs.declared.space.Buffer.{Buffer}
+use Rattle.bd_space.specs.Words.{changed}
+use Rattle.bd_buffers.specs.declared.windows.OwnedWindow.{OwnedWindow}
+use Rattle.bd_buffers.specs.Owners.{AreInOrder, owners}
+use Rattle.bd_buffers.specs.WindowsStand.{ProcessWindow, seen, window_of, with_buffers, is_of}
+use Rattle.bd_buffers.proofs.Made.{Rising}
+
+-- ---- where one stands
+
+place_of : {A : Type 0} (p : A → Bool) (xs : List A) (i : ℕ) (b : Bool) → position_or_len p xs ≡ i → nat_lt i (length xs) ≡ b → position p xs ≡ cond b (Some i) None
+place_of p xs i b e f = ap (λ k. cond (nat_lt k (length xs)) (Some k) None) e ∙ ap (λ c. cond c (Some i) None) f
+
+within : (i n : ℕ) → i < n → nat_lt i n ≡ true
+within i n lt = search (rules, tests)
+
+beyond : (n : ℕ) → nat_lt n n ≡ false
+beyond n = search (rules, tests)
+
+module _ {A : Type 0} (key : A → ℕ) where
+  pub position_at : (m : ℕ) (xs : List A) (i : ℕ) (d : A) → Rising key xs → i < length xs → key (get_or xs i d) ≡ m → position (λ x. key x == m) xs ≡ Some i
+  position_at m xs i d rising lt is =
+      place_of (λ x. key x == m) xs i true
+      (position_or_len_is (λ x. key x == m) xs i d (omega arith) (λ k below. (let up = rising k i d below lt in ne_at k up)) (λ h. eq-eqb (key (get_or xs i d)) m is))
+      (within i (length xs) lt)
+    where
+      ne_at : (k : ℕ) → key (get_or xs k d) < key (get_or xs i d) → (key (get_or xs k d) == m) ≡ false
+      ne_at k up = ne_eqb (key (get_or xs k d)) m (λ e. absurd (omega (arith, e, up, is)))
+
+  none_long : (m : ℕ) (xs : List A) → All (λ x. (key x == m) ≡ false) xs → position_or_len (λ x. key x == m) xs ≡ length xs
+  none_long m [] none = refl
+  none_long m (x ∷ xs) none =
+      let P : A → Type 0 = λ y. (key y == m) ≡ false in
+      let rest = none_long m xs (All-tail P x xs none) in
+      ap (λ b. cond (not b) (1 + position_or_len (λ y. key y == m) xs) 0) (All-head P x xs none) ∙ omega (arith, rest)
+
+  pub position_none : (m : ℕ) (xs : List A) → All (λ x. (key x == m) ≡ false) xs → position (λ x. key x == m) xs ≡ None
+  position_none m xs none = place_of (λ x. key x == m) xs (length xs) false (none_long m xs none) (beyond (length xs))
+
+pub look_found : {A : Type 0} (p : A → Bool) (xs : List A) (i : ℕ) → position p xs ≡ Some i → slice_get xs i ≡ find p xs
+look_found p xs i e = ap (slice_get xs) (sym (found_long p xs i (nat_lt (position_or_len p xs) (length xs)) e)) ∙ sym (find_at p xs)
+  where
+    found_long : {A : Type 0} (p : A → Bool) (xs : List A) (i : ℕ) (b : Bool) → cond b (Some (position_or_len p xs)) None ≡ Some i → position_or_len p xs ≡ i
+    found_long p xs i true f = cc
+    found_long p xs i false f = cc
+
+pub look_copied : {A : Type 0} (o : Option (Bor A)) (xs : List A) (i : ℕ) → is_some o ≡ ltb i (length xs) → IfSome o (λ x. x.now ≡ get_or xs i x.now) → option_copied o ≡ slice_get xs i
+look_copied None xs i e at = sym (slice_get_past xs i (ltb-false i (length xs) (sym e)))
+look_copied (Some x) xs i e at = sym (slice_get_read xs (length xs) i x.now refl (ltb-true i (length xs) (sym e)) at)
+
+pub last_has : {A : Type 0} (P : A → Type 0) (xs : List A) (x : A) → slice_get xs (length xs - 1) ≡ Some x → All P xs → P x
+last_has P [] x e all = cc
+last_has P (y ∷ xs) x e all = subst P (get_or_from_slice_get (y ∷ xs) (length (y ∷ xs) - 1) x x e) (all (length (y ∷ xs) - 1) x (omega arith))
+
+-- ---- they stay in order
+
+pub same_owners : (ws new : List OwnedWindow) → owners new ≡ owners ws → AreInOrder ws → AreInOrder new
+same_owners ws new e order i j d lt h =
+    let owner = λ (w : OwnedWindow). w.owner in
+    let len : length new ≡ length ws = sym (length-map new owner) ∙ ap length e ∙ length-map ws owner in
+    let first = sym (list.get_or-map owner new i d) ∙ ap (λ ns. get_or ns i (owner d)) e ∙ list.get_or-map owner ws i d in
+    let second = sym (list.get_or-map owner new j d) ∙ ap (λ ns. get_or ns j (owner d)) e ∙ list.get_or-map owner ws j d in
+    let up = order i j d lt (omega (arith, len)) in
+    omega (arith, first, second, up)
+
+-- where some go
+pub order_kept : (keep : OwnedWindow → Bool) (ws new : List OwnedWindow) → new ≡ filter keep ws → AreInOrder ws → AreInOrder new
+order_kept keep ws new e order = subst AreInOrder (sym e) (AllPairs-filter (λ (a : OwnedWindow) (b : OwnedWindow). a.owner < b.owner) keep ws order)
+
+owners_seen : (ws : List OwnedWindow) → owners ws ≡ map (λ (x : ProcessWindow). x.owner) (map seen ws)
+owners_seen [] = refl
+owners_seen (w ∷ ws) = ap (λ ns. w.owner ∷ ns) (owners_seen ws)
+
+pub owners_set : (ws : List OwnedWindow) (i : ℕ) (w x : OwnedWindow) → w ≡ get_or ws i w → x.owner ≡ w.owner → owners (set ws i x) ≡ owners ws
+owners_set ws i w x at own =
+    let owner = λ (w : OwnedWindow). w.owner in
+    map-set_same owner ws i x w (own ∙ ap owner at)
+
+owners_one : (f : List Buffer → List Buffer) (p : ℕ) (xs : List ProcessWindow) → map (λ (x : ProcessWindow). x.owner) (changed (is_of p) (with_buffers f) xs) ≡ map (λ (x : ProcessWindow). x.owner) xs
+owners_one f p [] = refl
+owners_one f p (x ∷ xs) =
+    let head : (cond (is_of p x) (with_buffers f x) x).owner ≡ x.owner = elim (is_of p x) as (λ b. (cond b (with_buffers f x) x).owner ≡ x.owner) [ true ↦ refl | false ↦ refl ] in
+    let rest = owners_one f p xs in
+    cc
+
+pub order_one : (f : List Buffer → List Buffer) (p : ℕ) (ws new : List OwnedWindow) → map seen new ≡ changed (is_of p) (with_buffers f) (map seen ws) → AreInOrder ws → AreInOrder new
+order_one f p ws new e order =
+    same_owners ws new (owners_seen new ∙ ap (map (λ (x : ProcessWindow). x.owner)) e ∙ owners_one f p (map seen ws) ∙ sym (owners_seen ws)) order
+
+-- where one is changed, and keeps its owner
+pub order_set : (ws : List OwnedWindow) (i : ℕ) (w x : OwnedWindow) → w ≡ get_or ws i w → x.owner ≡ w.owner → AreInOrder ws → AreInOrder (set ws i x)
+order_set ws i w x at own order =
+    same_owners ws (set ws i x) (owners_set ws i w x at own) order
+
+-- ---- whose they are
+
+no_process : Process
+no_process = record { made = 0; pid = 0; euid = 0; window = 0 }
+
+-- those of processes that were opened before a step
+pub owners_before : (ws : List OwnedWindow) (bs : List Buffer) (ps : List Process) (bound : ℕ) → map seen ws ≡ map (window_of bs) ps → All (λ q. q.made < bound) ps
+    → All (λ w. w.owner < bound) ws
+owners_before ws bs ps bound e before k d lt =
+    let h : k < length ps = omega (arith, lt, length-map ws seen, ap length e, length-map ps (window_of bs)) in
+    let at = sym (list.get_or-map seen ws k d) ∙ ap (λ xs. get_or xs k (seen d)) e ∙ get_or-map (window_of bs) ps k no_process (seen d) h in
+    let owner = ap (λ (x : ProcessWindow). x.owner) at in
+    let up = before k no_process h in
+    omega (arith, owner, up)

@@ -1,0 +1,14 @@
+use Rattle.std.proofs.Common.{◌≡◌, ◌≤◌, vec_len}
+use Rattle.std.specs.Prelude.{vec_capacity}
+use Rattle.bd_buffers.specs.Rows.{IsTrimmed}
+use Rattle.bd_buffers.proofs.rows.trim.Given as goal
+
+abbrev pub invariant-loop-rows : goal.invariant-loop-rows
+invariant-loop-rows l = record {
+  trimmed : IsTrimmed l.fn.rows.items l.rows.items;
+  len : vec_len l.rows ≤ vec_len l.fn.rows;
+  capacity : vec_capacity l.rows ≡ vec_capacity l.fn.rows;
+}
+
+abbrev pub decreases-loop-rows : goal.decreases-loop-rows
+decreases-loop-rows l = vec_len l.rows

@@ -1,0 +1,63 @@
+-- Buffers in rows, in the order in which they were made. A row whose buffer ended is empty.
+use Rattle.std.specs.Prelude.{ℕ, zero, suc, ◌≡◌, ◌-◌, ◌<◌, Bool, false, not, List, [], ◌∷◌, ◌++◌, Option, Some, None, All, AllPairs, length, remove, slice_index_or, option_map, unwrap_or}
+use Rattle.std.specs.List.{filter_map, slice_get}
+use Rattle.std.specs.Option.{is_some}
+use Rattle.bd_space.specs.declared.space.Buffer.{Buffer}
+use Rattle.bd_buffers.specs.declared.rows.Row.{Row}
+
+-- the live buffers
+abbrev pub live : List Row → List Buffer
+live rows = filter_map (λ r. r.buffer) rows
+
+-- the buffer in a row, if there is one; past the rows there is none
+abbrev pub in_row : List Row → ℕ → Option Buffer
+in_row [] i = None
+in_row (r ∷ rows) zero = r.buffer
+in_row (r ∷ rows) (suc i) = in_row rows i
+
+-- ---- what is so of all rows
+
+-- a row's buffer was made where the row says
+abbrev pub IsOwn : ℕ → Option Buffer → Type 0
+IsOwn made None = Unit {0}
+IsOwn made (Some b) = b.made ≡ made
+
+-- the last row is empty
+abbrev pub ends_empty : List Row → Bool
+ends_empty rows = unwrap_or (option_map (λ r. not (is_some r.buffer)) (slice_get rows (length rows - 1))) false
+
+pub record AreRows (rows : List Row) (count : ℕ) : Type 0 where
+  pub in_order : AllPairs (λ a b. a.made < b.made) rows
+  pub own : All (λ r. IsOwn r.made r.buffer) rows
+  pub ends : ends_empty rows ≡ false
+  pub counted : count ≡ length (live rows)
+
+-- ---- changes
+
+-- f is done to what a row has
+abbrev pub refilled : (Option Buffer → Option Buffer) → ℕ → List Row → List Row
+refilled f i [] = []
+refilled f zero (r ∷ rows) = record { made = r.made; buffer = f r.buffer } ∷ rows
+refilled f (suc i) (r ∷ rows) = r ∷ refilled f i rows
+
+-- a row loses its buffer
+abbrev pub emptied : ℕ → List Row → List Row
+emptied i rows = refilled (λ o. None) i rows
+
+-- empty rows at the end went
+pub record IsTrimmed (old new : List Row) : Type 0 where
+  pub gone : List Row
+  pub split : old ≡ new ++ gone
+  pub empty : All (λ r. r.buffer ≡ None) gone
+
+-- this buffer went, and the others stay in order
+pub record IsWithout (b : Buffer) (old new : List Buffer) : Type 0 where
+  pub index : ℕ
+  pub within : index < length old
+  pub at : (d : Buffer) → b ≡ slice_index_or old index d
+  pub left : new ≡ remove old index
+
+-- rows as contracts see them, and how many more there is room for
+pub record RowsView : Type 0 where
+  pub rows : List Row
+  pub room : ℕ

@@ -1,0 +1,84 @@
+//! Where the buffers of a window lie, by what pointers they are found, and what they leave free.
+
+ghost use Rattle.std.specs.Prelude.{◌≡◌, ◌+◌, ◌<◌, ◌≤◌, ◌==◌, ℕ, None, MatchOption, vec_len, vec_capacity, if◌then◌else◌};
+ghost use Rattle.bd_words.specs.Keys.{same_word};
+ghost use Rattle.bd_words.specs.Look.{look, word_room};
+ghost use Rattle.bd_words.specs.declared.key.WordKey.{WordKey};
+ghost use Rattle.bd_space.specs.Freeing.{pointer};
+ghost use Rattle.bd_buffers.specs.Buffer as spec;
+ghost use Rattle.bd_buffers.specs.Holes as free;
+ghost use Rattle.bd_buffers.specs.Rows.{live, in_row, IsWithout};
+ghost use Rattle.bd_buffers.specs.Spots.{spot_key};
+ghost use Rattle.bd_buffers.specs.Window.{Keeps, room_left};
+
+use crate::buffer::{one_way_share, pointer_of};
+use crate::hole::{Hole, give_back};
+use crate::rows::Rows;
+use bd_space::Buffer;
+use bd_words::{WordKey, WordMap};
+
+/// The ground of a window: what the buffers on it take, and what they leave.
+#[derive(Drop)]
+pub(crate) struct Ground {
+    pub(crate) size: u32,
+    // The sizes of the one-way buffers together.
+    pub(crate) one_way: u32,
+    // Where the buffers were made, by their pointers.
+    pub(crate) spots: WordMap<u32>,
+    // What is free between the buffers, in order of place. No two holes touch.
+    pub(crate) holes: Vec<Hole>,
+    // Where the last buffer ends. All is free from there on.
+    pub(crate) tail: u32,
+}
+
+/// By what a window's buffer with this pointer is found. Takes no memory.
+pub(crate) fn key_at(pointer: u64) -> WordKey
+    ensures { result ≡ spot_key pointer }
+{
+    WordKey {
+        process: 0,
+        word: pointer,
+    }
+}
+
+impl Ground {
+    // Takes back what a buffer took.
+    fn release(&mut self, b: &Buffer)
+        requires spaced { free.Spaced self.old.tail 0 self.old.holes.items }
+        requires room { vec_len self.old.holes < vec_capacity self.old.holes }
+        requires share { spec.one_way_share b.now ≤ self.old.one_way }
+        requires within { b.now.start + b.now.size ≤ 4194304 }
+        ensures left { free.released b.now.start (b.now.start + b.now.size) self.old.tail self.old.holes.items
+            ≡ record { holes = self.new.holes.items; tail = self.new.tail } }
+        ensures spots { (k : WordKey) → look self.new.spots k
+            ≡ (if same_word (spot_key (pointer b.now)) k then None else look self.old.spots k) }
+        ensures one_way { self.new.one_way + spec.one_way_share b.now ≡ self.old.one_way }
+        ensures size { self.new.size ≡ self.old.size }
+        ensures len { vec_len self.new.holes ≤ vec_len self.old.holes + 1 }
+        ensures capacity { vec_capacity self.new.holes ≡ vec_capacity self.old.holes }
+        ensures room { word_room self.old.spots ≤ word_room self.new.spots }
+    {
+        let tail = give_back(&mut self.holes, self.tail, b.start, b.start + b.size);
+        let share = one_way_share(b);
+        let _made = self.spots.remove(key_at(pointer_of(b)));
+        self.tail = tail;
+        self.one_way -= share;
+    }
+}
+
+/// Ends the buffer in a row, if there is one.
+pub(crate) fn end_row(buffers: &mut Rows, ground: &mut Ground, i: usize)
+    requires kept { Keeps (live buffers.old.rows) ground.old }
+    ensures kept { Keeps (live buffers.new.rows) ground.new }
+    ensures size { ground.new.size ≡ ground.old.size }
+    ensures rest { (j : ℕ) → in_row buffers.new.rows j
+        ≡ (if i == j then None else in_row buffers.old.rows j) }
+    ensures live { MatchOption (in_row buffers.old.rows i)
+        (live buffers.new.rows ≡ live buffers.old.rows)
+        (λ b. IsWithout b (live buffers.old.rows) (live buffers.new.rows)) }
+    ensures room { room_left buffers.old ground.old ≤ room_left buffers.new ground.new }
+{
+    if let Some(buffer) = buffers.take_at(i) {
+        ground.release(&buffer);
+    }
+}

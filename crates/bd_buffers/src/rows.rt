@@ -1,0 +1,232 @@
+//! Buffers in rows, in the order in which they were made.
+
+ghost use Rattle.std.specs.Prelude.{◌≡◌, ◌↔◌, ◌+◌, ◌<◌, ◌≤◌, ◌==◌, ◌++◌, ◌∷◌, [], ℕ, false, None, IsTrue, All, AllPairs, MatchOption, OnOk, OnErr, length, slice_index_or, option_map, option_copied, vec_len, vec_capacity, if◌then◌else◌};
+ghost use Rattle.std.specs.Option.{is_some, option_and_then};
+ghost use Rattle.bd_space.specs.Words.{changed};
+ghost use Rattle.bd_space.specs.Freeing.{is_made_at};
+ghost use Rattle.bd_space.specs.ReadItems.{hand_out};
+ghost use Rattle.bd_space.specs.Returns.{buffer_in};
+ghost use Rattle.bd_buffers.specs.Rows.{live, in_row, ends_empty, refilled, emptied, AreRows, IsTrimmed, IsWithout};
+
+use bd_space::Buffer;
+use std::alloc::{AllocError, Global};
+use std::marker::Model;
+
+// Where a buffer was made, and the buffer while it lives.
+#[derive(Drop)]
+pub(crate) struct Row {
+    pub(crate) made: u32,
+    pub(crate) buffer: Option<Buffer>,
+}
+
+// The index of the row made there.
+fn index_among(rows: &[Row], made: u32) -> Option<usize>
+    requires order { AllPairs (λ a b. a.made < b.made) rows.now }
+    ensures { MatchOption result
+        (All (λ r. (r.made == made) ≡ false) rows.now)
+        (λ i. (i < length rows.now) × ((d : Row) → (slice_index_or rows.now i d).made ≡ made)) }
+{
+    let i = rows.partition_point(|r| r.made < made);
+    if i < rows.len() && rows[i].made == made {
+        Some(i)
+    } else {
+        None
+    }
+}
+
+// Whether the last row is empty.
+fn is_end_empty(rows: &[Row]) -> bool
+    ensures { result ≡ ends_empty rows.now }
+{
+    match rows.last() {
+        None => false,
+        Some(r) => r.buffer.is_none(),
+    }
+}
+
+// Drops the empty rows at the end.
+fn trim(rows: &mut Vec<Row>)
+    ensures trimmed { IsTrimmed rows.old.items rows.new.items }
+    ensures ends { ends_empty rows.new.items ≡ false }
+    ensures len { vec_len rows.new ≤ vec_len rows.old }
+    ensures capacity { vec_capacity rows.new ≡ vec_capacity rows.old }
+{
+    while is_end_empty(rows) {
+        rows.pop();
+    }
+}
+
+// Drops all empty rows, where they are half of all or more: as many ends have paid for the walk.
+fn pack(rows: &mut Vec<Row>, count: usize)
+    requires stand { AreRows rows.old.items count }
+    ensures stand { AreRows rows.new.items count }
+    ensures live { live rows.new.items ≡ live rows.old.items }
+    ensures len { vec_len rows.new ≤ vec_len rows.old }
+    ensures capacity { vec_capacity rows.new ≡ vec_capacity rows.old }
+{
+    if rows.len() - count < count {
+        return;
+    }
+    rows.retain(|r| r.buffer.is_some());
+}
+
+// Takes the buffer out of a row. The row stays.
+fn take_from(rows: &mut Vec<Row>, i: usize) -> Option<Buffer>
+    ensures taken { result ≡ in_row rows.old.items i }
+    ensures left { rows.new.items ≡ emptied i rows.old.items }
+    ensures len { vec_len rows.new ≡ vec_len rows.old }
+    ensures capacity { vec_capacity rows.new ≡ vec_capacity rows.old }
+{
+    if i < rows.len() {
+        rows[i].buffer.take()
+    } else {
+        None
+    }
+}
+
+// Marks the buffer in a row as handed out, if there is one.
+fn hand_out_at(rows: &mut Vec<Row>, i: usize)
+    requires { i < length rows.old.items }
+    ensures handed { rows.new.items ≡ refilled (option_map hand_out) i rows.old.items }
+    ensures len { vec_len rows.new ≡ vec_len rows.old }
+    ensures capacity { vec_capacity rows.new ≡ vec_capacity rows.old }
+{
+    if let Some(buffer) = &mut rows[i].buffer {
+        buffer.handed = true;
+    }
+}
+
+/// Live buffers, in the order in which they were made. An end moves none of them: it leaves an empty row, which goes
+/// once all rows after it are empty too, or when room is made.
+#[derive(Drop)]
+pub(crate) struct Rows {
+    rows: Vec<Row>,
+    // How many have a buffer.
+    count: usize,
+}
+
+impl Model for Rows {
+    ghost use Rattle.std.specs.Prelude.{◌-◌, vec_len, vec_capacity};
+    ghost use Rattle.bd_buffers.specs.Rows.{RowsView, AreRows};
+
+    ghost Value = { RowsView };
+
+    ghost view = { λ t. record { rows = t.rows.items; room = vec_capacity t.rows - vec_len t.rows } };
+
+    ghost invariant = { λ t. AreRows t.rows.items t.count };
+}
+
+impl Rows {
+    /// No rows. Takes no memory.
+    pub(crate) fn new(alloc: Global) -> Rows
+        ensures { result.rows ≡ [] }
+    {
+        Rows {
+            rows: Vec::new(alloc),
+            count: 0,
+        }
+    }
+
+    /// How many live buffers there are.
+    pub(crate) fn count(&self) -> usize
+        ensures { result ≡ length (live self.now.rows) }
+    {
+        self.count
+    }
+
+    /// How many rows there are, the empty ones too.
+    pub(crate) fn len(&self) -> usize
+        ensures { result ≡ length self.now.rows }
+    {
+        self.rows.len()
+    }
+
+    /// Makes room for so many more buffers. The empty rows may go.
+    pub(crate) fn reserve(&mut self, more: usize) -> Result<(), AllocError>
+        ensures live { live self.new.rows ≡ live self.old.rows }
+        ensures uses { self.old.room ≤ self.new.room }
+        ensures room { OnOk result (more ≤ self.new.room) }
+        // Memory was asked for: there was no room.
+        ensures grown { OnErr result (self.old.room < more) }
+    {
+        pack(&mut self.rows, self.count);
+        self.rows.reserve(more)
+    }
+
+    /// Whether all live buffers were made before that place.
+    pub(crate) fn is_newest(&self, made: u32) -> bool
+        ensures { IsTrue result ↔ All (λ b. b.made < made) (live self.now.rows) }
+    {
+        match self.rows.last() {
+            None => true,
+            Some(r) => r.made < made,
+        }
+    }
+
+    /// Takes the newest buffer in.
+    pub(crate) fn push(&mut self, buffer: Buffer)
+        requires room { 1 ≤ self.old.room }
+        requires newest { All (λ b. b.made < buffer.made) (live self.old.rows) }
+        ensures live { live self.new.rows ≡ live self.old.rows ++ buffer ∷ [] }
+        ensures room { self.old.room ≤ self.new.room + 1 }
+    {
+        self.count += 1;
+        self.rows.push_reserved(Row {
+            made: buffer.made,
+            buffer: Some(buffer),
+        });
+    }
+
+    /// The index of the row of the buffer made there.
+    pub(crate) fn index_of(&self, made: u32) -> Option<usize>
+        ensures { option_and_then (in_row self.now.rows) result ≡ buffer_in (live self.now.rows) made }
+    {
+        index_among(&self.rows, made)
+    }
+
+    /// The live buffer in a row.
+    pub(crate) fn in_row(&self, i: usize) -> Option<&Buffer>
+        ensures { option_copied result ≡ in_row self.now.rows i }
+    {
+        match self.rows.get(i) {
+            None => None,
+            Some(r) => r.buffer.as_ref(),
+        }
+    }
+
+    /// The live buffer made there.
+    pub(crate) fn made_at(&self, made: u32) -> Option<&Buffer>
+        ensures { option_copied result ≡ buffer_in (live self.now.rows) made }
+    {
+        match self.index_of(made) {
+            None => None,
+            Some(i) => self.in_row(i),
+        }
+    }
+
+    /// Takes the buffer out of a row, if there is one. The other buffers stay in theirs.
+    pub(crate) fn take_at(&mut self, i: usize) -> Option<Buffer>
+        ensures taken { result ≡ in_row self.old.rows i }
+        ensures rest { (j : ℕ) → in_row self.new.rows j
+            ≡ (if i == j then None else in_row self.old.rows j) }
+        ensures live { MatchOption result
+            (live self.new.rows ≡ live self.old.rows)
+            (λ b. IsWithout b (live self.old.rows) (live self.new.rows)) }
+        ensures room { self.old.room ≤ self.new.room }
+    {
+        let buffer = take_from(&mut self.rows, i)?;
+        self.count -= 1;
+        trim(&mut self.rows);
+        Some(buffer)
+    }
+
+    /// Marks the buffer made there as handed out.
+    pub(crate) fn hand_out(&mut self, made: u32)
+        ensures live { live self.new.rows ≡ changed (is_made_at made) hand_out (live self.old.rows) }
+        ensures room { self.old.room ≤ self.new.room }
+    {
+        if let Some(i) = index_among(&self.rows, made) {
+            hand_out_at(&mut self.rows, i);
+        }
+    }
+}

@@ -1,0 +1,24 @@
+-- What is kept of those with a key, in the maps by name and by cookie, and the maps' room.
+use Rattle.std.specs.Prelude.{ℕ, ◌≡◌, ◌<◌, ◌^◌, min, List, All, Option, filter}
+use Rattle.std.specs.HashMap.{get, spare}
+use Rattle.bd_words.specs.Look.{look, word_room}
+use Rattle.bd_space.specs.declared.space.DeathNotification.{DeathNotification}
+use Rattle.bd_deaths.specs.declared.key.Key.{Key}
+use Rattle.bd_deaths.specs.declared.key.Key.TheVariants.{Name, Cookie}
+use Rattle.bd_deaths.specs.declared.key.Group.{Group}
+use Rattle.bd_deaths.specs.declared.sharing.Sharing.{Sharing}
+use Rattle.bd_deaths.specs.Keys.{same_name, has, group}
+
+abbrev pub group_at : Sharing → Key → Option Group
+group_at s (Name k) = get same_name s.names k
+group_at s (Cookie k) = look s.cookies k
+
+-- at each key is what is kept of those that have it
+pub record AreShared (s : Sharing) (l : List DeathNotification) : Type 0 where
+  pub groups : (k : Key) → group_at s k ≡ group (filter (has k) l)
+  -- so that the sum of one is its place
+  pub places : All (λ x. x.made < 2 ^ 32) l
+
+-- each notification has one key of both kinds
+unfoldable pub key_room : Sharing → ℕ
+key_room s = min (spare s.names) (word_room s.cookies)

@@ -1,0 +1,190 @@
+//! What is kept of the notifications with each name, and with each cookie.
+
+ghost use Rattle.std.specs.Prelude.{ℕ, ◌≡◌, ◌≤◌, ◌<◌, ◌+◌, ◌^◌, ◌++◌, ◌∷◌, ◌==◌, ◌&&◌, [], not, if◌then◌else◌};
+ghost use Rattle.std.specs.Prelude.{List, filter, length, slice_index_or, Some, None, OnOk, OnErr};
+ghost use Rattle.std.specs.List.{list_any, remove};
+ghost use Rattle.std.specs.HashMap.{get, spare};
+ghost use Rattle.bd_words.specs.declared.key.WordKey.{WordKey};
+ghost use Rattle.bd_words.specs.Keys.{same_word};
+ghost use Rattle.bd_words.specs.Look.{look, word_room};
+ghost use Rattle.bd_space.specs.declared.space.DeathNotification.{DeathNotification};
+ghost use Rattle.bd_deaths.specs.declared.key.NameKey.{NameKey};
+ghost use Rattle.bd_deaths.specs.Keys as keys;
+ghost use Rattle.bd_deaths.specs.SharedAt.{group_at, AreShared, key_room};
+
+use crate::key::{Group, Key, NameKey, cookie_of, name_of, with_one, without_one};
+use bd_space::DeathNotification;
+use bd_words::{WordKey, WordMap};
+use std::alloc::{AllocError, Global};
+use std::collections::HashMap;
+
+/// What is kept of the notifications with each key.
+#[derive(Drop)]
+pub(crate) struct Sharing {
+    pub(crate) names: HashMap<NameKey, Group>,
+    // A process picks its cookies: whatever it picks, a look stays short.
+    pub(crate) cookies: WordMap<Group>,
+}
+
+/// One more has its name.
+fn add_name(names: &mut HashMap<NameKey, Group>, x: &DeathNotification)
+    requires { 0 < spare names.old }
+    ensures at { (k : NameKey) → get keys.same_name names.new k ≡ (if keys.same_name (keys.name_of x.now) k
+        then Some (keys.with_one x.now.made (get keys.same_name names.old (keys.name_of x.now)))
+        else get keys.same_name names.old k) }
+    ensures room { spare names.old ≤ spare names.new + 1 }
+    ensures fits { x.now.made < 2 ^ 32 }
+{
+    let key = name_of(x);
+    let more = with_one(names.get(&key).copied(), x.made);
+    match names.insert(key, more) {
+        Ok(_) => {}
+        Err(_) => {}
+    }
+}
+
+/// One more has its cookie.
+fn add_cookie(cookies: &mut WordMap<Group>, x: &DeathNotification)
+    requires { 1 ≤ word_room cookies.old }
+    ensures at { (k : WordKey) → look cookies.new k ≡ (if same_word (keys.cookie_of x.now) k
+        then Some (keys.with_one x.now.made (look cookies.old (keys.cookie_of x.now))) else look cookies.old k) }
+    ensures room { word_room cookies.old ≤ word_room cookies.new + 1 }
+{
+    let key = cookie_of(x);
+    let more = with_one(cookies.get(key), x.made);
+    cookies.insert(key, more);
+}
+
+/// These have the name from now on, where some had it.
+fn set_name(names: &mut HashMap<NameKey, Group>, key: NameKey, now: Group)
+    ensures at { (k : NameKey) → get keys.same_name names.new k ≡ (if keys.same_name key k
+        then keys.instead now (get keys.same_name names.old key) else get keys.same_name names.old k) }
+    ensures room { spare names.old ≤ spare names.new }
+{
+    if let Some(x) = names.get_mut(&key) {
+        *x = now;
+    }
+}
+
+/// One less has its name.
+fn take_name(names: &mut HashMap<NameKey, Group>, x: &DeathNotification)
+    ensures at { (k : NameKey) → get keys.same_name names.new k ≡ (if keys.same_name (keys.name_of x.now) k
+        then keys.without_one x.now.made (get keys.same_name names.old (keys.name_of x.now))
+        else get keys.same_name names.old k) }
+    ensures room { spare names.old ≤ spare names.new }
+{
+    let key = name_of(x);
+    match without_one(names.get(&key).copied(), x.made) {
+        Some(now) => set_name(names, key, now),
+        None => {
+            names.remove(&key);
+        }
+    }
+}
+
+/// One less has its cookie.
+fn take_cookie(cookies: &mut WordMap<Group>, x: &DeathNotification)
+    ensures at { (k : WordKey) → look cookies.new k ≡ (if same_word (keys.cookie_of x.now) k
+        then keys.without_one x.now.made (look cookies.old (keys.cookie_of x.now))
+        else look cookies.old k) }
+    ensures room { word_room cookies.old ≤ word_room cookies.new }
+{
+    let key = cookie_of(x);
+    match without_one(cookies.get(key), x.made) {
+        Some(now) => cookies.set(key, now),
+        None => {
+            cookies.remove(key);
+        }
+    }
+}
+
+/// No notification of the process has a name from now on.
+fn drop_names(names: &mut HashMap<NameKey, Group>, p: u32)
+    ensures at { (k : NameKey) → get keys.same_name names.new k
+        ≡ (if k.process == p then None else get keys.same_name names.old k) }
+    ensures room { spare names.old ≤ spare names.new }
+{
+    names.retain(|k, _| k.process != p);
+}
+
+/// The cookies go that the process has among these notifications.
+fn drop_cookies(cookies: &mut WordMap<Group>, deaths: &[DeathNotification], p: u32)
+    ensures at { (k : WordKey) → look cookies.new k
+        ≡ (if list_any (λ x. (x.process == p) && same_word (keys.cookie_of x) k) deaths.now then None
+        else look cookies.old k) }
+    ensures room { word_room cookies.old ≤ word_room cookies.new }
+{
+    for x in deaths {
+        if x.process == p {
+            cookies.remove(cookie_of(x));
+        }
+    }
+}
+
+impl Sharing {
+    /// No notification has any key.
+    pub(crate) fn new(alloc: Global) -> Sharing
+        ensures { AreShared result [] }
+    {
+        Sharing {
+            names: HashMap::new(alloc),
+            cookies: WordMap::new(alloc),
+        }
+    }
+
+    /// Makes room for the keys of so many more. Changes nothing else.
+    #[tactic(auto, unfolding(crate::specs::SharedAt::key_room))]
+    pub(crate) fn reserve(&mut self, more: usize) -> Result<(), AllocError>
+        ensures stands { (l : List DeathNotification) → AreShared self.old l → AreShared self.new l }
+        ensures uses { key_room self.old ≤ key_room self.new }
+        ensures room { OnOk result (more ≤ key_room self.new) }
+        ensures grown { OnErr result (more ≤ key_room self.old → ⊥) }
+    {
+        self.names.reserve(more)?;
+        self.cookies.reserve(more)
+    }
+
+    /// What is kept of those with the key.
+    pub(crate) fn at(&self, key: Key) -> Option<Group>
+        ensures { result ≡ group_at self.now key }
+    {
+        match key {
+            Key::Name(k) => self.names.get(&k).copied(),
+            Key::Cookie(k) => self.cookies.get(k),
+        }
+    }
+
+    /// One notification more, after the others.
+    #[tactic(auto, unfolding(crate::specs::SharedAt::key_room))]
+    pub(crate) fn add(&mut self, x: &DeathNotification)
+        requires { 1 ≤ key_room self.old }
+        ensures stands { (l : List DeathNotification) → AreShared self.old l → length l + 1 < 2 ^ 64
+            → AreShared self.new (l ++ x.now ∷ []) }
+        ensures room { key_room self.old ≤ key_room self.new + 1 }
+    {
+        add_name(&mut self.names, x);
+        add_cookie(&mut self.cookies, x);
+    }
+
+    /// One notification less.
+    #[tactic(auto, unfolding(crate::specs::SharedAt::key_room))]
+    pub(crate) fn take(&mut self, x: &DeathNotification)
+        ensures stands { (l : List DeathNotification) (i : ℕ) → AreShared self.old l → i < length l
+            → slice_index_or l i x.now ≡ x.now → AreShared self.new (remove l i) }
+        ensures room { key_room self.old ≤ key_room self.new }
+    {
+        take_name(&mut self.names, x);
+        take_cookie(&mut self.cookies, x);
+    }
+
+    /// Of these notifications, those of the process go.
+    #[tactic(auto, unfolding(crate::specs::SharedAt::key_room))]
+    pub(crate) fn drop_process(&mut self, deaths: &[DeathNotification], p: u32)
+        ensures stands { AreShared self.old deaths.now
+            → AreShared self.new (filter (λ x. not (x.process == p)) deaths.now) }
+        ensures room { key_room self.old ≤ key_room self.new }
+    {
+        drop_names(&mut self.names, p);
+        drop_cookies(&mut self.cookies, deaths, p);
+    }
+}

@@ -1,0 +1,48 @@
+-- Between two steps a thread's innermost frame is its newest.
+use Rattle.std.proofs.Common.{◌≡◌, Bool, true, false, cond, List, [], ◌∷◌, ◌++◌, filter, find, reverse, Option, Some, None, refl, ap, sym, ◌∙◌}
+use Rattle.std.proofs.lemmas.List.{reverse-append}
+use Rattle.bd_space.specs.declared.space.Frame.{Frame}
+use Rattle.bd_space.specs.Frames.{takes_part}
+use Rattle.bd_space.specs.Space.{Space}
+use Rattle.bd_calls.specs.Stacked.{IsStacked}
+use Rattle.bd_laws.specs.Stacks.{last_of}
+use Rattle.bd_laws.specs.Tidy.{IsTidy}
+use Rattle.bd_laws.proofs.Stacks.{innermost-last}
+
+abbrev or_else : Option Frame → Option Frame → Option Frame
+or_else None o = o
+or_else (Some f) o = Some f
+
+or-none : (o : Option Frame) → or_else o None ≡ o
+or-none None = refl
+or-none (Some f) = refl
+
+last-more : (f : Frame) (fs : List Frame) → last_of (f ∷ fs) ≡ or_else (last_of fs) (Some f)
+last-more f [] = refl
+last-more f (g ∷ gs) = let e = last-more g gs in e ∙ sym (kept (last_of gs)) ∙ ap (λ o. or_else o (Some f)) (sym e)
+  where
+    kept : (o : Option Frame) → or_else (or_else o (Some g)) (Some f) ≡ or_else o (Some g)
+    kept None = refl
+    kept (Some x) = refl
+
+module _ (p : Frame → Bool) where
+  find-push : (fs : List Frame) (f : Frame) → find p (fs ++ f ∷ []) ≡ or_else (find p fs) (cond (p f) (Some f) None)
+  find-push [] f = refl
+  find-push (g ∷ gs) f = at (p g) (find-push gs f)
+    where
+      at : (b : Bool) → find p (gs ++ f ∷ []) ≡ or_else (find p gs) (cond (p f) (Some f) None)
+          → cond b (Some g) (find p (gs ++ f ∷ [])) ≡ or_else (cond b (Some g) (find p gs)) (cond (p f) (Some f) None)
+      at true h = refl
+      at false h = h
+
+  -- the last of those that pass is the first from behind
+  last-newest : (fs : List Frame) → last_of (filter p fs) ≡ find p (reverse fs)
+  last-newest [] = refl
+  last-newest (f ∷ fs) = at (p f) (last-newest fs) ∙ sym (find-push (reverse fs) f) ∙ ap (find p) (sym (reverse-append (f ∷ []) fs))
+    where
+      at : (b : Bool) → last_of (filter p fs) ≡ find p (reverse fs) → last_of (cond b (f ∷ filter p fs) (filter p fs)) ≡ or_else (find p (reverse fs)) (cond b (Some f) None)
+      at true h = last-more f (filter p fs) ∙ ap (λ o. or_else o (Some f)) h
+      at false h = h ∙ sym (or-none (find p (reverse fs)))
+
+pub tidy-stacked : (s : Space) → IsTidy s → IsStacked s
+tidy-stacked s tidy seat = innermost-last s tidy seat ∙ last-newest (takes_part seat) s.frames

@@ -1,0 +1,4 @@
+pub mod Keys
+pub mod Pids
+pub mod Rising
+pub mod Found

@@ -1,0 +1,41 @@
+//! Processes that open and end.
+
+ghost use Rattle.std.specs.Prelude.{◌≡◌, ◌==◌, ◌≤◌, ◌+◌, ◌++◌, ◌∷◌, [], true, not, filter, List};
+ghost use Rattle.bd_space.specs.Steps.{is_pid};
+
+use crate::list::index_of;
+use crate::table::{ProcessTable, pid_key};
+use bd_space::Process;
+
+impl ProcessTable {
+    ghost use Rattle.bd_space.specs.declared.space.Process.{Process};
+    ghost use Rattle.bd_processes.specs.New.{IsNewIn};
+    ghost use Rattle.bd_processes.specs.Stands.{ProcessesAre};
+    ghost use Rattle.bd_processes.specs.Room.{process_room};
+
+    /// One more, opened after the others. Takes no memory.
+    #[tactic(auto, unfolding(crate::specs::Room::process_room))]
+    pub fn add(&mut self, process: Process)
+        requires room { 1 ≤ process_room self.old }
+        requires pid { is_pid process.pid ≡ true }
+        ensures stands { (processes : List Process) → ProcessesAre self.old processes → IsNewIn processes process
+            → ProcessesAre self.new (processes ++ process ∷ []) }
+        ensures uses { process_room self.old ≤ process_room self.new + 1 }
+    {
+        self.by_pid.insert(pid_key(process.pid), process.made);
+        self.list.push_reserved(process);
+    }
+
+    /// All but this one stay.
+    #[tactic(auto, unfolding(crate::specs::Room::process_room))]
+    pub fn remove(&mut self, made: u32)
+        ensures stands { (processes : List Process) → ProcessesAre self.old processes
+            → ProcessesAre self.new (filter (λ q. not (q.made == made)) processes) }
+        ensures uses { process_room self.old ≤ process_room self.new }
+    {
+        if let Some(i) = index_of(self.list.as_slice(), made) {
+            let process = self.list.remove(i);
+            self.by_pid.remove(pid_key(process.pid));
+        }
+    }
+}

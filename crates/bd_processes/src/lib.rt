@@ -1,0 +1,9 @@
+//! The live processes, found by identity and by pid.
+#![tactic(auto)]
+
+mod change;
+mod list;
+mod look;
+mod table;
+
+pub use table::ProcessTable;

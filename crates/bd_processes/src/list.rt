@@ -1,0 +1,34 @@
+//! Processes in a list in which identities rise.
+
+ghost use Rattle.std.specs.Prelude.{◌≡◌, ◌<◌, ◌==◌, true, false, All, IfSome, MatchOption, length, slice_index_or};
+ghost use Rattle.std.specs.List.{list_all};
+ghost use Rattle.bd_space.specs.Seats as seats;
+ghost use Rattle.bd_space.specs.Steps.{is_pid};
+ghost use Rattle.bd_space.specs.declared.space.Process.{Process};
+ghost use Rattle.bd_processes.specs.Order.{IsRising};
+
+use bd_space::Process;
+
+/// The index of the process with this identity. Found by halves.
+pub(crate) fn index_of(processes: &[Process], made: u32) -> Option<usize>
+    ensures within { IfSome result (λ i. i < length processes.now) }
+    ensures found { IsRising processes.now → MatchOption result
+        (All (λ q. (q.made == made) ≡ false) processes.now)
+        (λ i. (d : Process) → (slice_index_or processes.now i d).made ≡ made) }
+{
+    let i = processes.partition_point(|q| q.made < made);
+    if i < processes.len() && processes[i].made == made {
+        Some(i)
+    } else {
+        None
+    }
+}
+
+/// The process with this identity.
+pub(crate) fn made_at(processes: &[Process], made: u32) -> Option<Process>
+    ensures found { IsRising processes.now → result ≡ seats.process_in processes.now made }
+    ensures pid { list_all (λ q. is_pid q.pid) processes.now ≡ true → IfSome result (λ q. is_pid q.pid ≡ true) }
+{
+    let i = index_of(processes, made)?;
+    Some(processes[i])
+}

@@ -1,0 +1,40 @@
+//! Looking at the processes.
+
+ghost use Rattle.std.specs.Prelude.{◌≡◌, true, List, IfSome};
+ghost use Rattle.bd_space.specs.Seats as seats;
+ghost use Rattle.bd_space.specs.Steps.{is_pid};
+
+use crate::list;
+use crate::table::{ProcessTable, pid_key};
+use bd_space::Process;
+
+impl ProcessTable {
+    ghost use Rattle.bd_space.specs.declared.space.Process.{Process};
+    ghost use Rattle.bd_processes.specs.Stands.{ProcessesAre};
+
+    /// The process with this identity.
+    pub fn made_at(&self, made: u32) -> Option<Process>
+        ensures found { (processes : List Process) → ProcessesAre self.now processes
+            → result ≡ seats.process_in processes made }
+        ensures pid { IfSome result (λ q. is_pid q.pid ≡ true) }
+    {
+        list::made_at(self.list.as_slice(), made)
+    }
+
+    /// The process with this pid.
+    pub fn with_pid(&self, pid: u32) -> Option<Process>
+        ensures { (processes : List Process) → ProcessesAre self.now processes
+            → result ≡ seats.process_with_pid processes pid }
+    {
+        let made = self.by_pid.get(pid_key(pid))?;
+        self.made_at(made)
+    }
+
+    /// Whether the process with this identity lives.
+    pub fn lives(&self, made: u32) -> bool
+        ensures { (processes : List Process) → ProcessesAre self.now processes
+            → result ≡ seats.lives_in processes made }
+    {
+        self.made_at(made).is_some()
+    }
+}

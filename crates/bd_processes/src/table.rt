@@ -1,0 +1,59 @@
+//! The table, and its memory.
+
+ghost use Rattle.std.specs.Prelude.{◌≡◌, ◌≤◌, [], true, OnOk, OnErr};
+ghost use Rattle.std.specs.List.{list_all};
+ghost use Rattle.bd_space.specs.Steps.{is_pid};
+ghost use Rattle.bd_processes.specs.Keys as keys;
+
+use bd_space::Process;
+use bd_words::{WordKey, WordMap};
+use std::alloc::{AllocError, Global};
+
+/// The live processes.
+#[derive(Drop)]
+pub struct ProcessTable {
+    // In the order in which they were opened, so that an identity is found by halves.
+    pub(crate) list: Vec<Process>,
+    // Each one's identity, by its pid. Peers choose the pids.
+    pub(crate) by_pid: WordMap<u32>,
+    // No pid is out of range.
+    ghost pids_fit: { list_all (λ q. is_pid q.pid) list.items ≡ true },
+}
+
+/// By what a pid is found. Pids are of no process.
+pub(crate) fn pid_key(pid: u32) -> WordKey
+    ensures { result ≡ keys.pid_key pid }
+{
+    WordKey {
+        process: 0,
+        word: pid as u64,
+    }
+}
+
+impl ProcessTable {
+    ghost use Rattle.bd_processes.specs.Stands.{ProcessesAre, IsKept};
+    ghost use Rattle.bd_processes.specs.Room.{process_room};
+
+    /// No process. Takes no memory.
+    pub fn new(alloc: Global) -> ProcessTable
+        ensures { ProcessesAre result [] }
+    {
+        ProcessTable {
+            list: Vec::new(alloc),
+            by_pid: WordMap::new(alloc),
+        }
+    }
+
+    /// Makes room for one more. Changes nothing else, also on an `Err`.
+    #[tactic(auto, unfolding(crate::specs::Room::process_room))]
+    pub fn reserve(&mut self) -> Result<(), AllocError>
+        ensures stands { IsKept self.old self.new }
+        ensures uses { process_room self.old ≤ process_room self.new }
+        ensures room { OnOk result (1 ≤ process_room self.new) }
+        // Memory was asked for: there was no room.
+        ensures grown { OnErr result (process_room self.old ≡ 0) }
+    {
+        self.list.reserve(1)?;
+        self.by_pid.reserve(1)
+    }
+}

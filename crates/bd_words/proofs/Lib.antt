@@ -1,0 +1,5 @@
+pub mod Keys
+pub mod Places
+pub mod Walks
+pub mod Hanging
+pub mod Looks

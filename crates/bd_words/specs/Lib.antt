@@ -1,0 +1,5 @@
+pub mod Keys
+pub mod Walk
+pub mod Tree
+pub mod Room
+pub mod Look

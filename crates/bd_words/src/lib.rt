@@ -1,0 +1,11 @@
+//! Values found by process and word (a ptr, a cookie, a pointer, a pid): whoever chooses the words, no look-up takes
+//! more than about a hundred steps.
+#![tactic(auto)]
+
+mod key;
+mod map;
+mod node;
+mod tree;
+
+pub use key::WordKey;
+pub use map::WordMap;
