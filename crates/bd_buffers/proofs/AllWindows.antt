@@ -1,11 +1,11 @@
 -- The windows of all live processes through each change.
-use Rattle.std.proofs.Common.{◌≡◌, ◌≢◌, ℕ, zero, suc, ◌+◌, ◌<◌, ◌≤◌, Bool, true, false, cond, List, [], ◌∷◌, ◌++◌, length, get_or, set, take, drop, map, refl, ap, sym, ◌∙◌, arith, subst, All, eq-eqb, ne_eqb, Some, None, Ok, Err, nat_lt, rules, tests}
-use Rattle.std.specs.Prelude.{◌==◌, ◌||◌, not, filter, find, Option, AllPairs, option_map, IfOk, IfSome, Result}
+use Rattle.std.proofs.Common.{◌≡◌, ◌≢◌, ℕ, zero, suc, ◌+◌, ◌<◌, ◌≤◌, Bool, true, false, cond, List, [], ◌∷◌, ◌++◌, length, get_or, set, map, refl, ap, sym, ◌∙◌, arith, subst, All, eq-eqb, ne_eqb, Some, None, Ok, Err, nat_lt, rules, tests}
+use Rattle.std.specs.Prelude.{◌==◌, ◌||◌, not, filter, find, Option, AllPairs, option_map, IfOk, Result}
 use Rattle.std.specs.List.{position, position_or_len}
 use Rattle.bd_uapi.specs.declared.fault.Cause.{Cause}
 use Rattle.std.proofs.lemmas.Bool.{false≢true, eqb-true}
 use Rattle.std.proofs.lemmas.List.{map_push, map-set, get_or-map, length-map}
-use Rattle.std.proofs.lemmas.List.Elements.{All-head, All-tail, All-filter}
+use Rattle.std.proofs.lemmas.List.Elements.{All-head, All-tail, All-filter, All-weaker}
 use Rattle.std.proofs.lemmas.List.Folds.{find-set}
 use Rattle.std.proofs.lemmas.List.Sums.{position_or_len_is}
 use Rattle.std.proofs.lemmas.List.Quantifiers.{position-Some}
@@ -22,29 +22,21 @@ use Rattle.bd_space.specs.Freeing.{is_made_at}
 use Rattle.bd_space.specs.Returns.{buffer_in}
 use Rattle.bd_space.specs.ReadItems.{hand_out, handed_buffers}
 use Rattle.bd_buffers.specs.declared.window.Window.{Window}
-use Rattle.bd_buffers.specs.declared.windows.OwnedWindow.{OwnedWindow}
+use Rattle.bd_buffers.specs.declared.owned.OwnedWindow.{OwnedWindow}
 use Rattle.bd_buffers.specs.declared.windows.Windows.{Windows}
-use Rattle.bd_buffers.specs.Homes.{home_key, AreHomes}
+use Rattle.bd_buffers.specs.Homes.{home_key, AreHomes, Forgets}
 use Rattle.bd_buffers.specs.Owners.{AreInOrder}
 use Rattle.bd_buffers.specs.Window as single
-use Rattle.bd_buffers.specs.WindowsStand.{ProcessWindow, seen, window_of, with_buffers, is_owned_by, is_of, WindowsOf, Stands, room_of, CanHoldIn, made_of_buffer}
-use Rattle.bd_space.proofs.Changed.{mapped-next}
+use Rattle.bd_buffers.specs.WindowsStand.{ProcessWindow, seen, window_of, with_buffers, is_owned_by, is_of, WindowsOf, Stands, room_of, buffers_held, CanHoldIn, made_of_buffer}
 use Rattle.bd_buffers.proofs.Changes.{pairs_head, pairs_tail, found_has, none_found}
-use Rattle.bd_buffers.proofs.Homes.{homes_handed, home_finds, others_home}
-use Rattle.bd_buffers.proofs.Made.{Rising, distinct, changed_at, changed_none, find_none}
+use Rattle.bd_buffers.proofs.Homes.{homes_handed, homes_closed, home_finds}
+use Rattle.bd_buffers.proofs.Made.{Rising, distinct, changed_at, changed_none}
 use Rattle.bd_buffers.proofs.InSpace.{added, added_elsewhere, kept_in, handed_in, others_stay}
-use Rattle.bd_buffers.proofs.Order.{All-filtered, lives_below, process_made, buffer_made, made_kept, made_handed, process_gone}
+use Rattle.bd_buffers.proofs.Order.{lives_below, process_made, buffer_made, made_kept, made_handed, process_gone}
 
 -- a window that stands for these buffers now
 pub seen_as : (w old : OwnedWindow) (f : List Buffer → List Buffer) → w.owner ≡ old.owner → Stands w.window old.window.size (f old.window.buffers) → seen w ≡ with_buffers f (seen old)
 seen_as w old f e is = let size = is.size_is in let buffers = is.buffers_are in cc
-
-pub each_next : (f : ProcessWindow → ProcessWindow) (init ws : List OwnedWindow) (i : ℕ) (d w : OwnedWindow)
-    → map seen ws ≡ map f (take i (map seen init)) ++ drop i (map seen init) → i < length init → seen w ≡ f (seen (get_or ws i d))
-    → map seen (set ws i w) ≡ map f (take (i + 1) (map seen init)) ++ drop (i + 1) (map seen init)
-each_next f init ws i d w e h is =
-    map-set seen ws i w
-    ∙ mapped-next f (map seen init) (map seen ws) i (seen d) (seen w) e (omega (arith, length-map init seen)) (is ∙ ap f (sym (list.get_or-map seen ws i d)))
 
 -- ---- what the windows are after each change
 
@@ -80,12 +72,17 @@ module _ {A B : Type 0} (f : A → B) (r : B → Bool) where
 not_received : (b : Buffer) (p : ℕ) → b.receiver < p → (b.receiver == p) ≡ false
 not_received b p lt = ne_eqb b.receiver p (λ e. absurd (omega (arith, e)))
 
+-- a process receives nothing where each buffer is another's
+none_to : (p : ℕ) (bs : List Buffer) → All (λ b. (b.receiver == p) ≡ false) bs → buffers_of bs p ≡ []
+none_to p [] all = refl
+none_to p (b ∷ bs) all =
+    let P : Buffer → Type 0 = λ x. (x.receiver == p) ≡ false in
+    ap (λ k. cond k (b ∷ buffers_of bs p) (buffers_of bs p)) (All-head P b bs all) ∙ none_to p bs (All-tail P b bs all)
+
 none_for : (ps : List Process) (bound : ℕ) (bs : List Buffer) → All (λ q. q.made < bound) ps → All (λ (b : Buffer). lives_in ps b.receiver ≡ true) bs → buffers_of bs bound ≡ []
-none_for ps bound [] before all = refl
-none_for ps bound (b ∷ bs) before all =
-    let P : Buffer → Type 0 = λ x. lives_in ps x.receiver ≡ true in
-    ap (λ k. cond k (b ∷ buffers_of bs bound) (buffers_of bs bound)) (not_received b bound (lives_below ps bound b.receiver before (All-head P b bs all)))
-    ∙ none_for ps bound bs before (All-tail P b bs all)
+none_for ps bound bs before all =
+    none_to bound bs (All-weaker (λ (b : Buffer). lives_in ps b.receiver ≡ true) (λ b. (b.receiver == bound) ≡ false)
+    (λ b lives. not_received b bound (lives_below ps bound b.receiver before lives)) bs all)
 
 pub opened : (t u : Windows) (bound : ℕ) (ps : List Process) (bs : List Buffer) (q : Process) (w : OwnedWindow) → q.made ≡ bound → w.owner ≡ q.made → Stands w.window q.window []
     → u.windows ≡ t.windows ++ w ∷ [] → u.homes ≡ t.homes → WindowsOf t bound ps bs → WindowsOf u (bound + 1) (ps ++ q ∷ []) bs
@@ -352,7 +349,7 @@ looked_up t bound made p ps bs w stands home found = by_process (process_in ps p
     by_process None e = absurd (owner_gone t bound p ps bs w stands e found)
     by_process (Some q) e =
         let own = owner_found t bound p ps bs q w stands e found in
-        ap (λ xs. buffer_in xs made) own.buffers_are ∙ ap (λ m. buffer_in (buffers_of bs m) made) (is_process ps p q e) ∙ home_finds t.homes bs made p stands.homes_are home
+        ap (λ xs. buffer_in xs made) own.buffers_are ∙ ap (λ m. buffer_in (buffers_of bs m) made) (is_process ps p q e) ∙ home_finds t.homes bs made p stands.made.buffers_in_order stands.homes_are home
 
 pub looked_past : (t : Windows) (bound made p : ℕ) (ps : List Process) (bs : List Buffer) → WindowsOf t bound ps bs → look t.homes (home_key made) ≡ Some p
     → find (is_owned_by p) t.windows ≡ None → buffer_in bs made ≡ None
@@ -366,34 +363,31 @@ looked_past t bound made p ps bs stands home missed = by_process (process_in ps 
         by_buffer None f = refl
         by_buffer (Some b) f =
             let lives = found_has (λ (x : Buffer). lives_in ps x.receiver ≡ true) (is_made_at made) bs b f stands.made.received in
-            let there = found_has (λ (x : Buffer). look t.homes (home_key x.made) ≡ Some x.receiver) (is_made_at made) bs b f stands.homes_are in
-            let home' : look t.homes (home_key made) ≡ Some b.receiver = subst (λ k. look t.homes (home_key k) ≡ Some b.receiver) (eqb-true b.made made there.1) there.0 in
+            let there : Some p ≡ Some b.receiver = sym home ∙ stands.homes_are made ∙ ap (option_map (λ (x : Buffer). x.receiver)) f in
             let same : b.receiver ≡ p = cc in
             absurd (false≢true (sym (not_living ps p e) ∙ ap (lives_in ps) (sym same) ∙ lives.0))
 
--- the homes of all others stay where one process's buffers lose theirs
-pub homes_left : (t : Windows) (bound p : ℕ) (ps : List Process) (bs : List Buffer) (left : WordMap ℕ) → WindowsOf t bound ps bs
-    → ((m : ℕ) → IfSome (find (is_owned_by p) t.windows) (λ w. buffer_in w.window.buffers m ≡ None) → look left (home_key m) ≡ look t.homes (home_key m))
-    → AreHomes left (filter (λ b. not (b.receiver == p)) bs)
-homes_left t bound p ps bs left stands same =
-    All-filtered (λ b. not (b.receiver == p)) (λ b. look t.homes (home_key b.made) ≡ Some b.receiver) (λ b. look left (home_key b.made) ≡ Some b.receiver) stays bs stands.homes_are
+-- who doesn't live receives nothing
+none_received : (ps : List Process) (p : ℕ) (bs : List Buffer) → process_in ps p ≡ None → All (λ (b : Buffer). lives_in ps b.receiver ≡ true) bs → buffers_of bs p ≡ []
+none_received ps p bs gone all =
+    none_to p bs (All-weaker (λ (b : Buffer). lives_in ps b.receiver ≡ true) (λ b. (b.receiver == p) ≡ false)
+    (λ b lives. ne_eqb b.receiver p (λ e. false≢true (sym (not_living ps p gone) ∙ ap (lives_in ps) (sym e) ∙ lives))) bs all)
+
+held : (t : Windows) (bound p : ℕ) (ps : List Process) (bs : List Buffer) → WindowsOf t bound ps bs → buffers_held (find (is_owned_by p) t.windows) ≡ buffers_of bs p
+held t bound p ps bs stands = by_window (find (is_owned_by p) t.windows) (process_in ps p) refl refl
   where
-    stays : (b : Buffer) → not (b.receiver == p) ≡ true → look t.homes (home_key b.made) ≡ Some b.receiver → look left (home_key b.made) ≡ Some b.receiver
-    stays b other h = same b.made (nowhere (find (is_owned_by p) t.windows) refl) ∙ h
-      where
-        differs : (q : Process) → process_in ps p ≡ Some q → q.made ≢ b.receiver
-        differs q f e = false≢true (sym (ap not (eq-eqb b.receiver p (sym e ∙ is_process ps p q f))) ∙ other)
+    by_window : (o : Option OwnedWindow) (r : Option Process) → find (is_owned_by p) t.windows ≡ o → process_in ps p ≡ r → buffers_held o ≡ buffers_of bs p
+    by_window None None e f = sym (none_received ps p bs f stands.made.received)
+    by_window None (Some q) e f = absurd (owner_missed t bound p ps bs q stands f e)
+    by_window (Some w) None e f = absurd (owner_gone t bound p ps bs w stands f e)
+    by_window (Some w) (Some q) e f = (owner_found t bound p ps bs q w stands f e).buffers_are ∙ ap (buffers_of bs) (is_process ps p q f)
 
-        by_process : (w : OwnedWindow) (o : Option Process) → find (is_owned_by p) t.windows ≡ Some w → process_in ps p ≡ o → buffer_in w.window.buffers b.made ≡ None
-        by_process w None e f = absurd (owner_gone t bound p ps bs w stands f e)
-        by_process w (Some q) e f =
-            let own = owner_found t bound p ps bs q w stands f e in
-            ap (λ xs. buffer_in xs b.made) own.buffers_are
-            ∙ find_none (λ (x : Buffer). x.made) b.made (buffers_of bs q.made) (others_home t.homes bs b.made b.receiver q.made stands.homes_are h (differs q f))
-
-        nowhere : (o : Option OwnedWindow) → find (is_owned_by p) t.windows ≡ o → IfSome o (λ w. buffer_in w.window.buffers b.made ≡ None)
-        nowhere None e = tt
-        nowhere (Some w) e = by_process w (process_in ps p) e refl
+-- the homes left where those of one process's buffers go
+pub homes_left : (t : Windows) (bound p : ℕ) (ps : List Process) (bs : List Buffer) (left : WordMap ℕ) → WindowsOf t bound ps bs
+    → Forgets (buffers_held (find (is_owned_by p) t.windows)) t.homes left → AreHomes left (filter (λ b. not (b.receiver == p)) bs)
+homes_left t bound p ps bs left stands gone =
+    let P : List Buffer → Type 0 = λ xs. Forgets xs t.homes left in
+    homes_closed t.homes left bs p stands.made.buffers_in_order stands.homes_are (subst P (held t bound p ps bs stands) gone)
 
 -- ---- a change of one window
 
@@ -444,9 +438,6 @@ pub can_hold_nowhere : (t : Windows) (p : ℕ) (one_way : Bool) (size start : �
 can_hold_nowhere t p one_way size start missed can =
     let P : Option ProcessWindow → Type 0 = λ o. CanHoldIn o one_way size start in
     subst P (find_map seen (is_of p) t.windows ∙ ap (option_map seen) missed) can
-
-pub room_of_none : (t : Windows) (p : ℕ) → find (is_owned_by p) t.windows ≡ None → 1 ≤ room_of (find (is_owned_by p) t.windows)
-room_of_none t p e = let is : room_of (find (is_owned_by p) t.windows) ≡ 1 = ap room_of e in omega (arith, is)
 
 pub fits_whole : (size : ℕ) (bs : List Buffer) (n : ℕ) (r : Result ℕ Cause) → single.IsWindow size bs → IfOk r (λ p. single.IsLeastFree size bs n p) → IfOk r (λ p. n ≤ 4194304)
 fits_whole size bs n (Ok p) is least = let inside = least.room.inside in let small = is.small in omega (arith, inside, small)

@@ -1,109 +1,164 @@
 -- Buffers by where they were made.
-use Rattle.std.proofs.Common.{◌≡◌, ◌≢◌, ℕ, Bool, true, false, cond, List, [], ◌∷◌, ◌++◌, Some, None, refl, ap, sym, ◌∙◌, subst, All, ne_eqb, eq-eqb, not, ◌<◌, get_or, arith}
-use Rattle.std.specs.Prelude.{◌==◌, filter}
-use Rattle.std.proofs.lemmas.Bool.{false≢true, eqb-true}
-use Rattle.std.proofs.lemmas.List.Elements.{All-head, All-tail, All-weaker, All-push}
+use Rattle.std.proofs.Common.{◌≡◌, ◌≢◌, ℕ, zero, suc, ◌+◌, ◌<◌, Bool, true, false, cond, List, [], ◌∷◌, ◌++◌, get_or, take, refl, ap, sym, ◌∙◌, arith, All, subst, eq-eqb, ne_eqb, inl, inr}
+use Rattle.std.specs.Prelude.{◌==◌, not, find, filter, Some, None, Option, option_map}
+use Rattle.std.specs.List.{cons_option}
+use Rattle.std.specs.Option.{is_some, option_or, option_to_list}
+use Rattle.std.proofs.lemmas.Bool.{eqb-true, eqb-false}
+use Rattle.std.proofs.lemmas.List.{append-nil}
+use Rattle.std.proofs.lemmas.List.Elements.{All-filter}
+use Rattle.std.proofs.lemmas.List.Folds.{find-append}
 use Rattle.bd_words.specs.declared.key.WordKey.{WordKey}
 use Rattle.bd_words.specs.declared.map.WordMap.{WordMap}
 use Rattle.bd_words.specs.Keys.{same_word}
 use Rattle.bd_words.specs.Look.{look}
-use Rattle.bd_words.proofs.Keys.{word-self}
 use Rattle.bd_space.specs.declared.space.Buffer.{Buffer}
 use Rattle.bd_space.specs.Words.{changed}
 use Rattle.bd_space.specs.Windows.{buffers_of}
 use Rattle.bd_space.specs.Freeing.{is_made_at}
 use Rattle.bd_space.specs.Returns.{buffer_in}
 use Rattle.bd_space.specs.ReadItems.{hand_out}
-use Rattle.bd_buffers.specs.Homes.{home_key, AreHomes}
-use Rattle.bd_buffers.proofs.Changes.{All-changed}
-use Rattle.bd_buffers.proofs.Listed.{key_word}
-use Rattle.bd_buffers.proofs.Order.{All-filtered}
+use Rattle.bd_buffers.specs.declared.rows.Row.{Row}
+use Rattle.bd_buffers.specs.Homes.{home_key, AreHomes, Forgets}
+use Rattle.bd_buffers.specs.Rows.{live, in_row}
+use Rattle.bd_buffers.proofs.Changes.{none_found}
+use Rattle.bd_buffers.proofs.Fits.{cases_bool}
+use Rattle.bd_buffers.proofs.Listed.{key_word, told_handed}
+use Rattle.bd_buffers.proofs.Made.{Rising, distinct, kept, find_kept, find_beside, find_new, find_gone, find_stays, none_of}
 
 -- no buffer was made there
 abbrev pub NoneAt : ℕ → List Buffer → Type 0
 NoneAt m bs = All (λ b. (b.made == m) ≡ false) bs
 
-abbrev at_home : WordMap ℕ → Buffer → Type 0
-at_home homes b = look homes (home_key b.made) ≡ Some b.receiver
+abbrev pub made_of : Buffer → ℕ
+made_of b = b.made
 
-home_of : (homes : WordMap ℕ) (b : Buffer) (m : ℕ) → b.made ≡ m → at_home homes b → look homes (home_key m) ≡ Some b.receiver
-home_of homes b m e h = subst (λ k. look homes (home_key k) ≡ Some b.receiver) e h
+abbrev home_of : Option Buffer → Option ℕ
+home_of o = option_map (λ (b : Buffer). b.receiver) o
+
+-- what of the buffer made there is among those kept
+found_kept : (keep : Buffer → Bool) (bs : List Buffer) (m : ℕ) → Rising made_of bs → buffer_in (filter keep bs) m ≡ kept keep (buffer_in bs m)
+found_kept keep bs m rising = find_kept made_of keep m bs (distinct made_of bs rising)
 
 -- ---- where there is no home, or another's
 
 pub none_home : (homes : WordMap ℕ) (bs : List Buffer) (m : ℕ) → AreHomes homes bs → look homes (home_key m) ≡ None → NoneAt m bs
-none_home homes bs m are none =
-    All-weaker (at_home homes) (λ b. (b.made == m) ≡ false) (λ b h. ne_eqb b.made m (λ e. (let there = home_of homes b m e h in absurd (cc)))) bs are
+none_home homes bs m are none = none_found (is_made_at m) bs (sym (none_of (λ (b : Buffer). b.receiver) (buffer_in bs m) (sym none ∙ are m)))
 
-pub others_home : (homes : WordMap ℕ) (bs : List Buffer) (m p r : ℕ) → AreHomes homes bs → look homes (home_key m) ≡ Some p → r ≢ p → NoneAt m (buffers_of bs r)
-others_home homes bs m p r are home other =
-    All-filtered (λ b. b.receiver == r) (at_home homes) (λ b. (b.made == m) ≡ false) differs bs are
+pub others_home : (homes : WordMap ℕ) (bs : List Buffer) (m p r : ℕ) → Rising made_of bs → AreHomes homes bs → look homes (home_key m) ≡ Some p → r ≢ p → NoneAt m (buffers_of bs r)
+others_home homes bs m p r rising are home other =
+    none_found (is_made_at m) (buffers_of bs r) (found_kept (λ b. b.receiver == r) bs m rising ∙ elsewhere (buffer_in bs m) (sym home ∙ are m))
   where
-    differs : (b : Buffer) → (b.receiver == r) ≡ true → at_home homes b → (b.made == m) ≡ false
-    differs b own h = ne_eqb b.made m (λ e. (let there = home_of homes b m e h in let same : b.receiver ≡ p = cc in other (sym (eqb-true b.receiver r own) ∙ same)))
+    elsewhere : (o : Option Buffer) → Some p ≡ home_of o → kept (λ b. b.receiver == r) o ≡ None
+    elsewhere None e = refl
+    elsewhere (Some b) e =
+        let same : p ≡ b.receiver = cc in
+        ap (λ t. cond t (Some b) None) (ne_eqb b.receiver r (λ f. other (sym f ∙ sym same)))
 
-pub none_of : (bs : List Buffer) (m r : ℕ) → NoneAt m bs → NoneAt m (buffers_of bs r)
-none_of bs m r none = All-filtered (λ b. b.receiver == r) (λ b. (b.made == m) ≡ false) (λ b. (b.made == m) ≡ false) (λ b own h. h) bs none
+pub none_among : (bs : List Buffer) (m r : ℕ) → NoneAt m bs → NoneAt m (buffers_of bs r)
+none_among bs m r none = All-filter (λ b. b.receiver == r) (λ b. (b.made == m) ≡ false) bs none
 
 -- ---- where there is its own
 
-finds_first : (m p : ℕ) (x : Buffer) (xs : List Buffer) (a b : Bool) → (x.made == m) ≡ a → (a ≡ true → b ≡ true) → buffer_in (buffers_of xs p) m ≡ buffer_in xs m
-    → buffer_in (cond b (x ∷ buffers_of xs p) (buffers_of xs p)) m ≡ cond a (Some x) (buffer_in xs m)
-finds_first m p x xs true true e own rest = ap (λ c. cond c (Some x) (buffer_in (buffers_of xs p) m)) e
-finds_first m p x xs true false e own rest = absurd (false≢true (own refl))
-finds_first m p x xs false true e own rest = ap (λ c. cond c (Some x) (buffer_in (buffers_of xs p) m)) e ∙ rest
-finds_first m p x xs false false e own rest = rest
-
-pub home_finds : (homes : WordMap ℕ) (bs : List Buffer) (m p : ℕ) → AreHomes homes bs → look homes (home_key m) ≡ Some p → buffer_in (buffers_of bs p) m ≡ buffer_in bs m
-home_finds homes [] m p are home = refl
-home_finds homes (x ∷ bs) m p are home =
-    finds_first m p x bs (x.made == m) (x.receiver == p) refl own (home_finds homes bs m p (All-tail (at_home homes) x bs are) home)
+pub home_finds : (homes : WordMap ℕ) (bs : List Buffer) (m p : ℕ) → Rising made_of bs → AreHomes homes bs → look homes (home_key m) ≡ Some p → buffer_in (buffers_of bs p) m ≡ buffer_in bs m
+home_finds homes bs m p rising are home =
+    found_kept (λ b. b.receiver == p) bs m rising ∙ here (buffer_in bs m) (sym home ∙ are m)
   where
-    own : (x.made == m) ≡ true → (x.receiver == p) ≡ true
-    own e =
-        let there = home_of homes x m (eqb-true x.made m e) (All-head (at_home homes) x bs are) in
-        let same : x.receiver ≡ p = cc in
-        eq-eqb x.receiver p same
+    here : (o : Option Buffer) → Some p ≡ home_of o → kept (λ b. b.receiver == p) o ≡ o
+    here None e = refl
+    here (Some b) e =
+        let same : p ≡ b.receiver = cc in
+        ap (λ t. cond t (Some b) None) (eq-eqb b.receiver p (sym same))
 
 -- ---- each change
 
 pub homes_noted : (homes left : WordMap ℕ) (bs : List Buffer) (b : Buffer) → AreHomes homes bs → All (λ x. x.made < b.made) bs
     → ((k : WordKey) → look left k ≡ cond (same_word (home_key b.made) k) (Some b.receiver) (look homes k)) → AreHomes left (bs ++ b ∷ [])
-homes_noted homes left bs b are before put = All-push (at_home left) bs b rest last
+homes_noted homes left bs b are before put = λ m.
+    put (home_key m) ∙ ap (λ t. cond t (Some b.receiver) (look homes (home_key m))) (key_word b.made m)
+    ∙ elim (cases_bool (b.made == m)) [
+      | inl here ↦ ap (λ t. cond t (Some b.receiver) (look homes (home_key m))) here ∙ sym (ap home_of (find_new (is_made_at m) b bs [] here (earlier m (eqb-true b.made m here))))
+      | inr other ↦
+          ap (λ t. cond t (Some b.receiver) (look homes (home_key m))) other ∙ are m
+          ∙ sym (ap home_of (find_beside (is_made_at m) b bs [] other ∙ ap (find (is_made_at m)) (append-nil bs)))
+    ]
   where
-    rest : All (at_home left) bs
-    rest k d lt =
-        let x = get_or bs k d in
-        let low = before k d lt in
-        let other = key_word b.made x.made ∙ ne_eqb b.made x.made (λ e. absurd (omega (arith, e, low))) in
-        put (home_key x.made) ∙ ap (λ c. cond c (Some b.receiver) (look homes (home_key x.made))) other ∙ are k d lt
-
-    last : at_home left b
-    last = put (home_key b.made) ∙ ap (λ c. cond c (Some b.receiver) (look homes (home_key b.made))) (word-self (home_key b.made))
+    earlier : (m : ℕ) → b.made ≡ m → NoneAt m (bs ++ [])
+    earlier m same =
+        let P : List Buffer → Type 0 = λ xs. NoneAt m xs in
+        subst P (sym (append-nil bs)) (λ k d lt. (let low = before k d lt in ne_eqb (get_or bs k d).made m (λ e. absurd (omega (arith, e, low, same)))))
 
 pub homes_forgotten : (homes left : WordMap ℕ) (bs : List Buffer) (m : ℕ) → AreHomes homes bs
     → ((k : WordKey) → look left k ≡ cond (same_word (home_key m) k) None (look homes k)) → AreHomes left (filter (λ b. not (is_made_at m b)) bs)
-homes_forgotten homes left bs m are gone = All-filtered (λ b. not (is_made_at m b)) (at_home homes) (at_home left) stays bs are
-  where
-    stays : (b : Buffer) → not (is_made_at m b) ≡ true → at_home homes b → at_home left b
-    stays b other h =
-        let differs = key_word m b.made ∙ ne_eqb m b.made (λ e. false≢true (sym (ap not (eq-eqb b.made m (sym e))) ∙ other)) in
-        gone (home_key b.made) ∙ ap (λ c. cond c None (look homes (home_key b.made))) differs ∙ h
+homes_forgotten homes left bs m are gone = λ n.
+    gone (home_key n) ∙ ap (λ t. cond t None (look homes (home_key n))) (key_word m n)
+    ∙ elim (cases_bool (m == n)) [
+      | inl here ↦ (
+          let P : ℕ → Type 0 = λ k. find (is_made_at k) (filter (λ b. not (is_made_at m b)) bs) ≡ None in
+          ap (λ t. cond t None (look homes (home_key n))) here ∙ sym (ap home_of (subst P (eqb-true m n here) (find_gone made_of m bs))))
+      | inr other ↦ (
+          let apart = eqb-false m n other in
+          ap (λ t. cond t None (look homes (home_key n))) other ∙ are n ∙ sym (ap home_of (find_stays made_of m n bs (λ e. apart (sym e)))))
+    ]
 
--- the homes stay of those that aren't lost
-pub homes_lost : (homes left : WordMap ℕ) (bs : List Buffer) (lost : ℕ → Bool) → ((m : ℕ) → lost m ≡ false → look left (home_key m) ≡ look homes (home_key m)) → AreHomes homes bs
-    → AreHomes left (filter (λ b. not (lost b.made)) bs)
-homes_lost homes left bs lost same are = All-filtered (λ b. not (lost b.made)) (at_home homes) (at_home left) stays bs are
+-- one process's buffers go
+pub homes_closed : (homes left : WordMap ℕ) (bs : List Buffer) (p : ℕ) → Rising made_of bs → AreHomes homes bs → Forgets (buffers_of bs p) homes left
+    → AreHomes left (filter (λ b. not (b.receiver == p)) bs)
+homes_closed homes left bs p rising are gone = λ m.
+    gone m ∙ ap (λ o. cond (is_some o) None (look homes (home_key m))) (found_kept (λ b. b.receiver == p) bs m rising)
+    ∙ ap (λ h. cond (is_some (kept (λ b. b.receiver == p) (buffer_in bs m))) None h) (are m) ∙ by_buffer (buffer_in bs m)
+    ∙ sym (ap home_of (found_kept (λ b. not (b.receiver == p)) bs m rising))
   where
-    kept : (b : Bool) → not b ≡ true → b ≡ false
-    kept true e = sym e
-    kept false e = refl
+    by_test : (b : Buffer) (t : Bool) → cond (is_some (cond t (Some b) None)) None (Some b.receiver) ≡ home_of (cond (not t) (Some b) None)
+    by_test b true = refl
+    by_test b false = refl
 
-    stays : (b : Buffer) → not (lost b.made) ≡ true → at_home homes b → at_home left b
-    stays b e h = same b.made (kept (lost b.made) e) ∙ h
+    by_buffer : (o : Option Buffer) → cond (is_some (kept (λ b. b.receiver == p) o)) None (home_of o) ≡ home_of (kept (λ b. not (b.receiver == p)) o)
+    by_buffer None = refl
+    by_buffer (Some b) = by_test b (b.receiver == p)
 
 pub homes_same : (homes left : WordMap ℕ) (bs : List Buffer) → ((k : WordKey) → look left k ≡ look homes k) → AreHomes homes bs → AreHomes left bs
-homes_same homes left bs same are = λ k d lt. same (home_key (get_or bs k d).made) ∙ are k d lt
+homes_same homes left bs same are = λ m. same (home_key m) ∙ are m
 
 pub homes_handed : (homes : WordMap ℕ) (bs : List Buffer) (q : Buffer → Bool) → AreHomes homes bs → AreHomes homes (changed q hand_out bs)
-homes_handed homes bs q are = All-changed q hand_out (at_home homes) (λ b h. h) bs are
+homes_handed homes bs q are = λ m. are m ∙ sym (told_handed (is_made_at m) (λ b. b.receiver) (λ b. refl) (λ b. refl) q bs)
+
+-- ---- row after row
+
+first_alone : (o : Option Buffer) → cons_option o [] ≡ option_to_list o
+first_alone None = refl
+first_alone (Some b) = refl
+
+first_before : (o : Option Buffer) (bs cs : List Buffer) → cons_option o (bs ++ cs) ≡ cons_option o bs ++ cs
+first_before None bs cs = refl
+first_before (Some b) bs cs = refl
+
+front_next : (rows : List Row) (i : ℕ) → live (take (suc i) rows) ≡ live (take i rows) ++ option_to_list (in_row rows i)
+front_next [] zero = refl
+front_next [] (suc i) = refl
+front_next (r ∷ rows) zero = first_alone r.buffer
+front_next (r ∷ rows) (suc i) = ap (cons_option r.buffer) (front_next rows i) ∙ first_before r.buffer (live (take i rows)) (option_to_list (in_row rows i))
+
+-- the live buffers of one row more
+front_more : (rows : List Row) (i : ℕ) (o : Option Buffer) → o ≡ in_row rows i → live (take (i + 1) rows) ≡ live (take i rows) ++ option_to_list o
+front_more rows i o e =
+    let next : i + 1 ≡ suc i = omega arith in
+    ap (λ k. live (take k rows)) next ∙ front_next rows i ∙ ap (λ x. live (take i rows) ++ option_to_list x) (sym e)
+
+either_gone : (o : Option Buffer) (b : Buffer) (t : Bool) (h : Option ℕ) → cond t None (cond (is_some o) None h) ≡ cond (is_some (option_or o (cond t (Some b) None))) None h
+either_gone None b true h = refl
+either_gone None b false h = refl
+either_gone (Some x) b true h = refl
+either_gone (Some x) b false h = refl
+
+pub forgets_more : (rows : List Row) (i : ℕ) (b : Buffer) (old mid new : WordMap ℕ) → Some b ≡ in_row rows i → Forgets (live (take i rows)) old mid
+    → ((k : WordKey) → look new k ≡ cond (same_word (home_key b.made) k) None (look mid k)) → Forgets (live (take (i + 1) rows)) old new
+forgets_more rows i b old mid new there forgets gone = λ m.
+    gone (home_key m) ∙ ap (λ t. cond t None (look mid (home_key m))) (key_word b.made m) ∙ ap (λ h. cond (b.made == m) None h) (forgets m)
+    ∙ either_gone (buffer_in (live (take i rows)) m) b (b.made == m) (look old (home_key m))
+    ∙ sym (ap (λ o. cond (is_some o) None (look old (home_key m)))
+    (ap (find (is_made_at m)) (front_more rows i (Some b) there) ∙ find-append (is_made_at m) (live (take i rows)) (b ∷ [])))
+
+pub forgets_same : (rows : List Row) (i : ℕ) (old new : WordMap ℕ) → None ≡ in_row rows i → Forgets (live (take i rows)) old new → Forgets (live (take (i + 1) rows)) old new
+forgets_same rows i old new none forgets =
+    let P : List Buffer → Type 0 = λ bs. Forgets bs old new in
+    subst P (sym (front_more rows i None none ∙ append-nil (live (take i rows)))) forgets

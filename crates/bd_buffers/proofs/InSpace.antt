@@ -9,7 +9,6 @@ use Rattle.bd_space.specs.declared.space.Buffer.{Buffer}
 use Rattle.bd_space.specs.Words.{changed}
 use Rattle.bd_space.specs.Windows.{buffers_of}
 use Rattle.bd_space.specs.Freeing.{is_buffer_at, is_made_at}
-use Rattle.bd_space.specs.Returns.{buffer_in}
 use Rattle.bd_space.specs.ReadItems.{hand_out}
 use Rattle.bd_buffers.specs.Buffer.{at_pointer}
 
@@ -41,22 +40,6 @@ module _ {A : Type 0} where
       ap (filter q) (filter_at r x xs true f) ∙ filter_at q x (filter r xs) false e ∙ rest ∙ sym (ap (filter r) (filter_at q x xs false e))
   swap_first q r x xs false false e f rest = ap (filter q) (filter_at r x xs false f) ∙ rest ∙ sym (ap (filter r) (filter_at q x xs false e))
 
-  -- what is found among all is found among those that pass, if it passes
-  found_first : (q r : A → Bool) (x : A) (xs : List A) (y : A) (b : Bool) → r x ≡ b → (find r xs ≡ Some y → find r (filter q xs) ≡ Some y)
-      → cond b (Some x) (find r xs) ≡ Some y → q y ≡ true → find r (filter q (x ∷ xs)) ≡ Some y
-  found_first q r x xs y true t rest e pass =
-      let same : x ≡ y = cc in
-      ap (find r) (filter_at q x xs true (ap q same ∙ pass)) ∙ ap (λ c. cond c (Some x) (find r (filter q xs))) t ∙ e
-  found_first q r x xs y false t rest e pass =
-      elim (q x) as (λ c. find r (cond c (x ∷ filter q xs) (filter q xs)) ≡ Some y) [
-        | true ↦ ap (λ c. cond c (Some x) (find r (filter q xs))) t ∙ rest e
-        | false ↦ rest e
-      ]
-
-  found_in_filter : (q r : A → Bool) (xs : List A) (y : A) → find r xs ≡ Some y → q y ≡ true → find r (filter q xs) ≡ Some y
-  found_in_filter q r [] y e pass = cc
-  found_in_filter q r (x ∷ xs) y e pass = found_first q r x xs y (r x) refl (λ f. found_in_filter q r xs y f pass) e pass
-
   filter_swap : (q r : A → Bool) (xs : List A) → filter q (filter r xs) ≡ filter r (filter q xs)
   filter_swap q r [] = refl
   filter_swap q r (x ∷ xs) = swap_first q r x xs (q x) (r x) refl refl (filter_swap q r xs)
@@ -87,15 +70,10 @@ module _ {A : Type 0} where
   filter_kept q r both [] = refl
   filter_kept q r both (x ∷ xs) = kept_first q r x xs (q x) (r x) refl refl (both x) (filter_kept q r both xs)
 
--- ---- what is found in a window
+-- ---- what is found in a window by a pointer
 
--- by the pointer
 pub at_pointer_in : (buffers : List Buffer) (p ptr : ℕ) → find (at_pointer ptr) (buffers_of buffers p) ≡ find (is_buffer_at p ptr) buffers
 at_pointer_in buffers p ptr = find_filter (is_in p) (at_pointer ptr) buffers
-
--- by the step that made it, where that is this process's
-pub made_in : (buffers : List Buffer) (p made : ℕ) (b : Buffer) → buffer_in buffers made ≡ Some b → b.receiver ≡ p → buffer_in (buffers_of buffers p) made ≡ Some b
-made_in buffers p made b e own = found_in_filter (is_in p) (is_made_at made) buffers b e (eq-eqb b.receiver p own)
 
 -- ---- one more buffer
 

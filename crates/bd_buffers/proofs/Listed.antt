@@ -100,24 +100,24 @@ spots_forgotten size b bs new spots left is window gone found = λ p.
     ∙ ap (λ xs. option_map (λ (x : Buffer). x.made) (find (at_pointer p) xs)) rest
 
 -- a buffer is handed out
-handed_first : (p : ℕ) (x : Buffer) (b : Bool) (o r : Option Buffer) → option_map (λ (y : Buffer). y.made) o ≡ option_map (λ (y : Buffer). y.made) r
-    → option_map (λ (y : Buffer). y.made) (cond (at_pointer p (cond b (hand_out x) x)) (Some (cond b (hand_out x) x)) o)
-    ≡ option_map (λ (y : Buffer). y.made) (cond (at_pointer p x) (Some x) r)
-handed_first p x true o r rest = by_test (at_pointer p x)
-  where
-    by_test : (t : Bool) → option_map (λ (y : Buffer). y.made) (cond t (Some (hand_out x)) o) ≡ option_map (λ (y : Buffer). y.made) (cond t (Some x) r)
-    by_test true = refl
-    by_test false = rest
-handed_first p x false o r rest = by_test (at_pointer p x)
-  where
-    by_test : (t : Bool) → option_map (λ (y : Buffer). y.made) (cond t (Some x) o) ≡ option_map (λ (y : Buffer). y.made) (cond t (Some x) r)
-    by_test true = refl
-    by_test false = rest
+module _ (test : Buffer → Bool) (of : Buffer → ℕ) (same : (b : Buffer) → test (hand_out b) ≡ test b) (alike : (b : Buffer) → of (hand_out b) ≡ of b) where
+  handed_first : (x : Buffer) (b : Bool) (o r : Option Buffer) → option_map of o ≡ option_map of r
+      → option_map of (cond (test (cond b (hand_out x) x)) (Some (cond b (hand_out x) x)) o) ≡ option_map of (cond (test x) (Some x) r)
+  handed_first x true o r rest = ap (λ t. option_map of (cond t (Some (hand_out x)) o)) (same x) ∙ by_test (test x)
+    where
+      by_test : (t : Bool) → option_map of (cond t (Some (hand_out x)) o) ≡ option_map of (cond t (Some x) r)
+      by_test true = ap (λ n. Some n) (alike x)
+      by_test false = rest
+  handed_first x false o r rest = by_test (test x)
+    where
+      by_test : (t : Bool) → option_map of (cond t (Some x) o) ≡ option_map of (cond t (Some x) r)
+      by_test true = refl
+      by_test false = rest
 
-made_handed : (p : ℕ) (q : Buffer → Bool) (bs : List Buffer)
-    → option_map (λ (b : Buffer). b.made) (find (at_pointer p) (changed q hand_out bs)) ≡ option_map (λ (b : Buffer). b.made) (find (at_pointer p) bs)
-made_handed p q [] = refl
-made_handed p q (x ∷ bs) = handed_first p x (q x) (find (at_pointer p) (changed q hand_out bs)) (find (at_pointer p) bs) (made_handed p q bs)
+  -- what is told of the buffer that is found stays
+  pub told_handed : (q : Buffer → Bool) (bs : List Buffer) → option_map of (find test (changed q hand_out bs)) ≡ option_map of (find test bs)
+  told_handed q [] = refl
+  told_handed q (x ∷ bs) = handed_first x (q x) (find test (changed q hand_out bs)) (find test bs) (told_handed q bs)
 
 pub spots_handed : (q : Buffer → Bool) (bs : List Buffer) (spots : WordMap ℕ) → AreSpots bs spots → AreSpots (changed q hand_out bs) spots
-spots_handed q bs spots is = λ p. is p ∙ sym (made_handed p q bs)
+spots_handed q bs spots is = λ p. is p ∙ sym (told_handed (at_pointer p) (λ b. b.made) (λ b. refl) (λ b. refl) q bs)

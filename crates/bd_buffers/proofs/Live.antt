@@ -45,19 +45,6 @@ pub trimmed_live : (old new : List Row) → IsTrimmed old new → live new ≡ l
 trimmed_live old new is =
     sym (ap live is.split ∙ filter_map-append (λ (r : Row). r.buffer) new is.gone ∙ ap (λ bs. live new ++ bs) (live_none is.gone is.empty) ∙ append-nil (live new))
 
-in_none : (rows : List Row) (j : ℕ) → All IsEmpty rows → in_row rows j ≡ None
-in_none [] j none = refl
-in_none (r ∷ rows) zero none = All-head IsEmpty r rows none
-in_none (r ∷ rows) (suc j) none = in_none rows j (All-tail IsEmpty r rows none)
-
-in_front : (rows gone : List Row) (j : ℕ) → All IsEmpty gone → in_row (rows ++ gone) j ≡ in_row rows j
-in_front [] gone j none = in_none gone j none
-in_front (r ∷ rows) gone zero none = refl
-in_front (r ∷ rows) gone (suc j) none = in_front rows gone j none
-
-pub trimmed_in : (old new : List Row) (j : ℕ) → IsTrimmed old new → in_row new j ≡ in_row old j
-trimmed_in old new j is = sym (ap (λ rows. in_row rows j) is.split ∙ in_front new is.gone j is.empty)
-
 module _ {A : Type 0} where
   All_front : (P : A → Type 0) (xs ys : List A) → All P (xs ++ ys) → All P xs
   All_front P [] ys all = λ k d h. absurd (omega arith)
@@ -148,11 +135,6 @@ pub row_has : (P : Buffer → Type 0) (rows : List Row) (k : ℕ) (r : Row) (b :
 row_has P [] k r b is e all = absurd (cc)
 row_has P (x ∷ rows) zero r b is e all = let same : x ≡ r = cc in first_live P x.buffer (live rows) b (ap (λ (y : Row). y.buffer) same ∙ e) all
 row_has P (x ∷ rows) (suc k) r b is e all = row_has P rows k r b is e (rest_live P x.buffer (live rows) all)
-
-pub in_row_has : (P : Buffer → Type 0) (rows : List Row) (i : ℕ) (b : Buffer) → in_row rows i ≡ Some b → All P (live rows) → P b
-in_row_has P [] i b e all = absurd (cc)
-in_row_has P (x ∷ rows) zero b e all = first_live P x.buffer (live rows) b e all
-in_row_has P (x ∷ rows) (suc i) b e all = in_row_has P rows i b e (rest_live P x.buffer (live rows) all)
 
 own_of : (made : ℕ) (o : Option Buffer) (b : Buffer) → o ≡ Some b → IsOwn made o → b.made ≡ made
 own_of made None b e own = absurd (cc)
@@ -252,26 +234,6 @@ module _ (f : Option Buffer → Option Buffer) where
   refilled_length (r ∷ rows) (suc i) = let rest = refilled_length rows i in omega (arith, rest)
 
 -- ---- where a row is emptied
-
-in_same : (rows : List Row) (i : ℕ) → in_row (emptied i rows) i ≡ None
-in_same [] i = refl
-in_same (r ∷ rows) zero = refl
-in_same (r ∷ rows) (suc i) = in_same rows i
-
-in_other : (rows : List Row) (i j : ℕ) → (i ≡ j → ⊥) → in_row (emptied i rows) j ≡ in_row rows j
-in_other [] i j other = refl
-in_other (r ∷ rows) zero zero other = absurd (other refl)
-in_other (r ∷ rows) zero (suc j) other = refl
-in_other (r ∷ rows) (suc i) zero other = refl
-in_other (r ∷ rows) (suc i) (suc j) other = in_other rows i j (λ e. other (ap suc e))
-
-emptied_by : (rows : List Row) (i j : ℕ) (t : Bool) → (i == j) ≡ t → in_row (emptied i rows) j ≡ cond t None (in_row rows j)
-emptied_by rows i j true e = let same = eqb-true i j e in subst (λ k. in_row (emptied i rows) k ≡ None) same (in_same rows i)
-emptied_by rows i j false e = in_other rows i j (λ same. false≢true (sym e ∙ eq-eqb i j same))
-
--- the others stay in their rows
-pub emptied_in : (rows : List Row) (i j : ℕ) → in_row (emptied i rows) j ≡ cond (i == j) None (in_row rows j)
-emptied_in rows i j = emptied_by rows i j (i == j) refl
 
 pub emptied_own : (rows : List Row) (i : ℕ) → All own_row rows → All own_row (emptied i rows)
 emptied_own rows i own = All_refilled (λ o. None) own_row (λ r h. tt) rows i own
@@ -455,24 +417,3 @@ freed made old new (Some b) rising e gone =
     let own = eqb-true b.made made (found_has (λ (x : Buffer). x.made ≡ x.made) (is_made_at made) old b (sym e) (λ k d lt. refl)).1 in
     gone.left
     ∙ sym (filter_at (λ (x : Buffer). x.made) made old gone.index (distinct (λ (x : Buffer). x.made) old rising) gone.within (λ d. ap (λ (x : Buffer). x.made) (sym (gone.at d)) ∙ own))
-
--- ---- where the buffers that aren't kept end, row after row
-
-abbrev pub kept : (Buffer → Bool) → Option Buffer → Option Buffer
-kept keep None = None
-kept keep (Some b) = cond (keep b) (Some b) None
-
-kept_some : (keep : Buffer → Bool) (b : Buffer) (o : Option Buffer) (bs cs : List Buffer) (t : Bool) → o ≡ cond t (Some b) None → cs ≡ filter keep bs
-    → cons_option o cs ≡ cond t (b ∷ filter keep bs) (filter keep bs)
-kept_some keep b o bs cs true e rest = ap (λ x. cons_option x cs) e ∙ ap (λ xs. b ∷ xs) rest
-kept_some keep b o bs cs false e rest = ap (λ x. cons_option x cs) e ∙ rest
-
-kept_first : (keep : Buffer → Bool) (o now : Option Buffer) (bs cs : List Buffer) → now ≡ kept keep o → cs ≡ filter keep bs → cons_option now cs ≡ filter keep (cons_option o bs)
-kept_first keep None now bs cs e rest = ap (λ x. cons_option x cs) e ∙ rest
-kept_first keep (Some b) now bs cs e rest = kept_some keep b now bs cs (keep b) e rest
-
-pub kept_live : (keep : Buffer → Bool) (rows now : List Row) → ((j : ℕ) → in_row now j ≡ kept keep (in_row rows j)) → live now ≡ filter keep (live rows)
-kept_live keep [] [] h = refl
-kept_live keep [] (y ∷ now) h = kept_first keep None y.buffer [] (live now) (h 0) (kept_live keep [] now (λ j. h (suc j)))
-kept_live keep (x ∷ rows) [] h = kept_first keep x.buffer None (live rows) [] (h 0) (kept_live keep rows [] (λ j. h (suc j)))
-kept_live keep (x ∷ rows) (y ∷ now) h = kept_first keep x.buffer y.buffer (live rows) (live now) (h 0) (kept_live keep rows now (λ j. h (suc j)))

@@ -36,9 +36,6 @@ module _ {A : Type 0} (key : A → ℕ) where
         | inr ge ↦ let same : k ≡ length xs - 1 = omega arith in rw same (omega (arith, last, low))
       ]
 
-  later_differ : (m : ℕ) (xs : List A) → All (λ y. m < key y) xs → All (λ y. (key y == m) ≡ false) xs
-  later_differ m xs later k d lt = let up = later k d lt in ne_eqb (key (get_or xs k d)) m (λ e. absurd (omega (arith, e, up)))
-
   -- ---- where no element has the key
 
   pub find_none : (m : ℕ) (xs : List A) → All (λ y. (key y == m) ≡ false) xs → find (λ y. key y == m) xs ≡ None
@@ -146,6 +143,26 @@ module _ {A : Type 0} (key : A → ℕ) (m : ℕ) where
   pub find_stays : (p : ℕ) (xs : List A) → (p ≡ m → ⊥) → find (λ y. key y == p) (without xs) ≡ find (λ y. key y == p) xs
   find_stays p [] other = refl
   find_stays p (x ∷ xs) other = stays_first p x xs (key x == m) refl other (find_stays p xs other)
+
+-- ---- what is found where those that aren't kept go
+
+abbrev pub kept : {A : Type 0} → (A → Bool) → Option A → Option A
+kept keep None = None
+kept keep (Some x) = cond (keep x) (Some x) None
+
+module _ {A : Type 0} (key : A → ℕ) (keep : A → Bool) (m : ℕ) where
+  kept_first : (x : A) (xs : List A) (a b : Bool) → (key x == m) ≡ a → keep x ≡ b → Distinct key (x ∷ xs) → find (λ y. key y == m) (filter keep xs) ≡ kept keep (find (λ y. key y == m) xs)
+      → find (λ y. key y == m) (cond b (x ∷ filter keep xs) (filter keep xs)) ≡ kept keep (cond a (Some x) (find (λ y. key y == m) xs))
+  kept_first x xs true true e f apart rest = ap (λ t. cond t (Some x) (find (λ y. key y == m) (filter keep xs))) e ∙ sym (ap (λ t. cond t (Some x) None) f)
+  kept_first x xs true false e f apart rest =
+      rest ∙ ap (kept keep) (find_none key m xs (rest_differ key m x xs apart (eqb-true (key x) m e))) ∙ sym (ap (λ t. cond t (Some x) None) f)
+  kept_first x xs false true e f apart rest = ap (λ t. cond t (Some x) (find (λ y. key y == m) (filter keep xs))) e ∙ rest
+  kept_first x xs false false e f apart rest = rest
+
+  pub find_kept : (xs : List A) → Distinct key xs → find (λ y. key y == m) (filter keep xs) ≡ kept keep (find (λ y. key y == m) xs)
+  find_kept [] apart = refl
+  find_kept (x ∷ xs) apart =
+      kept_first x xs (key x == m) (keep x) refl refl apart (find_kept xs (pairs_tail (λ a b. key a ≡ key b → ⊥) x xs apart))
 
 -- ---- what is found by another test has its own key
 

@@ -1,5 +1,5 @@
 -- Windows by whose they are: their owners rise.
-use Rattle.std.proofs.Common.{◌≡◌, ℕ, ◌<◌, Bool, true, false, cond, List, [], ◌∷◌, length, get_or, set, map, refl, ap, sym, ◌∙◌, arith, All, Some, None, nat_lt, rules, tests, eq-eqb, ne_eqb, ◌+◌, ◌-◌, not, subst, ltb}
+use Rattle.std.proofs.Common.{◌≡◌, ℕ, ◌<◌, Bool, true, false, cond, List, [], ◌∷◌, length, get_or, map, refl, ap, sym, ◌∙◌, arith, All, Some, None, nat_lt, rules, tests, eq-eqb, ne_eqb, ◌+◌, ◌-◌, not, subst, ltb}
 use Rattle.std.specs.Prelude.{◌==◌, find, filter, Option, IfSome, option_copied, is_some}
 use Rattle.std.specs.List.{position, position_or_len, slice_get}
 use Rattle.std.proofs.lemmas.Bool.{ltb-true, ltb-false}
@@ -9,14 +9,13 @@ use Rattle.std.proofs.lemmas.List.Elements.{All-head, All-tail}
 use Rattle.std.proofs.lemmas.List.Kept.{AllPairs-filter}
 use Rattle.std.proofs.lemmas.List.Folds.{find_at}
 use Rattle.std.proofs.lemmas.List.Sums.{position_or_len_is}
-use Rattle.std.proofs.Math.Seq.{map-set_same}
 use Rattle.std.proofs.Math.ListN as list
 use denote.Ref.{Bor}
 use Rattle.bd_space.specs.declared.space.Process.{Process}
 use Rattle.bd_space.specs.declared.space.Buffer.{Buffer}
 use Rattle.bd_space.specs.Words.{changed}
-use Rattle.bd_buffers.specs.declared.windows.OwnedWindow.{OwnedWindow}
-use Rattle.bd_buffers.specs.Owners.{AreInOrder, owners}
+use Rattle.bd_buffers.specs.declared.owned.OwnedWindow.{OwnedWindow}
+use Rattle.bd_buffers.specs.Owners.{AreInOrder}
 use Rattle.bd_buffers.specs.WindowsStand.{ProcessWindow, seen, window_of, with_buffers, is_of}
 use Rattle.bd_buffers.proofs.Made.{Rising}
 
@@ -68,7 +67,10 @@ last_has P (y ∷ xs) x e all = subst P (get_or_from_slice_get (y ∷ xs) (lengt
 
 -- ---- they stay in order
 
-pub same_owners : (ws new : List OwnedWindow) → owners new ≡ owners ws → AreInOrder ws → AreInOrder new
+abbrev owners : List OwnedWindow → List ℕ
+owners ws = map (λ w. w.owner) ws
+
+same_owners : (ws new : List OwnedWindow) → owners new ≡ owners ws → AreInOrder ws → AreInOrder new
 same_owners ws new e order i j d lt h =
     let owner = λ (w : OwnedWindow). w.owner in
     let len : length new ≡ length ws = sym (length-map new owner) ∙ ap length e ∙ length-map ws owner in
@@ -85,11 +87,6 @@ owners_seen : (ws : List OwnedWindow) → owners ws ≡ map (λ (x : ProcessWind
 owners_seen [] = refl
 owners_seen (w ∷ ws) = ap (λ ns. w.owner ∷ ns) (owners_seen ws)
 
-pub owners_set : (ws : List OwnedWindow) (i : ℕ) (w x : OwnedWindow) → w ≡ get_or ws i w → x.owner ≡ w.owner → owners (set ws i x) ≡ owners ws
-owners_set ws i w x at own =
-    let owner = λ (w : OwnedWindow). w.owner in
-    map-set_same owner ws i x w (own ∙ ap owner at)
-
 owners_one : (f : List Buffer → List Buffer) (p : ℕ) (xs : List ProcessWindow) → map (λ (x : ProcessWindow). x.owner) (changed (is_of p) (with_buffers f) xs) ≡ map (λ (x : ProcessWindow). x.owner) xs
 owners_one f p [] = refl
 owners_one f p (x ∷ xs) =
@@ -100,11 +97,6 @@ owners_one f p (x ∷ xs) =
 pub order_one : (f : List Buffer → List Buffer) (p : ℕ) (ws new : List OwnedWindow) → map seen new ≡ changed (is_of p) (with_buffers f) (map seen ws) → AreInOrder ws → AreInOrder new
 order_one f p ws new e order =
     same_owners ws new (owners_seen new ∙ ap (map (λ (x : ProcessWindow). x.owner)) e ∙ owners_one f p (map seen ws) ∙ sym (owners_seen ws)) order
-
--- where one is changed, and keeps its owner
-pub order_set : (ws : List OwnedWindow) (i : ℕ) (w x : OwnedWindow) → w ≡ get_or ws i w → x.owner ≡ w.owner → AreInOrder ws → AreInOrder (set ws i x)
-order_set ws i w x at own order =
-    same_owners ws (set ws i x) (owners_set ws i w x at own) order
 
 -- ---- whose they are
 

@@ -1,6 +1,8 @@
 -- Whose window a buffer is in, by where it was made.
-use Rattle.std.specs.Prelude.{ℕ, ◌≡◌, List, All, Some}
+use Rattle.std.specs.Prelude.{ℕ, ◌≡◌, List, None, option_map, if◌then◌else◌}
+use Rattle.std.specs.Option.{is_some}
 use Rattle.bd_space.specs.declared.space.Buffer.{Buffer}
+use Rattle.bd_space.specs.Returns.{buffer_in}
 use Rattle.bd_words.specs.declared.key.WordKey.{WordKey}
 use Rattle.bd_words.specs.declared.map.WordMap.{WordMap}
 use Rattle.bd_words.specs.Look.{look}
@@ -9,6 +11,10 @@ use Rattle.bd_words.specs.Look.{look}
 abbrev pub home_key : ℕ → WordKey
 home_key made = record { process = 0; word = made }
 
--- each live buffer is in its receiver's window; nothing is said of places where none that lives was made
+-- each live buffer is in its receiver's window, and nothing is noted of places where none that lives was made
 abbrev pub AreHomes : WordMap ℕ → List Buffer → Type 0
-AreHomes homes buffers = All (λ b. look homes (home_key b.made) ≡ Some b.receiver) buffers
+AreHomes homes buffers = (m : ℕ) → look homes (home_key m) ≡ option_map (λ b. b.receiver) (buffer_in buffers m)
+
+-- the homes of these buffers go, and no others
+abbrev pub Forgets : List Buffer → WordMap ℕ → WordMap ℕ → Type 0
+Forgets buffers old new = (m : ℕ) → look new (home_key m) ≡ (if is_some (buffer_in buffers m) then None else look old (home_key m))

@@ -1,10 +1,7 @@
 -- Windows by whose they are.
-use Rattle.std.specs.Prelude.{ℕ, ◌<◌, List, AllPairs, map}
+use Rattle.std.specs.Prelude.{ℕ, ◌<◌, List, AllPairs}
 use Rattle.bd_words.specs.declared.map.WordMap.{WordMap}
-use Rattle.bd_buffers.specs.declared.windows.OwnedWindow.{OwnedWindow}
-
-abbrev pub owners : List OwnedWindow → List ℕ
-owners ws = map (λ w. w.owner) ws
+use Rattle.bd_buffers.specs.declared.owned.OwnedWindow.{OwnedWindow}
 
 -- each belongs to a process that was opened later than those before it
 abbrev pub AreInOrder : List OwnedWindow → Type 0

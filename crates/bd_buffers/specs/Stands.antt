@@ -27,7 +27,3 @@ Uses old new buffers = old.room ≤ new.room + buffers
 
 abbrev pub UsesNothing : Window → Window → Type 0
 UsesNothing old new = old.room ≤ new.room
-
--- whatever is answered is what p says
-abbrev pub AnswersBy : {A : Type 0} → (A → Bool → Type 0) → (A → Bool) → Type 0
-AnswersBy {A} answers p = (x : A) (b : Bool) → answers x b → b ≡ p x

@@ -1,11 +1,11 @@
 -- What the windows of all live processes stand for.
-use Rattle.std.specs.Prelude.{ℕ, ◌≡◌, ◌+◌, ◌<◌, ◌==◌, Bool, true, List, map, find, Option, Some, None, Ok, All, AllPairs, min}
+use Rattle.std.specs.Prelude.{ℕ, ◌≡◌, ◌+◌, ◌<◌, ◌==◌, Bool, true, List, [], map, find, Option, Some, None, Ok, All, AllPairs, min}
 use Rattle.bd_space.specs.declared.space.Process.{Process}
 use Rattle.bd_space.specs.declared.space.Buffer.{Buffer}
 use Rattle.bd_space.specs.Space.{Space}
 use Rattle.bd_space.specs.Seats.{lives_in}
 use Rattle.bd_space.specs.Windows.{buffers_of, start_for}
-use Rattle.bd_buffers.specs.declared.windows.OwnedWindow.{OwnedWindow}
+use Rattle.bd_buffers.specs.declared.owned.OwnedWindow.{OwnedWindow}
 use Rattle.bd_buffers.specs.declared.windows.Windows.{Windows}
 use Rattle.bd_words.specs.Look.{word_room}
 use Rattle.bd_buffers.specs.Homes.{AreHomes}
@@ -68,6 +68,11 @@ window_room t = t.room
 abbrev pub room_of : Option OwnedWindow → ℕ
 room_of None = 1
 room_of (Some w) = w.window.room
+
+-- the live buffers of a process; none where it has no window
+abbrev pub buffers_held : Option OwnedWindow → List Buffer
+buffers_held None = []
+buffers_held (Some w) = w.window.buffers
 
 -- how many more buffers may be added to the window of a process; nothing is added where there is none
 unfoldable pub buffer_room : Windows → ℕ → ℕ

@@ -1,6 +1,6 @@
 //! Where the buffers of a window lie, by what pointers they are found, and what they leave free.
 
-ghost use Rattle.std.specs.Prelude.{◌≡◌, ◌+◌, ◌<◌, ◌≤◌, ◌==◌, ℕ, None, MatchOption, vec_len, vec_capacity, if◌then◌else◌};
+ghost use Rattle.std.specs.Prelude.{◌≡◌, ◌+◌, ◌<◌, ◌≤◌, None, MatchOption, vec_len, vec_capacity, if◌then◌else◌};
 ghost use Rattle.bd_words.specs.Keys.{same_word};
 ghost use Rattle.bd_words.specs.Look.{look, word_room};
 ghost use Rattle.bd_words.specs.declared.key.WordKey.{WordKey};
@@ -71,8 +71,6 @@ pub(crate) fn end_row(buffers: &mut Rows, ground: &mut Ground, i: usize)
     requires kept { Keeps (live buffers.old.rows) ground.old }
     ensures kept { Keeps (live buffers.new.rows) ground.new }
     ensures size { ground.new.size ≡ ground.old.size }
-    ensures rest { (j : ℕ) → in_row buffers.new.rows j
-        ≡ (if i == j then None else in_row buffers.old.rows j) }
     ensures live { MatchOption (in_row buffers.old.rows i)
         (live buffers.new.rows ≡ live buffers.old.rows)
         (λ b. IsWithout b (live buffers.old.rows) (live buffers.new.rows)) }

@@ -5,6 +5,7 @@ mod buffer;
 mod ground;
 mod hole;
 mod home;
+mod owned;
 mod rows;
 mod window;
 mod windows;

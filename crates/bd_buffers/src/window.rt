@@ -1,6 +1,6 @@
 //! A window.
 
-ghost use Rattle.std.specs.Prelude.{◌≡◌, ◌↔◌, ◌+◌, ◌*◌, ◌%◌, ◌<◌, ◌≤◌, [], ◌∷◌, ◌++◌, not, ℕ, Bool, List, All, length, filter, find, IsTrue, IsOk, IfOk, IfErr, IfSome, OnOk, OnErr, option_copied, None};
+ghost use Rattle.std.specs.Prelude.{◌≡◌, ◌↔◌, ◌+◌, ◌*◌, ◌%◌, ◌<◌, ◌≤◌, [], ◌∷◌, ◌++◌, not, ℕ, Bool, List, All, length, filter, find, IsTrue, IsOk, IfOk, IfErr, IfSome, OnOk, OnErr, option_copied};
 ghost use Rattle.bd_space.specs.declared.space.Buffer.{Buffer};
 ghost use Rattle.bd_space.specs.Words.{changed};
 ghost use Rattle.bd_space.specs.Windows.{needed, start_in, over_budget_in, start_for};
@@ -11,6 +11,7 @@ ghost use Rattle.bd_space.specs.Returns.{buffer_in};
 use crate::buffer::{needed, one_way_share, pointer_of};
 use crate::ground::{Ground, end_row, key_at};
 use crate::hole::{first_place, take};
+use crate::home::forget;
 use crate::rows::Rows;
 use bd_space::Buffer;
 use bd_uapi::Cause;
@@ -48,7 +49,8 @@ impl Window {
     ghost use Rattle.bd_buffers.specs.Buffer.{IsPlaced, at_pointer};
     ghost use Rattle.bd_buffers.specs.Window.{IsLeastFree, IsInBudget, Refuses, IsWindow};
     ghost use Rattle.bd_buffers.specs.Holes.{IsHoles};
-    ghost use Rattle.bd_buffers.specs.Stands.{Stands, CanHold, WindowTells, WindowMakes, Uses, UsesNothing, AnswersBy};
+    ghost use Rattle.bd_buffers.specs.Stands.{Stands, CanHold, WindowTells, WindowMakes, Uses, UsesNothing};
+    ghost use Rattle.bd_buffers.specs.Homes.{Forgets};
 
     /// An empty window of a size in bytes, a multiple of 8 of at most 4194304. Takes no memory.
     pub fn new(alloc: Global, size: u32) -> Result<Window, AllocError>
@@ -194,19 +196,11 @@ impl Window {
         }
     }
 
-    /// How many rows there are to look through for live buffers.
-    pub(crate) fn rows(&self) -> usize {
-        self.buffers.len()
-    }
-
-    /// Where the live buffer in a row was made.
-    pub(crate) fn made_in_row(&self, i: usize) -> Option<u32>
-        ensures { IfSome result (λ m. buffer_in self.now.buffers m ≡ None → ⊥) }
+    /// Forgets the homes of all live buffers, and no others.
+    pub(crate) fn forget_homes(&self, homes: &mut WordMap<u32>)
+        ensures { Forgets self.now.buffers homes.old homes.new }
     {
-        match self.buffers.in_row(i) {
-            None => None,
-            Some(b) => Some(b.made),
-        }
+        forget(homes, &self.buffers);
     }
 
     /// Ends the buffer made there.
@@ -225,25 +219,6 @@ impl Window {
         ensures room { UsesNothing self.old self.new }
     {
         self.buffers.hand_out(made);
-    }
-
-    /// Ends the buffers whose making step is lost.
-    pub fn drop_lost<F: Fn(u32) -> bool>(&mut self, is_lost: F)
-        requires { F.IsAlwaysCallable is_lost }
-        ensures stands { (size : ℕ) (bs : List Buffer) (lost : ℕ → Bool) → Stands self.old size bs
-            → AnswersBy (λ made b. F.post is_lost made b) lost
-            → Stands self.new size (filter (λ b. not (lost b.made)) bs) }
-        ensures room { UsesNothing self.old self.new }
-    {
-        let mut i = self.buffers.len();
-        while i > 0 {
-            i -= 1;
-            if let Some(b) = self.buffers.in_row(i) {
-                if is_lost(b.made) {
-                    end_row(&mut self.buffers, &mut self.ground, i);
-                }
-            }
-        }
     }
 
     /// What is so of every window: no two live buffers meet, each lies inside and is as large as its data and

@@ -1,32 +1,26 @@
 //! The windows of all live processes.
 
-ghost use Rattle.std.specs.Prelude.{◌++◌, ◌∷◌, ◌≡◌, ◌≤◌, ◌<◌, ◌+◌, ◌==◌, not, ℕ, Bool, false, ◌↔◌, All, IsTrue, IfOk, IfSome, OnOk, OnErr, Some, None, Err, length, map, filter, find, List, [], vec_len, vec_capacity, option_map};
-ghost use Rattle.std.specs.List.{position};
+ghost use Rattle.std.specs.Prelude.{◌≡◌, ◌≤◌, ℕ, Bool, IfOk, IfSome, OnOk, OnErr, Some, None, Err, length, List, [], option_map};
 ghost use Rattle.std.specs.Option.{option_copied};
 ghost use Rattle.bd_uapi.specs.declared.fault.Cause.TheVariants.{NoRoom};
 ghost use Rattle.bd_space.specs.declared.space.Process.{Process};
-ghost use Rattle.bd_space.specs.declared.space.Buffer.{Buffer};
 ghost use Rattle.bd_space.specs.declared.space.Work.{Work};
-ghost use Rattle.bd_space.specs.declared.space.TodoList.TheVariants.{OfThread};
-ghost use Rattle.bd_space.specs.Words.{first_of, changed};
 ghost use Rattle.bd_space.specs.Space.{Space, opening};
 ghost use Rattle.bd_space.specs.Seats.{process_in};
 ghost use Rattle.bd_space.specs.Windows.{needed, start_for, buffers_of};
 ghost use Rattle.bd_space.specs.Delivery.{add_buffer};
-ghost use Rattle.bd_space.specs.Freeing.{without_buffer, buffer_at_pointer, is_made_at};
+ghost use Rattle.bd_space.specs.Freeing.{without_buffer, buffer_at_pointer};
 ghost use Rattle.bd_space.specs.Returns.{buffer_in};
-ghost use Rattle.bd_space.specs.ReadItems.{buffer_taken, hand_out, read_by};
+ghost use Rattle.bd_space.specs.ReadItems.{buffer_taken, read_by};
 ghost use Rattle.bd_space.specs.Steps.{with_process};
-ghost use Rattle.bd_space.specs.ThreadExits.{thread_goes, is_lost_with};
 ghost use Rattle.bd_space.specs.ProcessExits.{without_process};
 ghost use Rattle.bd_space.specs.Tables.{Tells, Makes};
-ghost use Rattle.bd_buffers.specs.Stands.{AnswersBy};
-ghost use Rattle.bd_words.specs.Look.{look};
-ghost use Rattle.bd_buffers.specs.Homes as spec;
-ghost use Rattle.bd_buffers.specs.Owners.{AreInOrder, owners};
-ghost use Rattle.bd_buffers.specs.WindowsStand.{StandsFor, StandsIn, Stands, window_room, buffer_room, made_of_buffer, CanAdd, IsInWindow, is_of, is_owned_by, seen, with_buffers};
+ghost use Rattle.bd_buffers.specs.WindowsStand.{StandsFor, StandsIn, Stands, window_room, buffer_room, made_of_buffer, CanAdd, IsInWindow};
 
-use crate::home::{forget, forget_lost, home_key};
+use crate::home::home_key;
+use crate::owned::{
+    OwnedWindow, close_among, forget_in, free_in, hand_out_in, is_last, owned_by, position_of,
+};
 use crate::window::Window;
 use bd_space::Buffer;
 use bd_uapi::Cause;
@@ -34,27 +28,12 @@ use bd_words::WordMap;
 use std::alloc::{AllocError, Global};
 use std::marker::Model;
 
-// The window of a live process.
-#[derive(Drop)]
-struct OwnedWindow {
-    owner: u32,
-    window: Window,
-}
-
-impl OwnedWindow {
-    fn is_of(&self, p: u32) -> bool
-        ensures { result ≡ is_owned_by p self.now }
-    {
-        self.owner == p
-    }
-}
-
 /// The windows of all live processes.
 #[derive(Drop)]
 pub struct Windows {
     // In the order in which the processes were opened.
     windows: Vec<OwnedWindow>,
-    // Whose window each live buffer is in, by where it was made.
+    // Whose window each live buffer is in, by where it was made. Of buffers that ended nothing is noted.
     homes: WordMap<u32>,
 }
 
@@ -76,109 +55,6 @@ impl Model for Windows {
     } };
 
     ghost invariant = { λ t. AreInOrder t.windows.items };
-}
-
-// Where the window of a process stands.
-fn position_of(windows: &[OwnedWindow], p: u32) -> Option<usize>
-    requires order { AreInOrder windows.now }
-    ensures { result ≡ position (is_owned_by p) windows.now }
-{
-    let i = windows.partition_point(|w| w.owner < p);
-    if i < windows.len() && windows[i].owner == p {
-        Some(i)
-    } else {
-        None
-    }
-}
-
-// The window of a process.
-fn owned_by(windows: &[OwnedWindow], p: u32) -> Option<&OwnedWindow>
-    requires order { AreInOrder windows.now }
-    ensures { option_copied result ≡ find (is_owned_by p) windows.now }
-{
-    match position_of(windows, p) {
-        None => None,
-        Some(i) => windows.get(i),
-    }
-}
-
-// Whether the window of this process would come after all.
-fn is_last(windows: &[OwnedWindow], owner: u32) -> bool
-    requires order { AreInOrder windows.now }
-    ensures { IsTrue result ↔ All (λ w. w.owner < owner) windows.now }
-{
-    match windows.last() {
-        None => true,
-        Some(w) => w.owner < owner,
-    }
-}
-
-// Ends the buffer made there, in the window of a process.
-fn free_in(windows: &mut Vec<OwnedWindow>, p: u32, made: u32)
-    requires order { AreInOrder windows.old.items }
-    ensures { map seen windows.new.items ≡
-        changed (is_of p) (with_buffers (filter (λ b. not (is_made_at made b)))) (map seen windows.old.items) }
-{
-    if let Some(at) = position_of(windows, p) {
-        windows[at].window.free(made);
-    }
-}
-
-// Marks the buffer made there, in the window of a process, as handed out.
-fn hand_out_in(windows: &mut Vec<OwnedWindow>, p: u32, made: u32)
-    requires order { AreInOrder windows.old.items }
-    ensures { map seen windows.new.items ≡
-        changed (is_of p) (with_buffers (changed (is_made_at made) hand_out)) (map seen windows.old.items) }
-{
-    if let Some(at) = position_of(windows, p) {
-        windows[at].window.hand_out(made);
-    }
-}
-
-// Forgets the homes of the buffers whose making step is lost.
-fn forget_lost_among<F: Fn(u32) -> bool>(
-    homes: &mut WordMap<u32>,
-    windows: &[OwnedWindow],
-    is_lost: F,
-)
-    requires { F.IsAlwaysCallable is_lost }
-    ensures { (lost : ℕ → Bool) → AnswersBy (λ made b. F.post is_lost made b) lost
-        → (m : ℕ) → lost m ≡ false → look homes.new (spec.home_key m) ≡ look homes.old (spec.home_key m) }
-{
-    for w in windows {
-        forget_lost(homes, &w.window, &is_lost);
-    }
-}
-
-// Ends the buffers whose making step is lost.
-fn drop_lost_among<F: Fn(u32) -> bool>(windows: &mut Vec<OwnedWindow>, is_lost: F)
-    requires { F.IsAlwaysCallable is_lost }
-    ensures left { (lost : ℕ → Bool) → AnswersBy (λ made b. F.post is_lost made b) lost
-        → map seen windows.new.items ≡
-        map (with_buffers (filter (λ b. not (lost b.made)))) (map seen windows.old.items) }
-    ensures owners { owners windows.new.items ≡ owners windows.old.items }
-{
-    for w in windows.iter_mut() {
-        w.window.drop_lost(&is_lost);
-    }
-}
-
-// Forgets the homes of the live buffers of a process.
-fn forget_in(homes: &mut WordMap<u32>, windows: &[OwnedWindow], p: u32)
-    requires order { AreInOrder windows.now }
-    ensures { (m : ℕ) → IfSome (find (is_owned_by p) windows.now) (λ w. buffer_in w.window.buffers m ≡ None)
-        → look homes.new (spec.home_key m) ≡ look homes.old (spec.home_key m) }
-{
-    if let Some(w) = owned_by(windows, p) {
-        forget(homes, &w.window);
-    }
-}
-
-// Ends the window of a process.
-fn close_among(windows: &mut Vec<OwnedWindow>, p: u32)
-    ensures { windows.new.items ≡ filter (λ w. not (is_owned_by p w)) windows.old.items }
-{
-    windows.retain(|w| !w.is_of(p));
 }
 
 impl Windows {
@@ -318,17 +194,6 @@ impl Windows {
                 hand_out_in(&mut self.windows, p, made);
             }
         }
-    }
-
-    /// Ends the buffers that are lost with a thread's work items.
-    pub fn drop_lost<F: Fn(u32) -> bool>(&mut self, lost: F)
-        requires callable { F.IsAlwaysCallable lost }
-        ensures { (s : Space) (seat : ℕ) → StandsIn self.old s
-            → AnswersBy (λ made b. F.post lost made b) (is_lost_with s.todo (OfThread seat))
-            → StandsIn self.new (thread_goes s seat) }
-    {
-        forget_lost_among(&mut self.homes, &self.windows, &lost);
-        drop_lost_among(&mut self.windows, lost);
     }
 
     /// Ends the window of a process, with its buffers.

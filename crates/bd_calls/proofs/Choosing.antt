@@ -159,10 +159,3 @@ among-none t place (suc left) chosen whole h none = subst (StandsFor t) (sym (ap
     up : Option Frame → Space
     up None = h.mid
     up (Some f) = close_among left (or_parent (is_place_among chosen) f.parent) (next h.mid f)
-
-abbrev oldest : List ℕ → List Frame → Option Frame
-oldest chosen fs = find (λ f. is_place_among chosen f.made && is_abandoned fs f) fs
-
--- what is found in the slice is what is found in the space
-pub found-in : (t : CallTable) (s : Space) (chosen : List ℕ) (o : Option Frame) (fs : List Frame) → StandsFor t s → fs ≡ t.frames.items → o ≡ oldest chosen fs → oldest chosen s.frames ≡ o
-found-in t s chosen o fs h e k = sym (k ∙ ap (oldest chosen) (e ∙ h.frames_are))

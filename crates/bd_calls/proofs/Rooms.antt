@@ -1,8 +1,8 @@
 -- What two changes take one after the other, and what there is no room for.
-use Rattle.std.proofs.Common.{ℕ, ◌+◌, ◌≤◌, ◌^◌, vec_len, arith}
+use Rattle.std.proofs.Common.{ℕ, ◌+◌, ◌≤◌, ◌^◌, arith}
 use Rattle.bd_links.proofs.Fits.{room-fits}
 use Rattle.bd_calls.specs.declared.table.CallTable.{CallTable}
-use Rattle.bd_calls.specs.Room.{Uses, HasRoom, nothing, rooms}
+use Rattle.bd_calls.specs.Room.{Uses, HasRoom, frame_count, nothing, rooms}
 
 pub uses-one_more : (a b c : CallTable) (n : ℕ) → Uses a b (record nothing { works = n }) → Uses b c (record nothing { works = 1 })
     → Uses a c (record nothing { works = n + 1 })
@@ -16,6 +16,6 @@ uses-one_more a b c n h k = record {
 }
 
 -- there is no room past the numbers of the machine
-pub past-all : (t : CallTable) (works : ℕ) → 2 ^ 64 ≤ works + vec_len t.frames + 9 → HasRoom t works → ⊥
+pub past-all : (t : CallTable) (works : ℕ) → 2 ^ 64 ≤ works + frame_count t + 9 → HasRoom t works → ⊥
 unfolding rooms
 past-all t works past room = omega (arith, room-fits t.todo, past, room.all_works)

@@ -1,5 +1,6 @@
 pub mod Turn
 pub mod Stands
 pub mod Room
+pub mod Losing
 pub mod Closing
 pub mod Stacked

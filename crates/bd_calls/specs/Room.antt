@@ -1,5 +1,6 @@
 -- How many things a call table holds and has room for, for what reserves and commits.
 use Rattle.std.specs.Prelude.{ℕ, ◌+◌, ◌-◌, ◌≤◌, vec_len, vec_capacity}
+use Rattle.bd_frames.specs.Room as frames
 use Rattle.bd_links.specs.Stands as links
 use Rattle.bd_turns.specs.Room as turns
 use Rattle.bd_calls.specs.declared.table.CallTable.{CallTable}
@@ -21,11 +22,11 @@ unfoldable pub rooms : CallTable → Rooms
 rooms t = record {
   left = record {
     threads = vec_capacity t.threads - vec_len t.threads;
-    frames = vec_capacity t.frames - vec_len t.frames;
+    frames = frames.frame_room t.frames;
     turns = turns.turn_room t.turns;
     works = links.work_room t.todo;
   };
-  frame_count = vec_len t.frames;
+  frame_count = frames.frame_count t.frames;
   turn_count = turns.turn_count t.turns;
 }
 

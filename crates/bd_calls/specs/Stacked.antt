@@ -1,15 +1,11 @@
 -- Frames as stacks: what a thread came into last it is in innermost.
-use Rattle.std.specs.Prelude.{ℕ, ◌≡◌, List, Option, find, reverse}
-use Rattle.bd_space.specs.declared.space.Frame.{Frame}
-use Rattle.bd_space.specs.Frames.{takes_part, innermost_in}
+use Rattle.std.specs.Prelude.{ℕ, ◌≡◌}
+use Rattle.bd_space.specs.Frames.{innermost_in}
 use Rattle.bd_space.specs.Space.{Space}
 use Rattle.bd_space.specs.Tables as tables
+pub use Rattle.bd_frames.specs.Words.{newest_in}
 use Rattle.bd_calls.specs.declared.table.CallTable.{CallTable}
 use Rattle.bd_calls.specs.Stands.{StandsFor}
-
--- the newest frame in which the thread takes part
-abbrev pub newest_in : List Frame → ℕ → Option Frame
-newest_in frames seat = find (takes_part seat) (reverse frames)
 
 -- it is each thread's innermost: so it is between two steps, but not of any frames that a table may hold
 abbrev pub IsStacked : Space → Type 0

@@ -1,9 +1,10 @@
-//! Frames: open two-way calls. A thread's innermost frame is looked for from the newest on, as its frames are a stack.
+//! Frames: open two-way calls. A thread's innermost frame is its newest, as its frames are a stack.
 #![tactic(auto, unfolding(bd_space::specs::Frames::innermost, bd_space::specs::Frames::served_innermost, bd_space::specs::Frames::goes_to, bd_space::specs::Frames::closed, bd_space::specs::Transactions::call_out, bd_space::specs::Todo::owe, crate::specs::Room::rooms))]
 
-ghost use Rattle.std.specs.Prelude.{ℕ, Bool, ◌≡◌, ◌==◌, ◌||◌, ◌&&◌, ◌+◌, ◌<◌, ◌≤◌, ◌^◌, ◌++◌, ◌∷◌, [], true, false, not, nat_le, map, filter, find, reverse, length, count_by, Option, Some, None, option_map, IfOk, OnOk, OnErr, vec_len, vec_capacity};
-ghost use Rattle.std.specs.List.{list_any};
+ghost use Rattle.std.specs.Prelude.{ℕ, List, ◌≡◌, ◌==◌, ◌&&◌, ◌+◌, ◌≤◌, ◌++◌, true, false, map, filter, find, reverse, length, Option, Some, None, option_map, OnOk};
 ghost use Rattle.std.specs.Option.{is_none};
+ghost use Rattle.bd_space.specs.declared.space.Work as declared;
+ghost use Rattle.bd_space.specs.Words.{changed};
 ghost use Rattle.bd_space.specs.Frames as spec;
 ghost use Rattle.bd_space.specs.Settle as settling;
 ghost use Rattle.bd_space.specs.Local as local;
@@ -11,74 +12,25 @@ ghost use Rattle.bd_space.specs.ThreadExits as exits;
 ghost use Rattle.bd_space.specs.ReadItems as reading;
 ghost use Rattle.bd_space.specs.Todo as works;
 ghost use Rattle.bd_links.specs.Stands as links;
-ghost use Rattle.bd_calls.specs.Closing.{is_place_among, chosen_after};
-ghost use Rattle.bd_calls.specs.Stacked.{newest_in};
+ghost use Rattle.bd_frames.specs.Stands as frame_table;
+ghost use Rattle.bd_frames.specs.Room as frame_rooms;
+ghost use Rattle.bd_frames.specs.Words.{newest_in, is_place_among, lost_frame};
+ghost use Rattle.bd_calls.specs.Closing.{chosen_after};
+ghost use Rattle.bd_calls.specs.Losing.{lost_frames};
 
-use crate::ancestry::ancestry_of;
-use crate::server::{gone_server, is_gone, serves};
 use crate::table::CallTable;
 use crate::thread::thread_of;
-use crate::work::has_call;
-use bd_links::WorkTable;
+use bd_frames::{FrameTable, serves};
+use bd_links::{WorkTable, Works};
 use bd_space::{Frame, Server, Thread, TodoList, Work, WorkKind};
 use bd_uapi::Return;
 use std::alloc::AllocError;
 
-fn is_child_of(frame: &Frame, child: &Frame) -> bool
-    ensures { result ≡ spec.is_child_of frame.now child.now }
-{
-    child.parent == Some(frame.made)
-}
-
-fn has_child(frames: &[Frame], frame: &Frame) -> bool
-    ensures { result ≡ list_any (spec.is_child_of frame.now) frames.now }
-{
-    frames.iter().any(|f| is_child_of(frame, f))
-}
-
-fn calls(frame: &Frame, seat: u32) -> bool
-    ensures { result ≡ spec.calls seat frame.now }
-{
-    frame.caller == Some(seat)
-}
-
-fn takes_part(frame: &Frame, seat: u32) -> bool
-    ensures { result ≡ spec.takes_part seat frame.now }
-{
-    calls(frame, seat) || serves(seat, frame.server)
-}
-
-/// The newest frame in which the thread takes part.
-pub(crate) fn newest_of(frames: &[Frame], seat: u32) -> Option<Frame>
-    ensures { result ≡ newest_in frames.now seat }
-{
-    frames.iter().rev().copied().find(|f| takes_part(f, seat))
-}
-
-fn is_in_call(frames: &[Frame], seat: u32) -> bool
-    ensures { result ≡ list_any (spec.takes_part seat) frames.now }
-{
-    frames.iter().any(|f| takes_part(f, seat))
-}
-
 /// The thread takes part in no frame.
-pub(crate) fn is_in_no_call(frames: &[Frame], seat: u32) -> bool
-    ensures { result ≡ is_none (spec.innermost_in frames.now seat) }
+pub(crate) fn is_in_no_call(frames: &FrameTable, seat: u32) -> bool
+    ensures { frame_table.Tells frames.now result (λ l. is_none (spec.innermost_in l seat)) }
 {
-    !is_in_call(frames, seat)
-}
-
-// The frame of the call made at this place.
-fn is_frame(frame: &Frame, made: u32) -> bool
-    ensures { result ≡ spec.is_frame made frame.now }
-{
-    frame.made == made
-}
-
-fn frame_made_at(frames: &[Frame], made: u32) -> Option<Frame>
-    ensures { result ≡ find (spec.is_frame made) frames.now }
-{
-    frames.iter().copied().find(|f| is_frame(f, made))
+    !frames.is_in_call(seat)
 }
 
 // The frame's caller is a thread of the process.
@@ -91,22 +43,25 @@ fn waits(threads: &[Thread], process: u32, frame: &Frame) -> bool
         .is_some_and(|thread| thread.process == process)
 }
 
-fn newest_made(frames: &[Frame], seat: u32) -> Option<u32>
-    ensures { result ≡ option_map spec.made_of (newest_in frames.now seat) }
+fn newest_made(frames: &FrameTable, seat: u32) -> Option<u32>
+    ensures { frame_table.Tells frames.now result (λ l. option_map spec.made_of (newest_in l seat)) }
 {
-    newest_of(frames, seat).map(|f| f.made)
+    frames.newest_of(seat).map(|f| f.made)
 }
 
 // The first frame on the way whose caller is a thread of the process.
 fn first_waiting(
     threads: &[Thread],
-    frames: &[Frame],
+    frames: &FrameTable,
     from: Option<u32>,
     process: u32,
 ) -> Option<Frame>
-    ensures { result ≡ find (spec.waits_in threads.now process) (spec.ancestry from (reverse frames.now)) }
+    ensures { frame_table.Tells frames.now result
+        (λ l. find (spec.waits_in threads.now process) (spec.ancestry from (reverse l))) }
 {
-    ancestry_of(frames, from).find(|f| waits(threads, process, f))
+    frames
+        .ancestry_of(from)
+        .find(|f| waits(threads, process, f))
 }
 
 fn list_of_caller(process: u32, frame: Option<Frame>) -> TodoList
@@ -119,59 +74,11 @@ fn list_of_caller(process: u32, frame: Option<Frame>) -> TodoList
 }
 
 // Where a call to the process is read whose caller's innermost frame was made there.
-fn list_from(threads: &[Thread], frames: &[Frame], from: Option<u32>, process: u32) -> TodoList
-    ensures { result ≡ spec.list_of_caller process
-        (find (spec.waits_in threads.now process) (spec.ancestry from (reverse frames.now))) }
+fn list_from(threads: &[Thread], frames: &FrameTable, from: Option<u32>, process: u32) -> TodoList
+    ensures { frame_table.Tells frames.now result (λ l. spec.list_of_caller process
+        (find (spec.waits_in threads.now process) (spec.ancestry from (reverse l)))) }
 {
     list_of_caller(process, first_waiting(threads, frames, from, process))
-}
-
-fn push_frame(frames: &mut Vec<Frame>, frame: Frame)
-    requires { vec_len frames.old < vec_capacity frames.old }
-    ensures frames { frames.new.items ≡ frames.old.items ++ frame ∷ [] }
-    ensures len { vec_len frames.new ≡ vec_len frames.old + 1 }
-    ensures capacity { vec_capacity frames.new ≡ vec_capacity frames.old }
-{
-    frames.push_reserved(frame);
-}
-
-fn close_frame(frames: &mut Vec<Frame>, made: u32)
-    ensures frames { frames.new.items ≡ filter (λ f. not (spec.is_frame made f)) frames.old.items }
-    ensures len { vec_len frames.new ≤ vec_len frames.old }
-    ensures capacity { vec_capacity frames.new ≡ vec_capacity frames.old }
-{
-    frames.retain(|f| !is_frame(f, made));
-}
-
-fn is_abandoned(frames: &[Frame], frame: &Frame) -> bool
-    ensures { result ≡ settling.is_abandoned frames.now frame.now }
-{
-    is_gone(frame.server) && !has_child(frames, frame)
-}
-
-fn abandoned_made_at(frames: &[Frame], made: u32) -> Option<Frame>
-    ensures { result ≡ find (λ f. spec.is_frame made f && settling.is_abandoned frames.now f) frames.now }
-{
-    frames
-        .iter()
-        .copied()
-        .find(|f| is_frame(f, made) && is_abandoned(frames, f))
-}
-
-// The frame's call was made at one of these places.
-fn is_among(chosen: &[u32], frame: &Frame) -> bool
-    ensures { result ≡ is_place_among chosen.now frame.now.made }
-{
-    chosen.iter().any(|made| *made == frame.made)
-}
-
-fn oldest_abandoned_among(frames: &[Frame], chosen: &[u32]) -> Option<Frame>
-    ensures { result ≡ find (λ f. is_place_among chosen.now f.made && settling.is_abandoned frames.now f) frames.now }
-{
-    frames
-        .iter()
-        .copied()
-        .find(|f| is_among(chosen, f) && is_abandoned(frames, f))
 }
 
 // In the place of a call that closes the one is chosen in which it was made.
@@ -189,86 +96,62 @@ fn choose_parent(chosen: &mut [u32], made: u32, parent: u32)
     }
 }
 
-fn push_served(frames: &[Frame], seat: u32, served: &mut Vec<u32>) -> Result<(), AllocError>
-    ensures { OnOk result (served.new.items
-        ≡ served.old.items ++ map spec.made_of (filter (λ f. spec.serves seat f.server) frames.now)) }
+fn serve_call(frames: &mut FrameTable, seat: u32, kind: WorkKind)
+    ensures frames { frame_table.Makes frames.old frames.new
+        (λ l. changed (λ f. works.is_call f.made kind) (reading.serve seat) l) }
+    ensures uses { frame_rooms.Uses frames.old frames.new 0 }
 {
-    for frame in frames {
-        if serves(seat, frame.server) {
-            served.push(frame.made)?;
-        }
-    }
-    Ok(())
-}
-
-// Whoever read the call of a frame is its server.
-pub(crate) fn serve(frames: &mut Vec<Frame>, seat: u32, taken: &[Work])
-    ensures frames { frames.new.items ≡ reading.served_frames seat taken.now frames.old.items }
-    ensures len { vec_len frames.new ≡ vec_len frames.old }
-    ensures capacity { vec_capacity frames.new ≡ vec_capacity frames.old }
-{
-    for frame in frames.iter_mut() {
-        if has_call(taken, frame.made) {
-            frame.server = Server::Serving(seat);
-        }
+    if let WorkKind::Call(made) = kind {
+        frames.serve(made, seat);
     }
 }
 
-fn gone_caller(seat: u32, caller: Option<u32>) -> Option<u32>
-    ensures { result ≡ exits.gone_caller seat caller }
+/// Whoever read the call of a frame is its server.
+pub(crate) fn serve(frames: &mut FrameTable, seat: u32, taken: &[Work])
+    ensures frames { frame_table.Makes frames.old frames.new (λ l. reading.served_frames seat taken.now l) }
+    ensures uses { frame_rooms.Uses frames.old frames.new 0 }
 {
-    caller.filter(|c| *c != seat)
-}
-
-fn unread_server(todo: &WorkTable, list: TodoList, made: u32, server: Server) -> Server
-    ensures { links.Tells todo.now result (λ l. exits.unread_server l list made server) }
-{
-    match server {
-        Server::Pending if todo.is_unread_on(list, made) => Server::Gone,
-        _ => server,
+    for work in taken {
+        serve_call(frames, seat, work.kind);
     }
 }
 
-fn frame_without(todo: &WorkTable, seat: u32, frame: Frame) -> Frame
-    ensures { links.Tells todo.now result (λ l. exits.frame_without l seat frame) }
+fn lose_call(frames: &mut FrameTable, kind: WorkKind)
+    ensures frames { frame_table.Makes frames.old frames.new
+        (λ l. changed (λ f. works.is_call f.made kind) lost_frame l) }
+    ensures uses { frame_rooms.Uses frames.old frames.new 0 }
 {
-    let unread = unread_server(todo, TodoList::OfThread(seat), frame.made, frame.server);
-    Frame {
-        caller: gone_caller(seat, frame.caller),
-        server: gone_server(seat, unread),
-        ..frame
+    if let WorkKind::Call(made) = kind {
+        frames.lose(made);
     }
 }
 
-fn unread_frame(todo: &WorkTable, list: TodoList, frame: Frame) -> Frame
-    ensures { links.Tells todo.now result (λ l. exits.unread_frame l list frame) }
+fn lose_calls(frames: &mut FrameTable, works: Works<'_>)
+    ensures frames { frame_table.Makes frames.old frames.new (λ l. lost_frames works.entry l) }
+    ensures uses { frame_rooms.Uses frames.old frames.new 0 }
 {
-    Frame {
-        server: unread_server(todo, list, frame.made, frame.server),
-        ..frame
+    for work in works {
+        lose_call(frames, work.kind);
     }
 }
 
-// The thread is gone from its frames.
-pub(crate) fn leave_frames(frames: &mut Vec<Frame>, todo: &WorkTable, seat: u32)
-    ensures frames { links.Tells todo.now frames.new.items (λ l. map (exits.frame_without l seat) frames.old.items) }
-    ensures len { vec_len frames.new ≡ vec_len frames.old }
-    ensures capacity { vec_capacity frames.new ≡ vec_capacity frames.old }
+/// The calls that stand unread on the list have lost their server.
+pub(crate) fn lose_unread(frames: &mut FrameTable, todo: &WorkTable, list: TodoList)
+    ensures frames { (items : List declared.Work) → links.WorksAre todo.now items
+        → frame_table.Makes frames.old frames.new (λ l. map (exits.unread_frame items list) l) }
+    ensures uses { frame_rooms.Uses frames.old frames.new 0 }
 {
-    for frame in frames.iter_mut() {
-        *frame = frame_without(todo, seat, *frame);
-    }
+    lose_calls(frames, todo.works_on(list));
 }
 
-// The calls that stand unread on the list have lost their server.
-pub(crate) fn lose_unread(frames: &mut Vec<Frame>, todo: &WorkTable, list: TodoList)
-    ensures frames { links.Tells todo.now frames.new.items (λ l. map (exits.unread_frame l list) frames.old.items) }
-    ensures len { vec_len frames.new ≡ vec_len frames.old }
-    ensures capacity { vec_capacity frames.new ≡ vec_capacity frames.old }
+/// The thread is gone from its frames, and the calls on its list have lost their server.
+pub(crate) fn leave_frames(frames: &mut FrameTable, todo: &WorkTable, seat: u32)
+    ensures frames { (items : List declared.Work) → links.WorksAre todo.now items
+        → frame_table.Makes frames.old frames.new (λ l. map (exits.frame_without items seat) l) }
+    ensures uses { frame_rooms.Uses frames.old frames.new 0 }
 {
-    for frame in frames.iter_mut() {
-        *frame = unread_frame(todo, list, *frame);
-    }
+    lose_unread(frames, todo, TodoList::OfThread(seat));
+    frames.leave(seat);
 }
 
 impl CallTable {
@@ -284,21 +167,23 @@ impl CallTable {
     pub fn frame(&self, made: u32) -> Option<Frame>
         ensures { Tells (StandsFor self.now) result (λ s. find (spec.is_frame made) s.frames) }
     {
-        frame_made_at(&self.frames, made)
+        self.frames.frame(made)
     }
 
     /// The innermost frame of a thread: of those that it called or serves, the newest.
     pub fn innermost(&self, seat: u32) -> Option<Frame>
         ensures { TellsOfStacked self.now result (λ s. spec.innermost s seat) }
     {
-        newest_of(&self.frames, seat)
+        self.frames.newest_of(seat)
     }
 
     /// A thread's innermost frame, if the thread serves it.
     pub fn served_innermost(&self, seat: u32) -> Option<Frame>
         ensures { TellsOfStacked self.now result (λ s. spec.served_innermost s seat) }
     {
-        newest_of(&self.frames, seat).filter(|f| serves(seat, f.server))
+        self.frames
+            .newest_of(seat)
+            .filter(|f| serves(seat, f.server))
     }
 
     /// Where a two-way call of a thread to a process is read: by the first thread of the process that waits on the way
@@ -326,7 +211,7 @@ impl CallTable {
             server: Server::Pending,
             parent,
         };
-        push_frame(&mut self.frames, frame);
+        self.frames.push(frame);
     }
 
     /// A call's frame closes.
@@ -334,14 +219,14 @@ impl CallTable {
         ensures stands { Makes (StandsFor self.old) (StandsFor self.new) (λ s. spec.closed s made) }
         ensures uses { UsesNothing self.old self.new }
     {
-        close_frame(&mut self.frames, made);
+        self.frames.close(made);
     }
 
     fn count_frames(&self) -> usize
         ensures count { result ≡ frame_count self.now }
         ensures frames { Tells (StandsFor self.now) result (λ s. length s.frames) }
     {
-        self.frames.len()
+        self.frames.count()
     }
 
     // A call closes, and its caller is told, if it lives.
@@ -360,7 +245,7 @@ impl CallTable {
         ensures { Tells (StandsFor self.now) result
             (λ s. find (λ f. spec.is_frame made f && settling.is_abandoned s.frames f) s.frames) }
     {
-        abandoned_made_at(&self.frames, made)
+        self.frames.abandoned_at(made)
     }
 
     // The call made there closes if it is abandoned; which one is to be looked at next.
@@ -405,7 +290,7 @@ impl CallTable {
             → StandsFor self.new whole }
         ensures uses { Uses self.old self.new (record nothing { works = 1 }) }
     {
-        let Some(oldest) = oldest_abandoned_among(&self.frames, chosen) else {
+        let Some(oldest) = self.frames.oldest_abandoned_among(chosen) else {
             return false;
         };
         self.abandon(place, oldest);
@@ -436,6 +321,6 @@ impl CallTable {
         ensures { OnOk result (Tells (StandsFor self.now) served.new.items
             (λ s. served.old.items ++ map spec.made_of (filter (λ f. spec.serves seat f.server) s.frames))) }
     {
-        push_served(&self.frames, seat, served)
+        self.frames.served(seat, served)
     }
 }

@@ -1,13 +1,14 @@
 //! The table itself: making it, room in it, and what changes several of its lists at once.
 #![tactic(auto, unfolding(crate::specs::Room::rooms))]
 
-ghost use Rattle.std.specs.Prelude.{ℕ, Bool, ◌≡◌, ◌==◌, ◌||◌, ◌&&◌, ◌+◌, ◌<◌, ◌≤◌, ◌^◌, ◌++◌, ◌∷◌, [], false, not, nat_le, map, filter, find, reverse, length, count_by, Option, Some, None, option_map, IfOk, OnOk, OnErr, vec_len, vec_capacity};
+ghost use Rattle.std.specs.Prelude.{◌≡◌, ◌+◌, ◌≤◌, ◌^◌, IfOk, OnOk, OnErr};
 
 use crate::frame::{leave_frames, lose_unread, serve};
 use crate::thread::remove_thread;
 use crate::turn::{hand_out_taken, lose_turns};
+use bd_frames::FrameTable;
 use bd_links::WorkTable;
-use bd_space::{Frame, Thread, TodoList, Work};
+use bd_space::{Thread, TodoList, Work};
 use bd_turns::TurnTable;
 use std::alloc::{AllocError, Global};
 
@@ -15,7 +16,7 @@ use std::alloc::{AllocError, Global};
 #[derive(Debug, Drop)]
 pub struct CallTable {
     pub(crate) threads: Vec<Thread>,
-    pub(crate) frames: Vec<Frame>,
+    pub(crate) frames: FrameTable,
     pub(crate) todo: WorkTable,
     pub(crate) turns: TurnTable,
 }
@@ -27,7 +28,7 @@ impl CallTable {
     ghost use Rattle.bd_space.specs.ReadItems as reading;
     ghost use Rattle.bd_space.specs.Tables.{Tells, Makes, MakesAt};
     ghost use Rattle.bd_calls.specs.Stands.{Stands, StandsFor};
-    ghost use Rattle.bd_calls.specs.Room.{Uses, UsesNothing, nothing, HasRoom};
+    ghost use Rattle.bd_calls.specs.Room.{Uses, UsesNothing, nothing, HasRoom, frame_count};
 
     /// An empty table. Takes no memory.
     pub fn new(alloc: Global) -> CallTable
@@ -35,7 +36,7 @@ impl CallTable {
     {
         CallTable {
             threads: Vec::new(alloc),
-            frames: Vec::new(alloc),
+            frames: FrameTable::new(alloc),
             todo: WorkTable::new(alloc),
             turns: TurnTable::new(alloc),
         }
@@ -43,11 +44,11 @@ impl CallTable {
 
     // As many as settling may make, the one of a call that ripens, and what the steps themselves do.
     fn works_to_reserve(&self, works: usize) -> Result<usize, AllocError>
-        ensures sum { IfOk result (λ n. n ≡ works + vec_len self.now.frames + 9) }
-        ensures past { OnErr result (2 ^ 64 ≤ works + vec_len self.now.frames + 9) }
+        ensures sum { IfOk result (λ n. n ≡ works + frame_count self.now + 9) }
+        ensures past { OnErr result (2 ^ 64 ≤ works + frame_count self.now + 9) }
     {
         works
-            .checked_add(self.frames.len())
+            .checked_add(self.frames.count())
             .and_then(|n| n.checked_add(9))
             .ok_or(AllocError)
     }
@@ -63,7 +64,7 @@ impl CallTable {
     {
         let works = self.works_to_reserve(works)?;
         self.threads.reserve(1)?;
-        self.frames.reserve(1)?;
+        self.frames.reserve()?;
         self.turns.reserve(1)?;
         self.todo.reserve(works)
     }

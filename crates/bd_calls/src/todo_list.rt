@@ -1,15 +1,17 @@
 //! Todo lists: which work items are still to be read, and by whom.
 #![tactic(auto, unfolding(bd_space::specs::Todo::owe, bd_space::specs::Todo::has_unread, bd_space::specs::Todo::list_to_read, crate::specs::Room::rooms))]
 
-ghost use Rattle.std.specs.Prelude.{ℕ, Bool, ◌≡◌, ◌==◌, ◌||◌, ◌&&◌, ◌+◌, ◌<◌, ◌≤◌, ◌^◌, ◌++◌, ◌∷◌, [], false, not, nat_le, map, filter, find, reverse, length, count_by, Option, Some, None, option_map, IfOk, OnOk, OnErr, vec_len, vec_capacity};
+ghost use Rattle.std.specs.Prelude.{ℕ, Bool, List, ◌≡◌, ◌==◌, ◌||◌, ◌&&◌, ◌+◌, ◌<◌, ◌≤◌, ◌^◌, ◌++◌, ◌∷◌, [], false, not, nat_le, map, filter, find, reverse, length, count_by, Option, Some, None, option_map, IfOk, OnOk, OnErr, vec_len, vec_capacity};
 ghost use Rattle.std.specs.List.{list_any, slice_get};
 ghost use Rattle.bd_space.specs.declared.space.WorkKind.{WorkKind};
 ghost use Rattle.std.specs.Option.{is_none};
 ghost use Rattle.bd_space.specs.Frames.{innermost_in};
+ghost use Rattle.bd_space.specs.Words.{is_some_and};
 ghost use Rattle.bd_space.specs.Todo as spec;
-ghost use Rattle.bd_space.specs.ThreadExits as exits;
 ghost use Rattle.bd_space.specs.Reading as reading;
 ghost use Rattle.bd_space.specs.Notices as notices;
+ghost use Rattle.bd_space.specs.declared.space.Frame as declared;
+ghost use Rattle.bd_frames.specs.Stands as frame_table;
 ghost use Rattle.bd_links.specs.Stands as links;
 ghost use Rattle.bd_links.specs.TodoList as replies;
 ghost use Rattle.bd_links.specs.TodoList.{AnswersBy};
@@ -17,18 +19,21 @@ ghost use Rattle.bd_links.specs.TodoList.{AnswersBy};
 use crate::frame::is_in_no_call;
 use crate::table::CallTable;
 use crate::thread::thread_of;
+use bd_frames::FrameTable;
 use bd_links::{WorkTable, Works};
 use bd_space::{Frame, ObjectId, Thread, TodoList, Work, WorkKind};
 
 // The thread has entered the loop and is in no call.
-fn is_idle(frames: &[Frame], thread: &Thread) -> bool
-    ensures { result ≡ (thread.now.looping && is_none (innermost_in frames.now thread.now.seat)) }
+fn is_idle(frames: &FrameTable, thread: &Thread) -> bool
+    ensures { frame_table.Tells frames.now result
+        (λ l. thread.now.looping && is_none (innermost_in l thread.now.seat)) }
 {
     thread.looping && is_in_no_call(frames, thread.seat)
 }
 
-fn reads_in(frames: &[Frame], todo: &WorkTable, thread: &Thread) -> Option<TodoList>
-    ensures { links.Tells todo.now result (λ l. spec.reads_in frames.now l thread.now) }
+fn reads_in(frames: &FrameTable, todo: &WorkTable, thread: &Thread) -> Option<TodoList>
+    ensures { (fs : List declared.Frame) → frame_table.FramesAre frames.now fs
+        → links.Tells todo.now result (λ l. spec.reads_in fs l thread.now) }
 {
     let own = TodoList::OfThread(thread.seat);
     if todo.has_any(own) {
@@ -41,9 +46,9 @@ fn reads_in(frames: &[Frame], todo: &WorkTable, thread: &Thread) -> Option<TodoL
 }
 
 // It is asked of every thread after every step: the frames are looked at only where its process has work.
-fn has_to_read(frames: &[Frame], todo: &WorkTable, thread: &Thread) -> bool
-    ensures { links.Tells todo.now result
-        (λ l. not (reading.is_empty (spec.work_on l (spec.reads_in frames.now l thread.now)))) }
+fn has_to_read(frames: &FrameTable, todo: &WorkTable, thread: &Thread) -> bool
+    ensures { (fs : List declared.Frame) → frame_table.FramesAre frames.now fs → links.Tells todo.now result
+        (λ l. not (reading.is_empty (spec.work_on l (spec.reads_in fs l thread.now)))) }
 {
     todo.has_any(TodoList::OfThread(thread.seat))
         || (todo.has_any(TodoList::OfProcess(thread.process)) && is_idle(frames, thread))
@@ -103,13 +108,6 @@ impl CallTable {
         }
     }
 
-    /// Whether an unread call or reply on a list would have handed this buffer over, so that it is lost with the list.
-    pub fn is_lost(&self, list: TodoList, buffer: u32) -> bool
-        ensures { Tells (StandsFor self.now) result (λ s. exits.is_lost_with s.todo list buffer) }
-    {
-        self.todo.is_lost_with(list, buffer)
-    }
-
     /// A work item comes onto a list, made at this place.
     pub fn owe(&mut self, place: u32, list: TodoList, kind: WorkKind)
         requires { 1 ≤ work_room self.old }
@@ -167,5 +165,14 @@ impl CallTable {
         ensures uses { UsesNothing self.old self.new }
     {
         self.todo.withdraw_notice(object);
+    }
+
+    /// The work item of a death notification goes.
+    pub fn withdraw_death(&mut self, made: u32)
+        ensures stands { Makes (StandsFor self.old) (StandsFor self.new)
+            (λ s. record s { todo = filter (λ w. not (is_some_and (spec.death_of w.kind) (λ n. n == made))) s.todo }) }
+        ensures uses { UsesNothing self.old self.new }
+    {
+        self.todo.withdraw_death(made);
     }
 }

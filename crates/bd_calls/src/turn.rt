@@ -13,11 +13,11 @@ ghost use Rattle.bd_links.specs.Stands as links;
 ghost use Rattle.bd_space.specs.declared.space.Work as declared;
 ghost use Rattle.bd_turns.specs.Stands as turn_table;
 ghost use Rattle.bd_turns.specs.Room as turn_rooms;
-ghost use Rattle.bd_calls.specs.Turn.{handed_turns};
+ghost use Rattle.bd_calls.specs.Turn.{handed_turns, is_other_than};
 
 use crate::table::CallTable;
 use crate::work::handed_by;
-use bd_links::WorkTable;
+use bd_links::{WorkTable, hands_out};
 use bd_space::{ObjectId, TodoList, Turn, Work, WorkKind};
 use bd_turns::TurnTable;
 
@@ -71,12 +71,24 @@ pub(crate) fn hand_out_taken(turns: &mut TurnTable, taken: &[Work])
     }
 }
 
+// The one-way call goes whose buffer a work item of this kind hands over.
+fn lose_turn(turns: &mut TurnTable, kind: WorkKind)
+    ensures turns { turn_table.Makes turns.old turns.new (λ l. filter (is_other_than kind) l) }
+    ensures uses { turn_rooms.Uses turns.old turns.new 0 }
+{
+    if let Some(made) = hands_out(kind) {
+        turns.remove(made);
+    }
+}
+
 pub(crate) fn lose_turns(turns: &mut TurnTable, todo: &WorkTable, list: TodoList)
     ensures turns { (works : List declared.Work) → links.WorksAre todo.now works → turn_table.Makes turns.old turns.new
         (λ l. filter (λ t. not (exits.is_lost_with works list t.made)) l) }
     ensures uses { turn_rooms.Uses turns.old turns.new 0 }
 {
-    turns.retain(|t| !todo.is_lost_with(list, t.made));
+    for work in todo.works_on(list) {
+        lose_turn(turns, work.kind);
+    }
 }
 
 impl CallTable {

@@ -1,19 +1,11 @@
 //! Work items that were read.
 
 ghost use Rattle.std.specs.Prelude.{◌≡◌, map};
-ghost use Rattle.std.specs.List.{list_any};
 ghost use Rattle.bd_space.specs.Words as words;
 ghost use Rattle.bd_space.specs.Todo as spec;
 
-use bd_links::{hands_out, is_call};
+use bd_links::hands_out;
 use bd_space::Work;
-
-/// The call of this buffer is among them.
-pub(crate) fn has_call(taken: &[Work], buffer: u32) -> bool
-    ensures { result ≡ list_any (λ w. spec.is_call buffer w.kind) taken.now }
-{
-    taken.iter().any(|w| is_call(buffer, w.kind))
-}
 
 // The buffer that is handed over by reading these.
 pub(crate) fn handed_by(taken: &[Work]) -> Option<u32>

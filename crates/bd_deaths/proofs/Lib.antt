@@ -1,6 +1,7 @@
 pub mod Changes
 pub mod Kept
 pub mod Keys
+pub mod Only
 pub mod Parts
 pub mod Places
 pub mod Removing

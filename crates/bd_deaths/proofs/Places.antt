@@ -130,7 +130,7 @@ pub within-none : (q : DeathNotification → Bool) (xs : List DeathNotification)
     → IsWithin q 0 0 xs
 within-none q xs h = record { before = refl; after = none-pass q xs (empty (filter q xs) h) }
 
-nothing-implies : {A : Type 0} (q r : A → Bool) (xs : List A) → list_any q xs ≡ false → Implies q r xs
+pub nothing-implies : {A : Type 0} (q r : A → Bool) (xs : List A) → list_any q xs ≡ false → Implies q r xs
 nothing-implies q r [] h = tt
 nothing-implies q r (x ∷ xs) h = let g = no-head (q x) _ h in (λ e. absurd (cc), nothing-implies q r xs g.1)
 

@@ -1,5 +1,6 @@
 pub mod Stands
 pub mod Room
 pub mod Due
+pub mod Only
 pub mod Keys
 pub mod SharedAt

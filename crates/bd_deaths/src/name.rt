@@ -7,7 +7,7 @@ ghost use Rattle.bd_space.specs.Local as local;
 ghost use Rattle.bd_space.specs.declared.space.DeathNotification as declared;
 
 use crate::key::name_key;
-use crate::look::same;
+use crate::look::{is_uncleared_on, same};
 use crate::place::part;
 use crate::table::DeathTable;
 use bd_space::{DeathNotification, ObjectId};
@@ -45,9 +45,7 @@ fn first_uncleared(deaths: &[DeathNotification], p: u32, o: ObjectId) -> Option<
     ensures first { result ≡ position (deaths_of.is_uncleared_on p o) deaths.now }
     ensures within { IfSome result (λ i. i < length deaths.now) }
 {
-    deaths
-        .iter()
-        .position(|x| !x.cleared && x.process == p && same(x.object, o))
+    deaths.iter().position(|x| is_uncleared_on(p, o, x))
 }
 
 impl DeathTable {

@@ -1,5 +1,5 @@
 -- The parts of `serve`: their steps at given hands, and what they come to.
-use Rattle.std.proofs.Common.{◌≡◌, ◌≢◌, ℕ, suc, ◌+◌, ◌-◌, ◌<◌, Bool, true, false, eqb, List, [], ◌∷◌, ◌++◌, length, refl, sym, ap, ◌∙◌, subst, inl, inr, arith, length-append, append_assoc, cond, eq-eqb, ne_eqb, ◌==◌, ◌%◌, Some, append-nil}
+use Rattle.std.proofs.Common.{◌≡◌, ◌≢◌, ℕ, suc, ◌+◌, ◌-◌, ◌<◌, Bool, true, false, eqb, List, [], ◌∷◌, ◌++◌, length, refl, sym, ap, ◌∙◌, subst, inl, inr, arith, length-append, append_assoc, cond, eq-eqb, ne_eqb, ◌==◌, ◌%◌, Some, None, append-nil}
 use mathlib.Core.Option.{none}
 use prog.Atomic.{either}
 use Rattle.atomic_table.specs.Table.{step, rest, Allows}
@@ -283,6 +283,36 @@ serves_one m m' m'' i r p h =
       };
       slots = ran.slots;
     }
+
+pub serves_nothing : (m m' : Hands) (i : ℕ) → PicksOne m i m' None → ServedOne (view_of m.0) (rest m.1) i m' false
+serves_nothing m m' i p =
+    let v = view_of m.0 in
+    subst (λ (x : Hands). ServedOne v (rest m.1) i x false) (sym p.view.1)
+    (record {
+      word = p.word;
+      hit = p.view.0;
+      picks = refl;
+      letters = [];
+      answers = sym (append-nil v.answers);
+      answered = (refl, refl);
+      answer_steps = refl;
+      publishes = omega arith;
+      only = record {
+        seats = refl;
+        who = refl;
+        own = refl;
+        handover = refl;
+        takes = refl;
+        puts = refl;
+        looks = refl;
+        posts = refl;
+        withdraws = refl;
+        collects = refl;
+        opens = refl;
+        shuts = refl;
+      };
+      slots = refl;
+    })
 
 pub served_none : (m : Hands) → ServedAll (view_of m.0) (rest m.1) 0 m 0
 served_none m = record {

@@ -25,6 +25,7 @@ pub mod Freeing
 pub mod Reading
 pub mod Following
 pub mod FollowingObjects
+pub mod Handed
 pub mod Clearing
 pub mod New
 pub mod Afterwards

@@ -19,6 +19,10 @@ use Rattle.bd_engine.specs.Stands.{Within}
 unfoldable pub deaths_followed : NameTest → Space → Space
 deaths_followed a s = work_goes_of a (λ i. false) s.deaths (deaths_go_of a s)
 
+-- their work items alone
+unfoldable pub deaths_withdrawn : NameTest → Space → Space
+deaths_withdrawn a s = record s { todo = (deaths_followed a s).todo }
+
 -- and the names go first, with the references that they rested on
 unfoldable pub names_followed : NameTest → Space → Space
 names_followed a s = deaths_followed a (names_go_of a s)

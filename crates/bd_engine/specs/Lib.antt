@@ -11,3 +11,4 @@ pub mod Looks
 pub mod Freed
 pub mod Following
 pub mod Exits
+pub mod Handed

@@ -8,16 +8,47 @@ ghost use Rattle.bd_space.specs.Steps as steps;
 ghost use Rattle.bd_space.specs.Commands as commands;
 ghost use Rattle.bd_space.specs.Outcomes.{accepted};
 ghost use Rattle.bd_space.specs.ThreadExits as exits;
+ghost use Rattle.bd_space.specs.Tables.{Makes as Changes};
+ghost use Rattle.bd_objects.specs.Room as object_rooms;
 ghost use Rattle.bd_objects.specs.Room.{death_count};
+ghost use Rattle.bd_objects.specs.Stands.{StandsFor};
+ghost use Rattle.bd_buffers.specs.WindowsStand.{StandsIn};
 ghost use Rattle.bd_calls.specs.Room.{thread_room};
 ghost use Rattle.bd_engine.specs.Stands.{Tells, Makes, MakesWithin, UsesNothing};
 ghost use Rattle.bd_engine.specs.Meets.{IsAny, IsBy, IsStep};
+ghost use Rattle.bd_engine.specs.Handed.{without_handed, without_all_handed};
 
 use crate::answer::Plain;
 use crate::tables::Tables;
 use crate::why::Why;
-use bd_space::{Actor, Thread, TodoList};
+use bd_buffers::Windows;
+use bd_links::{Works, hands_out};
+use bd_objects::ObjectTable;
+use bd_space::{Actor, Thread, TodoList, WorkKind};
 use bd_uapi::Fault;
+
+// The buffer goes that reading a work item of this kind would have handed out, with the references that it holds.
+fn end_buffer_of(objects: &mut ObjectTable, windows: &mut Windows, kind: WorkKind)
+    ensures objects { Changes (StandsFor objects.old) (StandsFor objects.new) (λ s. without_handed s kind) }
+    ensures windows { Changes (StandsIn windows.old) (StandsIn windows.new) (λ s. without_handed s kind) }
+    ensures uses { object_rooms.UsesNothing objects.old objects.new }
+{
+    if let Some(made) = hands_out(kind) {
+        objects.without_buffer(made);
+        windows.free(made);
+    }
+}
+
+// The buffers go that reading these work items would have handed out, with the references that they hold.
+fn end_handed(objects: &mut ObjectTable, windows: &mut Windows, works: Works<'_>)
+    ensures objects { Changes (StandsFor objects.old) (StandsFor objects.new) (λ s. without_all_handed s works.entry) }
+    ensures windows { Changes (StandsIn windows.old) (StandsIn windows.new) (λ s. without_all_handed s works.entry) }
+    ensures uses { object_rooms.UsesNothing objects.old objects.new }
+{
+    for work in works {
+        end_buffer_of(objects, windows, work.kind);
+    }
+}
 
 impl Tables {
     // The thread with its process.
@@ -107,9 +138,8 @@ impl Tables {
         ensures deaths { death_count self.new.objects ≤ death_count self.old.objects }
     {
         let list = TodoList::OfThread(seat);
-        let calls = &self.calls;
-        self.objects.thread_goes(|b| calls.is_lost(list, b));
-        self.windows.drop_lost(|b| calls.is_lost(list, b));
+        let works = self.calls.works_on(list);
+        end_handed(&mut self.objects, &mut self.windows, works);
         self.calls.thread_goes(seat);
     }
 

@@ -6,7 +6,7 @@ ghost use Rattle.bd_laws.specs.Lists.{Pairs};
 ghost use Rattle.bd_laws.specs.Objects.{NotLater};
 ghost use Rattle.bd_calls.specs.Room.{work_room};
 ghost use Rattle.bd_engine.specs.Stands.{Uses, MakesWithin, UsesNothing};
-ghost use Rattle.bd_engine.specs.Following.{deaths_followed, names_followed, shed_of, told_of, AreTouched, MakesOfOrdered};
+ghost use Rattle.bd_engine.specs.Following.{deaths_followed, deaths_withdrawn, names_followed, shed_of, told_of, AreTouched, MakesOfOrdered};
 
 use crate::tables::Tables;
 use bd_space::{ObjectId, TodoList};
@@ -21,6 +21,22 @@ pub(crate) fn in_order(mut objects: Vec<ObjectId>) -> Vec<ObjectId>
 }
 
 impl Tables {
+    // The work items go of the death notifications that go with the process's name of the object, which is gone: where just
+    // one does, no other item is looked at.
+    fn withdraw_deaths(&mut self, p: u32, o: ObjectId)
+        ensures stands { MakesWithin self.old self.new (deaths_withdrawn (at_name p o)) }
+        ensures uses { UsesNothing self.old self.new }
+    {
+        match self.objects.only_lost_death(p, o) {
+            Some(made) => self.calls.withdraw_death(made),
+            None => {
+                let objects = &self.objects;
+                self.calls
+                    .retain_work(|kind| objects.still_due_at(p, o, &kind));
+            }
+        }
+    }
+
     // The death notifications go whose name of the object is gone, and their work items.
     fn follow_deaths(&mut self, p: u32, o: ObjectId)
         ensures stands { MakesWithin self.old self.new (deaths_followed (at_name p o)) }
@@ -29,9 +45,7 @@ impl Tables {
         if !self.objects.has_lost_death(p, o) {
             return;
         }
-        let objects = &self.objects;
-        self.calls
-            .retain_work(|kind| objects.still_due_at(p, o, &kind));
+        self.withdraw_deaths(p, o);
         self.objects.deaths_go_with(p, o);
     }
 

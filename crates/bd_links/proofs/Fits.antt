@@ -1,11 +1,11 @@
 -- The room of a table is a number of the machine.
 use Rattle.std.proofs.Common.{◌<◌, ◌^◌, min, arith}
-use Rattle.std.specs.HashMap.{spare}
 use Rattle.std.proofs.Math.Nat.{min-le_right}
 use Rattle.bd_links.specs.declared.table.WorkTable.{WorkTable}
 use Rattle.bd_links.specs.QueuesStand.{queue_room}
+use Rattle.bd_links.specs.Registered.{register_room}
 use Rattle.bd_links.specs.Stands.{work_room}
 
 pub room-fits : (t : WorkTable) → work_room t < 2 ^ 64
 unfolding work_room
-room-fits t = omega (arith, min-le_right (min (queue_room t.queues) (spare t.register.spots.spots)) 18446744073709551615)
+room-fits t = omega (arith, min-le_right (min (queue_room t.queues) (register_room t.register)) 18446744073709551615)

@@ -3,13 +3,13 @@ use Rattle.std.proofs.Common.{◌≡◌, ℕ, ◌+◌, ◌-◌, ◌<◌, ◌==�
 use Rattle.std.specs.Option.{IsSome}
 use Rattle.std.specs.List.{list_any}
 use Rattle.std.proofs.lemmas.List.Sums.{sum_by-append, sum_by-cons, count_by-le-length}
-use Rattle.bd_space.specs.Words.{is_some_and}
 use Rattle.bd_space.specs.declared.space.Work.{Work}
+use Rattle.bd_links.proofs.ListKeys.{same_key-eq}
 use Rattle.bd_links.specs.declared.spots.Sought.{Sought}
-use Rattle.bd_links.specs.declared.spots.Sought.TheVariants.{Notice, Call}
+use Rattle.bd_links.specs.declared.spots.Sought.TheVariants.{Notice, Call, Death, Unread}
 use Rattle.bd_links.specs.declared.spots.Spot.{Spot}
 use Rattle.bd_links.specs.declared.spots.Spots.{Spots}
-use Rattle.bd_links.specs.Spots.{same_sought, sought_of, is_sought, count_at, Counted}
+use Rattle.bd_links.specs.Spots.{same_sought, is_key, count_at, Counted}
 
 -- the count that is found, or 0
 pub count_updated : (b : Bool) (w old new : Option Spot) → new ≡ cond b w old
@@ -28,9 +28,10 @@ same_sought-eq (Notice p i) (Notice q j) h =
     both : (a b : Bool) → (a && b) ≡ true → (a ≡ true) × (b ≡ true)
     both true b h = (refl, h)
     both false b h = cc
-same_sought-eq (Notice p i) (Call c) h = cc
-same_sought-eq (Call b) (Notice q j) h = cc
 same_sought-eq (Call b) (Call c) h = ap Call (eqb-true b c h)
+same_sought-eq (Death m) (Death n) h = ap Death (eqb-true m n h)
+same_sought-eq (Unread a) (Unread b) h = ap Unread (same_key-eq a b h)
+same_sought-eq _ _ h = cc
 
 -- what is written at a key, as a change of what was found there
 pub at_key : (t : Spots) (a k : Sought) (v : ℕ) (f : ℕ → ℕ) (n : ℕ) → v ≡ f (count_at t a) → cond (same_sought a k) v (count_at t k) ≡ cond (same_sought a k) (f (count_at t k)) (count_at t k)
@@ -54,47 +55,47 @@ count-more p ws w = let a = count-append p ws (w ∷ []) in let b = count-cons p
 pub count-less : (p : Work → Bool) (before : List Work) (w : Work) (after : List Work) → count_by p (before ++ w ∷ after) ≡ cond (p w) 1 0 + count_by p (before ++ after)
 count-less p before w after = let a = count-append p before (w ∷ after) in let b = count-cons p w after in let c = count-append p before after in omega (arith, a, b, c)
 
-module _ (t u : Spots) (w : Work) (o : Option Sought) (is : o ≡ sought_of w.kind) where
-  looked_up : (k : Sought) → is_sought k w.kind ≡ is_some_and o (λ s. same_sought s k)
-  looked_up k = ap (λ p. is_some_and p (λ s. same_sought s k)) (sym is)
+module _ (f : Work → Option Sought) (t u : Spots) (w : Work) (o : Option Sought) (is : o ≡ f w) where
+  looked_up : (k : Sought) → is_key k (f w) ≡ is_key k o
+  looked_up k = ap (is_key k) (sym is)
 
-  pub counted_came : (todo : List Work) → length todo < 18446744073709551615 → Counted t todo
-      → ((k : Sought) → count_at u k ≡ cond (is_some_and o (λ s. same_sought s k)) (min (count_at t k + 1) 18446744073709551615) (count_at t k)) → Counted u (todo ++ w ∷ [])
-  counted_came todo few h new k = at (is_some_and o (λ s. same_sought s k)) refl
+  pub counted_came : (todo : List Work) → length todo < 18446744073709551615 → Counted f t todo
+      → ((k : Sought) → count_at u k ≡ cond (is_key k o) (min (count_at t k + 1) 18446744073709551615) (count_at t k)) → Counted f u (todo ++ w ∷ [])
+  counted_came todo few h new k = at (is_key k o) refl
     where
       n : ℕ
-      n = count_by (λ (v : Work). is_sought k v.kind) todo
+      n = count_by (λ (v : Work). is_key k (f v)) todo
 
-      at : (b : Bool) → is_some_and o (λ s. same_sought s k) ≡ b → count_at u k ≡ count_by (λ w. is_sought k w.kind) (todo ++ w ∷ [])
+      at : (b : Bool) → is_key k o ≡ b → count_at u k ≡ count_by (λ w. is_key k (f w)) (todo ++ w ∷ [])
       at true e =
           let c = new k ∙ ap (λ b. cond b (min (count_at t k + 1) 18446744073709551615) (count_at t k)) e in
-          let m = count-more (λ (v : Work). is_sought k v.kind) todo w in
+          let m = count-more (λ (v : Work). is_key k (f v)) todo w in
           let one = ap {B = ℕ} (λ b. cond b 1 0) (looked_up k ∙ e) in
-          let low = count_by-le-length (λ (v : Work). is_sought k v.kind) todo in
+          let low = count_by-le-length (λ (v : Work). is_key k (f v)) todo in
           let was = h k in
           omega (arith, c, m, one, low, was, few)
       at false e =
           let c = new k ∙ ap (λ b. cond b (min (count_at t k + 1) 18446744073709551615) (count_at t k)) e in
-          let m = count-more (λ (v : Work). is_sought k v.kind) todo w in
+          let m = count-more (λ (v : Work). is_key k (f v)) todo w in
           let one = ap {B = ℕ} (λ b. cond b 1 0) (looked_up k ∙ e) in
           let was = h k in
           omega (arith, c, m, one, was)
 
-  pub counted_went : (before after : List Work) → Counted t (before ++ w ∷ after)
-      → ((k : Sought) → count_at u k ≡ cond (is_some_and o (λ s. same_sought s k)) (count_at t k - 1) (count_at t k)) → Counted u (before ++ after)
-  counted_went before after h new k = at (is_some_and o (λ s. same_sought s k)) refl
+  pub counted_went : (before after : List Work) → Counted f t (before ++ w ∷ after)
+      → ((k : Sought) → count_at u k ≡ cond (is_key k o) (count_at t k - 1) (count_at t k)) → Counted f u (before ++ after)
+  counted_went before after h new k = at (is_key k o) refl
     where
-      at : (b : Bool) → is_some_and o (λ s. same_sought s k) ≡ b → count_at u k ≡ count_by (λ w. is_sought k w.kind) (before ++ after)
+      at : (b : Bool) → is_key k o ≡ b → count_at u k ≡ count_by (λ w. is_key k (f w)) (before ++ after)
       at b e =
           let c = new k in
-          let m = count-less (λ (v : Work). is_sought k v.kind) before w after in
+          let m = count-less (λ (v : Work). is_key k (f v)) before w after in
           let one = ap {B = ℕ} (λ b. cond b 1 0) (looked_up k ∙ e) in
           let was = h k in
           both b e c one m was
         where
-          both : (b : Bool) → is_some_and o (λ s. same_sought s k) ≡ b → count_at u k ≡ cond (is_some_and o (λ s. same_sought s k)) (count_at t k - 1) (count_at t k)
-              → cond {A = ℕ} (is_sought k w.kind) 1 0 ≡ cond b 1 0 → count_by (λ (v : Work). is_sought k v.kind) (before ++ w ∷ after) ≡ cond (is_sought k w.kind) 1 0 + count_by (λ (v : Work). is_sought k v.kind) (before ++ after)
-              → count_at t k ≡ count_by (λ (v : Work). is_sought k v.kind) (before ++ w ∷ after) → count_at u k ≡ count_by (λ (v : Work). is_sought k v.kind) (before ++ after)
+          both : (b : Bool) → is_key k o ≡ b → count_at u k ≡ cond (is_key k o) (count_at t k - 1) (count_at t k)
+              → cond {A = ℕ} (is_key k (f w)) 1 0 ≡ cond b 1 0 → count_by (λ (v : Work). is_key k (f v)) (before ++ w ∷ after) ≡ cond (is_key k (f w)) 1 0 + count_by (λ (v : Work). is_key k (f v)) (before ++ after)
+              → count_at t k ≡ count_by (λ (v : Work). is_key k (f v)) (before ++ w ∷ after) → count_at u k ≡ count_by (λ (v : Work). is_key k (f v)) (before ++ after)
           both true e c one m was = let d = c ∙ ap (λ b. cond b (count_at t k - 1) (count_at t k)) e in omega (arith, d, one, m, was)
           both false e c one m was = let d = c ∙ ap (λ b. cond b (count_at t k - 1) (count_at t k)) e in omega (arith, d, one, m, was)
 

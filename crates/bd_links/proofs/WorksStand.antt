@@ -1,24 +1,27 @@
 -- The table as a whole: a work item comes, or some go.
-use Rattle.std.proofs.Common.{◌≡◌, ◌⊎◌, inl, inr, ℕ, zero, suc, ◌^◌, ◌<◌, ◌≤◌, ◌==◌, nat_lt, Bool, not, cond, map, true, List, [], ◌∷◌, ◌++◌, length, filter, count_by, refl, sym, ap, ◌∙◌, subst, arith, length-append}
+use Rattle.std.proofs.Common.{◌≡◌, ◌⊎◌, inl, inr, ℕ, zero, suc, ◌^◌, ◌<◌, ◌≤◌, ◌==◌, nat_lt, Bool, not, ◌&&◌, cond, map, true, false, Some, None, List, [], ◌∷◌, ◌++◌, length, filter, count_by, refl, sym, ap, ◌∙◌, subst, arith, length-append}
 use Rattle.std.proofs.lemmas.List.{length-map}
 use Rattle.bd_space.specs.declared.space.Work.{Work}
 use Rattle.bd_space.specs.declared.space.TodoList.{TodoList}
 use Rattle.bd_space.specs.declared.space.WorkKind.{WorkKind}
-use Rattle.bd_space.specs.Todo.{with_work, is_on, is_notice, is_call}
+use Rattle.bd_space.specs.Todo.{with_work, is_on, is_notice, is_call, death_of, same_list, keeps_from_calling}
 use Rattle.bd_links.specs.declared.links.Node.{Node}
 use Rattle.bd_links.specs.declared.queues.Queues.{Queues}
 use Rattle.bd_links.specs.declared.table.WorkTable.{WorkTable}
 use Rattle.std.specs.List.{list_any}
 use Rattle.bd_space.specs.declared.step.ObjectId.{ObjectId}
 use Rattle.bd_space.specs.declared.space.WorkKind.TheVariants as kinds
-use Rattle.bd_space.specs.Words.{without_first}
-use Rattle.bd_links.specs.declared.spots.Sought.TheVariants.{Notice, Call}
+use Rattle.bd_space.specs.Words.{without_first, is_some_and}
+use Rattle.bd_links.specs.declared.spots.Sought.{Sought}
+use Rattle.bd_links.specs.declared.spots.Sought.TheVariants.{Notice, Call, Death, Unread}
 use Rattle.bd_links.specs.Rings.{In, without}
 use Rattle.bd_links.specs.Moved.{moved_order}
 use Rattle.bd_links.specs.Nodes.{rows, works}
 use Rattle.bd_links.specs.Queues.{is_used, used, work_in}
-use Rattle.bd_links.specs.Spots.{is_sought, count_at}
+use Rattle.bd_links.specs.Spots.{unread_of, is_key, is_sought, count_at}
+use Rattle.bd_links.specs.Heads.{list_key, same_key}
 use Rattle.bd_links.specs.Registered.{Registered}
+use Rattle.bd_links.proofs.ListKeys.{keys_swapped}
 use Rattle.bd_links.proofs.Moves.{In-filter}
 use Rattle.bd_links.proofs.SoughtCounts.{count-less, none_pass, any_counted}
 use Rattle.bd_links.proofs.Sweeping.{node_cut}
@@ -57,29 +60,53 @@ none_at t place l h late = sym (none_later t.register.latest place l h.registere
 pub all_at : (t : WorkTable) (place : ℕ) (l : List Work) → WorksAre t l → place ≡ t.register.latest → t.register.count ≡ count_by (λ w. w.id.place == place) l
 all_at t place l h same = h.registered.dated.counted ∙ ap (λ n. count_by (λ (w : Work). w.id.place == n) l) (sym same)
 
--- ---- the one notice
+-- ---- what is looked up
 
 notice_key : (o : ObjectId) (kind : WorkKind) → is_notice o kind ≡ is_sought (Notice o.place o.index) kind
 notice_key o (kinds.Notice p) = refl
 notice_key o (kinds.Call b) = refl
+notice_key o (kinds.Death n) = refl
 notice_key o _ = refl
 
 call_key : (b : ℕ) (kind : WorkKind) → is_call b kind ≡ is_sought (Call b) kind
 call_key b (kinds.Notice p) = refl
 call_key b (kinds.Call c) = refl
+call_key b (kinds.Death n) = refl
 call_key b _ = refl
 
-notice_count : (o : ObjectId) (l : List Work) → count_by (λ w. is_notice o w.kind) l ≡ count_by (λ w. is_sought (Notice o.place o.index) w.kind) l
-notice_count o l = λ i. count_by (λ (w : Work). notice_key o w.kind i) l
+death_key : (m : ℕ) (kind : WorkKind) → is_some_and (death_of kind) (λ n. n == m) ≡ is_sought (Death m) kind
+death_key m (kinds.Notice o) = refl
+death_key m (kinds.Call b) = refl
+death_key m (kinds.Death n) = refl
+death_key m _ = refl
 
-call_count : (b : ℕ) (l : List Work) → count_by (λ w. is_call b w.kind) l ≡ count_by (λ w. is_sought (Call b) w.kind) l
-call_count b l = λ i. count_by (λ (w : Work). call_key b w.kind i) l
+pub notice_goes : (o : ObjectId) (l : List Work) → filter (λ w. not (is_sought (Notice o.place o.index) w.kind)) l ≡ filter (λ w. not (is_notice o w.kind)) l
+notice_goes o l = sym (λ i. filter (λ (w : Work). not (notice_key o w.kind i)) l)
+
+pub death_goes : (m : ℕ) (l : List Work) → filter (λ w. not (is_sought (Death m) w.kind)) l ≡ filter (λ w. not (is_some_and (death_of w.kind) (λ n. n == m))) l
+death_goes m l = sym (λ i. filter (λ (w : Work). not (death_key m w.kind i)) l)
+
+pub has_sought_is : (t : WorkTable) (k : Sought) (l : List Work) → WorksAre t l → nat_lt 0 (count_at t.register.spots k) ≡ list_any (λ w. is_sought k w.kind) l
+has_sought_is t k l h = ap (nat_lt 0) (h.registered.counted k) ∙ any_counted (λ (w : Work). is_sought k w.kind) l
 
 pub has_notice_is : (t : WorkTable) (o : ObjectId) (l : List Work) → WorksAre t l → nat_lt 0 (count_at t.register.spots (Notice o.place o.index)) ≡ list_any (λ w. is_notice o w.kind) l
-has_notice_is t o l h = ap (nat_lt 0) (h.registered.counted (Notice o.place o.index) ∙ sym (notice_count o l)) ∙ any_counted (λ (w : Work). is_notice o w.kind) l
+has_notice_is t o l h = has_sought_is t (Notice o.place o.index) l h ∙ sym (λ i. list_any (λ (w : Work). notice_key o w.kind i) l)
 
 pub has_call_is : (t : WorkTable) (b : ℕ) (l : List Work) → WorksAre t l → nat_lt 0 (count_at t.register.spots (Call b)) ≡ list_any (λ w. is_call b w.kind) l
-has_call_is t b l h = ap (nat_lt 0) (h.registered.counted (Call b) ∙ sym (call_count b l)) ∙ any_counted (λ (w : Work). is_call b w.kind) l
+has_call_is t b l h = has_sought_is t (Call b) l h ∙ sym (λ i. list_any (λ (w : Work). call_key b w.kind i) l)
+
+unread_key : (list : TodoList) (w : Work) → (is_on list w && keeps_from_calling w.kind) ≡ is_key (Unread (list_key list)) (unread_of w)
+unread_key list w = at (keeps_from_calling w.kind) (same_list list w.list) (keys_swapped list w.list)
+  where
+    at : (b c : Bool) → c ≡ same_key (list_key w.list) (list_key list) → (c && b) ≡ is_key (Unread (list_key list)) (cond b (Some (Unread (list_key w.list))) None)
+    at true true e = e
+    at true false e = e
+    at false true e = refl
+    at false false e = refl
+
+pub has_unread_is : (t : WorkTable) (list : TodoList) (l : List Work) → WorksAre t l → nat_lt 0 (count_at t.register.unread (Unread (list_key list))) ≡ list_any (λ w. is_on list w && keeps_from_calling w.kind) l
+has_unread_is t list l h =
+    ap (nat_lt 0) (h.registered.unread (Unread (list_key list))) ∙ any_counted (λ (w : Work). is_key (Unread (list_key list)) (unread_of w)) l ∙ sym (λ i. list_any (λ (w : Work). unread_key list w i) l)
 
 cut_one : (p : Work → Bool) (before : List Work) (w : Work) (after : List Work) → p w ≡ true → filter (λ v. not (p v)) (before ++ w ∷ after) ≡ filter (λ v. not (p v)) (before ++ after)
 cut_one p [] w after e = ap (λ b. cond (not b) (w ∷ filter (λ v. not (p v)) after) (filter (λ v. not (p v)) after)) e
@@ -110,9 +137,6 @@ only_goes t u p l x h on is one gone went = of h.queues_stand.either
           queues_stand = record { either = inr (moved_order x k.0, subst (λ ws. Shows u.queues ws (moved_order x k.0)) (sym left) (gone l k.0 k.1 there)) };
           registered = subst (Registered u.register) (sym left) (went l k.0 k.1 h.registered there);
         }
-
-pub one_notice : (t : WorkTable) (o : ObjectId) (l : List Work) → WorksAre t l → count_at t.register.spots (Notice o.place o.index) ≡ 1 → count_by (λ w. is_notice o w.kind) l ≡ 1
-one_notice t o l h one = notice_count o l ∙ sym (h.registered.counted (Notice o.place o.index)) ∙ one
 
 -- ---- the first of a list
 

@@ -1,12 +1,14 @@
--- How many work items are looked up so.
-use Rattle.std.specs.Prelude.{ℕ, ◌≡◌, Bool, List, count_by, Option, Some, None, option_map, unwrap_or}
+-- What work items are looked up by, and how many are looked up so.
+use Rattle.std.specs.Prelude.{ℕ, ◌≡◌, Bool, List, count_by, Option, Some, None, option_map, unwrap_or, if◌then◌else◌}
 use Rattle.std.specs.HashMap.{get_by}
 use Rattle.bd_space.specs.Words.{is_some_and}
+use Rattle.bd_space.specs.Todo.{keeps_from_calling}
 use Rattle.bd_space.specs.declared.space.Work.{Work}
 use Rattle.bd_space.specs.declared.space.WorkKind.{WorkKind}
 use Rattle.bd_space.specs.declared.space.WorkKind.TheVariants as work
+use Rattle.bd_links.specs.Heads.{list_key}
 use Rattle.bd_links.specs.declared.spots.Sought.{Sought}
-use Rattle.bd_links.specs.declared.spots.Sought.TheVariants.{Notice, Call}
+use Rattle.bd_links.specs.declared.spots.Sought.TheVariants.{Notice, Call, Death, Unread}
 use Rattle.bd_links.specs.declared.spots.Spots.{Spots}
 use Rattle.bd_links.specs.contracts.spots.SoughtPartialEq.TheImpl as sought
 
@@ -16,14 +18,24 @@ same_sought = (sought.ghosts).eq
 abbrev pub sought_of : WorkKind → Option Sought
 sought_of (work.Notice o) = Some (Notice o.place o.index)
 sought_of (work.Call b) = Some (Call b)
+sought_of (work.Death n) = Some (Death n)
 sought_of _ = None
 
--- the work item is looked up by this key
+-- what keeps from calling, by its list
+abbrev pub unread_of : Work → Option Sought
+unread_of w = if keeps_from_calling w.kind then Some (Unread (list_key w.list)) else None
+
+-- what is looked up by the one key is looked up by the other
+abbrev pub is_key : Sought → Option Sought → Bool
+is_key k o = is_some_and o (λ s. same_sought s k)
+
+-- the work item is looked up by this key, whatever its list
 abbrev pub is_sought : Sought → WorkKind → Bool
-is_sought k kind = is_some_and (sought_of kind) (λ s. same_sought s k)
+is_sought k kind = is_key k (sought_of kind)
 
 abbrev pub count_at : Spots → Sought → ℕ
 count_at t k = unwrap_or (option_map (λ s. s.count) (get_by (same_sought k) t.spots)) 0
 
-abbrev pub Counted : Spots → List Work → Type 0
-Counted t todo = (k : Sought) → count_at t k ≡ count_by (λ w. is_sought k w.kind) todo
+-- the work items are counted by what f looks them up by
+abbrev pub Counted : (Work → Option Sought) → Spots → List Work → Type 0
+Counted f t todo = (k : Sought) → count_at t k ≡ count_by (λ w. is_key k (f w)) todo

@@ -1,9 +1,8 @@
 -- What a table of work items stands for: the work items of the space, in its order.
 use Rattle.std.specs.Prelude.{ℕ, ◌≡◌, List, min}
-use Rattle.std.specs.HashMap.{spare}
 use Rattle.bd_space.specs.declared.space.Work.{Work}
 use Rattle.bd_links.specs.declared.table.WorkTable.{WorkTable}
-use Rattle.bd_links.specs.Registered.{Registered}
+use Rattle.bd_links.specs.Registered.{Registered, register_room}
 use Rattle.bd_links.specs.QueuesStand as queues
 
 pub record WorksAre (t : WorkTable) (l : List Work) : Type 0 where
@@ -12,7 +11,7 @@ pub record WorksAre (t : WorkTable) (l : List Work) : Type 0 where
 
 -- how many items more it takes without memory, as a number of the machine
 unfoldable pub work_room : WorkTable → ℕ
-work_room t = min (min (queues.queue_room t.queues) (spare t.register.spots.spots)) 18446744073709551615
+work_room t = min (min (queues.queue_room t.queues) (register_room t.register)) 18446744073709551615
 
 -- of every list that the table stands for x is what f says
 abbrev pub Tells : {A : Type 0} → WorkTable → A → (List Work → A) → Type 0

@@ -1,9 +1,8 @@
 //! What is found among the work items on a list, by its ring.
 
-ghost use Rattle.std.specs.Prelude.{◌≡◌, ◌==◌, ◌&&◌, true, List, Some};
+ghost use Rattle.std.specs.Prelude.{◌≡◌, true, List, Some};
 ghost use Rattle.std.specs.List.{list_any, slice_get};
 ghost use Rattle.bd_space.specs.declared.space.Work.{Work};
-ghost use Rattle.bd_space.specs.Words as words;
 ghost use Rattle.bd_space.specs.Todo as spec;
 ghost use Rattle.bd_space.specs.ThreadExits as exits;
 ghost use Rattle.bd_links.specs.TodoList as replies;
@@ -12,36 +11,14 @@ ghost use Rattle.bd_links.specs.QueuesStand.{Stands};
 
 use crate::queues::Queues;
 use crate::unread::Works;
-use crate::work::{hands_over, is_call, keeps_from_calling, reply_of};
+use crate::work::{is_call, reply_of};
 use bd_space::{Identity, TodoList, Work};
-
-fn any_keeps_from_calling(works: Works<'_>) -> bool
-    ensures { result ≡ list_any (λ w. spec.keeps_from_calling w.kind) works.entry }
-{
-    for work in works {
-        if keeps_from_calling(work.kind) {
-            return true;
-        }
-    }
-    false
-}
 
 fn any_is_call(works: Works<'_>, buffer: u32) -> bool
     ensures { result ≡ list_any (λ w. spec.is_call buffer w.kind) works.entry }
 {
     for work in works {
         if is_call(buffer, work.kind) {
-            return true;
-        }
-    }
-    false
-}
-
-fn any_hands_over(works: Works<'_>, buffer: u32) -> bool
-    ensures { result ≡ list_any (λ w. words.is_some_and (spec.hands_out w.kind) (λ m. m == buffer)) works.entry }
-{
-    for work in works {
-        if hands_over(&work, buffer) {
             return true;
         }
     }
@@ -94,14 +71,6 @@ impl Queues {
         self.work_at(list, 0).is_some()
     }
 
-    /// Whether a call, a reply or a verdict is on a list.
-    pub fn keeps_from_calling(&self, list: TodoList) -> bool
-        ensures { (todo : List Work) → Stands self.now todo
-            → result ≡ list_any (λ w. spec.is_on list w && spec.keeps_from_calling w.kind) todo }
-    {
-        any_keeps_from_calling(self.works_on(list))
-    }
-
     /// The `k`-th work item on a list, oldest first.
     pub fn work_at(&self, list: TodoList, k: usize) -> Option<Work>
         ensures { (todo : List Work) → Stands self.now todo → result ≡ slice_get (spec.work_on todo (Some list)) k }
@@ -122,12 +91,5 @@ impl Queues {
         ensures { (todo : List Work) → Stands self.now todo → result ≡ exits.is_unread_on todo list made }
     {
         any_is_call(self.works_on(list), made)
-    }
-
-    /// Whether an unread call or reply on the list would have handed this buffer over.
-    pub fn is_lost_with(&self, list: TodoList, buffer: u32) -> bool
-        ensures { (todo : List Work) → Stands self.now todo → result ≡ exits.is_lost_with todo list buffer }
-    {
-        any_hands_over(self.works_on(list), buffer)
     }
 }

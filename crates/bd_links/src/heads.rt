@@ -16,7 +16,8 @@ pub enum ListKey {
     Process { process: u32 },
 }
 
-fn list_key(list: TodoList) -> ListKey
+/// The key of a list.
+pub fn list_key(list: TodoList) -> ListKey
     ensures { result ≡ heads.list_key list }
 {
     match list {

@@ -1,19 +1,21 @@
 //! What is known of all work items together, whatever their lists.
 
 ghost use Rattle.std.specs.Prelude.{ℕ, Bool, ◌≡◌, ◌==◌, ◌+◌, ◌-◌, ◌<◌, ◌≤◌, ◌&&◌, ◌||◌, ◌∷◌, ◌++◌, [], List, length, count_by, nat_lt, if◌then◌else◌, OnOk, OnErr};
-ghost use Rattle.std.specs.HashMap.{spare};
 ghost use Rattle.bd_space.specs.declared.space.Work.{Work};
 ghost use Rattle.bd_links.specs.Rising.{rank};
-ghost use Rattle.bd_links.specs.Registered.{Registered};
+ghost use Rattle.bd_links.specs.Registered.{Registered, register_room};
 
-use crate::spots::Spots;
+use crate::spots::{Spots, sought_of, unread_of};
 use bd_space::{Identity, Work};
 use std::alloc::{AllocError, Global};
 
 /// What is known of all work items together.
 #[derive(Debug, Drop)]
 pub struct Register {
+    // Notices, calls and deaths, whatever their lists.
     pub(crate) spots: Spots,
+    // By their lists those that keep from calling.
+    pub(crate) unread: Spots,
     // No work item was made later than at this place, and so many were made there.
     pub(crate) latest: u32,
     pub(crate) count: u64,
@@ -48,6 +50,7 @@ impl Register {
     {
         Register {
             spots: Spots::new(alloc),
+            unread: Spots::new(alloc),
             latest: 0,
             count: 0,
             len: 0,
@@ -59,11 +62,12 @@ impl Register {
     /// Room for so many more.
     pub fn reserve(&mut self, more: usize) -> Result<(), AllocError>
         ensures stands { (todo : List Work) → Registered self.old todo → Registered self.new todo }
-        ensures room { OnOk result (more ≤ spare self.new.spots.spots) }
-        ensures uses { spare self.old.spots.spots ≤ spare self.new.spots.spots }
-        ensures grown { OnErr result (more ≤ spare self.old.spots.spots → ⊥) }
+        ensures room { OnOk result (more ≤ register_room self.new) }
+        ensures uses { register_room self.old ≤ register_room self.new }
+        ensures grown { OnErr result (more ≤ register_room self.old → ⊥) }
     {
-        self.spots.reserve(more)
+        self.spots.reserve(more)?;
+        self.unread.reserve(more)
     }
 
     // Identities rise, when this one comes last.
@@ -75,14 +79,15 @@ impl Register {
 
     /// A work item came last, into this node.
     pub fn add(&mut self, work: Work, node: usize)
-        requires { 0 < spare self.old.spots.spots }
+        requires { 0 < register_room self.old }
         ensures stands { (todo : List Work) → length todo < 18446744073709551615
             → work.id.index ≡ count_by (λ w. w.id.place == work.id.place) todo
             → Registered self.old todo → Registered self.new (todo ++ work ∷ []) }
-        ensures uses { spare self.old.spots.spots ≤ spare self.new.spots.spots + 1 }
+        ensures uses { register_room self.old ≤ register_room self.new + 1 }
     {
         self.rises = self.still_rises(work.id);
-        self.spots.add(work, node);
+        self.spots.add(sought_of(work.kind), node);
+        self.unread.add(unread_of(work), node);
         self.last = work.id;
         self.len = self.len.saturating_add(1);
         if self.latest <= work.id.place {
@@ -95,9 +100,10 @@ impl Register {
     pub fn take(&mut self, work: Work)
         ensures stands { (before after : List Work) → Registered self.old (before ++ work ∷ after)
             → Registered self.new (before ++ after) }
-        ensures uses { spare self.old.spots.spots ≤ spare self.new.spots.spots }
+        ensures uses { register_room self.old ≤ register_room self.new }
     {
-        self.spots.take(work);
+        self.spots.take(sought_of(work.kind));
+        self.unread.take(unread_of(work));
         self.len = self.len.saturating_sub(1);
         self.count = without_one(self.count, work.id.place == self.latest);
     }

@@ -1,13 +1,16 @@
-//! Notices by their objects and calls by their buffers, on whatever list they stand.
+//! Work items, counted by what they are looked up by.
 
 ghost use Rattle.std.specs.Prelude.{ℕ, ◌≡◌, ◌≤◌, ◌<◌, ◌+◌, ◌-◌, ◌∷◌, ◌++◌, [], List, length, Option, Some, None, if◌then◌else◌, min, nat_lt, OnOk, OnErr};
 ghost use Rattle.std.specs.HashMap.{spare, get_by};
 ghost use Rattle.bd_space.specs.declared.space.Work.{Work};
 ghost use Rattle.bd_links.specs.declared.spots.Sought as declared;
 ghost use Rattle.bd_links.specs.declared.spots.Sought.TheVariants as sought;
-ghost use Rattle.bd_links.specs.Spots.{same_sought, sought_of, is_sought, count_at, Counted};
+ghost use Rattle.bd_links.specs.Heads as heads;
+ghost use Rattle.bd_links.specs.Spots.{same_sought, sought_of, unread_of, is_sought, count_at, Counted};
 
-use bd_space::{ObjectId, Work, WorkKind};
+use crate::heads::{ListKey, list_key};
+use crate::work::keeps_from_calling;
+use bd_space::{ObjectId, TodoList, Work, WorkKind};
 use std::alloc::{AllocError, Global};
 use std::collections::HashMap;
 
@@ -16,6 +19,9 @@ use std::collections::HashMap;
 pub enum Sought {
     Notice { place: u32, index: u32 },
     Call { buffer: u32 },
+    Death { made: u32 },
+    // What keeps from calling, on a list.
+    Unread { list: ListKey },
 }
 
 /// Where a work item was put that is looked up so.
@@ -27,7 +33,7 @@ pub struct Spot {
     pub node: usize,
 }
 
-/// The notices and the calls on all lists.
+/// Work items by what they are looked up by.
 #[derive(Debug, Drop)]
 pub struct Spots {
     pub(crate) spots: HashMap<Sought, Spot>,
@@ -43,20 +49,49 @@ pub fn sought_notice(object: ObjectId) -> Sought
     }
 }
 
-fn sought_of(kind: WorkKind) -> Option<Sought>
+/// What keeps from calling on the list.
+pub fn sought_unread(list: TodoList) -> Sought
+    ensures { result ≡ sought.Unread (heads.list_key list) }
+{
+    Sought::Unread {
+        list: list_key(list),
+    }
+}
+
+/// What a notice, a call or a death is looked up by, whatever its list.
+pub fn sought_of(kind: WorkKind) -> Option<Sought>
     ensures { result ≡ sought_of kind }
 {
     match kind {
         WorkKind::Notice(object) => Some(sought_notice(object)),
         WorkKind::Call(buffer) => Some(Sought::Call { buffer }),
+        WorkKind::Death(made) => Some(Sought::Death { made }),
         _ => None,
     }
+}
+
+/// What a work item is looked up by that keeps from calling.
+pub fn unread_of(work: Work) -> Option<Sought>
+    ensures { result ≡ unread_of work }
+{
+    if keeps_from_calling(work.kind) {
+        Some(sought_unread(work.list))
+    } else {
+        None
+    }
+}
+
+/// Whether a work item of this kind is looked up by this key.
+pub fn is_sought(key: Sought, kind: WorkKind) -> bool
+    ensures { result ≡ is_sought key kind }
+{
+    sought_of(kind) == Some(key)
 }
 
 impl Spots {
     /// None. Takes no memory.
     pub fn new(alloc: Global) -> Spots
-        ensures { Counted result [] }
+        ensures { (f : Work → Option declared.Sought) → Counted f result [] }
     {
         Spots {
             spots: HashMap::new(alloc),
@@ -145,25 +180,25 @@ impl Spots {
         }
     }
 
-    /// A work item came last, into this node.
-    pub fn add(&mut self, work: Work, node: usize)
+    /// A work item came last, into this node, that is looked up so, or not at all.
+    pub fn add(&mut self, key: Option<Sought>, node: usize)
         requires { 0 < spare self.old.spots }
-        ensures counted { (todo : List Work) → length todo < 18446744073709551615 → Counted self.old todo
-            → Counted self.new (todo ++ work ∷ []) }
+        ensures counted { (f : Work → Option declared.Sought) (work : Work) (todo : List Work) → key ≡ f work
+            → length todo < 18446744073709551615 → Counted f self.old todo → Counted f self.new (todo ++ work ∷ []) }
         ensures uses { spare self.old.spots ≤ spare self.new.spots + 1 }
     {
-        if let Some(key) = sought_of(work.kind) {
+        if let Some(key) = key {
             self.raise(key, node);
         }
     }
 
-    /// A work item went.
-    pub fn take(&mut self, work: Work)
-        ensures counted { (before after : List Work) → Counted self.old (before ++ work ∷ after)
-            → Counted self.new (before ++ after) }
+    /// A work item went that was looked up so, or not at all.
+    pub fn take(&mut self, key: Option<Sought>)
+        ensures counted { (f : Work → Option declared.Sought) (work : Work) (before after : List Work) → key ≡ f work
+            → Counted f self.old (before ++ work ∷ after) → Counted f self.new (before ++ after) }
         ensures uses { spare self.old.spots ≤ spare self.new.spots }
     {
-        if let Some(key) = sought_of(work.kind) {
+        if let Some(key) = key {
             self.lower(key);
         }
     }

@@ -12,17 +12,16 @@ ghost use Rattle.bd_space.specs.Notices as notices;
 ghost use Rattle.bd_links.specs.Front.{is_front};
 ghost use Rattle.bd_links.specs.Nodes.{rows, works};
 ghost use Rattle.bd_links.specs.Queues as queues;
-ghost use Rattle.bd_links.specs.Spots.{count_at};
-ghost use Rattle.bd_links.specs.declared.spots.Sought.TheVariants as sought;
+ghost use Rattle.bd_links.specs.Spots as spots;
 ghost use Rattle.bd_links.specs.TodoList as replies;
 ghost use Rattle.bd_links.specs.TodoList.{AnswersBy};
 
 use crate::queues::Queues;
 use crate::register::Register;
-use crate::spots::{Sought, sought_notice};
+use crate::spots::{Sought, is_sought, sought_notice, sought_unread};
 use crate::sweep::{is_used, work_in};
 use crate::unread::Works;
-use crate::work::{is_item, is_notice};
+use crate::work::is_item;
 use bd_space::{Identity, ObjectId, TodoList, Work, WorkKind};
 use std::alloc::{AllocError, Global};
 
@@ -145,7 +144,7 @@ impl WorkTable {
     pub fn keeps_from_calling(&self, list: TodoList) -> bool
         ensures { Tells self.now result (λ l. list_any (λ w. spec.is_on list w && spec.keeps_from_calling w.kind) l) }
     {
-        self.queues.keeps_from_calling(list)
+        self.register.unread.has(sought_unread(list))
     }
 
     /// Whether the notice of an object is on any list.
@@ -190,13 +189,6 @@ impl WorkTable {
         self.queues.is_unread_on(list, made)
     }
 
-    /// Whether an unread call or reply on the list would have handed this buffer over, so that it is lost with the list.
-    pub fn is_lost_with(&self, list: TodoList, buffer: u32) -> bool
-        ensures { Tells self.now result (λ l. exits.is_lost_with l list buffer) }
-    {
-        self.queues.is_lost_with(list, buffer)
-    }
-
     /// These work items were read: they go.
     pub fn remove_taken(&mut self, taken: &[Work])
         ensures stands { Makes self.old self.new (λ l. spec.without_taken taken.now l) }
@@ -207,19 +199,31 @@ impl WorkTable {
         }
     }
 
-    // The node of the object's notice, where it has just one and that is the latest.
-    fn only_notice(&self, object: ObjectId) -> Option<usize>
+    // The node of the work item that is looked up so, where there is just one and that is the latest noted.
+    fn only(&self, key: Sought) -> Option<usize>
         ensures { IfSome result (λ x. (queues.is_used (rows self.now.queues.nodes.items) x ≡ true)
-            × (spec.is_notice object (queues.work_in (works self.now.queues.nodes.items) x).kind ≡ true)
-            × (count_at self.now.register.spots (sought.Notice object.place object.index) ≡ 1)) }
+            × (spots.is_sought key (queues.work_in (works self.now.queues.nodes.items) x).kind ≡ true)
+            × (spots.count_at self.now.register.spots key ≡ 1)) }
     {
-        let spot = self.register.spots.spot(sought_notice(object))?;
+        let spot = self.register.spots.spot(key)?;
         let nodes = &self.queues.nodes;
-        let is_it = is_used(nodes, spot.node) && is_notice(object, work_in(nodes, spot.node).kind);
+        let is_it = is_used(nodes, spot.node) && is_sought(key, work_in(nodes, spot.node).kind);
         if spot.count == 1 && is_it {
             Some(spot.node)
         } else {
             None
+        }
+    }
+
+    // What is looked up so goes, from whatever list: without a walk, where it is one.
+    fn withdraw(&mut self, key: Sought)
+        ensures stands { Makes self.old self.new (λ l. filter (λ w. not (spots.is_sought key w.kind)) l) }
+        ensures uses { work_room self.old ≤ work_room self.new }
+    {
+        if let Some(x) = self.only(key) {
+            self.remove_at(x);
+        } else if self.register.spots.has(key) {
+            self.keep(|w| !is_sought(key, w.kind));
         }
     }
 
@@ -228,11 +232,15 @@ impl WorkTable {
         ensures stands { Makes self.old self.new (λ l. filter (λ w. not (spec.is_notice object w.kind)) l) }
         ensures uses { work_room self.old ≤ work_room self.new }
     {
-        if let Some(x) = self.only_notice(object) {
-            self.remove_at(x);
-        } else if self.has_notice(object) {
-            self.keep(|w| !is_notice(object, w.kind));
-        }
+        self.withdraw(sought_notice(object));
+    }
+
+    /// The work item of a death notification goes.
+    pub fn withdraw_death(&mut self, made: u32)
+        ensures stands { Makes self.old self.new (λ l. filter (λ w. not (words.is_some_and (spec.death_of w.kind) (λ n. n == made))) l) }
+        ensures uses { work_room self.old ≤ work_room self.new }
+    {
+        self.withdraw(Sought::Death { made });
     }
 
     /// Only the work items of the kinds for which `f` answers `true` stay.

@@ -1,11 +1,11 @@
 //! References to objects: who refers to which, weakly or strongly, and what each buffer holds.
 
-ghost use Rattle.std.specs.Prelude.{ℕ, Bool, ◌≡◌, ◌==◌, ◌&&◌, ◌||◌, ◌+◌, ◌<◌, ◌≤◌};
+ghost use Rattle.std.specs.Prelude.{Bool, ◌≡◌, ◌==◌, ◌&&◌, ◌||◌, ◌+◌, ◌<◌, ◌≤◌};
 ghost use Rattle.std.specs.Prelude.{◌++◌, ◌∷◌, [], not, map, filter, position, vec_len, vec_capacity, OnOk};
 ghost use Rattle.std.specs.List.{list_any};
 ghost use Rattle.bd_space.specs.declared.step.ObjectId as declared;
 ghost use Rattle.bd_space.specs.Words as words;
-ghost use Rattle.bd_space.specs.Words.{is_some_and, without_first};
+ghost use Rattle.bd_space.specs.Words.{without_first};
 ghost use Rattle.bd_space.specs.References as refer;
 
 use crate::held::{
@@ -144,17 +144,6 @@ impl ReferenceList {
             }
         }
         Ok(())
-    }
-
-    /// The references go of the buffers that are lost; the caller says which those are.
-    pub fn drop_lost<F: Fn(u32) -> bool>(&mut self, lost: F)
-        requires { F.IsAlwaysCallable lost }
-        ensures { (is_lost : ℕ → Bool) → ((b : ℕ) (r : Bool) → F.post lost b r → r ≡ is_lost b)
-            → self.new.references.items
-            ≡ filter (λ r. not (is_some_and (refer.buffer_of_holder r.holder) is_lost)) self.old.references.items }
-    {
-        self.references
-            .retain(|r| !buffer_of(r.holder).is_some_and(|b| lost(b)));
     }
 
     /// The references go that go with the process: it asked for them, they lie in its window, or they are its own as

@@ -10,7 +10,7 @@ ghost use Rattle.bd_space.specs.ThreadExits as exits;
 ghost use Rattle.bd_space.specs.Notices as notices;
 ghost use Rattle.bd_links.specs.TodoList as replies;
 
-use bd_links::{hands_out, is_call};
+use bd_links::is_call;
 use bd_space::{Identity, ObjectId, TodoList, Work, WorkKind};
 use std::alloc::{AllocError, Global};
 
@@ -111,15 +111,6 @@ impl WorkList {
             .any(|w| is_on(list, w) && is_call(made, w.kind))
     }
 
-    /// Whether an unread call or reply on the list would have handed this buffer over: it is lost with the list.
-    pub fn is_lost_with(&self, list: TodoList, buffer: u32) -> bool
-        ensures { result ≡ exits.is_lost_with self.now.todo.items list buffer }
-    {
-        self.todo
-            .iter()
-            .any(|w| is_on(list, w) && hands_over(w, buffer))
-    }
-
     /// These work items were read: they go.
     pub fn remove_taken(&mut self, taken: &[Work])
         ensures { self.new.todo.items ≡ spec.without_taken taken.now self.old.todo.items }
@@ -132,6 +123,14 @@ impl WorkList {
         ensures { self.new.todo.items ≡ filter (λ w. not (spec.is_notice object w.kind)) self.old.todo.items }
     {
         self.todo.retain(|w| !is_notice(object, w.kind));
+    }
+
+    /// The work item of a death notification goes.
+    pub fn withdraw_death(&mut self, made: u32)
+        ensures { self.new.todo.items
+            ≡ filter (λ w. not (words.is_some_and (spec.death_of w.kind) (λ n. n == made))) self.old.todo.items }
+    {
+        self.todo.retain(|w| !is_death(made, w.kind));
     }
 
     /// Only the work items of the kinds for which `f` answers `true` stay.
@@ -166,16 +165,16 @@ fn keeps_from_calling(kind: WorkKind) -> bool
     )
 }
 
-fn hands_over(work: &Work, buffer: u32) -> bool
-    ensures { result ≡ words.is_some_and (spec.hands_out work.now.kind) (λ m. m == buffer) }
-{
-    hands_out(work.kind) == Some(buffer)
-}
-
 fn is_notice(object: ObjectId, kind: WorkKind) -> bool
     ensures { result ≡ spec.is_notice object kind }
 {
     matches!(kind, WorkKind::Notice(o) if o == object)
+}
+
+fn is_death(made: u32, kind: WorkKind) -> bool
+    ensures { result ≡ words.is_some_and (spec.death_of kind) (λ n. n == made) }
+{
+    matches!(kind, WorkKind::Death(n) if n == made)
 }
 
 // One of them is called the same: by list and identity.

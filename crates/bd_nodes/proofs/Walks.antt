@@ -1,18 +1,21 @@
 -- The objects of a process, as a walk over a map meets them.
-use Rattle.std.proofs.Common.{◌≡◌, Bool, true, false, ◌&&◌, ◌||◌, cond, List, [], ◌∷◌, ◌++◌, map, Option, Some, None, find, filter, option_map, is_some, refl, ap, sym, ◌∙◌}
-use Rattle.std.specs.List.{list_any}
-use Rattle.std.specs.HashMap.{HashMap, get, values}
+use Rattle.std.proofs.Common.{◌≡◌, Bool, true, false, ◌&&◌, ◌||◌, cond, List, [], ◌∷◌, ◌++◌, map, Option, Some, None, find, filter, option_map, is_some, refl, ap, sym, subst, ◌∙◌}
+use Rattle.std.specs.List.{IsDistinct, list_any}
+use Rattle.std.specs.Option.{IfSome}
+use Rattle.std.specs.Cmp.{IsEquivalence}
+use Rattle.std.specs.HashMap.{HashMap, get, keys, values}
 use Rattle.std.specs.Map.{lookup, values_of}
-use Rattle.std.proofs.lemmas.List.Folds.{list_any-append}
+use Rattle.std.proofs.lemmas.List.Folds.{list_any-append, list_any_none}
+use Rattle.std.proofs.lemmas.Map.Views.{All-values_from_lookup}
 use Rattle.bd_space.specs.declared.step.ObjectId.{ObjectId}
 use Rattle.bd_space.specs.declared.space.Object.{Object}
 use Rattle.bd_space.specs.Words.{same}
+use Rattle.bd_space.specs.Local.{is_among}
 use Rattle.bd_nodes.specs.declared.key.NodeKey.{NodeKey}
-use Rattle.bd_nodes.specs.New.{HasAll}
 use Rattle.bd_nodes.specs.Keys.{same_node, id_key}
 use Rattle.bd_nodes.specs.Stands.{AreDistinct, Finds}
 use Rattle.bd_nodes.proofs.Tests.{node-eq, node-self}
-use Rattle.bd_nodes.proofs.Found.{found-passes, found-own, any-some}
+use Rattle.bd_nodes.proofs.Found.{found-passes, found-own, any-some, option-same, turn}
 
 module _ {A : Type 0} (p r : A → Bool) where
   find-filter : (xs : List A) → find p (filter r xs) ≡ find (λ x. r x && p x) xs
@@ -51,33 +54,52 @@ some-one : {A : Type 0} (o : Option A) → is_some o ≡ true → (x : A) × (o 
 some-one None h = absurd (cc)
 some-one (Some x) h = (x, refl)
 
-either : (a b c : Bool) → (b ≡ true → c ≡ true) → (a || b) ≡ true → (a || c) ≡ true
-either true b c f h = refl
-either false b c f h = f h
+neither : (a b : Bool) → (a || b) ≡ false → (a ≡ false) × (b ≡ false)
+neither true b h = absurd (cc)
+neither false b h = (refl, h)
+
+-- where none passes, what another test finds doesn't
+none-found : {A : Type 0} (t q : A → Bool) (xs : List A) → list_any t xs ≡ false → IfSome (find q xs) (λ x. t x ≡ false)
+none-found t q [] h = tt
+none-found {A} t q (x ∷ xs) h = let k = neither (t x) (list_any t xs) h in by (q x) k.0 (none-found t q xs k.1)
+  where
+    by : (b : Bool) → t x ≡ false → IfSome (find q xs) (λ y. t y ≡ false)
+        → IfSome (cond b (Some x) (find q xs)) (λ y. t y ≡ false)
+    by true e rest = e
+    by false e rest = rest
+
+node-laws : IsEquivalence same_node
+node-laws = record {
+  refl = node-self;
+  symm = turn id_key same_node node-eq node-self;
+  congr = λ x y z h. ap (λ k. same_node k z) (node-eq x y h);
+}
 
 module _ {S : Type 0} (m : HashMap NodeKey Object S) (objects : List Object)
     (f : Finds same_node id_key (λ x. x) (get same_node m) objects) (d : AreDistinct id_key same_node objects)
-    (r : Object → Bool) where
-  here : (o : ObjectId) → list_any (λ (x : Object). same o x.id) (filter r objects) ≡ true
-      → list_any (λ (x : Object). same o x.id) (filter r (values m)) ≡ true
-  here o h =
-      let p = λ (x : Object). same o x.id in
-      let t = λ (x : Object). r x && p x in
-      let found = some-one (find t objects) (sym (any-some t objects) ∙ sym (any-filter p r objects) ∙ h) in
-      let own = found-own id_key same_node node-eq node-self t objects found.0 d found.1 in
-      any-filter p r (values m)
-      ∙ any-value (same_node (id_key found.0)) t m.entries found.0
-      (f (id_key found.0) ∙ ap (option_map (λ x. x)) own) (found-passes t objects found.0 found.1)
+    (u : IsDistinct same_node (keys m)) where
+  -- one of the map's values passes exactly if one of the objects does
+  pub any-object : (t : Object → Bool) → list_any t (values m) ≡ list_any t objects
+  any-object t = by (list_any t objects) refl
+    where
+      by : (b : Bool) → list_any t objects ≡ b → list_any t (values m) ≡ b
+      by true h =
+          let found = some-one (find t objects) (sym (any-some t objects) ∙ h) in
+          let own = found-own id_key same_node node-eq node-self t objects found.0 d found.1 in
+          any-value (same_node (id_key found.0)) t m.entries found.0
+          (f (id_key found.0) ∙ ap (option_map (λ x. x)) own) (found-passes t objects found.0 found.1)
+      by false h =
+          list_any_none t (values m) (All-values_from_lookup node-laws (λ x. t x ≡ false) m.entries u
+          (λ k. subst (λ o. IfSome o (λ x. t x ≡ false)) (sym (f k ∙ option-same _))
+          (none-found t (λ x. same_node (id_key x) k) objects h)))
 
-  pub has-owned : (ids : List ObjectId)
-      → HasAll (ids ++ map (λ (x : Object). x.id) (filter r (values m)))
-      (ids ++ map (λ (x : Object). x.id) (filter r objects))
-  has-owned ids o h =
+  pub just-owned : (r : Object → Bool) (ids : List ObjectId) (o : ObjectId)
+      → is_among (ids ++ map (λ (x : Object). x.id) (filter r (values m))) o
+      ≡ is_among (ids ++ map (λ (x : Object). x.id) (filter r objects)) o
+  just-owned r ids o =
       let p = λ (j : ObjectId). same o j in
       let id = λ (x : Object). x.id in
-      let old = map id (filter r objects) in
-      let new = map id (filter r (values m)) in
-      list_any-append p ids new
-      ∙ either (list_any p ids) (list_any p old) (list_any p new)
-      (λ k. any-map p id (filter r (values m)) ∙ here o (sym (any-map p id (filter r objects)) ∙ k))
-      (sym (list_any-append p ids old) ∙ h)
+      let among = λ (xs : List Object).
+      list_any-append p ids (map id (filter r xs))
+      ∙ ap (λ b. list_any p ids || b) (any-map p id (filter r xs) ∙ any-filter (λ (x : Object). p x.id) r xs) in
+      among (values m) ∙ ap (λ b. list_any p ids || b) (any-object (λ x. r x && p x.id)) ∙ sym (among objects)

@@ -1,7 +1,9 @@
 //! The objects of a process.
 
-ghost use Rattle.std.specs.Prelude.{◌≡◌, ◌==◌, ◌++◌, map, filter, List, OnOk};
-ghost use Rattle.std.specs.HashMap.{values};
+ghost use Rattle.std.specs.Prelude.{◌≡◌, ◌==◌, ◌++◌, true, map, filter, List, OnOk, OnErr};
+ghost use Rattle.std.specs.List.{IsDistinct, list_any};
+ghost use Rattle.std.specs.HashMap.{keys, values};
+ghost use Rattle.bd_nodes.specs.Keys.{same_node};
 
 use crate::key::NodeKey;
 use crate::table::NodeTable;
@@ -14,8 +16,10 @@ fn push_owned(
     p: u32,
     touched: &mut Vec<ObjectId>,
 ) -> Result<(), AllocError>
-    ensures { OnOk result (touched.new.items
+    ensures pushed { OnOk result (touched.new.items
         ≡ touched.old.items ++ map (λ x. x.id) (filter (λ x. x.owner == p) (values objects.now))) }
+    ensures grown { OnErr result (list_any (λ x. x.owner == p) (values objects.now) ≡ true) }
+    ensures unique { IsDistinct same_node (keys objects.now) }
 {
     for x in objects.values() {
         if x.owner == p {
@@ -32,8 +36,14 @@ impl NodeTable {
 
     /// Puts the objects that the process owns to what is there, in some order. Fails for want of memory alone.
     pub fn owned_by(&self, p: u32, touched: &mut Vec<ObjectId>) -> Result<(), AllocError>
-        ensures { OnOk result ((objects : List Object) → NodesAre self.now objects → HasAll touched.new.items
+        ensures all { OnOk result ((objects : List Object) → NodesAre self.now objects → HasAll touched.new.items
             (touched.old.items ++ map (λ x. x.id) (filter (λ x. x.owner == p) objects))) }
+        // Nothing else is there.
+        ensures only { OnOk result ((objects : List Object) → NodesAre self.now objects
+            → HasAll (touched.old.items ++ map (λ x. x.id) (filter (λ x. x.owner == p) objects)) touched.new.items) }
+        // Memory was asked for: it owns an object.
+        ensures grown { OnErr result ((objects : List Object) → NodesAre self.now objects
+            → list_any (λ x. x.owner == p) objects ≡ true) }
     {
         push_owned(&self.objects, p, touched)
     }

@@ -1,5 +1,6 @@
 -- What goes with a process is on objects that it owns, or goes whoever owns it.
 use Rattle.std.proofs.Common.{◌≡◌, ℕ, ◌==◌, Bool, true, false, not, ◌&&◌, ◌||◌, cond, List, [], ◌∷◌, ◌++◌, map, filter, refl, ap, sym, ◌∙◌, subst, inl, inr, ◌⊎◌}
+use Rattle.std.specs.List.{list_any}
 use Rattle.std.proofs.lemmas.Bool.{and_parts, or_left, or_right}
 use Rattle.std.proofs.lemmas.List.Folds.{list_any-append}
 use Rattle.bd_space.specs.declared.step.ObjectId.{ObjectId}
@@ -80,6 +81,31 @@ module _ (p : ℕ) (objects : List Object) where
           | inr w ↦ first (among-append old owned o ∙ or_right _ _ w)
         ])
       ]
+
+  -- nothing else is dropped
+  dropped-anyway : (rs : List Reference) (o : ObjectId) → is_among (map (λ r. r.object) (filter goes_anyway rs)) o ≡ true
+      → is_among (map (λ r. r.object) (filter (is_dropped_with objects p) rs)) o ≡ true
+  dropped-anyway [] o h = absurd (cc)
+  dropped-anyway (r ∷ rs) o h = elim (taken goes_anyway (λ r. r.object) o r rs h) [
+    | inl e ↦ put (is_dropped_with objects p) (λ r. r.object) o r rs (or_left (goes_anyway r) _ e.0) e.1
+    | inr k ↦ further (is_dropped_with objects p) (λ r. r.object) o r rs (dropped-anyway rs o k)
+  ]
+
+  pub only-dropped : (refs : List Reference) (old mid new : List ObjectId) → HasAll (old ++ owned) mid → HasAll (mid ++ map (λ r. r.object) (filter goes_anyway refs)) new
+      → HasAll ((old ++ owned) ++ map (λ r. r.object) (filter (is_dropped_with objects p) refs)) new
+  only-dropped refs old mid new h g = λ o e.
+      among-append (old ++ owned) _ o
+      ∙ elim (either (is_among mid o) _ (sym (among-append mid _ o) ∙ g o e)) [
+        | inl k ↦ or_left _ _ (h o k)
+        | inr k ↦ or_right _ _ (dropped-anyway refs o k)
+      ]
+
+  pub any-dropped : (refs : List Reference) → list_any goes_anyway refs ≡ true → list_any (is_dropped_with objects p) refs ≡ true
+  any-dropped [] h = absurd (cc)
+  any-dropped (r ∷ rs) h = elim (either (goes_anyway r) (list_any goes_anyway rs) h) [
+    | inl e ↦ or_left _ _ (or_left (goes_anyway r) _ e)
+    | inr k ↦ or_right _ _ (any-dropped rs k)
+  ]
 
   -- ---- what is dropped, as a table of references says it
 

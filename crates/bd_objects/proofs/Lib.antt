@@ -10,5 +10,6 @@ pub mod Holding
 pub mod Handshakes
 pub mod Telling
 pub mod AtName
+pub mod Lost
 pub mod Covering
 pub mod Later

@@ -1,12 +1,14 @@
 //! What follows from a change at one name and one object: nothing else is looked at.
 
-ghost use Rattle.std.specs.Prelude.{◌≡◌, ◌||◌, not, false, option_and_then};
+ghost use Rattle.std.specs.Prelude.{◌≡◌, ◌==◌, ◌||◌, not, false, option_and_then, IfSome};
 ghost use Rattle.std.specs.List.{list_any};
-ghost use Rattle.bd_space.specs.Words.{when};
+ghost use Rattle.bd_space.specs.Words.{when, is_some_and};
 ghost use Rattle.bd_space.specs.References.{object_in, stays_in};
+ghost use Rattle.bd_space.specs.declared.space.WorkKind as declared;
+ghost use Rattle.bd_space.specs.Todo as todo;
 ghost use Rattle.bd_space.specs.Notices as notices;
 ghost use Rattle.bd_space.specs.Local as local;
-ghost use Rattle.bd_objects.specs.Deaths.{is_lost};
+ghost use Rattle.bd_objects.specs.Deaths.{is_lost, only_lost};
 
 use crate::table::ObjectTable;
 use bd_processes::ProcessTable;
@@ -56,6 +58,29 @@ impl ObjectTable {
         ensures { Tells (StandsFor self.now) result (λ s. list_any (is_lost s.names p o) s.deaths) }
     {
         !self.names.has(p, o) && self.deaths.has_uncleared(p, o)
+    }
+
+    /// The notification that goes with the process's name of the object, which is gone, where just one does: no other
+    /// work item than its own goes with the name. To be asked before the notification goes.
+    #[tactic(auto, unfolding(bd_space::specs::Local::deaths_go_of))]
+    pub fn only_lost_death(&self, p: u32, o: ObjectId) -> Option<u32>
+        ensures found { Tells (StandsFor self.now) result (λ s. only_lost s p o) }
+        ensures goes { (kind : declared.WorkKind) → IfSome result (λ m. Tells (StandsFor self.now)
+            (not (is_some_and (todo.death_of kind) (λ n. n == m)))
+            (λ s. not (local.is_touched (local.at_name p o) (λ i. false) s.deaths kind)
+            || notices.still_due s.processes s.objects s.references
+            (local.deaths_go_of (local.at_name p o) s).deaths kind)) }
+    {
+        if self.names.has(p, o) {
+            return None;
+        }
+        let x = self.deaths.only_uncleared(p, o)?;
+        // Another may have been made there only in a table that isn't in the order of the steps.
+        if self.deaths.stays(false, p, o, x.made) {
+            None
+        } else {
+            Some(x.made)
+        }
     }
 
     /// The process's uncleared notifications on its name of the object go, if that is gone.

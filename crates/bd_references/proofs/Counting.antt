@@ -4,7 +4,7 @@ use Rattle.std.specs.Prelude.{nat_lt}
 use Rattle.std.specs.List.{list_any, count_by}
 use Rattle.std.proofs.lemmas.Bool.Decides.{nat_tests}
 use Rattle.std.proofs.Math.Bool.{and_comm}
-use Rattle.std.proofs.lemmas.List.Sums.{sum_by-cons, sum_by_push, sum_by-append}
+use Rattle.std.proofs.lemmas.List.Sums.{sum_by-cons, sum_by_push}
 use Rattle.bd_space.specs.Words.{without_first}
 
 any-case : (b : Bool) (n : ℕ) (c : Bool) → nat_lt 0 n ≡ c → nat_lt 0 (cond b 1 0 + n) ≡ (b || c)
@@ -30,9 +30,6 @@ module _ {A : Type 0} where
 
   pub count-push : (p : A → Bool) (xs : List A) (x : A) → count_by p (xs ++ x ∷ []) ≡ count_by p xs + cond (p x) 1 0
   count-push p xs x = sum_by_push (λ y. cond (p y) 1 0) xs x
-
-  pub count-append : (p : A → Bool) (xs ys : List A) → count_by p (xs ++ ys) ≡ count_by p xs + count_by p ys
-  count-append p xs ys = sum_by-append (λ y. cond (p y) 1 0) xs ys
 
   -- there is one exactly where the counter isn't 0
   pub any-count : (p : A → Bool) (xs : List A) → nat_lt 0 (count_by p xs) ≡ list_any p xs

@@ -1,5 +1,5 @@
 -- The references that go with a process.
-use Rattle.std.proofs.Common.{◌≡◌, ℕ, ◌==◌, Bool, true, false, not, ◌&&◌, ◌||◌, List, [], ◌∷◌, ◌++◌, map, filter, cond, refl, ap, sym, ◌∙◌}
+use Rattle.std.proofs.Common.{◌≡◌, ℕ, ◌==◌, Bool, true, false, not, ◌&&◌, ◌||◌, List, [], ◌∷◌, ◌++◌, map, filter, cond, ltb, refl, ap, sym, ◌∙◌}
 use Rattle.std.specs.List.{IsDistinct, list_any}
 use Rattle.std.specs.Map.{keys_of}
 use Rattle.std.proofs.Math.Bool.{and-true, and-false, or-false}
@@ -9,12 +9,13 @@ use Rattle.bd_space.specs.declared.space.Reference.{Reference}
 use Rattle.bd_space.specs.declared.space.Holder.{Holder}
 use Rattle.bd_space.specs.declared.space.Holder.TheVariants as holders
 use Rattle.bd_space.specs.Words.{same}
+use Rattle.bd_space.specs.Local.{is_among}
 use Rattle.bd_space.specs.References.{is_asked_by, is_in_window, is_of_owner, is_of_buffer}
-use Rattle.bd_nodes.specs.New.{HasAll}
 use Rattle.bd_references.specs.declared.keys.CountKey.{CountKey}
 use Rattle.bd_references.specs.Keys.{same_key, use_key, kind_of, object_of, is_of_process, goes_with}
+use Rattle.bd_references.specs.Counted.{counts_for}
 use Rattle.bd_references.proofs.ByKind.{any-same}
-use Rattle.bd_references.proofs.Weights.{CountsAll, has-key}
+use Rattle.bd_references.proofs.Weights.{CountsAll, any-counted}
 
 -- its holder says whether it goes with the process p, which owns these objects
 abbrev pub goes : ℕ → (ObjectId → Bool) → Reference → Bool
@@ -62,27 +63,34 @@ any-mapped t f p (x ∷ xs) = by (t x) (any-mapped t f p xs)
     by true e = ap (λ y. p (f x) || y) e
     by false e = e
 
-either : (a b c : Bool) → (b ≡ true → c ≡ true) → (a || b) ≡ true → (a || c) ≡ true
-either true b c f h = refl
-either false b c f h = f h
+swap : (a b c : Bool) → ((a && b) && c) ≡ ((a && c) && b)
+swap true true c = sym (and-true c)
+swap true false c = sym (and-false c)
+swap false b c = refl
 
--- the counters that are there tell to which objects the process refers
-pub has-dropped : (p : ℕ) (es : List (CountKey × ℕ)) (l : List Reference) → IsDistinct same_key (keys_of es)
-    → CountsAll use_key es l → (ids : List ObjectId)
-    → HasAll (ids ++ map object_of (filter (λ k. is_of_process p k.kind) (keys_of es)))
-    (ids ++ map (λ r. r.object) (filter (λ r. is_asked_by p r.holder || is_in_window p r.holder) l))
-has-dropped p es l d are ids o h =
-    let is = λ (j : ObjectId). same o j in
-    let of_key = λ (k : CountKey). is_of_process p k.kind in
-    let of_one = λ (r : Reference). is_asked_by p r.holder || is_in_window p r.holder in
-    let object = λ (r : Reference). r.object in
-    let test = λ (k : CountKey). of_key k && is (object_of k) in
-    let old = map object (filter of_one l) in
-    let new = map object_of (filter of_key (keys_of es)) in
-    let keyed : list_any is old ≡ list_any (λ r. test (use_key r)) l =
-    any-mapped of_one object is l
-    ∙ any-same (λ r. of_one r && is r.object) (λ r. test (use_key r)) l (λ r. ap (λ b. b && is r.object) (of-process p r.holder)) in
-    list_any-append is ids new
-    ∙ either (list_any is ids) (list_any is old) (list_any is new)
-    (λ k. any-mapped of_key object_of is (keys_of es) ∙ has-key use_key test es l d are (sym keyed ∙ k))
-    (sym (list_any-append is ids old) ∙ h)
+module _ (p : ℕ) (es : List (CountKey × ℕ)) (l : List Reference) (d : IsDistinct same_key (keys_of es)) (are : CountsAll use_key es l) where
+  -- there is a counter of what goes with the process exactly if a reference does
+  pub any-dropped : list_any (counts_for p) es ≡ list_any (λ r. is_asked_by p r.holder || is_in_window p r.holder) l
+  any-dropped = any-counted use_key (λ k. is_of_process p k.kind) es l d are
+      ∙ sym (any-same (λ r. is_asked_by p r.holder || is_in_window p r.holder) (λ r. is_of_process p (kind_of r.holder)) l
+      (λ r. of-process p r.holder))
+
+  -- those counters tell to which objects such references are
+  pub just-dropped : (ids : List ObjectId) (o : ObjectId) → is_among (ids ++ map (λ (e : CountKey × ℕ). object_of e.0) (filter (counts_for p) es)) o
+      ≡ is_among (ids ++ map (λ (r : Reference). r.object) (filter (λ r. is_asked_by p r.holder || is_in_window p r.holder) l)) o
+  just-dropped ids o =
+      let is = λ (j : ObjectId). same o j in
+      let of_one = λ (r : Reference). is_asked_by p r.holder || is_in_window p r.holder in
+      let object = λ (r : Reference). r.object in
+      let object_at = λ (e : CountKey × ℕ). object_of e.0 in
+      let test = λ (k : CountKey). is_of_process p k.kind && is (object_of k) in
+      let told : list_any is (map object_at (filter (counts_for p) es)) ≡ list_any (λ e. test e.0 && ltb 0 e.1) es =
+      any-mapped (counts_for p) object_at is es
+      ∙ any-same (λ e. counts_for p e && is (object_at e)) (λ e. test e.0 && ltb 0 e.1) es
+      (λ e. swap (is_of_process p e.0.kind) (ltb 0 e.1) (is (object_at e))) in
+      let wanted : list_any is (map object (filter of_one l)) ≡ list_any (λ r. test (use_key r)) l =
+      any-mapped of_one object is l
+      ∙ any-same (λ r. of_one r && is r.object) (λ r. test (use_key r)) l (λ r. ap (λ b. b && is r.object) (of-process p r.holder)) in
+      list_any-append is ids (map object_at (filter (counts_for p) es))
+      ∙ ap (λ b. list_any is ids || b) (told ∙ any-counted use_key test es l d are ∙ sym wanted)
+      ∙ sym (list_any-append is ids (map object (filter of_one l)))

@@ -8,5 +8,5 @@ pub mod Tallying
 pub mod ByKind
 pub mod Loads
 pub mod Weights
-pub mod Lost
+pub mod OneBuffer
 pub mod Leaving

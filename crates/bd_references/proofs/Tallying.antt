@@ -10,7 +10,7 @@ use Rattle.bd_references.specs.declared.tallies.Tallies.{Tallies}
 use Rattle.bd_references.specs.Keys.{same_key, use_key, total_key}
 use Rattle.bd_references.specs.Tallied.{Tallied, TakenBack}
 use Rattle.bd_references.specs.Counted.{count_at, keyed, CountsEach, Lacks}
-use Rattle.bd_references.proofs.Counting.{count-cons, count-push, count-append, count-filter, count-both, count-without_first, any-count}
+use Rattle.bd_references.proofs.Counting.{count-cons, count-push, count-filter, count-both, count-without_first, any-count}
 
 module _ (key : Reference → CountKey) (old new : Counts) where
   -- one more
@@ -48,17 +48,7 @@ pub any-keyed : (key : Reference → CountKey) (t : Counts) (test : Reference �
 any-keyed key t test k l is are = ap (λ n. ltb 0 n) (are k) ∙ any-count (λ r. same_key (key r) k) l
     ∙ ap (λ p. list_any p l) (λ i r. sym (is r) i)
 
--- more were taken
-pub lacks-more : (key : Reference → CountKey) (old mid new : Counts) (xs : List Reference) (r : Reference)
-    → Lacks key old mid xs → Lacks key mid new (r ∷ []) → Lacks key old new (xs ++ r ∷ [])
-lacks-more key old mid new xs r a b = λ k.
-    let p = λ (x : Reference). same_key (key x) k in
-    let both = count-append p xs (r ∷ []) in
-    omega (arith, a k, b k, both)
-
-pub lacks-none : (key : Reference → CountKey) (old : Counts) → Lacks key old old []
-lacks-none key old = λ k. let none : keyed key k [] ≡ 0 = refl in omega (arith, none)
-
+-- one was taken
 pub lacks-one : (key : Reference → CountKey) (old new : Counts) (r : Reference)
     → ((q : CountKey) → count_at new q ≡ count_at old q - cond (same_key (key r) q) 1 0) → Lacks key old new (r ∷ [])
 lacks-one key old new r less = λ k.
@@ -74,12 +64,4 @@ pub tallied-without : (old new : Tallies) (q : Reference → Bool) (l : List Ref
 tallied-without old new q l t taken = record {
   uses_are = each-without use_key old.uses new.uses q l t.uses_are taken.uses_lack;
   totals_are = each-without total_key old.totals new.totals q l t.totals_are taken.totals_lack;
-}
-
--- the same are taken back, in some order
-pub taken-same : (old new : Tallies) (xs ys : List Reference) → ((p : Reference → Bool) → count_by p xs ≡ count_by p ys)
-    → TakenBack old new xs → TakenBack old new ys
-taken-same old new xs ys same taken = record {
-  uses_lack = λ k. taken.uses_lack k ∙ ap (λ n. count_at old.uses k - n) (same (λ r. same_key (use_key r) k));
-  totals_lack = λ k. taken.totals_lack k ∙ ap (λ n. count_at old.totals k - n) (same (λ r. same_key (total_key r) k));
 }

@@ -2,6 +2,7 @@
 use Rattle.std.proofs.Common.{◌≡◌, ℕ, ◌+◌, ◌-◌, Bool, true, false, not, cond, ltb, ◌&&◌, ◌||◌, List, [], ◌∷◌, filter, unwrap_or, Some, None, refl, ap, sym, ◌∙◌, arith}
 use Rattle.std.specs.List.{IsDistinct, count_by, list_any}
 use Rattle.std.specs.Map.{lookup, keys_of}
+use Rattle.std.proofs.lemmas.Bool.{lt-ltb, le-ltb, ltb-true, ltb-false}
 use Rattle.bd_space.specs.declared.space.Reference.{Reference}
 use Rattle.bd_references.specs.declared.keys.CountKey.{CountKey}
 use Rattle.bd_references.specs.Keys.{same_key}
@@ -59,27 +60,28 @@ module _ (key : Reference → CountKey) (p : CountKey → Bool) where
       join (p e.0) e.1 (keyed key e.0 l) (weight p es) (count_by (λ r. p (key r)) gone) (count_by (λ r. q r && p (key r)) l)
       (count_by (λ r. p (key r)) l) first (weighs es gone d.1 (rest e es l none are)) within (count-filter (λ r. p (key r)) q l)
 
--- what has no key weighs nothing
-none-weigh : (p : CountKey → Bool) (es : List (CountKey × ℕ)) → list_any p (keys_of es) ≡ false → weight p es ≡ 0
-none-weigh p [] h = refl
-none-weigh p (e ∷ es) h = by (p e.0) h (none-weigh p es)
-  where
-    by : (b : Bool) → (b || list_any p (keys_of es)) ≡ false → (list_any p (keys_of es) ≡ false → weight p es ≡ 0)
-        → cond b e.1 0 + weight p es ≡ 0
-    by true k further = absurd (cc)
-    by false k further = let none = further k in omega (arith, none)
+lt-sum : (n m : ℕ) (a b : Bool) → ltb 0 n ≡ a → ltb 0 m ≡ b → ltb 0 (n + m) ≡ (a || b)
+lt-sum n m true b h k = let some = ltb-true 0 n h in lt-ltb 0 (n + m) (omega (arith, some))
+lt-sum n m false true h k = let some = ltb-true 0 m k in lt-ltb 0 (n + m) (omega (arith, some))
+lt-sum n m false false h k =
+    let none = ltb-false 0 n h in
+    let more = ltb-false 0 m k in
+    le-ltb 0 (n + m) (omega (arith, none, more))
 
--- the key of a reference is there
-pub has-key : (key : Reference → CountKey) (p : CountKey → Bool) (es : List (CountKey × ℕ)) (l : List Reference)
-    → IsDistinct same_key (keys_of es) → CountsAll key es l → list_any (λ r. p (key r)) l ≡ true → list_any p (keys_of es) ≡ true
-has-key key p es l d are h = by (list_any p (keys_of es)) refl
+-- together they aren't 0 exactly if one of them isn't
+any-weight : (p : CountKey → Bool) (es : List (CountKey × ℕ)) → ltb 0 (weight p es) ≡ list_any (λ e. p e.0 && ltb 0 e.1) es
+any-weight p [] = refl
+any-weight p (e ∷ es) = by (p e.0) (any-weight p es)
   where
-    by : (b : Bool) → list_any p (keys_of es) ≡ b → b ≡ true
-    by true e = refl
-    by false e =
-        let none : 0 ≡ count_by (λ r. p (key r)) l = sym (none-weigh p es e) ∙ weighs key p es l d are in
-        let no : false ≡ true = ap (λ n. ltb 0 n) none ∙ any-count (λ r. p (key r)) l ∙ h in
-        no
+    by : (b : Bool) → ltb 0 (weight p es) ≡ list_any (λ e. p e.0 && ltb 0 e.1) es
+        → ltb 0 (cond b e.1 0 + weight p es) ≡ ((b && ltb 0 e.1) || list_any (λ e. p e.0 && ltb 0 e.1) es)
+    by true h = lt-sum e.1 (weight p es) (ltb 0 e.1) _ refl h
+    by false h = lt-sum 0 (weight p es) false _ refl h
+
+-- a counter that isn't 0 has such a key exactly if a reference has
+pub any-counted : (key : Reference → CountKey) (p : CountKey → Bool) (es : List (CountKey × ℕ)) (l : List Reference)
+    → IsDistinct same_key (keys_of es) → CountsAll key es l → list_any (λ e. p e.0 && ltb 0 e.1) es ≡ list_any (λ r. p (key r)) l
+any-counted key p es l d are = sym (any-weight p es) ∙ ap (λ n. ltb 0 n) (weighs key p es l d are) ∙ any-count (λ r. p (key r)) l
 
 -- a loop over the entries: what it takes, and what is left to take
 module _ (p : CountKey → Bool) (now all : ℕ) (left : List (CountKey × ℕ)) (were : now - weight p left ≡ all) where

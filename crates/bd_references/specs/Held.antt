@@ -1,5 +1,5 @@
 -- What buffers hold.
-use Rattle.std.specs.Prelude.{ℕ, ◌==◌, List, [], ◌∷◌, ◌++◌, Bool, if◌then◌else◌, unwrap_or, min}
+use Rattle.std.specs.Prelude.{ℕ, ◌==◌, List, unwrap_or, min}
 use Rattle.std.specs.HashMap.{HashMap, get_by, spare}
 use Rattle.bd_space.specs.declared.space.Reference.{Reference}
 use Rattle.bd_references.specs.declared.items.Items.{Items}
@@ -19,8 +19,3 @@ items_of t b = gathered (item_in t.held b) 0 (end_at t b)
 -- how many can come in without memory
 abbrev pub item_room : Items → ℕ
 item_room t = min (spare t.held) (spare t.ends)
-
--- what the lost ones of some buffers hold
-abbrev pub lost_items : (ℕ → Bool) → (ℕ → List Reference) → List ℕ → List Reference
-lost_items is_lost items [] = []
-lost_items is_lost items (b ∷ bs) = (if is_lost b then items b else []) ++ lost_items is_lost items bs

@@ -22,8 +22,6 @@ enum Call {
     DropAsked(u32, ObjectId, bool),
     DropShaken(ObjectId, bool),
     DropBuffer(u32),
-    // The buffers that are lost, as bits.
-    DropLost(u32),
     // A process, and the places of the objects that it owns, as bits.
     DropWithProcess(u32, u32),
     Reserve(usize),
@@ -58,8 +56,7 @@ fn any_call(random: &mut Random) -> Call {
         0..=15 => Call::Push(any_reference(random)),
         16..=22 => Call::DropAsked(p, o, random.is_so()),
         23..=26 => Call::DropShaken(o, random.is_so()),
-        27 => Call::DropBuffer(random.below(BUFFERS)),
-        28 => Call::DropLost(random.below(64) & random.below(64)),
+        27 | 28 => Call::DropBuffer(random.below(BUFFERS)),
         29 if random.below(4) == 0 => Call::DropWithProcess(p, random.below(8)),
         _ => Call::Reserve(random.below(20) as usize),
     }
@@ -102,10 +99,6 @@ impl Both {
             Call::DropBuffer(b) => {
                 self.table.drop_buffer(b);
                 self.list.drop_buffer(b);
-            }
-            Call::DropLost(lost) => {
-                self.table.drop_lost(|b| is_among(lost, b));
-                self.list.drop_lost(|b| is_among(lost, b));
             }
             Call::DropWithProcess(p, owned) => {
                 self.table

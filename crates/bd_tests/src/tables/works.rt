@@ -19,11 +19,14 @@ const OBJECTS: u32 = 5;
 
 const BUFFERS: u32 = 6;
 
+const DEATHS: u32 = 3;
+
 #[derive(Clone, Copy, Debug)]
 enum Call {
     Push(u32, TodoList, WorkKind),
     RemoveTaken(Work, Work),
     WithdrawNotice(ObjectId),
+    WithdrawDeath(u32),
     // The kinds that stay, as bits.
     KeepKinds(u32),
     ClearList(TodoList),
@@ -39,14 +42,14 @@ fn list_of(i: u32) -> TodoList {
 }
 
 fn any_kind(random: &mut Random) -> WorkKind {
-    match random.below(12) {
+    match random.below(13) {
         0..=2 => WorkKind::Notice(random.object(OBJECTS)),
         3 => WorkKind::Complete,
         4 => WorkKind::Refusal(Return::FailedReply),
         5..=7 => WorkKind::Call(random.below(BUFFERS)),
         8 => WorkKind::Reply(random.below(BUFFERS)),
         9 => WorkKind::Verdict(Return::DeadReply),
-        10 => WorkKind::Death(random.below(3)),
+        10 | 11 => WorkKind::Death(random.below(DEATHS)),
         _ => WorkKind::Cleared(u64::from(random.below(3))),
     }
 }
@@ -130,7 +133,8 @@ impl Both {
                 Call::Push(place, list_of(random.below(LISTS)), any_kind(random))
             }
             36..=51 => self.any_taken(random),
-            52..=57 => Call::WithdrawNotice(random.object(OBJECTS)),
+            52..=55 => Call::WithdrawNotice(random.object(OBJECTS)),
+            56 | 57 => Call::WithdrawDeath(random.below(DEATHS)),
             58 | 59 => Call::KeepKinds(random.below(262144) | random.below(262144)),
             60 => Call::ClearList(list_of(random.below(LISTS))),
             _ => Call::Reserve(random.below(20) as usize),
@@ -155,6 +159,10 @@ impl Both {
             Call::WithdrawNotice(o) => {
                 self.table.withdraw_notice(o);
                 self.list.withdraw_notice(o);
+            }
+            Call::WithdrawDeath(made) => {
+                self.table.withdraw_death(made);
+                self.list.withdraw_death(made);
             }
             Call::KeepKinds(kept) => {
                 self.table
@@ -229,8 +237,6 @@ impl Both {
             wanted,
             "call {n}, {call:?}: is_unread_on {on:?} {b}"
         );
-        let (lost, wanted) = (table.is_lost_with(on, b), list.is_lost_with(on, b));
-        assert_eq!(rt; lost, wanted, "call {n}, {call:?}: is_lost_with {on:?} {b}");
     }
 
     fn compare_notice(&self, rt: &impl Abort, n: u32, call: &Call, o: ObjectId) {

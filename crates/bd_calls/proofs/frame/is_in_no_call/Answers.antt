@@ -3,4 +3,4 @@ use Rattle.bd_calls.proofs.InCalls.{in-no-call}
 use Rattle.bd_calls.proofs.frame.is_in_no_call.Goals as goal
 
 pub returns : goal.returns
-returns c = ap not c.is_in_call.ensures ∙ sym (in-no-call c.args.frames.now c.args.seat)
+returns c = λ l are. ap not (c.is_in_call.ensures l are) ∙ sym (in-no-call l c.args.seat)

@@ -1,7 +1,8 @@
-use Rattle.std.proofs.Common.{arith}
-use Rattle.bd_space.specs.ThreadExits.{frame_without}
-use Rattle.bd_space.proofs.Changed.{mapped-next}
+use Rattle.std.proofs.Common.{subst}
+use Rattle.bd_frames.specs.Stands.{FramesAre}
+use Rattle.bd_calls.proofs.OneByOne.{left-frames}
 use Rattle.bd_calls.proofs.frame.leave_frames.Goals as goal
 
-pub loop-frame-preserved : goal.loop-frame-preserved
-loop-frame-preserved c = λ ws are. mapped-next (frame_without ws c.args.seat) _ _ _ _ _ (c.loop-frame.invariant ws are) (omega arith) (c.frame_without.ensures ws are)
+pub returns-clause-frames : goal.returns-clause-frames
+returns-clause-frames c = λ works stand l are.
+    subst (FramesAre c.leave.new.self) (left-frames works c.args.seat l) (c.leave.ensures.stands _ (c.lose_unread.ensures.frames works stand l are))

@@ -1,17 +1,17 @@
-use Rattle.std.proofs.Common.{rules, tests, ◌∙◌, arith}
-use Rattle.std.specs.List.{list_any}
-use Rattle.bd_space.specs.declared.space.Frame.{Frame}
-use Rattle.bd_space.specs.Todo.{is_call}
-use Rattle.bd_space.specs.ReadItems as spec
-use Rattle.bd_space.proofs.Changed.{changed-then, changed-else}
+use Rattle.std.proofs.Common.{drop, rules, arith}
+use Rattle.std.proofs.lemmas.List.{drop_all}
+use Rattle.bd_space.specs.ReadItems as reading
+use Rattle.bd_calls.proofs.OneByOne.{serve-once, along-drop, along-none}
 use Rattle.bd_calls.proofs.frame.serve.Goals as goal
-use Rattle.bd_calls.proofs.frame.serve.Goals.{then-has_call, else-has_call}
 
-pub loop-frame-preserved : goal.loop-frame-preserved
-loop-frame-preserved c =
-    let p = λ (f : Frame). list_any (λ w. is_call f.made w.kind) c.args.taken.now in
-    let g = spec.serve c.args.seat in
-    elim c.if-has_call.branch [
-      | then-has_call w ↦ w.frame-items-is ∙ changed-then p g _ _ _ _ c.loop-frame.invariant (omega arith) (search (rules, tests))
-      | else-has_call w ↦ w.frame-items-is ∙ changed-else p g _ _ _ _ c.loop-frame.invariant (omega arith) (search (rules, tests))
-    ]
+pub loop-work-preserved : goal.loop-work-preserved
+loop-work-preserved c = record {
+  stands = λ t rest. c.loop-work.invariant.stands t
+      (along-drop (reading.serve c.args.seat) (serve-once c.args.seat) _ _ t c.args.taken.now c.loop-work.work-index _ (omega arith) c.serve_call.ensures.frames rest);
+  uses = search rules;
+}
+
+pub returns-clause-frames : goal.returns-clause-frames
+returns-clause-frames c =
+    c.loop-work.invariant.stands _ (along-none (reading.serve c.args.seat) (serve-once c.args.seat) _ (drop c.loop-work.work-index c.args.taken.now)
+    (drop_all c.loop-work.work-index c.args.taken.now (omega arith)))

@@ -1,6 +1,13 @@
-use Rattle.std.proofs.Common.{◌≡◌, ◌++◌, take, drop}
+use Rattle.std.proofs.Common.{drop}
 use Rattle.bd_space.specs.ReadItems.{served_frames}
+use Rattle.bd_frames.specs.declared.table.FrameTable.{FrameTable}
+use Rattle.bd_frames.specs.Stands.{Makes}
+use Rattle.bd_frames.specs.Room.{Uses}
 use Rattle.bd_calls.proofs.frame.serve.Given as goal
 
-abbrev pub invariant-loop-frame : goal.invariant-loop-frame
-invariant-loop-frame l = l.frame-items ≡ served_frames l.seat l.taken (take l.frame-index l.initial.frame-items) ++ drop l.frame-index l.initial.frame-items
+-- what is still to be served makes of these frames what the whole makes of the first
+abbrev pub invariant-loop-work : goal.invariant-loop-work
+invariant-loop-work l = record {
+  stands : (t : FrameTable) → Makes l.frames t (served_frames l.seat (drop l.work-index l.taken)) → Makes l.initial.frames t (served_frames l.seat l.taken);
+  uses : Uses l.initial.frames l.frames 0;
+}

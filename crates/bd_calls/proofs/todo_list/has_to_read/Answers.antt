@@ -19,21 +19,21 @@ abbrev shared : List Work → Thread → Bool
 shared todo t = has_work_in todo (OfProcess t.process)
 
 pub returns-then-has_any : goal.returns-then-has_any
-returns-then-has_any c = λ l are.
+returns-then-has_any c = λ fs frames l are.
     let t = c.args.thread.now in
-    let i = idle c.args.frames.now t in
+    let i = idle fs t in
     c.if-has_any.true ∙ ap (λ b. b || (shared l t && i)) (sym c.if-has_any.true ∙ c.has_any.ensures l are) ∙ anything-to-read l (OfThread t.seat) (OfProcess t.process) i
 
 pub returns-then-has_any-2 : goal.returns-then-has_any-2
-returns-then-has_any-2 c = λ l are.
+returns-then-has_any-2 c = λ fs frames l are.
     let t = c.args.thread.now in
-    let i = idle c.args.frames.now t in
-    c.is_idle.ensures ∙ ap (λ b. b || (true && i)) (sym c.if-has_any.false ∙ c.has_any.ensures l are)
+    let i = idle fs t in
+    c.is_idle.ensures fs frames ∙ ap (λ b. b || (true && i)) (sym c.if-has_any.false ∙ c.has_any.ensures l are)
     ∙ ap (λ b. own l t || (b && i)) (sym c.if-has_any-2.true ∙ c.has_any-else-has_any.ensures l are) ∙ anything-to-read l (OfThread t.seat) (OfProcess t.process) i
 
 pub returns-else-has_any-2 : goal.returns-else-has_any-2
-returns-else-has_any-2 c = λ l are.
+returns-else-has_any-2 c = λ fs frames l are.
     let t = c.args.thread.now in
-    let i = idle c.args.frames.now t in
+    let i = idle fs t in
     c.if-has_any-2.false ∙ ap (λ b. b || (false && i)) (sym c.if-has_any.false ∙ c.has_any.ensures l are)
     ∙ ap (λ b. own l t || (b && i)) (sym c.if-has_any-2.false ∙ c.has_any-else-has_any.ensures l are) ∙ anything-to-read l (OfThread t.seat) (OfProcess t.process) i

@@ -1,10 +1,9 @@
-use Rattle.std.proofs.Common.{◌≡◌, ◌-◌, ◌∙◌, ap, sym, subst, arith, List, length, None, cond}
-use Rattle.std.specs.Prelude.{◌==◌}
+use Rattle.std.proofs.Common.{◌≡◌, ◌-◌, ◌∙◌, ap, sym, subst, arith, List, length, None}
 use Rattle.bd_space.specs.declared.space.Buffer.{Buffer}
 use Rattle.bd_buffers.specs.declared.rows.Row.{Row}
 use Rattle.bd_buffers.specs.declared.rows.Rows.{Rows}
-use Rattle.bd_buffers.specs.Rows.{live, in_row, emptied, AreRows, IsTrimmed, IsWithout}
-use Rattle.bd_buffers.proofs.Live.{emptied_in, emptied_live, emptied_own, refilled_rising, refilled_same, one_there, one_less, trimmed_rows, trimmed_live, trimmed_in}
+use Rattle.bd_buffers.specs.Rows.{live, emptied, AreRows, IsTrimmed, IsWithout}
+use Rattle.bd_buffers.proofs.Live.{emptied_live, emptied_own, refilled_rising, refilled_same, one_there, one_less, trimmed_rows, trimmed_live}
 use Rattle.bd_buffers.proofs.rows.Rows.take_at.Goals as goal
 
 pub invariant_of-self : goal.invariant_of-self
@@ -12,10 +11,6 @@ invariant_of-self c =
     let P : List Row → Type 0 = λ xs. AreRows xs c.self.inside.count in
     let same = c.take_from.ensures.left ∙ refilled_same (λ o. None) c.self.inside.rows.items c.args.i c.in_err-buffer.ensures.taken in
     subst P (sym same) c.self.invariant
-
-pub returns-in_err-buffer-clause-rest : goal.returns-in_err-buffer-clause-rest
-returns-in_err-buffer-clause-rest c = λ j.
-    ap (λ xs. in_row xs j) c.take_from.ensures.left ∙ emptied_in c.self.inside.rows.items c.args.i j ∙ ap (λ (v : Rows). cond (c.args.i == j) None (in_row v.rows j)) c.self.view_is
 
 pub returns-in_err-buffer-clause-live : goal.returns-in_err-buffer-clause-live
 returns-in_err-buffer-clause-live c =
@@ -38,11 +33,6 @@ invariant_of-self-2 c =
     let left : c.self.inside.count - 1 ≡ length (live (emptied i rows)) = omega (arith, gone, counted) in
     trimmed_rows (emptied i rows) c.trim.new.rows.items (c.self.inside.count - 1) (refilled_rising (λ o. None) rows i c.self.invariant.in_order) (emptied_own rows i c.self.invariant.own)
     (subst P c.take_from.ensures.left c.trim.ensures.trimmed) c.trim.ensures.ends left
-
-pub returns-clause-rest : goal.returns-clause-rest
-returns-clause-rest c = λ j.
-    trimmed_in c.take_from.new.rows.items c.trim.new.rows.items j c.trim.ensures.trimmed ∙ ap (λ xs. in_row xs j) c.take_from.ensures.left
-    ∙ emptied_in c.self.inside.rows.items c.args.i j ∙ ap (λ (v : Rows). cond (c.args.i == j) None (in_row v.rows j)) c.self.view_is
 
 pub returns-clause-live : goal.returns-clause-live
 returns-clause-live c =

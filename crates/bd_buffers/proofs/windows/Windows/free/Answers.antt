@@ -10,7 +10,7 @@ use Rattle.bd_buffers.specs.declared.windows.Windows.{Windows}
 use Rattle.bd_buffers.specs.WindowsStand.{seen, with_buffers, is_of}
 use Rattle.bd_buffers.specs.Homes.{home_key}
 use Rattle.bd_buffers.proofs.Made.{filter_none}
-use Rattle.bd_buffers.proofs.Homes.{homes_forgotten, none_home, none_of, others_home}
+use Rattle.bd_buffers.proofs.Homes.{homes_forgotten, none_home, none_among, others_home}
 use Rattle.bd_buffers.proofs.AllWindows.{kept, all_changed, none_changed}
 use Rattle.bd_buffers.proofs.Owners.{order_one}
 use Rattle.bd_buffers.proofs.windows.Windows.free.Goals as goal
@@ -25,7 +25,7 @@ returns-in-Some c = λ s stands.
     let home : look t.homes (home_key made) ≡ Some p =
     sym (c.in-Some.ensures.taken ∙ ap (look c.self.inside.homes) c.home_key.ensures ∙ ap (λ (v : Windows). look v.homes (home_key made)) c.self.view_is) in
     let other : (r : ℕ) → r ≢ p → filter keep (buffers_of s.buffers r) ≡ buffers_of s.buffers r =
-    λ r ne. filter_none (λ (b : Buffer). b.made) made (buffers_of s.buffers r) (others_home t.homes s.buffers made p r stands.homes_are home ne) in
+    λ r ne. filter_none (λ (b : Buffer). b.made) made (buffers_of s.buffers r) (others_home t.homes s.buffers made p r stands.made.buffers_in_order stands.homes_are home ne) in
     kept t _ (s.steps + 1) s.processes s.buffers keep
     (c.free_in.ensures ∙ ap (λ (v : Windows). changed (is_of p) (with_buffers (filter keep)) (map seen v.windows)) c.self.view_is
     ∙ all_changed t (s.steps + 1) p s.processes s.buffers (filter keep) stands other)
@@ -45,7 +45,7 @@ returns-in_default c = λ s stands.
     let none : look t.homes (home_key made) ≡ None =
     sym (c.remove.ensures.taken ∙ ap (look c.self.inside.homes) c.home_key.ensures ∙ ap (λ (v : Windows). look v.homes (home_key made)) c.self.view_is) ∙ c.in_default.is in
     let same : (r : ℕ) → filter keep (buffers_of s.buffers r) ≡ buffers_of s.buffers r =
-    λ r. filter_none (λ (b : Buffer). b.made) made (buffers_of s.buffers r) (none_of s.buffers made r (none_home t.homes s.buffers made stands.homes_are none)) in
+    λ r. filter_none (λ (b : Buffer). b.made) made (buffers_of s.buffers r) (none_among s.buffers made r (none_home t.homes s.buffers made stands.homes_are none)) in
     kept t _ (s.steps + 1) s.processes s.buffers keep
     (ap (λ (v : Windows). map seen v.windows) c.self.view_is ∙ none_changed t (s.steps + 1) s.processes s.buffers (filter keep) stands same)
     (homes_forgotten t.homes c.remove.new.self s.buffers made stands.homes_are (λ k. c.remove.ensures.gone k

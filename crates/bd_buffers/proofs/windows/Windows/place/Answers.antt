@@ -3,7 +3,7 @@ use Rattle.std.specs.Prelude.{Result, IfOk}
 use Rattle.bd_uapi.specs.declared.fault.Cause.{Cause}
 use Rattle.bd_space.specs.Windows.{buffers_of, start_for, needed}
 use Rattle.bd_buffers.specs.Stands.{CanHold}
-use Rattle.bd_buffers.specs.declared.windows.OwnedWindow.{OwnedWindow}
+use Rattle.bd_buffers.specs.declared.owned.OwnedWindow.{OwnedWindow}
 use Rattle.bd_buffers.specs.declared.windows.Windows.{Windows}
 use Rattle.bd_buffers.specs.WindowsStand.{is_owned_by, CanAdd}
 use Rattle.bd_buffers.proofs.AllWindows.{owner_found, owner_missed, owner_gone, is_process, can_hold_back, fits_whole}

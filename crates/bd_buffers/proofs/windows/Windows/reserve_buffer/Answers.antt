@@ -3,7 +3,7 @@ use Rattle.std.specs.Prelude.{OnOk, OnErr, Result}
 use Rattle.std.specs.List.{position}
 use Rattle.bd_words.specs.Look.{look, word_room}
 use Rattle.bd_buffers.proofs.Homes.{homes_same}
-use Rattle.bd_buffers.specs.declared.windows.OwnedWindow.{OwnedWindow}
+use Rattle.bd_buffers.specs.declared.owned.OwnedWindow.{OwnedWindow}
 use Rattle.bd_buffers.specs.declared.windows.Windows.{Windows}
 use Rattle.bd_buffers.specs.WindowsStand.{ProcessWindow, is_owned_by, is_of, buffer_room, CanAdd, CanHoldIn, seen, room_of}
 use Rattle.bd_buffers.proofs.AllWindows.{is_at, room_at, room_left, none_at, stay, stay_seen}

@@ -3,11 +3,11 @@ use Rattle.std.specs.Prelude.{find, reverse, option_map}
 use Rattle.bd_space.specs.declared.space.Frame.{Frame}
 use Rattle.bd_space.specs.declared.space.Server.TheVariants.{Pending}
 use Rattle.bd_space.specs.declared.space.WorkKind.TheVariants.{Call}
-use Rattle.bd_space.specs.Frames.{innermost, innermost_in, goes_to, list_of_caller, waits_in, ancestry, made_of}
+use Rattle.bd_space.specs.Frames.{innermost, goes_to, list_of_caller, waits_in, ancestry, made_of}
 use Rattle.bd_space.specs.Todo.{owe, with_work}
 use Rattle.bd_space.specs.Transactions.{call_out}
+use Rattle.bd_frames.specs.Stands.{FramesAre}
 use Rattle.bd_links.specs.Stands.{WorksAre}
-use Rattle.bd_calls.specs.Stacked.{newest_in}
 use Rattle.bd_calls.proofs.table.CallTable.call_out.Goals as goal
 
 -- a call's frame that nobody has read
@@ -19,20 +19,16 @@ unfolding call_out owe goes_to innermost
 returns-clause-stands c = λ s h k.
     let seat = c.args.seat in
     let p = c.args.process in
-    let from = option_map made_of (innermost_in s.frames seat) in
-    let parent = c.newest_made-parent.ensures ∙ ap (λ fs. option_map made_of (newest_in fs seat)) (c.deref.ensures.value ∙ h.frames_are)
-    ∙ ap (λ o. option_map made_of o) (sym (k.1 seat)) in
-    let list = c.list_from-list.ensures
-    ∙ ap (λ ts. list_of_caller p (find (waits_in ts p) (ancestry c.newest_made-parent.result (reverse c.deref-3.result.now)))) (c.deref-2.ensures.value ∙ h.threads_are)
-    ∙ ap (λ fs. list_of_caller p (find (waits_in s.threads p) (ancestry c.newest_made-parent.result (reverse fs)))) (c.deref-3.ensures.value ∙ h.frames_are)
+    let parent = c.newest_made-parent.ensures s.frames h.frames_are ∙ ap (λ o. option_map made_of o) (sym (k.1 seat)) in
+    let list = c.list_from-list.ensures s.frames h.frames_are
+    ∙ ap (λ ts. list_of_caller p (find (waits_in ts p) (ancestry c.newest_made-parent.result (reverse s.frames)))) (c.deref.ensures.value ∙ h.threads_are)
     ∙ ap (λ f. list_of_caller p (find (waits_in s.threads p) (ancestry f (reverse s.frames)))) parent
     in
     record {
       threads_are = h.threads_are;
-      frames_are = c.push_frame.ensures.frames
-          ∙ ap (λ fs. fs ++ new_frame c.args.place seat c.newest_made-parent.result ∷ []) h.frames_are
-          ∙ ap (λ n. s.frames ++ new_frame n seat c.newest_made-parent.result ∷ []) (sym k.0)
-          ∙ ap (λ f. s.frames ++ new_frame s.steps seat f ∷ []) parent;
+      frames_are = subst (λ f. FramesAre c.push-2.new.self (s.frames ++ new_frame s.steps seat f ∷ [])) parent
+          (subst (λ n. FramesAre c.push-2.new.self (s.frames ++ new_frame n seat c.newest_made-parent.result ∷ [])) (sym k.0)
+          (c.push-2.ensures.stands s.frames h.frames_are));
       todo_are = subst (λ n. WorksAre c.push.new.self (with_work n s.todo (goes_to s seat p) (Call n))) (sym k.0)
           (subst (λ l. WorksAre c.push.new.self (with_work c.args.place s.todo l (Call c.args.place))) list (c.push.ensures.stands s.todo h.todo_are));
       turns_are = h.turns_are;

@@ -1,7 +1,5 @@
-use Rattle.std.proofs.Common.{◌∙◌, ap, sym, subst, map}
-use Rattle.bd_space.specs.declared.space.TodoList.TheVariants.{OfProcess}
+use Rattle.std.proofs.Common.{sym, subst}
 use Rattle.bd_space.specs.ProcessExits.{without_process}
-use Rattle.bd_space.specs.ThreadExits.{unread_frame}
 use Rattle.bd_turns.specs.Stands.{TurnsAre}
 use Rattle.bd_calls.proofs.OneWay.{turns-received}
 use Rattle.bd_calls.proofs.table.CallTable.process_goes.Goals as goal
@@ -10,11 +8,9 @@ pub returns-clause-stands : goal.returns-clause-stands
 unfolding without_process
 returns-clause-stands c =
     λ s stands.
-    let p = c.args.process in
-    let list = OfProcess p in
     record {
       threads_are = stands.threads_are;
-      frames_are = c.lose_unread.ensures.frames s.todo stands.todo_are ∙ ap (map (unread_frame s.todo list)) stands.frames_are;
+      frames_are = c.lose_unread.ensures.frames s.todo stands.todo_are _ stands.frames_are;
       todo_are = c.clear_list.ensures.stands _ stands.todo_are;
-      turns_are = subst (TurnsAre c.remove_received.new.self) (sym (turns-received p s.buffers)) (c.remove_received.ensures.stands _ stands.turns_are);
+      turns_are = subst (TurnsAre c.remove_received.new.self) (sym (turns-received c.args.process s.buffers)) (c.remove_received.ensures.stands _ stands.turns_are);
     }

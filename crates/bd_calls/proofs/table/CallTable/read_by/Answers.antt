@@ -1,8 +1,8 @@
-use Rattle.std.proofs.Common.{◌∙◌, ap, sym, subst, map}
+use Rattle.std.proofs.Common.{sym, subst, map}
 use Rattle.bd_space.specs.declared.space.Work.{Work}
 use Rattle.bd_space.specs.Words.{first_of}
 use Rattle.bd_space.specs.Todo.{hands_out}
-use Rattle.bd_space.specs.ReadItems.{read_by, served_frames, buffer_taken}
+use Rattle.bd_space.specs.ReadItems.{read_by, buffer_taken}
 use Rattle.bd_turns.specs.Stands.{TurnsAre}
 use Rattle.bd_calls.proofs.OneWay.{turns-handed}
 use Rattle.bd_calls.proofs.table.CallTable.read_by.Goals as goal
@@ -14,7 +14,7 @@ returns-clause-stands c =
     let made = first_of (map (λ (w : Work). hands_out w.kind) c.args.taken.now) in
     record {
       threads_are = stands.threads_are;
-      frames_are = c.serve.ensures.frames ∙ ap (served_frames c.args.seat c.args.taken.now) stands.frames_are;
+      frames_are = c.serve.ensures.frames _ stands.frames_are;
       todo_are = c.remove_taken.ensures.stands _ stands.todo_are;
       turns_are = subst (TurnsAre c.hand_out_taken.new.turns) (sym (turns-handed s.buffers made)) (c.hand_out_taken.ensures.turns _ stands.turns_are);
     }

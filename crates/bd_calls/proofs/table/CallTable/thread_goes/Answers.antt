@@ -1,7 +1,7 @@
-use Rattle.std.proofs.Common.{◌==◌, ◌∙◌, ap, sym, subst, not, map, filter}
+use Rattle.std.proofs.Common.{◌==◌, ◌∙◌, ap, sym, subst, not, filter}
 use Rattle.bd_space.specs.declared.space.Thread.{Thread}
 use Rattle.bd_space.specs.declared.space.TodoList.TheVariants.{OfThread}
-use Rattle.bd_space.specs.ThreadExits.{thread_goes, frame_without, is_lost_with}
+use Rattle.bd_space.specs.ThreadExits.{thread_goes, is_lost_with}
 use Rattle.bd_turns.specs.Stands.{TurnsAre}
 use Rattle.bd_calls.proofs.OneWay.{turns-lost}
 use Rattle.bd_calls.proofs.table.CallTable.thread_goes.Goals as goal
@@ -14,7 +14,7 @@ returns-clause-stands c =
     let list = OfThread seat in
     record {
       threads_are = c.remove_thread.ensures.threads ∙ ap (filter (λ (t : Thread). not (t.seat == seat))) stands.threads_are;
-      frames_are = c.leave_frames.ensures.frames s.todo stands.todo_are ∙ ap (map (frame_without s.todo seat)) stands.frames_are;
+      frames_are = c.leave_frames.ensures.frames s.todo stands.todo_are _ stands.frames_are;
       todo_are = c.clear_list.ensures.stands _ stands.todo_are;
       turns_are = subst (TurnsAre c.lose_turns.new.turns) (sym (turns-lost (is_lost_with s.todo list) s.buffers))
           (c.lose_turns.ensures.turns s.todo stands.todo_are _ stands.turns_are);

@@ -1,22 +1,19 @@
-use Rattle.std.proofs.Common.{rules, not, ◌||◌, false, sym, subst, ◌∙◌}
-use Rattle.bd_space.specs.Local.{at_name, is_touched, deaths_go_of, work_goes_of}
-use Rattle.bd_space.specs.Notices.{still_due}
+use Rattle.std.proofs.Common.{sym, subst, ◌∙◌}
+use Rattle.bd_space.specs.Local.{at_name, deaths_go_of, work_goes_of}
 use Rattle.bd_engine.specs.Stands.{Within}
-use Rattle.bd_engine.specs.Following.{deaths_followed}
+use Rattle.bd_engine.specs.Following.{deaths_followed, deaths_withdrawn}
 use Rattle.bd_engine.proofs.Following.{none-lost}
 use Rattle.bd_engine.proofs.tables.Tables.follow_deaths.Goals as goal
 
 pub returns-clause-stands : goal.returns-clause-stands
-unfolding deaths_followed deaths_go_of work_goes_of
+unfolding deaths_withdrawn deaths_followed deaths_go_of work_goes_of
 returns-clause-stands c = λ s h.
-    let a = at_name c.args.p c.args.o in
+    let k = c.withdraw_deaths.ensures.stands s h in
     record {
-      own = h.own;
-      objects_stand = c.deaths_go_with.ensures.stands s h.objects_stand;
-      calls_stand = c.retain_work.ensures.kept s
-          (λ k. not (is_touched a (λ i. false) s.deaths k) || still_due s.processes s.objects s.references (deaths_go_of a s).deaths k)
-          h.calls_stand (λ kind b post. search (rules, h.objects_stand));
-      windows_stand = h.windows_stand;
+      own = k.own;
+      objects_stand = c.deaths_go_with.ensures.stands (deaths_withdrawn (at_name c.args.p c.args.o) s) k.objects_stand;
+      calls_stand = k.calls_stand;
+      windows_stand = k.windows_stand;
     }
 
 pub returns-then-not-has_lost_death-clause-stands : goal.returns-then-not-has_lost_death-clause-stands

@@ -1,6 +1,6 @@
 use Rattle.std.proofs.Common.{ap, ◌∙◌}
 use Rattle.bd_references.specs.Carried.{carried_in}
-use Rattle.bd_references.proofs.Lost.{carried-of}
+use Rattle.bd_references.proofs.OneBuffer.{carried-of}
 use Rattle.bd_references.proofs.table.ReferenceTable.carried.Goals as goal
 
 pub returns : goal.returns

@@ -3,7 +3,7 @@ use Rattle.bd_space.specs.declared.space.Reference.{Reference}
 use Rattle.bd_space.specs.References.{is_of_buffer}
 use Rattle.bd_references.specs.Tallied.{TakenBack}
 use Rattle.bd_references.proofs.Loads.{fewer-pass}
-use Rattle.bd_references.proofs.Lost.{cleared}
+use Rattle.bd_references.proofs.OneBuffer.{cleared}
 use Rattle.bd_references.proofs.Tallying.{tallied-without}
 use Rattle.bd_references.proofs.table.ReferenceTable.drop_buffer.Goals as goal
 

@@ -1,0 +1,103 @@
+//! Windows by whose they are.
+
+ghost use Rattle.std.specs.Prelude.{◌≡◌, ◌<◌, ◌↔◌, not, All, IsTrue, map, filter, find};
+ghost use Rattle.std.specs.List.{position};
+ghost use Rattle.std.specs.Option.{option_copied};
+ghost use Rattle.bd_space.specs.Words.{changed};
+ghost use Rattle.bd_space.specs.Freeing.{is_made_at};
+ghost use Rattle.bd_space.specs.ReadItems.{hand_out};
+ghost use Rattle.bd_buffers.specs.Homes.{Forgets};
+ghost use Rattle.bd_buffers.specs.Owners.{AreInOrder};
+ghost use Rattle.bd_buffers.specs.WindowsStand.{buffers_held, is_of, is_owned_by, seen, with_buffers};
+
+use crate::window::Window;
+use bd_words::WordMap;
+
+/// The window of a live process.
+#[derive(Drop)]
+pub(crate) struct OwnedWindow {
+    pub(crate) owner: u32,
+    pub(crate) window: Window,
+}
+
+impl OwnedWindow {
+    fn is_of(&self, p: u32) -> bool
+        ensures { result ≡ is_owned_by p self.now }
+    {
+        self.owner == p
+    }
+}
+
+/// Where the window of a process stands.
+pub(crate) fn position_of(windows: &[OwnedWindow], p: u32) -> Option<usize>
+    requires order { AreInOrder windows.now }
+    ensures { result ≡ position (is_owned_by p) windows.now }
+{
+    let i = windows.partition_point(|w| w.owner < p);
+    if i < windows.len() && windows[i].owner == p {
+        Some(i)
+    } else {
+        None
+    }
+}
+
+/// The window of a process.
+pub(crate) fn owned_by(windows: &[OwnedWindow], p: u32) -> Option<&OwnedWindow>
+    requires order { AreInOrder windows.now }
+    ensures { option_copied result ≡ find (is_owned_by p) windows.now }
+{
+    match position_of(windows, p) {
+        None => None,
+        Some(i) => windows.get(i),
+    }
+}
+
+/// Whether the window of this process would come after all.
+pub(crate) fn is_last(windows: &[OwnedWindow], owner: u32) -> bool
+    requires order { AreInOrder windows.now }
+    ensures { IsTrue result ↔ All (λ w. w.owner < owner) windows.now }
+{
+    match windows.last() {
+        None => true,
+        Some(w) => w.owner < owner,
+    }
+}
+
+/// Ends the buffer made there, in the window of a process.
+pub(crate) fn free_in(windows: &mut Vec<OwnedWindow>, p: u32, made: u32)
+    requires order { AreInOrder windows.old.items }
+    ensures { map seen windows.new.items ≡
+        changed (is_of p) (with_buffers (filter (λ b. not (is_made_at made b)))) (map seen windows.old.items) }
+{
+    if let Some(at) = position_of(windows, p) {
+        windows[at].window.free(made);
+    }
+}
+
+/// Marks the buffer made there, in the window of a process, as handed out.
+pub(crate) fn hand_out_in(windows: &mut Vec<OwnedWindow>, p: u32, made: u32)
+    requires order { AreInOrder windows.old.items }
+    ensures { map seen windows.new.items ≡
+        changed (is_of p) (with_buffers (changed (is_made_at made) hand_out)) (map seen windows.old.items) }
+{
+    if let Some(at) = position_of(windows, p) {
+        windows[at].window.hand_out(made);
+    }
+}
+
+/// Forgets the homes of the live buffers of a process, and no others.
+pub(crate) fn forget_in(homes: &mut WordMap<u32>, windows: &[OwnedWindow], p: u32)
+    requires order { AreInOrder windows.now }
+    ensures { Forgets (buffers_held (find (is_owned_by p) windows.now)) homes.old homes.new }
+{
+    if let Some(w) = owned_by(windows, p) {
+        w.window.forget_homes(homes);
+    }
+}
+
+/// Ends the window of a process.
+pub(crate) fn close_among(windows: &mut Vec<OwnedWindow>, p: u32)
+    ensures { windows.new.items ≡ filter (λ w. not (is_owned_by p w)) windows.old.items }
+{
+    windows.retain(|w| !w.is_of(p));
+}

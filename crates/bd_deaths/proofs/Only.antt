@@ -1,0 +1,78 @@
+-- The only one that passes, in the list and in a part of it.
+use Rattle.std.proofs.Common.{◌≡◌, ℕ, zero, suc, ◌+◌, ◌≤◌, ◌==◌, Bool, true, false, ◌||◌, cond, List, [], ◌∷◌, Some, None, find, take, drop, refl, ap, sym, ◌∙◌, arith}
+use Rattle.std.specs.Prelude.{count_by}
+use Rattle.std.specs.List.{list_any}
+use Rattle.std.proofs.lemmas.List.Sums.{sum_by-cons}
+use Rattle.std.proofs.lemmas.Slice.{between_is}
+use Rattle.std.proofs.lemmas.Bool.{eq-eqb}
+use Rattle.bd_space.specs.declared.space.DeathNotification.{DeathNotification}
+use Rattle.bd_space.specs.Deaths.{is_notification}
+use Rattle.bd_deaths.specs.Stands.{IsPartOf}
+use Rattle.bd_deaths.proofs.Places.{Implies, implies-all, nothing-implies, within-fewer, no-head}
+use Rattle.bd_deaths.proofs.Parts.{find-of}
+
+module _ {A : Type 0} (q : A → Bool) where
+  count-cons : (x : A) (xs : List A) (b : Bool) → q x ≡ b → count_by q (x ∷ xs) ≡ cond b 1 0 + count_by q xs
+  count-cons x xs b e = sum_by-cons (λ y. cond (q y) 1 0) x xs ∙ ap (λ c. cond c 1 0 + count_by q xs) e
+
+  count-else : (x : A) (xs : List A) → q x ≡ false → count_by q (x ∷ xs) ≡ count_by q xs
+  count-else x xs e = let c = count-cons x xs false e in omega (arith, c)
+
+  count-none : (xs : List A) → list_any q xs ≡ false → count_by q xs ≡ 0
+  count-none [] h = refl
+  count-none (x ∷ xs) h = let g = no-head (q x) _ h in count-else x xs g.0 ∙ count-none xs g.1
+
+  none-counted : (xs : List A) → count_by q xs ≡ 0 → list_any q xs ≡ false
+  none-counted [] h = refl
+  none-counted (x ∷ xs) h = by (q x) refl (none-counted xs)
+    where
+      by : (b : Bool) → q x ≡ b → (count_by q xs ≡ 0 → list_any q xs ≡ false) → (b || list_any q xs) ≡ false
+      by true e further = let c = count-cons x xs true e in absurd (omega (arith, c, h))
+      by false e further = further (sym (count-else x xs e) ∙ h)
+
+  count-part : (xs : List A) (i j : ℕ) → i ≤ j → list_any q (take i xs) ≡ false → list_any q (drop j xs) ≡ false
+      → count_by q (drop i (take j xs)) ≡ count_by q xs
+  count-part [] zero zero h b a = refl
+  count-part [] zero (suc j) h b a = refl
+  count-part [] (suc i) zero h b a = refl
+  count-part [] (suc i) (suc j) h b a = refl
+  count-part (x ∷ xs) zero zero h b a = sym (count-none (x ∷ xs) a)
+  count-part (x ∷ xs) zero (suc j) h b a =
+      count-cons x (take j xs) (q x) refl ∙ ap (λ n. cond (q x) 1 0 + n) (count-part xs zero j (omega arith) refl a)
+      ∙ sym (count-cons x xs (q x) refl)
+  count-part (x ∷ xs) (suc i) zero h b a = absurd (omega arith)
+  count-part (x ∷ xs) (suc i) (suc j) h b a =
+      let g = no-head (q x) _ b in count-part xs i j (omega arith) g.1 a ∙ sym (count-else x xs g.0)
+
+-- ---- of a part with all that pass another test
+
+pub count-of : (q r : DeathNotification → Bool) (ys xs : List DeathNotification)
+    → ((x : DeathNotification) → q x ≡ true → r x ≡ true) → IsPartOf r ys xs → count_by q ys ≡ count_by q xs
+count-of q r ys xs h p =
+    let w = within-fewer q r xs p.from p.to (implies-all q r h xs) p.within in
+    ap (count_by q) (p.is ∙ between_is xs p.from p.to) ∙ count-part q xs p.from p.to p.order w.before w.after
+
+pub only-of : (q r : DeathNotification → Bool) (ys xs : List DeathNotification)
+    → ((x : DeathNotification) → q x ≡ true → r x ≡ true) → IsPartOf r ys xs
+    → cond (count_by q ys == 1) (find q ys) None ≡ cond (count_by q xs == 1) (find q xs) None
+only-of q r ys xs h p = rw (count-of q r ys xs h p, find-of q r ys xs h p) refl
+
+-- ---- where only one passes, all that pass are it
+
+some-eq : (x y : DeathNotification) → Some x ≡ Some y → x ≡ y
+some-eq x y h = cc
+
+pub only-implies : (q : DeathNotification → Bool) (x : DeathNotification) (xs : List DeathNotification)
+    → count_by q xs ≡ 1 → find q xs ≡ Some x → Implies q (is_notification x.made) xs
+only-implies q x [] one h = tt
+only-implies q x (y ∷ ys) one h = by (q y) refl h (only-implies q x ys)
+  where
+    by : (b : Bool) → q y ≡ b → cond b (Some y) (find q ys) ≡ Some x
+        → (count_by q ys ≡ 1 → find q ys ≡ Some x → Implies q (is_notification x.made) ys)
+        → (q y ≡ true → (y.made == x.made) ≡ true) × Implies q (is_notification x.made) ys
+    by true e h further =
+        let c = count-cons q y ys true e in (
+          λ _. eq-eqb y.made x.made (ap (λ z. z.made) (some-eq y x h)),
+          nothing-implies q (is_notification x.made) ys (none-counted q ys (omega (arith, c, one))),
+        )
+    by false e h further = (λ t. absurd (cc), further (sym (count-else q y ys e) ∙ one) h)

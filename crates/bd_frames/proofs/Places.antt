@@ -1,0 +1,154 @@
+-- Frames in the order of their places, and where in the list those are that pass.
+use Rattle.std.proofs.Common.{◌≡◌, ℕ, zero, suc, ◌+◌, ◌-◌, ◌≤◌, ◌<◌, Bool, true, false, not, ◌||◌, cond, List, [], ◌∷◌, ◌++◌, Some, None, filter, find, map, take, drop, length, get_or, ltb, refl, sym, subst, ◌∙◌, arith}
+use Rattle.std.specs.List.{list_any, remove, slice_get}
+use Rattle.std.specs.List.Sorted.{IsPartitionedBy, IsPartitionPoint}
+use Rattle.std.proofs.lemmas.Bool.{ne_eqb, ltb-true, ltb-false, lt-ltb}
+use Rattle.bd_space.specs.declared.space.Frame.{Frame}
+use Rattle.bd_space.specs.Words.{changed}
+use Rattle.bd_space.specs.Frames.{is_frame}
+use Rattle.bd_frames.specs.Places.{IsRising, IsAfter, IsWithin}
+
+-- ---- in the order of their places
+
+pub rising-from : (m n : ℕ) (xs : List Frame) → m ≤ n → IsRising n xs → IsRising m xs
+rising-from m n [] h r = tt
+rising-from m n (x ∷ xs) h r = (omega (arith, h, r.0), r.1)
+
+pub rising-push : (m : ℕ) (xs : List Frame) (x : Frame) → IsRising m xs → IsAfter m xs x.made → IsRising m (xs ++ x ∷ [])
+rising-push m [] x r h = (h, tt)
+rising-push m (y ∷ ys) x r h = (r.0, rising-push (suc y.made) ys x r.1 h)
+
+-- after the last one it is after all
+pub after-last : (m made n : ℕ) (xs : List Frame) (b : Frame) → n ≡ length xs - 1 → slice_get xs n ≡ Some b → b.made < made → IsAfter m xs made
+after-last m made n [] b is e h = absurd (cc)
+after-last m made zero (x ∷ []) b is e h = let same : x ≡ b = cc in subst (λ y. suc y.made ≤ made) (sym same) (omega (arith, h))
+after-last m made (suc n) (x ∷ []) b is e h = absurd (omega (arith, is))
+after-last m made zero (x ∷ y ∷ ys) b is e h = absurd (omega (arith, is))
+after-last m made (suc n) (x ∷ y ∷ ys) b is e h = after-last (suc x.made) made n (y ∷ ys) b (omega (arith, is)) e h
+
+pub rising-remove : (m : ℕ) (xs : List Frame) (i : ℕ) → i < length xs → IsRising m xs → IsRising m (remove xs i)
+rising-remove m [] i h r = absurd (omega arith)
+rising-remove m (x ∷ xs) zero h r = rising-from m (suc x.made) xs (omega (arith, r.0)) r.1
+rising-remove m (x ∷ xs) (suc i) h r = (r.0, rising-remove (suc x.made) xs i (omega arith) r.1)
+
+pub rising-changed : (p : Frame → Bool) (f : Frame → Frame) → ((x : Frame) → (f x).made ≡ x.made)
+    → (m : ℕ) (xs : List Frame) → IsRising m xs → IsRising m (changed p f xs)
+rising-changed p f made m [] r = r
+rising-changed p f made m (x ∷ xs) r = by (p x) (rising-changed p f made (suc x.made) xs r.1)
+  where
+    by : (b : Bool) → IsRising (suc x.made) (changed p f xs) → IsRising m (cond b (f x) x ∷ changed p f xs)
+    by true s = subst (λ n. (m ≤ n) × IsRising (suc n) (changed p f xs)) (sym (made x)) (r.0, s)
+    by false s = (r.0, s)
+
+pub rising-map : (f : Frame → Frame) → ((x : Frame) → (f x).made ≡ x.made) → (m : ℕ) (xs : List Frame) → IsRising m xs → IsRising m (map f xs)
+rising-map f made m [] r = r
+rising-map f made m (x ∷ xs) r = subst (λ n. (m ≤ n) × IsRising (suc n) (map f xs)) (sym (made x)) (r.0, rising-map f made (suc x.made) xs r.1)
+
+pub rising-above : (m : ℕ) (xs : List Frame) (i : ℕ) (d : Frame) → IsRising m xs → i < length xs → m ≤ (get_or xs i d).made
+rising-above m [] i d r h = absurd (omega arith)
+rising-above m (x ∷ xs) zero d r h = r.0
+rising-above m (x ∷ xs) (suc i) d r h = let a = rising-above (suc x.made) xs i d r.1 (omega arith) in let b = r.0 in omega (arith, a, b)
+
+pub rising-at : (m : ℕ) (xs : List Frame) (i j : ℕ) (d : Frame) → IsRising m xs → i < j → j < length xs → (get_or xs i d).made < (get_or xs j d).made
+rising-at m [] i j d r h k = absurd (omega arith)
+rising-at m (x ∷ xs) i zero d r h k = absurd (omega arith)
+rising-at m (x ∷ xs) zero (suc j) d r h k = let a = rising-above (suc x.made) xs j d r.1 (omega arith) in omega (arith, a)
+rising-at m (x ∷ xs) (suc i) (suc j) d r h k = rising-at (suc x.made) xs i j d r.1 (omega arith) (omega arith)
+
+-- ---- between two indices
+
+pub none-before : {A : Type 0} (q : A → Bool) (xs : List A) (i : ℕ) → ((k : ℕ) (d : A) → k < i → k < length xs → q (get_or xs k d) ≡ false) → list_any q (take i xs) ≡ false
+none-before q [] zero h = refl
+none-before q [] (suc i) h = refl
+none-before q (x ∷ xs) zero h = refl
+none-before q (x ∷ xs) (suc i) h = rw (h 0 x (omega arith) (omega arith)) (none-before q xs i (λ k d a b. h (suc k) d (omega arith) (omega arith)))
+
+pub none-after : {A : Type 0} (q : A → Bool) (xs : List A) (i : ℕ) → ((k : ℕ) (d : A) → i ≤ k → k < length xs → q (get_or xs k d) ≡ false) → list_any q (drop i xs) ≡ false
+none-after q [] zero h = refl
+none-after q [] (suc i) h = refl
+none-after q (x ∷ xs) zero h = rw (h 0 x (omega arith) (omega arith)) (none-after q xs zero (λ k d a b. h (suc k) d (omega arith) (omega arith)))
+none-after q (x ∷ xs) (suc i) h = none-after q xs i (λ k d a b. h (suc k) d (omega arith) (omega arith))
+
+-- what passes the one test passes the other
+abbrev pub Implies : {A : Type 0} → (A → Bool) → (A → Bool) → List A → Type 0
+Implies q r [] = Unit {0}
+Implies q r (x ∷ xs) = (q x ≡ true → r x ≡ true) × Implies q r xs
+
+pub implies-all : {A : Type 0} (q r : A → Bool) → ((x : A) → q x ≡ true → r x ≡ true) → (xs : List A) → Implies q r xs
+implies-all q r h [] = tt
+implies-all q r h (x ∷ xs) = (h x, implies-all q r h xs)
+
+implied : {A : Type 0} (q r : A → Bool) (x : A) → (q x ≡ true → r x ≡ true) → r x ≡ false → q x ≡ false
+implied q r x h e = by (q x) refl
+  where
+    by : (b : Bool) → q x ≡ b → b ≡ false
+    by true g = sym (h g) ∙ e
+    by false g = refl
+
+pub no-head : (a b : Bool) → (a || b) ≡ false → (a ≡ false) × (b ≡ false)
+no-head true b h = absurd (cc)
+no-head false b h = (refl, h)
+
+fewer-before : {A : Type 0} (q r : A → Bool) (xs : List A) (i : ℕ) → Implies q r xs → list_any r (take i xs) ≡ false → list_any q (take i xs) ≡ false
+fewer-before q r [] zero h e = refl
+fewer-before q r [] (suc i) h e = refl
+fewer-before q r (x ∷ xs) zero h e = refl
+fewer-before q r (x ∷ xs) (suc i) h e = let g = no-head (r x) _ e in rw (implied q r x h.0 g.0) (fewer-before q r xs i h.1 g.1)
+
+fewer-after : {A : Type 0} (q r : A → Bool) (xs : List A) (i : ℕ) → Implies q r xs → list_any r (drop i xs) ≡ false → list_any q (drop i xs) ≡ false
+fewer-after q r [] zero h e = refl
+fewer-after q r [] (suc i) h e = refl
+fewer-after q r (x ∷ xs) zero h e = let g = no-head (r x) _ e in rw (implied q r x h.0 g.0) (fewer-after q r xs zero h.1 g.1)
+fewer-after q r (x ∷ xs) (suc i) h e = fewer-after q r xs i h.1 e
+
+pub within-fewer : (q r : Frame → Bool) (xs : List Frame) (i j : ℕ) → Implies q r xs → IsWithin r i j xs → IsWithin q i j xs
+within-fewer q r xs i j h w = record { before = fewer-before q r xs i h w.before; after = fewer-after q r xs j h w.after }
+
+-- ---- what is looked for where nothing passes
+
+pub find-none : {A : Type 0} (q : A → Bool) (xs : List A) → list_any q xs ≡ false → find q xs ≡ None
+find-none q [] h = refl
+find-none q (x ∷ xs) h = let g = no-head (q x) _ h in rw g.0 (find-none q xs g.1)
+
+pub changed-none : {A : Type 0} (q : A → Bool) (f : A → A) (xs : List A) → list_any q xs ≡ false → changed q f xs ≡ xs
+changed-none q f [] h = refl
+changed-none q f (x ∷ xs) h = let g = no-head (q x) _ h in rw (g.0, changed-none q f xs g.1) refl
+
+pub filter-none : {A : Type 0} (q : A → Bool) (xs : List A) → list_any q xs ≡ false → filter (λ x. not (q x)) xs ≡ xs
+filter-none q [] h = refl
+filter-none q (x ∷ xs) h = let g = no-head (q x) _ h in rw (g.0, filter-none q xs g.1) refl
+
+-- ---- by halves
+
+pub partitioned : (m : ℕ) (xs : List Frame) (made : ℕ) → IsRising m xs → IsPartitionedBy (λ x. ltb x.made made) xs
+partitioned m xs made r = λ i j d h k e. by i j d h k e (ltb i j) refl
+  where
+    by : (i j : ℕ) (d : Frame) → i ≤ j → j < length xs → ltb (get_or xs j d).made made ≡ true → (b : Bool) → ltb i j ≡ b → ltb (get_or xs i d).made made ≡ true
+    by i j d h k e true g =
+        let a = rising-at m xs i j d r (ltb-true i j g) k in
+        let b = ltb-true (get_or xs j d).made made e in
+        lt-ltb (get_or xs i d).made made (omega (arith, a, b))
+    by i j d h k e false g =
+        let n = ltb-false i j g in
+        let same : i ≡ j = omega (arith, h, n) in
+        subst (λ n. ltb (get_or xs n d).made made ≡ true) (sym same) e
+
+module _ (xs : List Frame) (made i : ℕ) (r : IsRising 0 xs)
+    (p : IsPartitionPoint (λ x. ltb x.made made ≡ true) (λ x. ltb x.made made ≡ false) xs i) where
+  before-point : list_any (is_frame made) (take i xs) ≡ false
+  before-point = none-before (is_frame made) xs i (λ k d a b. let e = ltb-true (get_or xs k d).made made (p.0 k d (omega arith) a) in ne_eqb (get_or xs k d).made made (λ same. omega (arith, e, same)))
+
+  pub within-point : i < length xs → IsWithin (is_frame made) i (i + 1) xs
+  within-point h = record {
+    before = before-point;
+    after = none-after (is_frame made) xs (i + 1) (λ k d a b.
+        let here = ltb-false (get_or xs i d).made made (p.1 i d (omega arith) h) in
+        let there = rising-at 0 xs i k d r (omega (arith, a)) b in
+        ne_eqb (get_or xs k d).made made (λ same. omega (arith, here, there, same)));
+  }
+
+  pub within-end : length xs ≤ i → IsWithin (is_frame made) i i xs
+  within-end h = record {
+    before = before-point;
+    after = none-after (is_frame made) xs i (λ k d a b. absurd (omega (arith, h, a, b)));
+  }

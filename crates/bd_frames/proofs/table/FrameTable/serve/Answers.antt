@@ -1,0 +1,19 @@
+use Rattle.std.proofs.Common.{ap, refl, sym, subst, ◌∙◌}
+use Rattle.bd_space.specs.Words.{changed}
+use Rattle.bd_space.specs.Frames.{is_frame}
+use Rattle.bd_space.specs.ReadItems.{serve}
+use Rattle.bd_frames.specs.Places.{IsWithin, RiseIf}
+use Rattle.bd_frames.proofs.Places.{rising-changed}
+use Rattle.bd_frames.proofs.table.FrameTable.serve.Goals as goal
+
+pub returns-clause-stands : goal.returns-clause-stands
+returns-clause-stands c = λ l h.
+    let q = is_frame c.args.made in
+    let f = serve c.args.seat in
+    let at = c.range_of-range.result in
+    let rises = subst (λ xs. RiseIf c.args.self.now.rising xs) (sym h.items_are) h.rises in
+    record {
+      items_are = c.serve_in.ensures.items (subst (λ xs. RiseIf c.args.self.now.rising xs → IsWithin q at.start at.end xs) c.deref.ensures.value c.range_of-range.ensures.within rises)
+          ∙ ap (changed q f) h.items_are;
+      rises = λ e. rising-changed q f (λ x. refl) 0 l (h.rises e);
+    }

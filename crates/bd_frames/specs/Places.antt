@@ -1,0 +1,37 @@
+-- Frames in the order of their places, and parts of a list with all that pass.
+use Rattle.std.specs.Prelude.{ℕ, suc, ◌+◌, ◌≡◌, ◌≤◌, Bool, true, false, List, [], ◌∷◌, Option, Some, None, take, drop, get_or}
+use Rattle.std.specs.List.{list_any, between}
+use Rattle.bd_space.specs.declared.space.Frame.{Frame}
+use Rattle.bd_space.specs.Frames.{is_frame}
+
+-- each was made after the one before, from one place on
+abbrev pub IsRising : ℕ → List Frame → Type 0
+IsRising from [] = Unit {0}
+IsRising from (f ∷ fs) = (from ≤ f.made) × IsRising (suc f.made) fs
+
+-- the place is after the last one's, or is this place or a later one where there is none
+abbrev pub IsAfter : ℕ → List Frame → ℕ → Type 0
+IsAfter from [] made = from ≤ made
+IsAfter from (f ∷ fs) made = IsAfter (suc f.made) fs made
+
+-- where a flag is up, they rise
+abbrev pub RiseIf : Bool → List Frame → Type 0
+RiseIf rising fs = rising ≡ true → IsRising 0 fs
+
+-- all that pass lie between the two indices
+pub record IsWithin (q : Frame → Bool) (from to : ℕ) (l : List Frame) : Type 0 where
+  pub before : list_any q (take from l) ≡ false
+  pub after : list_any q (drop to l) ≡ false
+
+-- a part of the list, with all that pass
+pub record IsPartOf (q : Frame → Bool) (part l : List Frame) : Type 0 where
+  pub from : ℕ
+  pub to : ℕ
+  pub order : from ≤ to
+  pub within : IsWithin q from to l
+  pub is : part ≡ between from to l
+
+-- the newest one that was made there stands at this index, or there is none
+abbrev pub IsNewestAt : ℕ → Option ℕ → List Frame → Type 0
+IsNewestAt made None l = list_any (is_frame made) l ≡ false
+IsNewestAt made (Some i) l = ((d : Frame) → is_frame made (get_or l i d) ≡ true) × (list_any (is_frame made) (drop (i + 1) l) ≡ false)

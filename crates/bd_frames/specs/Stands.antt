@@ -1,0 +1,17 @@
+-- What a table of frames stands for: the frames of the space, in its order.
+use Rattle.std.specs.Prelude.{◌≡◌, List}
+use Rattle.bd_space.specs.declared.space.Frame.{Frame}
+use Rattle.bd_frames.specs.declared.table.FrameTable.{FrameTable}
+use Rattle.bd_frames.specs.Places.{RiseIf}
+
+pub record FramesAre (t : FrameTable) (l : List Frame) : Type 0 where
+  pub items_are : t.frames.items ≡ l
+  pub rises : RiseIf t.rising l
+
+-- of every list that the table stands for x is what f says
+abbrev pub Tells : {A : Type 0} → FrameTable → A → (List Frame → A) → Type 0
+Tells t x f = (l : List Frame) → FramesAre t l → x ≡ f l
+
+-- every list that the table stood for was changed by f
+abbrev pub Makes : FrameTable → FrameTable → (List Frame → List Frame) → Type 0
+Makes t u f = (l : List Frame) → FramesAre t l → FramesAre u (f l)

@@ -1,0 +1,37 @@
+-- Words on frames in the order in which they came in.
+use Rattle.std.specs.Prelude.{ℕ, ◌==◌, ◌&&◌, Bool, List, Option, find, reverse}
+use Rattle.std.specs.List.{list_any}
+use Rattle.bd_space.specs.declared.space.Frame.{Frame}
+use Rattle.bd_space.specs.declared.space.Server.{Server}
+use Rattle.bd_space.specs.declared.space.Server.TheVariants.{Pending, Serving, Gone}
+use Rattle.bd_space.specs.Frames.{takes_part, is_frame}
+use Rattle.bd_space.specs.Settle.{is_abandoned}
+use Rattle.bd_space.specs.ThreadExits.{gone_caller, gone_server}
+
+-- the newest frame in which the thread takes part
+abbrev pub newest_in : List Frame → ℕ → Option Frame
+newest_in frames seat = find (takes_part seat) (reverse frames)
+
+abbrev pub is_place_among : List ℕ → ℕ → Bool
+is_place_among chosen made = list_any (λ m. m == made) chosen
+
+-- the frame made here, if it is abandoned
+abbrev pub abandoned_in : List Frame → ℕ → Option Frame
+abandoned_in frames made = find (λ f. is_frame made f && is_abandoned frames f) frames
+
+-- the oldest abandoned one of those that were made at one of these places
+abbrev pub oldest_in : List Frame → List ℕ → Option Frame
+oldest_in frames chosen = find (λ f. is_place_among chosen f.made && is_abandoned frames f) frames
+
+-- who would have served it has gone
+abbrev pub lost : Server → Server
+lost Pending = Gone
+lost (Serving t) = Serving t
+lost Gone = Gone
+
+abbrev pub lost_frame : Frame → Frame
+lost_frame f = record f { server = lost f.server }
+
+-- the thread is gone as caller and as server
+abbrev pub left_frame : ℕ → Frame → Frame
+left_frame seat f = record f { caller = gone_caller seat f.caller; server = gone_server seat f.server }

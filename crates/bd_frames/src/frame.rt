@@ -1,0 +1,118 @@
+//! What is looked for among frames. A thread's frames are a stack: its innermost is looked for from the newest on.
+
+ghost use Rattle.std.specs.Prelude.{ℕ, Bool, true, ◌≡◌, ◌==◌, ◌&&◌, ◌++◌, map, filter, find, OnOk};
+ghost use Rattle.std.specs.List.{list_any};
+ghost use Rattle.bd_space.specs.Frames as spec;
+ghost use Rattle.bd_space.specs.Settle as settling;
+ghost use Rattle.bd_frames.specs.Places.{IsAfter};
+ghost use Rattle.bd_frames.specs.Words.{newest_in, is_place_among, oldest_in};
+
+use crate::server::{is_gone, serves};
+use bd_space::Frame;
+use std::alloc::AllocError;
+
+/// The frame of the call made at this place.
+pub(crate) fn is_frame(frame: &Frame, made: u32) -> bool
+    ensures { result ≡ spec.is_frame made frame.now }
+{
+    frame.made == made
+}
+
+fn is_child_of(frame: &Frame, child: &Frame) -> bool
+    ensures { result ≡ spec.is_child_of frame.now child.now }
+{
+    child.parent == Some(frame.made)
+}
+
+fn has_child(frames: &[Frame], frame: &Frame) -> bool
+    ensures { result ≡ list_any (spec.is_child_of frame.now) frames.now }
+{
+    frames.iter().any(|f| is_child_of(frame, f))
+}
+
+fn calls(frame: &Frame, seat: u32) -> bool
+    ensures { result ≡ spec.calls seat frame.now }
+{
+    frame.caller == Some(seat)
+}
+
+fn takes_part(frame: &Frame, seat: u32) -> bool
+    ensures { result ≡ spec.takes_part seat frame.now }
+{
+    calls(frame, seat) || serves(seat, frame.server)
+}
+
+pub(crate) fn newest_among(frames: &[Frame], seat: u32) -> Option<Frame>
+    ensures { result ≡ newest_in frames.now seat }
+{
+    frames.iter().rev().copied().find(|f| takes_part(f, seat))
+}
+
+pub(crate) fn takes_part_among(frames: &[Frame], seat: u32) -> bool
+    ensures { result ≡ list_any (spec.takes_part seat) frames.now }
+{
+    frames.iter().any(|f| takes_part(f, seat))
+}
+
+pub(crate) fn frame_among(frames: &[Frame], made: u32) -> Option<Frame>
+    ensures { result ≡ find (spec.is_frame made) frames.now }
+{
+    frames.iter().copied().find(|f| is_frame(f, made))
+}
+
+fn is_abandoned(frames: &[Frame], frame: &Frame) -> bool
+    ensures { result ≡ settling.is_abandoned frames.now frame.now }
+{
+    is_gone(frame.server) && !has_child(frames, frame)
+}
+
+/// The abandoned frame of the call made at this place, among these of all the frames.
+pub(crate) fn abandoned_among(some: &[Frame], frames: &[Frame], made: u32) -> Option<Frame>
+    ensures { result ≡ find (λ f. spec.is_frame made f && settling.is_abandoned frames.now f) some.now }
+{
+    some.iter()
+        .copied()
+        .find(|f| is_frame(f, made) && is_abandoned(frames, f))
+}
+
+/// Whether a call made at this place comes after all of these, where each came after those before it.
+pub(crate) fn is_newest(frames: &[Frame], made: u32) -> bool
+    ensures { result ≡ true → IsAfter 0 frames.now made }
+{
+    match frames.last() {
+        None => true,
+        Some(last) => last.made < made,
+    }
+}
+
+// The frame's call was made at one of these places.
+fn is_among(chosen: &[u32], frame: &Frame) -> bool
+    ensures { result ≡ is_place_among chosen.now frame.now.made }
+{
+    chosen.iter().any(|made| *made == frame.made)
+}
+
+pub(crate) fn oldest_among(frames: &[Frame], chosen: &[u32]) -> Option<Frame>
+    ensures { result ≡ oldest_in frames.now chosen.now }
+{
+    frames
+        .iter()
+        .copied()
+        .find(|f| is_among(chosen, f) && is_abandoned(frames, f))
+}
+
+pub(crate) fn push_served(
+    frames: &[Frame],
+    seat: u32,
+    served: &mut Vec<u32>,
+) -> Result<(), AllocError>
+    ensures { OnOk result (served.new.items
+        ≡ served.old.items ++ map spec.made_of (filter (λ f. spec.serves seat f.server) frames.now)) }
+{
+    for frame in frames {
+        if serves(seat, frame.server) {
+            served.push(frame.made)?;
+        }
+    }
+    Ok(())
+}

@@ -1,0 +1,13 @@
+//! The table of frames, open two-way calls: each found by its place.
+#![tactic(auto)]
+
+mod ancestry;
+mod change;
+mod frame;
+mod place;
+mod server;
+mod table;
+
+pub use ancestry::Ancestry;
+pub use server::serves;
+pub use table::FrameTable;

@@ -1,0 +1,176 @@
+//! The table: its room, its changes and what it tells.
+#![tactic(auto, unfolding(crate::specs::Room::frame_room, crate::specs::Room::frame_count))]
+
+ghost use Rattle.std.specs.Prelude.{ℕ, Bool, List, ◌≡◌, ◌==◌, ◌≤◌, ◌<◌, ◌+◌, ◌++◌, ◌∷◌, [], not, map, filter, find, reverse, length, vec_len, OnOk, OnErr};
+ghost use Rattle.std.specs.List.{list_any, remove as list_remove};
+ghost use Rattle.bd_space.specs.declared.space.Frame as declared;
+ghost use Rattle.bd_space.specs.Frames as spec;
+ghost use Rattle.bd_space.specs.ReadItems as reading;
+ghost use Rattle.bd_space.specs.Words.{changed};
+ghost use Rattle.bd_frames.specs.Places.{IsPartOf};
+ghost use Rattle.bd_frames.specs.Room.{Uses, frame_room, frame_count};
+ghost use Rattle.bd_frames.specs.Words.{newest_in, abandoned_in, oldest_in, lost_frame, left_frame};
+
+use crate::ancestry::{Ancestry, ancestry_among};
+use crate::change::{leave_all, lose_among, serve_in};
+use crate::frame::{
+    abandoned_among, frame_among, is_newest, newest_among, oldest_among, push_served,
+    takes_part_among,
+};
+use crate::place::{newest_at, part, range_of};
+use bd_space::Frame;
+use std::alloc::{AllocError, Global};
+
+/// The frames of a driver, in the order in which they came in.
+#[derive(Debug, Drop)]
+pub struct FrameTable {
+    pub(crate) frames: Vec<Frame>,
+    // Each was made at a later place than those before it.
+    pub(crate) rising: bool,
+}
+
+impl FrameTable {
+    ghost use Rattle.bd_frames.specs.Stands.{FramesAre, Tells, Makes};
+
+    /// An empty table. Takes no memory.
+    pub fn new(alloc: Global) -> FrameTable
+        ensures { FramesAre result [] }
+    {
+        FrameTable {
+            frames: Vec::new(alloc),
+            rising: true,
+        }
+    }
+
+    /// Makes room for one more. Fails for want of memory, and then changes nothing either.
+    pub fn reserve(&mut self) -> Result<(), AllocError>
+        ensures stands { Makes self.old self.new (λ l. l) }
+        ensures uses { Uses self.old self.new 0 }
+        ensures room { OnOk result (1 ≤ frame_room self.new) }
+        // Memory was asked for: there was no room.
+        ensures grown { OnErr result (frame_room self.old ≡ 0) }
+    {
+        self.frames.reserve(1)
+    }
+
+    /// How many there are.
+    pub fn count(&self) -> usize
+        ensures count { result ≡ frame_count self.now }
+        ensures frames { Tells self.now result (λ l. length l) }
+    {
+        self.frames.len()
+    }
+
+    /// A frame comes in. Takes no memory.
+    pub fn push(&mut self, frame: Frame)
+        requires { 1 ≤ frame_room self.old }
+        ensures stands { Makes self.old self.new (λ l. l ++ frame ∷ []) }
+        ensures uses { Uses self.old self.new 1 }
+    {
+        self.rising = self.rising && is_newest(&self.frames, frame.made);
+        self.frames.push_reserved(frame);
+    }
+
+    // The frame of this index closes.
+    fn remove_at(&mut self, i: usize)
+        requires { i < vec_len self.old.frames }
+        ensures stands { (l : List declared.Frame) → FramesAre self.old l → FramesAre self.new (list_remove l i) }
+        ensures len { vec_len self.new.frames + 1 ≡ vec_len self.old.frames }
+        ensures uses { Uses self.old self.new 0 }
+    {
+        let _ = self.frames.remove(i);
+    }
+
+    /// The frame of the call made at this place closes.
+    pub fn close(&mut self, made: u32)
+        ensures stands { Makes self.old self.new (λ l. filter (λ f. not (spec.is_frame made f)) l) }
+        ensures uses { Uses self.old self.new 0 }
+    {
+        while let Some(i) = newest_at(&self.frames, self.rising, made) {
+            self.remove_at(i);
+        }
+    }
+
+    // A part of the frames with all that were made there.
+    fn made_part(&self, made: u32) -> &[Frame]
+        ensures { (l : List declared.Frame) → FramesAre self.now l → IsPartOf (spec.is_frame made) result.now l }
+    {
+        let range = range_of(&self.frames, self.rising, made);
+        part(&self.frames, range)
+    }
+
+    /// The frame of the call made at this place.
+    pub fn frame(&self, made: u32) -> Option<Frame>
+        ensures { Tells self.now result (λ l. find (spec.is_frame made) l) }
+    {
+        frame_among(self.made_part(made), made)
+    }
+
+    /// The newest frame in which the thread takes part.
+    pub fn newest_of(&self, seat: u32) -> Option<Frame>
+        ensures { Tells self.now result (λ l. newest_in l seat) }
+    {
+        newest_among(&self.frames, seat)
+    }
+
+    /// Whether the thread takes part in a frame.
+    pub fn is_in_call(&self, seat: u32) -> bool
+        ensures { Tells self.now result (λ l. list_any (spec.takes_part seat) l) }
+    {
+        takes_part_among(&self.frames, seat)
+    }
+
+    /// The frame of the call made at this place, if it is abandoned.
+    pub fn abandoned_at(&self, made: u32) -> Option<Frame>
+        ensures { Tells self.now result (λ l. abandoned_in l made) }
+    {
+        abandoned_among(self.made_part(made), &self.frames, made)
+    }
+
+    /// The oldest abandoned frame of the calls made at these places.
+    pub fn oldest_abandoned_among(&self, chosen: &[u32]) -> Option<Frame>
+        ensures { Tells self.now result (λ l. oldest_in l chosen.now) }
+    {
+        oldest_among(&self.frames, chosen)
+    }
+
+    /// The frames on the way from the one made there by parents, innermost first.
+    pub fn ancestry_of(&self, from: Option<u32>) -> Ancestry<'_>
+        ensures { Tells self.now result (λ l. spec.ancestry from (reverse l)) }
+    {
+        ancestry_among(&self.frames, from)
+    }
+
+    /// The thread of this seat serves the call made there.
+    pub fn serve(&mut self, made: u32, seat: u32)
+        ensures stands { Makes self.old self.new (λ l. changed (spec.is_frame made) (reading.serve seat) l) }
+        ensures uses { Uses self.old self.new 0 }
+    {
+        let range = range_of(&self.frames, self.rising, made);
+        serve_in(&mut self.frames, range, made, seat);
+    }
+
+    /// The call made there has lost who would have served it.
+    pub fn lose(&mut self, made: u32)
+        ensures stands { Makes self.old self.new (λ l. changed (spec.is_frame made) lost_frame l) }
+        ensures uses { Uses self.old self.new 0 }
+    {
+        lose_among(&mut self.frames, made);
+    }
+
+    /// The thread is gone from its frames, as caller and as server.
+    pub fn leave(&mut self, seat: u32)
+        ensures stands { Makes self.old self.new (λ l. map (left_frame seat) l) }
+        ensures uses { Uses self.old self.new 0 }
+    {
+        leave_all(&mut self.frames, seat);
+    }
+
+    /// Where the calls were made that the thread serves, put after what is there. Fails for want of memory alone.
+    pub fn served(&self, seat: u32, served: &mut Vec<u32>) -> Result<(), AllocError>
+        ensures { OnOk result (Tells self.now served.new.items
+            (λ l. served.old.items ++ map spec.made_of (filter (λ f. spec.serves seat f.server) l))) }
+    {
+        push_served(&self.frames, seat, served)
+    }
+}

@@ -1,0 +1,164 @@
+-- The only notification that goes with a name: the work items of all others stay.
+use Rattle.std.proofs.Common.{◌≡◌, ℕ, ◌==◌, Bool, true, false, not, ◌&&◌, ◌||◌, cond, List, [], ◌∷◌, Some, None, find, filter, refl, ap, sym, ◌∙◌}
+use Rattle.std.specs.Prelude.{count_by}
+use Rattle.std.specs.List.{list_any}
+use Rattle.std.proofs.lemmas.Bool.{and_parts, and_from, eqb-true, eq-eqb}
+use Rattle.bd_space.specs.declared.step.ObjectId.{ObjectId}
+use Rattle.bd_space.specs.declared.space.Process.{Process}
+use Rattle.bd_space.specs.declared.space.Object.{Object}
+use Rattle.bd_space.specs.declared.space.Reference.{Reference}
+use Rattle.bd_space.specs.declared.space.DeathNotification.{DeathNotification}
+use Rattle.bd_space.specs.declared.space.WorkKind.{WorkKind}
+use Rattle.bd_space.specs.declared.space.WorkKind.TheVariants as work
+use Rattle.bd_space.specs.Words.{is_some_and, same}
+use Rattle.bd_space.specs.Todo.{death_of}
+use Rattle.bd_space.specs.Space.{Space}
+use Rattle.bd_space.specs.Notices.{still_due, is_name_of}
+use Rattle.bd_space.specs.Deaths.{is_uncleared_on, is_notification, uncleared_in}
+use Rattle.bd_space.specs.Local.{at_name, is_touched, deaths_go_of}
+use Rattle.bd_nodes.proofs.Found.{found-passes}
+use Rattle.bd_objects.specs.Deaths.{only_lost}
+use Rattle.bd_deaths.specs.Only.{only_uncleared_in}
+use Rattle.bd_deaths.proofs.Places.{Implies}
+use Rattle.bd_deaths.proofs.Parts.{any-filtered}
+use Rattle.bd_deaths.proofs.Only.{only-implies}
+
+or-true : (a : Bool) → (a || true) ≡ true
+or-true true = refl
+or-true false = refl
+
+found-any : {A : Type 0} (q r : A → Bool) (x : A) → r x ≡ true → (xs : List A) → find q xs ≡ Some x → list_any r xs ≡ true
+found-any q r x e [] h = absurd (cc)
+found-any {A} q r x e (y ∷ ys) h = by (q y) h (found-any q r x e ys)
+  where
+    by : (b : Bool) → cond b (Some y) (find q ys) ≡ Some x → (find q ys ≡ Some x → list_any r ys ≡ true)
+        → (r y || list_any r ys) ≡ true
+    by true g further = let is : y ≡ x = cc in rw (ap r is ∙ e) refl
+    by false g further = rw (further g) (or-true (r y))
+
+implied-any : {A : Type 0} (q r : A → Bool) (xs : List A) → Implies q r xs → list_any q xs ≡ true → list_any r xs ≡ true
+implied-any q r [] i h = absurd (cc)
+implied-any q r (x ∷ xs) i h = by (q x) refl h (implied-any q r xs i.1)
+  where
+    by : (b : Bool) → q x ≡ b → (b || list_any q xs) ≡ true → (list_any q xs ≡ true → list_any r xs ≡ true)
+        → (r x || list_any r xs) ≡ true
+    by true e g further = rw (i.0 e) refl
+    by false e g further = rw (further g) (or-true (r x))
+
+-- ---- the only one
+
+module _ (p : ℕ) (o : ObjectId) where
+  abbrev at : DeathNotification → Bool
+  at y = at_name p o y.process y.object
+
+  abbrev made_at : ℕ → DeathNotification → Bool
+  made_at n y = (y.made == n) && at y
+
+  abbrev stays : DeathNotification → Bool
+  stays y = not (at y) || (y.cleared || false)
+
+  abbrev made_stays : ℕ → DeathNotification → Bool
+  made_stays n y = (y.made == n) && stays y
+
+  both : (c a b : Bool) → c ≡ false → (a && b) ≡ true → ((not c && a) && b) ≡ true
+  both false a b e h = h
+  both true a b e h = absurd (cc)
+
+  at-uncleared : (c a b : Bool) → ((not c && a) && b) ≡ true → (a && b) ≡ true
+  at-uncleared false a b h = h
+  at-uncleared true a b h = absurd (cc)
+
+  or-cleared : (a c : Bool) → c ≡ true → (not a || (c || false)) ≡ true
+  or-cleared true true e = refl
+  or-cleared false true e = refl
+  or-cleared a false e = absurd (cc)
+
+  -- of those on the name, one that isn't this one is cleared
+  one-stays : (m n : ℕ) → (n == m) ≡ false → (y : DeathNotification)
+      → (is_uncleared_on p o y ≡ true → (y.made == m) ≡ true) → made_at n y ≡ true → made_stays n y ≡ true
+  one-stays m n other y is h = by y.cleared refl
+    where
+      by : (c : Bool) → y.cleared ≡ c → made_stays n y ≡ true
+      by true e = and_from _ _ (and_parts (y.made == n) (at y) h).0 (or-cleared (at y) y.cleared e)
+      by false e =
+          let k = and_parts (y.made == n) (at y) h in
+          let here : y.made ≡ n = eqb-true y.made n k.0 in
+          let there : y.made ≡ m = eqb-true y.made m (is (both y.cleared (y.process == p) (same y.object o) e k.1)) in
+          let equal : (n == m) ≡ true = eq-eqb n m (sym here ∙ there) in
+          absurd (cc)
+
+  others-stay : (m n : ℕ) → (n == m) ≡ false → (ys : List DeathNotification)
+      → Implies (is_uncleared_on p o) (is_notification m) ys → Implies (made_at n) (made_stays n) ys
+  others-stay m n other [] i = tt
+  others-stay m n other (y ∷ ys) i = (one-stays m n other y i.0, others-stay m n other ys i.1)
+
+  is-only : (xs : List DeathNotification) (x : DeathNotification) → Some x ≡ only_uncleared_in xs p o
+      → (count_by (is_uncleared_on p o) xs ≡ 1) × (find (is_uncleared_on p o) xs ≡ Some x)
+  is-only xs x h = by (count_by (is_uncleared_on p o) xs == 1) refl h
+    where
+      by : (b : Bool) → (count_by (is_uncleared_on p o) xs == 1) ≡ b → Some x ≡ cond b (uncleared_in xs p o) None
+          → (count_by (is_uncleared_on p o) xs ≡ 1) × (find (is_uncleared_on p o) xs ≡ Some x)
+      by true e g = (eqb-true _ 1 e, sym g)
+      by false e g = absurd (cc)
+
+  module _ (xs left : List DeathNotification) (x : DeathNotification) (is : Some x ≡ only_uncleared_in xs p o)
+      (are : left ≡ filter stays xs) (gone : list_any (is_notification x.made) left ≡ false) where
+    -- it is on the name
+    on-name : list_any (made_at x.made) xs ≡ true
+    on-name =
+        let one = is-only xs x is in
+        let q = found-passes (is_uncleared_on p o) xs x one.1 in
+        found-any (is_uncleared_on p o) (made_at x.made) x
+        (and_from _ _ (eq-eqb x.made x.made refl) (at-uncleared x.cleared (x.process == p) (same x.object o) q)) xs one.1
+
+    other-due : (n : ℕ) → (n == x.made) ≡ false → list_any (made_at n) xs ≡ true → list_any (is_notification n) left ≡ true
+    other-due n other h =
+        let one = is-only xs x is in
+        ap (list_any (is_notification n)) are ∙ any-filtered (is_notification n) stays xs
+        ∙ implied-any (made_at n) (made_stays n) xs
+        (others-stay x.made n other xs (only-implies (is_uncleared_on p o) x xs one.0 one.1)) h
+
+    death-stays : (n : ℕ) → not (n == x.made) ≡ (not (list_any (made_at n) xs) || list_any (is_notification n) left)
+    death-stays n = by (n == x.made) refl
+      where
+        other : (c : Bool) → list_any (made_at n) xs ≡ c → (n == x.made) ≡ false
+            → true ≡ (not c || list_any (is_notification n) left)
+        other true t e = sym (other-due n e t)
+        other false t e = refl
+
+        by : (b : Bool) → (n == x.made) ≡ b → not b ≡ (not (list_any (made_at n) xs) || list_any (is_notification n) left)
+        by true e =
+            let it : n ≡ x.made = eqb-true n x.made e in
+            let there : list_any (made_at n) xs ≡ true = ap (λ k. list_any (made_at k) xs) it ∙ on-name in
+            let goes : list_any (is_notification n) left ≡ false = ap (λ k. list_any (is_notification k) left) it ∙ gone in
+            rw (there, goes) refl
+        by false e = other (list_any (made_at n) xs) refl e
+
+    pub item-stays : (processes : List Process) (objects : List Object) (references : List Reference) (kind : WorkKind)
+        → not (is_some_and (death_of kind) (λ n. n == x.made))
+        ≡ (not (is_touched (at_name p o) (λ i. false) xs kind) || still_due processes objects references left kind)
+    item-stays processes objects references (work.Notice i) = refl
+    item-stays processes objects references work.Complete = refl
+    item-stays processes objects references (work.Refusal r) = refl
+    item-stays processes objects references (work.Call b) = refl
+    item-stays processes objects references (work.Reply b) = refl
+    item-stays processes objects references (work.Verdict r) = refl
+    item-stays processes objects references (work.Death n) = death-stays n
+    item-stays processes objects references (work.Cleared c) = refl
+
+-- ---- which it is
+
+module _ (s : Space) (p : ℕ) (o : ObjectId) where
+  pub none-named : is_name_of s.names p o ≡ true → None ≡ only_lost s p o
+  none-named named = rw named refl
+
+  pub none-only : is_name_of s.names p o ≡ false → only_uncleared_in s.deaths p o ≡ None → None ≡ only_lost s p o
+  none-only named none = rw (named, none) refl
+
+  module _ (x : DeathNotification) (named : is_name_of s.names p o ≡ false) (is : only_uncleared_in s.deaths p o ≡ Some x) where
+    pub none-kept : list_any (is_notification x.made) (deaths_go_of (at_name p o) s).deaths ≡ true → None ≡ only_lost s p o
+    none-kept kept = rw (named, is, kept) refl
+
+    pub some-lost : list_any (is_notification x.made) (deaths_go_of (at_name p o) s).deaths ≡ false
+        → Some x.made ≡ only_lost s p o
+    some-lost gone = rw (named, is, gone) refl

@@ -1,0 +1,52 @@
+use Rattle.std.proofs.Common.{◌∙◌, false, ap, sym}
+use Rattle.std.specs.List.{list_any}
+use Rattle.bd_space.specs.Deaths.{is_notification}
+use Rattle.bd_space.specs.Local.{deaths_go_of, at_name}
+use Rattle.bd_objects.proofs.AtName.{filtered-at}
+use Rattle.bd_objects.proofs.Lost.{none-named, none-only, none-kept, some-lost, item-stays}
+use Rattle.bd_objects.proofs.table.ObjectTable.only_lost_death.Goals as goal
+
+pub returns-then-has-clause-found : goal.returns-then-has-clause-found
+returns-then-has-clause-found c = λ s h.
+    none-named s c.args.p c.args.o (sym (c.has.ensures s.names s.names h.names_are) ∙ c.if-has.true)
+
+pub returns-in_err-x-clause-found : goal.returns-in_err-x-clause-found
+returns-in_err-x-clause-found c = λ s h.
+    c.from_residual.ensures
+    ∙ none-only s c.args.p c.args.o (sym (c.has.ensures s.names s.names h.names_are) ∙ c.if-has.false)
+    (sym (c.only_uncleared.ensures s.deaths h.deaths_are) ∙ c.in_err-x.was)
+
+pub returns-then-stays-clause-found : goal.returns-then-stays-clause-found
+unfolding deaths_go_of
+returns-then-stays-clause-found c = λ s h.
+    let p = c.args.p in
+    let o = c.args.o in
+    let x = c.in_ok-x.x in
+    let named = sym (c.has.ensures s.names s.names h.names_are) ∙ c.if-has.false in
+    none-kept s p o x named (sym (c.only_uncleared.ensures s.deaths h.deaths_are) ∙ c.in_ok-x.was)
+    (ap (list_any (is_notification x.made)) (filtered-at s.names p o false (sym named) s.deaths)
+    ∙ sym (c.stays.ensures s.deaths h.deaths_are) ∙ c.if-stays.true)
+
+pub returns-else-stays-clause-found : goal.returns-else-stays-clause-found
+unfolding deaths_go_of
+returns-else-stays-clause-found c = λ s h.
+    let p = c.args.p in
+    let o = c.args.o in
+    let x = c.in_ok-x.x in
+    let named = sym (c.has.ensures s.names s.names h.names_are) ∙ c.if-has.false in
+    some-lost s p o x named (sym (c.only_uncleared.ensures s.deaths h.deaths_are) ∙ c.in_ok-x.was)
+    (ap (list_any (is_notification x.made)) (filtered-at s.names p o false (sym named) s.deaths)
+    ∙ sym (c.stays.ensures s.deaths h.deaths_are) ∙ c.if-stays.false)
+
+pub returns-else-stays-clause-goes : goal.returns-else-stays-clause-goes
+unfolding deaths_go_of
+returns-else-stays-clause-goes c = λ kind s h.
+    let p = c.args.p in
+    let o = c.args.o in
+    let x = c.in_ok-x.x in
+    let named = sym (c.has.ensures s.names s.names h.names_are) ∙ c.if-has.false in
+    let are = filtered-at s.names p o false (sym named) s.deaths in
+    item-stays p o s.deaths (deaths_go_of (at_name p o) s).deaths x
+    (sym c.in_ok-x.was ∙ c.only_uncleared.ensures s.deaths h.deaths_are) are
+    (ap (list_any (is_notification x.made)) are ∙ sym (c.stays.ensures s.deaths h.deaths_are) ∙ c.if-stays.false)
+    s.processes s.objects s.references kind
