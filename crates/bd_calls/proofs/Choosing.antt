@@ -20,7 +20,7 @@ use Rattle.bd_calls.proofs.Settling.{one-steps}
 
 -- ---- what is chosen
 
-abbrev or_parent : (ℕ → Bool) → Option ℕ → ℕ → Bool
+abbrev pub or_parent : (ℕ → Bool) → Option ℕ → ℕ → Bool
 or_parent c parent m = c m || is_some_and parent (λ p. p == m)
 
 -- any other place than this one is among them as before, and the new one is
@@ -66,10 +66,10 @@ find-besides p q r h (f ∷ fs) none =
     let k = neither (r f) (list_any r fs) none in
     ap (λ b. cond b (Some f) (find p fs)) (h f k.0) ∙ ap (λ o. cond (q f) (Some f) o) (find-besides p q r h fs k.1)
 
-abbrev next : Space → Frame → Space
+abbrev pub next : Space → Frame → Space
 next s f = settle_one s (Some f)
 
-next-frames : (s : Space) (made : ℕ) (caller : Option ℕ)
+pub next-frames : (s : Space) (made : ℕ) (caller : Option ℕ)
     → (elim caller as (λ (o : Option ℕ). Space) [ None ↦ closed s made | Some t ↦ owe (closed s made) (OfThread t) (Verdict DeadReply) ]).frames ≡ filter (λ g. not (is_frame made g)) s.frames
 unfolding closed owe
 next-frames s made None = refl
@@ -94,7 +94,23 @@ among-same (suc n) m c d s none h =
 
 -- ---- one call closes
 
-found-passes : (p : Frame → Bool) (fs : List Frame) (f : Frame) → find p fs ≡ Some f → p f ≡ true
+pub among-opens : (n : ℕ) (c : ℕ → Bool) (s : Space) (f : Frame) → find (λ g. c g.made && is_abandoned s.frames g) s.frames ≡ Some f
+    → close_among (suc n) c s ≡ close_among n (or_parent c f.parent) (next s f)
+among-opens n c s f found = ap at found
+  where
+    at : Option Frame → Space
+    at None = s
+    at (Some f) = close_among n (or_parent c f.parent) (next s f)
+
+pub among-stays : (n : ℕ) (c : ℕ → Bool) (s : Space) → find (λ g. c g.made && is_abandoned s.frames g) s.frames ≡ None → close_among n c s ≡ s
+among-stays zero c s none = refl
+among-stays (suc n) c s none = ap at none
+  where
+    at : Option Frame → Space
+    at None = s
+    at (Some f) = close_among n (or_parent c f.parent) (next s f)
+
+pub found-passes : (p : Frame → Bool) (fs : List Frame) (f : Frame) → find p fs ≡ Some f → p f ≡ true
 found-passes p [] f h = absurd (cc)
 found-passes p (g ∷ fs) f h = at (p g) refl h (found-passes p fs f)
   where
@@ -102,7 +118,7 @@ found-passes p (g ∷ fs) f h = at (p g) refl h (found-passes p fs f)
     at true e k rest = (let is : g ≡ f = cc in subst (λ x. p x ≡ true) is e)
     at false e k rest = rest k
 
-first-true : (a b : Bool) → (a && b) ≡ true → a ≡ true
+pub first-true : (a b : Bool) → (a && b) ≡ true → a ≡ true
 first-true true b h = refl
 first-true false b h = absurd (cc)
 
@@ -113,11 +129,7 @@ gone-frame s f =
 
 module _ (s : Space) (f : Frame) (chosen : List ℕ) (left : ℕ) (found : find (λ g. is_place_among chosen g.made && is_abandoned s.frames g) s.frames ≡ Some f) where
   opens : close_among (suc left) (is_place_among chosen) s ≡ close_among left (or_parent (is_place_among chosen) f.parent) (next s f)
-  opens = ap up found
-    where
-      up : Option Frame → Space
-      up None = s
-      up (Some f) = close_among left (or_parent (is_place_among chosen) f.parent) (next s f)
+  opens = among-opens left (is_place_among chosen) s f found
 
   pub closes-last : f.parent ≡ None → close_among left (is_place_among chosen) (next s f) ≡ close_among (suc left) (is_place_among chosen) s
   closes-last none =
@@ -153,9 +165,4 @@ among-closed t u place left n chosen after f whole is h stands goes_on =
 
 pub among-none : (t : CallTable) (place left : ℕ) (chosen : List ℕ) (whole : Space) → (h : IsAmongAt t place chosen left whole)
     → find (λ g. is_place_among chosen g.made && is_abandoned h.mid.frames g) h.mid.frames ≡ None → StandsFor t whole
-among-none t place zero chosen whole h none = subst (StandsFor t) h.goes_on h.stands
-among-none t place (suc left) chosen whole h none = subst (StandsFor t) (sym (ap up none) ∙ h.goes_on) h.stands
-  where
-    up : Option Frame → Space
-    up None = h.mid
-    up (Some f) = close_among left (or_parent (is_place_among chosen) f.parent) (next h.mid f)
+among-none t place left chosen whole h none = subst (StandsFor t) (sym (among-stays left (is_place_among chosen) h.mid none) ∙ h.goes_on) h.stands

@@ -1,19 +1,19 @@
 -- Closing step by step, and upwards.
-use Rattle.std.proofs.Common.{◌≡◌, ℕ, zero, suc, ◌-◌, ◌&&◌, length, Option, Some, None, refl, ap, sym, subst, ◌∙◌, find, arith}
-use Rattle.std.specs.Option.{option_and_then}
+use Rattle.std.proofs.Common.{◌≡◌, ℕ, zero, suc, ◌+◌, ◌-◌, ◌<◌, ◌≤◌, not, ◌&&◌, List, length, filter, Option, Some, None, refl, ap, sym, subst, ◌∙◌, find, arith}
+use Rattle.std.proofs.lemmas.Bool.{eq-eqb}
 use Rattle.bd_space.specs.declared.space.Frame.{Frame}
-use Rattle.bd_space.specs.declared.space.WorkKind.TheVariants.{Verdict}
-use Rattle.bd_uapi.specs.declared.command.Return.TheVariants.{DeadReply}
 use Rattle.bd_space.specs.Space.{Space}
-use Rattle.bd_space.specs.Frames.{is_frame, closed}
+use Rattle.bd_space.specs.Frames.{is_frame}
 use Rattle.bd_space.specs.Settle.{is_abandoned}
-use Rattle.bd_space.specs.Todo.{tell_caller}
 use Rattle.bd_space.specs.Local.{close_up}
 use Rattle.bd_space.specs.Tables.{Tells, MakesAt}
+use Rattle.bd_frames.specs.Words.{abandoned_in}
 use Rattle.bd_calls.specs.declared.table.CallTable.{CallTable}
 use Rattle.bd_calls.specs.Stands.{StandsFor}
-use Rattle.bd_calls.specs.Closing.{parent_of_abandoned, IsClosingAt}
+use Rattle.bd_calls.specs.Closing.{IsClosingAt}
 use Rattle.bd_calls.proofs.Settling.{one-steps}
+use Rattle.bd_calls.proofs.Choosing.{next, next-frames}
+use Rattle.bd_calls.proofs.InList.{In, found-in, found-nowhere, length-in, one-less}
 
 -- ---- any way of closing
 
@@ -34,39 +34,110 @@ module _ (t : CallTable) (place : ℕ) (close : ℕ → Space → Space) where
   pub closing-over : (left : ℕ) (whole : Space) → ((s : Space) → close 0 s ≡ s) → left ≡ 0 → IsClosingAt t place close left whole → StandsFor t whole
   closing-over left whole over none h = subst (StandsFor t) (sym (over h.mid) ∙ sym (ap (λ n. close n h.mid) none) ∙ h.goes_on) h.stands
 
+-- ---- one call closes
+
+pub next-fewer : (s : Space) (f : Frame) → In f s.frames → length (next s f).frames < length s.frames
+next-fewer s f i =
+    let less = one-less (λ g. not (is_frame f.made g)) s.frames f i (ap not (eq-eqb f.made f.made refl)) in
+    let count : length (next s f).frames ≡ length (filter (λ g. not (is_frame f.made g)) s.frames) = ap (λ (fs : List Frame). length fs) (next-frames s f.made f.caller) in
+    omega (arith, less, count)
+
 -- ---- upwards
 
 pub up-none : (n : ℕ) (s : Space) → close_up n None s ≡ s
 up-none zero s = refl
 up-none (suc n) s = refl
 
-pub up-next : (n made : ℕ) (s : Space) → close_up (suc n) (Some made) s ≡ close_up n (parent_of_abandoned made s) (close_up 1 (Some made) s)
-up-next n made s = next (find (λ f. is_frame made f && is_abandoned s.frames f) s.frames)
+pub up-opens : (n m : ℕ) (s : Space) (f : Frame) → find (λ g. is_frame m g && is_abandoned s.frames g) s.frames ≡ Some f
+    → close_up (suc n) (Some m) s ≡ close_up n f.parent (next s f)
+up-opens n m s f found = ap at found
   where
-    up : ℕ → Option Frame → Space
-    up n None = s
-    up n (Some f) = close_up n f.parent (tell_caller (closed s f.made) f (Verdict DeadReply))
+    at : Option Frame → Space
+    at None = s
+    at (Some f) = close_up n f.parent (next s f)
 
-    next : (o : Option Frame) → up n o ≡ close_up n (option_and_then (λ f. f.parent) o) (up 0 o)
-    next None = sym (up-none n s)
-    next (Some f) = refl
+pub up-stays : (n m : ℕ) (s : Space) → find (λ g. is_frame m g && is_abandoned s.frames g) s.frames ≡ None → close_up n (Some m) s ≡ s
+up-stays zero m s none = refl
+up-stays (suc n) m s none = ap at none
+  where
+    at : Option Frame → Space
+    at None = s
+    at (Some f) = close_up n f.parent (next s f)
 
-pub up-steps : (made : ℕ) (s : Space) → (close_up 1 (Some made) s).steps ≡ s.steps
-up-steps made s = one-steps s (find (λ f. is_frame made f && is_abandoned s.frames f) s.frames)
+-- the table stands for a space from which closing goes on from here upwards, so many calls at most, to the whole; at least as
+-- many frames are gone as there are fewer calls left
+pub record IsUpAt (t : CallTable) (place : ℕ) (next : Option ℕ) (left all begun : ℕ) (whole : Space) : Type 0 where
+  pub mid : Space
+  pub stands : StandsFor t mid
+  pub at : mid.steps ≡ place
+  pub goes_on : close_up left next mid ≡ whole
+  pub fewer : length mid.frames + all ≤ begun + left
 
-abbrev pub IsUpAt : CallTable → ℕ → Option ℕ → ℕ → Space → Type 0
-IsUpAt t place next left whole = IsClosingAt t place (λ n. close_up n next) left whole
+pub up-begins : (t : CallTable) (place : ℕ) (made : Option ℕ) (left : ℕ) (s : Space) → StandsFor t s → s.steps ≡ place
+    → IsUpAt t place made left left (length s.frames) (close_up left made s)
+up-begins t place made left s stands at = record { mid = s; stands = stands; at = at; goes_on = refl; fewer = omega arith }
 
-pub up-done : (t : CallTable) (place left : ℕ) (whole : Space) → IsUpAt t place None left whole → StandsFor t whole
-up-done t place left whole h = subst (StandsFor t) (sym (up-none left h.mid) ∙ h.goes_on) h.stands
+-- the call made here has closed
+pub up-more : (t u : CallTable) (place made left k all begun : ℕ) (f : Frame) (whole : Space) → left ≡ suc k → IsUpAt t place (Some made) left all begun whole
+    → MakesAt place (StandsFor t) (StandsFor u) (close_up 1 (Some made)) → Tells (StandsFor t) (Some f) (λ s. abandoned_in s.frames made)
+    → IsUpAt u place f.parent k all begun whole
+up-more t u place made left k all begun f whole is h makes tells =
+    let found = sym (tells h.mid h.stands) in
+    let gone = next-fewer h.mid f (found-in _ h.mid.frames f found) in
+    let before = h.fewer in
+    record {
+      mid = next h.mid f;
+      stands = subst (StandsFor u) (up-opens 0 made h.mid f found) (makes h.mid h.stands h.at);
+      at = one-steps h.mid (Some f) ∙ h.at;
+      goes_on = sym (up-opens k made h.mid f found) ∙ sym (ap (λ n. close_up n (Some made) h.mid) is) ∙ h.goes_on;
+      fewer = omega (arith, gone, before, is);
+    }
 
-pub up-more : (t u : CallTable) (place made : ℕ) (next : Option ℕ) (left k : ℕ) (whole : Space) → left ≡ suc k → IsUpAt t place (Some made) left whole
-    → MakesAt place (StandsFor t) (StandsFor u) (close_up 1 (Some made)) → Tells (StandsFor t) next (parent_of_abandoned made)
-    → IsUpAt u place next k whole
-up-more t u place made next left k whole is h makes tells = record {
-  mid = close_up 1 (Some made) h.mid;
-  stands = makes h.mid h.stands h.at;
-  at = up-steps made h.mid ∙ h.at;
-  goes_on = ap (λ o. close_up k o (close_up 1 (Some made) h.mid)) (tells h.mid h.stands)
-      ∙ sym (up-next k made h.mid) ∙ sym (ap (λ n. close_up n (Some made) h.mid) is) ∙ h.goes_on;
-}
+-- the whole is reached
+pub record IsUp (t : CallTable) (left all begun : ℕ) (whole : Space) : Type 0 where
+  pub stands : StandsFor t whole
+  pub fewer : length whole.frames + all ≤ begun + left
+
+up-ends : (t : CallTable) (place left all begun : ℕ) (next : Option ℕ) (whole : Space) → (h : IsUpAt t place next left all begun whole)
+    → close_up left next h.mid ≡ h.mid → IsUp t left all begun whole
+up-ends t place left all begun next whole h over =
+    let is : h.mid ≡ whole = sym over ∙ h.goes_on in
+    record { stands = subst (StandsFor t) is h.stands; fewer = subst (λ (s : Space). length s.frames + all ≤ begun + left) is h.fewer }
+
+pub up-done : (t : CallTable) (place left all begun : ℕ) (next : Option ℕ) (whole : Space) → next ≡ None → IsUpAt t place next left all begun whole → IsUp t left all begun whole
+up-done t place left all begun next whole none h = up-ends t place left all begun next whole h (ap (λ o. close_up left o h.mid) none ∙ up-none left h.mid)
+
+pub up-all : (t : CallTable) (place left all begun : ℕ) (next : Option ℕ) (whole : Space) → left ≡ 0 → IsUpAt t place next left all begun whole → IsUp t left all begun whole
+up-all t place left all begun next whole none h = up-ends t place left all begun next whole h (ap (λ n. close_up n next h.mid) none)
+
+pub up-stopped : (t : CallTable) (place made left all begun : ℕ) (whole : Space) → IsUpAt t place (Some made) left all begun whole
+    → Tells (StandsFor t) None (λ s. abandoned_in s.frames made) → IsUp t left all begun whole
+up-stopped t place made left all begun whole h tells = up-ends t place left all begun (Some made) whole h (up-stays left made h.mid (sym (tells h.mid h.stands)))
+
+-- no step is counted
+pub up-steps : (n : ℕ) (m : Option ℕ) (s : Space) → (close_up n m s).steps ≡ s.steps
+up-steps zero m s = refl
+up-steps (suc n) None s = refl
+up-steps (suc n) (Some m) s = at (find (λ g. is_frame m g && is_abandoned s.frames g) s.frames) refl (λ f. up-steps n f.parent (next s f))
+  where
+    at : (o : Option Frame) → find (λ g. is_frame m g && is_abandoned s.frames g) s.frames ≡ o → ((f : Frame) → (close_up n f.parent (next s f)).steps ≡ (next s f).steps)
+        → (close_up (suc n) (Some m) s).steps ≡ s.steps
+    at None none rest = ap (λ (z : Space). z.steps) (up-stays (suc n) m s none)
+    at (Some f) found rest = ap (λ (z : Space). z.steps) (up-opens n m s f found) ∙ rest f ∙ one-steps s (Some f)
+
+-- more turns than frames change nothing
+pub up-enough : (n k : ℕ) (m : Option ℕ) (s : Space) → length s.frames ≤ n → length s.frames ≤ k → close_up n m s ≡ close_up k m s
+up-enough n k None s enough fuel = up-none n s ∙ sym (up-none k s)
+up-enough zero k (Some m) s enough fuel =
+    sym (up-stays k m s (found-nowhere _ s.frames (λ g i. absurd (let there = length-in s.frames g i in omega (arith, there, enough)))))
+up-enough (suc n) k (Some m) s enough fuel = at (find (λ g. is_frame m g && is_abandoned s.frames g) s.frames) refl (λ f. up-enough n (k - 1) f.parent (next s f))
+  where
+    at : (o : Option Frame) → find (λ g. is_frame m g && is_abandoned s.frames g) s.frames ≡ o
+        → ((f : Frame) → length (next s f).frames ≤ n → length (next s f).frames ≤ k - 1 → close_up n f.parent (next s f) ≡ close_up (k - 1) f.parent (next s f))
+        → close_up (suc n) (Some m) s ≡ close_up k (Some m) s
+    at None none rest = up-stays (suc n) m s none ∙ sym (up-stays k m s none)
+    at (Some f) found rest =
+        let inside = found-in _ s.frames f found in
+        let fewer = next-fewer s f inside in
+        let ups : k ≡ suc (k - 1) = omega (arith, fewer, fuel) in
+        up-opens n m s f found ∙ rest f (omega (arith, fewer, enough)) (omega (arith, fewer, fuel)) ∙ sym (up-opens (k - 1) m s f found) ∙ sym (ap (λ i. close_up i (Some m) s) ups)

@@ -1,6 +1,8 @@
 pub mod Choosing
 pub mod Closing
 pub mod InCalls
+pub mod InList
+pub mod InOrder
 pub mod Losing
 pub mod OneByOne
 pub mod OneWay

@@ -1,17 +1,10 @@
--- Calls that close one after the other: each the parent of the last, or the oldest of those that are chosen.
-use Rattle.std.specs.Prelude.{ℕ, ◌≡◌, ◌==◌, ◌&&◌, List, Option, find, if◌then◌else◌}
-use Rattle.std.specs.Option.{option_and_then}
+-- Calls that close one after the other: the oldest of those that are chosen.
+use Rattle.std.specs.Prelude.{ℕ, ◌≡◌, ◌==◌, List, if◌then◌else◌}
 use Rattle.bd_space.specs.Space.{Space}
-use Rattle.bd_space.specs.Frames.{is_frame}
-use Rattle.bd_space.specs.Settle.{is_abandoned}
 use Rattle.bd_space.specs.Local.{close_among}
 pub use Rattle.bd_frames.specs.Words.{is_place_among}
 use Rattle.bd_calls.specs.declared.table.CallTable.{CallTable}
 use Rattle.bd_calls.specs.Stands.{StandsFor}
-
--- the parent of the call made here, if that is abandoned
-abbrev pub parent_of_abandoned : ℕ → Space → Option ℕ
-parent_of_abandoned made s = option_and_then (λ f. f.parent) (find (λ f. is_frame made f && is_abandoned s.frames f) s.frames)
 
 -- what is chosen for one of them, once the call made here has closed
 abbrev pub chosen_after : ℕ → ℕ → ℕ → ℕ

@@ -1,7 +1,7 @@
 //! Frames: open two-way calls. A thread's innermost frame is its newest, as its frames are a stack.
 #![tactic(auto, unfolding(bd_space::specs::Frames::innermost, bd_space::specs::Frames::served_innermost, bd_space::specs::Frames::goes_to, bd_space::specs::Frames::closed, bd_space::specs::Transactions::call_out, bd_space::specs::Todo::owe, crate::specs::Room::rooms))]
 
-ghost use Rattle.std.specs.Prelude.{ℕ, List, ◌≡◌, ◌==◌, ◌&&◌, ◌+◌, ◌≤◌, ◌++◌, true, false, map, filter, find, reverse, length, Option, Some, None, option_map, OnOk};
+ghost use Rattle.std.specs.Prelude.{ℕ, List, ◌≡◌, ◌==◌, ◌&&◌, ◌+◌, ◌-◌, ◌≤◌, ◌++◌, true, false, map, filter, find, reverse, length, Option, Some, None, option_map, OnOk};
 ghost use Rattle.std.specs.Option.{is_none};
 ghost use Rattle.bd_space.specs.declared.space.Work as declared;
 ghost use Rattle.bd_space.specs.Words.{changed};
@@ -14,7 +14,7 @@ ghost use Rattle.bd_space.specs.Todo as works;
 ghost use Rattle.bd_links.specs.Stands as links;
 ghost use Rattle.bd_frames.specs.Stands as frame_table;
 ghost use Rattle.bd_frames.specs.Room as frame_rooms;
-ghost use Rattle.bd_frames.specs.Words.{newest_in, is_place_among, lost_frame};
+ghost use Rattle.bd_frames.specs.Words.{newest_in, is_place_among, abandoned_in, lost_frame};
 ghost use Rattle.bd_calls.specs.Closing.{chosen_after};
 ghost use Rattle.bd_calls.specs.Losing.{lost_frames};
 
@@ -157,11 +157,12 @@ pub(crate) fn leave_frames(frames: &mut FrameTable, todo: &WorkTable, seat: u32)
 impl CallTable {
     ghost use Rattle.bd_space.specs.Space.{Space};
     ghost use Rattle.bd_space.specs.Transactions.{call_out};
-    ghost use Rattle.bd_space.specs.Tables.{Tells, Makes, MakesAt};
+    ghost use Rattle.bd_space.specs.Tables.{IsAt, Tells, Makes, MakesAt, MakesWhere};
     ghost use Rattle.bd_calls.specs.Stands.{Stands, StandsFor};
     ghost use Rattle.bd_calls.specs.Stacked.{TellsOfStacked, MakesOfStackedAt};
     ghost use Rattle.bd_calls.specs.Room.{Uses, UsesNothing, nothing, frame_room, work_room, frame_count};
-    ghost use Rattle.bd_calls.specs.Closing.{parent_of_abandoned, IsAmongAt};
+    ghost use Rattle.bd_calls.specs.Closing.{IsAmongAt};
+    ghost use Rattle.bd_frames.specs.InOrder.{IsInOrder};
 
     /// The frame of the call made at this place.
     pub fn frame(&self, made: u32) -> Option<Frame>
@@ -248,17 +249,43 @@ impl CallTable {
         self.frames.abandoned_at(made)
     }
 
-    // The call made there closes if it is abandoned; which one is to be looked at next.
+    // The call made there closes if it is abandoned; its frame, if it was.
     #[tactic(auto)]
-    fn close_if_abandoned(&mut self, place: u32, made: u32) -> Option<u32>
+    fn close_if_abandoned(&mut self, place: u32, made: u32) -> Option<Frame>
         requires { 1 ≤ work_room self.old }
         ensures stands { MakesAt place (StandsFor self.old) (StandsFor self.new) (local.close_up 1 (Some made)) }
-        ensures next { Tells (StandsFor self.old) result (parent_of_abandoned made) }
+        ensures closed { Tells (StandsFor self.old) result (λ s. abandoned_in s.frames made) }
+        ensures kept { result ≡ None → self.new ≡ self.old }
         ensures uses { Uses self.old self.new (record nothing { works = 1 }) }
     {
         let frame = self.abandoned_at(made)?;
         self.abandon(place, frame);
-        frame.parent
+        Some(frame)
+    }
+
+    // The call made there closes if it is abandoned, then the one in which it was made, and so on while one closes, so many
+    // at most; how many more may.
+    #[tactic(auto)]
+    fn close_up_within(&mut self, place: u32, made: Option<u32>, most: usize) -> usize
+        requires { most ≤ work_room self.old }
+        ensures stands { MakesAt place (StandsFor self.old) (StandsFor self.new) (local.close_up most made) }
+        ensures left { result ≤ most }
+        // Where fewer may close there are fewer frames.
+        ensures fewer { (s : Space) → StandsFor self.old s → IsAt place s
+            → length (local.close_up most made s).frames + most ≤ length s.frames + result }
+        ensures uses { Uses self.old self.new (record nothing { works = most - result }) }
+    {
+        let mut next = made;
+        for closed in 0..most {
+            let Some(made) = next else {
+                return most - closed;
+            };
+            let Some(frame) = self.close_if_abandoned(place, made) else {
+                return most - closed;
+            };
+            next = frame.parent;
+        }
+        0
     }
 
     /// The call made there closes if it is abandoned, then the one in which it was made, and so on while one closes;
@@ -270,12 +297,23 @@ impl CallTable {
             (λ s. local.close_up (length s.frames) made s) }
         ensures uses { Uses self.old self.new (record nothing { works = frame_count self.old }) }
     {
-        let mut next = made;
-        for _closed in 0..self.count_frames() {
-            let Some(made) = next else {
-                return;
-            };
-            next = self.close_if_abandoned(place, made);
+        let count = self.count_frames();
+        let _ = self.close_up_within(place, made, count);
+    }
+
+    // As `close_among`, where each frame was made after those before it and after its parent: the chosen ones close in turn
+    // from the oldest on, each upwards.
+    #[tactic(auto)]
+    fn close_in_order(&mut self, place: u32, chosen: &mut [u32])
+        requires { frame_count self.old ≤ work_room self.old }
+        ensures stands { MakesWhere (StandsFor self.old) (λ s. IsAt place s × IsInOrder s.frames) (StandsFor self.new)
+            (λ s. local.close_among (length s.frames) (is_place_among chosen.old) s) }
+        ensures uses { Uses self.old self.new (record nothing { works = frame_count self.old }) }
+    {
+        chosen.sort_unstable();
+        let mut left = self.count_frames();
+        for made in chosen.iter() {
+            left = self.close_up_within(place, Some(*made), left);
         }
     }
 
@@ -300,10 +338,9 @@ impl CallTable {
         true
     }
 
-    /// Of the chosen calls those close that are abandoned, oldest first, until there are none left; where one closes, the
-    /// one in which it was made is chosen for it. Each caller that lives is told, by a work item made at this place.
+    // As `close_among`, whatever the frames: the oldest is looked for anew each time.
     #[tactic(auto)]
-    pub fn close_among(&mut self, place: u32, chosen: &mut [u32])
+    fn close_one_by_one(&mut self, place: u32, chosen: &mut [u32])
         requires { frame_count self.old ≤ work_room self.old }
         ensures stands { MakesAt place (StandsFor self.old) (StandsFor self.new)
             (λ s. local.close_among (length s.frames) (is_place_among chosen.old) s) }
@@ -313,6 +350,22 @@ impl CallTable {
             if !self.close_oldest_among(place, chosen) {
                 return;
             }
+        }
+    }
+
+    /// Of the chosen calls those close that are abandoned, oldest first, until there are none left; where one closes, the
+    /// one in which it was made is chosen for it. Each caller that lives is told, by a work item made at this place.
+    #[tactic(auto)]
+    pub fn close_among(&mut self, place: u32, chosen: &mut [u32])
+        requires { frame_count self.old ≤ work_room self.old }
+        ensures stands { MakesAt place (StandsFor self.old) (StandsFor self.new)
+            (λ s. local.close_among (length s.frames) (is_place_among chosen.old) s) }
+        ensures uses { Uses self.old self.new (record nothing { works = frame_count self.old }) }
+    {
+        if self.frames.is_in_order() {
+            self.close_in_order(place, chosen);
+        } else {
+            self.close_one_by_one(place, chosen);
         }
     }
 

@@ -1,46 +1,18 @@
-//! The end of a driver: its history.
+//! The end of a driver: its seats are gathered, and its slots emptied.
 ghost use Rattle.std.specs.Prelude.{◌≡◌, ◌<◌, [], ◌∷◌, false, ℕ, All, IsTrue, slice_index_or};
 ghost use Rattle.std.specs.Slots.{slots_len, slots_filled};
 ghost use Rattle.bd_driver.specs.Views.{Each, Idle};
 ghost use Rattle.bd_driver.specs.Together.{views_of, closed_view};
 
-use crate::driver::{Driver, DriverTable};
-use crate::plays::{Enter, Gather, Shut};
+use crate::driver::DriverTable;
+use crate::plays::{Gather, Shut};
 use crate::seat::{Seat, TableSeat};
 use crate::slot::Slot;
 use atomic_table::Closed;
-use bd_space::{Entries, Record};
 use std::alloc::Global;
 
-impl Driver {
-    ghost use Rattle.bd_driver.specs.Together.{AllSeats, IsFinal};
-
-    /// The history, where all seats are there, in any order: it begins with what each seat has seen, and a seat's
-    /// entries are exactly its own places. A seat that still waits may have beside these the entries of one run of what
-    /// it handed over (`history`). With fewer seats the call is only safe and total. Takes no memory.
-    pub fn finish(self, seats: Vec<Seat>) -> Record
-        requires { All (λ s. s.table ≡ self.table) seats.items }
-        ensures history { AllSeats self.seats seats.items → IsFinal self.seats seats.items result.seats result.entries }
-    {
-        let Driver { table, alloc } = self;
-        let (_, mut keeper) = table.shared.load_new_seat::<Enter>(0);
-        gather(&table, &mut keeper, seats);
-        let mut closed = table.close_with(keeper);
-        let slot = closed.take(0);
-        drain(&mut closed);
-        closed.free();
-        match slot {
-            Slot::Home(engine) => engine.into_record(),
-            _ => Record {
-                seats: 0,
-                entries: Entries::new(Vec::new(alloc)),
-            },
-        }
-    }
-}
-
 // All views go to the keeper.
-fn gather(table: &DriverTable, keeper: &mut TableSeat, mut seats: Vec<Seat>)
+pub(crate) fn gather(table: &DriverTable, keeper: &mut TableSeat, mut seats: Vec<Seat>)
     requires table { keeper.old.table_id ≡ table.now.shared.table_id }
     requires wide { 0 < table.now.shared.table_id.words }
     requires keeper { keeper.old.me ≡ ([], []) }
@@ -76,7 +48,7 @@ fn shut(table: &DriverTable, seat: Seat) -> TableSeat
 }
 
 // Takes each slot but the first.
-fn drain(closed: &mut Closed<Slot, Global>)
+pub(crate) fn drain(closed: &mut Closed<Slot, Global>)
     requires some { 0 < slots_len closed.old.slots }
     requires filled { (k : ℕ) → 0 < k → k < slots_len closed.old.slots
         → IsTrue (slice_index_or (slots_filled closed.old.slots) k false) }

@@ -1,7 +1,13 @@
-//! The driver, and the rule of its table.
+//! The driver, the rule of its table, and its end: its history.
+ghost use Rattle.std.specs.Prelude.{◌≡◌, All};
+
+use crate::closing::{drain, gather};
+use crate::plays::Enter;
+use crate::seat::Seat;
 use crate::slot::Slot;
 use crate::view::View;
 use atomic_table::{Table, TableRule};
+use bd_space::{Entries, Record};
 use std::alloc::Global;
 use std::collections::LinkedList;
 use std::marker::Model;
@@ -23,10 +29,17 @@ impl TableRule<Slot, LinkedList<View>, u32> for OneHistory {
 pub(crate) type DriverTable = Table<Slot, LinkedList<View>, u32, OneHistory, Global>;
 
 /// One engine that several seats share.
-#[derive(Drop)]
 pub struct Driver {
     pub(crate) table: DriverTable,
     pub(crate) alloc: Global,
+}
+
+// Written out: one that is derived would be proved again, with all that lies in the table, in every crate that holds a
+// driver.
+impl Drop for Driver {
+    fn drop(self) {
+        let Driver { table: _, alloc: _ } = self;
+    }
 }
 
 impl Model for Driver {
@@ -40,4 +53,31 @@ impl Model for Driver {
     ghost invariant = { λ d. (d.table.shared.table_id.words ≡ suc d.table.shared.key)
         × (d.table.shared.table_id.slots ≡ suc d.table.shared.key)
         × (d.table.shared.key < 32) };
+}
+
+impl Driver {
+    ghost use Rattle.bd_driver.specs.Together.{AllSeats, IsFinal};
+
+    /// The history, where all seats are there, in any order: it begins with what each seat has seen, and a seat's
+    /// entries are exactly its own places. A seat that still waits may have beside these the entries of one run of what
+    /// it handed over (`history`). With fewer seats the call is only safe and total. Takes no memory.
+    pub fn finish(self, seats: Vec<Seat>) -> Record
+        requires { All (λ s. s.table ≡ self.table) seats.items }
+        ensures history { AllSeats self.seats seats.items → IsFinal self.seats seats.items result.seats result.entries }
+    {
+        let Driver { table, alloc } = self;
+        let (_, mut keeper) = table.shared.load_new_seat::<Enter>(0);
+        gather(&table, &mut keeper, seats);
+        let mut closed = table.close_with(keeper);
+        let slot = closed.take(0);
+        drain(&mut closed);
+        closed.free();
+        match slot {
+            Slot::Home(engine) => engine.into_record(),
+            _ => Record {
+                seats: 0,
+                entries: Entries::new(Vec::new(alloc)),
+            },
+        }
+    }
 }

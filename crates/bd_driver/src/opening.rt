@@ -34,7 +34,9 @@ impl Driver {
         let Ok(mut dealt) = Vec::with_capacity(alloc, seats as usize) else {
             return Err(Fault::NoMemory);
         };
-        let engine = Engine::for_seats(alloc, seats);
+        let Ok(engine) = Engine::for_seats(alloc, seats) else {
+            return Err(Fault::NoMemory);
+        };
         let page = taken_page(&engine) - 1;
         let Ok(words) = lay_words(alloc, page, seats as usize) else {
             return Err(Fault::NoMemory);

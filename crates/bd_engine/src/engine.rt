@@ -12,18 +12,18 @@ use crate::tables::Tables;
 use crate::why::Why;
 use bd_space::{Entries, Entry, Record, Step, StepAnswer};
 use bd_uapi::Fault;
-use std::alloc::Global;
+use std::alloc::{AllocError, Global};
 use std::marker::Model;
 
 /// The most steps that a history has.
 const MOST_STEPS: usize = 4294967295;
 
 /// The history of a driver's steps, and what it has come to.
-#[derive(Drop)]
 pub struct Engine {
     seats: u32,
     entries: Vec<Entry>,
-    tables: Tables,
+    // Behind a pointer, so that whoever hands an engine on moves few bytes.
+    tables: Box<Tables>,
 }
 
 impl Model for Engine {
@@ -34,11 +34,23 @@ impl Model for Engine {
 
     ghost view = { λ e. history_of e.seats e.entries.items };
 
-    ghost invariant = { λ e. Keeps (history_of e.seats e.entries.items) e.tables };
+    ghost invariant = { λ e. Keeps (history_of e.seats e.entries.items) e.tables.value };
+}
+
+// Written out: one that is derived would be proved again, with that of each table, in every crate that holds an engine.
+impl Drop for Engine {
+    fn drop(self) {
+        let Engine {
+            seats: _,
+            entries: _,
+            tables: _,
+        } = self;
+    }
 }
 
 impl Engine {
-    /// An engine for so many seats, whose history is empty. Takes no memory.
+    /// An engine for so many seats, whose history is empty. Errors: F16 where the number of seats is 0 or above 16; else
+    /// F14 alone, where memory was refused.
     pub fn new(alloc: Global, seats: u32) -> Result<Engine, Fault>
         ensures ok { IfOk result (λ e. e ≡ record { seats = seats; entries = [] }) }
         ensures fault { MatchResult result (λ _. IsSeats seats) (λ f. IsSeatFault seats f) }
@@ -46,19 +58,23 @@ impl Engine {
         if seats < 1 || 16 < seats {
             return Err(Fault::SeatCount);
         }
-        Ok(Engine::for_seats(alloc, seats))
+        match Engine::for_seats(alloc, seats) {
+            Ok(engine) => Ok(engine),
+            Err(_) => Err(Fault::NoMemory),
+        }
     }
 
-    /// The same for a number of seats that was tested before.
-    pub fn for_seats(alloc: Global, seats: u32) -> Engine
+    /// The same for a number of seats that was tested before. Errors: memory was refused.
+    pub fn for_seats(alloc: Global, seats: u32) -> Result<Engine, AllocError>
         requires { IsSeats seats }
-        ensures { result ≡ record { seats = seats; entries = [] } }
+        ensures { IfOk result (λ e. e ≡ record { seats = seats; entries = [] }) }
     {
-        Engine {
+        let tables = Box::new(alloc, Tables::new(alloc))?;
+        Ok(Engine {
             seats,
             entries: Vec::new(alloc),
-            tables: Tables::new(alloc),
-        }
+            tables,
+        })
     }
 
     // What its memory comes from.
@@ -112,7 +128,7 @@ impl Engine {
         ensures page { result ≡ histories.ready_bits self.now }
         ensures bits { result < 2 ^ 16 }
     {
-        self.tables.ready_below(self.seats)
+        self.tables().ready_below(self.seats)
     }
 
     /// The history.
@@ -121,7 +137,11 @@ impl Engine {
         ensures entries { result.entries ≡ self.entries }
         ensures lawful { histories.IsHistory (record { seats = result.seats; entries = result.entries }) }
     {
-        let Engine { seats, entries, .. } = self;
+        let Engine {
+            seats,
+            entries,
+            tables: _,
+        } = self;
         Record {
             seats,
             entries: Entries::new(entries),
@@ -149,9 +169,10 @@ impl Engine {
         if self.entries.reserve(1).is_err() {
             return Err(Why::NoMemory);
         }
-        match self.tables.change(seat, &step) {
+        let tables = &mut *self.tables;
+        match tables.change(seat, &step) {
             Ok(taken) => {
-                self.tables.steps += 1;
+                tables.steps += 1;
                 self.entries.push_reserved(Entry {
                     seat,
                     step,

@@ -68,9 +68,6 @@ changed-left q f xs ys i d e h read t = sym (set-get_or ys i d) ∙ changed-else
 pub find-of : (q r : Frame → Bool) (ys xs : List Frame) → ((x : Frame) → q x ≡ true → r x ≡ true) → IsPartOf r ys xs → find q ys ≡ find q xs
 find-of q r ys xs h p = find-between q xs ys p.from p.to p.order (within-fewer q r xs p.from p.to (implies-all q r h xs) p.within) p.is
 
-pub any-of : (q r : Frame → Bool) (ys xs : List Frame) → ((x : Frame) → q x ≡ true → r x ≡ true) → IsPartOf r ys xs → list_any q ys ≡ list_any q xs
-any-of q r ys xs h p = any-some q ys ∙ ap is_some (find-of q r ys xs h p) ∙ sym (any-some q xs)
-
 pub first-of-both : (a b : Bool) → (a && b) ≡ true → a ≡ true
 first-of-both true b h = refl
 first-of-both false b h = absurd (cc)

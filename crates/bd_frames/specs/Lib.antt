@@ -1,4 +1,6 @@
 pub mod Words
 pub mod Places
+pub mod InOrder
+pub mod Children
 pub mod Stands
 pub mod Room

@@ -32,6 +32,10 @@ impl Iterator for Ancestry<'_> {
     ghost remaining = { item_count (λ s. s) };
 
     fn next(&mut self) -> Option<Frame> {
+        // Where the way has ended none is looked at.
+        if self.from.is_none() {
+            return None;
+        }
         while let Some(frame) = self.older.next_back() {
             if self.from == Some(frame.made) {
                 self.from = frame.parent;

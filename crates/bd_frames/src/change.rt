@@ -7,7 +7,6 @@ ghost use Rattle.bd_space.specs.Words.{changed};
 ghost use Rattle.bd_frames.specs.Places.{IsWithin};
 ghost use Rattle.bd_frames.specs.Words.{lost_frame, left_frame};
 
-use crate::frame::is_frame;
 use crate::server::{gone_caller, gone_server, lost_server};
 use bd_space::{Frame, Server};
 use std::ops::Range;
@@ -37,15 +36,19 @@ fn frame_lost(frame: Frame) -> Frame
     }
 }
 
-/// The call made there has lost who would have served it.
-pub(crate) fn lose_among(frames: &mut Vec<Frame>, made: u32)
-    ensures frames { frames.new.items ≡ changed (spec.is_frame made) lost_frame frames.old.items }
+/// The call made there, which stands between these indices, has lost who would have served it.
+pub(crate) fn lose_in(frames: &mut Vec<Frame>, range: Range<usize>, made: u32)
+    requires from { range.start ≤ range.end }
+    requires to { range.end ≤ vec_len frames.old }
+    ensures items { IsWithin (spec.is_frame made) range.start range.end frames.old.items → frames.new.items
+        ≡ changed (spec.is_frame made) lost_frame frames.old.items }
     ensures len { vec_len frames.new ≡ vec_len frames.old }
     ensures capacity { vec_capacity frames.new ≡ vec_capacity frames.old }
 {
-    for frame in frames.iter_mut() {
-        if is_frame(frame, made) {
-            *frame = frame_lost(*frame);
+    for i in range.start..range.end {
+        let frame = frames[i];
+        if frame.made == made {
+            frames[i] = frame_lost(frame);
         }
     }
 }

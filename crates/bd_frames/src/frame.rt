@@ -3,31 +3,22 @@
 ghost use Rattle.std.specs.Prelude.{ℕ, Bool, true, ◌≡◌, ◌==◌, ◌&&◌, ◌++◌, map, filter, find, OnOk};
 ghost use Rattle.std.specs.List.{list_any};
 ghost use Rattle.bd_space.specs.Frames as spec;
-ghost use Rattle.bd_space.specs.Settle as settling;
 ghost use Rattle.bd_frames.specs.Places.{IsAfter};
-ghost use Rattle.bd_frames.specs.Words.{newest_in, is_place_among, oldest_in};
+ghost use Rattle.bd_frames.specs.InOrder.{IsBefore};
+ghost use Rattle.bd_frames.specs.Children.{is_left_alone};
+ghost use Rattle.bd_frames.specs.Words.{newest_in, is_place_among};
 
+use crate::children::child_count;
 use crate::server::{is_gone, serves};
 use bd_space::Frame;
 use std::alloc::AllocError;
+use std::collections::HashMap;
 
-/// The frame of the call made at this place.
-pub(crate) fn is_frame(frame: &Frame, made: u32) -> bool
+// The frame of the call made at this place.
+fn is_frame(frame: &Frame, made: u32) -> bool
     ensures { result ≡ spec.is_frame made frame.now }
 {
     frame.made == made
-}
-
-fn is_child_of(frame: &Frame, child: &Frame) -> bool
-    ensures { result ≡ spec.is_child_of frame.now child.now }
-{
-    child.parent == Some(frame.made)
-}
-
-fn has_child(frames: &[Frame], frame: &Frame) -> bool
-    ensures { result ≡ list_any (spec.is_child_of frame.now) frames.now }
-{
-    frames.iter().any(|f| is_child_of(frame, f))
 }
 
 fn calls(frame: &Frame, seat: u32) -> bool
@@ -60,19 +51,24 @@ pub(crate) fn frame_among(frames: &[Frame], made: u32) -> Option<Frame>
     frames.iter().copied().find(|f| is_frame(f, made))
 }
 
-fn is_abandoned(frames: &[Frame], frame: &Frame) -> bool
-    ensures { result ≡ settling.is_abandoned frames.now frame.now }
+fn is_abandoned(children: &HashMap<u32, u64>, frame: &Frame) -> bool
+    ensures { result ≡ is_left_alone children.now frame.now }
 {
-    is_gone(frame.server) && !has_child(frames, frame)
+    is_gone(frame.server) && child_count(children, frame.made) == 0
 }
 
-/// The abandoned frame of the call made at this place, among these of all the frames.
-pub(crate) fn abandoned_among(some: &[Frame], frames: &[Frame], made: u32) -> Option<Frame>
-    ensures { result ≡ find (λ f. spec.is_frame made f && settling.is_abandoned frames.now f) some.now }
+/// The abandoned frame of the call made at this place, among these.
+pub(crate) fn abandoned_among(
+    frames: &[Frame],
+    children: &HashMap<u32, u64>,
+    made: u32,
+) -> Option<Frame>
+    ensures { result ≡ find (λ f. spec.is_frame made f && is_left_alone children.now f) frames.now }
 {
-    some.iter()
+    frames
+        .iter()
         .copied()
-        .find(|f| is_frame(f, made) && is_abandoned(frames, f))
+        .find(|f| is_frame(f, made) && is_abandoned(children, f))
 }
 
 /// Whether a call made at this place comes after all of these, where each came after those before it.
@@ -85,6 +81,16 @@ pub(crate) fn is_newest(frames: &[Frame], made: u32) -> bool
     }
 }
 
+/// Whether the frame's call was made after its parent, if it has one.
+pub(crate) fn is_after_parent(frame: &Frame) -> bool
+    ensures { result ≡ true → IsBefore frame.now.parent frame.now.made }
+{
+    match frame.parent {
+        Some(parent) => parent < frame.made,
+        None => true,
+    }
+}
+
 // The frame's call was made at one of these places.
 fn is_among(chosen: &[u32], frame: &Frame) -> bool
     ensures { result ≡ is_place_among chosen.now frame.now.made }
@@ -92,13 +98,17 @@ fn is_among(chosen: &[u32], frame: &Frame) -> bool
     chosen.iter().any(|made| *made == frame.made)
 }
 
-pub(crate) fn oldest_among(frames: &[Frame], chosen: &[u32]) -> Option<Frame>
-    ensures { result ≡ oldest_in frames.now chosen.now }
+pub(crate) fn oldest_among(
+    frames: &[Frame],
+    children: &HashMap<u32, u64>,
+    chosen: &[u32],
+) -> Option<Frame>
+    ensures { result ≡ find (λ f. is_place_among chosen.now f.made && is_left_alone children.now f) frames.now }
 {
     frames
         .iter()
         .copied()
-        .find(|f| is_among(chosen, f) && is_abandoned(frames, f))
+        .find(|f| is_among(chosen, f) && is_abandoned(children, f))
 }
 
 pub(crate) fn push_served(

@@ -3,6 +3,7 @@
 
 mod ancestry;
 mod change;
+mod children;
 mod frame;
 mod place;
 mod server;

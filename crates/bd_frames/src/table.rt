@@ -1,25 +1,28 @@
 //! The table: its room, its changes and what it tells.
 #![tactic(auto, unfolding(crate::specs::Room::frame_room, crate::specs::Room::frame_count))]
 
-ghost use Rattle.std.specs.Prelude.{ℕ, Bool, List, ◌≡◌, ◌==◌, ◌≤◌, ◌<◌, ◌+◌, ◌++◌, ◌∷◌, [], not, map, filter, find, reverse, length, vec_len, OnOk, OnErr};
+ghost use Rattle.std.specs.Prelude.{ℕ, Bool, true, List, ◌≡◌, ◌==◌, ◌≤◌, ◌<◌, ◌+◌, ◌++◌, ◌∷◌, [], not, map, filter, find, reverse, length, vec_len, OnOk, OnErr};
 ghost use Rattle.std.specs.List.{list_any, remove as list_remove};
 ghost use Rattle.bd_space.specs.declared.space.Frame as declared;
 ghost use Rattle.bd_space.specs.Frames as spec;
 ghost use Rattle.bd_space.specs.ReadItems as reading;
 ghost use Rattle.bd_space.specs.Words.{changed};
 ghost use Rattle.bd_frames.specs.Places.{IsPartOf};
+ghost use Rattle.bd_frames.specs.InOrder.{IsInOrder};
 ghost use Rattle.bd_frames.specs.Room.{Uses, frame_room, frame_count};
 ghost use Rattle.bd_frames.specs.Words.{newest_in, abandoned_in, oldest_in, lost_frame, left_frame};
 
 use crate::ancestry::{Ancestry, ancestry_among};
-use crate::change::{leave_all, lose_among, serve_in};
+use crate::change::{leave_all, lose_in, serve_in};
+use crate::children::{add_child, take_child};
 use crate::frame::{
-    abandoned_among, frame_among, is_newest, newest_among, oldest_among, push_served,
-    takes_part_among,
+    abandoned_among, frame_among, is_after_parent, is_newest, newest_among, oldest_among,
+    push_served, takes_part_among,
 };
 use crate::place::{newest_at, part, range_of};
 use bd_space::Frame;
 use std::alloc::{AllocError, Global};
+use std::collections::HashMap;
 
 /// The frames of a driver, in the order in which they came in.
 #[derive(Debug, Drop)]
@@ -27,6 +30,10 @@ pub struct FrameTable {
     pub(crate) frames: Vec<Frame>,
     // Each was made at a later place than those before it.
     pub(crate) rising: bool,
+    // Each was made at a later place than its parent.
+    pub(crate) parents_older: bool,
+    // How many frames name each place as their parent.
+    pub(crate) children: HashMap<u32, u64>,
 }
 
 impl FrameTable {
@@ -39,6 +46,8 @@ impl FrameTable {
         FrameTable {
             frames: Vec::new(alloc),
             rising: true,
+            parents_older: true,
+            children: HashMap::new(alloc),
         }
     }
 
@@ -50,7 +59,8 @@ impl FrameTable {
         // Memory was asked for: there was no room.
         ensures grown { OnErr result (frame_room self.old ≡ 0) }
     {
-        self.frames.reserve(1)
+        self.frames.reserve(1)?;
+        self.children.reserve(1)
     }
 
     /// How many there are.
@@ -68,7 +78,11 @@ impl FrameTable {
         ensures uses { Uses self.old self.new 1 }
     {
         self.rising = self.rising && is_newest(&self.frames, frame.made);
+        self.parents_older = self.parents_older && is_after_parent(&frame);
+        add_child(&mut self.children, frame);
         self.frames.push_reserved(frame);
+        // A length is a usize: so no count of children wraps.
+        let _ = self.frames.len();
     }
 
     // The frame of this index closes.
@@ -78,7 +92,8 @@ impl FrameTable {
         ensures len { vec_len self.new.frames + 1 ≡ vec_len self.old.frames }
         ensures uses { Uses self.old self.new 0 }
     {
-        let _ = self.frames.remove(i);
+        let frame = self.frames.remove(i);
+        take_child(&mut self.children, frame);
     }
 
     /// The frame of the call made at this place closes.
@@ -97,6 +112,13 @@ impl FrameTable {
     {
         let range = range_of(&self.frames, self.rising, made);
         part(&self.frames, range)
+    }
+
+    /// Whether each frame is known to have been made after those before it, and after its parent.
+    pub fn is_in_order(&self) -> bool
+        ensures { result ≡ true → (l : List declared.Frame) → FramesAre self.now l → IsInOrder l }
+    {
+        self.rising && self.parents_older
     }
 
     /// The frame of the call made at this place.
@@ -124,14 +146,14 @@ impl FrameTable {
     pub fn abandoned_at(&self, made: u32) -> Option<Frame>
         ensures { Tells self.now result (λ l. abandoned_in l made) }
     {
-        abandoned_among(self.made_part(made), &self.frames, made)
+        abandoned_among(self.made_part(made), &self.children, made)
     }
 
     /// The oldest abandoned frame of the calls made at these places.
     pub fn oldest_abandoned_among(&self, chosen: &[u32]) -> Option<Frame>
         ensures { Tells self.now result (λ l. oldest_in l chosen.now) }
     {
-        oldest_among(&self.frames, chosen)
+        oldest_among(&self.frames, &self.children, chosen)
     }
 
     /// The frames on the way from the one made there by parents, innermost first.
@@ -155,7 +177,8 @@ impl FrameTable {
         ensures stands { Makes self.old self.new (λ l. changed (spec.is_frame made) lost_frame l) }
         ensures uses { Uses self.old self.new 0 }
     {
-        lose_among(&mut self.frames, made);
+        let range = range_of(&self.frames, self.rising, made);
+        lose_in(&mut self.frames, range, made);
     }
 
     /// The thread is gone from its frames, as caller and as server.

@@ -1,29 +1,5 @@
-use Rattle.std.proofs.Common.{◌≡◌, ◌-◌, ◌+◌, length, refl, arith, rules}
-use Rattle.bd_space.specs.Local.{close_among}
-use Rattle.bd_calls.specs.Closing.{is_place_among}
-use Rattle.bd_calls.proofs.Rooms.{uses-one_more}
-use Rattle.bd_calls.proofs.Closing.{closing-begins, closing-left, closing-over}
 use Rattle.bd_calls.proofs.table.CallTable.close_among.Goals as goal
 
-pub loop-closed-init : goal.loop-closed-init
-loop-closed-init c = record { stands = closing-begins _ _ (λ n. close_among n (is_place_among c.args.chosen.now)); uses = search rules }
-
-pub loop-closed-preserved : goal.loop-closed-preserved
-loop-closed-preserved c = record {
-  stands = λ s stands place.
-      let i = c.loop-closed._closed in
-      let left : length s.frames - i ≡ (length s.frames - (i + 1)) + 1 = omega (arith, c.count_frames-closed-end.ensures.frames s stands) in
-      c.close_oldest_among.ensures.goes_on (length s.frames - (i + 1)) _ c.if-not-close_oldest_among.false (closing-left _ _ _ _ _ _ left (c.loop-closed.invariant.stands s stands place));
-  uses = uses-one_more _ _ _ _ c.loop-closed.invariant.uses c.close_oldest_among.ensures.uses;
-}
-
-pub returns-clause-stands : goal.returns-clause-stands
-returns-clause-stands c =
-    λ s stands place.
-    let none : length s.frames - c.loop-closed._closed ≡ 0 = omega (arith, c.count_frames-closed-end.ensures.frames s stands) in
-    closing-over _ _ (λ n. close_among n (is_place_among c.loop-closed.chosen)) _ _ (λ x. refl) none (c.loop-closed.invariant.stands s stands place)
-
-pub returns-then-not-close_oldest_among-clause-stands : goal.returns-then-not-close_oldest_among-clause-stands
-returns-then-not-close_oldest_among-clause-stands c =
-    λ s stands place.
-    c.close_oldest_among.ensures.done (length s.frames - c.loop-closed._closed) _ c.if-not-close_oldest_among.true (c.loop-closed.invariant.stands s stands place)
+pub returns-then-is_in_order-clause-stands : goal.returns-then-is_in_order-clause-stands
+returns-then-is_in_order-clause-stands c = λ s stands at.
+    c.close_in_order.ensures.stands s stands (at, c.is_in_order.ensures c.if-is_in_order.true s.frames stands.frames_are)

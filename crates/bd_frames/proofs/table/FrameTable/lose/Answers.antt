@@ -1,14 +1,23 @@
-use Rattle.std.proofs.Common.{ap, refl, ◌∙◌}
+use Rattle.std.proofs.Common.{ap, refl, sym, subst, ◌∙◌}
 use Rattle.bd_space.specs.Words.{changed}
 use Rattle.bd_space.specs.Frames.{is_frame}
 use Rattle.bd_frames.specs.Words.{lost_frame}
+use Rattle.bd_frames.specs.Places.{IsWithin, RiseIf}
 use Rattle.bd_frames.proofs.Places.{rising-changed}
+use Rattle.bd_frames.proofs.InOrder.{older-changed}
+use Rattle.bd_frames.proofs.Counting.{children-changed}
 use Rattle.bd_frames.proofs.table.FrameTable.lose.Goals as goal
 
 pub returns-clause-stands : goal.returns-clause-stands
 returns-clause-stands c = λ l h.
     let q = is_frame c.args.made in
+    let f = lost_frame in
+    let at = c.range_of-range.result in
+    let rises = subst (λ xs. RiseIf c.args.self.now.rising xs) (sym h.items_are) h.rises in
     record {
-      items_are = c.lose_among.ensures.frames ∙ ap (changed q lost_frame) h.items_are;
-      rises = λ e. rising-changed q lost_frame (λ x. refl) 0 l (h.rises e);
+      items_are = c.lose_in.ensures.items (subst (λ xs. RiseIf c.args.self.now.rising xs → IsWithin q at.start at.end xs) c.deref.ensures.value c.range_of-range.ensures.within rises)
+          ∙ ap (changed q f) h.items_are;
+      rises = λ e. rising-changed q f (λ x. refl) 0 l (h.rises e);
+      older = λ e. older-changed q f (λ x. (refl, refl)) l (h.older e);
+      children_are = children-changed c.args.self.now.children l h.children_are q f (λ x. refl);
     }

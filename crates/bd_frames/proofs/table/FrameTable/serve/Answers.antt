@@ -4,6 +4,8 @@ use Rattle.bd_space.specs.Frames.{is_frame}
 use Rattle.bd_space.specs.ReadItems.{serve}
 use Rattle.bd_frames.specs.Places.{IsWithin, RiseIf}
 use Rattle.bd_frames.proofs.Places.{rising-changed}
+use Rattle.bd_frames.proofs.InOrder.{older-changed}
+use Rattle.bd_frames.proofs.Counting.{children-changed}
 use Rattle.bd_frames.proofs.table.FrameTable.serve.Goals as goal
 
 pub returns-clause-stands : goal.returns-clause-stands
@@ -16,4 +18,6 @@ returns-clause-stands c = λ l h.
       items_are = c.serve_in.ensures.items (subst (λ xs. RiseIf c.args.self.now.rising xs → IsWithin q at.start at.end xs) c.deref.ensures.value c.range_of-range.ensures.within rises)
           ∙ ap (changed q f) h.items_are;
       rises = λ e. rising-changed q f (λ x. refl) 0 l (h.rises e);
+      older = λ e. older-changed q f (λ x. (refl, refl)) l (h.older e);
+      children_are = children-changed c.args.self.now.children l h.children_are q f (λ x. refl);
     }

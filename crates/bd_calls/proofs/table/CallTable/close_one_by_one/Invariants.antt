@@ -2,7 +2,7 @@ use Rattle.bd_space.specs.Local.{close_among}
 use Rattle.bd_calls.specs.Room.{Uses, nothing}
 use Rattle.bd_calls.specs.Closing.{is_place_among}
 use Rattle.bd_calls.proofs.Closing.{IsClosing}
-use Rattle.bd_calls.proofs.table.CallTable.close_among.Given as goal
+use Rattle.bd_calls.proofs.table.CallTable.close_one_by_one.Given as goal
 
 abbrev pub invariant-loop-closed : goal.invariant-loop-closed
 invariant-loop-closed l = record {

@@ -1,0 +1,122 @@
+-- Frames of a list: which are found, and what a filter leaves of them.
+use Rattle.std.proofs.Common.{◌≡◌, ℕ, suc, ◌<◌, ◌≤◌, Bool, true, false, cond, not, ◌&&◌, ◌||◌, List, [], ◌∷◌, Some, None, ◌⊎◌, inl, inr, refl, ap, sym, subst, ◌∙◌, length, filter, find, arith}
+use Rattle.std.specs.List.{list_any}
+use Rattle.bd_space.specs.declared.space.Frame.{Frame}
+use Rattle.bd_frames.specs.Places.{IsRising}
+use Rattle.bd_frames.proofs.Places.{rising-from}
+use Rattle.bd_frames.specs.InOrder.{ParentsOlder}
+
+-- ---- tests
+
+pub second-true : (a b : Bool) → (a && b) ≡ true → b ≡ true
+second-true true b h = h
+second-true false b h = absurd (cc)
+
+pub either-true : (a b : Bool) → b ≡ true → (a || b) ≡ true
+either-true true b h = refl
+either-true false b h = h
+
+pub both-true : (a b : Bool) → a ≡ true → b ≡ true → (a && b) ≡ true
+both-true true b h k = k
+both-true false b h k = absurd (cc)
+
+pub not-true : (b : Bool) → not b ≡ true → b ≡ false
+not-true true h = absurd (cc)
+not-true false h = refl
+
+-- ---- the frames of a list
+
+-- the frame is one of these
+abbrev pub In : Frame → List Frame → Type 0
+In f [] = ⊥
+In f (g ∷ gs) = (f ≡ g) ⊎ In f gs
+
+pub found-in : (p : Frame → Bool) (fs : List Frame) (f : Frame) → find p fs ≡ Some f → In f fs
+found-in p [] f h = absurd (cc)
+found-in p (g ∷ fs) f h = at (p g) h (found-in p fs f)
+  where
+    at : (b : Bool) → cond b (Some g) (find p fs) ≡ Some f → (find p fs ≡ Some f → In f fs) → In f (g ∷ fs)
+    at true e rest = inl (cc)
+    at false e rest = inr (rest e)
+
+pub none-found : (p : Frame → Bool) (fs : List Frame) (g : Frame) → find p fs ≡ None → In g fs → p g ≡ false
+none-found p [] g h i = absurd i
+none-found p (f ∷ fs) g h i = at (p f) refl h i (none-found p fs g)
+  where
+    at : (b : Bool) → p f ≡ b → cond b (Some f) (find p fs) ≡ None → (g ≡ f) ⊎ In g fs → (find p fs ≡ None → In g fs → p g ≡ false) → p g ≡ false
+    at true e h i rest = absurd (cc)
+    at false e h (inl is) rest = ap p is ∙ e
+    at false e h (inr j) rest = rest h j
+
+pub found-nowhere : (p : Frame → Bool) (fs : List Frame) → ((g : Frame) → In g fs → p g ≡ false) → find p fs ≡ None
+found-nowhere p [] h = refl
+found-nowhere p (f ∷ fs) h = ap (λ b. cond b (Some f) (find p fs)) (h f (inl refl)) ∙ found-nowhere p fs (λ g i. h g (inr i))
+
+pub any-in : (p : Frame → Bool) (fs : List Frame) → list_any p fs ≡ true → (g : Frame) × In g fs × (p g ≡ true)
+any-in p [] h = absurd (cc)
+any-in p (f ∷ fs) h = at (p f) refl h (any-in p fs)
+  where
+    at : (b : Bool) → p f ≡ b → (b || list_any p fs) ≡ true → (list_any p fs ≡ true → (g : Frame) × In g fs × (p g ≡ true)) → (g : Frame) × In g (f ∷ fs) × (p g ≡ true)
+    at true e h rest = (f, inl refl, e)
+    at false e h rest = let k = rest h in (k.0, inr k.1, k.2)
+
+pub in-any : (p : Frame → Bool) (fs : List Frame) (g : Frame) → In g fs → p g ≡ true → list_any p fs ≡ true
+in-any p [] g i e = absurd i
+in-any p (f ∷ fs) g (inl is) e = ap (λ b. b || list_any p fs) (ap p (sym is) ∙ e)
+in-any p (f ∷ fs) g (inr j) e = either-true (p f) (list_any p fs) (in-any p fs g j e)
+
+pub length-in : (fs : List Frame) (g : Frame) → In g fs → 1 ≤ length fs
+length-in [] g i = absurd i
+length-in (f ∷ fs) g i = omega arith
+
+module _ (q : Frame → Bool) where
+  pub in-filter : (fs : List Frame) (g : Frame) → In g (filter q fs) → In g fs × (q g ≡ true)
+  in-filter [] g i = absurd i
+  in-filter (f ∷ fs) g i = at (q f) refl i (in-filter fs g)
+    where
+      at : (b : Bool) → q f ≡ b → In g (cond b (f ∷ filter q fs) (filter q fs)) → (In g (filter q fs) → In g fs × (q g ≡ true)) → In g (f ∷ fs) × (q g ≡ true)
+      at true e (inl is) rest = (inl is, ap q is ∙ e)
+      at true e (inr j) rest = let k = rest j in (inr k.0, k.1)
+      at false e j rest = let k = rest j in (inr k.0, k.1)
+
+  pub filter-in : (fs : List Frame) (g : Frame) → In g fs → q g ≡ true → In g (filter q fs)
+  filter-in [] g i e = absurd i
+  filter-in (f ∷ fs) g (inl is) e = subst (λ b. In g (cond b (f ∷ filter q fs) (filter q fs))) (sym (ap q (sym is) ∙ e)) (inl is)
+  filter-in (f ∷ fs) g (inr j) e = at (q f) (filter-in fs g j e)
+    where
+      at : (b : Bool) → In g (filter q fs) → In g (cond b (f ∷ filter q fs) (filter q fs))
+      at true k = inr k
+      at false k = k
+
+  pub rising-filter : (n : ℕ) (fs : List Frame) → IsRising n fs → IsRising n (filter q fs)
+  rising-filter n [] r = tt
+  rising-filter n (f ∷ fs) r = at (q f) (rising-filter (suc f.made) fs r.1)
+    where
+      at : (b : Bool) → IsRising (suc f.made) (filter q fs) → IsRising n (cond b (f ∷ filter q fs) (filter q fs))
+      at true k = (r.0, k)
+      at false k = rising-from n (suc f.made) (filter q fs) (omega (arith, r.0)) k
+
+  pub older-filter : (fs : List Frame) → ParentsOlder fs → ParentsOlder (filter q fs)
+  older-filter [] r = tt
+  older-filter (f ∷ fs) r = at (q f) (older-filter fs r.1)
+    where
+      at : (b : Bool) → ParentsOlder (filter q fs) → ParentsOlder (cond b (f ∷ filter q fs) (filter q fs))
+      at true k = (r.0, k)
+      at false k = k
+
+  shorter : (fs : List Frame) → length (filter q fs) ≤ length fs
+  shorter [] = omega arith
+  shorter (f ∷ fs) = at (q f) (shorter fs)
+    where
+      at : (b : Bool) → length (filter q fs) ≤ length fs → length (cond b (f ∷ filter q fs) (filter q fs)) ≤ length (f ∷ fs)
+      at true k = omega (arith, k)
+      at false k = omega (arith, k)
+
+  pub one-less : (fs : List Frame) (g : Frame) → In g fs → q g ≡ false → length (filter q fs) < length fs
+  one-less [] g i e = absurd i
+  one-less (f ∷ fs) g (inl is) e = let k = shorter fs in let none : q f ≡ false = ap q (sym is) ∙ e in rw none (omega (arith, k))
+  one-less (f ∷ fs) g (inr j) e = at (q f) (one-less fs g j e)
+    where
+      at : (b : Bool) → length (filter q fs) < length fs → length (cond b (f ∷ filter q fs) (filter q fs)) < length (f ∷ fs)
+      at true k = omega (arith, k)
+      at false k = omega (arith, k)

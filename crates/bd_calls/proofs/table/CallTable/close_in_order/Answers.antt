@@ -1,0 +1,39 @@
+use Rattle.std.proofs.Common.{get_or, subst, sym, arith}
+use Rattle.std.proofs.lemmas.List.{drop_all, drop_more}
+use Rattle.std.proofs.lemmas.List.Sorted.{IsNonDecreasingBy-from_sort}
+use Rattle.bd_calls.specs.Stands.{StandsFor}
+use Rattle.bd_calls.proofs.Rooms.{uses-none, uses-then, uses-at_most}
+use Rattle.bd_calls.proofs.InOrder.{each-begins, each-next, each-done, in-order_after}
+use Rattle.bd_calls.proofs.table.CallTable.close_in_order.Goals as goal
+
+pub loop-made-init : goal.loop-made-init
+loop-made-init c = record {
+  goes_on = λ s stands at. each-begins _ _ _ c.sort_unstable.new.self s stands at (c.count_frames-left.ensures.frames s stands);
+  left = omega (arith, c.count_frames-left.ensures.count);
+  uses = uses-none c.args.self.now _ (omega (arith, c.count_frames-left.ensures.count));
+}
+
+pub close_up_within-left-requires : goal.close_up_within-left-requires
+close_up_within-left-requires c =
+    let fits = c.loop-made.invariant.uses.works_fit in let left = c.loop-made.invariant.left in let room = c.requires in omega (arith, fits, left, room)
+
+pub loop-made-preserved : goal.loop-made-preserved
+loop-made-preserved c =
+    let before = c.loop-made.invariant in
+    let after = c.close_up_within-left.ensures in
+    record {
+      goes_on = λ s stands at.
+          each-next _ _ _ _ _ (get_or c.sort_unstable.new.self c.loop-made.made-index 0) _ _
+          (rw (drop_more c.sort_unstable.new.self c.loop-made.made-index 0 (omega arith)) at before.goes_on s stands at) after.stands after.fewer;
+      left = omega (arith, before.left, after.left);
+      uses = uses-then _ _ _ _ _ _ before.left after.left before.uses after.uses;
+    }
+
+pub returns-clause-stands : goal.returns-clause-stands
+returns-clause-stands c = λ s stands h.
+    let sorted = c.sort_unstable.new.self in
+    subst (StandsFor c.loop-made.self) (sym (in-order_after s c.args.chosen.now sorted h.1 (IsNonDecreasingBy-from_sort (λ x. x) sorted c.sort_unstable.ensures.sorted) c.sort_unstable.ensures.permutation))
+    (each-done _ _ _ _ _ (drop_all c.loop-made.made-index sorted (omega arith)) (c.loop-made.invariant.goes_on s stands h.0))
+
+pub returns-clause-uses : goal.returns-clause-uses
+returns-clause-uses c = uses-at_most _ _ _ _ (omega arith) c.loop-made.invariant.uses

@@ -1,0 +1,10 @@
+use Rattle.std.proofs.Common.{◌∙◌}
+use Rattle.bd_frames.proofs.table.FrameTable.reserve.Goals as goal
+
+pub returns-clause-stands : goal.returns-clause-stands
+returns-clause-stands c = λ l h. record {
+  items_are = c.reserve.ensures.items ∙ h.items_are;
+  rises = h.rises;
+  older = h.older;
+  children_are = λ m. c.reserve-2.ensures.entries.2 m ∙ h.children_are m;
+}
