@@ -7,6 +7,7 @@ use crate::writes::{joined, rest_after};
 use bd_engine::{Engine, Ran, Why};
 use bd_script::{Line, Script, ScriptError, Verb, read_script};
 use bd_space::{Record, Request};
+use bd_uapi::Fault;
 use std::alloc::Global;
 use std::io::Write;
 
@@ -22,7 +23,7 @@ pub fn seats_of(alloc: Global, text: &[u8]) -> Result<u32, Broken> {
 
 /// An engine for so many seats.
 pub fn engine_for(alloc: Global, seats: u32) -> Result<Engine, Broken> {
-    match Engine::new(alloc, seats) {
+    match again!(Engine::new(alloc, seats), Fault::NoMemory) {
         Ok(engine) => Ok(engine),
         Err(_) => Err(Broken::Never("a script has other numbers of seats")),
     }
