@@ -13,7 +13,7 @@ use bd_turns::TurnTable;
 use std::alloc::{AllocError, Global};
 
 /// The threads, the open calls, the work items and the one-way calls of a driver.
-#[derive(Debug, Drop)]
+#[derive(Drop)]
 pub struct CallTable {
     pub(crate) threads: Vec<Thread>,
     pub(crate) frames: FrameTable,

@@ -1,5 +1,7 @@
 -- Changes of the elements that pass a test, one after the other.
-use Rattle.std.proofs.Common.{◌≡◌, ℕ, zero, suc, ◌<◌, Bool, true, false, cond, ◌||◌, ◌&&◌, List, [], ◌∷◌, length, get_or, refl, ap, sym, arith}
+use Rattle.std.proofs.Common.{◌≡◌, Bool, true, false, cond, ◌||◌, ◌&&◌, List, [], ◌∷◌, refl, ap, sym}
+use Rattle.std.specs.Prelude.{All}
+use Rattle.std.proofs.lemmas.List.Elements.{All-cons, All-head, All-tail}
 use Rattle.bd_space.specs.Words.{changed}
 
 module _ {A : Type 0} (f : A → A) where
@@ -21,11 +23,17 @@ module _ {A : Type 0} (f : A → A) where
   twice p q [] e g = refl
   twice p q (x ∷ xs) e g = rw (head-twice x p (q x) (e x) (g x), twice p q xs e g) refl
 
-  pub at : (p : A → Bool) (xs : List A) (i : ℕ) (d : A) → i < length xs → get_or (changed p f xs) i d ≡ cond (p (get_or xs i d)) (f (get_or xs i d)) (get_or xs i d)
-  at p [] i d h = absurd (omega arith)
-  at p (x ∷ xs) zero d h = refl
-  at p (x ∷ xs) (suc i) d h = at p xs i d (omega arith)
-
   pub guarded : (p : A → Bool) (xs : List A) (b : Bool) → cond b (changed p f xs) xs ≡ changed (λ x. b && p x) f xs
   guarded p xs true = refl
   guarded p xs false = sym (none (λ x. false) xs (λ x. refl))
+
+pub All-changed : {A : Type 0} (P : A → Type 0) (q : A → Bool) (f : A → A) → ((x : A) → P x → P (f x)) → (xs : List A) → All P xs → All P (changed q f xs)
+All-changed P q f h [] all = all
+All-changed {A} P q f h (x ∷ xs) all = All-cons P (cond (q x) (f x) x) (changed q f xs) (by (q x)) (All-changed P q f h xs (All-tail P x xs all))
+  where
+    here : P x
+    here = All-head P x xs all
+
+    by : (b : Bool) → P (cond b (f x) x)
+    by true = h x here
+    by false = here

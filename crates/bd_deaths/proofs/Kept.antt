@@ -1,14 +1,15 @@
 -- A change that doesn't show in the keys.
-use Rattle.std.proofs.Common.{◌≡◌, Bool, List, refl, ap, sym, subst, ◌∙◌}
+use Rattle.std.proofs.Common.{◌≡◌, ◌<◌, ◌^◌, Bool, List, refl, ap, sym, subst, ◌∙◌}
 use Rattle.bd_space.specs.declared.space.DeathNotification.{DeathNotification}
 use Rattle.bd_space.specs.Words.{changed}
 use Rattle.bd_deaths.specs.declared.key.Key.{Key}
 use Rattle.bd_deaths.specs.declared.key.Key.TheVariants.{Name, Cookie}
-use Rattle.bd_deaths.specs.declared.table.DeathTable.{DeathTable}
+use Rattle.bd_deaths.specs.declared.list.DeathList.{DeathList}
 use Rattle.bd_deaths.specs.Keys.{has}
 use Rattle.bd_deaths.specs.SharedAt.{group_at}
-use Rattle.bd_deaths.specs.Stands.{DeathsAre, IsRising}
-use Rattle.bd_deaths.proofs.Keys.{group-stays, places-fit}
+use Rattle.bd_deaths.specs.Stands.{AreIn, IsRising}
+use Rattle.bd_deaths.proofs.Changes.{All-changed}
+use Rattle.bd_deaths.proofs.Keys.{group-stays}
 use Rattle.bd_deaths.proofs.Places.{rising-changed}
 
 -- the two differ in their phases, and in whether they are cleared
@@ -22,11 +23,11 @@ has-alike : (k : Key) (x y : DeathNotification) → Alike x y → has k y ≡ ha
 has-alike (Name k) x y a = rw (a.process, a.object) refl
 has-alike (Cookie k) x y a = rw (a.process, a.cookie) refl
 
-pub kept : (t u : DeathTable) (q : DeathNotification → Bool) (f : DeathNotification → DeathNotification)
+pub kept : (t u : DeathList) (q : DeathNotification → Bool) (f : DeathNotification → DeathNotification)
     → ((x : DeathNotification) → Alike x (f x))
-    → (l : List DeathNotification) → DeathsAre t l → u.deaths.items ≡ changed q f t.deaths.items
+    → (l : List DeathNotification) → AreIn t l → u.deaths.items ≡ changed q f t.deaths.items
     → u.in_order ≡ t.in_order → u.end ≡ t.end → u.sharing ≡ t.sharing
-    → DeathsAre u (changed q f l)
+    → AreIn u (changed q f l)
 kept t u q f alike l h items order end same = record {
   items_are = items ∙ ap (changed q f) h.items_are;
   rising = λ e. subst (λ n. IsRising 0 n (changed q f l)) (sym end)
@@ -34,6 +35,7 @@ kept t u q f alike l h items order end same = record {
   keyed = record {
     groups = λ k. ap (λ s. group_at s k) same ∙ h.keyed.groups k
         ∙ sym (group-stays q f (λ x. (alike x).made) (has k) (λ x. has-alike k x (f x) (alike x)) l);
-    places = places-fit q f (λ x. (alike x).made) l h.keyed.places;
+    places = All-changed (λ (x : DeathNotification). x.made < 2 ^ 32) q f
+        (λ x fits. subst (λ n. n < 2 ^ 32) (sym (alike x).made) fits) l h.keyed.places;
   };
 }

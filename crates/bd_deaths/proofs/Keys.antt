@@ -153,14 +153,6 @@ module _ (p : DeathNotification → Bool) (f : DeathNotification → DeathNotifi
       let g = places-changed xs in
       omega (arith, s, t, e, g)
 
-  pub places-fit : (xs : List DeathNotification) → All (λ x. x.made < 2 ^ 32) xs
-      → All (λ x. x.made < 2 ^ 32) (changed p f xs)
-  places-fit [] h = h
-  places-fit (x ∷ xs) h =
-      let fits = λ (y : DeathNotification). y.made < 2 ^ 32 in
-      All-cons fits (cond (p x) (f x) x) (changed p f xs)
-      (subst (λ n. n < 2 ^ 32) (sym (made-stays (p x) x)) (All-head fits x xs h)) (places-fit xs (All-tail fits x xs h))
-
   filter-changed : (q : DeathNotification → Bool) → ((x : DeathNotification) → q (f x) ≡ q x) → (xs : List DeathNotification) → filter q (changed p f xs) ≡ changed p f (filter q xs)
   filter-changed q h [] = refl
   filter-changed q h (x ∷ xs) = rw (same (p x), filter-changed q h xs) (by (q x))

@@ -1,6 +1,7 @@
 pub mod Changes
 pub mod Kept
 pub mod Keys
+pub mod Listed
 pub mod Only
 pub mod Parts
 pub mod Places
@@ -8,3 +9,5 @@ pub mod Removing
 pub mod Room
 pub mod SharedKeys
 pub mod Telling
+pub mod Tests
+pub mod Visiting

@@ -106,25 +106,6 @@ all-named true true = refl
 all-named true false = refl
 all-named false b = refl
 
--- ---- without those of a process
-
-pub without-process : (q r : DeathNotification → Bool) (b : Bool) → ((x : DeathNotification) → q x ≡ true → r x ≡ b) → (xs : List DeathNotification)
-    → filter q (filter (λ x. not (r x)) xs) ≡ cond b [] (filter q xs)
-without-process q r true h [] = refl
-without-process q r false h [] = refl
-without-process q r b h (x ∷ xs) = by b (q x) refl (r x) refl (h x) (without-process q r b h xs)
-  where
-    by : (b c : Bool) → q x ≡ c → (g : Bool) → r x ≡ g → (q x ≡ true → r x ≡ b) → filter q (filter (λ y. not (r y)) xs) ≡ cond b [] (filter q xs)
-        → filter q (cond (not g) (x ∷ filter (λ y. not (r y)) xs) (filter (λ y. not (r y)) xs)) ≡ cond b [] (cond c (x ∷ filter q xs) (filter q xs))
-    by true true e true s k rest = rest
-    by true true e false s k rest = let is = k e in absurd (cc)
-    by true false e true s k rest = rest
-    by true false e false s k rest = rw e rest
-    by false true e true s k rest = let is = k e in absurd (cc)
-    by false true e false s k rest = rw e (ap (λ ys. x ∷ ys) rest)
-    by false false e true s k rest = rest
-    by false false e false s k rest = rw e rest
-
 -- ---- of a part with all that pass one test
 
 pub find-of : (q r : DeathNotification → Bool) (ys xs : List DeathNotification) → ((x : DeathNotification) → q x ≡ true → r x ≡ true) → IsPartOf r ys xs → find q ys ≡ find q xs

@@ -28,14 +28,6 @@ rising-remove m end [] i h r = absurd (omega arith)
 rising-remove m end (x ∷ xs) zero h r = rising-from m (suc x.made) end xs (omega (arith, r.0)) r.1
 rising-remove m end (x ∷ xs) (suc i) h r = (r.0, rising-remove (suc x.made) end xs i (omega arith) r.1)
 
-pub rising-filter : (p : DeathNotification → Bool) (m end : ℕ) (xs : List DeathNotification) → IsRising m end xs → IsRising m end (filter p xs)
-rising-filter p m end [] r = r
-rising-filter p m end (x ∷ xs) r = by (p x) (rising-filter p (suc x.made) end xs r.1)
-  where
-    by : (b : Bool) → IsRising (suc x.made) end (filter p xs) → IsRising m end (cond b (x ∷ filter p xs) (filter p xs))
-    by true s = (r.0, s)
-    by false s = rising-from m (suc x.made) end (filter p xs) (omega (arith, r.0)) s
-
 pub rising-changed : (p : DeathNotification → Bool) (f : DeathNotification → DeathNotification) → ((x : DeathNotification) → (f x).made ≡ x.made)
     → (m end : ℕ) (xs : List DeathNotification) → IsRising m end xs → IsRising m end (changed p f xs)
 rising-changed p f made m end [] r = r

@@ -1,84 +1,154 @@
--- Which death notifications are told of a process's end: those whose name a due one has, whatever stood changed in between.
-use Rattle.std.proofs.Common.{◌≡◌, ℕ, ◌+◌, ◌<◌, Bool, true, false, cond, ◌||◌, ◌&&◌, List, [], ◌∷◌, take, length, get_or, refl, ap, sym, ◌∙◌}
+-- Which death notifications are told of a process's end: those whose name a due one has, place by place.
+use Rattle.std.proofs.Common.{◌≡◌, ℕ, Bool, true, false, not, cond, ◌||◌, ◌&&◌, List, [], ◌∷◌, ◌++◌, refl, ap, sym, ◌∙◌}
 use Rattle.std.specs.Prelude.{◌==◌}
 use Rattle.std.specs.List.{list_any}
-use Rattle.std.proofs.lemmas.List.Folds.{list_any_more}
-use Rattle.std.proofs.lemmas.Bool.{eqb-true}
+use Rattle.std.proofs.lemmas.Bool.{eqb-true, and_parts}
+use Rattle.std.proofs.lemmas.List.Folds.{list_any-append}
 use Rattle.bd_space.specs.declared.space.Object.{Object}
 use Rattle.bd_space.specs.declared.space.DeathNotification.{DeathNotification}
 use Rattle.bd_space.specs.declared.space.Phase.TheVariants.{Queued}
 use Rattle.bd_space.specs.Words.{changed}
-use Rattle.bd_space.specs.References.{owned_in}
 use Rattle.bd_space.specs.Deaths.{is_notification}
-use Rattle.bd_space.specs.ProcessExits.{is_armed}
-use Rattle.bd_deaths.proofs.Changes.{none, same_tests, twice, at, guarded}
+use Rattle.bd_deaths.specs.Due.{is_due, is_due_at, queued_at, has_place}
+use Rattle.bd_deaths.proofs.Changes.{none, same_tests, twice, guarded}
+use Rattle.bd_deaths.proofs.Tests.{or-false, and-false, eqb-turned}
+
+both-queued : (a b d : Bool) → ((a && d) || (b && (not (a && d) && d))) ≡ ((a || b) && d)
+both-queued true true true = refl
+both-queued true true false = refl
+both-queued true false true = refl
+both-queued true false false = refl
+both-queued false true true = refl
+both-queued false true false = refl
+both-queued false false true = refl
+both-queued false false false = refl
+
+not-either : (s a b : Bool) → ((not s && a) || (not s && b)) ≡ (not s && (a || b))
+not-either true a b = refl
+not-either false a b = refl
 
 module _ (objects : List Object) (p : ℕ) where
-  abbrev pub due : DeathNotification → Bool
-  due x = is_armed x.phase && owned_in objects p x.object
-
   abbrev pub queued : DeathNotification → DeathNotification
   queued x = record x { phase = Queued }
 
-  abbrev due_with : ℕ → DeathNotification → Bool
-  due_with made x = due x && (made == x.made)
+  -- one of these is due, of this place
+  abbrev pub told_at : List DeathNotification → ℕ → Bool
+  told_at l m = list_any (is_due_at objects p m) l
 
-  -- one of these is due and has this name
+  -- ---- one notification after the other
+
   abbrev pub told_by : List DeathNotification → DeathNotification → Bool
-  told_by xs y = list_any (due_with y.made) xs
+  told_by xs y = told_at xs y.made
 
   -- what one notification does to the list
   abbrev pub told : DeathNotification → List DeathNotification → List DeathNotification
-  told x ys = cond (due x) (changed (is_notification x.made) queued ys) ys
+  told x ys = cond (is_due objects p x) (changed (is_notification x.made) queued ys) ys
 
   pub told-more : (x : DeathNotification) (xs ys : List DeathNotification) → changed (told_by xs) queued (told x ys) ≡ changed (told_by (x ∷ xs)) queued ys
   told-more x xs ys =
-      ap (λ zs. changed (told_by xs) queued zs) (guarded queued (is_notification x.made) ys (due x))
-      ∙ twice queued (told_by xs) (λ y. due x && is_notification x.made y) ys (λ y. refl) (λ y. refl)
+      ap (λ zs. changed (told_by xs) queued zs) (guarded queued (is_notification x.made) ys (is_due objects p x))
+      ∙ twice queued (told_by xs) (λ y. is_due objects p x && is_notification x.made y) ys (λ y. refl) (λ y. refl)
 
-  -- ---- as a loop does it, which looks at the list that it changes
+  -- ---- place by place
 
-  or-false : (a : Bool) → (a || false) ≡ a
-  or-false true = refl
-  or-false false = refl
+  pub due-here : (m : ℕ) (x : DeathNotification) → is_due_at objects p m x ≡ true → is_notification m x ≡ true
+  due-here m x h = let e = and_parts _ _ h in eqb-turned x.made m ∙ e.1
 
-  and-false : (a : Bool) → (a && false) ≡ false
-  and-false true = refl
-  and-false false = refl
+  pub same-places : (q r : ℕ → Bool) → ((n : ℕ) → q n ≡ r n) → (l : List DeathNotification) → queued_at q objects p l ≡ queued_at r objects p l
+  same-places q r h l = same_tests queued (λ y. q y.made && told_at l y.made) (λ y. r y.made && told_at l y.made) l (λ y. ap (λ b. b && told_at l y.made) (h y.made))
 
-  absorbed-case : (R : ℕ → Bool) (m n : ℕ) (b c : Bool) → (m == n) ≡ c → R n ≡ true → (R m || (b && c)) ≡ R m
-  absorbed-case R m n b true e h = let same : R m ≡ true = ap R (eqb-true m n e) ∙ h in rw same refl
-  absorbed-case R m n b false e h = rw (and-false b) (or-false (R m))
+  pub no-places : (l : List DeathNotification) → l ≡ queued_at (λ n. false) objects p l
+  no-places l = sym (none queued (λ y. false) l (λ y. refl))
 
-  -- the names that the first notifications gave
-  abbrev first_told : List DeathNotification → ℕ → ℕ → Bool
-  first_told xs k m = list_any (due_with m) (take k xs)
+  -- ---- of one place
 
-  step-case : (R : ℕ → Bool) (x z : DeathNotification) (b : Bool) → R x.made ≡ b → z ≡ cond b (queued x) x
-      → (y : DeathNotification) → (R y.made || (due z && (y.made == z.made))) ≡ (R y.made || (due x && (y.made == x.made)))
-  step-case R x z true h e y = rw e (or-false (R y.made) ∙ sym (absorbed-case R y.made x.made (due x) _ refl h))
-  step-case R x z false h e y = rw e refl
+  pub place-told : (l : List DeathNotification) (m : ℕ) → told_at l m ≡ true → changed (is_notification m) queued l ≡ queued_at (λ n. m == n) objects p l
+  place-told l m h = same_tests queued (is_notification m) (λ y. (m == y.made) && told_at l y.made) l (λ y. by y (m == y.made) refl)
+    where
+      by : (y : DeathNotification) (b : Bool) → (m == y.made) ≡ b → (y.made == m) ≡ ((m == y.made) && told_at l y.made)
+      by y true e = let here = ap (told_at l) (sym (eqb-true m y.made e)) ∙ h in rw (eqb-turned y.made m, e, here) refl
+      by y false e = rw (eqb-turned y.made m, e) refl
 
-  -- z stands where x stood
-  told-next : (xs ds : List DeathNotification) (k : ℕ) (d z : DeathNotification) → k < length xs → ds ≡ changed (told_by (take k xs)) queued xs → z ≡ get_or ds k d
-      → told z ds ≡ changed (told_by (take (k + 1) xs)) queued xs
-  told-next xs ds k d z h e g =
-      let x = get_or xs k d in
-      let before = λ (y : DeathNotification). first_told xs k y.made in
-      let z-is : z ≡ cond (before x) (queued x) x = g ∙ ap (λ ys. get_or ys k d) e ∙ at queued before xs k d h in
-      guarded queued (is_notification z.made) ds (due z)
-      ∙ ap (λ ys. changed (λ y. due z && is_notification z.made y) queued ys) e
-      ∙ twice queued (λ y. due z && is_notification z.made y) before xs (λ y. refl) (λ y. refl)
-      ∙ same_tests queued (λ y. before y || (due z && is_notification z.made y)) (told_by (take (k + 1) xs)) xs
-      (λ y. step-case (first_told xs k) x z (before x) refl z-is y ∙ sym (list_any_more (due_with y.made) xs k d h))
+  pub place-else : (l : List DeathNotification) (m : ℕ) → told_at l m ≡ false → l ≡ queued_at (λ n. m == n) objects p l
+  place-else l m h = sym (none queued (λ y. (m == y.made) && told_at l y.made) l (λ y. by y (m == y.made) refl))
+    where
+      by : (y : DeathNotification) (b : Bool) → (m == y.made) ≡ b → ((m == y.made) && told_at l y.made) ≡ false
+      by y true e = let here = ap (told_at l) (sym (eqb-true m y.made e)) ∙ h in rw (e, here) refl
+      by y false e = rw e refl
 
-  pub told-then : (xs ds new : List DeathNotification) (k : ℕ) (d z : DeathNotification) → k < length xs → ds ≡ changed (told_by (take k xs)) queued xs → z ≡ get_or ds k d
-      → due z ≡ true → new ≡ changed (is_notification z.made) queued ds → new ≡ changed (told_by (take (k + 1) xs)) queued xs
-  told-then xs ds new k d z h e g t n = n ∙ sym (ap (λ b. cond b (changed (is_notification z.made) queued ds) ds) t) ∙ told-next xs ds k d z h e g
+  -- ---- of more places than before
 
-  pub told-else : (xs ds : List DeathNotification) (k : ℕ) (d z : DeathNotification) → k < length xs → ds ≡ changed (told_by (take k xs)) queued xs → z ≡ get_or ds k d
-      → due z ≡ false → ds ≡ changed (told_by (take (k + 1) xs)) queued xs
-  told-else xs ds k d z h e g t = sym (ap (λ b. cond b (changed (is_notification z.made) queued ds) ds) t) ∙ told-next xs ds k d z h e g
+  -- what was queued is no longer due
+  due-left : (s : ℕ → Bool) (m : ℕ) (x : DeathNotification) (b : Bool) → s x.made ≡ b → (c : Bool) → (m == x.made) ≡ c
+      → is_due_at objects p m (cond b (queued x) x) ≡ (not (s m) && is_due_at objects p m x)
+  due-left s m x true e true f = let here = ap s (eqb-true m x.made f) ∙ e in rw here refl
+  due-left s m x false e true f = let here = ap s (eqb-true m x.made f) ∙ e in rw here refl
+  due-left s m x true e false f = rw (f, and-false (is_due objects p x), and-false (not (s m))) refl
+  due-left s m x false e false f = rw (f, and-false (is_due objects p x), and-false (not (s m))) refl
 
-  pub told-none : (xs : List DeathNotification) → xs ≡ changed (told_by []) queued xs
-  told-none xs = sym (none queued (λ y. false) xs (λ y. refl))
+  told-left : (s : ℕ → Bool) (m : ℕ) (l : List DeathNotification) → told_at (changed (λ y. s y.made) queued l) m ≡ (not (s m) && told_at l m)
+  told-left s m [] = sym (and-false (not (s m)))
+  told-left s m (x ∷ xs) =
+      ap (λ b. b || told_at (changed (λ y. s y.made) queued xs) m) (due-left s m x (s x.made) refl (m == x.made) refl)
+      ∙ ap (λ b. (not (s m) && is_due_at objects p m x) || b) (told-left s m xs)
+      ∙ not-either (s m) (is_due_at objects p m x) (told_at xs m)
+
+  pub more-places : (q r : ℕ → Bool) (l : List DeathNotification) → queued_at r objects p (queued_at q objects p l) ≡ queued_at (λ n. q n || r n) objects p l
+  more-places q r l =
+      let before = λ (n : ℕ). q n && told_at l n in
+      let left = queued_at q objects p l in
+      twice queued (λ y. r y.made && told_at left y.made) (λ y. before y.made) l (λ y. refl) (λ y. refl)
+      ∙ same_tests queued (λ y. before y.made || (r y.made && told_at left y.made)) (λ y. (q y.made || r y.made) && told_at l y.made) l
+      (λ y. ap (λ b. before y.made || (r y.made && b)) (told-left before y.made l) ∙ both-queued (q y.made) (r y.made) (told_at l y.made))
+
+  -- one place more
+  pub place-next : (ms : List ℕ) (m : ℕ) (l : List DeathNotification)
+      → queued_at (λ n. m == n) objects p (queued_at (has_place ms) objects p l) ≡ queued_at (has_place (ms ++ m ∷ [])) objects p l
+  place-next ms m l =
+      more-places (has_place ms) (λ n. m == n) l
+      ∙ same-places (λ n. has_place ms n || (m == n)) (has_place (ms ++ m ∷ []))
+      (λ n. ap (λ b. has_place ms n || b) (sym (or-false (m == n))) ∙ sym (list_any-append (λ k. k == n) ms (m ∷ []))) l
+
+  -- ---- places that are put to others
+
+  pub due-told : (m : ℕ) (l : List DeathNotification) → told_at l m ≡ true → list_any (is_due objects p) l ≡ true
+  due-told m [] h = absurd (cc)
+  due-told m (x ∷ xs) h = by (is_due objects p x) h (due-told m xs)
+    where
+      by : (b : Bool) → ((b && (m == x.made)) || told_at xs m) ≡ true → (told_at xs m ≡ true → list_any (is_due objects p) xs ≡ true) → (b || list_any (is_due objects p) xs) ≡ true
+      by true e further = refl
+      by false e further = further e
+
+  -- t was there before, y are those gone through
+  put-then : (t y e d : Bool) → (e ≡ true → d ≡ true) → ((t || (y && d)) || (e || false)) ≡ (t || ((y || (e || false)) && d))
+  put-then true y e d h = refl
+  put-then false true true true h = refl
+  put-then false true true false h = sym (h refl)
+  put-then false true false true h = refl
+  put-then false true false false h = refl
+  put-then false false true true h = refl
+  put-then false false true false h = sym (h refl)
+  put-then false false false d h = refl
+
+  put-else : (t y e d : Bool) → (e ≡ true → d ≡ false) → (t || (y && d)) ≡ (t || ((y || (e || false)) && d))
+  put-else true y e d h = refl
+  put-else false true e d h = refl
+  put-else false false true d h = sym (h refl)
+  put-else false false false d h = refl
+
+  module _ (l : List DeathNotification) (was : Bool) (ys : List ℕ) (m n : ℕ) where
+    same-told : (b : Bool) → told_at l m ≡ b → (m == n) ≡ true → told_at l n ≡ b
+    same-told b h e = ap (told_at l) (sym (eqb-true m n e)) ∙ h
+
+    pub next-then : (xs : List ℕ) → told_at l m ≡ true → has_place xs n ≡ (was || (has_place ys n && told_at l n))
+        → has_place (xs ++ m ∷ []) n ≡ (was || (has_place (ys ++ m ∷ []) n && told_at l n))
+    next-then xs h e =
+        list_any-append (λ k. k == n) xs (m ∷ []) ∙ ap (λ b. b || ((m == n) || false)) e
+        ∙ put-then was (has_place ys n) (m == n) (told_at l n) (same-told true h)
+        ∙ ap (λ b. was || (b && told_at l n)) (sym (list_any-append (λ k. k == n) ys (m ∷ [])))
+
+    pub next-else : (xs : List ℕ) → told_at l m ≡ false → has_place xs n ≡ (was || (has_place ys n && told_at l n))
+        → has_place xs n ≡ (was || (has_place (ys ++ m ∷ []) n && told_at l n))
+    next-else xs h e =
+        e ∙ put-else was (has_place ys n) (m == n) (told_at l n) (same-told false h)
+        ∙ ap (λ b. was || (b && told_at l n)) (sym (list_any-append (λ k. k == n) ys (m ∷ [])))

@@ -1,8 +1,11 @@
--- The death notifications by which the end of a process is told.
-use Rattle.std.specs.Prelude.{ℕ, ◌==◌, ◌&&◌, Bool, List}
+-- The death notifications by which the end of a process is told, and its own.
+use Rattle.std.specs.Prelude.{ℕ, ◌≡◌, ◌==◌, ◌&&◌, Bool, true, List}
 use Rattle.std.specs.List.{list_any}
 use Rattle.bd_space.specs.declared.space.Object.{Object}
 use Rattle.bd_space.specs.declared.space.DeathNotification.{DeathNotification}
+use Rattle.bd_space.specs.declared.space.Phase.TheVariants.{Queued}
+use Rattle.bd_space.specs.Words.{changed}
+use Rattle.bd_space.specs.Deaths.{is_notification}
 use Rattle.bd_space.specs.References.{owned_in}
 use Rattle.bd_space.specs.ProcessExits.{is_armed}
 
@@ -10,6 +13,26 @@ use Rattle.bd_space.specs.ProcessExits.{is_armed}
 abbrev pub is_due : List Object → ℕ → DeathNotification → Bool
 is_due objects p x = is_armed x.phase && owned_in objects p x.object
 
+-- it is due, and made at this place
+abbrev pub is_due_at : List Object → ℕ → ℕ → DeathNotification → Bool
+is_due_at objects p made x = is_due objects p x && (made == x.made)
+
 -- it has the name of one of these that is due
 abbrev pub is_queued_in : List DeathNotification → List Object → ℕ → DeathNotification → Bool
-is_queued_in deaths objects p y = list_any (λ x. is_due objects p x && (y.made == x.made)) deaths
+is_queued_in deaths objects p y = list_any (is_due_at objects p y.made) deaths
+
+-- those are queued that have the name of one that is due, of places that pass
+abbrev pub queued_at : (ℕ → Bool) → List Object → ℕ → List DeathNotification → List DeathNotification
+queued_at q objects p l = changed (λ y. q y.made && is_queued_in l objects p y) (λ x. record x { phase = Queued }) l
+
+-- it is p's, and made at this place
+abbrev pub is_own_at : ℕ → ℕ → DeathNotification → Bool
+is_own_at p made x = is_notification made x && (x.process == p)
+
+-- the place is among these
+abbrev pub has_place : List ℕ → ℕ → Bool
+has_place places made = list_any (λ n. n == made) places
+
+-- what the others list is among these
+abbrev pub HasPlaces : List ℕ → List ℕ → Type 0
+HasPlaces these others = (made : ℕ) → has_place others made ≡ true → has_place these made ≡ true

@@ -2,6 +2,8 @@
 use Rattle.std.specs.Prelude.{ℕ, ◌+◌, ◌-◌, ◌%◌, ◌^◌, nat_le, if◌then◌else◌, Bool, List, [], ◌∷◌, length, sum_by, Option, Some, None}
 use Rattle.bd_words.specs.declared.key.WordKey.{WordKey}
 use Rattle.bd_words.specs.Keys.{same_word}
+use Rattle.bd_groups.specs.declared.group.Group as groups
+use Rattle.bd_groups.specs.declared.group.Group.TheVariants.{Object}
 use Rattle.bd_space.specs.declared.step.ObjectId.{ObjectId}
 use Rattle.bd_space.specs.declared.space.DeathNotification.{DeathNotification}
 use Rattle.bd_deaths.specs.declared.key.NameKey.{NameKey}
@@ -18,6 +20,9 @@ name_key p o = Name (record { process = p; place = o.place; index = o.index })
 
 abbrev pub cookie_key : ℕ → ℕ → Key
 cookie_key p cookie = Cookie (record { process = p; word = cookie })
+
+abbrev pub object_group : ObjectId → groups.Group
+object_group o = Object o.place o.index
 
 abbrev pub name_of : DeathNotification → NameKey
 name_of x = record { process = x.process; place = x.object.place; index = x.object.index }

@@ -1,3 +1,4 @@
+pub mod Listed
 pub mod Stands
 pub mod Room
 pub mod Due

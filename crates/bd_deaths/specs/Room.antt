@@ -1,15 +1,28 @@
 -- How many notifications a table may still take without memory, how many it has, and what a change takes of that.
-use Rattle.std.specs.Prelude.{ℕ, ◌+◌, ◌-◌, ◌≤◌, min, vec_len, vec_capacity}
+use Rattle.std.specs.Prelude.{ℕ, ◌+◌, ◌-◌, ◌/◌, ◌≤◌, min, vec_len, vec_capacity}
+use Rattle.bd_groups.specs.Members.{group_room}
+use Rattle.bd_deaths.specs.declared.list.DeathList.{DeathList}
 use Rattle.bd_deaths.specs.declared.table.DeathTable.{DeathTable}
 use Rattle.bd_deaths.specs.SharedAt.{key_room}
 
+unfoldable pub list_room : DeathList → ℕ
+list_room t = min (vec_capacity t.deaths - vec_len t.deaths) (key_room t.sharing)
+
+unfoldable pub list_count : DeathList → ℕ
+list_count t = vec_len t.deaths
+
+-- each is listed twice in the groups
 unfoldable pub death_room : DeathTable → ℕ
-death_room t = min (vec_capacity t.deaths - vec_len t.deaths) (key_room t.sharing)
+death_room t = min (list_room t.list) (group_room t.groups / 2)
 
 unfoldable pub death_count : DeathTable → ℕ
-death_count t = vec_len t.deaths
+death_count t = list_count t.list
 
 -- a change takes room for at most n notifications, and adds at most n
+pub record ListUses (old new : DeathList) (n : ℕ) : Type 0 where
+  pub room : list_room old ≤ list_room new + n
+  pub count : list_count new ≤ list_count old + n
+
 pub record Uses (old new : DeathTable) (n : ℕ) : Type 0 where
   pub room : death_room old ≤ death_room new + n
   pub count : death_count new ≤ death_count old + n

@@ -10,8 +10,8 @@ ghost use Rattle.bd_space.specs.declared.space.Phase.TheVariants.{Told};
 ghost use Rattle.bd_space.specs.declared.space.DeathNotification as declared;
 ghost use Rattle.bd_deaths.specs.Stands.{IsWithin};
 
+use crate::list::DeathList;
 use crate::place::part;
-use crate::table::DeathTable;
 use bd_space::{DeathNotification, Phase, Work, WorkKind};
 use std::ops::Range;
 
@@ -62,28 +62,28 @@ fn first_made(deaths: &[DeathNotification], made: u32) -> Option<usize>
     deaths.iter().position(|x| x.made == made)
 }
 
-impl DeathTable {
-    ghost use Rattle.bd_deaths.specs.Stands.{DeathsAre};
-    ghost use Rattle.bd_deaths.specs.Room.{Uses, death_count};
+impl DeathList {
+    ghost use Rattle.bd_deaths.specs.Stands.{AreIn};
+    ghost use Rattle.bd_deaths.specs.Room.{ListUses, list_count};
 
     /// Marks the notification as cleared.
-    #[tactic(auto, unfolding(crate::specs::Room::death_room, crate::specs::Room::death_count))]
-    pub fn mark_cleared(&mut self, made: u32)
-        ensures stands { (l : List declared.DeathNotification) → DeathsAre self.old l
-            → DeathsAre self.new (changed (deaths_of.is_notification made) (λ x. record x { cleared = true }) l) }
-        ensures uses { Uses self.old self.new 0 }
+    #[tactic(auto, unfolding(crate::specs::Room::list_room, crate::specs::Room::list_count))]
+    pub(crate) fn mark_cleared(&mut self, made: u32)
+        ensures stands { (l : List declared.DeathNotification) → AreIn self.old l
+            → AreIn self.new (changed (deaths_of.is_notification made) (λ x. record x { cleared = true }) l) }
+        ensures uses { ListUses self.old self.new 0 }
     {
         let range = self.made_range(made);
         mark(&mut self.deaths, range, made);
     }
 
     /// The notification is this far.
-    #[tactic(auto, unfolding(crate::specs::Room::death_room, crate::specs::Room::death_count))]
-    pub fn set_phase(&mut self, made: u32, phase: Phase)
-        ensures stands { (l : List declared.DeathNotification) → DeathsAre self.old l
-            → DeathsAre self.new (changed (deaths_of.is_notification made) (λ x. record x { phase = phase }) l) }
-        ensures uses { Uses self.old self.new 0 }
-        ensures count { death_count self.new ≡ death_count self.old }
+    #[tactic(auto, unfolding(crate::specs::Room::list_room, crate::specs::Room::list_count))]
+    pub(crate) fn set_phase(&mut self, made: u32, phase: Phase)
+        ensures stands { (l : List declared.DeathNotification) → AreIn self.old l
+            → AreIn self.new (changed (deaths_of.is_notification made) (λ x. record x { phase = phase }) l) }
+        ensures uses { ListUses self.old self.new 0 }
+        ensures count { list_count self.new ≡ list_count self.old }
     {
         let range = self.made_range(made);
         set_phase(&mut self.deaths, range, made, phase);
@@ -92,7 +92,7 @@ impl DeathTable {
     // The index of the first notification of this place.
     fn index_of(&self, made: u32) -> Option<usize>
         ensures within { IfSome result (λ i. i < vec_len self.now.deaths) }
-        ensures first { (l : List declared.DeathNotification) → DeathsAre self.now l
+        ensures first { (l : List declared.DeathNotification) → AreIn self.now l
             → MatchOption result (list_any (deaths_of.is_notification made) l ≡ false)
             (λ i. (d : declared.DeathNotification) → deaths_of.is_notification made (slice_index_or l i d) ≡ true) }
     {
@@ -103,11 +103,11 @@ impl DeathTable {
     }
 
     /// The notification goes.
-    #[tactic(auto, unfolding(crate::specs::Room::death_room, crate::specs::Room::death_count))]
-    pub fn remove(&mut self, made: u32)
-        ensures stands { (l : List declared.DeathNotification) → DeathsAre self.old l
-            → DeathsAre self.new (filter (λ x. not (deaths_of.is_notification made x)) l) }
-        ensures uses { Uses self.old self.new 0 }
+    #[tactic(auto, unfolding(crate::specs::Room::list_room, crate::specs::Room::list_count))]
+    pub(crate) fn remove(&mut self, made: u32)
+        ensures stands { (l : List declared.DeathNotification) → AreIn self.old l
+            → AreIn self.new (filter (λ x. not (deaths_of.is_notification made x)) l) }
+        ensures uses { ListUses self.old self.new 0 }
     {
         while let Some(i) = self.index_of(made) {
             self.remove_at(i);
@@ -115,11 +115,11 @@ impl DeathTable {
     }
 
     // What the item told of is told.
-    #[tactic(auto, unfolding(crate::specs::Room::death_room, crate::specs::Room::death_count))]
+    #[tactic(auto, unfolding(crate::specs::Room::list_room, crate::specs::Room::list_count))]
     fn read_one(&mut self, kind: WorkKind)
-        ensures stands { (l : List declared.DeathNotification) → DeathsAre self.old l → DeathsAre self.new
+        ensures stands { (l : List declared.DeathNotification) → AreIn self.old l → AreIn self.new
             (changed (λ x. is_some_and (death_of kind) (λ n. n == x.made)) (λ x. record x { phase = Told }) l) }
-        ensures uses { Uses self.old self.new 0 }
+        ensures uses { ListUses self.old self.new 0 }
     {
         match death_of(kind) {
             Some(made) => self.set_phase(made, Phase::Told),
@@ -128,10 +128,10 @@ impl DeathTable {
     }
 
     /// The notifications of which these work items told are told.
-    pub fn read(&mut self, taken: &[Work])
-        ensures stands { (l : List declared.DeathNotification) → DeathsAre self.old l
-            → DeathsAre self.new (reading.told_deaths taken.now l) }
-        ensures uses { Uses self.old self.new 0 }
+    pub(crate) fn read(&mut self, taken: &[Work])
+        ensures stands { (l : List declared.DeathNotification) → AreIn self.old l
+            → AreIn self.new (reading.told_deaths taken.now l) }
+        ensures uses { ListUses self.old self.new 0 }
     {
         for w in taken {
             self.read_one(w.kind);

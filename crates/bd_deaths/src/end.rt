@@ -1,58 +1,66 @@
-//! The end of a process: its own notifications go, and others are told by theirs.
+//! The end of a process: its own notifications go.
 
-ghost use Rattle.std.specs.Prelude.{◌≡◌, ◌==◌, ◌≤◌, not, filter, vec_len, vec_capacity, List};
-ghost use Rattle.bd_space.specs.ProcessExits.{is_armed};
-ghost use Rattle.bd_space.specs.Words.{changed};
-ghost use Rattle.bd_space.specs.declared.space.Phase.TheVariants.{Queued};
-ghost use Rattle.bd_space.specs.declared.space.Object.{Object};
+ghost use Rattle.std.specs.Prelude.{◌≡◌, ◌==◌, ◌≤◌, ◌<◌, ◌&&◌, not, true, false, filter, length, vec_len, List, Option, IfSome, MatchOption, position, slice_index_or};
+ghost use Rattle.std.specs.List.{list_any};
 ghost use Rattle.bd_space.specs.declared.space.DeathNotification as declared;
-ghost use Rattle.bd_nodes.specs.Stands.{NodesAre};
 ghost use Rattle.bd_deaths.specs.Due as due;
 
+use crate::list::DeathList;
+use crate::place::part;
 use crate::table::DeathTable;
-use bd_nodes::NodeTable;
-use bd_space::{DeathNotification, Phase};
+use bd_groups::{Group, Members};
+use bd_space::DeathNotification;
 
-fn is_armed(phase: Phase) -> bool
-    ensures { result ≡ is_armed phase }
+fn first_own(deaths: &[DeathNotification], p: u32, made: u32) -> Option<usize>
+    ensures first { result ≡ position (due.is_own_at p made) deaths.now }
+    ensures within { IfSome result (λ i. i < length deaths.now) }
 {
-    matches!(phase, Phase::Armed)
+    deaths.iter().position(|x| x.made == made && x.process == p)
 }
 
-/// Whether the end of the process is to be told by this notification.
-pub fn is_due(nodes: &NodeTable, p: u32, x: &DeathNotification) -> bool
-    ensures { (objects : List Object) → NodesAre nodes.now objects → result ≡ due.is_due objects p x.now }
-{
-    is_armed(x.phase) && nodes.owns(p, x.object)
-}
+impl DeathList {
+    ghost use Rattle.bd_deaths.specs.Stands.{AreIn};
+    ghost use Rattle.bd_deaths.specs.Room.{ListUses};
 
-fn drop_deaths_of(deaths: &mut Vec<DeathNotification>, p: u32)
-    ensures items { deaths.new.items ≡ filter (λ x. not (x.process == p)) deaths.old.items }
-    ensures len { vec_len deaths.new ≤ vec_len deaths.old }
-    ensures capacity { vec_capacity deaths.new ≡ vec_capacity deaths.old }
-{
-    deaths.retain(|x| x.process != p);
+    // The index of the first of the process's notifications of this place.
+    fn index_of_own(&self, p: u32, made: u32) -> Option<usize>
+        ensures within { IfSome result (λ i. i < vec_len self.now.deaths) }
+        ensures first { (l : List declared.DeathNotification) → AreIn self.now l
+            → MatchOption result (list_any (due.is_own_at p made) l ≡ false)
+            (λ i. (d : declared.DeathNotification) → due.is_own_at p made (slice_index_or l i d) ≡ true) }
+    {
+        let range = self.made_range(made);
+        let start = range.start;
+        let i = first_own(part(&self.deaths, range), p, made)?;
+        Some(start + i)
+    }
+
+    // The process's notifications of this place go.
+    fn drop_at(&mut self, p: u32, made: u32)
+        ensures stands { (l : List declared.DeathNotification) → AreIn self.old l
+            → AreIn self.new (filter (λ x. not (due.is_own_at p made x)) l) }
+        ensures uses { ListUses self.old self.new 0 }
+    {
+        while let Some(i) = self.index_of_own(p, made) {
+            self.remove_at(i);
+        }
+    }
+
+    // The process's notifications of these places go.
+    fn drop_all(&mut self, p: u32, places: Members<'_, u32>)
+        ensures stands { (l : List declared.DeathNotification) → AreIn self.old l
+            → AreIn self.new (filter (λ x. not (due.has_place places.entry x.made && (x.process == p))) l) }
+        ensures uses { ListUses self.old self.new 0 }
+    {
+        for made in places {
+            self.drop_at(p, made);
+        }
+    }
 }
 
 impl DeathTable {
     ghost use Rattle.bd_deaths.specs.Stands.{DeathsAre};
     ghost use Rattle.bd_deaths.specs.Room.{Uses};
-
-    /// Queues the notifications by which the end of the process is to be told, which owns these nodes.
-    #[tactic(auto, unfolding(crate::specs::Room::death_room, crate::specs::Room::death_count))]
-    pub fn queue_due(&mut self, nodes: &NodeTable, p: u32)
-        ensures stands { (objects : List Object) (l : List declared.DeathNotification) → NodesAre nodes.now objects
-            → DeathsAre self.old l → DeathsAre self.new
-            (changed (due.is_queued_in l objects p) (λ x. record x { phase = Queued }) l) }
-        ensures uses { Uses self.old self.new 0 }
-    {
-        for k in 0..self.deaths.len() {
-            let x = self.deaths[k];
-            if is_due(nodes, p, &x) {
-                self.set_phase(x.made, Phase::Queued);
-            }
-        }
-    }
 
     /// The notifications of the process go.
     #[tactic(auto, unfolding(crate::specs::Room::death_room, crate::specs::Room::death_count))]
@@ -61,7 +69,8 @@ impl DeathTable {
             → DeathsAre self.new (filter (λ x. not (x.process == p)) l) }
         ensures uses { Uses self.old self.new 0 }
     {
-        self.sharing.drop_process(&self.deaths, p);
-        drop_deaths_of(&mut self.deaths, p);
+        let own = Group::Process { made: p };
+        self.list.drop_all(p, self.groups.of(own));
+        self.groups.forget(own);
     }
 }

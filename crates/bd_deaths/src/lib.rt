@@ -2,13 +2,16 @@
 #![tactic(auto)]
 
 mod change;
+mod due;
 mod end;
 mod key;
+mod list;
+mod listing;
 mod look;
 mod name;
 mod place;
 mod sharing;
 mod table;
 
-pub use end::is_due;
+pub use due::is_due;
 pub use table::DeathTable;

@@ -73,7 +73,7 @@ impl DeathTable {
         ensures { (l : List declared.DeathNotification) → DeathsAre self.now l
             → result ≡ find (deaths_of.is_notification made) l }
     {
-        death_in(self.made_part(made), made)
+        death_in(self.list.made_part(made), made)
     }
 
     /// The uncleared notification on the process's name of the object.
@@ -81,7 +81,7 @@ impl DeathTable {
         ensures { (l : List declared.DeathNotification) → DeathsAre self.now l
             → result ≡ deaths_of.uncleared_in l p o }
     {
-        uncleared_in(self.key_part(name_key(p, o)), p, o)
+        uncleared_in(self.list.key_part(name_key(p, o)), p, o)
     }
 
     /// The only uncleared notification on the process's name of the object, where there is just one. Cleared ones may
@@ -90,7 +90,7 @@ impl DeathTable {
         ensures { (l : List declared.DeathNotification) → DeathsAre self.now l
             → result ≡ only_uncleared_in l p o }
     {
-        only_uncleared_in(self.key_part(name_key(p, o)), p, o)
+        only_uncleared_in(self.list.key_part(name_key(p, o)), p, o)
     }
 
     /// The least told notification of the process with this cookie.
@@ -98,6 +98,6 @@ impl DeathTable {
         ensures { (l : List declared.DeathNotification) → DeathsAre self.now l
             → result ≡ find (clearing.is_told_with p cookie) l }
     {
-        told_in(self.key_part(cookie_key(p, cookie)), p, cookie)
+        told_in(self.list.key_part(cookie_key(p, cookie)), p, cookie)
     }
 }

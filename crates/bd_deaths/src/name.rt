@@ -7,6 +7,7 @@ ghost use Rattle.bd_space.specs.Local as local;
 ghost use Rattle.bd_space.specs.declared.space.DeathNotification as declared;
 
 use crate::key::name_key;
+use crate::list::DeathList;
 use crate::look::{is_uncleared_on, same};
 use crate::place::part;
 use crate::table::DeathTable;
@@ -48,6 +49,36 @@ fn first_uncleared(deaths: &[DeathNotification], p: u32, o: ObjectId) -> Option<
     deaths.iter().position(|x| is_uncleared_on(p, o, x))
 }
 
+impl DeathList {
+    ghost use Rattle.bd_deaths.specs.Stands.{AreIn};
+    ghost use Rattle.bd_deaths.specs.Room.{ListUses};
+
+    // The index of the first uncleared notification on the name.
+    fn index_of_uncleared(&self, p: u32, o: ObjectId) -> Option<usize>
+        ensures within { IfSome result (λ i. i < vec_len self.now.deaths) }
+        ensures first { (l : List declared.DeathNotification) → AreIn self.now l
+            → MatchOption result (list_any (deaths_of.is_uncleared_on p o) l ≡ false)
+            (λ i. (d : declared.DeathNotification) → deaths_of.is_uncleared_on p o (slice_index_or l i d) ≡ true) }
+    {
+        let range = self.key_range(name_key(p, o));
+        let start = range.start;
+        let i = first_uncleared(part(&self.deaths, range), p, o)?;
+        Some(start + i)
+    }
+
+    // The uncleared notifications on the name go.
+    #[tactic(auto, unfolding(crate::specs::Room::list_room, crate::specs::Room::list_count))]
+    fn remove_uncleared(&mut self, p: u32, o: ObjectId)
+        ensures stands { (l : List declared.DeathNotification) → AreIn self.old l → AreIn self.new
+            (filter (λ x. not (deaths_of.is_uncleared_on p o x)) l) }
+        ensures uses { ListUses self.old self.new 0 }
+    {
+        while let Some(i) = self.index_of_uncleared(p, o) {
+            self.remove_at(i);
+        }
+    }
+}
+
 impl DeathTable {
     ghost use Rattle.bd_deaths.specs.Stands.{DeathsAre};
     ghost use Rattle.bd_deaths.specs.Room.{Uses};
@@ -65,7 +96,7 @@ impl DeathTable {
         ensures { (l : List declared.DeathNotification) → DeathsAre self.now l
             → result ≡ list_any (λ x. (x.made == made) && local.at_name p o x.process x.object) l }
     {
-        is_death_at(self.made_part(made), p, o, made)
+        is_death_at(self.list.made_part(made), p, o, made)
     }
 
     /// Whether the notification that was made there stays, where the name is there or not.
@@ -74,32 +105,7 @@ impl DeathTable {
             → result ≡ list_any (λ x. x.made == made)
             (filter (λ x. not (local.at_name p o x.process x.object) || (x.cleared || named)) l) }
     {
-        death_stays(self.made_part(made), named, p, o, made)
-    }
-
-    // The index of the first uncleared notification on the name.
-    fn index_of_uncleared(&self, p: u32, o: ObjectId) -> Option<usize>
-        ensures within { IfSome result (λ i. i < vec_len self.now.deaths) }
-        ensures first { (l : List declared.DeathNotification) → DeathsAre self.now l
-            → MatchOption result (list_any (deaths_of.is_uncleared_on p o) l ≡ false)
-            (λ i. (d : declared.DeathNotification) → deaths_of.is_uncleared_on p o (slice_index_or l i d) ≡ true) }
-    {
-        let range = self.key_range(name_key(p, o));
-        let start = range.start;
-        let i = first_uncleared(part(&self.deaths, range), p, o)?;
-        Some(start + i)
-    }
-
-    // The uncleared notifications on the name go.
-    #[tactic(auto, unfolding(crate::specs::Room::death_room, crate::specs::Room::death_count))]
-    fn remove_uncleared(&mut self, p: u32, o: ObjectId)
-        ensures stands { (l : List declared.DeathNotification) → DeathsAre self.old l → DeathsAre self.new
-            (filter (λ x. not (deaths_of.is_uncleared_on p o x)) l) }
-        ensures uses { Uses self.old self.new 0 }
-    {
-        while let Some(i) = self.index_of_uncleared(p, o) {
-            self.remove_at(i);
-        }
+        death_stays(self.list.made_part(made), named, p, o, made)
     }
 
     /// The uncleared notifications on the name go, unless the name is there.
@@ -110,7 +116,7 @@ impl DeathTable {
         ensures uses { Uses self.old self.new 0 }
     {
         if !named {
-            self.remove_uncleared(p, o);
+            self.list.remove_uncleared(p, o);
         }
     }
 }

@@ -5,10 +5,10 @@ ghost use Rattle.std.specs.List.{between};
 ghost use Rattle.bd_space.specs.Deaths as deaths_of;
 ghost use Rattle.bd_space.specs.declared.space.DeathNotification as declared;
 ghost use Rattle.bd_deaths.specs.Keys as keys;
-ghost use Rattle.bd_deaths.specs.Stands.{IsRising, IsWithin, IsPartOf, DeathsAre};
+ghost use Rattle.bd_deaths.specs.Stands.{IsRising, IsWithin, IsPartOf, AreIn};
 
 use crate::key::Key;
-use crate::table::DeathTable;
+use crate::list::DeathList;
 use bd_space::DeathNotification;
 use std::ops::Range;
 
@@ -37,12 +37,12 @@ pub(crate) fn part(deaths: &[DeathNotification], range: Range<usize>) -> &[Death
     &deaths[range.start..range.end]
 }
 
-impl DeathTable {
+impl DeathList {
     /// Between which indices those of this place lie.
     pub(crate) fn made_range(&self, made: u32) -> Range<usize>
         ensures from { result.start ≤ result.end }
         ensures to { result.end ≤ vec_len self.now.deaths }
-        ensures within { (l : List declared.DeathNotification) → DeathsAre self.now l
+        ensures within { (l : List declared.DeathNotification) → AreIn self.now l
             → IsWithin (deaths_of.is_notification made) result.start result.end l }
     {
         if self.in_order {
@@ -56,7 +56,7 @@ impl DeathTable {
     pub(crate) fn key_range(&self, key: Key) -> Range<usize>
         ensures from { result.start ≤ result.end }
         ensures to { result.end ≤ vec_len self.now.deaths }
-        ensures within { (l : List declared.DeathNotification) → DeathsAre self.now l
+        ensures within { (l : List declared.DeathNotification) → AreIn self.now l
             → IsWithin (keys.has key) result.start result.end l }
     {
         match self.sharing.at(key) {
@@ -73,7 +73,7 @@ impl DeathTable {
 
     /// A part of the notifications with all of this place.
     pub(crate) fn made_part(&self, made: u32) -> &[DeathNotification]
-        ensures { (l : List declared.DeathNotification) → DeathsAre self.now l
+        ensures { (l : List declared.DeathNotification) → AreIn self.now l
             → IsPartOf (deaths_of.is_notification made) result.now l }
     {
         part(&self.deaths, self.made_range(made))
@@ -81,7 +81,7 @@ impl DeathTable {
 
     /// A part of the notifications with all that have this key.
     pub(crate) fn key_part(&self, key: Key) -> &[DeathNotification]
-        ensures { (l : List declared.DeathNotification) → DeathsAre self.now l
+        ensures { (l : List declared.DeathNotification) → AreIn self.now l
             → IsPartOf (keys.has key) result.now l }
     {
         part(&self.deaths, self.key_range(key))

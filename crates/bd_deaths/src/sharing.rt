@@ -1,8 +1,8 @@
 //! What is kept of the notifications with each name, and with each cookie.
 
-ghost use Rattle.std.specs.Prelude.{ℕ, ◌≡◌, ◌≤◌, ◌<◌, ◌+◌, ◌^◌, ◌++◌, ◌∷◌, ◌==◌, ◌&&◌, [], not, if◌then◌else◌};
-ghost use Rattle.std.specs.Prelude.{List, filter, length, slice_index_or, Some, None, OnOk, OnErr};
-ghost use Rattle.std.specs.List.{list_any, remove};
+ghost use Rattle.std.specs.Prelude.{ℕ, ◌≡◌, ◌≤◌, ◌<◌, ◌+◌, ◌^◌, ◌++◌, ◌∷◌, [], if◌then◌else◌};
+ghost use Rattle.std.specs.Prelude.{List, length, slice_index_or, Some, None, OnOk, OnErr};
+ghost use Rattle.std.specs.List.{remove};
 ghost use Rattle.std.specs.HashMap.{get, spare};
 ghost use Rattle.bd_words.specs.declared.key.WordKey.{WordKey};
 ghost use Rattle.bd_words.specs.Keys.{same_word};
@@ -14,16 +14,24 @@ ghost use Rattle.bd_deaths.specs.SharedAt.{group_at, AreShared, key_room};
 
 use crate::key::{Group, Key, NameKey, cookie_of, name_of, with_one, without_one};
 use bd_space::DeathNotification;
-use bd_words::{WordKey, WordMap};
+use bd_words::WordMap;
 use std::alloc::{AllocError, Global};
 use std::collections::HashMap;
 
 /// What is kept of the notifications with each key.
-#[derive(Drop)]
 pub(crate) struct Sharing {
     pub(crate) names: HashMap<NameKey, Group>,
     // A process picks its cookies: whatever it picks, a look stays short.
     pub(crate) cookies: WordMap<Group>,
+}
+
+impl Drop for Sharing {
+    fn drop(self) {
+        let Sharing {
+            names: _,
+            cookies: _,
+        } = self;
+    }
 }
 
 /// One more has its name.
@@ -98,29 +106,6 @@ fn take_cookie(cookies: &mut WordMap<Group>, x: &DeathNotification)
     }
 }
 
-/// No notification of the process has a name from now on.
-fn drop_names(names: &mut HashMap<NameKey, Group>, p: u32)
-    ensures at { (k : NameKey) → get keys.same_name names.new k
-        ≡ (if k.process == p then None else get keys.same_name names.old k) }
-    ensures room { spare names.old ≤ spare names.new }
-{
-    names.retain(|k, _| k.process != p);
-}
-
-/// The cookies go that the process has among these notifications.
-fn drop_cookies(cookies: &mut WordMap<Group>, deaths: &[DeathNotification], p: u32)
-    ensures at { (k : WordKey) → look cookies.new k
-        ≡ (if list_any (λ x. (x.process == p) && same_word (keys.cookie_of x) k) deaths.now then None
-        else look cookies.old k) }
-    ensures room { word_room cookies.old ≤ word_room cookies.new }
-{
-    for x in deaths {
-        if x.process == p {
-            cookies.remove(cookie_of(x));
-        }
-    }
-}
-
 impl Sharing {
     /// No notification has any key.
     pub(crate) fn new(alloc: Global) -> Sharing
@@ -175,16 +160,5 @@ impl Sharing {
     {
         take_name(&mut self.names, x);
         take_cookie(&mut self.cookies, x);
-    }
-
-    /// Of these notifications, those of the process go.
-    #[tactic(auto, unfolding(crate::specs::SharedAt::key_room))]
-    pub(crate) fn drop_process(&mut self, deaths: &[DeathNotification], p: u32)
-        ensures stands { AreShared self.old deaths.now
-            → AreShared self.new (filter (λ x. not (x.process == p)) deaths.now) }
-        ensures room { key_room self.old ≤ key_room self.new }
-    {
-        drop_names(&mut self.names, p);
-        drop_cookies(&mut self.cookies, deaths, p);
     }
 }

@@ -1,22 +1,29 @@
-//! The table, and its memory.
+//! The table: its memory and its changes.
 
-ghost use Rattle.std.specs.Prelude.{◌≡◌, ◌≤◌, ◌<◌, ◌+◌, ◌++◌, ◌∷◌, [], List, OnOk, OnErr, length, slice_get, vec_len};
-ghost use Rattle.std.specs.List.{remove as list_remove};
+ghost use Rattle.std.specs.Prelude.{◌≡◌, ◌==◌, ◌≤◌, ◌++◌, ◌∷◌, [], not, filter, true, List, OnOk, OnErr, length, slice_get};
+ghost use Rattle.bd_space.specs.Words.{changed};
+ghost use Rattle.bd_space.specs.Deaths as deaths_of;
+ghost use Rattle.bd_space.specs.ReadItems as reading;
 ghost use Rattle.bd_space.specs.declared.space.DeathNotification as declared;
 
-use crate::sharing::Sharing;
-use bd_space::DeathNotification;
+use crate::list::DeathList;
+use crate::listing::list_place;
+use bd_groups::Groups;
+use bd_space::{DeathNotification, Phase, Work};
 use std::alloc::{AllocError, Global};
 
 /// The death notifications of all processes.
-#[derive(Drop)]
 pub struct DeathTable {
-    pub(crate) deaths: Vec<DeathNotification>,
-    // Whether each was made after the one before, so that a place is found by halves.
-    pub(crate) in_order: bool,
-    // The place after the latest, while they are in order.
-    pub(crate) end: u64,
-    pub(crate) sharing: Sharing,
+    pub(crate) list: DeathList,
+    // The place of each, by its process and by its object. The places of some that went stay, until the groups are
+    // made anew.
+    pub(crate) groups: Groups<u32>,
+}
+
+impl Drop for DeathTable {
+    fn drop(self) {
+        let DeathTable { list: _, groups: _ } = self;
+    }
 }
 
 impl DeathTable {
@@ -28,10 +35,8 @@ impl DeathTable {
         ensures { DeathsAre result [] }
     {
         DeathTable {
-            deaths: Vec::new(alloc),
-            in_order: true,
-            end: 0,
-            sharing: Sharing::new(alloc),
+            list: DeathList::new(alloc),
+            groups: Groups::new(alloc),
         }
     }
 
@@ -44,8 +49,8 @@ impl DeathTable {
         // Memory was asked for: there was no room.
         ensures grown { OnErr result (more ≤ death_room self.old → ⊥) }
     {
-        self.deaths.reserve(more)?;
-        self.sharing.reserve(more)
+        self.list.reserve(more)?;
+        self.reserve_groups(more)
     }
 
     /// One notification more, after the others.
@@ -56,40 +61,64 @@ impl DeathTable {
             → DeathsAre self.new (l ++ x ∷ []) }
         ensures uses { Uses self.old self.new 1 }
     {
-        self.in_order = self.in_order && self.end <= x.made as u64;
-        self.end = x.made as u64 + 1;
-        self.sharing.add(&x);
-        self.deaths.push_reserved(x);
-        // A length is a usize: so no group's count wraps.
-        let _ = self.deaths.len();
-    }
-
-    /// The notification of this index goes.
-    #[tactic(auto, unfolding(crate::specs::Room::death_room, crate::specs::Room::death_count))]
-    pub(crate) fn remove_at(&mut self, i: usize)
-        requires { i < vec_len self.old.deaths }
-        ensures stands { (l : List declared.DeathNotification) → DeathsAre self.old l
-            → DeathsAre self.new (list_remove l i) }
-        ensures len { vec_len self.new.deaths + 1 ≡ vec_len self.old.deaths }
-        ensures uses { Uses self.old self.new 0 }
-    {
-        let x = self.deaths.remove(i);
-        self.sharing.take(&x);
+        list_place(&mut self.groups, &x);
+        self.list.push(x);
     }
 
     /// How many there are.
-    #[tactic(auto, unfolding(crate::specs::Room::death_count))]
+    #[tactic(auto, unfolding(crate::specs::Room::death_count, crate::specs::Room::list_count))]
     pub fn len(&self) -> usize
         ensures count { result ≡ death_count self.now }
         ensures deaths { (l : List declared.DeathNotification) → DeathsAre self.now l → result ≡ length l }
     {
-        self.deaths.len()
+        self.list.deaths.len()
     }
 
     /// The notification of an index, in the order in which they were made.
     pub fn at(&self, k: usize) -> Option<DeathNotification>
         ensures { (l : List declared.DeathNotification) → DeathsAre self.now l → result ≡ slice_get l k }
     {
-        self.deaths.get(k).copied()
+        self.list.deaths.get(k).copied()
+    }
+
+    /// Marks the notification as cleared.
+    #[tactic(auto, unfolding(crate::specs::Room::death_room, crate::specs::Room::death_count))]
+    pub fn mark_cleared(&mut self, made: u32)
+        ensures stands { (l : List declared.DeathNotification) → DeathsAre self.old l
+            → DeathsAre self.new (changed (deaths_of.is_notification made) (λ x. record x { cleared = true }) l) }
+        ensures uses { Uses self.old self.new 0 }
+    {
+        self.list.mark_cleared(made);
+    }
+
+    /// The notification is this far.
+    #[tactic(auto, unfolding(crate::specs::Room::death_room, crate::specs::Room::death_count))]
+    pub fn set_phase(&mut self, made: u32, phase: Phase)
+        ensures stands { (l : List declared.DeathNotification) → DeathsAre self.old l
+            → DeathsAre self.new (changed (deaths_of.is_notification made) (λ x. record x { phase = phase }) l) }
+        ensures uses { Uses self.old self.new 0 }
+        ensures count { death_count self.new ≡ death_count self.old }
+    {
+        self.list.set_phase(made, phase);
+    }
+
+    /// The notification goes.
+    #[tactic(auto, unfolding(crate::specs::Room::death_room, crate::specs::Room::death_count))]
+    pub fn remove(&mut self, made: u32)
+        ensures stands { (l : List declared.DeathNotification) → DeathsAre self.old l
+            → DeathsAre self.new (filter (λ x. not (deaths_of.is_notification made x)) l) }
+        ensures uses { Uses self.old self.new 0 }
+    {
+        self.list.remove(made);
+    }
+
+    /// The notifications of which these work items told are told.
+    #[tactic(auto, unfolding(crate::specs::Room::death_room, crate::specs::Room::death_count))]
+    pub fn read(&mut self, taken: &[Work])
+        ensures stands { (l : List declared.DeathNotification) → DeathsAre self.old l
+            → DeathsAre self.new (reading.told_deaths taken.now l) }
+        ensures uses { Uses self.old self.new 0 }
+    {
+        self.list.read(taken);
     }
 }

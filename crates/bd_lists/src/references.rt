@@ -1,9 +1,8 @@
 //! References to objects: who refers to which, weakly or strongly, and what each buffer holds.
 
-ghost use Rattle.std.specs.Prelude.{Bool, ◌≡◌, ◌==◌, ◌&&◌, ◌||◌, ◌+◌, ◌<◌, ◌≤◌};
+ghost use Rattle.std.specs.Prelude.{◌≡◌, ◌==◌, ◌&&◌, ◌||◌, ◌+◌, ◌<◌, ◌≤◌};
 ghost use Rattle.std.specs.Prelude.{◌++◌, ◌∷◌, [], not, map, filter, position, vec_len, vec_capacity, OnOk};
 ghost use Rattle.std.specs.List.{list_any};
-ghost use Rattle.bd_space.specs.declared.step.ObjectId as declared;
 ghost use Rattle.bd_space.specs.Words as words;
 ghost use Rattle.bd_space.specs.Words.{without_first};
 ghost use Rattle.bd_space.specs.References as refer;
@@ -146,21 +145,21 @@ impl ReferenceList {
         Ok(())
     }
 
-    /// The references go that go with the process: it asked for them, they lie in its window, or they are its own as
-    /// owner. The caller says which objects it owns.
-    pub fn drop_with_process<F: Fn(ObjectId) -> bool>(&mut self, p: u32, owned: F)
-        requires { F.IsAlwaysCallable owned }
-        ensures { (is_owned : declared.ObjectId → Bool)
-            → ((o : declared.ObjectId) (b : Bool) → F.post owned o b → b ≡ is_owned o)
-            → self.new.references.items ≡ filter (λ r. not (refer.is_asked_by p r.holder
-            || (refer.is_in_window p r.holder || (is_owned r.object && refer.is_of_owner r.holder))))
-            self.old.references.items }
+    /// The references go that go with the process: it asked for them, or they lie in its window.
+    pub fn drop_with_process(&mut self, p: u32)
+        ensures { self.new.references.items
+            ≡ filter (λ r. not (refer.is_asked_by p r.holder || refer.is_in_window p r.holder)) self.old.references.items }
     {
-        self.references.retain(|r| {
-            !(is_asked_by(p, r.holder)
-                || is_in_window(p, r.holder)
-                || (is_of_owner(r.holder) && owned(r.object)))
-        });
+        self.references.retain(|r| !(is_asked_by(p, r.holder) || is_in_window(p, r.holder)));
+    }
+
+    /// The references go that an owner has to its own object: what it is to acknowledge, and the context manager's.
+    pub fn drop_of_owner(&mut self, o: ObjectId)
+        ensures { self.new.references.items
+            ≡ filter (λ r. not (words.same r.object o && refer.is_of_owner r.holder)) self.old.references.items }
+    {
+        self.references
+            .retain(|r| !(r.object == o && is_of_owner(r.holder)));
     }
 
     /// Puts the objects of the references that the process asked for, or that lie in its window, after what is there.

@@ -3,6 +3,7 @@ mod Freeing
 pub mod FreeNumbers
 mod Given
 pub mod Limits
+mod Listing
 mod Lookups
 mod Marking
 mod Moved

@@ -9,7 +9,7 @@ use Rattle.bd_space.specs.declared.space.Name.{Name}
 use Rattle.bd_space.specs.Words.{same}
 use Rattle.bd_space.specs.Names.{named_in, number_in}
 use Rattle.bd_names.specs.Sound.{Sound, has_number, has_object}
-use Rattle.bd_names.proofs.Singles.{find-filter, few-push, few-filter, found-passes, only, none-count, none-dropped}
+use Rattle.bd_names.proofs.Singles.{find-filter, few-push, few-filter, found-passes, only, none-count, none-dropped, same-dropped}
 use Rattle.bd_names.proofs.Lookups.{both-ways, turned}
 
 both : (a b : Bool) → (a && b) ≡ true → (a ≡ true) × (b ≡ true)
@@ -26,6 +26,9 @@ same-eq a b h =
     let q : a.index ≡ b.index = eqb-true a.index b.index k.1 in
     (λ i. record { place = p i; index = q i })
 
+same-self : (o : ObjectId) → same o o ≡ true
+same-self o = and-both (eqb o.place o.place) (eqb o.index o.index) (eq-eqb o.place o.place refl) (eq-eqb o.index o.index refl)
+
 find-push : {A : Type 0} (key : A → Bool) (xs : List A) (x : A) → find key (xs ++ x ∷ []) ≡ option_or (find key xs) (cond (key x) (Some x) None)
 find-push key xs x = find-append key xs (x ∷ [])
 
@@ -39,6 +42,10 @@ map-push f (Some y) x false h = refl
 pub none-map : {A B : Type 0} (f : A → B) (o : Option A) → option_map f o ≡ None → o ≡ None
 none-map f None h = refl
 none-map f (Some x) h = absurd (cc)
+
+some-map : {A B : Type 0} (f : A → B) (o : Option A) (y : B) → option_map f o ≡ Some y → (x : A) × (o ≡ Some x) × (f x ≡ y)
+some-map f None y h = absurd (cc)
+some-map f (Some x) y h = (x, refl, cc)
 
 -- ---- a name comes in with a number that is free, for an object without a name
 
@@ -112,11 +119,7 @@ module _ (names : List Name) (h : Sound names) (p : ℕ) (o : ObjectId) where
 
   module _ (n : ℕ) (has : number_in names p o ≡ Some n) where
     there : (m : Name) × (find (has_object p o) names ≡ Some m) × (m.number ≡ n)
-    there = at (find (has_object p o) names) refl has
-      where
-        at : (r : Option Name) → find (has_object p o) names ≡ r → option_map (λ (k : Name). k.number) r ≡ Some n → (m : Name) × (find (has_object p o) names ≡ Some m) × (m.number ≡ n)
-        at None e f = absurd (cc)
-        at (Some m) e f = (m, e, cc)
+    there = some-map (λ (k : Name). k.number) (find (has_object p o) names) n has
 
     -- a name of that number is the one of that object
     same-name : (q k : ℕ) (m : Name) → find (has_number q k) names ≡ Some m → has_object p o m ≡ (eqb p q && eqb n k)
@@ -150,17 +153,30 @@ module _ (names : List Name) (h : Sound names) (p : ℕ) (o : ObjectId) where
     pub gone-number : (q : ℕ) (x : ObjectId) → number_in (filter keep names) q x ≡ cond (eqb p q && same o x) None (number_in names q x)
     gone-number q x = gone-found (λ (m : Name). m.number) (has_object q x) keep (eqb p q && same o x) names (h.one_name q x) (λ m e. ap not (of-both q x m (found-passes (has_object q x) names m e)))
 
--- ---- all names of p
+-- ---- the name with a number of p
 
-module _ (names : List Name) (h : Sound names) (p : ℕ) where
-  abbrev others : Name → Bool
-  others m = not (eqb m.process p)
+module _ (names : List Name) (h : Sound names) (p n : ℕ) where
+  -- where there is none
+  pub no-number : named_in names p n ≡ None → filter (λ m. not (has_number p n m)) names ≡ names
+  no-number e =
+      let none = none-count (has_number p n) names (none-map (λ (k : Name). k.object) (find (has_number p n) names) e) in
+      none-dropped (has_number p n) names (omega arith)
 
-  of-process : (q : ℕ) (m : Name) (b : Bool) → (eqb m.process q && b) ≡ true → others m ≡ not (eqb p q)
-  of-process q m b t = let e : m.process ≡ q = eqb-true m.process q (both (eqb m.process q) b t).0 in ap not (ap (λ k. eqb k p) e ∙ turned q p)
+  module _ (o : ObjectId) (has : named_in names p n ≡ Some o) where
+    numbered : (m : Name) × (find (has_number p n) names ≡ Some m) × (m.object ≡ o)
+    numbered = some-map (λ (k : Name). k.object) (find (has_number p n) names) o has
 
-  pub process-object : (q k : ℕ) → named_in (filter others names) q k ≡ cond (eqb p q) None (named_in names q k)
-  process-object q k = gone-found (λ (m : Name). m.object) (has_number q k) others (eqb p q) names (h.one_number q k) (λ m e. of-process q m (eqb m.number k) (found-passes (has_number q k) names m e))
+    tests : (eqb numbered.0.process p ≡ true) × (eqb numbered.0.number n ≡ true)
+    tests = both (eqb numbered.0.process p) (eqb numbered.0.number n) (found-passes (has_number p n) names numbered.0 numbered.1)
 
-  pub process-number : (q : ℕ) (x : ObjectId) → number_in (filter others names) q x ≡ cond (eqb p q) None (number_in names q x)
-  process-number q x = gone-found (λ (m : Name). m.number) (has_object q x) others (eqb p q) names (h.one_name q x) (λ m e. of-process q m (same m.object x) (found-passes (has_object q x) names m e))
+    by-object : find (has_object p o) names ≡ Some numbered.0
+    by-object =
+        only (has_object p o) (has_number p n) names numbered.0 (h.one_name p o) numbered.1
+        (and-both (eqb numbered.0.process p) (same numbered.0.object o) tests.0 (rw numbered.2 (same-self o)))
+
+    pub number-of-it : number_in names p o ≡ Some n
+    number-of-it = ap (λ x. option_map (λ (k : Name). k.number) x) by-object ∙ ap Some (eqb-true numbered.0.number n tests.1)
+
+    -- it is the name of the object
+    pub same-gone : filter (λ m. not (has_object p o m)) names ≡ filter (λ m. not (has_number p n m)) names
+    same-gone = same-dropped (has_object p o) (has_number p n) names numbered.0 (h.one_name p o) (h.one_number p n) by-object numbered.1

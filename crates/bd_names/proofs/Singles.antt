@@ -104,3 +104,20 @@ only key other (y ∷ xs) x few h t = at (key y) (other y) refl refl h (λ k l. 
         absurd (let c = count-yes key y xs e in let none = count-none key xs (omega arith) in let some = rest (omega arith) h in let z : None ≡ Some x = sym none ∙ some in cc)
     at false true e f h rest = let s : y ≡ x = cc in absurd (let u = sym e ∙ ap key s ∙ t in cc)
     at false false e f h rest = rest (let c = count-no key y xs e in omega arith) h
+
+-- two tests that find one element each, and the same, drop it alike
+pub same-dropped : {A : Type 0} (a b : A → Bool) (xs : List A) (x : A) → count_by a xs ≤ 1 → count_by b xs ≤ 1 → find a xs ≡ Some x → find b xs ≡ Some x
+    → filter (λ y. not (a y)) xs ≡ filter (λ y. not (b y)) xs
+same-dropped a b [] x few less h k = absurd (cc)
+same-dropped a b (y ∷ xs) x few less h k = at (a y) (b y) refl refl h k (λ c d u v. same-dropped a b xs x c d u v)
+  where
+    at : (s t : Bool) → a y ≡ s → b y ≡ t → cond s (Some y) (find a xs) ≡ Some x → cond t (Some y) (find b xs) ≡ Some x
+        → (count_by a xs ≤ 1 → count_by b xs ≤ 1 → find a xs ≡ Some x → find b xs ≡ Some x → filter (λ z. not (a z)) xs ≡ filter (λ z. not (b z)) xs)
+        → cond (not s) (y ∷ filter (λ z. not (a z)) xs) (filter (λ z. not (a z)) xs) ≡ cond (not t) (y ∷ filter (λ z. not (b z)) xs) (filter (λ z. not (b z)) xs)
+    at true true e f h k rest =
+        let c = count-yes a y xs e in
+        let d = count-yes b y xs f in
+        none-dropped a xs (omega arith) ∙ sym (none-dropped b xs (omega arith))
+    at true false e f h k rest = absurd (let s : y ≡ x = cc in let t = found-passes b xs x k in let u = sym f ∙ ap b s ∙ t in cc)
+    at false true e f h k rest = absurd (let s : y ≡ x = cc in let t = found-passes a xs x h in let u = sym e ∙ ap a s ∙ t in cc)
+    at false false e f h k rest = ap (λ ys. y ∷ ys) (rest (let c = count-no a y xs e in omega arith) (let d = count-no b y xs f in omega arith) h k)

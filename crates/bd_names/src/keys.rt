@@ -111,20 +111,3 @@ pub fn take_number(numbers: &mut HashMap<ObjectKey, u32>, p: u32, o: ObjectId)
 {
     let _gone = numbers.remove(&object_key(p, o));
 }
-
-/// The process has no numbers from now on.
-pub fn take_objects_of(objects: &mut HashMap<NumberKey, ObjectId>, p: u32)
-    ensures at { (q k : ℕ) → object_at objects.new q k ≡ (if p == q then None else object_at objects.old q k) }
-    ensures spare { spare objects.old ≤ spare objects.new }
-{
-    objects.retain(|k, _| k.process != p);
-}
-
-/// No object has a number of the process from now on.
-pub fn take_numbers_of(numbers: &mut HashMap<ObjectKey, u32>, p: u32)
-    ensures at { (q : ℕ) (x : declared.ObjectId) → number_at numbers.new q x
-        ≡ (if p == q then None else number_at numbers.old q x) }
-    ensures spare { spare numbers.old ≤ spare numbers.new }
-{
-    numbers.retain(|k, _| k.process != p);
-}

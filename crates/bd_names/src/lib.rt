@@ -1,6 +1,7 @@
 //! Names: the numbers (handles) by which processes know the objects of others.
 #![tactic(auto)]
 
+mod held;
 mod keys;
 mod marks;
 mod names;

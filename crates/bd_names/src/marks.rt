@@ -96,13 +96,4 @@ impl Marks {
             self.unmark(p, n - 1);
         }
     }
-
-    /// All numbers of the process go out of use.
-    pub fn unmark_process(&mut self, p: u32)
-        ensures stands { (used : ℕ → ℕ → Bool) → Marked self.old used → Marked self.new (λ q j. not (p == q) && used q j) }
-        ensures uses { mark_room self.old ≤ mark_room self.new }
-    {
-        self.used.clear_process(p);
-        self.full.clear_process(p);
-    }
 }

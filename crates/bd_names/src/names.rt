@@ -4,24 +4,33 @@ ghost use Rattle.std.specs.Prelude.{◌≡◌, ◌==◌, ◌≤◌, ◌<◌, ◌
 ghost use Rattle.bd_space.specs.declared.space.Name as declared;
 ghost use Rattle.bd_space.specs.Names as names_of;
 ghost use Rattle.bd_names.specs.Numbers as numbers;
-ghost use Rattle.bd_names.specs.Sound.{has_object};
-ghost use Rattle.bd_names.specs.Named.{Named, index_room};
+ghost use Rattle.bd_names.specs.Sound.{has_number, has_object};
+ghost use Rattle.bd_names.specs.Named.{Named, HasNumbers, index_room};
 
 use crate::keys::{
-    NumberKey, ObjectKey, number_of, object_of, put_number, put_object, take_number,
-    take_numbers_of, take_object, take_objects_of,
+    NumberKey, ObjectKey, number_of, object_of, put_number, put_object, take_number, take_object,
 };
 use crate::marks::Marks;
+use bd_groups::Members;
 use bd_space::{Name, ObjectId};
 use std::alloc::{AllocError, Global};
 use std::collections::HashMap;
 
 /// The names of all processes.
-#[derive(Drop)]
 pub struct Names {
     pub(crate) objects: HashMap<NumberKey, ObjectId>,
     pub(crate) numbers: HashMap<ObjectKey, u32>,
     pub(crate) marks: Marks,
+}
+
+impl Drop for Names {
+    fn drop(self) {
+        let Names {
+            objects: _,
+            numbers: _,
+            marks: _,
+        } = self;
+    }
 }
 
 impl Names {
@@ -131,13 +140,25 @@ impl Names {
         }
     }
 
-    /// All names of the process go.
-    pub fn forget_process(&mut self, p: u32)
-        ensures stands { (l : List declared.Name) → Named self.old l → Named self.new (filter (λ m. not (m.process == p)) l) }
+    // The process's name with this number goes, if it has one.
+    fn forget_number(&mut self, p: u32, n: u32)
+        ensures stands { (l : List declared.Name) → Named self.old l → Named self.new (filter (λ m. not (has_number p n m)) l) }
         ensures uses { index_room self.old ≤ index_room self.new }
     {
-        take_objects_of(&mut self.objects, p);
-        take_numbers_of(&mut self.numbers, p);
-        self.marks.unmark_process(p);
+        match self.named(p, n) {
+            Some(o) => self.remove(p, o, n),
+            None => {}
+        }
+    }
+
+    /// All names of the process go, whose numbers are among these.
+    pub fn forget_process(&mut self, p: u32, numbers: Members<'_, u32>)
+        ensures stands { (l : List declared.Name) → Named self.old l → HasNumbers numbers.entry p l
+            → Named self.new (filter (λ m. not (m.process == p)) l) }
+        ensures uses { index_room self.old ≤ index_room self.new }
+    {
+        for n in numbers {
+            self.forget_number(p, n);
+        }
     }
 }

@@ -8,8 +8,10 @@ ghost use Rattle.bd_space.specs.Notices as notices;
 ghost use Rattle.bd_names.specs.Numbers.{new_number, with_number, IsFull};
 ghost use Rattle.bd_names.specs.Stands.{NamesSince, NamesAre, name_room, Uses};
 
+use crate::held::reserve_held;
 use crate::names::Names;
 use crate::numbers::NumbersFull;
+use bd_groups::{Group, Groups};
 use bd_space::{Name, ObjectId};
 use std::alloc::{AllocError, Global};
 
@@ -17,6 +19,8 @@ use std::alloc::{AllocError, Global};
 #[derive(Drop)]
 pub struct NameTable {
     pub(crate) names: Names,
+    // The numbers of each process's names; some may be of names that are gone.
+    pub(crate) held: Groups<u32>,
     pub(crate) given: Vec<Name>,
 }
 
@@ -27,6 +31,7 @@ impl NameTable {
     {
         NameTable {
             names: Names::new(alloc),
+            held: Groups::new(alloc),
             given: Vec::new(alloc),
         }
     }
@@ -41,6 +46,7 @@ impl NameTable {
         ensures grown { OnErr result (more ≤ name_room self.old → ⊥) }
     {
         self.names.reserve(more)?;
+        reserve_held(&mut self.held, &self.names, *self.given.allocator(), more)?;
         self.given.reserve(more)
     }
 
@@ -118,6 +124,7 @@ impl NameTable {
         ensures uses { Uses self.old self.new 1 }
     {
         self.names.enter(m);
+        self.held.push(Group::Process { made: m.process }, m.number);
         self.given.push_reserved(m);
     }
 
@@ -171,6 +178,8 @@ impl NameTable {
         ensures stands { (l : List declared.Name) → NamesAre self.old l → NamesAre self.new (filter (λ m. not (m.process == p)) l) }
         ensures uses { Uses self.old self.new 0 }
     {
-        self.names.forget_process(p);
+        let group = Group::Process { made: p };
+        self.names.forget_process(p, self.held.of(group));
+        self.held.forget(group);
     }
 }

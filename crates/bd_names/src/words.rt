@@ -125,14 +125,6 @@ impl Words {
         }
     }
 
-    /// The process's set becomes empty.
-    pub fn clear_process(&mut self, p: u32)
-        ensures words { (q v : ℕ) → word_at self.new q v ≡ (if p == q then 0 else word_at self.old q v) }
-        ensures spare { spare self.old.words ≤ spare self.new.words }
-    {
-        self.words.retain(|k, _| k.process != p);
-    }
-
     /// The least number below 2 ^ 26 that isn't in the process's set.
     pub fn first_clear(&self, p: u32) -> Option<u32>
         ensures { MatchOption result ((j : ℕ) → j < 2 ^ 26 → bit_of (word_at self.now) p j ≡ 1)

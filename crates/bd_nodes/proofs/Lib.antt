@@ -2,6 +2,6 @@ pub mod Apart
 pub mod Changes
 pub mod Distinct
 pub mod Found
+pub mod Listed
 pub mod Maps
-pub mod Walks
 pub mod Tests

@@ -1,6 +1,8 @@
 -- By what an object is found: its identity, or its owner and the ptr by which that knows it.
-use Rattle.std.specs.Prelude.{Bool, cond, Option, Some, None}
+use Rattle.std.specs.Prelude.{ℕ, Bool, cond, Option, Some, None}
 use Rattle.bd_words.specs.declared.key.WordKey.{WordKey}
+use Rattle.bd_groups.specs.declared.group.Group.{Group}
+use Rattle.bd_groups.specs.declared.group.Group.TheVariants as groups
 use Rattle.bd_space.specs.declared.step.ObjectId.{ObjectId}
 use Rattle.bd_space.specs.declared.space.Object.{Object}
 use Rattle.bd_nodes.specs.declared.key.NodeKey.{NodeKey}
@@ -17,6 +19,10 @@ id_key x = node_key x.id
 
 abbrev pub own_key : Object → WordKey
 own_key x = record { process = x.owner; word = x.ptr }
+
+-- where a process's objects are listed
+abbrev pub owner_group : ℕ → Group
+owner_group p = groups.Process p
 
 -- what is there, if it passes
 abbrev pub kept : {A : Type 0} → (A → Bool) → Option A → Option A

@@ -2,10 +2,11 @@
 use Rattle.std.specs.Prelude.{ℕ, ◌+◌, ◌≤◌, min}
 use Rattle.std.specs.HashMap.{hash_map_len, spare}
 use Rattle.bd_words.specs.Look.{word_room}
+use Rattle.bd_groups.specs.Members.{group_room}
 use Rattle.bd_nodes.specs.declared.table.NodeTable.{NodeTable}
 
 unfoldable pub node_room : NodeTable → ℕ
-node_room t = min (spare t.objects) (word_room t.owns)
+node_room t = min (min (spare t.objects) (word_room t.owns)) (group_room t.owned)
 
 unfoldable pub node_count : NodeTable → ℕ
 node_count t = hash_map_len t.objects

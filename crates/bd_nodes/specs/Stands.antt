@@ -1,11 +1,15 @@
 -- What a table of objects stands for: the list of the objects of a space.
 use Rattle.std.specs.Prelude.{◌≡◌, Bool, List, [], ◌∷◌, Option, None, find, length}
-use Rattle.std.specs.HashMap.{get, hash_map_len}
-use Rattle.std.specs.Option.{option_map}
+use Rattle.std.specs.HashMap.{HashMap, get, hash_map_len}
+use Rattle.std.specs.Option.{option_map, IfSome}
 use Rattle.bd_words.specs.Keys.{same_word}
 use Rattle.bd_words.specs.Look.{look}
+use Rattle.bd_groups.specs.declared.groups.Groups.{Groups}
+use Rattle.bd_groups.specs.Members.{HasMember}
+use Rattle.bd_space.specs.declared.step.ObjectId.{ObjectId}
 use Rattle.bd_space.specs.declared.space.Object.{Object}
-use Rattle.bd_nodes.specs.Keys.{same_node, id_key, own_key}
+use Rattle.bd_nodes.specs.declared.key.NodeKey.{NodeKey}
+use Rattle.bd_nodes.specs.Keys.{same_node, id_key, own_key, owner_group}
 use Rattle.bd_nodes.specs.declared.table.NodeTable.{NodeTable}
 
 -- no two have one key
@@ -17,12 +21,21 @@ AreDistinct key eq (x ∷ xs) = (find (λ y. eq (key y) (key x)) xs ≡ None) ×
 abbrev pub Finds : {A K V : Type 0} → (K → K → Bool) → (A → K) → (A → V) → (K → Option V) → List A → Type 0
 Finds {K = K} eq key shown m xs = (k : K) → m k ≡ option_map shown (find (λ x. eq (key x) k) xs)
 
+-- the object is listed among those of its owner
+abbrev pub IsListed : Groups ObjectId → Object → Type 0
+IsListed g x = HasMember g (owner_group x.owner) x.id
+
+-- each object of the map is
+abbrev pub Lists : {S : Type 0} → HashMap NodeKey Object S → Groups ObjectId → Type 0
+Lists m g = (k : NodeKey) → IfSome (get same_node m k) (IsListed g)
+
 pub record NodesAre (t : NodeTable) (objects : List Object) : Type 0 where
   pub found : Finds same_node id_key (λ x. x) (get same_node t.objects) objects
   pub owned : Finds same_word own_key (λ x. x.id) (look t.owns) objects
   pub count : hash_map_len t.objects ≡ length objects
   pub ids : AreDistinct id_key same_node objects
   pub owns : AreDistinct own_key same_word objects
+  pub listed : Lists t.objects t.owned
 
 -- the new table stands for what the old one does
 abbrev pub IsKept : NodeTable → NodeTable → Type 0

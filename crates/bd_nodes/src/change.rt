@@ -3,7 +3,7 @@
 ghost use Rattle.std.specs.Prelude.{◌≡◌, ◌≤◌, ◌++◌, ◌∷◌, [], not, filter, length, List};
 ghost use Rattle.bd_space.specs.Words as words;
 
-use crate::key::{node_key, own_key};
+use crate::key::{node_key, own_key, owner_group};
 use crate::table::NodeTable;
 use bd_space::{Object, ObjectId};
 
@@ -22,6 +22,7 @@ impl NodeTable {
         ensures uses { Uses self.old self.new 1 }
     {
         self.owns.insert(own_key(&x), x.id);
+        self.owned.push(owner_group(x.owner), x.id);
         let _ = self.objects.insert(node_key(x.id), x);
     }
 

@@ -3,6 +3,7 @@
 ghost use Rattle.std.specs.Prelude.{◌≡◌};
 ghost use Rattle.bd_nodes.specs.Keys as keys;
 
+use bd_groups::Group;
 use bd_space::{Object, ObjectId};
 use bd_words::WordKey;
 
@@ -30,4 +31,11 @@ pub(crate) fn own_key(x: &Object) -> WordKey
         process: x.owner,
         word: x.ptr,
     }
+}
+
+/// Where a process's objects are listed.
+pub(crate) fn owner_group(p: u32) -> Group
+    ensures { result ≡ keys.owner_group p }
+{
+    Group::Process { made: p }
 }

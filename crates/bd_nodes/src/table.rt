@@ -1,25 +1,41 @@
 //! The table, and its memory.
 
-ghost use Rattle.std.specs.Prelude.{◌≡◌, ◌≤◌, [], List, length, OnOk, OnErr};
+ghost use Rattle.std.specs.Prelude.{◌≡◌, ◌≤◌, [], List, length, OnOk, OnErr, IfOk};
 
-use crate::key::NodeKey;
+use crate::key::{NodeKey, owner_group};
+use bd_groups::Groups;
 use bd_space::{Object, ObjectId};
 use bd_words::WordMap;
 use std::alloc::{AllocError, Global};
 use std::collections::HashMap;
 
 /// The objects of all processes.
-#[derive(Drop)]
 pub struct NodeTable {
     pub(crate) objects: HashMap<NodeKey, Object>,
     // Each object's identity, by its owner and ptr. A process picks its ptrs: whatever it picks, a look stays short.
     pub(crate) owns: WordMap<ObjectId>,
+    // Each object's identity among those of its owner. Some may be of objects that went.
+    pub(crate) owned: Groups<ObjectId>,
+    pub(crate) alloc: Global,
+}
+
+// Written out: one that is derived would be proved again in every crate that holds such a table.
+impl Drop for NodeTable {
+    fn drop(self) {
+        let NodeTable {
+            objects: _,
+            owns: _,
+            owned: _,
+            alloc: _,
+        } = self;
+    }
 }
 
 impl NodeTable {
     ghost use Rattle.bd_space.specs.declared.space.Object.{Object};
-    ghost use Rattle.bd_nodes.specs.Stands.{NodesAre, IsKept};
+    ghost use Rattle.bd_nodes.specs.Stands.{NodesAre, IsKept, Lists};
     ghost use Rattle.bd_nodes.specs.Room.{Uses, node_room, node_count};
+    ghost use Rattle.bd_groups.specs.Members.{group_room};
 
     /// An empty table.
     pub fn new(alloc: Global) -> NodeTable
@@ -28,6 +44,8 @@ impl NodeTable {
         NodeTable {
             objects: HashMap::new(alloc),
             owns: WordMap::new(alloc),
+            owned: Groups::new(alloc),
+            alloc,
         }
     }
 
@@ -42,7 +60,26 @@ impl NodeTable {
         ensures grown { OnErr result (more ≤ node_room self.old → ⊥) }
     {
         self.objects.reserve(more)?;
-        self.owns.reserve(more)
+        self.owns.reserve(more)?;
+        if self.owned.is_worn(self.objects.len(), more) {
+            self.owned = self.renewed(more)?;
+            return Ok(());
+        }
+        self.owned.reserve(more)
+    }
+
+    // The objects of each process in new memory, without those that went, and with room for so many more.
+    fn renewed(&self, more: usize) -> Result<Groups<ObjectId>, AllocError>
+        ensures lists { IfOk result (Lists self.now.objects) }
+        ensures room { IfOk result (λ g. more ≤ group_room g) }
+    {
+        let room = self.objects.len().checked_add(more).ok_or(AllocError)?;
+        let mut fresh = Groups::new(self.alloc);
+        fresh.reserve(room)?;
+        for x in self.objects.values() {
+            fresh.push(owner_group(x.owner), x.id);
+        }
+        Ok(fresh)
     }
 
     /// How many objects there are.

@@ -1,5 +1,5 @@
 -- What goes with a process is on objects that it owns, or goes whoever owns it.
-use Rattle.std.proofs.Common.{◌≡◌, ℕ, ◌==◌, Bool, true, false, not, ◌&&◌, ◌||◌, cond, List, [], ◌∷◌, ◌++◌, map, filter, refl, ap, sym, ◌∙◌, subst, inl, inr, ◌⊎◌}
+use Rattle.std.proofs.Common.{◌≡◌, ℕ, ◌==◌, Bool, true, false, ◌&&◌, ◌||◌, cond, List, [], ◌∷◌, ◌++◌, map, filter, refl, sym, ◌∙◌, subst, inl, inr, ◌⊎◌}
 use Rattle.std.specs.List.{list_any}
 use Rattle.std.proofs.lemmas.Bool.{and_parts, or_left, or_right}
 use Rattle.std.proofs.lemmas.List.Folds.{list_any-append}
@@ -42,7 +42,7 @@ module _ (p : ℕ) (objects : List Object) where
   abbrev goes_anyway : Reference → Bool
   goes_anyway r = is_asked_by p r.holder || is_in_window p r.holder
 
-  among-owned : (xs : List Object) (o : ObjectId) → owned_in xs p o ≡ true → is_among (map (λ x. x.id) (filter (λ x. x.owner == p) xs)) o ≡ true
+  pub among-owned : (xs : List Object) (o : ObjectId) → owned_in xs p o ≡ true → is_among (map (λ x. x.id) (filter (λ x. x.owner == p) xs)) o ≡ true
   among-owned [] o h = absurd (cc)
   among-owned (x ∷ xs) o h = elim (either (same x.id o && (x.owner == p)) (owned_in xs p o) h) [
     | inl e ↦ (let k = and_parts (same x.id o) (x.owner == p) e in
@@ -106,19 +106,3 @@ module _ (p : ℕ) (objects : List Object) where
     | inl e ↦ or_left _ _ (or_left (goes_anyway r) _ e)
     | inr k ↦ or_right _ _ (any-dropped rs k)
   ]
-
-  -- ---- what is dropped, as a table of references says it
-
-  or_assoc : (x y z : Bool) → (x || (y || z)) ≡ (x || y || z)
-  or_assoc true y z = refl
-  or_assoc false y z = refl
-
-  abbrev goes_with : Reference → Bool
-  goes_with r = is_asked_by p r.holder || (is_in_window p r.holder || (owned_in objects p r.object && is_of_owner r.holder))
-
-  pub left : (refs : List Reference) → filter (λ r. not (goes_with r)) refs ≡ filter (λ r. not (is_dropped_with objects p r)) refs
-  left [] = refl
-  left (r ∷ rs) =
-      let e : goes_with r ≡ is_dropped_with objects p r = or_assoc (is_asked_by p r.holder) (is_in_window p r.holder) _ in
-      ap (λ b. cond (not b) (r ∷ filter (λ x. not (goes_with x)) rs) (filter (λ x. not (goes_with x)) rs)) e
-      ∙ ap (λ xs. cond (not (is_dropped_with objects p r)) (r ∷ xs) xs) (left rs)

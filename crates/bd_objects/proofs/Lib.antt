@@ -13,3 +13,4 @@ pub mod AtName
 pub mod Lost
 pub mod Covering
 pub mod Later
+pub mod Owned

@@ -1,12 +1,45 @@
 //! What goes when a process ends.
 
-ghost use Rattle.std.specs.Prelude.{◌≡◌, ◌==◌, ◌||◌, ◌++◌, true, map, filter, OnOk, OnErr};
+ghost use Rattle.std.specs.Prelude.{◌≡◌, ◌==◌, ◌≤◌, ◌&&◌, ◌||◌, ◌++◌, true, not, map, filter, List, OnOk, OnErr};
 ghost use Rattle.std.specs.List.{list_any};
+ghost use Rattle.bd_space.specs.declared.space.Object.{Object};
+ghost use Rattle.bd_space.specs.declared.space.Reference.{Reference};
+ghost use Rattle.bd_space.specs.Words.{same};
+ghost use Rattle.bd_space.specs.References.{owned_in, is_of_owner};
 ghost use Rattle.bd_space.specs.ProcessExits as process_exits;
+ghost use Rattle.bd_nodes.specs.Stands.{NodesAre};
+ghost use Rattle.bd_references.specs.Stands.{ReferencesAre};
+ghost use Rattle.bd_references.specs.Room.{reference_room};
 
 use crate::table::ObjectTable;
+use bd_nodes::NodeTable;
+use bd_references::ReferenceTable;
 use bd_space::ObjectId;
 use std::alloc::AllocError;
+
+// The references go that the process has as owner of this object, if it owns it.
+fn drop_of_owner(references: &mut ReferenceTable, nodes: &NodeTable, p: u32, o: ObjectId)
+    ensures stands { (objects : List Object) (l : List Reference) → NodesAre nodes.now objects
+        → ReferencesAre references.old l → ReferencesAre references.new
+        (filter (λ r. not ((owned_in objects p r.object && is_of_owner r.holder) && same r.object o)) l) }
+    ensures uses { reference_room references.old ≤ reference_room references.new }
+{
+    if nodes.owns(p, o) {
+        references.drop_of_owner(o);
+    }
+}
+
+// The references go that the process has as owner of its objects.
+fn drop_of_owned(references: &mut ReferenceTable, nodes: &NodeTable, p: u32)
+    ensures stands { (objects : List Object) (l : List Reference) → NodesAre nodes.now objects
+        → ReferencesAre references.old l → ReferencesAre references.new
+        (filter (λ r. not (owned_in objects p r.object && is_of_owner r.holder)) l) }
+    ensures uses { reference_room references.old ≤ reference_room references.new }
+{
+    for o in nodes.listed(p) {
+        drop_of_owner(references, nodes, p, o);
+    }
+}
 
 impl ObjectTable {
     ghost use Rattle.bd_space.specs.Space.{Space};
@@ -21,8 +54,8 @@ impl ObjectTable {
         ensures stands { Makes (StandsFor self.old) (StandsFor self.new) (λ s. process_exits.without_process s p) }
         ensures uses { UsesNothing self.old self.new }
     {
-        let nodes = &self.nodes;
-        self.references.drop_with_process(p, |o| nodes.owns(p, o));
+        self.references.drop_with_process(p);
+        drop_of_owned(&mut self.references, &self.nodes, p);
         self.names.drop_process(p);
         self.deaths.drop_process(p);
     }

@@ -1,7 +1,7 @@
 -- Which references have a key.
 use Rattle.std.proofs.Common.{◌≡◌, ℕ, ◌==◌, Bool, true, false, not, ◌&&◌, ◌||◌, List, [], ◌∷◌, refl, ap, sym, ◌∙◌}
 use Rattle.std.specs.List.{list_any}
-use Rattle.std.proofs.Math.Bool.{or-false}
+use Rattle.std.proofs.Math.Bool.{or-false, and-true, and-false, and_comm}
 use Rattle.std.proofs.lemmas.Bool.{and_parts}
 use mathlib.Core.Bool.{beq}
 use Rattle.bd_space.specs.declared.step.ObjectId.{ObjectId}
@@ -9,10 +9,11 @@ use Rattle.bd_space.specs.declared.space.Reference.{Reference}
 use Rattle.bd_space.specs.declared.space.Holder.{Holder}
 use Rattle.bd_space.specs.declared.space.Holder.TheVariants as holders
 use Rattle.bd_space.specs.Words.{same}
-use Rattle.bd_space.specs.References.{is_asked_by, is_handshake, is_asking, is_shaking, is_of_buffer, same_strength, names_for}
-use Rattle.bd_references.specs.declared.keys.Kind.TheVariants.{Asked, Carried, Handshake, Any}
-use Rattle.bd_references.specs.Keys.{same_key, use_key, total_key, count_key, kind_of, names_with}
-use Rattle.bd_references.proofs.Tests.{same_kind}
+use Rattle.bd_space.specs.References.{is_asked_by, is_in_window, is_handshake, is_asking, is_shaking, is_of_buffer, is_of_owner, same_strength, names_for}
+use Rattle.bd_references.specs.declared.keys.Kind.{Kind}
+use Rattle.bd_references.specs.declared.keys.Kind.TheVariants.{Asked, Carried, Handshake, Manager, Any}
+use Rattle.bd_references.specs.Keys.{same_key, use_key, total_key, count_key, kind_of, names_with, is_to}
+use Rattle.bd_references.proofs.Tests.{same_kind, key-sym}
 
 strongly : (s a b c : Bool) → (s && (a && b) && c) ≡ (a && (b && (c && beq s true)))
 strongly true true true true = refl
@@ -72,11 +73,12 @@ shaking-key o true r = strongly r.strong (r.object.place == o.place) (r.object.i
 shaking-key o false r = weakly r.strong (r.object.place == o.place) (r.object.index == o.index) (is_handshake r.holder)
     ∙ ap (λ c. (r.object.place == o.place) && ((r.object.index == o.index) && (c && beq r.strong false))) (shaken-kind r.holder)
 
-either : (a b s : Bool) → (a && b) ≡ ((a && (b && (true && beq s true))) || (a && (b && (true && beq s false))))
-either true true true = refl
-either true true false = refl
-either true false s = refl
-either false b s = refl
+either : (a b c s : Bool) → ((a && b) && c) ≡ ((a && (b && (c && beq s true))) || (a && (b && (c && beq s false))))
+either true true true true = refl
+either true true true false = refl
+either true true false s = refl
+either true false c s = refl
+either false b c s = refl
 
 alone : (s a b : Bool) → (s && (a && b)) ≡ (a && (b && (true && beq s true)))
 alone true true true = refl
@@ -90,7 +92,7 @@ alone false false b = refl
 pub total-key : (o : ObjectId) (r : Reference)
     → same r.object o ≡ (same_key (total_key r) (count_key o Any true) || same_key (total_key r) (count_key o Any false))
 unfolding same_key
-total-key o r = either (r.object.place == o.place) (r.object.index == o.index) r.strong
+total-key o r = sym (and-true (same r.object o)) ∙ either (r.object.place == o.place) (r.object.index == o.index) true r.strong
 
 pub strong-key : (o : ObjectId) (r : Reference) → (r.strong && same r.object o) ≡ same_key (total_key r) (count_key o Any true)
 unfolding same_key
@@ -186,3 +188,43 @@ asked-apart p o strong b r h = asked-free p b r.holder (and_parts (same_strength
 pub shaken-apart : (o : ObjectId) (strong : Bool) (b : ℕ) (r : Reference)
     → is_shaking o strong r ≡ true → is_of_buffer b r.holder ≡ false
 shaken-apart o strong b r h = shaken-free b r.holder (and_parts (same_strength strong r && same r.object o) (is_handshake r.holder) h).1
+
+-- what the owner has to its own object
+to-kind : (o : ObjectId) (kind : Kind) (r : Reference) → is_to o kind (use_key r) ≡ (same r.object o && same_kind (kind_of r.holder) kind)
+unfolding same_key
+to-kind o kind r =
+    ap (λ b. b || same_key (count_key o kind false) (use_key r)) (key-sym (count_key o kind true) (use_key r))
+    ∙ ap (λ b. same_key (use_key r) (count_key o kind true) || b) (key-sym (count_key o kind false) (use_key r))
+    ∙ sym (either (r.object.place == o.place) (r.object.index == o.index) (same_kind (kind_of r.holder) kind) r.strong)
+
+owner-kinds : (w : Bool) (h : Holder)
+    → (not (w && same_kind (kind_of h) Handshake) && not (w && same_kind (kind_of h) Manager)) ≡ not (w && is_of_owner h)
+owner-kinds false h = refl
+owner-kinds true (holders.Asked q) = refl
+owner-kinds true (holders.Carried b q) = refl
+owner-kinds true (holders.Target b q) = refl
+owner-kinds true holders.Handshake = refl
+owner-kinds true holders.Manager = refl
+
+pub owner-keys : (o : ObjectId) (r : Reference)
+    → (not (is_to o Handshake (use_key r)) && not (is_to o Manager (use_key r))) ≡ not (same r.object o && is_of_owner r.holder)
+owner-keys o r =
+    ap (λ b. not b && not (is_to o Manager (use_key r))) (to-kind o Handshake r)
+    ∙ ap (λ b. not (same r.object o && same_kind (kind_of r.holder) Handshake) && not b) (to-kind o Manager r)
+    ∙ owner-kinds (same r.object o) r.holder
+
+pub owner-free : (w : Bool) (b : ℕ) (h : Holder) → (not (w && is_of_owner h) && is_of_buffer b h) ≡ is_of_buffer b h
+owner-free w b (holders.Asked q) = and-false (not (w && false))
+owner-free w b (holders.Carried c q) = ap (λ x. not x && (c == b)) (and-false w)
+owner-free w b (holders.Target c q) = ap (λ x. not x && (c == b)) (and-false w)
+owner-free w b holders.Handshake = and-false (not (w && true))
+owner-free w b holders.Manager = and-false (not (w && true))
+
+-- of what a buffer holds, just what lies in the window
+pub window-alike : (p d : ℕ) (h : Holder)
+    → (is_of_buffer d h && not (is_in_window p h)) ≡ (not (is_asked_by p h || is_in_window p h) && is_of_buffer d h)
+window-alike p d (holders.Carried b q) = and_comm (b == d) (not (q == p))
+window-alike p d (holders.Target b q) = and_comm (b == d) (not (q == p))
+window-alike p d (holders.Asked q) = sym (and-false (not ((q == p) || false)))
+window-alike p d holders.Handshake = refl
+window-alike p d holders.Manager = refl

@@ -1,7 +1,9 @@
 -- What there is at some indexes, as they change.
-use Rattle.std.proofs.Common.{◌≡◌, ℕ, zero, suc, ◌+◌, ◌-◌, ◌<◌, ◌≤◌, ◌==◌, Bool, true, false, cond, ◌&&◌, List, [], ◌∷◌, ◌++◌, length, filter, Option, Some, None, unwrap_or, refl, ap, sym, ◌∙◌, arith}
+use Rattle.std.proofs.Common.{◌≡◌, ℕ, zero, suc, ◌+◌, ◌-◌, ◌<◌, ◌≤◌, ◌==◌, Bool, true, false, cond, ◌&&◌, ◌||◌, List, [], ◌∷◌, ◌++◌, length, filter, Option, Some, None, ltb, refl, ap, sym, ◌∙◌, arith}
 use Rattle.bd_nodes.specs.Keys.{kept as kept_option}
-use Rattle.std.proofs.lemmas.Bool.{eq-eqb, eqb-true}
+use Rattle.std.specs.List.{list_any}
+use Rattle.std.proofs.Math.Bool.{or-true}
+use Rattle.std.proofs.lemmas.Bool.{eq-eqb, eqb-true, ltb-true, ltb-false}
 use Rattle.bd_references.specs.Gathered.{gathered, put_before, is_used}
 
 module _ {A : Type 0} where
@@ -74,32 +76,52 @@ module _ {A : Type 0} where
       by false = refl
 
   -- what doesn't pass is gone
-  pub kept : (keep : A → Bool) (f g : ℕ → Option A) → ((j : ℕ) → g j ≡ kept_option keep (f j)) → (i n : ℕ)
+  pub kept : (keep : A → Bool) (f g : ℕ → Option A) (i n : ℕ) → ((j : ℕ) → j < i + n → g j ≡ kept_option keep (f j))
       → gathered g i n ≡ filter keep (gathered f i n)
-  kept keep f g h i zero = refl
-  kept keep f g h i (suc n) = ap (λ o. put_before o (gathered g (i + 1) n)) (h i)
-      ∙ ap (put_before (kept_option keep (f i))) (kept keep f g h (i + 1) n)
+  kept keep f g i zero h = refl
+  kept keep f g i (suc n) h =
+      let here : i < i + suc n = omega arith in
+      ap (λ o. put_before o (gathered g (i + 1) n)) (h i here)
+      ∙ ap (put_before (kept_option keep (f i))) (kept keep f g (i + 1) n (λ j lt. h j (omega arith)))
       ∙ kept-step keep (f i) (gathered f (i + 1) n)
+
+  -- one that passes
+  pub gathered-any : (q : A → Bool) (f : ℕ → Option A) (i n j : ℕ) (x : A) → i ≤ j → j < i + n → f j ≡ Some x → q x ≡ true
+      → list_any q (gathered f i n) ≡ true
+  gathered-any q f i zero j x from below is h = absurd (omega (arith, from, below))
+  gathered-any q f i (suc n) j x from below is h =
+      by (ltb i j) refl (λ lt. gathered-any q f (i + 1) n j x (omega (arith, lt)) (omega (arith, below)) is h)
+    where
+      after : (o : Option A) → list_any q (gathered f (i + 1) n) ≡ true → list_any q (put_before o (gathered f (i + 1) n)) ≡ true
+      after None e = e
+      after (Some y) e = ap (λ b. q y || b) e ∙ or-true (q y)
+
+      by : (b : Bool) → ltb i j ≡ b → (i < j → list_any q (gathered f (i + 1) n) ≡ true)
+          → list_any q (put_before (f i) (gathered f (i + 1) n)) ≡ true
+      by true e rest = after (f i) (rest (ltb-true i j e))
+      by false e rest = let le = ltb-false i j e in
+          let same : i ≡ j = omega (arith, le, from) in
+          ap (λ o. list_any q (put_before o (gathered f (i + 1) n))) (ap f same ∙ is) ∙ ap (λ b. b || list_any q (gathered f (i + 1) n)) h
+
+  pub any-gathered : (q : A → Bool) (f : ℕ → Option A) (C : Type 0) (i n : ℕ)
+      → ((j : ℕ) (x : A) → j < i + n → f j ≡ Some x → q x ≡ true → C) → list_any q (gathered f i n) ≡ true → C
+  any-gathered q f C i zero h e = absurd (cc)
+  any-gathered q f C i (suc n) h e =
+      by (f i) refl (any-gathered q f C (i + 1) n (λ j x lt. h j x (omega (arith, lt)))) e
+    where
+      by : (o : Option A) → f i ≡ o → (list_any q (gathered f (i + 1) n) ≡ true → C)
+          → list_any q (put_before o (gathered f (i + 1) n)) ≡ true → C
+      by None is rest k = rest k
+      by (Some x) is rest k = at (q x) refl k
+        where
+          at : (b : Bool) → q x ≡ b → (b || list_any q (gathered f (i + 1) n)) ≡ true → C
+          at true t m = h i x (omega arith) is t
+          at false t m = rest m
 
   unused : (xs : List A) → is_used xs ≡ false → xs ≡ []
   unused [] h = refl
   unused (x ∷ xs) h = absurd (cc)
 
   -- an end goes below which there is nothing
-  module _ (f : ℕ → Option A) where
-    pub same-used : (old new : Option ℕ) → new ≡ kept_option (λ n. is_used (gathered f 0 n)) old
-        → gathered f 0 (unwrap_or new 0) ≡ gathered f 0 (unwrap_or old 0)
-    same-used None new h = ap (λ o. gathered f 0 (unwrap_or o 0)) h
-    same-used (Some n) new h = ap (λ o. gathered f 0 (unwrap_or o 0)) h ∙ by (is_used (gathered f 0 n)) refl
-      where
-        by : (b : Bool) → is_used (gathered f 0 n) ≡ b → gathered f 0 (unwrap_or (cond b (Some n) None) 0) ≡ gathered f 0 n
-        by true e = refl
-        by false e = sym (unused (gathered f 0 n) e)
-
-    pub fewer-used : (old new : Option ℕ) → new ≡ kept_option (λ n. is_used (gathered f 0 n)) old → unwrap_or new 0 ≤ unwrap_or old 0
-    fewer-used None new h = let e : unwrap_or new 0 ≡ 0 = ap (λ o. unwrap_or o 0) h in omega (arith, e)
-    fewer-used (Some n) new h = by (is_used (gathered f 0 n)) h
-      where
-        by : (b : Bool) → new ≡ cond b (Some n) None → unwrap_or new 0 ≤ n
-        by true k = let e : unwrap_or new 0 ≡ n = ap (λ o. unwrap_or o 0) k in omega (arith, e)
-        by false k = let e : unwrap_or new 0 ≡ 0 = ap (λ o. unwrap_or o 0) k in omega (arith, e)
+  pub forgotten : (f : ℕ → Option A) (n : ℕ) → is_used (gathered f 0 n) ≡ false → [] ≡ gathered f 0 n
+  forgotten f n h = sym (unused (gathered f 0 n) h)

@@ -1,4 +1,5 @@
 pub mod Updated
+pub mod Among
 pub mod Tests
 pub mod Keyed
 pub mod Gathers
@@ -7,6 +8,7 @@ pub mod Counting
 pub mod Tallying
 pub mod ByKind
 pub mod Loads
-pub mod Weights
 pub mod OneBuffer
-pub mod Leaving
+pub mod Keyless
+pub mod Listing
+pub mod Viewed

@@ -1,5 +1,5 @@
 -- The keys of references, and their tests.
-use Rattle.std.proofs.Common.{◌≡◌, ◌==◌, Bool, true, false, refl, ap}
+use Rattle.std.proofs.Common.{◌≡◌, ◌==◌, Bool, true, false, refl, ap, ◌∙◌}
 use Rattle.std.proofs.lemmas.Bool.{eqb-true, eq-eqb, and_parts}
 use mathlib.Core.Bool.{beq}
 use Rattle.bd_references.specs.declared.keys.Kind.{Kind}
@@ -8,6 +8,7 @@ use Rattle.bd_references.specs.declared.keys.CountKey.{CountKey}
 use Rattle.bd_references.specs.declared.keys.ItemKey.{ItemKey}
 use Rattle.bd_references.specs.contracts.keys.KindPartialEq.TheImpl as kinds
 use Rattle.bd_references.specs.Keys.{same_key, same_item}
+use Rattle.bd_references.proofs.Among.{alike}
 
 abbrev pub same_kind : Kind → Kind → Bool
 same_kind = (kinds.ghosts).eq
@@ -64,3 +65,7 @@ item-eq a b h = let k = and_parts (a.buffer == b.buffer) (a.index == b.index) h 
 pub item-self : (a : ItemKey) → same_item a a ≡ true
 unfolding same_item
 item-self a = rw (eq-eqb a.buffer a.buffer refl, eq-eqb a.index a.index refl) refl
+
+pub key-sym : (a b : CountKey) → same_key a b ≡ same_key b a
+key-sym a b = alike (same_key a b) (same_key b a)
+    (λ h. ap (same_key b) (key-eq a b h) ∙ key-self b) (λ h. ap (same_key a) (key-eq b a h) ∙ key-self a)

@@ -1,7 +1,6 @@
 -- The number that is found in a map after a change, or 0.
-use Rattle.std.proofs.Common.{◌≡◌, ◌≤◌, arith, ℕ, Bool, true, false, not, cond, Option, Some, None, ap, refl, sym, subst, ◌∙◌, unwrap_or}
+use Rattle.std.proofs.Common.{◌≡◌, ◌≤◌, arith, ℕ, Bool, true, false, cond, Option, Some, None, ap, refl, sym, subst, ◌∙◌, unwrap_or}
 use Rattle.std.specs.Option.{IsSome}
-use Rattle.bd_nodes.specs.Keys.{kept}
 
 pub updated : (b : Bool) (w old new : Option ℕ) → new ≡ cond b w old → unwrap_or new 0 ≡ cond b (unwrap_or w 0) (unwrap_or old 0)
 updated true w old new h = ap (λ o. unwrap_or o 0) h
@@ -14,10 +13,3 @@ there x o h e = subst IsSome (sym h ∙ e) refl
 pub fewer : (b : Bool) (old new : Option ℕ) → new ≡ cond b None old → unwrap_or new 0 ≤ unwrap_or old 0
 fewer true old new h = let none : unwrap_or new 0 ≡ 0 = ap (λ o. unwrap_or o 0) h in omega (arith, none)
 fewer false old new h = let same : unwrap_or new 0 ≡ unwrap_or old 0 = ap (λ o. unwrap_or o 0) h in omega (arith, same)
-
--- what passes is 0
-pub passing : (b : Bool) (old new : Option ℕ) → new ≡ kept (λ v. not b) old → unwrap_or new 0 ≡ cond b 0 (unwrap_or old 0)
-passing true None new h = ap (λ o. unwrap_or o 0) h
-passing false None new h = ap (λ o. unwrap_or o 0) h
-passing true (Some n) new h = ap (λ o. unwrap_or o 0) h
-passing false (Some n) new h = ap (λ o. unwrap_or o 0) h

@@ -1,11 +1,11 @@
 -- What counters say.
-use Rattle.std.specs.Prelude.{ℕ, ◌≡◌, ◌+◌, ◌-◌, ◌&&◌, nat_lt, Bool, if◌then◌else◌, List, [], ◌∷◌, unwrap_or}
+use Rattle.std.specs.Prelude.{ℕ, ◌≡◌, ◌-◌, nat_lt, Bool, List, unwrap_or}
 use Rattle.std.specs.List.{count_by}
 use Rattle.std.specs.HashMap.{get}
 use Rattle.bd_space.specs.declared.space.Reference.{Reference}
 use Rattle.bd_references.specs.declared.keys.CountKey.{CountKey}
 use Rattle.bd_references.specs.declared.counts.Counts.{Counts}
-use Rattle.bd_references.specs.Keys.{same_key, is_of_process}
+use Rattle.bd_references.specs.Keys.{same_key, use_key, total_key}
 
 -- what isn't there is 0
 abbrev pub count_at : Counts → CountKey → ℕ
@@ -23,11 +23,11 @@ CountsEach key t l = (k : CountKey) → count_at t k ≡ keyed key k l
 abbrev pub Lacks : (Reference → CountKey) → Counts → Counts → List Reference → Type 0
 Lacks key old new gone = (k : CountKey) → count_at new k ≡ count_at old k - keyed key k gone
 
--- the counters of the keys that pass, together
-abbrev pub weight : (CountKey → Bool) → List (CountKey × ℕ) → ℕ
-weight p [] = 0
-weight p (e ∷ es) = (if p e.0 then e.1 else 0) + weight p es
+-- the counters count these by what they are for, and in all
+pub record CountBoth (uses totals : Counts) (l : List Reference) : Type 0 where
+  pub uses_are : CountsEach use_key uses l
+  pub totals_are : CountsEach total_key totals l
 
--- the counter of a key counts what goes with the process
-abbrev pub counts_for : ℕ → CountKey × ℕ → Bool
-counts_for p e = is_of_process p e.0.kind && nat_lt 0 e.1
+-- the key counts something
+abbrev pub is_counted : Counts → CountKey → Bool
+is_counted t k = nat_lt 0 (count_at t k)

@@ -1,8 +1,10 @@
 -- By what references are counted and found.
-use Rattle.std.specs.Prelude.{ℕ, ◌==◌, Bool, true, false, ◌||◌, ◌&&◌}
+use Rattle.std.specs.Prelude.{ℕ, ◌==◌, Bool, true, false, ◌||◌, Option, Some, None, List}
+use Rattle.std.specs.List.{list_any}
 use Rattle.bd_space.specs.declared.step.ObjectId.{ObjectId}
 use Rattle.bd_space.specs.declared.space.Reference.{Reference}
 use Rattle.bd_space.specs.declared.space.Holder.{Holder}
+use Rattle.bd_space.specs.Words.{is_some_and}
 use Rattle.bd_space.specs.declared.space.Holder.TheVariants as holders
 use Rattle.bd_references.specs.declared.keys.Kind.{Kind}
 use Rattle.bd_references.specs.declared.keys.Kind.TheVariants as kinds
@@ -44,22 +46,24 @@ names_with p o strong r =
 abbrev pub object_of : CountKey → ObjectId
 object_of k = record { place = k.place; index = k.index }
 
--- the process asked for it, or it lies in its window
+-- the process that asked for it, or in whose window it lies
+abbrev pub process_of : Kind → Option ℕ
+process_of (kinds.Asked p) = Some p
+process_of (kinds.Carried p) = Some p
+process_of (kinds.Target p) = Some p
+process_of _ = None
+
 abbrev pub is_of_process : ℕ → Kind → Bool
-is_of_process p (kinds.Asked q) = q == p
-is_of_process p (kinds.Carried q) = q == p
-is_of_process p (kinds.Target q) = q == p
-is_of_process p _ = false
-
-abbrev pub is_of_owner : Kind → Bool
-is_of_owner kinds.Handshake = true
-is_of_owner kinds.Manager = true
-is_of_owner _ = false
-
--- it goes with the process, which owns these objects
-abbrev pub goes_with : ℕ → (ObjectId → Bool) → CountKey → Bool
-goes_with p is_owned k = is_of_process p k.kind || (is_of_owner k.kind && is_owned (object_of k))
+is_of_process p kind = is_some_and (process_of kind) (λ q. q == p)
 
 -- among all
 abbrev pub any_kind : CountKey → CountKey
 any_kind k = record k { kind = kinds.Any }
+
+-- the key is one of these
+abbrev pub is_one_of : List CountKey → CountKey → Bool
+is_one_of ks q = list_any (λ k. same_key k q) ks
+
+-- the key is the object's, of this kind
+abbrev pub is_to : ObjectId → Kind → CountKey → Bool
+is_to o kind k = same_key (count_key o kind true) k || same_key (count_key o kind false) k

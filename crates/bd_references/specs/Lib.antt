@@ -4,5 +4,6 @@ pub mod Carried
 pub mod Keys
 pub mod Counted
 pub mod Gathered
+pub mod Listed
 pub mod Held
 pub mod Tallied

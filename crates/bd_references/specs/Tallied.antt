@@ -1,14 +1,14 @@
 -- What tallies stand for: how many references there are, by what they are for, and in all.
 use Rattle.std.specs.Prelude.{ℕ, List, min}
 use Rattle.std.specs.HashMap.{spare}
+use Rattle.bd_groups.specs.Members.{group_room}
 use Rattle.bd_space.specs.declared.space.Reference.{Reference}
 use Rattle.bd_references.specs.declared.tallies.Tallies.{Tallies}
 use Rattle.bd_references.specs.Keys.{use_key, total_key}
-use Rattle.bd_references.specs.Counted.{CountsEach, Lacks}
+use Rattle.bd_references.specs.Counted.{CountBoth, Lacks}
 
-pub record Tallied (t : Tallies) (l : List Reference) : Type 0 where
-  pub uses_are : CountsEach use_key t.uses l
-  pub totals_are : CountsEach total_key t.totals l
+abbrev pub Tallied : Tallies → List Reference → Type 0
+Tallied t l = CountBoth t.uses t.totals l
 
 -- these were taken back
 pub record TakenBack (old new : Tallies) (gone : List Reference) : Type 0 where
@@ -17,4 +17,4 @@ pub record TakenBack (old new : Tallies) (gone : List Reference) : Type 0 where
 
 -- how many can be counted without memory
 abbrev pub tally_room : Tallies → ℕ
-tally_room t = min (spare t.uses.counts) (spare t.totals.counts)
+tally_room t = min (min (spare t.uses.counts) (spare t.totals.counts)) (group_room t.users)

@@ -1,8 +1,7 @@
 //! How many references there are, by what they are to, what for, and how strong.
 
-ghost use Rattle.std.specs.Prelude.{ℕ, Bool, ◌≡◌, ◌≤◌, ◌<◌, ◌+◌, ◌-◌, ◌^◌, if◌then◌else◌, OnOk, OnErr};
-ghost use Rattle.std.specs.List.{IsDistinct};
-ghost use Rattle.std.specs.HashMap.{keys, spare};
+ghost use Rattle.std.specs.Prelude.{◌≡◌, ◌≤◌, ◌<◌, ◌+◌, ◌-◌, ◌^◌, false, if◌then◌else◌, OnOk, OnErr};
+ghost use Rattle.std.specs.HashMap.{spare};
 ghost use Rattle.bd_references.specs.Keys.{same_key};
 ghost use Rattle.bd_references.specs.Counted.{count_at};
 
@@ -11,9 +10,14 @@ use std::alloc::{AllocError, Global};
 use std::collections::HashMap;
 
 /// The counters that aren't 0.
-#[derive(Drop)]
 pub(crate) struct Counts {
     pub(crate) counts: HashMap<CountKey, u64>,
+}
+
+impl Drop for Counts {
+    fn drop(self) {
+        let Counts { counts: _ } = self;
+    }
 }
 
 impl Counts {
@@ -62,8 +66,8 @@ impl Counts {
         }
     }
 
-    // A counter becomes 0.
-    fn forget(&mut self, k: CountKey)
+    /// A counter becomes 0.
+    pub(crate) fn forget(&mut self, k: CountKey)
         ensures counts { (q : declared.CountKey) → count_at self.new q ≡ (if same_key k q then 0 else count_at self.old q) }
         ensures spare { spare self.old.counts ≤ spare self.new.counts }
     {
@@ -88,6 +92,7 @@ impl Counts {
         requires { 0 < spare self.old.counts }
         ensures counts { (q : declared.CountKey) → count_at self.old k < 2 ^ 64 - 1
             → count_at self.new q ≡ count_at self.old q + (if same_key k q then 1 else 0) }
+        ensures others { (q : declared.CountKey) → same_key k q ≡ false → count_at self.new q ≡ count_at self.old q }
         ensures spare { spare self.old.counts ≤ spare self.new.counts + 1 }
     {
         let n = self.at(k).saturating_add(1);
@@ -105,17 +110,5 @@ impl Counts {
         } else {
             self.lower(k, n);
         }
-    }
-
-    /// The counters go whose keys pass.
-    #[tactic(auto, unfolding(crate::specs::Keys::same_key))]
-    pub(crate) fn drop_passing<F: Fn(CountKey) -> bool>(&mut self, goes: F)
-        requires { F.IsAlwaysCallable goes }
-        ensures counts { (is_gone : declared.CountKey → Bool) → ((k : declared.CountKey) (g : Bool) → F.post goes k g → g ≡ is_gone k)
-            → (q : declared.CountKey) → count_at self.new q ≡ (if is_gone q then 0 else count_at self.old q) }
-        ensures unique { IsDistinct same_key (keys self.old.counts) }
-        ensures spare { spare self.old.counts ≤ spare self.new.counts }
-    {
-        self.counts.retain(|k, _| !goes(*k));
     }
 }

@@ -22,6 +22,16 @@ pub(crate) fn item_in(held: &HashMap<ItemKey, Reference>, b: u32, i: u64) -> Opt
     .copied()
 }
 
+/// The index at which the buffer's next reference comes in.
+pub(crate) fn end_of(ends: &HashMap<u32, u64>, b: u32) -> u64
+    ensures { result ≡ gather.end_in ends.now b }
+{
+    match ends.get(&b) {
+        Some(end) => *end,
+        None => 0,
+    }
+}
+
 /// The references that a buffer holds, in order.
 #[derive(Drop)]
 pub(crate) struct HeldReferences<'a> {
@@ -55,4 +65,17 @@ impl Iterator for HeldReferences<'_> {
         }
         None
     }
+}
+
+/// Whether the buffer holds anything.
+pub(crate) fn is_used(held: &HashMap<ItemKey, Reference>, b: u32, end: u64) -> bool
+    ensures { result ≡ gather.is_used (gather.gathered (gather.item_in held.now b) 0 end) }
+{
+    let mut references = HeldReferences {
+        held,
+        buffer: b,
+        index: 0,
+        end,
+    };
+    references.next().is_some()
 }

@@ -1,6 +1,7 @@
 //! What a reference is for.
 
-ghost use Rattle.std.specs.Prelude.{◌≡◌, ◌==◌, Option};
+ghost use Rattle.std.specs.Prelude.{ℕ, ◌≡◌, ◌==◌};
+ghost use Rattle.bd_space.specs.Words.{is_some_and};
 ghost use Rattle.bd_space.specs.References as refer;
 
 use bd_space::Holder;
@@ -16,12 +17,19 @@ pub(crate) fn buffer_of_holder(holder: Holder) -> Option<u32>
     }
 }
 
-/// Whether its buffer lies in the process's window.
+/// The process in whose window that buffer lies.
+pub(crate) fn window_of(holder: Holder) -> Option<u32>
+    ensures { (p : ℕ) → refer.is_in_window p holder ≡ is_some_and result (λ q. q == p) }
+{
+    match holder {
+        Holder::Carried(_, p) | Holder::Target(_, p) => Some(p),
+        _ => None,
+    }
+}
+
+/// Whether it lies in the process's window.
 pub(crate) fn is_in_window(p: u32, holder: Holder) -> bool
     ensures { result ≡ refer.is_in_window p holder }
 {
-    match holder {
-        Holder::Carried(_, q) | Holder::Target(_, q) => q == p,
-        _ => false,
-    }
+    window_of(holder) == Some(p)
 }

@@ -1,27 +1,40 @@
 //! What each buffer holds, in order.
 
-ghost use Rattle.std.specs.Prelude.{ℕ, ◌≡◌, ◌≤◌, ◌<◌, ◌+◌, ◌-◌, ◌^◌, ◌==◌, ◌++◌, ◌∷◌, [], Some, None, Bool, false, not, filter, ◌&&◌, if◌then◌else◌, OnOk, OnErr};
+ghost use Rattle.std.specs.Prelude.{ℕ, ◌≡◌, ◌≤◌, ◌<◌, ◌+◌, ◌-◌, ◌^◌, ◌==◌, ◌++◌, ◌∷◌, [], Some, None, false, not, filter, ◌&&◌, if◌then◌else◌, OnOk, OnErr};
 ghost use Rattle.std.specs.HashMap.{spare};
-ghost use Rattle.bd_space.specs.declared.space.Holder as holders;
 ghost use Rattle.bd_space.specs.References as refer;
-ghost use Rattle.bd_references.specs.Gathered as gather;
-ghost use Rattle.bd_references.specs.Gathered.{item_in, gathered};
-ghost use Rattle.bd_nodes.specs.Keys.{kept};
-ghost use Rattle.bd_references.specs.Held.{end_in, end_at, items_of, item_room};
+ghost use Rattle.bd_references.specs.Gathered.{item_in, end_in};
+ghost use Rattle.bd_references.specs.Listed.{AreWindows};
 
-use crate::held::HeldReferences;
+use crate::held::{HeldReferences, end_of};
 use crate::holders::buffer_of_holder;
 use crate::keys::ItemKey;
-use bd_space::{Holder, Reference};
+use crate::windows::{leave_each, list_window, reserve_windows};
+use bd_groups::{Group, Groups};
+use bd_space::Reference;
 use std::alloc::{AllocError, Global};
 use std::collections::HashMap;
 
 /// The references of all buffers, each by its buffer and an index.
-#[derive(Drop)]
 pub(crate) struct Items {
     pub(crate) held: HashMap<ItemKey, Reference>,
     // The index at which the next reference of a buffer comes in.
     pub(crate) ends: HashMap<u32, u64>,
+    // By process the buffers that hold something in its window, and buffers that did.
+    pub(crate) windows: Groups<u32>,
+    pub(crate) alloc: Global,
+    ghost listed: { AreWindows held ends windows },
+}
+
+impl Drop for Items {
+    fn drop(self) {
+        let Items {
+            held: _,
+            ends: _,
+            windows: _,
+            alloc: _,
+        } = self;
+    }
 }
 
 // A reference comes in.
@@ -70,40 +83,9 @@ fn clear_to(held: &mut HashMap<ItemKey, Reference>, b: u32, end: u64)
     }
 }
 
-// What passes goes.
-fn drop_passing<F: Fn(Holder) -> bool>(held: &mut HashMap<ItemKey, Reference>, goes: F)
-    requires { F.IsAlwaysCallable goes }
-    ensures items { (is_gone : holders.Holder → Bool) → ((h : holders.Holder) (g : Bool) → F.post goes h g → g ≡ is_gone h)
-        → (c j : ℕ) → item_in held.new c j ≡ kept (λ r. not (is_gone r.holder)) (item_in held.old c j) }
-    ensures spare { spare held.old ≤ spare held.new }
-{
-    held.retain(|_, r| !goes(r.holder));
-}
-
-// Whether the buffer holds anything.
-fn is_used(held: &HashMap<ItemKey, Reference>, b: u32, end: u64) -> bool
-    ensures { result ≡ gather.is_used (gathered (item_in held.now b) 0 end) }
-{
-    let mut references = HeldReferences {
-        held,
-        buffer: b,
-        index: 0,
-        end,
-    };
-    references.next().is_some()
-}
-
-// Buffers that hold nothing are forgotten.
-fn keep_used(held: &HashMap<ItemKey, Reference>, ends: &mut HashMap<u32, u64>)
-    ensures items { (c : ℕ) → gathered (item_in held.now c) 0 (end_in ends.new c)
-        ≡ gathered (item_in held.now c) 0 (end_in ends.old c) }
-    ensures ends { (c : ℕ) → end_in ends.new c ≤ end_in ends.old c }
-    ensures spare { spare ends.old ≤ spare ends.new }
-{
-    ends.retain(|b, end| is_used(held, *b, *end));
-}
-
 impl Items {
+    ghost use Rattle.bd_references.specs.Held.{end_at, items_of, item_room};
+
     /// Nothing is held.
     pub(crate) fn new(alloc: Global) -> Items
         ensures items { (b : ℕ) → items_of result b ≡ [] }
@@ -112,6 +94,8 @@ impl Items {
         Items {
             held: HashMap::new(alloc),
             ends: HashMap::new(alloc),
+            windows: Groups::new(alloc),
+            alloc,
         }
     }
 
@@ -124,17 +108,8 @@ impl Items {
         ensures grown { OnErr result (more ≤ item_room self.old → ⊥) }
     {
         self.held.reserve(more)?;
-        self.ends.reserve(more)
-    }
-
-    // The index at which the buffer's next reference comes in.
-    fn end(&self, b: u32) -> u64
-        ensures { result ≡ end_at self.now b }
-    {
-        match self.ends.get(&b) {
-            Some(end) => *end,
-            None => 0,
-        }
+        self.ends.reserve(more)?;
+        reserve_windows(&mut self.windows, &self.held, &self.ends, self.alloc, more)
     }
 
     /// The buffer holds one reference more, after its others.
@@ -145,7 +120,8 @@ impl Items {
         ensures ends { (c : ℕ) → end_at self.new c ≤ end_at self.old c + 1 }
         ensures uses { item_room self.old ≤ item_room self.new + 1 }
     {
-        let end = self.end(b);
+        let end = end_of(&self.ends, b);
+        list_window(&mut self.windows, b, r.holder);
         put(&mut self.held, b, end, r);
         set_end(&mut self.ends, b, end.saturating_add(1));
     }
@@ -171,7 +147,7 @@ impl Items {
             held: &self.held,
             buffer: b,
             index: 0,
-            end: self.end(b),
+            end: end_of(&self.ends, b),
         }
     }
 
@@ -181,20 +157,20 @@ impl Items {
         ensures ends { (c : ℕ) → end_at self.new c ≤ end_at self.old c }
         ensures uses { item_room self.old ≤ item_room self.new }
     {
-        let end = self.end(b);
+        let end = end_of(&self.ends, b);
         clear_to(&mut self.held, b, end);
         let _gone = self.ends.remove(&b);
     }
 
-    /// What passes goes from all buffers.
-    pub(crate) fn drop_passing<F: Fn(Holder) -> bool>(&mut self, goes: F)
-        requires { F.IsAlwaysCallable goes }
-        ensures items { (is_gone : holders.Holder → Bool) → ((h : holders.Holder) (g : Bool) → F.post goes h g → g ≡ is_gone h)
-            → (c : ℕ) → items_of self.new c ≡ filter (λ r. not (is_gone r.holder)) (items_of self.old c) }
+    /// What lies in the window goes from all buffers.
+    pub(crate) fn drop_window(&mut self, p: u32)
+        ensures items { (c : ℕ) → items_of self.new c
+            ≡ filter (λ r. not (refer.is_in_window p r.holder)) (items_of self.old c) }
         ensures ends { (c : ℕ) → end_at self.new c ≤ end_at self.old c }
         ensures uses { item_room self.old ≤ item_room self.new }
     {
-        drop_passing(&mut self.held, goes);
-        keep_used(&self.held, &mut self.ends);
+        let group = Group::Process { made: p };
+        leave_each(&mut self.held, &mut self.ends, self.windows.of(group), p);
+        self.windows.forget(group);
     }
 }

@@ -1,7 +1,6 @@
 //! By what references are counted and found.
 
-ghost use Rattle.std.specs.Prelude.{◌≡◌, Bool};
-ghost use Rattle.bd_space.specs.declared.step.ObjectId as declared;
+ghost use Rattle.std.specs.Prelude.{◌≡◌};
 ghost use Rattle.bd_references.specs.Keys as keys;
 
 use bd_space::{Holder, ObjectId, Reference};
@@ -87,24 +86,14 @@ pub(crate) fn object_of(k: CountKey) -> ObjectId
     }
 }
 
-/// Whether the process asked for it, or it lies in the process's window.
-pub(crate) fn is_of_process(p: u32, kind: Kind) -> bool
-    ensures { result ≡ keys.is_of_process p kind }
+/// The process that asked for it, or in whose window it lies.
+pub(crate) fn process_of(kind: Kind) -> Option<u32>
+    ensures { result ≡ keys.process_of kind }
 {
     match kind {
-        Kind::Asked(q) | Kind::Carried(q) | Kind::Target(q) => q == p,
-        _ => false,
+        Kind::Asked(p) | Kind::Carried(p) | Kind::Target(p) => Some(p),
+        _ => None,
     }
-}
-
-/// Whether references with the key go with the process, which owns the objects that the caller says.
-pub(crate) fn goes_with<F: Fn(ObjectId) -> bool>(owned: &F, p: u32, k: CountKey) -> bool
-    requires { F.IsAlwaysCallable owned.now }
-    ensures { (is_owned : declared.ObjectId → Bool) → ((o : declared.ObjectId) (b : Bool) → F.post owned.now o b → b ≡ is_owned o)
-        → result ≡ keys.goes_with p is_owned k }
-{
-    is_of_process(p, k.kind)
-        || (matches!(k.kind, Kind::Handshake | Kind::Manager) && owned(object_of(k)))
 }
 
 /// Under which key these count among all.

@@ -10,9 +10,12 @@ mod held;
 mod holders;
 mod items;
 mod keys;
+mod leaving;
 mod references;
 mod table;
 mod tallies;
+mod users;
+mod windows;
 
 pub use carried::CarriedObjects;
 pub use table::ReferenceTable;

@@ -1,54 +1,49 @@
 //! How many references there are, by what they are for, and in all.
 
-ghost use Rattle.std.specs.Prelude.{ℕ, ◌≡◌, ◌≤◌, ◌<◌, ◌+◌, ◌-◌, ◌^◌, ◌++◌, ◌∷◌, [], Bool, List, length, filter, not, ◌&&◌, OnOk, OnErr};
+ghost use Rattle.std.specs.Prelude.{◌≡◌, ◌≤◌, ◌<◌, ◌+◌, ◌-◌, ◌^◌, ◌++◌, ◌∷◌, [], Bool, List, length, filter, not, ◌||◌, ◌&&◌, OnOk, OnErr};
 ghost use Rattle.bd_space.specs.declared.space.Reference as declared;
-ghost use Rattle.bd_space.specs.Words.{without_first};
+ghost use Rattle.bd_space.specs.Words.{same, without_first};
+ghost use Rattle.bd_space.specs.References as refer;
 ghost use Rattle.std.specs.List.{list_any};
-ghost use Rattle.std.specs.HashMap.{spare};
-ghost use Rattle.bd_space.specs.declared.step.ObjectId as objects;
 ghost use Rattle.bd_references.specs.declared.keys.Kind.TheVariants as kinds;
-ghost use Rattle.bd_references.specs.declared.keys.CountKey as key;
-ghost use Rattle.bd_references.specs.Counted.{count_at, weight};
 ghost use Rattle.bd_references.specs.Keys as keys;
-ghost use Rattle.bd_references.specs.Tallied.{Tallied, TakenBack, tally_room};
+ghost use Rattle.bd_references.specs.Listed.{AreUsers};
 
 use crate::counts::Counts;
 use crate::held::HeldReferences;
-use crate::keys::{CountKey, Kind, any_kind, count_key, goes_with, total_key, use_key};
+use crate::keys::{CountKey, Kind, any_kind, count_key, total_key, use_key};
+use crate::leaving::{drop_each, drop_key};
+use crate::users::{enlist, reserve_users};
+use bd_groups::{Group, Groups};
 use bd_space::{ObjectId, Reference};
 use std::alloc::{AllocError, Global};
-use std::collections::HashMap;
 
 /// Counters of all references.
-#[derive(Drop)]
 pub(crate) struct Tallies {
     // By what they are for.
     pub(crate) uses: Counts,
     // Whatever for.
     pub(crate) totals: Counts,
+    // By process the keys under which `uses` counts for it, and keys that it did count under.
+    pub(crate) users: Groups<CountKey>,
+    pub(crate) alloc: Global,
+    ghost listed: { AreUsers uses users },
 }
 
-// What goes with a process is no longer counted among all.
-fn take_dropped<F: Fn(ObjectId) -> bool>(
-    totals: &mut Counts,
-    uses: &HashMap<CountKey, u64>,
-    p: u32,
-    owned: &F,
-)
-    requires { F.IsAlwaysCallable owned.now }
-    ensures taken { (is_owned : objects.ObjectId → Bool) → ((o : objects.ObjectId) (b : Bool) → F.post owned.now o b → b ≡ is_owned o)
-        → (q : key.CountKey) → count_at totals.new q
-        ≡ count_at totals.old q - weight (λ k. keys.goes_with p is_owned k && keys.same_key (keys.any_kind k) q) uses.now.entries }
-    ensures spare { spare totals.old.counts ≤ spare totals.new.counts }
-{
-    for (k, n) in uses.iter() {
-        if goes_with(owned, p, *k) {
-            totals.take(any_kind(*k), *n);
-        }
+impl Drop for Tallies {
+    fn drop(self) {
+        let Tallies {
+            uses: _,
+            totals: _,
+            users: _,
+            alloc: _,
+        } = self;
     }
 }
 
 impl Tallies {
+    ghost use Rattle.bd_references.specs.Tallied.{Tallied, TakenBack, tally_room};
+
     /// There are none.
     pub(crate) fn new(alloc: Global) -> Tallies
         ensures { Tallied result [] }
@@ -56,6 +51,8 @@ impl Tallies {
         Tallies {
             uses: Counts::new(alloc),
             totals: Counts::new(alloc),
+            users: Groups::new(alloc),
+            alloc,
         }
     }
 
@@ -67,7 +64,8 @@ impl Tallies {
         ensures grown { OnErr result (more ≤ tally_room self.old → ⊥) }
     {
         self.uses.reserve(more)?;
-        self.totals.reserve(more)
+        self.totals.reserve(more)?;
+        reserve_users(&mut self.users, &self.uses, self.alloc, more)
     }
 
     /// Whether there is one of this kind.
@@ -99,7 +97,9 @@ impl Tallies {
         ensures stands { (l : List declared.Reference) → length l < 2 ^ 64 - 1 → Tallied self.old l → Tallied self.new (l ++ r ∷ []) }
         ensures uses { tally_room self.old ≤ tally_room self.new + 1 }
     {
-        self.uses.add(use_key(r));
+        let k = use_key(r);
+        enlist(&mut self.users, &self.uses, k);
+        self.uses.add(k);
         self.totals.add(total_key(r));
     }
 
@@ -135,15 +135,34 @@ impl Tallies {
         }
     }
 
-    /// Those of a process go. The caller says which objects it owns.
-    pub(crate) fn drop_with_process<F: Fn(ObjectId) -> bool>(&mut self, p: u32, owned: &F)
-        requires { F.IsAlwaysCallable owned.now }
-        ensures stands { (is_owned : objects.ObjectId → Bool) → ((o : objects.ObjectId) (b : Bool) → F.post owned.now o b → b ≡ is_owned o)
-            → (l : List declared.Reference) → Tallied self.old l
-            → Tallied self.new (filter (λ r. not (keys.goes_with p is_owned (keys.use_key r))) l) }
+    /// Those of a process go.
+    pub(crate) fn drop_with_process(&mut self, p: u32)
+        ensures stands { (l : List declared.Reference) → Tallied self.old l
+            → Tallied self.new (filter (λ r. not (refer.is_asked_by p r.holder || refer.is_in_window p r.holder)) l) }
         ensures uses { tally_room self.old ≤ tally_room self.new }
     {
-        take_dropped(&mut self.totals, &self.uses.counts, p, owned);
-        self.uses.drop_passing(|k| goes_with(owned, p, k));
+        let group = Group::Process { made: p };
+        drop_each(&mut self.uses, &mut self.totals, self.users.of(group));
+        self.users.forget(group);
+    }
+
+    /// Those go that an owner has to its own object.
+    pub(crate) fn drop_of_owner(&mut self, o: ObjectId)
+        ensures stands { (l : List declared.Reference) → Tallied self.old l
+            → Tallied self.new (filter (λ r. not (same r.object o && refer.is_of_owner r.holder)) l) }
+        ensures uses { tally_room self.old ≤ tally_room self.new }
+    {
+        self.drop_kind(o, Kind::Handshake);
+        self.drop_kind(o, Kind::Manager);
+    }
+
+    // Those of the kind go, in both strengths.
+    fn drop_kind(&mut self, o: ObjectId, kind: Kind)
+        ensures stands { (l : List declared.Reference) → Tallied self.old l
+            → Tallied self.new (filter (λ r. not (keys.is_to o kind (keys.use_key r))) l) }
+        ensures uses { tally_room self.old ≤ tally_room self.new }
+    {
+        drop_key(&mut self.uses, &mut self.totals, count_key(o, kind, true));
+        drop_key(&mut self.uses, &mut self.totals, count_key(o, kind, false));
     }
 }

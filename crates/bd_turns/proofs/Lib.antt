@@ -5,5 +5,6 @@ pub mod Pushing
 pub mod Going
 pub mod Standing
 pub mod Sweeping
+pub mod Listing
 pub mod Places
 pub mod Renewing

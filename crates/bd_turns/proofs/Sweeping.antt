@@ -3,10 +3,11 @@ use Rattle.std.proofs.Common.{◌≡◌, ◌⊎◌, inl, inr, ℕ, zero, suc, �
 use Rattle.std.specs.List.{slice_get}
 use Rattle.bd_space.specs.declared.space.Turn.{Turn}
 use Rattle.bd_space.specs.Words.{changed}
+use Rattle.bd_groups.specs.Members.{IsIn}
 use Rattle.bd_turns.specs.declared.slots.Entry.{Entry}
 use Rattle.bd_turns.specs.Turn.{hand_turn}
 use Rattle.bd_turns.specs.Slots.{turns_in, changed_at, gone, handed}
-use Rattle.bd_turns.specs.Sweep.{walked, kept, handed_if, Within}
+use Rattle.bd_turns.specs.Sweep.{walked, changed_each, kept, handed_if, Within}
 
 -- ---- one more slot
 
@@ -66,7 +67,7 @@ stays-by p f idle es from to at within past = λ i e there. on i (p e.turn) e re
     on i true e is k = inr (let r = k is in let a = r.0 in let b = r.1 in (omega (arith, a), omega (arith, b, past)))
     on i false e is k = inl (idle e is)
 
-kept-map : (p : Turn → Bool) (es : List Entry) → turns_in (map (kept p) es) ≡ filter p (turns_in es)
+pub kept-map : (p : Turn → Bool) (es : List Entry) → turns_in (map (kept p) es) ≡ filter p (turns_in es)
 kept-map p [] = refl
 kept-map p (e ∷ es) = at (p e.turn) e.live refl refl (kept-map p es)
   where
@@ -112,3 +113,55 @@ pub turns-handed : (made : ℕ) (es : List Entry) (from to at : ℕ) → Within 
     → turns_in (walked (handed_if made) from at es) ≡ changed (λ t. t.made == made) hand_turn (turns_in es)
 turns-handed made es from to at within past =
     ap turns_in (walked-map (handed_if made) es from at (stays-by (λ t. t.made == made) (handed_if made) (λ e h. ap (λ b. cond b (handed e) e) h) es from to at within past)) ∙ handed-map made es
+
+-- ---- one slot after the other
+
+-- what is there was there before, or was changed at its place
+pub changed-from : (f : Entry → Entry) (i : ℕ) (es : List Entry) (k : ℕ) (y : Entry) → slice_get (changed_at i f es) k ≡ Some y
+    → (x : Entry) × (slice_get es k ≡ Some x) × (((k ≡ i → ⊥) × (y ≡ x)) ⊎ ((k ≡ i) × (y ≡ f x)))
+changed-from f i [] k y there = absurd (cc)
+changed-from f zero (e ∷ es) zero y there = (e, refl, inr (refl, cc))
+changed-from f zero (e ∷ es) (suc k) y there = (y, there, inl ((λ is. absurd (omega (arith, is))), refl))
+changed-from f (suc i) (e ∷ es) zero y there = (e, refl, inl ((λ is. absurd (omega (arith, is))), cc))
+changed-from f (suc i) (e ∷ es) (suc k) y there =
+    let u = changed-from f i es k y there in
+    (u.0, u.1, elim u.2 [ inl h ↦ inl ((λ is. h.0 (omega (arith, is))), h.1) | inr h ↦ inr (ap suc h.0, h.1) ])
+
+-- what isn't at one of these places stays
+abbrev pub Reaches : (Entry → Entry) → List ℕ → List Entry → Type 0
+Reaches f is es = (k : ℕ) (e : Entry) → slice_get es k ≡ Some e → (f e ≡ e) ⊎ IsIn k is
+
+map-idle : (f : Entry → Entry) (es : List Entry) → ((k : ℕ) (e : Entry) → slice_get es k ≡ Some e → f e ≡ e) → es ≡ map f es
+map-idle f [] h = refl
+map-idle f (e ∷ es) h = ap (λ x. x ∷ es) (sym (h 0 e refl)) ∙ ap (λ xs. f e ∷ xs) (map-idle f es (λ k x there. h (suc k) x there))
+
+module _ (f : Entry → Entry) (twice : (e : Entry) → f (f e) ≡ f e) where
+  map-changed : (i : ℕ) (es : List Entry) → map f (changed_at i f es) ≡ map f es
+  map-changed i [] = refl
+  map-changed zero (e ∷ es) = ap (λ x. x ∷ map f es) (twice e)
+  map-changed (suc i) (e ∷ es) = ap (λ xs. f e ∷ xs) (map-changed i es)
+
+  each-map : (is : List ℕ) (es : List Entry) → Reaches f is es → changed_each f is es ≡ map f es
+  each-map [] es h = map-idle f es (λ k e there. elim (h k e there) [ inl same ↦ same | inr none ↦ absurd none ])
+  each-map (i ∷ is) es h = each-map is (changed_at i f es) then ∙ map-changed i es
+    where
+      then : Reaches f is (changed_at i f es)
+      then k y there =
+          let u = changed-from f i es k y there in
+          elim u.2 [
+            | inl s ↦ elim (h k u.0 u.1) [
+              | inl same ↦ inl (subst (λ e. f e ≡ e) (sym s.1) same)
+              | inr among ↦ elim among [ inl here ↦ absurd (s.0 here) | inr later ↦ inr later ]
+            ]
+            | inr s ↦ inl (subst (λ e. f e ≡ e) (sym s.1) (twice u.0))
+          ]
+
+kept-twice : (p : Turn → Bool) (e : Entry) → kept p (kept p e) ≡ kept p e
+kept-twice p e = at (p e.turn) refl
+  where
+    at : (b : Bool) → p e.turn ≡ b → kept p (cond b e (gone e)) ≡ cond b e (gone e)
+    at true f = ap (λ b. cond b e (gone e)) f
+    at false f = ap (λ b. cond b (gone e) (gone e)) f
+
+pub each-kept : (p : Turn → Bool) (is : List ℕ) (es : List Entry) → Reaches (kept p) is es → changed_each (kept p) is es ≡ map (kept p) es
+each-kept p = each-map (kept p) (kept-twice p)

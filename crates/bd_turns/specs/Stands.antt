@@ -2,15 +2,21 @@
 use Rattle.std.specs.Prelude.{◌≡◌, true, List}
 use Rattle.bd_space.specs.declared.step.ObjectId.{ObjectId}
 use Rattle.bd_space.specs.declared.space.Turn.{Turn}
+use Rattle.bd_turns.specs.declared.queue.Queue.{Queue}
 use Rattle.bd_turns.specs.declared.table.TurnTable.{TurnTable}
 use Rattle.bd_turns.specs.Slots.{entries, nexts, turns_in, Chained, Rising}
+use Rattle.bd_turns.specs.Listed.{AreListed}
 use Rattle.bd_turns.specs.Ends.{ends_at, ends_in}
 
+pub record QueueIs (q : Queue) (l : List Turn) : Type 0 where
+  pub turns_are : turns_in (entries q.slots.items) ≡ l
+  pub chained : Chained (nexts q.slots.items) (entries q.slots.items)
+  pub ends_are : (o : ObjectId) → ends_at q.objects o ≡ ends_in (entries q.slots.items) o
+  pub rises : q.rising ≡ true → Rising (entries q.slots.items)
+
 pub record TurnsAre (t : TurnTable) (l : List Turn) : Type 0 where
-  pub turns_are : turns_in (entries t.slots.items) ≡ l
-  pub chained : Chained (nexts t.slots.items) (entries t.slots.items)
-  pub ends_are : (o : ObjectId) → ends_at t.objects o ≡ ends_in (entries t.slots.items) o
-  pub rises : t.rising ≡ true → Rising (entries t.slots.items)
+  pub queue_is : QueueIs t.queue l
+  pub listed : AreListed t.received (entries t.queue.slots.items)
 
 -- of every list that the table stands for x is what f says
 abbrev pub Tells : {A : Type 0} → TurnTable → A → (List Turn → A) → Type 0

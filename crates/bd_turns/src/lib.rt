@@ -2,6 +2,7 @@
 #![tactic(auto)]
 
 mod ends;
+mod queue;
 mod renewal;
 mod slots;
 mod table;

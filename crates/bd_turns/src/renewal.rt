@@ -7,10 +7,11 @@ ghost use Rattle.bd_turns.specs.Room.{Uses, turn_room, turn_count};
 ghost use Rattle.bd_turns.specs.Slots.{entries, turns_in};
 ghost use Rattle.bd_turns.specs.Stands.{TurnsAre};
 
+use crate::queue::Queue;
 use crate::slots::{Slot, count_live};
 use crate::table::TurnTable;
+use bd_groups::Groups;
 use std::alloc::{AllocError, Global};
-use std::collections::HashMap;
 
 // A table that grows has no fewer slots, so that a small one isn't renewed at each call.
 const LEAST_SLOTS: usize = 16;
@@ -47,19 +48,17 @@ impl TurnTable {
         ensures room { IfOk result (λ t. calls ≤ turn_room t) }
         ensures count { IfOk result (λ t. turn_count t ≡ 0) }
     {
-        Ok(TurnTable {
-            slots: Vec::with_capacity(alloc, calls)?,
-            objects: HashMap::with_capacity(alloc, calls)?,
-            rising: true,
-        })
+        let queue = Queue::with_capacity(alloc, calls)?;
+        let mut received = Groups::new(alloc);
+        received.reserve(calls)?;
+        Ok(TurnTable { queue, received })
     }
 
     // How many calls may come in without memory.
     pub(crate) fn room(&self) -> usize
         ensures { result ≡ turn_room self.now }
     {
-        let slots = self.slots.capacity() - self.slots.len();
-        slots.min(self.objects.capacity() - self.objects.len())
+        self.queue.room().min(self.received.room())
     }
 
     /// A table of the same calls, with room for so many more.
@@ -68,9 +67,10 @@ impl TurnTable {
         ensures room { IfOk result (λ t. more ≤ turn_room t) }
         ensures count { IfOk result (λ t. turn_count t ≤ turn_count self.now) }
     {
-        let calls = slots_for(count_live(&self.slots), more)?;
-        let mut table = TurnTable::with_capacity(*self.slots.allocator(), calls)?;
-        push_live(&self.slots, &mut table);
+        let slots = &self.queue.slots;
+        let calls = slots_for(count_live(slots), more)?;
+        let mut table = TurnTable::with_capacity(*slots.allocator(), calls)?;
+        push_live(slots, &mut table);
         Ok(table)
     }
 }

@@ -1,69 +1,30 @@
 //! The table: its room, its changes and what it tells.
 #![tactic(auto, unfolding(crate::specs::Room::turn_room, crate::specs::Room::turn_count))]
 
-ghost use Rattle.std.specs.Prelude.{ℕ, Bool, true, List, ◌≡◌, ◌==◌, ◌<◌, ◌≤◌, ◌++◌, ◌∷◌, [], not, filter, find, map, if◌then◌else◌, Some, OnOk, OnErr};
-ghost use Rattle.std.specs.Option.{option_map, option_and_then};
-ghost use Rattle.std.specs.List.{slice_get};
+ghost use Rattle.std.specs.Prelude.{ℕ, Bool, List, ◌≡◌, ◌==◌, ◌≤◌, ◌++◌, ◌∷◌, [], not, filter, find, OnOk, OnErr};
 ghost use Rattle.bd_space.specs.declared.space.Turn as declared;
 ghost use Rattle.bd_space.specs.Words.{changed, same};
-ghost use Rattle.std.specs.HashMap.{spare};
-ghost use Rattle.bd_space.specs.declared.step.ObjectId as declared_step;
-ghost use Rattle.bd_turns.specs.declared.ends.Ends as declared_ends;
-ghost use Rattle.bd_turns.specs.Ends.{ends_at};
 ghost use Rattle.bd_turns.specs.Turn.{hand_turn};
 ghost use Rattle.bd_turns.specs.Room.{Uses, turn_room};
-ghost use Rattle.bd_turns.specs.Slots as spec;
-ghost use Rattle.bd_turns.specs.Sweep.{handed_if, Within};
 
-use crate::ends::{Ends, IdKey, ends_of, is_first, put_ends, set_first, with_last};
-use crate::slots::{
-    Entry, Slot, entry_at, is_latest, link_last, live_after, mark_gone, mark_handed,
-};
+use crate::queue::Queue;
+use bd_groups::{Group, Groups};
 use bd_space::{ObjectId, Turn};
 use std::alloc::{AllocError, Global};
-use std::collections::HashMap;
-use std::ops::Range;
 
 /// The one-way calls of a driver whose buffers live.
-#[derive(Debug, Drop)]
 pub struct TurnTable {
-    pub(crate) slots: Vec<Slot>,
-    pub(crate) objects: HashMap<IdKey, Ends>,
-    // Each was made at a later place than those before it.
-    pub(crate) rising: bool,
+    pub(crate) queue: Queue,
+    // The slots of the calls in each process's window, also of such as have gone.
+    pub(crate) received: Groups<usize>,
 }
 
-// The call of the first slot of a chain whose call hasn't gone.
-fn oldest_in(slots: &[Slot], ends: Option<Ends>) -> Option<Turn>
-    ensures { result ≡ option_map (λ e. e.turn)
-        (option_and_then (slice_get (spec.entries slots.now)) (option_and_then (λ e. e.first) ends)) }
-{
-    let first = ends?.first?;
-    entry_at(slots, first).map(|e| e.turn)
-}
-
-// Whether places still rise where one more is made at this one.
-fn still_rises(rising: bool, slots: &[Slot], made: u32) -> bool
-    ensures rose { result ≡ true → rising ≡ true }
-    ensures later { result ≡ true → (m : ℕ) → spec.latest (spec.entries slots.now) ≡ Some m → m < made }
-{
-    rising && is_latest(slots, made)
-}
-
-// If this slot is the first of its object whose call hasn't gone, the next such is from now on.
-fn leave_front(objects: &mut HashMap<IdKey, Ends>, slots: &[Slot], object: ObjectId, at: usize)
-    ensures first { option_and_then (λ e. e.first) (ends_at objects.old object) ≡ Some at
-        → spec.Chained (spec.nexts slots.now) (spec.entries slots.now)
-        → (x : declared_step.ObjectId) → ends_at objects.new x ≡ (if same object x
-        then option_map {T = declared_ends.Ends} {U = declared_ends.Ends}
-        (λ e. record e { first = spec.after spec.is_live_on (spec.entries slots.now) at }) (ends_at objects.old x)
-        else ends_at objects.old x) }
-    ensures other { (option_and_then (λ e. e.first) (ends_at objects.old object) ≡ Some at → ⊥)
-        → (x : declared_step.ObjectId) → ends_at objects.new x ≡ ends_at objects.old x }
-    ensures spare { spare objects.old ≤ spare objects.new }
-{
-    if is_first(objects, object, at) {
-        set_first(objects, object, live_after(slots, at));
+impl Drop for TurnTable {
+    fn drop(self) {
+        let TurnTable {
+            queue: _,
+            received: _,
+        } = self;
     }
 }
 
@@ -75,9 +36,8 @@ impl TurnTable {
         ensures { TurnsAre result [] }
     {
         TurnTable {
-            slots: Vec::new(alloc),
-            objects: HashMap::new(alloc),
-            rising: true,
+            queue: Queue::new(alloc),
+            received: Groups::new(alloc),
         }
     }
 
@@ -101,93 +61,18 @@ impl TurnTable {
         ensures stands { Makes self.old self.new (λ l. l ++ turn ∷ []) }
         ensures uses { Uses self.old self.new 1 }
     {
-        self.rising = still_rises(self.rising, &self.slots, turn.made);
-        let at = self.slots.len();
-        let ends = ends_of(&self.objects, turn.target);
-        link_last(&mut self.slots, ends, at);
-        put_ends(&mut self.objects, turn.target, with_last(ends, at));
-        self.slots.push_reserved(Slot {
-            entry: Entry { turn, live: true },
-            next: None,
-        });
+        let window = Group::Process {
+            made: turn.receiver,
+        };
+        self.received.push(window, self.queue.slots.len());
+        self.queue.push(turn);
     }
 
     /// The oldest one-way call on an object.
     pub fn oldest_on(&self, object: ObjectId) -> Option<Turn>
         ensures { Tells self.now result (λ l. find (λ t. same t.target object) l) }
     {
-        oldest_in(&self.slots, ends_of(&self.objects, object))
-    }
-
-    // The call at this place goes.
-    fn remove_at(&mut self, at: usize)
-        ensures entries { spec.entries self.new.slots.items
-            ≡ spec.changed_at at spec.gone (spec.entries self.old.slots.items) }
-        ensures stands { (l : List declared.Turn) → TurnsAre self.old l
-            → TurnsAre self.new (spec.turns_in (spec.entries self.new.slots.items)) }
-        ensures uses { Uses self.old self.new 0 }
-    {
-        if let Some(entry) = entry_at(&self.slots, at) {
-            leave_front(&mut self.objects, &self.slots, entry.turn.target, at);
-            mark_gone(&mut self.slots, at);
-        }
-    }
-
-    // Slots among which are all whose calls were made at this place: where places rise, one.
-    fn range_of(&self, made: u32) -> Range<usize>
-        ensures within { (l : List declared.Turn) → TurnsAre self.now l
-            → Within (λ t. t.made == made) result.start result.end (spec.entries self.now.slots.items) }
-    {
-        if !self.rising {
-            return 0..self.slots.len();
-        }
-        let at = self.slots.partition_point(|s| s.entry.turn.made < made);
-        at..at + 1
-    }
-
-    // Of the calls in these slots only those for which `f` answers `true` stay.
-    fn keep_in<F: Fn(Turn) -> bool>(&mut self, range: Range<usize>, f: F)
-        requires { F.IsAlwaysCallable f }
-        ensures stands { (p : declared.Turn → Bool) → ((t : declared.Turn) (b : Bool) → F.post f t b → b ≡ p t)
-            → (l : List declared.Turn) → TurnsAre self.old l
-            → Within (λ t. not (p t)) range.start range.end (spec.entries self.old.slots.items)
-            → TurnsAre self.new (filter p l) }
-        ensures uses { Uses self.old self.new 0 }
-    {
-        for at in range.start..range.end {
-            if let Some(entry) = entry_at(&self.slots, at) {
-                if !f(entry.turn) {
-                    self.remove_at(at);
-                }
-            }
-        }
-    }
-
-    // The call in this slot is handed out, if it was made there.
-    fn hand_out_at(&mut self, at: usize, made: u32)
-        ensures entries { spec.entries self.new.slots.items
-            ≡ spec.changed_at at (handed_if made) (spec.entries self.old.slots.items) }
-        ensures stands { (l : List declared.Turn) → TurnsAre self.old l
-            → TurnsAre self.new (spec.turns_in (spec.entries self.new.slots.items)) }
-        ensures uses { Uses self.old self.new 0 }
-    {
-        if let Some(entry) = entry_at(&self.slots, at) {
-            if entry.turn.made == made {
-                mark_handed(&mut self.slots, at);
-            }
-        }
-    }
-
-    // Of the calls in these slots those made at this place are handed out.
-    fn hand_out_in(&mut self, range: Range<usize>, made: u32)
-        ensures stands { (l : List declared.Turn) → TurnsAre self.old l
-            → Within (λ t. t.made == made) range.start range.end (spec.entries self.old.slots.items)
-            → TurnsAre self.new (changed (λ t. t.made == made) hand_turn l) }
-        ensures uses { Uses self.old self.new 0 }
-    {
-        for at in range.start..range.end {
-            self.hand_out_at(at, made);
-        }
+        self.queue.oldest_on(object)
     }
 
     /// The one-way call made at this place is handed out, if there is one.
@@ -195,8 +80,8 @@ impl TurnTable {
         ensures stands { Makes self.old self.new (λ l. changed (λ t. t.made == made) hand_turn l) }
         ensures uses { Uses self.old self.new 0 }
     {
-        let range = self.range_of(made);
-        self.hand_out_in(range, made);
+        let range = self.queue.range_of(made);
+        self.queue.hand_out_in(range, made);
     }
 
     /// The one-way call made at this place goes, if there is one.
@@ -204,8 +89,8 @@ impl TurnTable {
         ensures stands { Makes self.old self.new (λ l. filter (λ t. not (t.made == made)) l) }
         ensures uses { Uses self.old self.new 0 }
     {
-        let range = self.range_of(made);
-        self.keep_in(range, |t| t.made != made);
+        let range = self.queue.range_of(made);
+        self.queue.keep_in(range, |t| t.made != made);
     }
 
     /// The one-way calls in a process's window go.
@@ -213,7 +98,10 @@ impl TurnTable {
         ensures stands { Makes self.old self.new (λ l. filter (λ t. not (t.receiver == process)) l) }
         ensures uses { Uses self.old self.new 0 }
     {
-        self.retain(|t| t.receiver != process);
+        let window = Group::Process { made: process };
+        self.queue
+            .remove_received_in(self.received.of(window), process);
+        self.received.forget(window);
     }
 
     /// Only the one-way calls for which `f` answers `true` stay.
@@ -223,7 +111,7 @@ impl TurnTable {
             → Makes self.old self.new (λ l. filter p l) }
         ensures uses { Uses self.old self.new 0 }
     {
-        let len = self.slots.len();
-        self.keep_in(0..len, f);
+        let len = self.queue.slots.len();
+        self.queue.keep_in(0..len, f);
     }
 }

@@ -1,6 +1,6 @@
 //! The table of references.
 
-use crate::random::{Random, has_all, is_among, object_of};
+use crate::random::{Random, has_all, object_of};
 use bd_lists::ReferenceList;
 use bd_references::ReferenceTable;
 use bd_space::{Holder, Identity, ObjectId, Reference};
@@ -22,8 +22,8 @@ enum Call {
     DropAsked(u32, ObjectId, bool),
     DropShaken(ObjectId, bool),
     DropBuffer(u32),
-    // A process, and the places of the objects that it owns, as bits.
-    DropWithProcess(u32, u32),
+    DropWithProcess(u32),
+    DropOfOwner(ObjectId),
     Reserve(usize),
 }
 
@@ -56,8 +56,9 @@ fn any_call(random: &mut Random) -> Call {
         0..=15 => Call::Push(any_reference(random)),
         16..=22 => Call::DropAsked(p, o, random.is_so()),
         23..=26 => Call::DropShaken(o, random.is_so()),
-        27 | 28 => Call::DropBuffer(random.below(BUFFERS)),
-        29 if random.below(4) == 0 => Call::DropWithProcess(p, random.below(8)),
+        27 => Call::DropBuffer(random.below(BUFFERS)),
+        28 => Call::DropOfOwner(o),
+        29 if random.below(4) == 0 => Call::DropWithProcess(p),
         _ => Call::Reserve(random.below(20) as usize),
     }
 }
@@ -100,10 +101,13 @@ impl Both {
                 self.table.drop_buffer(b);
                 self.list.drop_buffer(b);
             }
-            Call::DropWithProcess(p, owned) => {
-                self.table
-                    .drop_with_process(p, |o| is_among(owned, o.place));
-                self.list.drop_with_process(p, |o| is_among(owned, o.place));
+            Call::DropWithProcess(p) => {
+                self.table.drop_with_process(p);
+                self.list.drop_with_process(p);
+            }
+            Call::DropOfOwner(o) => {
+                self.table.drop_of_owner(o);
+                self.list.drop_of_owner(o);
             }
             Call::Reserve(more) => self.table.reserve(more)?,
         }

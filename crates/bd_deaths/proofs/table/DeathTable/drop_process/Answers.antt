@@ -1,16 +1,15 @@
-use Rattle.std.proofs.Common.{◌≡◌, ◌==◌, ◌∙◌, not, filter, ap, sym, subst}
-use Rattle.bd_space.specs.declared.space.DeathNotification.{DeathNotification}
-use Rattle.bd_deaths.specs.SharedAt.{AreShared}
-use Rattle.bd_deaths.proofs.Places.{rising-filter}
+use Rattle.std.proofs.Common.{filter, subst, ap, ◌∙◌}
+use Rattle.bd_deaths.specs.Stands.{AreIn}
+use Rattle.bd_deaths.proofs.Listed.{is_left, all-out, forgotten}
 use Rattle.bd_deaths.proofs.table.DeathTable.drop_process.Goals as goal
 
 pub returns-clause-stands : goal.returns-clause-stands
 returns-clause-stands c = λ l h.
-    let others = λ (x : DeathNotification). not (x.process == c.args.p) in
-    let is : c.deref.result.now ≡ l = c.deref.ensures.value ∙ h.items_are in
+    let p = c.args.p in
+    let t = c.args.self.now in
     record {
-      items_are = c.drop_deaths_of.ensures.items ∙ ap (filter others) h.items_are;
-      rising = λ e. rising-filter others 0 c.args.self.now.end l (h.rising e);
-      keyed = subst (λ ys. AreShared c.drop_process.new.self (filter others ys)) is
-          (c.drop_process.ensures.stands (subst (AreShared c.args.self.now.sharing) (sym is) h.keyed));
+      are_in = subst (AreIn c.drop_all.new.self)
+          (ap (λ places. filter (is_left p places) l) c.of.ensures ∙ all-out p t.groups l h.listed)
+          (c.drop_all.ensures.stands l h.are_in);
+      listed = forgotten p t.groups c.forget.new.self c.forget.ensures.gone l h.listed;
     }

@@ -1,56 +1,53 @@
-use Rattle.std.proofs.Common.{◌≡◌, refl, sym, subst, ◌∙◌, ap, arith, take, length, List, get_or, ◌+◌, ◌<◌, vec_len}
-use Rattle.std.proofs.lemmas.List.{take_all}
+use Rattle.std.proofs.Common.{map, filter, refl, ap, sym, subst, ◌∙◌}
+use Rattle.std.specs.Prelude.{◌==◌, All}
+use Rattle.std.proofs.lemmas.List.{map-id}
+use Rattle.std.proofs.lemmas.Iterator.Consumers.{YieldsList-at, YieldsList-from_first, YieldsList-end}
+use Rattle.bd_groups.specs.Members.{members}
+use Rattle.bd_nodes.specs.New.{HasAll}
 use Rattle.bd_space.specs.Words.{changed}
-use Rattle.bd_space.specs.declared.space.Object.{Object}
-use Rattle.bd_space.specs.declared.space.DeathNotification.{DeathNotification}
-use Rattle.bd_deaths.specs.Stands.{DeathsAre}
-use Rattle.bd_deaths.specs.Room.{Uses, death_count}
-use Rattle.bd_deaths.specs.declared.table.DeathTable.{DeathTable}
-use Rattle.bd_deaths.proofs.Telling.{told_by, queued, told-then, told-else, told-none}
+use Rattle.bd_deaths.specs.Keys.{object_group}
+use Rattle.bd_deaths.specs.Due.{is_queued_in}
+use Rattle.bd_deaths.specs.Listed.{IsListed}
+use Rattle.bd_deaths.specs.Stands.{AreIn}
+use Rattle.bd_deaths.proofs.Listed.{listed-changed}
 use Rattle.bd_deaths.proofs.Room.{uses-none, uses-then}
+use Rattle.bd_deaths.proofs.Telling.{queued, no-places}
+use Rattle.bd_deaths.proofs.Visiting.{object-next, all-queued}
 use Rattle.bd_deaths.proofs.table.DeathTable.queue_due.Goals as goal
-use Rattle.bd_deaths.proofs.table.DeathTable.queue_due.Goals.{then-is_due, else-is_due}
 
-pub loop-k-init : goal.loop-k-init
-loop-k-init c = record {
-  so_far = λ objects xs n h. subst (DeathsAre c.args.self.now) (told-none objects c.args.p xs) h;
-  len = refl;
-  uses = uses-none c.args.self.now;
+pub loop-o-init : goal.loop-o-init
+loop-o-init c = record {
+  so_far = λ objects xs n h. subst (AreIn c.args.self.now.list) (no-places objects c.args.p xs) h;
+  groups = refl;
+  uses = uses-none c.args.self.now.list;
 }
 
-within : (c : goal.Joined-is_due) (xs : List DeathNotification) → DeathsAre c.args.self.now xs → c.loop-k.k < length xs
-within c xs h = omega (arith, c.loop-k-test.true, c.len-k-end.ensures, ap length h.items_are)
-
-at : (c : goal.Joined-is_due) (objects : List Object) (xs : List DeathNotification)
-    → DeathsAre c.loop-k.self (changed (told_by objects c.args.p (take c.loop-k.k xs)) (queued objects c.args.p) xs)
-    → c.index.result.now ≡ get_or (changed (told_by objects c.args.p (take c.loop-k.k xs)) (queued objects c.args.p) xs) c.loop-k.k c.index.result.now
-at c objects xs stood = c.index.ensures ∙ ap (λ ds. get_or ds c.loop-k.k c.index.result.now) stood.items_are
-
-pub loop-k-preserved : goal.loop-k-preserved
-unfolding death_count
-loop-k-preserved c =
-    let inv = c.loop-k.invariant in
-    elim c.if-is_due.branch [
-      | then-is_due w ↦ record {
-        so_far = λ objects xs n h.
-            let stood = inv.so_far objects xs n h in
-            subst (λ t. DeathsAre t (changed (told_by objects c.args.p (take (c.loop-k.k + 1) xs)) (queued objects c.args.p) xs)) (sym w.self-is)
-            (subst (DeathsAre w.set_phase.new.self) (told-then objects c.args.p xs _ _ c.loop-k.k _ _ (within c xs h) refl (at c objects xs stood) (sym (c.is_due.ensures objects n) ∙ w.if-is_due.true) refl)
-            (w.set_phase.ensures.stands _ stood));
-        len = ap (λ (t : DeathTable). vec_len t.deaths) w.self-is ∙ w.set_phase.ensures.count ∙ inv.len;
-        uses = subst (λ t. Uses c.args.self.now t 0) (sym w.self-is) (uses-then _ _ _ inv.uses w.set_phase.ensures.uses);
-      }
-      | else-is_due w ↦ record {
-        so_far = λ objects xs n h.
-            let stood = inv.so_far objects xs n h in
-            subst (λ t. DeathsAre t (changed (told_by objects c.args.p (take (c.loop-k.k + 1) xs)) (queued objects c.args.p) xs)) (sym w.self-is)
-            (subst (DeathsAre c.loop-k.self) (told-else objects c.args.p xs _ c.loop-k.k _ _ (within c xs h) refl (at c objects xs stood) (sym (c.is_due.ensures objects n) ∙ w.if-is_due.false)) stood);
-        len = ap (λ (t : DeathTable). vec_len t.deaths) w.self-is ∙ inv.len;
-        uses = subst (λ t. Uses c.args.self.now t 0) (sym w.self-is) inv.uses;
-      }
-    ]
+pub loop-o-preserved : goal.loop-o-preserved
+loop-o-preserved c =
+    let inv = c.loop-o.invariant in
+    let listed = c.of.ensures ∙ ap (members c.loop-o.self.groups) c.group_of.ensures in
+    record {
+      so_far = λ objects xs n h.
+          subst (AreIn c.queue_all.new.self)
+          (object-next c.args.self.now.groups objects c.args.p c.loop-o.yielded c.in-Some.o _
+          (listed ∙ ap (λ g. members g (object_group c.in-Some.o)) inv.groups) xs)
+          (c.queue_all.ensures.stands objects _ n (inv.so_far objects xs n h));
+      groups = inv.groups;
+      uses = uses-then _ _ _ inv.uses c.queue_all.ensures.uses;
+    }
 
 pub returns-clause-stands : goal.returns-clause-stands
 returns-clause-stands c = λ objects l n h.
-    let all : take c.loop-k.k l ≡ l = take_all c.loop-k.k l (omega (arith, c.loop-k-test.false, c.len-k-end.ensures, ap length h.items_are)) in
-    subst (λ ds. DeathsAre c.loop-k.self (changed (told_by objects c.args.p ds) (queued objects c.args.p) l)) all (c.loop-k.invariant.so_far objects l n h)
+    let p = c.args.p in
+    let inv = c.loop-o.invariant in
+    let groups = c.args.self.now.groups in
+    let road = YieldsList-end (YieldsList-at c.into_iter-o-iterator.ensures.into_iter_gives (YieldsList-from_first (λ x. x) (λ s. s) _ refl))
+    c.loop-o.yielded _ c.loop-o.yielded_by _ _ c.in-None.is c.next.ensures.steps in
+    let all = sym (map-id c.loop-o.yielded) ∙ road.0 in
+    let has = subst (λ os. HasAll os (map (λ x. x.id) (filter (λ x. x.owner == p) objects))) (sym all) (c.listed-o-items.ensures.all objects n) in
+    record {
+      are_in = subst (AreIn c.loop-o.self.list) (all-queued groups objects p c.loop-o.yielded has l h.listed) (inv.so_far objects l n h.are_in);
+      listed = subst (λ g. All (IsListed g) (changed (is_queued_in l objects p) (queued objects p) l)) (sym inv.groups)
+          (listed-changed groups (is_queued_in l objects p) (queued objects p)
+          (λ x. record { made = refl; process = refl; object = refl; cookie = refl }) l h.listed);
+    }

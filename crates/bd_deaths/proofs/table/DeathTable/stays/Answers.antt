@@ -8,4 +8,4 @@ pub returns : goal.returns
 returns c = λ l h.
     let made = λ (x : DeathNotification). x.made == c.args.made in
     let stays = λ (x : DeathNotification). not (at_name c.args.p c.args.o x.process x.object) || (x.cleared || c.args.named) in
-    c.death_stays.ensures ∙ any-of (λ x. made x && stays x) made _ l (λ x e. first-of-both (made x) _ e) (c.made_part.ensures l h) ∙ sym (any-filtered made stays l)
+    c.death_stays.ensures ∙ any-of (λ x. made x && stays x) made _ l (λ x e. first-of-both (made x) _ e) (c.made_part.ensures l h.are_in) ∙ sym (any-filtered made stays l)

@@ -12,4 +12,4 @@ returns c = λ l h.
     let d = c.args.cookie in
     c.told_in.ensures ∙ find-of (is_told_with p d) (has (cookie_key p d)) _ l
     (λ x e. last-two (is_told x.phase) (x.process == p) (x.cookie == d) e)
-    (subst (λ (k : Key). IsPartOf (has k) c.key_part.result.now l) c.cookie_key.ensures (c.key_part.ensures l h))
+    (subst (λ (k : Key). IsPartOf (has k) c.key_part.result.now l) c.cookie_key.ensures (c.key_part.ensures l h.are_in))

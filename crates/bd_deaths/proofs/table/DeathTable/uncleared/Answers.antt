@@ -12,4 +12,4 @@ returns c = λ l h.
     let p = c.args.p in
     let o = c.args.o in
     c.uncleared_in.ensures ∙ find-of (is_uncleared_on p o) (has (name_key p o)) _ l (λ x e. last-two (not x.cleared) (x.process == p) (same x.object o) e)
-    (subst (λ (k : Key). IsPartOf (has k) c.key_part.result.now l) c.name_key.ensures (c.key_part.ensures l h))
+    (subst (λ (k : Key). IsPartOf (has k) c.key_part.result.now l) c.name_key.ensures (c.key_part.ensures l h.are_in))

@@ -1,16 +1,19 @@
-use Rattle.std.proofs.Common.{not, ◌+◌, eqb}
-use Rattle.std.specs.Option.{is_some}
-use Rattle.bd_space.specs.declared.space.Name.{Name}
-use Rattle.bd_space.specs.Names.{named_in}
-use Rattle.bd_names.proofs.Limits.{fits-filter}
-use Rattle.bd_names.proofs.Moved.{named-gone}
-use Rattle.bd_names.proofs.Naming.{gone-sound, process-object, process-number}
+use Rattle.std.proofs.Common.{arith}
+use Rattle.bd_names.proofs.Listing.{going-first, going-more, all-gone}
 use Rattle.bd_names.proofs.names.Names.forget_process.Goals as goal
 
+pub loop-n-init : goal.loop-n-init
+loop-n-init c = record {
+  going = λ names h has. going-first c.args.p names c.args.self.now _ h (rw c.into_iter-n-iterator.ensures.into_iter_gives has);
+  room = omega arith;
+}
+
+pub loop-n-preserved : goal.loop-n-preserved
+loop-n-preserved c = record {
+  going = λ names h has. going-more c.args.p names c.loop-n.self c.forget_number.new.self c.loop-n.n-iterator c.next.new.self c.in-Some.n c.in-Some.ensures.steps c.forget_number.ensures.stands
+      (c.loop-n.invariant.going names h has);
+  room = omega (arith, c.loop-n.invariant.room, c.forget_number.ensures.uses);
+}
+
 pub returns-clause-stands : goal.returns-clause-stands
-returns-clause-stands c = λ l h.
-    let p = c.args.p in
-    let keep = λ (m : Name). not (eqb m.process p) in
-    named-gone c.args.self.now _ l _ (λ q k. eqb p q) (λ q x. eqb p q) h (gone-sound l keep h.sound) (fits-filter keep l h.fits)
-    (process-object l h.sound p) (process-number l h.sound p) c.take_objects_of.ensures.at c.take_numbers_of.ensures.at
-    (c.unmark_process.ensures.stands (λ q j. is_some (named_in l q (j + 1))) h.marks_are)
+returns-clause-stands c = λ l h has. all-gone c.args.p l c.loop-n.self c.loop-n.n-iterator c.in-None.ensures.steps.0 (c.loop-n.invariant.going l h has)

@@ -1,6 +1,7 @@
 use Rattle.std.proofs.Common.{◌≡◌, ◌+◌, not, Option, None, Some, length, is_some, if◌then◌else◌, arith, ap, sym, subst, ◌∙◌}
 use Rattle.std.specs.HashMap.{get, hash_map_len}
 use Rattle.std.specs.Map.{lookup}
+use Rattle.std.specs.Option.{IfSome}
 use Rattle.bd_words.specs.declared.key.WordKey.{WordKey}
 use Rattle.bd_words.specs.Keys.{same_word}
 use Rattle.bd_words.specs.Look.{look}
@@ -10,12 +11,13 @@ use Rattle.bd_space.specs.Words.{same}
 use Rattle.bd_space.specs.References.{object_in}
 use Rattle.bd_nodes.specs.declared.key.NodeKey.{NodeKey}
 use Rattle.bd_nodes.specs.Keys.{same_node, node_key, id_key, own_key}
-use Rattle.bd_nodes.specs.Stands.{NodesAre}
+use Rattle.bd_nodes.specs.Stands.{NodesAre, IsListed}
 use Rattle.bd_nodes.proofs.Tests.{node-eq, node-self}
 use Rattle.bd_nodes.proofs.Changes.{none-then, only-own}
 use Rattle.bd_nodes.proofs.Distinct.{filter-distinct, away-none}
 use Rattle.bd_nodes.proofs.Found.{option-same, length-without}
 use Rattle.bd_nodes.proofs.Maps.{Puts, finds-remove, only-key}
+use Rattle.bd_nodes.proofs.Listed.{lists-put}
 use Rattle.bd_nodes.proofs.table.NodeTable.remove.Goals as goal
 
 pub returns-in-Some-clause-stands : goal.returns-in-Some-clause-stands
@@ -29,14 +31,14 @@ returns-in-Some-clause-stands c = λ objects n.
     let less : hash_map_len c.remove.new.self + 1 ≡ hash_map_len c.args.self.now.objects =
     ap (λ (r : Option Object). hash_map_len c.remove.new.self + (if is_some r then 1 else 0)) (sym c.in-Some.is)
     ∙ c.remove.ensures.len in
+    let puts = subst (λ (k : NodeKey). Puts same_node (get same_node c.args.self.now.objects)
+    (get same_node c.remove.new.self) k None) c.node_key.ensures c.remove.ensures.updates.0 in
     let fewer = length-without id_key same_node node-eq node-self (node_key c.args.o) x objects n.ids has in
     record {
       found = finds-remove id_key same_node node-eq node-self (λ y. y) (get same_node c.args.self.now.objects)
           (get same_node c.remove.new.self)
           objects others (node_key c.args.o) n.found n.ids
-          (subst (λ (k : NodeKey). Puts same_node (get same_node c.args.self.now.objects)
-          (get same_node c.remove.new.self) k None) c.node_key.ensures
-          c.remove.ensures.updates.0)
+          puts
           (only-key id_key same_node node-eq node-self objects (node_key c.args.o));
       owned = finds-remove own_key same_word word-eq word-self (λ y. y.id) (look c.args.self.now.owns)
           (look c.remove-in-Some.new.self)
@@ -47,6 +49,8 @@ returns-in-Some-clause-stands c = λ objects n.
       count = omega (arith, less, fewer, n.count);
       ids = filter-distinct id_key same_node others objects n.ids;
       owns = filter-distinct own_key same_word others objects n.owns;
+      listed = lists-put c.args.self.now.objects c.remove.new.self c.args.self.now.owned c.args.self.now.owned
+          (node_key c.args.o) None puts (λ y is. is) tt n.listed;
     }
 
 pub returns-in_default-clause-stands : goal.returns-in_default-clause-stands
@@ -56,11 +60,13 @@ returns-in_default-clause-stands c = λ objects n.
     ∙ ap (get same_node c.args.self.now.objects) (sym c.node_key.ensures) ∙ sym c.remove.ensures.value
     ∙ c.in_default.is in
     let same_entries = none-then c.remove.result c.in_default.is c.remove.ensures.unchanged in
-    subst (NodesAre (record { objects = c.remove.new.self; owns = c.args.self.now.owns }))
+    subst (NodesAre (record c.args.self.now { objects = c.remove.new.self }))
     (sym (away-none id_key same_node (node_key c.args.o) objects none)) (record {
       found = λ k. ap (lookup (same_node k)) same_entries ∙ n.found k;
       owned = n.owned;
       count = ap length same_entries ∙ n.count;
       ids = n.ids;
       owns = n.owns;
+      listed = λ k. subst (λ found. IfSome found (IsListed c.args.self.now.owned))
+          (sym (ap (lookup (same_node k)) same_entries)) (n.listed k);
     })

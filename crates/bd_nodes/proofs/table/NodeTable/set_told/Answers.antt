@@ -1,5 +1,5 @@
 use Rattle.std.proofs.Common.{◌≡◌, None, Some, refl, ap, sym, subst, ◌∙◌, is_some}
-use Rattle.std.specs.Option.{option_copied_mut}
+use Rattle.std.specs.Option.{option_copied_mut, IfSome}
 use Rattle.std.specs.HashMap.{get}
 use Rattle.bd_words.specs.Keys.{same_word}
 use Rattle.bd_words.specs.Look.{look}
@@ -9,11 +9,12 @@ use Rattle.bd_space.specs.Words.{same}
 use Rattle.bd_space.specs.References.{object_in}
 use Rattle.bd_nodes.specs.declared.key.NodeKey.{NodeKey}
 use Rattle.bd_nodes.specs.Keys.{same_node, node_key, id_key, own_key}
-use Rattle.bd_nodes.specs.Stands.{NodesAre}
+use Rattle.bd_nodes.specs.Stands.{NodesAre, IsListed}
 use Rattle.bd_nodes.proofs.Tests.{node-eq, node-self}
 use Rattle.bd_nodes.proofs.Distinct.{changed-distinct}
 use Rattle.bd_nodes.proofs.Found.{option-same, length-changed, changed-nothing}
 use Rattle.bd_nodes.proofs.Maps.{Puts, finds-changed, finds-hidden}
+use Rattle.bd_nodes.proofs.Listed.{lists-put}
 use Rattle.bd_nodes.proofs.table.NodeTable.set_told.Goals as goal
 
 pub returns-in-Some-clause-stands : goal.returns-in-Some-clause-stands
@@ -28,17 +29,20 @@ returns-in-Some-clause-stands c = λ objects n.
     ∙ ap (get same_node c.args.self.now.objects) (sym c.node_key.ensures) ∙ there in
     let writes = c.get_mut.follows.holds (f x) in
     let new = c.get_mut.follows.lender (f x) in
+    let puts = subst (λ (k : NodeKey). Puts same_node (get same_node c.args.self.now.objects)
+    (get same_node new) k (Some (f x))) c.node_key.ensures (writes.3 (ap is_some there)).0 in
     record {
       found = finds-changed id_key same_node node-eq node-self (get same_node c.args.self.now.objects)
           (get same_node new) objects (node_key c.args.o) x f (λ y. refl) n.found has
-          (subst (λ (k : NodeKey). Puts same_node (get same_node c.args.self.now.objects)
-          (get same_node new) k (Some (f x))) c.node_key.ensures
-          (writes.3 (ap is_some there)).0);
+          puts;
       owned = finds-hidden own_key same_word word-eq word-self (λ y. y.id) (look c.args.self.now.owns) objects p f
           (λ y. refl) (λ y. refl) n.owned;
       count = writes.2 ∙ n.count ∙ sym (length-changed p f objects);
       ids = changed-distinct id_key same_node p f (λ y. refl) objects n.ids;
       owns = changed-distinct own_key same_word p f (λ y. refl) objects n.owns;
+      listed = lists-put c.args.self.now.objects new c.args.self.now.owned c.args.self.now.owned
+          (node_key c.args.o) (Some (f x)) puts (λ y is. is)
+          (subst (λ found. IfSome found (IsListed c.args.self.now.owned)) there (n.listed c.node_key.result)) n.listed;
     }
 
 pub returns-in_default-clause-stands : goal.returns-in_default-clause-stands
@@ -48,9 +52,7 @@ returns-in_default-clause-stands c = λ objects n.
     sym (option-same _) ∙ sym (n.found (node_key c.args.o))
     ∙ ap (get same_node c.args.self.now.objects) (sym c.node_key.ensures) ∙ sym c.get_mut.ensures.value
     ∙ ap option_copied_mut c.in_default.is in
-    let stays : NodesAre (record { objects = c.get_mut.follows.lender-at-none; owns = c.args.self.now.owns }) objects
-    =
-    subst (λ m. NodesAre (record { objects = m; owns = c.args.self.now.owns }) objects)
-    (sym c.get_mut.follows.holds-at-none) n in
-    subst (NodesAre (record { objects = c.get_mut.follows.lender-at-none; owns = c.args.self.now.owns }))
+    let stays : NodesAre (record c.args.self.now { objects = c.get_mut.follows.lender-at-none }) objects =
+    subst (λ m. NodesAre (record c.args.self.now { objects = m }) objects) (sym c.get_mut.follows.holds-at-none) n in
+    subst (NodesAre (record c.args.self.now { objects = c.get_mut.follows.lender-at-none }))
     (sym (changed-nothing id_key same_node node-eq node-self (node_key c.args.o) f objects none)) stays

@@ -1,16 +1,15 @@
-use Rattle.std.proofs.Common.{rules, subst}
-use Rattle.bd_space.specs.References.{owned_in}
+use Rattle.std.proofs.Common.{subst}
 use Rattle.bd_space.specs.ProcessExits.{without_process}
 use Rattle.bd_references.specs.Stands.{ReferencesAre}
-use Rattle.bd_objects.proofs.Covering.{left}
+use Rattle.bd_objects.proofs.Owned.{goes-with}
 use Rattle.bd_objects.proofs.table.ObjectTable.without_process.Goals as goal
 
 pub returns-clause-stands : goal.returns-clause-stands
 unfolding without_process
 returns-clause-stands c = λ s h. record {
   objects_are = h.objects_are;
-  references_are = subst (λ rs. ReferencesAre c.drop_with_process.new.self rs) (left c.args.p s.objects s.references)
-      (c.drop_with_process.ensures.stands (owned_in s.objects c.args.p) (λ o b k. search rules) s.references h.references_are);
+  references_are = subst (λ rs. ReferencesAre c.drop_of_owned.new.references rs) (goes-with c.args.p s.objects s.references)
+      (c.drop_of_owned.ensures.stands s.objects _ h.objects_are (c.drop_with_process.ensures.stands s.references h.references_are));
   names_are = c.drop_process.ensures.stands s.names h.names_are;
   deaths_are = c.drop_process-2.ensures.stands s.deaths h.deaths_are;
 }

@@ -9,8 +9,8 @@ pub returns-clause-items : goal.returns-clause-items
 returns-clause-items c = λ d few.
     let t = c.args.self.now in
     let b = c.args.b in
-    let next : c.saturating_add.result ≡ end_at t b + 1 = omega (arith, c.saturating_add.ensures, c.end-end.ensures, few) in
+    let next : c.saturating_add.result ≡ end_at t b + 1 = omega (arith, c.saturating_add.ensures, c.end_of-end.ensures, few) in
     pushed-if (item_in t.held d) (item_in c.put.new.held d) (b == d) (end_at t d) _ (end_at t b) c.args.r
-    (λ j. c.put.ensures.items d j ∙ ap (λ n. cond ((b == d) && (n == j)) (Some c.args.r) (item_in t.held d j)) c.end-end.ensures)
+    (λ j. c.put.ensures.items d j ∙ ap (λ n. cond ((b == d) && (n == j)) (Some c.args.r) (item_in t.held d j)) c.end_of-end.ensures)
     (c.set_end.ensures.ends d ∙ ap (λ n. cond (b == d) n (end_at t d)) next)
     (λ e. ap (end_at t) (eqb-true b d e))

@@ -6,6 +6,8 @@ twice true h = refl
 twice false h = absurd (cc)
 
 pub returns-clause-stands : goal.returns-clause-stands
-returns-clause-stands c = λ l are.
-    c.keep_in.ensures.stands (λ t. not (t.made == c.args.made)) (λ t b h. search (rules, tests)) l are
-    (λ i e there no. c.range_of-range.ensures.within l are i e there (twice (e.turn.made == c.args.made) no))
+returns-clause-stands c = λ l are. record {
+  queue_is = c.keep_in.ensures.stands (λ t. not (t.made == c.args.made)) (λ t b h. search (rules, tests)) l are.queue_is
+      (λ i e there no. c.range_of-range.ensures.within l are.queue_is i e there (twice (e.turn.made == c.args.made) no));
+  listed = c.keep_in.ensures.listed _ are.listed;
+}

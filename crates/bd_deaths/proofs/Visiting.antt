@@ -1,0 +1,136 @@
+-- The objects of a process that ends: all notifications that are due are listed with them.
+use Rattle.std.proofs.Common.{◌≡◌, ℕ, Bool, true, false, ◌||◌, ◌&&◌, List, [], ◌∷◌, ◌++◌, inl, inr, cond, map, filter, refl, ap, sym, subst, ◌∙◌}
+use Rattle.std.specs.Prelude.{◌==◌, All}
+use Rattle.std.specs.List.{list_any}
+use Rattle.std.proofs.lemmas.List.Elements.{All-head, All-tail}
+use Rattle.std.proofs.lemmas.List.Folds.{list_any-append}
+use Rattle.std.proofs.lemmas.Bool.{eqb-true, and_parts, or_cases, or_left, or_right}
+use Rattle.bd_groups.specs.declared.groups.Groups.{Groups}
+use Rattle.bd_groups.specs.Members.{members}
+use Rattle.bd_space.specs.declared.step.ObjectId.{ObjectId}
+use Rattle.bd_space.specs.declared.space.Object.{Object}
+use Rattle.bd_space.specs.declared.space.DeathNotification.{DeathNotification}
+use Rattle.bd_space.specs.Words.{changed, same}
+use Rattle.bd_space.specs.Local.{is_among}
+use Rattle.bd_space.specs.References.{owned_in}
+use Rattle.bd_space.specs.ProcessExits.{is_armed}
+use Rattle.bd_nodes.specs.New.{HasAll}
+use Rattle.bd_deaths.specs.Keys.{object_group}
+use Rattle.bd_deaths.specs.Listed.{IsListed}
+use Rattle.bd_deaths.specs.Due.{is_due, is_due_at, is_queued_in, queued_at, has_place}
+use Rattle.bd_deaths.proofs.Changes.{same_tests}
+use Rattle.bd_deaths.proofs.Listed.{place-in}
+use Rattle.bd_deaths.proofs.Telling.{told_at, queued, same-places, more-places}
+use Rattle.bd_deaths.proofs.Tests.{or-false, and-false, eqb-turned}
+
+-- the place is listed with one of these objects
+abbrev pub visited : Groups ℕ → List ObjectId → ℕ → Bool
+visited g os n = list_any (λ o. has_place (members g (object_group o)) n) os
+
+visited-more : (g : Groups ℕ) (os : List ObjectId) (o : ObjectId) (n : ℕ)
+    → (visited g os n || has_place (members g (object_group o)) n) ≡ visited g (os ++ o ∷ []) n
+visited-more g os o n =
+    ap (λ b. visited g os n || b) (sym (or-false (has_place (members g (object_group o)) n)))
+    ∙ sym (list_any-append (λ k. has_place (members g (object_group k)) n) os (o ∷ []))
+
+module _ (g : Groups ℕ) (objects : List Object) (p : ℕ) (os : List ObjectId) (o : ObjectId) where
+  -- one object more
+  pub object-next : (places : List ℕ) → places ≡ members g (object_group o) → (l : List DeathNotification)
+      → queued_at (has_place places) objects p (queued_at (visited g os) objects p l) ≡ queued_at (visited g (os ++ o ∷ [])) objects p l
+  object-next places is l =
+      ap (λ ns. queued_at (has_place ns) objects p (queued_at (visited g os) objects p l)) is
+      ∙ more-places objects p (visited g os) (has_place (members g (object_group o))) l
+      ∙ same-places objects p (λ n. visited g os n || has_place (members g (object_group o)) n) (visited g (os ++ o ∷ []))
+      (λ n. visited-more g os o n) l
+
+  both-put : (t v m d : Bool) → ((t || (v && d)) || (m && d)) ≡ (t || ((v || m) && d))
+  both-put true v m d = refl
+  both-put false true true true = refl
+  both-put false true true false = refl
+  both-put false true false true = refl
+  both-put false true false false = refl
+  both-put false false m d = refl
+
+  pub put-next : (l : List DeathNotification) (was : Bool) (old new : List ℕ) (n : ℕ)
+      → has_place old n ≡ (was || (visited g os n && told_at objects p l n))
+      → has_place new n ≡ (has_place old n || (has_place (members g (object_group o)) n && told_at objects p l n))
+      → has_place new n ≡ (was || (visited g (os ++ o ∷ []) n && told_at objects p l n))
+  put-next l was old new n before more =
+      more ∙ ap (λ b. b || (has_place (members g (object_group o)) n && told_at objects p l n)) before
+      ∙ both-put was (visited g os n) (has_place (members g (object_group o)) n) (told_at objects p l n)
+      ∙ ap (λ b. was || (b && told_at objects p l n)) (visited-more g os o n)
+
+same-is : (a b : ObjectId) → same a b ≡ true → a ≡ b
+same-is a b h =
+    let k = and_parts _ _ h in
+    let p = eqb-true a.place b.place k.0 in
+    let i = eqb-true a.index b.index k.1 in
+    (λ t. record { place = p t; index = i t })
+
+same-turned : (a b : ObjectId) → same a b ≡ true → same b a ≡ true
+same-turned a b h = rw (eqb-turned b.place a.place, eqb-turned b.index a.index) h
+
+owned-among : (objects : List Object) (p : ℕ) (o : ObjectId) → owned_in objects p o ≡ true
+    → is_among (map (λ x. x.id) (filter (λ x. x.owner == p) objects)) o ≡ true
+owned-among [] p o h = absurd (cc)
+owned-among (x ∷ xs) p o h = by (x.owner == p) h (owned-among xs p o)
+  where
+    by : (b : Bool) → ((same x.id o && b) || owned_in xs p o) ≡ true
+        → (owned_in xs p o ≡ true → is_among (map (λ y. y.id) (filter (λ y. y.owner == p) xs)) o ≡ true)
+        → is_among (map (λ y. y.id) (cond b (x ∷ filter (λ y. y.owner == p) xs) (filter (λ y. y.owner == p) xs))) o ≡ true
+    by true e further = elim (or_cases (same x.id o && true) (owned_in xs p o) e) [
+      | inl s ↦ or_left (same o x.id) _ (same-turned x.id o (and_parts (same x.id o) true s).0)
+      | inr s ↦ or_right (same o x.id) _ (further s)
+    ]
+    by false e further = elim (or_cases (same x.id o && false) (owned_in xs p o) e) [
+      | inl s ↦ let no = (and_parts (same x.id o) false s).1 in absurd (cc)
+      | inr s ↦ further s
+    ]
+
+visited-one : (g : Groups ℕ) (os : List ObjectId) (o : ObjectId) (n : ℕ) → is_among os o ≡ true
+    → has_place (members g (object_group o)) n ≡ true → visited g os n ≡ true
+visited-one g [] o n h there = absurd (cc)
+visited-one g (k ∷ os) o n h there = elim (or_cases (same o k) (is_among os o) h) [
+  | inl s ↦ or_left _ (visited g os n) (subst (λ i. has_place (members g (object_group i)) n ≡ true) (same-is o k s) there)
+  | inr s ↦ or_right _ (visited g os n) (visited-one g os o n s there)
+]
+
+module _ (g : Groups ℕ) (objects : List Object) (p : ℕ) (os : List ObjectId)
+    (has : HasAll os (map (λ x. x.id) (filter (λ x. x.owner == p) objects))) where
+  all-visited : (l : List DeathNotification) → All (IsListed g) l → (n : ℕ) → told_at objects p l n ≡ true → visited g os n ≡ true
+  all-visited [] all n h = absurd (cc)
+  all-visited (x ∷ xs) all n h = elim (or_cases (is_due_at objects p n x) (told_at objects p xs n) h) [
+    | inl s ↦
+        let here = and_parts (is_due objects p x) (n == x.made) s in
+        let owned = has x.object (owned-among objects p x.object (and_parts (is_armed x.phase) (owned_in objects p x.object) here.0).1) in
+        let there = place-in x.made (members g (object_group x.object)) (All-head (IsListed g) x xs all).object in
+        subst (λ k. visited g os k ≡ true) (sym (eqb-true n x.made here.1)) (visited-one g os x.object x.made owned there)
+    | inr s ↦ all-visited xs (All-tail (IsListed g) x xs all) n s
+  ]
+
+  both-told : (l : List DeathNotification) → All (IsListed g) l → (n : ℕ) → (visited g os n && told_at objects p l n) ≡ told_at objects p l n
+  both-told l all n = by (told_at objects p l n) refl
+    where
+      by : (b : Bool) → told_at objects p l n ≡ b → (visited g os n && b) ≡ b
+      by true e = rw (all-visited l all n e) refl
+      by false e = and-false (visited g os n)
+
+  pub all-queued : (l : List DeathNotification) → All (IsListed g) l → queued_at (visited g os) objects p l ≡ changed (is_queued_in l objects p) (queued objects p) l
+  all-queued l all = same_tests (queued objects p) (λ y. visited g os y.made && told_at objects p l y.made) (is_queued_in l objects p) l (λ y. both-told l all y.made)
+
+  made-due : (l : List DeathNotification) (n : ℕ) → has_place (map (λ x. x.made) (filter (is_due objects p) l)) n ≡ told_at objects p l n
+  made-due [] n = refl
+  made-due (x ∷ xs) n = by (is_due objects p x) (made-due xs n)
+    where
+      by : (b : Bool) → has_place (map (λ x. x.made) (filter (is_due objects p) xs)) n ≡ told_at objects p xs n
+          → has_place (map (λ x. x.made) (cond b (x ∷ filter (is_due objects p) xs) (filter (is_due objects p) xs))) n ≡ ((b && (n == x.made)) || told_at objects p xs n)
+      by true e = rw (eqb-turned x.made n, e) refl
+      by false e = e
+
+  -- what was put to others is what is due
+  pub all-put : (l : List DeathNotification) → All (IsListed g) l → (was now : List ℕ) (n : ℕ)
+      → has_place now n ≡ (has_place was n || (visited g os n && told_at objects p l n))
+      → has_place now n ≡ has_place (was ++ map (λ x. x.made) (filter (is_due objects p) l)) n
+  all-put l all was now n e =
+      e ∙ ap (λ b. has_place was n || b) (both-told l all n ∙ sym (made-due l n))
+      ∙ sym (list_any-append (λ k. k == n) was (map (λ x. x.made) (filter (is_due objects p) l)))

@@ -1,0 +1,13 @@
+use Rattle.std.proofs.Common.{◌==◌, false, refl, sym, subst, ◌∙◌}
+use Rattle.bd_space.specs.declared.space.DeathNotification.{DeathNotification}
+use Rattle.bd_space.specs.declared.space.Phase.TheVariants.{Told}
+use Rattle.bd_space.specs.Words.{changed, is_some_and}
+use Rattle.bd_deaths.specs.Stands.{AreIn}
+use Rattle.bd_deaths.proofs.Changes.{none}
+use Rattle.bd_deaths.proofs.list.DeathList.read_one.Goals as goal
+
+pub returns-in-None-clause-stands : goal.returns-in-None-clause-stands
+returns-in-None-clause-stands c = λ l h.
+    let told = λ (x : DeathNotification). record x { phase = Told } in
+    subst (λ d. AreIn c.args.self.now (changed (λ x. is_some_and d (λ n. n == x.made)) told l)) (sym c.in-None.is ∙ c.death_of.ensures)
+    (subst (AreIn c.args.self.now) (sym (none told (λ x. false) l (λ x. refl))) h)

@@ -1,0 +1,90 @@
+//! The places of notifications, by their processes and objects.
+
+ghost use Rattle.std.specs.Prelude.{◌≡◌, ◌≤◌, ◌+◌, ◌*◌, IfOk, OnOk, OnErr, List, All, length};
+ghost use Rattle.bd_groups.specs.Members.{group_room};
+ghost use Rattle.bd_space.specs.declared.space.DeathNotification as declared;
+ghost use Rattle.bd_deaths.specs.Keys as keys;
+ghost use Rattle.bd_deaths.specs.Listed.{IsListed};
+
+use crate::table::DeathTable;
+use bd_groups::{Group, Groups};
+use bd_space::{DeathNotification, ObjectId};
+use std::alloc::AllocError;
+
+/// The group of an object.
+pub(crate) fn group_of(o: ObjectId) -> Group
+    ensures { result ≡ keys.object_group o }
+{
+    Group::Object {
+        place: o.place,
+        index: o.index,
+    }
+}
+
+/// The notification's place comes into the groups of its process and its object.
+pub(crate) fn list_place(groups: &mut Groups<u32>, x: &DeathNotification)
+    requires { 2 ≤ group_room groups.old }
+    ensures listed { IsListed groups.new x.now }
+    ensures kept { (y : declared.DeathNotification) → IsListed groups.old y → IsListed groups.new y }
+    ensures uses { group_room groups.old ≤ group_room groups.new + 2 }
+{
+    groups.push(Group::Process { made: x.process }, x.made);
+    groups.push(group_of(x.object), x.made);
+}
+
+/// These notifications' places come into the groups.
+fn list_places(groups: &mut Groups<u32>, deaths: &[DeathNotification])
+    requires { 2 * length deaths.now ≤ group_room groups.old }
+    ensures listed { All (IsListed groups.new) deaths.now }
+    ensures uses { group_room groups.old ≤ group_room groups.new + 2 * length deaths.now }
+{
+    for x in deaths {
+        list_place(groups, x);
+    }
+}
+
+/// How many members so many notifications have, with so many more.
+fn members_for(deaths: usize, more: usize) -> Result<usize, AllocError>
+    ensures { IfOk result (λ n. n ≡ 2 * deaths + more) }
+{
+    deaths
+        .checked_mul(2)
+        .and_then(|twice| twice.checked_add(more))
+        .ok_or(AllocError)
+}
+
+impl DeathTable {
+    ghost use Rattle.bd_deaths.specs.Stands.{DeathsAre, AreIn};
+
+    // Groups of the notifications that are there, without the places of those that went, with room for so many members
+    // more.
+    fn renewed(&self, more: usize) -> Result<Groups<u32>, AllocError>
+        ensures listed { IfOk result (λ g. (l : List declared.DeathNotification) → AreIn self.now.list l → All (IsListed g) l) }
+        ensures room { IfOk result (λ g. more ≤ group_room g) }
+    {
+        let members = members_for(self.list.deaths.len(), more)?;
+        let mut groups = Groups::new(*self.list.deaths.allocator());
+        groups.reserve(members)?;
+        list_places(&mut groups, &self.list.deaths);
+        Ok(groups)
+    }
+
+    // Makes room in the groups for so many notifications more. Changes nothing else.
+    pub(crate) fn reserve_groups(&mut self, more: usize) -> Result<(), AllocError>
+        ensures list { self.new.list ≡ self.old.list }
+        ensures listed { (l : List declared.DeathNotification) → DeathsAre self.old l → All (IsListed self.new.groups) l }
+        ensures uses { group_room self.old.groups ≤ group_room self.new.groups }
+        ensures room { OnOk result (2 * more ≤ group_room self.new.groups) }
+        ensures grown { OnErr result (2 * more ≤ group_room self.old.groups → ⊥) }
+    {
+        // A room is a usize.
+        let _ = self.groups.room();
+        let members = more.checked_mul(2).ok_or(AllocError)?;
+        let left = self.list.deaths.len().saturating_mul(2);
+        if self.groups.is_worn(left, members) {
+            self.groups = self.renewed(members)?;
+            return Ok(());
+        }
+        self.groups.reserve(members)
+    }
+}

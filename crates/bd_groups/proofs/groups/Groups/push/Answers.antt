@@ -1,0 +1,28 @@
+use Rattle.std.proofs.Common.{Some, ◌∷◌, ◌++◌, [], reverse, cond, inl, refl, subst, ap, sym, ◌∙◌}
+use Rattle.bd_groups.specs.Group.{same_group}
+use Rattle.bd_groups.specs.Trail.{trail, latest_at}
+use Rattle.bd_groups.specs.Members.{members, IsIn}
+use Rattle.bd_groups.proofs.Same.{group-self}
+use Rattle.bd_groups.proofs.Trails.{pushed, still-in}
+use Rattle.bd_groups.proofs.groups.Groups.push.Goals as goal
+
+pub returns-clause-put : goal.returns-clause-put
+unfolding members
+returns-clause-put g c = λ h.
+    let t = c.args.self.now in
+    ap (λ ls. trail (reverse ls) (latest_at c.put_latest.new.latest h)) c.push_reserved.ensures.items
+    ∙ ap (trail (reverse (t.links.items ++ record { member = c.args.member; before = c.latest_of-before.result } ∷ []))) (c.put_latest.ensures.at h)
+    ∙ pushed t.links.items (latest_at t.latest) t.within c.args.g h c.args.member c.len-at.result c.latest_of-before.result
+    (c.len-at.ensures ∙ t.links.ok.0) c.latest_of-before.ensures
+
+pub returns-clause-has : goal.returns-clause-has
+returns-clause-has g c =
+    let k = c.args.g in
+    let was = members c.args.self.now k in
+    subst (IsIn c.args.member)
+    (sym (returns-clause-put g c k ∙ ap (λ b. cond b (c.args.member ∷ was) was) (group-self k))) (inl refl)
+
+pub returns-clause-keeps : goal.returns-clause-keeps
+returns-clause-keeps g c = λ h x is.
+    subst (IsIn x) (sym (returns-clause-put g c h))
+    (still-in (same_group c.args.g h) x c.args.member (members c.args.self.now h) is)

@@ -1,0 +1,173 @@
+-- What is listed among the objects of a process.
+use Rattle.std.proofs.Common.{◌≡◌, inl, inr, ℕ, ◌==◌, Bool, true, false, ◌&&◌, ◌||◌, cond, List, [], ◌∷◌, ◌++◌, map, Option, Some, None, find, filter, option_map, is_some, refl, ap, sym, subst, ◌∙◌}
+use Rattle.std.specs.List.{list_any}
+use Rattle.std.specs.Option.{IfSome}
+use Rattle.std.specs.HashMap.{HashMap, get}
+use Rattle.std.proofs.lemmas.Bool.{eqb-true}
+use Rattle.std.proofs.lemmas.List.Folds.{list_any-append}
+use Rattle.bd_groups.specs.declared.groups.Groups.{Groups}
+use Rattle.bd_groups.specs.Members.{IsIn, members}
+use Rattle.bd_space.specs.declared.step.ObjectId.{ObjectId}
+use Rattle.bd_space.specs.declared.space.Object.{Object}
+use Rattle.bd_space.specs.Words.{same}
+use Rattle.bd_space.specs.Local.{is_among}
+use Rattle.bd_space.specs.References.{owned_in}
+use Rattle.bd_nodes.specs.declared.key.NodeKey.{NodeKey}
+use Rattle.bd_nodes.specs.declared.table.NodeTable.{NodeTable}
+use Rattle.bd_nodes.specs.Keys.{same_node, id_key, node_key, owner_group}
+use Rattle.bd_nodes.specs.Stands.{NodesAre, IsListed, Lists}
+use Rattle.bd_nodes.proofs.Tests.{both, node-eq, node-self}
+use Rattle.bd_nodes.proofs.Found.{found-passes, found-own, any-some}
+use Rattle.bd_nodes.proofs.Maps.{Puts}
+
+-- ---- tests of lists
+
+any-alike : {A : Type 0} (p q : A → Bool) (xs : List A) → ((x : A) → p x ≡ q x) → list_any p xs ≡ list_any q xs
+any-alike p q [] e = refl
+any-alike p q (x ∷ xs) e = rw (e x, any-alike p q xs e) refl
+
+-- a test that passes implies another
+pub any-weaker : {A : Type 0} (p q : A → Bool) (xs : List A) → ((x : A) → p x ≡ true → q x ≡ true)
+    → list_any p xs ≡ true → list_any q xs ≡ true
+any-weaker p q [] w h = absurd (cc)
+any-weaker {A} p q (x ∷ xs) w h = by (p x) refl h (any-weaker p q xs w)
+  where
+    late : (b : Bool) → list_any q xs ≡ true → (b || list_any q xs) ≡ true
+    late true h = refl
+    late false h = h
+
+    by : (b : Bool) → p x ≡ b → (b || list_any p xs) ≡ true → (list_any p xs ≡ true → list_any q xs ≡ true)
+        → (q x || list_any q xs) ≡ true
+    by true e h further = ap (λ b. b || list_any q xs) (w x e)
+    by false e h further = late (q x) (further h)
+
+any-map : {A B : Type 0} (p : B → Bool) (f : A → B) (xs : List A) → list_any p (map f xs) ≡ list_any (λ x. p (f x)) xs
+any-map p f [] = refl
+any-map p f (x ∷ xs) = ap (λ b. p (f x) || b) (any-map p f xs)
+
+any-filter : {A : Type 0} (p r : A → Bool) (xs : List A) → list_any p (filter r xs) ≡ list_any (λ x. r x && p x) xs
+any-filter p r [] = refl
+any-filter p r (x ∷ xs) = by (r x) (any-filter p r xs)
+  where
+    by : (b : Bool) → list_any p (filter r xs) ≡ list_any (λ x. r x && p x) xs
+        → list_any p (cond b (x ∷ filter r xs) (filter r xs)) ≡ (b && p x || list_any (λ x. r x && p x) xs)
+    by true h = ap (λ b. p x || b) h
+    by false h = h
+
+-- ---- identities
+
+same-eq : (a b : ObjectId) → same a b ≡ true → a ≡ b
+same-eq a b h = let k = node-eq (node_key a) (node_key b) h in
+    (λ i. record { place = (k i).place; index = (k i).index })
+
+same-turn : (a b : ObjectId) → same a b ≡ same b a
+same-turn a b = by (same a b) refl (same b a) refl
+  where
+    by : (s : Bool) → same a b ≡ s → (t : Bool) → same b a ≡ t → s ≡ t
+    by true e true f = refl
+    by false e false f = refl
+    by true e false f = let yes : same b a ≡ true =
+        subst (λ c. same c a ≡ true) (same-eq a b e) (node-self (node_key a)) in absurd (cc)
+    by false e true f = let yes : same a b ≡ true =
+        subst (λ c. same c b ≡ true) (same-eq b a f) (node-self (node_key b)) in absurd (cc)
+
+pub in-among : (os : List ObjectId) (o : ObjectId) → IsIn o os → is_among os o ≡ true
+in-among [] o h = absurd h
+in-among (p ∷ os) o (inl e) = ap (λ b. b || is_among os o) (subst (λ q. same o q ≡ true) e (node-self (node_key o)))
+in-among (p ∷ os) o (inr h) = late (same o p) (in-among os o h)
+  where
+    late : (b : Bool) → is_among os o ≡ true → (b || is_among os o) ≡ true
+    late true h = refl
+    late false h = h
+
+-- those of a list that pass
+among-filter : (q : ObjectId → Bool) (os : List ObjectId) (o : ObjectId)
+    → is_among (filter q os) o ≡ (q o && is_among os o)
+among-filter q os o = any-filter (same o) q os ∙ all os
+  where
+    none : (b : Bool) → (b && false) ≡ false
+    none true = refl
+    none false = refl
+
+    out : (b m : Bool) → (b && true || (b && m)) ≡ (b && true)
+    out true m = refl
+    out false m = refl
+
+    all : (ps : List ObjectId) → list_any (λ p. q p && same o p) ps ≡ (q o && is_among ps o)
+    all [] = sym (none (q o))
+    all (p ∷ ps) = by (same o p) refl (all ps)
+      where
+        by : (b : Bool) → same o p ≡ b → list_any (λ p. q p && same o p) ps ≡ (q o && is_among ps o)
+            → (q p && b || list_any (λ p. q p && same o p) ps) ≡ (q o && (b || is_among ps o))
+        by true e h = rw (h, sym (same-eq o p e)) (out (q o) (is_among ps o))
+        by false e h = rw (none (q p)) h
+
+-- the identities of a process's objects
+pub owned-among : (objects : List Object) (p : ℕ) (o : ObjectId)
+    → is_among (map (λ (x : Object). x.id) (filter (λ x. x.owner == p) objects)) o ≡ owned_in objects p o
+owned-among objects p o =
+    any-map (same o) (λ (x : Object). x.id) (filter (λ x. x.owner == p) objects)
+    ∙ any-filter (λ (x : Object). same o x.id) (λ x. x.owner == p) objects
+    ∙ any-alike _ _ objects (λ x. swapped (x.owner == p) (same o x.id) ∙ ap (λ b. b && x.owner == p) (same-turn o x.id))
+  where
+    swapped : (a b : Bool) → (a && b) ≡ (b && a)
+    swapped true true = refl
+    swapped true false = refl
+    swapped false true = refl
+    swapped false false = refl
+
+pub owns-one : (objects : List Object) (p : ℕ) (o : ObjectId) → owned_in objects p o ≡ true
+    → list_any (λ (x : Object). x.owner == p) objects ≡ true
+owns-one objects p o h = any-weaker _ _ objects (λ x e. (both (same x.id o) (x.owner == p) e).1) h
+
+-- of listed ones those that the process owns are all that it owns
+pub owned-listed : (objects : List Object) (p : ℕ) (before listed : List ObjectId)
+    → ((o : ObjectId) → owned_in objects p o ≡ true → is_among listed o ≡ true) → (o : ObjectId)
+    → is_among (before ++ filter (owned_in objects p) listed) o
+    ≡ is_among (before ++ map (λ (x : Object). x.id) (filter (λ x. x.owner == p) objects)) o
+owned-listed objects p before listed all o =
+    list_any-append (same o) before (filter (owned_in objects p) listed)
+    ∙ ap (λ b. is_among before o || b) (among-filter (owned_in objects p) listed o
+    ∙ by (owned_in objects p o) refl ∙ sym (owned-among objects p o))
+    ∙ sym (list_any-append (same o) before (map (λ (x : Object). x.id) (filter (λ x. x.owner == p) objects)))
+  where
+    by : (b : Bool) → owned_in objects p o ≡ b → (b && is_among listed o) ≡ b
+    by true e = all o e
+    by false e = refl
+
+some-one : {A : Type 0} (o : Option A) → is_some o ≡ true → (x : A) × (o ≡ Some x)
+some-one None h = absurd (cc)
+some-one (Some x) h = (x, refl)
+
+-- what a process owns is listed
+pub owned-is-listed : (t : NodeTable) (objects : List Object) (p : ℕ) (o : ObjectId) → NodesAre t objects
+    → owned_in objects p o ≡ true → is_among (members t.owned (owner_group p)) o ≡ true
+owned-is-listed t objects p o n h =
+    let is_it = λ (x : Object). same x.id o && x.owner == p in
+    let found = some-one (find is_it objects) (sym (any-some is_it objects) ∙ h) in
+    let x = found.0 in
+    let passes = both (same x.id o) (x.owner == p) (found-passes is_it objects x found.1) in
+    let there : get same_node t.objects (id_key x) ≡ Some x =
+    n.found (id_key x)
+    ∙ ap (option_map (λ y. y)) (found-own id_key same_node node-eq node-self is_it objects x n.ids found.1) in
+    let is_listed : IsListed t.owned x = subst (λ found. IfSome found (IsListed t.owned)) there (n.listed (id_key x)) in
+    in-among (members t.owned (owner_group p)) o
+    (subst (λ q. IsIn o (members t.owned (owner_group q))) (eqb-true x.owner p passes.1)
+    (subst (λ i. IsIn i (members t.owned (owner_group x.owner))) (same-eq x.id o passes.0) is_listed))
+
+-- ---- changes
+
+-- with what is at one key, where it is listed
+pub lists-put : {S T : Type 0} (m : HashMap NodeKey Object S) (n : HashMap NodeKey Object T) (g h : Groups ObjectId)
+    (k : NodeKey) (v : Option Object) → Puts same_node (get same_node m) (get same_node n) k v
+    → ((x : Object) → IsListed g x → IsListed h x) → IfSome v (IsListed h) → Lists m g → Lists n h
+lists-put m n g h k v puts kept new lists = λ l.
+    subst (λ o. IfSome o (IsListed h)) (sym (puts l)) (by l (same_node k l))
+  where
+    stays : (o : Option Object) → IfSome o (IsListed g) → IfSome o (IsListed h)
+    stays None is = is
+    stays (Some x) is = kept x is
+
+    by : (l : NodeKey) (b : Bool) → IfSome (cond b v (get same_node m l)) (IsListed h)
+    by l true = new
+    by l false = stays (get same_node m l) (lists l)

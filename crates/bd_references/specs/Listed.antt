@@ -1,0 +1,34 @@
+-- What is listed by processes, so that it is found without a look at what is others'.
+use Rattle.std.specs.Prelude.{ℕ, ◌≡◌, ◌==◌, ◌<◌, Bool, true, Some}
+use Rattle.std.specs.List.{list_any}
+use Rattle.std.specs.HashMap.{HashMap}
+use Rattle.bd_groups.specs.declared.groups.Groups.{Groups}
+use Rattle.bd_groups.specs.declared.group.Group.TheVariants.{Process}
+use Rattle.bd_groups.specs.Members.{members}
+use Rattle.bd_space.specs.declared.space.Reference.{Reference}
+use Rattle.bd_space.specs.References.{is_in_window}
+use Rattle.bd_references.specs.declared.keys.CountKey.{CountKey}
+use Rattle.bd_references.specs.declared.keys.ItemKey.{ItemKey}
+use Rattle.bd_references.specs.declared.counts.Counts.{Counts}
+use Rattle.bd_references.specs.Keys.{is_of_process, is_one_of}
+use Rattle.bd_references.specs.Counted.{count_at}
+use Rattle.bd_references.specs.Gathered.{item_in, end_in}
+
+-- the process has the key
+abbrev pub has_key : Groups CountKey → ℕ → CountKey → Bool
+has_key users p k = is_one_of (members users (Process p)) k
+
+-- the process has the buffer
+abbrev pub has_buffer : Groups ℕ → ℕ → ℕ → Bool
+has_buffer windows p b = list_any (λ c. c == b) (members windows (Process p))
+
+-- each process has the keys of its counters that aren't 0, and no key of another's
+pub record AreUsers (uses : Counts) (users : Groups CountKey) : Type 0 where
+  pub has : (k : CountKey) (p : ℕ) → is_of_process p k.kind ≡ true → 0 < count_at uses k → has_key users p k ≡ true
+  pub only : (k : CountKey) (p : ℕ) → has_key users p k ≡ true → is_of_process p k.kind ≡ true
+
+-- each process has the buffers that hold something in its window
+abbrev pub AreWindows : {S T : Type 0} → HashMap ItemKey Reference S → HashMap ℕ ℕ T → Groups ℕ → Type 0
+AreWindows held ends windows =
+    (b i p : ℕ) (r : Reference) → i < end_in ends b → item_in held b i ≡ Some r → is_in_window p r.holder ≡ true
+    → has_buffer windows p b ≡ true

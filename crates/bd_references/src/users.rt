@@ -1,0 +1,94 @@
+//! The keys of counters, listed for the processes for which they count.
+
+ghost use Rattle.std.specs.Prelude.{ℕ, ◌≡◌, ◌≤◌, ◌<◌, ◌+◌, ◌++◌, ◌∷◌, true, false, map, filter, if◌then◌else◌, IfOk, OnOk, OnErr};
+ghost use Rattle.std.specs.List.{list_any};
+ghost use Rattle.bd_groups.specs.declared.group.Group.TheVariants.{Process};
+ghost use Rattle.bd_groups.specs.Members.{members, group_room};
+ghost use Rattle.bd_references.specs.declared.keys.CountKey as key;
+ghost use Rattle.bd_references.specs.declared.counts.Counts as counters;
+ghost use Rattle.bd_references.specs.Keys as keys;
+ghost use Rattle.bd_references.specs.Counted.{count_at, is_counted};
+ghost use Rattle.bd_references.specs.Listed.{AreUsers};
+
+use crate::counts::Counts;
+use crate::keys::{CountKey, object_of, process_of};
+use bd_groups::{Group, Groups, Members};
+use bd_space::ObjectId;
+use std::alloc::{AllocError, Global};
+
+// The key comes in for its process, if it has one.
+#[tactic(auto, unfolding(bd_groups::specs::Group::same_group))]
+fn put_user(users: &mut Groups<CountKey>, k: CountKey)
+    requires { 1 ≤ group_room users.old }
+    ensures put { (p : ℕ) → members users.new (Process p)
+        ≡ (if keys.is_of_process p k.kind then k ∷ members users.old (Process p) else members users.old (Process p)) }
+    ensures uses { group_room users.old ≤ group_room users.new + 1 }
+{
+    if let Some(p) = process_of(k.kind) {
+        users.push(Group::Process { made: p }, k);
+    }
+}
+
+/// The counter of the key may rise from now on: where it is 0, the key comes in.
+pub(crate) fn enlist(users: &mut Groups<CountKey>, uses: &Counts, k: CountKey)
+    requires { 1 ≤ group_room users.old }
+    ensures are { (later : counters.Counts)
+        → ((q : key.CountKey) → keys.same_key k q ≡ false → count_at later q ≡ count_at uses.now q)
+        → AreUsers uses.now users.old → AreUsers later users.new }
+    ensures uses { group_room users.old ≤ group_room users.new + 1 }
+{
+    if uses.at(k) == 0 {
+        put_user(users, k);
+    }
+}
+
+// The keys of these counters alone.
+fn renewed(uses: &Counts, alloc: Global, more: usize) -> Result<Groups<CountKey>, AllocError>
+    ensures are { IfOk result (λ users. AreUsers uses.now users) }
+    ensures room { IfOk result (λ users. more ≤ group_room users) }
+{
+    let room = uses.counts.len().checked_add(more).ok_or(AllocError)?;
+    let mut users = Groups::new(alloc);
+    users.reserve(room)?;
+    for (k, _) in uses.counts.iter() {
+        put_user(&mut users, *k);
+    }
+    Ok(users)
+}
+
+/// Room for so many keys more.
+pub(crate) fn reserve_users(
+    users: &mut Groups<CountKey>,
+    uses: &Counts,
+    alloc: Global,
+    more: usize,
+) -> Result<(), AllocError>
+    ensures are { AreUsers uses.now users.old → AreUsers uses.now users.new }
+    ensures uses { group_room users.old ≤ group_room users.new }
+    ensures room { OnOk result (more ≤ group_room users.new) }
+    ensures grown { OnErr result (more ≤ group_room users.old → ⊥) }
+{
+    if users.is_worn(uses.counts.len(), more) {
+        *users = renewed(uses, alloc, more)?;
+        return Ok(());
+    }
+    users.reserve(more)
+}
+
+/// The objects of those of the keys that count something.
+pub(crate) fn push_counted(
+    uses: &Counts,
+    listed: Members<'_, CountKey>,
+    touched: &mut Vec<ObjectId>,
+) -> Result<(), AllocError>
+    ensures pushed { OnOk result (touched.new.items
+        ≡ touched.old.items ++ map keys.object_of (filter (is_counted uses.now) listed.entry)) }
+    ensures grown { OnErr result (list_any (is_counted uses.now) listed.entry ≡ true) }
+{
+    for k in listed {
+        if uses.at(k) > 0 {
+            touched.push(object_of(k))?;
+        }
+    }
+    Ok(())
+}

@@ -1,0 +1,16 @@
+use Rattle.std.proofs.Common.{◌≡◌, List}
+use Rattle.bd_space.specs.declared.space.Turn.{Turn}
+use Rattle.bd_turns.specs.Slots.{entries, turns_in}
+use Rattle.bd_turns.specs.Sweep.{walked, handed_if}
+use Rattle.bd_turns.specs.Listed.{StayListed}
+use Rattle.bd_turns.specs.Stands.{QueueIs}
+use Rattle.bd_turns.specs.Room.{QueueUses}
+use Rattle.bd_turns.proofs.queue.Queue.hand_out_in.Given as goal
+
+abbrev pub invariant-loop-at : goal.invariant-loop-at
+invariant-loop-at l = record {
+  uses : QueueUses l.fn.self l.self 0;
+  stands : (ts : List Turn) → QueueIs l.fn.self ts → QueueIs l.self (turns_in (entries l.self.slots.items));
+  listed : StayListed (entries l.fn.self.slots.items) (entries l.self.slots.items);
+  walked : entries l.self.slots.items ≡ walked (handed_if l.fn.made) l.fn.range.start l.at (entries l.fn.self.slots.items);
+}
