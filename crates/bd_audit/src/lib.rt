@@ -18,5 +18,6 @@ pub use laws::{
     replies_are_handed_out, replies_reach_their_callers, streams_spell_their_items,
     turns_are_taken, turns_tell_of_calls,
 };
-pub use replies::call_of_reply;
+pub use playing::advance;
+pub use replies::{call_of_reply, played_to};
 pub use turns::{Turn, oneway_turns};

@@ -11,8 +11,8 @@ use bd_space::Entry;
 use bd_uapi::Fault;
 use std::alloc::Global;
 
-// Makes the step of an entry of a history.
-pub(crate) fn advance(engine: &mut Engine, entry: &Entry) -> Result<(), Fault>
+/// Makes the step of an entry, with which the engine's history is one. The only fault is `NoMemory`.
+pub fn advance(engine: &mut Engine, entry: &Entry) -> Result<(), Fault>
     requires lawful { IsHistory (with_entry engine.old entry.now) }
     ensures ok { IfOk result (λ _. engine.new ≡ with_entry engine.old entry.now) }
     ensures fault { IfErr result (λ f. f ≡ faults.NoMemory) }

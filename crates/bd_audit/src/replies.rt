@@ -12,8 +12,9 @@ use bd_space::{Entry, Record, Step};
 use bd_uapi::Fault;
 use std::alloc::Global;
 
-// The engine before the entry at this place.
-fn played_to(alloc: Global, record: &Record, place: usize) -> Result<Engine, Fault>
+/// The engine before the entry at this place, or after the last entry. The record is a history; the only fault is
+/// `NoMemory`.
+pub fn played_to(alloc: Global, record: &Record, place: usize) -> Result<Engine, Fault>
     requires seats { (1 ≤ «record».now.seats) × («record».now.seats ≤ 16) }
     requires lawful { IsHistory (history_in «record».now) }
     requires inside { place ≤ length «record».now.entries }

@@ -20,6 +20,7 @@ use Rattle.bd_buffers.specs.Holes.{Free, IsFreeByte, IsHoles, first_fit, taken, 
 use Rattle.bd_buffers.specs.Buffer.{IsApart, IsPlaced, one_way_share}
 use Rattle.bd_space.specs.Words.{changed}
 use Rattle.bd_space.specs.ReadItems.{hand_out}
+use Rattle.bd_buffers.specs.Bounds.{AreBounded}
 use Rattle.bd_buffers.specs.Window.{IsWindow, Keeps, one_way_size}
 use Rattle.bd_buffers.proofs.Changes.{All-changed, All-unchanged}
 use Rattle.bd_buffers.proofs.Kept.{window_handed, one_way_handed, window_removed, one_way_removed}
@@ -151,14 +152,17 @@ keeps_handed p bs g is =
       starts = spots_handed p bs g.spots is.starts;
       total = is.total ∙ sym (one_way_handed p bs);
       spare = omega (arith, spare, same);
+      bounded = is.bounded;
+      ready = λ some. is.ready (omega (arith, same, some));
     }
 
 -- where one buffer ended, and its room is free again
 pub keeps_without : (b : Buffer) (bs new : List Buffer) (g left : Ground) → Keeps bs g → IsWithout b bs new → left.size ≡ g.size
     → released b.start (b.start + b.size) g.tail g.holes.items ≡ record { holes = left.holes.items; tail = left.tail }
     → ((k : WordKey) → look left.spots k ≡ cond (same_word (spot_key (pointer b)) k) None (look g.spots k))
-    → left.one_way + one_way_share b ≡ g.one_way → vec_len left.holes ≤ vec_len g.holes + 1 → vec_capacity left.holes ≡ vec_capacity g.holes → Keeps new left
-keeps_without b bs new g left is gone size free spots share len capacity =
+    → left.one_way + one_way_share b ≡ g.one_way → vec_len left.holes ≤ vec_len g.holes + 1 → vec_capacity left.holes ≡ vec_capacity g.holes
+    → AreBounded left.size left.bounds left.holes.items → Keeps new left
+keeps_without b bs new g left is gone size free spots share len capacity bounds =
     let window : IsWindow g.size new = subst (IsWindow g.size) (sym gone.left) (window_removed g.size gone.index bs b is.window gone.within) in
     let holes : IsHoles g.size new (released b.start (b.start + b.size) g.tail g.holes.items).tail (released b.start (b.start + b.size) g.tail g.holes.items).holes =
     subst (λ xs. IsHoles g.size xs (released b.start (b.start + b.size) g.tail g.holes.items).tail (released b.start (b.start + b.size) g.tail g.holes.items).holes) (sym gone.left)
@@ -175,4 +179,6 @@ keeps_without b bs new g left is gone size free spots share len capacity =
       starts = spots_forgotten g.size b bs new g.spots left.spots is.starts is.window gone spots;
       total = omega (arith, total, own, less, rest, share);
       spare = omega (arith, spare, fewer, len, capacity);
+      bounded = bounds.all;
+      ready = λ some. bounds.ready;
     }

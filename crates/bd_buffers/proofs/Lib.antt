@@ -3,6 +3,7 @@ pub mod Places
 pub mod Fits
 pub mod Merging
 pub mod Split
+pub mod Bounded
 pub mod Made
 pub mod Live
 pub mod Kept

@@ -176,7 +176,7 @@ released-last : (s e tail i : ℕ) (holes : List Hole) → length holes ≤ i �
 unfolding released
 released-last s e tail i holes le = rw (drop_all i holes le) refl
 
-no_hole : Hole
+pub no_hole : Hole
 no_hole = record { start = 0; end = 0 }
 
 -- a hole that touches goes, and the span with it is put there

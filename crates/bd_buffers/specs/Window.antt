@@ -1,5 +1,5 @@
 -- A window: room for a buffer, the budget of one-way buffers, and what is so of every window.
-use Rattle.std.specs.Prelude.{ℕ, ◌≡◌, ◌+◌, ◌-◌, min, length, vec_len, vec_capacity, ◌*◌, ◌%◌, ◌<◌, ◌≤◌, Bool, IsTrue, List, All, AllPairs, filter, sum_by}
+use Rattle.std.specs.Prelude.{ℕ, ◌≡◌, ◌+◌, ◌-◌, min, length, vec_len, vec_capacity, ◌*◌, ◌%◌, ◌<◌, ◌≤◌, Bool, IsTrue, List, All, AllPairs, filter, sum_by, true, if◌then◌else◌}
 use Rattle.bd_uapi.specs.declared.fault.Cause.{Cause}
 use Rattle.bd_uapi.specs.declared.fault.Cause.TheVariants.{NoRoom, OverBudget}
 use Rattle.bd_space.specs.declared.space.Buffer.{Buffer}
@@ -9,6 +9,7 @@ use Rattle.bd_buffers.specs.declared.rows.Rows.{Rows}
 use Rattle.bd_buffers.specs.declared.ground.Ground.{Ground}
 use Rattle.bd_words.specs.Look.{word_room}
 use Rattle.bd_buffers.specs.Holes.{IsHoles}
+use Rattle.bd_buffers.specs.Bounds.{IsBounded, reaches}
 use Rattle.bd_buffers.specs.Rows.{live}
 use Rattle.bd_buffers.specs.Spots.{AreSpots}
 
@@ -47,18 +48,21 @@ pub record IsWindow (size : ℕ) (buffers : List Buffer) : Type 0 where
   pub apart : AllPairs (λ a b. IsApart b.start b.size a) buffers
   pub budget : IsInBudget size buffers 0
 
--- what a window keeps: what is free are its holes and its tail, and each buffer is found by its pointer. A buffer pays
--- for the hole that it leaves, so that its end takes no memory
+-- what a window keeps: what is free are its holes and its tail, no hole is larger than its bounds, and each buffer is
+-- found by its pointer. A buffer pays for the hole that it leaves, so that its end takes no memory
 pub record Keeps (buffers : List Buffer) (g : Ground) : Type 0 where
   pub window : IsWindow g.size buffers
   pub free : IsHoles g.size buffers g.tail g.holes.items
   pub starts : AreSpots buffers g.spots
   pub total : g.one_way ≡ one_way_size buffers
   pub spare : vec_len g.holes + length buffers ≤ vec_capacity g.holes
+  pub bounded : All (IsBounded g.bounds) g.holes.items
+  pub ready : 0 < length buffers → reaches g.size g.bounds ≡ true
 
--- how many more buffers there is room for
+-- how many more buffers there is room for: none before there are bounds
 abbrev pub room_left : Rows → Ground → ℕ
-room_left t g = min (min t.room (word_room g.spots)) (vec_capacity g.holes - (vec_len g.holes + length (live t.rows)))
+room_left t g =
+    if reaches g.size g.bounds then min (min t.room (word_room g.spots)) (vec_capacity g.holes - (vec_len g.holes + length (live t.rows))) else 0
 
 -- a window as contracts see it: its size, its live buffers, oldest first, what they leave free, and how many more it has room to note
 pub record WindowView : Type 0 where

@@ -1,6 +1,6 @@
 //! Where the buffers of a window lie, by what pointers they are found, and what they leave free.
 
-ghost use Rattle.std.specs.Prelude.{◌≡◌, ◌+◌, ◌<◌, ◌≤◌, None, MatchOption, vec_len, vec_capacity, if◌then◌else◌};
+ghost use Rattle.std.specs.Prelude.{◌≡◌, ◌+◌, ◌<◌, ◌≤◌, ◌^◌, None, MatchOption, vec_len, vec_capacity, if◌then◌else◌};
 ghost use Rattle.bd_words.specs.Keys.{same_word};
 ghost use Rattle.bd_words.specs.Look.{look, word_room};
 ghost use Rattle.bd_words.specs.declared.key.WordKey.{WordKey};
@@ -9,10 +9,12 @@ ghost use Rattle.bd_buffers.specs.Buffer as spec;
 ghost use Rattle.bd_buffers.specs.Holes as free;
 ghost use Rattle.bd_buffers.specs.Rows.{live, in_row, IsWithout};
 ghost use Rattle.bd_buffers.specs.Spots.{spot_key};
+ghost use Rattle.bd_buffers.specs.Bounds.{AreBounded, AreWithin, reaches};
 ghost use Rattle.bd_buffers.specs.Window.{Keeps, room_left};
 
+use crate::bounds::Bounds;
 use crate::buffer::{one_way_share, pointer_of};
-use crate::hole::{Hole, give_back};
+use crate::hole::{Hole, begin_of, give_back, take};
 use crate::rows::Rows;
 use bd_space::Buffer;
 use bd_words::{WordKey, WordMap};
@@ -29,6 +31,8 @@ pub(crate) struct Ground {
     pub(crate) holes: Vec<Hole>,
     // Where the last buffer ends. All is free from there on.
     pub(crate) tail: u32,
+    // What no hole is larger than, by where it begins.
+    pub(crate) bounds: Bounds,
 }
 
 /// By what a window's buffer with this pointer is found. Takes no memory.
@@ -42,10 +46,58 @@ pub(crate) fn key_at(pointer: u64) -> WordKey
 }
 
 impl Ground {
+    /// Takes n bytes off the start of what is free from a place on. A hole that is left begins behind them, maybe in
+    /// another block.
+    pub(crate) fn cut(&mut self, place: u32, n: u32)
+        requires spaced { free.Spaced self.old.tail 0 self.old.holes.items }
+        requires begins { free.Begins self.old.tail place n self.old.holes.items }
+        requires fits { (place + n < 2 ^ 32) × (self.old.tail + n < 2 ^ 32) }
+        requires later { AreWithin self.old.size (free.taken place n self.old.tail self.old.holes.items) }
+        requires bounds { AreBounded self.old.size self.old.bounds self.old.holes.items }
+        ensures left { free.taken place n self.old.tail self.old.holes.items
+            ≡ record { holes = self.new.holes.items; tail = self.new.tail } }
+        ensures bounds { AreBounded self.new.size self.new.bounds self.new.holes.items }
+        ensures reaches { reaches self.new.size self.new.bounds ≡ reaches self.old.size self.old.bounds }
+        ensures others { (self.new.size ≡ self.old.size) × (self.new.one_way ≡ self.old.one_way)
+            × (self.new.spots ≡ self.old.spots) }
+        ensures len { vec_len self.new.holes ≤ vec_len self.old.holes }
+        ensures capacity { vec_capacity self.new.holes ≡ vec_capacity self.old.holes }
+    {
+        self.tail = take(&mut self.holes, self.tail, place, n);
+        self.bounds.refresh(&self.holes, place + n);
+        self.bounds.refresh(&self.holes, place);
+    }
+
+    // Gives a span back. The hole that it is in then may begin before it, and one that began at its end is gone.
+    fn restore(&mut self, start: u32, end: u32)
+        requires spaced { free.Spaced self.old.tail 0 self.old.holes.items }
+        requires room { vec_len self.old.holes < vec_capacity self.old.holes }
+        requires filled { start < end }
+        requires later { AreWithin self.old.size (free.released start end self.old.tail self.old.holes.items) }
+        requires bounds { AreBounded self.old.size self.old.bounds self.old.holes.items }
+        ensures left { free.released start end self.old.tail self.old.holes.items
+            ≡ record { holes = self.new.holes.items; tail = self.new.tail } }
+        ensures bounds { AreBounded self.new.size self.new.bounds self.new.holes.items }
+        ensures reaches { reaches self.new.size self.new.bounds ≡ reaches self.old.size self.old.bounds }
+        ensures others { (self.new.size ≡ self.old.size) × (self.new.one_way ≡ self.old.one_way)
+            × (self.new.spots ≡ self.old.spots) }
+        ensures len { vec_len self.new.holes ≤ vec_len self.old.holes + 1 }
+        ensures capacity { vec_capacity self.new.holes ≡ vec_capacity self.old.holes }
+    {
+        self.tail = give_back(&mut self.holes, self.tail, start, end);
+        let begin = begin_of(&self.holes, self.tail, start);
+        self.bounds.refresh(&self.holes, begin);
+        self.bounds.refresh(&self.holes, end);
+    }
+
     // Takes back what a buffer took.
     fn release(&mut self, b: &Buffer)
         requires spaced { free.Spaced self.old.tail 0 self.old.holes.items }
         requires room { vec_len self.old.holes < vec_capacity self.old.holes }
+        requires filled { 0 < b.now.size }
+        requires later { AreWithin self.old.size
+            (free.released b.now.start (b.now.start + b.now.size) self.old.tail self.old.holes.items) }
+        requires bounds { AreBounded self.old.size self.old.bounds self.old.holes.items }
         requires share { spec.one_way_share b.now ≤ self.old.one_way }
         requires within { b.now.start + b.now.size ≤ 4194304 }
         ensures left { free.released b.now.start (b.now.start + b.now.size) self.old.tail self.old.holes.items
@@ -53,15 +105,16 @@ impl Ground {
         ensures spots { (k : WordKey) → look self.new.spots k
             ≡ (if same_word (spot_key (pointer b.now)) k then None else look self.old.spots k) }
         ensures one_way { self.new.one_way + spec.one_way_share b.now ≡ self.old.one_way }
+        ensures bounds { AreBounded self.new.size self.new.bounds self.new.holes.items }
+        ensures reaches { reaches self.new.size self.new.bounds ≡ reaches self.old.size self.old.bounds }
         ensures size { self.new.size ≡ self.old.size }
         ensures len { vec_len self.new.holes ≤ vec_len self.old.holes + 1 }
         ensures capacity { vec_capacity self.new.holes ≡ vec_capacity self.old.holes }
         ensures room { word_room self.old.spots ≤ word_room self.new.spots }
     {
-        let tail = give_back(&mut self.holes, self.tail, b.start, b.start + b.size);
+        self.restore(b.start, b.start + b.size);
         let share = one_way_share(b);
         let _made = self.spots.remove(key_at(pointer_of(b)));
-        self.tail = tail;
         self.one_way -= share;
     }
 }

@@ -1,8 +1,11 @@
 //! The free space of a window: holes between its buffers, and the tail past the last of them.
 
-ghost use Rattle.std.specs.Prelude.{◌++◌, ◌≡◌, ◌+◌, ◌<◌, ◌≤◌, ◌^◌, length, take, drop, find, option_copied, vec_len, vec_capacity};
+ghost use Rattle.std.specs.Prelude.{◌++◌, ◌≡◌, ◌+◌, ◌-◌, ◌/◌, All, ◌<◌, ◌≤◌, ◌^◌, length, take, drop, find, option_copied, vec_len, vec_capacity};
 ghost use Rattle.std.specs.List.Sorted.{IsNonDecreasingBy, IsPartitionPoint};
 ghost use Rattle.bd_buffers.specs.Holes as free;
+ghost use Rattle.bd_buffers.specs.Bounds.{IsBounded};
+
+use crate::bounds::{Bounds, index_in};
 
 // A free span that ends where a buffer begins.
 #[derive(Clone, Copy)]
@@ -12,6 +15,13 @@ pub(crate) struct Hole {
 }
 
 impl Hole {
+    /// How large it is.
+    pub(crate) fn size(&self) -> u32
+        ensures { result ≡ self.now.end - self.now.start }
+    {
+        self.end.saturating_sub(self.start)
+    }
+
     // Whether n bytes fit.
     fn has_room(&self, n: u32) -> bool
         ensures { result ≡ free.has_room n self.now }
@@ -21,19 +31,37 @@ impl Hole {
 }
 
 // The first hole of n bytes.
-fn first_hole(holes: &[Hole], n: u32) -> Option<&Hole>
+fn first_among(holes: &[Hole], n: u32) -> Option<&Hole>
     ensures { option_copied result ≡ find (free.has_room n) holes.now }
 {
     holes.iter().find(|h| h.has_room(n))
 }
 
+// The first hole of n bytes, which doesn't begin before the first block whose bound allows for it.
+fn first_hole<'a>(bounds: &Bounds, holes: &'a [Hole], n: u32) -> Option<&'a Hole>
+    requires order { IsNonDecreasingBy (λ h. h.start / 4096) holes.now }
+    requires bounded { All (IsBounded bounds.now) holes.now }
+    ensures { option_copied result ≡ find (free.has_room n) holes.now }
+{
+    let from = index_in(holes, bounds.first_block(n));
+    first_among(&holes[from..], n)
+}
+
 /// Where the first n free bytes in a row begin.
 #[tactic(auto, unfolding(crate::specs::Holes::first_fit))]
-pub(crate) fn first_place(size: u32, tail: u32, holes: &[Hole], n: u32) -> Option<u32>
-    requires { tail + n < 2 ^ 32 }
+pub(crate) fn first_place(
+    bounds: &Bounds,
+    size: u32,
+    tail: u32,
+    holes: &[Hole],
+    n: u32,
+) -> Option<u32>
+    requires small { tail + n < 2 ^ 32 }
+    requires order { IsNonDecreasingBy (λ h. h.start / 4096) holes.now }
+    requires bounded { All (IsBounded bounds.now) holes.now }
     ensures { result ≡ free.first_fit size tail n holes.now }
 {
-    match first_hole(holes, n) {
+    match first_hole(bounds, holes, n) {
         Some(h) => Some(h.start),
         None if tail + n <= size => Some(tail),
         None => None,
@@ -47,6 +75,18 @@ fn index_from(holes: &[Hole], place: u32) -> usize
     ensures point { IsPartitionPoint (λ h. h.end < place) (λ h. place ≤ h.end) holes.now result }
 {
     holes.partition_point(|h| h.end < place)
+}
+
+/// Where the hole that spans a place begins. Where none does, where the tail begins.
+pub(crate) fn begin_of(holes: &[Hole], tail: u32, place: u32) -> u32
+    requires spaced { free.Spaced tail 0 holes.now }
+    ensures { All (λ h. h.start ≤ place → place < h.end → h.start ≡ result) holes.now }
+{
+    let i = holes.partition_point(|h| h.end <= place);
+    match holes.get(i) {
+        None => tail,
+        Some(h) => h.start,
+    }
 }
 
 /// Takes n bytes off the start of what is free from a place on, and answers where the tail begins then.

@@ -1,6 +1,7 @@
 //! Windows: the memory of a process that its transactions' buffers lie in.
 #![tactic(auto)]
 
+mod bounds;
 mod buffer;
 mod ground;
 mod hole;

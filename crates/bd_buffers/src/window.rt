@@ -8,9 +8,10 @@ ghost use Rattle.bd_space.specs.Freeing.{is_made_at};
 ghost use Rattle.bd_space.specs.ReadItems.{hand_out};
 ghost use Rattle.bd_space.specs.Returns.{buffer_in};
 
+use crate::bounds::Bounds;
 use crate::buffer::{needed, one_way_share, pointer_of};
 use crate::ground::{Ground, end_row, key_at};
-use crate::hole::{first_place, take};
+use crate::hole::first_place;
 use crate::home::forget;
 use crate::rows::Rows;
 use bd_space::Buffer;
@@ -66,6 +67,7 @@ impl Window {
                 spots: WordMap::new(alloc),
                 holes: Vec::new(alloc),
                 tail: 0,
+                bounds: Bounds::new(alloc),
             },
         })
     }
@@ -76,7 +78,13 @@ impl Window {
         requires small { n ≤ 8388608 }
         ensures { result ≡ start_in self.now.size self.now.buffers n }
     {
-        first_place(self.ground.size, self.ground.tail, &self.ground.holes, n)
+        first_place(
+            &self.ground.bounds,
+            self.ground.size,
+            self.ground.tail,
+            &self.ground.holes,
+            n,
+        )
     }
 
     // Whether the one-way buffers and n more bytes would take more than half of the window.
@@ -144,6 +152,7 @@ impl Window {
     {
         self.buffers.reserve(1)?;
         self.ground.spots.reserve(1)?;
+        self.ground.bounds.reserve(self.ground.size)?;
         self.ground.holes.reserve(self.buffers.count() + 1)
     }
 
@@ -163,16 +172,10 @@ impl Window {
         ensures stands { WindowMakes (Stands self.old) (Stands self.new) (λ bs. bs ++ buffer ∷ []) }
         ensures room { Uses self.old self.new 1 }
     {
-        let tail = take(
-            &mut self.ground.holes,
-            self.ground.tail,
-            buffer.start,
-            buffer.size,
-        );
+        self.ground.cut(buffer.start, buffer.size);
         let share = one_way_share(&buffer);
         let key = key_at(pointer_of(&buffer));
         self.ground.spots.insert(key, buffer.made);
-        self.ground.tail = tail;
         self.ground.one_way += share;
         self.buffers.push(buffer);
     }

@@ -1,4 +1,5 @@
 pub mod Changes
+pub mod Gathered
 pub mod Kept
 pub mod Keys
 pub mod Listed

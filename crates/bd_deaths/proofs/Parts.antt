@@ -30,6 +30,22 @@ find-between q xs ys i j h w e = ap (find q) (e ∙ between_is xs i j) ∙ find-
 pub any-between : (q : DeathNotification → Bool) (xs ys : List DeathNotification) (i j : ℕ) → i ≤ j → IsWithin q i j xs → ys ≡ between i j xs → list_any q ys ≡ list_any q xs
 any-between q xs ys i j h w e = any-some q ys ∙ ap is_some (find-between q xs ys i j h w e) ∙ sym (any-some q xs)
 
+filter-empty : {A : Type 0} (q : A → Bool) (xs : List A) → list_any q xs ≡ false → filter q xs ≡ []
+filter-empty q [] h = refl
+filter-empty q (x ∷ xs) h = let g = no-head (q x) _ h in rw g.0 (filter-empty q xs g.1)
+
+filter-part : {A : Type 0} (q : A → Bool) (xs : List A) (i j : ℕ) → i ≤ j → list_any q (take i xs) ≡ false → list_any q (drop j xs) ≡ false
+    → filter q (drop i (take j xs)) ≡ filter q xs
+filter-part q [] zero zero h b a = refl
+filter-part q [] zero (suc j) h b a = refl
+filter-part q [] (suc i) zero h b a = refl
+filter-part q [] (suc i) (suc j) h b a = refl
+filter-part q (x ∷ xs) zero zero h b a = sym (filter-empty q (x ∷ xs) a)
+filter-part q (x ∷ xs) zero (suc j) h b a = ap (λ ys. cond (q x) (x ∷ ys) ys) (filter-part q xs zero j (omega arith) refl a)
+filter-part q (x ∷ xs) (suc i) zero h b a = absurd (omega arith)
+filter-part q (x ∷ xs) (suc i) (suc j) h b a =
+    let g = no-head (q x) _ b in filter-part q xs i j (omega arith) g.1 a ∙ ap (λ t. cond t (x ∷ filter q xs) (filter q xs)) (sym g.0)
+
 -- ---- changed from one index to another
 
 pub changed-first : (q : DeathNotification → Bool) (f : DeathNotification → DeathNotification) (xs : List DeathNotification) (i j : ℕ) → IsWithin q i j xs
@@ -113,6 +129,11 @@ find-of q r ys xs h p = find-between q xs ys p.from p.to p.order (within-fewer q
 
 pub any-of : (q r : DeathNotification → Bool) (ys xs : List DeathNotification) → ((x : DeathNotification) → q x ≡ true → r x ≡ true) → IsPartOf r ys xs → list_any q ys ≡ list_any q xs
 any-of q r ys xs h p = any-some q ys ∙ ap is_some (find-of q r ys xs h p) ∙ sym (any-some q xs)
+
+pub filter-of : (q r : DeathNotification → Bool) (ys xs : List DeathNotification) → ((x : DeathNotification) → q x ≡ true → r x ≡ true) → IsPartOf r ys xs → filter q ys ≡ filter q xs
+filter-of q r ys xs h p =
+    let w = within-fewer q r xs p.from p.to (implies-all q r h xs) p.within in
+    ap (filter q) (p.is ∙ between_is xs p.from p.to) ∙ filter-part q xs p.from p.to p.order w.before w.after
 
 pub first-of-both : (a b : Bool) → (a && b) ≡ true → a ≡ true
 first-of-both true b h = refl

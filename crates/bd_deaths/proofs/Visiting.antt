@@ -108,7 +108,7 @@ module _ (g : Groups ℕ) (objects : List Object) (p : ℕ) (os : List ObjectId)
     | inr s ↦ all-visited xs (All-tail (IsListed g) x xs all) n s
   ]
 
-  both-told : (l : List DeathNotification) → All (IsListed g) l → (n : ℕ) → (visited g os n && told_at objects p l n) ≡ told_at objects p l n
+  pub both-told : (l : List DeathNotification) → All (IsListed g) l → (n : ℕ) → (visited g os n && told_at objects p l n) ≡ told_at objects p l n
   both-told l all n = by (told_at objects p l n) refl
     where
       by : (b : Bool) → told_at objects p l n ≡ b → (visited g os n && b) ≡ b
@@ -117,20 +117,3 @@ module _ (g : Groups ℕ) (objects : List Object) (p : ℕ) (os : List ObjectId)
 
   pub all-queued : (l : List DeathNotification) → All (IsListed g) l → queued_at (visited g os) objects p l ≡ changed (is_queued_in l objects p) (queued objects p) l
   all-queued l all = same_tests (queued objects p) (λ y. visited g os y.made && told_at objects p l y.made) (is_queued_in l objects p) l (λ y. both-told l all y.made)
-
-  made-due : (l : List DeathNotification) (n : ℕ) → has_place (map (λ x. x.made) (filter (is_due objects p) l)) n ≡ told_at objects p l n
-  made-due [] n = refl
-  made-due (x ∷ xs) n = by (is_due objects p x) (made-due xs n)
-    where
-      by : (b : Bool) → has_place (map (λ x. x.made) (filter (is_due objects p) xs)) n ≡ told_at objects p xs n
-          → has_place (map (λ x. x.made) (cond b (x ∷ filter (is_due objects p) xs) (filter (is_due objects p) xs))) n ≡ ((b && (n == x.made)) || told_at objects p xs n)
-      by true e = rw (eqb-turned x.made n, e) refl
-      by false e = e
-
-  -- what was put to others is what is due
-  pub all-put : (l : List DeathNotification) → All (IsListed g) l → (was now : List ℕ) (n : ℕ)
-      → has_place now n ≡ (has_place was n || (visited g os n && told_at objects p l n))
-      → has_place now n ≡ has_place (was ++ map (λ x. x.made) (filter (is_due objects p) l)) n
-  all-put l all was now n e =
-      e ∙ ap (λ b. has_place was n || b) (both-told l all n ∙ sym (made-due l n))
-      ∙ sym (list_any-append (λ k. k == n) was (map (λ x. x.made) (filter (is_due objects p) l)))

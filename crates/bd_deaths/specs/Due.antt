@@ -1,5 +1,5 @@
 -- The death notifications by which the end of a process is told, and its own.
-use Rattle.std.specs.Prelude.{ℕ, ◌≡◌, ◌==◌, ◌&&◌, Bool, true, List}
+use Rattle.std.specs.Prelude.{ℕ, ◌≡◌, ◌==◌, ◌&&◌, not, Bool, true, List, filter}
 use Rattle.std.specs.List.{list_any}
 use Rattle.bd_space.specs.declared.space.Object.{Object}
 use Rattle.bd_space.specs.declared.space.DeathNotification.{DeathNotification}
@@ -17,6 +17,14 @@ is_due objects p x = is_armed x.phase && owned_in objects p x.object
 abbrev pub is_due_at : List Object → ℕ → ℕ → DeathNotification → Bool
 is_due_at objects p made x = is_due objects p x && (made == x.made)
 
+-- the notifications of others that are due
+abbrev pub due_in : List Object → ℕ → List DeathNotification → List DeathNotification
+due_in objects p l = filter (λ x. not (x.process == p) && is_due objects p x) l
+
+-- those of others that are due, of places that pass
+abbrev pub due_of : (ℕ → Bool) → List Object → ℕ → List DeathNotification → List DeathNotification
+due_of q objects p l = filter (λ x. q x.made && (not (x.process == p) && is_due objects p x)) l
+
 -- it has the name of one of these that is due
 abbrev pub is_queued_in : List DeathNotification → List Object → ℕ → DeathNotification → Bool
 is_queued_in deaths objects p y = list_any (is_due_at objects p y.made) deaths
@@ -33,6 +41,6 @@ is_own_at p made x = is_notification made x && (x.process == p)
 abbrev pub has_place : List ℕ → ℕ → Bool
 has_place places made = list_any (λ n. n == made) places
 
--- what the others list is among these
-abbrev pub HasPlaces : List ℕ → List ℕ → Type 0
-HasPlaces these others = (made : ℕ) → has_place others made ≡ true → has_place these made ≡ true
+-- the places of all that are due are among these
+abbrev pub HasDue : List ℕ → List Object → ℕ → List DeathNotification → Type 0
+HasDue places objects p l = (n : ℕ) → list_any (is_due_at objects p n) l ≡ true → has_place places n ≡ true

@@ -1,7 +1,8 @@
 //! The notifications by which the end of a process is told.
 
-ghost use Rattle.std.specs.Prelude.{ℕ, ◌≡◌, ◌==◌, ◌&&◌, ◌||◌, ◌++◌, true, filter, map, List, OnOk, OnErr};
+ghost use Rattle.std.specs.Prelude.{ℕ, ◌≡◌, ◌==◌, ◌&&◌, ◌||◌, ◌++◌, not, true, List, IfOk, OnOk, OnErr};
 ghost use Rattle.std.specs.List.{list_any};
+ghost use Rattle.std.specs.List.Sorted.{IsStrictlyIncreasing};
 ghost use Rattle.bd_groups.specs.Members.{members};
 ghost use Rattle.bd_space.specs.ProcessExits.{is_armed};
 ghost use Rattle.bd_space.specs.Words.{changed};
@@ -18,7 +19,7 @@ use crate::table::DeathTable;
 use bd_groups::Members;
 use bd_nodes::NodeTable;
 use bd_space::{DeathNotification, ObjectId, Phase};
-use std::alloc::AllocError;
+use std::alloc::{AllocError, Global};
 
 fn is_armed(phase: Phase) -> bool
     ensures { result ≡ is_armed phase }
@@ -26,11 +27,19 @@ fn is_armed(phase: Phase) -> bool
     matches!(phase, Phase::Armed)
 }
 
-/// Whether the end of the process is to be told by this notification.
-pub fn is_due(nodes: &NodeTable, p: u32, x: &DeathNotification) -> bool
+// Whether the end of the process is to be told by this notification.
+fn is_due(nodes: &NodeTable, p: u32, x: &DeathNotification) -> bool
     ensures { (objects : List Object) → NodesAre nodes.now objects → result ≡ due.is_due objects p x.now }
 {
     is_armed(x.phase) && nodes.owns(p, x.object)
+}
+
+// Whether the end of the process is to be told to another by this notification.
+fn is_told(nodes: &NodeTable, p: u32, x: &DeathNotification) -> bool
+    ensures { (objects : List Object) → NodesAre nodes.now objects
+        → result ≡ (not (x.now.process == p) && due.is_due objects p x.now) }
+{
+    x.process != p && is_due(nodes, p, x)
 }
 
 // Whether one of these is due that was made at this place.
@@ -44,6 +53,47 @@ fn has_due(deaths: &[DeathNotification], nodes: &NodeTable, p: u32, made: u32) -
         }
     }
     false
+}
+
+// Puts those of others that are due to what is there.
+fn put_due(
+    deaths: &[DeathNotification],
+    nodes: &NodeTable,
+    p: u32,
+    told: &mut Vec<DeathNotification>,
+) -> Result<(), AllocError>
+    ensures put { OnOk result ((objects : List Object) → NodesAre nodes.now objects
+        → told.new.items ≡ told.old.items ++ due.due_in objects p deaths.now) }
+    ensures grown { OnErr result ((objects : List Object) → NodesAre nodes.now objects
+        → list_any (due.is_due objects p) deaths.now ≡ true) }
+{
+    for x in deaths {
+        if is_told(nodes, p, x) {
+            told.push(*x)?;
+        }
+    }
+    Ok(())
+}
+
+// Puts those of others that are due to what is there, of those that were made at this place.
+fn put_due_at(
+    deaths: &[DeathNotification],
+    nodes: &NodeTable,
+    p: u32,
+    made: u32,
+    told: &mut Vec<DeathNotification>,
+) -> Result<(), AllocError>
+    ensures put { OnOk result ((objects : List Object) → NodesAre nodes.now objects
+        → told.new.items ≡ told.old.items ++ due.due_of (λ n. made == n) objects p deaths.now) }
+    ensures grown { OnErr result ((objects : List Object) → NodesAre nodes.now objects
+        → list_any (due.is_due_at objects p made) deaths.now ≡ true) }
+{
+    for x in deaths {
+        if made == x.made && is_told(nodes, p, x) {
+            told.push(*x)?;
+        }
+    }
+    Ok(())
 }
 
 impl DeathList {
@@ -70,6 +120,46 @@ impl DeathList {
         for made in places {
             self.queue_at(nodes, p, made);
         }
+    }
+
+    // The notifications of others that are due.
+    fn due_among(
+        &self,
+        alloc: Global,
+        nodes: &NodeTable,
+        p: u32,
+    ) -> Result<Vec<DeathNotification>, AllocError>
+        ensures due { IfOk result (λ v. (objects : List Object) (l : List declared.DeathNotification)
+            → NodesAre nodes.now objects → AreIn self.now l → v.items ≡ due.due_in objects p l) }
+        ensures grown { OnErr result ((objects : List Object) (l : List declared.DeathNotification)
+            → NodesAre nodes.now objects → AreIn self.now l → list_any (due.is_due objects p) l ≡ true) }
+    {
+        let mut told = Vec::new(alloc);
+        put_due(&self.deaths, nodes, p, &mut told)?;
+        Ok(told)
+    }
+
+    // The notifications of others that are due, of these places, where the notifications are in order.
+    fn due_of(
+        &self,
+        alloc: Global,
+        nodes: &NodeTable,
+        p: u32,
+        places: &[u32],
+    ) -> Result<Vec<DeathNotification>, AllocError>
+        requires order { self.now.in_order ≡ true }
+        requires rising { IsStrictlyIncreasing places.now }
+        ensures due { IfOk result (λ v. (objects : List Object) (l : List declared.DeathNotification)
+            → NodesAre nodes.now objects → AreIn self.now l
+            → v.items ≡ due.due_of (due.has_place places.now) objects p l) }
+        ensures grown { OnErr result ((objects : List Object) (l : List declared.DeathNotification)
+            → NodesAre nodes.now objects → AreIn self.now l → list_any (due.is_due objects p) l ≡ true) }
+    {
+        let mut told = Vec::new(alloc);
+        for made in places {
+            put_due_at(self.made_part(*made), nodes, p, *made, &mut told)?;
+        }
+        Ok(told)
     }
 }
 
@@ -113,17 +203,15 @@ impl DeathTable {
         Ok(())
     }
 
-    /// Puts the places of the notifications by which the end of the process is to be told to what is there, in some
-    /// order, perhaps some twice. Fails for want of memory alone.
-    pub fn due(&self, nodes: &NodeTable, p: u32, touched: &mut Vec<u32>) -> Result<(), AllocError>
+    // Puts the places of the notifications that are due to what is there, in some order, perhaps some twice.
+    fn put_due_places(
+        &self,
+        nodes: &NodeTable,
+        p: u32,
+        touched: &mut Vec<u32>,
+    ) -> Result<(), AllocError>
         ensures all { OnOk result ((objects : List Object) (l : List declared.DeathNotification)
-            → NodesAre nodes.now objects → DeathsAre self.now l → due.HasPlaces touched.new.items
-            (touched.old.items ++ map (λ x. x.made) (filter (due.is_due objects p) l))) }
-        // Nothing else is there.
-        ensures only { OnOk result ((objects : List Object) (l : List declared.DeathNotification)
-            → NodesAre nodes.now objects → DeathsAre self.now l → due.HasPlaces
-            (touched.old.items ++ map (λ x. x.made) (filter (due.is_due objects p) l)) touched.new.items) }
-        // Memory was asked for: a notification is due.
+            → NodesAre nodes.now objects → DeathsAre self.now l → due.HasDue touched.new.items objects p l) }
         ensures grown { OnErr result ((objects : List Object) (l : List declared.DeathNotification)
             → NodesAre nodes.now objects → DeathsAre self.now l → list_any (due.is_due objects p) l ≡ true) }
     {
@@ -131,5 +219,41 @@ impl DeathTable {
             self.due_on(nodes, p, o, touched)?;
         }
         Ok(())
+    }
+
+    // The places of the notifications that are due, rising.
+    fn due_places(&self, alloc: Global, nodes: &NodeTable, p: u32) -> Result<Vec<u32>, AllocError>
+        ensures rising { IfOk result (λ v. IsStrictlyIncreasing v.items) }
+        ensures all { IfOk result (λ v. (objects : List Object) (l : List declared.DeathNotification)
+            → NodesAre nodes.now objects → DeathsAre self.now l → due.HasDue v.items objects p l) }
+        ensures grown { OnErr result ((objects : List Object) (l : List declared.DeathNotification)
+            → NodesAre nodes.now objects → DeathsAre self.now l → list_any (due.is_due objects p) l ≡ true) }
+    {
+        let mut places = Vec::new(alloc);
+        self.put_due_places(nodes, p, &mut places)?;
+        places.sort_unstable();
+        places.dedup();
+        Ok(places)
+    }
+
+    /// The notifications of others by which the end of the process is to be told, in the order in which they were
+    /// made.
+    pub fn due(
+        &self,
+        alloc: Global,
+        nodes: &NodeTable,
+        p: u32,
+    ) -> Result<Vec<DeathNotification>, AllocError>
+        ensures due { IfOk result (λ v. (objects : List Object) (l : List declared.DeathNotification)
+            → NodesAre nodes.now objects → DeathsAre self.now l → v.items ≡ due.due_in objects p l) }
+        // Memory was asked for: a notification is due.
+        ensures grown { OnErr result ((objects : List Object) (l : List declared.DeathNotification)
+            → NodesAre nodes.now objects → DeathsAre self.now l → list_any (due.is_due objects p) l ≡ true) }
+    {
+        if !self.list.in_order {
+            return self.list.due_among(alloc, nodes, p);
+        }
+        let places = self.due_places(alloc, nodes, p)?;
+        self.list.due_of(alloc, nodes, p, &places)
     }
 }

@@ -13,5 +13,4 @@ mod place;
 mod sharing;
 mod table;
 
-pub use due::is_due;
 pub use table::DeathTable;

@@ -1,6 +1,6 @@
 //! The table: its memory and its changes.
 
-ghost use Rattle.std.specs.Prelude.{◌≡◌, ◌==◌, ◌≤◌, ◌++◌, ◌∷◌, [], not, filter, true, List, OnOk, OnErr, length, slice_get};
+ghost use Rattle.std.specs.Prelude.{◌≡◌, ◌≤◌, ◌++◌, ◌∷◌, [], not, filter, true, List, OnOk, OnErr};
 ghost use Rattle.bd_space.specs.Words.{changed};
 ghost use Rattle.bd_space.specs.Deaths as deaths_of;
 ghost use Rattle.bd_space.specs.ReadItems as reading;
@@ -63,22 +63,6 @@ impl DeathTable {
     {
         list_place(&mut self.groups, &x);
         self.list.push(x);
-    }
-
-    /// How many there are.
-    #[tactic(auto, unfolding(crate::specs::Room::death_count, crate::specs::Room::list_count))]
-    pub fn len(&self) -> usize
-        ensures count { result ≡ death_count self.now }
-        ensures deaths { (l : List declared.DeathNotification) → DeathsAre self.now l → result ≡ length l }
-    {
-        self.list.deaths.len()
-    }
-
-    /// The notification of an index, in the order in which they were made.
-    pub fn at(&self, k: usize) -> Option<DeathNotification>
-        ensures { (l : List declared.DeathNotification) → DeathsAre self.now l → result ≡ slice_get l k }
-    {
-        self.list.deaths.get(k).copied()
     }
 
     /// Marks the notification as cleared.

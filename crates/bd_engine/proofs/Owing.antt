@@ -1,26 +1,30 @@
--- What is told of a process's end changes death notifications and work items alone.
-use Rattle.std.proofs.Common.{◌≡◌, ℕ, ◌+◌, Bool, true, false, cond, ◌&&◌, List, [], ◌∷◌, take, Some, None, refl, ap, sym, subst, ◌∙◌}
-use Rattle.std.specs.List.{fold, slice_get}
+-- What is told of a process's end changes death notifications and work items alone, and by what it is told is known before.
+use Rattle.std.proofs.Common.{◌≡◌, ℕ, ◌+◌, ◌<◌, ◌==◌, Bool, true, false, cond, List, [], ◌∷◌, take, length, get_or, map, filter, refl, ap, sym, subst, ◌∙◌}
+use Rattle.std.specs.List.{fold}
+use Rattle.std.proofs.lemmas.List.Sums.{fold_more}
 use Rattle.bd_space.specs.declared.space.Work.{Work}
+use Rattle.bd_space.specs.declared.space.Object.{Object}
+use Rattle.bd_space.specs.declared.space.Thread.{Thread}
 use Rattle.bd_space.specs.declared.space.DeathNotification.{DeathNotification}
 use Rattle.bd_space.specs.declared.space.Phase.TheVariants.{Queued}
 use Rattle.bd_space.specs.declared.space.TodoList.TheVariants.{OfProcess}
 use Rattle.bd_space.specs.declared.space.WorkKind.TheVariants.{Death}
 use Rattle.bd_space.specs.Space.{Space}
-use Rattle.bd_space.specs.References.{owned_in}
 use Rattle.bd_space.specs.Deaths.{with_phase}
 use Rattle.bd_space.specs.Turns.{turns_of}
-use Rattle.bd_space.specs.Todo.{owe, with_work}
-use Rattle.bd_space.specs.ProcessExits.{is_armed, tell_death, tell_deaths}
-use Rattle.bd_objects.specs.declared.table.ObjectTable.{ObjectTable}
+use Rattle.bd_space.specs.Todo.{owe}
+use Rattle.bd_space.specs.ThreadExits.{thread_goes}
+use Rattle.bd_space.specs.ProcessExits.{seat_of, threads_go, without_process, tell_death, tell_deaths}
 use Rattle.bd_processes.specs.Stands.{ProcessesAre}
+use Rattle.bd_deaths.specs.Due.{is_due, due_in}
+use Rattle.bd_objects.specs.declared.table.ObjectTable.{ObjectTable}
 use Rattle.bd_objects.specs.Stands as objects
+use Rattle.bd_objects.proofs.Owned.{both-filters}
 use Rattle.bd_calls.specs.Stands as calls
 use Rattle.bd_buffers.specs.WindowsStand.{WindowsOf}
 use Rattle.bd_engine.specs.declared.tables.Tables.{Tables}
 use Rattle.bd_engine.specs.Stands.{StandsAt, Within}
-use Rattle.bd_engine.specs.Telling.{owed_death, owed_deaths}
-use Rattle.bd_engine.proofs.Folds.{fold-next, fold-past}
+use Rattle.bd_engine.specs.Telling.{owed_death, owed}
 
 rest : Space → Space
 rest s = record s { deaths = []; todo = [] }
@@ -31,16 +35,25 @@ record Owes (s t : Space) (todo : List Work) : Type 0 where
   todo_is : t.todo ≡ todo
 
 Owes-case : (s : Space) (x : DeathNotification) (b : Bool)
-    → Owes s (cond b (owe (with_phase s x.made Queued) (OfProcess x.process) (Death x.made)) s) (cond b (with_work s.steps s.todo (OfProcess x.process) (Death x.made)) s.todo)
+    → Owes s (cond b (owe (with_phase s x.made Queued) (OfProcess x.process) (Death x.made)) s) (cond b (owed_death s.steps s.todo x) s.todo)
 unfolding owe with_phase rest
 Owes-case s x true = record { rest_is = refl; todo_is = refl }
 Owes-case s x false = record { rest_is = refl; todo_is = refl }
 
-Owes-one : (p : ℕ) (s : Space) (x : DeathNotification) → Owes s (tell_death p s x) (owed_death s.steps s.objects p s.todo x)
-Owes-one p s x = Owes-case s x (is_armed x.phase && owned_in s.objects p x.object)
+Owes-one : (p : ℕ) (s : Space) (x : DeathNotification) → Owes s (tell_death p s x) (cond (is_due s.objects p x) (owed_death s.steps s.todo x) s.todo)
+Owes-one p s x = Owes-case s x (is_due s.objects p x)
 
-Owes-all : (p : ℕ) (xs : List DeathNotification) (s : Space) → Owes s (fold (tell_death p) s xs) (owed_deaths s p xs)
-unfolding rest
+-- what the notifications that are due make
+told : ℕ → List Object → ℕ → List Work → List DeathNotification → List Work
+told place os p todo xs = fold (owed_death place) todo (filter (is_due os p) xs)
+
+told-in : (place : ℕ) (todo : List Work) (x : DeathNotification) (ys : List DeathNotification) (b : Bool)
+    → fold (owed_death place) (cond b (owed_death place todo x) todo) ys ≡ fold (owed_death place) todo (cond b (x ∷ ys) ys)
+told-in place todo x ys true = refl
+told-in place todo x ys false = refl
+
+Owes-all : (p : ℕ) (xs : List DeathNotification) (s : Space) → Owes s (fold (tell_death p) s xs) (told s.steps s.objects p s.todo xs)
+unfolding rest told
 Owes-all p [] s = record { rest_is = refl; todo_is = refl }
 Owes-all p (x ∷ xs) s =
     let t = tell_death p s x in
@@ -51,15 +64,16 @@ Owes-all p (x ∷ xs) s =
     record {
       rest_is = more.rest_is ∙ one.rest_is;
       todo_is = more.todo_is
-          ∙ ap (λ n. fold (owed_death n t.objects p) t.todo xs) steps
-          ∙ ap (λ os. fold (owed_death s.steps os p) t.todo xs) objects
-          ∙ ap (λ todo. fold (owed_death s.steps s.objects p) todo xs) one.todo_is;
+          ∙ ap (λ n. told n t.objects p t.todo xs) steps
+          ∙ ap (λ os. told s.steps os p t.todo xs) objects
+          ∙ ap (λ todo. told s.steps s.objects p todo xs) one.todo_is
+          ∙ told-in s.steps s.todo x (filter (is_due s.objects p) xs) (is_due s.objects p x);
     }
 
 -- tables whose work items tell it, once their death notifications do
-pub told-stands : (t : Tables) (os : ObjectTable) (s : Space) (p : ℕ) → Within t (record s { todo = owed_deaths s p s.deaths })
+pub told-stands : (t : Tables) (os : ObjectTable) (s : Space) (p : ℕ) → Within t (owed s (filter (is_due s.objects p) s.deaths))
     → objects.StandsFor os (tell_deaths s p) → Within (record t { objects = os }) (tell_deaths s p)
-unfolding rest tell_deaths
+unfolding rest tell_deaths told
 told-stands t os s p h k =
     let all = Owes-all p s.deaths s in
     let e = sym all.rest_is in
@@ -78,23 +92,27 @@ told-stands t os s p h k =
 
 -- ---- one notification more
 
-module _ (s : Space) (p k : ℕ) where
-  abbrev before : List Work
-  before = owed_deaths s p (take k s.deaths)
+pub owed-more : (n : ℕ) (t : Tables) (s : Space) (due : List DeathNotification) (k : ℕ) (d : DeathNotification) → k < length due
+    → StandsAt n t (record s { todo = owed_death s.steps (owed s (take k due)).todo (get_or due k d) }) → StandsAt n t (owed s (take (k + 1) due))
+owed-more n t s due k d within h = subst (λ ws. StandsAt n t (record s { todo = ws })) (sym (fold_more (owed_death s.steps) s.todo due k d within)) h
 
-  pub owed-due : (x : DeathNotification) → slice_get s.deaths k ≡ Some x → (is_armed x.phase && owned_in s.objects p x.object) ≡ true
-      → with_work s.steps (owed_deaths s p (take k s.deaths)) (OfProcess x.process) (Death x.made) ≡ owed_deaths s p (take (k + 1) s.deaths)
-  owed-due x e t =
-      ap (λ b. cond b (with_work s.steps before (OfProcess x.process) (Death x.made)) before) (sym t) ∙ sym (fold-next (owed_death s.steps s.objects p) s.todo s.deaths k x e)
+-- ---- what ends before it is told
 
-  pub owed-not : (x : DeathNotification) → slice_get s.deaths k ≡ Some x → (is_armed x.phase && owned_in s.objects p x.object) ≡ false
-      → owed_deaths s p (take k s.deaths) ≡ owed_deaths s p (take (k + 1) s.deaths)
-  owed-not x e t =
-      ap (λ b. cond b (with_work s.steps before (OfProcess x.process) (Death x.made)) before) (sym t) ∙ sym (fold-next (owed_death s.steps s.objects p) s.todo s.deaths k x e)
+gone-deaths : (seats : List ℕ) (s : Space) → (fold thread_goes s seats).deaths ≡ s.deaths
+unfolding thread_goes
+gone-deaths [] s = refl
+gone-deaths (seat ∷ more) s = gone-deaths more (thread_goes s seat)
 
-  pub owed-past : slice_get s.deaths k ≡ None → owed_deaths s p (take k s.deaths) ≡ owed_deaths s p (take (k + 1) s.deaths)
-  owed-past e = sym (fold-past (owed_death s.steps s.objects p) s.todo s.deaths k e)
+gone-objects : (seats : List ℕ) (s : Space) → (fold thread_goes s seats).objects ≡ s.objects
+unfolding thread_goes
+gone-objects [] s = refl
+gone-objects (seat ∷ more) s = gone-objects more (thread_goes s seat)
 
-  -- tables stand on with equal work items
-  pub with-todo : (n : ℕ) (t : Tables) {before after : List Work} → before ≡ after → StandsAt n t (record s { todo = before }) → StandsAt n t (record s { todo = after })
-  with-todo n t e h = subst (λ ws. StandsAt n t (record s { todo = ws })) e h
+-- those that were due before anything ended are those that are, once the process has gone
+pub still-due : (s : Space) (p : ℕ) → due_in s.objects p s.deaths
+    ≡ filter (is_due (without_process (threads_go s p) p).objects p) (without_process (threads_go s p) p).deaths
+unfolding without_process threads_go
+still-due s p =
+    let seats = map seat_of (filter (λ (t : Thread). t.process == p) s.threads) in
+    let gone = fold thread_goes s seats in
+    ap (λ os. due_in os p s.deaths) (sym (gone-objects seats s)) ∙ ap (due_in gone.objects p) (sym (gone-deaths seats s)) ∙ sym (both-filters _ _ _ (λ x. refl) gone.deaths)

@@ -1,7 +1,7 @@
 //! Death notifications: the steps of `BC_REQUEST_DEATH_NOTIFICATION`, `BC_CLEAR_DEATH_NOTIFICATION` and
 //! `BC_DEAD_BINDER_DONE`, and what is told of an owner's end.
 
-ghost use Rattle.std.specs.Prelude.{◌≡◌, ◌≤◌, ℕ, ◌+◌};
+ghost use Rattle.std.specs.Prelude.{◌≡◌, ◌≤◌, filter, length};
 ghost use Rattle.bd_space.specs.declared.space.Phase.TheVariants.{Queued};
 ghost use Rattle.bd_space.specs.declared.space.TodoList.TheVariants.{OfProcess};
 ghost use Rattle.bd_space.specs.declared.space.WorkKind.TheVariants.{Death};
@@ -11,12 +11,13 @@ ghost use Rattle.bd_space.specs.Clearing as clearing;
 ghost use Rattle.bd_space.specs.Space.{Space};
 ghost use Rattle.bd_space.specs.ProcessExits as exits;
 ghost use Rattle.bd_space.specs.Tables.{MakesWhere};
-ghost use Rattle.bd_objects.specs.Room.{death_room, death_count};
+ghost use Rattle.bd_deaths.specs.Due.{is_due};
+ghost use Rattle.bd_objects.specs.Room.{death_room};
 ghost use Rattle.bd_objects.specs.New.{IsNewDeath};
 ghost use Rattle.bd_calls.specs.Room.{work_room};
-ghost use Rattle.bd_engine.specs.Stands.{Uses, Within, MakesWithin, UsesNothing, StandsAt};
+ghost use Rattle.bd_engine.specs.Stands.{Uses, Within, MakesWithin, UsesNothing};
 ghost use Rattle.bd_engine.specs.Meets.{IsBy, IsStep};
-ghost use Rattle.bd_engine.specs.Telling.{owed, owed_deaths};
+ghost use Rattle.bd_engine.specs.Telling.{owed};
 
 use crate::answer::Plain;
 use crate::tables::Tables;
@@ -150,39 +151,26 @@ impl Tables {
         Ok(Plain::Accepted)
     }
 
-    // If the end of the process is to be told by the notification of an index, a work item says so.
-    fn owe_death_at(&mut self, p: u32, k: usize)
-        requires { 1 ≤ work_room self.old.calls }
-        ensures stands { (n : ℕ) (s : Space) → StandsAt n self.old (owed s p k)
-            → StandsAt n self.new (owed s p (k + 1)) }
-        ensures uses { Uses self.old self.new 0 0 0 1 }
+    // A work item for each of these notifications, in their order.
+    fn owe_deaths(&mut self, due: &[DeathNotification])
+        requires { length due.now ≤ work_room self.old.calls }
+        ensures stands { MakesWithin self.old self.new (λ s. owed s due.now) }
+        ensures uses { Uses self.old self.new 0 0 0 (length due.now) }
     {
-        if let Some(x) = self.objects.death_at(k) {
-            if self.objects.tells_death(p, &x) {
-                let list = TodoList::OfProcess(x.process);
-                self.calls.owe(self.steps, list, WorkKind::Death(x.made));
-            }
+        for x in due {
+            let list = TodoList::OfProcess(x.process);
+            self.calls.owe(self.steps, list, WorkKind::Death(x.made));
         }
     }
 
-    // And so for each notification, in their order.
-    fn owe_deaths(&mut self, p: u32)
-        requires { death_count self.old.objects ≤ work_room self.old.calls }
-        ensures stands { MakesWithin self.old self.new (λ s. record s { todo = owed_deaths s p s.deaths }) }
-        ensures uses { Uses self.old self.new 0 0 0 (death_count self.old.objects) }
+    /// The end of the process is told by the armed notifications on its objects: by these.
+    pub(crate) fn tell_deaths(&mut self, due: &[DeathNotification], p: u32)
+        requires { length due.now ≤ work_room self.old.calls }
+        ensures stands { (s : Space) → Within self.old s → due.now ≡ filter (is_due s.objects p) s.deaths
+            → Within self.new (exits.tell_deaths s p) }
+        ensures uses { Uses self.old self.new 0 0 0 (length due.now) }
     {
-        for k in 0..self.objects.death_count() {
-            self.owe_death_at(p, k);
-        }
-    }
-
-    // The end of the process is told by the armed notifications on its objects.
-    pub(crate) fn tell_deaths(&mut self, p: u32)
-        requires { death_count self.old.objects ≤ work_room self.old.calls }
-        ensures stands { MakesWithin self.old self.new (λ s. exits.tell_deaths s p) }
-        ensures uses { Uses self.old self.new 0 0 0 (death_count self.old.objects) }
-    {
-        self.owe_deaths(p);
+        self.owe_deaths(due);
         self.objects.tell_deaths(p);
     }
 }

@@ -4,22 +4,23 @@ ghost use Rattle.std.specs.Prelude.{◌≡◌, ◌+◌, ◌≤◌, length, OnOk,
 ghost use Rattle.bd_space.specs.Space.{Space};
 ghost use Rattle.bd_laws.specs.Lists.{Pairs};
 ghost use Rattle.bd_laws.specs.Objects.{NotLater};
-ghost use Rattle.bd_objects.specs.Room.{death_count};
+ghost use Rattle.bd_deaths.specs.Due.{due_in};
 ghost use Rattle.bd_calls.specs.Room.{frame_count, work_room};
-ghost use Rattle.bd_engine.specs.Stands.{Before};
+ghost use Rattle.bd_engine.specs.Stands.{Before, TellsBefore};
 ghost use Rattle.bd_engine.specs.Meets.{IsKept};
 ghost use Rattle.bd_engine.specs.Exits.{Grows, HasWork, HasList, HasThread, HasThreads, HasProcess};
 
 use crate::tables::Tables;
 use crate::touched::in_order;
-use bd_space::{ObjectId, TodoList, WorkKind};
+use bd_space::{DeathNotification, ObjectId, TodoList, WorkKind};
 use std::alloc::{AllocError, Global};
 
-/// The objects to look at, at their names too, and the calls that may have lost their server.
+/// The objects to look at, at their names too, the calls that may have lost their server, and by what the end is told.
 #[derive(Drop)]
 pub(crate) struct Exit {
     objects: Vec<ObjectId>,
     frames: Vec<u32>,
+    deaths: Vec<DeathNotification>,
 }
 
 impl Exit {
@@ -28,6 +29,7 @@ impl Exit {
         Exit {
             objects: Vec::new(alloc),
             frames: Vec::new(alloc),
+            deaths: Vec::new(alloc),
         }
     }
 
@@ -36,6 +38,13 @@ impl Exit {
         ensures { result.now ≡ self.now.objects.items }
     {
         self.objects.as_slice()
+    }
+
+    /// The death notifications by which a process's end is told, in the order in which they were made.
+    pub(crate) fn deaths(&self) -> &[DeathNotification]
+        ensures { result.now ≡ self.now.deaths.items }
+    {
+        self.deaths.as_slice()
     }
 
     /// The calls, in any order.
@@ -98,7 +107,7 @@ impl Tables {
     fn reserve_exit(&mut self, mut exit: Exit, works: usize) -> Result<Exit, AllocError>
         ensures stands { IsKept self.old self.new }
         ensures grows { IfOk result (Grows exit) }
-        ensures objects { self.new.objects ≡ self.old.objects }
+        ensures deaths { IfOk result (λ x. x.deaths ≡ exit.deaths) }
         ensures in_order { IfOk result (λ x. Pairs NotLater x.objects.items) }
         ensures room { IfOk result (λ x.
             frame_count self.new.calls + (length x.objects.items + works) ≤ work_room self.new.calls) }
@@ -127,15 +136,16 @@ impl Tables {
         ensures stands { IsKept self.old self.new }
         ensures has { IfOk result (λ x. (s : Space) → Before self.old s → HasProcess x s seats.now p) }
         ensures in_order { IfOk result (λ x. Pairs NotLater x.objects.items) }
+        ensures deaths { IfOk result (λ x. TellsBefore self.old x.deaths.items (λ s. due_in s.objects p s.deaths)) }
         ensures room { IfOk result (λ x.
-            frame_count self.new.calls + (length x.objects.items + death_count self.new.objects)
-            ≤ work_room self.new.calls) }
+            frame_count self.new.calls + (length x.objects.items + length x.deaths.items) ≤ work_room self.new.calls) }
     {
         let mut exit = Exit::new(self.alloc);
         self.touch_threads(seats, &mut exit)?;
         self.touch_list(TodoList::OfProcess(p), &mut exit)?;
         self.objects.touched_by_end(p, &mut exit.objects)?;
-        let deaths = self.objects.death_count();
-        self.reserve_exit(exit, deaths)
+        exit.deaths = self.objects.due_deaths(self.alloc, p)?;
+        let works = exit.deaths.len();
+        self.reserve_exit(exit, works)
     }
 }

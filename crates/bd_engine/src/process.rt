@@ -10,7 +10,7 @@ ghost use Rattle.bd_space.specs.LocalExits.{seats_in};
 ghost use Rattle.bd_laws.specs.Lists.{Pairs};
 ghost use Rattle.bd_laws.specs.Objects.{NotLater};
 ghost use Rattle.bd_processes.specs.Room.{process_room};
-ghost use Rattle.bd_objects.specs.Room.{death_count};
+ghost use Rattle.bd_deaths.specs.Due.{due_in};
 ghost use Rattle.bd_calls.specs.Room.{thread_room, work_room, frame_count};
 ghost use Rattle.bd_buffers.specs.WindowsStand.{Stands, window_room};
 ghost use Rattle.bd_engine.specs.Stands.{Tells, Before, Within, TellsBefore, Uses, MakesWithin, UsesNothing};
@@ -22,7 +22,7 @@ use crate::exit::Exit;
 use crate::tables::Tables;
 use crate::why::Why;
 use bd_buffers::Window;
-use bd_space::{Actor, Process};
+use bd_space::{Actor, DeathNotification, Process};
 use bd_uapi::Fault;
 use std::alloc::AllocError;
 
@@ -126,7 +126,6 @@ impl Tables {
     fn threads_go(&mut self, seats: &[u32])
         ensures stands { MakesWithin self.old self.new (λ s. fold thread_exits.thread_goes s seats.now) }
         ensures uses { UsesNothing self.old self.new }
-        ensures deaths { death_count self.new.objects ≤ death_count self.old.objects }
     {
         for seat in seats {
             self.thread_goes(*seat);
@@ -137,7 +136,6 @@ impl Tables {
     fn without_process(&mut self, p: u32)
         ensures stands { MakesWithin self.old self.new (λ s. exits.without_process s p) }
         ensures uses { UsesNothing self.old self.new }
-        ensures deaths { death_count self.new.objects ≤ death_count self.old.objects }
     {
         self.manager = self.objects.manager_without(self.manager, p);
         self.objects.without_process(p);
@@ -152,26 +150,27 @@ impl Tables {
         ensures seats { IfOk result (λ x. TellsBefore self.old x.0.items (λ s. seats_in s p)) }
         ensures has { IfOk result (λ x. (s : Space) → Before self.old s → HasProcess x.1 s (seats_in s p) p) }
         ensures in_order { IfOk result (λ x. Pairs NotLater x.1.objects.items) }
-        ensures room { IfOk result (λ x.
-            frame_count self.new.calls + (length x.1.objects.items + death_count self.new.objects)
-            ≤ work_room self.new.calls) }
+        ensures deaths { IfOk result (λ x. TellsBefore self.old x.1.deaths.items (λ s. due_in s.objects p s.deaths)) }
+        ensures room { IfOk result (λ x. frame_count self.new.calls
+            + (length x.1.objects.items + length x.1.deaths.items) ≤ work_room self.new.calls) }
     {
         let seats = self.calls.seats_of(self.alloc, p)?;
         let exit = self.begin_process_exit(seats.as_slice(), p)?;
         Ok((seats, exit))
     }
 
-    // A process ends, with its threads, and that is told.
-    fn process_goes(&mut self, seats: &[u32], p: u32)
-        requires { death_count self.old.objects ≤ work_room self.old.calls }
+    // A process ends, with its threads, and that is told by these notifications.
+    fn process_goes(&mut self, seats: &[u32], due: &[DeathNotification], p: u32)
+        requires { length due.now ≤ work_room self.old.calls }
         ensures stands { (s : Space) → Within self.old s
             → seats.now ≡ map exits.seat_of (filter (λ t. t.process == p) s.threads)
+            → due.now ≡ due_in s.objects p s.deaths
             → Within self.new (exits.tell_deaths (exits.without_process (exits.threads_go s p) p) p) }
-        ensures uses { Uses self.old self.new 0 0 0 (death_count self.old.objects) }
+        ensures uses { Uses self.old self.new 0 0 0 (length due.now) }
     {
         self.threads_go(seats);
         self.without_process(p);
-        self.tell_deaths(p);
+        self.tell_deaths(due, p);
     }
 
     /// The step that ends a process with all its threads. What it touches is gathered before anything changes.
@@ -182,7 +181,7 @@ impl Tables {
         let Ok((seats, exit)) = self.begin_exit(p) else {
             return Err(Why::NoMemory);
         };
-        self.process_goes(seats.as_slice(), p);
+        self.process_goes(seats.as_slice(), exit.deaths(), p);
         self.follow_objects(exit.objects());
         let mut frames = exit.into_frames();
         self.close_among(frames.as_mut_slice());

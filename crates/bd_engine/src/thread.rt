@@ -10,7 +10,6 @@ ghost use Rattle.bd_space.specs.Outcomes.{accepted};
 ghost use Rattle.bd_space.specs.ThreadExits as exits;
 ghost use Rattle.bd_space.specs.Tables.{Makes as Changes};
 ghost use Rattle.bd_objects.specs.Room as object_rooms;
-ghost use Rattle.bd_objects.specs.Room.{death_count};
 ghost use Rattle.bd_objects.specs.Stands.{StandsFor};
 ghost use Rattle.bd_buffers.specs.WindowsStand.{StandsIn};
 ghost use Rattle.bd_calls.specs.Room.{thread_room};
@@ -135,7 +134,6 @@ impl Tables {
     pub(crate) fn thread_goes(&mut self, seat: u32)
         ensures stands { MakesWithin self.old self.new (λ s. exits.thread_goes s seat) }
         ensures uses { UsesNothing self.old self.new }
-        ensures deaths { death_count self.new.objects ≤ death_count self.old.objects }
     {
         let list = TodoList::OfThread(seat);
         let works = self.calls.works_on(list);

@@ -1,5 +1,5 @@
 -- Groups that the test calls the same are one.
-use Rattle.std.proofs.Common.{◌≡◌, ◌==◌, true, refl, ap, sym, ◌∙◌}
+use Rattle.std.proofs.Common.{◌≡◌, ◌==◌, true, refl, ap, ◌∙◌}
 use Rattle.std.proofs.lemmas.Bool.{eqb-true, eq-eqb, and_parts}
 use Rattle.bd_groups.specs.declared.group.Group.{Group}
 use Rattle.bd_groups.specs.declared.group.Group.TheVariants.{Process, Object}

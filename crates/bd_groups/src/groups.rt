@@ -1,6 +1,6 @@
 //! Members by their groups.
 
-ghost use Rattle.std.specs.Prelude.{ℕ, ◌≡◌, ◌+◌, ◌≤◌, ◌<◌, ◌∷◌, [], true, false, Some, None, length, OnOk, OnErr, if◌then◌else◌};
+ghost use Rattle.std.specs.Prelude.{ℕ, ◌≡◌, ◌+◌, ◌≤◌, ◌<◌, ◌∷◌, [], true, false, Some, None, length, nat_lt, ◌&&◌, ◌/◌, OnOk, OnErr, if◌then◌else◌};
 ghost use Rattle.std.specs.HashMap.{spare};
 ghost use Rattle.bd_groups.specs.declared.group.Group as group;
 ghost use Rattle.bd_groups.specs.Group as groups;
@@ -96,7 +96,7 @@ impl<T: Copy> Groups<T> {
     /// Whether there isn't room for so many more, and most of the members are gone, of which so many are left: what
     /// came and went since then pays for groups made anew.
     pub fn is_worn(&self, left: usize, more: usize) -> bool
-        ensures { result ≡ true → more ≤ group_room self.now → ⊥ }
+        ensures { result ≡ nat_lt (group_room self.now) more && nat_lt left (member_count self.now / 2) }
     {
         self.room() < more && left < self.len() / 2
     }

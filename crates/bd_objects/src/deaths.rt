@@ -1,21 +1,23 @@
 //! Death notifications.
 
-ghost use Rattle.std.specs.Prelude.{◌≡◌, ◌≤◌, find, length, slice_get};
+ghost use Rattle.std.specs.Prelude.{◌≡◌, ◌≤◌, true, find, IfOk, OnErr};
+ghost use Rattle.std.specs.List.{list_any};
+ghost use Rattle.bd_space.specs.Space.{Space};
 ghost use Rattle.bd_space.specs.Deaths as deaths_of;
 ghost use Rattle.bd_space.specs.Clearing as clearing;
 ghost use Rattle.bd_space.specs.ProcessExits.{tell_deaths};
 ghost use Rattle.bd_deaths.specs.Due as due;
 
 use crate::table::ObjectTable;
-use bd_deaths::is_due;
 use bd_space::{DeathNotification, ObjectId, Phase};
 use bd_uapi::Note;
+use std::alloc::{AllocError, Global};
 
 impl ObjectTable {
     ghost use Rattle.bd_space.specs.Tables.{Tells, Makes, MakesWhere};
     ghost use Rattle.bd_objects.specs.New.{IsNewDeath};
     ghost use Rattle.bd_objects.specs.Stands.{StandsFor};
-    ghost use Rattle.bd_objects.specs.Room.{Uses, UsesNothing, nothing, death_room, death_count};
+    ghost use Rattle.bd_objects.specs.Room.{Uses, UsesNothing, nothing, death_room};
 
     /// The object that the process asks to be told of, by its number. Errors: no such number, or an uncleared
     /// notification stands on the name already.
@@ -105,27 +107,14 @@ impl ObjectTable {
         self.deaths.death(made)
     }
 
-    /// How many notifications there are.
-    #[tactic(auto, unfolding(crate::specs::Room::rooms))]
-    pub fn death_count(&self) -> usize
-        ensures count { Tells (StandsFor self.now) result (λ s. length s.deaths) }
-        ensures counted { result ≡ death_count self.now }
+    /// The notifications of others by which the end of the process is to be told, in the order in which they were made.
+    pub fn due_deaths(&self, alloc: Global, p: u32) -> Result<Vec<DeathNotification>, AllocError>
+        ensures due { IfOk result (λ v. Tells (StandsFor self.now) v.items (λ s. due.due_in s.objects p s.deaths)) }
+        // Memory was asked for: a notification is due.
+        ensures grown { OnErr result ((s : Space) → StandsFor self.now s
+            → list_any (due.is_due s.objects p) s.deaths ≡ true) }
     {
-        self.deaths.len()
-    }
-
-    /// The notification of an index, in the order in which they were made.
-    pub fn death_at(&self, k: usize) -> Option<DeathNotification>
-        ensures { Tells (StandsFor self.now) result (λ s. slice_get s.deaths k) }
-    {
-        self.deaths.at(k)
-    }
-
-    /// Whether the end of the process is to be told by this notification.
-    pub fn tells_death(&self, p: u32, x: &DeathNotification) -> bool
-        ensures { Tells (StandsFor self.now) result (λ s. due.is_due s.objects p x.now) }
-    {
-        is_due(&self.nodes, p, x)
+        self.deaths.due(alloc, &self.nodes, p)
     }
 
     /// Queues the notifications by which the end of the process is to be told. Their work items are the caller's to

@@ -29,10 +29,10 @@ abbrev pub PlaysFound : Found → Order → Type 0
 PlaysFound found (order.Run run) =
     (first_value found (codes "file") ≡ Some run.file.now) × IsManner found run.manner
     × (option_map (λ name. name.now) run.journal ≡ first_value found (codes "journal"))
-PlaysFound found (order.Check file) = ⊥
+PlaysFound found _ = ⊥
 
 -- standard input, line by line, and no journal is written
 abbrev pub PlaysInput : Order → Type 0
 PlaysInput (order.Run run) =
     (run.file.now ≡ codes "-") × (run.manner ≡ record { threads = false; turns = usual_turns }) × (run.journal ≡ None)
-PlaysInput (order.Check file) = ⊥
+PlaysInput _ = ⊥

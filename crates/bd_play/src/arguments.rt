@@ -4,13 +4,19 @@ ghost use Rattle.std.specs.Prelude.{◌<◌, length, IfSome, IsOkAnd};
 ghost use Rattle.clap.specs.Matches.{found_of};
 ghost use Rattle.bd_play.specs.Orders.{IsManner, PlaysFound, PlaysInput};
 
+use crate::inquiries::{Inquiry, explanation_in, inquiry_in, with_inquiries};
+use crate::script_help::SCRIPT_HELP;
 use bd_player::{Fault, Manner};
+use bd_show::Explanation;
 use clap::error::ErrorKind;
 use clap::{Arg, ArgAction, ArgMatches, Command, Error, value_parser};
 use std::alloc::{AllocError, Global};
 
 /// The turns of a line where none are given.
 const TURNS: u32 = 100_000_000;
+
+// The line of the kit that everything here is proved with is that of `rt version`.
+const VERSION: &str = "1.0, proved with rattle-kit-13f logic dac8208d650f15bf";
 
 const ABOUT: &str = "Plays scripts against a driver of Binder transactions, and judges journals";
 
@@ -71,6 +77,12 @@ pub enum Order<'a> {
     Run(Run<'a>),
     /// Judges the journal in a file.
     Check(&'a str),
+    /// Answers a question about a journal.
+    Ask(Inquiry<'a>),
+    /// Tells what a name means.
+    Explain(Explanation<'static>),
+    /// Tells what scripts are.
+    Script,
 }
 
 /// Why there is no order.
@@ -78,7 +90,7 @@ pub enum Order<'a> {
 pub enum Refused {
     /// The words make no sense, or memory was refused.
     Fault(Fault),
-    /// Help was asked for.
+    /// Help or the version was asked for.
     Help(Error),
 }
 
@@ -130,15 +142,24 @@ fn check_command<'a>(alloc: Global) -> Result<Command<'a>, Error> {
     Ok(command)
 }
 
+fn script_command<'a>(alloc: Global) -> Command<'a> {
+    Command::new(alloc, "script")
+        .about("Tells the words of a script, and what a run prints")
+        .after_help(SCRIPT_HELP)
+}
+
 fn matches_of<'a>(alloc: Global, words: &'a [String]) -> Result<ArgMatches<'a>, Error> {
     let command = Command::new(alloc, "bplay")
         .bin_name("bplay")?
         .about(ABOUT)
+        .version(VERSION)
         .after_help(PROGRAM_HELP)
         .subcommand_required(true)
         .subcommand(run_command(alloc)?)?
         .subcommand(check_command(alloc)?)?;
-    command.try_get_matches_from(words)
+    with_inquiries(alloc, command)?
+        .subcommand(script_command(alloc))?
+        .try_get_matches_from(words)
 }
 
 // In which manner a script is to be played.
@@ -164,16 +185,18 @@ fn run_order<'a>(matches: &ArgMatches<'a>) -> Option<Order<'a>>
 
 fn order_in<'a>(matches: &ArgMatches<'a>) -> Option<Order<'a>> {
     let (name, inner) = matches.subcommand()?;
-    if name == "run" {
-        run_order(inner)
-    } else {
-        Some(Order::Check(inner.get_str("file")?))
+    match name {
+        "run" => run_order(inner),
+        "check" => Some(Order::Check(inner.get_str("file")?)),
+        "explain" => Some(Order::Explain(explanation_in(inner)?)),
+        "script" => Some(Order::Script),
+        _ => Some(Order::Ask(inquiry_in(name, inner)?)),
     }
 }
 
 fn refusal(error: Error) -> Refused {
     match error.kind() {
-        ErrorKind::DisplayHelp => Refused::Help(error),
+        ErrorKind::DisplayHelp | ErrorKind::DisplayVersion => Refused::Help(error),
         ErrorKind::OutOfMemory => Refused::Fault(Fault::Memory),
         _ => Refused::Fault(Fault::Arguments),
     }

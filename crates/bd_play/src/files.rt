@@ -2,8 +2,13 @@
 
 use crate::arguments::Run;
 use crate::draft::{Draft, draft_for};
-use bd_player::{Fault, check_journal, play_from, tell};
+use crate::inquiries::Inquiry;
+use bd_player::{
+    DONE, FAULT, Fault, Judged, check_journal, judged_from, play_from, print_unlawful, tell,
+};
+use bd_show::{Question, Untold, answer};
 use bd_space::Record;
+use std::alloc::Global;
 use std::fs;
 use std::fs::File;
 use std::io::{Read, Write};
@@ -111,6 +116,47 @@ pub fn check_file<H: AllocGlobal + Files + Input, W: Write, E: Write>(
     }
     match File::open(rt, name) {
         Ok(mut file) => check_journal(rt.alloc(), &mut file, out, err),
+        Err(error) => tell(Fault::from(error), err),
+    }
+}
+
+// The status where this came of a question. Of an output that failed it is told in the end.
+fn status_of<E: Write>(came: Result<bool, Untold>, err: &mut E) -> u8 {
+    match came {
+        Ok(true) => DONE,
+        Ok(false) | Err(Untold::Output) => FAULT,
+        Err(Untold::OutOfRange) => tell(Fault::Arguments, err),
+        Err(Untold::Memory) => tell(Fault::Memory, err),
+    }
+}
+
+// Answers a question about the journal that a reader has.
+fn ask<R: Read, W: Write, E: Write>(
+    alloc: Global,
+    journal: &mut R,
+    question: Question,
+    out: &mut W,
+    err: &mut E,
+) -> u8 {
+    match judged_from(alloc, journal) {
+        Ok(Judged::History(record)) => status_of(answer(alloc, &record, question, out), err),
+        Ok(Judged::Unlawful { at }) => print_unlawful(at, out),
+        Err(fault) => tell(fault, err),
+    }
+}
+
+/// Answers a question about the journal in a file.
+pub fn ask_file<H: AllocGlobal + Files + Input, W: Write, E: Write>(
+    rt: &H,
+    inquiry: Inquiry<'_>,
+    out: &mut W,
+    err: &mut E,
+) -> u8 {
+    if inquiry.file == INPUT {
+        return ask(rt.alloc(), &mut rt.reader(), inquiry.question, out, err);
+    }
+    match File::open(rt, inquiry.file) {
+        Ok(mut file) => ask(rt.alloc(), &mut file, inquiry.question, out, err),
         Err(error) => tell(Fault::from(error), err),
     }
 }

@@ -4,12 +4,15 @@
 mod arguments;
 mod draft;
 mod files;
+mod inquiries;
 mod output;
+mod script_help;
 
 use arguments::{Order, Refused, order_of};
-use bd_player::{DONE, Fault, tell};
-use files::{check_file, run_file};
+use bd_player::{DONE, Fault, after_writing, tell};
+use files::{ask_file, check_file, run_file};
 use output::Output;
+use script_help::SCRIPT_HELP;
 use std::alloc::Global;
 use std::io::{BufWriter, Write};
 use std::process::ExitCode;
@@ -36,6 +39,9 @@ fn obey<H: AllocGlobal + Files + Input + Threads + Wait + Sync, W: Write + Drop,
     let status = match order {
         Order::Run(run) => run_file(rt, run, out, err),
         Order::Check(name) => check_file(rt, name, out, err),
+        Order::Ask(inquiry) => ask_file(rt, inquiry, out, err),
+        Order::Explain(explanation) => after_writing(writeln!(out, "{explanation}"), DONE),
+        Order::Script => after_writing(write!(out, "{SCRIPT_HELP}"), DONE),
     };
     status.max(ended(out.end(), err))
 }

@@ -1,11 +1,14 @@
 -- What is said of a journal, and when that is so.
-use Rattle.std.specs.Prelude.{◌≡◌, ℕ, List, length, Option, IfSome}
+use Rattle.std.specs.Prelude.{◌≡◌, ◌≤◌, ℕ, List, length, Option, IfSome}
 use Rattle.bd_space.specs.declared.record.Record.{Record}
 use Rattle.bd_space.specs.Histories.{IsHistory, history_in}
 use Rattle.bd_journal.specs.Spelling.{IsJournal, journal_bytes}
 use Rattle.bd_audit.specs.Replays.{StopsAt}
 use Rattle.bd_player.specs.declared.verdicts.Verdict.{Verdict}
 use Rattle.bd_player.specs.declared.verdicts.Verdict.TheVariants.{Lawful, Unlawful}
+use Rattle.bd_player.specs.declared.verdicts.Judged.{Judged}
+use Rattle.bd_player.specs.declared.verdicts.Judged.TheVariants as judged
+use Rattle.bd_player.specs.declared.verdicts.Judged.TheVariants.{History}
 
 -- the bytes are all of the spelling of this record
 abbrev pub Spells : List ℕ → Record → Type 0
@@ -15,6 +18,15 @@ abbrev pub Holds : Record → Verdict → Type 0
 Holds r (Lawful entries) = IsHistory (history_in r) × (entries ≡ length r.entries)
 Holds r (Unlawful at) = (IsHistory (history_in r) → ⊥) × StopsAt (history_in r) at
 
+-- what is said of the record holds, and a history is handed out as it is
+abbrev pub IsJudged : Record → Judged → Type 0
+IsJudged r (History h) = (h ≡ r) × (1 ≤ r.seats) × (r.seats ≤ 16) × IsHistory (history_in r)
+IsJudged r (judged.Unlawful at) = Holds r (Unlawful at)
+
+-- that is so of the record that the bytes spell
+abbrev pub Judges : List ℕ → Judged → Type 0
+Judges bytes j = (r : Record) × Spells bytes r × IsJudged r j
+
 -- the verdict holds of the record that the bytes spell
 abbrev pub IsVerdict : List ℕ → Verdict → Type 0
 IsVerdict bytes v = (r : Record) × Spells bytes r × Holds r v
@@ -22,3 +34,8 @@ IsVerdict bytes v = (r : Record) × Spells bytes r × Holds r v
 -- with the status 0 the bytes, where they are known, spell a history
 abbrev pub IsLawfulAt0 : Option (List ℕ) → ℕ → Type 0
 IsLawfulAt0 known status = status ≡ 0 → IfSome known (λ bytes. (r : Record) × Spells bytes r × IsHistory (history_in r))
+
+-- what is handed out as a history is one
+abbrev pub IsLawful : Judged → Type 0
+IsLawful (History h) = (1 ≤ h.seats) × (h.seats ≤ 16) × IsHistory (history_in h)
+IsLawful (judged.Unlawful at) = Unit {0}

@@ -2,11 +2,11 @@
 
 ghost use Rattle.std.specs.Prelude.{◌≡◌, ◌≤◌, IfOk, IfSome};
 ghost use Rattle.bd_player.specs.Journals.{Wrote};
-ghost use Rattle.bd_player.specs.Verdicts.{IsLawfulAt0};
+ghost use Rattle.bd_player.specs.Verdicts.{IsLawful, IsLawfulAt0};
 
 use crate::faults::{DONE, FAULT, Fault, after_writing, tell};
 use crate::playing::read_on;
-use crate::verdicts::{Verdict, verdict_on};
+use crate::verdicts::{Judged, Verdict, judgment_on, verdict_on};
 use bd_journal::behind_magic;
 use bd_space::Record;
 use std::alloc::Global;
@@ -31,6 +31,13 @@ fn print<W: Write>(verdict: &str, number: usize, out: &mut W, status: u8) -> u8
     after_writing(writeln!(out, "{verdict} {number}"), status)
 }
 
+/// Prints that a journal is unlawful, and up to where it isn't. The status is then that of a fault.
+pub fn print_unlawful<W: Write>(at: u32, out: &mut W) -> u8
+    ensures { 1 ≤ result }
+{
+    print("unlawful", at as usize, out, FAULT)
+}
+
 // What the reader has, if it begins as each journal does. Of what doesn't, no more than these first bytes is read.
 fn journal_from<R: Read>(alloc: Global, journal: &mut R) -> Result<Vec<u8>, Fault>
     ensures { IfOk result (λ v. IfSome (R.remaining journal.old) (λ bytes. v.items ≡ bytes)) }
@@ -46,6 +53,16 @@ fn journal_from<R: Read>(alloc: Global, journal: &mut R) -> Result<Vec<u8>, Faul
         return Err(Fault::Journal);
     }
     read_on(alloc, &first, journal)
+}
+
+/// The record of a journal, if its entries are a history, or else the first that doesn't follow from those before.
+pub fn judged_from<R: Read>(alloc: Global, journal: &mut R) -> Result<Judged, Fault>
+    ensures { IfOk result IsLawful }
+{
+    match journal_from(alloc, journal) {
+        Ok(bytes) => judgment_on(alloc, &bytes),
+        Err(fault) => Err(fault),
+    }
 }
 
 /// Judges a journal: whether its entries are a history, or else the first that doesn't follow from those before.
@@ -65,7 +82,7 @@ pub fn check_journal<R: Read, W: Write, E: Write>(
     };
     match verdict_on(alloc, &bytes) {
         Ok(Verdict::Lawful { entries }) => print("lawful", entries, out, DONE),
-        Ok(Verdict::Unlawful { at }) => print("unlawful", at as usize, out, FAULT),
+        Ok(Verdict::Unlawful { at }) => print_unlawful(at, out),
         Err(fault) => tell(fault, err),
     }
 }

@@ -13,12 +13,12 @@ mod verdicts;
 mod worker;
 
 pub use faults::{DONE, FAULT, Fault, MEMORY, TURNS, after_writing, tell};
-pub use journals::{check_journal, write_journal};
+pub use journals::{check_journal, judged_from, print_unlawful, write_journal};
 pub use manner::{Manner, play_from};
 pub use playing::{Played, laid, play, play_lines};
 pub use printing::{Printer, print};
 pub use said::Said;
 pub use sink::Sink;
 pub use threads::{Told, gather, play_at, play_threads, print_told};
-pub use verdicts::{Verdict, verdict_on};
+pub use verdicts::{Judged, Verdict, verdict_on};
 pub use worker::act;

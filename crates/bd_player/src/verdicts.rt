@@ -4,7 +4,7 @@ ghost use Rattle.std.specs.Prelude.{◌≡◌, ◌≤◌, length, IfOk, IfErr};
 ghost use Rattle.bd_space.specs.Histories.{IsHistory, history_in};
 ghost use Rattle.bd_space.specs.declared.record.Record.{Record};
 ghost use Rattle.bd_audit.specs.Replays.{StopsAt};
-ghost use Rattle.bd_player.specs.Verdicts.{IsVerdict, Holds, Spells};
+ghost use Rattle.bd_player.specs.Verdicts.{IsVerdict, IsJudged, Judges, Spells};
 ghost use Rattle.bd_player.specs.declared.faults.Fault.TheVariants.{Journal};
 
 use crate::faults::Fault;
@@ -28,18 +28,45 @@ pub enum Verdict {
     },
 }
 
-// The verdict on a record.
-fn judge(alloc: Global, record: &Record) -> Result<Verdict, Fault>
-    requires seats { (1 ≤ «record».now.seats) × («record».now.seats ≤ 16) }
-    ensures verdict { IfOk result (Holds «record».now) }
+/// A journal's record, if it is that of a history.
+#[derive(Drop, Debug)]
+pub enum Judged {
+    /// Its entries are a history.
+    History(Record),
+    /// They aren't.
+    Unlawful {
+        /// The place of the first entry that doesn't follow from those before, from 0.
+        at: u32,
+    },
+}
+
+// What the replay of a record tells of it.
+fn judge(alloc: Global, found: Record) -> Result<Judged, Fault>
+    requires seats { (1 ≤ found.seats) × (found.seats ≤ 16) }
+    ensures judged { IfOk result (IsJudged found) }
     ensures fault { IfErr result (λ f. f ≡ Journal → ⊥) }
 {
-    match replay(alloc, record) {
-        Ok(()) => Ok(Verdict::Lawful {
-            entries: record.entries.as_slice().len(),
-        }),
-        Err(AuditFault::Unlawful { at }) => Ok(Verdict::Unlawful { at }),
+    match replay(alloc, &found) {
+        Ok(()) => Ok(Judged::History(found)),
+        Err(AuditFault::Unlawful { at }) => Ok(Judged::Unlawful { at }),
         Err(AuditFault::NoMemory) => Err(Fault::Memory),
+    }
+}
+
+/// The record that the bytes of a journal spell, if its entries are a history, or else the first that doesn't follow from
+/// those before.
+///
+/// # Errors
+/// `Journal` where no record is spelled so, `Memory` where memory was refused.
+pub(crate) fn judgment_on(alloc: Global, bytes: &[u8]) -> Result<Judged, Fault>
+    ensures judged { IfOk result (Judges bytes.now) }
+    // No journal is called unreadable.
+    ensures journal { IfErr result (λ f. f ≡ Journal → (r : Record) → Spells bytes.now r → ⊥) }
+{
+    match read_journal(alloc, bytes) {
+        Ok(found) => judge(alloc, found),
+        Err(ReadError::Malformed) => Err(Fault::Journal),
+        Err(ReadError::Memory) => Err(Fault::Memory),
     }
 }
 
@@ -54,9 +81,11 @@ pub fn verdict_on(alloc: Global, bytes: &[u8]) -> Result<Verdict, Fault>
     // No journal is called unreadable.
     ensures journal { IfErr result (λ f. f ≡ Journal → (r : Record) → Spells bytes.now r → ⊥) }
 {
-    match read_journal(alloc, bytes) {
-        Ok(record) => judge(alloc, &record),
-        Err(ReadError::Malformed) => Err(Fault::Journal),
-        Err(ReadError::Memory) => Err(Fault::Memory),
+    match judgment_on(alloc, bytes) {
+        Ok(Judged::History(found)) => Ok(Verdict::Lawful {
+            entries: found.entries.as_slice().len(),
+        }),
+        Ok(Judged::Unlawful { at }) => Ok(Verdict::Unlawful { at }),
+        Err(fault) => Err(fault),
     }
 }

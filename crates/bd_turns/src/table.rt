@@ -103,15 +103,4 @@ impl TurnTable {
             .remove_received_in(self.received.of(window), process);
         self.received.forget(window);
     }
-
-    /// Only the one-way calls for which `f` answers `true` stay.
-    pub fn retain<F: Fn(Turn) -> bool>(&mut self, f: F)
-        requires { F.IsAlwaysCallable f }
-        ensures stands { (p : declared.Turn → Bool) → ((t : declared.Turn) (b : Bool) → F.post f t b → b ≡ p t)
-            → Makes self.old self.new (λ l. filter p l) }
-        ensures uses { Uses self.old self.new 0 }
-    {
-        let len = self.queue.slots.len();
-        self.queue.keep_in(0..len, f);
-    }
 }

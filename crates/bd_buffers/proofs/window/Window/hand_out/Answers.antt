@@ -1,9 +1,11 @@
-use Rattle.std.proofs.Common.{◌∙◌, ap, sym, subst, List, arith, length}
+use Rattle.std.proofs.Common.{◌∙◌, ap, sym, subst, List, arith, length, ℕ, ◌≤◌}
 use Rattle.bd_space.specs.declared.space.Buffer.{Buffer}
 use Rattle.bd_space.specs.Freeing.{is_made_at}
 use Rattle.bd_buffers.specs.declared.window.Window.{Window}
 use Rattle.bd_buffers.specs.Rows.{live}
-use Rattle.bd_buffers.specs.Window.{Keeps}
+use Rattle.bd_buffers.specs.Window.{Keeps, room_left}
+use Rattle.bd_buffers.specs.Bounds.{reaches}
+use Rattle.bd_buffers.proofs.Bounded.{more_room}
 use Rattle.bd_buffers.proofs.Exact.{keeps_handed}
 use Rattle.bd_buffers.proofs.Live.{changed_length}
 use Rattle.bd_buffers.proofs.window.Window.hand_out.Goals as goal
@@ -20,4 +22,5 @@ returns-clause-room c =
     let same = ap (λ (bs : List Buffer). length bs) c.hand_out.ensures.live ∙ changed_length (is_made_at c.args.made) (live w.buffers.rows) in
     let room = ap (λ (v : Window). v.room) c.self.view_is in
     let more = c.hand_out.ensures.room in
-    omega (arith, same, room, more)
+    let P : ℕ → Type 0 = λ n. n ≤ room_left c.hand_out.new.self w.ground in
+    subst P room (more_room (reaches w.ground.size w.ground.bounds) _ _ (omega (arith, same, more)))

@@ -10,7 +10,7 @@ use Rattle.bd_engine.proofs.tables.Tables.begin_process_exit.Goals as goal
 pub returns-clause-has : goal.returns-clause-has
 returns-clause-has c =
     let Q : Exit → Type 0 = λ x. (s : Space) → Before c.args.self.now s → HasProcess x s c.args.seats.now c.args.p in
-    IfOk-weaker c.reserve_exit.result (Grows (record c.touch_list.new.exit { objects = c.touched_by_end.new.touched })) Q
+    IfOk-weaker c.reserve_exit.result (Grows (record c.touch_list.new.exit { objects = c.touched_by_end.new.touched; deaths = _ })) Q
     (λ x grows s h. more-process _ x s c.args.seats.now c.args.p grows
     (process-gathered s c.args.seats.now c.args.p _ c.touch_list.new.exit _ (c.in_ok-touch_threads.ensures.has s h) (c.in_ok-touch_list.ensures.has s h) (c.in_ok-touch_list.ensures.grows s h) refl (c.in_ok-touched_by_end.ensures.all s h.objects_stand)))
     c.reserve_exit.ensures.grows

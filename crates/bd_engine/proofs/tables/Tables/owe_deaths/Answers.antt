@@ -1,18 +1,24 @@
-use Rattle.std.proofs.Common.{◌+◌, ◌≤◌, List, length, subst, arith, rules}
-use Rattle.bd_space.specs.declared.space.Work.{Work}
-use Rattle.bd_engine.specs.Stands.{StandsAt}
-use Rattle.bd_engine.specs.Telling.{owed_death}
-use Rattle.bd_engine.proofs.Folds.{fold-all}
+use Rattle.std.proofs.Common.{◌+◌, List, take, take_all, subst, arith, rules}
+use Rattle.bd_space.specs.declared.space.DeathNotification.{DeathNotification}
+use Rattle.bd_space.specs.Todo.{owe}
+use Rattle.bd_engine.specs.Stands.{Within}
+use Rattle.bd_engine.specs.Telling.{owed}
+use Rattle.bd_engine.proofs.Changing.{with-calls}
+use Rattle.bd_engine.proofs.Owing.{owed-more}
 use Rattle.bd_engine.proofs.tables.Tables.owe_deaths.Goals as goal
 
-pub loop-k-preserved : goal.loop-k-preserved
-loop-k-preserved c = record {
-  stands = λ s h. c.owe_death_at.ensures.stands (s.steps + 1) s (c.loop-k.invariant.stands s h);
+pub loop-x-preserved : goal.loop-x-preserved
+unfolding owe
+loop-x-preserved c = record {
+  stands = λ s h.
+      let told = owed s (take c.loop-x.x-index c.args.due.now) in
+      let stood = c.loop-x.invariant.stands s h in
+      owed-more (s.steps + 1) _ s c.args.due.now c.loop-x.x-index _ (omega arith)
+      (with-calls (s.steps + 1) c.loop-x.self told _ _ _ _ stood (c.owe.ensures.stands told stood.calls_stand stood.own.steps_are));
   uses = search rules;
 }
 
 pub returns-clause-stands : goal.returns-clause-stands
 returns-clause-stands c = λ s h.
-    let all : length s.deaths ≤ c.loop-k.k = omega (arith, c.death_count-k-end.ensures.count s h.objects_stand) in
-    subst (λ (ws : List Work). StandsAt (s.steps + 1) c.loop-k.self (record s { todo = ws }))
-    (fold-all (owed_death s.steps s.objects c.args.p) s.todo s.deaths c.loop-k.k all) (c.loop-k.invariant.stands s h)
+    let all = take_all c.loop-x.x-index c.args.due.now (omega (arith, c.loop-x-test.false)) in
+    subst (λ (xs : List DeathNotification). Within c.loop-x.self (owed s xs)) all (c.loop-x.invariant.stands s h)

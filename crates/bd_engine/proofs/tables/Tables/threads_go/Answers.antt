@@ -12,7 +12,6 @@ loop-seat-preserved c = record {
       subst (λ (z : Space). StandsAt (z.steps + 1) c.thread_goes.new.self z) (sym (fold_more thread_goes s c.args.seats.now c.loop-seat.seat-index 0 c.loop-seat-test.true))
       (c.thread_goes.ensures.stands _ (c.loop-seat.invariant.stands s h));
   uses = search rules;
-  deaths = omega arith;
 }
 
 pub returns-clause-stands : goal.returns-clause-stands

@@ -1,8 +1,7 @@
-use Rattle.std.proofs.Common.{◌≤◌, take}
+use Rattle.std.proofs.Common.{take}
 use Rattle.std.specs.List.{fold}
 use Rattle.bd_space.specs.Space.{Space}
 use Rattle.bd_space.specs.ThreadExits.{thread_goes}
-use Rattle.bd_objects.specs.Room.{death_count}
 use Rattle.bd_engine.specs.Stands.{Within, Uses}
 use Rattle.bd_engine.proofs.tables.Tables.threads_go.Given as goal
 
@@ -10,5 +9,4 @@ abbrev pub invariant-loop-seat : goal.invariant-loop-seat
 invariant-loop-seat l = record {
   stands : (s : Space) → Within l.fn.self s → Within l.self (fold thread_goes s (take l.seat-index l.seats));
   uses : Uses l.fn.self l.self 0 0 0 0;
-  deaths : death_count l.self.objects ≤ death_count l.fn.self.objects;
 }

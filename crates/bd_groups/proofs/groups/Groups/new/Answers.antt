@@ -1,4 +1,4 @@
-use Rattle.std.proofs.Common.{reverse, refl, ap}
+use Rattle.std.proofs.Common.{reverse, ap}
 use Rattle.bd_groups.specs.Trail.{trail, latest_at}
 use Rattle.bd_groups.specs.Members.{members, member_count}
 use Rattle.bd_groups.proofs.groups.Groups.new.Goals as goal

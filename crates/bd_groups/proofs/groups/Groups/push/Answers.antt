@@ -1,4 +1,4 @@
-use Rattle.std.proofs.Common.{Some, ◌∷◌, ◌++◌, [], reverse, cond, inl, refl, subst, ap, sym, ◌∙◌}
+use Rattle.std.proofs.Common.{◌∷◌, ◌++◌, [], reverse, cond, inl, refl, subst, ap, sym, ◌∙◌}
 use Rattle.bd_groups.specs.Group.{same_group}
 use Rattle.bd_groups.specs.Trail.{trail, latest_at}
 use Rattle.bd_groups.specs.Members.{members, IsIn}

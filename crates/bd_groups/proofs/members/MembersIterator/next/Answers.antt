@@ -1,4 +1,4 @@
-use Rattle.std.proofs.Common.{◌≡◌, List, ◌∷◌, ◌<◌, ◌≤◌, length, reverse, Some, ap, sym, ◌∙◌, arith}
+use Rattle.std.proofs.Common.{◌≡◌, List, ◌∷◌, ◌<◌, length, reverse, ap, sym, ◌∙◌, arith}
 use Rattle.bd_groups.specs.Trail.{trail}
 use Rattle.bd_groups.proofs.Trails.{to-none, to-absent, from-link}
 use Rattle.bd_groups.proofs.members.MembersIterator.next.Goals as goal

@@ -6,7 +6,7 @@ use Rattle.bd_deaths.specs.Due.{has_place}
 use Rattle.bd_deaths.specs.Stands.{AreIn}
 use Rattle.bd_deaths.proofs.Telling.{told_at}
 use Rattle.bd_deaths.proofs.Visiting.{visited}
-use Rattle.bd_deaths.proofs.table.DeathTable.due.Given as goal
+use Rattle.bd_deaths.proofs.table.DeathTable.put_due_places.Given as goal
 
 abbrev pub invariant-loop-o : goal.invariant-loop-o
 invariant-loop-o l = (objects : List Object) (xs : List DeathNotification) → NodesAre l.nodes objects

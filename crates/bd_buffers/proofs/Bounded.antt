@@ -1,0 +1,218 @@
+-- What the bounds of the holes let a search go past, and what stays bounded.
+use Rattle.std.proofs.Common.{◌≡◌, ℕ, zero, suc, ◌+◌, ◌-◌, ◌*◌, ◌/◌, ◌<◌, ◌≤◌, Bool, true, false, cond, List, [], ◌∷◌, length, get_or, drop, refl, ap, ltb, ◌&&◌, ◌∙◌, subst, arith, All, inl, inr, ◌⊎◌, eqb}
+use Rattle.std.specs.Prelude.{find, min, vec_len, vec_capacity}
+use Rattle.std.specs.List.{between}
+use Rattle.std.specs.List.Sorted.{IsNonDecreasingBy, IsPartitionPoint}
+use Rattle.std.proofs.lemmas.Bool.{cases_lt, lt-leb, eqb-true, leb-true}
+use Rattle.std.proofs.lemmas.List.Edits.{length-between, get_or-between}
+use Rattle.std.proofs.lemmas.List.Elements.{All-nil, All-cons, All-head, All-tail, All-weaker}
+use Rattle.bd_buffers.specs.declared.hole.Hole.{Hole}
+use Rattle.bd_buffers.specs.declared.bounds.Bounds.{Bounds}
+use Rattle.bd_buffers.specs.declared.ground.Ground.{Ground}
+use Rattle.bd_buffers.specs.declared.rows.Rows.{Rows}
+use Rattle.bd_words.specs.Look.{word_room}
+use Rattle.bd_buffers.specs.Rows.{live}
+use Rattle.bd_buffers.specs.Window.{room_left}
+use Rattle.bd_buffers.specs.Holes.{Free, Spaced, has_room, shortened, taken, joined, released}
+use Rattle.bd_buffers.specs.Bounds.{IsBounded, reaches, IsAsLong, AreBoundedBut, AreWithin}
+use Rattle.bd_buffers.proofs.Fits.{cases_bool}
+use Rattle.bd_buffers.proofs.Split.{no_hole}
+
+-- ---- holes in order
+
+starts_above : (tail low : ℕ) (holes : List Hole) (k : ℕ) (d : Hole) → Spaced tail low holes → k < length holes → low ≤ (get_or holes k d).start
+starts_above tail low [] k d sp lt = absurd (omega arith)
+starts_above tail low (h ∷ hs) zero d sp lt = sp.0
+starts_above tail low (h ∷ hs) (suc k) d sp lt = let up = starts_above tail (h.end + 1) hs k d sp.4 (omega arith) in omega (arith, sp.0, sp.1, up)
+
+-- each ends before the next begins
+pub ends_first : (tail low : ℕ) (holes : List Hole) (i j : ℕ) (d : Hole) → Spaced tail low holes → i < j → j < length holes → (get_or holes i d).end < (get_or holes j d).start
+ends_first tail low [] i j d sp before lt = absurd (omega arith)
+ends_first tail low (h ∷ hs) zero zero d sp before lt = absurd (omega arith)
+ends_first tail low (h ∷ hs) zero (suc j) d sp before lt = let up = starts_above tail (h.end + 1) hs j d sp.4 (omega arith) in omega (arith, up)
+ends_first tail low (h ∷ hs) (suc i) zero d sp before lt = absurd (omega arith)
+ends_first tail low (h ∷ hs) (suc i) (suc j) d sp before lt = ends_first tail (h.end + 1) hs i j d sp.4 (omega arith) (omega arith)
+
+low_tail : (tail low : ℕ) (holes : List Hole) → Spaced tail low holes → low ≤ tail
+low_tail tail low [] sp = sp.0
+low_tail tail low (h ∷ hs) sp = let up = low_tail tail (h.end + 1) hs sp.4 in omega (arith, sp.0, sp.1, up)
+
+-- each is of a byte or more, and before the tail
+is_filled : (tail low : ℕ) (holes : List Hole) (k : ℕ) (d : Hole) → Spaced tail low holes → k < length holes → ((get_or holes k d).start < (get_or holes k d).end) × ((get_or holes k d).end < tail)
+is_filled tail low [] k d sp lt = absurd (omega arith)
+is_filled tail low (h ∷ hs) zero d sp lt = let up = low_tail tail (h.end + 1) hs sp.4 in (sp.1, omega (arith, up))
+is_filled tail low (h ∷ hs) (suc k) d sp lt = is_filled tail (h.end + 1) hs k d sp.4 (omega arith)
+
+no_later : (a b : ℕ) → a ≤ b → a / 4096 ≤ b / 4096
+no_later a b le = omega arith
+
+pub in_block_order : (tail : ℕ) (holes : List Hole) → Spaced tail 0 holes → IsNonDecreasingBy (λ h. h.start / 4096) holes
+in_block_order tail holes sp i j d le lt =
+    elim (cases_lt i j) [
+      | inl before ↦
+          let ends = ends_first tail 0 holes i j d sp before lt in
+          let full = is_filled tail 0 holes i d sp (omega arith) in
+          no_later _ _ (omega (arith, ends, full.0))
+      | inr ge ↦ let same : i ≡ j = omega arith in rw same (omega arith)
+    ]
+
+-- the hole that spans a place is where a search for its end leads
+pub spans_at : (tail i place begin : ℕ) (holes : List Hole) → Spaced tail 0 holes → IsPartitionPoint (λ h. h.end ≤ place) (λ h. place < h.end) holes i
+    → ((d : Hole) → i < length holes → (get_or holes i d).start ≡ begin) → All (λ h. h.start ≤ place → place < h.end → h.start ≡ begin) holes
+spans_at tail i place begin holes sp point at k d lt = λ low high.
+    elim (cases_lt k i) [
+      | inl before ↦ (let ends = point.0 k d (omega arith) before in absurd (omega (arith, ends, high)))
+      | inr ge ↦ elim (cases_lt i k) [
+        | inl after ↦ (
+            let ends = ends_first tail 0 holes i k d sp after lt in
+            let from = point.1 i d (omega arith) (omega arith) in
+            absurd (omega (arith, ends, from, low)))
+        | inr le ↦ (let same : k ≡ i = omega arith in rw same (at d (omega arith)))
+      ]
+    ]
+
+-- ---- what a search goes past
+
+pub no_room : (n : ℕ) (h : Hole) → h.end < h.start + n → has_room n h ≡ false
+no_room n h lt = lt-leb _ _ lt
+
+-- the first that passes is found behind those that don't
+pub found_from : (p : Hole → Bool) (holes : List Hole) (i : ℕ) → ((k : ℕ) (d : Hole) → k < i → k < length holes → p (get_or holes k d) ≡ false)
+    → find p (drop i holes) ≡ find p holes
+found_from p holes zero none = refl
+found_from p [] (suc i) none = refl
+found_from p (h ∷ hs) (suc i) none =
+    let head : p h ≡ false = none zero h (omega arith) (omega arith) in
+    found_from p hs i (λ k d lt within. none (suc k) d (omega arith) (omega arith)) ∙ rw head refl
+
+-- ---- what changes of holes leave bounded
+
+module _ (P : Hole → Type 0) where
+  kept_shortened : (p n : ℕ) (h : Hole) (hs : List Hole) → h.start ≡ p → All P hs → All (λ x. P x ⊎ (x.start ≡ p + n)) (shortened n h hs)
+  kept_shortened p n h hs here all =
+      let rest = All-weaker P (λ x. P x ⊎ (x.start ≡ p + n)) (λ x y. inl y) hs all in
+      elim (cases_bool (eqb (h.start + n) h.end)) [
+        | inl whole ↦ rw whole rest
+        | inr part ↦ rw part (All-cons (λ x. P x ⊎ (x.start ≡ p + n)) (record { start = h.start + n; end = h.end }) hs (inr (omega (arith, here))) rest)
+      ]
+
+  -- where a span is taken, one hole is new, behind it
+  pub taken_kept : (p n tail : ℕ) (holes : List Hole) → All P holes → All (λ x. P x ⊎ (x.start ≡ p + n)) (taken p n tail holes).holes
+  unfolding taken
+  taken_kept p n tail [] all = All-nil (λ x. P x ⊎ (x.start ≡ p + n))
+  taken_kept p n tail (h ∷ hs) all =
+      elim (cases_bool (eqb h.start p)) [
+        | inl here ↦ rw here (kept_shortened p n h hs (eqb-true h.start p here) (All-tail P h hs all))
+        | inr apart ↦ rw apart (All-cons (λ x. P x ⊎ (x.start ≡ p + n)) h (taken p n tail hs).holes (inl (All-head P h hs all)) (taken_kept p n tail hs (All-tail P h hs all)))
+      ]
+
+  -- a hole as it was, or one that spans the place
+  abbrev pub IsKept : ℕ → Hole → Type 0
+  IsKept s x = P x ⊎ ((x.start ≤ s) × (s < x.end))
+
+  kept_joined : (b s e tail low : ℕ) (holes : List Hole) → b ≤ s → s < e → Spaced tail low holes → All P holes → All (IsKept s) (joined b e tail holes).holes
+  kept_joined b s e tail low [] le lt sp all =
+      elim (cases_bool (eqb e tail)) [
+        | inl touch ↦ rw touch (All-nil (IsKept s))
+        | inr apart ↦ rw apart (All-cons (IsKept s) (record { start = b; end = e }) [] (inr (le, lt)) (All-nil (IsKept s)))
+      ]
+  kept_joined b s e tail low (h ∷ hs) le lt sp all =
+      let rest = All-weaker P (IsKept s) (λ x y. inl y) in
+      elim (cases_bool (eqb e h.start)) [
+        | inl touch ↦
+            (let same = eqb-true e h.start touch in
+            rw touch (All-cons (IsKept s) (record { start = b; end = h.end }) hs (inr (le, omega (arith, lt, same, sp.1))) (rest hs (All-tail P h hs all))))
+        | inr apart ↦ rw apart (All-cons (IsKept s) (record { start = b; end = e }) (h ∷ hs) (inr (le, lt)) (rest (h ∷ hs) all))
+      ]
+
+  -- where a span is given back, one hole is new, and it spans its first byte
+  pub released_kept : (s e tail low : ℕ) (holes : List Hole) → s < e → Spaced tail low holes → All P holes → All (IsKept s) (released s e tail holes).holes
+  unfolding released
+  released_kept s e tail low [] lt sp all = kept_joined s s e tail low [] (omega arith) lt sp all
+  released_kept s e tail low (h ∷ hs) lt sp all =
+      elim (cases_bool (ltb s h.end)) [
+        | inl before ↦ rw before (kept_joined s s e tail low (h ∷ hs) (omega arith) lt sp all)
+        | inr past ↦ elim (cases_bool (eqb h.end s)) [
+          | inl touch ↦
+              (let same = eqb-true h.end s touch in
+              rw (past, touch) (kept_joined h.start s e tail (h.end + 1) hs (omega (arith, same, sp.1)) lt sp.4 (All-tail P h hs all)))
+          | inr apart ↦ rw (past, apart) (All-cons (IsKept s) h (released s e tail hs).holes (inl (All-head P h hs all)) (released_kept s e tail (h.end + 1) hs lt sp.4 (All-tail P h hs all)))
+        ]
+      ]
+
+  -- that hole begins where the one that spans the place does
+  pub spanned : (s begin : ℕ) (holes xs : List Hole) → xs ≡ holes → All (IsKept s) holes → All (λ x. x.start ≤ s → s < x.end → x.start ≡ begin) xs
+      → All (λ x. P x ⊎ (x.start ≡ begin)) holes
+  spanned s begin holes xs same kept at k d lt =
+      let at' = subst (λ ys. All (λ x. x.start ≤ s → s < x.end → x.start ≡ begin) ys) same at in
+      elim (kept k d lt) [ inl own ↦ inl own | inr span ↦ inr (at' k d lt span.0 span.1) ]
+
+-- ---- before bounds are made anew
+
+both_true : (a b : Bool) → (a && b) ≡ true → (a ≡ true) × (b ≡ true)
+both_true true true e = (refl, refl)
+both_true true false e = cc
+both_true false b e = cc
+
+pub reaches_says : (size : ℕ) (b : Bounds) → reaches size b ≡ true → (size ≤ 4096 * length b.blocks.items) × (size ≤ 131072 * length b.runs.items)
+reaches_says size b e =
+    let both = both_true _ _ e in
+    (leb-true size (4096 * length b.blocks.items) both.0, leb-true size (131072 * length b.runs.items) both.1)
+
+pub reaches_same : (size : ℕ) (old new : Bounds) → IsAsLong old new → reaches size new ≡ reaches size old
+reaches_same size old new is = rw (is.blocks, is.runs) refl
+
+-- but for the holes that begin at one place all are bounded
+pub but_one : (size place : ℕ) (b : Bounds) (f : Free) → AreWithin size f → reaches size b ≡ true → All (λ h. IsBounded b h ⊎ (h.start ≡ place)) f.holes → AreBoundedBut b place f.holes
+but_one size place b f is whole all =
+    let long = reaches_says size b whole in
+    record {
+      order = in_block_order f.tail f.holes is.spaced;
+      within = λ k d lt.
+          let full = is_filled f.tail 0 f.holes k d is.spaced lt in
+          let within = is.within in
+          (omega (arith, full.0, full.1, within, long.0), omega (arith, full.0, full.1, within, long.1));
+      others = λ k d lt apart. elim (all k d lt) [ inl own ↦ own | inr here ↦ absurd (apart (ap (λ p. p / 4096) here)) ];
+    }
+
+-- and so are all where one block is made anew for being exact
+pub but_none : (size place : ℕ) (b : Bounds) (f : Free) → AreWithin size f → reaches size b ≡ true → All (IsBounded b) f.holes → AreBoundedBut b place f.holes
+but_none size place b f is whole all = but_one size place b f is whole (All-weaker (IsBounded b) (λ h. IsBounded b h ⊎ (h.start ≡ place)) (λ h own. inl own) f.holes all)
+
+-- ---- the holes of a block, the blocks of a run
+
+-- a later block begins no earlier
+pub points_rise : (holes : List Hole) (block i j : ℕ) → i ≤ length holes → IsPartitionPoint (λ h. h.start / 4096 < block) (λ h. block ≤ h.start / 4096) holes i
+    → IsPartitionPoint (λ h. h.start / 4096 < block + 1) (λ h. block + 1 ≤ h.start / 4096) holes j → i ≤ j
+points_rise holes block i j within first second =
+    elim (cases_lt j i) [
+      | inr le ↦ le
+      | inl lt ↦
+          (let d = no_hole in
+          let low = first.0 j d (omega arith) lt in
+          let high = second.1 j d (omega arith) (omega arith) in
+          absurd (omega (arith, low, high)))
+    ]
+
+-- what holds of each of a part holds at its indices
+pub part_has : {X : Type 0} (P : X → Type 0) (xs : List X) (i j k : ℕ) (d : X) → All P (between i j xs) → j ≤ length xs → i ≤ k → k < j → P (get_or xs k d)
+part_has P xs i j k d all end from to =
+    let back : i + (k - i) ≡ k = omega arith in
+    subst P (get_or-between xs i j (k - i) d (omega arith) ∙ ap (λ m. get_or xs m d) back) (all (k - i) d (omega (arith, length-between xs i j end)))
+
+-- ---- room
+
+-- where there are bounds before and after, more room is more
+pub more_room : (t : Bool) (m n : ℕ) → m ≤ n → cond t m 0 ≤ cond t n 0
+more_room true m n le = le
+more_room false m n le = omega arith
+
+some_room : (t : Bool) (a b n r : ℕ) → cond t (min (min a b) n) 0 ≡ r → 1 ≤ r → 1 ≤ n
+some_room true a b n r e some = omega (arith, e, some)
+some_room false a b n r e some = absurd (omega (arith, e, some))
+
+-- where there is room there is room for one more hole
+pub hole_room : (t : Rows) (g : Ground) (r : ℕ) → room_left t g ≡ r → 1 ≤ r → vec_len g.holes + length (live t.rows) < vec_capacity g.holes
+hole_room t g r e some =
+    let n = some_room (reaches g.size g.bounds) t.room (word_room g.spots) (vec_capacity g.holes - (vec_len g.holes + length (live t.rows))) r e some in
+    omega (arith, n)

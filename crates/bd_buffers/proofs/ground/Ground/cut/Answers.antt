@@ -1,0 +1,26 @@
+use Rattle.std.proofs.Common.{◌≡◌, ◌+◌, ◌⊎◌, ◌∙◌, All, List, subst}
+use Rattle.bd_buffers.specs.declared.hole.Hole.{Hole}
+use Rattle.bd_buffers.specs.Holes.{Free}
+use Rattle.bd_buffers.specs.Bounds.{IsBounded, AreWithin}
+use Rattle.bd_buffers.proofs.Bounded.{taken_kept, but_one, but_none, reaches_same}
+use Rattle.bd_buffers.proofs.ground.Ground.cut.Goals as goal
+
+pub refresh-requires : goal.refresh-requires
+refresh-requires c =
+    let g = c.args.self.now in
+    let place = c.args.place + c.args.n in
+    let f : Free = record { holes = c.take-self.new.holes.items; tail = c.take-self.result } in
+    let P : Free → Type 0 = λ x. All (λ h. IsBounded g.bounds h ⊎ (h.start ≡ place)) x.holes in
+    rw c.deref.ensures.value
+    (but_one g.size place g.bounds f (subst (AreWithin g.size) c.take-self.ensures.left c.requires.later) c.requires.bounds.ready
+    (subst P c.take-self.ensures.left (taken_kept (IsBounded g.bounds) c.args.place c.args.n g.tail g.holes.items c.requires.bounds.all)))
+
+pub refresh-requires-2 : goal.refresh-requires-2
+refresh-requires-2 c =
+    let g = c.args.self.now in
+    let b = c.refresh.new.self in
+    let f : Free = record { holes = c.take-self.new.holes.items; tail = c.take-self.result } in
+    let P : List Hole → Type 0 = λ xs. All (IsBounded b) xs in
+    rw c.deref-2.ensures.value
+    (but_none g.size c.args.place b f (subst (AreWithin g.size) c.take-self.ensures.left c.requires.later) (reaches_same g.size g.bounds b c.refresh.ensures.len ∙ c.requires.bounds.ready)
+    (subst P c.deref.ensures.value c.refresh.ensures.bounded))

@@ -1,0 +1,26 @@
+use Rattle.std.proofs.Common.{◌∙◌, All, List, subst}
+use Rattle.bd_buffers.specs.declared.hole.Hole.{Hole}
+use Rattle.bd_buffers.specs.Holes.{Free}
+use Rattle.bd_buffers.specs.Bounds.{IsBounded, AreWithin}
+use Rattle.bd_buffers.proofs.Bounded.{IsKept, released_kept, spanned, but_one, but_none, reaches_same}
+use Rattle.bd_buffers.proofs.ground.Ground.restore.Goals as goal
+
+pub refresh-requires : goal.refresh-requires
+refresh-requires c =
+    let g = c.args.self.now in
+    let f : Free = record { holes = c.give_back-self.new.holes.items; tail = c.give_back-self.result } in
+    let P : Free → Type 0 = λ x. All (IsKept (IsBounded g.bounds) c.args.start) x.holes in
+    let kept = subst P c.give_back-self.ensures.left (released_kept (IsBounded g.bounds) c.args.start c.args.end g.tail 0 g.holes.items c.requires.filled c.requires.spaced c.requires.bounds.all) in
+    rw c.deref-2.ensures.value
+    (but_one g.size c.begin_of-begin.result g.bounds f (subst (AreWithin g.size) c.give_back-self.ensures.left c.requires.later) c.requires.bounds.ready
+    (spanned (IsBounded g.bounds) c.args.start c.begin_of-begin.result f.holes c.deref.result.now c.deref.ensures.value kept c.begin_of-begin.ensures))
+
+pub refresh-requires-2 : goal.refresh-requires-2
+refresh-requires-2 c =
+    let g = c.args.self.now in
+    let b = c.refresh.new.self in
+    let f : Free = record { holes = c.give_back-self.new.holes.items; tail = c.give_back-self.result } in
+    let P : List Hole → Type 0 = λ xs. All (IsBounded b) xs in
+    rw c.deref-3.ensures.value
+    (but_none g.size c.args.end b f (subst (AreWithin g.size) c.give_back-self.ensures.left c.requires.later) (reaches_same g.size g.bounds b c.refresh.ensures.len ∙ c.requires.bounds.ready)
+    (subst P c.deref-2.ensures.value c.refresh.ensures.bounded))

@@ -1,0 +1,22 @@
+-- What is asked about a journal, by what a parse of the words found.
+use Rattle.std.specs.Prelude.{◌≡◌, ℕ, List, Some, codes}
+use Rattle.std.specs.Str.Parse.{digits_value, without_leading_plus}
+use Rattle.clap.specs.declared.parser.matches.Found.{Found}
+use Rattle.clap.specs.Matches.{first_value, one_text}
+use Rattle.bd_show.specs.declared.questions.Question.{Question}
+use Rattle.bd_show.specs.declared.questions.Question.TheVariants.{Chain}
+use Rattle.bd_play.specs.declared.inquiries.Inquiry.{Inquiry}
+use Rattle.bd_play.specs.Orders.{IsTurns}
+
+-- the number is that of the text that was found under the name
+abbrev pub IsNumberAt : Found → List ℕ → ℕ → Type 0
+IsNumberAt found name n = (text : List ℕ) → one_text found name ≡ Some text → IsTurns text → n ≡ digits_value 10 (without_leading_plus text)
+
+-- the pid and the handle that were found
+abbrev pub AskedBy : Found → Question → Type 0
+AskedBy found (Chain pid handle) = IsNumberAt found (codes "pid") pid × IsNumberAt found (codes "handle") handle
+AskedBy found _ = ⊥
+
+-- of the journal that was found
+abbrev pub AsksFound : Found → Inquiry → Type 0
+AsksFound found i = first_value found (codes "file") ≡ Some i.file.now

@@ -1,0 +1,205 @@
+//! The words of questions about a journal.
+
+ghost use Rattle.std.specs.Prelude.{IfSome};
+ghost use Rattle.clap.specs.Matches.{found_of};
+ghost use Rattle.bd_play.specs.Inquiries.{AsksFound, AskedBy, IsNumberAt};
+
+use bd_show::{Explanation, Question, Selection, explained};
+use bd_space::ObjectId;
+use clap::{Arg, ArgMatches, Command, Error, value_parser};
+use std::alloc::Global;
+
+/// A question, and the file of the journal that it is about.
+#[derive(Clone, Copy, Debug)]
+pub struct Inquiry<'a> {
+    /// The journal's file.
+    pub file: &'a str,
+    /// What is asked.
+    pub question: Question,
+}
+
+const CHAIN_HELP: &str = "\
+Each line is a gift: its place in the history, who gave the object and who had a name for it from then on. The first
+giver is its owner. The context manager's object may be asked for by 0.
+
+Statuses: 0 there is such a name; 1 there is none, the journal is unlawful, or a fault; 3 memory refused.";
+
+const STATE_HELP: &str = "\
+Of each process that lives: its threads, the objects that it owns, its handles, and the buffers in its window.";
+
+// The journal that a command reads.
+fn journal_arg<'a>(alloc: Global) -> Arg<'a> {
+    Arg::new(alloc, "file")
+        .value_name("JOURNAL")
+        .required(true)
+        .help("The journal, or - for standard input")
+}
+
+// A number that has to be given.
+fn number_arg<'a>(alloc: Global, name: &'a str, value: &'a str, help: &'a str) -> Arg<'a> {
+    Arg::new(alloc, name)
+        .value_name(value)
+        .value_parser(value_parser!(u32))
+        .required(true)
+        .help(help)
+}
+
+// A number that may be given by an option.
+fn number_option<'a>(alloc: Global, name: &'a str, value: &'a str, help: &'a str) -> Arg<'a> {
+    Arg::new(alloc, name)
+        .long(name)
+        .value_name(value)
+        .value_parser(value_parser!(u32))
+        .help(help)
+}
+
+fn show_command<'a>(alloc: Global) -> Result<Command<'a>, Error> {
+    let command = Command::new(alloc, "show")
+        .about("Shows the entries of a journal, a line each")
+        .arg(journal_arg(alloc))?
+        .arg(number_option(alloc, "from", "K", "Only entries from this place on"))?
+        .arg(number_option(alloc, "to", "K", "Only entries before this place"))?
+        .arg(number_option(alloc, "seat", "N", "Only entries of this seat"))?
+        .arg(number_option(
+            alloc,
+            "pid",
+            "P",
+            "Only entries of the process with this pid",
+        ))?;
+    Ok(command)
+}
+
+fn chain_command<'a>(alloc: Global) -> Result<Command<'a>, Error> {
+    let command = Command::new(alloc, "chain")
+        .about("Tells how a process came to a handle: who gave the object to whom")
+        .after_help(CHAIN_HELP)
+        .arg(journal_arg(alloc))?
+        .arg(number_arg(alloc, "pid", "PID", "The process"))?
+        .arg(number_arg(alloc, "handle", "HANDLE", "Its handle"))?;
+    Ok(command)
+}
+
+fn call_command<'a>(alloc: Global) -> Result<Command<'a>, Error> {
+    let command = Command::new(alloc, "call-of-reply")
+        .about("Tells which call a reply answers")
+        .arg(journal_arg(alloc))?
+        .arg(number_arg(
+            alloc,
+            "place",
+            "K",
+            "The place of the read that handed out the reply",
+        ))?;
+    Ok(command)
+}
+
+fn turns_command<'a>(alloc: Global) -> Result<Command<'a>, Error> {
+    let object = Arg::new(alloc, "object")
+        .value_name("PLACE.INDEX")
+        .required(true)
+        .help("The object: the place of the step that made it, and its number there");
+    let command = Command::new(alloc, "turns")
+        .about("Tells the one-way calls on an object, in the order in which they were made")
+        .arg(journal_arg(alloc))?
+        .arg(object)?;
+    Ok(command)
+}
+
+fn state_command<'a>(alloc: Global) -> Result<Command<'a>, Error> {
+    let command = Command::new(alloc, "state")
+        .about("Tells what a history has come to, process by process")
+        .after_help(STATE_HELP)
+        .arg(journal_arg(alloc))?
+        .arg(number_option(alloc, "at", "K", "After this many entries [default: all]"))?;
+    Ok(command)
+}
+
+fn explain_command<'a>(alloc: Global) -> Result<Command<'a>, Error> {
+    let name = Arg::new(alloc, "name")
+        .value_name("NAME")
+        .required(true)
+        .help("F1 to F16, X1 to X16 or N1 to N11");
+    let command = Command::new(alloc, "explain")
+        .about("Tells when a fault, a cause or a note comes, and what it leaves")
+        .arg(name)?;
+    Ok(command)
+}
+
+/// A command that has those of the questions too.
+pub fn with_inquiries<'a>(alloc: Global, command: Command<'a>) -> Result<Command<'a>, Error> {
+    let command = command
+        .subcommand(show_command(alloc)?)?
+        .subcommand(chain_command(alloc)?)?
+        .subcommand(call_command(alloc)?)?
+        .subcommand(turns_command(alloc)?)?
+        .subcommand(state_command(alloc)?)?
+        .subcommand(explain_command(alloc)?)?;
+    Ok(command)
+}
+
+// The object that a text names.
+fn object_in(text: &str) -> Option<ObjectId> {
+    let (place, index) = text.split_once('.')?;
+    Some(ObjectId {
+        place: place.parse::<u32>().ok()?,
+        index: index.parse::<u32>().ok()?,
+    })
+}
+
+// The number that was given by a name, if one was.
+fn number_in(matches: &ArgMatches<'_>, name: &str) -> Option<u32>
+    ensures { IfSome result (IsNumberAt (found_of matches.now) name.now) }
+{
+    matches.get_one::<u32>(name)
+}
+
+fn selection_in(matches: &ArgMatches<'_>) -> Selection {
+    Selection {
+        from: number_in(matches, "from").unwrap_or(0),
+        to: number_in(matches, "to"),
+        seat: number_in(matches, "seat"),
+        pid: number_in(matches, "pid"),
+    }
+}
+
+// How the process with the pid that was found came to the handle that was found.
+fn chain_in(matches: &ArgMatches<'_>) -> Option<Question>
+    ensures { IfSome result (AskedBy (found_of matches.now)) }
+{
+    Some(Question::Chain {
+        pid: number_in(matches, "pid")?,
+        handle: number_in(matches, "handle")?,
+    })
+}
+
+// What is asked by the command of this name, if it is one of a question.
+fn question_in(name: &str, matches: &ArgMatches<'_>) -> Option<Question> {
+    match name {
+        "show" => Some(Question::Entries(selection_in(matches))),
+        "chain" => chain_in(matches),
+        "call-of-reply" => Some(Question::CallOfReply {
+            place: number_in(matches, "place")?,
+        }),
+        "turns" => Some(Question::Turns {
+            object: object_in(matches.get_str("object")?)?,
+        }),
+        "state" => Some(Question::State {
+            at: number_in(matches, "at"),
+        }),
+        _ => None,
+    }
+}
+
+/// The question that was found, and its journal.
+pub fn inquiry_in<'a>(name: &str, matches: &ArgMatches<'a>) -> Option<Inquiry<'a>>
+    ensures { IfSome result (AsksFound (found_of matches.now)) }
+{
+    Some(Inquiry {
+        file: matches.get_str("file")?,
+        question: question_in(name, matches)?,
+    })
+}
+
+/// What the name means that is to be explained.
+pub fn explanation_in(matches: &ArgMatches<'_>) -> Option<Explanation<'static>> {
+    explained(matches.get_str("name")?)
+}

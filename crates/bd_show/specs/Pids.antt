@@ -1,0 +1,26 @@
+-- The pids of processes that are known by the places where they were opened.
+use Rattle.std.specs.Prelude.{ℕ, List, Option, Some, None, option_and_then}
+use Rattle.std.specs.List.{slice_get}
+use Rattle.bd_space.specs.declared.step.Entry.{Entry}
+use Rattle.bd_space.specs.declared.step.Step.{Step}
+use Rattle.bd_space.specs.declared.step.Step.TheVariants.{Open}
+use Rattle.bd_space.specs.Space.{Space}
+use Rattle.bd_space.specs.Histories.{History, space_after}
+use Rattle.bd_engine.specs.Looks.{process_of}
+use Rattle.bd_audit.specs.Replays.{beginning}
+
+abbrev pub pid_opened : Step → Option ℕ
+pid_opened (Open pid euid window) = Some pid
+pid_opened _ = None
+
+-- the pid of the process that was opened at this place
+abbrev pub pid_at : List Entry → ℕ → Option ℕ
+pid_at es place = option_and_then (λ e. pid_opened e.step) (slice_get es place)
+
+-- the pid of the process of a seat's thread
+abbrev pub pid_of : Space → List Entry → ℕ → Option ℕ
+pid_of s es seat = option_and_then (pid_at es) (process_of s seat)
+
+-- the pid of the process that makes the step at this place
+abbrev pub maker_of : History → ℕ → Option ℕ
+maker_of h place = option_and_then (λ e. pid_of (space_after (beginning place h)) h.entries e.seat) (slice_get h.entries place)

@@ -1,0 +1,85 @@
+//! The entries of a history, a line each.
+
+ghost use Rattle.std.specs.Prelude.{◌≤◌};
+ghost use Rattle.bd_space.specs.Histories.{IsHistory, history_in};
+
+use crate::answers::AnswerText;
+use crate::commands::StepText;
+use crate::fault::Untold;
+use crate::pids::{maker_of, pid_of};
+use crate::selection::Selection;
+use bd_audit::advance;
+use bd_engine::Engine;
+use bd_space::{Entry, Record};
+use std::alloc::Global;
+use std::fmt;
+use std::io::Write;
+
+/// A pid, or a dash where there is none.
+#[derive(Drop)]
+pub(crate) struct PidText(pub(crate) Option<u32>);
+
+impl fmt::Display for PidText {
+    fn fmt<W: fmt::Write>(&self, f: &mut fmt::Formatter<W>) -> fmt::Result {
+        match self.0 {
+            Some(pid) => write!(f, "{pid}"),
+            None => f.write_str("-"),
+        }
+    }
+}
+
+fn print_entry<W: Write>(
+    place: u32,
+    entry: &Entry,
+    pid: Option<u32>,
+    out: &mut W,
+) -> Result<(), Untold> {
+    let seat = entry.seat;
+    let pid = PidText(pid);
+    let step = StepText(&entry.step);
+    let answer = AnswerText(&entry.answer);
+    writeln!(out, "{place} seat {seat} pid {pid} {step}: {answer}")?;
+    Ok(())
+}
+
+/// Prints a line for each entry of a history that is selected: its place, its seat, the pid of the process that made it,
+/// what it did and what came back. The process is that of the seat's thread before the entry, or else after it.
+pub(crate) fn show<W: Write>(
+    alloc: Global,
+    record: &Record,
+    selection: &Selection,
+    out: &mut W,
+) -> Result<(), Untold>
+    requires seats { (1 ≤ «record».now.seats) × («record».now.seats ≤ 16) }
+    requires lawful { IsHistory (history_in «record».now) }
+{
+    let entries = record.entries.as_slice();
+    let mut engine = Engine::new(alloc, record.seats)?;
+    for entry in entries {
+        let place = engine.len();
+        let before = pid_of(&engine, entries, entry.seat);
+        advance(&mut engine, entry)?;
+        let pid = before.or(pid_of(&engine, entries, entry.seat));
+        if selection.shows(place, entry.seat, pid) {
+            print_entry(place, entry, pid, out)?;
+        }
+    }
+    Ok(())
+}
+
+/// Prints the line of the entry at a place.
+pub(crate) fn print_entry_at<W: Write>(
+    alloc: Global,
+    record: &Record,
+    place: u32,
+    out: &mut W,
+) -> Result<(), Untold>
+    requires seats { (1 ≤ «record».now.seats) × («record».now.seats ≤ 16) }
+    requires lawful { IsHistory (history_in «record».now) }
+{
+    let pid = maker_of(alloc, record, place)?;
+    match record.entries.as_slice().get(place as usize) {
+        Some(entry) => print_entry(place, entry, pid, out),
+        None => Err(Untold::OutOfRange),
+    }
+}

@@ -1,0 +1,42 @@
+//! The pids of processes that are known by the places where they were opened.
+
+ghost use Rattle.std.specs.Prelude.{◌≡◌, ◌≤◌, IfOk};
+ghost use Rattle.bd_space.specs.Histories.{IsHistory, history_in, space_after};
+ghost use Rattle.bd_show.specs.Pids as spec;
+
+use crate::fault::Untold;
+use bd_audit::played_to;
+use bd_engine::Engine;
+use bd_space::{Entry, Record, Step};
+use std::alloc::Global;
+
+/// The pid of the process that was opened at a place.
+pub(crate) fn pid_at(entries: &[Entry], place: u32) -> Option<u32>
+    ensures { result ≡ spec.pid_at entries.now place }
+{
+    match &entries.get(place as usize)?.step {
+        Step::Open { pid, .. } => Some(*pid),
+        _ => None,
+    }
+}
+
+/// The pid of the process of a seat's thread.
+pub(crate) fn pid_of(engine: &Engine, entries: &[Entry], seat: u32) -> Option<u32>
+    ensures { result ≡ spec.pid_of (space_after engine.now) entries.now seat }
+{
+    pid_at(entries, engine.process_of(seat)?)
+}
+
+/// The pid of the process that makes the step at a place.
+pub(crate) fn maker_of(alloc: Global, record: &Record, place: u32) -> Result<Option<u32>, Untold>
+    requires seats { (1 ≤ «record».now.seats) × («record».now.seats ≤ 16) }
+    requires lawful { IsHistory (history_in «record».now) }
+    ensures { IfOk result (λ pid. pid ≡ spec.maker_of (history_in «record».now) place) }
+{
+    let entries = record.entries.as_slice();
+    let Some(entry) = entries.get(place as usize) else {
+        return Ok(None);
+    };
+    let engine = played_to(alloc, record, place as usize)?;
+    Ok(pid_of(&engine, entries, entry.seat))
+}
