@@ -101,8 +101,11 @@ refused h e at w x f is same_step full = subst (λ y. IfUnlawful y (λ at. IsHis
 pub take-history : (n : ℕ) (h : History) → IsHistory h → IsHistory (beginning n h)
 take-history n h k = history-front h.seats (take n h.entries) (drop n h.entries) (subst (λ es. IsHistory (record { seats = h.seats; entries = es })) (sym (take-append-drop n h.entries)) k)
 
+pub front-begun : (n : ℕ) (h : History) (es : List Entry) → es ≡ h.entries → IsHistory (beginning n h) → IsHistory (record { seats = h.seats; entries = take n es })
+front-begun n h es same_es k = subst (λ xs. IsHistory (record { seats = h.seats; entries = take n xs })) (sym same_es) k
+
 pub front-lawful : (n : ℕ) (h : History) (es : List Entry) → es ≡ h.entries → IsHistory h → IsHistory (record { seats = h.seats; entries = take n es })
-front-lawful n h es same_es k = subst (λ xs. IsHistory (record { seats = h.seats; entries = take n xs })) (sym same_es) (take-history n h k)
+front-lawful n h es same_es k = front-begun n h es same_es (take-history n h k)
 
 -- the entry at this place, one more than those before it
 pub one_more : (h : History) (i : ℕ) (e : Entry) → i < length h.entries → e ≡ get_or h.entries i e → with_entry (beginning i h) e ≡ beginning (i + 1) h

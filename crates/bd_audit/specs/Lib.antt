@@ -11,3 +11,4 @@ pub mod Ending
 pub mod Hearing
 pub mod Streams
 pub mod HandedReplies
+pub mod Given

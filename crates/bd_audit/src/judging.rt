@@ -67,6 +67,20 @@ pub(crate) fn accept(engine: &mut Engine, entry: &Entry) -> Result<(), AuditFaul
     }
 }
 
+/// Is told how far a replay is.
+pub trait Watch {
+    /// So many of the record's entries are a history's.
+    fn follow(&mut self, entries: usize, all: usize);
+}
+
+/// Wants to know nothing.
+#[derive(Clone, Copy, Debug)]
+pub struct Unwatched;
+
+impl Watch for Unwatched {
+    fn follow(&mut self, _entries: usize, _all: usize) {}
+}
+
 /// Judges a record: Ok where it is a history and nowhere else; `Unlawful` tells up to which entry it is one. An entry for
 /// which a history has no place, or no handle left, is unlawful.
 pub fn replay(alloc: Global, record: &Record) -> Result<(), AuditFault>
@@ -74,6 +88,20 @@ pub fn replay(alloc: Global, record: &Record) -> Result<(), AuditFault>
     ensures history { MatchResult result (λ _. IsHistory (history_in «record».now)) (λ f. IfUnlawful f (λ at. IsHistory (history_in «record».now) → ⊥)) }
     ensures first { IfErr result (λ f. IfUnlawful f (StopsAt (history_in «record».now))) }
 {
+    replay_watched(alloc, record, &mut Unwatched)
+}
+
+/// The same, and tells how far it is.
+pub fn replay_watched<W: Watch>(
+    alloc: Global,
+    record: &Record,
+    watch: &mut W,
+) -> Result<(), AuditFault>
+    requires seats { (1 ≤ «record».now.seats) × («record».now.seats ≤ 16) }
+    ensures history { MatchResult result (λ _. IsHistory (history_in «record».now)) (λ f. IfUnlawful f (λ at. IsHistory (history_in «record».now) → ⊥)) }
+    ensures first { IfErr result (λ f. IfUnlawful f (StopsAt (history_in «record».now))) }
+{
+    let all = record.entries.as_slice().len();
     let Ok(mut engine) = Engine::new(alloc, record.seats) else {
         return Err(AuditFault::NoMemory);
     };
@@ -82,6 +110,7 @@ pub fn replay(alloc: Global, record: &Record) -> Result<(), AuditFault>
             end(engine);
             return Err(fault);
         }
+        watch.follow(engine.len() as usize, all);
     }
     end(engine);
     Ok(())

@@ -3,6 +3,7 @@
 
 mod answers;
 mod gifts;
+mod given;
 mod judging;
 mod laws;
 mod playing;
@@ -10,7 +11,8 @@ mod replies;
 mod turns;
 
 pub use gifts::gift_chain;
-pub use judging::{AuditFault, replay};
+pub use given::{Given, given_at};
+pub use judging::{AuditFault, Unwatched, Watch, replay, replay_watched};
 pub use laws::{
     calls_end_latest_first, frames_lie_on_one_path, gone_unheld, names_have_gift_chains,
     notices_are_due, objects_are_kept, one_at_a_time, one_way_calls_are_due_in_turn,
@@ -18,6 +20,6 @@ pub use laws::{
     replies_are_handed_out, replies_reach_their_callers, streams_spell_their_items,
     turns_are_taken, turns_tell_of_calls,
 };
-pub use playing::advance;
+pub use playing::{advance, played_before};
 pub use replies::{call_of_reply, played_to};
 pub use turns::{Turn, oneway_turns};

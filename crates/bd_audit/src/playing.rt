@@ -1,13 +1,13 @@
 //! The steps of a history, made again.
 
-ghost use Rattle.std.specs.Prelude.{◌≡◌, ◌≤◌, IfOk, IfErr, MatchResult};
+ghost use Rattle.std.specs.Prelude.{◌≡◌, ◌≤◌, length, IfOk, IfErr, MatchResult};
 ghost use Rattle.bd_uapi.specs.declared.fault.Fault.TheVariants as faults;
-ghost use Rattle.bd_space.specs.Histories.{IsHistory};
-ghost use Rattle.bd_audit.specs.Replays.{with_entry};
+ghost use Rattle.bd_space.specs.Histories.{IsHistory, history_in};
+ghost use Rattle.bd_audit.specs.Replays.{with_entry, beginning};
 
 use crate::judging::{AuditFault, accept};
 use bd_engine::Engine;
-use bd_space::Entry;
+use bd_space::{Entry, Record};
 use bd_uapi::Fault;
 use std::alloc::Global;
 
@@ -37,4 +37,16 @@ pub(crate) fn played(alloc: Global, seats: u32, entries: &[Entry]) -> Result<Eng
         advance(&mut engine, entry)?;
     }
     Ok(engine)
+}
+
+/// The engine before the entry at this place, or after the last entry, where the entries before it are a history. The only
+/// fault is `NoMemory`.
+pub fn played_before(alloc: Global, record: &Record, place: usize) -> Result<Engine, Fault>
+    requires seats { (1 ≤ «record».now.seats) × («record».now.seats ≤ 16) }
+    requires before { IsHistory (beginning place (history_in «record».now)) }
+    requires inside { place ≤ length «record».now.entries }
+    ensures ok { IfOk result (λ e. e ≡ beginning place (history_in «record».now)) }
+    ensures fault { IfErr result (λ f. f ≡ faults.NoMemory) }
+{
+    played(alloc, record.seats, &record.entries.as_slice()[..place])
 }

@@ -4,10 +4,10 @@ ghost use Rattle.std.specs.Prelude.{◌<◌, length, IfSome, IsOkAnd};
 ghost use Rattle.clap.specs.Matches.{found_of};
 ghost use Rattle.bd_play.specs.Orders.{IsManner, PlaysFound, PlaysInput};
 
-use crate::inquiries::{Inquiry, explanation_in, inquiry_in, with_inquiries};
+use crate::inquiries::{Inquiry, Subject, inquiry_in, subject_in, with_inquiries};
 use crate::script_help::SCRIPT_HELP;
+use crate::sketches::{Sketch, diagram_command, sketch_in};
 use bd_player::{Fault, Manner};
-use bd_show::Explanation;
 use clap::error::ErrorKind;
 use clap::{Arg, ArgAction, ArgMatches, Command, Error, value_parser};
 use std::alloc::{AllocError, Global};
@@ -68,6 +68,17 @@ pub struct Run<'a> {
     pub manner: Manner,
     /// Where the journal of the run is to stand, if it is written.
     pub journal: Option<&'a str>,
+    /// Whether it is told how far it is.
+    pub progress: bool,
+}
+
+/// A judgment of a journal.
+#[derive(Clone, Copy, Debug)]
+pub struct Check<'a> {
+    /// The journal's file.
+    pub file: &'a str,
+    /// Whether it is told how far it is.
+    pub progress: bool,
 }
 
 /// What the words ask for.
@@ -76,11 +87,13 @@ pub enum Order<'a> {
     /// Plays a script.
     Run(Run<'a>),
     /// Judges the journal in a file.
-    Check(&'a str),
+    Check(Check<'a>),
     /// Answers a question about a journal.
     Ask(Inquiry<'a>),
-    /// Tells what a name means.
-    Explain(Explanation<'static>),
+    /// Tells what a name means, or what is with a journal.
+    Explain(Subject<'a>),
+    /// Draws a journal.
+    Draw(Sketch<'a>),
     /// Tells what scripts are.
     Script,
 }
@@ -108,6 +121,14 @@ fn file_arg<'a>(alloc: Global, help: &'a str) -> Arg<'a> {
         .help(help)
 }
 
+// Whether it is told how far a command is.
+fn progress_arg<'a>(alloc: Global) -> Arg<'a> {
+    Arg::new(alloc, "progress")
+        .long("progress")
+        .action(ArgAction::SetTrue)
+        .help("Tell on standard error how much of it is done, and how much a second")
+}
+
 fn run_command<'a>(alloc: Global) -> Result<Command<'a>, Error> {
     let file = file_arg(alloc, "The script, or - for standard input");
     let threads = Arg::new(alloc, "threads")
@@ -129,7 +150,8 @@ fn run_command<'a>(alloc: Global) -> Result<Command<'a>, Error> {
         .arg(file)?
         .arg(threads)?
         .arg(turns)?
-        .arg(journal)?;
+        .arg(journal)?
+        .arg(progress_arg(alloc))?;
     Ok(command)
 }
 
@@ -138,7 +160,8 @@ fn check_command<'a>(alloc: Global) -> Result<Command<'a>, Error> {
     let command = Command::new(alloc, "check")
         .about("Judges a journal")
         .after_help(CHECK_HELP)
-        .arg(file)?;
+        .arg(file)?
+        .arg(progress_arg(alloc))?;
     Ok(command)
 }
 
@@ -158,6 +181,7 @@ fn matches_of<'a>(alloc: Global, words: &'a [String]) -> Result<ArgMatches<'a>, 
         .subcommand(run_command(alloc)?)?
         .subcommand(check_command(alloc)?)?;
     with_inquiries(alloc, command)?
+        .subcommand(diagram_command(alloc)?)?
         .subcommand(script_command(alloc))?
         .try_get_matches_from(words)
 }
@@ -180,15 +204,25 @@ fn run_order<'a>(matches: &ArgMatches<'a>) -> Option<Order<'a>>
         file: matches.get_str("file")?,
         manner: manner_in(matches),
         journal: matches.get_str("journal"),
+        progress: matches.get_flag("progress"),
     }))
+}
+
+// The judgment of the journal that was found.
+fn check_in<'a>(matches: &ArgMatches<'a>) -> Option<Check<'a>> {
+    Some(Check {
+        file: matches.get_str("file")?,
+        progress: matches.get_flag("progress"),
+    })
 }
 
 fn order_in<'a>(matches: &ArgMatches<'a>) -> Option<Order<'a>> {
     let (name, inner) = matches.subcommand()?;
     match name {
         "run" => run_order(inner),
-        "check" => Some(Order::Check(inner.get_str("file")?)),
-        "explain" => Some(Order::Explain(explanation_in(inner)?)),
+        "check" => Some(Order::Check(check_in(inner)?)),
+        "explain" => Some(Order::Explain(subject_in(inner)?)),
+        "diagram" => Some(Order::Draw(sketch_in(inner)?)),
         "script" => Some(Order::Script),
         _ => Some(Order::Ask(inquiry_in(name, inner)?)),
     }
@@ -215,6 +249,7 @@ pub fn order_of<'a>(alloc: Global, words: &'a [String]) -> Result<Order<'a>, Ref
             file: "-",
             manner,
             journal: None,
+            progress: false,
         }));
     }
     match matches_of(alloc, words) {

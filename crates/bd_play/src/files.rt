@@ -1,26 +1,25 @@
 //! The program's files.
 
-use crate::arguments::Run;
+use crate::arguments::{Check, Run};
 use crate::draft::{Draft, draft_for};
-use crate::inquiries::Inquiry;
-use bd_player::{
-    DONE, FAULT, Fault, Judged, check_journal, judged_from, play_from, print_unlawful, tell,
-};
-use bd_show::{Question, Untold, answer};
+use crate::progress::{Counted, Progress, lines_in};
+use bd_player::{Fault, Manner, Played, check_journal, check_watched, play_from, tell};
 use bd_space::Record;
-use std::alloc::Global;
 use std::fs;
 use std::fs::File;
-use std::io::{Read, Write};
+use std::io::{Eprint, Read, Write};
 use std::os::unix::fs::MetadataExt;
 use std::rt::Files;
 use std::sync::Wait;
 use std::thread::Threads;
+use std::time::Clock;
 
-// Standard input, as a word and as a file.
-const INPUT: &str = "-";
+/// Standard input, as a word.
+pub const INPUT: &str = "-";
 
+// The same, as a file.
 const INPUT_FILE: &str = "/dev/stdin";
+
 // The file of standard output.
 const OUTPUT_FILE: &str = "/dev/stdout";
 
@@ -69,19 +68,55 @@ fn settle<H: AllocGlobal + Files>(
     }
 }
 
+// How many lines of a script run: all but the first.
+fn lines_of(script: &[u8]) -> u64 {
+    match script.last() {
+        Some(b'\n') => lines_in(script).saturating_sub(1),
+        _ => lines_in(script),
+    }
+}
+
+// Plays a script that a reader has, and tells how far it is.
+fn play_counted<H, R: Read, W: Write, E: Write>(
+    rt: &H,
+    script: &mut R,
+    manner: Manner,
+    out: &mut W,
+    err: &mut E,
+) -> Played
+where
+    H: AllocGlobal + Clock + Eprint + Threads + Wait + Sync,
+{
+    let mut bytes = Vec::new(rt.alloc());
+    if let Err(error) = script.read_to_end(&mut bytes) {
+        return Played::fault(Fault::from(error), err);
+    }
+    let progress = Progress::new(rt, "lines");
+    let all = lines_of(&bytes);
+    let mut out = Counted::new(out, progress, all);
+    play_from(rt, &mut bytes.as_slice(), manner, &mut out, err)
+}
+
 // Plays a script that a reader has.
-fn run_script<H: AllocGlobal + Files + Threads + Wait + Sync, R: Read, W: Write, E: Write>(
+fn run_script<H, R: Read, W: Write, E: Write>(
     rt: &H,
     script: &mut R,
     run: Run<'_>,
     out: &mut W,
     err: &mut E,
-) -> u8 {
+) -> u8
+where
+    H: AllocGlobal + Files + Clock + Eprint + Threads + Wait + Sync,
+{
     let draft = match draft_of(rt, run) {
         Ok(draft) => draft,
         Err(fault) => return tell(fault, err),
     };
-    let played = play_from(rt, script, run.manner, out, err);
+    let played = if run.progress {
+        play_counted(rt, script, run.manner, out, err)
+    } else {
+        play_from(rt, script, run.manner, out, err)
+    };
     match settle(rt, draft, &played.history) {
         Ok(()) => played.status,
         Err(fault) => played.status.max(tell(fault, err)),
@@ -89,12 +124,10 @@ fn run_script<H: AllocGlobal + Files + Threads + Wait + Sync, R: Read, W: Write,
 }
 
 /// Plays the script in a file, and writes the journal of the run where one is asked for.
-pub fn run_file<H: AllocGlobal + Files + Input + Threads + Wait + Sync, W: Write, E: Write>(
-    rt: &H,
-    run: Run<'_>,
-    out: &mut W,
-    err: &mut E,
-) -> u8 {
+pub fn run_file<H, W: Write, E: Write>(rt: &H, run: Run<'_>, out: &mut W, err: &mut E) -> u8
+where
+    H: AllocGlobal + Files + Input + Clock + Eprint + Threads + Wait + Sync,
+{
     if run.file == INPUT {
         return run_script(rt, &mut rt.reader(), run, out, err);
     }
@@ -104,59 +137,34 @@ pub fn run_file<H: AllocGlobal + Files + Input + Threads + Wait + Sync, W: Write
     }
 }
 
-/// Judges the journal in a file.
-pub fn check_file<H: AllocGlobal + Files + Input, W: Write, E: Write>(
+// Judges the journal that a reader has.
+fn check_from<H: AllocGlobal + Clock + Eprint, R: Read, W: Write, E: Write>(
     rt: &H,
-    name: &str,
-    out: &mut W,
-    err: &mut E,
-) -> u8 {
-    if name == INPUT {
-        return check_journal(rt.alloc(), &mut rt.reader(), out, err);
-    }
-    match File::open(rt, name) {
-        Ok(mut file) => check_journal(rt.alloc(), &mut file, out, err),
-        Err(error) => tell(Fault::from(error), err),
-    }
-}
-
-// The status where this came of a question. Of an output that failed it is told in the end.
-fn status_of<E: Write>(came: Result<bool, Untold>, err: &mut E) -> u8 {
-    match came {
-        Ok(true) => DONE,
-        Ok(false) | Err(Untold::Output) => FAULT,
-        Err(Untold::OutOfRange) => tell(Fault::Arguments, err),
-        Err(Untold::Memory) => tell(Fault::Memory, err),
-    }
-}
-
-// Answers a question about the journal that a reader has.
-fn ask<R: Read, W: Write, E: Write>(
-    alloc: Global,
     journal: &mut R,
-    question: Question,
+    progress: bool,
     out: &mut W,
     err: &mut E,
 ) -> u8 {
-    match judged_from(alloc, journal) {
-        Ok(Judged::History(record)) => status_of(answer(alloc, &record, question, out), err),
-        Ok(Judged::Unlawful { at }) => print_unlawful(at, out),
-        Err(fault) => tell(fault, err),
+    if progress {
+        let mut watch = Progress::new(rt, "entries");
+        check_watched(rt.alloc(), journal, &mut watch, out, err)
+    } else {
+        check_journal(rt.alloc(), journal, out, err)
     }
 }
 
-/// Answers a question about the journal in a file.
-pub fn ask_file<H: AllocGlobal + Files + Input, W: Write, E: Write>(
+/// Judges the journal in a file.
+pub fn check_file<H: AllocGlobal + Files + Input + Clock + Eprint, W: Write, E: Write>(
     rt: &H,
-    inquiry: Inquiry<'_>,
+    check: Check<'_>,
     out: &mut W,
     err: &mut E,
 ) -> u8 {
-    if inquiry.file == INPUT {
-        return ask(rt.alloc(), &mut rt.reader(), inquiry.question, out, err);
+    if check.file == INPUT {
+        return check_from(rt, &mut rt.reader(), check.progress, out, err);
     }
-    match File::open(rt, inquiry.file) {
-        Ok(mut file) => ask(rt.alloc(), &mut file, inquiry.question, out, err),
+    match File::open(rt, check.file) {
+        Ok(mut file) => check_from(rt, &mut file, check.progress, out, err),
         Err(error) => tell(Fault::from(error), err),
     }
 }

@@ -27,8 +27,18 @@ Statuses: 0 there is such a name; 1 there is none, the journal is unlawful, or a
 const STATE_HELP: &str = "\
 Of each process that lives: its threads, the objects that it owns, its handles, and the buffers in its window.";
 
-// The journal that a command reads.
-fn journal_arg<'a>(alloc: Global) -> Arg<'a> {
+const EXPLAIN_HELP: &str = "\
+Of a name it tells when it comes and what it leaves. Of a journal that is a history, and a place in it, it tells which
+reasons to refuse the entry were looked at, in their order, and which one held. Of a journal that is none it tells the
+first entry that doesn't follow from those before, and what the rules give in its place.
+
+    bplay explain X6
+    bplay explain journal 15
+
+Statuses: 0 done; 1 the journal is unlawful, or a fault; 3 memory refused.";
+
+/// The journal that a command reads.
+pub fn journal_arg<'a>(alloc: Global) -> Arg<'a> {
     Arg::new(alloc, "file")
         .value_name("JOURNAL")
         .required(true)
@@ -44,8 +54,8 @@ fn number_arg<'a>(alloc: Global, name: &'a str, value: &'a str, help: &'a str) -
         .help(help)
 }
 
-// A number that may be given by an option.
-fn number_option<'a>(alloc: Global, name: &'a str, value: &'a str, help: &'a str) -> Arg<'a> {
+/// A number that may be given by an option.
+pub fn number_option<'a>(alloc: Global, name: &'a str, value: &'a str, help: &'a str) -> Arg<'a> {
     Arg::new(alloc, name)
         .long(name)
         .value_name(value)
@@ -114,13 +124,19 @@ fn state_command<'a>(alloc: Global) -> Result<Command<'a>, Error> {
 }
 
 fn explain_command<'a>(alloc: Global) -> Result<Command<'a>, Error> {
-    let name = Arg::new(alloc, "name")
-        .value_name("NAME")
+    let what = Arg::new(alloc, "file")
+        .value_name("WHAT")
         .required(true)
-        .help("F1 to F16, X1 to X16 or N1 to N11");
+        .help("F1 to F16, X1 to X16 or N1 to N11, or a journal, or - for standard input");
+    let place = Arg::new(alloc, "place")
+        .value_name("K")
+        .value_parser(value_parser!(u32))
+        .help("The place of the entry of a journal that is to be explained");
     let command = Command::new(alloc, "explain")
-        .about("Tells when a fault, a cause or a note comes, and what it leaves")
-        .arg(name)?;
+        .about("Tells what a refusal means, or why an entry of a journal was answered so")
+        .after_help(EXPLAIN_HELP)
+        .arg(what)?
+        .arg(place)?;
     Ok(command)
 }
 
@@ -145,8 +161,8 @@ fn object_in(text: &str) -> Option<ObjectId> {
     })
 }
 
-// The number that was given by a name, if one was.
-fn number_in(matches: &ArgMatches<'_>, name: &str) -> Option<u32>
+/// The number that was given by a name, if one was.
+pub fn number_in(matches: &ArgMatches<'_>, name: &str) -> Option<u32>
     ensures { IfSome result (IsNumberAt (found_of matches.now) name.now) }
 {
     matches.get_one::<u32>(name)
@@ -199,7 +215,30 @@ pub fn inquiry_in<'a>(name: &str, matches: &ArgMatches<'a>) -> Option<Inquiry<'a
     })
 }
 
-/// What the name means that is to be explained.
-pub fn explanation_in(matches: &ArgMatches<'_>) -> Option<Explanation<'static>> {
-    explained(matches.get_str("name")?)
+/// What is to be explained.
+#[derive(Clone, Copy, Debug)]
+pub enum Subject<'a> {
+    /// A name.
+    Name(Explanation<'static>),
+    /// A journal.
+    Journal(Doubt<'a>),
+}
+
+/// What is to be explained: why it is no history, or how one of its entries was answered.
+#[derive(Clone, Copy, Debug)]
+pub struct Doubt<'a> {
+    /// The journal's file.
+    pub file: &'a str,
+    /// The place of the entry.
+    pub place: Option<u32>,
+}
+
+/// What was found that is to be explained. A word that is a name means that, where no place is given.
+pub fn subject_in<'a>(matches: &ArgMatches<'a>) -> Option<Subject<'a>> {
+    let file = matches.get_str("file")?;
+    let place = number_in(matches, "place");
+    Some(match (explained(file), place) {
+        (Some(explanation), None) => Subject::Name(explanation),
+        _ => Subject::Journal(Doubt { file, place }),
+    })
 }

@@ -2,23 +2,30 @@
 #![tactic(auto)]
 
 mod arguments;
+mod asking;
 mod draft;
 mod files;
 mod inquiries;
 mod output;
+mod progress;
 mod script_help;
+mod sketches;
 
 use arguments::{Order, Refused, order_of};
+use asking::{ask_file, explain_file};
 use bd_player::{DONE, Fault, after_writing, tell};
-use files::{ask_file, check_file, run_file};
+use files::{check_file, run_file};
+use inquiries::Subject;
 use output::Output;
 use script_help::SCRIPT_HELP;
+use sketches::draw_file;
 use std::alloc::Global;
-use std::io::{BufWriter, Write};
+use std::io::{BufWriter, Eprint, Write};
 use std::process::ExitCode;
 use std::rt::{Files, Runtime};
 use std::sync::Wait;
 use std::thread::Threads;
+use std::time::Clock;
 use std::{env, io};
 
 // The status where this came of it, which is told.
@@ -29,18 +36,35 @@ fn ended<E: Write>(came: Result<(), Fault>, err: &mut E) -> u8 {
     }
 }
 
+// Explains a name, or what is with a journal.
+fn explain<H: AllocGlobal + Files + Input, W: Write, E: Write>(
+    rt: &H,
+    subject: Subject<'_>,
+    out: &mut W,
+    err: &mut E,
+) -> u8 {
+    match subject {
+        Subject::Name(explanation) => after_writing(writeln!(out, "{explanation}"), DONE),
+        Subject::Journal(doubt) => explain_file(rt, doubt, out, err),
+    }
+}
+
 // Does what the words ask for.
-fn obey<H: AllocGlobal + Files + Input + Threads + Wait + Sync, W: Write + Drop, E: Write>(
+fn obey<H, W: Write + Drop, E: Write>(
     rt: &H,
     order: Order<'_>,
     out: &mut Output<W>,
     err: &mut E,
-) -> u8 {
+) -> u8
+where
+    H: AllocGlobal + Files + Input + Clock + Eprint + Threads + Wait + Sync,
+{
     let status = match order {
         Order::Run(run) => run_file(rt, run, out, err),
-        Order::Check(name) => check_file(rt, name, out, err),
+        Order::Check(check) => check_file(rt, check, out, err),
         Order::Ask(inquiry) => ask_file(rt, inquiry, out, err),
-        Order::Explain(explanation) => after_writing(writeln!(out, "{explanation}"), DONE),
+        Order::Explain(subject) => explain(rt, subject, out, err),
+        Order::Draw(sketch) => draw_file(rt, sketch, out, err),
         Order::Script => after_writing(write!(out, "{SCRIPT_HELP}"), DONE),
     };
     status.max(ended(out.end(), err))

@@ -18,10 +18,14 @@ abbrev pub Holds : Record → Verdict → Type 0
 Holds r (Lawful entries) = IsHistory (history_in r) × (entries ≡ length r.entries)
 Holds r (Unlawful at) = (IsHistory (history_in r) → ⊥) × StopsAt (history_in r) at
 
--- what is said of the record holds, and a history is handed out as it is
+-- a record has as many seats as a driver may
+abbrev pub HasSeats : Record → Type 0
+HasSeats r = (1 ≤ r.seats) × (r.seats ≤ 16)
+
+-- what is said of the record holds, and it is handed out as it is
 abbrev pub IsJudged : Record → Judged → Type 0
-IsJudged r (History h) = (h ≡ r) × (1 ≤ r.seats) × (r.seats ≤ 16) × IsHistory (history_in r)
-IsJudged r (judged.Unlawful at) = Holds r (Unlawful at)
+IsJudged r (History h) = (h ≡ r) × HasSeats r × IsHistory (history_in r)
+IsJudged r (judged.Unlawful found at) = (found ≡ r) × HasSeats r × Holds r (Unlawful at)
 
 -- that is so of the record that the bytes spell
 abbrev pub Judges : List ℕ → Judged → Type 0
@@ -35,7 +39,7 @@ IsVerdict bytes v = (r : Record) × Spells bytes r × Holds r v
 abbrev pub IsLawfulAt0 : Option (List ℕ) → ℕ → Type 0
 IsLawfulAt0 known status = status ≡ 0 → IfSome known (λ bytes. (r : Record) × Spells bytes r × IsHistory (history_in r))
 
--- what is handed out as a history is one
-abbrev pub IsLawful : Judged → Type 0
-IsLawful (History h) = (1 ≤ h.seats) × (h.seats ≤ 16) × IsHistory (history_in h)
-IsLawful (judged.Unlawful at) = Unit {0}
+-- what is handed out as a history is one, and another record stops being one where it is said to
+abbrev pub IsAsSaid : Judged → Type 0
+IsAsSaid (History h) = HasSeats h × IsHistory (history_in h)
+IsAsSaid (judged.Unlawful found at) = HasSeats found × StopsAt (history_in found) at

@@ -2,11 +2,12 @@
 
 ghost use Rattle.std.specs.Prelude.{◌≡◌, ◌≤◌, IfOk, IfSome};
 ghost use Rattle.bd_player.specs.Journals.{Wrote};
-ghost use Rattle.bd_player.specs.Verdicts.{IsLawful, IsLawfulAt0};
+ghost use Rattle.bd_player.specs.Verdicts.{IsAsSaid, IsLawfulAt0};
 
 use crate::faults::{DONE, FAULT, Fault, after_writing, tell};
 use crate::playing::read_on;
-use crate::verdicts::{Judged, Verdict, judgment_on, verdict_on};
+use crate::verdicts::{Judged, Verdict, judgment_on, verdict_watched};
+use bd_audit::{Unwatched, Watch};
 use bd_journal::behind_magic;
 use bd_space::Record;
 use std::alloc::Global;
@@ -29,6 +30,11 @@ fn print<W: Write>(verdict: &str, number: usize, out: &mut W, status: u8) -> u8
     ensures { status ≤ result }
 {
     after_writing(writeln!(out, "{verdict} {number}"), status)
+}
+
+/// Prints that a journal is lawful, and how many entries it has.
+pub fn print_lawful<W: Write>(entries: usize, out: &mut W) -> u8 {
+    print("lawful", entries, out, DONE)
 }
 
 /// Prints that a journal is unlawful, and up to where it isn't. The status is then that of a fault.
@@ -55,18 +61,18 @@ fn journal_from<R: Read>(alloc: Global, journal: &mut R) -> Result<Vec<u8>, Faul
     read_on(alloc, &first, journal)
 }
 
-/// The record of a journal, if its entries are a history, or else the first that doesn't follow from those before.
+/// The record of a journal, and whether its entries are a history, or else which is the first that doesn't follow from
+/// those before.
 pub fn judged_from<R: Read>(alloc: Global, journal: &mut R) -> Result<Judged, Fault>
-    ensures { IfOk result IsLawful }
+    ensures { IfOk result IsAsSaid }
 {
     match journal_from(alloc, journal) {
-        Ok(bytes) => judgment_on(alloc, &bytes),
+        Ok(bytes) => judgment_on(alloc, &bytes, &mut Unwatched),
         Err(fault) => Err(fault),
     }
 }
 
 /// Judges a journal: whether its entries are a history, or else the first that doesn't follow from those before.
-#[tactic(auto, using(crate::proofs::Kept::judged, crate::proofs::Kept::not_judged))]
 pub fn check_journal<R: Read, W: Write, E: Write>(
     alloc: Global,
     journal: &mut R,
@@ -76,12 +82,26 @@ pub fn check_journal<R: Read, W: Write, E: Write>(
     // The status is 0 only where the journal is that of a history.
     ensures { IsLawfulAt0 (R.remaining journal.old) result }
 {
+    check_watched(alloc, journal, &mut Unwatched, out, err)
+}
+
+/// The same, and tells how far it is.
+#[tactic(auto, using(crate::proofs::Kept::judged, crate::proofs::Kept::not_judged))]
+pub fn check_watched<R: Read, P: Watch, W: Write, E: Write>(
+    alloc: Global,
+    journal: &mut R,
+    watch: &mut P,
+    out: &mut W,
+    err: &mut E,
+) -> u8
+    ensures { IsLawfulAt0 (R.remaining journal.old) result }
+{
     let bytes = match journal_from(alloc, journal) {
         Ok(bytes) => bytes,
         Err(fault) => return tell(fault, err),
     };
-    match verdict_on(alloc, &bytes) {
-        Ok(Verdict::Lawful { entries }) => print("lawful", entries, out, DONE),
+    match verdict_watched(alloc, &bytes, watch) {
+        Ok(Verdict::Lawful { entries }) => print_lawful(entries, out),
         Ok(Verdict::Unlawful { at }) => print_unlawful(at, out),
         Err(fault) => tell(fault, err),
     }

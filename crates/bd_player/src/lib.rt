@@ -13,7 +13,9 @@ mod verdicts;
 mod worker;
 
 pub use faults::{DONE, FAULT, Fault, MEMORY, TURNS, after_writing, tell};
-pub use journals::{check_journal, judged_from, print_unlawful, write_journal};
+pub use journals::{
+    check_journal, check_watched, judged_from, print_lawful, print_unlawful, write_journal,
+};
 pub use manner::{Manner, play_from};
 pub use playing::{Played, laid, play, play_lines};
 pub use printing::{Printer, print};

@@ -8,7 +8,7 @@ ghost use Rattle.bd_player.specs.Verdicts.{IsVerdict, IsJudged, Judges, Spells};
 ghost use Rattle.bd_player.specs.declared.faults.Fault.TheVariants.{Journal};
 
 use crate::faults::Fault;
-use bd_audit::{AuditFault, replay};
+use bd_audit::{AuditFault, Unwatched, Watch, replay_watched};
 use bd_journal::{ReadError, read_journal};
 use bd_space::Record;
 use std::alloc::Global;
@@ -28,43 +28,49 @@ pub enum Verdict {
     },
 }
 
-/// A journal's record, if it is that of a history.
+/// A journal's record, and whether it is that of a history.
 #[derive(Drop, Debug)]
 pub enum Judged {
     /// Its entries are a history.
     History(Record),
     /// They aren't.
     Unlawful {
+        /// The record.
+        record: Record,
         /// The place of the first entry that doesn't follow from those before, from 0.
         at: u32,
     },
 }
 
 // What the replay of a record tells of it.
-fn judge(alloc: Global, found: Record) -> Result<Judged, Fault>
+fn judge<P: Watch>(alloc: Global, found: Record, watch: &mut P) -> Result<Judged, Fault>
     requires seats { (1 ≤ found.seats) × (found.seats ≤ 16) }
     ensures judged { IfOk result (IsJudged found) }
     ensures fault { IfErr result (λ f. f ≡ Journal → ⊥) }
 {
-    match replay(alloc, &found) {
+    match replay_watched(alloc, &found, watch) {
         Ok(()) => Ok(Judged::History(found)),
-        Err(AuditFault::Unlawful { at }) => Ok(Judged::Unlawful { at }),
+        Err(AuditFault::Unlawful { at }) => Ok(Judged::Unlawful { record: found, at }),
         Err(AuditFault::NoMemory) => Err(Fault::Memory),
     }
 }
 
-/// The record that the bytes of a journal spell, if its entries are a history, or else the first that doesn't follow from
-/// those before.
+/// The record that the bytes of a journal spell, and whether its entries are a history, or else which is the first that
+/// doesn't follow from those before. It tells how far it is.
 ///
 /// # Errors
 /// `Journal` where no record is spelled so, `Memory` where memory was refused.
-pub(crate) fn judgment_on(alloc: Global, bytes: &[u8]) -> Result<Judged, Fault>
+pub(crate) fn judgment_on<P: Watch>(
+    alloc: Global,
+    bytes: &[u8],
+    watch: &mut P,
+) -> Result<Judged, Fault>
     ensures judged { IfOk result (Judges bytes.now) }
     // No journal is called unreadable.
     ensures journal { IfErr result (λ f. f ≡ Journal → (r : Record) → Spells bytes.now r → ⊥) }
 {
     match read_journal(alloc, bytes) {
-        Ok(found) => judge(alloc, found),
+        Ok(found) => judge(alloc, found, watch),
         Err(ReadError::Malformed) => Err(Fault::Journal),
         Err(ReadError::Memory) => Err(Fault::Memory),
     }
@@ -81,11 +87,23 @@ pub fn verdict_on(alloc: Global, bytes: &[u8]) -> Result<Verdict, Fault>
     // No journal is called unreadable.
     ensures journal { IfErr result (λ f. f ≡ Journal → (r : Record) → Spells bytes.now r → ⊥) }
 {
-    match judgment_on(alloc, bytes) {
+    verdict_watched(alloc, bytes, &mut Unwatched)
+}
+
+/// The same, and tells how far it is.
+pub(crate) fn verdict_watched<P: Watch>(
+    alloc: Global,
+    bytes: &[u8],
+    watch: &mut P,
+) -> Result<Verdict, Fault>
+    ensures verdict { IfOk result (IsVerdict bytes.now) }
+    ensures journal { IfErr result (λ f. f ≡ Journal → (r : Record) → Spells bytes.now r → ⊥) }
+{
+    match judgment_on(alloc, bytes, watch) {
         Ok(Judged::History(found)) => Ok(Verdict::Lawful {
             entries: found.entries.as_slice().len(),
         }),
-        Ok(Judged::Unlawful { at }) => Ok(Verdict::Unlawful { at }),
+        Ok(Judged::Unlawful { at, .. }) => Ok(Verdict::Unlawful { at }),
         Err(fault) => Err(fault),
     }
 }

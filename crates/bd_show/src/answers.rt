@@ -1,24 +1,24 @@
 //! Answers, with the names of refusals.
 
+use crate::reasons::Reason;
 use crate::returns::StreamText;
-use bd_journal::{cause_number, fault_number, note_number};
 use bd_space::StepAnswer;
 use bd_uapi::{Cause, Fault, Note};
 use std::fmt;
 
 fn print_note<W: fmt::Write>(note: Note, f: &mut fmt::Formatter<W>) -> fmt::Result {
-    let number = note_number(note);
-    write!(f, "noted N{number} {note:?}: {note}")
+    let reason = Reason::Note(note);
+    write!(f, "noted {reason}: {note}")
 }
 
 fn print_cause<W: fmt::Write>(cause: Cause, f: &mut fmt::Formatter<W>) -> fmt::Result {
-    let number = cause_number(cause);
-    write!(f, "stopped X{number} {cause:?}: {cause}")
+    let reason = Reason::Cause(cause);
+    write!(f, "stopped {reason}: {cause}")
 }
 
 fn print_fault<W: fmt::Write>(fault: Fault, f: &mut fmt::Formatter<W>) -> fmt::Result {
-    let number = fault_number(fault);
-    write!(f, "refused F{number} {fault:?}: {fault}")
+    let reason = Reason::Fault(fault);
+    write!(f, "refused {reason}: {fault}")
 }
 
 /// What a step was answered. Of what was read each return has a line of its own.

@@ -28,7 +28,8 @@ impl fmt::Display for PidText {
     }
 }
 
-fn print_entry<W: Write>(
+/// Prints an entry: its place, its seat, the pid of the process that made it, what it did and what came back.
+pub(crate) fn print_entry<W: Write>(
     place: u32,
     entry: &Entry,
     pid: Option<u32>,

@@ -9,11 +9,15 @@ mod explanations;
 mod fault;
 mod pids;
 mod questions;
+mod reasons;
 mod returns;
 mod selection;
 mod state;
+mod why;
 
 pub use explanations::{Explanation, explained};
 pub use fault::Untold;
+pub use pids::pid_of;
 pub use questions::{Question, answer};
 pub use selection::Selection;
+pub use why::{explain_entry, explain_unlawful};

@@ -21,7 +21,7 @@ pub(crate) fn pid_at(entries: &[Entry], place: u32) -> Option<u32>
 }
 
 /// The pid of the process of a seat's thread.
-pub(crate) fn pid_of(engine: &Engine, entries: &[Entry], seat: u32) -> Option<u32>
+pub fn pid_of(engine: &Engine, entries: &[Entry], seat: u32) -> Option<u32>
     ensures { result ≡ spec.pid_of (space_after engine.now) entries.now seat }
 {
     pid_at(entries, engine.process_of(seat)?)

@@ -1,0 +1,106 @@
+//! Diagrams of a journal: their words, and the drawing.
+
+use crate::files::INPUT;
+use crate::inquiries::{journal_arg, number_in, number_option};
+use bd_diagram::{Drawing, Format, Undrawn, draw};
+use bd_player::{DONE, FAULT, Fault, Judged, judged_from, print_unlawful, tell};
+use clap::{Arg, ArgMatches, Command, Error};
+use std::alloc::Global;
+use std::fs::File;
+use std::io::{Read, Write};
+use std::rt::Files;
+
+/// A diagram of a journal.
+#[derive(Clone, Copy, Debug)]
+pub struct Sketch<'a> {
+    /// The journal's file.
+    pub file: &'a str,
+    /// What is drawn of it.
+    pub drawing: Drawing,
+}
+
+const HELP: &str = "\
+Each thread has a lane, by process. A call is an arrow to the thread that reads it, a reply one back; a one-way call is
+dashed. What each mark means stands in docs/FORMATS.md.
+
+    bplay diagram journal --format text
+    bplay diagram journal > run.svg";
+
+/// The command.
+pub fn diagram_command<'a>(alloc: Global) -> Result<Command<'a>, Error> {
+    let format = Arg::new(alloc, "format")
+        .long("format")
+        .value_name("F")
+        .value_parser(["svg", "mermaid", "text"].as_slice())
+        .help("In which form: svg, mermaid or text [default: svg]");
+    let command = Command::new(alloc, "diagram")
+        .about("Draws what happened between threads, as a sequence diagram")
+        .after_help(HELP)
+        .arg(journal_arg(alloc))?
+        .arg(format)?
+        .arg(number_option(alloc, "from", "K", "Only entries from this place on"))?
+        .arg(number_option(alloc, "to", "K", "Only entries before this place"))?;
+    Ok(command)
+}
+
+fn format_in(matches: &ArgMatches<'_>) -> Format {
+    match matches.get_str("format") {
+        Some("mermaid") => Format::Mermaid,
+        Some("text") => Format::Text,
+        _ => Format::Svg,
+    }
+}
+
+/// The diagram that was found.
+pub fn sketch_in<'a>(matches: &ArgMatches<'a>) -> Option<Sketch<'a>> {
+    let drawing = Drawing {
+        format: format_in(matches),
+        from: number_in(matches, "from").unwrap_or(0),
+        to: number_in(matches, "to"),
+    };
+    Some(Sketch {
+        file: matches.get_str("file")?,
+        drawing,
+    })
+}
+
+// The status where this came of a drawing. Of an output that failed it is told in the end.
+fn status_of<E: Write>(came: Result<(), Undrawn>, err: &mut E) -> u8 {
+    match came {
+        Ok(()) => DONE,
+        Err(Undrawn::Output) => FAULT,
+        Err(Undrawn::OutOfRange) => tell(Fault::Arguments, err),
+        Err(Undrawn::Memory) => tell(Fault::Memory, err),
+    }
+}
+
+// Draws the journal that a reader has.
+fn draw_from<R: Read, W: Write, E: Write>(
+    alloc: Global,
+    journal: &mut R,
+    drawing: Drawing,
+    out: &mut W,
+    err: &mut E,
+) -> u8 {
+    match judged_from(alloc, journal) {
+        Ok(Judged::History(record)) => status_of(draw(alloc, &record, drawing, out), err),
+        Ok(Judged::Unlawful { at, .. }) => print_unlawful(at, out),
+        Err(fault) => tell(fault, err),
+    }
+}
+
+/// Draws the journal in a file.
+pub fn draw_file<H: AllocGlobal + Files + Input, W: Write, E: Write>(
+    rt: &H,
+    sketch: Sketch<'_>,
+    out: &mut W,
+    err: &mut E,
+) -> u8 {
+    if sketch.file == INPUT {
+        return draw_from(rt.alloc(), &mut rt.reader(), sketch.drawing, out, err);
+    }
+    match File::open(rt, sketch.file) {
+        Ok(mut file) => draw_from(rt.alloc(), &mut file, sketch.drawing, out, err),
+        Err(error) => tell(Fault::from(error), err),
+    }
+}
