@@ -1,5 +1,6 @@
 pub mod Beginnings
 pub mod TurnLog
+pub mod TurnMarks
 pub mod Naming
 pub mod Chains
 pub mod TurnLists

@@ -11,7 +11,7 @@ use Rattle.bd_space.specs.Words.{same, when, is_some_and}
 use Rattle.bd_space.specs.Space.{Space, opening}
 use Rattle.bd_space.specs.Freeing.{is_made_at}
 use Rattle.bd_space.specs.Steps.{change, counted}
-use Rattle.bd_space.specs.Histories.{History, next}
+use Rattle.bd_space.specs.Histories.{History, after, next, space_after}
 use Rattle.bd_laws.specs.Lists.{In, Pairs}
 use Rattle.bd_laws.specs.OneWayCalls.{Due, Rivals, Waits, On}
 use Rattle.bd_laws.specs.Tidy.{Before}
@@ -76,7 +76,7 @@ noted-some (Some q) n now p h = inl h
 noted-some None n true p h = inr (refl, refl, cc)
 noted-some None n false p h = absurd (cc)
 
-noted-none : (o : Option ℕ) (n : ℕ) (now : Bool) → noted_at o n now ≡ None → (o ≡ None) × (now ≡ false)
+pub noted-none : (o : Option ℕ) (n : ℕ) (now : Bool) → noted_at o n now ≡ None → (o ≡ None) × (now ≡ false)
 noted-none (Some q) n now h = absurd (cc)
 noted-none None n true h = absurd (cc)
 noted-none None n false h = (refl, refl)
@@ -88,7 +88,7 @@ pub some-case : (o : Option ℕ) → (o ≡ None) ⊎ ((p : ℕ) × (o ≡ Some 
 some-case None = inl refl
 some-case (Some p) = inr (p, refl)
 
-bool-case : (b : Bool) → (b ≡ true) ⊎ (b ≡ false)
+pub bool-case : (b : Bool) → (b ≡ true) ⊎ (b ≡ false)
 bool-case true = inl refl
 bool-case false = inr refl
 
@@ -395,14 +395,17 @@ log-step o s e ts h log =
     let k = step-passes s e h.turns h.received.lists in
     subst (λ bs. Logged o (next_turns o s.steps bs ts) (counted z)) (sym (counted-buffers z)) (log-after s z h k.turns k.passed o ts log)
 
-log-all : (o : ObjectId) (es : List Entry) (s : Space) (ts : List Turn) → Before s → Logged o ts s → (z : Space) × Logged o (turns_from o s ts es) z
-log-all o [] s ts h log = (s, log)
+log-all : (o : ObjectId) (es : List Entry) (s : Space) (ts : List Turn) → Before s → Logged o ts s → Logged o (turns_from o s ts es) (after s es)
+log-all o [] s ts h log = log
 log-all o (e ∷ es) s ts h log = log-all o es (next s e) (next_turns o s.steps (next s e).buffers ts) (step-before s e h) (log-step o s e ts h log)
 
 pub no-turns : (o : ObjectId) → Logged o [] opening
 no-turns o = record { past = λ t i. absurd i; live = λ t i e. absurd i; gone = λ t i q e b j m. absurd i; over = λ t i q e f. absurd i; order = tt }
 
 -- what holds before each step holds after every history
+pub always-logged : (o : ObjectId) (h : History) → Logged o (turns_on o h) (space_after h)
+unfolding turns_on space_after
+always-logged o h = log-all o h.entries opening [] opening-before (no-turns o)
+
 pub always-ordered : (o : ObjectId) (h : History) → Pairs InOrder (turns_on o h)
-unfolding turns_on
-always-ordered o h = (log-all o h.entries opening [] opening-before (no-turns o)).1.order
+always-ordered o h = (always-logged o h).order

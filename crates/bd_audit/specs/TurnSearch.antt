@@ -1,6 +1,6 @@
 -- The turns of an object as a search notes them, step by step.
-use Rattle.std.specs.Prelude.{ℕ, Bool, true, false, not, ◌&&◌, List, [], ◌∷◌, ◌++◌, Option, Some, None, map}
-use Rattle.std.specs.List.{list_any, filter_map}
+use Rattle.std.specs.Prelude.{ℕ, ◌≡◌, Bool, true, false, not, ◌&&◌, List, [], ◌∷◌, ◌++◌, take, Option, Some, None, is_some, map}
+use Rattle.std.specs.List.{list_any, list_all, filter_map}
 use Rattle.bd_space.specs.declared.step.ObjectId.{ObjectId}
 use Rattle.bd_space.specs.declared.step.Entry.{Entry}
 use Rattle.bd_space.specs.declared.space.Buffer.{Buffer}
@@ -50,3 +50,19 @@ turns_from o s ts (e ∷ es) = turns_from o (next s e) (next_turns o s.steps (ne
 -- after all steps of a history
 unfoldable pub turns_on : ObjectId → History → List Turn
 turns_on o h = turns_from o opening [] h.entries
+
+-- ---- which turns a step can change
+
+abbrev pub has_ended : Turn → Bool
+has_ended t = is_some t.ended
+
+-- while one of these hasn't ended, those after it stay as they are
+abbrev pub Wait : (Turn → Turn) → List Turn → Type 0
+Wait mark [] = Unit {0}
+Wait mark (t ∷ ts) = (has_ended (mark t) ≡ false → map mark ts ≡ ts) × Wait mark ts
+
+-- the first n have ended and stay as they are, and the others wait for one another
+pub record AreInTurn (mark : Turn → Turn) (n : ℕ) (ts : List Turn) : Type 0 where
+  pub ended : list_all has_ended (take n ts) ≡ true
+  pub stay : map mark (take n ts) ≡ take n ts
+  pub wait : Wait mark ts

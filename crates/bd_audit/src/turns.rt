@@ -1,7 +1,7 @@
 //! The one-way calls on an object, turn by turn.
 
-ghost use Rattle.std.specs.Prelude.{◌≡◌, ◌≤◌, map, IfOk, IfErr, MatchResult};
-ghost use Rattle.std.specs.List.{filter_map};
+ghost use Rattle.std.specs.Prelude.{◌≡◌, ◌≤◌, true, map, take, length, IfOk, IfErr, MatchResult};
+ghost use Rattle.std.specs.List.{filter_map, list_all};
 ghost use Rattle.std.specs.Option.{option_to_list};
 ghost use Rattle.bd_uapi.specs.declared.fault.Fault.TheVariants as faults;
 ghost use Rattle.bd_space.specs.Histories.{IsHistory, space_after, history_in};
@@ -23,6 +23,15 @@ pub struct Turn {
     pub handed: Option<u32>,
     /// The place where its buffer ended.
     pub ended: Option<u32>,
+}
+
+// The turns of an object's calls so far.
+#[derive(Drop)]
+struct TurnList {
+    // In the order in which the calls were made.
+    turns: Vec<Turn>,
+    // So many have ended, the first ones. Nothing changes them any more.
+    ended: usize,
 }
 
 // The place of what has happened, or this one if it happens now.
@@ -70,12 +79,22 @@ fn marked(engine: &Engine, place: u32, turn: Turn) -> Turn
     }
 }
 
-fn mark(turns: &mut [Turn], engine: &Engine, place: u32)
-    ensures { turns.new ≡ map (spec.marked place (space_after engine.now).buffers) turns.old }
+// Marks these turns, of which the first ones have ended, up to the first that hasn't then: the others wait for it. Answers
+// how many have ended.
+fn mark(turns: &mut [Turn], ended: usize, engine: &Engine, place: u32) -> usize
+    requires { spec.AreInTurn (spec.marked place (space_after engine.now).buffers) ended turns.old }
+    ensures all { turns.new ≡ map (spec.marked place (space_after engine.now).buffers) turns.old }
+    ensures within { result ≤ length turns.old }
+    ensures ended { list_all spec.has_ended (take result turns.new) ≡ true }
 {
-    for turn in turns.iter_mut() {
-        *turn = marked(engine, place, *turn);
+    for at in ended..turns.len() {
+        let turn = marked(engine, place, turns[at]);
+        turns[at] = turn;
+        if turn.ended.is_none() {
+            return at;
+        }
     }
+    turns.len()
 }
 
 // The turn that the step at this place made, if it did.
@@ -99,13 +118,17 @@ fn turn_made(engine: &Engine, place: u32, object: ObjectId) -> Option<Turn>
 }
 
 // Notes the engine's last step, which stands at this place.
-fn note(turns: &mut Vec<Turn>, engine: &Engine, place: u32, object: ObjectId) -> Result<(), Fault>
-    ensures ok { IfOk result (λ _. turns.new.items ≡ spec.next_turns object place (space_after engine.now).buffers turns.old.items) }
+fn note(list: &mut TurnList, engine: &Engine, place: u32, object: ObjectId) -> Result<(), Fault>
+    requires { spec.AreInTurn (spec.marked place (space_after engine.now).buffers)
+        list.old.ended list.old.turns.items }
+    ensures ok { IfOk result (λ _. list.new.turns.items
+        ≡ spec.next_turns object place (space_after engine.now).buffers list.old.turns.items) }
+    ensures ended { IfOk result (λ _. list_all spec.has_ended (take list.new.ended list.new.turns.items) ≡ true) }
     ensures fault { IfErr result (λ f. f ≡ faults.NoMemory) }
 {
-    mark(turns, engine, place);
+    list.ended = mark(&mut list.turns, list.ended, engine, place);
     match turn_made(engine, place, object) {
-        Some(turn) => match turns.push(turn) {
+        Some(turn) => match list.turns.push(turn) {
             Ok(()) => Ok(()),
             Err(_) => Err(Fault::NoMemory),
         },
@@ -123,11 +146,12 @@ pub fn oneway_turns(alloc: Global, record: &Record, object: ObjectId) -> Result<
     let Ok(mut engine) = Engine::new(alloc, record.seats) else {
         return Err(Fault::NoMemory);
     };
-    let mut turns = Vec::new(alloc);
+    let turns = Vec::new(alloc);
+    let mut list = TurnList { turns, ended: 0 };
     for entry in record.entries.as_slice() {
         let place = engine.len();
         advance(&mut engine, entry)?;
-        note(&mut turns, &engine, place, object)?;
+        note(&mut list, &engine, place, object)?;
     }
-    Ok(turns)
+    Ok(list.turns)
 }

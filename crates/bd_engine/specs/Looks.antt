@@ -1,10 +1,12 @@
 -- What the calls that read an engine answer of the space of its history.
 use Rattle.std.specs.Prelude.{ℕ, Bool, List, Option, Some, is_some, option_map, option_and_then}
+use Rattle.std.specs.List.{list_any}
 use Rattle.bd_space.specs.declared.step.ObjectId.{ObjectId}
 use Rattle.bd_space.specs.declared.space.TodoList.TheVariants.{OfThread}
+use Rattle.bd_space.specs.Words.{is_some_and}
 use Rattle.bd_space.specs.Space.{Space}
 use Rattle.bd_space.specs.Seats.{thread_in, process_with_pid}
-use Rattle.bd_space.specs.References.{object_in}
+use Rattle.bd_space.specs.References.{object_in, is_asking}
 use Rattle.bd_space.specs.Names.{named, number_in}
 use Rattle.bd_space.specs.Frames.{innermost, serves}
 use Rattle.bd_space.specs.Todo.{work_on}
@@ -42,3 +44,7 @@ knows s p o = is_some (number_in s.names p o)
 -- the objects that the live buffer made there carries
 abbrev pub carried : Space → ℕ → List ObjectId
 carried s made = carried_in s.references made
+
+-- whether the process has a reference of this strength to what its number names because it asked for one
+abbrev pub has_asked : Space → ℕ → ℕ → Bool → Bool
+has_asked s p n strong = is_some_and (named s p n) (λ o. list_any (is_asking p o strong) s.references)

@@ -11,6 +11,7 @@ mod exit;
 mod frame;
 mod looks;
 mod manager;
+mod members;
 mod parcel;
 mod process;
 mod read;
@@ -28,6 +29,7 @@ mod why;
 mod work;
 mod write;
 
+pub use bd_links::Works;
 pub use bd_objects::CarriedObjects;
 pub use engine::Engine;
 pub use run::Ran;

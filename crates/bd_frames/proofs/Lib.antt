@@ -5,3 +5,8 @@ pub mod Removing
 pub mod Counting
 pub mod Ways
 pub mod Room
+pub mod Alike
+pub mod Linking
+pub mod Standing
+pub mod Down
+pub mod Stacking

@@ -5,12 +5,14 @@ use Rattle.bd_frames.specs.declared.table.FrameTable.{FrameTable}
 use Rattle.bd_frames.specs.Places.{RiseIf}
 use Rattle.bd_frames.specs.InOrder.{OlderIf}
 use Rattle.bd_frames.specs.Children.{AreChildren}
+use Rattle.bd_frames.specs.Linked.{StacksAre}
 
 pub record FramesAre (t : FrameTable) (l : List Frame) : Type 0 where
   pub items_are : t.frames.items ≡ l
   pub rises : RiseIf t.rising l
   pub older : OlderIf t.parents_older l
   pub children_are : AreChildren t.children l
+  pub stacks_are : StacksAre t.stacks l
 
 -- of every list that the table stands for x is what f says
 abbrev pub Tells : {A : Type 0} → FrameTable → A → (List Frame → A) → Type 0

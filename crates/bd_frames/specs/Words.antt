@@ -1,5 +1,5 @@
 -- Words on frames in the order in which they came in.
-use Rattle.std.specs.Prelude.{ℕ, ◌==◌, ◌&&◌, Bool, List, Option, find, reverse}
+use Rattle.std.specs.Prelude.{ℕ, ◌==◌, ◌&&◌, Bool, true, false, List, Option, Some, None, find, reverse}
 use Rattle.std.specs.List.{list_any}
 use Rattle.bd_space.specs.declared.space.Frame.{Frame}
 use Rattle.bd_space.specs.declared.space.Server.{Server}
@@ -22,6 +22,17 @@ abandoned_in frames made = find (λ f. is_frame made f && is_abandoned frames f)
 -- the oldest abandoned one of those that were made at one of these places
 abbrev pub oldest_in : List Frame → List ℕ → Option Frame
 oldest_in frames chosen = find (λ f. is_place_among chosen f.made && is_abandoned frames f) frames
+
+-- the call is unread
+abbrev pub is_pending : Server → Bool
+is_pending Pending = true
+is_pending (Serving t) = false
+is_pending Gone = false
+
+abbrev pub server_of : Server → Option ℕ
+server_of Pending = None
+server_of (Serving t) = Some t
+server_of Gone = None
 
 -- who would have served it has gone
 abbrev pub lost : Server → Server

@@ -53,7 +53,7 @@ pub(crate) fn lose_in(frames: &mut Vec<Frame>, range: Range<usize>, made: u32)
     }
 }
 
-fn frame_without(seat: u32, frame: Frame) -> Frame
+pub(crate) fn frame_without(seat: u32, frame: Frame) -> Frame
     ensures { result ≡ left_frame seat frame }
 {
     Frame {

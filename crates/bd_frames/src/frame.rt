@@ -1,4 +1,4 @@
-//! What is looked for among frames. A thread's frames are a stack: its innermost is looked for from the newest on.
+//! What is looked for among frames. Where a thread's stack isn't known, its innermost is looked for from the newest on.
 
 ghost use Rattle.std.specs.Prelude.{ℕ, Bool, true, ◌≡◌, ◌==◌, ◌&&◌, ◌++◌, map, filter, find, OnOk};
 ghost use Rattle.std.specs.List.{list_any};
@@ -21,7 +21,7 @@ fn is_frame(frame: &Frame, made: u32) -> bool
     frame.made == made
 }
 
-fn calls(frame: &Frame, seat: u32) -> bool
+pub(crate) fn calls(frame: &Frame, seat: u32) -> bool
     ensures { result ≡ spec.calls seat frame.now }
 {
     frame.caller == Some(seat)

@@ -7,7 +7,10 @@ mod children;
 mod frame;
 mod place;
 mod server;
+mod stacks;
 mod table;
+mod tops;
+mod walk;
 
 pub use ancestry::Ancestry;
 pub use server::serves;

@@ -3,7 +3,7 @@
 ghost use Rattle.std.specs.Prelude.{ℕ, Bool, ◌≡◌, ◌==◌, Option, Some, None};
 ghost use Rattle.bd_space.specs.Frames as spec;
 ghost use Rattle.bd_space.specs.ThreadExits as exits;
-ghost use Rattle.bd_frames.specs.Words.{lost};
+ghost use Rattle.bd_frames.specs.Words.{lost, is_pending, server_of};
 
 use bd_space::Server;
 
@@ -18,6 +18,23 @@ pub(crate) fn is_gone(server: Server) -> bool
     ensures { result ≡ spec.is_gone server }
 {
     matches!(server, Server::Gone)
+}
+
+/// Whether the call is unread.
+pub(crate) fn is_pending(server: Server) -> bool
+    ensures { result ≡ is_pending server }
+{
+    matches!(server, Server::Pending)
+}
+
+/// The thread that serves the call.
+pub(crate) fn server_of(server: Server) -> Option<u32>
+    ensures { result ≡ server_of server }
+{
+    match server {
+        Server::Serving(seat) => Some(seat),
+        _ => None,
+    }
 }
 
 pub(crate) fn lost_server(server: Server) -> Server

@@ -13,13 +13,16 @@ ghost use Rattle.bd_frames.specs.Room.{Uses, frame_room, frame_count};
 ghost use Rattle.bd_frames.specs.Words.{newest_in, abandoned_in, oldest_in, lost_frame, left_frame};
 
 use crate::ancestry::{Ancestry, ancestry_among};
-use crate::change::{leave_all, lose_in, serve_in};
+use crate::change::{lose_in, serve_in};
 use crate::children::{add_child, take_child};
 use crate::frame::{
     abandoned_among, frame_among, is_after_parent, is_newest, newest_among, oldest_among,
     push_served, takes_part_among,
 };
 use crate::place::{newest_at, part, range_of};
+use crate::stacks::Stacks;
+use crate::tops::top_of;
+use crate::walk::{leave, push_served_down, reverse_from};
 use bd_space::Frame;
 use std::alloc::{AllocError, Global};
 use std::collections::HashMap;
@@ -34,6 +37,8 @@ pub struct FrameTable {
     pub(crate) parents_older: bool,
     // How many frames name each place as their parent.
     pub(crate) children: HashMap<u32, u64>,
+    // The frames of each thread.
+    pub(crate) stacks: Stacks,
 }
 
 impl FrameTable {
@@ -48,6 +53,7 @@ impl FrameTable {
             rising: true,
             parents_older: true,
             children: HashMap::new(alloc),
+            stacks: Stacks::new(alloc),
         }
     }
 
@@ -60,7 +66,8 @@ impl FrameTable {
         ensures grown { OnErr result (frame_room self.old ≡ 0) }
     {
         self.frames.reserve(1)?;
-        self.children.reserve(1)
+        self.children.reserve(1)?;
+        self.stacks.reserve()
     }
 
     /// How many there are.
@@ -80,6 +87,7 @@ impl FrameTable {
         self.rising = self.rising && is_newest(&self.frames, frame.made);
         self.parents_older = self.parents_older && is_after_parent(&frame);
         add_child(&mut self.children, frame);
+        self.stacks.push(frame, self.rising);
         self.frames.push_reserved(frame);
         // A length is a usize: so no count of children wraps.
         let _ = self.frames.len();
@@ -94,6 +102,7 @@ impl FrameTable {
     {
         let frame = self.frames.remove(i);
         take_child(&mut self.children, frame);
+        self.stacks.remove(frame, i);
     }
 
     /// The frame of the call made at this place closes.
@@ -132,14 +141,21 @@ impl FrameTable {
     pub fn newest_of(&self, seat: u32) -> Option<Frame>
         ensures { Tells self.now result (λ l. newest_in l seat) }
     {
-        newest_among(&self.frames, seat)
+        if !self.stacks.whole {
+            return newest_among(&self.frames, seat);
+        }
+        let made = top_of(&self.stacks.tops, seat)?;
+        self.frame(made)
     }
 
     /// Whether the thread takes part in a frame.
     pub fn is_in_call(&self, seat: u32) -> bool
         ensures { Tells self.now result (λ l. list_any (spec.takes_part seat) l) }
     {
-        takes_part_among(&self.frames, seat)
+        if !self.stacks.whole {
+            return takes_part_among(&self.frames, seat);
+        }
+        top_of(&self.stacks.tops, seat).is_some()
     }
 
     /// The frame of the call made at this place, if it is abandoned.
@@ -168,6 +184,8 @@ impl FrameTable {
         ensures stands { Makes self.old self.new (λ l. changed (spec.is_frame made) (reading.serve seat) l) }
         ensures uses { Uses self.old self.new 0 }
     {
+        let at = newest_at(&self.frames, self.rising, made);
+        self.stacks.hand_out(&self.frames, at, made, seat);
         let range = range_of(&self.frames, self.rising, made);
         serve_in(&mut self.frames, range, made, seat);
     }
@@ -177,6 +195,8 @@ impl FrameTable {
         ensures stands { Makes self.old self.new (λ l. changed (spec.is_frame made) lost_frame l) }
         ensures uses { Uses self.old self.new 0 }
     {
+        let server = self.frame(made).map(|f| f.server);
+        self.stacks.forget_unread(server);
         let range = range_of(&self.frames, self.rising, made);
         lose_in(&mut self.frames, range, made);
     }
@@ -186,7 +206,8 @@ impl FrameTable {
         ensures stands { Makes self.old self.new (λ l. map (left_frame seat) l) }
         ensures uses { Uses self.old self.new 0 }
     {
-        leave_all(&mut self.frames, seat);
+        leave(&mut self.frames, &self.stacks, seat);
+        self.stacks.forget(seat);
     }
 
     /// Where the calls were made that the thread serves, put after what is there. Fails for want of memory alone.
@@ -194,6 +215,13 @@ impl FrameTable {
         ensures { OnOk result (Tells self.now served.new.items
             (λ l. served.old.items ++ map spec.made_of (filter (λ f. spec.serves seat f.server) l))) }
     {
-        push_served(&self.frames, seat, served)
+        if !self.stacks.whole {
+            return push_served(&self.frames, seat, served);
+        }
+        let from = served.len();
+        let top = top_of(&self.stacks.tops, seat);
+        push_served_down(&self.frames, &self.stacks.below, seat, top, served)?;
+        reverse_from(served, from);
+        Ok(())
     }
 }

@@ -1,8 +1,10 @@
 -- What is asked about a journal, by what a parse of the words found.
-use Rattle.std.specs.Prelude.{◌≡◌, ℕ, List, Some, codes}
+use Rattle.std.specs.Prelude.{◌≡◌, ℕ, List, Some, None, codes}
 use Rattle.std.specs.Str.Parse.{digits_value, without_leading_plus}
 use Rattle.clap.specs.declared.parser.matches.Found.{Found}
 use Rattle.clap.specs.Matches.{first_value, one_text}
+use Rattle.bd_json.specs.declared.format.Format.{Format}
+use Rattle.bd_json.specs.declared.format.Format.TheVariants as format
 use Rattle.bd_show.specs.declared.questions.Question.{Question}
 use Rattle.bd_show.specs.declared.questions.Question.TheVariants.{Chain}
 use Rattle.bd_play.specs.declared.inquiries.Inquiry.{Inquiry}
@@ -17,6 +19,12 @@ abbrev pub AskedBy : Found → Question → Type 0
 AskedBy found (Chain pid handle) = IsNumberAt found (codes "pid") pid × IsNumberAt found (codes "handle") handle
 AskedBy found _ = ⊥
 
--- of the journal that was found
+-- JSON where that was found, and text where nothing or that was
+pub record IsFormat (found : Found) (f : Format) : Type 0 where
+  pub json : first_value found (codes "format") ≡ Some (codes "json") → f ≡ format.Json
+  pub text : first_value found (codes "format") ≡ Some (codes "text") → f ≡ format.Text
+  pub usual : first_value found (codes "format") ≡ None → f ≡ format.Text
+
+-- of the journal that was found, in the form that was
 abbrev pub AsksFound : Found → Inquiry → Type 0
-AsksFound found i = first_value found (codes "file") ≡ Some i.file.now
+AsksFound found i = (first_value found (codes "file") ≡ Some i.file.now) × IsFormat found i.format

@@ -4,9 +4,12 @@ ghost use Rattle.std.specs.Prelude.{◌<◌, length, IfSome, IsOkAnd};
 ghost use Rattle.clap.specs.Matches.{found_of};
 ghost use Rattle.bd_play.specs.Orders.{IsManner, PlaysFound, PlaysInput};
 
-use crate::inquiries::{Inquiry, Subject, inquiry_in, subject_in, with_inquiries};
+use crate::inquiries::{
+    Inquiry, Subject, format_arg, format_in, inquiry_in, subject_in, with_inquiries,
+};
 use crate::script_help::SCRIPT_HELP;
 use crate::sketches::{Sketch, diagram_command, sketch_in};
+use bd_json::Format;
 use bd_player::{Fault, Manner};
 use clap::error::ErrorKind;
 use clap::{Arg, ArgAction, ArgMatches, Command, Error, value_parser};
@@ -70,6 +73,8 @@ pub struct Run<'a> {
     pub journal: Option<&'a str>,
     /// Whether it is told how far it is.
     pub progress: bool,
+    /// In which form it is told what its lines said.
+    pub format: Format,
 }
 
 /// A judgment of a journal.
@@ -151,6 +156,7 @@ fn run_command<'a>(alloc: Global) -> Result<Command<'a>, Error> {
         .arg(threads)?
         .arg(turns)?
         .arg(journal)?
+        .arg(format_arg(alloc))?
         .arg(progress_arg(alloc))?;
     Ok(command)
 }
@@ -200,11 +206,17 @@ fn manner_in(matches: &ArgMatches<'_>) -> Manner
 fn run_order<'a>(matches: &ArgMatches<'a>) -> Option<Order<'a>>
     ensures { IfSome result (PlaysFound (found_of matches.now)) }
 {
+    let (manner, format) = (manner_in(matches), format_in(matches));
+    // What threads say is told as text alone.
+    if manner.threads && format == Format::Json {
+        return None;
+    }
     Some(Order::Run(Run {
         file: matches.get_str("file")?,
-        manner: manner_in(matches),
+        manner,
         journal: matches.get_str("journal"),
         progress: matches.get_flag("progress"),
+        format,
     }))
 }
 
@@ -250,6 +262,7 @@ pub fn order_of<'a>(alloc: Global, words: &'a [String]) -> Result<Order<'a>, Ref
             manner,
             journal: None,
             progress: false,
+            format: Format::Text,
         }));
     }
     match matches_of(alloc, words) {

@@ -3,10 +3,11 @@
 use crate::arguments::{Check, Run};
 use crate::draft::{Draft, draft_for};
 use crate::progress::{Counted, Progress, lines_in};
-use bd_player::{Fault, Manner, Played, check_journal, check_watched, play_from, tell};
+use crate::sources::{INPUT, opened};
+use bd_json::play_in;
+use bd_player::{Fault, Played, check_journal, check_watched, tell};
 use bd_space::Record;
 use std::fs;
-use std::fs::File;
 use std::io::{Eprint, Read, Write};
 use std::os::unix::fs::MetadataExt;
 use std::rt::Files;
@@ -14,10 +15,7 @@ use std::sync::Wait;
 use std::thread::Threads;
 use std::time::Clock;
 
-/// Standard input, as a word.
-pub const INPUT: &str = "-";
-
-// The same, as a file.
+// Standard input, as a file.
 const INPUT_FILE: &str = "/dev/stdin";
 
 // The file of standard output.
@@ -80,7 +78,7 @@ fn lines_of(script: &[u8]) -> u64 {
 fn play_counted<H, R: Read, W: Write, E: Write>(
     rt: &H,
     script: &mut R,
-    manner: Manner,
+    run: Run<'_>,
     out: &mut W,
     err: &mut E,
 ) -> Played
@@ -94,7 +92,14 @@ where
     let progress = Progress::new(rt, "lines");
     let all = lines_of(&bytes);
     let mut out = Counted::new(out, progress, all);
-    play_from(rt, &mut bytes.as_slice(), manner, &mut out, err)
+    play_in(
+        rt,
+        &mut bytes.as_slice(),
+        run.manner,
+        run.format,
+        &mut out,
+        err,
+    )
 }
 
 // Plays a script that a reader has.
@@ -113,9 +118,9 @@ where
         Err(fault) => return tell(fault, err),
     };
     let played = if run.progress {
-        play_counted(rt, script, run.manner, out, err)
+        play_counted(rt, script, run, out, err)
     } else {
-        play_from(rt, script, run.manner, out, err)
+        play_in(rt, script, run.manner, run.format, out, err)
     };
     match settle(rt, draft, &played.history) {
         Ok(()) => played.status,
@@ -128,28 +133,9 @@ pub fn run_file<H, W: Write, E: Write>(rt: &H, run: Run<'_>, out: &mut W, err: &
 where
     H: AllocGlobal + Files + Input + Clock + Eprint + Threads + Wait + Sync,
 {
-    if run.file == INPUT {
-        return run_script(rt, &mut rt.reader(), run, out, err);
-    }
-    match File::open(rt, run.file) {
-        Ok(mut file) => run_script(rt, &mut file, run, out, err),
-        Err(error) => tell(Fault::from(error), err),
-    }
-}
-
-// Judges the journal that a reader has.
-fn check_from<H: AllocGlobal + Clock + Eprint, R: Read, W: Write, E: Write>(
-    rt: &H,
-    journal: &mut R,
-    progress: bool,
-    out: &mut W,
-    err: &mut E,
-) -> u8 {
-    if progress {
-        let mut watch = Progress::new(rt, "entries");
-        check_watched(rt.alloc(), journal, &mut watch, out, err)
-    } else {
-        check_journal(rt.alloc(), journal, out, err)
+    match opened(rt, run.file) {
+        Ok(mut script) => run_script(rt, &mut script, run, out, err),
+        Err(fault) => tell(fault, err),
     }
 }
 
@@ -160,11 +146,14 @@ pub fn check_file<H: AllocGlobal + Files + Input + Clock + Eprint, W: Write, E: 
     out: &mut W,
     err: &mut E,
 ) -> u8 {
-    if check.file == INPUT {
-        return check_from(rt, &mut rt.reader(), check.progress, out, err);
-    }
-    match File::open(rt, check.file) {
-        Ok(mut file) => check_from(rt, &mut file, check.progress, out, err),
-        Err(error) => tell(Fault::from(error), err),
+    let mut journal = match opened(rt, check.file) {
+        Ok(journal) => journal,
+        Err(fault) => return tell(fault, err),
+    };
+    if check.progress {
+        let mut watch = Progress::new(rt, "entries");
+        check_watched(rt.alloc(), &mut journal, &mut watch, out, err)
+    } else {
+        check_journal(rt.alloc(), &mut journal, out, err)
     }
 }

@@ -2,8 +2,9 @@
 
 ghost use Rattle.std.specs.Prelude.{IfSome};
 ghost use Rattle.clap.specs.Matches.{found_of};
-ghost use Rattle.bd_play.specs.Inquiries.{AsksFound, AskedBy, IsNumberAt};
+ghost use Rattle.bd_play.specs.Inquiries.{AsksFound, AskedBy, IsFormat, IsNumberAt};
 
+use bd_json::Format;
 use bd_show::{Explanation, Question, Selection, explained};
 use bd_space::ObjectId;
 use clap::{Arg, ArgMatches, Command, Error, value_parser};
@@ -16,6 +17,8 @@ pub struct Inquiry<'a> {
     pub file: &'a str,
     /// What is asked.
     pub question: Question,
+    /// In which form it is answered.
+    pub format: Format,
 }
 
 const CHAIN_HELP: &str = "\
@@ -25,7 +28,8 @@ giver is its owner. The context manager's object may be asked for by 0.
 Statuses: 0 there is such a name; 1 there is none, the journal is unlawful, or a fault; 3 memory refused.";
 
 const STATE_HELP: &str = "\
-Of each process that lives: its threads, the objects that it owns, its handles, and the buffers in its window.";
+Of each process that lives: what is unread, its threads, the objects that it owns, its handles, the buffers in its
+window, and the death notifications that it asked for.";
 
 const EXPLAIN_HELP: &str = "\
 Of a name it tells when it comes and what it leaves. Of a journal that is a history, and a place in it, it tells which
@@ -43,6 +47,15 @@ pub fn journal_arg<'a>(alloc: Global) -> Arg<'a> {
         .value_name("JOURNAL")
         .required(true)
         .help("The journal, or - for standard input")
+}
+
+/// In which form something is told.
+pub fn format_arg<'a>(alloc: Global) -> Arg<'a> {
+    Arg::new(alloc, "format")
+        .long("format")
+        .value_name("F")
+        .value_parser(["text", "json"].as_slice())
+        .help("In which form: text, or json with a value a line [default: text]")
 }
 
 // A number that has to be given.
@@ -75,7 +88,8 @@ fn show_command<'a>(alloc: Global) -> Result<Command<'a>, Error> {
             "pid",
             "P",
             "Only entries of the process with this pid",
-        ))?;
+        ))?
+        .arg(format_arg(alloc))?;
     Ok(command)
 }
 
@@ -85,7 +99,8 @@ fn chain_command<'a>(alloc: Global) -> Result<Command<'a>, Error> {
         .after_help(CHAIN_HELP)
         .arg(journal_arg(alloc))?
         .arg(number_arg(alloc, "pid", "PID", "The process"))?
-        .arg(number_arg(alloc, "handle", "HANDLE", "Its handle"))?;
+        .arg(number_arg(alloc, "handle", "HANDLE", "Its handle"))?
+        .arg(format_arg(alloc))?;
     Ok(command)
 }
 
@@ -98,7 +113,8 @@ fn call_command<'a>(alloc: Global) -> Result<Command<'a>, Error> {
             "place",
             "K",
             "The place of the read that handed out the reply",
-        ))?;
+        ))?
+        .arg(format_arg(alloc))?;
     Ok(command)
 }
 
@@ -110,7 +126,8 @@ fn turns_command<'a>(alloc: Global) -> Result<Command<'a>, Error> {
     let command = Command::new(alloc, "turns")
         .about("Tells the one-way calls on an object, in the order in which they were made")
         .arg(journal_arg(alloc))?
-        .arg(object)?;
+        .arg(object)?
+        .arg(format_arg(alloc))?;
     Ok(command)
 }
 
@@ -168,6 +185,16 @@ pub fn number_in(matches: &ArgMatches<'_>, name: &str) -> Option<u32>
     matches.get_one::<u32>(name)
 }
 
+/// The form that was found. A text unless another was given.
+pub fn format_in(matches: &ArgMatches<'_>) -> Format
+    ensures { IsFormat (found_of matches.now) result }
+{
+    match matches.get_str("format") {
+        Some("json") => Format::Json,
+        _ => Format::Text,
+    }
+}
+
 fn selection_in(matches: &ArgMatches<'_>) -> Selection {
     Selection {
         from: number_in(matches, "from").unwrap_or(0),
@@ -212,6 +239,7 @@ pub fn inquiry_in<'a>(name: &str, matches: &ArgMatches<'a>) -> Option<Inquiry<'a
     Some(Inquiry {
         file: matches.get_str("file")?,
         question: question_in(name, matches)?,
+        format: format_in(matches),
     })
 }
 

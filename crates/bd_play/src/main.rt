@@ -10,15 +10,16 @@ mod output;
 mod progress;
 mod script_help;
 mod sketches;
+mod sources;
 
 use arguments::{Order, Refused, order_of};
-use asking::{ask_file, explain_file};
+use asking::{ask, explain_journal};
 use bd_player::{DONE, Fault, after_writing, tell};
 use files::{check_file, run_file};
 use inquiries::Subject;
 use output::Output;
 use script_help::SCRIPT_HELP;
-use sketches::draw_file;
+use sketches::draw_journal;
 use std::alloc::Global;
 use std::io::{BufWriter, Eprint, Write};
 use std::process::ExitCode;
@@ -45,7 +46,7 @@ fn explain<H: AllocGlobal + Files + Input, W: Write, E: Write>(
 ) -> u8 {
     match subject {
         Subject::Name(explanation) => after_writing(writeln!(out, "{explanation}"), DONE),
-        Subject::Journal(doubt) => explain_file(rt, doubt, out, err),
+        Subject::Journal(doubt) => explain_journal(rt, doubt, out, err),
     }
 }
 
@@ -62,9 +63,9 @@ where
     let status = match order {
         Order::Run(run) => run_file(rt, run, out, err),
         Order::Check(check) => check_file(rt, check, out, err),
-        Order::Ask(inquiry) => ask_file(rt, inquiry, out, err),
+        Order::Ask(inquiry) => ask(rt, inquiry, out, err),
         Order::Explain(subject) => explain(rt, subject, out, err),
-        Order::Draw(sketch) => draw_file(rt, sketch, out, err),
+        Order::Draw(sketch) => draw_journal(rt, sketch, out, err),
         Order::Script => after_writing(write!(out, "{SCRIPT_HELP}"), DONE),
     };
     status.max(ended(out.end(), err))

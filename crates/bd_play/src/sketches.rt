@@ -1,13 +1,12 @@
 //! Diagrams of a journal: their words, and the drawing.
 
-use crate::files::INPUT;
 use crate::inquiries::{journal_arg, number_in, number_option};
+use crate::sources::judged_in;
 use bd_diagram::{Drawing, Format, Undrawn, draw};
-use bd_player::{DONE, FAULT, Fault, Judged, judged_from, print_unlawful, tell};
+use bd_player::{DONE, FAULT, Fault, Judged, print_unlawful, tell};
 use clap::{Arg, ArgMatches, Command, Error};
 use std::alloc::Global;
-use std::fs::File;
-use std::io::{Read, Write};
+use std::io::Write;
 use std::rt::Files;
 
 /// A diagram of a journal.
@@ -74,33 +73,18 @@ fn status_of<E: Write>(came: Result<(), Undrawn>, err: &mut E) -> u8 {
     }
 }
 
-// Draws the journal that a reader has.
-fn draw_from<R: Read, W: Write, E: Write>(
-    alloc: Global,
-    journal: &mut R,
-    drawing: Drawing,
-    out: &mut W,
-    err: &mut E,
-) -> u8 {
-    match judged_from(alloc, journal) {
-        Ok(Judged::History(record)) => status_of(draw(alloc, &record, drawing, out), err),
-        Ok(Judged::Unlawful { at, .. }) => print_unlawful(at, out),
-        Err(fault) => tell(fault, err),
-    }
-}
-
 /// Draws the journal in a file.
-pub fn draw_file<H: AllocGlobal + Files + Input, W: Write, E: Write>(
+pub fn draw_journal<H: AllocGlobal + Files + Input, W: Write, E: Write>(
     rt: &H,
     sketch: Sketch<'_>,
     out: &mut W,
     err: &mut E,
 ) -> u8 {
-    if sketch.file == INPUT {
-        return draw_from(rt.alloc(), &mut rt.reader(), sketch.drawing, out, err);
-    }
-    match File::open(rt, sketch.file) {
-        Ok(mut file) => draw_from(rt.alloc(), &mut file, sketch.drawing, out, err),
-        Err(error) => tell(Fault::from(error), err),
+    match judged_in(rt, sketch.file) {
+        Ok(Judged::History(record)) => {
+            status_of(draw(rt.alloc(), &record, sketch.drawing, out), err)
+        }
+        Ok(Judged::Unlawful { at, .. }) => print_unlawful(at, out),
+        Err(fault) => tell(fault, err),
     }
 }

@@ -6,9 +6,11 @@ ghost use Rattle.bd_engine.specs.Looks as looks;
 ghost use Rattle.bd_audit.specs.Gifts.{IsChainOf};
 ghost use Rattle.bd_audit.specs.Replies.{call_answered};
 ghost use Rattle.bd_audit.specs.TurnCalls.{AreTurns};
+ghost use Rattle.bd_show.specs.Pids.{maker_of};
 
-use crate::entries::{PidText, print_entry_at};
+use crate::entries::show_at;
 use crate::fault::Untold;
+use crate::form::{Form, Gift};
 use crate::pids::{maker_of, pid_at};
 use bd_audit::{Turn, call_of_reply, gift_chain, oneway_turns, played_to};
 use bd_space::{ObjectId, Record};
@@ -79,30 +81,26 @@ fn receiver_of(alloc: Global, record: &Record, place: u32) -> Result<Option<u32>
     })
 }
 
-// Prints a gift: who gave, and who came to the name by it.
-fn print_gift<W: Write>(
-    alloc: Global,
-    record: &Record,
-    place: u32,
-    out: &mut W,
-) -> Result<(), Untold>
+// The gift at a place: whose step it is, and who came to the name by it.
+fn gift_at(alloc: Global, record: &Record, place: u32) -> Result<Gift, Untold>
     requires seats { (1 ≤ «record».now.seats) × («record».now.seats ≤ 16) }
     requires lawful { IsHistory (history_in «record».now) }
+    ensures { IfOk result (λ g. (g.place ≡ place) × (g.pid ≡ maker_of (history_in «record».now) place)) }
 {
-    let giver = PidText(maker_of(alloc, record, place)?);
-    match receiver_of(alloc, record, place)? {
-        Some(receiver) => writeln!(out, "{place}: pid {giver} gave it to pid {receiver}")?,
-        None => writeln!(out, "{place}: pid {giver} asked for it by 0")?,
-    }
-    Ok(())
+    Ok(Gift {
+        place,
+        pid: maker_of(alloc, record, place)?,
+        to: receiver_of(alloc, record, place)?,
+    })
 }
 
-// Prints what a number names after the history, and whose it is.
-fn print_object<W: Write>(
+// Tells what a number names after the history, and whose it is.
+fn tell_object<F: Form, W: Write>(
     alloc: Global,
     record: &Record,
     pid: u32,
     number: u32,
+    form: &F,
     out: &mut W,
 ) -> Result<(), Untold>
     requires seats { (1 ≤ «record».now.seats) × («record».now.seats ≤ 16) }
@@ -114,35 +112,37 @@ fn print_object<W: Write>(
         let owner = engine
             .owner(object)
             .and_then(|owner| pid_at(entries, owner));
-        let (object, owner) = (ObjectText(object), PidText(owner));
-        writeln!(out, "object {object} of pid {owner}")?;
+        form.object(object, owner, out)?;
     }
     Ok(())
 }
 
-// Prints gifts in their order.
-fn print_gifts<W: Write>(
+// Tells gifts in their order.
+fn tell_gifts<F: Form, W: Write>(
     alloc: Global,
     record: &Record,
     places: &[u32],
+    form: &F,
     out: &mut W,
 ) -> Result<(), Untold>
     requires seats { (1 ≤ «record».now.seats) × («record».now.seats ≤ 16) }
     requires lawful { IsHistory (history_in «record».now) }
 {
     for place in places {
-        print_gift(alloc, record, *place, out)?;
+        let gift = gift_at(alloc, record, *place)?;
+        form.gift(gift, out)?;
     }
     Ok(())
 }
 
-/// Prints how the process with this pid came to its name: the object, and each gift from its owner on. Whether there is
+/// Tells how the process with this pid came to its name: the object, and each gift from its owner on. Whether there is
 /// such a name.
-pub(crate) fn print_chain<W: Write>(
+pub(crate) fn tell_chain<F: Form, W: Write>(
     alloc: Global,
     record: &Record,
     pid: u32,
     number: u32,
+    form: &F,
     out: &mut W,
 ) -> Result<bool, Untold>
     requires seats { (1 ≤ «record».now.seats) × («record».now.seats ≤ 16) }
@@ -151,22 +151,23 @@ pub(crate) fn print_chain<W: Write>(
 {
     match chain_of(alloc, record, pid, number)? {
         Some(places) => {
-            print_object(alloc, record, pid, number, out)?;
-            print_gifts(alloc, record, places.as_slice(), out)?;
+            tell_object(alloc, record, pid, number, form, out)?;
+            tell_gifts(alloc, record, places.as_slice(), form, out)?;
             Ok(true)
         }
         None => {
-            writeln!(out, "no such name")?;
+            form.nothing("no such name", out)?;
             Ok(false)
         }
     }
 }
 
-/// Prints the call that the reading at this place answers, and that reading. Whether there is one.
-pub(crate) fn print_answered<W: Write>(
+/// Tells the call that the reading at this place answers, and that reading. Whether there is one.
+pub(crate) fn tell_answered<F: Form, W: Write>(
     alloc: Global,
     record: &Record,
     place: u32,
+    form: &F,
     out: &mut W,
 ) -> Result<bool, Untold>
     requires seats { (1 ≤ «record».now.seats) × («record».now.seats ≤ 16) }
@@ -175,20 +176,20 @@ pub(crate) fn print_answered<W: Write>(
 {
     match answered_by(alloc, record, place)? {
         Some(call) => {
-            print_entry_at(alloc, record, call, out)?;
-            print_entry_at(alloc, record, place, out)?;
+            show_at(alloc, record, call, form, out)?;
+            show_at(alloc, record, place, form, out)?;
             Ok(true)
         }
         None => {
-            writeln!(out, "no reply")?;
+            form.nothing("no reply", out)?;
             Ok(false)
         }
     }
 }
 
-// A place, or a dash where there is none.
+/// A place, or a dash where there is none.
 #[derive(Drop)]
-struct PlaceText(Option<u32>);
+pub(crate) struct PlaceText(pub(crate) Option<u32>);
 
 impl fmt::Display for PlaceText {
     fn fmt<W: fmt::Write>(&self, f: &mut fmt::Formatter<W>) -> fmt::Result {
@@ -201,7 +202,7 @@ impl fmt::Display for PlaceText {
 
 /// An object by its identity.
 #[derive(Drop)]
-pub(crate) struct ObjectText(pub(crate) ObjectId);
+pub struct ObjectText(pub ObjectId);
 
 impl fmt::Display for ObjectText {
     fn fmt<W: fmt::Write>(&self, f: &mut fmt::Formatter<W>) -> fmt::Result {
@@ -210,11 +211,12 @@ impl fmt::Display for ObjectText {
     }
 }
 
-/// Prints the one-way calls on an object, a line each: where it was made, read, and its buffer ended.
-pub(crate) fn print_turns<W: Write>(
+/// Tells the one-way calls on an object, in their order.
+pub(crate) fn tell_turns<F: Form, W: Write>(
     alloc: Global,
     record: &Record,
     object: ObjectId,
+    form: &F,
     out: &mut W,
 ) -> Result<(), Untold>
     requires seats { (1 ≤ «record».now.seats) × («record».now.seats ≤ 16) }
@@ -222,9 +224,7 @@ pub(crate) fn print_turns<W: Write>(
 {
     let turns = turns_on(alloc, record, object)?;
     for turn in turns.as_slice() {
-        let made = turn.made;
-        let (handed, ended) = (PlaceText(turn.handed), PlaceText(turn.ended));
-        writeln!(out, "made {made} handed {handed} ended {ended}")?;
+        form.turn(turn, out)?;
     }
     Ok(())
 }

@@ -1,5 +1,8 @@
 //! Commands and steps in the words of the header.
 
+ghost use Rattle.std.specs.Prelude.{◌≡◌, bit_and};
+
+use crate::names::{command_name, step_name};
 use bd_space::Step;
 use bd_uapi::{Command, TransactionData, TransactionFlags};
 use bitflags::Flags;
@@ -40,15 +43,21 @@ impl fmt::Display for SizesText<'_> {
     }
 }
 
+/// The handle to which a transaction goes. What stands above the low 32 bits of the target counts for nothing.
+pub fn handle_of(sent: &TransactionData) -> u64
+    ensures { result ≡ bit_and sent.now.target 4294967295 }
+{
+    sent.target & 0xffff_ffff
+}
+
 fn print_transaction<W: fmt::Write>(
     sent: &TransactionData,
     f: &mut fmt::Formatter<W>,
 ) -> fmt::Result {
-    // What stands above the low 32 bits counts for nothing.
-    let handle = sent.target & 0xffff_ffff;
+    let handle = handle_of(sent);
     let cookie = sent.cookie;
     let sizes = SizesText(sent);
-    write!(f, "BC_TRANSACTION handle {handle} cookie {cookie} {sizes}")
+    write!(f, " handle {handle} cookie {cookie} {sizes}")
 }
 
 /// A command by its name, with what it is about.
@@ -57,34 +66,27 @@ pub(crate) struct CommandText<'a>(pub(crate) &'a Command);
 
 impl fmt::Display for CommandText<'_> {
     fn fmt<W: fmt::Write>(&self, f: &mut fmt::Formatter<W>) -> fmt::Result {
+        f.write_str(command_name(self.0))?;
         match self.0 {
             Command::Transaction(sent) => print_transaction(sent, f),
             Command::Reply(sent) => {
                 let sizes = SizesText(sent);
-                write!(f, "BC_REPLY {sizes}")
+                write!(f, " {sizes}")
             }
-            Command::FreeBuffer(buffer) => write!(f, "BC_FREE_BUFFER buffer {buffer}"),
-            Command::Increfs(handle) => write!(f, "BC_INCREFS handle {handle}"),
-            Command::Acquire(handle) => write!(f, "BC_ACQUIRE handle {handle}"),
-            Command::Release(handle) => write!(f, "BC_RELEASE handle {handle}"),
-            Command::Decrefs(handle) => write!(f, "BC_DECREFS handle {handle}"),
-            Command::IncrefsDone(ptr, cookie) => {
-                write!(f, "BC_INCREFS_DONE ptr {ptr} cookie {cookie}")
+            Command::FreeBuffer(buffer) => write!(f, " buffer {buffer}"),
+            Command::Increfs(handle)
+            | Command::Acquire(handle)
+            | Command::Release(handle)
+            | Command::Decrefs(handle) => write!(f, " handle {handle}"),
+            Command::IncrefsDone(ptr, cookie) | Command::AcquireDone(ptr, cookie) => {
+                write!(f, " ptr {ptr} cookie {cookie}")
             }
-            Command::AcquireDone(ptr, cookie) => {
-                write!(f, "BC_ACQUIRE_DONE ptr {ptr} cookie {cookie}")
+            Command::EnterLooper | Command::ExitLooper => Ok(()),
+            Command::RequestDeathNotification(handle, cookie)
+            | Command::ClearDeathNotification(handle, cookie) => {
+                write!(f, " handle {handle} cookie {cookie}")
             }
-            Command::EnterLooper => f.write_str("BC_ENTER_LOOPER"),
-            Command::ExitLooper => f.write_str("BC_EXIT_LOOPER"),
-            Command::RequestDeathNotification(handle, cookie) => write!(
-                f,
-                "BC_REQUEST_DEATH_NOTIFICATION handle {handle} cookie {cookie}"
-            ),
-            Command::ClearDeathNotification(handle, cookie) => write!(
-                f,
-                "BC_CLEAR_DEATH_NOTIFICATION handle {handle} cookie {cookie}"
-            ),
-            Command::DeadBinderDone(cookie) => write!(f, "BC_DEAD_BINDER_DONE cookie {cookie}"),
+            Command::DeadBinderDone(cookie) => write!(f, " cookie {cookie}"),
         }
     }
 }
@@ -95,19 +97,18 @@ pub(crate) struct StepText<'a>(pub(crate) &'a Step);
 
 impl fmt::Display for StepText<'_> {
     fn fmt<W: fmt::Write>(&self, f: &mut fmt::Formatter<W>) -> fmt::Result {
+        let name = step_name(self.0);
         match self.0 {
             Step::Open { pid, euid, window } => {
-                write!(f, "open pid {pid} euid {euid} window {window}")
+                write!(f, "{name} pid {pid} euid {euid} window {window}")
             }
-            Step::Attach { pid } => write!(f, "attach pid {pid}"),
-            Step::SetManager => f.write_str("manager"),
+            Step::Attach { pid } => write!(f, "{name} pid {pid}"),
             Step::Command { command, .. } => {
                 let command = CommandText(command);
                 write!(f, "{command}")
             }
-            Step::Read { limit } => write!(f, "read limit {limit}"),
-            Step::ExitThread => f.write_str("exitthread"),
-            Step::ExitProcess => f.write_str("exitprocess"),
+            Step::Read { limit } => write!(f, "{name} limit {limit}"),
+            Step::SetManager | Step::ExitThread | Step::ExitProcess => f.write_str(name),
         }
     }
 }

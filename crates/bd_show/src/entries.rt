@@ -6,9 +6,9 @@ ghost use Rattle.bd_space.specs.Histories.{IsHistory, history_in};
 use crate::answers::AnswerText;
 use crate::commands::StepText;
 use crate::fault::Untold;
-use crate::pids::{maker_of, pid_of};
+use crate::form::Form;
+use crate::pids::{maker_of, step_made};
 use crate::selection::Selection;
-use bd_audit::advance;
 use bd_engine::Engine;
 use bd_space::{Entry, Record};
 use std::alloc::Global;
@@ -43,12 +43,12 @@ pub(crate) fn print_entry<W: Write>(
     Ok(())
 }
 
-/// Prints a line for each entry of a history that is selected: its place, its seat, the pid of the process that made it,
-/// what it did and what came back. The process is that of the seat's thread before the entry, or else after it.
-pub(crate) fn show<W: Write>(
+/// Tells each entry of a history that is selected.
+pub(crate) fn show<F: Form, W: Write>(
     alloc: Global,
     record: &Record,
     selection: &Selection,
+    form: &F,
     out: &mut W,
 ) -> Result<(), Untold>
     requires seats { (1 ≤ «record».now.seats) × («record».now.seats ≤ 16) }
@@ -58,21 +58,20 @@ pub(crate) fn show<W: Write>(
     let mut engine = Engine::new(alloc, record.seats)?;
     for entry in entries {
         let place = engine.len();
-        let before = pid_of(&engine, entries, entry.seat);
-        advance(&mut engine, entry)?;
-        let pid = before.or(pid_of(&engine, entries, entry.seat));
+        let pid = step_made(&mut engine, entries, entry)?;
         if selection.shows(place, entry.seat, pid) {
-            print_entry(place, entry, pid, out)?;
+            form.entry(place, entry, pid, out)?;
         }
     }
     Ok(())
 }
 
-/// Prints the line of the entry at a place.
-pub(crate) fn print_entry_at<W: Write>(
+/// Tells the entry at a place.
+pub(crate) fn show_at<F: Form, W: Write>(
     alloc: Global,
     record: &Record,
     place: u32,
+    form: &F,
     out: &mut W,
 ) -> Result<(), Untold>
     requires seats { (1 ≤ «record».now.seats) × («record».now.seats ≤ 16) }
@@ -80,7 +79,7 @@ pub(crate) fn print_entry_at<W: Write>(
 {
     let pid = maker_of(alloc, record, place)?;
     match record.entries.as_slice().get(place as usize) {
-        Some(entry) => print_entry(place, entry, pid, out),
+        Some(entry) => form.entry(place, entry, pid, out),
         None => Err(Untold::OutOfRange),
     }
 }

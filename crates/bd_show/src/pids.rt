@@ -1,11 +1,12 @@
 //! The pids of processes that are known by the places where they were opened.
 
 ghost use Rattle.std.specs.Prelude.{◌≡◌, ◌≤◌, IfOk};
+ghost use Rattle.bd_audit.specs.Replays.{with_entry};
 ghost use Rattle.bd_space.specs.Histories.{IsHistory, history_in, space_after};
 ghost use Rattle.bd_show.specs.Pids as spec;
 
 use crate::fault::Untold;
-use bd_audit::played_to;
+use bd_audit::{advance, played_to};
 use bd_engine::Engine;
 use bd_space::{Entry, Record, Step};
 use std::alloc::Global;
@@ -25,6 +26,21 @@ pub fn pid_of(engine: &Engine, entries: &[Entry], seat: u32) -> Option<u32>
     ensures { result ≡ spec.pid_of (space_after engine.now) entries.now seat }
 {
     pid_at(entries, engine.process_of(seat)?)
+}
+
+/// Makes the step of an entry. The pid of the process that made it: that of the seat's thread before it, or else after it.
+pub(crate) fn step_made(
+    engine: &mut Engine,
+    entries: &[Entry],
+    entry: &Entry,
+) -> Result<Option<u32>, Untold>
+    requires { IsHistory (with_entry engine.old entry.now) }
+    ensures engine { IfOk result (λ _. engine.new ≡ with_entry engine.old entry.now) }
+    ensures pid { IfOk result (λ pid. pid ≡ spec.pid_in engine.old entries.now entry.now) }
+{
+    let before = pid_of(engine, entries, entry.seat);
+    advance(engine, entry)?;
+    Ok(before.or(pid_of(engine, entries, entry.seat)))
 }
 
 /// The pid of the process that makes the step at a place.

@@ -4,11 +4,11 @@ ghost use Rattle.std.specs.Prelude.{◌≤◌, IfOk};
 ghost use Rattle.bd_space.specs.Histories.{IsHistory, history_in};
 ghost use Rattle.bd_show.specs.Answered.{IsThere};
 
-use crate::certificates::{print_answered, print_chain, print_turns};
+use crate::certificates::{tell_answered, tell_chain, tell_turns};
 use crate::entries::show;
 use crate::fault::Untold;
+use crate::form::Form;
 use crate::selection::Selection;
-use crate::state::print_state;
 use bd_space::{ObjectId, Record};
 use std::alloc::Global;
 use std::io::Write;
@@ -44,14 +44,15 @@ fn is_within(question: Question, record: &Record) -> bool {
     }
 }
 
-/// Prints what is asked of a history. Whether there is what was asked for.
+/// Tells what is asked of a history. Whether there is what was asked for.
 ///
 /// # Errors
 /// `OutOfRange` where the question names a seat or a place that the history doesn't have; nothing is printed then.
-pub fn answer<W: Write>(
+pub fn answer<F: Form, W: Write>(
     alloc: Global,
     record: &Record,
     question: Question,
+    form: &F,
     out: &mut W,
 ) -> Result<bool, Untold>
     requires seats { (1 ≤ «record».now.seats) × («record».now.seats ≤ 16) }
@@ -63,17 +64,17 @@ pub fn answer<W: Write>(
     }
     match question {
         Question::Entries(selection) => {
-            show(alloc, record, &selection, out)?;
+            show(alloc, record, &selection, form, out)?;
             Ok(true)
         }
-        Question::Chain { pid, handle } => print_chain(alloc, record, pid, handle, out),
-        Question::CallOfReply { place } => print_answered(alloc, record, place, out),
+        Question::Chain { pid, handle } => tell_chain(alloc, record, pid, handle, form, out),
+        Question::CallOfReply { place } => tell_answered(alloc, record, place, form, out),
         Question::Turns { object } => {
-            print_turns(alloc, record, object, out)?;
+            tell_turns(alloc, record, object, form, out)?;
             Ok(true)
         }
         Question::State { at } => {
-            print_state(alloc, record, at, out)?;
+            form.state(alloc, record, at, out)?;
             Ok(true)
         }
     }

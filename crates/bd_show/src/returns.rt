@@ -1,6 +1,7 @@
 //! Returns in the words of the header.
 
 use crate::commands::SizesText;
+use crate::names::return_name;
 use bd_codec::read_return;
 use bd_uapi::{Return, TransactionData};
 use std::fmt;
@@ -20,15 +21,7 @@ fn print_received<W: fmt::Write>(
 
 fn print_call<W: fmt::Write>(received: &TransactionData, f: &mut fmt::Formatter<W>) -> fmt::Result {
     let (ptr, cookie) = (received.target, received.cookie);
-    write!(f, "BR_TRANSACTION ptr {ptr} cookie {cookie}")?;
-    print_received(received, f)
-}
-
-fn print_reply<W: fmt::Write>(
-    received: &TransactionData,
-    f: &mut fmt::Formatter<W>,
-) -> fmt::Result {
-    f.write_str("BR_REPLY")?;
+    write!(f, " ptr {ptr} cookie {cookie}")?;
     print_received(received, f)
 }
 
@@ -38,21 +31,19 @@ pub(crate) struct ReturnText<'a>(pub(crate) &'a Return);
 
 impl fmt::Display for ReturnText<'_> {
     fn fmt<W: fmt::Write>(&self, f: &mut fmt::Formatter<W>) -> fmt::Result {
+        f.write_str(return_name(self.0))?;
         match self.0 {
             Return::Transaction(received) => print_call(received, f),
-            Return::Reply(received) => print_reply(received, f),
-            Return::DeadReply => f.write_str("BR_DEAD_REPLY"),
-            Return::TransactionComplete => f.write_str("BR_TRANSACTION_COMPLETE"),
-            Return::Increfs(ptr, cookie) => write!(f, "BR_INCREFS ptr {ptr} cookie {cookie}"),
-            Return::Acquire(ptr, cookie) => write!(f, "BR_ACQUIRE ptr {ptr} cookie {cookie}"),
-            Return::Release(ptr, cookie) => write!(f, "BR_RELEASE ptr {ptr} cookie {cookie}"),
-            Return::Decrefs(ptr, cookie) => write!(f, "BR_DECREFS ptr {ptr} cookie {cookie}"),
-            Return::Noop => f.write_str("BR_NOOP"),
-            Return::DeadBinder(cookie) => write!(f, "BR_DEAD_BINDER cookie {cookie}"),
-            Return::ClearDeathNotificationDone(cookie) => {
-                write!(f, "BR_CLEAR_DEATH_NOTIFICATION_DONE cookie {cookie}")
+            Return::Reply(received) => print_received(received, f),
+            Return::Increfs(ptr, cookie)
+            | Return::Acquire(ptr, cookie)
+            | Return::Release(ptr, cookie)
+            | Return::Decrefs(ptr, cookie) => write!(f, " ptr {ptr} cookie {cookie}"),
+            Return::DeadBinder(cookie) | Return::ClearDeathNotificationDone(cookie) => {
+                write!(f, " cookie {cookie}")
             }
-            Return::FailedReply => f.write_str("BR_FAILED_REPLY"),
+            Return::DeadReply | Return::TransactionComplete | Return::Noop | Return::FailedReply =>
+                Ok(()),
         }
     }
 }

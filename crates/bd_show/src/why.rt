@@ -5,10 +5,11 @@ ghost use Rattle.bd_space.specs.Histories.{IsHistory, history_in};
 ghost use Rattle.bd_audit.specs.Replays.{StopsAt};
 
 use crate::answers::AnswerText;
-use crate::entries::{print_entry, print_entry_at};
+use crate::entries::{print_entry, show_at};
 use crate::fault::Untold;
 use crate::pids::pid_of;
 use crate::reasons::{Looked, Reason};
+use crate::text::Text;
 use bd_audit::{Given, given_at, played_before};
 use bd_space::{Entry, Record, Step, StepAnswer};
 use bd_uapi::Command;
@@ -94,7 +95,7 @@ pub fn explain_entry<W: Write>(
     requires seats { (1 ≤ «record».now.seats) × («record».now.seats ≤ 16) }
     requires lawful { IsHistory (history_in «record».now) }
 {
-    print_entry_at(alloc, record, place, out)?;
+    show_at(alloc, record, place, &Text, out)?;
     match record.entries.as_slice().get(place as usize) {
         Some(entry) => print_grounds(&entry.step, &entry.answer, out),
         None => Err(Untold::OutOfRange),

@@ -1,10 +1,11 @@
-use Rattle.std.proofs.Common.{◌∙◌, sym, ap, subst, arith}
+use Rattle.std.proofs.Common.{◌∙◌, refl, sym, ap, subst, arith}
 use Rattle.std.proofs.lemmas.Result.{err_from_is_err_and}
 use Rattle.bd_space.specs.Histories.{History, history_in}
 use Rattle.bd_audit.specs.TurnSearch.{turns_on}
 use Rattle.bd_audit.specs.TurnCalls.{AreTurns}
 use Rattle.bd_audit.proofs.Beginnings.{all-played, next-beginning, next-lawful}
 use Rattle.bd_audit.proofs.TurnLists.{turns-noted, turns-none}
+use Rattle.bd_audit.proofs.TurnMarks.{in-turn}
 use Rattle.bd_audit.proofs.TurnCalls.{turns-are}
 use Rattle.bd_audit.proofs.turns.oneway_turns.Goals as goal
 
@@ -12,6 +13,7 @@ pub loop-entry-init : goal.loop-entry-init
 loop-entry-init c = record {
   engine = c.in-Ok.ensures.ok;
   turns = c.new-turns.ensures.items ∙ sym (ap (λ (h : History). turns_on c.args.object h) c.in-Ok.ensures.ok ∙ turns-none c.args.object c.args.record.now.seats);
+  ended = refl;
 }
 
 pub advance-requires : goal.advance-requires
@@ -20,12 +22,18 @@ advance-requires c = record {
       c.loop-entry.invariant.engine c.as_slice-entry-items.ensures c.loop-entry-test.true c.entry-item.is;
 }
 
+pub note-requires : goal.note-requires
+note-requires c =
+    in-turn c.args.object c.loop-entry.engine c.advance.new.engine c.entry-item.result c.len-place.result c.loop-entry.list.ended c.loop-entry.list.turns.items
+    c.in_ok-advance.ensures.ok c.len-place.ensures c.loop-entry.invariant.turns c.loop-entry.invariant.ended
+
 pub loop-entry-preserved : goal.loop-entry-preserved
 loop-entry-preserved c = record {
   engine = next-beginning (history_in c.args.record.now) c.loop-entry.engine c.advance.new.engine c.loop-entry.entry-index c.entry-item.result c.as_slice-entry-items.result.now
       c.loop-entry.invariant.engine c.as_slice-entry-items.ensures c.loop-entry-test.true c.entry-item.is c.in_ok-advance.ensures.ok;
-  turns = turns-noted c.args.object c.loop-entry.engine c.advance.new.engine c.entry-item.result c.len-place.result c.loop-entry.turns.items c.note.new.turns.items
+  turns = turns-noted c.args.object c.loop-entry.engine c.advance.new.engine c.entry-item.result c.len-place.result c.loop-entry.list.turns.items c.note.new.list.turns.items
       c.in_ok-advance.ensures.ok c.len-place.ensures c.loop-entry.invariant.turns c.in_ok-note.ensures.ok;
+  ended = c.in_ok-note.ensures.ended;
 }
 
 pub returns : goal.returns

@@ -6,6 +6,7 @@ use Rattle.bd_frames.specs.Places.{IsWithin, RiseIf}
 use Rattle.bd_frames.proofs.Places.{rising-changed}
 use Rattle.bd_frames.proofs.InOrder.{older-changed}
 use Rattle.bd_frames.proofs.Counting.{children-changed}
+use Rattle.bd_frames.proofs.Stacking.{loses}
 use Rattle.bd_frames.proofs.table.FrameTable.lose.Goals as goal
 
 pub returns-clause-stands : goal.returns-clause-stands
@@ -20,4 +21,5 @@ returns-clause-stands c = λ l h.
       rises = λ e. rising-changed q f (λ x. refl) 0 l (h.rises e);
       older = λ e. older-changed q f (λ x. (refl, refl)) l (h.older e);
       children_are = children-changed c.args.self.now.children l h.children_are q f (λ x. refl);
+      stacks_are = λ w. loses c.args.self.now.stacks _ l q (h.stacks_are (sym c.forget_unread.ensures.whole ∙ w)) c.forget_unread.ensures.below c.forget_unread.ensures.tops;
     }

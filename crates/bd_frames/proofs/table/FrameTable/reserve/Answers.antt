@@ -7,4 +7,5 @@ returns-clause-stands c = λ l h. record {
   rises = h.rises;
   older = h.older;
   children_are = λ m. c.reserve-2.ensures.entries.2 m ∙ h.children_are m;
+  stacks_are = c.reserve-3.ensures.stands l h.stacks_are;
 }

@@ -2,7 +2,8 @@ use Rattle.std.proofs.Common.{ap, refl, sym, subst, ◌∙◌}
 use Rattle.bd_space.specs.Words.{changed}
 use Rattle.bd_space.specs.Frames.{is_frame}
 use Rattle.bd_space.specs.ReadItems.{serve}
-use Rattle.bd_frames.specs.Places.{IsWithin, RiseIf}
+use Rattle.bd_frames.specs.Places.{IsWithin, IsNewestAt, RiseIf}
+use Rattle.bd_frames.specs.Linked.{StacksAre}
 use Rattle.bd_frames.proofs.Places.{rising-changed}
 use Rattle.bd_frames.proofs.InOrder.{older-changed}
 use Rattle.bd_frames.proofs.Counting.{children-changed}
@@ -15,9 +16,13 @@ returns-clause-stands c = λ l h.
     let at = c.range_of-range.result in
     let rises = subst (λ xs. RiseIf c.args.self.now.rising xs) (sym h.items_are) h.rises in
     record {
-      items_are = c.serve_in.ensures.items (subst (λ xs. RiseIf c.args.self.now.rising xs → IsWithin q at.start at.end xs) c.deref.ensures.value c.range_of-range.ensures.within rises)
+      items_are = c.serve_in.ensures.items (subst (λ xs. RiseIf c.args.self.now.rising xs → IsWithin q at.start at.end xs) c.deref-3.ensures.value c.range_of-range.ensures.within rises)
           ∙ ap (changed q f) h.items_are;
       rises = λ e. rising-changed q f (λ x. refl) 0 l (h.rises e);
       older = λ e. older-changed q f (λ x. (refl, refl)) l (h.older e);
       children_are = children-changed c.args.self.now.children l h.children_are q f (λ x. refl);
+      stacks_are = subst (λ xs. StacksAre c.hand_out.new.self (changed q f xs)) (c.deref-2.ensures.value ∙ h.items_are)
+          (c.hand_out.ensures.stands (subst (λ xs. StacksAre c.args.self.now.stacks xs) (sym (c.deref-2.ensures.value ∙ h.items_are)) h.stacks_are)
+          (subst (λ xs. IsNewestAt c.args.made c.newest_at-at.result xs) (c.deref.ensures.value ∙ sym c.deref-2.ensures.value)
+          (c.newest_at-at.ensures.newest (subst (λ xs. RiseIf c.args.self.now.rising xs) (sym (c.deref.ensures.value ∙ h.items_are)) h.rises))));
     }

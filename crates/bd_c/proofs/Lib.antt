@@ -1,0 +1,3 @@
+pub mod Behind
+mod HandleSteps
+mod Values

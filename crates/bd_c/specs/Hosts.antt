@@ -1,0 +1,53 @@
+-- What is behind a driver's handle, and what becomes of it.
+use Rattle.std.specs.Prelude.{◌≡◌, ℕ, ◌<◌, ◌≤◌, nat_lt, Bool, List, [], ◌∷◌, ◌++◌, length, Option, Some, None, vec_len, vec_capacity}
+use Rattle.std.specs.Arc.{arc_value}
+use Rattle.bd_uapi.specs.declared.fault.Fault.{Fault}
+use Rattle.bd_uapi.specs.declared.fault.Fault.TheVariants as fault
+use Rattle.bd_space.specs.declared.record.Record.{Record}
+use Rattle.bd_driver.specs.Together.{AllSeats, IsFinal, new_seats}
+use Rattle.bd_c.specs.declared.host.Host.{Host}
+use Rattle.bd_c.specs.declared.seat.OwnedSeat.{OwnedSeat}
+use Rattle.bd_c.specs.declared.status.Status.{Status}
+use Rattle.bd_c.specs.declared.status.Status.TheVariants.{NoMemory, SeatCount, NoSeat}
+
+-- a new driver with so many seats, all of them there, which have seen nothing yet
+pub record Opens (count : ℕ) (h : Host) : Type 0 where
+  pub within : (1 ≤ count) × (count ≤ 16)
+  pub count_is : h.count ≡ count
+  pub driver : (arc_value h.driver).seats ≡ count
+  pub seats : h.seats.items ≡ new_seats (arc_value h.driver).table count 0 count
+
+abbrev pub refusal_of : Fault → Status
+refusal_of fault.SeatCount = SeatCount
+refusal_of _ = NoMemory
+
+-- the number is out of its limits, or there was no memory
+abbrev pub IsRefusal : ℕ → Status → Type 0
+IsRefusal count SeatCount = 1 ≤ count → 16 < count
+IsRefusal count NoMemory = (1 ≤ count) × (count ≤ 16)
+IsRefusal count _ = ⊥
+
+-- it is the same driver
+abbrev pub SameDriver : Host → Host → Type 0
+SameDriver h k = (k.driver ≡ h.driver) × (k.count ≡ h.count)
+
+-- the first seat that was there is handed out, with its driver
+abbrev pub Hands : Host → Host → OwnedSeat → Type 0
+Hands h k seat = SameDriver h k × (h.seats.items ≡ seat.seat ∷ k.seats.items) × (arc_value seat.driver ≡ arc_value h.driver) × (seat.latest ≡ None)
+
+-- nothing is: none was there, or there was no memory
+abbrev pub Keeps : Host → Host → Status → Type 0
+Keeps h k NoSeat = (k ≡ h) × (h.seats.items ≡ [])
+Keeps h k NoMemory = k ≡ h
+Keeps h k _ = ⊥
+
+abbrev pub has_room : Host → Bool
+has_room h = nat_lt (vec_len h.seats) (vec_capacity h.seats)
+
+-- a seat is there again
+abbrev pub TakesBack : Host → Host → OwnedSeat → Type 0
+TakesBack h k seat = SameDriver h k × (k.seats.items ≡ h.seats.items ++ seat.seat ∷ [])
+
+-- the record is that of the whole history
+abbrev pub Ends : Host → Record → Type 0
+Ends h r = (vec_len h.seats ≡ h.count) × (AllSeats (arc_value h.driver).seats h.seats.items → IsFinal (arc_value h.driver).seats h.seats.items r.seats r.entries)

@@ -1,0 +1,11 @@
+pub mod Owned
+pub mod Status
+pub mod Told
+pub mod Seats
+pub mod Parts
+pub mod Hosts
+pub mod Drivers
+pub mod Journals
+pub mod Requests
+pub mod Pages
+pub mod Serving

@@ -1,0 +1,17 @@
+-- What a handle owns: nothing, or the box that its pointer leads to.
+use base.Fml.{Fml, ftrue}
+use mir.Syntax.{Ty}
+use denote.RawPtr.{Ptr}
+use Rattle.std.specs.Prelude.{Option, Some, None}
+use Rattle.std.specs.contracts.impls.GlobalAllocator.TheImpl.{ghosts}
+use Rattle.std_alloc.specs.Box.Ownership.{box_owns}
+use Rattle.bd_c.specs.declared.held.Held.{Held}
+use Rattle.bd_c.specs.contracts.held.Held.{the_row as held_row}
+
+-- the right to free a block of the heap, as the allocator has it
+abbrev pub chunk : Ty → Ptr → Fml
+chunk type p = ghosts.dealloc_token (record { memory = record { seal = tt } }) type p
+
+unfoldable pub owned : Option Held → Ptr → Fml
+owned None p = ftrue
+owned (Some x) p = box_owns chunk held_row p x

@@ -1,0 +1,83 @@
+-- What a call with a seat's handle does, by the driver's call of that name.
+use Rattle.std.specs.Prelude.{◌≡◌, ℕ, Bool, true, false, List, Option, Some, None}
+use Rattle.std.specs.Arc.{arc_value}
+use Rattle.bd_space.specs.declared.step.Request.{Request}
+use Rattle.bd_space.specs.declared.step.Request.TheVariants.{Write}
+use Rattle.bd_driver.specs.Rest.{is_waiting}
+use Rattle.bd_driver.specs.Driver as driver
+use Rattle.bd_driver.specs.Handing as handing
+use Rattle.bd_driver.specs.Served as served
+use Rattle.bd_driver.specs.declared.outcome.Outcome.{Outcome}
+use Rattle.bd_driver.specs.declared.outcome.Served.{Served}
+use Rattle.bd_driver.specs.declared.page.Page.{Page}
+use Rattle.bd_c.specs.Told.{told_of}
+use Rattle.bd_c.specs.declared.answers.Told.{Told}
+use Rattle.bd_c.specs.declared.seat.OwnedSeat.{OwnedSeat}
+use Rattle.bd_c.specs.declared.held.Held.{Held}
+use Rattle.bd_c.specs.declared.held.Held.TheVariants as held
+use Rattle.bd_c.specs.declared.status.Status.{Status}
+use Rattle.bd_c.specs.declared.status.Status.TheVariants.{Done, NoMemory, Waiting, NotWaiting}
+
+-- it is a seat of the same driver
+abbrev pub Stays : OwnedSeat → OwnedSeat → Type 0
+Stays x y = (y.driver ≡ x.driver) × (y.seat.table ≡ x.seat.table)
+
+-- nothing was done
+abbrev pub Nothing : OwnedSeat → OwnedSeat → Told → Told → Type 0
+Nothing x y a b = (y ≡ x) × (b ≡ a)
+
+-- the outcome is kept, and told
+abbrev pub Keeps : OwnedSeat → Outcome → Told → Type 0
+Keeps y o b = (y.latest ≡ Some o) × (b ≡ told_of o)
+
+abbrev pub IsWaiting : OwnedSeat → Bool → Type 0
+IsWaiting x waits = is_waiting x.seat.view.handover ≡ waits
+
+-- only a write has bytes that are copied
+abbrev pub HasBytes : Request → Type 0
+HasBytes (Write stream area) = Unit {0}
+HasBytes _ = ⊥
+
+-- The request was made by a call of the driver, whose outcome is kept and told. Or nothing was done: a request was
+-- handed over, or there was no memory for a copy of the bytes.
+abbrev pub Asks : OwnedSeat → OwnedSeat → Request → Status → Told → Told → Type 0
+Asks x y request Done a b = (o : Outcome) × Keeps y o b × driver.Calls x.seat.view y.seat.view request o
+Asks x y request Waiting a b = IsWaiting x true × Nothing x y a b
+Asks x y request NoMemory a b = HasBytes request × Nothing x y a b
+Asks x y request _ a b = ⊥
+
+abbrev pub Looks : OwnedSeat → OwnedSeat → Page → Type 0
+Looks x y page = (y.latest ≡ x.latest) × driver.LooksOnce x.seat.view y.seat.view page
+
+abbrev pub Posts : OwnedSeat → OwnedSeat → Request → Status → Type 0
+Posts x y request Done = (y.latest ≡ x.latest) × handing.Posts x.seat.view y.seat.view request
+Posts x y request Waiting = IsWaiting x true × (y ≡ x)
+Posts x y request NoMemory = HasBytes request × (y ≡ x)
+Posts x y request _ = ⊥
+
+abbrev pub Serves : OwnedSeat → OwnedSeat → Served → Type 0
+Serves x y told = (y.latest ≡ x.latest) × served.Serves (arc_value x.driver).seats x.seat.view y.seat.view told
+
+abbrev pub Collects : OwnedSeat → OwnedSeat → Status → Told → Told → Type 0
+Collects x y Done a b = (o : Outcome) × Keeps y o b × handing.Collects x.seat.view y.seat.view o
+Collects x y NotWaiting a b = IsWaiting x false × Nothing x y a b
+Collects x y _ a b = ⊥
+
+abbrev pub Withdraws : OwnedSeat → OwnedSeat → Status → Told → Told → Type 0
+Withdraws x y Done a b = (o : Outcome) × Keeps y o b × handing.Withdraws x.seat.view y.seat.view o
+Withdraws x y NotWaiting a b = IsWaiting x false × Nothing x y a b
+Withdraws x y _ a b = ⊥
+
+-- a seat is behind the handle
+abbrev pub IsSeat : Option Held → Type 0
+IsSeat (Some (held.Seat x)) = Unit {0}
+IsSeat _ = ⊥
+
+-- of the seat behind the handle this is so
+abbrev pub OfSeat : Option Held → (OwnedSeat → Type 0) → Type 0
+OfSeat (Some (held.Seat x)) P = P x
+OfSeat _ P = ⊥
+
+-- of the seat behind the handle before and after, which is one of the same driver, this is so
+abbrev pub OverSeat : Option Held → Option Held → (OwnedSeat → OwnedSeat → Type 0) → Type 0
+OverSeat h k P = OfSeat h (λ x. OfSeat k (λ y. Stays x y × P x y))

@@ -1,0 +1,20 @@
+-- The numbers of what came of a call.
+use Rattle.std.specs.Prelude.{◌≡◌, ℕ}
+use Rattle.bd_c.specs.declared.status.Status.{Status}
+use Rattle.bd_c.specs.declared.status.Status.TheVariants.{Done, NoMemory, Waiting, NotWaiting, Taken, NoSuchRequest, SeatCount, NoSeat, SeatsAway, NoJournal}
+
+abbrev pub number_of : Status → ℕ
+number_of Done = 0
+number_of NoMemory = 1
+number_of Waiting = 2
+number_of NotWaiting = 3
+number_of Taken = 4
+number_of NoSuchRequest = 5
+number_of SeatCount = 6
+number_of NoSeat = 7
+number_of SeatsAway = 8
+number_of NoJournal = 9
+
+-- the number is that of a status of which this is so
+abbrev pub Reports : ℕ → (Status → Type 0) → Type 0
+Reports n P = (s : Status) × (n ≡ number_of s) × P s

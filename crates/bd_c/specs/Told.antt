@@ -1,0 +1,48 @@
+-- What C is told of an outcome.
+use Rattle.std.specs.Prelude.{◌≡◌, ℕ, ◌==◌, List, [], ◌∷◌, length, Option, Some, None, if◌then◌else◌}
+use Rattle.bd_uapi.specs.declared.fault.Note.{Note}
+use Rattle.bd_space.specs.declared.step.Answer.{Answer}
+use Rattle.bd_space.specs.declared.step.Answer.TheVariants.{Opened, Set, Exited, Wrote, Got, Refused}
+use Rattle.bd_space.specs.declared.step.Stop.{Stop}
+use Rattle.bd_space.specs.declared.step.Stop.TheVariants as stop
+use Rattle.bd_driver.specs.declared.outcome.Outcome.{Outcome}
+use Rattle.bd_driver.specs.declared.outcome.Outcome.TheVariants.{Done, Back, Handed}
+use Rattle.bd_driver.specs.declared.outcome.Why.{Why}
+use Rattle.bd_driver.specs.declared.outcome.Why.TheVariants.{Taken, NoMemory, HistoryFull, Withdrawn}
+use Rattle.bd_journal.specs.Codes.{note_number, cause_number, fault_number}
+use Rattle.bd_c.specs.declared.answers.Told.{Told}
+
+abbrev pub stop_kind : Option Stop → ℕ
+stop_kind None = 0
+stop_kind (Some (stop.Fault fault)) = 1
+stop_kind (Some (stop.Cause cause)) = 2
+
+abbrev pub stop_number : Option Stop → ℕ
+stop_number None = 0
+stop_number (Some (stop.Fault fault)) = fault_number fault
+stop_number (Some (stop.Cause cause)) = cause_number cause
+
+abbrev pub why_number : Why → ℕ
+why_number Taken = 1
+why_number NoMemory = 2
+why_number HistoryFull = 3
+why_number Withdrawn = 4
+
+abbrev pub nothing_of : ℕ → Told
+nothing_of kind = record { kind = kind; from = 0; to = 0; consumed = 0; notes = 0; stop = 0; number = 0; why = 0; stream = 0; bytes = 0; offsets = 0 }
+
+abbrev pub placed : ℕ → ℕ → ℕ → Told
+placed kind start end = record (nothing_of kind) { from = start; to = end }
+
+abbrev pub done_of : Answer → ℕ → ℕ → Told
+done_of Opened start end = placed 1 start end
+done_of Set start end = placed 2 start end
+done_of Exited start end = placed 3 start end
+done_of (Wrote consumed notes stop) start end = record (placed 4 start end) { consumed = consumed; notes = length notes; stop = stop_kind stop; number = stop_number stop }
+done_of (Got stream bytes offsets) start end = record (placed 5 start end) { stream = length stream; bytes = length bytes; offsets = length offsets }
+done_of (Refused fault) start end = record (placed 6 start end) { number = fault_number fault }
+
+abbrev pub told_of : Outcome → Told
+told_of Handed = nothing_of 0
+told_of (Done answer start end) = done_of answer start end
+told_of (Back request why) = record (nothing_of 7) { why = why_number why }

@@ -1,0 +1,124 @@
+//! What C is told of an answer: its numbers, and how many bytes and notes there are to be fetched.
+use crate::numbers::{stop_kind, stop_number, why_number};
+use bd_driver::Outcome;
+use bd_journal::fault_number;
+use bd_space::Answer;
+
+/// What a request came to, without its bytes and its notes. What a field doesn't apply to has 0 there.
+#[repr(C)]
+#[derive(Clone, Copy, Debug, PartialEq, Eq)]
+pub struct Told {
+    /// 0 still handed over, 1 opened, 2 set, 3 exited, 4 wrote, 5 got, 6 refused, 7 back.
+    pub kind: u32,
+    /// The place of the first of its steps.
+    pub from: u32,
+    /// The place behind the last of its steps.
+    pub to: u32,
+    /// Of a write, how many bytes of the stream were run.
+    pub consumed: u32,
+    /// Of a write, how many notes there are.
+    pub notes: usize,
+    /// Of a write, why it stopped: 0 at the end of the stream, 1 at a fault, 2 at a cause.
+    pub stop: u32,
+    /// The number of that fault or cause, or of the fault by which the request was refused.
+    pub number: u32,
+    /// Of one that comes back: 1 taken, 2 no memory, 3 history full, 4 withdrawn.
+    pub why: u32,
+    /// Of a read, how many bytes of returns there are.
+    pub stream: usize,
+    /// How many bytes of data.
+    pub bytes: usize,
+    /// How many bytes of offsets.
+    pub offsets: usize,
+}
+
+impl Told {
+    ghost use Rattle.std.specs.Prelude.{◌≡◌};
+    ghost use Rattle.bd_c.specs.Told.{told_of, nothing_of, done_of};
+
+    fn nothing(kind: u32) -> Told
+        ensures { result ≡ nothing_of kind }
+    {
+        Told {
+            kind,
+            from: 0,
+            to: 0,
+            consumed: 0,
+            notes: 0,
+            stop: 0,
+            number: 0,
+            why: 0,
+            stream: 0,
+            bytes: 0,
+            offsets: 0,
+        }
+    }
+
+    // What was run.
+    fn done(answer: &Answer, from: u32, to: u32) -> Told
+        ensures { result ≡ done_of answer.now from to }
+    {
+        match answer {
+            Answer::Opened => Told {
+                from,
+                to,
+                ..Told::nothing(1)
+            },
+            Answer::Set => Told {
+                from,
+                to,
+                ..Told::nothing(2)
+            },
+            Answer::Exited => Told {
+                from,
+                to,
+                ..Told::nothing(3)
+            },
+            Answer::Wrote {
+                consumed,
+                notes,
+                stop,
+            } => Told {
+                from,
+                to,
+                consumed: *consumed,
+                notes: notes.as_slice().len(),
+                stop: stop_kind(stop),
+                number: stop_number(stop),
+                ..Told::nothing(4)
+            },
+            Answer::Got {
+                stream,
+                bytes,
+                offsets,
+            } => Told {
+                from,
+                to,
+                stream: stream.len(),
+                bytes: bytes.len(),
+                offsets: offsets.len(),
+                ..Told::nothing(5)
+            },
+            Answer::Refused(fault) => Told {
+                from,
+                to,
+                number: fault_number(*fault) as u32,
+                ..Told::nothing(6)
+            },
+        }
+    }
+
+    /// What an outcome is told as.
+    pub(crate) fn of(outcome: &Outcome) -> Told
+        ensures { result ≡ told_of outcome.now }
+    {
+        match outcome {
+            Outcome::Handed => Told::nothing(0),
+            Outcome::Done { answer, from, to } => Told::done(answer, *from, *to),
+            Outcome::Back { request: _, why } => Told {
+                why: why_number(*why),
+                ..Told::nothing(7)
+            },
+        }
+    }
+}

@@ -1,0 +1,88 @@
+//! The calls of a seat, whose answers it keeps.
+ghost use Rattle.std.specs.Prelude.{◌≡◌, Some};
+ghost use Rattle.bd_c.specs.Told.{told_of};
+ghost use Rattle.bd_c.specs.Seats.{Stays, Asks, Looks, Posts, Serves, Collects, Withdraws};
+
+use crate::answers::Told;
+use crate::seat::OwnedSeat;
+use crate::status::Status;
+use bd_driver::{Outcome, Page, Served};
+use bd_space::Request;
+
+impl OwnedSeat {
+    // Keeps what a call came to, and tells it.
+    fn keep(&mut self, outcome: Outcome, told: &mut Told)
+        ensures kept { self.new ≡ record self.old { latest = Some outcome } }
+        ensures told { told.new ≡ told_of outcome }
+    {
+        *told = Told::of(&outcome);
+        self.latest = Some(outcome);
+    }
+
+    /// The driver's call of a request, whose outcome is kept and told. Nothing is done while a request is handed over.
+    pub(crate) fn call(&mut self, request: Request, told: &mut Told) -> Status
+        ensures stays { Stays self.old self.new }
+        ensures asks { Asks self.old self.new request result told.old told.new }
+    {
+        if self.seat.is_waiting() {
+            return Status::Waiting;
+        }
+        let outcome = self.driver.call(&mut self.seat, request);
+        self.keep(outcome, told);
+        Status::Done
+    }
+
+    /// The driver's look.
+    pub(crate) fn look(&mut self) -> Page
+        ensures stays { Stays self.old self.new }
+        ensures looks { Looks self.old self.new result }
+    {
+        self.driver.look(&mut self.seat)
+    }
+
+    /// The driver's post.
+    pub(crate) fn post(&mut self, request: Request) -> Status
+        ensures stays { Stays self.old self.new }
+        ensures posts { Posts self.old self.new request result }
+    {
+        if self.seat.is_waiting() {
+            return Status::Waiting;
+        }
+        self.driver.post(&mut self.seat, request);
+        Status::Done
+    }
+
+    /// The driver's serve.
+    pub(crate) fn serve(&mut self) -> Served
+        ensures stays { Stays self.old self.new }
+        ensures serves { Serves self.old self.new result }
+    {
+        self.driver.serve(&mut self.seat)
+    }
+
+    /// The driver's collect, whose outcome is kept and told.
+    pub(crate) fn collect(&mut self, told: &mut Told) -> Status
+        ensures stays { Stays self.old self.new }
+        ensures collects { Collects self.old self.new result told.old told.new }
+    {
+        if !self.seat.is_waiting() {
+            return Status::NotWaiting;
+        }
+        let outcome = self.driver.collect(&mut self.seat);
+        self.keep(outcome, told);
+        Status::Done
+    }
+
+    /// The driver's withdraw, whose outcome is kept and told.
+    pub(crate) fn withdraw(&mut self, told: &mut Told) -> Status
+        ensures stays { Stays self.old self.new }
+        ensures withdraws { Withdraws self.old self.new result told.old told.new }
+    {
+        if !self.seat.is_waiting() {
+            return Status::NotWaiting;
+        }
+        let outcome = self.driver.withdraw(&mut self.seat);
+        self.keep(outcome, told);
+        Status::Done
+    }
+}

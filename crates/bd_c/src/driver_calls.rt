@@ -1,0 +1,141 @@
+//! What C calls of a driver.
+ghost use Rattle.std.specs.Prelude.{◌≡◌, Some, None};
+ghost use Rattle.bd_c.specs.declared.held.Held.{Held};
+ghost use Rattle.bd_c.specs.Status.{Reports};
+ghost use Rattle.bd_c.specs.Drivers.{IsDriver, IsOwn, IsEnded, OfHistory, OpensAt, HandsAt, ReturnsAt, Finishes};
+ghost use Rattle.bd_c.specs.Journals.{Journals, Judges};
+
+use crate::handles::Handle;
+use crate::held::Held;
+use crate::hosts::open_host;
+use crate::judging::{Verdict, judge_bytes};
+use crate::opening::{put, take};
+use crate::status::Status;
+use std::alloc::Global;
+
+/// Makes a driver with so many seats, 1 to 16. The handle must have nothing.
+#[unsafe(no_mangle)]
+pub extern "C" fn hullpippin_new(alloc: Global, seats: u32, driver: &mut Handle) -> u32
+    requires nothing { driver.old.held ≡ None }
+    ensures { Reports result (OpensAt seats driver.new.held) }
+{
+    match open_host(alloc, seats) {
+        Ok(host) => {
+            put(driver, host);
+            Status::Done.number()
+        }
+        Err(status) => status.number(),
+    }
+}
+
+/// Takes the first seat off a driver that is there. The seat's handle must have nothing.
+#[tactic(auto, using(crate::proofs::Behind::driver_held))]
+#[unsafe(no_mangle)]
+pub extern "C" fn hullpippin_take_seat(alloc: Global, driver: &mut Handle, seat: &mut Handle) -> u32
+    requires driver { IsDriver driver.old.held }
+    requires nothing { seat.old.held ≡ None }
+    ensures { Reports result (HandsAt driver.old.held driver.new.held seat.new.held) }
+{
+    let Ok(mut room) = Box::new(alloc, Held::Nothing) else {
+        return Status::NoMemory.number();
+    };
+    let mut host = take(alloc, driver);
+    let handed = host.hand_out(&mut room);
+    put(driver, host);
+    match handed {
+        Ok(()) => {
+            put(seat, room);
+            Status::Done.number()
+        }
+        Err(status) => status.number(),
+    }
+}
+
+/// Gives a seat back to its driver. Its handle then has nothing.
+#[tactic(auto, using(crate::proofs::Behind::own_driver_held, crate::proofs::Behind::own_seat_held))]
+#[unsafe(no_mangle)]
+pub extern "C" fn hullpippin_return_seat(
+    alloc: Global,
+    driver: &mut Handle,
+    seat: &mut Handle,
+) -> u32
+    requires own { IsOwn driver.old.held seat.old.held }
+    ensures { Reports result (ReturnsAt driver.old.held driver.new.held seat.old.held seat.new.held) }
+{
+    let mut host = take(alloc, driver);
+    if !host.has_room() {
+        put(driver, host);
+        return Status::NoMemory.number();
+    }
+    host.take_back(Box::into_inner(take(alloc, seat)));
+    put(driver, host);
+    Status::Done.number()
+}
+
+/// Ends a driver whose seats are all there. Its handle then has its history.
+#[tactic(auto, using(crate::proofs::Behind::driver_held))]
+#[unsafe(no_mangle)]
+pub extern "C" fn hullpippin_finish(alloc: Global, driver: &mut Handle) -> u32
+    requires driver { IsDriver driver.old.held }
+    ensures { Reports result (Finishes driver.old.held driver.new.held) }
+{
+    let mut host = take(alloc, driver);
+    let status = host.finish();
+    put(driver, host);
+    status.number()
+}
+
+/// Tells how many bytes the journal of an ended driver has, and copies them if all of them fit.
+#[tactic(auto, using(crate::proofs::Behind::ended_held))]
+#[unsafe(no_mangle)]
+pub extern "C" fn hullpippin_journal(
+    alloc: Global,
+    driver: &mut Handle,
+    out: &mut [u8],
+    size: &mut usize,
+) -> u32
+    requires ended { IsEnded driver.old.held }
+    ensures same { driver.new.held ≡ driver.old.held }
+    ensures journals { Reports result (λ s.
+        OfHistory driver.old.held (λ r. Journals r out.old out.new size.old size.new s)) }
+{
+    let held = take(alloc, driver);
+    let status = held.journal(alloc, out, size);
+    put(driver, held);
+    status.number()
+}
+
+/// Judges the bytes of a journal: whether its entries are a history, or else how many of them are.
+#[unsafe(no_mangle)]
+pub extern "C" fn hullpippin_verdict(alloc: Global, journal: &[u8], verdict: &mut Verdict) -> u32
+    ensures { Reports result (Judges journal.now verdict.old verdict.new) }
+{
+    judge_bytes(alloc, journal, verdict).number()
+}
+
+/// Lets go of what is behind a driver's handle, which then has nothing.
+#[unsafe(no_mangle)]
+pub extern "C" fn hullpippin_free_driver(alloc: Global, driver: &mut Handle)
+    requires some { (x : Held) × (driver.old.held ≡ Some x) }
+    ensures { driver.new.held ≡ None }
+{
+    drop(take(alloc, driver));
+}
+
+/// Lets go of a seat. Its handle then has nothing.
+#[unsafe(no_mangle)]
+pub extern "C" fn hullpippin_free_seat(alloc: Global, seat: &mut Handle)
+    requires some { (x : Held) × (seat.old.held ≡ Some x) }
+    ensures { seat.new.held ≡ None }
+{
+    drop(take(alloc, seat));
+}
+
+fn is_send<T: Send>(x: T) -> T {
+    x
+}
+
+// What is behind a handle may go from one thread to another.
+fn goes_to_another_thread(held: Held) -> Held {
+    is_send(held)
+}

@@ -1,0 +1,19 @@
+//! What C has of a driver or of a seat: a pointer, or null where there is none.
+ghost use Rattle.std.specs.Prelude.{Option};
+ghost use Rattle.bd_c.specs.declared.held.Held.{Held};
+
+use std::marker::Model;
+
+/// A pointer, and what is behind it.
+#[repr(C)]
+#[derive(Drop)]
+pub struct Handle {
+    pub(crate) at: *mut u8,
+    pub(crate) ghost held: { Option Held },
+}
+
+impl Model for Handle {
+    ghost use Rattle.bd_c.specs.Owned.{owned};
+
+    ghost also_owns = { λ h. owned h.held h.at };
+}

@@ -1,0 +1,17 @@
+//! What is behind a handle.
+use crate::host::Host;
+use crate::seat::OwnedSeat;
+use bd_space::Record;
+
+/// What is behind a handle.
+#[derive(Drop)]
+pub enum Held {
+    /// A driver.
+    Driver(Host),
+    /// A seat.
+    Seat(OwnedSeat),
+    /// The history of a driver that has ended.
+    History(Record),
+    /// Nothing yet, or no longer.
+    Nothing,
+}

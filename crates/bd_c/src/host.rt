@@ -1,0 +1,15 @@
+//! A driver, with the seats that nobody has taken.
+ghost use Rattle.std.specs.Prelude.{◌≡◌, All};
+ghost use Rattle.std.specs.Arc.{arc_value};
+
+use bd_driver::{Driver, Seat};
+use std::sync::Arc;
+
+/// A driver, how many seats it has, and those of them that nobody has taken.
+#[derive(Drop)]
+pub struct Host {
+    pub(crate) driver: Arc<Driver>,
+    pub(crate) seats: Vec<Seat>,
+    pub(crate) count: usize,
+    pub(crate) ghost of_driver: { All (λ s. s.table ≡ (arc_value driver).table) seats.items },
+}

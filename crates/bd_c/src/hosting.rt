@@ -1,0 +1,111 @@
+//! What a driver's handle is for: seats are taken, and come back, and then there is its history.
+ghost use Rattle.std.specs.Prelude.{◌≡◌, true, IfOk, IfErr};
+ghost use Rattle.std.specs.Arc.{arc_value};
+ghost use Rattle.bd_c.specs.Hosts.{Opens, refusal_of, IsRefusal, Hands, Keeps, has_room, TakesBack, Ends};
+
+use crate::host::Host;
+use crate::seat::OwnedSeat;
+use crate::status::Status;
+use bd_driver::Driver;
+use bd_space::Record;
+use bd_uapi::Fault;
+use std::alloc::Global;
+use std::sync::Arc;
+
+// A status in place of the driver's fault.
+fn refusal(fault: Fault) -> Status
+    ensures { result ≡ refusal_of fault }
+{
+    match fault {
+        Fault::SeatCount => Status::SeatCount,
+        _ => Status::NoMemory,
+    }
+}
+
+impl Host {
+    /// A driver with so many seats, all of them there.
+    #[tactic(auto, using(crate::proofs::Behind::refused_fits))]
+    pub(crate) fn new(alloc: Global, count: u32) -> Result<Host, Status>
+        ensures ok { IfOk result (Opens count) }
+        ensures refused { IfErr result (IsRefusal count) }
+    {
+        match Driver::new(alloc, count) {
+            Err(fault) => Err(refusal(fault)),
+            Ok((driver, seats)) => match Arc::new(alloc, driver) {
+                Err(_) => Err(Status::NoMemory),
+                Ok(driver) => Ok(Host {
+                    driver,
+                    seats,
+                    count: count as usize,
+                }),
+            },
+        }
+    }
+
+    /// Hands out the first seat that is there.
+    pub(crate) fn take(&mut self) -> Result<OwnedSeat, Status>
+        ensures ok { IfOk result (Hands self.old self.new) }
+        ensures refused { IfErr result (Keeps self.old self.new) }
+    {
+        if self.seats.is_empty() {
+            return Err(Status::NoSeat);
+        }
+        let Ok(driver) = Arc::try_clone(&self.driver) else {
+            return Err(Status::NoMemory);
+        };
+        let seat = self.seats.remove(0);
+        Ok(OwnedSeat {
+            driver,
+            seat,
+            latest: None,
+        })
+    }
+
+    /// Whether a seat can come back without memory: so it is where it was handed out.
+    pub(crate) fn has_room(&self) -> bool
+        ensures { result ≡ has_room self.now }
+    {
+        self.seats.len() < self.seats.capacity()
+    }
+
+    /// A seat comes back.
+    pub(crate) fn take_back(&mut self, seat: OwnedSeat)
+        requires own { seat.seat.table ≡ (arc_value self.old.driver).table }
+        requires room { has_room self.old ≡ true }
+        ensures { TakesBack self.old self.new seat }
+    {
+        let OwnedSeat {
+            driver: _,
+            seat,
+            latest: _,
+        } = seat;
+        self.seats.push_reserved(seat);
+    }
+
+    /// The history, once all seats are there.
+    pub(crate) fn finish(self) -> Result<Record, Host>
+        ensures ok { IfOk result (Ends self) }
+        ensures away { IfErr result (λ h. h ≡ self) }
+    {
+        let Host {
+            driver,
+            seats,
+            count,
+        } = self;
+        if seats.len() != count {
+            return Err(Host {
+                driver,
+                seats,
+                count,
+            });
+        }
+        match Arc::try_unwrap(driver) {
+            Ok(driver) => Ok(driver.finish(seats)),
+            Err(driver) => Err(Host {
+                driver,
+                seats,
+                count,
+            }),
+        }
+    }
+}

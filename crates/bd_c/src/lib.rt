@@ -1,0 +1,25 @@
+//! A driver for programs in C or Rust: what they link with. A program has handles, one of the driver and one of each
+//! seat, and whoever has a seat's handle makes that seat's calls. What the calls answer stays with the seat until its
+//! next call, so that a caller can fetch it in buffers of the size that it was told.
+#![tactic(auto)]
+
+mod answers;
+mod asking;
+mod driver_calls;
+mod hand_over_calls;
+mod handles;
+mod held;
+mod host;
+mod hosting;
+mod hosts;
+mod judging;
+mod loose;
+mod numbers;
+mod opening;
+mod pages;
+mod parts;
+mod requests;
+mod seat;
+mod seat_calls;
+mod seats;
+mod status;

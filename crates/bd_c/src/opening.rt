@@ -1,0 +1,51 @@
+//! What is behind a handle, taken out and put back.
+ghost use Rattle.std.specs.Prelude.{◌≡◌, Some, None};
+ghost use Rattle.bd_c.specs.declared.held.Held.{Held};
+
+use crate::handles::Handle;
+use crate::held::Held;
+use crate::loose::Loose;
+use std::alloc::Global;
+
+fn open(alloc: Global, h: Handle) -> Loose<Held, Global>
+    requires { (x : Held) × (h.held ≡ Some x) }
+    ensures { (x : Held) → h.held ≡ Some x → result.value ≡ x }
+{
+    let Handle { at } = h;
+    Loose {
+        at: at as *mut Held,
+        alloc,
+    }
+}
+
+fn close(l: Loose<Held, Global>) -> Handle
+    ensures { result.held ≡ Some l.value }
+{
+    let Loose { at, alloc } = l;
+    Handle { at: at as *mut u8 }
+}
+
+fn empty() -> Handle
+    ensures { result.held ≡ None }
+{
+    Handle {
+        at: std::ptr::null_mut(),
+    }
+}
+
+/// Takes out what is behind the handle, which then has nothing.
+pub(crate) fn take(alloc: Global, handle: &mut Handle) -> Box<Held>
+    requires { (x : Held) × (handle.old.held ≡ Some x) }
+    ensures held { handle.old.held ≡ Some result.value }
+    ensures empty { handle.new.held ≡ None }
+{
+    open(alloc, std::mem::replace(handle, empty())).into_box()
+}
+
+/// Puts it behind the handle. What was there is forgotten: there must be nothing.
+pub(crate) fn put(handle: &mut Handle, held: Box<Held>)
+    requires { handle.old.held ≡ None }
+    ensures { handle.new.held ≡ Some held.value }
+{
+    *handle = close(Loose::of(held));
+}

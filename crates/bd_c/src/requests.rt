@@ -1,0 +1,68 @@
+//! What C hands over, as a request.
+ghost use Rattle.std.specs.Prelude.{◌≡◌, Some, IfOk, IfErr};
+ghost use Rattle.bd_space.specs.declared.step.Request.TheVariants.{Write};
+ghost use Rattle.bd_c.specs.Requests.{request_of, IsNoRequest};
+
+use crate::status::Status;
+use bd_space::{Bytes, Request};
+use std::alloc::{AllocError, Global};
+
+/// A request without its bytes. A field that the kind has no use for isn't looked at.
+#[repr(C)]
+#[derive(Clone, Copy, Debug, PartialEq, Eq)]
+pub struct RequestGiven {
+    /// 1 open, 2 attach, 3 become the manager, 4 write, 5 read, 6 end the thread, 7 end the process.
+    pub kind: u32,
+    /// Of open and attach.
+    pub pid: u32,
+    /// Of open.
+    pub euid: u32,
+    /// Of open.
+    pub window: u32,
+    /// Of read.
+    pub limit: u32,
+}
+
+fn copied(alloc: Global, from: &[u8]) -> Result<Bytes, AllocError>
+    ensures { IfOk result (λ b. b ≡ from.now) }
+{
+    Ok(Bytes::new(from.to_vec(alloc)?))
+}
+
+/// A write, with its bytes in memory of its own.
+pub(crate) fn write(alloc: Global, stream: &[u8], area: &[u8]) -> Result<Request, AllocError>
+    ensures { IfOk result (λ r. r ≡ Write stream.now area.now) }
+{
+    let stream = copied(alloc, stream)?;
+    let area = copied(alloc, area)?;
+    Ok(Request::Write { stream, area })
+}
+
+/// The request that is given so.
+pub(crate) fn request_of(
+    alloc: Global,
+    given: &RequestGiven,
+    stream: &[u8],
+    area: &[u8],
+) -> Result<Request, Status>
+    ensures ok { IfOk result (λ r. request_of given.now stream.now area.now ≡ Some r) }
+    ensures refused { IfErr result (IsNoRequest given.now stream.now area.now) }
+{
+    match given.kind {
+        1 => Ok(Request::Open {
+            pid: given.pid,
+            euid: given.euid,
+            window: given.window,
+        }),
+        2 => Ok(Request::Attach { pid: given.pid }),
+        3 => Ok(Request::SetManager),
+        4 => match write(alloc, stream, area) {
+            Ok(request) => Ok(request),
+            Err(_) => Err(Status::NoMemory),
+        },
+        5 => Ok(Request::Read { limit: given.limit }),
+        6 => Ok(Request::ExitThread),
+        7 => Ok(Request::ExitProcess),
+        _ => Err(Status::NoSuchRequest),
+    }
+}

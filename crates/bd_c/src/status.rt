@@ -1,0 +1,37 @@
+//! Whether a call was made.
+ghost use Rattle.std.specs.Prelude.{◌≡◌};
+ghost use Rattle.bd_c.specs.Status.{number_of};
+
+/// Whether a call was made, or why nothing was done.
+#[derive(Clone, Copy, Debug, PartialEq, Eq)]
+pub enum Status {
+    /// It was made.
+    Done,
+    /// Memory was refused.
+    NoMemory,
+    /// A request of the seat is handed over.
+    Waiting,
+    /// No request of the seat is handed over.
+    NotWaiting,
+    /// Another seat has the engine.
+    Taken,
+    /// There is no such request.
+    NoSuchRequest,
+    /// The number of seats is out of its limits.
+    SeatCount,
+    /// The driver has no seat left.
+    NoSeat,
+    /// Seats are away.
+    SeatsAway,
+    /// The bytes are no journal, or no journal spells the history.
+    NoJournal,
+}
+
+impl Status {
+    /// The number that C has for it.
+    pub(crate) fn number(self) -> u32
+        ensures { result ≡ number_of self }
+    {
+        self as u32
+    }
+}

@@ -1,0 +1,111 @@
+-- Threads take part in a frame as before, or one more or one less does.
+use Rattle.std.proofs.Common.{◌≡◌, ℕ, ◌==◌, ◌||◌, Bool, true, false, cond, Option, Some, None, refl, ap, sym, ◌∙◌, eqb-true}
+use Rattle.bd_space.specs.declared.space.Frame.{Frame}
+use Rattle.bd_space.specs.declared.space.Server.{Server}
+use Rattle.bd_space.specs.declared.space.Server.TheVariants.{Pending, Serving, Gone}
+use Rattle.bd_space.specs.Words.{is_some_and}
+use Rattle.bd_space.specs.Frames.{calls, serves, takes_part}
+use Rattle.bd_space.specs.ThreadExits.{gone_caller, gone_server}
+use Rattle.bd_space.specs.ReadItems.{serve}
+use Rattle.bd_frames.specs.Words.{lost, lost_frame, left_frame, is_pending}
+
+pub or-left : (a b : Bool) → a ≡ true → (a || b) ≡ true
+or-left a b e = ap (λ x. x || b) e
+
+pub or-right : (a b : Bool) → b ≡ true → (a || b) ≡ true
+or-right true b e = refl
+or-right false b e = e
+
+pub or-false : (a : Bool) → (a || false) ≡ a
+or-false true = refl
+or-false false = refl
+
+-- ---- who would have served it has gone
+
+pub lost-serves : (s : ℕ) (v : Server) → serves s (lost v) ≡ serves s v
+lost-serves s Pending = refl
+lost-serves s (Serving t) = refl
+lost-serves s Gone = refl
+
+pub lost-takes : (s : ℕ) (f : Frame) → takes_part s (lost_frame f) ≡ takes_part s f
+lost-takes s f = ap (λ b. calls s f || b) (lost-serves s f.server)
+
+-- ---- a thread has gone
+
+caller-kept : (seat s : ℕ) (o : Option ℕ) → (seat == s) ≡ false → is_some_and (gone_caller seat o) (λ t. t == s) ≡ is_some_and o (λ t. t == s)
+caller-kept seat s None e = refl
+caller-kept seat s (Some c) e = at (c == seat) refl
+  where
+    at : (b : Bool) → (c == seat) ≡ b → is_some_and (cond b None (Some c)) (λ t. t == s) ≡ (c == s)
+    at true g = sym (ap (λ n. n == s) (eqb-true c seat g) ∙ e)
+    at false g = refl
+
+caller-gone : (seat : ℕ) (o : Option ℕ) → is_some_and (gone_caller seat o) (λ t. t == seat) ≡ false
+caller-gone seat None = refl
+caller-gone seat (Some c) = at (c == seat) refl
+  where
+    at : (b : Bool) → (c == seat) ≡ b → is_some_and (cond b None (Some c)) (λ t. t == seat) ≡ false
+    at true g = refl
+    at false g = g
+
+server-kept : (seat s : ℕ) (v : Server) → (seat == s) ≡ false → serves s (gone_server seat v) ≡ serves s v
+server-kept seat s Pending e = refl
+server-kept seat s Gone e = refl
+server-kept seat s (Serving t) e = at (t == seat) refl
+  where
+    at : (b : Bool) → (t == seat) ≡ b → serves s (cond b Gone (Serving t)) ≡ (t == s)
+    at true g = sym (ap (λ n. n == s) (eqb-true t seat g) ∙ e)
+    at false g = refl
+
+server-gone : (seat : ℕ) (v : Server) → serves seat (gone_server seat v) ≡ false
+server-gone seat Pending = refl
+server-gone seat Gone = refl
+server-gone seat (Serving t) = at (t == seat) refl
+  where
+    at : (b : Bool) → (t == seat) ≡ b → serves seat (cond b Gone (Serving t)) ≡ false
+    at true g = refl
+    at false g = g
+
+pub left-calls : (seat s : ℕ) (f : Frame) → (seat == s) ≡ false → calls s (left_frame seat f) ≡ calls s f
+left-calls seat s f e = caller-kept seat s f.caller e
+
+pub left-takes : (seat s : ℕ) (f : Frame) → (seat == s) ≡ false → takes_part s (left_frame seat f) ≡ takes_part s f
+left-takes seat s f e =
+    ap (λ b. b || serves s (gone_server seat f.server)) (caller-kept seat s f.caller e) ∙ ap (λ b. calls s f || b) (server-kept seat s f.server e)
+
+pub left-gone : (seat : ℕ) (f : Frame) → takes_part seat (left_frame seat f) ≡ false
+left-gone seat f =
+    ap (λ b. b || serves seat (gone_server seat f.server)) (caller-gone seat f.caller) ∙ server-gone seat f.server
+
+no-caller : (seat : ℕ) (o : Option ℕ) → is_some_and o (λ t. t == seat) ≡ false → gone_caller seat o ≡ o
+no-caller seat None e = refl
+no-caller seat (Some c) e = ap (λ b. cond b None (Some c)) e
+
+no-server : (seat : ℕ) (v : Server) → serves seat v ≡ false → gone_server seat v ≡ v
+no-server seat Pending e = refl
+no-server seat Gone e = refl
+no-server seat (Serving t) e = ap (λ b. cond b Gone (Serving t)) e
+
+both-none : (a b : Bool) → (a || b) ≡ false → (a ≡ false) × (b ≡ false)
+both-none true b h = absurd (cc)
+both-none false b h = (refl, h)
+
+-- who takes no part in a frame is not gone from it
+pub left-other : (seat : ℕ) (f : Frame) → takes_part seat f ≡ false → left_frame seat f ≡ f
+left-other seat f e =
+    let g = both-none (calls seat f) _ e in
+    ap (λ (o : Option ℕ). record f { caller = o; server = gone_server seat f.server }) (no-caller seat f.caller g.0)
+    ∙ ap (λ (v : Server). record f { server = v }) (no-server seat f.server g.1)
+
+-- ---- a thread serves it
+
+pub pending-serves : (s : ℕ) (v : Server) → is_pending v ≡ true → serves s v ≡ false
+pending-serves s Pending e = refl
+pending-serves s (Serving t) e = absurd (cc)
+pending-serves s Gone e = absurd (cc)
+
+pub pending-takes : (s : ℕ) (f : Frame) → is_pending f.server ≡ true → takes_part s f ≡ calls s f
+pending-takes s f e = ap (λ b. calls s f || b) (pending-serves s f.server e) ∙ or-false (calls s f)
+
+pub served-takes : (seat s : ℕ) (f : Frame) → is_pending f.server ≡ true → (seat == s) ≡ false → takes_part s (serve seat f) ≡ takes_part s f
+served-takes seat s f e n = ap (λ b. calls s f || b) n ∙ or-false (calls s f) ∙ sym (pending-takes s f e)

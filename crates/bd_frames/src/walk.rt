@@ -1,0 +1,124 @@
+//! The way down a thread's stack, from its innermost frame to the next older one, and so on.
+
+ghost use Rattle.std.specs.Prelude.{ℕ, Bool, List, Option, ◌≡◌, ◌≤◌, ◌<◌, ◌++◌, IfSome, OnOk, length, take, drop, map, filter, reverse, vec_len, vec_capacity};
+ghost use Rattle.std.specs.Option.{option_and_then};
+ghost use Rattle.std.specs.List.{slice_get};
+ghost use Rattle.bd_space.specs.Frames as spec;
+ghost use Rattle.bd_frames.specs.Linked as linked;
+ghost use Rattle.bd_frames.specs.Linked.{IsWay, IsStep, StacksAre};
+ghost use Rattle.bd_frames.specs.Words.{left_frame};
+
+use crate::change::{frame_without, leave_all};
+use crate::frame::calls;
+use crate::place::{newest_at, part};
+use crate::server::serves;
+use crate::stacks::{Below, Stacks};
+use crate::tops::top_of;
+use bd_space::Frame;
+use std::alloc::AllocError;
+
+/// How far one has come: the frames that are left end at this index, and the thread's next one was made there.
+#[derive(Clone, Copy)]
+pub struct Way {
+    pub end: usize,
+    pub next: Option<u32>,
+}
+
+// Below the frame is this one for the thread, which takes part in it.
+fn below_of(seat: u32, frame: &Frame, below: Below) -> Option<u32>
+    ensures { result ≡ linked.below_of seat frame.now below }
+{
+    if calls(frame, seat) {
+        below.caller
+    } else {
+        below.server
+    }
+}
+
+fn next_at(seat: u32, frame: &Frame, below: &[Below], i: usize) -> Option<u32>
+    ensures { result ≡ option_and_then (linked.below_of seat frame.now) (slice_get below.now i) }
+{
+    below_of(seat, frame, *below.get(i)?)
+}
+
+// To the thread's next older frame.
+fn step(frames: &[Frame], below: &[Below], seat: u32, way: Way) -> Option<Way>
+    requires { way.end ≤ length frames.now }
+    ensures lower { IfSome result (λ w. w.end < way.end) }
+    ensures steps { IsWay seat frames.now below.now way → IsStep seat (take way.end frames.now) result }
+{
+    let left = part(frames, 0..way.end);
+    let i = newest_at(left, true, way.next?)?;
+    Some(Way {
+        end: i,
+        next: next_at(seat, &left[i], below, i),
+    })
+}
+
+// The thread is gone from its frames, of which the innermost was made there.
+fn leave_down(frames: &mut Vec<Frame>, below: &[Below], seat: u32, next: Option<u32>)
+    ensures frames { IsWay seat frames.old.items below.now (record { end = vec_len frames.old; next = next })
+        → frames.new.items ≡ map (left_frame seat) frames.old.items }
+    ensures len { vec_len frames.new ≡ vec_len frames.old }
+    ensures capacity { vec_capacity frames.new ≡ vec_capacity frames.old }
+{
+    let mut way = Way {
+        end: frames.len(),
+        next,
+    };
+    while let Some(older) = step(frames, below, seat, way) {
+        let frame = frames[older.end];
+        frames[older.end] = frame_without(seat, frame);
+        way = older;
+    }
+}
+
+/// The thread is gone from all of them, whose stacks these are.
+pub(crate) fn leave(frames: &mut Vec<Frame>, stacks: &Stacks, seat: u32)
+    ensures frames { StacksAre stacks.now frames.old.items
+        → frames.new.items ≡ map (left_frame seat) frames.old.items }
+    ensures len { vec_len frames.new ≡ vec_len frames.old }
+    ensures capacity { vec_capacity frames.new ≡ vec_capacity frames.old }
+{
+    if stacks.whole {
+        let top = top_of(&stacks.tops, seat);
+        leave_down(frames, &stacks.below, seat, top);
+    } else {
+        leave_all(frames, seat);
+    }
+}
+
+/// Where those of the thread's frames were made that it serves, innermost first, put after what is there.
+pub(crate) fn push_served_down(
+    frames: &[Frame],
+    below: &[Below],
+    seat: u32,
+    next: Option<u32>,
+    served: &mut Vec<u32>,
+) -> Result<(), AllocError>
+    ensures served { IsWay seat frames.now below.now (record { end = length frames.now; next = next })
+        → OnOk result (served.new.items ≡ served.old.items
+        ++ reverse (map spec.made_of (filter (λ f. spec.serves seat f.server) frames.now))) }
+    ensures longer { vec_len served.old ≤ vec_len served.new }
+{
+    let mut way = Way {
+        end: frames.len(),
+        next,
+    };
+    while let Some(older) = step(frames, below, seat, way) {
+        let frame = frames[older.end];
+        if serves(seat, frame.server) {
+            served.push(frame.made)?;
+        }
+        way = older;
+    }
+    Ok(())
+}
+
+/// The places from this index on in the other order.
+pub(crate) fn reverse_from(places: &mut Vec<u32>, from: usize)
+    requires { from ≤ vec_len places.old }
+    ensures { places.new.items ≡ take from places.old.items ++ reverse (drop from places.old.items) }
+{
+    places[from..].reverse();
+}

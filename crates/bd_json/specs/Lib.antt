@@ -1,0 +1,4 @@
+pub mod Lines
+pub mod Payloads
+pub mod Told
+pub mod Said

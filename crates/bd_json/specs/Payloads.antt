@@ -1,0 +1,104 @@
+-- What a step or a return has.
+use Rattle.std.specs.Prelude.{ℕ, zero, suc, List, [], ◌∷◌, length, drop, Result, Ok, Err, Some, None, bit_and}
+use Rattle.bd_uapi.specs.declared.command.TransactionData.{TransactionData}
+use Rattle.bd_uapi.specs.declared.command.Command.{Command}
+use Rattle.bd_uapi.specs.declared.command.Command.TheVariants as command
+use Rattle.bd_uapi.specs.declared.command.Return.{Return}
+use Rattle.bd_uapi.specs.declared.command.Return.TheVariants as returned
+use Rattle.bd_uapi.specs.declared.fault.Fault.{Fault}
+use Rattle.bd_codec.specs.Reading.{return_at}
+use Rattle.bd_space.specs.declared.step.Step.{Step}
+use Rattle.bd_space.specs.declared.step.Step.TheVariants as step
+use Rattle.bd_json.specs.declared.texts.Wide.{Wide}
+use Rattle.bd_json.specs.declared.words.Payload.{Payload}
+
+abbrev pub wide : ℕ → Wide
+wide n = record { 0 = n }
+
+abbrev pub nothing : Payload
+nothing = record {
+  pid = None;
+  euid = None;
+  window = None;
+  limit = None;
+  handle = None;
+  ptr = None;
+  cookie = None;
+  code = None;
+  flags = None;
+  data_size = None;
+  offsets_size = None;
+  sender_pid = None;
+  sender_euid = None;
+  buffer = None;
+}
+
+abbrev pub of_handle : ℕ → Payload
+of_handle n = record nothing { handle = Some n }
+
+abbrev pub of_cookie : ℕ → Payload
+of_cookie c = record nothing { cookie = Some (wide c) }
+
+abbrev pub of_pointer : ℕ → ℕ → Payload
+of_pointer p c = record nothing { ptr = Some (wide p); cookie = Some (wide c) }
+
+-- what is sent
+abbrev pub of_record : TransactionData → Payload
+of_record d = record nothing { code = Some d.code; flags = Some d.flags.0; data_size = Some d.data_size; offsets_size = Some d.offsets_size }
+
+-- and who sent it, and where it lies
+abbrev pub of_received : TransactionData → Payload
+of_received d = record (of_record d) { sender_pid = Some d.sender_pid; sender_euid = Some d.sender_euid; buffer = Some (wide d.buffer) }
+
+abbrev pub of_command : Command → Payload
+of_command (command.Transaction d) = record (of_record d) { handle = Some (bit_and d.target 4294967295); cookie = Some (wide d.cookie) }
+of_command (command.Reply d) = of_record d
+of_command (command.FreeBuffer b) = record nothing { buffer = Some (wide b) }
+of_command (command.Increfs n) = of_handle n
+of_command (command.Acquire n) = of_handle n
+of_command (command.Release n) = of_handle n
+of_command (command.Decrefs n) = of_handle n
+of_command (command.IncrefsDone p c) = of_pointer p c
+of_command (command.AcquireDone p c) = of_pointer p c
+of_command command.EnterLooper = nothing
+of_command command.ExitLooper = nothing
+of_command (command.RequestDeathNotification n c) = record (of_cookie c) { handle = Some n }
+of_command (command.ClearDeathNotification n c) = record (of_cookie c) { handle = Some n }
+of_command (command.DeadBinderDone c) = of_cookie c
+
+abbrev pub of_return : Return → Payload
+of_return (returned.Transaction d) = record (of_received d) { ptr = Some (wide d.target); cookie = Some (wide d.cookie) }
+of_return (returned.Reply d) = of_received d
+of_return (returned.Increfs p c) = of_pointer p c
+of_return (returned.Acquire p c) = of_pointer p c
+of_return (returned.Release p c) = of_pointer p c
+of_return (returned.Decrefs p c) = of_pointer p c
+of_return (returned.DeadBinder c) = of_cookie c
+of_return (returned.ClearDeathNotificationDone c) = of_cookie c
+of_return returned.DeadReply = nothing
+of_return returned.TransactionComplete = nothing
+of_return returned.Noop = nothing
+of_return returned.FailedReply = nothing
+
+abbrev pub of_step : Step → Payload
+of_step (step.Open pid euid window) = record nothing { pid = Some pid; euid = Some euid; window = Some window }
+of_step (step.Attach pid) = record nothing { pid = Some pid }
+of_step (step.Command c parcel) = of_command c
+of_step (step.Read limit) = record nothing { limit = Some limit }
+of_step step.SetManager = nothing
+of_step step.ExitThread = nothing
+of_step step.ExitProcess = nothing
+
+-- what the first return has that was read, if one was, and then what those behind its bytes have
+abbrev pub of_next : (ℕ → List Payload) → Result (Return × ℕ) Fault → List Payload
+of_next behind (Ok (r, len)) = of_return r ∷ behind len
+of_next behind (Err f) = []
+
+-- what the returns have that are read one after the other, at most so many
+abbrev pub of_returns_to : ℕ → List ℕ → List Payload
+of_returns_to zero bytes = []
+of_returns_to (suc n) bytes = of_next (λ len. of_returns_to n (drop len bytes)) (return_at bytes)
+
+-- the same of all that a stream spells, each of which takes a byte or more
+abbrev pub of_returns : List ℕ → List Payload
+of_returns bytes = of_returns_to (length bytes) bytes

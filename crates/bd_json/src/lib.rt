@@ -1,0 +1,13 @@
+//! What the program tells, as JSON: a value a line.
+#![tactic(auto)]
+
+mod entries;
+mod format;
+mod json;
+mod playing;
+mod said;
+mod texts;
+mod words;
+mod writing;
+
+pub use format::{Format, answer, play_in, print_unlawful_in};

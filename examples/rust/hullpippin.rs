@@ -1,0 +1,501 @@
+//! Hullpippin's library as safe Rust: a [`Driver`], its [`Seat`]s, each of which may go to a thread of its own, and the
+//! [`Outcome`] of a seat's request. Needs nothing but std; link with `libhullpippin.a` and the kit's C library object.
+//!
+//! What include/hullpippin.h asks of its callers is kept by the types: a handle is owned by one value, whose calls take
+//! `&mut self`; a seat goes back to the driver that it came from, by a number that each driver has of its own.
+use std::fmt;
+use std::sync::atomic::{AtomicU64, Ordering};
+
+/// The declarations of include/hullpippin.h.
+mod c {
+    #[repr(C)]
+    pub struct Handle {
+        pub at: *mut u8,
+    }
+
+    #[repr(C)]
+    #[derive(Clone, Copy, Default)]
+    pub struct Answer {
+        pub kind: u32,
+        pub from: u32,
+        pub to: u32,
+        pub consumed: u32,
+        pub notes: usize,
+        pub stop: u32,
+        pub number: u32,
+        pub why: u32,
+        pub stream: usize,
+        pub data: usize,
+        pub offsets: usize,
+    }
+
+    #[repr(C)]
+    #[derive(Clone, Copy, Default)]
+    pub struct Note {
+        pub command: u32,
+        pub number: u32,
+    }
+
+    #[repr(C)]
+    #[derive(Clone, Copy, Default)]
+    pub struct Page {
+        pub stamp: u32,
+        pub ready: u32,
+        pub taken: bool,
+    }
+
+    #[repr(C)]
+    #[derive(Clone, Copy, Default)]
+    pub struct Request {
+        pub kind: u32,
+        pub pid: u32,
+        pub euid: u32,
+        pub window: u32,
+        pub limit: u32,
+    }
+
+    #[repr(C)]
+    #[derive(Clone, Copy, Default)]
+    pub struct Verdict {
+        pub lawful: bool,
+        pub entries: usize,
+    }
+
+    unsafe extern "C" {
+        pub fn hullpippin_new(seats: u32, driver: *mut Handle) -> u32;
+        pub fn hullpippin_take_seat(driver: *mut Handle, seat: *mut Handle) -> u32;
+        pub fn hullpippin_return_seat(driver: *mut Handle, seat: *mut Handle) -> u32;
+        pub fn hullpippin_finish(driver: *mut Handle) -> u32;
+        pub fn hullpippin_journal(driver: *mut Handle, out: *mut u8, room: usize, size: *mut usize) -> u32;
+        pub fn hullpippin_verdict(journal: *const u8, size: usize, verdict: *mut Verdict) -> u32;
+        pub fn hullpippin_free_driver(driver: *mut Handle);
+        pub fn hullpippin_free_seat(seat: *mut Handle);
+        pub fn hullpippin_open(seat: *mut Handle, pid: u32, euid: u32, window: u32, answer: *mut Answer) -> u32;
+        pub fn hullpippin_attach(seat: *mut Handle, pid: u32, answer: *mut Answer) -> u32;
+        pub fn hullpippin_manager(seat: *mut Handle, answer: *mut Answer) -> u32;
+        pub fn hullpippin_write(
+            seat: *mut Handle,
+            stream: *const u8,
+            stream_size: usize,
+            area: *const u8,
+            area_size: usize,
+            answer: *mut Answer,
+        ) -> u32;
+        pub fn hullpippin_read(seat: *mut Handle, limit: u32, answer: *mut Answer) -> u32;
+        pub fn hullpippin_exit_thread(seat: *mut Handle, answer: *mut Answer) -> u32;
+        pub fn hullpippin_exit_process(seat: *mut Handle, answer: *mut Answer) -> u32;
+        pub fn hullpippin_answer_bytes(seat: *mut Handle, part: u32, out: *mut u8, room: usize) -> usize;
+        pub fn hullpippin_answer_note(seat: *mut Handle, index: usize, note: *mut Note) -> bool;
+        pub fn hullpippin_look(seat: *mut Handle, page: *mut Page);
+        pub fn hullpippin_ready(seat: *mut Handle) -> u32;
+        pub fn hullpippin_post(
+            seat: *mut Handle,
+            request: *const Request,
+            stream: *const u8,
+            stream_size: usize,
+            area: *const u8,
+            area_size: usize,
+        ) -> u32;
+        pub fn hullpippin_serve(seat: *mut Handle, picked: *mut u32) -> u32;
+        pub fn hullpippin_collect(seat: *mut Handle, answer: *mut Answer) -> u32;
+        pub fn hullpippin_withdraw(seat: *mut Handle, answer: *mut Answer) -> u32;
+    }
+
+    impl Handle {
+        pub const NONE: Handle = Handle { at: std::ptr::null_mut() };
+    }
+}
+
+/// Why a call wasn't made. Nothing was done.
+#[derive(Clone, Copy, Debug, PartialEq, Eq)]
+pub enum Error {
+    /// Memory was refused.
+    NoMemory,
+    /// A request of the seat is handed over.
+    Waiting,
+    /// No request of the seat is handed over.
+    NotWaiting,
+    /// Another seat has the engine.
+    Taken,
+    /// The number of seats isn't 1 to 16.
+    SeatCount,
+    /// All seats are taken.
+    NoSeatLeft,
+    /// A seat isn't back.
+    SeatsAway,
+    /// The bytes are no journal.
+    NoJournal,
+    /// The seat is one of another driver.
+    OtherDriver,
+}
+
+impl fmt::Display for Error {
+    fn fmt(&self, f: &mut fmt::Formatter<'_>) -> fmt::Result {
+        f.write_str(match self {
+            Error::NoMemory => "out of memory",
+            Error::Waiting => "a request is handed over",
+            Error::NotWaiting => "no request is handed over",
+            Error::Taken => "another seat has the engine",
+            Error::SeatCount => "the number of seats is out of range",
+            Error::NoSeatLeft => "all seats are taken",
+            Error::SeatsAway => "a seat isn't back",
+            Error::NoJournal => "the bytes are no journal",
+            Error::OtherDriver => "the seat is one of another driver",
+        })
+    }
+}
+
+impl std::error::Error for Error {}
+
+fn checked(status: u32) -> Result<(), Error> {
+    Err(match status {
+        0 => return Ok(()),
+        1 => Error::NoMemory,
+        2 => Error::Waiting,
+        3 => Error::NotWaiting,
+        4 => Error::Taken,
+        6 => Error::SeatCount,
+        7 => Error::NoSeatLeft,
+        8 => Error::SeatsAway,
+        9 => Error::NoJournal,
+        // 5 is no such request, and there is no such `Request`.
+        _ => unreachable!(),
+    })
+}
+
+/// Why a write stopped before the end of its stream.
+#[derive(Clone, Copy, Debug, PartialEq, Eq)]
+pub enum Stop {
+    /// The next command can't be read or run: F1 to F16.
+    Fault(u32),
+    /// The last command that was run was refused: X1 to X16.
+    Cause(u32),
+}
+
+/// Why a request comes back. It wasn't run.
+#[derive(Clone, Copy, Debug, PartialEq, Eq)]
+pub enum Why {
+    /// Another seat has the engine.
+    Taken,
+    /// The engine found no memory.
+    NoMemory,
+    /// The history can take no more.
+    HistoryFull,
+    /// It was taken back.
+    Withdrawn,
+}
+
+/// What a request came to.
+#[derive(Clone, Debug, PartialEq, Eq)]
+pub enum Answer {
+    /// The seat has a thread of the process.
+    Opened,
+    /// The process is the context manager.
+    Set,
+    /// The thread or the process has ended.
+    Exited,
+    /// Commands were run.
+    Wrote {
+        /// How many bytes of the stream were run.
+        consumed: u32,
+        /// The commands that changed nothing, from 0, each with the number of its note, N1 to N11.
+        notes: Vec<(u32, u32)>,
+        /// Why it stopped before the end.
+        stop: Option<Stop>,
+    },
+    /// What was read.
+    Got {
+        /// The returns.
+        stream: Vec<u8>,
+        /// The data of the transaction or reply among them.
+        data: Vec<u8>,
+        /// The offsets of its objects.
+        offsets: Vec<u8>,
+    },
+    /// A step was refused, and changed nothing: F1 to F16.
+    Refused(u32),
+}
+
+/// What came of a request.
+#[derive(Clone, Debug, PartialEq, Eq)]
+pub enum Outcome {
+    /// It was run: its steps stand in the history from `from` up to and without `to`.
+    Done { answer: Answer, from: u32, to: u32 },
+    /// It wasn't run.
+    Back(Why),
+    /// It is still handed over.
+    Handed,
+}
+
+/// A request to be posted.
+#[derive(Clone, Copy, Debug, PartialEq, Eq)]
+pub enum Request<'a> {
+    Open { pid: u32, euid: u32, window: u32 },
+    Attach { pid: u32 },
+    Manager,
+    Write { stream: &'a [u8], area: &'a [u8] },
+    Read { limit: u32 },
+    ExitThread,
+    ExitProcess,
+}
+
+impl Request<'_> {
+    fn given(&self) -> c::Request {
+        let none = c::Request::default();
+        match *self {
+            Request::Open { pid, euid, window } => c::Request { kind: 1, pid, euid, window, ..none },
+            Request::Attach { pid } => c::Request { kind: 2, pid, ..none },
+            Request::Manager => c::Request { kind: 3, ..none },
+            Request::Write { .. } => c::Request { kind: 4, ..none },
+            Request::Read { limit } => c::Request { kind: 5, limit, ..none },
+            Request::ExitThread => c::Request { kind: 6, ..none },
+            Request::ExitProcess => c::Request { kind: 7, ..none },
+        }
+    }
+}
+
+/// The page, as one look finds it.
+#[derive(Clone, Copy, Debug, PartialEq, Eq)]
+pub struct Page {
+    /// How many steps the history has.
+    pub stamp: u32,
+    /// The seats that have something to read, bit i for seat i.
+    pub ready: u32,
+    /// Whether a seat has the engine.
+    pub taken: bool,
+}
+
+/// What is said of a journal.
+#[derive(Clone, Copy, Debug, PartialEq, Eq)]
+pub enum Verdict {
+    /// Its entries, so many, are a history.
+    Lawful(usize),
+    /// So many of its entries are a history, and with the next one they aren't.
+    Unlawful(usize),
+}
+
+/// Judges the bytes of a journal.
+pub fn verdict_on(journal: &[u8]) -> Result<Verdict, Error> {
+    let mut told = c::Verdict::default();
+    // The slice's pointer is not null, and both live until the call is back.
+    checked(unsafe { c::hullpippin_verdict(journal.as_ptr(), journal.len(), &mut told) })?;
+    Ok(if told.lawful { Verdict::Lawful(told.entries) } else { Verdict::Unlawful(told.entries) })
+}
+
+/// One engine that several seats share.
+pub struct Driver {
+    handle: c::Handle,
+    number: u64,
+}
+
+// The library proves that what is behind a handle may go to another thread.
+unsafe impl Send for Driver {}
+
+impl Driver {
+    /// A driver with so many seats, 1 to 16.
+    pub fn new(seats: u32) -> Result<Driver, Error> {
+        static DRIVERS: AtomicU64 = AtomicU64::new(0);
+        let mut handle = c::Handle::NONE;
+        checked(unsafe { c::hullpippin_new(seats, &mut handle) })?;
+        Ok(Driver { handle, number: DRIVERS.fetch_add(1, Ordering::Relaxed) })
+    }
+
+    /// Takes the first seat that is there: of a new driver seat 0, then seat 1.
+    pub fn take_seat(&mut self) -> Result<Seat, Error> {
+        let mut handle = c::Handle::NONE;
+        checked(unsafe { c::hullpippin_take_seat(&mut self.handle, &mut handle) })?;
+        Ok(Seat { handle, driver: self.number })
+    }
+
+    /// Gives a seat back. One of another driver is lost.
+    pub fn return_seat(&mut self, mut seat: Seat) -> Result<(), Error> {
+        if seat.driver != self.number {
+            return Err(Error::OtherDriver);
+        }
+        checked(unsafe { c::hullpippin_return_seat(&mut self.handle, &mut seat.handle) })
+    }
+
+    /// The history, once all seats are back. If not, the driver goes on.
+    pub fn finish(mut self) -> Result<History, (Error, Driver)> {
+        match checked(unsafe { c::hullpippin_finish(&mut self.handle) }) {
+            Ok(()) => Ok(History(self)),
+            Err(error) => Err((error, self)),
+        }
+    }
+}
+
+/// The history of a driver that has ended.
+pub struct History(Driver);
+
+impl History {
+    /// Its journal.
+    pub fn journal(&mut self) -> Result<Vec<u8>, Error> {
+        let (mut bytes, mut size) = (Vec::new(), 0);
+        loop {
+            checked(unsafe { c::hullpippin_journal(&mut self.0.handle, bytes.as_mut_ptr(), bytes.len(), &mut size) })?;
+            if size <= bytes.len() {
+                return Ok(bytes);
+            }
+            bytes.resize(size, 0);
+        }
+    }
+}
+
+impl Drop for Driver {
+    fn drop(&mut self) {
+        if !self.handle.at.is_null() {
+            unsafe { c::hullpippin_free_driver(&mut self.handle) }
+        }
+    }
+}
+
+/// A seat of a driver. It stands for one thread at a time, and may go from one to another.
+pub struct Seat {
+    handle: c::Handle,
+    driver: u64,
+}
+
+// The library proves that what is behind a handle may go to another thread.
+unsafe impl Send for Seat {}
+
+impl Seat {
+    // Makes a call, and fetches what it answered.
+    fn asked(&mut self, call: impl FnOnce(*mut c::Handle, *mut c::Answer) -> u32) -> Result<Outcome, Error> {
+        let mut answer = c::Answer::default();
+        checked(call(&mut self.handle, &mut answer))?;
+        Ok(self.outcome(&answer))
+    }
+
+    /// Opens a process with one thread, the seat's.
+    pub fn open(&mut self, pid: u32, euid: u32, window: u32) -> Result<Outcome, Error> {
+        self.asked(|seat, answer| unsafe { c::hullpippin_open(seat, pid, euid, window, answer) })
+    }
+
+    /// Makes the seat a further thread of a live process.
+    pub fn attach(&mut self, pid: u32) -> Result<Outcome, Error> {
+        self.asked(|seat, answer| unsafe { c::hullpippin_attach(seat, pid, answer) })
+    }
+
+    /// Makes the seat's process the context manager.
+    pub fn manager(&mut self) -> Result<Outcome, Error> {
+        self.asked(|seat, answer| unsafe { c::hullpippin_manager(seat, answer) })
+    }
+
+    /// Runs the commands of a stream, whose parcels are cut from the area.
+    pub fn write(&mut self, stream: &[u8], area: &[u8]) -> Result<Outcome, Error> {
+        self.asked(|seat, answer| unsafe {
+            c::hullpippin_write(seat, stream.as_ptr(), stream.len(), area.as_ptr(), area.len(), answer)
+        })
+    }
+
+    /// Reads returns of at most so many bytes, at least 72.
+    pub fn read(&mut self, limit: u32) -> Result<Outcome, Error> {
+        self.asked(|seat, answer| unsafe { c::hullpippin_read(seat, limit, answer) })
+    }
+
+    /// Ends the seat's thread.
+    pub fn exit_thread(&mut self) -> Result<Outcome, Error> {
+        self.asked(|seat, answer| unsafe { c::hullpippin_exit_thread(seat, answer) })
+    }
+
+    /// Ends the seat's process with all its threads.
+    pub fn exit_process(&mut self) -> Result<Outcome, Error> {
+        self.asked(|seat, answer| unsafe { c::hullpippin_exit_process(seat, answer) })
+    }
+
+    /// The page.
+    pub fn look(&mut self) -> Page {
+        let mut page = c::Page::default();
+        unsafe { c::hullpippin_look(&mut self.handle, &mut page) };
+        Page { stamp: page.stamp, ready: page.ready, taken: page.taken }
+    }
+
+    /// The seats that have something to read, bit i for seat i.
+    pub fn ready(&mut self) -> u32 {
+        unsafe { c::hullpippin_ready(&mut self.handle) }
+    }
+
+    /// Hands a request over to whoever serves next.
+    pub fn post(&mut self, request: Request<'_>) -> Result<(), Error> {
+        let (stream, area): (&[u8], &[u8]) = match request {
+            Request::Write { stream, area } => (stream, area),
+            _ => (&[], &[]),
+        };
+        let given = request.given();
+        checked(unsafe {
+            c::hullpippin_post(&mut self.handle, &given, stream.as_ptr(), stream.len(), area.as_ptr(), area.len())
+        })
+    }
+
+    /// Runs what is handed over; answers how many requests that were.
+    pub fn serve(&mut self) -> Result<u32, Error> {
+        let mut picked = 0;
+        checked(unsafe { c::hullpippin_serve(&mut self.handle, &mut picked) })?;
+        Ok(picked)
+    }
+
+    /// The answer to what was handed over, if it is there.
+    pub fn collect(&mut self) -> Result<Outcome, Error> {
+        self.asked(|seat, answer| unsafe { c::hullpippin_collect(seat, answer) })
+    }
+
+    /// Takes back what was handed over, if nobody has picked it.
+    pub fn withdraw(&mut self) -> Result<Outcome, Error> {
+        self.asked(|seat, answer| unsafe { c::hullpippin_withdraw(seat, answer) })
+    }
+
+    // A part of the bytes that the latest call got.
+    fn bytes(&mut self, part: u32, size: usize) -> Vec<u8> {
+        let mut bytes = vec![0; size];
+        let told = unsafe { c::hullpippin_answer_bytes(&mut self.handle, part, bytes.as_mut_ptr(), size) };
+        debug_assert_eq!(told, size);
+        bytes
+    }
+
+    fn note(&mut self, index: usize) -> Option<(u32, u32)> {
+        let mut note = c::Note::default();
+        let told = unsafe { c::hullpippin_answer_note(&mut self.handle, index, &mut note) };
+        told.then_some((note.command, note.number))
+    }
+
+    fn outcome(&mut self, told: &c::Answer) -> Outcome {
+        let answer = match told.kind {
+            0 => return Outcome::Handed,
+            1 => Answer::Opened,
+            2 => Answer::Set,
+            3 => Answer::Exited,
+            4 => Answer::Wrote {
+                consumed: told.consumed,
+                notes: (0..told.notes).filter_map(|index| self.note(index)).collect(),
+                stop: match told.stop {
+                    0 => None,
+                    1 => Some(Stop::Fault(told.number)),
+                    _ => Some(Stop::Cause(told.number)),
+                },
+            },
+            5 => Answer::Got {
+                stream: self.bytes(0, told.stream),
+                data: self.bytes(1, told.data),
+                offsets: self.bytes(2, told.offsets),
+            },
+            6 => Answer::Refused(told.number),
+            _ => {
+                return Outcome::Back(match told.why {
+                    1 => Why::Taken,
+                    2 => Why::NoMemory,
+                    3 => Why::HistoryFull,
+                    _ => Why::Withdrawn,
+                });
+            }
+        };
+        Outcome::Done { answer, from: told.from, to: told.to }
+    }
+}
+
+impl Drop for Seat {
+    fn drop(&mut self) {
+        if !self.handle.at.is_null() {
+            unsafe { c::hullpippin_free_seat(&mut self.handle) }
+        }
+    }
+}

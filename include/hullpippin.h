@@ -1,0 +1,271 @@
+/*
+ * hullpippin.h: the transaction engine of Android's Binder driver, as a library that the threads of a program share.
+ *
+ * Link with libhullpippin.a and with the C library object of the Rattle kit, which gives it malloc, realloc and free
+ * (docs/LIBRARY.md, "Building"). Nothing else is needed: the library starts no thread, takes no lock, waits for nobody
+ * and opens no file.
+ *
+ * A driver has 1 to 16 seats. A seat stands for one calling thread: it opens a process or attaches to one, writes
+ * commands (BC_..) and reads returns (BR_..), in the bytes of <linux/android/binder.h>, 64-bit form, protocol 8. The
+ * answers are those of docs/RULES.md, and are proved to be; docs/FORMATS.md has the codes and records.
+ *
+ *     hullpippin_driver driver = HULLPIPPIN_NO_DRIVER;
+ *     hullpippin_seat seat = HULLPIPPIN_NO_SEAT;
+ *     hullpippin_answer answer;
+ *     if (hullpippin_new(2, &driver) || hullpippin_take_seat(&driver, &seat)) ..
+ *     if (hullpippin_open(&seat, 100, 1000, 4096, &answer) == HULLPIPPIN_DONE && answer.kind == HULLPIPPIN_OPENED) ..
+ *
+ * What the library relies on, since nothing checks a C caller:
+ *
+ *  - A handle is HULLPIPPIN_NO_DRIVER or HULLPIPPIN_NO_SEAT where a function wants an empty one, and else what a
+ *    function of this header left there. It isn't copied, and its pointer is neither read nor changed. A function that
+ *    empties a handle (free, return) says so.
+ *  - At most one call at a time is made with a handle. A handle may go to another thread, by whatever orders the
+ *    threads: a start, a join, a mutex. Different handles may be used at the same time by different threads, those of
+ *    one driver too, which is what they are for.
+ *  - No two pointers of one call lead to memory that overlaps, where one of them is written through. A buffer of size 0
+ *    may be given as HULLPIPPIN_NOWHERE, or as any other pointer but NULL.
+ *  - A seat goes back to the driver that it was taken off.
+ *  - No call is made in a signal handler, or in the forked child of a process with threads. malloc aligns to 16.
+ *
+ * Bytes that are given to a call stay the caller's, and may go once the call is back: the library copies them. Bytes
+ * that a call answers stay with the seat until its next call, and are fetched by hullpippin_answer_bytes.
+ */
+#ifndef HULLPIPPIN_H
+#define HULLPIPPIN_H
+
+#include <stdbool.h>
+#include <stddef.h>
+#include <stdint.h>
+
+#ifdef __cplusplus
+extern "C" {
+#endif
+
+/* A driver, or the history of one that has ended. */
+typedef struct {
+    void *at;
+} hullpippin_driver;
+
+/* A seat that was taken off a driver. */
+typedef struct {
+    void *at;
+} hullpippin_seat;
+
+/* Handles that have nothing. */
+#define HULLPIPPIN_NO_DRIVER { NULL }
+#define HULLPIPPIN_NO_SEAT { NULL }
+
+/* Where a buffer of no bytes is. */
+#define HULLPIPPIN_NOWHERE ((uint8_t *)1)
+
+/* Whether a call was made. With every number but 0 nothing was done, and nothing was written to what the call fills. */
+enum {
+    HULLPIPPIN_DONE = 0,            /* it was made */
+    HULLPIPPIN_NO_MEMORY = 1,       /* malloc gave none for the call's own copies; it may be made again */
+    HULLPIPPIN_WAITING = 2,         /* a request of this seat is handed over: collect or withdraw it first */
+    HULLPIPPIN_NOT_WAITING = 3,     /* no request of this seat is handed over */
+    HULLPIPPIN_TAKEN = 4,           /* serve: another seat has the engine */
+    HULLPIPPIN_NO_SUCH_REQUEST = 5, /* post: there is no such kind of request */
+    HULLPIPPIN_SEAT_COUNT = 6,      /* new: the number of seats isn't 1 to 16 */
+    HULLPIPPIN_NO_SEAT_LEFT = 7,    /* take_seat: all seats are taken */
+    HULLPIPPIN_SEATS_AWAY = 8,      /* finish: a seat isn't back */
+    HULLPIPPIN_NO_JOURNAL = 9,      /* verdict: the bytes are no journal; journal: no journal spells the history */
+};
+
+/* What a request came to: the kind of an answer. */
+enum {
+    HULLPIPPIN_HANDED = 0,  /* collect, withdraw: it is still handed over */
+    HULLPIPPIN_OPENED = 1,  /* open, attach: the seat has a thread of the process */
+    HULLPIPPIN_SET = 2,     /* manager: the process is the context manager */
+    HULLPIPPIN_EXITED = 3,  /* exit_thread, exit_process: the thread or the process has ended */
+    HULLPIPPIN_WROTE = 4,   /* write: commands were run */
+    HULLPIPPIN_GOT = 5,     /* read: there are bytes to be fetched */
+    HULLPIPPIN_REFUSED = 6, /* a step was refused, and changed nothing: `number` is its fault, F1 to F16 */
+    HULLPIPPIN_BACK = 7,    /* it wasn't run: `why` */
+};
+
+/* Why a write stopped before the end of its stream. */
+enum {
+    HULLPIPPIN_AT_END = 0,   /* it didn't */
+    HULLPIPPIN_AT_FAULT = 1, /* the next command can't be read or run: `number` is the fault, F1 to F16 */
+    HULLPIPPIN_AT_CAUSE = 2, /* the last command that was run was refused: `number` is the cause, X1 to X16 */
+};
+
+/* Why a request comes back. */
+enum {
+    HULLPIPPIN_BACK_TAKEN = 1,        /* another seat has the engine: call again, or post */
+    HULLPIPPIN_BACK_NO_MEMORY = 2,    /* the engine found no memory */
+    HULLPIPPIN_BACK_HISTORY_FULL = 3, /* the history can take no more */
+    HULLPIPPIN_BACK_WITHDRAWN = 4,    /* withdraw: nobody had picked it */
+};
+
+/* Parts of what a read got. */
+enum {
+    HULLPIPPIN_STREAM = 0,  /* the returns */
+    HULLPIPPIN_DATA = 1,    /* the data of the transaction or reply among them */
+    HULLPIPPIN_OFFSETS = 2, /* the offsets of its objects */
+};
+
+/* Kinds of requests that are posted. */
+enum {
+    HULLPIPPIN_OPEN = 1,
+    HULLPIPPIN_ATTACH = 2,
+    HULLPIPPIN_MANAGER = 3,
+    HULLPIPPIN_WRITE = 4,
+    HULLPIPPIN_READ = 5,
+    HULLPIPPIN_EXIT_THREAD = 6,
+    HULLPIPPIN_EXIT_PROCESS = 7,
+};
+
+/* What a request came to. What a field doesn't apply to has 0 there. */
+typedef struct {
+    uint32_t kind;     /* HULLPIPPIN_HANDED .. HULLPIPPIN_BACK */
+    uint32_t from;     /* the place of its first step in the history */
+    uint32_t to;       /* the place behind its last */
+    uint32_t consumed; /* wrote: write_consumed, how many bytes of the stream were run */
+    size_t notes;      /* wrote: how many of the commands changed nothing, each with a note */
+    uint32_t stop;     /* wrote: HULLPIPPIN_AT_END .. HULLPIPPIN_AT_CAUSE */
+    uint32_t number;   /* wrote, refused: the number of the fault or cause */
+    uint32_t why;      /* back: HULLPIPPIN_BACK_TAKEN .. */
+    size_t stream;     /* got: how many bytes of returns */
+    size_t data;       /* got: how many bytes of data */
+    size_t offsets;    /* got: how many bytes of offsets, 8 for each object */
+} hullpippin_answer;
+
+/* A command of a write that changed nothing. */
+typedef struct {
+    uint32_t command; /* which command of the stream, from 0 */
+    uint32_t number;  /* why: N1 to N11 */
+} hullpippin_note;
+
+/* The page: how far the driver is. */
+typedef struct {
+    uint32_t stamp; /* how many steps the history has */
+    uint32_t ready; /* bit i: seat i has something to read */
+    bool taken;     /* a seat has the engine */
+} hullpippin_page;
+
+/* A request to be posted. A field that its kind has no use for isn't looked at. */
+typedef struct {
+    uint32_t kind;   /* HULLPIPPIN_OPEN .. HULLPIPPIN_EXIT_PROCESS */
+    uint32_t pid;    /* open, attach */
+    uint32_t euid;   /* open */
+    uint32_t window; /* open */
+    uint32_t limit;  /* read */
+} hullpippin_request;
+
+/* What is said of a journal. */
+typedef struct {
+    bool lawful;    /* whether its entries are a history */
+    size_t entries; /* how many of them are one, from the first on: all of them where it is lawful */
+} hullpippin_verdict_on;
+
+/*
+ * Drivers. These calls are made by one thread at a time, as with any handle.
+ */
+
+/* Makes a driver with so many seats, numbered from 0. `driver` must be empty, and stays so unless DONE is answered.
+   Also NO_MEMORY, SEAT_COUNT. */
+uint32_t hullpippin_new(uint32_t seats, hullpippin_driver *driver);
+
+/* Takes a seat off the driver: the first that is there, so of a new driver seat 0, then seat 1. `seat` must be empty,
+   and stays so unless DONE is answered. Also NO_MEMORY, NO_SEAT_LEFT. */
+uint32_t hullpippin_take_seat(hullpippin_driver *driver, hullpippin_seat *seat);
+
+/* Gives a seat back to its own driver, behind those that are there, and empties `seat`. What its latest call answered
+   is gone. Also NO_MEMORY, which never comes where the seat was taken off this driver. */
+uint32_t hullpippin_return_seat(hullpippin_driver *driver, hullpippin_seat *seat);
+
+/* Ends a driver whose seats are all back. The handle has its history from then on: of the functions of drivers only
+   journal and free_driver may be called. Takes no memory. Also SEATS_AWAY. */
+uint32_t hullpippin_finish(hullpippin_driver *driver);
+
+/* Tells in `size` how many bytes the journal of an ended driver has, and copies them to `out` if all of them fit in
+   `room` bytes; else `out` stays as it was, and a later call with more room has them. Also NO_MEMORY, NO_JOURNAL. */
+uint32_t hullpippin_journal(hullpippin_driver *driver, uint8_t *out, size_t room, size_t *size);
+
+/* Judges the bytes of a journal, by playing its entries again. Needs no driver. Also NO_MEMORY, NO_JOURNAL. */
+uint32_t hullpippin_verdict(const uint8_t *journal, size_t size, hullpippin_verdict_on *verdict);
+
+/* Lets go of a driver, or of an ended one's history, and empties the handle. Seats that are away stay usable. The
+   handle must not be empty. */
+void hullpippin_free_driver(hullpippin_driver *driver);
+
+/* Lets go of a seat for good, and empties the handle, which must not be empty. Its driver can't be finished then. */
+void hullpippin_free_seat(hullpippin_seat *seat);
+
+/*
+ * Requests of a seat. Each makes one call of the driver, tries to take the engine once, and never waits: where another
+ * seat has it, the answer is BACK with BACK_TAKEN, and nothing was run. `answer` is filled where DONE is answered. Also
+ * WAITING.
+ */
+
+/* Opens a process with one thread, the seat's: `pid` 1 to 2147483647, `window` a multiple of 4096 up to 4194304. */
+uint32_t hullpippin_open(hullpippin_seat *seat, uint32_t pid, uint32_t euid, uint32_t window, hullpippin_answer *answer);
+
+/* Makes the seat a further thread of a live process. */
+uint32_t hullpippin_attach(hullpippin_seat *seat, uint32_t pid, hullpippin_answer *answer);
+
+/* Makes the seat's process the context manager (BINDER_SET_CONTEXT_MGR). */
+uint32_t hullpippin_manager(hullpippin_seat *seat, hullpippin_answer *answer);
+
+/* Runs the commands of a stream of at most 4096 bytes (the write half of BINDER_WRITE_READ). In their transaction
+   records `buffer` and `offsets` are places in the area. Also NO_MEMORY. */
+uint32_t hullpippin_write(hullpippin_seat *seat, const uint8_t *stream, size_t stream_size, const uint8_t *area,
+                          size_t area_size, hullpippin_answer *answer);
+
+/* Reads returns of at most `limit` bytes, which is at least 72 (the read half of BINDER_WRITE_READ). Where it is GOT,
+   the answer has the sizes, and the bytes stay with the seat. Where there is nothing to read, it is REFUSED with F12. */
+uint32_t hullpippin_read(hullpippin_seat *seat, uint32_t limit, hullpippin_answer *answer);
+
+/* Ends the seat's thread (BINDER_THREAD_EXIT). The seat may open or attach again. */
+uint32_t hullpippin_exit_thread(hullpippin_seat *seat, hullpippin_answer *answer);
+
+/* Ends the seat's process with all its threads. */
+uint32_t hullpippin_exit_process(hullpippin_seat *seat, hullpippin_answer *answer);
+
+/*
+ * What the latest answer has besides its numbers. It stays until the seat's next answer, and can be fetched again.
+ */
+
+/* Copies a part of what a read got to `out`, if all of it fits in `room` bytes, and else nothing. Answers how many
+   bytes it has, 0 where the latest answer isn't GOT. Takes no memory. */
+size_t hullpippin_answer_bytes(hullpippin_seat *seat, uint32_t part, uint8_t *out, size_t room);
+
+/* Tells the note at an index below the answer's `notes`; false where there is none. Takes no memory. */
+bool hullpippin_answer_note(hullpippin_seat *seat, size_t index, hullpippin_note *note);
+
+/*
+ * The page: one load, whatever other seats do. Takes no memory.
+ */
+
+/* The page. */
+void hullpippin_look(hullpippin_seat *seat, hullpippin_page *page);
+
+/* Its ready seats alone, bit i for seat i. */
+uint32_t hullpippin_ready(hullpippin_seat *seat);
+
+/*
+ * Handing over: a request is posted, run by whoever serves, and its answer collected. Until it is answered or
+ * withdrawn, the seat's requests above answer WAITING.
+ */
+
+/* Posts a request; the stream and the area are those of a write. Also WAITING, NO_MEMORY, NO_SUCH_REQUEST. */
+uint32_t hullpippin_post(hullpippin_seat *seat, const hullpippin_request *request, const uint8_t *stream,
+                         size_t stream_size, const uint8_t *area, size_t area_size);
+
+/* Runs what all seats have posted, once each, and tells in `picked` how many that were. Also TAKEN. */
+uint32_t hullpippin_serve(hullpippin_seat *seat, uint32_t *picked);
+
+/* Fetches the answer to what was posted; HANDED while it isn't there. Also NOT_WAITING. */
+uint32_t hullpippin_collect(hullpippin_seat *seat, hullpippin_answer *answer);
+
+/* Takes back what was posted, if nobody has picked it: BACK with BACK_WITHDRAWN, or HANDED. Also NOT_WAITING. */
+uint32_t hullpippin_withdraw(hullpippin_seat *seat, hullpippin_answer *answer);
+
+#ifdef __cplusplus
+}
+#endif
+
+#endif
