@@ -15,10 +15,13 @@
  *     if (hullpippin_new(2, &driver) || hullpippin_take_seat(&driver, &seat)) ..
  *     if (hullpippin_open(&seat, 100, 1000, 4096, &answer) == HULLPIPPIN_DONE && answer.kind == HULLPIPPIN_OPENED) ..
  *
+ * A driver keeps its history, which grows with each step. Who can't have that, or wants more seats, makes a live engine in
+ * its place (hullpippin_live_new): it keeps what its history has come to, and hands each step's entry out.
+ *
  * What the library relies on, since nothing checks a C caller:
  *
- *  - A handle is HULLPIPPIN_NO_DRIVER or HULLPIPPIN_NO_SEAT where a function wants an empty one, and else what a
- *    function of this header left there. It isn't copied, and its pointer is neither read nor changed. A function that
+ *  - A handle is HULLPIPPIN_NO_DRIVER, HULLPIPPIN_NO_SEAT or HULLPIPPIN_NO_LIVE where a function wants an empty one, and
+ *    else what a function of this header left there. It isn't copied, and its pointer is neither read nor changed. A function that
  *    empties a handle (free, return) says so.
  *  - At most one call at a time is made with a handle. A handle may go to another thread, by whatever orders the
  *    threads: a start, a join, a mutex. Different handles may be used at the same time by different threads, those of
@@ -29,7 +32,8 @@
  *  - No call is made in a signal handler, or in the forked child of a process with threads. malloc aligns to 16.
  *
  * Bytes that are given to a call stay the caller's, and may go once the call is back: the library copies them. Bytes
- * that a call answers stay with the seat until its next call, and are fetched by hullpippin_answer_bytes.
+ * that a call answers stay with the seat until its next call, and are fetched by hullpippin_answer_bytes; with a live
+ * engine they stay until its next step, and are fetched by hullpippin_live_bytes.
  */
 #ifndef HULLPIPPIN_H
 #define HULLPIPPIN_H
@@ -52,9 +56,15 @@ typedef struct {
     void *at;
 } hullpippin_seat;
 
+/* An engine that keeps no history. */
+typedef struct {
+    void *at;
+} hullpippin_live;
+
 /* Handles that have nothing. */
 #define HULLPIPPIN_NO_DRIVER { NULL }
 #define HULLPIPPIN_NO_SEAT { NULL }
+#define HULLPIPPIN_NO_LIVE { NULL }
 
 /* Where a buffer of no bytes is. */
 #define HULLPIPPIN_NOWHERE ((uint8_t *)1)
@@ -67,10 +77,14 @@ enum {
     HULLPIPPIN_NOT_WAITING = 3,     /* no request of this seat is handed over */
     HULLPIPPIN_TAKEN = 4,           /* serve: another seat has the engine */
     HULLPIPPIN_NO_SUCH_REQUEST = 5, /* post: there is no such kind of request */
-    HULLPIPPIN_SEAT_COUNT = 6,      /* new: the number of seats isn't 1 to 16 */
+    HULLPIPPIN_SEAT_COUNT = 6,      /* new: the number of seats isn't 1 to 16; live_new: 1 to 65536 */
     HULLPIPPIN_NO_SEAT_LEFT = 7,    /* take_seat: all seats are taken */
     HULLPIPPIN_SEATS_AWAY = 8,      /* finish: a seat isn't back */
-    HULLPIPPIN_NO_JOURNAL = 9,      /* verdict: the bytes are no journal; journal: no journal spells the history */
+    HULLPIPPIN_NO_JOURNAL = 9,      /* verdict: the bytes are no journal; journal, live_entry, live_heading: no journal
+                                       spells it */
+    HULLPIPPIN_NO_SUCH_SEAT = 10,   /* live: the engine has no seat of that number */
+    HULLPIPPIN_HISTORY_FULL = 11,   /* live: the history can take no more (F13) */
+    HULLPIPPIN_NO_COMMAND = 12,     /* live_command: the bytes aren't exactly one command */
 };
 
 /* What a request came to: the kind of an answer. */
@@ -126,7 +140,7 @@ typedef struct {
     uint32_t consumed; /* wrote: write_consumed, how many bytes of the stream were run */
     size_t notes;      /* wrote: how many of the commands changed nothing, each with a note */
     uint32_t stop;     /* wrote: HULLPIPPIN_AT_END .. HULLPIPPIN_AT_CAUSE */
-    uint32_t number;   /* wrote, refused: the number of the fault or cause */
+    uint32_t number;   /* wrote, refused: the number of the fault or cause; live_command: also that of its note */
     uint32_t why;      /* back: HULLPIPPIN_BACK_TAKEN .. */
     size_t stream;     /* got: how many bytes of returns */
     size_t data;       /* got: how many bytes of data */
@@ -263,6 +277,73 @@ uint32_t hullpippin_collect(hullpippin_seat *seat, hullpippin_answer *answer);
 
 /* Takes back what was posted, if nobody has picked it: BACK with BACK_WITHDRAWN, or HANDED. Also NOT_WAITING. */
 uint32_t hullpippin_withdraw(hullpippin_seat *seat, hullpippin_answer *answer);
+
+/*
+ * Live engines: no history is kept, so what one has takes as much memory as there are processes, objects, calls and
+ * buffers, however many steps were made. One handle is for all seats, which the calls name by their numbers, from 0;
+ * it is used by one thread at a time, as any handle. A step makes one entry of the history, and the engine has only
+ * the latest: fetch its bytes with hullpippin_live_entry and append them to a file, and that file is a journal. There
+ * are at most 4294967295 steps.
+ *
+ * Each step answers as the seat's request of that name does, and fills `answer` where it is DONE: one step, so `to`
+ * is `from` and 1. Also NO_SUCH_SEAT, HISTORY_FULL, NO_MEMORY.
+ */
+
+/* Makes a live engine with 1 to 65536 seats. `live` must be empty, and stays so unless DONE is answered. Also
+   NO_MEMORY, SEAT_COUNT. */
+uint32_t hullpippin_live_new(uint32_t seats, hullpippin_live *live);
+
+/* As hullpippin_open. */
+uint32_t hullpippin_live_open(hullpippin_live *live, uint32_t seat, uint32_t pid, uint32_t euid, uint32_t window,
+                              hullpippin_answer *answer);
+
+/* As hullpippin_attach. */
+uint32_t hullpippin_live_attach(hullpippin_live *live, uint32_t seat, uint32_t pid, hullpippin_answer *answer);
+
+/* As hullpippin_manager. */
+uint32_t hullpippin_live_manager(hullpippin_live *live, uint32_t seat, hullpippin_answer *answer);
+
+/* Runs one command, whose bytes are `command`, as the command of a write of that one alone. With a transaction or
+   reply its parcel is given: the data and the offsets of its objects, of the sizes that its record says; else it is
+   refused with X7. The record's pointers aren't looked at. With other commands nothing is looked at of the parcel.
+   WROTE: `notes` is 1 where the command changed nothing, `stop` is AT_CAUSE where it was refused, and `number` is the
+   note's or the cause's; `consumed` is 0. REFUSED with F4 where the seat has no thread. Also NO_COMMAND: then it
+   isn't read, and no step is made; a write would stop there at a fault. */
+uint32_t hullpippin_live_command(hullpippin_live *live, uint32_t seat, const uint8_t *command, size_t command_size,
+                                 const uint8_t *data, size_t data_size, const uint8_t *offsets, size_t offsets_size,
+                                 hullpippin_answer *answer);
+
+/* As hullpippin_read; the bytes stay with the engine until its next step. */
+uint32_t hullpippin_live_read(hullpippin_live *live, uint32_t seat, uint32_t limit, hullpippin_answer *answer);
+
+/* As hullpippin_exit_thread. */
+uint32_t hullpippin_live_exit_thread(hullpippin_live *live, uint32_t seat, hullpippin_answer *answer);
+
+/* As hullpippin_exit_process. */
+uint32_t hullpippin_live_exit_process(hullpippin_live *live, uint32_t seat, hullpippin_answer *answer);
+
+/* Whether the seat has something to read; false where there is no such seat. Takes no memory. */
+bool hullpippin_live_ready(hullpippin_live *live, uint32_t seat);
+
+/* How many steps were made. Takes no memory. */
+uint32_t hullpippin_live_len(hullpippin_live *live);
+
+/* As hullpippin_answer_bytes, of the latest step; 0 where that isn't a read, or didn't get anything. */
+size_t hullpippin_live_bytes(hullpippin_live *live, uint32_t part, uint8_t *out, size_t room);
+
+/* Tells in `size` how many bytes the latest step's entry has in a journal, 0 where no step was made yet, and copies
+   them to `out` if all of them fit in `room` bytes; else `out` stays as it was, and a later call with more room has
+   them, until the next step. Also NO_MEMORY, NO_JOURNAL: the call may be made again, the entry stays. */
+uint32_t hullpippin_live_entry(hullpippin_live *live, uint8_t *out, size_t room, size_t *size);
+
+/* The same for what a journal of `count` entries begins with. Where the entries are still to come, begin the file
+   with the heading of 4294967295 entries, and write the right one over it at the end, or `count` alone into the four
+   bytes from byte 12, little-endian. Until then no reader takes it for a journal. NO_JOURNAL where there are more
+   than 16 seats. */
+uint32_t hullpippin_live_heading(hullpippin_live *live, uint32_t count, uint8_t *out, size_t room, size_t *size);
+
+/* Lets go of a live engine, and empties the handle, which must not be empty. */
+void hullpippin_free_live(hullpippin_live *live);
 
 #ifdef __cplusplus
 }

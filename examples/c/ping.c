@@ -52,13 +52,14 @@ static bool fails(const char *why)
     return false;
 }
 
-/* Waits until the history has so many steps: then it is this thread's turn. */
+/* Waits until the history has so many steps and the engine is free: then it is this thread's turn. A step is published
+   before the engine is put back, so a call that is made in between comes back. */
 static bool wait_for(struct part *part, uint32_t stamp)
 {
     hullpippin_page page;
     for (long turn = 0; turn < TURNS && !failed; turn++) {
         hullpippin_look(&part->seat, &page);
-        if (page.stamp >= stamp)
+        if (page.stamp >= stamp && !page.taken)
             return true;
         sched_yield();
     }

@@ -1,5 +1,5 @@
 //! Hullpippin's library as safe Rust: a [`Driver`], its [`Seat`]s, each of which may go to a thread of its own, and the
-//! [`Outcome`] of a seat's request. Needs nothing but std; link with `libhullpippin.a` and the kit's C library object.
+//! [`Outcome`] of a seat's request; or a [`Live`] engine, which keeps no history. Needs nothing but std; link with `libhullpippin.a` and the kit's C library object.
 //!
 //! What include/hullpippin.h asks of its callers is kept by the types: a handle is owned by one value, whose calls take
 //! `&mut self`; a seat goes back to the driver that it came from, by a number that each driver has of its own.
@@ -99,6 +99,37 @@ mod c {
         pub fn hullpippin_serve(seat: *mut Handle, picked: *mut u32) -> u32;
         pub fn hullpippin_collect(seat: *mut Handle, answer: *mut Answer) -> u32;
         pub fn hullpippin_withdraw(seat: *mut Handle, answer: *mut Answer) -> u32;
+        pub fn hullpippin_live_new(seats: u32, live: *mut Handle) -> u32;
+        pub fn hullpippin_live_open(
+            live: *mut Handle,
+            seat: u32,
+            pid: u32,
+            euid: u32,
+            window: u32,
+            answer: *mut Answer,
+        ) -> u32;
+        pub fn hullpippin_live_attach(live: *mut Handle, seat: u32, pid: u32, answer: *mut Answer) -> u32;
+        pub fn hullpippin_live_manager(live: *mut Handle, seat: u32, answer: *mut Answer) -> u32;
+        pub fn hullpippin_live_command(
+            live: *mut Handle,
+            seat: u32,
+            command: *const u8,
+            command_size: usize,
+            data: *const u8,
+            data_size: usize,
+            offsets: *const u8,
+            offsets_size: usize,
+            answer: *mut Answer,
+        ) -> u32;
+        pub fn hullpippin_live_read(live: *mut Handle, seat: u32, limit: u32, answer: *mut Answer) -> u32;
+        pub fn hullpippin_live_exit_thread(live: *mut Handle, seat: u32, answer: *mut Answer) -> u32;
+        pub fn hullpippin_live_exit_process(live: *mut Handle, seat: u32, answer: *mut Answer) -> u32;
+        pub fn hullpippin_live_ready(live: *mut Handle, seat: u32) -> bool;
+        pub fn hullpippin_live_len(live: *mut Handle) -> u32;
+        pub fn hullpippin_live_bytes(live: *mut Handle, part: u32, out: *mut u8, room: usize) -> usize;
+        pub fn hullpippin_live_entry(live: *mut Handle, out: *mut u8, room: usize, size: *mut usize) -> u32;
+        pub fn hullpippin_live_heading(live: *mut Handle, count: u32, out: *mut u8, room: usize, size: *mut usize) -> u32;
+        pub fn hullpippin_free_live(live: *mut Handle);
     }
 
     impl Handle {
@@ -117,14 +148,20 @@ pub enum Error {
     NotWaiting,
     /// Another seat has the engine.
     Taken,
-    /// The number of seats isn't 1 to 16.
+    /// The number of seats isn't 1 to 16, or for a live engine 1 to 65536.
     SeatCount,
     /// All seats are taken.
     NoSeatLeft,
     /// A seat isn't back.
     SeatsAway,
-    /// The bytes are no journal.
+    /// The bytes are no journal, or there is no journal of so many seats.
     NoJournal,
+    /// The live engine has no such seat.
+    NoSuchSeat,
+    /// The live engine's history can take no more.
+    HistoryFull,
+    /// The bytes aren't one command.
+    NoCommand,
     /// The seat is one of another driver.
     OtherDriver,
 }
@@ -139,7 +176,10 @@ impl fmt::Display for Error {
             Error::SeatCount => "the number of seats is out of range",
             Error::NoSeatLeft => "all seats are taken",
             Error::SeatsAway => "a seat isn't back",
-            Error::NoJournal => "the bytes are no journal",
+            Error::NoJournal => "there is no journal",
+            Error::NoSuchSeat => "there is no such seat",
+            Error::HistoryFull => "the history is full",
+            Error::NoCommand => "the bytes aren't one command",
             Error::OtherDriver => "the seat is one of another driver",
         })
     }
@@ -158,6 +198,9 @@ fn checked(status: u32) -> Result<(), Error> {
         7 => Error::NoSeatLeft,
         8 => Error::SeatsAway,
         9 => Error::NoJournal,
+        10 => Error::NoSuchSeat,
+        11 => Error::HistoryFull,
+        12 => Error::NoCommand,
         // 5 is no such request, and there is no such `Request`.
         _ => unreachable!(),
     })
@@ -496,6 +539,155 @@ impl Drop for Seat {
     fn drop(&mut self) {
         if !self.handle.at.is_null() {
             unsafe { c::hullpippin_free_seat(&mut self.handle) }
+        }
+    }
+}
+
+/// An engine that keeps no history: all seats' steps are made with it, and it has the entry of the latest.
+pub struct Live {
+    handle: c::Handle,
+}
+
+// The library proves that what is behind a handle may go to another thread.
+unsafe impl Send for Live {}
+
+/// What a step came to, and its place in the history.
+#[derive(Clone, Debug, PartialEq, Eq)]
+pub struct Made {
+    /// As of a seat's request of that name; of a command as of a write of it alone.
+    pub answer: Answer,
+    /// How many steps there were before.
+    pub place: u32,
+}
+
+impl Live {
+    /// A live engine for so many seats, 1 to 65536.
+    pub fn new(seats: u32) -> Result<Live, Error> {
+        let mut handle = c::Handle::NONE;
+        checked(unsafe { c::hullpippin_live_new(seats, &mut handle) })?;
+        Ok(Live { handle })
+    }
+
+    // Makes a step, and fetches what it answered.
+    fn made(&mut self, step: impl FnOnce(*mut c::Handle, *mut c::Answer) -> u32) -> Result<Made, Error> {
+        let mut told = c::Answer::default();
+        checked(step(&mut self.handle, &mut told))?;
+        let answer = match told.kind {
+            1 => Answer::Opened,
+            2 => Answer::Set,
+            3 => Answer::Exited,
+            5 => Answer::Got {
+                stream: self.bytes(0, told.stream),
+                data: self.bytes(1, told.data),
+                offsets: self.bytes(2, told.offsets),
+            },
+            6 => Answer::Refused(told.number),
+            _ => Answer::Wrote {
+                consumed: told.consumed,
+                notes: (0..told.notes).map(|_| (0, told.number)).collect(),
+                stop: (told.stop != 0).then_some(Stop::Cause(told.number)),
+            },
+        };
+        Ok(Made { answer, place: told.from })
+    }
+
+    /// Opens a process with one thread, the seat's.
+    pub fn open(&mut self, seat: u32, pid: u32, euid: u32, window: u32) -> Result<Made, Error> {
+        self.made(|live, told| unsafe { c::hullpippin_live_open(live, seat, pid, euid, window, told) })
+    }
+
+    /// Makes the seat a further thread of a live process.
+    pub fn attach(&mut self, seat: u32, pid: u32) -> Result<Made, Error> {
+        self.made(|live, told| unsafe { c::hullpippin_live_attach(live, seat, pid, told) })
+    }
+
+    /// Makes the seat's process the context manager.
+    pub fn manager(&mut self, seat: u32) -> Result<Made, Error> {
+        self.made(|live, told| unsafe { c::hullpippin_live_manager(live, seat, told) })
+    }
+
+    /// Runs one command, with its parcel if it is a transaction or reply.
+    pub fn command(&mut self, seat: u32, command: &[u8], data: &[u8], offsets: &[u8]) -> Result<Made, Error> {
+        let size = command.len() as u32;
+        let mut made = self.made(|live, told| unsafe {
+            c::hullpippin_live_command(
+                live,
+                seat,
+                command.as_ptr(),
+                command.len(),
+                data.as_ptr(),
+                data.len(),
+                offsets.as_ptr(),
+                offsets.len(),
+                told,
+            )
+        })?;
+        if let Answer::Wrote { consumed, .. } = &mut made.answer {
+            *consumed = size;
+        }
+        Ok(made)
+    }
+
+    /// Reads returns of at most so many bytes, at least 72.
+    pub fn read(&mut self, seat: u32, limit: u32) -> Result<Made, Error> {
+        self.made(|live, told| unsafe { c::hullpippin_live_read(live, seat, limit, told) })
+    }
+
+    /// Ends the seat's thread.
+    pub fn exit_thread(&mut self, seat: u32) -> Result<Made, Error> {
+        self.made(|live, told| unsafe { c::hullpippin_live_exit_thread(live, seat, told) })
+    }
+
+    /// Ends the seat's process with all its threads.
+    pub fn exit_process(&mut self, seat: u32) -> Result<Made, Error> {
+        self.made(|live, told| unsafe { c::hullpippin_live_exit_process(live, seat, told) })
+    }
+
+    /// Whether the seat has something to read.
+    pub fn is_ready(&mut self, seat: u32) -> bool {
+        unsafe { c::hullpippin_live_ready(&mut self.handle, seat) }
+    }
+
+    /// How many steps were made.
+    pub fn steps(&mut self) -> u32 {
+        unsafe { c::hullpippin_live_len(&mut self.handle) }
+    }
+
+    /// The bytes of the latest step's entry, for a journal; none before the first step.
+    pub fn entry(&mut self) -> Result<Vec<u8>, Error> {
+        self.all(|live, out, room, size| unsafe { c::hullpippin_live_entry(live, out, room, size) })
+    }
+
+    /// What a journal of so many entries begins with.
+    pub fn heading(&mut self, count: u32) -> Result<Vec<u8>, Error> {
+        self.all(|live, out, room, size| unsafe { c::hullpippin_live_heading(live, count, out, room, size) })
+    }
+
+    // A part of the bytes that the latest step got.
+    fn bytes(&mut self, part: u32, size: usize) -> Vec<u8> {
+        let mut bytes = vec![0; size];
+        let told = unsafe { c::hullpippin_live_bytes(&mut self.handle, part, bytes.as_mut_ptr(), size) };
+        debug_assert_eq!(told, size);
+        bytes
+    }
+
+    // All that a call copies, of whatever size.
+    fn all(&mut self, copy: impl Fn(*mut c::Handle, *mut u8, usize, *mut usize) -> u32) -> Result<Vec<u8>, Error> {
+        let (mut bytes, mut size) = (Vec::new(), 0);
+        loop {
+            checked(copy(&mut self.handle, bytes.as_mut_ptr(), bytes.len(), &mut size))?;
+            if size <= bytes.len() {
+                return Ok(bytes);
+            }
+            bytes.resize(size, 0);
+        }
+    }
+}
+
+impl Drop for Live {
+    fn drop(&mut self) {
+        if !self.handle.at.is_null() {
+            unsafe { c::hullpippin_free_live(&mut self.handle) }
         }
     }
 }

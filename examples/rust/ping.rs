@@ -63,15 +63,19 @@ impl Part {
         Ok(())
     }
 
-    /// Waits until the history has so many steps.
+    /// Waits until the history has so many steps and the engine is free. A step is published before the engine is put
+    /// back, so a call that is made in between comes back.
     fn wait_for(&mut self, stamp: u32) -> Result<(), String> {
-        while self.seat.look().stamp < stamp {
+        loop {
+            let page = self.seat.look();
+            if page.stamp >= stamp && !page.taken {
+                return Ok(());
+            }
             if FAILED.load(Ordering::SeqCst) {
                 return Err("the other part has failed".into());
             }
             thread::yield_now();
         }
-        Ok(())
     }
 
     /// The context manager's part.

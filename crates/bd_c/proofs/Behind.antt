@@ -33,6 +33,7 @@ over_same None P is all = absurd is
 over_same (Some (held.Driver d)) P is all = absurd is
 over_same (Some (held.Seat x)) P is all = ((refl, refl), all x)
 over_same (Some (held.History r)) P is all = absurd is
+over_same (Some (held.Live l)) P is all = absurd is
 over_same (Some held.Nothing) P is all = absurd is
 
 pub same_driver : (h : Option Held) (P : Host → Host → Type 0) → IsDriver h → ((x : Host) → P x x) → OverDriver h h P
@@ -40,6 +41,7 @@ same_driver None P is all = absurd is
 same_driver (Some (held.Driver x)) P is all = all x
 same_driver (Some (held.Seat x)) P is all = absurd is
 same_driver (Some (held.History r)) P is all = absurd is
+same_driver (Some (held.Live l)) P is all = absurd is
 same_driver (Some held.Nothing) P is all = absurd is
 
 -- a write without memory for its bytes
@@ -52,6 +54,7 @@ own_driver None s own = absurd own
 own_driver (Some (held.Driver d)) s own = tt
 own_driver (Some (held.Seat x)) s own = absurd own
 own_driver (Some (held.History r)) s own = absurd own
+own_driver (Some (held.Live l)) s own = absurd own
 own_driver (Some held.Nothing) s own = absurd own
 
 pub own_seat : (h s : Option Held) → IsOwn h s → IsSeat s
@@ -60,9 +63,11 @@ own_seat (Some (held.Driver d)) None own = absurd own
 own_seat (Some (held.Driver d)) (Some (held.Driver e)) own = absurd own
 own_seat (Some (held.Driver d)) (Some (held.Seat x)) own = tt
 own_seat (Some (held.Driver d)) (Some (held.History r)) own = absurd own
+own_seat (Some (held.Driver d)) (Some (held.Live l)) own = absurd own
 own_seat (Some (held.Driver d)) (Some held.Nothing) own = absurd own
 own_seat (Some (held.Seat x)) s own = absurd own
 own_seat (Some (held.History r)) s own = absurd own
+own_seat (Some (held.Live l)) s own = absurd own
 own_seat (Some held.Nothing) s own = absurd own
 
 -- a fault that the driver gives is one that C is told as a refusal of that number

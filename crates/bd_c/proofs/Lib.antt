@@ -1,3 +1,4 @@
 pub mod Behind
+pub mod BehindLive
 mod HandleSteps
 mod Values

@@ -9,3 +9,6 @@ pub mod Journals
 pub mod Requests
 pub mod Pages
 pub mod Serving
+pub mod Lives
+pub mod LiveCommands
+pub mod LiveEntries

@@ -3,6 +3,7 @@ use base.Fml.{Fml, ftrue}
 use mir.Syntax.{Ty}
 use denote.RawPtr.{Ptr}
 use Rattle.std.specs.Prelude.{Option, Some, None}
+use Rattle.std.specs.Coded.{Coded, coded_option}
 use Rattle.std.specs.contracts.impls.GlobalAllocator.TheImpl.{ghosts}
 use Rattle.std_alloc.specs.Box.Ownership.{box_owns}
 use Rattle.bd_c.specs.declared.held.Held.{Held}
@@ -11,6 +12,10 @@ use Rattle.bd_c.specs.contracts.held.Held.{the_row as held_row}
 -- the right to free a block of the heap, as the allocator has it
 abbrev pub chunk : Ty → Ptr → Fml
 chunk type p = ghosts.dealloc_token (record { memory = record { seal = tt } }) type p
+
+-- how a proof stores what is behind a handle
+abbrev pub coded_held : Coded (Option Held)
+coded_held = coded_option held_row.coded
 
 unfoldable pub owned : Option Held → Ptr → Fml
 owned None p = ftrue

@@ -1,7 +1,7 @@
 -- The numbers of what came of a call.
 use Rattle.std.specs.Prelude.{◌≡◌, ℕ}
 use Rattle.bd_c.specs.declared.status.Status.{Status}
-use Rattle.bd_c.specs.declared.status.Status.TheVariants.{Done, NoMemory, Waiting, NotWaiting, Taken, NoSuchRequest, SeatCount, NoSeat, SeatsAway, NoJournal}
+use Rattle.bd_c.specs.declared.status.Status.TheVariants.{Done, NoMemory, Waiting, NotWaiting, Taken, NoSuchRequest, SeatCount, NoSeat, SeatsAway, NoJournal, NoSuchSeat, HistoryFull, NoCommand}
 
 abbrev pub number_of : Status → ℕ
 number_of Done = 0
@@ -14,6 +14,9 @@ number_of SeatCount = 6
 number_of NoSeat = 7
 number_of SeatsAway = 8
 number_of NoJournal = 9
+number_of NoSuchSeat = 10
+number_of HistoryFull = 11
+number_of NoCommand = 12
 
 -- the number is that of a status of which this is so
 abbrev pub Reports : ℕ → (Status → Type 0) → Type 0

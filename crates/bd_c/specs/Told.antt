@@ -1,8 +1,11 @@
--- What C is told of an outcome.
+-- What C is told of an outcome, or of a step.
 use Rattle.std.specs.Prelude.{◌≡◌, ℕ, ◌==◌, List, [], ◌∷◌, length, Option, Some, None, if◌then◌else◌}
+use Rattle.bd_uapi.specs.declared.fault.Fault.{Fault}
 use Rattle.bd_uapi.specs.declared.fault.Note.{Note}
 use Rattle.bd_space.specs.declared.step.Answer.{Answer}
 use Rattle.bd_space.specs.declared.step.Answer.TheVariants.{Opened, Set, Exited, Wrote, Got, Refused}
+use Rattle.bd_space.specs.declared.step.StepAnswer.{StepAnswer}
+use Rattle.bd_space.specs.declared.step.StepAnswer.TheVariants as gave
 use Rattle.bd_space.specs.declared.step.Stop.{Stop}
 use Rattle.bd_space.specs.declared.step.Stop.TheVariants as stop
 use Rattle.bd_driver.specs.declared.outcome.Outcome.{Outcome}
@@ -34,15 +37,32 @@ nothing_of kind = record { kind = kind; from = 0; to = 0; consumed = 0; notes = 
 abbrev pub placed : ℕ → ℕ → ℕ → Told
 placed kind start end = record (nothing_of kind) { from = start; to = end }
 
+abbrev pub got_of : List ℕ → List ℕ → List ℕ → ℕ → ℕ → Told
+got_of stream bytes offsets start end = record (placed 5 start end) { stream = length stream; bytes = length bytes; offsets = length offsets }
+
+abbrev pub refused_of : Fault → ℕ → ℕ → Told
+refused_of fault start end = record (placed 6 start end) { number = fault_number fault }
+
 abbrev pub done_of : Answer → ℕ → ℕ → Told
 done_of Opened start end = placed 1 start end
 done_of Set start end = placed 2 start end
 done_of Exited start end = placed 3 start end
 done_of (Wrote consumed notes stop) start end = record (placed 4 start end) { consumed = consumed; notes = length notes; stop = stop_kind stop; number = stop_number stop }
-done_of (Got stream bytes offsets) start end = record (placed 5 start end) { stream = length stream; bytes = length bytes; offsets = length offsets }
-done_of (Refused fault) start end = record (placed 6 start end) { number = fault_number fault }
+done_of (Got stream bytes offsets) start end = got_of stream bytes offsets start end
+done_of (Refused fault) start end = refused_of fault start end
 
 abbrev pub told_of : Outcome → Told
 told_of Handed = nothing_of 0
 told_of (Done answer start end) = done_of answer start end
 told_of (Back request why) = record (nothing_of 7) { why = why_number why }
+
+-- a step is told as the request of that name, a command as a write of it; its note, if it changed nothing, by its number
+abbrev pub told_of_step : StepAnswer → ℕ → ℕ → Told
+told_of_step gave.Opened start end = placed 1 start end
+told_of_step gave.Set start end = placed 2 start end
+told_of_step gave.Exited start end = placed 3 start end
+told_of_step gave.Accepted start end = placed 4 start end
+told_of_step (gave.Noted note) start end = record (placed 4 start end) { notes = 1; number = note_number note }
+told_of_step (gave.Stopped cause) start end = record (placed 4 start end) { stop = 2; number = cause_number cause }
+told_of_step (gave.Got stream bytes offsets) start end = got_of stream bytes offsets start end
+told_of_step (gave.Refused fault) start end = refused_of fault start end

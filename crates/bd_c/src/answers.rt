@@ -1,8 +1,9 @@
 //! What C is told of an answer: its numbers, and how many bytes and notes there are to be fetched.
 use crate::numbers::{stop_kind, stop_number, why_number};
 use bd_driver::Outcome;
-use bd_journal::fault_number;
-use bd_space::Answer;
+use bd_journal::{cause_number, fault_number, note_number};
+use bd_space::{Answer, Bytes, StepAnswer};
+use bd_uapi::Fault;
 
 /// What a request came to, without its bytes and its notes. What a field doesn't apply to has 0 there.
 #[repr(C)]
@@ -34,7 +35,7 @@ pub struct Told {
 
 impl Told {
     ghost use Rattle.std.specs.Prelude.{◌≡◌};
-    ghost use Rattle.bd_c.specs.Told.{told_of, nothing_of, done_of};
+    ghost use Rattle.bd_c.specs.Told.{told_of, nothing_of, placed, got_of, refused_of, done_of, told_of_step};
 
     fn nothing(kind: u32) -> Told
         ensures { result ≡ nothing_of kind }
@@ -54,57 +55,63 @@ impl Told {
         }
     }
 
+    // With the places of its steps.
+    fn placed(kind: u32, from: u32, to: u32) -> Told
+        ensures { result ≡ placed kind from to }
+    {
+        Told {
+            from,
+            to,
+            ..Told::nothing(kind)
+        }
+    }
+
+    // What was read.
+    fn got(stream: &Bytes, bytes: &Bytes, offsets: &Bytes, from: u32, to: u32) -> Told
+        ensures { result ≡ got_of stream.now bytes.now offsets.now from to }
+    {
+        Told {
+            stream: stream.len(),
+            bytes: bytes.len(),
+            offsets: offsets.len(),
+            ..Told::placed(5, from, to)
+        }
+    }
+
+    fn refused(fault: Fault, from: u32, to: u32) -> Told
+        ensures { result ≡ refused_of fault from to }
+    {
+        Told {
+            number: fault_number(fault) as u32,
+            ..Told::placed(6, from, to)
+        }
+    }
+
     // What was run.
     fn done(answer: &Answer, from: u32, to: u32) -> Told
         ensures { result ≡ done_of answer.now from to }
     {
         match answer {
-            Answer::Opened => Told {
-                from,
-                to,
-                ..Told::nothing(1)
-            },
-            Answer::Set => Told {
-                from,
-                to,
-                ..Told::nothing(2)
-            },
-            Answer::Exited => Told {
-                from,
-                to,
-                ..Told::nothing(3)
-            },
+            Answer::Opened => Told::placed(1, from, to),
+            Answer::Set => Told::placed(2, from, to),
+            Answer::Exited => Told::placed(3, from, to),
             Answer::Wrote {
                 consumed,
                 notes,
                 stop,
             } => Told {
-                from,
-                to,
                 consumed: *consumed,
                 notes: notes.as_slice().len(),
                 stop: stop_kind(stop),
                 number: stop_number(stop),
-                ..Told::nothing(4)
+                ..Told::placed(4, from, to)
             },
             Answer::Got {
                 stream,
                 bytes,
                 offsets,
-            } => Told {
-                from,
-                to,
-                stream: stream.len(),
-                bytes: bytes.len(),
-                offsets: offsets.len(),
-                ..Told::nothing(5)
-            },
-            Answer::Refused(fault) => Told {
-                from,
-                to,
-                number: fault_number(*fault) as u32,
-                ..Told::nothing(6)
-            },
+            } => Told::got(stream, bytes, offsets, from, to),
+            Answer::Refused(fault) => Told::refused(*fault, from, to),
         }
     }
 
@@ -119,6 +126,34 @@ impl Told {
                 why: why_number(*why),
                 ..Told::nothing(7)
             },
+        }
+    }
+
+    /// What a step is told as.
+    pub(crate) fn of_step(answer: &StepAnswer, from: u32, to: u32) -> Told
+        ensures { result ≡ told_of_step answer.now from to }
+    {
+        match answer {
+            StepAnswer::Opened => Told::placed(1, from, to),
+            StepAnswer::Set => Told::placed(2, from, to),
+            StepAnswer::Exited => Told::placed(3, from, to),
+            StepAnswer::Accepted => Told::placed(4, from, to),
+            StepAnswer::Noted(note) => Told {
+                notes: 1,
+                number: note_number(*note) as u32,
+                ..Told::placed(4, from, to)
+            },
+            StepAnswer::Stopped(cause) => Told {
+                stop: 2,
+                number: cause_number(*cause) as u32,
+                ..Told::placed(4, from, to)
+            },
+            StepAnswer::Got {
+                stream,
+                bytes,
+                offsets,
+            } => Told::got(stream, bytes, offsets, from, to),
+            StepAnswer::Refused(fault) => Told::refused(*fault, from, to),
         }
     }
 }

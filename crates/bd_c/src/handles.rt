@@ -1,6 +1,7 @@
 //! What C has of a driver or of a seat: a pointer, or null where there is none.
 ghost use Rattle.std.specs.Prelude.{Option};
 ghost use Rattle.bd_c.specs.declared.held.Held.{Held};
+ghost use Rattle.bd_c.specs.Owned.{coded_held};
 
 use std::marker::Model;
 
@@ -9,7 +10,7 @@ use std::marker::Model;
 #[derive(Drop)]
 pub struct Handle {
     pub(crate) at: *mut u8,
-    pub(crate) ghost held: { Option Held },
+    pub(crate) ghost held: { Option Held } by { coded_held },
 }
 
 impl Model for Handle {

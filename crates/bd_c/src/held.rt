@@ -1,5 +1,6 @@
 //! What is behind a handle.
 use crate::host::Host;
+use crate::live::OwnedLive;
 use crate::seat::OwnedSeat;
 use bd_space::Record;
 
@@ -12,6 +13,8 @@ pub enum Held {
     Seat(OwnedSeat),
     /// The history of a driver that has ended.
     History(Record),
+    /// A live engine.
+    Live(OwnedLive),
     /// Nothing yet, or no longer.
     Nothing,
 }

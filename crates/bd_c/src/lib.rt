@@ -1,6 +1,7 @@
 //! A driver for programs in C or Rust: what they link with. A program has handles, one of the driver and one of each
 //! seat, and whoever has a seat's handle makes that seat's calls. What the calls answer stays with the seat until its
-//! next call, so that a caller can fetch it in buffers of the size that it was told.
+//! next call, so that a caller can fetch it in buffers of the size that it was told. Or a program has one handle of a live
+//! engine, which keeps no history, and makes all seats' steps with it.
 #![tactic(auto)]
 
 mod answers;
@@ -13,6 +14,12 @@ mod host;
 mod hosting;
 mod hosts;
 mod judging;
+mod live;
+mod live_calls;
+mod live_commands;
+mod live_entries;
+mod live_looks;
+mod lives;
 mod loose;
 mod numbers;
 mod opening;

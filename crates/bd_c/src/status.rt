@@ -25,6 +25,12 @@ pub enum Status {
     SeatsAway,
     /// The bytes are no journal, or no journal spells the history.
     NoJournal,
+    /// The engine has no such seat.
+    NoSuchSeat,
+    /// The history is full, or a handle past the limit would be needed.
+    HistoryFull,
+    /// The bytes aren't one command.
+    NoCommand,
 }
 
 impl Status {

@@ -1,4 +1,4 @@
--- What an engine keeps, from step to step.
+-- What a live engine follows, from step to step.
 use Rattle.std.proofs.Common.{◌≡◌, ℕ, suc, ◌+◌, ◌<◌, ◌≤◌, Bool, true, false, List, [], ◌∷◌, ◌++◌, length, refl, ap, sym, subst, ◌∙◌, arith, length-append}
 use Rattle.std.specs.Prelude.{nat_lt, nat_le, ◌&&◌, ◌||◌, Some}
 use Rattle.std.proofs.lemmas.List.Folds.{list_all-append}
@@ -9,20 +9,23 @@ use Rattle.bd_space.specs.declared.step.Entry.{Entry}
 use Rattle.bd_space.specs.Space.{Space, opening}
 use Rattle.bd_space.specs.Names.{has_number_past_limit}
 use Rattle.bd_space.specs.Steps.{change, step, counted}
-use Rattle.bd_space.specs.Histories.{History, Follows, EntryFollows, next, after, space_after, extended, is_at_limit, history_of}
+use Rattle.bd_space.specs.Histories.{History, Follows as EntriesFollow, EntryFollows, next, after, space_after, extended, is_at_limit, history_of}
 use Rattle.bd_buffers.specs.WindowsStand.{WindowsOf}
 use Rattle.bd_engine.specs.declared.tables.Tables.{Tables}
 use Rattle.bd_engine.specs.Stands.{Before, Within}
+use Rattle.bd_engine.specs.declared.live.Live.{Live}
+use Rattle.bd_engine.specs.Follows.{Follows}
 use Rattle.bd_engine.specs.Keeps.{Keeps}
 use Rattle.bd_engine.specs.declared.why.Why.{Why}
 use Rattle.bd_engine.specs.declared.why.Why.TheVariants.{NoMemory, HistoryFull}
-use Rattle.bd_engine.specs.Refusals.{FullOnly}
+use Rattle.bd_engine.specs.Refusals.{FullOnly, MemoryOnly}
 use Rattle.bd_objects.proofs.Fitting.{numbers-fit}
 use Rattle.bd_engine.proofs.Places.{change-steps}
 
-pub keeps-new : (seats : ℕ) (t : Tables) → 1 ≤ seats → seats ≤ 16 → Before t opening → Keeps (history_of seats []) t
+pub follows-new : (l : Live) (seats : ℕ) → l.seats ≡ seats → 1 ≤ seats → seats ≤ 65536 → Before l.tables.value opening → Follows l (history_of seats [])
 unfolding space_after
-keeps-new seats t some few stands = record {
+follows-new l seats same some few stands = record {
+  seats_are = same;
   some = some;
   few = few;
   lawful = record { short = omega arith; seats = refl; follows = tt };
@@ -35,7 +38,7 @@ after-more : (s : Space) (es : List Entry) (e : Entry) → after s (es ++ e ∷ 
 after-more s [] e = refl
 after-more s (x ∷ xs) e = after-more (next s x) xs e
 
-follows-more : (s : Space) (es : List Entry) (e : Entry) → Follows s es → EntryFollows (after s es) e → Follows s (es ++ e ∷ [])
+follows-more : (s : Space) (es : List Entry) (e : Entry) → EntriesFollow s es → EntryFollows (after s es) e → EntriesFollow s (es ++ e ∷ [])
 follows-more s [] e f k = (k, tt)
 follows-more s (x ∷ xs) e f k = (f.0, follows-more (next s x) xs e f.1 k)
 
@@ -70,16 +73,18 @@ counted-stands t z h =
       windows_stand = subst (λ n. WindowsOf t.windows n z.processes z.buffers) more h.windows_stand;
     }
 
-pub keeps-more : (h : History) (old new : Tables) (seat : ℕ) (x : Step) (answer : StepAnswer) → Keeps h old → seat < h.seats → length h.entries < 4294967295
-    → answer ≡ (change (space_after h) seat x).answer → Within new (change (space_after h) seat x).space
-    → Keeps (extended h seat x answer) (record new { steps = new.steps + 1 })
+-- a live engine whose tables made the step, and count it
+pub follows-step : (h : History) (old new : Live) (t : Tables) (seat : ℕ) (x : Step) (answer : StepAnswer) → Follows old h → seat < h.seats → length h.entries < 4294967295
+    → answer ≡ (change (space_after h) seat x).answer → Within t (change (space_after h) seat x).space
+    → new.seats ≡ old.seats → new.tables.value ≡ record t { steps = t.steps + 1 } → Follows new (extended h seat x answer)
 unfolding space_after counted change
-keeps-more h old new seat x answer k seated short answered stands =
+follows-step h old new t seat x answer k seated short answered stands same is =
     let s = space_after h in
     let z = (change s seat x).space in
     let e : Entry = record { seat = seat; step = x; answer = answer } in
     let lt = lt-ltb seat h.seats seated in
     record {
+      seats_are = same ∙ k.seats_are;
       some = k.some;
       few = k.few;
       lawful = record {
@@ -87,10 +92,18 @@ keeps-more h old new seat x answer k seated short answered stands =
         seats = list_all-append (λ (y : Entry). nat_lt y.seat h.seats) h.entries (e ∷ []) ∙ ap (λ b. b && (nat_lt seat h.seats && true)) k.lawful.seats ∙ ap (λ b. b && true) lt;
         follows = follows-more opening h.entries e k.lawful.follows (record { answer = sym answered; numbers = numbers-fit _ _ _ _ _ stands.objects_stand });
       };
-      stands = subst (Before (record new { steps = new.steps + 1 })) (sym (after-more opening h.entries e)) (counted-stands new z stands);
+      stands = subst (λ (u : Tables). Before u (after opening (h.entries ++ e ∷ []))) (sym is)
+          (subst (Before (record t { steps = t.steps + 1 })) (sym (after-more opening h.entries e)) (counted-stands t z stands));
     }
 
 -- ---- a step that is refused
+
+pub follows-kept : (h : History) (old new : Live) → Follows old h → new.seats ≡ old.seats → Before new.tables.value (space_after h) → Follows new h
+follows-kept h old new k same stands = record { seats_are = same ∙ k.seats_are; some = k.some; few = k.few; lawful = k.lawful; stands = stands }
+
+pub memory-if : (why : Why) (A : Type 0) → A → MemoryOnly why A
+memory-if NoMemory A x = x
+memory-if HistoryFull A x = tt
 
 pub full-at-length : (h : History) (seat : ℕ) (x : Step) → nat_le 4294967295 (length h.entries) ≡ true → is_at_limit h seat (Some x) ≡ true
 unfolding is_at_limit
@@ -114,3 +127,15 @@ full-as HistoryFull A B f x = f x
 pub full-if : (why : Why) (A : Type 0) → A → FullOnly why A
 full-if NoMemory A x = tt
 full-if HistoryFull A x = x
+
+-- ---- an engine, which holds the entries
+
+pub keeps-more : (h : History) (new : Live) (seat : ℕ) (x : Step) (e : Entry) (n : ℕ) (es : List Entry) → h.seats ≤ 16 → e.seat ≡ seat → e.step ≡ x
+    → Follows new (extended h seat x e.answer) → n ≡ h.seats → es ≡ h.entries ++ e ∷ [] → Keeps (history_of n es) new
+keeps-more h new seat x e n es few seat_is step_is follows seats grown =
+    let entry : e ≡ record { seat = seat; step = x; answer = e.answer } =
+    ap (λ (m : ℕ). let r : Entry = record { seat = m; step = e.step; answer = e.answer } in r) seat_is
+    ∙ ap (λ (y : Step). let r : Entry = record { seat = seat; step = y; answer = e.answer } in r) step_is in
+    let all : extended h seat x e.answer ≡ history_of n es =
+    ap (λ m. history_of m (extended h seat x e.answer).entries) (sym seats) ∙ ap (history_of n) (sym (grown ∙ ap (λ (y : Entry). h.entries ++ y ∷ []) entry)) in
+    subst (λ (z : History). Keeps z new) all (record { few = few; follows = follows })

@@ -4,6 +4,8 @@ pub mod Seating
 pub mod Places
 pub mod Gathering
 pub mod Exiting
+pub mod Noting
+pub mod Asked
 pub mod Keeping
 pub mod Commands
 pub mod Courses

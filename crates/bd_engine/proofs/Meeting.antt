@@ -1,5 +1,5 @@
 -- A step meets its definition, space by space.
-use Rattle.std.proofs.Common.{◌≡◌, true, Result, Ok, Err, refl, ap, sym, subst, ◌∙◌}
+use Rattle.std.proofs.Common.{◌≡◌, Bool, true, Result, Ok, Err, refl, ap, sym, subst, ◌∙◌}
 use Rattle.bd_uapi.specs.declared.fault.Fault.{Fault}
 use Rattle.bd_uapi.specs.declared.fault.Note.{Note}
 use Rattle.bd_space.specs.declared.step.StepAnswer.{StepAnswer}
@@ -60,34 +60,34 @@ module _ (old : Tables) (P Q : Space → Type 0) (f g : Space → Outcome) (same
   as-step new (Ok x) m = record { ok = as_meets new (answer_of x) m.ok; err = tt; full = tt }
   as-step new (Err why) m = record { ok = tt; err = m.err; full = as_refused why m.full }
 
-  pub as-step-twice : (new : Tables) (r : Result Twice Why) → IsStepTwice old new P f r → IsStepTwice old new Q g r
-  as-step-twice new (Ok x) m = record { ok = as_meets new x.answer m.ok; twice = m.twice; err = tt; full = tt }
-  as-step-twice new (Err why) m = record { ok = tt; twice = tt; err = m.err; full = as_refused why m.full }
+  pub as-step-twice : (new : Tables) (both : Bool) (r : Result Twice Why) → IsStepTwice old new both P f r → IsStepTwice old new both Q g r
+  as-step-twice new both (Ok x) m = record { ok = as_meets new x.answer m.ok; twice = m.twice; err = tt; full = tt }
+  as-step-twice new both (Err why) m = record { ok = tt; twice = λ asked. tt; err = m.err; full = as_refused why m.full }
 
 -- ---- answers twice
 
-pub twice-step : (old new : Tables) (P : Space → Type 0) (f : Space → Outcome) (r : Result Plain Why) (t : Result Twice Why) → t ≡ both r
-    → IsStep old new P f r → IsStepTwice old new P f t
-twice-step old new P f r t e m = subst (IsStepTwice old new P f) (sym e) (go r m)
+pub twice-step : (old new : Tables) (asked : Bool) (P : Space → Type 0) (f : Space → Outcome) (r : Result Plain Why) (t : Result Twice Why) → t ≡ both r
+    → IsStep old new P f r → IsStepTwice old new asked P f t
+twice-step old new asked P f r t e m = subst (IsStepTwice old new asked P f) (sym e) (go r m)
   where
-    go : (r : Result Plain Why) → IsStep old new P f r → IsStepTwice old new P f (both r)
-    go (Ok x) m = record { ok = m.ok; twice = refl; err = tt; full = tt }
-    go (Err why) m = record { ok = tt; twice = tt; err = m.err; full = m.full }
+    go : (r : Result Plain Why) → IsStep old new P f r → IsStepTwice old new asked P f (both r)
+    go (Ok x) m = record { ok = m.ok; twice = λ a. refl; err = tt; full = tt }
+    go (Err why) m = record { ok = tt; twice = λ a. tt; err = m.err; full = m.full }
 
 -- ---- the step of a live thread, said as one of the thread's, and answered twice
 
 module _ (old : Tables) (a : Actor) (f : Space → Outcome) where
   -- where the definition asks for no live thread
   module _ (g : Space → Outcome) (same : (s : Space) → f s ≡ g s) where
-    pub any-step : (new : Tables) (r : Result Plain Why) (t : Result Twice Why) → t ≡ both r → IsStep old new IsAny g r → IsStepTwice old new (IsBy a) f t
-    any-step new r t e m = twice-step old new (IsBy a) f r t e (as-step old IsAny (IsBy a) g f (λ s h by. (by.tidy, same s)) new r m)
+    pub any-step : (new : Tables) (asked : Bool) (r : Result Plain Why) (t : Result Twice Why) → t ≡ both r → IsStep old new IsAny g r → IsStepTwice old new asked (IsBy a) f t
+    any-step new asked r t e m = twice-step old new asked (IsBy a) f r t e (as-step old IsAny (IsBy a) g f (λ s h by. (by.tidy, same s)) new r m)
 
   module _ (g : Space → Actor → Outcome) (same : (s : Space) → f s ≡ by_actor s (actor s a.thread.seat) (g s)) where
     pub by-same : (s : Space) → Before old s → IsBy a s → IsBy a s × (f s ≡ g s a)
     by-same s h by = (by, same s ∙ ap (λ o. by_actor s o (g s)) by.acts)
 
-    pub by-step : (new : Tables) (r : Result Plain Why) (t : Result Twice Why) → t ≡ both r → IsStep old new (IsBy a) (λ s. g s a) r → IsStepTwice old new (IsBy a) f t
-    by-step new r t e m = twice-step old new (IsBy a) f r t e (as-step old (IsBy a) (IsBy a) (λ s. g s a) f by-same new r m)
+    pub by-step : (new : Tables) (asked : Bool) (r : Result Plain Why) (t : Result Twice Why) → t ≡ both r → IsStep old new (IsBy a) (λ s. g s a) r → IsStepTwice old new asked (IsBy a) f t
+    by-step new asked r t e m = twice-step old new asked (IsBy a) f r t e (as-step old (IsBy a) (IsBy a) (λ s. g s a) f by-same new r m)
 
 pub answer-is : (old new : Tables) (P : Space → Type 0) (f : Space → Outcome) (a b : StepAnswer) → a ≡ b → Meets old new P f b → Meets old new P f a
 answer-is old new P f a b e m = subst (Meets old new P f) (sym e) m

@@ -1,12 +1,10 @@
 -- What an engine keeps.
 use Rattle.std.specs.Prelude.{◌≤◌}
-use Rattle.bd_space.specs.Histories.{History, IsHistory, space_after}
-use Rattle.bd_engine.specs.declared.tables.Tables.{Tables}
-use Rattle.bd_engine.specs.Stands.{Before}
+use Rattle.bd_space.specs.Histories.{History}
+use Rattle.bd_engine.specs.declared.live.Live.{Live}
+use Rattle.bd_engine.specs.Follows.{Follows}
 
--- its entries are a history of 1 to 16 seats, and its tables stand for the space after it
-pub record Keeps (h : History) (t : Tables) : Type 0 where
-  pub some : 1 ≤ h.seats
+-- its history is one of at most 16 seats, and its live engine follows that
+pub record Keeps (h : History) (l : Live) : Type 0 where
   pub few : h.seats ≤ 16
-  pub lawful : IsHistory h
-  pub stands : Before t (space_after h)
+  pub follows : Follows l h

@@ -2,7 +2,9 @@ pub mod Stands
 pub mod Refusals
 pub mod Meets
 pub mod Plain
+pub mod Follows
 pub mod Keeps
+pub mod Readiness
 pub mod Writing
 pub mod Telling
 pub mod Taking

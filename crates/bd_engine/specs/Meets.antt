@@ -1,5 +1,5 @@
 -- What a step of the tables meets: the definition, on every space that they stand for.
-use Rattle.std.specs.Prelude.{ℕ, ◌≡◌, true, Option, Some, None, Result, Ok, IfOk, IfErr, OnErr}
+use Rattle.std.specs.Prelude.{ℕ, ◌≡◌, Bool, true, Option, Some, None, Result, Ok, IfOk, IfErr, IsTrue, OnErr}
 use Rattle.bd_uapi.specs.declared.command.TransactionData.{TransactionData}
 use Rattle.bd_space.specs.declared.step.Parcel.{Parcel}
 use Rattle.bd_space.specs.declared.step.StepAnswer.{StepAnswer}
@@ -74,9 +74,9 @@ pub record IsStep (old new : Tables) (P : Space → Type 0) (f : Space → Outco
   pub err : OnErr r (IsKept old new)
   pub full : IfErr r (IsRefused old P f)
 
--- the same, answered twice
-pub record IsStepTwice (old new : Tables) (P : Space → Type 0) (f : Space → Outcome) (r : Result Twice Why) : Type 0 where
+-- the same, answered twice where both are asked for
+pub record IsStepTwice (old new : Tables) (both : Bool) (P : Space → Type 0) (f : Space → Outcome) (r : Result Twice Why) : Type 0 where
   pub ok : IfOk r (λ x. Meets old new P f x.answer)
-  pub twice : IfOk r (λ x. x.again ≡ x.answer)
+  pub twice : IsTrue both → IfOk r (λ x. x.again ≡ x.answer)
   pub err : OnErr r (IsKept old new)
   pub full : IfErr r (IsRefused old P f)

@@ -1,4 +1,4 @@
-//! The engine: a history, and the tables that its space is kept in.
+//! The engine: a history, and the live engine that follows it.
 
 ghost use Rattle.std.specs.Prelude.{◌≡◌, ◌≤◌, ◌<◌, ◌^◌, true, [], length, nat_le, IfOk, IfErr, OnErr, MatchResult, Some};
 ghost use Rattle.bd_space.specs.Histories as histories;
@@ -8,6 +8,7 @@ ghost use Rattle.bd_engine.specs.Stands.{Before};
 ghost use Rattle.bd_engine.specs.Refusals.{FullOnly, MemoryOnly, IsSeats, IsSeatFault};
 ghost use Rattle.bd_engine.specs.declared.why.Why.TheVariants.{NoMemory};
 
+use crate::live::Live;
 use crate::tables::Tables;
 use crate::why::Why;
 use bd_space::{Entries, Entry, Record, Step, StepAnswer};
@@ -20,10 +21,8 @@ const MOST_STEPS: usize = 4294967295;
 
 /// The history of a driver's steps, and what it has come to.
 pub struct Engine {
-    seats: u32,
     entries: Vec<Entry>,
-    // Behind a pointer, so that whoever hands an engine on moves few bytes.
-    tables: Box<Tables>,
+    live: Live,
 }
 
 impl Model for Engine {
@@ -32,18 +31,17 @@ impl Model for Engine {
 
     ghost Value = { History };
 
-    ghost view = { λ e. history_of e.seats e.entries.items };
+    ghost view = { λ e. history_of e.live.seats e.entries.items };
 
-    ghost invariant = { λ e. Keeps (history_of e.seats e.entries.items) e.tables.value };
+    ghost invariant = { λ e. Keeps (history_of e.live.seats e.entries.items) e.live };
 }
 
 // Written out: one that is derived would be proved again, with that of each table, in every crate that holds an engine.
 impl Drop for Engine {
     fn drop(self) {
         let Engine {
-            seats: _,
             entries: _,
-            tables: _,
+            live: _,
         } = self;
     }
 }
@@ -69,12 +67,13 @@ impl Engine {
         requires { IsSeats seats }
         ensures { IfOk result (λ e. e ≡ record { seats = seats; entries = [] }) }
     {
-        let tables = Box::new(alloc, Tables::new(alloc))?;
-        Ok(Engine {
-            seats,
-            entries: Vec::new(alloc),
-            tables,
-        })
+        match Live::new(alloc, seats) {
+            Ok(live) => Ok(Engine {
+                entries: Vec::new(alloc),
+                live,
+            }),
+            Err(_) => Err(AllocError),
+        }
     }
 
     // What its memory comes from.
@@ -86,7 +85,7 @@ impl Engine {
     pub(crate) fn tables(&self) -> &Tables
         ensures { Before result.now (histories.space_after self.now) }
     {
-        &self.tables
+        &self.live.tables
     }
 
     /// How many seats there are, 1 to 16.
@@ -95,7 +94,7 @@ impl Engine {
         ensures some { 1 ≤ result }
         ensures few { result ≤ 16 }
     {
-        self.seats
+        self.live.seats
     }
 
     /// How many steps there were.
@@ -128,7 +127,7 @@ impl Engine {
         ensures page { result ≡ histories.ready_bits self.now }
         ensures bits { result < 2 ^ 16 }
     {
-        self.tables().ready_below(self.seats)
+        self.tables().ready_below(self.live.seats)
     }
 
     /// The history.
@@ -137,13 +136,9 @@ impl Engine {
         ensures entries { result.entries ≡ self.entries }
         ensures lawful { histories.IsHistory (record { seats = result.seats; entries = result.entries }) }
     {
-        let Engine {
-            seats,
-            entries,
-            tables: _,
-        } = self;
+        let Engine { entries, live } = self;
         Record {
-            seats,
+            seats: live.seats,
             entries: Entries::new(entries),
         }
     }
@@ -169,16 +164,10 @@ impl Engine {
         if self.entries.reserve(1).is_err() {
             return Err(Why::NoMemory);
         }
-        let tables = &mut *self.tables;
-        match tables.change(seat, &step) {
-            Ok(taken) => {
-                tables.steps += 1;
-                self.entries.push_reserved(Entry {
-                    seat,
-                    step,
-                    answer: taken.again,
-                });
-                Ok(taken.answer)
+        match self.live.make(seat, step, true) {
+            Ok(made) => {
+                self.entries.push_reserved(made.entry);
+                Ok(made.again)
             }
             Err(why) => Err(why),
         }

@@ -1,6 +1,6 @@
 //! The step that reads.
 
-ghost use Rattle.std.specs.Prelude.{◌≡◌, ◌+◌, ◌-◌, ◌*◌, ◌≤◌, ◌++◌, ◌∷◌, [], map, false, None, Some, length, option_map, IfOk, IfSome, OnOk, OnErr, nat_lt};
+ghost use Rattle.std.specs.Prelude.{◌≡◌, ◌+◌, ◌-◌, ◌*◌, ◌≤◌, ◌++◌, ◌∷◌, [], map, false, None, Some, length, option_map, IfOk, IfSome, IsTrue, OnOk, OnErr, nat_lt};
 ghost use Rattle.std.specs.Option.{option_copied};
 ghost use Rattle.std.specs.List.{filter_map};
 ghost use Rattle.bd_uapi.specs.declared.command.Return.TheVariants.{Noop};
@@ -113,6 +113,17 @@ fn got(alloc: Global, buffer: Option<&Buffer>, stream: Vec<u8>) -> Result<StepAn
     }
 }
 
+// The answer again, where it is asked for. Else it takes no memory, and is any answer.
+fn again_if(asked: bool, answer: &StepAnswer) -> Result<StepAnswer, AllocError>
+    ensures { IsTrue asked → IfOk result (λ x. x ≡ answer.now) }
+{
+    if asked {
+        answer.copied()
+    } else {
+        Ok(StepAnswer::Exited)
+    }
+}
+
 // Nothing is taken yet.
 fn begin(alloc: Global) -> Result<Taking, AllocError>
     ensures works { IfOk result (λ t. t.works.items ≡ []) }
@@ -218,24 +229,25 @@ impl Tables {
         self.windows.hand_out(made);
     }
 
-    // A thread reads the list that is its to read.
+    // A thread reads the list that is its to read. The answer is copied only where both are asked for.
     fn read_list(
         &mut self,
         thread: &Thread,
         list: TodoList,
         limit: u32,
+        both: bool,
     ) -> Result<Twice, AllocError>
         ensures ok { IfOk result
             (λ x. Meets self.old self.new (IsReading thread.now list)
             (λ s. spec.read_taking s thread.now.seat (read_items.taken s (limit - 4) (todo.work_on s.todo (Some list)))) x.answer) }
-        ensures twice { IfOk result (λ x. x.again ≡ x.answer) }
+        ensures twice { IsTrue both → IfOk result (λ x. x.again ≡ x.answer) }
         ensures err { OnErr result (IsKept self.old self.new) }
     {
         let Taking { works, stream } = self.take(list, limit)?;
         let buffer = self.buffer_taken(works.as_slice());
         let made = made_of(buffer);
         let answer = got(self.alloc, buffer, stream)?;
-        let again = answer.copied()?;
+        let again = again_if(both, &answer)?;
         let touched = in_order(noticed(self.alloc, works.as_slice())?);
         self.reserve_read(works.len(), touched.len())?;
         self.read_by(thread.seat, works.as_slice(), made);
@@ -244,8 +256,8 @@ impl Tables {
     }
 
     /// The step that reads.
-    pub(crate) fn read(&mut self, a: Actor, limit: u32) -> Result<Twice, Why>
-        ensures { IsStepTwice self.old self.new (IsBy a) (λ s. spec.read_step s a limit) result }
+    pub(crate) fn read(&mut self, a: Actor, limit: u32, both: bool) -> Result<Twice, Why>
+        ensures { IsStepTwice self.old self.new both (IsBy a) (λ s. spec.read_step s a limit) result }
     {
         if limit < 72 {
             return Ok(Plain::Refused(Fault::ReadTooSmall).twice());
@@ -253,7 +265,7 @@ impl Tables {
         let Some(list) = self.list_to_read(&a.thread) else {
             return Ok(Plain::Refused(Fault::Again).twice());
         };
-        match self.read_list(&a.thread, list, limit) {
+        match self.read_list(&a.thread, list, limit, both) {
             Ok(taken) => Ok(taken),
             Err(AllocError) => Err(Why::NoMemory),
         }

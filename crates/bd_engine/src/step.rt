@@ -4,7 +4,7 @@ ghost use Rattle.std.specs.Prelude.{◌≡◌};
 ghost use Rattle.bd_space.specs.Seats.{actor};
 ghost use Rattle.bd_space.specs.Steps.{change};
 ghost use Rattle.bd_space.specs.Commands.{command_step};
-ghost use Rattle.bd_engine.specs.Plain.{both};
+ghost use Rattle.bd_engine.specs.Plain as plain;
 ghost use Rattle.bd_engine.specs.Meets.{IsAny, IsBy, IsNobody, IsStep, IsStepTwice};
 
 use crate::answer::{Plain, Twice};
@@ -15,7 +15,7 @@ use bd_uapi::{Command, Fault};
 
 // The answer, twice, or the refusal.
 fn twice(taken: Result<Plain, Why>) -> Result<Twice, Why>
-    ensures { result ≡ both taken }
+    ensures { result ≡ plain.both taken }
 {
     match taken {
         Ok(plain) => Ok(plain.twice()),
@@ -53,8 +53,8 @@ impl Tables {
     }
 
     // The step of a live thread.
-    fn change_by(&mut self, a: Actor, step: &Step) -> Result<Twice, Why>
-        ensures { IsStepTwice self.old self.new (IsBy a) (λ s. change s a.thread.seat step.now) result }
+    fn change_by(&mut self, a: Actor, step: &Step, both: bool) -> Result<Twice, Why>
+        ensures { IsStepTwice self.old self.new both (IsBy a) (λ s. change s a.thread.seat step.now) result }
     {
         match step {
             Step::Open { pid, euid, window } => twice(self.open(
@@ -66,7 +66,7 @@ impl Tables {
             Step::Attach { pid } => twice(self.attach(a.thread.seat, *pid)),
             Step::SetManager => twice(self.set_manager(a)),
             Step::Command { command, parcel } => twice(self.command(a, command, parcel)),
-            Step::Read { limit } => self.read(a, *limit),
+            Step::Read { limit } => self.read(a, *limit, both),
             Step::ExitThread => twice(self.exit_thread(a)),
             Step::ExitProcess => twice(self.exit_process(a)),
         }
@@ -83,12 +83,12 @@ impl Tables {
         }
     }
 
-    /// The step of a seat.
-    pub(crate) fn change(&mut self, seat: u32, step: &Step) -> Result<Twice, Why>
-        ensures { IsStepTwice self.old self.new IsAny (λ s. change s seat step.now) result }
+    /// The step of a seat, with its answer twice where both are asked for.
+    pub(crate) fn change(&mut self, seat: u32, step: &Step, both: bool) -> Result<Twice, Why>
+        ensures { IsStepTwice self.old self.new both IsAny (λ s. change s seat step.now) result }
     {
         match self.actor(seat) {
-            Some(a) => self.change_by(a, step),
+            Some(a) => self.change_by(a, step, both),
             None => twice(self.change_alone(seat, step)),
         }
     }

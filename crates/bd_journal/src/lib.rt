@@ -11,4 +11,4 @@ mod writing;
 pub use codes::{cause_number, fault_number, note_number};
 pub use fault::{ReadError, WriteError};
 pub use reading::{behind_magic, read_journal};
-pub use writing::write_journal;
+pub use writing::{COUNT_AT, write_entry, write_heading, write_journal};

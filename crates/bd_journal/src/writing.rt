@@ -188,7 +188,12 @@ fn send_answer<W: Write>(answer: &StepAnswer, out: &mut W) -> Result<(), Refused
     }
 }
 
-fn send_entry<W: Write>(seats: u32, entry: &Entry, out: &mut W) -> Result<(), WriteError>
+/// Writes the one spelling of an entry of a journal of so many seats. Behind a heading and the entries before it that is
+/// how a journal goes on, so a history that nobody keeps can be written step by step.
+///
+/// # Errors
+/// As [`write_journal`]. Without a spelling nothing is written.
+pub fn write_entry<W: Write>(seats: u32, entry: &Entry, out: &mut W) -> Result<(), WriteError>
     ensures sends { Sends (W.contents out.old) (W.contents out.new) result (entry_bytes entry.now) }
     ensures spells { Spells result (IsEntry seats entry.now) }
 {
@@ -209,12 +214,21 @@ fn send_entries<W: Write>(seats: u32, entries: &[Entry], out: &mut W) -> Result<
     ensures spells { Spells result (AllByRecursion (IsEntry seats) entries.now) }
 {
     for entry in entries {
-        send_entry(seats, entry, out)?;
+        write_entry(seats, entry, out)?;
     }
     Ok(())
 }
 
-fn send_heading<W: Write>(seats: u32, count: usize, out: &mut W) -> Result<(), WriteError>
+/// Where in a journal the number of its entries stands: four bytes, little-endian.
+pub const COUNT_AT: usize = 12;
+
+/// Writes what a journal of so many seats and entries begins with. Where the entries are still to come, write the heading
+/// with 4294967295 and the right number at [`COUNT_AT`] once all are there: until then no reader takes it for a journal.
+///
+/// # Errors
+/// `Unspellable` where there are no seats, more than 16, or more than 4294967295 entries; then nothing is written.
+/// `Refused` where the writer takes no more: what was written is a beginning.
+pub fn write_heading<W: Write>(seats: u32, count: usize, out: &mut W) -> Result<(), WriteError>
     ensures sends { Sends (W.contents out.old) (W.contents out.new) result (heading_bytes seats count) }
     ensures spells { Spells result (IsHeading seats count) }
 {
@@ -237,6 +251,6 @@ pub fn write_journal<W: Write>(history: &Record, out: &mut W) -> Result<(), Writ
     ensures unspellable { Spells result (IsJournal history.now) }
 {
     let entries = history.entries.as_slice();
-    send_heading(history.seats, entries.len(), out)?;
+    write_heading(history.seats, entries.len(), out)?;
     send_entries(history.seats, entries, out)
 }

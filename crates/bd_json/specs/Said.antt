@@ -13,7 +13,8 @@ use Rattle.bd_player.specs.declared.said.Said.TheVariants as said
 use Rattle.bd_json.specs.declared.said.NotePart.{NotePart}
 use Rattle.bd_json.specs.declared.said.SaidPart.{SaidPart}
 use Rattle.bd_json.specs.declared.said.SaidPart.TheVariants as part
-use Rattle.bd_json.specs.Told.{refusal, fault_refusal, stop_refusal}
+use Rattle.bd_show.specs.Refusals.{refusal}
+use Rattle.bd_json.specs.Told.{fault_refusal, stop_refusal}
 
 abbrev pub note_part : ℕ → Note → NotePart
 note_part command n = record { command = command; note = refusal 78 (note_number n) }

@@ -2,25 +2,17 @@
 use Rattle.std.specs.Prelude.{◌≡◌, ⊤, ℕ, length, map, Option}
 use Rattle.bd_uapi.specs.declared.fault.Fault.{Fault}
 use Rattle.bd_space.specs.declared.step.Entry.{Entry}
-use Rattle.bd_space.specs.declared.step.ObjectId.{ObjectId}
 use Rattle.bd_space.specs.declared.step.Stop.{Stop}
 use Rattle.bd_space.specs.declared.step.Stop.TheVariants as stop
 use Rattle.bd_space.specs.declared.step.StepAnswer.{StepAnswer}
 use Rattle.bd_space.specs.declared.step.StepAnswer.TheVariants as answer
 use Rattle.bd_journal.specs.Codes.{cause_number, fault_number, note_number}
-use Rattle.bd_audit.specs.declared.turns.Turn.{Turn}
-use Rattle.bd_show.specs.declared.form.Gift.{Gift}
-use Rattle.bd_json.specs.declared.texts.Refusal.{Refusal}
+use Rattle.bd_show.specs.declared.refusals.Refusal.{Refusal}
+use Rattle.bd_show.specs.Refusals.{refusal}
 use Rattle.bd_json.specs.declared.entries.AnswerPart.{AnswerPart}
 use Rattle.bd_json.specs.declared.entries.AnswerPart.TheVariants as part
 use Rattle.bd_json.specs.declared.entries.EntryLine.{EntryLine}
-use Rattle.bd_json.specs.declared.entries.ObjectLine.{ObjectLine}
-use Rattle.bd_json.specs.declared.entries.GiftLine.{GiftLine}
-use Rattle.bd_json.specs.declared.entries.TurnLine.{TurnLine}
 use Rattle.bd_json.specs.Payloads as payloads
-
-abbrev pub refusal : ℕ → ℕ → Refusal
-refusal letter number = record { letter = letter; number = number }
 
 abbrev pub fault_refusal : Fault → Refusal
 fault_refusal f = refusal 70 (fault_number f)
@@ -48,12 +40,3 @@ pub record IsOfEntry (place : ℕ) (e : Entry) (pid : Option ℕ) (l : EntryLine
   pub pid_is : l.pid ≡ pid
   pub step_is : l.step.payload ≡ payloads.of_step e.step
   pub answers : Answers e.answer l.answer
-
-abbrev pub object_line : ObjectId → Option ℕ → ObjectLine
-object_line o owner = record { object = record { 0 = o }; owner = owner }
-
-abbrev pub gift_line : Gift → GiftLine
-gift_line g = record { place = g.place; pid = g.pid; to = g.to }
-
-abbrev pub turn_line : Turn → TurnLine
-turn_line t = record { made = t.made; handed = t.handed; ended = t.ended }

@@ -1,15 +1,13 @@
-//! Entries of a history, and what certificates tell.
+//! Entries of a history, and answers.
 
 ghost use Rattle.std.specs.Prelude.{◌≡◌, map, IfOk};
 ghost use Rattle.bd_json.specs.Payloads.{of_returns};
 ghost use Rattle.bd_json.specs.Told as spec;
 
-use crate::texts::{Object, Refusal};
 use crate::words::Word;
-use bd_audit::Turn;
 use bd_codec::read_return;
-use bd_show::Gift;
-use bd_space::{Entry, ObjectId, StepAnswer};
+use bd_show::Refusal;
+use bd_space::{Entry, StepAnswer};
 use serde::Serialize;
 use std::alloc::{AllocError, Global};
 
@@ -98,68 +96,24 @@ impl EntryLine {
     }
 }
 
-/// Which object a name means, and the pid of its owner.
-#[derive(Clone, Copy, Debug, Serialize)]
-pub(crate) struct ObjectLine {
-    pub(crate) object: Object,
-    pub(crate) owner: Option<u32>,
+/// What the rules give in place of an answer.
+#[derive(Drop, Serialize)]
+pub(crate) struct GivenLine {
+    given: AnswerPart,
 }
 
-impl ObjectLine {
-    pub(crate) fn new(object: ObjectId, owner: Option<u32>) -> ObjectLine
-        ensures { result ≡ spec.object_line object owner }
+impl GivenLine {
+    pub(crate) fn new(alloc: Global, answer: &StepAnswer) -> Result<GivenLine, AllocError>
+        ensures { IfOk result (λ l. spec.Answers answer.now l.given) }
     {
-        ObjectLine {
-            object: Object(object),
-            owner,
-        }
+        Ok(GivenLine {
+            given: answer_part(alloc, answer)?,
+        })
     }
 }
 
-/// A step by which a process came to a name: who made it, and who came to the name.
+/// How many entries a journal has, all of which are a history.
 #[derive(Clone, Copy, Debug, Serialize)]
-pub(crate) struct GiftLine {
-    place: u32,
-    pid: Option<u32>,
-    to: Option<u32>,
-}
-
-impl GiftLine {
-    pub(crate) fn new(gift: Gift) -> GiftLine
-        ensures { result ≡ spec.gift_line gift }
-    {
-        let Gift { place, pid, to } = gift;
-        GiftLine { place, pid, to }
-    }
-}
-
-/// Where a one-way call was made, read, and its buffer ended.
-#[derive(Clone, Copy, Debug, Serialize)]
-pub(crate) struct TurnLine {
-    made: u32,
-    handed: Option<u32>,
-    ended: Option<u32>,
-}
-
-impl TurnLine {
-    pub(crate) fn new(turn: &Turn) -> TurnLine
-        ensures { result ≡ spec.turn_line turn.now }
-    {
-        let Turn {
-            made,
-            handed,
-            ended,
-        } = *turn;
-        TurnLine {
-            made,
-            handed,
-            ended,
-        }
-    }
-}
-
-/// The place of the first entry by which a journal is no history.
-#[derive(Clone, Copy, Debug, Serialize)]
-pub(crate) struct UnlawfulLine {
-    pub(crate) unlawful: u32,
+pub(crate) struct LawfulLine {
+    pub(crate) lawful: usize,
 }

@@ -1,14 +1,15 @@
 //! The form of JSON, a value a line.
 
-ghost use Rattle.std.specs.Prelude.{◌≤◌};
-ghost use Rattle.bd_space.specs.Histories.{IsHistory, history_in};
+ghost use Rattle.std.specs.Prelude.{Some, [], OnOk};
+ghost use Rattle.bd_json.specs.Lines.{GrowsByLine};
 
-use crate::entries::{EntryLine, GiftLine, ObjectLine, TurnLine};
+use crate::entries::{EntryLine, GivenLine};
 use crate::writing::write_line;
-use bd_audit::Turn;
-use bd_show::{Form, Gift, Untold};
-use bd_space::{Entry, ObjectId, Record};
+use bd_show::{Form, Untold};
+use bd_space::{Entry, StepAnswer};
+use serde::Serialize;
 use std::alloc::Global;
+use std::fmt;
 use std::io::Write;
 
 /// A value of JSON for each thing.
@@ -27,37 +28,34 @@ impl Form for Json {
         write_line(self.0, &line, out)
     }
 
-    fn object<W: Write>(
+    fn recorded<W: Write>(
         &self,
-        object: ObjectId,
-        owner: Option<u32>,
+        place: u32,
+        entry: &Entry,
+        pid: Option<u32>,
         out: &mut W,
     ) -> Result<(), Untold> {
-        write_line(self.0, &ObjectLine::new(object, owner), out)
+        self.entry(place, entry, pid, out)
     }
 
-    fn gift<W: Write>(&self, gift: Gift, out: &mut W) -> Result<(), Untold> {
-        write_line(self.0, &GiftLine::new(gift), out)
+    fn given<W: Write>(&self, answer: &StepAnswer, out: &mut W) -> Result<(), Untold> {
+        let line = GivenLine::new(self.0, answer)?;
+        write_line(self.0, &line, out)
     }
 
-    fn turn<W: Write>(&self, turn: &Turn, out: &mut W) -> Result<(), Untold> {
-        write_line(self.0, &TurnLine::new(turn), out)
+    fn tell<T: fmt::Display + Serialize, W: Write>(
+        &self,
+        value: &T,
+        out: &mut W,
+    ) -> Result<(), Untold>
+        ensures { OnOk result (GrowsByLine (T.writes value.now (Some [])) (W.contents out.old) (W.contents out.new)) }
+    {
+        write_line(self.0, value, out)
     }
 
     // What there isn't is null.
     fn nothing<W: Write>(&self, _what: &str, out: &mut W) -> Result<(), Untold> {
         let nothing: Option<u32> = None;
         write_line(self.0, &nothing, out)
-    }
-
-    // A space is told as text alone.
-    fn state<W: Write>(
-        &self,
-        _alloc: Global,
-        _record: &Record,
-        _at: Option<u32>,
-        _out: &mut W,
-    ) -> Result<(), Untold> {
-        Err(Untold::OutOfRange)
     }
 }

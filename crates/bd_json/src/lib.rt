@@ -10,4 +10,7 @@ mod texts;
 mod words;
 mod writing;
 
-pub use format::{Format, answer, play_in, print_unlawful_in};
+pub use format::{
+    Format, answer, explain_entry, explain_name, explain_unlawful, play_in, print_lawful_in,
+    print_unlawful_in,
+};

@@ -3,9 +3,10 @@
 ghost use Rattle.std.specs.Prelude.{◌≡◌, IfOk};
 ghost use Rattle.bd_json.specs.Said as spec;
 
-use crate::texts::{Hex, Refusal, stop_of};
+use crate::texts::{Hex, stop_of};
 use bd_driver::{Served, Why};
 use bd_player::Said;
+use bd_show::Refusal;
 use bd_space::{Answer, Notes};
 use bd_uapi::Note;
 use serde::Serialize;

@@ -3,8 +3,7 @@
 ghost use Rattle.std.specs.Prelude.{◌≡◌};
 ghost use Rattle.bd_json.specs.Payloads as spec;
 
-use crate::texts::Wide;
-use bd_show::{handle_of, return_name, step_name};
+use bd_show::{Wide, handle_of, return_name, step_name};
 use bd_space::Step;
 use bd_uapi::{Command, Return, TransactionData};
 use bitflags::Flags;

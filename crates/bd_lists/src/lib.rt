@@ -1,9 +1,10 @@
-//! The tables of objects, names, references and work items as plain lists, each of which searches one vector. They are
-//! for tests alone: what the tables of `bd_nodes`, `bd_names`, `bd_references` and `bd_links` answer is compared with
-//! what these answer.
+//! The tables of objects, names, references, death notifications and work items as plain lists, each of which searches
+//! one vector. They are for tests alone: what the tables of `bd_nodes`, `bd_names`, `bd_references`, `bd_deaths` and
+//! `bd_links` answer is compared with what these answer.
 #![tactic(auto)]
 
 mod carried;
+mod deaths;
 mod held;
 mod names;
 mod nodes;
@@ -12,6 +13,7 @@ mod unread;
 mod works;
 
 pub use carried::CarriedObjects;
+pub use deaths::DeathList;
 pub use names::NameList;
 pub use nodes::NodeList;
 pub use references::ReferenceList;

@@ -5,7 +5,7 @@ ghost use Rattle.clap.specs.Matches.{found_of};
 ghost use Rattle.bd_play.specs.Orders.{IsManner, PlaysFound, PlaysInput};
 
 use crate::inquiries::{
-    Inquiry, Subject, format_arg, format_in, inquiry_in, subject_in, with_inquiries,
+    Doubt, Inquiry, doubt_in, format_arg, format_in, inquiry_in, with_inquiries,
 };
 use crate::script_help::SCRIPT_HELP;
 use crate::sketches::{Sketch, diagram_command, sketch_in};
@@ -39,6 +39,14 @@ loop; another makes a one-way call with code 7 and the bytes 6869 to handle 0, a
     1 read 256
     0 read 256
 
+What happened in a run can be looked at and asked for afterwards, where its journal was written:
+
+    bplay run script --journal journal
+    bplay show journal                  all that was done, and what came back
+    bplay state journal --at 5          what each process had after 5 entries
+    bplay chain journal 200 1           who gave the process with pid 200 what its handle 1 names
+    bplay diagram journal > run.svg     the calls between threads, as a picture
+
 Statuses: 0 done, or lawful; 1 a fault, or unlawful; 2 turns used up; 3 memory refused.";
 
 const RUN_HELP: &str = "\
@@ -63,7 +71,7 @@ from those before, from 0.
 Statuses: 0 lawful; 1 unlawful, or a fault, told on standard error; 3 memory refused.";
 
 /// A run of a script.
-#[derive(Clone, Copy, Debug)]
+#[derive(Clone, Copy)]
 pub struct Run<'a> {
     /// The script's file.
     pub file: &'a str,
@@ -78,7 +86,7 @@ pub struct Run<'a> {
 }
 
 /// A judgment of a journal.
-#[derive(Clone, Copy, Debug)]
+#[derive(Clone, Copy)]
 pub struct Check<'a> {
     /// The journal's file.
     pub file: &'a str,
@@ -87,7 +95,7 @@ pub struct Check<'a> {
 }
 
 /// What the words ask for.
-#[derive(Clone, Copy, Debug)]
+#[derive(Clone, Copy)]
 pub enum Order<'a> {
     /// Plays a script.
     Run(Run<'a>),
@@ -96,7 +104,7 @@ pub enum Order<'a> {
     /// Answers a question about a journal.
     Ask(Inquiry<'a>),
     /// Tells what a name means, or what is with a journal.
-    Explain(Subject<'a>),
+    Explain(Doubt<'a>),
     /// Draws a journal.
     Draw(Sketch<'a>),
     /// Tells what scripts are.
@@ -135,38 +143,39 @@ fn progress_arg<'a>(alloc: Global) -> Arg<'a> {
 }
 
 fn run_command<'a>(alloc: Global) -> Result<Command<'a>, Error> {
-    let file = file_arg(alloc, "The script, or - for standard input");
-    let threads = Arg::new(alloc, "threads")
-        .long("threads")
-        .action(ArgAction::SetTrue)
-        .help("Run each seat's lines on a thread of their own, and print seat by seat");
-    let turns = Arg::new(alloc, "turns")
-        .long("turns")
-        .value_name("N")
-        .value_parser(value_parser!(u32).range(1..))
-        .help("How many turns a line has, 1 to 4294967295 [default: 100000000]");
-    let journal = Arg::new(alloc, "journal")
-        .long("journal")
-        .value_name("OUT")
-        .help("Write the journal of the run here");
     let command = Command::new(alloc, "run")
         .about("Plays a script")
         .after_help(RUN_HELP)
-        .arg(file)?
-        .arg(threads)?
-        .arg(turns)?
-        .arg(journal)?
+        .arg(file_arg(alloc, "The script, or - for standard input"))?
+        .arg(
+            Arg::new(alloc, "threads")
+                .long("threads")
+                .action(ArgAction::SetTrue)
+                .help("Run each seat's lines on a thread of their own, and print seat by seat"),
+        )?
+        .arg(
+            Arg::new(alloc, "turns")
+                .long("turns")
+                .value_name("N")
+                .value_parser(value_parser!(u32).range(1..))
+                .help("How many turns a line has, 1 to 4294967295 [default: 100000000]"),
+        )?
+        .arg(
+            Arg::new(alloc, "journal")
+                .long("journal")
+                .value_name("OUT")
+                .help("Write the journal of the run here"),
+        )?
         .arg(format_arg(alloc))?
         .arg(progress_arg(alloc))?;
     Ok(command)
 }
 
 fn check_command<'a>(alloc: Global) -> Result<Command<'a>, Error> {
-    let file = file_arg(alloc, "The journal, or - for standard input");
     let command = Command::new(alloc, "check")
         .about("Judges a journal")
         .after_help(CHECK_HELP)
-        .arg(file)?
+        .arg(file_arg(alloc, "The journal, or - for standard input"))?
         .arg(progress_arg(alloc))?;
     Ok(command)
 }
@@ -233,7 +242,7 @@ fn order_in<'a>(matches: &ArgMatches<'a>) -> Option<Order<'a>> {
     match name {
         "run" => run_order(inner),
         "check" => Some(Order::Check(check_in(inner)?)),
-        "explain" => Some(Order::Explain(subject_in(inner)?)),
+        "explain" => Some(Order::Explain(doubt_in(inner)?)),
         "diagram" => Some(Order::Draw(sketch_in(inner)?)),
         "script" => Some(Order::Script),
         _ => Some(Order::Ask(inquiry_in(name, inner)?)),

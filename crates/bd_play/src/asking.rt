@@ -1,10 +1,16 @@
 //! Questions about the journal in a file.
 
-use crate::inquiries::{Doubt, Inquiry};
+ghost use Rattle.bd_player.specs.Verdicts.{IsAsSaid};
+
+use crate::inquiries::{Doubt, Inquiry, Subject};
 use crate::sources::judged_in;
-use bd_json::{answer, print_unlawful_in};
-use bd_player::{DONE, FAULT, Fault, Judged, print_lawful, tell};
-use bd_show::{Untold, explain_entry, explain_unlawful};
+use bd_json::{
+    Format, answer, explain_entry, explain_name, explain_unlawful, print_lawful_in,
+    print_unlawful_in,
+};
+use bd_player::{DONE, FAULT, Fault, Judged, tell};
+use bd_show::Untold;
+use std::alloc::Global;
 use std::io::Write;
 use std::rt::Files;
 
@@ -39,24 +45,48 @@ pub fn ask<H: AllocGlobal + Files + Input, W: Write, E: Write>(
     }
 }
 
-/// Explains the journal in a file: why it is no history, or how its entry at a place was answered.
-pub fn explain_journal<H: AllocGlobal + Files + Input, W: Write, E: Write>(
+// Explains what was judged: why it is no history, or how its entry at a place was answered.
+fn explain_judged<W: Write, E: Write>(
+    alloc: Global,
+    judged: &Judged,
+    place: Option<u32>,
+    format: Format,
+    out: &mut W,
+    err: &mut E,
+) -> u8
+    requires { IsAsSaid judged.now }
+{
+    match judged {
+        Judged::History(record) => match place {
+            Some(place) => {
+                let told = explain_entry(alloc, record, place, format, out);
+                status_of(told.map(|_| true), err)
+            }
+            None => print_lawful_in(alloc, record.entries.as_slice().len(), format, out, err),
+        },
+        Judged::Unlawful { record, at } => {
+            let told = explain_unlawful(alloc, record, *at, format, out);
+            FAULT.max(status_of(told.map(|_| true), err))
+        }
+    }
+}
+
+/// Explains a name, or what is with the journal in a file.
+pub fn explain<H: AllocGlobal + Files + Input, W: Write, E: Write>(
     rt: &H,
     doubt: Doubt<'_>,
     out: &mut W,
     err: &mut E,
 ) -> u8 {
-    let alloc = rt.alloc();
-    match (judged_in(rt, doubt.file), doubt.place) {
-        (Ok(Judged::History(record)), Some(place)) => {
-            status_of(explain_entry(alloc, &record, place, out).map(|_| true), err)
+    let (alloc, format) = (rt.alloc(), doubt.format);
+    match doubt.subject {
+        Subject::Name(name) => {
+            let told = explain_name(alloc, &name, format, out);
+            status_of(told.map(|_| true), err)
         }
-        (Ok(Judged::History(record)), None) => {
-            print_lawful(record.entries.as_slice().len(), out)
-        }
-        (Ok(Judged::Unlawful { record, at }), _) => {
-            FAULT.max(status_of(explain_unlawful(alloc, &record, at, out).map(|_| true), err))
-        }
-        (Err(fault), _) => tell(fault, err),
+        Subject::Journal { file, place } => match judged_in(rt, file) {
+            Ok(judged) => explain_judged(alloc, &judged, place, format, out, err),
+            Err(fault) => tell(fault, err),
+        },
     }
 }

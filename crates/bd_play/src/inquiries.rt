@@ -4,14 +4,15 @@ ghost use Rattle.std.specs.Prelude.{IfSome};
 ghost use Rattle.clap.specs.Matches.{found_of};
 ghost use Rattle.bd_play.specs.Inquiries.{AsksFound, AskedBy, IsFormat, IsNumberAt};
 
+use bd_explain::{Explanation, explained};
 use bd_json::Format;
-use bd_show::{Explanation, Question, Selection, explained};
+use bd_show::{Question, Selection};
 use bd_space::ObjectId;
 use clap::{Arg, ArgMatches, Command, Error, value_parser};
 use std::alloc::Global;
 
 /// A question, and the file of the journal that it is about.
-#[derive(Clone, Copy, Debug)]
+#[derive(Clone, Copy)]
 pub struct Inquiry<'a> {
     /// The journal's file.
     pub file: &'a str,
@@ -21,15 +22,44 @@ pub struct Inquiry<'a> {
     pub format: Format,
 }
 
-const CHAIN_HELP: &str = "\
-Each line is a gift: its place in the history, who gave the object and who had a name for it from then on. The first
-giver is its owner. The context manager's object may be asked for by 0.
+const SHOW_HELP: &str = "\
+Each line is an entry of the history: its place, the seat, the pid of its process, what it did and what came back. Returns
+that were read stand below, one a line.
 
-Statuses: 0 there is such a name; 1 there is none, the journal is unlawful, or a fault; 3 memory refused.";
+    bplay show journal --from 4 --to 5
+    4 seat 1 pid 200 BC_TRANSACTION handle 0 cookie 0 code 7 flags 0x1 TF_ONE_WAY data_size 2 offsets_size 0: accepted";
+
+const CHAIN_HELP: &str = "\
+First comes the object that the handle names, with the pid of its owner. Each further line is a gift: its place in the
+history, who gave the object and who had a handle for it from then on. The first giver is the owner; the last receiver is
+the process that is asked about. The context manager's object may be asked for by 0.
+
+    bplay run script --journal journal
+    bplay chain journal 100 1
+    object 4.0 of pid 200
+    4: pid 200 gave it to pid 100
+
+Statuses: 0 there is such a handle; 1 there is none, the journal is unlawful, or a fault; 3 memory refused.";
+
+const CALL_HELP: &str = "\
+It prints the call and the read, as `bplay show` does.
+
+    bplay call-of-reply journal 8
+
+Statuses: 0 there is such a call; 1 that entry read no reply, the journal is unlawful, or a fault; 3 memory refused.";
+
+const TURNS_HELP: &str = "\
+Each line is a call: the places where it was made, where it was read, and where its buffer ended.
+
+    bplay turns journal 1.0
+    made 4 handed 7 ended 9
+    made 5 handed 10 ended -";
 
 const STATE_HELP: &str = "\
 Of each process that lives: what is unread, its threads, the objects that it owns, its handles, the buffers in its
-window, and the death notifications that it asked for.";
+window, and the death notifications that it asked for.
+
+    bplay state journal --at 7";
 
 const EXPLAIN_HELP: &str = "\
 Of a name it tells when it comes and what it leaves. Of a journal that is a history, and a place in it, it tells which
@@ -79,6 +109,7 @@ pub fn number_option<'a>(alloc: Global, name: &'a str, value: &'a str, help: &'a
 fn show_command<'a>(alloc: Global) -> Result<Command<'a>, Error> {
     let command = Command::new(alloc, "show")
         .about("Shows the entries of a journal, a line each")
+        .after_help(SHOW_HELP)
         .arg(journal_arg(alloc))?
         .arg(number_option(alloc, "from", "K", "Only entries from this place on"))?
         .arg(number_option(alloc, "to", "K", "Only entries before this place"))?
@@ -107,6 +138,7 @@ fn chain_command<'a>(alloc: Global) -> Result<Command<'a>, Error> {
 fn call_command<'a>(alloc: Global) -> Result<Command<'a>, Error> {
     let command = Command::new(alloc, "call-of-reply")
         .about("Tells which call a reply answers")
+        .after_help(CALL_HELP)
         .arg(journal_arg(alloc))?
         .arg(number_arg(
             alloc,
@@ -119,14 +151,16 @@ fn call_command<'a>(alloc: Global) -> Result<Command<'a>, Error> {
 }
 
 fn turns_command<'a>(alloc: Global) -> Result<Command<'a>, Error> {
-    let object = Arg::new(alloc, "object")
-        .value_name("PLACE.INDEX")
-        .required(true)
-        .help("The object: the place of the step that made it, and its number there");
     let command = Command::new(alloc, "turns")
         .about("Tells the one-way calls on an object, in the order in which they were made")
+        .after_help(TURNS_HELP)
         .arg(journal_arg(alloc))?
-        .arg(object)?
+        .arg(
+            Arg::new(alloc, "object")
+                .value_name("PLACE.INDEX")
+                .required(true)
+                .help("The object: the place of the step that made it, and its number there"),
+        )?
         .arg(format_arg(alloc))?;
     Ok(command)
 }
@@ -136,24 +170,28 @@ fn state_command<'a>(alloc: Global) -> Result<Command<'a>, Error> {
         .about("Tells what a history has come to, process by process")
         .after_help(STATE_HELP)
         .arg(journal_arg(alloc))?
-        .arg(number_option(alloc, "at", "K", "After this many entries [default: all]"))?;
+        .arg(number_option(alloc, "at", "K", "After this many entries [default: all]"))?
+        .arg(format_arg(alloc))?;
     Ok(command)
 }
 
 fn explain_command<'a>(alloc: Global) -> Result<Command<'a>, Error> {
-    let what = Arg::new(alloc, "file")
-        .value_name("WHAT")
-        .required(true)
-        .help("F1 to F16, X1 to X16 or N1 to N11, or a journal, or - for standard input");
-    let place = Arg::new(alloc, "place")
-        .value_name("K")
-        .value_parser(value_parser!(u32))
-        .help("The place of the entry of a journal that is to be explained");
     let command = Command::new(alloc, "explain")
         .about("Tells what a refusal means, or why an entry of a journal was answered so")
         .after_help(EXPLAIN_HELP)
-        .arg(what)?
-        .arg(place)?;
+        .arg(
+            Arg::new(alloc, "file")
+                .value_name("WHAT")
+                .required(true)
+                .help("F1 to F16, X1 to X16 or N1 to N11, or a journal, or - for standard input"),
+        )?
+        .arg(
+            Arg::new(alloc, "place")
+                .value_name("K")
+                .value_parser(value_parser!(u32))
+                .help("The place of the entry of a journal that is to be explained"),
+        )?
+        .arg(format_arg(alloc))?;
     Ok(command)
 }
 
@@ -244,29 +282,33 @@ pub fn inquiry_in<'a>(name: &str, matches: &ArgMatches<'a>) -> Option<Inquiry<'a
 }
 
 /// What is to be explained.
-#[derive(Clone, Copy, Debug)]
+#[derive(Clone, Copy)]
 pub enum Subject<'a> {
     /// A name.
     Name(Explanation<'static>),
-    /// A journal.
-    Journal(Doubt<'a>),
+    /// The journal in this file: why it is no history, or how its entry at a place was answered.
+    Journal { file: &'a str, place: Option<u32> },
 }
 
-/// What is to be explained: why it is no history, or how one of its entries was answered.
-#[derive(Clone, Copy, Debug)]
+/// What is to be explained, and in which form.
+#[derive(Clone, Copy)]
 pub struct Doubt<'a> {
-    /// The journal's file.
-    pub file: &'a str,
-    /// The place of the entry.
-    pub place: Option<u32>,
+    /// What is.
+    pub subject: Subject<'a>,
+    /// In which form.
+    pub format: Format,
 }
 
 /// What was found that is to be explained. A word that is a name means that, where no place is given.
-pub fn subject_in<'a>(matches: &ArgMatches<'a>) -> Option<Subject<'a>> {
+pub fn doubt_in<'a>(matches: &ArgMatches<'a>) -> Option<Doubt<'a>> {
     let file = matches.get_str("file")?;
     let place = number_in(matches, "place");
-    Some(match (explained(file), place) {
+    let subject = match (explained(file), place) {
         (Some(explanation), None) => Subject::Name(explanation),
-        _ => Subject::Journal(Doubt { file, place }),
+        _ => Subject::Journal { file, place },
+    };
+    Some(Doubt {
+        subject,
+        format: format_in(matches),
     })
 }

@@ -13,10 +13,9 @@ mod sketches;
 mod sources;
 
 use arguments::{Order, Refused, order_of};
-use asking::{ask, explain_journal};
+use asking::{ask, explain};
 use bd_player::{DONE, Fault, after_writing, tell};
 use files::{check_file, run_file};
-use inquiries::Subject;
 use output::Output;
 use script_help::SCRIPT_HELP;
 use sketches::draw_journal;
@@ -37,19 +36,6 @@ fn ended<E: Write>(came: Result<(), Fault>, err: &mut E) -> u8 {
     }
 }
 
-// Explains a name, or what is with a journal.
-fn explain<H: AllocGlobal + Files + Input, W: Write, E: Write>(
-    rt: &H,
-    subject: Subject<'_>,
-    out: &mut W,
-    err: &mut E,
-) -> u8 {
-    match subject {
-        Subject::Name(explanation) => after_writing(writeln!(out, "{explanation}"), DONE),
-        Subject::Journal(doubt) => explain_journal(rt, doubt, out, err),
-    }
-}
-
 // Does what the words ask for.
 fn obey<H, W: Write + Drop, E: Write>(
     rt: &H,
@@ -64,7 +50,7 @@ where
         Order::Run(run) => run_file(rt, run, out, err),
         Order::Check(check) => check_file(rt, check, out, err),
         Order::Ask(inquiry) => ask(rt, inquiry, out, err),
-        Order::Explain(subject) => explain(rt, subject, out, err),
+        Order::Explain(doubt) => explain(rt, doubt, out, err),
         Order::Draw(sketch) => draw_journal(rt, sketch, out, err),
         Order::Script => after_writing(write!(out, "{SCRIPT_HELP}"), DONE),
     };

@@ -10,7 +10,7 @@ use std::io::Write;
 use std::rt::Files;
 
 /// A diagram of a journal.
-#[derive(Clone, Copy, Debug)]
+#[derive(Clone, Copy)]
 pub struct Sketch<'a> {
     /// The journal's file.
     pub file: &'a str,
@@ -27,16 +27,17 @@ dashed. What each mark means stands in docs/FORMATS.md.
 
 /// The command.
 pub fn diagram_command<'a>(alloc: Global) -> Result<Command<'a>, Error> {
-    let format = Arg::new(alloc, "format")
-        .long("format")
-        .value_name("F")
-        .value_parser(["svg", "mermaid", "text"].as_slice())
-        .help("In which form: svg, mermaid or text [default: svg]");
     let command = Command::new(alloc, "diagram")
         .about("Draws what happened between threads, as a sequence diagram")
         .after_help(HELP)
         .arg(journal_arg(alloc))?
-        .arg(format)?
+        .arg(
+            Arg::new(alloc, "format")
+                .long("format")
+                .value_name("F")
+                .value_parser(["svg", "mermaid", "text"].as_slice())
+                .help("In which form: svg, mermaid or text [default: svg]"),
+        )?
         .arg(number_option(alloc, "from", "K", "Only entries from this place on"))?
         .arg(number_option(alloc, "to", "K", "Only entries before this place"))?;
     Ok(command)

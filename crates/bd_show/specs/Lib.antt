@@ -1,3 +1,6 @@
 pub mod Shown
 pub mod Pids
 pub mod Answered
+pub mod Refusals
+pub mod Reasons
+pub mod Certified

@@ -1,22 +1,13 @@
 -- The pids of processes that are known by the places where they were opened.
-use Rattle.std.specs.Prelude.{ℕ, List, Option, Some, None, option_and_then}
+use Rattle.std.specs.Prelude.{ℕ, List, Option, option_and_then}
 use Rattle.std.specs.Option.{option_or}
 use Rattle.std.specs.List.{slice_get}
 use Rattle.bd_space.specs.declared.step.Entry.{Entry}
-use Rattle.bd_space.specs.declared.step.Step.{Step}
-use Rattle.bd_space.specs.declared.step.Step.TheVariants.{Open}
 use Rattle.bd_space.specs.Space.{Space}
 use Rattle.bd_space.specs.Histories.{History, space_after}
 use Rattle.bd_engine.specs.Looks.{process_of}
 use Rattle.bd_audit.specs.Replays.{beginning, with_entry}
-
-abbrev pub pid_opened : Step → Option ℕ
-pid_opened (Open pid euid window) = Some pid
-pid_opened _ = None
-
--- the pid of the process that was opened at this place
-abbrev pub pid_at : List Entry → ℕ → Option ℕ
-pid_at es place = option_and_then (λ e. pid_opened e.step) (slice_get es place)
+use Rattle.bd_state.specs.Owners.{pid_at}
 
 -- the pid of the process of a seat's thread
 abbrev pub pid_of : Space → List Entry → ℕ → Option ℕ

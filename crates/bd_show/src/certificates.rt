@@ -1,19 +1,24 @@
 //! Certificates of a history: how a process came to a name, which call a reply answers, the turns of an object.
 
-ghost use Rattle.std.specs.Prelude.{◌≡◌, ◌≤◌, length, IfOk, IfSome, is_some};
+ghost use Rattle.std.specs.Prelude.{◌≡◌, ◌≤◌, All, IfOk, IfSome, is_some};
 ghost use Rattle.bd_space.specs.Histories.{IsHistory, space_after, history_in};
 ghost use Rattle.bd_engine.specs.Looks as looks;
 ghost use Rattle.bd_audit.specs.Gifts.{IsChainOf};
+ghost use Rattle.bd_audit.specs.Replays.{with_entry};
 ghost use Rattle.bd_audit.specs.Replies.{call_answered};
 ghost use Rattle.bd_audit.specs.TurnCalls.{AreTurns};
+ghost use Rattle.bd_show.specs.Certified.{IsMadeBy, named_by, turn_told};
 ghost use Rattle.bd_show.specs.Pids.{maker_of};
 
 use crate::entries::show_at;
 use crate::fault::Untold;
 use crate::form::{Form, Gift};
-use crate::pids::{maker_of, pid_at};
-use bd_audit::{Turn, call_of_reply, gift_chain, oneway_turns, played_to};
-use bd_space::{ObjectId, Record};
+use crate::pids::{pid_of, receiver_of};
+use bd_audit::{Turn, advance, call_of_reply, gift_chain, oneway_turns};
+use bd_engine::Engine;
+use bd_space::{Entry, ObjectId, Record};
+use bd_state::{ObjectText, OrDash, owner_of};
+use serde::Serialize;
 use std::alloc::Global;
 use std::fmt;
 use std::io::Write;
@@ -65,72 +70,83 @@ pub(crate) fn turns_on(
     }
 }
 
-// The pid of the process in whose window the buffer made at a place lies.
-fn receiver_of(alloc: Global, record: &Record, place: u32) -> Result<Option<u32>, Untold>
-    requires seats { (1 ≤ «record».now.seats) × («record».now.seats ≤ 16) }
-    requires lawful { IsHistory (history_in «record».now) }
+/// Which object a name means, and the pid of its owner.
+#[derive(Clone, Copy, Serialize)]
+pub(crate) struct Named {
+    object: ObjectText,
+    owner: Option<u32>,
+}
+
+impl Named {
+    // What a number names for the process with this pid.
+    fn by(engine: &Engine, entries: &[Entry], pid: u32, number: u32) -> Option<Named>
+        ensures { result ≡ named_by (space_after engine.now) entries.now pid number }
+    {
+        let object = engine.named(pid, number)?;
+        Some(Named {
+            object: ObjectText(object),
+            owner: owner_of(engine, entries, object),
+        })
+    }
+}
+
+impl fmt::Display for Named {
+    fn fmt<W: fmt::Write>(&self, f: &mut fmt::Formatter<W>) -> fmt::Result {
+        let (object, owner) = (self.object, OrDash(self.owner));
+        write!(f, "object {object} of pid {owner}")
+    }
+}
+
+// Makes the step of an entry. The gift by it, if its place is the one that is asked for.
+fn gift_made(
+    engine: &mut Engine,
+    entries: &[Entry],
+    entry: &Entry,
+    asked: Option<&u32>,
+) -> Result<Option<Gift>, Untold>
+    requires { IsHistory (with_entry engine.old entry.now) }
+    ensures engine { IfOk result (λ _. engine.new ≡ with_entry engine.old entry.now) }
+    ensures gift { IfOk result (λ g. IfSome g (IsMadeBy engine.old entries.now entry.now)) }
 {
-    let entries = record.entries.as_slice();
-    if place as usize >= entries.len() {
+    let place = engine.len();
+    let pid = pid_of(engine, entries, entry.seat);
+    advance(engine, entry)?;
+    if asked != Some(&place) {
         return Ok(None);
     }
-    let engine = played_to(alloc, record, place as usize + 1)?;
-    Ok(match engine.buffer(place) {
-        Some(buffer) => pid_at(entries, buffer.receiver),
-        None => None,
-    })
+    let to = receiver_of(engine, entries, place);
+    Ok(Some(Gift { place, pid, to }))
 }
 
-// The gift at a place: whose step it is, and who came to the name by it.
-fn gift_at(alloc: Global, record: &Record, place: u32) -> Result<Gift, Untold>
+// The gifts at these places, which rise, and the engine after the last entry.
+fn gifts_at(alloc: Global, record: &Record, places: &[u32]) -> Result<(Engine, Vec<Gift>), Untold>
     requires seats { (1 ≤ «record».now.seats) × («record».now.seats ≤ 16) }
     requires lawful { IsHistory (history_in «record».now) }
-    ensures { IfOk result (λ g. (g.place ≡ place) × (g.pid ≡ maker_of (history_in «record».now) place)) }
-{
-    Ok(Gift {
-        place,
-        pid: maker_of(alloc, record, place)?,
-        to: receiver_of(alloc, record, place)?,
-    })
-}
-
-// Tells what a number names after the history, and whose it is.
-fn tell_object<F: Form, W: Write>(
-    alloc: Global,
-    record: &Record,
-    pid: u32,
-    number: u32,
-    form: &F,
-    out: &mut W,
-) -> Result<(), Untold>
-    requires seats { (1 ≤ «record».now.seats) × («record».now.seats ≤ 16) }
-    requires lawful { IsHistory (history_in «record».now) }
+    ensures engine { IfOk result (λ made. made.0 ≡ history_in «record».now) }
+    ensures gifts { IfOk result (λ made. All (λ g. g.pid ≡ maker_of (history_in «record».now) g.place) made.1.items) }
 {
     let entries = record.entries.as_slice();
-    let engine = played_to(alloc, record, entries.len())?;
-    if let Some(object) = engine.named(pid, number) {
-        let owner = engine
-            .owner(object)
-            .and_then(|owner| pid_at(entries, owner));
-        form.object(object, owner, out)?;
+    let mut engine = Engine::new(alloc, record.seats)?;
+    let mut gifts = Vec::new(alloc);
+    for entry in entries {
+        let asked = places.get(gifts.len());
+        if let Some(gift) = gift_made(&mut engine, entries, entry, asked)? {
+            if gifts.push(gift).is_err() {
+                return Err(Untold::Memory);
+            }
+        }
     }
-    Ok(())
+    Ok((engine, gifts))
 }
 
-// Tells gifts in their order.
-fn tell_gifts<F: Form, W: Write>(
-    alloc: Global,
-    record: &Record,
-    places: &[u32],
+// Tells values in their order.
+fn tell_all<T: fmt::Display + Serialize, F: Form, W: Write>(
+    values: &[T],
     form: &F,
     out: &mut W,
-) -> Result<(), Untold>
-    requires seats { (1 ≤ «record».now.seats) × («record».now.seats ≤ 16) }
-    requires lawful { IsHistory (history_in «record».now) }
-{
-    for place in places {
-        let gift = gift_at(alloc, record, *place)?;
-        form.gift(gift, out)?;
+) -> Result<(), Untold> {
+    for value in values {
+        form.tell(value, out)?;
     }
     Ok(())
 }
@@ -149,17 +165,16 @@ pub(crate) fn tell_chain<F: Form, W: Write>(
     requires lawful { IsHistory (history_in «record».now) }
     ensures { IfOk result (λ b. b ≡ is_some (looks.named_by (space_after (history_in «record».now)) pid number)) }
 {
-    match chain_of(alloc, record, pid, number)? {
-        Some(places) => {
-            tell_object(alloc, record, pid, number, form, out)?;
-            tell_gifts(alloc, record, places.as_slice(), form, out)?;
-            Ok(true)
-        }
-        None => {
-            form.nothing("no such name", out)?;
-            Ok(false)
-        }
+    let Some(places) = chain_of(alloc, record, pid, number)? else {
+        form.nothing("no such name", out)?;
+        return Ok(false);
+    };
+    let (engine, gifts) = gifts_at(alloc, record, places.as_slice())?;
+    if let Some(named) = Named::by(&engine, record.entries.as_slice(), pid, number) {
+        form.tell(&named, out)?;
     }
+    tell_all(gifts.as_slice(), form, out)?;
+    Ok(true)
 }
 
 /// Tells the call that the reading at this place answers, and that reading. Whether there is one.
@@ -187,27 +202,36 @@ pub(crate) fn tell_answered<F: Form, W: Write>(
     }
 }
 
-/// A place, or a dash where there is none.
-#[derive(Drop)]
-pub(crate) struct PlaceText(pub(crate) Option<u32>);
+/// Where a one-way call was made, read, and its buffer ended.
+#[derive(Clone, Copy, Serialize)]
+pub(crate) struct TurnTold {
+    made: u32,
+    handed: Option<u32>,
+    ended: Option<u32>,
+}
 
-impl fmt::Display for PlaceText {
-    fn fmt<W: fmt::Write>(&self, f: &mut fmt::Formatter<W>) -> fmt::Result {
-        match self.0 {
-            Some(place) => write!(f, "{place}"),
-            None => f.write_str("-"),
+impl TurnTold {
+    fn new(turn: &Turn) -> TurnTold
+        ensures { result ≡ turn_told turn.now }
+    {
+        let Turn {
+            made,
+            handed,
+            ended,
+        } = *turn;
+        TurnTold {
+            made,
+            handed,
+            ended,
         }
     }
 }
 
-/// An object by its identity.
-#[derive(Drop)]
-pub struct ObjectText(pub ObjectId);
-
-impl fmt::Display for ObjectText {
+impl fmt::Display for TurnTold {
     fn fmt<W: fmt::Write>(&self, f: &mut fmt::Formatter<W>) -> fmt::Result {
-        let ObjectId { place, index } = self.0;
-        write!(f, "{place}.{index}")
+        let made = self.made;
+        let (handed, ended) = (OrDash(self.handed), OrDash(self.ended));
+        write!(f, "made {made} handed {handed} ended {ended}")
     }
 }
 
@@ -224,7 +248,7 @@ pub(crate) fn tell_turns<F: Form, W: Write>(
 {
     let turns = turns_on(alloc, record, object)?;
     for turn in turns.as_slice() {
-        form.turn(turn, out)?;
+        form.tell(&TurnTold::new(turn), out)?;
     }
     Ok(())
 }

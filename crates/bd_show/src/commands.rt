@@ -2,8 +2,8 @@
 
 ghost use Rattle.std.specs.Prelude.{◌≡◌, bit_and};
 
-use crate::names::{command_name, step_name};
 use bd_space::Step;
+use bd_state::{command_name, step_name};
 use bd_uapi::{Command, TransactionData, TransactionFlags};
 use bitflags::Flags;
 use std::fmt;

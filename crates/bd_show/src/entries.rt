@@ -11,22 +11,9 @@ use crate::pids::{maker_of, step_made};
 use crate::selection::Selection;
 use bd_engine::Engine;
 use bd_space::{Entry, Record};
+use bd_state::OrDash;
 use std::alloc::Global;
-use std::fmt;
 use std::io::Write;
-
-/// A pid, or a dash where there is none.
-#[derive(Drop)]
-pub(crate) struct PidText(pub(crate) Option<u32>);
-
-impl fmt::Display for PidText {
-    fn fmt<W: fmt::Write>(&self, f: &mut fmt::Formatter<W>) -> fmt::Result {
-        match self.0 {
-            Some(pid) => write!(f, "{pid}"),
-            None => f.write_str("-"),
-        }
-    }
-}
 
 /// Prints an entry: its place, its seat, the pid of the process that made it, what it did and what came back.
 pub(crate) fn print_entry<W: Write>(
@@ -36,7 +23,7 @@ pub(crate) fn print_entry<W: Write>(
     out: &mut W,
 ) -> Result<(), Untold> {
     let seat = entry.seat;
-    let pid = PidText(pid);
+    let pid = OrDash(pid);
     let step = StepText(&entry.step);
     let answer = AnswerText(&entry.answer);
     writeln!(out, "{place} seat {seat} pid {pid} {step}: {answer}")?;
@@ -67,7 +54,10 @@ pub(crate) fn show<F: Form, W: Write>(
 }
 
 /// Tells the entry at a place.
-pub(crate) fn show_at<F: Form, W: Write>(
+///
+/// # Errors
+/// `OutOfRange` where there is no such place; nothing is told then.
+pub fn show_at<F: Form, W: Write>(
     alloc: Global,
     record: &Record,
     place: u32,

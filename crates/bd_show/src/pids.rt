@@ -8,24 +8,20 @@ ghost use Rattle.bd_show.specs.Pids as spec;
 use crate::fault::Untold;
 use bd_audit::{advance, played_to};
 use bd_engine::Engine;
-use bd_space::{Entry, Record, Step};
+use bd_space::{Entry, Record};
+use bd_state::pid_at;
 use std::alloc::Global;
-
-/// The pid of the process that was opened at a place.
-pub(crate) fn pid_at(entries: &[Entry], place: u32) -> Option<u32>
-    ensures { result ≡ spec.pid_at entries.now place }
-{
-    match &entries.get(place as usize)?.step {
-        Step::Open { pid, .. } => Some(*pid),
-        _ => None,
-    }
-}
 
 /// The pid of the process of a seat's thread.
 pub fn pid_of(engine: &Engine, entries: &[Entry], seat: u32) -> Option<u32>
     ensures { result ≡ spec.pid_of (space_after engine.now) entries.now seat }
 {
     pid_at(entries, engine.process_of(seat)?)
+}
+
+/// The pid of the process in whose window the buffer made at a place lies.
+pub(crate) fn receiver_of(engine: &Engine, entries: &[Entry], place: u32) -> Option<u32> {
+    pid_at(entries, engine.buffer(place)?.receiver)
 }
 
 /// Makes the step of an entry. The pid of the process that made it: that of the seat's thread before it, or else after it.

@@ -9,6 +9,7 @@ use crate::entries::show;
 use crate::fault::Untold;
 use crate::form::Form;
 use crate::selection::Selection;
+use crate::state::tell_state;
 use bd_space::{ObjectId, Record};
 use std::alloc::Global;
 use std::io::Write;
@@ -74,7 +75,7 @@ pub fn answer<F: Form, W: Write>(
             Ok(true)
         }
         Question::State { at } => {
-            form.state(alloc, record, at, out)?;
+            tell_state(alloc, record, at, form, out)?;
             Ok(true)
         }
     }

@@ -1,8 +1,8 @@
 //! Returns in the words of the header.
 
 use crate::commands::SizesText;
-use crate::names::return_name;
 use bd_codec::read_return;
+use bd_state::return_name;
 use bd_uapi::{Return, TransactionData};
 use std::fmt;
 

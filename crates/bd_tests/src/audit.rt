@@ -1,35 +1,13 @@
 //! Certificates, with ample memory: of a reply, by the worked example 'call and reply' (docs/EXAMPLES.md), and of a name
 //! by ten gifts, where an object goes to and fro between two processes.
 
+use crate::steps::{enter, fields, open};
 use bd_audit::{call_of_reply, gift_chain};
 use bd_engine::Engine;
 use bd_space::{Bytes, Parcel, Step};
 use bd_uapi::{Command, TransactionData, TransactionFlags};
 use std::alloc::{AllocError, Global};
 use std::test::Fail;
-
-fn fields(code: u32) -> TransactionData {
-    TransactionData {
-        target: 0,
-        cookie: 0,
-        code,
-        flags: TransactionFlags::ACCEPT_FDS,
-        sender_pid: 0,
-        sender_euid: 0,
-        data_size: 0,
-        offsets_size: 0,
-        buffer: 0,
-        offsets: 0,
-    }
-}
-
-fn open(pid: u32, euid: u32) -> Step {
-    Step::Open {
-        pid,
-        euid,
-        window: 4096,
-    }
-}
 
 fn carried(alloc: Global, command: Command) -> Step {
     Step::Command {
@@ -43,13 +21,6 @@ fn carried(alloc: Global, command: Command) -> Step {
 
 fn read() -> Step {
     Step::Read { limit: 256 }
-}
-
-fn enter() -> Step {
-    Step::Command {
-        command: Command::EnterLooper,
-        parcel: None,
-    }
 }
 
 // The steps of the example, each with its seat; the parcels are empty.

@@ -1,5 +1,5 @@
-//! Tests that need public calls only. They stand here so that the crates that they test are proved once. Their random
-//! numbers are no test: the gate tries edits by a check that reads no test.
+//! Tests that need public calls only. They stand here so that the crates that they test are proved once. The steps that
+//! they share are no test: edits are tried by a check that reads no test.
 #![tactic(auto)]
 
 #[cfg(test)]
@@ -7,11 +7,11 @@ mod audit;
 #[cfg(test)]
 mod codec;
 #[cfg(test)]
+mod live;
+#[cfg(test)]
 mod parcel;
 #[cfg(test)]
 mod player;
-pub mod random;
 #[cfg(test)]
 mod script;
-#[cfg(test)]
-mod tables;
+pub mod steps;

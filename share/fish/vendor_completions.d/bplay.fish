@@ -22,4 +22,4 @@ complete -c bplay -n '__fish_seen_subcommand_from show' -x -l seat -d 'Only entr
 complete -c bplay -n '__fish_seen_subcommand_from show' -x -l pid -d 'Only entries of this process'
 complete -c bplay -n '__fish_seen_subcommand_from state' -x -l at -d 'After this many entries'
 complete -c bplay -n '__fish_seen_subcommand_from diagram' -x -l format -a 'svg mermaid text' -d 'In which form'
-complete -c bplay -n '__fish_seen_subcommand_from run show chain call-of-reply turns' -x -l format -a 'text json' -d 'In which form'
+complete -c bplay -n '__fish_seen_subcommand_from run show state explain chain call-of-reply turns' -x -l format -a 'text json' -d 'In which form'

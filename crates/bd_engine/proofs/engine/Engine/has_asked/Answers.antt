@@ -1,29 +1,10 @@
--- A process asked for exactly what it may give back.
-use Rattle.std.specs.Prelude.{◌≡◌, Bool, true, false, not, Option, Some, None}
-use Rattle.std.specs.List.{list_any}
 use Rattle.std.specs.Result.{is_ok}
-use Rattle.std.proofs.Common.{refl, ap, ◌∙◌}
-use Rattle.bd_uapi.specs.declared.fault.Note.TheVariants.{NoSuchNumber, NothingAsked}
-use Rattle.bd_space.specs.Words.{is_some_and, when, found_or, unless, and_then}
-use Rattle.bd_space.specs.References.{is_asking}
-use Rattle.bd_space.specs.Names.{named}
-use Rattle.bd_space.specs.Asking.{drop_check}
+use Rattle.std.proofs.Common.{ap, ◌∙◌}
 use Rattle.bd_space.specs.Histories.{space_after}
+use Rattle.bd_engine.proofs.Asked.{asked}
 use Rattle.bd_engine.proofs.engine.Engine.has_asked.Goals as goal
 
-module _ {A E : Type 0} where
-  passed : (o : A) (e : E) (b : Bool) → is_ok (unless (when (not b) e) o) ≡ b
-  passed o e true = refl
-  passed o e false = refl
-
-  checked : (found : Option A) (d e : E) (p : A → Bool)
-      → is_ok (and_then (found_or found d) (λ o. unless (when (not (p o)) e) o)) ≡ is_some_and found p
-  checked None d e p = refl
-  checked (Some o) d e p = passed o e (p o)
-
 pub returns : goal.returns
-unfolding drop_check
 returns c =
-    (c.is_ok.ensures.value ∙ ap is_ok (c.drop_check.ensures (space_after c.args.self.now) c.tables.ensures.objects_stand))
-    ∙ checked (named (space_after c.args.self.now) c.args.process c.args.number) NoSuchNumber NothingAsked
-    (λ o. list_any (is_asking c.args.process o c.args.strong) (space_after c.args.self.now).references)
+    let s = space_after c.args.self.now in
+    c.is_ok.ensures.value ∙ ap is_ok (c.drop_check.ensures s c.tables.ensures.objects_stand) ∙ asked s c.args.process c.args.number c.args.strong

@@ -15,7 +15,7 @@ returns-then-limit-lt72 c = record {
   ok = answer-is _ _ _ _ _ _ c.twice.ensures.answer (meets _ _ _ _ _ (λ s h by.
       let ws = list_to_read s c.args.a.thread in
       in-case _ _ (read_outcome s c.args.a.thread.seat c.args.limit ws) _ _ (too-small c.args.limit ws c.if-limit-lt72.true) (is-refused _ s ReadTooSmall h)));
-  twice = c.twice.ensures.again ∙ sym c.twice.ensures.answer;
+  twice = λ asked. c.twice.ensures.again ∙ sym c.twice.ensures.answer;
   err = tt;
   full = tt;
 }
@@ -27,7 +27,7 @@ returns-in_default c = record {
       let ws = list_to_read s c.args.a.thread in
       in-case _ _ (read_outcome s c.args.a.thread.seat c.args.limit ws) _ _
       (nothing c.args.limit ws c.if-limit-lt72.false (ap is_empty (c.list_to_read.ensures.none c.in_default.is s h))) (is-refused _ s Again h)));
-  twice = c.twice-in_default.ensures.again ∙ sym c.twice-in_default.ensures.answer;
+  twice = λ asked. c.twice-in_default.ensures.again ∙ sym c.twice-in_default.ensures.answer;
   err = tt;
   full = tt;
 }

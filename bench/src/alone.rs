@@ -1,0 +1,71 @@
+//! No engine beside ours: what `beside` has, and nothing that is called.
+use crate::engines::{Engine, Told};
+use crate::sharing::Hand;
+use crate::steps::Ask;
+
+/// Whether there is one.
+pub const IS_THERE: bool = false;
+
+const NOBODY: &str = "there is no engine beside";
+
+/// Nobody.
+pub struct ByRequests;
+
+/// Nobody.
+pub type BySteps = ByRequests;
+
+/// Nobody's seat.
+pub struct ByMutex;
+
+impl Engine for ByRequests {
+    type Form = Ask;
+
+    fn new(_: u32) -> ByRequests {
+        unreachable!("{NOBODY}")
+    }
+
+    fn form(ask: &Ask) -> Ask {
+        ask.clone()
+    }
+
+    fn ask(&mut self, _: u32, _: &Ask, _: u64) -> Told {
+        unreachable!("{NOBODY}")
+    }
+
+    fn is_ready(&mut self, _: u32) -> bool {
+        unreachable!("{NOBODY}")
+    }
+
+    fn steps(&mut self) -> u32 {
+        unreachable!("{NOBODY}")
+    }
+
+    fn journal(self) -> Vec<u8> {
+        unreachable!("{NOBODY}")
+    }
+}
+
+impl ByMutex {
+    pub fn seats(_: ByRequests) -> Vec<ByMutex> {
+        Vec::new()
+    }
+}
+
+impl Hand for ByMutex {
+    fn ask(&mut self, _: &Ask, _: u64) -> Told {
+        unreachable!("{NOBODY}")
+    }
+
+    fn is_ready(&mut self) -> bool {
+        unreachable!("{NOBODY}")
+    }
+}
+
+/// Nobody says otherwise.
+pub fn is_lawful(_: &[u8]) -> bool {
+    true
+}
+
+pub fn read(_: &[u8]) -> usize {
+    0
+}

@@ -1,0 +1,173 @@
+//! The engine beside ours: an ordinary one in unverified Rust, whose crate `bench/run --beside FOLDER` names. Twice:
+//! asked as ours is, with bytes that it takes a copy of, and with steps that were made ahead.
+use crate::commands;
+use crate::engines::{Engine, Told};
+use crate::steps::Ask;
+use baseline::engine::{self, replay};
+use baseline::hist::VecHist;
+use baseline::types::{self, Answer, Got, RunAnswer, Step};
+use baseline::{journal, types::Wrote};
+use std::sync::atomic::{AtomicU32, Ordering};
+use std::sync::{Arc, Mutex};
+
+/// Whether there is one.
+pub const IS_THERE: bool = true;
+
+type Inner = engine::Engine<VecHist>;
+
+/// Asked as ours is.
+pub struct ByRequests(Inner);
+
+/// Asked with steps that were made ahead.
+pub struct BySteps(Inner);
+
+fn told_of_got(got: &Got) -> Told {
+    Told::Got { size: got.stream().len(), buffer: commands::buffer_of(got.stream()) }
+}
+
+fn told_of_step(answer: &Answer) -> Told {
+    match answer {
+        Answer::Got(got) => told_of_got(got),
+        Answer::Opened | Answer::Set | Answer::Accepted => Told::Done,
+        other => Told::Otherwise(format!("{other:?}")),
+    }
+}
+
+fn told(answer: &RunAnswer) -> Told {
+    match answer {
+        RunAnswer::One(answer) => told_of_step(answer),
+        RunAnswer::Wrote(Wrote { notes, stop: None, .. }) if notes.is_empty() => Told::Done,
+        other => Told::Otherwise(format!("{other:?}")),
+    }
+}
+
+fn asked(ask: &Ask, buffer: u64) -> types::Request {
+    types::Request::One(match ask {
+        Ask::Open { pid, euid, window } => Step::Open { pid: *pid, euid: *euid, window: *window },
+        Ask::Manager => Step::SetManager,
+        Ask::Read(limit) => Step::Read(*limit),
+        Ask::Write { stream, area } => return types::Request::Write { stream: stream.clone(), area: area.clone() },
+        Ask::Free => return types::Request::Write { stream: commands::free(buffer).to_vec(), area: Vec::new() },
+    })
+}
+
+fn journal_of(engine: &Inner) -> Vec<u8> {
+    let mut bytes = Vec::new();
+    journal::write_entries(engine.seats, engine.len() as usize, engine.hist.iter(), |some| {
+        bytes.extend_from_slice(some);
+        true
+    });
+    bytes
+}
+
+impl Engine for ByRequests {
+    type Form = Ask;
+
+    fn new(seats: u32) -> ByRequests {
+        ByRequests(Inner::new(seats).expect("1 to 16 seats"))
+    }
+
+    fn form(ask: &Ask) -> Ask {
+        ask.clone()
+    }
+
+    #[inline]
+    fn ask(&mut self, seat: u32, ask: &Ask, buffer: u64) -> Told {
+        told(&self.0.run(seat, asked(ask, buffer)).0)
+    }
+
+    fn is_ready(&mut self, seat: u32) -> bool {
+        self.0.ready() >> seat & 1 == 1
+    }
+
+    fn steps(&mut self) -> u32 {
+        self.0.len()
+    }
+
+    fn journal(self) -> Vec<u8> {
+        journal_of(&self.0)
+    }
+}
+
+impl Engine for BySteps {
+    /// None is a free, whose buffer isn't known ahead.
+    type Form = Option<Step>;
+
+    fn new(seats: u32) -> BySteps {
+        BySteps(Inner::new(seats).expect("1 to 16 seats"))
+    }
+
+    fn form(ask: &Ask) -> Option<Step> {
+        match (ask, asked(ask, 0)) {
+            (Ask::Free, _) => None,
+            (_, types::Request::One(step)) => Some(step),
+            (_, types::Request::Write { stream, area }) => {
+                Some(types::read_command(&stream, Some(&area)).expect("a command").0)
+            }
+        }
+    }
+
+    #[inline]
+    fn ask(&mut self, seat: u32, step: &Option<Step>, buffer: u64) -> Told {
+        told_of_step(&self.0.step(seat, step.clone().unwrap_or(Step::Free(buffer))))
+    }
+
+    fn is_ready(&mut self, seat: u32) -> bool {
+        self.0.ready() >> seat & 1 == 1
+    }
+
+    fn steps(&mut self) -> u32 {
+        self.0.len()
+    }
+
+    fn journal(self) -> Vec<u8> {
+        journal_of(&self.0)
+    }
+}
+
+/// Whether the engine beside calls a journal lawful.
+pub fn is_lawful(bytes: &[u8]) -> bool {
+    journal::read(bytes).is_some_and(|(seats, entries)| replay(seats, entries).is_none())
+}
+
+/// Reads a journal, and says how many entries it has.
+pub fn read(bytes: &[u8]) -> usize {
+    journal::read(bytes).expect("a journal").1.len()
+}
+
+/// An engine behind a mutex, and the seats that are ready.
+struct Shared {
+    engine: Mutex<Inner>,
+    ready: AtomicU32,
+}
+
+/// A seat of an engine behind a mutex.
+pub struct ByMutex {
+    shared: Arc<Shared>,
+    seat: u32,
+}
+
+impl ByMutex {
+    /// All seats of an engine.
+    pub fn seats(engine: ByRequests) -> Vec<ByMutex> {
+        let seats = engine.0.seats;
+        let ready = AtomicU32::new(engine.0.ready());
+        let shared = Arc::new(Shared { engine: Mutex::new(engine.0), ready });
+        (0..seats).map(|seat| ByMutex { shared: shared.clone(), seat }).collect()
+    }
+}
+
+impl crate::sharing::Hand for ByMutex {
+    fn ask(&mut self, ask: &Ask, buffer: u64) -> Told {
+        let request = asked(ask, buffer);
+        let mut engine = self.shared.engine.lock().expect("no thread panics");
+        let answer = engine.run(self.seat, request).0;
+        self.shared.ready.store(engine.ready(), Ordering::Release);
+        drop(engine);
+        told(&answer)
+    }
+
+    fn is_ready(&mut self) -> bool {
+        self.shared.ready.load(Ordering::Acquire) >> self.seat & 1 == 1
+    }
+}

@@ -1,0 +1,145 @@
+//! The library's speed, measured through its header: see README.md.
+#[cfg_attr(beside, path = "beside.rs")]
+#[cfg_attr(not(beside), path = "alone.rs")]
+mod beside;
+mod clock;
+mod commands;
+mod engines;
+mod expected;
+mod growth;
+mod journals;
+mod measure;
+mod memory;
+mod picture;
+mod settings;
+mod sharing;
+mod steps;
+mod table;
+mod workloads;
+
+use beside::{ByMutex, ByRequests, BySteps};
+use engines::Library;
+use hullpippin::{Verdict, verdict_on};
+use settings::Settings;
+use sharing::{ByCall, ByPost, Shape};
+use std::process::ExitCode;
+use table::{Key, Shown, Table, Whose};
+
+/// The parts that `--only` chooses from.
+const WORKLOADS: &str = "workloads";
+const GROWTH: &str = "growth";
+const THREADS: &str = "threads";
+const JOURNALS: &str = "journals";
+const MEMORY: &str = "memory";
+
+fn main() -> ExitCode {
+    let Some(settings) = Settings::read(std::env::args().skip(1)) else {
+        eprintln!("{}", settings::USAGE);
+        return ExitCode::from(2);
+    };
+    match checked().and_then(|count| measured(&settings, count)) {
+        Ok(()) => ExitCode::SUCCESS,
+        Err(why) => {
+            eprintln!("bench: {why}");
+            ExitCode::FAILURE
+        }
+    }
+}
+
+/// Sees that all workloads come to the journals that they must.
+fn checked() -> Result<usize, String> {
+    if beside::IS_THERE {
+        expected::check::<ByRequests>().map_err(|why| format!("beside, {why}"))?;
+        expected::check::<BySteps>().map_err(|why| format!("beside, by steps, {why}"))?;
+    }
+    expected::check::<Library>()
+}
+
+fn measured(settings: &Settings, journals: usize) -> Result<(), String> {
+    println!("{journals} journals are as they must be, byte for byte.\n");
+    if settings.check {
+        return Ok(());
+    }
+    let before = settings::load();
+    let (mut times, mut bytes) = (Table::default(), Table::default());
+    for run in 0..=settings.runs {
+        eprintln!("run {run} of {}", settings.runs);
+        // the first meets memory that the system has yet to give, and doesn't count
+        if run == 1 {
+            times = Table::default();
+        }
+        once(settings, run, &mut times);
+    }
+    if settings.wants(MEMORY) {
+        memory::measure(settings.steps(), &mut bytes);
+    }
+    let load = format!("load {before} before and {} after", settings::load());
+    let runs = settings.runs;
+    println!("{}; {load}; {runs} runs, {}.\n", settings::machine(), settings::today());
+    let beside = beside::IS_THERE;
+    print!("{}", Shown { table: &times, beside, unit: "ns a step", rates: true });
+    if !bytes.rows.is_empty() {
+        print!("\n{}", Shown { table: &bytes, beside, unit: "bytes an entry", rates: false });
+    }
+    match &settings.picture {
+        Some(path) => std::fs::write(path, picture::drawn(&times, CAPTION)).map_err(|error| format!("{path}: {error}")),
+        None => Ok(()),
+    }
+}
+
+const CAPTION: &str =
+    "Nanoseconds a step against n: Hullpippin (lines) and an ordinary engine of the same rules (dashes)";
+
+/// Each part once.
+fn once(settings: &Settings, run: usize, table: &mut Table) {
+    let steps = settings.steps();
+    if settings.wants(WORKLOADS) {
+        workloads::all().iter().for_each(|it| measure::workload(it, steps, run, table));
+    }
+    if settings.wants(GROWTH) {
+        for kind in growth::KINDS {
+            for n in kind.sizes.iter().filter(|n| !settings.quick || **n <= 1000) {
+                measure::growth(kind.journal, *n, &(kind.make)(*n), steps, run, table);
+            }
+        }
+    }
+    if settings.wants(THREADS) {
+        threads(settings, table);
+    }
+    if settings.wants(JOURNALS) {
+        journals::measure(steps, table);
+    }
+}
+
+/// Pairs in 1 to 8 threads, and single seats in 2 to 16.
+fn threads(settings: &Settings, table: &mut Table) {
+    for (shape, counts, name) in [
+        (Shape::PairEach, [1, 2, 4, 8], "a pair in each of n threads"),
+        (Shape::SeatEach, [2, 4, 8, 16], "a seat in each of n threads"),
+    ] {
+        for count in counts {
+            let key = |way: &str| Key { kind: None, name: format!("{name}, {way}"), n: Some(count) };
+            let pairs = if shape == Shape::PairEach { count } else { count / 2 };
+            let ran = sharing::through::<ByCall>(sharing::introduced(pairs), shape, count, settings.time());
+            table.add(key("by call"), Whose::Ours, lawful(ran));
+            let ran = sharing::through::<ByPost>(sharing::introduced(pairs), shape, count, settings.time());
+            table.add(key("by post and serve"), Whose::Ours, lawful(ran));
+            if beside::IS_THERE {
+                let hands = ByMutex::seats(sharing::introduced(pairs));
+                let ran = sharing::run(hands, shape, count, settings.time());
+                for way in ["by call", "by post and serve"] {
+                    table.add(key(way), Whose::Beside, 1e9 * ran.seconds / ran.steps as f64);
+                }
+            }
+        }
+    }
+}
+
+/// The nanoseconds a step, of a history that must be lawful.
+fn lawful((library, steps, seconds): (Library, u64, f64)) -> f64 {
+    let journal = library.finish().journal().expect("a journal");
+    let verdict = verdict_on(&journal);
+    assert!(matches!(verdict, Ok(Verdict::Lawful(entries)) if entries as u64 >= steps), "threads left {verdict:?}");
+    assert!(beside::is_lawful(&journal), "the engine beside calls what threads left unlawful");
+    1e9 * seconds / steps as f64
+}

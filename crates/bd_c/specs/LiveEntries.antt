@@ -1,0 +1,38 @@
+-- The bytes that C fetches of a live engine.
+use Rattle.std.specs.Prelude.{◌≡◌, ◌⊎◌, ℕ, List, [], Option, Some, None}
+use Rattle.bd_space.specs.declared.step.StepAnswer.{StepAnswer}
+use Rattle.bd_space.specs.declared.step.StepAnswer.TheVariants.{Got}
+use Rattle.bd_space.specs.declared.step.Entry.{Entry}
+use Rattle.bd_journal.specs.Spelling.{IsEntry, entry_bytes}
+use Rattle.bd_c.specs.Parts.{part_of, Fetches}
+use Rattle.bd_c.specs.declared.status.Status.{Status}
+use Rattle.bd_c.specs.declared.status.Status.TheVariants.{Done, NoMemory, NoJournal}
+
+abbrev pub part_of_answer : ℕ → StepAnswer → List ℕ
+part_of_answer part (Got stream bytes offsets) = part_of part stream bytes offsets
+part_of_answer part _ = []
+
+-- what the latest step got, if it was a read
+abbrev pub got_of : ℕ → Option Entry → List ℕ
+got_of part None = []
+got_of part (Some e) = part_of_answer part e.answer
+
+-- the entry's bytes in a journal of so many seats; none where there is no entry
+abbrev pub IsSpelled : ℕ → Option Entry → Type 0
+IsSpelled seats None = Unit {0}
+IsSpelled seats (Some e) = IsEntry seats e
+
+abbrev pub spelled : Option Entry → List ℕ
+spelled None = []
+spelled (Some e) = entry_bytes e
+
+-- what would be written has no spelling, or memory was refused
+abbrev pub IsUnwritten : Type 0 → Status → Type 0
+IsUnwritten P NoJournal = P → ⊥
+IsUnwritten P NoMemory = Unit {0}
+IsUnwritten P _ = ⊥
+
+-- what has a spelling has these bytes: it is told how many, and they are copied if all of them fit
+abbrev pub Tells : Type 0 → List ℕ → List ℕ → List ℕ → ℕ → ℕ → Status → Type 0
+Tells P bytes old new before size s =
+    ((s ≡ Done) × P × Fetches bytes old new size) ⊎ (IsUnwritten P s × (new ≡ old) × (size ≡ before))

@@ -1,0 +1,86 @@
+-- What a call with a live engine's handle does: the same after every history that the engine follows, none of which it keeps.
+use Rattle.std.specs.Prelude.{◌≡◌, ◌≤◌, ◌⊎◌, ℕ, true, [], length, Option, Some, None}
+use Rattle.bd_uapi.specs.declared.fault.Fault.{Fault}
+use Rattle.bd_uapi.specs.declared.fault.Fault.TheVariants as fault
+use Rattle.bd_space.specs.declared.step.Step.{Step}
+use Rattle.bd_space.specs.declared.step.Step.TheVariants as step_of
+use Rattle.bd_space.specs.declared.step.StepAnswer.{StepAnswer}
+use Rattle.bd_space.specs.Steps.{step}
+use Rattle.bd_space.specs.Histories.{History, history_of, space_after, extended, HasPlace, is_at_limit}
+use Rattle.bd_engine.specs.Follows.{Follows}
+use Rattle.bd_engine.specs.Refusals.{IsLiveSeats}
+use Rattle.bd_c.specs.Told.{told_of_step}
+use Rattle.bd_c.specs.declared.answers.Told.{Told}
+use Rattle.bd_c.specs.declared.live.OwnedLive.{OwnedLive}
+use Rattle.bd_c.specs.declared.held.Held.{Held}
+use Rattle.bd_c.specs.declared.held.Held.TheVariants as held
+use Rattle.bd_c.specs.declared.status.Status.{Status}
+use Rattle.bd_c.specs.declared.status.Status.TheVariants.{Done, NoMemory, SeatCount, NoSuchSeat, HistoryFull}
+
+-- a new engine of so many seats follows their empty history, and has no entry
+pub record Begins (seats : ℕ) (x : OwnedLive) : Type 0 where
+  pub follows : Follows x.live (history_of seats [])
+  pub seats_are : x.live.seats ≡ seats
+  pub none : x.latest ≡ None
+
+abbrev pub live_refusal_of : Fault → Status
+live_refusal_of fault.SeatCount = SeatCount
+live_refusal_of _ = NoMemory
+
+-- the number is out of its limits, or there was no memory
+abbrev pub IsLiveRefusal : ℕ → Status → Type 0
+IsLiveRefusal seats SeatCount = IsLiveSeats seats → ⊥
+IsLiveRefusal seats NoMemory = IsLiveSeats seats
+IsLiveRefusal seats _ = ⊥
+
+-- after this history the answer is the space's, and is told; the history with the entry more is then followed
+pub record IsAnswered (h : History) (y : OwnedLive) (seat : ℕ) (x : Step) (answer : StepAnswer) (told : Told) : Type 0 where
+  pub said : answer ≡ (step (space_after h) seat x).answer
+  pub shown : told ≡ told_of_step answer (length h.entries) (length (extended h seat x answer).entries)
+  pub follows : Follows y.live (extended h seat x answer)
+
+-- the step was made, and its entry is kept: so is every history that was followed answered
+pub record Makes (x y : OwnedLive) (seat : ℕ) (z : Step) (told : Told) : Type 0 where
+  pub answer : StepAnswer
+  pub kept : y.latest ≡ Some (record { seat = seat; step = z; answer = answer })
+  pub seats : y.live.seats ≡ x.live.seats
+  pub answered : (h : History) → Follows x.live h → IsAnswered h y seat z answer told
+
+-- no step was made: what was followed is followed, the entry is the same, and nothing is told
+pub record Rests (x y : OwnedLive) (a b : Told) : Type 0 where
+  pub kept : y.latest ≡ x.latest
+  pub seats : y.live.seats ≡ x.live.seats
+  pub follows : (h : History) → Follows x.live h → Follows y.live h
+  pub told : b ≡ a
+
+-- a step with a parcel has bytes that are copied
+abbrev pub HasParcel : Step → Type 0
+HasParcel (step_of.Command c (Some p)) = Unit {0}
+HasParcel _ = ⊥
+
+-- A step was made. Or none was: there is no such seat; the history is full, or would need a number past the limit; or there
+-- was no memory, for the copies of a parcel or else in the engine, which isn't said of a full history.
+abbrev pub Steps : OwnedLive → OwnedLive → ℕ → Step → Status → Told → Told → Type 0
+Steps x y seat z Done a b = Makes x y seat z b
+Steps x y seat z NoSuchSeat a b = (x.live.seats ≤ seat) × Rests x y a b
+Steps x y seat z HistoryFull a b = ((h : History) → Follows x.live h → is_at_limit h seat (Some z) ≡ true) × Rests x y a b
+Steps x y seat z NoMemory a b = (HasParcel z ⊎ ((h : History) → Follows x.live h → HasPlace h)) × Rests x y a b
+Steps x y seat z _ a b = ⊥
+
+-- a live engine is behind the handle
+abbrev pub IsLive : Option Held → Type 0
+IsLive (Some (held.Live x)) = Unit {0}
+IsLive _ = ⊥
+
+-- of the live engine behind the handle this is so
+abbrev pub OfLive : Option Held → (OwnedLive → Type 0) → Type 0
+OfLive (Some (held.Live x)) P = P x
+OfLive _ P = ⊥
+
+-- of the live engine behind the handle before and after this is so
+abbrev pub OverLive : Option Held → Option Held → (OwnedLive → OwnedLive → Type 0) → Type 0
+OverLive h k P = OfLive h (λ x. OfLive k (λ y. P x y))
+
+-- a new live engine is behind the handle, or nothing, and why
+abbrev pub LiveOpensAt : ℕ → Option Held → Status → Type 0
+LiveOpensAt seats h s = ((s ≡ Done) × OfLive h (Begins seats)) ⊎ ((h ≡ None) × IsLiveRefusal seats s)

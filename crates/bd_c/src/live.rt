@@ -1,0 +1,68 @@
+//! A live engine that C has, and the entry of its latest step.
+ghost use Rattle.std.specs.Prelude.{◌≡◌, ◌<◌, IfOk, IfErr};
+ghost use Rattle.bd_c.specs.Lives.{Begins, live_refusal_of, IsLiveRefusal, Steps};
+
+use crate::answers::Told;
+use crate::status::Status;
+use bd_engine::{Live, Why};
+use bd_space::{Entry, Step};
+use bd_uapi::Fault;
+use std::alloc::Global;
+
+/// A live engine, and the entry of its latest step, which nobody else has.
+#[derive(Drop)]
+pub struct OwnedLive {
+    pub(crate) live: Live,
+    pub(crate) latest: Option<Entry>,
+}
+
+// A status in place of the engine's fault.
+fn refusal(fault: Fault) -> Status
+    ensures { result ≡ live_refusal_of fault }
+{
+    match fault {
+        Fault::SeatCount => Status::SeatCount,
+        _ => Status::NoMemory,
+    }
+}
+
+impl OwnedLive {
+    /// A live engine for so many seats, which hasn't made a step.
+    #[tactic(auto, using(crate::proofs::BehindLive::live_refused_fits))]
+    pub(crate) fn new(alloc: Global, seats: u32) -> Result<OwnedLive, Status>
+        ensures ok { IfOk result (Begins seats) }
+        ensures refused { IfErr result (IsLiveRefusal seats) }
+    {
+        match Live::new(alloc, seats) {
+            Ok(live) => Ok(OwnedLive { live, latest: None }),
+            Err(fault) => Err(refusal(fault)),
+        }
+    }
+
+    // Makes a step of one of the seats, whose entry is kept, and its answer told.
+    fn make(&mut self, seat: u32, step: Step, told: &mut Told) -> Status
+        requires { seat < self.old.live.seats }
+        ensures { Steps self.old self.new seat step result told.old told.new }
+    {
+        let from = self.live.len();
+        match self.live.step(seat, step) {
+            Ok(entry) => {
+                *told = Told::of_step(&entry.answer, from, self.live.len());
+                self.latest = Some(entry);
+                Status::Done
+            }
+            Err(Why::NoMemory) => Status::NoMemory,
+            Err(Why::HistoryFull) => Status::HistoryFull,
+        }
+    }
+
+    /// Makes a step, whose entry is kept, and its answer told.
+    pub(crate) fn step(&mut self, seat: u32, step: Step, told: &mut Told) -> Status
+        ensures { Steps self.old self.new seat step result told.old told.new }
+    {
+        if seat >= self.live.seats() {
+            return Status::NoSuchSeat;
+        }
+        self.make(seat, step, told)
+    }
+}

@@ -1,0 +1,160 @@
+//! What C calls of a live engine: one handle, with which all seats' steps are made.
+ghost use Rattle.std.specs.Prelude.{◌≡◌, None};
+ghost use Rattle.bd_space.specs.declared.step.Step.TheVariants.{Open, Attach, SetManager, Read, ExitThread, ExitProcess};
+ghost use Rattle.bd_c.specs.Status.{Reports};
+ghost use Rattle.bd_c.specs.Lives.{IsLive, OverLive, LiveOpensAt, Steps};
+ghost use Rattle.bd_c.specs.LiveCommands.{Commands};
+
+use crate::answers::Told;
+use crate::handles::Handle;
+use crate::live_commands::step_of;
+use crate::lives::open_live;
+use crate::opening::{put, take};
+use crate::status::Status;
+use bd_space::Step;
+use std::alloc::Global;
+
+/// Makes a live engine for so many seats, 1 to 65536. The handle must have nothing.
+#[unsafe(no_mangle)]
+pub extern "C" fn hullpippin_live_new(alloc: Global, seats: u32, live: &mut Handle) -> u32
+    requires nothing { live.old.held ≡ None }
+    ensures { Reports result (LiveOpensAt seats live.new.held) }
+{
+    match open_live(alloc, seats) {
+        Ok(held) => {
+            put(live, held);
+            Status::Done.number()
+        }
+        Err(status) => status.number(),
+    }
+}
+
+// Makes a step.
+#[tactic(auto, using(crate::proofs::BehindLive::live_held))]
+fn make(alloc: Global, live: &mut Handle, seat: u32, step: Step, told: &mut Told) -> u32
+    requires { IsLive live.old.held }
+    ensures { Reports result (λ s. OverLive live.old.held live.new.held (λ x y.
+        Steps x y seat step s told.old told.new)) }
+{
+    let mut held = take(alloc, live);
+    let status = held.step(seat, step, told);
+    put(live, held);
+    status.number()
+}
+
+/// Opens a process with one thread, the seat's.
+#[unsafe(no_mangle)]
+pub extern "C" fn hullpippin_live_open(
+    alloc: Global,
+    live: &mut Handle,
+    seat: u32,
+    pid: u32,
+    euid: u32,
+    window: u32,
+    told: &mut Told,
+) -> u32
+    requires { IsLive live.old.held }
+    ensures { Reports result (λ s. OverLive live.old.held live.new.held (λ x y.
+        Steps x y seat (Open pid euid window) s told.old told.new)) }
+{
+    make(alloc, live, seat, Step::Open { pid, euid, window }, told)
+}
+
+/// Makes the seat a further thread of a live process.
+#[unsafe(no_mangle)]
+pub extern "C" fn hullpippin_live_attach(
+    alloc: Global,
+    live: &mut Handle,
+    seat: u32,
+    pid: u32,
+    told: &mut Told,
+) -> u32
+    requires { IsLive live.old.held }
+    ensures { Reports result (λ s. OverLive live.old.held live.new.held (λ x y.
+        Steps x y seat (Attach pid) s told.old told.new)) }
+{
+    make(alloc, live, seat, Step::Attach { pid }, told)
+}
+
+/// Makes the seat's process the context manager.
+#[unsafe(no_mangle)]
+pub extern "C" fn hullpippin_live_manager(
+    alloc: Global,
+    live: &mut Handle,
+    seat: u32,
+    told: &mut Told,
+) -> u32
+    requires { IsLive live.old.held }
+    ensures { Reports result (λ s. OverLive live.old.held live.new.held (λ x y.
+        Steps x y seat SetManager s told.old told.new)) }
+{
+    make(alloc, live, seat, Step::SetManager, told)
+}
+
+/// Runs one command of the seat. What is given as its parcel is looked at with a transaction or reply alone.
+#[tactic(auto, using(crate::proofs::BehindLive::no_step))]
+#[unsafe(no_mangle)]
+pub extern "C" fn hullpippin_live_command(
+    alloc: Global,
+    live: &mut Handle,
+    seat: u32,
+    command: &[u8],
+    bytes: &[u8],
+    offsets: &[u8],
+    told: &mut Told,
+) -> u32
+    requires { IsLive live.old.held }
+    ensures { Reports result (λ s.
+        Commands live.old.held live.new.held seat command.now bytes.now offsets.now s told.old told.new) }
+{
+    match step_of(alloc, command, bytes, offsets) {
+        Ok(step) => make(alloc, live, seat, step, told),
+        Err(status) => status.number(),
+    }
+}
+
+/// Reads returns, whose bytes stay in the latest entry.
+#[unsafe(no_mangle)]
+pub extern "C" fn hullpippin_live_read(
+    alloc: Global,
+    live: &mut Handle,
+    seat: u32,
+    limit: u32,
+    told: &mut Told,
+) -> u32
+    requires { IsLive live.old.held }
+    ensures { Reports result (λ s. OverLive live.old.held live.new.held (λ x y.
+        Steps x y seat (Read limit) s told.old told.new)) }
+{
+    make(alloc, live, seat, Step::Read { limit }, told)
+}
+
+/// Ends the seat's thread.
+#[unsafe(no_mangle)]
+pub extern "C" fn hullpippin_live_exit_thread(
+    alloc: Global,
+    live: &mut Handle,
+    seat: u32,
+    told: &mut Told,
+) -> u32
+    requires { IsLive live.old.held }
+    ensures { Reports result (λ s. OverLive live.old.held live.new.held (λ x y.
+        Steps x y seat ExitThread s told.old told.new)) }
+{
+    make(alloc, live, seat, Step::ExitThread, told)
+}
+
+/// Ends the seat's process with all its threads.
+#[unsafe(no_mangle)]
+pub extern "C" fn hullpippin_live_exit_process(
+    alloc: Global,
+    live: &mut Handle,
+    seat: u32,
+    told: &mut Told,
+) -> u32
+    requires { IsLive live.old.held }
+    ensures { Reports result (λ s. OverLive live.old.held live.new.held (λ x y.
+        Steps x y seat ExitProcess s told.old told.new)) }
+{
+    make(alloc, live, seat, Step::ExitProcess, told)
+}

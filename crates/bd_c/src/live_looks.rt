@@ -1,0 +1,116 @@
+//! What C is told of a live engine and of its latest entry.
+ghost use Rattle.std.specs.Prelude.{◌≡◌, Some, None, length};
+ghost use Rattle.bd_space.specs.Histories.{History, space_after, is_ready};
+ghost use Rattle.bd_engine.specs.Follows.{Follows};
+ghost use Rattle.bd_journal.specs.Spelling.{heading_bytes};
+ghost use Rattle.bd_journal.specs.Writing.{IsHeading};
+ghost use Rattle.bd_c.specs.declared.held.Held.{Held};
+ghost use Rattle.bd_c.specs.Status.{Reports};
+ghost use Rattle.bd_c.specs.Parts.{Fetches};
+ghost use Rattle.bd_c.specs.Lives.{IsLive, OfLive};
+ghost use Rattle.bd_c.specs.LiveEntries.{got_of, IsSpelled, spelled, Tells};
+
+use crate::handles::Handle;
+use crate::live_entries::got_of;
+use crate::opening::{put, take};
+use crate::parts::fill;
+use std::alloc::Global;
+
+/// Whether the seat has something to read.
+#[tactic(auto, using(crate::proofs::BehindLive::live_held))]
+#[unsafe(no_mangle)]
+pub extern "C" fn hullpippin_live_ready(alloc: Global, live: &mut Handle, seat: u32) -> bool
+    requires { IsLive live.old.held }
+    ensures same { live.new.held ≡ live.old.held }
+    ensures ready { OfLive live.old.held (λ x. (h : History) → Follows x.live h
+        → result ≡ is_ready (space_after h) seat) }
+{
+    let held = take(alloc, live);
+    let is_ready = held.live().live.is_ready(seat);
+    put(live, held);
+    is_ready
+}
+
+/// How many steps were made.
+#[tactic(auto, using(crate::proofs::BehindLive::live_held))]
+#[unsafe(no_mangle)]
+pub extern "C" fn hullpippin_live_len(alloc: Global, live: &mut Handle) -> u32
+    requires { IsLive live.old.held }
+    ensures same { live.new.held ≡ live.old.held }
+    ensures len { OfLive live.old.held (λ x. (h : History) → Follows x.live h → result ≡ length h.entries) }
+{
+    let held = take(alloc, live);
+    let steps = held.live().live.len();
+    put(live, held);
+    steps
+}
+
+/// Copies a part of the bytes that the latest step got, if all of them fit: 0 the returns, 1 the data, 2 the offsets.
+/// Answers how many they are.
+#[tactic(auto, using(crate::proofs::BehindLive::live_held))]
+#[unsafe(no_mangle)]
+pub extern "C" fn hullpippin_live_bytes(
+    alloc: Global,
+    live: &mut Handle,
+    part: u32,
+    out: &mut [u8],
+) -> usize
+    requires { IsLive live.old.held }
+    ensures same { live.new.held ≡ live.old.held }
+    ensures fetches { OfLive live.old.held (λ x. Fetches (got_of part x.latest) out.old out.new result) }
+{
+    let held = take(alloc, live);
+    let count = fill(out, got_of(&held.live().latest, part));
+    put(live, held);
+    count
+}
+
+/// Tells how many bytes the latest entry has in a journal, and copies them if all of them fit.
+#[tactic(auto, using(crate::proofs::BehindLive::live_held))]
+#[unsafe(no_mangle)]
+pub extern "C" fn hullpippin_live_entry(
+    alloc: Global,
+    live: &mut Handle,
+    out: &mut [u8],
+    size: &mut usize,
+) -> u32
+    requires { IsLive live.old.held }
+    ensures same { live.new.held ≡ live.old.held }
+    ensures tells { Reports result (λ s. OfLive live.old.held (λ x.
+        Tells (IsSpelled x.live.seats x.latest) (spelled x.latest) out.old out.new size.old size.new s)) }
+{
+    let held = take(alloc, live);
+    let status = held.live().entry(alloc, out, size);
+    put(live, held);
+    status.number()
+}
+
+/// Tells how many bytes the heading of a journal of so many entries has, and copies them if all of them fit.
+#[tactic(auto, using(crate::proofs::BehindLive::live_held))]
+#[unsafe(no_mangle)]
+pub extern "C" fn hullpippin_live_heading(
+    alloc: Global,
+    live: &mut Handle,
+    count: u32,
+    out: &mut [u8],
+    size: &mut usize,
+) -> u32
+    requires { IsLive live.old.held }
+    ensures same { live.new.held ≡ live.old.held }
+    ensures tells { Reports result (λ s. OfLive live.old.held (λ x.
+        Tells (IsHeading x.live.seats count) (heading_bytes x.live.seats count) out.old out.new size.old size.new s)) }
+{
+    let held = take(alloc, live);
+    let status = held.live().heading(alloc, count, out, size);
+    put(live, held);
+    status.number()
+}
+
+/// Lets go of a live engine. Its handle then has nothing.
+#[unsafe(no_mangle)]
+pub extern "C" fn hullpippin_free_live(alloc: Global, live: &mut Handle)
+    requires some { (x : Held) × (live.old.held ≡ Some x) }
+    ensures { live.new.held ≡ None }
+{
+    drop(take(alloc, live));
+}

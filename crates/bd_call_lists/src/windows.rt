@@ -1,0 +1,161 @@
+//! Windows, and the buffers in them.
+
+ghost use Rattle.std.specs.Prelude.{◌≡◌, ◌==◌, ◌+◌, ◌<◌, ◌≤◌, ◌++◌, ◌∷◌, [], not, filter, find, vec_len, vec_capacity, OnOk, Some, None, Err};
+ghost use Rattle.std.specs.Option.{option_copied};
+ghost use Rattle.bd_uapi.specs.declared.fault.Cause.TheVariants.{NoRoom};
+ghost use Rattle.bd_space.specs.declared.space.Process as declared;
+ghost use Rattle.bd_space.specs.Words.{changed};
+ghost use Rattle.bd_space.specs.Seats.{process_in};
+ghost use Rattle.bd_space.specs.Windows.{needed, start_for, buffers_of};
+ghost use Rattle.bd_space.specs.Freeing as freeing;
+ghost use Rattle.bd_space.specs.Returns.{buffer_in};
+ghost use Rattle.bd_space.specs.ReadItems.{hand_out};
+
+use crate::room::place_for;
+use bd_buffers::pointer_of;
+use bd_space::{Buffer, Process};
+use bd_uapi::Cause;
+use std::alloc::{AllocError, Global};
+
+/// The live processes, each with its window's size, and the live buffers of all of them, each in the order in which
+/// they were made.
+#[derive(Drop)]
+pub struct WindowsList {
+    /// The processes.
+    pub processes: Vec<Process>,
+    /// The buffers.
+    pub buffers: Vec<Buffer>,
+}
+
+fn is_made_at(made: u32, b: &Buffer) -> bool
+    ensures { result ≡ freeing.is_made_at made b.now }
+{
+    b.made == made
+}
+
+// The receiver knows the buffer by this pointer.
+fn is_at(p: u32, pointer: u64, b: &Buffer) -> bool
+    ensures { result ≡ freeing.is_buffer_at p pointer b.now }
+{
+    b.receiver == p && pointer_of(b) == pointer
+}
+
+impl WindowsList {
+    /// No window. Takes no memory.
+    pub fn new(alloc: Global) -> WindowsList
+        ensures processes { result.processes.items ≡ [] }
+        ensures buffers { result.buffers.items ≡ [] }
+    {
+        WindowsList {
+            processes: Vec::new(alloc),
+            buffers: Vec::new(alloc),
+        }
+    }
+
+    /// Makes room for one more window. Changes nothing else.
+    pub fn reserve(&mut self) -> Result<(), AllocError>
+        ensures processes { self.new.processes.items ≡ self.old.processes.items }
+        ensures buffers { self.new.buffers ≡ self.old.buffers }
+        ensures room { OnOk result (vec_len self.new.processes < vec_capacity self.new.processes) }
+    {
+        self.processes.reserve(1)
+    }
+
+    /// The window of a process that is opened. Takes no memory.
+    pub fn open(&mut self, process: Process)
+        requires { vec_len self.old.processes < vec_capacity self.old.processes }
+        ensures processes { self.new.processes.items ≡ self.old.processes.items ++ process ∷ [] }
+        ensures buffers { self.new.buffers ≡ self.old.buffers }
+    {
+        self.processes.push_reserved(process);
+    }
+
+    /// The process that was opened there.
+    pub fn process(&self, p: u32) -> Option<Process>
+        ensures { result ≡ process_in self.now.processes.items p }
+    {
+        self.processes.iter().copied().find(|q| q.made == p)
+    }
+
+    /// Where a buffer for data and offsets of these sizes in bytes would begin in the window of a process. `NoRoom`
+    /// where there is no room or no such process; `OverBudget` where one-way buffers would take more than half of the
+    /// window.
+    pub fn place(
+        &self,
+        p: u32,
+        one_way: bool,
+        data_size: u64,
+        offsets_size: u64,
+    ) -> Result<u32, Cause>
+        ensures computed { (q : declared.Process) → process_in self.now.processes.items p ≡ Some q
+            → result ≡ start_for q.window (buffers_of self.now.buffers.items p) one_way (needed data_size offsets_size) }
+        ensures no_process { process_in self.now.processes.items p ≡ None → result ≡ Err NoRoom }
+    {
+        match self.process(p) {
+            None => Err(Cause::NoRoom),
+            Some(q) => place_for(&self.buffers, p, q.window, one_way, data_size, offsets_size),
+        }
+    }
+
+    /// Makes room for one more buffer. Changes nothing else.
+    pub fn reserve_buffer(&mut self) -> Result<(), AllocError>
+        ensures processes { self.new.processes ≡ self.old.processes }
+        ensures buffers { self.new.buffers.items ≡ self.old.buffers.items }
+        ensures room { OnOk result (vec_len self.new.buffers < vec_capacity self.new.buffers) }
+    {
+        self.buffers.reserve(1)
+    }
+
+    /// Takes a buffer in. Takes no memory.
+    pub fn add(&mut self, buffer: Buffer)
+        requires { vec_len self.old.buffers < vec_capacity self.old.buffers }
+        ensures processes { self.new.processes ≡ self.old.processes }
+        ensures buffers { self.new.buffers.items ≡ self.old.buffers.items ++ buffer ∷ [] }
+    {
+        self.buffers.push_reserved(buffer);
+    }
+
+    /// The live buffer made there.
+    pub fn buffer(&self, made: u32) -> Option<&Buffer>
+        ensures { option_copied result ≡ buffer_in self.now.buffers.items made }
+    {
+        self.buffers.iter().find(|b| is_made_at(made, b))
+    }
+
+    /// The live buffer that a process knows by a pointer, handed out or not.
+    pub fn at_pointer(&self, p: u32, pointer: u64) -> Option<&Buffer>
+        ensures { option_copied result ≡ find (freeing.is_buffer_at p pointer) self.now.buffers.items }
+    {
+        self.buffers.iter().find(|b| is_at(p, pointer, b))
+    }
+
+    /// Ends the buffer made there.
+    pub fn free(&mut self, made: u32)
+        ensures processes { self.new.processes ≡ self.old.processes }
+        ensures buffers { self.new.buffers.items
+            ≡ filter (λ b. not (freeing.is_made_at made b)) self.old.buffers.items }
+    {
+        self.buffers.retain(|b| b.made != made);
+    }
+
+    /// Marks the buffer made there as handed out.
+    pub fn hand_out(&mut self, made: u32)
+        ensures processes { self.new.processes ≡ self.old.processes }
+        ensures buffers { self.new.buffers.items ≡ changed (freeing.is_made_at made) hand_out self.old.buffers.items }
+    {
+        for b in self.buffers.iter_mut() {
+            if is_made_at(made, b) {
+                b.handed = true;
+            }
+        }
+    }
+
+    /// Ends the window of a process, with its buffers.
+    pub fn close(&mut self, p: u32)
+        ensures processes { self.new.processes.items ≡ filter (λ q. not (q.made == p)) self.old.processes.items }
+        ensures buffers { self.new.buffers.items ≡ filter (λ b. not (b.receiver == p)) self.old.buffers.items }
+    {
+        self.processes.retain(|q| q.made != p);
+        self.buffers.retain(|b| b.receiver != p);
+    }
+}

@@ -1,0 +1,112 @@
+-- Noting the readiness of seats, one after the other.
+use Rattle.std.proofs.Common.{ℕ, ◌≡◌, ◌<◌, ◌⊎◌, inl, inr, Bool, true, false, List, [], ◌∷◌, ◌++◌, length, get_or, refl, ap, sym, subst, ◌∙◌}
+use Rattle.std.specs.Prelude.{◌==◌, ◌||◌, not}
+use mathlib.Core.Bool.{beq}
+use Rattle.std.proofs.Math.ListN.{set}
+use Rattle.std.proofs.lemmas.List.{get_or-set_same, get_or-set_other}
+use Rattle.std.proofs.lemmas.List.Folds.{list_any-append}
+use Rattle.std.proofs.lemmas.Bool.{eqb-true, eq-eqb}
+use Rattle.bd_space.specs.Space.{Space}
+use Rattle.bd_space.specs.Histories.{is_ready}
+use Rattle.bd_engine.specs.Readiness.{has_seat, flipped}
+
+-- a seat, where these seats were looked at
+pub record IsSeen (s : Space) (before noted : List Bool) (changed done : List ℕ) (y : ℕ) : Type 0 where
+  pub is : (get_or noted y false ≡ is_ready s y) ⊎ ((get_or noted y false ≡ get_or before y false) × (has_seat done y ≡ false))
+  pub listed : has_seat changed y ≡ flipped (get_or before y false) (get_or noted y false)
+
+true-false : true ≡ false → ⊥
+true-false e = cc
+
+eqb-refl-at : (x y : ℕ) → x ≡ y → (x == y) ≡ true
+eqb-refl-at x y e = eq-eqb x y e
+
+among-same : (xs : List ℕ) (x y : ℕ) → x ≡ y → has_seat (xs ++ x ∷ []) y ≡ true
+among-same xs x y e = list_any-append (λ v. v == y) xs (x ∷ []) ∙ ap (λ b. has_seat xs y || (b || false)) (eqb-refl-at x y e) ∙ or-true (has_seat xs y)
+  where
+    or-true : (b : Bool) → (b || true) ≡ true
+    or-true true = refl
+    or-true false = refl
+
+among-other : (xs : List ℕ) (x y : ℕ) → (x == y) ≡ false → has_seat (xs ++ x ∷ []) y ≡ has_seat xs y
+among-other xs x y e = list_any-append (λ v. v == y) xs (x ∷ []) ∙ ap (λ b. has_seat xs y || (b || false)) e ∙ or-false (has_seat xs y)
+  where
+    or-false : (b : Bool) → (b || false) ≡ b
+    or-false true = refl
+    or-false false = refl
+
+flip-true : (b r : Bool) → (b ≡ r → ⊥) → flipped b r ≡ true
+flip-true true true k = absurd (k refl)
+flip-true true false k = refl
+flip-true false true k = refl
+flip-true false false k = absurd (k refl)
+
+flip-none : (b : Bool) → flipped b b ≡ false
+flip-none true = refl
+flip-none false = refl
+
+module _ (s : Space) (before noted : List Bool) (changed done : List ℕ) (x y : ℕ) (seen : IsSeen s before noted changed done y) where
+  -- the seat at hand is noted as it is, or isn't noted at all
+  pub seen-same : (x ≡ y → get_or noted y false ≡ is_ready s y) → IsSeen s before noted changed (done ++ x ∷ []) y
+  seen-same k = go (x == y) refl
+    where
+      go : (b : Bool) → (x == y) ≡ b → IsSeen s before noted changed (done ++ x ∷ []) y
+      go true e = record { is = inl (k (eqb-true x y e)); listed = seen.listed }
+      go false e = record {
+        is = elim seen.is [ inl a ↦ inl a | inr o ↦ inr (o.0, among-other done x y e ∙ o.1) ];
+        listed = seen.listed;
+      }
+
+  -- it was noted otherwise
+  pub seen-other : (ready : Bool) → x < length noted → (get_or noted x false ≡ ready → ⊥) → (x ≡ y → ready ≡ is_ready s x)
+      → IsSeen s before (set noted x ready) (changed ++ x ∷ []) (done ++ x ∷ []) y
+  seen-other ready lt differs is_so = go (x == y) refl
+    where
+      at : x ≡ y → get_or (set noted x ready) y false ≡ ready
+      at e = subst (λ v. get_or (set noted x ready) v false ≡ ready) e (get_or-set_same noted x ready false lt)
+
+      unlisted : x ≡ y → get_or before y false ≡ get_or noted y false
+      unlisted e = elim seen.is [ inl a ↦ absurd (differs (ap (λ v. get_or noted v false) e ∙ a ∙ ap (is_ready s) (sym e) ∙ sym (is_so e))) | inr o ↦ sym o.0 ]
+
+      go : (b : Bool) → (x == y) ≡ b → IsSeen s before (set noted x ready) (changed ++ x ∷ []) (done ++ x ∷ []) y
+      go true e =
+          let same = eqb-true x y e in
+          record {
+            is = inl (at same ∙ is_so same ∙ ap (is_ready s) same);
+            listed = among-same changed x y same
+                ∙ sym (ap (flipped (get_or before y false)) (at same) ∙ ap (λ b. flipped b ready) (unlisted same)
+                ∙ flip-true (get_or noted y false) ready (λ f. differs (ap (λ v. get_or noted v false) same ∙ f)));
+          }
+      go false e =
+          let apart : y ≡ x → ⊥ = λ f. true-false (sym (eqb-refl-at x y (sym f)) ∙ e) in
+          let kept = get_or-set_other noted x y ready false apart in
+          record {
+            is = elim seen.is [ inl a ↦ inl (kept ∙ a) | inr o ↦ inr (kept ∙ o.0, among-other done x y e ∙ o.1) ];
+            listed = among-other changed x y e ∙ seen.listed ∙ ap (flipped (get_or before y false)) (sym kept);
+          }
+
+pub seen-as : (s : Space) (before noted noted2 : List Bool) (changed changed2 done done2 : List ℕ) (y : ℕ) → noted2 ≡ noted → changed2 ≡ changed → done2 ≡ done
+    → IsSeen s before noted changed done y → IsSeen s before noted2 changed2 done2 y
+seen-as s before noted noted2 changed changed2 done done2 y e f g k =
+    subst (λ v. IsSeen s before v changed2 done2 y) (sym e) (subst (λ v. IsSeen s before noted v done2 y) (sym f) (subst (λ v. IsSeen s before noted changed v y) (sym g) k))
+
+pub differ : (a b : Bool) → not (beq a b) ≡ true → a ≡ b → ⊥
+differ true true e f = true-false (sym e)
+differ true false e f = true-false f
+differ false true e f = true-false (sym f)
+differ false false e f = true-false (sym e)
+
+pub agree : (a b : Bool) → not (beq a b) ≡ false → a ≡ b
+agree true true e = refl
+agree true false e = absurd (true-false e)
+agree false true e = absurd (true-false e)
+agree false false e = refl
+
+-- before the first
+pub seen-none : (s : Space) (before : List Bool) (y : ℕ) → IsSeen s before before [] [] y
+seen-none s before y = record { is = inr (refl, refl); listed = sym (flip-none (get_or before y false)) }
+
+-- after the last
+pub seen-all : (s : Space) (before noted : List Bool) (changed touched : List ℕ) (y : ℕ) → IsSeen s before noted changed touched y
+    → (has_seat touched y ≡ false → get_or before y false ≡ is_ready s y) → get_or noted y false ≡ is_ready s y
+seen-all s before noted changed touched y seen k = elim seen.is [ inl a ↦ a | inr o ↦ o.0 ∙ k o.1 ]

@@ -1,0 +1,47 @@
+use Rattle.std.proofs.Common.{ℕ, ◌≡◌, ◌+◌, ◌≤◌, ◌<◌, length, arith, refl, ap, sym, subst}
+use Rattle.std.proofs.lemmas.Bool.{le-leb}
+use Rattle.bd_space.specs.Histories.{HasPlace, space_after}
+use Rattle.bd_laws.proofs.Always.{always-tidy}
+use Rattle.bd_engine.specs.declared.tables.Tables.{Tables}
+use Rattle.bd_engine.specs.Stands.{Before}
+use Rattle.bd_engine.proofs.Places.{change-steps}
+use Rattle.bd_engine.proofs.Keeping.{follows-step, follows-kept, place, full-at-length, full-by-number, full-as, memory-if}
+use Rattle.bd_engine.proofs.live.Live.make.Goals as goal
+
+pub returns-in_default-clause-full : goal.returns-in_default-clause-full
+returns-in_default-clause-full c = λ h follows.
+    let long : 4294967295 ≤ length h.entries = omega (arith, (c.tables.ensures h follows).own.steps_are, place h, c.in_default.ensures) in
+    full-at-length h c.args.seat c.args.step (le-leb 4294967295 (length h.entries) long)
+
+pub returns-in-Ok-clause-answer : goal.returns-in-Ok-clause-answer
+returns-in-Ok-clause-answer c = λ h follows.
+    let before = subst (λ (t : Tables). Before t (space_after h)) (sym c.deref_mut-tables.ensures.value) follows.stands in
+    c.in-Ok.ensures.ok.answered (space_after h) before (always-tidy h)
+
+pub returns-in-Ok-clause-follows : goal.returns-in-Ok-clause-follows
+returns-in-Ok-clause-follows c = λ h follows.
+    let s = space_after h in
+    let before = subst (λ (t : Tables). Before t s) (sym c.deref_mut-tables.ensures.value) follows.stands in
+    let met = c.in-Ok.ensures.ok in
+    let stands = met.stands s before (always-tidy h) in
+    let seated : c.args.seat < h.seats = omega (arith, c.requires, follows.seats_are) in
+    let short : length h.entries < 4294967295 = omega (arith, (c.tables.ensures h follows).own.steps_are, place h, c.in-Some.ensures) in
+    let counted : c.in-Some.steps ≡ c.change.new.self.steps + 1 =
+    omega (arith, c.in-Some.ensures, (c.tables.ensures h follows).own.steps_are, stands.own.steps_are, change-steps s c.args.seat c.args.step) in
+    follows-step h c.args.self.now _ c.change.new.self c.args.seat c.args.step c.in-Ok.taken.answer follows seated short
+    (met.answered s before (always-tidy h)) stands refl (ap (λ (n : ℕ). let t : Tables = record c.change.new.self { steps = n } in t) counted)
+
+pub returns-in-Err-clause-err : goal.returns-in-Err-clause-err
+returns-in-Err-clause-err c = λ h follows.
+    let before = subst (λ (t : Tables). Before t (space_after h)) (sym c.deref_mut-tables.ensures.value) follows.stands in
+    follows-kept h c.args.self.now _ follows refl (c.in-Err.ensures.err (space_after h) before)
+
+pub returns-in-Err-clause-full : goal.returns-in-Err-clause-full
+returns-in-Err-clause-full c = λ h follows.
+    let before = subst (λ (t : Tables). Before t (space_after h)) (sym c.deref_mut-tables.ensures.value) follows.stands in
+    full-as c.in-Err.why _ _ (full-by-number h c.args.seat c.args.step) (c.in-Err.ensures.full (space_after h) before (always-tidy h))
+
+pub returns-in-Err-clause-memory : goal.returns-in-Err-clause-memory
+returns-in-Err-clause-memory c = λ h follows.
+    let short : length h.entries < 4294967295 = omega (arith, (c.tables.ensures h follows).own.steps_are, place h, c.in-Some.ensures) in
+    memory-if c.in-Err.why (HasPlace h) short

@@ -1,0 +1,60 @@
+use Rattle.std.proofs.Common.{rules, ◌≡◌, ◌<◌, [], false, refl, arith, ap, subst, ◌∙◌, get_or, take, length}
+use Rattle.std.proofs.lemmas.List.{take_more, take_all}
+use Rattle.bd_space.specs.Histories.{space_after, is_ready}
+use Rattle.bd_engine.proofs.Noting.{IsSeen, seen-same, seen-other, seen-none, seen-all, seen-as, differ, agree}
+use Rattle.bd_engine.proofs.live.Live.note_ready.Goals as goal
+use Rattle.bd_engine.proofs.live.Live.note_ready.Goals.{then-at-noted+then-noted-at, then-at-noted+else-noted-at, else-at-noted}
+
+pub loop-i-init : goal.loop-i-init
+loop-i-init c = record {
+  len = refl;
+  room = omega arith;
+  seen = λ h follows y lt. seen-as (space_after h) _ c.args.noted.now _ [] c.args.changed.now.items [] [] y refl c.requires.none refl (seen-none (space_after h) c.args.noted.now y);
+}
+
+pub loop-i-preserved : goal.loop-i-preserved
+loop-i-preserved c = elim c.if-at-noted.branch [
+  | then-at-noted+then-noted-at w ↦
+      let x = get_or c.args.touched.now c.loop-i.i 0 in
+      record {
+        len = omega (arith, c.if-at-noted.auto.noted, c.loop-i.invariant.len);
+        room = search rules;
+        seen = λ h follows y lt.
+            seen-as (space_after h) _ _ c.if-at-noted.noted _ c.if-at-noted.changed.items _ _ y w.noted-is (ap (λ v. v.items) w.changed-is ∙ w.push_reserved.ensures.items)
+            (take_more c.args.touched.now c.loop-i.i 0 c.loop-i-test.true)
+            (seen-other (space_after h) c.args.noted.now c.loop-i.noted c.loop-i.changed.items (take c.loop-i.i c.args.touched.now) x y (c.loop-i.invariant.seen h follows y lt)
+            w.is_ready-ready.result w.if-at-noted.true (differ _ _ w.if-noted-at.true) (λ e. w.is_ready-ready.ensures h follows));
+      }
+  | then-at-noted+else-noted-at w ↦
+      let x = get_or c.args.touched.now c.loop-i.i 0 in
+      record {
+        len = omega (arith, c.if-at-noted.auto.noted, c.loop-i.invariant.len);
+        room = search rules;
+        seen = λ h follows y lt.
+            seen-as (space_after h) _ _ c.if-at-noted.noted _ c.if-at-noted.changed.items _ _ y w.noted-is (ap (λ v. v.items) w.changed-is)
+            (take_more c.args.touched.now c.loop-i.i 0 c.loop-i-test.true)
+            (seen-same (space_after h) c.args.noted.now c.loop-i.noted c.loop-i.changed.items (take c.loop-i.i c.args.touched.now) x y (c.loop-i.invariant.seen h follows y lt)
+            (λ e. subst (λ v. get_or c.loop-i.noted v false ≡ is_ready (space_after h) v) e (agree _ _ w.if-noted-at.false ∙ w.is_ready-ready.ensures h follows)));
+      }
+  | else-at-noted w ↦
+      let x = get_or c.args.touched.now c.loop-i.i 0 in
+      record {
+        len = omega (arith, c.if-at-noted.auto.noted, c.loop-i.invariant.len);
+        room = search rules;
+        seen = λ h follows y lt.
+            seen-as (space_after h) _ _ c.if-at-noted.noted _ c.if-at-noted.changed.items _ _ y w.noted-is (ap (λ v. v.items) w.changed-is)
+            (take_more c.args.touched.now c.loop-i.i 0 c.loop-i-test.true)
+            (seen-same (space_after h) c.args.noted.now c.loop-i.noted c.loop-i.changed.items (take c.loop-i.i c.args.touched.now) x y (c.loop-i.invariant.seen h follows y lt)
+            (λ e. absurd (omega (arith, w.if-at-noted.false, c.loop-i.invariant.len, lt, e))));
+      }
+]
+
+pub returns-clause-noted : goal.returns-clause-noted
+returns-clause-noted c = λ h follows touched_only y lt.
+    let inside : y < length c.args.noted.now = omega (arith, c.loop-i.invariant.len, lt) in
+    let all : take c.loop-i.i c.args.touched.now ≡ c.args.touched.now = take_all c.loop-i.i c.args.touched.now (omega arith) in
+    seen-all (space_after h) c.args.noted.now c.loop-i.noted c.loop-i.changed.items c.args.touched.now y
+    (subst (λ v. IsSeen (space_after h) c.args.noted.now c.loop-i.noted c.loop-i.changed.items v y) all (c.loop-i.invariant.seen h follows y inside)) (touched_only y inside)
+
+pub returns-clause-changed : goal.returns-clause-changed
+returns-clause-changed c = λ h follows y lt. (c.loop-i.invariant.seen h follows y lt).listed

@@ -1,0 +1,144 @@
+//! The live engine: the tables alone. It keeps no history, and hands each entry out.
+
+ghost use Rattle.std.specs.Prelude.{◌≡◌, ◌<◌, true, [], length, IfOk, IfErr, IsTrue, OnErr, MatchResult, Some};
+ghost use Rattle.bd_space.specs.Histories as histories;
+ghost use Rattle.bd_space.specs.Histories.{History, HasPlace, history_of};
+ghost use Rattle.bd_space.specs.Steps as steps;
+ghost use Rattle.bd_engine.specs.Stands.{Before};
+ghost use Rattle.bd_engine.specs.Follows.{Follows};
+ghost use Rattle.bd_engine.specs.Refusals.{FullOnly, MemoryOnly, IsLiveSeats, IsLiveSeatFault};
+
+use crate::tables::Tables;
+use crate::why::Why;
+use bd_space::{Entry, Step, StepAnswer};
+use bd_uapi::Fault;
+use std::alloc::Global;
+
+/// What a history has come to, without the history: its entries are handed out, and not kept. It makes at most 4294967295
+/// steps; then it is full.
+pub struct Live {
+    pub(crate) seats: u32,
+    // Behind a pointer, so that whoever hands an engine on moves few bytes.
+    pub(crate) tables: Box<Tables>,
+}
+
+// Written out: one that is derived would be proved again, with that of each table, in every crate that holds an engine.
+impl Drop for Live {
+    fn drop(self) {
+        let Live {
+            seats: _,
+            tables: _,
+        } = self;
+    }
+}
+
+/// An entry, and its answer again where that was asked for.
+#[derive(Drop)]
+pub(crate) struct Made {
+    pub(crate) entry: Entry,
+    pub(crate) again: StepAnswer,
+}
+
+impl Live {
+    /// A live engine for 1 to 65536 seats, which follows their empty history. Errors: F16 where the number of seats is
+    /// outside of that; else F14 alone, where memory was refused.
+    pub fn new(alloc: Global, seats: u32) -> Result<Live, Fault>
+        ensures follows { IfOk result (λ l. Follows l (history_of seats [])) }
+        ensures seats { IfOk result (λ l. l.seats ≡ seats) }
+        ensures fault { MatchResult result (λ _. IsLiveSeats seats) (λ f. IsLiveSeatFault seats f) }
+    {
+        if seats < 1 || 65536 < seats {
+            return Err(Fault::SeatCount);
+        }
+        match Box::new(alloc, Tables::new(alloc)) {
+            Ok(tables) => Ok(Live { seats, tables }),
+            Err(_) => Err(Fault::NoMemory),
+        }
+    }
+
+    /// How many seats there are, 1 to 65536.
+    pub fn seats(&self) -> u32
+        ensures field { result ≡ self.now.seats }
+        ensures count { (h : History) → Follows self.now h → result ≡ h.seats }
+    {
+        self.seats
+    }
+
+    /// How many steps there were.
+    pub fn len(&self) -> u32
+        ensures { (h : History) → Follows self.now h → result ≡ length h.entries }
+    {
+        self.tables().steps
+    }
+
+    // The tables, which stand for the space after each history that it follows.
+    pub(crate) fn tables(&self) -> &Tables
+        ensures { (h : History) → Follows self.now h → Before result.now (histories.space_after h) }
+    {
+        &self.tables
+    }
+
+    // The step, with its answer once more where both are asked for.
+    pub(crate) fn make(&mut self, seat: u32, step: Step, both: bool) -> Result<Made, Why>
+        requires { seat < self.old.seats }
+        ensures again { IsTrue both → IfOk result (λ m. m.again ≡ m.entry.answer) }
+        ensures seat { IfOk result (λ m. m.entry.seat ≡ seat) }
+        ensures step { IfOk result (λ m. m.entry.step ≡ step) }
+        ensures answer { IfOk result (λ m. (h : History) → Follows self.old h
+            → m.entry.answer ≡ (steps.step (histories.space_after h) seat step).answer) }
+        ensures follows { IfOk result (λ m. (h : History) → Follows self.old h
+            → Follows self.new (histories.extended h seat step m.entry.answer)) }
+        ensures err { OnErr result ((h : History) → Follows self.old h → Follows self.new h) }
+        ensures full { IfErr result (λ why. (h : History) → Follows self.old h
+            → FullOnly why (histories.is_at_limit h seat (Some step) ≡ true)) }
+        ensures memory { IfErr result (λ why. (h : History) → Follows self.old h → MemoryOnly why (HasPlace h)) }
+        ensures seats { self.new.seats ≡ self.old.seats }
+    {
+        let Some(steps) = self.tables().steps.checked_add(1) else {
+            return Err(Why::HistoryFull);
+        };
+        let tables = &mut *self.tables;
+        match tables.change(seat, &step, both) {
+            Ok(taken) => {
+                tables.steps = steps;
+                let answer = taken.answer;
+                let entry = Entry { seat, step, answer };
+                Ok(Made {
+                    entry,
+                    again: taken.again,
+                })
+            }
+            Err(why) => Err(why),
+        }
+    }
+
+    /// Makes one step, and hands out its entry, which has the answer. It is the only copy: drop it, and nothing tells that
+    /// the step was made. Errors: 4294967295 steps were made, which is found before any memory is asked for; memory was
+    /// refused; or a name would have to be numbered above 4294967294.
+    pub fn step(&mut self, seat: u32, step: Step) -> Result<Entry, Why>
+        requires { seat < self.old.seats }
+        // The entry is of this step.
+        ensures seat { IfOk result (λ e. e.seat ≡ seat) }
+        ensures step { IfOk result (λ e. e.step ≡ step) }
+        // The answer is the space's, after each history that it followed.
+        ensures answer { IfOk result (λ e. (h : History) → Follows self.old h
+            → e.answer ≡ (steps.step (histories.space_after h) seat step).answer) }
+        // It then follows that history with this step more.
+        ensures follows { IfOk result (λ e. (h : History) → Follows self.old h
+            → Follows self.new (histories.extended h seat step e.answer)) }
+        // A step refused leaves it following what it followed.
+        ensures err { OnErr result ((h : History) → Follows self.old h → Follows self.new h) }
+        // When a full history is the reason.
+        ensures full { IfErr result (λ why. (h : History) → Follows self.old h
+            → FullOnly why (histories.is_at_limit h seat (Some step) ≡ true)) }
+        // Want of memory isn't said of a full history.
+        ensures memory { IfErr result (λ why. (h : History) → Follows self.old h → MemoryOnly why (HasPlace h)) }
+        // It has as many seats as before.
+        ensures seats { self.new.seats ≡ self.old.seats }
+    {
+        match self.make(seat, step, false) {
+            Ok(made) => Ok(made.entry),
+            Err(why) => Err(why),
+        }
+    }
+}

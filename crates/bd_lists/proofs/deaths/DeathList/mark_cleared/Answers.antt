@@ -1,0 +1,16 @@
+use Rattle.std.proofs.Common.{rules, tests, ◌∙◌, arith, true}
+use Rattle.bd_space.specs.declared.space.DeathNotification.{DeathNotification}
+use Rattle.bd_space.specs.Deaths.{is_notification}
+use Rattle.bd_space.proofs.Changed.{changed-then, changed-else}
+use Rattle.bd_lists.proofs.deaths.DeathList.mark_cleared.Goals as goal
+use Rattle.bd_lists.proofs.deaths.DeathList.mark_cleared.Goals.{then-is_made_at, else-is_made_at}
+
+pub loop-x-preserved : goal.loop-x-preserved
+loop-x-preserved c =
+    let p = is_notification c.args.made in
+    let f = λ (x : DeathNotification). record x { cleared = true } in
+    let before = c.loop-x.invariant in
+    elim c.if-is_made_at.branch [
+      | then-is_made_at w ↦ w.x-items-is ∙ changed-then p f _ _ _ _ before (omega arith) (search (rules, tests))
+      | else-is_made_at w ↦ w.x-items-is ∙ changed-else p f _ _ _ _ before (omega arith) (search (rules, tests))
+    ]

@@ -1,0 +1,301 @@
+//! The windows of all processes.
+
+ghost use Rattle.std.specs.Prelude.{◌≡◌, ◌≤◌, length, IfOk};
+ghost use Rattle.bd_space.specs.Windows as room;
+
+use crate::random::Random;
+use bd_buffers::{Window, Windows, needed};
+use bd_call_lists::WindowsList;
+use bd_space::{Buffer, Bytes, Process};
+use bd_uapi::TransactionFlags;
+use std::alloc::{AllocError, Global};
+use std::process::Abort;
+use std::test::Fail;
+
+const ROUNDS: u32 = 12;
+
+// So many in each round.
+const CALLS: u32 = 120;
+
+const PROCESSES: u32 = 3;
+
+// A window's size in words of 8 bytes.
+const WORDS: u32 = 40;
+
+#[derive(Clone, Copy, Debug)]
+enum Call {
+    Open,
+    // To a process, one-way or not, with so many bytes of data and of offsets.
+    Add(u32, bool, u64, u64),
+    Free(u32),
+    HandOut(u32),
+    Close(u32),
+}
+
+// What is compared of a buffer.
+#[derive(Clone, Copy, Debug, PartialEq, Eq)]
+struct Shown {
+    made: u32,
+    receiver: u32,
+    start: u32,
+    size: u32,
+    one_way: bool,
+    handed: bool,
+    bytes: usize,
+}
+
+fn seen(buffer: Option<&Buffer>) -> Option<Shown> {
+    let b = buffer?;
+    Some(Shown {
+        made: b.made,
+        receiver: b.receiver,
+        start: b.start,
+        size: b.size,
+        one_way: b.one_way,
+        handed: b.handed,
+        bytes: b.bytes.len(),
+    })
+}
+
+fn zeros(alloc: Global, n: u64) -> Result<Bytes, AllocError>
+    ensures { IfOk result (λ b. length b ≡ n) }
+{
+    Ok(Bytes::new(vec![in alloc; 0; n as usize]?))
+}
+
+// Where a buffer is put.
+#[derive(Clone, Copy)]
+struct Spot {
+    made: u32,
+    receiver: u32,
+    start: u32,
+    one_way: bool,
+}
+
+fn buffer_at(
+    alloc: Global,
+    spot: Spot,
+    data_size: u64,
+    offsets_size: u64,
+) -> Result<Buffer, AllocError>
+    requires { room.needed data_size offsets_size ≤ 4194304 }
+    ensures sized { IfOk result (λ b. b.size ≡ room.needed (length b.bytes) (length b.offsets)) }
+    ensures needs { IfOk result (λ b. b.size ≡ room.needed data_size offsets_size) }
+    ensures receiver { IfOk result (λ b. b.receiver ≡ spot.receiver) }
+    ensures one_way { IfOk result (λ b. b.one_way ≡ spot.one_way) }
+    ensures start { IfOk result (λ b. b.start ≡ spot.start) }
+{
+    Ok(Buffer {
+        made: spot.made,
+        receiver: spot.receiver,
+        start: spot.start,
+        size: needed(data_size, offsets_size),
+        one_way: spot.one_way,
+        handed: false,
+        target: None,
+        code: 0,
+        flags: TransactionFlags::ONE_WAY,
+        euid: 0,
+        bytes: zeros(alloc, data_size)?,
+        offsets: zeros(alloc, offsets_size)?,
+    })
+}
+
+// The table, the list that it stands for, and the place of the latest step.
+#[derive(Drop)]
+struct Both {
+    table: Windows,
+    list: WindowsList,
+    place: u32,
+}
+
+impl Both {
+    fn new(alloc: Global) -> Both {
+        Both {
+            table: Windows::new(alloc),
+            list: WindowsList::new(alloc),
+            place: 0,
+        }
+    }
+
+    // One of the processes, or none that there is.
+    fn any_process(&self, random: &mut Random) -> u32 {
+        let i = random.below(PROCESSES + 1) as usize;
+        self.list.processes.get(i).map(|q| q.made).unwrap_or(0)
+    }
+
+    // One of the live buffers, mostly an early one, or none that there is.
+    fn any_made(&self, random: &mut Random) -> u32 {
+        let i = random.below(12) as usize;
+        self.list.buffers.get(i).map(|b| b.made).unwrap_or(0)
+    }
+
+    fn any_call(&self, random: &mut Random) -> Call {
+        match random.below(32) {
+            0 | 1 if self.list.processes.len() < 3 => Call::Open,
+            0..=15 => {
+                let most = if random.is_so() { 24 } else { 160 };
+                let data_size = u64::from(random.below(most));
+                let offsets_size = 8 * u64::from(random.below(3));
+                Call::Add(
+                    self.any_process(random),
+                    random.is_so(),
+                    data_size,
+                    offsets_size,
+                )
+            }
+            16..=25 => Call::Free(self.any_made(random)),
+            26..=29 => Call::HandOut(self.any_made(random)),
+            30 if random.below(8) == 0 => Call::Close(self.any_process(random)),
+            _ => Call::Open,
+        }
+    }
+
+    // A window of this many words, unless there are enough.
+    fn open(&mut self, alloc: Global) -> Result<(), Fail> {
+        if self.list.processes.len() < 3 {
+            self.table.reserve()?;
+            self.list.reserve()?;
+            let window = Window::new(alloc, 8 * WORDS)?;
+            self.table.open(self.place, window);
+            self.list.open(Process {
+                made: self.place,
+                pid: 1,
+                euid: 0,
+                window: 8 * WORDS,
+            });
+        }
+        Ok(())
+    }
+
+    fn add_at(
+        &mut self,
+        alloc: Global,
+        spot: Spot,
+        data_size: u64,
+        offsets_size: u64,
+    ) -> Result<(), Fail>
+        requires { room.needed data_size offsets_size ≤ 4194304 }
+    {
+        let listed = buffer_at(alloc, spot, data_size, offsets_size)?;
+        self.list.reserve_buffer()?;
+        self.list.add(listed);
+        Ok(())
+    }
+
+    // A buffer is added where both say, if they say so.
+    fn add(
+        &mut self,
+        rt: &(impl Abort + Alloc<A = Global>),
+        receiver: u32,
+        one_way: bool,
+        data_size: u64,
+        offsets_size: u64,
+    ) -> Result<(), Fail> {
+        let placed = self.table.place(receiver, one_way, data_size, offsets_size);
+        let wanted = self.list.place(receiver, one_way, data_size, offsets_size);
+        assert_eq!(rt;
+            placed,
+            wanted,
+            "place {receiver} {one_way} {data_size} {offsets_size}"
+        );
+        let Ok(start) = placed else {
+            return Ok(());
+        };
+        let spot = Spot {
+            made: self.place,
+            receiver,
+            start,
+            one_way,
+        };
+        let buffer = buffer_at(rt.alloc(), spot, data_size, offsets_size)?;
+        self.table.reserve_buffer(receiver)?;
+        self.table.add(buffer);
+        self.add_at(rt.alloc(), spot, data_size, offsets_size)
+    }
+
+    fn hand_out(&mut self, made: u32) {
+        let handed = self.list.buffer(made).map(|b| b.made);
+        self.table.hand_out(handed);
+        if let Some(made) = handed {
+            self.list.hand_out(made);
+        }
+    }
+
+    fn make(&mut self, rt: &(impl Abort + Alloc<A = Global>), call: Call) -> Result<(), Fail> {
+        self.place = self.place.saturating_add(1);
+        match call {
+            Call::Open => self.open(rt.alloc())?,
+            Call::Add(p, one_way, data, offsets) => self.add(rt, p, one_way, data, offsets)?,
+            Call::Free(made) => {
+                self.table.free(made);
+                self.list.free(made);
+            }
+            Call::HandOut(made) => self.hand_out(made),
+            Call::Close(p) => {
+                self.table.close(p);
+                self.list.close(p);
+            }
+        }
+        Ok(())
+    }
+
+    fn compare_made(&self, rt: &impl Abort, call: &Call, made: u32) {
+        let (buffer, wanted) = (seen(self.table.buffer(made)), seen(self.list.buffer(made)));
+        assert_eq!(rt; buffer, wanted, "{call:?}: buffer {made}");
+    }
+
+    fn compare_at(&self, rt: &impl Abort, call: &Call, p: u32, pointer: u64) {
+        let buffer = seen(self.table.at_pointer(p, pointer));
+        let wanted = seen(self.list.at_pointer(p, pointer));
+        assert_eq!(rt; buffer, wanted, "{call:?}: at_pointer {p} {pointer}");
+    }
+
+    // Where buffers of some sizes would be put.
+    fn compare_place(&self, rt: &impl Abort, call: &Call, p: u32, words: u32) {
+        let size = 8 * u64::from(words);
+        let (place, wanted) = (
+            self.table.place(p, words % 2 == 0, size, 0),
+            self.list.place(p, words % 2 == 0, size, 0),
+        );
+        assert_eq!(rt; place, wanted, "{call:?}: place {p} {size}");
+    }
+
+    fn compare_in(&self, rt: &impl Abort, call: &Call, p: u32) {
+        for i in 0..WORDS + 2 {
+            self.compare_at(rt, call, p, 65528 + 8 * u64::from(i));
+        }
+        self.compare_place(rt, call, p, self.place % 12);
+    }
+
+    // All looks answer the same, in every window and in one that there isn't.
+    fn compare(&self, rt: &impl Abort, call: &Call) {
+        for made in 0..CALLS + 2 {
+            self.compare_made(rt, call, made);
+        }
+        for q in &self.list.processes {
+            self.compare_in(rt, call, q.made);
+        }
+        self.compare_in(rt, call, 0);
+    }
+}
+
+// A round of calls on a new table.
+fn play(rt: &(impl Abort + Alloc<A = Global>), seed: u32) -> Result<(), Fail> {
+    let mut random = Random::new(u64::from(seed));
+    let mut both = Both::new(rt.alloc());
+    for _ in 0..CALLS {
+        let call = both.any_call(&mut random);
+        both.make(rt, call)?;
+        both.compare(rt, &call);
+    }
+    Ok(())
+}
+
+#[test]
+fn answers_as_a_list_of_windows(rt: HostRuntime) -> Result<(), Fail> {
+    for seed in 0..ROUNDS {
+        play(&rt, seed)?;
+    }
+    Ok(())
+}
