@@ -1,5 +1,5 @@
 -- What is asked about a journal, by what a parse of the words found.
-use Rattle.std.specs.Prelude.{◌≡◌, ℕ, List, Some, None, codes}
+use Rattle.std.specs.Prelude.{◌≡◌, ℕ, true, false, List, Some, None, codes}
 use Rattle.std.specs.Str.Parse.{digits_value, without_leading_plus}
 use Rattle.clap.specs.declared.parser.matches.Found.{Found}
 use Rattle.clap.specs.Matches.{first_value, one_text}
@@ -8,6 +8,7 @@ use Rattle.bd_json.specs.declared.format.Format.TheVariants as format
 use Rattle.bd_show.specs.declared.questions.Question.{Question}
 use Rattle.bd_show.specs.declared.questions.Question.TheVariants.{Chain}
 use Rattle.bd_play.specs.declared.inquiries.Inquiry.{Inquiry}
+use Rattle.bd_play.specs.declared.sources.Source.{Source}
 use Rattle.bd_play.specs.Orders.{IsTurns}
 
 -- the number is that of the text that was found under the name
@@ -25,6 +26,12 @@ pub record IsFormat (found : Found) (f : Format) : Type 0 where
   pub text : first_value found (codes "format") ≡ Some (codes "text") → f ≡ format.Text
   pub usual : first_value found (codes "format") ≡ None → f ≡ format.Text
 
+-- the journal that was found, watched where the flag was given
+pub record IsSourceFound (found : Found) (s : Source) : Type 0 where
+  pub file : first_value found (codes "file") ≡ Some s.file.now
+  pub watched : one_text found (codes "progress") ≡ Some (codes "true") → s.progress ≡ true
+  pub unwatched : one_text found (codes "progress") ≡ Some (codes "false") → s.progress ≡ false
+
 -- of the journal that was found, in the form that was
 abbrev pub AsksFound : Found → Inquiry → Type 0
-AsksFound found i = (first_value found (codes "file") ≡ Some i.file.now) × IsFormat found i.format
+AsksFound found i = IsSourceFound found i.source × IsFormat found i.format

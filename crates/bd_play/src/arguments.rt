@@ -5,10 +5,12 @@ ghost use Rattle.clap.specs.Matches.{found_of};
 ghost use Rattle.bd_play.specs.Orders.{IsManner, PlaysFound, PlaysInput};
 
 use crate::inquiries::{
-    Doubt, Inquiry, doubt_in, format_arg, format_in, inquiry_in, with_inquiries,
+    Doubt, Inquiry, doubt_in, format_arg, format_in, inquiry_in, progress_arg, source_in,
+    with_inquiries,
 };
 use crate::script_help::SCRIPT_HELP;
 use crate::sketches::{Sketch, diagram_command, sketch_in};
+use crate::sources::Source;
 use bd_json::Format;
 use bd_player::{Fault, Manner};
 use clap::error::ErrorKind;
@@ -85,22 +87,13 @@ pub struct Run<'a> {
     pub format: Format,
 }
 
-/// A judgment of a journal.
-#[derive(Clone, Copy)]
-pub struct Check<'a> {
-    /// The journal's file.
-    pub file: &'a str,
-    /// Whether it is told how far it is.
-    pub progress: bool,
-}
-
 /// What the words ask for.
 #[derive(Clone, Copy)]
 pub enum Order<'a> {
     /// Plays a script.
     Run(Run<'a>),
-    /// Judges the journal in a file.
-    Check(Check<'a>),
+    /// Judges a journal.
+    Check(Source<'a>),
     /// Answers a question about a journal.
     Ask(Inquiry<'a>),
     /// Tells what a name means, or what is with a journal.
@@ -132,14 +125,6 @@ fn file_arg<'a>(alloc: Global, help: &'a str) -> Arg<'a> {
         .value_name("FILE")
         .required(true)
         .help(help)
-}
-
-// Whether it is told how far a command is.
-fn progress_arg<'a>(alloc: Global) -> Arg<'a> {
-    Arg::new(alloc, "progress")
-        .long("progress")
-        .action(ArgAction::SetTrue)
-        .help("Tell on standard error how much of it is done, and how much a second")
 }
 
 fn run_command<'a>(alloc: Global) -> Result<Command<'a>, Error> {
@@ -229,19 +214,11 @@ fn run_order<'a>(matches: &ArgMatches<'a>) -> Option<Order<'a>>
     }))
 }
 
-// The judgment of the journal that was found.
-fn check_in<'a>(matches: &ArgMatches<'a>) -> Option<Check<'a>> {
-    Some(Check {
-        file: matches.get_str("file")?,
-        progress: matches.get_flag("progress"),
-    })
-}
-
 fn order_in<'a>(matches: &ArgMatches<'a>) -> Option<Order<'a>> {
     let (name, inner) = matches.subcommand()?;
     match name {
         "run" => run_order(inner),
-        "check" => Some(Order::Check(check_in(inner)?)),
+        "check" => Some(Order::Check(source_in(inner)?)),
         "explain" => Some(Order::Explain(doubt_in(inner)?)),
         "diagram" => Some(Order::Draw(sketch_in(inner)?)),
         "script" => Some(Order::Script),

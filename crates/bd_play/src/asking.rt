@@ -11,8 +11,9 @@ use bd_json::{
 use bd_player::{DONE, FAULT, Fault, Judged, tell};
 use bd_show::Untold;
 use std::alloc::Global;
-use std::io::Write;
+use std::io::{Eprint, Write};
 use std::rt::Files;
+use std::time::Clock;
 
 // The status where this came of a question. Of an output that failed it is told in the end.
 fn status_of<E: Write>(came: Result<bool, Untold>, err: &mut E) -> u8 {
@@ -25,18 +26,18 @@ fn status_of<E: Write>(came: Result<bool, Untold>, err: &mut E) -> u8 {
 }
 
 /// Answers a question about the journal in a file.
-pub fn ask<H: AllocGlobal + Files + Input, W: Write, E: Write>(
+pub fn ask<H: AllocGlobal + Files + Input + Clock + Eprint, W: Write, E: Write>(
     rt: &H,
     inquiry: Inquiry<'_>,
     out: &mut W,
     err: &mut E,
 ) -> u8 {
     let Inquiry {
-        file,
+        source,
         question,
         format,
     } = inquiry;
-    match judged_in(rt, file) {
+    match judged_in(rt, source) {
         Ok(Judged::History(record)) => {
             status_of(answer(rt.alloc(), &record, question, format, out), err)
         }
@@ -72,7 +73,7 @@ fn explain_judged<W: Write, E: Write>(
 }
 
 /// Explains a name, or what is with the journal in a file.
-pub fn explain<H: AllocGlobal + Files + Input, W: Write, E: Write>(
+pub fn explain<H: AllocGlobal + Files + Input + Clock + Eprint, W: Write, E: Write>(
     rt: &H,
     doubt: Doubt<'_>,
     out: &mut W,
@@ -84,7 +85,7 @@ pub fn explain<H: AllocGlobal + Files + Input, W: Write, E: Write>(
             let told = explain_name(alloc, &name, format, out);
             status_of(told.map(|_| true), err)
         }
-        Subject::Journal { file, place } => match judged_in(rt, file) {
+        Subject::Journal { source, place } => match judged_in(rt, source) {
             Ok(judged) => explain_judged(alloc, &judged, place, format, out, err),
             Err(fault) => tell(fault, err),
         },

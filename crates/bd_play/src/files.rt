@@ -1,9 +1,9 @@
 //! The program's files.
 
-use crate::arguments::{Check, Run};
+use crate::arguments::Run;
 use crate::draft::{Draft, draft_for};
 use crate::progress::{Counted, Progress, lines_in};
-use crate::sources::{INPUT, opened};
+use crate::sources::{ENTRIES, INPUT, Source, opened};
 use bd_json::play_in;
 use bd_player::{Fault, Played, check_journal, check_watched, tell};
 use bd_space::Record;
@@ -142,16 +142,16 @@ where
 /// Judges the journal in a file.
 pub fn check_file<H: AllocGlobal + Files + Input + Clock + Eprint, W: Write, E: Write>(
     rt: &H,
-    check: Check<'_>,
+    source: Source<'_>,
     out: &mut W,
     err: &mut E,
 ) -> u8 {
-    let mut journal = match opened(rt, check.file) {
+    let mut journal = match opened(rt, source.file) {
         Ok(journal) => journal,
         Err(fault) => return tell(fault, err),
     };
-    if check.progress {
-        let mut watch = Progress::new(rt, "entries");
+    if source.progress {
+        let mut watch = Progress::new(rt, ENTRIES);
         check_watched(rt.alloc(), &mut journal, &mut watch, out, err)
     } else {
         check_journal(rt.alloc(), &mut journal, out, err)

@@ -2,20 +2,21 @@
 
 ghost use Rattle.std.specs.Prelude.{IfSome};
 ghost use Rattle.clap.specs.Matches.{found_of};
-ghost use Rattle.bd_play.specs.Inquiries.{AsksFound, AskedBy, IsFormat, IsNumberAt};
+ghost use Rattle.bd_play.specs.Inquiries.{AsksFound, AskedBy, IsFormat, IsNumberAt, IsSourceFound};
 
+use crate::sources::Source;
 use bd_explain::{Explanation, explained};
 use bd_json::Format;
 use bd_show::{Question, Selection};
 use bd_space::ObjectId;
-use clap::{Arg, ArgMatches, Command, Error, value_parser};
+use clap::{Arg, ArgAction, ArgMatches, Command, Error, value_parser};
 use std::alloc::Global;
 
-/// A question, and the file of the journal that it is about.
+/// A question, and the journal that it is about.
 #[derive(Clone, Copy)]
 pub struct Inquiry<'a> {
-    /// The journal's file.
-    pub file: &'a str,
+    /// The journal.
+    pub source: Source<'a>,
     /// What is asked.
     pub question: Question,
     /// In which form it is answered.
@@ -79,6 +80,14 @@ pub fn journal_arg<'a>(alloc: Global) -> Arg<'a> {
         .help("The journal, or - for standard input")
 }
 
+/// Whether it is told how far a command is.
+pub fn progress_arg<'a>(alloc: Global) -> Arg<'a> {
+    Arg::new(alloc, "progress")
+        .long("progress")
+        .action(ArgAction::SetTrue)
+        .help("Tell on standard error how much of it is done, and how much a second")
+}
+
 /// In which form something is told.
 pub fn format_arg<'a>(alloc: Global) -> Arg<'a> {
     Arg::new(alloc, "format")
@@ -120,7 +129,8 @@ fn show_command<'a>(alloc: Global) -> Result<Command<'a>, Error> {
             "P",
             "Only entries of the process with this pid",
         ))?
-        .arg(format_arg(alloc))?;
+        .arg(format_arg(alloc))?
+        .arg(progress_arg(alloc))?;
     Ok(command)
 }
 
@@ -131,7 +141,8 @@ fn chain_command<'a>(alloc: Global) -> Result<Command<'a>, Error> {
         .arg(journal_arg(alloc))?
         .arg(number_arg(alloc, "pid", "PID", "The process"))?
         .arg(number_arg(alloc, "handle", "HANDLE", "Its handle"))?
-        .arg(format_arg(alloc))?;
+        .arg(format_arg(alloc))?
+        .arg(progress_arg(alloc))?;
     Ok(command)
 }
 
@@ -146,7 +157,8 @@ fn call_command<'a>(alloc: Global) -> Result<Command<'a>, Error> {
             "K",
             "The place of the read that handed out the reply",
         ))?
-        .arg(format_arg(alloc))?;
+        .arg(format_arg(alloc))?
+        .arg(progress_arg(alloc))?;
     Ok(command)
 }
 
@@ -161,7 +173,8 @@ fn turns_command<'a>(alloc: Global) -> Result<Command<'a>, Error> {
                 .required(true)
                 .help("The object: the place of the step that made it, and its number there"),
         )?
-        .arg(format_arg(alloc))?;
+        .arg(format_arg(alloc))?
+        .arg(progress_arg(alloc))?;
     Ok(command)
 }
 
@@ -171,7 +184,8 @@ fn state_command<'a>(alloc: Global) -> Result<Command<'a>, Error> {
         .after_help(STATE_HELP)
         .arg(journal_arg(alloc))?
         .arg(number_option(alloc, "at", "K", "After this many entries [default: all]"))?
-        .arg(format_arg(alloc))?;
+        .arg(format_arg(alloc))?
+        .arg(progress_arg(alloc))?;
     Ok(command)
 }
 
@@ -191,7 +205,8 @@ fn explain_command<'a>(alloc: Global) -> Result<Command<'a>, Error> {
                 .value_parser(value_parser!(u32))
                 .help("The place of the entry of a journal that is to be explained"),
         )?
-        .arg(format_arg(alloc))?;
+        .arg(format_arg(alloc))?
+        .arg(progress_arg(alloc))?;
     Ok(command)
 }
 
@@ -270,12 +285,22 @@ fn question_in(name: &str, matches: &ArgMatches<'_>) -> Option<Question> {
     }
 }
 
+/// The journal that was found.
+pub fn source_in<'a>(matches: &ArgMatches<'a>) -> Option<Source<'a>>
+    ensures { IfSome result (IsSourceFound (found_of matches.now)) }
+{
+    Some(Source {
+        file: matches.get_str("file")?,
+        progress: matches.get_flag("progress"),
+    })
+}
+
 /// The question that was found, and its journal.
 pub fn inquiry_in<'a>(name: &str, matches: &ArgMatches<'a>) -> Option<Inquiry<'a>>
     ensures { IfSome result (AsksFound (found_of matches.now)) }
 {
     Some(Inquiry {
-        file: matches.get_str("file")?,
+        source: source_in(matches)?,
         question: question_in(name, matches)?,
         format: format_in(matches),
     })
@@ -286,8 +311,11 @@ pub fn inquiry_in<'a>(name: &str, matches: &ArgMatches<'a>) -> Option<Inquiry<'a
 pub enum Subject<'a> {
     /// A name.
     Name(Explanation<'static>),
-    /// The journal in this file: why it is no history, or how its entry at a place was answered.
-    Journal { file: &'a str, place: Option<u32> },
+    /// A journal: why it is no history, or how its entry at a place was answered.
+    Journal {
+        source: Source<'a>,
+        place: Option<u32>,
+    },
 }
 
 /// What is to be explained, and in which form.
@@ -301,11 +329,11 @@ pub struct Doubt<'a> {
 
 /// What was found that is to be explained. A word that is a name means that, where no place is given.
 pub fn doubt_in<'a>(matches: &ArgMatches<'a>) -> Option<Doubt<'a>> {
-    let file = matches.get_str("file")?;
+    let source = source_in(matches)?;
     let place = number_in(matches, "place");
-    let subject = match (explained(file), place) {
+    let subject = match (explained(source.file), place) {
         (Some(explanation), None) => Subject::Name(explanation),
-        _ => Subject::Journal { file, place },
+        _ => Subject::Journal { source, place },
     };
     Some(Doubt {
         subject,

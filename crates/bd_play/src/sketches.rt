@@ -1,19 +1,20 @@
 //! Diagrams of a journal: their words, and the drawing.
 
-use crate::inquiries::{journal_arg, number_in, number_option};
-use crate::sources::judged_in;
+use crate::inquiries::{journal_arg, number_in, number_option, progress_arg, source_in};
+use crate::sources::{Source, judged_in};
 use bd_diagram::{Drawing, Format, Undrawn, draw};
 use bd_player::{DONE, FAULT, Fault, Judged, print_unlawful, tell};
 use clap::{Arg, ArgMatches, Command, Error};
 use std::alloc::Global;
-use std::io::Write;
+use std::io::{Eprint, Write};
 use std::rt::Files;
+use std::time::Clock;
 
 /// A diagram of a journal.
 #[derive(Clone, Copy)]
 pub struct Sketch<'a> {
-    /// The journal's file.
-    pub file: &'a str,
+    /// The journal.
+    pub source: Source<'a>,
     /// What is drawn of it.
     pub drawing: Drawing,
 }
@@ -39,7 +40,8 @@ pub fn diagram_command<'a>(alloc: Global) -> Result<Command<'a>, Error> {
                 .help("In which form: svg, mermaid or text [default: svg]"),
         )?
         .arg(number_option(alloc, "from", "K", "Only entries from this place on"))?
-        .arg(number_option(alloc, "to", "K", "Only entries before this place"))?;
+        .arg(number_option(alloc, "to", "K", "Only entries before this place"))?
+        .arg(progress_arg(alloc))?;
     Ok(command)
 }
 
@@ -59,7 +61,7 @@ pub fn sketch_in<'a>(matches: &ArgMatches<'a>) -> Option<Sketch<'a>> {
         to: number_in(matches, "to"),
     };
     Some(Sketch {
-        file: matches.get_str("file")?,
+        source: source_in(matches)?,
         drawing,
     })
 }
@@ -75,13 +77,13 @@ fn status_of<E: Write>(came: Result<(), Undrawn>, err: &mut E) -> u8 {
 }
 
 /// Draws the journal in a file.
-pub fn draw_journal<H: AllocGlobal + Files + Input, W: Write, E: Write>(
+pub fn draw_journal<H: AllocGlobal + Files + Input + Clock + Eprint, W: Write, E: Write>(
     rt: &H,
     sketch: Sketch<'_>,
     out: &mut W,
     err: &mut E,
 ) -> u8 {
-    match judged_in(rt, sketch.file) {
+    match judged_in(rt, sketch.source) {
         Ok(Judged::History(record)) => {
             status_of(draw(rt.alloc(), &record, sketch.drawing, out), err)
         }

@@ -3,13 +3,19 @@
 ghost use Rattle.std.specs.Prelude.{IfOk};
 ghost use Rattle.bd_player.specs.Verdicts.{IsAsSaid};
 
-use bd_player::{Fault, Judged, judged_from};
+use crate::progress::Progress;
+use bd_player::{Fault, Judged, judged_from, judged_watched};
 use either::Either;
 use std::fs::File;
+use std::io::Eprint;
 use std::rt::Files;
+use std::time::Clock;
 
 /// Standard input, as a word.
 pub const INPUT: &str = "-";
+
+/// What is counted of a journal.
+pub const ENTRIES: &str = "entries";
 
 /// A reader of what is in the file of this name, or of standard input.
 pub fn opened<H: Files + Input>(rt: &H, file: &str) -> Result<Either<H::Reader, H::File>, Fault> {
@@ -22,12 +28,29 @@ pub fn opened<H: Files + Input>(rt: &H, file: &str) -> Result<Either<H::Reader, 
     }
 }
 
-/// The record of the journal in a file, judged.
-pub fn judged_in<H: AllocGlobal + Files + Input>(rt: &H, file: &str) -> Result<Judged, Fault>
+/// A journal that is to be judged.
+#[derive(Clone, Copy)]
+pub struct Source<'a> {
+    /// Its file.
+    pub file: &'a str,
+    /// Whether it is told how far its judgment is.
+    pub progress: bool,
+}
+
+/// The record of a journal, judged.
+pub fn judged_in<H: AllocGlobal + Files + Input + Clock + Eprint>(
+    rt: &H,
+    source: Source<'_>,
+) -> Result<Judged, Fault>
     ensures { IfOk result IsAsSaid }
 {
-    match opened(rt, file) {
-        Ok(mut journal) => judged_from(rt.alloc(), &mut journal),
-        Err(fault) => Err(fault),
+    let mut journal = match opened(rt, source.file) {
+        Ok(journal) => journal,
+        Err(fault) => return Err(fault),
+    };
+    if source.progress {
+        judged_watched(rt.alloc(), &mut journal, &mut Progress::new(rt, ENTRIES))
+    } else {
+        judged_from(rt.alloc(), &mut journal)
     }
 }

@@ -31,6 +31,10 @@ IsJudged r (judged.Unlawful found at) = (found ≡ r) × HasSeats r × Holds r (
 abbrev pub Judges : List ℕ → Judged → Type 0
 Judges bytes j = (r : Record) × Spells bytes r × IsJudged r j
 
+-- so it is of the record that the bytes spell, where they are known
+abbrev pub JudgesKnown : Option (List ℕ) → Judged → Type 0
+JudgesKnown known j = IfSome known (λ bytes. Judges bytes j)
+
 -- the verdict holds of the record that the bytes spell
 abbrev pub IsVerdict : List ℕ → Verdict → Type 0
 IsVerdict bytes v = (r : Record) × Spells bytes r × Holds r v

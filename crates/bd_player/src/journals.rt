@@ -2,7 +2,7 @@
 
 ghost use Rattle.std.specs.Prelude.{◌≡◌, ◌≤◌, IfOk, IfSome};
 ghost use Rattle.bd_player.specs.Journals.{Wrote};
-ghost use Rattle.bd_player.specs.Verdicts.{IsAsSaid, IsLawfulAt0};
+ghost use Rattle.bd_player.specs.Verdicts.{IsAsSaid, IsLawfulAt0, JudgesKnown};
 
 use crate::faults::{DONE, FAULT, Fault, after_writing, tell};
 use crate::playing::read_on;
@@ -64,10 +64,25 @@ fn journal_from<R: Read>(alloc: Global, journal: &mut R) -> Result<Vec<u8>, Faul
 /// The record of a journal, and whether its entries are a history, or else which is the first that doesn't follow from
 /// those before.
 pub fn judged_from<R: Read>(alloc: Global, journal: &mut R) -> Result<Judged, Fault>
-    ensures { IfOk result IsAsSaid }
+    ensures said { IfOk result IsAsSaid }
+    // It is said of the record that the journal spells.
+    ensures spelled { IfOk result (JudgesKnown (R.remaining journal.old)) }
+{
+    judged_watched(alloc, journal, &mut Unwatched)
+}
+
+/// The same, and tells how far it is.
+#[tactic(auto, using(crate::proofs::Kept::judges_known))]
+pub fn judged_watched<R: Read, P: Watch>(
+    alloc: Global,
+    journal: &mut R,
+    watch: &mut P,
+) -> Result<Judged, Fault>
+    ensures said { IfOk result IsAsSaid }
+    ensures spelled { IfOk result (JudgesKnown (R.remaining journal.old)) }
 {
     match journal_from(alloc, journal) {
-        Ok(bytes) => judgment_on(alloc, &bytes, &mut Unwatched),
+        Ok(bytes) => judgment_on(alloc, &bytes, watch),
         Err(fault) => Err(fault),
     }
 }

@@ -14,7 +14,8 @@ mod worker;
 
 pub use faults::{DONE, FAULT, Fault, MEMORY, TURNS, after_writing, tell};
 pub use journals::{
-    check_journal, check_watched, judged_from, print_lawful, print_unlawful, write_journal,
+    check_journal, check_watched, judged_from, judged_watched, print_lawful, print_unlawful,
+    write_journal,
 };
 pub use manner::{Manner, play_from};
 pub use playing::{Played, laid, play, play_lines};

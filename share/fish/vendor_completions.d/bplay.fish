@@ -15,7 +15,7 @@ complete -c bplay -n __fish_use_subcommand -l version -d 'Print the version'
 complete -c bplay -n '__fish_seen_subcommand_from run' -l threads -d "Run each seat's lines on a thread"
 complete -c bplay -n '__fish_seen_subcommand_from run' -x -l turns -d 'How many turns a line has'
 complete -c bplay -n '__fish_seen_subcommand_from run' -r -l journal -d 'Write the journal of the run here'
-complete -c bplay -n '__fish_seen_subcommand_from run check' -l progress -d 'Tell how much is done'
+complete -c bplay -n '__fish_seen_subcommand_from run check show state explain chain call-of-reply turns diagram' -l progress -d 'Tell how much is done'
 complete -c bplay -n '__fish_seen_subcommand_from show diagram' -x -l from -d 'Only entries from this place on'
 complete -c bplay -n '__fish_seen_subcommand_from show diagram' -x -l to -d 'Only entries before this place'
 complete -c bplay -n '__fish_seen_subcommand_from show' -x -l seat -d 'Only entries of this seat'
