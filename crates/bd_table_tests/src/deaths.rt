@@ -1,6 +1,7 @@
 //! The table of death notifications.
 
 use crate::random::{Random, object_of};
+use crate::same::same;
 use bd_deaths::DeathTable;
 use bd_lists::{DeathList, NodeList};
 use bd_nodes::NodeTable;
@@ -23,7 +24,7 @@ const PLACES: u32 = 48;
 
 const COOKIES: u32 = 3;
 
-#[derive(Clone, Copy, Debug)]
+#[derive(Clone, Copy)]
 enum Call {
     Push(DeathNotification),
     MarkCleared(u32),
@@ -200,54 +201,65 @@ impl Both {
         Ok(())
     }
 
-    fn compare_name(&self, rt: &impl Abort, n: u32, call: &Call, p: u32, o: ObjectId) {
+    fn compare_name(&self, rt: &impl Abort, n: u32, i: u32) {
         let (table, list) = (&self.table, &self.list);
-        assert_eq!(rt;
+        let (p, o) = (i % PROCESSES, object_of(i / PROCESSES));
+        same(
+            rt,
+            n,
+            "uncleared",
+            i,
             table.uncleared(p, o),
             list.uncleared(p, o),
-            "call {n}, {call:?}: uncleared {p} {o:?}"
         );
-        let (only, wanted) = (table.only_uncleared(p, o), list.only_uncleared(p, o));
-        assert_eq!(rt;
-            only,
+        let wanted = list.only_uncleared(p, o);
+        same(
+            rt,
+            n,
+            "only_uncleared",
+            i,
+            table.only_uncleared(p, o),
             wanted,
-            "call {n}, {call:?}: only_uncleared {p} {o:?}"
         );
-        let (has, wanted) = (table.has_uncleared(p, o), list.has_uncleared(p, o));
-        assert_eq!(rt; has, wanted, "call {n}, {call:?}: has_uncleared {p} {o:?}");
+        let wanted = list.has_uncleared(p, o);
+        same(rt, n, "has_uncleared", i, table.has_uncleared(p, o), wanted);
     }
 
-    fn compare_told(&self, rt: &impl Abort, n: u32, call: &Call, p: u32, cookie: u64) {
-        let (told, wanted) = (self.table.told(p, cookie), self.list.told(p, cookie));
-        assert_eq!(rt; told, wanted, "call {n}, {call:?}: told {p} {cookie}");
+    fn compare_told(&self, rt: &impl Abort, n: u32, i: u32) {
+        let (p, cookie) = (i % PROCESSES, u64::from(i / PROCESSES));
+        let wanted = self.list.told(p, cookie);
+        same(rt, n, "told", i, self.table.told(p, cookie), wanted);
     }
 
-    fn compare_made(&self, rt: &impl Abort, n: u32, call: &Call, made: u32) {
+    fn compare_made(&self, rt: &impl Abort, n: u32, made: u32) {
         let (table, list) = (&self.table, &self.list);
-        assert_eq!(rt;
-            table.death(made),
-            list.death(made),
-            "call {n}, {call:?}: death {made}"
-        );
-    }
-
-    fn compare_stay(&self, rt: &impl Abort, n: u32, call: &Call, made: u32, p: u32, o: ObjectId) {
-        let (table, list) = (&self.table, &self.list);
-        assert_eq!(rt;
+        let (p, o) = (made % PROCESSES, object_of(n % OBJECTS));
+        same(rt, n, "death", made, table.death(made), list.death(made));
+        same(
+            rt,
+            n,
+            "is_on",
+            made,
             table.is_on(p, o, made),
             list.is_on(p, o, made),
-            "call {n}, {call:?}: is_on {p} {o:?} {made}"
         );
-        let (stays, wanted) = (
+        let wanted = list.stays(false, p, o, made);
+        same(
+            rt,
+            n,
+            "stays without",
+            made,
             table.stays(false, p, o, made),
-            list.stays(false, p, o, made),
-        );
-        assert_eq!(rt; stays, wanted, "call {n}, {call:?}: stays {p} {o:?} {made}");
-        let (stays, wanted) = (table.stays(true, p, o, made), list.stays(true, p, o, made));
-        assert_eq!(rt;
-            stays,
             wanted,
-            "call {n}, {call:?}: stays with the name {made}"
+        );
+        let wanted = list.stays(true, p, o, made);
+        same(
+            rt,
+            n,
+            "stays with",
+            made,
+            table.stays(true, p, o, made),
+            wanted,
         );
     }
 
@@ -255,38 +267,27 @@ impl Both {
         &self,
         rt: &(impl Abort + Alloc<A = Global>),
         n: u32,
-        call: &Call,
         p: u32,
     ) -> Result<(), Fail> {
         let due = self.table.due(rt.alloc(), &self.nodes, p)?;
         let wanted = self.list.due(rt.alloc(), &self.objects, p)?;
-        assert_eq!(rt;
-            due.as_slice(),
-            wanted.as_slice(),
-            "call {n}, {call:?}: due {p}"
-        );
+        same(rt, n, "due", p, due.as_slice(), wanted.as_slice());
         Ok(())
     }
 
     // All looks answer the same.
-    fn compare(
-        &self,
-        rt: &(impl Abort + Alloc<A = Global>),
-        n: u32,
-        call: &Call,
-    ) -> Result<(), Fail> {
+    fn compare(&self, rt: &(impl Abort + Alloc<A = Global>), n: u32) -> Result<(), Fail> {
         for i in 0..PROCESSES * OBJECTS {
-            self.compare_name(rt, n, call, i % PROCESSES, object_of(i / PROCESSES));
+            self.compare_name(rt, n, i);
         }
         for i in 0..PROCESSES * COOKIES {
-            self.compare_told(rt, n, call, i % PROCESSES, u64::from(i / PROCESSES));
+            self.compare_told(rt, n, i);
         }
         for made in 0..PLACES {
-            self.compare_made(rt, n, call, made);
-            self.compare_stay(rt, n, call, made, made % PROCESSES, object_of(n % OBJECTS));
+            self.compare_made(rt, n, made);
         }
         for p in 0..PROCESSES {
-            self.compare_due(rt, n, call, p)?;
+            self.compare_due(rt, n, p)?;
         }
         Ok(())
     }
@@ -300,7 +301,7 @@ fn play(rt: &(impl Abort + Alloc<A = Global>), seed: u32) -> Result<(), Fail> {
     for n in 0..CALLS {
         let call = both.any_call(&mut random);
         both.make(call)?;
-        both.compare(rt, n, &call)?;
+        both.compare(rt, n)?;
     }
     Ok(())
 }

@@ -3,6 +3,7 @@
 ghost use Rattle.std.specs.Prelude.{◌<◌};
 
 use crate::random::Random;
+use crate::same::same;
 use bd_call_lists::FrameList;
 use bd_frames::FrameTable;
 use bd_space::{Frame, Server};
@@ -19,7 +20,7 @@ const SEATS: u32 = 4;
 
 const PLACES: u32 = 32;
 
-#[derive(Clone, Copy, Debug)]
+#[derive(Clone, Copy)]
 enum Call {
     Push(Frame),
     Close(u32),
@@ -132,65 +133,46 @@ impl Both {
         Ok(())
     }
 
-    fn compare_seat(&self, rt: &impl Abort, n: u32, call: &Call, seat: u32) {
+    fn compare_seat(&self, rt: &impl Abort, n: u32, seat: u32) {
         let (table, list) = (&self.table, &self.list);
-        assert_eq!(rt;
-            table.newest_of(seat),
-            list.newest_of(seat),
-            "call {n}, {call:?}: newest_of {seat}"
-        );
-        let (is_in_call, wanted) = (table.is_in_call(seat), list.is_in_call(seat));
-        assert_eq!(rt; is_in_call, wanted, "call {n}, {call:?}: is_in_call {seat}");
+        let wanted = list.newest_of(seat);
+        same(rt, n, "newest_of", seat, table.newest_of(seat), wanted);
+        let wanted = list.is_in_call(seat);
+        same(rt, n, "is_in_call", seat, table.is_in_call(seat), wanted);
     }
 
-    fn compare_made(&self, rt: &impl Abort, n: u32, call: &Call, made: u32) {
+    fn compare_made(&self, rt: &impl Abort, n: u32, made: u32) {
         let (table, list) = (&self.table, &self.list);
-        assert_eq!(rt;
-            table.frame(made),
-            list.frame(made),
-            "call {n}, {call:?}: frame {made}"
-        );
-        let (abandoned, wanted) = (table.abandoned_at(made), list.abandoned_at(made));
-        assert_eq!(rt;
-            abandoned,
-            wanted,
-            "call {n}, {call:?}: abandoned_at {made}"
-        );
-        let chosen = [
+        same(rt, n, "frame", made, table.frame(made), list.frame(made));
+        let wanted = list.abandoned_at(made);
+        same(
+            rt,
+            n,
+            "abandoned_at",
             made,
-            made.wrapping_add(5) % PLACES,
-            made.wrapping_add(11) % PLACES,
-        ];
+            table.abandoned_at(made),
+            wanted,
+        );
+        let (next, other) = (made.wrapping_add(5), made.wrapping_add(11));
+        let chosen = [made, next % PLACES, other % PLACES];
         let oldest = table.oldest_abandoned_among(&chosen);
         let wanted = list.oldest_abandoned_among(&chosen);
-        assert_eq!(rt;
-            oldest,
-            wanted,
-            "call {n}, {call:?}: oldest among {chosen:?}"
-        );
+        same(rt, n, "oldest_abandoned_among", made, oldest, wanted);
     }
 
-    fn compare_ancestry(&self, rt: &impl Abort, n: u32, call: &Call, from: Option<u32>) {
+    fn compare_ancestry(&self, rt: &impl Abort, n: u32, from: Option<u32>) {
+        let i = from.unwrap_or(PLACES);
         let mut wanted = self.list.ancestry_of(from);
         for frame in self.table.ancestry_of(from) {
-            assert_eq!(rt;
-                Some(frame),
-                wanted.next(),
-                "call {n}, {call:?}: ancestry_of {from:?}"
-            );
+            same(rt, n, "ancestry_of", i, Some(frame), wanted.next());
         }
-        assert_eq!(rt;
-            None,
-            wanted.next(),
-            "call {n}, {call:?}: end of ancestry_of {from:?}"
-        );
+        same(rt, n, "end of ancestry_of", i, None, wanted.next());
     }
 
     fn compare_served(
         &self,
         rt: &(impl Abort + Alloc<A = Global>),
         n: u32,
-        call: &Call,
         seat: u32,
     ) -> Result<(), Fail> {
         let mut served = Vec::new(rt.alloc());
@@ -198,31 +180,21 @@ impl Both {
         let mut wanted = served.clone()?;
         self.table.served(seat, &mut served)?;
         self.list.served(seat, &mut wanted)?;
-        assert_eq!(rt;
-            served.as_slice(),
-            wanted.as_slice(),
-            "call {n}, {call:?}: served {seat}"
-        );
+        same(rt, n, "served", seat, served.as_slice(), wanted.as_slice());
         Ok(())
     }
 
     // All looks answer the same.
-    fn compare(
-        &self,
-        rt: &(impl Abort + Alloc<A = Global>),
-        n: u32,
-        call: &Call,
-    ) -> Result<(), Fail> {
-        let (count, wanted) = (self.table.count(), self.list.count());
-        assert_eq!(rt; count, wanted, "call {n}, {call:?}: count");
+    fn compare(&self, rt: &(impl Abort + Alloc<A = Global>), n: u32) -> Result<(), Fail> {
+        same(rt, n, "count", 0, self.table.count(), self.list.count());
         for made in 0..PLACES {
-            self.compare_made(rt, n, call, made);
-            self.compare_ancestry(rt, n, call, Some(made));
+            self.compare_made(rt, n, made);
+            self.compare_ancestry(rt, n, Some(made));
         }
-        self.compare_ancestry(rt, n, call, None);
+        self.compare_ancestry(rt, n, None);
         for seat in 0..SEATS {
-            self.compare_seat(rt, n, call, seat);
-            self.compare_served(rt, n, call, seat)?;
+            self.compare_seat(rt, n, seat);
+            self.compare_served(rt, n, seat)?;
         }
         Ok(())
     }
@@ -235,7 +207,7 @@ fn play(rt: &(impl Abort + Alloc<A = Global>), seed: u32) -> Result<(), Fail> {
     for n in 0..CALLS {
         let call = both.any_call(&mut random);
         both.make(call)?;
-        both.compare(rt, n, &call)?;
+        both.compare(rt, n)?;
     }
     Ok(())
 }

@@ -15,6 +15,8 @@ pub mod random;
 #[cfg(test)]
 mod references;
 #[cfg(test)]
+mod same;
+#[cfg(test)]
 mod turns;
 #[cfg(test)]
 mod windows;

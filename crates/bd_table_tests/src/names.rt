@@ -1,6 +1,7 @@
 //! The table of names.
 
 use crate::random::{Random, object_of};
+use crate::same::same;
 use bd_lists::NameList;
 use bd_names::NameTable;
 use bd_space::ObjectId;
@@ -20,7 +21,7 @@ const MANY: u32 = 4200;
 
 const EACH: u32 = 7;
 
-#[derive(Clone, Copy, Debug)]
+#[derive(Clone, Copy)]
 enum Call {
     Give(bool, u32, ObjectId),
     Settle,
@@ -57,15 +58,18 @@ impl Both {
         }
     }
 
-    fn give(&mut self, rt: &impl Abort, from_zero: bool, p: u32, o: ObjectId) -> Result<(), Fail> {
+    fn give(
+        &mut self,
+        rt: &impl Abort,
+        n: u32,
+        from_zero: bool,
+        p: u32,
+        o: ObjectId,
+    ) -> Result<(), Fail> {
         self.table.reserve(1)?;
         self.list.reserve(1)?;
         let given = self.table.give(from_zero, p, o);
-        assert_eq!(rt;
-            given,
-            self.list.give(from_zero, p, o),
-            "give {from_zero} {p} {o:?}"
-        );
+        same(rt, n, "give", p, given, self.list.give(from_zero, p, o));
         Ok(())
     }
 
@@ -74,9 +78,9 @@ impl Both {
         self.list.settle();
     }
 
-    fn make(&mut self, rt: &impl Abort, call: Call) -> Result<(), Fail> {
+    fn make(&mut self, rt: &impl Abort, n: u32, call: Call) -> Result<(), Fail> {
         match call {
-            Call::Give(from_zero, p, o) => self.give(rt, from_zero, p, o)?,
+            Call::Give(from_zero, p, o) => self.give(rt, n, from_zero, p, o)?,
             Call::Settle => self.settle(),
             Call::TakeBack => {
                 self.table.take_back();
@@ -98,28 +102,35 @@ impl Both {
         Ok(())
     }
 
-    // Number `i` of the process, and object `i`.
-    fn compare_at(&self, rt: &impl Abort, n: u32, call: &Call, p: u32, i: u32) {
-        let (table, list, o) = (&self.table, &self.list, object_of(i));
-        assert_eq!(rt;
-            table.named(p, i),
-            list.named(p, i),
-            "call {n}, {call:?}: named {p} {i}"
+    // A number of a process, and an object.
+    fn compare_at(&self, rt: &impl Abort, n: u32, i: u32) {
+        let (table, list) = (&self.table, &self.list);
+        let (p, number) = (i % PROCESSES, i / PROCESSES);
+        let o = object_of(number);
+        same(
+            rt,
+            n,
+            "named",
+            i,
+            table.named(p, number),
+            list.named(p, number),
         );
-        let (number, wanted) = (table.number_of(p, o), list.number_of(p, o));
-        assert_eq!(rt; number, wanted, "call {n}, {call:?}: number_of {p} {o:?}");
-        assert_eq!(rt;
-            table.has(p, o),
-            list.has(p, o),
-            "call {n}, {call:?}: has {p} {o:?}"
+        same(
+            rt,
+            n,
+            "number_of",
+            i,
+            table.number_of(p, o),
+            list.number_of(p, o),
         );
+        same(rt, n, "has", i, table.has(p, o), list.has(p, o));
     }
 
     // All looks answer the same.
-    fn compare(&self, rt: &impl Abort, n: u32, call: &Call) {
+    fn compare(&self, rt: &impl Abort, n: u32) {
         // No process uses more numbers than there are objects, and 0.
         for i in 0..PROCESSES * (OBJECTS + 2) {
-            self.compare_at(rt, n, call, i % PROCESSES, i / PROCESSES);
+            self.compare_at(rt, n, i);
         }
     }
 }
@@ -129,9 +140,8 @@ fn answers_as_a_list_of_names(rt: HostRuntime) -> Result<(), Fail> {
     let mut random = Random::new(2);
     let mut both = Both::new(rt.alloc());
     for n in 0..CALLS {
-        let call = any_call(&mut random);
-        both.make(&rt, call)?;
-        both.compare(&rt, n, &call);
+        both.make(&rt, n, any_call(&mut random))?;
+        both.compare(&rt, n);
     }
     Ok(())
 }
@@ -139,12 +149,16 @@ fn answers_as_a_list_of_names(rt: HostRuntime) -> Result<(), Fail> {
 // A new name of process 1 with this number.
 fn give(rt: &impl Abort, names: &mut NameTable, i: u32, number: u32) -> Result<(), Fail> {
     names.reserve(1)?;
-    assert!(rt; names.give(false, 1, object_of(i)).is_ok());
-    assert_eq!(rt;
-        names.number_of(1, object_of(i)),
-        Some(number),
-        "object {i}"
+    same(
+        rt,
+        i,
+        "give",
+        i,
+        names.give(false, 1, object_of(i)).is_ok(),
+        true,
     );
+    let given = names.number_of(1, object_of(i));
+    same(rt, i, "number_of", i, given, Some(number));
     Ok(())
 }
 

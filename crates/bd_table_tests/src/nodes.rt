@@ -1,6 +1,7 @@
 //! The table of objects.
 
 use crate::random::{Random, has_all, object_of};
+use crate::same::same;
 use bd_lists::NodeList;
 use bd_nodes::NodeTable;
 use bd_space::{Object, ObjectId};
@@ -18,7 +19,7 @@ const PTRS: u32 = 6;
 
 const COOKIES: u32 = 3;
 
-#[derive(Clone, Copy, Debug)]
+#[derive(Clone, Copy)]
 enum Call {
     Push(Object),
     PushAll(Object, Object),
@@ -106,42 +107,29 @@ impl Both {
         Ok(())
     }
 
-    fn compare_at(&self, rt: &impl Abort, n: u32, call: &Call, p: u32, o: ObjectId) {
+    fn compare_at(&self, rt: &impl Abort, n: u32, i: u32) {
         let (table, list) = (&self.table, &self.list);
-        assert_eq!(rt;
-            table.object(o),
-            list.object(o),
-            "call {n}, {call:?}: object {o:?}"
-        );
-        assert_eq!(rt;
-            table.owns(p, o),
-            list.owns(p, o),
-            "call {n}, {call:?}: owns {p} {o:?}"
-        );
-        let (own, wanted) = (table.own_object(p, o), list.own_object(p, o));
-        assert_eq!(rt; own, wanted, "call {n}, {call:?}: own_object {p} {o:?}");
+        let (p, o) = (i % PROCESSES, object_of(i / PROCESSES));
+        same(rt, n, "object", i, table.object(o), list.object(o));
+        same(rt, n, "owns", i, table.owns(p, o), list.owns(p, o));
+        let wanted = list.own_object(p, o);
+        same(rt, n, "own_object", i, table.own_object(p, o), wanted);
     }
 
-    fn compare_with(&self, rt: &impl Abort, n: u32, call: &Call, p: u32, ptr: u64, cookie: u64) {
+    fn compare_with(&self, rt: &impl Abort, n: u32, i: u32) {
         let (table, list) = (&self.table, &self.list);
-        let (own, wanted) = (table.own_with_ptr(p, ptr), list.own_with_ptr(p, ptr));
-        assert_eq!(rt; own, wanted, "call {n}, {call:?}: own_with_ptr {p} {ptr}");
-        let (own, wanted) = (
-            table.own_with(p, ptr, cookie),
-            list.own_with(p, ptr, cookie),
-        );
-        assert_eq!(rt;
-            own,
-            wanted,
-            "call {n}, {call:?}: own_with {p} {ptr} {cookie}"
-        );
+        let (p, ptr) = (i % PROCESSES, u64::from(i / PROCESSES % PTRS));
+        let cookie = u64::from(i / PROCESSES / PTRS);
+        let wanted = list.own_with_ptr(p, ptr);
+        same(rt, n, "own_with_ptr", i, table.own_with_ptr(p, ptr), wanted);
+        let wanted = list.own_with(p, ptr, cookie);
+        same(rt, n, "own_with", i, table.own_with(p, ptr, cookie), wanted);
     }
 
     fn compare_owned(
         &self,
         rt: &(impl Abort + Alloc<A = Global>),
         n: u32,
-        call: &Call,
         p: u32,
     ) -> Result<(), Fail> {
         let mut touched = Vec::new(rt.alloc());
@@ -149,41 +137,21 @@ impl Both {
         let mut wanted = touched.clone()?;
         self.table.owned_by(p, &mut touched)?;
         self.list.owned_by(p, &mut wanted)?;
-        assert!(rt;
-            has_all(&touched, &wanted),
-            "call {n}, {call:?}: owned_by {p}"
-        );
+        same(rt, n, "owned_by", p, has_all(&touched, &wanted), true);
         Ok(())
     }
 
     // All looks answer the same.
-    fn compare(
-        &self,
-        rt: &(impl Abort + Alloc<A = Global>),
-        n: u32,
-        call: &Call,
-    ) -> Result<(), Fail> {
-        assert_eq!(rt;
-            self.table.len(),
-            self.list.len(),
-            "call {n}, {call:?}: len"
-        );
+    fn compare(&self, rt: &(impl Abort + Alloc<A = Global>), n: u32) -> Result<(), Fail> {
+        same(rt, n, "len", 0, self.table.len(), self.list.len());
         for i in 0..PROCESSES * OBJECTS {
-            self.compare_at(rt, n, call, i % PROCESSES, object_of(i / PROCESSES));
+            self.compare_at(rt, n, i);
         }
         for i in 0..PROCESSES * PTRS * COOKIES {
-            let (ptr, cookie) = (i / PROCESSES % PTRS, i / PROCESSES / PTRS);
-            self.compare_with(
-                rt,
-                n,
-                call,
-                i % PROCESSES,
-                u64::from(ptr),
-                u64::from(cookie),
-            );
+            self.compare_with(rt, n, i);
         }
         for p in 0..PROCESSES {
-            self.compare_owned(rt, n, call, p)?;
+            self.compare_owned(rt, n, p)?;
         }
         Ok(())
     }
@@ -194,9 +162,8 @@ fn answers_as_a_list_of_objects(rt: HostRuntime) -> Result<(), Fail> {
     let mut random = Random::new(1);
     let mut both = Both::new(rt.alloc());
     for n in 0..CALLS {
-        let call = any_call(&mut random);
-        both.make(call)?;
-        both.compare(&rt, n, &call)?;
+        both.make(any_call(&mut random))?;
+        both.compare(&rt, n)?;
     }
     Ok(())
 }

@@ -1,6 +1,7 @@
 //! The table of references.
 
 use crate::random::{Random, has_all, object_of};
+use crate::same::same;
 use bd_lists::ReferenceList;
 use bd_references::ReferenceTable;
 use bd_space::{Holder, Identity, ObjectId, Reference};
@@ -16,7 +17,7 @@ const OBJECTS: u32 = 5;
 
 const BUFFERS: u32 = 6;
 
-#[derive(Clone, Copy, Debug)]
+#[derive(Clone, Copy)]
 enum Call {
     Push(Reference),
     DropAsked(u32, ObjectId, bool),
@@ -114,74 +115,46 @@ impl Both {
         Ok(())
     }
 
-    fn compare_strength(
-        &self,
-        rt: &impl Abort,
-        n: u32,
-        call: &Call,
-        p: u32,
-        o: ObjectId,
-        strong: bool,
-    ) {
+    fn compare_strength(&self, rt: &impl Abort, n: u32, i: u32, strong: bool) {
         let (table, list) = (&self.table, &self.list);
-        let (asked, wanted) = (table.is_asked(p, o, strong), list.is_asked(p, o, strong));
-        assert_eq!(rt;
-            asked,
-            wanted,
-            "call {n}, {call:?}: is_asked {p} {o:?} {strong}"
-        );
-        let (shaken, wanted) = (table.is_shaken(o, strong), list.is_shaken(o, strong));
-        assert_eq!(rt;
-            shaken,
-            wanted,
-            "call {n}, {call:?}: is_shaken {o:?} {strong}"
-        );
+        let (p, o) = (i % PROCESSES, object_of(i / PROCESSES));
+        let wanted = list.is_asked(p, o, strong);
+        same(rt, n, "is_asked", i, table.is_asked(p, o, strong), wanted);
+        let wanted = list.is_shaken(o, strong);
+        same(rt, n, "is_shaken", i, table.is_shaken(o, strong), wanted);
     }
 
-    fn compare_at(&self, rt: &impl Abort, n: u32, call: &Call, p: u32, o: ObjectId) {
+    fn compare_at(&self, rt: &impl Abort, n: u32, i: u32) {
         let (table, list) = (&self.table, &self.list);
-        assert_eq!(rt;
-            table.is_held(o),
-            list.is_held(o),
-            "call {n}, {call:?}: is_held {o:?}"
-        );
-        assert_eq!(rt;
-            table.is_strong(o),
-            list.is_strong(o),
-            "call {n}, {call:?}: is_strong {o:?}"
-        );
-        assert_eq!(rt;
-            table.refers(p, o),
-            list.refers(p, o),
-            "call {n}, {call:?}: refers {p} {o:?}"
-        );
-        let (strongly, wanted) = (table.refers_strongly(p, o), list.refers_strongly(p, o));
-        assert_eq!(rt;
-            strongly,
+        let (p, o) = (i % PROCESSES, object_of(i / PROCESSES));
+        same(rt, n, "is_held", i, table.is_held(o), list.is_held(o));
+        same(rt, n, "is_strong", i, table.is_strong(o), list.is_strong(o));
+        same(rt, n, "refers", i, table.refers(p, o), list.refers(p, o));
+        let wanted = list.refers_strongly(p, o);
+        same(
+            rt,
+            n,
+            "refers_strongly",
+            i,
+            table.refers_strongly(p, o),
             wanted,
-            "call {n}, {call:?}: refers_strongly {p} {o:?}"
         );
-        self.compare_strength(rt, n, call, p, o, false);
-        self.compare_strength(rt, n, call, p, o, true);
+        self.compare_strength(rt, n, i, false);
+        self.compare_strength(rt, n, i, true);
     }
 
-    fn compare_carried(&self, rt: &impl Abort, n: u32, call: &Call, b: u32) {
+    fn compare_carried(&self, rt: &impl Abort, n: u32, b: u32) {
         let mut wanted = self.list.carried(b);
         for o in self.table.carried(b) {
-            assert_eq!(rt; Some(o), wanted.next(), "call {n}, {call:?}: carried {b}");
+            same(rt, n, "carried", b, Some(o), wanted.next());
         }
-        assert_eq!(rt;
-            None,
-            wanted.next(),
-            "call {n}, {call:?}: end of carried {b}"
-        );
+        same(rt, n, "end of carried", b, None, wanted.next());
     }
 
     fn compare_referred(
         &self,
         rt: &(impl Abort + Alloc<A = Global>),
         n: u32,
-        call: &Call,
         b: u32,
     ) -> Result<(), Fail> {
         let mut touched = Vec::new(rt.alloc());
@@ -189,11 +162,7 @@ impl Both {
         let mut wanted = touched.clone()?;
         self.table.referred(b, &mut touched)?;
         self.list.referred(b, &mut wanted)?;
-        assert_eq!(rt;
-            touched.as_slice(),
-            wanted.as_slice(),
-            "call {n}, {call:?}: referred {b}"
-        );
+        same(rt, n, "referred", b, touched.as_slice(), wanted.as_slice());
         Ok(())
     }
 
@@ -201,7 +170,6 @@ impl Both {
         &self,
         rt: &(impl Abort + Alloc<A = Global>),
         n: u32,
-        call: &Call,
         p: u32,
     ) -> Result<(), Fail> {
         let mut touched = Vec::new(rt.alloc());
@@ -209,29 +177,22 @@ impl Both {
         let mut wanted = touched.clone()?;
         self.table.dropped_with_process(p, &mut touched)?;
         self.list.dropped_with_process(p, &mut wanted)?;
-        assert!(rt;
-            has_all(&touched, &wanted),
-            "call {n}, {call:?}: dropped_with_process {p}"
-        );
+        let has_all = has_all(&touched, &wanted);
+        same(rt, n, "dropped_with_process", p, has_all, true);
         Ok(())
     }
 
     // All looks answer the same.
-    fn compare(
-        &self,
-        rt: &(impl Abort + Alloc<A = Global>),
-        n: u32,
-        call: &Call,
-    ) -> Result<(), Fail> {
+    fn compare(&self, rt: &(impl Abort + Alloc<A = Global>), n: u32) -> Result<(), Fail> {
         for i in 0..PROCESSES * OBJECTS {
-            self.compare_at(rt, n, call, i % PROCESSES, object_of(i / PROCESSES));
+            self.compare_at(rt, n, i);
         }
         for b in 0..BUFFERS {
-            self.compare_carried(rt, n, call, b);
-            self.compare_referred(rt, n, call, b)?;
+            self.compare_carried(rt, n, b);
+            self.compare_referred(rt, n, b)?;
         }
         for p in 0..PROCESSES {
-            self.compare_dropped(rt, n, call, p)?;
+            self.compare_dropped(rt, n, p)?;
         }
         Ok(())
     }
@@ -242,9 +203,8 @@ fn answers_as_a_list_of_references(rt: HostRuntime) -> Result<(), Fail> {
     let mut random = Random::new(3);
     let mut both = Both::new(rt.alloc());
     for n in 0..CALLS {
-        let call = any_call(&mut random);
-        both.make(call)?;
-        both.compare(&rt, n, &call)?;
+        both.make(any_call(&mut random))?;
+        both.compare(&rt, n)?;
     }
     Ok(())
 }

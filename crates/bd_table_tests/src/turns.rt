@@ -1,8 +1,9 @@
 //! The table of one-way calls.
 
 use crate::random::{Random, object_of};
+use crate::same::same;
 use bd_call_lists::TurnList;
-use bd_space::{ObjectId, Turn};
+use bd_space::Turn;
 use bd_turns::TurnTable;
 use std::alloc::Global;
 use std::process::Abort;
@@ -19,7 +20,7 @@ const OBJECTS: u32 = 5;
 
 const PLACES: u32 = 64;
 
-#[derive(Clone, Copy, Debug)]
+#[derive(Clone, Copy)]
 enum Call {
     Push(Turn),
     HandOut(u32),
@@ -101,22 +102,32 @@ impl Both {
         Ok(())
     }
 
-    fn compare_on(&self, rt: &impl Abort, n: u32, call: &Call, o: ObjectId) {
-        let (oldest, wanted) = (self.table.oldest_on(o), self.list.oldest_on(o));
-        assert_eq!(rt; oldest, wanted, "call {n}, {call:?}: oldest_on {o:?}");
-    }
-
-    // All looks answer the same.
-    fn compare(&self, rt: &impl Abort, n: u32, call: &Call) {
+    // The one look answers the same.
+    fn compare(&self, rt: &impl Abort, n: u32) {
         for i in 0..OBJECTS + 1 {
-            self.compare_on(rt, n, call, object_of(i));
+            let wanted = self.list.oldest_on(object_of(i));
+            same(
+                rt,
+                n,
+                "oldest_on",
+                i,
+                self.table.oldest_on(object_of(i)),
+                wanted,
+            );
         }
     }
 
     // The oldest call on an object goes, if there is one.
-    fn take_oldest(&mut self, rt: &impl Abort, o: ObjectId) {
-        let oldest = self.list.oldest_on(o);
-        assert_eq!(rt; self.table.oldest_on(o), oldest, "taken from {o:?}");
+    fn take_oldest(&mut self, rt: &impl Abort, i: u32) {
+        let oldest = self.list.oldest_on(object_of(i));
+        same(
+            rt,
+            CALLS,
+            "last oldest_on",
+            i,
+            self.table.oldest_on(object_of(i)),
+            oldest,
+        );
         if let Some(turn) = oldest {
             self.table.remove(turn.made);
             self.list.remove(turn.made);
@@ -126,7 +137,7 @@ impl Both {
     // All that are left, object by object.
     fn take_all(&mut self, rt: &impl Abort) {
         for i in 0..OBJECTS * PLACES {
-            self.take_oldest(rt, object_of(i % OBJECTS));
+            self.take_oldest(rt, i % OBJECTS);
         }
     }
 }
@@ -138,7 +149,7 @@ fn play(rt: &(impl Abort + Alloc<A = Global>), seed: u32) -> Result<(), Fail> {
     for n in 0..CALLS {
         let call = both.any_call(&mut random);
         both.make(call)?;
-        both.compare(rt, n, &call);
+        both.compare(rt, n);
     }
     both.take_all(rt);
     Ok(())

@@ -4,6 +4,7 @@ ghost use Rattle.std.specs.Prelude.{◌≡◌, ◌≤◌, length, IfOk};
 ghost use Rattle.bd_space.specs.Windows as room;
 
 use crate::random::Random;
+use crate::same::same;
 use bd_buffers::{Window, Windows, needed};
 use bd_call_lists::WindowsList;
 use bd_space::{Buffer, Bytes, Process};
@@ -22,7 +23,7 @@ const PROCESSES: u32 = 3;
 // A window's size in words of 8 bytes.
 const WORDS: u32 = 40;
 
-#[derive(Clone, Copy, Debug)]
+#[derive(Clone, Copy)]
 enum Call {
     Open,
     // To a process, one-way or not, with so many bytes of data and of offsets.
@@ -187,6 +188,7 @@ impl Both {
     fn add(
         &mut self,
         rt: &(impl Abort + Alloc<A = Global>),
+        n: u32,
         receiver: u32,
         one_way: bool,
         data_size: u64,
@@ -194,11 +196,7 @@ impl Both {
     ) -> Result<(), Fail> {
         let placed = self.table.place(receiver, one_way, data_size, offsets_size);
         let wanted = self.list.place(receiver, one_way, data_size, offsets_size);
-        assert_eq!(rt;
-            placed,
-            wanted,
-            "place {receiver} {one_way} {data_size} {offsets_size}"
-        );
+        same(rt, n, "place", receiver, placed, wanted);
         let Ok(start) = placed else {
             return Ok(());
         };
@@ -222,11 +220,16 @@ impl Both {
         }
     }
 
-    fn make(&mut self, rt: &(impl Abort + Alloc<A = Global>), call: Call) -> Result<(), Fail> {
+    fn make(
+        &mut self,
+        rt: &(impl Abort + Alloc<A = Global>),
+        n: u32,
+        call: Call,
+    ) -> Result<(), Fail> {
         self.place = self.place.saturating_add(1);
         match call {
             Call::Open => self.open(rt.alloc())?,
-            Call::Add(p, one_way, data, offsets) => self.add(rt, p, one_way, data, offsets)?,
+            Call::Add(p, one_way, data, offsets) => self.add(rt, n, p, one_way, data, offsets)?,
             Call::Free(made) => {
                 self.table.free(made);
                 self.list.free(made);
@@ -240,43 +243,54 @@ impl Both {
         Ok(())
     }
 
-    fn compare_made(&self, rt: &impl Abort, call: &Call, made: u32) {
-        let (buffer, wanted) = (seen(self.table.buffer(made)), seen(self.list.buffer(made)));
-        assert_eq!(rt; buffer, wanted, "{call:?}: buffer {made}");
+    fn compare_made(&self, rt: &impl Abort, n: u32, made: u32) {
+        let wanted = seen(self.list.buffer(made));
+        same(rt, n, "buffer", made, seen(self.table.buffer(made)), wanted);
     }
 
-    fn compare_at(&self, rt: &impl Abort, call: &Call, p: u32, pointer: u64) {
-        let buffer = seen(self.table.at_pointer(p, pointer));
+    fn compare_at(&self, rt: &impl Abort, n: u32, p: u32, i: u32) {
+        let pointer = 65528 + 8 * u64::from(i);
         let wanted = seen(self.list.at_pointer(p, pointer));
-        assert_eq!(rt; buffer, wanted, "{call:?}: at_pointer {p} {pointer}");
+        same(
+            rt,
+            n,
+            "at_pointer",
+            i,
+            seen(self.table.at_pointer(p, pointer)),
+            wanted,
+        );
     }
 
     // Where buffers of some sizes would be put.
-    fn compare_place(&self, rt: &impl Abort, call: &Call, p: u32, words: u32) {
-        let size = 8 * u64::from(words);
-        let (place, wanted) = (
-            self.table.place(p, words % 2 == 0, size, 0),
-            self.list.place(p, words % 2 == 0, size, 0),
+    fn compare_place(&self, rt: &impl Abort, n: u32, p: u32, words: u32) {
+        let (one_way, size) = (words % 2 == 0, 8 * u64::from(words));
+        let wanted = self.list.place(p, one_way, size, 0);
+        same(
+            rt,
+            n,
+            "place",
+            words,
+            self.table.place(p, one_way, size, 0),
+            wanted,
         );
-        assert_eq!(rt; place, wanted, "{call:?}: place {p} {size}");
     }
 
-    fn compare_in(&self, rt: &impl Abort, call: &Call, p: u32) {
+    fn compare_in(&self, rt: &impl Abort, n: u32, p: u32) {
         for i in 0..WORDS + 2 {
-            self.compare_at(rt, call, p, 65528 + 8 * u64::from(i));
+            self.compare_at(rt, n, p, i);
         }
-        self.compare_place(rt, call, p, self.place % 12);
+        self.compare_place(rt, n, p, self.place % 12);
     }
 
     // All looks answer the same, in every window and in one that there isn't.
-    fn compare(&self, rt: &impl Abort, call: &Call) {
+    fn compare(&self, rt: &impl Abort, n: u32) {
         for made in 0..CALLS + 2 {
-            self.compare_made(rt, call, made);
+            self.compare_made(rt, n, made);
         }
         for q in &self.list.processes {
-            self.compare_in(rt, call, q.made);
+            self.compare_in(rt, n, q.made);
         }
-        self.compare_in(rt, call, 0);
+        self.compare_in(rt, n, 0);
     }
 }
 
@@ -284,10 +298,10 @@ impl Both {
 fn play(rt: &(impl Abort + Alloc<A = Global>), seed: u32) -> Result<(), Fail> {
     let mut random = Random::new(u64::from(seed));
     let mut both = Both::new(rt.alloc());
-    for _ in 0..CALLS {
+    for n in 0..CALLS {
         let call = both.any_call(&mut random);
-        both.make(rt, call)?;
-        both.compare(rt, &call);
+        both.make(rt, n, call)?;
+        both.compare(rt, n);
     }
     Ok(())
 }

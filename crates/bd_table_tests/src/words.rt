@@ -1,6 +1,7 @@
 //! The map of words.
 
 use crate::random::Random;
+use crate::same::same;
 use bd_words::{WordKey, WordMap};
 use std::alloc::Global;
 use std::process::Abort;
@@ -13,7 +14,7 @@ const PROCESSES: u32 = 3;
 const WORDS: u32 = 24;
 
 // Each on the key with this number.
-#[derive(Clone, Copy, Debug)]
+#[derive(Clone, Copy)]
 enum Call {
     Insert(u32, u32),
     Set(u32, u32),
@@ -87,30 +88,26 @@ impl Both {
         Ok(())
     }
 
-    fn remove(&mut self, rt: &impl Abort, i: u32) {
+    fn remove(&mut self, rt: &impl Abort, n: u32, i: u32) {
         let (key, was) = (key_of(i), self.listed(key_of(i)));
-        assert_eq!(rt; self.map.remove(key), was, "remove {i}");
+        same(rt, n, "remove", i, self.map.remove(key), was);
         self.drop_listed(key);
     }
 
-    fn make(&mut self, rt: &impl Abort, call: Call) -> Result<(), Fail> {
+    fn make(&mut self, rt: &impl Abort, n: u32, call: Call) -> Result<(), Fail> {
         match call {
             Call::Insert(i, value) => self.insert(key_of(i), value)?,
             Call::Set(i, value) => self.set(key_of(i), value)?,
-            Call::Remove(i) => self.remove(rt, i),
+            Call::Remove(i) => self.remove(rt, n, i),
             Call::Reserve(more) => self.map.reserve(more)?,
         }
         Ok(())
     }
 
-    fn compare(&self, rt: &impl Abort, n: u32, call: &Call) {
+    fn compare(&self, rt: &impl Abort, n: u32) {
         for i in 0..PROCESSES * WORDS {
             let key = key_of(i);
-            assert_eq!(rt;
-                self.map.get(key),
-                self.listed(key),
-                "call {n}, {call:?}: get {i}"
-            );
+            same(rt, n, "get", i, self.map.get(key), self.listed(key));
         }
     }
 }
@@ -120,9 +117,8 @@ fn answers_as_a_list_of_words(rt: HostRuntime) -> Result<(), Fail> {
     let mut random = Random::new(5);
     let mut both = Both::new(rt.alloc());
     for n in 0..CALLS {
-        let call = any_call(&mut random);
-        both.make(&rt, call)?;
-        both.compare(&rt, n, &call);
+        both.make(&rt, n, any_call(&mut random))?;
+        both.compare(&rt, n);
     }
     Ok(())
 }
@@ -132,7 +128,7 @@ fn comes_and_goes(rt: &impl Abort, map: &mut WordMap<u32>, count: u32) -> Result
     for i in 0..count {
         map.reserve(1)?;
         map.insert(key_of(i), i);
-        assert_eq!(rt; map.remove(key_of(i)), Some(i));
+        same(rt, i, "remove", i, map.remove(key_of(i)), Some(i));
     }
     Ok(())
 }
@@ -147,7 +143,7 @@ fn keeps_one_word_among_many_that_go(rt: HostRuntime) -> Result<(), Fail> {
     map.reserve(1)?;
     map.insert(kept, 77);
     comes_and_goes(&rt, &mut map, 2000)?;
-    assert_eq!(rt; map.get(kept), Some(77));
-    assert_eq!(rt; map.get(key_of(0)), None);
+    same(&rt, 2000, "get", 0, map.get(kept), Some(77));
+    same(&rt, 2000, "get", 1, map.get(key_of(0)), None);
     Ok(())
 }

@@ -3,6 +3,7 @@
 ghost use Rattle.std.specs.Prelude.{◌≡◌, ◌<◌};
 
 use crate::random::{Random, is_among, object_of};
+use crate::same::same;
 use bd_links::WorkTable;
 use bd_lists::WorkList;
 use bd_space::{Identity, ObjectId, TodoList, Work, WorkKind};
@@ -21,7 +22,7 @@ const BUFFERS: u32 = 6;
 
 const DEATHS: u32 = 3;
 
-#[derive(Clone, Copy, Debug)]
+#[derive(Clone, Copy)]
 enum Call {
     Push(u32, TodoList, WorkKind),
     RemoveTaken(Work, Work),
@@ -178,83 +179,73 @@ impl Both {
         Ok(())
     }
 
-    fn compare_on(&self, rt: &impl Abort, n: u32, call: &Call, on: TodoList) {
-        let (table, list) = (&self.table, &self.list);
-        assert_eq!(rt;
-            table.has_any(on),
-            list.has_any(on),
-            "call {n}, {call:?}: has_any {on:?}"
-        );
-        let (keeps, wanted) = (table.keeps_from_calling(on), list.keeps_from_calling(on));
-        assert_eq!(rt;
-            keeps,
+    fn compare_on(&self, rt: &impl Abort, n: u32, i: u32) {
+        let (table, list, on) = (&self.table, &self.list, list_of(i));
+        same(rt, n, "has_any", i, table.has_any(on), list.has_any(on));
+        let wanted = list.keeps_from_calling(on);
+        same(
+            rt,
+            n,
+            "keeps_from_calling",
+            i,
+            table.keeps_from_calling(on),
             wanted,
-            "call {n}, {call:?}: keeps_from_calling {on:?}"
         );
-        let (reply, wanted) = (table.first_reply(on), list.first_reply(on));
-        assert_eq!(rt; reply, wanted, "call {n}, {call:?}: first_reply {on:?}");
+        same(
+            rt,
+            n,
+            "first_reply",
+            i,
+            table.first_reply(on),
+            list.first_reply(on),
+        );
     }
 
     // The work items on a list, as a walk and one by one.
-    fn compare_works(&self, rt: &impl Abort, n: u32, call: &Call, on: TodoList) {
+    fn compare_works(&self, rt: &impl Abort, n: u32, i: u32) {
+        let on = list_of(i);
         let mut works = self.table.works_on(on);
         let mut k = 0usize;
         for wanted in self.list.works_on(on) {
-            assert_eq!(rt;
-                works.next(),
-                Some(wanted),
-                "call {n}, {call:?}: works_on {on:?}"
-            );
-            assert_eq!(rt;
-                self.table.work_at(on, k),
-                Some(wanted),
-                "call {n}, {call:?}: work_at {on:?} {k}"
-            );
+            same(rt, n, "works_on", i, works.next(), Some(wanted));
+            same(rt, n, "work_at", i, self.table.work_at(on, k), Some(wanted));
             k = k.saturating_add(1);
         }
-        assert_eq!(rt;
-            works.next(),
-            None,
-            "call {n}, {call:?}: end of works_on {on:?}"
-        );
-        assert_eq!(rt;
-            self.table.work_at(on, k),
-            None,
-            "call {n}, {call:?}: work_at {on:?} {k}"
-        );
+        same(rt, n, "end of works_on", i, works.next(), None);
+        same(rt, n, "work_at the end", i, self.table.work_at(on, k), None);
     }
 
-    fn compare_buffer(&self, rt: &impl Abort, n: u32, call: &Call, on: TodoList, b: u32) {
+    fn compare_buffer(&self, rt: &impl Abort, n: u32, i: u32) {
         let (table, list) = (&self.table, &self.list);
-        assert_eq!(rt;
-            table.has_call(b),
-            list.has_call(b),
-            "call {n}, {call:?}: has_call {b}"
-        );
-        let (unread, wanted) = (table.is_unread_on(on, b), list.is_unread_on(on, b));
-        assert_eq!(rt;
-            unread,
-            wanted,
-            "call {n}, {call:?}: is_unread_on {on:?} {b}"
-        );
+        let (on, b) = (list_of(i % (LISTS + 1)), i / (LISTS + 1));
+        same(rt, n, "has_call", i, table.has_call(b), list.has_call(b));
+        let wanted = list.is_unread_on(on, b);
+        same(rt, n, "is_unread_on", i, table.is_unread_on(on, b), wanted);
     }
 
-    fn compare_notice(&self, rt: &impl Abort, n: u32, call: &Call, o: ObjectId) {
-        let (has, wanted) = (self.table.has_notice(o), self.list.has_notice(o));
-        assert_eq!(rt; has, wanted, "call {n}, {call:?}: has_notice {o:?}");
+    fn compare_notice(&self, rt: &impl Abort, n: u32, i: u32) {
+        let wanted = self.list.has_notice(object_of(i));
+        same(
+            rt,
+            n,
+            "has_notice",
+            i,
+            self.table.has_notice(object_of(i)),
+            wanted,
+        );
     }
 
     // All looks answer the same.
-    fn compare(&self, rt: &impl Abort, n: u32, call: &Call) {
+    fn compare(&self, rt: &impl Abort, n: u32) {
         for i in 0..LISTS + 1 {
-            self.compare_on(rt, n, call, list_of(i));
-            self.compare_works(rt, n, call, list_of(i));
+            self.compare_on(rt, n, i);
+            self.compare_works(rt, n, i);
         }
         for i in 0..(LISTS + 1) * BUFFERS {
-            self.compare_buffer(rt, n, call, list_of(i % (LISTS + 1)), i / (LISTS + 1));
+            self.compare_buffer(rt, n, i);
         }
         for i in 0..OBJECTS {
-            self.compare_notice(rt, n, call, object_of(i));
+            self.compare_notice(rt, n, i);
         }
     }
 }
@@ -266,7 +257,7 @@ fn answers_as_a_list_of_works(rt: HostRuntime) -> Result<(), Fail> {
     for n in 0..CALLS {
         let call = both.any_call(&mut random);
         both.make(call)?;
-        both.compare(&rt, n, &call);
+        both.compare(&rt, n);
     }
     Ok(())
 }

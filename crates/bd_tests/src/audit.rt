@@ -1,12 +1,17 @@
 //! Certificates, with ample memory: of a reply, by the worked example 'call and reply' (docs/EXAMPLES.md), and of a name
 //! by ten gifts, where an object goes to and fro between two processes.
 
+ghost use Rattle.std.specs.Prelude.{◌≡◌, ◌≤◌, IfOk};
+ghost use Rattle.bd_space.specs.Histories.{IsHistory, history_in};
+
+use crate::same::{holds, same};
 use crate::steps::{enter, fields, open};
 use bd_audit::{call_of_reply, gift_chain};
 use bd_engine::Engine;
-use bd_space::{Bytes, Parcel, Step};
+use bd_space::{Bytes, Parcel, Record, Step};
 use bd_uapi::{Command, TransactionData, TransactionFlags};
 use std::alloc::{AllocError, Global};
+use std::process::Abort;
 use std::test::Fail;
 
 fn carried(alloc: Global, command: Command) -> Step {
@@ -43,18 +48,42 @@ fn take(engine: &mut Engine, seat: u32, step: Step) -> bool {
     seat < engine.seats() && engine.step(seat, step).is_ok()
 }
 
-#[test]
-fn tells_the_call_of_a_reply(rt: HostRuntime) -> Result<(), Fail> {
+// The history of an engine.
+fn history_of(engine: Engine) -> Result<Record, Fail>
+    ensures seats { IfOk result (λ r. (1 ≤ r.seats) × (r.seats ≤ 16)) }
+    ensures lawful { IfOk result (λ r. IsHistory (history_in r)) }
+{
+    let record = engine.into_record();
+    if record.seats < 1 || record.seats > 16 {
+        return Err(Fail::from("no engine has so many seats"));
+    }
+    Ok(record)
+}
+
+fn engine_of_a_reply(rt: &(impl Abort + Alloc<A = Global>)) -> Result<Engine, Fail> {
     let mut engine = Engine::new(rt.alloc(), 2)?;
     for place in 0..10 {
         let (seat, step) = reply_step(rt.alloc(), place);
-        assert!(rt; take(&mut engine, seat, step), "at {place}");
+        holds(rt, "a step", take(&mut engine, seat, step));
     }
-    let record = engine.into_record();
-    assert_eq!(rt; record.seats, 2);
-    for (place, want) in [(8, Some(4)), (5, None), (6, None), (7, None), (10, None)] {
+    Ok(engine)
+}
+
+// At a place, the call that is answered there.
+const ANSWERED: [(u32, Option<u32>); 5] = [
+    (8, Some(4)),
+    (5, None),
+    (6, None),
+    (7, None),
+    (10, None),
+];
+
+#[test]
+fn tells_the_call_of_a_reply(rt: HostRuntime) -> Result<(), Fail> {
+    let record = history_of(engine_of_a_reply(&rt)?)?;
+    for (place, wanted) in ANSWERED {
         let found = call_of_reply(rt.alloc(), &record, place)?;
-        assert_eq!(rt; found, want, "at {place}");
+        same(&rt, "the call", found, wanted);
     }
     Ok(())
 }
@@ -134,17 +163,21 @@ fn pass_on(alloc: Global, place: u32) -> Result<(u32, Step), AllocError> {
     })
 }
 
-#[test]
-fn tells_a_chain_of_ten_gifts(rt: HostRuntime) -> Result<(), Fail> {
+fn engine_of_gifts(rt: &(impl Abort + Alloc<A = Global>)) -> Result<Engine, Fail> {
     let mut engine = Engine::new(rt.alloc(), 3)?;
     for place in 0..45 {
         let (seat, step) = gift_step(rt.alloc(), place)?;
-        assert!(rt; take(&mut engine, seat, step), "at {place}");
+        holds(rt, "a step", take(&mut engine, seat, step));
     }
-    let record = engine.into_record();
-    assert_eq!(rt; record.seats, 3);
+    Ok(engine)
+}
+
+const GIFTS: [u32; 10] = [5, 11, 16, 20, 24, 28, 32, 36, 40, 44];
+
+#[test]
+fn tells_a_chain_of_ten_gifts(rt: HostRuntime) -> Result<(), Fail> {
+    let record = history_of(engine_of_gifts(&rt)?)?;
     let places = gift_chain(rt.alloc(), &record, 300, 1)?.ok_or("the name has a chain")?;
-    let gifts: [u32; 10] = [5, 11, 16, 20, 24, 28, 32, 36, 40, 44];
-    assert_eq!(rt; places.as_slice(), gifts.as_slice());
+    same(&rt, "the chain", places.as_slice(), GIFTS.as_slice());
     Ok(())
 }

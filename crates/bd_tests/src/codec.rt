@@ -1,8 +1,11 @@
 //! Codes and records, from the header's values.
 
+use crate::same::{holds, same};
 use bd_codec::{read_command, read_return, write_command, write_return, write_return_reserved};
 use bd_uapi::{Command, Fault, Return, TransactionData, TransactionFlags};
 use bitflags::Flags;
+use std::alloc::{AllocError, Global};
+use std::process::Abort;
 use std::test::Fail;
 
 fn record() -> TransactionData {
@@ -20,49 +23,80 @@ fn record() -> TransactionData {
     }
 }
 
+// Bytes, and the command that is read of them, or why none.
+static COMMANDS_READ: [(&[u8], Result<(Command, usize), Fault>); 6] = [
+    (&[0x0d, 0x63, 0, 0], Ok((Command::ExitLooper, 4))),
+    (
+        &[
+            0x0e, 0x63, 0x0c, 0x40, 1, 0, 0, 0, 77, 0, 0, 0, 0, 0, 0, 0, 0,
+        ],
+        Ok((Command::RequestDeathNotification(1, 77), 16)),
+    ),
+    (&[5, 0x63, 4, 0x40, 1, 0, 0], Err(Fault::ShortCommand)),
+    (&[0x11, 0x63, 0x48, 0x40], Err(Fault::RefusedCommand)),
+    (&[0, 0x63, 0, 0], Err(Fault::UnknownCommand)),
+    (&[0x0d, 0x72, 0, 0], Err(Fault::UnknownCommand)),
+];
+
+// The same of returns.
+static RETURNS_READ: [(&[u8], Result<(Return, usize), Fault>); 4] = [
+    (&[0x0c, 0x72, 0, 0], Ok((Return::Noop, 4))),
+    (&[0x13, 0x72, 0, 0], Err(Fault::UnknownCommand)),
+    (
+        &[0x0f, 0x72, 8, 0x80, 77, 0, 0, 0, 0, 0, 0, 0, 0x0c, 0x72],
+        Ok((Return::DeadBinder(77), 12)),
+    ),
+    (&[0x0c, 0x72, 0], Err(Fault::ShortCommand)),
+];
+
 #[test]
 fn reads_commands(rt: HostRuntime) {
-    assert!(rt;
-        matches!(
-            read_command(&[0x0d, 0x63, 0, 0]),
-            Ok((Command::ExitLooper, 4))
-        )
-    );
-    let ask = [0x0e, 0x63, 0x0c, 0x40, 1, 0, 0, 0, 77, 0, 0, 0, 0, 0, 0, 0];
-    assert!(rt;
-        matches!(
-            read_command(&ask),
-            Ok((Command::RequestDeathNotification(1, 77), 16))
-        )
-    );
-    assert!(rt;
-        matches!(
-            read_command(&[5, 0x63, 4, 0x40, 1, 0, 0]),
-            Err(Fault::ShortCommand)
-        )
-    );
-    assert!(rt;
-        matches!(
-            read_command(&[0x11, 0x63, 0x48, 0x40]),
-            Err(Fault::RefusedCommand)
-        )
-    );
-    assert!(rt; matches!(read_command(&[0, 0x63, 0, 0]), Err(Fault::UnknownCommand)));
-    assert!(rt;
-        matches!(
-            read_command(&[0x0d, 0x72, 0, 0]),
-            Err(Fault::UnknownCommand)
-        )
-    );
+    for (bytes, wanted) in COMMANDS_READ {
+        same(&rt, "a command", read_command(bytes), wanted);
+    }
 }
 
 #[test]
 fn reads_returns(rt: HostRuntime) {
-    assert!(rt; matches!(read_return(&[0x0c, 0x72, 0, 0]), Ok((Return::Noop, 4))));
-    assert!(rt; matches!(read_return(&[0x13, 0x72, 0, 0]), Err(Fault::UnknownCommand)));
-    let dead = [0x0f, 0x72, 8, 0x80, 77, 0, 0, 0, 0, 0, 0, 0, 0x0c, 0x72];
-    assert!(rt; matches!(read_return(&dead), Ok((Return::DeadBinder(77), 12))));
-    assert!(rt; matches!(read_return(&[0x0c, 0x72, 0]), Err(Fault::ShortCommand)));
+    for (bytes, wanted) in RETURNS_READ {
+        same(&rt, "a return", read_return(bytes), wanted);
+    }
+}
+
+// The bytes have this length and begin with this code.
+fn begin(rt: &impl Abort, bytes: &[u8], length: usize, code: u32) {
+    same(rt, "the length", bytes.len(), length);
+    holds(
+        rt,
+        "the code",
+        bytes.starts_with(code.to_le_bytes().as_slice()),
+    );
+}
+
+fn see_short_commands(rt: &impl Abort, bytes: &[u8]) {
+    for n in 0..bytes.len() {
+        same(
+            rt,
+            "cut short",
+            read_command(&bytes[..n]),
+            Err(Fault::ShortCommand),
+        );
+    }
+}
+
+fn see_command(
+    rt: &(impl Abort + Alloc<A = Global>),
+    code: u32,
+    length: usize,
+    command: Command,
+) -> Result<(), Fail> {
+    let mut out = Vec::new(rt.alloc());
+    same(rt, "written", write_command(&command, &mut out), Ok(()));
+    begin(rt, &out, length, code);
+    see_short_commands(rt, &out);
+    out.push(0xff)?;
+    same(rt, "read back", read_command(&out), Ok((command, length)));
+    Ok(())
 }
 
 // Every command, by the code and the length that the public header gives it: written so, read back so with other
@@ -85,19 +119,49 @@ fn every_command_by_its_code(rt: HostRuntime) -> Result<(), Fail> {
         (0x400c_630f, 16, Command::ClearDeathNotification(2, 78)),
         (0x4008_6310, 12, Command::DeadBinderDone(79)),
     ];
-    for (code, length, command) in &rows {
-        let mut out = Vec::new(rt.alloc());
-        assert!(rt; write_command(command, &mut out).is_ok());
-        assert_eq!(rt; out.len(), *length, "{code}");
-        assert!(rt; out.starts_with(code.to_le_bytes().as_slice()), "{code}");
-        for n in 0..out.len() {
-            assert!(rt; matches!(read_command(&out[..n]), Err(Fault::ShortCommand)));
-        }
-        out.push(0xff)?;
-        let (read, len) = read_command(&out).ok().ok_or("a command")?;
-        assert_eq!(rt; read, *command);
-        assert_eq!(rt; len, *length);
+    for (code, length, command) in rows {
+        see_command(&rt, code, length, command)?;
     }
+    Ok(())
+}
+
+// A return in the other way, into room that is there.
+fn written_reserved(alloc: Global, sent: &Return) -> Result<Vec<u8>, AllocError> {
+    let mut reserved = Vec::with_capacity(alloc, 68)?;
+    write_return_reserved(sent, &mut reserved);
+    Ok(reserved)
+}
+
+fn see_short_returns(rt: &impl Abort, bytes: &[u8]) {
+    for n in 0..bytes.len() {
+        same(
+            rt,
+            "cut short",
+            read_return(&bytes[..n]),
+            Err(Fault::ShortCommand),
+        );
+    }
+}
+
+fn see_return(
+    rt: &(impl Abort + Alloc<A = Global>),
+    code: u32,
+    length: usize,
+    sent: Return,
+) -> Result<(), Fail> {
+    let mut out = written_reserved(rt.alloc(), &sent)?;
+    begin(rt, &out, length, code);
+    see_short_returns(rt, &out);
+    out.push(0xff)?;
+    same(rt, "read back", read_return(&out), Ok((sent, length)));
+    Ok(())
+}
+
+fn see_both_ways(rt: &(impl Abort + Alloc<A = Global>), sent: &Return) -> Result<(), Fail> {
+    let mut out = Vec::new(rt.alloc());
+    same(rt, "written", write_return(sent, &mut out), Ok(()));
+    let reserved = written_reserved(rt.alloc(), sent)?;
+    same(rt, "both ways", reserved.as_slice(), out.as_slice());
     Ok(())
 }
 
@@ -118,52 +182,36 @@ fn every_return_by_its_code(rt: HostRuntime) -> Result<(), Fail> {
         (0x8008_7210, 12, Return::ClearDeathNotificationDone(78)),
         (0x0000_7211, 4, Return::FailedReply),
     ];
-    for (code, length, sent) in &rows {
-        let mut out = Vec::new(rt.alloc());
-        assert!(rt; write_return(sent, &mut out).is_ok());
-        let mut reserved = Vec::with_capacity(rt.alloc(), 68)?;
-        write_return_reserved(sent, &mut reserved);
-        assert_eq!(rt; reserved.as_slice(), out.as_slice());
-        assert_eq!(rt; out.len(), *length, "{code}");
-        assert!(rt; out.starts_with(code.to_le_bytes().as_slice()), "{code}");
-        for n in 0..out.len() {
-            assert!(rt; matches!(read_return(&out[..n]), Err(Fault::ShortCommand)));
-        }
-        out.push(0xff)?;
-        let (read, len) = read_return(&out).ok().ok_or("a return")?;
-        assert_eq!(rt; read, *sent);
-        assert_eq!(rt; len, *length);
+    for (code, length, sent) in rows {
+        see_return(&rt, code, length, sent)?;
+        see_both_ways(&rt, &sent)?;
     }
     Ok(())
 }
 
-// The codes that are known and not supported, and some that no command or return has.
+// The codes that are known and not supported.
+const REFUSED: [u32; 5] = [
+    0x4004_6302,
+    0x4008_630a,
+    0x0000_630b,
+    0x4048_6311,
+    0x4048_6312,
+];
+
+// Some that no command or return has.
+const UNKNOWN: [u32; 5] = [0x0000_6300, 0x4040_6302, 0x0000_7213, 0x8040_7204, 0];
+
 #[test]
 fn other_codes(rt: HostRuntime) {
-    let refused = [
-        0x4004_6302,
-        0x4008_630a,
-        0x0000_630b,
-        0x4048_6311,
-        0x4048_6312u32,
-    ];
-    for code in refused {
-        assert!(rt;
-            matches!(
-                read_command(&code.to_le_bytes()),
-                Err(Fault::RefusedCommand)
-            )
-        );
+    for code in REFUSED {
+        let read = read_command(&code.to_le_bytes());
+        same(&rt, "a refused code", read, Err(Fault::RefusedCommand));
     }
-    let unknown = [0x0000_6300, 0x4040_6302, 0x0000_7213, 0x8040_7204, 0u32];
-    for code in unknown {
-        assert!(rt;
-            matches!(
-                read_command(&code.to_le_bytes()),
-                Err(Fault::UnknownCommand)
-            )
-        );
-        assert!(rt; matches!(read_return(&code.to_le_bytes()), Err(Fault::UnknownCommand)));
+    for code in UNKNOWN {
+        let read = read_command(&code.to_le_bytes());
+        same(&rt, "no command's code", read, Err(Fault::UnknownCommand));
+        let read = read_return(&code.to_le_bytes());
+        same(&rt, "no return's code", read, Err(Fault::UnknownCommand));
     }
 }
 
@@ -183,11 +231,12 @@ fn spells_a_transaction(rt: HostRuntime) {
         buffer: 65536,
         offsets: 65544,
     };
-    assert!(rt; write_return(&Return::Transaction(sent), &mut out).is_ok());
+    let written = write_return(&Return::Transaction(sent), &mut out);
+    same(&rt, "written", written, Ok(()));
     let spelled = [
         2, 0x72, 0x40, 0x80, 0, 0, 0, 0, 0, 0, 0, 0, 0, 0, 0, 0, 0, 0, 0, 0, 7, 0, 0, 0, 1, 0, 0,
         0, 0, 0, 0, 0, 0xd0, 7, 0, 0, 2, 0, 0, 0, 0, 0, 0, 0, 0, 0, 0, 0, 0, 0, 0, 0, 0, 0, 1, 0,
         0, 0, 0, 0, 8, 0, 1, 0, 0, 0, 0, 0,
     ];
-    assert_eq!(rt; out.as_slice(), spelled.as_slice());
+    same(&rt, "the spelling", out.as_slice(), spelled.as_slice());
 }

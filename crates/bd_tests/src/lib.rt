@@ -13,5 +13,7 @@ mod parcel;
 #[cfg(test)]
 mod player;
 #[cfg(test)]
+mod same;
+#[cfg(test)]
 mod script;
 pub mod steps;

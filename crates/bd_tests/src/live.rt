@@ -1,5 +1,6 @@
 //! The live engine, with ample memory: a one-way call to the last of as many seats as it may have.
 
+use crate::same::holds;
 use crate::steps::{enter, fields, open};
 use bd_engine::Live;
 use bd_space::{Bytes, Parcel, Step, StepAnswer};
@@ -59,12 +60,12 @@ fn calls_the_last_seat(rt: HostRuntime) -> Result<(), Fail> {
     let mut live = Live::new(rt.alloc(), MOST_SEATS)?;
     for place in 0..5 {
         let (seat, step) = step_at(rt.alloc(), place);
-        assert!(rt; !live.is_ready(SERVER), "ready at {place}");
-        assert!(rt; is_made(&mut live, seat, step), "at {place}");
+        holds(&rt, "nothing to read yet", !live.is_ready(SERVER));
+        holds(&rt, "a step", is_made(&mut live, seat, step));
     }
-    assert!(rt; live.is_ready(SERVER), "the call isn't there");
-    assert!(rt; live.is_ready(CLIENT), "its completion isn't there");
-    assert!(rt; live.len() == 5, "steps");
+    holds(&rt, "the call is there", live.is_ready(SERVER));
+    holds(&rt, "its completion is there", live.is_ready(CLIENT));
+    holds(&rt, "five steps", live.len() == 5);
     Ok(())
 }
 
@@ -77,6 +78,10 @@ fn is_seat_count(alloc: Global, seats: u32) -> bool {
 
 #[test]
 fn refuses_numbers_of_seats(rt: HostRuntime) {
-    assert!(rt; is_seat_count(rt.alloc(), 0), "none");
-    assert!(rt; is_seat_count(rt.alloc(), MOST_SEATS + 1), "one too many");
+    holds(&rt, "none", is_seat_count(rt.alloc(), 0));
+    holds(
+        &rt,
+        "one too many",
+        is_seat_count(rt.alloc(), MOST_SEATS + 1),
+    );
 }

@@ -1,7 +1,8 @@
 //! Scripts: lines that run, and the first bad line.
 
+use crate::same::{holds, same};
 use bd_codec::read_command;
-use bd_script::{ScriptError, Verb, read_script};
+use bd_script::{Line, ScriptError, Verb, read_script};
 use bd_space::Request;
 use bd_uapi::{Command, TransactionData, TransactionFlags};
 use bitflags::Flags;
@@ -70,23 +71,32 @@ fn first_bad_line(rt: HostRuntime) {
         (b"seats 1\n0 read 4294967296\n", 2),
     ];
     for (text, number) in cases {
-        assert_eq!(rt; bad_line(alloc, text), Some(number), "{number}");
+        same(&rt, "the bad line", bad_line(alloc, text), Some(number));
     }
 }
+
+// A line's number, its seat, and what stands for its verb.
+fn seen(line: &Line) -> (u64, u32, char) {
+    let verb = match line.verb {
+        Verb::Look => 'l',
+        Verb::Await(7) => 'a',
+        Verb::Post(Request::ExitThread) => 'p',
+        _ => '-',
+    };
+    (line.number, line.seat, verb)
+}
+
+const PLACES: [(u64, u32, char); 3] = [(4, 1, 'l'), (5, 0, 'a'), (7, 1, 'p')];
 
 #[test]
 fn lines_that_run(rt: HostRuntime) -> Result<(), Fail> {
     let text = b"# two seats\nseats  2\n\n 1   look \n0 await 7\n#\n1 post exitthread";
     let script = read_script(rt.alloc(), text).ok().ok_or("a script")?;
-    assert_eq!(rt; script.seats, 2);
-    assert_eq!(rt; script.lines.len(), 3);
-    let places = [(4, 1), (5, 0), (7, 1)];
-    for (line, place) in script.lines.iter().zip(places) {
-        assert_eq!(rt; (line.number, line.seat), place);
+    same(&rt, "seats", script.seats, 2);
+    same(&rt, "lines", script.lines.len(), 3);
+    for (line, place) in script.lines.iter().zip(PLACES) {
+        same(&rt, "number, seat, verb", seen(line), place);
     }
-    assert!(rt; matches!(script.lines[0].verb, Verb::Look));
-    assert!(rt; matches!(script.lines[1].verb, Verb::Await(7)));
-    assert!(rt; matches!(script.lines[2].verb, Verb::Post(Request::ExitThread)));
     Ok(())
 }
 
@@ -106,13 +116,12 @@ fn a_transaction(rt: HostRuntime) -> Result<(), Fail> {
         buffer: 0,
         offsets: 8,
     };
-    let (command, len) = read_command(&stream).ok().ok_or("a command")?;
-    assert_eq!(rt; command, Command::Transaction(record));
-    assert_eq!(rt; len, stream.len());
+    let wanted = Ok((Command::Transaction(record), stream.len()));
+    same(&rt, "the command", read_command(&stream), wanted);
     let parts = [
         1, 2, 3, 4, 5, 0, 0, 0, 0, 0, 0, 0, 0, 0, 0, 0, 255, 255, 255, 255, 255, 255, 255, 255,
     ];
-    assert_eq!(rt; area.as_slice(), parts.as_slice());
+    same(&rt, "the area", area.as_slice(), parts.as_slice());
     Ok(())
 }
 
@@ -120,10 +129,10 @@ fn a_transaction(rt: HostRuntime) -> Result<(), Fail> {
 fn the_most_bytes(rt: HostRuntime) -> Result<(), Fail> {
     let mut text = repeated(rt.alloc(), b"seats 1\n0 write - ", b"a5", MOST_BYTES)?;
     let (_, area) = write_in(rt.alloc(), &text)?;
-    assert_eq!(rt; area.len(), MOST_BYTES);
-    assert!(rt; area.iter().all(|byte| *byte == 0xa5));
+    same(&rt, "bytes", area.len(), MOST_BYTES);
+    holds(&rt, "each byte", area.iter().all(|byte| *byte == 0xa5));
     text.extend_from_slice(b"a5")?;
-    assert_eq!(rt; bad_line(rt.alloc(), &text), Some(2));
+    same(&rt, "one too many", bad_line(rt.alloc(), &text), Some(2));
     Ok(())
 }
 
@@ -136,8 +145,8 @@ fn the_most_offsets(rt: HostRuntime) -> Result<(), Fail> {
         MOST_OFFSETS - 1,
     )?;
     let (_, area) = write_in(rt.alloc(), &text)?;
-    assert_eq!(rt; area.len(), 8 * MOST_OFFSETS);
+    same(&rt, "offsets", area.len(), 8 * MOST_OFFSETS);
     text.extend_from_slice(b",8")?;
-    assert_eq!(rt; bad_line(rt.alloc(), &text), Some(2));
+    same(&rt, "one too many", bad_line(rt.alloc(), &text), Some(2));
     Ok(())
 }

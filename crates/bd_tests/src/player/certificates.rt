@@ -1,6 +1,7 @@
 //! Certificates of the histories of worked examples.
 
 use super::playing::lawful_history_of;
+use crate::same::{holds, same};
 use bd_audit::{Turn, gift_chain, oneway_turns};
 use bd_space::ObjectId;
 use std::test::Fail;
@@ -153,8 +154,8 @@ fn answers_the_gift_chains(rt: HostRuntime) -> Result<(), Fail> {
     for (script, pid, number, want) in &CHAINS {
         let record = lawful_history_of(rt.alloc(), script)?;
         match gift_chain(rt.alloc(), &record, *pid, *number)? {
-            Some(places) => assert_eq!(rt; places.as_slice(), *want),
-            None => assert!(rt; want.is_empty()),
+            Some(places) => same(&rt, "the chain", places.as_slice(), *want),
+            None => holds(&rt, "a chain", want.is_empty()),
         }
     }
     Ok(())
@@ -169,7 +170,7 @@ fn answers_the_turns(rt: HostRuntime) -> Result<(), Fail> {
         let place = *place;
         let object = ObjectId { place, index: 0 };
         let turns = oneway_turns(rt.alloc(), &record, object)?;
-        assert_eq!(rt; turns.as_slice(), *want);
+        same(&rt, "the turns", turns.as_slice(), *want);
     }
     Ok(())
 }

@@ -3,6 +3,7 @@
 
 ghost use Rattle.std.specs.Prelude.{◌≡◌, All, IfOk};
 
+use crate::same::{holds, same};
 use bd_driver::{Desk, Driver, Outcome, Page, Seat, Served};
 use bd_player::{DONE, Printer, laid, play_at, play_lines};
 use bd_script::Script;
@@ -122,11 +123,13 @@ fn threads_meet(rt: HostRuntime) -> Result<(), Fail> {
         &mut err,
     )?;
     let text = str::from_utf8(out.as_slice())?;
-    assert!(rt;
-        text == "2: opened 0 1\n3: opened 1 2\n" || text == "2: opened 1 2\n3: opened 0 1\n"
+    let (one, other) = (
+        "2: opened 0 1\n3: opened 1 2\n",
+        "2: opened 1 2\n3: opened 0 1\n",
     );
-    assert!(rt; status == DONE && err.is_empty());
-    assert!(rt; !desk.used_up.load(Ordering::SeqCst));
+    holds(&rt, "the lines", text == one || text == other);
+    holds(&rt, "the status", status == DONE && err.is_empty());
+    holds(&rt, "they met", !desk.used_up.load(Ordering::SeqCst));
     Ok(())
 }
 
@@ -138,11 +141,9 @@ fn one_thread_uses_its_reads_up(rt: HostRuntime) -> Result<(), Fail> {
     let mut printer = Printer::new(&mut out);
     play_lines(&desk, &mut seats, script.lines, 1, &mut printer);
     let status = printer.into_status();
-    assert_eq!(rt;
-        str::from_utf8(out.as_slice())?,
-        "2: opened 0 1\n3: opened 1 2\n"
-    );
-    assert_eq!(rt; status, DONE);
-    assert!(rt; desk.used_up.load(Ordering::SeqCst));
+    let text = str::from_utf8(out.as_slice())?;
+    same(&rt, "the lines", text, "2: opened 0 1\n3: opened 1 2\n");
+    same(&rt, "the status", status, DONE);
+    holds(&rt, "used up", desk.used_up.load(Ordering::SeqCst));
     Ok(())
 }

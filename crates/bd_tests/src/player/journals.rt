@@ -1,6 +1,7 @@
 //! The journal of the shortest run, written and judged.
 
 use super::playing::{checked, history_of, written};
+use crate::same::same;
 use std::test::Fail;
 
 // As docs/FORMATS.md has it.
@@ -13,7 +14,7 @@ const JOURNAL: [u8; 42] = [
 fn writes_the_shortest(rt: HostRuntime) -> Result<(), Fail> {
     let history = history_of(rt.alloc(), "seats 1\n0 open 100 1000 4096")?;
     let journal = written(rt.alloc(), &history)?;
-    assert_eq!(rt; journal.as_slice(), JOURNAL.as_slice());
+    same(&rt, "the journal", journal.as_slice(), JOURNAL.as_slice());
     Ok(())
 }
 

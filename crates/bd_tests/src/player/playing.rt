@@ -3,6 +3,7 @@
 ghost use Rattle.std.specs.Prelude.{◌≡◌, ◌≤◌, IfOk};
 ghost use Rattle.bd_space.specs.Histories.{IsHistory, history_in};
 
+use crate::same::same;
 use bd_audit::replay;
 use bd_player::{check_journal, play, write_journal};
 use bd_space::Record;
@@ -23,9 +24,9 @@ const TURNS: u32 = 1000;
 impl Printed {
     /// Sees that it is this.
     pub fn expect(&self, rt: &impl Abort, name: &str, out: &str, err: &str, status: u8) {
-        assert_eq!(rt; self.out.as_slice(), out.as_bytes(), "in {name}");
-        assert_eq!(rt; self.err.as_slice(), err.as_bytes(), "in {name}");
-        assert_eq!(rt; self.status, status, "in {name}");
+        same(rt, name, self.out.as_slice(), out.as_bytes());
+        same(rt, name, self.err.as_slice(), err.as_bytes());
+        same(rt, name, self.status, status);
     }
 }
 

@@ -1,6 +1,7 @@
 //! What lines print, and scripts with a bad line.
 
 use super::playing::played;
+use crate::same::holds;
 
 // A line of each kind.
 const SCRIPT: &str = "\
@@ -83,6 +84,6 @@ fn tells_the_first_bad_line(rt: HostRuntime) {
     for (script, want) in BAD_SCRIPTS {
         let (printed, history) = played(rt.alloc(), script);
         printed.expect(&rt, script, "", want, 1);
-        assert!(rt; history.is_none());
+        holds(&rt, "no history", history.is_none());
     }
 }

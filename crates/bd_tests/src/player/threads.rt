@@ -2,10 +2,13 @@
 
 ghost use Rattle.std.specs.Prelude.{◌≡◌, ◌<◌};
 
+use super::playing::Printed;
+use crate::same::{holds, same};
 use bd_audit::replay;
 use bd_player::{Said, TURNS as TURNS_USED, Told, gather, laid, play_threads, print_told};
 use bd_space::Record;
 use std::alloc::{AllocError, Global};
+use std::process::Abort;
 use std::test::Fail;
 
 const SEATS: usize = 8;
@@ -60,6 +63,31 @@ fn places_of(alloc: Global, history: &Record, seat: usize) -> Result<Vec<usize>,
     Ok(places)
 }
 
+// It has all calls, and is lawful.
+fn see_history(rt: &(impl Abort + Alloc<A = Global>), history: &Record) -> Result<(), Fail> {
+    if history.seats != 8 {
+        return Err(Fail::from("eight seats"));
+    }
+    replay(rt.alloc(), history)?;
+    same(rt, "steps", history.entries.as_slice().len(), SEATS * CALLS);
+    Ok(())
+}
+
+// Each seat's lines tell the places of its entries.
+fn see_places(
+    rt: &(impl Abort + Alloc<A = Global>),
+    text: &str,
+    history: &Record,
+) -> Result<(), Fail> {
+    for seat in 0..SEATS {
+        let told = places_told(rt.alloc(), text, seat)?;
+        let own = places_of(rt.alloc(), history, seat)?;
+        same(rt, "calls", told.len(), CALLS);
+        same(rt, "their places", told.as_slice(), own.as_slice());
+    }
+    Ok(())
+}
+
 #[test]
 fn eight_threads_count_their_calls(rt: HostRuntime) -> Result<(), Fail> {
     let script = script_of_calls(rt.alloc())?;
@@ -67,19 +95,10 @@ fn eight_threads_count_their_calls(rt: HostRuntime) -> Result<(), Fail> {
     let mut err = Vec::new(rt.alloc());
     let mut bytes = script.as_bytes();
     let played = play_threads(&rt, rt.alloc(), &mut bytes, TURNS, &mut out, &mut err);
-    assert!(rt; played.status == 0 && err.is_empty());
+    holds(&rt, "the status", played.status == 0 && err.is_empty());
     let history = played.history.ok_or("a script with no bad line runs")?;
-    assert_eq!(rt; history.seats, 8);
-    assert!(rt; replay(rt.alloc(), &history).is_ok());
-    assert_eq!(rt; history.entries.as_slice().len(), SEATS * CALLS);
-    let text = str::from_utf8(out.as_slice())?;
-    for seat in 0..SEATS {
-        let told = places_told(rt.alloc(), text, seat)?;
-        let own = places_of(rt.alloc(), &history, seat)?;
-        assert_eq!(rt; told.len(), CALLS);
-        assert_eq!(rt; told.as_slice(), own.as_slice());
-    }
-    Ok(())
+    see_history(&rt, &history)?;
+    see_places(&rt, str::from_utf8(out.as_slice())?, &history)
 }
 
 #[test]
@@ -90,9 +109,14 @@ fn tells_of_a_thread_that_is_not_there(rt: HostRuntime) -> Result<(), Fail> {
     let mut out = Vec::new(rt.alloc());
     let mut err = Vec::new(rt.alloc());
     let status = gather(&rt, workers, &mut seats, &mut out, &mut err);
-    assert_eq!(rt; err.as_slice(), b"fault: thread\n".as_slice());
-    assert_eq!(rt; status, 1);
-    assert!(rt; seats.is_empty() && out.is_empty());
+    same(
+        &rt,
+        "the fault",
+        err.as_slice(),
+        b"fault: thread\n".as_slice(),
+    );
+    same(&rt, "the status", status, 1);
+    holds(&rt, "nothing else", seats.is_empty() && out.is_empty());
     Ok(())
 }
 
@@ -110,8 +134,7 @@ fn tells_of_a_starved_seat(rt: HostRuntime) -> Result<(), Fail> {
     };
     let mut out = Vec::new(rt.alloc());
     let mut err = Vec::new(rt.alloc());
-    assert_eq!(rt; print_told(&told, &mut out, &mut err, TURNS_USED), 3);
-    assert_eq!(rt; out.as_slice(), b"2: turns\n".as_slice());
-    assert_eq!(rt; err.as_slice(), b"fault: memory\n".as_slice());
+    let status = print_told(&told, &mut out, &mut err, TURNS_USED);
+    Printed { out, err, status }.expect(&rt, "starved", "2: turns\n", "fault: memory\n", 3);
     Ok(())
 }

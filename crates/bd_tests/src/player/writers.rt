@@ -1,15 +1,21 @@
 //! Writers that fail: after some bytes, at one line, or at their flush.
 
 use super::playing::{Printed, checked, history_of, written};
+use crate::same::{holds, same};
 use bd_driver::Why;
 use bd_player::{
     DONE, FAULT, Fault, MEMORY, Manner, Said, TURNS, check_journal, play, play_from, print, tell,
     write_journal,
 };
 use bd_script::Reason;
+use bd_space::Record;
+use std::alloc::Global;
 use std::io;
 use std::io::{ErrorKind, Write};
+use std::process::Abort;
+use std::sync::Wait;
 use std::test::Fail;
+use std::thread::Threads;
 
 const SCRIPT: &str = "\
 seats 2
@@ -87,53 +93,67 @@ impl Write for Gap {
     }
 }
 
+// With so much room the journal is written or not, and this is kept of it.
+fn see_kept(
+    rt: &(impl Abort + Alloc<A = Global>),
+    history: &Record,
+    room: usize,
+    is_written: bool,
+    wanted: &[u8],
+) {
+    let kept = Vec::new(rt.alloc());
+    let mut out = Full { kept, room };
+    let written = write_journal(history, &mut out);
+    same(rt, "whether it is written", written, is_written);
+    same(rt, "what is kept", out.kept.as_slice(), wanted);
+}
+
 #[test]
 fn leaves_a_beginning_of_the_journal(rt: HostRuntime) -> Result<(), Fail> {
     let history = history_of(rt.alloc(), SCRIPT)?;
     let whole = written(rt.alloc(), &history)?;
-    assert!(rt; whole.len() > 300);
+    holds(&rt, "it is long", whole.len() > 300);
     for room in 0..whole.len() {
-        let kept = Vec::new(rt.alloc());
-        let mut out = Full { kept, room };
-        assert!(rt; !write_journal(&history, &mut out), "with room for {room}");
-        assert_eq!(rt; out.kept.as_slice(), &whole[..room]);
+        see_kept(&rt, &history, room, false, &whole[..room]);
     }
-    let kept = Vec::new(rt.alloc());
-    let room = whole.len();
-    let mut out = Full { kept, room };
-    assert!(rt; write_journal(&history, &mut out));
-    assert_eq!(rt; out.kept.as_slice(), whole.as_slice());
+    see_kept(&rt, &history, whole.len(), true, &whole);
     Ok(())
 }
 
 #[test]
 fn tells_of_a_flush_that_fails(rt: HostRuntime) -> Result<(), Fail> {
     let history = history_of(rt.alloc(), SCRIPT)?;
+    let whole = written(rt.alloc(), &history)?;
     let kept = Vec::new(rt.alloc());
     let mut out = Unflushed { kept };
-    assert!(rt; !write_journal(&history, &mut out));
-    assert_eq!(rt;
-        out.kept.as_slice(),
-        written(rt.alloc(), &history)?.as_slice()
-    );
+    let written = write_journal(&history, &mut out);
+    same(&rt, "whether it is written", written, false);
+    same(&rt, "what is kept", out.kept.as_slice(), whole.as_slice());
     Ok(())
+}
+
+const FOUR: &str = "seats 2\n0 open 100 1000 4096\n0 manager\n0 enter\n1 open 200 2000 4096\n";
+
+// Plays it with a writer that fails once, at this byte.
+fn played_with_a_gap(alloc: Global, at: usize) -> (Printed, Option<Record>) {
+    let kept = Vec::new(alloc);
+    let failed = false;
+    let mut out = Gap { kept, at, failed };
+    let mut err = Vec::new(alloc);
+    let run = play(alloc, &mut FOUR.as_bytes(), MANY, &mut out, &mut err);
+    let status = run.status;
+    let out = out.kept;
+    (Printed { out, err, status }, run.history)
 }
 
 // The line after one that couldn't be written runs and is printed, and the status tells.
 #[test]
 fn goes_on_after_a_line_that_is_lost(rt: HostRuntime) -> Result<(), Fail> {
-    let script = "seats 2\n0 open 100 1000 4096\n0 manager\n0 enter\n1 open 200 2000 4096\n";
-    let kept = Vec::new(rt.alloc());
-    let at = "2: opened 0 1\n".len();
-    let failed = false;
-    let mut out = Gap { kept, at, failed };
-    let mut err = Vec::new(rt.alloc());
-    let run = play(rt.alloc(), &mut script.as_bytes(), MANY, &mut out, &mut err);
-    let text = str::from_utf8(out.kept.as_slice())?;
-    assert_eq!(rt; text, "2: opened 0 1\n4: wrote 4 2 3\n5: opened 3 4\n");
-    assert!(rt; run.status == FAULT && err.is_empty());
-    let history = run.history.ok_or("a script with no bad line runs")?;
-    assert_eq!(rt; history.entries.as_slice().len(), 4);
+    let (printed, history) = played_with_a_gap(rt.alloc(), "2: opened 0 1\n".len());
+    let prints = "2: opened 0 1\n4: wrote 4 2 3\n5: opened 3 4\n";
+    printed.expect(&rt, "a line is lost", prints, "", FAULT);
+    let history = history.ok_or("a script with no bad line runs")?;
+    same(&rt, "steps", history.entries.as_slice().len(), 4);
     Ok(())
 }
 
@@ -145,7 +165,7 @@ fn tells_of_a_verdict_that_is_lost(rt: HostRuntime) -> Result<(), Fail> {
     let mut out = Full { kept, room: 0 };
     let mut err = Vec::new(rt.alloc());
     let status = check_journal(rt.alloc(), &mut journal.as_slice(), &mut out, &mut err);
-    assert!(rt; status == FAULT && err.is_empty());
+    holds(&rt, "the status", status == FAULT && err.is_empty());
     Ok(())
 }
 
@@ -162,10 +182,10 @@ fn keeps_the_greatest_status(rt: HostRuntime) -> Result<(), Fail> {
     ];
     let mut out = Vec::new(rt.alloc());
     for (said, status, want) in &rows {
-        assert_eq!(rt; print(7, said, &mut out, *status), *want);
+        same(&rt, "the status", print(7, said, &mut out, *status), *want);
     }
     let want = "7: back full\n7: back memory\n7: turns\n7: turns\n7: passed\n7: idle\n";
-    assert_eq!(rt; str::from_utf8(out.as_slice())?, want);
+    same(&rt, "the lines", str::from_utf8(out.as_slice())?, want);
     Ok(())
 }
 
@@ -175,7 +195,7 @@ fn keeps_it_where_a_line_is_lost(rt: HostRuntime) {
     for (said, want) in &[(Said::Passed, 1), (Said::Turns, 2)] {
         let kept = Vec::new(rt.alloc());
         let mut lost = Full { kept, room: 0 };
-        assert_eq!(rt; print(1, said, &mut lost, DONE), *want);
+        same(&rt, "the status", print(1, said, &mut lost, DONE), *want);
     }
 }
 
@@ -206,8 +226,8 @@ static FAULTS: [(Fault, &str, u8); 7] = [
 fn tells_each_fault(rt: HostRuntime) {
     for (fault, text, status) in &FAULTS {
         let mut err = Vec::new(rt.alloc());
-        assert_eq!(rt; tell(*fault, &mut err), *status);
-        assert_eq!(rt; err.as_slice(), text.as_bytes());
+        same(&rt, "the status", tell(*fault, &mut err), *status);
+        same(&rt, "the text", err.as_slice(), text.as_bytes());
     }
 }
 
@@ -223,21 +243,30 @@ fn uses_the_last_turn(rt: HostRuntime) -> Result<(), Fail> {
     Ok(())
 }
 
+const OF_THREADS: &str =
+    "seats 2\n0 await 9\n0 open 100 1000 4096\n1 open 200 2000 4096\n1 manager\n";
+
+const THREE_TURNS: Manner = Manner {
+    threads: true,
+    turns: 3,
+};
+
+fn played_by_threads<H: AllocGlobal + Threads + Wait + Sync>(rt: &H) -> (Printed, Option<Record>) {
+    let mut out = Vec::new(rt.alloc());
+    let mut err = Vec::new(rt.alloc());
+    let mut script = OF_THREADS.as_bytes();
+    let run = play_from(rt, &mut script, THREE_TURNS, &mut out, &mut err);
+    let status = run.status;
+    (Printed { out, err, status }, run.history)
+}
+
 // Each seat stops at its turns, and the others go on; the later seat's success doesn't hide them.
 #[test]
 fn stops_a_threaded_seat_at_its_turns(rt: HostRuntime) -> Result<(), Fail> {
-    let script = "seats 2\n0 await 9\n0 open 100 1000 4096\n1 open 200 2000 4096\n1 manager\n";
-    let manner = Manner {
-        threads: true,
-        turns: 3,
-    };
-    let mut out = Vec::new(rt.alloc());
-    let mut err = Vec::new(rt.alloc());
-    let run = play_from(&rt, &mut script.as_bytes(), manner, &mut out, &mut err);
-    let status = run.status;
+    let (printed, history) = played_by_threads(&rt);
     let prints = "2: turns\n4: opened 0 1\n5: set 1 2\n";
-    Printed { out, err, status }.expect(&rt, "threads", prints, "", 2);
-    let history = run.history.ok_or("a threaded run has a history too")?;
+    printed.expect(&rt, "threads", prints, "", 2);
+    let history = history.ok_or("a threaded run has a history too")?;
     let journal = written(rt.alloc(), &history)?;
     checked(rt.alloc(), &journal).expect(&rt, "threads", "lawful 2\n", "", 0);
     Ok(())
