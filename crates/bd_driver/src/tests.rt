@@ -1,4 +1,4 @@
-ghost use Rattle.std.specs.Prelude.{◌≡◌, IfOk, All};
+ghost use Rattle.std.specs.Prelude.{◌≡◌, IfOk, IfSome, All};
 ghost use Rattle.std.specs.Thread.{IsSync};
 
 use crate::{Driver, Outcome, Page, Seat, Served, Why};
@@ -200,14 +200,63 @@ fn eight_threads(rt: HostRuntime) -> Result<(), Fail> {
     Ok(())
 }
 
+// No driver has so many seats.
+fn is_out_of_limits(alloc: Global, seats: u32) -> bool {
+    match Driver::new(alloc, seats) {
+        Err(Fault::SeatCount) => true,
+        _ => false,
+    }
+}
+
 #[test]
 fn seats_out_of_limits(rt: HostRuntime) -> Result<(), Fail> {
-    assert!(rt; matches!(Driver::new(rt.alloc(), 0), Err(Fault::SeatCount)));
-    assert!(rt; matches!(Driver::new(rt.alloc(), 17), Err(Fault::SeatCount)));
-    let (driver, seats) = Driver::new(rt.alloc(), 16).map_err(|_| "no driver")?;
-    assert!(rt; seats.len() == 16);
-    assert!(rt; driver.finish(seats).seats == 16);
+    assert!(rt; is_out_of_limits(rt.alloc(), 0));
+    assert!(rt; is_out_of_limits(rt.alloc(), 17));
+    let (driver, seats) = seated(rt.alloc(), 16)?;
+    let count = seats.len();
+    let record = driver.finish(seats);
+    assert!(rt; count == 16 && record.seats == 16);
     Ok(())
+}
+
+// A request that is handed over waits until another seat serves it, and then can't be taken back.
+fn hands_over(driver: &Driver, poster: &mut Seat, other: &mut Seat) -> bool
+    requires { (poster.old.table ≡ driver.now.table) × (other.old.table ≡ driver.now.table) }
+    ensures { (poster.new.table ≡ driver.now.table) × (other.new.table ≡ driver.now.table) }
+{
+    let posted = post(driver, poster, open());
+    let waits = is_handed(collect(driver, poster));
+    let served = serve(driver, other) == Served::Ran { picked: 1 };
+    let kept = is_handed(withdraw(driver, poster));
+    let opened = is_opened(collect(driver, poster));
+    posted && waits && served && kept && opened
+}
+
+// Before anybody serves it, it can.
+fn takes_back(driver: &Driver, poster: &mut Seat, other: &mut Seat) -> bool
+    requires { (poster.old.table ≡ driver.now.table) × (other.old.table ≡ driver.now.table) }
+    ensures { (poster.new.table ≡ driver.now.table) × (other.new.table ≡ driver.now.table) }
+{
+    let posted = post(driver, poster, read());
+    let back = withdraw(driver, poster).map_or(false, |o| is_read_back(o, Why::Withdrawn));
+    let served = serve(driver, other) == Served::Ran { picked: 0 };
+    let page = look(driver, poster);
+    posted && back && served && page.stamp == 1 && page.ready == 0 && !page.taken
+}
+
+// What came of it, once both seats are back.
+fn finished(
+    driver: Driver,
+    seats: Vec<Seat>,
+    first: Seat,
+    second: Seat,
+) -> Result<Record, AllocError>
+    requires seats { All (λ s. s.table ≡ driver.table) seats.items }
+    requires both { (first.table ≡ driver.table) × (second.table ≡ driver.table) }
+{
+    let seats = back(&driver, seats, first)?;
+    let seats = back(&driver, seats, second)?;
+    Ok(driver.finish(seats))
 }
 
 #[test]
@@ -215,19 +264,10 @@ fn handed_over(rt: HostRuntime) -> Result<(), Fail> {
     let (driver, mut seats) = seated(rt.alloc(), 2)?;
     let mut other = next(&driver, &mut seats)?;
     let mut poster = next(&driver, &mut seats)?;
-    assert!(rt; post(&driver, &mut poster, open()));
-    assert!(rt; is_handed(collect(&driver, &mut poster)));
-    assert!(rt; serve(&driver, &mut other) == Served::Ran { picked: 1 });
-    assert!(rt; is_handed(withdraw(&driver, &mut poster)));
-    assert!(rt; is_opened(collect(&driver, &mut poster)));
-    assert!(rt; post(&driver, &mut poster, read()));
-    assert!(rt; withdraw(&driver, &mut poster).map_or(false, |o| is_read_back(o, Why::Withdrawn)));
-    assert!(rt; serve(&driver, &mut other) == Served::Ran { picked: 0 });
-    let page = look(&driver, &mut poster);
-    assert!(rt; page.stamp == 1 && page.ready == 0 && !page.taken);
-    let seats = back(&driver, seats, other)?;
-    let seats = back(&driver, seats, poster)?;
-    let record = driver.finish(seats);
+    let handed_over = hands_over(&driver, &mut poster, &mut other);
+    let taken_back = takes_back(&driver, &mut poster, &mut other);
+    assert!(rt; handed_over && taken_back);
+    let record = finished(driver, seats, other, poster)?;
     assert!(rt; record.seats == 2 && record.entries.as_slice().len() == 1);
     Ok(())
 }
@@ -309,9 +349,7 @@ fn handed_over_between_threads(rt: HostRuntime) -> Result<(), Fail> {
     let poster = next(&driver, &mut seats)?;
     let ((poster, collected), (server, served)) = both_parts(&rt, &driver, poster, server);
     assert!(rt; collected && served);
-    let seats = back(&driver, seats, server)?;
-    let seats = back(&driver, seats, poster)?;
-    let record = driver.finish(seats);
+    let record = finished(driver, seats, server, poster)?;
     assert!(rt; entries_of(&record, 0) == 1 && entries_of(&record, 1) == 0);
     Ok(())
 }
@@ -324,9 +362,7 @@ fn one_thread(rt: HostRuntime) -> Result<(), Fail> {
     let (poster, collected) = poster_part(&driver, poster);
     let (server, served) = server_part(&driver, server);
     assert!(rt; !collected && served);
-    let seats = back(&driver, seats, server)?;
-    let seats = back(&driver, seats, poster)?;
-    let record = driver.finish(seats);
+    let record = finished(driver, seats, server, poster)?;
     assert!(rt; entries_of(&record, 0) == 1);
     Ok(())
 }
@@ -345,25 +381,26 @@ fn others_meanwhile(driver: &Driver, poster: &mut Seat, third: &mut Seat) -> boo
     called && served && page.taken && page.stamp == 0 && handed && posted && back
 }
 
-#[test]
-fn stopped_between_pick_and_answer(rt: HostRuntime) -> Result<(), Fail> {
-    let (driver, mut seats) = seated(rt.alloc(), 3)?;
-    let mut third = next(&driver, &mut seats)?;
-    let server = next(&driver, &mut seats)?;
-    let mut poster = next(&driver, &mut seats)?;
-    assert!(rt; post(&driver, &mut poster, open()));
+// A serve that stops between its pick and its answer, and then goes on; and whether the others got what they should.
+fn stops_midway(
+    driver: &Driver,
+    server: Seat,
+    poster: &mut Seat,
+    third: &mut Seat,
+) -> Option<(Seat, bool)>
+    requires server { server.table ≡ driver.now.table }
+    requires others { (poster.old.table ≡ driver.now.table) × (third.old.table ≡ driver.now.table) }
+    ensures server { IfSome result (λ r. r.0.table ≡ driver.now.table) }
+    ensures others { (poster.new.table ≡ driver.now.table) × (third.new.table ≡ driver.now.table) }
+{
     let Seat {
         mut table_seat,
         number,
         waiting,
     } = server;
-    let Some(engine) = driver.take(&mut table_seat) else {
-        return Err(Fail::from("taken"));
-    };
-    let Some(request) = driver.pick(&mut table_seat, 0) else {
-        return Err(Fail::from("nothing posted"));
-    };
-    assert!(rt; others_meanwhile(&driver, &mut poster, &mut third));
+    let engine = driver.take(&mut table_seat)?;
+    let request = driver.pick(&mut table_seat, 0)?;
+    let is_so = others_meanwhile(driver, poster, third);
     let engine = driver.run_picked(&mut table_seat, engine, 0, request);
     driver.put_home(&mut table_seat, engine);
     let server = Seat {
@@ -371,11 +408,22 @@ fn stopped_between_pick_and_answer(rt: HostRuntime) -> Result<(), Fail> {
         number,
         waiting,
     };
-    assert!(rt; is_opened(collect(&driver, &mut poster)));
+    Some((server, is_so))
+}
+
+#[test]
+fn stopped_between_pick_and_answer(rt: HostRuntime) -> Result<(), Fail> {
+    let (driver, mut seats) = seated(rt.alloc(), 3)?;
+    let mut third = next(&driver, &mut seats)?;
+    let server = next(&driver, &mut seats)?;
+    let mut poster = next(&driver, &mut seats)?;
+    assert!(rt; post(&driver, &mut poster, open()));
+    let (server, is_so) = stops_midway(&driver, server, &mut poster, &mut third).ok_or(
+        "taken, or nothing posted",
+    )?;
+    assert!(rt; is_so && is_opened(collect(&driver, &mut poster)));
     let seats = back(&driver, seats, server)?;
-    let seats = back(&driver, seats, third)?;
-    let seats = back(&driver, seats, poster)?;
-    let record = driver.finish(seats);
+    let record = finished(driver, seats, third, poster)?;
     assert!(rt; entries_of(&record, 0) == 1 && entries_of(&record, 2) == 0);
     Ok(())
 }
