@@ -11,7 +11,8 @@ ghost use Rattle.bd_deaths.specs.Slots as spec;
 ghost use Rattle.bd_deaths.specs.Stands.{IsWithin};
 
 use crate::list::DeathList;
-use crate::slot::{Slot, told_before};
+use crate::look::made_in;
+use crate::slot::{Slot, is_told, told_before};
 use bd_space::{Phase, Work, WorkKind};
 use std::ops::Range;
 
@@ -85,6 +86,16 @@ impl DeathList {
         set_phase(&mut self.slots, range, made, phase);
     }
 
+    // Up to where a look by cookie went, if it went along the slots to the notification of this place, which ends here.
+    fn walked_to(&self, made: u32, end: usize) -> usize
+        ensures { result ≤ end }
+    {
+        match made_in(self.made_part(made), made) {
+            Some(s) if is_told(s.death.phase) && self.is_cookie_shared(&s.death) => end,
+            _ => 0,
+        }
+    }
+
     /// The notification goes.
     pub(crate) fn remove(&mut self, made: u32)
         ensures stands { (l : List declared.DeathNotification) → AreIn self.old l
@@ -92,9 +103,9 @@ impl DeathList {
         ensures uses { ListUses self.old self.new 0 }
     {
         let range = self.made_range(made);
-        let end = range.end;
+        let to = self.walked_to(made, range.end);
         self.drop_in(range, |x| x.made == made);
-        self.pass_untold(end);
+        self.pass_untold(to);
         self.close_up();
     }
 

@@ -27,7 +27,8 @@ pub(crate) fn is_uncleared_on(p: u32, o: ObjectId, x: &DeathNotification) -> boo
     !x.cleared && x.process == p && same(x.object, o)
 }
 
-fn made_in(slots: &[Slot], made: u32) -> Option<Slot>
+/// The notification of this place, in its slot.
+pub(crate) fn made_in(slots: &[Slot], made: u32) -> Option<Slot>
     ensures { result ≡ find (spec.on (deaths_of.is_notification made)) slots.now }
 {
     slots

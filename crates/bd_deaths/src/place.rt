@@ -1,17 +1,20 @@
 //! Where the notifications lie that are looked for.
 
-ghost use Rattle.std.specs.Prelude.{◌≡◌, ◌≤◌, ◌+◌, ℕ, length, vec_len, List, IfSome};
+ghost use Rattle.std.specs.Prelude.{◌≡◌, ◌==◌, ◌≤◌, ◌+◌, ℕ, not, length, vec_len, List, IfSome};
 ghost use Rattle.std.specs.List.{between};
 ghost use Rattle.bd_space.specs.Clearing as clearing;
 ghost use Rattle.bd_space.specs.Deaths as deaths_of;
 ghost use Rattle.bd_space.specs.declared.space.DeathNotification as declared;
 ghost use Rattle.bd_deaths.specs.Keys as keys;
+ghost use Rattle.bd_space.specs.Words.{is_some_and};
+ghost use Rattle.bd_deaths.specs.SharedAt.{group_at};
 ghost use Rattle.bd_deaths.specs.Slots as spec;
 ghost use Rattle.bd_deaths.specs.Stands.{IsRising, IsWithin, IsPartOf, AreIn};
 
 use crate::key::{Key, cookie_key};
 use crate::list::DeathList;
 use crate::slot::Slot;
+use bd_space::DeathNotification;
 use std::ops::Range;
 
 /// Between which slots those of this place lie, of slots in the order of their places.
@@ -68,6 +71,17 @@ impl DeathList {
             Some(self.made_range(group.sum))
         } else {
             None
+        }
+    }
+
+    /// Whether others of its process have the notification's cookie too.
+    pub(crate) fn is_cookie_shared(&self, x: &DeathNotification) -> bool
+        ensures { result ≡ is_some_and (group_at self.now.sharing (keys.cookie_key x.now.process x.now.cookie))
+            (λ g. not (g.count == 1)) }
+    {
+        match self.sharing.at(cookie_key(x.process, x.cookie)) {
+            Some(group) => group.count != 1,
+            None => false,
         }
     }
 
