@@ -1,14 +1,13 @@
 -- Replies reach their callers: from what each reply has behind it, and since what is gone never comes again.
 use Rattle.bd_laws.proofs.words.Logic.{◌≡◌, ℕ, zero, suc, ◌<◌, ◌==◌, Bool, true, false, List, [], ◌∷◌, ◌++◌, length, take, Option, Some, None, ◌⊎◌, inl, inr, refl, ap, sym, subst, ◌∙◌, not, arith, list_any, slice_get, option_map, option_and_then, option_and_then_some, eqb-true, eq-eqb}
 use Rattle.bd_laws.proofs.words.Types.{TransactionData, Step, Read, Entry, Work, Frame, Actor, OfThread}
-use Rattle.bd_laws.proofs.words.Space.{Space, opening, owe, is_call, same_list, is_item, closed, goes_to, is_frame, innermost, innermost_in, is_deepest_in, made_of, ripen, follow, Delivery, delivered, transacted, called, call_out, replied, read_by, serve, change, counted, History, after, next, space_after}
+use Rattle.bd_laws.proofs.words.Space.{Space, opening, owe, is_call, same_list, is_item, closed, goes_to, is_frame, innermost, innermost_in, is_deepest_in, made_of, ripen, Delivery, delivered, transacted, called, call_out, replied, read_by, serve, change, counted, History, after, next, space_after}
 use Rattle.bd_space.specs.declared.space.WorkKind.TheVariants as work
 use Rattle.bd_links.specs.TodoList.{reply_of, first_reply_in}
 use Rattle.bd_engine.specs.Looks.{first_reply}
 use Rattle.bd_laws.specs.Lists.{In}
 use Rattle.bd_laws.proofs.Machine.EveryStep.{Keeps, every_step}
 use Rattle.bd_laws.proofs.Lists.{in-push, in-filter, in-changed, find-in, any-in}
-use Rattle.bd_laws.proofs.Machine.Deaths.{on-mapped, on-commands}
 use Rattle.bd_audit.specs.Gifts.{Stands}
 use Rattle.bd_audit.specs.Laws.{space_at}
 use Rattle.bd_audit.specs.Replies.{thread_made, items_taken, reply_taken, reply_taken_at, frame_of, call_closed_at, call_answered, AnswersCall, At, Answered}
