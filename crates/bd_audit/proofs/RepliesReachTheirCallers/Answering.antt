@@ -13,9 +13,8 @@ use Rattle.bd_laws.proofs.OnPaths.PathWords.{served-is}
 use Rattle.bd_audit.specs.Replies.{made_in, thread_made, items_read, items_taken, items_unless, frame_of, Calls, TakesCall, AnswersCall}
 use Rattle.bd_audit.proofs.Beginnings.{after-append}
 use Rattle.bd_audit.proofs.NamesHaveGiftChains.Chains.{always-steps}
-use Rattle.bd_audit.proofs.RepliesReachTheirCallers.Quiet as quiet
 use Rattle.bd_laws.proofs.Machine.Table.{keeps-by}
-use Rattle.bd_audit.proofs.RepliesReachTheirCallers.Quiet.{sent-quiet, completed-quiet, NotReply, quiet_table, quiet_exits, quiet_closes, Quiet, with_work-quiet, quiet-trans}
+use Rattle.bd_audit.proofs.RepliesReachTheirCallers.Quiet.{sent-quiet, ripen-quiet, completed-quiet, NotReply, quiet_table, quiet_exits, quiet_closes, Quiet, with_work-quiet, quiet-trans}
 use Rattle.bd_laws.proofs.Machine.Fields.{closed-threads, serve-made, owe-threads}
 use Rattle.bd_audit.proofs.RepliesReachTheirCallers.Traces.{at-more, at-here, at-below, Called, Handed, Answers, Traced, traced-more, traced-quiet, transaction-accepted, reply-accepted, reply-space, actor-made, delivered-threads, framed, answering}
 
@@ -218,7 +217,7 @@ module _ (es : List Entry) (e : Entry) (h : Traced es (after opening es)) where
     transacts = λ a d parcel v x i t. transacted-traced a i d parcel v x t;
     replies = λ a d parcel f v x i g t. replied-traced a i d parcel f v x g t;
     reads = λ a limit i x n. read-traced a i limit x n;
-    ripens = λ z. traced-quiet more (ripen z) z (quiet.ripen-quiet z);
+    ripens = λ z. traced-quiet more (ripen z) z (ripen-quiet z);
   })
 
   counted-traced : (z : Space) → Traced more z → Traced more (counted z)

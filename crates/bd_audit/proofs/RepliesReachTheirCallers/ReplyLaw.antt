@@ -14,9 +14,8 @@ use Rattle.bd_audit.specs.Replies.{thread_made, items_taken, reply_taken, reply_
 use Rattle.bd_audit.proofs.NamesHaveGiftChains.Chains.{always-steps}
 use Rattle.bd_audit.proofs.RepliesReachTheirCallers.Places.{mid, later-space, next-place, either-way}
 use Rattle.bd_audit.proofs.RepliesReachTheirCallers.CallsOnce.{handed-once}
-use Rattle.bd_audit.proofs.RepliesReachTheirCallers.Quiet as quiet
 use Rattle.bd_laws.proofs.Machine.Table.{keeps-by}
-use Rattle.bd_audit.proofs.RepliesReachTheirCallers.Quiet.{sent-quiet, NotReply, quiet_table, quiet_exits, quiet_closes, Quiet, with_work-quiet, quiet-trans}
+use Rattle.bd_audit.proofs.RepliesReachTheirCallers.Quiet.{sent-quiet, ripen-quiet, NotReply, quiet_table, quiet_exits, quiet_closes, Quiet, with_work-quiet, quiet-trans}
 use Rattle.bd_audit.proofs.RepliesReachTheirCallers.RepliesDue.{IsOwed, always-owed}
 use Rattle.bd_audit.proofs.RepliesReachTheirCallers.ReplyTaken.{taken-or-not, first-stands, NoReply}
 use Rattle.bd_audit.proofs.RepliesReachTheirCallers.Answering.{always-traced}
@@ -92,7 +91,7 @@ from-kept s seat x = keeps-by Quiet NotReply quiet_table s seat x (From s) (from
   transacts = λ a d parcel v e i t. from-transacted s a d v;
   replies = λ a d parcel f v e i g t. from-replied s a d f v;
   reads = λ a limit i e n. from-read s a.thread.seat _;
-  ripens = λ z. from-quiet s (ripen z) z (quiet.ripen-quiet z);
+  ripens = λ z. from-quiet s (ripen z) z (ripen-quiet z);
 })
 
 pub step-from : (s : Space) (e : Entry) → From s (change s e.seat e.step).space
