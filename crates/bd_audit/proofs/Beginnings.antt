@@ -1,5 +1,5 @@
 -- A beginning of a history is one; what its last entry has to meet.
-use Rattle.bd_laws.proofs.words.Logic.{◌≡◌, ◌≤◌, ◌<◌, ◌+◌, ℕ, Bool, true, false, ◌&&◌, ◌||◌, List, [], ◌∷◌, ◌++◌, length, take, drop, get_or, Some, refl, ap, sym, ◌∙◌, subst, arith, length-append, nat_lt, nat_le, list_all, lt-leb, take-append-drop, take_all, take_more, length-take-le}
+use Rattle.bd_laws.proofs.words.Logic.{◌≡◌, ◌≤◌, ◌<◌, ◌+◌, ℕ, Bool, true, false, ◌||◌, List, [], ◌∷◌, ◌++◌, length, take, drop, get_or, Some, refl, ap, sym, ◌∙◌, subst, arith, length-append, nat_lt, nat_le, list_all, lt-leb, take-append-drop, take_all, take_more, length-take-le}
 use Rattle.bd_laws.proofs.words.Types.{Entry, StepAnswer, Step}
 use Rattle.bd_laws.proofs.words.Space.{Space, opening, step, History, history_of, IsHistory, EntryFollows, Follows, after, next, space_after, is_at_limit}
 use Rattle.bd_engine.specs.declared.why.Why.{Why}

@@ -1,6 +1,6 @@
 -- Each live thread was made by a step of its seat.
 use Rattle.bd_laws.proofs.words.Logic.{◌≡◌, ℕ, zero, suc, ◌-◌, ◌==◌, Bool, true, false, cond, not, List, [], ◌∷◌, ◌++◌, length, Option, Some, None, ◌⊎◌, inl, inr, refl, ap, sym, subst, ◌∙◌, map, filter, fold, slice_get, option_map, eqb-true}
-use Rattle.bd_laws.proofs.words.Types.{TransactionData, Entry, Thread, Frame, Actor, TodoList, OfThread, WorkKind}
+use Rattle.bd_laws.proofs.words.Types.{TransactionData, Entry, Thread, Frame, Actor, OfThread}
 use Rattle.bd_laws.proofs.words.Space.{Space, opening, thread_in, closed, owe, list_to_read, ripen, follow, notify, work_goes, deaths_go, names_go, assign_numbers, objects_go, Delivery, delivered, own_notices, add_buffer, known_by, refer, make_objects, transacted, called, call_out, replied, without_buffer, read_by, taken, thread_goes, threads_go, without_process, tell_deaths, seat_of, counted, with_thread, with_process, with_manager, ask, drop_asked, acknowledge, with_looping, after}
 use Rattle.bd_space.specs.declared.space.WorkKind.TheVariants as work
 use Rattle.bd_laws.proofs.Machine.EveryStep.{Keeps, every_step}

@@ -1,25 +1,19 @@
 -- A call of a thread that lives on stays open through a step as long as the thread has a later one.
-use Rattle.bd_laws.proofs.words.Logic.{◌≡◌, ℕ, ◌<◌, ◌≤◌, ◌-◌, ◌==◌, Bool, true, false, cond, not, ◌&&◌, ◌||◌, List, [], ◌∷◌, map, filter, Option, Some, None, inl, inr, refl, ap, sym, subst, ◌∙◌, arith, nat_le, list_any, find, fold, eqb-true, eq-eqb, cases_lt, le-leb}
+use Rattle.bd_laws.proofs.words.Logic.{◌≡◌, ℕ, ◌<◌, ◌≤◌, ◌-◌, ◌==◌, Bool, true, false, cond, not, List, [], ◌∷◌, map, filter, Option, Some, None, inl, inr, refl, ap, sym, subst, ◌∙◌, arith, list_any, find, fold, eqb-true, eq-eqb, cases_lt}
 use Rattle.bd_laws.proofs.words.Types.{TransactionData, DeadReply, FailedReply, TransactionComplete, Step, Entry, Work, Frame, Thread, Actor, Serving, Gone, OfThread, OfProcess, WorkKind}
-use Rattle.bd_laws.proofs.words.Space.{is_some_and, Space, opening, closed, calls, is_frame, is_child_of, is_gone, served_innermost, owe, tell_caller, is_call, list_to_read, ripen, follow, notify, work_goes, deaths_go, names_go, assign_numbers, objects_go, is_abandoned, Delivery, delivered, transacted, called, call_out, refusal, replied, reply_refused, without_buffer, read_by, taken, serve, thread_goes, gone_server, unread_server, frame_without, unread_frame, threads_go, without_process, tell_deaths, seat_of, counted, with_thread, with_process, with_manager, ask, drop_asked, acknowledge, with_looping, after, next}
+use Rattle.bd_laws.proofs.words.Space.{is_some_and, Space, closed, is_frame, is_child_of, is_gone, served_innermost, owe, tell_caller, is_call, list_to_read, ripen, follow, notify, work_goes, deaths_go, names_go, objects_go, is_abandoned, Delivery, delivered, transacted, called, call_out, refusal, replied, reply_refused, read_by, taken, serve, thread_goes, gone_server, unread_server, frame_without, unread_frame, threads_go, without_process, tell_deaths, seat_of, counted, next}
 use Rattle.bd_space.specs.declared.space.WorkKind.TheVariants as work
-use Rattle.bd_laws.proofs.words.Laws.{In, NoChild, Nested, OnPaths}
+use Rattle.bd_laws.proofs.words.Laws.{In, NoChild, OnPaths}
 use Rattle.bd_laws.proofs.Machine.Table.{SameFrames, Any, frames_table, set_up-by, changes-but}
 use Rattle.bd_laws.proofs.Machine.EveryStep.{KeepsWhole, every_whole_step}
-use Rattle.bd_laws.proofs.Lists.{in-left, in-push, in-filter, filter-in, in-map, map-in, in-changed, changed-in, any-in, any-found, find-in, all-in}
+use Rattle.bd_laws.proofs.Lists.{in-left, in-push, in-filter, filter-in, in-map, map-in, in-changed, changed-in, any-in, any-found, find-in}
 use Rattle.bd_laws.proofs.Tests.{both, not-false, call-kind, not-eq as differ}
 use Rattle.bd_laws.proofs.IsInTurn.Ripening.{read-in}
 use Rattle.bd_laws.proofs.OnPaths.Forests.{one-frame}
 use Rattle.bd_laws.proofs.OnPaths.Innermost.{true-calls}
 use Rattle.bd_laws.proofs.OnPaths.Paths.{abandoned-childless, served-childless}
-use Rattle.bd_laws.proofs.Always.{always-on_paths}
-use Rattle.bd_laws.proofs.Machine.Deaths.{tell_deaths-aside, on-mapped, on-commands, on_deaths-aside}
-use Rattle.bd_audit.specs.Replies.{made_in, thread_made, At}
-use Rattle.bd_audit.specs.Latest.{IsLatest}
-use Rattle.bd_audit.specs.Ending.{EndsCall}
-use Rattle.bd_laws.proofs.OnPaths.Paths as path
-use Rattle.bd_laws.proofs.OnPaths.PathCalls as path_call
-use Rattle.bd_audit.proofs.Seated as seated
+use Rattle.bd_laws.proofs.Machine.Deaths.{tell_deaths-aside}
+use Rattle.bd_audit.specs.Replies.{made_in, thread_made}
 use Rattle.bd_audit.proofs.Seated.{made-before, other-left}
 use Rattle.bd_laws.proofs.Machine.Fields.{owe-frames, sent-steps, sent-frames, sent-threads}
 

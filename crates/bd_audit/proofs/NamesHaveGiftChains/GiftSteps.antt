@@ -1,24 +1,15 @@
 -- The gift by which a name begins, the gifts of a history, and the chain that they make, found from its end.
-use Rattle.bd_laws.proofs.words.Logic.{◌≡◌, ℕ, ◌+◌, ◌<◌, ◌==◌, Bool, true, false, ◌&&◌, not, List, [], ◌∷◌, ◌++◌, Option, Some, None, Result, Ok, Err, IfOk, IfSome, inl, inr, refl, ap, sym, subst, ◌∙◌, length, take, get_or, reverse, find, arith, length-append, append-nil, append_assoc, nat_lt, is_some, option_map, option_and_then, option_or, eqb-true, eq-eqb, ltb-true, ltb-false, reverse-append, length-take-le, take-append-le, take_all, get_or-append_seam, get_or-append}
-use Rattle.bd_laws.proofs.words.Types.{Fault, ObjectId, Entry, Process, Thread, Actor, Name, Buffer, Carried}
-use Rattle.bd_laws.proofs.words.Space.{same, when, Space, opening, actor, owned_in, number_in, named, is_made_at, buffer_in, change, History, after, next, space_after}
+use Rattle.bd_laws.proofs.words.Logic.{◌≡◌, ℕ, ◌+◌, ◌<◌, Bool, true, false, ◌&&◌, not, List, [], ◌∷◌, ◌++◌, Option, Some, None, Result, Ok, Err, IfOk, IfSome, inl, inr, refl, ap, sym, subst, ◌∙◌, length, take, get_or, reverse, arith, length-append, append-nil, append_assoc, nat_lt, option_and_then, ltb-true, ltb-false, reverse-append, length-take-le, take-append-le, take_all, get_or-append_seam, get_or-append}
+use Rattle.bd_laws.proofs.words.Types.{Fault, ObjectId, Entry}
+use Rattle.bd_laws.proofs.words.Space.{when, Space, opening, named, History, after, space_after}
 use Rattle.bd_engine.specs.Looks.{knows, process_of}
-use Rattle.bd_laws.proofs.words.Laws.{In, IsTidy}
-use Rattle.bd_laws.proofs.Always.{step-tidy, opening-tidy}
-use Rattle.bd_laws.proofs.Machine.EveryStep.{every_list}
-use Rattle.bd_laws.proofs.Lists.{find-in, find-some, in-left, in-push, in-last}
-use Rattle.bd_laws.proofs.Tests.{both, same-eq}
-use Rattle.bd_laws.proofs.Sendings.{HasName, named-has}
-use Rattle.bd_laws.proofs.Checks.{actor-lives}
+use Rattle.bd_laws.proofs.words.Laws.{In}
+use Rattle.bd_laws.proofs.Lists.{in-left, in-push, in-last}
 use Rattle.bd_audit.specs.declared.gifts.Gift.{Gift}
 use Rattle.bd_audit.specs.Replays.{with_entry, beginning}
 use Rattle.bd_audit.specs.Gifts.{IsChainFrom, IsGiftChain, IsChainOf}
 use Rattle.bd_audit.specs.GiftSearch.{knows_after, giver_in, gift_made, receiver_at, receiver_of, AreReceivers, GivenBy, IsGift, BeginsAt, BeginsWith, IsGiftOf, HasGift, Follows, FollowAfter, AllGifts, AreGifts, IsWay, IsHolder}
-use Rattle.bd_audit.proofs.Beginnings.{after-append, one-next}
-use Rattle.bd_audit.proofs.NamesHaveGiftChains.Naming.{step-naming, has-number}
-use Rattle.bd_audit.proofs.NamesHaveGiftChains.NewNames.{ByHand, ByAsking}
-use Rattle.bd_audit.proofs.NamesHaveGiftChains.Chains.{stands-more, begins-more, here, sends, asks, owns-test, counted-objects, counted-references, counted-names, always-steps}
-use Rattle.bd_laws.proofs.Machine.Fields.{counted-buffers}
+use Rattle.bd_audit.proofs.Beginnings.{one-next}
 use Rattle.bd_audit.proofs.NamesHaveGiftChains.NameBegins.{named-knows, name-given, gift-more}
 
 -- ---- who receives at each entry

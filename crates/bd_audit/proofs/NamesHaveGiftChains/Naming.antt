@@ -1,17 +1,16 @@
 -- What a step's new names rest on.
-use Rattle.bd_laws.proofs.words.Logic.{◌≡◌, ◌-◌, ℕ, ◌+◌, ◌==◌, Bool, true, false, cond, not, ◌&&◌, List, [], ◌∷◌, ◌++◌, Option, Some, None, Ok, ◌⊎◌, inl, inr, refl, ap, sym, subst, ◌∙◌, map, filter, find, fold, is_some, option_map, eq-eqb}
-use Rattle.bd_laws.proofs.words.Types.{TransactionData, ObjectId, Parcel, Step, Thread, Actor, Frame, Object, Reference, Buffer, Asked, Carried, Name, Item, Work, OfThread, is_strong_kind}
-use Rattle.bd_laws.proofs.words.Space.{taken, list_to_read, same, Space, actor, reference_of, stays_in, objects_go, is_named_in, number_in, free_number, with_name, with_names, assign_numbers, names_go, owe, closed, ripen, follow, notify, work_goes, deaths_go, Delivery, delivered, buffer_of, own_notices, add_buffer, known_by, refer, make_objects, buffer_references, object_of_item, transaction_check, transacted, called, reply_check, replied, without_buffer, ask_check, ask, drop_asked, acknowledge, thread_goes, threads_go, without_process, tell_deaths, seat_of, read_by, change, with_thread, with_process, with_manager}
+use Rattle.bd_laws.proofs.words.Logic.{◌≡◌, ◌-◌, ℕ, ◌==◌, Bool, true, not, ◌&&◌, List, [], ◌∷◌, ◌++◌, Option, Some, None, Ok, ◌⊎◌, inl, inr, refl, ap, sym, subst, ◌∙◌, find, is_some, option_map, eq-eqb}
+use Rattle.bd_laws.proofs.words.Types.{TransactionData, ObjectId, Parcel, Step, Actor, Frame, Asked, Name, OfThread}
+use Rattle.bd_laws.proofs.words.Space.{taken, list_to_read, same, Space, actor, reference_of, number_in, assign_numbers, owe, closed, ripen, Delivery, delivered, transaction_check, transacted, called, reply_check, replied, without_buffer, ask_check, ask, drop_asked, acknowledge, thread_goes, threads_go, without_process, tell_deaths, read_by, change, with_thread, with_process, with_manager}
 use Rattle.bd_space.specs.declared.space.WorkKind.TheVariants as work
 use Rattle.bd_laws.specs.Lists.{In}
-use Rattle.bd_laws.proofs.Lists.{in-right, in-push, in-last, in-filter, filter-in, in-map, find-some}
-use Rattle.bd_laws.proofs.Tests.{both, and-both, not-true, eq-same}
+use Rattle.bd_laws.proofs.Lists.{in-filter, find-some}
+use Rattle.bd_laws.proofs.Tests.{and-both, eq-same}
 use Rattle.bd_laws.proofs.Machine.EveryEnding.{IsAsking}
 use Rattle.bd_laws.proofs.Machine.EveryStep.{Keeps, every_step}
 use Rattle.bd_laws.proofs.Machine.Untouched.{Untouched}
-use Rattle.bd_laws.proofs.Sendings.{Owns, HasName, Sent, Sends, sending-sends}
+use Rattle.bd_laws.proofs.Sendings.{HasName, sending-sends}
 use Rattle.bd_laws.proofs.Checks.{transaction-checked, reply-checked, asked-checked}
-use Rattle.bd_laws.proofs.Objects.{stays}
 use Rattle.bd_laws.proofs.KeptBefore.ObjectsKept.{closed-sends}
 use Rattle.bd_laws.proofs.Machine.Deaths.{on-mapped, on-commands}
 use Rattle.bd_laws.proofs.Machine.Untouched

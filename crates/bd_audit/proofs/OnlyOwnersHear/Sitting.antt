@@ -1,19 +1,16 @@
 -- A Notice stands where threads of the process that owns its object read it.
-use Rattle.bd_laws.proofs.words.Logic.{◌≡◌, ℕ, ◌==◌, Bool, true, false, cond, not, ◌&&◌, List, [], ◌∷◌, ◌++◌, Option, Some, None, Ok, inl, inr, refl, ap, sym, subst, ◌∙◌, filter, find, arith, list_any, eqb-true, eq-eqb}
-use Rattle.bd_laws.proofs.words.Types.{TransactionData, ObjectId, Parcel, Step, Entry, Process, Thread, Object, Reference, Frame, Turn, Actor, Item, Work, WorkKind, TodoList, OfThread, OfProcess, is_own}
-use Rattle.bd_laws.proofs.words.Space.{same, changed, Space, opening, thread_in, actor, object_in, objects_go, stays_in, names_go, assign_numbers, goes_to, closed, with_work, owe, is_on, same_list, notice_of, is_item, ripen, ripened, is_ripe, turns_of, with_notice, wants_notice, has_notice_in, still_due, work_goes, deaths_go, notify, follow, Delivery, delivered, own_notices, add_buffer, known_by, refer, make_objects, buffer_of, add_notice, withdraw_notice, transaction_check, transacted, called, call_out, reply_check, replied, without_buffer, ask, drop_asked, acknowledge, with_looping, read_by, told_of, is_told_by, thread_goes, threads_go, without_process, tell_deaths, change, counted, with_thread, with_process, with_manager, next}
+use Rattle.bd_laws.proofs.words.Logic.{◌≡◌, ℕ, ◌==◌, Bool, true, false, cond, not, List, [], ◌∷◌, ◌++◌, Some, inl, inr, refl, ap, sym, subst, ◌∙◌, filter, find, arith, list_any, eqb-true, eq-eqb}
+use Rattle.bd_laws.proofs.words.Types.{ObjectId, Step, Entry, Thread, Object, Reference, Turn, Work, TodoList, OfThread, OfProcess}
+use Rattle.bd_laws.proofs.words.Space.{changed, Space, opening, thread_in, objects_go, stays_in, names_go, assign_numbers, with_work, is_on, same_list, is_item, ripen, ripened, is_ripe, turns_of, with_notice, still_due, work_goes, deaths_go, notify, follow, without_buffer, ask, drop_asked, acknowledge, with_looping, read_by, told_of, is_told_by, thread_goes, threads_go, without_process, change, counted, with_thread, with_process, with_manager, next}
 use Rattle.bd_space.specs.declared.space.WorkKind.TheVariants as work
-use Rattle.bd_laws.proofs.words.Laws.{In, Pairs, Here, Differ, KeptBefore}
+use Rattle.bd_laws.proofs.words.Laws.{Pairs, Differ, KeptBefore}
 use Rattle.bd_laws.proofs.Earlier.{in_order-differ}
-use Rattle.bd_laws.proofs.Lists.{in-append, in-push, in-filter, in-changed, find-in, pairs-either, pairs-filter, fold-keeps}
-use Rattle.bd_laws.proofs.Tests.{same-eq}
+use Rattle.bd_laws.proofs.Lists.{in-push, in-filter, in-changed, pairs-either, pairs-filter, fold-keeps}
 use Rattle.bd_laws.proofs.Machine.EveryStep.{Keeps, every_step}
-use Rattle.bd_laws.proofs.Checks.{transaction-checked, reply-checked, actor-lives}
-use Rattle.bd_laws.proofs.Sendings.{Sends, sending-sends}
 use Rattle.bd_laws.proofs.Objects.{kept-step, step-kept, opening-kept, told-id}
-use Rattle.bd_laws.proofs.KeptBefore.ObjectsKept.{IsKept, IsKeptWhole, closed-before, closed-sends, delivered-kept}
-use Rattle.bd_laws.proofs.NothingIsPending.Noticing.{Noticing, closed-noticing, step-noticing, opening-noticing}
-use Rattle.bd_laws.proofs.Machine.Deaths.{KeptOnDeaths, on-kept, on-told, on-commands, commands-both}
+use Rattle.bd_laws.proofs.KeptBefore.ObjectsKept.{IsKept, IsKeptWhole}
+use Rattle.bd_laws.proofs.NothingIsPending.Noticing.{Noticing, step-noticing, opening-noticing}
+use Rattle.bd_laws.proofs.Machine.Deaths.{on-kept, on-commands, commands-both}
 use Rattle.bd_laws.proofs.Machine.Following.{threads-keep}
 use Rattle.bd_audit.proofs.OnlyOwnersHear.SittingSent.{Reaches, Sits, SitsIn, sits-other, owe-sits, sits-filter, sits-notice, transacted-sits, closed-sits, replied-sits, sits-on_deaths, tell_deaths-sits}
 

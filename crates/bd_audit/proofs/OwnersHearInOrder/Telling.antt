@@ -1,11 +1,11 @@
 -- What an owner was told of an object agrees with what it has heard of it.
-use Rattle.bd_laws.proofs.words.Logic.{◌≡◌, ℕ, ◌+◌, ◌≤◌, ◌==◌, Bool, true, false, cond, not, ◌&&◌, ◌||◌, List, [], ◌∷◌, ◌++◌, Option, Some, None, Ok, ◌⊎◌, inl, inr, refl, ap, sym, subst, ◌∙◌, filter, arith, eqb-true}
-use Rattle.bd_laws.proofs.words.Types.{TransactionData, ObjectId, Parcel, Step, Process, Actor, Frame, Object, Reference, Holder, Asked, Handshake, Manager, Item, OfThread}
-use Rattle.bd_laws.proofs.words.Space.{same, without_first, Space, lives_in, reference_of, held_in, owned_in, stays_in, objects_go, is_asking, is_asked_by, is_shaking, is_of_buffer, is_in_window, is_handshake, is_of_owner, buffer_of_holder, same_strength, names_go, assign_numbers, closed, owe, ripen, follow, notify, work_goes, deaths_go, Delivery, delivered, own_notices, add_buffer, known_by, refer, make_objects, buffer_references, transaction_check, transacted, called, reply_check, replied, ask, drop_asked, without_buffer, thread_goes, is_lost_reference, threads_go, without_process, is_dropped_with, with_thread, with_process, with_manager}
+use Rattle.bd_laws.proofs.words.Logic.{◌≡◌, ℕ, ◌+◌, ◌≤◌, ◌==◌, Bool, true, false, not, ◌&&◌, ◌||◌, List, [], ◌∷◌, Option, Some, None, Ok, inl, inr, refl, ap, sym, subst, ◌∙◌, filter, arith, eqb-true}
+use Rattle.bd_laws.proofs.words.Types.{TransactionData, ObjectId, Parcel, Step, Process, Actor, Frame, Object, Reference, Asked, Manager, Item, OfThread}
+use Rattle.bd_laws.proofs.words.Space.{same, Space, lives_in, reference_of, held_in, owned_in, stays_in, objects_go, is_asking, is_shaking, is_of_buffer, is_handshake, same_strength, names_go, assign_numbers, closed, owe, ripen, follow, notify, work_goes, deaths_go, Delivery, delivered, own_notices, add_buffer, known_by, refer, make_objects, buffer_references, transaction_check, transacted, called, reply_check, replied, ask, drop_asked, without_buffer, thread_goes, is_lost_reference, threads_go, without_process, is_dropped_with, with_thread, with_process, with_manager}
 use Rattle.bd_space.specs.declared.space.WorkKind.TheVariants as work
 use Rattle.bd_laws.proofs.words.Laws.{In, Pairs, Differ, KeptBefore, Before}
 use Rattle.bd_laws.proofs.Earlier.{in_order-differ}
-use Rattle.bd_laws.proofs.Lists.{in-left, in-append, in-push, in-last, in-filter, filter-in, without-in, any-found, any-in, pairs-either}
+use Rattle.bd_laws.proofs.Lists.{in-append, in-push, in-last, in-filter, any-found, any-in, pairs-either}
 use Rattle.bd_laws.proofs.Tests.{both, not-true, same-eq}
 use Rattle.bd_laws.proofs.Machine.EveryEnding.{IsReading, IsAcknowledging}
 use Rattle.bd_laws.proofs.Machine.EveryStep.{Keeps}
@@ -15,8 +15,8 @@ use Rattle.bd_laws.proofs.Sendings.{Sends, sending-sends}
 use Rattle.bd_laws.proofs.KeptBefore.ObjectsKept.{and-false, closed-before, closed-sends, later, threads_go-kept}
 use Rattle.bd_laws.proofs.Machine.Deaths.{on-mapped, on-commands}
 use Rattle.bd_laws.proofs.Machine.Following.{threads-keep}
-use Rattle.bd_audit.proofs.OwnersHearInOrder.Orders.{Hearing, unheard, weakly, strongly, ended}
-use Rattle.bd_audit.proofs.OwnersHearInOrder.Tallies.{tally, tally-more, tally-none, tally-filter, tally-without}
+use Rattle.bd_audit.proofs.OwnersHearInOrder.Orders.{Hearing, unheard, ended}
+use Rattle.bd_audit.proofs.OwnersHearInOrder.Tallies.{tally-none}
 use Rattle.bd_audit.proofs.OwnersHearInOrder.Tracking.{is_weak, is_strong, waits, number, shaken, Tells, Tracks, HeardBefore, shaking-parts, own-unasked, own-window, own-buffer, Same, tells-same, same-more, same-filter, same-without}
 
 -- ---- parts of a step

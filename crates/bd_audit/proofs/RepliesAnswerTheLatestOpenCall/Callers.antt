@@ -15,10 +15,7 @@ use Rattle.bd_audit.proofs.RepliesReachTheirCallers.Answering.{always-traced}
 use Rattle.bd_audit.proofs.RepliesReachTheirCallers.Traces.{Called, actor-made}
 use Rattle.bd_audit.proofs.RepliesReachTheirCallers.ReplyLaw.{stood, placed}
 use Rattle.bd_audit.proofs.RepliesReachTheirCallers.Places.{between}
-use Rattle.bd_audit.proofs.Seated as seated
 use Rattle.bd_audit.proofs.Seated.{seat_at, always-seated, made-pushed, made-before, other-left}
-use Rattle.bd_laws.proofs.OnPaths.Paths as path
-use Rattle.bd_laws.proofs.OnPaths.PathCalls as path_call
 use Rattle.bd_laws.proofs.Machine.Fields.{owe-frames, sent-steps, sent-frames, sent-threads, owe-threads}
 
 abbrev pub HasCallers : List Entry → Space → Type 0

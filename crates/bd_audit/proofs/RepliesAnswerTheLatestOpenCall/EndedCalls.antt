@@ -1,16 +1,14 @@
 -- Each call of a thread that lives is open, or was answered: what its thread is told of that stands on the thread's list
 -- until it is read.
-use Rattle.bd_laws.proofs.words.Logic.{◌≡◌, ℕ, zero, suc, ◌+◌, ◌<◌, ◌-◌, ◌==◌, Bool, true, false, cond, not, ◌&&◌, List, [], ◌∷◌, ◌++◌, length, length-append, Option, Some, None, Ok, Err, Result, ◌⊎◌, inl, inr, refl, ap, sym, subst, ◌∙◌, filter, arith, list_any, find, is_none, eqb-true, eq-eqb, cases_lt}
-use Rattle.bd_laws.proofs.words.Types.{TransactionData, DeadReply, FailedReply, TransactionComplete, Cause, Parcel, Command, Read, Accepted, Entry, Thread, Work, Frame, Actor, TodoList, OfThread, OfProcess, WorkKind}
-use Rattle.bd_laws.proofs.words.Space.{Space, opening, actor, closed, is_frame, is_gone, is_deepest_in, innermost_in, served_innermost, owe, is_on, is_item, is_call, same_list, list_to_read, work_on, has_work_in, ripen, follow, notify, work_goes, deaths_go, names_go, assign_numbers, objects_go, settle, settle_one, settle_times, is_abandoned, Delivery, delivered, completed, transaction_step, transaction_outcome, transaction_check, transacted, called, call_out, is_one_way, refusal, replied, reply_refused, without_buffer, ask, drop_asked, acknowledge, command_step, with_looping, read_by, taken, serve, read_fault, change, counted, by_actor, with_process, with_manager, after}
-use Rattle.bd_uapi.specs.declared.command.Command.TheVariants as bc
+use Rattle.bd_laws.proofs.words.Logic.{◌≡◌, ℕ, ◌+◌, ◌<◌, ◌-◌, ◌==◌, Bool, true, false, cond, not, List, [], ◌∷◌, ◌++◌, length, length-append, Some, None, ◌⊎◌, inl, inr, refl, ap, sym, subst, ◌∙◌, arith, list_any, find, eqb-true, eq-eqb, cases_lt}
+use Rattle.bd_laws.proofs.words.Types.{TransactionData, DeadReply, FailedReply, TransactionComplete, Read, Entry, Work, Frame, Actor, TodoList, OfThread, OfProcess}
+use Rattle.bd_laws.proofs.words.Space.{Space, opening, actor, closed, is_frame, is_deepest_in, served_innermost, owe, is_on, is_item, is_call, same_list, list_to_read, ripen, follow, is_abandoned, Delivery, delivered, refusal, replied, reply_refused, read_by, taken, serve, read_fault, change, counted, after}
 use Rattle.bd_space.specs.declared.space.WorkKind.TheVariants as work
 use Rattle.bd_laws.specs.Lists.{In}
 use Rattle.bd_laws.proofs.Machine.EveryStep.{KeepsWhole, whole, keeps-both, every_whole_step}
 use Rattle.bd_laws.proofs.Machine.Table.{Any, set_up-by, changes-by, ripen-by, followed-by}
-use Rattle.bd_laws.proofs.Lists.{in-last, in-push, in-filter, filter-in, changed-in, find-in, any-found, any-in, by-last}
+use Rattle.bd_laws.proofs.Lists.{in-filter, filter-in, changed-in, find-in, any-found, any-in, by-last}
 use Rattle.bd_laws.proofs.Tests.{both, and-both, not-false}
-use Rattle.bd_laws.proofs.Checks.{transaction-checked}
 use Rattle.bd_laws.proofs.IsInTurn.Ripening.{read-in}
 use Rattle.bd_laws.proofs.ItemsAreToldApart.Identities.{item-id}
 use Rattle.bd_laws.proofs.OnPaths.PathWords.{served-is}
@@ -18,19 +16,15 @@ use Rattle.bd_audit.specs.Replies.{made_in, thread_made, items_taken, Calls, At}
 use Rattle.bd_audit.specs.Latest.{Closes, ReadsAnswer, is_answer, is_answer_of}
 use Rattle.bd_audit.proofs.Beginnings.{after-append}
 use Rattle.bd_audit.proofs.NamesHaveGiftChains.Chains.{always-steps}
-use Rattle.bd_laws.proofs.IsInTurn.Ripening as read
 use Rattle.bd_audit.proofs.RepliesReachTheirCallers.Answering.{absent, closed-absent, always-traced, takes-items}
 use Rattle.bd_audit.proofs.RepliesReachTheirCallers.Traces.{Called, at-more, at-here, at-below, actor-made}
 use Rattle.bd_audit.proofs.RepliesReachTheirCallers.ReplyLaw.{NoFrame, stood, placed}
-use Rattle.bd_audit.proofs.Seated as seated
 use Rattle.bd_audit.proofs.Seated.{always-seated}
-use Rattle.bd_laws.proofs.OnPaths.Paths as path
-use Rattle.bd_laws.proofs.OnPaths.PathCalls as path_call
 use Rattle.bd_audit.proofs.RepliesAnswerTheLatestOpenCall.Callers as callers
 use Rattle.bd_audit.proofs.RepliesAnswerTheLatestOpenCall.Callers.{HasCallers, always-callers, called-before, seat-below}
 use Rattle.bd_audit.proofs.RepliesAnswerTheLatestOpenCall.Lined.{always-lined}
 use Rattle.bd_audit.proofs.RepliesAnswerTheLatestOpenCall.Unread.{Holds, Leaves, leaves_table, leaves_exits, holds-trans, holds-owe, sent-holds, transacted-leaves}
-use Rattle.bd_laws.proofs.Machine.Fields.{owe-steps, owe-frames, sent-steps, sent-frames, sent-threads, owe-threads}
+use Rattle.bd_laws.proofs.Machine.Fields.{sent-steps, sent-frames, sent-threads}
 use Rattle.bd_audit.proofs.RepliesAnswerTheLatestOpenCall.OpenCalls.{StandsIn, Waits, WasRead, Answered, was-more, holds-waits, told, told-frames, told-threads, told-steps, told-holds, told-waits, called-stands, read-on}
 
 -- ---- one step

@@ -1,17 +1,12 @@
 -- Work items stand in the order in which they were made: one item more, items that go, deliveries.
-use Rattle.bd_laws.proofs.words.Logic.{◌≡◌, ℕ, suc, ◌-◌, ◌<◌, ◌≤◌, ◌==◌, Bool, true, false, cond, not, ◌&&◌, List, Option, Some, None, ◌⊎◌, inl, inr, refl, ap, sym, ◌∙◌, filter, arith, fold, list_any, eqb-true}
-use Rattle.bd_laws.proofs.words.Types.{TransactionData, Step, Entry, Object, Process, Reference, Work, Item, Frame, Actor, Identity, DeathNotification, Queued, TodoList, OfThread, OfProcess, WorkKind, is_own}
-use Rattle.bd_laws.proofs.words.Space.{Space, opening, with_work, owe, is_on, notice_of, death_of, list_to_read, is_item, ripen, with_notice, follow, notify, work_goes, deaths_go, still_due, names_go, assign_numbers, objects_go, object_in, owned_in, closed, goes_to, Delivery, delivered, own_notices, add_buffer, known_by, refer, make_objects, buffer_of, add_notice, withdraw_notice, transacted, called, call_out, replied, without_buffer, read_by, taken, thread_goes, threads_go, without_process, tell_death, tell_deaths, is_armed, counted, with_thread, with_process, with_manager, ask, drop_asked, acknowledge, with_looping, with_phase, after, next}
+use Rattle.bd_laws.proofs.words.Logic.{◌≡◌, ℕ, suc, ◌<◌, ◌≤◌, ◌==◌, Bool, true, false, cond, List, Option, Some, None, ◌⊎◌, inl, inr, refl, ap, sym, ◌∙◌, filter, arith, fold, eqb-true}
+use Rattle.bd_laws.proofs.words.Types.{TransactionData, Object, Process, Reference, Work, Item, Frame, Actor, Identity, TodoList, OfThread, OfProcess, WorkKind, is_own}
+use Rattle.bd_laws.proofs.words.Space.{Space, with_work, owe, notice_of, death_of, with_notice, assign_numbers, object_in, closed, goes_to, Delivery, delivered, own_notices, add_buffer, known_by, refer, make_objects, buffer_of, add_notice, withdraw_notice, transacted, called, call_out, replied}
 use Rattle.bd_space.specs.declared.space.WorkKind.TheVariants as work
 use Rattle.bd_laws.specs.Lists.{In, Pairs}
-use Rattle.bd_laws.proofs.Machine.Deaths.{on-commands, either as chosen}
-use Rattle.bd_laws.proofs.Machine.EveryStep.{Keeps, every_step, every_list}
 use Rattle.bd_laws.proofs.Lists.{in-push, in-filter, pairs-push, pairs-filter, fold-keeps}
 use Rattle.bd_laws.proofs.ItemsAreToldApart.Identities.{count_at, count-filter, count-work}
-use Rattle.bd_laws.proofs.Machine.Adding.{notify-keeps, ripen-keeps}
-use Rattle.bd_laws.proofs.Machine.Following.{threads-keep}
 use Rattle.bd_audit.proofs.RepliesReachTheirCallers.RepliesDue.{Lasts, wanted-push, items-fresh}
-use Rattle.bd_audit.proofs.RepliesReachTheirCallers.Owed.{wanted-due}
 
 -- no later item was made before
 abbrev pub NotLater : Work → Work → Type 0

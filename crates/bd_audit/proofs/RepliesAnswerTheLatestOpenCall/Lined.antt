@@ -1,16 +1,14 @@
 -- Work items stand in the order in which they were made, and on threads' own lists an identity names one item.
-use Rattle.bd_laws.proofs.words.Logic.{◌≡◌, ℕ, suc, ◌-◌, ◌<◌, ◌≤◌, ◌==◌, Bool, true, false, cond, not, ◌&&◌, List, Option, Some, None, ◌⊎◌, inl, inr, refl, ap, sym, ◌∙◌, filter, arith, fold, list_any, eqb-true}
-use Rattle.bd_laws.proofs.words.Types.{TransactionData, Step, Entry, Object, Process, Reference, Work, Item, Frame, Actor, Identity, DeathNotification, Queued, TodoList, OfThread, OfProcess, WorkKind, is_own}
-use Rattle.bd_laws.proofs.words.Space.{Space, opening, with_work, owe, is_on, notice_of, death_of, list_to_read, is_item, ripen, with_notice, follow, notify, work_goes, deaths_go, still_due, names_go, assign_numbers, objects_go, object_in, owned_in, closed, goes_to, Delivery, delivered, own_notices, add_buffer, known_by, refer, make_objects, buffer_of, add_notice, withdraw_notice, transacted, called, call_out, replied, without_buffer, read_by, taken, thread_goes, threads_go, without_process, tell_death, tell_deaths, is_armed, counted, with_thread, with_process, with_manager, ask, drop_asked, acknowledge, with_looping, with_phase, after, next}
+use Rattle.bd_laws.proofs.words.Logic.{ℕ, ◌-◌, Bool, not, ◌&&◌, List, inl, inr, refl, filter, list_any}
+use Rattle.bd_laws.proofs.words.Types.{Step, Entry, Work, DeathNotification, Queued, TodoList, OfThread, OfProcess, WorkKind}
+use Rattle.bd_laws.proofs.words.Space.{Space, opening, owe, is_on, list_to_read, is_item, ripen, follow, notify, work_goes, deaths_go, still_due, names_go, assign_numbers, objects_go, owned_in, closed, transacted, replied, without_buffer, read_by, taken, thread_goes, threads_go, without_process, tell_death, tell_deaths, is_armed, counted, with_thread, with_process, with_manager, ask, drop_asked, acknowledge, with_looping, with_phase, after, next}
 use Rattle.bd_space.specs.declared.space.WorkKind.TheVariants as work
-use Rattle.bd_laws.specs.Lists.{In, Pairs}
 use Rattle.bd_laws.proofs.Machine.Deaths.{on-commands, either as chosen}
 use Rattle.bd_laws.proofs.Machine.EveryStep.{Keeps, every_step, every_list}
-use Rattle.bd_laws.proofs.Lists.{in-push, in-filter, pairs-push, pairs-filter, fold-keeps}
-use Rattle.bd_laws.proofs.ItemsAreToldApart.Identities.{count_at, count-filter, count-work}
+use Rattle.bd_laws.proofs.Lists.{fold-keeps}
 use Rattle.bd_laws.proofs.Machine.Adding.{notify-keeps, ripen-keeps}
 use Rattle.bd_laws.proofs.Machine.Following.{threads-keep}
-use Rattle.bd_audit.proofs.RepliesReachTheirCallers.RepliesDue.{Lasts, wanted-push, items-fresh}
+use Rattle.bd_audit.proofs.RepliesReachTheirCallers.RepliesDue.{wanted-push}
 use Rattle.bd_audit.proofs.RepliesReachTheirCallers.Owed.{wanted-due}
 use Rattle.bd_audit.proofs.RepliesAnswerTheLatestOpenCall.InLine.{Lined, Line, Bare, push-line, push-bare, filter-line, filter-bare, InLine, Begun, Plain, Stands, plain-stands, sent-stands, begun-plain, lined-begun, owe-plain, owe-sent, begun-sent, transacted-sent, replied-sent}
 

@@ -1,7 +1,7 @@
 -- Parts of a step that make no reply or verdict.
 use Rattle.bd_laws.proofs.words.Logic.{◌≡◌, ℕ, Bool, true, false, not, List, [], ◌∷◌, ◌++◌, inl, inr, refl, ap, sym, ◌∙◌, filter, list_any}
-use Rattle.bd_laws.proofs.words.Types.{TransactionData, Work, Item, Actor, TodoList, OfThread, OfProcess, WorkKind}
-use Rattle.bd_laws.proofs.words.Space.{Space, with_work, owe, is_on, is_item, is_notice, ripen, follow, notify, work_goes, deaths_go, still_due, names_go, assign_numbers, objects_go, goes_to, Delivery, delivered, own_notices, add_buffer, known_by, refer, make_objects, buffer_of, transacted, called, call_out, read_by, thread_goes, threads_go, without_process, tell_deaths}
+use Rattle.bd_laws.proofs.words.Types.{TransactionData, Work, Actor, OfThread, WorkKind}
+use Rattle.bd_laws.proofs.words.Space.{Space, owe, is_item, Delivery, delivered, add_buffer, transacted, call_out, read_by}
 use Rattle.bd_space.specs.declared.space.WorkKind.TheVariants as work
 use Rattle.bd_laws.specs.Lists.{In}
 use Rattle.bd_laws.proofs.Lists.{in-push, in-filter}

@@ -2,7 +2,7 @@
 -- stays open through a step, so that a step closes one of them at most.
 use Rattle.bd_laws.proofs.words.Logic.{◌≡◌, ℕ, ◌<◌, ◌-◌, Bool, true, false, cond, not, List, [], ◌∷◌, ◌++◌, Option, Some, None, ◌⊎◌, inl, inr, refl, ap, sym, subst, ◌∙◌, arith, list_any, find, cases_lt}
 use Rattle.bd_laws.proofs.words.Types.{TransactionData, DeadReply, FailedReply, TransactionComplete, Entry, Work, Frame, Actor, Pending, OfThread, WorkKind}
-use Rattle.bd_laws.proofs.words.Space.{Space, opening, closed, is_frame, is_gone, is_child_of, is_deepest_in, served_innermost, owe, tell_caller, is_call, list_to_read, ripen, follow, notify, work_goes, deaths_go, names_go, assign_numbers, objects_go, is_abandoned, Delivery, delivered, transacted, called, call_out, refusal, replied, reply_refused, without_buffer, ask, drop_asked, acknowledge, with_looping, read_by, taken, serve, thread_goes, threads_go, without_process, tell_deaths, counted, with_thread, with_process, with_manager, after}
+use Rattle.bd_laws.proofs.words.Space.{Space, opening, closed, is_frame, is_gone, is_child_of, is_deepest_in, served_innermost, owe, tell_caller, is_call, list_to_read, ripen, follow, notify, work_goes, deaths_go, names_go, objects_go, is_abandoned, Delivery, delivered, transacted, called, call_out, refusal, replied, reply_refused, read_by, taken, serve, counted, after}
 use Rattle.bd_space.specs.declared.space.WorkKind.TheVariants as work
 use Rattle.bd_laws.proofs.words.Laws.{In, OnPaths}
 use Rattle.bd_laws.proofs.Machine.EveryStep.{KeepsWhole, whole, keeps-both, keeps-alone, every_whole_step}
@@ -18,7 +18,6 @@ use Rattle.bd_audit.proofs.RepliesReachTheirCallers.Quiet.{Quiet, NotReply, quie
 use Rattle.bd_audit.proofs.RepliesReachTheirCallers.Answering as answering
 use Rattle.bd_audit.proofs.RepliesReachTheirCallers.Answering.{closed-absent, always-traced}
 use Rattle.bd_audit.proofs.RepliesReachTheirCallers.Traces.{Traced}
-use Rattle.bd_laws.proofs.OnPaths.PathCalls as path_call
 use Rattle.bd_audit.proofs.RepliesAnswerTheLatestOpenCall.Lined.{always-lined}
 use Rattle.bd_audit.proofs.RepliesAnswerTheLatestOpenCall.Unread.{transacted-leaves}
 use Rattle.bd_audit.proofs.CallsEndLatestFirst.StaysOpen as latest_parts

@@ -1,7 +1,7 @@
 -- What a step leaves as it was: the frames, the threads, and what threads are still to read of their own calls.
-use Rattle.bd_laws.proofs.words.Logic.{◌≡◌, ℕ, ◌<◌, ◌==◌, Bool, true, false, not, List, [], ◌∷◌, ◌++◌, map, Some, ◌⊎◌, inl, inr, refl, ap, sym, subst, ◌∙◌, filter, arith, fold, eqb-true}
-use Rattle.bd_laws.proofs.words.Types.{TransactionData, ObjectId, Process, Object, Reference, Thread, Work, Item, Frame, Actor, DeathNotification, TodoList, OfThread, OfProcess, WorkKind}
-use Rattle.bd_laws.proofs.words.Space.{with_looping, without_buffer, Space, with_work, owe, is_on, is_notice, same_list, ripen, follow, notify, work_goes, deaths_go, still_due, names_go, assign_numbers, objects_go, Delivery, delivered, own_notices, add_buffer, known_by, refer, make_objects, buffer_of, transacted, called, call_out, thread_goes, frame_without, unread_frame, threads_go, without_process, tell_deaths, seat_of, with_thread}
+use Rattle.bd_laws.proofs.words.Logic.{◌≡◌, ℕ, ◌<◌, ◌==◌, Bool, true, false, not, List, [], ◌∷◌, ◌++◌, Some, ◌⊎◌, inl, inr, refl, ap, sym, subst, ◌∙◌, filter, arith, eqb-true}
+use Rattle.bd_laws.proofs.words.Types.{TransactionData, ObjectId, Process, Object, Reference, Thread, Work, Frame, Actor, DeathNotification, TodoList, OfThread, OfProcess, WorkKind}
+use Rattle.bd_laws.proofs.words.Space.{with_looping, without_buffer, Space, owe, is_on, is_notice, same_list, work_goes, still_due, Delivery, delivered, add_buffer, transacted, call_out, thread_goes, frame_without, unread_frame, without_process, with_thread}
 use Rattle.bd_space.specs.declared.space.WorkKind.TheVariants as work
 use Rattle.bd_laws.specs.Lists.{In}
 use Rattle.bd_laws.proofs.Lists.{in-left, in-push, in-map, map-in, filter-in}

@@ -1,27 +1,15 @@
 -- Each reply that is due has its buffer, through transactions and replies.
-use Rattle.bd_laws.proofs.words.Logic.{◌≡◌, ℕ, suc, ◌-◌, ◌==◌, Bool, true, false, cond, not, ◌&&◌, List, [], ◌∷◌, ◌++◌, Option, Some, None, Ok, inl, inr, refl, ap, sym, subst, ◌∙◌, map, filter, arith, fold, list_any, option_and_then, eqb-true, eq-eqb}
-use Rattle.bd_laws.proofs.words.Types.{TransactionData, Parcel, Step, Entry, Process, Thread, Buffer, Frame, Turn, Work, Actor, TodoList, OfThread, OfProcess, WorkKind}
-use Rattle.bd_laws.proofs.words.Space.{changed, is_some_and, Space, opening, actor, with_work, owe, is_on, same_list, is_item, hands_out, list_to_read, turn_of, turns_of, ripen, ripened, is_ripe, follow, notify, work_goes, deaths_go, names_go, assign_numbers, objects_go, closed, goes_to, Delivery, delivered, own_notices, add_buffer, known_by, refer, make_objects, buffer_of, transacted, called, call_out, caller_of, reply_check, replied, without_buffer, is_made_at, buffer_at_pointer, is_buffer_at, taken, read_by, buffer_taken, handed_buffers, hand_out, thread_goes, is_lost_with, threads_go, without_process, tell_deaths, seat_of, counted, with_thread, with_process, with_manager, ask, drop_asked, acknowledge, with_looping, after, next}
+use Rattle.bd_laws.proofs.words.Logic.{◌≡◌, ℕ, ◌==◌, Bool, true, false, List, [], ◌∷◌, ◌++◌, Option, Some, None, Ok, inl, inr, refl, ap, sym, subst, ◌∙◌, arith, eqb-true}
+use Rattle.bd_laws.proofs.words.Types.{TransactionData, Parcel, Process, Thread, Buffer, Frame, Work, Actor, TodoList, OfThread, WorkKind}
+use Rattle.bd_laws.proofs.words.Space.{Space, actor, with_work, owe, hands_out, assign_numbers, closed, goes_to, Delivery, delivered, own_notices, add_buffer, known_by, refer, make_objects, buffer_of, transacted, called, call_out, reply_check, replied}
 use Rattle.bd_space.specs.declared.space.WorkKind.TheVariants as work
 use Rattle.bd_links.specs.TodoList.{reply_of}
 use Rattle.bd_laws.proofs.words.Laws.{In, IsInTurn}
-use Rattle.bd_laws.proofs.Machine.EveryStep.{Keeps, every_step, every_list}
-use Rattle.bd_laws.proofs.IsInTurn.Received.{one-made}
-use Rattle.bd_laws.proofs.Lists.{in-left, in-last, in-push, in-filter, filter-in, in-filter_map, changed-in, map-in, any-found, any-in, find-in, fold-keeps}
-use Rattle.bd_laws.proofs.Tests.{both, not-true}
+use Rattle.bd_laws.proofs.Lists.{in-left, in-last, in-push, find-in}
 use Rattle.bd_laws.proofs.Checks.{actor-lives, reply-checked}
 use Rattle.bd_laws.proofs.IsInTurn.OneWay.{Less, owe-less, own_notices-less}
-use Rattle.bd_laws.proofs.IsInTurn.InTurn.{Turning, opening-in_turn}
-use Rattle.bd_laws.proofs.IsInTurn.Ripening.{taken-due, read-in, turn-parts}
-use Rattle.bd_laws.proofs.OnPaths.PathWords.{same-item}
-use Rattle.bd_laws.proofs.Machine.Deaths.{tell_deaths-aside, on-mapped, on-both, on-commands, commands-both, on_deaths-aside}
-use Rattle.bd_laws.proofs.IsInTurn.OneWay as one_way
-use Rattle.bd_laws.proofs.IsInTurn.InTurn as turn
-use Rattle.bd_laws.proofs.OnPaths.PathCalls as path_call
-use Rattle.bd_audit.proofs.Seated as seated
 use Rattle.bd_laws.proofs.Machine.Fields.{closed-steps, closed-threads, owe-buffers, sent-steps, sent-threads, owe-threads}
 use Rattle.bd_laws.proofs.AtHome.HomesSent.{caller-acts}
-use Rattle.bd_laws.proofs.IsInTurn.Passing.{at_pointer-in}
 
 -- the buffer of the reply made at b, which stands on this list: one of a thread of the process that receives it
 pub record HasBuffer (threads : List Thread) (buffers : List Buffer) (list : TodoList) (b : ℕ) : Type 0 where

@@ -1,16 +1,13 @@
 -- What a refusal or a verdict tells its reader is never a BR_REPLY.
-use Rattle.bd_laws.proofs.words.Logic.{◌≡◌, ℕ, ◌-◌, Bool, true, false, cond, not, List, [], ◌∷◌, ◌++◌, Option, Some, None, inl, inr, refl, ap, sym, ◌∙◌, filter, list_any}
-use Rattle.bd_laws.proofs.words.Types.{TransactionData, DeadReply, FailedReply, TransactionComplete, Cause, Step, Entry, Frame, Work, Actor, TodoList, OfThread, OfProcess, WorkKind}
-use Rattle.bd_laws.proofs.words.Space.{Space, opening, with_work, owe, is_on, is_notice, is_item, list_to_read, ripen, follow, notify, work_goes, deaths_go, still_due, names_go, assign_numbers, objects_go, closed, goes_to, Delivery, delivered, own_notices, add_buffer, known_by, refer, make_objects, buffer_of, transacted, called, call_out, refusal, replied, reply_refused, without_buffer, taken, read_by, thread_goes, threads_go, without_process, tell_deaths, counted, ask, drop_asked, acknowledge, with_looping, after, next}
+use Rattle.bd_laws.proofs.words.Logic.{◌≡◌, ℕ, Bool, true, not, List, [], ◌∷◌, ◌++◌, Option, Some, None, inl, inr, refl, ap, sym, ◌∙◌}
+use Rattle.bd_laws.proofs.words.Types.{TransactionData, DeadReply, FailedReply, TransactionComplete, Cause, Step, Entry, Frame, Work, Actor, OfThread, WorkKind}
+use Rattle.bd_laws.proofs.words.Space.{Space, opening, owe, closed, Delivery, delivered, add_buffer, transacted, call_out, refusal, replied, reply_refused, read_by, counted, after, next}
 use Rattle.bd_uapi.specs.declared.fault.Cause.TheVariants as cause
 use Rattle.bd_space.specs.declared.space.WorkKind.TheVariants as work
 use Rattle.bd_laws.specs.Lists.{In}
-use Rattle.bd_laws.proofs.Machine.EveryEnding.{set_up-beside}
 use Rattle.bd_laws.proofs.Machine.EveryStep.{KeepsWhole, every_whole_step, every_list}
 use Rattle.bd_laws.proofs.Lists.{in-push, in-filter}
-use Rattle.bd_laws.proofs.Machine.Deaths.{KeptOnDeaths, on-kept, on-told, on-commands}
-use Rattle.bd_laws.proofs.Machine.Adding.{told-keeps, notify-keeps, own_notices-keeps, ripen-keeps}
-use Rattle.bd_laws.proofs.Machine.Following.{threads-keep}
+use Rattle.bd_laws.proofs.Machine.Adding.{told-keeps}
 use Rattle.bd_audit.specs.HandedReplies.{is_reply}
 use Rattle.bd_laws.proofs.Machine.Table.{Table, Listing, Between, listing_table, listing_exits, set_up-by, changes-by, sent-by, transacted-by, ripen-by, followed-by}
 

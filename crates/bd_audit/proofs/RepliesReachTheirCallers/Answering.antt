@@ -1,23 +1,20 @@
 -- What the frames of a history and the replies that are due have behind them.
-use Rattle.bd_laws.proofs.words.Logic.{◌≡◌, ℕ, zero, suc, ◌<◌, ◌+◌, ◌-◌, ◌==◌, Bool, true, false, cond, not, List, [], ◌∷◌, ◌++◌, length, Option, Some, None, Ok, inl, inr, refl, ap, sym, subst, ◌∙◌, append_assoc, length-append, arith, list_any, find, option_map, eqb-true, eq-eqb}
-use Rattle.bd_laws.proofs.words.Types.{TransactionData, Return, DeadReply, Parcel, Command, Read, Accepted, Entry, Thread, Work, Frame, Actor, Pending, Serving, TodoList, OfThread, WorkKind}
-use Rattle.bd_laws.proofs.words.Space.{Space, opening, actor, owe, is_call, list_to_read, is_item, closed, goes_to, is_frame, innermost, innermost_in, served_innermost, made_of, is_deepest_in, ripen, follow, settle, settle_one, settle_times, is_abandoned, Delivery, delivered, own_notices, add_buffer, known_by, refer, make_objects, assign_numbers, completed, transaction_step, transaction_outcome, transaction_check, transacted, called, call_out, is_one_way, reply_step, reply_to, reply_outcome, reply_check, replied, command_step, taken, read_by, serve, served_frames, read_fault, change, counted, by_actor, after, next}
+use Rattle.bd_laws.proofs.words.Logic.{◌≡◌, ℕ, ◌<◌, ◌-◌, Bool, true, false, cond, not, List, [], ◌∷◌, ◌++◌, length, Option, Some, None, Ok, refl, ap, sym, subst, ◌∙◌, length-append, arith, list_any, option_map, eqb-true, eq-eqb}
+use Rattle.bd_laws.proofs.words.Types.{TransactionData, Parcel, Command, Read, Entry, Work, Frame, Actor, Serving, OfThread}
+use Rattle.bd_laws.proofs.words.Space.{Space, opening, actor, owe, is_call, list_to_read, is_item, closed, is_frame, innermost, innermost_in, served_innermost, made_of, is_deepest_in, ripen, Delivery, delivered, completed, transaction_check, transacted, called, is_one_way, reply_check, replied, taken, read_by, serve, served_frames, read_fault, change, counted, after, next}
 use Rattle.bd_uapi.specs.declared.command.Command.TheVariants as bc
 use Rattle.bd_space.specs.declared.space.WorkKind.TheVariants as work
-use Rattle.bd_links.specs.TodoList.{reply_of}
 use Rattle.bd_laws.specs.Lists.{In}
 use Rattle.bd_laws.proofs.Machine.EveryStep.{Keeps, every_step}
-use Rattle.bd_laws.proofs.Lists.{in-push, in-filter, in-changed, find-in, any-found, by-last}
+use Rattle.bd_laws.proofs.Lists.{in-filter, in-changed, find-in, any-found, by-last}
 use Rattle.bd_laws.proofs.Tests.{not-true}
-use Rattle.bd_laws.proofs.Checks.{actor-lives, transaction-checked}
-use Rattle.bd_laws.proofs.Machine.Deaths.{on-mapped, on-commands}
+use Rattle.bd_laws.proofs.Checks.{transaction-checked}
 use Rattle.bd_laws.proofs.OnPaths.PathWords.{served-is}
-use Rattle.bd_audit.specs.Replies.{made_in, thread_made, items_read, items_taken, items_unless, frame_of, Calls, TakesCall, AnswersCall, At}
+use Rattle.bd_audit.specs.Replies.{made_in, thread_made, items_read, items_taken, items_unless, frame_of, Calls, TakesCall, AnswersCall}
 use Rattle.bd_audit.proofs.Beginnings.{after-append}
 use Rattle.bd_audit.proofs.NamesHaveGiftChains.Chains.{always-steps}
-use Rattle.bd_audit.proofs.RepliesReachTheirCallers.Quiet as quiet
 use Rattle.bd_laws.proofs.Machine.Table.{keeps-by}
-use Rattle.bd_audit.proofs.RepliesReachTheirCallers.Quiet.{sent-quiet, completed-quiet, NotReply, quiet_table, quiet_exits, quiet_closes, Quiet, with_work-quiet, quiet-trans}
+use Rattle.bd_audit.proofs.RepliesReachTheirCallers.Quiet.{sent-quiet, ripen-quiet, completed-quiet, NotReply, quiet_table, quiet_exits, quiet_closes, Quiet, with_work-quiet, quiet-trans}
 use Rattle.bd_laws.proofs.Machine.Fields.{closed-threads, serve-made, owe-threads}
 use Rattle.bd_audit.proofs.RepliesReachTheirCallers.Traces.{at-more, at-here, at-below, Called, Handed, Answers, Traced, traced-more, traced-quiet, transaction-accepted, reply-accepted, reply-space, actor-made, delivered-threads, framed, answering}
 
@@ -220,7 +217,7 @@ module _ (es : List Entry) (e : Entry) (h : Traced es (after opening es)) where
     transacts = λ a d parcel v x i t. transacted-traced a i d parcel v x t;
     replies = λ a d parcel f v x i g t. replied-traced a i d parcel f v x g t;
     reads = λ a limit i x n. read-traced a i limit x n;
-    ripens = λ z. traced-quiet more (ripen z) z (quiet.ripen-quiet z);
+    ripens = λ z. traced-quiet more (ripen z) z (ripen-quiet z);
   })
 
   counted-traced : (z : Space) → Traced more z → Traced more (counted z)

@@ -1,33 +1,26 @@
 -- A call is handed out once: of each call that is due there is one item, and after that is taken none comes.
-use Rattle.bd_laws.proofs.words.Logic.{◌≡◌, ℕ, suc, ◌-◌, ◌<◌, Bool, true, false, cond, not, List, [], ◌∷◌, ◌++◌, Option, Some, None, ◌⊎◌, inl, inr, refl, ap, sym, subst, ◌∙◌, arith, list_any, eqb-true}
-use Rattle.bd_laws.proofs.words.Types.{TransactionData, Fault, ObjectId, Step, Command, Read, Entry, Actor, Buffer, Frame, Turn, Work, OfThread, OfProcess}
-use Rattle.bd_laws.proofs.words.Space.{same, Space, opening, actor, owe, with_work, is_call, is_item, list_to_read, closed, turn_of, turns_of, is_ripe, ripened, ripen, follow, assign_numbers, Delivery, delivered, own_notices, add_buffer, known_by, refer, make_objects, buffer_of, transacted, called, call_out, is_one_way, replied, Outcome, refused, taken, read_by, read_fault, read_step, read_taking, change, counted, by_actor, after, next}
+use Rattle.bd_laws.proofs.words.Logic.{◌≡◌, ℕ, suc, ◌-◌, ◌<◌, Bool, true, not, List, [], ◌∷◌, Option, Some, None, inl, inr, refl, ap, sym, subst, ◌∙◌, arith, list_any}
+use Rattle.bd_laws.proofs.words.Types.{Fault, Step, Command, Read, Entry, Actor, Work}
+use Rattle.bd_laws.proofs.words.Space.{Space, opening, actor, is_call, is_item, list_to_read, is_one_way, Outcome, refused, taken, read_by, read_fault, read_step, read_taking, change, counted, by_actor, after, next}
 use Rattle.bd_uapi.specs.declared.command.Command.TheVariants as bc
-use Rattle.bd_space.specs.declared.space.WorkKind.TheVariants as work
-use Rattle.bd_laws.proofs.words.Laws.{In, IsInTurn, On, Before}
-use Rattle.bd_laws.proofs.Machine.EveryStep.{Keeps, every_step, every_list}
-use Rattle.bd_laws.proofs.Lists.{in-push, in-filter, in-filter_map, any-found, any-in}
-use Rattle.bd_laws.proofs.Tests.{not-true, ripe-parts}
-use Rattle.bd_laws.proofs.Machine.Table.{set_up-by, changes-by}
-use Rattle.bd_laws.proofs.IsInTurn.OneWay.{HandsNothing, less_table, less_exits, less_closes, Less, own_notices-less, owe-less}
-use Rattle.bd_laws.proofs.IsInTurn.Ripening.{turn-parts, read-in}
+use Rattle.bd_laws.proofs.words.Laws.{In, Before}
+use Rattle.bd_laws.proofs.Machine.EveryStep.{every_list}
+use Rattle.bd_laws.proofs.Lists.{in-filter, any-found, any-in}
+use Rattle.bd_laws.proofs.Tests.{not-true}
+use Rattle.bd_laws.proofs.IsInTurn.Ripening.{read-in}
 use Rattle.bd_laws.proofs.IsInTurn.InTurn.{is_call-hands}
 use Rattle.bd_laws.proofs.IsInTurn.Passing.{step-passes}
-use Rattle.bd_laws.proofs.IsInTurn.Passed.{After, untouched-after, follow-after}
+use Rattle.bd_laws.proofs.IsInTurn.Passed.{follow-after}
 use Rattle.bd_laws.proofs.IsInTurn.Received.{step-before, opening-before, on-before}
 use Rattle.bd_laws.proofs.OnPaths.PathWords.{same-item}
-use Rattle.bd_laws.proofs.Machine.Deaths.{on-mapped, on-commands}
 use Rattle.bd_audit.specs.Replies.{items_taken, items_read, items_unless, HandsOutCall, Calls, At}
 use Rattle.bd_audit.specs.Gifts.{Stands}
-use Rattle.bd_laws.proofs.IsInTurn.OneWay as one_way
-use Rattle.bd_laws.proofs.Machine.Untouched as untouched
 use Rattle.bd_audit.proofs.NamesHaveGiftChains.Chains.{always-steps}
 use Rattle.bd_audit.proofs.TurnsAreTaken.CallItems.{step-treats}
 use Rattle.bd_audit.proofs.TurnsAreTaken.CallItemsKept.{fresh-once}
 use Rattle.bd_audit.proofs.TurnsTellOfCalls.CallsOut.{items-due}
 use Rattle.bd_audit.proofs.TurnsTellOfCalls.TurnsTelling.{handed-later}
 use Rattle.bd_audit.proofs.RepliesReachTheirCallers.Places.{mid, later-space, next-place, either-way}
-use Rattle.bd_laws.proofs.Machine.Fields.{sent-steps}
 use Rattle.bd_audit.proofs.RepliesReachTheirCallers.CallsDue.{IsDue, One, HasTurn, step-calls}
 
 -- ---- every history

@@ -1,18 +1,14 @@
 -- Replies that are due, through one item more, items that go, and what follows.
-use Rattle.bd_laws.proofs.words.Logic.{◌≡◌, ℕ, suc, ◌<◌, ◌==◌, Bool, true, false, cond, not, ◌&&◌, ◌||◌, List, [], ◌∷◌, ◌++◌, Option, Some, None, ◌⊎◌, inl, inr, refl, ap, sym, subst, ◌∙◌, filter, arith, beq, fold, list_any, eqb-true}
-use Rattle.bd_laws.proofs.words.Types.{TransactionData, ObjectId, Step, Entry, Object, Process, Reference, Turn, Work, Item, Frame, Actor, Identity, DeathNotification, TodoList, OfThread, OfProcess, WorkKind, is_own}
-use Rattle.bd_laws.proofs.words.Space.{same, is_some_and, Space, opening, lives_in, with_work, owe, is_notice, notice_of, death_of, is_item, turns_of, ripen, ripened, is_ripe, with_notice, wants_notice, has_notice_in, follow, notify, work_goes, deaths_go, still_due, names_go, assign_numbers, objects_go, object_in, held_in, strong_in, stays_in, closed, goes_to, Delivery, delivered, own_notices, add_buffer, known_by, refer, make_objects, buffer_of, add_notice, withdraw_notice, transacted, called, call_out, replied, read_by, counted, History, next, space_after}
+use Rattle.bd_laws.proofs.words.Logic.{◌≡◌, ℕ, suc, ◌<◌, ◌==◌, Bool, true, false, cond, not, ◌&&◌, ◌||◌, List, [], ◌∷◌, Some, None, ◌⊎◌, inl, inr, refl, ap, sym, ◌∙◌, filter, arith, beq, fold, eqb-true}
+use Rattle.bd_laws.proofs.words.Types.{ObjectId, Object, Process, Reference, Work, Identity, DeathNotification, TodoList, OfThread, OfProcess, WorkKind}
+use Rattle.bd_laws.proofs.words.Space.{same, is_some_and, lives_in, with_work, notice_of, death_of, with_notice, wants_notice, has_notice_in, still_due, object_in, held_in, strong_in, stays_in}
 use Rattle.bd_space.specs.declared.space.WorkKind.TheVariants as work
 use Rattle.bd_links.specs.TodoList.{reply_of}
 use Rattle.bd_laws.specs.Lists.{In}
-use Rattle.bd_laws.proofs.Machine.EveryStep.{Keeps, every_step, every_list}
-use Rattle.bd_laws.proofs.Lists.{in-push, in-filter, find-in, any-found, any-in}
-use Rattle.bd_laws.proofs.Tests.{both, same-eq}
-use Rattle.bd_laws.proofs.Machine.Deaths.{on-mapped, on-commands}
+use Rattle.bd_laws.proofs.Lists.{in-push, in-filter, any-found, any-in}
+use Rattle.bd_laws.proofs.Tests.{both}
 use Rattle.bd_laws.proofs.ItemsAreToldApart.Identities.{count_at, count-filter, count-work}
-use Rattle.bd_audit.proofs.RepliesReachTheirCallers.Quiet as quiet
-use Rattle.bd_laws.proofs.Machine.Table.{set_up-by, changes-by}
-use Rattle.bd_audit.proofs.RepliesReachTheirCallers.Quiet.{Adds, with_work-quiet, adds-trans}
+use Rattle.bd_audit.proofs.RepliesReachTheirCallers.Quiet.{Adds}
 
 pub record Owed (n : ℕ) (todo : List Work) : Type 0 where
   pub place : (w : Work) → In w todo → w.id.place < n

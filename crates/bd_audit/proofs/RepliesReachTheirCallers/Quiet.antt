@@ -1,14 +1,14 @@
 -- Parts of a step that make no frame and no reply.
 use Rattle.bd_laws.proofs.words.Logic.{◌≡◌, ℕ, ◌==◌, Bool, true, false, cond, not, List, [], ◌∷◌, ◌++◌, Some, None, ◌⊎◌, inl, inr, refl, ap, sym, subst, ◌∙◌, filter, option_map, eqb-true, eq-eqb}
 use Rattle.bd_laws.proofs.words.Types.{Buffer, TransactionData, ObjectId, Thread, Work, Item, Frame, Actor, Serving, TodoList, OfThread, OfProcess, WorkKind}
-use Rattle.bd_laws.proofs.words.Space.{completed, changed, Space, thread_in, with_work, owe, is_on, same_list, is_notice, ripen, follow, notify, work_goes, deaths_go, still_due, names_go, assign_numbers, objects_go, closed, is_frame, Delivery, delivered, own_notices, add_buffer, known_by, refer, make_objects, buffer_of, without_buffer, thread_goes, frame_without, unread_frame, threads_go, without_process, tell_deaths, with_thread, with_process, with_manager, ask, drop_asked, acknowledge, with_looping}
+use Rattle.bd_laws.proofs.words.Space.{completed, changed, Space, thread_in, with_work, owe, is_on, same_list, is_notice, ripen, follow, work_goes, still_due, closed, is_frame, Delivery, delivered, own_notices, add_buffer, without_buffer, thread_goes, frame_without, unread_frame, without_process, with_thread, with_looping}
 use Rattle.bd_space.specs.declared.space.WorkKind.TheVariants as work
 use Rattle.bd_links.specs.TodoList.{reply_of}
 use Rattle.bd_laws.specs.Lists.{In}
 use Rattle.bd_laws.proofs.Lists.{in-push, in-filter, in-map}
 use Rattle.bd_laws.proofs.Tests.{not-true}
 use Rattle.bd_laws.proofs.OnPaths.PathWords.{caller-stays, server-stays, unread-serving}
-use Rattle.bd_laws.proofs.Machine.Adding.{notify-keeps, own_notices-keeps, ripen-keeps}
+use Rattle.bd_laws.proofs.Machine.Adding.{ripen-keeps}
 use Rattle.bd_laws.proofs.Machine.Table.{Table, Exits, Closing, followed-by, ripen-by, own_notices-by, delivered-by, sent-by, completed-by}
 use Rattle.bd_audit.specs.Replies.{made_in}
 

@@ -1,15 +1,13 @@
 -- The replies that are due: each on a thread's list, and none with another item's identity.
-use Rattle.bd_laws.proofs.words.Logic.{◌≡◌, ℕ, suc, ◌<◌, ◌==◌, Bool, true, false, cond, not, ◌&&◌, ◌||◌, List, [], ◌∷◌, ◌++◌, Option, Some, None, ◌⊎◌, inl, inr, refl, ap, sym, subst, ◌∙◌, filter, arith, beq, fold, list_any, eqb-true}
-use Rattle.bd_laws.proofs.words.Types.{TransactionData, ObjectId, Step, Entry, Object, Process, Reference, Turn, Work, Item, Frame, Actor, Identity, DeathNotification, TodoList, OfThread, OfProcess, WorkKind, is_own}
-use Rattle.bd_laws.proofs.words.Space.{same, is_some_and, Space, opening, lives_in, with_work, owe, is_notice, notice_of, death_of, is_item, turns_of, ripen, ripened, is_ripe, with_notice, wants_notice, has_notice_in, follow, notify, work_goes, deaths_go, still_due, names_go, assign_numbers, objects_go, object_in, held_in, strong_in, stays_in, closed, goes_to, Delivery, delivered, own_notices, add_buffer, known_by, refer, make_objects, buffer_of, add_notice, withdraw_notice, transacted, called, call_out, replied, read_by, counted, History, next, space_after}
+use Rattle.bd_laws.proofs.words.Logic.{◌≡◌, ℕ, suc, Bool, true, false, cond, not, ◌&&◌, List, [], ◌∷◌, ◌++◌, Option, Some, None, ◌⊎◌, inl, inr, refl, ap, sym, subst, ◌∙◌, filter, arith, fold, list_any}
+use Rattle.bd_laws.proofs.words.Types.{TransactionData, ObjectId, Step, Entry, Object, Process, Reference, Turn, Work, Item, Frame, Actor, TodoList, OfThread, OfProcess, WorkKind, is_own}
+use Rattle.bd_laws.proofs.words.Space.{same, Space, opening, with_work, owe, is_notice, is_item, turns_of, ripen, ripened, is_ripe, with_notice, wants_notice, has_notice_in, follow, notify, work_goes, deaths_go, still_due, names_go, assign_numbers, objects_go, object_in, closed, goes_to, Delivery, delivered, own_notices, add_buffer, known_by, refer, make_objects, buffer_of, add_notice, withdraw_notice, transacted, called, call_out, replied, read_by, counted, History, next, space_after}
 use Rattle.bd_space.specs.declared.space.WorkKind.TheVariants as work
 use Rattle.bd_links.specs.TodoList.{reply_of}
 use Rattle.bd_laws.specs.Lists.{In}
 use Rattle.bd_laws.proofs.Machine.EveryStep.{Keeps, every_step, every_list}
-use Rattle.bd_laws.proofs.Lists.{in-push, in-filter, find-in, any-found, any-in}
-use Rattle.bd_laws.proofs.Tests.{both, same-eq}
-use Rattle.bd_laws.proofs.Machine.Deaths.{on-mapped, on-commands}
-use Rattle.bd_laws.proofs.ItemsAreToldApart.Identities.{count_at, count-filter, count-work}
+use Rattle.bd_laws.proofs.Lists.{in-push, in-filter, find-in}
+use Rattle.bd_laws.proofs.Tests.{same-eq}
 use Rattle.bd_audit.proofs.RepliesReachTheirCallers.Quiet as quiet
 use Rattle.bd_laws.proofs.Machine.Table.{set_up-by, changes-by}
 use Rattle.bd_audit.proofs.RepliesReachTheirCallers.Quiet.{NotReply, quiet_table, quiet_exits, quiet_closes, Quiet, Adds, with_work-quiet, adds-trans}

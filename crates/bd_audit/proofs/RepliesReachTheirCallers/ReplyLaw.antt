@@ -1,23 +1,21 @@
 -- Replies reach their callers: from what each reply has behind it, and since what is gone never comes again.
 use Rattle.bd_laws.proofs.words.Logic.{◌≡◌, ℕ, zero, suc, ◌<◌, ◌==◌, Bool, true, false, List, [], ◌∷◌, ◌++◌, length, take, Option, Some, None, ◌⊎◌, inl, inr, refl, ap, sym, subst, ◌∙◌, not, arith, list_any, slice_get, option_map, option_and_then, option_and_then_some, eqb-true, eq-eqb}
 use Rattle.bd_laws.proofs.words.Types.{TransactionData, Step, Read, Entry, Work, Frame, Actor, OfThread}
-use Rattle.bd_laws.proofs.words.Space.{Space, opening, owe, is_call, same_list, is_item, closed, goes_to, is_frame, innermost, innermost_in, is_deepest_in, made_of, ripen, follow, Delivery, delivered, transacted, called, call_out, replied, read_by, serve, change, counted, History, after, next, space_after}
+use Rattle.bd_laws.proofs.words.Space.{Space, opening, owe, is_call, same_list, is_item, closed, goes_to, is_frame, innermost, innermost_in, is_deepest_in, made_of, ripen, Delivery, delivered, transacted, called, call_out, replied, read_by, serve, change, counted, History, after, next, space_after}
 use Rattle.bd_space.specs.declared.space.WorkKind.TheVariants as work
 use Rattle.bd_links.specs.TodoList.{reply_of, first_reply_in}
 use Rattle.bd_engine.specs.Looks.{first_reply}
 use Rattle.bd_laws.specs.Lists.{In}
 use Rattle.bd_laws.proofs.Machine.EveryStep.{Keeps, every_step}
 use Rattle.bd_laws.proofs.Lists.{in-push, in-filter, in-changed, find-in, any-in}
-use Rattle.bd_laws.proofs.Machine.Deaths.{on-mapped, on-commands}
 use Rattle.bd_audit.specs.Gifts.{Stands}
 use Rattle.bd_audit.specs.Laws.{space_at}
 use Rattle.bd_audit.specs.Replies.{thread_made, items_taken, reply_taken, reply_taken_at, frame_of, call_closed_at, call_answered, AnswersCall, At, Answered}
 use Rattle.bd_audit.proofs.NamesHaveGiftChains.Chains.{always-steps}
 use Rattle.bd_audit.proofs.RepliesReachTheirCallers.Places.{mid, later-space, next-place, either-way}
 use Rattle.bd_audit.proofs.RepliesReachTheirCallers.CallsOnce.{handed-once}
-use Rattle.bd_audit.proofs.RepliesReachTheirCallers.Quiet as quiet
 use Rattle.bd_laws.proofs.Machine.Table.{keeps-by}
-use Rattle.bd_audit.proofs.RepliesReachTheirCallers.Quiet.{sent-quiet, NotReply, quiet_table, quiet_exits, quiet_closes, Quiet, with_work-quiet, quiet-trans}
+use Rattle.bd_audit.proofs.RepliesReachTheirCallers.Quiet.{sent-quiet, ripen-quiet, NotReply, quiet_table, quiet_exits, quiet_closes, Quiet, with_work-quiet, quiet-trans}
 use Rattle.bd_audit.proofs.RepliesReachTheirCallers.RepliesDue.{IsOwed, always-owed}
 use Rattle.bd_audit.proofs.RepliesReachTheirCallers.ReplyTaken.{taken-or-not, first-stands, NoReply}
 use Rattle.bd_audit.proofs.RepliesReachTheirCallers.Answering.{always-traced}
@@ -93,7 +91,7 @@ from-kept s seat x = keeps-by Quiet NotReply quiet_table s seat x (From s) (from
   transacts = λ a d parcel v e i t. from-transacted s a d v;
   replies = λ a d parcel f v e i g t. from-replied s a d f v;
   reads = λ a limit i e n. from-read s a.thread.seat _;
-  ripens = λ z. from-quiet s (ripen z) z (quiet.ripen-quiet z);
+  ripens = λ z. from-quiet s (ripen z) z (ripen-quiet z);
 })
 
 pub step-from : (s : Space) (e : Entry) → From s (change s e.seat e.step).space

@@ -1,13 +1,13 @@
 -- Which reply a reading takes: the first on its thread's list, if that isn't the first any more afterwards.
 use Rattle.bd_laws.proofs.words.Logic.{◌≡◌, ℕ, ◌-◌, ◌==◌, Bool, true, false, cond, not, ◌&&◌, List, [], ◌∷◌, ◌++◌, length, map, Option, Some, None, ◌⊎◌, inl, inr, refl, ap, sym, subst, ◌∙◌, filter, nat_lt, fold, list_any, is_none, eqb-true, eq-eqb}
-use Rattle.bd_laws.proofs.words.Types.{Fault, Step, Read, Entry, Object, Process, Reference, Thread, Work, Actor, Identity, DeathNotification, TodoList, OfThread, OfProcess, WorkKind}
-use Rattle.bd_laws.proofs.words.Space.{first_of, same_identity, Space, actor, with_work, is_on, same_list, work_on, has_work_in, list_to_read, is_item, with_notice, wants_notice, has_notice_in, follow, notify, work_goes, deaths_go, still_due, names_go, objects_go, innermost_in, Outcome, refused, taken, read_by, ends_read, read_fault, read_step, read_taking, bytes_read, change, counted, by_actor, next}
+use Rattle.bd_laws.proofs.words.Types.{Fault, Step, Read, Entry, Object, Process, Reference, Thread, Work, Actor, DeathNotification, TodoList, OfThread, OfProcess, WorkKind}
+use Rattle.bd_laws.proofs.words.Space.{first_of, Space, actor, with_work, is_on, same_list, work_on, has_work_in, list_to_read, is_item, with_notice, wants_notice, has_notice_in, follow, notify, work_goes, deaths_go, still_due, names_go, objects_go, innermost_in, Outcome, refused, taken, read_by, ends_read, read_fault, read_step, read_taking, bytes_read, change, counted, by_actor, next}
 use Rattle.bd_space.specs.declared.space.WorkKind.TheVariants as work
 use Rattle.bd_links.specs.TodoList.{reply_of, first_reply_in}
 use Rattle.bd_engine.specs.Looks.{first_reply}
 use Rattle.bd_laws.specs.Lists.{In}
 use Rattle.bd_laws.proofs.Lists.{in-filter, any-found, any-in, find-in}
-use Rattle.bd_laws.proofs.Tests.{both, and-both, not-true}
+use Rattle.bd_laws.proofs.Tests.{not-true}
 use Rattle.bd_laws.proofs.Checks.{actor-lives}
 use Rattle.bd_laws.proofs.IsInTurn.Ripening.{read-in}
 use Rattle.bd_laws.proofs.OnPaths.PathWords.{same-item}

@@ -1,24 +1,15 @@
 -- The past of frames and of replies that are due: what they have behind them, and one frame or reply more.
-use Rattle.bd_laws.proofs.words.Logic.{◌≡◌, ℕ, zero, suc, ◌<◌, ◌+◌, ◌-◌, ◌==◌, Bool, true, false, cond, not, List, [], ◌∷◌, ◌++◌, length, Option, Some, None, Ok, inl, inr, refl, ap, sym, subst, ◌∙◌, append_assoc, length-append, arith, list_any, find, option_map, eqb-true, eq-eqb}
-use Rattle.bd_laws.proofs.words.Types.{TransactionData, Return, DeadReply, Parcel, Command, Read, Accepted, Entry, Thread, Work, Frame, Actor, Pending, Serving, TodoList, OfThread, WorkKind}
-use Rattle.bd_laws.proofs.words.Space.{Space, opening, actor, owe, is_call, list_to_read, is_item, closed, goes_to, is_frame, innermost, innermost_in, served_innermost, made_of, is_deepest_in, ripen, follow, settle, settle_one, settle_times, is_abandoned, Delivery, delivered, own_notices, add_buffer, known_by, refer, make_objects, assign_numbers, completed, transaction_step, transaction_outcome, transaction_check, transacted, called, call_out, is_one_way, reply_step, reply_to, reply_outcome, reply_check, replied, command_step, taken, read_by, serve, served_frames, read_fault, change, counted, by_actor, after, next}
+use Rattle.bd_laws.proofs.words.Logic.{◌≡◌, ℕ, ◌<◌, ◌+◌, ◌==◌, List, [], ◌∷◌, ◌++◌, length, Option, Some, Ok, inl, inr, refl, ap, sym, subst, ◌∙◌, append_assoc, length-append, arith, option_map, eqb-true}
+use Rattle.bd_laws.proofs.words.Types.{TransactionData, Parcel, Command, Accepted, Entry, Thread, Work, Frame, Actor, Pending, Serving, OfThread}
+use Rattle.bd_laws.proofs.words.Space.{Space, opening, actor, owe, goes_to, served_innermost, Delivery, delivered, own_notices, add_buffer, known_by, refer, make_objects, assign_numbers, completed, transaction_step, transaction_outcome, transaction_check, called, call_out, reply_step, reply_to, reply_outcome, reply_check, replied, command_step, change, by_actor, after}
 use Rattle.bd_uapi.specs.declared.command.Command.TheVariants as bc
 use Rattle.bd_space.specs.declared.space.WorkKind.TheVariants as work
 use Rattle.bd_links.specs.TodoList.{reply_of}
 use Rattle.bd_laws.specs.Lists.{In}
-use Rattle.bd_laws.proofs.Machine.EveryStep.{Keeps, every_step}
-use Rattle.bd_laws.proofs.Lists.{in-push, in-filter, in-changed, find-in, any-found, by-last}
-use Rattle.bd_laws.proofs.Tests.{not-true}
-use Rattle.bd_laws.proofs.Checks.{actor-lives, transaction-checked}
-use Rattle.bd_laws.proofs.Machine.Deaths.{on-mapped, on-commands}
-use Rattle.bd_laws.proofs.OnPaths.PathWords.{served-is}
-use Rattle.bd_audit.specs.Replies.{made_in, thread_made, items_read, items_taken, items_unless, frame_of, Calls, TakesCall, AnswersCall, At}
-use Rattle.bd_audit.proofs.Beginnings.{after-append}
-use Rattle.bd_audit.proofs.NamesHaveGiftChains.Chains.{always-steps}
-use Rattle.bd_audit.proofs.RepliesReachTheirCallers.Quiet as quiet
-use Rattle.bd_laws.proofs.Machine.Table.{keeps-by}
-use Rattle.bd_audit.proofs.RepliesReachTheirCallers.Quiet.{sent-quiet, completed-quiet, NotReply, quiet_table, quiet_exits, quiet_closes, Quiet, with_work-quiet, quiet-trans}
-use Rattle.bd_laws.proofs.Machine.Fields.{closed-threads, serve-made, owe-threads}
+use Rattle.bd_laws.proofs.Lists.{in-push, find-in}
+use Rattle.bd_laws.proofs.Checks.{actor-lives}
+use Rattle.bd_audit.specs.Replies.{thread_made, Calls, TakesCall, AnswersCall, At}
+use Rattle.bd_audit.proofs.RepliesReachTheirCallers.Quiet.{Quiet, with_work-quiet}
 
 -- ---- places
 

@@ -1,28 +1,22 @@
 -- The work items of a one-way call, through the parts of a step that make none: what goes, and what ripens.
-use Rattle.bd_laws.proofs.words.Logic.{◌≡◌, ℕ, ◌-◌, ◌<◌, ◌==◌, Bool, true, false, cond, not, List, [], ◌∷◌, ◌++◌, Option, Some, None, Ok, ◌⊎◌, inl, inr, refl, ap, sym, subst, ◌∙◌, map, filter, arith, list_any, count_by, eqb-true, eq-eqb}
-use Rattle.bd_laws.proofs.words.Types.{TransactionData, ObjectId, Parcel, Step, Command, Read, Entry, Actor, Frame, Thread, Buffer, Turn, Work, TodoList, OfThread, OfProcess, WorkKind}
-use Rattle.bd_laws.proofs.words.Space.{same, changed, Space, actor, owe, with_work, is_call, hands_out, is_on, list_to_read, is_item, closed, goes_to, turn_of, turns_of, is_ripe, ripened, ripen, follow, assign_numbers, Delivery, delivered, own_notices, add_buffer, known_by, refer, make_objects, buffer_of, transaction_check, transacted, called, call_out, is_one_way, reply_check, replied, without_buffer, is_made_at, thread_goes, is_lost_with, threads_go, without_process, tell_deaths, seat_of, taken, read_by, buffer_taken, hand_out, handed_buffers, read_fault, change, with_thread, with_process, with_manager}
+use Rattle.bd_laws.proofs.words.Logic.{◌≡◌, ℕ, ◌<◌, ◌==◌, Bool, true, false, cond, not, List, [], ◌∷◌, ◌++◌, Option, Some, ◌⊎◌, inl, inr, refl, ap, sym, subst, ◌∙◌, map, filter, arith, list_any, count_by, eqb-true, eq-eqb}
+use Rattle.bd_laws.proofs.words.Types.{TransactionData, ObjectId, Parcel, Step, Command, Entry, Thread, Buffer, Turn, Work, OfThread, OfProcess}
+use Rattle.bd_laws.proofs.words.Space.{same, Space, with_work, is_call, hands_out, is_on, turn_of, turns_of, is_ripe, ripened, ripen, is_one_way, without_buffer, is_made_at, thread_goes, is_lost_with, threads_go, without_process, tell_deaths, seat_of, with_thread, with_process, with_manager}
 use Rattle.bd_uapi.specs.declared.command.Command.TheVariants as bc
 use Rattle.bd_space.specs.declared.space.WorkKind.TheVariants as work
 use Rattle.bd_laws.proofs.words.Laws.{In, IsInTurn, On}
-use Rattle.bd_laws.proofs.Machine.EveryStep.{Keeps, every_step}
-use Rattle.bd_laws.proofs.Lists.{in-left, in-push, in-filter, filter-in, in-changed, changed-in, in-filter_map, any-in, fold-keeps}
+use Rattle.bd_laws.proofs.Lists.{in-push, in-filter, filter-in, in-filter_map, any-in, fold-keeps}
 use Rattle.bd_laws.proofs.Tests.{not-true, ripe-parts}
 use Rattle.bd_laws.proofs.IsInTurn.OneWay.{less_table, less_exits, less_closes, Less, own_notices-less}
 use Rattle.bd_laws.proofs.Machine.Untouched.{Untouched}
-use Rattle.bd_laws.proofs.IsInTurn.Ripening.{turn-parts, taken-due, read-in, made-kept}
-use Rattle.bd_laws.proofs.Checks.{Transacts, transaction-checked, reply-checked}
-use Rattle.bd_laws.proofs.IsInTurn.Passing.{lost-on, not-on, at_pointer-in}
-use Rattle.bd_laws.proofs.IsInTurn.Passed.{After, ask-after, drop_asked-after, acknowledge-after, follow-after}
+use Rattle.bd_laws.proofs.IsInTurn.Ripening.{turn-parts}
+use Rattle.bd_laws.proofs.IsInTurn.Passing.{lost-on, not-on}
+use Rattle.bd_laws.proofs.IsInTurn.Passed.{After}
 use Rattle.bd_laws.proofs.IsInTurn.Received.{one-buffer}
-use Rattle.bd_laws.proofs.OnPaths.PathWords.{same-item}
-use Rattle.bd_laws.proofs.Machine.Deaths.{on-mapped, on-both, on-commands}
-use Rattle.bd_audit.specs.Replies.{items_taken, items_read, items_unless}
+use Rattle.bd_audit.specs.Replies.{items_taken}
 use Rattle.bd_audit.specs.TurnCalls.{CallsOneWay}
 use Rattle.bd_laws.proofs.IsInTurn.OneWay
 use Rattle.bd_laws.proofs.Machine.Untouched
-use Rattle.bd_audit.proofs.RepliesReachTheirCallers.Traces.{transaction-accepted}
-use Rattle.bd_laws.proofs.Machine.Fields.{sent-steps, closed-steps}
 
 -- ---- the item of one call
 

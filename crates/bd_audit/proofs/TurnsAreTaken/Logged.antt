@@ -1,18 +1,16 @@
 -- The turns of an object as its log, and what becomes of their buffers.
-use Rattle.bd_laws.proofs.words.Logic.{◌≡◌, ℕ, suc, ◌<◌, Bool, true, false, not, ◌&&◌, List, [], ◌∷◌, ◌++◌, Option, Some, None, ◌⊎◌, inl, inr, refl, ap, sym, subst, ◌∙◌, map, arith, filter_map, cons_option, is_some, eqb-true, eq-eqb}
-use Rattle.bd_laws.proofs.words.Types.{ObjectId, Entry, Object, Buffer}
-use Rattle.bd_laws.proofs.words.Space.{same, when, is_some_and, Space, opening, is_made_at, change, counted, History, after, next, space_after}
-use Rattle.bd_laws.proofs.words.Laws.{In, Pairs, Due, Rivals, Waits, On, Before}
-use Rattle.bd_laws.proofs.Lists.{in-append, in-map, any-found, any-in, in-filter_map, pairs-either}
-use Rattle.bd_laws.proofs.Tests.{both, and-both, same-eq, eq-same, not-true}
+use Rattle.bd_laws.proofs.words.Logic.{◌≡◌, ℕ, ◌<◌, Bool, true, false, ◌&&◌, List, Option, Some, None, ◌⊎◌, inl, inr, refl, sym, subst, ◌∙◌, arith, is_some, eqb-true, eq-eqb}
+use Rattle.bd_laws.proofs.words.Types.{ObjectId, Object, Buffer}
+use Rattle.bd_laws.proofs.words.Space.{Space, is_made_at}
+use Rattle.bd_laws.proofs.words.Laws.{In, Pairs, On, Before}
+use Rattle.bd_laws.proofs.Lists.{any-found, any-in}
+use Rattle.bd_laws.proofs.Tests.{both, and-both}
 use Rattle.bd_laws.proofs.IsInTurn.InTurn.{Turning}
-use Rattle.bd_laws.proofs.IsInTurn.Passing.{step-passes, on-turn}
 use Rattle.bd_laws.proofs.IsInTurn.Passed.{Lives, Became, Ended, Passed}
-use Rattle.bd_laws.proofs.IsInTurn.Received.{owner-before, on-before, on-after, one-buffer, step-before, opening-before}
+use Rattle.bd_laws.proofs.IsInTurn.Received.{owner-before, on-before, one-buffer}
 use Rattle.bd_audit.specs.declared.turns.Turn.{Turn}
-use Rattle.bd_audit.specs.TurnSearch.{is_call_on, is_live, is_handed, noted_at, marked, turn_made, next_turns, turns_from, turns_on}
+use Rattle.bd_audit.specs.TurnSearch.{is_live, is_handed, noted_at}
 use Rattle.bd_audit.specs.TurnCalls.{IsTakenBefore}
-use Rattle.bd_laws.proofs.Machine.Fields.{counted-buffers}
 
 -- ---- the turns of an object
 

@@ -1,17 +1,12 @@
 -- One-way calls are taken in their turns.
-use Rattle.bd_laws.proofs.words.Logic.{◌≡◌, ℕ, suc, ◌<◌, Bool, true, false, not, ◌&&◌, List, [], ◌∷◌, ◌++◌, Option, Some, None, ◌⊎◌, inl, inr, refl, ap, sym, subst, ◌∙◌, map, arith, filter_map, cons_option, is_some, eqb-true, eq-eqb}
-use Rattle.bd_laws.proofs.words.Types.{ObjectId, Entry, Object, Buffer}
-use Rattle.bd_laws.proofs.words.Space.{same, when, is_some_and, Space, opening, is_made_at, change, counted, History, after, next, space_after}
-use Rattle.bd_laws.proofs.words.Laws.{In, Pairs, Due, Rivals, Waits, On, Before}
-use Rattle.bd_laws.proofs.Lists.{in-append, in-map, any-found, any-in, in-filter_map, pairs-either}
-use Rattle.bd_laws.proofs.Tests.{both, and-both, same-eq, eq-same, not-true}
-use Rattle.bd_laws.proofs.IsInTurn.InTurn.{Turning}
-use Rattle.bd_laws.proofs.IsInTurn.Passing.{step-passes, on-turn}
-use Rattle.bd_laws.proofs.IsInTurn.Passed.{Lives, Became, Ended, Passed}
-use Rattle.bd_laws.proofs.IsInTurn.Received.{owner-before, on-before, on-after, one-buffer, step-before, opening-before}
+use Rattle.bd_laws.proofs.words.Logic.{List, [], ◌∷◌, sym, subst}
+use Rattle.bd_laws.proofs.words.Types.{ObjectId, Entry}
+use Rattle.bd_laws.proofs.words.Space.{Space, opening, change, counted, History, after, next, space_after}
+use Rattle.bd_laws.proofs.words.Laws.{Pairs, Before}
+use Rattle.bd_laws.proofs.IsInTurn.Passing.{step-passes}
+use Rattle.bd_laws.proofs.IsInTurn.Received.{step-before, opening-before}
 use Rattle.bd_audit.specs.declared.turns.Turn.{Turn}
-use Rattle.bd_audit.specs.TurnSearch.{is_call_on, is_live, is_handed, noted_at, marked, turn_made, next_turns, turns_from, turns_on}
-use Rattle.bd_audit.specs.TurnCalls.{IsTakenBefore}
+use Rattle.bd_audit.specs.TurnSearch.{next_turns, turns_from, turns_on}
 use Rattle.bd_laws.proofs.Machine.Fields.{counted-buffers}
 use Rattle.bd_audit.proofs.TurnsAreTaken.TurnsKept.{log-after}
 use Rattle.bd_audit.proofs.TurnsAreTaken.Logged.{InOrder, Logged}

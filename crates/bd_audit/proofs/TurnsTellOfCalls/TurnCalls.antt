@@ -1,30 +1,18 @@
 -- The turns of an object tell of its one-way calls: each of one accepted transaction, and each such transaction has a turn.
-use Rattle.bd_laws.proofs.words.Logic.{◌≡◌, ℕ, zero, suc, ◌<◌, ◌≤◌, ◌==◌, Bool, true, false, not, List, [], ◌∷◌, ◌++◌, length, Option, Some, None, ◌⊎◌, inl, inr, refl, ap, sym, subst, ◌∙◌, map, append_assoc, length-append, append-nil, arith, list_any, filter_map, slice_get, AllPairs, is_some, eqb-true, eq-eqb}
-use Rattle.bd_laws.proofs.words.Types.{ObjectId, Entry, Buffer, Work}
-use Rattle.bd_laws.proofs.words.Space.{same, when, is_some_and, Space, opening, is_call, is_made_at, change, counted, History, after, next}
-use Rattle.bd_laws.proofs.words.Laws.{In, Pairs, On, Before}
-use Rattle.bd_laws.proofs.Machine.EveryStep.{every_list}
-use Rattle.bd_laws.proofs.Lists.{pairs-map, pairs-at, at-pairs, in-left, in-right, map-in, filter_map-in, any-found, any-in}
-use Rattle.bd_laws.proofs.Tests.{and-both, not-true, not-false, eq-same}
-use Rattle.bd_laws.proofs.IsInTurn.InTurn.{is_call-hands}
-use Rattle.bd_laws.proofs.IsInTurn.Passing.{Passing, step-passes}
-use Rattle.bd_laws.proofs.IsInTurn.Received.{step-before, opening-before, one-buffer}
+use Rattle.bd_laws.proofs.words.Logic.{◌≡◌, ℕ, suc, ◌≤◌, ◌==◌, List, [], ◌∷◌, ◌++◌, Option, Some, None, inl, inr, refl, ap, sym, subst, ◌∙◌, append_assoc, append-nil, arith, AllPairs, eqb-true}
+use Rattle.bd_laws.proofs.words.Types.{ObjectId, Entry}
+use Rattle.bd_laws.proofs.words.Space.{Space, opening, History, after, next}
+use Rattle.bd_laws.proofs.words.Laws.{In, Pairs}
+use Rattle.bd_laws.proofs.Lists.{pairs-map, pairs-at, at-pairs, any-found}
 use Rattle.bd_audit.specs.declared.turns.Turn.{Turn}
-use Rattle.bd_audit.specs.TurnSearch.{is_call_on, is_live, is_handed, noted_at, marked, turn_made, next_turns, turns_from, turns_on}
-use Rattle.bd_audit.specs.Replies.{items_taken, HandsOutCall, At}
+use Rattle.bd_audit.specs.TurnSearch.{next_turns, turns_from, turns_on}
+use Rattle.bd_audit.specs.Replies.{HandsOutCall, At}
 use Rattle.bd_audit.specs.TurnCalls.{CallsOneWay, EndsBuffer, TellsOf, IsEarlier, AreTurns, TurnsTellOfCalls, IsTakenBefore, TurnsAreTaken}
 use Rattle.bd_audit.proofs.Beginnings.{after-append}
-use Rattle.bd_audit.proofs.TurnsAreTaken.TurnsKept as turn_log_parts
 use Rattle.bd_audit.proofs.TurnsAreTaken.TurnLog.{no-turns, always-ordered}
-use Rattle.bd_audit.proofs.TurnsAreTaken.TurnsKept.{log-after, NewTurn}
-use Rattle.bd_audit.proofs.TurnsAreTaken.Logged.{Logged, InOrder, live-in, live-found, handed-found, noted-some, noted-kept, some-case}
-use Rattle.bd_audit.proofs.NamesHaveGiftChains.Chains.{always-steps}
-use Rattle.bd_audit.proofs.RepliesReachTheirCallers.Traces.{at-more, at-here, at-below}
-use Rattle.bd_audit.proofs.TurnsAreTaken.CallItems.{step-treats}
-use Rattle.bd_audit.proofs.TurnsAreTaken.CallItemsKept.{DueOnce, fresh-once, Treats}
-use Rattle.bd_audit.proofs.TurnsTellOfCalls.CallsOut.{items-due, hands-out, call-makes}
-use Rattle.bd_laws.proofs.Machine.Fields.{counted-buffers}
-use Rattle.bd_audit.proofs.TurnsTellOfCalls.TurnsTelling.{in-slice, slice-in, Telling, z, before, step-telling}
+use Rattle.bd_audit.proofs.TurnsAreTaken.Logged.{InOrder}
+use Rattle.bd_audit.proofs.RepliesReachTheirCallers.Traces.{at-below}
+use Rattle.bd_audit.proofs.TurnsTellOfCalls.TurnsTelling.{in-slice, slice-in, Telling, before, step-telling}
 
 -- ---- every history
 

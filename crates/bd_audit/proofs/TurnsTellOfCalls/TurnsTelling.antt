@@ -1,23 +1,22 @@
 -- One entry more: the turns of an object tell of its one-way calls up to there.
-use Rattle.bd_laws.proofs.words.Logic.{◌≡◌, ℕ, zero, suc, ◌<◌, ◌≤◌, ◌==◌, Bool, true, false, not, List, [], ◌∷◌, ◌++◌, length, Option, Some, None, ◌⊎◌, inl, inr, refl, ap, sym, subst, ◌∙◌, map, append_assoc, length-append, append-nil, arith, list_any, filter_map, slice_get, AllPairs, is_some, eqb-true, eq-eqb}
+use Rattle.bd_laws.proofs.words.Logic.{◌≡◌, ℕ, zero, suc, ◌<◌, ◌==◌, Bool, true, false, not, List, [], ◌∷◌, ◌++◌, length, Option, Some, None, ◌⊎◌, inl, inr, refl, ap, sym, subst, ◌∙◌, map, length-append, arith, list_any, filter_map, slice_get, is_some, eq-eqb}
 use Rattle.bd_laws.proofs.words.Types.{ObjectId, Entry, Buffer, Work}
-use Rattle.bd_laws.proofs.words.Space.{same, when, is_some_and, Space, opening, is_call, is_made_at, change, counted, History, after, next}
-use Rattle.bd_laws.proofs.words.Laws.{In, Pairs, On, Before}
+use Rattle.bd_laws.proofs.words.Space.{same, when, is_some_and, Space, opening, is_call, is_made_at, change, counted, after, next}
+use Rattle.bd_laws.proofs.words.Laws.{In, On, Before}
 use Rattle.bd_laws.proofs.Machine.EveryStep.{every_list}
-use Rattle.bd_laws.proofs.Lists.{pairs-map, pairs-at, at-pairs, in-left, in-right, map-in, filter_map-in, any-found, any-in}
+use Rattle.bd_laws.proofs.Lists.{in-left, in-right, map-in, filter_map-in, any-found, any-in}
 use Rattle.bd_laws.proofs.Tests.{and-both, not-true, not-false, eq-same}
 use Rattle.bd_laws.proofs.IsInTurn.InTurn.{is_call-hands}
 use Rattle.bd_laws.proofs.IsInTurn.Passing.{Passing, step-passes}
 use Rattle.bd_laws.proofs.IsInTurn.Received.{step-before, opening-before, one-buffer}
 use Rattle.bd_audit.specs.declared.turns.Turn.{Turn}
-use Rattle.bd_audit.specs.TurnSearch.{is_call_on, is_live, is_handed, noted_at, marked, turn_made, next_turns, turns_from, turns_on}
+use Rattle.bd_audit.specs.TurnSearch.{is_call_on, is_live, is_handed, noted_at, marked, turn_made, next_turns}
 use Rattle.bd_audit.specs.Replies.{items_taken, HandsOutCall, At}
-use Rattle.bd_audit.specs.TurnCalls.{CallsOneWay, EndsBuffer, TellsOf, IsEarlier, AreTurns, TurnsTellOfCalls, IsTakenBefore, TurnsAreTaken}
+use Rattle.bd_audit.specs.TurnCalls.{CallsOneWay, EndsBuffer, TellsOf}
 use Rattle.bd_audit.proofs.Beginnings.{after-append}
 use Rattle.bd_audit.proofs.TurnsAreTaken.TurnsKept as turn_log_parts
-use Rattle.bd_audit.proofs.TurnsAreTaken.TurnLog.{no-turns, always-ordered}
 use Rattle.bd_audit.proofs.TurnsAreTaken.TurnsKept.{log-after, NewTurn}
-use Rattle.bd_audit.proofs.TurnsAreTaken.Logged.{Logged, InOrder, live-in, live-found, handed-found, noted-some, noted-kept, some-case}
+use Rattle.bd_audit.proofs.TurnsAreTaken.Logged.{Logged, live-in, live-found, handed-found, noted-some, noted-kept, some-case}
 use Rattle.bd_audit.proofs.NamesHaveGiftChains.Chains.{always-steps}
 use Rattle.bd_audit.proofs.RepliesReachTheirCallers.Traces.{at-more, at-here, at-below}
 use Rattle.bd_audit.proofs.TurnsAreTaken.CallItems.{step-treats}
