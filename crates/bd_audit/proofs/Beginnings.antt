@@ -1,21 +1,14 @@
 -- A beginning of a history is one; what its last entry has to meet.
-use Rattle.std.proofs.Common.{◌≡◌, ◌≤◌, ◌<◌, ◌+◌, ℕ, Bool, true, false, ◌&&◌, ◌||◌, List, [], ◌∷◌, ◌++◌, length, take, drop, get_or, Some, refl, ap, sym, ◌∙◌, subst, arith, length-append}
-use Rattle.std.specs.Prelude.{nat_lt, nat_le}
-use Rattle.std.specs.List.{list_all}
-use Rattle.std.proofs.lemmas.Bool.{lt-leb}
-use Rattle.std.proofs.lemmas.List.{take-append-drop, take_all, take_more, length-take-le}
-use Rattle.bd_space.specs.declared.step.Entry.{Entry}
-use Rattle.bd_space.specs.Space.{Space, opening}
-use Rattle.bd_space.specs.declared.step.StepAnswer.{StepAnswer}
-use Rattle.bd_space.specs.Steps.{step}
-use Rattle.bd_space.specs.Histories.{History, history_of, IsHistory, EntryFollows, Follows, after, next, space_after, is_at_limit}
-use Rattle.bd_space.specs.declared.step.Step.{Step}
+use Rattle.bd_laws.proofs.words.Logic.{◌≡◌, ◌≤◌, ◌<◌, ◌+◌, ℕ, Bool, true, false, ◌&&◌, ◌||◌, List, [], ◌∷◌, ◌++◌, length, take, drop, get_or, Some, refl, ap, sym, ◌∙◌, subst, arith, length-append, nat_lt, nat_le, list_all, lt-leb, take-append-drop, take_all, take_more, length-take-le}
+use Rattle.bd_laws.proofs.words.Types.{Entry, StepAnswer, Step}
+use Rattle.bd_laws.proofs.words.Space.{Space, opening, step, History, history_of, IsHistory, EntryFollows, Follows, after, next, space_after, is_at_limit}
 use Rattle.bd_engine.specs.declared.why.Why.{Why}
 use Rattle.bd_engine.specs.declared.why.Why.TheVariants as why
 use Rattle.bd_engine.specs.Refusals.{FullOnly}
 use Rattle.bd_audit.specs.declared.judging.AuditFault.{AuditFault}
 use Rattle.bd_audit.specs.declared.judging.AuditFault.TheVariants.{Unlawful, NoMemory}
 use Rattle.bd_audit.specs.Replays.{with_entry, beginning, Begins, IfUnlawful, fault_of, StopsAt}
+use Rattle.bd_laws.proofs.Tests.{and-both as join, both}
 
 pub follows-front : (s : Space) (es fs : List Entry) → Follows s (es ++ fs) → Follows s es
 follows-front s [] fs h = tt
@@ -28,13 +21,6 @@ follows-rest s (e ∷ es) fs h = follows-rest (next s e) es fs h.1
 pub after-append : (s : Space) (es fs : List Entry) → after s (es ++ fs) ≡ after (after s es) fs
 after-append s [] fs = refl
 after-append s (e ∷ es) fs = after-append (next s e) es fs
-
-both : (a b : Bool) → (a && b) ≡ true → (a ≡ true) × (b ≡ true)
-both true b h = (refl, h)
-both false b h = absurd (cc)
-
-join : (a b : Bool) → a ≡ true → b ≡ true → (a && b) ≡ true
-join a b h k = rw (h, k) refl
 
 module _ {A : Type 0} (p : A → Bool) where
   pub all-front : (xs ys : List A) → list_all p (xs ++ ys) ≡ true → list_all p xs ≡ true

@@ -1,26 +1,15 @@
 -- What the calls that look for the answered call find.
-use Rattle.std.proofs.Common.{◌≡◌, ◌≤◌, ◌<◌, ◌==◌, ℕ, zero, suc, Bool, true, false, List, [], ◌∷◌, length, get_or, Option, Some, None, Result, inl, inr, refl, ap, sym, subst, ◌∙◌, arith}
-use Rattle.std.specs.Prelude.{MatchResult}
-use Rattle.std.specs.List.{slice_get}
-use Rattle.bd_uapi.specs.declared.fault.Fault.{Fault}
-use Rattle.bd_uapi.specs.declared.fault.Fault.TheVariants.{NoMemory}
-use Rattle.std.specs.Option.{option_eq, option_map, option_and_then}
-use Rattle.std.proofs.lemmas.Bool.{eqb-true, eq-eqb}
-use Rattle.bd_space.specs.declared.step.Step.{Step}
-use Rattle.bd_space.specs.declared.step.Step.TheVariants.{Read}
-use Rattle.bd_space.specs.declared.step.Entry.{Entry}
-use Rattle.bd_space.specs.Space.{Space, opening}
-use Rattle.bd_space.specs.declared.space.Frame.{Frame}
-use Rattle.bd_space.specs.Frames.{innermost, serves}
-use Rattle.bd_space.specs.Histories.{History, next, space_after}
+use Rattle.bd_laws.proofs.words.Logic.{◌≡◌, ◌≤◌, ◌<◌, ◌==◌, ℕ, zero, suc, Bool, true, false, List, [], ◌∷◌, length, get_or, Option, Some, None, Result, inl, inr, refl, ap, sym, subst, ◌∙◌, arith, MatchResult, slice_get, option_eq, option_map, option_and_then, eqb-true, eq-eqb}
+use Rattle.bd_laws.proofs.words.Types.{Fault, NoMemory, Step, Read, Entry, Frame}
+use Rattle.bd_laws.proofs.words.Space.{Space, opening, innermost, serves, History, next, space_after}
 use Rattle.bd_links.specs.TodoList.{first_reply_in}
 use Rattle.bd_engine.specs.Looks.{first_reply, innermost_of}
 use Rattle.bd_audit.specs.Replays.{with_entry, beginning}
 use Rattle.bd_audit.specs.Laws.{space_at}
 use Rattle.bd_audit.specs.Replies.{items_taken, reply_taken, reply_taken_at, frame_of, call_closed_at, call_answered}
 use Rattle.bd_audit.proofs.Beginnings.{after-append}
-use Rattle.bd_audit.proofs.RepliesDue.{always-owed}
-use Rattle.bd_audit.proofs.ReplyTaken.{taken-or-not, first-stands}
+use Rattle.bd_audit.proofs.RepliesReachTheirCallers.RepliesDue.{always-owed}
+use Rattle.bd_audit.proofs.RepliesReachTheirCallers.ReplyTaken.{taken-or-not, first-stands}
 
 -- ---- one step
 

@@ -1,44 +1,17 @@
 -- Each live thread was made by a step of its seat.
-use Rattle.std.proofs.Common.{◌≡◌, ℕ, zero, suc, ◌-◌, ◌==◌, Bool, true, false, cond, not, List, [], ◌∷◌, ◌++◌, length, Option, Some, None, ◌⊎◌, inl, inr, refl, ap, sym, subst, ◌∙◌, map, filter}
-use Rattle.std.specs.List.{fold, slice_get}
-use Rattle.std.specs.Option.{option_map}
-use Rattle.std.proofs.lemmas.Bool.{eqb-true}
-use Rattle.bd_uapi.specs.declared.command.TransactionData.{TransactionData}
-use Rattle.bd_space.specs.declared.step.Entry.{Entry}
-use Rattle.bd_space.specs.declared.space.Thread.{Thread}
-use Rattle.bd_space.specs.declared.space.Frame.{Frame}
-use Rattle.bd_space.specs.declared.space.Actor.{Actor}
-use Rattle.bd_space.specs.declared.space.TodoList.{TodoList}
-use Rattle.bd_space.specs.declared.space.TodoList.TheVariants.{OfThread}
-use Rattle.bd_space.specs.declared.space.WorkKind.{WorkKind}
+use Rattle.bd_laws.proofs.words.Logic.{◌≡◌, ℕ, zero, suc, ◌-◌, ◌==◌, Bool, true, false, cond, not, List, [], ◌∷◌, ◌++◌, length, Option, Some, None, ◌⊎◌, inl, inr, refl, ap, sym, subst, ◌∙◌, map, filter, fold, slice_get, option_map, eqb-true}
+use Rattle.bd_laws.proofs.words.Types.{TransactionData, Entry, Thread, Frame, Actor, TodoList, OfThread, WorkKind}
+use Rattle.bd_laws.proofs.words.Space.{Space, opening, thread_in, closed, owe, list_to_read, ripen, follow, notify, work_goes, deaths_go, names_go, assign_numbers, objects_go, Delivery, delivered, own_notices, add_buffer, known_by, refer, make_objects, transacted, called, call_out, replied, without_buffer, read_by, taken, thread_goes, threads_go, without_process, tell_deaths, seat_of, counted, with_thread, with_process, with_manager, ask, drop_asked, acknowledge, with_looping, after}
 use Rattle.bd_space.specs.declared.space.WorkKind.TheVariants as work
-use Rattle.bd_space.specs.Space.{Space, opening}
-use Rattle.bd_space.specs.Seats.{thread_in}
-use Rattle.bd_space.specs.Frames.{closed}
-use Rattle.bd_space.specs.Todo.{owe, list_to_read}
-use Rattle.bd_space.specs.Turns.{ripen}
-use Rattle.bd_space.specs.Notices.{follow, notify, work_goes, deaths_go}
-use Rattle.bd_space.specs.Names.{names_go, assign_numbers}
-use Rattle.bd_space.specs.References.{objects_go}
-use Rattle.bd_space.specs.Delivery.{Delivery, delivered, own_notices, add_buffer, known_by, refer, make_objects}
-use Rattle.bd_space.specs.Transactions.{transacted, called, call_out}
-use Rattle.bd_space.specs.Replies.{replied}
-use Rattle.bd_space.specs.Freeing.{without_buffer}
-use Rattle.bd_space.specs.ReadItems.{read_by, taken}
-use Rattle.bd_space.specs.ThreadExits.{thread_goes}
-use Rattle.bd_space.specs.ProcessExits.{threads_go, without_process, tell_deaths, seat_of}
-use Rattle.bd_space.specs.Steps.{counted, with_thread, with_process, with_manager}
-use Rattle.bd_space.specs.Asking.{ask, drop_asked, acknowledge}
-use Rattle.bd_space.specs.Commands.{with_looping}
-use Rattle.bd_space.specs.Histories.{after}
-use Rattle.bd_laws.proofs.EveryStep.{Keeps, every_step}
-use Rattle.bd_laws.proofs.Deaths.{tell_deaths-aside, on-mapped, on_deaths-aside, on-commands}
+use Rattle.bd_laws.proofs.Machine.EveryStep.{Keeps, every_step}
+use Rattle.bd_laws.proofs.Machine.Deaths.{tell_deaths-aside, on-mapped, on_deaths-aside, on-commands}
 use Rattle.bd_laws.proofs.Lists.{by-last}
 use Rattle.bd_audit.specs.Replies.{made_in, thread_made}
 use Rattle.bd_audit.proofs.Beginnings.{after-append}
-use Rattle.bd_audit.proofs.Chains.{always-steps}
-use Rattle.bd_audit.proofs.Quiet.{made-kept, made-changed}
-use Rattle.bd_audit.proofs.ReplyLaw.{placed}
+use Rattle.bd_audit.proofs.NamesHaveGiftChains.Chains.{always-steps}
+use Rattle.bd_audit.proofs.RepliesReachTheirCallers.Quiet.{made-kept, made-changed}
+use Rattle.bd_audit.proofs.RepliesReachTheirCallers.ReplyLaw.{placed}
+use Rattle.bd_laws.proofs.Machine.Fields.{owe-threads}
 
 abbrev pub seat_at : List Entry → ℕ → Option ℕ
 seat_at es m = option_map (λ e. e.seat) (slice_get es m)
@@ -126,10 +99,6 @@ unfolding call_out owe
 called-threads z seat p true = refl
 called-threads z seat p false = refl
 
-pub sent-threads : (s : Space) (a : Actor) (d : TransactionData) (v : Delivery) → (owe (delivered s a d v) (OfThread a.thread.seat) work.Complete).threads ≡ s.threads
-unfolding owe delivered own_notices add_buffer known_by assign_numbers refer make_objects
-sent-threads s a d v = refl
-
 transacted-threads : (s : Space) (a : Actor) (d : TransactionData) (v : Delivery) → (transacted s a d v).threads ≡ s.threads
 unfolding transacted owe delivered own_notices add_buffer known_by assign_numbers refer make_objects
 transacted-threads s a d v = called-threads _ a.thread.seat v.receiver.made v.one_way
@@ -142,10 +111,6 @@ told-threads z (Some t) n = refl
 replied-threads : (s : Space) (a : Actor) (d : TransactionData) (f : Frame) (v : Delivery) → (replied s a d f v).threads ≡ s.threads
 unfolding replied closed owe delivered own_notices add_buffer known_by assign_numbers refer make_objects
 replied-threads s a d f v = told-threads _ f.caller s.steps
-
-pub owe-threads : (z : Space) (list : TodoList) (kind : WorkKind) → (owe z list kind).threads ≡ z.threads
-unfolding owe
-owe-threads z list kind = refl
 
 module _ (es : List Entry) (e : Entry) (h : Seated es (after opening es)) where
   abbrev s : Space

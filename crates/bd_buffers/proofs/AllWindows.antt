@@ -373,7 +373,7 @@ none_received ps p bs gone all =
     none_to p bs (All-weaker (λ (b : Buffer). lives_in ps b.receiver ≡ true) (λ b. (b.receiver == p) ≡ false)
     (λ b lives. ne_eqb b.receiver p (λ e. false≢true (sym (not_living ps p gone) ∙ ap (lives_in ps) (sym e) ∙ lives))) bs all)
 
-held : (t : Windows) (bound p : ℕ) (ps : List Process) (bs : List Buffer) → WindowsOf t bound ps bs → buffers_held (find (is_owned_by p) t.windows) ≡ buffers_of bs p
+pub held : (t : Windows) (bound p : ℕ) (ps : List Process) (bs : List Buffer) → WindowsOf t bound ps bs → buffers_held (find (is_owned_by p) t.windows) ≡ buffers_of bs p
 held t bound p ps bs stands = by_window (find (is_owned_by p) t.windows) (process_in ps p) refl refl
   where
     by_window : (o : Option OwnedWindow) (r : Option Process) → find (is_owned_by p) t.windows ≡ o → process_in ps p ≡ r → buffers_held o ≡ buffers_of bs p

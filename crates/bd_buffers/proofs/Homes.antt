@@ -139,7 +139,7 @@ front_next (r ∷ rows) zero = first_alone r.buffer
 front_next (r ∷ rows) (suc i) = ap (cons_option r.buffer) (front_next rows i) ∙ first_before r.buffer (live (take i rows)) (option_to_list (in_row rows i))
 
 -- the live buffers of one row more
-front_more : (rows : List Row) (i : ℕ) (o : Option Buffer) → o ≡ in_row rows i → live (take (i + 1) rows) ≡ live (take i rows) ++ option_to_list o
+pub front_more : (rows : List Row) (i : ℕ) (o : Option Buffer) → o ≡ in_row rows i → live (take (i + 1) rows) ≡ live (take i rows) ++ option_to_list o
 front_more rows i o e =
     let next : i + 1 ≡ suc i = omega arith in
     ap (λ k. live (take k rows)) next ∙ front_next rows i ∙ ap (λ x. live (take i rows) ++ option_to_list x) (sym e)

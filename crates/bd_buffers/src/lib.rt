@@ -6,6 +6,7 @@ mod buffer;
 mod ground;
 mod hole;
 mod home;
+mod listing;
 mod owned;
 mod rows;
 mod window;

@@ -1,6 +1,6 @@
 //! A window.
 
-ghost use Rattle.std.specs.Prelude.{◌≡◌, ◌↔◌, ◌+◌, ◌*◌, ◌%◌, ◌<◌, ◌≤◌, [], ◌∷◌, ◌++◌, not, ℕ, Bool, List, All, length, filter, find, IsTrue, IsOk, IfOk, IfErr, IfSome, OnOk, OnErr, option_copied};
+ghost use Rattle.std.specs.Prelude.{◌≡◌, ◌↔◌, ◌+◌, ◌*◌, ◌%◌, ◌<◌, ◌≤◌, [], ◌∷◌, ◌++◌, not, ℕ, Bool, List, All, length, filter, find, map, IsTrue, IsOk, IfOk, IfErr, IfSome, OnOk, OnErr, option_copied};
 ghost use Rattle.bd_space.specs.declared.space.Buffer.{Buffer};
 ghost use Rattle.bd_space.specs.Words.{changed};
 ghost use Rattle.bd_space.specs.Windows.{needed, start_in, over_budget_in, start_for};
@@ -13,6 +13,7 @@ use crate::buffer::{needed, one_way_share, pointer_of};
 use crate::ground::{Ground, end_row, key_at};
 use crate::hole::first_place;
 use crate::home::forget;
+use crate::listing::list_made;
 use crate::rows::Rows;
 use bd_space::Buffer;
 use bd_uapi::Cause;
@@ -52,6 +53,7 @@ impl Window {
     ghost use Rattle.bd_buffers.specs.Holes.{IsHoles};
     ghost use Rattle.bd_buffers.specs.Stands.{Stands, CanHold, WindowTells, WindowMakes, Uses, UsesNothing};
     ghost use Rattle.bd_buffers.specs.Homes.{Forgets};
+    ghost use Rattle.bd_buffers.specs.WindowsStand.{made_of_buffer};
 
     /// An empty window of a size in bytes, a multiple of 8 of at most 4194304. Takes no memory.
     pub fn new(alloc: Global, size: u32) -> Result<Window, AllocError>
@@ -204,6 +206,13 @@ impl Window {
         ensures { Forgets self.now.buffers homes.old homes.new }
     {
         forget(homes, &self.buffers);
+    }
+
+    /// Appends the places at which the live buffers were made, oldest first.
+    pub(crate) fn list_made(&self, places: &mut Vec<u32>) -> Result<(), AllocError>
+        ensures { OnOk result (places.new.items ≡ places.old.items ++ map made_of_buffer self.now.buffers) }
+    {
+        list_made(&self.buffers, places)
     }
 
     /// Ends the buffer made there.

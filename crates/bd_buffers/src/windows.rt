@@ -1,6 +1,6 @@
 //! The windows of all live processes.
 
-ghost use Rattle.std.specs.Prelude.{◌≡◌, ◌≤◌, ℕ, Bool, IfOk, IfSome, OnOk, OnErr, Some, None, Err, length, List, [], option_map};
+ghost use Rattle.std.specs.Prelude.{◌≡◌, ◌≤◌, ◌++◌, ℕ, Bool, IfOk, IfSome, OnOk, OnErr, Some, None, Err, length, List, [], map, option_map};
 ghost use Rattle.std.specs.Option.{option_copied};
 ghost use Rattle.bd_uapi.specs.declared.fault.Cause.TheVariants.{NoRoom};
 ghost use Rattle.bd_space.specs.declared.space.Process.{Process};
@@ -172,6 +172,18 @@ impl Windows {
         match owned_by(&self.windows, p) {
             None => None,
             Some(w) => w.window.buffer_at_pointer(pointer),
+        }
+    }
+
+    /// Appends the places at which the live buffers of a process were made, oldest first. What it appends where memory is
+    /// refused isn't said.
+    pub fn list_made(&self, p: u32, places: &mut Vec<u32>) -> Result<(), AllocError>
+        ensures { OnOk result (Tells (StandsIn self.now) places.new.items
+            (λ s. places.old.items ++ map made_of_buffer (buffers_of s.buffers p))) }
+    {
+        match owned_by(&self.windows, p) {
+            None => Ok(()),
+            Some(w) => w.window.list_made(places),
         }
     }
 

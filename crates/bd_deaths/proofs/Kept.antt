@@ -7,9 +7,11 @@ use Rattle.bd_deaths.specs.declared.key.Key.TheVariants.{Name, Cookie}
 use Rattle.bd_deaths.specs.declared.list.DeathList.{DeathList}
 use Rattle.bd_deaths.specs.Keys.{has}
 use Rattle.bd_deaths.specs.SharedAt.{group_at}
+use Rattle.bd_deaths.specs.Slots.{deaths_in, lives, of, with, NoneTold}
 use Rattle.bd_deaths.specs.Stands.{AreIn, IsRising}
 use Rattle.bd_deaths.proofs.Changes.{All-changed}
 use Rattle.bd_deaths.proofs.Keys.{group-stays}
+use Rattle.bd_deaths.proofs.Lives.{lives-changed}
 use Rattle.bd_deaths.proofs.Places.{rising-changed}
 
 -- the two differ in their phases, and in whether they are cleared
@@ -25,17 +27,19 @@ has-alike (Cookie k) x y a = rw (a.process, a.cookie) refl
 
 pub kept : (t u : DeathList) (q : DeathNotification → Bool) (f : DeathNotification → DeathNotification)
     → ((x : DeathNotification) → Alike x (f x))
-    → (l : List DeathNotification) → AreIn t l → u.deaths.items ≡ changed q f t.deaths.items
-    → u.in_order ≡ t.in_order → u.end ≡ t.end → u.sharing ≡ t.sharing
+    → (l : List DeathNotification) → AreIn t l → u.slots.items ≡ changed (of q) (with f) t.slots.items
+    → u.in_order ≡ t.in_order → u.end ≡ t.end → u.sharing ≡ t.sharing → NoneTold u.told_from u.slots.items
     → AreIn u (changed q f l)
-kept t u q f alike l h items order end same = record {
-  items_are = items ∙ ap (changed q f) h.items_are;
-  rising = λ e. subst (λ n. IsRising 0 n (changed q f l)) (sym end)
-      (rising-changed q f (λ x. (alike x).made) 0 t.end l (h.rising (sym order ∙ e)));
+kept t u q f alike l h items order end same told = record {
+  lives_are = ap lives items ∙ lives-changed q f t.slots.items ∙ ap (changed q f) h.lives_are;
+  rising = λ e. subst (λ ss. IsRising 0 u.end (deaths_in ss)) (sym items)
+      (subst (λ n. IsRising 0 n (deaths_in (changed (of q) (with f) t.slots.items))) (sym end)
+      (rising-changed (of q) f (λ x. (alike x).made) 0 t.end t.slots.items (h.rising (sym order ∙ e))));
   keyed = record {
     groups = λ k. ap (λ s. group_at s k) same ∙ h.keyed.groups k
         ∙ sym (group-stays q f (λ x. (alike x).made) (has k) (λ x. has-alike k x (f x) (alike x)) l);
     places = All-changed (λ (x : DeathNotification). x.made < 2 ^ 32) q f
         (λ x fits. subst (λ n. n < 2 ^ 32) (sym (alike x).made) fits) l h.keyed.places;
   };
+  none_told = told;
 }

@@ -3,12 +3,13 @@ pub mod Gathered
 pub mod Kept
 pub mod Keys
 pub mod Listed
+pub mod Lives
 pub mod Only
 pub mod Parts
 pub mod Places
-pub mod Removing
 pub mod Room
 pub mod SharedKeys
 pub mod Telling
 pub mod Tests
+pub mod Told
 pub mod Visiting

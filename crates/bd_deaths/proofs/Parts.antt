@@ -1,10 +1,8 @@
 -- What is looked for in a part of the list, outside of which nothing passes.
-use Rattle.std.proofs.Common.{◌≡◌, ℕ, zero, suc, ◌+◌, ◌≤◌, ◌<◌, Bool, true, false, not, ◌&&◌, ◌||◌, cond, List, [], ◌∷◌, ◌++◌, Option, Some, None, filter, find, take, drop, length, get_or, set, is_some, ltb, MatchOption, refl, ap, sym, ◌∙◌, arith}
-use Rattle.std.specs.List.{list_any, between, position, position_or_len}
-use Rattle.std.proofs.lemmas.List.Quantifiers.{position-Some}
+use Rattle.std.proofs.Common.{◌≡◌, ℕ, zero, suc, ◌+◌, ◌≤◌, ◌<◌, Bool, true, false, not, ◌&&◌, ◌||◌, cond, List, [], ◌∷◌, ◌++◌, Some, filter, find, take, drop, length, get_or, set, is_some, refl, ap, sym, ◌∙◌, arith}
+use Rattle.std.specs.List.{list_any, between}
 use Rattle.std.proofs.lemmas.Slice.{between_is}
-use Rattle.std.proofs.lemmas.List.{take-append-drop, get_or-drop, get_or-take, get_or_default, set-get_or}
-use Rattle.std.proofs.lemmas.Bool.{ltb-false}
+use Rattle.std.proofs.lemmas.List.{take-append-drop, get_or_default, set-get_or}
 use Rattle.bd_space.specs.declared.space.DeathNotification.{DeathNotification}
 use Rattle.bd_space.specs.Words.{changed}
 use Rattle.bd_space.proofs.Changed.{changed-then, changed-else}
@@ -24,11 +22,8 @@ find-part q (x ∷ xs) (suc i) zero h b a = absurd (omega arith)
 find-part q (x ∷ xs) (suc i) (suc j) h b a =
     let g = no-head (q x) _ b in find-part q xs i j (omega arith) g.1 a ∙ ap (λ t. cond t (Some x) (find q xs)) (sym g.0)
 
-pub find-between : (q : DeathNotification → Bool) (xs ys : List DeathNotification) (i j : ℕ) → i ≤ j → IsWithin q i j xs → ys ≡ between i j xs → find q ys ≡ find q xs
+find-between : {A : Type 0} (q : A → Bool) (xs ys : List A) (i j : ℕ) → i ≤ j → IsWithin q i j xs → ys ≡ between i j xs → find q ys ≡ find q xs
 find-between q xs ys i j h w e = ap (find q) (e ∙ between_is xs i j) ∙ find-part q xs i j h w.before w.after
-
-pub any-between : (q : DeathNotification → Bool) (xs ys : List DeathNotification) (i j : ℕ) → i ≤ j → IsWithin q i j xs → ys ≡ between i j xs → list_any q ys ≡ list_any q xs
-any-between q xs ys i j h w e = any-some q ys ∙ ap is_some (find-between q xs ys i j h w e) ∙ sym (any-some q xs)
 
 filter-empty : {A : Type 0} (q : A → Bool) (xs : List A) → list_any q xs ≡ false → filter q xs ≡ []
 filter-empty q [] h = refl
@@ -48,7 +43,7 @@ filter-part q (x ∷ xs) (suc i) (suc j) h b a =
 
 -- ---- changed from one index to another
 
-pub changed-first : (q : DeathNotification → Bool) (f : DeathNotification → DeathNotification) (xs : List DeathNotification) (i j : ℕ) → IsWithin q i j xs
+pub changed-first : {A : Type 0} (q : A → Bool) (f : A → A) (xs : List A) (i j : ℕ) → IsWithin q i j xs
     → xs ≡ changed q f (take i xs) ++ drop i xs
 changed-first q f xs i j w = sym (ap (λ ys. ys ++ drop i xs) (changed-none q f (take i xs) w.before) ∙ take-append-drop i xs)
 
@@ -56,7 +51,7 @@ changed-append : {A : Type 0} (q : A → Bool) (f : A → A) (xs ys : List A) �
 changed-append q f [] ys = refl
 changed-append q f (x ∷ xs) ys = ap (λ zs. cond (q x) (f x) x ∷ zs) (changed-append q f xs ys)
 
-pub changed-last : (q : DeathNotification → Bool) (f : DeathNotification → DeathNotification) (xs : List DeathNotification) (i j : ℕ) → IsWithin q i j xs
+pub changed-last : {A : Type 0} (q : A → Bool) (f : A → A) (xs : List A) (i j : ℕ) → IsWithin q i j xs
     → changed q f (take j xs) ++ drop j xs ≡ changed q f xs
 changed-last q f xs i j w =
     ap (λ ys. changed q f (take j xs) ++ ys) (sym (changed-none q f (drop j xs) w.after))
@@ -142,32 +137,3 @@ first-of-both false b h = absurd (cc)
 pub last-two : (a b c : Bool) → ((a && b) && c) ≡ true → (b && c) ≡ true
 last-two true b c h = h
 last-two false b c h = absurd (cc)
-
--- ---- by the first index
-
-none-any : {A : Type 0} (q : A → Bool) (xs : List A) → length xs ≤ position_or_len q xs → list_any q xs ≡ false
-none-any q [] h = refl
-none-any {A} q (x ∷ xs) h = by (q x) h (none-any q xs)
-  where
-    by : (b : Bool) → length (x ∷ xs) ≤ cond (not b) (1 + position_or_len q xs) 0 → (length xs ≤ position_or_len q xs → list_any q xs ≡ false) → (b || list_any q xs) ≡ false
-    by true g further = absurd (omega (arith, g))
-    by false g further = further (omega (arith, g))
-
-pub position-none : {A : Type 0} (q : A → Bool) (xs : List A) → position q xs ≡ None → list_any q xs ≡ false
-position-none {A} q xs h = by (ltb (position_or_len q xs) (length xs)) refl h
-  where
-    by : (b : Bool) → ltb (position_or_len q xs) (length xs) ≡ b → cond b (Some (position_or_len q xs)) None ≡ None → list_any q xs ≡ false
-    by true e g = absurd (cc)
-    by false e g = none-any q xs (ltb-false _ _ e)
-
-pub position-between : (q : DeathNotification → Bool) (xs ys : List DeathNotification) (i j k : ℕ) (d : DeathNotification) → ys ≡ between i j xs → length ys + i ≡ j
-    → position q ys ≡ Some k → q (get_or xs (i + k) d) ≡ true
-position-between q xs ys i j k d e n h =
-    let found = position-Some q ys k d h in
-    let lower = found.0 in
-    let at : get_or ys k d ≡ get_or xs (i + k) d = ap (λ zs. get_or zs k d) (e ∙ between_is xs i j) ∙ get_or-drop i (take j xs) k d ∙ get_or-take j xs (i + k) d (omega (arith, lower, n)) in
-    ap q (sym at) ∙ found.1
-
-pub on-none : {A : Type 0} {P : Type 0} (Q : A → Type 0) (r : Option A) → r ≡ None → P → MatchOption r P Q
-on-none Q None e p = p
-on-none Q (Some x) e p = absurd (cc)

@@ -1,7 +1,7 @@
 -- Where in the list those are that pass.
 use Rattle.std.proofs.Common.{◌≡◌, ℕ, zero, suc, ◌+◌, ◌%◌, ◌^◌, ◌≤◌, ◌<◌, ◌==◌, Bool, true, false, not, ◌||◌, cond, List, [], ◌∷◌, ◌++◌, Some, None, filter, find, take, drop, length, get_or, ltb, refl, sym, subst, ◌∙◌, arith}
 use Rattle.std.specs.Prelude.{All}
-use Rattle.std.specs.List.{remove, list_any}
+use Rattle.std.specs.List.{list_any}
 use Rattle.std.proofs.lemmas.List.Elements.{All-head, All-tail}
 use Rattle.std.specs.List.Sorted.{IsPartitionedBy, IsPartitionPoint}
 use Rattle.std.proofs.lemmas.Bool.{eq-eqb, ne_eqb, ltb-true, ltb-false, lt-ltb}
@@ -10,6 +10,8 @@ use Rattle.bd_space.specs.Words.{changed}
 use Rattle.bd_space.specs.Deaths.{is_notification}
 use Rattle.bd_deaths.specs.declared.key.Group.{Group}
 use Rattle.bd_deaths.specs.Keys.{group}
+use Rattle.bd_deaths.specs.declared.slot.Slot.{Slot}
+use Rattle.bd_deaths.specs.Slots.{deaths_in, lives, of, with}
 use Rattle.bd_deaths.specs.Stands.{IsRising, IsWithin}
 use Rattle.bd_deaths.proofs.Keys.{sum-of-one}
 
@@ -19,34 +21,47 @@ pub rising-from : (m n end : ℕ) (xs : List DeathNotification) → m ≤ n → 
 rising-from m n end [] h r = omega (arith, h, r)
 rising-from m n end (x ∷ xs) h r = (omega (arith, h, r.0), r.1)
 
-pub rising-push : (m end : ℕ) (xs : List DeathNotification) (x : DeathNotification) → IsRising m end xs → end ≤ x.made → IsRising m (x.made + 1) (xs ++ x ∷ [])
-rising-push m end [] x r h = (omega (arith, h, r), omega arith)
-rising-push m end (y ∷ ys) x r h = (r.0, rising-push (suc y.made) end ys x r.1 h)
+pub rising-push : (m end : ℕ) (ss : List Slot) (s : Slot) → IsRising m end (deaths_in ss) → end ≤ s.death.made → IsRising m (s.death.made + 1) (deaths_in (ss ++ s ∷ []))
+rising-push m end [] s r h = (omega (arith, h, r), omega arith)
+rising-push m end (t ∷ ts) s r h = (r.0, rising-push (suc t.death.made) end ts s r.1 h)
 
-pub rising-remove : (m end : ℕ) (xs : List DeathNotification) (i : ℕ) → i < length xs → IsRising m end xs → IsRising m end (remove xs i)
-rising-remove m end [] i h r = absurd (omega arith)
-rising-remove m end (x ∷ xs) zero h r = rising-from m (suc x.made) end xs (omega (arith, r.0)) r.1
-rising-remove m end (x ∷ xs) (suc i) h r = (r.0, rising-remove (suc x.made) end xs i (omega arith) r.1)
-
-pub rising-changed : (p : DeathNotification → Bool) (f : DeathNotification → DeathNotification) → ((x : DeathNotification) → (f x).made ≡ x.made)
-    → (m end : ℕ) (xs : List DeathNotification) → IsRising m end xs → IsRising m end (changed p f xs)
-rising-changed p f made m end [] r = r
-rising-changed p f made m end (x ∷ xs) r = by (p x) (rising-changed p f made (suc x.made) end xs r.1)
+-- of those that haven't gone
+pub rising-lives : (m end : ℕ) (ss : List Slot) → IsRising m end (deaths_in ss) → IsRising m end (lives ss)
+rising-lives m end [] r = r
+rising-lives m end (s ∷ ss) r = by s.live (rising-lives (suc s.death.made) end ss r.1)
   where
-    by : (b : Bool) → IsRising (suc x.made) end (changed p f xs) → IsRising m end (cond b (f x) x ∷ changed p f xs)
-    by true s = subst (λ n. (m ≤ n) × IsRising (suc n) end (changed p f xs)) (sym (made x)) (r.0, s)
-    by false s = (r.0, s)
+    by : (b : Bool) → IsRising (suc s.death.made) end (lives ss) → IsRising m end (cond b (s.death ∷ lives ss) (lives ss))
+    by true h = (r.0, h)
+    by false h = let a = r.0 in rising-from m (suc s.death.made) end (lives ss) (omega (arith, a)) h
 
-pub rising-above : (m end : ℕ) (xs : List DeathNotification) (i : ℕ) (d : DeathNotification) → IsRising m end xs → i < length xs → m ≤ (get_or xs i d).made
+pub rising-changed : (p : Slot → Bool) (f : DeathNotification → DeathNotification) → ((x : DeathNotification) → (f x).made ≡ x.made)
+    → (m end : ℕ) (ss : List Slot) → IsRising m end (deaths_in ss) → IsRising m end (deaths_in (changed p (with f) ss))
+rising-changed p f made m end [] r = r
+rising-changed p f made m end (s ∷ ss) r = by (p s) (rising-changed p f made (suc s.death.made) end ss r.1)
+  where
+    by : (b : Bool) → IsRising (suc s.death.made) end (deaths_in (changed p (with f) ss))
+        → IsRising m end ((cond b (with f s) s).death ∷ deaths_in (changed p (with f) ss))
+    by true h = subst (λ n. (m ≤ n) × IsRising (suc n) end (deaths_in (changed p (with f) ss))) (sym (made s.death)) (r.0, h)
+    by false h = (r.0, h)
+
+pub rising-filter : (p : Slot → Bool) (m end : ℕ) (ss : List Slot) → IsRising m end (deaths_in ss) → IsRising m end (deaths_in (filter p ss))
+rising-filter p m end [] r = r
+rising-filter p m end (s ∷ ss) r = by (p s) (rising-filter p (suc s.death.made) end ss r.1)
+  where
+    by : (b : Bool) → IsRising (suc s.death.made) end (deaths_in (filter p ss)) → IsRising m end (deaths_in (cond b (s ∷ filter p ss) (filter p ss)))
+    by true h = (r.0, h)
+    by false h = let a = r.0 in rising-from m (suc s.death.made) end (deaths_in (filter p ss)) (omega (arith, a)) h
+
+rising-above : (m end : ℕ) (ss : List Slot) (i : ℕ) (d : Slot) → IsRising m end (deaths_in ss) → i < length ss → m ≤ (get_or ss i d).death.made
 rising-above m end [] i d r h = absurd (omega arith)
-rising-above m end (x ∷ xs) zero d r h = r.0
-rising-above m end (x ∷ xs) (suc i) d r h = let a = rising-above (suc x.made) end xs i d r.1 (omega arith) in let b = r.0 in omega (arith, a, b)
+rising-above m end (s ∷ ss) zero d r h = r.0
+rising-above m end (s ∷ ss) (suc i) d r h = let a = rising-above (suc s.death.made) end ss i d r.1 (omega arith) in let b = r.0 in omega (arith, a, b)
 
-pub rising-at : (m end : ℕ) (xs : List DeathNotification) (i j : ℕ) (d : DeathNotification) → IsRising m end xs → i < j → j < length xs → (get_or xs i d).made < (get_or xs j d).made
+rising-at : (m end : ℕ) (ss : List Slot) (i j : ℕ) (d : Slot) → IsRising m end (deaths_in ss) → i < j → j < length ss → (get_or ss i d).death.made < (get_or ss j d).death.made
 rising-at m end [] i j d r h k = absurd (omega arith)
-rising-at m end (x ∷ xs) i zero d r h k = absurd (omega arith)
-rising-at m end (x ∷ xs) zero (suc j) d r h k = let a = rising-above (suc x.made) end xs j d r.1 (omega arith) in omega (arith, a)
-rising-at m end (x ∷ xs) (suc i) (suc j) d r h k = rising-at (suc x.made) end xs i j d r.1 (omega arith) (omega arith)
+rising-at m end (s ∷ ss) i zero d r h k = absurd (omega arith)
+rising-at m end (s ∷ ss) zero (suc j) d r h k = let a = rising-above (suc s.death.made) end ss j d r.1 (omega arith) in omega (arith, a)
+rising-at m end (s ∷ ss) (suc i) (suc j) d r h k = rising-at (suc s.death.made) end ss i j d r.1 (omega arith) (omega arith)
 
 -- ---- between two indices
 
@@ -94,7 +109,7 @@ fewer-after q r [] (suc i) h e = refl
 fewer-after q r (x ∷ xs) zero h e = let g = no-head (r x) _ e in rw (implied q r x h.0 g.0) (fewer-after q r xs zero h.1 g.1)
 fewer-after q r (x ∷ xs) (suc i) h e = fewer-after q r xs i h.1 e
 
-pub within-fewer : (q r : DeathNotification → Bool) (xs : List DeathNotification) (i j : ℕ) → Implies q r xs → IsWithin r i j xs → IsWithin q i j xs
+pub within-fewer : {A : Type 0} (q r : A → Bool) (xs : List A) (i j : ℕ) → Implies q r xs → IsWithin r i j xs → IsWithin q i j xs
 within-fewer q r xs i j h w = record { before = fewer-before q r xs i h w.before; after = fewer-after q r xs j h w.after }
 
 -- ---- of those with a key
@@ -164,35 +179,35 @@ filter-none q (x ∷ xs) h = let g = no-head (q x) _ h in rw (g.0, filter-none q
 
 -- ---- by halves
 
-pub partitioned : (m end : ℕ) (xs : List DeathNotification) (made : ℕ) → IsRising m end xs → IsPartitionedBy (λ x. ltb x.made made) xs
-partitioned m end xs made r = λ i j d h k e. by i j d h k e (ltb i j) refl
+pub partitioned : (m end : ℕ) (ss : List Slot) (made : ℕ) → IsRising m end (deaths_in ss) → IsPartitionedBy (λ s. ltb s.death.made made) ss
+partitioned m end ss made r = λ i j d h k e. by i j d h k e (ltb i j) refl
   where
-    by : (i j : ℕ) (d : DeathNotification) → i ≤ j → j < length xs → ltb (get_or xs j d).made made ≡ true → (b : Bool) → ltb i j ≡ b → ltb (get_or xs i d).made made ≡ true
+    by : (i j : ℕ) (d : Slot) → i ≤ j → j < length ss → ltb (get_or ss j d).death.made made ≡ true → (b : Bool) → ltb i j ≡ b → ltb (get_or ss i d).death.made made ≡ true
     by i j d h k e true g =
-        let a = rising-at m end xs i j d r (ltb-true i j g) k in
-        let b = ltb-true (get_or xs j d).made made e in
-        lt-ltb (get_or xs i d).made made (omega (arith, a, b))
+        let a = rising-at m end ss i j d r (ltb-true i j g) k in
+        let b = ltb-true (get_or ss j d).death.made made e in
+        lt-ltb (get_or ss i d).death.made made (omega (arith, a, b))
     by i j d h k e false g =
         let n = ltb-false i j g in
         let same : i ≡ j = omega (arith, h, n) in
-        subst (λ n. ltb (get_or xs n d).made made ≡ true) (sym same) e
+        subst (λ n. ltb (get_or ss n d).death.made made ≡ true) (sym same) e
 
-module _ (end : ℕ) (xs : List DeathNotification) (made i : ℕ) (r : IsRising 0 end xs)
-    (p : IsPartitionPoint (λ x. ltb x.made made ≡ true) (λ x. ltb x.made made ≡ false) xs i) where
-  before-point : list_any (is_notification made) (take i xs) ≡ false
-  before-point = none-before (is_notification made) xs i (λ k d a b. let e = ltb-true (get_or xs k d).made made (p.0 k d (omega arith) a) in ne_eqb (get_or xs k d).made made (λ same. omega (arith, e, same)))
+module _ (end : ℕ) (ss : List Slot) (made i : ℕ) (r : IsRising 0 end (deaths_in ss))
+    (p : IsPartitionPoint (λ s. ltb s.death.made made ≡ true) (λ s. ltb s.death.made made ≡ false) ss i) where
+  before-point : list_any (of (is_notification made)) (take i ss) ≡ false
+  before-point = none-before (of (is_notification made)) ss i (λ k d a b. let e = ltb-true (get_or ss k d).death.made made (p.0 k d (omega arith) a) in ne_eqb (get_or ss k d).death.made made (λ same. omega (arith, e, same)))
 
-  pub within-point : i < length xs → IsWithin (is_notification made) i (i + 1) xs
+  pub within-point : i < length ss → IsWithin (of (is_notification made)) i (i + 1) ss
   within-point h = record {
     before = before-point;
-    after = none-after (is_notification made) xs (i + 1) (λ k d a b.
-        let here = ltb-false (get_or xs i d).made made (p.1 i d (omega arith) h) in
-        let there = rising-at 0 end xs i k d r (omega (arith, a)) b in
-        ne_eqb (get_or xs k d).made made (λ same. omega (arith, here, there, same)));
+    after = none-after (of (is_notification made)) ss (i + 1) (λ k d a b.
+        let here = ltb-false (get_or ss i d).death.made made (p.1 i d (omega arith) h) in
+        let there = rising-at 0 end ss i k d r (omega (arith, a)) b in
+        ne_eqb (get_or ss k d).death.made made (λ same. omega (arith, here, there, same)));
   }
 
-  pub within-end : length xs ≤ i → IsWithin (is_notification made) i i xs
+  pub within-end : length ss ≤ i → IsWithin (of (is_notification made)) i i ss
   within-end h = record {
     before = before-point;
-    after = none-after (is_notification made) xs i (λ k d a b. absurd (omega (arith, h, a, b)));
+    after = none-after (of (is_notification made)) ss i (λ k d a b. absurd (omega (arith, h, a, b)));
   }

@@ -1,4 +1,4 @@
--- How many notifications a table may still take without memory, how many it has, and what a change takes of that.
+-- How many notifications a table may still take without memory, how many slots it has, and what a change takes of that.
 use Rattle.std.specs.Prelude.{ℕ, ◌+◌, ◌-◌, ◌/◌, ◌≤◌, min, vec_len, vec_capacity}
 use Rattle.bd_groups.specs.Members.{group_room}
 use Rattle.bd_deaths.specs.declared.list.DeathList.{DeathList}
@@ -6,10 +6,10 @@ use Rattle.bd_deaths.specs.declared.table.DeathTable.{DeathTable}
 use Rattle.bd_deaths.specs.SharedAt.{key_room}
 
 unfoldable pub list_room : DeathList → ℕ
-list_room t = min (vec_capacity t.deaths - vec_len t.deaths) (key_room t.sharing)
+list_room t = min (vec_capacity t.slots - vec_len t.slots) (key_room t.sharing)
 
 unfoldable pub list_count : DeathList → ℕ
-list_count t = vec_len t.deaths
+list_count t = vec_len t.slots
 
 -- each is listed twice in the groups
 unfoldable pub death_room : DeathTable → ℕ

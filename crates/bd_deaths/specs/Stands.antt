@@ -6,6 +6,7 @@ use Rattle.bd_deaths.specs.declared.list.DeathList.{DeathList}
 use Rattle.bd_deaths.specs.declared.table.DeathTable.{DeathTable}
 use Rattle.bd_deaths.specs.SharedAt.{AreShared}
 use Rattle.bd_deaths.specs.Listed.{IsListed}
+use Rattle.bd_deaths.specs.Slots.{deaths_in, lives, NoneTold}
 
 -- each was made after the one before, from one place on and before another
 abbrev pub IsRising : ℕ → ℕ → List DeathNotification → Type 0
@@ -13,9 +14,11 @@ IsRising from end [] = from ≤ end
 IsRising from end (x ∷ xs) = (from ≤ x.made) × IsRising (suc x.made) end xs
 
 pub record AreIn (t : DeathList) (l : List DeathNotification) : Type 0 where
-  pub items_are : t.deaths.items ≡ l
-  pub rising : t.in_order ≡ true → IsRising 0 t.end l
+  pub lives_are : lives t.slots.items ≡ l
+  -- those that went are in order too
+  pub rising : t.in_order ≡ true → IsRising 0 t.end (deaths_in t.slots.items)
   pub keyed : AreShared t.sharing l
+  pub none_told : NoneTold t.told_from t.slots.items
 
 pub record DeathsAre (t : DeathTable) (l : List DeathNotification) : Type 0 where
   pub are_in : AreIn t.list l
@@ -23,12 +26,12 @@ pub record DeathsAre (t : DeathTable) (l : List DeathNotification) : Type 0 wher
   pub listed : All (IsListed t.groups) l
 
 -- all that pass lie between the two indices
-pub record IsWithin (q : DeathNotification → Bool) (from to : ℕ) (l : List DeathNotification) : Type 0 where
+pub record IsWithin {A : Type 0} (q : A → Bool) (from to : ℕ) (l : List A) : Type 0 where
   pub before : list_any q (take from l) ≡ false
   pub after : list_any q (drop to l) ≡ false
 
 -- a part of the list, with all that pass
-pub record IsPartOf (q : DeathNotification → Bool) (part l : List DeathNotification) : Type 0 where
+pub record IsPartOf {A : Type 0} (q : A → Bool) (part l : List A) : Type 0 where
   pub from : ℕ
   pub to : ℕ
   pub order : from ≤ to

@@ -1,46 +1,48 @@
 //! Changes of one notification, and of those that are read.
 
-ghost use Rattle.std.specs.Prelude.{◌≡◌, ◌==◌, ◌≤◌, ◌<◌, not, filter, vec_len, vec_capacity, length, position, Option, List, true, false, IfSome, MatchOption, slice_index_or};
-ghost use Rattle.std.specs.List.{list_any};
+ghost use Rattle.std.specs.Prelude.{◌≡◌, ◌==◌, ◌≤◌, not, filter, vec_len, vec_capacity, List, true};
 ghost use Rattle.bd_space.specs.Words.{changed, is_some_and};
 ghost use Rattle.bd_space.specs.Deaths as deaths_of;
 ghost use Rattle.bd_space.specs.Todo.{death_of};
 ghost use Rattle.bd_space.specs.ReadItems as reading;
 ghost use Rattle.bd_space.specs.declared.space.Phase.TheVariants.{Told};
 ghost use Rattle.bd_space.specs.declared.space.DeathNotification as declared;
+ghost use Rattle.bd_deaths.specs.Slots as spec;
 ghost use Rattle.bd_deaths.specs.Stands.{IsWithin};
 
 use crate::list::DeathList;
-use crate::place::part;
-use bd_space::{DeathNotification, Phase, Work, WorkKind};
+use crate::slot::{Slot, told_before};
+use bd_space::{Phase, Work, WorkKind};
 use std::ops::Range;
 
-fn mark(deaths: &mut Vec<DeathNotification>, range: Range<usize>, made: u32)
+fn mark(slots: &mut Vec<Slot>, range: Range<usize>, made: u32)
     requires from { range.start ≤ range.end }
-    requires to { range.end ≤ vec_len deaths.old }
-    ensures items { IsWithin (deaths_of.is_notification made) range.start range.end deaths.old.items → deaths.new.items
-        ≡ changed (deaths_of.is_notification made) (λ x. record x { cleared = true }) deaths.old.items }
-    ensures len { vec_len deaths.new ≡ vec_len deaths.old }
-    ensures capacity { vec_capacity deaths.new ≡ vec_capacity deaths.old }
+    requires to { range.end ≤ vec_len slots.old }
+    ensures items { IsWithin (spec.of (deaths_of.is_notification made)) range.start range.end slots.old.items
+        → slots.new.items ≡ changed (spec.of (deaths_of.is_notification made))
+        (spec.with (λ x. record x { cleared = true })) slots.old.items }
+    ensures len { vec_len slots.new ≡ vec_len slots.old }
+    ensures capacity { vec_capacity slots.new ≡ vec_capacity slots.old }
 {
     for i in range.start..range.end {
-        if deaths[i].made == made {
-            deaths[i].cleared = true;
+        if slots[i].death.made == made {
+            slots[i].death.cleared = true;
         }
     }
 }
 
-fn set_phase(deaths: &mut Vec<DeathNotification>, range: Range<usize>, made: u32, phase: Phase)
+fn set_phase(slots: &mut Vec<Slot>, range: Range<usize>, made: u32, phase: Phase)
     requires from { range.start ≤ range.end }
-    requires to { range.end ≤ vec_len deaths.old }
-    ensures items { IsWithin (deaths_of.is_notification made) range.start range.end deaths.old.items → deaths.new.items
-        ≡ changed (deaths_of.is_notification made) (λ x. record x { phase = phase }) deaths.old.items }
-    ensures len { vec_len deaths.new ≡ vec_len deaths.old }
-    ensures capacity { vec_capacity deaths.new ≡ vec_capacity deaths.old }
+    requires to { range.end ≤ vec_len slots.old }
+    ensures items { IsWithin (spec.of (deaths_of.is_notification made)) range.start range.end slots.old.items
+        → slots.new.items ≡ changed (spec.of (deaths_of.is_notification made))
+        (spec.with (λ x. record x { phase = phase })) slots.old.items }
+    ensures len { vec_len slots.new ≡ vec_len slots.old }
+    ensures capacity { vec_capacity slots.new ≡ vec_capacity slots.old }
 {
     for i in range.start..range.end {
-        if deaths[i].made == made {
-            deaths[i].phase = phase;
+        if slots[i].death.made == made {
+            slots[i].death.phase = phase;
         }
     }
 }
@@ -55,13 +57,6 @@ fn death_of(kind: WorkKind) -> Option<u32>
     }
 }
 
-fn first_made(deaths: &[DeathNotification], made: u32) -> Option<usize>
-    ensures first { result ≡ position (deaths_of.is_notification made) deaths.now }
-    ensures within { IfSome result (λ i. i < length deaths.now) }
-{
-    deaths.iter().position(|x| x.made == made)
-}
-
 impl DeathList {
     ghost use Rattle.bd_deaths.specs.Stands.{AreIn};
     ghost use Rattle.bd_deaths.specs.Room.{ListUses, list_count};
@@ -74,7 +69,7 @@ impl DeathList {
         ensures uses { ListUses self.old self.new 0 }
     {
         let range = self.made_range(made);
-        mark(&mut self.deaths, range, made);
+        mark(&mut self.slots, range, made);
     }
 
     /// The notification is this far.
@@ -86,32 +81,21 @@ impl DeathList {
         ensures count { list_count self.new ≡ list_count self.old }
     {
         let range = self.made_range(made);
-        set_phase(&mut self.deaths, range, made, phase);
-    }
-
-    // The index of the first notification of this place.
-    fn index_of(&self, made: u32) -> Option<usize>
-        ensures within { IfSome result (λ i. i < vec_len self.now.deaths) }
-        ensures first { (l : List declared.DeathNotification) → AreIn self.now l
-            → MatchOption result (list_any (deaths_of.is_notification made) l ≡ false)
-            (λ i. (d : declared.DeathNotification) → deaths_of.is_notification made (slice_index_or l i d) ≡ true) }
-    {
-        let range = self.made_range(made);
-        let start = range.start;
-        let i = first_made(part(&self.deaths, range), made)?;
-        Some(start + i)
+        self.told_from = told_before(self.told_from, range.start, phase);
+        set_phase(&mut self.slots, range, made, phase);
     }
 
     /// The notification goes.
-    #[tactic(auto, unfolding(crate::specs::Room::list_room, crate::specs::Room::list_count))]
     pub(crate) fn remove(&mut self, made: u32)
         ensures stands { (l : List declared.DeathNotification) → AreIn self.old l
             → AreIn self.new (filter (λ x. not (deaths_of.is_notification made x)) l) }
         ensures uses { ListUses self.old self.new 0 }
     {
-        while let Some(i) = self.index_of(made) {
-            self.remove_at(i);
-        }
+        let range = self.made_range(made);
+        let end = range.end;
+        self.drop_in(range, |x| x.made == made);
+        self.pass_untold(end);
+        self.close_up();
     }
 
     // What the item told of is told.

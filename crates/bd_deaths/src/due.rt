@@ -12,9 +12,11 @@ ghost use Rattle.bd_space.specs.declared.space.DeathNotification as declared;
 ghost use Rattle.bd_nodes.specs.Stands.{NodesAre};
 ghost use Rattle.bd_deaths.specs.Due as due;
 ghost use Rattle.bd_deaths.specs.Keys as keys;
+ghost use Rattle.bd_deaths.specs.Slots as spec;
 
 use crate::list::DeathList;
 use crate::listing::group_of;
+use crate::slot::Slot;
 use crate::table::DeathTable;
 use bd_groups::Members;
 use bd_nodes::NodeTable;
@@ -42,55 +44,79 @@ fn is_told(nodes: &NodeTable, p: u32, x: &DeathNotification) -> bool
     x.process != p && is_due(nodes, p, x)
 }
 
-// Whether one of these is due that was made at this place.
-fn has_due(deaths: &[DeathNotification], nodes: &NodeTable, p: u32, made: u32) -> bool
+// Whether this one is due, which was made at this place and hasn't gone.
+fn is_due_at(nodes: &NodeTable, p: u32, made: u32, s: &Slot) -> bool
     ensures { (objects : List Object) → NodesAre nodes.now objects
-        → result ≡ list_any (due.is_due_at objects p made) deaths.now }
+        → result ≡ spec.on (due.is_due_at objects p made) s.now }
 {
-    for x in deaths {
-        if made == x.made && is_due(nodes, p, x) {
+    s.live && made == s.death.made && is_due(nodes, p, &s.death)
+}
+
+// Whether one of these is due that was made at this place.
+fn has_due(slots: &[Slot], nodes: &NodeTable, p: u32, made: u32) -> bool
+    ensures { (objects : List Object) → NodesAre nodes.now objects
+        → result ≡ list_any (due.is_due_at objects p made) (spec.lives slots.now) }
+{
+    for s in slots {
+        if is_due_at(nodes, p, made, s) {
             return true;
         }
     }
     false
 }
 
+// Whether the end of the process is to be told to another by this one, which hasn't gone.
+fn is_told_by(nodes: &NodeTable, p: u32, s: &Slot) -> bool
+    ensures { (objects : List Object) → NodesAre nodes.now objects
+        → result ≡ spec.on (λ x. not (x.process == p) && due.is_due objects p x) s.now }
+{
+    s.live && is_told(nodes, p, &s.death)
+}
+
 // Puts those of others that are due to what is there.
 fn put_due(
-    deaths: &[DeathNotification],
+    slots: &[Slot],
     nodes: &NodeTable,
     p: u32,
     told: &mut Vec<DeathNotification>,
 ) -> Result<(), AllocError>
     ensures put { OnOk result ((objects : List Object) → NodesAre nodes.now objects
-        → told.new.items ≡ told.old.items ++ due.due_in objects p deaths.now) }
+        → told.new.items ≡ told.old.items ++ due.due_in objects p (spec.lives slots.now)) }
     ensures grown { OnErr result ((objects : List Object) → NodesAre nodes.now objects
-        → list_any (due.is_due objects p) deaths.now ≡ true) }
+        → list_any (due.is_due objects p) (spec.lives slots.now) ≡ true) }
 {
-    for x in deaths {
-        if is_told(nodes, p, x) {
-            told.push(*x)?;
+    for s in slots {
+        if is_told_by(nodes, p, s) {
+            told.push(s.death)?;
         }
     }
     Ok(())
 }
 
+// Whether the end of the process is to be told to another by this one, which was made at this place and hasn't gone.
+fn is_told_at(nodes: &NodeTable, p: u32, made: u32, s: &Slot) -> bool
+    ensures { (objects : List Object) → NodesAre nodes.now objects
+        → result ≡ spec.on (λ x. (made == x.made) && (not (x.process == p) && due.is_due objects p x)) s.now }
+{
+    s.live && made == s.death.made && is_told(nodes, p, &s.death)
+}
+
 // Puts those of others that are due to what is there, of those that were made at this place.
 fn put_due_at(
-    deaths: &[DeathNotification],
+    slots: &[Slot],
     nodes: &NodeTable,
     p: u32,
     made: u32,
     told: &mut Vec<DeathNotification>,
 ) -> Result<(), AllocError>
     ensures put { OnOk result ((objects : List Object) → NodesAre nodes.now objects
-        → told.new.items ≡ told.old.items ++ due.due_of (λ n. made == n) objects p deaths.now) }
+        → told.new.items ≡ told.old.items ++ due.due_of (λ n. made == n) objects p (spec.lives slots.now)) }
     ensures grown { OnErr result ((objects : List Object) → NodesAre nodes.now objects
-        → list_any (due.is_due_at objects p made) deaths.now ≡ true) }
+        → list_any (due.is_due_at objects p made) (spec.lives slots.now) ≡ true) }
 {
-    for x in deaths {
-        if made == x.made && is_told(nodes, p, x) {
-            told.push(*x)?;
+    for s in slots {
+        if is_told_at(nodes, p, made, s) {
+            told.push(s.death)?;
         }
     }
     Ok(())
@@ -135,7 +161,7 @@ impl DeathList {
             → NodesAre nodes.now objects → AreIn self.now l → list_any (due.is_due objects p) l ≡ true) }
     {
         let mut told = Vec::new(alloc);
-        put_due(&self.deaths, nodes, p, &mut told)?;
+        put_due(&self.slots, nodes, p, &mut told)?;
         Ok(told)
     }
 

@@ -11,6 +11,7 @@ mod look;
 mod name;
 mod place;
 mod sharing;
+mod slot;
 mod table;
 
 pub use table::DeathTable;

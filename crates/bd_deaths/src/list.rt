@@ -1,16 +1,24 @@
 //! The notifications themselves, in the order in which they were made, with what is kept of those with each key.
 
-ghost use Rattle.std.specs.Prelude.{◌≡◌, ◌≤◌, ◌<◌, ◌+◌, ◌++◌, ◌∷◌, [], List, OnOk, OnErr, vec_len};
-ghost use Rattle.std.specs.List.{remove as list_remove};
+ghost use Rattle.std.specs.Prelude.{◌≡◌, ◌≤◌, ◌<◌, ◌++◌, ◌∷◌, [], Bool, true, not, filter, set, List, OnOk, OnErr, vec_len, slice_index_or};
 ghost use Rattle.bd_space.specs.declared.space.DeathNotification as declared;
+ghost use Rattle.bd_deaths.specs.declared.slot.Slot.{Slot};
+ghost use Rattle.bd_deaths.specs.Slots as spec;
+ghost use Rattle.bd_deaths.specs.Stands.{IsWithin};
 
 use crate::sharing::Sharing;
+use crate::slot::{Slot, told_from};
 use bd_space::DeathNotification;
 use std::alloc::{AllocError, Global};
+use std::ops::Range;
 
-/// The notifications of all processes.
+/// The notifications of all processes. One that goes leaves its slot, so that no other moves.
 pub(crate) struct DeathList {
-    pub(crate) deaths: Vec<DeathNotification>,
+    pub(crate) slots: Vec<Slot>,
+    // How many have gone since the others last closed up.
+    pub(crate) gone: usize,
+    // None of those before this slot is told, so that those that were acknowledged aren't looked through again.
+    pub(crate) told_from: usize,
     // Whether each was made after the one before, so that a place is found by halves.
     pub(crate) in_order: bool,
     // The place after the latest, while they are in order.
@@ -21,7 +29,9 @@ pub(crate) struct DeathList {
 impl Drop for DeathList {
     fn drop(self) {
         let DeathList {
-            deaths: _,
+            slots: _,
+            gone: _,
+            told_from: _,
             in_order: _,
             end: _,
             sharing: _,
@@ -38,7 +48,9 @@ impl DeathList {
         ensures { AreIn result [] }
     {
         DeathList {
-            deaths: Vec::new(alloc),
+            slots: Vec::new(alloc),
+            gone: 0,
+            told_from: 0,
             in_order: true,
             end: 0,
             sharing: Sharing::new(alloc),
@@ -53,7 +65,7 @@ impl DeathList {
         ensures room { OnOk result (more ≤ list_room self.new) }
         ensures grown { OnErr result (more ≤ list_room self.old → ⊥) }
     {
-        self.deaths.reserve(more)?;
+        self.slots.reserve(more)?;
         self.sharing.reserve(more)
     }
 
@@ -67,20 +79,73 @@ impl DeathList {
         self.in_order = self.in_order && self.end <= x.made as u64;
         self.end = x.made as u64 + 1;
         self.sharing.add(&x);
-        self.deaths.push_reserved(x);
+        self.slots.push_reserved(Slot {
+            death: x,
+            live: true,
+        });
         // A length is a usize: so no group's count wraps.
-        let _ = self.deaths.len();
+        let _ = self.slots.len();
     }
 
-    /// The notification of this index goes.
+    // The notification of this slot goes.
     #[tactic(auto, unfolding(crate::specs::Room::list_room, crate::specs::Room::list_count))]
-    pub(crate) fn remove_at(&mut self, i: usize)
-        requires { i < vec_len self.old.deaths }
-        ensures stands { (l : List declared.DeathNotification) → AreIn self.old l → AreIn self.new (list_remove l i) }
-        ensures len { vec_len self.new.deaths + 1 ≡ vec_len self.old.deaths }
+    fn leave_slot(&mut self, i: usize)
+        requires within { i < vec_len self.old.slots }
+        requires live { (d : Slot) → (slice_index_or self.old.slots.items i d).live ≡ true }
+        ensures stands { (l : List declared.DeathNotification) → AreIn self.old l
+            → AreIn self.new (spec.lives self.new.slots.items) }
+        ensures len { vec_len self.new.slots ≡ vec_len self.old.slots }
+        ensures slots { (d : Slot) → d ≡ slice_index_or self.old.slots.items i d
+            → self.new.slots.items ≡ set self.old.slots.items i (spec.gone d) }
         ensures uses { ListUses self.old self.new 0 }
     {
-        let x = self.deaths.remove(i);
+        let x = self.slots[i].death;
+        self.slots[i].live = false;
         self.sharing.take(&x);
+        self.gone = self.gone.saturating_add(1);
+    }
+
+    /// Of the notifications of these slots those go for which `f` answers `true`.
+    pub(crate) fn drop_in<F: Fn(DeathNotification) -> bool>(&mut self, range: Range<usize>, f: F)
+        requires calls { F.IsAlwaysCallable f }
+        requires from { range.start ≤ range.end }
+        requires to { range.end ≤ vec_len self.old.slots }
+        ensures stands { (q : declared.DeathNotification → Bool)
+            → ((x : declared.DeathNotification) (b : Bool) → F.post f x b → b ≡ q x)
+            → (l : List declared.DeathNotification) → AreIn self.old l
+            → IsWithin (spec.on q) range.start range.end self.old.slots.items
+            → AreIn self.new (filter (λ x. not (q x)) l) }
+        ensures len { vec_len self.new.slots ≡ vec_len self.old.slots }
+        ensures uses { ListUses self.old self.new 0 }
+    {
+        for i in range.start..range.end {
+            let slot = self.slots[i];
+            if slot.live && f(slot.death) {
+                self.leave_slot(i);
+            }
+        }
+    }
+
+    /// Goes on to the first slot before this one that is told.
+    #[tactic(auto, unfolding(crate::specs::Room::list_room, crate::specs::Room::list_count))]
+    pub(crate) fn pass_untold(&mut self, to: usize)
+        requires { to ≤ vec_len self.old.slots }
+        ensures stands { (l : List declared.DeathNotification) → AreIn self.old l → AreIn self.new l }
+        ensures uses { ListUses self.old self.new 0 }
+    {
+        self.told_from = told_from(&self.slots, self.told_from, to);
+    }
+
+    /// Where more than half have gone, the others close up: each that went pays for one that moves.
+    #[tactic(auto, unfolding(crate::specs::Room::list_room, crate::specs::Room::list_count))]
+    pub(crate) fn close_up(&mut self)
+        ensures stands { (l : List declared.DeathNotification) → AreIn self.old l → AreIn self.new l }
+        ensures uses { ListUses self.old self.new 0 }
+    {
+        if self.gone > self.slots.len() / 2 {
+            self.slots.retain(|s| s.live);
+            self.told_from = 0;
+            self.gone = 0;
+        }
     }
 }

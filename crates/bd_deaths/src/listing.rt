@@ -5,7 +5,9 @@ ghost use Rattle.bd_groups.specs.Members.{group_room};
 ghost use Rattle.bd_space.specs.declared.space.DeathNotification as declared;
 ghost use Rattle.bd_deaths.specs.Keys as keys;
 ghost use Rattle.bd_deaths.specs.Listed.{IsListed};
+ghost use Rattle.bd_deaths.specs.Slots as spec;
 
+use crate::slot::Slot;
 use crate::table::DeathTable;
 use bd_groups::{Group, Groups};
 use bd_space::{DeathNotification, ObjectId};
@@ -32,14 +34,16 @@ pub(crate) fn list_place(groups: &mut Groups<u32>, x: &DeathNotification)
     groups.push(group_of(x.object), x.made);
 }
 
-/// These notifications' places come into the groups.
-fn list_places(groups: &mut Groups<u32>, deaths: &[DeathNotification])
-    requires { 2 * length deaths.now ≤ group_room groups.old }
-    ensures listed { All (IsListed groups.new) deaths.now }
-    ensures uses { group_room groups.old ≤ group_room groups.new + 2 * length deaths.now }
+/// The places of those of these notifications that haven't gone come into the groups.
+fn list_places(groups: &mut Groups<u32>, slots: &[Slot])
+    requires { 2 * length slots.now ≤ group_room groups.old }
+    ensures listed { All (IsListed groups.new) (spec.lives slots.now) }
+    ensures uses { group_room groups.old ≤ group_room groups.new + 2 * length slots.now }
 {
-    for x in deaths {
-        list_place(groups, x);
+    for s in slots {
+        if s.live {
+            list_place(groups, &s.death);
+        }
     }
 }
 
@@ -62,10 +66,10 @@ impl DeathTable {
         ensures listed { IfOk result (λ g. (l : List declared.DeathNotification) → AreIn self.now.list l → All (IsListed g) l) }
         ensures room { IfOk result (λ g. more ≤ group_room g) }
     {
-        let members = members_for(self.list.deaths.len(), more)?;
-        let mut groups = Groups::new(*self.list.deaths.allocator());
+        let members = members_for(self.list.slots.len(), more)?;
+        let mut groups = Groups::new(*self.list.slots.allocator());
         groups.reserve(members)?;
-        list_places(&mut groups, &self.list.deaths);
+        list_places(&mut groups, &self.list.slots);
         Ok(groups)
     }
 
@@ -80,7 +84,7 @@ impl DeathTable {
         // A room is a usize.
         let _ = self.groups.room();
         let members = more.checked_mul(2).ok_or(AllocError)?;
-        let left = self.list.deaths.len().saturating_mul(2);
+        let left = self.list.slots.len().saturating_mul(2);
         if self.groups.is_worn(left, members) {
             self.groups = self.renewed(members)?;
             return Ok(());

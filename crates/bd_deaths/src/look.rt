@@ -1,15 +1,17 @@
 //! Looks by the step that made a notification, by process and cookie, and by process and object.
 
-ghost use Rattle.std.specs.Prelude.{◌≡◌, find, count_by, List, Option};
+ghost use Rattle.std.specs.Prelude.{◌≡◌, ◌==◌, if◌then◌else◌, find, count_by, option_map, List, None};
 ghost use Rattle.bd_space.specs.Words as words;
 ghost use Rattle.bd_space.specs.Deaths as deaths_of;
 ghost use Rattle.bd_space.specs.Clearing as clearing;
 ghost use Rattle.bd_space.specs.declared.space.DeathNotification as declared;
 ghost use Rattle.bd_deaths.specs.Only.{only_uncleared_in};
+ghost use Rattle.bd_deaths.specs.Slots as spec;
 
-use crate::key::{cookie_key, name_key};
+use crate::key::name_key;
+use crate::slot::{Slot, is_told};
 use crate::table::DeathTable;
-use bd_space::{DeathNotification, ObjectId, Phase};
+use bd_space::{DeathNotification, ObjectId};
 
 /// Whether the two are one object.
 pub(crate) fn same(a: ObjectId, b: ObjectId) -> bool
@@ -25,44 +27,68 @@ pub(crate) fn is_uncleared_on(p: u32, o: ObjectId, x: &DeathNotification) -> boo
     !x.cleared && x.process == p && same(x.object, o)
 }
 
-fn is_told(phase: Phase) -> bool
-    ensures { result ≡ clearing.is_told phase }
+fn made_in(slots: &[Slot], made: u32) -> Option<Slot>
+    ensures { result ≡ find (spec.on (deaths_of.is_notification made)) slots.now }
 {
-    matches!(phase, Phase::Told)
+    slots
+        .iter()
+        .copied()
+        .find(|s| s.live && s.death.made == made)
 }
 
-fn death_in(deaths: &[DeathNotification], made: u32) -> Option<DeathNotification>
-    ensures { result ≡ find (deaths_of.is_notification made) deaths.now }
+fn uncleared_in(slots: &[Slot], p: u32, o: ObjectId) -> Option<Slot>
+    ensures { result ≡ find (spec.on (deaths_of.is_uncleared_on p o)) slots.now }
 {
-    deaths.iter().copied().find(|x| x.made == made)
+    slots
+        .iter()
+        .copied()
+        .find(|s| s.live && is_uncleared_on(p, o, &s.death))
 }
 
-fn uncleared_in(deaths: &[DeathNotification], p: u32, o: ObjectId) -> Option<DeathNotification>
-    ensures { result ≡ deaths_of.uncleared_in deaths.now p o }
+fn uncleared_count(slots: &[Slot], p: u32, o: ObjectId) -> usize
+    ensures { result ≡ count_by (spec.on (deaths_of.is_uncleared_on p o)) slots.now }
 {
-    deaths.iter().copied().find(|x| is_uncleared_on(p, o, x))
+    slots
+        .iter()
+        .filter(|s| s.live && is_uncleared_on(p, o, &s.death))
+        .count()
 }
 
-fn uncleared_count(deaths: &[DeathNotification], p: u32, o: ObjectId) -> usize
-    ensures { result ≡ count_by (deaths_of.is_uncleared_on p o) deaths.now }
+fn only_uncleared_in(slots: &[Slot], p: u32, o: ObjectId) -> Option<Slot>
+    ensures { result ≡ (if count_by (spec.on (deaths_of.is_uncleared_on p o)) slots.now == 1
+        then find (spec.on (deaths_of.is_uncleared_on p o)) slots.now else None) }
 {
-    deaths.iter().filter(|x| is_uncleared_on(p, o, x)).count()
-}
-
-fn only_uncleared_in(deaths: &[DeathNotification], p: u32, o: ObjectId) -> Option<DeathNotification>
-    ensures { result ≡ only_uncleared_in deaths.now p o }
-{
-    if uncleared_count(deaths, p, o) == 1 {
-        uncleared_in(deaths, p, o)
+    if uncleared_count(slots, p, o) == 1 {
+        uncleared_in(slots, p, o)
     } else {
         None
     }
 }
 
-fn told_in(deaths: &[DeathNotification], p: u32, cookie: u64) -> Option<DeathNotification>
-    ensures { result ≡ find (clearing.is_told_with p cookie) deaths.now }
+// Whether the notification is told, of the process, with the cookie.
+fn is_told_with(p: u32, cookie: u64, x: &DeathNotification) -> bool
+    ensures { result ≡ clearing.is_told_with p cookie x.now }
 {
-    deaths.iter().copied().find(|x| is_told(x.phase) && x.process == p && x.cookie == cookie)
+    is_told(x.phase) && x.process == p && x.cookie == cookie
+}
+
+fn told_in(slots: &[Slot], p: u32, cookie: u64) -> Option<Slot>
+    ensures { result ≡ find (spec.on (clearing.is_told_with p cookie)) slots.now }
+{
+    slots
+        .iter()
+        .copied()
+        .find(|s| s.live && is_told_with(p, cookie, &s.death))
+}
+
+// The notification of the slot.
+fn death_of(slot: Option<Slot>) -> Option<DeathNotification>
+    ensures { result ≡ option_map (λ s. s.death) slot }
+{
+    match slot {
+        Some(s) => Some(s.death),
+        None => None,
+    }
 }
 
 impl DeathTable {
@@ -73,7 +99,7 @@ impl DeathTable {
         ensures { (l : List declared.DeathNotification) → DeathsAre self.now l
             → result ≡ find (deaths_of.is_notification made) l }
     {
-        death_in(self.list.made_part(made), made)
+        death_of(made_in(self.list.made_part(made), made))
     }
 
     /// The uncleared notification on the process's name of the object.
@@ -81,7 +107,7 @@ impl DeathTable {
         ensures { (l : List declared.DeathNotification) → DeathsAre self.now l
             → result ≡ deaths_of.uncleared_in l p o }
     {
-        uncleared_in(self.list.key_part(name_key(p, o)), p, o)
+        death_of(uncleared_in(self.list.key_part(name_key(p, o)), p, o))
     }
 
     /// The only uncleared notification on the process's name of the object, where there is just one. Cleared ones may
@@ -90,7 +116,7 @@ impl DeathTable {
         ensures { (l : List declared.DeathNotification) → DeathsAre self.now l
             → result ≡ only_uncleared_in l p o }
     {
-        only_uncleared_in(self.list.key_part(name_key(p, o)), p, o)
+        death_of(only_uncleared_in(self.list.key_part(name_key(p, o)), p, o))
     }
 
     /// The least told notification of the process with this cookie.
@@ -98,6 +124,6 @@ impl DeathTable {
         ensures { (l : List declared.DeathNotification) → DeathsAre self.now l
             → result ≡ find (clearing.is_told_with p cookie) l }
     {
-        told_in(self.list.key_part(cookie_key(p, cookie)), p, cookie)
+        death_of(told_in(self.list.told_part(p, cookie), p, cookie))
     }
 }

@@ -1,26 +1,28 @@
 //! Where the notifications lie that are looked for.
 
-ghost use Rattle.std.specs.Prelude.{◌≡◌, ◌≤◌, ◌+◌, ℕ, length, vec_len, List};
+ghost use Rattle.std.specs.Prelude.{◌≡◌, ◌≤◌, ◌+◌, ℕ, length, vec_len, List, IfSome};
 ghost use Rattle.std.specs.List.{between};
+ghost use Rattle.bd_space.specs.Clearing as clearing;
 ghost use Rattle.bd_space.specs.Deaths as deaths_of;
 ghost use Rattle.bd_space.specs.declared.space.DeathNotification as declared;
 ghost use Rattle.bd_deaths.specs.Keys as keys;
+ghost use Rattle.bd_deaths.specs.Slots as spec;
 ghost use Rattle.bd_deaths.specs.Stands.{IsRising, IsWithin, IsPartOf, AreIn};
 
-use crate::key::Key;
+use crate::key::{Key, cookie_key};
 use crate::list::DeathList;
-use bd_space::DeathNotification;
+use crate::slot::Slot;
 use std::ops::Range;
 
-/// Between which indices those of this place lie, of notifications in the order of their places.
-fn range_in(deaths: &[DeathNotification], made: u32) -> Range<usize>
+/// Between which slots those of this place lie, of slots in the order of their places.
+fn range_in(slots: &[Slot], made: u32) -> Range<usize>
     ensures from { result.start ≤ result.end }
-    ensures to { result.end ≤ length deaths.now }
-    ensures within { (end : ℕ) → IsRising 0 end deaths.now
-        → IsWithin (deaths_of.is_notification made) result.start result.end deaths.now }
+    ensures to { result.end ≤ length slots.now }
+    ensures within { (end : ℕ) → IsRising 0 end (spec.deaths_in slots.now)
+        → IsWithin (spec.of (deaths_of.is_notification made)) result.start result.end slots.now }
 {
-    let from = deaths.partition_point(|x| x.made < made);
-    if from < deaths.len() {
+    let from = slots.partition_point(|s| s.death.made < made);
+    if from < slots.len() {
         from..from + 1
     } else {
         from..from
@@ -28,62 +30,95 @@ fn range_in(deaths: &[DeathNotification], made: u32) -> Range<usize>
 }
 
 /// Those between two indices.
-pub(crate) fn part(deaths: &[DeathNotification], range: Range<usize>) -> &[DeathNotification]
+pub(crate) fn part(slots: &[Slot], range: Range<usize>) -> &[Slot]
     requires from { range.start ≤ range.end }
-    requires to { range.end ≤ length deaths.now }
-    ensures is { result.now ≡ between range.start range.end deaths.now }
+    requires to { range.end ≤ length slots.now }
+    ensures is { result.now ≡ between range.start range.end slots.now }
     ensures len { length result.now + range.start ≡ range.end }
 {
-    &deaths[range.start..range.end]
+    &slots[range.start..range.end]
 }
 
 impl DeathList {
-    /// Between which indices those of this place lie.
+    /// Between which slots those of this place lie.
     pub(crate) fn made_range(&self, made: u32) -> Range<usize>
         ensures from { result.start ≤ result.end }
-        ensures to { result.end ≤ vec_len self.now.deaths }
+        ensures to { result.end ≤ vec_len self.now.slots }
         ensures within { (l : List declared.DeathNotification) → AreIn self.now l
-            → IsWithin (deaths_of.is_notification made) result.start result.end l }
+            → IsWithin (spec.of (deaths_of.is_notification made)) result.start result.end self.now.slots.items }
     {
         if self.in_order {
-            range_in(&self.deaths, made)
+            range_in(&self.slots, made)
         } else {
-            0..self.deaths.len()
+            0..self.slots.len()
         }
     }
 
-    /// Between which indices those with this key lie.
+    /// Between which slots those with this key lie that haven't gone, if there is at most one.
+    fn one_range(&self, key: Key) -> Option<Range<usize>>
+        ensures from { IfSome result (λ r. r.start ≤ r.end) }
+        ensures to { IfSome result (λ r. r.end ≤ vec_len self.now.slots) }
+        ensures within { IfSome result (λ r. (l : List declared.DeathNotification) → AreIn self.now l
+            → IsWithin (spec.on (keys.has key)) r.start r.end self.now.slots.items) }
+    {
+        let Some(group) = self.sharing.at(key) else {
+            return Some(0..0);
+        };
+        if group.count == 1 {
+            Some(self.made_range(group.sum))
+        } else {
+            None
+        }
+    }
+
+    /// Between which slots those with this key lie that haven't gone.
     pub(crate) fn key_range(&self, key: Key) -> Range<usize>
         ensures from { result.start ≤ result.end }
-        ensures to { result.end ≤ vec_len self.now.deaths }
+        ensures to { result.end ≤ vec_len self.now.slots }
         ensures within { (l : List declared.DeathNotification) → AreIn self.now l
-            → IsWithin (keys.has key) result.start result.end l }
+            → IsWithin (spec.on (keys.has key)) result.start result.end self.now.slots.items }
     {
-        match self.sharing.at(key) {
-            None => 0..0,
-            Some(group) => {
-                if group.count == 1 {
-                    self.made_range(group.sum)
-                } else {
-                    0..self.deaths.len()
-                }
-            }
+        match self.one_range(key) {
+            Some(range) => range,
+            None => 0..self.slots.len(),
         }
     }
 
-    /// A part of the notifications with all of this place.
-    pub(crate) fn made_part(&self, made: u32) -> &[DeathNotification]
-        ensures { (l : List declared.DeathNotification) → AreIn self.now l
-            → IsPartOf (deaths_of.is_notification made) result.now l }
+    /// Between which slots the told notifications of the process with this cookie lie.
+    fn told_range(&self, p: u32, cookie: u64) -> Range<usize>
+        ensures from { result.start ≤ result.end }
+        ensures to { result.end ≤ vec_len self.now.slots }
+        ensures within { (l : List declared.DeathNotification) → AreIn self.now l
+            → IsWithin (spec.on (clearing.is_told_with p cookie)) result.start result.end self.now.slots.items }
     {
-        part(&self.deaths, self.made_range(made))
+        let len = self.slots.len();
+        match self.one_range(cookie_key(p, cookie)) {
+            Some(range) => range,
+            None => self.told_from.min(len)..len,
+        }
     }
 
-    /// A part of the notifications with all that have this key.
-    pub(crate) fn key_part(&self, key: Key) -> &[DeathNotification]
+    /// A part of the slots with all notifications of this place.
+    pub(crate) fn made_part(&self, made: u32) -> &[Slot]
         ensures { (l : List declared.DeathNotification) → AreIn self.now l
-            → IsPartOf (keys.has key) result.now l }
+            → IsPartOf (deaths_of.is_notification made) (spec.lives result.now) l }
     {
-        part(&self.deaths, self.key_range(key))
+        part(&self.slots, self.made_range(made))
+    }
+
+    /// A part of the slots with all notifications that have this key.
+    pub(crate) fn key_part(&self, key: Key) -> &[Slot]
+        ensures { (l : List declared.DeathNotification) → AreIn self.now l
+            → IsPartOf (keys.has key) (spec.lives result.now) l }
+    {
+        part(&self.slots, self.key_range(key))
+    }
+
+    /// A part of the slots with all told notifications of the process with this cookie.
+    pub(crate) fn told_part(&self, p: u32, cookie: u64) -> &[Slot]
+        ensures { (l : List declared.DeathNotification) → AreIn self.now l
+            → IsPartOf (clearing.is_told_with p cookie) (spec.lives result.now) l }
+    {
+        part(&self.slots, self.told_range(p, cookie))
     }
 }

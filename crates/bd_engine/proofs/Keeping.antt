@@ -34,7 +34,7 @@ follows-new l seats same some few stands = record {
 
 -- ---- one entry more
 
-after-more : (s : Space) (es : List Entry) (e : Entry) → after s (es ++ e ∷ []) ≡ next (after s es) e
+pub after-more : (s : Space) (es : List Entry) (e : Entry) → after s (es ++ e ∷ []) ≡ next (after s es) e
 after-more s [] e = refl
 after-more s (x ∷ xs) e = after-more (next s x) xs e
 

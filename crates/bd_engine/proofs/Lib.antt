@@ -5,6 +5,9 @@ pub mod Places
 pub mod Gathering
 pub mod Exiting
 pub mod Noting
+pub mod Receivers
+pub mod Living
+pub mod Ending
 pub mod Asked
 pub mod Keeping
 pub mod Commands

@@ -1,5 +1,5 @@
 -- Noting the readiness of seats, one after the other.
-use Rattle.std.proofs.Common.{ℕ, ◌≡◌, ◌<◌, ◌⊎◌, inl, inr, Bool, true, false, List, [], ◌∷◌, ◌++◌, length, get_or, refl, ap, sym, subst, ◌∙◌}
+use Rattle.std.proofs.Common.{ℕ, ◌≡◌, ◌<◌, Bool, true, false, cond, List, [], ◌∷◌, ◌++◌, length, get_or, refl, ap, sym, subst, ◌∙◌}
 use Rattle.std.specs.Prelude.{◌==◌, ◌||◌, not}
 use mathlib.Core.Bool.{beq}
 use Rattle.std.proofs.Math.ListN.{set}
@@ -12,7 +12,7 @@ use Rattle.bd_engine.specs.Readiness.{has_seat, flipped}
 
 -- a seat, where these seats were looked at
 pub record IsSeen (s : Space) (before noted : List Bool) (changed done : List ℕ) (y : ℕ) : Type 0 where
-  pub is : (get_or noted y false ≡ is_ready s y) ⊎ ((get_or noted y false ≡ get_or before y false) × (has_seat done y ≡ false))
+  pub is : get_or noted y false ≡ cond (has_seat done y) (is_ready s y) (get_or before y false)
   pub listed : has_seat changed y ≡ flipped (get_or before y false) (get_or noted y false)
 
 true-false : true ≡ false → ⊥
@@ -46,16 +46,16 @@ flip-none true = refl
 flip-none false = refl
 
 module _ (s : Space) (before noted : List Bool) (changed done : List ℕ) (x y : ℕ) (seen : IsSeen s before noted changed done y) where
+  as_seen : {a b : Bool} → a ≡ b → cond a (is_ready s y) (get_or before y false) ≡ cond b (is_ready s y) (get_or before y false)
+  as_seen e = ap (λ c. cond c (is_ready s y) (get_or before y false)) e
+
   -- the seat at hand is noted as it is, or isn't noted at all
   pub seen-same : (x ≡ y → get_or noted y false ≡ is_ready s y) → IsSeen s before noted changed (done ++ x ∷ []) y
   seen-same k = go (x == y) refl
     where
       go : (b : Bool) → (x == y) ≡ b → IsSeen s before noted changed (done ++ x ∷ []) y
-      go true e = record { is = inl (k (eqb-true x y e)); listed = seen.listed }
-      go false e = record {
-        is = elim seen.is [ inl a ↦ inl a | inr o ↦ inr (o.0, among-other done x y e ∙ o.1) ];
-        listed = seen.listed;
-      }
+      go true e = record { is = k (eqb-true x y e) ∙ sym (as_seen (among-same done x y (eqb-true x y e))); listed = seen.listed }
+      go false e = record { is = seen.is ∙ as_seen (sym (among-other done x y e)); listed = seen.listed }
 
   -- it was noted otherwise
   pub seen-other : (ready : Bool) → x < length noted → (get_or noted x false ≡ ready → ⊥) → (x ≡ y → ready ≡ is_ready s x)
@@ -66,13 +66,17 @@ module _ (s : Space) (before noted : List Bool) (changed done : List ℕ) (x y :
       at e = subst (λ v. get_or (set noted x ready) v false ≡ ready) e (get_or-set_same noted x ready false lt)
 
       unlisted : x ≡ y → get_or before y false ≡ get_or noted y false
-      unlisted e = elim seen.is [ inl a ↦ absurd (differs (ap (λ v. get_or noted v false) e ∙ a ∙ ap (is_ready s) (sym e) ∙ sym (is_so e))) | inr o ↦ sym o.0 ]
+      unlisted e = by_done (has_seat done y) seen.is
+        where
+          by_done : (b : Bool) → get_or noted y false ≡ cond b (is_ready s y) (get_or before y false) → get_or before y false ≡ get_or noted y false
+          by_done true a = absurd (differs (ap (λ v. get_or noted v false) e ∙ a ∙ ap (is_ready s) (sym e) ∙ sym (is_so e)))
+          by_done false a = sym a
 
       go : (b : Bool) → (x == y) ≡ b → IsSeen s before (set noted x ready) (changed ++ x ∷ []) (done ++ x ∷ []) y
       go true e =
           let same = eqb-true x y e in
           record {
-            is = inl (at same ∙ is_so same ∙ ap (is_ready s) same);
+            is = at same ∙ is_so same ∙ ap (is_ready s) same ∙ sym (as_seen (among-same done x y same));
             listed = among-same changed x y same
                 ∙ sym (ap (flipped (get_or before y false)) (at same) ∙ ap (λ b. flipped b ready) (unlisted same)
                 ∙ flip-true (get_or noted y false) ready (λ f. differs (ap (λ v. get_or noted v false) same ∙ f)));
@@ -81,7 +85,7 @@ module _ (s : Space) (before noted : List Bool) (changed done : List ℕ) (x y :
           let apart : y ≡ x → ⊥ = λ f. true-false (sym (eqb-refl-at x y (sym f)) ∙ e) in
           let kept = get_or-set_other noted x y ready false apart in
           record {
-            is = elim seen.is [ inl a ↦ inl (kept ∙ a) | inr o ↦ inr (kept ∙ o.0, among-other done x y e ∙ o.1) ];
+            is = kept ∙ seen.is ∙ as_seen (sym (among-other done x y e));
             listed = among-other changed x y e ∙ seen.listed ∙ ap (flipped (get_or before y false)) (sym kept);
           }
 
@@ -104,9 +108,13 @@ agree false false e = refl
 
 -- before the first
 pub seen-none : (s : Space) (before : List Bool) (y : ℕ) → IsSeen s before before [] [] y
-seen-none s before y = record { is = inr (refl, refl); listed = sym (flip-none (get_or before y false)) }
+seen-none s before y = record { is = refl; listed = sym (flip-none (get_or before y false)) }
 
 -- after the last
 pub seen-all : (s : Space) (before noted : List Bool) (changed touched : List ℕ) (y : ℕ) → IsSeen s before noted changed touched y
     → (has_seat touched y ≡ false → get_or before y false ≡ is_ready s y) → get_or noted y false ≡ is_ready s y
-seen-all s before noted changed touched y seen k = elim seen.is [ inl a ↦ a | inr o ↦ o.0 ∙ k o.1 ]
+seen-all s before noted changed touched y seen k = by_touched (has_seat touched y) refl seen.is
+  where
+    by_touched : (b : Bool) → has_seat touched y ≡ b → get_or noted y false ≡ cond b (is_ready s y) (get_or before y false) → get_or noted y false ≡ is_ready s y
+    by_touched true e is = is
+    by_touched false e is = is ∙ k e

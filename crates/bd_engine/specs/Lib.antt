@@ -5,6 +5,7 @@ pub mod Plain
 pub mod Follows
 pub mod Keeps
 pub mod Readiness
+pub mod Ending
 pub mod Writing
 pub mod Telling
 pub mod Taking

@@ -6,6 +6,7 @@ mod buffer;
 mod consequences;
 mod death_notification;
 mod delivery;
+mod ended;
 mod engine;
 mod exit;
 mod frame;

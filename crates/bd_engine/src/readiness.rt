@@ -1,6 +1,6 @@
 //! Which seats' readiness has changed.
 
-ghost use Rattle.std.specs.Prelude.{ℕ, ◌≡◌, ◌+◌, ◌≤◌, ◌<◌, false, [], length, get_or, vec_len, vec_capacity};
+ghost use Rattle.std.specs.Prelude.{ℕ, ◌≡◌, ◌+◌, ◌≤◌, ◌<◌, false, if◌then◌else◌, [], length, get_or, vec_len, vec_capacity};
 ghost use Rattle.bd_space.specs.Histories.{History, space_after, is_ready};
 ghost use Rattle.bd_engine.specs.Follows.{Follows};
 ghost use Rattle.bd_engine.specs.Readiness.{has_seat, flipped, Noted};
@@ -14,6 +14,10 @@ impl Live {
     pub fn note_ready(&self, touched: &[u32], noted: &mut [bool], changed: &mut Vec<u32>)
         requires room { vec_len changed.old + length touched.now ≤ vec_capacity changed.old }
         requires none { changed.old.items ≡ [] }
+        // These seats are noted as they are, and the others as before.
+        ensures seen { (h : History) → Follows self.now h → (seat : ℕ) → seat < length noted.old
+            → get_or noted.new seat false
+            ≡ (if has_seat touched.now seat then is_ready (space_after h) seat else get_or noted.old seat false) }
         // Where only these seats may be noted wrongly, none is afterwards.
         ensures noted { (h : History) → Follows self.now h
             → ((seat : ℕ) → seat < length noted.old → has_seat touched.now seat ≡ false

@@ -1,24 +1,14 @@
--- Closing one frame can leave only its parent abandoned: so settling goes up from there.
-use Rattle.std.proofs.Common.{◌≡◌, ℕ, zero, suc, ◌==◌, Bool, true, false, cond, not, ◌&&◌, List, [], ◌∷◌, Option, Some, None, inl, inr, refl, ap, sym, subst, ◌∙◌, filter, find, length}
-use Rattle.std.specs.List.{list_any}
-use Rattle.std.proofs.lemmas.Bool.{eqb-true, eq-eqb}
-use Rattle.bd_uapi.specs.declared.command.Return.TheVariants.{DeadReply}
-use Rattle.bd_space.specs.declared.space.Frame.{Frame}
-use Rattle.bd_space.specs.declared.space.TodoList.TheVariants.{OfThread}
-use Rattle.bd_space.specs.declared.space.WorkKind.{WorkKind}
-use Rattle.bd_space.specs.declared.space.WorkKind.TheVariants.{Verdict}
-use Rattle.bd_space.specs.Space.{Space}
-use Rattle.bd_space.specs.Frames.{is_gone, is_frame, is_child_of, closed}
-use Rattle.bd_space.specs.Words.{is_some_and}
-use Rattle.bd_space.specs.Todo.{owe, tell_caller}
-use Rattle.bd_space.specs.Settle.{is_abandoned, settle_one, settle_step, settle_times, settle}
-use Rattle.bd_space.specs.Local.{close_up}
+-- FollowingIsLocal: closing one frame can leave only its parent abandoned: so settling goes up from there.
+use Rattle.bd_laws.proofs.words.Logic.{◌≡◌, ℕ, zero, suc, ◌==◌, Bool, true, false, cond, not, ◌&&◌, List, [], ◌∷◌, Option, Some, None, inl, inr, refl, ap, sym, subst, ◌∙◌, filter, find, length, list_any, eqb-true, eq-eqb}
+use Rattle.bd_laws.proofs.words.Types.{DeadReply, Frame, Verdict}
+use Rattle.bd_laws.proofs.words.Space.{Space, is_gone, is_frame, is_child_of, closed, is_some_and, tell_caller, is_abandoned, settle_one, settle_step, settle_times, settle, close_up}
 use Rattle.bd_laws.specs.Lists.{In}
 use Rattle.bd_laws.proofs.Lists.{in-filter, filter-in, any-found, any-in, find-in}
 use Rattle.bd_laws.proofs.Tests.{both, and-both, not-true, not-false}
-use Rattle.bd_laws.proofs.Settled.{times-still}
+use Rattle.bd_laws.proofs.Machine.Settled.{times-still}
 use Rattle.bd_laws.proofs.Fewer.{to-false}
 use Rattle.bd_laws.proofs.Sending.{find-none, none-found}
+use Rattle.bd_laws.proofs.Machine.Fields.{told-frames, closed-frames}
 
 -- frames are told by where they were made
 abbrev pub OneEach : List Frame → Type 0
@@ -38,15 +28,6 @@ pub find-same : {A : Type 0} (p q : A → Bool) (xs : List A) → ((x : A) → I
 find-same p q [] h = refl
 find-same p q (x ∷ xs) h =
     ap (λ b. cond b (Some x) (find p xs)) (h x (inl refl)) ∙ ap (λ o. cond (q x) (Some x) o) (find-same p q xs (λ y l. h y (inr l)))
-
-pub told-frames : (z : Space) (caller : Option ℕ) (kind : WorkKind) → (elim caller as (λ (o : Option ℕ). Space) [ None ↦ z | Some t ↦ owe z (OfThread t) kind ]).frames ≡ z.frames
-unfolding owe
-told-frames z None kind = refl
-told-frames z (Some t) kind = refl
-
-pub closed-frames : (z : Space) (made : ℕ) → (closed z made).frames ≡ filter (λ g. not (is_frame made g)) z.frames
-unfolding closed
-closed-frames z made = refl
 
 -- no other frame than its parent becomes abandoned when a frame closes
 pub only-parent : (fs : List Frame) (f : Frame) → OneEach fs → In f fs → ((g : Frame) → In g fs → is_abandoned fs g ≡ true → g.made ≡ f.made)

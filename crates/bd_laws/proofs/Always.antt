@@ -1,20 +1,18 @@
--- In the space of every history nothing is pending.
+-- NothingIsPending: in the space of every history nothing is pending.
+use Rattle.bd_laws.proofs.words.Space.{Space, opening, History, after, next, space_after}
 use Rattle.std.proofs.Common.{List}
 use Rattle.bd_space.specs.declared.step.Entry.{Entry}
-use Rattle.bd_space.specs.Space.{Space, opening}
-use Rattle.bd_space.specs.Histories.{History, after, next, space_after}
-use Rattle.bd_laws.specs.Tidy.{IsTidy}
-use Rattle.bd_laws.specs.Frames.{OnPaths}
-use Rattle.bd_laws.proofs.EveryStep.{every_list}
-use Rattle.bd_laws.proofs.Received.{step-before, opening-before}
-use Rattle.bd_laws.proofs.Homes.{next-home, opening-home}
-use Rattle.bd_laws.proofs.InWindows.{next-in_windows, opening-in_windows}
-use Rattle.bd_laws.proofs.OtherCalls.{next-of_others, opening-of_others}
-use Rattle.bd_laws.proofs.EveryPath.{next-on_paths, opening-on_paths}
-use Rattle.bd_laws.proofs.Numbering.{next-told, next-steps, opening-told}
-use Rattle.bd_laws.proofs.Queueing.{next-queued, opening-queued}
+use Rattle.bd_laws.proofs.words.Laws.{IsTidy, OnPaths}
+use Rattle.bd_laws.proofs.Machine.EveryStep.{every_list}
+use Rattle.bd_laws.proofs.IsInTurn.Received.{step-before, opening-before}
+use Rattle.bd_laws.proofs.AtHome.Homes.{next-home, opening-home}
+use Rattle.bd_laws.proofs.AtHome.InWindows.{next-in_windows, opening-in_windows}
+use Rattle.bd_laws.proofs.AtHome.OtherCalls.{next-of_others, opening-of_others}
+use Rattle.bd_laws.proofs.OnPaths.EveryPath.{next-on_paths, opening-on_paths}
+use Rattle.bd_laws.proofs.ItemsAreToldApart.Numbering.{next-told, next-steps, opening-told}
+use Rattle.bd_laws.proofs.IsQueued.Queueing.{next-queued, opening-queued}
 use Rattle.bd_laws.proofs.Framing.{next-framed, opening-framed}
-use Rattle.bd_laws.proofs.Quiet.{opening-quiet}
+use Rattle.bd_laws.proofs.NothingIsPending.Quiet.{opening-quiet}
 use Rattle.bd_laws.proofs.Next.{next-quiet}
 
 pub step-tidy : (s : Space) (e : Entry) → IsTidy s → IsTidy (next s e)

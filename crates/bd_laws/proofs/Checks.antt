@@ -1,31 +1,7 @@
--- What an accepted transaction, reply or asking has tested.
-use Rattle.std.proofs.Common.{◌≡◌, ℕ, ◌==◌, Bool, true, false, cond, [], ◌∷◌, Option, Some, None, Result, Ok, Err, ◌⊎◌, inl, inr, refl, ap, sym, subst, ◌∙◌}
-use Rattle.std.specs.Option.{option_map}
-use Rattle.std.proofs.lemmas.Option.{option_and_then_some}
-use Rattle.std.proofs.lemmas.Bool.{eqb-true}
-use Rattle.bd_uapi.specs.declared.command.TransactionData.{TransactionData}
-use Rattle.bd_uapi.specs.declared.fault.Cause.{Cause}
-use Rattle.bd_uapi.specs.declared.fault.Cause.TheVariants.{CallerGone, DeadOwner}
-use Rattle.bd_uapi.specs.declared.fault.Note.TheVariants.{NoSuchNumber}
-use Rattle.bd_space.specs.declared.step.ObjectId.{ObjectId}
-use Rattle.bd_space.specs.declared.step.Parcel.{Parcel}
-use Rattle.bd_space.specs.declared.space.Process.{Process}
-use Rattle.bd_space.specs.declared.space.Thread.{Thread}
-use Rattle.bd_space.specs.declared.space.Actor.{Actor}
-use Rattle.bd_space.specs.declared.space.Callee.{Callee}
-use Rattle.bd_space.specs.declared.space.Frame.{Frame}
-use Rattle.bd_space.specs.declared.space.Object.{Object}
-use Rattle.bd_space.specs.Words.{same, found_or, unless, first_of}
-use Rattle.bd_space.specs.Space.{Space}
-use Rattle.bd_space.specs.Seats.{actor, actor_of, process_in, thread_in}
-use Rattle.bd_space.specs.References.{object_in}
-use Rattle.bd_space.specs.Names.{named}
-use Rattle.bd_space.specs.Delivery.{Delivery}
-use Rattle.bd_space.specs.Parcels.{sending_of}
-use Rattle.bd_space.specs.Transactions.{transaction_check, sent_to, placed, callee_of, target_of, with_owner, owner_of, handle_of, is_one_way, caller_cause}
-use Rattle.bd_space.specs.Replies.{reply_check, reply_sent_to, reply_placed, caller_of}
-use Rattle.bd_space.specs.Windows.{start_for, buffers_of, needed}
-use Rattle.bd_space.specs.Asking.{asked_of, ask_check, ask_note}
+-- For every law: what an accepted transaction, reply or asking has tested.
+use Rattle.bd_laws.proofs.words.Logic.{◌≡◌, ℕ, ◌==◌, Bool, true, false, cond, [], ◌∷◌, Option, Some, None, Result, Ok, Err, ◌⊎◌, inl, inr, refl, ap, sym, subst, ◌∙◌, option_map, option_and_then_some, eqb-true}
+use Rattle.bd_laws.proofs.words.Types.{TransactionData, Cause, CallerGone, DeadOwner, NoSuchNumber, ObjectId, Parcel, Process, Thread, Actor, Callee, Frame, Object}
+use Rattle.bd_laws.proofs.words.Space.{same, found_or, unless, first_of, Space, actor, actor_of, process_in, thread_in, object_in, named, Delivery, sending_of, transaction_check, sent_to, placed, callee_of, target_of, with_owner, owner_of, handle_of, is_one_way, caller_cause, reply_check, reply_sent_to, reply_placed, caller_of, start_for, buffers_of, needed, asked_of, ask_check, ask_note}
 use Rattle.bd_laws.specs.Lists.{In}
 use Rattle.bd_laws.proofs.Lists.{find-in}
 use Rattle.bd_laws.proofs.Tests.{same-eq, and_then-ok, found-ok, unless-ok}

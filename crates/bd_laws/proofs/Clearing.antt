@@ -1,30 +1,16 @@
--- BC_CLEAR_DEATH_NOTIFICATION and BC_DEAD_BINDER_DONE: nothing follows.
-use Rattle.std.proofs.Common.{◌≡◌, ℕ, ◌==◌, Bool, true, false, cond, not, ◌||◌, Some, refl, ap, sym, subst, ◌∙◌}
-use Rattle.std.proofs.lemmas.Bool.{eqb-true}
-use Rattle.bd_space.specs.declared.space.Work.{Work}
-use Rattle.bd_space.specs.declared.space.DeathNotification.{DeathNotification}
-use Rattle.bd_space.specs.declared.space.Phase.{Phase}
-use Rattle.bd_space.specs.declared.space.Phase.TheVariants.{Armed, Queued, Done}
+-- FollowingIsLocal: BC_CLEAR_DEATH_NOTIFICATION and BC_DEAD_BINDER_DONE: nothing follows.
+use Rattle.bd_laws.proofs.words.Logic.{◌≡◌, ℕ, ◌==◌, Bool, true, false, cond, not, ◌||◌, Some, refl, ap, sym, subst, ◌∙◌, eqb-true}
+use Rattle.bd_laws.proofs.words.Types.{Work, DeathNotification, Phase, Armed, Queued, Done, OfThread}
+use Rattle.bd_laws.proofs.words.Space.{changed, Space, is_name_of, owe, turns_of, is_notification, without_death, with_phase, mark_cleared, death_ended, cleared, death_done, told_death, is_out, completed, no_name}
 use Rattle.bd_space.specs.declared.space.WorkKind.TheVariants as work
-use Rattle.bd_space.specs.declared.space.TodoList.TheVariants.{OfThread}
-use Rattle.bd_space.specs.Words.{changed}
-use Rattle.bd_space.specs.Space.{Space}
-use Rattle.bd_space.specs.Notices.{is_name_of}
-use Rattle.bd_space.specs.Todo.{owe}
-use Rattle.bd_space.specs.Turns.{turns_of}
-use Rattle.bd_space.specs.Deaths.{is_notification, without_death, with_phase}
-use Rattle.bd_space.specs.Clearing.{mark_cleared, death_ended, cleared, death_done, told_death, is_out}
-use Rattle.bd_space.specs.Outcomes.{completed}
-use Rattle.bd_space.specs.Local.{no_name}
-use Rattle.bd_laws.specs.Lists.{In}
-use Rattle.bd_laws.specs.Quiet.{IsQuiet, IsFollowed}
-use Rattle.bd_laws.specs.Tidy.{IsTidy}
+use Rattle.bd_laws.proofs.words.Laws.{In, IsQuiet, IsFollowed, IsTidy}
 use Rattle.bd_laws.proofs.Lists.{in-filter, filter-in, in-changed, any-found, any-in}
 use Rattle.bd_laws.proofs.Tests.{not-false}
 use Rattle.bd_laws.proofs.Freeing.{owe-elsewhere}
 use Rattle.bd_laws.proofs.Others.{nothing-local, no_object, item-more}
-use Rattle.bd_laws.proofs.Taking.{any-changed}
-use Rattle.bd_laws.proofs.Queueing.{found-told, is-silent}
+use Rattle.bd_laws.proofs.FollowingIsLocal.Taking.{any-changed}
+use Rattle.bd_laws.proofs.IsQueued.Queueing.{is-silent}
+use Rattle.bd_laws.proofs.IsQueued.QueuedDeaths.{found-told}
 
 -- a notification of which no item tells goes
 without-followed : (s : Space) (x : DeathNotification) → IsTidy s → In x s.deaths → (x.phase ≡ Queued → ⊥) → IsFollowed (without_death s x.made)

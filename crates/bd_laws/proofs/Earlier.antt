@@ -1,17 +1,8 @@
--- The order in which objects were made.
-use Rattle.std.proofs.Common.{◌≡◌, ◌==◌, ◌<◌, ◌≤◌, Bool, true, false, cond, ◌&&◌, ◌||◌, List, ◌⊎◌, inl, inr, refl, sym, subst, arith}
-use Rattle.std.specs.Prelude.{nat_lt}
-use Rattle.std.specs.Cmp.{IsStrictWeakOrder}
-use Rattle.std.specs.Ordering.{nat_cmp, is_lt, ordering_then}
-use Rattle.std.specs.declared.cmp.Ordering.TheVariants.{Less, Equal, Greater}
-use Rattle.std.specs.List.Sorted.{IsSortedBy}
-use Rattle.std.proofs.lemmas.List.Sorted.{sorted_far}
-use Rattle.std.proofs.lemmas.Bool.{eqb-true, eq-eqb, lt-ltb, le-ltb, ltb-true, ltb-false}
-use Rattle.bd_space.specs.declared.step.ObjectId.{ObjectId}
-use Rattle.bd_space.specs.declared.space.Object.{Object}
+-- SpacesAreTidy: the order in which objects were made.
+use Rattle.bd_laws.proofs.words.Logic.{◌≡◌, ◌==◌, ◌<◌, ◌≤◌, Bool, true, false, cond, ◌&&◌, ◌||◌, List, ◌⊎◌, inl, inr, refl, sym, subst, arith, nat_lt, IsStrictWeakOrder, nat_cmp, is_lt, ordering_then, Less, Equal, Greater, IsSortedBy, sorted_far, eqb-true, eq-eqb, lt-ltb, le-ltb, ltb-true, ltb-false}
+use Rattle.bd_laws.proofs.words.Types.{ObjectId, Object}
 use Rattle.bd_space.specs.Words.{same}
-use Rattle.bd_laws.specs.Lists.{Pairs}
-use Rattle.bd_laws.specs.Objects.{is_earlier, Earlier, NotLater, Differ}
+use Rattle.bd_laws.proofs.words.Laws.{Pairs, is_earlier, Earlier, NotLater, Differ}
 use Rattle.bd_laws.proofs.Lists.{pairs-map, at-pairs}
 
 pub place-earlier : (o i : ObjectId) → o.place < i.place → is_earlier o i ≡ true

@@ -1,48 +1,23 @@
--- A process ends: what is touched.
-use Rattle.std.proofs.Common.{◌≡◌, ℕ, ◌==◌, Bool, true, false, cond, not, ◌&&◌, ◌||◌, List, [], ◌∷◌, length, ◌⊎◌, inl, inr, refl, ap, sym, subst, ◌∙◌, map, filter}
-use Rattle.std.specs.List.{list_any, fold}
-use Rattle.std.proofs.lemmas.Bool.{eqb-true, eq-eqb}
-use Rattle.bd_space.specs.declared.step.ObjectId.{ObjectId}
-use Rattle.bd_space.specs.declared.space.Process.{Process}
-use Rattle.bd_space.specs.declared.space.Object.{Object}
-use Rattle.bd_space.specs.declared.space.Reference.{Reference}
-use Rattle.bd_space.specs.declared.space.Name.{Name}
-use Rattle.bd_space.specs.declared.space.Frame.{Frame}
-use Rattle.bd_space.specs.declared.space.DeathNotification.{DeathNotification}
-use Rattle.bd_space.specs.declared.space.Phase.TheVariants.{Queued}
-use Rattle.bd_space.specs.declared.space.Work.{Work}
+-- FollowingIsLocal: a process ends: what is touched.
+use Rattle.bd_laws.proofs.words.Logic.{◌≡◌, ℕ, ◌==◌, Bool, true, false, cond, not, ◌&&◌, ◌||◌, List, [], ◌∷◌, length, ◌⊎◌, inl, inr, refl, ap, sym, subst, ◌∙◌, map, filter, list_any, fold, eqb-true, eq-eqb}
+use Rattle.bd_laws.proofs.words.Types.{ObjectId, Process, Object, Reference, Name, Frame, DeathNotification, Queued, Work, TodoList, OfThread, OfProcess}
+use Rattle.bd_laws.proofs.words.Space.{same, changed, Space, lives_in, owned_in, owe, is_on, same_list, is_name_of, follow, settle, is_notification, with_phase, thread_goes, is_lost_reference, is_unread_on, unread_frame, threads_go, without_process, tell_death, tell_deaths, is_armed, is_dropped_with, seat_of, ObjectTest, no_name, follow_of, close_among, left_objects, seats_in, lists_in, lost_with_process, objects_ended, frames_ended}
 use Rattle.bd_space.specs.declared.space.WorkKind.TheVariants as work
-use Rattle.bd_space.specs.declared.space.TodoList.{TodoList}
-use Rattle.bd_space.specs.declared.space.TodoList.TheVariants.{OfThread, OfProcess}
-use Rattle.bd_space.specs.Words.{same, changed}
-use Rattle.bd_space.specs.Space.{Space}
-use Rattle.bd_space.specs.Seats.{lives_in}
-use Rattle.bd_space.specs.References.{owned_in}
-use Rattle.bd_space.specs.Todo.{owe, is_on, same_list}
-use Rattle.bd_space.specs.Notices.{is_name_of, follow}
-use Rattle.bd_space.specs.Settle.{settle}
-use Rattle.bd_space.specs.Deaths.{is_notification, with_phase}
-use Rattle.bd_space.specs.ThreadExits.{thread_goes, is_lost_reference, is_unread_on, unread_frame}
-use Rattle.bd_space.specs.ProcessExits.{threads_go, without_process, tell_death, tell_deaths, is_armed, is_dropped_with, seat_of}
-use Rattle.bd_space.specs.Local.{ObjectTest, no_name, follow_of, close_among}
-use Rattle.bd_space.specs.LocalExits.{left_objects, seats_in, lists_in, lost_with_process, objects_ended, frames_ended}
-use Rattle.bd_laws.specs.Lists.{In}
-use Rattle.bd_laws.specs.Tidy.{IsTidy}
+use Rattle.bd_laws.proofs.words.Laws.{In, IsTidy}
 use Rattle.bd_laws.proofs.Lists.{in-left, in-push, in-filter, filter-in, map-in, in-changed, any-found, any-in, fold-keeps}
-use Rattle.bd_laws.proofs.Tests.{both, and-both, not-true, not-false, eq-same}
-use Rattle.bd_laws.proofs.Deaths.{KeptOnDeaths, on-told, tell_deaths-aside}
-use Rattle.bd_laws.proofs.Untouched.{tell_deaths-untouched}
+use Rattle.bd_laws.proofs.Tests.{both, and-both, not-true, not-false, eq-same, or-right, not-eq}
+use Rattle.bd_laws.proofs.Machine.Deaths.{KeptOnDeaths, on-told, tell_deaths-aside}
+use Rattle.bd_laws.proofs.Machine.Untouched.{tell_deaths-untouched}
 use Rattle.bd_laws.proofs.Follow.{follow-local}
 use Rattle.bd_laws.proofs.Fewer.{any-filtered, to-false}
-use Rattle.bd_laws.proofs.Numbering.{rest-references}
-use Rattle.bd_laws.proofs.Queueing.{sits-on}
+use Rattle.bd_laws.proofs.ItemsAreToldApart.Numbering.{rest-references}
+use Rattle.bd_laws.proofs.IsQueued.Queueing.{sits-on}
 use Rattle.bd_laws.proofs.Abandoned.{OneEach}
 use Rattle.bd_laws.proofs.Framing.{one-each}
-use Rattle.bd_laws.proofs.Closings.{Covered, settle-among}
-use Rattle.bd_laws.proofs.Leaving.{neither, or-right, Left, left-none, left-step, AllWent, went-map, unread-or, cover-unread, Parts, parts-elsewhere, elsewhere-more, untouched-reference, untouched-notice, abandoned-touched, one-map, left-one, follow-frames}
-
-not-eq : (a b : ℕ) → (a ≡ b → ⊥) → (a == b) ≡ false
-not-eq a b k = to-false (a == b) (λ e. k (eqb-true a b e))
+use Rattle.bd_laws.proofs.FollowingIsLocal.Closings.{Covered, settle-among}
+use Rattle.bd_laws.proofs.Leaving.{Parts, parts-elsewhere, elsewhere-more, untouched-reference, untouched-notice, one-map, left-one}
+use Rattle.bd_laws.proofs.FollowingIsLocal.Left.{neither, Left, left-none, left-step, AllWent, went-map, unread-or, cover-unread, abandoned-touched}
+use Rattle.bd_laws.proofs.Machine.Fields.{follow_of-frames as follow-frames}
 
 -- ---- what telling of deaths adds
 

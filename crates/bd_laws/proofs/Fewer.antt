@@ -1,31 +1,15 @@
--- Where references go, a look at their names and objects is enough.
-use Rattle.std.proofs.Common.{◌≡◌, ℕ, ◌==◌, Bool, true, false, cond, not, ◌&&◌, ◌||◌, List, [], ◌∷◌, Option, Some, None, inl, inr, refl, ap, sym, subst, ◌∙◌, filter}
-use Rattle.std.specs.List.{list_any}
-use Rattle.std.proofs.lemmas.Bool.{eqb-true, eq-eqb}
+-- FollowingIsLocal: where references go, a look at their names and objects is enough.
+use Rattle.bd_laws.proofs.words.Logic.{◌≡◌, ℕ, ◌==◌, Bool, true, false, cond, not, ◌&&◌, ◌||◌, List, [], ◌∷◌, Option, Some, None, inl, inr, refl, ap, sym, subst, ◌∙◌, filter, list_any, eqb-true, eq-eqb}
+use Rattle.bd_laws.proofs.words.Types.{ObjectId, Process, Object, Reference, Holder, Asked}
+use Rattle.bd_laws.proofs.words.Space.{same, is_some_and, without_first, Space, lives_in, object_in, owned_in, held_in, strong_in, names_for, is_asking, is_asked_by, is_shaking, is_handshake, same_strength, wants_notice, follow, drop_asked, acknowledge, turns_of, settle, completed, NameTest, ObjectTest, follow_of, at_name, no_name, at_object, names_of_references, objects_of_references}
 use mathlib.Core.Bool.{beq}
-use Rattle.bd_space.specs.declared.step.ObjectId.{ObjectId}
-use Rattle.bd_space.specs.declared.space.Process.{Process}
-use Rattle.bd_space.specs.declared.space.Object.{Object}
-use Rattle.bd_space.specs.declared.space.Reference.{Reference}
-use Rattle.bd_space.specs.declared.space.Holder.{Holder}
-use Rattle.bd_space.specs.declared.space.Holder.TheVariants.{Asked}
-use Rattle.bd_space.specs.Words.{same, is_some_and, without_first}
-use Rattle.bd_space.specs.Space.{Space}
-use Rattle.bd_space.specs.Seats.{lives_in}
-use Rattle.bd_space.specs.References.{object_in, owned_in, held_in, strong_in, names_for, is_asking, is_asked_by, is_shaking, is_handshake, same_strength}
-use Rattle.bd_space.specs.Notices.{wants_notice, follow}
-use Rattle.bd_space.specs.Asking.{drop_asked, acknowledge}
-use Rattle.bd_space.specs.Turns.{turns_of}
-use Rattle.bd_space.specs.Settle.{settle}
-use Rattle.bd_space.specs.Outcomes.{completed}
-use Rattle.bd_space.specs.Local.{NameTest, ObjectTest, follow_of, notify_of, work_goes_of, deaths_go_of, objects_go_of, names_go_of, at_name, no_name, at_object, names_of_references, objects_of_references}
-use Rattle.bd_laws.specs.Lists.{In}
-use Rattle.bd_laws.specs.Quiet.{Elsewhere, IsSettled, NoneRipe, IsQuiet, IsFollowed}
+use Rattle.bd_laws.proofs.words.Laws.{In, Elsewhere, IsSettled, NoneRipe, IsQuiet, IsFollowed}
 use Rattle.bd_laws.proofs.Lists.{find-in, filter-in, any-in}
 use Rattle.bd_laws.proofs.Tests.{both, and-both, same-eq, eq-same}
 use Rattle.bd_laws.proofs.Follow.{follow-local}
-use Rattle.bd_laws.proofs.Settled.{settle-still}
-use Rattle.bd_laws.proofs.Ripe.{ripen-still}
+use Rattle.bd_laws.proofs.Machine.Settled.{settle-still}
+use Rattle.bd_laws.proofs.FollowingIsLocal.Ripe.{ripen-still}
+use Rattle.bd_laws.proofs.Machine.Fields.{follow_of-frames}
 
 -- of what isn't touched the references say the same
 pub record SameSaid (a : NameTest) (b : ObjectTest) (references changed : List Reference) : Type 0 where
@@ -111,10 +95,6 @@ dropped-said p o strong references = record {
   held = λ i none. any-without _ (is_asking p o strong) references (λ r e. to-false _ (λ k. let yes = asking-object p o i strong r e k in cc));
   strong = λ i none. any-without _ (is_asking p o strong) references (λ r e. to-false _ (λ k. let yes = asking-object p o i strong r e (both r.strong _ k).1 in cc));
 }
-
-follow_of-frames : (a : NameTest) (b : ObjectTest) (z : Space) → (follow_of a b z).frames ≡ z.frames
-unfolding follow_of notify_of work_goes_of deaths_go_of objects_go_of names_go_of
-follow_of-frames a b z = refl
 
 -- where nothing is ripe or abandoned
 pub completed-local : (a : NameTest) (b : ObjectTest) (z : Space) → Elsewhere a b z → NoneRipe z.todo [] (turns_of z.buffers) → IsSettled z.frames

@@ -1,24 +1,9 @@
--- With nothing pending elsewhere, a look at what was touched does all that follows.
-use Rattle.std.proofs.Common.{◌≡◌, ℕ, ◌==◌, Bool, true, false, cond, not, ◌&&◌, ◌||◌, List, [], ◌∷◌, Option, Some, inl, inr, refl, ap, sym, subst, ◌∙◌, filter, find}
-use Rattle.std.specs.List.{list_any, fold}
-use Rattle.std.proofs.lemmas.Bool.{eqb-true}
-use Rattle.bd_space.specs.declared.step.ObjectId.{ObjectId}
-use Rattle.bd_space.specs.declared.space.Object.{Object}
-use Rattle.bd_space.specs.declared.space.Name.{Name}
-use Rattle.bd_space.specs.declared.space.DeathNotification.{DeathNotification}
-use Rattle.bd_space.specs.declared.space.Work.{Work}
-use Rattle.bd_space.specs.declared.space.WorkKind.{WorkKind}
+-- FollowingIsLocal: with nothing pending elsewhere, a look at what was touched does all that follows.
+use Rattle.bd_laws.proofs.words.Logic.{◌≡◌, ℕ, ◌==◌, Bool, true, false, cond, not, ◌&&◌, ◌||◌, List, [], ◌∷◌, Option, Some, inl, inr, refl, ap, sym, subst, ◌∙◌, filter, find, list_any, fold, eqb-true}
+use Rattle.bd_laws.proofs.words.Types.{ObjectId, Object, Name, DeathNotification, Work, WorkKind, OfProcess}
+use Rattle.bd_laws.proofs.words.Space.{same, is_some_and, Space, object_in, stays_in, objects_go, is_named_in, names_go, with_work, is_notice, wants_notice, has_notice_in, with_notice, is_name_of, still_due, deaths_go, work_goes, notify, follow, NameTest, ObjectTest, names_go_of, objects_go_of, deaths_go_of, is_touched, work_goes_of, notify_of, follow_of}
 use Rattle.bd_space.specs.declared.space.WorkKind.TheVariants as work
-use Rattle.bd_space.specs.declared.space.TodoList.TheVariants.{OfProcess}
-use Rattle.bd_space.specs.Words.{same, is_some_and}
-use Rattle.bd_space.specs.Space.{Space}
-use Rattle.bd_space.specs.References.{object_in, stays_in, objects_go}
-use Rattle.bd_space.specs.Names.{is_named_in, names_go}
-use Rattle.bd_space.specs.Todo.{with_work, is_notice}
-use Rattle.bd_space.specs.Notices.{wants_notice, has_notice_in, with_notice, is_name_of, still_due, deaths_go, work_goes, notify, follow}
-use Rattle.bd_space.specs.Local.{NameTest, ObjectTest, names_go_of, objects_go_of, deaths_go_of, is_touched, work_goes_of, notify_of, follow_of}
-use Rattle.bd_laws.specs.Lists.{In}
-use Rattle.bd_laws.specs.Quiet.{Elsewhere}
+use Rattle.bd_laws.proofs.words.Laws.{In, Elsewhere}
 use Rattle.bd_laws.proofs.Lists.{in-left, in-filter, filter-in, any-found, any-in}
 use Rattle.bd_laws.proofs.Tests.{both, and-both, same-eq, notice-kind}
 

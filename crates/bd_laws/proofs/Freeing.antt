@@ -1,33 +1,16 @@
--- Of BC_FREE_BUFFER: what the buffer's references stood for is looked at, and a one-way call's object.
-use Rattle.std.proofs.Common.{◌≡◌, ℕ, Bool, true, false, cond, not, ◌&&◌, ◌||◌, List, [], ◌∷◌, ◌++◌, Option, Some, None, inl, inr, refl, ap, sym, subst, ◌∙◌, filter, find}
-use Rattle.std.specs.List.{list_any, cons_option}
-use Rattle.bd_space.specs.declared.step.ObjectId.{ObjectId}
-use Rattle.bd_space.specs.declared.space.Reference.{Reference}
-use Rattle.bd_space.specs.declared.space.Buffer.{Buffer}
-use Rattle.bd_space.specs.declared.space.Turn.{Turn}
-use Rattle.bd_space.specs.declared.space.Work.{Work}
-use Rattle.bd_space.specs.declared.space.WorkKind.{WorkKind}
+-- FollowingIsLocal: of BC_FREE_BUFFER: what the buffer's references stood for is looked at, and a one-way call's
+-- object.
+use Rattle.bd_laws.proofs.words.Logic.{◌≡◌, ℕ, Bool, true, false, cond, not, ◌&&◌, ◌||◌, List, [], ◌∷◌, ◌++◌, Option, Some, None, inl, inr, refl, ap, sym, subst, ◌∙◌, filter, find, list_any, cons_option}
+use Rattle.bd_laws.proofs.words.Types.{ObjectId, Reference, Buffer, Turn, Work, WorkKind, TodoList, OfProcess}
+use Rattle.bd_laws.proofs.words.Space.{same, Space, is_of_buffer, with_work, is_notice, is_call, follow, without_buffer, is_made_at, turn_of, turns_of, is_ripe, settle, completed, NameTest, ObjectTest, follow_of, notify_of, work_goes_of, deaths_go_of, objects_go_of, names_go_of, ripen_of, first_due, names_of_references, objects_of_references}
 use Rattle.bd_space.specs.declared.space.WorkKind.TheVariants as work
-use Rattle.bd_space.specs.declared.space.TodoList.{TodoList}
-use Rattle.bd_space.specs.declared.space.TodoList.TheVariants.{OfProcess}
-use Rattle.bd_space.specs.Words.{same}
-use Rattle.bd_space.specs.Space.{Space}
-use Rattle.bd_space.specs.References.{is_of_buffer}
-use Rattle.bd_space.specs.Todo.{with_work, is_notice, is_call}
-use Rattle.bd_space.specs.Notices.{follow}
-use Rattle.bd_space.specs.Freeing.{without_buffer, is_made_at}
-use Rattle.bd_space.specs.Turns.{turn_of, turns_of, is_ripe}
-use Rattle.bd_space.specs.Settle.{settle}
-use Rattle.bd_space.specs.Outcomes.{completed}
-use Rattle.bd_space.specs.Local.{NameTest, ObjectTest, follow_of, notify_of, work_goes_of, deaths_go_of, objects_go_of, names_go_of, ripen_of, first_due, names_of_references, objects_of_references}
-use Rattle.bd_laws.specs.Lists.{In}
-use Rattle.bd_laws.specs.Quiet.{Elsewhere, IsSettled, NoneRipe, IsQuiet}
+use Rattle.bd_laws.proofs.words.Laws.{In, Elsewhere, IsSettled, NoneRipe, IsQuiet}
 use Rattle.bd_laws.proofs.Lists.{in-push}
 use Rattle.bd_laws.proofs.Tests.{same-eq, eq-same}
 use Rattle.bd_laws.proofs.Follow.{follow-local}
-use Rattle.bd_laws.proofs.Settled.{settle-still}
-use Rattle.bd_laws.proofs.Ripe.{NoneRipeBut, ripen-local}
-use Rattle.bd_laws.proofs.Quiet.{IsPlainKind, any-more}
+use Rattle.bd_laws.proofs.Machine.Settled.{settle-still}
+use Rattle.bd_laws.proofs.FollowingIsLocal.Ripe.{NoneRipeBut, ripen-local}
+use Rattle.bd_laws.proofs.NothingIsPending.Quiet.{IsPlainKind, any-more}
 use Rattle.bd_laws.proofs.Fewer.{elsewhere-said, filtered-said, to-false}
 
 -- ---- a call more is pending nowhere else

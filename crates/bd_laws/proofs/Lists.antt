@@ -1,9 +1,8 @@
--- Membership in lists, and lists of which each two elements are related.
-use Rattle.std.proofs.Common.{append-nil, append_assoc, ℕ, ◌≡◌, Bool, true, false, cond, ◌&&◌, ◌||◌, List, [], ◌∷◌, ◌++◌, Option, Some, None, ◌⊎◌, inl, inr, refl, ap, sym, subst, ◌∙◌, map, filter, find, zero, suc, ◌<◌, length, get_or, arith}
-use Rattle.std.specs.List.{list_any, list_all, cons_option, filter_map, AllPairs, fold}
-use Rattle.std.specs.Option.{is_some}
+-- For every law: membership in lists, and lists of which each two elements are related.
+use Rattle.bd_laws.proofs.words.Logic.{append-nil, append_assoc, ℕ, ◌≡◌, Bool, true, false, cond, ◌||◌, List, [], ◌∷◌, ◌++◌, Option, Some, None, ◌⊎◌, inl, inr, refl, ap, sym, subst, ◌∙◌, map, filter, find, zero, suc, ◌<◌, length, get_or, arith, list_any, list_all, cons_option, filter_map, AllPairs, fold, is_some}
 use Rattle.bd_space.specs.Words.{changed, without_first}
 use Rattle.bd_laws.specs.Lists.{In, Pairs}
+use Rattle.bd_laws.proofs.Tests.{and-both as first-and}
 
 module _ {A : Type 0} where
   pub in-left : (x : A) (xs ys : List A) → In x xs → In x (xs ++ ys)
@@ -177,9 +176,6 @@ module _ {A : Type 0} where
   pairs-either R (z ∷ zs) h x y (inr l) (inr m) = pairs-either R zs h.1 x y l m
 
 module _ {A : Type 0} (p : A → Bool) where
-  first-and : (a b : Bool) → a ≡ true → b ≡ true → (a && b) ≡ true
-  first-and a b h k = rw (h, k) refl
-
   pub all-in : (xs : List A) → ((x : A) → In x xs → p x ≡ true) → list_all p xs ≡ true
   all-in [] h = refl
   all-in (x ∷ xs) h = first-and (p x) (list_all p xs) (h x (inl refl)) (all-in xs (λ y l. h y (inr l)))

@@ -1,46 +1,17 @@
--- Of the short commands: references asked for, the loop, death notifications.
-use Rattle.std.proofs.Common.{◌≡◌, ℕ, ◌==◌, Bool, true, false, cond, not, ◌&&◌, ◌||◌, List, [], ◌∷◌, ◌++◌, None, Ok, inl, inr, refl, ap, sym, subst, ◌∙◌}
-use Rattle.std.specs.List.{list_any}
-use Rattle.std.proofs.lemmas.Bool.{eq-eqb}
+-- FollowingIsLocal: of the short commands: references asked for, the loop, death notifications.
+use Rattle.bd_laws.proofs.words.Logic.{◌≡◌, ℕ, ◌==◌, Bool, true, false, cond, not, ◌&&◌, ◌||◌, List, [], ◌∷◌, ◌++◌, None, Ok, inl, inr, refl, ap, sym, subst, ◌∙◌, list_any, eq-eqb}
+use Rattle.bd_laws.proofs.words.Types.{NoSuchNumber, ObjectId, Object, Reference, Asked, Name, Buffer, Turn, Work, DeathNotification, Phase, Armed, Queued, OfProcess}
+use Rattle.bd_laws.proofs.words.Space.{same, found_or, unless, Space, lives_in, reference_of, owned_in, held_in, strong_in, named, with_names, assign_numbers, owe, is_notice, is_call, turns_of, turn_of, wants_notice, is_name_of, ask, request_check, request_note, requested, with_death, owner_lives_in, with_looping, without_buffer, is_made_at, is_of_buffer, completed, ObjectTest, follow_of, no_name, at_object, names_of_references, objects_of_references}
 use mathlib.Core.Bool.{beq}
-use Rattle.bd_uapi.specs.declared.fault.Note.TheVariants.{NoSuchNumber}
-use Rattle.bd_space.specs.declared.step.ObjectId.{ObjectId}
-use Rattle.bd_space.specs.declared.space.Object.{Object}
-use Rattle.bd_space.specs.declared.space.Reference.{Reference}
-use Rattle.bd_space.specs.declared.space.Holder.TheVariants.{Asked}
-use Rattle.bd_space.specs.declared.space.Name.{Name}
-use Rattle.bd_space.specs.declared.space.Buffer.{Buffer}
-use Rattle.bd_space.specs.declared.space.Turn.{Turn}
-use Rattle.bd_space.specs.declared.space.Work.{Work}
-use Rattle.bd_space.specs.declared.space.DeathNotification.{DeathNotification}
-use Rattle.bd_space.specs.declared.space.Phase.{Phase}
-use Rattle.bd_space.specs.declared.space.Phase.TheVariants.{Armed, Queued}
 use Rattle.bd_space.specs.declared.space.WorkKind.TheVariants as work
-use Rattle.bd_space.specs.declared.space.TodoList.TheVariants.{OfProcess}
-use Rattle.bd_space.specs.Words.{same, found_or, unless}
-use Rattle.bd_space.specs.Space.{Space}
-use Rattle.bd_space.specs.Seats.{lives_in}
-use Rattle.bd_space.specs.References.{reference_of, owned_in, held_in, strong_in}
-use Rattle.bd_space.specs.Names.{named, with_names, assign_numbers}
-use Rattle.bd_space.specs.Todo.{owe, is_notice, is_call}
-use Rattle.bd_space.specs.Turns.{turns_of, turn_of}
-use Rattle.bd_space.specs.Notices.{wants_notice, is_name_of}
-use Rattle.bd_space.specs.Asking.{ask}
-use Rattle.bd_space.specs.Deaths.{request_check, request_note, requested, with_death, owner_lives_in}
-use Rattle.bd_space.specs.Commands.{with_looping}
-use Rattle.bd_space.specs.Freeing.{without_buffer, is_made_at}
-use Rattle.bd_space.specs.References.{is_of_buffer}
-use Rattle.bd_space.specs.Outcomes.{completed}
-use Rattle.bd_space.specs.Local.{ObjectTest, follow_of, no_name, at_object, names_of_references, objects_of_references}
-use Rattle.bd_laws.specs.Lists.{In}
-use Rattle.bd_laws.specs.Quiet.{Elsewhere, IsSettled, NoneRipe, IsQuiet, IsFollowed}
+use Rattle.bd_laws.proofs.words.Laws.{In, Elsewhere, IsSettled, NoneRipe, IsQuiet, IsFollowed}
 use Rattle.bd_laws.proofs.Lists.{in-last, in-push, any-in}
 use Rattle.bd_laws.proofs.Tests.{both, and-both, same-eq, eq-same, and_then-ok, found-ok, unless-ok}
 use Rattle.bd_laws.proofs.Sendings.{named-has}
-use Rattle.bd_laws.proofs.Quiet.{any-more, still-unripe-if, elsewhere-aside}
+use Rattle.bd_laws.proofs.NothingIsPending.Quiet.{any-more, still-unripe-if, elsewhere-aside}
 use Rattle.bd_laws.proofs.Fewer.{elsewhere-said, filtered-said, completed-local, found-same, to-false}
 use Rattle.bd_laws.proofs.Freeing.{references_of_buffer}
-use Rattle.bd_laws.proofs.Sending.{with_names-named, name-stays, any-none}
+use Rattle.bd_laws.proofs.FollowingIsLocal.Sent.{with_names-named, name-stays, any-none}
 use Rattle.bd_laws.proofs.Next.{turns-filtered}
 use Rattle.bd_laws.proofs.Pings.{follow-none}
 

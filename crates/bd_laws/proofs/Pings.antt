@@ -1,44 +1,18 @@
--- Of BC_TRANSACTION: what its delivery may rest on; and without objects in its parcel there is next to nothing to do.
-use Rattle.std.proofs.Common.{◌≡◌, ℕ, ◌==◌, Bool, true, false, cond, not, ◌&&◌, ◌||◌, List, [], ◌∷◌, ◌++◌, Option, Some, None, Ok, ◌⊎◌, inl, inr, refl, ap, subst, ◌∙◌, filter}
-use Rattle.std.specs.List.{list_any, fold}
-use Rattle.std.specs.Option.{option_to_list}
-use Rattle.std.proofs.lemmas.Option.{option_and_then_some}
-use Rattle.bd_uapi.specs.declared.command.TransactionData.{TransactionData}
-use Rattle.bd_uapi.specs.declared.object.FlatObject.{FlatObject}
-use Rattle.bd_uapi.specs.declared.fault.Cause.TheVariants.{NotStronglyNamed, NoManager, OwnManager}
-use Rattle.bd_space.specs.declared.step.ObjectId.{ObjectId}
-use Rattle.bd_space.specs.declared.step.Parcel.{Parcel}
-use Rattle.bd_space.specs.declared.space.Object.{Object}
-use Rattle.bd_space.specs.declared.space.Reference.{Reference}
-use Rattle.bd_space.specs.declared.space.Name.{Name}
-use Rattle.bd_space.specs.declared.space.DeathNotification.{DeathNotification}
-use Rattle.bd_space.specs.declared.space.Work.{Work}
-use Rattle.bd_space.specs.declared.space.Item.{Item}
-use Rattle.bd_space.specs.declared.space.Resolved.{Resolved}
-use Rattle.bd_space.specs.declared.space.Actor.{Actor}
-use Rattle.bd_space.specs.declared.space.WorkKind.{WorkKind}
+-- FollowingIsLocal: of BC_TRANSACTION: what its delivery may rest on; and without objects in its parcel there is next
+-- to nothing to do.
+use Rattle.bd_laws.proofs.words.Logic.{◌≡◌, ℕ, ◌==◌, Bool, true, false, cond, not, ◌&&◌, ◌||◌, List, [], ◌∷◌, ◌++◌, Option, Some, None, Ok, ◌⊎◌, inl, inr, refl, ap, subst, ◌∙◌, filter, list_any, fold, option_to_list, option_and_then_some}
+use Rattle.bd_laws.proofs.words.Types.{TransactionData, FlatObject, NotStronglyNamed, NoManager, OwnManager, ObjectId, Parcel, Object, Reference, Name, DeathNotification, Work, Item, Resolved, Actor, WorkKind, OfProcess}
+use Rattle.bd_laws.proofs.words.Space.{same, and_then, found_or, when, Space, strong_in, owned_in, names_for, named_in, strongly_named, if_strongly_named, is_strongly_named_in, with_notice, Sending, resolve, new_object, sending_of, Delivery, transaction_check, transacted, target_of, not_own, handle_of, completed, ObjectTest, no_name, objects_of_items, is_touched, names_go_of, objects_go_of, deaths_go_of, work_goes_of, notify_of, follow_of, ripen_of}
 use Rattle.bd_space.specs.declared.space.WorkKind.TheVariants as work
-use Rattle.bd_space.specs.declared.space.TodoList.TheVariants.{OfProcess}
-use Rattle.bd_space.specs.Words.{same, and_then, found_or, when}
-use Rattle.bd_space.specs.Space.{Space}
-use Rattle.bd_space.specs.References.{strong_in, owned_in, names_for}
-use Rattle.bd_space.specs.Names.{named_in, strongly_named, if_strongly_named, is_strongly_named_in}
-use Rattle.bd_space.specs.Notices.{with_notice}
-use Rattle.bd_space.specs.Parcels.{Sending, resolve, new_object, sending_of}
-use Rattle.bd_space.specs.Delivery.{Delivery}
-use Rattle.bd_space.specs.Transactions.{transaction_check, transacted, target_of, not_own, handle_of}
-use Rattle.bd_space.specs.Outcomes.{completed}
-use Rattle.bd_space.specs.Local.{ObjectTest, no_name, objects_of_items, is_touched, names_go_of, objects_go_of, deaths_go_of, work_goes_of, notify_of, follow_of, ripen_of}
-use Rattle.bd_laws.specs.Lists.{In}
-use Rattle.bd_laws.specs.Objects.{KeptBefore}
-use Rattle.bd_laws.specs.Tidy.{IsTidy}
+use Rattle.bd_laws.proofs.words.Laws.{In, KeptBefore, IsTidy}
 use Rattle.bd_laws.proofs.Lists.{in-last, in-push, in-append, any-found, any-in}
 use Rattle.bd_laws.proofs.Tests.{both, and-both, eq-same, and_then-ok, found-ok, unless-ok}
 use Rattle.bd_laws.proofs.Sendings.{sending-sends, sending-keeps, resolved-by}
 use Rattle.bd_laws.proofs.Checks.{transaction-checked}
-use Rattle.bd_laws.proofs.Quiet.{any-more}
-use Rattle.bd_laws.proofs.Next.{calm}
-use Rattle.bd_laws.proofs.Sending.{Delivers, one_way-local, two_way-local}
+use Rattle.bd_laws.proofs.NothingIsPending.Quiet.{any-more}
+use Rattle.bd_laws.proofs.NothingIsPending.NextParts.{calm}
+use Rattle.bd_laws.proofs.Sending.{one_way-local, two_way-local}
+use Rattle.bd_laws.proofs.FollowingIsLocal.Sent.{Delivers}
 
 -- ---- nothing is touched
 

@@ -1,15 +1,9 @@
--- Of a reading between two steps: the objects of its Notices are looked at.
+-- ItemsAreToldApart: of a reading between two steps: the objects of its Notices are looked at.
+use Rattle.bd_laws.proofs.words.Space.{Space, list_to_read, follow, read_by, taken, is_told_by, History, space_after, no_name, follow_of}
 use Rattle.std.proofs.Common.{◌≡◌, ℕ}
 use Rattle.bd_space.specs.declared.space.Thread.{Thread}
-use Rattle.bd_space.specs.Space.{Space}
-use Rattle.bd_space.specs.Todo.{list_to_read}
-use Rattle.bd_space.specs.Notices.{follow}
-use Rattle.bd_space.specs.ReadItems.{read_by, taken, is_told_by}
-use Rattle.bd_space.specs.Histories.{History, space_after}
-use Rattle.bd_space.specs.Local.{no_name, follow_of}
-use Rattle.bd_laws.specs.Items.{Distinct}
-use Rattle.bd_laws.specs.Tidy.{IsTidy}
-use Rattle.bd_laws.proofs.Taking.{read-local}
+use Rattle.bd_laws.proofs.words.Laws.{Distinct, IsTidy}
+use Rattle.bd_laws.proofs.FollowingIsLocal.Taking.{read-local}
 use Rattle.bd_laws.proofs.Always.{always-tidy}
 
 -- no two work items of one list have one identity

@@ -1,48 +1,28 @@
--- Of BC_REPLY: sent objects are looked at, and frames from the closed one's parent upwards.
-use Rattle.std.proofs.Common.{◌≡◌, ℕ, not, List, [], ◌∷◌, ◌++◌, Option, Some, None, Ok, refl, ap, sym, subst, ◌∙◌, filter, length, append-nil}
-use Rattle.std.specs.List.{cons_option}
-use Rattle.bd_uapi.specs.declared.command.TransactionData.{TransactionData}
-use Rattle.bd_space.specs.declared.step.Parcel.{Parcel}
-use Rattle.bd_space.specs.declared.space.Frame.{Frame}
-use Rattle.bd_space.specs.declared.space.Work.{Work}
-use Rattle.bd_space.specs.declared.space.Actor.{Actor}
-use Rattle.bd_space.specs.declared.space.Turn.{Turn}
+-- FollowingIsLocal: of BC_REPLY: sent objects are looked at, and frames from the closed one's parent upwards.
+use Rattle.bd_laws.proofs.words.Logic.{◌≡◌, ℕ, not, List, [], ◌∷◌, ◌++◌, Option, Some, None, Ok, refl, ap, sym, subst, ◌∙◌, filter, length, append-nil, cons_option}
+use Rattle.bd_laws.proofs.words.Types.{TransactionData, Parcel, Frame, Work, Actor, Turn, OfThread}
+use Rattle.bd_laws.proofs.words.Space.{Space, closed, is_frame, owe, is_call, turns_of, follow, settle, is_abandoned, completed, Delivery, delivered, replied, reply_check, ObjectTest, follow_of, no_name, objects_of_items, close_up}
 use Rattle.bd_space.specs.declared.space.WorkKind.TheVariants as work
-use Rattle.bd_space.specs.declared.space.TodoList.TheVariants.{OfThread}
-use Rattle.bd_space.specs.Space.{Space}
-use Rattle.bd_space.specs.Frames.{closed, is_frame}
-use Rattle.bd_space.specs.Todo.{owe, is_call}
-use Rattle.bd_space.specs.Turns.{turns_of}
-use Rattle.bd_space.specs.Notices.{follow}
-use Rattle.bd_space.specs.Settle.{settle, is_abandoned}
-use Rattle.bd_space.specs.Outcomes.{completed}
-use Rattle.bd_space.specs.Delivery.{Delivery, delivered}
-use Rattle.bd_space.specs.Replies.{replied, reply_check}
-use Rattle.bd_space.specs.Local.{NameTest, ObjectTest, follow_of, notify_of, work_goes_of, deaths_go_of, objects_go_of, names_go_of, no_name, objects_of_items, close_up}
-use Rattle.bd_laws.specs.Lists.{In}
-use Rattle.bd_laws.specs.Quiet.{Elsewhere, NoneRipe}
-use Rattle.bd_laws.specs.Tidy.{IsTidy}
+use Rattle.bd_laws.proofs.words.Laws.{In, Elsewhere, NoneRipe, IsTidy}
 use Rattle.bd_laws.proofs.Lists.{in-filter}
 use Rattle.bd_laws.proofs.Sendings.{sending-sends}
 use Rattle.bd_laws.proofs.Checks.{reply-checked}
-use Rattle.bd_laws.proofs.Objects.{closed-before}
+use Rattle.bd_laws.proofs.KeptBefore.ObjectsKept.{closed-before}
 use Rattle.bd_laws.proofs.Follow.{follow-local}
-use Rattle.bd_laws.proofs.Ripe.{ripen-still}
-use Rattle.bd_laws.proofs.Quiet.{IsCalm, closed-calm, any-more, still-unripe-if}
+use Rattle.bd_laws.proofs.FollowingIsLocal.Ripe.{ripen-still}
+use Rattle.bd_laws.proofs.NothingIsPending.Quiet.{IsCalm, closed-calm, any-more, still-unripe-if}
 use Rattle.bd_laws.proofs.Freeing.{owe-elsewhere}
 use Rattle.bd_laws.proofs.Sending as sending
-use Rattle.bd_laws.proofs.Sending.{Delivers, none-found}
+use Rattle.bd_laws.proofs.Sending.{none-found}
+use Rattle.bd_laws.proofs.FollowingIsLocal.Sent.{Delivers}
 use Rattle.bd_laws.proofs.Pings.{sending-made_sent}
-use Rattle.bd_laws.proofs.Next.{calm}
+use Rattle.bd_laws.proofs.NothingIsPending.NextParts.{calm}
 use Rattle.bd_laws.proofs.Abandoned.{OneEach, OnlyAt, only-parent, settle-up}
+use Rattle.bd_laws.proofs.Machine.Fields.{follow_of-frames, closed-frames}
 
 closed-delivers : (s : Space) (made : ℕ) (v : Delivery) → Delivers s v → Delivers (closed s made) v
 unfolding closed
 closed-delivers s made v h = record { sent = h.sent; new = h.new; target = h.target }
-
-closed-frames : (s : Space) (made : ℕ) → (closed s made).frames ≡ filter (λ g. not (is_frame made g)) s.frames
-unfolding closed
-closed-frames s made = refl
 
 told-elsewhere : (b : ObjectTest) (y : Space) (caller : Option ℕ) (n : ℕ) → Elsewhere no_name b y
     → Elsewhere no_name b (elim caller as (λ (o : Option ℕ). Space) [ None ↦ y | Some t ↦ owe y (OfThread t) (work.Reply n) ])
@@ -63,10 +43,6 @@ told-frames : (y : Space) (caller : Option ℕ) (n : ℕ) → (elim caller as (�
 unfolding owe
 told-frames y None n = refl
 told-frames y (Some t) n = refl
-
-follow_of-frames : (a : NameTest) (b : ObjectTest) (z : Space) → (follow_of a b z).frames ≡ z.frames
-unfolding follow_of notify_of work_goes_of deaths_go_of objects_go_of names_go_of
-follow_of-frames a b z = refl
 
 module _ (s : Space) (a : Actor) (d : TransactionData) (parcel : Option Parcel) (f : Frame) (v : Delivery) (tidy : IsTidy s) (check : reply_check s a d parcel f ≡ Ok v) where
   abbrev sent : ObjectTest

@@ -1,30 +1,11 @@
--- What a parcel's sender sends: objects that are there, or that the sending makes.
-use Rattle.std.proofs.Common.{◌≡◌, ℕ, ◌+◌, ◌<◌, ◌%◌, ◌^◌, ◌==◌, Bool, true, false, cond, ◌&&◌, not, List, [], ◌∷◌, ◌++◌, Option, Some, None, Result, Ok, Err, ◌⊎◌, inl, inr, refl, ap, sym, subst, ◌∙◌, length, find, arith, length-append, append-nil}
-use Rattle.std.specs.Option.{option_to_list, option_map}
-use Rattle.std.proofs.lemmas.Option.{option_and_then_some}
-use Rattle.bd_uapi.specs.declared.command.TransactionData.{TransactionData}
-use Rattle.bd_uapi.specs.declared.fault.Cause.{Cause}
-use Rattle.bd_uapi.specs.declared.fault.Cause.TheVariants.{OutsideArea, OffsetsSize, OtherCookie}
-use Rattle.bd_uapi.specs.declared.object.FlatObject.{FlatObject}
-use Rattle.bd_uapi.specs.declared.object.ObjectKind.{ObjectKind}
-use Rattle.bd_uapi.specs.declared.object.ObjectKind.TheVariants.{Binder, WeakBinder, Handle, WeakHandle}
+-- For every law: what a parcel's sender sends: objects that are there, or that the sending makes.
+use Rattle.bd_laws.proofs.words.Logic.{◌≡◌, ℕ, ◌+◌, ◌<◌, ◌%◌, ◌^◌, ◌==◌, Bool, true, false, cond, ◌&&◌, not, List, [], ◌∷◌, ◌++◌, Option, Some, None, Result, Ok, Err, ◌⊎◌, inl, inr, refl, ap, sym, subst, ◌∙◌, length, find, arith, length-append, append-nil, option_to_list, option_map, option_and_then_some, eqb-true}
+use Rattle.bd_laws.proofs.words.Types.{TransactionData, Cause, OutsideArea, OffsetsSize, OtherCookie, FlatObject, ObjectKind, Binder, WeakBinder, Handle, WeakHandle, ObjectId, Parcel, Object, Name, Item, Resolved, is_own}
+use Rattle.bd_laws.proofs.words.Space.{Space, own_in, named, strongly_named, named_in, if_strongly_named, is_strongly_named_in, Sending, new_object, resolve, resolve_own, resolve_handle, resolve_all, resolve_walked, is_cut, sending_of}
 use Rattle.bd_parcel.specs.declared.fault.WalkFault.{WalkFault}
 use Rattle.bd_parcel.specs.Parcels.{offsets_in, fault_in}
 use Rattle.bd_parcel.specs.Reading.{object_at}
-use Rattle.bd_space.specs.declared.step.ObjectId.{ObjectId}
-use Rattle.bd_space.specs.declared.step.Parcel.{Parcel}
-use Rattle.bd_space.specs.declared.space.Object.{Object}
-use Rattle.bd_space.specs.declared.space.Name.{Name}
-use Rattle.bd_space.specs.declared.space.Item.{Item}
-use Rattle.bd_space.specs.declared.space.Resolved.{Resolved}
-use Rattle.bd_space.specs.Space.{Space}
-use Rattle.bd_space.specs.References.{own_in}
-use Rattle.bd_space.specs.Names.{named, strongly_named, named_in, if_strongly_named, is_strongly_named_in}
-use Rattle.bd_uapi.specs.Kinds.{is_own}
-use Rattle.bd_space.specs.Parcels.{Sending, new_object, resolve, resolve_own, resolve_handle, resolve_all, resolve_walked, is_cut, sending_of}
-use Rattle.std.proofs.lemmas.Bool.{eqb-true}
-use Rattle.bd_laws.specs.Lists.{In, Pairs}
-use Rattle.bd_laws.specs.Objects.{Earlier}
+use Rattle.bd_laws.proofs.words.Laws.{In, Pairs, Earlier}
 use Rattle.bd_laws.proofs.Lists.{in-left, in-right, in-append, in-push, in-last, pairs-push, find-in}
 use Rattle.bd_laws.proofs.Tests.{both, and_then-ok}
 use Rattle.bd_laws.proofs.Earlier.{index-earlier}

@@ -1,24 +1,16 @@
--- The frames of a thread as a stack, with the hops from frame to parent that a table of frames makes.
-use Rattle.std.proofs.Common.{◌≡◌, ℕ, zero, suc, ◌<◌, ◌≤◌, ◌==◌, Bool, true, false, List, [], ◌∷◌, filter, reverse, Some, None, inl, inr, refl, ap, sym, subst, ◌∙◌, arith}
-use Rattle.std.proofs.lemmas.Bool.{cases_lt, eqb-true, eq-eqb}
-use Rattle.bd_space.specs.declared.space.Frame.{Frame}
-use Rattle.bd_space.specs.declared.space.Buffer.{Buffer}
-use Rattle.bd_space.specs.declared.space.Work.{Work}
-use Rattle.bd_space.specs.declared.space.TodoList.TheVariants.{OfThread}
+-- FramesAreStacks: the frames of a thread as a stack, with the hops from frame to parent that a table of frames
+-- makes.
+use Rattle.bd_laws.proofs.words.Logic.{◌≡◌, ℕ, zero, suc, ◌<◌, ◌≤◌, ◌==◌, Bool, true, false, List, [], ◌∷◌, filter, reverse, Some, None, inl, inr, refl, ap, sym, subst, ◌∙◌, arith, cases_lt, eqb-true, eq-eqb}
+use Rattle.bd_laws.proofs.words.Types.{Frame, Buffer, Work, OfThread}
+use Rattle.bd_laws.proofs.words.Space.{Space, depth_in, innermost_in, takes_part, ancestry, served_innermost, History, space_after}
 use Rattle.bd_space.specs.declared.space.WorkKind.TheVariants as work
-use Rattle.bd_space.specs.Space.{Space}
-use Rattle.bd_space.specs.Frames.{depth_in, innermost_in, takes_part, ancestry, served_innermost}
-use Rattle.bd_space.specs.Histories.{History, space_after}
-use Rattle.bd_laws.specs.Stacks.{Among, LowerThan, Rising, last_of, frames_with, AreStacks}
-use Rattle.bd_laws.specs.Lists.{In, Pairs}
-use Rattle.bd_laws.specs.Frames.{Forest, Older, Part, NoChild}
-use Rattle.bd_laws.specs.Tidy.{IsTidy}
+use Rattle.bd_laws.proofs.words.Laws.{Among, LowerThan, Rising, last_of, frames_with, AreStacks, In, Pairs, Forest, Older, Part, NoChild, IsTidy}
 use Rattle.bd_laws.proofs.Lists.{in-filter, pairs-map, pairs-filter}
-use Rattle.bd_laws.proofs.Forests.{one-frame}
-use Rattle.bd_laws.proofs.Innermost.{child-depth, newest-first, reverse-in, true-part, none-innermost}
-use Rattle.bd_laws.proofs.Paths.{served-childless}
-use Rattle.bd_laws.proofs.LastFrame.{innermost_is_last}
-use Rattle.bd_laws.proofs.Parents.{OlderParents, parent_hop}
+use Rattle.bd_laws.proofs.OnPaths.Forests.{one-frame}
+use Rattle.bd_laws.proofs.OnPaths.Innermost.{child-depth, newest-first, reverse-in, true-part, none-innermost}
+use Rattle.bd_laws.proofs.OnPaths.Paths.{served-childless}
+use Rattle.bd_laws.proofs.FramesAreStacks.LastFrame.{innermost_is_last}
+use Rattle.bd_laws.proofs.FramesAreStacks.Parents.{OlderParents, parent_hop}
 use Rattle.bd_laws.proofs.Always.{always-tidy}
 
 pairs-rising : (d : Frame → ℕ) (fs : List Frame) → Pairs (λ f g. d f < d g) fs → Rising d fs

@@ -1,7 +1,7 @@
 use Rattle.std.proofs.Common.{◌≡◌, subst}
 use Rattle.bd_space.specs.Histories.{History, space_after, history_in}
 use Rattle.bd_audit.specs.GiftSearch.{IsHolder}
-use Rattle.bd_audit.proofs.GiftSteps.{holder-knows, chain-of}
+use Rattle.bd_audit.proofs.NamesHaveGiftChains.GiftSteps.{holder-knows, chain-of}
 use Rattle.bd_audit.proofs.gifts.gift_chain.Goals as goal
 
 pub way_to-requires-clause-given : goal.way_to-requires-clause-given

@@ -1,7 +1,7 @@
 use Rattle.std.proofs.Common.{refl}
 use Rattle.bd_space.specs.Histories.{space_after}
 use Rattle.bd_engine.specs.Looks.{knows}
-use Rattle.bd_audit.proofs.GiftSteps.{gift-is}
+use Rattle.bd_audit.proofs.NamesHaveGiftChains.NameBegins.{gift-is}
 use Rattle.bd_audit.proofs.gifts.gift_made.Goals as goal
 use Rattle.bd_audit.proofs.gifts.gift_made.Goals.{else-not-knew-via-then-not-knew+else-knows, else-not-knew-via-else-not-knew}
 

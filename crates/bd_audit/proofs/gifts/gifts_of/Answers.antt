@@ -1,9 +1,8 @@
-use Rattle.std.proofs.Common.{rules, arith, ◌≡◌, [], ◌∷◌, ◌++◌, None, subst, sym}
-use Rattle.std.proofs.lemmas.Result.{err_from_is_err_and}
+use Rattle.bd_laws.proofs.words.Logic.{rules, arith, ◌≡◌, [], ◌∷◌, ◌++◌, None, subst, sym, err_from_is_err_and}
 use Rattle.bd_space.specs.Histories.{History, history_in}
 use Rattle.bd_audit.specs.GiftSearch.{AreGifts}
 use Rattle.bd_audit.proofs.Beginnings.{all-played, next-beginning, next-lawful}
-use Rattle.bd_audit.proofs.GiftSteps.{receiver-there, gifts-same, gifts-more}
+use Rattle.bd_audit.proofs.NamesHaveGiftChains.GiftSteps.{receiver-there, gifts-same, gifts-more}
 use Rattle.bd_audit.proofs.gifts.gifts_of.Goals as goal
 use Rattle.bd_audit.proofs.gifts.gifts_of.Goals.{in-Some+else-is_err, in_default-2}
 

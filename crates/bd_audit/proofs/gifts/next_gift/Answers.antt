@@ -1,7 +1,7 @@
-use Rattle.std.proofs.Common.{ap, sym, ◌∙◌}
-use Rattle.std.specs.Option.{unwrap_or}
+use Rattle.bd_laws.proofs.words.Logic.{ap, sym, ◌∙◌, unwrap_or}
 use Rattle.bd_audit.specs.GiftSearch.{gift_made}
-use Rattle.bd_audit.proofs.GiftSteps.{one-candidate, gift-of, no-gift, ok-gift}
+use Rattle.bd_audit.proofs.NamesHaveGiftChains.GiftSteps.{gift-of, no-gift, ok-gift}
+use Rattle.bd_audit.proofs.NamesHaveGiftChains.NameBegins.{one-candidate}
 use Rattle.bd_audit.proofs.gifts.next_gift.Goals as goal
 
 pub returns-in-Some-clause-gift : goal.returns-in-Some-clause-gift

@@ -1,7 +1,6 @@
-use Rattle.std.proofs.Common.{rules, refl}
-use Rattle.std.proofs.lemmas.Result.{err_from_is_err_and}
+use Rattle.bd_laws.proofs.words.Logic.{rules, refl, err_from_is_err_and}
 use Rattle.bd_audit.proofs.Beginnings.{next-beginning, next-lawful}
-use Rattle.bd_audit.proofs.GiftSteps.{receivers-next}
+use Rattle.bd_audit.proofs.NamesHaveGiftChains.GiftSteps.{receivers-next}
 use Rattle.bd_audit.proofs.gifts.receivers_of.Goals as goal
 
 pub advance-requires : goal.advance-requires

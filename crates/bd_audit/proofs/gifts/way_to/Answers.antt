@@ -3,7 +3,7 @@ use Rattle.bd_laws.specs.Lists.{In}
 use Rattle.bd_laws.proofs.Lists.{in-left}
 use Rattle.bd_audit.specs.declared.gifts.Gift.{Gift}
 use Rattle.bd_audit.specs.GiftSearch.{FollowAfter}
-use Rattle.bd_audit.proofs.GiftSteps.{LeadsOn, follow-front, way-goes-on, way-to-giver}
+use Rattle.bd_audit.proofs.NamesHaveGiftChains.GiftSteps.{LeadsOn, follow-front, way-goes-on, way-to-giver}
 use Rattle.bd_audit.proofs.gifts.way_to.Goals as goal
 
 pub loop-gift-preserved-then-eq : goal.loop-gift-preserved-then-eq

@@ -2,7 +2,7 @@ use Rattle.std.proofs.Common.{[], length}
 use Rattle.bd_laws.specs.Lists.{In}
 use Rattle.bd_audit.specs.declared.gifts.Gift.{Gift}
 use Rattle.bd_audit.specs.GiftSearch.{FollowAfter}
-use Rattle.bd_audit.proofs.GiftSteps.{LeadsOn}
+use Rattle.bd_audit.proofs.NamesHaveGiftChains.GiftSteps.{LeadsOn}
 use Rattle.bd_audit.proofs.gifts.way_to.Given as goal
 
 abbrev pub invariant-loop-gift : goal.invariant-loop-gift

@@ -1,7 +1,6 @@
+use Rattle.bd_laws.proofs.words.Space.{space_after, step}
 use Rattle.std.proofs.Common.{◌≡◌, ◌∙◌, ap, true, false}
 use Rattle.bd_space.specs.declared.step.Step.{Step}
-use Rattle.bd_space.specs.Histories.{space_after}
-use Rattle.bd_space.specs.Steps.{step}
 use Rattle.bd_audit.proofs.Beginnings.{wrong-answer, refused}
 use Rattle.bd_audit.proofs.judging.accept.Goals as goal
 

@@ -1,4 +1,4 @@
-use Rattle.bd_audit.proofs.LatestFirst.{latest-first}
+use Rattle.bd_audit.proofs.CallsEndLatestFirst.LatestFirst.{latest-first}
 use Rattle.bd_audit.proofs.laws.calls_end_latest_first.Goals as goal
 
 pub returns : goal.returns

@@ -1,4 +1,4 @@
-use Rattle.bd_audit.proofs.PathLaw.{lie-on-paths}
+use Rattle.bd_audit.proofs.FramesLieOnOnePath.PathLaw.{lie-on-paths}
 use Rattle.bd_audit.proofs.laws.frames_lie_on_one_path.Goals as goal
 
 pub returns : goal.returns

@@ -1,4 +1,4 @@
-use Rattle.bd_audit.proofs.Gone.{stays-gone}
+use Rattle.bd_audit.proofs.GoneUnheld.Gone.{stays-gone}
 use Rattle.bd_audit.proofs.laws.gone_unheld.Goals as goal
 
 pub returns : goal.returns

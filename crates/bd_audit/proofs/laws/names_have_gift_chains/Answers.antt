@@ -1,4 +1,4 @@
-use Rattle.bd_audit.proofs.Chains.{name-chain}
+use Rattle.bd_audit.proofs.NamesHaveGiftChains.Chains.{name-chain}
 use Rattle.bd_audit.proofs.laws.names_have_gift_chains.Goals as goal
 
 pub returns : goal.returns

@@ -1,4 +1,4 @@
-use Rattle.bd_audit.proofs.Owners.{only-owners}
+use Rattle.bd_audit.proofs.OnlyOwnersHear.Owners.{only-owners}
 use Rattle.bd_audit.proofs.laws.only_owners_hear.Goals as goal
 
 pub returns : goal.returns

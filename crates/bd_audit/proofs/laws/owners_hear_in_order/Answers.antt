@@ -1,4 +1,4 @@
-use Rattle.bd_audit.proofs.Heard.{hears-in-order}
+use Rattle.bd_audit.proofs.OwnersHearInOrder.Heard.{hears-in-order}
 use Rattle.bd_audit.proofs.laws.owners_hear_in_order.Goals as goal
 
 pub returns : goal.returns

@@ -1,4 +1,4 @@
-use Rattle.bd_audit.proofs.LatestCall.{answers-latest}
+use Rattle.bd_audit.proofs.RepliesAnswerTheLatestOpenCall.LatestCall.{answers-latest}
 use Rattle.bd_audit.proofs.laws.replies_answer_the_latest_open_call.Goals as goal
 
 pub returns : goal.returns

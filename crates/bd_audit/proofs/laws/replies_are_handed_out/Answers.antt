@@ -1,4 +1,4 @@
-use Rattle.bd_audit.proofs.HandedReplies.{handed-out}
+use Rattle.bd_audit.proofs.RepliesAreHandedOut.HandedReplies.{handed-out}
 use Rattle.bd_audit.proofs.laws.replies_are_handed_out.Goals as goal
 
 pub returns : goal.returns

@@ -1,4 +1,4 @@
-use Rattle.bd_audit.proofs.ReplyLaw.{reaches}
+use Rattle.bd_audit.proofs.RepliesReachTheirCallers.ReplyLaw.{reaches}
 use Rattle.bd_audit.proofs.laws.replies_reach_their_callers.Goals as goal
 
 pub returns : goal.returns

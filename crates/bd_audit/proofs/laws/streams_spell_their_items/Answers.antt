@@ -1,4 +1,4 @@
-use Rattle.bd_audit.proofs.HandedReplies.{spelt}
+use Rattle.bd_audit.proofs.RepliesAreHandedOut.HandedReplies.{spelt}
 use Rattle.bd_audit.proofs.laws.streams_spell_their_items.Goals as goal
 
 pub returns : goal.returns

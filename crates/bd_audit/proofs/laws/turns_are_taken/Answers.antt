@@ -1,4 +1,4 @@
-use Rattle.bd_audit.proofs.TurnCalls.{turns-taken}
+use Rattle.bd_audit.proofs.TurnsTellOfCalls.TurnCalls.{turns-taken}
 use Rattle.bd_audit.proofs.laws.turns_are_taken.Goals as goal
 
 pub returns : goal.returns

@@ -1,4 +1,4 @@
-use Rattle.bd_audit.proofs.TurnCalls.{turns-tell}
+use Rattle.bd_audit.proofs.TurnsTellOfCalls.TurnCalls.{turns-tell}
 use Rattle.bd_audit.proofs.laws.turns_tell_of_calls.Goals as goal
 
 pub returns : goal.returns

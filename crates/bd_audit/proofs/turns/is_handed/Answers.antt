@@ -1,5 +1,5 @@
 use Rattle.std.proofs.Common.{Some, None}
-use Rattle.bd_audit.proofs.TurnLists.{handed-is}
+use Rattle.bd_audit.proofs.TurnsTellOfCalls.TurnLists.{handed-is}
 use Rattle.bd_audit.proofs.turns.is_handed.Goals as goal
 
 pub returns-in-Some : goal.returns-in-Some

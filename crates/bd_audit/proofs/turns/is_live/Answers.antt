@@ -1,5 +1,5 @@
 use Rattle.std.proofs.Common.{Some, None}
-use Rattle.bd_audit.proofs.TurnLists.{live-is}
+use Rattle.bd_audit.proofs.TurnsTellOfCalls.TurnLists.{live-is}
 use Rattle.bd_audit.proofs.turns.is_live.Goals as goal
 
 pub returns-in-Some : goal.returns-in-Some

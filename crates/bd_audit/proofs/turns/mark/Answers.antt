@@ -1,7 +1,7 @@
 use Rattle.std.proofs.Common.{◌∙◌, ap, not, arith}
 use Rattle.bd_space.specs.Histories.{space_after}
 use Rattle.bd_audit.specs.TurnSearch.{marked}
-use Rattle.bd_audit.proofs.TurnMarks.{marks-next, marks-stop}
+use Rattle.bd_audit.proofs.TurnsAreTaken.TurnMarks.{marks-next, marks-stop}
 use Rattle.bd_audit.proofs.turns.mark.Goals as goal
 
 pub returns-then-is_none-clause-all : goal.returns-then-is_none-clause-all

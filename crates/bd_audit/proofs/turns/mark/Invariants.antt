@@ -1,6 +1,6 @@
 use Rattle.bd_space.specs.Histories.{space_after}
 use Rattle.bd_audit.specs.TurnSearch.{marked}
-use Rattle.bd_audit.proofs.TurnMarks.{MarkedTo}
+use Rattle.bd_audit.proofs.TurnsAreTaken.TurnMarks.{MarkedTo}
 use Rattle.bd_audit.proofs.turns.mark.Given as goal
 
 abbrev pub invariant-loop-at : goal.invariant-loop-at

@@ -1,12 +1,11 @@
-use Rattle.std.proofs.Common.{◌∙◌, refl, sym, ap, subst, arith}
-use Rattle.std.proofs.lemmas.Result.{err_from_is_err_and}
+use Rattle.bd_laws.proofs.words.Logic.{◌∙◌, refl, sym, ap, subst, arith, err_from_is_err_and}
 use Rattle.bd_space.specs.Histories.{History, history_in}
 use Rattle.bd_audit.specs.TurnSearch.{turns_on}
 use Rattle.bd_audit.specs.TurnCalls.{AreTurns}
 use Rattle.bd_audit.proofs.Beginnings.{all-played, next-beginning, next-lawful}
-use Rattle.bd_audit.proofs.TurnLists.{turns-noted, turns-none}
-use Rattle.bd_audit.proofs.TurnMarks.{in-turn}
-use Rattle.bd_audit.proofs.TurnCalls.{turns-are}
+use Rattle.bd_audit.proofs.TurnsTellOfCalls.TurnLists.{turns-noted, turns-none}
+use Rattle.bd_audit.proofs.TurnsAreTaken.TurnMarks.{in-turn}
+use Rattle.bd_audit.proofs.TurnsTellOfCalls.TurnCalls.{turns-are}
 use Rattle.bd_audit.proofs.turns.oneway_turns.Goals as goal
 
 pub loop-entry-init : goal.loop-entry-init

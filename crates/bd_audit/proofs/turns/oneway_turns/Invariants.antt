@@ -1,5 +1,4 @@
-use Rattle.std.proofs.Common.{◌≡◌, true, take}
-use Rattle.std.specs.List.{list_all}
+use Rattle.bd_laws.proofs.words.Logic.{◌≡◌, true, take, list_all}
 use Rattle.bd_space.specs.Histories.{history_in}
 use Rattle.bd_audit.specs.Replays.{beginning}
 use Rattle.bd_audit.specs.TurnSearch.{turns_on, has_ended}

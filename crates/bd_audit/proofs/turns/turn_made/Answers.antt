@@ -1,5 +1,5 @@
 use Rattle.std.proofs.Common.{true, false, None, sym, ◌∙◌}
-use Rattle.bd_audit.proofs.TurnLists.{made-call, made-is}
+use Rattle.bd_audit.proofs.TurnsTellOfCalls.TurnLists.{made-call, made-is}
 use Rattle.bd_audit.proofs.turns.turn_made.Goals as goal
 
 pub returns-then-is_call_on : goal.returns-then-is_call_on

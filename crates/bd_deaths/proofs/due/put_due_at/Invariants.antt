@@ -3,8 +3,9 @@ use Rattle.std.specs.Prelude.{◌==◌}
 use Rattle.bd_space.specs.declared.space.Object.{Object}
 use Rattle.bd_nodes.specs.Stands.{NodesAre}
 use Rattle.bd_deaths.specs.Due.{due_of}
+use Rattle.bd_deaths.specs.Slots.{lives}
 use Rattle.bd_deaths.proofs.due.put_due_at.Given as goal
 
-abbrev pub invariant-loop-x : goal.invariant-loop-x
-invariant-loop-x l = (objects : List Object) → NodesAre l.nodes objects
-    → l.told.items ≡ l.fn.told.items ++ due_of (λ n. l.made == n) objects l.p (take l.x-index l.deaths)
+abbrev pub invariant-loop-s : goal.invariant-loop-s
+invariant-loop-s l = (objects : List Object) → NodesAre l.nodes objects
+    → l.told.items ≡ l.fn.told.items ++ due_of (λ n. l.made == n) objects l.p (lives (take l.s-index l.slots))

@@ -1,11 +1,14 @@
-use Rattle.std.proofs.Common.{◌≤◌, ◌++◌, get_or, take, length, sym, ap, ◌∙◌, arith}
+use Rattle.std.proofs.Common.{◌≤◌, ◌++◌, get_or, take, length, sym, ap, subst, ◌∙◌, arith}
 use Rattle.std.specs.Prelude.{◌==◌}
 use Rattle.std.proofs.lemmas.Result.{err_from_is_err_and}
 use Rattle.std.proofs.lemmas.List.{take_all}
 use Rattle.bd_space.specs.Deaths.{is_notification}
 use Rattle.bd_deaths.specs.Due.{is_due_at, due_of, has_place}
 use Rattle.bd_deaths.proofs.Gathered.{no-place, place-part, place-next}
+use Rattle.bd_deaths.specs.Slots.{lives}
+use Rattle.bd_deaths.specs.Stands.{IsRising}
 use Rattle.bd_deaths.proofs.Parts.{any-of}
+use Rattle.bd_deaths.proofs.Places.{rising-lives}
 use Rattle.bd_deaths.proofs.Telling.{due-here, due-told}
 use Rattle.bd_deaths.proofs.list.DeathList.due_of.Goals as goal
 
@@ -26,9 +29,9 @@ loop-made-preserved c = λ objects xs ns h.
     let k = c.loop-made.made-index in
     let m = get_or places k 0 in
     c.in_ok-put_due_at.ensures.put objects ns
-    ∙ ap (λ ys. ys ++ due_of (λ n. m == n) objects p c.made_part.result.now) (c.loop-made.invariant objects xs ns h)
-    ∙ ap (λ ys. due_of (has_place (take k places)) objects p xs ++ ys) (place-part objects p m c.made_part.result.now xs (c.made_part.ensures xs h))
-    ∙ place-next objects p places k 0 c.args.self.now.end xs (h.rising c.requires.order) c.requires.rising c.loop-made-test.true
+    ∙ ap (λ ys. ys ++ due_of (λ n. m == n) objects p (lives c.made_part.result.now)) (c.loop-made.invariant objects xs ns h)
+    ∙ ap (λ ys. due_of (has_place (take k places)) objects p xs ++ ys) (place-part objects p m (lives c.made_part.result.now) xs (c.made_part.ensures xs h))
+    ∙ place-next objects p places k 0 c.args.self.now.end xs (subst (IsRising 0 c.args.self.now.end) h.lives_are (rising-lives 0 c.args.self.now.end c.args.self.now.slots.items (h.rising c.requires.order))) c.requires.rising c.loop-made-test.true
 
 pub returns-clause-due : goal.returns-clause-due
 returns-clause-due c = λ objects xs ns h.

@@ -1,5 +1,6 @@
-use Rattle.std.proofs.Common.{◌≡◌, ℕ, ◌+◌, ◌<◌, ◌||◌, List, take, length, get_or, false, refl, sym, subst, ◌∙◌}
+use Rattle.std.proofs.Common.{◌≡◌, ℕ, ◌+◌, ◌<◌, ◌||◌, List, take, length, get_or, false, refl, sym, subst, ◌∙◌, arith}
 use Rattle.std.specs.Prelude.{◌==◌}
+use Rattle.std.proofs.lemmas.List.{take_all}
 use Rattle.std.proofs.lemmas.List.Folds.{list_any_more}
 use Rattle.bd_space.specs.Words.{changed, is_some_and}
 use Rattle.bd_space.specs.Todo.{death_of}
@@ -34,3 +35,7 @@ loop-w-preserved c = record {
       subst (AreIn c.read_one.new.self) (read-next c.args.taken.now c.loop-w.w-index _ xs c.loop-w-test.true) (c.read_one.ensures.stands _ (c.loop-w.invariant.so_far xs h));
   uses = uses-then _ _ _ c.loop-w.invariant.uses c.read_one.ensures.uses;
 }
+
+pub returns-clause-stands : goal.returns-clause-stands
+returns-clause-stands c = λ l h.
+    subst (λ ws. AreIn c.loop-w.self (told_deaths ws l)) (take_all c.loop-w.w-index c.args.taken.now (omega arith)) (c.loop-w.invariant.so_far l h)

@@ -1,24 +1,10 @@
-use Rattle.std.proofs.Common.{◌<◌, length, arith}
+use Rattle.std.proofs.Common.{rules, tests}
 use Rattle.bd_space.specs.Deaths.{is_notification}
-use Rattle.bd_deaths.proofs.Removing.{removes-none, removes-next, removes-all}
-use Rattle.bd_deaths.proofs.Room.{uses-none, uses-then}
+use Rattle.bd_deaths.proofs.Lives.{live-within}
 use Rattle.bd_deaths.proofs.list.DeathList.remove.Goals as goal
-
-pub loop-i-init : goal.loop-i-init
-loop-i-init c = record { so_far = λ l h. removes-none (is_notification c.args.made) c.args.self.now l h; uses = uses-none c.args.self.now }
-
-pub loop-i-preserved : goal.loop-i-preserved
-loop-i-preserved c = record {
-  so_far = λ l h.
-      let before = c.loop-i.invariant.so_far l h in
-      let own = c.loop-i.self.deaths.items in
-      let e = c.in-Some.ensures.first own before.own in
-      let within : c.in-Some.i < length own = omega (arith, c.in-Some.ensures.within) in
-      removes-next (is_notification c.args.made) c.loop-i.self c.remove_at.new.self l c.in-Some.i before within e (c.remove_at.ensures.stands own before.own);
-  uses = uses-then _ _ _ c.loop-i.invariant.uses c.remove_at.ensures.uses;
-}
 
 pub returns-clause-stands : goal.returns-clause-stands
 returns-clause-stands c = λ l h.
-    let left = c.loop-i.invariant.so_far l h in
-    removes-all (is_notification c.args.made) c.loop-i.self l left (c.in_default.ensures.first c.loop-i.self.deaths.items left.own)
+    let q = is_notification c.args.made in
+    let dropped = c.drop_in.ensures.stands q (λ x b k. search (rules, tests)) l h (live-within q _ _ _ (c.made_range-range.ensures.within l h)) in
+    c.close_up.ensures.stands _ (c.pass_untold.ensures.stands _ dropped)

@@ -1,24 +1,21 @@
-use Rattle.std.proofs.Common.{◌<◌, length, arith}
+use Rattle.std.proofs.Common.{rules, ◌==◌, not, subst}
+use Rattle.bd_space.specs.Words.{same}
 use Rattle.bd_space.specs.Deaths.{is_uncleared_on}
-use Rattle.bd_deaths.proofs.Removing.{removes-none, removes-next, removes-all}
-use Rattle.bd_deaths.proofs.Room.{uses-none, uses-then}
+use Rattle.bd_deaths.specs.declared.key.Key.{Key}
+use Rattle.bd_deaths.specs.Keys.{has, name_key}
+use Rattle.bd_deaths.specs.Slots.{on}
+use Rattle.bd_deaths.specs.Stands.{IsWithin}
+use Rattle.bd_deaths.proofs.Lives.{within-on}
+use Rattle.bd_deaths.proofs.Parts.{last-two}
 use Rattle.bd_deaths.proofs.list.DeathList.remove_uncleared.Goals as goal
-
-pub loop-i-init : goal.loop-i-init
-loop-i-init c = record { so_far = λ l h. removes-none (is_uncleared_on c.args.p c.args.o) c.args.self.now l h; uses = uses-none c.args.self.now }
-
-pub loop-i-preserved : goal.loop-i-preserved
-loop-i-preserved c = record {
-  so_far = λ l h.
-      let before = c.loop-i.invariant.so_far l h in
-      let own = c.loop-i.self.deaths.items in
-      let e = c.in-Some.ensures.first own before.own in
-      let within : c.in-Some.i < length own = omega (arith, c.in-Some.ensures.within) in
-      removes-next (is_uncleared_on c.args.p c.args.o) c.loop-i.self c.remove_at.new.self l c.in-Some.i before within e (c.remove_at.ensures.stands own before.own);
-  uses = uses-then _ _ _ c.loop-i.invariant.uses c.remove_at.ensures.uses;
-}
 
 pub returns-clause-stands : goal.returns-clause-stands
 returns-clause-stands c = λ l h.
-    let left = c.loop-i.invariant.so_far l h in
-    removes-all (is_uncleared_on c.args.p c.args.o) c.loop-i.self l left (c.in_default.ensures.first c.loop-i.self.deaths.items left.own)
+    let p = c.args.p in
+    let o = c.args.o in
+    let q = is_uncleared_on p o in
+    let r = c.key_range-range.result in
+    let ss = c.args.self.now.slots.items in
+    let there = subst (λ (k : Key). IsWithin (on (has k)) r.start r.end ss) c.name_key.ensures (c.key_range-range.ensures.within l h) in
+    c.close_up.ensures.stands _ (c.drop_in.ensures.stands q (λ x b k. search rules) l h
+    (within-on q (has (name_key p o)) (λ x e. last-two (not x.cleared) (x.process == p) (same x.object o) e) r.start r.end ss there))

@@ -1,9 +1,11 @@
-use Rattle.std.proofs.Common.{◌∙◌}
+use Rattle.std.proofs.Common.{ap, ◌∙◌}
+use Rattle.bd_deaths.specs.Slots.{lives}
 use Rattle.bd_deaths.proofs.list.DeathList.reserve.Goals as goal
 
 pub returns-clause-stands : goal.returns-clause-stands
 returns-clause-stands c = λ l h. record {
-  items_are = c.reserve.ensures.items ∙ h.items_are;
-  rising = h.rising;
+  lives_are = ap lives c.reserve.ensures.items ∙ h.lives_are;
+  rising = λ e. rw c.reserve.ensures.items (h.rising e);
   keyed = c.reserve-2.ensures.stands l h.keyed;
+  none_told = rw c.reserve.ensures.items h.none_told;
 }

@@ -8,8 +8,8 @@ returns-clause-stands c = λ l h.
     let p = c.args.p in
     let t = c.args.self.now in
     record {
-      are_in = subst (AreIn c.drop_all.new.self)
+      are_in = subst (AreIn c.close_up.new.self)
           (ap (λ places. filter (is_left p places) l) c.of.ensures ∙ all-out p t.groups l h.listed)
-          (c.drop_all.ensures.stands l h.are_in);
+          (c.close_up.ensures.stands _ (c.drop_all.ensures.stands l h.are_in));
       listed = forgotten p t.groups c.forget.new.self c.forget.ensures.gone l h.listed;
     }

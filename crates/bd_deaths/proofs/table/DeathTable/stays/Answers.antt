@@ -1,6 +1,8 @@
 use Rattle.std.proofs.Common.{◌∙◌, ◌==◌, ◌&&◌, ◌||◌, not, sym}
 use Rattle.bd_space.specs.Local.{at_name}
 use Rattle.bd_space.specs.declared.space.DeathNotification.{DeathNotification}
+use Rattle.bd_deaths.specs.Slots.{lives}
+use Rattle.bd_deaths.proofs.Lives.{any-lives}
 use Rattle.bd_deaths.proofs.Parts.{any-of, any-filtered, first-of-both}
 use Rattle.bd_deaths.proofs.table.DeathTable.stays.Goals as goal
 
@@ -8,4 +10,6 @@ pub returns : goal.returns
 returns c = λ l h.
     let made = λ (x : DeathNotification). x.made == c.args.made in
     let stays = λ (x : DeathNotification). not (at_name c.args.p c.args.o x.process x.object) || (x.cleared || c.args.named) in
-    c.death_stays.ensures ∙ any-of (λ x. made x && stays x) made _ l (λ x e. first-of-both (made x) _ e) (c.made_part.ensures l h.are_in) ∙ sym (any-filtered made stays l)
+    let part = c.made_part.result.now in
+    c.death_stays.ensures ∙ sym (any-lives (λ x. made x && stays x) part)
+    ∙ any-of (λ x. made x && stays x) made (lives part) l (λ x e. first-of-both (made x) _ e) (c.made_part.ensures l h.are_in) ∙ sym (any-filtered made stays l)

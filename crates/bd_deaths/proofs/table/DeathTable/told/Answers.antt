@@ -1,15 +1,14 @@
-use Rattle.std.proofs.Common.{◌∙◌, ◌==◌, subst}
-use Rattle.bd_space.specs.Clearing.{is_told_with, is_told}
-use Rattle.bd_deaths.specs.declared.key.Key.{Key}
-use Rattle.bd_deaths.specs.Keys.{has, cookie_key}
-use Rattle.bd_deaths.specs.Stands.{IsPartOf}
-use Rattle.bd_deaths.proofs.Parts.{find-of, last-two}
+use Rattle.std.proofs.Common.{option_map, ap, sym, ◌∙◌}
+use Rattle.bd_space.specs.Clearing.{is_told_with}
+use Rattle.bd_deaths.specs.declared.slot.Slot.{Slot}
+use Rattle.bd_deaths.specs.Slots.{lives}
+use Rattle.bd_deaths.proofs.Lives.{find-lives}
+use Rattle.bd_deaths.proofs.Parts.{find-of}
 use Rattle.bd_deaths.proofs.table.DeathTable.told.Goals as goal
 
 pub returns : goal.returns
 returns c = λ l h.
-    let p = c.args.p in
-    let d = c.args.cookie in
-    c.told_in.ensures ∙ find-of (is_told_with p d) (has (cookie_key p d)) _ l
-    (λ x e. last-two (is_told x.phase) (x.process == p) (x.cookie == d) e)
-    (subst (λ (k : Key). IsPartOf (has k) c.key_part.result.now l) c.cookie_key.ensures (c.key_part.ensures l h.are_in))
+    let told = is_told_with c.args.p c.args.cookie in
+    let part = c.told_part.result.now in
+    c.death_of.ensures ∙ ap (option_map (λ (s : Slot). s.death)) c.told_in.ensures ∙ sym (find-lives told part)
+    ∙ find-of told told (lives part) l (λ x e. e) (c.told_part.ensures l h.are_in)

@@ -49,6 +49,12 @@ loop-i-preserved c = elim c.if-at-noted.branch [
       }
 ]
 
+pub returns-clause-seen : goal.returns-clause-seen
+returns-clause-seen c = λ h follows y lt.
+    let inside : y < length c.args.noted.now = omega (arith, c.loop-i.invariant.len, lt) in
+    let all : take c.loop-i.i c.args.touched.now ≡ c.args.touched.now = take_all c.loop-i.i c.args.touched.now (omega arith) in
+    (subst (λ v. IsSeen (space_after h) c.args.noted.now c.loop-i.noted c.loop-i.changed.items v y) all (c.loop-i.invariant.seen h follows y inside)).is
+
 pub returns-clause-noted : goal.returns-clause-noted
 returns-clause-noted c = λ h follows touched_only y lt.
     let inside : y < length c.args.noted.now = omega (arith, c.loop-i.invariant.len, lt) in

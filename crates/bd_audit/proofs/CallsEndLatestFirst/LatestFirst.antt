@@ -1,0 +1,160 @@
+-- A call of a thread that lives on stays open as long as the thread has a later one: so a step ends the latest only.
+use Rattle.bd_laws.proofs.words.Logic.{◌≡◌, ℕ, ◌<◌, ◌≤◌, ◌-◌, ◌==◌, Bool, true, false, cond, not, ◌&&◌, ◌||◌, List, [], ◌∷◌, map, filter, Option, Some, None, inl, inr, refl, ap, sym, subst, ◌∙◌, arith, nat_le, list_any, find, fold, eqb-true, eq-eqb, cases_lt, le-leb}
+use Rattle.bd_laws.proofs.words.Types.{TransactionData, DeadReply, FailedReply, TransactionComplete, Step, Entry, Work, Frame, Thread, Actor, Serving, Gone, OfThread, OfProcess, WorkKind}
+use Rattle.bd_laws.proofs.words.Space.{is_some_and, Space, opening, closed, calls, is_frame, is_child_of, is_gone, served_innermost, owe, tell_caller, is_call, list_to_read, ripen, follow, notify, work_goes, deaths_go, names_go, assign_numbers, objects_go, is_abandoned, Delivery, delivered, transacted, called, call_out, refusal, replied, reply_refused, without_buffer, read_by, taken, serve, thread_goes, gone_server, unread_server, frame_without, unread_frame, threads_go, without_process, tell_deaths, seat_of, counted, with_thread, with_process, with_manager, ask, drop_asked, acknowledge, with_looping, after, next}
+use Rattle.bd_space.specs.declared.space.WorkKind.TheVariants as work
+use Rattle.bd_laws.proofs.words.Laws.{In, NoChild, Nested, OnPaths}
+use Rattle.bd_laws.proofs.Machine.Table.{SameFrames, Any, frames_table, set_up-by, changes-but}
+use Rattle.bd_laws.proofs.Machine.EveryStep.{KeepsWhole, every_whole_step}
+use Rattle.bd_laws.proofs.Lists.{in-left, in-push, in-filter, filter-in, in-map, map-in, in-changed, changed-in, any-in, any-found, find-in, all-in}
+use Rattle.bd_laws.proofs.Tests.{both, not-false, call-kind, not-eq as differ}
+use Rattle.bd_laws.proofs.IsInTurn.Ripening.{read-in}
+use Rattle.bd_laws.proofs.OnPaths.Forests.{one-frame}
+use Rattle.bd_laws.proofs.OnPaths.Innermost.{true-calls}
+use Rattle.bd_laws.proofs.OnPaths.Paths.{abandoned-childless, served-childless}
+use Rattle.bd_laws.proofs.Always.{always-on_paths}
+use Rattle.bd_laws.proofs.Machine.Deaths.{tell_deaths-aside, on-mapped, on-commands, on_deaths-aside}
+use Rattle.bd_audit.specs.Replies.{made_in, thread_made, At}
+use Rattle.bd_audit.specs.Latest.{IsLatest}
+use Rattle.bd_audit.specs.Ending.{EndsCall}
+use Rattle.bd_laws.proofs.OnPaths.Paths as path
+use Rattle.bd_laws.proofs.OnPaths.PathCalls as path_call
+use Rattle.bd_audit.proofs.Seated as seated
+use Rattle.bd_audit.proofs.Seated.{made-before, other-left}
+use Rattle.bd_laws.proofs.Machine.Fields.{owe-frames, sent-steps, sent-frames, sent-threads}
+use Rattle.bd_audit.proofs.CallsEndLatestFirst.StaysOpen.{OnWay, While, same, abandons, fails, replies, transacts, reads, ends, kept, step-stays}
+
+-- ---- calls of one thread
+
+-- a frame that the thread serves, and a child of it in which it calls
+record Way (s : Space) (h : OnPaths s.steps s) (t : ℕ) : Type 0 where
+  top : Frame
+  child : Frame
+  here : In top s.frames
+  there : In child s.frames
+  parent : child.parent ≡ Some top.made
+  serving : top.server ≡ Serving t
+
+-- the earlier of two calls is on the way to the top from which the later is made
+earlier-way : (s : Space) (h : OnPaths s.steps s) (t m : ℕ) (f g : Frame) → In f s.frames → In g s.frames → f.caller ≡ Some t → g.caller ≡ Some t → f.made < g.made
+    → (w : Way s h t) × OnWay s h w.top w.child w.here w.there w.parent t m w.serving f
+earlier-way s h t m f g l k calls also lt =
+    let share = h.1.shared t f g l k (inl calls) (inl also) in
+    let link = h.1.linked f g l k share lt in
+    let up = h.1.parents g link.0 k link.1 in
+    let made = up.made in
+    let le = link.2 in
+    let low : f.made ≤ up.frame.made = omega arith in (
+      record { top = up.frame; child = g; here = up.here; there = k; parent = link.1 ∙ ap (λ n. Some n) (sym made); serving = served up.frame up.nested },
+      (l, share ∙ up.same ∙ ap h.0 (sym made), low),
+    )
+  where
+    served : (p : Frame) → Nested p g → p.server ≡ Serving t
+    served p (inl gone) = let none = gone.1 in absurd (cc)
+    served p (inr by) = let is : by.0 ≡ t = (let i : Some by.0 ≡ Some t = sym by.2 ∙ also in cc) in by.1 ∙ ap (λ n. Serving n) is
+
+-- what holds of each of several
+each-kept : {I : Type 0} (s : Space) (seat : ℕ) (x : Step) (P : I → Space → Type 0) → ((i : I) → KeepsWhole s seat x (P i) (P i))
+    → KeepsWhole s seat x (λ z. (i : I) → P i z) (λ z. (i : I) → P i z)
+each-kept s seat x P k = record {
+  set_up = record {
+    same = λ i. (k i).set_up.same;
+    opened = λ pid euid window free i. (k i).set_up.opened pid euid window free;
+    attached = λ p free i. (k i).set_up.attached p free;
+    managed = λ a e b i. (k i).set_up.managed a e b;
+  };
+  changes = record {
+    transacts = λ a d parcel v e g c i. (k i).changes.transacts a d parcel v e g c;
+    replies = λ a d parcel f v e g c r i. (k i).changes.replies a d parcel f v e g c r;
+    frees = λ p ptr b e c i. (k i).changes.frees p ptr b e c;
+    asks = λ a n strong o e g c i. (k i).changes.asks a n strong o e g c;
+    drops = λ p o strong i. (k i).changes.drops p o strong;
+    acknowledges = λ o strong e i. (k i).changes.acknowledges o strong e;
+    loops = λ u looping i. (k i).changes.loops u looping;
+    on_deaths = record {
+      requests = λ p n cookie o e i. (k i).changes.on_deaths.requests p n cookie o e;
+      clears = λ u y i. (k i).changes.on_deaths.clears u y;
+      dones = λ u p cookie y e i. (k i).changes.on_deaths.dones u p cookie y e;
+    };
+    reads = λ a limit e g n i. (k i).changes.reads a limit e g n;
+    leaves = λ a e i. (k i).changes.leaves a e;
+    ends = λ a e i. (k i).changes.ends a e;
+    ripens = λ z h i. (k i).changes.ripens z (h i);
+  };
+  follows = λ z h i. (k i).follows z (h i);
+  refuses = λ u r i. (k i).refuses u r;
+  fails = λ a d parcel f e g c i. (k i).fails a d parcel f e g c;
+  abandons = λ z f e h i. (k i).abandons z f e (h i);
+}
+
+module _ (s : Space) (h : OnPaths s.steps s) where
+  -- that a call stays open while its thread lives and has a later one, of all calls
+  pub EarlierStay : Space → Type 0
+  EarlierStay z = (w : (t : ℕ) × (m : ℕ) × Way s h t) → While s h w.2.top w.2.child w.2.here w.2.there w.2.parent w.0 w.1 w.2.serving z
+
+  pub earlier-kept : (seat : ℕ) (x : Step) → KeepsWhole s seat x EarlierStay EarlierStay
+  unfolding EarlierStay
+  earlier-kept seat x =
+      each-kept s seat x (λ (w : (t : ℕ) × (m : ℕ) × Way s h t). While s h w.2.top w.2.child w.2.here w.2.there w.2.parent w.0 w.1 w.2.serving)
+      (λ w. kept s h w.2.top w.2.child w.2.here w.2.there w.2.parent w.0 w.1 w.2.serving seat x)
+
+  pub earlier-open : (z : Space) → EarlierStay z → (t m : ℕ) (f g : Frame) → In f s.frames → In g s.frames → f.caller ≡ Some t → g.caller ≡ Some t → f.made < g.made
+      → thread_made z t ≡ Some m → (x : Frame) × In x z.frames × (x.made ≡ f.made)
+  unfolding EarlierStay
+  earlier-open z k t m f g l there calls also lt lives =
+      let w = earlier-way s h t m f g l there calls also lt in
+      let x = (k (t, m, w.0) lives).way f w.1 in
+      (x.0, x.1, x.2)
+
+module _ (es : List Entry) (e : Entry) (t m : ℕ) where
+  -- the earlier of two calls stays open
+  pub earlier-stays : (f g : Frame) → In f (after opening es).frames → In g (after opening es).frames → f.caller ≡ Some t → g.caller ≡ Some t → f.made < g.made
+      → thread_made (next (after opening es) e) t ≡ Some m → (x : Frame) × In x (next (after opening es) e).frames × (x.made ≡ f.made)
+  earlier-stays f g l k calls also lt lives =
+      let s = after opening es in
+      let h = always-on_paths es in
+      let w = earlier-way s h t m f g l k calls also lt in
+      let x = step-stays s h w.0.top w.0.child w.0.here w.0.there w.0.parent t m w.0.serving e lives f w.1 in
+      (x.0, x.1, x.2)
+
+record OpenCall (s : Space) (j seat : ℕ) : Type 0 where
+  frame : Frame
+  here : In frame s.frames
+  made : frame.made ≡ j
+  caller : frame.caller ≡ Some seat
+
+open-call : (s : Space) (j seat : ℕ) → list_any (λ g. is_frame j g && calls seat g) s.frames ≡ true → OpenCall s j seat
+open-call s j seat h =
+    let f = any-found (λ (g : Frame). is_frame j g && calls seat g) s.frames h in
+    let b = both (is_frame j f.0) (calls seat f.0) f.2 in
+    record { frame = f.0; here = f.1; made = eqb-true f.0.made j b.0; caller = true-calls seat f.0.caller b.1 }
+
+module _ (es : List Entry) (e : Entry) (j m : ℕ) (h : EndsCall (after opening es) e j m) where
+  abbrev s : Space
+  s = after opening es
+
+  call : OpenCall s j h.seat
+  call = open-call s j h.seat h.stands
+
+  no-later : (g : Frame) → In g s.frames → g.caller ≡ Some h.seat → j < g.made → ⊥
+  no-later g l also lt =
+      let made = call.made in
+      let x = earlier-stays es e h.seat m call.frame g call.here l call.caller also (omega arith) h.lives_on in
+      let some = any-in (is_frame j) x.0 (next s e).frames x.1 (eq-eqb x.0.made j (x.2 ∙ made)) in
+      let none = h.closes in
+      absurd (cc)
+
+  ends-latest : IsLatest s j m
+  ends-latest = record {
+    seat = h.seat;
+    lives = h.lives;
+    stands = h.stands;
+    latest = all-in (λ (g : Frame). not (calls h.seat g) || nat_le g.made j) s.frames (λ g l. at g l (calls h.seat g) refl);
+  }
+    where
+      at : (g : Frame) → In g s.frames → (b : Bool) → calls h.seat g ≡ b → (not b || nat_le g.made j) ≡ true
+      at g l true e = elim (cases_lt j g.made) [ inl lt ↦ absurd (no-later g l (true-calls h.seat g.caller e) lt) | inr ge ↦ le-leb g.made j ge ]
+      at g l false e = refl
+
+pub latest-first : (es : List Entry) (i j m : ℕ) → At es i (λ z e. EndsCall z e j m) → At es i (λ z e. IsLatest z j m)
+latest-first es i j m p = (p.0, p.1, p.2, ends-latest p.0 p.1 j m p.3)

@@ -1,0 +1,2 @@
+-- The law FramesLieOnOnePath.
+pub mod PathLaw

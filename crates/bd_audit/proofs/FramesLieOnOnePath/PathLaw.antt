@@ -1,0 +1,118 @@
+-- The law of paths: one open child at most, and a thread's frames on the way from the newest of them.
+use Rattle.bd_laws.proofs.words.Logic.{◌≡◌, ℕ, ◌<◌, ◌≤◌, ◌==◌, Bool, true, false, cond, not, ◌&&◌, ◌||◌, List, [], ◌∷◌, length, reverse, Option, Some, None, ◌⊎◌, inl, inr, refl, ap, sym, ◌∙◌, filter, arith, list_any, list_all, eqb-true, eq-eqb, cases_lt}
+use Rattle.bd_laws.proofs.words.Types.{Frame, Buffer, Work}
+use Rattle.bd_laws.proofs.words.Space.{is_some_and, ancestry, takes_part, is_frame, is_child_of, History, space_after}
+use Rattle.bd_laws.proofs.words.Laws.{In, Pairs, Forest, Older}
+use Rattle.bd_laws.proofs.Lists.{in-filter, all-in, pairs-filter}
+use Rattle.bd_laws.proofs.OnPaths.Innermost.{Newer, in-reverse, reverse-in, newest-first, true-part}
+use Rattle.bd_laws.proofs.Always.{always-on_paths}
+use Rattle.bd_audit.specs.Laws.{space_at}
+use Rattle.bd_audit.specs.Replays.{beginning}
+use Rattle.bd_audit.specs.Paths.{is_on_way, is_one_path}
+use Rattle.bd_laws.proofs.Tests.{not-eq as differ}
+
+-- ---- one open child
+
+short : (xs : List Frame) → Pairs Older xs → ((x y : Frame) → In x xs → In y xs → x.made < y.made → ⊥) → length xs ≤ 1
+short [] h k = omega arith
+short (x ∷ []) h k = omega arith
+short (x ∷ y ∷ zs) h k = absurd (k x y (inl refl) (inr (inl refl)) (h.0 y (inl refl)))
+
+parent-of : (f : Frame) (o : Option ℕ) → is_some_and o (λ m. m == f.made) ≡ true → o ≡ Some f.made
+parent-of f None e = absurd (cc)
+parent-of f (Some p) e = ap (λ n. Some n) (eqb-true p f.made e)
+
+-- ---- on the way
+
+Lower : List Frame → Type 0
+Lower xs = (g : Frame) (p : ℕ) → In g xs → g.parent ≡ Some p → (u : Frame) × In u xs × (u.made ≡ p) × (p < g.made)
+
+either-true : (a b : Bool) → (a ≡ true) ⊎ (b ≡ true) → (a || b) ≡ true
+either-true true b h = refl
+either-true false b (inl e) = absurd (cc)
+either-true false b (inr e) = e
+
+module _ (n : ℕ) (root : ℕ → ℕ) (fs : List Frame) (bs : List Buffer) (td : List Work) (h : Forest n root fs bs td) where
+  one-child : (f : Frame) → length (filter (is_child_of f) fs) ≤ 1
+  one-child f = short (filter (is_child_of f) fs) (pairs-filter Older (is_child_of f) fs h.sorted) (λ x y l m lt.
+      let i = in-filter (is_child_of f) x fs l in
+      let j = in-filter (is_child_of f) y fs m in
+      let p = parent-of f x.parent i.1 in
+      let q = parent-of f y.parent j.1 in
+      let u = h.parents x f.made i.0 p in
+      let v = h.parents y f.made j.0 q in
+      let link = h.linked x y i.0 j.0 (u.same ∙ sym v.same) lt in
+      let is : link.0 ≡ f.made = (let s : Some link.0 ≡ Some f.made = sym link.1 ∙ q in cc) in
+      let le = link.2 in
+      let older = u.older in
+      absurd (omega arith))
+
+  lower-rest : (x : Frame) (xs : List Frame) → Pairs Newer (x ∷ xs) → Lower (x ∷ xs) → Lower xs
+  unfolding Lower
+  lower-rest x xs o k g p l e =
+      let u = k g p (inr l) e in
+      let newer : g.made < x.made = o.0 g l in
+      let made = u.2 in
+      let older = u.3 in
+      elim u.1 [
+        | inl is ↦ (let s : x.made ≡ u.0.made = ap (λ (y : Frame). y.made) is in absurd (omega arith))
+        | inr i ↦ (u.0, i, u.2, u.3)
+      ]
+
+  way : (xs : List Frame) → Pairs Newer xs → ((x : Frame) → In x xs → In x fs) → Lower xs → (f g : Frame) → In f xs → In g xs → root f.made ≡ root g.made → f.made ≤ g.made
+      → list_any (is_frame f.made) (ancestry (Some g.made) xs) ≡ true
+  unfolding Lower
+  way [] o sub k f g l m e le = absurd l
+  way (x ∷ xs) o sub k f g l (inl is) e le =
+      let made : x.made ≡ g.made = ap (λ (y : Frame). y.made) is in
+      at (x.made == g.made) (eq-eqb x.made g.made made) (elim l [
+        | inl too ↦ inl (eq-eqb x.made f.made (ap (λ (y : Frame). y.made) too))
+        | inr i ↦ inr (
+            let newer : f.made < x.made = o.0 f i in
+            let link = h.linked f g (sub f (inr i)) (sub g (inl is)) e (omega arith) in
+            let up = k g link.0 (inl is) link.1 in
+            let lies : In up.0 xs = (let made_up = up.2 in let older = up.3 in elim up.1 [ inl at_x ↦ (let s : x.made ≡ up.0.made = ap (λ (y : Frame). y.made) at_x in absurd (omega arith)) | inr j ↦ j ]) in
+            let root_is : root f.made ≡ root up.0.made = e ∙ (h.parents g link.0 (sub g (inl is)) link.1).same ∙ ap root (sym up.2) in
+            let rest = way xs o.1 (λ y j. sub y (inr j)) (lower-rest x xs o k) f up.0 i lies root_is (let a = link.2 in let b = up.2 in omega arith) in
+            ap (λ q. list_any (is_frame f.made) (ancestry q xs)) (ap (λ (y : Frame). y.parent) is ∙ link.1 ∙ ap (λ j. Some j) (sym up.2)) ∙ rest)
+      ])
+    where
+      at : (b : Bool) → b ≡ true → ((x.made == f.made) ≡ true) ⊎ (list_any (is_frame f.made) (ancestry x.parent xs) ≡ true)
+          → list_any (is_frame f.made) (cond b (x ∷ ancestry x.parent xs) (ancestry (Some g.made) xs)) ≡ true
+      at true q r = either-true (x.made == f.made) (list_any (is_frame f.made) (ancestry x.parent xs)) r
+      at false q r = absurd (cc)
+  way (x ∷ xs) o sub k f g (inl is) (inr m) e le = let newer : g.made < x.made = o.0 g m in let made : x.made ≡ f.made = ap (λ (y : Frame). y.made) is in absurd (omega arith)
+  way (x ∷ xs) o sub k f g (inr l) (inr m) e le =
+      let newer : g.made < x.made = o.0 g m in
+      at (x.made == g.made) (differ x.made g.made (λ q. let s : x.made ≡ g.made = q in absurd (omega arith))) (way xs o.1 (λ y j. sub y (inr j)) (lower-rest x xs o k) f g l m e le)
+    where
+      at : (b : Bool) → b ≡ false → list_any (is_frame f.made) (ancestry (Some g.made) xs) ≡ true
+          → list_any (is_frame f.made) (cond b (x ∷ ancestry x.parent xs) (ancestry (Some g.made) xs)) ≡ true
+      at false q r = r
+      at true q r = absurd (cc)
+
+  lower : Lower (reverse fs)
+  unfolding Lower
+  lower g p l e = let u = h.parents g p (in-reverse g fs l) e in (u.frame, reverse-in u.frame fs u.here, u.made, u.older)
+
+  on-way : (f g : Frame) → In f fs → In g fs → root f.made ≡ root g.made → f.made ≤ g.made → is_on_way fs f g ≡ true
+  on-way f g l m e le = way (reverse fs) (newest-first fs h.sorted) (λ x i. in-reverse x fs i) lower f g (reverse-in f fs l) (reverse-in g fs m) e le
+
+  one-path : (seat : ℕ) (f g : Frame) → In f fs → In g fs → is_one_path fs seat f g ≡ true
+  one-path seat f g l m = at (takes_part seat f) (takes_part seat g) refl refl
+    where
+      at : (a b : Bool) → takes_part seat f ≡ a → takes_part seat g ≡ b → (not (a && b) || (is_on_way fs f g || is_on_way fs g f)) ≡ true
+      at true true p q =
+          let e = h.shared seat f g l m (true-part seat f p) (true-part seat g q) in
+          either-true (is_on_way fs f g) (is_on_way fs g f) (elim (cases_lt f.made g.made) [ inl lt ↦ inl (on-way f g l m e (omega arith)) | inr ge ↦ inr (on-way g f m l (sym e) ge) ])
+      at true false p q = refl
+      at false b p q = refl
+
+  pub paths : ((f : Frame) → length (filter (is_child_of f) fs) ≤ 1) × ((seat : ℕ) → list_all (λ f. list_all (is_one_path fs seat f) fs) fs ≡ true)
+  paths = (one-child, λ seat. all-in (λ f. list_all (is_one_path fs seat f) fs) fs (λ f l. all-in (is_one_path fs seat f) fs (λ g m. one-path seat f g l m)))
+
+pub lie-on-paths : (h : History) (n : ℕ)
+    → ((f : Frame) → length (filter (is_child_of f) (space_at h n).frames) ≤ 1)
+    × ((seat : ℕ) → list_all (λ f. list_all (is_one_path (space_at h n).frames seat f) (space_at h n).frames) (space_at h n).frames ≡ true)
+unfolding space_after
+lie-on-paths h n = let k = always-on_paths (beginning n h).entries in let z = space_at h n in paths z.steps k.0 z.frames z.buffers z.todo k.1

@@ -1,0 +1,187 @@
+-- Each name has a gift chain.
+use Rattle.bd_laws.proofs.words.Logic.{◌≡◌, ℕ, suc, ◌+◌, ◌<◌, ◌≤◌, ◌==◌, Bool, true, false, cond, ◌&&◌, ◌||◌, List, [], ◌∷◌, ◌++◌, Option, Some, Ok, ◌⊎◌, inl, inr, refl, ap, sym, subst, ◌∙◌, length, arith, length-append, append_assoc, append-nil, list_any, is_some, eq-eqb}
+use Rattle.bd_laws.proofs.words.Types.{ObjectId, Entry, Parcel, Command, Accepted, Actor, Object, Name, Reference, Holder, Carried}
+use Rattle.bd_laws.proofs.words.Space.{same, is_some_and, Space, opening, actor, owned_in, number_in, named, ask_check, ask_step, command_step, change, counted, History, after, next, space_after}
+use Rattle.bd_uapi.specs.declared.command.Command.TheVariants as bc
+use Rattle.bd_laws.proofs.words.Laws.{In, Before}
+use Rattle.bd_laws.proofs.Lists.{any-in}
+use Rattle.bd_laws.proofs.Tests.{and-both, eq-same}
+use Rattle.bd_laws.proofs.Sendings.{Owns, named-has}
+use Rattle.bd_laws.proofs.IsInTurn.Passing.{step-passes}
+use Rattle.bd_laws.proofs.IsInTurn.Received.{step-before, opening-before}
+use Rattle.bd_audit.specs.Gifts as gifts
+use Rattle.bd_audit.specs.Gifts.{is_by, is_carried_to, is_asking_0, AsksManager, Stands, Gives, OwnerGives, ManagerGives, IsChainFrom, IsGiftChain}
+use Rattle.bd_audit.proofs.Beginnings.{after-append}
+use Rattle.bd_audit.proofs.NamesHaveGiftChains.Naming.{step-naming, has-number}
+use Rattle.bd_audit.proofs.NamesHaveGiftChains.NewNames.{ByHand, ByAsking}
+
+-- ---- more entries
+
+pub stands-more : (es fs : List Entry) (i : ℕ) (before : List Entry) (e : Entry) → Stands es i before e → Stands (es ++ fs) i before e
+stands-more es fs i before e h = record { rest = h.rest ++ fs; all = ap (λ xs. xs ++ fs) h.all ∙ append_assoc before (e ∷ h.rest) fs; at = h.at }
+
+stands-below : (es : List Entry) (i : ℕ) (before : List Entry) (e : Entry) → Stands es i before e → i < length es
+stands-below es i before e h =
+    let l : length es ≡ length (before ++ e ∷ h.rest) = ap (λ xs. length xs) h.all in
+    let k = length-append before (e ∷ h.rest) in
+    let at = h.at in omega (arith, l, k)
+
+chain_from-more : (es fs : List Entry) (o : ObjectId) (is : List ℕ) (p k q : ℕ) → IsChainFrom es o p k is q → IsChainFrom (es ++ fs) o p k is q
+chain_from-more es fs o [] p k q h = h
+chain_from-more es fs o (i ∷ is) p k q h =
+    (h.0, h.1, (h.2.0, h.2.1, stands-more es fs i h.2.0 h.2.1 h.2.2, h.2.3), chain_from-more es fs o is h.0 (i + 1) q h.3)
+
+-- where a chain begins
+pub begins-more : (es fs : List Entry) (i : ℕ) (o : ObjectId) (r : ℕ) → OwnerGives es i o r ⊎ ManagerGives es i o r → OwnerGives (es ++ fs) i o r ⊎ ManagerGives (es ++ fs) i o r
+begins-more es fs i o r (inl g) = inl (g.0, g.1, g.2, stands-more es fs i g.0 g.1 g.3, g.4, g.5)
+begins-more es fs i o r (inr g) = inr (g.0, g.1, stands-more es fs i g.0 g.1 g.2, g.3)
+
+chain-more : (es fs : List Entry) (o : ObjectId) (is : List ℕ) (q : ℕ) → IsGiftChain es o is q → IsGiftChain (es ++ fs) o is q
+chain-more es fs o [] q h = h
+chain-more es fs o (i ∷ is) q h = (h.0, begins-more es fs i o h.0 h.1, chain_from-more es fs o is h.0 (i + 1) q h.2)
+
+-- ---- one gift more, at the end
+
+module _ (es : List Entry) (e : Entry) (o : ObjectId) (q r : ℕ) (g : Gives (es ++ e ∷ []) (length es) o q r) where
+  chain_from-push : (is : List ℕ) (p k : ℕ) → k ≤ length es → IsChainFrom es o p k is q → IsChainFrom (es ++ e ∷ []) o p k (is ++ length es ∷ []) r
+  chain_from-push [] p k le h = (r, le, subst (λ x. Gives (es ++ e ∷ []) (length es) o x r) (sym h) g, refl)
+  chain_from-push (i ∷ is) p k le h =
+      let lt = stands-below es i h.2.0 h.2.1 h.2.2 in
+      (h.0, h.1, (h.2.0, h.2.1, stands-more es (e ∷ []) i h.2.0 h.2.1 h.2.2, h.2.3), chain_from-push is h.0 (i + 1) (omega arith) h.3)
+
+  chain-push : (is : List ℕ) → IsGiftChain es o is q → IsGiftChain (es ++ e ∷ []) o (is ++ length es ∷ []) r
+  chain-push [] h = absurd h
+  chain-push (i ∷ is) h = elim h.1 [
+    | inl x ↦ (let lt = stands-below es i x.0 x.1 x.3 in
+        (h.0, inl (x.0, x.1, x.2, stands-more es (e ∷ []) i x.0 x.1 x.3, x.4, x.5), chain_from-push is h.0 (i + 1) (omega arith) h.2))
+    | inr x ↦ (let lt = stands-below es i x.0 x.1 x.2 in
+        (h.0, inr (x.0, x.1, stands-more es (e ∷ []) i x.0 x.1 x.2, x.3), chain_from-push is h.0 (i + 1) (omega arith) h.2))
+  ]
+
+pub here : (es : List Entry) (e : Entry) → Stands (es ++ e ∷ []) (length es) es e
+here es e = record { rest = []; all = refl; at = refl }
+
+-- ---- the gift of a step
+
+pub counted-objects : (z : Space) → (counted z).objects ≡ z.objects
+unfolding counted
+counted-objects z = refl
+
+pub counted-references : (z : Space) → (counted z).references ≡ z.references
+unfolding counted
+counted-references z = refl
+
+pub counted-names : (z : Space) → (counted z).names ≡ z.names
+unfolding counted
+counted-names z = refl
+
+by-actor : (s : Space) (seat : ℕ) (a : Actor) → actor s seat ≡ Some a → is_some_and (actor s seat) (λ b. b.process.made == a.process.made) ≡ true
+by-actor s seat a h = rw h (eq-eqb a.process.made a.process.made refl)
+
+pub owns-test : (objects : List Object) (p : ℕ) (o : ObjectId) → Owns objects p o → owned_in objects p o ≡ true
+owns-test objects p o h = any-in (λ (x : Object). same x.id o && (x.owner == p)) h.0 objects h.1 (and-both (same h.0.id o) (h.0.owner == p) (eq-same h.0.id o h.2) (eq-eqb h.0.owner p h.3))
+
+or-one : (a b : Bool) → (a ≡ true) ⊎ (b ≡ true) → (a || b) ≡ true
+or-one true b h = refl
+or-one false b (inl h) = absurd (cc)
+or-one false b (inr h) = h
+
+carried-test : (place q : ℕ) (holder : Holder) → holder ≡ Carried place q → is_carried_to place q holder ≡ true
+carried-test place q holder h = subst (λ k. is_carried_to place q k ≡ true) (sym h) (and-both (place == place) (q == q) (eq-eqb place place refl) (eq-eqb q q refl))
+
+pub sends : (s : Space) (place : ℕ) (e : Entry) (m : Name) → s.steps ≡ place → (g : ByHand s e.seat m (change s e.seat e.step).space) → gifts.Sends s place e m.object g.by.process.made m.process
+sends s place e m at g =
+    let z = (change s e.seat e.step).space in
+    record {
+      by = by-actor s e.seat g.by g.acts;
+      has_it = or-one (owned_in (next s e).objects g.by.process.made m.object) (is_some (number_in s.names g.by.process.made m.object)) (elim g.has [
+        | inl own ↦ inl (subst (λ os. owned_in os g.by.process.made m.object ≡ true) (sym (counted-objects z)) (owns-test z.objects g.by.process.made m.object own))
+        | inr has ↦ inr (has-number s.names g.by.process.made m.object has)
+      ]);
+      carried = subst (λ rs. list_any (λ r. same r.object m.object && is_carried_to place m.process r.holder) rs ≡ true) (sym (counted-references z))
+          (any-in (λ (r : Reference). same r.object m.object && is_carried_to place m.process r.holder) g.carried.0 z.references g.carried.1
+          (and-both (same g.carried.0.object m.object) (is_carried_to place m.process g.carried.0.holder) (eq-same g.carried.0.object m.object g.carried.2)
+          (carried-test place m.process g.carried.0.holder (g.carried.3 ∙ ap (λ n. Carried n m.process) at))));
+    }
+
+asking-0 : (strong : Bool) (parcel : Option Parcel) → is_asking_0 (Command (cond strong (bc.Acquire 0) (bc.Increfs 0)) parcel) ≡ true
+asking-0 true parcel = refl
+asking-0 false parcel = refl
+
+accepts : (s : Space) (seat : ℕ) (a : Actor) (o : ObjectId) (strong : Bool) (parcel : Option Parcel) → actor s seat ≡ Some a → ask_check s a.process.made 0 strong ≡ Ok o
+    → (change s seat (Command (cond strong (bc.Acquire 0) (bc.Increfs 0)) parcel)).answer ≡ Accepted
+unfolding change command_step ask_step
+accepts s seat a o true parcel acts check = rw (acts, check) refl
+accepts s seat a o false parcel acts check = rw (acts, check) refl
+
+pub asks : (s : Space) (e : Entry) (m : Name) (z : Space) → ByAsking s e.seat e.step m z → AsksManager s e m.object m.process
+asks s e m z g = record {
+  by = subst (λ p. is_by s e p ≡ true) g.process (by-actor s e.seat g.by g.acts);
+  asks = subst (λ x. is_asking_0 x ≡ true) (sym g.asks.1) (asking-0 g.strong g.asks.0);
+  accepted = subst (λ x. (change s e.seat x).answer ≡ Accepted) (sym g.asks.1) (accepts s e.seat g.by m.object g.strong g.asks.0 g.acts g.check);
+  manager = g.manager;
+}
+
+-- ---- every history
+
+pub record Chained (es : List Entry) (s : Space) : Type 0 where
+  pub steps : s.steps ≡ length es
+  pub chains : (m : Name) → In m s.names → (is : List ℕ) × IsGiftChain es m.object is m.process
+
+counted-steps : (z : Space) → (counted z).steps ≡ suc z.steps
+unfolding counted
+counted-steps z = refl
+
+module _ (es : List Entry) (s : Space) (e : Entry) (at : s ≡ after opening es) (log : Chained es s) where
+  hand-chain : (m : Name) (g : ByHand s e.seat m (change s e.seat e.step).space) → (is : List ℕ) × IsGiftChain (es ++ e ∷ []) m.object is m.process
+  hand-chain m g =
+      let p = g.by.process.made in
+      let sent = sends s (length es) e m log.steps g in
+      elim g.has [
+        | inl own ↦ (
+            let owned : owned_in (next s e).objects p m.object ≡ true =
+            subst (λ os. owned_in os p m.object ≡ true) (sym (counted-objects (change s e.seat e.step).space)) (owns-test (change s e.seat e.step).space.objects p m.object own) in
+            let both = subst (λ (y : Space). gifts.Sends y (length es) e m.object p m.process × (owned_in (next y e).objects p m.object ≡ true)) at (sent, owned) in
+            (length es ∷ [], (m.process, inl (es, e, p, here es e, both.0, both.1), refl)))
+        | inr has ↦ (
+            let c = log.chains has.0 has.1 in
+            let chain = subst (λ x. IsGiftChain es x c.0 p) has.3 (subst (λ x. IsGiftChain es has.0.object c.0 x) has.2 c.1) in
+            (c.0 ++ length es ∷ [], chain-push es e m.object p m.process (es, e, here es e, subst (λ (y : Space). gifts.Sends y (length es) e m.object p m.process) at sent) c.0 chain))
+      ]
+
+  asked-chain : (m : Name) → ByAsking s e.seat e.step m (change s e.seat e.step).space → (is : List ℕ) × IsGiftChain (es ++ e ∷ []) m.object is m.process
+  asked-chain m g = (length es ∷ [], (m.process, inr (es, e, here es e, subst (λ (y : Space). AsksManager y e m.object m.process) at (asks s e m (change s e.seat e.step).space g)), refl))
+
+  chained-step : Before s → Chained (es ++ e ∷ []) (next s e)
+  chained-step h =
+      let z = (change s e.seat e.step).space in
+      let passed = (step-passes s e h.turns h.received.lists).passed in
+      record {
+        steps = counted-steps z ∙ ap suc (passed.steps ∙ log.steps) ∙ (let l = length-append es (e ∷ []) in omega (arith, l));
+        chains = λ m i. elim (step-naming s e.seat e.step m (subst (In m) (counted-names z) i)) [
+          | inl k ↦ (let c = log.chains m k in (c.0, chain-more es (e ∷ []) m.object c.0 m.process c.1))
+          | inr k ↦ elim k [ inl g ↦ hand-chain m g | inr g ↦ asked-chain m g ]
+        ];
+      }
+
+chained-all : (fs es : List Entry) (s : Space) → s ≡ after opening es → Before s → Chained es s → Chained (es ++ fs) (after s fs)
+chained-all [] es s at h log = subst (λ xs. Chained xs s) (sym (append-nil es)) log
+chained-all (e ∷ fs) es s at h log =
+    subst (λ xs. Chained xs (after (next s e) fs)) (append_assoc es (e ∷ []) fs)
+    (chained-all fs (es ++ e ∷ []) (next s e) (ap (λ (y : Space). next y e) at ∙ sym (after-append opening es (e ∷ []))) (step-before s e h) (chained-step es s e at log h))
+
+none-chained : Chained [] opening
+none-chained = record { steps = refl; chains = λ m i. absurd i }
+
+pub name-chain : (h : History) (p number : ℕ) (o : ObjectId) → named (space_after h) p number ≡ Some o → (is : List ℕ) × IsGiftChain h.entries o is p
+unfolding space_after
+name-chain h p number o e =
+    let s = after opening h.entries in
+    let log = chained-all h.entries [] opening refl opening-before none-chained in
+    let m = named-has s p number o e in
+    let c = log.chains m.0 m.1 in
+    (c.0, subst (λ x. IsGiftChain h.entries x c.0 p) m.3 (subst (λ x. IsGiftChain h.entries m.0.object c.0 x) m.2 c.1))
+
+-- how many steps there were
+pub always-steps : (es : List Entry) → (after opening es).steps ≡ length es
+always-steps es = (chained-all es [] opening refl opening-before none-chained).steps

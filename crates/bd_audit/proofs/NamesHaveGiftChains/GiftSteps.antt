@@ -1,0 +1,234 @@
+-- The gift by which a name begins, the gifts of a history, and the chain that they make, found from its end.
+use Rattle.bd_laws.proofs.words.Logic.{◌≡◌, ℕ, ◌+◌, ◌<◌, ◌==◌, Bool, true, false, ◌&&◌, not, List, [], ◌∷◌, ◌++◌, Option, Some, None, Result, Ok, Err, IfOk, IfSome, inl, inr, refl, ap, sym, subst, ◌∙◌, length, take, get_or, reverse, find, arith, length-append, append-nil, append_assoc, nat_lt, is_some, option_map, option_and_then, option_or, eqb-true, eq-eqb, ltb-true, ltb-false, reverse-append, length-take-le, take-append-le, take_all, get_or-append_seam, get_or-append}
+use Rattle.bd_laws.proofs.words.Types.{Fault, ObjectId, Entry, Process, Thread, Actor, Name, Buffer, Carried}
+use Rattle.bd_laws.proofs.words.Space.{same, when, Space, opening, actor, owned_in, number_in, named, is_made_at, buffer_in, change, History, after, next, space_after}
+use Rattle.bd_engine.specs.Looks.{knows, process_of}
+use Rattle.bd_laws.proofs.words.Laws.{In, IsTidy}
+use Rattle.bd_laws.proofs.Always.{step-tidy, opening-tidy}
+use Rattle.bd_laws.proofs.Machine.EveryStep.{every_list}
+use Rattle.bd_laws.proofs.Lists.{find-in, find-some, in-left, in-push, in-last}
+use Rattle.bd_laws.proofs.Tests.{both, same-eq}
+use Rattle.bd_laws.proofs.Sendings.{HasName, named-has}
+use Rattle.bd_laws.proofs.Checks.{actor-lives}
+use Rattle.bd_audit.specs.declared.gifts.Gift.{Gift}
+use Rattle.bd_audit.specs.Replays.{with_entry, beginning}
+use Rattle.bd_audit.specs.Gifts.{IsChainFrom, IsGiftChain, IsChainOf}
+use Rattle.bd_audit.specs.GiftSearch.{knows_after, giver_in, gift_made, receiver_at, receiver_of, AreReceivers, GivenBy, IsGift, BeginsAt, BeginsWith, IsGiftOf, HasGift, Follows, FollowAfter, AllGifts, AreGifts, IsWay, IsHolder}
+use Rattle.bd_audit.proofs.Beginnings.{after-append, one-next}
+use Rattle.bd_audit.proofs.NamesHaveGiftChains.Naming.{step-naming, has-number}
+use Rattle.bd_audit.proofs.NamesHaveGiftChains.NewNames.{ByHand, ByAsking}
+use Rattle.bd_audit.proofs.NamesHaveGiftChains.Chains.{stands-more, begins-more, here, sends, asks, owns-test, counted-objects, counted-references, counted-names, always-steps}
+use Rattle.bd_laws.proofs.Machine.Fields.{counted-buffers}
+use Rattle.bd_audit.proofs.NamesHaveGiftChains.NameBegins.{named-knows, name-given, gift-more}
+
+-- ---- who receives at each entry
+
+pub none-received : AreReceivers [] []
+none-received = record { all = refl; each = λ i lt. absurd (omega (arith, lt)) }
+
+pub receivers-push : (es : List Entry) (e : Entry) (rs : List (Option ℕ)) (r : Option ℕ) → AreReceivers es rs → r ≡ receiver_of es e
+    → AreReceivers (es ++ e ∷ []) (rs ++ r ∷ [])
+receivers-push es e rs r h is = record {
+  all = (let k = length-append rs (r ∷ []) in let l = length-append es (e ∷ []) in let same_length = h.all in omega (arith, k, l, same_length));
+  each = λ i lt. at i lt (nat_lt i (length es)) refl;
+}
+  where
+    at : (i : ℕ) → i < length (es ++ e ∷ []) → (b : Bool) → nat_lt i (length es) ≡ b
+        → get_or (rs ++ r ∷ []) i None ≡ receiver_at (after opening (take (i + 1) (es ++ e ∷ []))) i
+    at i lt false t =
+        let l = length-append es (e ∷ []) in
+        let past = ltb-false i (length es) t in
+        let last : i ≡ length es = omega (arith, l, lt, past) in
+        let whole : take (i + 1) (es ++ e ∷ []) ≡ es ++ e ∷ [] = take_all (i + 1) (es ++ e ∷ []) (omega (arith, l, last)) in
+        ap (λ n. get_or (rs ++ r ∷ []) n None) (last ∙ sym h.all) ∙ get_or-append_seam rs r [] None ∙ is ∙ ap (receiver_at (after opening (es ++ e ∷ []))) (sym last)
+        ∙ ap (λ xs. receiver_at (after opening xs) i) (sym whole)
+    at i lt true t =
+        let below = ltb-true i (length es) t in
+        let same_length = h.all in
+        get_or-append rs (r ∷ []) None i (omega (arith, below, same_length)) ∙ h.each i below
+        ∙ ap (λ xs. receiver_at (after opening xs) i) (sym (take-append-le (i + 1) es (e ∷ []) (omega (arith, below))))
+
+-- as a loop over the entries finds it
+pub receiver-there : (h g : History) (i : ℕ) (e : Entry) (es : List Entry) (rs : List (Option ℕ)) (n : ℕ) → AreReceivers h.entries rs → g ≡ beginning i h → es ≡ h.entries → i < length es
+    → e ≡ get_or es i e → n ≡ length g.entries → get_or rs n None ≡ receiver_of g.entries e
+receiver-there h g i e es rs n are at same_es below found place =
+    let inside : i < length h.entries = subst (λ xs. i < length xs) same_es below in
+    let here : length g.entries ≡ i = ap (λ (x : History). length x.entries) at ∙ length-take-le i h.entries (omega (arith, inside)) in
+    ap (λ k. get_or rs k None) (place ∙ here) ∙ are.each i inside
+    ∙ ap (λ (x : History). receiver_at (after opening x.entries) i) (sym (one-next h g i e es at same_es below found)) ∙ ap (receiver_at (after opening (with_entry g e).entries)) (sym here)
+
+pub receivers-next : (g k : History) (e : Entry) (rs qs : List (Option ℕ)) (place : ℕ) (r : Option ℕ) → AreReceivers g.entries rs → k ≡ with_entry g e → place ≡ length g.entries
+    → r ≡ receiver_at (space_after k) place → qs ≡ rs ++ r ∷ [] → AreReceivers k.entries qs
+unfolding space_after
+receivers-next g k e rs qs place r are at there is pushed =
+    let now = is ∙ ap (λ (x : History). receiver_at (after opening x.entries) place) at ∙ ap (receiver_at (after opening (g.entries ++ e ∷ []))) there in
+    subst (λ (x : History). AreReceivers x.entries qs) (sym at) (subst (AreReceivers (g.entries ++ e ∷ [])) (sym pushed) (receivers-push g.entries e rs r are now))
+
+-- ---- the gift of a step
+
+giver-knows : (s : Space) (seat : ℕ) (o : ObjectId) → IfSome (giver_in s seat o) (λ p. knows s p o ≡ true)
+giver-knows s seat o = by (process_of s seat)
+  where
+    known : (p : ℕ) (b : Bool) → knows s p o ≡ b → IfSome (when b p) (λ p. knows s p o ≡ true)
+    known p true e = e
+    known p false e = tt
+
+    by : (f : Option ℕ) → IfSome (option_and_then (λ p. when (knows s p o) p) f) (λ p. knows s p o ≡ true)
+    by None = tt
+    by (Some p) = known p (knows s p o) refl
+
+module _ (es : List Entry) (e : Entry) (o : ObjectId) where
+  pub no-gift : ((q : ℕ) → BeginsAt es e o q → ⊥) → IsGiftOf es e o None
+  no-gift h = record { made = tt; every = λ q b. h q b }
+
+  pub gift-of : (q : ℕ) → ((r : ℕ) → BeginsAt es e o r → r ≡ q) → IsGiftOf es e o (gift_made es e q o)
+  gift-of q one = at (knows_after es q o) (knows_after (es ++ e ∷ []) q o) refl refl
+    where
+      none : (BeginsAt es e o q → ⊥) → IsGiftOf es e o None
+      none h = no-gift (λ r b. h (subst (BeginsAt es e o) (one r b) b))
+
+      at : (a b : Bool) → knows_after es q o ≡ a → knows_after (es ++ e ∷ []) q o ≡ b
+          → IsGiftOf es e o (when (not a && b) (let g : Gift = record { receiver = q; place = length es; giver = giver_in (after opening es) e.seat o } in g))
+      at true b old now = none (λ h. let no = h.0 in absurd (cc))
+      at false false old now = none (λ h. let yes = h.1 in absurd (cc))
+      at false true old now = record { made = record { begins = (old, now); place = refl; giver = refl }; every = λ r b. sym (one r b) }
+
+pub ok-gift : (es : List Entry) (e : Entry) (o : ObjectId) (r : Result (Option Gift) Fault) (x : Option Gift) → IfOk r (λ g. g ≡ x) → IsGiftOf es e o x → IfOk r (IsGiftOf es e o)
+ok-gift es e o (Ok g) x h k = subst (IsGiftOf es e o) (sym h) k
+ok-gift es e o (Err f) x h k = tt
+
+-- ---- the gifts so far
+
+pub none-given : (o : ObjectId) → AreGifts [] o []
+none-given o = record { linked = tt; gifts = λ g i. absurd i; known = λ q yes. (let no : knows_after [] q o ≡ false = refl in absurd (cc)) }
+
+more-gifts : (gs : List Gift) (g : Gift) (q : ℕ) → HasGift gs q → HasGift (gs ++ g ∷ []) q
+more-gifts gs g q h = (h.0, in-left h.0 gs (g ∷ []) h.1, h.2)
+
+follow-push : (before gs : List Gift) (g : Gift) → FollowAfter before gs → Follows (before ++ gs) g → FollowAfter before (gs ++ g ∷ [])
+follow-push before [] g h k = (subst (λ xs. Follows xs g) (append-nil before) k, tt)
+follow-push before (x ∷ gs) g h k = (h.0, follow-push (before ++ x ∷ []) gs g h.1 (subst (λ xs. Follows xs g) (sym (append_assoc before (x ∷ []) gs)) k))
+
+pub follow-front : (before gs : List Gift) (g : Gift) → FollowAfter before (gs ++ g ∷ []) → FollowAfter before gs × Follows (before ++ gs) g
+follow-front before [] g h = (tt, subst (λ xs. Follows xs g) (sym (append-nil before)) h.0)
+follow-front before (x ∷ gs) g h =
+    let k = follow-front (before ++ x ∷ []) gs g h.1 in
+    ((h.0, k.0), subst (λ xs. Follows xs g) (append_assoc before (x ∷ []) gs) k.1)
+
+module _ (es : List Entry) (e : Entry) (o : ObjectId) (gs : List Gift) (h : AreGifts es o gs) where
+  -- a name that was there before the step, or one that begins with it
+  known-next : (q : ℕ) (P : Type 0) → knows_after (es ++ e ∷ []) q o ≡ true → (HasGift gs q → P) → (BeginsAt es e o q → P) → P
+  known-next q P now old new = at (knows_after es q o) refl
+    where
+      at : (b : Bool) → knows_after es q o ≡ b → P
+      at true k = old (h.known q k)
+      at false k = new (k, now)
+
+  follows-all : (g : Gift) → BeginsWith es e o g → Follows gs g
+  follows-all g k = record {
+    later = λ x i. (let below = (h.gifts x i).0 in let at = k.place in omega (arith, below, at));
+    given = subst (λ f. IfSome f (HasGift gs)) (sym k.giver) (by (giver_in (after opening es) e.seat o) (giver-knows (after opening es) e.seat o));
+  }
+    where
+      by : (f : Option ℕ) → IfSome f (λ p. knows_after es p o ≡ true) → IfSome f (HasGift gs)
+      by None k = tt
+      by (Some p) k = h.known p k
+
+  begun-gift : (g : Gift) → BeginsWith es e o g → IsGift (es ++ e ∷ []) o g
+  begun-gift g k = (
+    let l = length-append es (e ∷ []) in let at = k.place in omega (arith, l, at),
+    subst (λ f. GivenBy (es ++ e ∷ []) g.place o g.receiver f) (sym k.giver)
+        (subst (λ n. GivenBy (es ++ e ∷ []) n o g.receiver (giver_in (after opening es) e.seat o)) (sym k.place) (name-given es e o g.receiver k.begins.0 k.begins.1)),
+  )
+
+  pub gifts-stay : IsGiftOf es e o None → AreGifts (es ++ e ∷ []) o gs
+  gifts-stay k = record {
+    linked = h.linked;
+    gifts = λ g i. gift-more es (e ∷ []) o g (h.gifts g i);
+    known = λ q now. known-next q (HasGift gs q) now (λ x. x) (λ b. absurd (k.every q b));
+  }
+
+  pub gifts-push : (g : Gift) → IsGiftOf es e o (Some g) → AreGifts (es ++ e ∷ []) o (gs ++ g ∷ [])
+  gifts-push g k = record {
+    linked = follow-push [] gs g h.linked (follows-all g k.made);
+    gifts = λ x i. elim (in-push x g gs i) [
+      | inl l ↦ gift-more es (e ∷ []) o x (h.gifts x l)
+      | inr same_gift ↦ subst (IsGift (es ++ e ∷ []) o) same_gift (begun-gift g k.made)
+    ];
+    known = λ q now. known-next q (HasGift (gs ++ g ∷ []) q) now (more-gifts gs g q) (λ b. (g, in-last g gs, k.every q b));
+  }
+
+-- as an engine finds them
+module _ (h k : History) (e : Entry) (o : ObjectId) (gs : List Gift) (gift : Option Gift) (at : k ≡ with_entry h e) (are : AreGifts h.entries o gs) (of : IsGiftOf h.entries e o gift) where
+  pub gifts-same : gift ≡ None → AreGifts k.entries o gs
+  gifts-same is = subst (λ (x : History). AreGifts x.entries o gs) (sym at) (gifts-stay h.entries e o gs are (subst (IsGiftOf h.entries e o) is of))
+
+  pub gifts-more : (g : Gift) (qs : List Gift) → gift ≡ Some g → qs ≡ gs ++ g ∷ [] → AreGifts k.entries o qs
+  gifts-more g qs is pushed =
+      subst (λ (x : History). AreGifts x.entries o qs) (sym at)
+      (subst (AreGifts (h.entries ++ e ∷ []) o) (sym pushed) (gifts-push h.entries e o gs are g (subst (IsGiftOf h.entries e o) is of)))
+
+-- ---- the way back
+
+-- the places found so far, last first, lead on to q: from p, which has a gift among those that are left, and from after the place
+-- of each of them; from none they are the way
+abbrev pub LeadsOn : List Gift → List Gift → List ℕ → ℕ → Option ℕ → Type 0
+LeadsOn gs left places q None = IsWay gs (reverse places) q
+LeadsOn gs left places q (Some p) =
+    HasGift left p × ((es : List Entry) (o : ObjectId) → AllGifts es o gs → (h : Gift) → In h left → IsChainFrom es o p (h.place + 1) (reverse places) q)
+
+pub way-begins : (gs : List Gift) (q : ℕ) → HasGift gs q → LeadsOn gs gs [] q (Some q)
+way-begins gs q h = (h, λ es o all x i. refl)
+
+pub way-found : (gs : List Gift) (places : List ℕ) (q : ℕ) (next : Option ℕ) → LeadsOn gs [] places q next → IsWay gs (reverse places) q
+way-found gs places q None h = h
+way-found gs places q (Some p) h = absurd h.0.1
+
+module _ (gs left : List Gift) (g : Gift) (places : List ℕ) (q : ℕ) where
+  -- a gift to another
+  pub way-goes-on : (next : Option ℕ) → (next ≡ Some g.receiver → ⊥) → LeadsOn gs (left ++ g ∷ []) places q next → LeadsOn gs left places q next
+  way-goes-on None other h = h
+  way-goes-on (Some p) other h = (
+    elim (in-push h.0.0 g left h.0.1) [
+      | inl l ↦ (h.0.0, l, h.0.2)
+      | inr same_gift ↦ absurd (other (ap (λ n. Some n) (sym (ap (λ (x : Gift). x.receiver) same_gift ∙ h.0.2))))
+    ],
+    λ es o all x i. h.1 es o all x (in-left x left (g ∷ []) i),
+  )
+
+  to-giver : (giver : Option ℕ) → g.giver ≡ giver → ((x : Gift) → In x (left ++ g ∷ []) → In x gs) → FollowAfter [] (left ++ g ∷ [])
+      → LeadsOn gs (left ++ g ∷ []) places q (Some g.receiver) → LeadsOn gs left (places ++ g.place ∷ []) q giver
+  to-giver None is among linked h =
+      λ es o all.
+      let given = subst (GivenBy es g.place o g.receiver) is (all g (among g (in-last g left))).1 in
+      subst (λ is. IsGiftChain es o is q) (sym (reverse-append places (g.place ∷ []))) (g.receiver, given, h.1 es o all g (in-last g left))
+  to-giver (Some r) is among linked h =
+      let follows = (follow-front [] left g linked).1 in (
+        subst (λ f. IfSome f (HasGift left)) is follows.given,
+        λ es o all x i.
+            let given = subst (GivenBy es g.place o g.receiver) is (all g (among g (in-last g left))).1 in
+            let below = follows.later x i in
+            subst (λ is. IsChainFrom es o r (x.place + 1) is q) (sym (reverse-append places (g.place ∷ [])))
+            (g.receiver, omega (arith, below), (given.0, given.1, given.2, given.3), h.1 es o all g (in-last g left)),
+      )
+
+  pub way-to-giver : ((x : Gift) → In x (left ++ g ∷ []) → In x gs) → FollowAfter [] (left ++ g ∷ []) → LeadsOn gs (left ++ g ∷ []) places q (Some g.receiver)
+      → LeadsOn gs left (places ++ g.place ∷ []) q g.giver
+  way-to-giver = to-giver g.giver refl
+
+-- ---- what the number names
+
+pub holder-knows : (h : History) (pid n p : ℕ) (o : ObjectId) → IsHolder (space_after h) pid n p o → knows_after h.entries p o ≡ true
+unfolding space_after
+holder-knows h pid n p o k = named-knows (space_after h) p n o k.names
+
+pub chain-of : (h g : History) (pid n p : ℕ) (o : ObjectId) (places : List ℕ) → g ≡ h → IsHolder (space_after g) pid n p o → IsGiftChain h.entries o places p → IsChainOf h pid n places
+chain-of h g pid n p o places same_history k chain =
+    let j = subst (λ (x : History). IsHolder (space_after x) pid n p o) same_history k in
+    record {
+      process = j.process;
+      object = o;
+      lives = j.lives;
+      names = subst (λ q. named (space_after h) q n ≡ Some o) (sym j.made) j.names;
+      chain = subst (IsGiftChain h.entries o places) (sym j.made) chain;
+    }

@@ -1,0 +1,179 @@
+-- The step at which a name begins, and to whom a step gives.
+use Rattle.bd_laws.proofs.words.Logic.{◌≡◌, ℕ, ◌+◌, ◌<◌, ◌==◌, Bool, true, false, ◌&&◌, not, List, [], ◌∷◌, ◌++◌, Option, Some, None, Result, Ok, Err, IfOk, IfSome, inl, inr, refl, ap, sym, subst, ◌∙◌, length, take, get_or, reverse, find, arith, length-append, append-nil, append_assoc, nat_lt, is_some, option_map, option_and_then, option_or, eqb-true, eq-eqb, ltb-true, ltb-false, reverse-append, length-take-le, take-append-le, take_all, get_or-append_seam, get_or-append}
+use Rattle.bd_laws.proofs.words.Types.{Fault, ObjectId, Entry, Process, Thread, Actor, Name, Buffer, Carried}
+use Rattle.bd_laws.proofs.words.Space.{same, when, Space, opening, actor, owned_in, number_in, named, is_made_at, buffer_in, change, History, after, next, space_after}
+use Rattle.bd_engine.specs.Looks.{knows, process_of}
+use Rattle.bd_laws.proofs.words.Laws.{In, IsTidy}
+use Rattle.bd_laws.proofs.Always.{step-tidy, opening-tidy}
+use Rattle.bd_laws.proofs.Machine.EveryStep.{every_list}
+use Rattle.bd_laws.proofs.Lists.{find-in, find-some, in-left, in-push, in-last}
+use Rattle.bd_laws.proofs.Tests.{both, same-eq}
+use Rattle.bd_laws.proofs.Sendings.{HasName, named-has}
+use Rattle.bd_laws.proofs.Checks.{actor-lives}
+use Rattle.bd_audit.specs.declared.gifts.Gift.{Gift}
+use Rattle.bd_audit.specs.Replays.{with_entry, beginning}
+use Rattle.bd_audit.specs.Gifts.{IsChainFrom, IsGiftChain, IsChainOf}
+use Rattle.bd_audit.specs.GiftSearch.{knows_after, giver_in, gift_made, receiver_at, receiver_of, AreReceivers, GivenBy, IsGift, BeginsAt, BeginsWith, IsGiftOf, HasGift, Follows, FollowAfter, AllGifts, AreGifts, IsWay, IsHolder}
+use Rattle.bd_audit.proofs.Beginnings.{after-append, one-next}
+use Rattle.bd_audit.proofs.NamesHaveGiftChains.Naming.{step-naming, has-number}
+use Rattle.bd_audit.proofs.NamesHaveGiftChains.NewNames.{ByHand, ByAsking}
+use Rattle.bd_audit.proofs.NamesHaveGiftChains.Chains.{stands-more, begins-more, here, sends, asks, owns-test, counted-objects, counted-references, counted-names, always-steps}
+use Rattle.bd_laws.proofs.Machine.Fields.{counted-buffers}
+
+-- ---- names and actors
+
+number-has : (names : List Name) (p : ℕ) (o : ObjectId) → is_some (number_in names p o) ≡ true → HasName names p o
+number-has names p o h = at (find (λ (m : Name). (m.process == p) && same m.object o) names) refl h
+  where
+    at : (f : Option Name) → find (λ (m : Name). (m.process == p) && same m.object o) names ≡ f → is_some (option_map (λ (m : Name). m.number) f) ≡ true → HasName names p o
+    at None e k = absurd (cc)
+    at (Some m) e k =
+        let l = find-in (λ (m : Name). (m.process == p) && same m.object o) m names e in
+        let t = both (m.process == p) (same m.object o) l.1 in
+        (m, l.0, eqb-true m.process p t.0, same-eq m.object o t.1)
+
+pub named-knows : (s : Space) (p n : ℕ) (o : ObjectId) → named s p n ≡ Some o → knows s p o ≡ true
+named-knows s p n o h = has-number s.names p o (named-has s p n o h)
+
+actor-process : (s : Space) (seat : ℕ) (a : Actor) → actor s seat ≡ Some a → process_of s seat ≡ Some a.process.made
+actor-process s seat a h =
+    let l = actor-lives s seat a h in
+    let q = find-in (λ (q : Process). q.made == a.thread.process) a.process s.processes l.1 in
+    ap (option_map (λ (t : Thread). t.process)) l.0 ∙ ap (λ n. Some n) (sym (eqb-true a.process.made a.thread.process q.1))
+
+actor-giver : (s : Space) (seat : ℕ) (a : Actor) (o : ObjectId) → actor s seat ≡ Some a → giver_in s seat o ≡ when (knows s a.process.made o) a.process.made
+actor-giver s seat a o h = ap (option_and_then (λ p. when (knows s p o) p)) (actor-process s seat a h)
+
+-- ---- the step at which a name begins
+
+module _ (es : List Entry) (e : Entry) where
+  -- the acting process has a name for the object, or it doesn't
+  by-hand : (m : Name) (g : ByHand (after opening es) e.seat m (change (after opening es) e.seat e.step).space) (b : Bool) → knows_after es g.by.process.made m.object ≡ b
+      → GivenBy (es ++ e ∷ []) (length es) m.object m.process (when b g.by.process.made)
+  by-hand m g true k = (es, e, here es e, sends (after opening es) (length es) e m (always-steps es) g, k)
+  by-hand m g false k =
+      let s = after opening es in
+      let z = (change s e.seat e.step).space in
+      let p = g.by.process.made in
+      elim g.has [
+        | inl own ↦ inl (es, e, p, here es e, sends s (length es) e m (always-steps es) g, subst (λ os. owned_in os p m.object ≡ true) (sym (counted-objects z)) (owns-test z.objects p m.object own))
+        | inr has ↦ (let yes = has-number s.names p m.object has in absurd (cc))
+      ]
+
+  hand-gives : (m : Name) → ByHand (after opening es) e.seat m (change (after opening es) e.seat e.step).space
+      → GivenBy (es ++ e ∷ []) (length es) m.object m.process (giver_in (after opening es) e.seat m.object)
+  hand-gives m g =
+      subst (GivenBy (es ++ e ∷ []) (length es) m.object m.process) (sym (actor-giver (after opening es) e.seat g.by m.object g.acts))
+      (by-hand m g (knows_after es g.by.process.made m.object) refl)
+
+  asked-gives : (m : Name) → ByAsking (after opening es) e.seat e.step m (change (after opening es) e.seat e.step).space → knows_after es m.process m.object ≡ false
+      → GivenBy (es ++ e ∷ []) (length es) m.object m.process (giver_in (after opening es) e.seat m.object)
+  asked-gives m g new =
+      let s = after opening es in
+      let p = g.by.process.made in
+      let none : giver_in s e.seat m.object ≡ None =
+      actor-giver s e.seat g.by m.object g.acts ∙ ap (λ b. when b p) (subst (λ q. knows s q m.object ≡ false) (sym g.process) new) in
+      subst (GivenBy (es ++ e ∷ []) (length es) m.object m.process) (sym none) (inr (es, e, here es e, asks s e m (change s e.seat e.step).space g))
+
+  pub name-given : (o : ObjectId) (q : ℕ) → knows_after es q o ≡ false → knows_after (es ++ e ∷ []) q o ≡ true
+      → GivenBy (es ++ e ∷ []) (length es) o q (giver_in (after opening es) e.seat o)
+  name-given o q new now =
+      let s = after opening es in
+      let z = (change s e.seat e.step).space in
+      let knows_now : knows (next s e) q o ≡ true = subst (λ (y : Space). knows y q o ≡ true) (after-append opening es (e ∷ [])) now in
+      let has = subst (λ ns. HasName ns q o) (counted-names z) (number-has (next s e).names q o knows_now) in
+      let m = has.0 in
+      let old : knows s m.process m.object ≡ false = subst (λ p. knows s p m.object ≡ false) (sym has.2) (subst (λ x. knows s q x ≡ false) (sym has.3) new) in
+      let given : GivenBy (es ++ e ∷ []) (length es) m.object m.process (giver_in s e.seat m.object) = elim (step-naming s e.seat e.step m has.1) [
+        | inl k ↦ (let yes = has-number s.names m.process m.object (m, k, refl, refl) in absurd (cc))
+        | inr k ↦ elim k [ inl g ↦ hand-gives m g | inr g ↦ asked-gives m g old ]
+      ] in
+      subst (λ x. GivenBy (es ++ e ∷ []) (length es) x q (giver_in s e.seat x)) has.3
+      (subst (λ p. GivenBy (es ++ e ∷ []) (length es) m.object p (giver_in s e.seat m.object)) has.2 given)
+
+-- as an engine finds it
+pub gift-is : (h k : History) (e : Entry) (q : ℕ) (o : ObjectId) (knew now : Bool) (n : ℕ) (giver : Option ℕ) → k ≡ with_entry h e → knew ≡ knows (space_after h) q o
+    → now ≡ knows (space_after k) q o → n ≡ length h.entries → giver ≡ giver_in (space_after h) e.seat o
+    → when (not knew && now) (let g : Gift = record { receiver = q; place = n; giver = giver } in g) ≡ gift_made h.entries e q o
+unfolding space_after
+gift-is h k e q o knew now n giver at a b c d = rw (a, b, at, c, d) refl
+
+-- ---- more entries
+
+given-more : (es fs : List Entry) (i : ℕ) (o : ObjectId) (q : ℕ) (giver : Option ℕ) → GivenBy es i o q giver → GivenBy (es ++ fs) i o q giver
+given-more es fs i o q None h = begins-more es fs i o q h
+given-more es fs i o q (Some p) h = (h.0, h.1, stands-more es fs i h.0 h.1 h.2, h.3, h.4)
+
+pub gift-more : (es fs : List Entry) (o : ObjectId) (g : Gift) → IsGift es o g → IsGift (es ++ fs) o g
+gift-more es fs o g h = (let l = length-append es fs in let below = h.0 in omega (arith, l), given-more es fs g.place o g.receiver g.giver h.1)
+
+-- ---- to whom a step gives
+
+in-find : (p : Buffer → Bool) (b : Buffer) (bs : List Buffer) → In b bs → p b ≡ true → (c : Buffer) × (find p bs ≡ Some c)
+in-find p b bs i t = at (find p bs) refl
+  where
+    at : (f : Option Buffer) → find p bs ≡ f → (c : Buffer) × (find p bs ≡ Some c)
+    at None e = let yes = find-some p b bs i t in let no : is_some (find p bs) ≡ false = ap is_some e in absurd (cc)
+    at (Some c) e = (c, e)
+
+-- what is made at no place of these is found at none
+none-made : (place : ℕ) (bs : List Buffer) → ((b : Buffer) → In b bs → b.made < place) → (f : Option Buffer) → buffer_in bs place ≡ f → buffer_in bs place ≡ None
+none-made place bs h None e = e
+none-made place bs h (Some b) e =
+    let l = find-in (is_made_at place) b bs e in
+    let below = h b l.0 in
+    let at = eqb-true b.made place l.1 in
+    absurd (omega (arith, below, at))
+
+module _ (es : List Entry) (e : Entry) where
+  tidy-after : (xs : List Entry) → IsTidy (after opening xs)
+  tidy-after xs = (every_list IsTidy step-tidy xs opening opening-tidy)
+
+  hand-receiver : (m : Name) → ByHand (after opening es) e.seat m (change (after opening es) e.seat e.step).space → receiver_at (next (after opening es) e) (length es) ≡ Some m.process
+  hand-receiver m g =
+      let s = after opening es in
+      let z = (change s e.seat e.step).space in
+      let y = next s e in
+      let at : g.buffer.0.made ≡ length es = g.buffer.2 ∙ always-steps es in
+      let b = in-find (is_made_at (length es)) g.buffer.0 y.buffers (subst (In g.buffer.0) (sym (counted-buffers z)) g.buffer.1) (eq-eqb g.buffer.0.made (length es) at) in
+      let l = find-in (is_made_at (length es)) b.0 y.buffers b.1 in
+      let windows = (subst IsTidy (after-append opening es (e ∷ [])) (tidy-after (es ++ e ∷ []))).in_windows in
+      let r = g.carried in
+      let held : r.0.holder ≡ Carried b.0.made m.process = r.3 ∙ ap (λ n. Carried n m.process) (always-steps es ∙ sym (eqb-true b.0.made (length es) l.1)) in
+      ap (option_map (λ (c : Buffer). c.receiver)) b.1 ∙ ap (λ n. Some n) (windows r.0 b.0 m.process (subst (In r.0) (sym (counted-references z)) r.1) l.0 held)
+
+  asked-receiver : (m : Name) → ByAsking (after opening es) e.seat e.step m (change (after opening es) e.seat e.step).space
+      → (receiver_at (next (after opening es) e) (length es) ≡ None) × (process_of (after opening es) e.seat ≡ Some m.process)
+  asked-receiver m g =
+      let s = after opening es in
+      let z = (change s e.seat e.step).space in
+      let below = (tidy-after es).before.turns.below in
+      let none = none-made (length es) s.buffers (λ b i. subst (λ n. b.made < n) (always-steps es) (below b i)) (buffer_in s.buffers (length es)) refl in
+      let none_now : buffer_in (next s e).buffers (length es) ≡ None = ap (λ bs. buffer_in bs (length es)) (counted-buffers z ∙ g.buffers) ∙ none in
+      (ap (option_map (λ (c : Buffer). c.receiver)) none_now, actor-process s e.seat g.by g.acts ∙ ap (λ n. Some n) g.process)
+
+  -- a process whose name for the object begins there is the one that receives there; if none does, it asks
+  pub begins-with : (o : ObjectId) (q : ℕ) → BeginsAt es e o q → option_or (receiver_at (next (after opening es) e) (length es)) (process_of (after opening es) e.seat) ≡ Some q
+  begins-with o q begins =
+      let s = after opening es in
+      let z = (change s e.seat e.step).space in
+      let knows_now : knows (next s e) q o ≡ true = subst (λ (y : Space). knows y q o ≡ true) (after-append opening es (e ∷ [])) begins.1 in
+      let has = subst (λ ns. HasName ns q o) (counted-names z) (number-has (next s e).names q o knows_now) in
+      let m = has.0 in
+      let receives : option_or (receiver_at (next s e) (length es)) (process_of s e.seat) ≡ Some m.process = elim (step-naming s e.seat e.step m has.1) [
+        | inl k ↦ (let yes = has-number s.names q o (m, k, has.2, has.3) in let no = begins.0 in absurd (cc))
+        | inr k ↦ elim k [
+          | inl g ↦ ap (λ r. option_or r (process_of s e.seat)) (hand-receiver m g)
+          | inr g ↦ (let a = asked-receiver m g in ap (λ r. option_or r (process_of s e.seat)) a.0 ∙ a.1)
+        ]
+      ] in
+      receives ∙ ap (λ n. Some n) has.2
+
+-- as engines find it
+pub one-candidate : (h : History) (e : Entry) (o : ObjectId) (receiver asker candidate : Option ℕ) → receiver ≡ receiver_of h.entries e
+    → asker ≡ process_of (space_after h) e.seat → candidate ≡ option_or receiver asker → (q : ℕ) → BeginsAt h.entries e o q → candidate ≡ Some q
+unfolding space_after
+one-candidate h e o receiver asker candidate a b c q begins =
+    let found = begins-with h.entries e o q begins in
+    let there = ap (λ (y : Space). receiver_at y (length h.entries)) (after-append opening h.entries (e ∷ [])) in
+    c ∙ ap (λ r. option_or r asker) (a ∙ there) ∙ ap (option_or (receiver_at (next (after opening h.entries) e) (length h.entries))) b ∙ found

@@ -1,0 +1,241 @@
+-- A Notice of an object is due exactly while its told values aren't what is so.
+use Rattle.bd_laws.proofs.words.Logic.{◌≡◌, ℕ, ◌≤◌, ◌==◌, Bool, true, false, cond, not, ◌&&◌, ◌||◌, List, [], ◌∷◌, ◌++◌, inl, inr, refl, ap, sym, subst, ◌∙◌, filter, length, arith, Some, list_any, list_all, fold, eqb-true}
+use Rattle.bd_laws.proofs.words.Types.{ObjectId, Step, Entry, Process, Object, Reference, Manager, Work, WorkKind, TodoList, OfThread, OfProcess}
+use Rattle.bd_laws.proofs.words.Space.{same, Space, opening, lives_in, reference_of, held_in, strong_in, objects_go, stays_in, names_go, closed, with_work, owe, is_notice, notice_of, with_notice, wants_notice, differs_in, has_notice_in, work_goes, deaths_go, notify, follow, change, counted, with_thread, with_process, with_manager, History, next, space_after}
+use mathlib.Core.Bool.{beq}
+use Rattle.bd_space.specs.declared.space.WorkKind.TheVariants as work
+use Rattle.bd_laws.proofs.words.Laws.{In, Pairs, Differ, KeptBefore, Before}
+use Rattle.bd_laws.proofs.Earlier.{in_order-differ}
+use Rattle.bd_laws.proofs.Lists.{in-push, in-last, in-left, in-filter, any-found, any-in, all-in, pairs-either, pairs-map, pairs-filter, fold-keeps}
+use Rattle.bd_laws.proofs.Tests.{same-eq, eq-same, notice-kind}
+use Rattle.bd_laws.proofs.Machine.EveryStep.{Keeps, every_step, every_list}
+use Rattle.bd_laws.proofs.IsInTurn.InTurn.{at_most_one}
+use Rattle.bd_laws.proofs.Objects.{kept-step}
+use Rattle.bd_laws.proofs.KeptBefore.ObjectsKept.{IsKept}
+use Rattle.bd_laws.proofs.IsInTurn.Received.{step-before, opening-before}
+use Rattle.bd_laws.proofs.NothingIsPending.Noticing.{Apart, Once, Noticing, follow-wanted, step-noticing, opening-noticing}
+
+-- of each object there is a Notice where its owner is to be told, and else none
+abbrev pub Exact : Space → Type 0
+Exact z = (x : Object) → In x z.objects → has_notice_in z.todo x.id ≡ wants_notice z.processes z.references x
+
+-- one more, that doesn't pass
+any-skip : {A : Type 0} (p : A → Bool) (xs : List A) (y : A) → p y ≡ false → list_any p (xs ++ y ∷ []) ≡ list_any p xs
+any-skip p [] y h = rw h refl
+any-skip p (x ∷ xs) y h = ap (λ b. p x || b) (any-skip p xs y h)
+
+notice-named : (kind : WorkKind) (o : ObjectId) → is_notice o kind ≡ true → notice_of kind ≡ Some o
+notice-named kind o e = ap notice_of (notice-kind o kind e)
+
+-- ---- what follows
+
+-- a Notice that stands stays, and one that is wanted is made
+notice-stays : (place : ℕ) (processes : List Process) (references : List Reference) (list : TodoList) (y : Object) (o : ObjectId) (todo : List Work)
+    → has_notice_in todo o ≡ true → has_notice_in (with_notice place processes references list todo y) o ≡ true
+notice-stays place processes references list y o todo h = at (wants_notice processes references y && not (has_notice_in todo y.id))
+  where
+    at : (b : Bool) → has_notice_in (cond b (with_work place todo list (work.Notice y.id)) todo) o ≡ true
+    at false = h
+    at true = let w = any-found (λ (w : Work). is_notice o w.kind) todo h in any-in (λ (w : Work). is_notice o w.kind) w.0 _ (in-left w.0 todo _ w.1) w.2
+
+notice-made : (place : ℕ) (processes : List Process) (references : List Reference) (list : TodoList) (x : Object) (todo : List Work)
+    → wants_notice processes references x ≡ true → has_notice_in (with_notice place processes references list todo x) x.id ≡ true
+notice-made place processes references list x todo wants = at (has_notice_in todo x.id) refl (wants_notice processes references x) wants
+  where
+    at : (has : Bool) → has_notice_in todo x.id ≡ has → (b : Bool) → b ≡ true → has_notice_in (cond (b && not has) (with_work place todo list (work.Notice x.id)) todo) x.id ≡ true
+    at has e false f = absurd (cc)
+    at true e true f = e
+    at false e true f = any-in (λ (w : Work). is_notice x.id w.kind) _ _ (in-last _ todo) (eq-same x.id x.id refl)
+
+module _ (z : Space) where
+  tell : List Work → Object → List Work
+  tell todo x = with_notice z.steps z.processes z.references (OfProcess x.owner) todo x
+
+  all-made : (xs : List Object) (todo : List Work) (x : Object) → In x xs → wants_notice z.processes z.references x ≡ true → has_notice_in (fold tell todo xs) x.id ≡ true
+  unfolding tell
+  all-made [] todo x l wants = absurd l
+  all-made (y ∷ ys) todo x (inl e) wants =
+      fold-keeps (λ todo. has_notice_in todo x.id ≡ true) tell ys (λ todo v l k. notice-stays z.steps z.processes z.references (OfProcess v.owner) v x.id todo k) (tell todo y)
+      (subst (λ (v : Object). has_notice_in (tell todo y) v.id ≡ true) e
+      (notice-made z.steps z.processes z.references (OfProcess y.owner) y todo (subst (λ (v : Object). wants_notice z.processes z.references v ≡ true) (sym e) wants)))
+  all-made (y ∷ ys) todo x (inr l) wants = all-made ys (tell todo y) x l wants
+
+  notify-made : (x : Object) → In x z.objects → wants_notice z.processes z.references x ≡ true → has_notice_in (notify z).todo x.id ≡ true
+  unfolding notify tell
+  notify-made x l wants = all-made z.objects z.todo x l wants
+
+notify-objects : (z : Space) (x : Object) → In x (notify z).objects → In x z.objects
+unfolding notify
+notify-objects z x l = l
+
+notify-wants : (z : Space) (x : Object) → wants_notice (notify z).processes (notify z).references x ≡ wants_notice z.processes z.references x
+unfolding notify
+notify-wants z x = refl
+
+follow-made : (z : Space) (x : Object) → In x (follow z).objects → wants_notice (follow z).processes (follow z).references x ≡ true → has_notice_in (follow z).todo x.id ≡ true
+unfolding follow
+follow-made z x l wants =
+    let y = work_goes (deaths_go (objects_go (names_go z))) in
+    notify-made y x (notify-objects y x l) (sym (notify-wants y x) ∙ wants)
+
+follow-differ : (z : Space) → Pairs Differ z.objects → Pairs Differ (follow z).objects
+unfolding follow notify work_goes deaths_go objects_go names_go
+follow-differ z h = pairs-filter Differ (stays_in z.processes z.references) z.objects h
+
+follow-exact : (z : Space) → Pairs Differ z.objects → Exact (follow z)
+follow-exact z differ x l = at (wants_notice y.processes y.references x) refl (has_notice_in y.todo x.id) refl
+  where
+    y : Space
+    y = follow z
+
+    at : (b : Bool) → wants_notice (follow z).processes (follow z).references x ≡ b → (c : Bool) → has_notice_in (follow z).todo x.id ≡ c → c ≡ b
+    at true e c f = sym f ∙ follow-made z x l e
+    at false e false f = refl
+    at false e true f =
+        let w = any-found (λ (w : Work). is_notice x.id w.kind) (follow z).todo f in
+        let v = follow-wanted z w.0 x.id w.1 (notice-named w.0.kind x.id w.2) in
+        elim (pairs-either Differ (follow z).objects (follow-differ z differ) x v.0 l v.1) [
+          | inl is ↦ (let wants = subst (λ (u : Object). wants_notice (follow z).processes (follow z).references u ≡ true) (sym is) v.3 in absurd (cc))
+          | inr d ↦ elim d [ inl f ↦ absurd (f (sym v.2)) | inr f ↦ absurd (f v.2) ]
+        ]
+
+-- ---- opening, managing, closing
+
+opened-exact : (s : Space) (seat pid euid window : ℕ) → Before s → Exact s → Exact (with_thread (with_process s pid euid window) seat s.steps)
+unfolding with_thread with_process
+opened-exact s seat pid euid window before h x l =
+    h x l ∙ ap (λ b. b && differs_in s.references x) (sym (any-skip (λ (q : Process). q.made == x.owner) s.processes _ (at (s.steps == x.owner) refl)))
+  where
+    at : (b : Bool) → (s.steps == x.owner) ≡ b → b ≡ false
+    at false e = refl
+    at true e = let is = eqb-true s.steps x.owner e in let lt = before.received.owners x l in absurd (omega arith)
+
+attached-exact : (s : Space) (seat p : ℕ) → Exact s → Exact (with_thread s seat p)
+unfolding with_thread
+attached-exact s seat p h = h
+
+and-none : (a b c : Bool) → b ≡ false → c ≡ false → (a && (b || c)) ≡ false
+and-none true b c h k = rw (h, k) refl
+and-none false b c h k = refl
+
+-- the object and the reference of a new context manager
+abbrev manager_id : Space → ObjectId
+manager_id s = record { place = s.steps; index = 0 }
+
+abbrev manager_object : Space → ℕ → Object
+manager_object s p = record { id = manager_id s; owner = p; ptr = 0; cookie = 0; told_weak = true; told_strong = true }
+
+abbrev manager_reference : Space → Reference
+manager_reference s = reference_of s.steps 0 (manager_id s) true Manager
+
+abbrev managed_references : Space → List Reference
+managed_references s = s.references ++ manager_reference s ∷ []
+
+module _ (s : Space) (kept : KeptBefore s) where
+  -- each object of the space is older
+  is-older : (x : Object) → In x s.objects → manager_id s ≡ x.id → ⊥
+  is-older x l e = let lt = kept.kept.below x l in let place : s.steps ≡ x.id.place = ap (λ (j : ObjectId). j.place) e in absurd (omega arith)
+
+  old-exact : (x : Object) → In x s.objects → wants_notice s.processes (managed_references s) x ≡ wants_notice s.processes s.references x
+  old-exact x l = at (same (manager_id s) x.id) refl
+    where
+      at : (b : Bool) → same (manager_id s) x.id ≡ b → wants_notice s.processes (managed_references s) x ≡ wants_notice s.processes s.references x
+      at true e = absurd (is-older x l (same-eq (manager_id s) x.id e))
+      at false e =
+          let held = any-skip (λ (q : Reference). same q.object x.id) s.references (manager_reference s) e in
+          let strong = any-skip (λ (q : Reference). q.strong && same q.object x.id) s.references (manager_reference s) e in
+          ap (λ b. lives_in s.processes x.owner && (not (beq x.told_weak b) || not (beq x.told_strong (strong_in (managed_references s) x.id)))) held
+          ∙ ap (λ b. lives_in s.processes x.owner && (not (beq x.told_weak (held_in s.references x.id)) || not (beq x.told_strong b))) strong
+
+  unnoticed : Noticing s → has_notice_in s.todo (manager_id s) ≡ false
+  unnoticed noticing = at (has_notice_in s.todo (manager_id s)) refl
+    where
+      at : (b : Bool) → has_notice_in s.todo (manager_id s) ≡ b → b ≡ false
+      at false e = refl
+      at true e =
+          let w = any-found (λ (w : Work). is_notice (manager_id s) w.kind) s.todo e in
+          let y = noticing.live w.0 (manager_id s) w.1 (notice-named w.0.kind (manager_id s) w.2) in
+          absurd (is-older y.0 y.1 (sym y.2))
+
+  new-exact : (p : ℕ) → wants_notice s.processes (managed_references s) (manager_object s p) ≡ false
+  new-exact p =
+      let here = in-last (manager_reference s) s.references in
+      let itself = eq-same (manager_id s) (manager_id s) refl in
+      let held = any-in (λ (q : Reference). same q.object (manager_id s)) (manager_reference s) (managed_references s) here itself in
+      let strong = any-in (λ (q : Reference). q.strong && same q.object (manager_id s)) (manager_reference s) (managed_references s) here itself in
+      and-none (lives_in s.processes p) _ _ (ap (λ b. not (beq true b)) held) (ap (λ b. not (beq true b)) strong)
+
+managed-exact : (s : Space) (p : ℕ) → KeptBefore s → Noticing s → Exact s → Exact (with_manager s p)
+unfolding with_manager
+managed-exact s p kept noticing h x l = elim (in-push x (manager_object s p) s.objects l) [
+  | inl i ↦ h x i ∙ sym (old-exact s kept x i)
+  | inr is ↦ subst (λ (y : Object). has_notice_in s.todo y.id ≡ wants_notice s.processes (managed_references s) y) is (unnoticed s kept noticing ∙ sym (new-exact s kept p))
+]
+
+closed-exact : (z : Space) (made : ℕ) → Exact z → Exact (closed z made)
+unfolding closed
+closed-exact z made h = h
+
+owe-exact : (z : Space) (list : TodoList) (kind : WorkKind) → ((o : ObjectId) → is_notice o kind ≡ false) → Exact z → Exact (owe z list kind)
+unfolding owe
+owe-exact z list kind none h x l = any-skip (λ (w : Work). is_notice x.id w.kind) z.todo _ (none x.id) ∙ h x l
+
+-- ---- every step
+
+exact-step : (s : Space) (seat : ℕ) (x : Step) → Before s → Noticing s → Exact s → Keeps s seat x IsKept Exact
+exact-step s seat x before noticing h =
+    let k = kept-step s seat x before.objects in
+    record {
+      set_up = record {
+        same = h;
+        opened = λ pid euid window free. opened-exact s seat pid euid window before h;
+        attached = λ p free. attached-exact s seat p h;
+        managed = λ a e b. managed-exact s a.process.made before.objects noticing h;
+      };
+      changes = k.changes;
+      follows = λ z l. follow-exact z (in_order-differ z.objects l.in_order);
+      closes = λ z made l. closed-exact z made l;
+      refuses = λ z t r l. owe-exact z (OfThread t) (work.Refusal r) (λ o. refl) l;
+      tells = λ z t r l. owe-exact z (OfThread t) (work.Verdict r) (λ o. refl) l;
+    }
+
+-- what holds before each step
+record IsDue (s : Space) : Type 0 where
+  before : Before s
+  noticing : Noticing s
+  exact : Exact s
+
+counted-exact : (z : Space) → Exact z → Exact (counted z)
+unfolding counted
+counted-exact z h = h
+
+step-due : (s : Space) (e : Entry) → IsDue s → IsDue (next s e)
+step-due s e h = record {
+  before = step-before s e h.before;
+  noticing = step-noticing s e h.noticing;
+  exact = counted-exact (change s e.seat e.step).space (every_step s e.seat e.step IsKept Exact (exact-step s e.seat e.step h.before h.noticing h.exact));
+}
+
+always-due : (h : History) → IsDue (space_after h)
+unfolding space_after
+always-due h = every_list IsDue step-due h.entries opening (record { before = opening-before; noticing = opening-noticing; exact = λ x l. absurd l })
+
+-- ---- the law
+
+one-notice : (o : ObjectId) (todo : List Work) → Once todo → length (filter (λ (w : Work). is_notice o w.kind) todo) ≤ 1
+one-notice o todo h =
+    let test = λ (w : Work). is_notice o w.kind in
+    at_most_one (filter test todo)
+    (pairs-map Apart (λ w v. ⊥) (filter test todo)
+    (λ w v i j apart. apart o (notice-named w.kind o (in-filter test w todo i).1) (notice-named v.kind o (in-filter test v todo j).1)) (pairs-filter Apart test todo h))
+
+beq-same : (a b : Bool) → a ≡ b → beq a b ≡ true
+beq-same true b h = rw (sym h) refl
+beq-same false b h = rw (sym h) refl
+
+pub notices-due : (h : History) → (list_all (λ x. beq (has_notice_in (space_after h).todo x.id) (wants_notice (space_after h).processes (space_after h).references x)) (space_after h).objects ≡ true)
+    × ((o : ObjectId) → length (filter (λ w. is_notice o w.kind) (space_after h).todo) ≤ 1)
+notices-due h =
+    let z = space_after h in
+    let k = always-due h in
+    (all-in (λ (x : Object). beq (has_notice_in z.todo x.id) (wants_notice z.processes z.references x)) z.objects (λ x l. beq-same _ _ (k.exact x l)), λ o. one-notice o z.todo k.noticing.once)

@@ -1,0 +1,2 @@
+-- The law OneWayCallsAreDueInTurn.
+pub mod DueInTurn

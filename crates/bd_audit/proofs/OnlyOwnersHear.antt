@@ -1,0 +1,4 @@
+-- The law OnlyOwnersHear: Notices stand where the owner's threads read them.
+pub mod SittingSent
+pub mod Sitting
+pub mod Owners

@@ -1,0 +1,172 @@
+-- A Notice stands where its owner's threads read it: work items, transactions and replies.
+use Rattle.bd_laws.proofs.words.Logic.{◌≡◌, ℕ, ◌==◌, Bool, true, false, cond, not, ◌&&◌, List, [], ◌∷◌, ◌++◌, Option, Some, None, Ok, inl, inr, refl, ap, sym, subst, ◌∙◌, filter, find, arith, list_any, eqb-true, eq-eqb}
+use Rattle.bd_laws.proofs.words.Types.{TransactionData, ObjectId, Parcel, Step, Entry, Process, Thread, Object, Reference, Frame, Turn, Actor, Item, Work, WorkKind, TodoList, OfThread, OfProcess, is_own}
+use Rattle.bd_laws.proofs.words.Space.{same, changed, Space, opening, thread_in, actor, object_in, objects_go, stays_in, names_go, assign_numbers, goes_to, closed, with_work, owe, is_on, same_list, notice_of, is_item, ripen, ripened, is_ripe, turns_of, with_notice, wants_notice, has_notice_in, still_due, work_goes, deaths_go, notify, follow, Delivery, delivered, own_notices, add_buffer, known_by, refer, make_objects, buffer_of, add_notice, withdraw_notice, transaction_check, transacted, called, call_out, reply_check, replied, without_buffer, ask, drop_asked, acknowledge, with_looping, read_by, told_of, is_told_by, thread_goes, threads_go, without_process, tell_deaths, change, counted, with_thread, with_process, with_manager, next}
+use Rattle.bd_space.specs.declared.space.WorkKind.TheVariants as work
+use Rattle.bd_laws.proofs.words.Laws.{In, Pairs, Here, Differ, KeptBefore}
+use Rattle.bd_laws.proofs.Earlier.{in_order-differ}
+use Rattle.bd_laws.proofs.Lists.{in-append, in-push, in-filter, in-changed, find-in, pairs-either, pairs-filter, fold-keeps}
+use Rattle.bd_laws.proofs.Tests.{same-eq}
+use Rattle.bd_laws.proofs.Machine.EveryStep.{Keeps, every_step}
+use Rattle.bd_laws.proofs.Checks.{transaction-checked, reply-checked, actor-lives}
+use Rattle.bd_laws.proofs.Sendings.{Sends, sending-sends}
+use Rattle.bd_laws.proofs.Objects.{kept-step, step-kept, opening-kept, told-id}
+use Rattle.bd_laws.proofs.KeptBefore.ObjectsKept.{IsKept, IsKeptWhole, closed-before, closed-sends, delivered-kept}
+use Rattle.bd_laws.proofs.NothingIsPending.Noticing.{Noticing, closed-noticing, step-noticing, opening-noticing}
+use Rattle.bd_laws.proofs.Machine.Deaths.{KeptOnDeaths, on-kept, on-told, on-commands, commands-both}
+use Rattle.bd_laws.proofs.Machine.Following.{threads-keep}
+
+-- threads of q read the list
+abbrev pub Reaches : List Thread → TodoList → ℕ → Type 0
+Reaches threads (OfProcess p) q = p ≡ q
+Reaches threads (OfThread t) q = (x : Thread) × (thread_in threads t ≡ Some x) × (x.process ≡ q)
+
+-- each Notice stands where its object's owner reads
+abbrev pub Sits : List Thread → List Object → List Work → Type 0
+Sits threads objects todo = (w : Work) (o : ObjectId) (x : Object) → In w todo → notice_of w.kind ≡ Some o → In x objects → x.id ≡ o → Reaches threads w.list x.owner
+
+abbrev pub SitsIn : Space → Type 0
+SitsIn z = Sits z.threads z.objects z.todo
+
+-- ---- work items
+
+pub sits-other : (place : ℕ) (threads : List Thread) (objects : List Object) (todo : List Work) (list : TodoList) (kind : WorkKind) → notice_of kind ≡ None → Sits threads objects todo
+    → Sits threads objects (with_work place todo list kind)
+sits-other place threads objects todo list kind none h = λ w o x l e i is.
+    elim (in-push w _ todo l) [ inl k ↦ h w o x k e i is | inr new ↦ (let same_kind : kind ≡ w.kind = ap (λ (v : Work). v.kind) new in absurd (cc)) ]
+
+pub owe-sits : (z : Space) (list : TodoList) (kind : WorkKind) → notice_of kind ≡ None → SitsIn z → SitsIn (owe z list kind)
+unfolding owe
+owe-sits z list kind none h = sits-other z.steps z.threads z.objects z.todo list kind none h
+
+pub sits-filter : (threads : List Thread) (objects : List Object) (p : Work → Bool) (todo : List Work) → Sits threads objects todo → Sits threads objects (filter p todo)
+sits-filter threads objects p todo h = λ w o x l e i is. h w o x (in-filter p w todo l).0 e i is
+
+-- a Notice of an object that q owns, on a list of q's
+pub sits-notice : (place : ℕ) (processes : List Process) (references : List Reference) (threads : List Thread) (objects : List Object) (list : TodoList) (todo : List Work) (y : Object)
+    → ((x : Object) → In x objects → x.id ≡ y.id → Reaches threads list x.owner) → Sits threads objects todo → Sits threads objects (with_notice place processes references list todo y)
+sits-notice place processes references threads objects list todo y reach h = at (wants_notice processes references y && not (has_notice_in todo y.id))
+  where
+    at : (b : Bool) → Sits threads objects (cond b (with_work place todo list (work.Notice y.id)) todo)
+    at false = h
+    at true = λ w o x l e i is. elim (in-push w _ todo l) [
+      | inl k ↦ h w o x k e i is
+      | inr new ↦ (
+          let same_kind : notice_of (work.Notice y.id) ≡ notice_of w.kind = ap (λ (v : Work). notice_of v.kind) new in
+          let id : y.id ≡ o = cc in
+          subst (λ (v : Work). Reaches threads v.list x.owner) new (reach x i (is ∙ sym id)))
+    ]
+
+-- ---- transactions and replies
+
+pub actor-process : (s : Space) (seat : ℕ) (a : Actor) → actor s seat ≡ Some a → a.thread.process ≡ a.process.made
+actor-process s seat a e =
+    let l = find-in (λ (q : Process). q.made == a.thread.process) a.process s.processes (actor-lives s seat a e).1 in
+    sym (eqb-true a.process.made a.thread.process l.1)
+
+pub actor-seat : (s : Space) (seat : ℕ) (a : Actor) → actor s seat ≡ Some a → thread_in s.threads a.thread.seat ≡ Some a.thread
+actor-seat s seat a e =
+    let found = (actor-lives s seat a e).0 in
+    let l = find-in (λ (t : Thread). t.seat == seat) a.thread s.threads found in
+    subst (λ n. thread_in s.threads n ≡ Some a.thread) (sym (eqb-true a.thread.seat seat l.1)) found
+
+withdrawn-sits : (threads : List Thread) (objects : List Object) (b : Bool) (p : Work → Bool) (todo : List Work) → Sits threads objects todo → Sits threads objects (cond b (filter p todo) todo)
+withdrawn-sits threads objects true p todo h = sits-filter threads objects p todo h
+withdrawn-sits threads objects false p todo h = h
+
+-- the objects that p sends as its own are p's
+own_notices-sits : (z : Space) (seat p : ℕ) (items : List Item) → Reaches z.threads (OfThread seat) p
+    → ((i : Item) → In i items → is_own i.flat.kind ≡ true → (x : Object) → In x z.objects → x.id ≡ i.object → x.owner ≡ p) → SitsIn z → SitsIn (own_notices z seat items)
+unfolding own_notices
+own_notices-sits z seat p items reach owned h =
+    fold-keeps (Sits z.threads z.objects) (add_notice z seat) items (λ todo i l k. at i l todo k (is_own i.flat.kind) refl (object_in z.objects i.object) refl) _
+    (fold-keeps (Sits z.threads z.objects) (withdraw_notice z.objects) items (λ todo i l k. withdrawn-sits z.threads z.objects _ _ todo k) z.todo h)
+  where
+    at : (i : Item) → In i items → (todo : List Work) → Sits z.threads z.objects todo → (own : Bool) → is_own i.flat.kind ≡ own → (f : Option Object) → object_in z.objects i.object ≡ f
+        → Sits z.threads z.objects (cond own (elim f as (λ (x : Option Object). List Work) [ None ↦ todo | Some x ↦ with_notice z.steps z.processes z.references (OfThread seat) todo x ]) todo)
+    at i l todo k false e f g = k
+    at i l todo k true e None g = k
+    at i l todo k true e (Some y) g =
+        let id = same-eq y.id i.object (find-in (λ (x : Object). same x.id i.object) y z.objects g).1 in
+        sits-notice z.steps z.processes z.references z.threads z.objects (OfThread seat) todo y
+        (λ x m is. (reach.0, reach.1, reach.2 ∙ sym (owned i l e x m (is ∙ id)))) k
+
+delivered-sits : (s : Space) (a : Actor) (d : TransactionData) (v : Delivery) → KeptBefore s → Noticing s → Sends s a.process.made v.sending.made v.sending.items
+    → Pairs Differ (delivered s a d v).objects → Reaches s.threads (OfThread a.thread.seat) a.process.made → SitsIn s → SitsIn (delivered s a d v)
+unfolding delivered add_buffer known_by assign_numbers refer make_objects own_notices
+delivered-sits s a d v kept noticing sends differ reach h =
+    own_notices-sits (add_buffer (known_by s v) (buffer_of (known_by s v) a d v)) a.thread.seat a.process.made v.sending.items reach
+    (λ i l own x m is.
+    let w = sends.owned i l own in
+    elim (pairs-either Differ (s.objects ++ v.sending.made) differ x w.0 m w.1) [
+      | inl e ↦ ap (λ (y : Object). y.owner) e ∙ w.3
+      | inr e ↦ elim e [ inl f ↦ absurd (f (is ∙ sym w.2)) | inr f ↦ absurd (f (w.2 ∙ sym is)) ]
+    ])
+    (λ w o x l e i is. elim (in-append x s.objects v.sending.made i) [
+      | inl k ↦ h w o x l e k is
+      | inr k ↦ (
+          let old = noticing.live w o l e in
+          let lt = kept.kept.below old.0 old.1 in
+          let at = sends.makes.place x k in
+          let place : x.id.place ≡ old.0.id.place = ap (λ (j : ObjectId). j.place) (is ∙ sym old.2) in absurd (omega arith))
+    ])
+
+called-sits : (z : Space) (seat p : ℕ) (one_way : Bool) → SitsIn z → SitsIn (called z seat p one_way)
+unfolding call_out
+called-sits z seat p true h = h
+called-sits z seat p false h = owe-sits _ (goes_to z seat p) (work.Call z.steps) refl h
+
+-- what the delivery makes differs from what there was
+delivered-differ : (s : Space) (a : Actor) (d : TransactionData) (v : Delivery) → KeptBefore s → Sends s a.process.made v.sending.made v.sending.items → ((o : ObjectId) → v.target ≡ Some o → Here s.objects o)
+    → Pairs Differ (delivered s a d v).objects
+delivered-differ s a d v kept sends target = in_order-differ (delivered s a d v).objects (delivered-kept s a d v kept sends target).in_order
+
+pub transacted-sits : (s : Space) (seat : ℕ) (a : Actor) (d : TransactionData) (parcel : Option Parcel) (v : Delivery) → KeptBefore s → Noticing s → actor s seat ≡ Some a → transaction_check s a d parcel ≡ Ok v
+    → SitsIn s → SitsIn (transacted s a d v)
+unfolding transacted
+transacted-sits s seat a d parcel v kept noticing e check h =
+    let t = transaction-checked s a d parcel v check in
+    let z = delivered s a d v in
+    let sends = sending-sends s a.process.made d parcel v.sending t.sends in
+    let differ = delivered-differ s a d v kept sends (λ o f. let is : t.object ≡ o = (let k = t.target in cc) in (t.owned.object, t.owned.here, t.owned.id ∙ is)) in
+    called-sits (owe z (OfThread a.thread.seat) work.Complete) a.thread.seat v.receiver.made v.one_way
+    (owe-sits z (OfThread a.thread.seat) work.Complete refl (delivered-sits s a d v kept noticing sends differ (a.thread, actor-seat s seat a e, actor-process s seat a e) h))
+
+answered-sits : (z : Space) (caller : Option ℕ) (n : ℕ) → SitsIn z → SitsIn (elim caller as (λ (o : Option ℕ). Space) [ None ↦ z | Some t ↦ owe z (OfThread t) (work.Reply n) ])
+answered-sits z None n h = h
+answered-sits z (Some t) n h = owe-sits z (OfThread t) (work.Reply n) refl h
+
+pub closed-sits : (z : Space) (made : ℕ) → SitsIn z → SitsIn (closed z made)
+unfolding closed
+closed-sits z made h = h
+
+closed-reaches : (z : Space) (made seat p : ℕ) → Reaches z.threads (OfThread seat) p → Reaches (closed z made).threads (OfThread seat) p
+unfolding closed
+closed-reaches z made seat p h = h
+
+pub replied-sits : (s : Space) (seat : ℕ) (a : Actor) (d : TransactionData) (parcel : Option Parcel) (f : Frame) (v : Delivery) → KeptBefore s → Noticing s → actor s seat ≡ Some a → reply_check s a d parcel f ≡ Ok v
+    → SitsIn s → SitsIn (replied s a d f v)
+unfolding replied
+replied-sits s seat a d parcel f v kept noticing e check h =
+    let t = reply-checked s a d parcel f v check in
+    let x = closed s f.made in
+    let z = delivered x a d v in
+    let before = closed-before s f.made kept in
+    let sends = closed-sends s f.made a.process.made v.sending.made v.sending.items (sending-sends s a.process.made d parcel v.sending t.sends) in
+    let differ = delivered-differ x a d v before sends (λ o g. let none = t.target in absurd (cc)) in
+    answered-sits (owe z (OfThread a.thread.seat) work.Complete) f.caller s.steps
+    (owe-sits z (OfThread a.thread.seat) work.Complete refl
+    (delivered-sits x a d v before (closed-noticing s f.made noticing) sends differ
+    (closed-reaches s f.made a.thread.seat a.process.made (a.thread, actor-seat s seat a e, actor-process s seat a e)) (closed-sits s f.made h)))
+
+-- ---- deaths
+
+pub sits-on_deaths : KeptOnDeaths SitsIn
+sits-on_deaths = record {
+  others = λ z ds h. h;
+  dies = λ z p made h. owe-sits z (OfProcess p) (work.Death made) refl h;
+  clears = λ z t cookie h. owe-sits z (OfThread t) (work.Cleared cookie) refl h;
+}
+
+pub tell_deaths-sits : (z : Space) (p : ℕ) → SitsIn z → SitsIn (tell_deaths z p)
+tell_deaths-sits z p h = on-told SitsIn sits-on_deaths z p h

@@ -1,0 +1,166 @@
+-- The order in which an owner hears of an object, as states, and what a list of events has that goes through them.
+use Rattle.bd_laws.proofs.words.Logic.{◌≡◌, ℕ, suc, Bool, true, false, not, ◌||◌, List, [], ◌∷◌, ◌++◌, Option, Some, None, refl, ap, sym, subst, ◌∙◌, filter, append-nil, append_assoc, list_any, is_some, option_and_then}
+use Rattle.bd_audit.specs.Hearing.{Event, increfs, acquire, release, decrefs, increfs_done, acquire_done, is_return, same_event, by_turns, telling, IsAnswered, InOrder}
+
+-- Before its BR_INCREFS; told of the object weakly; told strongly; after its BR_DECREFS. The first value: whether the
+-- BR_INCREFS waits for its BC_INCREFS_DONE; the second: whether the last BR_ACQUIRE waits for its BC_ACQUIRE_DONE.
+pub data Hearing : Type 0 where
+  unheard : Hearing
+  weakly : Bool → Hearing
+  strongly : Bool → Bool → Hearing
+  ended : Hearing
+
+-- the state that an event leads to, if it may come there: what takes back waits until what it takes back is acknowledged,
+-- an acknowledgement answers what waits for it, and after BR_DECREFS nothing comes
+abbrev pub hears : Event → Hearing → Option Hearing
+hears increfs unheard = Some (weakly true)
+hears acquire (weakly waits) = Some (strongly waits true)
+hears release (strongly waits false) = Some (weakly waits)
+hears decrefs (weakly false) = Some ended
+hears increfs_done (weakly true) = Some (weakly false)
+hears increfs_done (strongly true waits) = Some (strongly false waits)
+hears acquire_done (strongly waits true) = Some (strongly waits false)
+hears _ _ = None
+
+abbrev pub hears_all : Hearing → List Event → Option Hearing
+hears_all x [] = Some x
+hears_all x (v ∷ vs) = option_and_then (λ y. hears_all y vs) (hears v x)
+
+-- ---- the returns alone
+
+-- what can still be told, with n turns to come
+abbrev rest_of : Hearing → ℕ → List Event
+rest_of unheard n = telling n
+rest_of (weakly waits) n = by_turns n ++ decrefs ∷ []
+rest_of (strongly waits waiting) n = release ∷ by_turns n ++ decrefs ∷ []
+rest_of ended n = []
+
+abbrev CanGo : Hearing → List Event → Type 0
+CanGo st es = (n : ℕ) × (rest : List Event) × (filter is_return es ++ rest ≡ rest_of st n)
+
+told-on : (es : List Event) (st : Hearing) → is_some (hears_all st es) ≡ true → CanGo st es
+told-on [] st h = (0, rest_of st 0, refl)
+told-on (increfs ∷ es) unheard h = let k = told-on es (weakly true) h in (k.0, k.1, ap (λ xs. increfs ∷ xs) k.2)
+told-on (acquire ∷ es) (weakly w) h = let k = told-on es (strongly w true) h in (suc k.0, k.1, ap (λ xs. acquire ∷ xs) k.2)
+told-on (release ∷ es) (strongly w false) h = let k = told-on es (weakly w) h in (k.0, k.1, ap (λ xs. release ∷ xs) k.2)
+told-on (decrefs ∷ es) (weakly false) h = let k = told-on es ended h in (0, k.1, ap (λ xs. decrefs ∷ xs) k.2)
+told-on (increfs_done ∷ es) (weakly true) h = told-on es (weakly false) h
+told-on (increfs_done ∷ es) (strongly true w) h = told-on es (strongly false w) h
+told-on (acquire_done ∷ es) (strongly w true) h = told-on es (strongly w false) h
+told-on (v ∷ es) st h = absurd (cc)
+
+-- ---- what is acknowledged
+
+-- the return and its acknowledgement, where one is waited for or came
+abbrev Knows : Hearing → List Event → Type 0
+Knows unheard es = Unit {0}
+Knows (weakly w) es = IsAnswered increfs increfs_done (not w) es
+Knows (strongly w a) es = IsAnswered increfs increfs_done (not w) es × IsAnswered acquire acquire_done (not a) es
+Knows ended es = Unit {0}
+
+any-push : (v x : Event) (xs : List Event) (b c : Bool) → list_any (same_event v) xs ≡ b → same_event v x ≡ c → list_any (same_event v) (xs ++ x ∷ []) ≡ (b || c)
+any-push v x [] b c h k = or-nil (same_event v x) b c h k
+  where
+    or-nil : (d b c : Bool) → false ≡ b → d ≡ c → (d || false) ≡ (b || c)
+    or-nil true b c h k = rw (sym h, sym k) refl
+    or-nil false b c h k = rw (sym h, sym k) refl
+any-push v x (y ∷ ys) b c h k = first (same_event v y) b h (any-push v x ys (list_any (same_event v) ys) c refl k)
+  where
+    first : (d b : Bool) → (d || list_any (same_event v) ys) ≡ b → list_any (same_event v) (ys ++ x ∷ []) ≡ (list_any (same_event v) ys || c) → (d || list_any (same_event v) (ys ++ x ∷ [])) ≡ (b || c)
+    first true b h k = rw (sym h) refl
+    first false b h k = k ∙ ap (λ e. e || c) h
+
+-- one event more, which isn't the return
+goes-on : (v done x : Event) (b c : Bool) (es : List Event) → same_event v x ≡ false → same_event done x ≡ c → IsAnswered v done b es → IsAnswered v done (b || c) (es ++ x ∷ [])
+goes-on v done x b c es other is k =
+    (k.0, k.1 ++ x ∷ [], ap (λ xs. xs ++ x ∷ []) k.2 ∙ append_assoc k.0 (v ∷ k.1) (x ∷ []), any-push v x k.1 false false k.3 other, any-push done x k.1 b c k.4 is)
+
+now-told : (v done : Event) (es : List Event) → IsAnswered v done false (es ++ v ∷ [])
+now-told v done es = (es, [], refl, refl, refl)
+
+-- one event more, which is neither the return nor its acknowledgement
+goes-past : (v done x : Event) (b : Bool) (es : List Event) → same_event v x ≡ false → same_event done x ≡ false → IsAnswered v done b es → IsAnswered v done b (es ++ x ∷ [])
+goes-past v done x true es other is k = goes-on v done x true false es other is k
+goes-past v done x false es other is k = goes-on v done x false false es other is k
+
+knows-next : (v : Event) (st now : Hearing) (es : List Event) → hears v st ≡ Some now → Knows st es → Knows now (es ++ v ∷ [])
+knows-next increfs unheard now es h k = let is : weakly true ≡ now = cc in subst (λ x. Knows x (es ++ increfs ∷ [])) is (now-told increfs increfs_done es)
+knows-next acquire (weakly w) now es h k =
+    let is : strongly w true ≡ now = cc in
+    subst (λ x. Knows x (es ++ acquire ∷ [])) is (goes-past increfs increfs_done acquire (not w) es refl refl k, now-told acquire acquire_done es)
+knows-next release (strongly w false) now es h k =
+    let is : weakly w ≡ now = cc in subst (λ x. Knows x (es ++ release ∷ [])) is (goes-past increfs increfs_done release (not w) es refl refl k.0)
+knows-next decrefs (weakly false) now es h k = let is : ended ≡ now = cc in subst (λ x. Knows x (es ++ decrefs ∷ [])) is tt
+knows-next increfs_done (weakly true) now es h k =
+    let is : weakly false ≡ now = cc in subst (λ x. Knows x (es ++ increfs_done ∷ [])) is (goes-on increfs increfs_done increfs_done false true es refl refl k)
+knows-next increfs_done (strongly true a) now es h k =
+    let is : strongly false a ≡ now = cc in
+    subst (λ x. Knows x (es ++ increfs_done ∷ [])) is
+    (goes-on increfs increfs_done increfs_done false true es refl refl k.0, goes-past acquire acquire_done increfs_done (not a) es refl refl k.1)
+knows-next acquire_done (strongly w true) now es h k =
+    let is : strongly w false ≡ now = cc in
+    subst (λ x. Knows x (es ++ acquire_done ∷ [])) is
+    (goes-past increfs increfs_done acquire_done (not w) es refl refl k.0, goes-on acquire acquire_done acquire_done false true es refl refl k.1)
+knows-next v st now es h k = absurd (cc)
+
+knows-all : (xs past : List Event) (st now : Hearing) → hears_all st xs ≡ Some now → Knows st past → Knows now (past ++ xs)
+knows-all [] past st now h k = let is : st ≡ now = cc in subst (Knows now) (sym (append-nil past)) (subst (λ x. Knows x past) is k)
+knows-all (v ∷ xs) past st now h k = of (hears v st) refl h (λ y g. knows-all xs (past ++ v ∷ []) y now g)
+  where
+    of : (f : Option Hearing) → hears v st ≡ f → option_and_then (λ y. hears_all y xs) f ≡ Some now
+        → ((y : Hearing) → hears_all y xs ≡ Some now → Knows y (past ++ v ∷ []) → Knows now ((past ++ v ∷ []) ++ xs)) → Knows now (past ++ v ∷ xs)
+    of None e g more = absurd (cc)
+    of (Some y) e g more = subst (Knows now) (append_assoc past (v ∷ []) xs) (more y g (knows-next v st y past e k))
+
+-- ---- lists in two parts
+
+pub hears-append : (xs ys : List Event) (st now : Hearing) → hears_all st xs ≡ Some now → hears_all st (xs ++ ys) ≡ hears_all now ys
+hears-append [] ys st now h = let is : st ≡ now = cc in ap (λ x. hears_all x ys) is
+hears-append (v ∷ vs) ys st now h = of (hears v st) (λ y k. hears-append vs ys y now k) h
+  where
+    of : (f : Option Hearing) → ((y : Hearing) → hears_all y vs ≡ Some now → hears_all y (vs ++ ys) ≡ hears_all now ys)
+        → option_and_then (λ y. hears_all y vs) f ≡ Some now → option_and_then (λ y. hears_all y (vs ++ ys)) f ≡ hears_all now ys
+    of None more k = absurd (cc)
+    of (Some y) more k = more y k
+
+-- what has been heard after the first part
+abbrev Parts : List Event → List Event → Hearing → Type 0
+Parts xs ys st = (now : Hearing) × (hears_all st xs ≡ Some now) × (is_some (hears_all now ys) ≡ true)
+
+parts : (xs ys : List Event) (st : Hearing) → is_some (hears_all st (xs ++ ys)) ≡ true → Parts xs ys st
+parts [] ys st h = (st, refl, h)
+parts (v ∷ xs) ys st h = of (hears v st) (λ y k. parts xs ys y k) h
+  where
+    of : (f : Option Hearing) → ((y : Hearing) → is_some (hears_all y (xs ++ ys)) ≡ true → Parts xs ys y) → is_some (option_and_then (λ y. hears_all y (xs ++ ys)) f) ≡ true
+        → (now : Hearing) × (option_and_then (λ y. hears_all y xs) f ≡ Some now) × (is_some (hears_all now ys) ≡ true)
+    of None more k = absurd (cc)
+    of (Some y) more k = more y k
+
+at-release : (now : Hearing) (front back : List Event) → is_some (hears_all now (release ∷ back)) ≡ true → Knows now front → IsAnswered acquire acquire_done true front
+at-release (strongly w false) front back h k = k.1
+at-release st front back h k = absurd (cc)
+
+at-decrefs : (now : Hearing) (front back : List Event) → is_some (hears_all now (decrefs ∷ back)) ≡ true → Knows now front → IsAnswered increfs increfs_done true front
+at-decrefs (weakly false) front back h k = k
+at-decrefs st front back h k = absurd (cc)
+
+at-acquire_done : (now : Hearing) (front back : List Event) → is_some (hears_all now (acquire_done ∷ back)) ≡ true → Knows now front → IsAnswered acquire acquire_done false front
+at-acquire_done (strongly w true) front back h k = k.1
+at-acquire_done st front back h k = absurd (cc)
+
+at-increfs_done : (now : Hearing) (front back : List Event) → is_some (hears_all now (increfs_done ∷ back)) ≡ true → Knows now front → IsAnswered increfs increfs_done false front
+at-increfs_done (weakly true) front back h k = k
+at-increfs_done (strongly true a) front back h k = k.0
+at-increfs_done st front back h k = absurd (cc)
+
+pub in-order : (es : List Event) → is_some (hears_all unheard es) ≡ true → InOrder es
+in-order es h = record {
+  told = told-on es unheard h;
+  before_release = λ front back e. let r = at front (release ∷ back) e in at-release r.0 front back r.2 (knows-all front [] unheard r.0 r.1 tt);
+  before_decrefs = λ front back e. let r = at front (decrefs ∷ back) e in at-decrefs r.0 front back r.2 (knows-all front [] unheard r.0 r.1 tt);
+  before_acquire_done = λ front back e. let r = at front (acquire_done ∷ back) e in at-acquire_done r.0 front back r.2 (knows-all front [] unheard r.0 r.1 tt);
+  before_increfs_done = λ front back e. let r = at front (increfs_done ∷ back) e in at-increfs_done r.0 front back r.2 (knows-all front [] unheard r.0 r.1 tt);
+}
+  where
+    at : (front back : List Event) → es ≡ front ++ back → Parts front back unheard
+    at front back e = parts front back unheard (subst (λ xs. is_some (hears_all unheard xs) ≡ true) e h)

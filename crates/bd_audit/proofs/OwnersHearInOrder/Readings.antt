@@ -1,0 +1,206 @@
+-- A reading tells of an object what goes on from what was heard of it.
+use Rattle.bd_laws.proofs.words.Logic.{◌≡◌, ℕ, suc, ◌+◌, ◌-◌, ◌≤◌, Bool, true, false, cond, ◌&&◌, List, [], ◌∷◌, ◌++◌, Option, Some, None, inl, inr, refl, ap, sym, subst, ◌∙◌, length, arith, list_any, flat_map, filter_map, nat_lt, is_some}
+use Rattle.bd_laws.proofs.words.Types.{Return, ObjectId, Object, Reference, Work, Thread, TodoList}
+use Rattle.bd_laws.proofs.words.Space.{same, Space, lives_in, held_in, strong_in, object_in, is_shaking, is_handshake, same_strength, notice_of, list_to_read, work_on, reads_in, is_on, returns_of, returns_of_object, bytes_read, shakes, handshakes, told_objects, told_of, is_told_by, read_by, taken, ends_read}
+use Rattle.bd_space.specs.declared.space.WorkKind.TheVariants as work
+use Rattle.bd_laws.proofs.words.Laws.{In, Before}
+use Rattle.bd_laws.proofs.Lists.{in-left, in-append, in-changed, any-found, any-in, find-in, find-some, pairs-filter}
+use Rattle.bd_laws.proofs.Tests.{both, and-both, same-eq, eq-same}
+use Rattle.bd_laws.proofs.IsInTurn.Ripening.{taken-in}
+use Rattle.bd_laws.proofs.Objects.{told-id}
+use Rattle.bd_laws.proofs.IsInTurn.Received.{one-object}
+use Rattle.bd_laws.proofs.NothingIsPending.Noticing.{Apart, Once, Noticing}
+use Rattle.bd_audit.specs.Hearing.{event_of, heard_in}
+use Rattle.bd_audit.proofs.OwnersHearInOrder.Orders.{Hearing, unheard, hears_all}
+use Rattle.bd_audit.proofs.OwnersHearInOrder.Tallies.{tally, tally-append, tally-first, tally-unmet}
+use Rattle.bd_audit.proofs.OwnersHearInOrder.Tracking.{is_weak, is_strong, waits, number, shaken, Tells, Tracks, HeardBefore, Same, tells-same, shaking-parts}
+use Rattle.bd_audit.proofs.OwnersHearInOrder.Returns.{Silent, is_strength, returns_by, turned, silent-heard, silent-untold, silent-shaken, once-heard, once-shaken, told-or-silent, speaks-told, all-handshakes}
+
+-- ---- reading
+
+held-of : (references : List Reference) (o : ObjectId) (r : Reference) → In r references → r.object ≡ o → held_in references o ≡ true
+held-of references o r l e = any-in (λ (y : Reference). same y.object o) r references l (eq-same r.object o e)
+
+strong-of : (references : List Reference) (o : ObjectId) (r : Reference) → In r references → r.object ≡ o → r.strong ≡ true → strong_in references o ≡ true
+strong-of references o r l e t = any-in (λ (y : Reference). y.strong && same y.object o) r references l (and-both r.strong (same r.object o) t (eq-same r.object o e))
+
+strong-held : (references : List Reference) (o : ObjectId) → strong_in references o ≡ true → held_in references o ≡ true
+strong-held references o h =
+    let r = any-found (λ (y : Reference). y.strong && same y.object o) references h in
+    held-of references o r.0 r.1 (same-eq r.0.object o (both r.0.strong (same r.0.object o) r.2).1)
+
+-- a Handshake keeps its object, in its strength
+shaken-found : (references : List Reference) (o : ObjectId) (b : Bool) → shaken references o b ≡ 1 → (r : Reference) × In r references × (is_shaking o b r ≡ true)
+shaken-found references o b h = at (list_any (is_shaking o b) references) refl
+  where
+    at : (c : Bool) → list_any (is_shaking o b) references ≡ c → (r : Reference) × In r references × (is_shaking o b r ≡ true)
+    at true e = any-found (is_shaking o b) references e
+    at false e = let none = tally-unmet (is_shaking o b) references e in absurd (omega arith)
+
+shaken-so : (references : List Reference) (o : ObjectId) (b : Bool) → shaken references o b ≡ 1 → cond b (strong_in references o) (held_in references o) ≡ true
+shaken-so references o true h =
+    let r = shaken-found references o true h in
+    let k = shaking-parts o true r.0 r.2 in
+    strong-of references o r.0 r.1 k.0 k.2
+shaken-so references o false h = let r = shaken-found references o false h in held-of references o r.0 r.1 (shaking-parts o false r.0 r.2).0
+
+-- where no Handshake refers to the object, no Handshake does so at all
+unheld : (references : List Reference) (o : ObjectId) → ((r : Reference) → In r references → is_handshake r.holder ≡ true) → ((b : Bool) → shaken references o b ≡ 0) → (r : Reference) → In r references → r.object ≡ o → ⊥
+unheld references o all none r l e = at r.strong refl
+  where
+    some : (b : Bool) → same_strength b r ≡ true → ⊥
+    some b s =
+        let yes = any-in (is_shaking o b) r references l (and-both (same_strength b r && same r.object o) (is_handshake r.holder) (and-both (same_strength b r) (same r.object o) s (eq-same r.object o e)) (all r l)) in
+        let first = tally-first (is_shaking o b) references yes in
+        let no = none b in absurd (omega arith)
+
+    at : (c : Bool) → r.strong ≡ c → ⊥
+    at true f = some true f
+    at false f = some false (rw f refl)
+
+returns-found : (s : Space) (o : ObjectId) (y : Object) → object_in s.objects o ≡ Some y
+    → returns_of s (work.Notice o) ≡ returns_by (held_in s.references y.id) (strong_in s.references y.id) y.told_weak y.told_strong y.ptr y.cookie
+unfolding returns_of
+returns-found s o y e = ap (returns_of_object s.references) e
+
+module _ (o : ObjectId) (st : Hearing) (s : Space) (before : Before s) (noticing : Noticing s) (h : HeardBefore o st s) (seat : ℕ) (ws : List Work) where
+  -- the references after the reading
+  abbrev pub references_now : List Reference
+  references_now = s.references ++ handshakes s 0 ws
+
+  abbrev pub Reads : Type 0
+  Reads = (now : Hearing) × (hears_all st (heard_in s o ws) ≡ Some now) × Tracks (held_in (read_by s seat ws).references o ≡ false) o now (read_by s seat ws) × ((suc s.steps ≤ o.place) → now ≡ unheard)
+
+  -- no Notice of the object was taken
+  reads-silent : Silent s o ws → Reads
+  unfolding read_by
+  reads-silent none = (st, ap (hears_all st) (silent-heard s o ws none), tracks, λ le. h.fresh (omega arith))
+    where
+      unchanged : Same o s.references references_now
+      unchanged = record {
+        shakes = λ b. let e = tally-append (is_shaking o b) s.references (handshakes s 0 ws) in let n = silent-shaken s o ws 0 b none in omega arith;
+        manages = λ r l e m. in-left r s.references (handshakes s 0 ws) l;
+      }
+
+      tracks : Tracks (held_in references_now o ≡ false) o st (read_by s seat ws)
+      tracks x l e live =
+          let z = in-changed (λ (x : Object). is_told_by ws x.id) (told_of s.references) x s.objects l in
+          let id : z.0.id ≡ o = sym (told-id s.references (is_told_by ws z.0.id) z.0) ∙ sym (ap (λ (y : Object). y.id) z.2) ∙ e in
+          let untold : is_told_by ws z.0.id ≡ false = ap (is_told_by ws) id ∙ silent-untold s o ws none in
+          let is : x ≡ z.0 = z.2 ∙ ap (λ c. cond c (told_of s.references z.0) z.0) untold in
+          subst (λ (y : Object). Tells (held_in references_now o ≡ false) references_now o y st) (sym is)
+          (tells-same ⊥ (held_in references_now o ≡ false) o s.references references_now z.0 st unchanged (λ n. absurd n)
+          (h.tracks z.0 z.1 id (subst (λ (y : Object). lives_in s.processes y.owner ≡ true) is live)))
+
+  -- one Notice of the object was taken
+  module _ (once : Once ws) (w : Work) (taken : In w ws) (notice : notice_of w.kind ≡ Some o) (y : Object) (here : In y s.objects) (id : y.id ≡ o) (found : object_in s.objects o ≡ Some y) where
+    returns : List Return
+    returns = returns_by (held_in s.references y.id) (strong_in s.references y.id) y.told_weak y.told_strong y.ptr y.cookie
+
+    heard-is : heard_in s o ws ≡ filter_map event_of returns
+    unfolding returns
+    heard-is = once-heard s o ws once w taken notice ∙ ap (filter_map event_of) (returns-found s o y found)
+
+    shaken-is : (b : Bool) → shaken references_now o b ≡ shaken s.references o b + tally (is_strength b) (flat_map shakes returns)
+    unfolding returns
+    shaken-is b =
+        let e = tally-append (is_shaking o b) s.references (handshakes s 0 ws) in
+        let f = once-shaken s o ws 0 b once w taken notice in
+        let g = ap (λ rs. tally (is_strength b) (flat_map shakes rs)) (returns-found s o y found) in
+        e ∙ ap (λ n. shaken s.references o b + n) (f ∙ g)
+
+    -- each object of this identity is the one that was told
+    told-is : (x : Object) → In x (told_objects s ws) → x.id ≡ o → x ≡ told_of s.references y
+    told-is x l e =
+        let z = in-changed (λ (x : Object). is_told_by ws x.id) (told_of s.references) x s.objects l in
+        let same_id : z.0.id ≡ o = sym (told-id s.references (is_told_by ws z.0.id) z.0) ∙ sym (ap (λ (y : Object). y.id) z.2) ∙ e in
+        let is : z.0 ≡ y = one-object s before.objects z.0 y z.1 here (same_id ∙ sym id) in
+        let told : is_told_by ws z.0.id ≡ true = ap (is_told_by ws) same_id ∙ speaks-told s o ws w taken notice in
+        z.2 ∙ ap (λ c. cond c (told_of s.references z.0) z.0) told ∙ ap (told_of s.references) is
+
+    reads-tells : Tells ⊥ s.references o y st → Reads
+    unfolding read_by returns
+    reads-tells (inl m) =
+        let r = m.manager in
+        let held : held_in s.references y.id ≡ true = held-of s.references y.id r.0 r.1 (r.2 ∙ sym id) in
+        let strong : strong_in s.references y.id ≡ true = strong-of s.references y.id r.0 r.1 (r.2 ∙ sym id) r.4 in
+        let none : returns ≡ [] = rw (held, strong, m.weak, m.strong) refl in (
+          st,
+          ap (hears_all st) (heard-is ∙ ap (filter_map event_of) none),
+          λ x l e live. subst (λ (z : Object). Tells (held_in references_now o ≡ false) references_now o z st) (sym (told-is x l e)) (inl (record {
+            start = m.start;
+            weak = held;
+            strong = strong;
+            manager = (r.0, in-left r.0 s.references (handshakes s 0 ws) r.1, r.2, r.3, r.4);
+            shakes = λ b. let k = shaken-is b in let n = m.shakes b in let t = ap (λ rs. tally (is_strength b) (flat_map shakes rs)) none in k ∙ ap (λ i. shaken s.references o b + i) t ∙ omega arith;
+          })),
+          λ le. m.start,
+        )
+    reads-tells (inr t) =
+        let held = held_in s.references y.id in
+        let strong = strong_in s.references y.id in
+        let k = turned st y.ptr y.cookie held strong (λ g. strong-held s.references y.id g)
+        (λ b g. subst (λ i. cond b (strong_in s.references i) (held_in s.references i) ≡ true) (sym id) (shaken-so s.references o b (t.shakes b ∙ ap number g))) t.over in
+        let is : returns ≡ returns_by held strong (is_weak st) (is_strong st) y.ptr y.cookie = ap (λ c. returns_by held strong c y.told_strong y.ptr y.cookie) t.weak ∙ ap (λ c. returns_by held strong (is_weak st) c y.ptr y.cookie) t.strong in
+        let count : (b : Bool) → shaken references_now o b ≡ number (waits k.now b) =
+        (λ b. shaken-is b ∙ ap (λ n. n + tally (is_strength b) (flat_map shakes returns)) (t.shakes b) ∙ ap (λ rs. number (waits st b) + tally (is_strength b) (flat_map shakes rs)) is ∙ k.shakes b) in (
+          k.now,
+          ap (hears_all st) (heard-is ∙ ap (filter_map event_of) is) ∙ k.hears,
+          λ x l e live. subst (λ (z : Object). Tells (held_in references_now o ≡ false) references_now o z k.now) (sym (told-is x l e)) (inr (record {
+            weak = k.held_now;
+            strong = k.strong_now;
+            shakes = count;
+            over = λ e. let was : held_in s.references o ≡ false = subst (λ i. held_in s.references i ≡ false) id (k.over e) in over-now was
+                (λ b. let c = count b in let z = ap (λ (v : Hearing). number (waits v b)) e in let m = tally-append (is_shaking o b) s.references (handshakes s 0 ws) in omega arith);
+          })),
+          λ le. absurd (let lt = before.objects.kept.below y here in let place : y.id.place ≡ o.place = ap (λ (i : ObjectId). i.place) id in omega arith),
+        )
+      where
+        over-now : held_in s.references o ≡ false → ((b : Bool) → shaken (handshakes s 0 ws) o b ≡ 0) → held_in references_now o ≡ false
+        over-now was none = at (held_in references_now o) refl
+          where
+            at : (c : Bool) → held_in references_now o ≡ c → c ≡ false
+            at false e = refl
+            at true e =
+                let r = any-found (λ (q : Reference). same q.object o) references_now e in
+                let id_r = same-eq r.0.object o r.2 in
+                elim (in-append r.0 s.references (handshakes s 0 ws) r.1) [
+                  | inl i ↦ (let yes = held-of s.references o r.0 i id_r in absurd (cc))
+                  | inr i ↦ absurd (unheld (handshakes s 0 ws) o (λ q m. all-handshakes s o ws 0 q m) none r.0 i id_r)
+                ]
+
+  reads-one : (w : Work) → In w ws → In w s.todo → notice_of w.kind ≡ Some o → Once ws → Reads
+  reads-one w l due e once =
+      let x = noticing.live w o due e in
+      at x.0 x.1 x.2 x.3 (object_in s.objects o) refl
+    where
+      at : (x : Object) → In x s.objects → x.id ≡ o → lives_in s.processes x.owner ≡ true → (f : Option Object) → object_in s.objects o ≡ f → Reads
+      at x i is live None f = let yes = find-some (λ (y : Object). same y.id o) x s.objects i (eq-same x.id o is) in absurd (let no : is_some (object_in s.objects o) ≡ false = rw f refl in cc)
+      at x i is live (Some y) f =
+          let k = find-in (λ (y : Object). same y.id o) y s.objects f in
+          let id = same-eq y.id o k.1 in
+          let one : x ≡ y = one-object s before.objects x y i k.0 (is ∙ sym id) in
+          reads-tells once w l e y k.0 id f (h.tracks y k.0 id (subst (λ (z : Object). lives_in s.processes z.owner ≡ true) one live))
+
+  pub reads-all : Once ws → ((w : Work) → In w ws → In w s.todo) → Reads
+  reads-all once due = elim (told-or-silent s o ws) [ inl w ↦ reads-one w.0 w.1 (due w.0 w.1) w.2 once | inr none ↦ reads-silent none ]
+
+-- ---- the items of a reading are no two Notices of one object
+
+module _ (s : Space) where
+  taken-once : (xs : List Work) (left : ℕ) → Once xs → Once (taken s left xs)
+  taken-once [] left h = h
+  taken-once (x ∷ xs) left h = at (nat_lt left 68) (ends_read x.kind) (taken-once xs (left - length (bytes_read s x)) h.1)
+    where
+      at : (b c : Bool) → Once (taken s (left - length (bytes_read s x)) xs) → Once (cond b [] (x ∷ cond c [] (taken s (left - length (bytes_read s x)) xs)))
+      at true c k = tt
+      at false true k = ((λ v l. absurd l), tt)
+      at false false k = ((λ v l. h.0 v (taken-in s xs (left - length (bytes_read s x)) v l)), k)
+
+  list-once : (todo : List Work) (o : Option TodoList) → Once todo → Once (work_on todo o)
+  list-once todo None h = tt
+  list-once todo (Some list) h = pairs-filter Apart (is_on list) todo h
+
+  pub read-list-once : (t : Thread) (left : ℕ) → Once s.todo → Once (taken s left (list_to_read s t))
+  unfolding list_to_read
+  read-list-once t left h = taken-once (work_on s.todo (reads_in s.frames s.todo t)) left (list-once s.todo (reads_in s.frames s.todo t) h)

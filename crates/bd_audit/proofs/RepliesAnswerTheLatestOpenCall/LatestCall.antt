@@ -1,0 +1,298 @@
+-- A reply answers the latest call of the thread that reads it whose answer isn't read yet.
+use Rattle.bd_laws.proofs.words.Logic.{◌≡◌, ℕ, ◌<◌, ◌≤◌, ◌-◌, ◌==◌, Bool, true, false, cond, ◌&&◌, List, [], ◌∷◌, length, map, Option, Some, None, ◌⊎◌, inl, inr, refl, ap, sym, subst, ◌∙◌, filter, arith, nat_lt, list_any, is_none, eqb-true, eq-eqb, cases_lt}
+use Rattle.bd_laws.proofs.words.Types.{Fault, Step, Read, Entry, Work, Thread, Actor, TodoList, OfThread, OfProcess, WorkKind}
+use Rattle.bd_laws.proofs.words.Space.{first_of, Space, opening, actor, is_frame, innermost_in, is_on, same_list, work_on, list_to_read, taken, ends_read, read_fault, bytes_read, History, after}
+use Rattle.bd_space.specs.declared.space.WorkKind.TheVariants as work
+use Rattle.bd_links.specs.TodoList.{reply_of, first_reply_in}
+use Rattle.bd_laws.specs.Lists.{In, Pairs}
+use Rattle.bd_laws.proofs.Lists.{in-filter, filter-in, pairs-filter, any-found, any-in}
+use Rattle.bd_laws.proofs.Tests.{both, and-both}
+use Rattle.bd_laws.proofs.IsInTurn.Ripening.{taken-in, read-in}
+use Rattle.bd_audit.specs.Replies.{thread_made, items_read, items_taken, items_unless, reply_taken, reply_taken_at, Answered, At}
+use Rattle.bd_audit.specs.Latest.{Closes, ReadsAnswer, Ended, AnswersLatest, is_answer, is_answer_of, before_reply}
+use Rattle.bd_audit.proofs.NamesHaveGiftChains.Chains.{always-steps}
+use Rattle.bd_audit.proofs.RepliesReachTheirCallers.Traces.{Called, at-more, at-below, actor-made}
+use Rattle.bd_audit.proofs.RepliesReachTheirCallers.ReplyTaken.{first-in}
+use Rattle.bd_audit.proofs.RepliesReachTheirCallers.ReplyLaw.{NoFrame, at-place, owed-after, took, taken-once, step-no_frame, no_frame-later, closed-no_frame}
+use Rattle.bd_audit.proofs.RepliesAnswerTheLatestOpenCall.Callers.{called-before}
+use Rattle.bd_audit.proofs.RepliesAnswerTheLatestOpenCall.Lined.{always-lined}
+use Rattle.bd_audit.proofs.RepliesAnswerTheLatestOpenCall.InLine.{NotLater}
+use Rattle.bd_audit.proofs.RepliesAnswerTheLatestOpenCall.EndedCalls.{always-answered}
+use Rattle.bd_audit.proofs.RepliesAnswerTheLatestOpenCall.OpenCalls.{Waits, WasRead}
+use Rattle.bd_audit.proofs.RepliesAnswerTheLatestOpenCall.SingleAnswers.{always-single}
+use Rattle.bd_audit.proofs.RepliesAnswerTheLatestOpenCall.LatestOpen as latest
+use Rattle.bd_audit.proofs.RepliesAnswerTheLatestOpenCall.LatestOpen.{same-place, latest-open}
+
+-- ---- of the items that a reading takes, the earlier ones stand before its reply
+
+module _ (s : Space) (w d : ℕ) (earlier : d < w) (v : Work) (place : v.id.place ≡ d) where
+  stands-before : (ws : List Work) (left : ℕ) → Pairs NotLater ws → ((x : Work) (b : ℕ) → In x ws → reply_of x.kind ≡ Some b → x.id.place ≡ b)
+      → In v ws → first_reply_in (taken s left ws) ≡ Some w → In v (before_reply (taken s left ws))
+  stands-before [] left sorted made l e = absurd l
+  stands-before (x ∷ xs) left sorted made l e =
+      at (nat_lt left 68) (λ i f. stands-before xs (left - length (bytes_read s x)) sorted.1 (λ y b l e. made y b (inr l) e) i f) e
+    where
+      head : (o : Option ℕ) → reply_of x.kind ≡ o → (ys : List Work) → (In v xs → first_reply_in ys ≡ Some w → In v (before_reply ys))
+          → first_of (o ∷ map (λ (y : Work). reply_of y.kind) ys) ≡ Some w → In v (cond (is_none o) (x ∷ before_reply ys) [])
+      head None r ys k f = elim l [ inl is ↦ inl is | inr i ↦ inr (k i f) ]
+      head (Some b) r ys k f =
+          let is : b ≡ w = (let j : Some b ≡ Some w = f in cc) in
+          let late = made x b (inl refl) r in
+          elim l [
+            | inl same ↦ (let p = ap (λ (y : Work). y.id.place) same in absurd (omega arith))
+            | inr i ↦ (let le : x.id.place ≤ v.id.place = sorted.0 v i in absurd (omega arith))
+          ]
+
+      tail : (b : Bool) → (In v xs → first_reply_in (taken s (left - length (bytes_read s x)) xs) ≡ Some w → In v (before_reply (taken s (left - length (bytes_read s x)) xs)))
+          → In v xs → first_reply_in (cond b [] (taken s (left - length (bytes_read s x)) xs)) ≡ Some w
+          → In v (before_reply (cond b [] (taken s (left - length (bytes_read s x)) xs)))
+      tail true k i f = absurd (cc)
+      tail false k i f = k i f
+
+      at : (b : Bool) → (In v xs → first_reply_in (taken s (left - length (bytes_read s x)) xs) ≡ Some w → In v (before_reply (taken s (left - length (bytes_read s x)) xs)))
+          → first_reply_in (cond b [] (x ∷ cond (ends_read x.kind) [] (taken s (left - length (bytes_read s x)) xs))) ≡ Some w
+          → In v (before_reply (cond b [] (x ∷ cond (ends_read x.kind) [] (taken s (left - length (bytes_read s x)) xs))))
+      at true k f = absurd (cc)
+      at false k f = head (reply_of x.kind) refl (cond (ends_read x.kind) [] (taken s (left - length (bytes_read s x)) xs)) (tail (ends_read x.kind) k) f
+
+-- ---- what a reading of a thread's own list takes
+
+module _ (s : Space) (seat : ℕ) (v : Work) (here : In v s.todo) (on : v.list ≡ OfThread seat) where
+  listed : is_on (OfThread seat) v ≡ true
+  listed = ap (λ x. same_list (OfThread seat) x) on ∙ eq-eqb seat seat refl
+
+  own-list : (th : Thread) → th.seat ≡ seat → list_to_read s th ≡ filter (is_on (OfThread seat)) s.todo
+  unfolding list_to_read
+  own-list th is =
+      ap (λ b. work_on s.todo (cond b (Some (OfThread th.seat)) (cond (th.looping && is_none (innermost_in s.frames th.seat)) (Some (OfProcess th.process)) None)))
+      (any-in (is_on (OfThread th.seat)) v s.todo here (subst (λ n. is_on (OfThread n) v ≡ true) (sym is) listed))
+      ∙ ap (λ n. filter (is_on (OfThread n)) s.todo) is
+
+-- what the step takes, if it takes anything
+record Reading (s : Space) (e : Entry) : Type 0 where
+  actor_is : Actor
+  limit : ℕ
+  acts : actor s e.seat ≡ Some actor_is
+  items : items_taken s e.seat e.step ≡ taken s (limit - 4) (list_to_read s actor_is.thread)
+
+reading : (s : Space) (e : Entry) (v : Work) → In v (items_taken s e.seat e.step) → Reading s e
+reading s e v l = at e.step refl l
+  where
+    faults : (limit : ℕ) (a : Actor) → actor s e.seat ≡ Some a → (o : Option Fault) → items_taken s e.seat e.step ≡ items_unless o (taken s (limit - 4) (list_to_read s a.thread))
+        → In v (items_unless o (taken s (limit - 4) (list_to_read s a.thread))) → Reading s e
+    faults limit a i (Some f) step k = absurd k
+    faults limit a i None step k = record { actor_is = a; limit = limit; acts = i; items = step }
+
+    acting : (limit : ℕ) (o : Option Actor) → actor s e.seat ≡ o → items_taken s e.seat e.step ≡ items_read s limit o → In v (items_read s limit o) → Reading s e
+    acting limit None i step k = absurd k
+    acting limit (Some a) i step k = faults limit a i (read_fault limit (list_to_read s a.thread)) step k
+
+    at : (x : Step) → e.step ≡ x → In v (items_taken s e.seat x) → Reading s e
+    at (Read limit) i k = acting limit (actor s e.seat) refl (ap (λ x. items_taken s e.seat x) i) k
+    at _ i k = absurd k
+
+-- where something stands on the thread's own list, all that its reading takes is of it
+module _ (s : Space) (e : Entry) (v : Work) (here : In v s.todo) (on : v.list ≡ OfThread e.seat) where
+  own-items : (r : Reading s e) → items_taken s e.seat e.step ≡ taken s (r.limit - 4) (filter (is_on (OfThread e.seat)) s.todo)
+  own-items r = r.items ∙ ap (λ ws. taken s (r.limit - 4) ws) (own-list s e.seat v here on r.actor_is.thread (actor-made s e.seat r.actor_is r.acts).0)
+
+  own-taken : (x : Work) → In x (items_taken s e.seat e.step) → In x s.todo × (x.list ≡ OfThread e.seat)
+  own-taken x l =
+      let r = reading s e x l in
+      let i = in-filter (is_on (OfThread e.seat)) x s.todo (taken-in s (filter (is_on (OfThread e.seat)) s.todo) (r.limit - 4) x (subst (In x) (own-items r) l)) in
+      (i.0, listed-on x.list i.1)
+    where
+      listed-on : (list : TodoList) → same_list (OfThread e.seat) list ≡ true → list ≡ OfThread e.seat
+      listed-on (OfThread u) q = ap (λ n. OfThread n) (sym (eqb-true e.seat u q))
+      listed-on (OfProcess p) q = absurd (cc)
+
+-- ---- a reply that is taken is the first
+
+reply-kind : (kind : WorkKind) (b : ℕ) → reply_of kind ≡ Some b → (is_answer kind ≡ true) × (ends_read kind ≡ true)
+reply-kind (work.Reply c) b h = (refl, refl)
+reply-kind _ b h = absurd (cc)
+
+module _ (s : Space) (v : Work) (b : ℕ) (is_reply : reply_of v.kind ≡ Some b) where
+  taken-first : (ws : List Work) (left : ℕ) → In v (taken s left ws) → first_reply_in (taken s left ws) ≡ Some b
+  taken-first [] left l = absurd l
+  taken-first (x ∷ xs) left l = at (nat_lt left 68) (taken-first xs (left - length (bytes_read s x))) l
+    where
+      rest : List Work
+      rest = taken s (left - length (bytes_read s x)) xs
+
+      head : (c : Bool) → ends_read x.kind ≡ c → (o : Option ℕ) → reply_of x.kind ≡ o → (In v rest → first_reply_in rest ≡ Some b) → (x ≡ v) ⊎ In v (cond c [] rest)
+          → first_of (o ∷ map (λ (y : Work). reply_of y.kind) (cond c [] rest)) ≡ Some b
+      head c q None r k (inl is) = let some = ap (λ (y : Work). reply_of y.kind) is ∙ is_reply in absurd (cc)
+      head c q (Some d) r k (inl is) = sym r ∙ ap (λ (y : Work). reply_of y.kind) is ∙ is_reply
+      head true q o r k (inr i) = absurd i
+      head false q None r k (inr i) = k i
+      head false q (Some d) r k (inr i) = let ends = (reply-kind x.kind d r).1 in absurd (cc)
+
+      at : (c : Bool) → (In v rest → first_reply_in rest ≡ Some b) → In v (cond c [] (x ∷ cond (ends_read x.kind) [] rest))
+          → first_reply_in (cond c [] (x ∷ cond (ends_read x.kind) [] rest)) ≡ Some b
+      at true k i = absurd i
+      at false k i = head (ends_read x.kind) refl (reply_of x.kind) refl k i
+
+-- what stands before the reply is none
+before-in : (ws : List Work) (v : Work) → In v (before_reply ws) → In v ws × (is_none (reply_of v.kind) ≡ true)
+before-in [] v l = absurd l
+before-in (x ∷ xs) v l = at (is_none (reply_of x.kind)) refl (before-in xs v) l
+  where
+    at : (b : Bool) → is_none (reply_of x.kind) ≡ b → (In v (before_reply xs) → In v xs × (is_none (reply_of v.kind) ≡ true)) → In v (cond b (x ∷ before_reply xs) [])
+        → In v (x ∷ xs) × (is_none (reply_of v.kind) ≡ true)
+    at true e k (inl is) = (inl is, ap (λ (y : Work). is_none (reply_of y.kind)) (sym is) ∙ e)
+    at true e k (inr i) = (inr (k i).0, (k i).1)
+    at false e k i = absurd i
+
+-- ---- a reply that stands is all that its step tells its thread
+
+module _ (es : List Entry) (e : Entry) (w : ℕ) (v : Work) (here : In v (after opening es).todo) (is_reply : reply_of v.kind ≡ Some w) (on : v.list ≡ OfThread e.seat) where
+  only-reply : (x : Work) → In x (items_taken (after opening es) e.seat e.step) → is_answer_of w x ≡ true → reply_of x.kind ≡ Some w
+  only-reply x l told =
+      let k = own-taken (after opening es) e v here on x l in
+      let t = both (is_answer x.kind) (x.id.place == w) told in
+      let is = always-single es v x e.seat here k.0 on k.1 (reply-kind v.kind w is_reply).0 t.0 ((owed-after es).made v w here is_reply ∙ sym (eqb-true x.id.place w t.1)) in
+      ap (λ (y : Work). reply_of y.kind) (sym is) ∙ is_reply
+
+-- ---- the law
+
+module _ (h : History) (s w : ℕ) (taken_is : reply_taken_at h s ≡ Some w) where
+  abbrev answer : Answered h s w
+  answer = latest.answer h s w taken_is
+
+  -- the space and the entry of the reading
+  p : At h.entries s (λ z e. reply_taken z e ≡ Some w)
+  p = at-place h s w taken_is
+
+  abbrev z : Space
+  z = after opening p.0
+
+  by : thread_made z p.1.seat ≡ Some answer.caller
+  by =
+      let same = same-place h.entries s (λ z e. thread_made z e.seat ≡ Some answer.caller) (λ z e. reply_taken z e ≡ Some w) answer.read p in
+      subst (λ (x : Entry). thread_made z x.seat ≡ Some answer.caller) same.1 (subst (λ xs. thread_made (after opening xs) answer.read.1.seat ≡ Some answer.caller) same.0 answer.read.3)
+
+  at-whole : (i : ℕ) (P : Space → Entry → Type 0) → At p.0 i P → At h.entries i P
+  at-whole i P x = subst (λ es. At es i P) (sym p.2.all) (at-more p.0 (p.1 ∷ p.2.rest) i P x)
+
+  module _ (j : ℕ) (later : answer.call < j) (early : j < s) (called : Called h.entries j answer.caller) where
+    abbrev first : (j < w) × At h.entries w (λ z e. list_any (is_frame j) z.frames ≡ false)
+    first = latest.ended h s w taken_is j later early called
+
+    -- its frame has closed for good
+    gone : (i : ℕ) (P : Space → Entry → Type 0) → (x : At h.entries i P) → w < i → NoFrame j (after opening x.0)
+    gone i P x lt =
+        let o = first.1 in
+        no_frame-later h.entries w i o.0 x.0 o.1 x.1 o.2 x.2 lt j first.0
+        (step-no_frame (after opening o.0) o.1 j (let a = always-steps o.0 in let b = o.2.at in let c = first.0 in omega arith) (closed-no_frame (after opening o.0) j o.3))
+
+    closed-first : (d : ℕ) → At h.entries d (λ z e. Closes z e j) → d < w
+    closed-first d x = elim (cases_lt d w) [
+      | inl lt ↦ lt
+      | inr ge ↦ elim (cases_lt w d) [
+        | inl lt ↦ (let f = any-found (is_frame j) (after opening x.0).frames x.3.stood in absurd (gone d (λ z e. Closes z e j) x lt f.0 f.1 (eqb-true f.0.made j f.2)))
+        | inr le ↦ (
+            let is : d ≡ w = omega arith in
+            let o = first.1 in
+            let same = same-place h.entries w (λ z e. Closes z e j) (λ z e. list_any (is_frame j) z.frames ≡ false) (subst (λ i. At h.entries i (λ z e. Closes z e j)) is x) o in
+            let stood_then = (subst (λ i. At h.entries i (λ z e. Closes z e j)) is x).3.stood in
+            let yes : list_any (is_frame j) (after opening o.0).frames ≡ true = subst (λ xs. list_any (is_frame j) (after opening xs).frames ≡ true) same.0 stood_then in
+            let none = o.3 in absurd (cc))
+      ]
+    ]
+
+    waits-ended : (d : ℕ) → At p.0 d (λ z e. Closes z e j) → Waits z p.1.seat d → Ended h.entries s w j answer.caller
+    unfolding reply_taken
+    waits-ended d closes v =
+        let closed = at-whole d (λ z e. Closes z e j) closes in
+        let lt = closed-first d closed in
+        let item = first-in (items_taken z p.1.seat p.1.step) w p.3 in
+        let r = reading z p.1 item.0 item.1 in
+        let lined = always-lined p.0 in
+        let items = own-items z p.1 v.0 v.1 v.2 r in
+        let here = stands-before z w d lt v.0 v.4 (filter (is_on (OfThread p.1.seat)) z.todo) (r.limit - 4)
+        (pairs-filter NotLater (is_on (OfThread p.1.seat)) z.todo lined.sorted)
+        (λ x b l e. (owed-after p.0).made x b (in-filter (is_on (OfThread p.1.seat)) x z.todo l).0 e)
+        (filter-in (is_on (OfThread p.1.seat)) v.0 z.todo v.1 (listed z p.1.seat v.0 v.1 v.2))
+        (sym (ap first_reply_in items) ∙ p.3) in
+        let told = any-in (is_answer_of d) v.0 (before_reply (taken z (r.limit - 4) (filter (is_on (OfThread p.1.seat)) z.todo))) here
+        (and-both (is_answer v.0.kind) (v.0.id.place == d) v.3 (eq-eqb v.0.id.place d v.4)) in
+        record {
+          made = first.0;
+          closed = d;
+          closed_first = lt;
+          closes = closed;
+          told = inr (p.0, p.1, p.2, ap (λ ws. list_any (is_answer_of d) (before_reply ws)) items ∙ told);
+        }
+
+    was-read : WasRead p.0 j answer.caller → Ended h.entries s w j answer.caller
+    was-read r =
+        let closed = at-whole r.closed (λ z e. Closes z e j) r.closes in
+        record {
+          made = first.0;
+          closed = r.closed;
+          closed_first = closed-first r.closed closed;
+          closes = closed;
+          told = inl (
+            r.read,
+            r.order,
+            (let lt = at-below p.0 r.read (λ z e. ReadsAnswer z e r.closed answer.caller) r.reads in let at = p.2.at in omega arith),
+            at-whole r.read (λ z e. ReadsAnswer z e r.closed answer.caller) r.reads,
+          );
+        }
+
+    ended : Ended h.entries s w j answer.caller
+    ended =
+        let past = called-before h.entries p.0 p.1 p.2.rest j answer.caller p.2.all (let at = p.2.at in omega arith) called in
+        elim (always-answered p.0 j answer.caller p.1.seat past by) [
+          | inl f ↦ absurd (gone s (λ z e. reply_taken z e ≡ Some w) p answer.reply_next f.0 f.1 f.2)
+          | inr x ↦ elim x [ inl v ↦ waits-ended v.0 v.1 v.2 | inr r ↦ was-read r ]
+        ]
+
+  -- ---- of the call itself nothing was read before
+
+  unanswered : (r : ℕ) → r < s → At h.entries r (λ z e. ReadsAnswer z e w answer.caller) → ⊥
+  unfolding reply_taken
+  unanswered r lt q =
+      let y = after opening q.0 in
+      let e = q.1 in
+      let x = any-found (is_answer_of w) (items_taken y e.seat e.step) q.3.taken in
+      let took_is = reading y e x.0 x.1 in
+      let l : In x.0 (taken y (took_is.limit - 4) (list_to_read y took_is.actor_is.thread)) = subst (In x.0) took_is.items x.1 in
+      let place = eqb-true x.0.id.place w (both (is_answer x.0.kind) (x.0.id.place == w) x.2).1 in
+      let next_is : w < r = (
+      let below = (always-lined q.0).place x.0 (read-in y took_is.actor_is.thread (took_is.limit - 4) x.0 l) in
+      let steps = always-steps q.0 in
+      let at = q.2.at in
+      omega arith)
+      in
+      let v = latest.unread-between h s w taken_is r next_is lt (q.0, q.1, q.2, q.3.by) in
+      let reply = only-reply q.0 e w v.0 v.1 v.2 v.3 x.0 x.1 x.2 in
+      let first_is = ap first_reply_in took_is.items ∙ taken-first y x.0 w reply (list_to_read y took_is.actor_is.thread) (took_is.limit - 4) l in
+      taken-once h.entries w r s (q.0, q.1, q.2, first_is) p next_is lt
+
+  none-first : At h.entries s (λ z e. list_any (is_answer_of w) (before_reply (items_taken z e.seat e.step)) ≡ false)
+  none-first = (p.0, p.1, p.2, at (list_any (is_answer_of w) (before_reply (items_taken z p.1.seat p.1.step))) refl)
+    where
+      at : (b : Bool) → list_any (is_answer_of w) (before_reply (items_taken z p.1.seat p.1.step)) ≡ b → b ≡ false
+      at true q =
+          let x = any-found (is_answer_of w) (before_reply (items_taken z p.1.seat p.1.step)) q in
+          let i = before-in (items_taken z p.1.seat p.1.step) x.0 x.1 in
+          let k = took z (owed-after p.0) p.1 w p.3 in
+          let reply = only-reply p.0 p.1 w k.item k.here k.reply k.list x.0 i.0 x.2 in
+          let some : is_none (reply_of x.0.kind) ≡ false = ap (λ (o : Option ℕ). is_none o) reply in
+          let none = i.1 in
+          absurd (cc)
+      at false q = refl
+
+  pub answers-latest : AnswersLatest h s w
+  answers-latest = record {
+    call = answer.call;
+    caller = answer.caller;
+    answers = answer.answers;
+    read = answer.read;
+    replied = latest-open h.entries w answer.call answer.caller answer.server answer.called answer.replied;
+    ended = ended;
+    unanswered = unanswered;
+    first = none-first;
+  }

@@ -1,0 +1,245 @@
+-- An accepted reply closes its caller's latest open call, and a thread with an unread reply makes no call.
+use Rattle.bd_laws.proofs.words.Logic.{◌≡◌, ℕ, ◌<◌, ◌≤◌, ◌==◌, Bool, true, false, not, ◌&&◌, ◌||◌, List, [], ◌∷◌, Option, Some, None, Result, Ok, Err, ◌⊎◌, inl, inr, refl, ap, sym, subst, ◌∙◌, arith, nat_le, list_any, is_some, is_none, option_map, option_and_then_some, eqb-true, eq-eqb, le-leb, leb-true, cases_lt}
+use Rattle.bd_laws.proofs.words.Types.{TransactionData, Cause, NotServing, Unread, Parcel, Command, Accepted, Entry, Work, Frame, Actor, OfThread, WorkKind}
+use Rattle.bd_laws.proofs.words.Space.{when, first_of, Space, opening, actor, calls, is_frame, innermost, innermost_in, served_innermost, made_of, has_unread, keeps_from_calling, is_on, same_list, Delivery, transaction_check, transaction_outcome, transaction_step, caller_cause, is_one_way, reply_check, reply_to, reply_outcome, reply_step, caller_of, command_step, change, by_actor, History, after}
+use Rattle.bd_uapi.specs.declared.command.Command.TheVariants as bc
+use Rattle.bd_space.specs.declared.space.WorkKind.TheVariants as work
+use Rattle.bd_links.specs.TodoList.{reply_of}
+use Rattle.bd_laws.specs.Lists.{In}
+use Rattle.bd_laws.proofs.Lists.{any-in, all-in}
+use Rattle.bd_laws.proofs.Checks.{reply-checked, transaction-may_call}
+use Rattle.bd_laws.proofs.OnPaths.PathWords.{served-is}
+use Rattle.bd_laws.proofs.OnPaths.Innermost.{innermost-is, innermost-childless, calls-true, true-calls, all-true}
+use Rattle.bd_laws.proofs.Always.{always-on_paths}
+use Rattle.bd_audit.specs.Replies.{thread_made, frame_of, reply_taken_at, Calls, AnswersCall, At, Answered}
+use Rattle.bd_audit.specs.Latest.{IsLatest}
+use Rattle.bd_audit.proofs.NamesHaveGiftChains.Chains.{always-steps}
+use Rattle.bd_audit.proofs.RepliesReachTheirCallers.Answering.{always-traced, absent}
+use Rattle.bd_audit.proofs.RepliesReachTheirCallers.Traces.{Called, Answers, answers-more, at-more, actor-made}
+use Rattle.bd_audit.proofs.RepliesReachTheirCallers.ReplyLaw.{reaches, stood, took, at-place, owed-after, no_reply-later, step-no_reply}
+use Rattle.bd_audit.proofs.Seated.{seat_at, always-seated}
+use Rattle.bd_audit.proofs.RepliesAnswerTheLatestOpenCall.Callers.{called-before, always-callers}
+
+-- ---- what an accepted step has tested
+
+record Reply (s : Space) (e : Entry) (d : TransactionData) (parcel : Option Parcel) : Type 0 where
+  actor_is : Actor
+  acts : actor s e.seat ≡ Some actor_is
+  frame : Frame
+  serves : served_innermost s actor_is.thread.seat ≡ Some frame
+  delivery : Delivery
+  checked : reply_check s actor_is d parcel frame ≡ Ok delivery
+
+reply-tested : (s : Space) (e : Entry) (d : TransactionData) (parcel : Option Parcel) → (change s e.seat (Command (bc.Reply d) parcel)).answer ≡ Accepted → Reply s e d parcel
+unfolding change command_step reply_step
+reply-tested s e d parcel h = at (actor s e.seat) refl h
+  where
+    checks : (a : Actor) → actor s e.seat ≡ Some a → (f : Frame) → served_innermost s a.thread.seat ≡ Some f → (r : Result Delivery Cause) → reply_check s a d parcel f ≡ r
+        → (reply_outcome s a d f r).answer ≡ Accepted → Reply s e d parcel
+    checks a i f j (Err x) k q = absurd (cc)
+    checks a i f j (Ok v) k q = record { actor_is = a; acts = i; frame = f; serves = j; delivery = v; checked = k }
+
+    serves : (a : Actor) → actor s e.seat ≡ Some a → (o : Option Frame) → served_innermost s a.thread.seat ≡ o → (reply_to s a d parcel o).answer ≡ Accepted → Reply s e d parcel
+    serves a i None j q = absurd (cc)
+    serves a i (Some f) j q = checks a i f j (reply_check s a d parcel f) refl q
+
+    at : (o : Option Actor) → actor s e.seat ≡ o → (by_actor s o (λ a. command_step s a (bc.Reply d) parcel)).answer ≡ Accepted → Reply s e d parcel
+    at None i q = absurd (cc)
+    at (Some a) i q = serves a i (served_innermost s a.thread.seat) refl q
+
+call-tested : (s : Space) (e : Entry) (d : TransactionData) (parcel : Option Parcel) → is_one_way d ≡ false → (change s e.seat (Command (bc.Transaction d) parcel)).answer ≡ Accepted
+    → caller_cause s e.seat ≡ None
+unfolding change command_step transaction_step
+call-tested s e d parcel two_way h = at (actor s e.seat) refl h
+  where
+    checks : (a : Actor) → actor s e.seat ≡ Some a → (r : Result Delivery Cause) → transaction_check s a d parcel ≡ r → (transaction_outcome s a d r).answer ≡ Accepted → caller_cause s e.seat ≡ None
+    checks a i (Err x) k q = absurd (cc)
+    checks a i (Ok v) k q = subst (λ n. caller_cause s n ≡ None) (actor-made s e.seat a i).0 (transaction-may_call s a d parcel v k two_way)
+
+    at : (o : Option Actor) → actor s e.seat ≡ o → (by_actor s o (λ a. command_step s a (bc.Transaction d) parcel)).answer ≡ Accepted → caller_cause s e.seat ≡ None
+    at None i q = absurd (cc)
+    at (Some a) i q = checks a i (transaction_check s a d parcel) refl q
+
+-- a thread with an unread reply has a cause against a call
+unread-stops : (s : Space) (seat b : ℕ) (w : Work) → In w s.todo → reply_of w.kind ≡ Some b → w.list ≡ OfThread seat → caller_cause s seat ≡ None → ⊥
+unfolding caller_cause has_unread
+unread-stops s seat b w l e on none =
+    at (is_some (innermost s seat) && is_none (served_innermost s seat)) (has_unread s seat) (any-in (λ (x : Work). is_on (OfThread seat) x && keeps_from_calling x.kind) w s.todo l (in-way (is_on (OfThread seat) w) (keeps_from_calling w.kind) listed (way w.kind e))) none
+  where
+    listed : is_on (OfThread seat) w ≡ true
+    listed = ap (λ x. same_list (OfThread seat) x) on ∙ eq-eqb seat seat refl
+
+    way : (k : WorkKind) → reply_of k ≡ Some b → keeps_from_calling k ≡ true
+    way (work.Reply c) h = refl
+    way _ h = absurd (cc)
+
+    in-way : (p q : Bool) → p ≡ true → q ≡ true → (p && q) ≡ true
+    in-way p q h k = rw (h, k) refl
+
+    at : (p q : Bool) → q ≡ true → first_of (when p NotServing ∷ when q Unread ∷ []) ≡ None → ⊥
+    at true q h k = absurd (cc)
+    at false true h k = absurd (cc)
+    at false false h k = absurd (cc)
+
+-- ---- one thread makes a call
+
+pub same-place : (es : List Entry) (i : ℕ) (P Q : Space → Entry → Type 0) (p : At es i P) (q : At es i Q) → (p.0 ≡ q.0) × (p.1 ≡ q.1)
+same-place es i P Q p q =
+    let a = stood es i p.0 p.1 p.2 in
+    let b = stood es i q.0 q.1 q.2 in
+    (sym a.1 ∙ b.1, (let k : Some p.1 ≡ Some q.1 = sym a.0 ∙ b.0 in cc))
+
+one-caller : (es : List Entry) (c m n : ℕ) → Called es c m → Called es c n → m ≡ n
+one-caller es c m n p q =
+    let k = same-place es c (λ z e. Calls z e m) (λ z e. Calls z e n) p q in
+    let a : thread_made (after opening q.0) q.1.seat ≡ Some m = subst (λ x. thread_made (after opening q.0) x.seat ≡ Some m) k.1 (subst (λ x. thread_made (after opening x) p.1.seat ≡ Some m) k.0 p.3.by) in
+    let b = q.3.by in
+    let j : Some m ≡ Some n = sym a ∙ b in cc
+
+one-closed : (es : List Entry) (w c d m n : ℕ) → At es w (λ z e. AnswersCall z e c m) → At es w (λ z e. AnswersCall z e d n) → c ≡ d
+one-closed es w c d m n p q =
+    let k = same-place es w (λ z e. AnswersCall z e c m) (λ z e. AnswersCall z e d n) p q in
+    let a : frame_of (after opening q.0) q.1 ≡ Some c = subst (λ x. frame_of (after opening q.0) x ≡ Some c) k.1 (subst (λ x. frame_of (after opening x) p.1 ≡ Some c) k.0 p.3.innermost) in
+    let b = q.3.innermost in
+    let j : Some c ≡ Some d = sym a ∙ b in cc
+
+-- ---- the frame that the reply closes
+
+calling : (s : Space) (f : Frame) (x : Actor) → caller_of s f ≡ Some x → (t : ℕ) × (f.caller ≡ Some t)
+unfolding caller_of
+calling s f x h = option_and_then_some (actor s) f.caller x h (λ t i j. (t, i))
+
+pub latest-open : (es : List Entry) (w c m n : ℕ) → Called es c m → At es w (λ z e. AnswersCall z e c n) → At es w (λ z e. IsLatest z c m)
+unfolding frame_of innermost
+latest-open es w c m n called k =
+    let s = after opening k.0 in
+    let e = k.1 in
+    let a = k.3 in
+    let r = reply-tested s e a.fields a.parcel (ap (λ x. (change s e.seat x).answer) (sym a.command) ∙ a.accepted) in
+    let f = r.frame in
+    let seat = r.actor_is.thread.seat in
+    let is = served-is s seat f r.serves in
+    let at_seat : innermost_in s.frames e.seat ≡ Some f = subst (λ x. innermost_in s.frames x ≡ Some f) (actor-made s e.seat r.actor_is r.acts).0 is.0 in
+    let made : f.made ≡ c = (let j : Some f.made ≡ Some c = sym (ap (option_map made_of) at_seat) ∙ a.innermost in cc) in
+    let caller = calling s f (reply-checked s r.actor_is a.fields a.parcel f r.delivery r.checked).caller (reply-checked s r.actor_is a.fields a.parcel f r.delivery r.checked).found in
+    let paths = always-on_paths k.0 in
+    let here = (innermost-is s.frames seat f is.0).0 in
+    let none = innermost-childless paths.0 s.frames paths.1.sorted paths.1.parents seat f is.0 is.1 in
+    let traced = (always-traced k.0).callers f caller.0 here caller.1 in
+    let before : Called es c traced.0 = called-later k traced.0 (subst (λ x. Called k.0 x traced.0) made traced.2) in (
+      k.0,
+      k.1,
+      k.2,
+      record {
+        seat = caller.0;
+        lives = subst (λ x. thread_made s caller.0 ≡ Some x) (one-caller es c traced.0 m before called) traced.1;
+        stands = any-in (λ (g : Frame). is_frame c g && calls caller.0 g) f s.frames here (both-true (is_frame c f) (calls caller.0 f) (eq-eqb f.made c made) (calls-true caller.0 f caller.1));
+        latest = all-in (λ (g : Frame). not (calls caller.0 g) || nat_le g.made c) s.frames (λ g l.
+            not-later (calls caller.0 g) g.made (λ yes.
+            subst (λ x. g.made ≤ x) made (paths.1.leaf f g here l (paths.1.shared caller.0 f g here l (inl caller.1) (inl (true-calls caller.0 g.caller yes))) none)));
+      },
+    )
+  where
+    both-true : (p q : Bool) → p ≡ true → q ≡ true → (p && q) ≡ true
+    both-true p q h k = rw (h, k) refl
+
+    not-later : (p : Bool) (x : ℕ) → (p ≡ true → x ≤ c) → (not p || nat_le x c) ≡ true
+    not-later true x h = le-leb x c (h refl)
+    not-later false x h = refl
+
+    called-later : (k : At es w (λ z e. AnswersCall z e c n)) (x : ℕ) → Called k.0 c x → Called es c x
+    called-later k x h = subst (λ y. Called y c x) (sym k.2.all) (at-more k.0 (k.1 ∷ k.2.rest) c (λ z e. Calls z e x) h)
+
+-- ---- while the reply is unread
+
+-- some item is this reply, or none
+find-reply : (todo : List Work) (b : ℕ) → ((v : Work) × In v todo × (reply_of v.kind ≡ Some b)) ⊎ ((v : Work) → In v todo → reply_of v.kind ≡ Some b → ⊥)
+find-reply [] b = inr (λ v l e. l)
+find-reply (x ∷ xs) b = at (reply_of x.kind) refl (find-reply xs b)
+  where
+    rest : (reply_of x.kind ≡ Some b → ⊥) → ((v : Work) × In v xs × (reply_of v.kind ≡ Some b)) ⊎ ((v : Work) → In v xs → reply_of v.kind ≡ Some b → ⊥)
+        → ((v : Work) × In v (x ∷ xs) × (reply_of v.kind ≡ Some b)) ⊎ ((v : Work) → In v (x ∷ xs) → reply_of v.kind ≡ Some b → ⊥)
+    rest other (inl k) = inl (k.0, inr k.1, k.2)
+    rest other (inr k) = inr (λ v l e. elim l [ inl is ↦ other (ap (λ (y : Work). reply_of y.kind) is ∙ e) | inr i ↦ k v i e ])
+
+    by : (c : ℕ) (q : Bool) → reply_of x.kind ≡ Some c → (c == b) ≡ q → ((v : Work) × In v xs × (reply_of v.kind ≡ Some b)) ⊎ ((v : Work) → In v xs → reply_of v.kind ≡ Some b → ⊥)
+        → ((v : Work) × In v (x ∷ xs) × (reply_of v.kind ≡ Some b)) ⊎ ((v : Work) → In v (x ∷ xs) → reply_of v.kind ≡ Some b → ⊥)
+    by c true e t k = inl (x, inl refl, e ∙ ap (λ n. Some n) (eqb-true c b t))
+    by c false e t k = rest (λ f. let is : c ≡ b = (let j : Some c ≡ Some b = sym e ∙ f in cc) in let yes = eq-eqb c b is in absurd (cc)) k
+
+    at : (o : Option ℕ) → reply_of x.kind ≡ o → ((v : Work) × In v xs × (reply_of v.kind ≡ Some b)) ⊎ ((v : Work) → In v xs → reply_of v.kind ≡ Some b → ⊥)
+        → ((v : Work) × In v (x ∷ xs) × (reply_of v.kind ≡ Some b)) ⊎ ((v : Work) → In v (x ∷ xs) → reply_of v.kind ≡ Some b → ⊥)
+    at None e k = rest (λ f. absurd (cc)) k
+    at (Some c) e k = by c (c == b) e refl k
+
+module _ (h : History) (s w : ℕ) (taken : reply_taken_at h s ≡ Some w) where
+  pub answer : Answered h s w
+  answer = reaches h s w taken
+
+  -- until it is read, the reply stands on the list of its thread
+  pub unread-between : (j : ℕ) → w < j → j < s → (k : At h.entries j (λ z e. thread_made z e.seat ≡ Some answer.caller))
+      → (v : Work) × In v (after opening k.0).todo × (reply_of v.kind ≡ Some w) × (v.list ≡ OfThread k.1.seat)
+  unread-between j after_reply before_reading k =
+      let p = at-place h s w taken in
+      let item = took (after opening p.0) (owed-after p.0) p.1 w p.3 in
+      let z = after opening k.0 in
+      elim (find-reply z.todo w) [
+        | inl v ↦ (
+            let on = (owed-after k.0).list v.0 w v.1 v.2 in
+            let t = (always-traced k.0).replies v.0 w on.0 v.1 v.2 on.1 in
+            let whole = answers-more k.0 (k.1 ∷ k.2.rest) w t.0 t.2 in
+            let here : Answers h.entries w t.0 = subst (λ es. Answers es w t.0) (sym k.2.all) whole in
+            let call : here.call ≡ answer.call = one-closed h.entries w here.call answer.call here.server answer.server here.replied answer.replied in
+            let caller : t.0 ≡ answer.caller = one-caller h.entries answer.call t.0 answer.caller (subst (λ c. Called h.entries c t.0) call here.called) answer.called in
+            let there = always-seated k.0 on.0 t.0 t.1 in
+            let mine = always-seated k.0 k.1.seat answer.caller k.3 in
+            let same : on.0 ≡ k.1.seat = (let i : Some on.0 ≡ Some k.1.seat = sym there ∙ ap (seat_at k.0) caller ∙ mine in cc) in
+            (v.0, v.1, v.2, on.1 ∙ ap (λ n. OfThread n) same))
+        | inr none ↦
+            absurd (no_reply-later h.entries j s k.0 p.0 k.1 p.1 k.2 p.2 before_reading w after_reply
+            (step-no_reply z k.1 w (let a = always-steps k.0 in let b = k.2.at in omega arith) none) item.item item.here item.reply)
+      ]
+
+  quiet-between : (j : ℕ) → w < j → j < s → At h.entries j (λ z e. Calls z e answer.caller) → ⊥
+  quiet-between j after_reply before_reading k =
+      let z = after opening k.0 in
+      let v = unread-between j after_reply before_reading (k.0, k.1, k.2, k.3.by) in
+      unread-stops z k.1.seat w v.0 v.1 v.2 v.3 (call-tested z k.1 k.3.fields k.3.parcel k.3.two_way (ap (λ x. (change z k.1.seat x).answer) (sym k.3.command) ∙ k.3.accepted))
+
+  -- a reply is no call
+  not-both : Called h.entries w answer.caller → ⊥
+  not-both k =
+      let same = same-place h.entries w (λ z e. Calls z e answer.caller) (λ z e. AnswersCall z e answer.call answer.server) k answer.replied in
+      let step : k.1.step ≡ answer.replied.1.step = ap (λ (x : Entry). x.step) same.1 in
+      let a = k.3.command in
+      let b = answer.replied.3.command in
+      let wrong : Command (bc.Transaction k.3.fields) k.3.parcel ≡ Command (bc.Reply answer.replied.3.fields) answer.replied.3.parcel = sym a ∙ step ∙ b in
+      absurd (cc)
+
+  pub ended : (j : ℕ) → answer.call < j → j < s → Called h.entries j answer.caller → (j < w) × At h.entries w (λ z e. list_any (is_frame j) z.frames ≡ false)
+  ended j later before_reading k = elim (cases_lt j w) [
+    | inl lt ↦ (
+        let o = latest-open h.entries w answer.call answer.caller answer.server answer.called answer.replied in
+        let z = after opening o.0 in
+        let past = called-before h.entries o.0 o.1 o.2.rest j answer.caller o.2.all (let a = o.2.at in omega arith) k in (
+          lt,
+          (
+            o.0,
+            o.1,
+            o.2,
+            absent j z.frames (λ g l is.
+                let caller = always-callers o.0 g answer.caller o.3.seat l (subst (λ c. Called o.0 c answer.caller) (sym is) past) o.3.lives in
+                let all = all-true (λ (x : Frame). not (calls o.3.seat x) || nat_le x.made answer.call) z.frames o.3.latest g l in
+                let le = not-later (calls o.3.seat g) g.made answer.call (calls-true o.3.seat g caller) all in
+                absurd (omega arith)),
+          ),
+        ))
+    | inr ge ↦ elim (cases_lt w j) [
+      | inl lt ↦ absurd (quiet-between j lt before_reading k)
+      | inr le ↦ (let same : j ≡ w = omega arith in absurd (not-both (subst (λ c. Called h.entries c answer.caller) same k)))
+    ]
+  ]
+    where
+      not-later : (p : Bool) (x c : ℕ) → p ≡ true → (not p || nat_le x c) ≡ true → x ≤ c
+      not-later true x c e q = leb-true x c q
+      not-later false x c e q = absurd (cc)

@@ -1,0 +1,177 @@
+-- Where a call stands open, and which list its thread reads.
+use Rattle.bd_laws.proofs.words.Logic.{◌≡◌, ℕ, zero, suc, ◌+◌, ◌<◌, ◌-◌, ◌==◌, Bool, true, false, cond, not, ◌&&◌, List, [], ◌∷◌, ◌++◌, length, length-append, Option, Some, None, Ok, Err, Result, ◌⊎◌, inl, inr, refl, ap, sym, subst, ◌∙◌, filter, arith, list_any, find, is_none, eqb-true, eq-eqb, cases_lt}
+use Rattle.bd_laws.proofs.words.Types.{TransactionData, DeadReply, FailedReply, TransactionComplete, Cause, Parcel, Command, Read, Accepted, Entry, Thread, Work, Frame, Actor, TodoList, OfThread, OfProcess, WorkKind}
+use Rattle.bd_laws.proofs.words.Space.{Space, opening, actor, closed, is_frame, is_gone, is_deepest_in, innermost_in, served_innermost, owe, is_on, is_item, is_call, same_list, list_to_read, work_on, has_work_in, ripen, follow, notify, work_goes, deaths_go, names_go, assign_numbers, objects_go, settle, settle_one, settle_times, is_abandoned, Delivery, delivered, completed, transaction_step, transaction_outcome, transaction_check, transacted, called, call_out, is_one_way, refusal, replied, reply_refused, without_buffer, ask, drop_asked, acknowledge, command_step, with_looping, read_by, taken, serve, read_fault, change, counted, by_actor, with_process, with_manager, after}
+use Rattle.bd_uapi.specs.declared.command.Command.TheVariants as bc
+use Rattle.bd_space.specs.declared.space.WorkKind.TheVariants as work
+use Rattle.bd_laws.specs.Lists.{In}
+use Rattle.bd_laws.proofs.Machine.EveryStep.{KeepsWhole, whole, keeps-both, every_whole_step}
+use Rattle.bd_laws.proofs.Machine.Table.{Any, set_up-by, changes-by, ripen-by, followed-by}
+use Rattle.bd_laws.proofs.Lists.{in-last, in-push, in-filter, filter-in, changed-in, find-in, any-found, any-in, by-last}
+use Rattle.bd_laws.proofs.Tests.{both, and-both, not-false}
+use Rattle.bd_laws.proofs.Checks.{transaction-checked}
+use Rattle.bd_laws.proofs.IsInTurn.Ripening.{read-in}
+use Rattle.bd_laws.proofs.ItemsAreToldApart.Identities.{item-id}
+use Rattle.bd_laws.proofs.OnPaths.PathWords.{served-is}
+use Rattle.bd_audit.specs.Replies.{made_in, thread_made, items_taken, Calls, At}
+use Rattle.bd_audit.specs.Latest.{Closes, ReadsAnswer, is_answer, is_answer_of}
+use Rattle.bd_audit.proofs.Beginnings.{after-append}
+use Rattle.bd_audit.proofs.NamesHaveGiftChains.Chains.{always-steps}
+use Rattle.bd_laws.proofs.IsInTurn.Ripening as read
+use Rattle.bd_audit.proofs.RepliesReachTheirCallers.Answering.{absent, closed-absent, always-traced, takes-items}
+use Rattle.bd_audit.proofs.RepliesReachTheirCallers.Traces.{Called, at-more, at-here, at-below, actor-made}
+use Rattle.bd_audit.proofs.RepliesReachTheirCallers.ReplyLaw.{NoFrame, stood, placed}
+use Rattle.bd_audit.proofs.Seated as seated
+use Rattle.bd_audit.proofs.Seated.{always-seated}
+use Rattle.bd_laws.proofs.OnPaths.Paths as path
+use Rattle.bd_laws.proofs.OnPaths.PathCalls as path_call
+use Rattle.bd_audit.proofs.RepliesAnswerTheLatestOpenCall.Callers as callers
+use Rattle.bd_audit.proofs.RepliesAnswerTheLatestOpenCall.Callers.{HasCallers, always-callers, called-before, seat-below}
+use Rattle.bd_audit.proofs.RepliesAnswerTheLatestOpenCall.Lined.{always-lined}
+use Rattle.bd_audit.proofs.RepliesAnswerTheLatestOpenCall.Unread.{Holds, Leaves, leaves_table, leaves_exits, holds-trans, holds-owe, sent-holds, transacted-leaves}
+use Rattle.bd_laws.proofs.Machine.Fields.{owe-steps, owe-frames, sent-steps, sent-frames, sent-threads, owe-threads}
+
+abbrev pub StandsIn : Space → ℕ → Type 0
+StandsIn z j = (f : Frame) × In f z.frames × (f.made ≡ j)
+
+-- the thread of the seat is still to read what the step at d told it of a call of its own
+abbrev pub Waits : Space → ℕ → ℕ → Type 0
+Waits z t d = (v : Work) × In v z.todo × (v.list ≡ OfThread t) × (is_answer v.kind ≡ true) × (v.id.place ≡ d)
+
+-- the thread made at m has read that the call made at j ended
+pub record WasRead (es : List Entry) (j m : ℕ) : Type 0 where
+  pub closed : ℕ
+  pub read : ℕ
+  pub order : closed < read
+  pub closes : At es closed (λ z e. Closes z e j)
+  pub reads : At es read (λ z e. ReadsAnswer z e closed m)
+
+abbrev pub Stays : List Entry → Space → ℕ → ℕ → ℕ → Type 0
+Stays es z j m t =
+    StandsIn z j ⊎ (((d : ℕ) × At es d (λ y e. Closes y e j) × Waits z t d) ⊎ WasRead es j m)
+
+abbrev pub Answered : List Entry → Space → Type 0
+Answered es z = (j m t : ℕ) → Called es j m → thread_made z t ≡ Some m → Stays es z j m t
+
+pub was-more : (es fs : List Entry) (j m : ℕ) → WasRead es j m → WasRead (es ++ fs) j m
+was-more es fs j m h = record {
+  closed = h.closed;
+  read = h.read;
+  order = h.order;
+  closes = at-more es fs h.closed (λ z e. Closes z e j) h.closes;
+  reads = at-more es fs h.read (λ z e. ReadsAnswer z e h.closed m) h.reads;
+}
+
+pub holds-waits : (z y : Space) (t d : ℕ) → Holds z.todo y.todo → Waits y t d → Waits z t d
+holds-waits z y t d h v = (v.0, h v.0 v.3 v.1, v.2, v.3, v.4)
+
+-- ---- a caller that is told
+
+abbrev pub told : Space → Option ℕ → WorkKind → Space
+told y caller kind = elim caller as (λ (o : Option ℕ). Space) [ None ↦ y | Some t ↦ owe y (OfThread t) kind ]
+
+pub told-frames : (y : Space) (caller : Option ℕ) (kind : WorkKind) → (told y caller kind).frames ≡ y.frames
+told-frames y None kind = refl
+told-frames y (Some t) kind = owe-frames y (OfThread t) kind
+
+pub told-threads : (y : Space) (caller : Option ℕ) (kind : WorkKind) → (told y caller kind).threads ≡ y.threads
+told-threads y None kind = refl
+told-threads y (Some t) kind = owe-threads y (OfThread t) kind
+
+pub told-steps : (y : Space) (caller : Option ℕ) (kind : WorkKind) → (told y caller kind).steps ≡ y.steps
+told-steps y None kind = refl
+told-steps y (Some t) kind = owe-steps y (OfThread t) kind
+
+pub told-holds : (y : Space) (caller : Option ℕ) (kind : WorkKind) → Holds (told y caller kind).todo y.todo
+told-holds y None kind = λ w a l. l
+told-holds y (Some t) kind = holds-owe y (OfThread t) kind
+
+pub told-waits : (y : Space) (caller : Option ℕ) (kind : WorkKind) (n : ℕ) → is_answer kind ≡ true → y.steps ≡ n → (t : ℕ) → caller ≡ Some t → Waits (told y caller kind) t n
+unfolding owe
+told-waits y None kind n a e t c = absurd (cc)
+told-waits y (Some u) kind n a e t c = (_, in-last _ y.todo, ap (λ x. OfThread x) (let j : u ≡ t = cc in j), a, e)
+
+-- ---- a call stays open while its server hasn't gone
+
+-- it stands, and its server hasn't gone
+abbrev pub Open : Space → ℕ → Type 0
+Open z n = StandsIn z n × ((g : Frame) → In g z.frames → g.made ≡ n → is_gone g.server ≡ false)
+
+module _ (n : ℕ) where
+  told-open : (y : Space) (caller : Option ℕ) (kind : WorkKind) → Open y n → Open (told y caller kind) n
+  told-open y None kind h = h
+  told-open y (Some t) kind h = subst (λ fs. ((f : Frame) × In f fs × (f.made ≡ n)) × ((g : Frame) → In g fs → g.made ≡ n → is_gone g.server ≡ false)) (sym (owe-frames y (OfThread t) kind)) h
+
+  closed-open : (z : Space) (f : Frame) → (f.made ≡ n → ⊥) → Open z n → Open (closed z f.made) n
+  unfolding closed
+  closed-open z f other h = (
+    (h.0.0, filter-in (λ (x : Frame). not (is_frame f.made x)) h.0.0 z.frames h.0.1 (not-false (is_frame f.made h.0.0) (at (h.0.0.made == f.made) refl)), h.0.2),
+    (λ g l is. h.1 g (in-filter (λ (x : Frame). not (is_frame f.made x)) g z.frames l).0 is),
+  )
+    where
+      at : (b : Bool) → (h.0.0.made == f.made) ≡ b → b ≡ false
+      at true e = absurd (other (sym (eqb-true h.0.0.made f.made e) ∙ h.0.2))
+      at false e = refl
+
+  settled-one : (z : Space) (o : Option Frame) → find (is_abandoned z.frames) z.frames ≡ o → Open z n → Open (settle_one z o) n
+  settled-one z None e h = h
+  settled-one z (Some f) e h =
+      let k = find-in (is_abandoned z.frames) f z.frames e in
+      let gone = (both (is_gone f.server) _ k.1).0 in
+      told-open (closed z f.made) f.caller (work.Verdict DeadReply) (closed-open z f (λ is. let here = h.1 f k.0 is in absurd (cc)) h)
+
+  settled-times : (m : ℕ) (z : Space) → Open z n → Open (settle_times m z) n
+  settled-times zero z h = h
+  settled-times (suc m) z h = settled-one (settle_times m z) (find (is_abandoned (settle_times m z).frames) (settle_times m z).frames) refl (settled-times m z h)
+
+  completed-open : (z : Space) → Open z n → Open (completed z) n
+  unfolding completed settle ripen follow notify work_goes deaths_go objects_go names_go
+  completed-open z h = settled-times (length z.frames) (follow (ripen z)) h
+
+framed-open : (y : Space) (seat p n : ℕ) → y.steps ≡ n → ((f : Frame) → In f y.frames → f.made < n) → Open (call_out y seat p) n
+unfolding call_out owe
+framed-open y seat p n steps below = (
+  (_, in-last _ y.frames, steps),
+  (λ g l is. elim (in-push g _ y.frames l) [
+    | inl i ↦ (let lt = below g i in absurd (omega arith))
+    | inr new ↦ ap (λ (x : Frame). is_gone x.server) (sym new)
+  ]),
+)
+
+transacted-open : (s : Space) (a : Actor) (d : TransactionData) (v : Delivery) → v.one_way ≡ false → ((f : Frame) → In f s.frames → f.made < s.steps) → Open (transacted s a d v) s.steps
+unfolding transacted
+transacted-open s a d v two_way below = at v.one_way two_way
+  where
+    at : (b : Bool) → b ≡ false → Open (called (owe (delivered s a d v) (OfThread a.thread.seat) work.Complete) a.thread.seat v.receiver.made b) s.steps
+    at true e = absurd (cc)
+    at false e =
+        framed-open (owe (delivered s a d v) (OfThread a.thread.seat) work.Complete) a.thread.seat v.receiver.made s.steps (sent-steps s a d v)
+        (λ g l. below g (subst (In g) (sent-frames s a d v) l))
+
+pub called-stands : (s : Space) (seat : ℕ) (d : TransactionData) (parcel : Option Parcel) → ((f : Frame) → In f s.frames → f.made < s.steps) → is_one_way d ≡ false
+    → (change s seat (Command (bc.Transaction d) parcel)).answer ≡ Accepted → StandsIn (change s seat (Command (bc.Transaction d) parcel)).space s.steps
+unfolding change command_step transaction_step
+called-stands s seat d parcel below two_way h = at (actor s seat) h
+  where
+    checks : (a : Actor) (r : Result Delivery Cause) → transaction_check s a d parcel ≡ r → (transaction_outcome s a d r).answer ≡ Accepted → StandsIn (transaction_outcome s a d r).space s.steps
+    checks a (Err x) k q = absurd (cc)
+    checks a (Ok v) k q = (completed-open s.steps (transacted s a d v) (transacted-open s a d v ((transaction-checked s a d parcel v k).one_way ∙ two_way) below)).0
+
+    at : (o : Option Actor) → (by_actor s o (λ a. command_step s a (bc.Transaction d) parcel)).answer ≡ Accepted → StandsIn (by_actor s o (λ a. command_step s a (bc.Transaction d) parcel)).space s.steps
+    at None q = absurd (cc)
+    at (Some a) q = checks a (transaction_check s a d parcel) refl q
+
+-- ---- which list is read
+
+-- what a thread reads of a thread's list is of its own
+pub read-on : (s : Space) (th : Thread) (left : ℕ) (w : Work) (t : ℕ) → In w (taken s left (list_to_read s th)) → w.list ≡ OfThread t → t ≡ th.seat
+unfolding list_to_read
+read-on s th left w t l on = at (has_work_in s.todo (OfThread th.seat)) (th.looping && is_none (innermost_in s.frames th.seat)) (read.taken-in s (list_to_read s th) left w l)
+  where
+    own : (list : TodoList) → In w (filter (is_on list) s.todo) → same_list list (OfThread t) ≡ true
+    own list i = ap (λ x. same_list list x) (sym on) ∙ (in-filter (is_on list) w s.todo i).1
+
+    at : (b c : Bool) → In w (work_on s.todo (cond b (Some (OfThread th.seat)) (cond c (Some (OfProcess th.process)) None))) → t ≡ th.seat
+    at true c i = sym (eqb-true th.seat t (own (OfThread th.seat) i))
+    at false true i = let wrong = own (OfProcess th.process) i in absurd (cc)
+    at false false i = absurd i

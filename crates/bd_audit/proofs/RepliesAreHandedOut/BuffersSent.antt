@@ -1,0 +1,222 @@
+-- Each reply that is due has its buffer, through transactions and replies.
+use Rattle.bd_laws.proofs.words.Logic.{◌≡◌, ℕ, suc, ◌-◌, ◌==◌, Bool, true, false, cond, not, ◌&&◌, List, [], ◌∷◌, ◌++◌, Option, Some, None, Ok, inl, inr, refl, ap, sym, subst, ◌∙◌, map, filter, arith, fold, list_any, option_and_then, eqb-true, eq-eqb}
+use Rattle.bd_laws.proofs.words.Types.{TransactionData, Parcel, Step, Entry, Process, Thread, Buffer, Frame, Turn, Work, Actor, TodoList, OfThread, OfProcess, WorkKind}
+use Rattle.bd_laws.proofs.words.Space.{changed, is_some_and, Space, opening, actor, with_work, owe, is_on, same_list, is_item, hands_out, list_to_read, turn_of, turns_of, ripen, ripened, is_ripe, follow, notify, work_goes, deaths_go, names_go, assign_numbers, objects_go, closed, goes_to, Delivery, delivered, own_notices, add_buffer, known_by, refer, make_objects, buffer_of, transacted, called, call_out, caller_of, reply_check, replied, without_buffer, is_made_at, buffer_at_pointer, is_buffer_at, taken, read_by, buffer_taken, handed_buffers, hand_out, thread_goes, is_lost_with, threads_go, without_process, tell_deaths, seat_of, counted, with_thread, with_process, with_manager, ask, drop_asked, acknowledge, with_looping, after, next}
+use Rattle.bd_space.specs.declared.space.WorkKind.TheVariants as work
+use Rattle.bd_links.specs.TodoList.{reply_of}
+use Rattle.bd_laws.proofs.words.Laws.{In, IsInTurn}
+use Rattle.bd_laws.proofs.Machine.EveryStep.{Keeps, every_step, every_list}
+use Rattle.bd_laws.proofs.IsInTurn.Received.{one-made}
+use Rattle.bd_laws.proofs.Lists.{in-left, in-last, in-push, in-filter, filter-in, in-filter_map, changed-in, map-in, any-found, any-in, find-in, fold-keeps}
+use Rattle.bd_laws.proofs.Tests.{both, not-true}
+use Rattle.bd_laws.proofs.Checks.{actor-lives, reply-checked}
+use Rattle.bd_laws.proofs.IsInTurn.OneWay.{Less, owe-less, own_notices-less}
+use Rattle.bd_laws.proofs.IsInTurn.InTurn.{Turning, opening-in_turn}
+use Rattle.bd_laws.proofs.IsInTurn.Ripening.{taken-due, read-in, turn-parts}
+use Rattle.bd_laws.proofs.OnPaths.PathWords.{same-item}
+use Rattle.bd_laws.proofs.Machine.Deaths.{tell_deaths-aside, on-mapped, on-both, on-commands, commands-both, on_deaths-aside}
+use Rattle.bd_laws.proofs.IsInTurn.OneWay as one_way
+use Rattle.bd_laws.proofs.IsInTurn.InTurn as turn
+use Rattle.bd_laws.proofs.OnPaths.PathCalls as path_call
+use Rattle.bd_audit.proofs.Seated as seated
+use Rattle.bd_laws.proofs.Machine.Fields.{closed-steps, closed-threads, owe-buffers, sent-steps, sent-threads, owe-threads}
+use Rattle.bd_laws.proofs.AtHome.HomesSent.{caller-acts}
+use Rattle.bd_laws.proofs.IsInTurn.Passing.{at_pointer-in}
+
+-- the buffer of the reply made at b, which stands on this list: one of a thread of the process that receives it
+pub record HasBuffer (threads : List Thread) (buffers : List Buffer) (list : TodoList) (b : ℕ) : Type 0 where
+  pub buffer : Buffer
+  pub here : In buffer buffers
+  pub made : buffer.made ≡ b
+  pub handed : buffer.handed ≡ false
+  pub two_way : buffer.one_way ≡ false
+  pub thread : Thread
+  pub lives : In thread threads
+  pub on : list ≡ OfThread thread.seat
+  pub receiver : thread.process ≡ buffer.receiver
+
+-- Each reply has its buffer, and no other item hands that over. So the buffer can't go with another item, nor be freed before
+-- the reply is read.
+pub record Held (threads : List Thread) (buffers : List Buffer) (todo : List Work) : Type 0 where
+  pub buffer : (w : Work) (b : ℕ) → In w todo → reply_of w.kind ≡ Some b → HasBuffer threads buffers w.list b
+  pub one : (v w : Work) (b : ℕ) → In v todo → In w todo → hands_out v.kind ≡ Some b → reply_of w.kind ≡ Some b → v ≡ w
+
+abbrev pub RepliesHeld : Space → Type 0
+RepliesHeld z = Held z.threads z.buffers z.todo
+
+pub reply-hands : (k : WorkKind) (b : ℕ) → reply_of k ≡ Some b → hands_out k ≡ Some b
+reply-hands (work.Reply c) b e = e
+reply-hands _ b e = absurd (cc)
+
+pub has-moved : (ts us : List Thread) (bs cs : List Buffer) (list : TodoList) (b : ℕ) → (x : HasBuffer ts bs list b) → In x.buffer cs → In x.thread us → HasBuffer us cs list b
+has-moved ts us bs cs list b x here lives =
+    record { buffer = x.buffer; here = here; made = x.made; handed = x.handed; two_way = x.two_way; thread = x.thread; lives = lives; on = x.on; receiver = x.receiver }
+
+-- ---- nothing more that hands a buffer over, and no buffer and no thread less
+
+pub record Grows (z y : Space) : Type 0 where
+  pub due : (w : Work) (m : ℕ) → In w z.todo → hands_out w.kind ≡ Some m → In w y.todo
+  pub buffers : (c : Buffer) → In c y.buffers → In c z.buffers
+  pub threads : (t : Thread) → In t y.threads → (u : Thread) × In u z.threads × (u.seat ≡ t.seat) × (u.process ≡ t.process)
+
+pub grown : (z y : Space) → Grows z y → RepliesHeld y → RepliesHeld z
+grown z y k h = record {
+  buffer = λ w b l e.
+      let x = h.buffer w b (k.due w b l (reply-hands w.kind b e)) e in
+      let u = k.threads x.thread x.lives in
+      record {
+        buffer = x.buffer;
+        here = k.buffers x.buffer x.here;
+        made = x.made;
+        handed = x.handed;
+        two_way = x.two_way;
+        thread = u.0;
+        lives = u.1;
+        on = x.on ∙ ap (λ n. OfThread n) (sym u.2);
+        receiver = u.3 ∙ x.receiver;
+      };
+  one = λ v w b i j e f. h.one v w b (k.due v b i e) (k.due w b j (reply-hands w.kind b f)) e f;
+}
+
+pub calm : (z y : Space) → Less z y → z.buffers ≡ y.buffers → z.threads ≡ y.threads → RepliesHeld y → RepliesHeld z
+calm z y l bs ts h =
+    grown z y (record {
+      due = l.due;
+      buffers = λ c i. subst (In c) (sym bs) i;
+      threads = λ t i. (t, subst (In t) (sym ts) i, refl, refl);
+    }) h
+
+-- ---- one item more
+
+module _ (threads : List Thread) (buffers : List Buffer) (place : ℕ) (todo : List Work) where
+  -- a call whose buffer is no reply's
+  pub call-held : (list : TodoList) (n : ℕ) → ((w : Work) → In w todo → reply_of w.kind ≡ Some n → ⊥) → Held threads buffers todo
+      → Held threads buffers (with_work place todo list (work.Call n))
+  call-held list n none h = record {
+    buffer = λ w b l e. h.buffer w b (was w b l e) e;
+    one = λ v w b i j e f. elim (in-push v _ todo i) [
+      | inl l ↦ h.one v w b l (was w b j f) e f
+      | inr is ↦ (
+          let k : Some n ≡ Some b = ap (λ (x : Work). hands_out x.kind) is ∙ e in
+          absurd (none w (was w b j f) (f ∙ sym k)))
+    ];
+  }
+    where
+      was : (w : Work) (b : ℕ) → In w (with_work place todo list (work.Call n)) → reply_of w.kind ≡ Some b → In w todo
+      was w b l e = elim (in-push w _ todo l) [ inl i ↦ i | inr is ↦ (let no : None ≡ reply_of w.kind = ap (λ (x : Work). reply_of x.kind) is in absurd (cc)) ]
+
+  -- a reply whose buffer no item hands over
+  reply-held : (t n : ℕ) → ((v : Work) → In v todo → hands_out v.kind ≡ Some n → ⊥) → HasBuffer threads buffers (OfThread t) n → Held threads buffers todo
+      → Held threads buffers (with_work place todo (OfThread t) (work.Reply n))
+  reply-held t n none x h = record {
+    buffer = λ w b l e. elim (in-push w _ todo l) [
+      | inl i ↦ h.buffer w b i e
+      | inr is ↦ (
+          let k : Some n ≡ Some b = ap (λ (y : Work). reply_of y.kind) is ∙ e in
+          let m : n ≡ b = (let j : Some n ≡ Some b = k in cc) in
+          subst (λ l. HasBuffer threads buffers l b) (ap (λ (y : Work). y.list) is) (subst (HasBuffer threads buffers (OfThread t)) m x))
+    ];
+    one = λ v w b i j e f. elim (in-push v _ todo i) [
+      | inl l ↦ elim (in-push w _ todo j) [
+        | inl m ↦ h.one v w b l m e f
+        | inr is ↦ (let k : Some n ≡ Some b = ap (λ (y : Work). reply_of y.kind) is ∙ f in absurd (none v l (e ∙ sym k)))
+      ]
+      | inr was ↦ elim (in-push w _ todo j) [
+        | inl m ↦ (let k : Some n ≡ Some b = ap (λ (y : Work). hands_out y.kind) was ∙ e in absurd (none w m (reply-hands w.kind b f ∙ sym k)))
+        | inr is ↦ sym was ∙ is
+      ]
+    ];
+  }
+
+-- ---- what changes neither buffers nor threads
+
+pub owed : (z : Space) (list : TodoList) (kind : WorkKind) → hands_out kind ≡ None → RepliesHeld z → RepliesHeld (owe z list kind)
+owed z list kind none h = calm (owe z list kind) z (owe-less z list kind none) (owe-buffers z list kind) (owe-threads z list kind) h
+
+-- ---- transactions and replies
+
+delivered-due : (s : Space) (a : Actor) (d : TransactionData) (v : Delivery) (w : Work) (m : ℕ) → In w (delivered s a d v).todo → hands_out w.kind ≡ Some m → In w s.todo
+unfolding delivered own_notices add_buffer known_by assign_numbers refer make_objects
+delivered-due s a d v w m l e = own_notices-less (add_buffer (known_by s v) (buffer_of (known_by s v) a d v)) a.thread.seat v.sending.items w m l e
+
+abbrev pub sent : Space → Actor → TransactionData → Delivery → Space
+sent s a d v = owe (delivered s a d v) (OfThread a.thread.seat) work.Complete
+
+sent-due : (s : Space) (a : Actor) (d : TransactionData) (v : Delivery) (w : Work) (m : ℕ) → In w (sent s a d v).todo → hands_out w.kind ≡ Some m → In w s.todo
+sent-due s a d v w m l e = delivered-due s a d v w m ((owe-less (delivered s a d v) (OfThread a.thread.seat) work.Complete refl).due w m l e) e
+
+sent-buffers : (s : Space) (a : Actor) (d : TransactionData) (v : Delivery) → (sent s a d v).buffers ≡ s.buffers ++ buffer_of (known_by s v) a d v ∷ []
+unfolding owe delivered own_notices add_buffer known_by assign_numbers refer make_objects
+sent-buffers s a d v = refl
+
+sends : (s : Space) (a : Actor) (d : TransactionData) (v : Delivery) → RepliesHeld s → RepliesHeld (sent s a d v)
+sends s a d v h =
+    grown (sent s a d v) s (record {
+      due = sent-due s a d v;
+      buffers = λ c l. subst (In c) (sym (sent-buffers s a d v)) (in-left c s.buffers _ l);
+      threads = λ t l. (t, subst (In t) (sym (sent-threads s a d v)) l, refl, refl);
+    }) h
+
+calls-out : (y : Space) (seat p : ℕ) (one_way : Bool) → ((w : Work) → In w y.todo → reply_of w.kind ≡ Some y.steps → ⊥) → RepliesHeld y → RepliesHeld (called y seat p one_way)
+unfolding call_out owe
+calls-out y seat p true none h = h
+calls-out y seat p false none h = call-held y.threads y.buffers y.steps y.todo (goes_to y seat p) y.steps none h
+
+-- nothing that is due hands over the buffer of a step to come
+unmade : (s : Space) → IsInTurn s → (w : Work) → In w s.todo → hands_out w.kind ≡ Some s.steps → ⊥
+unmade s turns w l e = let lt = turns.fresh s.steps (w, l, e) in absurd (omega arith)
+
+pub transacts : (s : Space) (a : Actor) (d : TransactionData) (v : Delivery) → IsInTurn s → RepliesHeld s → RepliesHeld (transacted s a d v)
+unfolding transacted
+transacts s a d v turns h =
+    calls-out (sent s a d v) a.thread.seat v.receiver.made v.one_way
+    (λ w l e.
+    let k = reply-hands w.kind s.steps (e ∙ ap (λ n. Some n) (sent-steps s a d v)) in
+    unmade s turns w (sent-due s a d v w s.steps l k) k)
+    (sends s a d v h)
+
+answers : (y : Space) (caller : Option ℕ) (n : ℕ) → ((v : Work) → In v y.todo → hands_out v.kind ≡ Some n → ⊥)
+    → ((t : ℕ) → caller ≡ Some t → HasBuffer y.threads y.buffers (OfThread t) n) → RepliesHeld y
+    → RepliesHeld (elim caller as (λ (o : Option ℕ). Space) [ None ↦ y | Some t ↦ owe y (OfThread t) (work.Reply n) ])
+unfolding owe
+answers y None n none has h = h
+answers y (Some t) n none has h = reply-held y.threads y.buffers y.steps y.todo t n none (has t refl) h
+
+pub closes : (z : Space) (made : ℕ) → RepliesHeld z → RepliesHeld (closed z made)
+unfolding closed
+closes z made h = h
+
+-- the reply's buffer is the caller's process's, and its thread lives
+fits : (s x : Space) (t : ℕ) (a c : Actor) (d : TransactionData) (v : Delivery) → x.steps ≡ s.steps → x.threads ≡ s.threads → actor s t ≡ Some c
+    → v.receiver ≡ c.process → v.one_way ≡ false → HasBuffer (sent x a d v).threads (sent x a d v).buffers (OfThread t) s.steps
+unfolding known_by assign_numbers refer make_objects
+fits s x t a c d v steps threads acts to two_way =
+    let k = actor-lives s t c acts in
+    let u = find-in (λ (y : Thread). y.seat == t) c.thread s.threads k.0 in
+    let q = find-in (λ (y : Process). y.made == c.thread.process) c.process s.processes k.1 in
+    record {
+      buffer = buffer_of (known_by x v) a d v;
+      here = subst (In (buffer_of (known_by x v) a d v)) (sym (sent-buffers x a d v)) (in-last (buffer_of (known_by x v) a d v) x.buffers);
+      made = steps;
+      handed = refl;
+      two_way = two_way;
+      thread = c.thread;
+      lives = subst (In c.thread) (sym (sent-threads x a d v ∙ threads)) u.0;
+      on = ap (λ n. OfThread n) (sym (eqb-true c.thread.seat t u.1));
+      receiver = sym (ap (λ (y : Process). y.made) to ∙ eqb-true c.process.made c.thread.process q.1);
+    }
+
+closed-todo : (s : Space) (made : ℕ) → (closed s made).todo ≡ s.todo
+unfolding closed
+closed-todo s made = refl
+
+pub replies : (s : Space) (a : Actor) (d : TransactionData) (parcel : Option Parcel) (f : Frame) (v : Delivery) → IsInTurn s → reply_check s a d parcel f ≡ Ok v → RepliesHeld s
+    → RepliesHeld (replied s a d f v)
+unfolding replied
+replies s a d parcel f v turns checked h =
+    let x = closed s f.made in
+    let r = reply-checked s a d parcel f v checked in
+    answers (sent x a d v) f.caller s.steps
+    (λ w l e. unmade s turns w (subst (In w) (closed-todo s f.made) (sent-due x a d v w s.steps l e)) e)
+    (λ t e. fits s x t a r.caller d v (closed-steps s f.made) (closed-threads s f.made) (caller-acts s f t r.caller r.found e) r.receiver r.one_way)
+    (sends x a d v (closes s f.made h))

@@ -1,0 +1,129 @@
+-- What a refusal or a verdict tells its reader is never a BR_REPLY.
+use Rattle.bd_laws.proofs.words.Logic.{◌≡◌, ℕ, ◌-◌, Bool, true, false, cond, not, List, [], ◌∷◌, ◌++◌, Option, Some, None, inl, inr, refl, ap, sym, ◌∙◌, filter, list_any}
+use Rattle.bd_laws.proofs.words.Types.{TransactionData, DeadReply, FailedReply, TransactionComplete, Cause, Step, Entry, Frame, Work, Actor, TodoList, OfThread, OfProcess, WorkKind}
+use Rattle.bd_laws.proofs.words.Space.{Space, opening, with_work, owe, is_on, is_notice, is_item, list_to_read, ripen, follow, notify, work_goes, deaths_go, still_due, names_go, assign_numbers, objects_go, closed, goes_to, Delivery, delivered, own_notices, add_buffer, known_by, refer, make_objects, buffer_of, transacted, called, call_out, refusal, replied, reply_refused, without_buffer, taken, read_by, thread_goes, threads_go, without_process, tell_deaths, counted, ask, drop_asked, acknowledge, with_looping, after, next}
+use Rattle.bd_uapi.specs.declared.fault.Cause.TheVariants as cause
+use Rattle.bd_space.specs.declared.space.WorkKind.TheVariants as work
+use Rattle.bd_laws.specs.Lists.{In}
+use Rattle.bd_laws.proofs.Machine.EveryEnding.{set_up-beside}
+use Rattle.bd_laws.proofs.Machine.EveryStep.{KeepsWhole, every_whole_step, every_list}
+use Rattle.bd_laws.proofs.Lists.{in-push, in-filter}
+use Rattle.bd_laws.proofs.Machine.Deaths.{KeptOnDeaths, on-kept, on-told, on-commands}
+use Rattle.bd_laws.proofs.Machine.Adding.{told-keeps, notify-keeps, own_notices-keeps, ripen-keeps}
+use Rattle.bd_laws.proofs.Machine.Following.{threads-keep}
+use Rattle.bd_audit.specs.HandedReplies.{is_reply}
+use Rattle.bd_laws.proofs.Machine.Table.{Table, Listing, Between, listing_table, listing_exits, set_up-by, changes-by, sent-by, transacted-by, ripen-by, followed-by}
+
+-- a return that the item itself carries is no BR_REPLY
+abbrev pub is_plain : WorkKind → Bool
+is_plain (work.Refusal r) = not (is_reply r)
+is_plain (work.Verdict r) = not (is_reply r)
+is_plain _ = true
+
+abbrev pub Plain : List Work → Type 0
+Plain todo = (w : Work) → In w todo → is_plain w.kind ≡ true
+
+abbrev pub IsPlain : Space → Type 0
+IsPlain z = Plain z.todo
+
+refusal-plain : (c : Cause) → is_plain (work.Refusal (refusal c)) ≡ true
+refusal-plain cause.NotStronglyNamed = refl
+refusal-plain cause.NoManager = refl
+refusal-plain cause.OwnManager = refl
+refusal-plain cause.DeadOwner = refl
+refusal-plain cause.NotServing = refl
+refusal-plain cause.Unread = refl
+refusal-plain cause.OutsideArea = refl
+refusal-plain cause.OffsetsSize = refl
+refusal-plain cause.BadObject = refl
+refusal-plain cause.UnsupportedObject = refl
+refusal-plain cause.OtherCookie = refl
+refusal-plain cause.NotHeld = refl
+refusal-plain cause.NoRoom = refl
+refusal-plain cause.OverBudget = refl
+refusal-plain cause.NoCall = refl
+refusal-plain cause.CallerGone = refl
+
+-- ---- one item more, and fewer
+
+push-plain : (todo : List Work) (x : Work) → is_plain x.kind ≡ true → Plain todo → Plain (todo ++ x ∷ [])
+push-plain todo x k h w l = elim (in-push w x todo l) [ inl i ↦ h w i | inr is ↦ ap (λ (y : Work). is_plain y.kind) (sym is) ∙ k ]
+
+-- one list of items is plain if the other is
+abbrev Kept : List Work → List Work → Type 0
+Kept xs ys = Plain ys → Plain xs
+
+abbrev Allowed : WorkKind → Type 0
+Allowed kind = is_plain kind ≡ true
+
+listing : Listing Kept Allowed
+listing = record {
+  same = λ todo h. h;
+  trans = λ xs ys zs h k l. h (k l);
+  push = push-plain;
+  fewer = λ p todo h w l. h w (in-filter p w todo l).0;
+  notice = λ o. refl;
+  death = λ made. refl;
+  clear = λ cookie. refl;
+}
+
+abbrev Keeping : Space → Space → Type 0
+Keeping = Between Kept Allowed listing
+
+table : Table Keeping Allowed
+table = listing_table Kept Allowed listing
+
+told : (z : Space) (caller : Option ℕ) (kind : WorkKind) → is_plain kind ≡ true → IsPlain z
+    → IsPlain (elim caller as (λ (o : Option ℕ). Space) [ None ↦ z | Some t ↦ owe z (OfThread t) kind ])
+told z caller kind k = told-keeps IsPlain kind (λ z t. table.owes z (OfThread t) kind k) z caller
+
+closes : (z : Space) (made : ℕ) → IsPlain z → IsPlain (closed z made)
+unfolding closed
+closes z made h = h
+
+-- ---- transactions and replies
+
+sends : (s : Space) (a : Actor) (d : TransactionData) (v : Delivery) → IsPlain s → IsPlain (owe (delivered s a d v) (OfThread a.thread.seat) work.Complete)
+unfolding add_buffer
+sends = sent-by Keeping Allowed table (λ z o. listing.fewer _ z.todo) (λ z b h. h) refl
+
+transacts : (s : Space) (a : Actor) (d : TransactionData) (v : Delivery) → IsPlain s → IsPlain (transacted s a d v)
+unfolding add_buffer call_out owe
+transacts = transacted-by Keeping Allowed table (λ z o. listing.fewer _ z.todo) (λ z b h. h) refl (λ z seat p. push-plain z.todo _ refl)
+
+replies : (s : Space) (a : Actor) (d : TransactionData) (f : Frame) (v : Delivery) → IsPlain s → IsPlain (replied s a d f v)
+unfolding replied
+replies s a d f v h =
+    let x = closed s f.made in
+    told (owe (delivered x a d v) (OfThread a.thread.seat) work.Complete) f.caller (work.Reply s.steps) refl (sends x a d v (closes s f.made h))
+
+fails : (s : Space) (seat : ℕ) (f : Frame) → IsPlain s → IsPlain (reply_refused s seat f)
+unfolding reply_refused
+fails s seat f h =
+    let x = owe s (OfThread seat) (work.Refusal TransactionComplete) in
+    told (closed x f.made) f.caller (work.Verdict FailedReply) refl (closes x f.made (table.owes s (OfThread seat) (work.Refusal TransactionComplete) refl h))
+
+-- ---- every step
+
+kept : (s : Space) (seat : ℕ) (x : Step) → IsPlain s → KeepsWhole s seat x IsPlain IsPlain
+unfolding read_by
+kept s seat x h = record {
+  set_up = set_up-by Keeping Allowed table s seat x IsPlain (λ z k. k h);
+  changes = changes-by Keeping Allowed table s seat x IsPlain (λ z k. k h) (listing_exits Kept Allowed listing) (record {
+    transacts = λ a d parcel v e i t. transacts s a d v h;
+    replies = λ a d parcel f v e i g t. replies s a d f v h;
+    reads = λ a limit e i n. listing.fewer _ s.todo h;
+    ripens = ripen-by Keeping Allowed table (λ made. refl);
+  });
+  follows = followed-by Keeping Allowed table;
+  refuses = λ t c. table.owes s (OfThread t) (work.Refusal (refusal c)) (refusal-plain c) h;
+  fails = λ a d parcel f e i g. fails s a.thread.seat f h;
+  abandons = λ z f e k. told (closed z f.made) f.caller (work.Verdict DeadReply) refl (closes z f.made k);
+}
+
+step-plain : (s : Space) (e : Entry) → IsPlain s → IsPlain (next s e)
+unfolding counted
+step-plain s e h = every_whole_step s e.seat e.step IsPlain IsPlain (kept s e.seat e.step h)
+
+pub always-plain : (es : List Entry) → IsPlain (after opening es)
+always-plain es = every_list IsPlain step-plain es opening (λ w l. absurd l)

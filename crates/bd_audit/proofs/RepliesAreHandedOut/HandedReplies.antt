@@ -1,0 +1,271 @@
+-- What a reading hands out has a BR_REPLY exactly where the reading takes a reply.
+use Rattle.bd_laws.proofs.words.Logic.{◌≡◌, ℕ, ◌-◌, Bool, true, false, cond, not, ◌&&◌, ◌||◌, List, [], ◌∷◌, ◌++◌, append_assoc, Option, Some, None, Result, Ok, Err, inl, inr, refl, ap, sym, subst, ◌∙◌, map, list_any, concat, flat_map, find, option_map, is_some, eq-eqb, list_any-append}
+use Rattle.bd_laws.proofs.words.Types.{TransactionData, Return, Cause, Fault, Note, NotHandedOut, ObjectId, Parcel, Step, Open, Attach, SetManager, Command, Read, ExitThread, ExitProcess, StepAnswer, Got, Accepted, Noted, Entry, Process, Object, Reference, Frame, Buffer, Work, Actor, DeathNotification, WorkKind}
+use Rattle.bd_laws.proofs.words.Space.{first_of, Space, opening, actor, thread_in, process_with_pid, object_in, held_in, strong_in, list_to_read, served_innermost, Delivery, transaction_step, transaction_outcome, transaction_check, reply_step, reply_to, reply_outcome, reply_check, free_step, free_outcome, buffer_at_pointer, without_buffer, is_made_at, ask_step, ask_check, drop_step, drop_check, done_step, done_check, acknowledge, ask, drop_asked, request_step, request_check, is_notification, requested, clear_step, clear_check, death_done_step, death_done_outcome, told_death, cleared, command_step, read_step, read_taking, read_fault, got, taken, buffer_taken, stream_of, bytes_read, buffer_in, data_of, one, returns_of, returns_of_object, exit_thread_step, exit_process_step, Outcome, completed, refused, by_check, change, open_step, open_outcome, open_fault, attach_step, attach_outcome, manager_step, manager_outcome, is_manager_busy, by_actor, History, IsHistory, Follows, after}
+use Rattle.bd_uapi.specs.declared.command.Command as command
+use Rattle.bd_uapi.specs.declared.command.Command.TheVariants as bc
+use Rattle.bd_uapi.specs.declared.command.Return.TheVariants as br
+use Rattle.bd_codec.specs.Spelling.{return_bytes}
+use Rattle.bd_space.specs.declared.space.WorkKind.TheVariants as work
+use Rattle.bd_links.specs.TodoList.{reply_of, first_reply_in}
+use Rattle.bd_laws.specs.Lists.{In}
+use Rattle.bd_laws.proofs.Lists.{find-some}
+use Rattle.bd_laws.proofs.Tests.{not-true}
+use Rattle.bd_laws.proofs.IsInTurn.Ripening.{read-in}
+use Rattle.bd_audit.specs.Hearing.{is_got}
+use Rattle.bd_audit.specs.Replies.{items_read, items_taken, items_unless, reply_taken, At}
+use Rattle.bd_audit.specs.Streams.{SpellsItems}
+use Rattle.bd_audit.specs.HandedReplies.{is_reply, HandsOut}
+use Rattle.bd_audit.proofs.Beginnings.{follows-rest}
+use Rattle.bd_audit.proofs.RepliesAreHandedOut.ReplyBuffers.{always-held}
+use Rattle.bd_audit.proofs.RepliesAreHandedOut.BuffersSent.{RepliesHeld}
+use Rattle.bd_audit.proofs.RepliesAreHandedOut.CarriedReturns.{is_plain, always-plain}
+
+-- ---- the returns that one item gives
+
+abbrev HasReply : List Return → Bool
+HasReply rs = list_any is_reply rs
+
+none-if : (b : Bool) (r : Return) → is_reply r ≡ false → HasReply (cond b (r ∷ []) []) ≡ false
+none-if true r e = rw e refl
+none-if false r e = refl
+
+none-both : (xs ys : List Return) → HasReply xs ≡ false → HasReply ys ≡ false → HasReply (xs ++ ys) ≡ false
+none-both xs ys h k = list_any-append is_reply xs ys ∙ rw (h, k) refl
+
+notice-none : (references : List Reference) (o : Option Object) → HasReply (returns_of_object references o) ≡ false
+notice-none references None = refl
+notice-none references (Some x) =
+    let held = held_in references x.id in
+    let strong = strong_in references x.id in
+    let increfs : List Return = cond (held && not x.told_weak) (br.Increfs x.ptr x.cookie ∷ []) [] in
+    let acquire : List Return = cond (strong && not x.told_strong) (br.Acquire x.ptr x.cookie ∷ []) [] in
+    let release : List Return = cond (x.told_strong && not strong) (br.Release x.ptr x.cookie ∷ []) [] in
+    let decrefs : List Return = cond (x.told_weak && not held) (br.Decrefs x.ptr x.cookie ∷ []) [] in
+    none-both (increfs ++ acquire ++ release) decrefs
+    (none-both (increfs ++ acquire) release
+    (none-both increfs acquire (none-if (held && not x.told_weak) (br.Increfs x.ptr x.cookie) refl) (none-if (strong && not x.told_strong) (br.Acquire x.ptr x.cookie) refl))
+    (none-if (x.told_strong && not strong) (br.Release x.ptr x.cookie) refl))
+    (none-if (x.told_weak && not held) (br.Decrefs x.ptr x.cookie) refl)
+
+carried-none : (r : Return) → not (is_reply r) ≡ true → HasReply (r ∷ []) ≡ false
+carried-none r h = rw (not-true (is_reply r) h) refl
+
+call-none : (z : Space) (o : Option Buffer) → HasReply (one (option_map (λ (x : Buffer). br.Transaction (data_of z x)) o)) ≡ false
+call-none z None = refl
+call-none z (Some x) = refl
+
+death-none : (o : Option DeathNotification) → HasReply (one (option_map (λ (x : DeathNotification). br.DeadBinder x.cookie) o)) ≡ false
+death-none None = refl
+death-none (Some x) = refl
+
+reply-is : (z : Space) (o : Option Buffer) → HasReply (one (option_map (λ (x : Buffer). br.Reply (data_of z x)) o)) ≡ is_some o
+reply-is z None = refl
+reply-is z (Some x) = refl
+
+-- a reply whose buffer lives gives a BR_REPLY, and no other item does
+item-gives : (z : Space) (k : WorkKind) → is_plain k ≡ true → ((b : ℕ) → reply_of k ≡ Some b → is_some (buffer_in z.buffers b) ≡ true)
+    → HasReply (returns_of z k) ≡ is_some (reply_of k)
+unfolding returns_of
+item-gives z (work.Notice o) p h = notice-none z.references (object_in z.objects o)
+item-gives z work.Complete p h = refl
+item-gives z (work.Refusal r) p h = carried-none r p
+item-gives z (work.Call b) p h = call-none z (buffer_in z.buffers b)
+item-gives z (work.Reply b) p h = reply-is z (buffer_in z.buffers b) ∙ h b refl
+item-gives z (work.Verdict r) p h = carried-none r p
+item-gives z (work.Death n) p h = death-none (find (is_notification n) z.deaths)
+item-gives z (work.Cleared cookie) p h = refl
+
+-- ---- the returns of a reading
+
+abbrev returns_of_all : Space → List Work → List Return
+returns_of_all z ws = flat_map (λ (w : Work). returns_of z w.kind) ws
+
+joined : (xs ys : List Return) → concat (map return_bytes (xs ++ ys)) ≡ concat (map return_bytes xs) ++ concat (map return_bytes ys)
+joined [] ys = refl
+joined (x ∷ xs) ys = ap (λ l. return_bytes x ++ l) (joined xs ys) ∙ sym (append_assoc (return_bytes x) (concat (map return_bytes xs)) (concat (map return_bytes ys)))
+
+spells : (z : Space) (ws : List Work) → concat (map (bytes_read z) ws) ≡ concat (map return_bytes (returns_of_all z ws))
+spells z [] = refl
+spells z (w ∷ ws) = ap (λ l. bytes_read z w ++ l) (spells z ws) ∙ sym (joined (returns_of z w.kind) (returns_of_all z ws))
+
+spells-stream : (z : Space) (ws : List Work) → stream_of z ws ≡ concat (map return_bytes (br.Noop ∷ returns_of_all z ws))
+unfolding stream_of
+spells-stream z ws = ap (λ l. return_bytes br.Noop ++ l) (spells z ws)
+
+all-give : (z : Space) (ws : List Work) → ((w : Work) → In w ws → HasReply (returns_of z w.kind) ≡ is_some (reply_of w.kind))
+    → HasReply (returns_of_all z ws) ≡ is_some (first_reply_in ws)
+all-give z [] h = refl
+all-give z (w ∷ ws) h =
+    list_any-append is_reply (returns_of z w.kind) (returns_of_all z ws)
+    ∙ ap (λ b. b || HasReply (returns_of_all z ws)) (h w (inl refl)) ∙ ap (λ b. is_some (reply_of w.kind) || b) (all-give z ws (λ v l. h v (inr l))) ∙ at (reply_of w.kind)
+  where
+    at : (o : Option ℕ) → (is_some o || is_some (first_reply_in ws)) ≡ is_some (first_of (o ∷ map (λ (v : Work). reply_of v.kind) ws))
+    at None = refl
+    at (Some b) = refl
+
+-- ---- only a reading answers with bytes
+
+abbrev IsSilent : Outcome → Type 0
+IsSilent o = is_got o.answer ≡ false
+
+acts-silent : (s : Space) (o : Option Actor) (f : Actor → Outcome) → ((a : Actor) → IsSilent (f a)) → IsSilent (by_actor s o f)
+acts-silent s None f h = refl
+acts-silent s (Some a) f h = h a
+
+transaction-silent : (s : Space) (a : Actor) (d : TransactionData) (r : Result Delivery Cause) → IsSilent (transaction_outcome s a d r)
+transaction-silent s a d (Err c) = refl
+transaction-silent s a d (Ok v) = refl
+
+reply-silent : (s : Space) (a : Actor) (d : TransactionData) (f : Frame) (r : Result Delivery Cause) → IsSilent (reply_outcome s a d f r)
+reply-silent s a d f (Err c) = refl
+reply-silent s a d f (Ok v) = refl
+
+reply_to-silent : (s : Space) (a : Actor) (d : TransactionData) (parcel : Option Parcel) (o : Option Frame) → IsSilent (reply_to s a d parcel o)
+reply_to-silent s a d parcel None = refl
+reply_to-silent s a d parcel (Some f) = reply-silent s a d f (reply_check s a d parcel f)
+
+free-silent : (s : Space) (o : Option Buffer) → IsSilent (free_outcome s o)
+free-silent s None = refl
+free-silent s (Some b) = at b.handed
+  where
+    at : (handed : Bool)
+        → IsSilent (cond {A = Outcome} handed (record { answer = Accepted; space = completed (without_buffer s b.made) }) (record { answer = Noted NotHandedOut; space = s }))
+    at true = refl
+    at false = refl
+
+ask-silent : (s : Space) (p : ℕ) (strong : Bool) (r : Result ObjectId Note) → IsSilent (by_check s (λ o. ask s p o strong) r)
+ask-silent s p strong (Err n) = refl
+ask-silent s p strong (Ok o) = refl
+
+drop-silent : (s : Space) (p : ℕ) (strong : Bool) (r : Result ObjectId Note) → IsSilent (by_check s (λ o. drop_asked s p o strong) r)
+drop-silent s p strong (Err n) = refl
+drop-silent s p strong (Ok o) = refl
+
+done-silent : (s : Space) (strong : Bool) (r : Result Object Note) → IsSilent (by_check s (λ x. acknowledge s x.id strong) r)
+done-silent s strong (Err n) = refl
+done-silent s strong (Ok o) = refl
+
+request-silent : (s : Space) (p cookie : ℕ) (r : Result ObjectId Note) → IsSilent (by_check s (λ o. requested s p o cookie) r)
+request-silent s p cookie (Err n) = refl
+request-silent s p cookie (Ok o) = refl
+
+clear-silent : (s : Space) (t : ℕ) (r : Result DeathNotification Note) → IsSilent (by_check s (cleared s t) r)
+clear-silent s t (Err n) = refl
+clear-silent s t (Ok x) = refl
+
+death_done-silent : (s : Space) (t : ℕ) (o : Option DeathNotification) → IsSilent (death_done_outcome s t o)
+death_done-silent s t None = refl
+death_done-silent s t (Some x) = refl
+
+command-silent : (s : Space) (a : Actor) (c : command.Command) (parcel : Option Parcel) → IsSilent (command_step s a c parcel)
+unfolding command_step transaction_step reply_step free_step ask_step drop_step done_step request_step clear_step death_done_step
+command-silent s a (bc.Transaction d) parcel = transaction-silent s a d (transaction_check s a d parcel)
+command-silent s a (bc.Reply d) parcel = reply_to-silent s a d parcel (served_innermost s a.thread.seat)
+command-silent s a (bc.FreeBuffer ptr) parcel = free-silent s (buffer_at_pointer s a.process.made ptr)
+command-silent s a (bc.Increfs n) parcel = ask-silent s a.process.made false (ask_check s a.process.made n false)
+command-silent s a (bc.Acquire n) parcel = ask-silent s a.process.made true (ask_check s a.process.made n true)
+command-silent s a (bc.Release n) parcel = drop-silent s a.process.made true (drop_check s a.process.made n true)
+command-silent s a (bc.Decrefs n) parcel = drop-silent s a.process.made false (drop_check s a.process.made n false)
+command-silent s a (bc.IncrefsDone ptr cookie) parcel = done-silent s false (done_check s a.process.made ptr cookie false)
+command-silent s a (bc.AcquireDone ptr cookie) parcel = done-silent s true (done_check s a.process.made ptr cookie true)
+command-silent s a bc.EnterLooper parcel = refl
+command-silent s a bc.ExitLooper parcel = refl
+command-silent s a (bc.RequestDeathNotification n cookie) parcel = request-silent s a.process.made cookie (request_check s a.process.made n)
+command-silent s a (bc.ClearDeathNotification n cookie) parcel = clear-silent s a.thread.seat (clear_check s a.process.made n cookie)
+command-silent s a (bc.DeadBinderDone cookie) parcel = death_done-silent s a.thread.seat (told_death s a.process.made cookie)
+
+open-silent : (s : Space) (seat pid euid window : ℕ) (o : Option Fault) → IsSilent (open_outcome s seat pid euid window o)
+open-silent s seat pid euid window None = refl
+open-silent s seat pid euid window (Some x) = refl
+
+attach-silent : (s : Space) (seat : ℕ) (q : Option Process) (b : Bool) → IsSilent (attach_outcome s seat q b)
+attach-silent s seat q true = refl
+attach-silent s seat None false = refl
+attach-silent s seat (Some q) false = refl
+
+manager-silent : (s : Space) (p : ℕ) (b : Bool) → IsSilent (manager_outcome s p b)
+manager-silent s p true = refl
+manager-silent s p false = refl
+
+-- ---- the bytes that a reading answers are those of the items that it takes
+
+abbrev stream_in : StepAnswer → List ℕ
+stream_in (Got stream bytes offsets) = stream
+stream_in _ = []
+
+record GotOf (z : Space) (seat : ℕ) (x : Step) (stream : List ℕ) : Type 0 where
+  stream_is : stream ≡ stream_of z (items_taken z seat x)
+  due : (w : Work) → In w (items_taken z seat x) → In w z.todo
+
+module _ (z : Space) (seat : ℕ) (stream bytes offsets : List ℕ) where
+  not-silent : {A : Type 0} (y : StepAnswer) → is_got y ≡ false → y ≡ Got stream bytes offsets → A
+  not-silent y h e = let yes : is_got y ≡ true = ap is_got e in absurd (cc)
+
+  gives : (own : List ℕ) (o : Option Buffer) → got own o ≡ Got stream bytes offsets → stream ≡ own
+  gives own None e = sym (ap stream_in e)
+  gives own (Some b) e = sym (ap stream_in e)
+
+  -- with what the reading tested
+  reads-list : (a : Actor) (limit : ℕ) (o : Option Fault)
+      → (elim o as (λ (o : Option Fault). Outcome) [ Some y ↦ refused z y | None ↦ read_taking z a.thread.seat (taken z (limit - 4) (list_to_read z a.thread)) ]).answer
+      ≡ Got stream bytes offsets
+      → (let ws = items_unless o (taken z (limit - 4) (list_to_read z a.thread)) in (stream ≡ stream_of z ws) × ((w : Work) → In w ws → In w z.todo))
+  unfolding read_taking
+  reads-list a limit (Some y) e = absurd (cc)
+  reads-list a limit None e =
+      let ws = taken z (limit - 4) (list_to_read z a.thread) in
+      (gives (stream_of z ws) (buffer_taken z ws) e, read-in z a.thread (limit - 4))
+
+  reads : (limit : ℕ) (o : Option Actor) → (by_actor z o (λ a. read_step z a limit)).answer ≡ Got stream bytes offsets
+      → (stream ≡ stream_of z (items_read z limit o)) × ((w : Work) → In w (items_read z limit o) → In w z.todo)
+  unfolding read_step
+  reads limit None e = absurd (cc)
+  reads limit (Some a) e = reads-list a limit (read_fault limit (list_to_read z a.thread)) e
+
+  got-of : (x : Step) → (change z seat x).answer ≡ Got stream bytes offsets → GotOf z seat x stream
+  unfolding change open_step attach_step manager_step exit_thread_step exit_process_step
+  got-of (Open pid euid window) e = not-silent _ (open-silent z seat pid euid window (open_fault z seat pid window)) e
+  got-of (Attach pid) e = not-silent _ (attach-silent z seat (process_with_pid z.processes pid) (is_some (thread_in z.threads seat))) e
+  got-of SetManager e = not-silent _ (acts-silent z (actor z seat) (manager_step z) (λ a. manager-silent z a.process.made (is_manager_busy z a.process.made))) e
+  got-of (Command c parcel) e = not-silent _ (acts-silent z (actor z seat) (λ a. command_step z a c parcel) (λ a. command-silent z a c parcel)) e
+  got-of (Read limit) e = let k = reads limit (actor z seat) e in record { stream_is = k.0; due = k.1 }
+  got-of ExitThread e = not-silent _ (acts-silent z (actor z seat) (exit_thread_step z) (λ a. refl)) e
+  got-of ExitProcess e = not-silent _ (acts-silent z (actor z seat) (exit_process_step z) (λ a. refl)) e
+
+-- ---- the law
+
+held-lives : (z : Space) → RepliesHeld z → (w : Work) (b : ℕ) → In w z.todo → reply_of w.kind ≡ Some b → is_some (buffer_in z.buffers b) ≡ true
+held-lives z h w b l e = let x = h.buffer w b l e in find-some (is_made_at b) x.buffer z.buffers x.here (eq-eqb x.buffer.made b x.made)
+
+module _ (h : History) (lawful : IsHistory h) (i : ℕ) (stream bytes offsets : List ℕ) (at : At h.entries i (λ z e. e.answer ≡ Got stream bytes offsets)) where
+  abbrev z : Space
+  z = after opening at.0
+
+  abbrev e : Entry
+  e = at.1
+
+  gotten : GotOf z e.seat e.step stream
+  gotten =
+      let stands = at.2 in
+      let follows = (follows-rest opening at.0 (e ∷ stands.rest) (subst (Follows opening) stands.all lawful.follows)).0 in
+      got-of z e.seat stream bytes offsets e.step (follows.answer ∙ at.3)
+
+  spells-items : SpellsItems z e stream
+  spells-items = gotten.stream_is ∙ spells-stream z (items_taken z e.seat e.step)
+
+  pub spelt : At h.entries i (λ z e. SpellsItems z e stream)
+  spelt = (at.0, e, at.2, spells-items)
+
+  pub handed-out : At h.entries i (λ z e. HandsOut z e stream)
+  unfolding reply_taken
+  handed-out = (
+    at.0,
+    e,
+    at.2,
+    record {
+      spelt = spells-items;
+      replies = all-give z (items_taken z e.seat e.step)
+          (λ w l. item-gives z w.kind (always-plain at.0 w (gotten.due w l)) (λ b k. held-lives z (always-held at.0) w b (gotten.due w l) k));
+    },
+  )

@@ -1,0 +1,262 @@
+-- Each reply that is due has its buffer: not handed out yet, and in the window of the process on whose thread's list it stands.
+use Rattle.bd_laws.proofs.words.Logic.{◌≡◌, ℕ, suc, ◌-◌, ◌==◌, Bool, true, false, cond, not, ◌&&◌, List, [], ◌∷◌, ◌++◌, Option, Some, None, Ok, inl, inr, refl, ap, sym, subst, ◌∙◌, map, filter, arith, fold, list_any, option_and_then, eqb-true, eq-eqb}
+use Rattle.bd_laws.proofs.words.Types.{TransactionData, Parcel, Step, Entry, Process, Thread, Buffer, Frame, Turn, Work, Actor, TodoList, OfThread, OfProcess, WorkKind}
+use Rattle.bd_laws.proofs.words.Space.{changed, is_some_and, Space, opening, actor, with_work, owe, is_on, same_list, is_item, hands_out, list_to_read, turn_of, turns_of, ripen, ripened, is_ripe, follow, notify, work_goes, deaths_go, names_go, assign_numbers, objects_go, closed, goes_to, Delivery, delivered, own_notices, add_buffer, known_by, refer, make_objects, buffer_of, transacted, called, call_out, caller_of, reply_check, replied, without_buffer, is_made_at, buffer_at_pointer, is_buffer_at, taken, read_by, buffer_taken, handed_buffers, hand_out, thread_goes, is_lost_with, threads_go, without_process, tell_deaths, seat_of, counted, with_thread, with_process, with_manager, ask, drop_asked, acknowledge, with_looping, after, next}
+use Rattle.bd_space.specs.declared.space.WorkKind.TheVariants as work
+use Rattle.bd_links.specs.TodoList.{reply_of}
+use Rattle.bd_laws.proofs.words.Laws.{In, IsInTurn}
+use Rattle.bd_laws.proofs.Machine.EveryStep.{Keeps, every_step, every_list}
+use Rattle.bd_laws.proofs.IsInTurn.Received.{one-made}
+use Rattle.bd_laws.proofs.Lists.{in-left, in-last, in-push, in-filter, filter-in, in-filter_map, changed-in, map-in, any-found, any-in, find-in, fold-keeps}
+use Rattle.bd_laws.proofs.Tests.{both, not-true}
+use Rattle.bd_laws.proofs.Checks.{actor-lives, reply-checked}
+use Rattle.bd_laws.proofs.IsInTurn.OneWay.{Less, owe-less, own_notices-less}
+use Rattle.bd_laws.proofs.IsInTurn.InTurn.{Turning, opening-in_turn}
+use Rattle.bd_laws.proofs.IsInTurn.Ripening.{taken-due, read-in, turn-parts}
+use Rattle.bd_laws.proofs.OnPaths.PathWords.{same-item}
+use Rattle.bd_laws.proofs.Machine.Deaths.{tell_deaths-aside, on-mapped, on-both, on-commands, commands-both, on_deaths-aside}
+use Rattle.bd_laws.proofs.IsInTurn.OneWay as one_way
+use Rattle.bd_laws.proofs.IsInTurn.InTurn as turn
+use Rattle.bd_laws.proofs.OnPaths.PathCalls as path_call
+use Rattle.bd_audit.proofs.Seated as seated
+use Rattle.bd_laws.proofs.Machine.Fields.{closed-steps, closed-threads, owe-buffers, sent-steps, sent-threads, owe-threads}
+use Rattle.bd_laws.proofs.AtHome.HomesSent.{caller-acts}
+use Rattle.bd_laws.proofs.IsInTurn.Passing.{at_pointer-in}
+use Rattle.bd_audit.proofs.RepliesAreHandedOut.BuffersSent.{Held, RepliesHeld, has-moved, grown, calm, call-held, owed, transacts, closes, replies}
+
+-- ---- one-way calls that become due
+
+module _ (threads : List Thread) (buffers : List Buffer) (place : ℕ) where
+  ripens-one : (r : Bool) (todo : List Work) (t : Turn) → ((c : Buffer) → In c buffers → c.made ≡ t.made → c.one_way ≡ true) → Held threads buffers todo
+      → Held threads buffers (cond r (with_work place todo (OfProcess t.receiver) (work.Call t.made)) todo)
+  ripens-one true todo t one h =
+      call-held threads buffers place todo (OfProcess t.receiver) t.made
+      (λ w l e. let x = h.buffer w t.made l e in let yes = one x.buffer x.here x.made in let no = x.two_way in absurd (cc)) h
+  ripens-one false todo t one h = h
+
+  ripens-all : (ts older : List Turn) (todo : List Work) → ((t : Turn) → In t ts → (c : Buffer) → In c buffers → c.made ≡ t.made → c.one_way ≡ true) → Held threads buffers todo
+      → Held threads buffers (ripened place older todo ts)
+  ripens-all [] older todo one h = h
+  ripens-all (t ∷ ts) older todo one h = ripens-all ts (older ++ t ∷ []) _ (λ u l. one u (inr l)) (ripens-one (is_ripe todo older t) todo t (one t (inl refl)) h)
+
+ripens : (z : Space) → Turning z → RepliesHeld z → RepliesHeld (ripen z)
+unfolding ripen
+ripens z turns h =
+    ripens-all z.threads z.buffers z.steps (turns_of z.buffers) [] z.todo
+    (λ t l c i e.
+    let x = in-filter_map turn_of t z.buffers l in
+    let k = turn-parts x.0 t x.2 in
+    let is : c ≡ x.0 = one-made (suc z.steps) z.buffers z.todo turns c x.0 i x.1 (e ∙ k.0) in
+    ap (λ (y : Buffer). y.one_way) is ∙ k.3) h
+
+-- ---- a buffer that is freed was handed out
+
+frees : (s : Space) (b : Buffer) → IsInTurn s → In b s.buffers → b.handed ≡ true → RepliesHeld s → RepliesHeld (without_buffer s b.made)
+unfolding without_buffer
+frees s b turns here out h = record {
+  buffer = λ w m l e.
+      let x = h.buffer w m l e in
+      has-moved s.threads s.threads s.buffers _ w.list m x
+      (filter-in (λ (c : Buffer). not (is_made_at b.made c)) x.buffer s.buffers x.here (other x.buffer x.here x.handed (is_made_at b.made x.buffer) refl))
+      x.lives;
+  one = h.one;
+}
+  where
+    other : (c : Buffer) → In c s.buffers → c.handed ≡ false → (q : Bool) → is_made_at b.made c ≡ q → not q ≡ true
+    other c i kept true k =
+        let is : c ≡ b = one-made s.steps s.buffers s.todo turns c b i here (eqb-true c.made b.made k) in
+        let yes : c.handed ≡ true = ap (λ (y : Buffer). y.handed) is ∙ out in absurd (cc)
+    other c i kept false k = refl
+
+-- ---- a reading takes the item whose buffer it hands out
+
+module _ (s : Space) (h : RepliesHeld s) (t : Thread) (left : ℕ) where
+  abbrev ws : List Work
+  ws = taken s left (list_to_read s t)
+
+  abbrev stays : Work → Bool
+  stays w = not (list_any (λ (d : Work). is_item w d) ws)
+
+  unhanded : (o : Option Buffer) → buffer_taken s ws ≡ o → (w : Work) (b : ℕ) → In w s.todo → stays w ≡ true → reply_of w.kind ≡ Some b → (c : Buffer) → In c s.buffers → c.made ≡ b
+      → In c (handed_buffers s.buffers o)
+  unhanded None e w b l on f c i made = i
+  unhanded (Some x) e w b l on f c i made = at (is_made_at x.made c) refl
+    where
+      at : (q : Bool) → is_made_at x.made c ≡ q → In c (changed (is_made_at x.made) hand_out s.buffers)
+      at false k =
+          subst (λ (y : Buffer). In y (changed (is_made_at x.made) hand_out s.buffers)) (ap (λ q. cond q (hand_out c) c) k)
+          (changed-in (is_made_at x.made) hand_out c s.buffers i)
+      at true k =
+          let d = (taken-due s ws x e).1 in
+          let m : x.made ≡ b = sym (eqb-true c.made x.made k) ∙ made in
+          let is : d.0 ≡ w = h.one d.0 w b (read-in s t left d.0 d.1) l (d.2 ∙ ap (λ n. Some n) m) f in
+          let yes = any-in (λ (d : Work). is_item w d) d.0 ws d.1 (same-item w d.0 (sym is)) in
+          let no = not-true (list_any (λ (d : Work). is_item w d) ws) on in absurd (cc)
+
+  reads : RepliesHeld (read_by s t.seat ws)
+  unfolding read_by
+  reads = record {
+    buffer = λ w b l e.
+        let i = in-filter stays w s.todo l in
+        let x = h.buffer w b i.0 e in
+        has-moved s.threads s.threads s.buffers _ w.list b x (unhanded (buffer_taken s ws) refl w b i.0 i.1 e x.buffer x.here x.made) x.lives;
+    one = λ v w b i j. h.one v w b (in-filter stays v s.todo i).0 (in-filter stays w s.todo j).0;
+  }
+
+-- ---- with a thread go the buffers that its own list would have handed over
+
+hands-over : (o : Option ℕ) (n : ℕ) → is_some_and o (λ m. m == n) ≡ true → o ≡ Some n
+hands-over None n h = absurd (cc)
+hands-over (Some m) n h = ap (λ i. Some i) (eqb-true m n h)
+
+module _ (z : Space) (seat : ℕ) (h : RepliesHeld z) where
+  unlost : (w : Work) (b : ℕ) → In w z.todo → is_on (OfThread seat) w ≡ false → reply_of w.kind ≡ Some b → (q : Bool) → is_lost_with z.todo (OfThread seat) b ≡ q → not q ≡ true
+  unlost w b l off e true k =
+      let v = any-found (λ (w : Work). is_on (OfThread seat) w && is_some_and (hands_out w.kind) (λ m. m == b)) z.todo k in
+      let p = both (is_on (OfThread seat) v.0) (is_some_and (hands_out v.0.kind) (λ m. m == b)) v.2 in
+      let is : v.0 ≡ w = h.one v.0 w b v.1 l (hands-over (hands_out v.0.kind) b p.1) e in
+      let on : is_on (OfThread seat) w ≡ true = ap (λ (y : Work). is_on (OfThread seat) y) (sym is) ∙ p.0 in absurd (cc)
+  unlost w b l off e false k = refl
+
+  other-seat : (l : TodoList) (u : ℕ) → l ≡ OfThread u → same_list (OfThread seat) l ≡ false → (q : Bool) → (u == seat) ≡ q → not q ≡ true
+  other-seat l u on off true k =
+      let yes : same_list (OfThread seat) l ≡ true = ap (same_list (OfThread seat)) on ∙ eq-eqb seat u (sym (eqb-true u seat k)) in absurd (cc)
+  other-seat l u on off false k = refl
+
+  goes : RepliesHeld (thread_goes z seat)
+  unfolding thread_goes
+  goes = record {
+    buffer = λ w b l e.
+        let i = in-filter (λ (w : Work). not (is_on (OfThread seat) w)) w z.todo l in
+        let off = not-true (is_on (OfThread seat) w) i.1 in
+        let x = h.buffer w b i.0 e in
+        has-moved z.threads _ z.buffers _ w.list b x
+        (filter-in (λ (c : Buffer). not (is_lost_with z.todo (OfThread seat) c.made)) x.buffer z.buffers x.here
+        (unlost w x.buffer.made i.0 off (e ∙ ap (λ n. Some n) (sym x.made)) (is_lost_with z.todo (OfThread seat) x.buffer.made) refl))
+        (filter-in (λ (t : Thread). not (t.seat == seat)) x.thread z.threads x.lives (other-seat w.list x.thread.seat x.on off (x.thread.seat == seat) refl));
+    one = λ v w b i j.
+        h.one v w b (in-filter (λ (w : Work). not (is_on (OfThread seat) w)) v z.todo i).0 (in-filter (λ (w : Work). not (is_on (OfThread seat) w)) w z.todo j).0;
+  }
+
+all-go : (seats : List ℕ) (z : Space) → RepliesHeld z → RepliesHeld (fold thread_goes z seats)
+all-go seats z h = fold-keeps RepliesHeld thread_goes seats (λ y t l k. goes y t k) z h
+
+-- ---- with a process go the buffers that it received, and none of its threads is left
+
+abbrev NoThread : ℕ → Space → Type 0
+NoThread p z = (t : Thread) → In t z.threads → t.process ≡ p → ⊥
+
+gone-in : (z : Space) (seat : ℕ) (t : Thread) → In t (thread_goes z seat).threads → In t z.threads × (t.seat ≡ seat → ⊥)
+unfolding thread_goes
+gone-in z seat t l =
+    let i = in-filter (λ (t : Thread). not (t.seat == seat)) t z.threads l in
+    (i.0, λ e. let no = not-true (t.seat == seat) i.1 in let yes = eq-eqb t.seat seat e in absurd (cc))
+
+left-in : (seats : List ℕ) (z : Space) (t : Thread) → In t (fold thread_goes z seats).threads → In t z.threads × (In t.seat seats → ⊥)
+left-in [] z t l = (l, λ i. absurd i)
+left-in (n ∷ ns) z t l =
+    let k = left-in ns (thread_goes z n) t l in
+    let j = gone-in z n t k.0 in
+    (j.0, λ i. elim i [ inl is ↦ j.1 (sym is) | inr r ↦ k.1 r ])
+
+none-left : (s : Space) (p : ℕ) → NoThread p (threads_go s p)
+unfolding threads_go
+none-left s p t l e =
+    let k = left-in (map seat_of (filter (λ (t : Thread). t.process == p) s.threads)) s t l in
+    k.1 (map-in seat_of t (filter (λ (t : Thread). t.process == p) s.threads) (filter-in (λ (t : Thread). t.process == p) t s.threads k.0 (eq-eqb t.process p e)))
+
+process-goes : (z : Space) (p : ℕ) → NoThread p z → RepliesHeld z → RepliesHeld (without_process z p)
+unfolding without_process
+process-goes z p none h = record {
+  buffer = λ w b l e.
+      let x = h.buffer w b (in-filter (λ (w : Work). not (is_on (OfProcess p) w)) w z.todo l).0 e in
+      has-moved z.threads z.threads z.buffers _ w.list b x
+      (filter-in (λ (c : Buffer). not (c.receiver == p)) x.buffer z.buffers x.here (other x.buffer x.thread x.lives x.receiver (x.buffer.receiver == p) refl))
+      x.lives;
+  one = λ v w b i j.
+      h.one v w b (in-filter (λ (w : Work). not (is_on (OfProcess p) w)) v z.todo i).0 (in-filter (λ (w : Work). not (is_on (OfProcess p) w)) w z.todo j).0;
+}
+  where
+    other : (c : Buffer) (t : Thread) → In t z.threads → t.process ≡ c.receiver → (q : Bool) → (c.receiver == p) ≡ q → not q ≡ true
+    other c t l e true k = absurd (none t l (e ∙ eqb-true c.receiver p k))
+    other c t l e false k = refl
+
+threads-end : (z : Space) (p : ℕ) → RepliesHeld z → RepliesHeld (threads_go z p)
+unfolding threads_go
+threads-end z p h = all-go (map seat_of (filter (λ (t : Thread). t.process == p) z.threads)) z h
+
+ends : (z : Space) (p : ℕ) → RepliesHeld z → RepliesHeld (tell_deaths (without_process (threads_go z p) p) p)
+ends z p h =
+    let a = threads_go z p in
+    let b = without_process a p in
+    calm (tell_deaths b p) b (one_way.tell_deaths-less b p) (tell_deaths-aside b p).buffers (tell_deaths-aside b p).threads (process-goes a p (none-left z p) (threads-end z p h))
+
+-- ---- every step
+
+-- one thread more
+attached : (z : Space) (seat p : ℕ) → RepliesHeld z → RepliesHeld (with_thread z seat p)
+unfolding with_thread
+attached z seat p h = grown (with_thread z seat p) z (record { due = λ w m l e. l; buffers = λ c l. l; threads = λ t l. (t, in-left t z.threads _ l, refl, refl) }) h
+
+opened : (z : Space) (seat pid euid window : ℕ) → RepliesHeld z → RepliesHeld (with_thread (with_process z pid euid window) seat z.steps)
+unfolding with_process
+opened z seat pid euid window h = attached (with_process z pid euid window) seat z.steps h
+
+loops : (z : Space) (seat : ℕ) (looping : Bool) → RepliesHeld z → RepliesHeld (with_looping z seat looping)
+unfolding with_looping
+loops z seat looping h =
+    grown (with_looping z seat looping) z (record {
+      due = λ w m l e. l;
+      buffers = λ c l. l;
+      threads = λ t l.
+          let k = at (t.seat == seat) t in
+          (_, changed-in (λ (t : Thread). t.seat == seat) (λ (t : Thread). record t { looping = looping }) t z.threads l, k.0, k.1);
+    }) h
+  where
+    at : (q : Bool) (t : Thread) → ((cond q (record t { looping = looping }) t).seat ≡ t.seat) × ((cond q (record t { looping = looping }) t).process ≡ t.process)
+    at true t = (refl, refl)
+    at false t = (refl, refl)
+
+abbrev Both : Space → Type 0
+Both z = Turning z × RepliesHeld z
+
+kept : (s : Space) (seat : ℕ) (x : Step) → IsInTurn s → RepliesHeld s → Keeps s seat x Both Both
+unfolding with_manager ask assign_numbers drop_asked acknowledge follow notify work_goes deaths_go objects_go names_go
+kept s seat x turns h =
+    let k = turn.kept s seat x turns in
+    record {
+      set_up = record {
+        same = (k.set_up.same, h);
+        opened = λ pid euid window free. (k.set_up.opened pid euid window free, opened s seat pid euid window h);
+        attached = λ p free. (k.set_up.attached p free, attached s seat p h);
+        managed = λ a e b. (k.set_up.managed a e b, h);
+      };
+      changes = record {
+        transacts = λ a d parcel v e i t. (k.changes.transacts a d parcel v e i t, transacts s a d v turns h);
+        replies = λ a d parcel f v e i g t. (k.changes.replies a d parcel f v e i g t, replies s a d parcel f v turns t h);
+        frees = λ p ptr b e t. (k.changes.frees p ptr b e t, frees s b turns (at_pointer-in s p ptr b e) t h);
+        asks = λ a n strong o e i t. (k.changes.asks a n strong o e i t, h);
+        drops = λ p o strong. (k.changes.drops p o strong, h);
+        acknowledges = λ o strong i. (k.changes.acknowledges o strong i, h);
+        loops = λ t looping. (k.changes.loops t looping, loops s t looping h);
+        on_deaths = commands-both s _ _ k.changes.on_deaths (on-commands s _ (on-mapped s _ _ (λ y l. calm y s l.0 l.1.buffers l.1.threads h) (on-both s _ _ (one_way.on_deaths-less s) (on_deaths-aside s))));
+        reads = λ a limit e i n. (k.changes.reads a limit e i n, reads s h a.thread (limit - 4));
+        leaves = λ a e. (k.changes.leaves a e, goes s a.thread.seat h);
+        ends = λ a e. (k.changes.ends a e, ends s a.process.made h);
+        ripens = λ z b. (k.changes.ripens z b.0, ripens z b.0 b.1);
+      };
+      follows = λ z b. (k.follows z b.0, calm (follow z) z (one_way.follow-less z) refl refl b.1);
+      closes = λ z made b. (k.closes z made b.0, closes z made b.1);
+      refuses = λ z t r b. (k.refuses z t r b.0, owed z (OfThread t) (work.Refusal r) refl b.1);
+      tells = λ z t r b. (k.tells z t r b.0, owed z (OfThread t) (work.Verdict r) refl b.1);
+    }
+
+abbrev IsHeld : Space → Type 0
+IsHeld s = IsInTurn s × RepliesHeld s
+
+step-held : (s : Space) (e : Entry) → IsHeld s → IsHeld (next s e)
+unfolding counted
+step-held s e h = every_step s e.seat e.step Both Both (kept s e.seat e.step h.0 h.1)
+
+pub always-held : (es : List Entry) → RepliesHeld (after opening es)
+always-held es = (every_list IsHeld step-held es opening (opening-in_turn, record { buffer = λ w b l e. absurd l; one = λ v w b i j e f. absurd i })).1

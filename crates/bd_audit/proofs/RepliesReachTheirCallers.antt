@@ -1,0 +1,11 @@
+-- The law RepliesReachTheirCallers: what frames and replies have behind them, and that a call is handed out and answered once.
+pub mod Quiet
+pub mod Traces
+pub mod Answering
+pub mod Owed
+pub mod RepliesDue
+pub mod ReplyTaken
+pub mod Places
+pub mod CallsDue
+pub mod CallsOnce
+pub mod ReplyLaw

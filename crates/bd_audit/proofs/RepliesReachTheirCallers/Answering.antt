@@ -1,0 +1,239 @@
+-- What the frames of a history and the replies that are due have behind them.
+use Rattle.bd_laws.proofs.words.Logic.{◌≡◌, ℕ, zero, suc, ◌<◌, ◌+◌, ◌-◌, ◌==◌, Bool, true, false, cond, not, List, [], ◌∷◌, ◌++◌, length, Option, Some, None, Ok, inl, inr, refl, ap, sym, subst, ◌∙◌, append_assoc, length-append, arith, list_any, find, option_map, eqb-true, eq-eqb}
+use Rattle.bd_laws.proofs.words.Types.{TransactionData, Return, DeadReply, Parcel, Command, Read, Accepted, Entry, Thread, Work, Frame, Actor, Pending, Serving, TodoList, OfThread, WorkKind}
+use Rattle.bd_laws.proofs.words.Space.{Space, opening, actor, owe, is_call, list_to_read, is_item, closed, goes_to, is_frame, innermost, innermost_in, served_innermost, made_of, is_deepest_in, ripen, follow, settle, settle_one, settle_times, is_abandoned, Delivery, delivered, own_notices, add_buffer, known_by, refer, make_objects, assign_numbers, completed, transaction_step, transaction_outcome, transaction_check, transacted, called, call_out, is_one_way, reply_step, reply_to, reply_outcome, reply_check, replied, command_step, taken, read_by, serve, served_frames, read_fault, change, counted, by_actor, after, next}
+use Rattle.bd_uapi.specs.declared.command.Command.TheVariants as bc
+use Rattle.bd_space.specs.declared.space.WorkKind.TheVariants as work
+use Rattle.bd_links.specs.TodoList.{reply_of}
+use Rattle.bd_laws.specs.Lists.{In}
+use Rattle.bd_laws.proofs.Machine.EveryStep.{Keeps, every_step}
+use Rattle.bd_laws.proofs.Lists.{in-push, in-filter, in-changed, find-in, any-found, by-last}
+use Rattle.bd_laws.proofs.Tests.{not-true}
+use Rattle.bd_laws.proofs.Checks.{actor-lives, transaction-checked}
+use Rattle.bd_laws.proofs.Machine.Deaths.{on-mapped, on-commands}
+use Rattle.bd_laws.proofs.OnPaths.PathWords.{served-is}
+use Rattle.bd_audit.specs.Replies.{made_in, thread_made, items_read, items_taken, items_unless, frame_of, Calls, TakesCall, AnswersCall, At}
+use Rattle.bd_audit.proofs.Beginnings.{after-append}
+use Rattle.bd_audit.proofs.NamesHaveGiftChains.Chains.{always-steps}
+use Rattle.bd_audit.proofs.RepliesReachTheirCallers.Quiet as quiet
+use Rattle.bd_laws.proofs.Machine.Table.{keeps-by}
+use Rattle.bd_audit.proofs.RepliesReachTheirCallers.Quiet.{sent-quiet, completed-quiet, NotReply, quiet_table, quiet_exits, quiet_closes, Quiet, with_work-quiet, quiet-trans}
+use Rattle.bd_laws.proofs.Machine.Fields.{closed-threads, serve-made, owe-threads}
+use Rattle.bd_audit.proofs.RepliesReachTheirCallers.Traces.{at-more, at-here, at-below, Called, Handed, Answers, Traced, traced-more, traced-quiet, transaction-accepted, reply-accepted, reply-space, actor-made, delivered-threads, framed, answering}
+
+-- ---- one entry more
+
+pub absent : (c : ℕ) (frames : List Frame) → ((g : Frame) → In g frames → g.made ≡ c → ⊥) → list_any (is_frame c) frames ≡ false
+absent c frames h = at (list_any (is_frame c) frames) refl
+  where
+    at : (b : Bool) → list_any (is_frame c) frames ≡ b → b ≡ false
+    at true e = let g = any-found (is_frame c) frames e in absurd (h g.0 g.1 (eqb-true g.0.made c g.2))
+    at false e = refl
+
+pub closed-absent : (z : Space) (c : ℕ) (g : Frame) → In g (closed z c).frames → g.made ≡ c → ⊥
+unfolding closed
+closed-absent z c g l e =
+    let out = not-true (is_frame c g) (in-filter (λ (f : Frame). not (is_frame c f)) g z.frames l).1 in
+    let is = eq-eqb g.made c e in absurd (cc)
+
+replied-frames : (y : Space) (caller : Option ℕ) (n : ℕ) (g : Frame)
+    → In g (elim caller as (λ (o : Option ℕ). Space) [ None ↦ y | Some t ↦ owe y (OfThread t) (work.Reply n) ]).frames → In g y.frames
+unfolding owe
+replied-frames y None n g l = l
+replied-frames y (Some t) n g l = l
+
+replied-absent : (s : Space) (a : Actor) (d : TransactionData) (f : Frame) (v : Delivery) (g : Frame) → In g (replied s a d f v).frames → g.made ≡ f.made → ⊥
+unfolding replied
+replied-absent s a d f v g l e =
+    let x = closed s f.made in
+    let y = owe (delivered x a d v) (OfThread a.thread.seat) work.Complete in
+    let k = (sent-quiet x a d v).frames g (replied-frames y f.caller s.steps g l) in
+    closed-absent s f.made k.0 k.1 (sym k.2.made ∙ e)
+
+module _ (es : List Entry) (e : Entry) (h : Traced es (after opening es)) where
+  abbrev s : Space
+  s = after opening es
+
+  abbrev more : List Entry
+  more = es ++ e ∷ []
+
+  now : Traced more s
+  now = traced-more es (e ∷ []) s h
+
+  quietly : (z : Space) → Quiet z s → Traced more z
+  quietly z q = traced-quiet more z s q now
+
+  here-below : (n : ℕ) → n ≡ length es → n < length more
+  here-below n k = let l = length-append es (e ∷ []) in omega arith
+
+  module _ (a : Actor) (acts : actor s e.seat ≡ Some a) where
+    own-made : thread_made s a.thread.seat ≡ Some a.thread.made
+    own-made = let k = actor-made s e.seat a acts in subst (λ n. thread_made s n ≡ Some a.thread.made) (sym k.0) k.1
+
+    -- ---- a call
+
+    calls : (d : TransactionData) (parcel : Option Parcel) (v : Delivery) → e.step ≡ Command (bc.Transaction d) parcel → transaction_check s a d parcel ≡ Ok v → is_one_way d ≡ false
+        → Calls s e a.thread.made
+    calls d parcel v x t two_way = record {
+      by = (actor-made s e.seat a acts).1;
+      fields = d;
+      parcel = parcel;
+      command = x;
+      two_way = two_way;
+      accepted = ap (λ y. (change s e.seat y).answer) x ∙ transaction-accepted s e.seat a d parcel v acts t;
+    }
+
+    transacted-traced : (d : TransactionData) (parcel : Option Parcel) (v : Delivery) → e.step ≡ Command (bc.Transaction d) parcel → transaction_check s a d parcel ≡ Ok v
+        → Traced more (transacted s a d v)
+    unfolding transacted
+    transacted-traced d parcel v x t = at v.one_way refl
+      where
+        at : (b : Bool) → v.one_way ≡ b → Traced more (called (owe (delivered s a d v) (OfThread a.thread.seat) work.Complete) a.thread.seat v.receiver.made b)
+        at true f = quietly _ (sent-quiet s a d v)
+        at false f =
+            let z = delivered s a d v in
+            let y = owe z (OfThread a.thread.seat) work.Complete in
+            let q = sent-quiet s a d v in
+            let steps : y.steps ≡ length es = q.steps ∙ always-steps es in
+            let threads : y.threads ≡ s.threads = owe-threads z (OfThread a.thread.seat) work.Complete ∙ delivered-threads s a d v in
+            let two_way : is_one_way d ≡ false = sym (transaction-checked s a d parcel v t).one_way ∙ f in
+            framed more y a.thread.seat v.receiver.made a.thread.made (quietly y q) (ap (λ ts. made_in ts a.thread.seat) threads ∙ own-made)
+            (subst (λ n. Called more n a.thread.made) (sym steps) (at-here es e (λ z e. Calls z e a.thread.made) (calls d parcel v x t two_way)))
+            (here-below y.steps steps)
+
+    -- ---- a reply
+
+    module _ (d : TransactionData) (parcel : Option Parcel) (f : Frame) (v : Delivery) (x : e.step ≡ Command (bc.Reply d) parcel)
+        (g : served_innermost s a.thread.seat ≡ Some f) (t : reply_check s a d parcel f ≡ Ok v) where
+      in-frames : In f s.frames
+      in-frames = (find-in (is_deepest_in s.frames a.thread.seat) f s.frames (served-is s a.thread.seat f g).0).0
+
+      closes : list_any (is_frame f.made) (next s e).frames ≡ false
+      unfolding counted
+      closes =
+          let space = ap (λ y. (change s e.seat y).space) x ∙ reply-space s e.seat a d parcel v acts f g t in
+          absent f.made (change s e.seat e.step).space.frames (λ k l m.
+          let i : In k (completed (replied s a d f v)).frames = subst (λ (z : Space). In k z.frames) space l in
+          let j = (completed-quiet (replied s a d f v)).frames k i in
+          replied-absent s a d f v j.0 j.1 (sym j.2.made ∙ m))
+
+      frame-innermost : frame_of s e ≡ Some f.made
+      unfolding frame_of innermost
+      frame-innermost =
+          let k = subst (λ n. innermost_in s.frames n ≡ Some f) (actor-made s e.seat a acts).0 (served-is s a.thread.seat f g).0 in
+          ap (λ o. option_map made_of o) k
+
+      server : (n : ℕ) × (thread_made s a.thread.seat ≡ Some n) × Handed es f.made n
+      server = h.servers f a.thread.seat in-frames (served-is s a.thread.seat f g).1
+
+      answers-call : AnswersCall s e f.made server.0
+      answers-call = record {
+        by = subst (λ n. thread_made s n ≡ Some server.0) (actor-made s e.seat a acts).0 server.1;
+        fields = d;
+        parcel = parcel;
+        command = x;
+        accepted = ap (λ y. (change s e.seat y).answer) x ∙ reply-accepted s e.seat a d parcel v acts f g t;
+        innermost = frame-innermost;
+        closes = closes;
+      }
+
+      answer : (m : ℕ) → Called es f.made m → Answers more (length es) m
+      answer m called = record {
+        call = f.made;
+        handed = server.2.0;
+        server = server.0;
+        called = at-more es (e ∷ []) f.made (λ z e. Calls z e m) called;
+        taken = at-more es (e ∷ []) server.2.0 (λ z e. TakesCall z e f.made server.0) server.2.2;
+        replied = at-here es e (λ z e. AnswersCall z e f.made server.0) answers-call;
+        call_first = server.2.1;
+        handed_next = at-below es server.2.0 (λ z e. TakesCall z e f.made server.0) server.2.2;
+      }
+
+      replied-traced : Traced more (replied s a d f v)
+      unfolding replied
+      replied-traced = at f.caller refl
+        where
+          at : (caller : Option ℕ) → f.caller ≡ caller
+              → Traced more (elim caller as (λ (o : Option ℕ). Space) [
+                | None ↦ owe (delivered (closed s f.made) a d v) (OfThread a.thread.seat) work.Complete
+                | Some u ↦ owe (owe (delivered (closed s f.made) a d v) (OfThread a.thread.seat) work.Complete) (OfThread u) (work.Reply s.steps)
+              ])
+          at None k = quietly _ (quiet-trans _ (closed s f.made) s (sent-quiet (closed s f.made) a d v) (quiet_closes s f.made))
+          at (Some u) k =
+              let z = delivered (closed s f.made) a d v in
+              let y = owe z (OfThread a.thread.seat) work.Complete in
+              let threads : y.threads ≡ s.threads = owe-threads z (OfThread a.thread.seat) work.Complete ∙ delivered-threads (closed s f.made) a d v ∙ closed-threads s f.made in
+              let c = h.callers f u in-frames k in
+              answering more y u c.0 s.steps (quietly y (quiet-trans y (closed s f.made) s (sent-quiet (closed s f.made) a d v) (quiet_closes s f.made)))
+              (ap (λ ts. made_in ts u) threads ∙ c.1) (subst (λ n. Answers more n c.0) (sym (always-steps es)) (answer c.0 c.2))
+
+    -- ---- a reading
+
+    module _ (limit : ℕ) (x : e.step ≡ Read limit) (n : read_fault limit (list_to_read s a.thread) ≡ None) where
+      abbrev items : List Work
+      items = taken s (limit - 4) (list_to_read s a.thread)
+
+      pub takes-items : items_taken s e.seat e.step ≡ items
+      takes-items =
+          ap (λ y. items_taken s e.seat y) x ∙ ap (λ o. items_read s limit o) acts ∙ ap (λ o. items_unless o items) n
+
+      serve-caller : (b : Bool) (f : Frame) → (cond b (serve a.thread.seat f) f).caller ≡ f.caller
+      serve-caller true f = refl
+      serve-caller false f = refl
+
+      serve-server : (b : Bool) (f : Frame) (t : ℕ) → list_any (λ (w : Work). is_call f.made w.kind) items ≡ b → In f s.frames → (cond b (serve a.thread.seat f) f).server ≡ Serving t
+          → (m : ℕ) × (thread_made s t ≡ Some m) × Handed more f.made m
+      serve-server false f t b l k = now.servers f t l k
+      serve-server true f t b l k =
+          let same_seat : a.thread.seat ≡ t = (let j : Serving a.thread.seat ≡ Serving t = k in cc) in
+          let takes : TakesCall s e f.made a.thread.made = record { by = (actor-made s e.seat a acts).1; taken = ap (λ ws. list_any (λ (w : Work). is_call f.made w.kind) ws) takes-items ∙ b } in (
+            a.thread.made,
+            subst (λ u. thread_made s u ≡ Some a.thread.made) same_seat own-made,
+            (length es, h.below f l, at-here es e (λ z e. TakesCall z e f.made a.thread.made) takes),
+          )
+
+      read-traced : Traced more (read_by s a.thread.seat items)
+      unfolding read_by
+      read-traced = record {
+        below = λ f l. let g = was f l in let lt = now.below g.0 g.1 in let m = ap (λ (y : Frame). y.made) g.2 ∙ serve-made a.thread.seat (served g.0) g.0 in omega arith;
+        callers = λ f t l k.
+            let g = was f l in
+            let m : f.made ≡ g.0.made = ap (λ (y : Frame). y.made) g.2 ∙ serve-made a.thread.seat (served g.0) g.0 in
+            let c = now.callers g.0 t g.1 (sym (ap (λ (y : Frame). y.caller) g.2 ∙ serve-caller (served g.0) g.0) ∙ k) in
+            (c.0, c.1, subst (λ i. Called more i c.0) (sym m) c.2);
+        servers = λ f t l k.
+            let g = was f l in
+            let m : f.made ≡ g.0.made = ap (λ (y : Frame). y.made) g.2 ∙ serve-made a.thread.seat (served g.0) g.0 in
+            let c = serve-server (served g.0) g.0 t refl g.1 (sym (ap (λ (y : Frame). y.server) g.2) ∙ k) in
+            (c.0, c.1, subst (λ i. Handed more i c.0) (sym m) c.2);
+        replies = λ w b t l k o. now.replies w b t (in-filter (λ (w : Work). not (list_any (λ (d : Work). is_item w d) items)) w s.todo l).0 k o;
+      }
+        where
+          served : Frame → Bool
+          served g = list_any (λ (w : Work). is_call g.made w.kind) items
+
+          was : (f : Frame) → In f (served_frames a.thread.seat items s.frames) → (g : Frame) × In g s.frames × (f ≡ cond (list_any (λ (w : Work). is_call g.made w.kind) items) (serve a.thread.seat g) g)
+          was f l = in-changed (λ (g : Frame). list_any (λ (w : Work). is_call g.made w.kind) items) (serve a.thread.seat) f s.frames l
+
+  pub kept : Keeps s e.seat e.step (Traced more) (Traced more)
+  kept = keeps-by Quiet NotReply quiet_table s e.seat e.step (Traced more) quietly quiet_exits quiet_closes (traced-quiet more) (λ r. refl) (λ r. refl) (record {
+    transacts = λ a d parcel v x i t. transacted-traced a i d parcel v x t;
+    replies = λ a d parcel f v x i g t. replied-traced a i d parcel f v x g t;
+    reads = λ a limit i x n. read-traced a i limit x n;
+    ripens = λ z. traced-quiet more (ripen z) z (quiet.ripen-quiet z);
+  })
+
+  counted-traced : (z : Space) → Traced more z → Traced more (counted z)
+  unfolding counted
+  counted-traced z k = record { below = k.below; callers = k.callers; servers = k.servers; replies = k.replies }
+
+  step-traced : Traced more (after opening more)
+  step-traced =
+      subst (Traced more) (sym (after-append opening es (e ∷ [])))
+      (counted-traced (change s e.seat e.step).space (every_step s e.seat e.step (Traced more) (Traced more) kept))
+
+opening-traced : Traced [] opening
+opening-traced = record { below = λ f l. absurd l; callers = λ f t l e. absurd l; servers = λ f t l e. absurd l; replies = λ w b t l e o. absurd l }
+
+pub always-traced : (es : List Entry) → Traced es (after opening es)
+always-traced es = by-last (λ es. Traced es (after opening es)) step-traced opening-traced es

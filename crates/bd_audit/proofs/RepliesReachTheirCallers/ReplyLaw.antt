@@ -1,0 +1,302 @@
+-- Replies reach their callers: from what each reply has behind it, and since what is gone never comes again.
+use Rattle.bd_laws.proofs.words.Logic.{◌≡◌, ℕ, zero, suc, ◌<◌, ◌==◌, Bool, true, false, List, [], ◌∷◌, ◌++◌, length, take, Option, Some, None, ◌⊎◌, inl, inr, refl, ap, sym, subst, ◌∙◌, not, arith, list_any, slice_get, option_map, option_and_then, option_and_then_some, eqb-true, eq-eqb}
+use Rattle.bd_laws.proofs.words.Types.{TransactionData, Step, Read, Entry, Work, Frame, Actor, OfThread}
+use Rattle.bd_laws.proofs.words.Space.{Space, opening, owe, is_call, same_list, is_item, closed, goes_to, is_frame, innermost, innermost_in, is_deepest_in, made_of, ripen, follow, Delivery, delivered, transacted, called, call_out, replied, read_by, serve, change, counted, History, after, next, space_after}
+use Rattle.bd_space.specs.declared.space.WorkKind.TheVariants as work
+use Rattle.bd_links.specs.TodoList.{reply_of, first_reply_in}
+use Rattle.bd_engine.specs.Looks.{first_reply}
+use Rattle.bd_laws.specs.Lists.{In}
+use Rattle.bd_laws.proofs.Machine.EveryStep.{Keeps, every_step}
+use Rattle.bd_laws.proofs.Lists.{in-push, in-filter, in-changed, find-in, any-in}
+use Rattle.bd_laws.proofs.Machine.Deaths.{on-mapped, on-commands}
+use Rattle.bd_audit.specs.Gifts.{Stands}
+use Rattle.bd_audit.specs.Laws.{space_at}
+use Rattle.bd_audit.specs.Replies.{thread_made, items_taken, reply_taken, reply_taken_at, frame_of, call_closed_at, call_answered, AnswersCall, At, Answered}
+use Rattle.bd_audit.proofs.NamesHaveGiftChains.Chains.{always-steps}
+use Rattle.bd_audit.proofs.RepliesReachTheirCallers.Places.{mid, later-space, next-place, either-way}
+use Rattle.bd_audit.proofs.RepliesReachTheirCallers.CallsOnce.{handed-once}
+use Rattle.bd_audit.proofs.RepliesReachTheirCallers.Quiet as quiet
+use Rattle.bd_laws.proofs.Machine.Table.{keeps-by}
+use Rattle.bd_audit.proofs.RepliesReachTheirCallers.Quiet.{sent-quiet, NotReply, quiet_table, quiet_exits, quiet_closes, Quiet, with_work-quiet, quiet-trans}
+use Rattle.bd_audit.proofs.RepliesReachTheirCallers.RepliesDue.{IsOwed, always-owed}
+use Rattle.bd_audit.proofs.RepliesReachTheirCallers.ReplyTaken.{taken-or-not, first-stands, NoReply}
+use Rattle.bd_audit.proofs.RepliesReachTheirCallers.Answering.{always-traced}
+use Rattle.bd_audit.proofs.RepliesReachTheirCallers.Traces.{Answers, answers-more}
+use Rattle.bd_laws.proofs.Machine.Fields.{serve-made}
+
+-- ---- what a step makes: frames and replies of its own place
+
+pub record From (s z : Space) : Type 0 where
+  pub steps : z.steps ≡ s.steps
+  pub frames : (f : Frame) → In f z.frames → ((g : Frame) × In g s.frames × (f.made ≡ g.made)) ⊎ (f.made ≡ s.steps)
+  pub replies : (w : Work) (b : ℕ) → In w z.todo → reply_of w.kind ≡ Some b → In w s.todo ⊎ (b ≡ s.steps)
+
+from-quiet : (s z y : Space) → Quiet z y → From s y → From s z
+from-quiet s z y k h = record {
+  steps = k.steps ∙ h.steps;
+  frames = λ f l. let g = k.frames f l in elim (h.frames g.0 g.1) [ inl x ↦ inl (x.0, x.1, g.2.made ∙ x.2) | inr e ↦ inr (g.2.made ∙ e) ];
+  replies = λ w b l e. elim (k.todo w l) [ inl i ↦ h.replies w b i e | inr n ↦ (let none = n.1 in absurd (cc)) ];
+}
+
+from-same : (s : Space) → From s s
+from-same s = record { steps = refl; frames = λ f l. inl (f, l, refl); replies = λ w b l e. inl l }
+
+from-quietly : (s z : Space) → Quiet z s → From s z
+from-quietly s z q = from-quiet s z s q (from-same s)
+
+from-call : (s y : Space) (seat p : ℕ) (one_way : Bool) → From s y → From s (called y seat p one_way)
+unfolding call_out owe
+from-call s y seat p true h = h
+from-call s y seat p false h = record {
+  steps = h.steps;
+  frames = λ f l. elim (in-push f _ y.frames l) [ inl i ↦ h.frames f i | inr is ↦ inr (sym (ap (λ (x : Frame). x.made) is) ∙ h.steps) ];
+  replies = λ w b l e. elim (with_work-quiet y.steps y.todo (goes_to y seat p) (work.Call y.steps) refl w l) [
+    | inl i ↦ h.replies w b i e
+    | inr n ↦ (let none = n.1 in absurd (cc))
+  ];
+}
+
+from-transacted : (s : Space) (a : Actor) (d : TransactionData) (v : Delivery) → From s (transacted s a d v)
+unfolding transacted
+from-transacted s a d v = from-call s _ a.thread.seat v.receiver.made v.one_way (from-quietly s _ (sent-quiet s a d v))
+
+from-answer : (s y : Space) (caller : Option ℕ) → From s y → From s (elim caller as (λ (o : Option ℕ). Space) [ None ↦ y | Some t ↦ owe y (OfThread t) (work.Reply s.steps) ])
+unfolding owe
+from-answer s y None h = h
+from-answer s y (Some t) h = record {
+  steps = h.steps;
+  frames = h.frames;
+  replies = λ w b l e. elim (in-push w _ y.todo l) [
+    | inl i ↦ h.replies w b i e
+    | inr is ↦ (let k : Some s.steps ≡ reply_of w.kind = ap (λ (x : Work). reply_of x.kind) is in inr (let j : Some s.steps ≡ Some b = k ∙ e in cc))
+  ];
+}
+
+from-replied : (s : Space) (a : Actor) (d : TransactionData) (f : Frame) (v : Delivery) → From s (replied s a d f v)
+unfolding replied
+from-replied s a d f v =
+    from-answer s (owe (delivered (closed s f.made) a d v) (OfThread a.thread.seat) work.Complete) f.caller
+    (from-quietly s _ (quiet-trans _ (closed s f.made) s (sent-quiet (closed s f.made) a d v) (quiet_closes s f.made)))
+
+from-read : (s : Space) (seat : ℕ) (ws : List Work) → From s (read_by s seat ws)
+unfolding read_by
+from-read s seat ws = record {
+  steps = refl;
+  frames = λ f l.
+      let g = in-changed (λ (g : Frame). list_any (λ (w : Work). is_call g.made w.kind) ws) (serve seat) f s.frames l in
+      inl (g.0, g.1, ap (λ (x : Frame). x.made) g.2 ∙ serve-made seat (list_any (λ (w : Work). is_call g.0.made w.kind) ws) g.0);
+  replies = λ w b l e. inl (in-filter (λ (w : Work). not (list_any (λ (d : Work). is_item w d) ws)) w s.todo l).0;
+}
+
+from-kept : (s : Space) (seat : ℕ) (x : Step) → Keeps s seat x (From s) (From s)
+from-kept s seat x = keeps-by Quiet NotReply quiet_table s seat x (From s) (from-quietly s) quiet_exits quiet_closes (from-quiet s) (λ r. refl) (λ r. refl) (record {
+  transacts = λ a d parcel v e i t. from-transacted s a d v;
+  replies = λ a d parcel f v e i g t. from-replied s a d f v;
+  reads = λ a limit i e n. from-read s a.thread.seat _;
+  ripens = λ z. from-quiet s (ripen z) z (quiet.ripen-quiet z);
+})
+
+pub step-from : (s : Space) (e : Entry) → From s (change s e.seat e.step).space
+step-from s e = every_step s e.seat e.step (From s) (From s) (from-kept s e.seat e.step)
+
+-- ---- what is gone never comes again
+
+-- no frame made there
+abbrev pub NoFrame : ℕ → Space → Type 0
+NoFrame c z = (f : Frame) → In f z.frames → f.made ≡ c → ⊥
+
+pub next-steps : (s : Space) (e : Entry) → (next s e).steps ≡ suc s.steps
+unfolding counted
+next-steps s e = ap suc (step-from s e).steps
+
+pub step-no_frame : (s : Space) (e : Entry) (c : ℕ) → c < s.steps → NoFrame c s → NoFrame c (next s e)
+unfolding counted
+step-no_frame s e c lt h f l is = elim ((step-from s e).frames f l) [
+  | inl g ↦ h g.0 g.1 (sym g.2 ∙ is)
+  | inr at ↦ absurd (omega arith)
+]
+
+pub step-no_reply : (s : Space) (e : Entry) (b : ℕ) → b < s.steps → NoReply b s → NoReply b (next s e)
+unfolding counted
+step-no_reply s e b lt h w l is = elim ((step-from s e).replies w b l is) [ inl i ↦ h w i is | inr at ↦ absurd (omega arith) ]
+
+later-no_frame : (es : List Entry) (s : Space) (c : ℕ) → c < s.steps → NoFrame c s → NoFrame c (after s es)
+later-no_frame [] s c lt h = h
+later-no_frame (e ∷ es) s c lt h = let n = next-steps s e in later-no_frame es (next s e) c (omega arith) (step-no_frame s e c lt h)
+
+later-no_reply : (es : List Entry) (s : Space) (b : ℕ) → b < s.steps → NoReply b s → NoReply b (after s es)
+later-no_reply [] s b lt h = h
+later-no_reply (e ∷ es) s b lt h = let n = next-steps s e in later-no_reply es (next s e) b (omega arith) (step-no_reply s e b lt h)
+
+-- ---- places of a list
+
+standing : (es : List Entry) (i : ℕ) (e : Entry) → slice_get es i ≡ Some e → Stands es i (take i es) e
+standing [] i e h = absurd (cc)
+standing (x ∷ es) zero e h = record { rest = es; all = ap (λ y. y ∷ es) (let is : x ≡ e = cc in is); at = refl }
+standing (x ∷ es) (suc i) e h = let k = standing es i e h in record { rest = k.rest; all = ap (λ ys. x ∷ ys) k.all; at = let a = k.at in omega arith }
+
+pub placed : (before : List Entry) (e : Entry) (rest : List Entry) (i : ℕ) → length before ≡ i
+    → (slice_get (before ++ e ∷ rest) i ≡ Some e) × (take i (before ++ e ∷ rest) ≡ before)
+placed [] e rest zero at = (refl, refl)
+placed [] e rest (suc i) at = absurd (omega arith)
+placed (x ∷ before) e rest zero at = absurd (omega arith)
+placed (x ∷ before) e rest (suc i) at = let k = placed before e rest i (omega arith) in (k.0, ap (λ ys. x ∷ ys) k.1)
+
+pub stood : (es : List Entry) (i : ℕ) (before : List Entry) (e : Entry) → Stands es i before e → (slice_get es i ≡ Some e) × (take i es ≡ before)
+stood es i before e k = subst (λ xs. (slice_get xs i ≡ Some e) × (take i xs ≡ before)) (sym k.all) (placed before e k.rest i k.at)
+
+module _ (es : List Entry) (i j : ℕ) (before later : List Entry) (e f : Entry) (at : Stands es i before e) (then : Stands es j later f) (lt : i < j) where
+  pub no_frame-later : (c : ℕ) → c < i → NoFrame c (next (after opening before) e) → NoFrame c (after opening later)
+  no_frame-later c below h = subst (NoFrame c) (sym (later-space es i j before later e f at then lt)) (later-no_frame (mid es i j before later e f at then lt).0 (next (after opening before) e) c (let n = next-place es i j before later e f at then lt in omega arith) h)
+
+  pub no_reply-later : (b : ℕ) → b < i → NoReply b (next (after opening before) e) → NoReply b (after opening later)
+  no_reply-later b below h = subst (NoReply b) (sym (later-space es i j before later e f at then lt)) (later-no_reply (mid es i j before later e f at then lt).0 (next (after opening before) e) b (let n = next-place es i j before later e f at then lt in omega arith) h)
+
+-- ---- a call is closed once, and a reply taken once
+
+open-frame : (s : Space) (e : Entry) (c : ℕ) → frame_of s e ≡ Some c → (f : Frame) × In f s.frames × (f.made ≡ c)
+unfolding frame_of innermost
+open-frame s e c h = at (innermost_in s.frames e.seat) refl h
+  where
+    at : (o : Option Frame) → innermost_in s.frames e.seat ≡ o → option_map made_of o ≡ Some c → (f : Frame) × In f s.frames × (f.made ≡ c)
+    at None k h = absurd (cc)
+    at (Some f) k h = (f, (find-in (is_deepest_in s.frames e.seat) f s.frames k).0, (let j : Some f.made ≡ Some c = h in cc))
+
+pub closed-no_frame : (s : Space) (c : ℕ) → list_any (is_frame c) s.frames ≡ false → NoFrame c s
+closed-no_frame s c h f l is = let yes = any-in (is_frame c) f s.frames l (eq-eqb f.made c is) in absurd (cc)
+
+abbrev Closes : List Entry → ℕ → ℕ → Type 0
+Closes es w c = (n : ℕ) × (c < w) × At es w (λ z e. AnswersCall z e c n)
+
+closed-once : (es : List Entry) (c w v : ℕ) → Closes es w c → Closes es v c → w < v → ⊥
+closed-once es c w v h k lt =
+    let p = h.2 in
+    let q = k.2 in
+    let f = open-frame (after opening q.0) q.1 c q.3.innermost in
+    no_frame-later es w v p.0 q.0 p.1 q.1 p.2 q.2 lt c h.1 (closed-no_frame (next (after opening p.0) p.1) c p.3.closes) f.0 f.1 f.2
+
+pub is-reading : (s : Space) (e : Entry) (r : ℕ) → reply_taken s e ≡ Some r → (limit : ℕ) × (e.step ≡ Read limit)
+unfolding reply_taken
+is-reading s e r h = at e.step refl h
+  where
+    at : (x : Step) → e.step ≡ x → first_reply_in (items_taken s e.seat x) ≡ Some r → (limit : ℕ) × (e.step ≡ Read limit)
+    at (Read limit) k h = (limit, k)
+    at _ k h = absurd (cc)
+
+-- the item that a reading takes stood on its thread's list, and has gone
+pub record Took (s : Space) (e : Entry) (r : ℕ) : Type 0 where
+  pub item : Work
+  pub here : In item s.todo
+  pub reply : reply_of item.kind ≡ Some r
+  pub list : item.list ≡ OfThread e.seat
+  pub gone : NoReply r (next s e)
+
+pub took : (s : Space) → IsOwed s → (e : Entry) (r : ℕ) → reply_taken s e ≡ Some r → Took s e r
+took s h e r t =
+    let reading = is-reading s e r t in
+    elim (taken-or-not s h e reading.0 reading.1) [
+      | inl n ↦ (let none = n.0 in absurd (cc))
+      | inr k ↦ (
+          let is : k.0 ≡ r = (let j : Some k.0 ≡ Some r = sym k.1 ∙ t in cc) in
+          let w = first-stands s e.seat r (subst (λ n. first_reply s e.seat ≡ Some n) is k.2) in
+          let l = h.list w.0 r w.1 w.2 in
+          let on : (e.seat == l.0) ≡ true = ap (λ x. same_list (OfThread e.seat) x) (sym l.1) ∙ w.3 in
+          record {
+            item = w.0;
+            here = w.1;
+            reply = w.2;
+            list = l.1 ∙ ap (λ n. OfThread n) (sym (eqb-true e.seat l.0 on));
+            gone = subst (λ n. NoReply n (next s e)) is k.3;
+          })
+    ]
+
+pub owed-after : (es : List Entry) → IsOwed (after opening es)
+unfolding space_after
+owed-after es = always-owed (record { seats = 0; entries = es })
+
+abbrev Reads : List Entry → ℕ → ℕ → Type 0
+Reads es s w = At es s (λ z e. reply_taken z e ≡ Some w)
+
+pub taken-once : (es : List Entry) (w s r : ℕ) → Reads es s w → Reads es r w → w < s → s < r → ⊥
+taken-once es w s r p q below lt =
+    let k = took (after opening p.0) (owed-after p.0) p.1 w p.3 in
+    let l = took (after opening q.0) (owed-after q.0) q.1 w q.3 in
+    no_reply-later es s r p.0 q.0 p.1 q.1 p.2 q.2 lt w below k.gone l.item l.here l.reply
+
+-- ---- the law
+
+record Found (h : History) (s w : ℕ) : Type 0 where
+  caller : ℕ
+  answers : Answers h.entries w caller
+  reads : Reads h.entries s w
+  read : At h.entries s (λ z e. thread_made z e.seat ≡ Some caller)
+  reply_next : w < s
+
+pub at-place : (h : History) (s w : ℕ) → reply_taken_at h s ≡ Some w → Reads h.entries s w
+unfolding reply_taken_at space_after
+at-place h s w e =
+    option_and_then_some (reply_taken (space_at h s)) (slice_get h.entries s) w e (λ x g t. (take s h.entries, x, standing h.entries s x g, t))
+
+find-answer : (h : History) (s w : ℕ) → reply_taken_at h s ≡ Some w → Found h s w
+find-answer h s w e =
+    let p = at-place h s w e in
+    let k = took (after opening p.0) (owed-after p.0) p.1 w p.3 in
+    let t = (always-traced p.0).replies k.item w p.1.seat k.here k.reply k.list in
+    let rest = p.1 ∷ p.2.rest in
+    record {
+      caller = t.0;
+      answers = subst (λ es. Answers es w t.0) (sym p.2.all) (answers-more p.0 rest w t.0 t.2);
+      reads = p;
+      read = (p.0, p.1, p.2, t.1);
+      reply_next =
+          let below = (owed-after p.0).place k.item k.here in
+          let made = (owed-after p.0).made k.item w k.here k.reply in
+          let steps = always-steps p.0 in
+          let at = p.2.at in
+          omega arith;
+    }
+
+closes-call : (h : History) (w c n : ℕ) → At h.entries w (λ z e. AnswersCall z e c n) → call_closed_at h w ≡ Some c
+unfolding call_closed_at space_after
+closes-call h w c n k =
+    let at = stood h.entries w k.0 k.1 k.2 in
+    ap (λ o. option_and_then (frame_of (after opening (take w h.entries))) o) at.0 ∙ ap (λ es. frame_of (after opening es) k.1) at.1 ∙ k.3.innermost
+
+answered : (h : History) (s w c : ℕ) → reply_taken_at h s ≡ Some w → call_closed_at h w ≡ Some c → call_answered h s ≡ Some c
+unfolding call_answered
+answered h s w c e f = ap (λ o. option_and_then (call_closed_at h) o) e ∙ f
+
+answered-by : (h : History) (s c : ℕ) → call_answered h s ≡ Some c → (w : ℕ) × (reply_taken_at h s ≡ Some w) × (call_closed_at h w ≡ Some c)
+unfolding call_answered
+answered-by h s c e = option_and_then_some (call_closed_at h) (reply_taken_at h s) c e (λ w f g. (w, f, g))
+
+pub reaches : (h : History) (s w : ℕ) → reply_taken_at h s ≡ Some w → Answered h s w
+reaches h s w e =
+    let k = find-answer h s w e in
+    let a = k.answers in
+    record {
+      call = a.call;
+      handed = a.handed;
+      caller = k.caller;
+      server = a.server;
+      answers = answered h s w a.call e (closes-call h w a.call a.server a.replied);
+      called = a.called;
+      taken = a.taken;
+      once = λ p f. handed-once h.entries a.call k.caller a.called p a.handed f (let t = a.taken in (t.0, t.1, t.2, t.3.taken));
+      replied = a.replied;
+      read = k.read;
+      call_first = a.call_first;
+      handed_next = a.handed_next;
+      reply_next = k.reply_next;
+      alone = λ r f.
+          let b = answered-by h r a.call f in
+          let l = find-answer h r b.0 b.1 in
+          let c = l.answers in
+          let same_call : c.call ≡ a.call = (let x = closes-call h b.0 c.call c.server c.replied in let y = b.2 in let j : Some c.call ≡ Some a.call = sym x ∙ y in cc) in
+          let first : Closes h.entries w a.call = (a.server, (let p = a.call_first in let q = a.handed_next in omega arith), a.replied) in
+          let other : Closes h.entries b.0 a.call = subst (Closes h.entries b.0) same_call (c.server, (let p = c.call_first in let q = c.handed_next in omega arith), c.replied) in
+          let same_reply : b.0 ≡ w = either-way b.0 w (closed-once h.entries a.call b.0 w other first) (closed-once h.entries a.call w b.0 first other) in
+          let reads : Reads h.entries r w = subst (Reads h.entries r) same_reply l.reads in
+          let below : w < r = subst (λ n. n < r) same_reply l.reply_next in
+          either-way r s (taken-once h.entries w r s reads k.reads below) (taken-once h.entries w s r k.reads reads k.reply_next);
+    }

@@ -1,0 +1,171 @@
+-- The past of frames and of replies that are due: what they have behind them, and one frame or reply more.
+use Rattle.bd_laws.proofs.words.Logic.{◌≡◌, ℕ, zero, suc, ◌<◌, ◌+◌, ◌-◌, ◌==◌, Bool, true, false, cond, not, List, [], ◌∷◌, ◌++◌, length, Option, Some, None, Ok, inl, inr, refl, ap, sym, subst, ◌∙◌, append_assoc, length-append, arith, list_any, find, option_map, eqb-true, eq-eqb}
+use Rattle.bd_laws.proofs.words.Types.{TransactionData, Return, DeadReply, Parcel, Command, Read, Accepted, Entry, Thread, Work, Frame, Actor, Pending, Serving, TodoList, OfThread, WorkKind}
+use Rattle.bd_laws.proofs.words.Space.{Space, opening, actor, owe, is_call, list_to_read, is_item, closed, goes_to, is_frame, innermost, innermost_in, served_innermost, made_of, is_deepest_in, ripen, follow, settle, settle_one, settle_times, is_abandoned, Delivery, delivered, own_notices, add_buffer, known_by, refer, make_objects, assign_numbers, completed, transaction_step, transaction_outcome, transaction_check, transacted, called, call_out, is_one_way, reply_step, reply_to, reply_outcome, reply_check, replied, command_step, taken, read_by, serve, served_frames, read_fault, change, counted, by_actor, after, next}
+use Rattle.bd_uapi.specs.declared.command.Command.TheVariants as bc
+use Rattle.bd_space.specs.declared.space.WorkKind.TheVariants as work
+use Rattle.bd_links.specs.TodoList.{reply_of}
+use Rattle.bd_laws.specs.Lists.{In}
+use Rattle.bd_laws.proofs.Machine.EveryStep.{Keeps, every_step}
+use Rattle.bd_laws.proofs.Lists.{in-push, in-filter, in-changed, find-in, any-found, by-last}
+use Rattle.bd_laws.proofs.Tests.{not-true}
+use Rattle.bd_laws.proofs.Checks.{actor-lives, transaction-checked}
+use Rattle.bd_laws.proofs.Machine.Deaths.{on-mapped, on-commands}
+use Rattle.bd_laws.proofs.OnPaths.PathWords.{served-is}
+use Rattle.bd_audit.specs.Replies.{made_in, thread_made, items_read, items_taken, items_unless, frame_of, Calls, TakesCall, AnswersCall, At}
+use Rattle.bd_audit.proofs.Beginnings.{after-append}
+use Rattle.bd_audit.proofs.NamesHaveGiftChains.Chains.{always-steps}
+use Rattle.bd_audit.proofs.RepliesReachTheirCallers.Quiet as quiet
+use Rattle.bd_laws.proofs.Machine.Table.{keeps-by}
+use Rattle.bd_audit.proofs.RepliesReachTheirCallers.Quiet.{sent-quiet, completed-quiet, NotReply, quiet_table, quiet_exits, quiet_closes, Quiet, with_work-quiet, quiet-trans}
+use Rattle.bd_laws.proofs.Machine.Fields.{closed-threads, serve-made, owe-threads}
+
+-- ---- places
+
+pub at-more : (es fs : List Entry) (i : ℕ) (P : Space → Entry → Type 0) → At es i P → At (es ++ fs) i P
+at-more es fs i P h =
+    let k = h.2 in
+    (h.0, h.1, record { rest = k.rest ++ fs; all = ap (λ xs. xs ++ fs) k.all ∙ append_assoc h.0 (h.1 ∷ k.rest) fs; at = k.at }, h.3)
+
+pub at-here : (es : List Entry) (e : Entry) (P : Space → Entry → Type 0) → P (after opening es) e → At (es ++ e ∷ []) (length es) P
+at-here es e P h = (es, e, record { rest = []; all = refl; at = refl }, h)
+
+pub at-below : (es : List Entry) (i : ℕ) (P : Space → Entry → Type 0) → At es i P → i < length es
+at-below es i P h =
+    let k = h.2 in
+    let l : length es ≡ length h.0 + length (h.1 ∷ k.rest) = ap length k.all ∙ length-append h.0 (h.1 ∷ k.rest) in
+    let a = k.at in omega arith
+
+-- ---- the past of frames and replies
+
+abbrev pub Called : List Entry → ℕ → ℕ → Type 0
+Called es c m = At es c (λ z e. Calls z e m)
+
+abbrev pub Handed : List Entry → ℕ → ℕ → Type 0
+Handed es c m = (d : ℕ) × (c < d) × At es d (λ z e. TakesCall z e c m)
+
+-- the reply made at b answers the call of the thread m
+pub record Answers (es : List Entry) (b m : ℕ) : Type 0 where
+  pub call : ℕ
+  pub handed : ℕ
+  pub server : ℕ
+  pub called : Called es call m
+  pub taken : At es handed (λ z e. TakesCall z e call server)
+  pub replied : At es b (λ z e. AnswersCall z e call server)
+  pub call_first : call < handed
+  pub handed_next : handed < b
+
+pub record Traced (es : List Entry) (z : Space) : Type 0 where
+  pub below : (f : Frame) → In f z.frames → f.made < length es
+  pub callers : (f : Frame) (t : ℕ) → In f z.frames → f.caller ≡ Some t → (m : ℕ) × (thread_made z t ≡ Some m) × Called es f.made m
+  pub servers : (f : Frame) (t : ℕ) → In f z.frames → f.server ≡ Serving t → (m : ℕ) × (thread_made z t ≡ Some m) × Handed es f.made m
+  pub replies : (w : Work) (b t : ℕ) → In w z.todo → reply_of w.kind ≡ Some b → w.list ≡ OfThread t → (m : ℕ) × (thread_made z t ≡ Some m) × Answers es b m
+
+pub answers-more : (es fs : List Entry) (b m : ℕ) → Answers es b m → Answers (es ++ fs) b m
+answers-more es fs b m h = record {
+  call = h.call;
+  handed = h.handed;
+  server = h.server;
+  called = at-more es fs h.call (λ z e. Calls z e m) h.called;
+  taken = at-more es fs h.handed (λ z e. TakesCall z e h.call h.server) h.taken;
+  replied = at-more es fs b (λ z e. AnswersCall z e h.call h.server) h.replied;
+  call_first = h.call_first;
+  handed_next = h.handed_next;
+}
+
+pub traced-more : (es fs : List Entry) (z : Space) → Traced es z → Traced (es ++ fs) z
+traced-more es fs z h = record {
+  below = λ f l. let lt = h.below f l in let a = length-append es fs in omega arith;
+  callers = λ f t l e. let k = h.callers f t l e in (k.0, k.1, at-more es fs f.made (λ z e. Calls z e k.0) k.2);
+  servers = λ f t l e. let k = h.servers f t l e in (k.0, k.1, (k.2.0, k.2.1, at-more es fs k.2.0 (λ z e. TakesCall z e f.made k.0) k.2.2));
+  replies = λ w b t l e o. let k = h.replies w b t l e o in (k.0, k.1, answers-more es fs b k.0 k.2);
+}
+
+pub traced-quiet : (es : List Entry) (z y : Space) → Quiet z y → Traced es y → Traced es z
+traced-quiet es z y k h = record {
+  below = λ f l. let g = k.frames f l in let lt = h.below g.0 g.1 in let e = g.2.made in omega arith;
+  callers = λ f t l e.
+      let g = k.frames f l in
+      let x = h.callers g.0 t g.1 (g.2.caller t e) in
+      (x.0, k.threads t x.0 x.1 (inl (f, l, inl e)), subst (λ c. Called es c x.0) (sym g.2.made) x.2);
+  servers = λ f t l e.
+      let g = k.frames f l in
+      let x = h.servers g.0 t g.1 (g.2.server t e) in
+      (x.0, k.threads t x.0 x.1 (inl (f, l, inr e)), subst (λ c. Handed es c x.0) (sym g.2.made) x.2);
+  replies = λ w b t l e o. elim (k.todo w l) [
+    | inl i ↦ (let x = h.replies w b t i e o in (x.0, k.threads t x.0 x.1 (inr (w, b, l, e, o)), x.2))
+    | inr n ↦ (let none = n.1 in absurd (cc))
+  ];
+}
+
+-- ---- accepted commands
+
+module _ (s : Space) (seat : ℕ) (a : Actor) (d : TransactionData) (parcel : Option Parcel) (v : Delivery) (acts : actor s seat ≡ Some a) where
+  pub transaction-accepted : transaction_check s a d parcel ≡ Ok v → (change s seat (Command (bc.Transaction d) parcel)).answer ≡ Accepted
+  unfolding change command_step transaction_step
+  transaction-accepted h =
+      ap (λ o. (by_actor s o (λ b. command_step s b (bc.Transaction d) parcel)).answer) acts ∙ ap (λ r. (transaction_outcome s a d r).answer) h
+
+  module _ (f : Frame) (g : served_innermost s a.thread.seat ≡ Some f) (h : reply_check s a d parcel f ≡ Ok v) where
+    pub reply-accepted : (change s seat (Command (bc.Reply d) parcel)).answer ≡ Accepted
+    unfolding change command_step reply_step
+    reply-accepted =
+        ap (λ o. (by_actor s o (λ b. command_step s b (bc.Reply d) parcel)).answer) acts
+        ∙ ap (λ o. (reply_to s a d parcel o).answer) g ∙ ap (λ r. (reply_outcome s a d f r).answer) h
+
+    pub reply-space : (change s seat (Command (bc.Reply d) parcel)).space ≡ completed (replied s a d f v)
+    unfolding change command_step reply_step
+    reply-space =
+        ap (λ o. (by_actor s o (λ b. command_step s b (bc.Reply d) parcel)).space) acts
+        ∙ ap (λ o. (reply_to s a d parcel o).space) g ∙ ap (λ r. (reply_outcome s a d f r).space) h
+
+pub actor-made : (s : Space) (seat : ℕ) (a : Actor) → actor s seat ≡ Some a → (a.thread.seat ≡ seat) × (thread_made s seat ≡ Some a.thread.made)
+actor-made s seat a h =
+    let k = (actor-lives s seat a h).0 in
+    (eqb-true a.thread.seat seat (find-in (λ (t : Thread). t.seat == seat) a.thread s.threads k).1, ap (λ o. option_map (λ (t : Thread). t.made) o) k)
+
+-- ---- the threads that deliver are the ones that were
+
+pub delivered-threads : (s : Space) (a : Actor) (d : TransactionData) (v : Delivery) → (delivered s a d v).threads ≡ s.threads
+unfolding delivered own_notices add_buffer known_by assign_numbers refer make_objects
+delivered-threads s a d v = refl
+
+-- ---- one frame more, and one reply more
+
+pub framed : (es : List Entry) (y : Space) (seat p m : ℕ) → Traced es y → thread_made y seat ≡ Some m → Called es y.steps m → y.steps < length es → Traced es (call_out y seat p)
+unfolding call_out owe
+framed es y seat p m h by called lt = record {
+  below = λ f l. elim (in-push f _ y.frames l) [ inl i ↦ h.below f i | inr is ↦ (let e : y.steps ≡ f.made = ap (λ (x : Frame). x.made) is in omega arith) ];
+  callers = λ f t l e. elim (in-push f _ y.frames l) [
+    | inl i ↦ h.callers f t i e
+    | inr is ↦ (
+        let c : Some seat ≡ f.caller = ap (λ (x : Frame). x.caller) is in
+        let same_seat : seat ≡ t = (let k : Some seat ≡ Some t = c ∙ e in cc) in
+        (m, subst (λ n. thread_made y n ≡ Some m) same_seat by, subst (λ n. Called es n m) (ap (λ (x : Frame). x.made) is) called))
+  ];
+  servers = λ f t l e. elim (in-push f _ y.frames l) [
+    | inl i ↦ h.servers f t i e
+    | inr is ↦ (let k : Pending ≡ f.server = ap (λ (x : Frame). x.server) is in absurd (cc))
+  ];
+  replies = λ w b t l e o. elim (with_work-quiet y.steps y.todo (goes_to y seat p) (work.Call y.steps) refl w l) [
+    | inl i ↦ h.replies w b t i e o
+    | inr n ↦ (let none = n.1 in absurd (cc))
+  ];
+}
+
+pub answering : (es : List Entry) (y : Space) (t m n : ℕ) → Traced es y → thread_made y t ≡ Some m → Answers es n m → Traced es (owe y (OfThread t) (work.Reply n))
+unfolding owe
+answering es y t m n h by answer = record {
+  below = h.below;
+  callers = h.callers;
+  servers = h.servers;
+  replies = λ w b u l e o. elim (in-push w _ y.todo l) [
+    | inl i ↦ h.replies w b u i e o
+    | inr is ↦ (
+        let k : Some n ≡ reply_of w.kind = ap (λ (x : Work). reply_of x.kind) is in
+        let made : n ≡ b = (let j : Some n ≡ Some b = k ∙ e in cc) in
+        let on : OfThread t ≡ w.list = ap (λ (x : Work). x.list) is in
+        let seat : t ≡ u = (let j : OfThread t ≡ OfThread u = on ∙ o in cc) in
+        (m, subst (λ x. thread_made y x ≡ Some m) seat by, subst (λ x. Answers es x m) made answer))
+  ];
+}

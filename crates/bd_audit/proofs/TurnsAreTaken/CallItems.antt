@@ -1,0 +1,247 @@
+-- The work items of a one-way call: it is due once at most, on its receiver's list, while its buffer lives and isn't handed
+-- out; and what a step makes of its buffer.
+use Rattle.bd_laws.proofs.words.Logic.{◌≡◌, ℕ, ◌-◌, ◌<◌, ◌==◌, Bool, true, false, cond, not, List, [], ◌∷◌, ◌++◌, Option, Some, None, Ok, ◌⊎◌, inl, inr, refl, ap, sym, subst, ◌∙◌, map, filter, arith, list_any, count_by, eqb-true, eq-eqb}
+use Rattle.bd_laws.proofs.words.Types.{TransactionData, ObjectId, Parcel, Step, Command, Read, Entry, Actor, Frame, Thread, Buffer, Turn, Work, TodoList, OfThread, OfProcess, WorkKind}
+use Rattle.bd_laws.proofs.words.Space.{same, changed, Space, actor, owe, with_work, is_call, hands_out, is_on, list_to_read, is_item, closed, goes_to, turn_of, turns_of, is_ripe, ripened, ripen, follow, assign_numbers, Delivery, delivered, own_notices, add_buffer, known_by, refer, make_objects, buffer_of, transaction_check, transacted, called, call_out, is_one_way, reply_check, replied, without_buffer, is_made_at, thread_goes, is_lost_with, threads_go, without_process, tell_deaths, seat_of, taken, read_by, buffer_taken, hand_out, handed_buffers, read_fault, change, with_thread, with_process, with_manager}
+use Rattle.bd_uapi.specs.declared.command.Command.TheVariants as bc
+use Rattle.bd_space.specs.declared.space.WorkKind.TheVariants as work
+use Rattle.bd_laws.proofs.words.Laws.{In, IsInTurn, On}
+use Rattle.bd_laws.proofs.Machine.EveryStep.{Keeps, every_step}
+use Rattle.bd_laws.proofs.Lists.{in-left, in-push, in-filter, filter-in, in-changed, changed-in, in-filter_map, any-in, fold-keeps}
+use Rattle.bd_laws.proofs.Tests.{not-true, ripe-parts}
+use Rattle.bd_laws.proofs.IsInTurn.OneWay.{less_table, less_exits, less_closes, Less, own_notices-less}
+use Rattle.bd_laws.proofs.Machine.Untouched.{Untouched}
+use Rattle.bd_laws.proofs.IsInTurn.Ripening.{turn-parts, taken-due, read-in, made-kept}
+use Rattle.bd_laws.proofs.Checks.{Transacts, transaction-checked, reply-checked}
+use Rattle.bd_laws.proofs.IsInTurn.Passing.{lost-on, not-on, at_pointer-in}
+use Rattle.bd_laws.proofs.IsInTurn.Passed.{After, ask-after, drop_asked-after, acknowledge-after, follow-after}
+use Rattle.bd_laws.proofs.IsInTurn.Received.{one-buffer}
+use Rattle.bd_laws.proofs.OnPaths.PathWords.{same-item}
+use Rattle.bd_laws.proofs.Machine.Deaths.{on-mapped, on-both, on-commands}
+use Rattle.bd_audit.specs.Replies.{items_taken, items_read, items_unless}
+use Rattle.bd_audit.specs.TurnCalls.{CallsOneWay}
+use Rattle.bd_laws.proofs.IsInTurn.OneWay
+use Rattle.bd_laws.proofs.Machine.Untouched
+use Rattle.bd_audit.proofs.RepliesReachTheirCallers.Traces.{transaction-accepted}
+use Rattle.bd_laws.proofs.Machine.Fields.{sent-steps, closed-steps}
+use Rattle.bd_audit.proofs.TurnsAreTaken.CallItemsKept.{Hands, DueOnce, IsOneWay, HandedBefore, Treats, once-less, treats-after, treats-untouched, treats-opened, treats-attached, treats-managed, gone-buffer, gone-thread, gone-ends, ripens}
+
+module _ (s : Space) (e : Entry) (m : ℕ) where
+  -- ---- transactions and replies
+
+  delivers : (y : Space) (a : Actor) (d : TransactionData) (v : Delivery) → ((o : ObjectId) → v.one_way ≡ true → v.target ≡ Some o → CallsOneWay s e o) → Treats s e m y
+      → Treats s e m (delivered y a d v)
+  unfolding delivered own_notices add_buffer known_by assign_numbers refer make_objects
+  delivers y a d v calls h = record {
+    once = λ fits.
+        (once-less s e m) y.buffers _ _ y.todo (λ w i. own_notices-less (add_buffer (known_by y v) (buffer_of (known_by y v) a d v)) a.thread.seat v.sending.items w m i.0 i.1)
+        (λ w i u. in-left u.buffer y.buffers (buffer_of (known_by y v) a d v ∷ []) u.here) (h.once fits);
+    handed = λ c i made handed. elim (in-push c (buffer_of (known_by y v) a d v) y.buffers i) [
+      | inl k ↦ h.handed c k made handed
+      | inr is ↦ (let no : false ≡ c.handed = ap (λ (x : Buffer). x.handed) is in absurd (cc))
+    ];
+    made = λ o c i at on. elim (in-push c (buffer_of (known_by y v) a d v) y.buffers i) [
+      | inl k ↦ h.made o c k at on
+      | inr is ↦ calls o (ap (λ (x : Buffer). x.one_way) is ∙ on.0) (ap (λ (x : Buffer). x.target) is ∙ on.1)
+    ];
+  }
+
+  -- an item that hands over what the step makes, but that is no one-way call
+  hands-other : (z y : Space) (list : TodoList) (kind : WorkKind) → hands_out kind ≡ Some s.steps → (IsOneWay e.step → ⊥) → z.buffers ≡ y.buffers
+      → z.todo ≡ with_work y.steps y.todo list kind → Treats s e m y → Treats s e m z
+  hands-other z y list kind hands none buffers more h = record {
+    once = λ fits. elim fits [
+      | inl lt ↦ (once-less s e m) y.buffers z.buffers z.todo y.todo (was lt) (λ w i u. subst (In u.buffer) (sym buffers) u.here) (h.once (inl lt))
+      | inr call ↦ absurd (none call)
+    ];
+    handed = λ c i. h.handed c (subst (In c) buffers i);
+    made = λ o c i. h.made o c (subst (In c) buffers i);
+  }
+    where
+      was : m < s.steps → (w : Work) → Hands m z.todo w → In w y.todo
+      was lt w i = elim (in-push w _ y.todo (subst (In w) more i.0)) [
+        | inl k ↦ k
+        | inr is ↦ (let k : Some s.steps ≡ Some m = sym hands ∙ ap (λ (x : Work). hands_out x.kind) is ∙ i.1 in let at : s.steps ≡ m = cc in absurd (omega arith))
+      ]
+
+  owes : (z : Space) (list : TodoList) (kind : WorkKind) → hands_out kind ≡ None → Treats s e m z → Treats s e m (owe z list kind)
+  owes z list kind none h = (treats-untouched s e m) _ z (Untouched.owe-untouched z list kind) (OneWay.owe-less z list kind none) h
+
+  calls-out : (z : Space) (seat p : ℕ) → z.steps ≡ s.steps → (IsOneWay e.step → ⊥) → Treats s e m z → Treats s e m (call_out z seat p)
+  unfolding call_out owe
+  calls-out z seat p steps none h = hands-other _ z (goes_to z seat p) (work.Call z.steps) (ap (λ n. Some n) steps) none refl refl h
+
+  calls : (z : Space) (seat p : ℕ) (one_way : Bool) → z.steps ≡ s.steps → (one_way ≡ false → IsOneWay e.step → ⊥) → Treats s e m z → Treats s e m (called z seat p one_way)
+  calls z seat p true steps none h = h
+  calls z seat p false steps none h = calls-out z seat p steps (none refl) h
+
+  replies-to : (z : Space) (caller : Option ℕ) → z.steps ≡ s.steps → (IsOneWay e.step → ⊥) → Treats s e m z
+      → Treats s e m (elim caller as (λ (o : Option ℕ). Space) [ None ↦ z | Some t ↦ owe z (OfThread t) (work.Reply s.steps) ])
+  unfolding owe
+  replies-to z None steps none h = h
+  replies-to z (Some t) steps none h = hands-other _ z (OfThread t) (work.Reply s.steps) refl none refl refl h
+
+  sends : (y : Space) (a : Actor) (d : TransactionData) (v : Delivery) → ((o : ObjectId) → v.one_way ≡ true → v.target ≡ Some o → CallsOneWay s e o) → Treats s e m y
+      → Treats s e m (owe (delivered y a d v) (OfThread a.thread.seat) work.Complete)
+  sends y a d v made h = owes (delivered y a d v) (OfThread a.thread.seat) work.Complete refl (delivers y a d v made h)
+
+  module _ (a : Actor) (acts : actor s e.seat ≡ Some a) (d : TransactionData) (parcel : Option Parcel) where
+    transacts : (v : Delivery) → e.step ≡ Command (bc.Transaction d) parcel → transaction_check s a d parcel ≡ Ok v → Treats s e m s → Treats s e m (transacted s a d v)
+    unfolding transacted
+    transacts v x check h =
+        calls (owe (delivered s a d v) (OfThread a.thread.seat) work.Complete) a.thread.seat v.receiver.made v.one_way (sent-steps s a d v) other (sends s a d v made h)
+      where
+        t : Transacts s a d parcel v
+        t = transaction-checked s a d parcel v check
+
+        other : v.one_way ≡ false → IsOneWay e.step → ⊥
+        other two_way k =
+            let same_step : Command (bc.Transaction d) parcel ≡ Command (bc.Transaction k.0) k.1 = sym x ∙ k.2 in
+            let is : d ≡ k.0 = cc in
+            let yes : is_one_way d ≡ true = ap is_one_way is ∙ k.3 in
+            let either_way = t.one_way in
+            absurd (cc)
+
+        made : (o : ObjectId) → v.one_way ≡ true → v.target ≡ Some o → CallsOneWay s e o
+        made o one_way target =
+            let is : t.object ≡ o = (let f = t.target in cc) in
+            record {
+              actor_is = a;
+              acts = acts;
+              fields = d;
+              parcel = parcel;
+              command = x;
+              one_way = sym t.one_way ∙ one_way;
+              target = t.named ∙ ap (λ (y : ObjectId). Ok y) is;
+              accepted = ap (λ y. (change s e.seat y).answer) x ∙ transaction-accepted s e.seat a d parcel v acts check;
+            }
+
+    replies : (f : Frame) (v : Delivery) → e.step ≡ Command (bc.Reply d) parcel → reply_check s a d parcel f ≡ Ok v → Treats s e m s → Treats s e m (replied s a d f v)
+    unfolding replied
+    replies f v x check h =
+        replies-to (owe (delivered (closed s f.made) a d v) (OfThread a.thread.seat) work.Complete) f.caller (sent-steps (closed s f.made) a d v ∙ closed-steps s f.made) other
+        (sends (closed s f.made) a d v made ((treats-untouched s e m) (closed s f.made) s (Untouched.closed-untouched s f.made) (less_closes s f.made) h))
+      where
+        other : IsOneWay e.step → ⊥
+        other k = let same_step : Command (bc.Reply d) parcel ≡ Command (bc.Transaction k.0) k.1 = sym x ∙ k.2 in absurd (cc)
+
+        made : (o : ObjectId) → v.one_way ≡ true → v.target ≡ Some o → CallsOneWay s e o
+        made o one_way target = let none = (reply-checked s a d parcel f v check).target in absurd (cc)
+
+  -- ---- reading
+
+  module _ (turns : IsInTurn s) (due : DueOnce m s.buffers s.todo) where
+    at-start : Treats s e m s
+    at-start = record {
+      once = λ fits. due;
+      handed = λ c i made handed. inl (c, i, made, handed);
+      made = λ o c i at on. let lt = turns.below c i in absurd (omega arith);
+    }
+
+    module _ (a : Actor) (limit : ℕ) (acts : actor s e.seat ≡ Some a) (x : e.step ≡ Read limit) (n : read_fault limit (list_to_read s a.thread) ≡ None) where
+      abbrev items : List Work
+      items = taken s (limit - 4) (list_to_read s a.thread)
+
+      takes-items : items_taken s e.seat e.step ≡ items
+      takes-items = ap (λ y. items_taken s e.seat y) x ∙ ap (λ o. items_read s limit o) acts ∙ ap (λ o. items_unless o items) n
+
+      abbrev left : Work → Bool
+      left w = not (list_any (λ (d : Work). is_item w d) items)
+
+      was : (w : Work) → Hands m (filter left s.todo) w → Hands m s.todo w
+      was w i = ((in-filter left w s.todo i.0).0, i.1)
+
+      -- who hands the buffer over is among the items taken
+      hander : (b : Buffer) → buffer_taken s items ≡ Some b → b.made ≡ m → (v : Work) × In v items × Hands m s.todo v
+      hander b e made =
+          let v = (taken-due s items b e).1 in
+          (v.0, v.1, (read-in s a.thread (limit - 4) v.0 v.1, v.2 ∙ ap (λ i. Some i) made))
+
+      -- a buffer whose item isn't taken stays as it was
+      stays : (w : Work) → Hands m (filter left s.todo) w → (b : Buffer) → In b s.buffers → b.made ≡ m
+          → (o : Option Buffer) → buffer_taken s items ≡ o → In b (handed_buffers s.buffers o)
+      stays w i b here made None f = here
+      stays w i b here made (Some y) f = at (is_made_at y.made b) refl (changed-in (is_made_at y.made) hand_out b s.buffers here)
+        where
+          at : (t : Bool) → is_made_at y.made b ≡ t → In (cond t (hand_out b) b) (changed (is_made_at y.made) hand_out s.buffers) → In b (changed (is_made_at y.made) hand_out s.buffers)
+          at false g k = k
+          at true g k =
+              let v = hander y f (sym (eqb-true b.made y.made g) ∙ made) in
+              let is = due.one w v.0 (was w i) v.2 in
+              let yes = any-in (λ (d : Work). is_item w d) v.0 items v.1 (same-item w v.0 is) in
+              let none = not-true (list_any (λ (d : Work). is_item w d) items) (in-filter left w s.todo i.0).1 in
+              absurd (cc)
+
+      calls-taken : (b : Buffer) → buffer_taken s items ≡ Some b → b.made ≡ m → list_any (λ (w : Work). is_call m w.kind) (items_taken s e.seat e.step) ≡ true
+      calls-taken b f made =
+          let v = hander b f made in
+          ap (λ ws. list_any (λ (w : Work). is_call m w.kind) ws) takes-items
+          ∙ any-in (λ (w : Work). is_call m w.kind) v.0 items v.1 (due.call v.0 v.2)
+
+      handed-out : (c : Buffer) → (o : Option Buffer) → buffer_taken s items ≡ o → In c (handed_buffers s.buffers o) → c.made ≡ m → c.handed ≡ true
+          → HandedBefore s m ⊎ (list_any (λ (w : Work). is_call m w.kind) (items_taken s e.seat e.step) ≡ true)
+      handed-out c None f i made handed = inl (c, i, made, handed)
+      handed-out c (Some y) f i made handed = let b = in-changed (is_made_at y.made) hand_out c s.buffers i in at b.0 b.1 (is_made_at y.made b.0) refl b.2
+        where
+          at : (b : Buffer) → In b s.buffers → (t : Bool) → is_made_at y.made b ≡ t → c ≡ cond t (hand_out b) b
+              → HandedBefore s m ⊎ (list_any (λ (w : Work). is_call m w.kind) (items_taken s e.seat e.step) ≡ true)
+          at b j false g is = inl (b, j, ap (λ (x : Buffer). x.made) (sym is) ∙ made, ap (λ (x : Buffer). x.handed) (sym is) ∙ handed)
+          at b j true g is = inr (calls-taken y f (sym (eqb-true b.made y.made g) ∙ ap (λ (x : Buffer). x.made) (sym is) ∙ made))
+
+      old-made : (c : Buffer) → (o : Option Buffer) → In c (handed_buffers s.buffers o) → c.made < s.steps
+      old-made c None i = turns.below c i
+      old-made c (Some y) i =
+          let b = in-changed (is_made_at y.made) hand_out c s.buffers i in
+          let at : c.made ≡ b.0.made = ap (λ (x : Buffer). x.made) b.2 ∙ made-kept (is_made_at y.made b.0) b.0 in
+          let lt = turns.below b.0 b.1 in omega arith
+
+      reads : Treats s e m (read_by s a.thread.seat items)
+      unfolding read_by
+      reads = record {
+        once = λ fits. record {
+          one = λ v w i j. due.one v w (was v i) (was w j);
+          call = λ w i. due.call w (was w i);
+          unread = λ w i. let u = due.unread w (was w i) in record {
+            buffer = u.buffer;
+            here = stays w i u.buffer u.here u.made (buffer_taken s items) refl;
+            made = u.made;
+            handed = u.handed;
+            list = u.list;
+          };
+        };
+        handed = λ c i made handed. handed-out c (buffer_taken s items) refl i made handed;
+        made = λ o c i at on. let lt = old-made c (buffer_taken s items) i in absurd (omega arith);
+      }
+
+    -- ---- every step
+
+    treating : Keeps s e.seat e.step (Treats s e m) (Treats s e m)
+    treating = record {
+      set_up = record {
+        same = at-start;
+        opened = λ pid euid window free. (treats-opened s e m) pid euid window at-start;
+        attached = λ p free. (treats-attached s e m) p at-start;
+        managed = λ a i b. (treats-managed s e m) a.process.made at-start;
+      };
+      changes = record {
+        transacts = λ a d parcel v x i t. transacts a i d parcel v x t at-start;
+        replies = λ a d parcel f v x i g t. replies a i d parcel f v x t at-start;
+        frees = λ p ptr b i t. (gone-buffer s e m) b turns (at_pointer-in s p ptr b i) t at-start;
+        asks = λ a n strong o x i t. (treats-after s e m) _ s (ask-after s a.process.made o strong) at-start;
+        drops = λ p o strong. (treats-after s e m) _ s (drop_asked-after s p o strong) at-start;
+        acknowledges = λ o strong i. (treats-after s e m) _ s (acknowledge-after s o strong) at-start;
+        loops = λ t looping. (treats-untouched s e m) _ s (Untouched.with_looping-untouched s t looping) (less_table.loops s t looping) at-start;
+        on_deaths = on-commands s _ (on-mapped s _ _ (λ y k. (treats-untouched s e m) y s k.0 k.1 at-start) (on-both s _ _ (Untouched.on_deaths-untouched s) (OneWay.on_deaths-less s)));
+        reads = λ a limit i x n. reads a limit i x n;
+        leaves = λ a i. (gone-thread s e m) s a.thread.seat at-start;
+        ends = λ a i. (gone-ends s e m) a.process.made at-start;
+        ripens = λ z h. (ripens s e m) z h;
+      };
+      follows = λ z h. (treats-after s e m) (follow z) z (follow-after z) h;
+      closes = λ z made h. (treats-untouched s e m) (closed z made) z (Untouched.closed-untouched z made) (less_closes z made) h;
+      refuses = λ z t r h. owes z (OfThread t) (work.Refusal r) refl h;
+      tells = λ z t r h. owes z (OfThread t) (work.Verdict r) refl h;
+    }
+
+    pub step-treats : Treats s e m (change s e.seat e.step).space
+    step-treats = every_step s e.seat e.step (Treats s e m) (Treats s e m) treating

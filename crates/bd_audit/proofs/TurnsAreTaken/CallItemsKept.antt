@@ -1,0 +1,257 @@
+-- The work items of a one-way call, through the parts of a step that make none: what goes, and what ripens.
+use Rattle.bd_laws.proofs.words.Logic.{◌≡◌, ℕ, ◌-◌, ◌<◌, ◌==◌, Bool, true, false, cond, not, List, [], ◌∷◌, ◌++◌, Option, Some, None, Ok, ◌⊎◌, inl, inr, refl, ap, sym, subst, ◌∙◌, map, filter, arith, list_any, count_by, eqb-true, eq-eqb}
+use Rattle.bd_laws.proofs.words.Types.{TransactionData, ObjectId, Parcel, Step, Command, Read, Entry, Actor, Frame, Thread, Buffer, Turn, Work, TodoList, OfThread, OfProcess, WorkKind}
+use Rattle.bd_laws.proofs.words.Space.{same, changed, Space, actor, owe, with_work, is_call, hands_out, is_on, list_to_read, is_item, closed, goes_to, turn_of, turns_of, is_ripe, ripened, ripen, follow, assign_numbers, Delivery, delivered, own_notices, add_buffer, known_by, refer, make_objects, buffer_of, transaction_check, transacted, called, call_out, is_one_way, reply_check, replied, without_buffer, is_made_at, thread_goes, is_lost_with, threads_go, without_process, tell_deaths, seat_of, taken, read_by, buffer_taken, hand_out, handed_buffers, read_fault, change, with_thread, with_process, with_manager}
+use Rattle.bd_uapi.specs.declared.command.Command.TheVariants as bc
+use Rattle.bd_space.specs.declared.space.WorkKind.TheVariants as work
+use Rattle.bd_laws.proofs.words.Laws.{In, IsInTurn, On}
+use Rattle.bd_laws.proofs.Machine.EveryStep.{Keeps, every_step}
+use Rattle.bd_laws.proofs.Lists.{in-left, in-push, in-filter, filter-in, in-changed, changed-in, in-filter_map, any-in, fold-keeps}
+use Rattle.bd_laws.proofs.Tests.{not-true, ripe-parts}
+use Rattle.bd_laws.proofs.IsInTurn.OneWay.{less_table, less_exits, less_closes, Less, own_notices-less}
+use Rattle.bd_laws.proofs.Machine.Untouched.{Untouched}
+use Rattle.bd_laws.proofs.IsInTurn.Ripening.{turn-parts, taken-due, read-in, made-kept}
+use Rattle.bd_laws.proofs.Checks.{Transacts, transaction-checked, reply-checked}
+use Rattle.bd_laws.proofs.IsInTurn.Passing.{lost-on, not-on, at_pointer-in}
+use Rattle.bd_laws.proofs.IsInTurn.Passed.{After, ask-after, drop_asked-after, acknowledge-after, follow-after}
+use Rattle.bd_laws.proofs.IsInTurn.Received.{one-buffer}
+use Rattle.bd_laws.proofs.OnPaths.PathWords.{same-item}
+use Rattle.bd_laws.proofs.Machine.Deaths.{on-mapped, on-both, on-commands}
+use Rattle.bd_audit.specs.Replies.{items_taken, items_read, items_unless}
+use Rattle.bd_audit.specs.TurnCalls.{CallsOneWay}
+use Rattle.bd_laws.proofs.IsInTurn.OneWay
+use Rattle.bd_laws.proofs.Machine.Untouched
+use Rattle.bd_audit.proofs.RepliesReachTheirCallers.Traces.{transaction-accepted}
+use Rattle.bd_laws.proofs.Machine.Fields.{sent-steps, closed-steps}
+
+-- ---- the item of one call
+
+-- the item hands the buffer made at m over
+abbrev pub Hands : ℕ → List Work → Work → Type 0
+Hands m todo w = In w todo × (hands_out w.kind ≡ Some m)
+
+-- the buffer made at m waits to be read, on its receiver's list
+pub record Unread (m : ℕ) (buffers : List Buffer) (w : Work) : Type 0 where
+  pub buffer : Buffer
+  pub here : In buffer buffers
+  pub made : buffer.made ≡ m
+  pub handed : buffer.handed ≡ false
+  pub list : w.list ≡ OfProcess buffer.receiver
+
+-- the item that hands the buffer made at m over is one, and a call
+pub record DueOnce (m : ℕ) (buffers : List Buffer) (todo : List Work) : Type 0 where
+  pub one : (v w : Work) → Hands m todo v → Hands m todo w → v ≡ w
+  pub call : (w : Work) → Hands m todo w → is_call m w.kind ≡ true
+  pub unread : (w : Work) → Hands m todo w → Unread m buffers w
+
+-- nothing hands over yet what a step makes
+pub fresh-once : (s : Space) → IsInTurn s → (m : ℕ) → m ≡ s.steps → DueOnce m s.buffers s.todo
+fresh-once s turns m is = record {
+  one = λ v w i j. absurd (none v i);
+  call = λ w i. absurd (none w i);
+  unread = λ w i. absurd (none w i);
+}
+  where
+    none : (w : Work) → Hands m s.todo w → ⊥
+    none w i = let lt = turns.fresh m (w, i.0, i.1) in omega arith
+
+-- a one-way transaction
+abbrev pub IsOneWay : Step → Type 0
+IsOneWay x = (d : TransactionData) × (parcel : Option Parcel) × (x ≡ Command (bc.Transaction d) parcel) × (is_one_way d ≡ true)
+
+abbrev pub HandedBefore : Space → ℕ → Type 0
+HandedBefore s m = (b : Buffer) × In b s.buffers × (b.made ≡ m) × (b.handed ≡ true)
+
+-- What the step of an entry makes of the buffer made at m and its item: the item stays one, also if the step makes the
+-- buffer, provided that this isn't a two-way call's or a reply's; a buffer that is handed out was so before, or its call is
+-- among the items that the step takes; and a one-way call's buffer that the step makes tells what the step is.
+pub record Treats (s : Space) (e : Entry) (m : ℕ) (z : Space) : Type 0 where
+  pub once : (m < s.steps) ⊎ IsOneWay e.step → DueOnce m z.buffers z.todo
+  pub handed : (c : Buffer) → In c z.buffers → c.made ≡ m → c.handed ≡ true
+      → HandedBefore s m ⊎ (list_any (λ w. is_call m w.kind) (items_taken s e.seat e.step) ≡ true)
+  pub made : (o : ObjectId) (c : Buffer) → In c z.buffers → c.made ≡ s.steps → On o c → CallsOneWay s e o
+
+-- ---- parts that leave the buffers, and no more items that hand over
+
+module _ (s : Space) (e : Entry) (m : ℕ) where
+  -- what is due was due, and its buffer stays
+  pub once-less : (bs cs : List Buffer) (more todo : List Work) → ((w : Work) → Hands m more w → In w todo)
+      → ((w : Work) → Hands m more w → (u : Unread m bs w) → In u.buffer cs) → DueOnce m bs todo → DueOnce m cs more
+  once-less bs cs more todo due stay h = record {
+    one = λ v w i j. h.one v w (due v i, i.1) (due w j, j.1);
+    call = λ w i. h.call w (due w i, i.1);
+    unread = λ w i. let u = h.unread w (due w i, i.1) in record { buffer = u.buffer; here = stay w i u; made = u.made; handed = u.handed; list = u.list };
+  }
+
+  treats-less : (z y : Space) → ((c : Buffer) → In c z.buffers → In c y.buffers) → ((w : Work) → Hands m z.todo w → In w y.todo)
+      → (DueOnce m y.buffers y.todo → (w : Work) → Hands m z.todo w → (u : Unread m y.buffers w) → In u.buffer z.buffers) → Treats s e m y → Treats s e m z
+  treats-less z y had due stay h = record {
+    once = λ fits. let k = h.once fits in once-less y.buffers z.buffers z.todo y.todo due (stay k) k;
+    handed = λ c i. h.handed c (had c i);
+    made = λ o c i. h.made o c (had c i);
+  }
+
+  treats-same : (z y : Space) → z.buffers ≡ y.buffers → ((w : Work) → Hands m z.todo w → In w y.todo) → Treats s e m y → Treats s e m z
+  treats-same z y same due h = treats-less z y (λ c i. subst (In c) same i) due (λ k w i u. subst (In u.buffer) (sym same) u.here) h
+
+  pub treats-after : (z y : Space) → After z y → Treats s e m y → Treats s e m z
+  treats-after z y a h = treats-same z y a.buffers (λ w i. a.due w m i.0 i.1) h
+
+  pub treats-untouched : (z y : Space) → Untouched z y → Less z y → Treats s e m y → Treats s e m z
+  treats-untouched z y u l h = treats-same z y u.buffers (λ w i. l.due w m i.0 i.1) h
+
+  pub treats-opened : (pid euid window : ℕ) → Treats s e m s → Treats s e m (with_thread (with_process s pid euid window) e.seat s.steps)
+  unfolding with_thread with_process
+  treats-opened pid euid window h = treats-same _ s refl (λ w i. i.0) h
+
+  pub treats-attached : (p : ℕ) → Treats s e m s → Treats s e m (with_thread s e.seat p)
+  unfolding with_thread
+  treats-attached p h = treats-same _ s refl (λ w i. i.0) h
+
+  pub treats-managed : (p : ℕ) → Treats s e m s → Treats s e m (with_manager s p)
+  unfolding with_manager
+  treats-managed p h = treats-same _ s refl (λ w i. i.0) h
+
+  -- ---- what goes
+
+  pub gone-buffer : (b : Buffer) → IsInTurn s → In b s.buffers → b.handed ≡ true → Treats s e m s → Treats s e m (without_buffer s b.made)
+  unfolding without_buffer
+  gone-buffer b turns here handed h =
+      treats-less _ s (λ c i. (in-filter stays c s.buffers i).0) (λ w i. i.0)
+      (λ k w i u. filter-in stays u.buffer s.buffers u.here (other u.buffer u.here u.handed (is_made_at b.made u.buffer) refl)) h
+    where
+      stays : Buffer → Bool
+      stays c = not (is_made_at b.made c)
+
+      other : (c : Buffer) → In c s.buffers → c.handed ≡ false → (t : Bool) → is_made_at b.made c ≡ t → not t ≡ true
+      other c i unhanded false f = refl
+      other c i unhanded true f = let is = one-buffer s turns c b i here (eqb-true c.made b.made f) in let wrong = ap (λ (x : Buffer). x.handed) is in absurd (cc)
+
+  pub gone-thread : (z : Space) (seat : ℕ) → Treats s e m z → Treats s e m (thread_goes z seat)
+  unfolding thread_goes
+  gone-thread z seat h =
+      treats-less _ z (λ c i. (in-filter keeps c z.buffers i).0) (λ w i. (was w i).0)
+      (λ k w i u. filter-in keeps u.buffer z.buffers u.here (stays k w i u (is_lost_with z.todo (OfThread seat) u.buffer.made) refl)) h
+    where
+      keeps : Buffer → Bool
+      keeps b = not (is_lost_with z.todo (OfThread seat) b.made)
+
+      off : Work → Bool
+      off w = not (is_on (OfThread seat) w)
+
+      was : (w : Work) → Hands m (filter (λ (w : Work). not (is_on (OfThread seat) w)) z.todo) w → Hands m z.todo w
+      was w i = ((in-filter off w z.todo i.0).0, i.1)
+
+      -- what is lost with the thread's list stood on it, and this call stands on a process's
+      stays : DueOnce m z.buffers z.todo → (w : Work) → Hands m (filter (λ (w : Work). not (is_on (OfThread seat) w)) z.todo) w → (u : Unread m z.buffers w) → (t : Bool)
+          → is_lost_with z.todo (OfThread seat) u.buffer.made ≡ t → not t ≡ true
+      stays k w i u false f = refl
+      stays k w i u true f =
+          let v = lost-on z.todo (OfThread seat) u.buffer.made f in
+          let is = k.one v.0 w (v.1, v.3 ∙ ap (λ n. Some n) u.made) (was w i) in
+          absurd (not-on seat v.0 u.buffer.receiver (ap (λ (x : Work). x.list) is ∙ u.list) v.2)
+
+  gone-threads : (p : ℕ) → Treats s e m s → Treats s e m (threads_go s p)
+  unfolding threads_go
+  gone-threads p h = fold-keeps (λ (z : Space). Treats s e m z) thread_goes (map seat_of (filter (λ (t : Thread). t.process == p) s.threads)) (λ z t i k. gone-thread z t k) s h
+
+  gone-process : (z : Space) (p : ℕ) → Treats s e m z → Treats s e m (without_process z p)
+  unfolding without_process
+  gone-process z p h =
+      treats-less _ z (λ c i. (in-filter keeps c z.buffers i).0) (λ w i. (was w i).0)
+      (λ k w i u. filter-in keeps u.buffer z.buffers u.here (stays w i u (u.buffer.receiver == p) refl)) h
+    where
+      keeps : Buffer → Bool
+      keeps b = not (b.receiver == p)
+
+      off : Work → Bool
+      off w = not (is_on (OfProcess p) w)
+
+      was : (w : Work) → Hands m (filter (λ (w : Work). not (is_on (OfProcess p) w)) z.todo) w → Hands m z.todo w
+      was w i = ((in-filter off w z.todo i.0).0, i.1)
+
+      on : (w : Work) (q : ℕ) → w.list ≡ OfProcess q → is_on (OfProcess p) w ≡ (p == q)
+      on w q f = rw f refl
+
+      stays : (w : Work) → Hands m (filter (λ (w : Work). not (is_on (OfProcess p) w)) z.todo) w → (u : Unread m z.buffers w) → (t : Bool) → (u.buffer.receiver == p) ≡ t → not t ≡ true
+      stays w i u false f = refl
+      stays w i u true f =
+          let none = not-true (is_on (OfProcess p) w) (in-filter off w z.todo i.0).1 in
+          let yes = on w u.buffer.receiver u.list ∙ eq-eqb p u.buffer.receiver (sym (eqb-true u.buffer.receiver p f)) in
+          absurd (cc)
+
+  pub gone-ends : (p : ℕ) → Treats s e m s → Treats s e m (tell_deaths (without_process (threads_go s p) p) p)
+  gone-ends p h =
+      let a = threads_go s p in
+      let b = without_process a p in
+      treats-untouched (tell_deaths b p) b (Untouched.tell_deaths-untouched b p) (OneWay.tell_deaths-less b p) (gone-process a p (gone-threads p h))
+
+  -- ---- ripening
+
+  module _ (bs : List Buffer) (place : ℕ) where
+    -- one call that ripens, with its buffer
+    ripens-once : (todo : List Work) (older : List Turn) (t : Turn) → ((b : Buffer) × In b bs × (turn_of b ≡ Some t)) → is_ripe todo older t ≡ true → DueOnce m bs todo
+        → DueOnce m bs (with_work place todo (OfProcess t.receiver) (work.Call t.made))
+    ripens-once todo older t own ripe h = record {
+      one = λ v w i j. elim (in-push v _ todo i.0) [
+        | inl k ↦ elim (in-push w _ todo j.0) [
+          | inl l ↦ h.one v w (k, i.1) (l, j.1)
+          | inr is ↦ absurd (none v (k, i.1) (new w is j.1))
+        ]
+        | inr was ↦ elim (in-push w _ todo j.0) [
+          | inl l ↦ absurd (none w (l, j.1) (new v was i.1))
+          | inr is ↦ sym was ∙ is
+        ]
+      ];
+      call = λ w i. elim (in-push w _ todo i.0) [
+        | inl k ↦ h.call w (k, i.1)
+        | inr is ↦ ap (λ (x : Work). is_call m x.kind) (sym is) ∙ eq-eqb t.made m (new w is i.1)
+      ];
+      unread = λ w i. elim (in-push w _ todo i.0) [
+        | inl k ↦ h.unread w (k, i.1)
+        | inr is ↦ (let p = turn-parts own.0 t own.2 in record {
+          buffer = own.0;
+          here = own.1;
+          made = sym p.0 ∙ new w is i.1;
+          handed = sym p.2 ∙ parts.0;
+          list = sym (ap (λ (x : Work). x.list) is) ∙ ap OfProcess p.1;
+        })
+      ];
+    }
+      where
+        parts : (t.handed ≡ false) × (list_any (λ (w : Work). is_call t.made w.kind) todo ≡ false)
+        parts = ripe-parts t.handed (list_any (λ (u : Turn). same u.target t.target) older) (list_any (λ (w : Work). is_call t.made w.kind) todo) ripe
+
+        new : (w : Work)
+            → (let r : Work = record {
+              id = record { place = place; index = count_by (λ (w : Work). w.id.place == place) todo };
+              list = OfProcess t.receiver;
+              kind = work.Call t.made;
+            } in r) ≡ w
+            → hands_out w.kind ≡ Some m → t.made ≡ m
+        new w is f = let k : Some t.made ≡ Some m = ap (λ (x : Work). hands_out x.kind) is ∙ f in cc
+
+        none : (v : Work) → Hands m todo v → t.made ≡ m → ⊥
+        none v i is =
+            let yes = any-in (λ (w : Work). is_call m w.kind) v todo i.0 (h.call v i) in
+            let no = ap (λ n. list_any (λ (w : Work). is_call n w.kind) todo) (sym is) ∙ parts.1 in
+            absurd (cc)
+
+    ripens-if : (b : Bool) (todo : List Work) (older : List Turn) (t : Turn) → ((b : Buffer) × In b bs × (turn_of b ≡ Some t)) → is_ripe todo older t ≡ b → DueOnce m bs todo
+        → DueOnce m bs (cond b (with_work place todo (OfProcess t.receiver) (work.Call t.made)) todo)
+    ripens-if true todo older t own ripe h = ripens-once todo older t own ripe h
+    ripens-if false todo older t own ripe h = h
+
+    ripens-all : (ts : List Turn) (todo : List Work) (older : List Turn) → ((t : Turn) → In t ts → (b : Buffer) × In b bs × (turn_of b ≡ Some t)) → DueOnce m bs todo
+        → DueOnce m bs (ripened place older todo ts)
+    ripens-all [] todo older own h = h
+    ripens-all (t ∷ ts) todo older own h =
+        ripens-all ts _ (older ++ t ∷ []) (λ u i. own u (inr i)) (ripens-if (is_ripe todo older t) todo older t (own t (inl refl)) refl h)
+
+  pub ripens : (z : Space) → Treats s e m z → Treats s e m (ripen z)
+  unfolding ripen
+  ripens z h = record {
+    once = λ fits. ripens-all z.buffers z.steps (turns_of z.buffers) z.todo [] (λ t i. in-filter_map turn_of t z.buffers i) (h.once fits);
+    handed = h.handed;
+    made = h.made;
+  }

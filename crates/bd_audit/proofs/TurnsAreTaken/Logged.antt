@@ -1,0 +1,119 @@
+-- The turns of an object as its log, and what becomes of their buffers.
+use Rattle.bd_laws.proofs.words.Logic.{◌≡◌, ℕ, suc, ◌<◌, Bool, true, false, not, ◌&&◌, List, [], ◌∷◌, ◌++◌, Option, Some, None, ◌⊎◌, inl, inr, refl, ap, sym, subst, ◌∙◌, map, arith, filter_map, cons_option, is_some, eqb-true, eq-eqb}
+use Rattle.bd_laws.proofs.words.Types.{ObjectId, Entry, Object, Buffer}
+use Rattle.bd_laws.proofs.words.Space.{same, when, is_some_and, Space, opening, is_made_at, change, counted, History, after, next, space_after}
+use Rattle.bd_laws.proofs.words.Laws.{In, Pairs, Due, Rivals, Waits, On, Before}
+use Rattle.bd_laws.proofs.Lists.{in-append, in-map, any-found, any-in, in-filter_map, pairs-either}
+use Rattle.bd_laws.proofs.Tests.{both, and-both, same-eq, eq-same, not-true}
+use Rattle.bd_laws.proofs.IsInTurn.InTurn.{Turning}
+use Rattle.bd_laws.proofs.IsInTurn.Passing.{step-passes, on-turn}
+use Rattle.bd_laws.proofs.IsInTurn.Passed.{Lives, Became, Ended, Passed}
+use Rattle.bd_laws.proofs.IsInTurn.Received.{owner-before, on-before, on-after, one-buffer, step-before, opening-before}
+use Rattle.bd_audit.specs.declared.turns.Turn.{Turn}
+use Rattle.bd_audit.specs.TurnSearch.{is_call_on, is_live, is_handed, noted_at, marked, turn_made, next_turns, turns_from, turns_on}
+use Rattle.bd_audit.specs.TurnCalls.{IsTakenBefore}
+use Rattle.bd_laws.proofs.Machine.Fields.{counted-buffers}
+
+-- ---- the turns of an object
+
+-- no live process owns the object, and none of its one-way calls has a buffer
+pub record Over (o : ObjectId) (s : Space) : Type 0 where
+  pub old : o.place < s.steps
+  pub owner : (x : Object) → In x s.objects → x.id ≡ o → Lives s.processes x.owner → ⊥
+  pub none : (b : Buffer) → In b s.buffers → On o b → ⊥
+
+-- the turn's buffer lives
+pub record Open (o : ObjectId) (t : Turn) (s : Space) (b : Buffer) : Type 0 where
+  pub here : In b s.buffers
+  pub made : b.made ≡ t.made
+  pub on : On o b
+  pub handed : b.handed ≡ is_some t.handed
+
+pub record InOrder (t u : Turn) : Type 0 where
+  pub earlier : t.made < u.made
+  pub taken : IsTakenBefore t u
+
+pub record Past (n : ℕ) (t : Turn) : Type 0 where
+  pub made : t.made < n
+  pub handed : (p : ℕ) → t.handed ≡ Some p → p < n
+  pub ended : (p : ℕ) → t.ended ≡ Some p → p < n
+
+pub record Logged (o : ObjectId) (ts : List Turn) (s : Space) : Type 0 where
+  pub past : (t : Turn) → In t ts → Past s.steps t
+  pub live : (t : Turn) → In t ts → t.ended ≡ None → (b : Buffer) × Open o t s b
+  pub gone : (t : Turn) → In t ts → (p : ℕ) → t.ended ≡ Some p → (b : Buffer) → In b s.buffers → b.made ≡ t.made → ⊥
+  pub over : (t : Turn) → In t ts → (p : ℕ) → t.ended ≡ Some p → t.handed ≡ None → Over o s
+  pub order : Pairs InOrder ts
+
+pub live-found : (buffers : List Buffer) (made : ℕ) → is_live buffers made ≡ true → (c : Buffer) × In c buffers × (c.made ≡ made)
+live-found buffers made h = let c = any-found (is_made_at made) buffers h in (c.0, c.1, eqb-true c.0.made made c.2)
+
+pub live-in : (buffers : List Buffer) (c : Buffer) (made : ℕ) → In c buffers → c.made ≡ made → is_live buffers made ≡ true
+live-in buffers c made i e = any-in (is_made_at made) c buffers i (eq-eqb c.made made e)
+
+pub handed-found : (buffers : List Buffer) (made : ℕ) → is_handed buffers made ≡ true → (c : Buffer) × In c buffers × (c.made ≡ made) × (c.handed ≡ true)
+handed-found buffers made h =
+    let c = any-found (λ b. is_made_at made b && b.handed) buffers h in
+    let k = both (is_made_at made c.0) c.0.handed c.2 in
+    (c.0, c.1, eqb-true c.0.made made k.0, k.1)
+
+pub handed-in : (buffers : List Buffer) (c : Buffer) (made : ℕ) → In c buffers → c.made ≡ made → c.handed ≡ true → is_handed buffers made ≡ true
+handed-in buffers c made i e t = any-in (λ b. is_made_at made b && b.handed) c buffers i (and-both (is_made_at made c) c.handed (eq-eqb c.made made e) t)
+
+-- what was noted now, or before
+pub noted-some : (o : Option ℕ) (n : ℕ) (now : Bool) (p : ℕ) → noted_at o n now ≡ Some p → (o ≡ Some p) ⊎ ((o ≡ None) × (now ≡ true) × (p ≡ n))
+noted-some (Some q) n now p h = inl h
+noted-some None n true p h = inr (refl, refl, cc)
+noted-some None n false p h = absurd (cc)
+
+pub noted-none : (o : Option ℕ) (n : ℕ) (now : Bool) → noted_at o n now ≡ None → (o ≡ None) × (now ≡ false)
+noted-none (Some q) n now h = absurd (cc)
+noted-none None n true h = absurd (cc)
+noted-none None n false h = (refl, refl)
+
+pub noted-kept : (o : Option ℕ) (n : ℕ) (now : Bool) (p : ℕ) → o ≡ Some p → noted_at o n now ≡ Some p
+noted-kept o n now p h = rw h refl
+
+pub some-case : (o : Option ℕ) → (o ≡ None) ⊎ ((p : ℕ) × (o ≡ Some p))
+some-case None = inl refl
+some-case (Some p) = inr (p, refl)
+
+pub bool-case : (b : Bool) → (b ≡ true) ⊎ (b ≡ false)
+bool-case true = inl refl
+bool-case false = inr refl
+
+module _ (s z : Space) (h : Before s) (turns : Turning z) (p : Passed s z) (o : ObjectId) where
+  -- the buffer of a turn that was open, after the step
+  pub stays-open : (b c : Buffer) → In b s.buffers → In c z.buffers → c.made ≡ b.made → Became s b c
+  stays-open b c i j e = elim (p.from c j) [
+    | inl d ↦ subst (λ x. Became s x c) (one-buffer s h.turns d.0 b d.1 i (sym d.2.made ∙ e)) d.2
+    | inr n ↦ (let lt = h.turns.below b i in let m = n.made in absurd (omega arith))
+  ]
+
+  pub over-after : Over o s → Over o z
+  over-after k = record {
+    old = let lt = k.old in let e = p.steps in omega arith;
+    owner = λ x i e l.
+        let w = owner-before s z h p o x k.old i e in
+        elim (p.processes l.0 l.1) [
+          | inl j ↦ k.owner w.0 w.1 w.2 (l.0, j, l.2 ∙ sym w.3)
+          | inr n ↦ (let lt = h.received.owners w.0 w.1 in let a = w.3 in let m = l.2 in absurd (omega arith))
+        ];
+    none = λ c i on. elim (p.from c i) [
+      | inl b ↦ k.none b.0 b.1 (on-before s o b.0 c b.2 on)
+      | inr n ↦ (let x = n.owned o on in k.owner x.0 x.1 x.2 x.4)
+    ];
+  }
+
+  -- a receiver that ends takes all one-way calls on its objects along
+  pub ended-over : (b : Buffer) → In b s.buffers → On o b → Ended z b.receiver → Over o z
+  ended-over b i on k = record {
+    old = let lt = h.received.old o b i on in let e = p.steps in omega arith;
+    owner = λ x j e l.
+        let w = owner-before s z h p o x (h.received.old o b i on) j e in
+        k.process (l.0, l.1, l.2 ∙ sym w.3 ∙ h.received.own o b w.0 i on w.1 w.2);
+    none = λ c j onc. elim (p.from c j) [
+      | inl d ↦ k.buffers c j (d.2.receiver ∙ h.received.one o d.0 b d.1 i (on-before s o d.0 c d.2 onc) on)
+      | inr n ↦ (let x = n.owned o onc in k.buffers c j (sym x.3 ∙ h.received.own o b x.0 i on x.1 x.2))
+    ];
+  }

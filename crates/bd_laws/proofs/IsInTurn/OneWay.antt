@@ -1,0 +1,238 @@
+-- One-way calls whose buffers live: a buffer that is due or handed out has no older rival.
+use Rattle.bd_laws.proofs.words.Logic.{◌≡◌, ℕ, suc, ◌≤◌, ◌==◌, Bool, true, false, not, List, [], ◌∷◌, ◌++◌, Option, Some, None, ◌⊎◌, inl, inr, refl, ap, sym, subst, ◌∙◌, filter, arith, fold}
+use Rattle.bd_laws.proofs.words.Types.{Buffer, Work, Item, TodoList, WorkKind, Actor, Frame, OfThread, OfProcess, TransactionData}
+use Rattle.bd_laws.proofs.words.Space.{Space, with_work, hands_out, owe, is_on, is_notice, turn_of, follow, work_goes, still_due, assign_numbers, goes_to, closed, Delivery, delivered, own_notices, add_buffer, known_by, refer, make_objects, buffer_of, add_notice, withdraw_notice, transacted, called, call_out, replied, without_buffer, is_made_at, thread_goes, is_lost_with, without_process, tell_deaths, with_thread, with_looping}
+use Rattle.bd_space.specs.declared.space.WorkKind.TheVariants as work
+use Rattle.bd_laws.proofs.words.Laws.{In, Pairs, Due, Waits, InTurn}
+use Rattle.bd_laws.proofs.Lists.{in-push, in-filter, pairs-map, pairs-filter, pairs-push}
+use Rattle.bd_laws.proofs.Machine.Deaths.{OnDeaths}
+use Rattle.bd_laws.proofs.Machine.Adding.{own_notices-keeps}
+use Rattle.bd_laws.proofs.Machine.Table.{Table, Exits, Closing, followed-by, deaths-by, tell_deaths-by}
+use Rattle.bd_laws.proofs.Machine.Fields.{owe-steps, owe-buffers}
+
+-- ---- a space with no more buffers, and no more that are due
+
+pub record Less (z y : Space) : Type 0 where
+  pub steps : z.steps ≡ y.steps
+  pub buffers : (b : Buffer) → In b z.buffers → In b y.buffers
+  pub pairs : (todo : List Work) → Pairs (Waits todo) y.buffers → Pairs (Waits todo) z.buffers
+  pub due : (w : Work) (m : ℕ) → In w z.todo → hands_out w.kind ≡ Some m → In w y.todo
+
+pub less-same : (z y : Space) → z.steps ≡ y.steps → z.buffers ≡ y.buffers → ((w : Work) (m : ℕ) → In w z.todo → hands_out w.kind ≡ Some m → In w y.todo) → Less z y
+less-same z y e d k = record { steps = e; buffers = λ b l. subst (In b) d l; pairs = λ todo h. subst (Pairs (Waits todo)) (sym d) h; due = k }
+
+pub less-refl : (z : Space) → Less z z
+less-refl z = less-same z z refl refl (λ w m l e. l)
+
+pub less-trans : (z y x : Space) → Less z y → Less y x → Less z x
+less-trans z y x h k = record {
+  steps = h.steps ∙ k.steps;
+  buffers = λ b l. k.buffers b (h.buffers b l);
+  pairs = λ todo p. h.pairs todo (k.pairs todo p);
+  due = λ w m l e. k.due w m (h.due w m l e) e;
+}
+
+pub more-steps : (n m : ℕ) (bs : List Buffer) (todo : List Work) → n ≤ m → InTurn n bs todo → InTurn m bs todo
+more-steps n m bs todo le h = record {
+  below = λ b l. let k = h.below b l in omega arith;
+  fresh = λ i d. let k = h.fresh i d in omega arith;
+  waits = h.waits;
+}
+
+pub waits-less : (todo more : List Work) → ((m : ℕ) → Due todo m → Due more m) → (b c : Buffer) → Waits more b c → Waits todo b c
+waits-less todo more k b c h = record { earlier = h.earlier; alone = λ o r. h.alone (elim o [ inl t ↦ inl t | inr d ↦ inr (k c.made d) ]) r }
+
+pub in_turn-less : (z y : Space) → Less z y → InTurn (suc y.steps) y.buffers y.todo → InTurn (suc z.steps) z.buffers z.todo
+in_turn-less z y l h =
+    let due : (m : ℕ) → Due z.todo m → Due y.todo m = λ m d. (d.0, l.due d.0 m d.1 d.2, d.2) in
+    subst (λ n. InTurn (suc n) z.buffers z.todo) (sym l.steps) (record {
+      below = λ b i. h.below b (l.buffers b i);
+      fresh = λ m d. h.fresh m (due m d);
+      waits = pairs-map (Waits y.todo) (Waits z.todo) z.buffers (λ b c i j w. waits-less z.todo y.todo due b c w) (l.pairs y.todo h.waits);
+    })
+
+-- ---- the parts of a step
+
+-- one work item more that hands nothing over
+pub with_work-less : (place : ℕ) (todo : List Work) (list : TodoList) (kind : WorkKind) → hands_out kind ≡ None
+    → (w : Work) (m : ℕ) → In w (with_work place todo list kind) → hands_out w.kind ≡ Some m → In w todo
+with_work-less place todo list kind none w m l e =
+    elim (in-push w _ todo l) [ inl k ↦ k | inr is ↦ (let same_kind : kind ≡ w.kind = ap (λ (x : Work). x.kind) is in absurd (cc)) ]
+
+pub owe-less : (z : Space) (list : TodoList) (kind : WorkKind) → hands_out kind ≡ None → Less (owe z list kind) z
+unfolding owe
+owe-less z list kind none = less-same _ z refl refl (with_work-less z.steps z.todo list kind none)
+
+-- what still hands over was there
+abbrev Fewer : List Work → List Work → Type 0
+Fewer less todo = (w : Work) (m : ℕ) → In w less → hands_out w.kind ≡ Some m → In w todo
+
+fewer-push : (place : ℕ) (all todo : List Work) (list : TodoList) (kind : WorkKind) → hands_out kind ≡ None → Fewer todo all → Fewer (with_work place todo list kind) all
+fewer-push place all todo list kind none k w m l e = k w m (with_work-less place todo list kind none w m l e) e
+
+-- ---- a new buffer
+
+waits-push : (n : ℕ) (bs : List Buffer) (todo more : List Work) (b : Buffer) → InTurn n bs more → b.made ≡ n → b.handed ≡ false → ((m : ℕ) → Due todo m → Due more m)
+    → (c : Buffer) → In c bs → Waits todo c b
+waits-push n bs todo more b h made handed k c l = record {
+  earlier = let lt = h.below c l in omega arith;
+  alone = λ o r. elim o [ inl t ↦ absurd (cc) | inr d ↦ (let lt = h.fresh b.made (k b.made d) in absurd (omega arith)) ];
+}
+
+pub in_turn-push : (n : ℕ) (bs : List Buffer) (todo more : List Work) (b : Buffer) → InTurn n bs more → b.made ≡ n → b.handed ≡ false → ((m : ℕ) → Due todo m → Due more m)
+    → InTurn (suc n) (bs ++ b ∷ []) todo
+in_turn-push n bs todo more b h made handed k = record {
+  below = λ c l. elim (in-push c b bs l) [ inl i ↦ (let lt = h.below c i in omega arith) | inr e ↦ (let is : b.made ≡ c.made = ap (λ (x : Buffer). x.made) e in omega arith) ];
+  fresh = λ m d. let lt = h.fresh m (k m d) in omega arith;
+  waits = pairs-push (Waits todo) b bs (pairs-map (Waits more) (Waits todo) bs (λ x y i j w. waits-less todo more k x y w) h.waits) (waits-push n bs todo more b h made handed k);
+}
+
+-- a work item that hands over what is no one-way call
+due-push : (place : ℕ) (todo : List Work) (list : TodoList) (kind : WorkKind) (n : ℕ) → hands_out kind ≡ Some n → (m : ℕ) → Due (with_work place todo list kind) m → Due todo m ⊎ (m ≡ n)
+due-push place todo list kind n hands m d =
+    elim (in-push d.0 _ todo d.1) [
+      | inl k ↦ inl (d.0, k, d.2)
+      | inr is ↦ (let same_kind : kind ≡ d.0.kind = ap (λ (x : Work). x.kind) is in let e : hands_out kind ≡ Some m = ap hands_out same_kind ∙ d.2 in inr (cc))
+    ]
+
+pub in_turn-other : (place n : ℕ) (bs : List Buffer) (todo : List Work) (list : TodoList) (kind : WorkKind) → hands_out kind ≡ Some n
+    → ((c : Buffer) → In c bs → c.made ≡ n → turn_of c ≡ None) → InTurn (suc n) bs todo → InTurn (suc n) bs (with_work place todo list kind)
+in_turn-other place n bs todo list kind hands none h = record {
+  below = h.below;
+  fresh = λ m d. elim (due-push place todo list kind n hands m d) [ inl k ↦ h.fresh m k | inr e ↦ omega arith ];
+  waits = pairs-map (Waits todo) (Waits (with_work place todo list kind)) bs (λ b c i j w. record {
+    earlier = w.earlier;
+    alone = λ o r. elim o [
+      | inl t ↦ w.alone (inl t) r
+      | inr d ↦ elim (due-push place todo list kind n hands c.made d) [
+        | inl k ↦ w.alone (inr k) r
+        | inr e ↦ (let no : turn_of c ≡ None = none c j e in let yes = r.3 in absurd (cc))
+      ]
+    ];
+  }) h.waits;
+}
+
+-- ---- transactions and replies
+
+pub own_notices-less : (z : Space) (seat : ℕ) (items : List Item) (w : Work) (m : ℕ)
+    → In w (fold (add_notice z seat) (fold (withdraw_notice z.objects) z.todo items) items) → hands_out w.kind ≡ Some m → In w z.todo
+unfolding own_notices
+own_notices-less z seat items =
+    own_notices-keeps (λ todo. Fewer todo z.todo) z seat items (λ todo o k w m l. k w m (in-filter (λ (w : Work). not (is_notice o w.kind)) w todo l).0)
+    (λ todo o due. fewer-push z.steps z.todo todo (OfThread seat) (work.Notice o.id) refl) (λ w m l e. l)
+
+pub delivered-in_turn : (s : Space) (a : Actor) (d : TransactionData) (v : Delivery) → InTurn s.steps s.buffers s.todo
+    → InTurn (suc (delivered s a d v).steps) (delivered s a d v).buffers (delivered s a d v).todo
+unfolding delivered own_notices add_buffer known_by assign_numbers refer make_objects
+delivered-in_turn s a d v h =
+    in_turn-push s.steps s.buffers _ s.todo (buffer_of (known_by s v) a d v) h refl refl
+    (λ m due. (due.0, own_notices-less (add_buffer (known_by s v) (buffer_of (known_by s v) a d v)) a.thread.seat v.sending.items due.0 m due.1 due.2, due.2))
+
+-- the new buffer is no one-way call, if it isn't to be one
+abbrev pub NoTurn : ℕ → List Buffer → Type 0
+NoTurn n bs = (c : Buffer) → In c bs → c.made ≡ n → turn_of c ≡ None
+
+two-way : (b : Buffer) → b.one_way ≡ false → turn_of b ≡ None
+two-way b e = rw e refl
+
+delivered-no_turn : (s : Space) (a : Actor) (d : TransactionData) (v : Delivery) → InTurn s.steps s.buffers s.todo → v.one_way ≡ false → NoTurn s.steps (delivered s a d v).buffers
+unfolding delivered own_notices add_buffer known_by assign_numbers refer make_objects
+delivered-no_turn s a d v h one_way =
+    λ c l made. elim (in-push c _ s.buffers l) [
+      | inl k ↦ (let lt = h.below c k in absurd (omega arith))
+      | inr is ↦ subst (λ (x : Buffer). turn_of x ≡ None) is (two-way (buffer_of (known_by s v) a d v) one_way)
+    ]
+
+calls-out : (z : Space) (seat p n : ℕ) → z.steps ≡ n → NoTurn n z.buffers → InTurn (suc z.steps) z.buffers z.todo
+    → InTurn (suc (call_out z seat p).steps) (call_out z seat p).buffers (call_out z seat p).todo
+unfolding call_out owe
+calls-out z seat p n e none h = in_turn-other z.steps z.steps z.buffers z.todo (goes_to z seat p) (work.Call z.steps) refl (λ c l made. none c l (made ∙ e)) h
+
+delivered-steps : (s : Space) (a : Actor) (d : TransactionData) (v : Delivery) → (delivered s a d v).steps ≡ s.steps
+unfolding delivered own_notices add_buffer known_by assign_numbers refer make_objects
+delivered-steps s a d v = refl
+
+called-in_turn : (z : Space) (seat p : ℕ) (one_way : Bool) → (one_way ≡ false → NoTurn z.steps z.buffers) → InTurn (suc z.steps) z.buffers z.todo
+    → InTurn (suc (called z seat p one_way).steps) (called z seat p one_way).buffers (called z seat p one_way).todo
+called-in_turn z seat p true none h = h
+called-in_turn z seat p false none h = calls-out z seat p z.steps refl (none refl) h
+
+pub transacted-in_turn : (s : Space) (a : Actor) (d : TransactionData) (v : Delivery) → InTurn s.steps s.buffers s.todo
+    → InTurn (suc (transacted s a d v).steps) (transacted s a d v).buffers (transacted s a d v).todo
+unfolding transacted
+transacted-in_turn s a d v h =
+    let z = delivered s a d v in
+    let y = owe z (OfThread a.thread.seat) work.Complete in
+    called-in_turn y a.thread.seat v.receiver.made v.one_way
+    (λ e. subst (λ bs. NoTurn y.steps bs) (sym (owe-buffers z (OfThread a.thread.seat) work.Complete))
+    (subst (λ n. NoTurn n z.buffers) (sym (owe-steps z (OfThread a.thread.seat) work.Complete ∙ delivered-steps s a d v)) (delivered-no_turn s a d v h e)))
+    (in_turn-less y z (owe-less z (OfThread a.thread.seat) work.Complete refl) (delivered-in_turn s a d v h))
+
+answers : (z : Space) (caller : Option ℕ) (n : ℕ) → z.steps ≡ n → NoTurn n z.buffers → InTurn (suc z.steps) z.buffers z.todo
+    → (let y = elim caller as (λ (o : Option ℕ). Space) [ None ↦ z | Some t ↦ owe z (OfThread t) (work.Reply n) ] in InTurn (suc y.steps) y.buffers y.todo)
+unfolding owe
+answers z None n e none h = h
+answers z (Some t) n e none h = in_turn-other z.steps z.steps z.buffers z.todo (OfThread t) (work.Reply n) (ap (λ m. Some m) (sym e)) (λ c l made. none c l (made ∙ e)) h
+
+pub replied-in_turn : (s : Space) (a : Actor) (d : TransactionData) (f : Frame) (v : Delivery) → v.one_way ≡ false → InTurn s.steps s.buffers s.todo
+    → InTurn (suc (replied s a d f v).steps) (replied s a d f v).buffers (replied s a d f v).todo
+unfolding replied closed
+replied-in_turn s a d f v one_way h =
+    let x = closed s f.made in
+    let z = delivered x a d v in
+    let y = owe z (OfThread a.thread.seat) work.Complete in
+    let e : y.steps ≡ s.steps = owe-steps z (OfThread a.thread.seat) work.Complete ∙ delivered-steps x a d v in
+    answers y f.caller s.steps e
+    (subst (λ bs. NoTurn s.steps bs) (sym (owe-buffers z (OfThread a.thread.seat) work.Complete)) (delivered-no_turn x a d v h one_way))
+    (in_turn-less y z (owe-less z (OfThread a.thread.seat) work.Complete refl) (delivered-in_turn x a d v h))
+
+-- ---- what only goes
+
+filtered-less : (z y : Space) (p : Buffer → Bool) → z.steps ≡ y.steps → z.buffers ≡ filter p y.buffers → ((w : Work) (m : ℕ) → In w z.todo → hands_out w.kind ≡ Some m → In w y.todo) → Less z y
+filtered-less z y p e d k = record {
+  steps = e;
+  buffers = λ b l. (in-filter p b y.buffers (subst (In b) d l)).0;
+  pairs = λ todo h. subst (Pairs (Waits todo)) (sym d) (pairs-filter (Waits todo) p y.buffers h);
+  due = k;
+}
+
+-- what hands nothing over
+abbrev pub HandsNothing : WorkKind → Type 0
+HandsNothing kind = hands_out kind ≡ None
+
+pub less_table : Table Less HandsNothing
+unfolding with_thread with_looping without_buffer work_goes
+less_table = record {
+  same = less-refl;
+  trans = less-trans;
+  beside = λ z qs m os rs ns ds. less-same _ z refl refl (λ w n l e. l);
+  seats = λ z seat p. less-same _ z refl refl (λ w m l e. l);
+  loops = λ z t looping. less-same _ z refl refl (λ w m l e. l);
+  frees = λ z made. filtered-less _ z (λ (b : Buffer). not (is_made_at made b)) refl refl (λ w m l e. l);
+  owes = owe-less;
+  sheds = λ z. less-same _ z refl refl (λ w m l e. (in-filter (λ (w : Work). still_due z.processes z.objects z.references z.deaths w.kind) w z.todo l).0);
+  notice = λ o. refl;
+  death = λ made. refl;
+  clear = λ cookie. refl;
+}
+
+pub less_closes : Closing Less
+unfolding closed
+less_closes z made = less-same _ z refl refl (λ w m l e. l)
+
+pub less_exits : Exits Less
+unfolding thread_goes without_process
+less_exits = record {
+  goes = λ z seat. filtered-less _ z (λ (b : Buffer). not (is_lost_with z.todo (OfThread seat) b.made)) refl refl
+      (λ w m l e. (in-filter (λ (x : Work). not (is_on (OfThread seat) x)) w z.todo l).0);
+  rest = λ z p. filtered-less _ z (λ (b : Buffer). not (b.receiver == p)) refl refl (λ w m l e. (in-filter (λ (x : Work). not (is_on (OfProcess p) x)) w z.todo l).0);
+}
+
+pub follow-less : (z : Space) → Less (follow z) z
+follow-less = followed-by Less HandsNothing less_table
+
+pub on_deaths-less : (z : Space) → OnDeaths z (λ y. Less y z)
+on_deaths-less = deaths-by Less HandsNothing less_table
+
+pub tell_deaths-less : (z : Space) (p : ℕ) → Less (tell_deaths z p) z
+tell_deaths-less = tell_deaths-by Less HandsNothing less_table

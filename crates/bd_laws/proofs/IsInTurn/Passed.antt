@@ -1,0 +1,158 @@
+-- What lies between the space before a step and one within it: processes, objects and buffers, and what the step made of them.
+use Rattle.bd_laws.proofs.words.Logic.{◌≡◌, ℕ, ◌==◌, Bool, true, false, List, Some, ◌⊎◌, inl, inr, refl, ap, sym, subst, ◌∙◌}
+use Rattle.bd_laws.proofs.words.Types.{ObjectId, Process, Actor, Object, Buffer, Work, OfProcess}
+use Rattle.bd_laws.proofs.words.Space.{Space, actor, objects_go, stays_in, names_go, assign_numbers, hands_out, follow, notify, work_goes, deaths_go, ask, drop_asked, acknowledge, with_thread, with_process, with_manager}
+use Rattle.bd_laws.proofs.words.Laws.{In, Due, On, OnLists}
+use Rattle.bd_laws.proofs.Lists.{in-push, in-filter, find-in}
+use Rattle.bd_laws.proofs.IsInTurn.OneWay.{less_table, HandsNothing, Less}
+use Rattle.bd_laws.proofs.Machine.Table.{notify-by}
+use Rattle.bd_laws.proofs.Machine.Untouched
+use Rattle.bd_laws.proofs.Machine.Untouched.{Untouched}
+use Rattle.bd_laws.proofs.Checks.{actor-lives}
+use Rattle.bd_laws.proofs.Machine.Following.{follow-by}
+
+-- a live process
+abbrev pub Lives : List Process → ℕ → Type 0
+Lives processes p = (q : Process) × In q processes × (q.made ≡ p)
+
+-- before the step the buffer was b; if it was handed out by the step, it was due
+pub record Became (s : Space) (b c : Buffer) : Type 0 where
+  pub made : c.made ≡ b.made
+  pub receiver : c.receiver ≡ b.receiver
+  pub one_way : c.one_way ≡ b.one_way
+  pub target : c.target ≡ b.target
+  pub handed : (c.handed ≡ b.handed) ⊎ ((c.handed ≡ true) × Due s.todo b.made)
+
+-- the step made it; a one-way call is on an object of its receiver
+pub record New (s : Space) (c : Buffer) : Type 0 where
+  pub made : c.made ≡ s.steps
+  pub handed : c.handed ≡ false
+  pub owned : (o : ObjectId) → On o c → (x : Object) × In x s.objects × (x.id ≡ o) × (x.owner ≡ c.receiver) × Lives s.processes x.owner
+
+-- its receiver has ended
+pub record Ended (z : Space) (p : ℕ) : Type 0 where
+  pub process : Lives z.processes p → ⊥
+  pub buffers : (c : Buffer) → In c z.buffers → c.receiver ≡ p → ⊥
+
+pub record Passed (s z : Space) : Type 0 where
+  pub steps : z.steps ≡ s.steps
+  pub processes : (q : Process) → In q z.processes → In q s.processes ⊎ (q.made ≡ s.steps)
+  pub objects : (x : Object) → In x z.objects → ((y : Object) × In y s.objects × (x.id ≡ y.id) × (x.owner ≡ y.owner)) ⊎ ((x.id.place ≡ s.steps) × Lives s.processes x.owner)
+  pub from : (c : Buffer) → In c z.buffers → ((b : Buffer) × In b s.buffers × Became s b c) ⊎ New s c
+  pub to : (o : ObjectId) (b : Buffer) → In b s.buffers → On o b → ((c : Buffer) × In c z.buffers × Became s b c) ⊎ ((b.handed ≡ true) ⊎ Ended z b.receiver)
+  pub lists : (w : Work) (c : Buffer) (o : ObjectId) → In w z.todo → hands_out w.kind ≡ Some c.made → In c z.buffers → On o c → w.list ≡ OfProcess c.receiver
+
+pub same-buffer : (s : Space) (b : Buffer) → Became s b b
+same-buffer s b = record { made = refl; receiver = refl; one_way = refl; target = refl; handed = inl refl }
+
+pub passed-none : (s : Space) → OnLists s → Passed s s
+passed-none s l = record {
+  steps = refl;
+  processes = λ q i. inl i;
+  objects = λ x i. inl (x, i, refl, refl);
+  from = λ c i. inl (c, i, same-buffer s c);
+  to = λ o b i on. inl (b, i, same-buffer s b);
+  lists = l;
+}
+
+-- ---- what comes later in the step
+
+-- what keeps the buffers and processes, and makes no object
+pub record After (z y : Space) : Type 0 where
+  pub steps : z.steps ≡ y.steps
+  pub processes : z.processes ≡ y.processes
+  pub objects : (x : Object) → In x z.objects → In x y.objects
+  pub buffers : z.buffers ≡ y.buffers
+  pub due : (w : Work) (m : ℕ) → In w z.todo → hands_out w.kind ≡ Some m → In w y.todo
+
+pub after-trans : (z y x : Space) → After z y → After y x → After z x
+after-trans z y x h k = record {
+  steps = h.steps ∙ k.steps;
+  processes = h.processes ∙ k.processes;
+  objects = λ o l. k.objects o (h.objects o l);
+  buffers = h.buffers ∙ k.buffers;
+  due = λ w m l e. k.due w m (h.due w m l e) e;
+}
+
+pub untouched-after : (z y : Space) → Untouched z y → Less z y → After z y
+untouched-after z y u l = record { steps = u.steps; processes = u.processes; objects = λ x i. subst (In x) u.objects i; buffers = u.buffers; due = l.due }
+
+pub passed-after : (s z y : Space) → After z y → Passed s y → Passed s z
+passed-after s z y a h = record {
+  steps = a.steps ∙ h.steps;
+  processes = λ q i. h.processes q (subst (In q) a.processes i);
+  objects = λ x i. h.objects x (a.objects x i);
+  from = λ c i. h.from c (subst (In c) a.buffers i);
+  to = λ o b i on. elim (h.to o b i on) [
+    | inl c ↦ inl (c.0, subst (In c.0) (sym a.buffers) c.1, c.2)
+    | inr k ↦ inr (elim k [
+      | inl t ↦ inl t
+      | inr e ↦ inr (record { process = λ q. e.process (q.0, subst (In q.0) a.processes q.1, q.2); buffers = λ c j. e.buffers c (subst (In c) a.buffers j) })
+    ])
+  ];
+  lists = λ w c o i e j on. h.lists w c o (a.due w c.made i e) e (subst (In c) a.buffers j) on;
+}
+
+-- ---- asking and dropping, which touch references and names alone
+
+pub ask-after : (z : Space) (p : ℕ) (o : ObjectId) (strong : Bool) → After (ask z p o strong) z
+unfolding ask assign_numbers
+ask-after z p o strong = record { steps = refl; processes = refl; objects = λ x i. i; buffers = refl; due = λ w m l e. l }
+
+pub drop_asked-after : (z : Space) (p : ℕ) (o : ObjectId) (strong : Bool) → After (drop_asked z p o strong) z
+unfolding drop_asked
+drop_asked-after z p o strong = record { steps = refl; processes = refl; objects = λ x i. i; buffers = refl; due = λ w m l e. l }
+
+pub acknowledge-after : (z : Space) (o : ObjectId) (strong : Bool) → After (acknowledge z o strong) z
+unfolding acknowledge
+acknowledge-after z o strong = record { steps = refl; processes = refl; objects = λ x i. i; buffers = refl; due = λ w m l e. l }
+
+pub follow-after : (z : Space) → After (follow z) z
+unfolding names_go objects_go deaths_go
+follow-after = follow-by After after-trans (record {
+  names = λ z. record { steps = refl; processes = refl; objects = λ x i. i; buffers = refl; due = λ w m l e. l };
+  objects = λ z. record { steps = refl; processes = refl; objects = λ x i. (in-filter (stays_in z.processes z.references) x z.objects i).0; buffers = refl; due = λ w m l e. l };
+  deaths = λ z. record { steps = refl; processes = refl; objects = λ x i. i; buffers = refl; due = λ w m l e. l };
+  work = λ z. untouched-after (work_goes z) z (Untouched.work_goes-untouched z) (less_table.sheds z);
+  notices = λ z. untouched-after (notify z) z (Untouched.notify-untouched z) (notify-by Less HandsNothing less_table z);
+})
+
+-- ---- opening and managing
+
+pub opened-passed : (s : Space) (seat pid euid window : ℕ) → OnLists s → Passed s (with_thread (with_process s pid euid window) seat s.steps)
+unfolding with_thread with_process
+opened-passed s seat pid euid window l =
+    let h = passed-none s l in
+    record {
+      steps = refl;
+      processes = λ q i. elim (in-push q _ s.processes i) [ inl k ↦ inl k | inr e ↦ inr (sym (ap (λ (x : Process). x.made) e)) ];
+      objects = h.objects;
+      from = h.from;
+      to = λ o b i on. inl (b, i, same-buffer s b);
+      lists = l;
+    }
+
+pub attached-passed : (s : Space) (seat p : ℕ) → OnLists s → Passed s (with_thread s seat p)
+unfolding with_thread
+attached-passed s seat p l =
+    let h = passed-none s l in
+    record { steps = refl; processes = h.processes; objects = h.objects; from = h.from; to = λ o b i on. inl (b, i, same-buffer s b); lists = l }
+
+pub actor-alive : (s : Space) (seat : ℕ) (a : Actor) → actor s seat ≡ Some a → Lives s.processes a.process.made
+actor-alive s seat a h = let l = find-in (λ (q : Process). q.made == a.thread.process) a.process s.processes (actor-lives s seat a h).1 in (a.process, l.0, refl)
+
+pub managed-passed : (s : Space) (seat : ℕ) (a : Actor) → actor s seat ≡ Some a → OnLists s → Passed s (with_manager s a.process.made)
+unfolding with_manager
+managed-passed s seat a acts l =
+    let h = passed-none s l in
+    record {
+      steps = refl;
+      processes = h.processes;
+      objects = λ x i. elim (in-push x _ s.objects i) [
+        | inl k ↦ inl (x, k, refl, refl)
+        | inr e ↦ inr (sym (ap (λ (y : Object). y.id.place) e), subst (Lives s.processes) (ap (λ (y : Object). y.owner) e) (actor-alive s seat a acts))
+      ];
+      from = h.from;
+      to = λ o b i on. inl (b, i, same-buffer s b);
+      lists = l;
+    }

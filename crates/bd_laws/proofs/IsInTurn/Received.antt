@@ -1,0 +1,122 @@
+-- One-way calls, objects and their receivers in the space of every history.
+use Rattle.bd_laws.proofs.words.Types.{ObjectId, Entry, Object, Buffer, Work}
+use Rattle.bd_laws.proofs.words.Space.{Space, opening, change, counted, History, next, space_after}
+use Rattle.std.proofs.Common.{◌≡◌, ℕ, ◌<◌, List, inl, inr, ap, sym, ◌∙◌, arith}
+use Rattle.bd_laws.proofs.words.Laws.{In, Waits, InTurn, IsInTurn, On, Received, Differ, KeptBefore, Before}
+use Rattle.bd_laws.proofs.Machine.EveryStep.{every_list}
+use Rattle.bd_laws.proofs.Earlier.{in_order-differ}
+use Rattle.bd_laws.proofs.Lists.{pairs-either}
+use Rattle.bd_laws.proofs.IsInTurn.InTurn.{step-in_turn, opening-in_turn}
+use Rattle.bd_laws.proofs.Objects.{step-kept, opening-kept}
+use Rattle.bd_laws.proofs.IsInTurn.Passing.{step-passes}
+use Rattle.bd_laws.proofs.IsInTurn.Passed.{Lives, Became, Passed}
+
+-- ---- an object's one-way calls have one receiver
+
+pub on-before : (s : Space) (o : ObjectId) (b c : Buffer) → Became s b c → On o c → On o b
+on-before s o b c k on = (sym k.one_way ∙ on.0, sym k.target ∙ on.1)
+
+pub on-after : (s : Space) (o : ObjectId) (b c : Buffer) → Became s b c → On o b → On o c
+on-after s o b c k on = (k.one_way ∙ on.0, k.target ∙ on.1)
+
+pub one-object : (s : Space) → KeptBefore s → (x y : Object) → In x s.objects → In y s.objects → x.id ≡ y.id → x ≡ y
+one-object s h x y i j e =
+    elim (pairs-either Differ s.objects (in_order-differ s.objects h.kept.in_order) x y i j) [ inl k ↦ k | inr k ↦ elim k [ inl d ↦ absurd (d e) | inr d ↦ absurd (d (sym e)) ] ]
+
+pub one-made : (n : ℕ) (bs : List Buffer) (todo : List Work) → InTurn n bs todo → (b c : Buffer) → In b bs → In c bs → b.made ≡ c.made → b ≡ c
+one-made n bs todo h b c i j e =
+    elim (pairs-either (Waits todo) bs h.waits b c i j) [
+      | inl k ↦ k
+      | inr k ↦ elim k [ inl w ↦ (let lt = w.earlier in absurd (omega arith)) | inr w ↦ (let lt = w.earlier in absurd (omega arith)) ]
+    ]
+
+pub one-buffer : (s : Space) → IsInTurn s → (b c : Buffer) → In b s.buffers → In c s.buffers → b.made ≡ c.made → b ≡ c
+one-buffer s h b c i j e = one-made s.steps s.buffers s.todo h b c i j e
+
+module _ (s z : Space) (h : Before s) (p : Passed s z) where
+  -- the owner of an object that was there
+  abbrev pub WasOwned : ObjectId → ℕ → Type 0
+  WasOwned o q = (x : Object) × In x s.objects × (x.id ≡ o) × (x.owner ≡ q)
+
+  below : (o : ObjectId) (q : ℕ) → WasOwned o q → o.place < s.steps
+  below o q w = let lt = h.objects.kept.below w.0 w.1 in let e : w.0.id.place ≡ o.place = ap (λ (i : ObjectId). i.place) w.2 in omega arith
+
+  same-owner : (o : ObjectId) (q r : ℕ) → WasOwned o q → WasOwned o r → q ≡ r
+  same-owner o q r v w = sym v.3 ∙ ap (λ (x : Object). x.owner) (one-object s h.objects v.0 w.0 v.1 w.1 (v.2 ∙ sym w.2)) ∙ w.3
+
+  -- an object of before this step was there before it
+  pub owner-before : (o : ObjectId) (x : Object) → o.place < s.steps → In x z.objects → x.id ≡ o → WasOwned o x.owner
+  owner-before o x lt i e = elim (p.objects x i) [
+    | inl y ↦ (y.0, y.1, sym y.2 ∙ e, sym y.3)
+    | inr n ↦ (let at = n.0 in let f : x.id.place ≡ o.place = ap (λ (k : ObjectId). k.place) e in absurd (omega arith))
+  ]
+
+  old-before : (o : ObjectId) (c : Buffer) → In c z.buffers → On o c → o.place < s.steps
+  old-before o c i on = elim (p.from c i) [
+    | inl b ↦ h.received.old o b.0 b.1 (on-before s o b.0 c b.2 on)
+    | inr n ↦ (let x = n.owned o on in below o c.receiver (x.0, x.1, x.2, x.3))
+  ]
+
+  own-after : (o : ObjectId) (c : Buffer) (x : Object) → In c z.buffers → On o c → In x z.objects → x.id ≡ o → x.owner ≡ c.receiver
+  own-after o c x i on j e =
+      let w = owner-before o x (old-before o c i on) j e in
+      elim (p.from c i) [
+        | inl b ↦ sym w.3 ∙ h.received.own o b.0 w.0 b.1 (on-before s o b.0 c b.2 on) w.1 w.2 ∙ sym b.2.receiver
+        | inr n ↦ (let y = n.owned o on in same-owner o x.owner c.receiver w (y.0, y.1, y.2, y.3))
+      ]
+
+  one-after : (o : ObjectId) (c d : Buffer) → In c z.buffers → In d z.buffers → On o c → On o d → c.receiver ≡ d.receiver
+  one-after o c d i j on ond = elim (p.from c i) [
+    | inl b ↦ elim (p.from d j) [
+      | inl e ↦ b.2.receiver ∙ h.received.one o b.0 e.0 b.1 e.1 (on-before s o b.0 c b.2 on) (on-before s o e.0 d e.2 ond) ∙ sym e.2.receiver
+      | inr n ↦ (let y = n.owned o ond in b.2.receiver ∙ sym (h.received.own o b.0 y.0 b.1 (on-before s o b.0 c b.2 on) y.1 y.2) ∙ y.3)
+    ]
+    | inr m ↦ (let x = m.owned o on in elim (p.from d j) [
+      | inl e ↦ sym x.3 ∙ h.received.own o e.0 x.0 e.1 (on-before s o e.0 d e.2 ond) x.1 x.2 ∙ sym e.2.receiver
+      | inr n ↦ (let y = n.owned o ond in same-owner o c.receiver d.receiver (x.0, x.1, x.2, x.3) (y.0, y.1, y.2, y.3))
+    ])
+  ]
+
+  lives-before : (q : ℕ) → Lives s.processes q → q < s.steps
+  lives-before q l = let lt = h.received.born l.0 l.1 in let e = l.2 in omega arith
+
+  pub received-after : Received (counted z)
+  unfolding counted
+  received-after =
+      let steps = p.steps in
+      record {
+        lists = p.lists;
+        own = own-after;
+        one = one-after;
+        old = λ o c i on. let lt = old-before o c i on in omega arith;
+        born = λ q i. elim (p.processes q i) [ inl k ↦ (let lt = h.received.born q k in omega arith) | inr e ↦ omega arith ];
+        owners = λ x i. elim (p.objects x i) [
+          | inl y ↦ (let lt = h.received.owners y.0 y.1 in let e = y.3 in omega arith)
+          | inr n ↦ (let lt = lives-before x.owner n.1 in omega arith)
+        ];
+      }
+
+pub step-before : (s : Space) (e : Entry) → Before s → Before (next s e)
+step-before s e h = record {
+  turns = step-in_turn s e h.turns;
+  objects = step-kept s e h.objects;
+  received = received-after s (change s e.seat e.step).space h (step-passes s e h.turns h.received.lists).passed;
+}
+
+pub opening-before : Before opening
+opening-before = record {
+  turns = opening-in_turn;
+  objects = opening-kept;
+  received = record {
+    lists = λ w c o i e j on. absurd i;
+    own = λ o b x i on j e. absurd i;
+    one = λ o b c i j on ond. absurd i;
+    old = λ o b i on. absurd i;
+    born = λ q i. absurd i;
+    owners = λ x i. absurd i;
+  };
+}
+
+pub always-before : (h : History) → Before (space_after h)
+unfolding space_after
+always-before h = every_list Before step-before h.entries opening opening-before

@@ -1,0 +1,4 @@
+-- While a Death item stands, its notification is queued. What SpacesAreTidy knows of death notifications.
+pub mod Queued
+pub mod QueuedDeaths
+pub mod Queueing

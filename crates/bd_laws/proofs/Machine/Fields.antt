@@ -1,0 +1,73 @@
+-- What parts of a step that every law meets leave of single fields of the space.
+use Rattle.bd_laws.proofs.words.Logic.{◌≡◌, ℕ, Bool, true, false, cond, not, Option, Some, None, refl, filter}
+use Rattle.bd_laws.proofs.words.Types.{TransactionData, Actor, Frame, TodoList, OfThread, WorkKind}
+use Rattle.bd_laws.proofs.words.Space.{Space, owe, closed, is_frame, counted, follow_of, names_go_of, objects_go_of, deaths_go_of, work_goes_of, notify_of, NameTest, ObjectTest, Delivery, delivered, own_notices, add_buffer, known_by, assign_numbers, refer, make_objects, serve}
+use Rattle.bd_space.specs.declared.space.WorkKind.TheVariants as work
+
+-- ---- one item more
+
+pub owe-steps : (z : Space) (list : TodoList) (kind : WorkKind) → (owe z list kind).steps ≡ z.steps
+unfolding owe
+owe-steps z list kind = refl
+
+pub owe-threads : (z : Space) (list : TodoList) (kind : WorkKind) → (owe z list kind).threads ≡ z.threads
+unfolding owe
+owe-threads z list kind = refl
+
+pub owe-frames : (z : Space) (list : TodoList) (kind : WorkKind) → (owe z list kind).frames ≡ z.frames
+unfolding owe
+owe-frames z list kind = refl
+
+pub owe-buffers : (z : Space) (list : TodoList) (kind : WorkKind) → (owe z list kind).buffers ≡ z.buffers
+unfolding owe
+owe-buffers z list kind = refl
+
+pub told-frames : (z : Space) (caller : Option ℕ) (kind : WorkKind) → (elim caller as (λ (o : Option ℕ). Space) [ None ↦ z | Some t ↦ owe z (OfThread t) kind ]).frames ≡ z.frames
+told-frames z None kind = refl
+told-frames z (Some t) kind = owe-frames z (OfThread t) kind
+
+-- ---- a frame closes, or is served
+
+pub closed-steps : (z : Space) (made : ℕ) → (closed z made).steps ≡ z.steps
+unfolding closed
+closed-steps z made = refl
+
+pub closed-threads : (z : Space) (made : ℕ) → (closed z made).threads ≡ z.threads
+unfolding closed
+closed-threads z made = refl
+
+pub closed-frames : (z : Space) (made : ℕ) → (closed z made).frames ≡ filter (λ g. not (is_frame made g)) z.frames
+unfolding closed
+closed-frames z made = refl
+
+pub closed-same : (s : Space) (made : ℕ) → ((closed s made).steps ≡ s.steps) × ((closed s made).threads ≡ s.threads) × ((closed s made).references ≡ s.references) × ((closed s made).todo ≡ s.todo)
+unfolding closed
+closed-same s made = (refl, refl, refl, refl)
+
+pub serve-made : (seat : ℕ) (c : Bool) (f : Frame) → (cond c (serve seat f) f).made ≡ f.made
+serve-made seat true f = refl
+serve-made seat false f = refl
+
+-- ---- what is sent
+
+pub sent-steps : (s : Space) (a : Actor) (d : TransactionData) (v : Delivery) → (owe (delivered s a d v) (OfThread a.thread.seat) work.Complete).steps ≡ s.steps
+unfolding owe delivered own_notices add_buffer known_by assign_numbers refer make_objects
+sent-steps s a d v = refl
+
+pub sent-threads : (s : Space) (a : Actor) (d : TransactionData) (v : Delivery) → (owe (delivered s a d v) (OfThread a.thread.seat) work.Complete).threads ≡ s.threads
+unfolding owe delivered own_notices add_buffer known_by assign_numbers refer make_objects
+sent-threads s a d v = refl
+
+pub sent-frames : (s : Space) (a : Actor) (d : TransactionData) (v : Delivery) → (owe (delivered s a d v) (OfThread a.thread.seat) work.Complete).frames ≡ s.frames
+unfolding owe delivered own_notices add_buffer known_by assign_numbers refer make_objects
+sent-frames s a d v = refl
+
+-- ---- what follows, and the step's end
+
+pub follow_of-frames : (a : NameTest) (b : ObjectTest) (z : Space) → (follow_of a b z).frames ≡ z.frames
+unfolding follow_of names_go_of objects_go_of deaths_go_of work_goes_of notify_of
+follow_of-frames a b z = refl
+
+pub counted-buffers : (z : Space) → (counted z).buffers ≡ z.buffers
+unfolding counted
+counted-buffers z = refl

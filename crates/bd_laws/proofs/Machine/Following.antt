@@ -1,0 +1,39 @@
+-- A relation of a space to an earlier one that each part of what follows keeps, or each part of an exit, the whole keeps.
+use Rattle.bd_laws.proofs.words.Space.{Space, objects_go, names_go, deaths_go, work_goes, notify, follow, thread_goes, seat_of, threads_go, without_process, tell_deaths}
+use Rattle.std.proofs.Common.{ℕ, ◌==◌, map, filter}
+use Rattle.bd_space.specs.declared.space.Thread.{Thread}
+use Rattle.bd_laws.proofs.Lists.{fold-keeps}
+
+-- what holds of the spaces after each of the five parts of what follows
+pub record FollowedBy (R : Space → Space → Type 0) : Type 0 where
+  pub names : (z : Space) → R (names_go z) z
+  pub objects : (z : Space) → R (objects_go z) z
+  pub deaths : (z : Space) → R (deaths_go z) z
+  pub work : (z : Space) → R (work_goes z) z
+  pub notices : (z : Space) → R (notify z) z
+
+module _ (R : Space → Space → Type 0) (trans : (z y x : Space) → R z y → R y x → R z x) where
+  pub follow-by : FollowedBy R → (z : Space) → R (follow z) z
+  unfolding follow
+  follow-by k z =
+      let shed = deaths_go (objects_go (names_go z)) in
+      trans (notify (work_goes shed)) (work_goes shed) z (k.notices (work_goes shed)) (trans (work_goes shed) shed z (k.work shed)
+      (trans shed (objects_go (names_go z)) z (k.deaths (objects_go (names_go z))) (trans (objects_go (names_go z)) (names_go z) z (k.objects (names_go z)) (k.names z))))
+
+  -- a process ends: its threads go, then what it has, and deaths are told
+  pub ends-by : ((z : Space) (p : ℕ) → R (threads_go z p) z) → ((z : Space) (p : ℕ) → R (without_process z p) z) → ((z : Space) (p : ℕ) → R (tell_deaths z p) z)
+      → (z : Space) (p : ℕ) → R (tell_deaths (without_process (threads_go z p) p) p) z
+  ends-by threads rest deaths z p =
+      let a = threads_go z p in
+      let b = without_process a p in
+      trans (tell_deaths b p) b z (deaths b p) (trans b a z (rest a p) (threads z p))
+
+-- what each thread's going keeps, that of a process's threads keeps
+pub threads-keep : (P : Space → Type 0) → ((z : Space) (seat : ℕ) → P z → P (thread_goes z seat)) → (z : Space) (p : ℕ) → P z → P (threads_go z p)
+unfolding threads_go
+threads-keep P k z p = fold-keeps P thread_goes (map seat_of (filter (λ (t : Thread). t.process == p) z.threads)) (λ y seat l. k y seat) z
+
+-- and what lies between the space before one and that after it, between those before and after all
+pub threads-by : (R : Space → Space → Type 0) → ((z : Space) → R z z) → ((z y x : Space) → R z y → R y x → R z x) → ((z : Space) (seat : ℕ) → R (thread_goes z seat) z)
+    → (z : Space) (p : ℕ) → R (threads_go z p) z
+threads-by R same trans k z p = threads-keep (λ y. R y z) (λ y seat. trans (thread_goes y seat) y z (k y seat)) z p (same z)

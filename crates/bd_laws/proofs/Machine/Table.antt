@@ -1,0 +1,256 @@
+-- One table of the parts of a step. What lies between the space after a part and that before it is told for the changes that
+-- parts are made of; then it is told of every part but of those that carry calls: transactions, replies, readings, turns.
+use Rattle.bd_laws.proofs.words.Logic.{◌≡◌, ℕ, ◌-◌, Bool, true, false, not, List, [], ◌∷◌, ◌++◌, Option, Some, None, Ok, refl, ◌∙◌, filter}
+use Rattle.bd_laws.proofs.words.Types.{ObjectId, Process, Object, Reference, Name, DeathNotification, Frame, Actor, Parcel, Item, Buffer, Work, Step, Command, Read, Return, DeadReply, TransactionData, TodoList, OfThread, OfProcess, WorkKind}
+use Rattle.bd_laws.proofs.words.Space.{Space, called, call_out, is_notice, settle, completed, delivered, own_notices, add_buffer, known_by, refer, make_objects, buffer_of, owe, closed, follow, notify, work_goes, deaths_go, objects_go, names_go, assign_numbers, ripen, ask, drop_asked, acknowledge, with_looping, without_buffer, with_thread, with_process, with_manager, thread_goes, threads_go, without_process, tell_deaths, Delivery, transacted, transaction_check, replied, reply_check, served_innermost, read_by, taken, list_to_read, read_fault, actor}
+use Rattle.bd_space.specs.declared.space.WorkKind.TheVariants as work
+use Rattle.bd_uapi.specs.declared.command.Command.TheVariants as bc
+use Rattle.bd_laws.proofs.Machine.Adding.{told-keeps, notify-keeps, own_notices-keeps, ripen-keeps}
+use Rattle.bd_laws.proofs.Machine.Settled.{settle-keeps}
+use Rattle.bd_laws.proofs.Machine.Deaths.{OnDeaths, KeptOnDeaths, on-kept, on-told, on-commands, on-mapped}
+use Rattle.bd_laws.proofs.Machine.Following.{follow-by, ends-by, threads-by}
+use Rattle.bd_laws.proofs.Machine.EveryEnding.{SetUp, Changes}
+use Rattle.bd_laws.proofs.Machine.EveryStep.{Keeps}
+
+-- R relates a space to an earlier one of the step; T tells which items a part may add
+pub record Table (R : Space → Space → Type 0) (T : WorkKind → Type 0) : Type 0 where
+  pub same : (z : Space) → R z z
+  pub trans : (z y x : Space) → R z y → R y x → R z x
+  -- it speaks of none of these fields
+  pub beside : (z : Space) (qs : List Process) (m : Option ObjectId) (os : List Object) (rs : List Reference) (ns : List Name) (ds : List DeathNotification)
+      → R (record z { processes = qs; manager = m; objects = os; references = rs; names = ns; deaths = ds }) z
+  pub seats : (z : Space) (seat p : ℕ) → R (with_thread z seat p) z
+  pub loops : (z : Space) (t : ℕ) (looping : Bool) → R (with_looping z t looping) z
+  pub frees : (z : Space) (made : ℕ) → R (without_buffer z made) z
+  pub owes : (z : Space) (list : TodoList) (kind : WorkKind) → T kind → R (owe z list kind) z
+  pub sheds : (z : Space) → R (work_goes z) z
+  pub notice : (o : ObjectId) → T (work.Notice o)
+  pub death : (made : ℕ) → T (work.Death made)
+  pub clear : (cookie : ℕ) → T (work.Cleared cookie)
+
+-- the parts that end threads and processes
+pub record Exits (R : Space → Space → Type 0) : Type 0 where
+  pub goes : (z : Space) (seat : ℕ) → R (thread_goes z seat) z
+  pub rest : (z : Space) (p : ℕ) → R (without_process z p) z
+
+-- a frame closes
+abbrev pub Closing : (Space → Space → Type 0) → Type 0
+Closing R = (z : Space) (made : ℕ) → R (closed z made) z
+
+-- the parts that carry calls
+pub record Carried (s : Space) (seat : ℕ) (x : Step) (M : Space → Type 0) : Type 0 where
+  pub transacts : (a : Actor) (d : TransactionData) (parcel : Option Parcel) (v : Delivery) → x ≡ Command (bc.Transaction d) parcel → actor s seat ≡ Some a
+      → transaction_check s a d parcel ≡ Ok v → M (transacted s a d v)
+  pub replies : (a : Actor) (d : TransactionData) (parcel : Option Parcel) (f : Frame) (v : Delivery) → x ≡ Command (bc.Reply d) parcel → actor s seat ≡ Some a
+      → served_innermost s a.thread.seat ≡ Some f → reply_check s a d parcel f ≡ Ok v → M (replied s a d f v)
+  pub reads : (a : Actor) (limit : ℕ) → actor s seat ≡ Some a → x ≡ Read limit → read_fault limit (list_to_read s a.thread) ≡ None
+      → M (read_by s a.thread.seat (taken s (limit - 4) (list_to_read s a.thread)))
+  pub ripens : (z : Space) → M z → M (ripen z)
+
+module _ (R : Space → Space → Type 0) (T : WorkKind → Type 0) (t : Table R T) where
+  -- ---- what follows, and the ends of processes
+
+  pub notify-by : (z : Space) → R (notify z) z
+  unfolding notify owe
+  notify-by z =
+      notify-keeps (λ todo. R (record z { todo = todo }) z) z
+      (λ todo x l due. let y = record z { todo = todo } in t.trans _ y z (t.owes y (OfProcess x.owner) (work.Notice x.id) (t.notice x.id))) (t.same z)
+
+  pub followed-by : (z : Space) → R (follow z) z
+  unfolding names_go objects_go deaths_go
+  followed-by = follow-by R t.trans (record {
+    names = λ z. t.beside z _ _ _ _ _ _;
+    objects = λ z. t.beside z _ _ _ _ _ _;
+    deaths = λ z. t.beside z _ _ _ _ _ _;
+    work = t.sheds;
+    notices = notify-by;
+  })
+
+  deaths-kept : (z : Space) → KeptOnDeaths (λ y. R y z)
+  deaths-kept z = record {
+    others = λ y ds. t.trans _ y z (t.beside y _ _ _ _ _ ds);
+    dies = λ y p made. t.trans _ y z (t.owes y (OfProcess p) (work.Death made) (t.death made));
+    clears = λ y u cookie. t.trans _ y z (t.owes y (OfThread u) (work.Cleared cookie) (t.clear cookie));
+  }
+
+  pub deaths-by : (z : Space) → OnDeaths z (λ y. R y z)
+  deaths-by z = on-kept _ (deaths-kept z) z (t.same z)
+
+  pub tell_deaths-by : (z : Space) (p : ℕ) → R (tell_deaths z p) z
+  tell_deaths-by z p = on-told _ (deaths-kept z) z p (t.same z)
+
+  pub ended-by : Exits R → (z : Space) (p : ℕ) → R (tell_deaths (without_process (threads_go z p) p) p) z
+  ended-by e = ends-by R t.trans (threads-by R t.same t.trans e.goes) e.rest tell_deaths-by
+
+  pub ripen-by : ((made : ℕ) → T (work.Call made)) → (z : Space) → R (ripen z) z
+  unfolding ripen owe
+  ripen-by call z =
+      ripen-keeps (λ todo. R (record z { todo = todo }) z) z
+      (λ todo u. let y = record z { todo = todo } in t.trans _ y z (t.owes y (OfProcess u.receiver) (work.Call u.made) (call u.made))) (t.same z)
+
+  -- what closing frames adds, settling adds
+  settled-by : Closing R → T (work.Verdict DeadReply) → (z : Space) → R (settle z) z
+  settled-by closes verdict z =
+      settle-keeps (λ y. R y z) (λ y f abandoned h. told-keeps (λ y. R y z) (work.Verdict DeadReply) (λ y u. t.trans _ y z (t.owes y (OfThread u) (work.Verdict DeadReply) verdict))
+      (closed y f.made) f.caller (t.trans _ y z (closes y f.made) h)) z (t.same z)
+
+  pub completed-by : Closing R → T (work.Verdict DeadReply) → ((z : Space) → R (ripen z) z) → (z : Space) → R (completed z) z
+  unfolding completed
+  completed-by closes verdict ripens z = t.trans _ (follow (ripen z)) z (settled-by closes verdict (follow (ripen z))) (t.trans _ (ripen z) z (followed-by (ripen z)) (ripens z))
+
+  -- ---- what is sent
+
+  module _ (withdraws : (z : Space) (o : ObjectId) → R (record z { todo = filter (λ (w : Work). not (is_notice o w.kind)) z.todo }) z) (arrives : (z : Space) (b : Buffer) → R (add_buffer z b) z)
+      (complete : T work.Complete) where
+    pub own_notices-by : (z : Space) (seat : ℕ) (items : List Item) → R (own_notices z seat items) z
+    unfolding own_notices owe
+    own_notices-by z seat items =
+        own_notices-keeps (λ todo. R (record z { todo = todo }) z) z seat items (λ todo o. let y = record z { todo = todo } in t.trans _ y z (withdraws y o))
+        (λ todo x due. let y = record z { todo = todo } in t.trans _ y z (t.owes y (OfThread seat) (work.Notice x.id) (t.notice x.id))) (t.same z)
+
+    pub delivered-by : (s : Space) (a : Actor) (d : TransactionData) (v : Delivery) → R (delivered s a d v) s
+    unfolding delivered known_by assign_numbers refer make_objects
+    delivered-by s a d v =
+        let y = known_by s v in
+        let b = buffer_of y a d v in
+        t.trans _ (add_buffer y b) s (own_notices-by (add_buffer y b) a.thread.seat v.sending.items) (t.trans _ y s (arrives y b) (t.beside s _ _ _ _ _ _))
+
+    pub sent-by : (s : Space) (a : Actor) (d : TransactionData) (v : Delivery) → R (owe (delivered s a d v) (OfThread a.thread.seat) work.Complete) s
+    sent-by s a d v = t.trans _ (delivered s a d v) s (t.owes (delivered s a d v) (OfThread a.thread.seat) work.Complete complete) (delivered-by s a d v)
+
+    pub transacted-by : ((z : Space) (seat p : ℕ) → R (call_out z seat p) z) → (s : Space) (a : Actor) (d : TransactionData) (v : Delivery) → R (transacted s a d v) s
+    unfolding transacted
+    transacted-by calls s a d v = at v.one_way
+      where
+        at : (b : Bool) → R (called (owe (delivered s a d v) (OfThread a.thread.seat) work.Complete) a.thread.seat v.receiver.made b) s
+        at true = sent-by s a d v
+        at false = let y = owe (delivered s a d v) (OfThread a.thread.seat) work.Complete in t.trans _ y s (calls y a.thread.seat v.receiver.made) (sent-by s a d v)
+
+  -- ---- every step, for what rests on a space as R tells
+
+  module _ (s : Space) (seat : ℕ) (x : Step) (F : Space → Type 0) (from : (z : Space) → R z s → F z) where
+    pub set_up-by : SetUp s seat F
+    unfolding with_process with_manager
+    set_up-by = record {
+      same = from s (t.same s);
+      opened = λ pid euid window free. let y = with_process s pid euid window in from _ (t.trans _ y s (t.seats y seat s.steps) (t.beside s _ _ _ _ _ _));
+      attached = λ p free. from _ (t.seats s seat p);
+      managed = λ a e b. from _ (t.beside s _ _ _ _ _ _);
+    }
+
+    -- where exits are told by themselves
+    pub changes-but : Carried s seat x F → ((a : Actor) → actor s seat ≡ Some a → F (thread_goes s a.thread.seat))
+        → ((a : Actor) → actor s seat ≡ Some a → F (tell_deaths (without_process (threads_go s a.process.made) a.process.made) a.process.made)) → Changes s seat x F
+    unfolding ask assign_numbers drop_asked acknowledge
+    changes-but k leaves ends = record {
+      transacts = k.transacts;
+      replies = k.replies;
+      frees = λ p ptr b e h. from _ (t.frees s b.made);
+      asks = λ a n strong o e i h. from _ (t.beside s _ _ _ _ _ _);
+      drops = λ p o strong. from _ (t.beside s _ _ _ _ _ _);
+      acknowledges = λ o strong i. from _ (t.beside s _ _ _ _ _ _);
+      loops = λ u looping. from _ (t.loops s u looping);
+      on_deaths = on-commands s _ (on-mapped s _ _ from (deaths-by s));
+      reads = k.reads;
+      leaves = leaves;
+      ends = ends;
+      ripens = k.ripens;
+    }
+
+    module _ (e : Exits R) where
+      pub changes-by : Carried s seat x F → Changes s seat x F
+      changes-by k = changes-but k (λ a i. from _ (e.goes s a.thread.seat)) (λ a i. from _ (ended-by e s a.process.made))
+
+      pub keeps-by : Closing R → ((z y : Space) → R z y → F y → F z) → ((r : Return) → T (work.Refusal r)) → ((r : Return) → T (work.Verdict r)) → Carried s seat x F → Keeps s seat x F F
+      keeps-by closing later refusal verdict k = record {
+        set_up = set_up-by;
+        changes = changes-by k;
+        follows = λ z. later (follow z) z (followed-by z);
+        closes = λ z made. later (closed z made) z (closing z made);
+        refuses = λ z u r. later _ z (t.owes z (OfThread u) (work.Refusal r) (refusal r));
+        tells = λ z u r. later _ z (t.owes z (OfThread u) (work.Verdict r) (verdict r));
+      }
+
+-- ---- two tables together
+
+pub table-both : (R S : Space → Space → Type 0) (T U : WorkKind → Type 0) → Table R T → Table S U → Table (λ z y. R z y × S z y) (λ k. T k × U k)
+table-both R S T U t u = record {
+  same = λ z. (t.same z, u.same z);
+  trans = λ z y x h k. (t.trans z y x h.0 k.0, u.trans z y x h.1 k.1);
+  beside = λ z qs m os rs ns ds. (t.beside z qs m os rs ns ds, u.beside z qs m os rs ns ds);
+  seats = λ z seat p. (t.seats z seat p, u.seats z seat p);
+  loops = λ z l looping. (t.loops z l looping, u.loops z l looping);
+  frees = λ z made. (t.frees z made, u.frees z made);
+  owes = λ z list kind h. (t.owes z list kind h.0, u.owes z list kind h.1);
+  sheds = λ z. (t.sheds z, u.sheds z);
+  notice = λ o. (t.notice o, u.notice o);
+  death = λ made. (t.death made, u.death made);
+  clear = λ cookie. (t.clear cookie, u.clear cookie);
+}
+
+pub exits-both : (R S : Space → Space → Type 0) → Exits R → Exits S → Exits (λ z y. R z y × S z y)
+exits-both R S e f = record {
+  goes = λ z seat. (e.goes z seat, f.goes z seat);
+  rest = λ z p. (e.rest z p, f.rest z p);
+}
+
+-- ---- what touches no frames
+
+abbrev pub SameFrames : Space → Space → Type 0
+SameFrames z y = z.frames ≡ y.frames
+
+-- any item may come
+abbrev pub Any : WorkKind → Type 0
+Any kind = Unit {0}
+
+pub frames_table : Table SameFrames Any
+unfolding with_thread with_looping without_buffer owe work_goes
+frames_table = record {
+  same = λ z. refl;
+  trans = λ z y x h k. h ∙ k;
+  beside = λ z qs m os rs ns ds. refl;
+  seats = λ z seat p. refl;
+  loops = λ z t looping. refl;
+  frees = λ z made. refl;
+  owes = λ z list kind any. refl;
+  sheds = λ z. refl;
+  notice = λ o. tt;
+  death = λ made. tt;
+  clear = λ cookie. tt;
+}
+
+-- ---- what lies between work items alone
+
+-- L relates a list of work items to an earlier one of the step
+pub record Listing (L : List Work → List Work → Type 0) (T : WorkKind → Type 0) : Type 0 where
+  pub same : (todo : List Work) → L todo todo
+  pub trans : (xs ys zs : List Work) → L xs ys → L ys zs → L xs zs
+  pub push : (todo : List Work) (w : Work) → T w.kind → L (todo ++ w ∷ []) todo
+  pub fewer : (p : Work → Bool) (todo : List Work) → L (filter p todo) todo
+  pub notice : (o : ObjectId) → T (work.Notice o)
+  pub death : (made : ℕ) → T (work.Death made)
+  pub clear : (cookie : ℕ) → T (work.Cleared cookie)
+
+module _ (L : List Work → List Work → Type 0) (T : WorkKind → Type 0) (k : Listing L T) where
+  abbrev pub Between : Space → Space → Type 0
+  Between z y = L z.todo y.todo
+
+  pub listing_table : Table Between T
+  unfolding with_thread with_looping without_buffer owe work_goes
+  listing_table = record {
+    same = λ z. k.same z.todo;
+    trans = λ z y x. k.trans z.todo y.todo x.todo;
+    beside = λ z qs m os rs ns ds. k.same z.todo;
+    seats = λ z seat p. k.same z.todo;
+    loops = λ z t looping. k.same z.todo;
+    frees = λ z made. k.same z.todo;
+    owes = λ z list kind allowed. k.push z.todo _ allowed;
+    sheds = λ z. k.fewer _ z.todo;
+    notice = k.notice;
+    death = k.death;
+    clear = k.clear;
+  }
+
+  pub listing_exits : Exits Between
+  unfolding thread_goes without_process
+  listing_exits = record { goes = λ z seat. k.fewer _ z.todo; rest = λ z p. k.fewer _ z.todo }

@@ -1,0 +1,80 @@
+-- The frames of every space after a history lie on paths.
+use Rattle.bd_laws.proofs.words.Types.{Step, Entry, OfThread}
+use Rattle.bd_laws.proofs.words.Space.{Space, opening, follow, refusal, change, counted, next}
+use Rattle.std.proofs.Common.{◌≡◌, ℕ, ◌-◌, suc, refl, sym, subst}
+use Rattle.bd_space.specs.declared.space.WorkKind.TheVariants as work
+use Rattle.bd_laws.specs.Frames.{OnPaths}
+use Rattle.bd_laws.proofs.Machine.EveryStep.{KeepsWhole, every_whole_step}
+use Rattle.bd_laws.proofs.IsInTurn.OneWay as one_way
+use Rattle.bd_laws.proofs.IsInTurn.OneWay.{less_table, Less, HandsNothing, owe-less}
+use Rattle.bd_laws.proofs.Machine.Table.{Table, SameFrames, Any, frames_table, table-both, set_up-by, changes-but}
+use Rattle.bd_laws.proofs.OnPaths.Forests.{forest-more}
+use Rattle.bd_laws.proofs.OnPaths.Paths.{calm, follow-frames, abandons, refuses-reply}
+use Rattle.bd_laws.proofs.OnPaths.PathCalls.{transacts, replies}
+use Rattle.bd_laws.proofs.OnPaths.PathReadings.{ripens, reads}
+use Rattle.bd_laws.proofs.OnPaths.PathExits.{exits, ends}
+use Rattle.bd_laws.proofs.Machine.Fields.{owe-frames}
+
+-- ---- every step
+
+-- what touches no frames either
+abbrev Calm : Space → Space → Type 0
+Calm z y = Less z y × SameFrames z y
+
+calm_table : Table Calm (λ kind. HandsNothing kind × Any kind)
+calm_table = table-both Less SameFrames HandsNothing Any less_table frames_table
+
+module _ (s : Space) (h : OnPaths s.steps s) where
+  abbrev After : Space → Type 0
+  After z = OnPaths (suc s.steps) z
+
+  now_on : After s
+  now_on = (h.0, forest-more s.steps h.0 s.frames s.buffers s.todo h.1)
+
+  calmly : (z : Space) → Less z s → z.frames ≡ s.frames → After z
+  calmly z l e = calm (suc s.steps) z s l e now_on
+
+  more : (z : Space) → OnPaths s.steps z → After z
+  more z k = (k.0, forest-more s.steps k.0 z.frames z.buffers z.todo k.1)
+
+  kept : (seat : ℕ) (x : Step) → KeepsWhole s seat x After After
+  kept seat x = record {
+    set_up = set_up-by Calm (λ kind. HandsNothing kind × Any kind) calm_table s seat x After (λ z c. calmly z c.0 c.1);
+    changes = changes-but Calm (λ kind. HandsNothing kind × Any kind) calm_table s seat x After (λ z c. calmly z c.0 c.1) (record {
+      transacts = λ a d parcel v e i t. transacts s h a d parcel v t;
+      replies = λ a d parcel f v e i g t. replies s h a d parcel v f g;
+      reads = λ a limit i e n. reads (suc s.steps) s now_on a.thread (limit - 4);
+      ripens = λ z k. ripens (suc s.steps) z k;
+    }) (λ a i. exits (suc s.steps) s now_on a.thread.seat) (λ a i. ends (suc s.steps) s a.process.made now_on);
+    follows = λ z k. calm (suc s.steps) (follow z) z (one_way.follow-less z) (follow-frames z) k;
+    refuses = λ t c. calmly _ (owe-less s (OfThread t) (work.Refusal (refusal c)) refl) (owe-frames s (OfThread t) (work.Refusal (refusal c)));
+    fails = λ a d parcel f e i g. refuses-reply (suc s.steps) s a.thread.seat f g now_on;
+    abandons = λ z f e k. abandons (suc s.steps) z f e k;
+  }
+
+pub next-on_paths : (s : Space) (e : Entry) → (next s e).steps ≡ suc s.steps → OnPaths s.steps s → OnPaths (next s e).steps (next s e)
+unfolding counted
+next-on_paths s e steps h =
+    subst (λ n. OnPaths n (change s e.seat e.step).space) (sym steps)
+    (every_whole_step s e.seat e.step (OnPaths (suc s.steps)) (OnPaths (suc s.steps)) (kept s h e.seat e.step))
+
+pub opening-on_paths : OnPaths 0 opening
+opening-on_paths = (
+  λ x. x,
+  record {
+    below = λ f l. absurd l;
+    rooted = λ f l. absurd l;
+    sorted = tt;
+    parents = λ g p l e. absurd l;
+    linked = λ f g l m e lt. absurd l;
+    leaf = λ f g l m e none. absurd l;
+    shared = λ t f g l m p q. absurd l;
+    waiting = λ w t f l e o i. absurd l;
+    childless = λ w f l e i. absurd l;
+    unserved = λ w f t l e i s. absurd l;
+    one = λ v w b l m e o. absurd l;
+    due = λ w b l e. absurd l;
+    buffers = λ c l. absurd l;
+    turns = λ c f l o i e. absurd l;
+  },
+)

@@ -1,0 +1,69 @@
+-- What lies on paths: the frames of a space, through the parts of a step that close one.
+use Rattle.bd_laws.proofs.words.Logic.{◌≡◌, ℕ, ◌==◌, true, not, List, Option, Some, None, refl, ap, sym, subst, ◌∙◌, list_any, find, eq-eqb}
+use Rattle.bd_laws.proofs.words.Types.{TransactionData, DeadReply, FailedReply, TransactionComplete, Work, Frame, Actor, OfThread, WorkKind}
+use Rattle.bd_laws.proofs.words.Space.{is_some_and, Space, closed, served_innermost, is_gone, is_child_of, owe, tell_caller, hands_out, follow, notify, work_goes, deaths_go, names_go, assign_numbers, objects_go, is_abandoned, Delivery, delivered, own_notices, add_buffer, known_by, refer, make_objects, reply_refused}
+use Rattle.bd_space.specs.declared.space.WorkKind.TheVariants as work
+use Rattle.bd_laws.proofs.words.Laws.{In, Forest, NoChild, OnPaths}
+use Rattle.bd_laws.proofs.Lists.{find-in, any-in}
+use Rattle.bd_laws.proofs.Tests.{both, not-true}
+use Rattle.bd_laws.proofs.IsInTurn.OneWay.{Less, owe-less}
+use Rattle.bd_laws.proofs.OnPaths.PathWords.{served-is}
+use Rattle.bd_laws.proofs.OnPaths.Forests.{forest-same, forest-closed}
+use Rattle.bd_laws.proofs.OnPaths.Innermost.{innermost-is, innermost-childless}
+use Rattle.bd_laws.proofs.Machine.Fields.{owe-frames}
+
+-- ---- what leaves the frames
+
+pub call-hands : (w : Work) (b : ℕ) → w.kind ≡ work.Call b → hands_out w.kind ≡ Some b
+call-hands w b e = ap hands_out e
+
+pub calm : (n : ℕ) (z y : Space) → Less z y → z.frames ≡ y.frames → OnPaths n y → OnPaths n z
+calm n z y l e h = (
+  h.0,
+  subst (λ fs. Forest n h.0 fs z.buffers z.todo) (sym e)
+      (forest-same n h.0 y.frames y.buffers y.todo h.1 z.buffers z.todo (λ c i. (c, l.buffers c i, refl, refl)) (λ w b i k. l.due w b i (call-hands w b k))),
+)
+
+pub follow-frames : (z : Space) → (follow z).frames ≡ z.frames
+unfolding follow notify work_goes deaths_go objects_go names_go
+follow-frames z = refl
+
+pub delivered-frames : (s : Space) (a : Actor) (d : TransactionData) (v : Delivery) → (delivered s a d v).frames ≡ s.frames
+unfolding delivered own_notices add_buffer known_by assign_numbers refer make_objects
+delivered-frames s a d v = refl
+
+-- ---- a frame closes, and its caller is told
+
+told : (n : ℕ) (z : Space) (caller : Option ℕ) (kind : WorkKind) → hands_out kind ≡ None → OnPaths n z
+    → OnPaths n (elim caller as (λ (o : Option ℕ). Space) [ None ↦ z | Some t ↦ owe z (OfThread t) kind ])
+told n z None kind none h = h
+told n z (Some t) kind none h = calm n _ z (owe-less z (OfThread t) kind none) (owe-frames z (OfThread t) kind) h
+
+pub closes : (n : ℕ) (z : Space) (f : Frame) → In f z.frames → NoChild z.frames f → OnPaths n z → OnPaths n (closed z f.made)
+unfolding closed
+closes n z f l none h = (h.0, forest-closed n h.0 z.frames z.buffers z.todo h.1 f l none)
+
+pub abandoned-childless : (fs : List Frame) (f : Frame) → is_abandoned fs f ≡ true → NoChild fs f
+abandoned-childless fs f h g l e =
+    let none = not-true (list_any (is_child_of f) fs) (both (is_gone f.server) (not (list_any (is_child_of f) fs)) h).1 in
+    let child : is_child_of f g ≡ true = ap (λ o. is_some_and o (λ m. m == f.made)) e ∙ eq-eqb f.made f.made refl in
+    let some = any-in (is_child_of f) g fs l child in absurd (cc)
+
+pub abandons : (n : ℕ) (z : Space) (f : Frame) → find (is_abandoned z.frames) z.frames ≡ Some f → OnPaths n z → OnPaths n (tell_caller (closed z f.made) f (work.Verdict DeadReply))
+abandons n z f e h =
+    let k = find-in (is_abandoned z.frames) f z.frames e in
+    told n (closed z f.made) f.caller (work.Verdict DeadReply) refl (closes n z f k.0 (abandoned-childless z.frames f k.1) h)
+
+pub served-childless : (n : ℕ) (s : Space) (t : ℕ) (f : Frame) → OnPaths n s → served_innermost s t ≡ Some f → In f s.frames × NoChild s.frames f
+served-childless n s t f h e =
+    let k = served-is s t f e in
+    ((innermost-is s.frames t f k.0).0, innermost-childless h.0 s.frames h.1.sorted h.1.parents t f k.0 k.1)
+
+pub refuses-reply : (n : ℕ) (s : Space) (t : ℕ) (f : Frame) → served_innermost s t ≡ Some f → OnPaths n s → OnPaths n (reply_refused s t f)
+unfolding reply_refused
+refuses-reply n s t f e h =
+    let y = owe s (OfThread t) (work.Refusal TransactionComplete) in
+    let k = served-childless n s t f h e in
+    let same = owe-frames s (OfThread t) (work.Refusal TransactionComplete) in
+    told n (closed y f.made) f.caller (work.Verdict FailedReply) refl
+    (closes n y f (subst (In f) (sym same) k.0) (subst (λ fs. NoChild fs f) (sym same) k.1) (calm n y s (owe-less s (OfThread t) (work.Refusal TransactionComplete) refl) same h))
