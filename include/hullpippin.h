@@ -27,7 +27,7 @@
  *    threads: a start, a join, a mutex. Different handles may be used at the same time by different threads, those of
  *    one driver too, which is what they are for.
  *  - No two pointers of one call lead to memory that overlaps, where one of them is written through. A buffer of size 0
- *    may be given as HULLPIPPIN_NOWHERE, or as any other pointer but NULL.
+ *    may be given as HULLPIPPIN_NOWHERE or HULLPIPPIN_NO_NUMBERS, or as any other aligned pointer but NULL.
  *  - A seat goes back to the driver that it was taken off.
  *  - No call is made in a signal handler, or in the forked child of a process with threads. malloc aligns to 16.
  *
@@ -66,8 +66,9 @@ typedef struct {
 #define HULLPIPPIN_NO_SEAT { NULL }
 #define HULLPIPPIN_NO_LIVE { NULL }
 
-/* Where a buffer of no bytes is. */
+/* Where a buffer of no bytes is, and one of no numbers. */
 #define HULLPIPPIN_NOWHERE ((uint8_t *)1)
+#define HULLPIPPIN_NO_NUMBERS ((uint32_t *)4)
 
 /* Whether a call was made. With every number but 0 nothing was done, and nothing was written to what the call fills. */
 enum {
@@ -327,6 +328,27 @@ bool hullpippin_live_ready(hullpippin_live *live, uint32_t seat);
 
 /* How many steps were made. Takes no memory. */
 uint32_t hullpippin_live_len(hullpippin_live *live);
+
+/* Copies where the buffers were made that ended by the latest step, each the place of its step in the history, oldest
+   first, to `out` if all of them fit in `room` numbers, and else nothing. Answers how many there are, 0 where no step
+   was made yet; they stay until the next step that is DONE. A buffer has ended where one made there lived before the
+   step and none does after it, so a bridge may take back its memory. Only a BC_FREE_BUFFER and the exits end buffers,
+   and only they take time for it: a BC_FREE_BUFFER looks for one, an exit looks through those of its own process.
+   Takes no memory. */
+size_t hullpippin_live_ended(hullpippin_live *live, uint32_t *out, size_t room);
+
+/* Looks whether each of `count` seats has something to read, and notes it. Tells in `changed` for how many of them that
+   differs from what was noted when the seat was last looked at by this function; at first no seat has anything to
+   read. Which they are is fetched by hullpippin_live_changed. Other seats stay noted as they were: what becomes of them
+   is told when they are named next. Numbers that are no seat's are passed over. It costs a look at each seat that is
+   named, as hullpippin_live_ready does: name those that somebody waits for, or all. A step costs nothing for it. Also
+   NO_MEMORY: then all stays noted as it was. */
+uint32_t hullpippin_live_poll(hullpippin_live *live, const uint32_t *seats, size_t count, size_t *changed);
+
+/* Copies the seats that the latest hullpippin_live_poll found changed to `out`, if all of them fit in `room` numbers,
+   and else nothing. Answers how many there are; they stay until its next call that is DONE. Each was noted ready and
+   isn't now, or the other way round. Takes no memory. */
+size_t hullpippin_live_changed(hullpippin_live *live, uint32_t *out, size_t room);
 
 /* As hullpippin_answer_bytes, of the latest step; 0 where that isn't a read, or didn't get anything. */
 size_t hullpippin_live_bytes(hullpippin_live *live, uint32_t part, uint8_t *out, size_t room);

@@ -127,6 +127,9 @@ mod c {
         pub fn hullpippin_live_ready(live: *mut Handle, seat: u32) -> bool;
         pub fn hullpippin_live_len(live: *mut Handle) -> u32;
         pub fn hullpippin_live_bytes(live: *mut Handle, part: u32, out: *mut u8, room: usize) -> usize;
+        pub fn hullpippin_live_ended(live: *mut Handle, out: *mut u32, room: usize) -> usize;
+        pub fn hullpippin_live_poll(live: *mut Handle, seats: *const u32, count: usize, changed: *mut usize) -> u32;
+        pub fn hullpippin_live_changed(live: *mut Handle, out: *mut u32, room: usize) -> usize;
         pub fn hullpippin_live_entry(live: *mut Handle, out: *mut u8, room: usize, size: *mut usize) -> u32;
         pub fn hullpippin_live_heading(live: *mut Handle, count: u32, out: *mut u8, room: usize, size: *mut usize) -> u32;
         pub fn hullpippin_free_live(live: *mut Handle);
@@ -653,6 +656,19 @@ impl Live {
         unsafe { c::hullpippin_live_len(&mut self.handle) }
     }
 
+    /// Where the buffers were made that ended by the latest step, each by the place of its step, oldest first.
+    pub fn ended(&mut self) -> Vec<u32> {
+        self.numbers(|live, out, room| unsafe { c::hullpippin_live_ended(live, out, room) })
+    }
+
+    /// Looks at these seats, and says which of them have come to be ready or unready since they were last looked at so. At
+    /// first none is ready.
+    pub fn changed(&mut self, seats: &[u32]) -> Result<Vec<u32>, Error> {
+        let mut count = 0;
+        checked(unsafe { c::hullpippin_live_poll(&mut self.handle, seats.as_ptr(), seats.len(), &mut count) })?;
+        Ok(self.numbers(|live, out, room| unsafe { c::hullpippin_live_changed(live, out, room) }))
+    }
+
     /// The bytes of the latest step's entry, for a journal; none before the first step.
     pub fn entry(&mut self) -> Result<Vec<u8>, Error> {
         self.all(|live, out, room, size| unsafe { c::hullpippin_live_entry(live, out, room, size) })
@@ -669,6 +685,18 @@ impl Live {
         let told = unsafe { c::hullpippin_live_bytes(&mut self.handle, part, bytes.as_mut_ptr(), size) };
         debug_assert_eq!(told, size);
         bytes
+    }
+
+    // All the numbers that a call copies, however many.
+    fn numbers(&mut self, copy: impl Fn(*mut c::Handle, *mut u32, usize) -> usize) -> Vec<u32> {
+        let mut numbers = Vec::new();
+        loop {
+            let count = copy(&mut self.handle, numbers.as_mut_ptr(), numbers.len());
+            if count <= numbers.len() {
+                return numbers;
+            }
+            numbers.resize(count, 0);
+        }
     }
 
     // All that a call copies, of whatever size.

@@ -30,7 +30,7 @@ live_refused_fits NoMemory n fits = fits
 live_refused_fits _ n fits = absurd fits
 
 pub rests : (x : OwnedLive) (told : Told) → Rests x x told told
-rests x told = record { kept = refl; seats = refl; follows = λ h follows. follows; told = refl }
+rests x told = record { kept = refl; seats = refl; follows = λ h follows. follows; told = refl; ended = refl; notes = record { noted = refl; changed = refl } }
 
 pub over_live_same : (h : Option Held) (P : OwnedLive → OwnedLive → Type 0) → IsLive h → ((x : OwnedLive) → P x x) → OverLive h h P
 over_live_same None P is all = absurd is

@@ -1,4 +1,5 @@
 pub mod Behind
 pub mod BehindLive
+pub mod Noting
 mod HandleSteps
 mod Values

@@ -12,3 +12,4 @@ pub mod Serving
 pub mod Lives
 pub mod LiveCommands
 pub mod LiveEntries
+pub mod LivePolls

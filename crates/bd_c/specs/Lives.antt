@@ -8,6 +8,7 @@ use Rattle.bd_space.specs.declared.step.StepAnswer.{StepAnswer}
 use Rattle.bd_space.specs.Steps.{step}
 use Rattle.bd_space.specs.Histories.{History, history_of, space_after, extended, HasPlace, is_at_limit}
 use Rattle.bd_engine.specs.Follows.{Follows}
+use Rattle.bd_engine.specs.Ending.{ended_between}
 use Rattle.bd_engine.specs.Refusals.{IsLiveSeats}
 use Rattle.bd_c.specs.Told.{told_of_step}
 use Rattle.bd_c.specs.declared.answers.Told.{Told}
@@ -22,6 +23,9 @@ pub record Begins (seats : ℕ) (x : OwnedLive) : Type 0 where
   pub follows : Follows x.live (history_of seats [])
   pub seats_are : x.live.seats ≡ seats
   pub none : x.latest ≡ None
+  pub ended : x.ended.items ≡ []
+  pub noted : x.noted.items ≡ []
+  pub changed : x.changed.items ≡ []
 
 abbrev pub live_refusal_of : Fault → Status
 live_refusal_of fault.SeatCount = SeatCount
@@ -33,10 +37,17 @@ IsLiveRefusal seats SeatCount = IsLiveSeats seats → ⊥
 IsLiveRefusal seats NoMemory = IsLiveSeats seats
 IsLiveRefusal seats _ = ⊥
 
--- after this history the answer is the space's, and is told; the history with the entry more is then followed
+-- what was noted of the seats is the same
+pub record KeepsNotes (x y : OwnedLive) : Type 0 where
+  pub noted : y.noted.items ≡ x.noted.items
+  pub changed : y.changed.items ≡ x.changed.items
+
+-- after this history the answer is the space's, and is told, and those buffers are listed that ended; the history with the entry
+-- more is then followed
 pub record IsAnswered (h : History) (y : OwnedLive) (seat : ℕ) (x : Step) (answer : StepAnswer) (told : Told) : Type 0 where
   pub said : answer ≡ (step (space_after h) seat x).answer
   pub shown : told ≡ told_of_step answer (length h.entries) (length (extended h seat x answer).entries)
+  pub ended : y.ended.items ≡ ended_between (space_after h) (space_after (extended h seat x answer))
   pub follows : Follows y.live (extended h seat x answer)
 
 -- the step was made, and its entry is kept: so is every history that was followed answered
@@ -45,13 +56,16 @@ pub record Makes (x y : OwnedLive) (seat : ℕ) (z : Step) (told : Told) : Type 
   pub kept : y.latest ≡ Some (record { seat = seat; step = z; answer = answer })
   pub seats : y.live.seats ≡ x.live.seats
   pub answered : (h : History) → Follows x.live h → IsAnswered h y seat z answer told
+  pub notes : KeepsNotes x y
 
--- no step was made: what was followed is followed, the entry is the same, and nothing is told
+-- no step was made: what was followed is followed, the entry and the lists are the same, and nothing is told
 pub record Rests (x y : OwnedLive) (a b : Told) : Type 0 where
   pub kept : y.latest ≡ x.latest
   pub seats : y.live.seats ≡ x.live.seats
   pub follows : (h : History) → Follows x.live h → Follows y.live h
   pub told : b ≡ a
+  pub ended : y.ended.items ≡ x.ended.items
+  pub notes : KeepsNotes x y
 
 -- a step with a parcel has bytes that are copied
 abbrev pub HasParcel : Step → Type 0

@@ -19,6 +19,7 @@ mod live_calls;
 mod live_commands;
 mod live_entries;
 mod live_looks;
+mod live_polls;
 mod lives;
 mod loose;
 mod numbers;

@@ -1,4 +1,4 @@
-//! A live engine that C has, and the entry of its latest step.
+//! A live engine that C has, the entry of its latest step, which buffers ended by it, and which seats had something to read.
 ghost use Rattle.std.specs.Prelude.{◌≡◌, ◌<◌, IfOk, IfErr};
 ghost use Rattle.bd_c.specs.Lives.{Begins, live_refusal_of, IsLiveRefusal, Steps};
 
@@ -14,6 +14,14 @@ use std::alloc::Global;
 pub struct OwnedLive {
     pub(crate) live: Live,
     pub(crate) latest: Option<Entry>,
+    /// Where the buffers were made that ended by its latest step.
+    pub(crate) ended: Vec<u32>,
+    /// Which seats had something to read when they were last looked at.
+    pub(crate) noted: Vec<bool>,
+    /// Of which seats that was found to have changed.
+    pub(crate) changed: Vec<u32>,
+    // What the next of these lists is put into.
+    pub(crate) spare: Vec<u32>,
 }
 
 // A status in place of the engine's fault.
@@ -34,7 +42,14 @@ impl OwnedLive {
         ensures refused { IfErr result (IsLiveRefusal seats) }
     {
         match Live::new(alloc, seats) {
-            Ok(live) => Ok(OwnedLive { live, latest: None }),
+            Ok(live) => Ok(OwnedLive {
+                live,
+                latest: None,
+                ended: Vec::new(alloc),
+                noted: Vec::new(alloc),
+                changed: Vec::new(alloc),
+                spare: Vec::new(alloc),
+            }),
             Err(fault) => Err(refusal(fault)),
         }
     }
@@ -45,10 +60,11 @@ impl OwnedLive {
         ensures { Steps self.old self.new seat step result told.old told.new }
     {
         let from = self.live.len();
-        match self.live.step(seat, step) {
+        match self.live.step_with_ended(seat, step, &mut self.spare) {
             Ok(entry) => {
                 *told = Told::of_step(&entry.answer, from, self.live.len());
                 self.latest = Some(entry);
+                std::mem::swap(&mut self.ended, &mut self.spare);
                 Status::Done
             }
             Err(Why::NoMemory) => Status::NoMemory,

@@ -1,0 +1,159 @@
+/* What a bridge to other programs asks a live engine after a step: which buffers ended by it, and which seats have come to be ready
+   or unready. Plays a few one-way calls, and complains where an answer isn't the one that docs/RULES.md gives. Prints nothing else. */
+#include "hullpippin.h"
+
+#include <stdio.h>
+#include <string.h>
+
+/* Codes of <linux/android/binder.h>. */
+#define BC_TRANSACTION 0x40406300u
+#define BC_FREE_BUFFER 0x40086303u
+#define BC_ENTER_LOOPER 0x0000630cu
+#define TF_ONE_WAY 1u
+
+enum { MANAGER, CLIENT, IDLE, SEATS };
+
+/* A buffer at the beginning of a window has this pointer. */
+#define FIRST_POINTER 65536u
+
+static const char *complaint;
+
+static bool fails(const char *why)
+{
+    if (!complaint)
+        complaint = why;
+    return false;
+}
+
+static bool is_made(uint32_t status, const hullpippin_answer *answer, uint32_t kind)
+{
+    if (status == HULLPIPPIN_NO_MEMORY)
+        return fails("no memory");
+    return (status == HULLPIPPIN_DONE && answer->kind == kind && answer->stop == 0 && answer->notes == 0)
+           || fails("another answer to a step");
+}
+
+static void put32(uint8_t *at, uint32_t value)
+{
+    for (int i = 0; i < 4; i++)
+        at[i] = (uint8_t)(value >> 8 * i);
+}
+
+static bool run(hullpippin_live *live, uint32_t seat, const uint8_t *command, size_t size, size_t data, uint32_t *place)
+{
+    hullpippin_answer answer;
+    uint32_t status = hullpippin_live_command(live, seat, command, size, (const uint8_t *)"hi", data, HULLPIPPIN_NOWHERE, 0, &answer);
+    bool made = is_made(status, &answer, HULLPIPPIN_WROTE);
+    *place = answer.from;
+    return made;
+}
+
+/* A one-way call to the context manager, with two bytes of data. Tells its place. */
+static bool call(hullpippin_live *live, uint32_t *place)
+{
+    uint8_t command[68] = {0};
+    put32(command, BC_TRANSACTION);
+    put32(command + 4 + 20, TF_ONE_WAY);
+    put32(command + 4 + 32, 2);
+    return run(live, CLIENT, command, sizeof command, 2, place);
+}
+
+static bool loop(hullpippin_live *live, uint32_t seat)
+{
+    uint8_t command[4];
+    uint32_t place;
+    put32(command, BC_ENTER_LOOPER);
+    return run(live, seat, command, sizeof command, 0, &place);
+}
+
+static bool free_first(hullpippin_live *live)
+{
+    uint8_t command[12] = {0};
+    uint32_t place;
+    put32(command, BC_FREE_BUFFER);
+    put32(command + 4, FIRST_POINTER);
+    return run(live, MANAGER, command, sizeof command, 0, &place);
+}
+
+static bool reads(hullpippin_live *live, uint32_t seat)
+{
+    hullpippin_answer answer;
+    uint32_t status = hullpippin_live_read(live, seat, 256, &answer);
+    return is_made(status, &answer, HULLPIPPIN_GOT);
+}
+
+/* Whether these numbers are fetched: with no room and with too little nothing is copied, and nothing is lost. */
+static bool are_fetched(size_t (*fetch)(hullpippin_live *, uint32_t *, size_t), hullpippin_live *live, const uint32_t *numbers, size_t count)
+{
+    uint32_t out[4] = {7, 7, 7, 7};
+    if (fetch(live, HULLPIPPIN_NO_NUMBERS, 0) != count)
+        return fails("another number of numbers");
+    if (count > 0 && (fetch(live, out, count - 1) != count || out[0] != 7))
+        return fails("numbers without room");
+    if (fetch(live, out, 4) != count || memcmp(out, numbers, count * sizeof *numbers) || out[count] != 7)
+        return fails("other numbers");
+    return true;
+}
+
+static bool have_ended(hullpippin_live *live, const uint32_t *places, size_t count)
+{
+    return are_fetched(hullpippin_live_ended, live, places, count);
+}
+
+static bool has_ended_none(hullpippin_live *live)
+{
+    static const uint32_t none;
+    return have_ended(live, &none, 0);
+}
+
+/* Whether a look at these seats finds just those changed. */
+static bool have_changed(hullpippin_live *live, const uint32_t *seats, size_t count, const uint32_t *changed, size_t changes)
+{
+    size_t told = 7;
+    uint32_t status = hullpippin_live_poll(live, seats, count, &told);
+    if (status == HULLPIPPIN_NO_MEMORY)
+        return told == 7 ? fails("no memory") : fails("told without memory");
+    if (status != HULLPIPPIN_DONE || told != changes)
+        return fails("another number of changes");
+    return are_fetched(hullpippin_live_changed, live, changed, changes);
+}
+
+static bool open(hullpippin_live *live)
+{
+    hullpippin_answer answer;
+    return is_made(hullpippin_live_open(live, MANAGER, 100, 1000, 4096, &answer), &answer, HULLPIPPIN_OPENED)
+           && is_made(hullpippin_live_manager(live, MANAGER, &answer), &answer, HULLPIPPIN_SET) && loop(live, MANAGER)
+           && is_made(hullpippin_live_open(live, CLIENT, 200, 2000, 4096, &answer), &answer, HULLPIPPIN_OPENED);
+}
+
+/* The call makes both seats ready; each is unready once it has read, and is told so when it is asked about. */
+static bool wakes(hullpippin_live *live, uint32_t *place)
+{
+    static const uint32_t all[] = {CLIENT, IDLE, MANAGER, SEATS}, both[] = {CLIENT, MANAGER}, client[] = {CLIENT}, manager[] = {MANAGER};
+    return have_changed(live, all, 4, both, 0) && call(live, place) && has_ended_none(live) && have_changed(live, all, 4, both, 2)
+           && have_changed(live, all, 4, both, 0) && reads(live, CLIENT) && reads(live, MANAGER) && have_changed(live, client, 1, client, 1)
+           && have_changed(live, all, 4, manager, 1);
+}
+
+/* The manager frees the call's buffer; the buffers of two more end with its process, the one that is due and the one that waits. */
+static bool ends(hullpippin_live *live, uint32_t first)
+{
+    hullpippin_answer answer;
+    uint32_t others[2];
+    return free_first(live) && have_ended(live, &first, 1) && call(live, &others[0]) && has_ended_none(live) && call(live, &others[1])
+           && is_made(hullpippin_live_exit_process(live, MANAGER, &answer), &answer, HULLPIPPIN_EXITED) && have_ended(live, others, 2)
+           && loop(live, CLIENT) && has_ended_none(live);
+}
+
+int main(void)
+{
+    hullpippin_live live = HULLPIPPIN_NO_LIVE;
+    uint32_t place = 0;
+    if (hullpippin_live_new(SEATS, &live) != HULLPIPPIN_DONE)
+        return fputs("bridge: no memory\n", stderr), 1;
+    bool done = has_ended_none(&live) && open(&live) && wakes(&live, &place) && ends(&live, place);
+    hullpippin_free_live(&live);
+    if (!done)
+        fprintf(stderr, "bridge: %s\n", complaint);
+    return done ? 0 : 1;
+}
