@@ -37,9 +37,9 @@ use Rattle.bd_laws.specs.Items.{AtHome}
 use Rattle.bd_laws.proofs.Lists.{in-filter, filter-in, in-map, any-found, find-in, find-some, fold-keeps}
 use Rattle.bd_laws.proofs.Tests.{both, not-false}
 use Rattle.bd_laws.proofs.Checks.{actor-lives}
-use Rattle.bd_laws.proofs.Homes.{one-thread}
-use Rattle.bd_laws.proofs.Leaving.{on-thread}
-use Rattle.bd_laws.proofs.Untouched.{tell_deaths-untouched}
+use Rattle.bd_laws.proofs.AtHome.HomesSent.{one-thread}
+use Rattle.bd_laws.proofs.FollowingIsLocal.Left.{on-thread}
+use Rattle.bd_laws.proofs.Machine.Untouched.{tell_deaths-untouched}
 use Rattle.bd_engine.specs.Ending.{is_gone, ended_between, HasEndings}
 use Rattle.bd_engine.proofs.Keeping.{after-more}
 use Rattle.bd_engine.proofs.Receivers.{HandsOwn}

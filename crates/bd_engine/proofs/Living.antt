@@ -43,9 +43,9 @@ use Rattle.bd_space.specs.ReadItems.{read_by, taken, hand_out, handed_buffers, b
 use Rattle.bd_space.specs.Steps.{change, by_actor, open_step, open_outcome, open_fault, attach_step, attach_outcome, manager_step, manager_outcome, is_manager_busy, with_thread, with_process, with_manager}
 use Rattle.bd_laws.specs.Lists.{In}
 use Rattle.bd_laws.proofs.Lists.{in-left, changed-in}
-use Rattle.bd_laws.proofs.Deaths.{on-requested, on-cleared, on-done}
-use Rattle.bd_laws.proofs.Settled.{settle-keeps}
-use Rattle.bd_laws.proofs.Untouched.{Untouched, untouched-trans, owe-untouched, told-untouched, called-untouched, closed-untouched, ripen-untouched, with_looping-untouched, on_deaths-untouched}
+use Rattle.bd_laws.proofs.Machine.Deaths.{on-requested, on-cleared, on-done}
+use Rattle.bd_laws.proofs.Machine.Settled.{settle-keeps}
+use Rattle.bd_laws.proofs.Machine.Untouched.{Untouched, untouched-trans, owe-untouched, told-untouched, called-untouched, closed-untouched, ripen-untouched, with_looping-untouched, on_deaths-untouched}
 use Rattle.std.specs.Prelude.{is_some}
 
 -- each of these buffers is among those, as the buffer made there

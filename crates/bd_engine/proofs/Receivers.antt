@@ -43,13 +43,13 @@ use Rattle.bd_laws.specs.Tidy.{IsTidy}
 use Rattle.bd_laws.proofs.Lists.{in-push, in-left, in-filter, filter-in, in-changed, changed-in, find-in}
 use Rattle.bd_laws.proofs.Tests.{not-true}
 use Rattle.bd_laws.proofs.Checks.{actor-lives, reply-checked}
-use Rattle.bd_laws.proofs.OneWay as one_way
-use Rattle.bd_laws.proofs.OneWay.{with_work-less}
-use Rattle.bd_laws.proofs.Deaths.{KeptOnDeaths, on-kept, on-told, on-commands}
-use Rattle.bd_laws.proofs.Adding.{ripen-keeps}
-use Rattle.bd_laws.proofs.EveryStep.{Keeps, every_step, every_list}
-use Rattle.bd_laws.proofs.Following.{threads-keep}
-use Rattle.bd_laws.proofs.Homes.{goes-home, sent-due, sent-steps, sent-threads}
+use Rattle.bd_laws.proofs.IsInTurn.OneWay as one_way
+use Rattle.bd_laws.proofs.IsInTurn.OneWay.{with_work-less}
+use Rattle.bd_laws.proofs.Machine.Deaths.{KeptOnDeaths, on-kept, on-told, on-commands}
+use Rattle.bd_laws.proofs.Machine.Adding.{ripen-keeps}
+use Rattle.bd_laws.proofs.Machine.EveryStep.{Keeps, every_step, every_list}
+use Rattle.bd_laws.proofs.Machine.Following.{threads-keep}
+use Rattle.bd_laws.proofs.AtHome.HomesSent.{goes-home, sent-due, sent-steps, sent-threads}
 use Rattle.bd_laws.proofs.Always.{step-tidy, opening-tidy}
 
 -- seat t has a live thread of process p
