@@ -105,7 +105,7 @@ struct page {
     uint8_t returns[PAGE_RETURNS];
     uint8_t stream[PAGE_STREAM];
     int32_t numbers[DESCRIPTORS_MAX];
-    _Alignas(64) uint8_t area[PAGE_AREA];
+    _Alignas(4096) uint8_t area[PAGE_AREA]; /* whole pages: a large parcel's can be given back */
 };
 
 /* Sizes are rounded up to multiples of 8 in parcels. */
