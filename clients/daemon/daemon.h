@@ -200,7 +200,7 @@ struct process {
     struct window window;
     uint32_t thread_count;
     uint32_t max_threads, requested, started; /* BR_SPAWN_LOOPER */
-    uint64_t *handed;     /* a bit for each 8 bytes of the window: a buffer that the client has begins there */
+    uint64_t *handed;     /* a bit for each 8 bytes of the window: a one-way buffer that the client has begins there; NULL: none yet */
 };
 
 void process_accept(struct daemon *daemon, int fd);

@@ -49,7 +49,7 @@ static uint32_t free_pid(struct engine *engine, pid_t pid)
 
 void process_note_handed(struct process *process, uint64_t place, bool handed)
 {
-    if (place >= process->window.size)
+    if (place >= process->window.size || (!process->handed && !handed))
         return;
     if (!process->handed)
         process->handed = calloc(process->window.size / 8 / 64, sizeof *process->handed);
