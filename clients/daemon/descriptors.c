@@ -1,9 +1,9 @@
 /*
- * descriptors.c: descriptors of parcels that nobody has read yet. The parcel has a number in the place of each, which only the
- * daemon writes: it names a place here, and how often that place was used before.
+ * descriptors.c: descriptors of parcels that nobody has read yet. The parcel has a number in the place of each, which
+ * only the daemon writes: it names a place here, and how often that place was used before.
  *
- * What is unread when its receiver ends is read by the daemon (returns.c), so that nothing stays here for good. Should that
- * not be enough, as with very many unread parcels, the oldest descriptor goes once all places are used.
+ * What is unread when its receiver ends is read by the daemon (returns.c), so that nothing stays here for good.
+ * Should that not be enough, as with very many unread parcels, the oldest descriptor goes once all places are used.
  */
 #include "daemon.h"
 
@@ -39,7 +39,7 @@ uint32_t descriptor_hold(int fd)
 {
     uint32_t place = free_place();
     if (places[place].is_used) {
-        log_line("a descriptor that nobody has fetched is closed, %u are held", used);
+        log_event("a descriptor that nobody has fetched is closed, %u are held", used);
         descriptors_close(&places[place].fd, 1);
         used--;
     }
@@ -66,8 +66,9 @@ bool descriptors_are_held(void)
 }
 
 /*
- * A client's descriptor may be one whose end takes its time, as a socket's that lingers; so they are closed by a thread of their own,
- * which gets them by a pipe. Where that is full, for want of a descriptor that closes, this one stays open.
+ * A client's descriptor may be one whose end takes its time, as a socket's that lingers; so they are closed by a
+ * thread of their own, which gets them by a pipe. Where that is full, for want of a descriptor that closes, this one
+ * stays open.
  */
 static int closing[2] = {-1, -1};
 

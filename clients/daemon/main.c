@@ -107,8 +107,8 @@ static void raise_limits(void)
     }
 }
 
-/* The first process waits until the second tells that clients may come, and ends with its status. What the second gets is where it
-   tells that; -1 where it can't be. */
+/* The first process waits until the second tells that clients may come, and ends with its status. What the second
+   gets is where it tells that; -1 where it can't be. */
 static int go_to_background(void)
 {
     int ends[2];

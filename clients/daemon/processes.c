@@ -1,6 +1,6 @@
 /*
- * processes.c: an open file is a process of its device's engine, from its mmap on: before that it has no window. The end of its
- * control socket is its exit.
+ * processes.c: an open file is a process of its device's engine, from its mmap on: before that it has no window. The
+ * end of its control socket is its exit.
  */
 #include "daemon.h"
 

@@ -12,7 +12,8 @@ static _Atomic(struct device *) files[FILES];
 /* What stands for the devices of a forked child's parent. */
 static struct device forked = {.is_closed = true};
 
-/* The process that the table is of: the child of a vfork has the memory, and may close descriptors, but they are its own. */
+/* The process that the table is of: the child of a vfork has the memory, and may close descriptors, but they are its
+   own. */
 static _Atomic pid_t owner;
 
 bool device_is_path(const char *path)
