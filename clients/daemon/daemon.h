@@ -134,7 +134,6 @@ struct engine {
     struct list processes;
     struct list by_pid[256];  /* processes by the pid that they have in the engine */
     uint32_t last_pid;        /* of those that are given where a process's own is taken */
-    struct process *manager;
     struct list looked_at;    /* threads that are looked at one by one (settle.c) */
     struct list resting;      /* processes with threads that wait for whatever comes to the process */
 };
