@@ -107,6 +107,7 @@ struct journal {
     bool is_dirty;
 };
 
+/* Closed it has to be in either case. */
 bool journal_open(struct journal *journal, const char *path, hullpippin_live *live);
 /* Appends the latest step's entry. A journal that can't have it is given up: its file is no journal. */
 void journal_append(struct journal *journal, hullpippin_live *live);

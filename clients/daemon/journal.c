@@ -33,7 +33,6 @@ bool journal_open(struct journal *journal, const char *path, hullpippin_live *li
     journal->file = journal->entry ? fopen(path, "wbe") : NULL;
     if (!journal->file) {
         log_line("%s: %s", path, strerror(errno));
-        free(journal->entry);
         return false;
     }
     setvbuf(journal->file, NULL, _IOFBF, FILE_BUFFER);
