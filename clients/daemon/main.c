@@ -3,6 +3,7 @@
 
 #include <errno.h>
 #include <getopt.h>
+#include <limits.h>
 #include <signal.h>
 #include <stdlib.h>
 #include <string.h>
@@ -112,6 +113,7 @@ static void raise_limits(void)
 static int go_to_background(void)
 {
     int ends[2];
+    close_range(3, UINT_MAX, 0); /* else who waits for the end of what we were given would wait for ours */
     if (pipe(ends))
         return -1;
     pid_t child = fork();
