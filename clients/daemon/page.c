@@ -161,6 +161,8 @@ static void answer_request(struct thread *thread, const struct page_request *req
         answer_error(thread, error);
     else if (thread->is_waiting && request->flags & PAGE_NONBLOCK)
         page_interrupt(thread, EAGAIN);
+    else if (thread->is_waiting && atomic_load(&thread->page->cancel))
+        page_interrupt(thread, EINTR); /* its ring may have been one with that for the request */
 }
 
 void page_rung(struct thread *thread)
