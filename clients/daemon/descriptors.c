@@ -69,8 +69,9 @@ bool descriptors_are_held(void)
 }
 
 /*
- * A client's descriptor may be one whose end takes its time, as a socket's that lingers, or a file's behind a network.
- * Pipes, memory and other sockets are closed at once. The rest is closed by a thread of its own, last come first served.
+ * A client's descriptor may be one whose end takes its time, as a socket's that lingers, or a file's behind a
+ * network. Pipes, memory and other sockets are closed at once. The rest is closed by a thread of its own, last come
+ * first served.
  */
 static struct {
     pthread_mutex_t lock;
