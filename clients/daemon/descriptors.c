@@ -7,6 +7,7 @@
  */
 #include "daemon.h"
 
+#include <fcntl.h>
 #include <pthread.h>
 #include <stdlib.h>
 #include <sys/mman.h>
@@ -81,18 +82,25 @@ static struct {
 } closing = {.lock = PTHREAD_MUTEX_INITIALIZER, .has_more = PTHREAD_COND_INITIALIZER};
 
 /* The device that memory files are on: that of all that memfd_create makes. */
-static dev_t memory_device;
+static uint32_t memory_major, memory_minor;
+
+/* What the kernel knows of a file, without asking whoever serves it. */
+static bool look_at(int fd, struct statx *stat)
+{
+    return statx(fd, "", AT_EMPTY_PATH | AT_STATX_DONT_SYNC, STATX_TYPE, stat) == 0;
+}
 
 static bool closes_at_once(int fd)
 {
-    struct stat stat;
+    struct statx stat;
     struct linger linger = {0};
     socklen_t size = sizeof linger;
-    if (fstat(fd, &stat))
-        return true;
-    if (S_ISSOCK(stat.st_mode))
+    if (!look_at(fd, &stat))
+        return false;
+    if (S_ISSOCK(stat.stx_mode))
         return getsockopt(fd, SOL_SOCKET, SO_LINGER, &linger, &size) == 0 && !linger.l_onoff;
-    return S_ISFIFO(stat.st_mode) || (S_ISREG(stat.st_mode) && stat.st_dev == memory_device);
+    return S_ISFIFO(stat.stx_mode)
+           || (S_ISREG(stat.stx_mode) && stat.stx_dev_major == memory_major && stat.stx_dev_minor == memory_minor);
 }
 
 static _Noreturn void *close_all(void *unused)
@@ -129,12 +137,14 @@ static bool leave(int fd)
 
 static bool find_memory_device(void)
 {
-    struct stat stat;
+    struct statx stat;
     int fd = memfd_create("hullpippin-memory", MFD_CLOEXEC);
-    bool is_found = fd >= 0 && fstat(fd, &stat) == 0;
+    bool is_found = fd >= 0 && look_at(fd, &stat);
     descriptor_close(&fd);
-    if (is_found)
-        memory_device = stat.st_dev;
+    if (is_found) {
+        memory_major = stat.stx_dev_major;
+        memory_minor = stat.stx_dev_minor;
+    }
     return is_found;
 }
 
