@@ -1,0 +1,171 @@
+/*
+ * descriptors.c: descriptors of parcels that nobody has read yet. The parcel has a number in the place of each, which
+ * only the daemon writes: it names a place here, and how often that place was used before.
+ *
+ * What is unread when its receiver ends is read by the daemon (returns.c), so that nothing stays here for good.
+ * Should that not be enough, as with very many unread parcels, the oldest descriptor goes once all places are used.
+ */
+#include "daemon.h"
+
+#include <fcntl.h>
+#include <pthread.h>
+#include <stdlib.h>
+#include <sys/mman.h>
+#include <sys/socket.h>
+#include <sys/stat.h>
+#include <unistd.h>
+
+#define PLACE_BITS 12
+#define PLACES (1u << PLACE_BITS)
+#define TURNS ((1u << (32 - PLACE_BITS)) - 1)
+
+static struct {
+    int fd;
+    uint32_t turn;
+    bool is_used;
+} places[PLACES];
+
+static uint32_t next;
+static uint32_t used;
+
+/* The next free place; where there is none, the one that was used longest ago. */
+static uint32_t free_place(void)
+{
+    uint32_t place = next;
+    if (used < PLACES)
+        while (places[place].is_used)
+            place = (place + 1) % PLACES;
+    next = (place + 1) % PLACES;
+    return place;
+}
+
+uint32_t descriptor_hold(int fd)
+{
+    uint32_t place = free_place();
+    if (places[place].is_used) {
+        log_event("a descriptor that nobody has fetched is closed, %u are held", used);
+        descriptors_close(&places[place].fd, 1);
+        used--;
+    }
+    places[place].fd = fd;
+    places[place].is_used = true;
+    places[place].turn = (places[place].turn + 1) & TURNS;
+    used++;
+    return places[place].turn << PLACE_BITS | place;
+}
+
+int descriptor_take(uint32_t held)
+{
+    uint32_t place = held % PLACES;
+    if (!places[place].is_used || places[place].turn != held >> PLACE_BITS)
+        return -1;
+    places[place].is_used = false;
+    used--;
+    return places[place].fd;
+}
+
+bool descriptors_are_held(void)
+{
+    return used > 0;
+}
+
+/*
+ * A client's descriptor may be one whose end takes its time, as a socket's that lingers, or a file's behind a
+ * network. Pipes, memory and other sockets are closed at once. The rest is closed by a thread of its own, last come
+ * first served.
+ */
+static struct {
+    pthread_mutex_t lock;
+    pthread_cond_t has_more;
+    int *fds;
+    size_t count, room;
+} closing = {.lock = PTHREAD_MUTEX_INITIALIZER, .has_more = PTHREAD_COND_INITIALIZER};
+
+/* The device that memory files are on: that of all that memfd_create makes. */
+static uint32_t memory_major, memory_minor;
+
+/* What the kernel knows of a file, without asking whoever serves it. */
+static bool look_at(int fd, struct statx *stat)
+{
+    return statx(fd, "", AT_EMPTY_PATH | AT_STATX_DONT_SYNC, STATX_TYPE, stat) == 0;
+}
+
+static bool closes_at_once(int fd)
+{
+    struct statx stat;
+    struct linger linger = {0};
+    socklen_t size = sizeof linger;
+    if (!look_at(fd, &stat))
+        return false;
+    if (S_ISSOCK(stat.stx_mode))
+        return getsockopt(fd, SOL_SOCKET, SO_LINGER, &linger, &size) == 0 && !linger.l_onoff;
+    return S_ISFIFO(stat.stx_mode)
+           || (S_ISREG(stat.stx_mode) && stat.stx_dev_major == memory_major && stat.stx_dev_minor == memory_minor);
+}
+
+static _Noreturn void *close_all(void *unused)
+{
+    (void)unused;
+    pthread_mutex_lock(&closing.lock);
+    for (;;) {
+        while (!closing.count)
+            pthread_cond_wait(&closing.has_more, &closing.lock);
+        int fd = closing.fds[--closing.count];
+        pthread_mutex_unlock(&closing.lock);
+        close(fd);
+        pthread_mutex_lock(&closing.lock);
+    }
+}
+
+/* Leaves a descriptor to that thread. False where there is no memory for that. */
+static bool leave(int fd)
+{
+    pthread_mutex_lock(&closing.lock);
+    if (closing.count == closing.room) {
+        size_t room = closing.room ? 2 * closing.room : 256;
+        int *fds = realloc(closing.fds, room * sizeof *fds);
+        closing.fds = fds ? fds : closing.fds;
+        closing.room = fds ? room : closing.room;
+    }
+    bool has_room = closing.count < closing.room;
+    if (has_room)
+        closing.fds[closing.count++] = fd;
+    pthread_mutex_unlock(&closing.lock);
+    pthread_cond_signal(&closing.has_more);
+    return has_room;
+}
+
+static bool find_memory_device(void)
+{
+    struct statx stat;
+    int fd = memfd_create("hullpippin-memory", MFD_CLOEXEC);
+    bool is_found = fd >= 0 && look_at(fd, &stat);
+    descriptor_close(&fd);
+    if (is_found) {
+        memory_major = stat.stx_dev_major;
+        memory_minor = stat.stx_dev_minor;
+    }
+    return is_found;
+}
+
+bool descriptors_begin(void)
+{
+    pthread_t thread;
+    return find_memory_device() && pthread_create(&thread, NULL, close_all, NULL) == 0 && pthread_detach(thread) == 0;
+}
+
+void descriptors_close(int *fds, uint32_t count)
+{
+    for (uint32_t i = 0; i < count; i++) {
+        if (fds[i] >= 0 && (closes_at_once(fds[i]) || !leave(fds[i])))
+            close(fds[i]);
+        fds[i] = -1;
+    }
+}
+
+void descriptor_close(int *fd)
+{
+    if (*fd >= 0)
+        close(*fd);
+    *fd = -1;
+}
