@@ -1,0 +1,83 @@
+/*
+ * fuzz SECONDS [SEED [ACT]]: hostile clients of the daemon whose socket HULLPIPPIN_SOCKET names, four at a time, each a
+ * process that plays one act; it ends by itself or is killed at a random moment. Prints how many there were of each act.
+ * Who judges is somebody else: whether the daemon lives, and whether others are served meanwhile.
+ */
+#include "acts.h"
+#include "hostile.h"
+
+#include <signal.h>
+#include <stdio.h>
+#include <stdlib.h>
+#include <sys/prctl.h>
+#include <sys/wait.h>
+#include <time.h>
+#include <unistd.h>
+
+#define AT_ONCE 4
+#define LONGEST_MS 600
+
+struct playing {
+    pid_t pid;
+    double until;
+};
+
+static double now(void)
+{
+    struct timespec time;
+    clock_gettime(CLOCK_MONOTONIC, &time);
+    return (double)time.tv_sec + time.tv_nsec / 1e9;
+}
+
+static void start(struct playing *playing, uint64_t seed, size_t act)
+{
+    pid_t parent = getpid();
+    playing->until = now() + below(LONGEST_MS) / 1e3;
+    playing->pid = fork();
+    if (playing->pid)
+        return;
+    prctl(PR_SET_PDEATHSIG, SIGKILL);
+    if (getppid() != parent)
+        _exit(1);
+    chance_begin(seed);
+    acts[act].play();
+    _exit(0);
+}
+
+/* Whether a place is free: its process has ended, or its time is over. */
+static bool is_over(struct playing *playing)
+{
+    if (!playing->pid)
+        return true;
+    if (now() > playing->until)
+        kill(playing->pid, SIGKILL);
+    if (waitpid(playing->pid, NULL, WNOHANG) != playing->pid)
+        return false;
+    playing->pid = 0;
+    return true;
+}
+
+int main(int argc, char **argv)
+{
+    static unsigned long played[64];
+    struct playing playing[AT_ONCE] = {0};
+    double end = now() + (argc > 1 ? atof(argv[1]) : 60);
+    uint64_t seed = argc > 2 ? strtoull(argv[2], NULL, 10) : 1;
+    chance_begin(seed);
+    signal(SIGPIPE, SIG_IGN);
+    for (uint64_t turn = 0; now() < end; usleep(500))
+        for (size_t i = 0; i < AT_ONCE; i++)
+            if (is_over(&playing[i])) {
+                size_t act = argc > 3 ? strtoul(argv[3], NULL, 10) % act_count : below((uint32_t)act_count);
+                start(&playing[i], seed * 1000003 + turn++, act);
+                played[act]++;
+            }
+    for (size_t i = 0; i < AT_ONCE; i++)
+        if (playing[i].pid && kill(playing[i].pid, SIGKILL) == 0)
+            waitpid(playing[i].pid, NULL, 0);
+    printf("seed %llu", (unsigned long long)seed);
+    for (size_t i = 0; i < act_count; i++)
+        printf(", %s %lu", acts[i].name, played[i]);
+    printf("\n");
+    return 0;
+}

@@ -1,0 +1,90 @@
+"""Tests with our own clients alone, which need nothing but the kernel's header."""
+from stage import Stage, expect, open_files, resident
+from suite import figures, test
+
+# what a round trip may take, in microseconds
+ROUND_TRIP = 25
+# a call with hundreds of services may take so much longer than with one
+SLACK = 1.25
+ROUNDS = 5
+
+DEVICE = "/dev/binder"
+
+
+def plays(name, *words):
+    """A test that is one program, over a daemon whose journal is judged."""
+    @test(f"raw {name}")
+    def play(build):
+        with Stage(build, journal=DEVICE) as stage:
+            told = stage.run([build.raw(name), *words], 180)
+        return f"{told}; lawful, {stage.entries} steps"
+
+
+for name in ("nested", "oneway", "deaths", "parcels", "pool", "two_opens", "refusals"):
+    plays(name)
+plays("descriptors", "10000")
+
+
+@test("raw latency", plain_only=True)
+def latency(build):
+    """Round trips beside those of bare relays, in turn; of each the round with the best median counts, as other work only delays."""
+    best = {}
+    with Stage(build) as stage:
+        for _ in range(ROUNDS):
+            for what, words, client in (("over sockets", [build.raw("relay"), "sockets"], False), ("over a page", [build.raw("relay"), "page"], False),
+                                        ("call", [build.raw("latency"), "5000"], True), ("call of 4096 bytes", [build.raw("latency"), "2000", "4096"], True)):
+                found = figures(stage.run(words, client=client))
+                if what not in best or found["median"] < best[what]["median"]:
+                    best[what] = found
+    expect(best["call"]["median"] <= ROUND_TRIP, f"a round trip takes {best['call']['median']} us, with at most {ROUND_TRIP}")
+    return "; ".join(f"{what} {it['median']} us (p10 {it['tenth']}, p99 {it['last']})" for what, it in best.items())
+
+
+def flat_cost(found, what):
+    """Whether a call costs no more with all services than with one."""
+    before, after = figures(found)[what], float(found.split(f"{what} ")[1].split(" then ")[1].split()[0])
+    return after <= SLACK * before + 2
+
+
+@test("raw services")
+def services(build):
+    with Stage(build, journal=DEVICE) as stage:
+        stage.manage()
+        told = stage.run([build.raw("services"), "300"])
+        if not build.sanitized:
+            if not (flat_cost(told, "call") and flat_cost(told, "find")):
+                told = stage.run([build.raw("services"), "300"])  # once more, should other work have come between
+            expect(flat_cost(told, "call") and flat_cost(told, "find"), f"slower with more services: {told}")
+    return f"{told}; lawful, {stage.entries} steps"
+
+
+@test("raw churn")
+def churn(build):
+    """What the daemon keeps of clients that are gone would show in the second thousand."""
+    with Stage(build) as stage:
+        before = open_files(stage.daemon.pid)
+        told = stage.run([build.raw("churn"), "2000"], 300)
+        found = figures(told)
+        grown = float(told.split(" then ")[1].split()[0]) - found["memory"]
+        expect(grown <= (2048 if build.sanitized else 128), f"the daemon's memory grew: {told}")
+        expect(open_files(stage.daemon.pid) <= before + 6, f"the daemon keeps descriptors: {told}, {before} before")
+    return told
+
+
+@test("raw fuzz")
+def fuzz(build):
+    """Hostile clients for a minute; an honest pair calls meanwhile, and others are served afterwards."""
+    with Stage(build) as stage:
+        alone = figures(stage.run([build.fuzz("witness"), "2"]))
+        before = resident(stage.daemon.pid)
+        witness = stage.start([build.fuzz("witness"), str(build.fuzz_seconds)]).wait_for("ready")
+        attacks = stage.run([build.fuzz("fuzz"), str(build.fuzz_seconds), str(build.seed)], build.fuzz_seconds + 30, client=False)
+        calls = figures(witness.finish())
+        expect(stage.daemon.runs(), "the daemon ended")
+        expect(calls["longest"] < 2e6, f"a call took {calls['longest'] / 1e6:.1f} s meanwhile")
+        expect(calls["calls"] > 100 * build.fuzz_seconds, f"only {calls['calls']:.0f} calls were answered meanwhile")
+        stage.run([build.raw("nested")])
+        grown = resident(stage.daemon.pid) - before
+    return (f"{calls['calls']:.0f} calls of another client meanwhile, median {calls['median']} us (alone {alone['median']}), "
+            f"longest {calls['longest'] / 1e3:.1f} ms; the daemon grew by {grown} KiB; {attacks}")
+

@@ -1,0 +1,337 @@
+/*
+ * client NAME MODE [NUMBER [NUMBER]]: a client by libgbinder of the service in service.c; the modes stand in the table at the
+ * end. Prints a line, or says what is wrong and ends with 1. DEVICE and PROTOCOL in the environment say how to get there.
+ */
+#include "codes.h"
+#include "common.h"
+
+#include <string.h>
+#include <unistd.h>
+
+static GBinderServiceManager *manager;
+static GBinderRemoteObject *service;
+static GBinderClient *client;
+static GMainLoop *loop;
+static long numbers[2];
+
+/* Calls with a request, which is let go of, and has to be answered. */
+static GBinderRemoteReply *answered(guint code, GBinderLocalRequest *request)
+{
+    int status = 0;
+    GBinderRemoteReply *reply = gbinder_client_transact_sync_reply(client, code, request, &status);
+    NEED(reply && status == GBINDER_STATUS_OK, "call %u ended with status %d", code, status);
+    gbinder_local_request_unref(request);
+    return reply;
+}
+
+static gint32 asked(guint code, GBinderLocalRequest *request)
+{
+    gint32 number = -1;
+    GBinderRemoteReply *reply = answered(code, request);
+    NEED(gbinder_remote_reply_read_int32(reply, &number), "call %u was answered by no number", code);
+    gbinder_remote_reply_unref(reply);
+    return number;
+}
+
+static GBinderLocalRequest *request(void)
+{
+    return gbinder_client_new_request(client);
+}
+
+static void echo(const char *word)
+{
+    GBinderLocalRequest *with = request();
+    gbinder_local_request_append_string16(with, word);
+    GBinderRemoteReply *reply = answered(ECHO, with);
+    char *back = gbinder_remote_reply_read_string16(reply);
+    NEED(back && !strcmp(back, word), "\"%s\" came back for \"%s\"", back ? back : "nothing", word);
+    g_free(back);
+    gbinder_remote_reply_unref(reply);
+}
+
+static void play_call(void)
+{
+    echo("hello, binder");
+    echo("");
+    echo("gr\xc3\xbc\xc3\x9f dich");
+    printf("the same came back\n");
+}
+
+static int compared(const void *one, const void *other)
+{
+    gint64 difference = *(const gint64 *)one - *(const gint64 *)other;
+    return (difference > 0) - (difference < 0);
+}
+
+static void play_time(void)
+{
+    long calls = numbers[0];
+    gint64 *times = g_new0(gint64, calls);
+    for (long i = -50; i < calls; i++) {
+        gint64 start = g_get_monotonic_time();
+        echo("hello");
+        if (i >= 0)
+            times[i] = g_get_monotonic_time() - start;
+    }
+    qsort(times, calls, sizeof *times, compared);
+    printf("median %ld tenth %ld last %ld\n", (long)times[calls / 2], (long)times[calls / 10], (long)times[calls * 99 / 100]);
+}
+
+static void play_oneway(void)
+{
+    gint32 before = asked(TELL_COUNT, request()), now = before;
+    for (long i = 0; i < numbers[0]; i++) {
+        GBinderLocalRequest *with = request();
+        int status = gbinder_client_transact_sync_oneway(client, COUNT, with);
+        NEED(status == GBINDER_STATUS_OK, "one-way call %ld ended with status %d", i, status);
+        gbinder_local_request_unref(with);
+    }
+    for (int turn = 0; turn < 500 && now - before < numbers[0]; turn++, usleep(10000))
+        now = asked(TELL_COUNT, request());
+    NEED(now - before == numbers[0], "%d of %ld one-way calls came", now - before, numbers[0]);
+    printf("%ld one-way calls came\n", numbers[0]);
+}
+
+static GBinderLocalReply *on_call_back(GBinderLocalObject *object, GBinderRemoteRequest *call, guint code, guint flags,
+                                       int *status, void *with)
+{
+    gint32 number = 0;
+    (void)code, (void)flags, (void)with;
+    gbinder_remote_request_read_int32(call, &number);
+    *status = GBINDER_STATUS_OK;
+    GBinderLocalReply *reply = gbinder_local_object_new_reply(object);
+    gbinder_local_reply_append_int32(reply, (guint32)number + 1);
+    return reply;
+}
+
+static GBinderLocalRequest *with_object(void)
+{
+    GBinderLocalRequest *with = request();
+    GBinderLocalObject *object = gbinder_servicemanager_new_local_object(manager, CALLBACK_INTERFACE, on_call_back, NULL);
+    gbinder_local_request_append_local_object(with, object);
+    return with;
+}
+
+static gint32 nested_answer = -1;
+
+static void on_nested(GBinderClient *who, GBinderRemoteReply *reply, int status, void *with)
+{
+    (void)who, (void)status, (void)with;
+    if (reply)
+        gbinder_remote_reply_read_int32(reply, &nested_answer);
+    g_main_loop_quit(loop);
+}
+
+static gboolean give_up(gpointer with)
+{
+    (void)with;
+    g_main_loop_quit(loop);
+    return FALSE;
+}
+
+/* The call back is served by the main loop, so the call mustn't hold that up. */
+static void play_nested(void)
+{
+    for (long i = 0; i < numbers[0]; i++) {
+        GBinderLocalRequest *with = with_object();
+        nested_answer = -1;
+        gbinder_client_transact(client, CALL_BACK, 0, with, on_nested, NULL, NULL);
+        gbinder_local_request_unref(with);
+        guint patience = g_timeout_add(10000, give_up, NULL);
+        g_main_loop_run(loop);
+        g_source_remove(patience);
+        NEED(nested_answer == 42, "nested call %ld gave %d", i, nested_answer);
+    }
+    printf("%ld calls with a call back\n", numbers[0]);
+}
+
+/* Gives an object and is gone without a word; the service is to hear of it. */
+static void play_keep(void)
+{
+    NEED(asked(KEEP, with_object()) == 0, "the object wasn't kept");
+    printf("kept\n");
+    _exit(0);
+}
+
+static gpointer call_in_thread(gpointer number)
+{
+    for (long i = 0; i < numbers[1]; i++) {
+        char *word = g_strdup_printf("thread %ld call %ld", (long)number, i);
+        echo(word);
+        g_free(word);
+    }
+    return NULL;
+}
+
+static void play_threads(void)
+{
+    GThread *threads[64];
+    for (long i = 0; i < numbers[0]; i++)
+        threads[i] = g_thread_new("caller", call_in_thread, (gpointer)i);
+    for (long i = 0; i < numbers[0]; i++)
+        g_thread_join(threads[i]);
+    printf("%ld threads, %ld calls each\n", numbers[0], numbers[1]);
+}
+
+static gboolean is_told;
+
+static void on_death(GBinderRemoteObject *object, void *with)
+{
+    (void)with;
+    is_told = gbinder_remote_object_is_dead(object);
+    g_main_loop_quit(loop);
+}
+
+/* Waits for the service's death, which somebody else sees to. */
+static void play_death(void)
+{
+    int status = 0;
+    gbinder_remote_object_add_death_handler(service, on_death, NULL);
+    echo("alive");
+    printf("waiting\n");
+    g_timeout_add(20000, give_up, NULL);
+    g_main_loop_run(loop);
+    NEED(is_told, "the service's death wasn't told");
+    GBinderRemoteReply *reply = gbinder_client_transact_sync_reply(client, ECHO, request(), &status);
+    NEED(!reply && status != GBINDER_STATUS_OK, "the dead answer");
+    printf("heard of the service's death\n");
+}
+
+static guint8 *filled(gsize size)
+{
+    guint8 *bytes = g_malloc(size + 1);
+    for (gsize i = 0; i < size; i++)
+        bytes[i] = (guint8)(i * 7 + i / 251);
+    return bytes;
+}
+
+static GBinderLocalRequest *with_bytes(const guint8 *bytes, gsize size)
+{
+    GBinderWriter writer;
+    GBinderLocalRequest *with = request();
+    gbinder_local_request_init_writer(with, &writer);
+    gbinder_writer_append_byte_array(&writer, bytes, (gint32)size);
+    return with;
+}
+
+static void play_big(void)
+{
+    gsize size = (gsize)numbers[0], come = 0;
+    guint8 *bytes = filled(size);
+    GBinderReader reader;
+    for (int turn = 0; turn < 20; turn++) {
+        GBinderRemoteReply *reply = answered(BYTES, with_bytes(bytes, size));
+        gbinder_remote_reply_init_reader(reply, &reader);
+        const void *back = gbinder_reader_read_byte_array(&reader, &come);
+        NEED(back && come == size && !memcmp(back, bytes, size), "%zu bytes came back for %zu, or others", come, size);
+        gbinder_remote_reply_unref(reply);
+    }
+    printf("%zu bytes came back the same\n", size);
+}
+
+static void play_past(void)
+{
+    gsize size = (gsize)numbers[0];
+    guint8 *bytes = filled(size);
+    for (int turn = 0; turn < 5; turn++) {
+        int status = 0;
+        GBinderLocalRequest *with = with_bytes(bytes, size);
+        GBinderRemoteReply *reply = gbinder_client_transact_sync_reply(client, BYTES, with, &status);
+        NEED(!reply && status != GBINDER_STATUS_OK, "%zu bytes were taken", size);
+        gbinder_local_request_unref(with);
+        echo("and yet");
+    }
+    printf("%zu bytes were refused\n", size);
+}
+
+static void pass(long number)
+{
+    GBinderWriter writer;
+    GBinderReader reader;
+    GBinderLocalRequest *with = request();
+    char *word = g_strdup_printf("pipe %ld", number), *expected = g_strconcat("read: ", word, NULL);
+    int given = pipe_with(word);
+    gbinder_local_request_init_writer(with, &writer);
+    gbinder_writer_append_fd(&writer, given);
+    close(given);
+    GBinderRemoteReply *reply = answered(DESCRIPTOR, with);
+    gbinder_remote_reply_init_reader(reply, &reader);
+    char *back = word_from(gbinder_reader_read_dup_fd(&reader));
+    NEED(!strcmp(back, expected), "\"%s\" was read for \"%s\"", back, expected);
+    gbinder_remote_reply_unref(reply);
+    g_free(back);
+    g_free(expected);
+    g_free(word);
+}
+
+/* libgbinder frees a reply's descriptors a little later, so the counts may still differ by what is under way. */
+static void play_descriptors(void)
+{
+    for (long i = 0; i < 100; i++)
+        pass(i);
+    int there = asked(OPEN_FILES, request()), here = open_files();
+    for (long i = 0; i < numbers[0]; i++)
+        pass(i);
+    int there_now = asked(OPEN_FILES, request()), here_now = open_files();
+    NEED(there_now <= there + 4 && here_now <= here + 4, "open: %d there and %d here, before %d and %d", there_now, here_now, there, here);
+    printf("%ld descriptors there and back, open %d there and %d here\n", numbers[0], there_now, here_now);
+}
+
+static void play_mixed(void)
+{
+    static const guint8 bytes[] = {0, 1, 254, 255, 7};
+    GBinderLocalRequest *with = request();
+    GBinderWriter writer;
+    GBinderReader come;
+    gsize size, size_back;
+    gbinder_local_request_init_writer(with, &writer);
+    gsize header = gbinder_writer_bytes_written(&writer);
+    gbinder_writer_append_int32(&writer, 0x80000001);
+    gbinder_writer_append_int64(&writer, G_MAXUINT64 - 5);
+    gbinder_writer_append_double(&writer, -0.1);
+    gbinder_writer_append_bool(&writer, TRUE);
+    gbinder_writer_append_string8(&writer, "narrow");
+    gbinder_writer_append_string16(&writer, "w\xc3\xaf" "de");
+    gbinder_writer_append_byte_array(&writer, bytes, sizeof bytes);
+    const guint8 *data = gbinder_writer_get_data(&writer, &size);
+    guint8 *copy = g_memdup2(data + header, size - header);
+    GBinderRemoteReply *reply = answered(MIXED, with);
+    gbinder_remote_reply_init_reader(reply, &come);
+    const void *back = gbinder_reader_get_data(&come, &size_back);
+    NEED(size_back == size - header && !memcmp(back, copy, size_back), "other values came back");
+    gbinder_remote_reply_unref(reply);
+    printf("%zu bytes of values came back the same\n", size_back);
+}
+
+static const struct {
+    const char *name;
+    void (*play)(void);
+} modes[] = {
+    {"call", play_call}, {"time", play_time}, {"oneway", play_oneway}, {"nested", play_nested}, {"keep", play_keep},
+    {"threads", play_threads}, {"death", play_death}, {"big", play_big}, {"past", play_past},
+    {"descriptors", play_descriptors}, {"mixed", play_mixed},
+};
+
+int main(int argc, char **argv)
+{
+    const char *device = getenv("DEVICE") ? getenv("DEVICE") : "/dev/binder", *protocol = getenv("PROTOCOL");
+    int status = 0;
+    setvbuf(stdout, NULL, _IOLBF, 0);
+    NEED(argc > 2, "usage: client NAME MODE [NUMBER [NUMBER]]");
+    for (int i = 3; i < argc && i < 5; i++)
+        numbers[i - 3] = atol(argv[i]);
+    manager = gbinder_servicemanager_new2(device, protocol, protocol);
+    NEED(manager && gbinder_servicemanager_wait(manager, 5000), "no context manager on %s", device);
+    service = gbinder_servicemanager_get_service_sync(manager, argv[1], &status);
+    NEED(service, "no service %s: %d", argv[1], status);
+    gbinder_remote_object_ref(service);
+    client = gbinder_client_new(service, INTERFACE);
+    loop = g_main_loop_new(NULL, FALSE);
+    for (size_t i = 0; i < G_N_ELEMENTS(modes); i++)
+        if (!strcmp(argv[2], modes[i].name)) {
+            modes[i].play();
+            return 0;
+        }
+    fprintf(stderr, "no mode %s\n", argv[2]);
+    return 1;
+}

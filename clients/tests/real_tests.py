@@ -1,0 +1,146 @@
+"""Tests with libgbinder: its own tools, and programs of ours against its public headers."""
+from raw_tests import DEVICE, ROUNDS, flat_cost
+from soaks import SECONDS, soak
+from stage import Stage, expect
+from suite import figures, test
+
+HIDL = "/dev/hwbinder"
+SERVICE = "hullpippin.test@1.0::IEcho/default"
+# a call by libgbinder may take so many times what a relay over sockets takes
+TIMES_RELAY = 1.5
+
+
+def served(build, packages, stage, *words, times=1):
+    """Our test service, registered; so often, by as many processes."""
+    return stage.start(packages.command(build.real("service"), *words)).wait_for("ready", 20, times)
+
+
+def client(build, packages, *words):
+    return packages.command(build.real("client"), *words)
+
+
+def calls(title, *words):
+    """A test that is one mode of our client, with one service, over a daemon whose journal is judged."""
+    @test(f"libgbinder {title}", real=True)
+    def play(build, packages):
+        with Stage(build, journal=DEVICE) as stage:
+            stage.manage()
+            served(build, packages, stage, "test")
+            told = stage.run(client(build, packages, "test", *words), 180)
+        return f"{told}; lawful, {stage.entries} steps"
+
+
+calls("call", "call")
+calls("values of all kinds", "mixed")
+calls("one-way calls", "oneway", "300")
+calls("nested calls", "nested", "100")
+calls("12 threads", "threads", "12", "200")
+calls("parcels of 600000 bytes", "big", "600000")
+calls("a parcel past the window", "past", "3000000")
+calls("descriptors", "descriptors", "10000")
+
+
+@test("libgbinder tools", real=True)
+def tools(build, packages):
+    with Stage(build, journal=DEVICE) as stage:
+        stage.manage()
+        listed = stage.run(packages.tool("binder-list", "-d", DEVICE))
+        expect("test" not in listed, f"binder-list lists what nobody registered: {listed}")
+        served(build, packages, stage, "test")
+        listed = stage.run(packages.tool("binder-list", "-d", DEVICE))
+        expect("test" in listed.split(), f"binder-list: {listed}")
+        pinged = stage.run(packages.tool("binder-ping", "-d", DEVICE))
+        called = stage.run(packages.tool("binder-call", "-d", DEVICE, "-a", "test", "1", '"hello"u', "reply", "s16"))
+        expect("hello" in called, f"binder-call: {called}")
+    return f"list, ping ({pinged.split(chr(10))[0]}), call ({called.split(chr(10))[0]}); lawful, {stage.entries} steps"
+
+
+@test("libgbinder forms of requests", real=True)
+def forms(build, packages):
+    """The ways in which Android's versions have asked their context manager."""
+    with Stage(build, journal=DEVICE) as stage:
+        stage.manage()
+        for form in ("aidl", "aidl2", "aidl3"):
+            served(build, packages, stage, f"test.{form}", "0", DEVICE, form)
+        for form in ("aidl", "aidl2", "aidl3"):
+            stage.run(client(build, packages, f"test.{form}", "call"), environment={"PROTOCOL": form})
+    return f"aidl, aidl2, aidl3; lawful, {stage.entries} steps"
+
+
+@test("libgbinder deaths", real=True)
+def deaths(build, packages):
+    with Stage(build, journal=DEVICE) as stage:
+        stage.manage()
+        service = served(build, packages, stage, "test")
+        for count in range(1, 6):
+            stage.run(client(build, packages, "test", "keep"))
+            service.wait_for("dead", 10, count)
+        waiting = [stage.start(client(build, packages, "test", "death")).wait_for("waiting") for _ in range(2)]
+        service.kill()
+        told = [process.finish().splitlines()[-1] for process in waiting]
+        served(build, packages, stage, "test")
+        stage.run(client(build, packages, "test", "call"))
+    return f"the service heard of 5 clients' deaths, 2 clients {told[0]}; lawful, {stage.entries} steps"
+
+
+@test("libgbinder HIDL", real=True)
+def hidl(build, packages):
+    with Stage(build, journal=HIDL) as stage:
+        stage.manage("hwservicemanager")
+        stage.run(packages.tool("binder-list", "-d", HIDL))
+        service = stage.start(packages.command(build.real("hidl_service"))).wait_for("ready", 20)
+        listed = stage.run(packages.tool("binder-list", "-d", HIDL))
+        expect(SERVICE in listed.split(), f"binder-list: {listed}")
+        stage.run(packages.tool("binder-ping", "-d", HIDL, SERVICE))
+        called = stage.run(packages.tool("binder-call", "-d", HIDL, SERVICE, "1", '"hello"h', "reply", "i32", "hstr"))
+        expect("you said hello" in called, f"binder-call: {called}")
+        told = stage.run(packages.command(build.real("hidl_client")))
+        service.kill()
+        listed = stage.run(packages.tool("binder-list", "-d", HIDL))
+        expect(SERVICE not in listed.split(), "a service is listed after its death")
+    return f"{told}; listed, pinged and called by the tools; lawful, {stage.entries} steps"
+
+
+@test("libgbinder 300 services", real=True)
+def many(build, packages):
+    with Stage(build, journal=DEVICE) as stage:
+        stage.manage()
+        served(build, packages, stage, "test")
+        before = best(stage, client(build, packages, "test", "time", "2000"))
+        crowd = served(build, packages, stage, "crowd.", "300")
+        listed = stage.run(packages.tool("binder-list", "-d", DEVICE)).split()
+        expect(sum(name.startswith("crowd.") for name in listed) == 300, f"binder-list lists {len(listed)}")
+        after = best(stage, client(build, packages, "test", "time", "2000"))
+        expect(build.sanitized or flat_cost(f"call {before} then {after}", "call"), f"{before} us a call, {after} us with 300 services")
+        crowd.kill()
+        listed = stage.run(packages.tool("binder-list", "-d", DEVICE)).split()
+        expect(not any(name.startswith("crowd.") for name in listed), "services are listed after their death")
+    return f"{before} us a call, {after} us with 300 services; lawful, {stage.entries} steps"
+
+
+def best(stage, words, **rest):
+    """The best median of some rounds: other work only delays."""
+    return min(figures(stage.run(words, **rest))["median"] for _ in range(ROUNDS))
+
+
+@test("libgbinder latency", real=True, plain_only=True)
+def latency(build, packages):
+    with Stage(build) as stage:
+        stage.manage()
+        served(build, packages, stage, "test")
+        relay = best(stage, [build.raw("relay"), "sockets"], client=False)
+        call = best(stage, client(build, packages, "test", "time", "3000"))
+        expect(call <= TIMES_RELAY * relay, f"{call} us a call, {relay} us a relay's round trip")
+    return f"{call} us a call; a bare relay over sockets {relay} us"
+
+
+@test("libgbinder soak of kills", real=True)
+def real_soak(build, packages):
+    def parts(stage):
+        stage.manage()
+        stage.start([stage.build.raw("busy"), "hold", str(SECONDS)])
+        ours = [["time", "100000"], ["threads", "3", "2000"], ["nested", "1000"], ["descriptors", "1000"], ["keep"],
+                ["oneway", "300"], ["big", "100000"], ["death"]]
+        return [(packages.command(build.real("service"), "test"), 3),
+                *[(client(build, packages, "test", *words), 2) for words in ours]]
+    return soak(build, parts, honest=False)
