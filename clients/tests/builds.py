@@ -6,7 +6,7 @@ HERE = os.path.dirname(os.path.abspath(__file__))
 CLIENTS = os.path.dirname(HERE)
 ROOT = os.path.dirname(CLIENTS)
 JUDGE = os.path.join(ROOT, "crates", "bd_play", "out", "bd_play")
-SANITIZERS = "-fsanitize=address,undefined -fno-sanitize-recover=all -fno-omit-frame-pointer"
+SANITIZERS = "address,undefined"
 
 
 class NotBuilt(Exception):
@@ -34,7 +34,7 @@ class Build:
         self.sanitized = sanitized
         self.judge = JUDGE
         self.out = "out/sanitized" if sanitized else "out/plain"
-        words = [f"OUT={self.out}", f"EXTRA={SANITIZERS if sanitized else ''}"]
+        words = [f"OUT={self.out}", *([f"SAN={SANITIZERS}"] if sanitized else [])]
         make(CLIENTS, *words)
         make(f"{CLIENTS}/managers", *words)
         make(HERE, *words, "raw", "fuzz")

@@ -141,9 +141,10 @@ static void call_manager(struct hostile *hostile, uint64_t size, uint64_t descri
     call.record.data_size = size;
     call.record.offsets_size = 8 * descriptors;
     call.record.data.ptr.offsets = size;
+    uint32_t count = (uint32_t)descriptors;
     if (descriptors)
-        hostile_send(hostile->link, "d", 1, descriptors);
-    hostile_write(hostile, &call, sizeof call, 0, (uint32_t)descriptors);
+        hostile_send(hostile->link, &count, sizeof count, descriptors);
+    hostile_write(hostile, &call, sizeof call, 0, count);
 }
 
 /* Takes the memory away from under the daemon, before it reads the page or writes into the window. */
