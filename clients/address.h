@@ -1,0 +1,23 @@
+/* address.h: where the daemon listens. */
+#ifndef HULLPIPPIN_ADDRESS_H
+#define HULLPIPPIN_ADDRESS_H
+
+#include <stdbool.h>
+#include <stdio.h>
+#include <stdlib.h>
+#include <string.h>
+#include <sys/socket.h>
+#include <sys/un.h>
+#include <unistd.h>
+
+/* The path that is given, else HULLPIPPIN_SOCKET, else one of the user's own. False where it is too long. */
+static inline bool daemon_address(const char *given, struct sockaddr_un *address)
+{
+    const char *path = given ? given : getenv("HULLPIPPIN_SOCKET");
+    *address = (struct sockaddr_un){.sun_family = AF_UNIX};
+    int size = path && *path ? snprintf(address->sun_path, sizeof address->sun_path, "%s", path)
+                             : snprintf(address->sun_path, sizeof address->sun_path, "/tmp/hullpippin-%u/socket", geteuid());
+    return size > 0 && (size_t)size < sizeof address->sun_path;
+}
+
+#endif

@@ -1,0 +1,150 @@
+/*
+ * commands.c: the write half of a BINDER_WRITE_READ. Each command is one step of the engine. What the engine has no command for is
+ * done here: registered loopers, and the scatter-gather forms of transactions and replies.
+ */
+#include "daemon.h"
+
+#include <errno.h>
+#include <string.h>
+
+/* A transaction or reply, as the engine reads it. */
+struct call_command {
+    uint32_t code;
+    struct binder_transaction_data data;
+} __attribute__((packed));
+
+struct free_command {
+    uint32_t code;
+    binder_uintptr_t buffer;
+} __attribute__((packed));
+
+/* A write that runs. */
+struct run {
+    struct thread *thread;
+    struct engine *engine;
+    int *fds;
+    uint32_t fd_count;
+};
+
+/* What a transaction or reply leaves of the thread: its frames, and whether its next read has something to tell at once. */
+static void note_call(struct thread *thread, bool is_reply, bool is_one_way, const hullpippin_answer *answer)
+{
+    enum { NO_CALL = 15 }; /* X15: there is no frame that the reply would close */
+    bool is_refused = answer->stop == HULLPIPPIN_AT_CAUSE;
+    if (is_reply && is_refused && answer->number == NO_CALL) {
+        thread->refusals++;
+    } else if (is_reply) {
+        thread->is_prompt = true;
+        if (thread->serving)
+            thread->serving--;
+    } else if (is_refused) {
+        thread->refusals++;
+    } else if (is_one_way) {
+        thread->is_prompt = true;
+    } else {
+        thread->calling++;
+    }
+}
+
+static int run_call(struct run *run, uint32_t code, const uint8_t *payload)
+{
+    static struct parcel parcel;
+    bool is_reply = code == BC_REPLY || code == BC_REPLY_SG;
+    struct binder_transaction_data_sg record = {0};
+    memcpy(&record, payload, _IOC_SIZE(code));
+    record.transaction_data.flags &= ~FLAG_TRAILER;
+    parcel_fetch(&parcel, run->thread->page, &record, run->fds, run->fd_count);
+
+    struct call_command command = {is_reply ? BC_REPLY : BC_TRANSACTION, record.transaction_data};
+    if (!parcel.is_lost) {
+        command.data.data_size = parcel.data_size;
+        command.data.offsets_size = parcel.offsets_size;
+    }
+    if (parcel.is_wrapped)
+        command.data.flags |= FLAG_TRAILER;
+    command.data.data.ptr.buffer = 0;
+    command.data.data.ptr.offsets = round8(command.data.data_size);
+    int error = engine_command_with(run->engine, run->thread->seat, &command, sizeof command, parcel.data, parcel.data_size,
+                                    parcel.offsets, parcel.offsets_size);
+    bool is_accepted = !error && run->engine->answer.stop == HULLPIPPIN_AT_END;
+    if (!is_accepted)
+        parcel_refuse(&parcel);
+    if (!error)
+        note_call(run->thread, is_reply, record.transaction_data.flags & TF_ONE_WAY, &run->engine->answer);
+    return error;
+}
+
+/* The client's pointers begin where it has mapped its window. */
+static int run_free(struct run *run, const uint8_t *payload)
+{
+    struct process *process = run->thread->process;
+    struct free_command command = {.code = BC_FREE_BUFFER};
+    memcpy(&command.buffer, payload, sizeof command.buffer);
+    uint64_t place = command.buffer - process->window.base;
+    command.buffer = place + WINDOW_BASE;
+    int error = engine_command(run->engine, run->thread->seat, &command, sizeof command);
+    if (!error && !run->engine->answer.notes)
+        process_note_handed(process, place, false);
+    return error;
+}
+
+/* Loopers of both kinds are in the engine's loop. One that was asked for by BR_SPAWN_LOOPER is counted. */
+static int run_looper(struct run *run, uint32_t code)
+{
+    struct process *process = run->thread->process;
+    uint32_t command = code == BC_EXIT_LOOPER ? BC_EXIT_LOOPER : BC_ENTER_LOOPER;
+    int error = engine_command(run->engine, run->thread->seat, &command, sizeof command);
+    if (error)
+        return error;
+    run->thread->is_looper = command == BC_ENTER_LOOPER;
+    if (code == BC_REGISTER_LOOPER && process->requested) {
+        process->requested--;
+        process->started++;
+    }
+    return 0;
+}
+
+static int run_command(struct run *run, uint32_t code, const uint8_t *command)
+{
+    const uint8_t *payload = command + sizeof code;
+    switch (code) {
+    case BC_TRANSACTION:
+    case BC_REPLY:
+    case BC_TRANSACTION_SG:
+    case BC_REPLY_SG:
+        return run_call(run, code, payload);
+    case BC_FREE_BUFFER:
+        return run_free(run, payload);
+    case BC_REGISTER_LOOPER:
+    case BC_ENTER_LOOPER:
+    case BC_EXIT_LOOPER:
+        return run_looper(run, code);
+    default:
+        return engine_command(run->engine, run->thread->seat, command, sizeof code + _IOC_SIZE(code));
+    }
+}
+
+int commands_run(struct thread *thread, const uint8_t *stream, uint32_t size, int *fds, uint32_t fd_count)
+{
+    struct run run = {thread, thread->process->engine, fds, fd_count};
+    struct page_answer *answer = &thread->answer;
+    while (answer->consumed < size) {
+        const uint8_t *command = stream + answer->consumed;
+        uint32_t code, left = size - answer->consumed;
+        if (left < sizeof code)
+            return EINVAL;
+        memcpy(&code, command, sizeof code);
+        if (left - sizeof code < _IOC_SIZE(code))
+            return EINVAL;
+        int error = run_command(&run, code, command);
+        if (error)
+            return error;
+        answer->consumed += sizeof code + _IOC_SIZE(code);
+        if (run.engine->answer.kind == HULLPIPPIN_WROTE && run.engine->answer.stop == HULLPIPPIN_AT_CAUSE) {
+            log_event("process %d: command %08x is refused by X%u", thread->process->pid, code, run.engine->answer.number);
+            answer->refused = 1;
+            return 0;
+        }
+    }
+    return 0;
+}

@@ -1,0 +1,366 @@
+/*
+ * daemon.h: what the files of the daemon share.
+ *
+ * The daemon has one thread. It waits for all of its descriptors at once (loop.c), and nothing that it does waits for a
+ * client. An engine stands behind each device name (engine.c); an open file is a process of it (processes.c), a client's
+ * thread one of its seats (threads.c, seats.c).
+ */
+#ifndef HULLPIPPIN_DAEMON_H
+#define HULLPIPPIN_DAEMON_H
+
+#include "hullpippin.h"
+#include "protocol.h"
+
+#include <linux/android/binder.h>
+#include <stdbool.h>
+#include <stddef.h>
+#include <stdint.h>
+#include <stdio.h>
+#include <sys/types.h>
+
+/* The engine's pointers begin here, at a window's first byte (docs/RULES.md, "Buffers and windows"). */
+#define WINDOW_BASE UINT64_C(65536)
+
+/* The least limit of a read: BR_NOOP, and the longest return. */
+#define READ_LEAST 72u
+#define READ_LONGEST 68u
+
+/* A flag that no binder header has: the parcel ends with a `struct trailer` (parcels.c). The daemon takes it off what clients write. */
+#define FLAG_TRAILER 0x80000000u
+
+/* No seat is lent. */
+#define NO_SEAT UINT32_MAX
+
+#define container_of(pointer, type, member) ((type *)(void *)((char *)(pointer) - offsetof(type, member)))
+
+/* --- Lists: a ring through the heads. --- */
+
+struct list {
+    struct list *next, *previous;
+};
+
+static inline void list_begin(struct list *list)
+{
+    list->next = list->previous = list;
+}
+
+static inline bool list_is_empty(const struct list *list)
+{
+    return list->next == list;
+}
+
+static inline void list_append(struct list *list, struct list *entry)
+{
+    entry->previous = list->previous;
+    entry->next = list;
+    list->previous->next = entry;
+    list->previous = entry;
+}
+
+/* The entry may be removed again. */
+static inline void list_remove(struct list *entry)
+{
+    entry->previous->next = entry->next;
+    entry->next->previous = entry->previous;
+    list_begin(entry);
+}
+
+/* --- loop.c: one wait for all descriptors. --- */
+
+/* A descriptor that is waited for. `ready` may drop and free any watch, its own too: events are fetched one at a time. */
+struct watch {
+    int fd; /* -1: it isn't waited for */
+    void (*ready)(struct watch *watch, uint32_t events);
+};
+
+struct loop {
+    int epoll;
+    bool is_stopped;
+};
+
+bool loop_begin(struct loop *loop);
+void loop_end(struct loop *loop);
+bool loop_add(struct loop *loop, struct watch *watch, uint32_t events);
+/* Closes the descriptor. */
+void loop_drop(struct loop *loop, struct watch *watch);
+/* Runs until it is stopped. `idle` is called where nothing has come for a second. */
+void loop_run(struct loop *loop, void (*idle)(void *context), void *context);
+
+/* --- log.c --- */
+
+bool log_open(const char *path, bool verbose);
+void log_close(void);
+/* An event that only `-v` shows. */
+void log_event(const char *format, ...) __attribute__((format(printf, 1, 2)));
+/* A line that is always shown. */
+void log_line(const char *format, ...) __attribute__((format(printf, 1, 2)));
+
+/* --- journal.c: the file that an engine's entries go to. --- */
+
+struct journal {
+    FILE *file; /* NULL: there is none, or it has failed */
+    const char *path;
+    uint8_t *entry;
+    size_t room;
+    bool is_dirty;
+};
+
+bool journal_open(struct journal *journal, const char *path, hullpippin_live *live);
+/* Appends the latest step's entry. A journal that can't have it is given up: its file is no journal. */
+void journal_append(struct journal *journal, hullpippin_live *live);
+void journal_flush(struct journal *journal);
+/* Puts the number of entries right, and closes the file. */
+void journal_close(struct journal *journal, hullpippin_live *live);
+
+/* --- engine.c: the engine of one device name. --- */
+
+struct daemon;
+
+struct engine {
+    struct daemon *daemon;
+    char device[DEVICE_NAME_ROOM];
+    hullpippin_live live;
+    struct journal journal;
+    hullpippin_answer answer; /* of the latest step */
+
+    uint32_t seats;           /* seat 0 is the daemon's own, by which processes begin and end */
+    struct thread **lent;     /* by seat: whose it is, or NULL */
+    uint32_t *free_seats;     /* a stack */
+    uint32_t free_count;
+
+    struct list processes;
+    struct list by_pid[256];  /* processes by the pid that they have in the engine */
+    uint32_t last_pid;        /* of those that are given where a process's own is taken */
+    struct process *manager;
+    struct list watchers;     /* threads that wait in a read, or have a doorbell */
+};
+
+struct engine *engine_new(struct daemon *daemon, const char *device, uint32_t seats, const char *journal);
+void engine_free(struct engine *engine);
+
+/* Each makes a step, and answers 0 where the engine has run it; engine->answer has what came of it. Else an errno. */
+int engine_open(struct engine *engine, uint32_t seat, uint32_t pid, uint32_t euid, uint32_t window);
+int engine_attach(struct engine *engine, uint32_t seat, uint32_t pid);
+int engine_set_manager(struct engine *engine, uint32_t seat);
+int engine_exit_thread(struct engine *engine, uint32_t seat);
+int engine_exit_process(struct engine *engine, uint32_t seat);
+int engine_read(struct engine *engine, uint32_t seat, uint32_t limit);
+int engine_command(struct engine *engine, uint32_t seat, const void *command, size_t size);
+int engine_command_with(struct engine *engine, uint32_t seat, const void *command, size_t size, const uint8_t *data,
+                        size_t data_size, const uint8_t *offsets, size_t offsets_size);
+
+/* --- seats.c --- */
+
+/* Sees to it that the thread has a seat. False where all are busy, or the engine refuses. */
+bool seat_lend(struct thread *thread);
+/* Ends the thread in the engine, and takes its seat back. */
+void seat_return(struct thread *thread);
+/* The same, where the thread's process has ended. */
+void seat_forget(struct thread *thread);
+
+/* --- windows.c: a process's window, which the client maps and only the daemon writes. --- */
+
+struct window {
+    uint8_t *at; /* NULL: not mapped yet */
+    uint64_t size;
+    uint64_t base; /* where the client sees it */
+    int fd;        /* until it has gone to the client, else -1 */
+};
+
+bool window_make(struct window *window, uint64_t size, uint64_t base);
+void window_free(struct window *window);
+
+/* --- descriptors.c: descriptors of parcels that nobody has read yet. --- */
+
+/* Takes a descriptor over. Answers what `descriptor_take` knows it by; where all places are used, the oldest is closed. */
+uint32_t descriptor_hold(int fd);
+/* The descriptor, which is the caller's then, or -1 where it is no longer there. */
+int descriptor_take(uint32_t held);
+bool descriptors_are_held(void);
+void descriptors_close(int *fds, uint32_t count);
+
+/* --- processes.c: an open file is a process. --- */
+
+struct process {
+    struct watch control;
+    struct engine *engine; /* NULL: its device isn't known yet */
+    struct daemon *daemon;
+    struct list in_engine, in_bucket;
+    struct list threads;
+    pid_t pid;
+    uid_t euid;
+    uint32_t engine_pid;  /* 0: it has no window, and so isn't in the engine yet */
+    struct window window;
+    uint32_t thread_count;
+    uint32_t max_threads, requested, started; /* BR_SPAWN_LOOPER */
+    uint64_t *handed;     /* a bit for each 8 bytes of the window: a buffer that the client has begins there */
+};
+
+void process_accept(struct daemon *daemon, int fd);
+void process_end(struct process *process);
+/* The process that has this pid in the engine, or NULL. */
+struct process *process_of(const struct engine *engine, uint32_t engine_pid);
+void process_note_handed(struct process *process, uint64_t place, bool handed);
+
+/* --- threads.c: a thread of a client. --- */
+
+/* Descriptors of the latest parcel that the thread has read, and where their numbers go in the window. */
+struct landing {
+    uint32_t count;
+    int fds[DESCRIPTORS_MAX];
+    uint64_t places[DESCRIPTORS_MAX];
+    bool is_wide[DESCRIPTORS_MAX]; /* the number fills 8 bytes */
+};
+
+struct thread {
+    struct watch link, bell;
+    struct process *process;
+    struct list in_process, in_watchers;
+    struct page *page;
+    uint32_t seat;
+
+    bool is_looper;            /* in the loop */
+    uint32_t serving, calling; /* open frames: calls that it has to answer, calls that it waits for */
+    uint32_t refusals;         /* refused commands whose BR_FAILED_REPLY or BR_DEAD_REPLY isn't read yet */
+
+    bool is_waiting;           /* in a read */
+    uint32_t room;             /* of that read */
+    struct page_answer answer; /* what its request has come to so far */
+
+    int doorbell, doorbell_end; /* ours and the client's; -1: it has none */
+    bool is_rung;
+
+    /* Returns that were read from the engine and not handed over yet. Where they are the completion of a call and no more, they
+       wait for what is to come (the kernel's deferred completion). */
+    uint8_t pending[PAGE_RETURNS + READ_LEAST];
+    uint32_t pending_size;
+    bool is_prompt; /* they don't wait, or will not: there is or will be more than that */
+    struct landing *landing; /* NULL: no parcel had descriptors yet */
+};
+
+/* Makes a thread of the process. Tells its end of the link, its page and its bell, of which the first two are the caller's. */
+int thread_join(struct process *process, int fds[3]);
+/* Ends the thread, also in the engine. */
+void thread_end(struct thread *thread);
+/* Lets go of a thread whose process has ended in the engine. */
+void thread_free(struct thread *thread);
+/* Puts the thread among its engine's watchers, or takes it off, as it waits or has a doorbell. */
+void thread_watch(struct thread *thread);
+/* The landing, empty. NULL where there is no memory. */
+struct landing *thread_landing(struct thread *thread);
+
+/* --- page.c: requests in pages, and their answers. --- */
+
+void page_rung(struct thread *thread);
+/* Answers the thread's request. */
+void page_answer(struct thread *thread, const uint8_t *returns, uint32_t size);
+/* Answers a read that waits, with an errno. */
+void page_interrupt(struct thread *thread, int error);
+/* Copies from a page, once: what the compiler makes of the copy doesn't look at the page again. */
+void page_copy(void *to, const void *from, size_t size);
+
+/* --- commands.c: the write of a BINDER_WRITE_READ. --- */
+
+/* Runs the commands, and tells in the thread's answer how far that came. The descriptors stay the caller's, but for those that a
+   parcel has taken, which are -1 then. */
+int commands_run(struct thread *thread, const uint8_t *stream, uint32_t size, int *fds, uint32_t fd_count);
+
+/* --- parcels.c: PTR, FD and FDA objects, of which the engine knows nothing. --- */
+
+/* A transaction's or reply's parcel, as the engine gets it. */
+struct parcel {
+    bool is_lost;    /* it couldn't be had */
+    bool is_wrapped; /* it ends with a trailer */
+    const uint8_t *data, *offsets;
+    uint64_t data_size, offsets_size;
+    uint32_t held_count; /* of descriptors.c */
+    uint32_t held[DESCRIPTORS_MAX];
+};
+
+/* Fetches a parcel from the page; descriptors that it has are taken from `fds`. */
+void parcel_fetch(struct parcel *parcel, const struct page *page, const struct binder_transaction_data_sg *record, int *fds,
+                  uint32_t fd_count);
+/* Closes what a parcel held that the engine has refused. */
+void parcel_refuse(const struct parcel *parcel);
+/* Brings the parcel that the engine's latest read got into the window, and its record to how the client sees it. */
+void parcel_deliver(struct thread *thread, struct binder_transaction_data *record);
+/* Writes the numbers that the landing's descriptors have for the client. */
+void parcel_place(struct thread *thread, uint32_t count);
+/* Closes the descriptors of the parcel that the engine's latest read got, and that nobody gets. */
+void parcel_discard(struct engine *engine, const struct binder_transaction_data *record);
+
+/* --- returns.c: the read of a BINDER_WRITE_READ. --- */
+
+/* The thread waits for returns, of which `settle` answers so many bytes as soon as there are any. */
+void read_begin(struct thread *thread, uint32_t room);
+/* Answers the reads that can be answered, and puts all doorbells right. Follows each request that makes steps. */
+void settle(struct engine *engine);
+
+/* --- drain.c: what is unread where a thread or a process ends. --- */
+
+/* Reads it, if it may have descriptors, and closes these. */
+void drain_thread(struct thread *thread);
+/* The same for the process, in which the daemon's own seat has a thread. */
+void drain_process(struct process *process);
+
+/* --- doorbells.c --- */
+
+/* Gives the thread a doorbell; its client's end is doorbell_end. */
+bool doorbell_make(struct thread *thread);
+void doorbell_set(struct thread *thread, bool rings);
+void doorbell_free(struct thread *thread);
+
+/* --- packets.c: packets with descriptors. --- */
+
+/* None of these waits. A packet of another size, or with more descriptors, is none. */
+bool packet_send(int fd, const void *bytes, size_t size, const int *fds, uint32_t count);
+/* Tells 1: a packet; 0: none is there; -1: the other end has gone, or sends what it shouldn't. */
+int packet_receive(int fd, void *bytes, size_t size, int *fds, uint32_t room, uint32_t *count);
+
+/* --- listener.c --- */
+
+struct listener {
+    struct watch watch;
+    int lock;  /* held as long as a daemon has this address */
+    int spare; /* a descriptor to let go of, so that a client can be sent away where no more are left */
+    char path[108];
+};
+
+enum { LISTENER_OK, LISTENER_BUSY, LISTENER_FAILED };
+int listener_begin(struct daemon *daemon, const char *path);
+void listener_end(struct daemon *daemon);
+
+/* --- devices.c --- */
+
+#define DEVICES_MAX 16
+
+struct device {
+    char name[DEVICE_NAME_ROOM];
+    const char *journal; /* NULL: none */
+    struct engine *engine; /* NULL: nobody has opened it yet */
+};
+
+/* A list of names with commas between them. */
+bool devices_add(struct daemon *daemon, const char *names);
+/* [NAME=]FILE; without a name it is the first device's. */
+bool devices_set_journal(struct daemon *daemon, const char *word);
+/* The engine of a name; NULL and an errno where there is none. */
+struct engine *device_engine(struct daemon *daemon, const char *name);
+bool devices_begin(struct daemon *daemon);
+void devices_end(struct daemon *daemon);
+void devices_flush(struct daemon *daemon);
+
+/* --- main.c --- */
+
+struct daemon {
+    struct loop loop;
+    struct listener listener;
+    struct watch signals;
+    struct device devices[DEVICES_MAX];
+    uint32_t device_count;
+    uint32_t seats;
+    struct list strangers; /* processes whose device isn't known yet */
+    bool has_failed;       /* a history is full */
+};
+
+#endif

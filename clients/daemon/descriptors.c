@@ -1,0 +1,73 @@
+/*
+ * descriptors.c: descriptors of parcels that nobody has read yet. The parcel has a number in the place of each, which only the
+ * daemon writes: it names a place here, and how often that place was used before.
+ *
+ * What is unread when its receiver ends is read by the daemon (returns.c), so that nothing stays here for good. Should that
+ * not be enough, as with very many unread parcels, the oldest descriptor goes once all places are used.
+ */
+#include "daemon.h"
+
+#include <unistd.h>
+
+#define PLACE_BITS 12
+#define PLACES (1u << PLACE_BITS)
+#define TURNS ((1u << (32 - PLACE_BITS)) - 1)
+
+static struct {
+    int fd;
+    uint32_t turn;
+    bool is_used;
+} places[PLACES];
+
+static uint32_t next;
+static uint32_t used;
+
+/* The next free place; where there is none, the one that was used longest ago. */
+static uint32_t free_place(void)
+{
+    uint32_t place = next;
+    if (used < PLACES)
+        while (places[place].is_used)
+            place = (place + 1) % PLACES;
+    next = (place + 1) % PLACES;
+    return place;
+}
+
+uint32_t descriptor_hold(int fd)
+{
+    uint32_t place = free_place();
+    if (places[place].is_used) {
+        log_line("a descriptor that nobody has fetched is closed, %u are held", used);
+        close(places[place].fd);
+        used--;
+    }
+    places[place].fd = fd;
+    places[place].is_used = true;
+    places[place].turn = (places[place].turn + 1) & TURNS;
+    used++;
+    return places[place].turn << PLACE_BITS | place;
+}
+
+int descriptor_take(uint32_t held)
+{
+    uint32_t place = held % PLACES;
+    if (!places[place].is_used || places[place].turn != held >> PLACE_BITS)
+        return -1;
+    places[place].is_used = false;
+    used--;
+    return places[place].fd;
+}
+
+bool descriptors_are_held(void)
+{
+    return used > 0;
+}
+
+void descriptors_close(int *fds, uint32_t count)
+{
+    for (uint32_t i = 0; i < count; i++) {
+        if (fds[i] >= 0)
+            close(fds[i]);
+        fds[i] = -1;
+    }
+}

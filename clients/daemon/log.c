@@ -1,0 +1,54 @@
+/* log.c: what the daemon tells: on standard error, or in a file. */
+#include "daemon.h"
+
+#include <stdarg.h>
+#include <time.h>
+
+static FILE *file; /* NULL: standard error */
+static bool is_verbose;
+
+bool log_open(const char *path, bool verbose)
+{
+    is_verbose = verbose;
+    if (!path)
+        return true;
+    file = fopen(path, "ae");
+    if (file)
+        setvbuf(file, NULL, _IOLBF, 0);
+    return file != NULL;
+}
+
+void log_close(void)
+{
+    if (file)
+        fclose(file);
+    file = NULL;
+}
+
+static void write_line(const char *format, va_list rest)
+{
+    FILE *out = file ? file : stderr;
+    struct timespec now;
+    clock_gettime(CLOCK_MONOTONIC, &now);
+    fprintf(out, "hullpippind: %lld.%06ld ", (long long)now.tv_sec, now.tv_nsec / 1000);
+    vfprintf(out, format, rest);
+    fputc('\n', out);
+}
+
+void log_event(const char *format, ...)
+{
+    if (!is_verbose)
+        return;
+    va_list rest;
+    va_start(rest, format);
+    write_line(format, rest);
+    va_end(rest);
+}
+
+void log_line(const char *format, ...)
+{
+    va_list rest;
+    va_start(rest, format);
+    write_line(format, rest);
+    va_end(rest);
+}

@@ -1,0 +1,186 @@
+/* main.c: hullpippind, the daemon that has a binder driver's devices where a machine has none. */
+#include "daemon.h"
+
+#include <errno.h>
+#include <getopt.h>
+#include <signal.h>
+#include <stdlib.h>
+#include <string.h>
+#include <sys/epoll.h>
+#include <sys/resource.h>
+#include <sys/signalfd.h>
+#include <unistd.h>
+
+#define DEFAULT_DEVICES "/dev/binder,/dev/hwbinder,/dev/vndbinder"
+#define DEFAULT_SEATS 16384u
+#define SEATS_MOST 65536u
+
+/* Statuses besides 0. */
+enum { STATUS_FAILED = 1, STATUS_USAGE = 2, STATUS_BUSY = 3 };
+
+static const char usage[] =
+    "usage: hullpippind [--socket PATH] [--devices NAME,..] [--journal [NAME=]FILE].. [--seats N] [--log FILE] [-v] [--background]\n"
+    "\n"
+    "  --socket PATH           where to listen (else HULLPIPPIN_SOCKET, else /tmp/hullpippin-UID/socket)\n"
+    "  --devices NAME,..       the devices (" DEFAULT_DEVICES ")\n"
+    "  --journal [NAME=]FILE   appends the history of a device, else of the first, to a new FILE: it has 16 seats then\n"
+    "  --seats N               seats of a device without a journal, 2 to 65536 (16384)\n"
+    "  --log FILE              log there, not on standard error; -v: all that happens\n"
+    "  --background            return as soon as clients may come\n"
+    "\n"
+    "Ends in order on SIGTERM and SIGINT. Status 3: a daemon listens there already.\n";
+
+struct options {
+    const char *socket, *log;
+    bool is_verbose, is_background;
+};
+
+/* Seats are at least the daemon's own and one to lend. */
+static bool read_seats(struct daemon *daemon, const char *word)
+{
+    char *end;
+    errno = 0;
+    unsigned long seats = strtoul(word, &end, 10);
+    daemon->seats = (uint32_t)seats;
+    return !errno && *word && !*end && seats >= 2 && seats <= SEATS_MOST;
+}
+
+static bool read_options(struct daemon *daemon, struct options *options, int count, char **words)
+{
+    static const struct option names[] = {
+        {"socket", required_argument, NULL, 's'},  {"devices", required_argument, NULL, 'd'},
+        {"journal", required_argument, NULL, 'j'}, {"seats", required_argument, NULL, 'n'},
+        {"log", required_argument, NULL, 'l'},     {"background", no_argument, NULL, 'b'},
+        {"verbose", no_argument, NULL, 'v'},       {NULL, 0, NULL, 0},
+    };
+    const char *devices = DEFAULT_DEVICES, *journals[DEVICES_MAX];
+    int option, journal_count = 0;
+    bool is_good = true;
+    while ((option = getopt_long(count, words, "v", names, NULL)) != -1) {
+        switch (option) {
+        case 's': options->socket = optarg; break;
+        case 'd': devices = optarg; break;
+        case 'j':
+            is_good = is_good && journal_count < DEVICES_MAX;
+            if (is_good)
+                journals[journal_count++] = optarg;
+            break;
+        case 'n': is_good = is_good && read_seats(daemon, optarg); break;
+        case 'l': options->log = optarg; break;
+        case 'b': options->is_background = true; break;
+        case 'v': options->is_verbose = true; break;
+        default: is_good = false;
+        }
+    }
+    is_good = is_good && optind == count && devices_add(daemon, devices);
+    for (int i = 0; i < journal_count && is_good; i++)
+        is_good = devices_set_journal(daemon, journals[i]);
+    return is_good;
+}
+
+static void signal_ready(struct watch *watch, uint32_t events)
+{
+    (void)events;
+    container_of(watch, struct daemon, signals)->loop.is_stopped = true;
+}
+
+static bool watch_signals(struct daemon *daemon)
+{
+    sigset_t set;
+    sigemptyset(&set);
+    sigaddset(&set, SIGTERM);
+    sigaddset(&set, SIGINT);
+    signal(SIGPIPE, SIG_IGN);
+    if (sigprocmask(SIG_BLOCK, &set, NULL))
+        return false;
+    daemon->signals = (struct watch){.fd = signalfd(-1, &set, SFD_CLOEXEC | SFD_NONBLOCK), .ready = signal_ready};
+    return daemon->signals.fd >= 0 && loop_add(&daemon->loop, &daemon->signals, EPOLLIN);
+}
+
+/* A client's thread takes two descriptors to four. */
+static void raise_limits(void)
+{
+    struct rlimit limit;
+    if (getrlimit(RLIMIT_NOFILE, &limit) == 0) {
+        limit.rlim_cur = limit.rlim_max;
+        setrlimit(RLIMIT_NOFILE, &limit);
+    }
+}
+
+/* The first process waits until the second tells that clients may come, and ends with its status. What the second gets is where it
+   tells that; -1 where it can't be. */
+static int go_to_background(void)
+{
+    int ends[2];
+    if (pipe(ends))
+        return -1;
+    pid_t child = fork();
+    if (child > 0) {
+        unsigned char status = STATUS_FAILED;
+        close(ends[1]);
+        if (read(ends[0], &status, 1) != 1)
+            status = STATUS_FAILED;
+        _exit(status);
+    }
+    close(ends[0]);
+    if (child < 0) {
+        close(ends[1]);
+        return -1;
+    }
+    setsid();
+    return ends[1];
+}
+
+/* Tells the status to the process that waits for it, and lets go of what that one's caller may read to its end. */
+static void tell_status(int fd, unsigned char status)
+{
+    if (fd < 0)
+        return;
+    if (write(fd, &status, 1) != 1)
+        log_line("nobody waits for the daemon's beginning");
+    close(fd);
+    if (!freopen("/dev/null", "r", stdin) || !freopen("/dev/null", "w", stdout) || !freopen("/dev/null", "w", stderr))
+        log_line("the standard files stay open");
+}
+
+static void when_idle(void *context)
+{
+    devices_flush(context);
+}
+
+static int run(struct daemon *daemon, const struct options *options, int told)
+{
+    int status = listener_begin(daemon, options->socket);
+    if (status != LISTENER_OK) {
+        status = status == LISTENER_BUSY ? STATUS_BUSY : STATUS_FAILED;
+        tell_status(told, (unsigned char)status);
+        return status;
+    }
+    status = watch_signals(daemon) && devices_begin(daemon) ? 0 : STATUS_FAILED;
+    tell_status(told, (unsigned char)status);
+    if (!status)
+        loop_run(&daemon->loop, when_idle, daemon);
+    devices_end(daemon);
+    listener_end(daemon);
+    loop_drop(&daemon->loop, &daemon->signals);
+    return daemon->has_failed ? STATUS_FAILED : status;
+}
+
+int main(int count, char **words)
+{
+    static struct daemon daemon = {.seats = DEFAULT_SEATS, .signals.fd = -1, .listener.watch.fd = -1};
+    struct options options = {0};
+    list_begin(&daemon.strangers);
+    if (!read_options(&daemon, &options, count, words))
+        return fputs(usage, stderr), STATUS_USAGE;
+    int told = options.is_background ? go_to_background() : -1;
+    if (options.is_background && told < 0)
+        return perror("hullpippind"), STATUS_FAILED;
+    raise_limits();
+    if (!log_open(options.log, options.is_verbose) || !loop_begin(&daemon.loop))
+        return perror("hullpippind"), STATUS_FAILED;
+    int status = run(&daemon, &options, told);
+    loop_end(&daemon.loop);
+    log_close();
+    return status;
+}

@@ -1,0 +1,152 @@
+/*
+ * page.c: requests in pages. A page belongs to its client as much as to the daemon, so each word of it is copied once, and only the
+ * copy is looked at; no request leaves the daemon waiting, and where nothing is asked, a bell is a bell.
+ */
+#include "daemon.h"
+
+#include <errno.h>
+#include <limits.h>
+#include <linux/futex.h>
+#include <string.h>
+#include <sys/syscall.h>
+#include <unistd.h>
+
+void page_copy(void *to, const void *from, size_t size)
+{
+    memcpy(to, from, size);
+    __asm__ volatile("" ::: "memory");
+}
+
+void page_answer(struct thread *thread, const uint8_t *returns, uint32_t size)
+{
+    struct page *page = thread->page;
+    thread->answer.returns_size = size;
+    if (size)
+        memcpy(page->returns, returns, size);
+    page->answer = thread->answer;
+    atomic_store_explicit(&page->state, PAGE_ANSWERED, memory_order_release);
+    syscall(SYS_futex, &page->state, FUTEX_WAKE, INT_MAX, NULL, NULL, 0);
+}
+
+static void answer_error(struct thread *thread, int error)
+{
+    thread->answer.error = error;
+    page_answer(thread, NULL, 0);
+}
+
+void page_interrupt(struct thread *thread, int error)
+{
+    thread->is_waiting = false;
+    thread_watch(thread);
+    answer_error(thread, error);
+}
+
+/* Fetches the descriptors that come with a request. */
+static int fetch_descriptors(struct thread *thread, uint32_t wanted, int fds[DESCRIPTORS_MAX], uint32_t *count)
+{
+    uint32_t told;
+    *count = 0;
+    if (!wanted)
+        return 0;
+    if (packet_receive(thread->link.fd, &told, sizeof told, fds, DESCRIPTORS_MAX, count) == 1 && *count == wanted)
+        return 0;
+    descriptors_close(fds, *count);
+    return EINVAL;
+}
+
+/* Runs the write half, and begins the read half. */
+static int write_read(struct thread *thread, const struct page_request *request)
+{
+    static uint8_t stream[PAGE_STREAM];
+    int fds[DESCRIPTORS_MAX];
+    uint32_t fd_count;
+    if (request->stream_size > PAGE_STREAM || request->room > PAGE_RETURNS)
+        return EINVAL;
+    int error = fetch_descriptors(thread, request->descriptors, fds, &fd_count);
+    if (error)
+        return error;
+    page_copy(stream, thread->page->stream, request->stream_size);
+    error = commands_run(thread, stream, request->stream_size, fds, fd_count);
+    descriptors_close(fds, fd_count);
+    if (!error && request->room)
+        read_begin(thread, request->room);
+    return error;
+}
+
+static int set_manager(struct thread *thread)
+{
+    struct engine *engine = thread->process->engine;
+    int error = engine_set_manager(engine, thread->seat);
+    if (!error && engine->answer.kind != HULLPIPPIN_SET)
+        return EBUSY;
+    if (!error)
+        log_event("process %d is the context manager of %s", thread->process->pid, engine->device);
+    return error;
+}
+
+static void exit_thread(struct thread *thread)
+{
+    drain_thread(thread);
+    seat_return(thread);
+    thread->pending_size = 0;
+    thread->is_prompt = false;
+}
+
+static int give_doorbell(struct thread *thread)
+{
+    uint32_t count = 1;
+    if (!doorbell_make(thread))
+        return EMFILE;
+    thread_watch(thread);
+    if (!packet_send(thread->link.fd, &count, sizeof count, &thread->doorbell_end, 1))
+        return EAGAIN;
+    thread->answer.descriptors = 1;
+    return 0;
+}
+
+/* Does what a request asks for: 0 or an errno. Where it has begun a read, `settle` answers. */
+static int do_request(struct thread *thread, const struct page_request *request)
+{
+    if (!thread->process->engine_pid)
+        return EINVAL; /* there was no mmap */
+    if (request->op == PAGE_EXIT_THREAD)
+        return exit_thread(thread), 0;
+    if (!seat_lend(thread))
+        return EMFILE;
+    switch (request->op) {
+    case PAGE_WRITE_READ:
+        return write_read(thread, request);
+    case PAGE_SET_MANAGER:
+        return set_manager(thread);
+    case PAGE_DOORBELL:
+        return give_doorbell(thread);
+    case PAGE_PLACE:
+        return parcel_place(thread, request->stream_size), 0;
+    default:
+        return EINVAL;
+    }
+}
+
+/* All that its steps bring about for others comes before the answer. A read that waits is answered by what makes it ready. */
+void page_rung(struct thread *thread)
+{
+    struct page *page = thread->page;
+    struct page_request request;
+    if (thread->is_waiting) {
+        if (atomic_load(&page->cancel))
+            page_interrupt(thread, EINTR);
+        return;
+    }
+    if (atomic_load_explicit(&page->state, memory_order_acquire) != PAGE_ASKED)
+        return;
+    page_copy(&request, &page->request, sizeof request);
+    thread->answer = (struct page_answer){0};
+    struct engine *engine = thread->process->engine;
+    int error = do_request(thread, &request);
+    bool reads = thread->is_waiting;
+    settle(engine);
+    if (!reads)
+        answer_error(thread, error);
+    else if (thread->is_waiting && request.flags & PAGE_NONBLOCK)
+        page_interrupt(thread, EAGAIN);
+}

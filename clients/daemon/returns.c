@@ -1,0 +1,194 @@
+/*
+ * returns.c: the read half of a BINDER_WRITE_READ. What the engine's reads get is pending until it is handed over, since a client may
+ * have less room than the engine wants, and since the completion of a call waits for the reply.
+ */
+#include "daemon.h"
+
+#include <errno.h>
+#include <string.h>
+
+void read_begin(struct thread *thread, uint32_t room)
+{
+    thread->is_waiting = true;
+    thread->room = room;
+    thread_watch(thread);
+}
+
+/* Whether there is something to hand over. */
+static bool is_answerable(const struct thread *thread)
+{
+    return thread->pending_size && thread->is_prompt;
+}
+
+/* Appends a return to the pending ones. There is room: it was left by the limit of the read. */
+static void append(struct thread *thread, const uint8_t *bytes, uint32_t size)
+{
+    memcpy(thread->pending + thread->pending_size, bytes, size);
+    thread->pending_size += size;
+}
+
+/* A transaction or reply: its parcel goes to the window, and its record becomes the client's. */
+static void take_call(struct thread *thread, uint8_t *bytes, bool is_reply)
+{
+    struct binder_transaction_data record;
+    memcpy(&record, bytes, sizeof record);
+    struct process *sender = record.sender_pid ? process_of(thread->process->engine, (uint32_t)record.sender_pid) : NULL;
+    record.sender_pid = sender ? sender->pid : 0;
+    parcel_deliver(thread, &record);
+    memcpy(bytes, &record, sizeof record);
+    if (!is_reply && !(record.flags & TF_ONE_WAY))
+        thread->serving++;
+    if (is_reply && thread->calling)
+        thread->calling--;
+}
+
+/* A call was refused, or one that was accepted gets no reply. */
+static void take_failure(struct thread *thread)
+{
+    if (thread->refusals)
+        thread->refusals--;
+    else if (thread->calling)
+        thread->calling--;
+}
+
+static void take_return(struct thread *thread, uint8_t *bytes, uint32_t size)
+{
+    uint32_t code;
+    memcpy(&code, bytes, sizeof code);
+    if (code == BR_NOOP)
+        return;
+    if (code == BR_TRANSACTION || code == BR_REPLY)
+        take_call(thread, bytes + sizeof code, code == BR_REPLY);
+    else if (code == BR_DEAD_REPLY || code == BR_FAILED_REPLY)
+        take_failure(thread);
+    if (code != BR_TRANSACTION_COMPLETE)
+        thread->is_prompt = true;
+    append(thread, bytes, size);
+}
+
+/* Reads once from the engine: 0 or an errno. */
+static int fetch(struct thread *thread)
+{
+    static uint8_t stream[PAGE_RETURNS];
+    struct engine *engine = thread->process->engine;
+    uint32_t limit = thread->room > thread->pending_size + READ_LEAST ? thread->room - thread->pending_size : READ_LEAST;
+    if (thread->pending_size + limit > sizeof thread->pending)
+        return ENOBUFS;
+    int error = engine_read(engine, thread->seat, limit);
+    if (error || engine->answer.kind != HULLPIPPIN_GOT)
+        return error ? error : EAGAIN;
+    size_t size = hullpippin_live_bytes(&engine->live, HULLPIPPIN_STREAM, stream, sizeof stream);
+    for (size_t at = 0; at + sizeof(uint32_t) <= size;) {
+        uint32_t code;
+        memcpy(&code, stream + at, sizeof code);
+        uint32_t length = sizeof code + _IOC_SIZE(code);
+        take_return(thread, stream + at, length);
+        at += length;
+    }
+    return 0;
+}
+
+/* As the kernel does: where no thread of the process waits for work, a looper's read asks for another thread. */
+static bool wants_looper(const struct thread *thread)
+{
+    struct process *process = thread->process;
+    if (!thread->is_looper || process->requested || process->started >= process->max_threads)
+        return false;
+    for (struct list *entry = process->threads.next; entry != &process->threads; entry = entry->next) {
+        const struct thread *other = container_of(entry, struct thread, in_process);
+        if (other != thread && other->is_waiting && other->is_looper && !other->serving && !other->calling)
+            return false;
+    }
+    process->requested++;
+    return true;
+}
+
+/* Sends the descriptors that belong to what is handed over. */
+static void send_landing(struct thread *thread)
+{
+    struct landing *landing = thread->landing;
+    if (!landing || !landing->count)
+        return;
+    if (packet_send(thread->link.fd, &landing->count, sizeof landing->count, landing->fds, landing->count))
+        thread->answer.descriptors = landing->count;
+    descriptors_close(landing->fds, landing->count); /* the places stay, for the numbers */
+}
+
+/* How many bytes of the pending returns fit into so much room. */
+static uint32_t fitting(struct thread *thread, uint32_t room)
+{
+    uint32_t size = 0;
+    while (size < thread->pending_size) {
+        uint32_t code;
+        memcpy(&code, thread->pending + size, sizeof code);
+        if (size + sizeof code + _IOC_SIZE(code) > room)
+            break;
+        if (code == BR_TRANSACTION || code == BR_REPLY)
+            send_landing(thread);
+        size += sizeof code + _IOC_SIZE(code);
+    }
+    return size;
+}
+
+/* A thread's own doorbell, and those of its process's other threads, whose work it may have taken, are right before its answer. */
+static void set_doorbell(struct thread *thread)
+{
+    if (thread->doorbell >= 0 && thread->seat != NO_SEAT)
+        doorbell_set(thread, is_answerable(thread) || hullpippin_live_ready(&thread->process->engine->live, thread->seat));
+}
+
+static void set_doorbells(struct process *process)
+{
+    for (struct list *entry = process->threads.next; entry != &process->threads; entry = entry->next)
+        set_doorbell(container_of(entry, struct thread, in_process));
+}
+
+/* Hands over what fits, behind BR_NOOP. */
+static void deliver(struct thread *thread)
+{
+    uint8_t returns[PAGE_RETURNS];
+    uint32_t first = BR_NOOP, size = 0;
+    if (thread->room >= sizeof first) {
+        size = fitting(thread, thread->room - sizeof first);
+        first = wants_looper(thread) ? BR_SPAWN_LOOPER : BR_NOOP;
+        memcpy(returns, &first, sizeof first);
+        memcpy(returns + sizeof first, thread->pending, size);
+        thread->pending_size -= size;
+        memmove(thread->pending, thread->pending + size, thread->pending_size);
+        size += sizeof first;
+    }
+    thread->is_prompt = thread->pending_size > 0;
+    thread->is_waiting = false;
+    thread_watch(thread);
+    set_doorbells(thread->process);
+    page_answer(thread, returns, size);
+}
+
+/* One look at a watcher. Whether it has made a step. */
+static bool look(struct thread *thread)
+{
+    if (!thread->is_waiting) {
+        set_doorbell(thread);
+        return false;
+    }
+    bool reads = !is_answerable(thread) && hullpippin_live_ready(&thread->process->engine->live, thread->seat);
+    int error = reads ? fetch(thread) : 0;
+    if (error)
+        page_interrupt(thread, error);
+    else if (is_answerable(thread))
+        deliver(thread);
+    return reads;
+}
+
+/* A read may make others ready, as by notices of objects, or the other way round: all are looked at until none has read. */
+void settle(struct engine *engine)
+{
+    bool again;
+    do {
+        again = false;
+        for (struct list *entry = engine->watchers.next, *next; entry != &engine->watchers; entry = next) {
+            next = entry->next;
+            again |= look(container_of(entry, struct thread, in_watchers));
+        }
+    } while (again);
+}

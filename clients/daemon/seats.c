@@ -1,0 +1,79 @@
+/*
+ * seats.c: a thread has a seat from its first request on, until it ends. Where all seats are lent, that of a thread about which the
+ * engine has nothing to remember goes to another.
+ */
+#include "daemon.h"
+
+static void put_back(struct thread *thread)
+{
+    struct engine *engine = thread->process->engine;
+    engine->lent[thread->seat] = NULL;
+    engine->free_seats[engine->free_count++] = thread->seat;
+    thread->seat = NO_SEAT;
+    thread->is_looper = false;
+    thread->serving = thread->calling = thread->refusals = 0;
+}
+
+/* Whether the thread would lose nothing with its seat. */
+static bool is_idle(struct engine *engine, const struct thread *thread)
+{
+    return !thread->is_looper && !thread->serving && !thread->calling && !thread->is_waiting && thread->doorbell < 0
+           && !thread->pending_size && !hullpippin_live_ready(&engine->live, thread->seat);
+}
+
+/* Takes the seat of an idle thread back. */
+static bool recycle(struct engine *engine)
+{
+    for (uint32_t seat = 1; seat < engine->seats; seat++) {
+        struct thread *thread = engine->lent[seat];
+        if (thread && is_idle(engine, thread)) {
+            log_event("%s: seat %u is recycled", engine->device, seat);
+            seat_return(thread);
+            return true;
+        }
+    }
+    return false;
+}
+
+bool seat_lend(struct thread *thread)
+{
+    struct engine *engine = thread->process->engine;
+    if (thread->seat != NO_SEAT)
+        return true;
+    if (!engine->free_count && !recycle(engine)) {
+        log_line("%s: all %u seats are busy", engine->device, engine->seats - 1);
+        return false;
+    }
+    uint32_t seat = engine->free_seats[engine->free_count - 1];
+    if (engine_attach(engine, seat, thread->process->engine_pid))
+        return false;
+    engine->free_count--;
+    if (engine->answer.kind != HULLPIPPIN_OPENED) { /* it belongs to a process that couldn't be ended for want of memory */
+        log_line("%s: seat %u is lost", engine->device, seat);
+        return false;
+    }
+    engine->lent[seat] = thread;
+    thread->seat = seat;
+    return true;
+}
+
+void seat_return(struct thread *thread)
+{
+    struct engine *engine = thread->process->engine;
+    if (thread->seat == NO_SEAT)
+        return;
+    /* Without memory the engine keeps the thread, and the seat with it: it isn't lent again. */
+    if (engine_exit_thread(engine, thread->seat)) {
+        log_line("%s: seat %u is lost", engine->device, thread->seat);
+        engine->lent[thread->seat] = NULL;
+        thread->seat = NO_SEAT;
+        return;
+    }
+    put_back(thread);
+}
+
+void seat_forget(struct thread *thread)
+{
+    if (thread->seat != NO_SEAT)
+        put_back(thread);
+}

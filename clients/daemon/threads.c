@@ -1,0 +1,155 @@
+/* threads.c: a thread of a client, from its first ioctl until the end of its link. */
+#include "daemon.h"
+
+#include <errno.h>
+#include <fcntl.h>
+#include <stdlib.h>
+#include <sys/epoll.h>
+#include <sys/eventfd.h>
+#include <sys/mman.h>
+#include <sys/socket.h>
+#include <unistd.h>
+
+#define THREADS_MAX 4096u
+
+/* What a new thread's descriptors are, for as long as one of them may still fail. */
+struct parts {
+    int link[2];
+    int memory;
+    int bell;
+    struct page *page;
+};
+
+static void link_ready(struct watch *watch, uint32_t events)
+{
+    (void)events; /* it is only waited for its end */
+    struct thread *thread = container_of(watch, struct thread, link);
+    struct engine *engine = thread->process->engine;
+    thread_end(thread);
+    settle(engine);
+}
+
+static void bell_ready(struct watch *watch, uint32_t events)
+{
+    (void)events;
+    page_rung(container_of(watch, struct thread, bell));
+}
+
+/* The page's size is sealed: no access of the daemon's can go past its end. */
+static struct page *make_page(int *memory)
+{
+    *memory = memfd_create("hullpippin-page", MFD_CLOEXEC | MFD_ALLOW_SEALING);
+    if (*memory < 0)
+        return NULL;
+    if (ftruncate(*memory, sizeof(struct page)) || fcntl(*memory, F_ADD_SEALS, F_SEAL_SHRINK | F_SEAL_GROW | F_SEAL_SEAL))
+        return NULL;
+    void *at = mmap(NULL, sizeof(struct page), PROT_READ | PROT_WRITE, MAP_SHARED, *memory, 0);
+    return at == MAP_FAILED ? NULL : at;
+}
+
+static bool make_parts(struct parts *parts)
+{
+    *parts = (struct parts){{-1, -1}, -1, -1, NULL};
+    if (socketpair(AF_UNIX, SOCK_SEQPACKET | SOCK_CLOEXEC, 0, parts->link))
+        return false;
+    parts->bell = eventfd(0, EFD_CLOEXEC | EFD_NONBLOCK);
+    return parts->bell >= 0 && (parts->page = make_page(&parts->memory));
+}
+
+static void free_parts(struct parts *parts)
+{
+    if (parts->page)
+        munmap(parts->page, sizeof *parts->page);
+    descriptors_close(parts->link, 2);
+    descriptors_close(&parts->memory, 1);
+    descriptors_close(&parts->bell, 1);
+}
+
+static struct thread *new_thread(struct process *process, const struct parts *parts)
+{
+    struct thread *thread = calloc(1, sizeof *thread);
+    if (!thread)
+        return NULL;
+    thread->link = (struct watch){.fd = parts->link[0], .ready = link_ready};
+    thread->bell = (struct watch){.fd = parts->bell, .ready = bell_ready};
+    thread->process = process;
+    thread->page = parts->page;
+    thread->seat = NO_SEAT;
+    thread->doorbell = thread->doorbell_end = -1;
+    list_append(&process->threads, &thread->in_process);
+    list_begin(&thread->in_watchers);
+    process->thread_count++;
+    return thread;
+}
+
+int thread_join(struct process *process, int fds[3])
+{
+    struct parts parts;
+    if (!process->engine)
+        return EINVAL;
+    if (process->thread_count >= THREADS_MAX)
+        return EMFILE;
+    struct thread *thread = make_parts(&parts) ? new_thread(process, &parts) : NULL;
+    if (!thread) {
+        free_parts(&parts);
+        return ENOMEM;
+    }
+    struct loop *loop = &process->daemon->loop;
+    /* A bell is never emptied: each time it is rung there is an event. Of the link only its end makes one. */
+    if (!loop_add(loop, &thread->link, EPOLLRDHUP) || !loop_add(loop, &thread->bell, EPOLLIN | EPOLLET)) {
+        descriptors_close(&parts.link[1], 1);
+        descriptors_close(&parts.memory, 1);
+        thread_free(thread);
+        return ENOMEM;
+    }
+    fds[0] = parts.link[1];
+    fds[1] = parts.memory;
+    fds[2] = parts.bell;
+    return 0;
+}
+
+void thread_watch(struct thread *thread)
+{
+    bool is_in = !list_is_empty(&thread->in_watchers), belongs = thread->is_waiting || thread->doorbell >= 0;
+    if (belongs && !is_in)
+        list_append(&thread->process->engine->watchers, &thread->in_watchers);
+    else if (is_in && !belongs)
+        list_remove(&thread->in_watchers);
+}
+
+struct landing *thread_landing(struct thread *thread)
+{
+    if (!thread->landing)
+        thread->landing = calloc(1, sizeof *thread->landing);
+    if (thread->landing) {
+        descriptors_close(thread->landing->fds, thread->landing->count);
+        thread->landing->count = 0;
+    }
+    return thread->landing;
+}
+
+void thread_end(struct thread *thread)
+{
+    drain_thread(thread);
+    seat_return(thread);
+    thread_free(thread);
+}
+
+void thread_free(struct thread *thread)
+{
+    struct loop *loop = &thread->process->daemon->loop;
+    if (thread->is_waiting)
+        page_interrupt(thread, ENODEV);
+    seat_forget(thread);
+    doorbell_free(thread);
+    if (thread->landing)
+        descriptors_close(thread->landing->fds, thread->landing->count);
+    free(thread->landing);
+    loop_drop(loop, &thread->link);
+    loop_drop(loop, &thread->bell);
+    munmap(thread->page, sizeof *thread->page);
+    list_remove(&thread->in_watchers);
+    list_remove(&thread->in_process);
+    thread->process->thread_count--;
+    free(thread);
+}

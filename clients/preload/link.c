@@ -1,0 +1,187 @@
+/* link.c: a thread's way to the daemon: its page, its bell and its socket. It ends with the thread, or once its device is closed. */
+#include "preload.h"
+
+#include <linux/futex.h>
+#include <stdlib.h>
+#include <string.h>
+#include <sys/syscall.h>
+
+/* How long a thread waits before it looks whether the daemon is still there. */
+#define LOOK_SECONDS 2
+
+static __thread struct link *links __attribute__((tls_model("initial-exec")));
+static pthread_key_t ends;
+
+static void link_free(struct link *link)
+{
+    struct device *device = link->device;
+    pthread_mutex_lock(&devices_lock);
+    struct link **at = &device->links;
+    while (*at && *at != link)
+        at = &(*at)->next_of_device;
+    if (*at)
+        *at = link->next_of_device;
+    if (link->doorbell >= 0)
+        epolls_forget(device, link->doorbell);
+    pthread_mutex_unlock(&devices_lock);
+    munmap(link->page, sizeof *link->page);
+    real()->close(link->socket);
+    real()->close(link->bell);
+    if (link->doorbell >= 0)
+        real()->close(link->doorbell);
+    free(link);
+    device_release(device);
+}
+
+/* A thread ends. */
+static void thread_ends(void *unused)
+{
+    (void)unused;
+    while (links) {
+        struct link *link = links;
+        links = link->next_of_thread;
+        link_free(link);
+    }
+}
+
+static void before_fork(void)
+{
+    pthread_mutex_lock(&devices_lock);
+}
+
+static void in_parent(void)
+{
+    pthread_mutex_unlock(&devices_lock);
+}
+
+static void in_child(void)
+{
+    devices_forked();
+    links = NULL;
+    pthread_mutex_init(&devices_lock, NULL);
+}
+
+__attribute__((constructor)) static void begin(void)
+{
+    if (pthread_key_create(&ends, thread_ends) || pthread_atfork(before_fork, in_parent, in_child)) {
+        complain("there is no memory to begin");
+        abort();
+    }
+}
+
+void link_forked(struct link *link)
+{
+    real()->close(link->socket);
+    real()->close(link->bell);
+    if (link->doorbell >= 0)
+        real()->close(link->doorbell);
+}
+
+/* The thread's link to the device, after those to closed devices were let go of. */
+static struct link *find(const struct device *device)
+{
+    struct link **at = &links;
+    while (*at) {
+        struct link *link = *at;
+        if (link->device == device)
+            return link;
+        if (link->device->is_closed) {
+            *at = link->next_of_thread;
+            link_free(link);
+        } else {
+            at = &link->next_of_thread;
+        }
+    }
+    return NULL;
+}
+
+static struct link *new_link(struct device *device, const int fds[3])
+{
+    struct link *link = calloc(1, sizeof *link);
+    struct page *page = real()->mmap(NULL, sizeof *page, PROT_READ | PROT_WRITE, MAP_SHARED, fds[1], 0);
+    real()->close(fds[1]);
+    if (!link || page == MAP_FAILED || pthread_setspecific(ends, &links)) {
+        free(link);
+        if (page != MAP_FAILED)
+            munmap(page, sizeof *page);
+        real()->close(fds[0]);
+        real()->close(fds[2]);
+        return errno = ENOMEM, NULL;
+    }
+    *link = (struct link){.device = device, .page = page, .socket = fds[0], .bell = fds[2], .doorbell = -1, .next_of_thread = links};
+    links = link;
+    pthread_mutex_lock(&devices_lock);
+    device->references++;
+    link->next_of_device = device->links;
+    device->links = link;
+    pthread_mutex_unlock(&devices_lock);
+    return link;
+}
+
+struct link *link_of(struct device *device, int fd)
+{
+    struct control_request request = {.op = CONTROL_THREAD};
+    struct control_answer answer;
+    struct link *link = find(device);
+    int fds[3];
+    if (link)
+        return link;
+    int error = device_ask(device, fd, &request, &answer, fds, 3);
+    if (error)
+        return errno = error, NULL;
+    return new_link(device, fds);
+}
+
+static void ring(struct link *link)
+{
+    uint64_t one = 1;
+    while (write(link->bell, &one, sizeof one) < 0 && errno == EINTR)
+        ;
+}
+
+static bool daemon_has_gone(struct link *link)
+{
+    struct pollfd file = {.fd = link->socket};
+    return real()->poll(&file, 1, 0) == 1 && file.revents & (POLLHUP | POLLERR);
+}
+
+/* A signal ends a read that waits, as in the kernel: the daemon is asked for its answer, and has one at once. */
+int link_ask(struct link *link, const struct page_request *request, struct page_answer *answer)
+{
+    static const struct timespec patience = {.tv_sec = LOOK_SECONDS};
+    struct page *page = link->page;
+    page->request = *request;
+    atomic_store_explicit(&page->cancel, 0, memory_order_relaxed);
+    atomic_store_explicit(&page->state, PAGE_ASKED, memory_order_release);
+    ring(link);
+    while (atomic_load_explicit(&page->state, memory_order_acquire) == PAGE_ASKED) {
+        if (syscall(SYS_futex, &page->state, FUTEX_WAIT, PAGE_ASKED, &patience, NULL, 0) == 0)
+            continue;
+        if (errno == EINTR) {
+            atomic_store(&page->cancel, 1);
+            ring(link);
+        } else if (errno == ETIMEDOUT && daemon_has_gone(link)
+                   && atomic_load_explicit(&page->state, memory_order_acquire) == PAGE_ASKED) {
+            *answer = (struct page_answer){.error = ENODEV};
+            return ENODEV;
+        }
+    }
+    *answer = page->answer;
+    atomic_store_explicit(&page->state, PAGE_IDLE, memory_order_relaxed);
+    return answer->error;
+}
+
+int link_doorbell(struct link *link)
+{
+    const struct page_request request = {.op = PAGE_DOORBELL};
+    struct page_answer answer;
+    uint32_t told, count;
+    if (link->doorbell >= 0)
+        return link->doorbell;
+    int error = link_ask(link, &request, &answer);
+    if (!error && (!packet_receive(link->socket, &told, sizeof told, &link->doorbell, 1, &count) || count != 1))
+        error = ENODEV;
+    if (error)
+        return errno = error, -1;
+    return link->doorbell;
+}

@@ -1,0 +1,145 @@
+/*
+ * parcels.c: puts the parcel of a transaction or reply into the page: data, offsets, and the buffers that its PTR objects point at. In
+ * the copy pointers become places, and descriptors become indices of the packet that brings them (protocol.h). The daemon judges what
+ * comes; here only that is seen to that nothing is read or written past an end.
+ */
+#include "preload.h"
+
+#include <string.h>
+
+/* No descriptor of the packet: the daemon refuses the parcel. */
+#define NO_DESCRIPTOR UINT32_MAX
+
+/* The copy of a parcel. */
+struct copy {
+    struct packing *packing;
+    uint8_t *data;
+    const uint8_t *offsets;
+    uint8_t *extra;
+    uint64_t data_size, count, extra_size;
+    uint64_t used; /* of the buffers' room */
+};
+
+/* The object with this index, of this size; NULL where there is none. */
+static uint8_t *object_at(const struct copy *copy, uint64_t index, uint64_t size)
+{
+    uint64_t offset;
+    if (index >= copy->count)
+        return NULL;
+    memcpy(&offset, copy->offsets + 8 * index, sizeof offset);
+    return offset <= copy->data_size && copy->data_size - offset >= size ? copy->data + offset : NULL;
+}
+
+static uint32_t type_of(const uint8_t *object)
+{
+    uint32_t type;
+    memcpy(&type, object, sizeof type);
+    return type;
+}
+
+/* The index that a descriptor has in the packet. */
+static uint32_t add_descriptor(struct packing *packing, int fd)
+{
+    if (packing->fd_count == DESCRIPTORS_MAX || real()->fcntl(fd, F_GETFD) < 0)
+        return NO_DESCRIPTOR;
+    packing->fds[packing->fd_count] = fd;
+    return packing->fd_count++;
+}
+
+static void pack_descriptor(struct copy *copy, uint8_t *at)
+{
+    struct binder_fd_object object;
+    memcpy(&object, at, sizeof object);
+    object.fd = add_descriptor(copy->packing, (int)object.fd);
+    memcpy(at, &object, sizeof object);
+}
+
+/* A buffer that doesn't fit is left where it is: that is no place, and the daemon refuses the parcel. */
+static void pack_buffer(struct copy *copy, uint8_t *at)
+{
+    struct binder_buffer_object object;
+    memcpy(&object, at, sizeof object);
+    if (object.length > copy->extra_size - copy->used) {
+        object.buffer = PAGE_NOWHERE;
+    } else {
+        if (object.length)
+            memcpy(copy->extra + copy->used, (const void *)(uintptr_t)object.buffer, object.length);
+        object.buffer = copy->used;
+        copy->used += round8(object.length);
+        if (copy->used > copy->extra_size)
+            copy->used = copy->extra_size;
+    }
+    memcpy(at, &object, sizeof object);
+}
+
+/* The numbers of an array of descriptors lie in the copy of its parent's buffer. */
+static void pack_array(struct copy *copy, const uint8_t *at)
+{
+    struct binder_fd_array_object object;
+    struct binder_buffer_object parent;
+    memcpy(&object, at, sizeof object);
+    const uint8_t *parent_at = object_at(copy, object.parent, sizeof parent);
+    if (!parent_at || type_of(parent_at) != BINDER_TYPE_PTR)
+        return;
+    memcpy(&parent, parent_at, sizeof parent);
+    if (parent.buffer > copy->used || parent.length > copy->extra_size - parent.buffer || object.num_fds > DESCRIPTORS_MAX
+        || object.parent_offset > parent.length || object.num_fds * sizeof(uint32_t) > parent.length - object.parent_offset)
+        return;
+    uint8_t *number = copy->extra + parent.buffer + object.parent_offset;
+    for (uint64_t i = 0; i < object.num_fds; i++, number += sizeof(uint32_t)) {
+        uint32_t fd;
+        memcpy(&fd, number, sizeof fd);
+        fd = add_descriptor(copy->packing, (int)fd);
+        memcpy(number, &fd, sizeof fd);
+    }
+}
+
+static void pack_objects(struct copy *copy)
+{
+    for (uint64_t i = 0; i < copy->count; i++) {
+        uint8_t *at = object_at(copy, i, sizeof(struct binder_object_header));
+        uint32_t type = at ? type_of(at) : 0;
+        if (type == BINDER_TYPE_FD && object_at(copy, i, sizeof(struct binder_fd_object)))
+            pack_descriptor(copy, at);
+        else if (type == BINDER_TYPE_PTR && object_at(copy, i, sizeof(struct binder_buffer_object)))
+            pack_buffer(copy, at);
+        else if (type == BINDER_TYPE_FDA && object_at(copy, i, sizeof(struct binder_fd_array_object)))
+            pack_array(copy, at);
+    }
+}
+
+/* Copies the parcel to the page's area, behind what is there. */
+static void copy_parcel(struct packing *packing, struct binder_transaction_data_sg *record)
+{
+    struct binder_transaction_data *data = &record->transaction_data;
+    uint8_t *at = packing->page->area + packing->area_size;
+    struct copy copy = {.packing = packing, .data = at, .data_size = data->data_size, .count = data->offsets_size / 8,
+                        .extra_size = record->buffers_size};
+    uint8_t *offsets = at + round8(data->data_size);
+    copy.offsets = offsets;
+    copy.extra = offsets + round8(data->offsets_size);
+    if (data->data_size)
+        memcpy(copy.data, (const void *)(uintptr_t)data->data.ptr.buffer, data->data_size);
+    if (data->offsets_size)
+        memcpy(offsets, (const void *)(uintptr_t)data->data.ptr.offsets, data->offsets_size);
+    pack_objects(&copy);
+    data->data.ptr.buffer = packing->area_size;
+    data->data.ptr.offsets = packing->area_size + round8(data->data_size);
+    packing->area_size += round8(data->data_size) + round8(data->offsets_size) + round8(record->buffers_size);
+}
+
+bool parcel_pack(struct packing *packing, struct binder_transaction_data_sg *record, bool is_first)
+{
+    struct binder_transaction_data *data = &record->transaction_data;
+    bool is_small = data->data_size <= PAGE_AREA && data->offsets_size <= PAGE_AREA && record->buffers_size <= PAGE_AREA;
+    uint64_t size = is_small ? round8(data->data_size) + round8(data->offsets_size) + round8(record->buffers_size) : UINT64_MAX;
+    if (size > PAGE_AREA) { /* no window has room for it: it is told without its bytes, and refused */
+        data->data.ptr.buffer = data->data.ptr.offsets = PAGE_NOWHERE;
+        return true;
+    }
+    /* One packet of descriptors goes with a stream: a further parcel that may have some waits for the next. */
+    if (!is_first && (size > PAGE_AREA - packing->area_size || (packing->fd_count && data->offsets_size)))
+        return false;
+    copy_parcel(packing, record);
+    return true;
+}

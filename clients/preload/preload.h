@@ -1,0 +1,142 @@
+/*
+ * preload.h: what the files of the preloaded library share.
+ *
+ * The library stands between a program and libc. An open binder file is a `device`, whose descriptor is the control socket to the
+ * daemon; each thread that uses it has a `link` of its own: a page, a bell, a socket (protocol.h).
+ */
+#ifndef HULLPIPPIN_PRELOAD_H
+#define HULLPIPPIN_PRELOAD_H
+
+#include "../protocol.h"
+
+#include <errno.h>
+#include <fcntl.h>
+#include <linux/android/binder.h>
+#include <poll.h>
+#include <pthread.h>
+#include <signal.h>
+#include <stdbool.h>
+#include <stddef.h>
+#include <stdint.h>
+#include <sys/epoll.h>
+#include <sys/mman.h>
+#include <sys/select.h>
+#include <time.h>
+#include <unistd.h>
+
+/* --- real.c: the functions that this library stands before. --- */
+
+struct real {
+    int (*open)(const char *path, int flags, ...);
+    int (*openat)(int folder, const char *path, int flags, ...);
+    int (*close)(int fd);
+    int (*close_range)(unsigned first, unsigned last, int flags);
+    int (*dup)(int fd);
+    int (*dup2)(int fd, int copy);
+    int (*dup3)(int fd, int copy, int flags);
+    int (*fcntl)(int fd, int command, ...);
+    int (*ioctl)(int fd, unsigned long request, ...);
+    void *(*mmap)(void *at, size_t size, int protection, int flags, int fd, off_t offset);
+    int (*poll)(struct pollfd *files, nfds_t count, int timeout);
+    int (*ppoll)(struct pollfd *files, nfds_t count, const struct timespec *timeout, const sigset_t *mask);
+    int (*select)(int count, fd_set *reads, fd_set *writes, fd_set *errors, struct timeval *timeout);
+    int (*pselect)(int count, fd_set *reads, fd_set *writes, fd_set *errors, const struct timespec *timeout, const sigset_t *mask);
+    int (*epoll_ctl)(int epoll, int operation, int fd, struct epoll_event *event);
+};
+
+/* They are looked up at the first call, which may come before this library's constructor. */
+const struct real *real(void);
+
+/* A line on standard error, where HULLPIPPIN_LOG is set. */
+void say(const char *format, ...) __attribute__((format(printf, 1, 2)));
+/* The same in any case. */
+void complain(const char *format, ...) __attribute__((format(printf, 1, 2)));
+
+/* --- device.c: open binder files. --- */
+
+#define EPOLLS_MAX 8
+
+struct device {
+    uint32_t references; /* descriptors and links */
+    uint32_t descriptors;
+    _Atomic bool is_closed;
+    _Atomic bool is_nonblocking;
+    pthread_mutex_t control; /* a request over the control socket is made by one thread at a time */
+    struct link *links;
+    struct {
+        int epoll, doorbell; /* -1: none */
+    } epolls[EPOLLS_MAX];
+    void *window; /* NULL: not mapped yet */
+};
+
+/* Whether a path names what the daemon may have. */
+bool device_is_path(const char *path);
+/* A descriptor, or -1 and errno. */
+int device_open(const char *path, int flags);
+/* Whether a descriptor is an open binder file. */
+bool device_is(int fd);
+/* The device of a descriptor with a reference to it, or NULL and errno. */
+struct device *device_hold(int fd);
+void device_release(struct device *device);
+/* The descriptor is closed, or about to be. */
+void device_forget(int fd);
+/* A copy of a descriptor was made. */
+void device_copied(int fd, int copy);
+/* One request over the control socket and its answer: 0, or an errno. */
+int device_ask(struct device *device, int fd, struct control_request *request, struct control_answer *answer, int *fds,
+               uint32_t room);
+void *device_map(int fd, void *at, size_t size, int protection, int flags);
+int device_ioctl(int fd, unsigned long request, void *argument);
+/* The lock of all devices' references, links and epolls. */
+extern pthread_mutex_t devices_lock;
+/* Child of a fork: no device is usable, and nothing of the parent's stays open. */
+void devices_forked(void);
+
+/* --- packets.c --- */
+
+/* These wait, and go on after signals. */
+bool packet_send(int fd, const void *bytes, size_t size, const int *fds, uint32_t count);
+bool packet_receive(int fd, void *bytes, size_t size, int *fds, uint32_t room, uint32_t *count);
+
+/* --- link.c: a thread's way to the daemon. --- */
+
+struct link {
+    struct device *device;
+    struct link *next_of_thread, *next_of_device;
+    struct page *page;
+    int socket, bell;
+    int doorbell; /* -1: none yet */
+};
+
+/* The calling thread's link to a device, or NULL and errno. */
+struct link *link_of(struct device *device, int fd);
+/* Puts what stands in the page to the daemon, and waits for its answer: 0 or an errno. */
+int link_ask(struct link *link, const struct page_request *request, struct page_answer *answer);
+/* The descriptor that is readable while a read would find something, or -1 and errno. */
+int link_doorbell(struct link *link);
+/* Child of a fork: closes a link that was the parent's. */
+void link_forked(struct link *link);
+
+/* --- write_read.c, parcels.c --- */
+
+int write_read(struct link *link, struct binder_write_read *what);
+
+/* What was put into a page. */
+struct packing {
+    struct page *page;
+    uint32_t stream_size;
+    uint64_t area_size;
+    uint32_t fd_count;
+    int fds[DESCRIPTORS_MAX];
+};
+
+/* Puts the parcel of a transaction or reply into the page, whose record lies in the page's stream. False where there is no room left
+   beside what is there already. */
+bool parcel_pack(struct packing *packing, struct binder_transaction_data_sg *record, bool is_first);
+
+/* --- poll.c --- */
+
+/* Takes the doorbell out of the epolls that it is in. */
+void epolls_forget(struct device *device, int doorbell);
+
+#endif

@@ -1,0 +1,114 @@
+/* write_read.c: BINDER_WRITE_READ: the commands go to the daemon as many at a time as a page takes, with the last of them the read. */
+#include "preload.h"
+
+#include <string.h>
+
+/* What a large parcel took of the page is given back. */
+#define LARGE_AREA (256u << 10)
+
+static bool is_call(uint32_t code)
+{
+    return code == BC_TRANSACTION || code == BC_REPLY || code == BC_TRANSACTION_SG || code == BC_REPLY_SG;
+}
+
+/* Puts the parcel of the command at the end of the page's stream into the page. */
+static bool pack_call(struct packing *packing, uint8_t *payload, uint32_t size)
+{
+    struct binder_transaction_data_sg record = {0};
+    memcpy(&record, payload, size);
+    if (!parcel_pack(packing, &record, packing->area_size == 0))
+        return false;
+    memcpy(payload, &record, size);
+    return true;
+}
+
+/* Puts one command at the end of the stream: its size, or 0 where it has to wait for the next stream. A command that is cut short, or
+   longer than any, goes as it is: the daemon says what the kernel would. */
+static uint32_t pack_command(struct packing *packing, const uint8_t *command, uint64_t left)
+{
+    uint8_t *to = packing->page->stream + packing->stream_size;
+    uint32_t code = 0, room = PAGE_STREAM - packing->stream_size;
+    memcpy(&code, command, left < sizeof code ? left : sizeof code);
+    uint64_t size = left < sizeof code ? left : sizeof code + _IOC_SIZE(code);
+    bool is_whole = left >= sizeof code && size <= left && size <= PAGE_STREAM;
+    if (!is_whole)
+        size = left < sizeof code ? left : sizeof code;
+    if (size > room)
+        return 0;
+    memcpy(to, command, size);
+    if (is_whole && is_call(code) && !pack_call(packing, to + sizeof code, _IOC_SIZE(code)))
+        return 0;
+    packing->stream_size += (uint32_t)size;
+    return (uint32_t)size;
+}
+
+/* Fills the page's stream; answers how many of the bytes are in it. */
+static uint64_t pack_stream(struct packing *packing, const uint8_t *commands, uint64_t size)
+{
+    uint64_t done = 0;
+    while (done < size) {
+        uint32_t packed = pack_command(packing, commands + done, size - done);
+        if (!packed)
+            break;
+        done += packed;
+    }
+    return done;
+}
+
+/* Fetches the descriptors of what was read, and tells the daemon their numbers, which it writes into the window. */
+static int place_descriptors(struct link *link, uint32_t wanted)
+{
+    uint32_t told, count;
+    int fds[DESCRIPTORS_MAX];
+    struct page_answer answer;
+    if (!packet_receive(link->socket, &told, sizeof told, fds, DESCRIPTORS_MAX, &count) || count != wanted)
+        return ENODEV;
+    memcpy(link->page->numbers, fds, count * sizeof *fds);
+    const struct page_request request = {.op = PAGE_PLACE, .stream_size = count};
+    return link_ask(link, &request, &answer);
+}
+
+/* Makes one request of what was packed, and takes its answer. */
+static int exchange(struct link *link, const struct packing *packing, uint32_t room, struct binder_write_read *what,
+                    struct page_answer *answer)
+{
+    uint32_t flags = link->device->is_nonblocking ? PAGE_NONBLOCK : 0;
+    const struct page_request request = {PAGE_WRITE_READ, packing->stream_size, room, flags, packing->fd_count};
+    if (packing->fd_count && !packet_send(link->socket, &packing->fd_count, sizeof packing->fd_count, packing->fds, packing->fd_count))
+        return errno;
+    int error = link_ask(link, &request, answer);
+    what->write_consumed += answer->consumed;
+    if (error || !answer->returns_size || answer->returns_size > room)
+        return error;
+    memcpy((uint8_t *)(uintptr_t)what->read_buffer + what->read_consumed, link->page->returns, answer->returns_size);
+    what->read_consumed += answer->returns_size;
+    return answer->descriptors ? place_descriptors(link, answer->descriptors) : 0;
+}
+
+static uint32_t room_for_returns(const struct binder_write_read *what)
+{
+    uint64_t room = what->read_size > what->read_consumed ? what->read_size - what->read_consumed : 0;
+    return room < PAGE_RETURNS ? (uint32_t)room : PAGE_RETURNS;
+}
+
+/* A refused command ends the write, not the read. */
+int write_read(struct link *link, struct binder_write_read *what)
+{
+    bool is_last = false, is_refused = false;
+    while (!is_last) {
+        struct packing packing = {.page = link->page};
+        struct page_answer answer;
+        uint64_t left = what->write_size > what->write_consumed && !is_refused ? what->write_size - what->write_consumed : 0;
+        is_last = pack_stream(&packing, (const uint8_t *)(uintptr_t)what->write_buffer + what->write_consumed, left) == left;
+        uint32_t room = is_last ? room_for_returns(what) : 0;
+        if (!packing.stream_size && !room)
+            break;
+        int error = exchange(link, &packing, room, what, &answer);
+        if (packing.area_size > LARGE_AREA)
+            madvise(link->page->area, packing.area_size, MADV_REMOVE);
+        if (error)
+            return error;
+        is_refused = answer.refused;
+    }
+    return 0;
+}

@@ -1,0 +1,117 @@
+/*
+ * protocol.h: what the preloaded library and the daemon say to each other.
+ *
+ * An open binder file is a control socket (SOCK_SEQPACKET): one packet asks, one answers, in turn. A thread that makes its
+ * first ioctl gets, over that socket, three descriptors of its own: a link (a socket for descriptors, whose end is the
+ * thread's end), a page of shared memory, and a bell (an eventfd). It writes a request into its page, rings the bell, and
+ * waits for the page's state by a futex. Both sides are built from one tree and run on one machine: numbers are as C has them.
+ *
+ * The daemon trusts nothing of a page: it copies what it needs, once, before it looks at it. So a field may change at any
+ * time, and is read through a copy.
+ */
+#ifndef HULLPIPPIN_PROTOCOL_H
+#define HULLPIPPIN_PROTOCOL_H
+
+#include <stdatomic.h>
+#include <stdint.h>
+
+/* Goes up with each change of this file: a library of another build is refused. */
+#define PROTOCOL_VERSION 1u
+
+/* The largest window, as the kernel's is. */
+#define WINDOW_MAX (4u << 20)
+
+/* A device's name with its end: /dev/binder. */
+#define DEVICE_NAME_ROOM 64
+
+/* Descriptors of one parcel: what one SCM_RIGHTS message takes (SCM_MAX_FD). */
+#define DESCRIPTORS_MAX 253
+
+/* Bytes of commands and of returns in one exchange, and of parcels: more than any window takes. */
+#define PAGE_STREAM 4096u
+#define PAGE_RETURNS 4096u
+#define PAGE_AREA (WINDOW_MAX + 65536u)
+
+/* Requests over the control socket. */
+enum control_op {
+    CONTROL_OPEN = 1,    /* the first of each: `device` */
+    CONTROL_MAP,         /* mmap: `size`, `base`; answers the window's size and its memory */
+    CONTROL_MAX_THREADS, /* BINDER_SET_MAX_THREADS: `size` */
+    CONTROL_THREAD,      /* answers the three descriptors of a thread: link, page, bell */
+};
+
+struct control_request {
+    uint32_t version; /* PROTOCOL_VERSION */
+    uint32_t op;
+    uint64_t size;
+    uint64_t base; /* where the client sees its window */
+    char device[DEVICE_NAME_ROOM];
+};
+
+struct control_answer {
+    int32_t error; /* 0, or an errno */
+    uint32_t descriptors;
+    uint64_t size;
+};
+
+/* Requests in a page. */
+enum page_op {
+    PAGE_WRITE_READ = 1, /* runs the stream, then reads if there is room */
+    PAGE_SET_MANAGER,
+    PAGE_EXIT_THREAD,
+    PAGE_DOORBELL, /* the link brings a descriptor that is readable while a read would find something */
+    PAGE_PLACE,    /* the numbers that the descriptors of the latest parcel got here */
+};
+
+/* The page's state, on which the client's thread waits. */
+enum page_state {
+    PAGE_IDLE = 0,
+    PAGE_ASKED,    /* by the client */
+    PAGE_ANSWERED, /* by the daemon */
+};
+
+/* Flags of PAGE_WRITE_READ. */
+#define PAGE_NONBLOCK 1u /* the file is O_NONBLOCK */
+
+struct page_request {
+    uint32_t op;
+    uint32_t stream_size; /* bytes of commands, PLACE: how many numbers */
+    uint32_t room;        /* bytes for returns, 0 for no read */
+    uint32_t flags;
+    uint32_t descriptors; /* how many stand in the link's next packet; they are those of the stream's first parcel with any */
+};
+
+struct page_answer {
+    int32_t error;         /* 0, or an errno */
+    uint32_t consumed;     /* bytes of the stream that were run */
+    uint32_t refused;      /* the last command that was run was refused, which ended the write */
+    uint32_t returns_size; /* bytes of returns */
+    uint32_t descriptors;  /* how many stand in the link's next packet */
+};
+
+/*
+ * In the stream a transaction or reply has, in `data.ptr.buffer` and `data.ptr.offsets`, places in the area. Behind the
+ * offsets, at the next multiple of 8, are the buffers of PTR objects; the `buffer` of such an object is the place among them.
+ * An FD object, and each element of an FDA's array, has the descriptor's index in the packet. A parcel that doesn't fit into
+ * the area has PAGE_NOWHERE for its places.
+ */
+#define PAGE_NOWHERE UINT64_MAX
+
+struct page {
+    _Atomic uint32_t state;
+    _Atomic uint32_t cancel; /* the client's thread was interrupted: it wants its answer now */
+    struct page_request request;
+    struct page_answer answer;
+    uint8_t returns[PAGE_RETURNS];
+    uint8_t stream[PAGE_STREAM];
+    int32_t numbers[DESCRIPTORS_MAX];
+    _Alignas(4096) uint8_t area[PAGE_AREA]; /* whole pages: a large parcel's can be given back */
+};
+
+/* Sizes are rounded up to multiples of 8 in parcels. */
+static inline uint64_t round8(uint64_t size)
+{
+    return (size + 7) & ~UINT64_C(7);
+}
+
+#endif
