@@ -33,7 +33,7 @@ class Build:
     def __init__(self, sanitized=False):
         self.sanitized = sanitized
         self.judge = JUDGE
-        self.out = "out/sanitized" if sanitized else "out/plain"
+        self.out = "out/sanitized" if sanitized else "out"
         words = [f"OUT={self.out}", *([f"SAN={SANITIZERS}"] if sanitized else [])]
         make(CLIENTS, *words)
         make(f"{CLIENTS}/managers", *words)
