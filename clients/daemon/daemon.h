@@ -177,7 +177,12 @@ uint32_t descriptor_hold(int fd);
 /* The descriptor, which is the caller's then, or -1 where it is no longer there. */
 int descriptor_take(uint32_t held);
 bool descriptors_are_held(void);
+/* Closes clients' descriptors, without waiting for their end. They are -1 then. */
 void descriptors_close(int *fds, uint32_t count);
+/* Begins the thread that closes them; signals have to be blocked by now. */
+bool descriptors_begin(void);
+/* Closes one of the daemon's own. */
+void descriptor_close(int *fd);
 
 /* --- processes.c: an open file is a process. --- */
 

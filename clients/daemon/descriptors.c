@@ -7,6 +7,8 @@
  */
 #include "daemon.h"
 
+#include <fcntl.h>
+#include <pthread.h>
 #include <unistd.h>
 
 #define PLACE_BITS 12
@@ -38,7 +40,7 @@ uint32_t descriptor_hold(int fd)
     uint32_t place = free_place();
     if (places[place].is_used) {
         log_line("a descriptor that nobody has fetched is closed, %u are held", used);
-        close(places[place].fd);
+        descriptors_close(&places[place].fd, 1);
         used--;
     }
     places[place].fd = fd;
@@ -63,11 +65,40 @@ bool descriptors_are_held(void)
     return used > 0;
 }
 
+/*
+ * A client's descriptor may be one whose end takes its time, as a socket's that lingers; so they are closed by a thread of their own,
+ * which gets them by a pipe. Where that is full, for want of a descriptor that closes, this one stays open.
+ */
+static int closing[2] = {-1, -1};
+
+static void *close_all(void *unused)
+{
+    int fd;
+    (void)unused;
+    while (read(closing[0], &fd, sizeof fd) == sizeof fd)
+        close(fd);
+    return NULL;
+}
+
+bool descriptors_begin(void)
+{
+    pthread_t thread;
+    return pipe2(closing, O_CLOEXEC) == 0 && fcntl(closing[1], F_SETFL, O_NONBLOCK) == 0
+           && pthread_create(&thread, NULL, close_all, NULL) == 0 && pthread_detach(thread) == 0;
+}
+
 void descriptors_close(int *fds, uint32_t count)
 {
     for (uint32_t i = 0; i < count; i++) {
-        if (fds[i] >= 0)
-            close(fds[i]);
+        if (fds[i] >= 0 && write(closing[1], &fds[i], sizeof fds[i]) != sizeof fds[i])
+            log_event("descriptor %d stays open", fds[i]);
         fds[i] = -1;
     }
+}
+
+void descriptor_close(int *fd)
+{
+    if (*fd >= 0)
+        close(*fd);
+    *fd = -1;
 }

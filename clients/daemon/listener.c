@@ -19,7 +19,7 @@ static void send_away(struct listener *listener)
     if (fd >= 0)
         close(fd);
     listener->spare = open("/dev/null", O_RDONLY | O_CLOEXEC);
-    log_line("no descriptor is left for another client");
+    log_event("no descriptor is left for another client");
 }
 
 static void listener_ready(struct watch *watch, uint32_t events)

@@ -156,7 +156,7 @@ static int run(struct daemon *daemon, const struct options *options, int told)
         tell_status(told, (unsigned char)status);
         return status;
     }
-    status = watch_signals(daemon) && devices_begin(daemon) ? 0 : STATUS_FAILED;
+    status = watch_signals(daemon) && descriptors_begin() && devices_begin(daemon) ? 0 : STATUS_FAILED;
     tell_status(told, (unsigned char)status);
     if (!status)
         loop_run(&daemon->loop, when_idle, daemon);

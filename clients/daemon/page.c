@@ -5,7 +5,6 @@
 #include "daemon.h"
 
 #include <errno.h>
-#include <limits.h>
 #include <linux/futex.h>
 #include <string.h>
 #include <sys/syscall.h>
@@ -25,7 +24,7 @@ void page_answer(struct thread *thread, const uint8_t *returns, uint32_t size)
         memcpy(page->returns, returns, size);
     page->answer = thread->answer;
     atomic_store_explicit(&page->state, PAGE_ANSWERED, memory_order_release);
-    syscall(SYS_futex, &page->state, FUTEX_WAKE, INT_MAX, NULL, NULL, 0);
+    syscall(SYS_futex, &page->state, FUTEX_WAKE, 1, NULL, NULL, 0);
 }
 
 static void answer_error(struct thread *thread, int error)

@@ -9,7 +9,10 @@
 
 #include <string.h>
 
-static uint64_t known[PAGE_AREA / 8]; /* offsets of the objects that the engine knows */
+/* A parcel with more objects is refused: it would keep all other clients waiting. */
+#define OBJECTS_MAX 8192u
+
+static uint64_t known[OBJECTS_MAX]; /* offsets of the objects that the engine knows */
 
 /* A walk over the objects of a parcel that a client sends. */
 struct walk {
@@ -131,11 +134,11 @@ static bool is_inside(uint64_t place, uint64_t size)
     return size <= PAGE_AREA && place <= PAGE_AREA - size;
 }
 
-/* Copies the parcel from the page to the daemon's memory. False where it isn't all inside of the area. */
+/* Copies the parcel from the page to the daemon's memory. False where it isn't all inside of the area, or has too many objects. */
 static bool copy_in(const struct objects *objects, const struct page *page, const struct binder_transaction_data *record)
 {
     uint64_t data = record->data.ptr.buffer, offsets = record->data.ptr.offsets;
-    if (!is_inside(data, objects->data_size) || !is_inside(offsets, objects->offsets_size))
+    if (objects->offsets_size > 8 * OBJECTS_MAX || !is_inside(data, objects->data_size) || !is_inside(offsets, objects->offsets_size))
         return false;
     uint64_t extra = round8(offsets + objects->offsets_size);
     if (!is_inside(extra, objects->extra_size)

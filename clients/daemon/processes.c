@@ -140,7 +140,8 @@ static bool answer_control(struct process *process, const struct control_request
     bool is_sent = packet_send(process->control.fd, &answer, sizeof answer, fds, answer.descriptors);
     if (request->op == CONTROL_MAP)
         process->window.fd = -1;
-    descriptors_close(fds, answer.descriptors > 2 ? 2 : answer.descriptors); /* a bell stays with its watch */
+    for (uint32_t i = 0; i < answer.descriptors && i < 2; i++)
+        descriptor_close(&fds[i]); /* the third is a bell, which stays with its watch */
     return is_sent;
 }
 

@@ -41,7 +41,7 @@ bool seat_lend(struct thread *thread)
     if (thread->seat != NO_SEAT)
         return true;
     if (!engine->free_count && !recycle(engine)) {
-        log_line("%s: all %u seats are busy", engine->device, engine->seats - 1);
+        log_event("%s: all %u seats are busy", engine->device, engine->seats - 1);
         return false;
     }
     uint32_t seat = engine->free_seats[engine->free_count - 1];

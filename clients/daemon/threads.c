@@ -60,9 +60,10 @@ static void free_parts(struct parts *parts)
 {
     if (parts->page)
         munmap(parts->page, sizeof *parts->page);
-    descriptors_close(parts->link, 2);
-    descriptors_close(&parts->memory, 1);
-    descriptors_close(&parts->bell, 1);
+    descriptor_close(&parts->link[0]);
+    descriptor_close(&parts->link[1]);
+    descriptor_close(&parts->memory);
+    descriptor_close(&parts->bell);
 }
 
 static struct thread *new_thread(struct process *process, const struct parts *parts)
@@ -97,8 +98,8 @@ int thread_join(struct process *process, int fds[3])
     struct loop *loop = &process->daemon->loop;
     /* A bell is never emptied: each time it is rung there is an event. Of the link only its end makes one. */
     if (!loop_add(loop, &thread->link, EPOLLRDHUP) || !loop_add(loop, &thread->bell, EPOLLIN | EPOLLET)) {
-        descriptors_close(&parts.link[1], 1);
-        descriptors_close(&parts.memory, 1);
+        descriptor_close(&parts.link[1]);
+        descriptor_close(&parts.memory);
         thread_free(thread);
         return ENOMEM;
     }
