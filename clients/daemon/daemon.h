@@ -9,7 +9,7 @@
 #define HULLPIPPIN_DAEMON_H
 
 #include "hullpippin.h"
-#include "protocol.h"
+#include "../protocol.h"
 
 #include <linux/android/binder.h>
 #include <stdbool.h>

@@ -36,8 +36,9 @@ def latency(build):
                 found = figures(stage.run(words, client=client))
                 if what not in best or found["median"] < best[what]["median"]:
                     best[what] = found
-    expect(best["call"]["median"] <= ROUND_TRIP, f"a round trip takes {best['call']['median']} us, with at most {ROUND_TRIP}")
-    return "; ".join(f"{what} {it['median']} us (p10 {it['tenth']}, p99 {it['last']})" for what, it in best.items())
+    told = "; ".join(f"{what} {it['median']} us (p10 {it['tenth']}, p99 {it['last']})" for what, it in best.items())
+    expect(best["call"]["median"] <= ROUND_TRIP, f"a round trip takes over {ROUND_TRIP} us: {told}")
+    return told
 
 
 def flat_cost(found, what):

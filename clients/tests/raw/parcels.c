@@ -22,10 +22,19 @@ static uint8_t *filled(size_t size)
     return bytes;
 }
 
+/* The server gives a call's buffer back with its next read: once it serves another call, all of its window is free. */
+static void let_it_free(struct client *client)
+{
+    struct binder_transaction_data reply;
+    CHECK(raw_call(&client->looper, (struct call){0}, &reply) == BR_REPLY, "a call without bytes wasn't answered");
+    looper_free(&client->looper, &reply);
+}
+
 static void there_and_back(struct client *client, size_t size)
 {
     struct binder_transaction_data reply;
     uint8_t *bytes = filled(size);
+    let_it_free(client);
     uint32_t ending = raw_call(&client->looper, (struct call){.bytes = bytes, .size = size}, &reply);
     CHECK(ending == BR_REPLY, "%zu bytes ended as %x", size, ending);
     CHECK(reply.data_size == size && !memcmp(raw_data(&reply), bytes, size), "%zu bytes came back otherwise", size);

@@ -220,6 +220,8 @@ static void play_big(void)
     guint8 *bytes = filled(size);
     GBinderReader reader;
     for (int turn = 0; turn < 20; turn++) {
+        usleep(50000); /* both give the buffers of the turn before back */
+        echo("free them");
         GBinderRemoteReply *reply = answered(BYTES, with_bytes(bytes, size));
         gbinder_remote_reply_init_reader(reply, &reader);
         const void *back = gbinder_reader_read_byte_array(&reader, &come);
