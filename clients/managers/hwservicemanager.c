@@ -101,7 +101,7 @@ static bool add_chain(struct manager *manager, const struct binder_transaction_d
         if (!text_at(&manager->binder, where, &interface) || !full_name(name, interface, instance))
             return any;
         if (!is(interface, BASE) || count == 1)
-            any = manager_add(manager, name, strlen(name), handle) || any;
+            any = manager_add(manager, name, strlen(name), handle, 0) || any;
     }
     return any;
 }

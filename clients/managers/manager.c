@@ -28,13 +28,13 @@ static void let_go(struct manager *manager, uint32_t handle, bool lives)
     put_handle(&manager->looper.commands, BC_RELEASE, handle);
 }
 
-bool manager_add(struct manager *manager, const void *name, size_t size, uint32_t handle)
+bool manager_add(struct manager *manager, const void *name, size_t size, uint32_t handle, uint32_t mark)
 {
     struct registry *registry = &manager->registry;
     const struct service *was = registry_find(registry, name, size);
     bool known = registry_has(registry, handle), replaces = was && was->handle != handle;
     uint32_t before = was ? was->handle : 0;
-    if (!registry_put(registry, name, size, handle))
+    if (!registry_put(registry, name, size, handle, mark))
         return false;
     if (!known) {
         put_handle(&manager->looper.commands, BC_ACQUIRE, handle);

@@ -34,8 +34,8 @@ struct manager {
 int manager_main(int argc, char **argv, const char *program, const char *device,
                  void (*serve)(struct looper *, const struct binder_transaction_data *));
 
-/* Gives a name to an object that came with the call being served; false without memory. */
-bool manager_add(struct manager *manager, const void *name, size_t size, uint32_t handle);
+/* Gives a name, with a mark, to an object that came with the call being served; false without memory. */
+bool manager_add(struct manager *manager, const void *name, size_t size, uint32_t handle, uint32_t mark);
 
 /* Answers with a parcel, or with a lack of memory where it isn't whole, and frees it. */
 void manager_answer(struct manager *manager, struct writer *writer);

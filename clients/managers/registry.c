@@ -43,11 +43,12 @@ static bool grow(struct registry *registry)
     return true;
 }
 
-bool registry_put(struct registry *registry, const void *name, size_t size, uint32_t handle)
+bool registry_put(struct registry *registry, const void *name, size_t size, uint32_t handle, uint32_t mark)
 {
     size_t at = place(registry, name, size);
     if (at < registry->count && !compared(&registry->all[at], name, size)) {
         registry->all[at].handle = handle;
+        registry->all[at].mark = mark;
         return true;
     }
     uint8_t *copy = malloc(size + 1);
@@ -58,7 +59,7 @@ bool registry_put(struct registry *registry, const void *name, size_t size, uint
     memcpy(copy, name, size);
     copy[size] = 0;
     memmove(&registry->all[at + 1], &registry->all[at], (registry->count - at) * sizeof *registry->all);
-    registry->all[at] = (struct service){copy, size, handle};
+    registry->all[at] = (struct service){copy, size, handle, mark};
     registry->count++;
     return true;
 }

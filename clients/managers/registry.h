@@ -13,6 +13,7 @@ struct service {
     uint8_t *name; /* with a 0 behind it */
     size_t size;
     uint32_t handle;
+    uint32_t mark; /* a word that its manager keeps with it */
 };
 
 struct registry {
@@ -23,8 +24,8 @@ struct registry {
 /* The service of that name, or NULL. It stays where it is until the registry changes. */
 const struct service *registry_find(const struct registry *registry, const void *name, size_t size);
 
-/* Gives a name to a handle, in place of what had it; false without memory. */
-bool registry_put(struct registry *registry, const void *name, size_t size, uint32_t handle);
+/* Gives a name to a handle, with a mark, in place of what had it; false without memory. */
+bool registry_put(struct registry *registry, const void *name, size_t size, uint32_t handle, uint32_t mark);
 
 /* Whether a service has this handle. */
 bool registry_has(const struct registry *registry, uint32_t handle);

@@ -28,8 +28,12 @@ enum call {
 enum form {
     AIDL,  /* a header of the strict mode and the interface's name; services are listed one by one */
     AIDL2, /* .. and the work source behind the strict mode */
-    AIDL3, /* .. and a mark behind that; answers begin with a status, and services are listed all at once */
+    AIDL3, /* .. and a mark behind that; answers begin with a status, services are listed all at once, and behind each
+              object stands how stable its interface is. libgbinder's aidl4 only has other such words */
 };
+
+/* The stability of a service whose owner said nothing of it: that of the system's own. */
+#define SYSTEM_STABILITY 12
 
 static bool is_interface(const uint8_t *name, size_t size)
 {
@@ -84,8 +88,8 @@ static void find(struct manager *manager, struct reader *reader, enum form form)
         write_strong_handle(&writer, service->handle);
     else if (form == AIDL3)
         write_no_object(&writer);
-    else
-        write_number(&writer, 0);
+    if (form == AIDL3 || !service)
+        write_number(&writer, service ? service->mark : 0);
     manager_answer(manager, &writer);
 }
 
@@ -105,8 +109,9 @@ static bool carries_object(const struct binder_transaction_data *call)
     return call->offsets_size == sizeof(binder_size_t);
 }
 
-static void add(struct manager *manager, struct reader *reader, const struct binder_transaction_data *call)
+static void add(struct manager *manager, struct reader *reader, const struct binder_transaction_data *call, enum form form)
 {
+    uint32_t stability = SYSTEM_STABILITY;
     const uint8_t *name;
     size_t size;
     struct flat_binder_object object;
@@ -115,7 +120,9 @@ static void add(struct manager *manager, struct reader *reader, const struct bin
         looper_answer_status(&manager->looper, STATUS_BAD_VALUE);
         return;
     }
-    if (!manager_add(manager, name, size, object.handle)) {
+    if (form == AIDL3)
+        read_number(reader, &stability);
+    if (!manager_add(manager, name, size, object.handle, stability)) {
         looper_answer_status(&manager->looper, STATUS_NO_MEMORY);
         return;
     }
@@ -159,7 +166,7 @@ static void answer(struct manager *manager, const struct binder_transaction_data
     else if (call->code == GET_SERVICE || call->code == CHECK_SERVICE)
         find(manager, &reader, form);
     else if (call->code == ADD_SERVICE)
-        add(manager, &reader, call);
+        add(manager, &reader, call, form);
     else if (call->code == LIST_SERVICES && form != AIDL3)
         list_one(manager, &reader);
     else if (call->code == LIST_SERVICES)

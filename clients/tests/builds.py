@@ -30,9 +30,9 @@ def library_file(name):
 class Build:
     """One build, in folders of its own."""
 
-    def __init__(self, sanitized=False):
+    def __init__(self, sanitized=False, judge=JUDGE):
         self.sanitized = sanitized
-        self.judge = JUDGE
+        self.judge = judge
         self.out = "out/sanitized" if sanitized else "out"
         words = [f"OUT={self.out}", *([f"SAN={SANITIZERS}"] if sanitized else [])]
         make(CLIENTS, *words)
@@ -47,7 +47,7 @@ class Build:
             self.preload = f"{library_file('libasan.so')} {self.library}"
             self.environment = {"ASAN_OPTIONS": "abort_on_error=1:detect_leaks=1", "UBSAN_OPTIONS": "print_stacktrace=1"}
         if not os.path.exists(self.judge):
-            raise NotBuilt("crates/bd_play/out/bd_play isn't built, which judges journals: cd crates/bd_play && rt run < stdin")
+            raise NotBuilt(f"{self.judge} isn't built, which judges journals: cd crates/bd_play && rt run < stdin")
 
     def manager(self, name):
         return f"{CLIENTS}/managers/{self.out}/hullpippin-{name}"

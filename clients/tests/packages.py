@@ -15,7 +15,7 @@ KEYRING = "/usr/share/keyrings/debian-archive-keyring.gpg"
 # with all that they stand on
 RUN = ["libgbinder1", "libgbinder-tools"]
 # their headers alone
-HEADERS = ["libgbinder-dev", "libglibutil-dev", "libglib2.0-dev"]
+HEADERS = ["libgbinder-dev", "libglibutil-dev", "libgio-2.0-dev"]
 # seconds for one command of apt
 PATIENCE = 180
 

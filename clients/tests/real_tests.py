@@ -6,6 +6,8 @@ from suite import figures, test
 
 HIDL = "/dev/hwbinder"
 SERVICE = "hullpippin.test@1.0::IEcho/default"
+# the ways in which requests of context managers are written
+FORMS = ("aidl", "aidl2", "aidl3", "aidl4")
 # a call by libgbinder may take so many times what a relay over sockets takes
 TIMES_RELAY = 1.5
 
@@ -40,6 +42,11 @@ calls("a parcel past the window", "past", "3000000")
 calls("descriptors", "descriptors", "10000")
 
 
+def call_by_tool(packages, stage, device, *words):
+    """binder-call ends with 2 also where all went well; what it prints tells."""
+    return stage.run(packages.tool("binder-call", "-d", device, *words), statuses=(0, 2))
+
+
 @test("libgbinder tools", real=True)
 def tools(build, packages):
     with Stage(build, journal=DEVICE) as stage:
@@ -49,10 +56,11 @@ def tools(build, packages):
         served(build, packages, stage, "test")
         listed = stage.run(packages.tool("binder-list", "-d", DEVICE))
         expect("test" in listed.split(), f"binder-list: {listed}")
-        pinged = stage.run(packages.tool("binder-ping", "-d", DEVICE))
-        called = stage.run(packages.tool("binder-call", "-d", DEVICE, "-a", "test", "1", '"hello"u', "reply", "s16"))
-        expect("hello" in called, f"binder-call: {called}")
-    return f"list, ping ({pinged.split(chr(10))[0]}), call ({called.split(chr(10))[0]}); lawful, {stage.entries} steps"
+        pinged = stage.run(packages.tool("binder-ping", "-d", DEVICE, "test"))
+        expect(pinged == "OK", f"binder-ping: {pinged}")
+        called = call_by_tool(packages, stage, DEVICE, "-a", "test", "1", '"hello"u', "reply", "s16")
+        expect(called == '"hello"U', f"binder-call: {called}")
+    return f"list, ping, call; lawful, {stage.entries} steps"
 
 
 @test("libgbinder forms of requests", real=True)
@@ -60,11 +68,13 @@ def forms(build, packages):
     """The ways in which Android's versions have asked their context manager."""
     with Stage(build, journal=DEVICE) as stage:
         stage.manage()
-        for form in ("aidl", "aidl2", "aidl3"):
+        for form in FORMS:
             served(build, packages, stage, f"test.{form}", "0", DEVICE, form)
-        for form in ("aidl", "aidl2", "aidl3"):
+        for form in FORMS:
             stage.run(client(build, packages, f"test.{form}", "call"), environment={"PROTOCOL": form})
-    return f"aidl, aidl2, aidl3; lawful, {stage.entries} steps"
+            listed = stage.run(client(build, packages, f"test.{form}", "list"), environment={"PROTOCOL": form}).split()
+            expect(sorted(listed) == [f"test.{it}" for it in FORMS], f"{form} lists {listed}")
+    return f"{', '.join(FORMS)}; lawful, {stage.entries} steps"
 
 
 @test("libgbinder deaths", real=True)
@@ -91,9 +101,10 @@ def hidl(build, packages):
         service = stage.start(packages.command(build.real("hidl_service"))).wait_for("ready", 20)
         listed = stage.run(packages.tool("binder-list", "-d", HIDL))
         expect(SERVICE in listed.split(), f"binder-list: {listed}")
-        stage.run(packages.tool("binder-ping", "-d", HIDL, SERVICE))
-        called = stage.run(packages.tool("binder-call", "-d", HIDL, SERVICE, "1", '"hello"h', "reply", "i32", "hstr"))
-        expect("you said hello" in called, f"binder-call: {called}")
+        pinged = stage.run(packages.tool("binder-ping", "-d", HIDL, SERVICE))
+        expect(pinged == "OK", f"binder-ping: {pinged}")
+        called = call_by_tool(packages, stage, HIDL, SERVICE, "1", '"hello"h', "reply", "i32", "hstr")
+        expect(called == '0 "you said hello"H', f"binder-call: {called}")
         told = stage.run(packages.command(build.real("hidl_client")))
         service.kill()
         listed = stage.run(packages.tool("binder-list", "-d", HIDL))

@@ -54,14 +54,14 @@ class Process:
             time.sleep(0.005)
         return self
 
-    def finish(self, seconds=PATIENCE):
-        """Waits until it ends, which has to be with 0: what it printed."""
+    def finish(self, seconds=PATIENCE, statuses=(0,)):
+        """Waits until it ends, which has to be with 0 or what is said: what it printed."""
         try:
             status = self.process.wait(seconds)
         except subprocess.TimeoutExpired:
             self.kill()
             raise Failed(f"{self.name()} took over {seconds} s: {tail(self.printed())}") from None
-        expect(status == 0, f"{self.name()} ended with {status}: {tail(self.printed())}")
+        expect(status in statuses, f"{self.name()} ended with {status}: {tail(self.printed())}")
         return self.printed().strip()
 
     def signal(self, number):
@@ -142,9 +142,9 @@ class Stage:
         self.others.append(process)
         return process
 
-    def run(self, words, seconds=PATIENCE, **rest):
-        """A program that ends, with 0: what it printed."""
-        return self.start(words, **rest).finish(seconds)
+    def run(self, words, seconds=PATIENCE, statuses=(0,), **rest):
+        """A program that ends, with 0 or what is said: what it printed."""
+        return self.start(words, **rest).finish(seconds, statuses)
 
     def manage(self, name="servicemanager", *words):
         """A context manager, ready."""
