@@ -1,6 +1,6 @@
 """Tests with libgbinder: its own tools, and programs of ours against its public headers."""
 from raw_tests import DEVICE, ROUNDS, flat_cost
-from soaks import SECONDS, soak
+from soaks import soak
 from stage import Stage, expect
 from suite import figures, test
 
@@ -136,22 +136,27 @@ def best(stage, words, **rest):
 
 @test("libgbinder latency", real=True, plain_only=True)
 def latency(build, packages):
+    """Calls beside a bare relay that goes the same ways between the same threads, in turn; the best medians count."""
+    relayed, called = [], []
     with Stage(build) as stage:
         stage.manage()
         served(build, packages, stage, "test")
-        relay = best(stage, [build.raw("relay"), "sockets"], client=False)
-        call = best(stage, client(build, packages, "test", "time", "3000"))
-        expect(call <= TIMES_RELAY * relay, f"{call} us a call, {relay} us a relay's round trip")
-    return f"{call} us a call; a bare relay over sockets {relay} us"
+        for _ in range(ROUNDS):
+            relayed.append(figures(stage.run([build.raw("relay_polled")], client=False))["median"])
+            called.append(figures(stage.run(client(build, packages, "test", "time", "3000")))["median"])
+    relay, call = min(relayed), min(called)
+    expect(call <= TIMES_RELAY * relay, f"{call} us a call, {relay} us by a bare relay of the same ways")
+    return f"{call} us a call; {relay} us by a bare relay of the same ways"
 
 
 @test("libgbinder soak of kills", real=True)
 def real_soak(build, packages):
-    def parts(stage):
+    def begin(stage):
         stage.manage()
-        stage.start([stage.build.raw("busy"), "hold", str(SECONDS)])
+
+    def parts(_):
         ours = [["time", "100000"], ["threads", "3", "2000"], ["nested", "1000"], ["descriptors", "1000"], ["keep"],
                 ["oneway", "300"], ["big", "100000"], ["death"]]
         return [(packages.command(build.real("service"), "test"), 3),
                 *[(client(build, packages, "test", *words), 2) for words in ours]]
-    return soak(build, parts, honest=False)
+    return soak(build, begin, parts, honest=False)

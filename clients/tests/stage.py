@@ -93,9 +93,9 @@ def open_files(pid):
 
 
 class Stage:
-    """A daemon, started; `journals` names a device whose journal is kept and judged in the end."""
+    """A daemon, started; `journal` names a device whose journal is kept and judged in the end."""
 
-    def __init__(self, build, journal=None, daemon_words=()):
+    def __init__(self, build, journal=None, daemon_environment=()):
         self.build = build
         self.folder = tempfile.mkdtemp(prefix="hullpippin-stage-")
         self.socket = f"{self.folder}/socket"
@@ -103,10 +103,10 @@ class Stage:
         self.entries = None
         self.others = []
         self.environment = {**build.environment, "HULLPIPPIN_SOCKET": self.socket, "PATH": os.environ["PATH"], "HOME": self.folder}
-        words = [build.daemon, "--socket", self.socket, *daemon_words]
+        words = [build.daemon, "--socket", self.socket]
         if journal:
             words += ["--journal", f"{journal}={self.journal}"]
-        self.daemon = Process(words, self.environment, f"{self.folder}/daemon.log")
+        self.daemon = Process(words, {**self.environment, **dict(daemon_environment)}, f"{self.folder}/daemon.log")
         self.environment["RAW_DAEMON"] = str(self.daemon.pid)
 
     def __enter__(self):
