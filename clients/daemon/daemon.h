@@ -132,7 +132,8 @@ struct engine {
     struct list by_pid[256];  /* processes by the pid that they have in the engine */
     uint32_t last_pid;        /* of those that are given where a process's own is taken */
     struct process *manager;
-    struct list watchers;     /* threads that wait in a read, or have a doorbell */
+    struct list looked_at;    /* threads that are looked at one by one (settle.c) */
+    struct list resting;      /* processes with threads that wait for whatever comes to the process */
 };
 
 struct engine *engine_new(struct daemon *daemon, const char *device, uint32_t seats, const char *journal);
@@ -192,13 +193,14 @@ struct process {
     struct daemon *daemon;
     struct list in_engine, in_bucket;
     struct list threads;
+    struct list idle, in_resting; /* settle.c */
     pid_t pid;
     uid_t euid;
     uint32_t engine_pid;  /* 0: it has no window, and so isn't in the engine yet */
     struct window window;
     uint32_t thread_count;
     uint32_t max_threads, requested, started; /* BR_SPAWN_LOOPER */
-    uint64_t *handed;     /* a bit for each 8 bytes of the window: a buffer that the client has begins there */
+    uint64_t *handed;     /* a bit for each 8 bytes of the window: a one-way buffer that the client has begins there; NULL: none yet */
 };
 
 void process_accept(struct daemon *daemon, int fd);
@@ -220,7 +222,7 @@ struct landing {
 struct thread {
     struct watch link, bell;
     struct process *process;
-    struct list in_process, in_watchers;
+    struct list in_process, in_watch;
     struct page *page;
     uint32_t seat;
 
@@ -249,8 +251,6 @@ int thread_join(struct process *process, int fds[3]);
 void thread_end(struct thread *thread);
 /* Lets go of a thread whose process has ended in the engine. */
 void thread_free(struct thread *thread);
-/* Puts the thread among its engine's watchers, or takes it off, as it waits or has a doorbell. */
-void thread_watch(struct thread *thread);
 /* The landing, empty. NULL where there is no memory. */
 struct landing *thread_landing(struct thread *thread);
 
@@ -296,10 +296,23 @@ void parcel_discard(struct engine *engine, const struct binder_transaction_data 
 
 /* --- returns.c: the read of a BINDER_WRITE_READ. --- */
 
-/* The thread waits for returns, of which `settle` answers so many bytes as soon as there are any. */
-void read_begin(struct thread *thread, uint32_t room);
-/* Answers the reads that can be answered, and puts all doorbells right. Follows each request that makes steps. */
-void settle(struct engine *engine);
+/* Whether the thread has something to be handed over. */
+bool returns_are_there(const struct thread *thread);
+/* Reads once from the engine: 0 or an errno. */
+int returns_fetch(struct thread *thread);
+/* Answers the thread's read with what is there. */
+void returns_deliver(struct thread *thread);
+
+/* --- settle.c: whom a step makes ready. --- */
+
+/* Puts the thread where it belongs by what it waits for; follows each change of that. */
+void settle_watch(struct thread *thread);
+void settle_forget(struct thread *thread);
+/* Answers the reads that can be answered, and puts all doorbells right. Follows each request that makes steps; the thread that has
+   made them, if there is one, comes last. */
+void settle(struct engine *engine, struct thread *acting);
+/* Puts the doorbells of a process right. */
+void settle_doorbells(struct process *process);
 
 /* --- drain.c: what is unread where a thread or a process ends. --- */
 

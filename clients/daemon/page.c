@@ -36,7 +36,7 @@ static void answer_error(struct thread *thread, int error)
 void page_interrupt(struct thread *thread, int error)
 {
     thread->is_waiting = false;
-    thread_watch(thread);
+    settle_watch(thread);
     answer_error(thread, error);
 }
 
@@ -67,8 +67,10 @@ static int write_read(struct thread *thread, const struct page_request *request)
     page_copy(stream, thread->page->stream, request->stream_size);
     error = commands_run(thread, stream, request->stream_size, fds, fd_count);
     descriptors_close(fds, fd_count);
-    if (!error && request->room)
-        read_begin(thread, request->room);
+    if (!error && request->room) {
+        thread->is_waiting = true;
+        thread->room = request->room;
+    }
     return error;
 }
 
@@ -96,7 +98,6 @@ static int give_doorbell(struct thread *thread)
     uint32_t count = 1;
     if (!doorbell_make(thread))
         return EMFILE;
-    thread_watch(thread);
     if (!packet_send(thread->link.fd, &count, sizeof count, &thread->doorbell_end, 1))
         return EAGAIN;
     thread->answer.descriptors = 1;
@@ -143,7 +144,8 @@ void page_rung(struct thread *thread)
     struct engine *engine = thread->process->engine;
     int error = do_request(thread, &request);
     bool reads = thread->is_waiting;
-    settle(engine);
+    settle_watch(thread);
+    settle(engine, thread);
     if (!reads)
         answer_error(thread, error);
     else if (thread->is_waiting && request.flags & PAGE_NONBLOCK)

@@ -49,7 +49,7 @@ static uint32_t free_pid(struct engine *engine, pid_t pid)
 
 void process_note_handed(struct process *process, uint64_t place, bool handed)
 {
-    if (place >= process->window.size)
+    if (place >= process->window.size || (!process->handed && !handed))
         return;
     if (!process->handed)
         process->handed = calloc(process->window.size / 8 / 64, sizeof *process->handed);
@@ -174,6 +174,8 @@ void process_accept(struct daemon *daemon, int fd)
     list_append(&daemon->strangers, &process->in_engine);
     list_begin(&process->in_bucket);
     list_begin(&process->threads);
+    list_begin(&process->idle);
+    list_begin(&process->in_resting);
     if (!loop_add(&daemon->loop, &process->control, EPOLLIN | EPOLLRDHUP)) {
         list_remove(&process->in_engine);
         close(fd);
@@ -215,5 +217,5 @@ void process_end(struct process *process)
     bool was_open = process->engine_pid != 0;
     free(process);
     if (was_open)
-        settle(engine);
+        settle(engine, NULL);
 }

@@ -7,15 +7,7 @@
 #include <errno.h>
 #include <string.h>
 
-void read_begin(struct thread *thread, uint32_t room)
-{
-    thread->is_waiting = true;
-    thread->room = room;
-    thread_watch(thread);
-}
-
-/* Whether there is something to hand over. */
-static bool is_answerable(const struct thread *thread)
+bool returns_are_there(const struct thread *thread)
 {
     return thread->pending_size && thread->is_prompt;
 }
@@ -66,8 +58,7 @@ static void take_return(struct thread *thread, uint8_t *bytes, uint32_t size)
     append(thread, bytes, size);
 }
 
-/* Reads once from the engine: 0 or an errno. */
-static int fetch(struct thread *thread)
+int returns_fetch(struct thread *thread)
 {
     static uint8_t stream[PAGE_RETURNS];
     struct engine *engine = thread->process->engine;
@@ -130,21 +121,8 @@ static uint32_t fitting(struct thread *thread, uint32_t room)
     return size;
 }
 
-/* A thread's own doorbell, and those of its process's other threads, whose work it may have taken, are right before its answer. */
-static void set_doorbell(struct thread *thread)
-{
-    if (thread->doorbell >= 0 && thread->seat != NO_SEAT)
-        doorbell_set(thread, is_answerable(thread) || hullpippin_live_ready(&thread->process->engine->live, thread->seat));
-}
-
-static void set_doorbells(struct process *process)
-{
-    for (struct list *entry = process->threads.next; entry != &process->threads; entry = entry->next)
-        set_doorbell(container_of(entry, struct thread, in_process));
-}
-
-/* Hands over what fits, behind BR_NOOP. */
-static void deliver(struct thread *thread)
+/* What fits is handed over, behind BR_NOOP. The doorbells of the process, some of whose work this may have been, are right before. */
+void returns_deliver(struct thread *thread)
 {
     uint8_t returns[PAGE_RETURNS];
     uint32_t first = BR_NOOP, size = 0;
@@ -159,36 +137,7 @@ static void deliver(struct thread *thread)
     }
     thread->is_prompt = thread->pending_size > 0;
     thread->is_waiting = false;
-    thread_watch(thread);
-    set_doorbells(thread->process);
+    settle_watch(thread);
+    settle_doorbells(thread->process);
     page_answer(thread, returns, size);
-}
-
-/* One look at a watcher. Whether it has made a step. */
-static bool look(struct thread *thread)
-{
-    if (!thread->is_waiting) {
-        set_doorbell(thread);
-        return false;
-    }
-    bool reads = !is_answerable(thread) && hullpippin_live_ready(&thread->process->engine->live, thread->seat);
-    int error = reads ? fetch(thread) : 0;
-    if (error)
-        page_interrupt(thread, error);
-    else if (is_answerable(thread))
-        deliver(thread);
-    return reads;
-}
-
-/* A read may make others ready, as by notices of objects, or the other way round: all are looked at until none has read. */
-void settle(struct engine *engine)
-{
-    bool again;
-    do {
-        again = false;
-        for (struct list *entry = engine->watchers.next, *next; entry != &engine->watchers; entry = next) {
-            next = entry->next;
-            again |= look(container_of(entry, struct thread, in_watchers));
-        }
-    } while (again);
 }

@@ -12,6 +12,7 @@ static void put_back(struct thread *thread)
     thread->seat = NO_SEAT;
     thread->is_looper = false;
     thread->serving = thread->calling = thread->refusals = 0;
+    settle_watch(thread);
 }
 
 /* Whether the thread would lose nothing with its seat. */

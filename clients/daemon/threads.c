@@ -26,7 +26,7 @@ static void link_ready(struct watch *watch, uint32_t events)
     struct thread *thread = container_of(watch, struct thread, link);
     struct engine *engine = thread->process->engine;
     thread_end(thread);
-    settle(engine);
+    settle(engine, NULL);
 }
 
 static void bell_ready(struct watch *watch, uint32_t events)
@@ -78,7 +78,7 @@ static struct thread *new_thread(struct process *process, const struct parts *pa
     thread->seat = NO_SEAT;
     thread->doorbell = thread->doorbell_end = -1;
     list_append(&process->threads, &thread->in_process);
-    list_begin(&thread->in_watchers);
+    list_begin(&thread->in_watch);
     process->thread_count++;
     return thread;
 }
@@ -107,15 +107,6 @@ int thread_join(struct process *process, int fds[3])
     fds[1] = parts.memory;
     fds[2] = parts.bell;
     return 0;
-}
-
-void thread_watch(struct thread *thread)
-{
-    bool is_in = !list_is_empty(&thread->in_watchers), belongs = thread->is_waiting || thread->doorbell >= 0;
-    if (belongs && !is_in)
-        list_append(&thread->process->engine->watchers, &thread->in_watchers);
-    else if (is_in && !belongs)
-        list_remove(&thread->in_watchers);
 }
 
 struct landing *thread_landing(struct thread *thread)
@@ -149,7 +140,7 @@ void thread_free(struct thread *thread)
     loop_drop(loop, &thread->link);
     loop_drop(loop, &thread->bell);
     munmap(thread->page, sizeof *thread->page);
-    list_remove(&thread->in_watchers);
+    settle_forget(thread);
     list_remove(&thread->in_process);
     thread->process->thread_count--;
     free(thread);
