@@ -61,7 +61,7 @@ int main(void)
     CHECK(raw_now() - start < 250000, "a one-way call waited for the server");
     /* a two-way call may overtake one-way ones: it is asked until all have come */
     uint32_t come = 0;
-    for (int turn = 0; turn < 100 && come < CALLS; turn++)
+    for (int turn = 0; turn < 5000 && come < CALLS; turn++, usleep(1000))
         come = raw_ask(&client.looper, (struct call){.code = TELL});
     CHECK(come == CALLS, "%u of %u calls came", come, CALLS);
     overfill(&client);

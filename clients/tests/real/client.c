@@ -75,6 +75,7 @@ static void play_time(void)
     }
     qsort(times, calls, sizeof *times, compared);
     printf("median %ld tenth %ld last %ld\n", (long)times[calls / 2], (long)times[calls / 10], (long)times[calls * 99 / 100]);
+    g_free(times);
 }
 
 static void play_oneway(void)
@@ -109,6 +110,7 @@ static GBinderLocalRequest *with_object(void)
     GBinderLocalRequest *with = request();
     GBinderLocalObject *object = gbinder_servicemanager_new_local_object(manager, CALLBACK_INTERFACE, on_call_back, NULL);
     gbinder_local_request_append_local_object(with, object);
+    gbinder_local_object_unref(object); /* the request and whoever gets it keep it */
     return with;
 }
 
@@ -192,8 +194,10 @@ static void play_death(void)
     g_timeout_add(20000, give_up, NULL);
     g_main_loop_run(loop);
     NEED(is_told, "the service's death wasn't told");
-    GBinderRemoteReply *reply = gbinder_client_transact_sync_reply(client, ECHO, request(), &status);
+    GBinderLocalRequest *with = request();
+    GBinderRemoteReply *reply = gbinder_client_transact_sync_reply(client, ECHO, with, &status);
     NEED(!reply, "the dead answer");
+    gbinder_local_request_unref(with);
     printf("heard of the service's death\n");
 }
 
@@ -228,6 +232,7 @@ static void play_big(void)
         NEED(back && come == size && !memcmp(back, bytes, size), "%zu bytes came back for %zu, or others", come, size);
         gbinder_remote_reply_unref(reply);
     }
+    g_free(bytes);
     printf("%zu bytes came back the same\n", size);
 }
 
@@ -243,6 +248,7 @@ static void play_past(void)
         gbinder_local_request_unref(with);
         echo("and yet");
     }
+    g_free(bytes);
     printf("%zu bytes were refused\n", size);
 }
 
@@ -302,6 +308,7 @@ static void play_mixed(void)
     const void *back = gbinder_reader_get_data(&come, &size_back);
     NEED(size_back == size - header && !memcmp(back, copy, size_back), "other values came back");
     gbinder_remote_reply_unref(reply);
+    g_free(copy);
     printf("%zu bytes of values came back the same\n", size_back);
 }
 
