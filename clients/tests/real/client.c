@@ -105,12 +105,12 @@ static GBinderLocalReply *on_call_back(GBinderLocalObject *object, GBinderRemote
     return reply;
 }
 
-static GBinderLocalRequest *with_object(void)
+/* A request with a new object, which has to be kept as long as others may have it. */
+static GBinderLocalRequest *with_object(GBinderLocalObject **object)
 {
     GBinderLocalRequest *with = request();
-    GBinderLocalObject *object = gbinder_servicemanager_new_local_object(manager, CALLBACK_INTERFACE, on_call_back, NULL);
-    gbinder_local_request_append_local_object(with, object);
-    gbinder_local_object_unref(object); /* the request and whoever gets it keep it */
+    *object = gbinder_servicemanager_new_local_object(manager, CALLBACK_INTERFACE, on_call_back, NULL);
+    gbinder_local_request_append_local_object(with, *object);
     return with;
 }
 
@@ -135,7 +135,8 @@ static gboolean give_up(gpointer with)
 static void play_nested(void)
 {
     for (long i = 0; i < numbers[0]; i++) {
-        GBinderLocalRequest *with = with_object();
+        GBinderLocalObject *object;
+        GBinderLocalRequest *with = with_object(&object);
         nested_answer = -1;
         gbinder_client_transact(client, CALL_BACK, 0, with, on_nested, NULL, NULL);
         gbinder_local_request_unref(with);
@@ -143,6 +144,7 @@ static void play_nested(void)
         g_main_loop_run(loop);
         g_source_remove(patience);
         NEED(nested_answer == 42, "nested call %ld gave %d", i, nested_answer);
+        gbinder_local_object_drop(object);
     }
     printf("%ld calls with a call back\n", numbers[0]);
 }
@@ -150,7 +152,8 @@ static void play_nested(void)
 /* Gives an object and is gone without a word; the service is to hear of it. */
 static void play_keep(void)
 {
-    NEED(asked(KEEP, with_object()) == 0, "the object wasn't kept");
+    GBinderLocalObject *object;
+    NEED(asked(KEEP, with_object(&object)) == 0, "the object wasn't kept");
     printf("kept\n");
     _exit(0);
 }
