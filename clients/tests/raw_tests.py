@@ -1,5 +1,7 @@
 """Tests with our own clients alone, which need nothing but the kernel's header."""
-from stage import Stage, expect, open_files, resident
+import time
+
+from stage import Stage, expect, open_files, processor_time, resident
 from suite import figures, test
 
 # what a round trip may take, in microseconds
@@ -7,6 +9,8 @@ ROUND_TRIP = 25
 # a call with hundreds of services may take so much longer than with one
 SLACK = 1.25
 ROUNDS = 5
+# hostile clients may leave so much behind in the daemon
+FUZZ_KIB = 65536
 
 DEVICE = "/dev/binder"
 
@@ -72,6 +76,19 @@ def churn(build):
     return told
 
 
+@test("raw idle")
+def idle(build):
+    """While its clients wait, the daemon does too."""
+    with Stage(build) as stage:
+        stage.manage()
+        stage.manage("hwservicemanager")
+        before = processor_time(stage.daemon.pid)
+        time.sleep(2)
+        used = processor_time(stage.daemon.pid) - before
+        expect(used <= 0.1, f"the daemon used {used} s of processor time in 2 s with nothing to do")
+    return f"{used} s of processor time in 2 s"
+
+
 @test("raw fuzz")
 def fuzz(build):
     """Hostile clients for a minute; an honest pair calls meanwhile, and others are served afterwards."""
@@ -86,6 +103,7 @@ def fuzz(build):
         expect(calls["calls"] > 100 * build.fuzz_seconds, f"only {calls['calls']:.0f} calls were answered meanwhile")
         stage.run([build.raw("nested")])
         grown = resident(stage.daemon.pid) - before
+        expect(build.sanitized or grown < FUZZ_KIB, f"the daemon grew by {grown} KiB")
     return (f"{calls['calls']:.0f} calls of another client meanwhile, median {calls['median']} us (alone {alone['median']}), "
             f"longest {calls['longest'] / 1e3:.1f} ms; the daemon grew by {grown} KiB; {attacks}")
 

@@ -17,6 +17,16 @@
 #define AT_ONCE 4
 #define LONGEST_MS 600
 
+static const struct {
+    const char *name;
+    void (*play)(void);
+} acts[] = {
+    {"garbage packets", act_garbage_packets}, {"deaf", act_deaf}, {"garbage page", act_garbage_page}, {"changing page", act_changing_page},
+    {"shrinking memory", act_shrinking_memory}, {"hoard", act_hoard}, {"silent receiver", act_silent_receiver}, {"shared bell", act_shared_bell},
+    {"shared doorbell", act_shared_doorbell}, {"crowd", act_crowd}, {"ringing", act_ringing}, {"gone", act_gone},
+};
+#define ACTS (sizeof acts / sizeof *acts)
+
 struct playing {
     pid_t pid;
     double until;
@@ -59,7 +69,7 @@ static bool is_over(struct playing *playing)
 
 int main(int argc, char **argv)
 {
-    static unsigned long played[64];
+    static unsigned long played[ACTS];
     struct playing playing[AT_ONCE] = {0};
     double end = now() + (argc > 1 ? atof(argv[1]) : 60);
     uint64_t seed = argc > 2 ? strtoull(argv[2], NULL, 10) : 1;
@@ -68,7 +78,7 @@ int main(int argc, char **argv)
     for (uint64_t turn = 0; now() < end; usleep(500))
         for (size_t i = 0; i < AT_ONCE; i++)
             if (is_over(&playing[i])) {
-                size_t act = argc > 3 ? strtoul(argv[3], NULL, 10) % act_count : below((uint32_t)act_count);
+                size_t act = argc > 3 ? strtoul(argv[3], NULL, 10) % ACTS : below((uint32_t)ACTS);
                 start(&playing[i], seed * 1000003 + turn++, act);
                 played[act]++;
             }
@@ -76,7 +86,7 @@ int main(int argc, char **argv)
         if (playing[i].pid && kill(playing[i].pid, SIGKILL) == 0)
             waitpid(playing[i].pid, NULL, 0);
     printf("seed %llu", (unsigned long long)seed);
-    for (size_t i = 0; i < act_count; i++)
+    for (size_t i = 0; i < ACTS; i++)
         printf(", %s %lu", acts[i].name, played[i]);
     printf("\n");
     return 0;

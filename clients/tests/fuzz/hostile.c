@@ -167,12 +167,17 @@ void hostile_end(struct hostile *hostile)
     *hostile = (struct hostile){-1, -1, -1, -1, -1, NULL};
 }
 
+bool hostile_ring(struct hostile *hostile)
+{
+    uint64_t one = 1;
+    return write(hostile->bell, &one, sizeof one) == sizeof one;
+}
+
 bool hostile_ask(struct hostile *hostile, unsigned milliseconds)
 {
     struct timespec while_ = {.tv_nsec = milliseconds * 1000000L};
-    uint64_t one = 1;
     atomic_store(&hostile->page->state, PAGE_ASKED);
-    if (write(hostile->bell, &one, sizeof one) != sizeof one)
+    if (!hostile_ring(hostile))
         return false;
     if (milliseconds && atomic_load(&hostile->page->state) == PAGE_ASKED)
         syscall(SYS_futex, &hostile->page->state, FUTEX_WAIT, PAGE_ASKED, &while_, NULL, 0);

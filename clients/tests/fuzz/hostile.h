@@ -37,7 +37,9 @@ void hostile_end(struct hostile *hostile);
 /* Sends a packet of any bytes over a socket, with so many descriptors, and waits for nothing; false where it didn't go. */
 bool hostile_send(int socket, const void *bytes, size_t size, size_t descriptors);
 
-/* Rings for what stands in the page, and waits a moment for an answer: whether one came. */
+/* Rings, whatever stands in the page; false where that isn't possible. */
+bool hostile_ring(struct hostile *hostile);
+/* Asks for what stands in the page, and waits a moment for an answer: whether one came. */
 bool hostile_ask(struct hostile *hostile, unsigned milliseconds);
 /* The same for a stream of commands. */
 bool hostile_write(struct hostile *hostile, const void *stream, size_t size, uint32_t room, uint32_t descriptors);
