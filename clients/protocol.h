@@ -1,13 +1,14 @@
 /*
  * protocol.h: what the preloaded library and the daemon say to each other.
  *
- * An open binder file is a control socket (SOCK_SEQPACKET): one packet asks, one answers, in turn. A thread that makes its
- * first ioctl gets, over that socket, three descriptors of its own: a link (a socket for descriptors, whose end is the
- * thread's end), a page of shared memory, and a bell (an eventfd). It writes a request into its page, rings the bell, and
- * waits for the page's state by a futex. Both sides are built from one tree and run on one machine: numbers are as C has them.
+ * An open binder file is a control socket (SOCK_SEQPACKET): one packet asks, one answers, in turn. A thread that
+ * makes its first ioctl gets, over that socket, three descriptors of its own: a link (a socket for descriptors, whose
+ * end is the thread's end), a page of shared memory, and a bell (an eventfd). It writes a request into its page,
+ * rings the bell, and waits for the page's state by a futex. Both sides are built from one tree and run on one
+ * machine: numbers are as C has them.
  *
- * The daemon trusts nothing of a page: it copies what it needs, once, before it looks at it. So a field may change at any
- * time, and is read through a copy.
+ * The daemon trusts nothing of a page: it copies what it needs, once, before it looks at it. So a field may change at
+ * any time, and is read through a copy.
  */
 #ifndef HULLPIPPIN_PROTOCOL_H
 #define HULLPIPPIN_PROTOCOL_H
@@ -78,7 +79,7 @@ struct page_request {
     uint32_t stream_size; /* bytes of commands, PLACE: how many numbers */
     uint32_t room;        /* bytes for returns, 0 for no read */
     uint32_t flags;
-    uint32_t descriptors; /* how many stand in the link's next packet; they are those of the stream's first parcel with any */
+    uint32_t descriptors; /* how many stand in the link's next packet: of the one parcel that has any */
 };
 
 struct page_answer {
@@ -90,10 +91,10 @@ struct page_answer {
 };
 
 /*
- * In the stream a transaction or reply has, in `data.ptr.buffer` and `data.ptr.offsets`, places in the area. Behind the
- * offsets, at the next multiple of 8, are the buffers of PTR objects; the `buffer` of such an object is the place among them.
- * An FD object, and each element of an FDA's array, has the descriptor's index in the packet. A parcel that doesn't fit into
- * the area has PAGE_NOWHERE for its places.
+ * In the stream a transaction or reply has, in `data.ptr.buffer` and `data.ptr.offsets`, places in the area. Behind
+ * the offsets, at the next multiple of 8, are the buffers of PTR objects; the `buffer` of such an object is the place
+ * among them. An FD object, and each element of an FDA's array, has the descriptor's index in the packet. A parcel
+ * that doesn't fit into the area has PAGE_NOWHERE for its places.
  */
 #define PAGE_NOWHERE UINT64_MAX
 

@@ -1,6 +1,6 @@
 /*
- * commands.c: the write half of a BINDER_WRITE_READ. Each command is one step of the engine. What the engine has no command for is
- * done here: registered loopers, and the scatter-gather forms of transactions and replies.
+ * commands.c: the write half of a BINDER_WRITE_READ. Each command is one step of the engine. What the engine has no
+ * command for is done here: registered loopers, and the scatter-gather forms of transactions and replies.
  */
 #include "daemon.h"
 
@@ -26,7 +26,8 @@ struct run {
     uint32_t fd_count;
 };
 
-/* What a transaction or reply leaves of the thread: its frames, and whether its next read has something to tell at once. */
+/* What a transaction or reply leaves of the thread: its frames, and whether its next read has something to tell at
+   once. */
 static void note_call(struct thread *thread, bool is_reply, bool is_one_way, const hullpippin_answer *answer)
 {
     enum { NO_CALL = 15 }; /* X15: there is no frame that the reply would close */
@@ -119,6 +120,10 @@ static int run_command(struct run *run, uint32_t code, const uint8_t *command)
     case BC_ENTER_LOOPER:
     case BC_EXIT_LOOPER:
         return run_looper(run, code);
+    case BC_CLEAR_DEATH_NOTIFICATION:
+    case BC_DEAD_BINDER_DONE:
+        run->thread->is_prompt = true; /* there may be a BR_CLEAR_DEATH_NOTIFICATION_DONE, which doesn't wait for a reply */
+        return engine_command(run->engine, run->thread->seat, command, sizeof code + _IOC_SIZE(code));
     default:
         return engine_command(run->engine, run->thread->seat, command, sizeof code + _IOC_SIZE(code));
     }

@@ -1,9 +1,9 @@
 /*
  * daemon.h: what the files of the daemon share.
  *
- * The daemon has one thread. It waits for all of its descriptors at once (loop.c), and nothing that it does waits for a
- * client. An engine stands behind each device name (engine.c); an open file is a process of it (processes.c), a client's
- * thread one of its seats (threads.c, seats.c).
+ * The daemon has one thread. It waits for all of its descriptors at once (loop.c), and nothing that it does waits for
+ * a client. An engine stands behind each device name (engine.c); an open file is a process of it (processes.c), a
+ * client's thread one of its seats (threads.c, seats.c).
  */
 #ifndef HULLPIPPIN_DAEMON_H
 #define HULLPIPPIN_DAEMON_H
@@ -25,7 +25,8 @@
 #define READ_LEAST 72u
 #define READ_LONGEST 68u
 
-/* A flag that no binder header has: the parcel ends with a `struct trailer` (parcels.c). The daemon takes it off what clients write. */
+/* A flag that no binder header has: the parcel ends with a `struct trailer` (parcels.c). The daemon takes it off what
+   clients write. */
 #define FLAG_TRAILER 0x80000000u
 
 /* No seat is lent. */
@@ -67,7 +68,8 @@ static inline void list_remove(struct list *entry)
 
 /* --- loop.c: one wait for all descriptors. --- */
 
-/* A descriptor that is waited for. `ready` may drop and free any watch, its own too: events are fetched one at a time. */
+/* A descriptor that is waited for. `ready` may drop and free any watch, its own too: events are fetched one at a
+   time. */
 struct watch {
     int fd; /* -1: it isn't waited for */
     void (*ready)(struct watch *watch, uint32_t events);
@@ -105,6 +107,7 @@ struct journal {
     bool is_dirty;
 };
 
+/* Closed it has to be in either case. */
 bool journal_open(struct journal *journal, const char *path, hullpippin_live *live);
 /* Appends the latest step's entry. A journal that can't have it is given up: its file is no journal. */
 void journal_append(struct journal *journal, hullpippin_live *live);
@@ -122,6 +125,7 @@ struct engine {
     hullpippin_live live;
     struct journal journal;
     hullpippin_answer answer; /* of the latest step */
+    bool has_stepped;         /* since others were last looked at (settle.c) */
 
     uint32_t seats;           /* seat 0 is the daemon's own, by which processes begin and end */
     struct thread **lent;     /* by seat: whose it is, or NULL */
@@ -131,7 +135,6 @@ struct engine {
     struct list processes;
     struct list by_pid[256];  /* processes by the pid that they have in the engine */
     uint32_t last_pid;        /* of those that are given where a process's own is taken */
-    struct process *manager;
     struct list looked_at;    /* threads that are looked at one by one (settle.c) */
     struct list resting;      /* processes with threads that wait for whatever comes to the process */
 };
@@ -173,7 +176,8 @@ void window_free(struct window *window);
 
 /* --- descriptors.c: descriptors of parcels that nobody has read yet. --- */
 
-/* Takes a descriptor over. Answers what `descriptor_take` knows it by; where all places are used, the oldest is closed. */
+/* Takes a descriptor over. Answers what `descriptor_take` knows it by; where all places are used, the oldest is
+   closed. */
 uint32_t descriptor_hold(int fd);
 /* The descriptor, which is the caller's then, or -1 where it is no longer there. */
 int descriptor_take(uint32_t held);
@@ -200,7 +204,7 @@ struct process {
     struct window window;
     uint32_t thread_count;
     uint32_t max_threads, requested, started; /* BR_SPAWN_LOOPER */
-    uint64_t *handed;     /* a bit for each 8 bytes of the window: a one-way buffer that the client has begins there; NULL: none yet */
+    uint64_t *handed;     /* a bit for each 8 bytes of the window: a one-way buffer that the client has begins there */
 };
 
 void process_accept(struct daemon *daemon, int fd);
@@ -231,21 +235,23 @@ struct thread {
     uint32_t refusals;         /* refused commands whose BR_FAILED_REPLY or BR_DEAD_REPLY isn't read yet */
 
     bool is_waiting;           /* in a read */
+    bool defers;               /* .. after a call, of which only the completion can be there yet */
     uint32_t room;             /* of that read */
     struct page_answer answer; /* what its request has come to so far */
 
     int doorbell, doorbell_end; /* ours and the client's; -1: it has none */
     bool is_rung;
 
-    /* Returns that were read from the engine and not handed over yet. Where they are the completion of a call and no more, they
-       wait for what is to come (the kernel's deferred completion). */
+    /* Returns that were read from the engine and not handed over yet. Where they are the completion of a call and no
+       more, they wait for what is to come (the kernel's deferred completion). */
     uint8_t pending[PAGE_RETURNS + READ_LEAST];
     uint32_t pending_size;
     bool is_prompt; /* they don't wait, or will not: there is or will be more than that */
     struct landing *landing; /* NULL: no parcel had descriptors yet */
 };
 
-/* Makes a thread of the process. Tells its end of the link, its page and its bell, of which the first two are the caller's. */
+/* Makes a thread of the process. Tells its end of the link, its page and its bell, of which the first two are the
+   caller's. */
 int thread_join(struct process *process, int fds[3]);
 /* Ends the thread, also in the engine. */
 void thread_end(struct thread *thread);
@@ -266,8 +272,8 @@ void page_copy(void *to, const void *from, size_t size);
 
 /* --- commands.c: the write of a BINDER_WRITE_READ. --- */
 
-/* Runs the commands, and tells in the thread's answer how far that came. The descriptors stay the caller's, but for those that a
-   parcel has taken, which are -1 then. */
+/* Runs the commands, and tells in the thread's answer how far that came. The descriptors stay the caller's, but for
+   those that a parcel has taken, which are -1 then. */
 int commands_run(struct thread *thread, const uint8_t *stream, uint32_t size, int *fds, uint32_t fd_count);
 
 /* --- parcels.c: PTR, FD and FDA objects, of which the engine knows nothing. --- */
@@ -308,8 +314,8 @@ void returns_deliver(struct thread *thread);
 /* Puts the thread where it belongs by what it waits for; follows each change of that. */
 void settle_watch(struct thread *thread);
 void settle_forget(struct thread *thread);
-/* Answers the reads that can be answered, and puts all doorbells right. Follows each request that makes steps; the thread that has
-   made them, if there is one, comes last. */
+/* Answers the reads that can be answered, and puts all doorbells right. Follows each request that makes steps; the
+   thread that has made them, if there is one, comes last. */
 void settle(struct engine *engine, struct thread *acting);
 /* Puts the doorbells of a process right. */
 void settle_doorbells(struct process *process);

@@ -1,14 +1,17 @@
 /*
- * descriptors.c: descriptors of parcels that nobody has read yet. The parcel has a number in the place of each, which only the
- * daemon writes: it names a place here, and how often that place was used before.
+ * descriptors.c: descriptors of parcels that nobody has read yet. The parcel has a number in the place of each, which
+ * only the daemon writes: it names a place here, and how often that place was used before.
  *
- * What is unread when its receiver ends is read by the daemon (returns.c), so that nothing stays here for good. Should that
- * not be enough, as with very many unread parcels, the oldest descriptor goes once all places are used.
+ * What is unread when its receiver ends is read by the daemon (returns.c), so that nothing stays here for good.
+ * Should that not be enough, as with very many unread parcels, the oldest descriptor goes once all places are used.
  */
 #include "daemon.h"
 
 #include <fcntl.h>
 #include <pthread.h>
+#include <sys/mman.h>
+#include <sys/socket.h>
+#include <sys/stat.h>
 #include <unistd.h>
 
 #define PLACE_BITS 12
@@ -39,7 +42,7 @@ uint32_t descriptor_hold(int fd)
 {
     uint32_t place = free_place();
     if (places[place].is_used) {
-        log_line("a descriptor that nobody has fetched is closed, %u are held", used);
+        log_event("a descriptor that nobody has fetched is closed, %u are held", used);
         descriptors_close(&places[place].fd, 1);
         used--;
     }
@@ -66,10 +69,26 @@ bool descriptors_are_held(void)
 }
 
 /*
- * A client's descriptor may be one whose end takes its time, as a socket's that lingers; so they are closed by a thread of their own,
- * which gets them by a pipe. Where that is full, for want of a descriptor that closes, this one stays open.
+ * A client's descriptor may be one whose end takes its time, as a socket's that lingers, or a file's behind a
+ * network. Pipes, memory and other sockets are closed at once. The rest is closed by a thread of its own, which gets
+ * it by a pipe; where that is full, for want of a descriptor that closes, this one stays open.
  */
 static int closing[2] = {-1, -1};
+
+/* The device that memory files are on: that of all that memfd_create makes. */
+static dev_t memory_device;
+
+static bool closes_at_once(int fd)
+{
+    struct stat stat;
+    struct linger linger = {0};
+    socklen_t size = sizeof linger;
+    if (fstat(fd, &stat))
+        return true;
+    if (S_ISSOCK(stat.st_mode))
+        return getsockopt(fd, SOL_SOCKET, SO_LINGER, &linger, &size) == 0 && !linger.l_onoff;
+    return S_ISFIFO(stat.st_mode) || (S_ISREG(stat.st_mode) && stat.st_dev == memory_device);
+}
 
 static void *close_all(void *unused)
 {
@@ -80,17 +99,30 @@ static void *close_all(void *unused)
     return NULL;
 }
 
+static bool find_memory_device(void)
+{
+    struct stat stat;
+    int fd = memfd_create("hullpippin-memory", MFD_CLOEXEC);
+    bool is_found = fd >= 0 && fstat(fd, &stat) == 0;
+    descriptor_close(&fd);
+    if (is_found)
+        memory_device = stat.st_dev;
+    return is_found;
+}
+
 bool descriptors_begin(void)
 {
     pthread_t thread;
-    return pipe2(closing, O_CLOEXEC) == 0 && fcntl(closing[1], F_SETFL, O_NONBLOCK) == 0
+    return find_memory_device() && pipe2(closing, O_CLOEXEC) == 0 && fcntl(closing[1], F_SETFL, O_NONBLOCK) == 0
            && pthread_create(&thread, NULL, close_all, NULL) == 0 && pthread_detach(thread) == 0;
 }
 
 void descriptors_close(int *fds, uint32_t count)
 {
     for (uint32_t i = 0; i < count; i++) {
-        if (fds[i] >= 0 && write(closing[1], &fds[i], sizeof fds[i]) != sizeof fds[i])
+        if (fds[i] >= 0 && closes_at_once(fds[i]))
+            close(fds[i]);
+        else if (fds[i] >= 0 && write(closing[1], &fds[i], sizeof fds[i]) != sizeof fds[i])
             log_event("descriptor %d stays open", fds[i]);
         fds[i] = -1;
     }

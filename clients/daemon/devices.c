@@ -1,4 +1,7 @@
-/* devices.c: the device names, and the engine of each: made when a client first opens it, or at once where it has a journal. */
+/*
+ * devices.c: the device names, and the engine of each: made when a client first opens it, or at once where it has a
+ * journal.
+ */
 #include "daemon.h"
 
 #include <errno.h>

@@ -1,9 +1,10 @@
 /*
- * doorbells.c: what a client's thread polls in the place of its binder file. It is readable while the thread's read would find
- * something.
+ * doorbells.c: what a client's thread polls in the place of its binder file. It is readable while the thread's read
+ * would find something.
  *
- * It is a pair of sockets, of which the daemon keeps both ends: it rings by a byte, and takes the byte back, each without waiting
- * whatever the client has made of its end. An eventfd would be one description for both, which a client could make block.
+ * It is a pair of sockets, of which the daemon keeps both ends: it rings by a byte, and takes the byte back, each
+ * without waiting whatever the client has made of its end. An eventfd would be one description for both, which a
+ * client could make block.
  */
 #include "daemon.h"
 

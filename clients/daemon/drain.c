@@ -1,6 +1,7 @@
 /*
- * drain.c: what is unread where a thread or a process ends. The engine forgets it then, but the daemon may hold descriptors for it;
- * so it reads it first. For everybody else that comes to the same: who has read a call and ends leaves its caller without a reply.
+ * drain.c: what is unread where a thread or a process ends. The engine forgets it then, but the daemon may hold
+ * descriptors for it; so it reads it first. For everybody else that comes to the same: who has read a call and ends
+ * leaves its caller without a reply.
  */
 #include "daemon.h"
 
@@ -62,7 +63,8 @@ void drain_thread(struct thread *thread)
         ;
 }
 
-/* Reads the process's list until it is empty. A thread that has read a call isn't free to read on, so another takes its place. */
+/* Reads the process's list until it is empty. A thread that has read a call isn't free to read on, so another takes
+   its place. */
 static void read_list(struct process *process, uint32_t *steps)
 {
     struct engine *engine = process->engine;
@@ -81,7 +83,8 @@ static void read_list(struct process *process, uint32_t *steps)
     }
 }
 
-/* One-way calls wait for the buffers of those before them: what the client has of these goes, and then all is on the list. */
+/* One-way calls wait for the buffers of those before them: what the client has of these goes, and then all is on the
+   list. */
 void drain_process(struct process *process)
 {
     struct engine *engine = process->engine;

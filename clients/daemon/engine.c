@@ -1,6 +1,6 @@
 /*
- * engine.c: the engine of one device name. All steps are made here: each goes to the journal, and a history that can take no
- * more ends the daemon.
+ * engine.c: the engine of one device name. All steps are made here: each goes to the journal, and a history that can
+ * take no more ends the daemon.
  */
 #include "daemon.h"
 
@@ -56,6 +56,7 @@ static int stepped(struct engine *engine, uint32_t status)
 {
     switch (status) {
     case HULLPIPPIN_DONE:
+        engine->has_stepped = true;
         journal_append(&engine->journal, &engine->live);
         return 0;
     case HULLPIPPIN_NO_MEMORY:

@@ -1,6 +1,6 @@
 /*
- * journal.c: the file that an engine's entries go to. It begins with the heading of more entries than there ever are, so that
- * nobody takes a file that was cut off for a journal; the right number is put there at the end.
+ * journal.c: the file that an engine's entries go to. It begins with the heading of more entries than there ever are,
+ * so that nobody takes a file that was cut off for a journal; the right number is put there at the end.
  */
 #include "daemon.h"
 
@@ -33,7 +33,6 @@ bool journal_open(struct journal *journal, const char *path, hullpippin_live *li
     journal->file = journal->entry ? fopen(path, "wbe") : NULL;
     if (!journal->file) {
         log_line("%s: %s", path, strerror(errno));
-        free(journal->entry);
         return false;
     }
     setvbuf(journal->file, NULL, _IOFBF, FILE_BUFFER);

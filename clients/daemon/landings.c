@@ -1,6 +1,6 @@
 /*
- * landings.c: how a parcel that was read gets to its receiver: into the window, at the place that the engine has chosen, with the
- * pointers and descriptors that only this side of the engine knows (parcels.c).
+ * landings.c: how a parcel that was read gets to its receiver: into the window, at the place that the engine has
+ * chosen, with the pointers and descriptors that only this side of the engine knows (parcels.c).
  */
 #include "objects.h"
 

@@ -3,6 +3,7 @@
 
 #include <errno.h>
 #include <getopt.h>
+#include <limits.h>
 #include <signal.h>
 #include <stdlib.h>
 #include <string.h>
@@ -107,11 +108,12 @@ static void raise_limits(void)
     }
 }
 
-/* The first process waits until the second tells that clients may come, and ends with its status. What the second gets is where it
-   tells that; -1 where it can't be. */
+/* The first process waits until the second tells that clients may come, and ends with its status. What the second
+   gets is where it tells that; -1 where it can't be. */
 static int go_to_background(void)
 {
     int ends[2];
+    close_range(3, UINT_MAX, 0); /* else who waits for the end of what we were given would wait for ours */
     if (pipe(ends))
         return -1;
     pid_t child = fork();

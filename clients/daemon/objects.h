@@ -1,6 +1,7 @@
 /*
- * objects.h: a parcel with its objects, as it lies in the daemon's memory: data, offsets, buffers, each up to a multiple of 8; and
- * behind these, where the parcel is wrapped, the numbers that its descriptors are held by (8 bytes each), and a trailer.
+ * objects.h: a parcel with its objects, as it lies in the daemon's memory: data, offsets, buffers, each up to a
+ * multiple of 8; and behind these, where the parcel is wrapped, the numbers that its descriptors are held by (8 bytes
+ * each), and a trailer.
  */
 #ifndef HULLPIPPIN_OBJECTS_H
 #define HULLPIPPIN_OBJECTS_H

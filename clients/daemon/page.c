@@ -1,6 +1,7 @@
 /*
- * page.c: requests in pages. A page belongs to its client as much as to the daemon, so each word of it is copied once, and only the
- * copy is looked at; no request leaves the daemon waiting, and where nothing is asked, a bell is a bell.
+ * page.c: requests in pages. A page belongs to its client as much as to the daemon, so each word of it is copied
+ * once, and only the copy is looked at; no request leaves the daemon waiting, and where nothing is asked, a bell is a
+ * bell.
  */
 #include "daemon.h"
 
@@ -58,7 +59,7 @@ static int write_read(struct thread *thread, const struct page_request *request)
 {
     static uint8_t stream[PAGE_STREAM];
     int fds[DESCRIPTORS_MAX];
-    uint32_t fd_count;
+    uint32_t fd_count, calling = thread->calling;
     if (request->stream_size > PAGE_STREAM || request->room > PAGE_RETURNS)
         return EINVAL;
     int error = fetch_descriptors(thread, request->descriptors, fds, &fd_count);
@@ -70,6 +71,8 @@ static int write_read(struct thread *thread, const struct page_request *request)
     if (!error && request->room) {
         thread->is_waiting = true;
         thread->room = request->room;
+        thread->defers = thread->calling > calling && !thread->pending_size && !thread->is_prompt
+                         && !(request->flags & PAGE_NONBLOCK);
     }
     return error;
 }
@@ -127,7 +130,8 @@ static int do_request(struct thread *thread, const struct page_request *request)
     }
 }
 
-/* All that its steps bring about for others comes before the answer. A read that waits is answered by what makes it ready. */
+/* All that its steps bring about for others comes before the answer. A read that waits is answered by what makes it
+   ready. */
 void page_rung(struct thread *thread)
 {
     struct page *page = thread->page;

@@ -1,9 +1,11 @@
 /*
- * parcels.c: what parcels have that the engine's don't: PTR objects with their buffers, FD and FDA objects with their descriptors.
+ * parcels.c: what parcels have that the engine's don't: PTR objects with their buffers, FD and FDA objects with their
+ * descriptors.
  *
- * A parcel with such objects goes through the engine as one with more data: behind its own data are all its offsets, the buffers,
- * the numbers that its descriptors are held by, and a trailer that says how much each is. Only the objects that the engine knows
- * are told to it. The receiver sees the data and all offsets; landings.c puts pointers and descriptors right on their way.
+ * A parcel with such objects goes through the engine as one with more data: behind its own data are all its offsets,
+ * the buffers, the numbers that its descriptors are held by, and a trailer that says how much each is. Only the
+ * objects that the engine knows are told to it. The receiver sees the data and all offsets; landings.c puts pointers
+ * and descriptors right on their way.
  */
 #include "objects.h"
 
@@ -134,7 +136,8 @@ static bool is_inside(uint64_t place, uint64_t size)
     return size <= PAGE_AREA && place <= PAGE_AREA - size;
 }
 
-/* Copies the parcel from the page to the daemon's memory. False where it isn't all inside of the area, or has too many objects. */
+/* Copies the parcel from the page to the daemon's memory. False where it isn't all inside of the area, or has too
+   many objects. */
 static bool copy_in(const struct objects *objects, const struct page *page, const struct binder_transaction_data *record)
 {
     uint64_t data = record->data.ptr.buffer, offsets = record->data.ptr.offsets;
@@ -151,8 +154,8 @@ static bool copy_in(const struct objects *objects, const struct page *page, cons
 }
 
 /*
- * A parcel that can't be had is given to the engine as none, for which it refuses the command. One with a bad object is given as it
- * is: the engine refuses it as well, since it knows no PTR, FD or FDA object.
+ * A parcel that can't be had is given to the engine as none, for which it refuses the command. One with a bad object
+ * is given as it is: the engine refuses it as well, since it knows no PTR, FD or FDA object.
  */
 void parcel_fetch(struct parcel *parcel, const struct page *page, const struct binder_transaction_data_sg *record, int *fds,
                   uint32_t fd_count)

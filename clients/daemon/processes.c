@@ -1,6 +1,6 @@
 /*
- * processes.c: an open file is a process of its device's engine, from its mmap on: before that it has no window. The end of its
- * control socket is its exit.
+ * processes.c: an open file is a process of its device's engine, from its mmap on: before that it has no window. The
+ * end of its control socket is its exit.
  */
 #include "daemon.h"
 
@@ -198,8 +198,6 @@ static void exit_in_engine(struct process *process)
         log_line("%s: process %u can't be ended", engine->device, process->engine_pid);
     else
         log_event("process %d, %u of %s, has ended", process->pid, process->engine_pid, engine->device);
-    if (engine->manager == process)
-        engine->manager = NULL;
 }
 
 void process_end(struct process *process)

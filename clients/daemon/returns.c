@@ -1,6 +1,6 @@
 /*
- * returns.c: the read half of a BINDER_WRITE_READ. What the engine's reads get is pending until it is handed over, since a client may
- * have less room than the engine wants, and since the completion of a call waits for the reply.
+ * returns.c: the read half of a BINDER_WRITE_READ. What the engine's reads get is pending until it is handed over,
+ * since a client may have less room than the engine wants, and since the completion of a call waits for the reply.
  */
 #include "daemon.h"
 
@@ -121,7 +121,8 @@ static uint32_t fitting(struct thread *thread, uint32_t room)
     return size;
 }
 
-/* What fits is handed over, behind BR_NOOP. The doorbells of the process, some of whose work this may have been, are right before. */
+/* What fits is handed over, behind BR_NOOP. The doorbells of the process, some of whose work this may have been, are
+   right before. */
 void returns_deliver(struct thread *thread)
 {
     uint8_t returns[PAGE_RETURNS];

@@ -1,6 +1,6 @@
 /*
- * seats.c: a thread has a seat from its first request on, until it ends. Where all seats are lent, that of a thread about which the
- * engine has nothing to remember goes to another.
+ * seats.c: a thread has a seat from its first request on, until it ends. Where all seats are lent, that of a thread
+ * about which the engine has nothing to remember goes to another.
  */
 #include "daemon.h"
 
@@ -12,6 +12,7 @@ static void put_back(struct thread *thread)
     thread->seat = NO_SEAT;
     thread->is_looper = false;
     thread->serving = thread->calling = thread->refusals = 0;
+    doorbell_set(thread, false);
     settle_watch(thread);
 }
 
@@ -49,7 +50,7 @@ bool seat_lend(struct thread *thread)
     if (engine_attach(engine, seat, thread->process->engine_pid))
         return false;
     engine->free_count--;
-    if (engine->answer.kind != HULLPIPPIN_OPENED) { /* it belongs to a process that couldn't be ended for want of memory */
+    if (engine->answer.kind != HULLPIPPIN_OPENED) { /* a process has it that couldn't be ended for want of memory */
         log_line("%s: seat %u is lost", engine->device, seat);
         return false;
     }

@@ -1,9 +1,10 @@
 /*
  * settle.c: whom a step makes ready. The engine doesn't tell, so those are asked for that may be.
  *
- * A thread that is in no call of its own gets nothing on its own list by what others do (docs/RULES.md, "Work items and reading"). If
- * it is in the loop and serves nothing, it waits for its process's list, and one such thread of a process is asked for in place of
- * them all. A thread that waits for a reply, or whose doorbell rings, is asked for itself.
+ * A thread that is in no call of its own gets nothing on its own list by what others do (docs/RULES.md, "Work items
+ * and reading"). If it is in the loop and serves nothing, it waits for its process's list, and one such thread of a
+ * process is asked for in place of them all. A thread that waits for a reply, or whose doorbell rings, is asked for
+ * itself.
  */
 #include "daemon.h"
 
@@ -52,7 +53,8 @@ void settle_doorbells(struct process *process)
         put_doorbell_right(container_of(entry, struct thread, in_process));
 }
 
-/* Looks at one thread. Whether that has changed more than its doorbell: then others may be ready that weren't, or not be any more. */
+/* Looks at one thread. Whether that has changed more than its doorbell: then others may be ready that weren't, or not
+   be any more. */
 static bool look(struct thread *thread)
 {
     if (!thread->is_waiting) {
@@ -94,7 +96,8 @@ static bool look_at_idle(struct process *process)
     return false;
 }
 
-/* Looks at all but one until something was changed. A look that changes nothing moves no other thread than that which it looks at. */
+/* Looks at all but one until something was changed. A look that changes nothing moves no other thread than that which
+   it looks at. */
 static bool look_at_others(struct engine *engine, const struct thread *acting)
 {
     for (struct list *entry = engine->looked_at.next, *next; entry != &engine->looked_at; entry = next) {
@@ -111,10 +114,14 @@ static bool look_at_others(struct engine *engine, const struct thread *acting)
     return false;
 }
 
+/* Where no step was made, others are as they were. The completion of a call is left unread until a step of others may
+   have brought the reply. */
 void settle(struct engine *engine, struct thread *acting)
 {
+    bool looks = acting && acting->seat != NO_SEAT && !(acting->is_waiting && acting->defers);
     do {
-        while (look_at_others(engine, acting))
+        while (engine->has_stepped && look_at_others(engine, acting))
             ;
-    } while (acting && acting->seat != NO_SEAT && look(acting));
+        engine->has_stepped = false;
+    } while (looks && look(acting));
 }

@@ -25,6 +25,7 @@ static void link_ready(struct watch *watch, uint32_t events)
     (void)events; /* it is only waited for its end */
     struct thread *thread = container_of(watch, struct thread, link);
     struct engine *engine = thread->process->engine;
+    page_rung(thread); /* it may have asked for something without waiting for it */
     thread_end(thread);
     settle(engine, NULL);
 }

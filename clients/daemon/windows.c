@@ -1,6 +1,6 @@
 /*
- * windows.c: a process's window is memory that the daemon writes and its client can't: it is sealed so that no later mapping may
- * write, and no size may change, before anybody else has it.
+ * windows.c: a process's window is memory that the daemon writes and its client can't: it is sealed so that no later
+ * mapping may write, and no size may change, before anybody else has it.
  */
 #include "daemon.h"
 

@@ -12,7 +12,8 @@ static _Atomic(struct device *) files[FILES];
 /* What stands for the devices of a forked child's parent. */
 static struct device forked = {.is_closed = true};
 
-/* The process that the table is of: the child of a vfork has the memory, and may close descriptors, but they are its own. */
+/* The process that the table is of: the child of a vfork has the memory, and may close descriptors, but they are its
+   own. */
 static _Atomic pid_t owner;
 
 bool device_is_path(const char *path)
@@ -26,6 +27,15 @@ bool device_is(int fd)
     return fd >= 0 && fd < FILES && atomic_load_explicit(&files[fd], memory_order_acquire);
 }
 
+/* A daemon at an address that nobody has chosen is the user's own, or root's. */
+static bool is_trusted(int fd)
+{
+    struct ucred peer;
+    socklen_t size = sizeof peer;
+    return getenv("HULLPIPPIN_SOCKET")
+           || (getsockopt(fd, SOL_SOCKET, SO_PEERCRED, &peer, &size) == 0 && (peer.uid == geteuid() || peer.uid == 0));
+}
+
 static int dial(void)
 {
     struct sockaddr_un address;
@@ -34,7 +44,7 @@ static int dial(void)
     int fd = socket(AF_UNIX, SOCK_SEQPACKET | SOCK_CLOEXEC, 0);
     if (fd < 0)
         return -1;
-    if (fd < FILES && connect(fd, (struct sockaddr *)&address, sizeof address) == 0)
+    if (fd < FILES && connect(fd, (struct sockaddr *)&address, sizeof address) == 0 && is_trusted(fd))
         return fd;
     say("no daemon at %s: %s", address.sun_path, strerror(errno));
     real()->close(fd);

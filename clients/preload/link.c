@@ -1,4 +1,7 @@
-/* link.c: a thread's way to the daemon: its page, its bell and its socket. It ends with the thread, or once its device is closed. */
+/*
+ * link.c: a thread's way to the daemon: its page, its bell and its socket. It ends with the thread, or once its
+ * device is closed.
+ */
 #include "preload.h"
 
 #include <linux/futex.h>
@@ -145,15 +148,12 @@ static bool daemon_has_gone(struct link *link)
     return real()->poll(&file, 1, 0) == 1 && file.revents & (POLLHUP | POLLERR);
 }
 
-/* A signal ends a read that waits, as in the kernel: the daemon is asked for its answer, and has one at once. */
-int link_ask(struct link *link, const struct page_request *request, struct page_answer *answer)
+/* Waits for the answer to what was asked. A signal ends a read that waits, as in the kernel: the daemon is asked for
+   its answer, and has one at once. */
+static int await(struct link *link, struct page_answer *answer)
 {
     static const struct timespec patience = {.tv_sec = LOOK_SECONDS};
     struct page *page = link->page;
-    page->request = *request;
-    atomic_store_explicit(&page->cancel, 0, memory_order_relaxed);
-    atomic_store_explicit(&page->state, PAGE_ASKED, memory_order_release);
-    ring(link);
     while (atomic_load_explicit(&page->state, memory_order_acquire) == PAGE_ASKED) {
         if (syscall(SYS_futex, &page->state, FUTEX_WAIT, PAGE_ASKED, &patience, NULL, 0) == 0)
             continue;
@@ -169,6 +169,32 @@ int link_ask(struct link *link, const struct page_request *request, struct page_
     *answer = page->answer;
     atomic_store_explicit(&page->state, PAGE_IDLE, memory_order_relaxed);
     return answer->error;
+}
+
+void link_finish(struct link *link)
+{
+    struct page_answer answer;
+    if (link->is_behind)
+        await(link, &answer);
+    link->is_behind = false;
+}
+
+void link_post(struct link *link, const struct page_request *request)
+{
+    struct page *page = link->page;
+    page->request = *request;
+    atomic_store_explicit(&page->cancel, 0, memory_order_relaxed);
+    atomic_store_explicit(&page->state, PAGE_ASKED, memory_order_release);
+    link->is_behind = true;
+    ring(link);
+}
+
+int link_ask(struct link *link, const struct page_request *request, struct page_answer *answer)
+{
+    link_finish(link);
+    link_post(link, request);
+    link->is_behind = false;
+    return await(link, answer);
 }
 
 int link_doorbell(struct link *link)

@@ -1,7 +1,7 @@
 /*
- * parcels.c: puts the parcel of a transaction or reply into the page: data, offsets, and the buffers that its PTR objects point at. In
- * the copy pointers become places, and descriptors become indices of the packet that brings them (protocol.h). The daemon judges what
- * comes; here only that is seen to that nothing is read or written past an end.
+ * parcels.c: puts the parcel of a transaction or reply into the page: data, offsets, and the buffers that its PTR
+ * objects point at. In the copy pointers become places, and descriptors become indices of the packet that brings them
+ * (protocol.h). The daemon judges what comes; here only that is seen to that nothing is read or written past an end.
  */
 #include "preload.h"
 

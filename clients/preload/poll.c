@@ -1,6 +1,6 @@
 /*
- * poll.c: waiting for a binder file. In its place the calling thread's doorbell is waited for, since it is threads that have something
- * to read. With epoll it is the doorbell of the thread that has added the file.
+ * poll.c: waiting for a binder file. In its place the calling thread's doorbell is waited for, since it is threads
+ * that have something to read. With epoll it is the doorbell of the thread that has added the file.
  */
 #include "preload.h"
 
@@ -21,7 +21,8 @@ static int doorbell_of(int fd)
     return doorbell;
 }
 
-/* Copies the files, each binder file as its doorbell, which is only ever readable. False where there is none to be had. */
+/* Copies the files, each binder file as its doorbell, which is only ever readable. False where there is none to be
+   had. */
 static bool with_doorbells(struct pollfd *to, const struct pollfd *files, nfds_t count)
 {
     memcpy(to, files, count * sizeof *files);

@@ -1,8 +1,8 @@
 /*
  * preload.h: what the files of the preloaded library share.
  *
- * The library stands between a program and libc. An open binder file is a `device`, whose descriptor is the control socket to the
- * daemon; each thread that uses it has a `link` of its own: a page, a bell, a socket (protocol.h).
+ * The library stands between a program and libc. An open binder file is a `device`, whose descriptor is the control
+ * socket to the daemon; each thread that uses it has a `link` of its own: a page, a bell, a socket (protocol.h).
  */
 #ifndef HULLPIPPIN_PRELOAD_H
 #define HULLPIPPIN_PRELOAD_H
@@ -105,12 +105,16 @@ struct link {
     struct link *next_of_thread, *next_of_device;
     struct page *page;
     int socket, bell;
-    int doorbell; /* -1: none yet */
+    int doorbell;   /* -1: none yet */
+    bool is_behind; /* its latest request was posted, and its answer isn't fetched yet */
 };
 
 /* The calling thread's link to a device, or NULL and errno. */
 struct link *link_of(struct device *device, int fd);
-/* Puts what stands in the page to the daemon, and waits for its answer: 0 or an errno. */
+/* Puts a request to the daemon without waiting for its answer. The page may not be written until `link_finish`. */
+void link_post(struct link *link, const struct page_request *request);
+void link_finish(struct link *link);
+/* Puts a request to the daemon, and waits for its answer: 0 or an errno. */
 int link_ask(struct link *link, const struct page_request *request, struct page_answer *answer);
 /* The descriptor that is readable while a read would find something, or -1 and errno. */
 int link_doorbell(struct link *link);
@@ -130,8 +134,8 @@ struct packing {
     int fds[DESCRIPTORS_MAX];
 };
 
-/* Puts the parcel of a transaction or reply into the page, whose record lies in the page's stream. False where there is no room left
-   beside what is there already. */
+/* Puts the parcel of a transaction or reply into the page, whose record lies in the page's stream. False where there
+   is no room left beside what is there already. */
 bool parcel_pack(struct packing *packing, struct binder_transaction_data_sg *record, bool is_first);
 
 /* --- poll.c --- */

@@ -1,4 +1,7 @@
-/* write_read.c: BINDER_WRITE_READ: the commands go to the daemon as many at a time as a page takes, with the last of them the read. */
+/*
+ * write_read.c: BINDER_WRITE_READ: the commands go to the daemon as many at a time as a page takes, with the last of
+ * them the read.
+ */
 #include "preload.h"
 
 #include <string.h>
@@ -22,8 +25,8 @@ static bool pack_call(struct packing *packing, uint8_t *payload, uint32_t size)
     return true;
 }
 
-/* Puts one command at the end of the stream: its size, or 0 where it has to wait for the next stream. A command that is cut short, or
-   longer than any, goes as it is: the daemon says what the kernel would. */
+/* Puts one command at the end of the stream: its size, or 0 where it has to wait for the next stream. A command that
+   is cut short, or longer than any, goes as it is: the daemon says what the kernel would. */
 static uint32_t pack_command(struct packing *packing, const uint8_t *command, uint64_t left)
 {
     uint8_t *to = packing->page->stream + packing->stream_size;
@@ -91,10 +94,39 @@ static uint32_t room_for_returns(const struct binder_write_read *what)
     return room < PAGE_RETURNS ? (uint32_t)room : PAGE_RETURNS;
 }
 
+/* A write of nothing but BC_FREE_BUFFER, of which nothing is ever told. */
+static bool is_free_only(const struct binder_write_read *what)
+{
+    const uint8_t *commands = (const uint8_t *)(uintptr_t)what->write_buffer + what->write_consumed;
+    uint64_t size = what->write_size - what->write_consumed, each = sizeof(uint32_t) + _IOC_SIZE(BC_FREE_BUFFER);
+    if (room_for_returns(what) || what->write_size <= what->write_consumed || size % each || size > PAGE_STREAM)
+        return false;
+    for (uint64_t at = 0; at < size; at += each) {
+        uint32_t code;
+        memcpy(&code, commands + at, sizeof code);
+        if (code != BC_FREE_BUFFER)
+            return false;
+    }
+    return true;
+}
+
+/* The daemon is told, and not waited for. */
+static void free_buffers(struct link *link, struct binder_write_read *what)
+{
+    uint64_t size = what->write_size - what->write_consumed;
+    const struct page_request request = {.op = PAGE_WRITE_READ, .stream_size = (uint32_t)size};
+    memcpy(link->page->stream, (const uint8_t *)(uintptr_t)what->write_buffer + what->write_consumed, size);
+    link_post(link, &request);
+    what->write_consumed = what->write_size;
+}
+
 /* A refused command ends the write, not the read. */
 int write_read(struct link *link, struct binder_write_read *what)
 {
     bool is_last = false, is_refused = false;
+    link_finish(link);
+    if (is_free_only(what))
+        return free_buffers(link, what), 0;
     while (!is_last) {
         struct packing packing = {.page = link->page};
         struct page_answer answer;
