@@ -1,7 +1,14 @@
 """Tests with libgbinder: its own tools, and programs of ours against its public headers."""
+import os
+import signal
+import socket
+import struct
+import time
+
+from builds import CLIENTS
 from raw_tests import DEVICE, ROUNDS, flat_cost
 from soaks import soak
-from stage import Stage, expect
+from stage import Stage, expect, with_word
 from suite import figures, test
 
 HIDL = "/dev/hwbinder"
@@ -61,6 +68,47 @@ def tools(build, packages):
         called = call_by_tool(packages, stage, DEVICE, "-a", "test", "1", '"hello"u', "reply", "s16")
         expect(called == '"hello"U', f"binder-call: {called}")
     return f"list, ping, call; lawful, {stage.entries} steps"
+
+
+def listener(socket_path):
+    """The process that listens at a path."""
+    with socket.socket(socket.AF_UNIX, socket.SOCK_SEQPACKET) as end:
+        end.connect(socket_path)
+        return struct.unpack("iII", end.getsockopt(socket.SOL_SOCKET, socket.SO_PEERCRED, 12))[0]
+
+
+def ended(path):
+    """Ends the daemon that listens at a path; what is left after some seconds of it and of those that live by it, which is ended then."""
+    os.kill(listener(path), signal.SIGTERM)
+    end = time.monotonic() + 10
+    while with_word(path) and time.monotonic() < end:
+        time.sleep(0.05)
+    left = with_word(path)
+    for pid in left:
+        os.kill(pid, signal.SIGKILL)
+    return left
+
+
+@test("libgbinder by hullpippin-run", real=True)
+def by_run(build, packages):
+    """A first call, as the README has it: daemon and managers are started with the first program, and managers end with the daemon."""
+    run = f"{CLIENTS}/hullpippin-run"
+    with Stage(build) as stage:
+        path = f"{stage.folder}/other"
+        rest = {"environment": {"HULLPIPPIN_SOCKET": path, "HULLPIPPIN_BUILD": build.out}, "client": False}
+        service = stage.start([run, "--managers", *packages.command(build.real("service"), "test")], **rest)
+        try:
+            service.wait_for("ready", 20)
+            listed = stage.run([run, *packages.tool("binder-list", "-d", DEVICE)], **rest)
+            expect("test" in listed.split(), f"binder-list: {listed}")
+            pinged = stage.run([run, *packages.tool("binder-ping", "-d", DEVICE, "test")], **rest)
+            expect(pinged == "OK", f"binder-ping: {pinged}")
+            stage.run([run, *packages.tool("binder-list", "-d", HIDL)], **rest)
+            service.kill()
+        finally:
+            left = ended(path)
+        expect(not left, f"{len(left)} processes are left after the daemon")
+    return "service, binder-list, binder-ping; all ended with the daemon"
 
 
 @test("libgbinder forms of requests", real=True)

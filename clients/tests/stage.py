@@ -95,6 +95,19 @@ def processor_time(pid):
     return (int(words[11]) + int(words[12])) / os.sysconf("SC_CLK_TCK")
 
 
+def with_word(word):
+    """The processes that have a word in their environment."""
+    found = []
+    for pid in filter(str.isdigit, os.listdir("/proc")):
+        try:
+            with open(f"/proc/{pid}/environ", "rb") as file:
+                if word.encode() in file.read():
+                    found.append(int(pid))
+        except OSError:
+            pass  # it has ended, or is somebody else's
+    return found
+
+
 def open_files(pid):
     return len(os.listdir(f"/proc/{pid}/fd"))
 
