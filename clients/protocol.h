@@ -98,9 +98,16 @@ struct page_answer {
  */
 #define PAGE_NOWHERE UINT64_MAX
 
+/* Buffers that a thread gives back without waiting: a queue that the daemon empties whenever the bell rings, before
+   it looks at the request. */
+#define PAGE_FREES 64u
+
 struct page {
     _Atomic uint32_t state;
     _Atomic uint32_t cancel; /* the client's thread was interrupted: it wants its answer now */
+    _Atomic uint32_t freed;   /* by the client: how many buffers it has given back so far; wraps */
+    _Atomic uint32_t taken;   /* by the daemon: how many of these it has seen to */
+    uint64_t frees[PAGE_FREES];
     struct page_request request;
     struct page_answer answer;
     uint8_t returns[PAGE_RETURNS];

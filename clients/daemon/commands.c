@@ -76,17 +76,22 @@ static int run_call(struct run *run, uint32_t code, const uint8_t *payload)
 }
 
 /* The client's pointers begin where it has mapped its window. */
-static int run_free(struct run *run, const uint8_t *payload)
+int command_free(struct thread *thread, uint64_t pointer)
 {
-    struct process *process = run->thread->process;
-    struct free_command command = {.code = BC_FREE_BUFFER};
-    memcpy(&command.buffer, payload, sizeof command.buffer);
-    uint64_t place = command.buffer - process->window.base;
-    command.buffer = place + WINDOW_BASE;
-    int error = engine_command(run->engine, run->thread->seat, &command, sizeof command);
-    if (!error && !run->engine->answer.notes)
+    struct process *process = thread->process;
+    uint64_t place = pointer - process->window.base;
+    struct free_command command = {BC_FREE_BUFFER, place + WINDOW_BASE};
+    int error = engine_command(process->engine, thread->seat, &command, sizeof command);
+    if (!error && !process->engine->answer.notes)
         process_note_handed(process, place, false);
     return error;
+}
+
+static int run_free(struct run *run, const uint8_t *payload)
+{
+    uint64_t pointer;
+    memcpy(&pointer, payload, sizeof pointer);
+    return command_free(run->thread, pointer);
 }
 
 /* Loopers of both kinds are in the engine's loop. One that was asked for by BR_SPAWN_LOOPER is counted. */

@@ -228,6 +228,7 @@ struct thread {
     struct process *process;
     struct list in_process, in_watch;
     struct page *page;
+    uint32_t freed;            /* how many of the page's frees were seen to */
     uint32_t seat;
 
     bool is_looper;            /* in the loop */
@@ -275,6 +276,8 @@ void page_copy(void *to, const void *from, size_t size);
 /* Runs the commands, and tells in the thread's answer how far that came. The descriptors stay the caller's, but for
    those that a parcel has taken, which are -1 then. */
 int commands_run(struct thread *thread, const uint8_t *stream, uint32_t size, int *fds, uint32_t fd_count);
+/* BC_FREE_BUFFER with a client's pointer. */
+int command_free(struct thread *thread, uint64_t pointer);
 
 /* --- parcels.c: PTR, FD and FDA objects, of which the engine knows nothing. --- */
 

@@ -130,8 +130,41 @@ static int do_request(struct thread *thread, const struct page_request *request)
     }
 }
 
-/* All that its steps bring about for others comes before the answer. A read that waits is answered by what makes it
-   ready. */
+/* Frees what the client gives back without waiting. What no memory is there for is tried again. */
+static void free_buffers(struct thread *thread)
+{
+    struct page *page = thread->page;
+    uint32_t freed = atomic_load_explicit(&page->freed, memory_order_acquire);
+    if (freed == thread->freed || !thread->process->engine_pid || !seat_lend(thread))
+        return;
+    if (freed - thread->freed > PAGE_FREES) /* a lie */
+        thread->freed = freed;
+    for (; thread->freed != freed; thread->freed++) {
+        uint64_t pointer;
+        page_copy(&pointer, &page->frees[thread->freed % PAGE_FREES], sizeof pointer);
+        if (command_free(thread, pointer))
+            break;
+    }
+    atomic_store_explicit(&page->taken, thread->freed, memory_order_release);
+}
+
+/* Answers the request, if there is one. All that its steps bring about for others comes before. A read that waits is
+   answered by what makes it ready. */
+static void answer_request(struct thread *thread, const struct page_request *request)
+{
+    thread->answer = (struct page_answer){0};
+    int error = do_request(thread, request);
+    bool reads = thread->is_waiting;
+    settle_watch(thread);
+    settle(thread->process->engine, thread);
+    if (!reads)
+        answer_error(thread, error);
+    else if (thread->is_waiting && request->flags & PAGE_NONBLOCK)
+        page_interrupt(thread, EAGAIN);
+    else if (thread->is_waiting && atomic_load(&thread->page->cancel))
+        page_interrupt(thread, EINTR); /* its ring may have been one with that for the request */
+}
+
 void page_rung(struct thread *thread)
 {
     struct page *page = thread->page;
@@ -141,17 +174,12 @@ void page_rung(struct thread *thread)
             page_interrupt(thread, EINTR);
         return;
     }
-    if (atomic_load_explicit(&page->state, memory_order_acquire) != PAGE_ASKED)
-        return;
-    page_copy(&request, &page->request, sizeof request);
-    thread->answer = (struct page_answer){0};
-    struct engine *engine = thread->process->engine;
-    int error = do_request(thread, &request);
-    bool reads = thread->is_waiting;
-    settle_watch(thread);
-    settle(engine, thread);
-    if (!reads)
-        answer_error(thread, error);
-    else if (thread->is_waiting && request.flags & PAGE_NONBLOCK)
-        page_interrupt(thread, EAGAIN);
+    bool is_asked = atomic_load_explicit(&page->state, memory_order_acquire) == PAGE_ASKED;
+    if (is_asked)
+        page_copy(&request, &page->request, sizeof request);
+    free_buffers(thread);
+    if (is_asked)
+        answer_request(thread, &request);
+    else
+        settle(thread->process->engine, NULL);
 }

@@ -111,7 +111,8 @@ struct device *device_hold(int fd)
     if (device && !is_forked)
         device->references++;
     pthread_mutex_unlock(&devices_lock);
-    if (is_forked)
+    static atomic_flag is_told = ATOMIC_FLAG_INIT;
+    if (is_forked && !atomic_flag_test_and_set(&is_told))
         complain("a binder file that was open before a fork can't be used in the child");
     if (device && !is_forked)
         return device;

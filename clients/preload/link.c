@@ -171,30 +171,28 @@ static int await(struct link *link, struct page_answer *answer)
     return answer->error;
 }
 
-void link_finish(struct link *link)
-{
-    struct page_answer answer;
-    if (link->is_behind)
-        await(link, &answer);
-    link->is_behind = false;
-}
-
-void link_post(struct link *link, const struct page_request *request)
+int link_ask(struct link *link, const struct page_request *request, struct page_answer *answer)
 {
     struct page *page = link->page;
     page->request = *request;
     atomic_store_explicit(&page->cancel, 0, memory_order_relaxed);
     atomic_store_explicit(&page->state, PAGE_ASKED, memory_order_release);
-    link->is_behind = true;
     ring(link);
+    return await(link, answer);
 }
 
-int link_ask(struct link *link, const struct page_request *request, struct page_answer *answer)
+bool link_free_buffers(struct link *link, const uint64_t *buffers, uint32_t count)
 {
-    link_finish(link);
-    link_post(link, request);
-    link->is_behind = false;
-    return await(link, answer);
+    struct page *page = link->page;
+    uint32_t freed = atomic_load_explicit(&page->freed, memory_order_relaxed);
+    uint32_t there = freed - atomic_load_explicit(&page->taken, memory_order_acquire);
+    if (there > PAGE_FREES || count > PAGE_FREES - there)
+        return false;
+    for (uint32_t i = 0; i < count; i++)
+        page->frees[(freed + i) % PAGE_FREES] = buffers[i];
+    atomic_store_explicit(&page->freed, freed + count, memory_order_release);
+    ring(link);
+    return true;
 }
 
 int link_doorbell(struct link *link)

@@ -105,17 +105,15 @@ struct link {
     struct link *next_of_thread, *next_of_device;
     struct page *page;
     int socket, bell;
-    int doorbell;   /* -1: none yet */
-    bool is_behind; /* its latest request was posted, and its answer isn't fetched yet */
+    int doorbell; /* -1: none yet */
 };
 
 /* The calling thread's link to a device, or NULL and errno. */
 struct link *link_of(struct device *device, int fd);
-/* Puts a request to the daemon without waiting for its answer. The page may not be written until `link_finish`. */
-void link_post(struct link *link, const struct page_request *request);
-void link_finish(struct link *link);
 /* Puts a request to the daemon, and waits for its answer: 0 or an errno. */
 int link_ask(struct link *link, const struct page_request *request, struct page_answer *answer);
+/* Gives buffers back without waiting; false where so many can't be now. */
+bool link_free_buffers(struct link *link, const uint64_t *buffers, uint32_t count);
 /* The descriptor that is readable while a read would find something, or -1 and errno. */
 int link_doorbell(struct link *link);
 /* Child of a fork: closes a link that was the parent's. */

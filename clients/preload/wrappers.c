@@ -74,22 +74,22 @@ EXPORT int dup(int fd)
 /* What the copy's number stood for is closed. */
 static int copied_to(int fd, int copy, int result)
 {
-    if (result >= 0 && fd != copy && device_is(fd))
+    if (result < 0 || fd == copy)
+        return result;
+    if (device_is(copy))
+        device_forget(copy);
+    if (device_is(fd))
         device_copied(fd, copy);
     return result;
 }
 
 EXPORT int dup2(int fd, int copy)
 {
-    if (fd != copy && device_is(copy))
-        device_forget(copy);
     return copied_to(fd, copy, real()->dup2(fd, copy));
 }
 
 EXPORT int dup3(int fd, int copy, int flags)
 {
-    if (fd != copy && device_is(copy))
-        device_forget(copy);
     return copied_to(fd, copy, real()->dup3(fd, copy, flags));
 }
 

@@ -94,39 +94,34 @@ static uint32_t room_for_returns(const struct binder_write_read *what)
     return room < PAGE_RETURNS ? (uint32_t)room : PAGE_RETURNS;
 }
 
-/* A write of nothing but BC_FREE_BUFFER, of which nothing is ever told. */
-static bool is_free_only(const struct binder_write_read *what)
+/* A write of nothing but BC_FREE_BUFFER, of which nothing is ever told: it isn't waited for. False where it is
+   another one. */
+static bool free_buffers(struct link *link, struct binder_write_read *what)
 {
     const uint8_t *commands = (const uint8_t *)(uintptr_t)what->write_buffer + what->write_consumed;
     uint64_t size = what->write_size - what->write_consumed, each = sizeof(uint32_t) + _IOC_SIZE(BC_FREE_BUFFER);
-    if (room_for_returns(what) || what->write_size <= what->write_consumed || size % each || size > PAGE_STREAM)
+    uint64_t buffers[PAGE_FREES];
+    if (room_for_returns(what) || what->write_size <= what->write_consumed || size % each || size / each > PAGE_FREES)
         return false;
-    for (uint64_t at = 0; at < size; at += each) {
+    for (uint64_t i = 0; i < size / each; i++) {
         uint32_t code;
-        memcpy(&code, commands + at, sizeof code);
+        memcpy(&code, commands + i * each, sizeof code);
+        memcpy(&buffers[i], commands + i * each + sizeof code, sizeof buffers[i]);
         if (code != BC_FREE_BUFFER)
             return false;
     }
-    return true;
-}
-
-/* The daemon is told, and not waited for. */
-static void free_buffers(struct link *link, struct binder_write_read *what)
-{
-    uint64_t size = what->write_size - what->write_consumed;
-    const struct page_request request = {.op = PAGE_WRITE_READ, .stream_size = (uint32_t)size};
-    memcpy(link->page->stream, (const uint8_t *)(uintptr_t)what->write_buffer + what->write_consumed, size);
-    link_post(link, &request);
+    if (!link_free_buffers(link, buffers, (uint32_t)(size / each)))
+        return false;
     what->write_consumed = what->write_size;
+    return true;
 }
 
 /* A refused command ends the write, not the read. */
 int write_read(struct link *link, struct binder_write_read *what)
 {
     bool is_last = false, is_refused = false;
-    link_finish(link);
-    if (is_free_only(what))
-        return free_buffers(link, what), 0;
+    if (free_buffers(link, what))
+        return 0;
     while (!is_last) {
         struct packing packing = {.page = link->page};
         struct page_answer answer;
