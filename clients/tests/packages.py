@@ -54,7 +54,7 @@ class Apt:
         settings = {"Dir::Etc::sourcelist": f"{folder}/sources.list", "Dir::Etc::sourceparts": "/nonexistent",
                     "Dir::State": folder, "Dir::State::lists": f"{folder}/lists", "Dir::State::status": f"{folder}/status",
                     "Dir::Cache": f"{folder}/cache", "APT::Install-Recommends": "false", "APT::Sandbox::User": "root",
-                    "Acquire::Languages": "none", "Acquire::Retries": "2"}
+                    "Acquire::Languages": "none", "Acquire::Retries": "2", "APT::Update::Error-Mode": "any"}
         self.options = [word for key, value in settings.items() for word in ("-o", f"{key}={value}")]
 
     def __call__(self, *words, cwd=None):
@@ -75,7 +75,7 @@ def fetch(folder):
     shutil.rmtree(folder, ignore_errors=True)
     apt = Apt(f"{folder}/apt")
     apt("update")
-    apt("-y", "--download-only", "install", *RUN)
+    apt("install", "-y", "--download-only", *RUN)
     apt("download", *HEADERS, cwd=f"{folder}/apt/cache/archives")
     for package in sorted(glob.glob(f"{folder}/apt/cache/archives/*.deb")):
         subprocess.run(["dpkg-deb", "-x", package, f"{folder}/root"], check=True)
