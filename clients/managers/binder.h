@@ -36,7 +36,8 @@ struct commands {
     uint8_t bytes[2048];
 };
 
-/* These append a command. There is room for some twenty between two exchanges; one without room is a bug, and aborts. */
+/* These append a command. There is room for some twenty between two exchanges; one without room is a bug, and
+   aborts. */
 void put_code(struct commands *commands, uint32_t code);
 void put_handle(struct commands *commands, uint32_t code, uint32_t handle);
 void put_pointer(struct commands *commands, uint32_t code, binder_uintptr_t pointer);
@@ -46,8 +47,9 @@ void put_record(struct commands *commands, uint32_t code, const struct binder_tr
 void put_record_sg(struct commands *commands, uint32_t code, const struct binder_transaction_data *record, size_t buffers);
 
 /*
- * Writes the commands, and reads returns where there is room for some: how many bytes came, or -1 with errno. Waits where
- * there is nothing to read yet. Commands that the driver didn't come to, because one before them was refused, stay.
+ * Writes the commands, and reads returns where there is room for some: how many bytes came, or -1 with errno. Waits
+ * where there is nothing to read yet. Commands that the driver didn't come to, because one before them was refused,
+ * stay.
  */
 ssize_t binder_exchange(struct binder *binder, struct commands *commands, uint8_t *room, size_t size);
 

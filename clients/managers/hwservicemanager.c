@@ -1,9 +1,11 @@
 /*
- * hullpippin-hwservicemanager [-v] [DEVICE]: a context manager for HIDL services, android.hidl.manager@1.0::IServiceManager,
- * on /dev/hwbinder where nothing else is said. It gets, adds and lists services; one whose process ends is gone.
+ * hullpippin-hwservicemanager [-v] [DEVICE]: a context manager for HIDL services,
+ * android.hidl.manager@1.0::IServiceManager, on /dev/hwbinder where nothing else is said. It gets, adds and lists
+ * services; one whose process ends is gone.
  *
- * A service is added by its instance's name alone. Its interfaces are asked for: while it waits for the answer, the service
- * itself is called. Its name in the registry is INTERFACE/INSTANCE, once for each interface but the base of all.
+ * A service is added by its instance's name alone. Its interfaces are asked for: while it waits for the answer, the
+ * service itself is called. Its name in the registry is INTERFACE/INSTANCE, once for each interface but the base of
+ * all.
  */
 #include "manager.h"
 

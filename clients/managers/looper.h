@@ -1,6 +1,6 @@
 /*
- * looper.h: a thread that calls and is called through an open device. It acknowledges what the driver tells it of its own
- * objects, gives buffers back, and serves calls that come in, also those that come while it waits for a reply.
+ * looper.h: a thread that calls and is called through an open device. It acknowledges what the driver tells it of its
+ * own objects, gives buffers back, and serves calls that come in, also those that come while it waits for a reply.
  */
 #ifndef HULLPIPPIN_CLIENTS_LOOPER_H
 #define HULLPIPPIN_CLIENTS_LOOPER_H
@@ -49,8 +49,9 @@ void looper_run(struct looper *looper);
 uint32_t looper_call(struct looper *looper, const struct binder_transaction_data *call, struct binder_transaction_data *reply);
 
 /*
- * Answers the call that is being served. An answer without bytes goes out with the next exchange; one with bytes at once,
- * so that they may go afterwards. `buffers` is the size of all buffers that PTR objects of it point at. False with errno.
+ * Answers the call that is being served. An answer without bytes goes out with the next exchange; one with bytes at
+ * once, so that they may go afterwards. `buffers` is the size of all buffers that PTR objects of it point at. False
+ * with errno.
  */
 bool looper_answer(struct looper *looper, const struct binder_transaction_data *answer, size_t buffers);
 

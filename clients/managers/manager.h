@@ -1,8 +1,8 @@
 /*
  * manager.h: what the two context managers have in common: the device, the registry, and the objects they hold.
  *
- * A manager holds a strong reference on each object that has a name here, and has asked to be told of its death; with the
- * last name both go. Whoever can open the device may register and find services: there is no policy.
+ * A manager holds a strong reference on each object that has a name here, and has asked to be told of its death; with
+ * the last name both go. Whoever can open the device may register and find services: there is no policy.
  */
 #ifndef HULLPIPPIN_CLIENTS_MANAGER_H
 #define HULLPIPPIN_CLIENTS_MANAGER_H

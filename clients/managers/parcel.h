@@ -1,5 +1,6 @@
 /*
- * parcel.h: what managers read from parcels and write into them: numbers, names in UTF-16, objects, and buffers of HIDL.
+ * parcel.h: what managers read from parcels and write into them: numbers, names in UTF-16, objects, and buffers of
+ * HIDL.
  */
 #ifndef HULLPIPPIN_CLIENTS_PARCEL_H
 #define HULLPIPPIN_CLIENTS_PARCEL_H
@@ -39,7 +40,8 @@ void write_own_object(struct writer *writer, binder_uintptr_t pointer, binder_ui
 void write_descriptor(struct writer *writer, int descriptor);
 /* What stands for no object at all. */
 void write_no_object(struct writer *writer);
-/* A PTR object; `parent` is the number of the one whose bytes at an offset are to lead here, or -1. Tells its own number. */
+/* A PTR object; `parent` is the number of the one whose bytes at an offset are to lead here, or -1. Tells its own
+   number. */
 int write_buffer(struct writer *writer, const void *bytes, size_t size, int parent, size_t offset);
 
 /* The record of an answer or a call with this parcel; target and code are 0. */

@@ -1,6 +1,6 @@
 /*
- * registry.h: services by their names. A name is bytes; a service is the handle of its object. Names are kept in order, so
- * that one is found in a few steps among hundreds.
+ * registry.h: services by their names. A name is bytes; a service is the handle of its object. Names are kept in
+ * order, so that one is found in a few steps among hundreds.
  */
 #ifndef HULLPIPPIN_CLIENTS_REGISTRY_H
 #define HULLPIPPIN_CLIENTS_REGISTRY_H

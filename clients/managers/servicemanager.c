@@ -1,9 +1,9 @@
 /*
- * hullpippin-servicemanager [-v] [DEVICE]: a context manager for AIDL services, android.os.IServiceManager, on /dev/binder
- * where nothing else is said. It gets, checks, adds and lists services; one whose process ends is gone.
+ * hullpippin-servicemanager [-v] [DEVICE]: a context manager for AIDL services, android.os.IServiceManager, on
+ * /dev/binder where nothing else is said. It gets, checks, adds and lists services; one whose process ends is gone.
  *
- * Android's clients have written their requests in three ways in the course of time, by which answers differ as well. A
- * request tells its own way by its header.
+ * Android's clients have written their requests in three ways in the course of time, by which answers differ as well.
+ * A request tells its own way by its header.
  */
 #include "manager.h"
 

@@ -1,5 +1,6 @@
 /*
- * acts.h: what a hostile client does. Each act runs in a process of its own, which is killed after a moment or ends by itself.
+ * acts.h: what a hostile client does. Each act runs in a process of its own, which is killed after a moment or ends
+ * by itself.
  */
 #ifndef HULLPIPPIN_TESTS_ACTS_H
 #define HULLPIPPIN_TESTS_ACTS_H

@@ -1,4 +1,5 @@
-/* Commands that are nearly right: known codes, records with a field or two that lie, parcels with objects out of place. */
+/* Commands that are nearly right: known codes, records with a field or two that lie, parcels with objects out of
+   place. */
 #include "hostile.h"
 
 #include <linux/android/binder.h>

@@ -1,7 +1,7 @@
 /*
- * fuzz SECONDS [SEED [ACT]]: hostile clients of the daemon whose socket HULLPIPPIN_SOCKET names, four at a time, each a
- * process that plays one act; it ends by itself or is killed at a random moment. Prints how many there were of each act.
- * Who judges is somebody else: whether the daemon lives, and whether others are served meanwhile.
+ * fuzz SECONDS [SEED [ACT]]: hostile clients of the daemon whose socket HULLPIPPIN_SOCKET names, four at a time, each
+ * a process that plays one act; it ends by itself or is killed at a random moment. Prints how many there were of each
+ * act. Who judges is somebody else: whether the daemon lives, and whether others are served meanwhile.
  */
 #include "acts.h"
 #include "hostile.h"

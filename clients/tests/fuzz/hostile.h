@@ -1,6 +1,6 @@
 /*
- * hostile.h: a client that speaks the daemon's protocol by itself, to speak it wrongly. What it is refused doesn't matter to
- * it, so nothing here is checked for success that isn't needed further on.
+ * hostile.h: a client that speaks the daemon's protocol by itself, to speak it wrongly. What it is refused doesn't
+ * matter to it, so nothing here is checked for success that isn't needed further on.
  */
 #ifndef HULLPIPPIN_TESTS_HOSTILE_H
 #define HULLPIPPIN_TESTS_HOSTILE_H
@@ -34,7 +34,8 @@ bool hostile_thread(struct hostile *hostile);
 bool hostile_begin(struct hostile *hostile, const char *device);
 void hostile_end(struct hostile *hostile);
 
-/* Sends a packet of any bytes over a socket, with so many descriptors, and waits for nothing; false where it didn't go. */
+/* Sends a packet of any bytes over a socket, with so many descriptors, and waits for nothing; false where it
+   didn't go. */
 bool hostile_send(int socket, const void *bytes, size_t size, size_t descriptors);
 
 /* Rings, whatever stands in the page; false where that isn't possible. */

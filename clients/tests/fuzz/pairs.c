@@ -1,4 +1,5 @@
-/* Acts of pairs, which call each other on a device of their own; and of bells, whose settings the daemon and they share. */
+/* Acts of pairs, which call each other on a device of their own; and of bells, whose settings the daemon and they
+   share. */
 #include "acts.h"
 #include "hostile.h"
 
@@ -21,7 +22,8 @@ static bool pair_begin(struct hostile pair[2])
     return true;
 }
 
-/* Puts a one-way call of the manager into a page, with so many bytes or descriptors, and tells the size of its stream. */
+/* Puts a one-way call of the manager into a page, with so many bytes or descriptors, and tells the size of its
+   stream. */
 static uint32_t put_call(struct page *page, uint64_t size, uint64_t descriptors)
 {
     struct __attribute__((packed)) {
@@ -60,7 +62,8 @@ static void take_away(int memory)
         fallocate(memory, FALLOC_FL_PUNCH_HOLE | FALLOC_FL_KEEP_SIZE, 0, 1 << 20);
 }
 
-/* Takes memory away from under the daemon, once all is asked for that has it read there, or write: it only rings then. */
+/* Takes memory away from under the daemon, once all is asked for that has it read there, or write: it only rings
+   then. */
 void act_shrinking_memory(void)
 {
     struct hostile pair[2];

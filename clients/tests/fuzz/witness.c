@@ -1,6 +1,7 @@
 /*
- * witness SECONDS: an honest server and an honest client, which call all the time, by way of an object that nobody else has a
- * handle of. Each answer has to be the right one. Prints how many there were, the median, and the longest that one took.
+ * witness SECONDS: an honest server and an honest client, which call all the time, by way of an object that nobody
+ * else has a handle of. Each answer has to be the right one. Prints how many there were, the median, and the longest
+ * that one took.
  */
 #include "../raw/raw.h"
 

@@ -1,8 +1,9 @@
 /*
- * busy serve|call|hold [SECONDS]: a part of a soak, to be killed at any time. `serve` becomes the context manager, however
- * often another has to go first; `call` calls in turn one-way and two-way, with objects, descriptors and parcels of all
- * sizes; `hold` gives its object to the server, which calls it now and then, and waits for deaths. What others' deaths do
- * to them is no failure, so they end with 0; a wrong answer is one. Prints how many calls were answered.
+ * busy serve|call|hold [SECONDS]: a part of a soak, to be killed at any time. `serve` becomes the context manager,
+ * however often another has to go first; `call` calls in turn one-way and two-way, with objects, descriptors and
+ * parcels of all sizes; `hold` gives its object to the server, which calls it now and then, and waits for deaths.
+ * What others' deaths do to them is no failure, so they end with 0; a wrong answer is one. Prints how many calls were
+ * answered.
  */
 #include "raw.h"
 

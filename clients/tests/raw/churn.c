@@ -1,6 +1,7 @@
 /*
- * churn CLIENTS: so many clients come to a server one after the other, give it an object, are called back, and are killed or
- * end without a word. Prints the daemon's resident memory in KiB and its descriptors, in the middle and at the end.
+ * churn CLIENTS: so many clients come to a server one after the other, give it an object, are called back, and are
+ * killed or end without a word. Prints the daemon's resident memory in KiB and its descriptors, in the middle and at
+ * the end.
  */
 #include "raw.h"
 

@@ -1,6 +1,6 @@
 /*
- * deaths: who holds an object hears of its process's end, in both directions; who waits for a reply hears it at once; who
- * asks afterwards too; and a notification that was taken back is told as taken back.
+ * deaths: who holds an object hears of its process's end, in both directions; who waits for a reply hears it at once;
+ * who asks afterwards too; and a notification that was taken back is told as taken back.
  */
 #include "raw.h"
 

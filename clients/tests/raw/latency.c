@@ -1,6 +1,6 @@
 /*
- * latency [CALLS [BYTES]]: round trips of calls with so many bytes to a process that answers at once, with its answer and
- * its next read in one go.
+ * latency [CALLS [BYTES]]: round trips of calls with so many bytes to a process that answers at once, with its answer
+ * and its next read in one go.
  */
 #include "raw.h"
 

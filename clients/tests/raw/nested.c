@@ -1,6 +1,6 @@
 /*
- * nested: a client gives a server an object of its own; the server calls it while it serves, and is called again by it, and
- * so on, as deep as asked. Each level adds one, so the answer tells how many there were.
+ * nested: a client gives a server an object of its own; the server calls it while it serves, and is called again by
+ * it, and so on, as deep as asked. Each level adds one, so the answer tells how many there were.
  */
 #include "raw.h"
 

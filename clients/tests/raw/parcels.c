@@ -1,6 +1,6 @@
 /*
- * parcels: of many sizes, there and back the same, also where they are larger than the page by which small ones go; one past
- * the receiver's window is refused, and harms none that comes after it.
+ * parcels: of many sizes, there and back the same, also where they are larger than the page by which small ones go;
+ * one past the receiver's window is refused, and harms none that comes after it.
  */
 #include "raw.h"
 

@@ -1,6 +1,6 @@
 /*
- * pool: a server whose further threads are started when the driver asks for them, up to the number it was told, and a client
- * of many threads. Calls that wait for one another inside the server show that they are served at once.
+ * pool: a server whose further threads are started when the driver asks for them, up to the number it was told, and a
+ * client of many threads. Calls that wait for one another inside the server show that they are served at once.
  */
 #include "raw.h"
 

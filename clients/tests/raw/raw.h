@@ -1,6 +1,7 @@
 /*
- * raw.h: what the raw clients have in common. Each is a program that starts its own other side as a process, over a device
- * that has no context manager yet; it prints one line and ends with 0, or says where it failed and ends with 1.
+ * raw.h: what the raw clients have in common. Each is a program that starts its own other side as a process, over a
+ * device that has no context manager yet; it prints one line and ends with 0, or says where it failed and ends with
+ * 1.
  */
 #ifndef HULLPIPPIN_TESTS_RAW_H
 #define HULLPIPPIN_TESTS_RAW_H

@@ -1,8 +1,9 @@
 /*
- * relay_polled [CALLS]: what a call by libgbinder costs without any engine: the same ways between the same threads, by a relay
- * that only hands on. A client asks for its call, and afterwards to free the reply's buffer. The server's thread polls a
- * doorbell, asks for what there is to read, hands it to its main thread and gets it back, asks to reply, to free, and whether
- * there is more. Each asks through a page of its own and a bell, and waits by a futex, as the preloaded library does.
+ * relay_polled [CALLS]: what a call by libgbinder costs without any engine: the same ways between the same threads,
+ * by a relay that only hands on. A client asks for its call, and afterwards to free the reply's buffer. The server's
+ * thread polls a doorbell, asks for what there is to read, hands it to its main thread and gets it back, asks to
+ * reply, to free, and whether there is more. Each asks through a page of its own and a bell, and waits by a futex, as
+ * the preloaded library does.
  */
 #include "raw.h"
 

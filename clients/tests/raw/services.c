@@ -1,6 +1,7 @@
 /*
- * services [COUNT]: registers so many services with a context manager that speaks AIDL and runs already, finds and lists them
- * all, and calls one. A call and a look-up take no longer with all of them than with one. When their owner dies all are gone.
+ * services [COUNT]: registers so many services with a context manager that speaks AIDL and runs already, finds and
+ * lists them all, and calls one. A call and a look-up take no longer with all of them than with one. When their owner
+ * dies all are gone.
  */
 #include "raw.h"
 

@@ -1,6 +1,6 @@
 /*
- * two_opens: a process that opens the device twice is two processes to the driver. One of its threads serves through the one
- * and others call through the other; after the one is closed, the other goes on.
+ * two_opens: a process that opens the device twice is two processes to the driver. One of its threads serves through
+ * the one and others call through the other; after the one is closed, the other goes on.
  */
 #include "raw.h"
 

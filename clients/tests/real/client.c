@@ -1,9 +1,9 @@
 /*
- * client NAME MODE [NUMBER [NUMBER]]: a client by libgbinder of the service in service.c; the modes stand in the table at the
- * end. Prints a line, or says what is wrong and ends with 1. DEVICE and PROTOCOL in the environment say how to get there.
+ * client NAME MODE [NUMBER [NUMBER]]: a client by libgbinder of the service in service.c; the modes stand in the
+ * table at the end. Prints a line, or says what is wrong and ends with 1. DEVICE and PROTOCOL in the environment say
+ * how to get there.
  */
-#include "codes.h"
-#include "common.h"
+#include "client.h"
 
 #include <string.h>
 #include <unistd.h>
@@ -12,33 +12,40 @@ static GBinderServiceManager *manager;
 static GBinderRemoteObject *service;
 static GBinderClient *client;
 static GMainLoop *loop;
-static long numbers[2];
+long numbers[2];
 
-/* Calls with a request, which is let go of, and has to be answered. */
-static GBinderRemoteReply *answered(guint code, GBinderLocalRequest *request)
+GBinderLocalRequest *request(void)
+{
+    return gbinder_client_new_request(client);
+}
+
+GBinderRemoteReply *answered(guint code, GBinderLocalRequest *with)
 {
     int status = 0;
-    GBinderRemoteReply *reply = gbinder_client_transact_sync_reply(client, code, request, &status);
+    GBinderRemoteReply *reply = gbinder_client_transact_sync_reply(client, code, with, &status);
     NEED(reply && status == GBINDER_STATUS_OK, "call %u ended with status %d", code, status);
-    gbinder_local_request_unref(request);
+    gbinder_local_request_unref(with);
     return reply;
 }
 
-static gint32 asked(guint code, GBinderLocalRequest *request)
+void refused(guint code, GBinderLocalRequest *with)
+{
+    int status = 0;
+    GBinderRemoteReply *reply = gbinder_client_transact_sync_reply(client, code, with, &status);
+    NEED(!reply, "call %u was answered, where it had to be refused", code);
+    gbinder_local_request_unref(with);
+}
+
+gint32 asked(guint code, GBinderLocalRequest *with)
 {
     gint32 number = -1;
-    GBinderRemoteReply *reply = answered(code, request);
+    GBinderRemoteReply *reply = answered(code, with);
     NEED(gbinder_remote_reply_read_int32(reply, &number), "call %u was answered by no number", code);
     gbinder_remote_reply_unref(reply);
     return number;
 }
 
-static GBinderLocalRequest *request(void)
-{
-    return gbinder_client_new_request(client);
-}
-
-static void echo(const char *word)
+void echo(const char *word)
 {
     GBinderLocalRequest *with = request();
     gbinder_local_request_append_string16(with, word);
@@ -190,129 +197,14 @@ static void on_death(GBinderRemoteObject *object, void *with)
 /* Waits for the service's death, which somebody else sees to. */
 static void play_death(void)
 {
-    int status = 0;
     gbinder_remote_object_add_death_handler(service, on_death, NULL);
     echo("alive");
     printf("waiting\n");
     g_timeout_add(20000, give_up, NULL);
     g_main_loop_run(loop);
     NEED(is_told, "the service's death wasn't told");
-    GBinderLocalRequest *with = request();
-    GBinderRemoteReply *reply = gbinder_client_transact_sync_reply(client, ECHO, with, &status);
-    NEED(!reply, "the dead answer");
-    gbinder_local_request_unref(with);
+    refused(ECHO, request());
     printf("heard of the service's death\n");
-}
-
-static guint8 *filled(gsize size)
-{
-    guint8 *bytes = g_malloc(size + 1);
-    for (gsize i = 0; i < size; i++)
-        bytes[i] = (guint8)(i * 7 + i / 251);
-    return bytes;
-}
-
-static GBinderLocalRequest *with_bytes(const guint8 *bytes, gsize size)
-{
-    GBinderWriter writer;
-    GBinderLocalRequest *with = request();
-    gbinder_local_request_init_writer(with, &writer);
-    gbinder_writer_append_byte_array(&writer, bytes, (gint32)size);
-    return with;
-}
-
-static void play_big(void)
-{
-    gsize size = (gsize)numbers[0], come = 0;
-    guint8 *bytes = filled(size);
-    GBinderReader reader;
-    for (int turn = 0; turn < 20; turn++) {
-        usleep(50000); /* both give the buffers of the turn before back */
-        echo("free them");
-        GBinderRemoteReply *reply = answered(BYTES, with_bytes(bytes, size));
-        gbinder_remote_reply_init_reader(reply, &reader);
-        const void *back = gbinder_reader_read_byte_array(&reader, &come);
-        NEED(back && come == size && !memcmp(back, bytes, size), "%zu bytes came back for %zu, or others", come, size);
-        gbinder_remote_reply_unref(reply);
-    }
-    g_free(bytes);
-    printf("%zu bytes came back the same\n", size);
-}
-
-static void play_past(void)
-{
-    gsize size = (gsize)numbers[0];
-    guint8 *bytes = filled(size);
-    for (int turn = 0; turn < 5; turn++) {
-        int status = 0;
-        GBinderLocalRequest *with = with_bytes(bytes, size);
-        GBinderRemoteReply *reply = gbinder_client_transact_sync_reply(client, BYTES, with, &status);
-        NEED(!reply && status != GBINDER_STATUS_OK, "%zu bytes were taken", size);
-        gbinder_local_request_unref(with);
-        echo("and yet");
-    }
-    g_free(bytes);
-    printf("%zu bytes were refused\n", size);
-}
-
-static void pass(long number)
-{
-    GBinderWriter writer;
-    GBinderReader reader;
-    GBinderLocalRequest *with = request();
-    char *word = g_strdup_printf("pipe %ld", number), *expected = g_strconcat("read: ", word, NULL);
-    int given = pipe_with(word);
-    gbinder_local_request_init_writer(with, &writer);
-    gbinder_writer_append_fd(&writer, given);
-    close(given);
-    GBinderRemoteReply *reply = answered(DESCRIPTOR, with);
-    gbinder_remote_reply_init_reader(reply, &reader);
-    char *back = word_from(gbinder_reader_read_dup_fd(&reader));
-    NEED(!strcmp(back, expected), "\"%s\" was read for \"%s\"", back, expected);
-    gbinder_remote_reply_unref(reply);
-    g_free(back);
-    g_free(expected);
-    g_free(word);
-}
-
-/* libgbinder frees a reply's descriptors a little later, so the counts may still differ by what is under way. */
-static void play_descriptors(void)
-{
-    for (long i = 0; i < 100; i++)
-        pass(i);
-    int there = asked(OPEN_FILES, request()), here = open_files();
-    for (long i = 0; i < numbers[0]; i++)
-        pass(i);
-    int there_now = asked(OPEN_FILES, request()), here_now = open_files();
-    NEED(there_now <= there + 4 && here_now <= here + 4, "open: %d there and %d here, before %d and %d", there_now, here_now, there, here);
-    printf("%ld descriptors there and back, open %d there and %d here\n", numbers[0], there_now, here_now);
-}
-
-static void play_mixed(void)
-{
-    static const guint8 bytes[] = {0, 1, 254, 255, 7};
-    GBinderLocalRequest *with = request();
-    GBinderWriter writer;
-    GBinderReader come;
-    gsize size, size_back;
-    gbinder_local_request_init_writer(with, &writer);
-    gsize header = gbinder_writer_bytes_written(&writer);
-    gbinder_writer_append_int32(&writer, 0x80000001);
-    gbinder_writer_append_int64(&writer, G_MAXUINT64 - 5);
-    gbinder_writer_append_double(&writer, -0.1);
-    gbinder_writer_append_bool(&writer, TRUE);
-    gbinder_writer_append_string8(&writer, "narrow");
-    gbinder_writer_append_string16(&writer, "w\xc3\xaf" "de");
-    gbinder_writer_append_byte_array(&writer, bytes, sizeof bytes);
-    const guint8 *data = gbinder_writer_get_data(&writer, &size);
-    guint8 *copy = g_memdup2(data + header, size - header);
-    GBinderRemoteReply *reply = answered(MIXED, with);
-    gbinder_remote_reply_init_reader(reply, &come);
-    const void *back = gbinder_reader_get_data(&come, &size_back);
-    NEED(size_back == size - header && !memcmp(back, copy, size_back), "other values came back");
-    gbinder_remote_reply_unref(reply);
-    g_free(copy);
-    printf("%zu bytes of values came back the same\n", size_back);
 }
 
 static void play_list(void)

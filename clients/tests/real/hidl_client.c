@@ -1,5 +1,5 @@
-/* hidl_client: calls hidl_service in each of its ways; strings and vectors go as scatter-gather buffers that point at one
-   another. Prints a line, or says what is wrong and ends with 1. */
+/* hidl_client: calls hidl_service in each of its ways; strings and vectors go as scatter-gather buffers that point
+   at one another. Prints a line, or says what is wrong and ends with 1. */
 #include "codes.h"
 
 #include <string.h>

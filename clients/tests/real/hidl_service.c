@@ -1,5 +1,6 @@
-/* hidl_service: a HIDL service by libgbinder, hullpippin.test@1.0::IEcho/default on /dev/hwbinder. Code 1 answers a string by
-   a string, 2 a vector of strings by the same, 3 counts one-way calls, 4 tells the count. Prints `ready`. */
+/* hidl_service: a HIDL service by libgbinder, hullpippin.test@1.0::IEcho/default on /dev/hwbinder. Code 1 answers
+   a string by a string, 2 a vector of strings by the same, 3 counts one-way calls, 4 tells the count. Prints
+   `ready`. */
 #include "codes.h"
 
 static guint counted;

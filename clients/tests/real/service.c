@@ -1,6 +1,7 @@
 /*
- * service NAME [COUNT [DEVICE [PROTOCOL]]]: registers a test service by libgbinder, or with a COUNT so many, as NAME0, NAME1
- * and so on, and serves until it is killed. Prints `ready` then, and `dead` for each object whose end it hears of.
+ * service NAME [COUNT [DEVICE [PROTOCOL]]]: registers a test service by libgbinder, or with a COUNT so many, as
+ * NAME0, NAME1 and so on, and serves until it is killed. Prints `ready` then, and `dead` for each object whose end it
+ * hears of.
  */
 #include "codes.h"
 #include "common.h"
