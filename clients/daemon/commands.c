@@ -127,7 +127,7 @@ static int run_command(struct run *run, uint32_t code, const uint8_t *command)
         return run_looper(run, code);
     case BC_CLEAR_DEATH_NOTIFICATION:
     case BC_DEAD_BINDER_DONE:
-        run->thread->is_prompt = true; /* there may be a BR_CLEAR_DEATH_NOTIFICATION_DONE, which doesn't wait for a reply */
+        run->thread->is_prompt = true; /* BR_CLEAR_DEATH_NOTIFICATION_DONE doesn't wait for a reply */
         return engine_command(run->engine, run->thread->seat, command, sizeof code + _IOC_SIZE(code));
     default:
         return engine_command(run->engine, run->thread->seat, command, sizeof code + _IOC_SIZE(code));

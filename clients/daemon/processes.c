@@ -20,6 +20,9 @@
 /* The daemon's own seat. */
 #define OWN_SEAT 0u
 
+/* How often a step that has to be made is tried where there is no memory. */
+#define TRIES 100
+
 static struct list *bucket_of(const struct engine *engine, uint32_t engine_pid)
 {
     return (struct list *)&engine->by_pid[engine_pid % (sizeof engine->by_pid / sizeof *engine->by_pid)];
@@ -72,6 +75,36 @@ static int open_device(struct process *process, const struct control_request *re
     return 0;
 }
 
+/* Without its own seat the daemon can't go on. */
+static void give_up(struct engine *engine)
+{
+    if (!engine->daemon->has_failed)
+        log_line("%s: there is no memory for processes to come or go, the daemon ends", engine->device);
+    engine->daemon->has_failed = engine->daemon->loop.is_stopped = true;
+}
+
+/* The daemon's own seat leaves the process that it has opened. */
+static bool leave(struct engine *engine)
+{
+    for (int i = 0; i < TRIES; i++)
+        if (engine_exit_thread(engine, OWN_SEAT) == 0)
+            return true;
+    give_up(engine);
+    return false;
+}
+
+/* Ends a process by the daemon's own seat, which may have a thread of it already. */
+static bool exit_by_own_seat(struct engine *engine, uint32_t engine_pid)
+{
+    for (int i = 0; i < TRIES; i++) {
+        if (engine_exit_process(engine, OWN_SEAT) == 0 && engine->answer.kind == HULLPIPPIN_EXITED)
+            return true;
+        engine_attach(engine, OWN_SEAT, engine_pid);
+    }
+    give_up(engine);
+    return false;
+}
+
 /* Opens the process in the engine, where it lives on without the thread that has opened it. */
 static int open_in_engine(struct process *process)
 {
@@ -80,11 +113,8 @@ static int open_in_engine(struct process *process)
     int error = engine_open(engine, OWN_SEAT, pid, process->euid, (uint32_t)process->window.size);
     if (error || engine->answer.kind != HULLPIPPIN_OPENED)
         return error ? error : ENOMEM;
-    error = engine_exit_thread(engine, OWN_SEAT);
-    if (error && engine_exit_process(engine, OWN_SEAT))
-        log_line("%s: no process can come or go", engine->device);
-    if (error)
-        return error;
+    if (!leave(engine))
+        return ENOMEM;
     process->engine_pid = pid;
     list_append(bucket_of(engine, pid), &process->in_bucket);
     return 0;
@@ -189,14 +219,9 @@ static void exit_in_engine(struct process *process)
     struct engine *engine = process->engine;
     for (struct list *entry = process->threads.next; entry != &process->threads; entry = entry->next)
         drain_thread(container_of(entry, struct thread, in_process));
-    if (engine_attach(engine, OWN_SEAT, process->engine_pid) || engine->answer.kind != HULLPIPPIN_OPENED) {
-        log_line("%s: process %u can't be ended", engine->device, process->engine_pid);
-        return;
-    }
-    drain_process(process);
-    if (engine_exit_process(engine, OWN_SEAT))
-        log_line("%s: process %u can't be ended", engine->device, process->engine_pid);
-    else
+    if (engine_attach(engine, OWN_SEAT, process->engine_pid) == 0 && engine->answer.kind == HULLPIPPIN_OPENED)
+        drain_process(process);
+    if (exit_by_own_seat(engine, process->engine_pid))
         log_event("process %d, %u of %s, has ended", process->pid, process->engine_pid, engine->device);
 }
 
