@@ -62,6 +62,15 @@ void act_request(struct page *page, uint32_t stream)
     };
 }
 
+/* Gives back what isn't its own, and more at once than there is room for. */
+static void lie_about_frees(struct page *page)
+{
+    for (size_t i = 0; i < PAGE_FREES; i++)
+        page->frees[i] = below(2) ? odd_number() : 8 * below(1 << 17);
+    atomic_store(&page->freed, atomic_load(&page->freed) + (below(2) ? below(PAGE_FREES) : (uint32_t)odd_number()));
+    atomic_store(&page->taken, (uint32_t)odd_number());
+}
+
 /* Streams that are nearly right, requests that aren't, and states that nobody may set. */
 void act_garbage_page(void)
 {
@@ -76,6 +85,8 @@ void act_garbage_page(void)
             hostile_send(hostile.link, "x", below(2), below(254));
         if (!below(10))
             atomic_store(&hostile.page->cancel, (uint32_t)odd_number());
+        if (!below(10))
+            lie_about_frees(hostile.page);
         hostile_ask(&hostile, below(4) ? 5 : 0);
         if (!below(10))
             atomic_store(&hostile.page->state, (uint32_t)odd_number());
