@@ -94,7 +94,7 @@ def fuzz(build):
     """Hostile clients for a minute; an honest pair calls meanwhile, and others are served afterwards."""
     with Stage(build) as stage:
         alone = figures(stage.run([build.fuzz("witness"), "2"]))
-        before = resident(stage.daemon.pid)
+        before, files = resident(stage.daemon.pid), open_files(stage.daemon.pid)
         witness = stage.start([build.fuzz("witness"), str(build.fuzz_seconds)]).wait_for("ready")
         attacks = stage.run([build.fuzz("fuzz"), str(build.fuzz_seconds), str(build.seed)], build.fuzz_seconds + 30, client=False)
         calls = figures(witness.finish())
@@ -102,6 +102,10 @@ def fuzz(build):
         expect(calls["longest"] < 2e6, f"a call took {calls['longest'] / 1e6:.1f} s meanwhile")
         expect(calls["calls"] > 100 * build.fuzz_seconds, f"only {calls['calls']:.0f} calls were answered meanwhile")
         stage.run([build.raw("nested")])
+        end = time.monotonic() + 5
+        while open_files(stage.daemon.pid) > files and time.monotonic() < end:
+            time.sleep(0.05)
+        expect(open_files(stage.daemon.pid) <= files, f"the daemon has {open_files(stage.daemon.pid)} descriptors after {files}")
         grown = resident(stage.daemon.pid) - before
         expect(build.sanitized or grown < FUZZ_KIB, f"the daemon grew by {grown} KiB")
     return (f"{calls['calls']:.0f} calls of another client meanwhile, median {calls['median']} us (alone {alone['median']}), "
