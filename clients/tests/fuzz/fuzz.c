@@ -1,5 +1,5 @@
 /*
- * fuzz SECONDS [SEED [ACT]]: hostile clients of the daemon whose socket HULLPIPPIN_SOCKET names, four at a time, each
+ * fuzz SECONDS [SEED [ACT..]]: hostile clients of the daemon whose socket HULLPIPPIN_SOCKET names, four at a time, each
  * a process that plays one act; it ends by itself or is killed at a random moment. Prints how many there were of each
  * act. Who judges is somebody else: whether the daemon lives, and whether others are served meanwhile.
  */
@@ -78,7 +78,8 @@ int main(int argc, char **argv)
     for (uint64_t turn = 0; now() < end; usleep(500))
         for (size_t i = 0; i < AT_ONCE; i++)
             if (is_over(&playing[i])) {
-                size_t act = argc > 3 ? strtoul(argv[3], NULL, 10) % ACTS : below((uint32_t)ACTS);
+                uint32_t any = below(argc > 3 ? (uint32_t)argc - 3 : (uint32_t)ACTS);
+                size_t act = argc > 3 ? strtoul(argv[3 + any], NULL, 10) % ACTS : any;
                 start(&playing[i], seed * 1000003 + turn++, act);
                 played[act]++;
             }
