@@ -131,6 +131,7 @@ struct engine {
     struct thread **lent;     /* by seat: whose it is, or NULL */
     uint32_t *free_seats;     /* a stack */
     uint32_t free_count;
+    struct list seatless;     /* threads whose request waits for a seat */
 
     struct list processes;
     struct list by_pid[256];  /* processes by the pid that they have in the engine */
@@ -157,6 +158,13 @@ int engine_command_with(struct engine *engine, uint32_t seat, const void *comman
 
 /* Sees to it that the thread has a seat. False where all are busy, or the engine refuses. */
 bool seat_lend(struct thread *thread);
+/* The thread's request waits until a seat is idle. */
+void seat_await(struct thread *thread);
+/* Looks again at the requests that wait. Follows each event. */
+void seats_retry(struct engine *engine);
+/* Nothing has happened for a second: requests that wait are refused, since those who have the seats may wait for
+   them. */
+void seats_refuse(struct engine *engine);
 /* Ends the thread in the engine, and takes its seat back. */
 void seat_return(struct thread *thread);
 /* The same, where the thread's process has ended. */
@@ -226,7 +234,7 @@ struct landing {
 struct thread {
     struct watch link, bell;
     struct process *process;
-    struct list in_process, in_watch;
+    struct list in_process, in_watch, in_seatless;
     struct page *page;
     uint32_t freed;            /* how many of the page's frees were seen to */
     uint32_t seat;
@@ -266,7 +274,7 @@ struct landing *thread_landing(struct thread *thread);
 void page_rung(struct thread *thread);
 /* Answers the thread's request. */
 void page_answer(struct thread *thread, const uint8_t *returns, uint32_t size);
-/* Answers a read that waits, with an errno. */
+/* Answers a request that waits, for returns or for a seat, with an errno. */
 void page_interrupt(struct thread *thread, int error);
 /* Copies from a page, once: what the compiler makes of the copy doesn't look at the page again. */
 void page_copy(void *to, const void *from, size_t size);
@@ -375,7 +383,8 @@ bool devices_set_journal(struct daemon *daemon, const char *word);
 struct engine *device_engine(struct daemon *daemon, const char *name);
 bool devices_begin(struct daemon *daemon);
 void devices_end(struct daemon *daemon);
-void devices_flush(struct daemon *daemon);
+/* Nothing has happened for a second. */
+void devices_idle(struct daemon *daemon);
 
 /* --- main.c --- */
 

@@ -65,11 +65,15 @@ struct engine *device_engine(struct daemon *daemon, const char *name)
     return device->engine;
 }
 
-void devices_flush(struct daemon *daemon)
+void devices_idle(struct daemon *daemon)
 {
-    for (uint32_t i = 0; i < daemon->device_count; i++)
-        if (daemon->devices[i].engine)
-            journal_flush(&daemon->devices[i].engine->journal);
+    for (uint32_t i = 0; i < daemon->device_count; i++) {
+        struct engine *engine = daemon->devices[i].engine;
+        if (!engine)
+            continue;
+        journal_flush(&engine->journal);
+        seats_refuse(engine);
+    }
 }
 
 static void end_all(struct list *processes)

@@ -29,6 +29,7 @@ struct engine *engine_new(struct daemon *daemon, const char *device, uint32_t se
     snprintf(engine->device, sizeof engine->device, "%s", device);
     list_begin(&engine->processes);
     list_begin(&engine->looked_at);
+    list_begin(&engine->seatless);
     list_begin(&engine->resting);
     for (size_t i = 0; i < sizeof engine->by_pid / sizeof *engine->by_pid; i++)
         list_begin(&engine->by_pid[i]);

@@ -147,7 +147,7 @@ static void tell_status(int fd, unsigned char status)
 
 static void when_idle(void *context)
 {
-    devices_flush(context);
+    devices_idle(context);
 }
 
 static int run(struct daemon *daemon, const struct options *options, int told)

@@ -112,11 +112,9 @@ static int do_request(struct thread *thread, const struct page_request *request)
 {
     if (!thread->process->engine_pid)
         return EINVAL; /* there was no mmap */
-    if (request->op == PAGE_EXIT_THREAD)
-        return exit_thread(thread), 0;
-    if (!seat_lend(thread))
-        return EMFILE;
     switch (request->op) {
+    case PAGE_EXIT_THREAD:
+        return exit_thread(thread), 0;
     case PAGE_WRITE_READ:
         return write_read(thread, request);
     case PAGE_SET_MANAGER:
@@ -131,12 +129,9 @@ static int do_request(struct thread *thread, const struct page_request *request)
 }
 
 /* Frees what the client gives back without waiting. What no memory is there for is tried again. */
-static void free_buffers(struct thread *thread)
+static void free_buffers(struct thread *thread, uint32_t freed)
 {
     struct page *page = thread->page;
-    uint32_t freed = atomic_load_explicit(&page->freed, memory_order_acquire);
-    if (freed == thread->freed || !thread->process->engine_pid || !seat_lend(thread))
-        return;
     if (freed - thread->freed > PAGE_FREES) /* a lie */
         thread->freed = freed;
     for (; thread->freed != freed; thread->freed++) {
@@ -165,19 +160,37 @@ static void answer_request(struct thread *thread, const struct page_request *req
         page_interrupt(thread, EINTR); /* its ring may have been one with that for the request */
 }
 
+/* A thread that was interrupted while its request waits gets its answer. */
+static void cancel(struct thread *thread)
+{
+    if (!atomic_load(&thread->page->cancel))
+        return;
+    list_remove(&thread->in_seatless);
+    page_interrupt(thread, EINTR);
+}
+
 void page_rung(struct thread *thread)
 {
     struct page *page = thread->page;
     struct page_request request;
-    if (thread->is_waiting) {
-        if (atomic_load(&page->cancel))
-            page_interrupt(thread, EINTR);
+    if (thread->is_waiting || !list_is_empty(&thread->in_seatless)) {
+        cancel(thread);
         return;
     }
     bool is_asked = atomic_load_explicit(&page->state, memory_order_acquire) == PAGE_ASKED;
+    uint32_t freed = atomic_load_explicit(&page->freed, memory_order_acquire);
     if (is_asked)
         page_copy(&request, &page->request, sizeof request);
-    free_buffers(thread);
+    if (!is_asked && freed == thread->freed)
+        return;
+    if (thread->process->engine_pid) {
+        if (!seat_lend(thread)) {
+            thread->answer = (struct page_answer){0};
+            seat_await(thread);
+            return;
+        }
+        free_buffers(thread, freed);
+    }
     if (is_asked)
         answer_request(thread, &request);
     else

@@ -239,6 +239,8 @@ void process_end(struct process *process)
     free(process->handed);
     bool was_open = process->engine_pid != 0;
     free(process);
-    if (was_open)
+    if (was_open) {
         settle(engine, NULL);
+        seats_retry(engine);
+    }
 }

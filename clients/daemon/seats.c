@@ -4,6 +4,8 @@
  */
 #include "daemon.h"
 
+#include <errno.h>
+
 static void put_back(struct thread *thread)
 {
     struct engine *engine = thread->process->engine;
@@ -57,6 +59,35 @@ bool seat_lend(struct thread *thread)
     engine->lent[seat] = thread;
     thread->seat = seat;
     return true;
+}
+
+void seat_await(struct thread *thread)
+{
+    if (list_is_empty(&thread->in_seatless))
+        list_append(&thread->process->engine->seatless, &thread->in_seatless);
+}
+
+static struct thread *first_seatless(struct engine *engine)
+{
+    return list_is_empty(&engine->seatless) ? NULL : container_of(engine->seatless.next, struct thread, in_seatless);
+}
+
+void seats_retry(struct engine *engine)
+{
+    struct thread *thread;
+    while ((thread = first_seatless(engine)) && seat_lend(thread)) {
+        list_remove(&thread->in_seatless);
+        page_rung(thread);
+    }
+}
+
+void seats_refuse(struct engine *engine)
+{
+    struct thread *thread;
+    while ((thread = first_seatless(engine))) {
+        list_remove(&thread->in_seatless);
+        page_interrupt(thread, EMFILE);
+    }
 }
 
 void seat_return(struct thread *thread)

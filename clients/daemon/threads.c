@@ -28,12 +28,15 @@ static void link_ready(struct watch *watch, uint32_t events)
     page_rung(thread); /* it may have asked for something without waiting for it */
     thread_end(thread);
     settle(engine, NULL);
+    seats_retry(engine);
 }
 
 static void bell_ready(struct watch *watch, uint32_t events)
 {
+    struct thread *thread = container_of(watch, struct thread, bell);
     (void)events;
-    page_rung(container_of(watch, struct thread, bell));
+    page_rung(thread);
+    seats_retry(thread->process->engine);
 }
 
 /* The page's size is sealed: no access of the daemon's can go past its end. */
@@ -80,6 +83,7 @@ static struct thread *new_thread(struct process *process, const struct parts *pa
     thread->doorbell = thread->doorbell_end = -1;
     list_append(&process->threads, &thread->in_process);
     list_begin(&thread->in_watch);
+    list_begin(&thread->in_seatless);
     process->thread_count++;
     return thread;
 }
@@ -142,6 +146,7 @@ void thread_free(struct thread *thread)
     loop_drop(loop, &thread->bell);
     munmap(thread->page, sizeof *thread->page);
     settle_forget(thread);
+    list_remove(&thread->in_seatless);
     list_remove(&thread->in_process);
     thread->process->thread_count--;
     free(thread);
