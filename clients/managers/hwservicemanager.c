@@ -120,7 +120,7 @@ static bool ask_and_add(struct manager *manager, struct text instance, uint32_t 
         .data.ptr.buffer = (uintptr_t)token,
     };
     struct binder_transaction_data reply;
-    if (looper_call(&manager->looper, &call, &reply) != BR_REPLY)
+    if (looper_call(&manager->looper, &call, 0, &reply) != BR_REPLY)
         return false;
     bool added = add_chain(manager, &reply, instance, handle);
     looper_free(&manager->looper, &reply);

@@ -105,10 +105,14 @@ void looper_run(struct looper *looper)
         ;
 }
 
-uint32_t looper_call(struct looper *looper, const struct binder_transaction_data *call, struct binder_transaction_data *reply)
+uint32_t looper_call(struct looper *looper, const struct binder_transaction_data *call, size_t buffers,
+                     struct binder_transaction_data *reply)
 {
     struct turn turn;
-    put_record(&looper->commands, BC_TRANSACTION, call);
+    if (buffers)
+        put_record_sg(&looper->commands, BC_TRANSACTION_SG, call, buffers);
+    else
+        put_record(&looper->commands, BC_TRANSACTION, call);
     while (looper_turn(looper, &turn)) {
         if (turn.ending == BR_REPLY)
             *reply = turn.reply;

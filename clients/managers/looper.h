@@ -44,9 +44,11 @@ void looper_run(struct looper *looper);
 
 /*
  * Makes a call, and waits for its end: `reply` is filled where it is BR_REPLY. A one-way call ends as
- * BR_TRANSACTION_COMPLETE where it was taken. 0 with errno where the device fails.
+ * BR_TRANSACTION_COMPLETE where it was taken. `buffers` is the size of all buffers that PTR objects of it point at. 0
+ * with errno where the device fails.
  */
-uint32_t looper_call(struct looper *looper, const struct binder_transaction_data *call, struct binder_transaction_data *reply);
+uint32_t looper_call(struct looper *looper, const struct binder_transaction_data *call, size_t buffers,
+                     struct binder_transaction_data *reply);
 
 /*
  * Answers the call that is being served. An answer without bytes goes out with the next exchange; one with bytes at

@@ -111,3 +111,16 @@ def fuzz(build):
     return (f"{calls['calls']:.0f} calls of another client meanwhile, median {calls['median']} us (alone {alone['median']}), "
             f"longest {calls['longest'] / 1e3:.1f} ms; the daemon grew by {grown} KiB; {attacks}")
 
+
+@test("raw fuzz of managers")
+def fuzz_managers(build):
+    """The two context managers get requests that lie for a while, and work afterwards."""
+    told = []
+    with Stage(build, journal=DEVICE) as stage:
+        for name, kind, device in (("servicemanager", "aidl", DEVICE), ("hwservicemanager", "hidl", "/dev/hwbinder")):
+            manager = stage.manage(name)
+            words = [build.fuzz("garbage"), "5", str(build.seed), kind]
+            told.append(f"{kind} {stage.run(words, environment={'RAW_DEVICE': device})}")
+            expect(manager.runs(), f"{name} ended: {manager.printed()[-300:]}")
+        stage.run([build.raw("services"), "20"])
+    return f"{', '.join(told)}; lawful, {stage.entries} steps"

@@ -20,7 +20,7 @@ class Player(threading.Thread):
     """Starts a program again and again, and kills it after a while, unless it ends by itself."""
 
     def __init__(self, stage, words, longest, honest, seed):
-        super().__init__()
+        super().__init__(daemon=True)
         self.stage, self.words, self.longest, self.honest = stage, words, longest, honest
         self.chance = random.Random(seed)
         self.until = time.monotonic() + SECONDS

@@ -122,6 +122,7 @@ class Stage:
         self.journal = f"{self.folder}/journal" if journal else None
         self.entries = None
         self.others = []
+        self.is_over = False
         self.environment = {**build.environment, "HULLPIPPIN_SOCKET": self.socket, "PATH": os.environ["PATH"], "HOME": self.folder}
         words = [build.daemon, "--socket", self.socket]
         if journal:
@@ -150,12 +151,14 @@ class Stage:
             self.clear()
 
     def clear(self):
+        self.is_over = True
         for process in [*self.others, self.daemon]:
             process.kill()
         shutil.rmtree(self.folder, ignore_errors=True)
 
     def start(self, words, environment=(), client=True):
         """A program that runs on; a client's has the library preloaded."""
+        expect(not self.is_over, "the stage is over")
         preload = {"LD_PRELOAD": self.build.preload} if client else {}
         log = f"{self.folder}/{len(self.others)}.log"
         process = Process(words, {**self.environment, **preload, **dict(environment)}, log)

@@ -84,7 +84,7 @@ uint32_t raw_call(struct looper *looper, struct call call, struct binder_transac
         .data_size = call.size,
         .data.ptr.buffer = (uintptr_t)call.bytes,
     };
-    return looper_call(looper, &record, reply);
+    return looper_call(looper, &record, 0, reply);
 }
 
 uint32_t raw_call_with(struct looper *looper, struct call call, struct writer *writer, struct binder_transaction_data *reply)
@@ -94,7 +94,7 @@ uint32_t raw_call_with(struct looper *looper, struct call call, struct writer *w
     record.target.handle = call.handle;
     record.code = call.code;
     record.flags |= call.flags;
-    uint32_t ending = looper_call(looper, &record, reply);
+    uint32_t ending = looper_call(looper, &record, writer->buffers, reply);
     writer_free(writer);
     return ending;
 }

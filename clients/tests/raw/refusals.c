@@ -29,7 +29,7 @@ static void refuses_calls(struct client *client)
     works(client);
     lost.data.ptr.buffer = (uintptr_t)&lost;
     lost.data.ptr.offsets = (uintptr_t)&lost;
-    CHECK(looper_call(&client->looper, &lost, &reply) == BR_FAILED_REPLY, "offsets of 3 bytes were taken");
+    CHECK(looper_call(&client->looper, &lost, 0, &reply) == BR_FAILED_REPLY, "offsets of 3 bytes were taken");
     works(client);
 }
 
