@@ -17,6 +17,7 @@
 #include <stdint.h>
 #include <stdio.h>
 #include <sys/types.h>
+#include <sys/un.h>
 
 /* The engine's pointers begin here, at a window's first byte (docs/RULES.md, "Buffers and windows"). */
 #define WINDOW_BASE UINT64_C(65536)
@@ -358,11 +359,14 @@ struct listener {
     struct watch watch;
     int lock;  /* held as long as a daemon has this address */
     int spare; /* a descriptor to let go of, so that a client can be sent away where no more are left */
-    char path[108];
+    struct sockaddr_un address;
 };
 
 enum { LISTENER_OK, LISTENER_BUSY, LISTENER_FAILED };
-int listener_begin(struct daemon *daemon, const char *path);
+/* Takes the lock of an address. */
+int listener_lock(struct daemon *daemon, const char *path);
+/* Lets clients come. */
+bool listener_begin(struct daemon *daemon);
 void listener_end(struct daemon *daemon);
 
 /* --- devices.c --- */

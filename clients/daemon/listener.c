@@ -60,44 +60,49 @@ static int take_lock(const char *path)
     return fd;
 }
 
-static bool begin_to_listen(struct daemon *daemon, const struct sockaddr_un *address)
-{
-    struct watch *watch = &daemon->listener.watch;
-    *watch = (struct watch){.fd = socket(AF_UNIX, SOCK_SEQPACKET | SOCK_CLOEXEC | SOCK_NONBLOCK, 0), .ready = listener_ready};
-    if (watch->fd < 0)
-        return false;
-    unlink(address->sun_path); /* it is of a daemon that was killed: we have the lock */
-    return bind(watch->fd, (const struct sockaddr *)address, sizeof *address) == 0 && listen(watch->fd, BACKLOG) == 0
-           && loop_add(&daemon->loop, watch, EPOLLIN);
-}
-
-int listener_begin(struct daemon *daemon, const char *path)
+int listener_lock(struct daemon *daemon, const char *path)
 {
     struct listener *listener = &daemon->listener;
-    struct sockaddr_un address;
-    if (!daemon_address(path, &address)) {
+    if (!daemon_address(path, &listener->address)) {
         log_line("the socket's path is too long");
         return LISTENER_FAILED;
     }
-    listener->lock = make_folder(address.sun_path) ? take_lock(address.sun_path) : -1;
+    const char *at = listener->address.sun_path;
+    listener->lock = make_folder(at) ? take_lock(at) : -1;
     if (listener->lock < 0 && errno == EWOULDBLOCK) {
-        log_event("a daemon listens at %s already", address.sun_path);
+        log_event("a daemon listens at %s already", at);
         return LISTENER_BUSY;
     }
-    if (listener->lock < 0 || !begin_to_listen(daemon, &address)) {
-        log_line("%s: %s", address.sun_path, strerror(errno));
+    if (listener->lock < 0) {
+        log_line("%s: %s", at, strerror(errno));
         return LISTENER_FAILED;
     }
-    listener->spare = open("/dev/null", O_RDONLY | O_CLOEXEC);
-    snprintf(listener->path, sizeof listener->path, "%s", address.sun_path);
-    log_event("listening at %s", listener->path);
     return LISTENER_OK;
+}
+
+bool listener_begin(struct daemon *daemon)
+{
+    struct listener *listener = &daemon->listener;
+    struct watch *watch = &listener->watch;
+    const struct sockaddr *address = (const struct sockaddr *)&listener->address;
+    listener->spare = open("/dev/null", O_RDONLY | O_CLOEXEC);
+    *watch = (struct watch){.fd = socket(AF_UNIX, SOCK_SEQPACKET | SOCK_CLOEXEC | SOCK_NONBLOCK, 0), .ready = listener_ready};
+    unlink(listener->address.sun_path); /* it is of a daemon that was killed: we have the lock */
+    if (watch->fd < 0 || bind(watch->fd, address, sizeof listener->address) || listen(watch->fd, BACKLOG)
+        || !loop_add(&daemon->loop, watch, EPOLLIN)) {
+        log_line("%s: %s", listener->address.sun_path, strerror(errno));
+        return false;
+    }
+    log_event("listening at %s", listener->address.sun_path);
+    return true;
 }
 
 void listener_end(struct daemon *daemon)
 {
-    unlink(daemon->listener.path);
-    loop_drop(&daemon->loop, &daemon->listener.watch);
-    close(daemon->listener.spare);
-    close(daemon->listener.lock);
+    struct listener *listener = &daemon->listener;
+    if (listener->watch.fd >= 0)
+        unlink(listener->address.sun_path);
+    loop_drop(&daemon->loop, &listener->watch);
+    descriptor_close(&listener->spare);
+    descriptor_close(&listener->lock);
 }

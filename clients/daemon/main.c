@@ -152,13 +152,14 @@ static void when_idle(void *context)
 
 static int run(struct daemon *daemon, const struct options *options, int told)
 {
-    int status = listener_begin(daemon, options->socket);
+    int status = listener_lock(daemon, options->socket);
     if (status != LISTENER_OK) {
         status = status == LISTENER_BUSY ? STATUS_BUSY : STATUS_FAILED;
         tell_status(told, (unsigned char)status);
         return status;
     }
-    status = watch_signals(daemon) && descriptors_begin() && devices_begin(daemon) ? 0 : STATUS_FAILED;
+    bool is_begun = watch_signals(daemon) && descriptors_begin() && devices_begin(daemon) && listener_begin(daemon);
+    status = is_begun ? 0 : STATUS_FAILED;
     tell_status(told, (unsigned char)status);
     if (!status)
         loop_run(&daemon->loop, when_idle, daemon);
@@ -170,7 +171,7 @@ static int run(struct daemon *daemon, const struct options *options, int told)
 
 int main(int count, char **words)
 {
-    static struct daemon daemon = {.seats = DEFAULT_SEATS, .signals.fd = -1, .listener.watch.fd = -1};
+    static struct daemon daemon = {.seats = DEFAULT_SEATS, .signals.fd = -1, .listener = {.watch.fd = -1, .spare = -1}};
     struct options options = {0};
     list_begin(&daemon.strangers);
     if (!read_options(&daemon, &options, count, words))
