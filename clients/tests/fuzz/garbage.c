@@ -41,6 +41,7 @@ static void write_some_buffer(struct writer *writer, int *buffers)
 {
     size_t size = below(3) ? 16 : 8 * below(16);
     int parent = *buffers && below(2) ? (int)below((uint32_t)*buffers) : -1;
+    memory[0] = odd_number(); /* unless a buffer that has this one for its parent puts its own address there */
     memory[1] = below(2) ? below(40) : odd_number();
     *buffers = write_buffer(writer, memory, size, parent, below(4) ? 0 : 8 * below(8)) + 1;
 }
