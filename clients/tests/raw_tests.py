@@ -33,10 +33,11 @@ plays("descriptors", "10000")
 def latency(build):
     """Round trips beside those of bare relays, in turn; of each the round with the best median counts, as other work only delays."""
     best = {}
+    measured = {"over sockets": ([build.raw("relay"), "sockets"], False), "over a page": ([build.raw("relay"), "page"], False),
+                "call": ([build.raw("latency"), "5000"], True), "call of 4096 bytes": ([build.raw("latency"), "2000", "4096"], True)}
     with Stage(build) as stage:
         for _ in range(ROUNDS):
-            for what, words, client in (("over sockets", [build.raw("relay"), "sockets"], False), ("over a page", [build.raw("relay"), "page"], False),
-                                        ("call", [build.raw("latency"), "5000"], True), ("call of 4096 bytes", [build.raw("latency"), "2000", "4096"], True)):
+            for what, (words, client) in measured.items():
                 found = figures(stage.run(words, client=client))
                 if what not in best or found["median"] < best[what]["median"]:
                     best[what] = found

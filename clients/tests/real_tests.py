@@ -203,8 +203,9 @@ def real_soak(build, packages):
         stage.manage()
 
     def parts(_):
-        ours = [["time", "100000"], ["threads", "3", "2000"], ["nested", "1000"], ["descriptors", "1000"], ["keep"],
-                ["oneway", "300"], ["big", "100000"], ["death"]]
-        return [(packages.command(build.real("service"), "test"), 3),
-                *[(client(build, packages, "test", *words), 2) for words in ours]]
+        """A journal has 16 seats, so not all play at once."""
+        modes = [["time", "100000"], ["threads", "3", "2000"], ["nested", "1000"], ["descriptors", "1000"], ["keep"],
+                 ["oneway", "300"], ["big", "100000"], ["death"]]
+        choices = [client(build, packages, "test", *words) for words in modes]
+        return [([packages.command(build.real("service"), "test")], 3), ([choices[0]], 2), (choices, 1), (choices, 1), (choices, 1)]
     return soak(build, begin, parts, honest=False)

@@ -17,11 +17,11 @@ GIVES_BACK = {"GLIBC_TUNABLES": "glibc.malloc.trim_threshold=65536:glibc.malloc.
 
 
 class Player(threading.Thread):
-    """Starts a program again and again, and kills it after a while, unless it ends by itself."""
+    """Starts one of some programs again and again, and kills it after a while, unless it ends by itself."""
 
-    def __init__(self, stage, words, longest, honest, seed):
+    def __init__(self, stage, choices, longest, honest, seed):
         super().__init__(daemon=True)
-        self.stage, self.words, self.longest, self.honest = stage, words, longest, honest
+        self.stage, self.choices, self.longest, self.honest = stage, choices, longest, honest
         self.chance = random.Random(seed)
         self.until = time.monotonic() + SECONDS
         self.kills, self.why = 0, None
@@ -34,7 +34,8 @@ class Player(threading.Thread):
             self.why = why
 
     def once(self):
-        process = self.stage.start(self.words)
+        words = self.chance.choice(self.choices)
+        process = self.stage.start(words)
         end = time.monotonic() + self.chance.uniform(0.05, self.longest)
         while process.runs() and time.monotonic() < end:
             time.sleep(0.01)
@@ -42,7 +43,7 @@ class Player(threading.Thread):
             process.kill()
             self.kills += 1
         elif self.honest and process.process.returncode:
-            raise Failed(f"{' '.join(self.words)}: {process.printed().strip()}")
+            raise Failed(f"{' '.join(words)}: {process.printed().strip()}")
 
 
 def watched(stage, players):
@@ -71,11 +72,11 @@ def is_flat(memory):
 
 
 def soak(build, begin, parts, honest):
-    """Begins, and plays parts, each a command and the longest time of one life; judges memory, descriptors and the journal."""
+    """Begins, and plays parts, each some commands and the longest time of one life; judges memory, descriptors and the journal."""
     with Stage(build, journal=DEVICE, daemon_environment=GIVES_BACK) as stage:
         begin(stage)
         before = open_files(stage.daemon.pid)
-        players = [Player(stage, words, longest, honest, seed) for seed, (words, longest) in enumerate(parts(stage))]
+        players = [Player(stage, choices, longest, honest, seed) for seed, (choices, longest) in enumerate(parts(stage))]
         memory = watched(stage, players)
         kills = sum(player.kills for player in players)
         expect(build.sanitized or is_flat(memory), f"the daemon's memory by seconds: {memory} KiB")
@@ -88,7 +89,7 @@ def soak(build, begin, parts, honest):
 
 def raw_parts(stage):
     def busy(part, longest):
-        return [stage.build.raw("busy"), part, str(SECONDS)], longest
+        return [[stage.build.raw("busy"), part, str(SECONDS)]], longest
     return [busy("serve", 3), busy("serve", 3), *[busy("call", 2)] * 4, *[busy("hold", 1)] * 2]
 
 
