@@ -9,6 +9,7 @@
 
 #include <fcntl.h>
 #include <pthread.h>
+#include <stdlib.h>
 #include <sys/mman.h>
 #include <sys/socket.h>
 #include <sys/stat.h>
@@ -70,60 +71,94 @@ bool descriptors_are_held(void)
 
 /*
  * A client's descriptor may be one whose end takes its time, as a socket's that lingers, or a file's behind a
- * network. Pipes, memory and other sockets are closed at once. The rest is closed by a thread of its own, which gets
- * it by a pipe; where that is full, for want of a descriptor that closes, this one stays open.
+ * network. Pipes, memory and other sockets are closed at once. The rest is closed by a thread of its own, last come
+ * first served.
  */
-static int closing[2] = {-1, -1};
+static struct {
+    pthread_mutex_t lock;
+    pthread_cond_t has_more;
+    int *fds;
+    size_t count, room;
+} closing = {.lock = PTHREAD_MUTEX_INITIALIZER, .has_more = PTHREAD_COND_INITIALIZER};
 
 /* The device that memory files are on: that of all that memfd_create makes. */
-static dev_t memory_device;
+static uint32_t memory_major, memory_minor;
+
+/* What the kernel knows of a file, without asking whoever serves it. */
+static bool look_at(int fd, struct statx *stat)
+{
+    return statx(fd, "", AT_EMPTY_PATH | AT_STATX_DONT_SYNC, STATX_TYPE, stat) == 0;
+}
 
 static bool closes_at_once(int fd)
 {
-    struct stat stat;
+    struct statx stat;
     struct linger linger = {0};
     socklen_t size = sizeof linger;
-    if (fstat(fd, &stat))
-        return true;
-    if (S_ISSOCK(stat.st_mode))
+    if (!look_at(fd, &stat))
+        return false;
+    if (S_ISSOCK(stat.stx_mode))
         return getsockopt(fd, SOL_SOCKET, SO_LINGER, &linger, &size) == 0 && !linger.l_onoff;
-    return S_ISFIFO(stat.st_mode) || (S_ISREG(stat.st_mode) && stat.st_dev == memory_device);
+    return S_ISFIFO(stat.stx_mode)
+           || (S_ISREG(stat.stx_mode) && stat.stx_dev_major == memory_major && stat.stx_dev_minor == memory_minor);
 }
 
-static void *close_all(void *unused)
+static _Noreturn void *close_all(void *unused)
 {
-    int fd;
     (void)unused;
-    while (read(closing[0], &fd, sizeof fd) == sizeof fd)
+    pthread_mutex_lock(&closing.lock);
+    for (;;) {
+        while (!closing.count)
+            pthread_cond_wait(&closing.has_more, &closing.lock);
+        int fd = closing.fds[--closing.count];
+        pthread_mutex_unlock(&closing.lock);
         close(fd);
-    return NULL;
+        pthread_mutex_lock(&closing.lock);
+    }
+}
+
+/* Leaves a descriptor to that thread. False where there is no memory for that. */
+static bool leave(int fd)
+{
+    pthread_mutex_lock(&closing.lock);
+    if (closing.count == closing.room) {
+        size_t room = closing.room ? 2 * closing.room : 256;
+        int *fds = realloc(closing.fds, room * sizeof *fds);
+        closing.fds = fds ? fds : closing.fds;
+        closing.room = fds ? room : closing.room;
+    }
+    bool has_room = closing.count < closing.room;
+    if (has_room)
+        closing.fds[closing.count++] = fd;
+    pthread_mutex_unlock(&closing.lock);
+    pthread_cond_signal(&closing.has_more);
+    return has_room;
 }
 
 static bool find_memory_device(void)
 {
-    struct stat stat;
+    struct statx stat;
     int fd = memfd_create("hullpippin-memory", MFD_CLOEXEC);
-    bool is_found = fd >= 0 && fstat(fd, &stat) == 0;
+    bool is_found = fd >= 0 && look_at(fd, &stat);
     descriptor_close(&fd);
-    if (is_found)
-        memory_device = stat.st_dev;
+    if (is_found) {
+        memory_major = stat.stx_dev_major;
+        memory_minor = stat.stx_dev_minor;
+    }
     return is_found;
 }
 
 bool descriptors_begin(void)
 {
     pthread_t thread;
-    return find_memory_device() && pipe2(closing, O_CLOEXEC) == 0 && fcntl(closing[1], F_SETFL, O_NONBLOCK) == 0
-           && pthread_create(&thread, NULL, close_all, NULL) == 0 && pthread_detach(thread) == 0;
+    return find_memory_device() && pthread_create(&thread, NULL, close_all, NULL) == 0 && pthread_detach(thread) == 0;
 }
 
 void descriptors_close(int *fds, uint32_t count)
 {
     for (uint32_t i = 0; i < count; i++) {
-        if (fds[i] >= 0 && closes_at_once(fds[i]))
+        if (fds[i] >= 0 && (closes_at_once(fds[i]) || !leave(fds[i])))
             close(fds[i]);
-        else if (fds[i] >= 0 && write(closing[1], &fds[i], sizeof fds[i]) != sizeof fds[i])
-            log_event("descriptor %d stays open", fds[i]);
         fds[i] = -1;
     }
 }
