@@ -8,7 +8,7 @@ import time
 from builds import CLIENTS
 from raw_tests import DEVICE, MOST_ROUNDS, ROUNDS, flat_cost
 from soaks import soak
-from stage import Stage, expect, with_word
+from stage import Stage, expect, processor_time, with_word
 from suite import figures, test
 
 HIDL = "/dev/hwbinder"
@@ -184,19 +184,24 @@ def best(stage, words, **rest):
 
 @test("libgbinder latency", real=True, plain_only=True)
 def latency(build, packages):
-    """Calls beside a bare relay that goes the same ways between the same threads, in turn; the best medians count."""
-    relayed, called = [], []
+    """Calls beside what they would take over a bare relay: one that goes the same ways between the same threads, and what libgbinder
+    itself computes in client and service. Measured in turn; the best medians count."""
+    calls, relayed, called, own = 1000, [], [], []
     with Stage(build) as stage:
         stage.manage()
-        served(build, packages, stage, "test")
+        service = served(build, packages, stage, "test")
         for turn in range(MOST_ROUNDS):
-            if turn >= ROUNDS and min(called) <= TIMES_RELAY * min(relayed):
+            if turn >= ROUNDS and min(called) <= TIMES_RELAY * (min(relayed) + sum(own) / len(own)):
                 break
-            relayed.append(figures(stage.run([build.raw("relay_polled"), "1000"], client=False))["median"])
-            called.append(figures(stage.run(client(build, packages, "test", "time", "1000")))["median"])
-    relay, call = min(relayed), min(called)
-    expect(call <= TIMES_RELAY * relay, f"{call} us a call, {relay} us by a bare relay of the same ways")
-    return f"{call} us a call; {relay} us by a bare relay of the same ways"
+            relayed.append(figures(stage.run([build.raw("relay_polled"), str(calls)], client=False))["median"])
+            before = processor_time(service.pid, 1)
+            found = figures(stage.run(client(build, packages, "test", "time", str(calls))))
+            called.append(found["median"])
+            own.append(found["own"] + (processor_time(service.pid, 1) - before) * 1e6 / calls)
+    relay, call, own = min(relayed), min(called), sum(own) / len(own)
+    told = f"{call} us a call; {relay} us by a bare relay of the same ways, and libgbinder itself computes {own:.1f} us"
+    expect(call <= TIMES_RELAY * (relay + own), told)
+    return told
 
 
 @test("libgbinder soak of kills", real=True)

@@ -88,11 +88,11 @@ def resident(pid):
         return next(int(line.split()[1]) for line in file if line.startswith("RssAnon:"))
 
 
-def processor_time(pid):
-    """Seconds of processor time that a process has used."""
+def processor_time(pid, kinds=2):
+    """Seconds of processor time that a process has used; with `kinds` 1 only those that it has computed itself, outside of the kernel."""
     with open(f"/proc/{pid}/stat", encoding="ascii", errors="replace") as file:
         words = file.read().rsplit(")", 1)[1].split()
-    return (int(words[11]) + int(words[12])) / os.sysconf("SC_CLK_TCK")
+    return sum(map(int, words[11:11 + kinds])) / os.sysconf("SC_CLK_TCK")
 
 
 def with_word(word):
