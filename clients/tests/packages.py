@@ -1,0 +1,111 @@
+"""libgbinder, its tools and its headers, from Debian's packages: the real clients.
+
+They are those of Debian sid, unpacked into a folder outside the repository: what a test machine has is mostly older, so the clients run
+with sid's own loader and C library. Fetched once; a folder that is whole is used again. Needs apt-get and dpkg-deb, and a network.
+"""
+import glob
+import os
+import re
+import shutil
+import subprocess
+
+SUITE = "sid"
+MIRROR = "http://deb.debian.org/debian"
+KEYRING = "/usr/share/keyrings/debian-archive-keyring.gpg"
+# with all that they stand on
+RUN = ["libgbinder1", "libgbinder-tools"]
+# their headers alone
+HEADERS = ["libgbinder-dev", "libglibutil-dev", "libgio-2.0-dev"]
+# seconds for one command of apt
+PATIENCE = 180
+
+
+class Missing(Exception):
+    """The packages can't be had: why."""
+
+
+def default_folder():
+    base = os.environ.get("XDG_CACHE_HOME") or os.path.join(os.path.expanduser("~"), ".cache")
+    return os.path.join(base, "hullpippin-clients")
+
+
+def mirror():
+    """Where this machine gets its packages from, if it is a Debian; else where everybody may."""
+    for path in glob.glob("/etc/apt/sources.list.d/*.sources") + ["/etc/apt/sources.list"]:
+        if os.path.exists(path):
+            with open(path, encoding="utf-8") as file:
+                found = re.search(r"^(?:URIs:|deb(?:\s+\[[^]]*\])?)\s*(https?://\S*debian\S*)\s*(?:\S|$)", file.read(), re.M)
+            if found and "security" not in found[1]:
+                return found[1]
+    return MIRROR
+
+
+class Apt:
+    """apt-get with lists, cache and state of its own, so that nothing of the machine is looked at or changed."""
+
+    def __init__(self, folder):
+        self.folder = folder
+        for name in ("lists/partial", "cache/archives/partial"):
+            os.makedirs(os.path.join(folder, name), exist_ok=True)
+        signed = f"[signed-by={KEYRING}] " if os.path.exists(KEYRING) else ""
+        with open(f"{folder}/sources.list", "w", encoding="utf-8") as file:
+            file.write(f"deb {signed}{mirror()} {SUITE} main\n")
+        open(f"{folder}/status", "w", encoding="utf-8").close()
+        settings = {"Dir::Etc::sourcelist": f"{folder}/sources.list", "Dir::Etc::sourceparts": "/nonexistent",
+                    "Dir::State": folder, "Dir::State::lists": f"{folder}/lists", "Dir::State::status": f"{folder}/status",
+                    "Dir::Cache": f"{folder}/cache", "APT::Install-Recommends": "false", "APT::Sandbox::User": "root",
+                    "Acquire::Languages": "none", "Acquire::Retries": "2", "APT::Update::Error-Mode": "any"}
+        self.options = [word for key, value in settings.items() for word in ("-o", f"{key}={value}")]
+
+    def __call__(self, *words, cwd=None):
+        try:
+            done = subprocess.run(["apt-get", *self.options, "-qq", *words], cwd=cwd, stdin=subprocess.DEVNULL,
+                                  capture_output=True, text=True, timeout=PATIENCE)
+        except FileNotFoundError:
+            raise Missing("there is no apt-get here") from None
+        except subprocess.TimeoutExpired:
+            raise Missing(f"apt-get {words[0]} took over {PATIENCE} seconds") from None
+        if done.returncode:
+            last = (done.stderr.strip().splitlines() or ["no reason given"])[-1]
+            raise Missing(f"apt-get {words[0]}: {last}")
+
+
+def fetch(folder):
+    """Fetches the packages and unpacks them into `folder`/root, in place of what isn't whole there."""
+    shutil.rmtree(folder, ignore_errors=True)
+    apt = Apt(f"{folder}/apt")
+    apt("update")
+    apt("install", "-y", "--download-only", *RUN)
+    apt("download", *HEADERS, cwd=f"{folder}/apt/cache/archives")
+    for package in sorted(glob.glob(f"{folder}/apt/cache/archives/*.deb")):
+        subprocess.run(["dpkg-deb", "-x", package, f"{folder}/root"], check=True)
+    shutil.rmtree(f"{folder}/apt")
+    open(f"{folder}/whole", "w", encoding="utf-8").close()
+
+
+class Packages:
+    """The unpacked packages."""
+
+    def __init__(self, folder):
+        if not os.path.exists(f"{folder}/whole"):
+            fetch(folder)
+        self.root = f"{folder}/root"
+        loaders = glob.glob(f"{self.root}/usr/lib*/ld-linux*.so.*")
+        libraries = glob.glob(f"{self.root}/usr/lib/*-linux-gnu*/libgbinder.so.1")
+        if not loaders or not libraries:
+            raise Missing(f"{folder} has no libgbinder; remove it, so that it is fetched anew")
+        self.loader, self.libraries = loaders[0], os.path.dirname(libraries[0])
+
+    def command(self, program, *words):
+        """A program with the packages' loader and libraries."""
+        return [self.loader, "--library-path", self.libraries, program, *words]
+
+    def tool(self, name, *words):
+        return self.command(f"{self.root}/usr/bin/{name}", *words)
+
+    def build_words(self):
+        """What a compiler needs for programs against the packages' libraries."""
+        include = f"{self.root}/usr/include"
+        folders = [f"{include}/gbinder", f"{include}/gutil", f"{include}/glib-2.0", f"{self.libraries}/glib-2.0/include"]
+        libraries = [f"{self.libraries}/libgbinder.so.1", f"{self.libraries}/libglib-2.0.so.0", "-Wl,--allow-shlib-undefined"]
+        return [word for folder in folders for word in ("-isystem", folder)], libraries

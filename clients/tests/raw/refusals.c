@@ -1,0 +1,90 @@
+/*
+ * refusals: what the device refuses it refuses as the kernel's does, and nothing of it harms what comes next.
+ */
+#include "raw.h"
+
+#include <errno.h>
+#include <fcntl.h>
+#include <poll.h>
+#include <stdio.h>
+#include <sys/ioctl.h>
+#include <sys/mman.h>
+
+static void works(struct client *client)
+{
+    struct binder_transaction_data reply;
+    CHECK(raw_call(&client->looper, (struct call){0}, &reply) == BR_REPLY, "a plain call isn't answered any more");
+    looper_free(&client->looper, &reply);
+}
+
+static void refuses_calls(struct client *client)
+{
+    struct binder_transaction_data reply;
+    struct binder_transaction_data lost = {.data_size = 16, .offsets_size = 3};
+    struct writer writer = {0};
+    CHECK(raw_call(&client->looper, (struct call){.handle = 99}, &reply) == BR_FAILED_REPLY, "handle 99");
+    works(client);
+    write_strong_handle(&writer, 77);
+    CHECK(raw_call_with(&client->looper, (struct call){0}, &writer, &reply) == BR_FAILED_REPLY, "a handle nobody gave was sent");
+    works(client);
+    lost.data.ptr.buffer = (uintptr_t)&lost;
+    lost.data.ptr.offsets = (uintptr_t)&lost;
+    CHECK(looper_call(&client->looper, &lost, 0, &reply) == BR_FAILED_REPLY, "offsets of 3 bytes were taken");
+    works(client);
+}
+
+/* A bare write of some bytes: the ioctl's errno, or 0. */
+static int written(struct client *client, const void *bytes, size_t size)
+{
+    struct binder_write_read both = {.write_size = size, .write_buffer = (uintptr_t)bytes};
+    return ioctl(client->binder.fd, BINDER_WRITE_READ, &both) ? errno : 0;
+}
+
+static void refuses_streams(struct client *client)
+{
+    uint32_t unknown[2] = {0xdeadbeef, 0}, noop = BC_ENTER_LOOPER;
+    CHECK(looper_flush(&client->looper), "can't write");
+    CHECK(written(client, unknown, sizeof unknown) == EINVAL, "a command that is none was taken");
+    works(client);
+    CHECK(looper_flush(&client->looper), "can't write");
+    CHECK(written(client, &noop, sizeof noop) == 0, "BC_ENTER_LOOPER was refused");
+    works(client);
+}
+
+static void refuses_requests(struct client *client)
+{
+    int fd = client->binder.fd, more = 1;
+    CHECK(ioctl(fd, _IOW('b', 99, int), &more) < 0 && errno == EINVAL, "an ioctl that there isn't was taken");
+    CHECK(!binder_become_manager(&client->binder) && errno == EBUSY, "there is a second context manager");
+    CHECK(mmap(NULL, 4096, PROT_READ, MAP_PRIVATE, fd, 0) == MAP_FAILED, "the window was mapped twice");
+    works(client);
+}
+
+static void waits_as_told(void)
+{
+    struct client client;
+    uint8_t room[256];
+    struct binder_write_read both = {.read_size = sizeof room, .read_buffer = (uintptr_t)room};
+    raw_open(&client, WINDOW, NULL);
+    struct pollfd ready = {.fd = client.binder.fd, .events = POLLIN};
+    CHECK(poll(&ready, 1, 50) == 0, "there is something to read of an idle device: %x", ready.revents);
+    works(&client);
+    CHECK(!fcntl(client.binder.fd, F_SETFL, O_NONBLOCK), "O_NONBLOCK");
+    CHECK(ioctl(client.binder.fd, BINDER_WRITE_READ, &both) < 0 && errno == EAGAIN, "a read of nothing didn't come back");
+    binder_close(&client.binder);
+}
+
+int main(void)
+{
+    struct client client;
+    raw_begin(30);
+    pid_t manager = raw_start_manager(NULL);
+    raw_open(&client, WINDOW, NULL);
+    refuses_calls(&client);
+    refuses_streams(&client);
+    refuses_requests(&client);
+    waits_as_told();
+    printf("all refused as they should be\n");
+    raw_kill(manager);
+    return 0;
+}

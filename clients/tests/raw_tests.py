@@ -1,0 +1,130 @@
+"""Tests with our own clients alone, which need nothing but the kernel's header."""
+import time
+
+from stage import Stage, expect, open_files, processor_time, resident
+from suite import figures, test
+
+# what a round trip may take, in microseconds
+ROUND_TRIP = 25
+# a call with hundreds of services may take so much longer than with one
+SLACK = 1.25
+# rounds that are measured: the first so many, and more until they show what is asked for, or there are enough
+ROUNDS, MOST_ROUNDS = 12, 60
+# hostile clients may leave so much behind in the daemon
+FUZZ_KIB = 65536
+
+DEVICE = "/dev/binder"
+
+
+def plays(name, *words):
+    """A test that is one program, over a daemon whose journal is judged."""
+    @test(f"raw {name}")
+    def play(build):
+        with Stage(build, journal=DEVICE) as stage:
+            told = stage.run([build.raw(name), *words], 180)
+        return f"{told}; lawful, {stage.entries} steps"
+
+
+for name in ("nested", "oneway", "deaths", "parcels", "pool", "two_opens", "refusals"):
+    plays(name)
+plays("descriptors", "10000")
+
+
+@test("raw latency", plain_only=True)
+def latency(build):
+    """Round trips beside those of bare relays, in turn; of each the round with the best median counts, as other work only delays."""
+    best = {}
+    measured = {"over sockets": ([build.raw("relay"), "sockets", "2000"], False), "over a page": ([build.raw("relay"), "page", "2000"], False),
+                "call": ([build.raw("latency"), "2000"], True), "call of 4096 bytes": ([build.raw("latency"), "2000", "4096"], True)}
+    with Stage(build) as stage:
+        for turn in range(MOST_ROUNDS):
+            if turn >= ROUNDS and best["call"]["median"] <= ROUND_TRIP:
+                break
+            for what, (words, client) in measured.items():
+                found = figures(stage.run(words, client=client))
+                if what not in best or found["median"] < best[what]["median"]:
+                    best[what] = found
+    told = "; ".join(f"{what} {it['median']} us (p10 {it['tenth']}, p99 {it['last']})" for what, it in best.items())
+    expect(best["call"]["median"] <= ROUND_TRIP, f"a round trip takes over {ROUND_TRIP} us: {told}")
+    return told
+
+
+def flat_cost(found, what):
+    """Whether a call costs no more with all services than with one."""
+    before, after = figures(found)[what], float(found.split(f"{what} ")[1].split(" then ")[1].split()[0])
+    return after <= SLACK * before + 2
+
+
+@test("raw services")
+def services(build):
+    with Stage(build, journal=DEVICE) as stage:
+        stage.manage()
+        told = stage.run([build.raw("services"), "300"])
+        if not build.sanitized:
+            if not (flat_cost(told, "call") and flat_cost(told, "find")):
+                told = stage.run([build.raw("services"), "300"])  # once more, should other work have come between
+            expect(flat_cost(told, "call") and flat_cost(told, "find"), f"slower with more services: {told}")
+    return f"{told}; lawful, {stage.entries} steps"
+
+
+@test("raw churn")
+def churn(build):
+    """What the daemon keeps of clients that are gone would show in the second thousand."""
+    with Stage(build) as stage:
+        before = open_files(stage.daemon.pid)
+        told = stage.run([build.raw("churn"), "2000"], 300)
+        found = figures(told)
+        grown = float(told.split(" then ")[1].split()[0]) - found["memory"]
+        expect(grown <= 128 or build.sanitized, f"the daemon's memory grew: {told}")  # a sanitizer keeps what is freed
+        expect(open_files(stage.daemon.pid) <= before + 6, f"the daemon keeps descriptors: {told}, {before} before")
+    return told
+
+
+@test("raw idle")
+def idle(build):
+    """While its clients wait, the daemon does too."""
+    with Stage(build) as stage:
+        stage.manage()
+        stage.manage("hwservicemanager")
+        before = processor_time(stage.daemon.pid)
+        time.sleep(2)
+        used = processor_time(stage.daemon.pid) - before
+        expect(used <= 0.1, f"the daemon used {used} s of processor time in 2 s with nothing to do")
+    return f"{used} s of processor time in 2 s"
+
+
+@test("raw fuzz")
+def fuzz(build):
+    """Hostile clients for a minute; an honest pair calls meanwhile, and others are served afterwards."""
+    with Stage(build) as stage:
+        alone = figures(stage.run([build.fuzz("witness"), "2"]))
+        before, files = resident(stage.daemon.pid), open_files(stage.daemon.pid)
+        witness = stage.start([build.fuzz("witness"), str(build.fuzz_seconds)]).wait_for("ready")
+        attacks = stage.run([build.fuzz("fuzz"), str(build.fuzz_seconds), str(build.seed)], build.fuzz_seconds + 30, client=False)
+        calls = figures(witness.finish())
+        expect(stage.daemon.runs(), "the daemon ended")
+        expect(calls["longest"] < 2e6, f"a call took {calls['longest'] / 1e6:.1f} s meanwhile")
+        expect(calls["calls"] > 100 * build.fuzz_seconds, f"only {calls['calls']:.0f} calls were answered meanwhile")
+        stage.run([build.raw("nested")])
+        end = time.monotonic() + 5
+        while open_files(stage.daemon.pid) > files and time.monotonic() < end:
+            time.sleep(0.05)
+        expect(open_files(stage.daemon.pid) <= files, f"the daemon has {open_files(stage.daemon.pid)} descriptors after {files}")
+        grown = resident(stage.daemon.pid) - before
+        expect(build.sanitized or grown < FUZZ_KIB, f"the daemon grew by {grown} KiB")
+    return (f"{calls['calls']:.0f} calls of another client meanwhile, median {calls['median']} us (alone {alone['median']}), "
+            f"longest {calls['longest'] / 1e3:.1f} ms; the daemon grew by {grown} KiB; {attacks}")
+
+
+@test("raw fuzz of managers")
+def fuzz_managers(build):
+    """The two context managers get requests that lie for a while, and work afterwards."""
+    told = []
+    with Stage(build, journal=DEVICE) as stage:
+        for name, kind, device in (("servicemanager", "aidl", DEVICE), ("hwservicemanager", "hidl", "/dev/hwbinder")):
+            manager = stage.manage(name)
+            words = [build.fuzz("garbage"), "5", str(build.seed), kind]
+            told.append(f"{kind} {stage.run(words, environment={'RAW_DEVICE': device})}")
+            expect(manager.runs(), f"{name} ended: {manager.printed()[-300:]}")
+        stage.run([build.raw("services"), "20"])
+    return f"{', '.join(told)}; lawful, {stage.entries} steps"

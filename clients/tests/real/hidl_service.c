@@ -1,0 +1,54 @@
+/* hidl_service: a HIDL service by libgbinder, hullpippin.test@1.0::IEcho/default on /dev/hwbinder. Code 1 answers
+   a string by a string, 2 a vector of strings by the same, 3 counts one-way calls, 4 tells the count. Prints
+   `ready`. */
+#include "codes.h"
+
+static guint counted;
+
+static void answer(guint code, GBinderReader *reader, GBinderWriter *writer)
+{
+    gbinder_writer_append_int32(writer, GBINDER_STATUS_OK);
+    if (code == 1) {
+        const char *word = gbinder_reader_read_hidl_string_c(reader);
+        char *said = g_strdup_printf("you said %s", word ? word : "nothing");
+        gbinder_writer_add_cleanup(writer, g_free, said);
+        gbinder_writer_append_hidl_string(writer, said);
+    } else if (code == 2) {
+        char **words = gbinder_reader_read_hidl_string_vec(reader);
+        gbinder_writer_add_cleanup(writer, (GDestroyNotify)g_strfreev, words);
+        gbinder_writer_append_hidl_string_vec(writer, (const char **)words, -1);
+    } else {
+        gbinder_writer_append_int32(writer, counted);
+    }
+}
+
+static GBinderLocalReply *serve(GBinderLocalObject *object, GBinderRemoteRequest *request, guint code, guint flags, int *status,
+                                void *with)
+{
+    GBinderReader reader;
+    GBinderWriter writer;
+    (void)with;
+    *status = GBINDER_STATUS_OK;
+    if (flags & GBINDER_TX_FLAG_ONEWAY) {
+        counted += code == 3;
+        return NULL;
+    }
+    GBinderLocalReply *reply = gbinder_local_object_new_reply(object);
+    gbinder_remote_request_init_reader(request, &reader);
+    gbinder_local_reply_init_writer(reply, &writer);
+    answer(code, &reader, &writer);
+    return reply;
+}
+
+int main(void)
+{
+    setvbuf(stdout, NULL, _IOLBF, 0);
+    GBinderServiceManager *manager = gbinder_servicemanager_new("/dev/hwbinder");
+    NEED(manager, "no device");
+    GBinderLocalObject *object = gbinder_servicemanager_new_local_object(manager, "hullpippin.test@1.0::IEcho", serve, NULL);
+    int status = gbinder_servicemanager_add_service_sync(manager, "default", object);
+    NEED(status == GBINDER_STATUS_OK, "the service wasn't added: %d", status);
+    printf("ready\n");
+    g_main_loop_run(g_main_loop_new(NULL, FALSE));
+    return 0;
+}

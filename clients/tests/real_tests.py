@@ -1,0 +1,218 @@
+"""Tests with libgbinder: its own tools, and programs of ours against its public headers."""
+import os
+import signal
+import socket
+import struct
+import time
+
+from builds import CLIENTS
+from raw_tests import DEVICE, MOST_ROUNDS, ROUNDS, flat_cost
+from soaks import soak
+from stage import Stage, expect, processor_time, with_word
+from suite import figures, test
+
+HIDL = "/dev/hwbinder"
+SERVICE = "hullpippin.test@1.0::IEcho/default"
+# the ways in which requests of context managers are written
+FORMS = ("aidl", "aidl2", "aidl3", "aidl4")
+# a call by libgbinder may take so many times what a relay over sockets takes
+TIMES_RELAY = 1.5
+
+
+def served(build, packages, stage, *words, times=1):
+    """Our test service, registered; so often, by as many processes."""
+    return stage.start(packages.command(build.real("service"), *words)).wait_for("ready", 20, times)
+
+
+def client(build, packages, *words):
+    return packages.command(build.real("client"), *words)
+
+
+def calls(title, *words):
+    """A test that is one mode of our client, with one service, over a daemon whose journal is judged."""
+    @test(f"libgbinder {title}", real=True)
+    def play(build, packages):
+        with Stage(build, journal=DEVICE) as stage:
+            stage.manage()
+            served(build, packages, stage, "test")
+            told = stage.run(client(build, packages, "test", *words), 180)
+        return f"{told}; lawful, {stage.entries} steps"
+
+
+calls("call", "call")
+calls("values of all kinds", "mixed")
+calls("one-way calls", "oneway", "300")
+calls("nested calls", "nested", "100")
+calls("12 threads", "threads", "12", "200")
+calls("parcels of 600000 bytes", "big", "600000")
+calls("a parcel past the window", "past", "3000000")
+calls("descriptors", "descriptors", "10000")
+
+
+def call_by_tool(packages, stage, device, *words):
+    """binder-call ends with 2 also where all went well; what it prints tells."""
+    return stage.run(packages.tool("binder-call", "-d", device, *words), statuses=(0, 2))
+
+
+@test("libgbinder tools", real=True)
+def tools(build, packages):
+    with Stage(build, journal=DEVICE) as stage:
+        stage.manage()
+        listed = stage.run(packages.tool("binder-list", "-d", DEVICE))
+        expect("test" not in listed, f"binder-list lists what nobody registered: {listed}")
+        served(build, packages, stage, "test")
+        listed = stage.run(packages.tool("binder-list", "-d", DEVICE))
+        expect("test" in listed.split(), f"binder-list: {listed}")
+        pinged = stage.run(packages.tool("binder-ping", "-d", DEVICE, "test"))
+        expect(pinged == "OK", f"binder-ping: {pinged}")
+        called = call_by_tool(packages, stage, DEVICE, "-a", "test", "1", '"hello"u', "reply", "s16")
+        expect(called == '"hello"U', f"binder-call: {called}")
+    return f"list, ping, call; lawful, {stage.entries} steps"
+
+
+def listener(socket_path):
+    """The process that listens at a path."""
+    with socket.socket(socket.AF_UNIX, socket.SOCK_SEQPACKET) as end:
+        end.connect(socket_path)
+        return struct.unpack("iII", end.getsockopt(socket.SOL_SOCKET, socket.SO_PEERCRED, 12))[0]
+
+
+def ended(path):
+    """Ends the daemon that listens at a path; what is left after some seconds of it and of those that live by it, which is ended then."""
+    os.kill(listener(path), signal.SIGTERM)
+    end = time.monotonic() + 10
+    while with_word(path) and time.monotonic() < end:
+        time.sleep(0.05)
+    left = with_word(path)
+    for pid in left:
+        os.kill(pid, signal.SIGKILL)
+    return left
+
+
+@test("libgbinder by hullpippin-run", real=True)
+def by_run(build, packages):
+    """A first call, as the README has it: daemon and managers are started with the first program, and managers end with the daemon."""
+    run = f"{CLIENTS}/hullpippin-run"
+    with Stage(build) as stage:
+        path = f"{stage.folder}/other"
+        rest = {"environment": {"HULLPIPPIN_SOCKET": path, "HULLPIPPIN_BUILD": build.out}, "client": False}
+        service = stage.start([run, "--managers", *packages.command(build.real("service"), "test")], **rest)
+        try:
+            service.wait_for("ready", 20)
+            listed = stage.run([run, *packages.tool("binder-list", "-d", DEVICE)], **rest)
+            expect("test" in listed.split(), f"binder-list: {listed}")
+            pinged = stage.run([run, *packages.tool("binder-ping", "-d", DEVICE, "test")], **rest)
+            expect(pinged == "OK", f"binder-ping: {pinged}")
+            stage.run([run, *packages.tool("binder-list", "-d", HIDL)], **rest)
+            service.kill()
+        finally:
+            left = ended(path)
+        expect(not left, f"{len(left)} processes are left after the daemon")
+    return "service, binder-list, binder-ping; all ended with the daemon"
+
+
+@test("libgbinder forms of requests", real=True)
+def forms(build, packages):
+    """The ways in which Android's versions have asked their context manager."""
+    with Stage(build, journal=DEVICE) as stage:
+        stage.manage()
+        for form in FORMS:
+            served(build, packages, stage, f"test.{form}", "0", DEVICE, form)
+        for form in FORMS:
+            stage.run(client(build, packages, f"test.{form}", "call"), environment={"PROTOCOL": form})
+            listed = stage.run(client(build, packages, f"test.{form}", "list"), environment={"PROTOCOL": form}).split()
+            expect(sorted(listed) == [f"test.{it}" for it in FORMS], f"{form} lists {listed}")
+    return f"{', '.join(FORMS)}; lawful, {stage.entries} steps"
+
+
+@test("libgbinder deaths", real=True)
+def deaths(build, packages):
+    with Stage(build, journal=DEVICE) as stage:
+        stage.manage()
+        service = served(build, packages, stage, "test")
+        for count in range(1, 6):
+            stage.run(client(build, packages, "test", "keep"))
+            service.wait_for("dead", 10, count)
+        waiting = [stage.start(client(build, packages, "test", "death")).wait_for("waiting") for _ in range(2)]
+        service.kill()
+        told = [process.finish().splitlines()[-1] for process in waiting]
+        served(build, packages, stage, "test")
+        stage.run(client(build, packages, "test", "call"))
+    return f"the service heard of 5 clients' deaths, 2 clients {told[0]}; lawful, {stage.entries} steps"
+
+
+@test("libgbinder HIDL", real=True)
+def hidl(build, packages):
+    with Stage(build, journal=HIDL) as stage:
+        stage.manage("hwservicemanager")
+        stage.run(packages.tool("binder-list", "-d", HIDL))
+        service = stage.start(packages.command(build.real("hidl_service"))).wait_for("ready", 20)
+        listed = stage.run(packages.tool("binder-list", "-d", HIDL))
+        expect(SERVICE in listed.split(), f"binder-list: {listed}")
+        pinged = stage.run(packages.tool("binder-ping", "-d", HIDL, SERVICE))
+        expect(pinged == "OK", f"binder-ping: {pinged}")
+        called = call_by_tool(packages, stage, HIDL, SERVICE, "1", '"hello"h', "reply", "i32", "hstr")
+        expect(called == '0 "you said hello"H', f"binder-call: {called}")
+        told = stage.run(packages.command(build.real("hidl_client")))
+        service.kill()
+        listed = stage.run(packages.tool("binder-list", "-d", HIDL))
+        expect(SERVICE not in listed.split(), "a service is listed after its death")
+    return f"{told}; listed, pinged and called by the tools; lawful, {stage.entries} steps"
+
+
+@test("libgbinder 300 services", real=True)
+def many(build, packages):
+    with Stage(build, journal=DEVICE) as stage:
+        stage.manage()
+        served(build, packages, stage, "test")
+        before = best(stage, client(build, packages, "test", "time", "1000"))
+        crowd = served(build, packages, stage, "crowd.", "300")
+        listed = stage.run(packages.tool("binder-list", "-d", DEVICE)).split()
+        expect(sum(name.startswith("crowd.") for name in listed) == 300, f"binder-list lists {len(listed)}")
+        after = best(stage, client(build, packages, "test", "time", "1000"))
+        expect(build.sanitized or flat_cost(f"call {before} then {after}", "call"), f"{before} us a call, {after} us with 300 services")
+        crowd.kill()
+        listed = stage.run(packages.tool("binder-list", "-d", DEVICE)).split()
+        expect(not any(name.startswith("crowd.") for name in listed), "services are listed after their death")
+    return f"{before} us a call, {after} us with 300 services; lawful, {stage.entries} steps"
+
+
+def best(stage, words, **rest):
+    """The best median of some rounds: other work only delays."""
+    return min(figures(stage.run(words, **rest))["median"] for _ in range(ROUNDS))
+
+
+@test("libgbinder latency", real=True, plain_only=True)
+def latency(build, packages):
+    """Calls beside what they would take over a bare relay: one that goes the same ways between the same threads, and what libgbinder
+    itself computes in client and service. Measured in turn; the best medians count."""
+    calls, relayed, called, own = 1000, [], [], []
+    with Stage(build) as stage:
+        stage.manage()
+        service = served(build, packages, stage, "test")
+        for turn in range(MOST_ROUNDS):
+            if turn >= ROUNDS and min(called) <= TIMES_RELAY * (min(relayed) + sum(own) / len(own)):
+                break
+            relayed.append(figures(stage.run([build.raw("relay_polled"), str(calls)], client=False))["median"])
+            before = processor_time(service.pid, 1)
+            found = figures(stage.run(client(build, packages, "test", "time", str(calls))))
+            called.append(found["median"])
+            own.append(found["own"] + (processor_time(service.pid, 1) - before) * 1e6 / calls)
+    relay, call, own = min(relayed), min(called), sum(own) / len(own)
+    told = f"{call} us a call; {relay} us by a bare relay of the same ways, and libgbinder itself computes {own:.1f} us"
+    expect(call <= TIMES_RELAY * (relay + own), told)
+    return told
+
+
+@test("libgbinder soak of kills", real=True)
+def real_soak(build, packages):
+    def begin(stage):
+        stage.manage()
+
+    def parts(_):
+        """A journal has 16 seats, so not all play at once."""
+        modes = [["time", "100000"], ["threads", "3", "2000"], ["nested", "1000"], ["descriptors", "1000"], ["keep"],
+                 ["oneway", "300"], ["big", "100000"], ["death"]]
+        choices = [client(build, packages, "test", *words) for words in modes]
+        return [([packages.command(build.real("service"), "test")], 3), ([choices[0]], 2), (choices, 1), (choices, 1), (choices, 1)]
+    return soak(build, begin, parts, honest=False)

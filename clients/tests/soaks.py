@@ -1,0 +1,98 @@
+"""Soaks: clients and services that come, call and are killed at random, while the daemon's memory is watched."""
+import random
+import threading
+import time
+
+from raw_tests import DEVICE
+from stage import Failed, Stage, expect, open_files, resident
+from suite import test
+
+SECONDS = 20
+# from this second on the daemon's memory has to be flat
+WARM = 10
+KIB = 256
+SAMPLES = 10
+# malloc gives what isn't used back at once, so that what is measured is used
+GIVES_BACK = {"GLIBC_TUNABLES": "glibc.malloc.trim_threshold=65536:glibc.malloc.mmap_threshold=65536"}
+
+
+class Player(threading.Thread):
+    """Starts one of some programs again and again, and kills it after a while, unless it ends by itself."""
+
+    def __init__(self, stage, choices, longest, honest, seed):
+        super().__init__(daemon=True)
+        self.stage, self.choices, self.longest, self.honest = stage, choices, longest, honest
+        self.chance = random.Random(seed)
+        self.until = time.monotonic() + SECONDS
+        self.kills, self.why = 0, None
+
+    def run(self):
+        try:
+            while time.monotonic() < self.until:
+                self.once()
+        except Exception as why:  # it is told by whoever joins
+            self.why = why
+
+    def once(self):
+        words = self.chance.choice(self.choices)
+        process = self.stage.start(words)
+        end = time.monotonic() + self.chance.uniform(0.05, self.longest)
+        while process.runs() and time.monotonic() < end:
+            time.sleep(0.01)
+        if process.runs():
+            process.kill()
+            self.kills += 1
+        elif self.honest and process.process.returncode:
+            raise Failed(f"{' '.join(words)}: {process.printed().strip()}")
+
+
+def watched(stage, players):
+    """The least of the daemon's memory in each second, while the players play."""
+    memory = []
+    for player in players:
+        player.start()
+    while any(player.is_alive() for player in players):
+        least = []
+        for _ in range(SAMPLES):
+            time.sleep(1 / SAMPLES)
+            least.append(resident(stage.daemon.pid))
+        memory.append(min(least))
+    for player in players:
+        player.join()
+        if player.why:
+            raise Failed(str(player.why))
+    return memory
+
+
+def is_flat(memory):
+    """Whether memory grows no more: at its least. What comes and goes with unread parcels is above that."""
+    early, late = memory[WARM - 1:WARM + 5], memory[WARM + 4:SECONDS]
+    expect(len(late) > 3, f"the soak was over after {len(memory)} seconds")
+    return min(late) <= min(early) + KIB
+
+
+def soak(build, begin, parts, honest):
+    """Begins, and plays parts, each some commands and the longest time of one life; judges memory, descriptors and the journal."""
+    with Stage(build, journal=DEVICE, daemon_environment=GIVES_BACK) as stage:
+        begin(stage)
+        before = open_files(stage.daemon.pid)
+        players = [Player(stage, choices, longest, honest, seed) for seed, (choices, longest) in enumerate(parts(stage))]
+        memory = watched(stage, players)
+        kills = sum(player.kills for player in players)
+        expect(build.sanitized or is_flat(memory), f"the daemon's memory by seconds: {memory} KiB")
+        expect(kills > SECONDS, f"only {kills} were killed")
+        time.sleep(0.5)
+        after = open_files(stage.daemon.pid)
+        expect(after <= before, f"the daemon has {after} descriptors after {before}")
+    return f"{kills} killed in {SECONDS} s; KiB of memory from second {WARM} on: {memory[WARM - 1:SECONDS]}; lawful, {stage.entries} steps"
+
+
+def raw_parts(stage):
+    def busy(part, longest):
+        return [[stage.build.raw("busy"), part, str(SECONDS)]], longest
+    return [busy("serve", 3), busy("serve", 3), *[busy("call", 2)] * 4, *[busy("hold", 1)] * 2]
+
+
+@test("raw soak of kills")
+def raw_soak(build):
+    return soak(build, lambda stage: None, raw_parts, honest=True)

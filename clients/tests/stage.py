@@ -1,0 +1,192 @@
+"""Where a test plays: a daemon with a socket of its own in a folder that goes away, and the programs that run against it.
+
+All processes are started in sessions of their own, and are ended with the stage, whatever happens.
+"""
+import os
+import shutil
+import signal
+import subprocess
+import tempfile
+import time
+
+# seconds that a program is waited for, where nothing else is said
+PATIENCE = 60
+
+
+class Failed(Exception):
+    """A test failed: why."""
+
+
+def expect(condition, why):
+    if not condition:
+        raise Failed(why)
+
+
+class Process:
+    """A program that runs beside others; what it prints goes to a file."""
+
+    def __init__(self, words, environment, log):
+        self.words, self.log = words, log
+        with open(log, "wb") as file:
+            self.process = subprocess.Popen(words, env=environment, stdin=subprocess.DEVNULL, stdout=file,
+                                            stderr=subprocess.STDOUT, start_new_session=True)
+
+    @property
+    def pid(self):
+        return self.process.pid
+
+    def name(self):
+        return os.path.basename(self.words[0])
+
+    def printed(self):
+        with open(self.log, encoding="utf-8", errors="replace") as file:
+            return file.read()
+
+    def runs(self):
+        return self.process.poll() is None
+
+    def wait_for(self, text, seconds=10, times=1):
+        """Waits until it has printed a text so often."""
+        end = time.monotonic() + seconds
+        while self.printed().count(text) < times:
+            expect(self.runs() or self.printed().count(text) >= times, f"{self.name()} ended: {tail(self.printed())}")
+            expect(time.monotonic() < end, f"{self.name()} printed no {text!r} in {seconds} s: {tail(self.printed())}")
+            time.sleep(0.005)
+        return self
+
+    def finish(self, seconds=PATIENCE, statuses=(0,)):
+        """Waits until it ends, which has to be with 0 or what is said: what it printed."""
+        try:
+            status = self.process.wait(seconds)
+        except subprocess.TimeoutExpired:
+            self.kill()
+            raise Failed(f"{self.name()} took over {seconds} s: {tail(self.printed())}") from None
+        expect(status in statuses, f"{self.name()} ended with {status}: {tail(self.printed())}")
+        return self.printed().strip()
+
+    def signal(self, number):
+        """Signals all of its session."""
+        try:
+            os.killpg(self.pid, number)
+        except ProcessLookupError:
+            pass
+
+    def kill(self):
+        if self.process.returncode is None:
+            self.signal(signal.SIGKILL)
+            self.process.wait()
+
+
+def tail(text, lines=3):
+    """The last lines of a text, as one."""
+    return " | ".join(text.strip().splitlines()[-lines:]) or "nothing was printed"
+
+
+def resident(pid):
+    """KiB of memory that a process has of its own in RAM. What it shares by files and with clients isn't counted."""
+    with open(f"/proc/{pid}/status", encoding="ascii") as file:
+        return next(int(line.split()[1]) for line in file if line.startswith("RssAnon:"))
+
+
+def processor_time(pid, kinds=2):
+    """Seconds of processor time that a process has used; with `kinds` 1 only those that it has computed itself, outside of the kernel."""
+    with open(f"/proc/{pid}/stat", encoding="ascii", errors="replace") as file:
+        words = file.read().rsplit(")", 1)[1].split()
+    return sum(map(int, words[11:11 + kinds])) / os.sysconf("SC_CLK_TCK")
+
+
+def with_word(word):
+    """The processes that have a word in their environment."""
+    found = []
+    for pid in filter(str.isdigit, os.listdir("/proc")):
+        try:
+            with open(f"/proc/{pid}/environ", "rb") as file:
+                if word.encode() in file.read():
+                    found.append(int(pid))
+        except OSError:
+            pass  # it has ended, or is somebody else's
+    return found
+
+
+def open_files(pid):
+    return len(os.listdir(f"/proc/{pid}/fd"))
+
+
+class Stage:
+    """A daemon, started; `journal` names a device whose journal is kept and judged in the end."""
+
+    def __init__(self, build, journal=None, daemon_environment=()):
+        self.build = build
+        self.folder = tempfile.mkdtemp(prefix="hullpippin-stage-")
+        self.socket = f"{self.folder}/socket"
+        self.journal = f"{self.folder}/journal" if journal else None
+        self.entries = None
+        self.others = []
+        self.is_over = False
+        self.environment = {**build.environment, "HULLPIPPIN_SOCKET": self.socket, "PATH": os.environ["PATH"], "HOME": self.folder}
+        words = [build.daemon, "--socket", self.socket]
+        if journal:
+            words += ["--journal", f"{journal}={self.journal}"]
+        self.daemon = Process(words, {**self.environment, **dict(daemon_environment)}, f"{self.folder}/daemon.log")
+        self.environment["RAW_DAEMON"] = str(self.daemon.pid)
+
+    def __enter__(self):
+        try:
+            end = time.monotonic() + 10
+            while not os.path.exists(self.socket):
+                expect(self.daemon.runs() and time.monotonic() < end, f"no daemon: {tail(self.daemon.printed())}")
+                time.sleep(0.005)
+        except BaseException:
+            self.clear()
+            raise
+        return self
+
+    def __exit__(self, kind, error, trace):
+        try:
+            if kind is None:
+                self.end()
+            elif issubclass(kind, Failed) and not self.daemon.runs():
+                raise Failed(f"the daemon ended with {self.daemon.process.returncode}: {tail(self.daemon.printed(), 12)}; then: {error}")
+        finally:
+            self.clear()
+
+    def clear(self):
+        self.is_over = True
+        for process in [*self.others, self.daemon]:
+            process.kill()
+        shutil.rmtree(self.folder, ignore_errors=True)
+
+    def start(self, words, environment=(), client=True):
+        """A program that runs on; a client's has the library preloaded."""
+        expect(not self.is_over, "the stage is over")
+        preload = {"LD_PRELOAD": self.build.preload} if client else {}
+        log = f"{self.folder}/{len(self.others)}.log"
+        process = Process(words, {**self.environment, **preload, **dict(environment)}, log)
+        self.others.append(process)
+        return process
+
+    def run(self, words, seconds=PATIENCE, statuses=(0,), **rest):
+        """A program that ends, with 0 or what is said: what it printed."""
+        return self.start(words, **rest).finish(seconds, statuses)
+
+    def manage(self, name="servicemanager", *words):
+        """A context manager, ready."""
+        return self.start([self.build.manager(name), "-v", *words]).wait_for("ready on")
+
+    def end(self):
+        """Ends the daemon in order; judges its journal."""
+        expect(self.daemon.runs(), f"the daemon ended with {self.daemon.process.returncode}: {tail(self.daemon.printed(), 12)}")
+        for process in self.others:
+            process.kill()
+        os.kill(self.daemon.pid, signal.SIGTERM)
+        self.daemon.finish(30)
+        expect(not os.path.exists(self.socket), "the daemon left its socket")
+        if self.journal:
+            self.judge()
+
+    def judge(self):
+        done = subprocess.run([self.build.judge, "check", self.journal], capture_output=True, text=True, timeout=1200)
+        words = done.stdout.split()
+        expect(done.returncode == 0 and words[:1] == ["lawful"], f"the journal: {tail(done.stdout + done.stderr)}")
+        self.entries = int(words[1])
+        expect(self.entries > 0, "the journal is empty")

@@ -1,0 +1,37 @@
+"""The list of tests, and how they are run: one line for each."""
+import re
+import time
+
+from stage import Failed
+
+TESTS = []
+
+
+class Test:
+    def __init__(self, name, play, needs, plain_only):
+        self.name, self.play, self.needs, self.plain_only = name, play, needs, plain_only
+
+
+def test(name, real=False, plain_only=False):
+    """Puts a function among the tests. It gets the build, and with `real` the packages; it answers what the line is to tell."""
+    def put(play):
+        TESTS.append(Test(name, play, real, plain_only))
+        return play
+    return put
+
+
+def figures(text):
+    """The numbers that a program has printed, by the words before them."""
+    return {word: float(number) for word, number in re.findall(r"(\S+) (-?\d+(?:\.\d+)?)(?![\w.])", text)}
+
+
+def run(test, label, *given):
+    """Runs a test and prints its line; whether it passed."""
+    start = time.monotonic()
+    try:
+        told = test.play(*given)
+    except Failed as why:
+        print(f"FAIL {label}: {why}", flush=True)
+        return False
+    print(f"ok   {label}: {told} ({time.monotonic() - start:.1f} s)", flush=True)
+    return True
