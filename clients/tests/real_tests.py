@@ -185,8 +185,8 @@ def best(stage, words, **rest):
 @test("libgbinder latency", real=True, plain_only=True)
 def latency(build, packages):
     """Calls beside what they would take over a bare relay: one that goes the same ways between the same threads, and what libgbinder
-    itself computes in client and service. Measured in turn; the best medians count."""
-    calls, relayed, called, own = 1000, [], [], []
+    itself computes in client and service. Measured in turn; of times the best median counts."""
+    calls, relayed, called, own = 2000, [], [], []
     with Stage(build) as stage:
         stage.manage()
         service = served(build, packages, stage, "test")
