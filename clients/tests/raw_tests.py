@@ -9,7 +9,7 @@ ROUND_TRIP = 25
 # a call with hundreds of services may take so much longer than with one
 SLACK = 1.25
 # rounds that are measured: the first so many, and more until they show what is asked for, or there are enough
-ROUNDS, MOST_ROUNDS = 12, 60
+ROUNDS, MOST_ROUNDS = 12, 40
 # hostile clients may leave so much behind in the daemon
 FUZZ_KIB = 65536
 
