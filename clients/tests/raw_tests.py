@@ -30,7 +30,7 @@ for name in ("nested", "oneway", "deaths", "parcels", "pool", "two_opens", "refu
 plays("descriptors", "10000")
 
 
-@test("raw latency", plain_only=True)
+@test("raw latency", plain_only=True, timed=True)
 def latency(build):
     """Round trips beside those of bare relays, in turn; of each the round with the best median counts, as other work only delays."""
     best = {}
@@ -60,7 +60,7 @@ def services(build):
     with Stage(build, journal=DEVICE) as stage:
         stage.manage()
         told = stage.run([build.raw("services"), "300"])
-        if not build.sanitized:
+        if not (build.sanitized or build.untimed):
             if not (flat_cost(told, "call") and flat_cost(told, "find")):
                 told = stage.run([build.raw("services"), "300"])  # once more, should other work have come between
             expect(flat_cost(told, "call") and flat_cost(told, "find"), f"slower with more services: {told}")
@@ -80,7 +80,7 @@ def churn(build):
     return told
 
 
-@test("raw idle")
+@test("raw idle", timed=True)
 def idle(build):
     """While its clients wait, the daemon does too."""
     with Stage(build) as stage:

@@ -160,7 +160,7 @@ def hidl(build, packages):
     return f"{told}; listed, pinged and called by the tools; lawful, {stage.entries} steps"
 
 
-@test("libgbinder 300 services", real=True)
+@test("libgbinder 300 services", real=True, timed=True)
 def many(build, packages):
     def is_flat(median):
         return build.sanitized or flat_cost(f"call {before} then {median}", "call")
@@ -190,7 +190,7 @@ def best(stage, words, enough=lambda median: True):
     return least
 
 
-@test("libgbinder latency", real=True, plain_only=True)
+@test("libgbinder latency", real=True, plain_only=True, timed=True)
 def latency(build, packages):
     """Calls beside what they would take over a bare relay: one that goes the same ways between the same threads, and what libgbinder
     itself computes in client and service. Measured in turn; of times the best median counts."""
@@ -212,7 +212,7 @@ def latency(build, packages):
     return told
 
 
-@test("libgbinder soak of kills", real=True)
+@test("libgbinder soak of kills", real=True, timed=True)
 def real_soak(build, packages):
     def begin(stage):
         stage.manage()

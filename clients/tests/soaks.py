@@ -93,6 +93,6 @@ def raw_parts(stage):
     return [busy("serve", 3), busy("serve", 3), *[busy("call", 2)] * 4, *[busy("hold", 1)] * 2]
 
 
-@test("raw soak of kills")
+@test("raw soak of kills", timed=True)
 def raw_soak(build):
     return soak(build, lambda stage: None, raw_parts, honest=True)

@@ -8,14 +8,15 @@ TESTS = []
 
 
 class Test:
-    def __init__(self, name, play, needs, plain_only):
-        self.name, self.play, self.needs, self.plain_only = name, play, needs, plain_only
+    def __init__(self, name, play, needs, plain_only, timed):
+        self.name, self.play, self.needs, self.plain_only, self.timed = name, play, needs, plain_only, timed
 
 
-def test(name, real=False, plain_only=False):
-    """Puts a function among the tests. It gets the build, and with `real` the packages; it answers what the line is to tell."""
+def test(name, real=False, plain_only=False, timed=False):
+    """Puts a function among the tests. It gets the build, and with `real` the packages; it answers what the line is to tell.
+    What a `timed` one judges, another program's work can spoil."""
     def put(play):
-        TESTS.append(Test(name, play, real, plain_only))
+        TESTS.append(Test(name, play, real, plain_only, timed))
         return play
     return put
 
