@@ -73,9 +73,9 @@ impl DeathList {
         mark(&mut self.slots, range, made);
     }
 
-    /// The notification is this far.
+    // The notification is this far; one that is told is found by a look from then on.
     #[tactic(auto, unfolding(crate::specs::Room::list_room, crate::specs::Room::list_count))]
-    pub(crate) fn set_phase(&mut self, made: u32, phase: Phase)
+    fn turn_phase(&mut self, made: u32, phase: Phase)
         ensures stands { (l : List declared.DeathNotification) → AreIn self.old l
             → AreIn self.new (changed (deaths_of.is_notification made) (λ x. record x { phase = phase }) l) }
         ensures uses { ListUses self.old self.new 0 }
@@ -94,6 +94,20 @@ impl DeathList {
             Some(s) if is_told(s.death.phase) && self.is_cookie_shared(&s.death) => end,
             _ => 0,
         }
+    }
+
+    /// The notification is this far. Of one that was told, and was looked for along the slots, the next look begins behind it.
+    #[tactic(auto, unfolding(crate::specs::Room::list_room, crate::specs::Room::list_count))]
+    pub(crate) fn set_phase(&mut self, made: u32, phase: Phase)
+        ensures stands { (l : List declared.DeathNotification) → AreIn self.old l
+            → AreIn self.new (changed (deaths_of.is_notification made) (λ x. record x { phase = phase }) l) }
+        ensures uses { ListUses self.old self.new 0 }
+        ensures count { list_count self.new ≡ list_count self.old }
+    {
+        let end = self.made_range(made).end;
+        let to = self.walked_to(made, end);
+        self.turn_phase(made, phase);
+        self.pass_untold(to);
     }
 
     /// The notification goes.

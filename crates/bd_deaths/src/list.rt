@@ -41,7 +41,7 @@ impl Drop for DeathList {
 
 impl DeathList {
     ghost use Rattle.bd_deaths.specs.Stands.{AreIn};
-    ghost use Rattle.bd_deaths.specs.Room.{ListUses, list_room};
+    ghost use Rattle.bd_deaths.specs.Room.{ListUses, list_room, list_count};
 
     /// No notifications.
     pub(crate) fn new(alloc: Global) -> DeathList
@@ -132,6 +132,7 @@ impl DeathList {
         requires { to ≤ vec_len self.old.slots }
         ensures stands { (l : List declared.DeathNotification) → AreIn self.old l → AreIn self.new l }
         ensures uses { ListUses self.old self.new 0 }
+        ensures count { list_count self.new ≡ list_count self.old }
     {
         self.told_from = told_from(&self.slots, self.told_from, to);
     }

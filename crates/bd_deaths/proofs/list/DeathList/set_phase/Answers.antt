@@ -1,16 +1,4 @@
-use Rattle.std.proofs.Common.{refl}
-use Rattle.bd_space.specs.declared.space.DeathNotification.{DeathNotification}
-use Rattle.bd_space.specs.Deaths.{is_notification}
-use Rattle.bd_deaths.specs.Slots.{of}
-use Rattle.bd_deaths.proofs.Kept.{kept}
-use Rattle.bd_deaths.proofs.Told.{told-phase}
 use Rattle.bd_deaths.proofs.list.DeathList.set_phase.Goals as goal
 
 pub returns-clause-stands : goal.returns-clause-stands
-returns-clause-stands c = λ l h.
-    let q = is_notification c.args.made in
-    let within = c.made_range-range.ensures.within l h in
-    let items = c.set_phase.ensures.items within in
-    kept c.args.self.now _ q (λ (x : DeathNotification). record x { phase = c.args.phase }) (λ x. record { made = refl; process = refl; object = refl; cookie = refl }) l h items
-    refl refl refl
-    (rw items (told-phase c.args.phase (of q) _ _ _ _ h.none_told c.told_before-self.ensures.less c.told_before-self.ensures.before within.before))
+returns-clause-stands c l h = c.pass_untold.ensures.stands _ (c.turn_phase.ensures.stands l h)
