@@ -36,10 +36,10 @@ class Build:
         self.out = "out/sanitized" if sanitized else "out"
         words = [f"OUT={self.out}", *([f"SAN={SANITIZERS}"] if sanitized else [])]
         make(CLIENTS, *words)
-        make(f"{CLIENTS}/managers", *words)
-        make(HERE, *words, "raw", "fuzz")
+        make(HERE, *words, "raw", "bare", "fuzz")
         self.daemon = f"{CLIENTS}/{self.out}/hullpippind"
         self.library = f"{CLIENTS}/{self.out}/libhullpippin-preload.so"
+        self.bare = f"{HERE}/{self.out}/bare/bare"
         self.environment = {}
         self.preload = self.library
         if sanitized:

@@ -32,16 +32,19 @@ plays("descriptors", "10000")
 
 @test("raw latency", plain_only=True, timed=True)
 def latency(build):
-    """Round trips beside those of bare relays, in turn; of each the round with the best median counts, as other work only delays."""
+    """Round trips beside those over bare relays, in turn; of each the round with the best median counts, as other work only delays."""
     best = {}
-    measured = {"over sockets": ([build.raw("relay"), "sockets", "2000"], False), "over a page": ([build.raw("relay"), "page", "2000"], False),
-                "call": ([build.raw("latency"), "2000"], True), "call of 4096 bytes": ([build.raw("latency"), "2000", "4096"], True)}
-    with Stage(build) as stage:
+    with Stage(build) as stage, Stage(build, bare=True) as bare:
+        measured = {"over sockets": (stage, [build.raw("relay"), "sockets", "2000"], False),
+                    "over a page": (stage, [build.raw("relay"), "page", "2000"], False),
+                    "over the bare relay": (bare, [build.raw("latency"), "2000"], True),
+                    "call": (stage, [build.raw("latency"), "2000"], True),
+                    "call of 4096 bytes": (stage, [build.raw("latency"), "2000", "4096"], True)}
         for turn in range(MOST_ROUNDS):
             if turn >= ROUNDS and best["call"]["median"] <= ROUND_TRIP:
                 break
-            for what, (words, client) in measured.items():
-                found = figures(stage.run(words, client=client))
+            for what, (where, words, client) in measured.items():
+                found = figures(where.run(words, client=client))
                 if what not in best or found["median"] < best[what]["median"]:
                     best[what] = found
     told = "; ".join(f"{what} {it['median']} us (p10 {it['tenth']}, p99 {it['last']})" for what, it in best.items())

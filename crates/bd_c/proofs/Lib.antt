@@ -1,5 +1,6 @@
-pub mod Behind
-pub mod BehindLive
-pub mod Noting
 mod HandleSteps
 mod Values
+pub mod Behind
+pub mod BehindLive
+pub mod Journals
+pub mod Noting

@@ -1,21 +1,18 @@
 //! Reading a journal.
 
 ghost use Rattle.std.specs.Prelude.{◌≡◌, List, ℕ, length, IfOk, Some};
-ghost use Rattle.std.specs.Option.{option_map};
 ghost use Rattle.bd_space.specs.declared.record.Record.{Record};
-ghost use Rattle.bd_journal.specs.Spelling.{IsJournal, journal_bytes, carries};
-ghost use Rattle.bd_journal.specs.Reading.{Gives, command_in, parcel_from, command_step_from, open_from, step_from, got_from, answer_from, whole_block_from, entry_from, entries_from, behind_magic, seats_from, journal_in};
+ghost use Rattle.bd_journal.specs.Spelling.{IsJournal, Tells, journal_bytes, carries};
+ghost use Rattle.bd_journal.specs.Reading.{Gives, command_in, parcel_from, command_step_from, open_from, step_from, got_from, answer_from, whole_block_from, entry_from, entries_from, seats_from, record_from, journal_in};
 
-use crate::codes::{cause_with, fault_with, note_with};
+use crate::codes::{cause_with, fault_with, note_with, switch_with};
 use crate::fault::ReadError;
 use crate::fields::{block_at, byte_at, bytes_at, word_at};
+use crate::versions::{Version, version_at};
 use bd_codec::read_command;
-use bd_space::{Entries, Entry, MOST_SEATS, Parcel, Record, Step, StepAnswer};
+use bd_space::{Entries, Entry, Parcel, Record, Step, StepAnswer};
 use bd_uapi::Command;
 use std::alloc::Global;
-
-// What each journal begins with.
-pub const MAGIC: [u8; 8] = *b"BNDJ0001";
 
 // Whether a parcel can stand beside the command.
 pub fn carries_parcel(command: &Command) -> bool
@@ -80,8 +77,8 @@ fn open_at(bytes: &[u8]) -> Result<(Step, &[u8]), ReadError>
 }
 
 #[tactic(auto, unfolding(crate::specs::Reading::step_from))]
-fn step_at(alloc: Global, bytes: &[u8]) -> Result<(Step, &[u8]), ReadError>
-    ensures { Gives (λ x. (x.0, x.1.now)) result (step_from bytes.now) }
+fn step_at(alloc: Global, version: Version, bytes: &[u8]) -> Result<(Step, &[u8]), ReadError>
+    ensures { Gives (λ x. (x.0, x.1.now)) result (step_from version bytes.now) }
 {
     let (tag, rest) = byte_at(bytes)?;
     match tag {
@@ -98,6 +95,11 @@ fn step_at(alloc: Global, bytes: &[u8]) -> Result<(Step, &[u8]), ReadError>
         }
         5 => Ok((Step::ExitThread, rest)),
         6 => Ok((Step::ExitProcess, rest)),
+        7 if version.has_spam() => {
+            let (number, rest) = byte_at(rest)?;
+            let on = numbered(switch_with(number))?;
+            Ok((Step::SetSpam { on }, rest))
+        }
         _ => Err(ReadError::Malformed),
     }
 }
@@ -155,11 +157,11 @@ fn answer_at(alloc: Global, bytes: &[u8]) -> Result<(StepAnswer, &[u8]), ReadErr
 }
 
 // A step that takes a whole block.
-fn step_in(alloc: Global, bytes: &[u8]) -> Result<(Step, &[u8]), ReadError>
-    ensures { Gives (λ x. (x.0, x.1.now)) result (whole_block_from step_from bytes.now) }
+fn step_in(alloc: Global, version: Version, bytes: &[u8]) -> Result<(Step, &[u8]), ReadError>
+    ensures { Gives (λ x. (x.0, x.1.now)) result (whole_block_from (step_from version) bytes.now) }
 {
     let (block, rest) = block_at(bytes)?;
-    let (step, after) = step_at(alloc, block)?;
+    let (step, after) = step_at(alloc, version, block)?;
     if !after.is_empty() {
         return Err(ReadError::Malformed);
     }
@@ -179,11 +181,16 @@ fn answer_in(alloc: Global, bytes: &[u8]) -> Result<(StepAnswer, &[u8]), ReadErr
 }
 
 #[tactic(auto, unfolding(crate::specs::Reading::entry_from))]
-fn entry_at(alloc: Global, seats: u32, bytes: &[u8]) -> Result<(Entry, &[u8]), ReadError>
-    ensures { Gives (λ x. (x.0, x.1.now)) result (entry_from seats bytes.now) }
+fn entry_at(
+    alloc: Global,
+    version: Version,
+    seats: u32,
+    bytes: &[u8],
+) -> Result<(Entry, &[u8]), ReadError>
+    ensures { Gives (λ x. (x.0, x.1.now)) result (entry_from version seats bytes.now) }
 {
     let (seat, rest) = word_at(bytes)?;
-    let (step, rest) = step_in(alloc, rest)?;
+    let (step, rest) = step_in(alloc, version, rest)?;
     let (answer, rest) = answer_in(alloc, rest)?;
     if seat >= seats {
         return Err(ReadError::Malformed);
@@ -194,16 +201,17 @@ fn entry_at(alloc: Global, seats: u32, bytes: &[u8]) -> Result<(Entry, &[u8]), R
 // Nothing is asked for by the count: an entry is stored once its bytes were there.
 fn entries_at(
     alloc: Global,
+    version: Version,
     seats: u32,
     count: u32,
     bytes: &[u8],
 ) -> Result<(Vec<Entry>, &[u8]), ReadError>
-    ensures { Gives (λ x. (x.0.items, x.1.now)) result (entries_from seats count bytes.now) }
+    ensures { Gives (λ x. (x.0.items, x.1.now)) result (entries_from version seats count bytes.now) }
 {
     let mut entries = Vec::new(alloc);
     let mut rest = bytes;
     for _ in 0..count {
-        let (entry, after) = entry_at(alloc, seats, rest)?;
+        let (entry, after) = entry_at(alloc, version, seats, rest)?;
         let Ok(()) = entries.push(entry) else {
             return Err(ReadError::Memory);
         };
@@ -212,32 +220,25 @@ fn entries_at(
     Ok((entries, rest))
 }
 
-/// What stands behind the eight bytes that each journal begins with; None of what begins otherwise, which is none.
-#[tactic(auto, unfolding(crate::specs::Reading::behind_magic))]
-pub fn behind_magic(bytes: &[u8]) -> Option<&[u8]>
-    ensures { option_map (λ rest. rest.now) result ≡ behind_magic bytes.now }
-{
-    bytes.strip_prefix(&MAGIC)
-}
-
 #[tactic(auto, unfolding(crate::specs::Reading::seats_from))]
-fn seats_at(bytes: &[u8]) -> Result<(u32, &[u8]), ReadError>
-    ensures { Gives (λ x. (x.0, x.1.now)) result (seats_from bytes.now) }
+fn seats_at(version: Version, bytes: &[u8]) -> Result<(u32, &[u8]), ReadError>
+    ensures { Gives (λ x. (x.0, x.1.now)) result (seats_from version bytes.now) }
 {
-    let (seats, rest) = word_at(numbered(behind_magic(bytes))?)?;
-    if seats < 1 || seats > MOST_SEATS {
+    let (seats, rest) = word_at(bytes)?;
+    if seats < 1 || seats > version.most_seats() {
         return Err(ReadError::Malformed);
     }
     Ok((seats, rest))
 }
 
-#[tactic(auto, unfolding(crate::specs::Reading::journal_in))]
-fn journal_of(alloc: Global, bytes: &[u8]) -> Result<Record, ReadError>
-    ensures { Gives (λ r. r) result (journal_in bytes.now) }
+// The record of the bytes behind the first eight.
+#[tactic(auto, unfolding(crate::specs::Reading::record_from))]
+fn record_of(alloc: Global, version: Version, bytes: &[u8]) -> Result<Record, ReadError>
+    ensures { Gives (λ r. r) result (record_from version bytes.now) }
 {
-    let (seats, rest) = seats_at(bytes)?;
+    let (seats, rest) = seats_at(version, bytes)?;
     let (count, rest) = word_at(rest)?;
-    let (entries, rest) = entries_at(alloc, seats, count, rest)?;
+    let (entries, rest) = entries_at(alloc, version, seats, count, rest)?;
     if !rest.is_empty() {
         return Err(ReadError::Malformed);
     }
@@ -247,16 +248,28 @@ fn journal_of(alloc: Global, bytes: &[u8]) -> Result<Record, ReadError>
     })
 }
 
-/// The record that the bytes spell, all of the bytes. Nothing is asked for by a count or a length that the bytes
-/// don't bear out.
+#[tactic(auto, unfolding(crate::specs::Reading::journal_in))]
+fn journal_of(alloc: Global, bytes: &[u8]) -> Result<Record, ReadError>
+    ensures { Gives (λ r. r) result (journal_in bytes.now) }
+{
+    match version_at(bytes) {
+        Some((version, rest)) => record_of(alloc, version, rest),
+        None => Err(ReadError::Malformed),
+    }
+}
+
+/// The record that the bytes spell in one of the versions, all of the bytes. Nothing is asked for by a count or a length
+/// that the bytes don't bear out.
 ///
 /// # Errors
 /// `Malformed` where no record is spelled so, `Memory` where memory was refused.
 pub fn read_journal(alloc: Global, bytes: &[u8]) -> Result<Record, ReadError>
     // What is read is spelled so, each byte of it.
-    ensures found { IfOk result (λ r. IsJournal r × (bytes.now ≡ journal_bytes r)) }
-    // What is spelled so is read, unless memory runs out: what was written is read again.
-    ensures only { (r : Record) → IsJournal r → bytes.now ≡ journal_bytes r → Gives (λ x. x) result (Some r) }
+    ensures found { IfOk result (Tells bytes.now) }
+    // What is spelled so is read, unless memory runs out.
+    ensures only { (r : Record) → Tells bytes.now r → Gives (λ x. x) result (Some r) }
+    // What was written is read again.
+    ensures again { (r : Record) → IsJournal r → bytes.now ≡ journal_bytes r → Gives (λ x. x) result (Some r) }
     // All of it at once, by a function that computes.
     ensures computed { Gives (λ x. x) result (journal_in bytes.now) }
 {
