@@ -1,5 +1,5 @@
 pub mod Ends
-pub mod Journals
+pub mod SeatsTold
 pub mod Kept
 pub mod Lines
 pub mod Says
