@@ -86,7 +86,6 @@ fn judge(alloc: Global, found: &Record, verdict: &mut Verdict) -> Status
 }
 
 /// Judges the bytes of a journal.
-#[tactic(auto, using(crate::proofs::Journals::seats_told))]
 pub(crate) fn judge_bytes(alloc: Global, journal: &[u8], verdict: &mut Verdict) -> Status
     ensures { Judges journal.now verdict.old verdict.new result }
 {

@@ -1,5 +1,4 @@
 pub mod Ends
-pub mod SeatsTold
 pub mod Kept
 pub mod Lines
 pub mod Says

@@ -61,7 +61,6 @@ fn judge<P: Watch>(alloc: Global, found: Record, watch: &mut P) -> Result<Judged
 ///
 /// # Errors
 /// `Journal` where no record is spelled so, `Memory` where memory was refused.
-#[tactic(auto, using(crate::proofs::SeatsTold::seats_told))]
 pub(crate) fn judgment_on<P: Watch>(
     alloc: Global,
     bytes: &[u8],
