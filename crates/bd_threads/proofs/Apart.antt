@@ -1,11 +1,12 @@
 -- Threads stay apart as they come, go, and enter or leave the loop.
-use Rattle.std.proofs.Common.{◌≡◌, ℕ, ◌<◌, ◌==◌, Bool, true, cond, List, [], ◌∷◌, ◌++◌, length, get_or, set, Some, None, refl, ap, sym, subst, ◌∙◌, arith}
+use Rattle.std.proofs.Common.{◌≡◌, ℕ, ◌<◌, ◌==◌, Bool, cond, List, [], ◌∷◌, ◌++◌, length, get_or, set, Some, None, refl, ap, sym, ◌∙◌, arith}
 use Rattle.std.specs.Prelude.{Option, remove}
 use Rattle.std.proofs.lemmas.List.Quantifiers.{all_pairs_push, all_pairs_remove}
 use Rattle.bd_space.specs.declared.space.Thread.{Thread}
 use Rattle.bd_space.specs.Words.{changed}
 use Rattle.bd_processes.proofs.Found.{tags_more, tags_less, apart_from}
-use Rattle.bd_processes.proofs.Changed.{pairs_changed, tags_changed}
+use Rattle.bd_processes.proofs.Rising.{Distinct}
+use Rattle.bd_processes.proofs.Changed.{changed_at, pairs_changed, tags_changed}
 use Rattle.bd_threads.specs.Apart.{AreApart}
 use Rattle.bd_threads.specs.New.{IsNewIn}
 
@@ -46,6 +47,12 @@ module _ (old new : ℕ → Option ℕ) (ts : List Thread) (h : AreApart old ts)
 abbrev pub turned : Bool → Thread → Thread
 turned looping t = record t { looping = looping }
 
+-- where no two have one seat, to turn the thread of a seat is to write it at its index
+pub turned_at : (ts : List Thread) (looping : Bool) (seat i : ℕ) (one : Thread) → Distinct seat_of ts → one ≡ get_or ts i one → i < length ts
+    → ((d : Thread) → (get_or ts i d).seat ≡ seat) → set ts i (turned looping one) ≡ changed (λ t. t.seat == seat) (turned looping) ts
+turned_at ts looping seat i one apart is within at =
+    ap (λ x. set ts i (turned looping x)) is ∙ sym (changed_at seat_of (turned looping) seat ts i one apart within at)
+
 pub apart_turned : (places : ℕ → Option ℕ) (ts : List Thread) (p : Thread → Bool) (looping : Bool) → AreApart places ts
     → AreApart places (changed p (turned looping) ts)
 apart_turned places ts p looping h =
@@ -55,10 +62,3 @@ apart_turned places ts p looping h =
       apart = pairs_changed p f seat_of (λ t. refl) (λ a b. a ≡ b → ⊥) ts h.apart;
       found = λ s. h.found s ∙ sym (tags_changed p f seat_of (λ t. refl) made_of (λ t. refl) s ts);
     }
-
-pub none_apart : (places : ℕ → Option ℕ) → ((s : ℕ) → places s ≡ None) → AreApart places []
-none_apart places none = record {
-  rising = λ i j d lt h. absurd (omega arith);
-  apart = λ i j d lt h. absurd (omega arith);
-  found = none;
-}

@@ -1,4 +1,4 @@
-use Rattle.std.proofs.Common.{◌≡◌, ◌<◌, ◌==◌, false, All, IfSome, length, get_or, sym, subst, ◌∙◌}
+use Rattle.std.proofs.Common.{◌≡◌, ◌<◌, ◌==◌, false, All, IfSome, length, get_or, sym, subst}
 use Rattle.std.specs.Prelude.{MatchOption}
 use Rattle.bd_space.specs.declared.space.Thread.{Thread}
 use Rattle.bd_threads.specs.Apart.{IsRising, place_at}
