@@ -167,7 +167,6 @@ impl CallTable {
     ghost use Rattle.bd_calls.specs.Stands.{Stands, StandsFor};
     ghost use Rattle.bd_calls.specs.Stacked.{TellsOfStacked, MakesOfStackedAt};
     ghost use Rattle.bd_calls.specs.Room.{Uses, UsesNothing, nothing, frame_room, work_room, frame_count};
-    ghost use Rattle.bd_threads.specs.Listed.{listed};
     ghost use Rattle.bd_calls.specs.Closing.{IsAmongAt};
     ghost use Rattle.bd_frames.specs.InOrder.{IsInOrder};
 
