@@ -1,8 +1,8 @@
 use Rattle.std.proofs.Common.{rules, tests, ◌==◌, ◌∙◌, arith}
 use Rattle.bd_space.specs.declared.space.Thread.{Thread}
 use Rattle.bd_space.proofs.Changed.{changed-then, changed-else}
-use Rattle.bd_calls.proofs.thread.mark_looping.Goals as goal
-use Rattle.bd_calls.proofs.thread.mark_looping.Goals.{then-t-seat, else-t-seat}
+use Rattle.bd_threads.proofs.list.mark_looping.Goals as goal
+use Rattle.bd_threads.proofs.list.mark_looping.Goals.{then-t-seat, else-t-seat}
 
 pub loop-t-preserved : goal.loop-t-preserved
 loop-t-preserved c =

@@ -1,7 +1,7 @@
 use Rattle.std.proofs.Common.{◌≡◌, ◌++◌, ◌==◌, map, filter, drop}
 use Rattle.bd_space.specs.declared.space.Thread.{Thread}
 use Rattle.bd_space.specs.ProcessExits.{seat_of}
-use Rattle.bd_calls.proofs.thread.seats_in.Given as goal
+use Rattle.bd_threads.proofs.list.seats_in.Given as goal
 
 abbrev pub invariant-loop-t : goal.invariant-loop-t
 invariant-loop-t l =
