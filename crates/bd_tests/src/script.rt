@@ -100,7 +100,8 @@ const PLACES: [(u64, u32, char); 5] = [
 
 #[test]
 fn lines_that_run(rt: HostRuntime) -> Result<(), Fail> {
-    let text = b"# two seats\nseats  2\n\n 1   look \n0 await 7\n#\n1 post exitthread\n0 spam 1\n1 post spam 0";
+    let text =
+        b"# two seats\nseats  2\n\n 1   look \n0 await 7\n#\n1 post exitthread\n0 spam 1\n1 post spam 0";
     let script = read_script(rt.alloc(), text).ok().ok_or("a script")?;
     same(&rt, "seats", script.seats, 2);
     same(&rt, "lines", script.lines.len(), 5);
