@@ -60,7 +60,7 @@ impl ThreadTable {
         ensures uses { thread_room self.old ≤ thread_room self.new }
     {
         self.take(seat);
-        // Whatever came in before, the threads that are left are told apart.
+        // Once no thread is left, those that come in can be found by places again.
         if self.rows.is_empty() {
             forget_all(&mut self.places);
             self.apart = true;

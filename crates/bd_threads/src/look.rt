@@ -10,7 +10,7 @@ use crate::table::ThreadTable;
 use bd_space::Thread;
 use std::alloc::{AllocError, Global};
 
-// So many rows are looked through in less time than the map is.
+// So few rows are looked through: a walk along them is short, and needs no hash.
 const FEW: usize = 8;
 
 impl ThreadTable {
