@@ -148,6 +148,7 @@ void engine_free(struct engine *engine);
 int engine_open(struct engine *engine, uint32_t seat, uint32_t pid, uint32_t euid, uint32_t window);
 int engine_attach(struct engine *engine, uint32_t seat, uint32_t pid);
 int engine_set_manager(struct engine *engine, uint32_t seat);
+int engine_set_spam(struct engine *engine, uint32_t seat, bool on);
 int engine_exit_thread(struct engine *engine, uint32_t seat);
 int engine_exit_process(struct engine *engine, uint32_t seat);
 int engine_read(struct engine *engine, uint32_t seat, uint32_t limit);
@@ -213,6 +214,7 @@ struct process {
     struct window window;
     uint32_t thread_count;
     uint32_t max_threads, requested, started; /* BR_SPAWN_LOOPER */
+    bool detects_spam;    /* it is told of its own one-way flooding; before its mmap: will be */
     uint64_t *handed;     /* a bit for each 8 bytes of the window: a one-way buffer that the client has begins there */
 };
 

@@ -87,6 +87,11 @@ int engine_set_manager(struct engine *engine, uint32_t seat)
     return stepped(engine, hullpippin_live_manager(&engine->live, seat, &engine->answer));
 }
 
+int engine_set_spam(struct engine *engine, uint32_t seat, bool on)
+{
+    return stepped(engine, hullpippin_live_set_spam(&engine->live, seat, on, &engine->answer));
+}
+
 int engine_exit_thread(struct engine *engine, uint32_t seat)
 {
     return stepped(engine, hullpippin_live_exit_thread(&engine->live, seat, &engine->answer));

@@ -16,18 +16,20 @@ FUZZ_KIB = 65536
 DEVICE = "/dev/binder"
 
 
-def plays(name, *words):
+def plays(name, *words, title=None):
     """A test that is one program, over a daemon whose journal is judged."""
-    @test(f"raw {name}")
+    @test(f"raw {title or name}")
     def play(build):
         with Stage(build, journal=DEVICE) as stage:
             told = stage.run([build.raw(name), *words], 180)
         return f"{told}; lawful, {stage.entries} steps"
 
 
-for name in ("nested", "oneway", "deaths", "parcels", "pool", "two_opens", "refusals"):
+for name in ("nested", "oneway", "deaths", "parcels", "pool", "two_opens", "refusals", "seats"):
     plays(name)
 plays("descriptors", "10000")
+for word in ("asked", "unasked"):
+    plays("flooding", word, title=f"flooding {word}")
 
 
 @test("raw latency", plain_only=True, timed=True)
