@@ -106,6 +106,7 @@ struct page_answer {
 struct page {
     _Atomic uint32_t state;
     _Atomic uint32_t cancel; /* the client's thread was interrupted: it wants its answer now */
+    _Atomic uint32_t ended;   /* by the daemon: nobody answers here any more */
     _Atomic uint32_t freed;   /* by the client: how many buffers it has given back so far; wraps */
     _Atomic uint32_t taken;   /* by the daemon: how many of these it has seen to */
     uint64_t frees[PAGE_FREES];

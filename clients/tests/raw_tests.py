@@ -98,6 +98,21 @@ def idle(build):
     return f"{used} s of processor time in 2 s"
 
 
+@test("raw end")
+def end(build):
+    """Who waits while the daemon ends is told at once, and so is who asks again meanwhile, as a service does whose manager goes first."""
+    with Stage(build, journal=DEVICE) as stage:
+        waiting = [stage.manage(), stage.manage("hwservicemanager")]
+        waiting += [stage.start([build.manager("hello"), f"hello{i}"]).wait_for("ready") for i in range(8)]
+        stage.end_daemon()
+        begin = time.monotonic()
+        for process in waiting:
+            expect("No such device" in process.finish(5, statuses=(1,)), f"{process.name()}: {process.printed()}")
+        took = time.monotonic() - begin
+        expect(took < 1, f"the daemon's clients went on for {took:.1f} s after it")
+    return f"{len(waiting)} clients ended within {took * 1e3:.0f} ms; lawful, {stage.entries} steps"
+
+
 @test("raw fuzz")
 def fuzz(build):
     """Hostile clients for a minute; an honest pair calls meanwhile, and others are served afterwards."""

@@ -144,6 +144,8 @@ class Stage:
 
     def __exit__(self, kind, error, trace):
         try:
+            if self.is_over:
+                return
             if kind is None:
                 self.end()
             elif issubclass(kind, Failed) and not self.daemon.runs():
@@ -181,6 +183,11 @@ class Stage:
         expect(self.daemon.runs(), f"the daemon ended with {self.daemon.process.returncode}: {tail(self.daemon.printed(), 12)}")
         for process in self.others:
             process.kill()
+        self.end_daemon()
+
+    def end_daemon(self):
+        """The same, while the others run on."""
+        self.is_over = True
         os.kill(self.daemon.pid, signal.SIGTERM)
         self.daemon.finish(30)
         expect(not os.path.exists(self.socket), "the daemon left its socket")
