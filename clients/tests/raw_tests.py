@@ -113,6 +113,17 @@ def end(build):
     return f"{len(waiting)} clients ended within {took * 1e3:.0f} ms; lawful, {stage.entries} steps"
 
 
+@test("raw full")
+def full(build):
+    """A history that can take no more ends the daemon in order, and its clients are told."""
+    with Stage(build, journal=DEVICE, daemon=build.short) as stage:
+        said = stage.start([build.raw("oneway")]).finish(statuses=(1,))
+        expect("No such device" in said, f"oneway: {said}")
+        stage.see_end(1)
+        expect(stage.daemon.printed().count("the history is full, the daemon ends") == 1, f"the daemon: {stage.daemon.printed()}")
+    return f"the daemon ended in order; lawful, {stage.entries} steps"
+
+
 @test("raw fuzz")
 def fuzz(build):
     """Hostile clients for a minute; an honest pair calls meanwhile, and others are served afterwards."""
