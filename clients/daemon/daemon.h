@@ -127,6 +127,7 @@ struct engine {
     struct journal journal;
     hullpippin_answer answer; /* of the latest step */
     bool has_stepped;         /* since others were last looked at (settle.c) */
+    bool has_reached_callers; /* .. by a step that may have brought something to threads that wait for a reply */
 
     uint32_t seats;           /* seat 0 is the daemon's own, by which processes begin and end */
     struct thread **lent;     /* by seat: whose it is, or NULL */
@@ -153,8 +154,9 @@ int engine_exit_thread(struct engine *engine, uint32_t seat);
 int engine_exit_process(struct engine *engine, uint32_t seat);
 int engine_read(struct engine *engine, uint32_t seat, uint32_t limit);
 int engine_command(struct engine *engine, uint32_t seat, const void *command, size_t size);
-int engine_command_with(struct engine *engine, uint32_t seat, const void *command, size_t size, const uint8_t *data,
-                        size_t data_size, const uint8_t *offsets, size_t offsets_size);
+/* A transaction or reply, with its parcel. */
+int engine_call(struct engine *engine, uint32_t seat, const void *command, size_t size, const uint8_t *data, size_t data_size,
+                const uint8_t *offsets, size_t offsets_size);
 
 /* --- seats.c --- */
 
