@@ -33,8 +33,8 @@ class Build:
     def __init__(self, sanitized=False, judge=JUDGE):
         self.sanitized = sanitized
         self.judge = judge
-        self.out = "out/sanitized" if sanitized else "out"
-        words = [f"OUT={self.out}", *([f"SAN={SANITIZERS}"] if sanitized else [])]
+        self.out = f"out/{SANITIZERS}" if sanitized else "out"  # as the makefiles have it
+        words = [f"SAN={SANITIZERS}"] if sanitized else []
         make(CLIENTS, *words, "all", "short")
         make(HERE, *words, "raw", "bare", "fuzz")
         self.daemon = f"{CLIENTS}/{self.out}/hullpippind"
