@@ -17,7 +17,7 @@
 #include <stdint.h>
 
 /* Goes up with each change of this file: a library of another build is refused. */
-#define PROTOCOL_VERSION 1u
+#define PROTOCOL_VERSION 2u
 
 /* The largest window, as the kernel's is. */
 #define WINDOW_MAX (4u << 20)
@@ -39,6 +39,7 @@ enum control_op {
     CONTROL_MAP,         /* mmap: `size`, `base`; answers the window's size and its memory */
     CONTROL_MAX_THREADS, /* BINDER_SET_MAX_THREADS: `size` */
     CONTROL_THREAD,      /* answers the three descriptors of a thread: link, page, bell */
+    CONTROL_SPAM,        /* BINDER_ENABLE_ONEWAY_SPAM_DETECTION: `size`, 0 for off */
 };
 
 struct control_request {
@@ -105,6 +106,7 @@ struct page_answer {
 struct page {
     _Atomic uint32_t state;
     _Atomic uint32_t cancel; /* the client's thread was interrupted: it wants its answer now */
+    _Atomic uint32_t ended;   /* by the daemon: nobody answers here any more */
     _Atomic uint32_t freed;   /* by the client: how many buffers it has given back so far; wraps */
     _Atomic uint32_t taken;   /* by the daemon: how many of these it has seen to */
     uint64_t frees[PAGE_FREES];

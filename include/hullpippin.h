@@ -5,7 +5,7 @@
  * (docs/LIBRARY.md, "Building"). Nothing else is needed: the library starts no thread, takes no lock, waits for nobody
  * and opens no file.
  *
- * A driver has 1 to 16 seats. A seat stands for one calling thread: it opens a process or attaches to one, writes
+ * A driver has 1 to 31 seats. A seat stands for one calling thread: it opens a process or attaches to one, writes
  * commands (BC_..) and reads returns (BR_..), in the bytes of <linux/android/binder.h>, 64-bit form, protocol 8. The
  * answers are those of docs/RULES.md, and are proved to be; docs/FORMATS.md has the codes and records.
  *
@@ -78,7 +78,7 @@ enum {
     HULLPIPPIN_NOT_WAITING = 3,     /* no request of this seat is handed over */
     HULLPIPPIN_TAKEN = 4,           /* serve: another seat has the engine */
     HULLPIPPIN_NO_SUCH_REQUEST = 5, /* post: there is no such kind of request */
-    HULLPIPPIN_SEAT_COUNT = 6,      /* new: the number of seats isn't 1 to 16; live_new: 1 to 65536 */
+    HULLPIPPIN_SEAT_COUNT = 6,      /* new: the number of seats isn't 1 to 31; live_new: 1 to 65536 */
     HULLPIPPIN_NO_SEAT_LEFT = 7,    /* take_seat: all seats are taken */
     HULLPIPPIN_SEATS_AWAY = 8,      /* finish: a seat isn't back */
     HULLPIPPIN_NO_JOURNAL = 9,      /* verdict: the bytes are no journal; journal, live_entry, live_heading: no journal
@@ -92,7 +92,7 @@ enum {
 enum {
     HULLPIPPIN_HANDED = 0,  /* collect, withdraw: it is still handed over */
     HULLPIPPIN_OPENED = 1,  /* open, attach: the seat has a thread of the process */
-    HULLPIPPIN_SET = 2,     /* manager: the process is the context manager */
+    HULLPIPPIN_SET = 2,     /* manager, set_spam: that is so from now on */
     HULLPIPPIN_EXITED = 3,  /* exit_thread, exit_process: the thread or the process has ended */
     HULLPIPPIN_WROTE = 4,   /* write: commands were run */
     HULLPIPPIN_GOT = 5,     /* read: there are bytes to be fetched */
@@ -131,6 +131,7 @@ enum {
     HULLPIPPIN_READ = 5,
     HULLPIPPIN_EXIT_THREAD = 6,
     HULLPIPPIN_EXIT_PROCESS = 7,
+    HULLPIPPIN_SET_SPAM = 8,
 };
 
 /* What a request came to. What a field doesn't apply to has 0 there. */
@@ -163,11 +164,12 @@ typedef struct {
 
 /* A request to be posted. A field that its kind has no use for isn't looked at. */
 typedef struct {
-    uint32_t kind;   /* HULLPIPPIN_OPEN .. HULLPIPPIN_EXIT_PROCESS */
+    uint32_t kind;   /* HULLPIPPIN_OPEN .. HULLPIPPIN_SET_SPAM */
     uint32_t pid;    /* open, attach */
     uint32_t euid;   /* open */
     uint32_t window; /* open */
     uint32_t limit;  /* read */
+    bool on;         /* set_spam */
 } hullpippin_request;
 
 /* What is said of a journal. */
@@ -224,6 +226,12 @@ uint32_t hullpippin_attach(hullpippin_seat *seat, uint32_t pid, hullpippin_answe
 
 /* Makes the seat's process the context manager (BINDER_SET_CONTEXT_MGR). */
 uint32_t hullpippin_manager(hullpippin_seat *seat, hullpippin_answer *answer);
+
+/* Has the seat's process told of its own flooding with one-way calls, or no longer
+   (BINDER_ENABLE_ONEWAY_SPAM_DETECTION). While it is told, an accepted one-way transaction reads
+   BR_ONEWAY_SPAM_SUSPECT in place of BR_TRANSACTION_COMPLETE where the process's one-way buffers that live in the
+   receiver's window take more than a quarter of it. At first it isn't. */
+uint32_t hullpippin_set_spam(hullpippin_seat *seat, bool on, hullpippin_answer *answer);
 
 /* Runs the commands of a stream of at most 4096 bytes (the write half of BINDER_WRITE_READ). In their transaction
    records `buffer` and `offsets` are places in the area. Also NO_MEMORY. */
@@ -304,6 +312,9 @@ uint32_t hullpippin_live_attach(hullpippin_live *live, uint32_t seat, uint32_t p
 /* As hullpippin_manager. */
 uint32_t hullpippin_live_manager(hullpippin_live *live, uint32_t seat, hullpippin_answer *answer);
 
+/* As hullpippin_set_spam. */
+uint32_t hullpippin_live_set_spam(hullpippin_live *live, uint32_t seat, bool on, hullpippin_answer *answer);
+
 /* Runs one command, whose bytes are `command`, as the command of a write of that one alone. With a transaction or
    reply its parcel is given: the data and the offsets of its objects, of the sizes that its record says; else it is
    refused with X7. The record's pointers aren't looked at. With other commands nothing is looked at of the parcel.
@@ -361,7 +372,7 @@ uint32_t hullpippin_live_entry(hullpippin_live *live, uint8_t *out, size_t room,
 /* The same for what a journal of `count` entries begins with. Where the entries are still to come, begin the file
    with the heading of 4294967295 entries, and write the right one over it at the end, or `count` alone into the four
    bytes from byte 12, little-endian. Until then no reader takes it for a journal. NO_JOURNAL where there are more
-   than 16 seats. */
+   than 31 seats. */
 uint32_t hullpippin_live_heading(hullpippin_live *live, uint32_t count, uint8_t *out, size_t room, size_t *size);
 
 /* Lets go of a live engine, and empties the handle, which must not be empty. */

@@ -101,6 +101,14 @@ pub fn posted<'a>(ask: &'a Ask, free: &'a [u8]) -> Request<'a> {
     }
 }
 
+/// A journal of ours as it was spelled before there were reports of flooding, which nothing here asks for: as the other
+/// engines spell and read it.
+pub fn earlier(mut journal: Vec<u8>) -> Vec<u8> {
+    assert!(journal.starts_with(b"BNDJ0002"), "the library writes another version of journals");
+    journal[7] = b'1';
+    journal
+}
+
 /// Hullpippin's library: a driver, all of whose seats are used by one thread.
 pub struct Library {
     driver: Driver,
@@ -149,6 +157,6 @@ impl Engine for Library {
     }
 
     fn journal(self) -> Vec<u8> {
-        self.finish().journal().expect("a journal")
+        earlier(self.finish().journal().expect("a journal"))
     }
 }

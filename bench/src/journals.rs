@@ -49,7 +49,7 @@ pub fn measure(steps: usize, table: &mut Table) {
     if beside::IS_THERE {
         let engine = played::<ByRequests>(steps);
         let (spelled, theirs) = timed(entries, || engine.journal());
-        assert!(theirs == journal, "the two engines' journals differ");
+        assert!(theirs == engines::earlier(journal), "the two engines' journals differ");
         add(SPELLED, Whose::Beside, spelled);
         add(JUDGED, Whose::Beside, timed(entries, || assert!(beside::is_lawful(&theirs))).0);
         add(READ, Whose::Beside, timed(entries, || beside::read(&theirs)).0);

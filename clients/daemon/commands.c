@@ -65,8 +65,8 @@ static int run_call(struct run *run, uint32_t code, const uint8_t *payload)
         command.data.flags |= FLAG_TRAILER;
     command.data.data.ptr.buffer = 0;
     command.data.data.ptr.offsets = round8(command.data.data_size);
-    int error = engine_command_with(run->engine, run->thread->seat, &command, sizeof command, parcel.data, parcel.data_size,
-                                    parcel.offsets, parcel.offsets_size);
+    int error = engine_call(run->engine, run->thread->seat, &command, sizeof command, parcel.data, parcel.data_size,
+                            parcel.offsets, parcel.offsets_size);
     bool is_accepted = !error && run->engine->answer.stop == HULLPIPPIN_AT_END;
     if (!is_accepted)
         parcel_refuse(&parcel);

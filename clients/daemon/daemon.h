@@ -127,6 +127,7 @@ struct engine {
     struct journal journal;
     hullpippin_answer answer; /* of the latest step */
     bool has_stepped;         /* since others were last looked at (settle.c) */
+    bool has_reached_callers; /* .. by a step that may have brought something to threads that wait for a reply */
 
     uint32_t seats;           /* seat 0 is the daemon's own, by which processes begin and end */
     struct thread **lent;     /* by seat: whose it is, or NULL */
@@ -148,12 +149,14 @@ void engine_free(struct engine *engine);
 int engine_open(struct engine *engine, uint32_t seat, uint32_t pid, uint32_t euid, uint32_t window);
 int engine_attach(struct engine *engine, uint32_t seat, uint32_t pid);
 int engine_set_manager(struct engine *engine, uint32_t seat);
+int engine_set_spam(struct engine *engine, uint32_t seat, bool on);
 int engine_exit_thread(struct engine *engine, uint32_t seat);
 int engine_exit_process(struct engine *engine, uint32_t seat);
 int engine_read(struct engine *engine, uint32_t seat, uint32_t limit);
 int engine_command(struct engine *engine, uint32_t seat, const void *command, size_t size);
-int engine_command_with(struct engine *engine, uint32_t seat, const void *command, size_t size, const uint8_t *data,
-                        size_t data_size, const uint8_t *offsets, size_t offsets_size);
+/* A transaction or reply, with its parcel. */
+int engine_call(struct engine *engine, uint32_t seat, const void *command, size_t size, const uint8_t *data, size_t data_size,
+                const uint8_t *offsets, size_t offsets_size);
 
 /* --- seats.c --- */
 
@@ -213,6 +216,7 @@ struct process {
     struct window window;
     uint32_t thread_count;
     uint32_t max_threads, requested, started; /* BR_SPAWN_LOOPER */
+    bool detects_spam;    /* it is told of its own one-way flooding; before its mmap: will be */
     uint64_t *handed;     /* a bit for each 8 bytes of the window: a one-way buffer that the client has begins there */
 };
 

@@ -8,7 +8,7 @@
 #include <string.h>
 
 /* As many as a journal may have. */
-#define JOURNAL_SEATS 16u
+#define JOURNAL_SEATS 31u
 
 static struct device *find(struct daemon *daemon, const char *name, size_t length)
 {

@@ -87,13 +87,20 @@ int engine_set_manager(struct engine *engine, uint32_t seat)
     return stepped(engine, hullpippin_live_manager(&engine->live, seat, &engine->answer));
 }
 
+int engine_set_spam(struct engine *engine, uint32_t seat, bool on)
+{
+    return stepped(engine, hullpippin_live_set_spam(&engine->live, seat, on, &engine->answer));
+}
+
 int engine_exit_thread(struct engine *engine, uint32_t seat)
 {
+    engine->has_reached_callers = true;
     return stepped(engine, hullpippin_live_exit_thread(&engine->live, seat, &engine->answer));
 }
 
 int engine_exit_process(struct engine *engine, uint32_t seat)
 {
+    engine->has_reached_callers = true;
     return stepped(engine, hullpippin_live_exit_process(&engine->live, seat, &engine->answer));
 }
 
@@ -102,15 +109,17 @@ int engine_read(struct engine *engine, uint32_t seat, uint32_t limit)
     return stepped(engine, hullpippin_live_read(&engine->live, seat, limit, &engine->answer));
 }
 
-int engine_command_with(struct engine *engine, uint32_t seat, const void *command, size_t size, const uint8_t *data,
-                        size_t data_size, const uint8_t *offsets, size_t offsets_size)
+int engine_command(struct engine *engine, uint32_t seat, const void *command, size_t size)
 {
+    return stepped(engine, hullpippin_live_command(&engine->live, seat, command, size, HULLPIPPIN_NOWHERE, 0, HULLPIPPIN_NOWHERE,
+                                                   0, &engine->answer));
+}
+
+int engine_call(struct engine *engine, uint32_t seat, const void *command, size_t size, const uint8_t *data, size_t data_size,
+                const uint8_t *offsets, size_t offsets_size)
+{
+    engine->has_reached_callers = true;
     return stepped(engine, hullpippin_live_command(&engine->live, seat, command, size, data_size ? data : HULLPIPPIN_NOWHERE,
                                                    data_size, offsets_size ? offsets : HULLPIPPIN_NOWHERE, offsets_size,
                                                    &engine->answer));
-}
-
-int engine_command(struct engine *engine, uint32_t seat, const void *command, size_t size)
-{
-    return engine_command_with(engine, seat, command, size, NULL, 0, NULL, 0);
 }

@@ -24,7 +24,7 @@ static const char usage[] =
     "\n"
     "  --socket PATH           where to listen (else HULLPIPPIN_SOCKET, else /tmp/hullpippin-UID/socket)\n"
     "  --devices NAME,..       the devices (" DEFAULT_DEVICES ")\n"
-    "  --journal [NAME=]FILE   appends the history of a device, else of the first, to a new FILE: it has 16 seats then\n"
+    "  --journal [NAME=]FILE   appends the history of a device, else of the first, to a new FILE: it has 31 seats then\n"
     "  --seats N               seats of a device without a journal, 2 to 65536 (16384)\n"
     "  --log FILE              log there, not on standard error; -v: all that happens\n"
     "  --background            return as soon as clients may come\n"

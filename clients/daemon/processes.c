@@ -113,6 +113,12 @@ static int open_in_engine(struct process *process)
     int error = engine_open(engine, OWN_SEAT, pid, process->euid, (uint32_t)process->window.size);
     if (error || engine->answer.kind != HULLPIPPIN_OPENED)
         return error ? error : ENOMEM;
+    if (process->detects_spam)
+        error = engine_set_spam(engine, OWN_SEAT, true);
+    if (error) {
+        exit_by_own_seat(engine, pid);
+        return error;
+    }
     if (!leave(engine))
         return ENOMEM;
     process->engine_pid = pid;
@@ -140,6 +146,23 @@ static int map_window(struct process *process, const struct control_request *req
     return 0;
 }
 
+/* Before its mmap a process isn't in the engine yet: then it is marked as it is opened there. */
+static int set_spam(struct process *process, bool on)
+{
+    struct engine *engine = process->engine;
+    int error = 0;
+    if (process->engine_pid && process->detects_spam != on) {
+        error = engine_attach(engine, OWN_SEAT, process->engine_pid);
+        if (error || engine->answer.kind != HULLPIPPIN_OPENED)
+            return error ? error : ENOMEM;
+        error = engine_set_spam(engine, OWN_SEAT, on);
+        leave(engine);
+    }
+    if (!error)
+        process->detects_spam = on;
+    return error;
+}
+
 /* Does what a packet asks for. False where there is nothing to be said to such a client. */
 static bool answer_control(struct process *process, const struct control_request *request)
 {
@@ -159,6 +182,9 @@ static bool answer_control(struct process *process, const struct control_request
         break;
     case CONTROL_MAX_THREADS:
         process->max_threads = request->size > UINT32_MAX ? UINT32_MAX : (uint32_t)request->size;
+        break;
+    case CONTROL_SPAM:
+        answer.error = set_spam(process, request->size != 0);
         break;
     case CONTROL_THREAD:
         answer.error = thread_join(process, fds);

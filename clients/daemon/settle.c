@@ -4,7 +4,8 @@
  * A thread that is in no call of its own gets nothing on its own list by what others do (docs/RULES.md, "Work items
  * and reading"). If it is in the loop and serves nothing, it waits for its process's list, and one such thread of a
  * process is asked for in place of them all. A thread that waits for a reply, or whose doorbell rings, is asked for
- * itself.
+ * itself. Who waits for a reply reads the own list alone, to which others add by transactions, replies and exits; so it is
+ * asked for after these. The completion of its call thus stays unread until the reply is there.
  */
 #include "daemon.h"
 
@@ -103,7 +104,8 @@ static bool look_at_others(struct engine *engine, const struct thread *acting)
     for (struct list *entry = engine->looked_at.next, *next; entry != &engine->looked_at; entry = next) {
         struct thread *thread = container_of(entry, struct thread, in_watch);
         next = entry->next;
-        if (thread != acting && look(thread))
+        bool may_be_ready = engine->has_reached_callers || !(thread->is_waiting && thread->calling);
+        if (thread != acting && may_be_ready && look(thread))
             return true;
     }
     for (struct list *entry = engine->resting.next, *next; entry != &engine->resting; entry = next) {
@@ -122,6 +124,6 @@ void settle(struct engine *engine, struct thread *acting)
     do {
         while (engine->has_stepped && look_at_others(engine, acting))
             ;
-        engine->has_stepped = false;
+        engine->has_stepped = engine->has_reached_callers = false;
     } while (looks && look(acting));
 }

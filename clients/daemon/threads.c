@@ -132,11 +132,21 @@ void thread_end(struct thread *thread)
     thread_free(thread);
 }
 
+/* A client that lives on, as where the daemon ends, is told. It asks and then looks whether this is the end; here it's the
+   other way round, so that one of the two sees the other. */
+static void tell_end(struct thread *thread)
+{
+    atomic_store(&thread->page->ended, 1);
+    if (!thread->is_waiting)
+        thread->answer = (struct page_answer){0};
+    if (thread->is_waiting || atomic_load(&thread->page->state) == PAGE_ASKED)
+        page_interrupt(thread, ENODEV);
+}
+
 void thread_free(struct thread *thread)
 {
     struct loop *loop = &thread->process->daemon->loop;
-    if (thread->is_waiting)
-        page_interrupt(thread, ENODEV);
+    tell_end(thread);
     seat_forget(thread);
     doorbell_free(thread);
     if (thread->landing)

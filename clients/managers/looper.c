@@ -38,12 +38,12 @@ static void mourn(struct looper *looper, const uint8_t *payload)
 /* The end of an answer or of a call: what is told of an answer always comes before what is told of a later call. */
 static void conclude(struct looper *looper, uint32_t code, struct turn *turn)
 {
-    bool taken = code == BR_TRANSACTION_COMPLETE;
+    bool taken = code == BR_TRANSACTION_COMPLETE || code == BR_ONEWAY_SPAM_SUSPECT;
     if (looper->answers) {
         looper->answers--;
         looper->refused += !taken;
     } else if (taken) {
-        turn->complete = true;
+        turn->complete = code;
     } else {
         turn->ending = code;
     }
@@ -62,6 +62,7 @@ static void handle(struct looper *looper, uint32_t code, const uint8_t *payload,
     case BR_DEAD_REPLY:
     case BR_FAILED_REPLY:
     case BR_TRANSACTION_COMPLETE:
+    case BR_ONEWAY_SPAM_SUSPECT:
         conclude(looper, code, turn);
         break;
     case BR_INCREFS:
@@ -119,7 +120,7 @@ uint32_t looper_call(struct looper *looper, const struct binder_transaction_data
         if (turn.ending)
             return turn.ending;
         if (turn.complete && (call->flags & TF_ONE_WAY))
-            return BR_TRANSACTION_COMPLETE;
+            return turn.complete;
     }
     return 0;
 }

@@ -29,12 +29,11 @@ bool looper_flush(struct looper *looper);
 
 /*
  * One exchange: writes, waits for returns, and handles them. Where a call of this thread came to its end, `ending` is
- * BR_REPLY, BR_DEAD_REPLY or BR_FAILED_REPLY, and else 0, with BR_TRANSACTION_COMPLETE told in `complete`. A reply's
- * buffer is given back by who asked. False with errno.
+ * BR_REPLY, BR_DEAD_REPLY or BR_FAILED_REPLY, and else 0, with BR_TRANSACTION_COMPLETE or BR_ONEWAY_SPAM_SUSPECT told in
+ * `complete`. A reply's buffer is given back by who asked. False with errno.
  */
 struct turn {
-    uint32_t ending;
-    bool complete;
+    uint32_t ending, complete;
     struct binder_transaction_data reply;
 };
 bool looper_turn(struct looper *looper, struct turn *turn);
@@ -44,7 +43,8 @@ void looper_run(struct looper *looper);
 
 /*
  * Makes a call, and waits for its end: `reply` is filled where it is BR_REPLY. A one-way call ends as
- * BR_TRANSACTION_COMPLETE where it was taken. `buffers` is the size of all buffers that PTR objects of it point at. 0
+ * BR_TRANSACTION_COMPLETE where it was taken, or as BR_ONEWAY_SPAM_SUSPECT where it was taken and the process is told that
+ * it floods the receiver. `buffers` is the size of all buffers that PTR objects of it point at. 0
  * with errno where the device fails.
  */
 uint32_t looper_call(struct looper *looper, const struct binder_transaction_data *call, size_t buffers,

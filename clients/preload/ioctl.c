@@ -9,9 +9,10 @@ static int ask(struct link *link, enum page_op op)
     return link_ask(link, &request, &answer);
 }
 
-static int set_max_threads(struct device *device, int fd, const uint32_t *count)
+/* One request that is for the whole process, and may come before its mmap. */
+static int ask_control(struct device *device, int fd, enum control_op op, const uint32_t *size)
 {
-    struct control_request request = {.op = CONTROL_MAX_THREADS, .size = *count};
+    struct control_request request = {.op = op, .size = *size};
     struct control_answer answer;
     return device_ask(device, fd, &request, &answer, NULL, 0);
 }
@@ -44,12 +45,12 @@ static int do_ioctl(struct device *device, int fd, unsigned long request, void *
     case BINDER_SET_CONTEXT_MGR_EXT:
         return by_link(device, fd, request, argument);
     case BINDER_SET_MAX_THREADS:
-        return set_max_threads(device, fd, argument);
+        return ask_control(device, fd, CONTROL_MAX_THREADS, argument);
     case BINDER_VERSION:
         ((struct binder_version *)argument)->protocol_version = BINDER_CURRENT_PROTOCOL_VERSION;
         return 0;
     case BINDER_ENABLE_ONEWAY_SPAM_DETECTION:
-        return 0; /* nothing is ever suspected */
+        return ask_control(device, fd, CONTROL_SPAM, argument);
     default:
         say("there is no ioctl %08lx", request);
         return EINVAL;

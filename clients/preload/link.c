@@ -155,6 +155,10 @@ static int await(struct link *link, struct page_answer *answer)
     static const struct timespec patience = {.tv_sec = LOOK_SECONDS};
     struct page *page = link->page;
     while (atomic_load_explicit(&page->state, memory_order_acquire) == PAGE_ASKED) {
+        if (atomic_load(&page->ended)) {
+            *answer = (struct page_answer){.error = ENODEV};
+            return ENODEV;
+        }
         if (syscall(SYS_futex, &page->state, FUTEX_WAIT, PAGE_ASKED, &patience, NULL, 0) == 0)
             continue;
         if (errno == EINTR) {
@@ -176,7 +180,7 @@ int link_ask(struct link *link, const struct page_request *request, struct page_
     struct page *page = link->page;
     page->request = *request;
     atomic_store_explicit(&page->cancel, 0, memory_order_relaxed);
-    atomic_store_explicit(&page->state, PAGE_ASKED, memory_order_release);
+    atomic_store(&page->state, PAGE_ASKED); /* before it is looked whether this is the end */
     ring(link);
     return await(link, answer);
 }

@@ -33,13 +33,14 @@ class Build:
     def __init__(self, sanitized=False, judge=JUDGE):
         self.sanitized = sanitized
         self.judge = judge
-        self.out = "out/sanitized" if sanitized else "out"
-        words = [f"OUT={self.out}", *([f"SAN={SANITIZERS}"] if sanitized else [])]
-        make(CLIENTS, *words)
-        make(f"{CLIENTS}/managers", *words)
-        make(HERE, *words, "raw", "fuzz")
+        self.out = f"out/{SANITIZERS}" if sanitized else "out"  # as the makefiles have it
+        words = [f"SAN={SANITIZERS}"] if sanitized else []
+        make(CLIENTS, *words, "all", "short")
+        make(HERE, *words, "raw", "bare", "fuzz")
         self.daemon = f"{CLIENTS}/{self.out}/hullpippind"
+        self.short = f"{CLIENTS}/{self.out}/hullpippind-short"
         self.library = f"{CLIENTS}/{self.out}/libhullpippin-preload.so"
+        self.bare = f"{HERE}/{self.out}/bare/bare"
         self.environment = {}
         self.preload = self.library
         if sanitized:

@@ -1,13 +1,17 @@
 """libgbinder, its tools and its headers, from Debian's packages: the real clients.
 
-They are those of Debian sid, unpacked into a folder outside the repository: what a test machine has is mostly older, so the clients run
-with sid's own loader and C library. Fetched once; a folder that is whole is used again. Needs apt-get and dpkg-deb, and a network.
+    packages.py FOLDER      fetches them into a folder
+
+They are those of Debian sid, unpacked into a folder that nobody else looks at: what a machine has is mostly older, so the clients run with
+sid's own loader and C library. Fetched once; a folder that is whole is used again. In its bin/ are the tools, ready to be run. Needs
+apt-get and dpkg-deb, and a network.
 """
 import glob
 import os
 import re
 import shutil
 import subprocess
+import sys
 
 SUITE = "sid"
 MIRROR = "http://deb.debian.org/debian"
@@ -25,8 +29,8 @@ class Missing(Exception):
 
 
 def default_folder():
-    base = os.environ.get("XDG_CACHE_HOME") or os.path.join(os.path.expanduser("~"), ".cache")
-    return os.path.join(base, "hullpippin-clients")
+    """Where `make tools` has them."""
+    return os.path.join(os.path.dirname(os.path.dirname(os.path.abspath(__file__))), "out", "packages")
 
 
 def mirror():
@@ -70,6 +74,24 @@ class Apt:
             raise Missing(f"apt-get {words[0]}: {last}")
 
 
+def found(folder):
+    """The loader and the folder of the libraries."""
+    loaders = glob.glob(f"{folder}/root/usr/lib*/ld-linux*.so.*")
+    libraries = glob.glob(f"{folder}/root/usr/lib/*-linux-gnu*/libgbinder.so.1")
+    if not loaders or not libraries:
+        raise Missing(f"{folder} has no libgbinder; remove it, so that it is fetched anew")
+    return loaders[0], os.path.dirname(libraries[0])
+
+
+def write_starter(folder, tool):
+    """A script in bin/ that runs a tool with the packages' loader and libraries, wherever the folder is moved to."""
+    os.makedirs(f"{folder}/bin", exist_ok=True)
+    loader, libraries = (f'"$here/{os.path.relpath(it, folder)}"' for it in found(folder))
+    with open(f"{folder}/bin/{tool}", "w", encoding="utf-8") as file:
+        file.write(f'#!/bin/sh\nhere=${{0%/*}}/..\nexec {loader} --library-path {libraries} "$here/root/usr/bin/{tool}" "$@"\n')
+    os.chmod(f"{folder}/bin/{tool}", 0o755)
+
+
 def fetch(folder):
     """Fetches the packages and unpacks them into `folder`/root, in place of what isn't whole there."""
     shutil.rmtree(folder, ignore_errors=True)
@@ -80,6 +102,8 @@ def fetch(folder):
     for package in sorted(glob.glob(f"{folder}/apt/cache/archives/*.deb")):
         subprocess.run(["dpkg-deb", "-x", package, f"{folder}/root"], check=True)
     shutil.rmtree(f"{folder}/apt")
+    for tool in glob.glob(f"{folder}/root/usr/bin/binder-*"):
+        write_starter(folder, os.path.basename(tool))
     open(f"{folder}/whole", "w", encoding="utf-8").close()
 
 
@@ -90,11 +114,7 @@ class Packages:
         if not os.path.exists(f"{folder}/whole"):
             fetch(folder)
         self.root = f"{folder}/root"
-        loaders = glob.glob(f"{self.root}/usr/lib*/ld-linux*.so.*")
-        libraries = glob.glob(f"{self.root}/usr/lib/*-linux-gnu*/libgbinder.so.1")
-        if not loaders or not libraries:
-            raise Missing(f"{folder} has no libgbinder; remove it, so that it is fetched anew")
-        self.loader, self.libraries = loaders[0], os.path.dirname(libraries[0])
+        self.loader, self.libraries = found(folder)
 
     def command(self, program, *words):
         """A program with the packages' loader and libraries."""
@@ -109,3 +129,19 @@ class Packages:
         folders = [f"{include}/gbinder", f"{include}/gutil", f"{include}/glib-2.0", f"{self.libraries}/glib-2.0/include"]
         libraries = [f"{self.libraries}/libgbinder.so.1", f"{self.libraries}/libglib-2.0.so.0", "-Wl,--allow-shlib-undefined"]
         return [word for folder in folders for word in ("-isystem", folder)], libraries
+
+
+def main():
+    if len(sys.argv) != 2:
+        print("usage: packages.py FOLDER", file=sys.stderr)
+        return 2
+    try:
+        Packages(os.path.abspath(sys.argv[1]))
+    except (Missing, OSError, subprocess.CalledProcessError) as why:
+        print(f"libgbinder can't be had: {why}", file=sys.stderr)
+        return 1
+    return 0
+
+
+if __name__ == "__main__":
+    sys.exit(main())

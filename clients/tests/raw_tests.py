@@ -16,32 +16,37 @@ FUZZ_KIB = 65536
 DEVICE = "/dev/binder"
 
 
-def plays(name, *words):
+def plays(name, *words, title=None):
     """A test that is one program, over a daemon whose journal is judged."""
-    @test(f"raw {name}")
+    @test(f"raw {title or name}")
     def play(build):
         with Stage(build, journal=DEVICE) as stage:
             told = stage.run([build.raw(name), *words], 180)
         return f"{told}; lawful, {stage.entries} steps"
 
 
-for name in ("nested", "oneway", "deaths", "parcels", "pool", "two_opens", "refusals"):
+for name in ("nested", "oneway", "deaths", "parcels", "pool", "two_opens", "refusals", "seats"):
     plays(name)
 plays("descriptors", "10000")
+for word in ("asked", "unasked"):
+    plays("flooding", word, title=f"flooding {word}")
 
 
 @test("raw latency", plain_only=True, timed=True)
 def latency(build):
-    """Round trips beside those of bare relays, in turn; of each the round with the best median counts, as other work only delays."""
+    """Round trips beside those over bare relays, in turn; of each the round with the best median counts, as other work only delays."""
     best = {}
-    measured = {"over sockets": ([build.raw("relay"), "sockets", "2000"], False), "over a page": ([build.raw("relay"), "page", "2000"], False),
-                "call": ([build.raw("latency"), "2000"], True), "call of 4096 bytes": ([build.raw("latency"), "2000", "4096"], True)}
-    with Stage(build) as stage:
+    with Stage(build) as stage, Stage(build, bare=True) as bare:
+        measured = {"over sockets": (stage, [build.raw("relay"), "sockets", "2000"], False),
+                    "over a page": (stage, [build.raw("relay"), "page", "2000"], False),
+                    "over the bare relay": (bare, [build.raw("latency"), "2000"], True),
+                    "call": (stage, [build.raw("latency"), "2000"], True),
+                    "call of 4096 bytes": (stage, [build.raw("latency"), "2000", "4096"], True)}
         for turn in range(MOST_ROUNDS):
             if turn >= ROUNDS and best["call"]["median"] <= ROUND_TRIP:
                 break
-            for what, (words, client) in measured.items():
-                found = figures(stage.run(words, client=client))
+            for what, (where, words, client) in measured.items():
+                found = figures(where.run(words, client=client))
                 if what not in best or found["median"] < best[what]["median"]:
                     best[what] = found
     told = "; ".join(f"{what} {it['median']} us (p10 {it['tenth']}, p99 {it['last']})" for what, it in best.items())
@@ -91,6 +96,32 @@ def idle(build):
         used = processor_time(stage.daemon.pid) - before
         expect(used <= 0.1, f"the daemon used {used} s of processor time in 2 s with nothing to do")
     return f"{used} s of processor time in 2 s"
+
+
+@test("raw end")
+def end(build):
+    """Who waits while the daemon ends is told at once, and so is who asks again meanwhile, as a service does whose manager goes first."""
+    with Stage(build, journal=DEVICE) as stage:
+        waiting = [stage.manage(), stage.manage("hwservicemanager")]
+        waiting += [stage.start([build.manager("hello"), f"hello{i}"]).wait_for("ready") for i in range(8)]
+        stage.end_daemon()
+        begin = time.monotonic()
+        for process in waiting:
+            expect("No such device" in process.finish(5, statuses=(1,)), f"{process.name()}: {process.printed()}")
+        took = time.monotonic() - begin
+        expect(took < 1, f"the daemon's clients went on for {took:.1f} s after it")
+    return f"{len(waiting)} clients ended within {took * 1e3:.0f} ms; lawful, {stage.entries} steps"
+
+
+@test("raw full")
+def full(build):
+    """A history that can take no more ends the daemon in order, and its clients are told."""
+    with Stage(build, journal=DEVICE, daemon=build.short) as stage:
+        said = stage.start([build.raw("oneway")]).finish(statuses=(1,))
+        expect("No such device" in said, f"oneway: {said}")
+        stage.see_end(1)
+        expect(stage.daemon.printed().count("the history is full, the daemon ends") == 1, f"the daemon: {stage.daemon.printed()}")
+    return f"the daemon ended in order; lawful, {stage.entries} steps"
 
 
 @test("raw fuzz")

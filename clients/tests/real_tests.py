@@ -8,14 +8,14 @@ import time
 from builds import CLIENTS
 from raw_tests import DEVICE, MOST_ROUNDS, ROUNDS, flat_cost
 from soaks import soak
-from stage import Stage, expect, processor_time, with_word
+from stage import Stage, expect, with_word
 from suite import figures, test
 
 HIDL = "/dev/hwbinder"
 SERVICE = "hullpippin.test@1.0::IEcho/default"
 # the ways in which requests of context managers are written
 FORMS = ("aidl", "aidl2", "aidl3", "aidl4")
-# a call by libgbinder may take so many times what a relay over sockets takes
+# a call by libgbinder may take so many times what the same call takes over a bare relay
 TIMES_RELAY = 1.5
 
 
@@ -89,9 +89,20 @@ def ended(path):
     return left
 
 
+@test("libgbinder first call", real=True, plain_only=True)
+def first_call(build, packages):
+    """The README's command, as it is."""
+    with Stage(build) as stage:
+        told = stage.run([f"{CLIENTS}/first-call"], 300, client=False)
+        for command, answer in (("binder-list", "hello"), ("binder-ping", "OK")):
+            printed = told.partition(f"hullpippin-run {command} ")[2].splitlines()
+            expect(printed[1:2] == [answer], f"{command}: {told}")
+    return "binder-list finds hullpippin-hello, and binder-ping has its answer"
+
+
 @test("libgbinder by hullpippin-run", real=True)
 def by_run(build, packages):
-    """A first call, as the README has it: daemon and managers are started with the first program, and managers end with the daemon."""
+    """Daemon and managers are started with the first program, and managers end with the daemon."""
     run = f"{CLIENTS}/hullpippin-run"
     with Stage(build) as stage:
         path = f"{stage.folder}/other"
@@ -192,23 +203,21 @@ def best(stage, words, enough=lambda median: True):
 
 @test("libgbinder latency", real=True, plain_only=True, timed=True)
 def latency(build, packages):
-    """Calls beside what they would take over a bare relay: one that goes the same ways between the same threads, and what libgbinder
-    itself computes in client and service. Measured in turn; of times the best median counts."""
-    calls, relayed, called, own = 2000, [], [], []
-    with Stage(build) as stage:
-        stage.manage()
-        service = served(build, packages, stage, "test")
+    """The same client calls the same service, with the same library preloaded, over the daemon and over a bare relay in its place. In
+    turn; of each the round with the best median counts."""
+    words = client(build, packages, "test", "time", "2000")
+    relay = call = float("inf")
+    with Stage(build) as stage, Stage(build, bare=True) as bare:
+        for it in (stage, bare):
+            it.manage()
+            served(build, packages, it, "test")
         for turn in range(MOST_ROUNDS):
-            if turn >= ROUNDS and min(called) <= TIMES_RELAY * (min(relayed) + sum(own) / len(own)):
+            if turn >= ROUNDS and call <= TIMES_RELAY * relay:
                 break
-            relayed.append(figures(stage.run([build.raw("relay_polled"), str(calls)], client=False))["median"])
-            before = processor_time(service.pid, 1)
-            found = figures(stage.run(client(build, packages, "test", "time", str(calls))))
-            called.append(found["median"])
-            own.append(found["own"] + (processor_time(service.pid, 1) - before) * 1e6 / calls)
-    relay, call, own = min(relayed), min(called), sum(own) / len(own)
-    told = f"{call} us a call; {relay} us by a bare relay of the same ways, and libgbinder itself computes {own:.1f} us"
-    expect(call <= TIMES_RELAY * (relay + own), told)
+            relay = min(relay, figures(bare.run(words))["median"])
+            call = min(call, figures(stage.run(words))["median"])
+    told = f"{call} us a call, {relay} us over a bare relay: {call / relay:.2f} times"
+    expect(call <= TIMES_RELAY * relay, told)
     return told
 
 
@@ -218,7 +227,7 @@ def real_soak(build, packages):
         stage.manage()
 
     def parts(_):
-        """A journal has 16 seats, so not all play at once."""
+        """A journal has 31 seats, so not all play at once."""
         modes = [["time", "100000"], ["threads", "3", "2000"], ["nested", "1000"], ["descriptors", "1000"], ["keep"],
                  ["oneway", "300"], ["big", "100000"], ["death"]]
         choices = [client(build, packages, "test", *words) for words in modes]

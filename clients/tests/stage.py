@@ -88,11 +88,11 @@ def resident(pid):
         return next(int(line.split()[1]) for line in file if line.startswith("RssAnon:"))
 
 
-def processor_time(pid, kinds=2):
-    """Seconds of processor time that a process has used; with `kinds` 1 only those that it has computed itself, outside of the kernel."""
+def processor_time(pid):
+    """Seconds of processor time that a process has used."""
     with open(f"/proc/{pid}/stat", encoding="ascii", errors="replace") as file:
         words = file.read().rsplit(")", 1)[1].split()
-    return sum(map(int, words[11:11 + kinds])) / os.sysconf("SC_CLK_TCK")
+    return (int(words[11]) + int(words[12])) / os.sysconf("SC_CLK_TCK")
 
 
 def with_word(word):
@@ -113,10 +113,11 @@ def open_files(pid):
 
 
 class Stage:
-    """A daemon, started; `journal` names a device whose journal is kept and judged in the end."""
+    """A daemon, started; `journal` names a device whose journal is kept and judged in the end. With `bare` a bare relay stands in its
+    place, which nothing is asked of but times. With `daemon` it is another program."""
 
-    def __init__(self, build, journal=None, daemon_environment=()):
-        self.build = build
+    def __init__(self, build, journal=None, daemon_environment=(), bare=False, daemon=None):
+        self.build, self.is_bare = build, bare
         self.folder = tempfile.mkdtemp(prefix="hullpippin-stage-")
         self.socket = f"{self.folder}/socket"
         self.journal = f"{self.folder}/journal" if journal else None
@@ -124,7 +125,7 @@ class Stage:
         self.others = []
         self.is_over = False
         self.environment = {**build.environment, "HULLPIPPIN_SOCKET": self.socket, "PATH": os.environ["PATH"], "HOME": self.folder}
-        words = [build.daemon, "--socket", self.socket]
+        words = [build.bare, self.socket] if bare else [daemon or build.daemon, "--socket", self.socket]
         if journal:
             words += ["--journal", f"{journal}={self.journal}"]
         self.daemon = Process(words, {**self.environment, **dict(daemon_environment)}, f"{self.folder}/daemon.log")
@@ -143,6 +144,8 @@ class Stage:
 
     def __exit__(self, kind, error, trace):
         try:
+            if self.is_over:
+                return
             if kind is None:
                 self.end()
             elif issubclass(kind, Failed) and not self.daemon.runs():
@@ -175,11 +178,22 @@ class Stage:
 
     def end(self):
         """Ends the daemon in order; judges its journal."""
+        if self.is_bare:
+            return
         expect(self.daemon.runs(), f"the daemon ended with {self.daemon.process.returncode}: {tail(self.daemon.printed(), 12)}")
         for process in self.others:
             process.kill()
+        self.end_daemon()
+
+    def end_daemon(self):
+        """The same, while the others run on."""
         os.kill(self.daemon.pid, signal.SIGTERM)
-        self.daemon.finish(30)
+        self.see_end()
+
+    def see_end(self, status=0):
+        """The daemon ends in order, with a status; judges its journal."""
+        self.is_over = True
+        self.daemon.finish(30, (status,))
         expect(not os.path.exists(self.socket), "the daemon left its socket")
         if self.journal:
             self.judge()

@@ -52,6 +52,7 @@ mod c {
         pub euid: u32,
         pub window: u32,
         pub limit: u32,
+        pub on: bool,
     }
 
     #[repr(C)]
@@ -73,6 +74,7 @@ mod c {
         pub fn hullpippin_open(seat: *mut Handle, pid: u32, euid: u32, window: u32, answer: *mut Answer) -> u32;
         pub fn hullpippin_attach(seat: *mut Handle, pid: u32, answer: *mut Answer) -> u32;
         pub fn hullpippin_manager(seat: *mut Handle, answer: *mut Answer) -> u32;
+        pub fn hullpippin_set_spam(seat: *mut Handle, on: bool, answer: *mut Answer) -> u32;
         pub fn hullpippin_write(
             seat: *mut Handle,
             stream: *const u8,
@@ -110,6 +112,7 @@ mod c {
         ) -> u32;
         pub fn hullpippin_live_attach(live: *mut Handle, seat: u32, pid: u32, answer: *mut Answer) -> u32;
         pub fn hullpippin_live_manager(live: *mut Handle, seat: u32, answer: *mut Answer) -> u32;
+        pub fn hullpippin_live_set_spam(live: *mut Handle, seat: u32, on: bool, answer: *mut Answer) -> u32;
         pub fn hullpippin_live_command(
             live: *mut Handle,
             seat: u32,
@@ -151,7 +154,7 @@ pub enum Error {
     NotWaiting,
     /// Another seat has the engine.
     Taken,
-    /// The number of seats isn't 1 to 16, or for a live engine 1 to 65536.
+    /// The number of seats isn't 1 to 31, or for a live engine 1 to 65536.
     SeatCount,
     /// All seats are taken.
     NoSeatLeft,
@@ -236,7 +239,7 @@ pub enum Why {
 pub enum Answer {
     /// The seat has a thread of the process.
     Opened,
-    /// The process is the context manager.
+    /// The process is the context manager, or what it is told of its one-way flooding is set.
     Set,
     /// The thread or the process has ended.
     Exited,
@@ -279,6 +282,7 @@ pub enum Request<'a> {
     Open { pid: u32, euid: u32, window: u32 },
     Attach { pid: u32 },
     Manager,
+    SetSpam { on: bool },
     Write { stream: &'a [u8], area: &'a [u8] },
     Read { limit: u32 },
     ExitThread,
@@ -296,6 +300,7 @@ impl Request<'_> {
             Request::Read { limit } => c::Request { kind: 5, limit, ..none },
             Request::ExitThread => c::Request { kind: 6, ..none },
             Request::ExitProcess => c::Request { kind: 7, ..none },
+            Request::SetSpam { on } => c::Request { kind: 8, on, ..none },
         }
     }
 }
@@ -338,7 +343,7 @@ pub struct Driver {
 unsafe impl Send for Driver {}
 
 impl Driver {
-    /// A driver with so many seats, 1 to 16.
+    /// A driver with so many seats, 1 to 31.
     pub fn new(seats: u32) -> Result<Driver, Error> {
         static DRIVERS: AtomicU64 = AtomicU64::new(0);
         let mut handle = c::Handle::NONE;
@@ -425,6 +430,11 @@ impl Seat {
     /// Makes the seat's process the context manager.
     pub fn manager(&mut self) -> Result<Outcome, Error> {
         self.asked(|seat, answer| unsafe { c::hullpippin_manager(seat, answer) })
+    }
+
+    /// Has the seat's process told of its own one-way flooding, or no longer.
+    pub fn set_spam(&mut self, on: bool) -> Result<Outcome, Error> {
+        self.asked(|seat, answer| unsafe { c::hullpippin_set_spam(seat, on, answer) })
     }
 
     /// Runs the commands of a stream, whose parcels are cut from the area.
@@ -607,6 +617,11 @@ impl Live {
     /// Makes the seat's process the context manager.
     pub fn manager(&mut self, seat: u32) -> Result<Made, Error> {
         self.made(|live, told| unsafe { c::hullpippin_live_manager(live, seat, told) })
+    }
+
+    /// Has the seat's process told of its own one-way flooding, or no longer.
+    pub fn set_spam(&mut self, seat: u32, on: bool) -> Result<Made, Error> {
+        self.made(|live, told| unsafe { c::hullpippin_live_set_spam(live, seat, on, told) })
     }
 
     /// Runs one command, with its parcel if it is a transaction or reply.

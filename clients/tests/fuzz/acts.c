@@ -40,11 +40,12 @@ void act_garbage_packets(void)
 void act_deaf(void)
 {
     struct hostile hostile;
-    struct control_request request = {PROTOCOL_VERSION, CONTROL_MAX_THREADS, 15, 0, ""};
+    struct control_request request = {.version = PROTOCOL_VERSION};
     if (!hostile_connect(&hostile) || !hostile_open(&hostile, act_device()) || !hostile_map(&hostile, 65536))
         return;
     for (int i = 0; i < 20 * ROUNDS; i++) {
-        request.op = below(4) ? CONTROL_MAX_THREADS : CONTROL_THREAD;
+        request.op = !below(4) ? CONTROL_THREAD : below(2) ? CONTROL_SPAM : CONTROL_MAX_THREADS;
+        request.size = below(2);
         if (!hostile_send(hostile.control, &request, sizeof request, 0))
             usleep(100);
     }

@@ -1,13 +1,15 @@
 /*
- * deaths: who holds an object hears of its process's end, in both directions; who waits for a reply hears it at once;
- * who asks afterwards too; and a notification that was taken back is told as taken back.
+ * deaths: who holds an object hears of its process's end, in both directions; who waits for a reply hears it at once, also
+ * where just the server's thread ends, or its file is closed; who asks afterwards too; and a notification that was taken back
+ * is told as taken back.
  */
 #include "raw.h"
 
 #include <stdio.h>
+#include <sys/ioctl.h>
 #include <unistd.h>
 
-enum { GIVE = 1, TAKE, TELL, HANG };
+enum { GIVE = 1, TAKE, TELL, HANG, LEAVE, CLOSE };
 
 #define COOKIE 0x1234567890abcdef
 
@@ -38,6 +40,14 @@ static void serve(struct looper *looper, const struct binder_transaction_data *c
         break;
     case TELL:
         raw_answer(looper, &dead, sizeof dead);
+        break;
+    case LEAVE:
+        CHECK(!ioctl(looper->binder->fd, BINDER_THREAD_EXIT, 0), "the thread can't leave");
+        put_code(&looper->commands, BC_ENTER_LOOPER); /* as another thread */
+        break;
+    case CLOSE:
+        binder_close(looper->binder);
+        pause();
         break;
     case HANG:
         pause();
@@ -103,6 +113,14 @@ static void hang(void *with)
     CHECK(ending == BR_DEAD_REPLY, "a call whose server was killed ended as %x", ending);
 }
 
+/* A call whose server ends while it's served. */
+static void call_the_dying(struct client *client, uint32_t code)
+{
+    struct binder_transaction_data reply;
+    uint32_t ending = raw_call(&client->looper, (struct call){.code = code}, &reply);
+    CHECK(ending == BR_DEAD_REPLY, "call %u ended as %x", code, ending);
+}
+
 static void server_dies(struct client *client, pid_t manager)
 {
     uint32_t handle = take_object(client);
@@ -131,7 +149,11 @@ int main(void)
     pid_t manager = raw_start_manager(serve);
     raw_open(&client, WINDOW, NULL);
     clients_die(&client);
+    call_the_dying(&client, LEAVE);
     server_dies(&client, manager);
+    manager = raw_start_manager(serve);
+    call_the_dying(&client, CLOSE);
+    raw_kill(manager);
     printf("heard on both sides\n");
     return 0;
 }

@@ -6,7 +6,6 @@
 #include "client.h"
 
 #include <string.h>
-#include <sys/resource.h>
 #include <unistd.h>
 
 static GBinderServiceManager *manager;
@@ -71,18 +70,10 @@ static int compared(const void *one, const void *other)
     return (difference > 0) - (difference < 0);
 }
 
-/* Microseconds that this process itself has computed. */
-static gint64 computed(void)
-{
-    struct rusage usage;
-    getrusage(RUSAGE_SELF, &usage);
-    return usage.ru_utime.tv_sec * G_USEC_PER_SEC + usage.ru_utime.tv_usec;
-}
-
 static void play_time(void)
 {
     long calls = numbers[0];
-    gint64 *times = g_new0(gint64, calls), before = computed();
+    gint64 *times = g_new0(gint64, calls);
     for (long i = -50; i < calls; i++) {
         gint64 start = g_get_monotonic_time();
         echo("hello");
@@ -90,8 +81,7 @@ static void play_time(void)
             times[i] = g_get_monotonic_time() - start;
     }
     qsort(times, calls, sizeof *times, compared);
-    printf("median %ld tenth %ld last %ld own %.1f\n", (long)times[calls / 2], (long)times[calls / 10],
-           (long)times[calls * 99 / 100], (double)(computed() - before) / (double)calls);
+    printf("median %ld tenth %ld last %ld\n", (long)times[calls / 2], (long)times[calls / 10], (long)times[calls * 99 / 100]);
     g_free(times);
 }
 

@@ -1,7 +1,7 @@
 -- Each live thread was made by a step of its seat.
 use Rattle.bd_laws.proofs.words.Logic.{◌≡◌, ℕ, zero, suc, ◌-◌, ◌==◌, Bool, true, false, cond, not, List, [], ◌∷◌, ◌++◌, length, Option, Some, None, ◌⊎◌, inl, inr, refl, ap, sym, subst, ◌∙◌, map, filter, fold, slice_get, option_map, eqb-true}
 use Rattle.bd_laws.proofs.words.Types.{TransactionData, Entry, Thread, Frame, Actor, OfThread}
-use Rattle.bd_laws.proofs.words.Space.{Space, opening, thread_in, closed, owe, list_to_read, ripen, follow, notify, work_goes, deaths_go, names_go, assign_numbers, objects_go, Delivery, delivered, own_notices, add_buffer, known_by, refer, make_objects, transacted, called, call_out, replied, without_buffer, read_by, taken, thread_goes, threads_go, without_process, tell_deaths, seat_of, counted, with_thread, with_process, with_manager, ask, drop_asked, acknowledge, with_looping, after}
+use Rattle.bd_laws.proofs.words.Space.{Space, opening, thread_in, closed, owe, list_to_read, ripen, follow, notify, work_goes, deaths_go, names_go, assign_numbers, objects_go, Delivery, delivered, own_notices, add_buffer, known_by, refer, make_objects, transacted, called, call_out, replied, without_buffer, read_by, taken, thread_goes, threads_go, without_process, tell_deaths, seat_of, counted, with_thread, with_process, with_manager, ask, drop_asked, acknowledge, with_looping, after, with_spam_detection}
 use Rattle.bd_space.specs.declared.space.WorkKind.TheVariants as work
 use Rattle.bd_laws.proofs.Machine.EveryStep.{Keeps, every_step}
 use Rattle.bd_laws.proofs.Machine.Deaths.{tell_deaths-aside, on-mapped, on_deaths-aside, on-commands}
@@ -135,13 +135,14 @@ module _ (es : List Entry) (e : Entry) (h : Seated es (after opening es)) where
   ]
 
   kept : Keeps s e.seat e.step (Seated more) (Seated more)
-  unfolding with_process with_manager without_buffer ask assign_numbers drop_asked acknowledge with_looping read_by ripen follow notify work_goes deaths_go objects_go names_go closed
+  unfolding with_process with_manager with_spam_detection without_buffer ask assign_numbers drop_asked acknowledge with_looping read_by ripen follow notify work_goes deaths_go objects_go names_go closed
   kept = record {
     set_up = record {
       same = now;
       opened = λ pid euid window free. attached s.steps (with_process s pid euid window) refl refl;
       attached = λ p free. attached p s refl refl;
       managed = λ a i b. same (with_manager s a.process.made) refl;
+      marked = λ p on. same (with_spam_detection s p on) refl;
     };
     changes = record {
       transacts = λ a d parcel v x i t. same (transacted s a d v) (transacted-threads s a d v);

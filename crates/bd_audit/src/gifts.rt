@@ -1,6 +1,7 @@
 //! The gifts by which a process came to a name.
 
 ghost use Rattle.std.specs.Prelude.{◌≡◌, ◌≤◌, IfOk, IfErr, IfSome, MatchResult, is_some};
+ghost use Rattle.bd_uapi.specs.Limits.{IsSeats};
 ghost use Rattle.bd_uapi.specs.declared.fault.Fault.TheVariants as faults;
 ghost use Rattle.bd_space.specs.Histories.{IsHistory, space_after, history_in};
 ghost use Rattle.bd_engine.specs.Looks as looks;
@@ -71,7 +72,7 @@ fn receiver_at(engine: &Engine, place: u32) -> Option<u32>
 
 // An engine that has made the steps of these entries, and the process that received at each of them.
 fn receivers_of(alloc: Global, seats: u32, entries: &[Entry]) -> Result<Received, Fault>
-    requires seats { (1 ≤ seats) × (seats ≤ 16) }
+    requires seats { IsSeats seats }
     requires lawful { IsHistory (record { seats = seats; entries = entries.now }) }
     ensures engine { IfOk result (λ r. r.engine ≡ record { seats = seats; entries = entries.now }) }
     ensures receivers { IfOk result (λ r. spec.AreReceivers entries.now r.receivers.items) }
@@ -147,7 +148,7 @@ fn gifts_of(
     receivers: &[Option<u32>],
     object: ObjectId,
 ) -> Result<Vec<Gift>, Fault>
-    requires seats { (1 ≤ history.now.seats) × (history.now.seats ≤ 16) }
+    requires seats { IsSeats history.now.seats }
     requires lawful { IsHistory (history_in history.now) }
     requires receivers { spec.AreReceivers history.now.entries receivers.now }
     ensures { MatchResult result (λ v. spec.AreGifts history.now.entries object v.items) (λ f. f ≡ faults.NoMemory) }
@@ -207,7 +208,7 @@ pub fn gift_chain(
     pid: u32,
     number: u32,
 ) -> Result<Option<Vec<u32>>, Fault>
-    requires seats { (1 ≤ history.now.seats) × (history.now.seats ≤ 16) }
+    requires seats { IsSeats history.now.seats }
     requires lawful { IsHistory (history_in history.now) }
     // The places are a gift chain for what the number names.
     ensures chain { IfOk result (λ c. IfSome c (λ v. IsChainOf (history_in history.now) pid number v.items)) }

@@ -1,6 +1,7 @@
 //! What the rules give for an entry of a record.
 
 ghost use Rattle.std.specs.Prelude.{◌≡◌, ◌≤◌, IfOk, IfErr};
+ghost use Rattle.bd_uapi.specs.Limits.{IsSeats};
 ghost use Rattle.bd_uapi.specs.declared.fault.Fault.TheVariants as faults;
 ghost use Rattle.bd_space.specs.Histories.{IsHistory, history_in};
 ghost use Rattle.bd_audit.specs.Given as spec;
@@ -42,7 +43,7 @@ fn given_to(mut engine: Engine, entry: &Entry) -> Result<Given, Fault>
 /// What the rules give for the entry at a place, after those before it, which are a history. The only fault is
 /// `NoMemory`.
 pub fn given_at(alloc: Global, record: &Record, place: u32) -> Result<Given, Fault>
-    requires seats { (1 ≤ «record».now.seats) × («record».now.seats ≤ 16) }
+    requires seats { IsSeats «record».now.seats }
     requires before { IsHistory (beginning place (history_in «record».now)) }
     ensures given { IfOk result (spec.IsGivenAt (history_in «record».now) place) }
     ensures fault { IfErr result (λ f. f ≡ faults.NoMemory) }

@@ -1,6 +1,7 @@
 //! Whether a record is a history.
 
 ghost use Rattle.std.specs.Prelude.{◌≡◌, ◌≤◌, ◌<◌, length, IfOk, IfErr, MatchResult};
+ghost use Rattle.bd_uapi.specs.Limits.{IsSeats};
 ghost use Rattle.bd_space.specs.Histories.{IsHistory, history_in};
 ghost use Rattle.bd_audit.specs.Replays as spec;
 ghost use Rattle.bd_audit.specs.Replays.{with_entry, Begins, IfUnlawful, IfNoMemory, StopsAt};
@@ -84,7 +85,7 @@ impl Watch for Unwatched {
 /// Judges a record: Ok where it is a history and nowhere else; `Unlawful` tells up to which entry it is one. An entry for
 /// which a history has no place, or no handle left, is unlawful.
 pub fn replay(alloc: Global, record: &Record) -> Result<(), AuditFault>
-    requires seats { (1 ≤ «record».now.seats) × («record».now.seats ≤ 16) }
+    requires seats { IsSeats «record».now.seats }
     ensures history { MatchResult result (λ _. IsHistory (history_in «record».now)) (λ f. IfUnlawful f (λ at. IsHistory (history_in «record».now) → ⊥)) }
     ensures first { IfErr result (λ f. IfUnlawful f (StopsAt (history_in «record».now))) }
 {
@@ -97,7 +98,7 @@ pub fn replay_watched<W: Watch>(
     record: &Record,
     watch: &mut W,
 ) -> Result<(), AuditFault>
-    requires seats { (1 ≤ «record».now.seats) × («record».now.seats ≤ 16) }
+    requires seats { IsSeats «record».now.seats }
     ensures history { MatchResult result (λ _. IsHistory (history_in «record».now)) (λ f. IfUnlawful f (λ at. IsHistory (history_in «record».now) → ⊥)) }
     ensures first { IfErr result (λ f. IfUnlawful f (StopsAt (history_in «record».now))) }
 {

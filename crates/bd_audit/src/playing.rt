@@ -1,6 +1,7 @@
 //! The steps of a history, made again.
 
 ghost use Rattle.std.specs.Prelude.{◌≡◌, ◌≤◌, length, IfOk, IfErr, MatchResult};
+ghost use Rattle.bd_uapi.specs.Limits.{IsSeats};
 ghost use Rattle.bd_uapi.specs.declared.fault.Fault.TheVariants as faults;
 ghost use Rattle.bd_space.specs.Histories.{IsHistory, history_in};
 ghost use Rattle.bd_audit.specs.Replays.{with_entry, beginning};
@@ -26,7 +27,7 @@ pub fn advance(engine: &mut Engine, entry: &Entry) -> Result<(), Fault>
 
 /// An engine that has made the steps of these entries.
 pub(crate) fn played(alloc: Global, seats: u32, entries: &[Entry]) -> Result<Engine, Fault>
-    requires seats { (1 ≤ seats) × (seats ≤ 16) }
+    requires seats { IsSeats seats }
     requires lawful { IsHistory (record { seats = seats; entries = entries.now }) }
     ensures { MatchResult result (λ e. e ≡ record { seats = seats; entries = entries.now }) (λ f. f ≡ faults.NoMemory) }
 {
@@ -42,7 +43,7 @@ pub(crate) fn played(alloc: Global, seats: u32, entries: &[Entry]) -> Result<Eng
 /// The engine before the entry at this place, or after the last entry, where the entries before it are a history. The only
 /// fault is `NoMemory`.
 pub fn played_before(alloc: Global, record: &Record, place: usize) -> Result<Engine, Fault>
-    requires seats { (1 ≤ «record».now.seats) × («record».now.seats ≤ 16) }
+    requires seats { IsSeats «record».now.seats }
     requires before { IsHistory (beginning place (history_in «record».now)) }
     requires inside { place ≤ length «record».now.entries }
     ensures ok { IfOk result (λ e. e ≡ beginning place (history_in «record».now)) }

@@ -1,6 +1,7 @@
 //! The call that a reading answers.
 
 ghost use Rattle.std.specs.Prelude.{◌≡◌, ◌≤◌, length, IfOk, IfErr, MatchResult};
+ghost use Rattle.bd_uapi.specs.Limits.{IsSeats};
 ghost use Rattle.bd_uapi.specs.declared.fault.Fault.TheVariants as faults;
 ghost use Rattle.bd_space.specs.Histories.{IsHistory, space_after, history_in};
 ghost use Rattle.bd_audit.specs.Replays.{with_entry, beginning};
@@ -15,7 +16,7 @@ use std::alloc::Global;
 /// The engine before the entry at this place, or after the last entry. The record is a history; the only fault is
 /// `NoMemory`.
 pub fn played_to(alloc: Global, record: &Record, place: usize) -> Result<Engine, Fault>
-    requires seats { (1 ≤ «record».now.seats) × («record».now.seats ≤ 16) }
+    requires seats { IsSeats «record».now.seats }
     requires lawful { IsHistory (history_in «record».now) }
     requires inside { place ≤ length «record».now.entries }
     ensures ok { IfOk result (λ e. e ≡ beginning place (history_in «record».now)) }
@@ -45,7 +46,7 @@ fn take_reply(engine: &mut Engine, entry: &Entry) -> Result<Option<u32>, Fault>
 
 // The reply that the reading at this place took.
 fn reply_taken_at(alloc: Global, record: &Record, place: u32) -> Result<Option<u32>, Fault>
-    requires seats { (1 ≤ «record».now.seats) × («record».now.seats ≤ 16) }
+    requires seats { IsSeats «record».now.seats }
     requires lawful { IsHistory (history_in «record».now) }
     ensures { MatchResult result (λ r. r ≡ spec.reply_taken_at (history_in «record».now) place) (λ f. f ≡ faults.NoMemory) }
 {
@@ -60,7 +61,7 @@ fn reply_taken_at(alloc: Global, record: &Record, place: u32) -> Result<Option<u
 
 // The call that the reply at this place answers.
 fn call_closed_at(alloc: Global, record: &Record, place: u32) -> Result<Option<u32>, Fault>
-    requires seats { (1 ≤ «record».now.seats) × («record».now.seats ≤ 16) }
+    requires seats { IsSeats «record».now.seats }
     requires lawful { IsHistory (history_in «record».now) }
     ensures { MatchResult result (λ r. r ≡ spec.call_closed_at (history_in «record».now) place) (λ f. f ≡ faults.NoMemory) }
 {
@@ -79,7 +80,7 @@ fn call_closed_at(alloc: Global, record: &Record, place: u32) -> Result<Option<u
 /// The call that is answered by the reading at a place: where it was made. `None` where that reading handed out no reply,
 /// and where no reading stands at the place. The record is a history; the only fault is `NoMemory`.
 pub fn call_of_reply(alloc: Global, record: &Record, step: u32) -> Result<Option<u32>, Fault>
-    requires seats { (1 ≤ «record».now.seats) × («record».now.seats ≤ 16) }
+    requires seats { IsSeats «record».now.seats }
     requires lawful { IsHistory (history_in «record».now) }
     ensures { MatchResult result (λ found. found ≡ spec.call_answered (history_in «record».now) step) (λ f. f ≡ faults.NoMemory) }
 {

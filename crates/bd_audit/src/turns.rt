@@ -3,6 +3,7 @@
 ghost use Rattle.std.specs.Prelude.{◌≡◌, ◌≤◌, true, map, take, length, IfOk, IfErr, MatchResult};
 ghost use Rattle.std.specs.List.{filter_map, list_all};
 ghost use Rattle.std.specs.Option.{option_to_list};
+ghost use Rattle.bd_uapi.specs.Limits.{IsSeats};
 ghost use Rattle.bd_uapi.specs.declared.fault.Fault.TheVariants as faults;
 ghost use Rattle.bd_space.specs.Histories.{IsHistory, space_after, history_in};
 ghost use Rattle.bd_audit.specs.TurnCalls.{AreTurns};
@@ -139,7 +140,7 @@ fn note(list: &mut TurnList, engine: &Engine, place: u32, object: ObjectId) -> R
 /// The turns of an object: its one-way calls in the order in which they were made, each once. The record is a history; the
 /// only fault is `NoMemory`.
 pub fn oneway_turns(alloc: Global, record: &Record, object: ObjectId) -> Result<Vec<Turn>, Fault>
-    requires seats { (1 ≤ «record».now.seats) × («record».now.seats ≤ 16) }
+    requires seats { IsSeats «record».now.seats }
     requires lawful { IsHistory (history_in «record».now) }
     ensures { MatchResult result (λ v. AreTurns «record».now.entries object v.items) (λ f. f ≡ faults.NoMemory) }
 {

@@ -278,7 +278,7 @@ set_added (q ∷ ps) (suc i) d bs b x order h own is =
     cc
 
 no_process : Process
-no_process = record { made = 0; pid = 0; euid = 0; window = 0 }
+no_process = record { made = 0; pid = 0; euid = 0; window = 0; spam_detection = false }
 
 lives_at : (ps : List Process) (i : ℕ) (d : Process) (r : ℕ) → i < length ps → (get_or ps i d).made ≡ r → lives_in ps r ≡ true
 lives_at [] i d r h e = absurd (omega arith)

@@ -214,5 +214,5 @@ some_room false a b n r e some = absurd (omega (arith, e, some))
 -- where there is room there is room for one more hole
 pub hole_room : (t : Rows) (g : Ground) (r : ℕ) → room_left t g ≡ r → 1 ≤ r → vec_len g.holes + length (live t.rows) < vec_capacity g.holes
 hole_room t g r e some =
-    let n = some_room (reaches g.size g.bounds) t.room (word_room g.spots) (vec_capacity g.holes - (vec_len g.holes + length (live t.rows))) r e some in
+    let n = some_room (reaches g.size g.bounds) t.room (min (word_room g.spots) (word_room g.senders)) (vec_capacity g.holes - (vec_len g.holes + length (live t.rows))) r e some in
     omega (arith, n)

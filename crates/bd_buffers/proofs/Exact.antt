@@ -12,17 +12,20 @@ use Rattle.bd_words.specs.declared.key.WordKey.{WordKey}
 use Rattle.bd_words.specs.Keys.{same_word}
 use Rattle.bd_words.specs.Look.{look}
 use Rattle.bd_space.specs.Freeing.{pointer}
+use Rattle.bd_space.specs.Spam.{one_way_from}
 use Rattle.bd_buffers.specs.Spots.{spot_key}
 use Rattle.bd_buffers.specs.Rows.{IsWithout}
 use Rattle.bd_buffers.proofs.Live.{changed_length, one_less}
 use Rattle.bd_buffers.proofs.Listed.{spots_handed, spots_forgotten}
 use Rattle.bd_buffers.specs.Holes.{Free, IsFreeByte, IsHoles, first_fit, taken, released}
-use Rattle.bd_buffers.specs.Buffer.{IsApart, IsPlaced, one_way_share}
+use Rattle.bd_buffers.specs.Buffer.{IsApart, IsPlaced, one_way_share, share_from}
 use Rattle.bd_space.specs.Words.{changed}
 use Rattle.bd_space.specs.ReadItems.{hand_out}
 use Rattle.bd_buffers.specs.Bounds.{AreBounded}
+use Rattle.bd_buffers.specs.Sums.{AreNoted}
 use Rattle.bd_buffers.specs.Window.{IsWindow, Keeps, one_way_size}
 use Rattle.bd_buffers.proofs.Changes.{All-changed, All-unchanged}
+use Rattle.bd_buffers.proofs.Shares.{sums_handed, sums_without}
 use Rattle.bd_buffers.proofs.Kept.{window_handed, one_way_handed, window_removed, one_way_removed}
 use Rattle.bd_buffers.proofs.Fits.{filled, fit_begins}
 use Rattle.bd_buffers.proofs.Merging.{IsOutside, IsUncovered, taken_to, taken_from, spaced_taken, taken_within, released_to, released_from, spaced_released, released_tail}
@@ -151,6 +154,7 @@ keeps_handed p bs g is =
       };
       starts = spots_handed p bs g.spots is.starts;
       total = is.total ∙ sym (one_way_handed p bs);
+      sums = sums_handed p bs g.senders is.sums;
       spare = omega (arith, spare, same);
       bounded = is.bounded;
       ready = λ some. is.ready (omega (arith, same, some));
@@ -160,9 +164,9 @@ keeps_handed p bs g is =
 pub keeps_without : (b : Buffer) (bs new : List Buffer) (g left : Ground) → Keeps bs g → IsWithout b bs new → left.size ≡ g.size
     → released b.start (b.start + b.size) g.tail g.holes.items ≡ record { holes = left.holes.items; tail = left.tail }
     → ((k : WordKey) → look left.spots k ≡ cond (same_word (spot_key (pointer b)) k) None (look g.spots k))
-    → left.one_way + one_way_share b ≡ g.one_way → vec_len left.holes ≤ vec_len g.holes + 1 → vec_capacity left.holes ≡ vec_capacity g.holes
+    → left.one_way + one_way_share b ≡ g.one_way → ((f : ℕ → ℕ) → AreNoted g.senders (λ m. f m + share_from m b) → AreNoted left.senders f) → vec_len left.holes ≤ vec_len g.holes + 1 → vec_capacity left.holes ≡ vec_capacity g.holes
     → AreBounded left.size left.bounds left.holes.items → Keeps new left
-keeps_without b bs new g left is gone size free spots share len capacity bounds =
+keeps_without b bs new g left is gone size free spots share senders len capacity bounds =
     let window : IsWindow g.size new = subst (IsWindow g.size) (sym gone.left) (window_removed g.size gone.index bs b is.window gone.within) in
     let holes : IsHoles g.size new (released b.start (b.start + b.size) g.tail g.holes.items).tail (released b.start (b.start + b.size) g.tail g.holes.items).holes =
     subst (λ xs. IsHoles g.size xs (released b.start (b.start + b.size) g.tail g.holes.items).tail (released b.start (b.start + b.size) g.tail g.holes.items).holes) (sym gone.left)
@@ -178,6 +182,7 @@ keeps_without b bs new g left is gone size free spots share len capacity bounds 
       free = subst (λ n. IsHoles n new left.tail left.holes.items) (sym size) (subst (λ (f : Free). IsHoles g.size new f.tail f.holes) free holes);
       starts = spots_forgotten g.size b bs new g.spots left.spots is.starts is.window gone spots;
       total = omega (arith, total, own, less, rest, share);
+      sums = senders (one_way_from new) (sums_without b bs new g.senders gone is.sums);
       spare = omega (arith, spare, fewer, len, capacity);
       bounded = bounds.all;
       ready = λ some. bounds.ready;

@@ -8,6 +8,7 @@ pub mod Made
 pub mod Live
 pub mod Kept
 pub mod Listed
+pub mod Shares
 pub mod Exact
 pub mod InSpace
 pub mod Order
@@ -15,3 +16,4 @@ pub mod Homes
 pub mod Owners
 pub mod AllWindows
 pub mod WindowLaws
+pub mod Marks

@@ -101,7 +101,7 @@ order_one f p ws new e order =
 -- ---- whose they are
 
 no_process : Process
-no_process = record { made = 0; pid = 0; euid = 0; window = 0 }
+no_process = record { made = 0; pid = 0; euid = 0; window = 0; spam_detection = false }
 
 -- those of processes that were opened before a step
 pub owners_before : (ws : List OwnedWindow) (bs : List Buffer) (ps : List Process) (bound : ℕ) → map seen ws ≡ map (window_of bs) ps → All (λ q. q.made < bound) ps

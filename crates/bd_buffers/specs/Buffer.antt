@@ -1,5 +1,5 @@
 -- A buffer: where it lies, the pointer by which its receiver knows it, and whether it may be freed.
-use Rattle.std.specs.Prelude.{ℕ, ◌≡◌, ◌+◌, ◌%◌, ◌≤◌, ◌==◌, ◌⊎◌, Bool, Option, Some, None, Result, Ok, Err, length, if◌then◌else◌}
+use Rattle.std.specs.Prelude.{ℕ, ◌≡◌, ◌+◌, ◌%◌, ◌≤◌, ◌==◌, ◌&&◌, ◌⊎◌, Bool, Option, Some, None, Result, Ok, Err, length, if◌then◌else◌}
 use Rattle.bd_uapi.specs.declared.fault.Note.{Note}
 use Rattle.bd_uapi.specs.declared.fault.Note.TheVariants.{NoSuchBuffer, NotHandedOut}
 use Rattle.bd_space.specs.declared.space.Buffer.{Buffer}
@@ -27,6 +27,10 @@ at_pointer ptr b = pointer b == ptr
 -- what a buffer adds to the sizes of the one-way ones
 abbrev pub one_way_share : Buffer → ℕ
 one_way_share b = if b.one_way then b.size else 0
+
+-- what it adds to those of this sender
+abbrev pub share_from : ℕ → Buffer → ℕ
+share_from sender b = if b.one_way && (b.sender == sender) then b.size else 0
 
 -- the place at which a buffer that may be freed was made, or why there is none
 abbrev pub freed_buffer : Option Buffer → Result ℕ Note

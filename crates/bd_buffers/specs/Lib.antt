@@ -3,6 +3,7 @@ pub mod Holes
 pub mod Bounds
 pub mod Rows
 pub mod Spots
+pub mod Sums
 pub mod Window
 pub mod Stands
 pub mod Homes

@@ -12,6 +12,7 @@ use Rattle.bd_buffers.specs.Holes.{IsHoles}
 use Rattle.bd_buffers.specs.Bounds.{IsBounded, reaches}
 use Rattle.bd_buffers.specs.Rows.{live}
 use Rattle.bd_buffers.specs.Spots.{AreSpots}
+use Rattle.bd_buffers.specs.Sums.{AreSums}
 
 -- n bytes at p are free, in a window of this size with these live buffers
 pub record IsFree (size : ℕ) (buffers : List Buffer) (n p : ℕ) : Type 0 where
@@ -48,13 +49,14 @@ pub record IsWindow (size : ℕ) (buffers : List Buffer) : Type 0 where
   pub apart : AllPairs (λ a b. IsApart b.start b.size a) buffers
   pub budget : IsInBudget size buffers 0
 
--- what a window keeps: what is free are its holes and its tail, no hole is larger than its bounds, and each buffer is
--- found by its pointer. A buffer pays for the hole that it leaves, so that its end takes no memory
+-- what a window keeps: what is free are its holes and its tail, no hole is larger than its bounds, each buffer is found by
+-- its pointer, and each sender's sum is what its one-way buffers take. A buffer pays for the hole that it leaves, so that its end takes no memory
 pub record Keeps (buffers : List Buffer) (g : Ground) : Type 0 where
   pub window : IsWindow g.size buffers
   pub free : IsHoles g.size buffers g.tail g.holes.items
   pub starts : AreSpots buffers g.spots
   pub total : g.one_way ≡ one_way_size buffers
+  pub sums : AreSums buffers g.senders
   pub spare : vec_len g.holes + length buffers ≤ vec_capacity g.holes
   pub bounded : All (IsBounded g.bounds) g.holes.items
   pub ready : 0 < length buffers → reaches g.size g.bounds ≡ true
@@ -62,7 +64,7 @@ pub record Keeps (buffers : List Buffer) (g : Ground) : Type 0 where
 -- how many more buffers there is room for: none before there are bounds
 abbrev pub room_left : Rows → Ground → ℕ
 room_left t g =
-    if reaches g.size g.bounds then min (min t.room (word_room g.spots)) (vec_capacity g.holes - (vec_len g.holes + length (live t.rows))) else 0
+    if reaches g.size g.bounds then min (min t.room (min (word_room g.spots) (word_room g.senders))) (vec_capacity g.holes - (vec_len g.holes + length (live t.rows))) else 0
 
 -- a window as contracts see it: its size, its live buffers, oldest first, what they leave free, and how many more it has room to note
 pub record WindowView : Type 0 where

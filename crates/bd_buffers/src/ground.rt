@@ -1,6 +1,6 @@
 //! Where the buffers of a window lie, by what pointers they are found, and what they leave free.
 
-ghost use Rattle.std.specs.Prelude.{◌≡◌, ◌+◌, ◌<◌, ◌≤◌, ◌^◌, None, MatchOption, vec_len, vec_capacity, if◌then◌else◌};
+ghost use Rattle.std.specs.Prelude.{◌≡◌, ◌+◌, ◌<◌, ◌≤◌, ◌^◌, ℕ, None, MatchOption, vec_len, vec_capacity, if◌then◌else◌};
 ghost use Rattle.bd_words.specs.Keys.{same_word};
 ghost use Rattle.bd_words.specs.Look.{look, word_room};
 ghost use Rattle.bd_words.specs.declared.key.WordKey.{WordKey};
@@ -9,6 +9,7 @@ ghost use Rattle.bd_buffers.specs.Buffer as spec;
 ghost use Rattle.bd_buffers.specs.Holes as free;
 ghost use Rattle.bd_buffers.specs.Rows.{live, in_row, IsWithout};
 ghost use Rattle.bd_buffers.specs.Spots.{spot_key};
+ghost use Rattle.bd_buffers.specs.Sums.{sum_at, AreNoted};
 ghost use Rattle.bd_buffers.specs.Bounds.{AreBounded, AreWithin, reaches};
 ghost use Rattle.bd_buffers.specs.Window.{Keeps, room_left};
 
@@ -16,6 +17,7 @@ use crate::bounds::Bounds;
 use crate::buffer::{one_way_share, pointer_of};
 use crate::hole::{Hole, begin_of, give_back, take};
 use crate::rows::Rows;
+use crate::senders::lower;
 use bd_space::Buffer;
 use bd_words::{WordKey, WordMap};
 
@@ -25,6 +27,8 @@ pub(crate) struct Ground {
     pub(crate) size: u32,
     // The sizes of the one-way buffers together.
     pub(crate) one_way: u32,
+    // The sizes of each sender's one-way buffers together, but for senders that have none.
+    pub(crate) senders: WordMap<u32>,
     // Where the buffers were made, by their pointers.
     pub(crate) spots: WordMap<u32>,
     // What is free between the buffers, in order of place. No two holes touch.
@@ -59,7 +63,7 @@ impl Ground {
         ensures bounds { AreBounded self.new.size self.new.bounds self.new.holes.items }
         ensures reaches { reaches self.new.size self.new.bounds ≡ reaches self.old.size self.old.bounds }
         ensures others { (self.new.size ≡ self.old.size) × (self.new.one_way ≡ self.old.one_way)
-            × (self.new.spots ≡ self.old.spots) }
+            × (self.new.spots ≡ self.old.spots) × (self.new.senders ≡ self.old.senders) }
         ensures len { vec_len self.new.holes ≤ vec_len self.old.holes }
         ensures capacity { vec_capacity self.new.holes ≡ vec_capacity self.old.holes }
     {
@@ -80,7 +84,7 @@ impl Ground {
         ensures bounds { AreBounded self.new.size self.new.bounds self.new.holes.items }
         ensures reaches { reaches self.new.size self.new.bounds ≡ reaches self.old.size self.old.bounds }
         ensures others { (self.new.size ≡ self.old.size) × (self.new.one_way ≡ self.old.one_way)
-            × (self.new.spots ≡ self.old.spots) }
+            × (self.new.spots ≡ self.old.spots) × (self.new.senders ≡ self.old.senders) }
         ensures len { vec_len self.new.holes ≤ vec_len self.old.holes + 1 }
         ensures capacity { vec_capacity self.new.holes ≡ vec_capacity self.old.holes }
     {
@@ -99,22 +103,27 @@ impl Ground {
             (free.released b.now.start (b.now.start + b.now.size) self.old.tail self.old.holes.items) }
         requires bounds { AreBounded self.old.size self.old.bounds self.old.holes.items }
         requires share { spec.one_way_share b.now ≤ self.old.one_way }
+        requires sender { spec.one_way_share b.now ≤ sum_at self.old.senders b.now.sender }
         requires within { b.now.start + b.now.size ≤ 4194304 }
         ensures left { free.released b.now.start (b.now.start + b.now.size) self.old.tail self.old.holes.items
             ≡ record { holes = self.new.holes.items; tail = self.new.tail } }
         ensures spots { (k : WordKey) → look self.new.spots k
             ≡ (if same_word (spot_key (pointer b.now)) k then None else look self.old.spots k) }
         ensures one_way { self.new.one_way + spec.one_way_share b.now ≡ self.old.one_way }
+        ensures senders { (f : ℕ → ℕ) → AreNoted self.old.senders (λ m. f m + spec.share_from m b.now)
+            → AreNoted self.new.senders f }
         ensures bounds { AreBounded self.new.size self.new.bounds self.new.holes.items }
         ensures reaches { reaches self.new.size self.new.bounds ≡ reaches self.old.size self.old.bounds }
         ensures size { self.new.size ≡ self.old.size }
         ensures len { vec_len self.new.holes ≤ vec_len self.old.holes + 1 }
         ensures capacity { vec_capacity self.new.holes ≡ vec_capacity self.old.holes }
         ensures room { word_room self.old.spots ≤ word_room self.new.spots }
+        ensures sender_room { word_room self.old.senders ≤ word_room self.new.senders }
     {
         self.restore(b.start, b.start + b.size);
         let share = one_way_share(b);
         let _made = self.spots.remove(key_at(pointer_of(b)));
+        lower(&mut self.senders, b);
         self.one_way -= share;
     }
 }

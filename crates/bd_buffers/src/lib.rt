@@ -9,6 +9,7 @@ mod home;
 mod listing;
 mod owned;
 mod rows;
+mod senders;
 mod window;
 mod windows;
 

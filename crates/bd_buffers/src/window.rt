@@ -7,6 +7,7 @@ ghost use Rattle.bd_space.specs.Windows.{needed, start_in, over_budget_in, start
 ghost use Rattle.bd_space.specs.Freeing.{is_made_at};
 ghost use Rattle.bd_space.specs.ReadItems.{hand_out};
 ghost use Rattle.bd_space.specs.Returns.{buffer_in};
+ghost use Rattle.bd_space.specs.Spam.{floods};
 
 use crate::bounds::Bounds;
 use crate::buffer::{needed, one_way_share, pointer_of};
@@ -15,6 +16,7 @@ use crate::hole::first_place;
 use crate::home::forget;
 use crate::listing::list_made;
 use crate::rows::Rows;
+use crate::senders::{raise, sum_of};
 use bd_space::Buffer;
 use bd_uapi::Cause;
 use bd_words::WordMap;
@@ -66,6 +68,7 @@ impl Window {
             ground: Ground {
                 size,
                 one_way: 0,
+                senders: WordMap::new(alloc),
                 spots: WordMap::new(alloc),
                 holes: Vec::new(alloc),
                 tail: 0,
@@ -142,6 +145,21 @@ impl Window {
         self.place_for(one_way, data_size, offsets_size)
     }
 
+    // Whether the one-way buffers of a sender take more than a quarter of the window.
+    #[tactic(auto, unfolding(bd_space::specs::Spam::floods))]
+    fn is_flooded(&self, sender: u32) -> bool
+        ensures { result ≡ floods self.now.size self.now.buffers sender }
+    {
+        4 * u64::from(sum_of(&self.ground.senders, sender)) > u64::from(self.ground.size)
+    }
+
+    /// Whether the live one-way buffers of a sender's process take more than a quarter of the window.
+    pub fn floods(&self, sender: u32) -> bool
+        ensures { WindowTells (Stands self.now) result (λ size bs. floods size bs sender) }
+    {
+        self.is_flooded(sender)
+    }
+
     /// Makes room to note one more buffer. The window stays as it was, also on an `Err`.
     pub fn reserve(&mut self) -> Result<(), AllocError>
         ensures stands { WindowMakes (Stands self.old) (Stands self.new) (λ bs. bs) }
@@ -154,6 +172,7 @@ impl Window {
     {
         self.buffers.reserve(1)?;
         self.ground.spots.reserve(1)?;
+        self.ground.senders.reserve(1)?;
         self.ground.bounds.reserve(self.ground.size)?;
         self.ground.holes.reserve(self.buffers.count() + 1)
     }
@@ -178,6 +197,7 @@ impl Window {
         let share = one_way_share(&buffer);
         let key = key_at(pointer_of(&buffer));
         self.ground.spots.insert(key, buffer.made);
+        raise(&mut self.ground.senders, &buffer);
         self.ground.one_way += share;
         self.buffers.push(buffer);
     }

@@ -1,6 +1,6 @@
 //! The windows of all live processes.
 
-ghost use Rattle.std.specs.Prelude.{◌≡◌, ◌≤◌, ◌++◌, ℕ, Bool, IfOk, IfSome, OnOk, OnErr, Some, None, Err, length, List, [], map, option_map};
+ghost use Rattle.std.specs.Prelude.{◌≡◌, ◌≤◌, ◌++◌, ℕ, Bool, false, IfOk, IfSome, OnOk, OnErr, Some, None, Err, length, List, [], map, option_map};
 ghost use Rattle.std.specs.Option.{option_copied};
 ghost use Rattle.bd_uapi.specs.declared.fault.Cause.TheVariants.{NoRoom};
 ghost use Rattle.bd_space.specs.declared.space.Process.{Process};
@@ -11,6 +11,7 @@ ghost use Rattle.bd_space.specs.Windows.{needed, start_for, buffers_of};
 ghost use Rattle.bd_space.specs.Delivery.{add_buffer};
 ghost use Rattle.bd_space.specs.Freeing.{without_buffer, buffer_at_pointer};
 ghost use Rattle.bd_space.specs.Returns.{buffer_in};
+ghost use Rattle.bd_space.specs.Spam.{floods};
 ghost use Rattle.bd_space.specs.ReadItems.{buffer_taken, read_by};
 ghost use Rattle.bd_space.specs.Steps.{with_process};
 ghost use Rattle.bd_space.specs.ProcessExits.{without_process};
@@ -116,6 +117,19 @@ impl Windows {
                 w.window.check();
                 w.window.place(one_way, data_size, offsets_size)
             }
+        }
+    }
+
+    /// Whether the live one-way buffers that a sender's process made take more than a quarter of the window of a process.
+    /// No process that has ended is flooded.
+    pub fn floods(&self, p: u32, sender: u32) -> bool
+        ensures computed { (s : Space) (q : Process) → StandsIn self.now s → process_in s.processes p ≡ Some q
+            → result ≡ floods q.window (buffers_of s.buffers p) sender }
+        ensures no_process { (s : Space) → StandsIn self.now s → process_in s.processes p ≡ None → result ≡ false }
+    {
+        match owned_by(&self.windows, p) {
+            None => false,
+            Some(w) => w.window.floods(sender),
         }
     }
 

@@ -1,6 +1,7 @@
 -- What is behind a driver's handle, and what becomes of it.
 use Rattle.std.specs.Prelude.{◌≡◌, ℕ, ◌<◌, ◌≤◌, nat_lt, Bool, List, [], ◌∷◌, ◌++◌, length, Option, Some, None, vec_len, vec_capacity}
 use Rattle.std.specs.Arc.{arc_value}
+use Rattle.bd_uapi.specs.Limits.{most_seats, IsSeats}
 use Rattle.bd_uapi.specs.declared.fault.Fault.{Fault}
 use Rattle.bd_uapi.specs.declared.fault.Fault.TheVariants as fault
 use Rattle.bd_space.specs.declared.record.Record.{Record}
@@ -12,7 +13,7 @@ use Rattle.bd_c.specs.declared.status.Status.TheVariants.{NoMemory, SeatCount, N
 
 -- a new driver with so many seats, all of them there, which have seen nothing yet
 pub record Opens (count : ℕ) (h : Host) : Type 0 where
-  pub within : (1 ≤ count) × (count ≤ 16)
+  pub within : IsSeats count
   pub count_is : h.count ≡ count
   pub driver : (arc_value h.driver).seats ≡ count
   pub seats : h.seats.items ≡ new_seats (arc_value h.driver).table count 0 count
@@ -23,8 +24,8 @@ refusal_of _ = NoMemory
 
 -- the number is out of its limits, or there was no memory
 abbrev pub IsRefusal : ℕ → Status → Type 0
-IsRefusal count SeatCount = 1 ≤ count → 16 < count
-IsRefusal count NoMemory = (1 ≤ count) × (count ≤ 16)
+IsRefusal count SeatCount = 1 ≤ count → most_seats < count
+IsRefusal count NoMemory = IsSeats count
 IsRefusal count _ = ⊥
 
 -- it is the same driver

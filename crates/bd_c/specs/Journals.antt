@@ -1,8 +1,9 @@
 -- The bytes of a history, and what is said of such bytes.
 use Rattle.std.specs.Prelude.{◌≡◌, ◌≤◌, ◌⊎◌, ℕ, Bool, true, false, List, length}
+use Rattle.bd_uapi.specs.Limits.{IsSeats}
 use Rattle.bd_space.specs.declared.record.Record.{Record}
 use Rattle.bd_space.specs.Histories.{IsHistory, history_in}
-use Rattle.bd_journal.specs.Spelling.{IsJournal, journal_bytes}
+use Rattle.bd_journal.specs.Spelling.{IsJournal, Tells, journal_bytes}
 use Rattle.bd_audit.specs.Replays.{StopsAt}
 use Rattle.bd_c.specs.Parts.{Fetches}
 use Rattle.bd_c.specs.declared.judging.Verdict.{Verdict}
@@ -10,7 +11,7 @@ use Rattle.bd_c.specs.declared.status.Status.{Status}
 use Rattle.bd_c.specs.declared.status.Status.TheVariants.{Done, NoMemory, NoJournal}
 
 abbrev pub HasSeats : Record → Type 0
-HasSeats r = (1 ≤ r.seats) × (r.seats ≤ 16)
+HasSeats r = IsSeats r.seats
 
 abbrev pub IsNotWritten : Record → Status → Type 0
 IsNotWritten r NoJournal = IsJournal r → ⊥
@@ -33,9 +34,9 @@ Judged r old new Done = Holds r new.lawful new.entries
 Judged r old new NoMemory = new ≡ old
 Judged r old new _ = ⊥
 
--- the bytes are all of the spelling of this record
+-- the bytes are all of the spelling of this record, in one of the versions of the format
 abbrev pub Spells : List ℕ → Record → Type 0
-Spells bytes r = IsJournal r × (bytes ≡ journal_bytes r)
+Spells bytes r = Tells bytes r
 
 -- no record is spelled so, or memory was refused
 abbrev pub IsUnread : List ℕ → Status → Type 0

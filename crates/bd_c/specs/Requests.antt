@@ -1,14 +1,14 @@
 -- What C hands over, as a request.
 use Rattle.std.specs.Prelude.{◌≡◌, ◌==◌, ◌⊎◌, ℕ, List, Option, Some, None, if◌then◌else◌}
 use Rattle.bd_space.specs.declared.step.Request.{Request}
-use Rattle.bd_space.specs.declared.step.Request.TheVariants.{Open, Attach, SetManager, Write, Read, ExitThread, ExitProcess}
+use Rattle.bd_space.specs.declared.step.Request.TheVariants.{Open, Attach, SetManager, SetSpam, Write, Read, ExitThread, ExitProcess}
 use Rattle.bd_c.specs.declared.requests.RequestGiven.{RequestGiven}
 use Rattle.bd_c.specs.declared.held.Held.{Held}
 use Rattle.bd_c.specs.declared.status.Status.{Status}
 use Rattle.bd_c.specs.declared.status.Status.TheVariants.{NoMemory, NoSuchRequest}
 use Rattle.bd_c.specs.Seats.{OverSeat, Posts}
 
--- 1 open, 2 attach, 3 become the manager, 4 write, 5 read, 6 end the thread, 7 end the process
+-- 1 open, 2 attach, 3 become the manager, 4 write, 5 read, 6 end the thread, 7 end the process, 8 set reports of flooding
 abbrev pub request_of : RequestGiven → List ℕ → List ℕ → Option Request
 request_of g stream area =
     if g.kind == 1 then Some (Open g.pid g.euid g.window)
@@ -18,7 +18,8 @@ request_of g stream area =
     else (if g.kind == 5 then Some (Read g.limit)
     else (if g.kind == 6 then Some ExitThread
     else (if g.kind == 7 then Some ExitProcess
-    else None))))))
+    else (if g.kind == 8 then Some (SetSpam g.on)
+    else None)))))))
 
 -- no kind has this number; or there was no memory for a copy of a write's bytes
 abbrev pub IsNoRequest : RequestGiven → List ℕ → List ℕ → Status → Type 0

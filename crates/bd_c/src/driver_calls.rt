@@ -13,7 +13,7 @@ use crate::opening::{put, take};
 use crate::status::Status;
 use std::alloc::Global;
 
-/// Makes a driver with so many seats, 1 to 16. The handle must have nothing.
+/// Makes a driver with so many seats, 1 to 31. The handle must have nothing.
 #[unsafe(no_mangle)]
 pub extern "C" fn hullpippin_new(alloc: Global, seats: u32, driver: &mut Handle) -> u32
     requires nothing { driver.old.held ≡ None }

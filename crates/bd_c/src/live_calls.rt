@@ -1,6 +1,6 @@
 //! What C calls of a live engine: one handle, with which all seats' steps are made.
 ghost use Rattle.std.specs.Prelude.{◌≡◌, None};
-ghost use Rattle.bd_space.specs.declared.step.Step.TheVariants.{Open, Attach, SetManager, Read, ExitThread, ExitProcess};
+ghost use Rattle.bd_space.specs.declared.step.Step.TheVariants.{Open, Attach, SetManager, SetSpam, Read, ExitThread, ExitProcess};
 ghost use Rattle.bd_c.specs.Status.{Reports};
 ghost use Rattle.bd_c.specs.Lives.{IsLive, OverLive, LiveOpensAt, Steps};
 ghost use Rattle.bd_c.specs.LiveCommands.{Commands};
@@ -89,6 +89,22 @@ pub extern "C" fn hullpippin_live_manager(
         Steps x y seat SetManager s told.old told.new)) }
 {
     make(alloc, live, seat, Step::SetManager, told)
+}
+
+/// Has the seat's process told of its own one-way flooding, or no longer.
+#[unsafe(no_mangle)]
+pub extern "C" fn hullpippin_live_set_spam(
+    alloc: Global,
+    live: &mut Handle,
+    seat: u32,
+    on: bool,
+    told: &mut Told,
+) -> u32
+    requires { IsLive live.old.held }
+    ensures { Reports result (λ s. OverLive live.old.held live.new.held (λ x y.
+        Steps x y seat (SetSpam on) s told.old told.new)) }
+{
+    make(alloc, live, seat, Step::SetSpam { on }, told)
 }
 
 /// Runs one command of the seat. What is given as its parcel is looked at with a transaction or reply alone.

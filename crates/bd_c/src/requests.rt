@@ -11,7 +11,8 @@ use std::alloc::{AllocError, Global};
 #[repr(C)]
 #[derive(Clone, Copy, Debug, PartialEq, Eq)]
 pub struct RequestGiven {
-    /// 1 open, 2 attach, 3 become the manager, 4 write, 5 read, 6 end the thread, 7 end the process.
+    /// 1 open, 2 attach, 3 become the manager, 4 write, 5 read, 6 end the thread, 7 end the process, 8 set reports of
+    /// flooding.
     pub kind: u32,
     /// Of open and attach.
     pub pid: u32,
@@ -21,6 +22,8 @@ pub struct RequestGiven {
     pub window: u32,
     /// Of read.
     pub limit: u32,
+    /// Of set reports of flooding.
+    pub on: bool,
 }
 
 fn copied(alloc: Global, from: &[u8]) -> Result<Bytes, AllocError>
@@ -63,6 +66,7 @@ pub(crate) fn request_of(
         5 => Ok(Request::Read { limit: given.limit }),
         6 => Ok(Request::ExitThread),
         7 => Ok(Request::ExitProcess),
+        8 => Ok(Request::SetSpam { on: given.on }),
         _ => Err(Status::NoSuchRequest),
     }
 }

@@ -1,6 +1,6 @@
 //! What C calls of a seat.
 ghost use Rattle.std.specs.Prelude.{◌≡◌};
-ghost use Rattle.bd_space.specs.declared.step.Request.TheVariants.{Open, Attach, SetManager, Write, Read, ExitThread, ExitProcess};
+ghost use Rattle.bd_space.specs.declared.step.Request.TheVariants.{Open, Attach, SetManager, SetSpam, Write, Read, ExitThread, ExitProcess};
 ghost use Rattle.bd_c.specs.Status.{Reports};
 ghost use Rattle.bd_c.specs.Seats.{IsSeat, OfSeat, OverSeat, Asks, Looks};
 ghost use Rattle.bd_c.specs.Parts.{bytes_of, notes_of, Fetches, TellsNote};
@@ -70,6 +70,21 @@ pub extern "C" fn hullpippin_manager(alloc: Global, seat: &mut Handle, told: &mu
         Asks x y SetManager s told.old told.new)) }
 {
     ask(alloc, seat, Request::SetManager, told)
+}
+
+/// Has the seat's process told of its own one-way flooding, or no longer.
+#[unsafe(no_mangle)]
+pub extern "C" fn hullpippin_set_spam(
+    alloc: Global,
+    seat: &mut Handle,
+    on: bool,
+    told: &mut Told,
+) -> u32
+    requires { IsSeat seat.old.held }
+    ensures { Reports result (λ s. OverSeat seat.old.held seat.new.held (λ x y.
+        Asks x y (SetSpam on) s told.old told.new)) }
+{
+    ask(alloc, seat, Request::SetSpam { on }, told)
 }
 
 /// Runs the commands of a stream, whose parcels are cut from the area.

@@ -1,4 +1,4 @@
--- A search for the least place, number by number, and what one-way buffers take, buffer by buffer.
+-- A search for the least place, number by number, and what one-way buffers take, all of them or one sender's, buffer by buffer.
 use Rattle.std.proofs.Common.{◌≡◌, ℕ, zero, suc, ◌+◌, ◌-◌, ◌*◌, ◌/◌, ◌<◌, ◌≤◌, Bool, true, false, cond, List, [], ◌∷◌, Some, None, filter, length, get_or, drop, refl, ap, sym, ◌∙◌, arith, ltb, lt-ltb, zero-add, add-one}
 use Rattle.std.specs.Prelude.{Option, ◌==◌, option_map}
 use Rattle.std.proofs.lemmas.Bool.{ltb-true}
@@ -6,8 +6,10 @@ use Rattle.std.proofs.lemmas.List.Sums.{sum_by-cons}
 use Rattle.bd_space.specs.declared.space.Buffer.{Buffer}
 use Rattle.bd_space.specs.Words.{least}
 use Rattle.bd_space.specs.Windows.{buffers_of, fits_in, start_in, over_budget_in}
-use Rattle.bd_buffers.specs.Buffer.{one_way_share}
+use Rattle.bd_space.specs.Spam.{one_way_from, floods}
+use Rattle.bd_buffers.specs.Buffer.{one_way_share, share_from}
 use Rattle.bd_buffers.specs.Window.{one_way_size}
+use Rattle.bd_buffers.proofs.Shares.{from_cons}
 
 -- ---- the search, of the numbers below n those from k on
 
@@ -104,3 +106,36 @@ over-none left = by (ltb left 0) refl
     by : (x : Bool) → ltb left 0 ≡ x → x ≡ false
     by true e = let no = ltb-true left 0 e in absurd (omega (arith, no))
     by false e = refl
+
+-- ---- what one sender's take, each its share of what is left
+
+abbrev pub sent : ℕ → ℕ → List Buffer → ℕ
+sent p m bs = one_way_from (buffers_of bs p) m
+
+abbrev pub sent-share : ℕ → ℕ → Buffer → ℕ
+sent-share p m b = cond (b.receiver == p) (share_from m b) 0
+
+sent-cons : (p m : ℕ) (b : Buffer) (bs : List Buffer) → sent p m (b ∷ bs) ≡ sent-share p m b + sent p m bs
+sent-cons p m b bs = by (b.receiver == p) refl
+  where
+    by : (c : Bool) → (b.receiver == p) ≡ c → one_way_from (cond c (b ∷ buffers_of bs p) (buffers_of bs p)) m ≡ cond c (share_from m b) 0 + sent p m bs
+    by true e = from_cons m b (buffers_of bs p)
+    by false e = sym (zero-add (sent p m bs))
+
+pub sent-from : (p m : ℕ) (bs : List Buffer) (i s : ℕ) (b : Buffer) → i < length bs → b ≡ get_or bs i b → s ≡ sent-share p m b
+    → sent p m (drop i bs) ≡ s + sent p m (drop (i + 1) bs)
+sent-from p m bs i s b h is e =
+    ap (sent p m) (drop-suc bs i b h) ∙ sent-cons p m (get_or bs i b) (drop (suc i) bs)
+    ∙ ap (λ n. sent-share p m (get_or bs i b) + sent p m (drop n bs)) (sym (add-one i))
+    ∙ ap (λ n. n + sent p m (drop (i + 1) bs)) (ap (sent-share p m) (sym is) ∙ sym e)
+
+pub flood-first : (window m : ℕ) (bs : List Buffer) → floods window bs m ≡ ltb window (4 * one_way_from bs m)
+unfolding floods
+flood-first window m bs = refl
+
+pub flood-next : (left s rest all : ℕ) → all ≡ s + rest → 4 * s ≤ left → ltb left (4 * all) ≡ ltb (left - 4 * s) (4 * rest)
+flood-next left s rest all e h =
+    same-test left (4 * all) (left - 4 * s) (4 * rest) (λ a. omega (arith, a, e, h)) (λ a. omega (arith, a, e, h))
+
+pub flood-here : (left s rest all : ℕ) → all ≡ s + rest → left < 4 * s → true ≡ ltb left (4 * all)
+flood-here left s rest all e h = sym (lt-ltb left (4 * all) (omega (arith, e, h)))

@@ -3,7 +3,8 @@
 ghost use Rattle.std.specs.Prelude.{◌≡◌, ◌==◌, ◌<◌, ◌^◌, if◌then◌else◌};
 ghost use Rattle.std.specs.List.{list_all};
 ghost use Rattle.bd_space.specs.Windows as spec;
-ghost use Rattle.bd_buffers.specs.Buffer.{one_way_share};
+ghost use Rattle.bd_space.specs.Spam as spam;
+ghost use Rattle.bd_buffers.specs.Buffer as buffer;
 
 use bd_space::Buffer;
 use bd_uapi::Cause;
@@ -62,7 +63,7 @@ fn least_start(buffers: &[Buffer], p: u32, window: u32, size: u64) -> Option<u32
 
 // What a buffer takes of the process's half for one-way calls.
 fn share_of(p: u32, b: &Buffer) -> u64
-    ensures is { result ≡ (if b.now.receiver == p then one_way_share b.now else 0) }
+    ensures is { result ≡ (if b.now.receiver == p then buffer.one_way_share b.now else 0) }
     ensures small { result < 2 ^ 32 }
 {
     if b.receiver == p && b.one_way {
@@ -123,4 +124,31 @@ pub(crate) fn place_for(
         return Err(Cause::NoRoom);
     }
     place_of(buffers, p, window, one_way, needed(data_size, offsets_size))
+}
+
+// What a buffer takes of the process's window for one-way calls of a sender.
+fn share_from(p: u32, sender: u32, b: &Buffer) -> u64
+    ensures is { result ≡ (if b.now.receiver == p then buffer.share_from sender b.now else 0) }
+    ensures small { result < 2 ^ 32 }
+{
+    if b.receiver == p && b.one_way && b.sender == sender {
+        u64::from(b.size)
+    } else {
+        0
+    }
+}
+
+/// Whether a sender's one-way buffers take more than a quarter of a process's window. Each takes its share of what is left.
+pub(crate) fn is_flooded(buffers: &[Buffer], p: u32, window: u64, sender: u32) -> bool
+    ensures { result ≡ spam.floods window (spec.buffers_of buffers.now p) sender }
+{
+    let mut left = window;
+    for b in buffers {
+        let taken = 4 * share_from(p, sender, b);
+        if taken > left {
+            return true;
+        }
+        left -= taken;
+    }
+    false
 }

@@ -1,6 +1,6 @@
 //! Windows, and the buffers in them.
 
-ghost use Rattle.std.specs.Prelude.{◌≡◌, ◌==◌, ◌+◌, ◌<◌, ◌≤◌, ◌++◌, ◌∷◌, [], not, filter, find, vec_len, vec_capacity, OnOk, Some, None, Err};
+ghost use Rattle.std.specs.Prelude.{◌≡◌, ◌==◌, ◌+◌, ◌<◌, ◌≤◌, ◌++◌, ◌∷◌, [], false, not, filter, find, vec_len, vec_capacity, OnOk, Some, None, Err};
 ghost use Rattle.std.specs.Option.{option_copied};
 ghost use Rattle.bd_uapi.specs.declared.fault.Cause.TheVariants.{NoRoom};
 ghost use Rattle.bd_space.specs.declared.space.Process as declared;
@@ -10,8 +10,9 @@ ghost use Rattle.bd_space.specs.Windows.{needed, start_for, buffers_of};
 ghost use Rattle.bd_space.specs.Freeing as freeing;
 ghost use Rattle.bd_space.specs.Returns.{buffer_in};
 ghost use Rattle.bd_space.specs.ReadItems.{hand_out};
+ghost use Rattle.bd_space.specs.Spam as spam;
 
-use crate::room::place_for;
+use crate::room::{is_flooded, place_for};
 use bd_buffers::pointer_of;
 use bd_space::{Buffer, Process};
 use bd_uapi::Cause;
@@ -94,6 +95,19 @@ impl WindowsList {
         match self.process(p) {
             None => Err(Cause::NoRoom),
             Some(q) => place_for(&self.buffers, p, q.window, one_way, data_size, offsets_size),
+        }
+    }
+
+    /// Whether the live one-way buffers that a sender's process made take more than a quarter of the window of a process.
+    /// No process that has ended is flooded.
+    pub fn floods(&self, p: u32, sender: u32) -> bool
+        ensures computed { (q : declared.Process) → process_in self.now.processes.items p ≡ Some q
+            → result ≡ spam.floods q.window (buffers_of self.now.buffers.items p) sender }
+        ensures no_process { process_in self.now.processes.items p ≡ None → result ≡ false }
+    {
+        match self.process(p) {
+            None => false,
+            Some(q) => is_flooded(&self.buffers, p, u64::from(q.window), sender),
         }
     }
 

@@ -45,7 +45,7 @@ equal-back m n = at (m == n) refl (n == m) refl
 
 never-called : (kind : WorkKind) → ((made : ℕ) → kind ≡ Call made → ⊥) → (made : ℕ) → is_call made kind ≡ false
 never-called (Notice o) other made = refl
-never-called Complete other made = refl
+never-called (Complete spam) other made = refl
 never-called (Refusal r) other made = refl
 never-called (Call b) other made = absurd (other b refl)
 never-called (Reply b) other made = refl

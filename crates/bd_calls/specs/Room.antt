@@ -1,8 +1,9 @@
 -- How many things a call table holds and has room for, for what reserves and commits.
-use Rattle.std.specs.Prelude.{ℕ, ◌+◌, ◌-◌, ◌≤◌, vec_len, vec_capacity}
+use Rattle.std.specs.Prelude.{ℕ, ◌+◌, ◌≤◌}
 use Rattle.bd_frames.specs.Room as frames
 use Rattle.bd_links.specs.Stands as links
 use Rattle.bd_turns.specs.Room as turns
+use Rattle.bd_threads.specs.Room as threads
 use Rattle.bd_calls.specs.declared.table.CallTable.{CallTable}
 
 -- so many threads, frames, one-way calls and work items
@@ -21,7 +22,7 @@ pub record Rooms : Type 0 where
 unfoldable pub rooms : CallTable → Rooms
 rooms t = record {
   left = record {
-    threads = vec_capacity t.threads - vec_len t.threads;
+    threads = threads.thread_room t.threads;
     frames = frames.frame_room t.frames;
     turns = turns.turn_room t.turns;
     works = links.work_room t.todo;

@@ -9,11 +9,12 @@ use Rattle.bd_space.specs.Turns.{turns_of}
 use Rattle.bd_frames.specs.Stands.{FramesAre}
 use Rattle.bd_links.specs.Stands.{WorksAre}
 use Rattle.bd_turns.specs.Stands.{TurnsAre}
+use Rattle.bd_threads.specs.Listed.{listed}
 use Rattle.bd_calls.specs.declared.table.CallTable.{CallTable}
 
 pub record Stands (t : CallTable) (threads : List Thread) (frames : List Frame) (todo : List Work)
     (turns : List Turn) : Type 0 where
-  pub threads_are : t.threads.items ≡ threads
+  pub threads_are : listed t.threads ≡ threads
   pub frames_are : FramesAre t.frames frames
   pub todo_are : WorksAre t.todo todo
   pub turns_are : TurnsAre t.turns turns

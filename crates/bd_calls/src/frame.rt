@@ -15,14 +15,15 @@ ghost use Rattle.bd_links.specs.Stands as links;
 ghost use Rattle.bd_frames.specs.Stands as frame_table;
 ghost use Rattle.bd_frames.specs.Room as frame_rooms;
 ghost use Rattle.bd_frames.specs.Words.{newest_in, is_place_among, abandoned_in, lost_frame};
+ghost use Rattle.bd_threads.specs.Listed.{listed};
 ghost use Rattle.bd_calls.specs.Closing.{chosen_after};
 ghost use Rattle.bd_calls.specs.Losing.{lost_frames};
 
 use crate::table::CallTable;
-use crate::thread::thread_of;
 use bd_frames::{FrameTable, serves};
 use bd_links::{WorkTable, Works};
-use bd_space::{Frame, Server, Thread, TodoList, Work, WorkKind};
+use bd_space::{Frame, Server, TodoList, Work, WorkKind};
+use bd_threads::ThreadTable;
 use bd_uapi::Return;
 use std::alloc::AllocError;
 
@@ -34,12 +35,12 @@ pub(crate) fn is_in_no_call(frames: &FrameTable, seat: u32) -> bool
 }
 
 // The frame's caller is a thread of the process.
-fn waits(threads: &[Thread], process: u32, frame: &Frame) -> bool
-    ensures { result ≡ spec.waits_in threads.now process frame.now }
+fn waits(threads: &ThreadTable, process: u32, frame: &Frame) -> bool
+    ensures { result ≡ spec.waits_in (listed threads.now) process frame.now }
 {
     frame
         .caller
-        .and_then(|seat| thread_of(threads, seat))
+        .and_then(|seat| threads.thread(seat))
         .is_some_and(|thread| thread.process == process)
 }
 
@@ -51,13 +52,13 @@ fn newest_made(frames: &FrameTable, seat: u32) -> Option<u32>
 
 // The first frame on the way whose caller is a thread of the process.
 fn first_waiting(
-    threads: &[Thread],
+    threads: &ThreadTable,
     frames: &FrameTable,
     from: Option<u32>,
     process: u32,
 ) -> Option<Frame>
     ensures { frame_table.Tells frames.now result
-        (λ l. find (spec.waits_in threads.now process) (spec.ancestry from (reverse l))) }
+        (λ l. find (spec.waits_in (listed threads.now) process) (spec.ancestry from (reverse l))) }
 {
     frames
         .ancestry_of(from)
@@ -74,9 +75,14 @@ fn list_of_caller(process: u32, frame: Option<Frame>) -> TodoList
 }
 
 // Where a call to the process is read whose caller's innermost frame was made there.
-fn list_from(threads: &[Thread], frames: &FrameTable, from: Option<u32>, process: u32) -> TodoList
+fn list_from(
+    threads: &ThreadTable,
+    frames: &FrameTable,
+    from: Option<u32>,
+    process: u32,
+) -> TodoList
     ensures { frame_table.Tells frames.now result (λ l. spec.list_of_caller process
-        (find (spec.waits_in threads.now process) (spec.ancestry from (reverse l)))) }
+        (find (spec.waits_in (listed threads.now) process) (spec.ancestry from (reverse l)))) }
 {
     list_of_caller(process, first_waiting(threads, frames, from, process))
 }

@@ -4,18 +4,18 @@
 ghost use Rattle.std.specs.Prelude.{◌≡◌, ◌+◌, ◌≤◌, ◌^◌, IfOk, OnOk, OnErr};
 
 use crate::frame::{leave_frames, lose_unread, serve};
-use crate::thread::remove_thread;
 use crate::turn::{hand_out_taken, lose_turns};
 use bd_frames::FrameTable;
 use bd_links::WorkTable;
-use bd_space::{Thread, TodoList, Work};
+use bd_space::{TodoList, Work};
+use bd_threads::ThreadTable;
 use bd_turns::TurnTable;
 use std::alloc::{AllocError, Global};
 
 /// The threads, the open calls, the work items and the one-way calls of a driver.
 #[derive(Drop)]
 pub struct CallTable {
-    pub(crate) threads: Vec<Thread>,
+    pub(crate) threads: ThreadTable,
     pub(crate) frames: FrameTable,
     pub(crate) todo: WorkTable,
     pub(crate) turns: TurnTable,
@@ -35,7 +35,7 @@ impl CallTable {
         ensures { StandsFor result opening }
     {
         CallTable {
-            threads: Vec::new(alloc),
+            threads: ThreadTable::new(alloc),
             frames: FrameTable::new(alloc),
             todo: WorkTable::new(alloc),
             turns: TurnTable::new(alloc),
@@ -63,7 +63,7 @@ impl CallTable {
         ensures grown { OnErr result (HasRoom self.old works → ⊥) }
     {
         let works = self.works_to_reserve(works)?;
-        self.threads.reserve(1)?;
+        self.threads.reserve()?;
         self.frames.reserve()?;
         self.turns.reserve(1)?;
         self.todo.reserve(works)
@@ -89,7 +89,7 @@ impl CallTable {
         leave_frames(&mut self.frames, &self.todo, seat);
         lose_turns(&mut self.turns, &self.todo, list);
         self.todo.clear_list(list);
-        remove_thread(&mut self.threads, seat);
+        self.threads.remove(seat);
     }
 
     /// A process without threads ends: its list goes, and the one-way calls in its window.

@@ -1,8 +1,7 @@
 //! Threads.
 #![tactic(auto, unfolding(bd_space::specs::Steps::with_thread, bd_space::specs::Commands::with_looping, crate::specs::Room::rooms))]
 
-ghost use Rattle.std.specs.Prelude.{ℕ, Bool, ◌≡◌, ◌==◌, ◌||◌, ◌&&◌, ◌+◌, ◌<◌, ◌≤◌, ◌^◌, ◌++◌, ◌∷◌, [], false, not, nat_le, map, filter, find, reverse, length, count_by, Option, Some, None, option_map, IfOk, OnOk, OnErr, vec_len, vec_capacity};
-ghost use Rattle.bd_space.specs.Words.{changed};
+ghost use Rattle.std.specs.Prelude.{◌≡◌, ◌==◌, ◌≤◌, map, filter, length, IfOk, OnErr};
 ghost use Rattle.bd_space.specs.Seats.{thread_in};
 ghost use Rattle.bd_space.specs.ProcessExits.{seat_of};
 
@@ -10,59 +9,19 @@ use crate::table::CallTable;
 use bd_space::Thread;
 use std::alloc::{AllocError, Global};
 
-pub(crate) fn thread_of(threads: &[Thread], seat: u32) -> Option<Thread>
-    ensures { result ≡ thread_in threads.now seat }
-{
-    threads.iter().copied().find(|t| t.seat == seat)
-}
-
-fn seats_in(alloc: Global, threads: &[Thread], process: u32) -> Result<Vec<u32>, AllocError>
-    ensures seats { IfOk result (λ v. v.items ≡ map seat_of (filter (λ t. t.process == process) threads.now)) }
-    ensures grown { OnErr result (1 ≤ length (filter (λ t. t.process == process) threads.now)) }
-{
-    let mut seats = Vec::new(alloc);
-    for t in threads {
-        if t.process == process {
-            seats.push(t.seat)?;
-        }
-    }
-    Ok(seats)
-}
-
-fn mark_looping(threads: &mut Vec<Thread>, seat: u32, looping: bool)
-    ensures threads { threads.new.items ≡
-        changed (λ t. t.seat == seat) (λ t. record t { looping = looping }) threads.old.items }
-    ensures len { vec_len threads.new ≡ vec_len threads.old }
-    ensures capacity { vec_capacity threads.new ≡ vec_capacity threads.old }
-{
-    for t in threads.iter_mut() {
-        if t.seat == seat {
-            t.looping = looping;
-        }
-    }
-}
-
-pub(crate) fn remove_thread(threads: &mut Vec<Thread>, seat: u32)
-    ensures threads { threads.new.items ≡ filter (λ t. not (t.seat == seat)) threads.old.items }
-    ensures len { vec_len threads.new ≤ vec_len threads.old }
-    ensures capacity { vec_capacity threads.new ≡ vec_capacity threads.old }
-{
-    threads.retain(|t| t.seat != seat);
-}
-
 impl CallTable {
     ghost use Rattle.bd_space.specs.Space.{Space};
     ghost use Rattle.bd_space.specs.Steps.{with_thread};
     ghost use Rattle.bd_space.specs.Commands.{with_looping};
     ghost use Rattle.bd_space.specs.Tables.{Tells, Makes, MakesAt};
-    ghost use Rattle.bd_calls.specs.Stands.{Stands, StandsFor};
+    ghost use Rattle.bd_calls.specs.Stands.{StandsFor};
     ghost use Rattle.bd_calls.specs.Room.{Uses, UsesNothing, nothing, thread_room};
 
     /// The live thread of a seat.
     pub fn thread(&self, seat: u32) -> Option<Thread>
         ensures { Tells (StandsFor self.now) result (λ s. thread_in s.threads seat) }
     {
-        thread_of(&self.threads, seat)
+        self.threads.thread(seat)
     }
 
     /// The seats of a process's threads. Fails for want of memory alone, and never where there are none.
@@ -73,7 +32,7 @@ impl CallTable {
         ensures grown { OnErr result ((s : Space) → StandsFor self.now s
             → 1 ≤ length (filter (λ t. t.process == process) s.threads)) }
     {
-        seats_in(alloc, &self.threads, process)
+        self.threads.seats_of(alloc, process)
     }
 
     /// A thread comes in, made at this place.
@@ -82,7 +41,7 @@ impl CallTable {
         ensures stands { MakesAt place (StandsFor self.old) (StandsFor self.new) (λ s. with_thread s seat process) }
         ensures uses { Uses self.old self.new (record nothing { threads = 1 }) }
     {
-        self.threads.push_reserved(Thread {
+        self.threads.push(Thread {
             made: place,
             seat,
             process,
@@ -95,6 +54,6 @@ impl CallTable {
         ensures stands { Makes (StandsFor self.old) (StandsFor self.new) (λ s. with_looping s seat looping) }
         ensures uses { UsesNothing self.old self.new }
     {
-        mark_looping(&mut self.threads, seat, looping);
+        self.threads.set_looping(seat, looping);
     }
 }

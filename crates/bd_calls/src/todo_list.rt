@@ -18,7 +18,6 @@ ghost use Rattle.bd_links.specs.TodoList.{AnswersBy};
 
 use crate::frame::is_in_no_call;
 use crate::table::CallTable;
-use crate::thread::thread_of;
 use bd_frames::FrameTable;
 use bd_links::{WorkTable, Works};
 use bd_space::{Frame, ObjectId, Thread, TodoList, Work, WorkKind};
@@ -102,7 +101,7 @@ impl CallTable {
     pub fn is_ready(&self, seat: u32) -> bool
         ensures { Tells (StandsFor self.now) result (λ s. is_ready s seat) }
     {
-        match thread_of(&self.threads, seat) {
+        match self.threads.thread(seat) {
             Some(thread) => has_to_read(&self.frames, &self.todo, &thread),
             None => false,
         }

@@ -3,7 +3,7 @@ use Rattle.std.proofs.Common.{◌≡◌, ℕ, ◌^◌, ◌<◌, List, [], ◌++�
 use Rattle.std.specs.List.{AllByRecursion}
 use Rattle.std.specs.Prelude.{IfOk}
 use Rattle.bd_uapi.specs.declared.command.Return.{Return}
-use Rattle.bd_uapi.specs.declared.command.Return.TheVariants.{Transaction, Reply, DeadReply, TransactionComplete, Increfs, Acquire, Release, Decrefs, Noop, DeadBinder, ClearDeathNotificationDone, FailedReply}
+use Rattle.bd_uapi.specs.declared.command.Return.TheVariants.{Transaction, Reply, DeadReply, TransactionComplete, Increfs, Acquire, Release, Decrefs, Noop, DeadBinder, ClearDeathNotificationDone, FailedReply, OnewaySpamSuspect}
 use Rattle.bd_uapi.specs.declared.fault.Fault.{Fault}
 use Rattle.bd_uapi.proofs.Pieces.{IsBytes}
 use Rattle.bd_codec.specs.Spelling.{return_code, return_payload, return_bytes, IsReturn, Found}
@@ -35,7 +35,10 @@ rows_right = (
                     pointer_right return_bytes IsReturn return_code DeadBinder (λ n. refl) (λ n h. h),
                     (
                       pointer_right return_bytes IsReturn return_code ClearDeathNotificationDone (λ n. refl) (λ n h. h),
-                      (bare_right return_bytes IsReturn return_code FailedReply refl tt, tt),
+                      (
+                        bare_right return_bytes IsReturn return_code FailedReply refl tt,
+                        (bare_right return_bytes IsReturn return_code OnewaySpamSuspect refl tt, tt),
+                      ),
                     ),
                   ),
                 ),
@@ -65,6 +68,7 @@ code_fits Noop = lit< tt
 code_fits (DeadBinder p) = lit< tt
 code_fits (ClearDeathNotificationDone p) = lit< tt
 code_fits FailedReply = lit< tt
+code_fits OnewaySpamSuspect = lit< tt
 
 row_again : (r : Return) (rest : List ℕ) → IsReturn r → return_of (return_code r) (return_bytes r ++ rest) ≡ Ok (r, length (return_bytes r))
 unfolding return_of
@@ -80,6 +84,7 @@ row_again Noop rest fits = bare_again (return_code Noop) Noop rest
 row_again (DeadBinder p) rest fits = pointer_again (return_code (DeadBinder p)) DeadBinder p rest fits
 row_again (ClearDeathNotificationDone p) rest fits = pointer_again (return_code (ClearDeathNotificationDone p)) ClearDeathNotificationDone p rest fits
 row_again FailedReply rest fits = bare_again (return_code FailedReply) FailedReply rest
+row_again OnewaySpamSuspect rest fits = bare_again (return_code OnewaySpamSuspect) OnewaySpamSuspect rest
 
 pub return_again : (r : Return) (rest : List ℕ) → IsReturn r → return_at (return_bytes r ++ rest) ≡ Ok (r, length (return_bytes r))
 return_again r rest fits = code_again return_of (return_code r) (return_payload r ++ rest) _ (code_fits r) (row_again r rest fits)
@@ -88,7 +93,7 @@ pub no_return_begins_another : (r s : Return) (x y : List ℕ) → IsReturn r �
 no_return_begins_another r s x y fr fs e = apart return_bytes return_at r s x y (return_again r x fr) (return_again s y fs) e
 
 rows_plain : AllByRecursion (Plain []) return_rows
-rows_plain = (record { size = refl; kept = refl }, (record { size = refl; kept = refl }, (record { size = refl; kept = refl }, (record { size = refl; kept = refl }, (record { size = refl; kept = refl }, (record { size = refl; kept = refl }, (record { size = refl; kept = refl }, (record { size = refl; kept = refl }, (record { size = refl; kept = refl }, (record { size = refl; kept = refl }, (record { size = refl; kept = refl }, (record { size = refl; kept = refl }, tt))))))))))))
+rows_plain = (record { size = refl; kept = refl }, (record { size = refl; kept = refl }, (record { size = refl; kept = refl }, (record { size = refl; kept = refl }, (record { size = refl; kept = refl }, (record { size = refl; kept = refl }, (record { size = refl; kept = refl }, (record { size = refl; kept = refl }, (record { size = refl; kept = refl }, (record { size = refl; kept = refl }, (record { size = refl; kept = refl }, (record { size = refl; kept = refl }, (record { size = refl; kept = refl }, tt)))))))))))))
 
 pub return_says : (bytes : List ℕ) → Says (return_at bytes) (return_fault bytes)
 unfolding return_of

@@ -88,6 +88,7 @@ return_rows =
     ∷ pointer_row return_code returned.DeadBinder
     ∷ pointer_row return_code returned.ClearDeathNotificationDone
     ∷ bare_row return_code returned.FailedReply
+    ∷ bare_row return_code returned.OnewaySpamSuspect
     ∷ []
 
 abbrev pub row_in : {A : Type 0} → List (Row A) → ℕ → Option (Row A)

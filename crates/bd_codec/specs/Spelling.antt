@@ -80,6 +80,7 @@ return_code returned.Noop = 0x0000720c
 return_code (returned.DeadBinder cookie) = 0x8008720f
 return_code (returned.ClearDeathNotificationDone cookie) = 0x80087210
 return_code returned.FailedReply = 0x00007211
+return_code returned.OnewaySpamSuspect = 0x00007213
 
 -- what follows the code
 abbrev pub return_payload : Return → List ℕ
@@ -95,6 +96,7 @@ return_payload returned.Noop = []
 return_payload (returned.DeadBinder cookie) = long cookie
 return_payload (returned.ClearDeathNotificationDone cookie) = long cookie
 return_payload returned.FailedReply = []
+return_payload returned.OnewaySpamSuspect = []
 
 -- how a return is spelled
 abbrev pub return_bytes : Return → List ℕ
@@ -114,6 +116,7 @@ IsReturn returned.Noop = Unit {0}
 IsReturn (returned.DeadBinder cookie) = cookie < 2 ^ 64
 IsReturn (returned.ClearDeathNotificationDone cookie) = cookie < 2 ^ 64
 IsReturn returned.FailedReply = Unit {0}
+IsReturn returned.OnewaySpamSuspect = Unit {0}
 
 -- the first n bytes are the spelling of x
 pub record Found {A : Type 0} (spelling : A → List ℕ) (IsValue : A → Type 0) (bytes : List ℕ) (x : A) (n : ℕ) : Type 0 where

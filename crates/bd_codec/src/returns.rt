@@ -45,6 +45,7 @@ fn return_with(code: u32, bytes: &[u8]) -> Result<(Return, usize), Fault>
             12,
         )),
         BR_FAILED_REPLY => Ok((Return::FailedReply, 4)),
+        BR_ONEWAY_SPAM_SUSPECT => Ok((Return::OnewaySpamSuspect, 4)),
         _ => Err(Fault::UnknownCommand),
     }
 }
@@ -104,6 +105,7 @@ pub fn spell_return(r: &Return) -> Spelling
             Spelling::of(BR_CLEAR_DEATH_NOTIFICATION_DONE).long(*cookie)
         }
         Return::FailedReply => Spelling::of(BR_FAILED_REPLY),
+        Return::OnewaySpamSuspect => Spelling::of(BR_ONEWAY_SPAM_SUSPECT),
     }
 }
 

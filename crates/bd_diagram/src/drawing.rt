@@ -1,6 +1,7 @@
 //! What is drawn of a history, and how.
 
 ghost use Rattle.std.specs.Prelude.{◌≡◌, ◌≤◌};
+ghost use Rattle.bd_uapi.specs.Limits.{IsSeats};
 ghost use Rattle.bd_space.specs.Histories.{IsHistory, history_in};
 ghost use Rattle.bd_diagram.specs.Held.{holds, is_within};
 
@@ -61,7 +62,7 @@ pub fn draw<W: Write>(
     drawing: Drawing,
     out: &mut W,
 ) -> Result<(), Undrawn>
-    requires seats { (1 ≤ «record».now.seats) × («record».now.seats ≤ 16) }
+    requires seats { IsSeats «record».now.seats }
     requires lawful { IsHistory (history_in «record».now) }
 {
     if !drawing.is_within(record.entries.as_slice().len()) {

@@ -74,10 +74,13 @@ impl fmt::Display for EventText {
             Event::Opened(pid) => write!(f, "opens pid {pid}"),
             Event::Attached(pid) => write!(f, "attaches to pid {pid}"),
             Event::ManagerSet => f.write_str("becomes the manager"),
+            Event::SpamSet(true) => f.write_str("asks for reports of flooding"),
+            Event::SpamSet(false) => f.write_str("asks for no more reports of flooding"),
             Event::Sent(_) | Event::Got(_) => Ok(()),
             Event::Death(cookie) => write!(f, "is told of a death, cookie {cookie}"),
             Event::DeadReply => f.write_str("reads BR_DEAD_REPLY"),
             Event::FailedReply => f.write_str("reads BR_FAILED_REPLY"),
+            Event::SpamSuspect => f.write_str("reads BR_ONEWAY_SPAM_SUSPECT"),
             Event::ThreadExit => f.write_str("thread exits"),
             Event::ProcessExit => f.write_str("process exits"),
             Event::Noted(note) => {

@@ -77,6 +77,8 @@ pub(crate) enum Event {
     Opened(u32),
     Attached(u32),
     ManagerSet,
+    /// The process asked for reports of its own flooding, or no longer.
+    SpamSet(bool),
     /// A transaction or reply was accepted, by its arrow.
     Sent(usize),
     /// It was handed out.
@@ -85,6 +87,8 @@ pub(crate) enum Event {
     Death(u64),
     DeadReply,
     FailedReply,
+    /// The thread was told that its process floods the receiver with one-way calls.
+    SpamSuspect,
     ThreadExit,
     ProcessExit,
     Noted(Note),

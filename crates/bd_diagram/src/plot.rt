@@ -1,6 +1,7 @@
 //! A history as a diagram: it is played once, and what the engine says between the steps is drawn.
 
 ghost use Rattle.std.specs.Prelude.{◌≤◌};
+ghost use Rattle.bd_uapi.specs.Limits.{IsSeats};
 ghost use Rattle.bd_space.specs.Histories.{IsHistory, history_in};
 
 use crate::drawing::Drawing;
@@ -237,6 +238,7 @@ impl Plot {
             Return::DeadBinder(cookie) => self.sheet.mark(place, seat, Event::Death(cookie)),
             Return::DeadReply => self.sheet.mark(place, seat, Event::DeadReply),
             Return::FailedReply => self.sheet.mark(place, seat, Event::FailedReply),
+            Return::OnewaySpamSuspect => self.sheet.mark(place, seat, Event::SpamSuspect),
             _ => Ok(()),
         }
     }
@@ -273,6 +275,7 @@ impl Plot {
         let event = match (answer, step) {
             (StepAnswer::Opened, Step::Open { pid, .. }) => Event::Opened(*pid),
             (StepAnswer::Opened, Step::Attach { pid }) => Event::Attached(*pid),
+            (StepAnswer::Set, Step::SetSpam { on }) => Event::SpamSet(*on),
             (StepAnswer::Set, _) => Event::ManagerSet,
             (StepAnswer::Exited, Step::ExitThread) => Event::ThreadExit,
             (StepAnswer::Exited, _) => Event::ProcessExit,
@@ -329,7 +332,7 @@ impl Plot {
 
 /// A history as a diagram.
 pub(crate) fn plotted(alloc: Global, record: &Record, drawing: Drawing) -> Result<Diagram, Undrawn>
-    requires seats { (1 ≤ «record».now.seats) × («record».now.seats ≤ 16) }
+    requires seats { IsSeats «record».now.seats }
     requires lawful { IsHistory (history_in «record».now) }
 {
     let entries = record.entries.as_slice();

@@ -286,7 +286,8 @@ fn print_arrows<W: Write>(diagram: &Diagram, out: &mut W) -> io::Result<()> {
 fn is_amiss(event: Event) -> bool {
     match event {
         Event::Sent(_) | Event::Got(_) => false,
-        Event::Opened(_) | Event::Attached(_) | Event::ManagerSet => false,
+        Event::Opened(_) | Event::Attached(_) => false,
+        Event::ManagerSet | Event::SpamSet(_) => false,
         _ => true,
     }
 }

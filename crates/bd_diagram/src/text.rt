@@ -3,6 +3,7 @@
 use crate::labels::RowText;
 use crate::lanes::lane_of;
 use crate::model::{Diagram, Doing, Event, Item, Kind, Lane, Row};
+use bd_uapi::MOST_SEATS;
 use std::io;
 use std::io::Write;
 
@@ -12,8 +13,8 @@ const ROWS_A_HEADING: u32 = 40;
 const LEGEND: &str =
     "| thread   : waits   # serves   --> call   - > one-way   ==> reply   --? unread";
 
-// What each lane's thread is doing; there are at most 16 seats.
-type Doings = [Doing; 16];
+// What each lane's thread is doing.
+type Doings = [Doing; MOST_SEATS as usize];
 
 // A line from lane to lane.
 #[derive(Clone, Copy)]
@@ -67,8 +68,9 @@ fn mark_of(event: Event) -> Option<char> {
         Event::Got(_) => None,
         Event::Opened(_) | Event::Attached(_) => Some('+'),
         Event::ManagerSet => Some('M'),
+        Event::SpamSet(_) => Some('S'),
         Event::Death(_) => Some('D'),
-        Event::DeadReply | Event::FailedReply => Some('!'),
+        Event::DeadReply | Event::FailedReply | Event::SpamSuspect => Some('!'),
         Event::ThreadExit | Event::ProcessExit => Some('X'),
         Event::Noted(_) | Event::Stopped(_) | Event::Refused(_) => Some('x'),
     }
@@ -174,7 +176,7 @@ fn set_doing(lanes: &[Lane], doings: &mut Doings, seat: u32, doing: Doing) {
 /// Prints a diagram as lines of ASCII.
 pub(crate) fn print_text<W: Write>(diagram: &Diagram, out: &mut W) -> io::Result<()> {
     let lanes = diagram.lanes.as_slice();
-    let mut doings = [Doing::Gone; 16];
+    let mut doings: Doings = [Doing::Gone; MOST_SEATS as usize];
     let mut rows: u32 = 0;
     writeln!(out, "{LEGEND}")?;
     for item in diagram.items.as_slice() {

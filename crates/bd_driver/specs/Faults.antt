@@ -1,9 +1,10 @@
 -- When `new` fails.
 use Rattle.std.specs.Prelude.{ℕ, ◌<◌, ◌≤◌}
+use Rattle.bd_uapi.specs.Limits.{most_seats, IsSeats}
 use Rattle.bd_uapi.specs.declared.fault.Fault.{Fault}
 use Rattle.bd_uapi.specs.declared.fault.Fault.TheVariants.{SeatCount, NoMemory}
 
 abbrev pub FaultFits : Fault → ℕ → Type 0
-FaultFits SeatCount seats = 1 ≤ seats → 16 < seats
-FaultFits NoMemory seats = (1 ≤ seats) × (seats ≤ 16)
+FaultFits SeatCount seats = 1 ≤ seats → most_seats < seats
+FaultFits NoMemory seats = IsSeats seats
 FaultFits _ seats = ⊥

@@ -1,5 +1,6 @@
 //! A new driver, and its seats.
 ghost use Rattle.std.specs.Prelude.{◌≡◌, ◌+◌, ◌<◌, ◌≤◌, [], ◌∷◌, suc, All, IfOk, IfErr, vec_len, vec_capacity, replicate};
+ghost use Rattle.bd_uapi.specs.Limits.{IsSeats};
 ghost use Rattle.bd_driver.specs.Views.{fresh, seated, newcomers};
 ghost use Rattle.bd_driver.specs.Together.{seat_state, new_seats};
 ghost use Rattle.bd_driver.specs.declared.slot.Slot.TheVariants.{Home, Empty};
@@ -11,18 +12,17 @@ use crate::seat::{Seat, TableSeat};
 use crate::slot::Slot;
 use atomic_table::Table;
 use bd_engine::Engine;
-use bd_space::MOST_SEATS;
-use bd_uapi::Fault;
+use bd_uapi::{Fault, MOST_SEATS};
 use std::alloc::{AllocError, Global};
 
 impl Driver {
     ghost use Rattle.bd_driver.specs.Faults.{FaultFits};
 
     /// A driver with so many seats, which are numbered from 0, in this order. Each is of this driver (`own`), and has
-    /// seen the empty history (`seats`). Refused with F16 exactly where `seats` is 0 or above 16, and else with F14
+    /// seen the empty history (`seats`). Refused with F16 exactly where `seats` is 0 or above 31, and else with F14
     /// alone (`fault`).
     pub fn new(alloc: Global, seats: u32) -> Result<(Driver, Vec<Seat>), Fault>
-        ensures within { IfOk result (λ _. (1 ≤ seats) × (seats ≤ 16)) }
+        ensures within { IfOk result (λ _. IsSeats seats) }
         ensures count { IfOk result (λ r. r.0.seats ≡ seats) }
         ensures seats { IfOk result (λ r. r.1.items ≡ new_seats r.0.table seats 0 seats) }
         ensures own { IfOk result (λ r. All (λ s. s.table ≡ r.0.table) r.1.items) }

@@ -211,11 +211,11 @@ fn is_out_of_limits(alloc: Global, seats: u32) -> bool {
 #[test]
 fn seats_out_of_limits(rt: HostRuntime) -> Result<(), Fail> {
     assert!(rt; is_out_of_limits(rt.alloc(), 0));
-    assert!(rt; is_out_of_limits(rt.alloc(), 17));
-    let (driver, seats) = seated(rt.alloc(), 16)?;
+    assert!(rt; is_out_of_limits(rt.alloc(), 32));
+    let (driver, seats) = seated(rt.alloc(), 31)?;
     let count = seats.len();
     let record = driver.finish(seats);
-    assert!(rt; count == 16 && record.seats == 16);
+    assert!(rt; count == 31 && record.seats == 31);
     Ok(())
 }
 

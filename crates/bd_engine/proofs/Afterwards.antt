@@ -25,9 +25,11 @@ use Rattle.bd_laws.proofs.Pings.{transaction-delivers}
 use Rattle.bd_laws.proofs.Sending.{one_way-local, two_way-local}
 use Rattle.bd_laws.proofs.Replying.{reply-local}
 use Rattle.bd_engine.specs.Meets.{IsSending, IsServing, IsReplying}
-use Rattle.bd_engine.specs.Deliveries.{SendsNew}
+use Rattle.bd_engine.specs.Deliveries.{SendsNew, CanCall}
 use Rattle.bd_engine.specs.Freed.{ripen_next}
 use Rattle.bd_engine.proofs.New.{sending-new}
+use Rattle.bd_engine.proofs.Finding.{found-lives}
+use Rattle.bd_engine.proofs.Stacked.{tidy-stacked}
 
 pub ripened-ordered : (target : Option ObjectId) (s : Space) → Pairs Earlier s.objects → Pairs Earlier (ripen_next target s).objects
 unfolding ripen_of
@@ -37,8 +39,14 @@ ripened-ordered (Some o) s h = h
 -- ---- a transaction
 
 module _ (s : Space) (a : Actor) (d : TransactionData) (v : Delivery) (p : IsSending a d v s) where
-  pub sent-new : SendsNew v s
-  sent-new = sending-new s a.process.made p.tidy d p.checked.0 v.sending (transaction-checked s a d p.checked.0 v p.checked.1).sends
+  pub sent-call : CanCall v s
+  sent-call =
+      let t = transaction-checked s a d p.checked.0 v p.checked.1 in
+      record {
+        new = sending-new s a.process.made p.tidy d p.checked.0 v.sending t.sends;
+        lives = found-lives s.processes t.owned.object.owner v.receiver t.owned.lives;
+        stacked = tidy-stacked s p.tidy;
+      }
 
   pub sent-ordered : Pairs Earlier (transacted s a d v).objects
   sent-ordered = (transacted-kept s a d p.checked.0 v p.tidy.before.objects p.checked.1).in_order

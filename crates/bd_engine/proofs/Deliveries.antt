@@ -115,6 +115,7 @@ abbrev buffer : TransactionData → Actor → Delivery → ℕ → ℕ → List 
 buffer d a w made size bytes offsets = record {
   made = made;
   receiver = w.receiver.made;
+  sender = a.process.made;
   start = w.start;
   size = size;
   one_way = w.one_way;

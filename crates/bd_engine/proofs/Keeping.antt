@@ -3,6 +3,7 @@ use Rattle.std.proofs.Common.{◌≡◌, ℕ, suc, ◌+◌, ◌<◌, ◌≤◌, 
 use Rattle.std.specs.Prelude.{nat_lt, nat_le, ◌&&◌, ◌||◌, Some}
 use Rattle.std.proofs.lemmas.List.Folds.{list_all-append}
 use Rattle.std.proofs.lemmas.Bool.{lt-ltb, leb-false}
+use Rattle.bd_uapi.specs.Limits.{most_seats}
 use Rattle.bd_space.specs.declared.step.Step.{Step}
 use Rattle.bd_space.specs.declared.step.StepAnswer.{StepAnswer}
 use Rattle.bd_space.specs.declared.step.Entry.{Entry}
@@ -130,7 +131,7 @@ full-if HistoryFull A x = x
 
 -- ---- an engine, which holds the entries
 
-pub keeps-more : (h : History) (new : Live) (seat : ℕ) (x : Step) (e : Entry) (n : ℕ) (es : List Entry) → h.seats ≤ 16 → e.seat ≡ seat → e.step ≡ x
+pub keeps-more : (h : History) (new : Live) (seat : ℕ) (x : Step) (e : Entry) (n : ℕ) (es : List Entry) → h.seats ≤ most_seats → e.seat ≡ seat → e.step ≡ x
     → Follows new (extended h seat x e.answer) → n ≡ h.seats → es ≡ h.entries ++ e ∷ [] → Keeps (history_of n es) new
 keeps-more h new seat x e n es few seat_is step_is follows seats grown =
     let entry : e ≡ record { seat = seat; step = x; answer = e.answer } =

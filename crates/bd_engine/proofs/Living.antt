@@ -37,6 +37,7 @@ use Rattle.bd_space.specs.Freeing.{is_made_at}
 use Rattle.bd_space.specs.Asking.{ask_step, ask_check, ask, drop_step, drop_check, drop_asked, done_step, done_check, acknowledge}
 use Rattle.bd_space.specs.Deaths.{request_step, request_check, requested}
 use Rattle.bd_space.specs.Clearing.{clear_step, clear_check, cleared, death_done_step, death_done_outcome, told_death}
+use Rattle.bd_space.specs.Spam.{is_spam, spam_step, with_spam_detection}
 use Rattle.bd_space.specs.Commands.{command_step, with_looping}
 use Rattle.bd_space.specs.Reading.{read_step, read_fault, read_taking}
 use Rattle.bd_space.specs.ReadItems.{read_by, taken, hand_out, handed_buffers, buffer_taken}
@@ -94,9 +95,10 @@ transacted-live : (s : Space) (a : Actor) (d : TransactionData) (v : Delivery) �
 unfolding transacted
 transacted-live s a d v =
     let z = delivered s a d v in
-    let y = owe z (OfThread a.thread.seat) work.Complete in
+    let told = work.Complete (is_spam z a v) in
+    let y = owe z (OfThread a.thread.seat) told in
     as-live s.buffers z.buffers _
-    (untouched-trans _ y z (called-untouched y a.thread.seat v.receiver.made v.one_way) (owe-untouched z (OfThread a.thread.seat) work.Complete)).buffers (delivered-live s a d v)
+    (untouched-trans _ y z (called-untouched y a.thread.seat v.receiver.made v.one_way) (owe-untouched z (OfThread a.thread.seat) told)).buffers (delivered-live s a d v)
 
 transaction-live : (s : Space) (a : Actor) (d : TransactionData) (r : Result Delivery Cause) → AllLive s.buffers (transaction_outcome s a d r).space.buffers
 transaction-live s a d (Err x) = settled-live s _ (owe-untouched s (OfThread a.thread.seat) (work.Refusal (refusal x)))
@@ -107,9 +109,9 @@ unfolding replied
 replied-live s a d f v =
     let x = closed s f.made in
     let z = delivered x a d v in
-    let y = owe z (OfThread a.thread.seat) work.Complete in
+    let y = owe z (OfThread a.thread.seat) (work.Complete false) in
     as-live s.buffers z.buffers _
-    (untouched-trans _ y z (told-untouched y f.caller (work.Reply s.steps)) (owe-untouched z (OfThread a.thread.seat) work.Complete)).buffers
+    (untouched-trans _ y z (told-untouched y f.caller (work.Reply s.steps)) (owe-untouched z (OfThread a.thread.seat) (work.Complete false))).buffers
     (subst (λ bs. AllLive bs z.buffers) (closed-untouched s f.made).buffers (delivered-live x a d v))
 
 reply_refused-untouched : (s : Space) (seat : ℕ) (f : Frame) → Untouched (reply_refused s seat f) s
@@ -215,6 +217,10 @@ unfolding with_manager
 managed-buffers s p true = refl
 managed-buffers s p false = refl
 
+marked-buffers : (s : Space) (on : Bool) (a : Actor) → (spam_step s on a).space.buffers ≡ s.buffers
+unfolding spam_step with_spam_detection
+marked-buffers s on a = refl
+
 acted-live : (s : Space) (o : Option Actor) (f : Actor → Outcome) → ((a : Actor) → AllLive s.buffers (f a).space.buffers) → AllLive s.buffers (by_actor s o f).space.buffers
 acted-live s None f k = all-live s.buffers
 acted-live s (Some a) f k = k a
@@ -226,6 +232,7 @@ change-leaves-all s seat (step_of.Open pid euid window) other = same-live s.buff
 change-leaves-all s seat (step_of.Attach pid) other = same-live s.buffers _ (attached-buffers s seat (process_with_pid s.processes pid) (is_some (thread_in s.threads seat)))
 change-leaves-all s seat step_of.SetManager other =
     acted-live s (actor s seat) (manager_step s) (λ a. same-live s.buffers _ (managed-buffers s a.process.made (is_manager_busy s a.process.made)))
+change-leaves-all s seat (step_of.SetSpam on) other = acted-live s (actor s seat) (spam_step s on) (λ a. same-live s.buffers _ (marked-buffers s on a))
 change-leaves-all s seat (step_of.Command c parcel) other = acted-live s (actor s seat) (λ a. command_step s a c parcel) (λ a. command-live s a c parcel other)
 change-leaves-all s seat (step_of.Read limit) other = acted-live s (actor s seat) (λ a. read_step s a limit)
     (λ a. read-live s a.thread.seat limit (list_to_read s a.thread) (read_fault limit (list_to_read s a.thread)))

@@ -40,6 +40,7 @@ use Rattle.bd_space.specs.Freeing.{free_step, free_outcome, buffer_at_pointer, w
 use Rattle.bd_space.specs.Asking.{ask_step, ask_check, ask, drop_step, drop_check, drop_asked, done_step, done_check, acknowledge}
 use Rattle.bd_space.specs.Deaths.{request_step, request_check, requested, with_death, without_death, with_phase, owner_lives_in}
 use Rattle.bd_space.specs.Clearing.{clear_step, clear_check, cleared, mark_cleared, death_ended, death_done_step, death_done_outcome, told_death, death_done, is_out}
+use Rattle.bd_space.specs.Spam.{spam_step, with_spam_detection}
 use Rattle.bd_space.specs.Commands.{command_step, with_looping}
 use Rattle.bd_space.specs.Reading.{read_step, read_fault, read_taking}
 use Rattle.bd_space.specs.ReadItems.{read_by, taken}
@@ -225,6 +226,10 @@ unfolding with_manager
 managed_steps s p true = refl
 managed_steps s p false = refl
 
+marked_steps : (s : Space) (on : Bool) (a : Actor) → (spam_step s on a).space.steps ≡ s.steps
+unfolding spam_step with_spam_detection
+marked_steps s on a = refl
+
 acted_steps : (s : Space) (o : Option Actor) (f : Actor → Outcome) → ((a : Actor) → (f a).space.steps ≡ s.steps) → (by_actor s o f).space.steps ≡ s.steps
 acted_steps s None f k = refl
 acted_steps s (Some a) f k = k a
@@ -234,6 +239,7 @@ unfolding change open_step attach_step manager_step read_step exit_thread_step e
 change-steps s seat (step_of.Open pid euid window) = opened_steps s seat pid euid window (open_fault s seat pid window)
 change-steps s seat (step_of.Attach pid) = attached_steps s seat (process_with_pid s.processes pid) (is_some (thread_in s.threads seat))
 change-steps s seat step_of.SetManager = acted_steps s (actor s seat) (manager_step s) (λ a. managed_steps s a.process.made (is_manager_busy s a.process.made))
+change-steps s seat (step_of.SetSpam on) = acted_steps s (actor s seat) (spam_step s on) (λ a. marked_steps s on a)
 change-steps s seat (step_of.Command c parcel) = acted_steps s (actor s seat) (λ a. command_step s a c parcel) (λ a. command_steps s a c parcel)
 change-steps s seat (step_of.Read limit) = acted_steps s (actor s seat) (λ a. read_step s a limit)
     (λ a. read_steps s a.thread.seat limit (list_to_read s a.thread) (read_fault limit (list_to_read s a.thread)))

@@ -26,6 +26,7 @@ use Rattle.bd_space.specs.Todo.{with_work, owe, hands_out, is_on, same_list}
 use Rattle.bd_space.specs.Turns.{ripen}
 use Rattle.bd_space.specs.Notices.{deaths_go, work_goes, notify, follow}
 use Rattle.bd_space.specs.Delivery.{Delivery, delivered, own_notices, add_buffer, known_by, refer, make_objects}
+use Rattle.bd_space.specs.Spam.{is_spam, with_spam_detection}
 use Rattle.bd_space.specs.Transactions.{transacted, called, call_out}
 use Rattle.bd_space.specs.Replies.{reply_check, replied, caller_of}
 use Rattle.bd_space.specs.Freeing.{without_buffer, is_made_at}
@@ -107,9 +108,9 @@ ripen-o z h = ripen-keeps (AllOwn z.threads z.buffers) z (λ td t. process-item 
 -- ---- what is sent
 
 module _ (s x : Space) (a : Actor) (d : TransactionData) (v : Delivery) (steps : x.steps ≡ s.steps) (threads : x.threads ≡ s.threads) (references : x.references ≡ s.references) (todo : x.todo ≡ s.todo)
-    (buffers : x.buffers ≡ s.buffers) (home : AtHome s) (turns : IsInTurn s) (h : HandsOwn s) where
+    (buffers : x.buffers ≡ s.buffers) (home : AtHome s) (turns : IsInTurn s) (spam : Bool) (h : HandsOwn s) where
   abbrev sent : Space
-  sent = owe (delivered x a d v) (OfThread a.thread.seat) work.Complete
+  sent = owe (delivered x a d v) (OfThread a.thread.seat) (work.Complete spam)
 
   -- the step's own buffer, or an older one
   sent-buffers : (c : Buffer) → In c sent.buffers → In c s.buffers ⊎ ((c.made ≡ s.steps) × (c.receiver ≡ v.receiver.made))
@@ -121,8 +122,8 @@ module _ (s x : Space) (a : Actor) (d : TransactionData) (v : Delivery) (steps :
 
   sent-o : HandsOwn sent
   sent-o w t c l on e m =
-      let i = sent-due s x a d v steps threads references todo home turns w c.made l e in
-      subst (λ (ts : List Thread). Sits ts t c.receiver) (sym (sent-threads s x a d v steps threads references todo home turns))
+      let i = sent-due s x a d v steps threads references todo home turns spam w c.made l e in
+      subst (λ (ts : List Thread). Sits ts t c.receiver) (sym (sent-threads s x a d v steps threads references todo home turns spam))
       (elim (sent-buffers c m) [
         | inl k ↦ h w t c i on e k
         | inr new ↦ (let lt = turns.fresh c.made (w, i, e) in let at = new.0 in absurd (omega arith))
@@ -137,7 +138,7 @@ module _ (s x : Space) (a : Actor) (d : TransactionData) (v : Delivery) (steps :
         let k : Some s.steps ≡ Some c.made = sym hands ∙ ap (λ (y : Work). hands_out y.kind) is ∙ e in
         let same : s.steps ≡ c.made = cc in
         let u = to t (ap (λ (y : Work). y.list) is ∙ on) in
-        subst (λ (ts : List Thread). Sits ts t c.receiver) (sym (sent-threads s x a d v steps threads references todo home turns))
+        subst (λ (ts : List Thread). Sits ts t c.receiver) (sym (sent-threads s x a d v steps threads references todo home turns spam))
         (elim (sent-buffers c m) [
           | inl i ↦ (let lt = turns.below c i in absurd (omega arith))
           | inr new ↦ subst (Sits s.threads t) (sym new.1) u
@@ -152,12 +153,15 @@ transacted-o : (s : Space) (a : Actor) (d : TransactionData) (v : Delivery) → 
 unfolding transacted
 transacted-o s a d v home turns h = at v.one_way
   where
-    at : (b : Bool) → HandsOwn (called (owe (delivered s a d v) (OfThread a.thread.seat) work.Complete) a.thread.seat v.receiver.made b)
-    at true = sent-o s s a d v refl refl refl refl refl home turns h
+    spam : Bool
+    spam = is_spam (delivered s a d v) a v
+
+    at : (b : Bool) → HandsOwn (called (owe (delivered s a d v) (OfThread a.thread.seat) (work.Complete spam)) a.thread.seat v.receiver.made b)
+    at true = sent-o s s a d v refl refl refl refl refl home turns spam h
     at false =
-        call-out-o (owe (delivered s a d v) (OfThread a.thread.seat) work.Complete) s.steps a.thread.seat v.receiver.made (sent-steps s s a d v refl refl refl refl home turns)
-        (handing-o s s a d v refl refl refl refl refl home turns h _ _ (work.Call s.steps) refl
-        (λ t e. subst (λ (ts : List Thread). Sits ts t v.receiver.made) (sent-threads s s a d v refl refl refl refl home turns) (goes-home _ a.thread.seat v.receiver.made t e)))
+        call-out-o (owe (delivered s a d v) (OfThread a.thread.seat) (work.Complete spam)) s.steps a.thread.seat v.receiver.made (sent-steps s s a d v refl refl refl refl home turns spam)
+        (handing-o s s a d v refl refl refl refl refl home turns spam h _ _ (work.Call s.steps) refl
+        (λ t e. subst (λ (ts : List Thread). Sits ts t v.receiver.made) (sent-threads s s a d v refl refl refl refl home turns spam) (goes-home _ a.thread.seat v.receiver.made t e)))
 
 closed-same : (s : Space) (made : ℕ) → ((closed s made).steps ≡ s.steps) × ((closed s made).threads ≡ s.threads) × ((closed s made).references ≡ s.references) × ((closed s made).todo ≡ s.todo) × ((closed s made).buffers ≡ s.buffers)
 unfolding closed
@@ -182,10 +186,10 @@ replied-o s a d parcel f v home turns h check = at f.caller refl
         (r.caller.thread, u.0, eqb-true r.caller.thread.seat t u.1 ∙ same_seat, sym (ap (λ (y : Process). y.made) r.receiver ∙ eqb-true r.caller.process.made r.caller.thread.process q.1))
 
     at : (o : Option ℕ) → f.caller ≡ o
-        → HandsOwn (elim o as (λ (o : Option ℕ). Space) [ None ↦ owe (delivered (closed s f.made) a d v) (OfThread a.thread.seat) work.Complete | Some t ↦ owe (owe (delivered (closed s f.made) a d v) (OfThread a.thread.seat) work.Complete) (OfThread t) (work.Reply s.steps) ])
-    at None e = sent-o s (closed s f.made) a d v (closed-same s f.made).0 (closed-same s f.made).1 (closed-same s f.made).2 (closed-same s f.made).3 (closed-same s f.made).4 home turns h
+        → HandsOwn (elim o as (λ (o : Option ℕ). Space) [ None ↦ owe (delivered (closed s f.made) a d v) (OfThread a.thread.seat) (work.Complete false) | Some t ↦ owe (owe (delivered (closed s f.made) a d v) (OfThread a.thread.seat) (work.Complete false)) (OfThread t) (work.Reply s.steps) ])
+    at None e = sent-o s (closed s f.made) a d v (closed-same s f.made).0 (closed-same s f.made).1 (closed-same s f.made).2 (closed-same s f.made).3 (closed-same s f.made).4 home turns false h
     at (Some t) e =
-        handing-o s (closed s f.made) a d v (closed-same s f.made).0 (closed-same s f.made).1 (closed-same s f.made).2 (closed-same s f.made).3 (closed-same s f.made).4 home turns h _ (OfThread t) (work.Reply s.steps) refl
+        handing-o s (closed s f.made) a d v (closed-same s f.made).0 (closed-same s f.made).1 (closed-same s f.made).2 (closed-same s f.made).3 (closed-same s f.made).4 home turns false h _ (OfThread t) (work.Reply s.steps) refl
         (to t e)
 
 -- ---- the other steps
@@ -240,6 +244,10 @@ managed-o : (s : Space) (p : ℕ) → HandsOwn s → HandsOwn (with_manager s p)
 unfolding with_manager
 managed-o s p h = h
 
+marked-o : (s : Space) (p : ℕ) (on : Bool) → HandsOwn s → HandsOwn (with_spam_detection s p on)
+unfolding with_spam_detection
+marked-o s p on h = h
+
 looping-o : (s : Space) (seat : ℕ) (looping : Bool) → HandsOwn s → HandsOwn (with_looping s seat looping)
 unfolding with_looping
 looping-o s seat looping h w t c l on e m =
@@ -267,6 +275,7 @@ step-o s seat x turns home h = record {
     opened = λ pid euid window free. opened-o s seat pid euid window h;
     attached = λ p free. attached-o s seat p h;
     managed = λ a e b. managed-o s a.process.made h;
+    marked = λ p on. marked-o s p on h;
   };
   changes = record {
     transacts = λ a d parcel v e i t. transacted-o s a d v home turns h;

@@ -5,7 +5,7 @@ use Rattle.std.proofs.lemmas.Bool.{eqb-true}
 use Rattle.std.proofs.lemmas.Option.{none-some}
 use Rattle.bd_uapi.specs.declared.fault.Fault.TheVariants.{NoProcess}
 use Rattle.bd_space.specs.declared.step.Step.{Step}
-use Rattle.bd_space.specs.declared.step.Step.TheVariants.{Open, Attach, SetManager, Command, Read, ExitThread, ExitProcess}
+use Rattle.bd_space.specs.declared.step.Step.TheVariants.{Open, Attach, SetManager, SetSpam, Command, Read, ExitThread, ExitProcess}
 use Rattle.bd_space.specs.declared.space.Thread.{Thread}
 use Rattle.bd_space.specs.declared.space.Process.{Process}
 use Rattle.bd_space.specs.declared.space.Actor.{Actor}
@@ -15,6 +15,7 @@ use Rattle.bd_laws.specs.Tidy.{IsTidy}
 use Rattle.bd_engine.specs.Meets.{IsBy}
 use Rattle.bd_engine.proofs.Finding.{found_passes}
 use Rattle.bd_space.specs.Steps.{change, by_actor, manager_step}
+use Rattle.bd_space.specs.Spam.{spam_step}
 use Rattle.bd_space.specs.Commands.{command_step}
 use Rattle.bd_space.specs.Reading.{read_step}
 use Rattle.bd_space.specs.ThreadExits.{exit_thread_step}
@@ -28,6 +29,7 @@ unfolding change
 nobody-changes s seat (Open a b c) k l e = absurd (k a b c refl)
 nobody-changes s seat (Attach a) k l e = absurd (l a refl)
 nobody-changes s seat SetManager k l e = ap (λ o. by_actor s o (manager_step s)) e
+nobody-changes s seat (SetSpam on) k l e = ap (λ o. by_actor s o (spam_step s on)) e
 nobody-changes s seat (Command c parcel) k l e = ap (λ o. by_actor s o (λ a. command_step s a c parcel)) e
 nobody-changes s seat (Read limit) k l e = ap (λ o. by_actor s o (λ a. read_step s a limit)) e
 nobody-changes s seat ExitThread k l e = ap (λ o. by_actor s o (exit_thread_step s)) e

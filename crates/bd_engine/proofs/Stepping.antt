@@ -1,6 +1,6 @@
 -- The steps of BC_TRANSACTION and BC_REPLY, by what was checked.
 use Rattle.std.proofs.Common.{◌≡◌, ℕ, ◌+◌, Bool, true, false, List, Option, Some, None, Result, Ok, Err, refl, ap, sym, subst, ◌∙◌}
-use Rattle.std.specs.Prelude.{IfSome, option_and_then, option_map, if◌then◌else◌}
+use Rattle.std.specs.Prelude.{◌&&◌, IfSome, option_and_then, option_map, if◌then◌else◌}
 use Rattle.std.proofs.lemmas.Option.{none-some}
 use Rattle.bd_uapi.specs.declared.command.TransactionData.{TransactionData}
 use Rattle.bd_uapi.specs.declared.command.Return.{Return}
@@ -24,6 +24,8 @@ use Rattle.bd_space.specs.Names.{names_go, has_number_past_limit, assign_numbers
 use Rattle.bd_space.specs.Todo.{owe, tell_caller}
 use Rattle.bd_space.specs.Frames.{closed, served_innermost}
 use Rattle.bd_space.specs.Parcels.{sending_of}
+use Rattle.bd_space.specs.Windows.{buffers_of}
+use Rattle.bd_space.specs.Spam.{floods, is_spam}
 use Rattle.bd_space.specs.Delivery.{Delivery, delivered, known_by, own_notices, add_buffer, refer, make_objects}
 use Rattle.bd_space.specs.Translation.{translation}
 use Rattle.bd_space.specs.Outcomes.{accepted, stopped}
@@ -100,25 +102,48 @@ pub transacted-full : (s : Space) (a : Actor) (d : TransactionData) (v : Deliver
     → has_number_past_limit (names_go (transacted s a d v)).names ≡ true
 unfolding transacted owe delivered own_notices add_buffer names_go
 transacted-full s a d v e =
-    ap has_number_past_limit (called_names (owe (delivered s a d v) (OfThread a.thread.seat) Complete) a.thread.seat v.receiver.made v.one_way) ∙ e
+    let z = delivered s a d v in
+    ap has_number_past_limit (called_names (owe z (OfThread a.thread.seat) (Complete (is_spam z a v))) a.thread.seat v.receiver.made v.one_way) ∙ e
 
 -- a delivery leaves the frames as they are
 pub sent-stacked : (s : Space) (a : Actor) (d : TransactionData) (v : Delivery) → IsStacked s → IsStacked (delivered s a d v)
 unfolding delivered own_notices add_buffer known_by assign_numbers refer make_objects
 sent-stacked s a d v k = k
 
-called_within : (t : Tables) (z : Space) (seat p : ℕ) (b : Bool) → StandsAt (z.steps + 1) t (called (owe z (OfThread seat) Complete) seat p b) → Within t (called (owe z (OfThread seat) Complete) seat p b)
-unfolding call_out owe
-called_within t z seat p true h = h
-called_within t z seat p false h = h
+-- nor does it change a process
+sent_processes : (s : Space) (a : Actor) (d : TransactionData) (v : Delivery) → (delivered s a d v).processes ≡ s.processes
+unfolding delivered own_notices add_buffer known_by assign_numbers refer make_objects
+sent_processes s a d v = refl
 
-pub transacted-stands : (t : Tables) (s : Space) (a : Actor) (d : TransactionData) (v : Delivery) (p : ℕ) (b : Bool) → p ≡ v.receiver.made → b ≡ v.one_way
-    → StandsAt ((delivered s a d v).steps + 1) t (called (owe (delivered s a d v) (OfThread a.thread.seat) Complete) a.thread.seat p b) → Within t (transacted s a d v)
-unfolding transacted
-transacted-stands t s a d v p b e k h =
-    let z = delivered s a d v in
-    let one = subst (λ (q : ℕ). StandsAt (z.steps + 1) t (called (owe z (OfThread a.thread.seat) Complete) a.thread.seat q b)) e h in
-    called_within t z a.thread.seat v.receiver.made v.one_way (subst (λ (c : Bool). StandsAt (z.steps + 1) t (called (owe z (OfThread a.thread.seat) Complete) a.thread.seat v.receiver.made c)) k one)
+called_within : (t : Tables) (z : Space) (seat p : ℕ) (b spam : Bool) → StandsAt (z.steps + 1) t (called (owe z (OfThread seat) (Complete spam)) seat p b)
+    → Within t (called (owe z (OfThread seat) (Complete spam)) seat p b)
+unfolding call_out owe
+called_within t z seat p true spam h = h
+called_within t z seat p false spam h = h
+
+module _ (s : Space) (a : Actor) (d : TransactionData) (v : Delivery) (p : ℕ) (b : Bool) (receiver : p ≡ v.receiver.made) (one_way : b ≡ v.one_way) where
+  -- what is told of the receiver that is found after the delivery is told of the delivery
+  pub spam-told : (spam : Bool) → process_in s.processes v.receiver.made ≡ Some v.receiver
+      → ((q : Process) → process_in (delivered s a d v).processes p ≡ Some q
+      → spam ≡ (a.process.spam_detection && b && floods q.window (buffers_of (delivered s a d v).buffers p) a.process.made))
+      → spam ≡ is_spam (delivered s a d v) a v
+  unfolding is_spam
+  spam-told spam lives told =
+      let z = delivered s a d v in
+      let found = ap (λ (qs : List Process). process_in qs p) (sent_processes s a d v) ∙ ap (process_in s.processes) receiver ∙ lives in
+      told v.receiver found
+      ∙ ap (λ (c : Bool). a.process.spam_detection && c && floods v.receiver.window (buffers_of z.buffers p) a.process.made) one_way
+      ∙ ap (λ (q : ℕ). a.process.spam_detection && v.one_way && floods v.receiver.window (buffers_of z.buffers q) a.process.made) receiver
+
+  pub transacted-stands : (t : Tables) (spam : Bool) → spam ≡ is_spam (delivered s a d v) a v
+      → StandsAt ((delivered s a d v).steps + 1) t (called (owe (delivered s a d v) (OfThread a.thread.seat) (Complete spam)) a.thread.seat p b) → Within t (transacted s a d v)
+  unfolding transacted
+  transacted-stands t spam is h =
+      let z = delivered s a d v in
+      let one = subst (λ (q : ℕ). StandsAt (z.steps + 1) t (called (owe z (OfThread a.thread.seat) (Complete spam)) a.thread.seat q b)) receiver h in
+      let two = subst (λ (c : Bool). StandsAt (z.steps + 1) t (called (owe z (OfThread a.thread.seat) (Complete spam)) a.thread.seat v.receiver.made c)) one_way one in
+      called_within t z a.thread.seat v.receiver.made v.one_way (is_spam z a v)
+      (subst (λ (x : Bool). StandsAt (z.steps + 1) t (called (owe z (OfThread a.thread.seat) (Complete x)) a.thread.seat v.receiver.made v.one_way)) is two)
 
 -- ---- the step of a transaction
 
@@ -183,7 +208,7 @@ pub replied-full : (s : Space) (a : Actor) (d : TransactionData) (f : Frame) (v 
     → has_number_past_limit (names_go (replied s a d f v)).names ≡ true
 unfolding replied owe closed delivered known_by assign_numbers refer make_objects own_notices add_buffer names_go
 replied-full s a d f v e =
-    ap has_number_past_limit (told_names (owe (delivered (closed s f.made) a d v) (OfThread a.thread.seat) Complete) f.caller (Reply s.steps)) ∙ e
+    ap has_number_past_limit (told_names (owe (delivered (closed s f.made) a d v) (OfThread a.thread.seat) (Complete false)) f.caller (Reply s.steps)) ∙ e
 
 told_at : (n : ℕ) (t : Tables) (z : Space) (caller : Option ℕ) (kind : WorkKind) → n ≡ z.steps + 1
     → StandsAt n t (elim caller as (λ (o : Option ℕ). Space) [ None ↦ z | Some u ↦ owe z (OfThread u) kind ])
@@ -198,11 +223,11 @@ unfolding closed delivered known_by assign_numbers refer make_objects own_notice
 closed_first s a d made v = refl
 
 pub replied-stands : (t : Tables) (s : Space) (a : Actor) (d : TransactionData) (f : Frame) (v : Delivery)
-    → StandsAt ((delivered s a d v).steps + 1) t (tell_caller (owe (closed (delivered s a d v) f.made) (OfThread a.thread.seat) Complete) f (Reply (delivered s a d v).steps))
+    → StandsAt ((delivered s a d v).steps + 1) t (tell_caller (owe (closed (delivered s a d v) f.made) (OfThread a.thread.seat) (Complete false)) f (Reply (delivered s a d v).steps))
     → Within t (replied s a d f v)
 unfolding replied owe closed delivered known_by assign_numbers refer make_objects own_notices add_buffer translation
 replied-stands t s a d f v h =
-    told_at _ t (owe (closed (delivered s a d v) f.made) (OfThread a.thread.seat) Complete) f.caller (Reply s.steps) refl h
+    told_at _ t (owe (closed (delivered s a d v) f.made) (OfThread a.thread.seat) (Complete false)) f.caller (Reply s.steps) refl h
 
 pub refused-stands : (t : Tables) (s : Space) (seat : ℕ) (f : Frame) → StandsAt (s.steps + 1) t (reply_refused s seat f) → Within t (reply_refused s seat f)
 unfolding reply_refused owe closed

@@ -1,5 +1,5 @@
 -- What is so of a sending that was read, and of a delivery that its receiver's window can take.
-use Rattle.std.specs.Prelude.{ℕ, ◌≡◌, ◌+◌, ◌*◌, ◌≤◌, Bool, List, Option, Result, Ok, All, length}
+use Rattle.std.specs.Prelude.{ℕ, ◌≡◌, ◌+◌, ◌*◌, ◌≤◌, Bool, List, Option, Some, Result, Ok, All, length}
 use Rattle.bd_uapi.specs.declared.command.TransactionData.{TransactionData}
 use Rattle.bd_uapi.specs.declared.fault.Cause.{Cause}
 use Rattle.bd_space.specs.declared.step.ObjectId.{ObjectId}
@@ -9,6 +9,7 @@ use Rattle.bd_space.specs.declared.space.Object.{Object}
 use Rattle.bd_space.specs.declared.space.Item.{Item}
 use Rattle.bd_space.specs.Words.{and_then}
 use Rattle.bd_space.specs.Space.{Space}
+use Rattle.bd_space.specs.Seats.{process_in}
 use Rattle.bd_space.specs.Windows.{needed, buffers_of, start_for}
 use Rattle.bd_space.specs.Parcels.{Sending}
 use Rattle.bd_space.specs.Delivery.{Delivery}
@@ -63,9 +64,15 @@ SendsNew v s = AreNewIn s.objects v.sending.made
 abbrev pub Delivers : Tables → Tables → Delivery → (Space → Space) → Type 0
 Delivers old new v f = tables.MakesWhere (Before old) (SendsNew v) (Within new) f
 
--- the same, of each in which a thread's innermost frame is its newest as well
-abbrev pub DeliversOfStacked : Tables → Tables → Delivery → (Space → Space) → Type 0
-DeliversOfStacked old new v f = tables.MakesWhere (Before old) (λ s. SendsNew v s × IsStacked s) (Within new) f
+-- the space of a call: what it makes is new, its receiver lives there, and a thread's innermost frame is its newest
+pub record CanCall (v : Delivery) (s : Space) : Type 0 where
+  pub new : SendsNew v s
+  pub lives : process_in s.processes v.receiver.made ≡ Some v.receiver
+  pub stacked : IsStacked s
+
+-- the same of a call's delivery
+abbrev pub DeliversCall : Tables → Tables → Delivery → (Space → Space) → Type 0
+DeliversCall old new v f = tables.MakesWhere (Before old) (CanCall v) (Within new) f
 
 -- a change takes room for so many frames, one-way calls and work items, and adds at most so many objects
 pub record Spends (old new : Tables) (objects frames turns works : ℕ) : Type 0 where

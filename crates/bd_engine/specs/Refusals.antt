@@ -1,5 +1,6 @@
 -- Why an engine, a step or a run is refused.
 use Rattle.std.specs.Prelude.{ℕ, ◌≤◌}
+use Rattle.bd_uapi.specs.Limits.{IsSeats}
 use Rattle.bd_uapi.specs.declared.fault.Fault.{Fault}
 use Rattle.bd_uapi.specs.declared.fault.Fault.TheVariants as fault
 use Rattle.bd_engine.specs.declared.why.Why.{Why}
@@ -14,10 +15,6 @@ FullOnly HistoryFull P = P
 abbrev pub MemoryOnly : Why → Type 0 → Type 0
 MemoryOnly NoMemory P = P
 MemoryOnly HistoryFull P = Unit {0}
-
--- a driver has 1 to 16 seats
-abbrev pub IsSeats : ℕ → Type 0
-IsSeats n = (1 ≤ n) × (n ≤ 16)
 
 -- the fault is that of the number of seats, and that is outside, or memory was refused
 abbrev pub IsSeatFault : ℕ → Fault → Type 0

@@ -206,6 +206,7 @@ impl Tables {
         Buffer {
             made: self.steps,
             receiver: receiver.made,
+            sender: a.process.made,
             start,
             size: needed(d.data_size, d.offsets_size),
             one_way,

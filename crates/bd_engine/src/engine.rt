@@ -1,18 +1,19 @@
 //! The engine: a history, and the live engine that follows it.
 
 ghost use Rattle.std.specs.Prelude.{◌≡◌, ◌≤◌, ◌<◌, ◌^◌, true, [], length, nat_le, IfOk, IfErr, OnErr, MatchResult, Some};
+ghost use Rattle.bd_uapi.specs.Limits.{most_seats, IsSeats};
 ghost use Rattle.bd_space.specs.Histories as histories;
 ghost use Rattle.bd_space.specs.Histories.{most_steps};
 ghost use Rattle.bd_space.specs.Steps as steps;
 ghost use Rattle.bd_engine.specs.Stands.{Before};
-ghost use Rattle.bd_engine.specs.Refusals.{FullOnly, MemoryOnly, IsSeats, IsSeatFault};
+ghost use Rattle.bd_engine.specs.Refusals.{FullOnly, MemoryOnly, IsSeatFault};
 ghost use Rattle.bd_engine.specs.declared.why.Why.TheVariants.{NoMemory};
 
 use crate::live::Live;
 use crate::tables::Tables;
 use crate::why::Why;
 use bd_space::{Entries, Entry, Record, Step, StepAnswer};
-use bd_uapi::Fault;
+use bd_uapi::{Fault, MOST_SEATS};
 use std::alloc::{AllocError, Global};
 use std::marker::Model;
 
@@ -47,13 +48,13 @@ impl Drop for Engine {
 }
 
 impl Engine {
-    /// An engine for so many seats, whose history is empty. Errors: F16 where the number of seats is 0 or above 16; else
+    /// An engine for so many seats, whose history is empty. Errors: F16 where the number of seats is 0 or above 31; else
     /// F14 alone, where memory was refused.
     pub fn new(alloc: Global, seats: u32) -> Result<Engine, Fault>
         ensures ok { IfOk result (λ e. e ≡ record { seats = seats; entries = [] }) }
         ensures fault { MatchResult result (λ _. IsSeats seats) (λ f. IsSeatFault seats f) }
     {
-        if seats < 1 || 16 < seats {
+        if seats < 1 || MOST_SEATS < seats {
             return Err(Fault::SeatCount);
         }
         match Engine::for_seats(alloc, seats) {
@@ -88,11 +89,11 @@ impl Engine {
         &self.live.tables
     }
 
-    /// How many seats there are, 1 to 16.
+    /// How many seats there are, 1 to 31.
     pub fn seats(&self) -> u32
         ensures count { result ≡ self.now.seats }
         ensures some { 1 ≤ result }
-        ensures few { result ≤ 16 }
+        ensures few { result ≤ most_seats }
     {
         self.live.seats
     }
@@ -125,7 +126,7 @@ impl Engine {
     /// The ready seats, bit i for seat i: those that have something to read.
     pub fn ready(&self) -> u32
         ensures page { result ≡ histories.ready_bits self.now }
-        ensures bits { result < 2 ^ 16 }
+        ensures bits { result < 2 ^ most_seats }
     {
         self.tables().ready_below(self.live.seats)
     }

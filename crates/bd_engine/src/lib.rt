@@ -23,6 +23,7 @@ mod reference;
 mod reply;
 mod run;
 mod sending;
+mod spam;
 mod step;
 mod tables;
 mod thread;

@@ -2,7 +2,7 @@
 
 ghost use Rattle.std.specs.Prelude.{◌≡◌, Some, find};
 ghost use Rattle.bd_space.specs.Histories.{space_after};
-ghost use Rattle.bd_space.specs.Seats.{thread_in};
+ghost use Rattle.bd_space.specs.Seats.{process_in, thread_in};
 ghost use Rattle.bd_space.specs.References.{object_in};
 ghost use Rattle.bd_space.specs.Names as names;
 ghost use Rattle.bd_space.specs.Todo.{work_on};
@@ -11,9 +11,17 @@ ghost use Rattle.bd_engine.specs.Looks as looks;
 
 use crate::engine::Engine;
 use bd_links::Works;
-use bd_space::{DeathNotification, Object, ObjectId, Thread, TodoList};
+use bd_space::{DeathNotification, Object, ObjectId, Process, Thread, TodoList};
 
 impl Engine {
+    /// The live process that was opened there: its pid, euid and window, and whether it asked for reports of its own
+    /// one-way flooding. Takes no memory.
+    pub fn process(&self, made: u32) -> Option<Process>
+        ensures { result ≡ process_in (space_after self.now).processes made }
+    {
+        self.tables().process(made)
+    }
+
     /// The live thread of a seat: its process, and whether it is in the loop (looper). Takes no memory.
     pub fn thread(&self, seat: u32) -> Option<Thread>
         ensures { result ≡ thread_in (space_after self.now).threads seat }

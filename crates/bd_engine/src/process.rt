@@ -88,6 +88,7 @@ impl Tables {
             pid,
             euid,
             window: size,
+            spam_detection: false,
         });
         self.windows.open(self.steps, window);
     }

@@ -1,6 +1,6 @@
 //! The step of BC_REPLY.
 
-ghost use Rattle.std.specs.Prelude.{◌≡◌, ◌≤◌, length, Some, IfOk, IfErr, OnOk, OnErr};
+ghost use Rattle.std.specs.Prelude.{false, ◌≡◌, ◌≤◌, length, Some, IfOk, IfErr, OnOk, OnErr};
 ghost use Rattle.bd_space.specs.declared.space.TodoList.TheVariants.{OfThread};
 ghost use Rattle.bd_space.specs.declared.space.WorkKind.TheVariants as kinds;
 ghost use Rattle.bd_space.specs.Todo as todo;
@@ -45,12 +45,12 @@ impl Tables {
     fn answered(&mut self, seat: u32, f: Frame)
         requires { 2 ≤ work_room self.old.calls }
         ensures stands { Makes self.old self.new
-            (λ s. todo.tell_caller (todo.owe (frames.closed s f.made) (OfThread seat) kinds.Complete) f
+            (λ s. todo.tell_caller (todo.owe (frames.closed s f.made) (OfThread seat) (kinds.Complete false)) f
             (kinds.Reply s.steps)) }
         ensures spends { Spends self.old self.new 0 0 0 2 }
     {
         self.close(f.made);
-        self.owe(seat, WorkKind::Complete);
+        self.owe(seat, WorkKind::Complete { spam: false });
         self.tell_caller(f, WorkKind::Reply(self.steps));
     }
 

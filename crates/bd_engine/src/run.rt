@@ -115,6 +115,7 @@ impl Engine {
             }
             Request::Attach { pid } => self.single(seat, Step::Attach { pid: *pid }),
             Request::SetManager => self.single(seat, Step::SetManager),
+            Request::SetSpam { on } => self.single(seat, Step::SetSpam { on: *on }),
             Request::Write { stream, area } => self.write(seat, stream.as_slice(), area.as_slice()),
             Request::Read { limit } => self.single(seat, Step::Read { limit: *limit }),
             Request::ExitThread => self.single(seat, Step::ExitThread),

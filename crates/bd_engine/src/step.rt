@@ -65,6 +65,7 @@ impl Tables {
             )),
             Step::Attach { pid } => twice(self.attach(a.thread.seat, *pid)),
             Step::SetManager => twice(self.set_manager(a)),
+            Step::SetSpam { on } => twice(Ok(self.set_spam_detection(a, *on))),
             Step::Command { command, parcel } => twice(self.command(a, command, parcel)),
             Step::Read { limit } => self.read(a, *limit, both),
             Step::ExitThread => twice(self.exit_thread(a)),

@@ -1,6 +1,7 @@
 //! Threads: whose seat it is, which are ready, and how they attach, enter the loop, leave it and end.
 
 ghost use Rattle.std.specs.Prelude.{true, ◌≡◌, Ok, IfSome, ◌≤◌, ◌<◌, ◌^◌, if◌then◌else◌};
+ghost use Rattle.bd_uapi.specs.Limits.{most_seats};
 ghost use Rattle.bd_space.specs.Seats as seats;
 ghost use Rattle.bd_space.specs.Steps.{is_pid};
 ghost use Rattle.bd_space.specs.Histories.{is_ready, ready_below};
@@ -83,9 +84,9 @@ impl Tables {
 
     /// The ready seats below this one, bit i for seat i.
     pub(crate) fn ready_below(&self, seats: u32) -> u32
-        requires { seats ≤ 16 }
+        requires { seats ≤ most_seats }
         ensures ready { Tells self.now result (λ s. ready_below s seats) }
-        ensures bits { result < 2 ^ 16 }
+        ensures bits { result < 2 ^ most_seats }
     {
         let mut ready = 0;
         let mut bit = 1;

@@ -14,7 +14,7 @@ ghost use Rattle.bd_calls.specs.Room.{work_room, frame_room};
 ghost use Rattle.bd_engine.specs.Stands.{StandsAt, CanFollow, Tells, PassesLimit};
 ghost use Rattle.bd_engine.specs.Stands.{TellsOfStacked, TellsBeforeOfStacked, MakesOfStacked};
 ghost use Rattle.bd_engine.specs.Meets.{IsBy, IsSending, IsKept, IsStep};
-ghost use Rattle.bd_engine.specs.Deliveries.{IsDeliverable, IsReady, DeliversOfStacked, Spends};
+ghost use Rattle.bd_engine.specs.Deliveries.{IsDeliverable, IsReady, DeliversCall, Spends};
 
 use crate::answer::Plain;
 use crate::delivery::Delivery;
@@ -163,15 +163,16 @@ impl Tables {
         }
     }
 
-    // A two-way call is due at once, a one-way call once it is ripe; its writer reads that it was taken.
-    fn called(&mut self, seat: u32, receiver: u32, one_way: bool)
+    // A two-way call is due at once, a one-way call once it is ripe; its writer reads that it was taken, and whether it
+    // floods.
+    fn called(&mut self, seat: u32, receiver: u32, one_way: bool, spam: bool)
         requires frames { 1 ≤ frame_room self.old.calls }
         requires works { 2 ≤ work_room self.old.calls }
         ensures stands { MakesOfStacked self.old self.new
-            (λ s. spec.called (todo.owe s (OfThread seat) kinds.Complete) seat receiver one_way) }
+            (λ s. spec.called (todo.owe s (OfThread seat) (kinds.Complete spam)) seat receiver one_way) }
         ensures spends { Spends self.old self.new 0 1 0 2 }
     {
-        self.owe(seat, WorkKind::Complete);
+        self.owe(seat, WorkKind::Complete { spam });
         if !one_way {
             self.call_out(seat, receiver);
         }
@@ -181,7 +182,7 @@ impl Tables {
     fn transacted(&mut self, a: Actor, d: &TransactionData, v: Delivery) -> Result<(), Why>
         requires deliverable { IsDeliverable self.old d.now v }
         requires ready { IsReady self.old v }
-        ensures ok { OnOk result (DeliversOfStacked self.old self.new v (λ s. spec.transacted s a d.now v)) }
+        ensures ok { OnOk result (DeliversCall self.old self.new v (λ s. spec.transacted s a d.now v)) }
         ensures err { OnErr result (IsKept self.old self.new) }
         ensures full { OnErr result (PassesLimit self.old (λ s. names_go (spec.transacted s a d.now v))) }
         ensures follow { OnOk result (CanFollow self.new (length v.sending.items + 1)) }
@@ -193,7 +194,8 @@ impl Tables {
         match self.delivered(a, d, v) {
             Err(NumbersFull) => Err(Why::HistoryFull),
             Ok(()) => {
-                self.called(a.thread.seat, receiver, one_way);
+                let spam = self.is_spam(a, receiver, one_way);
+                self.called(a.thread.seat, receiver, one_way, spam);
                 Ok(())
             }
         }

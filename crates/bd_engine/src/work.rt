@@ -1,7 +1,8 @@
 //! What a work item gives to be read: its returns, and their bytes.
 
-ghost use Rattle.std.specs.Prelude.{pos, true, ◌≡◌, ◌+◌, ◌≤◌, ◌++◌, find, map, length, option_and_then, option_map, unwrap_or, IfSome, OnOk};
+ghost use Rattle.std.specs.Prelude.{pos, true, ◌≡◌, ◌+◌, ◌≤◌, ◌++◌, if◌then◌else◌, find, map, length, option_and_then, option_map, unwrap_or, IfSome, OnOk};
 ghost use Rattle.std.specs.List.{flat_map, concat};
+ghost use Rattle.bd_uapi.specs.declared.command.Return.TheVariants as br;
 ghost use Rattle.bd_codec.specs.Spelling.{return_bytes};
 ghost use Rattle.bd_space.specs.Words.{round_up as rounded};
 ghost use Rattle.bd_space.specs.Seats as seats;
@@ -25,6 +26,17 @@ fn alone(r: Option<Return>) -> [Option<Return>; 4]
     ensures { flat_map spec.one result ≡ spec.one r }
 {
     [r, None, None, None]
+}
+
+// What is read of a transaction or reply that was accepted.
+fn completion(spam: bool) -> Return
+    ensures { result ≡ (if spam then br.OnewaySpamSuspect else br.TransactionComplete) }
+{
+    if spam {
+        Return::OnewaySpamSuspect
+    } else {
+        Return::TransactionComplete
+    }
 }
 
 // Appends the spelling of a return, if there is one.
@@ -185,7 +197,7 @@ impl Tables {
     {
         match kind {
             WorkKind::Notice(o) => self.objects.notice_returns(o),
-            WorkKind::Complete => alone(Some(Return::TransactionComplete)),
+            WorkKind::Complete { spam } => alone(Some(completion(spam))),
             WorkKind::Refusal(r) => alone(Some(r)),
             WorkKind::Verdict(r) => alone(Some(r)),
             WorkKind::Call(b) => alone(self.call_return(b)),

@@ -8,6 +8,7 @@ pub mod Writes
 pub mod Edges
 pub mod Definitions
 pub mod Rules
+pub mod Flooding
 pub mod WeakObjectsAndVerdicts
 pub mod DeadObjects
 pub mod FullWindows

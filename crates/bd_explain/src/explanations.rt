@@ -62,7 +62,9 @@ BC_TRANSACTION_SG or BC_REPLY_SG",
     Explanation {
         name: "F4",
         word: "NoProcess",
-        when: "a seat without a live thread reads, exits, becomes the manager or writes a command",
+        when: "\
+a seat without a live thread reads, exits, becomes the manager, sets reports of flooding or \
+writes a command",
         leaves: STEP,
     },
     Explanation {
@@ -136,7 +138,7 @@ or that is empty too",
     Explanation {
         name: "F16",
         word: "SeatCount",
-        when: "an engine or a driver is made for fewer than 1 or more than 16 seats",
+        when: "an engine or a driver is made for fewer than 1 or more than 31 seats",
         leaves: "nothing is made",
     },
     Explanation {

@@ -28,7 +28,9 @@ fn section_on(command: &Command) -> &'static str {
 // The section of docs/RULES.md on a step.
 fn section_of(step: &Step) -> &'static str {
     match step {
-        Step::Open { .. } | Step::Attach { .. } | Step::SetManager => "Requests and steps",
+        Step::Open { .. } | Step::Attach { .. } | Step::SetManager | Step::SetSpam { .. } => {
+            "Requests and steps"
+        }
         Step::Command { command, .. } => section_on(command),
         Step::Read { .. } => "Work items and reading",
         Step::ExitThread | Step::ExitProcess => "Exits",

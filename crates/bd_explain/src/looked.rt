@@ -27,7 +27,7 @@ static READ: [Reason; 3] = [
     Reason::Fault(Fault::Again),
 ];
 
-// For an exit, and for a command of the loop.
+// For reports of flooding, for an exit, and for a command of the loop.
 static LIVE: [Reason; 1] = [Reason::Fault(Fault::NoProcess)];
 
 static TO_MANAGER: [Reason; 4] = [
@@ -210,7 +210,7 @@ impl Looked {
             Step::SetManager => Looked::alone(&MANAGER),
             Step::Command { command, .. } => Looked::at_command(command),
             Step::Read { .. } => Looked::alone(&READ),
-            Step::ExitThread | Step::ExitProcess => Looked::alone(&LIVE),
+            Step::SetSpam { .. } | Step::ExitThread | Step::ExitProcess => Looked::alone(&LIVE),
         }
     }
 }

@@ -1,6 +1,7 @@
 //! Why an entry was answered so, and what the rules give in place of one that they don't.
 
 ghost use Rattle.std.specs.Prelude.{◌≤◌};
+ghost use Rattle.bd_uapi.specs.Limits.{IsSeats};
 ghost use Rattle.bd_space.specs.Histories.{IsHistory, history_in};
 ghost use Rattle.bd_audit.specs.Replays.{StopsAt};
 
@@ -36,7 +37,7 @@ pub fn explain_entry<F: Form, W: Write>(
     form: &F,
     out: &mut W,
 ) -> Result<(), Untold>
-    requires seats { (1 ≤ «record».now.seats) × («record».now.seats ≤ 16) }
+    requires seats { IsSeats «record».now.seats }
     requires lawful { IsHistory (history_in «record».now) }
 {
     show_at(alloc, record, place, form, out)?;
@@ -187,7 +188,7 @@ impl fmt::Display for Unlawful {
 
 // The pid of the process whose thread would make the step of the entry at this place.
 fn pid_before(alloc: Global, record: &Record, at: u32) -> Result<Option<u32>, Untold>
-    requires seats { (1 ≤ «record».now.seats) × («record».now.seats ≤ 16) }
+    requires seats { IsSeats «record».now.seats }
     requires stops { StopsAt (history_in «record».now) at }
 {
     let entries = record.entries.as_slice();
@@ -207,7 +208,7 @@ pub fn explain_unlawful<F: Form, W: Write>(
     form: &F,
     out: &mut W,
 ) -> Result<(), Untold>
-    requires seats { (1 ≤ «record».now.seats) × («record».now.seats ≤ 16) }
+    requires seats { IsSeats «record».now.seats }
     requires stops { StopsAt (history_in «record».now) at }
 {
     let pid = pid_before(alloc, record, at)?;

@@ -1,5 +1,5 @@
 -- Frames in the order of their places, and where in the list those are that pass.
-use Rattle.std.proofs.Common.{◌≡◌, ℕ, zero, suc, ◌+◌, ◌-◌, ◌≤◌, ◌<◌, Bool, true, false, not, ◌||◌, cond, List, [], ◌∷◌, ◌++◌, Some, None, filter, find, map, take, drop, length, get_or, ltb, refl, sym, subst, ◌∙◌, arith}
+use Rattle.std.proofs.Common.{◌≡◌, ℕ, zero, suc, ◌+◌, ◌-◌, ◌≤◌, ◌<◌, Bool, true, false, not, ◌||◌, cond, List, [], ◌∷◌, ◌++◌, Some, None, filter, find, map, take, drop, length, get_or, set, ltb, refl, sym, subst, ◌∙◌, arith}
 use Rattle.std.specs.List.{list_any, remove, slice_get}
 use Rattle.std.specs.List.Sorted.{IsPartitionedBy, IsPartitionPoint}
 use Rattle.std.proofs.lemmas.Bool.{ne_eqb, ltb-true, ltb-false, lt-ltb}
@@ -43,6 +43,12 @@ rising-changed p f made m (x ∷ xs) r = by (p x) (rising-changed p f made (suc 
 pub rising-map : (f : Frame → Frame) → ((x : Frame) → (f x).made ≡ x.made) → (m : ℕ) (xs : List Frame) → IsRising m xs → IsRising m (map f xs)
 rising-map f made m [] r = r
 rising-map f made m (x ∷ xs) r = subst (λ n. (m ≤ n) × IsRising (suc n) (map f xs)) (sym (made x)) (r.0, rising-map f made (suc x.made) xs r.1)
+
+pub rising-set : (m : ℕ) (xs : List Frame) (i : ℕ) (x d : Frame) → x.made ≡ (get_or xs i d).made → IsRising m xs → IsRising m (set xs i x)
+rising-set m [] zero x d h r = r
+rising-set m [] (suc i) x d h r = r
+rising-set m (y ∷ ys) zero x d h r = subst (λ n. (m ≤ n) × IsRising (suc n) ys) (sym h) r
+rising-set m (y ∷ ys) (suc i) x d h r = (r.0, rising-set (suc y.made) ys i x d h r.1)
 
 pub rising-above : (m : ℕ) (xs : List Frame) (i : ℕ) (d : Frame) → IsRising m xs → i < length xs → m ≤ (get_or xs i d).made
 rising-above m [] i d r h = absurd (omega arith)

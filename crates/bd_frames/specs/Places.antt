@@ -1,6 +1,7 @@
 -- Frames in the order of their places, and parts of a list with all that pass.
 use Rattle.std.specs.Prelude.{ℕ, suc, ◌+◌, ◌≡◌, ◌≤◌, Bool, true, false, List, [], ◌∷◌, Option, Some, None, take, drop, get_or}
 use Rattle.std.specs.List.{list_any, between}
+use Rattle.std.specs.Coded.{×_prop, →_prop, Unit-prop, le_prop}
 use Rattle.bd_space.specs.declared.space.Frame.{Frame}
 use Rattle.bd_space.specs.Frames.{is_frame}
 
@@ -17,6 +18,14 @@ IsAfter from (f ∷ fs) made = IsAfter (suc f.made) fs made
 -- where a flag is up, they rise
 abbrev pub RiseIf : Bool → List Frame → Type 0
 RiseIf rising fs = rising ≡ true → IsRising 0 fs
+
+-- it can be so in one way only
+IsRising-prop : (from : ℕ) (fs : List Frame) → IsProp (IsRising from fs)
+IsRising-prop from [] = Unit-prop
+IsRising-prop from (f ∷ fs) = ×_prop le_prop (IsRising-prop (suc f.made) fs)
+
+pub RiseIf-prop : (rising : Bool) (fs : List Frame) → IsProp (RiseIf rising fs)
+RiseIf-prop rising fs = →_prop (IsRising-prop 0 fs)
 
 -- all that pass lie between the two indices
 pub record IsWithin (q : Frame → Bool) (from to : ℕ) (l : List Frame) : Type 0 where

@@ -7,9 +7,8 @@ ghost use Rattle.bd_space.specs.declared.space.Frame as declared;
 ghost use Rattle.bd_space.specs.Frames as spec;
 ghost use Rattle.bd_space.specs.ReadItems as reading;
 ghost use Rattle.bd_space.specs.Words.{changed};
-ghost use Rattle.bd_frames.specs.Places.{IsPartOf};
+ghost use Rattle.bd_frames.specs.Places.{IsPartOf, RiseIf, RiseIf-prop};
 ghost use Rattle.bd_frames.specs.InOrder.{IsInOrder};
-ghost use Rattle.bd_frames.specs.Room.{Uses, frame_room, frame_count};
 ghost use Rattle.bd_frames.specs.Words.{newest_in, abandoned_in, oldest_in, lost_frame, left_frame};
 
 use crate::ancestry::{Ancestry, ancestry_among};
@@ -39,10 +38,13 @@ pub struct FrameTable {
     pub(crate) children: HashMap<u32, u64>,
     // The frames of each thread.
     pub(crate) stacks: Stacks,
+    // A way by parents rests on it, whatever the table stands for.
+    ghost rises: { RiseIf rising frames.items } by { RiseIf-prop rising frames.items },
 }
 
 impl FrameTable {
     ghost use Rattle.bd_frames.specs.Stands.{FramesAre, Tells, Makes};
+    ghost use Rattle.bd_frames.specs.Room.{Uses, frame_room, frame_count};
 
     /// An empty table. Takes no memory.
     pub fn new(alloc: Global) -> FrameTable
@@ -176,7 +178,7 @@ impl FrameTable {
     pub fn ancestry_of(&self, from: Option<u32>) -> Ancestry<'_>
         ensures { Tells self.now result (λ l. spec.ancestry from (reverse l)) }
     {
-        ancestry_among(&self.frames, from)
+        ancestry_among(&self.frames, self.rising, from)
     }
 
     /// The thread of this seat serves the call made there.

@@ -4,6 +4,7 @@ ghost use Rattle.std.specs.Prelude.{ℕ, Bool, List, Option, ◌≡◌, ◌≤�
 ghost use Rattle.std.specs.Option.{option_and_then};
 ghost use Rattle.std.specs.List.{slice_get};
 ghost use Rattle.bd_space.specs.Frames as spec;
+ghost use Rattle.bd_frames.specs.Places.{IsRising};
 ghost use Rattle.bd_frames.specs.Linked as linked;
 ghost use Rattle.bd_frames.specs.Linked.{IsWay, IsStep, StacksAre};
 ghost use Rattle.bd_frames.specs.Words.{left_frame};
@@ -59,6 +60,7 @@ fn step(frames: &[Frame], below: &[Below], seat: u32, way: Way) -> Option<Way>
 fn leave_down(frames: &mut Vec<Frame>, below: &[Below], seat: u32, next: Option<u32>)
     ensures frames { IsWay seat frames.old.items below.now (record { end = vec_len frames.old; next = next })
         → frames.new.items ≡ map (left_frame seat) frames.old.items }
+    ensures rising { IsRising 0 frames.old.items → IsRising 0 frames.new.items }
     ensures len { vec_len frames.new ≡ vec_len frames.old }
     ensures capacity { vec_capacity frames.new ≡ vec_capacity frames.old }
 {
@@ -77,6 +79,7 @@ fn leave_down(frames: &mut Vec<Frame>, below: &[Below], seat: u32, next: Option<
 pub(crate) fn leave(frames: &mut Vec<Frame>, stacks: &Stacks, seat: u32)
     ensures frames { StacksAre stacks.now frames.old.items
         → frames.new.items ≡ map (left_frame seat) frames.old.items }
+    ensures rising { IsRising 0 frames.old.items → IsRising 0 frames.new.items }
     ensures len { vec_len frames.new ≡ vec_len frames.old }
     ensures capacity { vec_capacity frames.new ≡ vec_capacity frames.old }
 {

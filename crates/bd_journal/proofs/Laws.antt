@@ -23,10 +23,12 @@ use Rattle.bd_space.specs.declared.step.Entry.{Entry}
 use Rattle.bd_space.specs.declared.record.Record.{Record}
 use Rattle.bd_uapi.specs.declared.fault.Note.{Note}
 use Rattle.bd_uapi.specs.declared.fault.Cause.{Cause}
+use Rattle.bd_journal.specs.declared.versions.Version.{Version}
+use Rattle.bd_journal.specs.declared.versions.Version.TheVariants.{One, Two}
 use Rattle.bd_journal.specs.declared.fault.ReadError.{ReadError}
-use Rattle.bd_journal.specs.Codes.{numbered, note_number, notes, cause_number, causes, fault_number, faults}
-use Rattle.bd_journal.specs.Spelling.{block, magic, carries, parcel_bytes, step_bytes, answer_bytes, entry_bytes, heading_bytes, journal_bytes, IsBlock, IsParcel, IsStep, IsAnswer, IsEntry, IsJournal}
-use Rattle.bd_journal.specs.Reading.{◌>>=◌, Gives, byte_from, word_from, block_from, whole, whole_block_from, spelled_by, command_in, blocks_from, parcel_by, parcel_from, command_step_from, open_from, number_step_from, step_rows, step_from, got_from, answer_rows, answer_from, entry_from, entries_from, behind_magic, seats_from, journal_in}
+use Rattle.bd_journal.specs.Codes.{numbered, bit, bits, note_number, notes, cause_number, causes, fault_number, faults}
+use Rattle.bd_journal.specs.Spelling.{block, magic, most_seats_in, has_spam, carries, parcel_bytes, step_bytes, answer_bytes, entry_bytes, heading_in, spelling_in, IsBlock, IsParcel, IsStepIn, IsAnswer, IsEntryIn, IsJournalIn, Tells}
+use Rattle.bd_journal.specs.Reading.{◌>>=◌, Gives, byte_from, word_from, block_from, whole, whole_block_from, spelled_by, command_in, blocks_from, parcel_by, parcel_from, command_step_from, open_from, number_step_from, tagged, later_step_rows, step_rows, step_from, got_from, answer_rows, answer_from, entry_from, entries_from, version_from, seats_from, record_from, journal_in}
 use Rattle.bd_journal.proofs.FieldLaws.{bind_some, demand_some, some_is, Takes, Takes-then, Takes-behind, IsBytes-rest, byte_takes, words, blocks, block_bytes}
 use Rattle.bd_journal.proofs.Tags.{Row, RowOf, bare_row, once_row, thrice_row, thrice_again, numbered_row, rows_take}
 
@@ -100,9 +102,9 @@ parcel_again c (Some p) rest fits =
 
 -- ---- steps
 
-command_row : Row step_bytes IsStep 3 command_step_from
+command_row : (v : Version) → Row step_bytes (IsStepIn v) 3 command_step_from
 unfolding command_step_from
-command_row = record {
+command_row v = record {
   takes = λ bytes x fits e.
       let p = bind_some (block_from bytes) (λ b. command_in b.0 >>= λ c. parcel_from c b.1 >>= λ q. Some (step.Command c q.0, q.1)) x e in
       let q = bind_some (command_in p.0.0) (λ c. parcel_from c p.0.1 >>= λ q. Some (step.Command c q.0, q.1)) x p.2 in
@@ -112,29 +114,33 @@ command_row = record {
       let t1 : Takes bytes (block (command_bytes q.0)) p.0.1 = subst (λ (b : List ℕ). Takes bytes (block b) p.0.1) spelled.0 t0.0 in
       let t2 = parcel_takes q.0 p.0.1 u.0 t0.0.rest_fits u.1 in
       let all = Takes-behind 3 bytes (block (command_bytes q.0) ++ parcel_bytes u.0.0) u.0.1 (Takes-then bytes (block (command_bytes q.0)) p.0.1 (parcel_bytes u.0.0) u.0.1 t1 t2.0) in
-      let v = step.Command q.0 u.0.0 in
-      let made : Takes (3 ∷ bytes) (step_bytes v) u.0.1 × IsStep v = (all, (spelled.1, t2.1)) in
-      subst (λ (y : Step × List ℕ). Takes (3 ∷ bytes) (step_bytes y.0) y.1 × IsStep y.0) (some_is (v, u.0.1) x u.2) made;
+      let s = step.Command q.0 u.0.0 in
+      let made : Takes (3 ∷ bytes) (step_bytes s) u.0.1 × IsStepIn v s = (all, (spelled.1, t2.1)) in
+      subst (λ (y : Step × List ℕ). Takes (3 ∷ bytes) (step_bytes y.0) y.1 × IsStepIn v y.0) (some_is (s, u.0.1) x u.2) made;
 }
 
-open_row : Row step_bytes IsStep 0 open_from
+open_row : (v : Version) → Row step_bytes (IsStepIn v) 0 open_from
 unfolding open_from
-open_row = thrice_row step_bytes IsStep word_from word (λ n. n < 2 ^ 32) words 0 step.Open (λ a b c. refl) (λ a b c p q r. (p, q, r))
+open_row v = thrice_row step_bytes (IsStepIn v) word_from word (λ n. n < 2 ^ 32) words 0 step.Open (λ a b c. refl) (λ a b c p q r. (p, q, r))
 
-step_rows_right : AllByRecursion (RowOf step_bytes IsStep) step_rows
-step_rows_right = (
-  open_row,
+later_rows_right : (v : Version) → AllByRecursion (RowOf step_bytes (IsStepIn v)) (later_step_rows v)
+later_rows_right One = tt
+later_rows_right Two = (numbered_row step_bytes (IsStepIn Two) bit bits 7 step.SetSpam (λ on. refl) (λ on. refl), tt)
+
+step_rows_right : (v : Version) → AllByRecursion (RowOf step_bytes (IsStepIn v)) (step_rows v)
+step_rows_right v = (
+  open_row v,
   (
-    once_row step_bytes IsStep word_from word (λ n. n < 2 ^ 32) words 1 step.Attach (λ n. refl) (λ n p. p),
+    once_row step_bytes (IsStepIn v) word_from word (λ n. n < 2 ^ 32) words 1 step.Attach (λ n. refl) (λ n p. p),
     (
-      bare_row step_bytes IsStep 2 step.SetManager refl tt,
+      bare_row step_bytes (IsStepIn v) 2 step.SetManager refl tt,
       (
-        command_row,
+        command_row v,
         (
-          once_row step_bytes IsStep word_from word (λ n. n < 2 ^ 32) words 4 step.Read (λ n. refl) (λ n p. p),
+          once_row step_bytes (IsStepIn v) word_from word (λ n. n < 2 ^ 32) words 4 step.Read (λ n. refl) (λ n p. p),
           (
-            bare_row step_bytes IsStep 5 step.ExitThread refl tt,
-            (bare_row step_bytes IsStep 6 step.ExitProcess refl tt, tt),
+            bare_row step_bytes (IsStepIn v) 5 step.ExitThread refl tt,
+            (bare_row step_bytes (IsStepIn v) 6 step.ExitProcess refl tt, later_rows_right v),
           ),
         ),
       ),
@@ -142,9 +148,9 @@ step_rows_right = (
   ),
 )
 
-step_takes : (bytes : List ℕ) (x : Step × List ℕ) → IsBytes bytes → step_from bytes ≡ Some x → Takes bytes (step_bytes x.0) x.1 × IsStep x.0
+step_takes : (v : Version) (bytes : List ℕ) (x : Step × List ℕ) → IsBytes bytes → step_from v bytes ≡ Some x → Takes bytes (step_bytes x.0) x.1 × IsStepIn v x.0
 unfolding step_from
-step_takes bytes x fits e = rows_take step_bytes IsStep step_rows step_rows_right bytes x fits e
+step_takes v bytes x fits e = rows_take step_bytes (IsStepIn v) (step_rows v) (step_rows_right v) bytes x fits e
 
 open_again : (a b c : ℕ) (rest : List ℕ) → a < 2 ^ 32 → b < 2 ^ 32 → c < 2 ^ 32 → open_from (word a ++ word b ++ word c ++ rest) ≡ Some (step.Open a b c, rest)
 unfolding open_from
@@ -164,15 +170,25 @@ number_step_again make n rest lt = ap (λ (o : Option (ℕ × List ℕ)). o >>= 
 front_short : (tag : ℕ) (a b : List ℕ) → IsBlock (tag ∷ block a ++ b) → IsBlock a
 front_short tag a b short = omega (arith, length-append a b)
 
-step_again : (s : Step) (rest : List ℕ) → IsStep s → IsBlock (step_bytes s) → step_from (step_bytes s ++ rest) ≡ Some (s, rest)
+bit_again : (on : Bool) → numbered bit bits (bit on) ≡ Some on
+bit_again true = refl
+bit_again false = refl
+
+spam_again : (v : Version) (on : Bool) (rest : List ℕ) → has_spam v ≡ true → tagged (later_step_rows v) 7 (bit on ∷ rest) ≡ Some (step.SetSpam on, rest)
+unfolding byte_from
+spam_again One on rest has = absurd cc
+spam_again Two on rest has = ap (λ (o : Option Bool). o >>= λ a. Some (step.SetSpam a, rest)) (bit_again on)
+
+step_again : (v : Version) (s : Step) (rest : List ℕ) → IsStepIn v s → IsBlock (step_bytes s) → step_from v (step_bytes s ++ rest) ≡ Some (s, rest)
 unfolding step_from byte_from
-step_again (step.Open a b c) rest fits short = open_again a b c rest fits.0 fits.1 fits.2
-step_again (step.Attach n) rest fits short = number_step_again step.Attach n rest fits
-step_again step.SetManager rest fits short = refl
-step_again (step.Command c p) rest fits short = command_step_again c p rest (front_short 3 (command_bytes c) (parcel_bytes p) short) fits.0 fits.1
-step_again (step.Read n) rest fits short = number_step_again step.Read n rest fits
-step_again step.ExitThread rest fits short = refl
-step_again step.ExitProcess rest fits short = refl
+step_again v (step.Open a b c) rest fits short = open_again a b c rest fits.0 fits.1 fits.2
+step_again v (step.Attach n) rest fits short = number_step_again step.Attach n rest fits
+step_again v step.SetManager rest fits short = refl
+step_again v (step.SetSpam on) rest fits short = spam_again v on rest fits
+step_again v (step.Command c p) rest fits short = command_step_again c p rest (front_short 3 (command_bytes c) (parcel_bytes p) short) fits.0 fits.1
+step_again v (step.Read n) rest fits short = number_step_again step.Read n rest fits
+step_again v step.ExitThread rest fits short = refl
+step_again v step.ExitProcess rest fits short = refl
 
 -- ---- answers
 
@@ -258,60 +274,60 @@ whole_again read spell a rest e short = rw (blocks.again (spell a) rest short, e
 
 -- ---- entries
 
-entry_takes : (seats : ℕ) (bytes : List ℕ) (x : Entry × List ℕ) → IsBytes bytes → entry_from seats bytes ≡ Some x → Takes bytes (entry_bytes x.0) x.1 × IsEntry seats x.0
+entry_takes : (v : Version) (seats : ℕ) (bytes : List ℕ) (x : Entry × List ℕ) → IsBytes bytes → entry_from v seats bytes ≡ Some x → Takes bytes (entry_bytes x.0) x.1 × IsEntryIn v seats x.0
 unfolding entry_from
-entry_takes seats bytes x fits e =
-    let p = bind_some (word_from bytes) (λ a. whole_block_from step_from a.1 >>= λ b. whole_block_from answer_from b.1 >>= λ c. cond (ltb a.0 seats) (Some (record { seat = a.0; step = b.0; answer = c.0 }, c.1)) None) x e in
-    let q = bind_some (whole_block_from step_from p.0.1) (λ b. whole_block_from answer_from b.1 >>= λ c. cond (ltb p.0.0 seats) (Some (record { seat = p.0.0; step = b.0; answer = c.0 }, c.1)) None) x p.2 in
+entry_takes v seats bytes x fits e =
+    let p = bind_some (word_from bytes) (λ a. whole_block_from (step_from v) a.1 >>= λ b. whole_block_from answer_from b.1 >>= λ c. cond (ltb a.0 seats) (Some (record { seat = a.0; step = b.0; answer = c.0 }, c.1)) None) x e in
+    let q = bind_some (whole_block_from (step_from v) p.0.1) (λ b. whole_block_from answer_from b.1 >>= λ c. cond (ltb p.0.0 seats) (Some (record { seat = p.0.0; step = b.0; answer = c.0 }, c.1)) None) x p.2 in
     let u = bind_some (whole_block_from answer_from q.0.1) (λ c. cond (ltb p.0.0 seats) (Some (record { seat = p.0.0; step = q.0.0; answer = c.0 }, c.1)) None) x q.2 in
-    let v : Entry = record { seat = p.0.0; step = q.0.0; answer = u.0.0 } in
-    let d = demand_some (ltb p.0.0 seats) (Some (v, u.0.1)) x u.2 in
+    let one : Entry = record { seat = p.0.0; step = q.0.0; answer = u.0.0 } in
+    let d = demand_some (ltb p.0.0 seats) (Some (one, u.0.1)) x u.2 in
     let t0 = words.takes bytes p.0 fits p.1 in
-    let t1 = whole_takes step_from step_bytes IsStep step_takes p.0.1 q.0 t0.0.rest_fits q.1 in
+    let t1 = whole_takes (step_from v) step_bytes (IsStepIn v) (step_takes v) p.0.1 q.0 t0.0.rest_fits q.1 in
     let t2 = whole_takes answer_from answer_bytes IsAnswer answer_takes q.0.1 u.0 t1.0.rest_fits u.1 in
     let two = Takes-then bytes (word p.0.0) p.0.1 (block (step_bytes q.0.0)) q.0.1 t0.0 t1.0 in
     let all = Takes-then bytes (word p.0.0 ++ block (step_bytes q.0.0)) q.0.1 (block (answer_bytes u.0.0)) u.0.1 two t2.0 in
-    let made : Takes bytes (entry_bytes v) u.0.1 × IsEntry seats v = (all, record { seat = ltb-true _ _ d.0; step = t1.1; step_block = t1.2; answer = t2.1; answer_block = t2.2 }) in
-    subst (λ (y : Entry × List ℕ). Takes bytes (entry_bytes y.0) y.1 × IsEntry seats y.0) (some_is (v, u.0.1) x d.1) made
+    let made : Takes bytes (entry_bytes one) u.0.1 × IsEntryIn v seats one = (all, record { seat = ltb-true _ _ d.0; step = t1.1; step_block = t1.2; answer = t2.1; answer_block = t2.2 }) in
+    subst (λ (y : Entry × List ℕ). Takes bytes (entry_bytes y.0) y.1 × IsEntryIn v seats y.0) (some_is (one, u.0.1) x d.1) made
 
-entry_again : (seats : ℕ) (e : Entry) (rest : List ℕ) → seats ≤ 16 → IsEntry seats e → entry_from seats (entry_bytes e ++ rest) ≡ Some (e, rest)
+entry_again : (v : Version) (seats : ℕ) (e : Entry) (rest : List ℕ) → seats < 2 ^ 32 → IsEntryIn v seats e → entry_from v seats (entry_bytes e ++ rest) ≡ Some (e, rest)
 unfolding entry_from
-entry_again seats e rest few fits =
-    let done : step_from (step_bytes e.step) ≡ Some (e.step, []) = ap step_from (sym (append-nil (step_bytes e.step))) ∙ step_again e.step [] fits.step fits.step_block in
+entry_again v seats e rest few fits =
+    let done : step_from v (step_bytes e.step) ≡ Some (e.step, []) = ap (step_from v) (sym (append-nil (step_bytes e.step))) ∙ step_again v e.step [] fits.step fits.step_block in
     let given : answer_from (answer_bytes e.answer) ≡ Some (e.answer, []) = ap answer_from (sym (append-nil (answer_bytes e.answer))) ∙ answer_again e.answer [] fits.answer in
     let regrouped : entry_bytes e ++ rest ≡ word e.seat ++ (block (step_bytes e.step) ++ (block (answer_bytes e.answer) ++ rest)) =
     append_assoc (word e.seat ++ block (step_bytes e.step)) (block (answer_bytes e.answer)) rest ∙ append_assoc (word e.seat) (block (step_bytes e.step)) (block (answer_bytes e.answer) ++ rest) in
-    let seat : e.seat < 2 ^ 32 = omega (arith, fits.seat) in
-    ap (entry_from seats) regrouped
+    let seat : e.seat < 2 ^ 32 = omega (arith, fits.seat, few) in
+    ap (entry_from v seats) regrouped
     ∙ rw (
       words.again e.seat (block (step_bytes e.step) ++ (block (answer_bytes e.answer) ++ rest)) seat,
-      whole_again step_from step_bytes e.step (block (answer_bytes e.answer) ++ rest) done fits.step_block,
+      whole_again (step_from v) step_bytes e.step (block (answer_bytes e.answer) ++ rest) done fits.step_block,
       whole_again answer_from answer_bytes e.answer rest given fits.answer_block,
       lt-ltb e.seat seats fits.seat,
     ) refl
 
-entries_take : (seats n : ℕ) (bytes : List ℕ) (x : List Entry × List ℕ) → IsBytes bytes → entries_from seats n bytes ≡ Some x → Takes bytes (flat_map entry_bytes x.0) x.1 × (length x.0 ≡ n) × AllByRecursion (IsEntry seats) x.0
+entries_take : (v : Version) (seats n : ℕ) (bytes : List ℕ) (x : List Entry × List ℕ) → IsBytes bytes → entries_from v seats n bytes ≡ Some x → Takes bytes (flat_map entry_bytes x.0) x.1 × (length x.0 ≡ n) × AllByRecursion (IsEntryIn v seats) x.0
 unfolding entries_from
-entries_take seats zero bytes x fits e =
+entries_take v seats zero bytes x fits e =
     let made : Takes bytes [] bytes × (zero ≡ zero) × Unit {0} = (record { parts = refl; rest_fits = fits }, refl, tt) in
-    subst (λ (y : List Entry × List ℕ). Takes bytes (flat_map entry_bytes y.0) y.1 × (length y.0 ≡ zero) × AllByRecursion (IsEntry seats) y.0) (some_is ([], bytes) x e) made
-entries_take seats (suc n) bytes x fits e =
-    let a = bind_some (entry_from seats bytes) (λ first. entries_from seats n first.1 >>= λ others. Some (first.0 ∷ others.0, others.1)) x e in
-    let b = bind_some (entries_from seats n a.0.1) (λ others. Some (a.0.0 ∷ others.0, others.1)) x a.2 in
-    let first = entry_takes seats bytes a.0 fits a.1 in
-    let second = entries_take seats n a.0.1 b.0 first.0.rest_fits b.1 in
+    subst (λ (y : List Entry × List ℕ). Takes bytes (flat_map entry_bytes y.0) y.1 × (length y.0 ≡ zero) × AllByRecursion (IsEntryIn v seats) y.0) (some_is ([], bytes) x e) made
+entries_take v seats (suc n) bytes x fits e =
+    let a = bind_some (entry_from v seats bytes) (λ first. entries_from v seats n first.1 >>= λ others. Some (first.0 ∷ others.0, others.1)) x e in
+    let b = bind_some (entries_from v seats n a.0.1) (λ others. Some (a.0.0 ∷ others.0, others.1)) x a.2 in
+    let first = entry_takes v seats bytes a.0 fits a.1 in
+    let second = entries_take v seats n a.0.1 b.0 first.0.rest_fits b.1 in
     let both = Takes-then bytes (entry_bytes a.0.0) a.0.1 (flat_map entry_bytes b.0.0) b.0.1 first.0 second.0 in
-    let v : List Entry × List ℕ = (a.0.0 ∷ b.0.0, b.0.1) in
-    let made : Takes bytes (flat_map entry_bytes v.0) v.1 × (length v.0 ≡ suc n) × AllByRecursion (IsEntry seats) v.0 = (both, ap suc second.1, (first.1, second.2)) in
-    subst (λ (y : List Entry × List ℕ). Takes bytes (flat_map entry_bytes y.0) y.1 × (length y.0 ≡ suc n) × AllByRecursion (IsEntry seats) y.0) (some_is v x b.2) made
+    let all : List Entry × List ℕ = (a.0.0 ∷ b.0.0, b.0.1) in
+    let made : Takes bytes (flat_map entry_bytes all.0) all.1 × (length all.0 ≡ suc n) × AllByRecursion (IsEntryIn v seats) all.0 = (both, ap suc second.1, (first.1, second.2)) in
+    subst (λ (y : List Entry × List ℕ). Takes bytes (flat_map entry_bytes y.0) y.1 × (length y.0 ≡ suc n) × AllByRecursion (IsEntryIn v seats) y.0) (some_is all x b.2) made
 
-entries_again : (seats : ℕ) (es : List Entry) (rest : List ℕ) → seats ≤ 16 → AllByRecursion (IsEntry seats) es → entries_from seats (length es) (flat_map entry_bytes es ++ rest) ≡ Some (es, rest)
+entries_again : (v : Version) (seats : ℕ) (es : List Entry) (rest : List ℕ) → seats < 2 ^ 32 → AllByRecursion (IsEntryIn v seats) es → entries_from v seats (length es) (flat_map entry_bytes es ++ rest) ≡ Some (es, rest)
 unfolding entries_from
-entries_again seats [] rest few fits = refl
-entries_again seats (e ∷ es) rest few fits =
+entries_again v seats [] rest few fits = refl
+entries_again v seats (e ∷ es) rest few fits =
     let regrouped : flat_map entry_bytes (e ∷ es) ++ rest ≡ entry_bytes e ++ (flat_map entry_bytes es ++ rest) =
     ap (λ (t : List ℕ). t ++ rest) (flat_map-cons entry_bytes e es) ∙ append_assoc (entry_bytes e) (flat_map entry_bytes es) rest in
-    ap (entries_from seats (suc (length es))) regrouped ∙ rw (entry_again seats e (flat_map entry_bytes es ++ rest) few fits.0, entries_again seats es rest few fits.1) refl
+    ap (entries_from v seats (suc (length es))) regrouped ∙ rw (entry_again v seats e (flat_map entry_bytes es ++ rest) few fits.0, entries_again v seats es rest few fits.1) refl
 
 -- ---- journals
 
@@ -319,66 +335,98 @@ both_true : (a b : Bool) → (a && b) ≡ true → (a ≡ true) × (b ≡ true)
 both_true true b e = (refl, e)
 both_true false b e = absurd cc
 
-magic_takes : (bytes rest : List ℕ) → IsBytes bytes → behind_magic bytes ≡ Some rest → Takes bytes magic rest
-unfolding behind_magic
-magic_takes bytes rest fits e =
-    let d = demand_some (bytes_eq (take 8 bytes) magic) (Some (drop 8 bytes)) rest e in
-    let front : take 8 bytes ≡ magic = same_text (take 8 bytes) magic (sym d.0) in
-    let made : Takes bytes magic (drop 8 bytes) = record { parts = sym (take-append-drop 8 bytes) ∙ ap (λ (t : List ℕ). t ++ drop 8 bytes) front; rest_fits = IsBytes-drop 8 bytes fits } in
-    subst (λ (y : List ℕ). Takes bytes magic y) (some_is (drop 8 bytes) rest d.1) made
+magic_takes : (bytes : List ℕ) (x : Version × List ℕ) → IsBytes bytes → version_from bytes ≡ Some x → Takes bytes (magic x.0) x.1
+unfolding version_from
+magic_takes bytes x fits e = by (bytes_eq (take 8 bytes) (magic Two)) (bytes_eq (take 8 bytes) (magic One)) refl refl e
+  where
+    begins : (v : Version) → bytes_eq (take 8 bytes) (magic v) ≡ true → Takes bytes (magic v) (drop 8 bytes)
+    begins v is = record {
+      parts = sym (take-append-drop 8 bytes) ∙ ap (λ (t : List ℕ). t ++ drop 8 bytes) (same_text (take 8 bytes) (magic v) (sym is));
+      rest_fits = IsBytes-drop 8 bytes fits;
+    }
 
-magic_again : (rest : List ℕ) → behind_magic (magic ++ rest) ≡ Some rest
-unfolding behind_magic
-magic_again rest = refl
+    by : (two one : Bool) → bytes_eq (take 8 bytes) (magic Two) ≡ two → bytes_eq (take 8 bytes) (magic One) ≡ one
+        → cond two (Some (Two, drop 8 bytes)) (cond one (Some (One, drop 8 bytes)) None) ≡ Some x → Takes bytes (magic x.0) x.1
+    by true one p q f = subst (λ (y : Version × List ℕ). Takes bytes (magic y.0) y.1) (some_is (Two, drop 8 bytes) x f) (begins Two p)
+    by false true p q f = subst (λ (y : Version × List ℕ). Takes bytes (magic y.0) y.1) (some_is (One, drop 8 bytes) x f) (begins One q)
+    by false false p q f = let h : None ≡ Some x = f in absurd (none_is_not_some x h)
 
-abbrev seats_fit : ℕ → Bool
-seats_fit n = leb 1 n && leb n 16
+magic_again : (v : Version) (rest : List ℕ) → version_from (magic v ++ rest) ≡ Some (v, rest)
+unfolding version_from
+magic_again One rest = refl
+magic_again Two rest = refl
 
-seats_take : (bytes : List ℕ) (x : ℕ × List ℕ) → IsBytes bytes → seats_from bytes ≡ Some x → Takes bytes (magic ++ word x.0) x.1 × (1 ≤ x.0) × (x.0 ≤ 16)
+abbrev seats_fit : Version → ℕ → Bool
+seats_fit v n = leb 1 n && leb n (most_seats_in v)
+
+seats_take : (v : Version) (bytes : List ℕ) (x : ℕ × List ℕ) → IsBytes bytes → seats_from v bytes ≡ Some x → Takes bytes (word x.0) x.1 × (1 ≤ x.0) × (x.0 ≤ most_seats_in v)
 unfolding seats_from
-seats_take bytes x fits e =
-    let p = bind_some (behind_magic bytes) (λ a. word_from a >>= λ b. cond (seats_fit b.0) (Some b) None) x e in
-    let q = bind_some (word_from p.0) (λ b. cond (seats_fit b.0) (Some b) None) x p.2 in
-    let d = demand_some (seats_fit q.0.0) (Some q.0) x q.2 in
+seats_take v bytes x fits e =
+    let p = bind_some (word_from bytes) (λ b. cond (seats_fit v b.0) (Some b) None) x e in
+    let d = demand_some (seats_fit v p.0.0) (Some p.0) x p.2 in
     let limits = both_true _ _ d.0 in
-    let t0 = magic_takes bytes p.0 fits p.1 in
-    let t1 = words.takes p.0 q.0 t0.rest_fits q.1 in
-    let all : Takes bytes (magic ++ word q.0.0) q.0.1 = Takes-then bytes magic p.0 (word q.0.0) q.0.1 t0 t1.0 in
-    let made : Takes bytes (magic ++ word q.0.0) q.0.1 × (1 ≤ q.0.0) × (q.0.0 ≤ 16) = (all, leb-true _ _ limits.0, leb-true _ _ limits.1) in
-    subst (λ (y : ℕ × List ℕ). Takes bytes (magic ++ word y.0) y.1 × (1 ≤ y.0) × (y.0 ≤ 16)) (some_is q.0 x d.1) made
+    let t = words.takes bytes p.0 fits p.1 in
+    let made : Takes bytes (word p.0.0) p.0.1 × (1 ≤ p.0.0) × (p.0.0 ≤ most_seats_in v) = (t.0, leb-true _ _ limits.0, leb-true _ _ limits.1) in
+    subst (λ (y : ℕ × List ℕ). Takes bytes (word y.0) y.1 × (1 ≤ y.0) × (y.0 ≤ most_seats_in v)) (some_is p.0 x d.1) made
 
-seats_again : (n : ℕ) (rest : List ℕ) → 1 ≤ n → n ≤ 16 → seats_from (magic ++ (word n ++ rest)) ≡ Some (n, rest)
+-- a number of seats has its width
+seats_small : (v : Version) (n : ℕ) → n ≤ most_seats_in v → n < 2 ^ 32
+seats_small One n few = omega (arith, few)
+seats_small Two n few = omega (arith, few)
+
+seats_again : (v : Version) (n : ℕ) (rest : List ℕ) → 1 ≤ n → n ≤ most_seats_in v → seats_from v (word n ++ rest) ≡ Some (n, rest)
 unfolding seats_from
-seats_again n rest some few =
-    let small : n < 2 ^ 32 = omega arith in
-    rw (magic_again (word n ++ rest), words.again n rest small, le-leb 1 n some, le-leb n 16 few) refl
+seats_again v n rest some few = rw (words.again n rest (seats_small v n few), le-leb 1 n some, le-leb n (most_seats_in v) few) refl
 
-pub journal_takes : (bytes : List ℕ) (r : Record) → IsBytes bytes → journal_in bytes ≡ Some r → IsJournal r × (bytes ≡ journal_bytes r)
+-- what is read behind the magic is a journal of this version
+record_takes : (v : Version) (bytes behind : List ℕ) (r : Record) → Takes bytes (magic v) behind → record_from v behind ≡ Some r → IsJournalIn v r × (bytes ≡ spelling_in v r)
+unfolding record_from
+record_takes v bytes behind r begun e =
+    let p = bind_some (seats_from v behind) (λ a. word_from a.1 >>= λ b. entries_from v a.0 b.0 b.1 >>= λ c. cond (eqb (length c.1) 0) (Some (record { seats = a.0; entries = c.0 })) None) r e in
+    let q = bind_some (word_from p.0.1) (λ b. entries_from v p.0.0 b.0 b.1 >>= λ c. cond (eqb (length c.1) 0) (Some (record { seats = p.0.0; entries = c.0 })) None) r p.2 in
+    let u = bind_some (entries_from v p.0.0 q.0.0 q.0.1) (λ c. cond (eqb (length c.1) 0) (Some (record { seats = p.0.0; entries = c.0 })) None) r q.2 in
+    let found : Record = record { seats = p.0.0; entries = u.0.0 } in
+    let d = demand_some (eqb (length u.0.1) 0) (Some found) r u.2 in
+    let s = seats_take v behind p.0 begun.rest_fits p.1 in
+    let t0 : Takes bytes (magic v ++ word p.0.0) p.0.1 = Takes-then bytes (magic v) behind (word p.0.0) p.0.1 begun s.0 in
+    let t1 = words.takes p.0.1 q.0 t0.rest_fits q.1 in
+    let t2 = entries_take v p.0.0 q.0.0 q.0.1 u.0 t1.0.rest_fits u.1 in
+    let nothing : u.0.1 ≡ [] = nil_from_length u.0.1 (eqb-true _ _ d.0) in
+    let heading : Takes bytes (magic v ++ word p.0.0 ++ word (length u.0.0)) q.0.1 =
+    subst (λ (n : ℕ). Takes bytes (magic v ++ word p.0.0 ++ word n) q.0.1) (sym t2.1) (Takes-then bytes (magic v ++ word p.0.0) p.0.1 (word q.0.0) q.0.1 t0 t1.0) in
+    let parts = (Takes-then bytes (heading_in v p.0.0 (length u.0.0)) q.0.1 (flat_map entry_bytes u.0.0) u.0.1 heading t2.0).parts in
+    let all : bytes ≡ spelling_in v found = parts ∙ ap (λ (t : List ℕ). spelling_in v found ++ t) nothing ∙ append-nil (spelling_in v found) in
+    let made : IsJournalIn v found × (bytes ≡ spelling_in v found) = (record { some_seat = s.1; seats = s.2; count = omega (arith, t1.1, t2.1); entries = t2.2 }, all) in
+    subst (λ (y : Record). IsJournalIn v y × (bytes ≡ spelling_in v y)) (some_is found r d.1) made
+
+journal_takes : (bytes : List ℕ) (r : Record) → IsBytes bytes → journal_in bytes ≡ Some r → Tells bytes r
 unfolding journal_in
 journal_takes bytes r fits e =
-    let p = bind_some (seats_from bytes) (λ a. word_from a.1 >>= λ b. entries_from a.0 b.0 b.1 >>= λ c. cond (eqb (length c.1) 0) (Some (record { seats = a.0; entries = c.0 })) None) r e in
-    let q = bind_some (word_from p.0.1) (λ b. entries_from p.0.0 b.0 b.1 >>= λ c. cond (eqb (length c.1) 0) (Some (record { seats = p.0.0; entries = c.0 })) None) r p.2 in
-    let u = bind_some (entries_from p.0.0 q.0.0 q.0.1) (λ c. cond (eqb (length c.1) 0) (Some (record { seats = p.0.0; entries = c.0 })) None) r q.2 in
-    let v : Record = record { seats = p.0.0; entries = u.0.0 } in
-    let d = demand_some (eqb (length u.0.1) 0) (Some v) r u.2 in
-    let t0 = seats_take bytes p.0 fits p.1 in
-    let t1 = words.takes p.0.1 q.0 t0.0.rest_fits q.1 in
-    let t2 = entries_take p.0.0 q.0.0 q.0.1 u.0 t1.0.rest_fits u.1 in
-    let nothing : u.0.1 ≡ [] = nil_from_length u.0.1 (eqb-true _ _ d.0) in
-    let heading : Takes bytes (magic ++ word p.0.0 ++ word (length u.0.0)) q.0.1 =
-    subst (λ (n : ℕ). Takes bytes (magic ++ word p.0.0 ++ word n) q.0.1) (sym t2.1) (Takes-then bytes (magic ++ word p.0.0) p.0.1 (word q.0.0) q.0.1 t0.0 t1.0) in
-    let parts = (Takes-then bytes (heading_bytes p.0.0 (length u.0.0)) q.0.1 (flat_map entry_bytes u.0.0) u.0.1 heading t2.0).parts in
-    let all : bytes ≡ journal_bytes v = parts ∙ ap (λ (t : List ℕ). journal_bytes v ++ t) nothing ∙ append-nil (journal_bytes v) in
-    let made : IsJournal v × (bytes ≡ journal_bytes v) = (record { some_seat = t0.1; seats = t0.2; count = omega (arith, t1.1, t2.1); entries = t2.2 }, all) in
-    subst (λ (y : Record). IsJournal y × (bytes ≡ journal_bytes y)) (some_is v r d.1) made
+    let p = bind_some (version_from bytes) (λ x. record_from x.0 x.1) r e in
+    let t = record_takes p.0.0 bytes p.0.1 r (magic_takes bytes p.0 fits p.1) p.2 in
+    (p.0.0, t.0, t.1)
 
-pub journal_again : (r : Record) → IsJournal r → journal_in (journal_bytes r) ≡ Some r
+-- what stands behind the magic
+abbrev behind : Record → List ℕ
+behind r = word r.seats ++ (word (length r.entries) ++ flat_map entry_bytes r.entries)
+
+record_again : (v : Version) (r : Record) → IsJournalIn v r → record_from v (behind r) ≡ Some r
+unfolding record_from
+record_again v r fits =
+    let rest : entries_from v r.seats (length r.entries) (flat_map entry_bytes r.entries) ≡ Some (r.entries, []) =
+    ap (entries_from v r.seats (length r.entries)) (sym (append-nil (flat_map entry_bytes r.entries))) ∙ entries_again v r.seats r.entries [] (seats_small v r.seats fits.seats) fits.entries in
+    rw (seats_again v r.seats (word (length r.entries) ++ flat_map entry_bytes r.entries) fits.some_seat fits.seats, words.again (length r.entries) (flat_map entry_bytes r.entries) fits.count, rest) refl
+
+journal_again : (v : Version) (r : Record) → IsJournalIn v r → journal_in (spelling_in v r) ≡ Some r
 unfolding journal_in
-journal_again r fits =
-    let rest : entries_from r.seats (length r.entries) (flat_map entry_bytes r.entries) ≡ Some (r.entries, []) =
-    ap (entries_from r.seats (length r.entries)) (sym (append-nil (flat_map entry_bytes r.entries))) ∙ entries_again r.seats r.entries [] fits.seats fits.entries in
-    rw (seats_again r.seats (word (length r.entries) ++ flat_map entry_bytes r.entries) fits.some_seat fits.seats, words.again (length r.entries) (flat_map entry_bytes r.entries) fits.count, rest) refl
+journal_again v r fits =
+    let regrouped : spelling_in v r ≡ magic v ++ behind r =
+    append_assoc (magic v ++ word r.seats) (word (length r.entries)) (flat_map entry_bytes r.entries) ∙ append_assoc (magic v) (word r.seats) (word (length r.entries) ++ flat_map entry_bytes r.entries) in
+    ap (λ (bytes : List ℕ). version_from bytes >>= λ x. record_from x.0 x.1) regrouped ∙ rw (magic_again v (behind r)) (record_again v r fits)
 
-pub is_found : (bytes : List ℕ) (r : Result Record ReadError) → IsBytes bytes → Gives (λ x. x) r (journal_in bytes) → IfOk r (λ x. IsJournal x × (bytes ≡ journal_bytes x))
+pub is_told : (bytes : List ℕ) (r : Record) → Tells bytes r → journal_in bytes ≡ Some r
+is_told bytes r told = ap journal_in told.2 ∙ journal_again told.0 r told.1
+
+pub is_found : (bytes : List ℕ) (r : Result Record ReadError) → IsBytes bytes → Gives (λ x. x) r (journal_in bytes) → IfOk r (Tells bytes)
 is_found bytes (Ok x) fits given = journal_takes bytes x fits given
 is_found bytes (Err e) fits given = tt

@@ -3,3 +3,4 @@ pub mod Pieces
 pub mod FieldLaws
 pub mod Tags
 pub mod Laws
+pub mod SeatsTold

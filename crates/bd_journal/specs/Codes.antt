@@ -1,5 +1,5 @@
--- The numbers of notes, causes and faults, and what each number names.
-use Rattle.std.specs.Prelude.{ℕ, ◌==◌, List, [], ◌∷◌, Option, Some, None, if◌then◌else◌}
+-- The numbers of switches, notes, causes and faults, and what each number names.
+use Rattle.std.specs.Prelude.{ℕ, ◌==◌, Bool, true, false, List, [], ◌∷◌, Option, Some, None, if◌then◌else◌}
 use Rattle.bd_uapi.specs.declared.fault.Note.{Note}
 use Rattle.bd_uapi.specs.declared.fault.Note.TheVariants as note
 use Rattle.bd_uapi.specs.declared.fault.Cause.{Cause}
@@ -11,6 +11,14 @@ use Rattle.bd_uapi.specs.declared.fault.Fault.TheVariants as fault
 abbrev pub numbered : {A : Type 0} → (A → ℕ) → List A → ℕ → Option A
 numbered number [] n = None
 numbered number (x ∷ xs) n = if n == number x then Some x else numbered number xs n
+
+-- off and on
+abbrev pub bit : Bool → ℕ
+bit false = 0
+bit true = 1
+
+abbrev pub bits : List Bool
+bits = false ∷ true ∷ []
 
 -- N1 to N11
 abbrev pub note_number : Note → ℕ

@@ -1,5 +1,5 @@
 -- Reading a journal from left to right, on lists of bytes.
-use Rattle.std.specs.Prelude.{◌≡◌, ℕ, zero, suc, nat_lt, nat_le, ◌==◌, Bool, ◌&&◌, List, [], ◌∷◌, length, take, drop, Option, Some, None, Result, Ok, Err, if◌then◌else◌}
+use Rattle.std.specs.Prelude.{◌≡◌, ℕ, zero, suc, nat_lt, nat_le, ◌==◌, Bool, ◌&&◌, List, [], ◌∷◌, length, take, drop, Option, Some, None, option_map, Result, Ok, Err, if◌then◌else◌}
 use Rattle.std.specs.Str.{bytes_eq}
 use Rattle.bd_uapi.specs.Bytes.{word_at}
 use Rattle.bd_uapi.specs.declared.fault.Fault.{Fault}
@@ -12,10 +12,12 @@ use Rattle.bd_space.specs.declared.step.StepAnswer.{StepAnswer}
 use Rattle.bd_space.specs.declared.step.StepAnswer.TheVariants as answer
 use Rattle.bd_space.specs.declared.step.Entry.{Entry}
 use Rattle.bd_space.specs.declared.record.Record.{Record}
+use Rattle.bd_journal.specs.declared.versions.Version.{Version}
+use Rattle.bd_journal.specs.declared.versions.Version.TheVariants.{One, Two}
 use Rattle.bd_journal.specs.declared.fault.ReadError.{ReadError}
 use Rattle.bd_journal.specs.declared.fault.ReadError.TheVariants as errors
-use Rattle.bd_journal.specs.Codes.{numbered, note_number, notes, cause_number, causes, fault_number, faults}
-use Rattle.bd_journal.specs.Spelling.{carries, magic}
+use Rattle.bd_journal.specs.Codes.{numbered, bit, bits, note_number, notes, cause_number, causes, fault_number, faults}
+use Rattle.bd_journal.specs.Spelling.{carries, magic, most_seats_in, has_spam}
 
 infixl 10 ◌>>=◌
 abbrev pub ◌>>=◌ : {A B : Type 0} → Option A → (A → Option B) → Option B
@@ -53,6 +55,10 @@ whole read bytes = read bytes >>= λ x. if length x.1 == 0 then Some x.0 else No
 abbrev pub whole_block_from : {A : Type 0} → (List ℕ → Option (A × List ℕ)) → List ℕ → Option (A × List ℕ)
 whole_block_from read bytes = block_from bytes >>= λ b. whole read b.0 >>= λ x. Some (x, b.1)
 
+-- the number of one of these
+abbrev pub numbered_from : {A B : Type 0} → (A → ℕ) → List A → (A → B) → List ℕ → Option (B × List ℕ)
+numbered_from number xs make bytes = byte_from bytes >>= λ n. numbered number xs n.0 >>= λ x. Some (make x, n.1)
+
 -- ---- steps
 
 abbrev pub spelled_by : ℕ → Result (Command × ℕ) Fault → Option Command
@@ -82,7 +88,7 @@ command_step_from bytes = do
   parcel ← parcel_from command spelled.1
   Some (step.Command command parcel.0, parcel.1)
 
--- three values of one kind, one after the other
+-- three values, read alike, one after the other
 abbrev pub thrice : {A V : Type 0} → (List ℕ → Option (V × List ℕ)) → (V → V → V → A) → List ℕ → Option (A × List ℕ)
 thrice read make bytes = read bytes >>= λ a. read a.1 >>= λ b. read b.1 >>= λ c. Some (make a.0 b.0 c.0, c.1)
 
@@ -102,8 +108,12 @@ tagged (row ∷ rows) tag rest = if tag == row.0 then row.1 rest else tagged row
 abbrev pub bare : {A : Type 0} → A → List ℕ → Option (A × List ℕ)
 bare x rest = Some (x, rest)
 
-abbrev pub step_rows : List (ℕ × (List ℕ → Option (Step × List ℕ)))
-step_rows =
+-- the rows that not all versions have
+abbrev pub later_step_rows : Version → List (ℕ × (List ℕ → Option (Step × List ℕ)))
+later_step_rows v = if has_spam v then ((7, numbered_from bit bits step.SetSpam) ∷ []) else []
+
+abbrev pub step_rows : Version → List (ℕ × (List ℕ → Option (Step × List ℕ)))
+step_rows v =
     (0, open_from)
     ∷ (1, number_step_from step.Attach)
     ∷ (2, bare step.SetManager)
@@ -111,16 +121,12 @@ step_rows =
     ∷ (4, number_step_from step.Read)
     ∷ (5, bare step.ExitThread)
     ∷ (6, bare step.ExitProcess)
-    ∷ []
+    ∷ later_step_rows v
 
-unfoldable pub step_from : List ℕ → Option (Step × List ℕ)
-step_from bytes = byte_from bytes >>= λ tag. tagged step_rows tag.0 tag.1
+unfoldable pub step_from : Version → List ℕ → Option (Step × List ℕ)
+step_from v bytes = byte_from bytes >>= λ tag. tagged (step_rows v) tag.0 tag.1
 
 -- ---- answers
-
--- an answer with the number of one of these
-abbrev pub numbered_from : {A : Type 0} → (A → ℕ) → List A → (A → StepAnswer) → List ℕ → Option (StepAnswer × List ℕ)
-numbered_from number xs make bytes = byte_from bytes >>= λ n. numbered number xs n.0 >>= λ x. Some (make x, n.1)
 
 unfoldable pub got_from : List ℕ → Option (StepAnswer × List ℕ)
 got_from bytes = thrice block_from answer.Got bytes
@@ -142,34 +148,44 @@ answer_from bytes = byte_from bytes >>= λ tag. tagged answer_rows tag.0 tag.1
 
 -- ---- the journal
 
-unfoldable pub entry_from : ℕ → List ℕ → Option (Entry × List ℕ)
-entry_from seats bytes = do
+unfoldable pub entry_from : Version → ℕ → List ℕ → Option (Entry × List ℕ)
+entry_from v seats bytes = do
   seat ← word_from bytes
-  done ← whole_block_from step_from seat.1
+  done ← whole_block_from (step_from v) seat.1
   given ← whole_block_from answer_from done.1
   if nat_lt seat.0 seats then Some (record { seat = seat.0; step = done.0; answer = given.0 }, given.1) else None
 
-unfoldable pub entries_from : ℕ → ℕ → List ℕ → Option (List Entry × List ℕ)
-entries_from seats zero bytes = Some ([], bytes)
-entries_from seats (suc n) bytes = do
-  first ← entry_from seats bytes
-  others ← entries_from seats n first.1
+unfoldable pub entries_from : Version → ℕ → ℕ → List ℕ → Option (List Entry × List ℕ)
+entries_from v seats zero bytes = Some ([], bytes)
+entries_from v seats (suc n) bytes = do
+  first ← entry_from v seats bytes
+  others ← entries_from v seats n first.1
   Some (first.0 ∷ others.0, others.1)
 
--- what stands behind the bytes that each journal begins with
-unfoldable pub behind_magic : List ℕ → Option (List ℕ)
-behind_magic bytes = if bytes_eq (take 8 bytes) magic then Some (drop 8 bytes) else None
+-- the version that the bytes begin as, and what stands behind that
+unfoldable pub version_from : List ℕ → Option (Version × List ℕ)
+version_from bytes =
+    if bytes_eq (take 8 bytes) (magic Two) then Some (Two, drop 8 bytes)
+    else if bytes_eq (take 8 bytes) (magic One) then Some (One, drop 8 bytes)
+    else None
 
--- the number of seats, behind them
-unfoldable pub seats_from : List ℕ → Option (ℕ × List ℕ)
-seats_from bytes = do
-  rest ← behind_magic bytes
-  seats ← word_from rest
-  if nat_le 1 seats.0 && nat_le seats.0 16 then Some seats else None
+-- what stands behind it, whichever it is
+unfoldable pub behind_magic : List ℕ → Option (List ℕ)
+behind_magic bytes = option_map (λ begun. begun.1) (version_from bytes)
+
+-- the number of seats, behind it
+unfoldable pub seats_from : Version → List ℕ → Option (ℕ × List ℕ)
+seats_from v bytes = do
+  seats ← word_from bytes
+  if nat_le 1 seats.0 && nat_le seats.0 (most_seats_in v) then Some seats else None
+
+-- all of the record, behind it
+unfoldable pub record_from : Version → List ℕ → Option Record
+record_from v bytes = do
+  seats ← seats_from v bytes
+  count ← word_from seats.1
+  entries ← entries_from v seats.0 count.0 count.1
+  if length entries.1 == 0 then Some (record { seats = seats.0; entries = entries.0 }) else None
 
 unfoldable pub journal_in : List ℕ → Option Record
-journal_in bytes = do
-  seats ← seats_from bytes
-  count ← word_from seats.1
-  entries ← entries_from seats.0 count.0 count.1
-  if length entries.1 == 0 then Some (record { seats = seats.0; entries = entries.0 }) else None
+journal_in bytes = version_from bytes >>= λ begun. record_from begun.0 begun.1

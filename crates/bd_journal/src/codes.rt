@@ -1,7 +1,7 @@
 //! The numbers by which outputs and journals name notes, causes and faults.
 
 ghost use Rattle.std.specs.Prelude.{◌≡◌};
-ghost use Rattle.bd_journal.specs.Codes.{note_number, notes, cause_number, causes, fault_number, faults, numbered};
+ghost use Rattle.bd_journal.specs.Codes.{bit, bits, note_number, notes, cause_number, causes, fault_number, faults, numbered};
 
 use bd_uapi::{Cause, Fault, Note};
 
@@ -24,6 +24,17 @@ pub fn fault_number(fault: Fault) -> u8
     ensures { result ≡ fault_number fault }
 {
     fault as u8 + 1
+}
+
+// Off or on, by its number.
+pub fn switch_with(number: u8) -> Option<bool>
+    ensures { result ≡ numbered bit bits number }
+{
+    match number {
+        0 => Some(false),
+        1 => Some(true),
+        _ => None,
+    }
 }
 
 // The note with this number.

@@ -6,9 +6,11 @@ mod fault;
 mod fields;
 mod reading;
 mod sending;
+mod versions;
 mod writing;
 
 pub use codes::{cause_number, fault_number, note_number};
 pub use fault::{ReadError, WriteError};
-pub use reading::{behind_magic, read_journal};
+pub use reading::read_journal;
+pub use versions::{Version, behind_magic};
 pub use writing::{COUNT_AT, write_entry, write_heading, write_journal};

@@ -10,11 +10,12 @@ ghost use Rattle.bd_journal.specs.Spelling.{IsBlock, IsParcel, IsStep, IsAnswer,
 
 use crate::codes::{cause_number, fault_number, note_number};
 use crate::fault::{Refused, WriteError};
-use crate::reading::{MAGIC, carries_parcel};
+use crate::reading::carries_parcel;
 use crate::sending::{send, send_all};
+use crate::versions::MAGIC_TWO;
 use bd_codec::spell_command;
-use bd_space::{Bytes, Entry, MOST_SEATS, Parcel, Record, Step, StepAnswer};
-use bd_uapi::Command;
+use bd_space::{Bytes, Entry, Parcel, Record, Step, StepAnswer};
+use bd_uapi::{Command, MOST_SEATS};
 use std::io::Write;
 
 // The length of bytes with their length before them.
@@ -64,6 +65,7 @@ fn step_len(step: &Step) -> Option<u32>
             Some(5)
         }
         Step::SetManager | Step::ExitThread | Step::ExitProcess => Some(1),
+        Step::SetSpam { on: _ } => Some(2),
         Step::Command { command, parcel } => {
             let parcel = parcel_len(command, parcel)?;
             short(5 + spell_command(command).as_slice().len() as u64 + parcel)
@@ -134,6 +136,7 @@ fn send_step<W: Write>(step: &Step, out: &mut W) -> Result<(), Refused>
         }
         Step::Attach { pid } => send_all(&[&[1], &pid.to_le_bytes()], out),
         Step::SetManager => send(&[2], out),
+        Step::SetSpam { on } => send(&[7, u8::from(*on)], out),
         Step::Command { command, parcel } => send_command(command, parcel, out),
         Step::Read { limit } => send_all(&[&[4], &limit.to_le_bytes()], out),
         Step::ExitThread => send(&[5], out),
@@ -226,7 +229,7 @@ pub const COUNT_AT: usize = 12;
 /// with 4294967295 and the right number at [`COUNT_AT`] once all are there: until then no reader takes it for a journal.
 ///
 /// # Errors
-/// `Unspellable` where there are no seats, more than 16, or more than 4294967295 entries; then nothing is written.
+/// `Unspellable` where there are no seats, more than 31, or more than 4294967295 entries; then nothing is written.
 /// `Refused` where the writer takes no more: what was written is a beginning.
 pub fn write_heading<W: Write>(seats: u32, count: usize, out: &mut W) -> Result<(), WriteError>
     ensures sends { Sends (W.contents out.old) (W.contents out.new) result (heading_bytes seats count) }
@@ -236,11 +239,11 @@ pub fn write_heading<W: Write>(seats: u32, count: usize, out: &mut W) -> Result<
         return Err(WriteError::Unspellable);
     }
     let count = count as u32;
-    let pieces: [&[u8]; 3] = [&MAGIC, &seats.to_le_bytes(), &count.to_le_bytes()];
+    let pieces: [&[u8]; 3] = [&MAGIC_TWO, &seats.to_le_bytes(), &count.to_le_bytes()];
     Ok(send_all(&pieces, out)?)
 }
 
-/// Writes the one spelling of the record, piece by piece. It takes no memory.
+/// Writes the one spelling of the record in the newest version, piece by piece. It takes no memory.
 ///
 /// # Errors
 /// `Unspellable` where the record has none, `Refused` where the writer takes no more. What was then written is a

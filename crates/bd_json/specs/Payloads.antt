@@ -21,6 +21,7 @@ nothing = record {
   euid = None;
   window = None;
   limit = None;
+  on = None;
   handle = None;
   ptr = None;
   cookie = None;
@@ -79,12 +80,14 @@ of_return returned.DeadReply = nothing
 of_return returned.TransactionComplete = nothing
 of_return returned.Noop = nothing
 of_return returned.FailedReply = nothing
+of_return returned.OnewaySpamSuspect = nothing
 
 abbrev pub of_step : Step → Payload
 of_step (step.Open pid euid window) = record nothing { pid = Some pid; euid = Some euid; window = Some window }
 of_step (step.Attach pid) = record nothing { pid = Some pid }
 of_step (step.Command c parcel) = of_command c
 of_step (step.Read limit) = record nothing { limit = Some limit }
+of_step (step.SetSpam on) = record nothing { on = Some on }
 of_step step.SetManager = nothing
 of_step step.ExitThread = nothing
 of_step step.ExitProcess = nothing

@@ -1,6 +1,7 @@
 //! In which form things are told.
 
 ghost use Rattle.std.specs.Prelude.{◌≤◌, IfOk, IfSome};
+ghost use Rattle.bd_uapi.specs.Limits.{IsSeats};
 ghost use Rattle.bd_space.specs.Histories.{IsHistory, history_in};
 ghost use Rattle.bd_audit.specs.Replays.{StopsAt};
 ghost use Rattle.bd_show.specs.Answered.{IsThere};
@@ -40,7 +41,7 @@ pub fn answer<W: Write>(
     format: Format,
     out: &mut W,
 ) -> Result<bool, Untold>
-    requires seats { (1 ≤ «record».now.seats) × («record».now.seats ≤ 16) }
+    requires seats { IsSeats «record».now.seats }
     requires lawful { IsHistory (history_in «record».now) }
     ensures { IfOk result (IsThere (history_in «record».now) question) }
 {
@@ -74,7 +75,7 @@ pub fn explain_entry<W: Write>(
     format: Format,
     out: &mut W,
 ) -> Result<(), Untold>
-    requires seats { (1 ≤ «record».now.seats) × («record».now.seats ≤ 16) }
+    requires seats { IsSeats «record».now.seats }
     requires lawful { IsHistory (history_in «record».now) }
 {
     match format {
@@ -95,7 +96,7 @@ pub fn explain_unlawful<W: Write>(
     format: Format,
     out: &mut W,
 ) -> Result<(), Untold>
-    requires seats { (1 ≤ «record».now.seats) × («record».now.seats ≤ 16) }
+    requires seats { IsSeats «record».now.seats }
     requires stops { StopsAt (history_in «record».now) at }
 {
     match format {

@@ -21,6 +21,8 @@ pub(crate) struct Payload {
     #[serde(skip_serializing_if = "Option::is_none")]
     limit: Option<u32>,
     #[serde(skip_serializing_if = "Option::is_none")]
+    on: Option<bool>,
+    #[serde(skip_serializing_if = "Option::is_none")]
     handle: Option<u64>,
     #[serde(skip_serializing_if = "Option::is_none")]
     ptr: Option<Wide>,
@@ -47,6 +49,7 @@ const NOTHING: Payload = Payload {
     euid: None,
     window: None,
     limit: None,
+    on: None,
     handle: None,
     ptr: None,
     cookie: None,
@@ -161,8 +164,11 @@ impl Payload {
             Return::DeadBinder(cookie) | Return::ClearDeathNotificationDone(cookie) => {
                 Payload::of_cookie(*cookie)
             }
-            Return::DeadReply | Return::TransactionComplete | Return::Noop | Return::FailedReply =>
-                NOTHING,
+            Return::DeadReply
+            | Return::TransactionComplete
+            | Return::Noop
+            | Return::FailedReply
+            | Return::OnewaySpamSuspect => NOTHING,
         }
     }
 
@@ -183,6 +189,10 @@ impl Payload {
             Step::Command { command, .. } => Payload::of_command(command),
             Step::Read { limit } => Payload {
                 limit: Some(*limit),
+                ..NOTHING
+            },
+            Step::SetSpam { on } => Payload {
+                on: Some(*on),
                 ..NOTHING
             },
             Step::SetManager | Step::ExitThread | Step::ExitProcess => NOTHING,

@@ -1,7 +1,7 @@
 -- SpacesAreTidy: each frame has a place of its own.
 use Rattle.bd_laws.proofs.words.Logic.{◌≡◌, ℕ, suc, Bool, true, false, not, List, [], ◌∷◌, inl, inr, refl, ap, sym, subst, ◌∙◌, filter, map, arith, list_any}
 use Rattle.bd_laws.proofs.words.Types.{TransactionData, Step, Entry, Frame, Actor, Work, OfThread, OfProcess}
-use Rattle.bd_laws.proofs.words.Space.{tell_deaths, changed, Space, opening, closed, is_frame, owe, is_call, ripen, follow, Delivery, delivered, transacted, called, call_out, replied, read_by, serve, thread_goes, frame_without, unread_frame, threads_go, without_process, change, counted, next}
+use Rattle.bd_laws.proofs.words.Space.{tell_deaths, changed, Space, opening, closed, is_frame, owe, is_call, ripen, follow, Delivery, delivered, transacted, called, call_out, replied, read_by, serve, thread_goes, frame_without, unread_frame, threads_go, without_process, change, counted, next, is_spam}
 use Rattle.bd_space.specs.declared.space.WorkKind.TheVariants as work
 use Rattle.bd_laws.proofs.words.Laws.{Pairs, OtherFrame, Framed, IsFramed}
 use Rattle.bd_laws.proofs.Lists.{in-push, in-filter, in-map, in-changed, pairs-push, pairs-filter, pairs-either, pairs-changed}
@@ -54,21 +54,22 @@ same-frames : (n : ℕ) (z y : Space) → SameFrames z y → G n y → G n z
 same-frames n z y e h = subst (Framed n) (sym e) h
 
 -- what is sent touches no frame
-sent-g : (n : ℕ) (s : Space) (a : Actor) (d : TransactionData) (v : Delivery) → G n s → G n (owe (delivered s a d v) (OfThread a.thread.seat) work.Complete)
-sent-g n s a d v = same-frames n (owe (delivered s a d v) (OfThread a.thread.seat) work.Complete) s (sent-frames s a d v)
+sent-g : (n : ℕ) (s : Space) (a : Actor) (d : TransactionData) (v : Delivery) (spam : Bool) → G n s → G n (owe (delivered s a d v) (OfThread a.thread.seat) (work.Complete spam))
+sent-g n s a d v spam = same-frames n (owe (delivered s a d v) (OfThread a.thread.seat) (work.Complete spam)) s (sent-frames s a d v spam)
 
 transacted-g : (s : Space) (a : Actor) (d : TransactionData) (v : Delivery) → G s.steps s → G (suc s.steps) (transacted s a d v)
 unfolding transacted
 transacted-g s a d v h =
-    let y = owe (delivered s a d v) (OfThread a.thread.seat) work.Complete in
-    let e = sent-steps s a d v in
+    let spam = is_spam (delivered s a d v) a v in
+    let y = owe (delivered s a d v) (OfThread a.thread.seat) (work.Complete spam) in
+    let e = sent-steps s a d v spam in
     subst (λ n. G (suc n) (called y a.thread.seat v.receiver.made v.one_way)) e
-    (called-g y a.thread.seat v.receiver.made v.one_way (subst (λ n. G n y) (sym e) (sent-g s.steps s a d v h)))
+    (called-g y a.thread.seat v.receiver.made v.one_way (subst (λ n. G n y) (sym e) (sent-g s.steps s a d v spam h)))
 
 replied-g : (n : ℕ) (s : Space) (a : Actor) (d : TransactionData) (f : Frame) (v : Delivery) → G n s → G n (replied s a d f v)
 unfolding replied
 replied-g n s a d f v h =
-    told-keeps (G n) (work.Reply s.steps) (λ z t. same-frames n (owe z (OfThread t) (work.Reply s.steps)) z (owe-frames z (OfThread t) (work.Reply s.steps))) _ f.caller (sent-g n (closed s f.made) a d v (closed-g n s f.made h))
+    told-keeps (G n) (work.Reply s.steps) (λ z t. same-frames n (owe z (OfThread t) (work.Reply s.steps)) z (owe-frames z (OfThread t) (work.Reply s.steps))) _ f.caller (sent-g n (closed s f.made) a d v false (closed-g n s f.made h))
 
 read-g : (n : ℕ) (s : Space) (seat : ℕ) (ws : List Work) → G n s → G n (read_by s seat ws)
 unfolding read_by

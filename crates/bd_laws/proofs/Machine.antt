@@ -6,6 +6,7 @@ pub mod EveryEnding
 pub mod EveryStep
 pub mod Fields
 pub mod Following
+pub mod Marks
 pub mod Settled
 pub mod Table
 pub mod Untouched

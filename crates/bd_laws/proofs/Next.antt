@@ -20,7 +20,7 @@ use Rattle.bd_laws.proofs.IsInTurn.Ripening.{read-in, turn-made}
 use Rattle.bd_laws.proofs.IsInTurn.InTurn.{is_call-hands}
 use Rattle.bd_laws.proofs.IsInTurn.Passing.{lost-on, not-on}
 use Rattle.bd_laws.proofs.Lists.{find-some, in-filter_map}
-use Rattle.bd_laws.proofs.NothingIsPending.NextParts.{refused-quiet, failed-quiet, opened-quiet, attached-quiet, managed-quiet, on-of, taken-handed, served-settled, unripe-handed}
+use Rattle.bd_laws.proofs.NothingIsPending.NextParts.{refused-quiet, failed-quiet, opened-quiet, attached-quiet, managed-quiet, on-of, taken-handed, served-settled, unripe-handed, marked-quiet}
 pub use Rattle.bd_laws.proofs.NothingIsPending.NextParts.{calm}
 
 module _ (s : Space) (distinct : Distinct s.todo) (lists : OnLists s) (t : Thread) (left : ℕ) where
@@ -256,6 +256,7 @@ step-endings s seat x before distinct h =
         opened = λ pid euid window free. opened-quiet s seat pid euid window before h;
         attached = λ p free. attached-quiet s seat p h;
         managed = λ a e b. managed-quiet s a.process.made before.objects h;
+        marked = λ p on. marked-quiet s p on h;
       };
       changes = k.changes;
       completes = λ z m. completed-quiet z (in_order-differ z.objects m.in_order);

@@ -1,7 +1,7 @@
 -- SpacesAreTidy: objects stay in the space as long as anything refers to them, and no two have one identity.
 use Rattle.bd_laws.proofs.words.Logic.{◌≡◌, ℕ, suc, Bool, true, false, cond, not, ◌&&◌, List, [], ◌∷◌, Option, Some, None, inl, inr, refl, ap, sym, subst, ◌∙◌, arith, list_all, flat_map, is_some}
 use Rattle.bd_laws.proofs.words.Types.{ObjectId, Process, Object, Reference, Manager, Name, Work, OfThread, Step, Entry}
-use Rattle.bd_laws.proofs.words.Space.{same, Space, reference_of, held_in, object_in, owned_in, stays_in, objects_go, names_for, is_named_in, names_go, threads_go, without_process, read_by, handshakes, handshakes_for, shakes, told_objects, told_of, is_told_by, returns_of, returns_of_object, with_thread, with_process, with_manager, opening, closed, ripen, follow, notify, work_goes, deaths_go, change, counted, History, next, space_after}
+use Rattle.bd_laws.proofs.words.Space.{same, Space, reference_of, held_in, object_in, owned_in, stays_in, objects_go, names_for, is_named_in, names_go, threads_go, without_process, read_by, handshakes, handshakes_for, shakes, told_objects, told_of, is_told_by, returns_of, returns_of_object, with_thread, with_process, with_manager, opening, closed, ripen, follow, notify, work_goes, deaths_go, change, counted, History, next, space_after, with_spam_detection}
 use Rattle.bd_space.specs.declared.space.WorkKind.TheVariants as work
 use Rattle.bd_laws.proofs.words.Laws.{In, Here, Earlier, Kept, Named, KeptBefore}
 use Rattle.bd_laws.proofs.Lists.{in-left, in-last, in-filter, filter-in, in-changed, changed-in, any-found, any-in, all-in, find-in, find-some, pairs-filter, pairs-changed}
@@ -13,7 +13,7 @@ use Rattle.bd_laws.proofs.FollowingIsLocal.Handshakes.{for-object, shaken-by}
 use Rattle.bd_laws.proofs.KeptBefore.ObjectsKept.{IsKept, IsKeptWhole, kept-untouched, whole-untouched, drop_asked-kept, acknowledge-kept, without_buffer-kept, thread_goes-kept, threads_go-kept, without_process-kept, grown, referred, ask-kept}
 pub use Rattle.bd_laws.proofs.KeptBefore.ObjectsKept.{later, replied-kept, transacted-kept}
 
--- ---- opening and managing
+-- ---- opening, marking and managing
 
 pub opened-kept : (s : Space) (seat pid euid window : ℕ) → IsKeptWhole s → IsKeptWhole (with_thread (with_process s pid euid window) seat s.steps)
 unfolding with_thread with_process
@@ -22,6 +22,10 @@ opened-kept s seat pid euid window h = record { kept = h.kept; named = h.named }
 pub attached-kept : (s : Space) (seat p : ℕ) → IsKeptWhole s → IsKeptWhole (with_thread s seat p)
 unfolding with_thread
 attached-kept s seat p h = record { kept = h.kept; named = h.named }
+
+pub marked-kept : (s : Space) (p : ℕ) (on : Bool) → IsKeptWhole s → IsKeptWhole (with_spam_detection s p on)
+unfolding with_spam_detection
+marked-kept s p on h = record { kept = h.kept; named = h.named }
 
 pub managed-kept : (s : Space) (p : ℕ) → KeptBefore s → IsKeptWhole (with_manager s p)
 unfolding with_manager
@@ -139,6 +143,7 @@ kept-step s seat x h =
         opened = λ pid euid window free. opened-kept s seat pid euid window now;
         attached = λ p free. attached-kept s seat p now;
         managed = λ a e b. managed-kept s a.process.made h;
+        marked = λ p on. marked-kept s p on now;
       };
       changes = record {
         transacts = λ a d parcel v e i t. transacted-kept s a d parcel v h t;

@@ -1,5 +1,5 @@
 -- FollowingIsLocal: of BC_REPLY: sent objects are looked at, and frames from the closed one's parent upwards.
-use Rattle.bd_laws.proofs.words.Logic.{◌≡◌, ℕ, not, List, [], ◌∷◌, ◌++◌, Option, Some, None, Ok, refl, ap, sym, subst, ◌∙◌, filter, length, append-nil, cons_option}
+use Rattle.bd_laws.proofs.words.Logic.{◌≡◌, ℕ, not, List, [], ◌∷◌, ◌++◌, Option, Some, None, Ok, refl, ap, sym, subst, ◌∙◌, filter, length, append-nil, cons_option, false}
 use Rattle.bd_laws.proofs.words.Types.{TransactionData, Parcel, Frame, Work, Actor, Turn, OfThread}
 use Rattle.bd_laws.proofs.words.Space.{Space, closed, is_frame, owe, is_call, turns_of, follow, settle, is_abandoned, completed, Delivery, delivered, replied, reply_check, ObjectTest, follow_of, no_name, objects_of_items, close_up}
 use Rattle.bd_space.specs.declared.space.WorkKind.TheVariants as work
@@ -58,7 +58,7 @@ module _ (s : Space) (a : Actor) (d : TransactionData) (parcel : Option Parcel) 
       record { sent = sending-made_sent s a.process.made d parcel v.sending t.sends; new = sends.makes.place; target = λ o e. (let none = t.target in absurd (cc)) }
 
   y : Space
-  y = owe (delivered x a d v) (OfThread a.thread.seat) work.Complete
+  y = owe (delivered x a d v) (OfThread a.thread.seat) (work.Complete false)
 
   x-calm : IsCalm x
   unfolding x
@@ -66,7 +66,7 @@ module _ (s : Space) (a : Actor) (d : TransactionData) (parcel : Option Parcel) 
 
   y-elsewhere : Elsewhere no_name sent y
   unfolding y x sending.y sending.z
-  y-elsewhere = sending.y-elsewhere x a d v x-calm (closed-before s f.made tidy.before.objects) (closed-delivers s f.made v delivers)
+  y-elsewhere = sending.y-elsewhere x a d v x-calm (closed-before s f.made tidy.before.objects) (closed-delivers s f.made v delivers) false
 
   y-unripe : NoneRipe y.todo [] (turns_of y.buffers)
   unfolding y x sending.y sending.z
@@ -74,12 +74,12 @@ module _ (s : Space) (a : Actor) (d : TransactionData) (parcel : Option Parcel) 
       let kept = closed-before s f.made tidy.before.objects in
       let k = closed-delivers s f.made v delivers in
       let two = (reply-checked s a d parcel f v check).one_way in
-      let turns = sending.turns-are x a d v x-calm kept k ∙ ap (λ g. turns_of x.buffers ++ cons_option g []) (sending.turn-two_way x a d v x-calm kept k two) ∙ append-nil (turns_of x.buffers) in
-      subst (λ ts. NoneRipe y.todo [] ts) (sym turns) (sending.y-unripe x a d v x-calm kept k)
+      let turns = sending.turns-are x a d v x-calm kept k false ∙ ap (λ g. turns_of x.buffers ++ cons_option g []) (sending.turn-two_way x a d v x-calm kept k two) ∙ append-nil (turns_of x.buffers) in
+      subst (λ ts. NoneRipe y.todo [] ts) (sym turns) (sending.y-unripe x a d v x-calm kept k false)
 
   y-frames : y.frames ≡ x.frames
   unfolding y x sending.y sending.z
-  y-frames = sending.y-frames x a d v x-calm (closed-before s f.made tidy.before.objects) (closed-delivers s f.made v delivers)
+  y-frames = sending.y-frames x a d v x-calm (closed-before s f.made tidy.before.objects) (closed-delivers s f.made v delivers) false
 
   z-frames : (replied s a d f v).frames ≡ filter (λ g. not (is_frame f.made g)) s.frames
   unfolding replied y x

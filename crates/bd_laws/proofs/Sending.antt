@@ -1,7 +1,7 @@
 -- FollowingIsLocal: of BC_TRANSACTION with objects: these are looked at, and for a one-way call its target.
 use Rattle.bd_laws.proofs.words.Logic.{◌≡◌, ℕ, Bool, true, false, cond, not, ◌&&◌, List, [], ◌∷◌, ◌++◌, Option, Some, None, ◌⊎◌, inl, inr, refl, ap, sym, subst, ◌∙◌, find, append-nil, list_any, cons_option}
 use Rattle.bd_laws.proofs.words.Types.{TransactionData, ObjectId, Frame, Buffer, Turn, Actor, Work, OfThread}
-use Rattle.bd_laws.proofs.words.Space.{same, Space, assign_numbers, goes_to, is_gone, is_child_of, owe, is_call, turn_of, turns_of, is_abandoned, Delivery, delivered, own_notices, add_buffer, known_by, refer, make_objects, buffer_of, transacted, called, call_out, completed, ObjectTest, follow_of, ripen_of, no_name, objects_of_items}
+use Rattle.bd_laws.proofs.words.Space.{same, Space, assign_numbers, goes_to, is_gone, is_child_of, owe, is_call, turn_of, turns_of, is_abandoned, Delivery, delivered, own_notices, add_buffer, known_by, refer, make_objects, buffer_of, transacted, called, call_out, completed, ObjectTest, follow_of, ripen_of, no_name, objects_of_items, is_spam}
 use Rattle.bd_space.specs.declared.space.WorkKind.TheVariants as work
 use Rattle.bd_laws.proofs.words.Laws.{In, KeptBefore, Elsewhere, IsSettled, NoneRipe}
 use Rattle.bd_laws.proofs.Lists.{in-push}
@@ -64,28 +64,6 @@ module _ (s : Space) (a : Actor) (d : TransactionData) (v : Delivery) (h : IsCal
   unfoldable pub z : Space
   z = delivered s a d v
 
-  unfoldable pub y : Space
-  y = owe z (OfThread a.thread.seat) work.Complete
-
-  pub y-elsewhere : Elsewhere no_name sent y
-  unfolding y owe z delivered
-  y-elsewhere = owe-elsewhere no_name sent z (OfThread a.thread.seat) work.Complete ((λ o e. cc), (λ n e. cc)) (delivered-elsewhere s v h.followed kept k a d)
-
-  y-calls : (n : ℕ) → list_any (λ (w : Work). is_call n w.kind) s.todo ≡ true → list_any (λ (w : Work). is_call n w.kind) y.todo ≡ true
-  unfolding y owe z
-  y-calls n e = any-more (λ (w : Work). is_call n w.kind) z.todo _ ((delivered-todo s v h.followed kept k a d).calls n e)
-
-  pub y-unripe : NoneRipe y.todo [] (turns_of s.buffers)
-  y-unripe = still-unripe-if s.todo y.todo s y-calls (turns_of s.buffers) [] h.unripe
-
-  pub y-frames : y.frames ≡ s.frames
-  unfolding y owe z delivered own_notices add_buffer known_by assign_numbers refer make_objects
-  y-frames = refl
-
-  y-buffers : y.buffers ≡ s.buffers ++ buffer_of (known_by s v) a d v ∷ []
-  unfolding y owe z delivered own_notices add_buffer known_by assign_numbers refer make_objects
-  y-buffers = refl
-
   abbrev pub new_buffer : Buffer
   new_buffer = buffer_of (known_by s v) a d v
 
@@ -97,15 +75,62 @@ module _ (s : Space) (a : Actor) (d : TransactionData) (v : Delivery) (h : IsCal
   pub turn-two_way : v.one_way ≡ false → turn_of new_buffer ≡ None
   turn-two_way two = rw two refl
 
-  pub turns-are : turns_of y.buffers ≡ turns_of s.buffers ++ cons_option (turn_of new_buffer) []
-  turns-are = ap turns_of y-buffers ∙ turns-push s.buffers new_buffer
+  -- once the writer is owed its completion, which may report flooding
+  module _ (spam : Bool) where
+    unfoldable pub y : Space
+    y = owe z (OfThread a.thread.seat) (work.Complete spam)
 
-  y-settled : IsSettled s.frames → IsSettled y.frames
-  y-settled settled = subst IsSettled (sym y-frames) settled
+    pub y-elsewhere : Elsewhere no_name sent y
+    unfolding y owe z delivered
+    y-elsewhere = owe-elsewhere no_name sent z (OfThread a.thread.seat) (work.Complete spam) ((λ o e. cc), (λ n e. cc)) (delivered-elsewhere s v h.followed kept k a d)
 
-  transacted-is : (b : Bool) → v.one_way ≡ b → transacted s a d v ≡ called y a.thread.seat v.receiver.made b
+    y-calls : (n : ℕ) → list_any (λ (w : Work). is_call n w.kind) s.todo ≡ true → list_any (λ (w : Work). is_call n w.kind) y.todo ≡ true
+    unfolding y owe z
+    y-calls n e = any-more (λ (w : Work). is_call n w.kind) z.todo _ ((delivered-todo s v h.followed kept k a d).calls n e)
+
+    pub y-unripe : NoneRipe y.todo [] (turns_of s.buffers)
+    y-unripe = still-unripe-if s.todo y.todo s y-calls (turns_of s.buffers) [] h.unripe
+
+    pub y-frames : y.frames ≡ s.frames
+    unfolding y owe z delivered own_notices add_buffer known_by assign_numbers refer make_objects
+    y-frames = refl
+
+    y-buffers : y.buffers ≡ s.buffers ++ buffer_of (known_by s v) a d v ∷ []
+    unfolding y owe z delivered own_notices add_buffer known_by assign_numbers refer make_objects
+    y-buffers = refl
+
+    pub turns-are : turns_of y.buffers ≡ turns_of s.buffers ++ cons_option (turn_of new_buffer) []
+    turns-are = ap turns_of y-buffers ∙ turns-push s.buffers new_buffer
+
+    y-settled : IsSettled s.frames → IsSettled y.frames
+    y-settled settled = subst IsSettled (sym y-frames) settled
+
+    out : Space
+    out = call_out y a.thread.seat v.receiver.made
+
+    out-elsewhere : Elsewhere no_name sent out
+    unfolding out call_out owe
+    out-elsewhere =
+        let e = owe-elsewhere no_name sent y (goes_to y a.thread.seat v.receiver.made) (work.Call y.steps) ((λ o e. cc), (λ n e. cc)) y-elsewhere in
+        record { names = e.names; objects = e.objects; deaths = e.deaths; notices = e.notices; tellings = e.tellings; made = e.made }
+
+    out-unripe : v.one_way ≡ false → NoneRipe out.todo [] (turns_of out.buffers)
+    unfolding out call_out owe
+    out-unripe two =
+        let turns = turns-are ∙ ap (λ f. turns_of s.buffers ++ cons_option f []) (turn-two_way two) ∙ append-nil (turns_of s.buffers) in
+        subst (λ ts. NoneRipe out.todo [] ts) (sym turns)
+        (still-unripe-if y.todo out.todo y (λ n e. any-more (λ (w : Work). is_call n w.kind) y.todo _ e) (turns_of s.buffers) [] y-unripe)
+
+    out-settled : IsSettled s.frames → IsSettled out.frames
+    unfolding out call_out owe
+    out-settled settled = settled-push y.frames _ refl (y-settled settled)
+
+  abbrev suspect : Bool
+  suspect = is_spam z a v
+
+  transacted-is : (b : Bool) → v.one_way ≡ b → transacted s a d v ≡ called (y suspect) a.thread.seat v.receiver.made b
   unfolding transacted y z
-  transacted-is b e = ap (called y a.thread.seat v.receiver.made) e
+  transacted-is b e = ap (called (y suspect) a.thread.seat v.receiver.made) e
 
   -- one-way: sent objects are looked at, and the target's oldest call may ripen
   pub one_way-local : IsSettled s.frames → (o : ObjectId) → v.one_way ≡ true → v.target ≡ Some o
@@ -113,33 +138,13 @@ module _ (s : Space) (a : Actor) (d : TransactionData) (v : Delivery) (h : IsCal
   one_way-local settled o one target =
       let is = transacted-is true one in
       let t = turn-one_way o one target in
-      let turns = turns-are ∙ ap (λ f. turns_of s.buffers ++ cons_option f []) t.1 in
-      let but = subst (λ ts. NoneRipeBut o y.todo [] ts) (sym turns) (but-push o y.todo (turns_of s.buffers) [] t.0 t.2 y-unripe) in
-      ap completed is ∙ completed-ripe no_name sent o y y-elsewhere but (y-settled settled) ∙ ap (λ x. follow_of no_name sent (ripen_of o x)) (sym is)
-
-  out : Space
-  out = call_out y a.thread.seat v.receiver.made
-
-  out-elsewhere : Elsewhere no_name sent out
-  unfolding out call_out owe
-  out-elsewhere =
-      let e = owe-elsewhere no_name sent y (goes_to y a.thread.seat v.receiver.made) (work.Call y.steps) ((λ o e. cc), (λ n e. cc)) y-elsewhere in
-      record { names = e.names; objects = e.objects; deaths = e.deaths; notices = e.notices; tellings = e.tellings; made = e.made }
-
-  out-unripe : v.one_way ≡ false → NoneRipe out.todo [] (turns_of out.buffers)
-  unfolding out call_out owe
-  out-unripe two =
-      let turns = turns-are ∙ ap (λ f. turns_of s.buffers ++ cons_option f []) (turn-two_way two) ∙ append-nil (turns_of s.buffers) in
-      subst (λ ts. NoneRipe out.todo [] ts) (sym turns)
-      (still-unripe-if y.todo out.todo y (λ n e. any-more (λ (w : Work). is_call n w.kind) y.todo _ e) (turns_of s.buffers) [] y-unripe)
-
-  out-settled : IsSettled s.frames → IsSettled out.frames
-  unfolding out call_out owe
-  out-settled settled = settled-push y.frames _ refl (y-settled settled)
+      let turns = turns-are suspect ∙ ap (λ f. turns_of s.buffers ++ cons_option f []) t.1 in
+      let but = subst (λ ts. NoneRipeBut o (y suspect).todo [] ts) (sym turns) (but-push o (y suspect).todo (turns_of s.buffers) [] t.0 t.2 (y-unripe suspect)) in
+      ap completed is ∙ completed-ripe no_name sent o (y suspect) (y-elsewhere suspect) but (y-settled suspect settled) ∙ ap (λ x. follow_of no_name sent (ripen_of o x)) (sym is)
 
   -- a two-way call: nothing ripens
   pub two_way-local : IsSettled s.frames → v.one_way ≡ false → completed (transacted s a d v) ≡ follow_of no_name sent (transacted s a d v)
   unfolding out
   two_way-local settled two =
       let is = transacted-is false two in
-      ap completed is ∙ completed-local no_name sent out out-elsewhere (out-unripe two) (out-settled settled) ∙ ap (follow_of no_name sent) (sym is)
+      ap completed is ∙ completed-local no_name sent (out suspect) (out-elsewhere suspect) (out-unripe suspect two) (out-settled suspect settled) ∙ ap (follow_of no_name sent) (sym is)

@@ -1,5 +1,5 @@
 -- What a vector of nodes stands for: work items, each list of them a ring.
-use Rattle.std.specs.Prelude.{◌≡◌, ℕ, ◌==◌, Bool, true, not, List, ◌∷◌, length, map, filter, Option, Some, get_or}
+use Rattle.std.specs.Prelude.{◌≡◌, ℕ, ◌==◌, Bool, true, false, not, List, ◌∷◌, length, map, filter, Option, Some, get_or}
 use Rattle.bd_space.specs.declared.space.Work.{Work}
 use Rattle.bd_space.specs.declared.space.TodoList.{TodoList}
 use Rattle.bd_space.specs.declared.space.TodoList.TheVariants.{OfThread}
@@ -8,7 +8,7 @@ use Rattle.bd_links.specs.Rings.{In, Rings}
 
 -- in no node
 abbrev pub no_work : Work
-no_work = record { id = record { place = 0; index = 0 }; list = OfThread 0; kind = Complete }
+no_work = record { id = record { place = 0; index = 0 }; list = OfThread 0; kind = Complete false }
 
 abbrev pub work_in : List Work → ℕ → Work
 work_in W x = get_or W x no_work

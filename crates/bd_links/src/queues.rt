@@ -30,7 +30,7 @@ pub(crate) fn no_work() -> Work
     Work {
         id: Identity { place: 0, index: 0 },
         list: TodoList::OfThread(0),
-        kind: WorkKind::Complete,
+        kind: WorkKind::Complete { spam: false },
     }
 }
 

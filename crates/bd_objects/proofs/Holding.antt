@@ -114,7 +114,7 @@ module _ (s : Space) where
   backed-kind : (k : ℕ) (kind : WorkKind) → AreBacked s.references (handshakes_of s k kind)
   unfolding returns_of
   backed-kind k (work.Notice o) = backed-object s.references s.steps k s.objects o (object_in s.objects o) refl
-  backed-kind k work.Complete = tt
+  backed-kind k (work.Complete spam) = tt
   backed-kind k (work.Refusal r) = tt
   backed-kind k (work.Call b) = tt
   backed-kind k (work.Reply b) = tt

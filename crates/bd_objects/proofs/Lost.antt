@@ -138,7 +138,7 @@ module _ (p : ℕ) (o : ObjectId) where
         → not (is_some_and (death_of kind) (λ n. n == x.made))
         ≡ (not (is_touched (at_name p o) (λ i. false) xs kind) || still_due processes objects references left kind)
     item-stays processes objects references (work.Notice i) = refl
-    item-stays processes objects references work.Complete = refl
+    item-stays processes objects references (work.Complete spam) = refl
     item-stays processes objects references (work.Refusal r) = refl
     item-stays processes objects references (work.Call b) = refl
     item-stays processes objects references (work.Reply b) = refl

@@ -21,7 +21,7 @@ use std::alloc::{AllocError, Global};
 const TURNS: u32 = 100_000_000;
 
 // The line of the kit that everything here is proved with is that of `rt version`.
-const VERSION: &str = "1.0, proved with rattle-kit-13b logic dac8208d650f15bf";
+const VERSION: &str = "1.0, proved with rattle-kit-13f logic dac8208d650f15bf";
 
 const ABOUT: &str = "Plays scripts against a driver of Binder transactions, and judges journals";
 

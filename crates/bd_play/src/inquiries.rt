@@ -57,8 +57,8 @@ Each line is a call: the places where it was made, where it was read, and where 
     made 5 handed 10 ended -";
 
 const STATE_HELP: &str = "\
-Of each process that lives: what is unread, its threads, the objects that it owns, its handles, the buffers in its
-window, and the death notifications that it asked for.
+Of each process that lives: whether it asks for reports of its own one-way flooding, what is unread, its threads, the
+objects that it owns, its handles, the buffers in its window, and the death notifications that it asked for.
 
     bplay state journal --at 7";
 

@@ -2,7 +2,7 @@
 
 /// The words of a script, and what a run of one prints, each with an example.
 pub const SCRIPT_HELP: &str = "\
-Each line of a script is a request of a seat. The first line that does something says how many seats there are, 1 to 16.
+Each line of a script is a request of a seat. The first line that does something says how many seats there are, 1 to 31.
 A line that is empty or begins with # does nothing. Lines have numbers from 1.
 
     seats 2                     seats 0 and 1
@@ -12,6 +12,7 @@ Requests:
     0 open 100 1000 4096        opens a process: pid, euid, size of the window
     1 attach 100                a further thread of the process with this pid
     0 manager                   the seat's process becomes the context manager
+    1 spam 1                    the seat's process is told of its own one-way flooding from now on; 0: no longer
     0 read 256                  reads returns, at most so many bytes of them
     1 exitthread                the seat's thread ends
     0 exitprocess               the seat's process ends, with all its threads

@@ -1,8 +1,9 @@
 -- What is said of a journal, and when that is so.
 use Rattle.std.specs.Prelude.{◌≡◌, ◌≤◌, ℕ, List, length, Option, IfSome}
+use Rattle.bd_uapi.specs.Limits.{IsSeats}
 use Rattle.bd_space.specs.declared.record.Record.{Record}
 use Rattle.bd_space.specs.Histories.{IsHistory, history_in}
-use Rattle.bd_journal.specs.Spelling.{IsJournal, journal_bytes}
+use Rattle.bd_journal.specs.Spelling.{Tells}
 use Rattle.bd_audit.specs.Replays.{StopsAt}
 use Rattle.bd_player.specs.declared.verdicts.Verdict.{Verdict}
 use Rattle.bd_player.specs.declared.verdicts.Verdict.TheVariants.{Lawful, Unlawful}
@@ -10,9 +11,9 @@ use Rattle.bd_player.specs.declared.verdicts.Judged.{Judged}
 use Rattle.bd_player.specs.declared.verdicts.Judged.TheVariants as judged
 use Rattle.bd_player.specs.declared.verdicts.Judged.TheVariants.{History}
 
--- the bytes are all of the spelling of this record
+-- the bytes are all of the spelling of this record, in one of the versions of the format
 abbrev pub Spells : List ℕ → Record → Type 0
-Spells bytes r = IsJournal r × (bytes ≡ journal_bytes r)
+Spells bytes r = Tells bytes r
 
 abbrev pub Holds : Record → Verdict → Type 0
 Holds r (Lawful entries) = IsHistory (history_in r) × (entries ≡ length r.entries)
@@ -20,7 +21,7 @@ Holds r (Unlawful at) = (IsHistory (history_in r) → ⊥) × StopsAt (history_i
 
 -- a record has as many seats as a driver may
 abbrev pub HasSeats : Record → Type 0
-HasSeats r = (1 ≤ r.seats) × (r.seats ≤ 16)
+HasSeats r = IsSeats r.seats
 
 -- what is said of the record holds, and it is handed out as it is
 abbrev pub IsJudged : Record → Judged → Type 0

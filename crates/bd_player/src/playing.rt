@@ -1,6 +1,7 @@
 //! Playing a script line by line.
 
 ghost use Rattle.std.specs.Prelude.{◌≡◌, ◌≤◌, ◌++◌, false, All, IfOk, IfSome, None};
+ghost use Rattle.bd_uapi.specs.Limits.{IsSeats};
 ghost use Rattle.bd_space.specs.Histories.{IsHistory, history_in};
 ghost use Rattle.bd_driver.specs.Together.{new_seats};
 ghost use Rattle.bd_player.specs.Playing.{Plays, RunsOn};
@@ -51,7 +52,7 @@ pub fn read_on<R: Read>(alloc: Global, first: &[u8], reader: &mut R) -> Result<V
 
 /// The script that a reader has.
 pub fn script_from<R: Read>(alloc: Global, reader: &mut R) -> Result<Script, Fault>
-    ensures seats { IfOk result (λ s. (1 ≤ s.seats) × (s.seats ≤ 16)) }
+    ensures seats { IfOk result (λ s. IsSeats s.seats) }
 {
     let bytes = read_on(alloc, &[], reader)?;
     match read_script(alloc, &bytes) {

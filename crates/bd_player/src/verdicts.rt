@@ -1,6 +1,7 @@
 //! What a journal's bytes are.
 
 ghost use Rattle.std.specs.Prelude.{◌≡◌, ◌≤◌, length, IfOk, IfErr};
+ghost use Rattle.bd_uapi.specs.Limits.{IsSeats};
 ghost use Rattle.bd_space.specs.Histories.{IsHistory, history_in};
 ghost use Rattle.bd_space.specs.declared.record.Record.{Record};
 ghost use Rattle.bd_audit.specs.Replays.{StopsAt};
@@ -44,7 +45,7 @@ pub enum Judged {
 
 // What the replay of a record tells of it.
 fn judge<P: Watch>(alloc: Global, found: Record, watch: &mut P) -> Result<Judged, Fault>
-    requires seats { (1 ≤ found.seats) × (found.seats ≤ 16) }
+    requires seats { IsSeats found.seats }
     ensures judged { IfOk result (IsJudged found) }
     ensures fault { IfErr result (λ f. f ≡ Journal → ⊥) }
 {

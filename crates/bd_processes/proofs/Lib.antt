@@ -2,3 +2,4 @@ pub mod Keys
 pub mod Pids
 pub mod Rising
 pub mod Found
+pub mod Changed

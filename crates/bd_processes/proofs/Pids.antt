@@ -1,5 +1,5 @@
 -- No pid is out of range, through each change.
-use Rattle.std.proofs.Common.{◌≡◌, ℕ, zero, suc, ◌<◌, Bool, true, ◌&&◌, List, [], ◌∷◌, ◌++◌, length, get_or, refl, ◌∙◌, arith}
+use Rattle.std.proofs.Common.{◌≡◌, ℕ, zero, suc, ◌<◌, Bool, true, ◌&&◌, List, [], ◌∷◌, ◌++◌, length, get_or, set, refl, ◌∙◌, arith}
 use Rattle.std.specs.Prelude.{remove}
 use Rattle.std.specs.List.{list_all}
 use Rattle.std.proofs.lemmas.Bool.{and_parts, and_from}
@@ -23,3 +23,10 @@ module _ {X : Type 0} (p : X → Bool) where
   all_more xs x all one =
       list_all-append p xs (x ∷ [])
       ∙ and_from (list_all p xs) (p x && true) all (and_from (p x) true one refl)
+
+  pub all_set : (xs : List X) (i : ℕ) (x : X) → list_all p xs ≡ true → p x ≡ true → list_all p (set xs i x) ≡ true
+  all_set [] i x all one = refl
+  all_set (y ∷ ys) zero x all one = and_from (p x) (list_all p ys) one (and_parts (p y) (list_all p ys) all).1
+  all_set (y ∷ ys) (suc i) x all one =
+      let both = and_parts (p y) (list_all p ys) all in
+      and_from (p y) (list_all p (set ys i x)) both.0 (all_set ys i x both.1 one)

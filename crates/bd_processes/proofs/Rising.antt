@@ -100,12 +100,12 @@ module _ {A : Type 0} (key : A → ℕ) where
   -- ---- where the element at an index has it
 
   -- the first differs from one further on
-  first_differs : (m : ℕ) (x : A) (xs : List A) (i : ℕ) → Distinct (x ∷ xs) → i < length xs
+  pub first_differs : (m : ℕ) (x : A) (xs : List A) (i : ℕ) → Distinct (x ∷ xs) → i < length xs
       → ((d : A) → key (get_or xs i d) ≡ m) → has m x ≡ false
   first_differs m x xs i apart lt is =
       ne_eqb (key x) m (λ e. pairs_head (λ a b. key a ≡ key b → ⊥) x xs apart i x lt (e ∙ sym (is x)))
 
-  rest_differ : (m : ℕ) (x : A) (xs : List A) → Distinct (x ∷ xs) → key x ≡ m → AllOthers m xs
+  pub rest_differ : (m : ℕ) (x : A) (xs : List A) → Distinct (x ∷ xs) → key x ≡ m → AllOthers m xs
   rest_differ m x xs apart is = λ k d lt.
       ne_eqb (key (get_or xs k d)) m (λ e. pairs_head (λ a b. key a ≡ key b → ⊥) x xs apart k d lt (is ∙ sym e))
 

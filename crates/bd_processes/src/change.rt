@@ -1,7 +1,9 @@
-//! Processes that open and end.
+//! Processes that open and end, and what they ask to be told.
 
 ghost use Rattle.std.specs.Prelude.{◌≡◌, ◌==◌, ◌≤◌, ◌+◌, ◌++◌, ◌∷◌, [], true, not, filter, List};
 ghost use Rattle.bd_space.specs.Steps.{is_pid};
+ghost use Rattle.bd_space.specs.Words.{changed};
+ghost use Rattle.bd_space.specs.Spam.{detecting};
 
 use crate::list::index_of;
 use crate::table::{ProcessTable, pid_key};
@@ -36,6 +38,18 @@ impl ProcessTable {
         if let Some(i) = index_of(self.list.as_slice(), made) {
             let process = self.list.remove(i);
             self.by_pid.remove(pid_key(process.pid));
+        }
+    }
+
+    /// This process is told of its own one-way flooding, or no longer. Takes no memory.
+    #[tactic(auto, unfolding(crate::specs::Room::process_room))]
+    pub fn set_spam_detection(&mut self, made: u32, on: bool)
+        ensures stands { (processes : List Process) → ProcessesAre self.old processes
+            → ProcessesAre self.new (changed (λ q. q.made == made) (detecting on) processes) }
+        ensures uses { process_room self.old ≤ process_room self.new }
+    {
+        if let Some(i) = index_of(self.list.as_slice(), made) {
+            self.list[i].spam_detection = on;
         }
     }
 }

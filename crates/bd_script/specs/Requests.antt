@@ -1,5 +1,5 @@
 -- What the verbs ask for.
-use Rattle.std.specs.Prelude.{ℕ, ◌+◌, ◌-◌, ◌*◌, ◌%◌, List, [], ◌∷◌, ◌++◌, length, replicate, pos, Option, Some, None, codes, if◌then◌else◌}
+use Rattle.std.specs.Prelude.{ℕ, ◌+◌, ◌-◌, ◌*◌, ◌%◌, ◌==◌, Bool, List, [], ◌∷◌, ◌++◌, length, replicate, pos, Option, Some, None, codes, if◌then◌else◌}
 use Rattle.std.specs.List.{flat_map}
 use Rattle.std.specs.Option.{option_map, unwrap_or}
 use Rattle.std.specs.Str.{bytes_eq}
@@ -13,6 +13,7 @@ use Rattle.bd_space.specs.declared.step.Request.TheVariants as request
 use Rattle.bd_script.specs.declared.script.Verb.{Verb}
 use Rattle.bd_script.specs.declared.script.Verb.TheVariants as verb
 use Rattle.bd_script.specs.Hex.{hex_of}
+use Rattle.bd_script.specs.Numbers.{number_of}
 use Rattle.bd_script.specs.Words.{◌>>=◌, one_of, two_of, three_of, four_of, word_of, long_of}
 use Rattle.bd_script.specs.Text.{offsets_of}
 
@@ -80,6 +81,13 @@ alone x (word ∷ words) = None
 abbrev pub one_number_of : List (List ℕ) → Option ℕ
 one_number_of args = one_of args >>= word_of
 
+-- one number, 0 for off or 1 for on
+abbrev pub one_switch_of : List (List ℕ) → Option Bool
+one_switch_of args = do
+  word ← one_of args
+  n ← number_of 1 word
+  Some (n == 1)
+
 -- one number, of 64 bits
 abbrev pub one_long_of : List (List ℕ) → Option ℕ
 one_long_of args = one_of args >>= long_of
@@ -100,6 +108,9 @@ handle_and_cookie_of args = do
 
 abbrev pub one_number : {A : Type 0} → (ℕ → A) → List (List ℕ) → Option A
 one_number f args = option_map f (one_number_of args)
+
+abbrev pub one_switch : {A : Type 0} → (Bool → A) → List (List ℕ) → Option A
+one_switch f args = option_map f (one_switch_of args)
 
 abbrev pub one_long : {A : Type 0} → (ℕ → A) → List (List ℕ) → Option A
 one_long f args = option_map f (one_long_of args)
@@ -167,6 +178,7 @@ request_rows =
     (codes "open", open_of)
     ∷ (codes "attach", one_number request.Attach)
     ∷ (codes "manager", alone request.SetManager)
+    ∷ (codes "spam", one_switch request.SetSpam)
     ∷ (codes "read", one_number request.Read)
     ∷ (codes "exitthread", alone request.ExitThread)
     ∷ (codes "exitprocess", alone request.ExitProcess)

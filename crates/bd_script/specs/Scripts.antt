@@ -2,6 +2,7 @@
 use Rattle.std.specs.Prelude.{◌≡◌, ℕ, ◌+◌, List, [], ◌∷◌, ◌++◌, ⊤, Option, Some, None, Result, Ok, Err, Bool, true, ◌==◌, ◌||◌, nat_le, nat_lt, if◌then◌else◌, codes}
 use Rattle.std.specs.List.{list_any}
 use Rattle.std.specs.Str.{bytes_eq}
+use Rattle.bd_uapi.specs.Limits.{most_seats}
 use Rattle.bd_script.specs.declared.script.Line.{Line}
 use Rattle.bd_script.specs.declared.script.Script.{Script}
 use Rattle.bd_script.specs.declared.script.ScriptError.{ScriptError}
@@ -25,7 +26,7 @@ is_idle (b ∷ bs) = b == 35
 -- the line `seats N`
 abbrev pub seats_by : List (List ℕ) → Option ℕ
 seats_by (name ∷ count ∷ []) = if bytes_eq name (codes "seats") then (do
-  seats ← number_of 16 count
+  seats ← number_of most_seats count
   if seats == 0 then None else Some seats) else None
 seats_by _ = None
 
@@ -35,7 +36,7 @@ seats_of line = seats_by (words line)
 -- the line `SEAT VERB ..` with this number, where there are so many seats
 abbrev pub line_by : ℕ → ℕ → List (List ℕ) → Option Line
 line_by seats number (count ∷ name ∷ args) = do
-  seat ← number_of 16 count
+  seat ← number_of most_seats count
   verb ← if nat_lt seat seats then verb_of name args else None
   Some (record { number = number; seat = seat; verb = verb })
 line_by seats number _ = None

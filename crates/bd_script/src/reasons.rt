@@ -4,7 +4,7 @@ use crate::hex::is_hex;
 use crate::numbers::number;
 use crate::script::is_idle;
 use crate::words::are_numbers;
-use bd_space::MOST_SEATS;
+use bd_uapi::MOST_SEATS;
 use thiserror::Error;
 
 /// What a bad line has in place of what.
@@ -21,12 +21,13 @@ pub struct Reason {
     pub found: &'static str,
 }
 
-// The words behind each verb with a request, a letter for each: `w` and `l` are numbers of 32 and 64 bits, `h` bytes
-// in hex, `o` offsets.
-static REQUESTS: [(&str, &str); 21] = [
+// The words behind each verb with a request, a letter for each: `b` is 0 or 1, `w` and `l` are numbers of 32 and
+// 64 bits, `h` bytes in hex, `o` offsets.
+static REQUESTS: [(&str, &str); 22] = [
     ("open", "www"),
     ("attach", "w"),
     ("manager", ""),
+    ("spam", "b"),
     ("read", "w"),
     ("exitthread", ""),
     ("exitprocess", ""),
@@ -78,10 +79,11 @@ fn expected(letters: &[u8]) -> &'static str {
     match letters {
         [] => "the end of the line",
         [b's', ..] => "the word seats",
-        [b'n', ..] => "how many seats there are, 1 to 16",
+        [b'n', ..] => "how many seats there are, 1 to 31",
         [b'i', ..] => "a seat, below the number of seats",
         [b'v', ..] => "a verb",
         [b'r', ..] => "a verb that has a request",
+        [b'b', ..] => "0 or 1",
         [b'w', ..] => "a number up to 4294967295",
         [b'l', ..] => "a number up to 18446744073709551615",
         [b'h', ..] => "pairs of digits 0 to 9 and a to f, or -",
@@ -95,6 +97,7 @@ fn fits(letter: u8, word: &[u8], seats: u64) -> bool {
         b's' => word == b"seats".as_slice(),
         b'n' => matches!(number(word, u64::from(MOST_SEATS)), Some(1..)),
         b'i' => matches!(number(word, u64::MAX), Some(seat) if seat < seats),
+        b'b' => number(word, 1).is_some(),
         b'w' => number(word, u64::from(u32::MAX)).is_some(),
         b'l' => number(word, u64::MAX).is_some(),
         b'h' => is_hex(word),

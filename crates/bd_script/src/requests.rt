@@ -2,11 +2,11 @@
 
 ghost use Rattle.std.specs.Prelude.{◌≡◌, Some, None, length, IfOk, MatchResult};
 ghost use Rattle.bd_script.specs.Words.{ReadsAs, ReadsOrMemory, one_of, two_of, three_of, four_of, shown};
-ghost use Rattle.bd_script.specs.Requests.{alone, area_of, command_of, command_with, handle_and_cookie_of, one_number_of, longer_command_of, open_of, padded, pointer_and_cookie_of, one_long_of, post_of, data_of, request_of, send, sent, stream_and_area, tx_of, verb_of, write_of, write_with};
+ghost use Rattle.bd_script.specs.Requests.{alone, area_of, command_of, command_with, handle_and_cookie_of, one_number_of, one_switch_of, longer_command_of, open_of, padded, pointer_and_cookie_of, one_long_of, post_of, data_of, request_of, send, sent, stream_and_area, tx_of, verb_of, write_of, write_with};
 ghost use Rattle.bd_script.specs.declared.script.Trouble.TheVariants.{Bad};
 
 use crate::script::{Trouble, Verb};
-use crate::words::{hex_in, is, long_in, offsets_in, word_in};
+use crate::words::{hex_in, is, long_in, number_in, offsets_in, word_in};
 use bd_codec::write_command;
 use bd_space::{Bytes, Request};
 use bd_uapi::{Command, TransactionData, TransactionFlags};
@@ -73,6 +73,13 @@ fn one_number(args: &[&[u8]]) -> Result<u32, Trouble>
     ensures { ReadsAs result (one_number_of (shown args.now)) }
 {
     word_in(one_word(args)?)
+}
+
+// One number, 0 for off or 1 for on.
+fn one_switch(args: &[&[u8]]) -> Result<bool, Trouble>
+    ensures { ReadsAs result (one_switch_of (shown args.now)) }
+{
+    Ok(number_in(one_word(args)?, 1)? == 1)
 }
 
 // One number, of 64 bits.
@@ -294,6 +301,10 @@ fn request_of(alloc: Global, verb: &[u8], args: &[&[u8]]) -> Result<Request, Tro
     } else if is(verb, b"manager") {
         no_word(args)?;
         Ok(Request::SetManager)
+    } else if is(verb, b"spam") {
+        Ok(Request::SetSpam {
+            on: one_switch(args)?,
+        })
     } else if is(verb, b"read") {
         Ok(Request::Read {
             limit: one_number(args)?,

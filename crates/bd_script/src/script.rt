@@ -2,13 +2,15 @@
 
 ghost use Rattle.std.specs.Prelude.{◌≡◌, ◌≤◌, IfOk, None, Some, MatchResult};
 ghost use Rattle.std.specs.List.{list_any};
+ghost use Rattle.bd_uapi.specs.Limits.{IsSeats};
 ghost use Rattle.bd_script.specs.Words.{ReadsOrMemory};
 ghost use Rattle.bd_script.specs.Scripts.{SaysAs, error_at, read, is_bad, is_idle, line_of, script_of, seats_of, with_line};
 ghost use Rattle.bd_script.specs.declared.script.Trouble.TheVariants.{Bad, Memory};
 
 use crate::requests::verb_of;
 use crate::words::{is, number_in, words_of};
-use bd_space::{MOST_SEATS, Request};
+use bd_space::Request;
+use bd_uapi::MOST_SEATS;
 use std::alloc::{AllocError, AllocFailed, Global};
 use thiserror::Error;
 
@@ -45,7 +47,7 @@ pub struct Line {
 /// What a script says.
 #[derive(Drop, Debug)]
 pub struct Script {
-    /// How many seats there are, 1 to 16.
+    /// How many seats there are, 1 to 31.
     pub seats: u32,
     /// The lines that run, in the script's order.
     pub lines: Vec<Line>,
@@ -179,7 +181,7 @@ fn add_line(alloc: Global, script: &mut Script, number: u64, text: &[u8]) -> Res
 #[tactic(auto, unfolding(crate::specs::Scripts::script_of))]
 pub fn read_script(alloc: Global, bytes: &[u8]) -> Result<Script, ScriptError>
     ensures says { SaysAs result (script_of bytes.now) }
-    ensures seats { IfOk result (λ s. (1 ≤ s.seats) × (s.seats ≤ 16)) }
+    ensures seats { IfOk result (λ s. IsSeats s.seats) }
 {
     let mut script = Script {
         seats: 0,

@@ -1,6 +1,7 @@
 //! Certificates of a history: how a process came to a name, which call a reply answers, the turns of an object.
 
 ghost use Rattle.std.specs.Prelude.{◌≡◌, ◌≤◌, All, IfOk, IfSome, is_some};
+ghost use Rattle.bd_uapi.specs.Limits.{IsSeats};
 ghost use Rattle.bd_space.specs.Histories.{IsHistory, space_after, history_in};
 ghost use Rattle.bd_engine.specs.Looks as looks;
 ghost use Rattle.bd_audit.specs.Gifts.{IsChainOf};
@@ -31,7 +32,7 @@ pub(crate) fn chain_of(
     pid: u32,
     number: u32,
 ) -> Result<Option<Vec<u32>>, Untold>
-    requires seats { (1 ≤ «record».now.seats) × («record».now.seats ≤ 16) }
+    requires seats { IsSeats «record».now.seats }
     requires lawful { IsHistory (history_in «record».now) }
     ensures chain { IfOk result (λ c. IfSome c (λ v. IsChainOf (history_in «record».now) pid number v.items)) }
     ensures none { IfOk result (λ c. is_some c ≡ is_some (looks.named_by (space_after (history_in «record».now)) pid number)) }
@@ -44,7 +45,7 @@ pub(crate) fn chain_of(
 
 /// Where the call was made that is answered by the reading at this place; None where that reading handed out no reply.
 pub(crate) fn answered_by(alloc: Global, record: &Record, place: u32) -> Result<Option<u32>, Untold>
-    requires seats { (1 ≤ «record».now.seats) × («record».now.seats ≤ 16) }
+    requires seats { IsSeats «record».now.seats }
     requires lawful { IsHistory (history_in «record».now) }
     ensures { IfOk result (λ found. found ≡ call_answered (history_in «record».now) place) }
 {
@@ -60,7 +61,7 @@ pub(crate) fn turns_on(
     record: &Record,
     object: ObjectId,
 ) -> Result<Vec<Turn>, Untold>
-    requires seats { (1 ≤ «record».now.seats) × («record».now.seats ≤ 16) }
+    requires seats { IsSeats «record».now.seats }
     requires lawful { IsHistory (history_in «record».now) }
     ensures { IfOk result (λ v. AreTurns «record».now.entries object v.items) }
 {
@@ -120,7 +121,7 @@ fn gift_made(
 
 // The gifts at these places, which rise, and the engine after the last entry.
 fn gifts_at(alloc: Global, record: &Record, places: &[u32]) -> Result<(Engine, Vec<Gift>), Untold>
-    requires seats { (1 ≤ «record».now.seats) × («record».now.seats ≤ 16) }
+    requires seats { IsSeats «record».now.seats }
     requires lawful { IsHistory (history_in «record».now) }
     ensures engine { IfOk result (λ made. made.0 ≡ history_in «record».now) }
     ensures gifts { IfOk result (λ made. All (λ g. g.pid ≡ maker_of (history_in «record».now) g.place) made.1.items) }
@@ -161,7 +162,7 @@ pub(crate) fn tell_chain<F: Form, W: Write>(
     form: &F,
     out: &mut W,
 ) -> Result<bool, Untold>
-    requires seats { (1 ≤ «record».now.seats) × («record».now.seats ≤ 16) }
+    requires seats { IsSeats «record».now.seats }
     requires lawful { IsHistory (history_in «record».now) }
     ensures { IfOk result (λ b. b ≡ is_some (looks.named_by (space_after (history_in «record».now)) pid number)) }
 {
@@ -185,7 +186,7 @@ pub(crate) fn tell_answered<F: Form, W: Write>(
     form: &F,
     out: &mut W,
 ) -> Result<bool, Untold>
-    requires seats { (1 ≤ «record».now.seats) × («record».now.seats ≤ 16) }
+    requires seats { IsSeats «record».now.seats }
     requires lawful { IsHistory (history_in «record».now) }
     ensures { IfOk result (λ b. b ≡ is_some (call_answered (history_in «record».now) place)) }
 {
@@ -243,7 +244,7 @@ pub(crate) fn tell_turns<F: Form, W: Write>(
     form: &F,
     out: &mut W,
 ) -> Result<(), Untold>
-    requires seats { (1 ≤ «record».now.seats) × («record».now.seats ≤ 16) }
+    requires seats { IsSeats «record».now.seats }
     requires lawful { IsHistory (history_in «record».now) }
 {
     let turns = turns_on(alloc, record, object)?;

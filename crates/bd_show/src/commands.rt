@@ -103,6 +103,10 @@ impl fmt::Display for StepText<'_> {
                 write!(f, "{name} pid {pid} euid {euid} window {window}")
             }
             Step::Attach { pid } => write!(f, "{name} pid {pid}"),
+            Step::SetSpam { on } => {
+                let state = if *on { "on" } else { "off" };
+                write!(f, "{name} {state}")
+            }
             Step::Command { command, .. } => {
                 let command = CommandText(command);
                 write!(f, "{command}")

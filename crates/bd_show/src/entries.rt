@@ -1,6 +1,7 @@
 //! The entries of a history, a line each.
 
 ghost use Rattle.std.specs.Prelude.{◌≤◌};
+ghost use Rattle.bd_uapi.specs.Limits.{IsSeats};
 ghost use Rattle.bd_space.specs.Histories.{IsHistory, history_in};
 
 use crate::answers::AnswerText;
@@ -38,7 +39,7 @@ pub(crate) fn show<F: Form, W: Write>(
     form: &F,
     out: &mut W,
 ) -> Result<(), Untold>
-    requires seats { (1 ≤ «record».now.seats) × («record».now.seats ≤ 16) }
+    requires seats { IsSeats «record».now.seats }
     requires lawful { IsHistory (history_in «record».now) }
 {
     let entries = record.entries.as_slice();
@@ -64,7 +65,7 @@ pub fn show_at<F: Form, W: Write>(
     form: &F,
     out: &mut W,
 ) -> Result<(), Untold>
-    requires seats { (1 ≤ «record».now.seats) × («record».now.seats ≤ 16) }
+    requires seats { IsSeats «record».now.seats }
     requires lawful { IsHistory (history_in «record».now) }
 {
     let pid = maker_of(alloc, record, place)?;

@@ -1,6 +1,7 @@
 //! The pids of processes that are known by the places where they were opened.
 
 ghost use Rattle.std.specs.Prelude.{◌≡◌, ◌≤◌, IfOk};
+ghost use Rattle.bd_uapi.specs.Limits.{IsSeats};
 ghost use Rattle.bd_audit.specs.Replays.{with_entry};
 ghost use Rattle.bd_space.specs.Histories.{IsHistory, history_in, space_after};
 ghost use Rattle.bd_show.specs.Pids as spec;
@@ -41,7 +42,7 @@ pub(crate) fn step_made(
 
 /// The pid of the process that makes the step at a place.
 pub(crate) fn maker_of(alloc: Global, record: &Record, place: u32) -> Result<Option<u32>, Untold>
-    requires seats { (1 ≤ «record».now.seats) × («record».now.seats ≤ 16) }
+    requires seats { IsSeats «record».now.seats }
     requires lawful { IsHistory (history_in «record».now) }
     ensures { IfOk result (λ pid. pid ≡ spec.maker_of (history_in «record».now) place) }
 {

@@ -1,6 +1,7 @@
 //! Questions about a history, and what is printed of each.
 
 ghost use Rattle.std.specs.Prelude.{◌≤◌, IfOk};
+ghost use Rattle.bd_uapi.specs.Limits.{IsSeats};
 ghost use Rattle.bd_space.specs.Histories.{IsHistory, history_in};
 ghost use Rattle.bd_show.specs.Answered.{IsThere};
 
@@ -56,7 +57,7 @@ pub fn answer<F: Form, W: Write>(
     form: &F,
     out: &mut W,
 ) -> Result<bool, Untold>
-    requires seats { (1 ≤ «record».now.seats) × («record».now.seats ≤ 16) }
+    requires seats { IsSeats «record».now.seats }
     requires lawful { IsHistory (history_in «record».now) }
     ensures { IfOk result (IsThere (history_in «record».now) question) }
 {

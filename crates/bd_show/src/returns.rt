@@ -42,8 +42,11 @@ impl fmt::Display for ReturnText<'_> {
             Return::DeadBinder(cookie) | Return::ClearDeathNotificationDone(cookie) => {
                 write!(f, " cookie {cookie}")
             }
-            Return::DeadReply | Return::TransactionComplete | Return::Noop | Return::FailedReply =>
-                Ok(()),
+            Return::DeadReply
+            | Return::TransactionComplete
+            | Return::Noop
+            | Return::FailedReply
+            | Return::OnewaySpamSuspect => Ok(()),
         }
     }
 }

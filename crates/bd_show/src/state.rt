@@ -1,6 +1,7 @@
 //! The space that a history has come to, process by process.
 
 ghost use Rattle.std.specs.Prelude.{◌≤◌};
+ghost use Rattle.bd_uapi.specs.Limits.{IsSeats};
 ghost use Rattle.bd_space.specs.Histories.{IsHistory, history_in};
 
 use crate::fault::Untold;
@@ -56,7 +57,7 @@ pub(crate) fn tell_state<F: Form, W: Write>(
     form: &F,
     out: &mut W,
 ) -> Result<(), Untold>
-    requires seats { (1 ≤ «record».now.seats) × («record».now.seats ≤ 16) }
+    requires seats { IsSeats «record».now.seats }
     requires lawful { IsHistory (history_in «record».now) }
 {
     let entries = record.entries.as_slice();

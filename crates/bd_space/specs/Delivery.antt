@@ -51,6 +51,7 @@ abbrev pub buffer_of : Space → Actor → TransactionData → Delivery → Buff
 buffer_of s a d v = record {
   made = s.steps;
   receiver = v.receiver.made;
+  sender = a.process.made;
   start = v.start;
   size = needed d.data_size d.offsets_size;
   one_way = v.one_way;

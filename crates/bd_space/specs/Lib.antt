@@ -14,6 +14,7 @@ pub mod Outcomes
 pub mod Parcels
 pub mod Translation
 pub mod Delivery
+pub mod Spam
 pub mod Transactions
 pub mod Replies
 pub mod Freeing

@@ -38,7 +38,7 @@ reply_check s a d parcel f = and_then (found_or (caller_of s f) CallerGone) (rep
 -- the frame closes, and the caller has a reply to read
 unfoldable pub replied : Space → Actor → TransactionData → Frame → Delivery → Space
 replied s a d f v =
-    tell_caller (owe (delivered (closed s f.made) a d v) (OfThread a.thread.seat) work.Complete) f (work.Reply s.steps)
+    tell_caller (owe (delivered (closed s f.made) a d v) (OfThread a.thread.seat) (work.Complete false)) f (work.Reply s.steps)
 
 -- a refused reply closes the frame too, and a caller that lives is told
 unfoldable pub reply_refused : Space → ℕ → Frame → Space

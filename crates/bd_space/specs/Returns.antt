@@ -63,7 +63,7 @@ returns_of_object references (Some x) = notice_returns references x
 
 unfoldable pub returns_of : Space → WorkKind → List Return
 returns_of s (work.Notice o) = returns_of_object s.references (object_in s.objects o)
-returns_of s work.Complete = br.TransactionComplete ∷ []
+returns_of s (work.Complete spam) = (if spam then br.OnewaySpamSuspect else br.TransactionComplete) ∷ []
 returns_of s (work.Refusal r) = r ∷ []
 returns_of s (work.Call b) = one (option_map (λ x. br.Transaction (data_of s x)) (buffer_in s.buffers b))
 returns_of s (work.Reply b) = one (option_map (λ x. br.Reply (data_of s x)) (buffer_in s.buffers b))

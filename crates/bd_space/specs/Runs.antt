@@ -6,7 +6,7 @@ use Rattle.bd_space.specs.declared.step.StepAnswer.{StepAnswer}
 use Rattle.bd_space.specs.declared.step.StepAnswer.TheVariants as gave
 use Rattle.bd_space.specs.declared.step.Entry.{Entry}
 use Rattle.bd_space.specs.declared.step.Request.{Request}
-use Rattle.bd_space.specs.declared.step.Request.TheVariants.{Open, Attach, SetManager, Write, Read, ExitThread, ExitProcess}
+use Rattle.bd_space.specs.declared.step.Request.TheVariants.{Open, Attach, SetManager, SetSpam, Write, Read, ExitThread, ExitProcess}
 use Rattle.bd_space.specs.declared.step.Answer.{Answer}
 use Rattle.bd_space.specs.declared.step.Answer.TheVariants.{Opened, Set, Exited, Got, Refused}
 use Rattle.bd_space.specs.Space.{Space}
@@ -37,6 +37,7 @@ unfoldable pub run : Space → ℕ → Request → Run
 run s seat (Open pid euid window) = single s seat (step_of.Open pid euid window)
 run s seat (Attach pid) = single s seat (step_of.Attach pid)
 run s seat SetManager = single s seat step_of.SetManager
+run s seat (SetSpam on) = single s seat (step_of.SetSpam on)
 run s seat (Write stream area) = write s seat stream area
 run s seat (Read limit) = single s seat (step_of.Read limit)
 run s seat ExitThread = single s seat step_of.ExitThread
@@ -47,6 +48,7 @@ abbrev pub first_step : Request → Option Step
 first_step (Open pid euid window) = Some (step_of.Open pid euid window)
 first_step (Attach pid) = Some (step_of.Attach pid)
 first_step SetManager = Some step_of.SetManager
+first_step (SetSpam on) = Some (step_of.SetSpam on)
 first_step (Write stream area) = step_after area 0 (commands_of stream).commands
 first_step (Read limit) = Some (step_of.Read limit)
 first_step ExitThread = Some step_of.ExitThread

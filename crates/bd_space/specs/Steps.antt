@@ -4,7 +4,7 @@ use Rattle.bd_uapi.specs.declared.fault.Fault.{Fault}
 use Rattle.bd_uapi.specs.declared.fault.Fault.TheVariants.{NoProcess, HasProcess, PidTaken, PidRange, WindowSize, NoSuchPid, ManagerBusy}
 use Rattle.bd_space.specs.declared.step.ObjectId.{ObjectId}
 use Rattle.bd_space.specs.declared.step.Step.{Step}
-use Rattle.bd_space.specs.declared.step.Step.TheVariants.{Open, Attach, SetManager, Command, Read, ExitThread, ExitProcess}
+use Rattle.bd_space.specs.declared.step.Step.TheVariants.{Open, Attach, SetManager, SetSpam, Command, Read, ExitThread, ExitProcess}
 use Rattle.bd_space.specs.declared.step.StepAnswer.TheVariants.{Opened, Set}
 use Rattle.bd_space.specs.declared.space.Process.{Process}
 use Rattle.bd_space.specs.declared.space.Holder.TheVariants.{Manager}
@@ -13,6 +13,7 @@ use Rattle.bd_space.specs.Space.{Space}
 use Rattle.bd_space.specs.declared.space.Actor.{Actor}
 use Rattle.bd_space.specs.Seats.{actor, thread_in, process_with_pid}
 use Rattle.bd_space.specs.References.{reference_of, own_in}
+use Rattle.bd_space.specs.Spam.{spam_step}
 use Rattle.bd_space.specs.Commands.{command_step}
 use Rattle.bd_space.specs.Reading.{read_step}
 use Rattle.bd_space.specs.ThreadExits.{exit_thread_step}
@@ -41,7 +42,7 @@ with_thread s seat p = record s { threads = s.threads ++ record { made = s.steps
 
 unfoldable pub with_process : Space → ℕ → ℕ → ℕ → Space
 with_process s pid euid window =
-    record s { processes = s.processes ++ record { made = s.steps; pid = pid; euid = euid; window = window } ∷ [] }
+    record s { processes = s.processes ++ record { made = s.steps; pid = pid; euid = euid; window = window; spam_detection = false } ∷ [] }
 
 abbrev pub open_outcome : Space → ℕ → ℕ → ℕ → ℕ → Option Fault → Outcome
 open_outcome s seat pid euid window (Some x) = refused s x
@@ -94,6 +95,7 @@ unfoldable pub change : Space → ℕ → Step → Outcome
 change s seat (Open pid euid window) = open_step s seat pid euid window
 change s seat (Attach pid) = attach_step s seat pid
 change s seat SetManager = by_actor s (actor s seat) (manager_step s)
+change s seat (SetSpam on) = by_actor s (actor s seat) (spam_step s on)
 change s seat (Command c parcel) = by_actor s (actor s seat) (λ a. command_step s a c parcel)
 change s seat (Read limit) = by_actor s (actor s seat) (λ a. read_step s a limit)
 change s seat ExitThread = by_actor s (actor s seat) (exit_thread_step s)

@@ -23,6 +23,7 @@ use Rattle.bd_space.specs.Frames.{innermost, served_innermost, goes_to, made_of}
 use Rattle.bd_space.specs.Todo.{owe, has_unread}
 use Rattle.bd_space.specs.Parcels.{Sending, sending_of}
 use Rattle.bd_space.specs.Delivery.{Delivery, delivered}
+use Rattle.bd_space.specs.Spam.{is_spam}
 use Rattle.bd_space.specs.Outcomes.{Outcome, accepted, stopped}
 
 abbrev pub is_one_way : TransactionData → Bool
@@ -90,7 +91,9 @@ called s seat p true = s
 called s seat p false = call_out s seat p
 
 unfoldable pub transacted : Space → Actor → TransactionData → Delivery → Space
-transacted s a d v = called (owe (delivered s a d v) (OfThread a.thread.seat) Complete) a.thread.seat v.receiver.made v.one_way
+transacted s a d v =
+    let z = delivered s a d v in
+    called (owe z (OfThread a.thread.seat) (Complete (is_spam z a v))) a.thread.seat v.receiver.made v.one_way
 
 -- what is left for the writer of a refused transaction
 abbrev pub refusal : Cause → Return

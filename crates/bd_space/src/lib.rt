@@ -7,7 +7,7 @@ mod space;
 mod step;
 
 pub use bytes::{Bytes, Notes};
-pub use record::{Entries, MOST_SEATS, Record};
+pub use record::{Entries, Record};
 pub use space::{
     Actor, Buffer, Callee, DeathNotification, Frame, Holder, Identity, Item, Name, Object, Phase,
     Process, Reference, Resolved, Server, Thread, TodoList, Turn, Work, WorkKind,

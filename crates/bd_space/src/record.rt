@@ -44,13 +44,10 @@ impl Entries {
     }
 }
 
-/// The most seats of a driver.
-pub const MOST_SEATS: u32 = 16;
-
 /// What happened at a driver: the number of its seats, and the steps in their order.
 #[derive(Drop, Debug)]
 pub struct Record {
-    /// How many seats there are, 1 to 16.
+    /// How many seats there are, 1 to 31.
     pub seats: u32,
     /// The steps with their answers.
     pub entries: Entries,

@@ -15,6 +15,8 @@ pub struct Process {
     pub euid: u32,
     /// The size of its window in bytes.
     pub window: u32,
+    /// Whether it asked for reports of its own one-way flooding: off at first.
+    pub spam_detection: bool,
 }
 
 /// The live thread of a seat.
@@ -126,6 +128,8 @@ pub struct Buffer {
     pub made: u32,
     /// The process whose window it lies in.
     pub receiver: u32,
+    /// The process that sent it, live or not.
+    pub sender: u32,
     /// Where it begins in the window.
     pub start: u32,
     /// How much of the window it takes.
@@ -176,7 +180,10 @@ pub enum WorkKind {
     /// The references to an own object have changed: `BR_INCREFS` and so on.
     Notice(ObjectId),
     /// The transaction or reply was accepted: `BR_TRANSACTION_COMPLETE`.
-    Complete,
+    Complete {
+        /// Its sender asked for reports, and floods the receiver with one-way calls: `BR_ONEWAY_SPAM_SUSPECT` instead.
+        spam: bool,
+    },
     /// The transaction or reply was refused.
     Refusal(Return),
     /// A call, by its buffer: `BR_TRANSACTION`.

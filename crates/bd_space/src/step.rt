@@ -56,6 +56,11 @@ pub enum Request {
     },
     /// Makes the seat's process the context manager.
     SetManager,
+    /// Has the seat's process told of its own one-way flooding, or no longer (`BINDER_ENABLE_ONEWAY_SPAM_DETECTION`).
+    SetSpam {
+        /// Whether it is told from now on.
+        on: bool,
+    },
     /// Runs the commands of a stream.
     Write {
         /// The commands, one after the other, at most 4096 bytes.
@@ -88,7 +93,7 @@ pub enum Stop {
 pub enum Answer {
     /// The process is open, or the thread attached.
     Opened,
-    /// The process is the context manager.
+    /// The process is the context manager, or what it is told of its one-way flooding is set.
     Set,
     /// The thread or the process has ended.
     Exited,
@@ -129,6 +134,10 @@ pub enum Step {
     },
     /// As the request of that name.
     SetManager,
+    /// As the request of that name.
+    SetSpam {
+        on: bool,
+    },
     /// One command of a write.
     Command {
         /// The command.
@@ -159,6 +168,7 @@ impl Step {
             },
             Step::Attach { pid } => Step::Attach { pid: *pid },
             Step::SetManager => Step::SetManager,
+            Step::SetSpam { on } => Step::SetSpam { on: *on },
             Step::Command { command, parcel } => Step::Command {
                 command: *command,
                 parcel: parcel_copied(parcel)?,
@@ -184,7 +194,7 @@ fn parcel_copied(parcel: &Option<Parcel>) -> Result<Option<Parcel>, AllocError>
 pub enum StepAnswer {
     /// The process is open, or the thread attached.
     Opened,
-    /// The process is the context manager.
+    /// The process is the context manager, or what it is told of its one-way flooding is set.
     Set,
     /// The thread or the process has ended.
     Exited,

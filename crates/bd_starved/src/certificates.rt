@@ -9,7 +9,7 @@ use bd_audit::{AuditFault, Turn, call_of_reply, gift_chain, oneway_turns, replay
 use bd_codec::read_return;
 use bd_engine::Engine;
 use bd_space::{Record, StepAnswer};
-use bd_uapi::{Fault, Return};
+use bd_uapi::{Fault, MOST_SEATS, Return};
 use std::alloc::Global;
 use std::io::Write;
 
@@ -173,7 +173,7 @@ pub fn judge<W: Write>(
     engine: &Engine,
     out: &mut W,
 ) -> Result<(), Broken> {
-    if record.seats < 1 || 16 < record.seats {
+    if record.seats < 1 || MOST_SEATS < record.seats {
         return Err(Broken::Never("a script has other numbers of seats"));
     }
     match again!(replay(alloc, record), AuditFault::NoMemory) {

@@ -23,8 +23,15 @@ fn add_seats(engine: &Engine, sum: &mut DefaultHasher) {
     }
 }
 
+fn add_process(engine: &Engine, pid: u32, sum: &mut DefaultHasher) {
+    let made = engine.process_of_pid(pid);
+    made.hash(sum);
+    if let Some(process) = made.and_then(|made| engine.process(made)) {
+        (process.euid, process.window, process.spam_detection).hash(sum);
+    }
+}
+
 fn add_names_of(engine: &Engine, pid: u32, sum: &mut DefaultHasher) {
-    engine.process_of_pid(pid).hash(sum);
     for number in 0..MOST_HANDLES {
         id_of(engine.named(pid, number)).hash(sum);
     }
@@ -47,7 +54,8 @@ fn add_objects_of(engine: &Engine, place: u32, sum: &mut DefaultHasher) {
 
 fn add_buffer(engine: &Engine, place: u32, sum: &mut DefaultHasher) {
     if let Some(buffer) = engine.buffer(place) {
-        (buffer.receiver, buffer.start, buffer.size).hash(sum);
+        (buffer.receiver, buffer.sender).hash(sum);
+        (buffer.start, buffer.size).hash(sum);
         (buffer.one_way, buffer.handed).hash(sum);
         id_of(buffer.target).hash(sum);
         buffer.bytes.as_slice().hash(sum);
@@ -65,6 +73,7 @@ pub fn fingerprint(engine: &Engine) -> u64 {
     id_of(engine.manager()).hash(&mut sum);
     add_seats(engine, &mut sum);
     for pid in PIDS {
+        add_process(engine, pid, &mut sum);
         add_names_of(engine, pid, &mut sum);
     }
     for place in 0..engine.len() {

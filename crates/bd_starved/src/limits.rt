@@ -3,6 +3,7 @@
 use crate::broken::Broken;
 use bd_driver::Driver;
 use bd_engine::Engine;
+use bd_uapi::MOST_SEATS;
 use std::alloc::Global;
 use std::io::Write;
 
@@ -30,5 +31,5 @@ fn print_limit<W: Write>(alloc: Global, seats: u32, out: &mut W) -> Result<(), B
 /// Prints what comes of no seats and of one more than the most. Neither asks for memory.
 pub fn print_limits<W: Write>(alloc: Global, out: &mut W) -> Result<(), Broken> {
     print_limit(alloc, 0, out)?;
-    print_limit(alloc, 17, out)
+    print_limit(alloc, MOST_SEATS + 1, out)
 }

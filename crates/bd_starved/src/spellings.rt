@@ -36,7 +36,7 @@ static COMMANDS: [Command; 14] = [
     Command::DeadBinderDone(1),
 ];
 
-static RETURNS: [Return; 12] = [
+static RETURNS: [Return; 13] = [
     Return::Transaction(RECORD),
     Return::Reply(RECORD),
     Return::DeadReply,
@@ -49,6 +49,7 @@ static RETURNS: [Return; 12] = [
     Return::DeadBinder(1),
     Return::ClearDeathNotificationDone(1),
     Return::FailedReply,
+    Return::OnewaySpamSuspect,
 ];
 
 // Prints what was appended to nothing, and answers whether it was. A spelling that memory was refused to appends nothing.

@@ -6,11 +6,13 @@ use Rattle.bd_space.specs.declared.step.ObjectId.{ObjectId}
 use Rattle.bd_space.specs.declared.space.Buffer.{Buffer}
 use Rattle.bd_space.specs.declared.space.DeathNotification.{DeathNotification}
 use Rattle.bd_space.specs.declared.space.Object.{Object}
+use Rattle.bd_space.specs.declared.space.Process.{Process}
 use Rattle.bd_space.specs.declared.space.Thread.{Thread}
 use Rattle.bd_space.specs.declared.space.WorkKind.{WorkKind}
 use Rattle.bd_space.specs.declared.space.WorkKind.TheVariants as work
 use Rattle.bd_space.specs.Space.{Space}
 use Rattle.bd_space.specs.Names.{strongly_named}
+use Rattle.bd_space.specs.Seats.{process_in}
 use Rattle.bd_engine.specs.Looks.{has_asked, innermost_of}
 use Rattle.bd_state.specs.declared.buffers.BufferState.{BufferState}
 use Rattle.bd_state.specs.declared.death_notifications.DeathState.{DeathState}
@@ -78,7 +80,7 @@ pub record IsOfHandle (s : Space) (es : List Entry) (process number : ℕ) (o : 
 -- the item, but for the name of what a refusal or a verdict reads as
 abbrev pub IsOfWork : WorkKind → Item → Type 0
 IsOfWork (work.Notice o) (item.Notice t) = t ≡ object_text o
-IsOfWork work.Complete item.Complete = ⊤
+IsOfWork (work.Complete b) (item.Complete t) = t ≡ b
 IsOfWork (work.Refusal r) (item.Refusal n) = ⊤
 IsOfWork (work.Call m) (item.Call t) = t ≡ m
 IsOfWork (work.Reply m) (item.Reply t) = t ≡ m
@@ -87,7 +89,12 @@ IsOfWork (work.Death m) (item.Death t) = t ≡ m
 IsOfWork (work.Cleared c) (item.Cleared t) = t ≡ wide c
 IsOfWork _ _ = ⊥
 
--- the process is the one that was opened at this place
-pub record IsOpened (es : List Entry) (place : ℕ) (t : ProcessState) : Type 0 where
+-- the process is the live one that was opened at this place
+pub record IsOpened (s : Space) (es : List Entry) (place : ℕ) (t : ProcessState) : Type 0 where
   pub opened : t.opened ≡ place
   pub pid : pid_at es place ≡ Some t.pid
+  pub process : Process
+  pub lives : process_in s.processes place ≡ Some process
+  pub euid : t.euid ≡ process.euid
+  pub window : t.window ≡ process.window
+  pub spam_detection : t.spam_detection ≡ process.spam_detection

@@ -38,6 +38,7 @@ pub fn return_name(told: &Return) -> &'static str {
         Return::DeadBinder(_) => "BR_DEAD_BINDER",
         Return::ClearDeathNotificationDone(_) => "BR_CLEAR_DEATH_NOTIFICATION_DONE",
         Return::FailedReply => "BR_FAILED_REPLY",
+        Return::OnewaySpamSuspect => "BR_ONEWAY_SPAM_SUSPECT",
     }
 }
 
@@ -47,6 +48,7 @@ pub fn step_name(step: &Step) -> &'static str {
         Step::Open { .. } => "open",
         Step::Attach { .. } => "attach",
         Step::SetManager => "manager",
+        Step::SetSpam { .. } => "spam",
         Step::Command { command, .. } => command_name(command),
         Step::Read { .. } => "read",
         Step::ExitThread => "exitthread",

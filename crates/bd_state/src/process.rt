@@ -1,12 +1,13 @@
 //! A process, with what it has.
 
 ghost use Rattle.std.specs.Prelude.{◌≡◌, IfOk, IfSome};
+ghost use Rattle.bd_space.specs.Histories.{space_after};
 ghost use Rattle.bd_state.specs.States.{IsOpened};
 
 use crate::buffers::{BufferState, add_buffers, places_of_buffers};
 use crate::death_notifications::{DeathState, add_deaths};
 use crate::handles::{HandleState, add_handles};
-use crate::lists::write_lines;
+use crate::lists::{write_lines, write_mark};
 use crate::objects::{ObjectState, add_objects};
 use crate::threads::{ThreadState, add_threads};
 use crate::work_items::{UnreadItem, add_unread};
@@ -23,6 +24,7 @@ pub struct ProcessState {
     euid: u32,
     window: u32,
     opened: u32,
+    spam_detection: bool,
     unread: Vec<UnreadItem>,
     threads: Vec<ThreadState>,
     objects: Vec<ObjectState>,
@@ -34,19 +36,18 @@ pub struct ProcessState {
 impl ProcessState {
     // The process that the entry at a place opened, if it lives, so far with nothing.
     fn opened(alloc: Global, engine: &Engine, entries: &[Entry], place: u32) -> Option<ProcessState>
-        ensures { IfSome result (IsOpened entries.now place) }
+        ensures { IfSome result (IsOpened (space_after engine.now) entries.now place) }
     {
-        let Step::Open { pid, euid, window } = entries.get(place as usize)?.step else {
+        let Step::Open { pid, .. } = entries.get(place as usize)?.step else {
             return None;
         };
-        if engine.process_of_pid(pid) != Some(place) {
-            return None;
-        }
+        let process = engine.process(place)?;
         Some(ProcessState {
             pid,
-            euid,
-            window,
+            euid: process.euid,
+            window: process.window,
             opened: place,
+            spam_detection: process.spam_detection,
             unread: Vec::new(alloc),
             threads: Vec::new(alloc),
             objects: Vec::new(alloc),
@@ -60,6 +61,9 @@ impl ProcessState {
     fn fill(&mut self, alloc: Global, engine: &Engine, entries: &[Entry]) -> Result<(), AllocError>
         ensures opened { self.new.opened ≡ self.old.opened }
         ensures pid { self.new.pid ≡ self.old.pid }
+        ensures euid { self.new.euid ≡ self.old.euid }
+        ensures window { self.new.window ≡ self.old.window }
+        ensures spam_detection { self.new.spam_detection ≡ self.old.spam_detection }
     {
         let process = self.opened;
         let buffers = places_of_buffers(alloc, engine, process)?;
@@ -85,7 +89,7 @@ impl ProcessState {
         entries: &[Entry],
         place: u32,
     ) -> Result<Option<ProcessState>, AllocError>
-        ensures { IfOk result (λ found. IfSome found (IsOpened entries.now place)) }
+        ensures { IfOk result (λ found. IfSome found (IsOpened (space_after engine.now) entries.now place)) }
     {
         match ProcessState::opened(alloc, engine, entries, place) {
             Some(mut process) => {
@@ -105,6 +109,7 @@ impl fmt::Display for ProcessState {
             f,
             "pid {pid} euid {euid} window {window} opened at {opened}"
         )?;
+        write_mark(self.spam_detection, "asks for reports of flooding", f)?;
         write_lines(self.unread.as_slice(), "  ", f)?;
         write_lines(self.threads.as_slice(), "  ", f)?;
         write_lines(self.objects.as_slice(), "  ", f)?;

@@ -16,7 +16,7 @@ use std::fmt;
 #[serde(tag = "kind", rename_all = "lowercase")]
 pub(crate) enum Item {
     Notice { object: ObjectText },
-    Complete,
+    Complete { spam: bool },
     Refusal { name: &'static str },
     Call { made: u32 },
     Reply { made: u32 },
@@ -29,7 +29,8 @@ impl fmt::Display for Item {
     fn fmt<W: fmt::Write>(&self, f: &mut fmt::Formatter<W>) -> fmt::Result {
         match self {
             Item::Notice { object } => write!(f, "notice of object {object}"),
-            Item::Complete => f.write_str("BR_TRANSACTION_COMPLETE"),
+            Item::Complete { spam: false } => f.write_str("BR_TRANSACTION_COMPLETE"),
+            Item::Complete { spam: true } => f.write_str("BR_ONEWAY_SPAM_SUSPECT"),
             Item::Refusal { name } => write!(f, "{name}, a refusal"),
             Item::Call { made } => write!(f, "BR_TRANSACTION, the call at {made}"),
             Item::Reply { made } => write!(f, "BR_REPLY, the reply at {made}"),
@@ -58,7 +59,7 @@ fn item_of(kind: &WorkKind) -> Item
         WorkKind::Notice(object) => Item::Notice {
             object: ObjectText(*object),
         },
-        WorkKind::Complete => Item::Complete,
+        WorkKind::Complete { spam } => Item::Complete { spam: *spam },
         WorkKind::Refusal(told) => Item::Refusal {
             name: return_name(told),
         },

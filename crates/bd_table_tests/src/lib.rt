@@ -17,6 +17,8 @@ mod references;
 #[cfg(test)]
 mod same;
 #[cfg(test)]
+mod threads;
+#[cfg(test)]
 mod turns;
 #[cfg(test)]
 mod windows;

@@ -20,14 +20,26 @@ const CALLS: u32 = 120;
 
 const PROCESSES: u32 = 3;
 
+// So many processes send.
+const SENDERS: u32 = 3;
+
 // A window's size in words of 8 bytes.
 const WORDS: u32 = 40;
+
+// What is sent, with so many bytes of data and of offsets.
+#[derive(Clone, Copy)]
+struct Sending {
+    receiver: u32,
+    sender: u32,
+    one_way: bool,
+    data_size: u64,
+    offsets_size: u64,
+}
 
 #[derive(Clone, Copy)]
 enum Call {
     Open,
-    // To a process, one-way or not, with so many bytes of data and of offsets.
-    Add(u32, bool, u64, u64),
+    Add(Sending),
     Free(u32),
     HandOut(u32),
     Close(u32),
@@ -38,6 +50,7 @@ enum Call {
 struct Shown {
     made: u32,
     receiver: u32,
+    sender: u32,
     start: u32,
     size: u32,
     one_way: bool,
@@ -50,6 +63,7 @@ fn seen(buffer: Option<&Buffer>) -> Option<Shown> {
     Some(Shown {
         made: b.made,
         receiver: b.receiver,
+        sender: b.sender,
         start: b.start,
         size: b.size,
         one_way: b.one_way,
@@ -64,41 +78,29 @@ fn zeros(alloc: Global, n: u64) -> Result<Bytes, AllocError>
     Ok(Bytes::new(vec![in alloc; 0; n as usize]?))
 }
 
-// Where a buffer is put.
-#[derive(Clone, Copy)]
-struct Spot {
-    made: u32,
-    receiver: u32,
-    start: u32,
-    one_way: bool,
-}
-
-fn buffer_at(
-    alloc: Global,
-    spot: Spot,
-    data_size: u64,
-    offsets_size: u64,
-) -> Result<Buffer, AllocError>
-    requires { room.needed data_size offsets_size ≤ 4194304 }
+// A buffer that the step at this place makes, where it is put.
+fn buffer_at(alloc: Global, made: u32, start: u32, sent: Sending) -> Result<Buffer, AllocError>
+    requires { room.needed sent.data_size sent.offsets_size ≤ 4194304 }
     ensures sized { IfOk result (λ b. b.size ≡ room.needed (length b.bytes) (length b.offsets)) }
-    ensures needs { IfOk result (λ b. b.size ≡ room.needed data_size offsets_size) }
-    ensures receiver { IfOk result (λ b. b.receiver ≡ spot.receiver) }
-    ensures one_way { IfOk result (λ b. b.one_way ≡ spot.one_way) }
-    ensures start { IfOk result (λ b. b.start ≡ spot.start) }
+    ensures needs { IfOk result (λ b. b.size ≡ room.needed sent.data_size sent.offsets_size) }
+    ensures receiver { IfOk result (λ b. b.receiver ≡ sent.receiver) }
+    ensures one_way { IfOk result (λ b. b.one_way ≡ sent.one_way) }
+    ensures start { IfOk result (λ b. b.start ≡ start) }
 {
     Ok(Buffer {
-        made: spot.made,
-        receiver: spot.receiver,
-        start: spot.start,
-        size: needed(data_size, offsets_size),
-        one_way: spot.one_way,
+        made,
+        receiver: sent.receiver,
+        sender: sent.sender,
+        start,
+        size: needed(sent.data_size, sent.offsets_size),
+        one_way: sent.one_way,
         handed: false,
         target: None,
         code: 0,
         flags: TransactionFlags::ONE_WAY,
         euid: 0,
-        bytes: zeros(alloc, data_size)?,
-        offsets: zeros(alloc, offsets_size)?,
+        bytes: zeros(alloc, sent.data_size)?,
+        offsets: zeros(alloc, sent.offsets_size)?,
     })
 }
 
@@ -131,20 +133,21 @@ impl Both {
         self.list.buffers.get(i).map(|b| b.made).unwrap_or(0)
     }
 
+    fn any_sending(&self, random: &mut Random) -> Sending {
+        let most = if random.is_so() { 24 } else { 160 };
+        Sending {
+            receiver: self.any_process(random),
+            sender: random.below(SENDERS),
+            one_way: random.is_so(),
+            data_size: u64::from(random.below(most)),
+            offsets_size: 8 * u64::from(random.below(3)),
+        }
+    }
+
     fn any_call(&self, random: &mut Random) -> Call {
         match random.below(32) {
             0 | 1 if self.list.processes.len() < 3 => Call::Open,
-            0..=15 => {
-                let most = if random.is_so() { 24 } else { 160 };
-                let data_size = u64::from(random.below(most));
-                let offsets_size = 8 * u64::from(random.below(3));
-                Call::Add(
-                    self.any_process(random),
-                    random.is_so(),
-                    data_size,
-                    offsets_size,
-                )
-            }
+            0..=15 => Call::Add(self.any_sending(random)),
             16..=25 => Call::Free(self.any_made(random)),
             26..=29 => Call::HandOut(self.any_made(random)),
             30 if random.below(8) == 0 => Call::Close(self.any_process(random)),
@@ -164,21 +167,16 @@ impl Both {
                 pid: 1,
                 euid: 0,
                 window: 8 * WORDS,
+                spam_detection: false,
             });
         }
         Ok(())
     }
 
-    fn add_at(
-        &mut self,
-        alloc: Global,
-        spot: Spot,
-        data_size: u64,
-        offsets_size: u64,
-    ) -> Result<(), Fail>
-        requires { room.needed data_size offsets_size ≤ 4194304 }
+    fn add_at(&mut self, alloc: Global, start: u32, sent: Sending) -> Result<(), Fail>
+        requires { room.needed sent.data_size sent.offsets_size ≤ 4194304 }
     {
-        let listed = buffer_at(alloc, spot, data_size, offsets_size)?;
+        let listed = buffer_at(alloc, self.place, start, sent)?;
         self.list.reserve_buffer()?;
         self.list.add(listed);
         Ok(())
@@ -189,27 +187,25 @@ impl Both {
         &mut self,
         rt: &(impl Abort + Alloc<A = Global>),
         n: u32,
-        receiver: u32,
-        one_way: bool,
-        data_size: u64,
-        offsets_size: u64,
+        sent: Sending,
     ) -> Result<(), Fail> {
+        let Sending {
+            receiver,
+            one_way,
+            data_size,
+            offsets_size,
+            ..
+        } = sent;
         let placed = self.table.place(receiver, one_way, data_size, offsets_size);
         let wanted = self.list.place(receiver, one_way, data_size, offsets_size);
         same(rt, n, "place", receiver, placed, wanted);
         let Ok(start) = placed else {
             return Ok(());
         };
-        let spot = Spot {
-            made: self.place,
-            receiver,
-            start,
-            one_way,
-        };
-        let buffer = buffer_at(rt.alloc(), spot, data_size, offsets_size)?;
+        let buffer = buffer_at(rt.alloc(), self.place, start, sent)?;
         self.table.reserve_buffer(receiver)?;
         self.table.add(buffer);
-        self.add_at(rt.alloc(), spot, data_size, offsets_size)
+        self.add_at(rt.alloc(), start, sent)
     }
 
     fn hand_out(&mut self, made: u32) {
@@ -229,7 +225,7 @@ impl Both {
         self.place = self.place.saturating_add(1);
         match call {
             Call::Open => self.open(rt.alloc())?,
-            Call::Add(p, one_way, data, offsets) => self.add(rt, n, p, one_way, data, offsets)?,
+            Call::Add(sent) => self.add(rt, n, sent)?,
             Call::Free(made) => {
                 self.table.free(made);
                 self.list.free(made);
@@ -275,11 +271,27 @@ impl Both {
         );
     }
 
+    // Who floods a window, and one who sends nothing.
+    fn compare_floods(&self, rt: &impl Abort, n: u32, p: u32) {
+        for sender in 0..SENDERS + 1 {
+            let wanted = self.list.floods(p, sender);
+            same(
+                rt,
+                n,
+                "floods",
+                sender,
+                self.table.floods(p, sender),
+                wanted,
+            );
+        }
+    }
+
     fn compare_in(&self, rt: &impl Abort, n: u32, p: u32) {
         for i in 0..WORDS + 2 {
             self.compare_at(rt, n, p, i);
         }
         self.compare_place(rt, n, p, self.place % 12);
+        self.compare_floods(rt, n, p);
     }
 
     // All looks answer the same, in every window and in one that there isn't.

@@ -45,7 +45,9 @@ fn list_of(i: u32) -> TodoList {
 fn any_kind(random: &mut Random) -> WorkKind {
     match random.below(13) {
         0..=2 => WorkKind::Notice(random.object(OBJECTS)),
-        3 => WorkKind::Complete,
+        3 => WorkKind::Complete {
+            spam: random.is_so(),
+        },
         4 => WorkKind::Refusal(Return::FailedReply),
         5..=7 => WorkKind::Call(random.below(BUFFERS)),
         8 => WorkKind::Reply(random.below(BUFFERS)),
@@ -60,7 +62,7 @@ fn number_of(kind: WorkKind) -> u32 {
     match kind {
         WorkKind::Notice(o) => o.place % 4,
         WorkKind::Call(b) => 4 + b % 8,
-        WorkKind::Complete => 12,
+        WorkKind::Complete { .. } => 12,
         WorkKind::Refusal(_) => 13,
         WorkKind::Reply(_) => 14,
         WorkKind::Verdict(_) => 15,
@@ -106,7 +108,7 @@ impl Both {
                 index: u64::from(random.below(4)),
             },
             list,
-            kind: WorkKind::Complete,
+            kind: WorkKind::Complete { spam: false },
         };
         let work = self.list.work_at(list, k / 2).unwrap_or(absent);
         if random.below(8) == 0 {

@@ -2,6 +2,7 @@
 //! by ten gifts, where an object goes to and fro between two processes.
 
 ghost use Rattle.std.specs.Prelude.{◌≡◌, ◌≤◌, IfOk};
+ghost use Rattle.bd_uapi.specs.Limits.{IsSeats};
 ghost use Rattle.bd_space.specs.Histories.{IsHistory, history_in};
 
 use crate::same::{holds, same};
@@ -9,7 +10,7 @@ use crate::steps::{enter, fields, open};
 use bd_audit::{call_of_reply, gift_chain};
 use bd_engine::Engine;
 use bd_space::{Bytes, Parcel, Record, Step};
-use bd_uapi::{Command, TransactionData, TransactionFlags};
+use bd_uapi::{Command, MOST_SEATS, TransactionData, TransactionFlags};
 use std::alloc::{AllocError, Global};
 use std::process::Abort;
 use std::test::Fail;
@@ -50,11 +51,11 @@ fn take(engine: &mut Engine, seat: u32, step: Step) -> bool {
 
 // The history of an engine.
 fn history_of(engine: Engine) -> Result<Record, Fail>
-    ensures seats { IfOk result (λ r. (1 ≤ r.seats) × (r.seats ≤ 16)) }
+    ensures seats { IfOk result (λ r. IsSeats r.seats) }
     ensures lawful { IfOk result (λ r. IsHistory (history_in r)) }
 {
     let record = engine.into_record();
-    if record.seats < 1 || record.seats > 16 {
+    if record.seats < 1 || MOST_SEATS < record.seats {
         return Err(Fail::from("no engine has so many seats"));
     }
     Ok(record)

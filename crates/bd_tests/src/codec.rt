@@ -39,9 +39,10 @@ static COMMANDS_READ: [(&[u8], Result<(Command, usize), Fault>); 6] = [
 ];
 
 // The same of returns.
-static RETURNS_READ: [(&[u8], Result<(Return, usize), Fault>); 4] = [
+static RETURNS_READ: [(&[u8], Result<(Return, usize), Fault>); 5] = [
     (&[0x0c, 0x72, 0, 0], Ok((Return::Noop, 4))),
-    (&[0x13, 0x72, 0, 0], Err(Fault::UnknownCommand)),
+    (&[0x13, 0x72, 0, 0], Ok((Return::OnewaySpamSuspect, 4))),
+    (&[0x12, 0x72, 0, 0], Err(Fault::UnknownCommand)),
     (
         &[0x0f, 0x72, 8, 0x80, 77, 0, 0, 0, 0, 0, 0, 0, 0x0c, 0x72],
         Ok((Return::DeadBinder(77), 12)),
@@ -168,7 +169,7 @@ fn see_both_ways(rt: &(impl Abort + Alloc<A = Global>), sent: &Return) -> Result
 // The same of every return, written in both ways.
 #[test]
 fn every_return_by_its_code(rt: HostRuntime) -> Result<(), Fail> {
-    let rows: [(u32, usize, Return); 12] = [
+    let rows: [(u32, usize, Return); 13] = [
         (0x8040_7202, 68, Return::Transaction(record())),
         (0x8040_7203, 68, Return::Reply(record())),
         (0x0000_7205, 4, Return::DeadReply),
@@ -181,6 +182,7 @@ fn every_return_by_its_code(rt: HostRuntime) -> Result<(), Fail> {
         (0x8008_720f, 12, Return::DeadBinder(77)),
         (0x8008_7210, 12, Return::ClearDeathNotificationDone(78)),
         (0x0000_7211, 4, Return::FailedReply),
+        (0x0000_7213, 4, Return::OnewaySpamSuspect),
     ];
     for (code, length, sent) in rows {
         see_return(&rt, code, length, sent)?;
@@ -199,7 +201,7 @@ const REFUSED: [u32; 5] = [
 ];
 
 // Some that no command or return has.
-const UNKNOWN: [u32; 5] = [0x0000_6300, 0x4040_6302, 0x0000_7213, 0x8040_7204, 0];
+const UNKNOWN: [u32; 5] = [0x0000_6300, 0x4040_6302, 0x0000_7212, 0x8040_7204, 0];
 
 #[test]
 fn other_codes(rt: HostRuntime) {

@@ -16,4 +16,6 @@ mod player;
 mod same;
 #[cfg(test)]
 mod script;
+#[cfg(test)]
+mod seats;
 pub mod steps;

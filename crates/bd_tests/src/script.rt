@@ -50,11 +50,11 @@ fn write_in(alloc: Global, text: &[u8]) -> Result<(Vec<u8>, Vec<u8>), Fail> {
 #[test]
 fn first_bad_line(rt: HostRuntime) {
     let alloc = rt.alloc();
-    let cases: [(&[u8], u64); 18] = [
+    let cases: [(&[u8], u64); 20] = [
         (b"", 0),
         (b"\n\n# seats 1\n", 0),
         (b"seats 0", 1),
-        (b"seats 17\n", 1),
+        (b"seats 32\n", 1),
         (b"seats 1 2\n", 1),
         (b"0 look\n", 1),
         (b"\n   \nseats 1\n", 2),
@@ -69,6 +69,8 @@ fn first_bad_line(rt: HostRuntime) {
         (b"seats 1\n0 post\n", 2),
         (b"seats 1\n0 post look\n", 2),
         (b"seats 1\n0 read 4294967296\n", 2),
+        (b"seats 1\n0 spam 2\n", 2),
+        (b"seats 1\n0 spam\n", 2),
     ];
     for (text, number) in cases {
         same(&rt, "the bad line", bad_line(alloc, text), Some(number));
@@ -81,19 +83,28 @@ fn seen(line: &Line) -> (u64, u32, char) {
         Verb::Look => 'l',
         Verb::Await(7) => 'a',
         Verb::Post(Request::ExitThread) => 'p',
+        Verb::Post(Request::SetSpam { on: false }) => 'n',
+        Verb::Call(Request::SetSpam { on: true }) => 's',
         _ => '-',
     };
     (line.number, line.seat, verb)
 }
 
-const PLACES: [(u64, u32, char); 3] = [(4, 1, 'l'), (5, 0, 'a'), (7, 1, 'p')];
+const PLACES: [(u64, u32, char); 5] = [
+    (4, 1, 'l'),
+    (5, 0, 'a'),
+    (7, 1, 'p'),
+    (8, 0, 's'),
+    (9, 1, 'n'),
+];
 
 #[test]
 fn lines_that_run(rt: HostRuntime) -> Result<(), Fail> {
-    let text = b"# two seats\nseats  2\n\n 1   look \n0 await 7\n#\n1 post exitthread";
+    let text =
+        b"# two seats\nseats  2\n\n 1   look \n0 await 7\n#\n1 post exitthread\n0 spam 1\n1 post spam 0";
     let script = read_script(rt.alloc(), text).ok().ok_or("a script")?;
     same(&rt, "seats", script.seats, 2);
-    same(&rt, "lines", script.lines.len(), 3);
+    same(&rt, "lines", script.lines.len(), 5);
     for (line, place) in script.lines.iter().zip(PLACES) {
         same(&rt, "number, seat, verb", seen(line), place);
     }

@@ -96,6 +96,9 @@ pub const BR_CLEAR_DEATH_NOTIFICATION_DONE: u32 = 0x80087210;
 /// `BR_FAILED_REPLY`: the code of a return.
 pub const BR_FAILED_REPLY: u32 = 0x00007211;
 
+/// `BR_ONEWAY_SPAM_SUSPECT`: the code of a return.
+pub const BR_ONEWAY_SPAM_SUSPECT: u32 = 0x00007213;
+
 /// `BINDER_TYPE_BINDER`: the type of a flat object.
 pub const BINDER: u32 = 0x73622a85;
 

@@ -90,6 +90,8 @@ pub enum Return {
     ClearDeathNotificationDone(u64),
     /// `BR_FAILED_REPLY`: the transaction or reply was refused, or the call failed.
     FailedReply,
+    /// `BR_ONEWAY_SPAM_SUSPECT`: the transaction was accepted, and its sender floods the receiver with one-way calls.
+    OnewaySpamSuspect,
 }
 
 /// Each field of a record stands at its offset, in its width.

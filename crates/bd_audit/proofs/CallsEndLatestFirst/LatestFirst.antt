@@ -51,6 +51,7 @@ each-kept s seat x P k = record {
     opened = λ pid euid window free i. (k i).set_up.opened pid euid window free;
     attached = λ p free i. (k i).set_up.attached p free;
     managed = λ a e b i. (k i).set_up.managed a e b;
+    marked = λ p on i. (k i).set_up.marked p on;
   };
   changes = record {
     transacts = λ a d parcel v e g c i. (k i).changes.transacts a d parcel v e g c;

@@ -1,7 +1,7 @@
 -- A call of a thread that lives on stays open through a step as long as the thread has a later one.
 use Rattle.bd_laws.proofs.words.Logic.{◌≡◌, ℕ, ◌<◌, ◌≤◌, ◌-◌, ◌==◌, Bool, true, false, cond, not, List, [], ◌∷◌, map, filter, Option, Some, None, inl, inr, refl, ap, sym, subst, ◌∙◌, arith, list_any, find, fold, eqb-true, eq-eqb, cases_lt}
 use Rattle.bd_laws.proofs.words.Types.{TransactionData, DeadReply, FailedReply, TransactionComplete, Step, Entry, Work, Frame, Thread, Actor, Serving, Gone, OfThread, OfProcess, WorkKind}
-use Rattle.bd_laws.proofs.words.Space.{is_some_and, Space, closed, is_frame, is_child_of, is_gone, served_innermost, owe, tell_caller, is_call, list_to_read, ripen, follow, notify, work_goes, deaths_go, names_go, objects_go, is_abandoned, Delivery, delivered, transacted, called, call_out, refusal, replied, reply_refused, read_by, taken, serve, thread_goes, gone_server, unread_server, frame_without, unread_frame, threads_go, without_process, tell_deaths, seat_of, counted, next}
+use Rattle.bd_laws.proofs.words.Space.{is_some_and, Space, closed, is_frame, is_child_of, is_gone, served_innermost, owe, tell_caller, is_call, list_to_read, ripen, follow, notify, work_goes, deaths_go, names_go, objects_go, is_abandoned, Delivery, delivered, transacted, called, call_out, refusal, replied, reply_refused, read_by, taken, serve, thread_goes, gone_server, unread_server, frame_without, unread_frame, threads_go, without_process, tell_deaths, seat_of, counted, next, is_spam}
 use Rattle.bd_space.specs.declared.space.WorkKind.TheVariants as work
 use Rattle.bd_laws.proofs.words.Laws.{In, NoChild, OnPaths}
 use Rattle.bd_laws.proofs.Machine.Table.{SameFrames, Any, frames_table, set_up-by, changes-but}
@@ -151,9 +151,9 @@ module _ (s : Space) (h : OnPaths s.steps s) (top child : Frame) (here : In top 
   unfolding replied
   replies a d f v e =
       let x = closed s f.made in
-      let y = owe (delivered x a d v) (OfThread a.thread.seat) work.Complete in
+      let y = owe (delivered x a d v) (OfThread a.thread.seat) (work.Complete false) in
       let k = served-childless s.steps s a.thread.seat f h e in
-      tells y f.caller (work.Reply s.steps) (same y x (sent-frames x a d v) (sent-threads x a d v) (closes s f.made (λ x. leaf-off f k.0 k.1) (calm s refl)))
+      tells y f.caller (work.Reply s.steps) (same y x (sent-frames x a d v false) (sent-threads x a d v false) (closes s f.made (λ x. leaf-off f k.0 k.1) (calm s refl)))
 
   -- ---- the other parts
 
@@ -173,7 +173,7 @@ module _ (s : Space) (h : OnPaths s.steps s) (top child : Frame) (here : In top 
   pub transacts : (a : Actor) (d : TransactionData) (v : Delivery) → While (transacted s a d v)
   unfolding transacted
   transacts a d v =
-      calls-out (owe (delivered s a d v) (OfThread a.thread.seat) work.Complete) a.thread.seat v.receiver.made v.one_way (sent-frames s a d v) (sent-steps s a d v)
+      calls-out (owe (delivered s a d v) (OfThread a.thread.seat) (work.Complete (is_spam (delivered s a d v) a v))) a.thread.seat v.receiver.made v.one_way (sent-frames s a d v _) (sent-steps s a d v _)
 
   -- the top's call was read before, so that no other thread comes to serve it
   module _ (u : Thread) (left : ℕ) where

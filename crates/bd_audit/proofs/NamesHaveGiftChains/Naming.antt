@@ -1,7 +1,7 @@
 -- What a step's new names rest on.
-use Rattle.bd_laws.proofs.words.Logic.{◌≡◌, ◌-◌, ℕ, ◌==◌, Bool, true, not, ◌&&◌, List, [], ◌∷◌, ◌++◌, Option, Some, None, Ok, ◌⊎◌, inl, inr, refl, ap, sym, subst, ◌∙◌, find, is_some, option_map, eq-eqb}
+use Rattle.bd_laws.proofs.words.Logic.{◌≡◌, ◌-◌, ℕ, ◌==◌, Bool, true, false, not, ◌&&◌, List, [], ◌∷◌, ◌++◌, Option, Some, None, Ok, ◌⊎◌, inl, inr, refl, ap, sym, subst, ◌∙◌, find, is_some, option_map, eq-eqb}
 use Rattle.bd_laws.proofs.words.Types.{TransactionData, ObjectId, Parcel, Step, Actor, Frame, Asked, Name, OfThread}
-use Rattle.bd_laws.proofs.words.Space.{taken, list_to_read, same, Space, actor, reference_of, number_in, assign_numbers, owe, closed, ripen, Delivery, delivered, transaction_check, transacted, called, reply_check, replied, without_buffer, ask_check, ask, drop_asked, acknowledge, thread_goes, threads_go, without_process, tell_deaths, read_by, change, with_thread, with_process, with_manager}
+use Rattle.bd_laws.proofs.words.Space.{taken, list_to_read, same, Space, actor, reference_of, number_in, assign_numbers, owe, closed, ripen, Delivery, delivered, transaction_check, transacted, called, reply_check, replied, without_buffer, ask_check, ask, drop_asked, acknowledge, thread_goes, threads_go, without_process, tell_deaths, read_by, change, with_thread, with_process, with_manager, is_spam, with_spam_detection}
 use Rattle.bd_space.specs.declared.space.WorkKind.TheVariants as work
 use Rattle.bd_laws.specs.Lists.{In}
 use Rattle.bd_laws.proofs.Lists.{in-filter, find-some}
@@ -25,9 +25,9 @@ unfolding transacted
 transacted-naming s seat x a d parcel v acts check =
     let t = transaction-checked s a d parcel v check in
     let z = delivered s a d v in
-    let y = owe z (OfThread a.thread.seat) work.Complete in
+    let y = owe z (OfThread a.thread.seat) (work.Complete (is_spam z a v)) in
     naming-untouched s seat x (called y a.thread.seat v.receiver.made v.one_way) y (Untouched.called-untouched y a.thread.seat v.receiver.made v.one_way)
-    (naming-untouched s seat x y z (Untouched.owe-untouched z (OfThread a.thread.seat) work.Complete)
+    (naming-untouched s seat x y z (Untouched.owe-untouched z (OfThread a.thread.seat) (work.Complete (is_spam z a v)))
     (delivered-naming s seat x a d v acts (sending-sends s a.process.made d parcel v.sending t.sends)))
 
 closed-actor : (s : Space) (made seat : ℕ) → actor (closed s made) seat ≡ actor s seat
@@ -48,9 +48,9 @@ unfolding replied
 replied-naming s seat x a d parcel f v acts check =
     let t = reply-checked s a d parcel f v check in
     let z = delivered (closed s f.made) a d v in
-    let y = owe z (OfThread a.thread.seat) work.Complete in
+    let y = owe z (OfThread a.thread.seat) (work.Complete false) in
     naming-untouched s seat x _ y (Untouched.told-untouched y f.caller (work.Reply s.steps))
-    (naming-untouched s seat x y z (Untouched.owe-untouched z (OfThread a.thread.seat) work.Complete)
+    (naming-untouched s seat x y z (Untouched.owe-untouched z (OfThread a.thread.seat) (work.Complete false))
     (closed-naming s seat x f.made z (delivered-hand (closed s f.made) seat a d v (closed-actor s f.made seat ∙ acts)
     (closed-sends s f.made a.process.made v.sending.made v.sending.items (sending-sends s a.process.made d parcel v.sending t.sends)))))
 
@@ -103,7 +103,7 @@ ends-naming s seat x p =
 -- ---- every step
 
 naming-step : (s : Space) (seat : ℕ) (x : Step) → Keeps s seat x (Naming s seat x) (Naming s seat x)
-unfolding with_thread with_process with_manager without_buffer drop_asked acknowledge read_by thread_goes
+unfolding with_thread with_process with_manager with_spam_detection without_buffer drop_asked acknowledge read_by thread_goes
 naming-step s seat x =
     let none : Naming s seat x s = fewer-names s seat x s (λ m i. i) in
     record {
@@ -112,6 +112,7 @@ naming-step s seat x =
         opened = λ pid euid window free. fewer-names s seat x (with_thread (with_process s pid euid window) seat s.steps) (λ m i. i);
         attached = λ p free. fewer-names s seat x (with_thread s seat p) (λ m i. i);
         managed = λ a e b. fewer-names s seat x (with_manager s a.process.made) (λ m i. i);
+        marked = λ p on. fewer-names s seat x (with_spam_detection s p on) (λ m i. i);
       };
       changes = record {
         transacts = λ a d parcel v e i t. transacted-naming s seat x a d parcel v i t;

@@ -1,7 +1,7 @@
 -- A Notice of an object is due exactly while its told values aren't what is so.
 use Rattle.bd_laws.proofs.words.Logic.{◌≡◌, ℕ, ◌≤◌, ◌==◌, Bool, true, false, cond, not, ◌&&◌, ◌||◌, List, [], ◌∷◌, ◌++◌, inl, inr, refl, ap, sym, subst, ◌∙◌, filter, length, arith, Some, list_any, list_all, fold, eqb-true}
 use Rattle.bd_laws.proofs.words.Types.{ObjectId, Step, Entry, Process, Object, Reference, Manager, Work, WorkKind, TodoList, OfThread, OfProcess}
-use Rattle.bd_laws.proofs.words.Space.{same, Space, opening, lives_in, reference_of, held_in, strong_in, objects_go, stays_in, names_go, closed, with_work, owe, is_notice, notice_of, with_notice, wants_notice, differs_in, has_notice_in, work_goes, deaths_go, notify, follow, change, counted, with_thread, with_process, with_manager, History, next, space_after}
+use Rattle.bd_laws.proofs.words.Space.{same, Space, opening, lives_in, reference_of, held_in, strong_in, objects_go, stays_in, names_go, closed, with_work, owe, is_notice, notice_of, with_notice, wants_notice, differs_in, has_notice_in, work_goes, deaths_go, notify, follow, change, counted, with_thread, with_process, with_manager, History, next, space_after, with_spam_detection}
 use mathlib.Core.Bool.{beq}
 use Rattle.bd_space.specs.declared.space.WorkKind.TheVariants as work
 use Rattle.bd_laws.proofs.words.Laws.{In, Pairs, Differ, KeptBefore, Before}
@@ -14,6 +14,7 @@ use Rattle.bd_laws.proofs.Objects.{kept-step}
 use Rattle.bd_laws.proofs.KeptBefore.ObjectsKept.{IsKept}
 use Rattle.bd_laws.proofs.IsInTurn.Received.{step-before, opening-before}
 use Rattle.bd_laws.proofs.NothingIsPending.Noticing.{Apart, Once, Noticing, follow-wanted, step-noticing, opening-noticing}
+use Rattle.bd_laws.proofs.Machine.Marks.{marked-lives}
 
 -- of each object there is a Notice where its owner is to be told, and else none
 abbrev pub Exact : Space → Type 0
@@ -114,6 +115,10 @@ attached-exact : (s : Space) (seat p : ℕ) → Exact s → Exact (with_thread s
 unfolding with_thread
 attached-exact s seat p h = h
 
+marked-exact : (s : Space) (p : ℕ) (on : Bool) → Exact s → Exact (with_spam_detection s p on)
+unfolding with_spam_detection
+marked-exact s p on h x l = h x l ∙ ap (λ b. b && differs_in s.references x) (sym (marked-lives p on s.processes x.owner))
+
 and-none : (a b c : Bool) → b ≡ false → c ≡ false → (a && (b || c)) ≡ false
 and-none true b c h k = rw (h, k) refl
 and-none false b c h k = refl
@@ -191,6 +196,7 @@ exact-step s seat x before noticing h =
         opened = λ pid euid window free. opened-exact s seat pid euid window before h;
         attached = λ p free. attached-exact s seat p h;
         managed = λ a e b. managed-exact s a.process.made before.objects noticing h;
+        marked = λ p on. marked-exact s p on h;
       };
       changes = k.changes;
       follows = λ z l. follow-exact z (in_order-differ z.objects l.in_order);

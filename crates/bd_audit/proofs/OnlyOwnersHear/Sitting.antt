@@ -1,7 +1,7 @@
 -- A Notice stands where threads of the process that owns its object read it.
 use Rattle.bd_laws.proofs.words.Logic.{◌≡◌, ℕ, ◌==◌, Bool, true, false, cond, not, List, [], ◌∷◌, ◌++◌, Some, inl, inr, refl, ap, sym, subst, ◌∙◌, filter, find, arith, list_any, eqb-true, eq-eqb}
 use Rattle.bd_laws.proofs.words.Types.{ObjectId, Step, Entry, Thread, Object, Reference, Turn, Work, TodoList, OfThread, OfProcess}
-use Rattle.bd_laws.proofs.words.Space.{changed, Space, opening, thread_in, objects_go, stays_in, names_go, assign_numbers, with_work, is_on, same_list, is_item, ripen, ripened, is_ripe, turns_of, with_notice, still_due, work_goes, deaths_go, notify, follow, without_buffer, ask, drop_asked, acknowledge, with_looping, read_by, told_of, is_told_by, thread_goes, threads_go, without_process, change, counted, with_thread, with_process, with_manager, next}
+use Rattle.bd_laws.proofs.words.Space.{changed, Space, opening, thread_in, objects_go, stays_in, names_go, assign_numbers, with_work, is_on, same_list, is_item, ripen, ripened, is_ripe, turns_of, with_notice, still_due, work_goes, deaths_go, notify, follow, without_buffer, ask, drop_asked, acknowledge, with_looping, read_by, told_of, is_told_by, thread_goes, threads_go, without_process, change, counted, with_thread, with_process, with_manager, next, with_spam_detection}
 use Rattle.bd_space.specs.declared.space.WorkKind.TheVariants as work
 use Rattle.bd_laws.proofs.words.Laws.{Pairs, Differ, KeptBefore}
 use Rattle.bd_laws.proofs.Earlier.{in_order-differ}
@@ -169,7 +169,7 @@ abbrev After : Space → Type 0
 After z = IsKeptWhole z × SitsIn z
 
 sitting-step : (s : Space) (seat : ℕ) (x : Step) → KeptBefore s → Noticing s → SitsIn s → Keeps s seat x Within After
-unfolding without_buffer ask assign_numbers drop_asked acknowledge
+unfolding without_buffer ask assign_numbers drop_asked acknowledge with_spam_detection
 sitting-step s seat x kept noticing h =
     let k = kept-step s seat x kept in
     record {
@@ -178,6 +178,7 @@ sitting-step s seat x kept noticing h =
         opened = λ pid euid window free. (k.set_up.opened pid euid window free, opened-sits s seat pid euid window h);
         attached = λ p free. (k.set_up.attached p free, with_thread-sits s seat p h);
         managed = λ a e b. (k.set_up.managed a e b, managed-sits s a.process.made kept noticing h);
+        marked = λ p on. (k.set_up.marked p on, h);
       };
       changes = record {
         transacts = λ a d parcel v e i t. (k.changes.transacts a d parcel v e i t, transacted-sits s seat a d parcel v kept noticing i t h);

@@ -1,7 +1,7 @@
 -- A Notice stands where its owner's threads read it: work items, transactions and replies.
 use Rattle.bd_laws.proofs.words.Logic.{◌≡◌, ℕ, ◌==◌, Bool, true, false, cond, not, ◌&&◌, List, ◌++◌, Option, Some, None, Ok, inl, inr, refl, ap, sym, subst, ◌∙◌, filter, arith, eqb-true}
 use Rattle.bd_laws.proofs.words.Types.{TransactionData, ObjectId, Parcel, Process, Thread, Object, Reference, Frame, Actor, Item, Work, WorkKind, TodoList, OfThread, OfProcess, is_own}
-use Rattle.bd_laws.proofs.words.Space.{same, Space, thread_in, actor, object_in, assign_numbers, goes_to, closed, with_work, owe, notice_of, with_notice, wants_notice, has_notice_in, Delivery, delivered, own_notices, add_buffer, known_by, refer, make_objects, buffer_of, add_notice, withdraw_notice, transaction_check, transacted, called, call_out, reply_check, replied, tell_deaths}
+use Rattle.bd_laws.proofs.words.Space.{same, Space, thread_in, actor, object_in, assign_numbers, goes_to, closed, with_work, owe, notice_of, with_notice, wants_notice, has_notice_in, Delivery, delivered, own_notices, add_buffer, known_by, refer, make_objects, buffer_of, add_notice, withdraw_notice, transaction_check, transacted, called, call_out, reply_check, replied, tell_deaths, is_spam}
 use Rattle.bd_space.specs.declared.space.WorkKind.TheVariants as work
 use Rattle.bd_laws.proofs.words.Laws.{In, Pairs, Here, Differ, KeptBefore}
 use Rattle.bd_laws.proofs.Earlier.{in_order-differ}
@@ -126,8 +126,8 @@ transacted-sits s seat a d parcel v kept noticing e check h =
     let z = delivered s a d v in
     let sends = sending-sends s a.process.made d parcel v.sending t.sends in
     let differ = delivered-differ s a d v kept sends (λ o f. let is : t.object ≡ o = (let k = t.target in cc) in (t.owned.object, t.owned.here, t.owned.id ∙ is)) in
-    called-sits (owe z (OfThread a.thread.seat) work.Complete) a.thread.seat v.receiver.made v.one_way
-    (owe-sits z (OfThread a.thread.seat) work.Complete refl (delivered-sits s a d v kept noticing sends differ (a.thread, actor-seat s seat a e, actor-process s seat a e) h))
+    called-sits (owe z (OfThread a.thread.seat) (work.Complete (is_spam z a v))) a.thread.seat v.receiver.made v.one_way
+    (owe-sits z (OfThread a.thread.seat) (work.Complete (is_spam z a v)) refl (delivered-sits s a d v kept noticing sends differ (a.thread, actor-seat s seat a e, actor-process s seat a e) h))
 
 answered-sits : (z : Space) (caller : Option ℕ) (n : ℕ) → SitsIn z → SitsIn (elim caller as (λ (o : Option ℕ). Space) [ None ↦ z | Some t ↦ owe z (OfThread t) (work.Reply n) ])
 answered-sits z None n h = h
@@ -151,8 +151,8 @@ replied-sits s seat a d parcel f v kept noticing e check h =
     let before = closed-before s f.made kept in
     let sends = closed-sends s f.made a.process.made v.sending.made v.sending.items (sending-sends s a.process.made d parcel v.sending t.sends) in
     let differ = delivered-differ x a d v before sends (λ o g. let none = t.target in absurd (cc)) in
-    answered-sits (owe z (OfThread a.thread.seat) work.Complete) f.caller s.steps
-    (owe-sits z (OfThread a.thread.seat) work.Complete refl
+    answered-sits (owe z (OfThread a.thread.seat) (work.Complete false)) f.caller s.steps
+    (owe-sits z (OfThread a.thread.seat) (work.Complete false) refl
     (delivered-sits x a d v before (closed-noticing s f.made noticing) sends differ
     (closed-reaches s f.made a.thread.seat a.process.made (a.thread, actor-seat s seat a e, actor-process s seat a e)) (closed-sits s f.made h)))
 

@@ -1,7 +1,7 @@
 -- What an owner was told of an object agrees with what it has heard of it.
 use Rattle.bd_laws.proofs.words.Logic.{◌≡◌, ℕ, ◌+◌, ◌≤◌, ◌==◌, Bool, true, false, not, ◌&&◌, ◌||◌, List, [], ◌∷◌, Option, Some, None, Ok, inl, inr, refl, ap, sym, subst, ◌∙◌, filter, arith, eqb-true}
 use Rattle.bd_laws.proofs.words.Types.{TransactionData, ObjectId, Parcel, Step, Process, Actor, Frame, Object, Reference, Asked, Manager, Item, OfThread}
-use Rattle.bd_laws.proofs.words.Space.{same, Space, lives_in, reference_of, held_in, owned_in, stays_in, objects_go, is_asking, is_shaking, is_of_buffer, is_handshake, same_strength, names_go, assign_numbers, closed, owe, ripen, follow, notify, work_goes, deaths_go, Delivery, delivered, own_notices, add_buffer, known_by, refer, make_objects, buffer_references, transaction_check, transacted, called, reply_check, replied, ask, drop_asked, without_buffer, thread_goes, is_lost_reference, threads_go, without_process, is_dropped_with, with_thread, with_process, with_manager}
+use Rattle.bd_laws.proofs.words.Space.{same, Space, lives_in, reference_of, held_in, owned_in, stays_in, objects_go, is_asking, is_shaking, is_of_buffer, is_handshake, same_strength, names_go, assign_numbers, closed, owe, ripen, follow, notify, work_goes, deaths_go, Delivery, delivered, own_notices, add_buffer, known_by, refer, make_objects, buffer_references, transaction_check, transacted, called, reply_check, replied, ask, drop_asked, without_buffer, thread_goes, is_lost_reference, threads_go, without_process, is_dropped_with, with_thread, with_process, with_manager, is_spam, with_spam_detection}
 use Rattle.bd_space.specs.declared.space.WorkKind.TheVariants as work
 use Rattle.bd_laws.proofs.words.Laws.{In, Pairs, Differ, KeptBefore, Before}
 use Rattle.bd_laws.proofs.Earlier.{in_order-differ}
@@ -18,6 +18,7 @@ use Rattle.bd_laws.proofs.Machine.Following.{threads-keep}
 use Rattle.bd_audit.proofs.OwnersHearInOrder.Orders.{Hearing, unheard, ended}
 use Rattle.bd_audit.proofs.OwnersHearInOrder.Tallies.{tally-none}
 use Rattle.bd_audit.proofs.OwnersHearInOrder.Tracking.{is_weak, is_strong, waits, number, shaken, Tells, Tracks, HeardBefore, shaking-parts, own-unasked, own-window, own-buffer, Same, tells-same, same-more, same-filter, same-without}
+use Rattle.bd_laws.proofs.Machine.Marks.{marked-lives}
 
 -- ---- parts of a step
 
@@ -135,6 +136,10 @@ module _ (o : ObjectId) (st : Hearing) where
   unfolding with_thread
   attached-told s seat p h = h
 
+  marked-told : (s : Space) (p : ℕ) (on : Bool) → H s → H (with_spam_detection s p on)
+  unfolding with_spam_detection
+  marked-told s p on h x l e live = h x l e (sym (marked-lives p on s.processes x.owner) ∙ live)
+
   managed-told : (s : Space) (p : ℕ) → Before s → HeardBefore o st s → H (with_manager s p)
   unfolding with_manager
   managed-told s p before h x l e live =
@@ -190,9 +195,9 @@ module _ (o : ObjectId) (st : Hearing) where
   transacted-told s a d parcel v kept h check =
       let t = transaction-checked s a d parcel v check in
       let z = delivered s a d v in
-      let y = owe z (OfThread a.thread.seat) work.Complete in
+      let y = owe z (OfThread a.thread.seat) (work.Complete (is_spam z a v)) in
       tracks-untouched ⊥ (called y a.thread.seat v.receiver.made v.one_way) y (called-untouched y a.thread.seat v.receiver.made v.one_way)
-      (tracks-untouched ⊥ y z (owe-untouched z (OfThread a.thread.seat) work.Complete)
+      (tracks-untouched ⊥ y z (owe-untouched z (OfThread a.thread.seat) (work.Complete (is_spam z a v)))
       (delivered-told s a d v kept h (sending-sends s a.process.made d parcel v.sending t.sends)))
 
   closed-heard : (s : Space) (made : ℕ) → HeardBefore o st s → HeardBefore o st (closed s made)
@@ -206,9 +211,9 @@ module _ (o : ObjectId) (st : Hearing) where
       let t = reply-checked s a d parcel f v check in
       let x = closed s f.made in
       let z = delivered x a d v in
-      let y = owe z (OfThread a.thread.seat) work.Complete in
+      let y = owe z (OfThread a.thread.seat) (work.Complete false) in
       tracks-untouched ⊥ _ y (told-untouched y f.caller (work.Reply s.steps))
-      (tracks-untouched ⊥ y z (owe-untouched z (OfThread a.thread.seat) work.Complete)
+      (tracks-untouched ⊥ y z (owe-untouched z (OfThread a.thread.seat) (work.Complete false))
       (delivered-told x a d v (closed-before s f.made kept) (closed-heard s f.made h)
       (closed-sends s f.made a.process.made v.sending.made v.sending.items (sending-sends s a.process.made d parcel v.sending t.sends))))
 
@@ -245,6 +250,7 @@ module _ (o : ObjectId) (st : Hearing) where
           opened = λ pid euid window free. opened-told s seat pid euid window before h.tracks;
           attached = λ p free. attached-told s seat p h.tracks;
           managed = λ a e b. managed-told s a.process.made before h;
+          marked = λ p on. marked-told s p on h.tracks;
         };
         changes = record {
           transacts = λ a d parcel v e i t. transacted-told s a d parcel v kept h t;

@@ -1,7 +1,7 @@
 -- An open call has its caller as long as the thread that made it lives.
 use Rattle.bd_laws.proofs.words.Logic.{◌≡◌, ℕ, zero, suc, ◌<◌, ◌-◌, ◌==◌, Bool, true, false, cond, not, List, [], ◌∷◌, ◌++◌, length, map, filter, Option, Some, None, inl, inr, refl, ap, sym, subst, ◌∙◌, arith, fold, list_any}
 use Rattle.bd_laws.proofs.words.Types.{TransactionData, Entry, Work, Thread, Frame, Actor, OfThread, OfProcess}
-use Rattle.bd_laws.proofs.words.Space.{Space, opening, actor, closed, is_frame, owe, is_call, list_to_read, ripen, follow, notify, work_goes, deaths_go, names_go, assign_numbers, objects_go, Delivery, delivered, transacted, called, call_out, replied, without_buffer, read_by, taken, serve, thread_goes, gone_caller, frame_without, unread_frame, threads_go, without_process, tell_deaths, seat_of, counted, with_thread, with_process, with_manager, ask, drop_asked, acknowledge, with_looping, after}
+use Rattle.bd_laws.proofs.words.Space.{Space, opening, actor, closed, is_frame, owe, is_call, list_to_read, ripen, follow, notify, work_goes, deaths_go, names_go, assign_numbers, objects_go, Delivery, delivered, transacted, called, call_out, replied, without_buffer, read_by, taken, serve, thread_goes, gone_caller, frame_without, unread_frame, threads_go, without_process, tell_deaths, seat_of, counted, with_thread, with_process, with_manager, ask, drop_asked, acknowledge, with_looping, after, is_spam, with_spam_detection}
 use Rattle.bd_space.specs.declared.space.WorkKind.TheVariants as work
 use Rattle.bd_laws.specs.Lists.{In}
 use Rattle.bd_laws.proofs.Machine.EveryStep.{Keeps, every_step}
@@ -137,27 +137,29 @@ module _ (es : List Entry) (e : Entry) (h : HasCallers es (after opening es)) wh
   transacts : (a : Actor) (d : TransactionData) (v : Delivery) → actor s e.seat ≡ Some a → HasCallers more (transacted s a d v)
   unfolding transacted
   transacts a d v acts =
-      let y = owe (delivered s a d v) (OfThread a.thread.seat) work.Complete in
-      let threads = sent-threads s a d v in
+      let spam = is_spam (delivered s a d v) a v in
+      let y = owe (delivered s a d v) (OfThread a.thread.seat) (work.Complete spam) in
+      let threads = sent-threads s a d v spam in
       calls more y a.thread.seat v.receiver.made v.one_way
-      (λ m t c i. own m t (subst (λ n. Called more n m) (sent-steps s a d v) c) (ap (λ ts. made_in ts t) (sym threads) ∙ i) ∙ sym (actor-made s e.seat a acts).0)
-      (stays y (sent-frames s a d v) threads)
+      (λ m t c i. own m t (subst (λ n. Called more n m) (sent-steps s a d v spam) c) (ap (λ ts. made_in ts t) (sym threads) ∙ i) ∙ sym (actor-made s e.seat a acts).0)
+      (stays y (sent-frames s a d v spam) threads)
 
   replies : (a : Actor) (d : TransactionData) (f : Frame) (v : Delivery) → HasCallers more (replied s a d f v)
   unfolding replied
   replies a d f v =
       let x = closed s f.made in
-      answers more (owe (delivered x a d v) (OfThread a.thread.seat) work.Complete) f.caller s.steps
-      (same more (owe (delivered x a d v) (OfThread a.thread.seat) work.Complete) x (sent-frames x a d v) (sent-threads x a d v) (closes more s f.made now))
+      answers more (owe (delivered x a d v) (OfThread a.thread.seat) (work.Complete false)) f.caller s.steps
+      (same more (owe (delivered x a d v) (OfThread a.thread.seat) (work.Complete false)) x (sent-frames x a d v false) (sent-threads x a d v false) (closes more s f.made now))
 
   pub kept : Keeps s e.seat e.step (HasCallers more) (HasCallers more)
-  unfolding with_process with_manager without_buffer ask assign_numbers drop_asked acknowledge with_looping ripen follow notify work_goes deaths_go objects_go names_go
+  unfolding with_process with_manager with_spam_detection without_buffer ask assign_numbers drop_asked acknowledge with_looping ripen follow notify work_goes deaths_go objects_go names_go
   kept = record {
     set_up = record {
       same = now;
       opened = λ pid euid window free. attaches s.steps (with_process s pid euid window) refl refl refl;
       attached = λ p free. attaches p s refl refl refl;
       managed = λ a i b. stays (with_manager s a.process.made) refl refl;
+      marked = λ p on. stays (with_spam_detection s p on) refl refl;
     };
     changes = record {
       transacts = λ a d parcel v x i t. transacts a d v i;

@@ -118,11 +118,11 @@ module _ (es : List Entry) (e : Entry) (h : Answered es (after opening es)) wher
   unfolding replied closed
   replies a d f v g =
       let x = closed s f.made in
-      let y = owe (delivered x a d v) (OfThread a.thread.seat) work.Complete in
-      let steps : y.steps ≡ s.steps = sent-steps x a d v in
-      closes (replied s a d f v) s f (told-steps y f.caller (work.Reply s.steps) ∙ steps) (told-threads y f.caller (work.Reply s.steps) ∙ sent-threads x a d v)
-      (told-frames y f.caller (work.Reply s.steps) ∙ sent-frames x a d v)
-      (holds-trans _ y.todo s.todo (told-holds y f.caller (work.Reply s.steps)) (sent-holds x a d v))
+      let y = owe (delivered x a d v) (OfThread a.thread.seat) (work.Complete false) in
+      let steps : y.steps ≡ s.steps = sent-steps x a d v false in
+      closes (replied s a d f v) s f (told-steps y f.caller (work.Reply s.steps) ∙ steps) (told-threads y f.caller (work.Reply s.steps) ∙ sent-threads x a d v false)
+      (told-frames y f.caller (work.Reply s.steps) ∙ sent-frames x a d v false)
+      (holds-trans _ y.todo s.todo (told-holds y f.caller (work.Reply s.steps)) (sent-holds x a d v false))
       (told-waits y f.caller (work.Reply s.steps) (length es) refl (steps ∙ always-steps es)) (served-in a.thread.seat f g) callers-now now
 
   fails : (a : Actor) (f : Frame) → served_innermost s a.thread.seat ≡ Some f → Now (reply_refused s a.thread.seat f)

@@ -1,7 +1,7 @@
 -- Work items stand in the order in which they were made: one item more, items that go, deliveries.
 use Rattle.bd_laws.proofs.words.Logic.{◌≡◌, ℕ, suc, ◌<◌, ◌≤◌, ◌==◌, Bool, true, false, cond, List, Option, Some, None, ◌⊎◌, inl, inr, refl, ap, sym, ◌∙◌, filter, arith, fold, eqb-true}
 use Rattle.bd_laws.proofs.words.Types.{TransactionData, Object, Process, Reference, Work, Item, Frame, Actor, Identity, TodoList, OfThread, OfProcess, WorkKind, is_own}
-use Rattle.bd_laws.proofs.words.Space.{Space, with_work, owe, notice_of, death_of, with_notice, assign_numbers, object_in, closed, goes_to, Delivery, delivered, own_notices, add_buffer, known_by, refer, make_objects, buffer_of, add_notice, withdraw_notice, transacted, called, call_out, replied}
+use Rattle.bd_laws.proofs.words.Space.{Space, with_work, owe, notice_of, death_of, with_notice, assign_numbers, object_in, closed, goes_to, Delivery, delivered, own_notices, add_buffer, known_by, refer, make_objects, buffer_of, add_notice, withdraw_notice, transacted, called, call_out, replied, is_spam}
 use Rattle.bd_space.specs.declared.space.WorkKind.TheVariants as work
 use Rattle.bd_laws.specs.Lists.{In, Pairs}
 use Rattle.bd_laws.proofs.Lists.{in-push, in-filter, pairs-push, pairs-filter, fold-keeps}
@@ -194,8 +194,8 @@ called-sent z seat p false h = owe-sent z (goes_to z seat p) (work.Call z.steps)
 pub transacted-sent : (s : Space) (a : Actor) (d : TransactionData) (v : Delivery) → Begun s.steps s.todo → Sent (transacted s a d v)
 unfolding transacted
 transacted-sent s a d v h =
-    called-sent (owe (delivered s a d v) (OfThread a.thread.seat) work.Complete) a.thread.seat v.receiver.made v.one_way
-    (owe-sent (delivered s a d v) (OfThread a.thread.seat) work.Complete refl refl (delivered-sent s a d v h))
+    called-sent (owe (delivered s a d v) (OfThread a.thread.seat) (work.Complete (is_spam (delivered s a d v) a v))) a.thread.seat v.receiver.made v.one_way
+    (owe-sent (delivered s a d v) (OfThread a.thread.seat) (work.Complete (is_spam (delivered s a d v) a v)) refl refl (delivered-sent s a d v h))
 
 answered-sent : (z : Space) (caller : Option ℕ) (n : ℕ) → Sent z → Sent (elim caller as (λ (o : Option ℕ). Space) [ None ↦ z | Some t ↦ owe z (OfThread t) (work.Reply n) ])
 answered-sent z None n h = h
@@ -209,5 +209,5 @@ pub replied-sent : (s : Space) (a : Actor) (d : TransactionData) (f : Frame) (v 
 unfolding replied
 replied-sent s a d f v h =
     let z = delivered (closed s f.made) a d v in
-    answered-sent (owe z (OfThread a.thread.seat) work.Complete) f.caller s.steps
-    (owe-sent z (OfThread a.thread.seat) work.Complete refl refl (delivered-sent (closed s f.made) a d v (closed-begun s f.made h)))
+    answered-sent (owe z (OfThread a.thread.seat) (work.Complete false)) f.caller s.steps
+    (owe-sent z (OfThread a.thread.seat) (work.Complete false) refl refl (delivered-sent (closed s f.made) a d v (closed-begun s f.made h)))

@@ -1,7 +1,7 @@
 -- Work items stand in the order in which they were made, and on threads' own lists an identity names one item.
 use Rattle.bd_laws.proofs.words.Logic.{ℕ, ◌-◌, Bool, not, ◌&&◌, List, inl, inr, refl, filter, list_any}
 use Rattle.bd_laws.proofs.words.Types.{Step, Entry, Work, DeathNotification, Queued, TodoList, OfThread, OfProcess, WorkKind}
-use Rattle.bd_laws.proofs.words.Space.{Space, opening, owe, is_on, list_to_read, is_item, ripen, follow, notify, work_goes, deaths_go, still_due, names_go, assign_numbers, objects_go, owned_in, closed, transacted, replied, without_buffer, read_by, taken, thread_goes, threads_go, without_process, tell_death, tell_deaths, is_armed, counted, with_thread, with_process, with_manager, ask, drop_asked, acknowledge, with_looping, with_phase, after, next}
+use Rattle.bd_laws.proofs.words.Space.{Space, opening, owe, is_on, list_to_read, is_item, ripen, follow, notify, work_goes, deaths_go, still_due, names_go, assign_numbers, objects_go, owned_in, closed, transacted, replied, without_buffer, read_by, taken, thread_goes, threads_go, without_process, tell_death, tell_deaths, is_armed, counted, with_thread, with_process, with_manager, ask, drop_asked, acknowledge, with_looping, with_phase, after, next, with_spam_detection}
 use Rattle.bd_space.specs.declared.space.WorkKind.TheVariants as work
 use Rattle.bd_laws.proofs.Machine.Deaths.{on-commands, either as chosen}
 use Rattle.bd_laws.proofs.Machine.EveryStep.{Keeps, every_step, every_list}
@@ -86,13 +86,14 @@ module _ (s : Space) (h : Lined s) where
   plain = begun-plain s.steps s.todo begun
 
   kept : (seat : ℕ) (x : Step) → Keeps s seat x Stands InLine
-  unfolding with_thread with_process with_manager without_buffer ask assign_numbers drop_asked acknowledge with_looping
+  unfolding with_thread with_process with_manager with_spam_detection without_buffer ask assign_numbers drop_asked acknowledge with_looping
   kept seat x = record {
     set_up = record {
       same = begun.0;
       opened = λ pid euid window free. begun.0;
       attached = λ p free. begun.0;
       managed = λ a e b. begun.0;
+      marked = λ p on. begun.0;
     };
     changes = record {
       transacts = λ a d parcel v e i t. sent-stands (transacted s a d v) (transacted-sent s a d v begun);

@@ -53,13 +53,13 @@ none_exits = listing_exits NoneNew NoAnswer none_listing
 
 -- ---- deliveries and readings
 
-pub none-sent : (s : Space) (a : Actor) (d : TransactionData) (v : Delivery) → Silent (owe (delivered s a d v) (OfThread a.thread.seat) work.Complete) s
+pub none-sent : (s : Space) (a : Actor) (d : TransactionData) (v : Delivery) (spam : Bool) → Silent (owe (delivered s a d v) (OfThread a.thread.seat) (work.Complete spam)) s
 unfolding add_buffer
-none-sent = sent-by Silent NoAnswer none_table (λ z o. none-filter _ z.todo) (λ z b. none-same z.todo) refl
+none-sent = sent-by Silent NoAnswer none_table (λ z o. none-filter _ z.todo) (λ z b. none-same z.todo) (λ spam. refl)
 
 pub none-transacted : (s : Space) (a : Actor) (d : TransactionData) (v : Delivery) → Silent (transacted s a d v) s
 unfolding add_buffer call_out owe
-none-transacted = transacted-by Silent NoAnswer none_table (λ z o. none-filter _ z.todo) (λ z b. none-same z.todo) refl (λ z seat p. none-push z.todo _ refl)
+none-transacted = transacted-by Silent NoAnswer none_table (λ z o. none-filter _ z.todo) (λ z b. none-same z.todo) (λ spam. refl) (λ z seat p. none-push z.todo _ refl)
 
 pub none-read : (z : Space) (seat : ℕ) (ws : List Work) → Silent (read_by z seat ws) z
 unfolding read_by

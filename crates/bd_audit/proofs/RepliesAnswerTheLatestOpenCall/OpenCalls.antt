@@ -1,7 +1,7 @@
 -- Where a call stands open, and which list its thread reads.
 use Rattle.bd_laws.proofs.words.Logic.{◌≡◌, ℕ, zero, suc, ◌<◌, ◌==◌, Bool, true, false, cond, not, ◌&&◌, List, ◌++◌, length, Option, Some, None, Ok, Err, Result, ◌⊎◌, inl, inr, refl, ap, sym, subst, ◌∙◌, filter, arith, find, is_none, eqb-true}
 use Rattle.bd_laws.proofs.words.Types.{TransactionData, DeadReply, Cause, Parcel, Command, Accepted, Entry, Thread, Work, Frame, Actor, TodoList, OfThread, OfProcess, WorkKind}
-use Rattle.bd_laws.proofs.words.Space.{Space, actor, closed, is_frame, is_gone, innermost_in, owe, is_on, same_list, list_to_read, work_on, has_work_in, ripen, follow, notify, work_goes, deaths_go, names_go, objects_go, settle, settle_one, settle_times, is_abandoned, Delivery, delivered, completed, transaction_step, transaction_outcome, transaction_check, transacted, called, call_out, is_one_way, command_step, taken, change, by_actor}
+use Rattle.bd_laws.proofs.words.Space.{Space, actor, closed, is_frame, is_gone, innermost_in, owe, is_on, same_list, list_to_read, work_on, has_work_in, ripen, follow, notify, work_goes, deaths_go, names_go, objects_go, settle, settle_one, settle_times, is_abandoned, Delivery, delivered, completed, transaction_step, transaction_outcome, transaction_check, transacted, called, call_out, is_one_way, command_step, taken, change, by_actor, is_spam}
 use Rattle.bd_uapi.specs.declared.command.Command.TheVariants as bc
 use Rattle.bd_space.specs.declared.space.WorkKind.TheVariants as work
 use Rattle.bd_laws.specs.Lists.{In}
@@ -127,11 +127,14 @@ transacted-open : (s : Space) (a : Actor) (d : TransactionData) (v : Delivery) �
 unfolding transacted
 transacted-open s a d v two_way below = at v.one_way two_way
   where
-    at : (b : Bool) → b ≡ false → Open (called (owe (delivered s a d v) (OfThread a.thread.seat) work.Complete) a.thread.seat v.receiver.made b) s.steps
+    spam : Bool
+    spam = is_spam (delivered s a d v) a v
+
+    at : (b : Bool) → b ≡ false → Open (called (owe (delivered s a d v) (OfThread a.thread.seat) (work.Complete spam)) a.thread.seat v.receiver.made b) s.steps
     at true e = absurd (cc)
     at false e =
-        framed-open (owe (delivered s a d v) (OfThread a.thread.seat) work.Complete) a.thread.seat v.receiver.made s.steps (sent-steps s a d v)
-        (λ g l. below g (subst (In g) (sent-frames s a d v) l))
+        framed-open (owe (delivered s a d v) (OfThread a.thread.seat) (work.Complete spam)) a.thread.seat v.receiver.made s.steps (sent-steps s a d v spam)
+        (λ g l. below g (subst (In g) (sent-frames s a d v spam) l))
 
 pub called-stands : (s : Space) (seat : ℕ) (d : TransactionData) (parcel : Option Parcel) → ((f : Frame) → In f s.frames → f.made < s.steps) → is_one_way d ≡ false
     → (change s seat (Command (bc.Transaction d) parcel)).answer ≡ Accepted → StandsIn (change s seat (Command (bc.Transaction d) parcel)).space s.steps

@@ -2,7 +2,7 @@
 -- stays open through a step, so that a step closes one of them at most.
 use Rattle.bd_laws.proofs.words.Logic.{◌≡◌, ℕ, ◌<◌, ◌-◌, Bool, true, false, cond, not, List, [], ◌∷◌, ◌++◌, Option, Some, None, ◌⊎◌, inl, inr, refl, ap, sym, subst, ◌∙◌, arith, list_any, find, cases_lt}
 use Rattle.bd_laws.proofs.words.Types.{TransactionData, DeadReply, FailedReply, TransactionComplete, Entry, Work, Frame, Actor, Pending, OfThread, WorkKind}
-use Rattle.bd_laws.proofs.words.Space.{Space, opening, closed, is_frame, is_gone, is_child_of, is_deepest_in, served_innermost, owe, tell_caller, is_call, list_to_read, ripen, follow, notify, work_goes, deaths_go, names_go, objects_go, is_abandoned, Delivery, delivered, transacted, called, call_out, refusal, replied, reply_refused, read_by, taken, serve, counted, after}
+use Rattle.bd_laws.proofs.words.Space.{Space, opening, closed, is_frame, is_gone, is_child_of, is_deepest_in, served_innermost, owe, tell_caller, is_call, list_to_read, ripen, follow, notify, work_goes, deaths_go, names_go, objects_go, is_abandoned, Delivery, delivered, transacted, called, call_out, refusal, replied, reply_refused, read_by, taken, serve, counted, after, is_spam}
 use Rattle.bd_space.specs.declared.space.WorkKind.TheVariants as work
 use Rattle.bd_laws.proofs.words.Laws.{In, OnPaths}
 use Rattle.bd_laws.proofs.Machine.EveryStep.{KeepsWhole, whole, keeps-both, keeps-alone, every_whole_step}
@@ -143,8 +143,8 @@ module _ (es : List Entry) (e : Entry) (h : Single (after opening es).todo) wher
   unfolding replied closed
   replies a d f v g =
       let x = closed s f.made in
-      let y = owe (delivered x a d v) (OfThread a.thread.seat) work.Complete in
-      first-tells y f (work.Reply s.steps) refl (served-in a.thread.seat f g) (sent-steps x a d v) (sent-frames x a d v) (none-sent x a d v)
+      let y = owe (delivered x a d v) (OfThread a.thread.seat) (work.Complete false) in
+      first-tells y f (work.Reply s.steps) refl (served-in a.thread.seat f g) (sent-steps x a d v false) (sent-frames x a d v false) (none-sent x a d v false)
 
   fails : (a : Actor) (f : Frame) → served_innermost s a.thread.seat ≡ Some f → Now (reply_refused s a.thread.seat f)
   unfolding reply_refused closed owe
@@ -219,7 +219,7 @@ module _ (es : List Entry) (e : Entry) (h : Single (after opening es).todo) wher
   unfolding transacted
   transacts a d v =
       begins (transacted s a d v) (transacted-leaves s a d v).steps
-      (calls-out (owe (delivered s a d v) (OfThread a.thread.seat) work.Complete) a.thread.seat v.receiver.made v.one_way (sent-frames s a d v))
+      (calls-out (owe (delivered s a d v) (OfThread a.thread.seat) (work.Complete (is_spam (delivered s a d v) a v))) a.thread.seat v.receiver.made v.one_way (sent-frames s a d v _))
       (none-transacted s a d v)
 
   reads : (seat : ℕ) (ws : List Work) → Now (read_by s seat ws)

@@ -64,9 +64,9 @@ holds_table = record {
 withdrawn-holds : (z : Space) (o : ObjectId) → Holds (filter (λ (w : Work). not (is_notice o w.kind)) z.todo) z.todo
 withdrawn-holds z o = holds-filter (λ (w : Work). not (is_notice o w.kind)) z.todo (λ w a. no-notice o w.kind a)
 
-pub sent-holds : (s : Space) (a : Actor) (d : TransactionData) (v : Delivery) → Held (owe (delivered s a d v) (OfThread a.thread.seat) work.Complete) s
+pub sent-holds : (s : Space) (a : Actor) (d : TransactionData) (v : Delivery) (spam : Bool) → Held (owe (delivered s a d v) (OfThread a.thread.seat) (work.Complete spam)) s
 unfolding add_buffer
-sent-holds = sent-by Held Any holds_table withdrawn-holds (λ z b w a l. l) tt
+sent-holds = sent-by Held Any holds_table withdrawn-holds (λ z b w a l. l) (λ spam. tt)
 
 -- ---- what a part of a step leaves
 
@@ -143,7 +143,7 @@ leaves_table = record {
 
 pub transacted-leaves : (s : Space) (a : Actor) (d : TransactionData) (v : Delivery) → Leaves (transacted s a d v) s
 unfolding add_buffer
-transacted-leaves = transacted-by Leaves Any leaves_table (λ z o. leaves-same _ z refl refl refl (withdrawn-holds z o)) (λ z b. leaves-same _ z refl refl refl (λ w a l. l)) tt leaves-calls
+transacted-leaves = transacted-by Leaves Any leaves_table (λ z o. leaves-same _ z refl refl refl (withdrawn-holds z o)) (λ z b. leaves-same _ z refl refl refl (λ w a l. l)) (λ spam. tt) leaves-calls
 
 -- ---- threads and processes that end
 

@@ -1,7 +1,7 @@
 -- Each reply that is due has its buffer, through transactions and replies.
 use Rattle.bd_laws.proofs.words.Logic.{◌≡◌, ℕ, ◌==◌, Bool, true, false, List, [], ◌∷◌, ◌++◌, Option, Some, None, Ok, inl, inr, refl, ap, sym, subst, ◌∙◌, arith, eqb-true}
 use Rattle.bd_laws.proofs.words.Types.{TransactionData, Parcel, Process, Thread, Buffer, Frame, Work, Actor, TodoList, OfThread, WorkKind}
-use Rattle.bd_laws.proofs.words.Space.{Space, actor, with_work, owe, hands_out, assign_numbers, closed, goes_to, Delivery, delivered, own_notices, add_buffer, known_by, refer, make_objects, buffer_of, transacted, called, call_out, reply_check, replied}
+use Rattle.bd_laws.proofs.words.Space.{Space, actor, with_work, owe, hands_out, assign_numbers, closed, goes_to, Delivery, delivered, own_notices, add_buffer, known_by, refer, make_objects, buffer_of, transacted, called, call_out, reply_check, replied, is_spam}
 use Rattle.bd_space.specs.declared.space.WorkKind.TheVariants as work
 use Rattle.bd_links.specs.TodoList.{reply_of}
 use Rattle.bd_laws.proofs.words.Laws.{In, IsInTurn}
@@ -127,22 +127,22 @@ delivered-due : (s : Space) (a : Actor) (d : TransactionData) (v : Delivery) (w 
 unfolding delivered own_notices add_buffer known_by assign_numbers refer make_objects
 delivered-due s a d v w m l e = own_notices-less (add_buffer (known_by s v) (buffer_of (known_by s v) a d v)) a.thread.seat v.sending.items w m l e
 
-abbrev pub sent : Space → Actor → TransactionData → Delivery → Space
-sent s a d v = owe (delivered s a d v) (OfThread a.thread.seat) work.Complete
+abbrev pub sent : Space → Actor → TransactionData → Delivery → Bool → Space
+sent s a d v spam = owe (delivered s a d v) (OfThread a.thread.seat) (work.Complete spam)
 
-sent-due : (s : Space) (a : Actor) (d : TransactionData) (v : Delivery) (w : Work) (m : ℕ) → In w (sent s a d v).todo → hands_out w.kind ≡ Some m → In w s.todo
-sent-due s a d v w m l e = delivered-due s a d v w m ((owe-less (delivered s a d v) (OfThread a.thread.seat) work.Complete refl).due w m l e) e
+sent-due : (s : Space) (a : Actor) (d : TransactionData) (v : Delivery) (spam : Bool) (w : Work) (m : ℕ) → In w (sent s a d v spam).todo → hands_out w.kind ≡ Some m → In w s.todo
+sent-due s a d v spam w m l e = delivered-due s a d v w m ((owe-less (delivered s a d v) (OfThread a.thread.seat) (work.Complete spam) refl).due w m l e) e
 
-sent-buffers : (s : Space) (a : Actor) (d : TransactionData) (v : Delivery) → (sent s a d v).buffers ≡ s.buffers ++ buffer_of (known_by s v) a d v ∷ []
+sent-buffers : (s : Space) (a : Actor) (d : TransactionData) (v : Delivery) (spam : Bool) → (sent s a d v spam).buffers ≡ s.buffers ++ buffer_of (known_by s v) a d v ∷ []
 unfolding owe delivered own_notices add_buffer known_by assign_numbers refer make_objects
-sent-buffers s a d v = refl
+sent-buffers s a d v spam = refl
 
-sends : (s : Space) (a : Actor) (d : TransactionData) (v : Delivery) → RepliesHeld s → RepliesHeld (sent s a d v)
-sends s a d v h =
-    grown (sent s a d v) s (record {
-      due = sent-due s a d v;
-      buffers = λ c l. subst (In c) (sym (sent-buffers s a d v)) (in-left c s.buffers _ l);
-      threads = λ t l. (t, subst (In t) (sym (sent-threads s a d v)) l, refl, refl);
+sends : (s : Space) (a : Actor) (d : TransactionData) (v : Delivery) (spam : Bool) → RepliesHeld s → RepliesHeld (sent s a d v spam)
+sends s a d v spam h =
+    grown (sent s a d v spam) s (record {
+      due = sent-due s a d v spam;
+      buffers = λ c l. subst (In c) (sym (sent-buffers s a d v spam)) (in-left c s.buffers _ l);
+      threads = λ t l. (t, subst (In t) (sym (sent-threads s a d v spam)) l, refl, refl);
     }) h
 
 calls-out : (y : Space) (seat p : ℕ) (one_way : Bool) → ((w : Work) → In w y.todo → reply_of w.kind ≡ Some y.steps → ⊥) → RepliesHeld y → RepliesHeld (called y seat p one_way)
@@ -157,11 +157,12 @@ unmade s turns w l e = let lt = turns.fresh s.steps (w, l, e) in absurd (omega a
 pub transacts : (s : Space) (a : Actor) (d : TransactionData) (v : Delivery) → IsInTurn s → RepliesHeld s → RepliesHeld (transacted s a d v)
 unfolding transacted
 transacts s a d v turns h =
-    calls-out (sent s a d v) a.thread.seat v.receiver.made v.one_way
+    let spam = is_spam (delivered s a d v) a v in
+    calls-out (sent s a d v spam) a.thread.seat v.receiver.made v.one_way
     (λ w l e.
-    let k = reply-hands w.kind s.steps (e ∙ ap (λ n. Some n) (sent-steps s a d v)) in
-    unmade s turns w (sent-due s a d v w s.steps l k) k)
-    (sends s a d v h)
+    let k = reply-hands w.kind s.steps (e ∙ ap (λ n. Some n) (sent-steps s a d v spam)) in
+    unmade s turns w (sent-due s a d v spam w s.steps l k) k)
+    (sends s a d v spam h)
 
 answers : (y : Space) (caller : Option ℕ) (n : ℕ) → ((v : Work) → In v y.todo → hands_out v.kind ≡ Some n → ⊥)
     → ((t : ℕ) → caller ≡ Some t → HasBuffer y.threads y.buffers (OfThread t) n) → RepliesHeld y
@@ -176,7 +177,7 @@ closes z made h = h
 
 -- the reply's buffer is the caller's process's, and its thread lives
 fits : (s x : Space) (t : ℕ) (a c : Actor) (d : TransactionData) (v : Delivery) → x.steps ≡ s.steps → x.threads ≡ s.threads → actor s t ≡ Some c
-    → v.receiver ≡ c.process → v.one_way ≡ false → HasBuffer (sent x a d v).threads (sent x a d v).buffers (OfThread t) s.steps
+    → v.receiver ≡ c.process → v.one_way ≡ false → HasBuffer (sent x a d v false).threads (sent x a d v false).buffers (OfThread t) s.steps
 unfolding known_by assign_numbers refer make_objects
 fits s x t a c d v steps threads acts to two_way =
     let k = actor-lives s t c acts in
@@ -184,12 +185,12 @@ fits s x t a c d v steps threads acts to two_way =
     let q = find-in (λ (y : Process). y.made == c.thread.process) c.process s.processes k.1 in
     record {
       buffer = buffer_of (known_by x v) a d v;
-      here = subst (In (buffer_of (known_by x v) a d v)) (sym (sent-buffers x a d v)) (in-last (buffer_of (known_by x v) a d v) x.buffers);
+      here = subst (In (buffer_of (known_by x v) a d v)) (sym (sent-buffers x a d v false)) (in-last (buffer_of (known_by x v) a d v) x.buffers);
       made = steps;
       handed = refl;
       two_way = two_way;
       thread = c.thread;
-      lives = subst (In c.thread) (sym (sent-threads x a d v ∙ threads)) u.0;
+      lives = subst (In c.thread) (sym (sent-threads x a d v false ∙ threads)) u.0;
       on = ap (λ n. OfThread n) (sym (eqb-true c.thread.seat t u.1));
       receiver = sym (ap (λ (y : Process). y.made) to ∙ eqb-true c.process.made c.thread.process q.1);
     }
@@ -204,7 +205,7 @@ unfolding replied
 replies s a d parcel f v turns checked h =
     let x = closed s f.made in
     let r = reply-checked s a d parcel f v checked in
-    answers (sent x a d v) f.caller s.steps
-    (λ w l e. unmade s turns w (subst (In w) (closed-todo s f.made) (sent-due x a d v w s.steps l e)) e)
+    answers (sent x a d v false) f.caller s.steps
+    (λ w l e. unmade s turns w (subst (In w) (closed-todo s f.made) (sent-due x a d v false w s.steps l e)) e)
     (λ t e. fits s x t a r.caller d v (closed-steps s f.made) (closed-threads s f.made) (caller-acts s f t r.caller r.found e) r.receiver r.one_way)
-    (sends x a d v (closes s f.made h))
+    (sends x a d v false (closes s f.made h))

@@ -1,5 +1,5 @@
 -- What a refusal or a verdict tells its reader is never a BR_REPLY.
-use Rattle.bd_laws.proofs.words.Logic.{◌≡◌, ℕ, Bool, true, not, List, [], ◌∷◌, ◌++◌, Option, Some, None, inl, inr, refl, ap, sym, ◌∙◌}
+use Rattle.bd_laws.proofs.words.Logic.{◌≡◌, ℕ, Bool, true, false, not, List, [], ◌∷◌, ◌++◌, Option, Some, None, inl, inr, refl, ap, sym, ◌∙◌}
 use Rattle.bd_laws.proofs.words.Types.{TransactionData, DeadReply, FailedReply, TransactionComplete, Cause, Step, Entry, Frame, Work, Actor, OfThread, WorkKind}
 use Rattle.bd_laws.proofs.words.Space.{Space, opening, owe, closed, Delivery, delivered, add_buffer, transacted, call_out, refusal, replied, reply_refused, read_by, counted, after, next}
 use Rattle.bd_uapi.specs.declared.fault.Cause.TheVariants as cause
@@ -80,19 +80,19 @@ closes z made h = h
 
 -- ---- transactions and replies
 
-sends : (s : Space) (a : Actor) (d : TransactionData) (v : Delivery) → IsPlain s → IsPlain (owe (delivered s a d v) (OfThread a.thread.seat) work.Complete)
+sends : (s : Space) (a : Actor) (d : TransactionData) (v : Delivery) (spam : Bool) → IsPlain s → IsPlain (owe (delivered s a d v) (OfThread a.thread.seat) (work.Complete spam))
 unfolding add_buffer
-sends = sent-by Keeping Allowed table (λ z o. listing.fewer _ z.todo) (λ z b h. h) refl
+sends = sent-by Keeping Allowed table (λ z o. listing.fewer _ z.todo) (λ z b h. h) (λ spam. refl)
 
 transacts : (s : Space) (a : Actor) (d : TransactionData) (v : Delivery) → IsPlain s → IsPlain (transacted s a d v)
 unfolding add_buffer call_out owe
-transacts = transacted-by Keeping Allowed table (λ z o. listing.fewer _ z.todo) (λ z b h. h) refl (λ z seat p. push-plain z.todo _ refl)
+transacts = transacted-by Keeping Allowed table (λ z o. listing.fewer _ z.todo) (λ z b h. h) (λ spam. refl) (λ z seat p. push-plain z.todo _ refl)
 
 replies : (s : Space) (a : Actor) (d : TransactionData) (f : Frame) (v : Delivery) → IsPlain s → IsPlain (replied s a d f v)
 unfolding replied
 replies s a d f v h =
     let x = closed s f.made in
-    told (owe (delivered x a d v) (OfThread a.thread.seat) work.Complete) f.caller (work.Reply s.steps) refl (sends x a d v (closes s f.made h))
+    told (owe (delivered x a d v) (OfThread a.thread.seat) (work.Complete false)) f.caller (work.Reply s.steps) refl (sends x a d v false (closes s f.made h))
 
 fails : (s : Space) (seat : ℕ) (f : Frame) → IsPlain s → IsPlain (reply_refused s seat f)
 unfolding reply_refused

@@ -1,7 +1,7 @@
 -- What a reading hands out has a BR_REPLY exactly where the reading takes a reply.
 use Rattle.bd_laws.proofs.words.Logic.{◌≡◌, ℕ, ◌-◌, Bool, true, false, cond, not, ◌&&◌, ◌||◌, List, [], ◌∷◌, ◌++◌, append_assoc, Option, Some, None, Result, Ok, Err, inl, inr, refl, ap, sym, subst, ◌∙◌, map, list_any, concat, flat_map, find, option_map, is_some, eq-eqb, list_any-append}
-use Rattle.bd_laws.proofs.words.Types.{TransactionData, Return, Cause, Fault, Note, NotHandedOut, ObjectId, Parcel, Step, Open, Attach, SetManager, Command, Read, ExitThread, ExitProcess, StepAnswer, Got, Accepted, Noted, Entry, Process, Object, Reference, Frame, Buffer, Work, Actor, DeathNotification, WorkKind}
-use Rattle.bd_laws.proofs.words.Space.{first_of, Space, opening, actor, thread_in, process_with_pid, object_in, held_in, strong_in, list_to_read, served_innermost, Delivery, transaction_step, transaction_outcome, transaction_check, reply_step, reply_to, reply_outcome, reply_check, free_step, free_outcome, buffer_at_pointer, without_buffer, is_made_at, ask_step, ask_check, drop_step, drop_check, done_step, done_check, acknowledge, ask, drop_asked, request_step, request_check, is_notification, requested, clear_step, clear_check, death_done_step, death_done_outcome, told_death, cleared, command_step, read_step, read_taking, read_fault, got, taken, buffer_taken, stream_of, bytes_read, buffer_in, data_of, one, returns_of, returns_of_object, exit_thread_step, exit_process_step, Outcome, completed, refused, by_check, change, open_step, open_outcome, open_fault, attach_step, attach_outcome, manager_step, manager_outcome, is_manager_busy, by_actor, History, IsHistory, Follows, after}
+use Rattle.bd_laws.proofs.words.Types.{TransactionData, Return, Cause, Fault, Note, NotHandedOut, ObjectId, Parcel, Step, Open, Attach, SetManager, Command, Read, ExitThread, ExitProcess, StepAnswer, Got, Accepted, Noted, Entry, Process, Object, Reference, Frame, Buffer, Work, Actor, DeathNotification, WorkKind, SetSpam}
+use Rattle.bd_laws.proofs.words.Space.{first_of, Space, opening, actor, thread_in, process_with_pid, object_in, held_in, strong_in, list_to_read, served_innermost, Delivery, transaction_step, transaction_outcome, transaction_check, reply_step, reply_to, reply_outcome, reply_check, free_step, free_outcome, buffer_at_pointer, without_buffer, is_made_at, ask_step, ask_check, drop_step, drop_check, done_step, done_check, acknowledge, ask, drop_asked, request_step, request_check, is_notification, requested, clear_step, clear_check, death_done_step, death_done_outcome, told_death, cleared, command_step, read_step, read_taking, read_fault, got, taken, buffer_taken, stream_of, bytes_read, buffer_in, data_of, one, returns_of, returns_of_object, exit_thread_step, exit_process_step, Outcome, completed, refused, by_check, change, open_step, open_outcome, open_fault, attach_step, attach_outcome, manager_step, manager_outcome, is_manager_busy, by_actor, History, IsHistory, Follows, after, spam_step}
 use Rattle.bd_uapi.specs.declared.command.Command as command
 use Rattle.bd_uapi.specs.declared.command.Command.TheVariants as bc
 use Rattle.bd_uapi.specs.declared.command.Return.TheVariants as br
@@ -68,7 +68,8 @@ item-gives : (z : Space) (k : WorkKind) → is_plain k ≡ true → ((b : ℕ) �
     → HasReply (returns_of z k) ≡ is_some (reply_of k)
 unfolding returns_of
 item-gives z (work.Notice o) p h = notice-none z.references (object_in z.objects o)
-item-gives z work.Complete p h = refl
+item-gives z (work.Complete false) p h = refl
+item-gives z (work.Complete true) p h = refl
 item-gives z (work.Refusal r) p h = carried-none r p
 item-gives z (work.Call b) p h = call-none z (buffer_in z.buffers b)
 item-gives z (work.Reply b) p h = reply-is z (buffer_in z.buffers b) ∙ h b refl
@@ -224,10 +225,11 @@ module _ (z : Space) (seat : ℕ) (stream bytes offsets : List ℕ) where
   reads limit (Some a) e = reads-list a limit (read_fault limit (list_to_read z a.thread)) e
 
   got-of : (x : Step) → (change z seat x).answer ≡ Got stream bytes offsets → GotOf z seat x stream
-  unfolding change open_step attach_step manager_step exit_thread_step exit_process_step
+  unfolding change open_step attach_step manager_step spam_step exit_thread_step exit_process_step
   got-of (Open pid euid window) e = not-silent _ (open-silent z seat pid euid window (open_fault z seat pid window)) e
   got-of (Attach pid) e = not-silent _ (attach-silent z seat (process_with_pid z.processes pid) (is_some (thread_in z.threads seat))) e
   got-of SetManager e = not-silent _ (acts-silent z (actor z seat) (manager_step z) (λ a. manager-silent z a.process.made (is_manager_busy z a.process.made))) e
+  got-of (SetSpam on) e = not-silent _ (acts-silent z (actor z seat) (spam_step z on) (λ a. refl)) e
   got-of (Command c parcel) e = not-silent _ (acts-silent z (actor z seat) (λ a. command_step z a c parcel) (λ a. command-silent z a c parcel)) e
   got-of (Read limit) e = let k = reads limit (actor z seat) e in record { stream_is = k.0; due = k.1 }
   got-of ExitThread e = not-silent _ (acts-silent z (actor z seat) (exit_thread_step z) (λ a. refl)) e

@@ -1,7 +1,7 @@
 -- Each reply that is due has its buffer: not handed out yet, and in the window of the process on whose thread's list it stands.
 use Rattle.bd_laws.proofs.words.Logic.{◌≡◌, ℕ, suc, ◌-◌, ◌==◌, Bool, true, false, cond, not, ◌&&◌, List, [], ◌∷◌, ◌++◌, Option, Some, None, inl, inr, refl, ap, sym, subst, ◌∙◌, map, filter, fold, list_any, eqb-true, eq-eqb}
 use Rattle.bd_laws.proofs.words.Types.{Step, Entry, Thread, Buffer, Turn, Work, TodoList, OfThread, OfProcess}
-use Rattle.bd_laws.proofs.words.Space.{changed, is_some_and, Space, opening, with_work, is_on, same_list, is_item, hands_out, list_to_read, turn_of, turns_of, ripen, ripened, is_ripe, follow, notify, work_goes, deaths_go, names_go, assign_numbers, objects_go, without_buffer, is_made_at, taken, read_by, buffer_taken, handed_buffers, hand_out, thread_goes, is_lost_with, threads_go, without_process, tell_deaths, seat_of, counted, with_thread, with_process, with_manager, ask, drop_asked, acknowledge, with_looping, after, next}
+use Rattle.bd_laws.proofs.words.Space.{changed, is_some_and, Space, opening, with_work, is_on, same_list, is_item, hands_out, list_to_read, turn_of, turns_of, ripen, ripened, is_ripe, follow, notify, work_goes, deaths_go, names_go, assign_numbers, objects_go, without_buffer, is_made_at, taken, read_by, buffer_taken, handed_buffers, hand_out, thread_goes, is_lost_with, threads_go, without_process, tell_deaths, seat_of, counted, with_thread, with_process, with_manager, ask, drop_asked, acknowledge, with_looping, after, next, with_spam_detection}
 use Rattle.bd_space.specs.declared.space.WorkKind.TheVariants as work
 use Rattle.bd_links.specs.TodoList.{reply_of}
 use Rattle.bd_laws.proofs.words.Laws.{In, IsInTurn}
@@ -216,7 +216,7 @@ abbrev Both : Space → Type 0
 Both z = Turning z × RepliesHeld z
 
 kept : (s : Space) (seat : ℕ) (x : Step) → IsInTurn s → RepliesHeld s → Keeps s seat x Both Both
-unfolding with_manager ask assign_numbers drop_asked acknowledge follow notify work_goes deaths_go objects_go names_go
+unfolding with_manager with_spam_detection ask assign_numbers drop_asked acknowledge follow notify work_goes deaths_go objects_go names_go
 kept s seat x turns h =
     let k = turn.kept s seat x turns in
     record {
@@ -225,6 +225,7 @@ kept s seat x turns h =
         opened = λ pid euid window free. (k.set_up.opened pid euid window free, opened s seat pid euid window h);
         attached = λ p free. (k.set_up.attached p free, attached s seat p h);
         managed = λ a e b. (k.set_up.managed a e b, h);
+        marked = λ p on. (k.set_up.marked p on, h);
       };
       changes = record {
         transacts = λ a d parcel v e i t. (k.changes.transacts a d parcel v e i t, transacts s a d v turns h);

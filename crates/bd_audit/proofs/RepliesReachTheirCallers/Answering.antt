@@ -1,7 +1,7 @@
 -- What the frames of a history and the replies that are due have behind them.
 use Rattle.bd_laws.proofs.words.Logic.{◌≡◌, ℕ, ◌<◌, ◌-◌, Bool, true, false, cond, not, List, [], ◌∷◌, ◌++◌, length, Option, Some, None, Ok, refl, ap, sym, subst, ◌∙◌, length-append, arith, list_any, option_map, eqb-true, eq-eqb}
 use Rattle.bd_laws.proofs.words.Types.{TransactionData, Parcel, Command, Read, Entry, Work, Frame, Actor, Serving, OfThread}
-use Rattle.bd_laws.proofs.words.Space.{Space, opening, actor, owe, is_call, list_to_read, is_item, closed, is_frame, innermost, innermost_in, served_innermost, made_of, is_deepest_in, ripen, Delivery, delivered, completed, transaction_check, transacted, called, is_one_way, reply_check, replied, taken, read_by, serve, served_frames, read_fault, change, counted, after, next}
+use Rattle.bd_laws.proofs.words.Space.{Space, opening, actor, owe, is_call, list_to_read, is_item, closed, is_frame, innermost, innermost_in, served_innermost, made_of, is_deepest_in, ripen, Delivery, delivered, completed, transaction_check, transacted, called, is_one_way, reply_check, replied, taken, read_by, serve, served_frames, read_fault, change, counted, after, next, is_spam}
 use Rattle.bd_uapi.specs.declared.command.Command.TheVariants as bc
 use Rattle.bd_space.specs.declared.space.WorkKind.TheVariants as work
 use Rattle.bd_laws.specs.Lists.{In}
@@ -14,7 +14,7 @@ use Rattle.bd_audit.specs.Replies.{made_in, thread_made, items_read, items_taken
 use Rattle.bd_audit.proofs.Beginnings.{after-append}
 use Rattle.bd_audit.proofs.NamesHaveGiftChains.Chains.{always-steps}
 use Rattle.bd_laws.proofs.Machine.Table.{keeps-by}
-use Rattle.bd_audit.proofs.RepliesReachTheirCallers.Quiet.{sent-quiet, ripen-quiet, completed-quiet, NotReply, quiet_table, quiet_exits, quiet_closes, Quiet, with_work-quiet, quiet-trans}
+use Rattle.bd_audit.proofs.RepliesReachTheirCallers.Quiet.{sent-quiet, ripen-quiet, completed-quiet, NotReply, quiet_table, quiet_exits, quiet_closes, Quiet, quiet-trans}
 use Rattle.bd_laws.proofs.Machine.Fields.{closed-threads, serve-made, owe-threads}
 use Rattle.bd_audit.proofs.RepliesReachTheirCallers.Traces.{at-more, at-here, at-below, Called, Handed, Answers, Traced, traced-more, traced-quiet, transaction-accepted, reply-accepted, reply-space, actor-made, delivered-threads, framed, answering}
 
@@ -43,8 +43,8 @@ replied-absent : (s : Space) (a : Actor) (d : TransactionData) (f : Frame) (v : 
 unfolding replied
 replied-absent s a d f v g l e =
     let x = closed s f.made in
-    let y = owe (delivered x a d v) (OfThread a.thread.seat) work.Complete in
-    let k = (sent-quiet x a d v).frames g (replied-frames y f.caller s.steps g l) in
+    let y = owe (delivered x a d v) (OfThread a.thread.seat) (work.Complete false) in
+    let k = (sent-quiet x a d v false).frames g (replied-frames y f.caller s.steps g l) in
     closed-absent s f.made k.0 k.1 (sym k.2.made ∙ e)
 
 module _ (es : List Entry) (e : Entry) (h : Traced es (after opening es)) where
@@ -85,14 +85,17 @@ module _ (es : List Entry) (e : Entry) (h : Traced es (after opening es)) where
     unfolding transacted
     transacted-traced d parcel v x t = at v.one_way refl
       where
-        at : (b : Bool) → v.one_way ≡ b → Traced more (called (owe (delivered s a d v) (OfThread a.thread.seat) work.Complete) a.thread.seat v.receiver.made b)
-        at true f = quietly _ (sent-quiet s a d v)
+        spam : Bool
+        spam = is_spam (delivered s a d v) a v
+
+        at : (b : Bool) → v.one_way ≡ b → Traced more (called (owe (delivered s a d v) (OfThread a.thread.seat) (work.Complete spam)) a.thread.seat v.receiver.made b)
+        at true f = quietly _ (sent-quiet s a d v spam)
         at false f =
             let z = delivered s a d v in
-            let y = owe z (OfThread a.thread.seat) work.Complete in
-            let q = sent-quiet s a d v in
+            let y = owe z (OfThread a.thread.seat) (work.Complete spam) in
+            let q = sent-quiet s a d v spam in
             let steps : y.steps ≡ length es = q.steps ∙ always-steps es in
-            let threads : y.threads ≡ s.threads = owe-threads z (OfThread a.thread.seat) work.Complete ∙ delivered-threads s a d v in
+            let threads : y.threads ≡ s.threads = owe-threads z (OfThread a.thread.seat) (work.Complete spam) ∙ delivered-threads s a d v in
             let two_way : is_one_way d ≡ false = sym (transaction-checked s a d parcel v t).one_way ∙ f in
             framed more y a.thread.seat v.receiver.made a.thread.made (quietly y q) (ap (λ ts. made_in ts a.thread.seat) threads ∙ own-made)
             (subst (λ n. Called more n a.thread.made) (sym steps) (at-here es e (λ z e. Calls z e a.thread.made) (calls d parcel v x t two_way)))
@@ -152,16 +155,16 @@ module _ (es : List Entry) (e : Entry) (h : Traced es (after opening es)) where
         where
           at : (caller : Option ℕ) → f.caller ≡ caller
               → Traced more (elim caller as (λ (o : Option ℕ). Space) [
-                | None ↦ owe (delivered (closed s f.made) a d v) (OfThread a.thread.seat) work.Complete
-                | Some u ↦ owe (owe (delivered (closed s f.made) a d v) (OfThread a.thread.seat) work.Complete) (OfThread u) (work.Reply s.steps)
+                | None ↦ owe (delivered (closed s f.made) a d v) (OfThread a.thread.seat) (work.Complete false)
+                | Some u ↦ owe (owe (delivered (closed s f.made) a d v) (OfThread a.thread.seat) (work.Complete false)) (OfThread u) (work.Reply s.steps)
               ])
-          at None k = quietly _ (quiet-trans _ (closed s f.made) s (sent-quiet (closed s f.made) a d v) (quiet_closes s f.made))
+          at None k = quietly _ (quiet-trans _ (closed s f.made) s (sent-quiet (closed s f.made) a d v false) (quiet_closes s f.made))
           at (Some u) k =
               let z = delivered (closed s f.made) a d v in
-              let y = owe z (OfThread a.thread.seat) work.Complete in
-              let threads : y.threads ≡ s.threads = owe-threads z (OfThread a.thread.seat) work.Complete ∙ delivered-threads (closed s f.made) a d v ∙ closed-threads s f.made in
+              let y = owe z (OfThread a.thread.seat) (work.Complete false) in
+              let threads : y.threads ≡ s.threads = owe-threads z (OfThread a.thread.seat) (work.Complete false) ∙ delivered-threads (closed s f.made) a d v ∙ closed-threads s f.made in
               let c = h.callers f u in-frames k in
-              answering more y u c.0 s.steps (quietly y (quiet-trans y (closed s f.made) s (sent-quiet (closed s f.made) a d v) (quiet_closes s f.made)))
+              answering more y u c.0 s.steps (quietly y (quiet-trans y (closed s f.made) s (sent-quiet (closed s f.made) a d v false) (quiet_closes s f.made)))
               (ap (λ ts. made_in ts u) threads ∙ c.1) (subst (λ n. Answers more n c.0) (sym (always-steps es)) (answer c.0 c.2))
 
     -- ---- a reading

@@ -63,12 +63,12 @@ module _ (s : Space) (m : ℕ) (turns : IsInTurn s) (single : One m s.todo) wher
       was : (w : Work) → IsDue m z.todo w → IsDue m y.todo w
       was w i = (a.due w m i.0 (is_call-hands m w.kind i.1), i.1)
 
-  sent-due : (y : Space) (a : Actor) (d : TransactionData) (v : Delivery) (w : Work) → IsDue m (owe (delivered y a d v) (OfThread a.thread.seat) work.Complete).todo w → In w y.todo
+  sent-due : (y : Space) (a : Actor) (d : TransactionData) (v : Delivery) (spam : Bool) (w : Work) → IsDue m (owe (delivered y a d v) (OfThread a.thread.seat) (work.Complete spam)).todo w → In w y.todo
   unfolding delivered own_notices add_buffer known_by assign_numbers refer make_objects
-  sent-due y a d v w i =
+  sent-due y a d v spam w i =
       let hands = is_call-hands m w.kind i.1 in
       own_notices-less (add_buffer (known_by y v) (buffer_of (known_by y v) a d v)) a.thread.seat v.sending.items w m
-      (less-due _ (delivered y a d v) (owe-less (delivered y a d v) (OfThread a.thread.seat) work.Complete refl) w i) hands
+      (less-due _ (delivered y a d v) (owe-less (delivered y a d v) (OfThread a.thread.seat) (work.Complete spam) refl) w i) hands
 
   -- the step's own call comes beside none
   calls-out : (y : Space) (seat p : ℕ) → y.steps ≡ s.steps → ((w : Work) → IsDue m y.todo w → In w s.todo) → CalledIn s m (call_out y seat p)
@@ -105,7 +105,7 @@ module _ (s : Space) (m : ℕ) (turns : IsInTurn s) (single : One m s.todo) wher
 
   transacts : (a : Actor) (d : TransactionData) (v : Delivery) → CalledIn s m (transacted s a d v)
   unfolding transacted
-  transacts a d v = calls _ a.thread.seat v.receiver.made v.one_way (sent-steps s a d v) (sent-due s a d v)
+  transacts a d v = calls _ a.thread.seat v.receiver.made v.one_way (sent-steps s a d v _) (sent-due s a d v _)
 
   answers : (y : Space) (caller : Option ℕ) → y.steps ≡ s.steps → ((w : Work) → IsDue m y.todo w → In w s.todo)
       → CalledIn s m (elim caller as (λ (o : Option ℕ). Space) [ None ↦ y | Some t ↦ owe y (OfThread t) (work.Reply s.steps) ])
@@ -123,8 +123,8 @@ module _ (s : Space) (m : ℕ) (turns : IsInTurn s) (single : One m s.todo) wher
   unfolding replied
   replies a d f v =
       let l = less_closes s f.made in
-      answers _ f.caller (sent-steps (closed s f.made) a d v ∙ l.steps)
-      (λ w i. less-due (closed s f.made) s l w (sent-due (closed s f.made) a d v w i, i.1))
+      answers _ f.caller (sent-steps (closed s f.made) a d v false ∙ l.steps)
+      (λ w i. less-due (closed s f.made) s l w (sent-due (closed s f.made) a d v false w i, i.1))
 
   reads : (seat : ℕ) (ws : List Work) → CalledIn s m (read_by s seat ws)
   unfolding read_by

@@ -253,13 +253,13 @@ unfolding add_buffer
 arrives z b = quiet-same _ z refl refl refl refl
 
 pub own_notices-quiet : (z : Space) (seat : ℕ) (items : List Item) → Quiet (own_notices z seat items) z
-own_notices-quiet = own_notices-by Quiet NotReply quiet_table withdraws arrives refl
+own_notices-quiet = own_notices-by Quiet NotReply quiet_table withdraws arrives (λ spam. refl)
 
 pub delivered-quiet : (s : Space) (a : Actor) (d : TransactionData) (v : Delivery) → Quiet (delivered s a d v) s
-delivered-quiet = delivered-by Quiet NotReply quiet_table withdraws arrives refl
+delivered-quiet = delivered-by Quiet NotReply quiet_table withdraws arrives (λ spam. refl)
 
-pub sent-quiet : (s : Space) (a : Actor) (d : TransactionData) (v : Delivery) → Quiet (owe (delivered s a d v) (OfThread a.thread.seat) work.Complete) s
-sent-quiet = sent-by Quiet NotReply quiet_table withdraws arrives refl
+pub sent-quiet : (s : Space) (a : Actor) (d : TransactionData) (v : Delivery) (spam : Bool) → Quiet (owe (delivered s a d v) (OfThread a.thread.seat) (work.Complete spam)) s
+sent-quiet = sent-by Quiet NotReply quiet_table withdraws arrives (λ spam. refl)
 
 pub completed-quiet : (z : Space) → Quiet (completed z) z
 completed-quiet = completed-by Quiet NotReply quiet_table quiet_closes refl ripen-quiet

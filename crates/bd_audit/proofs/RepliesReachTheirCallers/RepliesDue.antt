@@ -1,7 +1,7 @@
 -- The replies that are due: each on a thread's list, and none with another item's identity.
 use Rattle.bd_laws.proofs.words.Logic.{◌≡◌, ℕ, suc, Bool, true, false, cond, not, ◌&&◌, List, [], ◌∷◌, ◌++◌, Option, Some, None, ◌⊎◌, inl, inr, refl, ap, sym, subst, ◌∙◌, filter, arith, fold, list_any}
 use Rattle.bd_laws.proofs.words.Types.{TransactionData, ObjectId, Step, Entry, Object, Process, Reference, Turn, Work, Item, Frame, Actor, TodoList, OfThread, OfProcess, WorkKind, is_own}
-use Rattle.bd_laws.proofs.words.Space.{same, Space, opening, with_work, owe, is_notice, is_item, turns_of, ripen, ripened, is_ripe, with_notice, wants_notice, has_notice_in, follow, notify, work_goes, deaths_go, still_due, names_go, assign_numbers, objects_go, object_in, closed, goes_to, Delivery, delivered, own_notices, add_buffer, known_by, refer, make_objects, buffer_of, add_notice, withdraw_notice, transacted, called, call_out, replied, read_by, counted, History, next, space_after}
+use Rattle.bd_laws.proofs.words.Space.{same, Space, opening, with_work, owe, is_notice, is_item, turns_of, ripen, ripened, is_ripe, with_notice, wants_notice, has_notice_in, follow, notify, work_goes, deaths_go, still_due, names_go, assign_numbers, objects_go, object_in, closed, goes_to, Delivery, delivered, own_notices, add_buffer, known_by, refer, make_objects, buffer_of, add_notice, withdraw_notice, transacted, called, call_out, replied, read_by, counted, History, next, space_after, is_spam}
 use Rattle.bd_space.specs.declared.space.WorkKind.TheVariants as work
 use Rattle.bd_links.specs.TodoList.{reply_of}
 use Rattle.bd_laws.specs.Lists.{In}
@@ -136,12 +136,12 @@ delivered-ready : (s : Space) (a : Actor) (d : TransactionData) (v : Delivery) �
 unfolding delivered add_buffer known_by assign_numbers refer make_objects
 delivered-ready s a d v h = notices-ready (add_buffer (known_by s v) (buffer_of (known_by s v) a d v)) a.thread.seat v.sending.items h
 
-owe-ready : (z : Space) (list : TodoList) → Ready z → Ready (owe z list work.Complete)
+owe-ready : (z : Space) (list : TodoList) (spam : Bool) → Ready z → Ready (owe z list (work.Complete spam))
 unfolding owe
-owe-ready z list h = record {
-  owed = adds-owed z.steps _ z.todo (with_work-quiet z.steps z.todo list work.Complete refl) h.owed h.early;
-  early = adds-early z.steps _ z.todo (with_work-quiet z.steps z.todo list work.Complete refl) h.owed h.early;
-  fresh = fresh-push z.steps z.processes z.objects z.references z.todo list work.Complete (inr (refl, refl)) h.fresh;
+owe-ready z list spam h = record {
+  owed = adds-owed z.steps _ z.todo (with_work-quiet z.steps z.todo list (work.Complete spam) refl) h.owed h.early;
+  early = adds-early z.steps _ z.todo (with_work-quiet z.steps z.todo list (work.Complete spam) refl) h.owed h.early;
+  fresh = fresh-push z.steps z.processes z.objects z.references z.todo list (work.Complete spam) (inr (refl, refl)) h.fresh;
 }
 
 owe-reply : (z : Space) (t n : ℕ) → z.steps ≡ n → Ready z → Goes (owe z (OfThread t) (work.Reply n))
@@ -165,10 +165,10 @@ unfolding replied
 replied-goes s a d f v h =
     let x = closed s f.made in
     let z = delivered x a d v in
-    let y = owe z (OfThread a.thread.seat) work.Complete in
+    let y = owe z (OfThread a.thread.seat) (work.Complete false) in
     let e : y.steps ≡ s.steps =
-    (quiet.owe-quiet z (OfThread a.thread.seat) work.Complete refl).steps ∙ (quiet.delivered-quiet x a d v).steps ∙ (quiet_closes s f.made).steps in
-    answers y f.caller s.steps e (owe-ready z (OfThread a.thread.seat) (delivered-ready x a d v (closed-owed s f.made h)))
+    (quiet.owe-quiet z (OfThread a.thread.seat) (work.Complete false) refl).steps ∙ (quiet.delivered-quiet x a d v).steps ∙ (quiet_closes s f.made).steps in
+    answers y f.caller s.steps e (owe-ready z (OfThread a.thread.seat) false (delivered-ready x a d v (closed-owed s f.made h)))
 
 -- ---- every step
 
@@ -186,8 +186,8 @@ transacted-goes : (s : Space) (a : Actor) (d : TransactionData) (v : Delivery) �
 unfolding transacted
 transacted-goes s a d v h =
     let z = delivered s a d v in
-    let y = owe z (OfThread a.thread.seat) work.Complete in
-    let q : Quiet y s = quiet.quiet-trans y z s (quiet.owe-quiet z (OfThread a.thread.seat) work.Complete refl) (quiet.delivered-quiet s a d v) in
+    let y = owe z (OfThread a.thread.seat) (work.Complete (is_spam z a v)) in
+    let q : Quiet y s = quiet.quiet-trans y z s (quiet.owe-quiet z (OfThread a.thread.seat) (work.Complete (is_spam z a v)) refl) (quiet.delivered-quiet s a d v) in
     let x = called y a.thread.seat v.receiver.made v.one_way in
     let adds : Adds s.steps x.todo y.todo = subst (λ n. Adds n x.todo y.todo) q.steps (called-adds y a.thread.seat v.receiver.made v.one_way) in
     inl (adds-early-owed x s h (called-steps y a.thread.seat v.receiver.made v.one_way ∙ q.steps) (adds-trans s.steps x.todo y.todo s.todo adds (quiet-adds y s q)))

@@ -56,7 +56,7 @@ from-call s y seat p false h = record {
 
 from-transacted : (s : Space) (a : Actor) (d : TransactionData) (v : Delivery) → From s (transacted s a d v)
 unfolding transacted
-from-transacted s a d v = from-call s _ a.thread.seat v.receiver.made v.one_way (from-quietly s _ (sent-quiet s a d v))
+from-transacted s a d v = from-call s _ a.thread.seat v.receiver.made v.one_way (from-quietly s _ (sent-quiet s a d v _))
 
 from-answer : (s y : Space) (caller : Option ℕ) → From s y → From s (elim caller as (λ (o : Option ℕ). Space) [ None ↦ y | Some t ↦ owe y (OfThread t) (work.Reply s.steps) ])
 unfolding owe
@@ -73,8 +73,8 @@ from-answer s y (Some t) h = record {
 from-replied : (s : Space) (a : Actor) (d : TransactionData) (f : Frame) (v : Delivery) → From s (replied s a d f v)
 unfolding replied
 from-replied s a d f v =
-    from-answer s (owe (delivered (closed s f.made) a d v) (OfThread a.thread.seat) work.Complete) f.caller
-    (from-quietly s _ (quiet-trans _ (closed s f.made) s (sent-quiet (closed s f.made) a d v) (quiet_closes s f.made)))
+    from-answer s (owe (delivered (closed s f.made) a d v) (OfThread a.thread.seat) (work.Complete false)) f.caller
+    (from-quietly s _ (quiet-trans _ (closed s f.made) s (sent-quiet (closed s f.made) a d v false) (quiet_closes s f.made)))
 
 from-read : (s : Space) (seat : ℕ) (ws : List Work) → From s (read_by s seat ws)
 unfolding read_by

@@ -2,7 +2,7 @@
 -- out; and what a step makes of its buffer.
 use Rattle.bd_laws.proofs.words.Logic.{◌≡◌, ℕ, ◌-◌, ◌<◌, Bool, true, false, cond, not, List, [], ◌∷◌, Option, Some, None, Ok, ◌⊎◌, inl, inr, refl, ap, sym, subst, ◌∙◌, filter, arith, list_any, eqb-true}
 use Rattle.bd_laws.proofs.words.Types.{TransactionData, ObjectId, Parcel, Command, Read, Entry, Actor, Frame, Buffer, Work, TodoList, OfThread, WorkKind}
-use Rattle.bd_laws.proofs.words.Space.{changed, Space, actor, owe, with_work, is_call, hands_out, list_to_read, is_item, closed, goes_to, follow, assign_numbers, Delivery, delivered, own_notices, add_buffer, known_by, refer, make_objects, buffer_of, transaction_check, transacted, called, call_out, is_one_way, reply_check, replied, is_made_at, taken, read_by, buffer_taken, hand_out, handed_buffers, read_fault, change}
+use Rattle.bd_laws.proofs.words.Space.{changed, Space, actor, owe, with_work, is_call, hands_out, list_to_read, is_item, closed, goes_to, follow, assign_numbers, Delivery, delivered, own_notices, add_buffer, known_by, refer, make_objects, buffer_of, transaction_check, transacted, called, call_out, is_one_way, reply_check, replied, is_made_at, taken, read_by, buffer_taken, hand_out, handed_buffers, read_fault, change, is_spam}
 use Rattle.bd_uapi.specs.declared.command.Command.TheVariants as bc
 use Rattle.bd_space.specs.declared.space.WorkKind.TheVariants as work
 use Rattle.bd_laws.proofs.words.Laws.{In, IsInTurn}
@@ -23,7 +23,7 @@ use Rattle.bd_laws.proofs.IsInTurn.OneWay
 use Rattle.bd_laws.proofs.Machine.Untouched
 use Rattle.bd_audit.proofs.RepliesReachTheirCallers.Traces.{transaction-accepted}
 use Rattle.bd_laws.proofs.Machine.Fields.{sent-steps, closed-steps}
-use Rattle.bd_audit.proofs.TurnsAreTaken.CallItemsKept.{Hands, DueOnce, IsOneWay, HandedBefore, Treats, once-less, treats-after, treats-untouched, treats-opened, treats-attached, treats-managed, gone-buffer, gone-thread, gone-ends, ripens}
+use Rattle.bd_audit.proofs.TurnsAreTaken.CallItemsKept.{Hands, DueOnce, IsOneWay, HandedBefore, Treats, once-less, treats-after, treats-untouched, treats-opened, treats-attached, treats-managed, gone-buffer, gone-thread, gone-ends, ripens, treats-marked}
 
 module _ (s : Space) (e : Entry) (m : ℕ) where
   -- ---- transactions and replies
@@ -80,16 +80,19 @@ module _ (s : Space) (e : Entry) (m : ℕ) where
   replies-to z None steps none h = h
   replies-to z (Some t) steps none h = hands-other _ z (OfThread t) (work.Reply s.steps) refl none refl refl h
 
-  sends : (y : Space) (a : Actor) (d : TransactionData) (v : Delivery) → ((o : ObjectId) → v.one_way ≡ true → v.target ≡ Some o → CallsOneWay s e o) → Treats s e m y
-      → Treats s e m (owe (delivered y a d v) (OfThread a.thread.seat) work.Complete)
-  sends y a d v made h = owes (delivered y a d v) (OfThread a.thread.seat) work.Complete refl (delivers y a d v made h)
+  sends : (y : Space) (a : Actor) (d : TransactionData) (v : Delivery) (spam : Bool) → ((o : ObjectId) → v.one_way ≡ true → v.target ≡ Some o → CallsOneWay s e o) → Treats s e m y
+      → Treats s e m (owe (delivered y a d v) (OfThread a.thread.seat) (work.Complete spam))
+  sends y a d v spam made h = owes (delivered y a d v) (OfThread a.thread.seat) (work.Complete spam) refl (delivers y a d v made h)
 
   module _ (a : Actor) (acts : actor s e.seat ≡ Some a) (d : TransactionData) (parcel : Option Parcel) where
     transacts : (v : Delivery) → e.step ≡ Command (bc.Transaction d) parcel → transaction_check s a d parcel ≡ Ok v → Treats s e m s → Treats s e m (transacted s a d v)
     unfolding transacted
     transacts v x check h =
-        calls (owe (delivered s a d v) (OfThread a.thread.seat) work.Complete) a.thread.seat v.receiver.made v.one_way (sent-steps s a d v) other (sends s a d v made h)
+        calls (owe (delivered s a d v) (OfThread a.thread.seat) (work.Complete spam)) a.thread.seat v.receiver.made v.one_way (sent-steps s a d v spam) other (sends s a d v spam made h)
       where
+        spam : Bool
+        spam = is_spam (delivered s a d v) a v
+
         t : Transacts s a d parcel v
         t = transaction-checked s a d parcel v check
 
@@ -118,8 +121,8 @@ module _ (s : Space) (e : Entry) (m : ℕ) where
     replies : (f : Frame) (v : Delivery) → e.step ≡ Command (bc.Reply d) parcel → reply_check s a d parcel f ≡ Ok v → Treats s e m s → Treats s e m (replied s a d f v)
     unfolding replied
     replies f v x check h =
-        replies-to (owe (delivered (closed s f.made) a d v) (OfThread a.thread.seat) work.Complete) f.caller (sent-steps (closed s f.made) a d v ∙ closed-steps s f.made) other
-        (sends (closed s f.made) a d v made ((treats-untouched s e m) (closed s f.made) s (Untouched.closed-untouched s f.made) (less_closes s f.made) h))
+        replies-to (owe (delivered (closed s f.made) a d v) (OfThread a.thread.seat) (work.Complete false)) f.caller (sent-steps (closed s f.made) a d v false ∙ closed-steps s f.made) other
+        (sends (closed s f.made) a d v false made ((treats-untouched s e m) (closed s f.made) s (Untouched.closed-untouched s f.made) (less_closes s f.made) h))
       where
         other : IsOneWay e.step → ⊥
         other k = let same_step : Command (bc.Reply d) parcel ≡ Command (bc.Transaction k.0) k.1 = sym x ∙ k.2 in absurd (cc)
@@ -221,6 +224,7 @@ module _ (s : Space) (e : Entry) (m : ℕ) where
         opened = λ pid euid window free. (treats-opened s e m) pid euid window at-start;
         attached = λ p free. (treats-attached s e m) p at-start;
         managed = λ a i b. (treats-managed s e m) a.process.made at-start;
+        marked = λ p on. (treats-marked s e m) p on at-start;
       };
       changes = record {
         transacts = λ a d parcel v x i t. transacts a i d parcel v x t at-start;

@@ -1,7 +1,7 @@
 -- The work items of a one-way call, through the parts of a step that make none: what goes, and what ripens.
 use Rattle.bd_laws.proofs.words.Logic.{◌≡◌, ℕ, ◌<◌, ◌==◌, Bool, true, false, cond, not, List, [], ◌∷◌, ◌++◌, Option, Some, ◌⊎◌, inl, inr, refl, ap, sym, subst, ◌∙◌, map, filter, arith, list_any, count_by, eqb-true, eq-eqb}
 use Rattle.bd_laws.proofs.words.Types.{TransactionData, ObjectId, Parcel, Step, Command, Entry, Thread, Buffer, Turn, Work, OfThread, OfProcess}
-use Rattle.bd_laws.proofs.words.Space.{same, Space, with_work, is_call, hands_out, is_on, turn_of, turns_of, is_ripe, ripened, ripen, is_one_way, without_buffer, is_made_at, thread_goes, is_lost_with, threads_go, without_process, tell_deaths, seat_of, with_thread, with_process, with_manager}
+use Rattle.bd_laws.proofs.words.Space.{same, Space, with_work, is_call, hands_out, is_on, turn_of, turns_of, is_ripe, ripened, ripen, is_one_way, without_buffer, is_made_at, thread_goes, is_lost_with, threads_go, without_process, tell_deaths, seat_of, with_thread, with_process, with_manager, with_spam_detection}
 use Rattle.bd_uapi.specs.declared.command.Command.TheVariants as bc
 use Rattle.bd_space.specs.declared.space.WorkKind.TheVariants as work
 use Rattle.bd_laws.proofs.words.Laws.{In, IsInTurn, On}
@@ -105,6 +105,10 @@ module _ (s : Space) (e : Entry) (m : ℕ) where
   pub treats-managed : (p : ℕ) → Treats s e m s → Treats s e m (with_manager s p)
   unfolding with_manager
   treats-managed p h = treats-same _ s refl (λ w i. i.0) h
+
+  pub treats-marked : (p : ℕ) (on : Bool) → Treats s e m s → Treats s e m (with_spam_detection s p on)
+  unfolding with_spam_detection
+  treats-marked p on h = treats-same _ s refl (λ w i. i.0) h
 
   -- ---- what goes
 

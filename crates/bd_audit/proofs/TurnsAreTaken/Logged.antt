@@ -94,7 +94,7 @@ module _ (s z : Space) (h : Before s) (turns : Turning z) (p : Passed s z) (o : 
     owner = λ x i e l.
         let w = owner-before s z h p o x k.old i e in
         elim (p.processes l.0 l.1) [
-          | inl j ↦ k.owner w.0 w.1 w.2 (l.0, j, l.2 ∙ sym w.3)
+          | inl j ↦ k.owner w.0 w.1 w.2 (j.0, j.1, j.2 ∙ l.2 ∙ sym w.3)
           | inr n ↦ (let lt = h.received.owners w.0 w.1 in let a = w.3 in let m = l.2 in absurd (omega arith))
         ];
     none = λ c i on. elim (p.from c i) [

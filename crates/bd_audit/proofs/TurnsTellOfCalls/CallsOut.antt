@@ -1,7 +1,7 @@
 -- A call that a reading takes hands its buffer out, and an accepted one-way transaction makes one.
 use Rattle.bd_laws.proofs.words.Logic.{◌≡◌, ℕ, zero, suc, ◌-◌, ◌==◌, Bool, true, false, cond, ◌||◌, List, [], ◌∷◌, length, Option, Some, None, Result, Ok, Err, refl, ap, sym, subst, ◌∙◌, map, find, nat_lt, list_any, is_some, option_and_then, eqb-true, eq-eqb}
 use Rattle.bd_laws.proofs.words.Types.{TransactionData, DeadReply, Fault, Cause, ObjectId, Parcel, Step, Command, Read, Accepted, Entry, Actor, Buffer, Frame, Work, OfThread, WorkKind}
-use Rattle.bd_laws.proofs.words.Space.{first_of, changed, Space, actor, owe, is_call, hands_out, list_to_read, closed, settle, settle_one, settle_times, is_abandoned, ripen, follow, assign_numbers, Delivery, delivered, own_notices, add_buffer, known_by, refer, make_objects, buffer_of, transaction_step, transaction_outcome, transaction_check, transacted, is_one_way, target_of, handle_of, is_made_at, command_step, Outcome, completed, refused, taken, ends_read, read_by, buffer_taken, hand_out, handed_buffers, bytes_read, buffer_in, read_fault, read_step, read_taking, change, by_actor}
+use Rattle.bd_laws.proofs.words.Space.{first_of, changed, Space, actor, owe, is_call, hands_out, list_to_read, closed, settle, settle_one, settle_times, is_abandoned, ripen, follow, assign_numbers, Delivery, delivered, own_notices, add_buffer, known_by, refer, make_objects, buffer_of, transaction_step, transaction_outcome, transaction_check, transacted, is_one_way, target_of, handle_of, is_made_at, command_step, Outcome, completed, refused, taken, ends_read, read_by, buffer_taken, hand_out, handed_buffers, bytes_read, buffer_in, read_fault, read_step, read_taking, change, by_actor, is_spam}
 use Rattle.bd_uapi.specs.declared.command.Command.TheVariants as bc
 use Rattle.bd_space.specs.declared.space.WorkKind.TheVariants as work
 use Rattle.bd_laws.proofs.words.Laws.{In, On}
@@ -142,8 +142,8 @@ transacted-buffers : (s : Space) (a : Actor) (d : TransactionData) (v : Delivery
 unfolding transacted
 transacted-buffers s a d v =
     let z = delivered s a d v in
-    let y = owe z (OfThread a.thread.seat) work.Complete in
-    (Untouched.called-untouched y a.thread.seat v.receiver.made v.one_way).buffers ∙ (Untouched.owe-untouched z (OfThread a.thread.seat) work.Complete).buffers
+    let y = owe z (OfThread a.thread.seat) (work.Complete (is_spam z a v)) in
+    (Untouched.called-untouched y a.thread.seat v.receiver.made v.one_way).buffers ∙ (Untouched.owe-untouched z (OfThread a.thread.seat) (work.Complete (is_spam z a v))).buffers
 
 same-object : (r : Result ObjectId Cause) (o p : ObjectId) → r ≡ Ok o → r ≡ Ok p → o ≡ p
 same-object r o p h k = let e : (let q : Result ObjectId Cause = Ok o in q) ≡ Ok p = sym h ∙ k in cc

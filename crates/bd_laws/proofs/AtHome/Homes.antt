@@ -1,7 +1,7 @@
 -- A buffer that an item on a thread's list hands over is its process's.
 use Rattle.bd_laws.proofs.words.Logic.{◌≡◌, ℕ, suc, ◌==◌, Bool, true, false, cond, not, List, ◌++◌, None, inl, inr, refl, ap, sym, subst, ◌∙◌, arith, list_any, eqb-true, eq-eqb}
 use Rattle.bd_laws.proofs.words.Types.{ObjectId, Step, Entry, Thread, Reference, Work, TodoList, OfThread, OfProcess}
-use Rattle.bd_laws.proofs.words.Space.{Space, opening, thread_in, is_of_buffer, is_asking, is_shaking, assign_numbers, is_on, same_list, is_item, without_buffer, ask, drop_asked, acknowledge, with_looping, read_by, handshakes, thread_goes, is_lost_reference, threads_go, without_process, is_dropped_with, change, counted, with_thread, with_process, with_manager, next}
+use Rattle.bd_laws.proofs.words.Space.{Space, opening, thread_in, is_of_buffer, is_asking, is_shaking, assign_numbers, is_on, same_list, is_item, without_buffer, ask, drop_asked, acknowledge, with_looping, read_by, handshakes, thread_goes, is_lost_reference, threads_go, without_process, is_dropped_with, change, counted, with_thread, with_process, with_manager, next, with_spam_detection}
 use Rattle.bd_space.specs.declared.space.WorkKind.TheVariants as work
 use Rattle.bd_laws.proofs.words.Laws.{In, IsInTurn, OtherSeat, Homed, AtHome}
 use Rattle.bd_laws.proofs.Lists.{in-append, in-push, in-left, in-filter, filter-in, in-without, changed-in, find-some, pairs-push, pairs-filter, pairs-changed}
@@ -101,7 +101,7 @@ asks-h n s p o strong h =
     (λ r b q l c. elim (in-push r _ s.references l) [ inl i ↦ i | inr is ↦ (let no = sym (ap (λ (y : Reference). y.holder) is) in absurd (cc)) ]) (λ w m l e. l) h
 
 step-h : (s : Space) (seat : ℕ) (x : Step) → IsInTurn s → AtHome s → Keeps s seat x (H (suc s.steps)) (H (suc s.steps))
-unfolding without_buffer drop_asked acknowledge
+unfolding without_buffer drop_asked acknowledge with_spam_detection
 step-h s seat x turns before =
     let n = suc s.steps in
     let h : H n s = less s.steps n s.threads s.references s.references s.todo s.todo (omega arith) (λ r b q l c. l) (λ w m l e. l) before in
@@ -111,6 +111,7 @@ step-h s seat x turns before =
         opened = λ pid euid window free. opened-h n s seat pid euid window free h;
         attached = λ p free. attached-h n s seat p free h;
         managed = λ a e b. managed-h n s a.process.made h;
+        marked = λ p on. h;
       };
       changes = record {
         transacts = λ a d parcel v e i t. transacted-h s a d v before turns;

@@ -1,7 +1,7 @@
 -- What is sent stands with its receiver: the buffer that an item on a thread's list hands over is its process's.
 use Rattle.bd_laws.proofs.words.Logic.{◌≡◌, ℕ, suc, ◌+◌, ◌≤◌, ◌==◌, Bool, true, false, List, [], ◌∷◌, Option, Some, None, Ok, ◌⊎◌, inl, inr, refl, ap, sym, subst, ◌∙◌, find, reverse, arith, option_and_then, option_map, eqb-true}
 use Rattle.bd_laws.proofs.words.Types.{TransactionData, ObjectId, Parcel, Process, Thread, Reference, Holder, Carried, Item, Frame, Actor, Work, TodoList, OfThread, OfProcess, WorkKind}
-use Rattle.bd_laws.proofs.words.Space.{is_some_and, Space, actor, thread_in, objects_go, names_go, assign_numbers, closed, goes_to, waits_in, list_of_caller, ancestry, made_of, innermost_in, with_work, owe, hands_out, ripen, deaths_go, work_goes, notify, follow, Delivery, delivered, own_notices, add_buffer, known_by, refer, make_objects, buffer_of, buffer_references, transacted, called, call_out, caller_of, reply_check, replied}
+use Rattle.bd_laws.proofs.words.Space.{is_some_and, Space, actor, thread_in, objects_go, names_go, assign_numbers, closed, goes_to, waits_in, list_of_caller, ancestry, made_of, innermost_in, with_work, owe, hands_out, ripen, deaths_go, work_goes, notify, follow, Delivery, delivered, own_notices, add_buffer, known_by, refer, make_objects, buffer_of, buffer_references, transacted, called, call_out, caller_of, reply_check, replied, is_spam}
 use Rattle.bd_space.specs.declared.space.WorkKind.TheVariants as work
 use Rattle.bd_laws.proofs.words.Laws.{In, Pairs, IsInTurn, OtherSeat, Homed, AtHome}
 use Rattle.bd_laws.proofs.Lists.{in-append, in-push, find-in, pairs-either}
@@ -98,15 +98,15 @@ goes-home s seat p c e = at (ancestry (option_map made_of (innermost_in s.frames
     at way (Some g) f k = caller g.caller (find-in (waits_in s.threads p) g way f).1 k
 
 module _ (s x : Space) (a : Actor) (d : TransactionData) (v : Delivery) (steps : x.steps ≡ s.steps) (threads : x.threads ≡ s.threads) (references : x.references ≡ s.references) (todo : x.todo ≡ s.todo)
-    (h : AtHome s) (turns : IsInTurn s) where
+    (h : AtHome s) (turns : IsInTurn s) (spam : Bool) where
   abbrev pub sent : Space
-  sent = owe (delivered x a d v) (OfThread a.thread.seat) work.Complete
+  sent = owe (delivered x a d v) (OfThread a.thread.seat) (work.Complete spam)
 
   pub sent-due : (w : Work) (m : ℕ) → In w sent.todo → hands_out w.kind ≡ Some m → In w s.todo
   unfolding delivered own_notices add_buffer known_by assign_numbers refer make_objects owe
   sent-due w m l e =
       subst (In w) todo (own_notices-less (add_buffer (known_by x v) (buffer_of (known_by x v) a d v)) a.thread.seat v.sending.items w m
-      (with_work-less _ _ (OfThread a.thread.seat) work.Complete refl w m l e) e)
+      (with_work-less _ _ (OfThread a.thread.seat) (work.Complete spam) refl w m l e) e)
 
   pub sent-steps : sent.steps ≡ s.steps
   unfolding delivered own_notices add_buffer known_by assign_numbers refer make_objects owe
@@ -176,14 +176,14 @@ pub transacted-h : (s : Space) (a : Actor) (d : TransactionData) (v : Delivery) 
 unfolding transacted
 transacted-h s a d v h turns = at v.one_way
   where
-    y : Space
-    y = owe (delivered s a d v) (OfThread a.thread.seat) work.Complete
+    spam : Bool
+    spam = is_spam (delivered s a d v) a v
 
-    at : (b : Bool) → H (suc s.steps) (called (owe (delivered s a d v) (OfThread a.thread.seat) work.Complete) a.thread.seat v.receiver.made b)
-    at true = sent-h s s a d v refl refl refl refl h turns
+    at : (b : Bool) → H (suc s.steps) (called (owe (delivered s a d v) (OfThread a.thread.seat) (work.Complete spam)) a.thread.seat v.receiver.made b)
+    at true = sent-h s s a d v refl refl refl refl h turns spam
     at false =
-        call-out-h (owe (delivered s a d v) (OfThread a.thread.seat) work.Complete) (suc s.steps) s.steps a.thread.seat v.receiver.made (sent-steps s s a d v refl refl refl refl h turns)
-        (handing-h s s a d v refl refl refl refl h turns _ _ (work.Call s.steps) refl (λ t e. goes-home _ a.thread.seat v.receiver.made t e))
+        call-out-h (owe (delivered s a d v) (OfThread a.thread.seat) (work.Complete spam)) (suc s.steps) s.steps a.thread.seat v.receiver.made (sent-steps s s a d v refl refl refl refl h turns spam)
+        (handing-h s s a d v refl refl refl refl h turns spam _ _ (work.Call s.steps) refl (λ t e. goes-home _ a.thread.seat v.receiver.made t e))
 
 pub caller-acts : (s : Space) (f : Frame) (t : ℕ) (c : Actor) → caller_of s f ≡ Some c → f.caller ≡ Some t → actor s t ≡ Some c
 unfolding caller_of
@@ -203,8 +203,8 @@ replied-h s a d parcel f v h turns check = at f.caller refl
         (r.caller.thread, u.0, eqb-true r.caller.thread.seat t u.1 ∙ same_seat, sym (ap (λ (y : Process). y.made) r.receiver ∙ eqb-true r.caller.process.made r.caller.thread.process q.1))
 
     at : (o : Option ℕ) → f.caller ≡ o
-        → H (suc s.steps) (elim o as (λ (o : Option ℕ). Space) [ None ↦ owe (delivered (closed s f.made) a d v) (OfThread a.thread.seat) work.Complete | Some t ↦ owe (owe (delivered (closed s f.made) a d v) (OfThread a.thread.seat) work.Complete) (OfThread t) (work.Reply s.steps) ])
-    at None e = sent-h s (closed s f.made) a d v (closed-same s f.made).0 (closed-same s f.made).1 (closed-same s f.made).2 (closed-same s f.made).3 h turns
+        → H (suc s.steps) (elim o as (λ (o : Option ℕ). Space) [ None ↦ owe (delivered (closed s f.made) a d v) (OfThread a.thread.seat) (work.Complete false) | Some t ↦ owe (owe (delivered (closed s f.made) a d v) (OfThread a.thread.seat) (work.Complete false)) (OfThread t) (work.Reply s.steps) ])
+    at None e = sent-h s (closed s f.made) a d v (closed-same s f.made).0 (closed-same s f.made).1 (closed-same s f.made).2 (closed-same s f.made).3 h turns false
     at (Some t) e =
-        handing-h s (closed s f.made) a d v (closed-same s f.made).0 (closed-same s f.made).1 (closed-same s f.made).2 (closed-same s f.made).3 h turns _ (OfThread t) (work.Reply s.steps) refl
-        (λ m is. let u = to t e m is in (u.0, subst (In u.0) (sym (sent-threads s (closed s f.made) a d v (closed-same s f.made).0 (closed-same s f.made).1 (closed-same s f.made).2 (closed-same s f.made).3 h turns)) u.1, u.2, u.3))
+        handing-h s (closed s f.made) a d v (closed-same s f.made).0 (closed-same s f.made).1 (closed-same s f.made).2 (closed-same s f.made).3 h turns false _ (OfThread t) (work.Reply s.steps) refl
+        (λ m is. let u = to t e m is in (u.0, subst (In u.0) (sym (sent-threads s (closed s f.made) a d v (closed-same s f.made).0 (closed-same s f.made).1 (closed-same s f.made).2 (closed-same s f.made).3 h turns false)) u.1, u.2, u.3))

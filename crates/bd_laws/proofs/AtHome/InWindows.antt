@@ -1,6 +1,6 @@
 -- What a buffer carries lies in its receiver's window.
 use Rattle.bd_laws.proofs.words.Types.{TransactionData, ObjectId, Step, Entry, Reference, Carried, Buffer, Actor, Frame, Work, OfThread}
-use Rattle.bd_laws.proofs.words.Space.{Space, opening, objects_go, is_of_buffer, is_asking, is_shaking, names_go, assign_numbers, closed, owe, ripen, deaths_go, work_goes, notify, follow, Delivery, delivered, own_notices, add_buffer, known_by, refer, make_objects, buffer_references, transacted, called, replied, without_buffer, is_made_at, ask, drop_asked, acknowledge, read_by, handshakes, hand_out, handed_buffers, buffer_taken, thread_goes, is_lost_reference, is_lost_with, threads_go, without_process, is_dropped_with, counted, with_thread, with_process, with_manager, next}
+use Rattle.bd_laws.proofs.words.Space.{Space, opening, objects_go, is_of_buffer, is_asking, is_shaking, names_go, assign_numbers, closed, owe, ripen, deaths_go, work_goes, notify, follow, Delivery, delivered, own_notices, add_buffer, known_by, refer, make_objects, buffer_references, transacted, called, replied, without_buffer, is_made_at, ask, drop_asked, acknowledge, read_by, handshakes, hand_out, handed_buffers, buffer_taken, thread_goes, is_lost_reference, is_lost_with, threads_go, without_process, is_dropped_with, counted, with_thread, with_process, with_manager, next, is_spam, with_spam_detection}
 use Rattle.std.proofs.Common.{◌≡◌, ℕ, ◌==◌, Bool, true, false, cond, not, List, ◌++◌, Option, Some, None, inl, inr, refl, ap, sym, subst, ◌∙◌, arith}
 use Rattle.bd_space.specs.declared.space.WorkKind.TheVariants as work
 use Rattle.bd_laws.proofs.words.Laws.{In, IsInTurn, AtHome, AllInWindows, IsInWindows}
@@ -47,9 +47,9 @@ transacted-in : (s : Space) (a : Actor) (d : TransactionData) (v : Delivery) →
 unfolding transacted
 transacted-in s a d v home turns h =
     let z = delivered s a d v in
-    let y = owe z (OfThread a.thread.seat) work.Complete in
+    let y = owe z (OfThread a.thread.seat) (work.Complete (is_spam z a v)) in
     untouched-in (called y a.thread.seat v.receiver.made v.one_way) y (called-untouched y a.thread.seat v.receiver.made v.one_way)
-    (untouched-in y z (owe-untouched z (OfThread a.thread.seat) work.Complete) (delivered-in s a d v home turns h))
+    (untouched-in y z (owe-untouched z (OfThread a.thread.seat) (work.Complete (is_spam z a v))) (delivered-in s a d v home turns h))
 
 closed-home : (s : Space) (made : ℕ) → AtHome s → AtHome (closed s made)
 unfolding closed
@@ -64,9 +64,9 @@ unfolding replied
 replied-in s a d f v home turns h =
     let x = closed s f.made in
     let z = delivered x a d v in
-    let y = owe z (OfThread a.thread.seat) work.Complete in
+    let y = owe z (OfThread a.thread.seat) (work.Complete false) in
     untouched-in _ y (told-untouched y f.caller (work.Reply s.steps))
-    (untouched-in y z (owe-untouched z (OfThread a.thread.seat) work.Complete)
+    (untouched-in y z (owe-untouched z (OfThread a.thread.seat) (work.Complete false))
     (delivered-in x a d v (closed-home s f.made home) (closed-turns s f.made turns) (untouched-in x s (closed-untouched s f.made) h)))
 
 -- ---- the other steps
@@ -131,12 +131,14 @@ unfolding follow notify work_goes deaths_go objects_go names_go
 follow-in z h = h
 
 step-in : (s : Space) (seat : ℕ) (x : Step) → AtHome s → IsInTurn s → IsInWindows s → Keeps s seat x IsInWindows IsInWindows
+unfolding with_spam_detection
 step-in s seat x home turns h = record {
   set_up = record {
     same = h;
     opened = λ pid euid window free. attached-in (with_process s pid euid window) seat s.steps (opened-in s pid euid window h);
     attached = λ p free. attached-in s seat p h;
     managed = λ a e b. managed-in s a.process.made h;
+    marked = λ p on. h;
   };
   changes = record {
     transacts = λ a d parcel v e i t. transacted-in s a d v home turns h;

@@ -1,7 +1,7 @@
 -- No thread is to read a call of its own.
 use Rattle.bd_laws.proofs.words.Logic.{◌≡◌, ℕ, ◌<◌, ◌==◌, Bool, true, false, cond, not, ◌&&◌, List, Option, Some, None, Ok, inl, inr, refl, ap, sym, subst, ◌∙◌, arith, list_any, option_and_then_some, eqb-true, eq-eqb}
 use Rattle.bd_laws.proofs.words.Types.{TransactionData, NoManager, OwnManager, NotStronglyNamed, ObjectId, Parcel, Step, Entry, Process, Thread, Object, Frame, Actor, Work, TodoList, OfThread, OfProcess, WorkKind}
-use Rattle.bd_laws.proofs.words.Space.{same, found_or, when, and_then, Space, opening, actor, owned_in, objects_go, names_go, assign_numbers, named_in, strongly_named, if_strongly_named, closed, goes_to, is_frame, owe, hands_out, is_on, is_call, ripen, deaths_go, work_goes, notify, follow, Delivery, delivered, own_notices, add_buffer, known_by, refer, make_objects, transaction_check, transacted, called, call_out, target_of, not_own, handle_of, replied, without_buffer, ask, drop_asked, acknowledge, with_looping, read_by, serve, thread_goes, frame_without, unread_frame, threads_go, without_process, counted, next}
+use Rattle.bd_laws.proofs.words.Space.{same, found_or, when, and_then, Space, opening, actor, owned_in, objects_go, names_go, assign_numbers, named_in, strongly_named, if_strongly_named, closed, goes_to, is_frame, owe, hands_out, is_on, is_call, ripen, deaths_go, work_goes, notify, follow, Delivery, delivered, own_notices, add_buffer, known_by, refer, make_objects, transaction_check, transacted, called, call_out, target_of, not_own, handle_of, replied, without_buffer, ask, drop_asked, acknowledge, with_looping, read_by, serve, thread_goes, frame_without, unread_frame, threads_go, without_process, counted, next, is_spam}
 use Rattle.bd_space.specs.declared.space.WorkKind.TheVariants as work
 use Rattle.bd_laws.proofs.words.Laws.{In, IsInTurn, AtHome, OfOthers}
 use Rattle.bd_laws.proofs.Lists.{in-push, in-filter, in-map, in-changed, find-in, any-in}
@@ -86,8 +86,11 @@ unowned-target s p n o h = at (n == 0) h
 
 module _ (s : Space) (seat : ℕ) (a : Actor) (d : TransactionData) (parcel : Option Parcel) (v : Delivery) (acts : actor s seat ≡ Some a) (check : transaction_check s a d parcel ≡ Ok v)
     (home : AtHome s) (turns : IsInTurn s) (below : (f : Frame) → In f s.frames → f.made < s.steps) (h : OfOthers s) where
+  abbrev spam : Bool
+  spam = is_spam (delivered s a d v) a v
+
   abbrev y : Space
-  y = owe (delivered s a d v) (OfThread a.thread.seat) work.Complete
+  y = owe (delivered s a d v) (OfThread a.thread.seat) (work.Complete spam)
 
   y-frames : y.frames ≡ s.frames
   unfolding delivered own_notices add_buffer known_by assign_numbers refer make_objects owe
@@ -110,11 +113,11 @@ module _ (s : Space) (seat : ℕ) (a : Actor) (d : TransactionData) (parcel : Op
       let k = actor-lives s seat a acts in
       let l = find-in (λ (x : Thread). x.seat == seat) a.thread s.threads k.0 in
       let q = find-in (λ (x : Process). x.made == a.thread.process) a.process s.processes k.1 in
-      let same_thread = one-thread s home u.0 a.thread (subst (In u.0) (sent-threads s s a d v refl refl refl refl home turns) u.1) l.0 (u.2 ∙ sym is) in
+      let same_thread = one-thread s home u.0 a.thread (subst (In u.0) (sent-threads s s a d v refl refl refl refl home turns spam) u.1) l.0 (u.2 ∙ sym is) in
       apart (sym u.3 ∙ ap (λ (x : Thread). x.process) same_thread ∙ sym (eqb-true a.process.made a.thread.process q.1))
 
   y-others : OfOthers y
-  y-others = fewer y s (record { calls = λ w b t l e on. sent-due s s a d v refl refl refl refl home turns w b l (ap hands_out e); frames = same-frames y s y-frames }) h
+  y-others = fewer y s (record { calls = λ w b t l e on. sent-due s s a d v refl refl refl refl home turns spam w b l (ap hands_out e); frames = same-frames y s y-frames }) h
 
   calls-out : (steps : y.steps ≡ s.steps) → OfOthers (call_out y a.thread.seat v.receiver.made)
   unfolding call_out owe
@@ -123,7 +126,7 @@ module _ (s : Space) (seat : ℕ) (a : Actor) (d : TransactionData) (parcel : Op
       | inl m ↦ y-others w f t j e on m c
       | inr is ↦ (
           let made : s.steps ≡ f.made = sym steps ∙ ap (λ (g : Frame). g.made) is in
-          let lt = turns.fresh f.made (w, sent-due s s a d v refl refl refl refl home turns w f.made j (ap hands_out e), ap hands_out e) in absurd (omega arith))
+          let lt = turns.fresh f.made (w, sent-due s s a d v refl refl refl refl home turns spam w f.made j (ap hands_out e), ap hands_out e) in absurd (omega arith))
     ]
     | inr was ↦ elim (in-push f _ y.frames i) [
       | inl m ↦ (
@@ -141,9 +144,9 @@ module _ (s : Space) (seat : ℕ) (a : Actor) (d : TransactionData) (parcel : Op
   unfolding transacted
   transacts-o = at v.one_way
     where
-      at : (b : Bool) → OfOthers (called (owe (delivered s a d v) (OfThread a.thread.seat) work.Complete) a.thread.seat v.receiver.made b)
+      at : (b : Bool) → OfOthers (called (owe (delivered s a d v) (OfThread a.thread.seat) (work.Complete spam)) a.thread.seat v.receiver.made b)
       at true = y-others
-      at false = calls-out (sent-steps s s a d v refl refl refl refl home turns)
+      at false = calls-out (sent-steps s s a d v refl refl refl refl home turns spam)
 
 -- ---- the other steps
 
@@ -152,9 +155,9 @@ unfolding replied
 replied-o s a d f v home turns h =
     let x = closed s f.made in
     let k = closed-same s f.made in
-    let z = owe (delivered x a d v) (OfThread a.thread.seat) work.Complete in
+    let z = owe (delivered x a d v) (OfThread a.thread.seat) (work.Complete false) in
     told-keeps OfOthers (work.Reply s.steps) (λ z t. uncalled z (OfThread t) (work.Reply s.steps) (λ b e. cc)) z f.caller
-    (fewer z x (record { calls = λ w b t l e on. subst (In w) (sym k.3) (sent-due s x a d v k.0 k.1 k.2 k.3 home turns w b l (ap hands_out e)); frames = same-frames z x (sent-frames x a d v) })
+    (fewer z x (record { calls = λ w b t l e on. subst (In w) (sym k.3) (sent-due s x a d v k.0 k.1 k.2 k.3 home turns false w b l (ap hands_out e)); frames = same-frames z x (sent-frames x a d v false) })
     (closes s f.made h))
 
 serve-caller : (seat : ℕ) (c : Bool) (f : Frame) → ((cond c (serve seat f) f).made ≡ f.made) × ((cond c (serve seat f) f).caller ≡ f.caller)

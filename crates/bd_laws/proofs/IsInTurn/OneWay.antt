@@ -1,7 +1,7 @@
 -- One-way calls whose buffers live: a buffer that is due or handed out has no older rival.
 use Rattle.bd_laws.proofs.words.Logic.{◌≡◌, ℕ, suc, ◌≤◌, ◌==◌, Bool, true, false, not, List, [], ◌∷◌, ◌++◌, Option, Some, None, ◌⊎◌, inl, inr, refl, ap, sym, subst, ◌∙◌, filter, arith, fold}
 use Rattle.bd_laws.proofs.words.Types.{Buffer, Work, Item, TodoList, WorkKind, Actor, Frame, OfThread, OfProcess, TransactionData}
-use Rattle.bd_laws.proofs.words.Space.{Space, with_work, hands_out, owe, is_on, is_notice, turn_of, follow, work_goes, still_due, assign_numbers, goes_to, closed, Delivery, delivered, own_notices, add_buffer, known_by, refer, make_objects, buffer_of, add_notice, withdraw_notice, transacted, called, call_out, replied, without_buffer, is_made_at, thread_goes, is_lost_with, without_process, tell_deaths, with_thread, with_looping}
+use Rattle.bd_laws.proofs.words.Space.{Space, with_work, hands_out, owe, is_on, is_notice, turn_of, follow, work_goes, still_due, assign_numbers, goes_to, closed, Delivery, delivered, own_notices, add_buffer, known_by, refer, make_objects, buffer_of, add_notice, withdraw_notice, transacted, called, call_out, replied, without_buffer, is_made_at, thread_goes, is_lost_with, without_process, tell_deaths, with_thread, with_looping, is_spam}
 use Rattle.bd_space.specs.declared.space.WorkKind.TheVariants as work
 use Rattle.bd_laws.proofs.words.Laws.{In, Pairs, Due, Waits, InTurn}
 use Rattle.bd_laws.proofs.Lists.{in-push, in-filter, pairs-map, pairs-filter, pairs-push}
@@ -162,11 +162,11 @@ pub transacted-in_turn : (s : Space) (a : Actor) (d : TransactionData) (v : Deli
 unfolding transacted
 transacted-in_turn s a d v h =
     let z = delivered s a d v in
-    let y = owe z (OfThread a.thread.seat) work.Complete in
+    let y = owe z (OfThread a.thread.seat) (work.Complete (is_spam z a v)) in
     called-in_turn y a.thread.seat v.receiver.made v.one_way
-    (λ e. subst (λ bs. NoTurn y.steps bs) (sym (owe-buffers z (OfThread a.thread.seat) work.Complete))
-    (subst (λ n. NoTurn n z.buffers) (sym (owe-steps z (OfThread a.thread.seat) work.Complete ∙ delivered-steps s a d v)) (delivered-no_turn s a d v h e)))
-    (in_turn-less y z (owe-less z (OfThread a.thread.seat) work.Complete refl) (delivered-in_turn s a d v h))
+    (λ e. subst (λ bs. NoTurn y.steps bs) (sym (owe-buffers z (OfThread a.thread.seat) (work.Complete (is_spam z a v))))
+    (subst (λ n. NoTurn n z.buffers) (sym (owe-steps z (OfThread a.thread.seat) (work.Complete (is_spam z a v)) ∙ delivered-steps s a d v)) (delivered-no_turn s a d v h e)))
+    (in_turn-less y z (owe-less z (OfThread a.thread.seat) (work.Complete (is_spam z a v)) refl) (delivered-in_turn s a d v h))
 
 answers : (z : Space) (caller : Option ℕ) (n : ℕ) → z.steps ≡ n → NoTurn n z.buffers → InTurn (suc z.steps) z.buffers z.todo
     → (let y = elim caller as (λ (o : Option ℕ). Space) [ None ↦ z | Some t ↦ owe z (OfThread t) (work.Reply n) ] in InTurn (suc y.steps) y.buffers y.todo)
@@ -180,11 +180,11 @@ unfolding replied closed
 replied-in_turn s a d f v one_way h =
     let x = closed s f.made in
     let z = delivered x a d v in
-    let y = owe z (OfThread a.thread.seat) work.Complete in
-    let e : y.steps ≡ s.steps = owe-steps z (OfThread a.thread.seat) work.Complete ∙ delivered-steps x a d v in
+    let y = owe z (OfThread a.thread.seat) (work.Complete false) in
+    let e : y.steps ≡ s.steps = owe-steps z (OfThread a.thread.seat) (work.Complete false) ∙ delivered-steps x a d v in
     answers y f.caller s.steps e
-    (subst (λ bs. NoTurn s.steps bs) (sym (owe-buffers z (OfThread a.thread.seat) work.Complete)) (delivered-no_turn x a d v h one_way))
-    (in_turn-less y z (owe-less z (OfThread a.thread.seat) work.Complete refl) (delivered-in_turn x a d v h))
+    (subst (λ bs. NoTurn s.steps bs) (sym (owe-buffers z (OfThread a.thread.seat) (work.Complete false))) (delivered-no_turn x a d v h one_way))
+    (in_turn-less y z (owe-less z (OfThread a.thread.seat) (work.Complete false) refl) (delivered-in_turn x a d v h))
 
 -- ---- what only goes
 

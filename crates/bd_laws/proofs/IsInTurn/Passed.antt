@@ -1,7 +1,7 @@
 -- What lies between the space before a step and one within it: processes, objects and buffers, and what the step made of them.
 use Rattle.bd_laws.proofs.words.Logic.{◌≡◌, ℕ, ◌==◌, Bool, true, false, List, Some, ◌⊎◌, inl, inr, refl, ap, sym, subst, ◌∙◌}
 use Rattle.bd_laws.proofs.words.Types.{ObjectId, Process, Actor, Object, Buffer, Work, OfProcess}
-use Rattle.bd_laws.proofs.words.Space.{Space, actor, objects_go, stays_in, names_go, assign_numbers, hands_out, follow, notify, work_goes, deaths_go, ask, drop_asked, acknowledge, with_thread, with_process, with_manager}
+use Rattle.bd_laws.proofs.words.Space.{Space, actor, objects_go, stays_in, names_go, assign_numbers, hands_out, follow, notify, work_goes, deaths_go, ask, drop_asked, acknowledge, with_thread, with_process, with_manager, with_spam_detection}
 use Rattle.bd_laws.proofs.words.Laws.{In, Due, On, OnLists}
 use Rattle.bd_laws.proofs.Lists.{in-push, in-filter, find-in}
 use Rattle.bd_laws.proofs.IsInTurn.OneWay.{less_table, HandsNothing, Less}
@@ -10,6 +10,7 @@ use Rattle.bd_laws.proofs.Machine.Untouched
 use Rattle.bd_laws.proofs.Machine.Untouched.{Untouched}
 use Rattle.bd_laws.proofs.Checks.{actor-lives}
 use Rattle.bd_laws.proofs.Machine.Following.{follow-by}
+use Rattle.bd_laws.proofs.Machine.Marks.{marked-in}
 
 -- a live process
 abbrev pub Lives : List Process → ℕ → Type 0
@@ -36,7 +37,7 @@ pub record Ended (z : Space) (p : ℕ) : Type 0 where
 
 pub record Passed (s z : Space) : Type 0 where
   pub steps : z.steps ≡ s.steps
-  pub processes : (q : Process) → In q z.processes → In q s.processes ⊎ (q.made ≡ s.steps)
+  pub processes : (q : Process) → In q z.processes → Lives s.processes q.made ⊎ (q.made ≡ s.steps)
   pub objects : (x : Object) → In x z.objects → ((y : Object) × In y s.objects × (x.id ≡ y.id) × (x.owner ≡ y.owner)) ⊎ ((x.id.place ≡ s.steps) × Lives s.processes x.owner)
   pub from : (c : Buffer) → In c z.buffers → ((b : Buffer) × In b s.buffers × Became s b c) ⊎ New s c
   pub to : (o : ObjectId) (b : Buffer) → In b s.buffers → On o b → ((c : Buffer) × In c z.buffers × Became s b c) ⊎ ((b.handed ≡ true) ⊎ Ended z b.receiver)
@@ -48,7 +49,7 @@ same-buffer s b = record { made = refl; receiver = refl; one_way = refl; target 
 pub passed-none : (s : Space) → OnLists s → Passed s s
 passed-none s l = record {
   steps = refl;
-  processes = λ q i. inl i;
+  processes = λ q i. inl (q, i, refl);
   objects = λ x i. inl (x, i, refl, refl);
   from = λ c i. inl (c, i, same-buffer s c);
   to = λ o b i on. inl (b, i, same-buffer s b);
@@ -117,7 +118,7 @@ follow-after = follow-by After after-trans (record {
   notices = λ z. untouched-after (notify z) z (Untouched.notify-untouched z) (notify-by Less HandsNothing less_table z);
 })
 
--- ---- opening and managing
+-- ---- opening, managing and marking
 
 pub opened-passed : (s : Space) (seat pid euid window : ℕ) → OnLists s → Passed s (with_thread (with_process s pid euid window) seat s.steps)
 unfolding with_thread with_process
@@ -125,7 +126,7 @@ opened-passed s seat pid euid window l =
     let h = passed-none s l in
     record {
       steps = refl;
-      processes = λ q i. elim (in-push q _ s.processes i) [ inl k ↦ inl k | inr e ↦ inr (sym (ap (λ (x : Process). x.made) e)) ];
+      processes = λ q i. elim (in-push q _ s.processes i) [ inl k ↦ inl (q, k, refl) | inr e ↦ inr (sym (ap (λ (x : Process). x.made) e)) ];
       objects = h.objects;
       from = h.from;
       to = λ o b i on. inl (b, i, same-buffer s b);
@@ -152,6 +153,19 @@ managed-passed s seat a acts l =
         | inl k ↦ inl (x, k, refl, refl)
         | inr e ↦ inr (sym (ap (λ (y : Object). y.id.place) e), subst (Lives s.processes) (ap (λ (y : Object). y.owner) e) (actor-alive s seat a acts))
       ];
+      from = h.from;
+      to = λ o b i on. inl (b, i, same-buffer s b);
+      lists = l;
+    }
+
+pub marked-passed : (s : Space) (p : ℕ) (on : Bool) → OnLists s → Passed s (with_spam_detection s p on)
+unfolding with_spam_detection
+marked-passed s p on l =
+    let h = passed-none s l in
+    record {
+      steps = refl;
+      processes = λ q i. let r = marked-in p on s.processes q i in inl (r.0, r.1, r.2);
+      objects = h.objects;
       from = h.from;
       to = λ o b i on. inl (b, i, same-buffer s b);
       lists = l;

@@ -1,7 +1,7 @@
 -- What transactions, replies, freeing and readings leave of processes, objects and buffers, and what they make.
 use Rattle.bd_laws.proofs.words.Logic.{◌≡◌, ℕ, ◌==◌, Bool, true, false, cond, not, List, [], ◌∷◌, Option, Some, None, Ok, ◌⊎◌, inl, inr, refl, ap, sym, subst, ◌∙◌, filter, arith, list_any, eqb-true}
 use Rattle.bd_laws.proofs.words.Types.{TransactionData, ObjectId, Parcel, Process, Thread, Actor, Frame, Object, Buffer, Work, TodoList, OfThread, OfProcess, WorkKind}
-use Rattle.bd_laws.proofs.words.Space.{Space, actor, assign_numbers, owe, with_work, hands_out, list_to_read, is_item, closed, goes_to, Delivery, delivered, own_notices, add_buffer, known_by, refer, make_objects, buffer_of, transaction_check, transacted, called, call_out, reply_check, replied, without_buffer, is_made_at, taken, read_by, buffer_taken, hand_out, handed_buffers, told_of, is_told_by}
+use Rattle.bd_laws.proofs.words.Space.{Space, actor, assign_numbers, owe, with_work, hands_out, list_to_read, is_item, closed, goes_to, Delivery, delivered, own_notices, add_buffer, known_by, refer, make_objects, buffer_of, transaction_check, transacted, called, call_out, reply_check, replied, without_buffer, is_made_at, taken, read_by, buffer_taken, hand_out, handed_buffers, told_of, is_told_by, is_spam}
 use Rattle.bd_space.specs.declared.space.WorkKind.TheVariants as work
 use Rattle.bd_laws.proofs.words.Laws.{In, Due, Waits, InTurn, On, OnLists}
 use Rattle.bd_laws.proofs.Lists.{in-left, in-append, in-push, in-filter, filter-in, in-changed, changed-in, find-in, pairs-either}
@@ -24,7 +24,7 @@ pub delivered-passed : (s : Space) (a : Actor) (d : TransactionData) (v : Delive
 unfolding delivered own_notices add_buffer known_by assign_numbers refer make_objects
 delivered-passed s a d v turns l lives made owned = record {
   steps = refl;
-  processes = λ q i. inl i;
+  processes = λ q i. inl (q, i, refl);
   objects = λ x i. elim (in-append x s.objects v.sending.made i) [
     | inl k ↦ inl (x, k, refl, refl)
     | inr k ↦ inr (made.place x k, subst (Lives s.processes) (sym (made.owner x k)) lives)
@@ -115,8 +115,8 @@ transacted-passed s seat a d parcel v turns l acts check =
     let t = transaction-checked s a d parcel v check in
     let sends = sending-sends s a.process.made d parcel v.sending t.sends in
     let z = delivered s a d v in
-    let y = owe z (OfThread a.thread.seat) work.Complete in
-    let done = owe-after z (OfThread a.thread.seat) work.Complete refl in
+    let y = owe z (OfThread a.thread.seat) (work.Complete (is_spam z a v)) in
+    let done = owe-after z (OfThread a.thread.seat) (work.Complete (is_spam z a v)) refl in
     called-passed s y a.thread.seat v.receiver.made v.one_way (λ e. none-after y z done (none-new s a d v turns e))
     (passed-after s y z done (delivered-passed s a d v turns l (actor-alive s seat a acts) sends.makes
     (λ o e f. let is : t.object ≡ o = (let g = t.target in cc) in owned-by s o v.receiver (subst (λ x. Owned s x v.receiver) is t.owned))))
@@ -162,8 +162,8 @@ replied-passed s seat a d parcel f v turns l acts check =
     let sends = sending-sends s a.process.made d parcel v.sending t.sends in
     let x = closed s f.made in
     let z = delivered x a d v in
-    let y = owe z (OfThread a.thread.seat) work.Complete in
-    let done = owe-after z (OfThread a.thread.seat) work.Complete refl in
+    let y = owe z (OfThread a.thread.seat) (work.Complete false) in
+    let done = owe-after z (OfThread a.thread.seat) (work.Complete false) refl in
     let whole = passed-after s y z done (closed-back s z f.made (delivered-passed x a d v (closed-turns s f.made turns) (closed-lists s f.made l)
     (closed-alive s f.made a.process.made (actor-alive s seat a acts)) (closed-made s f.made a.process.made v.sending.made sends.makes) (λ o e g. let no_target = t.target in absurd (cc)))) in
     reply_out-passed s y f.caller whole.steps (none-after y z done (none-new x a d v (closed-turns s f.made turns) t.one_way)) whole
@@ -222,7 +222,7 @@ read-passed s t seat left l =
     let due : (b : Buffer) → buffer_taken s ws ≡ Some b → Due s.todo b.made = λ b e. (let d = (taken-due s ws b e).1 in (d.0, read-in s t left d.0 d.1, d.2)) in
     record {
       steps = refl;
-      processes = λ q i. inl i;
+      processes = λ q i. inl (q, i, refl);
       objects = λ x i.
           let z = in-changed (λ (x : Object). is_told_by ws x.id) (told_of s.references) x s.objects i in
           let k = told-same s (is_told_by ws z.0.id) z.0 in

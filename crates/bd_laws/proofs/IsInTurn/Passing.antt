@@ -15,7 +15,7 @@ use Rattle.bd_laws.proofs.Machine.Untouched
 use Rattle.bd_laws.proofs.Machine.Untouched.{Untouched}
 use Rattle.bd_laws.proofs.Machine.Deaths.{on-mapped, on-both, on-commands}
 use Rattle.bd_laws.proofs.IsInTurn.PassedCalls.{replace-lists, transacted-passed, replied-passed, freed-passed, read-passed}
-use Rattle.bd_laws.proofs.IsInTurn.Passed.{Became, Ended, Passed, passed-none, After, untouched-after, passed-after, ask-after, drop_asked-after, acknowledge-after, follow-after, opened-passed, attached-passed, managed-passed}
+use Rattle.bd_laws.proofs.IsInTurn.Passed.{Became, Ended, Passed, passed-none, After, untouched-after, passed-after, ask-after, drop_asked-after, acknowledge-after, follow-after, opened-passed, attached-passed, managed-passed, marked-passed}
 
 -- ---- ripening
 
@@ -175,6 +175,7 @@ passing-step s seat x turns l =
         opened = λ pid euid window free. record { turns = k.set_up.opened pid euid window free; passed = opened-passed s seat pid euid window l };
         attached = λ p free. record { turns = k.set_up.attached p free; passed = attached-passed s seat p l };
         managed = λ a e b. record { turns = k.set_up.managed a e b; passed = managed-passed s seat a e l };
+        marked = λ p on. record { turns = k.set_up.marked p on; passed = marked-passed s p on l };
       };
       changes = record {
         transacts = λ a d parcel v e i t. record { turns = k.changes.transacts a d parcel v e i t; passed = transacted-passed s seat a d parcel v turns l i t };

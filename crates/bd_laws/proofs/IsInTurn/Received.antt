@@ -89,7 +89,7 @@ module _ (s z : Space) (h : Before s) (p : Passed s z) where
         own = own-after;
         one = one-after;
         old = λ o c i on. let lt = old-before o c i on in omega arith;
-        born = λ q i. elim (p.processes q i) [ inl k ↦ (let lt = h.received.born q k in omega arith) | inr e ↦ omega arith ];
+        born = λ q i. elim (p.processes q i) [ inl k ↦ (let lt = lives-before q.made k in omega arith) | inr e ↦ omega arith ];
         owners = λ x i. elim (p.objects x i) [
           | inl y ↦ (let lt = h.received.owners y.0 y.1 in let e = y.3 in omega arith)
           | inr n ↦ (let lt = lives-before x.owner n.1 in omega arith)

@@ -1,7 +1,7 @@
 -- Of transactions and of the commands on death notifications: each Death item's notification is queued.
 use Rattle.bd_laws.proofs.words.Logic.{◌≡◌, ℕ, suc, ◌<◌, ◌==◌, Bool, true, false, cond, not, ◌&&◌, ◌||◌, Some, inl, inr, refl, ap, sym, ◌∙◌, arith}
 use Rattle.bd_laws.proofs.words.Types.{TransactionData, ObjectId, Frame, Actor, Work, DeathNotification, Phase, Armed, Queued, Done, WorkKind, TodoList, OfThread, OfProcess}
-use Rattle.bd_laws.proofs.words.Space.{Space, objects_go, names_go, assign_numbers, closed, goes_to, owe, is_notice, ripen, still_due, is_name_of, deaths_go, work_goes, notify, follow, Delivery, delivered, own_notices, add_buffer, known_by, refer, make_objects, buffer_of, transacted, called, call_out, replied, is_notification, requested, with_death, without_death, with_phase, owner_lives_in, mark_cleared, death_ended, cleared, death_done, is_out, is_told, told_death, is_told_with}
+use Rattle.bd_laws.proofs.words.Space.{Space, objects_go, names_go, assign_numbers, closed, goes_to, owe, is_notice, ripen, still_due, is_name_of, deaths_go, work_goes, notify, follow, Delivery, delivered, own_notices, add_buffer, known_by, refer, make_objects, buffer_of, transacted, called, call_out, replied, is_notification, requested, with_death, without_death, with_phase, owner_lives_in, mark_cleared, death_ended, cleared, death_done, is_out, is_told, told_death, is_told_with, is_spam}
 use Rattle.bd_space.specs.declared.space.WorkKind.TheVariants as work
 use Rattle.bd_laws.proofs.words.Laws.{In, OtherNotification, Queues}
 use Rattle.bd_laws.proofs.Lists.{in-push, in-changed, find-in, pairs-push, pairs-changed}
@@ -50,12 +50,12 @@ called-q n z seat p false h = owe-plain n z (goes_to z seat p) (work.Call z.step
 
 pub transacted-q : (n : ℕ) (s : Space) (a : Actor) (d : TransactionData) (v : Delivery) → Q n s → Q n (transacted s a d v)
 unfolding transacted
-transacted-q n s a d v h = called-q n _ a.thread.seat v.receiver.made v.one_way (owe-plain n _ (OfThread a.thread.seat) work.Complete (λ m e. cc) (delivered-q n s a d v h))
+transacted-q n s a d v h = called-q n _ a.thread.seat v.receiver.made v.one_way (owe-plain n _ (OfThread a.thread.seat) (work.Complete (is_spam (delivered s a d v) a v)) (λ m e. cc) (delivered-q n s a d v h))
 
 pub replied-q : (n : ℕ) (s : Space) (a : Actor) (d : TransactionData) (f : Frame) (v : Delivery) → Q n s → Q n (replied s a d f v)
 unfolding replied
 replied-q n s a d f v h =
-    told-keeps (Q n) (work.Reply s.steps) (λ z t. owe-plain n z (OfThread t) (work.Reply s.steps) (λ m e. cc)) _ f.caller (owe-plain n _ (OfThread a.thread.seat) work.Complete (λ m e. cc) (delivered-q n (closed s f.made) a d v (closed-q n s f.made h)))
+    told-keeps (Q n) (work.Reply s.steps) (λ z t. owe-plain n z (OfThread t) (work.Reply s.steps) (λ m e. cc)) _ f.caller (owe-plain n _ (OfThread a.thread.seat) (work.Complete false) (λ m e. cc) (delivered-q n (closed s f.made) a d v (closed-q n s f.made h)))
 
 -- ---- death notifications
 

@@ -1,7 +1,7 @@
 -- Each step keeps it that a Death item's notification is queued.
 use Rattle.bd_laws.proofs.words.Logic.{◌≡◌, ℕ, suc, ◌==◌, Bool, true, false, cond, not, ◌&&◌, List, [], ◌∷◌, ◌⊎◌, inl, inr, refl, ap, sym, subst, ◌∙◌, filter, arith, list_any, fold, eqb-true, eq-eqb}
 use Rattle.bd_laws.proofs.words.Types.{Step, Entry, Thread, Work, DeathNotification, Phase, Armed, Queued, Told, WorkKind, OfThread, OfProcess}
-use Rattle.bd_laws.proofs.words.Space.{is_some_and, Space, opening, owned_in, assign_numbers, owe, is_on, is_item, death_of, list_to_read, without_buffer, ask, drop_asked, acknowledge, is_notification, with_phase, with_looping, read_by, taken, is_told_of_death, thread_goes, threads_go, without_process, tell_death, tell_deaths, is_armed, change, counted, with_thread, with_process, with_manager, next}
+use Rattle.bd_laws.proofs.words.Space.{is_some_and, Space, opening, owned_in, assign_numbers, owe, is_on, is_item, death_of, list_to_read, without_buffer, ask, drop_asked, acknowledge, is_notification, with_phase, with_looping, read_by, taken, is_told_of_death, thread_goes, threads_go, without_process, tell_death, tell_deaths, is_armed, change, counted, with_thread, with_process, with_manager, next, with_spam_detection}
 use Rattle.bd_space.specs.declared.space.WorkKind.TheVariants as work
 use Rattle.bd_laws.proofs.words.Laws.{In, Pairs, IsQuiet, OtherDeath, OtherNotification, Queues, IsQueued}
 use Rattle.bd_laws.proofs.Lists.{in-push, in-filter, in-changed, any-found, any-in, pairs-filter, pairs-either, pairs-changed}
@@ -160,7 +160,7 @@ unfolding with_manager
 managed-q n s p h = h
 
 step-q : (s : Space) (seat : ℕ) (x : Step) → Before s → Keeps s seat x (Q (suc s.steps)) (Q (suc s.steps))
-unfolding without_buffer ask assign_numbers drop_asked acknowledge with_looping
+unfolding without_buffer ask assign_numbers drop_asked acknowledge with_looping with_spam_detection
 step-q s seat x before =
     let n = suc s.steps in
     let h = now s before in
@@ -170,6 +170,7 @@ step-q s seat x before =
         opened = λ pid euid window free. opened-q n s seat pid euid window h;
         attached = λ p free. attached-q n s seat p h;
         managed = λ a e b. managed-q n s a.process.made h;
+        marked = λ p on. h;
       };
       changes = record {
         transacts = λ a d parcel v e i t. transacted-q n s a d v h;

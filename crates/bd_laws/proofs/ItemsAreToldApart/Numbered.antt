@@ -1,7 +1,7 @@
 -- Work items that a step makes are numbered in their order, so their identities differ: part by part.
 use Rattle.bd_laws.proofs.words.Logic.{◌≡◌, ℕ, ◌+◌, ◌==◌, Bool, true, false, cond, not, ◌&&◌, ◌||◌, List, [], ◌∷◌, ◌++◌, Option, Some, None, inl, inr, refl, ap, sym, subst, ◌∙◌, filter, arith, Ok, list_any, eq-eqb}
 use Rattle.bd_laws.proofs.words.Types.{TransactionData, ObjectId, Object, Reference, Name, Frame, Item, Actor, Work, DeathNotification, WorkKind, TodoList, OfThread, OfProcess, Phase, Armed, Queued, Done, NoSuchNumber, is_own}
-use Rattle.bd_laws.proofs.words.Space.{same, is_some_and, found_or, unless, Space, object_in, held_in, stays_in, objects_go, named, is_named_in, names_go, assign_numbers, closed, goes_to, with_work, owe, is_notice, is_on, is_item, ripen, wants_notice, has_notice_in, with_notice, still_due, is_name_of, deaths_go, work_goes, notify, follow, Delivery, delivered, own_notices, add_buffer, known_by, refer, make_objects, buffer_references, withdraw_notice, transacted, called, call_out, replied, request_check, request_note, requested, with_death, without_death, with_phase, owner_lives_in, mark_cleared, death_ended, cleared, death_done, is_out, read_by, thread_goes, with_thread, with_process, with_manager}
+use Rattle.bd_laws.proofs.words.Space.{same, is_some_and, found_or, unless, Space, object_in, held_in, stays_in, objects_go, named, is_named_in, names_go, assign_numbers, closed, goes_to, with_work, owe, is_notice, is_on, is_item, ripen, wants_notice, has_notice_in, with_notice, still_due, is_name_of, deaths_go, work_goes, notify, follow, Delivery, delivered, own_notices, add_buffer, known_by, refer, make_objects, buffer_references, withdraw_notice, transacted, called, call_out, replied, request_check, request_note, requested, with_death, without_death, with_phase, owner_lives_in, mark_cleared, death_ended, cleared, death_done, is_out, read_by, thread_goes, with_thread, with_process, with_manager, with_spam_detection}
 use Rattle.bd_space.specs.declared.space.WorkKind.TheVariants as work
 use Rattle.bd_laws.proofs.words.Laws.{In, Distinct, Fresh, Told, IsQuiet}
 use Rattle.bd_laws.proofs.Lists.{in-right, in-last, in-push, in-filter, filter-in, any-found, any-in, find-in, fold-keeps}
@@ -167,8 +167,8 @@ module _ (s : Space) (a : Actor) (d : TransactionData) (v : Delivery) (h : Told 
 
 -- ---- the changes of commands
 
-complete-mid : (n : ℕ) (z : Space) (t : ℕ) → Mid n z → Mid n (owe z (OfThread t) work.Complete)
-complete-mid n z t h = mid-owe n z (OfThread t) work.Complete refl h
+complete-mid : (n : ℕ) (z : Space) (t : ℕ) (spam : Bool) → Mid n z → Mid n (owe z (OfThread t) (work.Complete spam))
+complete-mid n z t spam h = mid-owe n z (OfThread t) (work.Complete spam) refl h
 
 frames-mid : (n : ℕ) (z : Space) (fs : List Frame) → Mid n z → Mid n (record z { frames = fs })
 unfolding deaths_go objects_go names_go
@@ -182,7 +182,7 @@ called-mid n z seat p false h = frames-mid n _ _ (mid-owe n z (goes_to z seat p)
 pub transacts-mid : (s : Space) (a : Actor) (d : TransactionData) (v : Delivery) → Told s → Mid s.steps (transacted s a d v)
 unfolding transacted
 transacts-mid s a d v h =
-    called-mid s.steps _ a.thread.seat v.receiver.made v.one_way (complete-mid s.steps (delivered s a d v) a.thread.seat (delivers s a d v h))
+    called-mid s.steps _ a.thread.seat v.receiver.made v.one_way (complete-mid s.steps (delivered s a d v) a.thread.seat _ (delivers s a d v h))
 
 closed-told : (s : Space) (made : ℕ) → Told s → Told (closed s made)
 unfolding closed
@@ -197,7 +197,7 @@ unfolding replied
 replies-mid s a d f v h =
     let x = closed s f.made in
     let z = subst (λ n. Mid n (delivered x a d v)) (closed-steps s f.made) (delivers x a d v (closed-told s f.made h)) in
-    reply-mid s.steps _ f.caller s.steps (complete-mid s.steps (delivered x a d v) a.thread.seat z)
+    reply-mid s.steps _ f.caller s.steps (complete-mid s.steps (delivered x a d v) a.thread.seat false z)
 
 death-due : (s : Space) (p : ℕ) (o : ObjectId) (cookie : ℕ) → IsQuiet s → (m : Name) → In m s.names → m.process ≡ p → m.object ≡ o
     → Due (with_death s p o cookie Queued) (work.Death s.steps)
@@ -293,3 +293,7 @@ attached-owing s seat p h = same-owing s _ h refl refl
 pub managed-owing : (s : Space) (p : ℕ) → Told s → Owing s.steps (with_manager s p)
 unfolding with_manager
 managed-owing s p h = same-owing s _ h refl refl
+
+pub marked-owing : (s : Space) (p : ℕ) (on : Bool) → Told s → Owing s.steps (with_spam_detection s p on)
+unfolding with_spam_detection
+marked-owing s p on h = same-owing s _ h refl refl

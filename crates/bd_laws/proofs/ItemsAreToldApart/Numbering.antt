@@ -10,7 +10,7 @@ use Rattle.bd_laws.proofs.Machine.Untouched.{tell_deaths-untouched}
 use Rattle.bd_laws.proofs.AtHome.HomesSent.{one-thread}
 use Rattle.bd_laws.proofs.Machine.EveryStep.{Keeps, every_step}
 use Rattle.bd_laws.proofs.ItemsAreToldApart.Identities.{Numbered, numbered-distinct}
-use Rattle.bd_laws.proofs.ItemsAreToldApart.Numbered.{Due, Mid, fresh-mid, numbers, ripens-mid, Owing, now-owing, owe-owing, closed-owing, follow-owing, transacts-mid, replies-mid, requests-mid, clears-mid, dones-mid, fewer-mid, reads-mid, left-less, leaves-mid, opened-owing, attached-owing, managed-owing}
+use Rattle.bd_laws.proofs.ItemsAreToldApart.Numbered.{Due, Mid, fresh-mid, numbers, ripens-mid, Owing, now-owing, owe-owing, closed-owing, follow-owing, transacts-mid, replies-mid, requests-mid, clears-mid, dones-mid, fewer-mid, reads-mid, left-less, leaves-mid, opened-owing, attached-owing, managed-owing, marked-owing}
 
 -- ---- a process ends: each Death that this makes stays due
 
@@ -216,6 +216,7 @@ step-owing s seat x h quiet home =
         opened = λ pid euid window free. opened-owing s seat pid euid window h;
         attached = λ p free. attached-owing s seat p h;
         managed = λ a e b. managed-owing s a.process.made h;
+        marked = λ p on. marked-owing s p on h;
       };
       changes = record {
         transacts = λ a d parcel v e i t. transacts-mid s a d v h;

@@ -1,7 +1,7 @@
 -- Objects that references hold stay through the changes of a step, and new ones come last.
 use Rattle.bd_laws.proofs.words.Logic.{◌≡◌, ℕ, suc, ◌+◌, ◌==◌, ◌<◌, Bool, true, false, cond, not, ◌&&◌, List, [], ◌∷◌, ◌++◌, Option, Some, None, Ok, ◌⊎◌, inl, inr, refl, ap, sym, subst, ◌∙◌, map, filter, arith, fold}
 use Rattle.bd_laws.proofs.words.Types.{TransactionData, ObjectId, Parcel, Actor, Frame, Object, Reference, Asked, Manager, Item, OfThread}
-use Rattle.bd_laws.proofs.words.Space.{same, without_first, Space, reference_of, owned_in, is_asking, is_shaking, is_of_buffer, same_strength, assign_numbers, Delivery, delivered, own_notices, add_buffer, known_by, refer, make_objects, buffer_references, transaction_check, reply_check, ask_check, ask, drop_asked, acknowledge, without_buffer, thread_goes, is_lost_reference, threads_go, without_process, is_dropped_with, manager_without, seat_of, owe, closed, transacted, called, replied}
+use Rattle.bd_laws.proofs.words.Space.{same, without_first, Space, reference_of, owned_in, is_asking, is_shaking, is_of_buffer, same_strength, assign_numbers, Delivery, delivered, own_notices, add_buffer, known_by, refer, make_objects, buffer_references, transaction_check, reply_check, ask_check, ask, drop_asked, acknowledge, without_buffer, thread_goes, is_lost_reference, threads_go, without_process, is_dropped_with, manager_without, seat_of, owe, closed, transacted, called, replied, is_spam}
 use Rattle.bd_space.specs.declared.space.WorkKind.TheVariants as work
 use Rattle.bd_laws.proofs.words.Laws.{In, Pairs, Here, Earlier, Kept, Named, KeptBefore}
 use Rattle.bd_laws.proofs.Lists.{in-left, in-append, in-filter, filter-in, in-without, without-in}
@@ -164,9 +164,9 @@ unfolding transacted
 transacted-kept s a d parcel v h check =
     let t = transaction-checked s a d parcel v check in
     let z = delivered s a d v in
-    let y = owe z (OfThread a.thread.seat) work.Complete in
+    let y = owe z (OfThread a.thread.seat) (work.Complete (is_spam z a v)) in
     kept-untouched (called y a.thread.seat v.receiver.made v.one_way) y (called-untouched y a.thread.seat v.receiver.made v.one_way)
-    (kept-untouched y z (owe-untouched z (OfThread a.thread.seat) work.Complete)
+    (kept-untouched y z (owe-untouched z (OfThread a.thread.seat) (work.Complete (is_spam z a v)))
     (delivered-kept s a d v h (sending-sends s a.process.made d parcel v.sending t.sends)
     (λ o e. let is : t.object ≡ o = (let k = t.target in cc) in (t.owned.object, t.owned.here, t.owned.id ∙ is))))
 
@@ -185,9 +185,9 @@ replied-kept s a d parcel f v h check =
     let t = reply-checked s a d parcel f v check in
     let x = closed s f.made in
     let z = delivered x a d v in
-    let y = owe z (OfThread a.thread.seat) work.Complete in
+    let y = owe z (OfThread a.thread.seat) (work.Complete false) in
     kept-untouched _ y (told-untouched y f.caller (work.Reply s.steps))
-    (kept-untouched y z (owe-untouched z (OfThread a.thread.seat) work.Complete)
+    (kept-untouched y z (owe-untouched z (OfThread a.thread.seat) (work.Complete false))
     (delivered-kept x a d v (closed-before s f.made h) (closed-sends s f.made a.process.made v.sending.made v.sending.items (sending-sends s a.process.made d parcel v.sending t.sends))
     (λ o e. let none = t.target in absurd (cc))))
 

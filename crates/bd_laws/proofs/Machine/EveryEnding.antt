@@ -1,7 +1,7 @@
 -- What holds after every step, from what its parts leave: the walk over them.
 use Rattle.bd_laws.proofs.words.Logic.{◌≡◌, ℕ, ◌-◌, Bool, true, false, cond, not, [], ◌∷◌, List, Option, Some, None, Result, Ok, Err, refl, is_some}
-use Rattle.bd_laws.proofs.words.Types.{TransactionData, Fault, Note, Cause, NoCall, ObjectId, Parcel, Step, Open, Attach, SetManager, Command, Read, ExitThread, ExitProcess, Process, Thread, Object, Reference, Frame, Buffer, DeathNotification, Actor, OfThread, Accepted, Noted, NotHandedOut}
-use Rattle.bd_laws.proofs.words.Space.{first_of, when, Space, actor, thread_in, process_with_pid, served_innermost, owe, list_to_read, settle, Delivery, transaction_step, transaction_outcome, transaction_check, transacted, refusal, reply_step, reply_to, reply_outcome, reply_check, replied, reply_refused, free_step, free_outcome, buffer_at_pointer, without_buffer, ask_step, ask_check, ask, drop_step, drop_asked, done_step, acknowledge, request_step, request_check, requested, told_death, cleared, clear_step, death_done_step, death_done_outcome, command_step, with_looping, follow, read_step, read_taking, read_fault, read_by, taken, thread_goes, exit_thread_step, threads_go, without_process, tell_deaths, exit_process_step, Outcome, completed, refused, by_check, ripen, change, open_step, open_outcome, open_fault, attach_step, attach_outcome, is_pid, is_window, manager_step, manager_outcome, is_manager_busy, by_actor, with_thread, with_process, with_manager}
+use Rattle.bd_laws.proofs.words.Types.{TransactionData, Fault, Note, Cause, NoCall, ObjectId, Parcel, Step, Open, Attach, SetManager, Command, Read, ExitThread, ExitProcess, Process, Thread, Object, Reference, Frame, Buffer, DeathNotification, Actor, OfThread, Accepted, Noted, NotHandedOut, SetSpam}
+use Rattle.bd_laws.proofs.words.Space.{first_of, when, Space, actor, thread_in, process_with_pid, served_innermost, owe, list_to_read, settle, Delivery, transaction_step, transaction_outcome, transaction_check, transacted, refusal, reply_step, reply_to, reply_outcome, reply_check, replied, reply_refused, free_step, free_outcome, buffer_at_pointer, without_buffer, ask_step, ask_check, ask, drop_step, drop_asked, done_step, acknowledge, request_step, request_check, requested, told_death, cleared, clear_step, death_done_step, death_done_outcome, command_step, with_looping, follow, read_step, read_taking, read_fault, read_by, taken, thread_goes, exit_thread_step, threads_go, without_process, tell_deaths, exit_process_step, Outcome, completed, refused, by_check, ripen, change, open_step, open_outcome, open_fault, attach_step, attach_outcome, is_pid, is_window, manager_step, manager_outcome, is_manager_busy, by_actor, with_thread, with_process, with_manager, spam_step, with_spam_detection}
 use Rattle.bd_uapi.specs.declared.command.Command as command
 use Rattle.bd_uapi.specs.declared.command.Command.TheVariants as bc
 use Rattle.bd_space.specs.declared.space.WorkKind.TheVariants as work
@@ -18,20 +18,21 @@ IsAcknowledging x strong = (ptr : ℕ) × (cookie : ℕ) × (parcel : Option Par
 abbrev pub IsReading : Step → Type 0
 IsReading x = (limit : ℕ) × (x ≡ Read limit)
 
--- what a step leaves that changes nothing, or seats a thread, or names the manager
+-- what a step leaves that changes nothing, or seats a thread, or names the manager, or marks a process
 pub record SetUp (s : Space) (seat : ℕ) (F : Space → Type 0) : Type 0 where
   pub same : F s
   pub opened : (pid euid window : ℕ) → thread_in s.threads seat ≡ None → F (with_thread (with_process s pid euid window) seat s.steps)
   pub attached : (p : ℕ) → thread_in s.threads seat ≡ None → F (with_thread s seat p)
   pub managed : (a : Actor) → actor s seat ≡ Some a → is_manager_busy s a.process.made ≡ false → F (with_manager s a.process.made)
+  pub marked : (p : ℕ) (on : Bool) → F (with_spam_detection s p on)
 
 -- it touches neither frames nor work
 pub set_up-beside : (s : Space) (seat : ℕ) (F : Space → Type 0)
     → ((qs : List Process) (ts : List Thread) (os : List Object) (rs : List Reference) (m : Option ObjectId) → F (record s { processes = qs; threads = ts; objects = os; references = rs; manager = m }))
     → SetUp s seat F
-unfolding with_thread with_process with_manager
+unfolding with_thread with_process with_manager with_spam_detection
 set_up-beside s seat F h =
-    record { same = h s.processes s.threads s.objects s.references s.manager; opened = λ pid euid window free. h _ _ _ _ _; attached = λ p free. h _ _ _ _ _; managed = λ a e b. h _ _ _ _ _ }
+    record { same = h s.processes s.threads s.objects s.references s.manager; opened = λ pid euid window free. h _ _ _ _ _; attached = λ p free. h _ _ _ _ _; managed = λ a e b. h _ _ _ _ _; marked = λ p on. h _ _ _ _ _ }
 
 -- What the parts of a step by this seat make of its space, up to what follows on: M holds after each, and while buffers'
 -- turns ripen. Each part is said with what its step has tested.
@@ -166,10 +167,11 @@ module _ (s : Space) (seat : ℕ) (x : Step) (M F : Space → Type 0) (k : Endin
   reads-list a limit None i e h = k.reads a limit e i h
 
   changes : (y : Step) → x ≡ y → F (change s seat y).space
-  unfolding change open_step attach_step manager_step read_step exit_thread_step exit_process_step
+  unfolding change open_step attach_step manager_step spam_step read_step exit_thread_step exit_process_step
   changes (Open pid euid window) e = opens pid euid window (open_fault s seat pid window) refl
   changes (Attach pid) e = attaches (process_with_pid s.processes pid) (is_some (thread_in s.threads seat)) refl
   changes SetManager e = acts (actor s seat) _ refl (λ a h. manages a h (is_manager_busy s a.process.made) refl)
+  changes (SetSpam on) e = acts (actor s seat) _ refl (λ a h. k.set_up.marked a.process.made on)
   changes (Command c parcel) e = acts (actor s seat) _ refl (λ a h. commands a c parcel e h)
   changes (Read limit) e = acts (actor s seat) _ refl (λ a h. reads-list a limit (read_fault limit (list_to_read s a.thread)) e h refl)
   changes ExitThread e = acts (actor s seat) _ refl (λ a h. k.leaves a h)

@@ -103,6 +103,7 @@ keeps-both s seat x M F N G k l = record {
     opened = λ pid euid window free. (k.set_up.opened pid euid window free, l.set_up.opened pid euid window free);
     attached = λ p free. (k.set_up.attached p free, l.set_up.attached p free);
     managed = λ a e b. (k.set_up.managed a e b, l.set_up.managed a e b);
+    marked = λ p on. (k.set_up.marked p on, l.set_up.marked p on);
   };
   changes = record {
     transacts = λ a d parcel v e i t. (k.changes.transacts a d parcel v e i t, l.changes.transacts a d parcel v e i t);

@@ -50,17 +50,17 @@ serve-made seat false f = refl
 
 -- ---- what is sent
 
-pub sent-steps : (s : Space) (a : Actor) (d : TransactionData) (v : Delivery) → (owe (delivered s a d v) (OfThread a.thread.seat) work.Complete).steps ≡ s.steps
+pub sent-steps : (s : Space) (a : Actor) (d : TransactionData) (v : Delivery) (spam : Bool) → (owe (delivered s a d v) (OfThread a.thread.seat) (work.Complete spam)).steps ≡ s.steps
 unfolding owe delivered own_notices add_buffer known_by assign_numbers refer make_objects
-sent-steps s a d v = refl
+sent-steps s a d v spam = refl
 
-pub sent-threads : (s : Space) (a : Actor) (d : TransactionData) (v : Delivery) → (owe (delivered s a d v) (OfThread a.thread.seat) work.Complete).threads ≡ s.threads
+pub sent-threads : (s : Space) (a : Actor) (d : TransactionData) (v : Delivery) (spam : Bool) → (owe (delivered s a d v) (OfThread a.thread.seat) (work.Complete spam)).threads ≡ s.threads
 unfolding owe delivered own_notices add_buffer known_by assign_numbers refer make_objects
-sent-threads s a d v = refl
+sent-threads s a d v spam = refl
 
-pub sent-frames : (s : Space) (a : Actor) (d : TransactionData) (v : Delivery) → (owe (delivered s a d v) (OfThread a.thread.seat) work.Complete).frames ≡ s.frames
+pub sent-frames : (s : Space) (a : Actor) (d : TransactionData) (v : Delivery) (spam : Bool) → (owe (delivered s a d v) (OfThread a.thread.seat) (work.Complete spam)).frames ≡ s.frames
 unfolding owe delivered own_notices add_buffer known_by assign_numbers refer make_objects
-sent-frames s a d v = refl
+sent-frames s a d v spam = refl
 
 -- ---- what follows, and the step's end
 

@@ -2,7 +2,7 @@
 -- parts are made of; then it is told of every part but of those that carry calls: transactions, replies, readings, turns.
 use Rattle.bd_laws.proofs.words.Logic.{◌≡◌, ℕ, ◌-◌, Bool, true, false, not, List, [], ◌∷◌, ◌++◌, Option, Some, None, Ok, refl, ◌∙◌, filter}
 use Rattle.bd_laws.proofs.words.Types.{ObjectId, Process, Object, Reference, Name, DeathNotification, Frame, Actor, Parcel, Item, Buffer, Work, Step, Command, Read, Return, DeadReply, TransactionData, TodoList, OfThread, OfProcess, WorkKind}
-use Rattle.bd_laws.proofs.words.Space.{Space, called, call_out, is_notice, settle, completed, delivered, own_notices, add_buffer, known_by, refer, make_objects, buffer_of, owe, closed, follow, notify, work_goes, deaths_go, objects_go, names_go, assign_numbers, ripen, ask, drop_asked, acknowledge, with_looping, without_buffer, with_thread, with_process, with_manager, thread_goes, threads_go, without_process, tell_deaths, Delivery, transacted, transaction_check, replied, reply_check, served_innermost, read_by, taken, list_to_read, read_fault, actor}
+use Rattle.bd_laws.proofs.words.Space.{Space, called, call_out, is_notice, settle, completed, delivered, own_notices, add_buffer, known_by, refer, make_objects, buffer_of, owe, closed, follow, notify, work_goes, deaths_go, objects_go, names_go, assign_numbers, ripen, ask, drop_asked, acknowledge, with_looping, without_buffer, with_thread, with_process, with_manager, thread_goes, threads_go, without_process, tell_deaths, Delivery, transacted, transaction_check, replied, reply_check, served_innermost, read_by, taken, list_to_read, read_fault, actor, is_spam, with_spam_detection}
 use Rattle.bd_space.specs.declared.space.WorkKind.TheVariants as work
 use Rattle.bd_uapi.specs.declared.command.Command.TheVariants as bc
 use Rattle.bd_laws.proofs.Machine.Adding.{told-keeps, notify-keeps, own_notices-keeps, ripen-keeps}
@@ -101,7 +101,7 @@ module _ (R : Space → Space → Type 0) (T : WorkKind → Type 0) (t : Table R
   -- ---- what is sent
 
   module _ (withdraws : (z : Space) (o : ObjectId) → R (record z { todo = filter (λ (w : Work). not (is_notice o w.kind)) z.todo }) z) (arrives : (z : Space) (b : Buffer) → R (add_buffer z b) z)
-      (complete : T work.Complete) where
+      (complete : (spam : Bool) → T (work.Complete spam)) where
     pub own_notices-by : (z : Space) (seat : ℕ) (items : List Item) → R (own_notices z seat items) z
     unfolding own_notices owe
     own_notices-by z seat items =
@@ -115,27 +115,31 @@ module _ (R : Space → Space → Type 0) (T : WorkKind → Type 0) (t : Table R
         let b = buffer_of y a d v in
         t.trans _ (add_buffer y b) s (own_notices-by (add_buffer y b) a.thread.seat v.sending.items) (t.trans _ y s (arrives y b) (t.beside s _ _ _ _ _ _))
 
-    pub sent-by : (s : Space) (a : Actor) (d : TransactionData) (v : Delivery) → R (owe (delivered s a d v) (OfThread a.thread.seat) work.Complete) s
-    sent-by s a d v = t.trans _ (delivered s a d v) s (t.owes (delivered s a d v) (OfThread a.thread.seat) work.Complete complete) (delivered-by s a d v)
+    pub sent-by : (s : Space) (a : Actor) (d : TransactionData) (v : Delivery) (spam : Bool) → R (owe (delivered s a d v) (OfThread a.thread.seat) (work.Complete spam)) s
+    sent-by s a d v spam = t.trans _ (delivered s a d v) s (t.owes (delivered s a d v) (OfThread a.thread.seat) (work.Complete spam) (complete spam)) (delivered-by s a d v)
 
     pub transacted-by : ((z : Space) (seat p : ℕ) → R (call_out z seat p) z) → (s : Space) (a : Actor) (d : TransactionData) (v : Delivery) → R (transacted s a d v) s
     unfolding transacted
     transacted-by calls s a d v = at v.one_way
       where
-        at : (b : Bool) → R (called (owe (delivered s a d v) (OfThread a.thread.seat) work.Complete) a.thread.seat v.receiver.made b) s
-        at true = sent-by s a d v
-        at false = let y = owe (delivered s a d v) (OfThread a.thread.seat) work.Complete in t.trans _ y s (calls y a.thread.seat v.receiver.made) (sent-by s a d v)
+        spam : Bool
+        spam = is_spam (delivered s a d v) a v
+
+        at : (b : Bool) → R (called (owe (delivered s a d v) (OfThread a.thread.seat) (work.Complete spam)) a.thread.seat v.receiver.made b) s
+        at true = sent-by s a d v spam
+        at false = let y = owe (delivered s a d v) (OfThread a.thread.seat) (work.Complete spam) in t.trans _ y s (calls y a.thread.seat v.receiver.made) (sent-by s a d v spam)
 
   -- ---- every step, for what rests on a space as R tells
 
   module _ (s : Space) (seat : ℕ) (x : Step) (F : Space → Type 0) (from : (z : Space) → R z s → F z) where
     pub set_up-by : SetUp s seat F
-    unfolding with_process with_manager
+    unfolding with_process with_manager with_spam_detection
     set_up-by = record {
       same = from s (t.same s);
       opened = λ pid euid window free. let y = with_process s pid euid window in from _ (t.trans _ y s (t.seats y seat s.steps) (t.beside s _ _ _ _ _ _));
       attached = λ p free. from _ (t.seats s seat p);
       managed = λ a e b. from _ (t.beside s _ _ _ _ _ _);
+      marked = λ p on. from _ (t.beside s _ _ _ _ _ _);
     }
 
     -- where exits are told by themselves

@@ -1,7 +1,7 @@
--- What comes after a quiet space by opening, managing or a refusal is quiet; and no turn ripens by a reading.
+-- What comes after a quiet space by opening, marking, managing or a refusal is quiet; and no turn ripens by a reading.
 use Rattle.bd_laws.proofs.words.Logic.{◌≡◌, ℕ, ◌-◌, ◌==◌, Bool, true, false, cond, not, ◌&&◌, ◌||◌, List, [], ◌∷◌, ◌++◌, Option, Some, None, inl, inr, refl, ap, sym, subst, ◌∙◌, map, length, arith, nat_lt, list_any, cons_option, eqb-true, option_map}
 use Rattle.bd_laws.proofs.words.Types.{FailedReply, TransactionComplete, Cause, ObjectId, Process, Object, Reference, Manager, Name, Frame, Buffer, Turn, Work, WorkKind, OfThread}
-use Rattle.bd_laws.proofs.words.Space.{same, is_some_and, changed, first_of, Space, lives_in, reference_of, object_in, owned_in, held_in, strong_in, stays_in, is_named_in, is_gone, is_child_of, owe, hands_out, turn_of, turns_of, wants_notice, differs_in, settle, is_abandoned, reply_refused, refusal, taken, hand_out, serve, ends_read, bytes_read, with_thread, with_process, with_manager}
+use Rattle.bd_laws.proofs.words.Space.{same, is_some_and, changed, first_of, Space, lives_in, reference_of, object_in, owned_in, held_in, strong_in, stays_in, is_named_in, is_gone, is_child_of, owe, hands_out, turn_of, turns_of, wants_notice, differs_in, settle, is_abandoned, reply_refused, refusal, taken, hand_out, serve, ends_read, bytes_read, with_thread, with_process, with_manager, with_spam_detection}
 use mathlib.Core.Bool.{beq}
 use Rattle.bd_space.specs.declared.space.WorkKind.TheVariants as work
 use Rattle.bd_laws.proofs.words.Laws.{In, Differ, KeptBefore, Before, IsSettled, NoneRipe, IsQuiet, On}
@@ -13,6 +13,7 @@ use Rattle.bd_laws.proofs.Sending.{find-none, none-found}
 use Rattle.bd_laws.proofs.FollowingIsLocal.Sent.{any-none, find-left}
 use Rattle.bd_laws.proofs.Freeing.{any-append}
 use Rattle.bd_laws.proofs.IsInTurn.Ripening.{turn-parts}
+use Rattle.bd_laws.proofs.Machine.Marks.{marked, marked-lives}
 
 pub calm : (s : Space) → IsQuiet s → IsCalm s
 calm s h = record { differ = h.differ; followed = h.followed; unripe = h.unripe }
@@ -55,7 +56,7 @@ opened-quiet s seat pid euid window before h = record {
 }
   where
     q : Process
-    q = record { made = s.steps; pid = pid; euid = euid; window = window }
+    q = record { made = s.steps; pid = pid; euid = euid; window = window; spam_detection = false }
 
     wanted : (f : Option Object) → is_some_and f (wants_notice s.processes s.references) ≡ true → is_some_and f (wants_notice (s.processes ++ q ∷ []) s.references) ≡ true
     wanted None e = absurd (cc)
@@ -73,6 +74,32 @@ opened-quiet s seat pid euid window before h = record {
 pub attached-quiet : (s : Space) (seat p : ℕ) → IsQuiet s → IsQuiet (with_thread s seat p)
 unfolding with_thread
 attached-quiet s seat p h = record { differ = h.differ; followed = elsewhere-aside _ _ s _ _ _ _ h.followed; unripe = h.unripe; settled = h.settled }
+
+-- ---- a mark
+
+-- who lives is all that is asked of processes
+pub marked-quiet : (s : Space) (p : ℕ) (on : Bool) → IsQuiet s → IsQuiet (with_spam_detection s p on)
+unfolding with_spam_detection
+marked-quiet s p on h = record {
+  differ = h.differ;
+  followed = record {
+    names = h.followed.names;
+    objects = λ x l none. ap (λ b. held_in s.references x.id || (b && (x.told_weak || x.told_strong))) (marked-lives p on s.processes x.owner) ∙ h.followed.objects x l none;
+    deaths = h.followed.deaths;
+    notices = λ w o l e none. same-wish (object_in s.objects o) ∙ h.followed.notices w o l e none;
+    tellings = h.followed.tellings;
+    made = λ x l none wants. h.followed.made x l none (sym (wishes x) ∙ wants);
+  };
+  unripe = h.unripe;
+  settled = h.settled;
+}
+  where
+    wishes : (x : Object) → wants_notice (marked p on s.processes) s.references x ≡ wants_notice s.processes s.references x
+    wishes x = ap (λ b. b && differs_in s.references x) (marked-lives p on s.processes x.owner)
+
+    same-wish : (f : Option Object) → is_some_and f (wants_notice (marked p on s.processes) s.references) ≡ is_some_and f (wants_notice s.processes s.references)
+    same-wish None = refl
+    same-wish (Some x) = wishes x
 
 -- ---- a new context manager
 

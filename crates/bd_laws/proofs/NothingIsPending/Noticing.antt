@@ -1,7 +1,7 @@
 -- At most one Notice of an object is due, and only while its owner lives.
 use Rattle.bd_laws.proofs.words.Logic.{◌≡◌, ℕ, Bool, true, false, not, List, ◌++◌, Option, Some, None, inl, inr, refl, ap, sym, ◌∙◌, ◌==◌, subst, list_any}
 use Rattle.bd_laws.proofs.words.Types.{TransactionData, ObjectId, Step, Entry, Process, Object, Reference, Frame, Actor, Item, DeathNotification, Work, WorkKind, TodoList, OfThread, OfProcess}
-use Rattle.bd_laws.proofs.words.Space.{same, is_some_and, Space, opening, lives_in, object_in, objects_go, names_go, assign_numbers, goes_to, closed, with_work, owe, is_on, is_notice, notice_of, is_item, ripen, wants_notice, differs_in, has_notice_in, still_due, work_goes, deaths_go, notify, follow, Delivery, delivered, own_notices, add_buffer, known_by, refer, make_objects, buffer_of, transacted, called, call_out, replied, without_buffer, ask, drop_asked, acknowledge, with_looping, read_by, thread_goes, threads_go, without_process, tell_deaths, change, counted, with_thread, with_process, with_manager, next}
+use Rattle.bd_laws.proofs.words.Space.{same, is_some_and, Space, opening, lives_in, object_in, objects_go, names_go, assign_numbers, goes_to, closed, with_work, owe, is_on, is_notice, notice_of, is_item, ripen, wants_notice, differs_in, has_notice_in, still_due, work_goes, deaths_go, notify, follow, Delivery, delivered, own_notices, add_buffer, known_by, refer, make_objects, buffer_of, transacted, called, call_out, replied, without_buffer, ask, drop_asked, acknowledge, with_looping, read_by, thread_goes, threads_go, without_process, tell_deaths, change, counted, with_thread, with_process, with_manager, next, is_spam, with_spam_detection}
 use Rattle.bd_space.specs.declared.space.WorkKind.TheVariants as work
 use Rattle.bd_laws.specs.Lists.{In, Pairs}
 use Rattle.bd_laws.proofs.Lists.{in-left, in-push, in-filter, any-found, any-in, find-in, pairs-filter, pairs-push}
@@ -10,6 +10,7 @@ use Rattle.bd_laws.proofs.Machine.EveryStep.{Keeps, every_step}
 use Rattle.bd_laws.proofs.Machine.Deaths.{KeptOnDeaths, on-kept, on-told, on-commands}
 use Rattle.bd_laws.proofs.Machine.Adding.{notify-keeps, own_notices-keeps, ripen-keeps}
 use Rattle.bd_laws.proofs.Machine.Following.{threads-keep}
+use Rattle.bd_laws.proofs.Machine.Marks.{marked-lives}
 
 -- two work items are no Notices of one object
 abbrev pub Apart : Work → Work → Type 0
@@ -81,8 +82,8 @@ transacted-once : (s : Space) (a : Actor) (d : TransactionData) (v : Delivery) �
 unfolding transacted
 transacted-once s a d v h =
     let z = delivered s a d v in
-    called-once (owe z (OfThread a.thread.seat) work.Complete) a.thread.seat v.receiver.made v.one_way
-    (owe-once z (OfThread a.thread.seat) work.Complete refl (delivered-once s a d v h))
+    called-once (owe z (OfThread a.thread.seat) (work.Complete (is_spam z a v))) a.thread.seat v.receiver.made v.one_way
+    (owe-once z (OfThread a.thread.seat) (work.Complete (is_spam z a v)) refl (delivered-once s a d v h))
 
 answered-once : (z : Space) (caller : Option ℕ) (n : ℕ) → Once z.todo
     → Once (elim caller as (λ (o : Option ℕ). Space) [ None ↦ z | Some t ↦ owe z (OfThread t) (work.Reply n) ]).todo
@@ -93,8 +94,8 @@ replied-once : (s : Space) (a : Actor) (d : TransactionData) (f : Frame) (v : De
 unfolding replied closed
 replied-once s a d f v h =
     let z = delivered (closed s f.made) a d v in
-    answered-once (owe z (OfThread a.thread.seat) work.Complete) f.caller s.steps
-    (owe-once z (OfThread a.thread.seat) work.Complete refl (delivered-once (closed s f.made) a d v h))
+    answered-once (owe z (OfThread a.thread.seat) (work.Complete false)) f.caller s.steps
+    (owe-once z (OfThread a.thread.seat) (work.Complete false) refl (delivered-once (closed s f.made) a d v h))
 
 -- ---- deaths and exits
 
@@ -156,7 +157,7 @@ due-wanted processes objects references deaths (work.Notice p) o e h = at (objec
     at : (f : Option Object) → object_in objects p ≡ f → is_some_and f (wants_notice processes references) ≡ true → (x : Object) × In x objects × (x.id ≡ o) × (wants_notice processes references x ≡ true)
     at None g k = absurd (cc)
     at (Some x) g k = let l = find-in (λ (y : Object). same y.id p) x objects g in (x, l.0, same-eq x.id p l.1 ∙ cc, k)
-due-wanted processes objects references deaths work.Complete o e h = absurd (cc)
+due-wanted processes objects references deaths (work.Complete spam) o e h = absurd (cc)
 due-wanted processes objects references deaths _ o e h = absurd (cc)
 
 work_goes-wanted : (z : Space) → WantedIn (work_goes z)
@@ -204,6 +205,10 @@ managed-noticing : (s : Space) (p : ℕ) → Noticing s → Noticing (with_manag
 unfolding with_manager
 managed-noticing s p h = record { once = h.once; live = λ w o l e. let x = h.live w o l e in (x.0, in-left x.0 s.objects _ x.1, x.2, x.3) }
 
+marked-noticing : (s : Space) (p : ℕ) (on : Bool) → Noticing s → Noticing (with_spam_detection s p on)
+unfolding with_spam_detection
+marked-noticing s p on h = record { once = h.once; live = λ w o l e. let x = h.live w o l e in (x.0, x.1, x.2, marked-lives p on s.processes x.0.owner ∙ x.3) }
+
 pub closed-noticing : (z : Space) (made : ℕ) → Noticing z → Noticing (closed z made)
 unfolding closed
 closed-noticing z made h = record { once = h.once; live = h.live }
@@ -218,6 +223,7 @@ noticing-step s seat x h = record {
     opened = λ pid euid window free. opened-noticing s seat pid euid window h;
     attached = λ p free. attached-noticing s seat p h;
     managed = λ a e b. managed-noticing s a.process.made h;
+    marked = λ p on. marked-noticing s p on h;
   };
   changes = record {
     transacts = λ a d parcel v e i t. transacted-once s a d v h.once;

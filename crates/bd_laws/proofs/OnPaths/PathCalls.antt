@@ -1,7 +1,7 @@
 -- A call makes a frame on the path of its caller, and a reply closes one.
 use Rattle.bd_laws.proofs.words.Logic.{◌≡◌, ℕ, suc, Bool, true, false, ◌&&◌, List, [], ◌∷◌, ◌++◌, reverse, Option, Some, None, Ok, ◌⊎◌, inl, inr, refl, ap, sym, subst, ◌∙◌, arith, find, option_map, is_some, is_none}
 use Rattle.bd_laws.proofs.words.Types.{TransactionData, NotServing, Unread, Parcel, Work, Frame, Buffer, Actor, Pending, Serving, TodoList, OfThread, OfProcess}
-use Rattle.bd_laws.proofs.words.Space.{first_of, when, Space, closed, goes_to, list_of_caller, waits_in, ancestry, innermost, innermost_in, served_innermost, made_of, owe, has_unread, assign_numbers, Delivery, delivered, own_notices, add_buffer, known_by, refer, make_objects, buffer_of, transaction_check, transacted, called, call_out, caller_cause, replied}
+use Rattle.bd_laws.proofs.words.Space.{first_of, when, Space, closed, goes_to, list_of_caller, waits_in, ancestry, innermost, innermost_in, served_innermost, made_of, owe, has_unread, assign_numbers, Delivery, delivered, own_notices, add_buffer, known_by, refer, make_objects, buffer_of, transaction_check, transacted, called, call_out, caller_cause, replied, is_spam}
 use Rattle.bd_space.specs.declared.space.WorkKind.TheVariants as work
 use Rattle.bd_laws.proofs.words.Laws.{In, Forest, OnPaths}
 use Rattle.bd_laws.proofs.Lists.{in-push, find-in}
@@ -28,21 +28,21 @@ delivered-calls : (s : Space) (a : Actor) (d : TransactionData) (v : Delivery) �
 unfolding delivered own_notices add_buffer known_by assign_numbers refer make_objects
 delivered-calls s a d v w b l e = own_notices-less (add_buffer (known_by s v) (buffer_of (known_by s v) a d v)) a.thread.seat v.sending.items w b l (call-hands w b e)
 
-sent-calls : (s : Space) (a : Actor) (d : TransactionData) (v : Delivery) → Calls (owe (delivered s a d v) (OfThread a.thread.seat) work.Complete).todo s.todo
-sent-calls s a d v w b l e =
-    delivered-calls s a d v w b ((owe-less (delivered s a d v) (OfThread a.thread.seat) work.Complete refl).due w b l (call-hands w b e)) e
+sent-calls : (s : Space) (a : Actor) (d : TransactionData) (v : Delivery) (spam : Bool) → Calls (owe (delivered s a d v) (OfThread a.thread.seat) (work.Complete spam)).todo s.todo
+sent-calls s a d v spam w b l e =
+    delivered-calls s a d v w b ((owe-less (delivered s a d v) (OfThread a.thread.seat) (work.Complete spam) refl).due w b l (call-hands w b e)) e
 
-sent-buffers : (s : Space) (a : Actor) (d : TransactionData) (v : Delivery) (c : Buffer) → In c (owe (delivered s a d v) (OfThread a.thread.seat) work.Complete).buffers
+sent-buffers : (s : Space) (a : Actor) (d : TransactionData) (v : Delivery) (spam : Bool) (c : Buffer) → In c (owe (delivered s a d v) (OfThread a.thread.seat) (work.Complete spam)).buffers
     → In c s.buffers ⊎ ((c.made ≡ s.steps) × (c.one_way ≡ v.one_way))
-sent-buffers s a d v c l = delivered-buffers s a d v c ((owe-less (delivered s a d v) (OfThread a.thread.seat) work.Complete refl).buffers c l)
+sent-buffers s a d v spam c l = delivered-buffers s a d v c ((owe-less (delivered s a d v) (OfThread a.thread.seat) (work.Complete spam) refl).buffers c l)
 
-sends : (s x : Space) (a : Actor) (d : TransactionData) (v : Delivery) → x.steps ≡ s.steps → OnPaths s.steps x → OnPaths (suc s.steps) (owe (delivered x a d v) (OfThread a.thread.seat) work.Complete)
-sends s x a d v e h = (
+sends : (s x : Space) (a : Actor) (d : TransactionData) (v : Delivery) (spam : Bool) → x.steps ≡ s.steps → OnPaths s.steps x → OnPaths (suc s.steps) (owe (delivered x a d v) (OfThread a.thread.seat) (work.Complete spam))
+sends s x a d v spam e h = (
   h.0,
-  subst (λ fs. Forest (suc s.steps) h.0 fs (owe (delivered x a d v) (OfThread a.thread.seat) work.Complete).buffers (owe (delivered x a d v) (OfThread a.thread.seat) work.Complete).todo)
-      (sym (sent-frames x a d v))
-      (forest-buffer s.steps h.0 x.frames x.buffers x.todo h.1 (owe (delivered x a d v) (OfThread a.thread.seat) work.Complete).buffers
-      (owe (delivered x a d v) (OfThread a.thread.seat) work.Complete).todo (λ c l. elim (sent-buffers x a d v c l) [ inl i ↦ inl i | inr k ↦ inr (k.0 ∙ e) ]) (sent-calls x a d v)),
+  subst (λ fs. Forest (suc s.steps) h.0 fs (owe (delivered x a d v) (OfThread a.thread.seat) (work.Complete spam)).buffers (owe (delivered x a d v) (OfThread a.thread.seat) (work.Complete spam)).todo)
+      (sym (sent-frames x a d v spam))
+      (forest-buffer s.steps h.0 x.frames x.buffers x.todo h.1 (owe (delivered x a d v) (OfThread a.thread.seat) (work.Complete spam)).buffers
+      (owe (delivered x a d v) (OfThread a.thread.seat) (work.Complete spam)).todo (λ c l. elim (sent-buffers x a d v spam c l) [ inl i ↦ inl i | inr k ↦ inr (k.0 ∙ e) ]) (sent-calls x a d v spam)),
 )
 
 -- ---- a call
@@ -139,22 +139,25 @@ module _ (s : Space) (h : OnPaths s.steps s) (a : Actor) (d : TransactionData) (
   unfolding transacted
   transacts t = at v.one_way refl
     where
+      spam : Bool
+      spam = is_spam (delivered s a d v) a v
+
       y : Space
-      y = owe (delivered s a d v) (OfThread a.thread.seat) work.Complete
+      y = owe (delivered s a d v) (OfThread a.thread.seat) (work.Complete spam)
 
       at : (b : Bool) → v.one_way ≡ b → OnPaths (suc s.steps) (called y a.thread.seat v.receiver.made b)
-      at true e = sends s s a d v refl h
+      at true e = sends s s a d v spam refl h
       at false e =
           let may = may-call s a.thread.seat (transaction-may_call s a d parcel v t (sym (transaction-checked s a d parcel v t).one_way ∙ e)) in
-          let same = sent-frames s a d v in
-          calls-out s.steps y a.thread.seat v.receiver.made s.buffers s.todo h.0 (sent-place s a d v) (subst (λ fs. Forest s.steps h.0 fs s.buffers s.todo) (sym same) h.1)
+          let same = sent-frames s a d v spam in
+          calls-out s.steps y a.thread.seat v.receiver.made s.buffers s.todo h.0 (sent-place s a d v spam) (subst (λ fs. Forest s.steps h.0 fs s.buffers s.todo) (sym same) h.1)
           (subst (λ fs. (innermost_in fs a.thread.seat ≡ None) ⊎ ((f : Frame) × (innermost_in fs a.thread.seat ≡ Some f) × (f.server ≡ Serving a.thread.seat))) (sym same) may)
-          (λ c l. elim (sent-buffers s a d v c l) [ inl i ↦ inl i | inr k ↦ inr (k.0, k.1 ∙ e) ]) (sent-calls s a d v)
+          (λ c l. elim (sent-buffers s a d v spam c l) [ inl i ↦ inl i | inr k ↦ inr (k.0, k.1 ∙ e) ]) (sent-calls s a d v spam)
 
-  answered : (f : Frame) (caller : Option ℕ) → OnPaths (suc s.steps) (owe (delivered (closed s f.made) a d v) (OfThread a.thread.seat) work.Complete)
+  answered : (f : Frame) (caller : Option ℕ) → OnPaths (suc s.steps) (owe (delivered (closed s f.made) a d v) (OfThread a.thread.seat) (work.Complete false))
       → OnPaths (suc s.steps) (elim caller as (λ (o : Option ℕ). Space) [
-        | None ↦ owe (delivered (closed s f.made) a d v) (OfThread a.thread.seat) work.Complete
-        | Some u ↦ owe (owe (delivered (closed s f.made) a d v) (OfThread a.thread.seat) work.Complete) (OfThread u) (work.Reply s.steps)
+        | None ↦ owe (delivered (closed s f.made) a d v) (OfThread a.thread.seat) (work.Complete false)
+        | Some u ↦ owe (owe (delivered (closed s f.made) a d v) (OfThread a.thread.seat) (work.Complete false)) (OfThread u) (work.Reply s.steps)
       ])
   unfolding owe
   answered f None k = k
@@ -170,4 +173,4 @@ module _ (s : Space) (h : OnPaths s.steps s) (a : Actor) (d : TransactionData) (
   unfolding replied
   replies f e =
       let k = served-childless s.steps s a.thread.seat f h e in
-      answered f f.caller (sends s (closed s f.made) a d v (closed-steps s f.made) (closes s.steps s f k.0 k.1 h))
+      answered f f.caller (sends s (closed s f.made) a d v false (closed-steps s f.made) (closes s.steps s f k.0 k.1 h))

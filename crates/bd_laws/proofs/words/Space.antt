@@ -42,6 +42,8 @@ pub use Rattle.bd_space.specs.Seats.{actor_of, lives_in, process_in, process_wit
 unfoldable pub use Rattle.bd_space.specs.Settle.{settle}
 pub use Rattle.bd_space.specs.Settle.{is_abandoned, settle_one, settle_step, settle_times}
 pub use Rattle.bd_space.specs.Space.{Space, opening}
+unfoldable pub use Rattle.bd_space.specs.Spam.{is_spam, spam_step, with_spam_detection}
+pub use Rattle.bd_space.specs.Spam.{detecting}
 unfoldable pub use Rattle.bd_space.specs.Steps.{attach_step, change, counted, manager_step, open_step, with_manager, with_process, with_thread}
 pub use Rattle.bd_space.specs.Steps.{attach_outcome, by_actor, is_manager_busy, is_pid, is_window, manager_outcome, open_fault, open_outcome, step}
 unfoldable pub use Rattle.bd_space.specs.ThreadExits.{exit_thread_step, thread_goes}

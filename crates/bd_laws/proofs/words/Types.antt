@@ -28,7 +28,7 @@ pub use Rattle.bd_space.specs.declared.step.Entry.{Entry}
 pub use Rattle.bd_space.specs.declared.step.ObjectId.{ObjectId}
 pub use Rattle.bd_space.specs.declared.step.Parcel.{Parcel}
 pub use Rattle.bd_space.specs.declared.step.Step.{Step}
-pub use Rattle.bd_space.specs.declared.step.Step.TheVariants.{Attach, Command, ExitProcess, ExitThread, Open, Read, SetManager}
+pub use Rattle.bd_space.specs.declared.step.Step.TheVariants.{Attach, Command, ExitProcess, ExitThread, Open, Read, SetManager, SetSpam}
 pub use Rattle.bd_space.specs.declared.step.StepAnswer.{StepAnswer}
 pub use Rattle.bd_space.specs.declared.step.StepAnswer.TheVariants.{Accepted, Got, Noted}
 pub use Rattle.bd_uapi.specs.Kinds.{is_own, is_strong_kind}

@@ -1,14 +1,27 @@
-//! The journal of the shortest run, written and judged.
+//! The journal of the shortest run, written and judged, as it is and as it was before there were reports of flooding.
 
 use super::playing::{checked, history_of, written};
 use crate::same::same;
+use bd_uapi::MOST_SEATS;
+use std::alloc::Global;
+use std::process::Abort;
 use std::test::Fail;
 
 // As docs/FORMATS.md has it.
 const JOURNAL: [u8; 42] = [
-    0x42, 0x4e, 0x44, 0x4a, 0x30, 0x30, 0x30, 0x31, 1, 0, 0, 0, 1, 0, 0, 0, 0, 0, 0, 0, 13, 0, 0,
+    0x42, 0x4e, 0x44, 0x4a, 0x30, 0x30, 0x30, 0x32, 1, 0, 0, 0, 1, 0, 0, 0, 0, 0, 0, 0, 13, 0, 0,
     0, 0, 100, 0, 0, 0, 0xe8, 3, 0, 0, 0, 0x10, 0, 0, 1, 0, 0, 0, 0,
 ];
+
+// The kinds of journals, by the last byte of what they begin with, and the most seats of each.
+const KINDS: [(u8, u32); 2] = [(0x31, 16), (0x32, MOST_SEATS)];
+
+// The same journal, of another kind.
+fn of_kind(kind: u8) -> [u8; 42] {
+    let mut journal = JOURNAL;
+    journal[7] = kind;
+    journal
+}
 
 #[test]
 fn writes_the_shortest(rt: HostRuntime) -> Result<(), Fail> {
@@ -20,16 +33,34 @@ fn writes_the_shortest(rt: HostRuntime) -> Result<(), Fail> {
 
 #[test]
 fn judges(rt: HostRuntime) {
-    checked(rt.alloc(), &JOURNAL).expect(&rt, "lawful", "lawful 1\n", "", 0);
-    let mut unlawful = JOURNAL;
-    unlawful[25] = 0;
-    checked(rt.alloc(), &unlawful).expect(&rt, "unlawful", "unlawful 0\n", "", 1);
+    for (kind, _) in KINDS {
+        let lawful = of_kind(kind);
+        checked(rt.alloc(), &lawful).expect(&rt, "lawful", "lawful 1\n", "", 0);
+        let mut unlawful = lawful;
+        unlawful[25] = 0;
+        checked(rt.alloc(), &unlawful).expect(&rt, "unlawful", "unlawful 0\n", "", 1);
+    }
+}
+
+// These bytes are no journal.
+fn see_none(rt: &(impl Abort + Alloc<A = Global>), name: &str, bytes: &[u8]) {
+    checked(rt.alloc(), bytes).expect(rt, name, "", "fault: journal\n", 1);
 }
 
 #[test]
 fn reads_no_beginning(rt: HostRuntime) {
-    for len in 0..JOURNAL.len() {
-        checked(rt.alloc(), &JOURNAL[..len]).expect(&rt, "beginning", "", "fault: journal\n", 1);
+    for (kind, _) in KINDS {
+        let journal = of_kind(kind);
+        for len in 0..journal.len() {
+            see_none(&rt, "a beginning", &journal[..len]);
+        }
+    }
+}
+
+#[test]
+fn reads_no_other_kind(rt: HostRuntime) {
+    for kind in [0x30, 0x33] {
+        see_none(&rt, "another kind", &of_kind(kind));
     }
 }
 
@@ -40,5 +71,45 @@ fn trusts_no_count(rt: HostRuntime) {
     for at in 12..16 {
         journal[at] = 0xff;
     }
-    checked(rt.alloc(), &journal[..16]).expect(&rt, "count", "", "fault: journal\n", 1);
+    see_none(&rt, "a count", &journal[..16]);
+}
+
+// Each kind has its own most seats.
+#[test]
+fn reads_as_many_seats_as_its_kind_has(rt: HostRuntime) {
+    for (kind, most) in KINDS {
+        for seats in 0..MOST_SEATS + 2 {
+            let mut journal = of_kind(kind);
+            journal[8] = seats as u8;
+            if 1 <= seats && seats <= most {
+                checked(rt.alloc(), &journal).expect(&rt, "seats", "lawful 1\n", "", 0);
+            } else {
+                see_none(&rt, "seats", &journal);
+            }
+        }
+    }
+}
+
+// The journal of a run whose second step sets reports of flooding: the step ends with whether they are on.
+const SPAM: &str = "seats 1\n0 open 100 1000 4096\n0 spam 1\n";
+
+// Where the second entry has its step's kind, behind the first entry, its own seat and the step's length.
+const KIND_OF_STEP: usize = 42 + 4 + 4;
+
+#[test]
+fn reads_reports_of_flooding_in_the_later_kind_alone(rt: HostRuntime) -> Result<(), Fail> {
+    let history = history_of(rt.alloc(), SPAM)?;
+    let mut journal = written(rt.alloc(), &history)?;
+    let step = [7, 1].as_slice();
+    let told = journal.get(KIND_OF_STEP..KIND_OF_STEP + 2);
+    same(&rt, "the step", told.ok_or("a second step")?, step);
+    checked(rt.alloc(), &journal).expect(&rt, "on", "lawful 2\n", "", 0);
+    for (byte, value) in [(KIND_OF_STEP + 1, 2), (7, 0x31)] {
+        let mut changed = journal.to_vec(rt.alloc())?;
+        if byte < changed.len() {
+            changed[byte] = value;
+        }
+        see_none(&rt, "no such step", &changed);
+    }
+    Ok(())
 }

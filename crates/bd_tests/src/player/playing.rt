@@ -1,12 +1,14 @@
 //! Playing scripts, and writing and judging journals.
 
 ghost use Rattle.std.specs.Prelude.{◌≡◌, ◌≤◌, IfOk};
+ghost use Rattle.bd_uapi.specs.Limits.{IsSeats};
 ghost use Rattle.bd_space.specs.Histories.{IsHistory, history_in};
 
 use crate::same::same;
 use bd_audit::replay;
 use bd_player::{check_journal, play, write_journal};
 use bd_space::Record;
+use bd_uapi::MOST_SEATS;
 use std::alloc::Global;
 use std::process::Abort;
 use std::test::Fail;
@@ -48,11 +50,11 @@ pub fn history_of(alloc: Global, script: &str) -> Result<Record, Fail> {
 
 /// The history of a script, which is judged to be one.
 pub fn lawful_history_of(alloc: Global, script: &str) -> Result<Record, Fail>
-    ensures seats { IfOk result (λ r. (1 ≤ r.seats) × (r.seats ≤ 16)) }
+    ensures seats { IfOk result (λ r. IsSeats r.seats) }
     ensures lawful { IfOk result (λ r. IsHistory (history_in r)) }
 {
     let record = history_of(alloc, script)?;
-    if record.seats < 1 || record.seats > 16 {
+    if record.seats < 1 || MOST_SEATS < record.seats {
         return Err(Fail::from("no driver has so many seats"));
     }
     replay(alloc, &record)?;

@@ -19,6 +19,9 @@ seats 2
 0 collect
 1 serve
 0 exitprocess
+1 open 200 2000 4096
+1 spam 1
+0 spam 0
 ";
 
 const PRINTS: &str = "\
@@ -35,6 +38,9 @@ const PRINTS: &str = "\
 12: idle
 13: served 0
 14: exited 6 7
+15: opened 7 8
+16: set 8 9
+17: refused F4 9 10
 ";
 
 // A script, and the fault.
@@ -53,11 +59,11 @@ static BAD_SCRIPTS: [(&str, &str); 8] = [
     ),
     (
         "seats 0\n",
-        "fault: line 1\ncolumn 7, word 2: expected how many seats there are, 1 to 16, found this\n",
+        "fault: line 1\ncolumn 7, word 2: expected how many seats there are, 1 to 31, found this\n",
     ),
     (
-        "seats 17\n",
-        "fault: line 1\ncolumn 7, word 2: expected how many seats there are, 1 to 16, found this\n",
+        "seats 32\n",
+        "fault: line 1\ncolumn 7, word 2: expected how many seats there are, 1 to 31, found this\n",
     ),
     (
         "seats 2\n\n# one\n0 open 100 1000 4096\n2 look\n",

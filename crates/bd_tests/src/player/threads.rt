@@ -1,26 +1,30 @@
 //! Many threads, and a thread that can't be started.
 
 ghost use Rattle.std.specs.Prelude.{◌≡◌, ◌<◌};
+ghost use Rattle.bd_uapi.specs.Limits.{most_seats, IsSeats};
 
 use super::playing::Printed;
 use crate::same::{holds, same};
 use bd_audit::replay;
 use bd_player::{Said, TURNS as TURNS_USED, Told, gather, laid, play_threads, print_told};
 use bd_space::Record;
+use bd_uapi::MOST_SEATS;
 use std::alloc::{AllocError, Global};
 use std::process::Abort;
+use std::sync::Wait;
 use std::test::Fail;
-
-const SEATS: usize = 8;
+use std::thread::Threads;
 
 const CALLS: usize = 100;
 
 const TURNS: u32 = 100_000_000;
 
 // A script in which each of the seats makes so many calls.
-fn script_of_calls(alloc: Global) -> Result<String, AllocError> {
-    let mut script = format!(in alloc; "seats {SEATS}\n")?;
-    for seat in 0..SEATS {
+fn script_of_calls(alloc: Global, seats: u32) -> Result<String, AllocError>
+    requires { IsSeats seats }
+{
+    let mut script = format!(in alloc; "seats {seats}\n")?;
+    for seat in 0..seats {
         let opening = format!(in alloc; "{seat} open {} 0 4096\n", seat + 1)?;
         let enters = format!(in alloc; "{seat} enter\n")?.repeat(alloc, CALLS - 1)?;
         script.push_str(&opening)?;
@@ -43,7 +47,7 @@ fn start_in(line: &str) -> Option<usize> {
 
 // The places that a seat's lines tell.
 fn places_told(alloc: Global, text: &str, seat: usize) -> Result<Vec<usize>, Fail>
-    requires { seat < 8 }
+    requires { seat < most_seats }
 {
     let mut places = Vec::new(alloc);
     for line in text.lines().skip(seat * CALLS).take(CALLS) {
@@ -64,12 +68,19 @@ fn places_of(alloc: Global, history: &Record, seat: usize) -> Result<Vec<usize>,
 }
 
 // It has all calls, and is lawful.
-fn see_history(rt: &(impl Abort + Alloc<A = Global>), history: &Record) -> Result<(), Fail> {
-    if history.seats != 8 {
-        return Err(Fail::from("eight seats"));
+fn see_history(
+    rt: &(impl Abort + Alloc<A = Global>),
+    history: &Record,
+    seats: u32,
+) -> Result<(), Fail>
+    requires { IsSeats seats }
+{
+    if history.seats != seats {
+        return Err(Fail::from("another number of seats"));
     }
     replay(rt.alloc(), history)?;
-    same(rt, "steps", history.entries.as_slice().len(), SEATS * CALLS);
+    let steps = history.entries.as_slice().len();
+    same(rt, "steps", steps, seats as usize * CALLS);
     Ok(())
 }
 
@@ -78,8 +89,11 @@ fn see_places(
     rt: &(impl Abort + Alloc<A = Global>),
     text: &str,
     history: &Record,
-) -> Result<(), Fail> {
-    for seat in 0..SEATS {
+    seats: u32,
+) -> Result<(), Fail>
+    requires { IsSeats seats }
+{
+    for seat in 0..seats as usize {
         let told = places_told(rt.alloc(), text, seat)?;
         let own = places_of(rt.alloc(), history, seat)?;
         same(rt, "calls", told.len(), CALLS);
@@ -88,17 +102,32 @@ fn see_places(
     Ok(())
 }
 
-#[test]
-fn eight_threads_count_their_calls(rt: HostRuntime) -> Result<(), Fail> {
-    let script = script_of_calls(rt.alloc())?;
+// Each of so many seats makes its calls on a thread of its own.
+fn see_threads(
+    rt: &(impl Abort + Alloc<A = Global> + Threads + Wait + Sync),
+    seats: u32,
+) -> Result<(), Fail>
+    requires { IsSeats seats }
+{
+    let script = script_of_calls(rt.alloc(), seats)?;
     let mut out = Vec::new(rt.alloc());
     let mut err = Vec::new(rt.alloc());
     let mut bytes = script.as_bytes();
-    let played = play_threads(&rt, rt.alloc(), &mut bytes, TURNS, &mut out, &mut err);
-    holds(&rt, "the status", played.status == 0 && err.is_empty());
+    let played = play_threads(rt, rt.alloc(), &mut bytes, TURNS, &mut out, &mut err);
+    holds(rt, "the status", played.status == 0 && err.is_empty());
     let history = played.history.ok_or("a script with no bad line runs")?;
-    see_history(&rt, &history)?;
-    see_places(&rt, str::from_utf8(out.as_slice())?, &history)
+    see_history(rt, &history, seats)?;
+    see_places(rt, str::from_utf8(out.as_slice())?, &history, seats)
+}
+
+#[test]
+fn eight_threads_count_their_calls(rt: HostRuntime) -> Result<(), Fail> {
+    see_threads(&rt, 8)
+}
+
+#[test]
+fn as_many_threads_as_there_may_be_count_their_calls(rt: HostRuntime) -> Result<(), Fail> {
+    see_threads(&rt, MOST_SEATS)
 }
 
 #[test]

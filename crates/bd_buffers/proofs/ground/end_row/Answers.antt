@@ -3,6 +3,7 @@ use Rattle.bd_buffers.specs.Buffer.{IsPlaced, one_way_share}
 use Rattle.bd_buffers.specs.Rows.{live}
 use Rattle.bd_buffers.proofs.Fits.{filled}
 use Rattle.bd_buffers.proofs.Kept.{one_way_removed}
+use Rattle.bd_buffers.proofs.Shares.{share_there}
 use Rattle.bd_buffers.proofs.Exact.{holes_released, keeps_without}
 use Rattle.bd_buffers.proofs.ground.end_row.Goals as goal
 
@@ -14,6 +15,10 @@ release-requires-clause-share c =
     let less = one_way_removed (live c.args.buffers.now.rows) gone.index b gone.within in
     let total = c.requires.kept.total in
     omega (arith, own, less, total)
+
+pub release-requires-clause-sender : goal.release-requires-clause-sender
+release-requires-clause-sender c =
+    share_there c.in-Some.buffer (live c.args.buffers.now.rows) (live c.take_at.new.self.rows) c.args.ground.now.senders c.in-Some.ensures.live c.requires.kept.sums
 
 pub release-requires-clause-filled : goal.release-requires-clause-filled
 release-requires-clause-filled c =
@@ -43,4 +48,4 @@ release-requires-clause-within c =
 pub returns-in-Some-clause-kept : goal.returns-in-Some-clause-kept
 returns-in-Some-clause-kept c =
     keeps_without c.in-Some.buffer (live c.args.buffers.now.rows) (live c.take_at.new.self.rows) c.args.ground.now c.release.new.self c.requires.kept c.in-Some.ensures.live c.release.ensures.size c.release.ensures.left
-    c.release.ensures.spots c.release.ensures.one_way c.release.ensures.len c.release.ensures.capacity c.release.ensures.bounds
+    c.release.ensures.spots c.release.ensures.one_way c.release.ensures.senders c.release.ensures.len c.release.ensures.capacity c.release.ensures.bounds

@@ -1,5 +1,4 @@
 use Rattle.std.proofs.Common.{◌≡◌, ◌-◌, ◌*◌, ◌/◌}
-use Rattle.std.specs.Prelude.{option_map}
 use Rattle.bd_space.specs.Words.{least}
 use Rattle.bd_space.specs.Windows.{buffers_of, fits_in}
 use Rattle.bd_call_lists.proofs.room.least_start.Given as goal

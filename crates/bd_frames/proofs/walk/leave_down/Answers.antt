@@ -1,7 +1,9 @@
 use Rattle.std.proofs.Common.{◌≡◌, ◌≤◌, ◌<◌, None, Some, map, take, drop, length, get_or, set, vec_len, refl, ap, sym, subst, ◌∙◌, arith}
+use Rattle.bd_space.specs.declared.space.Frame.{Frame}
 use Rattle.bd_space.specs.Frames.{takes_part}
 use Rattle.bd_frames.specs.Words.{left_frame}
 use Rattle.bd_frames.specs.Linked.{IsWay}
+use Rattle.bd_frames.proofs.Places.{rising-set}
 use Rattle.bd_frames.proofs.Alike.{left-other}
 use Rattle.bd_frames.proofs.Down.{way-on, step-same, begun-same, got-begun, none-yet, map-left, map-next}
 use Rattle.bd_frames.proofs.walk.leave_down.Goals as goal
@@ -14,6 +16,7 @@ loop-older-init c =
       within = omega (arith, c.len.ensures);
       way = λ k. subst (λ n. IsWay c.args.seat xs c.args.below.now (record { end = n; next = c.args.next })) (sym c.len.ensures) k;
       so_far = λ k. none-yet (left_frame c.args.seat) c.len.result xs long;
+      rising = λ r. r;
       len = refl;
       capacity = refl;
     }
@@ -43,6 +46,8 @@ loop-older-preserved c =
           ap (set ys v.end) c.frame_without.ensures
           ∙ ap (λ x. set ys v.end (g x)) at ∙ ap (λ zs. set zs v.end (g (get_or xs v.end f))) so
           ∙ map-next (takes_part seat) g (left-other seat) w.end v.end xs f low (omega (arith, low, few)) (stepped k).newest;
+      rising = λ r. rising-set 0 c.loop-older.frames.items v.end c.frame_without.result c.index-frame.result.now
+          (ap (λ (f : Frame). f.made) (c.frame_without.ensures ∙ ap g c.index-frame.ensures)) (inv.rising r);
       len = inv.len;
       capacity = inv.capacity;
     }

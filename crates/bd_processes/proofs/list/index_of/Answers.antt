@@ -1,4 +1,4 @@
-use Rattle.std.proofs.Common.{ltb, rules, arith, ap, ◌∙◌}
+use Rattle.std.proofs.Common.{false, ltb, rules, arith, ap, ◌∙◌}
 use Rattle.std.proofs.lemmas.Bool.{ltb-true, ltb-false}
 use Rattle.std.proofs.lemmas.List.{get_or_default}
 use Rattle.std.proofs.lemmas.List.Sorted.{IsPartitionPoint-from_clause, IsPartitionedBy-ltb}
@@ -12,7 +12,7 @@ returns-else-i-processes-clause-found c = λ order.
     let key = λ (q : Process). q.made in
     let ps = c.args.processes.now in
     let i = c.partition_point-i.result in
-    let nothing : Process = record { made = 0; pid = 0; euid = 0; window = 0 } in
+    let nothing : Process = record { made = 0; pid = 0; euid = 0; window = 0; spam_detection = false } in
     let parted = IsPartitionedBy-ltb key _ c.args.made (non_decreasing key ps order) in
     let point =
     IsPartitionPoint-from_clause (λ (q : Process). ltb q.made c.args.made) _ _

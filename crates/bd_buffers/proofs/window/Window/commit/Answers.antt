@@ -7,18 +7,21 @@ use Rattle.bd_words.specs.Look.{look}
 use Rattle.bd_space.specs.declared.space.Buffer.{Buffer}
 use Rattle.bd_space.specs.Freeing.{pointer}
 use Rattle.bd_space.specs.Windows.{start_for}
+use Rattle.bd_space.specs.Spam.{one_way_from}
 use Rattle.bd_buffers.specs.declared.window.Window.{Window}
 use Rattle.bd_buffers.specs.declared.ground.Ground.{Ground}
 use Rattle.bd_buffers.specs.Rows.{live}
 use Rattle.bd_buffers.specs.Stands.{CanHold}
 use Rattle.bd_buffers.specs.Spots.{spot_key}
 use Rattle.bd_buffers.specs.Holes.{Free, IsHoles}
+use Rattle.bd_buffers.specs.Sums.{sum_at, AreSums}
 use Rattle.bd_buffers.specs.Window.{IsWindow, Keeps}
 use Rattle.bd_buffers.proofs.Bounded.{hole_room}
 use Rattle.bd_buffers.proofs.Places.{given_says}
 use Rattle.bd_buffers.proofs.Fits.{fit_begins, placed_fit}
 use Rattle.bd_buffers.proofs.Exact.{holes_taken}
 use Rattle.bd_buffers.proofs.Listed.{none_there, spots_noted}
+use Rattle.bd_buffers.proofs.Shares.{at_sender, from_within, sums_pushed}
 use Rattle.bd_buffers.proofs.Kept.{window_push, one_way_push, one_way_within}
 use Rattle.bd_buffers.proofs.window.Window.commit.Goals as goal
 
@@ -57,6 +60,23 @@ cut-requires-clause-later c =
     let is = holes_taken g.size g.tail b.size b.start bs g.holes.items b c.self.invariant.free (omega (arith, sized)) inside fit refl refl in
     record { spaced = is.spaced; within = is.within }
 
+pub raise-requires-clause-filled : goal.raise-requires-clause-filled
+raise-requires-clause-filled c = let sized = c.requires.sized in omega (arith, sized)
+
+pub raise-requires-clause-fits : goal.raise-requires-clause-fits
+unfolding CanHold
+raise-requires-clause-fits c =
+    let w = c.self.inside in
+    let b = c.args.buffer in
+    let bs = live w.buffers.rows in
+    let place : start_for w.ground.size bs b.one_way b.size ≡ Ok b.start = rw (← c.self.view_is) at c.requires.can_take in
+    let inside = (given_says w.ground.size bs b.one_way b.size b.start place).least.room.inside in
+    let small = c.self.invariant.window.small in
+    let budget = c.self.invariant.window.budget in
+    let sum = ap (λ s. sum_at s b.sender) c.cut.ensures.others.3 ∙ at_sender w.ground.senders (one_way_from bs) c.self.invariant.sums b.sender in
+    let within = from_within b.sender bs in
+    omega (arith, inside, small, budget, sum, within)
+
 pub overflow_add-self : goal.overflow_add-self
 unfolding CanHold
 overflow_add-self c =
@@ -70,6 +90,9 @@ overflow_add-self c =
     let share = c.one_way_share-share.ensures in
     let same = c.cut.ensures.others.1 in
     record { fits = omega (arith, inside, small, budget, total, share, same, one_way_within b) }
+
+pub push-requires-clause-newest : goal.push-requires-clause-newest
+push-requires-clause-newest c = rw (← c.self.view_is) at c.requires.newest
 
 pub invariant_of-self : goal.invariant_of-self
 unfolding CanHold
@@ -95,6 +118,7 @@ invariant_of-self c =
     let left : Ground = record {
       size = cut.size;
       one_way = cut.one_way + c.one_way_share-share.result;
+      senders = c.raise.new.sums;
       spots = c.insert.new.self;
       holes = cut.holes;
       tail = cut.tail;
@@ -111,6 +135,7 @@ invariant_of-self c =
           (subst H c.cut.ensures.left (holes_taken g.size g.tail b.size b.start bs g.holes.items b c.self.invariant.free (omega (arith, sized)) free.inside fit refl refl));
       starts = spots_noted bs b g.spots c.insert.new.self c.self.invariant.starts new (subst noted others.2 put);
       total = omega (arith, total, pushed, share, one_way);
+      sums = sums_pushed bs b c.raise.new.sums (c.raise.ensures.sums (one_way_from bs) (subst (λ s. AreSums bs s) (sym others.3) c.self.invariant.sums));
       spare = omega (arith, c.cut.ensures.len, c.cut.ensures.capacity, room, more);
       bounded = c.cut.ensures.bounds.all;
       ready = λ some. c.cut.ensures.bounds.ready;

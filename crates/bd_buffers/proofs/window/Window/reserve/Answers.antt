@@ -29,6 +29,14 @@ returns-in_err-reserve-3-clause-can_take c = λ one_way size start can.
     let old : P (live w.buffers.rows) = rw (← c.self.view_is) at can in
     subst P (sym c.reserve.ensures.live) old
 
+pub returns-in_err-reserve-4-clause-can_take : goal.returns-in_err-reserve-4-clause-can_take
+unfolding CanHold
+returns-in_err-reserve-4-clause-can_take c = λ one_way size start can.
+    let w = c.self.inside in
+    let P : List Buffer → Type 0 = λ bs. start_for w.ground.size bs one_way size ≡ Ok start in
+    let old : P (live w.buffers.rows) = rw (← c.self.view_is) at can in
+    subst P (sym c.reserve.ensures.live) old
+
 pub returns-clause-can_take : goal.returns-clause-can_take
 unfolding CanHold
 returns-clause-can_take c = λ one_way size start can.

@@ -1,4 +1,4 @@
-use Rattle.std.proofs.Common.{ℕ, List, ◌<◌, ◌∙◌, ◌++◌, ◌∷◌, [], All, refl, sym, ap, subst, arith}
+use Rattle.std.proofs.Common.{ℕ, List, false, ◌<◌, ◌∙◌, ◌++◌, ◌∷◌, [], All, refl, sym, ap, subst, arith}
 use Rattle.std.proofs.lemmas.Bool.{false≢true}
 use Rattle.std.proofs.lemmas.List.Quantifiers.{all_pairs_push}
 use Rattle.bd_space.specs.Steps.{with_process}
@@ -28,7 +28,7 @@ invariant_of-self c =
 pub returns-then-is_last : goal.returns-then-is_last
 unfolding with_process
 returns-then-is_last c = λ s pid euid size stands e empty.
-    opened c.args.self.now _ s.steps s.processes s.buffers (record { made = s.steps; pid = pid; euid = euid; window = size }) (record { owner = c.args.place; window = c.args.window })
+    opened c.args.self.now _ s.steps s.processes s.buffers (record { made = s.steps; pid = pid; euid = euid; window = size; spam_detection = false }) (record { owner = c.args.place; window = c.args.window })
     refl (sym e) empty (c.push_reserved.ensures.items ∙ ap (λ (v : Windows). v.windows ++ record { owner = c.args.place; window = c.args.window } ∷ []) c.self.view_is)
     (ap (λ (v : Windows). v.homes) c.self.view_is) stands
 

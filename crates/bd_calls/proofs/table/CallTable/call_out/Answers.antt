@@ -21,7 +21,7 @@ returns-clause-stands c = λ s h k.
     let p = c.args.process in
     let parent = c.newest_made-parent.ensures s.frames h.frames_are ∙ ap (λ o. option_map made_of o) (sym (k.1 seat)) in
     let list = c.list_from-list.ensures s.frames h.frames_are
-    ∙ ap (λ ts. list_of_caller p (find (waits_in ts p) (ancestry c.newest_made-parent.result (reverse s.frames)))) (c.deref.ensures.value ∙ h.threads_are)
+    ∙ ap (λ ts. list_of_caller p (find (waits_in ts p) (ancestry c.newest_made-parent.result (reverse s.frames)))) h.threads_are
     ∙ ap (λ f. list_of_caller p (find (waits_in s.threads p) (ancestry f (reverse s.frames)))) parent
     in
     record {

@@ -13,7 +13,7 @@ returns-clause-stands c =
     let seat = c.args.seat in
     let list = OfThread seat in
     record {
-      threads_are = c.remove_thread.ensures.threads ∙ ap (filter (λ (t : Thread). not (t.seat == seat))) stands.threads_are;
+      threads_are = c.remove.ensures.listed ∙ ap (filter (λ (t : Thread). not (t.seat == seat))) stands.threads_are;
       frames_are = c.leave_frames.ensures.frames s.todo stands.todo_are _ stands.frames_are;
       todo_are = c.clear_list.ensures.stands _ stands.todo_are;
       turns_are = subst (TurnsAre c.lose_turns.new.turns) (sym (turns-lost (is_lost_with s.todo list) s.buffers))

@@ -1,6 +1,7 @@
 use Rattle.std.proofs.Common.{ap}
 use Rattle.bd_space.specs.Space.{Space}
 use Rattle.bd_space.specs.Steps.{change, open_step, attach_step, manager_step}
+use Rattle.bd_space.specs.Spam.{spam_step}
 use Rattle.bd_space.specs.Commands.{command_step}
 use Rattle.bd_space.specs.Reading.{read_step}
 use Rattle.bd_space.specs.ThreadExits.{exit_thread_step}
@@ -20,6 +21,10 @@ returns-in-Attach c = any-step c.args.self.now c.args.a (λ s. change s c.args.a
 pub returns-in-SetManager : goal.returns-in-SetManager
 unfolding change
 returns-in-SetManager c = by-step c.args.self.now c.args.a (λ s. change s c.args.a.thread.seat c.args.step.now) manager_step (λ s. ap (change s c.args.a.thread.seat) c.in-SetManager.is) _ _ _ _ c.twice-in-SetManager.ensures c.set_manager.ensures
+
+pub returns-in-SetSpam : goal.returns-in-SetSpam
+unfolding change
+returns-in-SetSpam c = by-step c.args.self.now c.args.a (λ s. change s c.args.a.thread.seat c.args.step.now) (λ s. spam_step s c.in-SetSpam.on) (λ s. ap (change s c.args.a.thread.seat) c.in-SetSpam.is) _ _ _ _ c.twice-in-SetSpam.ensures c.set_spam_detection.ensures
 
 pub returns-in-Command : goal.returns-in-Command
 unfolding change

@@ -5,6 +5,12 @@ use Rattle.std.proofs.Math.Pow.{pow_mono}
 use Rattle.bd_space.specs.Histories.{ready_below, is_ready}
 use Rattle.bd_engine.proofs.tables.Tables.ready_below.Goals as goal
 
+pub overflow_mul-bit : goal.overflow_mul-bit
+overflow_mul-bit c =
+    let few : c.loop-seat.seat ≤ 30 = omega arith in
+    let most : 2 ^ c.loop-seat.seat ≤ 2 ^ 30 = pow_mono few in
+    record { fits = omega (arith, most, c.loop-seat.invariant.bit) }
+
 pub loop-seat-preserved : goal.loop-seat-preserved
 loop-seat-preserved c =
     let seat = c.loop-seat.seat in
@@ -25,6 +31,6 @@ returns-clause-ready c = λ n s h.
 
 pub returns-clause-bits : goal.returns-clause-bits
 returns-clause-bits c =
-    let few : c.loop-seat.seat ≤ 16 = omega arith in
-    let most : 2 ^ c.loop-seat.seat ≤ 2 ^ 16 = pow_mono few in
+    let few : c.loop-seat.seat ≤ 31 = omega arith in
+    let most : 2 ^ c.loop-seat.seat ≤ 2 ^ 31 = pow_mono few in
     omega (arith, most, c.loop-seat.invariant.bits)

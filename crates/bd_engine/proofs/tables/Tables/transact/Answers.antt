@@ -6,8 +6,7 @@ use Rattle.bd_engine.specs.Stands.{Within}
 use Rattle.bd_engine.specs.Freed.{ripen_next}
 use Rattle.bd_engine.proofs.Standing.{numbers-completed}
 use Rattle.bd_engine.proofs.Keeping.{full-if}
-use Rattle.bd_engine.proofs.Afterwards.{sent-new, sent-followed, sent-ordered, ripened-ordered}
-use Rattle.bd_engine.proofs.Stacked.{tidy-stacked}
+use Rattle.bd_engine.proofs.Afterwards.{sent-call, sent-followed, sent-ordered, ripened-ordered}
 use Rattle.bd_engine.proofs.Meeting.{taken-step}
 use Rattle.bd_engine.proofs.tables.Tables.transact.Goals as goal
 
@@ -32,6 +31,6 @@ returns c = taken-step _ _ _ _ _ (
           ∙ ap (λ (o : Option ObjectId). follow_of no_name sent (ripen_next o z)) c.one_way_target-target.ensures
           ∙ sym (sent-followed s c.args.a c.args.d.now c.args.v p))
           (c.follow_objects.ensures.stands (ripen_next target z)
-          (c.ripen_next.ensures.stands z (c.in-Ok-transacted.ensures.ok s (c.in-Ok.ensures.stands s h) (sent-new s c.args.a c.args.d.now c.args.v p, tidy-stacked s p.tidy)))
+          (c.ripen_next.ensures.stands z (c.in-Ok-transacted.ensures.ok s (c.in-Ok.ensures.stands s h) (sent-call s c.args.a c.args.d.now c.args.v p)))
           (ripened-ordered target z (sent-ordered s c.args.a c.args.d.now c.args.v p)));
     })

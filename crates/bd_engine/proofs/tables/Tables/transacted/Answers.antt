@@ -1,6 +1,6 @@
 use Rattle.std.proofs.Common.{◌+◌}
 use Rattle.bd_space.specs.Delivery.{delivered}
-use Rattle.bd_engine.proofs.Stepping.{transacted-full, transacted-stands, sent-stacked}
+use Rattle.bd_engine.proofs.Stepping.{transacted-full, spam-told, transacted-stands, sent-stacked}
 use Rattle.bd_engine.proofs.tables.Tables.transacted.Goals as goal
 
 pub returns-in-Err-clause-full : goal.returns-in-Err-clause-full
@@ -9,4 +9,7 @@ returns-in-Err-clause-full c = λ s h. transacted-full s c.args.a c.args.d.now c
 pub returns-in-Ok-clause-ok : goal.returns-in-Ok-clause-ok
 returns-in-Ok-clause-ok c = λ s h k.
     let z = delivered s c.args.a c.args.d.now c.args.v in
-    transacted-stands _ s c.args.a c.args.d.now c.args.v _ _ c.receiver-receiver.ensures c.is_one_way-one_way.ensures (c.called.ensures.stands (z.steps + 1) z (c.in-Ok.ensures.ok s h k.0) (sent-stacked s c.args.a c.args.d.now c.args.v k.1))
+    let w = c.in-Ok.ensures.ok s h k.new in
+    transacted-stands s c.args.a c.args.d.now c.args.v _ _ c.receiver-receiver.ensures c.is_one_way-one_way.ensures _ _
+    (spam-told s c.args.a c.args.d.now c.args.v _ _ c.receiver-receiver.ensures c.is_one_way-one_way.ensures _ k.lives (λ q found. c.is_spam-spam.ensures z q w found))
+    (c.called.ensures.stands (z.steps + 1) z w (sent-stacked s c.args.a c.args.d.now c.args.v k.stacked))

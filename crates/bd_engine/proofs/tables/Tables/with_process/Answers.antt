@@ -1,11 +1,11 @@
-use Rattle.std.proofs.Common.{ℕ, ◌<◌, ◌++◌, ◌∷◌, [], All, sym, subst}
+use Rattle.std.proofs.Common.{false, ℕ, ◌<◌, ◌++◌, ◌∷◌, [], All, sym, subst}
 use Rattle.bd_space.specs.declared.space.Process.{Process}
 use Rattle.bd_space.specs.Steps.{with_process}
 use Rattle.bd_processes.specs.Stands.{ProcessesAre}
 use Rattle.bd_engine.proofs.tables.Tables.with_process.Goals as goal
 
 abbrev process : ℕ → ℕ → ℕ → ℕ → Process
-process place pid euid size = record { made = place; pid = pid; euid = euid; window = size }
+process place pid euid size = record { made = place; pid = pid; euid = euid; window = size; spam_detection = false }
 
 pub returns-clause-stands : goal.returns-clause-stands
 unfolding with_process

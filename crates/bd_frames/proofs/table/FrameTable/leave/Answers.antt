@@ -14,3 +14,6 @@ returns-clause-stands c = λ l h. record {
   children_are = children-map c.args.self.now.children l h.children_are (left_frame c.args.seat) (λ x. refl);
   stacks_are = c.forget.ensures.stands l h.stacks_are;
 }
+
+pub invariant_of-self : goal.invariant_of-self
+invariant_of-self c = record { rises = λ e. c.leave.ensures.rising (c.args.self.now.rises e) }

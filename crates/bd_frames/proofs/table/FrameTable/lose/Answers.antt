@@ -2,7 +2,7 @@ use Rattle.std.proofs.Common.{ap, refl, sym, subst, ◌∙◌}
 use Rattle.bd_space.specs.Words.{changed}
 use Rattle.bd_space.specs.Frames.{is_frame}
 use Rattle.bd_frames.specs.Words.{lost_frame}
-use Rattle.bd_frames.specs.Places.{IsWithin, RiseIf}
+use Rattle.bd_frames.specs.Places.{IsWithin, RiseIf, IsRising}
 use Rattle.bd_frames.proofs.Places.{rising-changed}
 use Rattle.bd_frames.proofs.InOrder.{older-changed}
 use Rattle.bd_frames.proofs.Counting.{children-changed}
@@ -14,7 +14,7 @@ returns-clause-stands c = λ l h.
     let q = is_frame c.args.made in
     let f = lost_frame in
     let at = c.range_of-range.result in
-    let rises = subst (λ xs. RiseIf c.args.self.now.rising xs) (sym h.items_are) h.rises in
+    let rises = c.args.self.now.rises in
     record {
       items_are = c.lose_in.ensures.items (subst (λ xs. RiseIf c.args.self.now.rising xs → IsWithin q at.start at.end xs) c.deref.ensures.value c.range_of-range.ensures.within rises)
           ∙ ap (changed q f) h.items_are;
@@ -23,3 +23,11 @@ returns-clause-stands c = λ l h.
       children_are = children-changed c.args.self.now.children l h.children_are q f (λ x. refl);
       stacks_are = λ w. loses c.args.self.now.stacks _ l q (h.stacks_are (sym c.forget_unread.ensures.whole ∙ w)) c.forget_unread.ensures.below c.forget_unread.ensures.tops;
     }
+
+pub invariant_of-self : goal.invariant_of-self
+invariant_of-self c =
+    let t = c.args.self.now in
+    let q = is_frame c.args.made in
+    let at = c.range_of-range.result in
+    let is = c.lose_in.ensures.items (subst (λ xs. RiseIf t.rising xs → IsWithin q at.start at.end xs) c.deref.ensures.value c.range_of-range.ensures.within t.rises) in
+    record { rises = λ e. subst (IsRising 0) (sym is) (rising-changed q (lost_frame) (λ x. refl) 0 t.frames.items (t.rises e)) }

@@ -28,3 +28,15 @@ returns-clause-stands c = λ l h.
       children_are = c.add_child.ensures.counts l h.children_are few;
       stacks_are = c.push.ensures.stands l h.stacks_are rises;
     }
+
+pub invariant_of-self : goal.invariant_of-self
+invariant_of-self c =
+    let t = c.args.self.now in
+    let x = c.args.frame in
+    record {
+      rises = subst (RiseIf c.if-self.self) (sym c.push_reserved.ensures.items) (elim c.if-self.branch [
+        | then-self w ↦ λ e. rising-push 0 t.frames.items x (t.rises w.if-self.true)
+            (subst (λ xs. IsAfter 0 xs x.made) w.deref.ensures.value (w.is_newest-self.ensures (sym w.self-is ∙ e)))
+        | else-self w ↦ λ e. let is = w.self-is in absurd (cc)
+      ]);
+    }

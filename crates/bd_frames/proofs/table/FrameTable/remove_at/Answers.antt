@@ -1,5 +1,6 @@
 use Rattle.std.proofs.Common.{◌≡◌, ◌<◌, length, get_or, subst, ap, sym, ◌∙◌, arith}
 use Rattle.std.specs.List.{remove}
+use Rattle.bd_frames.specs.Places.{IsRising}
 use Rattle.bd_frames.proofs.Places.{rising-remove}
 use Rattle.bd_frames.proofs.InOrder.{older-remove}
 use Rattle.bd_frames.proofs.table.FrameTable.remove_at.Goals as goal
@@ -17,3 +18,8 @@ returns-clause-stands c = λ l h.
       children_are = c.take_child.ensures.counts l i h.children_are within at;
       stacks_are = c.remove.ensures.stands l h.stacks_are within at;
     }
+
+pub invariant_of-self : goal.invariant_of-self
+invariant_of-self c =
+    let t = c.args.self.now in
+    record { rises = λ e. subst (IsRising 0) (sym c.remove-frame.ensures.items) (rising-remove 0 t.frames.items c.args.i (omega (arith, c.requires)) (t.rises e)) }

@@ -1,0 +1,28 @@
+/*
+ * short.c: goes into a daemon of the tests, whose histories can take no more after so many steps: what the engine answers
+ * after 4294967295. The linker has the daemon call these in the library's place.
+ */
+#include "hullpippin.h"
+
+#define STEPS 4000
+
+/* The library's function of this name, and what the daemon calls. */
+#define SHORT(name, parameters, ...) \
+    uint32_t __real_hullpippin_live_##name parameters; \
+    uint32_t __wrap_hullpippin_live_##name parameters; \
+    uint32_t __wrap_hullpippin_live_##name parameters \
+    { \
+        return hullpippin_live_len(live) < STEPS ? __real_hullpippin_live_##name(__VA_ARGS__) : HULLPIPPIN_HISTORY_FULL; \
+    }
+
+SHORT(open, (hullpippin_live *live, uint32_t seat, uint32_t pid, uint32_t euid, uint32_t window, hullpippin_answer *answer), live,
+      seat, pid, euid, window, answer)
+SHORT(attach, (hullpippin_live *live, uint32_t seat, uint32_t pid, hullpippin_answer *answer), live, seat, pid, answer)
+SHORT(manager, (hullpippin_live *live, uint32_t seat, hullpippin_answer *answer), live, seat, answer)
+SHORT(set_spam, (hullpippin_live *live, uint32_t seat, bool on, hullpippin_answer *answer), live, seat, on, answer)
+SHORT(command, (hullpippin_live *live, uint32_t seat, const uint8_t *command, size_t size, const uint8_t *data, size_t data_size,
+                const uint8_t *offsets, size_t offsets_size, hullpippin_answer *answer), live, seat, command, size, data, data_size,
+      offsets, offsets_size, answer)
+SHORT(read, (hullpippin_live *live, uint32_t seat, uint32_t limit, hullpippin_answer *answer), live, seat, limit, answer)
+SHORT(exit_thread, (hullpippin_live *live, uint32_t seat, hullpippin_answer *answer), live, seat, answer)
+SHORT(exit_process, (hullpippin_live *live, uint32_t seat, hullpippin_answer *answer), live, seat, answer)

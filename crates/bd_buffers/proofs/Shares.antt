@@ -1,0 +1,112 @@
+-- How much of a window the one-way buffers of each sender take, through each change.
+use Rattle.std.proofs.Common.{◌≡◌, ℕ, zero, suc, ◌+◌, ◌<◌, ◌≤◌, Bool, true, false, cond, List, [], ◌∷◌, ◌++◌, length, get_or, refl, ap, sym, ◌∙◌, arith, eq-eqb}
+use Rattle.std.specs.Prelude.{◌==◌, ◌&&◌, Some, None, filter, remove, unwrap_or}
+use Rattle.std.proofs.lemmas.Bool.{eqb-true}
+use Rattle.std.proofs.lemmas.List.Sums.{sum_by-cons}
+use Rattle.bd_space.specs.declared.space.Buffer.{Buffer}
+use Rattle.bd_space.specs.Words.{changed}
+use Rattle.bd_space.specs.ReadItems.{hand_out}
+use Rattle.bd_space.specs.Spam.{one_way_from}
+use Rattle.bd_words.specs.declared.map.WordMap.{WordMap}
+use Rattle.bd_buffers.specs.Buffer.{one_way_share, share_from}
+use Rattle.bd_buffers.specs.Rows.{IsWithout}
+use Rattle.bd_buffers.specs.Sums.{noted, sum_at, AreNoted, AreSums}
+use Rattle.bd_buffers.specs.Window.{one_way_size}
+
+-- ---- what each buffer adds
+
+from_first : (m : ℕ) (b : Buffer) (bs : List Buffer) (mine : Bool) → (b.one_way && (b.sender == m)) ≡ mine → one_way_from (b ∷ bs) m ≡ share_from m b + one_way_from bs m
+from_first m b bs true e = rw e (sum_by-cons (λ (x : Buffer). x.size) b (filter (λ x. x.one_way && (x.sender == m)) bs))
+from_first m b bs false e = rw e (omega arith)
+
+pub from_cons : (m : ℕ) (b : Buffer) (bs : List Buffer) → one_way_from (b ∷ bs) m ≡ share_from m b + one_way_from bs m
+from_cons m b bs = from_first m b bs (b.one_way && (b.sender == m)) refl
+
+pub from_push : (m : ℕ) (bs : List Buffer) (b : Buffer) → one_way_from (bs ++ b ∷ []) m ≡ one_way_from bs m + share_from m b
+from_push m [] b = let alone = from_cons m b [] in omega (arith, alone)
+from_push m (x ∷ bs) b =
+    let rest = from_push m bs b in
+    let both = from_cons m x (bs ++ b ∷ []) in
+    let one = from_cons m x bs in
+    omega (arith, rest, both, one)
+
+from_handed : (m : ℕ) (p : Buffer → Bool) (bs : List Buffer) → one_way_from (changed p hand_out bs) m ≡ one_way_from bs m
+from_handed m p [] = refl
+from_handed m p (x ∷ bs) =
+    let rest = from_handed m p bs in
+    let one = from_cons m x bs in
+    let plain = from_cons m x (changed p hand_out bs) in
+    let handed = from_cons m (hand_out x) (changed p hand_out bs) in
+    elim (p x) as (λ k. one_way_from (cond k (hand_out x) x ∷ changed p hand_out bs) m ≡ one_way_from (x ∷ bs) m) [ true ↦ omega (arith, rest, one, handed) | false ↦ omega (arith, rest, one, plain) ]
+
+from_removed : (m : ℕ) (bs : List Buffer) (i : ℕ) (d : Buffer) → i < length bs → one_way_from (remove bs i) m + share_from m (get_or bs i d) ≡ one_way_from bs m
+from_removed m [] i d lt = absurd (omega arith)
+from_removed m (x ∷ bs) zero d lt = let one = from_cons m x bs in omega (arith, one)
+from_removed m (x ∷ bs) (suc i) d lt =
+    let rest = from_removed m bs i d (omega arith) in
+    let one = from_cons m x bs in
+    let both = from_cons m x (remove bs i) in
+    omega (arith, rest, one, both)
+
+-- where one buffer ended
+pub from_without : (m : ℕ) (b : Buffer) (bs new : List Buffer) → IsWithout b bs new → one_way_from new m + share_from m b ≡ one_way_from bs m
+from_without m b bs new gone =
+    let less = from_removed m bs gone.index b gone.within in
+    let own = ap (share_from m) (gone.at b) in
+    let rest = ap (λ xs. one_way_from xs m) gone.left in
+    omega (arith, less, own, rest)
+
+-- ---- one sender's are no more than all
+
+share_le : (m : ℕ) (b : Buffer) (one_way mine : Bool) → b.one_way ≡ one_way → (b.sender == m) ≡ mine → share_from m b ≤ one_way_share b
+share_le m b true true e f = rw (e, f) (omega arith)
+share_le m b true false e f = rw (e, f) (omega arith)
+share_le m b false mine e f = rw e (omega arith)
+
+size_first : (b : Buffer) (bs : List Buffer) (one_way : Bool) → b.one_way ≡ one_way → one_way_size (b ∷ bs) ≡ one_way_share b + one_way_size bs
+size_first b bs true e = rw e (sum_by-cons (λ (x : Buffer). x.size) b (filter (λ x. x.one_way) bs))
+size_first b bs false e = rw e (omega arith)
+
+pub from_within : (m : ℕ) (bs : List Buffer) → one_way_from bs m ≤ one_way_size bs
+from_within m [] = omega arith
+from_within m (x ∷ bs) =
+    let rest = from_within m bs in
+    let one = from_cons m x bs in
+    let all = size_first x bs x.one_way refl in
+    let share = share_le m x x.one_way (x.sender == m) refl refl in
+    omega (arith, rest, one, all, share)
+
+-- its own sender's sum has all that a buffer adds
+pub own_share : (b : Buffer) → share_from b.sender b ≡ one_way_share b
+own_share b =
+    ap (λ k. cond (b.one_way && k) b.size 0) (eq-eqb b.sender b.sender refl)
+    ∙ elim b.one_way as (λ k. cond (k && true) b.size 0 ≡ cond k b.size 0) [ true ↦ refl | false ↦ refl ]
+
+-- ---- sums as they are noted
+
+told_by : (n : ℕ) (t : Bool) → (n == 0) ≡ t → unwrap_or (cond t None (Some n)) 0 ≡ n
+told_by n true e = sym (eqb-true n 0 e)
+told_by n false e = refl
+
+-- the sum of each sender
+pub at_sender : (sums : WordMap ℕ) (f : ℕ → ℕ) → AreNoted sums f → (m : ℕ) → sum_at sums m ≡ f m
+at_sender sums f is m = ap (λ o. unwrap_or o 0) (is m) ∙ told_by (f m) (f m == 0) refl
+
+-- ---- the sums of a window
+
+pub sums_pushed : (bs : List Buffer) (b : Buffer) (sums : WordMap ℕ) → AreNoted sums (λ m. one_way_from bs m + share_from m b) → AreSums (bs ++ b ∷ []) sums
+sums_pushed bs b sums is = λ m. is m ∙ ap noted (sym (from_push m bs b))
+
+pub sums_handed : (p : Buffer → Bool) (bs : List Buffer) (sums : WordMap ℕ) → AreSums bs sums → AreSums (changed p hand_out bs) sums
+sums_handed p bs sums is = λ m. is m ∙ ap noted (sym (from_handed m p bs))
+
+pub sums_without : (b : Buffer) (bs new : List Buffer) (sums : WordMap ℕ) → IsWithout b bs new → AreSums bs sums → AreNoted sums (λ m. one_way_from new m + share_from m b)
+sums_without b bs new sums gone is = λ m. is m ∙ ap noted (sym (from_without m b bs new gone))
+
+-- a live buffer's share is in its sender's sum
+pub share_there : (b : Buffer) (bs new : List Buffer) (sums : WordMap ℕ) → IsWithout b bs new → AreSums bs sums → one_way_share b ≤ sum_at sums b.sender
+share_there b bs new sums gone is =
+    let sum = at_sender sums (one_way_from bs) is b.sender in
+    let less = from_without b.sender b bs new gone in
+    let own = own_share b in
+    omega (arith, sum, less, own)

@@ -1,0 +1,26 @@
+-- A step that has a process told of its one-way flooding, or no longer: what its mark leaves of the live processes.
+use Rattle.bd_laws.proofs.words.Logic.{◌≡◌, ℕ, ◌==◌, Bool, true, false, cond, ◌||◌, List, [], ◌∷◌, refl, ap, sym, ◌∙◌}
+use Rattle.bd_laws.proofs.words.Types.{Process}
+use Rattle.bd_laws.proofs.words.Space.{changed, lives_in, detecting}
+use Rattle.bd_laws.proofs.words.Laws.{In}
+use Rattle.bd_laws.proofs.Lists.{in-changed}
+
+-- the live processes, with the mark set on the one at p
+abbrev pub marked : ℕ → Bool → List Process → List Process
+marked p on processes = changed (λ (q : Process). q.made == p) (detecting on) processes
+
+mark-made : (on b : Bool) (q : Process) → (cond b (detecting on q) q).made ≡ q.made
+mark-made on true q = refl
+mark-made on false q = refl
+
+-- each was there before
+pub marked-in : (p : ℕ) (on : Bool) (processes : List Process) (q : Process) → In q (marked p on processes) → (r : Process) × In r processes × (r.made ≡ q.made)
+marked-in p on processes q l =
+    let r = in-changed (λ (x : Process). x.made == p) (detecting on) q processes l in
+    (r.0, r.1, sym (ap (λ (x : Process). x.made) r.2 ∙ mark-made on (r.0.made == p) r.0))
+
+-- the same ones live
+pub marked-lives : (p : ℕ) (on : Bool) (processes : List Process) (n : ℕ) → lives_in (marked p on processes) n ≡ lives_in processes n
+marked-lives p on [] n = refl
+marked-lives p on (q ∷ qs) n =
+    ap (λ m. (m == n) || lives_in (marked p on qs) n) (mark-made on (q.made == p) q) ∙ ap (λ b. (q.made == n) || b) (marked-lives p on qs n)

@@ -1,0 +1,4 @@
+pub mod Apart
+pub mod New
+pub mod Listed
+pub mod Room

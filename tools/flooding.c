@@ -1,0 +1,201 @@
+/* Reports of one-way flooding: a client asks for them, floods the context manager, and asks for them no longer; of a driver, by a call
+   and handed over, and of a live engine, each with as many seats as a journal may have. Complains where an answer isn't the one that
+   docs/RULES.md gives. Prints nothing else. */
+#include "hullpippin.h"
+
+#include <stdio.h>
+#include <string.h>
+
+/* Codes of <linux/android/binder.h>. */
+#define BC_TRANSACTION 0x40406300u
+#define BC_ENTER_LOOPER 0x0000630cu
+#define BR_TRANSACTION_COMPLETE 0x00007206u
+#define BR_NOOP 0x0000720cu
+#define BR_ONEWAY_SPAM_SUSPECT 0x00007213u
+#define TF_ONE_WAY 1u
+
+/* The fault of a write that memory stopped. */
+#define F_NO_MEMORY 14u
+
+enum { MANAGER, CLIENT, MOST_SEATS = 31 };
+
+#define WINDOW 4096u
+
+static const char *complaint;
+
+static bool fails(const char *why)
+{
+    if (!complaint)
+        complaint = why;
+    return false;
+}
+
+static bool is_made(uint32_t status, const hullpippin_answer *answer, uint32_t kind)
+{
+    if (status == HULLPIPPIN_NO_MEMORY)
+        return fails("no memory");
+    if (status != HULLPIPPIN_DONE)
+        return fails("not made");
+    if ((answer->kind == HULLPIPPIN_BACK && answer->why == HULLPIPPIN_BACK_NO_MEMORY)
+        || (answer->stop == HULLPIPPIN_AT_FAULT && answer->number == F_NO_MEMORY))
+        return fails("no memory");
+    return (answer->kind == kind && answer->stop == 0 && answer->notes == 0) || fails("another answer");
+}
+
+static void put32(uint8_t *at, uint32_t value)
+{
+    for (int i = 0; i < 4; i++)
+        at[i] = (uint8_t)(value >> 8 * i);
+}
+
+/* A one-way call to the context manager, with so many bytes of data, as a command. */
+static void spell_call(uint8_t command[68], uint32_t data)
+{
+    memset(command, 0, 68);
+    put32(command, BC_TRANSACTION);
+    put32(command + 4 + 20, TF_ONE_WAY);
+    put32(command + 4 + 32, data);
+}
+
+/* What a client reads of its calls: a BR_NOOP, and then this. */
+static bool is_told(const uint8_t *stream, size_t size, uint32_t code)
+{
+    uint8_t wanted[8];
+    put32(wanted, BR_NOOP);
+    put32(wanted + 4, code);
+    return (size == sizeof wanted && !memcmp(stream, wanted, size)) || fails("other returns");
+}
+
+static const uint8_t zeros[WINDOW / 4];
+
+/* ---- a driver */
+
+struct run {
+    hullpippin_driver driver;
+    hullpippin_seat seats[2];
+};
+
+static bool calls(struct run *run, uint32_t data, uint32_t code)
+{
+    uint8_t command[68], stream[256];
+    hullpippin_answer answer;
+    hullpippin_seat *client = &run->seats[CLIENT];
+    spell_call(command, data);
+    if (!is_made(hullpippin_write(client, command, sizeof command, zeros, sizeof zeros, &answer), &answer, HULLPIPPIN_WROTE))
+        return false;
+    if (!is_made(hullpippin_read(client, sizeof stream, &answer), &answer, HULLPIPPIN_GOT))
+        return false;
+    return is_told(stream, hullpippin_answer_bytes(client, HULLPIPPIN_STREAM, stream, sizeof stream), code);
+}
+
+static bool opens(struct run *run)
+{
+    hullpippin_answer answer;
+    uint8_t enter[4];
+    hullpippin_seat *manager = &run->seats[MANAGER];
+    put32(enter, BC_ENTER_LOOPER);
+    return is_made(hullpippin_open(manager, 100, 1000, WINDOW, &answer), &answer, HULLPIPPIN_OPENED)
+           && is_made(hullpippin_manager(manager, &answer), &answer, HULLPIPPIN_SET)
+           && is_made(hullpippin_write(manager, enter, sizeof enter, HULLPIPPIN_NOWHERE, 0, &answer), &answer, HULLPIPPIN_WROTE)
+           && is_made(hullpippin_open(&run->seats[CLIENT], 200, 2000, WINDOW, &answer), &answer, HULLPIPPIN_OPENED);
+}
+
+/* The client hands over that it asks for reports no longer, and the manager serves it. */
+static bool turns_off(struct run *run)
+{
+    hullpippin_request request = {.kind = HULLPIPPIN_SET_SPAM, .on = false};
+    hullpippin_answer answer;
+    uint32_t picked = 0;
+    uint32_t status = hullpippin_post(&run->seats[CLIENT], &request, HULLPIPPIN_NOWHERE, 0, HULLPIPPIN_NOWHERE, 0);
+    if (status == HULLPIPPIN_NO_MEMORY)
+        return fails("no memory");
+    if (status != HULLPIPPIN_DONE || hullpippin_serve(&run->seats[MANAGER], &picked) != HULLPIPPIN_DONE || picked != 1)
+        return fails("not served");
+    return is_made(hullpippin_collect(&run->seats[CLIENT], &answer), &answer, HULLPIPPIN_SET);
+}
+
+/* A quarter of the window isn't reported, and a byte more is, but only while it is asked for. */
+static bool floods(struct run *run)
+{
+    hullpippin_answer answer;
+    return opens(run) && is_made(hullpippin_set_spam(&run->seats[CLIENT], true, &answer), &answer, HULLPIPPIN_SET)
+           && calls(run, WINDOW / 4, BR_TRANSACTION_COMPLETE) && calls(run, 0, BR_ONEWAY_SPAM_SUSPECT) && turns_off(run)
+           && calls(run, 0, BR_TRANSACTION_COMPLETE);
+}
+
+static bool is_done(uint32_t status)
+{
+    return status == HULLPIPPIN_DONE || fails(status == HULLPIPPIN_NO_MEMORY ? "no memory" : "not made");
+}
+
+static bool floods_a_driver(void)
+{
+    struct run run = {HULLPIPPIN_NO_DRIVER, {HULLPIPPIN_NO_SEAT, HULLPIPPIN_NO_SEAT}};
+    if (hullpippin_new(0, &run.driver) != HULLPIPPIN_SEAT_COUNT || hullpippin_new(MOST_SEATS + 1, &run.driver) != HULLPIPPIN_SEAT_COUNT)
+        return fails("other numbers of seats");
+    if (!is_done(hullpippin_new(MOST_SEATS, &run.driver)))
+        return false;
+    bool done = is_done(hullpippin_take_seat(&run.driver, &run.seats[MANAGER]))
+                && is_done(hullpippin_take_seat(&run.driver, &run.seats[CLIENT])) && floods(&run);
+    for (int i = 0; i < 2; i++)
+        if (run.seats[i].at)
+            hullpippin_free_seat(&run.seats[i]);
+    hullpippin_free_driver(&run.driver);
+    return done;
+}
+
+/* ---- a live engine */
+
+static bool live_calls(hullpippin_live *live, uint32_t data, uint32_t code)
+{
+    uint8_t command[68], stream[256];
+    hullpippin_answer answer;
+    spell_call(command, data);
+    if (!is_made(hullpippin_live_command(live, CLIENT, command, sizeof command, zeros, data, HULLPIPPIN_NOWHERE, 0, &answer), &answer,
+                 HULLPIPPIN_WROTE))
+        return false;
+    if (!is_made(hullpippin_live_read(live, CLIENT, sizeof stream, &answer), &answer, HULLPIPPIN_GOT))
+        return false;
+    return is_told(stream, hullpippin_live_bytes(live, HULLPIPPIN_STREAM, stream, sizeof stream), code);
+}
+
+static bool live_floods(hullpippin_live *live)
+{
+    hullpippin_answer answer;
+    return is_made(hullpippin_live_open(live, MANAGER, 100, 1000, WINDOW, &answer), &answer, HULLPIPPIN_OPENED)
+           && is_made(hullpippin_live_manager(live, MANAGER, &answer), &answer, HULLPIPPIN_SET)
+           && is_made(hullpippin_live_open(live, CLIENT, 200, 2000, WINDOW, &answer), &answer, HULLPIPPIN_OPENED)
+           && is_made(hullpippin_live_set_spam(live, CLIENT, true, &answer), &answer, HULLPIPPIN_SET)
+           && live_calls(live, WINDOW / 4, BR_TRANSACTION_COMPLETE) && live_calls(live, 0, BR_ONEWAY_SPAM_SUSPECT)
+           && is_made(hullpippin_live_set_spam(live, CLIENT, false, &answer), &answer, HULLPIPPIN_SET)
+           && live_calls(live, 0, BR_TRANSACTION_COMPLETE);
+}
+
+/* What a journal of so many seats begins with: there is none for more than a driver may have. */
+static bool has_heading(hullpippin_live *live, uint32_t seats)
+{
+    uint8_t heading[16];
+    size_t size = 0;
+    uint32_t status = hullpippin_live_heading(live, 0, heading, sizeof heading, &size);
+    if (seats > MOST_SEATS)
+        return status == HULLPIPPIN_NO_JOURNAL || status == HULLPIPPIN_NO_MEMORY || fails("a heading for too many seats");
+    return is_done(status) && ((size == sizeof heading && !memcmp(heading, "BNDJ0002", 8)) || fails("another heading"));
+}
+
+static bool floods_a_live_engine(uint32_t seats)
+{
+    hullpippin_live live = HULLPIPPIN_NO_LIVE;
+    if (!is_done(hullpippin_live_new(seats, &live)))
+        return false;
+    bool done = live_floods(&live) && has_heading(&live, seats);
+    hullpippin_free_live(&live);
+    return done;
+}
+
+int main(void)
+{
+    bool done = floods_a_driver() && floods_a_live_engine(MOST_SEATS) && floods_a_live_engine(MOST_SEATS + 1);
+    if (!done)
+        fprintf(stderr, "flooding: %s\n", complaint);
+    return done ? 0 : 1;
+}
