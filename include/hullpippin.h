@@ -29,6 +29,7 @@
  *  - No two pointers of one call lead to memory that overlaps, where one of them is written through. A buffer of size 0
  *    may be given as HULLPIPPIN_NOWHERE or HULLPIPPIN_NO_NUMBERS, or as any other aligned pointer but NULL.
  *  - A seat goes back to the driver that it was taken off.
+ *  - A bool that is handed over is 0 or 1, also in a request that the program read from elsewhere.
  *  - No call is made in a signal handler, or in the forked child of a process with threads. malloc aligns to 16.
  *
  * Bytes that are given to a call stay the caller's, and may go once the call is back: the library copies them. Bytes
