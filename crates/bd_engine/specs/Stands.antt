@@ -10,6 +10,7 @@ use Rattle.bd_processes.specs.declared.table.ProcessTable.{ProcessTable}
 use Rattle.bd_processes.specs.Stands.{ProcessesAre}
 use Rattle.bd_objects.specs.Stands as objects
 use Rattle.bd_objects.specs.Room as object_rooms
+use Rattle.bd_objects.specs.declared.room.Room.{Room}
 use Rattle.bd_calls.specs.Stands as calls
 use Rattle.bd_calls.specs.Room as call_rooms
 use Rattle.bd_calls.specs.Stacked.{IsStacked}
@@ -99,11 +100,10 @@ UsesNothing old new = Uses old new 0 0 0 0
 abbrev pub CanFollow : Tables → ℕ → Type 0
 CanFollow t works = call_rooms.frame_count t.calls + works ≤ call_rooms.work_room t.calls
 
--- room for a step: for so many objects, references, names and work items, a thread, a frame, a one-way call and a death
--- notification, for a call that ripens and for those that may close
-pub record HasRoom (t : Tables) (objects references names works : ℕ) : Type 0 where
-  pub in_objects : object_rooms.HasRoom t.objects
-      (record { objects = objects; references = references; names = names; deaths = 1 })
+-- room for a step: this among the objects, for so many work items, a thread, a frame, a one-way call, for a call that
+-- ripens and for those that may close
+pub record HasRoom (t : Tables) (room : Room) (works : ℕ) : Type 0 where
+  pub in_objects : object_rooms.HasRoom t.objects room
   pub threads_fit : 1 ≤ call_rooms.thread_room t.calls
   pub frames_fit : 1 ≤ call_rooms.frame_room t.calls
   pub turns_fit : 1 ≤ call_rooms.turn_room t.calls

@@ -24,7 +24,7 @@ ghost use Rattle.bd_engine.specs.Meets.{IsBy, IsKept, IsStep};
 ghost use Rattle.bd_engine.specs.Deliveries.{IsInside, Spends};
 
 use crate::answer::Plain;
-use crate::tables::Tables;
+use crate::tables::{NOTHING, Tables};
 use crate::touched::in_order;
 use crate::why::Why;
 use bd_parcel::put_object;
@@ -140,7 +140,7 @@ impl Tables {
         let mut touched = Vec::new(self.alloc);
         self.objects.referred(made, &mut touched)?;
         let touched = in_order(touched);
-        self.reserve(0, 0, 0, touched.len())?;
+        self.reserve(NOTHING, touched.len())?;
         Ok(touched)
     }
 

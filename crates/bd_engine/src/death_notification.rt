@@ -20,8 +20,9 @@ ghost use Rattle.bd_engine.specs.Meets.{IsBy, IsStep};
 ghost use Rattle.bd_engine.specs.Telling.{owed};
 
 use crate::answer::Plain;
-use crate::tables::Tables;
+use crate::tables::{NOTHING, Tables};
 use crate::why::Why;
+use bd_objects::Room;
 use bd_space::{Actor, DeathNotification, ObjectId, Phase, TodoList, WorkKind};
 use bd_uapi::Note;
 
@@ -79,7 +80,11 @@ impl Tables {
             Ok(o) => o,
             Err(note) => return Ok(Plain::Noted(note)),
         };
-        if self.reserve(0, 0, 0, 1).is_err() {
+        let room = Room {
+            deaths: 1,
+            ..NOTHING
+        };
+        if self.reserve(room, 1).is_err() {
             return Err(Why::NoMemory);
         }
         self.add_request(a.process.made, o, cookie);
@@ -116,7 +121,7 @@ impl Tables {
             Ok(x) => x,
             Err(note) => return Ok(Plain::Noted(note)),
         };
-        if self.reserve(0, 0, 0, 1).is_err() {
+        if self.reserve(NOTHING, 1).is_err() {
             return Err(Why::NoMemory);
         }
         self.drop_request(a.thread.seat, x);
@@ -144,7 +149,7 @@ impl Tables {
             Some(x) => x,
             None => return Ok(Plain::Noted(Note::NoneTold)),
         };
-        if self.reserve(0, 0, 0, 1).is_err() {
+        if self.reserve(NOTHING, 1).is_err() {
             return Err(Why::NoMemory);
         }
         self.know_death(a.thread.seat, x);

@@ -26,7 +26,7 @@ use crate::sending::Sending;
 use crate::tables::Tables;
 use crate::touched::in_order;
 use bd_buffers::needed;
-use bd_objects::NumbersFull;
+use bd_objects::{NumbersFull, Room};
 use bd_space::{Actor, Buffer, Item, Object, ObjectId, Parcel, Process, TodoList};
 use bd_uapi::{Cause, TransactionData};
 use std::alloc::{AllocError, Global};
@@ -181,7 +181,13 @@ impl Tables {
             .ok_or(AllocError)?;
         let touched = in_order(objects_of(self.alloc, v.items())?);
         self.windows.reserve_buffer(v.receiver())?;
-        self.reserve(v.made().len(), references, items, works)?;
+        let room = Room {
+            objects: v.made().len(),
+            references,
+            names: items,
+            deaths: 0,
+        };
+        self.reserve(room, works)?;
         Ok(touched)
     }
 
@@ -294,7 +300,7 @@ impl Tables {
     // The objects, the references and the names.
     fn known_by(&mut self, v: &Delivery) -> Result<(), NumbersFull>
         requires { object_rooms.HasRoom self.old.objects
-            (record (object_rooms.delivery_room v.now.sending.made v.now.sending.items) { deaths = 1 }) }
+            (object_rooms.delivery_room v.now.sending.made v.now.sending.items) }
         ensures ok { OnOk result (MakesWhere (Before self.old) (SendsNew v.now) (Before self.new)
             (λ s. spec.known_by s v.now)) }
         ensures err { OnErr result (IsKept self.old self.new) }

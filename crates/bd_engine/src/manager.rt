@@ -9,8 +9,9 @@ ghost use Rattle.bd_engine.specs.Stands.{TellsBefore, Within};
 ghost use Rattle.bd_engine.specs.Meets.{IsBy, IsStep};
 
 use crate::answer::Plain;
-use crate::tables::Tables;
+use crate::tables::{NOTHING, Tables};
 use crate::why::Why;
+use bd_objects::Room;
 use bd_space::{Actor, ObjectId};
 use bd_uapi::Fault;
 
@@ -43,7 +44,12 @@ impl Tables {
         if self.is_manager_busy(a.process.made) {
             return Ok(Plain::Refused(Fault::ManagerBusy));
         }
-        if self.reserve(1, 1, 0, 0).is_err() {
+        let room = Room {
+            objects: 1,
+            references: 1,
+            ..NOTHING
+        };
+        if self.reserve(room, 0).is_err() {
             return Err(Why::NoMemory);
         }
         self.with_manager(a.process.made);

@@ -19,7 +19,7 @@ ghost use Rattle.bd_engine.specs.Meets.{IsAny, IsBy, IsKept, IsStep};
 
 use crate::answer::Plain;
 use crate::exit::Exit;
-use crate::tables::Tables;
+use crate::tables::{NOTHING, Tables};
 use crate::why::Why;
 use bd_buffers::Window;
 use bd_space::{Actor, DeathNotification, Process};
@@ -102,7 +102,7 @@ impl Tables {
         ensures windows { OnOk result (1 ≤ window_room self.new.windows) }
         ensures threads { OnOk result (1 ≤ thread_room self.new.calls) }
     {
-        self.reserve(0, 0, 0, 0)?;
+        self.reserve(NOTHING, 0)?;
         self.processes.reserve()?;
         self.windows.reserve()?;
         Window::new(self.alloc, size)

@@ -19,10 +19,11 @@ ghost use Rattle.bd_engine.specs.Meets.{Meets, IsBy, IsKept, IsStepTwice};
 ghost use Rattle.bd_engine.specs.Taking.{AreTaken, IsReading};
 
 use crate::answer::{Plain, Twice};
-use crate::tables::Tables;
+use crate::tables::{NOTHING, Tables};
 use crate::touched::in_order;
 use crate::why::Why;
 use bd_codec::write_return;
+use bd_objects::Room;
 use bd_space::{Actor, Buffer, Bytes, ObjectId, StepAnswer, Thread, TodoList, Work, WorkKind};
 use bd_uapi::{Fault, Return};
 use std::alloc::{AllocError, Global};
@@ -124,12 +125,15 @@ fn again_if(asked: bool, answer: &StepAnswer) -> Result<StepAnswer, AllocError>
     }
 }
 
+// What a reading of one work item mostly has: the Noop and the longest return.
+const LONGEST_OF_ONE: usize = 4 + 68;
+
 // Nothing is taken yet.
 fn begin(alloc: Global) -> Result<Taking, AllocError>
     ensures works { IfOk result (λ t. t.works.items ≡ []) }
     ensures stream { IfOk result (λ t. t.stream.items ≡ return_bytes Noop) }
 {
-    let mut stream = Vec::new(alloc);
+    let mut stream = Vec::with_capacity(alloc, LONGEST_OF_ONE)?;
     if write_return(&Return::Noop, &mut stream).is_err() {
         return Err(AllocError);
     }
@@ -214,7 +218,13 @@ impl Tables {
         ensures works { OnOk result (touched ≤ work_room self.new.calls) }
     {
         let references = works.checked_mul(2).ok_or(AllocError)?;
-        self.reserve(0, references, 0, touched)
+        self.reserve(
+            Room {
+                references,
+                ..NOTHING
+            },
+            touched,
+        )
     }
 
     // The thread of a seat has read these work items, by which the buffer made there is handed over.

@@ -11,9 +11,9 @@ ghost use Rattle.bd_engine.specs.Stands.{MakesOfTidy, PassesLimit};
 ghost use Rattle.bd_engine.specs.Meets.{IsBy, IsKept, IsStep};
 
 use crate::answer::Plain;
-use crate::tables::Tables;
+use crate::tables::{NOTHING, Tables};
 use crate::why::Why;
-use bd_objects::NumbersFull;
+use bd_objects::{NumbersFull, Room};
 use bd_space::{Actor, ObjectId};
 
 impl Tables {
@@ -49,7 +49,12 @@ impl Tables {
             Ok(o) => o,
             Err(note) => return Ok(Plain::Noted(note)),
         };
-        if self.reserve(0, 1, 1, 0).is_err() {
+        let room = Room {
+            references: 1,
+            names: 1,
+            ..NOTHING
+        };
+        if self.reserve(room, 0).is_err() {
             return Err(Why::NoMemory);
         }
         match self.add_asked(a.process.made, o, strong) {
@@ -75,7 +80,7 @@ impl Tables {
             Ok(o) => o,
             Err(note) => return Ok(Plain::Noted(note)),
         };
-        if self.reserve(0, 0, 0, 0).is_err() {
+        if self.reserve(NOTHING, 0).is_err() {
             return Err(Why::NoMemory);
         }
         self.lose_asked(a.process.made, o, strong);
@@ -105,7 +110,7 @@ impl Tables {
             Ok(x) => x,
             Err(note) => return Ok(Plain::Noted(note)),
         };
-        if self.reserve(0, 0, 0, 0).is_err() {
+        if self.reserve(NOTHING, 0).is_err() {
             return Err(Why::NoMemory);
         }
         self.lose_handshake(x.id, strong);

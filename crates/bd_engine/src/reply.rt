@@ -15,7 +15,7 @@ ghost use Rattle.bd_engine.specs.Deliveries.{IsDeliverable, IsReady, Delivers, S
 
 use crate::answer::Plain;
 use crate::delivery::Delivery;
-use crate::tables::Tables;
+use crate::tables::{NOTHING, Tables};
 use crate::why::Why;
 use bd_objects::NumbersFull;
 use bd_space::{Actor, Frame, Parcel, WorkKind};
@@ -118,7 +118,7 @@ impl Tables {
             (λ s. outcomes.stopped cause (spec.reply_refused s seat f)) result }
         ensures memory { IfErr result (λ why. why ≡ Why.NoMemory) }
     {
-        if self.reserve(0, 0, 0, 2).is_err() {
+        if self.reserve(NOTHING, 2).is_err() {
             return Err(Why::NoMemory);
         }
         self.refuse_reply(seat, f);

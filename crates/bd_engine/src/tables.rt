@@ -9,6 +9,14 @@ use bd_processes::ProcessTable;
 use bd_space::ObjectId;
 use std::alloc::{AllocError, Global};
 
+/// For a step that makes nothing among the objects.
+pub(crate) const NOTHING: Room = Room {
+    objects: 0,
+    references: 0,
+    names: 0,
+    deaths: 0,
+};
+
 /// The tables of an engine.
 #[derive(Drop)]
 pub(crate) struct Tables {
@@ -43,26 +51,15 @@ impl Tables {
         }
     }
 
-    /// Makes room for a step: for so many objects, references, names and work items, and for the calls that may ripen or
-    /// close. Changes nothing else, also where memory is refused.
-    pub(crate) fn reserve(
-        &mut self,
-        objects: usize,
-        references: usize,
-        names: usize,
-        works: usize,
-    ) -> Result<(), AllocError>
+    /// Makes room for a step: this among the objects, for so many work items, and for the calls that may ripen or close.
+    /// Changes nothing else, also where memory is refused.
+    pub(crate) fn reserve(&mut self, room: Room, works: usize) -> Result<(), AllocError>
         ensures stands { IsKept self.old self.new }
-        ensures room { OnOk result (HasRoom self.new objects references names works) }
+        ensures room { OnOk result (HasRoom self.new room works) }
         ensures windows { self.new.windows ≡ self.old.windows }
         ensures count { object_rooms.object_count self.new.objects ≤ object_rooms.object_count self.old.objects }
     {
-        self.objects.reserve(Room {
-            objects,
-            references,
-            names,
-            deaths: 1,
-        })?;
+        self.objects.reserve(room)?;
         self.calls.reserve(works)
     }
 }

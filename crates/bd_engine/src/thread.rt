@@ -19,7 +19,7 @@ ghost use Rattle.bd_engine.specs.Meets.{IsAny, IsBy, IsStep};
 ghost use Rattle.bd_engine.specs.Handed.{without_handed, without_all_handed};
 
 use crate::answer::Plain;
-use crate::tables::Tables;
+use crate::tables::{NOTHING, Tables};
 use crate::why::Why;
 use bd_buffers::Windows;
 use bd_links::{Works, hands_out};
@@ -115,7 +115,7 @@ impl Tables {
         let Some(process) = self.process_with_pid(pid) else {
             return Ok(Plain::Refused(Fault::NoSuchPid));
         };
-        if self.reserve(0, 0, 0, 0).is_err() {
+        if self.reserve(NOTHING, 0).is_err() {
             return Err(Why::NoMemory);
         }
         self.with_thread(seat, process.made);

@@ -11,7 +11,7 @@ ghost use Rattle.bd_engine.specs.Meets.{IsAny, IsStep};
 ghost use Rattle.bd_engine.specs.Deliveries.{Spends};
 
 use crate::answer::Plain;
-use crate::tables::Tables;
+use crate::tables::{NOTHING, Tables};
 use crate::why::Why;
 use bd_space::{Frame, TodoList, WorkKind};
 use bd_uapi::{Cause, Return};
@@ -41,7 +41,7 @@ impl Tables {
             (λ s. outcomes.stopped cause (todo.owe s (OfThread seat) (kinds.Refusal told))) result }
         ensures memory { IfErr result (λ why. why ≡ Why.NoMemory) }
     {
-        if self.reserve(0, 0, 0, 1).is_err() {
+        if self.reserve(NOTHING, 1).is_err() {
             return Err(Why::NoMemory);
         }
         self.owe(seat, WorkKind::Refusal(told));

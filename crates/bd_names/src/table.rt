@@ -45,6 +45,10 @@ impl NameTable {
         // Memory was asked for: there was no room.
         ensures grown { OnErr result (more ≤ name_room self.old → ⊥) }
     {
+        // Most steps give none.
+        if more == 0 {
+            return Ok(());
+        }
         self.names.reserve(more)?;
         reserve_held(&mut self.held, &self.names, *self.given.allocator(), more)?;
         self.given.reserve(more)

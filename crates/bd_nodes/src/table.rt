@@ -59,6 +59,10 @@ impl NodeTable {
         // Memory was asked for: there was no room.
         ensures grown { OnErr result (more ≤ node_room self.old → ⊥) }
     {
+        // Most steps make none.
+        if more == 0 {
+            return Ok(());
+        }
         self.objects.reserve(more)?;
         self.owns.reserve(more)?;
         if self.owned.is_worn(self.objects.len(), more) {

@@ -51,6 +51,9 @@ impl ReferenceTable {
         // There was no room: memory was asked for, or more would come in than `made` can count.
         ensures grown { OnErr result (more ≤ reference_room self.old → ⊥) }
     {
+        if more == 0 {
+            return Ok(());
+        }
         if more as u64 > u64::MAX - self.made {
             return Err(AllocError);
         }
