@@ -8,5 +8,6 @@ pub mod OneByOne
 pub mod OneWay
 pub mod Plain
 pub mod Rooms
+pub mod Seats
 pub mod Settling
 pub mod Works

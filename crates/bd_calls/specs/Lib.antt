@@ -1,4 +1,5 @@
 pub mod Turn
+pub mod Ready
 pub mod Stands
 pub mod Room
 pub mod Losing

@@ -1,4 +1,5 @@
--- What a call table stands for: the threads, frames, work items and one-way calls of the object space.
+-- What a call table stands for: the threads, frames, work items and one-way calls of the object space,
+-- and what is kept of the seats is so.
 use Rattle.std.specs.Prelude.{◌≡◌, List}
 use Rattle.bd_space.specs.declared.space.Thread.{Thread}
 use Rattle.bd_space.specs.declared.space.Frame.{Frame}
@@ -10,6 +11,7 @@ use Rattle.bd_frames.specs.Stands.{FramesAre}
 use Rattle.bd_links.specs.Stands.{WorksAre}
 use Rattle.bd_turns.specs.Stands.{TurnsAre}
 use Rattle.bd_threads.specs.Listed.{listed}
+use Rattle.bd_calls.specs.Ready.{AreSeen}
 use Rattle.bd_calls.specs.declared.table.CallTable.{CallTable}
 
 pub record Stands (t : CallTable) (threads : List Thread) (frames : List Frame) (todo : List Work)
@@ -18,6 +20,7 @@ pub record Stands (t : CallTable) (threads : List Thread) (frames : List Frame) 
   pub frames_are : FramesAre t.frames frames
   pub todo_are : WorksAre t.todo todo
   pub turns_are : TurnsAre t.turns turns
+  pub ready_are : AreSeen t.ready threads todo
 
 abbrev pub StandsFor : CallTable → Space → Type 0
 StandsFor t s = Stands t s.threads s.frames s.todo (turns_of s.buffers)

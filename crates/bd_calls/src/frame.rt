@@ -211,6 +211,7 @@ impl CallTable {
     {
         let parent = newest_made(&self.frames, seat);
         let list = list_from(&self.threads, &self.frames, parent, process);
+        self.ready.forget_list(list);
         self.todo.push(place, list, WorkKind::Call(place));
         let frame = Frame {
             made: place,

@@ -2,6 +2,7 @@
 #![tactic(auto)]
 
 mod frame;
+mod ready;
 mod table;
 mod thread;
 mod todo_list;

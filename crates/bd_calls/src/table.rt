@@ -4,6 +4,7 @@
 ghost use Rattle.std.specs.Prelude.{◌≡◌, ◌+◌, ◌≤◌, ◌^◌, IfOk, OnOk, OnErr};
 
 use crate::frame::{leave_frames, lose_unread, serve};
+use crate::ready::ReadySeats;
 use crate::turn::{hand_out_taken, lose_turns};
 use bd_frames::FrameTable;
 use bd_links::WorkTable;
@@ -19,6 +20,7 @@ pub struct CallTable {
     pub(crate) frames: FrameTable,
     pub(crate) todo: WorkTable,
     pub(crate) turns: TurnTable,
+    pub(crate) ready: ReadySeats,
 }
 
 impl CallTable {
@@ -39,6 +41,7 @@ impl CallTable {
             frames: FrameTable::new(alloc),
             todo: WorkTable::new(alloc),
             turns: TurnTable::new(alloc),
+            ready: ReadySeats::new(alloc),
         }
     }
 
@@ -69,12 +72,31 @@ impl CallTable {
         self.todo.reserve(works)
     }
 
+    /// From now on what is seen of so many seats is kept, by which they are ready: a step then looks at those alone that it may
+    /// have changed. Fails for want of memory, and then changes nothing.
+    pub fn keep_ready(&mut self, alloc: Global, seats: u32) -> Result<(), AllocError>
+        ensures stands { Makes (StandsFor self.old) (StandsFor self.new) (λ s. s) }
+        ensures uses { UsesNothing self.old self.new }
+    {
+        self.ready = ReadySeats::for_seats(alloc, seats)?;
+        Ok(())
+    }
+
+    /// Looks anew at the seats of which a change may have told otherwise than is kept.
+    pub fn refresh_ready(&mut self)
+        ensures stands { Makes (StandsFor self.old) (StandsFor self.new) (λ s. s) }
+        ensures uses { UsesNothing self.old self.new }
+    {
+        self.ready.refresh(&self.threads, &self.todo);
+    }
+
     /// A seat's thread has read these work items: they go, the frames of the calls among them are served by it, and the
     /// one-way call among them is handed out.
     pub fn read_by(&mut self, seat: u32, taken: &[Work])
         ensures stands { Makes (StandsFor self.old) (StandsFor self.new) (λ s. reading.read_by s seat taken.now) }
         ensures uses { UsesNothing self.old self.new }
     {
+        self.ready.forget_lists_of(taken);
         serve(&mut self.frames, seat, taken);
         self.todo.remove_taken(taken);
         hand_out_taken(&mut self.turns, taken);
@@ -90,6 +112,7 @@ impl CallTable {
         lose_turns(&mut self.turns, &self.todo, list);
         self.todo.clear_list(list);
         self.threads.remove(seat);
+        self.ready.forget_all();
     }
 
     /// A process without threads ends: its list goes, and the one-way calls in its window.
@@ -101,5 +124,6 @@ impl CallTable {
         lose_unread(&mut self.frames, &self.todo, list);
         self.turns.remove_received(process);
         self.todo.clear_list(list);
+        self.ready.forget_all();
     }
 }

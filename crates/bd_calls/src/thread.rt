@@ -41,6 +41,7 @@ impl CallTable {
         ensures stands { MakesAt place (StandsFor self.old) (StandsFor self.new) (λ s. with_thread s seat process) }
         ensures uses { Uses self.old self.new (record nothing { threads = 1 }) }
     {
+        self.ready.forget_all();
         self.threads.push(Thread {
             made: place,
             seat,
@@ -54,6 +55,7 @@ impl CallTable {
         ensures stands { Makes (StandsFor self.old) (StandsFor self.new) (λ s. with_looping s seat looping) }
         ensures uses { UsesNothing self.old self.new }
     {
+        self.ready.forget_all();
         self.threads.set_looping(seat, looping);
     }
 }

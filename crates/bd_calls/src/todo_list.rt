@@ -17,13 +17,14 @@ ghost use Rattle.bd_links.specs.TodoList as replies;
 ghost use Rattle.bd_links.specs.TodoList.{AnswersBy};
 
 use crate::frame::is_in_no_call;
+use crate::ready::has_seen;
 use crate::table::CallTable;
 use bd_frames::FrameTable;
 use bd_links::{WorkTable, Works};
 use bd_space::{Frame, ObjectId, Thread, TodoList, Work, WorkKind};
 
 // The thread has entered the loop and is in no call.
-fn is_idle(frames: &FrameTable, thread: &Thread) -> bool
+pub(crate) fn is_idle(frames: &FrameTable, thread: &Thread) -> bool
     ensures { frame_table.Tells frames.now result
         (λ l. thread.now.looping && is_none (innermost_in l thread.now.seat)) }
 {
@@ -97,13 +98,23 @@ impl CallTable {
         self.todo.first_reply(list)
     }
 
-    /// Whether a seat's thread has anything to read.
-    pub fn is_ready(&self, seat: u32) -> bool
+    // Whether a seat's thread has anything to read, of which nothing is kept.
+    fn is_found_ready(&self, seat: u32) -> bool
         ensures { Tells (StandsFor self.now) result (λ s. is_ready s seat) }
     {
         match self.threads.thread(seat) {
             Some(thread) => has_to_read(&self.frames, &self.todo, &thread),
             None => false,
+        }
+    }
+
+    /// Whether a seat's thread has anything to read.
+    pub fn is_ready(&self, seat: u32) -> bool
+        ensures { Tells (StandsFor self.now) result (λ s. is_ready s seat) }
+    {
+        match self.ready.seen(seat) {
+            Some(seen) => has_seen(&self.frames, &seen),
+            None => self.is_found_ready(seat),
         }
     }
 
@@ -113,6 +124,7 @@ impl CallTable {
         ensures stands { MakesAt place (StandsFor self.old) (StandsFor self.new) (λ s. spec.owe s list kind) }
         ensures uses { Uses self.old self.new (record nothing { works = 1 }) }
     {
+        self.ready.forget_list(list);
         self.todo.push(place, list, kind);
     }
 
@@ -123,7 +135,9 @@ impl CallTable {
         ensures uses { Uses self.old self.new (record nothing { works = 1 }) }
     {
         if let Some(seat) = frame.caller {
-            self.todo.push(place, TodoList::OfThread(seat), kind);
+            let list = TodoList::OfThread(seat);
+            self.ready.forget_list(list);
+            self.todo.push(place, list, kind);
         }
     }
 
@@ -139,6 +153,7 @@ impl CallTable {
             → StandsFor self.new (notices.work_goes s) }
         ensures uses { UsesNothing self.old self.new }
     {
+        self.ready.forget_all();
         self.todo.keep_kinds(f);
     }
 
@@ -153,6 +168,7 @@ impl CallTable {
         ensures uses { Uses self.old self.new (record nothing { works = 1 }) }
     {
         if wanted && !self.todo.has_notice(object) {
+            self.ready.forget_list(list);
             self.todo.push(place, list, WorkKind::Notice(object));
         }
     }
@@ -163,7 +179,10 @@ impl CallTable {
             (λ s. record s { todo = filter (λ w. not (spec.is_notice object w.kind)) s.todo }) }
         ensures uses { UsesNothing self.old self.new }
     {
-        self.todo.withdraw_notice(object);
+        if self.todo.has_notice(object) {
+            self.ready.forget_all();
+            self.todo.withdraw_notice(object);
+        }
     }
 
     /// The work item of a death notification goes.
@@ -172,6 +191,7 @@ impl CallTable {
             (λ s. record s { todo = filter (λ w. not (is_some_and (spec.death_of w.kind) (λ n. n == made))) s.todo }) }
         ensures uses { UsesNothing self.old self.new }
     {
+        self.ready.forget_all();
         self.todo.withdraw_death(made);
     }
 }

@@ -4,7 +4,7 @@
 ghost use Rattle.std.specs.Prelude.{ℕ, Bool, List, ◌≡◌, ◌==◌, ◌||◌, ◌&&◌, ◌+◌, ◌<◌, ◌≤◌, ◌^◌, ◌++◌, ◌∷◌, [], false, not, nat_le, map, filter, find, reverse, length, count_by, Option, Some, None, option_map, IfOk, OnOk, OnErr, vec_len, vec_capacity};
 ghost use Rattle.std.specs.Option.{option_to_list};
 ghost use Rattle.std.specs.List.{list_any};
-ghost use Rattle.bd_space.specs.Words.{first_of};
+ghost use Rattle.bd_space.specs.Words.{first_of, is_some_and};
 ghost use Rattle.bd_space.specs.Todo as works;
 ghost use Rattle.bd_space.specs.ThreadExits as exits;
 ghost use Rattle.bd_space.specs.Turns as spec;
@@ -13,8 +13,10 @@ ghost use Rattle.bd_links.specs.Stands as links;
 ghost use Rattle.bd_space.specs.declared.space.Work as declared;
 ghost use Rattle.bd_turns.specs.Stands as turn_table;
 ghost use Rattle.bd_turns.specs.Room as turn_rooms;
+ghost use Rattle.bd_calls.specs.Ready as ready_seats;
 ghost use Rattle.bd_calls.specs.Turn.{handed_turns, is_other_than};
 
+use crate::ready::ReadySeats;
 use crate::table::CallTable;
 use crate::work::handed_by;
 use bd_links::{WorkTable, hands_out};
@@ -48,6 +50,15 @@ fn push_first(todo: &mut WorkTable, turn: Option<Turn>, place: u32)
 {
     if let Some(turn) = turn {
         push_untold(todo, turn, place);
+    }
+}
+
+// The list of the call's receiver may change.
+fn forget_receiver(ready: &mut ReadySeats, turn: Option<Turn>)
+    ensures { ready_seats.KeepsOnly ready.old ready.new (λ at x. is_some_and turn (λ t. ready_seats.is_of t.receiver x)) }
+{
+    if let Some(turn) = turn {
+        ready.forget_list(TodoList::OfProcess(turn.receiver));
     }
 }
 
@@ -125,6 +136,7 @@ impl CallTable {
         ensures uses { Uses self.old self.new (record nothing { works = 1 }) }
     {
         let oldest = self.turns.oldest_on(object);
+        forget_receiver(&mut self.ready, oldest);
         push_first(&mut self.todo, oldest, place);
     }
 }

@@ -12,6 +12,8 @@ use Rattle.bd_space.specs.Names.{has_number_past_limit}
 use Rattle.bd_space.specs.Steps.{change, step, counted}
 use Rattle.bd_space.specs.Histories.{History, Follows as EntriesFollow, EntryFollows, next, after, space_after, extended, is_at_limit, history_of}
 use Rattle.bd_buffers.specs.WindowsStand.{WindowsOf}
+use Rattle.bd_calls.specs.declared.table.CallTable.{CallTable}
+use Rattle.bd_calls.specs.Stands.{StandsFor}
 use Rattle.bd_engine.specs.declared.tables.Tables.{Tables}
 use Rattle.bd_engine.specs.Stands.{Before, Within}
 use Rattle.bd_engine.specs.declared.live.Live.{Live}
@@ -101,6 +103,13 @@ follows-step h old new t seat x answer k seated short answered stands same is =
 
 pub follows-kept : (h : History) (old new : Live) → Follows old h → new.seats ≡ old.seats → Before new.tables.value (space_after h) → Follows new h
 follows-kept h old new k same stands = record { seats_are = same ∙ k.seats_are; some = k.some; few = k.few; lawful = k.lawful; stands = stands }
+
+-- ---- what is kept of the seats is looked at anew
+
+pub ready-kept : (t : Tables) (calls : CallTable) (s : Space) → Before t s → StandsFor calls s → Before (record t { calls = calls }) s
+ready-kept t calls s h stands = record { own = h.own; objects_stand = h.objects_stand; calls_stand = stands; windows_stand = h.windows_stand }
+
+-- ---- why a step is refused
 
 pub memory-if : (why : Why) (A : Type 0) → A → MemoryOnly why A
 memory-if NoMemory A x = x

@@ -68,13 +68,14 @@ impl Engine {
         requires { IsSeats seats }
         ensures { IfOk result (λ e. e ≡ record { seats = seats; entries = [] }) }
     {
-        match Live::new(alloc, seats) {
-            Ok(live) => Ok(Engine {
-                entries: Vec::new(alloc),
-                live,
-            }),
-            Err(_) => Err(AllocError),
-        }
+        let Ok(mut live) = Live::new(alloc, seats) else {
+            return Err(AllocError);
+        };
+        live.keep_ready(alloc)?;
+        Ok(Engine {
+            entries: Vec::new(alloc),
+            live,
+        })
     }
 
     // What its memory comes from.
@@ -167,6 +168,7 @@ impl Engine {
         }
         match self.live.make(seat, step, true) {
             Ok(made) => {
+                self.live.refresh_ready();
                 self.entries.push_reserved(made.entry);
                 Ok(made.again)
             }

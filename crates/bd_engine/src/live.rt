@@ -12,7 +12,7 @@ use crate::tables::Tables;
 use crate::why::Why;
 use bd_space::{Entry, Step, StepAnswer};
 use bd_uapi::Fault;
-use std::alloc::Global;
+use std::alloc::{AllocError, Global};
 
 /// What a history has come to, without the history: its entries are handed out, and not kept. It makes at most 4294967295
 /// steps; then it is full.
@@ -76,6 +76,24 @@ impl Live {
         ensures { (h : History) → Follows self.now h → Before result.now (histories.space_after h) }
     {
         &self.tables
+    }
+
+    // From now on it is kept which seats are ready. Errors: memory was refused.
+    pub(crate) fn keep_ready(&mut self, alloc: Global) -> Result<(), AllocError>
+        ensures follows { (h : History) → Follows self.old h → Follows self.new h }
+        ensures seats { self.new.seats ≡ self.old.seats }
+    {
+        let tables = &mut *self.tables;
+        tables.calls.keep_ready(alloc, self.seats)
+    }
+
+    // Looks anew at the seats that a step may have made ready or unready.
+    pub(crate) fn refresh_ready(&mut self)
+        ensures follows { (h : History) → Follows self.old h → Follows self.new h }
+        ensures seats { self.new.seats ≡ self.old.seats }
+    {
+        let tables = &mut *self.tables;
+        tables.calls.refresh_ready();
     }
 
     // The step, with its answer once more where both are asked for.

@@ -9,6 +9,8 @@ use Rattle.bd_space.specs.Todo.{with_work}
 use Rattle.bd_space.specs.Notices.{with_notice, wants_notice, has_notice_in}
 use Rattle.bd_links.specs.Stands.{WorksAre}
 use Rattle.bd_calls.proofs.Works.{works-stand}
+use Rattle.bd_calls.proofs.Seats.{kept-seen, pushed-on}
+use Rattle.bd_calls.specs.Ready.{AreSeen, tells_of}
 use Rattle.bd_calls.proofs.table.CallTable.add_notice.Goals as goal
 
 -- a notice that is wanted and missing is made
@@ -20,7 +22,9 @@ pub returns-then-not-has_notice-clause-stands : goal.returns-then-not-has_notice
 returns-then-not-has_notice-clause-stands c = λ s x h at id wanted.
     let wants = sym wanted ∙ c.if-wanted.true in
     let none = subst (λ o. has_notice_in s.todo o ≡ false) (sym id) (sym (c.has_notice.ensures s.todo h.todo_are) ∙ c.if-not-has_notice.true) in
-    works-stand _ _ s _ h
+    works-stand _ _ _ s _ h
     (subst (WorksAre c.push.new.self) (sym (missing s.steps s.processes s.references c.args.list s.todo x wants none))
     (subst (λ n. WorksAre c.push.new.self (with_work n s.todo c.args.list (Notice x.id))) (sym at)
     (subst (λ o. WorksAre c.push.new.self (with_work c.args.place s.todo c.args.list (Notice o))) (sym id) (c.push.ensures.stands s.todo h.todo_are))))
+    (subst (AreSeen c.forget_list.new.self s.threads) (sym (missing s.steps s.processes s.references c.args.list s.todo x wants none))
+    (kept-seen c.args.self.now.ready c.forget_list.new.self (tells_of c.args.list) s.threads s.todo _ h.ready_are c.forget_list.ensures (λ list seat y. pushed-on s.steps s.todo c.args.list (Notice x.id) list seat y)))

@@ -15,4 +15,5 @@ returns-clause-stands c =
       todo_are = stands.todo_are;
       turns_are = subst (TurnsAre c.push_turn.new.turns) (ap (λ o. turns_of s.buffers ++ option_to_list o) is ∙ sym (turns-add s.buffers b))
           (c.push_turn.ensures.turns _ stands.turns_are);
+      ready_are = stands.ready_are;
     }

@@ -8,6 +8,8 @@ use Rattle.bd_space.specs.Todo.{owe, with_work}
 use Rattle.bd_space.specs.Transactions.{call_out}
 use Rattle.bd_frames.specs.Stands.{FramesAre}
 use Rattle.bd_links.specs.Stands.{WorksAre}
+use Rattle.bd_calls.specs.Ready.{KeepsOnly, tells_of}
+use Rattle.bd_calls.proofs.Seats.{kept-seen, pushed-on}
 use Rattle.bd_calls.proofs.table.CallTable.call_out.Goals as goal
 
 -- a call's frame that nobody has read
@@ -32,4 +34,6 @@ returns-clause-stands c = λ s h k.
       todo_are = subst (λ n. WorksAre c.push.new.self (with_work n s.todo (goes_to s seat p) (Call n))) (sym k.0)
           (subst (λ l. WorksAre c.push.new.self (with_work c.args.place s.todo l (Call c.args.place))) list (c.push.ensures.stands s.todo h.todo_are));
       turns_are = h.turns_are;
+      ready_are = kept-seen c.args.self.now.ready c.forget_list.new.self (tells_of (goes_to s seat p)) s.threads s.todo _ h.ready_are (subst (λ l. KeepsOnly c.args.self.now.ready c.forget_list.new.self (tells_of l)) list c.forget_list.ensures)
+          (λ l at x. pushed-on s.steps s.todo (goes_to s seat p) (Call s.steps) l at x);
     }

@@ -8,4 +8,5 @@ returns-clause-stands c = λ s stands. record {
   frames_are = c.close.ensures.stands s.frames stands.frames_are;
   todo_are = stands.todo_are;
   turns_are = stands.turns_are;
+  ready_are = stands.ready_are;
 }

@@ -12,4 +12,5 @@ returns-clause-stands c =
       frames_are = stands.frames_are;
       todo_are = stands.todo_are;
       turns_are = subst (TurnsAre c.remove.new.self) (sym (turns-without c.args.made s.buffers)) (c.remove.ensures.stands _ stands.turns_are);
+      ready_are = stands.ready_are;
     }

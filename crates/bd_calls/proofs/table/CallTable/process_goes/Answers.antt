@@ -2,6 +2,7 @@ use Rattle.std.proofs.Common.{sym, subst}
 use Rattle.bd_space.specs.ProcessExits.{without_process}
 use Rattle.bd_turns.specs.Stands.{TurnsAre}
 use Rattle.bd_calls.proofs.OneWay.{turns-received}
+use Rattle.bd_calls.proofs.Seats.{none-seen}
 use Rattle.bd_calls.proofs.table.CallTable.process_goes.Goals as goal
 
 pub returns-clause-stands : goal.returns-clause-stands
@@ -13,4 +14,5 @@ returns-clause-stands c =
       frames_are = c.lose_unread.ensures.frames s.todo stands.todo_are _ stands.frames_are;
       todo_are = c.clear_list.ensures.stands _ stands.todo_are;
       turns_are = subst (TurnsAre c.remove_received.new.self) (sym (turns-received c.args.process s.buffers)) (c.remove_received.ensures.stands _ stands.turns_are);
+      ready_are = none-seen c.forget_all.new.self _ _ c.forget_all.ensures;
     }

@@ -1,10 +1,13 @@
 use Rattle.std.proofs.Common.{sym, subst, map}
+use Rattle.std.specs.List.{list_any}
 use Rattle.bd_space.specs.declared.space.Work.{Work}
 use Rattle.bd_space.specs.Words.{first_of}
 use Rattle.bd_space.specs.Todo.{hands_out}
 use Rattle.bd_space.specs.ReadItems.{read_by, buffer_taken}
 use Rattle.bd_turns.specs.Stands.{TurnsAre}
 use Rattle.bd_calls.proofs.OneWay.{turns-handed}
+use Rattle.bd_calls.proofs.Seats.{kept-seen, taken-from}
+use Rattle.bd_calls.specs.Ready.{tells_of}
 use Rattle.bd_calls.proofs.table.CallTable.read_by.Goals as goal
 
 pub returns-clause-stands : goal.returns-clause-stands
@@ -17,4 +20,5 @@ returns-clause-stands c =
       frames_are = c.serve.ensures.frames _ stands.frames_are;
       todo_are = c.remove_taken.ensures.stands _ stands.todo_are;
       turns_are = subst (TurnsAre c.hand_out_taken.new.turns) (sym (turns-handed s.buffers made)) (c.hand_out_taken.ensures.turns _ stands.turns_are);
+      ready_are = kept-seen c.args.self.now.ready c.forget_lists_of.new.self (λ at x. list_any (λ (d : Work). tells_of d.list at x) c.args.taken.now) s.threads s.todo _ stands.ready_are c.forget_lists_of.ensures (taken-from c.args.taken.now s.todo);
     }

@@ -1,16 +1,26 @@
-use Rattle.std.proofs.Common.{sym, subst}
-use Rattle.std.specs.Prelude.{find}
-use Rattle.bd_space.specs.Words.{same}
+use Rattle.std.proofs.Common.{◌≡◌, ℕ, true, false, sym, subst}
+use Rattle.std.specs.Prelude.{find, Option}
+use Rattle.bd_space.specs.declared.space.TodoList.{TodoList}
+use Rattle.bd_space.specs.declared.space.Turn.{Turn}
+use Rattle.bd_space.specs.Words.{same, is_some_and}
+use Rattle.bd_space.specs.Todo.{has_work_in}
+use Rattle.bd_calls.specs.declared.ready.Seen.{Seen}
+use Rattle.bd_calls.specs.Ready.{is_of, tells_of}
 use Rattle.bd_space.specs.Turns.{turns_of}
 use Rattle.bd_space.specs.Local.{ripen_of, first_due}
 use Rattle.bd_links.specs.Stands.{WorksAre}
 use Rattle.bd_calls.proofs.Works.{works-stand}
+use Rattle.bd_calls.proofs.Seats.{kept-seen, due-on}
 use Rattle.bd_calls.proofs.table.CallTable.ripen_on.Goals as goal
 
 pub returns-clause-stands : goal.returns-clause-stands
 unfolding ripen_of
 returns-clause-stands c = λ s h at.
     let turn = c.oldest_on-oldest.ensures (turns_of s.buffers) h.turns_are in
-    works-stand _ _ s _ h
+    works-stand _ _ _ s _ h
     (subst (λ n. WorksAre c.push_first.new.todo (first_due n s.todo (find (λ t. same t.target c.args.object) (turns_of s.buffers)))) (sym at)
     (subst (λ t. WorksAre c.push_first.new.todo (first_due c.args.place s.todo t)) turn (c.push_first.ensures.todo s.todo h.todo_are)))
+    (kept-seen c.args.self.now.ready c.forget_receiver.new.ready (λ at x. is_some_and c.oldest_on-oldest.result (λ t. is_of t.receiver x)) s.threads s.todo _ h.ready_are c.forget_receiver.ensures
+    (subst (λ (o : Option Turn). (list : TodoList) (seat : ℕ) (x : Seen) → is_some_and o (λ t. is_of t.receiver x) ≡ false → tells_of list seat x ≡ true
+    → has_work_in (first_due s.steps s.todo (find (λ t. same t.target c.args.object) (turns_of s.buffers))) list ≡ has_work_in s.todo list)
+    (sym turn) (λ list seat x. due-on s.steps s.todo (find (λ t. same t.target c.args.object) (turns_of s.buffers)) list seat x)))

@@ -4,6 +4,7 @@ use Rattle.bd_space.specs.declared.space.TodoList.TheVariants.{OfThread}
 use Rattle.bd_space.specs.ThreadExits.{thread_goes, is_lost_with}
 use Rattle.bd_turns.specs.Stands.{TurnsAre}
 use Rattle.bd_calls.proofs.OneWay.{turns-lost}
+use Rattle.bd_calls.proofs.Seats.{none-seen}
 use Rattle.bd_calls.proofs.table.CallTable.thread_goes.Goals as goal
 
 pub returns-clause-stands : goal.returns-clause-stands
@@ -18,4 +19,5 @@ returns-clause-stands c =
       todo_are = c.clear_list.ensures.stands _ stands.todo_are;
       turns_are = subst (TurnsAre c.lose_turns.new.turns) (sym (turns-lost (is_lost_with s.todo list) s.buffers))
           (c.lose_turns.ensures.turns s.todo stands.todo_are _ stands.turns_are);
+      ready_are = none-seen c.forget_all.new.self _ _ c.forget_all.ensures;
     }

@@ -1,5 +1,5 @@
-use Rattle.bd_calls.proofs.Works.{works-stand}
+use Rattle.bd_calls.proofs.Works.{works-stand-unseen}
 use Rattle.bd_calls.proofs.table.CallTable.withdraw_death.Goals as goal
 
 pub returns-clause-stands : goal.returns-clause-stands
-returns-clause-stands c = λ s stands. works-stand _ _ s _ stands (c.withdraw_death.ensures.stands s.todo stands.todo_are)
+returns-clause-stands c = λ s stands. works-stand-unseen _ _ _ s _ stands (c.withdraw_death.ensures.stands s.todo stands.todo_are) c.forget_all.ensures

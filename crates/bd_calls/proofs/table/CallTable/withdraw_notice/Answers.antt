@@ -1,5 +1,15 @@
-use Rattle.bd_calls.proofs.Works.{works-stand}
+use Rattle.std.proofs.Common.{sym, subst, ◌∙◌}
+use Rattle.bd_links.specs.Stands.{WorksAre}
+use Rattle.bd_calls.specs.Stands.{Stands}
+use Rattle.bd_space.specs.Turns.{turns_of}
+use Rattle.bd_calls.proofs.Works.{works-stand-unseen}
+use Rattle.bd_calls.proofs.Seats.{no-notice}
 use Rattle.bd_calls.proofs.table.CallTable.withdraw_notice.Goals as goal
 
-pub returns-clause-stands : goal.returns-clause-stands
-returns-clause-stands c = λ s stands. works-stand _ _ s _ stands (c.withdraw_notice.ensures.stands s.todo stands.todo_are)
+pub returns-then-has_notice-clause-stands : goal.returns-then-has_notice-clause-stands
+returns-then-has_notice-clause-stands c = λ s stands. works-stand-unseen _ _ _ s _ stands (c.withdraw_notice.ensures.stands s.todo stands.todo_are) c.forget_all.ensures
+
+pub returns-else-has_notice-clause-stands : goal.returns-else-has_notice-clause-stands
+returns-else-has_notice-clause-stands c = λ s stands.
+    subst (λ ws. Stands c.args.self.now s.threads s.frames ws (turns_of s.buffers))
+    (sym (no-notice c.args.object s.todo (sym (c.has_notice.ensures s.todo stands.todo_are) ∙ c.if-has_notice.false))) stands

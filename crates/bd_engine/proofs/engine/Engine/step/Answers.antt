@@ -12,5 +12,5 @@ invariant_of-self-in-Ok c =
     let h = history_of c.self.inside.live.seats c.self.inside.entries.items in
     let made = c.in-Ok.ensures in
     let pushed = c.push_reserved.ensures.items ∙ ap (λ (es : List Entry). es ++ c.in-Ok.made.entry ∷ []) c.reserve.ensures.items in
-    keeps-more h c.make.new.self c.args.seat c.args.step c.in-Ok.made.entry _ _ c.self.invariant.few made.seat made.step
-    (made.follows h c.self.invariant.follows) made.seats pushed
+    keeps-more h c.refresh_ready.new.self c.args.seat c.args.step c.in-Ok.made.entry _ _ c.self.invariant.few made.seat made.step
+    (c.refresh_ready.ensures.follows _ (made.follows h c.self.invariant.follows)) (c.refresh_ready.ensures.seats ∙ made.seats) pushed

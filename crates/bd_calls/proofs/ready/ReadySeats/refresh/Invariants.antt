@@ -1,0 +1,9 @@
+use Rattle.std.proofs.Common.{List}
+use Rattle.bd_space.specs.declared.space.Work.{Work}
+use Rattle.bd_links.specs.Stands.{WorksAre}
+use Rattle.bd_threads.specs.Listed.{listed}
+use Rattle.bd_calls.specs.Ready.{AreSeen}
+use Rattle.bd_calls.proofs.ready.ReadySeats.refresh.Given as goal
+
+abbrev pub invariant-loop-seat : goal.invariant-loop-seat
+invariant-loop-seat l = (ws : List Work) → WorksAre l.todo ws → AreSeen l.initial.self (listed l.threads) ws → AreSeen l.self (listed l.threads) ws
