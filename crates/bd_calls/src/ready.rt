@@ -187,7 +187,8 @@ impl ReadySeats {
         ensures { (ws : List works.Work) → links.WorksAre todo.now ws → spec.AreSeen self.old (listed threads.now) ws
             → spec.AreSeen self.new (listed threads.now) ws }
     {
-        for seat in 0..MOST_SEATS {
+        let seats = self.seats.len().min(MOST_SEATS as usize) as u32;
+        for seat in 0..seats {
             self.look(threads, todo, seat);
         }
     }
