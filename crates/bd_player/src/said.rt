@@ -54,6 +54,25 @@ impl Said {
     }
 }
 
+// As many bytes are printed at once.
+const RUN: usize = 32;
+
+const DIGITS: &[u8; 16] = b"0123456789abcdef";
+
+// Prints the first bytes in hex, as many as are printed at once.
+fn print_run<W: fmt::Write>(bytes: &[u8], f: &mut fmt::Formatter<W>) -> fmt::Result {
+    let mut digits = [0; 2 * RUN];
+    let count = bytes.len().min(RUN);
+    for at in 0..count {
+        digits[2 * at] = DIGITS[usize::from(bytes[at] / 16)];
+        digits[2 * at + 1] = DIGITS[usize::from(bytes[at] % 16)];
+    }
+    match str::from_utf8(&digits[..2 * count]) {
+        Ok(text) => f.write_str(text),
+        Err(_) => Err(fmt::Error),
+    }
+}
+
 // Bytes in hex, or a dash for none.
 #[derive(Drop)]
 struct Hex<'a>(&'a [u8]);
@@ -61,10 +80,10 @@ struct Hex<'a>(&'a [u8]);
 impl fmt::Display for Hex<'_> {
     fn fmt<W: fmt::Write>(&self, f: &mut fmt::Formatter<W>) -> fmt::Result {
         if self.0.is_empty() {
-            return write!(f, "-");
+            return f.write_str("-");
         }
-        for byte in self.0 {
-            write!(f, "{byte:02x}")?;
+        for run in self.0.chunks(RUN) {
+            print_run(run, f)?;
         }
         Ok(())
     }
