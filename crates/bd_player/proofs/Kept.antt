@@ -4,9 +4,9 @@ use Rattle.std.proofs.lemmas.List.{append-nil}
 use Rattle.std.proofs.KnownBytes.{Appends-kept}
 use Rattle.std.specs.Io.KnownBytes.{Appends, Keeps}
 use Rattle.bd_space.specs.declared.record.Record.{Record}
-use Rattle.bd_journal.specs.Spelling.{IsJournal, journal_bytes}
+use Rattle.bd_journal.specs.Spelling.{IsJournal, Tells, journal_bytes}
 use Rattle.bd_player.specs.Journals.{Wrote}
-use Rattle.bd_player.specs.Verdicts.{IsLawfulAt0, IsVerdict, Judges, JudgesKnown, Spells}
+use Rattle.bd_player.specs.Verdicts.{IsLawfulAt0, IsVerdict, Judges, JudgesKnown}
 use Rattle.bd_player.specs.declared.verdicts.Judged.{Judged}
 use Rattle.bd_player.specs.declared.verdicts.Verdict.TheVariants.{Lawful}
 
@@ -16,7 +16,7 @@ flushed o p q r false j s t = (journal_bytes r, [], sym (append-nil (journal_byt
 
 pub judged : (known : Option (List ℕ)) (bytes : List ℕ) (entries status : ℕ) → IfSome known (λ xs. bytes ≡ xs) → IsVerdict bytes (Lawful entries) → IsLawfulAt0 known status
 judged None bytes entries status same h = λ e. tt
-judged (Some xs) bytes entries status same h = λ e. (h.0, subst (λ (ys : List ℕ). Spells ys h.0) same h.1, h.2.0)
+judged (Some xs) bytes entries status same h = λ e. (h.0, subst (λ (ys : List ℕ). Tells ys h.0) same h.1, h.2.0)
 
 pub judges_known : (known : Option (List ℕ)) (bytes : List ℕ) (j : Judged) → IfSome known (λ xs. bytes ≡ xs) → Judges bytes j → JudgesKnown known j
 judges_known None bytes j same h = tt

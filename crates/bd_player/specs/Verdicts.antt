@@ -11,26 +11,18 @@ use Rattle.bd_player.specs.declared.verdicts.Judged.{Judged}
 use Rattle.bd_player.specs.declared.verdicts.Judged.TheVariants as judged
 use Rattle.bd_player.specs.declared.verdicts.Judged.TheVariants.{History}
 
--- the bytes are all of the spelling of this record, in one of the versions of the format
-abbrev pub Spells : List ℕ → Record → Type 0
-Spells bytes r = Tells bytes r
-
 abbrev pub Holds : Record → Verdict → Type 0
 Holds r (Lawful entries) = IsHistory (history_in r) × (entries ≡ length r.entries)
 Holds r (Unlawful at) = (IsHistory (history_in r) → ⊥) × StopsAt (history_in r) at
 
--- a record has as many seats as a driver may
-abbrev pub HasSeats : Record → Type 0
-HasSeats r = IsSeats r.seats
-
--- what is said of the record holds, and it is handed out as it is
+-- what is said of the record holds, and it is handed out as it is; it has as many seats as a driver may
 abbrev pub IsJudged : Record → Judged → Type 0
-IsJudged r (History h) = (h ≡ r) × HasSeats r × IsHistory (history_in r)
-IsJudged r (judged.Unlawful found at) = (found ≡ r) × HasSeats r × Holds r (Unlawful at)
+IsJudged r (History h) = (h ≡ r) × IsSeats r.seats × IsHistory (history_in r)
+IsJudged r (judged.Unlawful found at) = (found ≡ r) × IsSeats r.seats × Holds r (Unlawful at)
 
 -- that is so of the record that the bytes spell
 abbrev pub Judges : List ℕ → Judged → Type 0
-Judges bytes j = (r : Record) × Spells bytes r × IsJudged r j
+Judges bytes j = (r : Record) × Tells bytes r × IsJudged r j
 
 -- so it is of the record that the bytes spell, where they are known
 abbrev pub JudgesKnown : Option (List ℕ) → Judged → Type 0
@@ -38,13 +30,13 @@ JudgesKnown known j = IfSome known (λ bytes. Judges bytes j)
 
 -- the verdict holds of the record that the bytes spell
 abbrev pub IsVerdict : List ℕ → Verdict → Type 0
-IsVerdict bytes v = (r : Record) × Spells bytes r × Holds r v
+IsVerdict bytes v = (r : Record) × Tells bytes r × Holds r v
 
 -- with the status 0 the bytes, where they are known, spell a history
 abbrev pub IsLawfulAt0 : Option (List ℕ) → ℕ → Type 0
-IsLawfulAt0 known status = status ≡ 0 → IfSome known (λ bytes. (r : Record) × Spells bytes r × IsHistory (history_in r))
+IsLawfulAt0 known status = status ≡ 0 → IfSome known (λ bytes. (r : Record) × Tells bytes r × IsHistory (history_in r))
 
 -- what is handed out as a history is one, and another record stops being one where it is said to
 abbrev pub IsAsSaid : Judged → Type 0
-IsAsSaid (History h) = HasSeats h × IsHistory (history_in h)
-IsAsSaid (judged.Unlawful found at) = HasSeats found × StopsAt (history_in found) at
+IsAsSaid (History h) = IsSeats h.seats × IsHistory (history_in h)
+IsAsSaid (judged.Unlawful found at) = IsSeats found.seats × StopsAt (history_in found) at

@@ -1,6 +1,7 @@
 //! What `bplay` does, apart from its words and files: it plays scripts against a driver, and judges journals.
 #![tactic(auto)]
 
+mod blocks;
 mod faults;
 mod journals;
 mod manner;

@@ -3,9 +3,11 @@
 ghost use Rattle.std.specs.Prelude.{◌≡◌, ◌≤◌, max, false};
 ghost use Rattle.bd_player.specs.Printing.{PrintsLine};
 
+use crate::blocks::Blocks;
 use crate::faults::{DONE, after_writing};
 use crate::said::Said;
 use crate::sink::Sink;
+use std::fmt::Write as _;
 use std::io::Write;
 
 /// Prints what a line said, and answers the status so far. It is the greatest that was asked for, and at least that of
@@ -14,7 +16,9 @@ pub fn print<W: Write>(number: u64, said: &Said, out: &mut W, status: u8) -> u8
     ensures { PrintsLine status result said.now }
 {
     let status = status.max(said.status());
-    after_writing(writeln!(out, "{number}: {said}"), status)
+    let mut line = Blocks::new(out);
+    let written = writeln!(line, "{number}: {said}");
+    after_writing(line.end(written), status)
 }
 
 /// Prints each line's saying as it comes.

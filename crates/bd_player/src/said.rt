@@ -54,37 +54,65 @@ impl Said {
     }
 }
 
-// Bytes in hex, or a dash for none.
-#[derive(Drop)]
-struct Hex<'a>(&'a [u8]);
+// As many bytes are printed at once.
+const RUN: usize = 32;
 
-impl fmt::Display for Hex<'_> {
-    fn fmt<W: fmt::Write>(&self, f: &mut fmt::Formatter<W>) -> fmt::Result {
-        if self.0.is_empty() {
-            return write!(f, "-");
-        }
-        for byte in self.0 {
-            write!(f, "{byte:02x}")?;
-        }
-        Ok(())
+const DIGITS: &[u8; 16] = b"0123456789abcdef";
+
+// Prints the first bytes in hex, as many as are printed at once.
+fn print_run<W: fmt::Write>(bytes: &[u8], f: &mut fmt::Formatter<W>) -> fmt::Result {
+    let mut digits = [0; 2 * RUN];
+    let count = bytes.len().min(RUN);
+    for at in 0..count {
+        digits[2 * at] = DIGITS[usize::from(bytes[at] / 16)];
+        digits[2 * at + 1] = DIGITS[usize::from(bytes[at] % 16)];
+    }
+    match str::from_utf8(&digits[..2 * count]) {
+        Ok(text) => f.write_str(text),
+        Err(_) => Err(fmt::Error),
     }
 }
 
-// Why a write stopped.
-#[derive(Drop)]
-struct StopText(Stop);
+// Prints bytes in hex, or a dash for none, behind a space.
+fn print_bytes<W: fmt::Write>(bytes: &Bytes, f: &mut fmt::Formatter<W>) -> fmt::Result {
+    f.write_str(" ")?;
+    if bytes.as_slice().is_empty() {
+        return f.write_str("-");
+    }
+    for run in bytes.as_slice().chunks(RUN) {
+        print_run(run, f)?;
+    }
+    Ok(())
+}
 
-impl fmt::Display for StopText {
-    fn fmt<W: fmt::Write>(&self, f: &mut fmt::Formatter<W>) -> fmt::Result {
-        match self.0 {
-            Stop::Fault(fault) => {
-                let number = fault_number(fault);
-                write!(f, " stop F{number}")
-            }
-            Stop::Cause(cause) => {
-                let number = cause_number(cause);
-                write!(f, " stop X{number}")
-            }
+// What was read: returns, and a parcel.
+fn print_got<W: fmt::Write>(
+    stream: &Bytes,
+    bytes: &Bytes,
+    offsets: &Bytes,
+    f: &mut fmt::Formatter<W>,
+) -> fmt::Result {
+    f.write_str("got")?;
+    print_bytes(stream, f)?;
+    print_bytes(bytes, f)?;
+    print_bytes(offsets, f)
+}
+
+// What came of a request, up to its places.
+fn print_answer<W: fmt::Write>(answer: &Answer, f: &mut fmt::Formatter<W>) -> fmt::Result {
+    match answer {
+        Answer::Opened => f.write_str("opened"),
+        Answer::Set => f.write_str("set"),
+        Answer::Exited => f.write_str("exited"),
+        Answer::Wrote { consumed, .. } => write!(f, "wrote {consumed}"),
+        Answer::Got {
+            stream,
+            bytes,
+            offsets,
+        } => print_got(stream, bytes, offsets, f),
+        Answer::Refused(fault) => {
+            let number = fault_number(*fault);
+            write!(f, "refused F{number}")
         }
     }
 }
@@ -98,62 +126,42 @@ fn print_notes<W: fmt::Write>(notes: &Notes, f: &mut fmt::Formatter<W>) -> fmt::
     Ok(())
 }
 
-fn print_stop<W: fmt::Write>(stop: Option<Stop>, f: &mut fmt::Formatter<W>) -> fmt::Result {
+// Why a write stopped: a letter and a number.
+fn stop_text(stop: Stop) -> (&'static str, u8) {
+    match stop {
+        Stop::Fault(fault) => ("F", fault_number(fault)),
+        Stop::Cause(cause) => ("X", cause_number(cause)),
+    }
+}
+
+// What a write says behind its places.
+fn print_rest<W: fmt::Write>(
+    notes: &Notes,
+    stop: Option<Stop>,
+    f: &mut fmt::Formatter<W>,
+) -> fmt::Result {
+    print_notes(notes, f)?;
     match stop {
         Some(stop) => {
-            let stop = StopText(stop);
-            write!(f, "{stop}")
+            let (letter, number) = stop_text(stop);
+            write!(f, " stop {letter}{number}")
         }
         None => Ok(()),
     }
 }
 
-// What was read: returns, and a parcel.
-fn print_got<W: fmt::Write>(
-    stream: &Bytes,
-    bytes: &Bytes,
-    offsets: &Bytes,
+// What came of a request that was run, by the steps between these places.
+fn print_done<W: fmt::Write>(
+    answer: &Answer,
+    from: u32,
+    to: u32,
     f: &mut fmt::Formatter<W>,
 ) -> fmt::Result {
-    let stream = Hex(stream.as_slice());
-    let bytes = Hex(bytes.as_slice());
-    let offsets = Hex(offsets.as_slice());
-    write!(f, "got {stream} {bytes} {offsets}")
-}
-
-// An answer with its places.
-#[derive(Drop)]
-struct AnswerText<'a>(&'a Answer, u32, u32);
-
-impl fmt::Display for AnswerText<'_> {
-    fn fmt<W: fmt::Write>(&self, f: &mut fmt::Formatter<W>) -> fmt::Result {
-        let AnswerText(answer, from, to) = self;
-        match answer {
-            Answer::Opened => write!(f, "opened {from} {to}"),
-            Answer::Set => write!(f, "set {from} {to}"),
-            Answer::Exited => write!(f, "exited {from} {to}"),
-            Answer::Wrote {
-                consumed,
-                notes,
-                stop,
-            } => {
-                write!(f, "wrote {consumed} {from} {to}")?;
-                print_notes(notes, f)?;
-                print_stop(*stop, f)
-            }
-            Answer::Got {
-                stream,
-                bytes,
-                offsets,
-            } => {
-                print_got(stream, bytes, offsets, f)?;
-                write!(f, " {from} {to}")
-            }
-            Answer::Refused(fault) => {
-                let number = fault_number(*fault);
-                write!(f, "refused F{number} {from} {to}")
-            }
-        }
+    print_answer(answer, f)?;
+    write!(f, " {from} {to}")?;
+    match answer {
+        Answer::Wrote { notes, stop, .. } => print_rest(notes, *stop, f),
+        _ => Ok(()),
     }
 }
 
@@ -177,10 +185,7 @@ fn print_page<W: fmt::Write>(page: &Page, f: &mut fmt::Formatter<W>) -> fmt::Res
 impl fmt::Display for Said {
     fn fmt<W: fmt::Write>(&self, f: &mut fmt::Formatter<W>) -> fmt::Result {
         match self {
-            Said::Done { answer, from, to } => {
-                let text = AnswerText(answer, *from, *to);
-                write!(f, "{text}")
-            }
+            Said::Done { answer, from, to } => print_done(answer, *from, *to, f),
             Said::Back(why) => f.write_str(back_text(*why)),
             Said::Turns => f.write_str("turns"),
             Said::Handed => f.write_str("handed"),

@@ -76,12 +76,18 @@ fn work<D: Desk>(alloc: Global, desk: &D, part: Part, turns: u32) -> Told
     }
 }
 
-// The lines of each seat, in their order, as lines of the first of one seat.
-fn piles_of(alloc: Global, script: Script) -> Result<Vec<Vec<Line>>, AllocError> {
+// As many piles without a line.
+fn bare_piles(alloc: Global, count: u32) -> Result<Vec<Vec<Line>>, AllocError> {
     let mut piles = Vec::new(alloc);
-    for _ in 0..script.seats {
+    for _ in 0..count {
         piles.push(Vec::new(alloc))?;
     }
+    Ok(piles)
+}
+
+// The lines of each seat, in their order, as lines of the first of one seat.
+fn piles_of(alloc: Global, script: Script) -> Result<Vec<Vec<Line>>, AllocError> {
+    let mut piles = bare_piles(alloc, script.seats)?;
     for line in script.lines {
         let place = line.seat as usize;
         if place < piles.len() {

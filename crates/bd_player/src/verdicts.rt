@@ -5,7 +5,8 @@ ghost use Rattle.bd_uapi.specs.Limits.{IsSeats};
 ghost use Rattle.bd_space.specs.Histories.{IsHistory, history_in};
 ghost use Rattle.bd_space.specs.declared.record.Record.{Record};
 ghost use Rattle.bd_audit.specs.Replays.{StopsAt};
-ghost use Rattle.bd_player.specs.Verdicts.{IsVerdict, IsJudged, Judges, Spells};
+ghost use Rattle.bd_journal.specs.Spelling.{Tells};
+ghost use Rattle.bd_player.specs.Verdicts.{IsVerdict, IsJudged, Judges};
 ghost use Rattle.bd_player.specs.declared.faults.Fault.TheVariants.{Journal};
 
 use crate::faults::Fault;
@@ -68,7 +69,7 @@ pub(crate) fn judgment_on<P: Watch>(
 ) -> Result<Judged, Fault>
     ensures judged { IfOk result (Judges bytes.now) }
     // No journal is called unreadable.
-    ensures journal { IfErr result (λ f. f ≡ Journal → (r : Record) → Spells bytes.now r → ⊥) }
+    ensures journal { IfErr result (λ f. f ≡ Journal → (r : Record) → Tells bytes.now r → ⊥) }
 {
     match read_journal(alloc, bytes) {
         Ok(found) => judge(alloc, found, watch),
@@ -86,7 +87,7 @@ pub fn verdict_on(alloc: Global, bytes: &[u8]) -> Result<Verdict, Fault>
     // What is said is so of the record that the bytes spell.
     ensures verdict { IfOk result (IsVerdict bytes.now) }
     // No journal is called unreadable.
-    ensures journal { IfErr result (λ f. f ≡ Journal → (r : Record) → Spells bytes.now r → ⊥) }
+    ensures journal { IfErr result (λ f. f ≡ Journal → (r : Record) → Tells bytes.now r → ⊥) }
 {
     verdict_watched(alloc, bytes, &mut Unwatched)
 }
@@ -98,7 +99,7 @@ pub(crate) fn verdict_watched<P: Watch>(
     watch: &mut P,
 ) -> Result<Verdict, Fault>
     ensures verdict { IfOk result (IsVerdict bytes.now) }
-    ensures journal { IfErr result (λ f. f ≡ Journal → (r : Record) → Spells bytes.now r → ⊥) }
+    ensures journal { IfErr result (λ f. f ≡ Journal → (r : Record) → Tells bytes.now r → ⊥) }
 {
     match judgment_on(alloc, bytes, watch) {
         Ok(Judged::History(found)) => Ok(Verdict::Lawful {
