@@ -29,7 +29,6 @@
  *  - No two pointers of one call lead to memory that overlaps, where one of them is written through. A buffer of size 0
  *    may be given as HULLPIPPIN_NOWHERE or HULLPIPPIN_NO_NUMBERS, or as any other aligned pointer but NULL.
  *  - A seat goes back to the driver that it was taken off.
- *  - A bool that is handed over is 0 or 1, also in a request that the program read from elsewhere.
  *  - No call is made in a signal handler, or in the forked child of a process with threads. malloc aligns to 16.
  *
  * Bytes that are given to a call stay the caller's, and may go once the call is back: the library copies them. Bytes
@@ -78,7 +77,8 @@ enum {
     HULLPIPPIN_WAITING = 2,         /* a request of this seat is handed over: collect or withdraw it first */
     HULLPIPPIN_NOT_WAITING = 3,     /* no request of this seat is handed over */
     HULLPIPPIN_TAKEN = 4,           /* serve: another seat has the engine */
-    HULLPIPPIN_NO_SUCH_REQUEST = 5, /* post: there is no such kind of request */
+    HULLPIPPIN_NO_SUCH_REQUEST = 5, /* post: there is no such kind of request; post, set_spam, live_set_spam: `on` is
+                                       neither 0 nor 1 */
     HULLPIPPIN_SEAT_COUNT = 6,      /* new: the number of seats isn't 1 to 31; live_new: 1 to 65536 */
     HULLPIPPIN_NO_SEAT_LEFT = 7,    /* take_seat: all seats are taken */
     HULLPIPPIN_SEATS_AWAY = 8,      /* finish: a seat isn't back */
@@ -170,7 +170,7 @@ typedef struct {
     uint32_t euid;   /* open */
     uint32_t window; /* open */
     uint32_t limit;  /* read */
-    bool on;         /* set_spam */
+    uint32_t on;     /* set_spam: 1, or 0 for no longer */
 } hullpippin_request;
 
 /* What is said of a journal. */
@@ -228,11 +228,12 @@ uint32_t hullpippin_attach(hullpippin_seat *seat, uint32_t pid, hullpippin_answe
 /* Makes the seat's process the context manager (BINDER_SET_CONTEXT_MGR). */
 uint32_t hullpippin_manager(hullpippin_seat *seat, hullpippin_answer *answer);
 
-/* Has the seat's process told of its own flooding with one-way calls, or no longer
+/* Has the seat's process told of its own flooding with one-way calls where `on` is 1, and no longer where it is 0
    (BINDER_ENABLE_ONEWAY_SPAM_DETECTION). While it is told, an accepted one-way transaction reads
    BR_ONEWAY_SPAM_SUSPECT in place of BR_TRANSACTION_COMPLETE where the process's one-way buffers that live in the
-   receiver's window take more than a quarter of it. At first it isn't. */
-uint32_t hullpippin_set_spam(hullpippin_seat *seat, bool on, hullpippin_answer *answer);
+   receiver's window take more than a quarter of it. At first it isn't. Also NO_SUCH_REQUEST, where `on` is neither 0
+   nor 1, and nowhere else. */
+uint32_t hullpippin_set_spam(hullpippin_seat *seat, uint32_t on, hullpippin_answer *answer);
 
 /* Runs the commands of a stream of at most 4096 bytes (the write half of BINDER_WRITE_READ). In their transaction
    records `buffer` and `offsets` are places in the area. Also NO_MEMORY. */
@@ -275,7 +276,8 @@ uint32_t hullpippin_ready(hullpippin_seat *seat);
  * withdrawn, the seat's requests above answer WAITING.
  */
 
-/* Posts a request; the stream and the area are those of a write. Also WAITING, NO_MEMORY, NO_SUCH_REQUEST. */
+/* Posts a request; the stream and the area are those of a write. Also WAITING, NO_MEMORY; and NO_SUCH_REQUEST, where
+   its kind is none of these, or is HULLPIPPIN_SET_SPAM and its `on` neither 0 nor 1, and nowhere else. */
 uint32_t hullpippin_post(hullpippin_seat *seat, const hullpippin_request *request, const uint8_t *stream,
                          size_t stream_size, const uint8_t *area, size_t area_size);
 
@@ -313,8 +315,8 @@ uint32_t hullpippin_live_attach(hullpippin_live *live, uint32_t seat, uint32_t p
 /* As hullpippin_manager. */
 uint32_t hullpippin_live_manager(hullpippin_live *live, uint32_t seat, hullpippin_answer *answer);
 
-/* As hullpippin_set_spam. */
-uint32_t hullpippin_live_set_spam(hullpippin_live *live, uint32_t seat, bool on, hullpippin_answer *answer);
+/* As hullpippin_set_spam. Also NO_SUCH_REQUEST, as there, whatever `seat` is. */
+uint32_t hullpippin_live_set_spam(hullpippin_live *live, uint32_t seat, uint32_t on, hullpippin_answer *answer);
 
 /* Runs one command, whose bytes are `command`, as the command of a write of that one alone. With a transaction or
    reply its parcel is given: the data and the offsets of its objects, of the sizes that its record says; else it is

@@ -1,6 +1,6 @@
 /* Reports of one-way flooding: a client asks for them, floods the context manager, and asks for them no longer; of a driver, by a call
-   and handed over, and of a live engine, each with as many seats as a journal may have. Complains where an answer isn't the one that
-   docs/RULES.md gives. Prints nothing else. */
+   and handed over, and of a live engine, each with as many seats as a journal may have. Numbers that ask for neither are to be refused.
+   Complains where an answer isn't the one that docs/RULES.md gives. Prints nothing else. */
 #include "hullpippin.h"
 
 #include <stdio.h>
@@ -68,6 +68,24 @@ static bool is_told(const uint8_t *stream, size_t size, uint32_t code)
 
 static const uint8_t zeros[WINDOW / 4];
 
+/* Numbers that ask for reports neither to be sent nor to be sent no longer. */
+static const uint32_t NO_FLAGS[] = {2, 3, 256, UINT32_MAX};
+
+#define NO_FLAG_COUNT (sizeof NO_FLAGS / sizeof NO_FLAGS[0])
+
+static bool is_no_request(uint32_t status)
+{
+    return status == HULLPIPPIN_NO_SUCH_REQUEST || fails("a number other than 0 and 1 isn't refused");
+}
+
+/* What a refused call would have filled. */
+static const hullpippin_answer BLANK = {.kind = 77, .from = 77};
+
+static bool is_blank(const hullpippin_answer *answer)
+{
+    return (answer->kind == BLANK.kind && answer->from == BLANK.from) || fails("a refusal fills the answer");
+}
+
 /* ---- a driver */
 
 struct run {
@@ -103,7 +121,7 @@ static bool opens(struct run *run)
 /* The client hands over that it asks for reports no longer, and the manager serves it. */
 static bool turns_off(struct run *run)
 {
-    hullpippin_request request = {.kind = HULLPIPPIN_SET_SPAM, .on = false};
+    hullpippin_request request = {.kind = HULLPIPPIN_SET_SPAM, .on = 0};
     hullpippin_answer answer;
     uint32_t picked = 0;
     uint32_t status = hullpippin_post(&run->seats[CLIENT], &request, HULLPIPPIN_NOWHERE, 0, HULLPIPPIN_NOWHERE, 0);
@@ -114,12 +132,30 @@ static bool turns_off(struct run *run)
     return is_made(hullpippin_collect(&run->seats[CLIENT], &answer), &answer, HULLPIPPIN_SET);
 }
 
+/* Neither a call nor a request that is handed over takes another number, and the page tells of no step by them. */
+static bool refuses(struct run *run)
+{
+    hullpippin_seat *client = &run->seats[CLIENT];
+    hullpippin_page before, after;
+    hullpippin_look(client, &before);
+    for (size_t i = 0; i < NO_FLAG_COUNT; i++) {
+        hullpippin_request request = {.kind = HULLPIPPIN_SET_SPAM, .on = NO_FLAGS[i]};
+        hullpippin_answer answer = BLANK;
+        if (!is_no_request(hullpippin_set_spam(client, NO_FLAGS[i], &answer)) || !is_blank(&answer)
+            || !is_no_request(hullpippin_post(client, &request, HULLPIPPIN_NOWHERE, 0, HULLPIPPIN_NOWHERE, 0)))
+            return false;
+    }
+    hullpippin_look(client, &after);
+    return after.stamp == before.stamp || fails("a refusal makes a step");
+}
+
 /* A quarter of the window isn't reported, and a byte more is, but only while it is asked for. */
 static bool floods(struct run *run)
 {
     hullpippin_answer answer;
-    return opens(run) && is_made(hullpippin_set_spam(&run->seats[CLIENT], true, &answer), &answer, HULLPIPPIN_SET)
-           && calls(run, WINDOW / 4, BR_TRANSACTION_COMPLETE) && calls(run, 0, BR_ONEWAY_SPAM_SUSPECT) && turns_off(run)
+    return opens(run) && refuses(run) && is_made(hullpippin_set_spam(&run->seats[CLIENT], 1, &answer), &answer, HULLPIPPIN_SET)
+           && calls(run, WINDOW / 4, BR_TRANSACTION_COMPLETE) && refuses(run) && calls(run, 0, BR_ONEWAY_SPAM_SUSPECT)
+           && turns_off(run)
            && calls(run, 0, BR_TRANSACTION_COMPLETE);
 }
 
@@ -159,15 +195,27 @@ static bool live_calls(hullpippin_live *live, uint32_t data, uint32_t code)
     return is_told(stream, hullpippin_live_bytes(live, HULLPIPPIN_STREAM, stream, sizeof stream), code);
 }
 
+static bool live_refuses(hullpippin_live *live)
+{
+    uint32_t before = hullpippin_live_len(live);
+    for (size_t i = 0; i < NO_FLAG_COUNT; i++) {
+        hullpippin_answer answer = BLANK;
+        if (!is_no_request(hullpippin_live_set_spam(live, CLIENT, NO_FLAGS[i], &answer)) || !is_blank(&answer))
+            return false;
+    }
+    return hullpippin_live_len(live) == before || fails("a refusal makes a step");
+}
+
 static bool live_floods(hullpippin_live *live)
 {
     hullpippin_answer answer;
     return is_made(hullpippin_live_open(live, MANAGER, 100, 1000, WINDOW, &answer), &answer, HULLPIPPIN_OPENED)
            && is_made(hullpippin_live_manager(live, MANAGER, &answer), &answer, HULLPIPPIN_SET)
            && is_made(hullpippin_live_open(live, CLIENT, 200, 2000, WINDOW, &answer), &answer, HULLPIPPIN_OPENED)
-           && is_made(hullpippin_live_set_spam(live, CLIENT, true, &answer), &answer, HULLPIPPIN_SET)
-           && live_calls(live, WINDOW / 4, BR_TRANSACTION_COMPLETE) && live_calls(live, 0, BR_ONEWAY_SPAM_SUSPECT)
-           && is_made(hullpippin_live_set_spam(live, CLIENT, false, &answer), &answer, HULLPIPPIN_SET)
+           && is_made(hullpippin_live_set_spam(live, CLIENT, 1, &answer), &answer, HULLPIPPIN_SET)
+           && live_calls(live, WINDOW / 4, BR_TRANSACTION_COMPLETE) && live_refuses(live)
+           && live_calls(live, 0, BR_ONEWAY_SPAM_SUSPECT)
+           && is_made(hullpippin_live_set_spam(live, CLIENT, 0, &answer), &answer, HULLPIPPIN_SET)
            && live_calls(live, 0, BR_TRANSACTION_COMPLETE);
 }
 

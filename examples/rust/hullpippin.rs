@@ -52,7 +52,7 @@ mod c {
         pub euid: u32,
         pub window: u32,
         pub limit: u32,
-        pub on: bool,
+        pub on: u32,
     }
 
     #[repr(C)]
@@ -74,7 +74,7 @@ mod c {
         pub fn hullpippin_open(seat: *mut Handle, pid: u32, euid: u32, window: u32, answer: *mut Answer) -> u32;
         pub fn hullpippin_attach(seat: *mut Handle, pid: u32, answer: *mut Answer) -> u32;
         pub fn hullpippin_manager(seat: *mut Handle, answer: *mut Answer) -> u32;
-        pub fn hullpippin_set_spam(seat: *mut Handle, on: bool, answer: *mut Answer) -> u32;
+        pub fn hullpippin_set_spam(seat: *mut Handle, on: u32, answer: *mut Answer) -> u32;
         pub fn hullpippin_write(
             seat: *mut Handle,
             stream: *const u8,
@@ -112,7 +112,7 @@ mod c {
         ) -> u32;
         pub fn hullpippin_live_attach(live: *mut Handle, seat: u32, pid: u32, answer: *mut Answer) -> u32;
         pub fn hullpippin_live_manager(live: *mut Handle, seat: u32, answer: *mut Answer) -> u32;
-        pub fn hullpippin_live_set_spam(live: *mut Handle, seat: u32, on: bool, answer: *mut Answer) -> u32;
+        pub fn hullpippin_live_set_spam(live: *mut Handle, seat: u32, on: u32, answer: *mut Answer) -> u32;
         pub fn hullpippin_live_command(
             live: *mut Handle,
             seat: u32,
@@ -300,7 +300,7 @@ impl Request<'_> {
             Request::Read { limit } => c::Request { kind: 5, limit, ..none },
             Request::ExitThread => c::Request { kind: 6, ..none },
             Request::ExitProcess => c::Request { kind: 7, ..none },
-            Request::SetSpam { on } => c::Request { kind: 8, on, ..none },
+            Request::SetSpam { on } => c::Request { kind: 8, on: on.into(), ..none },
         }
     }
 }
@@ -434,7 +434,7 @@ impl Seat {
 
     /// Has the seat's process told of its own one-way flooding, or no longer.
     pub fn set_spam(&mut self, on: bool) -> Result<Outcome, Error> {
-        self.asked(|seat, answer| unsafe { c::hullpippin_set_spam(seat, on, answer) })
+        self.asked(|seat, answer| unsafe { c::hullpippin_set_spam(seat, on.into(), answer) })
     }
 
     /// Runs the commands of a stream, whose parcels are cut from the area.
@@ -621,7 +621,7 @@ impl Live {
 
     /// Has the seat's process told of its own one-way flooding, or no longer.
     pub fn set_spam(&mut self, seat: u32, on: bool) -> Result<Made, Error> {
-        self.made(|live, told| unsafe { c::hullpippin_live_set_spam(live, seat, on, told) })
+        self.made(|live, told| unsafe { c::hullpippin_live_set_spam(live, seat, on.into(), told) })
     }
 
     /// Runs one command, with its parcel if it is a transaction or reply.

@@ -19,7 +19,7 @@ SHORT(open, (hullpippin_live *live, uint32_t seat, uint32_t pid, uint32_t euid, 
       seat, pid, euid, window, answer)
 SHORT(attach, (hullpippin_live *live, uint32_t seat, uint32_t pid, hullpippin_answer *answer), live, seat, pid, answer)
 SHORT(manager, (hullpippin_live *live, uint32_t seat, hullpippin_answer *answer), live, seat, answer)
-SHORT(set_spam, (hullpippin_live *live, uint32_t seat, bool on, hullpippin_answer *answer), live, seat, on, answer)
+SHORT(set_spam, (hullpippin_live *live, uint32_t seat, uint32_t on, hullpippin_answer *answer), live, seat, on, answer)
 SHORT(command, (hullpippin_live *live, uint32_t seat, const uint8_t *command, size_t size, const uint8_t *data, size_t data_size,
                 const uint8_t *offsets, size_t offsets_size, hullpippin_answer *answer), live, seat, command, size, data, data_size,
       offsets, offsets_size, answer)

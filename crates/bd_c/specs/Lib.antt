@@ -11,5 +11,6 @@ pub mod Pages
 pub mod Serving
 pub mod Lives
 pub mod LiveCommands
+pub mod Flags
 pub mod LiveEntries
 pub mod LivePolls

@@ -1,5 +1,5 @@
 -- What C hands over, as a request.
-use Rattle.std.specs.Prelude.{◌≡◌, ◌==◌, ◌⊎◌, ℕ, List, Option, Some, None, if◌then◌else◌}
+use Rattle.std.specs.Prelude.{◌≡◌, ◌==◌, ◌⊎◌, ℕ, Bool, List, Option, Some, None, if◌then◌else◌}
 use Rattle.bd_space.specs.declared.step.Request.{Request}
 use Rattle.bd_space.specs.declared.step.Request.TheVariants.{Open, Attach, SetManager, SetSpam, Write, Read, ExitThread, ExitProcess}
 use Rattle.bd_c.specs.declared.requests.RequestGiven.{RequestGiven}
@@ -7,6 +7,11 @@ use Rattle.bd_c.specs.declared.held.Held.{Held}
 use Rattle.bd_c.specs.declared.status.Status.{Status}
 use Rattle.bd_c.specs.declared.status.Status.TheVariants.{NoMemory, NoSuchRequest}
 use Rattle.bd_c.specs.Seats.{OverSeat, Posts}
+use Rattle.bd_c.specs.Flags.{flag_of}
+
+abbrev pub spam_request : Option Bool → Option Request
+spam_request (Some on) = Some (SetSpam on)
+spam_request None = None
 
 -- 1 open, 2 attach, 3 become the manager, 4 write, 5 read, 6 end the thread, 7 end the process, 8 set reports of flooding
 abbrev pub request_of : RequestGiven → List ℕ → List ℕ → Option Request
@@ -18,10 +23,10 @@ request_of g stream area =
     else (if g.kind == 5 then Some (Read g.limit)
     else (if g.kind == 6 then Some ExitThread
     else (if g.kind == 7 then Some ExitProcess
-    else (if g.kind == 8 then Some (SetSpam g.on)
+    else (if g.kind == 8 then spam_request (flag_of g.on)
     else None)))))))
 
--- no kind has this number; or there was no memory for a copy of a write's bytes
+-- no kind has this number, or reports of flooding are neither 0 nor 1; or there was no memory for a copy of a write's bytes
 abbrev pub IsNoRequest : RequestGiven → List ℕ → List ℕ → Status → Type 0
 IsNoRequest g stream area NoSuchRequest = request_of g stream area ≡ None
 IsNoRequest g stream area NoMemory = g.kind ≡ 4

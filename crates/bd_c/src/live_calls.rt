@@ -1,7 +1,8 @@
 //! What C calls of a live engine: one handle, with which all seats' steps are made.
 ghost use Rattle.std.specs.Prelude.{◌≡◌, None};
-ghost use Rattle.bd_space.specs.declared.step.Step.TheVariants.{Open, Attach, SetManager, SetSpam, Read, ExitThread, ExitProcess};
+ghost use Rattle.bd_space.specs.declared.step.Step.TheVariants.{Open, Attach, SetManager, Read, ExitThread, ExitProcess};
 ghost use Rattle.bd_c.specs.Status.{Reports};
+ghost use Rattle.bd_c.specs.Flags.{StepsSpam};
 ghost use Rattle.bd_c.specs.Lives.{IsLive, OverLive, LiveOpensAt, Steps};
 ghost use Rattle.bd_c.specs.LiveCommands.{Commands};
 
@@ -10,6 +11,7 @@ use crate::handles::Handle;
 use crate::live_commands::step_of;
 use crate::lives::open_live;
 use crate::opening::{put, take};
+use crate::requests::flag_of;
 use crate::status::Status;
 use bd_space::Step;
 use std::alloc::Global;
@@ -91,20 +93,22 @@ pub extern "C" fn hullpippin_live_manager(
     make(alloc, live, seat, Step::SetManager, told)
 }
 
-/// Has the seat's process told of its own one-way flooding, or no longer.
+/// Has the seat's process told of its own one-way flooding where it is 1, and no longer where it is 0.
 #[unsafe(no_mangle)]
 pub extern "C" fn hullpippin_live_set_spam(
     alloc: Global,
     live: &mut Handle,
     seat: u32,
-    on: bool,
+    on: u32,
     told: &mut Told,
 ) -> u32
     requires { IsLive live.old.held }
-    ensures { Reports result (λ s. OverLive live.old.held live.new.held (λ x y.
-        Steps x y seat (SetSpam on) s told.old told.new)) }
+    ensures { Reports result (λ s. StepsSpam live.old.held live.new.held seat on s told.old told.new) }
 {
-    make(alloc, live, seat, Step::SetSpam { on }, told)
+    match flag_of(on) {
+        Ok(on) => make(alloc, live, seat, Step::SetSpam { on }, told),
+        Err(status) => status.number(),
+    }
 }
 
 /// Runs one command of the seat. What is given as its parcel is looked at with a transaction or reply alone.

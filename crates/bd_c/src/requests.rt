@@ -2,6 +2,7 @@
 ghost use Rattle.std.specs.Prelude.{◌≡◌, Some, IfOk, IfErr};
 ghost use Rattle.bd_space.specs.declared.step.Request.TheVariants.{Write};
 ghost use Rattle.bd_c.specs.Requests.{request_of, IsNoRequest};
+ghost use Rattle.bd_c.specs.Flags.{flag_of, IsNoFlag};
 
 use crate::status::Status;
 use bd_space::{Bytes, Request};
@@ -22,8 +23,8 @@ pub struct RequestGiven {
     pub window: u32,
     /// Of read.
     pub limit: u32,
-    /// Of set reports of flooding.
-    pub on: bool,
+    /// Of set reports of flooding: 1 where they are to be, 0 where they are to be no longer.
+    pub on: u32,
 }
 
 fn copied(alloc: Global, from: &[u8]) -> Result<Bytes, AllocError>
@@ -39,6 +40,18 @@ pub(crate) fn write(alloc: Global, stream: &[u8], area: &[u8]) -> Result<Request
     let stream = copied(alloc, stream)?;
     let area = copied(alloc, area)?;
     Ok(Request::Write { stream, area })
+}
+
+/// Whether reports of flooding are to be set. It comes as a number since C may hand over any byte for a bool.
+pub(crate) fn flag_of(on: u32) -> Result<bool, Status>
+    ensures ok { IfOk result (λ b. flag_of on ≡ Some b) }
+    ensures refused { IfErr result (IsNoFlag on) }
+{
+    match on {
+        0 => Ok(false),
+        1 => Ok(true),
+        _ => Err(Status::NoSuchRequest),
+    }
 }
 
 /// The request that is given so.
@@ -66,7 +79,9 @@ pub(crate) fn request_of(
         5 => Ok(Request::Read { limit: given.limit }),
         6 => Ok(Request::ExitThread),
         7 => Ok(Request::ExitProcess),
-        8 => Ok(Request::SetSpam { on: given.on }),
+        8 => Ok(Request::SetSpam {
+            on: flag_of(given.on)?,
+        }),
         _ => Err(Status::NoSuchRequest),
     }
 }

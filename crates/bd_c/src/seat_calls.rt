@@ -1,7 +1,8 @@
 //! What C calls of a seat.
 ghost use Rattle.std.specs.Prelude.{◌≡◌};
-ghost use Rattle.bd_space.specs.declared.step.Request.TheVariants.{Open, Attach, SetManager, SetSpam, Write, Read, ExitThread, ExitProcess};
+ghost use Rattle.bd_space.specs.declared.step.Request.TheVariants.{Open, Attach, SetManager, Write, Read, ExitThread, ExitProcess};
 ghost use Rattle.bd_c.specs.Status.{Reports};
+ghost use Rattle.bd_c.specs.Flags.{AsksSpam};
 ghost use Rattle.bd_c.specs.Seats.{IsSeat, OfSeat, OverSeat, Asks, Looks};
 ghost use Rattle.bd_c.specs.Parts.{bytes_of, notes_of, Fetches, TellsNote};
 ghost use Rattle.bd_driver.specs.declared.page.Page.{Page};
@@ -12,7 +13,7 @@ use crate::handles::Handle;
 use crate::opening::{put, take};
 use crate::pages::PageTold;
 use crate::parts::NoteTold;
-use crate::requests::write;
+use crate::requests::{flag_of, write};
 use crate::status::Status;
 use bd_space::Request;
 use std::alloc::Global;
@@ -72,19 +73,21 @@ pub extern "C" fn hullpippin_manager(alloc: Global, seat: &mut Handle, told: &mu
     ask(alloc, seat, Request::SetManager, told)
 }
 
-/// Has the seat's process told of its own one-way flooding, or no longer.
+/// Has the seat's process told of its own one-way flooding where it is 1, and no longer where it is 0.
 #[unsafe(no_mangle)]
 pub extern "C" fn hullpippin_set_spam(
     alloc: Global,
     seat: &mut Handle,
-    on: bool,
+    on: u32,
     told: &mut Told,
 ) -> u32
     requires { IsSeat seat.old.held }
-    ensures { Reports result (λ s. OverSeat seat.old.held seat.new.held (λ x y.
-        Asks x y (SetSpam on) s told.old told.new)) }
+    ensures { Reports result (λ s. AsksSpam seat.old.held seat.new.held on s told.old told.new) }
 {
-    ask(alloc, seat, Request::SetSpam { on }, told)
+    match flag_of(on) {
+        Ok(on) => ask(alloc, seat, Request::SetSpam { on }, told),
+        Err(status) => status.number(),
+    }
 }
 
 /// Runs the commands of a stream, whose parcels are cut from the area.
