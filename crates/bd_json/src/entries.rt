@@ -4,16 +4,16 @@ ghost use Rattle.std.specs.Prelude.{◌≡◌, map, IfOk};
 ghost use Rattle.bd_json.specs.Payloads.{of_returns};
 ghost use Rattle.bd_json.specs.Told as spec;
 
+use crate::members::member;
 use crate::words::Word;
 use bd_codec::read_return;
 use bd_show::Refusal;
 use bd_space::{Entry, StepAnswer};
-use serde::Serialize;
+use serde::{Described, Serialize, Serializer};
 use std::alloc::{AllocError, Global};
 
 /// What a step was answered.
-#[derive(Drop, Serialize)]
-#[serde(tag = "name", rename_all = "lowercase")]
+#[derive(Drop)]
 pub(crate) enum AnswerPart {
     Opened,
     Set,
@@ -23,6 +23,49 @@ pub(crate) enum AnswerPart {
     Stopped { cause: Refusal },
     Refused { fault: Refusal },
     Got { bytes: usize, returns: Vec<Word> },
+}
+
+impl AnswerPart {
+    fn name(&self) -> &'static str {
+        match self {
+            AnswerPart::Opened => "opened",
+            AnswerPart::Set => "set",
+            AnswerPart::Exited => "exited",
+            AnswerPart::Accepted => "accepted",
+            AnswerPart::Noted { .. } => "noted",
+            AnswerPart::Stopped { .. } => "stopped",
+            AnswerPart::Refused { .. } => "refused",
+            AnswerPart::Got { .. } => "got",
+        }
+    }
+
+    // What comes behind the name.
+    fn write_rest<S: Serializer>(&self, out: &mut S) -> Result<(), S::Error> {
+        match self {
+            AnswerPart::Opened | AnswerPart::Set | AnswerPart::Exited | AnswerPart::Accepted => Ok(
+                (),
+            ),
+            AnswerPart::Noted { note } => member("note", note, out),
+            AnswerPart::Stopped { cause } => member("cause", cause, out),
+            AnswerPart::Refused { fault } => member("fault", fault, out),
+            AnswerPart::Got { bytes, returns } => {
+                member("bytes", bytes, out)?;
+                member("returns", returns, out)
+            }
+        }
+    }
+}
+
+impl Described for AnswerPart {}
+
+// A derived one is one function of all that its variants have, which takes long to prove.
+impl Serialize for AnswerPart {
+    fn serialize<S: Serializer>(&self, out: &mut S) -> Result<(), S::Error> {
+        out.begin_map(None)?;
+        member("name", &self.name(), out)?;
+        self.write_rest(out)?;
+        out.end_map()
+    }
 }
 
 // The returns of a stream.
@@ -113,7 +156,7 @@ impl GivenLine {
 }
 
 /// How many entries a journal has, all of which are a history.
-#[derive(Clone, Copy, Debug, Serialize)]
+#[derive(Clone, Copy, Serialize)]
 pub(crate) struct LawfulLine {
     pub(crate) lawful: usize,
 }

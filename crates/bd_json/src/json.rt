@@ -13,7 +13,7 @@ use std::fmt;
 use std::io::Write;
 
 /// A value of JSON for each thing.
-#[derive(Clone, Copy, Debug)]
+#[derive(Clone, Copy)]
 pub(crate) struct Json(pub(crate) Global);
 
 impl Form for Json {

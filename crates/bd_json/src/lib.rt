@@ -4,6 +4,7 @@
 mod entries;
 mod format;
 mod json;
+mod members;
 mod playing;
 mod said;
 mod texts;

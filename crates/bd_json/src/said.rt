@@ -3,17 +3,18 @@
 ghost use Rattle.std.specs.Prelude.{◌≡◌, IfOk};
 ghost use Rattle.bd_json.specs.Said as spec;
 
+use crate::members::member;
 use crate::texts::{Hex, stop_of};
 use bd_driver::{Served, Why};
 use bd_player::Said;
 use bd_show::Refusal;
 use bd_space::{Answer, Notes};
 use bd_uapi::Note;
-use serde::Serialize;
+use serde::{Described, Serialize, Serializer};
 use std::alloc::{AllocError, Global};
 
 /// A command of a write that changed nothing, by its index, and why.
-#[derive(Clone, Copy, Debug, Serialize)]
+#[derive(Clone, Copy, Serialize)]
 pub(crate) struct NotePart {
     command: u32,
     note: Refusal,
@@ -31,8 +32,7 @@ impl NotePart {
 }
 
 /// What came of a line. The steps of a request are those from `from` up to and without `to`.
-#[derive(Drop, Serialize)]
-#[serde(tag = "kind", rename_all = "lowercase")]
+#[derive(Drop)]
 pub(crate) enum SaidPart<'a> {
     Opened {
         from: u32,
@@ -80,6 +80,107 @@ pub(crate) enum SaidPart<'a> {
     Passed,
     Turns,
     Idle,
+}
+
+impl SaidPart<'_> {
+    fn kind(&self) -> &'static str {
+        match self {
+            SaidPart::Opened { .. } => "opened",
+            SaidPart::Set { .. } => "set",
+            SaidPart::Exited { .. } => "exited",
+            SaidPart::Wrote { .. } => "wrote",
+            SaidPart::Got { .. } => "got",
+            SaidPart::Refused { .. } => "refused",
+            SaidPart::Back { .. } => "back",
+            SaidPart::Handed => "handed",
+            SaidPart::Served { .. } => "served",
+            SaidPart::Page { .. } => "page",
+            SaidPart::Passed => "passed",
+            SaidPart::Turns => "turns",
+            SaidPart::Idle => "idle",
+        }
+    }
+
+    // The places of the steps, where it has them.
+    fn steps(&self) -> Option<(u32, u32)> {
+        match self {
+            SaidPart::Opened { from, to }
+            | SaidPart::Set { from, to }
+            | SaidPart::Exited { from, to }
+            | SaidPart::Wrote { from, to, .. }
+            | SaidPart::Got { from, to, .. }
+            | SaidPart::Refused { from, to, .. } => Some((*from, *to)),
+            _ => None,
+        }
+    }
+
+    fn write_steps<S: Serializer>(&self, out: &mut S) -> Result<(), S::Error> {
+        let Some((from, to)) = self.steps() else {
+            return Ok(());
+        };
+        member("from", &from, out)?;
+        member("to", &to, out)
+    }
+
+    // What comes behind the kind and the steps.
+    fn write_rest<S: Serializer>(&self, out: &mut S) -> Result<(), S::Error> {
+        match self {
+            SaidPart::Wrote {
+                consumed,
+                notes,
+                stop,
+                ..
+            } => write_written(*consumed, notes, stop, out),
+            SaidPart::Got {
+                returns,
+                data,
+                offsets,
+                ..
+            } => write_got(*returns, *data, *offsets, out),
+            SaidPart::Refused { fault, .. } => member("fault", fault, out),
+            SaidPart::Back { why } => member("why", why, out),
+            SaidPart::Served { requests } => member("requests", requests, out),
+            SaidPart::Page {
+                stamp,
+                ready,
+                taken,
+            } => write_page(*stamp, *ready, *taken, out),
+            _ => Ok(()),
+        }
+    }
+}
+
+fn write_written<S: Serializer>(
+    consumed: u32,
+    notes: &Vec<NotePart>,
+    stop: &Option<Refusal>,
+    out: &mut S,
+) -> Result<(), S::Error> {
+    member("consumed", &consumed, out)?;
+    member("notes", notes, out)?;
+    member("stop", stop, out)
+}
+
+fn write_got<S: Serializer>(
+    returns: Hex<'_>,
+    data: Hex<'_>,
+    offsets: Hex<'_>,
+    out: &mut S,
+) -> Result<(), S::Error> {
+    member("returns", &returns, out)?;
+    member("data", &data, out)?;
+    member("offsets", &offsets, out)
+}
+
+fn write_page<S: Serializer>(
+    stamp: u32,
+    ready: u32,
+    taken: bool,
+    out: &mut S,
+) -> Result<(), S::Error> {
+    member("stamp", &stamp, out)?;
+    member("ready", &ready, out)?;
+    member("taken", &taken, out)
 }
 
 fn note_parts(alloc: Global, notes: &Notes) -> Result<Vec<NotePart>, AllocError>
@@ -170,11 +271,24 @@ fn said_part(alloc: Global, said: &Said) -> Result<SaidPart<'_>, AllocError>
 }
 
 /// A line's number, and what it said.
-#[derive(Drop, Serialize)]
+#[derive(Drop)]
 pub(crate) struct SaidLine<'a> {
     line: u64,
-    #[serde(flatten)]
     said: SaidPart<'a>,
+}
+
+impl Described for SaidLine<'_> {}
+
+// A derived one is one function of all that the kinds have, which takes long to prove.
+impl Serialize for SaidLine<'_> {
+    fn serialize<S: Serializer>(&self, out: &mut S) -> Result<(), S::Error> {
+        out.begin_map(None)?;
+        member("line", &self.line, out)?;
+        member("kind", &self.said.kind(), out)?;
+        self.said.write_steps(out)?;
+        self.said.write_rest(out)?;
+        out.end_map()
+    }
 }
 
 impl<'a> SaidLine<'a> {

@@ -9,7 +9,7 @@ use serde::{Described, Serialize, Serializer};
 use std::fmt;
 
 /// Bytes in hex, two digits each.
-#[derive(Clone, Copy, Debug)]
+#[derive(Clone, Copy)]
 pub(crate) struct Hex<'a>(pub(crate) &'a [u8]);
 
 impl fmt::Display for Hex<'_> {

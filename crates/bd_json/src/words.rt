@@ -3,44 +3,30 @@
 ghost use Rattle.std.specs.Prelude.{◌≡◌};
 ghost use Rattle.bd_json.specs.Payloads as spec;
 
+use crate::members::{member, member_if_any};
 use bd_show::{Wide, handle_of, return_name, step_name};
 use bd_space::Step;
 use bd_uapi::{Command, Return, TransactionData};
 use bitflags::Flags;
-use serde::Serialize;
+use serde::{Described, Serialize, Serializer};
 
 /// What a step or a return has. What one of its kind doesn't have is left out.
-#[derive(Clone, Copy, Debug, PartialEq, Eq, Serialize)]
+#[derive(Clone, Copy)]
 pub(crate) struct Payload {
-    #[serde(skip_serializing_if = "Option::is_none")]
     pid: Option<u32>,
-    #[serde(skip_serializing_if = "Option::is_none")]
     euid: Option<u32>,
-    #[serde(skip_serializing_if = "Option::is_none")]
     window: Option<u32>,
-    #[serde(skip_serializing_if = "Option::is_none")]
     limit: Option<u32>,
-    #[serde(skip_serializing_if = "Option::is_none")]
     on: Option<bool>,
-    #[serde(skip_serializing_if = "Option::is_none")]
     handle: Option<u64>,
-    #[serde(skip_serializing_if = "Option::is_none")]
     ptr: Option<Wide>,
-    #[serde(skip_serializing_if = "Option::is_none")]
     cookie: Option<Wide>,
-    #[serde(skip_serializing_if = "Option::is_none")]
     code: Option<u32>,
-    #[serde(skip_serializing_if = "Option::is_none")]
     flags: Option<u32>,
-    #[serde(skip_serializing_if = "Option::is_none")]
     data_size: Option<u64>,
-    #[serde(skip_serializing_if = "Option::is_none")]
     offsets_size: Option<u64>,
-    #[serde(skip_serializing_if = "Option::is_none")]
     sender_pid: Option<i32>,
-    #[serde(skip_serializing_if = "Option::is_none")]
     sender_euid: Option<u32>,
-    #[serde(skip_serializing_if = "Option::is_none")]
     buffer: Option<Wide>,
 }
 
@@ -172,6 +158,37 @@ impl Payload {
         }
     }
 
+    // What a step that is no command has.
+    fn write_asked<S: Serializer>(&self, out: &mut S) -> Result<(), S::Error> {
+        member_if_any("pid", &self.pid, out)?;
+        member_if_any("euid", &self.euid, out)?;
+        member_if_any("window", &self.window, out)?;
+        member_if_any("limit", &self.limit, out)?;
+        member_if_any("on", &self.on, out)
+    }
+
+    // What names an object.
+    fn write_named<S: Serializer>(&self, out: &mut S) -> Result<(), S::Error> {
+        member_if_any("handle", &self.handle, out)?;
+        member_if_any("ptr", &self.ptr, out)?;
+        member_if_any("cookie", &self.cookie, out)
+    }
+
+    // What is sent.
+    fn write_sent<S: Serializer>(&self, out: &mut S) -> Result<(), S::Error> {
+        member_if_any("code", &self.code, out)?;
+        member_if_any("flags", &self.flags, out)?;
+        member_if_any("data_size", &self.data_size, out)?;
+        member_if_any("offsets_size", &self.offsets_size, out)
+    }
+
+    // Who sent it, and where it lies.
+    fn write_received<S: Serializer>(&self, out: &mut S) -> Result<(), S::Error> {
+        member_if_any("sender_pid", &self.sender_pid, out)?;
+        member_if_any("sender_euid", &self.sender_euid, out)?;
+        member_if_any("buffer", &self.buffer, out)
+    }
+
     fn of_step(step: &Step) -> Payload
         ensures { result ≡ spec.of_step step.now }
     {
@@ -201,11 +218,24 @@ impl Payload {
 }
 
 /// A step or a return: its name, and what it has.
-#[derive(Clone, Copy, Debug, PartialEq, Eq, Serialize)]
+#[derive(Clone, Copy)]
 pub(crate) struct Word {
     name: &'static str,
-    #[serde(flatten)]
     payload: Payload,
+}
+
+impl Described for Word {}
+
+impl Serialize for Word {
+    fn serialize<S: Serializer>(&self, out: &mut S) -> Result<(), S::Error> {
+        out.begin_map(None)?;
+        member("name", &self.name, out)?;
+        self.payload.write_asked(out)?;
+        self.payload.write_named(out)?;
+        self.payload.write_sent(out)?;
+        self.payload.write_received(out)?;
+        out.end_map()
+    }
 }
 
 impl Word {

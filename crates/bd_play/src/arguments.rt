@@ -4,6 +4,7 @@ ghost use Rattle.std.specs.Prelude.{◌<◌, length, IfSome, IsOkAnd};
 ghost use Rattle.clap.specs.Matches.{found_of};
 ghost use Rattle.bd_play.specs.Orders.{IsManner, PlaysFound, PlaysInput};
 
+use crate::commands::Making;
 use crate::inquiries::{
     Doubt, Inquiry, doubt_in, format_arg, format_in, inquiry_in, progress_arg, source_in,
     with_inquiries,
@@ -14,7 +15,7 @@ use crate::sources::Source;
 use bd_json::Format;
 use bd_player::{Fault, Manner};
 use clap::error::ErrorKind;
-use clap::{Arg, ArgAction, ArgMatches, Command, Error, value_parser};
+use clap::{Arg, ArgAction, ArgMatches, Error, value_parser};
 use std::alloc::{AllocError, Global};
 
 /// The turns of a line where none are given.
@@ -127,63 +128,55 @@ fn file_arg<'a>(alloc: Global, help: &'a str) -> Arg<'a> {
         .help(help)
 }
 
-fn run_command<'a>(alloc: Global) -> Result<Command<'a>, Error> {
-    let command = Command::new(alloc, "run")
-        .about("Plays a script")
-        .after_help(RUN_HELP)
-        .arg(file_arg(alloc, "The script, or - for standard input"))?
+fn run_command<'a>(alloc: Global) -> Making<'a> {
+    Making::new(alloc, "run", "Plays a script", RUN_HELP)
+        .arg(file_arg(alloc, "The script, or - for standard input"))
         .arg(
             Arg::new(alloc, "threads")
                 .long("threads")
                 .action(ArgAction::SetTrue)
                 .help("Run each seat's lines on a thread of their own, and print seat by seat"),
-        )?
+        )
         .arg(
             Arg::new(alloc, "turns")
                 .long("turns")
                 .value_name("N")
                 .value_parser(value_parser!(u32).range(1..))
                 .help("How many turns a line has, 1 to 4294967295 [default: 100000000]"),
-        )?
+        )
         .arg(
             Arg::new(alloc, "journal")
                 .long("journal")
                 .value_name("OUT")
                 .help("Write the journal of the run here"),
-        )?
-        .arg(format_arg(alloc))?
-        .arg(progress_arg(alloc))?;
-    Ok(command)
+        )
+        .arg(format_arg(alloc))
+        .arg(progress_arg(alloc))
 }
 
-fn check_command<'a>(alloc: Global) -> Result<Command<'a>, Error> {
-    let command = Command::new(alloc, "check")
-        .about("Judges a journal")
-        .after_help(CHECK_HELP)
-        .arg(file_arg(alloc, "The journal, or - for standard input"))?
-        .arg(progress_arg(alloc))?;
-    Ok(command)
+fn check_command<'a>(alloc: Global) -> Making<'a> {
+    Making::new(alloc, "check", "Judges a journal", CHECK_HELP)
+        .arg(file_arg(alloc, "The journal, or - for standard input"))
+        .arg(progress_arg(alloc))
 }
 
-fn script_command<'a>(alloc: Global) -> Command<'a> {
-    Command::new(alloc, "script")
-        .about("Tells the words of a script, and what a run prints")
-        .after_help(SCRIPT_HELP)
+fn script_command<'a>(alloc: Global) -> Making<'a> {
+    let about = "Tells the words of a script, and what a run prints";
+    Making::new(alloc, "script", about, SCRIPT_HELP)
+}
+
+// The program, with all its commands.
+fn program<'a>(alloc: Global) -> Making<'a> {
+    let program = Making::program(alloc, "bplay", VERSION, ABOUT, PROGRAM_HELP)
+        .command(run_command(alloc))
+        .command(check_command(alloc));
+    with_inquiries(alloc, program)
+        .command(diagram_command(alloc))
+        .command(script_command(alloc))
 }
 
 fn matches_of<'a>(alloc: Global, words: &'a [String]) -> Result<ArgMatches<'a>, Error> {
-    let command = Command::new(alloc, "bplay")
-        .bin_name("bplay")?
-        .about(ABOUT)
-        .version(VERSION)
-        .after_help(PROGRAM_HELP)
-        .subcommand_required(true)
-        .subcommand(run_command(alloc)?)?
-        .subcommand(check_command(alloc)?)?;
-    with_inquiries(alloc, command)?
-        .subcommand(diagram_command(alloc)?)?
-        .subcommand(script_command(alloc))?
-        .try_get_matches_from(words)
+    program(alloc).made()?.try_get_matches_from(words)
 }
 
 // In which manner a script is to be played.

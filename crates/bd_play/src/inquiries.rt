@@ -4,12 +4,13 @@ ghost use Rattle.std.specs.Prelude.{IfSome};
 ghost use Rattle.clap.specs.Matches.{found_of};
 ghost use Rattle.bd_play.specs.Inquiries.{AsksFound, AskedBy, IsFormat, IsNumberAt, IsSourceFound};
 
+use crate::commands::Making;
 use crate::sources::Source;
 use bd_explain::{Explanation, explained};
 use bd_json::Format;
 use bd_show::{Question, Selection};
 use bd_space::ObjectId;
-use clap::{Arg, ArgAction, ArgMatches, Command, Error, value_parser};
+use clap::{Arg, ArgAction, ArgMatches, value_parser};
 use std::alloc::Global;
 
 /// A question, and the journal that it is about.
@@ -115,111 +116,122 @@ pub fn number_option<'a>(alloc: Global, name: &'a str, value: &'a str, help: &'a
         .help(help)
 }
 
-fn show_command<'a>(alloc: Global) -> Result<Command<'a>, Error> {
-    let command = Command::new(alloc, "show")
-        .about("Shows the entries of a journal, a line each")
-        .after_help(SHOW_HELP)
-        .arg(journal_arg(alloc))?
-        .arg(number_option(alloc, "from", "K", "Only entries from this place on"))?
-        .arg(number_option(alloc, "to", "K", "Only entries before this place"))?
-        .arg(number_option(alloc, "seat", "N", "Only entries of this seat"))?
-        .arg(number_option(
-            alloc,
-            "pid",
-            "P",
-            "Only entries of the process with this pid",
-        ))?
-        .arg(format_arg(alloc))?
-        .arg(progress_arg(alloc))?;
-    Ok(command)
+fn show_command<'a>(alloc: Global) -> Making<'a> {
+    Making::new(
+        alloc,
+        "show",
+        "Shows the entries of a journal, a line each",
+        SHOW_HELP,
+    )
+    .arg(journal_arg(alloc))
+    .arg(number_option(alloc, "from", "K", "Only entries from this place on"))
+    .arg(number_option(alloc, "to", "K", "Only entries before this place"))
+    .arg(number_option(alloc, "seat", "N", "Only entries of this seat"))
+    .arg(number_option(
+        alloc,
+        "pid",
+        "P",
+        "Only entries of the process with this pid",
+    ))
+    .arg(format_arg(alloc))
+    .arg(progress_arg(alloc))
 }
 
-fn chain_command<'a>(alloc: Global) -> Result<Command<'a>, Error> {
-    let command = Command::new(alloc, "chain")
-        .about("Tells how a process came to a handle: who gave the object to whom")
-        .after_help(CHAIN_HELP)
-        .arg(journal_arg(alloc))?
-        .arg(number_arg(alloc, "pid", "PID", "The process"))?
-        .arg(number_arg(alloc, "handle", "HANDLE", "Its handle"))?
-        .arg(format_arg(alloc))?
-        .arg(progress_arg(alloc))?;
-    Ok(command)
+fn chain_command<'a>(alloc: Global) -> Making<'a> {
+    Making::new(
+        alloc,
+        "chain",
+        "Tells how a process came to a handle: who gave the object to whom",
+        CHAIN_HELP,
+    )
+    .arg(journal_arg(alloc))
+    .arg(number_arg(alloc, "pid", "PID", "The process"))
+    .arg(number_arg(alloc, "handle", "HANDLE", "Its handle"))
+    .arg(format_arg(alloc))
+    .arg(progress_arg(alloc))
 }
 
-fn call_command<'a>(alloc: Global) -> Result<Command<'a>, Error> {
-    let command = Command::new(alloc, "call-of-reply")
-        .about("Tells which call a reply answers")
-        .after_help(CALL_HELP)
-        .arg(journal_arg(alloc))?
-        .arg(number_arg(
-            alloc,
-            "place",
-            "K",
-            "The place of the read that handed out the reply",
-        ))?
-        .arg(format_arg(alloc))?
-        .arg(progress_arg(alloc))?;
-    Ok(command)
+fn call_command<'a>(alloc: Global) -> Making<'a> {
+    Making::new(
+        alloc,
+        "call-of-reply",
+        "Tells which call a reply answers",
+        CALL_HELP,
+    )
+    .arg(journal_arg(alloc))
+    .arg(number_arg(
+        alloc,
+        "place",
+        "K",
+        "The place of the read that handed out the reply",
+    ))
+    .arg(format_arg(alloc))
+    .arg(progress_arg(alloc))
 }
 
-fn turns_command<'a>(alloc: Global) -> Result<Command<'a>, Error> {
-    let command = Command::new(alloc, "turns")
-        .about("Tells the one-way calls on an object, in the order in which they were made")
-        .after_help(TURNS_HELP)
-        .arg(journal_arg(alloc))?
-        .arg(
-            Arg::new(alloc, "object")
-                .value_name("PLACE.INDEX")
-                .required(true)
-                .help("The object: the place of the step that made it, and its number there"),
-        )?
-        .arg(format_arg(alloc))?
-        .arg(progress_arg(alloc))?;
-    Ok(command)
+fn turns_command<'a>(alloc: Global) -> Making<'a> {
+    Making::new(
+        alloc,
+        "turns",
+        "Tells the one-way calls on an object, in the order in which they were made",
+        TURNS_HELP,
+    )
+    .arg(journal_arg(alloc))
+    .arg(
+        Arg::new(alloc, "object")
+            .value_name("PLACE.INDEX")
+            .required(true)
+            .help("The object: the place of the step that made it, and its number there"),
+    )
+    .arg(format_arg(alloc))
+    .arg(progress_arg(alloc))
 }
 
-fn state_command<'a>(alloc: Global) -> Result<Command<'a>, Error> {
-    let command = Command::new(alloc, "state")
-        .about("Tells what a history has come to, process by process")
-        .after_help(STATE_HELP)
-        .arg(journal_arg(alloc))?
-        .arg(number_option(alloc, "at", "K", "After this many entries [default: all]"))?
-        .arg(format_arg(alloc))?
-        .arg(progress_arg(alloc))?;
-    Ok(command)
+fn state_command<'a>(alloc: Global) -> Making<'a> {
+    Making::new(
+        alloc,
+        "state",
+        "Tells what a history has come to, process by process",
+        STATE_HELP,
+    )
+    .arg(journal_arg(alloc))
+    .arg(number_option(alloc, "at", "K", "After this many entries [default: all]"))
+    .arg(format_arg(alloc))
+    .arg(progress_arg(alloc))
 }
 
-fn explain_command<'a>(alloc: Global) -> Result<Command<'a>, Error> {
-    let command = Command::new(alloc, "explain")
-        .about("Tells what a refusal means, or why an entry of a journal was answered so")
-        .after_help(EXPLAIN_HELP)
-        .arg(
-            Arg::new(alloc, "file")
-                .value_name("WHAT")
-                .required(true)
-                .help("F1 to F16, X1 to X16 or N1 to N11, or a journal, or - for standard input"),
-        )?
-        .arg(
-            Arg::new(alloc, "place")
-                .value_name("K")
-                .value_parser(value_parser!(u32))
-                .help("The place of the entry of a journal that is to be explained"),
-        )?
-        .arg(format_arg(alloc))?
-        .arg(progress_arg(alloc))?;
-    Ok(command)
+fn explain_command<'a>(alloc: Global) -> Making<'a> {
+    Making::new(
+        alloc,
+        "explain",
+        "Tells what a refusal means, or why an entry of a journal was answered so",
+        EXPLAIN_HELP,
+    )
+    .arg(
+        Arg::new(alloc, "file")
+            .value_name("WHAT")
+            .required(true)
+            .help("F1 to F16, X1 to X16 or N1 to N11, or a journal, or - for standard input"),
+    )
+    .arg(
+        Arg::new(alloc, "place")
+            .value_name("K")
+            .value_parser(value_parser!(u32))
+            .help("The place of the entry of a journal that is to be explained"),
+    )
+    .arg(format_arg(alloc))
+    .arg(progress_arg(alloc))
 }
 
 /// A command that has those of the questions too.
-pub fn with_inquiries<'a>(alloc: Global, command: Command<'a>) -> Result<Command<'a>, Error> {
-    let command = command
-        .subcommand(show_command(alloc)?)?
-        .subcommand(chain_command(alloc)?)?
-        .subcommand(call_command(alloc)?)?
-        .subcommand(turns_command(alloc)?)?
-        .subcommand(state_command(alloc)?)?
-        .subcommand(explain_command(alloc)?)?;
-    Ok(command)
+pub fn with_inquiries<'a>(alloc: Global, command: Making<'a>) -> Making<'a> {
+    command
+        .command(show_command(alloc))
+        .command(chain_command(alloc))
+        .command(call_command(alloc))
+        .command(turns_command(alloc))
+        .command(state_command(alloc))
+        .command(explain_command(alloc))
 }
 
 // The object that a text names.

@@ -3,6 +3,7 @@
 
 mod arguments;
 mod asking;
+mod commands;
 mod draft;
 mod files;
 mod inquiries;

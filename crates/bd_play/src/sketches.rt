@@ -1,10 +1,11 @@
 //! Diagrams of a journal: their words, and the drawing.
 
+use crate::commands::Making;
 use crate::inquiries::{journal_arg, number_in, number_option, progress_arg, source_in};
 use crate::sources::{Source, judged_in};
 use bd_diagram::{Drawing, Format, Undrawn, draw};
 use bd_player::{DONE, FAULT, Fault, Judged, print_unlawful, tell};
-use clap::{Arg, ArgMatches, Command, Error};
+use clap::{Arg, ArgMatches};
 use std::alloc::Global;
 use std::io::{Eprint, Write};
 use std::rt::Files;
@@ -27,22 +28,24 @@ dashed. What each mark means stands in docs/FORMATS.md.
     bplay diagram journal > run.svg";
 
 /// The command.
-pub fn diagram_command<'a>(alloc: Global) -> Result<Command<'a>, Error> {
-    let command = Command::new(alloc, "diagram")
-        .about("Draws what happened between threads, as a sequence diagram")
-        .after_help(HELP)
-        .arg(journal_arg(alloc))?
-        .arg(
-            Arg::new(alloc, "format")
-                .long("format")
-                .value_name("F")
-                .value_parser(["svg", "mermaid", "text"].as_slice())
-                .help("In which form: svg, mermaid or text [default: svg]"),
-        )?
-        .arg(number_option(alloc, "from", "K", "Only entries from this place on"))?
-        .arg(number_option(alloc, "to", "K", "Only entries before this place"))?
-        .arg(progress_arg(alloc))?;
-    Ok(command)
+pub fn diagram_command<'a>(alloc: Global) -> Making<'a> {
+    Making::new(
+        alloc,
+        "diagram",
+        "Draws what happened between threads, as a sequence diagram",
+        HELP,
+    )
+    .arg(journal_arg(alloc))
+    .arg(
+        Arg::new(alloc, "format")
+            .long("format")
+            .value_name("F")
+            .value_parser(["svg", "mermaid", "text"].as_slice())
+            .help("In which form: svg, mermaid or text [default: svg]"),
+    )
+    .arg(number_option(alloc, "from", "K", "Only entries from this place on"))
+    .arg(number_option(alloc, "to", "K", "Only entries before this place"))
+    .arg(progress_arg(alloc))
 }
 
 fn format_in(matches: &ArgMatches<'_>) -> Format {
