@@ -7,7 +7,7 @@ use crate::fingerprint::fingerprint;
 use crate::writes::{joined, rest_after};
 use bd_engine::{Engine, Ran, Why};
 use bd_script::{Line, Script, ScriptError, Verb, read_script};
-use bd_space::{Answer, Record, Request};
+use bd_space::{Record, Request};
 use bd_uapi::Fault;
 use std::alloc::Global;
 use std::io;
@@ -66,15 +66,16 @@ fn run_whole<W: Write>(
     }
 }
 
-/// Prints what a request was answered, and by which steps.
-pub fn print_steps<W: Write>(from: u32, to: u32, answer: &Answer, out: &mut W) -> io::Result<()> {
+/// Prints by which steps a request was run, and what it was answered.
+pub fn print_steps<W: Write>(ran: Ran, out: &mut W) -> io::Result<()> {
+    let (from, to, answer) = (ran.from, ran.to, &ran.answer);
     writeln!(out, "{from} {to} {answer:?}")
 }
 
 /// Prints what the request of a line came to.
 pub fn print_ran<W: Write>(number: u64, ran: Ran, out: &mut W) -> io::Result<()> {
     write!(out, "{number}: ")?;
-    print_steps(ran.from, ran.to, &ran.answer, out)
+    print_steps(ran, out)
 }
 
 /// Runs the requests of a script's lines, and prints what each answers.

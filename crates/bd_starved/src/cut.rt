@@ -9,7 +9,7 @@ use crate::by_driver::{Way, play_lines};
 use crate::by_run::{engine_for, print_steps, run_lines, script_of, seats_of};
 use crate::writes::write_of;
 use bd_driver::{Driver, Outcome, Seat};
-use bd_engine::Engine;
+use bd_engine::{Engine, Ran};
 use bd_space::{Bytes, Request};
 use std::alloc::Global;
 use std::io;
@@ -24,9 +24,9 @@ fn write_of_two(alloc: Global) -> Result<Request, Broken> {
     again!(write_of(alloc, &STREAM, &Bytes::new(Vec::new(alloc))))
 }
 
-fn print_outcome<W: Write>(outcome: &Outcome, out: &mut W) -> io::Result<()> {
+fn print_outcome<W: Write>(outcome: Outcome, out: &mut W) -> io::Result<()> {
     match outcome {
-        Outcome::Done { answer, from, to } => print_steps(*from, *to, answer, out),
+        Outcome::Done { answer, from, to } => print_steps(Ran { answer, from, to }, out),
         Outcome::Back { request, why } => writeln!(out, "back {why:?} {request:?}"),
         Outcome::Handed => writeln!(out, "handed"),
     }
@@ -42,7 +42,7 @@ fn print_write<W: Write>(
         return Err(Broken::Never("an engine has seats"));
     }
     match engine.run(0, request) {
-        Ok(ran) => Ok(print_steps(ran.from, ran.to, &ran.answer, out)?),
+        Ok(ran) => Ok(print_steps(ran, out)?),
         Err(why) => Ok(writeln!(out, "refused {why:?}")?),
     }
 }
@@ -58,7 +58,7 @@ fn write_once<W: Write>(
     ensures { seat.new.table ≡ seat.old.table }
 {
     let outcome = call(driver, seat, write_of_two(alloc)?)?;
-    Ok(print_outcome(&outcome, out)?)
+    Ok(print_outcome(outcome, out)?)
 }
 
 // Writes it again and again.

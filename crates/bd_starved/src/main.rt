@@ -87,11 +87,11 @@ fn input<H: AllocGlobal + Input>(rt: &H) -> Result<Vec<u8>, Broken> {
     read_all(rt.alloc(), &mut rt.reader())
 }
 
-fn play<W: Write>(alloc: Global, text: &[u8], what_for: Use, out: &mut W) -> Result<(), Broken> {
+fn play<W: Write>(alloc: Global, text: Vec<u8>, what_for: Use, out: &mut W) -> Result<(), Broken> {
     match what_for {
-        Use::EveryWay => play_every_way(alloc, text, out),
-        Use::Cut => play_cut(alloc, text, out),
-        Use::Reserved => play_reserved(alloc, text, out),
+        Use::EveryWay => play_every_way(alloc, &text, out),
+        Use::Cut => play_cut(alloc, &text, out),
+        Use::Reserved => play_reserved(alloc, &text, out),
     }
 }
 
@@ -100,7 +100,7 @@ fn run<H: AllocGlobal + Input + Runtime<A = Global>, W: Write>(
     out: &mut W,
 ) -> Result<(), Broken> {
     match what_is_asked(rt)? {
-        Asked::Play(what_for) => play(rt.alloc(), &input(rt)?, what_for, out),
+        Asked::Play(what_for) => play(rt.alloc(), input(rt)?, what_for, out),
         Asked::Spellings => spell_all(rt.alloc(), out),
         Asked::Limits => Ok(print_limits(rt.alloc(), out)?),
     }
@@ -116,11 +116,12 @@ fn print_all<H: AllocGlobal + Input + Runtime<A = Global>, W: Write>(
     out.flush()
 }
 
-fn print<H: AllocGlobal + Input + Runtime<A = Global>>(rt: &H) -> Result<(), Broken> {
-    let mut out = again!(BufWriter::new(rt.alloc(), io::writer(rt)))?;
-    Ok(print_all(rt, &mut out)?)
+fn print<H: AllocGlobal + Input + Runtime<A = Global>>(rt: &H) {
+    if let Ok(mut out) = again!(BufWriter::new(rt.alloc(), io::writer(rt))) {
+        let _ = print_all(rt, &mut out);
+    }
 }
 
 fn main(rt: HostRuntime) {
-    let _ = print(&rt);
+    print(&rt);
 }
