@@ -1,6 +1,8 @@
 //! Why a run can't go on.
 
+use bd_engine::Why;
 use bd_script::ScriptError;
+use bd_uapi::Fault;
 use std::alloc::{AllocError, AllocFailed};
 use std::io;
 use thiserror::Error;
@@ -37,6 +39,25 @@ impl<T: Drop> From<AllocFailed<T>> for Broken {
 impl From<io::Error> for Broken {
     fn from(_: io::Error) -> Broken {
         Broken::Output
+    }
+}
+
+// Of a certificate: it has no other fault.
+impl From<Fault> for Broken {
+    fn from(fault: Fault) -> Broken {
+        match fault {
+            Fault::NoMemory => Broken::Memory,
+            _ => Broken::Never("a certificate has another fault"),
+        }
+    }
+}
+
+impl From<Why> for Broken {
+    fn from(why: Why) -> Broken {
+        match why {
+            Why::NoMemory => Broken::Memory,
+            Why::HistoryFull => Broken::Never("the history is full"),
+        }
     }
 }
 

@@ -3,10 +3,12 @@
 ghost use Rattle.std.specs.Prelude.{◌≡◌, All};
 
 use crate::broken::Broken;
-use crate::by_call::{call_whole, driver_for};
-use crate::by_hand_over::hand_over_whole;
+use crate::by_call::{call, driver_for, ran_of};
+use crate::by_hand_over::hand_over;
 use crate::by_run::{print_ran, script_of, seats_of};
-use bd_driver::{Driver, Seat};
+use crate::changes::print_change;
+use crate::writes::{joined, rest_after};
+use bd_driver::{Driver, Outcome, Page, Seat, Why};
 use bd_engine::Ran;
 use bd_script::{Line, Verb};
 use bd_space::{Record, Request};
@@ -23,6 +25,16 @@ pub enum Way {
     HandOver,
 }
 
+impl Way {
+    // What it is called where memory is refused to it.
+    fn what(self) -> &'static str {
+        match self {
+            Way::Call => "call",
+            Way::HandOver => "serve",
+        }
+    }
+}
+
 impl fmt::Display for Way {
     fn fmt<W: fmt::Write>(&self, f: &mut fmt::Formatter<W>) -> fmt::Result {
         f.write_str(match self {
@@ -32,8 +44,63 @@ impl fmt::Display for Way {
     }
 }
 
-// Has the request of a seat run.
-fn run_request<W: Write>(
+// Has a request of a seat run once.
+fn run_once(
+    driver: &Driver,
+    seats: &mut [Seat],
+    place: usize,
+    way: Way,
+    request: Request,
+) -> Result<Outcome, Broken>
+    requires { All (λ s. s.table ≡ driver.now.table) seats.old }
+    ensures { All (λ s. s.table ≡ driver.now.table) seats.new }
+{
+    match way {
+        Way::HandOver => hand_over(driver, seats, place, request),
+        Way::Call if place < seats.len() => call(driver, &mut seats[place], request),
+        Way::Call => Err(Broken::Never("a line is for another seat")),
+    }
+}
+
+// What a seat sees of the driver, if there is such a seat.
+fn page(driver: &Driver, seats: &mut [Seat], place: usize) -> Option<Page>
+    requires { All (λ s. s.table ≡ driver.now.table) seats.old }
+    ensures { All (λ s. s.table ≡ driver.now.table) seats.new }
+{
+    if seats.len() <= place {
+        return None;
+    }
+    Some(driver.look(&mut seats[place]))
+}
+
+// Has it run, and once more with what came back where memory was refused. The page is then as it was.
+fn run<W: Write>(
+    driver: &Driver,
+    seats: &mut [Seat],
+    place: usize,
+    way: Way,
+    request: Request,
+    out: &mut W,
+) -> Result<Ran, Broken>
+    requires { All (λ s. s.table ≡ driver.now.table) seats.old }
+    ensures { All (λ s. s.table ≡ driver.now.table) seats.new }
+{
+    let before = page(driver, seats, place);
+    match run_once(driver, seats, place, way, request)? {
+        Outcome::Back {
+            request,
+            why: Why::NoMemory,
+        } => {
+            let is_same = page(driver, seats, place) == before;
+            print_change(way.what(), is_same, out)?;
+            ran_of(run_once(driver, seats, place, way, request)?)
+        }
+        outcome => ran_of(outcome),
+    }
+}
+
+// Has it run, and the rest of it where memory stopped a write after some commands.
+fn run_whole<W: Write>(
     alloc: Global,
     driver: &Driver,
     seats: &mut [Seat],
@@ -46,12 +113,10 @@ fn run_request<W: Write>(
     requires { All (λ s. s.table ≡ driver.now.table) seats.old }
     ensures { All (λ s. s.table ≡ driver.now.table) seats.new }
 {
-    match way {
-        Way::HandOver => hand_over_whole(alloc, driver, seats, place, request, spare, out),
-        Way::Call if place < seats.len() => {
-            call_whole(alloc, driver, &mut seats[place], request, spare, out)
-        }
-        Way::Call => Err(Broken::Never("a line is for another seat")),
+    let first = run(driver, seats, place, way, request, out)?;
+    match rest_after(alloc, &first, spare)? {
+        None => Ok(first),
+        Some(rest) => joined(alloc, &first, &run(driver, seats, place, way, rest, out)?),
     }
 }
 
@@ -70,7 +135,7 @@ fn play_line<W: Write>(
 {
     let Line { number, seat, verb } = line;
     if let (Verb::Call(request), Verb::Call(spare)) = (verb, &same.verb) {
-        let ran = run_request(
+        let ran = run_whole(
             alloc,
             driver,
             seats,

@@ -2,6 +2,7 @@
 
 use crate::again::again;
 use crate::broken::Broken;
+use crate::changes::print_change;
 use crate::fingerprint::fingerprint;
 use crate::writes::{joined, rest_after};
 use bd_engine::{Engine, Ran, Why};
@@ -9,6 +10,7 @@ use bd_script::{Line, Script, ScriptError, Verb, read_script};
 use bd_space::{Record, Request};
 use bd_uapi::Fault;
 use std::alloc::Global;
+use std::io;
 use std::io::Write;
 
 /// The script of a text.
@@ -41,31 +43,12 @@ fn run<W: Write>(
     }
     let before = fingerprint(engine);
     match engine.run(seat, request) {
-        Ok(ran) => Ok(ran),
-        Err(Why::HistoryFull) => Err(Broken::Never("the history is full")),
         Err(Why::NoMemory) => {
-            if fingerprint(engine) != before {
-                writeln!(out, "a run that memory was refused to changed something")?;
-            }
-            match engine.run(seat, request) {
-                Ok(ran) => Ok(ran),
-                Err(_) => Err(Broken::Memory),
-            }
+            print_change("run", fingerprint(engine) == before, out)?;
+            Ok(engine.run(seat, request)?)
         }
+        ran => Ok(ran?),
     }
-}
-
-// Runs the rest of a request, of which memory left the first commands.
-fn run_rest<W: Write>(
-    alloc: Global,
-    engine: &mut Engine,
-    seat: u32,
-    first: &Ran,
-    rest: &Request,
-    out: &mut W,
-) -> Result<Ran, Broken> {
-    let second = run(engine, seat, rest, out)?;
-    joined(alloc, first, &second)
 }
 
 // Runs a request, and the rest of it where memory stopped it after some commands.
@@ -79,29 +62,33 @@ fn run_whole<W: Write>(
     let first = run(engine, seat, request, out)?;
     match rest_after(alloc, &first, request)? {
         None => Ok(first),
-        Some(rest) => run_rest(alloc, engine, seat, &first, &rest, out),
+        Some(rest) => joined(alloc, &first, &run(engine, seat, &rest, out)?),
     }
 }
 
+/// Prints by which steps a request was run, and what it was answered.
+pub fn print_steps<W: Write>(ran: Ran, out: &mut W) -> io::Result<()> {
+    let (from, to, answer) = (ran.from, ran.to, &ran.answer);
+    writeln!(out, "{from} {to} {answer:?}")
+}
+
 /// Prints what the request of a line came to.
-pub fn print_ran<W: Write>(number: u64, ran: Ran, out: &mut W) -> Result<(), Broken> {
-    let Ran { answer, from, to } = ran;
-    writeln!(out, "{number}: {from} {to} {answer:?}")?;
-    Ok(())
+pub fn print_ran<W: Write>(number: u64, ran: Ran, out: &mut W) -> io::Result<()> {
+    write!(out, "{number}: ")?;
+    print_steps(ran, out)
 }
 
 /// Runs the requests of a script's lines, and prints what each answers.
 pub fn run_lines<W: Write>(
     alloc: Global,
     engine: &mut Engine,
-    lines: Vec<Line>,
+    lines: &[Line],
     out: &mut W,
 ) -> Result<(), Broken> {
     for line in lines {
-        let Line { number, seat, verb } = line;
-        if let Verb::Call(request) = verb {
-            let ran = run_whole(alloc, engine, seat, &request, out)?;
-            print_ran(number, ran, out)?;
+        if let Verb::Call(request) = &line.verb {
+            let ran = run_whole(alloc, engine, line.seat, request, out)?;
+            print_ran(line.number, ran, out)?;
         }
     }
     Ok(())
@@ -111,6 +98,6 @@ pub fn run_lines<W: Write>(
 pub fn play_by_run<W: Write>(alloc: Global, text: &[u8], out: &mut W) -> Result<Record, Broken> {
     let script = script_of(alloc, text)?;
     let mut engine = engine_for(alloc, script.seats)?;
-    run_lines(alloc, &mut engine, script.lines, out)?;
+    run_lines(alloc, &mut engine, &script.lines, out)?;
     Ok(engine.into_record())
 }

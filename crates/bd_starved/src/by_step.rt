@@ -2,35 +2,37 @@
 
 ghost use Rattle.std.specs.Prelude.{◌≡◌, ◌<◌};
 
-use crate::again::again;
 use crate::broken::Broken;
 use crate::by_run::engine_for;
+use crate::changes::print_change;
 use crate::fingerprint::fingerprint;
-use bd_engine::{Engine, Why};
-use bd_space::{Entry, Record, StepAnswer};
+use bd_engine::Engine;
+use bd_space::{Entry, Record};
 use std::alloc::Global;
 use std::io::Write;
 
-// Makes the step of an entry, and once more where memory was refused. The engine is then as it was.
-fn step<W: Write>(engine: &mut Engine, entry: &Entry, out: &mut W) -> Result<StepAnswer, Broken>
+// Makes the step of an entry.
+fn step_once(engine: &mut Engine, entry: &Entry) -> Result<(), Broken>
     requires { entry.now.seat < engine.old.seats }
     ensures { engine.new.seats ≡ engine.old.seats }
 {
-    let step = again!(entry.step.copied())?;
+    let step = entry.step.copied()?;
+    engine.step(entry.seat, step)?;
+    Ok(())
+}
+
+// The same, and once more where memory was refused. The engine is then as it was.
+fn step<W: Write>(engine: &mut Engine, entry: &Entry, out: &mut W) -> Result<(), Broken>
+    requires { entry.now.seat < engine.old.seats }
+    ensures { engine.new.seats ≡ engine.old.seats }
+{
     let before = fingerprint(engine);
-    match engine.step(entry.seat, step) {
-        Ok(answer) => Ok(answer),
-        Err(Why::HistoryFull) => Err(Broken::Never("the history is full")),
-        Err(Why::NoMemory) => {
-            if fingerprint(engine) != before {
-                writeln!(out, "a step that memory was refused to changed something")?;
-            }
-            let step = again!(entry.step.copied())?;
-            match engine.step(entry.seat, step) {
-                Ok(answer) => Ok(answer),
-                Err(_) => Err(Broken::Memory),
-            }
+    match step_once(engine, entry) {
+        Err(Broken::Memory) => {
+            print_change("step", fingerprint(engine) == before, out)?;
+            step_once(engine, entry)
         }
+        made => made,
     }
 }
 

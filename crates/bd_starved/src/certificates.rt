@@ -8,67 +8,63 @@ use crate::fingerprint::{MOST_HANDLES, PIDS};
 use bd_audit::{AuditFault, Turn, call_of_reply, gift_chain, oneway_turns, replay};
 use bd_codec::read_return;
 use bd_engine::Engine;
-use bd_space::{Record, StepAnswer};
+use bd_space::{ObjectId, Record, StepAnswer};
 use bd_uapi::{Fault, MOST_SEATS, Return};
 use std::alloc::Global;
+use std::io;
 use std::io::Write;
 
-// A certificate call has no other fault.
-fn broken_by(fault: Fault) -> Broken {
-    match fault {
-        Fault::NoMemory => Broken::Memory,
-        _ => Broken::Never("a certificate has another fault"),
-    }
-}
-
-// A lawful record, of which certificates can be asked, and an engine that has its steps.
-#[derive(Drop)]
-struct Lawful<'a> {
-    alloc: Global,
-    of: &'a Record,
-    engine: &'a Engine,
-}
-
-fn print_places<W: Write>(places: &[u32], out: &mut W) -> Result<(), Broken> {
+fn print_chain<W: Write>(pid: u32, number: u32, places: &[u32], out: &mut W) -> io::Result<()> {
+    write!(out, "chain {pid} {number}:")?;
     for place in places {
         write!(out, " {place}")?;
     }
-    writeln!(out)?;
-    Ok(())
+    writeln!(out)
 }
 
 // Prints the gift chain of what a handle names, if it names something.
-fn ask_chain<W: Write>(lawful: &Lawful, pid: u32, number: u32, out: &mut W) -> Result<(), Broken>
-    requires { IsAsked lawful.now.of.now }
+fn ask_chain<W: Write>(
+    alloc: Global,
+    lawful: &Record,
+    pid: u32,
+    number: u32,
+    out: &mut W,
+) -> Result<(), Broken>
+    requires { IsAsked lawful.now }
 {
-    let chain = again!(
-        gift_chain(lawful.alloc, lawful.of, pid, number),
-        Fault::NoMemory
-    )
-    .map_err(broken_by)?;
-    if let Some(places) = chain {
-        write!(out, "chain {pid} {number}:")?;
-        print_places(&places, out)?;
+    match again!(gift_chain(alloc, lawful, pid, number), Fault::NoMemory)? {
+        Some(places) => Ok(print_chain(pid, number, &places, out)?),
+        None => Ok(()),
     }
-    Ok(())
 }
 
-fn ask_chains_of<W: Write>(lawful: &Lawful, pid: u32, out: &mut W) -> Result<(), Broken>
-    requires { IsAsked lawful.now.of.now }
+fn ask_chains_of<W: Write>(
+    alloc: Global,
+    lawful: &Record,
+    engine: &Engine,
+    pid: u32,
+    out: &mut W,
+) -> Result<(), Broken>
+    requires { IsAsked lawful.now }
 {
     for number in 0..MOST_HANDLES {
-        if lawful.engine.named(pid, number).is_some() {
-            ask_chain(lawful, pid, number, out)?;
+        if engine.named(pid, number).is_some() {
+            ask_chain(alloc, lawful, pid, number, out)?;
         }
     }
     Ok(())
 }
 
-fn ask_chains<W: Write>(lawful: &Lawful, out: &mut W) -> Result<(), Broken>
-    requires { IsAsked lawful.now.of.now }
+fn ask_chains<W: Write>(
+    alloc: Global,
+    lawful: &Record,
+    engine: &Engine,
+    out: &mut W,
+) -> Result<(), Broken>
+    requires { IsAsked lawful.now }
 {
     for pid in PIDS {
-        ask_chains_of(lawful, pid, out)?;
+        ask_chains_of(alloc, lawful, engine, pid, out)?;
     }
     Ok(())
 }
@@ -96,73 +92,85 @@ fn takes_reply(answer: &StepAnswer) -> bool {
     }
 }
 
-// Prints the call that a reading answers.
-fn ask_call<W: Write>(lawful: &Lawful, place: u32, out: &mut W) -> Result<(), Broken>
-    requires { IsAsked lawful.now.of.now }
-{
-    match again!(
-        call_of_reply(lawful.alloc, lawful.of, place),
-        Fault::NoMemory
-    )
-    .map_err(broken_by)?
-    {
-        Some(call) => writeln!(out, "call of reply {place}: {call}")?,
-        None => writeln!(out, "call of reply {place}: none")?,
+fn print_call<W: Write>(place: u32, call: Option<u32>, out: &mut W) -> io::Result<()> {
+    match call {
+        Some(call) => writeln!(out, "call of reply {place}: {call}"),
+        None => writeln!(out, "call of reply {place}: none"),
     }
-    Ok(())
 }
 
-fn ask_calls<W: Write>(lawful: &Lawful, out: &mut W) -> Result<(), Broken>
-    requires { IsAsked lawful.now.of.now }
+// Prints the call that a reading answers.
+fn ask_call<W: Write>(alloc: Global, lawful: &Record, place: u32, out: &mut W) -> Result<(), Broken>
+    requires { IsAsked lawful.now }
+{
+    let call = again!(call_of_reply(alloc, lawful, place), Fault::NoMemory)?;
+    Ok(print_call(place, call, out)?)
+}
+
+fn ask_calls<W: Write>(alloc: Global, lawful: &Record, out: &mut W) -> Result<(), Broken>
+    requires { IsAsked lawful.now }
 {
     let mut place = 0;
-    for entry in lawful.of.entries.as_slice() {
+    for entry in lawful.entries.as_slice() {
         if takes_reply(&entry.answer) {
-            ask_call(lawful, place, out)?;
+            ask_call(alloc, lawful, place, out)?;
         }
         place = place.saturating_add(1);
     }
     Ok(())
 }
 
-fn print_place<W: Write>(place: Option<u32>, out: &mut W) -> Result<(), Broken> {
+fn print_place<W: Write>(place: Option<u32>, out: &mut W) -> io::Result<()> {
     match place {
-        None => write!(out, " none")?,
-        Some(place) => write!(out, " {place}")?,
+        None => write!(out, " none"),
+        Some(place) => write!(out, " {place}"),
     }
-    Ok(())
 }
 
-fn print_turn<W: Write>(turn: &Turn, out: &mut W) -> Result<(), Broken> {
-    write!(out, " {}", turn.made)?;
+fn print_turn<W: Write>(turn: &Turn, out: &mut W) -> io::Result<()> {
+    print_place(Some(turn.made), out)?;
     print_place(turn.handed, out)?;
     print_place(turn.ended, out)?;
-    write!(out, ";")?;
-    Ok(())
+    write!(out, ";")
 }
 
-fn print_turns<W: Write>(turns: &[Turn], out: &mut W) -> Result<(), Broken> {
+fn print_turns<W: Write>(turns: &[Turn], out: &mut W) -> io::Result<()> {
     write!(out, "turns:")?;
     for turn in turns {
         print_turn(turn, out)?;
     }
-    writeln!(out)?;
-    Ok(())
+    writeln!(out)
 }
 
-// Prints the turns of the manager's object, if there is one.
-fn ask_turns<W: Write>(lawful: &Lawful, out: &mut W) -> Result<(), Broken>
-    requires { IsAsked lawful.now.of.now }
+// Prints the turns of the manager's object.
+fn ask_turns<W: Write>(
+    alloc: Global,
+    lawful: &Record,
+    manager: ObjectId,
+    out: &mut W,
+) -> Result<(), Broken>
+    requires { IsAsked lawful.now }
 {
-    if let Some(object) = lawful.engine.manager() {
-        let turns = again!(
-            oneway_turns(lawful.alloc, lawful.of, object),
-            Fault::NoMemory
-        )
-        .map_err(broken_by)?;
-        print_turns(&turns, out)?;
+    let turns = again!(oneway_turns(alloc, lawful, manager), Fault::NoMemory)?;
+    Ok(print_turns(&turns, out)?)
+}
+
+// Prints what can be asked of a lawful record.
+fn ask_all<W: Write>(
+    alloc: Global,
+    lawful: &Record,
+    engine: &Engine,
+    out: &mut W,
+) -> Result<(), Broken>
+    requires { IsAsked lawful.now }
+{
+    writeln!(out, "lawful")?;
+    ask_chains(alloc, lawful, engine, out)?;
+    ask_calls(alloc, lawful, out)?;
+    match engine.manager() {
+        Some(manager) => ask_turns(alloc, lawful, manager, out),
+        None => Ok(()),
     }
-    Ok(())
 }
 
 /// Judges the record of a script, and prints what can be asked of it: the gift chain of each handle, the call of each
@@ -177,19 +185,8 @@ pub fn judge<W: Write>(
         return Err(Broken::Never("a script has other numbers of seats"));
     }
     match again!(replay(alloc, record), AuditFault::NoMemory) {
-        Ok(()) => writeln!(out, "lawful")?,
-        Err(AuditFault::Unlawful { at }) => {
-            writeln!(out, "unlawful {at}")?;
-            return Ok(());
-        }
-        Err(AuditFault::NoMemory) => return Err(Broken::Memory),
+        Ok(()) => ask_all(alloc, record, engine, out),
+        Err(AuditFault::Unlawful { at }) => Ok(writeln!(out, "unlawful {at}")?),
+        Err(AuditFault::NoMemory) => Err(Broken::Memory),
     }
-    let lawful = Lawful {
-        alloc,
-        of: record,
-        engine,
-    };
-    ask_chains(&lawful, out)?;
-    ask_calls(&lawful, out)?;
-    ask_turns(&lawful, out)
 }

@@ -4,14 +4,15 @@ ghost use Rattle.std.specs.Prelude.{◌≡◌, All};
 
 use crate::again::again;
 use crate::broken::Broken;
-use crate::by_call::driver_for;
+use crate::by_call::{call, driver_for};
 use crate::by_driver::{Way, play_lines};
-use crate::by_run::{engine_for, run_lines, script_of, seats_of};
+use crate::by_run::{engine_for, print_steps, run_lines, script_of, seats_of};
+use crate::writes::write_of;
 use bd_driver::{Driver, Outcome, Seat};
-use bd_engine::Engine;
-use bd_script::Script;
+use bd_engine::{Engine, Ran};
 use bd_space::{Bytes, Request};
-use std::alloc::{AllocError, Global};
+use std::alloc::Global;
+use std::io;
 use std::io::Write;
 
 // How often it is written: at one of the second commands the history's room is used up.
@@ -19,26 +20,16 @@ const WRITES: u32 = 8;
 // BC_ENTER_LOOPER, twice.
 const STREAM: [u8; 8] = [0x0c, 0x63, 0, 0, 0x0c, 0x63, 0, 0];
 
-fn stream(alloc: Global) -> Result<Vec<u8>, AllocError> {
-    let mut bytes = Vec::new(alloc);
-    bytes.extend_from_slice(&STREAM)?;
-    Ok(bytes)
-}
-
 fn write_of_two(alloc: Global) -> Result<Request, Broken> {
-    Ok(Request::Write {
-        stream: Bytes::new(again!(stream(alloc))?),
-        area: Bytes::new(Vec::new(alloc)),
-    })
+    again!(write_of(alloc, &STREAM, &Bytes::new(Vec::new(alloc))))
 }
 
-fn print_outcome<W: Write>(outcome: &Outcome, out: &mut W) -> Result<(), Broken> {
+fn print_outcome<W: Write>(outcome: Outcome, out: &mut W) -> io::Result<()> {
     match outcome {
-        Outcome::Done { answer, from, to } => writeln!(out, "{from} {to} {answer:?}")?,
-        Outcome::Back { request, why } => writeln!(out, "back {why:?} {request:?}")?,
-        Outcome::Handed => writeln!(out, "handed")?,
+        Outcome::Done { answer, from, to } => print_steps(Ran { answer, from, to }, out),
+        Outcome::Back { request, why } => writeln!(out, "back {why:?} {request:?}"),
+        Outcome::Handed => writeln!(out, "handed"),
     }
-    Ok(())
 }
 
 // Runs it, which memory may leave whole, stop after its first command, or refuse.
@@ -51,10 +42,9 @@ fn print_write<W: Write>(
         return Err(Broken::Never("an engine has seats"));
     }
     match engine.run(0, request) {
-        Ok(ran) => writeln!(out, "{} {} {:?}", ran.from, ran.to, ran.answer)?,
-        Err(why) => writeln!(out, "refused {why:?}")?,
+        Ok(ran) => Ok(print_steps(ran, out)?),
+        Err(why) => Ok(writeln!(out, "refused {why:?}")?),
     }
-    Ok(())
 }
 
 // Writes it, which memory may leave whole, stop after its first command, or give back.
@@ -67,12 +57,8 @@ fn write_once<W: Write>(
     requires { seat.old.table ≡ driver.now.table }
     ensures { seat.new.table ≡ seat.old.table }
 {
-    let request = write_of_two(alloc)?;
-    if seat.is_waiting() {
-        return Err(Broken::Never("something is handed over"));
-    }
-    let outcome = driver.call(seat, request);
-    print_outcome(&outcome, out)
+    let outcome = call(driver, seat, write_of_two(alloc)?)?;
+    Ok(print_outcome(outcome, out)?)
 }
 
 // Writes it again and again.
@@ -116,10 +102,8 @@ pub fn play_cut<W: Write>(alloc: Global, text: &[u8], out: &mut W) -> Result<(),
 // An engine with room for so many steps.
 fn reserved(alloc: Global, seats: u32, steps: usize) -> Result<Engine, Broken> {
     let mut engine = engine_for(alloc, seats)?;
-    match again!(engine.reserve(steps)) {
-        Ok(()) => Ok(engine),
-        Err(_) => Err(Broken::Memory),
-    }
+    again!(engine.reserve(steps))?;
+    Ok(engine)
 }
 
 fn write_into<W: Write>(alloc: Global, engine: &mut Engine, out: &mut W) -> Result<(), Broken> {
@@ -130,8 +114,8 @@ fn write_into<W: Write>(alloc: Global, engine: &mut Engine, out: &mut W) -> Resu
 /// Prints what comes of one write after the steps of a script, by an engine that has room for one step more than those: so
 /// it is the second command that asks for memory.
 pub fn play_reserved<W: Write>(alloc: Global, text: &[u8], out: &mut W) -> Result<(), Broken> {
-    let Script { seats, lines } = script_of(alloc, text)?;
-    let mut engine = reserved(alloc, seats, lines.len() + 1)?;
-    run_lines(alloc, &mut engine, lines, out)?;
+    let script = script_of(alloc, text)?;
+    let mut engine = reserved(alloc, script.seats, script.lines.len() + 1)?;
+    run_lines(alloc, &mut engine, &script.lines, out)?;
     write_into(alloc, &mut engine, out)
 }

@@ -20,7 +20,7 @@ fn play_again<W: Write>(
 ) -> Result<(), Broken> {
     writeln!(out, "== {way}")?;
     let record = play_by_driver(alloc, text, way, out)?;
-    print_again(&journal_of(alloc, &record)?, journal, out)
+    print_again(alloc, &record, journal, out)
 }
 
 // Plays the record step by step, which has this journal too, and asks for certificates.
@@ -33,7 +33,21 @@ fn play_steps<W: Write>(
     writeln!(out, "== by step")?;
     let engine = play_by_step(alloc, record, out)?;
     judge(alloc, record, &engine, out)?;
-    print_again(&journal_of(alloc, &engine.into_record())?, journal, out)
+    print_again(alloc, &engine.into_record(), journal, out)
+}
+
+// Plays it in the other ways, which have this journal too.
+fn play_others<W: Write>(
+    alloc: Global,
+    text: &[u8],
+    record: &Record,
+    journal: &[u8],
+    out: &mut W,
+) -> Result<(), Broken> {
+    print_journal(journal, out)?;
+    play_again(alloc, text, Way::Call, journal, out)?;
+    play_again(alloc, text, Way::HandOver, journal, out)?;
+    play_steps(alloc, record, journal, out)
 }
 
 /// Plays a script by the engine, whole and step by step, then by a driver, called and handed over: all four have one
@@ -42,8 +56,5 @@ pub fn play_every_way<W: Write>(alloc: Global, text: &[u8], out: &mut W) -> Resu
     writeln!(out, "== by run")?;
     let record = play_by_run(alloc, text, out)?;
     let journal = journal_of(alloc, &record)?;
-    print_journal(&journal, out)?;
-    play_again(alloc, text, Way::Call, &journal, out)?;
-    play_again(alloc, text, Way::HandOver, &journal, out)?;
-    play_steps(alloc, &record, &journal, out)
+    play_others(alloc, text, &record, &journal, out)
 }

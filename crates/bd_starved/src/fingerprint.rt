@@ -1,7 +1,7 @@
 //! What all reading calls of an engine answer, as one number: equal engines have equal ones.
 
 use bd_engine::Engine;
-use bd_space::ObjectId;
+use bd_space::{Buffer, ObjectId};
 use std::hash::{DefaultHasher, Hash, Hasher};
 
 /// The pids of the processes that are looked at.
@@ -52,14 +52,18 @@ fn add_objects_of(engine: &Engine, place: u32, sum: &mut DefaultHasher) {
     }
 }
 
-fn add_buffer(engine: &Engine, place: u32, sum: &mut DefaultHasher) {
+fn add_buffer(buffer: &Buffer, sum: &mut DefaultHasher) {
+    (buffer.receiver, buffer.sender).hash(sum);
+    (buffer.start, buffer.size).hash(sum);
+    (buffer.one_way, buffer.handed).hash(sum);
+    id_of(buffer.target).hash(sum);
+    buffer.bytes.as_slice().hash(sum);
+    buffer.offsets.as_slice().hash(sum);
+}
+
+fn add_buffer_at(engine: &Engine, place: u32, sum: &mut DefaultHasher) {
     if let Some(buffer) = engine.buffer(place) {
-        (buffer.receiver, buffer.sender).hash(sum);
-        (buffer.start, buffer.size).hash(sum);
-        (buffer.one_way, buffer.handed).hash(sum);
-        id_of(buffer.target).hash(sum);
-        buffer.bytes.as_slice().hash(sum);
-        buffer.offsets.as_slice().hash(sum);
+        add_buffer(buffer, sum);
     }
     for object in engine.carried(place) {
         id_of(Some(object)).hash(sum);
@@ -78,7 +82,7 @@ pub fn fingerprint(engine: &Engine) -> u64 {
     }
     for place in 0..engine.len() {
         add_objects_of(engine, place, &mut sum);
-        add_buffer(engine, place, &mut sum);
+        add_buffer_at(engine, place, &mut sum);
     }
     sum.finish()
 }

@@ -14,6 +14,7 @@ mod by_hand_over;
 mod by_run;
 mod by_step;
 mod certificates;
+mod changes;
 mod cut;
 mod every_way;
 mod fingerprint;
@@ -33,11 +34,17 @@ use std::io::{BufWriter, Read, Write};
 use std::rt::Runtime;
 use std::{env, io};
 
-// What is asked for.
-enum Asked {
-    Play,
+// What a script is for.
+#[derive(Clone, Copy)]
+enum Use {
+    EveryWay,
     Cut,
     Reserved,
+}
+
+// What is asked for.
+enum Asked {
+    Play(Use),
     Spellings,
     Limits,
 }
@@ -45,12 +52,12 @@ enum Asked {
 impl Asked {
     fn of(words: &[String]) -> Result<Asked, Broken> {
         let Some(word) = words.get(1) else {
-            return Ok(Asked::Play);
+            return Ok(Asked::Play(Use::EveryWay));
         };
         match word.as_str() {
-            "play" => Ok(Asked::Play),
-            "cut" => Ok(Asked::Cut),
-            "reserved" => Ok(Asked::Reserved),
+            "play" => Ok(Asked::Play(Use::EveryWay)),
+            "cut" => Ok(Asked::Play(Use::Cut)),
+            "reserved" => Ok(Asked::Play(Use::Reserved)),
             "spellings" => Ok(Asked::Spellings),
             "limits" => Ok(Asked::Limits),
             _ => Err(Broken::Never("no word of this program")),
@@ -80,28 +87,41 @@ fn input<H: AllocGlobal + Input>(rt: &H) -> Result<Vec<u8>, Broken> {
     read_all(rt.alloc(), &mut rt.reader())
 }
 
+fn play<W: Write>(alloc: Global, text: Vec<u8>, what_for: Use, out: &mut W) -> Result<(), Broken> {
+    match what_for {
+        Use::EveryWay => play_every_way(alloc, &text, out),
+        Use::Cut => play_cut(alloc, &text, out),
+        Use::Reserved => play_reserved(alloc, &text, out),
+    }
+}
+
 fn run<H: AllocGlobal + Input + Runtime<A = Global>, W: Write>(
     rt: &H,
     out: &mut W,
 ) -> Result<(), Broken> {
-    let alloc = rt.alloc();
     match what_is_asked(rt)? {
-        Asked::Play => play_every_way(alloc, &input(rt)?, out),
-        Asked::Cut => play_cut(alloc, &input(rt)?, out),
-        Asked::Reserved => play_reserved(alloc, &input(rt)?, out),
-        Asked::Spellings => spell_all(alloc, out),
-        Asked::Limits => print_limits(alloc, out),
+        Asked::Play(what_for) => play(rt.alloc(), input(rt)?, what_for, out),
+        Asked::Spellings => spell_all(rt.alloc(), out),
+        Asked::Limits => Ok(print_limits(rt.alloc(), out)?),
     }
 }
 
-fn print_all<H: AllocGlobal + Input + Runtime<A = Global>>(rt: &H) -> Result<(), Broken> {
-    let mut out = again!(BufWriter::new(rt.alloc(), io::writer(rt)))?;
-    if let Err(broken) = run(rt, &mut out) {
+fn print_all<H: AllocGlobal + Input + Runtime<A = Global>, W: Write>(
+    rt: &H,
+    out: &mut W,
+) -> io::Result<()> {
+    if let Err(broken) = run(rt, out) {
         writeln!(out, "broken: {broken}")?;
     }
-    Ok(out.flush()?)
+    out.flush()
+}
+
+fn print<H: AllocGlobal + Input + Runtime<A = Global>>(rt: &H) {
+    if let Ok(mut out) = again!(BufWriter::new(rt.alloc(), io::writer(rt))) {
+        let _ = print_all(rt, &mut out);
+    }
 }
 
 fn main(rt: HostRuntime) {
-    let _ = print_all(&rt);
+    print(&rt);
 }

@@ -1,6 +1,7 @@
 //! Each command and each return, spelled.
 
 use crate::broken::Broken;
+use crate::journals::print_hex;
 use bd_codec::{write_command, write_return};
 use bd_uapi::{Command, Fault, Return, TransactionData, TransactionFlags};
 use std::alloc::Global;
@@ -60,10 +61,7 @@ fn print_spelled<W: Write>(
 ) -> Result<bool, Broken> {
     match first {
         Ok(()) => {
-            for byte in bytes {
-                write!(out, "{byte:02x}")?;
-            }
-            writeln!(out)?;
+            print_hex(bytes, out)?;
             Ok(true)
         }
         Err(Fault::NoMemory) => {

@@ -1,6 +1,7 @@
 //! A write that memory stopped after some of its commands, and what the rest of it comes to.
 
 ghost use Rattle.std.specs.Prelude.{◌≡◌, IfOk};
+ghost use Rattle.bd_space.specs.declared.step.Request.TheVariants as request;
 ghost use Rattle.bd_starved.specs.Writes.{is_cut_short, IsRest, stop_of};
 
 use crate::again::again;
@@ -8,7 +9,7 @@ use crate::broken::Broken;
 use bd_engine::Ran;
 use bd_space::{Answer, Bytes, Notes, Request, Stop};
 use bd_uapi::{Fault, Note};
-use std::alloc::Global;
+use std::alloc::{AllocError, Global};
 
 // Whether memory stopped a write after some of its commands.
 fn was_cut_short(answer: &Answer) -> bool
@@ -23,12 +24,22 @@ fn was_cut_short(answer: &Answer) -> bool
     )
 }
 
-fn bytes_from(alloc: Global, bytes: &[u8]) -> Result<Bytes, Broken>
+fn bytes_from(alloc: Global, bytes: &[u8]) -> Result<Bytes, AllocError>
     ensures { IfOk result (λ b. b ≡ bytes.now) }
 {
     let mut copy = Vec::new(alloc);
     copy.extend_from_slice(bytes)?;
     Ok(Bytes::new(copy))
+}
+
+/// A write of these bytes.
+pub fn write_of(alloc: Global, stream: &[u8], area: &Bytes) -> Result<Request, Broken>
+    ensures { IfOk result (λ r. r ≡ request.Write stream.now area.now) }
+{
+    Ok(Request::Write {
+        stream: bytes_from(alloc, stream)?,
+        area: area.copied()?,
+    })
 }
 
 // The write of what is left of a stream after so many bytes.
@@ -39,10 +50,7 @@ fn rest_of(alloc: Global, request: &Request, consumed: u32) -> Result<Request, B
         return Err(Broken::Never("another request was cut short"));
     };
     match stream.as_slice().get(consumed as usize..) {
-        Some(rest) => Ok(Request::Write {
-            stream: again!(bytes_from(alloc, rest))?,
-            area: again!(bytes_from(alloc, area.as_slice()))?,
-        }),
+        Some(rest) => again!(write_of(alloc, rest, area)),
         None => Err(Broken::Never("more was consumed than there was")),
     }
 }
