@@ -1,8 +1,10 @@
 //! What C calls of a driver.
-ghost use Rattle.std.specs.Prelude.{◌≡◌, Some, None};
+ghost use Rattle.std.specs.Prelude.{◌≡◌, Some, None, IfErr, OnOk};
 ghost use Rattle.bd_c.specs.declared.held.Held.{Held};
 ghost use Rattle.bd_c.specs.Status.{Reports};
-ghost use Rattle.bd_c.specs.Drivers.{IsDriver, IsOwn, IsEnded, OfHistory, OpensAt, HandsAt, ReturnsAt, Finishes};
+ghost use Rattle.bd_c.specs.Drivers.{IsDriver, OverDriver, IsOwn, IsEnded, OfHistory, OpensAt, HandsAt, ReturnsAt, Finishes};
+ghost use Rattle.bd_c.specs.Hosts.{Hands, Keeps};
+ghost use Rattle.bd_c.specs.Seats.{OfSeat};
 ghost use Rattle.bd_c.specs.Journals.{Journals, Judges};
 
 use crate::handles::Handle;
@@ -28,8 +30,20 @@ pub extern "C" fn hullpippin_new(alloc: Global, seats: u32, driver: &mut Handle)
     }
 }
 
-/// Takes the first seat off a driver that is there. The seat's handle must have nothing.
+// The first seat that is there goes to where nothing is.
 #[tactic(auto, using(crate::proofs::Behind::driver_held))]
+fn hand_out(alloc: Global, driver: &mut Handle, out: &mut Held) -> Result<(), Status>
+    requires { IsDriver driver.old.held }
+    ensures ok { OnOk result (OverDriver driver.old.held driver.new.held (λ h k. OfSeat (Some out.new) (Hands h k))) }
+    ensures refused { IfErr result (λ s. OverDriver driver.old.held driver.new.held (λ h k. Keeps h k s)) }
+{
+    let mut host = take(alloc, driver);
+    let handed = host.hand_out(out);
+    put(driver, host);
+    handed
+}
+
+/// Takes the first seat off a driver that is there. The seat's handle must have nothing.
 #[unsafe(no_mangle)]
 pub extern "C" fn hullpippin_take_seat(alloc: Global, driver: &mut Handle, seat: &mut Handle) -> u32
     requires driver { IsDriver driver.old.held }
@@ -39,10 +53,7 @@ pub extern "C" fn hullpippin_take_seat(alloc: Global, driver: &mut Handle, seat:
     let Ok(mut room) = Box::new(alloc, Held::Nothing) else {
         return Status::NoMemory.number();
     };
-    let mut host = take(alloc, driver);
-    let handed = host.hand_out(&mut room);
-    put(driver, host);
-    match handed {
+    match hand_out(alloc, driver, &mut room) {
         Ok(()) => {
             put(seat, room);
             Status::Done.number()

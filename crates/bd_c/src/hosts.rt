@@ -3,9 +3,11 @@ ghost use Rattle.std.specs.Prelude.{◌≡◌, Some, true, IfOk, IfErr, OnOk};
 ghost use Rattle.bd_c.specs.Hosts.{Opens, IsRefusal, Hands, Keeps, has_room};
 ghost use Rattle.bd_c.specs.Drivers.{IsDriver, OfDriver, OverDriver, IsOwn, Returns, Finishes};
 ghost use Rattle.bd_c.specs.Seats.{OfSeat};
+ghost use Rattle.bd_c.specs.declared.held.Held.TheVariants.{Driver};
 
 use crate::held::Held;
 use crate::host::Host;
+use crate::opening::boxed;
 use crate::status::Status;
 use std::alloc::Global;
 
@@ -14,12 +16,17 @@ pub(crate) fn open_host(alloc: Global, count: u32) -> Result<Box<Held>, Status>
     ensures ok { IfOk result (λ b. OfDriver (Some b.value) (Opens count)) }
     ensures refused { IfErr result (IsRefusal count) }
 {
-    match Host::new(alloc, count) {
-        Err(status) => Err(status),
-        Ok(host) => match Box::new(alloc, Held::Driver(host)) {
-            Ok(held) => Ok(held),
-            Err(_) => Err(Status::NoMemory),
-        },
+    let host = Host::new(alloc, count)?;
+    boxed(alloc, Held::Driver(host))
+}
+
+// What comes in the driver's place, and whether it is its history.
+fn ended(host: Host) -> (Held, Status)
+    ensures { Finishes (Some (Driver host)) (Some result.0) result.1 }
+{
+    match host.finish() {
+        Ok(history) => (Held::History(history), Status::Done),
+        Err(host) => (Held::Driver(host), Status::SeatsAway),
     }
 }
 
@@ -71,16 +78,11 @@ impl Held {
         ensures { Finishes (Some self.old) (Some self.new) result }
     {
         match std::mem::replace(self, Held::Nothing) {
-            Held::Driver(host) => match host.finish() {
-                Ok(history) => {
-                    *self = Held::History(history);
-                    Status::Done
-                }
-                Err(host) => {
-                    *self = Held::Driver(host);
-                    Status::SeatsAway
-                }
-            },
+            Held::Driver(host) => {
+                let (held, status) = ended(host);
+                *self = held;
+                status
+            }
             _ => unreachable!(),
         }
     }

@@ -5,6 +5,7 @@ ghost use Rattle.bd_c.specs.Lives.{IsLive, OfLive, OverLive, Begins, IsLiveRefus
 use crate::answers::Told;
 use crate::held::Held;
 use crate::live::OwnedLive;
+use crate::opening::boxed;
 use crate::status::Status;
 use bd_space::Step;
 use std::alloc::Global;
@@ -14,13 +15,8 @@ pub(crate) fn open_live(alloc: Global, seats: u32) -> Result<Box<Held>, Status>
     ensures ok { IfOk result (λ b. OfLive (Some b.value) (Begins seats)) }
     ensures refused { IfErr result (IsLiveRefusal seats) }
 {
-    match OwnedLive::new(alloc, seats) {
-        Err(status) => Err(status),
-        Ok(live) => match Box::new(alloc, Held::Live(live)) {
-            Ok(held) => Ok(held),
-            Err(_) => Err(Status::NoMemory),
-        },
-    }
+    let live = OwnedLive::new(alloc, seats)?;
+    boxed(alloc, Held::Live(live))
 }
 
 impl Held {

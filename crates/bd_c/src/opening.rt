@@ -1,10 +1,12 @@
 //! What is behind a handle, taken out and put back.
-ghost use Rattle.std.specs.Prelude.{◌≡◌, Some, None};
+ghost use Rattle.std.specs.Prelude.{◌≡◌, Some, None, IfOk, IfErr};
 ghost use Rattle.bd_c.specs.declared.held.Held.{Held};
+ghost use Rattle.bd_c.specs.declared.status.Status.TheVariants.{NoMemory};
 
 use crate::handles::Handle;
 use crate::held::Held;
 use crate::loose::Loose;
+use crate::status::Status;
 use std::alloc::Global;
 
 fn open(alloc: Global, h: Handle) -> Loose<Held, Global>
@@ -30,6 +32,17 @@ fn empty() -> Handle
 {
     Handle {
         at: std::ptr::null_mut(),
+    }
+}
+
+/// What is to be behind a handle, in a box.
+pub(crate) fn boxed(alloc: Global, held: Held) -> Result<Box<Held>, Status>
+    ensures ok { IfOk result (λ b. b.value ≡ held) }
+    ensures refused { IfErr result (λ s. s ≡ NoMemory) }
+{
+    match Box::new(alloc, held) {
+        Ok(held) => Ok(held),
+        Err(_) => Err(Status::NoMemory),
     }
 }
 
