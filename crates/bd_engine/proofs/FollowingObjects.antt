@@ -1,5 +1,5 @@
 -- What follows at some objects: first they go, or their Notices, and then the Notices that are missing are made.
-use Rattle.std.proofs.Common.{◌≡◌, ℕ, ◌+◌, ◌<◌, Bool, true, false, cond, not, ◌&&◌, ◌||◌, List, [], ◌∷◌, Option, Some, None, option_and_then, length, get_or, take, refl, ap, sym, subst, ◌∙◌, filter, map}
+use Rattle.std.proofs.Common.{◌≡◌, ℕ, ◌+◌, ◌<◌, Bool, true, false, cond, not, ◌&&◌, ◌||◌, List, [], ◌∷◌, Option, Some, None, option_and_then, arith, length, get_or, take, refl, ap, sym, subst, ◌∙◌, filter, map}
 use Rattle.std.specs.List.{fold, filter_map, cons_option}
 use Rattle.std.specs.Option.{is_some}
 use Rattle.std.proofs.Math.Path.{fun_ext}
@@ -29,7 +29,7 @@ use Rattle.bd_laws.proofs.Tests.{same-eq, eq-same}
 use Rattle.bd_laws.proofs.Earlier.{never-earlier}
 use Rattle.bd_laws.proofs.Follow.{filter-same, find-kept}
 use Rattle.bd_laws.proofs.Freeing.{any-append}
-use Rattle.bd_engine.specs.Following.{notice_stays, shed_of, told_at, told_of}
+use Rattle.bd_engine.specs.Following.{notice_stays, shed_of, told_at, told_of, followed_at}
 use Rattle.bd_engine.proofs.Following.{keeps-all, keeps-none, same-tests, twice, or-true, or-false, either-or, due-as-notice, unlooked-stays}
 
 -- ---- one object more
@@ -272,6 +272,12 @@ objects-followed os s h k =
     ap (λ (ws : List Work). let z : Space = record (shed_of (is_among os) s) { todo = ws } in z)
     (told-in_order (shed_of (is_among os) s) os (shed_of (is_among os) s).todo h (pairs-filter Earlier (λ (x : Object). not (is_among os x.id) || stays_in s.processes s.references x) s.objects k))
     ∙ sym (follow-shed (is_among os) s)
+
+-- where they are one
+pub one-followed : (os : List ObjectId) (d : ObjectId) (s : Space) → length os ≡ 1 → followed_at (get_or os 0 d) s ≡ told_of os (shed_of (is_among os) s)
+one-followed [] d s e = absurd (omega (arith, e))
+one-followed (o ∷ []) d s e = ap (λ b. told_of (o ∷ []) (shed_of b s)) (sym (among-one o))
+one-followed (o ∷ p ∷ os) d s e = absurd (omega (arith, e))
 
 -- ---- the owner that is to be told
 

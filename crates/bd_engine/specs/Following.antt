@@ -1,5 +1,5 @@
 -- What follows from a change at chosen names and objects alone.
-use Rattle.std.specs.Prelude.{◌≡◌, false, true, Bool, not, ◌||◌, List, filter, fold, None, Some}
+use Rattle.std.specs.Prelude.{◌≡◌, false, true, Bool, not, ◌||◌, List, [], ◌∷◌, filter, fold, None, Some}
 use Rattle.bd_space.specs.declared.step.ObjectId.{ObjectId}
 use Rattle.bd_space.specs.declared.space.Work.{Work}
 use Rattle.bd_space.specs.declared.space.WorkKind.{WorkKind}
@@ -9,7 +9,7 @@ use Rattle.bd_space.specs.Words.{is_some_and}
 use Rattle.bd_space.specs.Space.{Space}
 use Rattle.bd_space.specs.References.{object_in}
 use Rattle.bd_space.specs.Notices.{wants_notice, with_notice}
-use Rattle.bd_space.specs.Local.{NameTest, ObjectTest, names_go_of, objects_go_of, deaths_go_of, work_goes_of, is_among}
+use Rattle.bd_space.specs.Local.{NameTest, ObjectTest, names_go_of, objects_go_of, deaths_go_of, work_goes_of, at_object, is_among}
 use Rattle.bd_laws.specs.Lists.{Pairs}
 use Rattle.bd_laws.specs.Objects.{Earlier, NotLater}
 use Rattle.bd_engine.specs.declared.tables.Tables.{Tables}
@@ -43,6 +43,10 @@ told_at s todo o = elim (object_in s.objects o) [ None ↦ todo | Some x ↦ wit
 -- one object's after the other's
 unfoldable pub told_of : List ObjectId → Space → Space
 told_of os s = record s { todo = fold (told_at s) s.todo os }
+
+-- both, of one object
+abbrev pub followed_at : ObjectId → Space → Space
+followed_at o s = told_of (o ∷ []) (shed_of (at_object o) s)
 
 -- a change within a step makes what f makes of each space whose objects stand in the order in which they were made
 abbrev pub MakesOfOrdered : Tables → Tables → (Space → Space) → Type 0

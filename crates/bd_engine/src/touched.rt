@@ -6,7 +6,7 @@ ghost use Rattle.bd_laws.specs.Lists.{Pairs};
 ghost use Rattle.bd_laws.specs.Objects.{NotLater};
 ghost use Rattle.bd_calls.specs.Room.{work_room};
 ghost use Rattle.bd_engine.specs.Stands.{Uses, MakesWithin, UsesNothing};
-ghost use Rattle.bd_engine.specs.Following.{deaths_followed, deaths_withdrawn, names_followed, shed_of, told_of, AreTouched, MakesOfOrdered};
+ghost use Rattle.bd_engine.specs.Following.{deaths_followed, deaths_withdrawn, followed_at, names_followed, shed_of, told_of, AreTouched, MakesOfOrdered};
 
 use crate::tables::Tables;
 use bd_space::{ObjectId, TodoList};
@@ -64,8 +64,7 @@ impl Tables {
         ensures uses { UsesNothing self.old self.new }
     {
         for o in touched {
-            self.objects.object_goes(&self.processes, *o);
-            let owner = self.objects.owner_to_tell(&self.processes, *o);
+            let owner = self.objects.object_goes(&self.processes, *o);
             if owner.is_none() {
                 self.calls.withdraw_notice(*o);
             }
@@ -87,6 +86,22 @@ impl Tables {
         }
     }
 
+    // Both, of one object.
+    fn follow_object(&mut self, o: ObjectId)
+        requires { 1 ≤ work_room self.old.calls }
+        ensures stands { MakesWithin self.old self.new (followed_at o) }
+        ensures uses { Uses self.old self.new 0 0 0 1 }
+    {
+        let owner = self.objects.object_goes(&self.processes, o);
+        match owner {
+            Some(p) => {
+                let list = TodoList::OfProcess(p);
+                self.calls.add_notice(self.steps, list, o, true);
+            }
+            None => self.calls.withdraw_notice(o),
+        }
+    }
+
     /// What follows at these objects, given in the order in which they were made.
     pub(crate) fn follow_objects(&mut self, touched: &[ObjectId])
         requires in_order { Pairs NotLater touched.now }
@@ -94,8 +109,13 @@ impl Tables {
         ensures stands { MakesOfOrdered self.old self.new (follow_of no_name (is_among touched.now)) }
         ensures uses { Uses self.old self.new 0 0 0 (length touched.now) }
     {
-        self.shed_objects(touched);
-        self.notify_objects(touched);
+        // Most steps touch one.
+        if touched.len() == 1 {
+            self.follow_object(touched[0]);
+        } else {
+            self.shed_objects(touched);
+            self.notify_objects(touched);
+        }
     }
 
     /// What follows at the process's names of these objects, given in the order in which they were made, and then at the

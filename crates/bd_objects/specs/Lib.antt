@@ -1,3 +1,4 @@
+pub mod Telling
 pub mod Stands
 pub mod Room
 pub mod Numbers

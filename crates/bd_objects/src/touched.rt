@@ -1,15 +1,17 @@
 //! What follows from a change at one name and one object: nothing else is looked at.
 
-ghost use Rattle.std.specs.Prelude.{◌≡◌, ◌==◌, ◌||◌, not, false, option_and_then, IfSome};
+ghost use Rattle.std.specs.Prelude.{◌≡◌, ◌==◌, ◌||◌, not, false, IfSome};
 ghost use Rattle.std.specs.List.{list_any};
-ghost use Rattle.bd_space.specs.Words.{when, is_some_and};
-ghost use Rattle.bd_space.specs.References.{object_in, stays_in};
+ghost use Rattle.bd_space.specs.Words.{is_some_and};
+ghost use Rattle.bd_space.specs.References.{object_in};
 ghost use Rattle.bd_space.specs.declared.space.WorkKind as declared;
 ghost use Rattle.bd_space.specs.Todo as todo;
 ghost use Rattle.bd_space.specs.Notices as notices;
 ghost use Rattle.bd_space.specs.Local as local;
 ghost use Rattle.bd_objects.specs.Deaths.{is_lost, only_lost};
+ghost use Rattle.bd_objects.specs.Telling.{owner_due};
 
+use crate::notices::hold_on;
 use crate::table::ObjectTable;
 use bd_processes::ProcessTable;
 use bd_space::{Object, ObjectId, WorkKind};
@@ -30,27 +32,23 @@ impl ObjectTable {
         }
     }
 
-    /// Whether the object stays: it is held, or its owner lives and was told that it is.
-    fn stays(&self, processes: &ProcessTable, x: &Object) -> bool
-        ensures { TellsWhere (StandsFor self.now) (HasProcesses processes.now) result
-            (λ s. stays_in s.processes s.references x.now) }
-    {
-        self.references.is_held(x.id)
-            || (processes.lives(x.owner) && (x.told_weak || x.told_strong))
-    }
-
-    /// The object goes, if nothing keeps it. Takes the live processes.
+    /// The object goes, if nothing keeps it. Returns the live owner that is then to be told of it. Takes the live processes.
     #[tactic(auto, unfolding(bd_space::specs::Local::objects_go_of, crate::specs::Room::rooms))]
-    pub fn object_goes(&mut self, processes: &ProcessTable, o: ObjectId)
+    pub fn object_goes(&mut self, processes: &ProcessTable, o: ObjectId) -> Option<u32>
         ensures stands { MakesWhere (StandsFor self.old) (HasProcesses processes.now) (StandsFor self.new)
             (local.objects_go_of (local.at_object o)) }
+        ensures owner { TellsWhere (StandsFor self.old) (HasProcesses processes.now) result
+            (λ s. owner_due s (object_in (local.objects_go_of (local.at_object o) s).objects o)) }
         ensures uses { UsesNothing self.old self.new }
     {
-        if let Some(x) = self.nodes.object(o) {
-            if !self.stays(processes, &x) {
-                self.nodes.remove(o);
-            }
+        let x = self.nodes.object(o)?;
+        let lives = processes.lives(x.owner);
+        let hold = hold_on(&self.references, x.id);
+        if !hold.keeps(lives, &x) {
+            self.nodes.remove(o);
+            return None;
         }
+        hold.owner_to_tell(lives, &x)
     }
 
     /// Whether a notification is to go with the process's name of the object, which is gone.
@@ -112,8 +110,7 @@ impl ObjectTable {
     /// The live owner that is to be told of the object. Takes the live processes.
     pub fn owner_to_tell(&self, processes: &ProcessTable, o: ObjectId) -> Option<u32>
         ensures { TellsWhere (StandsFor self.now) (HasProcesses processes.now) result
-            (λ s. option_and_then (λ x. when (notices.wants_notice s.processes s.references x) x.owner)
-            (object_in s.objects o)) }
+            (λ s. owner_due s (object_in s.objects o)) }
     {
         let x = self.nodes.object(o)?;
         if self.wants_notice(processes, &x) {

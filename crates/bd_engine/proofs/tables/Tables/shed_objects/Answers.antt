@@ -27,8 +27,8 @@ loop-o-preserved c =
         stands = λ s h.
             let z = shed_of (is_among (take k os)) s in
             let i = c.loop-o.invariant.stands s h in
-            let kept = c.object_goes.ensures.stands z i.objects_stand i.own.processes_are in
-            let asked = c.owner_to_tell-owner.ensures (objects_go_of (at_object o) z) kept i.own.processes_are in
+            let kept = c.object_goes-owner.ensures.stands z i.objects_stand i.own.processes_are in
+            let asked = c.object_goes-owner.ensures.owner z i.objects_stand i.own.processes_are in
             let none = owner-wanted (object_in (objects_go_of (at_object o) z).objects o) (wants_notice z.processes z.references) false (sym (ap is_some asked) ∙ c.is_none.ensures ∙ ap not w.if-is_none.true) in
             subst (Within _) (sym (shed-unwanted o z none) ∙ shed-next os k _ s c.loop-o-test.true) (record {
               own = i.own;
@@ -42,8 +42,8 @@ loop-o-preserved c =
         stands = λ s h.
             let z = shed_of (is_among (take k os)) s in
             let i = c.loop-o.invariant.stands s h in
-            let kept = c.object_goes.ensures.stands z i.objects_stand i.own.processes_are in
-            let asked = c.owner_to_tell-owner.ensures (objects_go_of (at_object o) z) kept i.own.processes_are in
+            let kept = c.object_goes-owner.ensures.stands z i.objects_stand i.own.processes_are in
+            let asked = c.object_goes-owner.ensures.owner z i.objects_stand i.own.processes_are in
             let wanted = owner-wanted (object_in (objects_go_of (at_object o) z).objects o) (wants_notice z.processes z.references) true (sym (ap is_some asked) ∙ c.is_none.ensures ∙ ap not w.if-is_none.false) in
             subst (Within _) (sym (shed-wanted o z wanted) ∙ shed-next os k _ s c.loop-o-test.true) (record {
               own = i.own;
