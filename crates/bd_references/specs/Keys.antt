@@ -1,5 +1,5 @@
 -- By what references are counted and found.
-use Rattle.std.specs.Prelude.{ℕ, ◌==◌, Bool, true, false, ◌||◌, Option, Some, None, List}
+use Rattle.std.specs.Prelude.{ℕ, ◌==◌, ◌+◌, ◌*◌, ◌^◌, Bool, true, false, ◌||◌, if◌then◌else◌, Option, Some, None, List}
 use Rattle.std.specs.List.{list_any}
 use Rattle.bd_space.specs.declared.step.ObjectId.{ObjectId}
 use Rattle.bd_space.specs.declared.space.Reference.{Reference}
@@ -67,3 +67,19 @@ is_one_of ks q = list_any (λ k. same_key k q) ks
 -- the key is the object's, of this kind
 abbrev pub is_to : ObjectId → Kind → CountKey → Bool
 is_to o kind k = same_key (count_key o kind true) k || same_key (count_key o kind false) k
+
+-- another number for each kind, below 2 ^ 35
+abbrev pub kind_word : Kind → ℕ
+kind_word (kinds.Asked p) = p
+kind_word (kinds.Carried p) = 2 ^ 32 + p
+kind_word (kinds.Target p) = 2 * 2 ^ 32 + p
+kind_word kinds.Handshake = 3 * 2 ^ 32
+kind_word kinds.Manager = 4 * 2 ^ 32
+kind_word kinds.Any = 5 * 2 ^ 32
+
+-- another number for each key, by which it is hashed
+abbrev pub count_spread : CountKey → ℕ
+count_spread k = k.place + k.index * 2 ^ 32 + (kind_word k.kind * 2 + (if k.strong then 1 else 0)) * 2 ^ 64
+
+abbrev pub item_spread : ItemKey → ℕ
+item_spread k = k.index + k.buffer * 2 ^ 64

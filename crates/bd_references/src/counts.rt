@@ -66,49 +66,66 @@ impl Counts {
         }
     }
 
-    /// A counter becomes 0.
-    pub(crate) fn forget(&mut self, k: CountKey)
+    /// A counter becomes 0. Tells how many there were.
+    #[tactic(auto, unfolding(crate::specs::Keys::same_key))]
+    pub(crate) fn forget(&mut self, k: CountKey) -> u64
+        ensures before { result ≡ count_at self.old k }
         ensures counts { (q : declared.CountKey) → count_at self.new q ≡ (if same_key k q then 0 else count_at self.old q) }
         ensures spare { spare self.old.counts ≤ spare self.new.counts }
     {
-        let _gone = self.counts.remove(&k);
+        self.counts.remove(&k).unwrap_or(0)
     }
 
-    // A counter that isn't 0 is set.
+    // So many fewer. The counter stays, even if it becomes 0.
     #[tactic(auto, unfolding(crate::specs::Keys::same_key))]
-    fn lower(&mut self, k: CountKey, n: u64)
-        requires { 0 < count_at self.old k }
-        ensures counts { (q : declared.CountKey) → count_at self.new q ≡ (if same_key k q then n else count_at self.old q) }
+    fn lower(&mut self, k: CountKey, fewer: u64) -> u64
+        ensures before { result ≡ count_at self.old k }
+        ensures counts { (q : declared.CountKey) → count_at self.new q ≡ count_at self.old q - (if same_key k q then fewer else 0) }
         ensures spare { spare self.old.counts ≤ spare self.new.counts }
     {
         match self.counts.get_mut(&k) {
-            Some(count) => *count = n,
-            None => {}
+            Some(count) => {
+                let before = *count;
+                *count = before.saturating_sub(fewer);
+                before
+            }
+            None => 0,
         }
     }
 
-    /// One more.
-    pub(crate) fn add(&mut self, k: CountKey)
+    /// One more. Tells how many there were.
+    #[tactic(auto, unfolding(crate::specs::Keys::same_key))]
+    pub(crate) fn add(&mut self, k: CountKey) -> u64
         requires { 0 < spare self.old.counts }
+        ensures before { result ≡ count_at self.old k }
         ensures counts { (q : declared.CountKey) → count_at self.old k < 2 ^ 64 - 1
             → count_at self.new q ≡ count_at self.old q + (if same_key k q then 1 else 0) }
         ensures others { (q : declared.CountKey) → same_key k q ≡ false → count_at self.new q ≡ count_at self.old q }
         ensures spare { spare self.old.counts ≤ spare self.new.counts + 1 }
     {
-        let n = self.at(k).saturating_add(1);
-        self.raise(k, n);
+        match self.counts.get_mut(&k) {
+            Some(count) => {
+                let before = *count;
+                *count = before.saturating_add(1);
+                before
+            }
+            None => {
+                self.raise(k, 1);
+                0
+            }
+        }
     }
 
-    /// So many fewer.
-    pub(crate) fn take(&mut self, k: CountKey, fewer: u64)
+    /// So many fewer. Tells how many there were.
+    pub(crate) fn take(&mut self, k: CountKey, fewer: u64) -> u64
+        ensures before { result ≡ count_at self.old k }
         ensures counts { (q : declared.CountKey) → count_at self.new q ≡ count_at self.old q - (if same_key k q then fewer else 0) }
         ensures spare { spare self.old.counts ≤ spare self.new.counts }
     {
-        let n = self.at(k).saturating_sub(fewer);
-        if n == 0 {
+        let before = self.lower(k, fewer);
+        if 0 < before && before <= fewer {
             self.forget(k);
-        } else {
-            self.lower(k, n);
         }
+        before
     }
 }

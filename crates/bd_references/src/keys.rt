@@ -1,12 +1,16 @@
 //! By what references are counted and found.
 
-ghost use Rattle.std.specs.Prelude.{◌≡◌};
+ghost use Rattle.std.specs.Prelude.{◌≡◌, ◌<◌, ◌^◌};
+ghost use Rattle.std.specs.Cmp.Rules.{hashing};
+ghost use Rattle.std.specs.Hash as fed;
+ghost use Rattle.std.proofs.Common.{rules};
 ghost use Rattle.bd_references.specs.Keys as keys;
 
 use bd_space::{Holder, ObjectId, Reference};
+use std::hash::{Hash, Hasher};
 
 /// What a reference is for.
-#[derive(Clone, Copy, PartialEq, Eq, Hash)]
+#[derive(Clone, Copy, PartialEq, Eq)]
 pub(crate) enum Kind {
     /// The process asked for it.
     Asked(u32),
@@ -23,7 +27,7 @@ pub(crate) enum Kind {
 }
 
 /// References to one object, of one kind and one strength.
-#[derive(Clone, Copy, PartialEq, Eq, Hash)]
+#[derive(Clone, Copy, PartialEq, Eq)]
 pub(crate) struct CountKey {
     pub(crate) place: u32,
     pub(crate) index: u32,
@@ -32,10 +36,68 @@ pub(crate) struct CountKey {
 }
 
 /// Which of its references a buffer holds there.
-#[derive(Clone, Copy, PartialEq, Eq, Hash)]
+#[derive(Clone, Copy, PartialEq, Eq)]
 pub(crate) struct ItemKey {
     pub(crate) buffer: u32,
     pub(crate) index: u64,
+}
+
+impl Kind {
+    // Another number for each kind.
+    fn word(self) -> u64
+        ensures value { result ≡ keys.kind_word self }
+        ensures small { result < 2 ^ 35 }
+    {
+        match self {
+            Kind::Asked(p) => u64::from(p),
+            Kind::Carried(p) => 0x1_0000_0000 + u64::from(p),
+            Kind::Target(p) => 0x2_0000_0000 + u64::from(p),
+            Kind::Handshake => 0x3_0000_0000,
+            Kind::Manager => 0x4_0000_0000,
+            Kind::Any => 0x5_0000_0000,
+        }
+    }
+}
+
+impl CountKey {
+    // Another number for each key.
+    fn spread(self) -> u128
+        ensures { result ≡ keys.count_spread self }
+    {
+        let object = u64::from(self.place) + u64::from(self.index) * 0x1_0000_0000;
+        let used = self.kind.word() * 2 + u64::from(self.strong);
+        u128::from(object) + u128::from(used) * 0x1_0000_0000_0000_0000
+    }
+}
+
+impl ItemKey {
+    // Another number for each key.
+    fn spread(self) -> u128
+        ensures { result ≡ keys.item_spread self }
+    {
+        u128::from(self.index) + u128::from(self.buffer) * 0x1_0000_0000_0000_0000
+    }
+}
+
+// Written out: derived, each field would be a write, and a multiplication of its own.
+impl Hash for CountKey {
+    ghost hash_input = { λ k. fed.u128 (keys.count_spread k) };
+
+    ghost respects_eq = { Prim.search (hashing, rules) };
+
+    fn hash<H: Hasher>(&self, state: &mut H) {
+        state.write_u128(self.spread());
+    }
+}
+
+impl Hash for ItemKey {
+    ghost hash_input = { λ k. fed.u128 (keys.item_spread k) };
+
+    ghost respects_eq = { Prim.search (hashing, rules) };
+
+    fn hash<H: Hasher>(&self, state: &mut H) {
+        state.write_u128(self.spread());
+    }
 }
 
 fn kind_of(holder: Holder) -> Kind

@@ -19,8 +19,10 @@ pub(crate) fn drop_key(uses: &mut Counts, totals: &mut Counts, k: CountKey)
     ensures uses_spare { spare uses.old.counts ≤ spare uses.new.counts }
     ensures totals_spare { spare totals.old.counts ≤ spare totals.new.counts }
 {
-    totals.take(any_kind(k), uses.at(k));
-    uses.forget(k);
+    let gone = uses.forget(k);
+    if gone > 0 {
+        totals.take(any_kind(k), gone);
+    }
 }
 
 /// What is counted with these keys goes.

@@ -19,6 +19,14 @@ impl ReferenceTable {
         self.tallies.has_any(o, true) || self.tallies.has_any(o, false)
     }
 
+    /// Whether anything refers to the object, where it is known whether anything does so strongly.
+    pub fn is_held_at(&self, o: ObjectId, strong: bool) -> bool
+        ensures { (l : List Reference) → ReferencesAre self.now l → strong ≡ refer.strong_in l o
+            → result ≡ refer.held_in l o }
+    {
+        strong || self.tallies.has_any(o, false)
+    }
+
     /// Whether anything refers to it strongly.
     pub fn is_strong(&self, o: ObjectId) -> bool
         ensures { (l : List Reference) → ReferencesAre self.now l → result ≡ refer.strong_in l o }

@@ -98,8 +98,8 @@ impl Tallies {
         ensures uses { tally_room self.old ≤ tally_room self.new + 1 }
     {
         let k = use_key(r);
-        enlist(&mut self.users, &self.uses, k);
-        self.uses.add(k);
+        let before = self.uses.add(k);
+        enlist(&mut self.users, k, before);
         self.totals.add(total_key(r));
     }
 
@@ -129,8 +129,7 @@ impl Tallies {
             → Tallied self.old l → Tallied self.new (without_first test l) }
         ensures uses { tally_room self.old ≤ tally_room self.new }
     {
-        if self.uses.at(k) > 0 {
-            self.uses.take(k, 1);
+        if self.uses.take(k, 1) > 0 {
             self.totals.take(any_kind(k), 1);
         }
     }

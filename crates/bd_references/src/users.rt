@@ -29,15 +29,15 @@ fn put_user(users: &mut Groups<CountKey>, k: CountKey)
     }
 }
 
-/// The counter of the key may rise from now on: where it is 0, the key comes in.
-pub(crate) fn enlist(users: &mut Groups<CountKey>, uses: &Counts, k: CountKey)
+/// The counter of the key rose: where it was 0 before, the key comes in.
+pub(crate) fn enlist(users: &mut Groups<CountKey>, k: CountKey, before: u64)
     requires { 1 ≤ group_room users.old }
-    ensures are { (later : counters.Counts)
-        → ((q : key.CountKey) → keys.same_key k q ≡ false → count_at later q ≡ count_at uses.now q)
-        → AreUsers uses.now users.old → AreUsers later users.new }
+    ensures are { (was later : counters.Counts) → before ≡ count_at was k
+        → ((q : key.CountKey) → keys.same_key k q ≡ false → count_at later q ≡ count_at was q)
+        → AreUsers was users.old → AreUsers later users.new }
     ensures uses { group_room users.old ≤ group_room users.new + 1 }
 {
-    if uses.at(k) == 0 {
+    if before == 0 {
         put_user(users, k);
     }
 }
