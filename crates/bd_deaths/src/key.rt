@@ -1,17 +1,33 @@
 //! What notifications are looked for by, and what is kept of those with a key.
 
 ghost use Rattle.std.specs.Prelude.{◌≡◌};
+ghost use Rattle.std.specs.Cmp.Rules.{hashing};
+ghost use Rattle.std.specs.Hash as fed;
+ghost use Rattle.std.proofs.Common.{rules};
+ghost use Rattle.bd_words.specs.Keys.{pair, wide};
 ghost use Rattle.bd_deaths.specs.Keys as keys;
 
 use bd_space::{DeathNotification, ObjectId};
-use bd_words::WordKey;
+use bd_words::{WordKey, pair, wide};
+use std::hash::{Hash, Hasher};
 
 /// A process and an object.
-#[derive(Clone, Copy, PartialEq, Eq, Hash)]
+#[derive(Clone, Copy, PartialEq, Eq)]
 pub(crate) struct NameKey {
     pub(crate) process: u32,
     pub(crate) place: u32,
     pub(crate) index: u32,
+}
+
+// Not derived: each field would be a write of its own, and each write waits for the one before.
+impl Hash for NameKey {
+    ghost hash_input = { λ k. fed.u128 (wide k.process (pair k.place k.index)) };
+
+    ghost respects_eq = { Prim.search (hashing, rules) };
+
+    fn hash<H: Hasher>(&self, state: &mut H) {
+        state.write_u128(wide(self.process, pair(self.place, self.index)));
+    }
 }
 
 /// By what a notification is looked for.

@@ -1,7 +1,14 @@
 -- Groups, told apart.
-use Rattle.std.specs.Prelude.{Bool}
+use Rattle.std.specs.Prelude.{ℕ, Bool}
+use Rattle.bd_words.specs.Keys.{pair, wide}
 use Rattle.bd_groups.specs.declared.group.Group.{Group}
+use Rattle.bd_groups.specs.declared.group.Group.TheVariants.{Process, Object}
 use Rattle.bd_groups.specs.contracts.group.GroupPartialEq.TheImpl as groups
 
 unfoldable pub same_group : Group → Group → Bool
 same_group = (groups.ghosts).eq
+
+-- a number of 65 bits, another for each group
+abbrev pub spread : Group → ℕ
+spread (Process m) = wide 0 m
+spread (Object p i) = wide 1 (pair p i)

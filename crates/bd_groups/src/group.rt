@@ -1,10 +1,42 @@
 //! Whose the members are.
 
+ghost use Rattle.std.specs.Prelude.{◌≡◌};
+ghost use Rattle.std.specs.Cmp.Rules.{hashing};
+ghost use Rattle.std.specs.Hash as fed;
+ghost use Rattle.std.proofs.Common.{rules};
+ghost use Rattle.bd_groups.specs.Group.{spread};
+
+use bd_words::{pair, wide};
+use std::hash::{Hash, Hasher};
+
 /// What members have in common.
-#[derive(Clone, Copy, Debug, PartialEq, Eq, Hash)]
+#[derive(Clone, Copy, Debug, PartialEq, Eq)]
 pub enum Group {
     /// The process that was made at this place.
     Process { made: u32 },
     /// The object with this identity.
     Object { place: u32, index: u32 },
+}
+
+impl Group {
+    // A number of 65 bits, another for each group.
+    fn spread(self) -> u128
+        ensures { result ≡ spread self }
+    {
+        match self {
+            Group::Process { made } => wide(0, u64::from(made)),
+            Group::Object { place, index } => wide(1, pair(place, index)),
+        }
+    }
+}
+
+// Not derived: the tag and each field would be a write of its own, and each write waits for the one before.
+impl Hash for Group {
+    ghost hash_input = { λ g. fed.u128 (spread g) };
+
+    ghost respects_eq = { Prim.search (hashing, rules) };
+
+    fn hash<H: Hasher>(&self, state: &mut H) {
+        state.write_u128(self.spread());
+    }
 }

@@ -6,7 +6,9 @@ use Rattle.bd_space.specs.Todo.{keeps_from_calling}
 use Rattle.bd_space.specs.declared.space.Work.{Work}
 use Rattle.bd_space.specs.declared.space.WorkKind.{WorkKind}
 use Rattle.bd_space.specs.declared.space.WorkKind.TheVariants as work
+use Rattle.bd_words.specs.Keys.{pair, wide}
 use Rattle.bd_links.specs.Heads.{list_key}
+use Rattle.bd_links.specs.Heads as heads
 use Rattle.bd_links.specs.declared.spots.Sought.{Sought}
 use Rattle.bd_links.specs.declared.spots.Sought.TheVariants.{Notice, Call, Death, Unread}
 use Rattle.bd_links.specs.declared.spots.Spots.{Spots}
@@ -14,6 +16,13 @@ use Rattle.bd_links.specs.contracts.spots.SoughtPartialEq.TheImpl as sought
 
 abbrev pub same_sought : Sought → Sought → Bool
 same_sought = (sought.ghosts).eq
+
+-- a number of 66 bits, another for each key
+abbrev pub spread : Sought → ℕ
+spread (Notice p i) = wide 0 (pair p i)
+spread (Call b) = wide 1 b
+spread (Death n) = wide 2 n
+spread (Unread l) = wide 3 (heads.spread l)
 
 abbrev pub sought_of : WorkKind → Option Sought
 sought_of (work.Notice o) = Some (Notice o.place o.index)

@@ -1,19 +1,47 @@
 //! Where the ring of each list begins.
 
 ghost use Rattle.std.specs.Prelude.{ℕ, ◌≡◌, ◌≤◌, ◌<◌, ◌+◌, Some, None, if◌then◌else◌};
+ghost use Rattle.std.specs.Cmp.Rules.{hashing};
+ghost use Rattle.std.specs.Hash as fed;
 ghost use Rattle.std.specs.HashMap.{spare};
+ghost use Rattle.std.proofs.Common.{rules};
 ghost use Rattle.bd_space.specs.declared.space.TodoList as declared;
 ghost use Rattle.bd_space.specs.Todo.{same_list};
 ghost use Rattle.bd_links.specs.Heads as heads;
 
 use bd_space::TodoList;
+use bd_words::pair;
 use std::collections::HashMap;
+use std::hash::{Hash, Hasher};
 
 /// Whose list it is.
-#[derive(Clone, Copy, Debug, PartialEq, Eq, Hash)]
+#[derive(Clone, Copy, Debug, PartialEq, Eq)]
 pub enum ListKey {
     Thread { seat: u32 },
     Process { process: u32 },
+}
+
+impl ListKey {
+    /// A number of 33 bits, another for each key.
+    pub(crate) fn spread(self) -> u64
+        ensures { result ≡ heads.spread self }
+    {
+        match self {
+            ListKey::Thread { seat } => pair(0, seat),
+            ListKey::Process { process } => pair(1, process),
+        }
+    }
+}
+
+// Not derived: the tag and the field would be two writes, and the second waits for the first.
+impl Hash for ListKey {
+    ghost hash_input = { λ k. fed.u64 (heads.spread k) };
+
+    ghost respects_eq = { Prim.search (hashing, rules) };
+
+    fn hash<H: Hasher>(&self, state: &mut H) {
+        state.write_u64(self.spread());
+    }
 }
 
 /// The key of a list.

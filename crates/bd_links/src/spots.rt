@@ -1,27 +1,57 @@
 //! Work items, counted by what they are looked up by.
 
 ghost use Rattle.std.specs.Prelude.{ℕ, ◌≡◌, ◌≤◌, ◌<◌, ◌+◌, ◌-◌, ◌∷◌, ◌++◌, [], List, length, Option, Some, None, if◌then◌else◌, min, nat_lt, OnOk, OnErr};
+ghost use Rattle.std.specs.Cmp.Rules.{hashing};
+ghost use Rattle.std.specs.Hash as fed;
 ghost use Rattle.std.specs.HashMap.{spare, get_by};
+ghost use Rattle.std.proofs.Common.{rules};
 ghost use Rattle.bd_space.specs.declared.space.Work.{Work};
 ghost use Rattle.bd_links.specs.declared.spots.Sought as declared;
 ghost use Rattle.bd_links.specs.declared.spots.Sought.TheVariants as sought;
 ghost use Rattle.bd_links.specs.Heads as heads;
-ghost use Rattle.bd_links.specs.Spots.{same_sought, sought_of, unread_of, is_sought, count_at, Counted};
+ghost use Rattle.bd_links.specs.Spots.{same_sought, spread, sought_of, unread_of, is_sought, count_at, Counted};
 
 use crate::heads::{ListKey, list_key};
 use crate::work::keeps_from_calling;
 use bd_space::{ObjectId, TodoList, Work, WorkKind};
+use bd_words::{pair, wide};
 use std::alloc::{AllocError, Global};
 use std::collections::HashMap;
+use std::hash::{Hash, Hasher};
 
 /// What a work item is looked up by.
-#[derive(Clone, Copy, Debug, PartialEq, Eq, Hash)]
+#[derive(Clone, Copy, Debug, PartialEq, Eq)]
 pub enum Sought {
     Notice { place: u32, index: u32 },
     Call { buffer: u32 },
     Death { made: u32 },
     // What keeps from calling, on a list.
     Unread { list: ListKey },
+}
+
+impl Sought {
+    // A number of 66 bits, another for each key.
+    fn spread(self) -> u128
+        ensures { result ≡ spread self }
+    {
+        match self {
+            Sought::Notice { place, index } => wide(0, pair(place, index)),
+            Sought::Call { buffer } => wide(1, u64::from(buffer)),
+            Sought::Death { made } => wide(2, u64::from(made)),
+            Sought::Unread { list } => wide(3, list.spread()),
+        }
+    }
+}
+
+// Not derived: the tag and each field would be a write of its own, and each write waits for the one before.
+impl Hash for Sought {
+    ghost hash_input = { λ k. fed.u128 (spread k) };
+
+    ghost respects_eq = { Prim.search (hashing, rules) };
+
+    fn hash<H: Hasher>(&self, state: &mut H) {
+        state.write_u128(self.spread());
+    }
 }
 
 /// Where a work item was put that is looked up so.

@@ -1,33 +1,60 @@
 //! What names are found by: the process with the number, or with the object.
 
 ghost use Rattle.std.specs.Prelude.{ℕ, ◌≡◌, ◌==◌, ◌≤◌, ◌<◌, ◌+◌, ◌&&◌, Some, None, if◌then◌else◌};
+ghost use Rattle.std.specs.Cmp.Rules.{hashing};
+ghost use Rattle.std.specs.Hash as fed;
 ghost use Rattle.std.specs.HashMap.{spare, get_by};
+ghost use Rattle.std.proofs.Common.{rules};
+ghost use Rattle.bd_words.specs.Keys.{pair, wide};
 ghost use Rattle.bd_space.specs.declared.step.ObjectId as declared;
 ghost use Rattle.bd_space.specs.Words.{same};
 ghost use Rattle.bd_names.specs.Keys.{object_at, number_at};
 
 use bd_space::ObjectId;
+use bd_words::{pair, wide};
 use std::collections::HashMap;
+use std::hash::{Hash, Hasher};
 
 /// A number of a process.
-#[derive(Clone, Copy, PartialEq, Eq, Hash)]
+#[derive(Clone, Copy, PartialEq, Eq)]
 pub struct NumberKey {
     pub process: u32,
     pub number: u32,
 }
 
+// Not derived: each field would be a write of its own, and each write waits for the one before.
+impl Hash for NumberKey {
+    ghost hash_input = { λ k. fed.u64 (pair k.process k.number) };
+
+    ghost respects_eq = { Prim.search (hashing, rules) };
+
+    fn hash<H: Hasher>(&self, state: &mut H) {
+        state.write_u64(pair(self.process, self.number));
+    }
+}
+
 /// An object's identity.
-#[derive(Clone, Copy, PartialEq, Eq, Hash)]
+#[derive(Clone, Copy, PartialEq, Eq)]
 pub struct IdKey {
     pub place: u32,
     pub index: u32,
 }
 
 /// An object, for a process.
-#[derive(Clone, Copy, PartialEq, Eq, Hash)]
+#[derive(Clone, Copy, PartialEq, Eq)]
 pub struct ObjectKey {
     pub process: u32,
     pub object: IdKey,
+}
+
+impl Hash for ObjectKey {
+    ghost hash_input = { λ k. fed.u128 (wide k.process (pair k.object.place k.object.index)) };
+
+    ghost respects_eq = { Prim.search (hashing, rules) };
+
+    fn hash<H: Hasher>(&self, state: &mut H) {
+        state.write_u128(wide(self.process, pair(self.object.place, self.object.index)));
+    }
 }
 
 fn object_key(p: u32, o: ObjectId) -> ObjectKey

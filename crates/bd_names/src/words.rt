@@ -1,17 +1,34 @@
 //! Sets of numbers, one a process, as words of 64 bits.
 
 ghost use Rattle.std.specs.Prelude.{ℕ, ◌≡◌, ◌≢◌, ◌==◌, ◌≤◌, ◌<◌, ◌+◌, ◌-◌, ◌*◌, ◌/◌, ◌^◌, ◌&&◌, false, MatchOption, if◌then◌else◌, OnOk, OnErr};
+ghost use Rattle.std.specs.Cmp.Rules.{hashing};
+ghost use Rattle.std.specs.Hash as fed;
 ghost use Rattle.std.specs.HashMap.{spare};
+ghost use Rattle.std.proofs.Common.{rules};
+ghost use Rattle.bd_words.specs.Keys.{pair};
 ghost use Rattle.bd_names.specs.Bits.{word_at, bit_of};
 
+use bd_words::pair;
 use std::alloc::{AllocError, Global};
 use std::collections::HashMap;
+use std::hash::{Hash, Hasher};
 
 /// One of a process's words.
-#[derive(Clone, Copy, PartialEq, Eq, Hash)]
+#[derive(Clone, Copy, PartialEq, Eq)]
 pub struct WordKey {
     pub process: u32,
     pub index: u32,
+}
+
+// Not derived: each field would be a write of its own, and each write waits for the one before.
+impl Hash for WordKey {
+    ghost hash_input = { λ k. fed.u64 (pair k.process k.index) };
+
+    ghost respects_eq = { Prim.search (hashing, rules) };
+
+    fn hash<H: Hasher>(&self, state: &mut H) {
+        state.write_u64(pair(self.process, self.index));
+    }
 }
 
 /// The words that aren't 0.

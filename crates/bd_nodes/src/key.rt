@@ -1,17 +1,33 @@
 //! By what an object is found.
 
 ghost use Rattle.std.specs.Prelude.{◌≡◌};
+ghost use Rattle.std.specs.Cmp.Rules.{hashing};
+ghost use Rattle.std.specs.Hash as fed;
+ghost use Rattle.std.proofs.Common.{rules};
+ghost use Rattle.bd_words.specs.Keys.{pair};
 ghost use Rattle.bd_nodes.specs.Keys as keys;
 
 use bd_groups::Group;
 use bd_space::{Object, ObjectId};
-use bd_words::WordKey;
+use bd_words::{WordKey, pair};
+use std::hash::{Hash, Hasher};
 
 /// Its identity.
-#[derive(Clone, Copy, PartialEq, Eq, Hash)]
+#[derive(Clone, Copy, PartialEq, Eq)]
 pub(crate) struct NodeKey {
     pub(crate) place: u32,
     pub(crate) index: u32,
+}
+
+// Not derived: each field would be a write of its own, and each write waits for the one before.
+impl Hash for NodeKey {
+    ghost hash_input = { λ k. fed.u64 (pair k.place k.index) };
+
+    ghost respects_eq = { Prim.search (hashing, rules) };
+
+    fn hash<H: Hasher>(&self, state: &mut H) {
+        state.write_u64(pair(self.place, self.index));
+    }
 }
 
 pub(crate) fn node_key(o: ObjectId) -> NodeKey

@@ -1,21 +1,38 @@
 //! The two ends of each object's chain of slots.
 
 ghost use Rattle.std.specs.Prelude.{ℕ, Option, true, false, ◌≡◌, ◌==◌, ◌≤◌, ◌<◌, ◌+◌, Some, None, option_map, if◌then◌else◌};
+ghost use Rattle.std.specs.Cmp.Rules.{hashing};
+ghost use Rattle.std.specs.Hash as fed;
 ghost use Rattle.std.specs.Option.{option_or, option_and_then};
 ghost use Rattle.std.specs.HashMap.{spare};
+ghost use Rattle.std.proofs.Common.{rules};
+ghost use Rattle.bd_words.specs.Keys.{pair};
 ghost use Rattle.bd_space.specs.declared.step.ObjectId as declared;
 ghost use Rattle.bd_space.specs.Words.{same};
 ghost use Rattle.bd_turns.specs.declared.ends.Ends as declared_ends;
 ghost use Rattle.bd_turns.specs.Ends.{ends_at};
 
 use bd_space::ObjectId;
+use bd_words::pair;
 use std::collections::HashMap;
+use std::hash::{Hash, Hasher};
 
 /// An object's identity.
-#[derive(Clone, Copy, Debug, PartialEq, Eq, Hash)]
+#[derive(Clone, Copy, Debug, PartialEq, Eq)]
 pub struct IdKey {
     pub place: u32,
     pub index: u32,
+}
+
+// Not derived: each field would be a write of its own, and each write waits for the one before.
+impl Hash for IdKey {
+    ghost hash_input = { λ k. fed.u64 (pair k.place k.index) };
+
+    ghost respects_eq = { Prim.search (hashing, rules) };
+
+    fn hash<H: Hasher>(&self, state: &mut H) {
+        state.write_u64(pair(self.place, self.index));
+    }
 }
 
 /// An object's first slot whose call hasn't gone, and its last slot.

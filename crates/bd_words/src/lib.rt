@@ -7,5 +7,5 @@ mod map;
 mod node;
 mod tree;
 
-pub use key::WordKey;
+pub use key::{WordKey, pair, wide};
 pub use map::WordMap;
