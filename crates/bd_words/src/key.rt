@@ -20,14 +20,14 @@ impl WordKey {
     }
 }
 
-/// Two numbers as one, another for each two.
+/// Two numbers as one, another for each two. A hash map whose keys are such numbers hashes a key by one write.
 pub fn pair(high: u32, low: u32) -> u64
     ensures { result ≡ pair high low }
 {
     u64::from(high) * 0x1_0000_0000 + u64::from(low)
 }
 
-/// A number above another, another for each two.
+/// The same with a number of 64 bits below.
 pub fn wide(high: u32, low: u64) -> u128
     ensures { result ≡ wide high low }
 {
