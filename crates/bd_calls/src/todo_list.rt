@@ -45,7 +45,7 @@ fn reads_in(frames: &FrameTable, todo: &WorkTable, thread: &Thread) -> Option<To
     }
 }
 
-// It is asked of every thread after every step: the frames are looked at only where its process has work.
+// The frames are looked at only where its process has work.
 fn has_to_read(frames: &FrameTable, todo: &WorkTable, thread: &Thread) -> bool
     ensures { (fs : List declared.Frame) → frame_table.FramesAre frames.now fs → links.Tells todo.now result
         (λ l. not (reading.is_empty (spec.work_on l (spec.reads_in fs l thread.now)))) }
