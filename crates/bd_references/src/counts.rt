@@ -54,18 +54,6 @@ impl Counts {
         }
     }
 
-    // A counter is set, which may be a new one.
-    fn raise(&mut self, k: CountKey, n: u64)
-        requires { 0 < spare self.old.counts }
-        ensures counts { (q : declared.CountKey) → count_at self.new q ≡ (if same_key k q then n else count_at self.old q) }
-        ensures spare { spare self.old.counts ≤ spare self.new.counts + 1 }
-    {
-        match self.counts.insert(k, n) {
-            Ok(_) => {}
-            Err(_) => {}
-        }
-    }
-
     /// A counter becomes 0. Tells how many there were.
     #[tactic(auto, unfolding(crate::specs::Keys::same_key))]
     pub(crate) fn forget(&mut self, k: CountKey) -> u64
@@ -103,16 +91,15 @@ impl Counts {
         ensures others { (q : declared.CountKey) → same_key k q ≡ false → count_at self.new q ≡ count_at self.old q }
         ensures spare { spare self.old.counts ≤ spare self.new.counts + 1 }
     {
-        match self.counts.get_mut(&k) {
-            Some(count) => {
+        match self.counts.entry(k) {
+            Ok(entry) => {
+                let count = entry.or_insert(0);
                 let before = *count;
                 *count = before.saturating_add(1);
                 before
             }
-            None => {
-                self.raise(k, 1);
-                0
-            }
+            // It doesn't come: there is room.
+            Err(_) => 0,
         }
     }
 
