@@ -3,10 +3,8 @@ use Rattle.bd_laws.proofs.words.Logic.{◌≡◌, ◌≤◌, ◌<◌, ◌+◌, �
 use Rattle.bd_laws.proofs.words.Types.{Entry, StepAnswer, Step}
 use Rattle.bd_laws.proofs.words.Space.{Space, opening, step, History, history_of, IsHistory, EntryFollows, Follows, after, next, space_after, is_at_limit}
 use Rattle.bd_engine.specs.declared.why.Why.{Why}
-use Rattle.bd_engine.specs.declared.why.Why.TheVariants as why
 use Rattle.bd_engine.specs.Refusals.{FullOnly}
 use Rattle.bd_audit.specs.declared.judging.AuditFault.{AuditFault}
-use Rattle.bd_audit.specs.declared.judging.AuditFault.TheVariants.{Unlawful, NoMemory}
 use Rattle.bd_audit.specs.Replays.{with_entry, beginning, Begins, IfUnlawful, fault_of, StopsAt}
 use Rattle.bd_laws.proofs.Tests.{and-both as join, both}
 
@@ -61,8 +59,7 @@ unfolding space_after
 wrong-answer h e a is not k = not (is ∙ (last-follows h e k).follows.answer)
 
 either-case : (a b : Bool) → (a || b) ≡ true → a ≡ false → b ≡ true
-either-case true b h k = absurd (cc)
-either-case false b h k = h
+either-case a b h k = search arith
 
 pub past-limit : (h : History) (e : Entry) → is_at_limit h e.seat (Some e.step) ≡ true → IsHistory (with_entry h e) → ⊥
 unfolding space_after is_at_limit
@@ -76,11 +73,7 @@ past-limit h e limit k =
 -- an engine refuses a step for want of memory, or it is past the limit
 pub refused : (h : History) (e : Entry) (at : ℕ) (w : Why) (x : Step) (f : AuditFault) → f ≡ fault_of w at → x ≡ e.step → FullOnly w (is_at_limit h e.seat (Some x) ≡ true)
     → IfUnlawful f (λ at. IsHistory (with_entry h e) → ⊥)
-refused h e at w x f is same_step full = subst (λ y. IfUnlawful y (λ at. IsHistory (with_entry h e) → ⊥)) (sym is) (by w full)
-  where
-    by : (w : Why) → FullOnly w (is_at_limit h e.seat (Some x) ≡ true) → IfUnlawful (fault_of w at) (λ at. IsHistory (with_entry h e) → ⊥)
-    by why.HistoryFull full = past-limit h e (subst (λ y. is_at_limit h e.seat (Some y) ≡ true) same_step full)
-    by why.NoMemory full = tt
+refused h e at w x f is same_step full = search (arith, past-limit)
 
 -- ---- places
 
@@ -99,16 +92,14 @@ one_more h i e lt is = ap (λ es. let k : History = record { seats = h.seats; en
 
 -- the same of the entry as a loop finds it
 pub one-next : (h g : History) (i : ℕ) (e : Entry) (es : List Entry) → g ≡ beginning i h → es ≡ h.entries → i < length es → e ≡ get_or es i e → with_entry g e ≡ beginning (i + 1) h
-one-next h g i e es at_i same_es below found =
-    ap (λ (x : History). with_entry x e) at_i ∙ one_more h i e (subst (λ xs. i < length xs) same_es below) (subst (λ xs. e ≡ get_or xs i e) same_es found)
+one-next h g i e es at_i same_es below found = search (arith, one_more)
 
 pub next-lawful : (h g : History) (i : ℕ) (e : Entry) (es : List Entry) → IsHistory h → g ≡ beginning i h → es ≡ h.entries → i < length es → e ≡ get_or es i e → IsHistory (with_entry g e)
 next-lawful h g i e es lawful at_i same_es below found = subst IsHistory (sym (one-next h g i e es at_i same_es below found)) (take-history (i + 1) h lawful)
 
 pub not-history : (f : AuditFault) (h g : History) (i : ℕ) (e : Entry) → g ≡ beginning i h → (es : List Entry) → es ≡ h.entries → i < length es → e ≡ get_or es i e
     → IfUnlawful f (λ at. IsHistory (with_entry g e) → ⊥) → IfUnlawful f (λ at. IsHistory h → ⊥)
-not-history (Unlawful at) h g i e at_i es same_es below found not = λ k. not (next-lawful h g i e es k at_i same_es below found)
-not-history NoMemory h g i e at_i es same_es below found not = tt
+not-history f h g i e at_i es same_es below found h2 = search (arith, next-lawful)
 
 begun : (g k : History) → Begins g k → IsHistory k → IsHistory g
 begun g k b h =
@@ -118,16 +109,7 @@ begun g k b h =
 pub stops-there : (f : AuditFault) (h g k : History) (i : ℕ) (e : Entry) → g ≡ beginning i h → (es : List Entry) → es ≡ h.entries → i < length es → e ≡ get_or es i e
     → Begins g k → IsHistory k → IfUnlawful f (λ at. at ≡ length g.entries)
     → IfUnlawful f (λ at. IsHistory (with_entry g e) → ⊥) → IfUnlawful f (StopsAt h)
-stops-there (Unlawful at) h g k i e at_i es same_es below found b l place not =
-    let lt : i < length h.entries = subst (λ xs. i < length xs) same_es below in
-    let le : i ≤ length h.entries = omega arith in
-    let here : at ≡ i = place ∙ ap (λ (x : History). length x.entries) at_i ∙ length-take-le i h.entries le in
-    subst (StopsAt h) (sym here) (record {
-      inside = lt;
-      before = subst IsHistory at_i (begun g k b l);
-      stops = λ s. not (subst IsHistory (sym (one-next h g i e es at_i same_es below found)) s);
-    })
-stops-there NoMemory h g k i e at_i es same_es below found b l place not = tt
+stops-there f h g k i e at_i es same_es below found b l place h2 = search (arith, length-take-le, begun, one-next)
 
 pub next-beginning : (h g k : History) (i : ℕ) (e : Entry) (es : List Entry) → g ≡ beginning i h → es ≡ h.entries → i < length es → e ≡ get_or es i e → k ≡ with_entry g e → k ≡ beginning (i + 1) h
 next-beginning h g k i e es at_i same_es below found is = is ∙ one-next h g i e es at_i same_es below found

@@ -1,12 +1,11 @@
 -- What the calls that look for the answered call find.
-use Rattle.bd_laws.proofs.words.Logic.{◌≡◌, ◌≤◌, ◌<◌, ◌==◌, ℕ, zero, suc, Bool, true, false, List, [], ◌∷◌, length, get_or, Option, Some, None, Result, inl, inr, refl, ap, sym, subst, ◌∙◌, arith, MatchResult, slice_get, option_eq, option_map, option_and_then, eqb-true, eq-eqb}
-use Rattle.bd_laws.proofs.words.Types.{Fault, NoMemory, Step, Read, Entry, Frame}
-use Rattle.bd_laws.proofs.words.Space.{Space, opening, innermost, serves, History, next, space_after}
-use Rattle.bd_links.specs.TodoList.{first_reply_in}
+use Rattle.bd_laws.proofs.words.Logic.{◌≡◌, ◌≤◌, ◌<◌, ◌==◌, ℕ, zero, suc, Bool, true, false, List, [], ◌∷◌, length, get_or, Option, Some, None, Result, refl, ap, sym, subst, ◌∙◌, arith, MatchResult, slice_get, option_eq, option_map, option_and_then, eqb-true, eq-eqb}
+use Rattle.bd_laws.proofs.words.Types.{Fault, NoMemory, Read, Entry}
+use Rattle.bd_laws.proofs.words.Space.{Space, opening, serves, History, next, space_after}
 use Rattle.bd_engine.specs.Looks.{first_reply, innermost_of}
 use Rattle.bd_audit.specs.Replays.{with_entry, beginning}
 use Rattle.bd_audit.specs.Laws.{space_at}
-use Rattle.bd_audit.specs.Replies.{items_taken, reply_taken, reply_taken_at, frame_of, call_closed_at, call_answered}
+use Rattle.bd_audit.specs.Replies.{reply_taken, reply_taken_at, frame_of, call_closed_at, call_answered}
 use Rattle.bd_audit.proofs.Beginnings.{after-append}
 use Rattle.bd_audit.proofs.RepliesReachTheirCallers.RepliesDue.{always-owed}
 use Rattle.bd_audit.proofs.RepliesReachTheirCallers.ReplyTaken.{taken-or-not, first-stands}
@@ -16,23 +15,13 @@ use Rattle.bd_audit.proofs.RepliesReachTheirCallers.ReplyTaken.{taken-or-not, fi
 -- a step that is no reading takes nothing
 pub unread : (s : Space) (e : Entry) → ((limit : ℕ) → e.step ≡ Read limit → ⊥) → None ≡ reply_taken s e
 unfolding reply_taken
-unread s e never = at e.step refl
-  where
-    at : (x : Step) → e.step ≡ x → None ≡ first_reply_in (items_taken s e.seat x)
-    at (Read limit) k = absurd (never limit k)
-    at _ k = refl
+unread s e never = search arith
 
 same-option : (a b : Option ℕ) → option_eq (λ x y. x == y) a b ≡ true → a ≡ b
-same-option None None h = refl
-same-option None (Some y) h = absurd (cc)
-same-option (Some x) None h = absurd (cc)
-same-option (Some x) (Some y) h = ap (λ n. Some n) (eqb-true x y h)
+same-option a b h = search (arith, eqb-true)
 
 option-same : (a b : Option ℕ) → option_eq (λ x y. x == y) a b ≡ false → a ≡ b → ⊥
-option-same a None h e = let wrong : option_eq (λ x y. x == y) None None ≡ false = subst (λ o. option_eq (λ x y. x == y) o None ≡ false) e h in absurd (cc)
-option-same a (Some y) h e =
-    let wrong : (y == y) ≡ false = subst (λ o. option_eq (λ x y. x == y) o (Some y) ≡ false) e h in
-    let right = eq-eqb y y refl in absurd (cc)
+option-same a b h e = search (arith, eq-eqb)
 
 -- the space of one entry more
 next-space : (g k : History) (e : Entry) → k ≡ with_entry g e → space_after k ≡ next (space_after g) e
@@ -46,16 +35,10 @@ module _ (g k : History) (e : Entry) (limit : ℕ) (reading : e.step ≡ Read li
 
   -- the first reply is still the first
   pub still-first : option_eq (λ x y. x == y) now before ≡ true → None ≡ reply_taken (space_after g) e
-  still-first h = elim (taken-or-not (space_after g) (always-owed g) e limit reading) [
-    | inl n ↦ sym n.0
-    | inr r ↦ (let w = first-stands (next (space_after g) e) e.seat r.0 (sym found ∙ same-option now before h ∙ was ∙ r.2) in absurd (r.3 w.0 w.1 w.2))
-  ]
+  still-first h = search (arith, taken-or-not, always-owed, first-stands, found, same-option)
 
   pub first-taken : option_eq (λ x y. x == y) now before ≡ false → before ≡ reply_taken (space_after g) e
-  first-taken h = elim (taken-or-not (space_after g) (always-owed g) e limit reading) [
-    | inl n ↦ absurd (option-same now before h (found ∙ n.1 ∙ sym was))
-    | inr r ↦ was ∙ r.2 ∙ sym r.1
-  ]
+  first-taken h = search (arith, taken-or-not, always-owed, option-same, found)
 
 -- ---- the entry at a place
 
@@ -102,11 +85,7 @@ first-part o = option_map (λ (p : ℕ × Bool). p.0) o
 
 frame-is : (s : Space) (e : Entry) → frame_of s e ≡ first-part (innermost_of s e.seat)
 unfolding frame_of first-part
-frame-is s e = at (innermost s e.seat)
-  where
-    at : (o : Option Frame) → option_map (λ (f : Frame). f.made) o ≡ option_map (λ (p : ℕ × Bool). p.0) (option_map (λ (f : Frame). (f.made, serves e.seat f.server)) o)
-    at None = refl
-    at (Some f) = refl
+frame-is s e = search (arith, serves)
 
 pub closed-some : (h g : History) (place : ℕ) (e : Entry) (made : ℕ) (serving : Bool) → g ≡ beginning place h → slice_get h.entries place ≡ Some e
     → Some (made, serving) ≡ innermost_of (space_after g) e.seat → Some made ≡ call_closed_at h place

@@ -1,7 +1,8 @@
 -- Each live thread was made by a step of its seat.
-use Rattle.bd_laws.proofs.words.Logic.{◌≡◌, ℕ, zero, suc, ◌-◌, ◌==◌, Bool, true, false, cond, not, List, [], ◌∷◌, ◌++◌, length, Option, Some, None, ◌⊎◌, inl, inr, refl, ap, sym, subst, ◌∙◌, map, filter, fold, slice_get, option_map, eqb-true}
+use Rattle.bd_laws.proofs.words.Logic.{arith}
+use Rattle.bd_laws.proofs.words.Logic.{◌≡◌, ℕ, zero, suc, ◌-◌, ◌==◌, Bool, false, cond, not, List, [], ◌∷◌, ◌++◌, length, Option, Some, None, ◌⊎◌, inl, inr, refl, ap, sym, subst, ◌∙◌, filter, fold, slice_get, option_map, eqb-true}
 use Rattle.bd_laws.proofs.words.Types.{TransactionData, Entry, Thread, Frame, Actor, OfThread}
-use Rattle.bd_laws.proofs.words.Space.{Space, opening, thread_in, closed, owe, list_to_read, ripen, follow, notify, work_goes, deaths_go, names_go, assign_numbers, objects_go, Delivery, delivered, own_notices, add_buffer, known_by, refer, make_objects, transacted, called, call_out, replied, without_buffer, read_by, taken, thread_goes, threads_go, without_process, tell_deaths, seat_of, counted, with_thread, with_process, with_manager, ask, drop_asked, acknowledge, with_looping, after, with_spam_detection}
+use Rattle.bd_laws.proofs.words.Space.{Space, opening, thread_in, closed, owe, list_to_read, ripen, follow, notify, work_goes, deaths_go, names_go, assign_numbers, objects_go, Delivery, delivered, own_notices, add_buffer, known_by, refer, make_objects, transacted, called, call_out, replied, without_buffer, read_by, taken, thread_goes, threads_go, without_process, tell_deaths, counted, with_thread, with_process, with_manager, ask, drop_asked, acknowledge, with_looping, after, with_spam_detection}
 use Rattle.bd_space.specs.declared.space.WorkKind.TheVariants as work
 use Rattle.bd_laws.proofs.Machine.EveryStep.{Keeps, every_step}
 use Rattle.bd_laws.proofs.Machine.Deaths.{tell_deaths-aside, on-mapped, on_deaths-aside, on-commands}
@@ -33,15 +34,13 @@ pub made-pushed : (ts : List Thread) (u : Thread) (t m : ℕ) → made_in (ts ++
 made-pushed [] u t m h = at (u.seat == t) refl h
   where
     at : (b : Bool) → (u.seat == t) ≡ b → option_map (λ (v : Thread). v.made) (cond b (Some u) None) ≡ Some m → (made_in [] t ≡ Some m) ⊎ ((t ≡ u.seat) × (m ≡ u.made))
-    at true e k = inr (sym (eqb-true u.seat t e), (let j : Some u.made ≡ Some m = k in let i : u.made ≡ m = cc in sym i))
-    at false e k = inl k
+    at b e k = search (arith, eqb-true)
 made-pushed (x ∷ ts) u t m h = at (x.seat == t) (made-pushed ts u t m) h
   where
     at : (b : Bool) → (made_in (ts ++ u ∷ []) t ≡ Some m → (made_in ts t ≡ Some m) ⊎ ((t ≡ u.seat) × (m ≡ u.made)))
         → option_map (λ (v : Thread). v.made) (cond b (Some x) (thread_in (ts ++ u ∷ []) t)) ≡ Some m
         → (option_map (λ (v : Thread). v.made) (cond b (Some x) (thread_in ts t)) ≡ Some m) ⊎ ((t ≡ u.seat) × (m ≡ u.made))
-    at true k h = inl h
-    at false k h = k h
+    at b k h = search arith
 
 pub none-left : (ts : List Thread) (gone : ℕ) → made_in (filter (λ (v : Thread). not (v.seat == gone)) ts) gone ≡ None
 none-left [] gone = refl
@@ -49,29 +48,14 @@ none-left (x ∷ ts) gone = at (x.seat == gone) refl (none-left ts gone)
   where
     at : (b : Bool) → (x.seat == gone) ≡ b → made_in (filter (λ (v : Thread). not (v.seat == gone)) ts) gone ≡ None
         → made_in (cond (not b) (x ∷ filter (λ (v : Thread). not (v.seat == gone)) ts) (filter (λ (v : Thread). not (v.seat == gone)) ts)) gone ≡ None
-    at true e k = k
-    at false e k = ap (λ c. option_map (λ (v : Thread). v.made) (cond c (Some x) (thread_in (filter (λ (v : Thread). not (v.seat == gone)) ts) gone))) e ∙ k
+    at b e k = search arith
 
 -- who is left sits elsewhere
 pub other-left : (ts : List Thread) (gone t m : ℕ) → made_in (filter (λ (v : Thread). not (v.seat == gone)) ts) t ≡ Some m → (t == gone) ≡ false
-other-left ts gone t m i = at (t == gone) refl
-  where
-    at : (b : Bool) → (t == gone) ≡ b → (t == gone) ≡ false
-    at true e =
-        let none = none-left ts gone in
-        let some = subst (λ n. made_in (filter (λ (v : Thread). not (v.seat == gone)) ts) n ≡ Some m) (eqb-true t gone e) i in
-        absurd (cc)
-    at false e = e
+other-left ts gone t m i = search (arith, none-left, eqb-true)
 
 pub made-before : (ts : List Thread) (gone t m : ℕ) → made_in (filter (λ (v : Thread). not (v.seat == gone)) ts) t ≡ Some m → made_in ts t ≡ Some m
-made-before ts gone t m h = at (t == gone) refl
-  where
-    at : (b : Bool) → (t == gone) ≡ b → made_in ts t ≡ Some m
-    at true e =
-        let none = none-left ts gone in
-        let some : made_in (filter (λ (v : Thread). not (v.seat == gone)) ts) gone ≡ Some m = subst (λ n. made_in (filter (λ (v : Thread). not (v.seat == gone)) ts) n ≡ Some m) (eqb-true t gone e) h in
-        absurd (cc)
-    at false e = sym (made-kept ts gone t e) ∙ h
+made-before ts gone t m h = search (arith, none-left, eqb-true, made-kept)
 
 goes : (es : List Entry) (z : Space) (seat : ℕ) → Seated es z → Seated es (thread_goes z seat)
 unfolding thread_goes
@@ -87,17 +71,13 @@ without-threads z p = refl
 
 ends : (es : List Entry) (z : Space) (p : ℕ) → Seated es z → Seated es (tell_deaths (without_process (threads_go z p) p) p)
 unfolding threads_go
-ends es z p h =
-    let a = fold thread_goes z (map seat_of (filter (λ (t : Thread). t.process == p) z.threads)) in
-    let b = without_process a p in
-    same-threads es (tell_deaths b p) a ((tell_deaths-aside b p).threads ∙ without-threads a p) (all-go es (map seat_of (filter (λ (t : Thread). t.process == p) z.threads)) z h)
+ends es z p h = search (arith, same-threads, tell_deaths-aside, without-threads, all-go)
 
 -- ---- the other parts
 
 called-threads : (z : Space) (seat p : ℕ) (one_way : Bool) → (called z seat p one_way).threads ≡ z.threads
 unfolding call_out owe
-called-threads z seat p true = refl
-called-threads z seat p false = refl
+called-threads z seat p one_way = search arith
 
 transacted-threads : (s : Space) (a : Actor) (d : TransactionData) (v : Delivery) → (transacted s a d v).threads ≡ s.threads
 unfolding transacted owe delivered own_notices add_buffer known_by assign_numbers refer make_objects
@@ -105,8 +85,7 @@ transacted-threads s a d v = called-threads _ a.thread.seat v.receiver.made v.on
 
 told-threads : (z : Space) (caller : Option ℕ) (n : ℕ) → (elim caller as (λ (o : Option ℕ). Space) [ None ↦ z | Some t ↦ owe z (OfThread t) (work.Reply n) ]).threads ≡ z.threads
 unfolding owe
-told-threads z None n = refl
-told-threads z (Some t) n = refl
+told-threads z caller n = search arith
 
 replied-threads : (s : Space) (a : Actor) (d : TransactionData) (f : Frame) (v : Delivery) → (replied s a d f v).threads ≡ s.threads
 unfolding replied closed owe delivered own_notices add_buffer known_by assign_numbers refer make_objects

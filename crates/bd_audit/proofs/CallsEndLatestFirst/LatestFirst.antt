@@ -1,5 +1,5 @@
 -- A call of a thread that lives on stays open as long as the thread has a later one: so a step ends the latest only.
-use Rattle.bd_laws.proofs.words.Logic.{◌≡◌, ℕ, ◌<◌, ◌≤◌, Bool, true, false, not, ◌&&◌, ◌||◌, List, Some, inl, inr, refl, ap, sym, ◌∙◌, arith, nat_le, list_any, eqb-true, eq-eqb, cases_lt, le-leb}
+use Rattle.bd_laws.proofs.words.Logic.{◌≡◌, ℕ, ◌<◌, ◌≤◌, true, ◌&&◌, List, Some, inl, ap, sym, ◌∙◌, arith, list_any, eqb-true, eq-eqb, le-leb}
 use Rattle.bd_laws.proofs.words.Types.{Step, Entry, Frame, Serving}
 use Rattle.bd_laws.proofs.words.Space.{Space, opening, calls, is_frame, after, next}
 use Rattle.bd_laws.proofs.words.Laws.{In, Nested, OnPaths}
@@ -39,8 +39,7 @@ earlier-way s h t m f g l k calls also lt =
     )
   where
     served : (p : Frame) → Nested p g → p.server ≡ Serving t
-    served p (inl gone) = let none = gone.1 in absurd (cc)
-    served p (inr by) = let is : by.0 ≡ t = (let i : Some by.0 ≡ Some t = sym by.2 ∙ also in cc) in by.1 ∙ ap (λ n. Serving n) is
+    served p h = search arith
 
 -- what holds of each of several
 each-kept : {I : Type 0} (s : Space) (seat : ℕ) (x : Step) (P : I → Space → Type 0) → ((i : I) → KeepsWhole s seat x (P i) (P i))
@@ -84,9 +83,7 @@ module _ (s : Space) (h : OnPaths s.steps s) where
 
   pub earlier-kept : (seat : ℕ) (x : Step) → KeepsWhole s seat x EarlierStay EarlierStay
   unfolding EarlierStay
-  earlier-kept seat x =
-      each-kept s seat x (λ (w : (t : ℕ) × (m : ℕ) × Way s h t). While s h w.2.top w.2.child w.2.here w.2.there w.2.parent w.0 w.1 w.2.serving)
-      (λ w. kept s h w.2.top w.2.child w.2.here w.2.there w.2.parent w.0 w.1 w.2.serving seat x)
+  earlier-kept seat x = search (arith, each-kept, kept)
 
   pub earlier-open : (z : Space) → EarlierStay z → (t m : ℕ) (f g : Frame) → In f s.frames → In g s.frames → f.caller ≡ Some t → g.caller ≡ Some t → f.made < g.made
       → thread_made z t ≡ Some m → (x : Frame) × In x z.frames × (x.made ≡ f.made)
@@ -114,10 +111,7 @@ record OpenCall (s : Space) (j seat : ℕ) : Type 0 where
   caller : frame.caller ≡ Some seat
 
 open-call : (s : Space) (j seat : ℕ) → list_any (λ g. is_frame j g && calls seat g) s.frames ≡ true → OpenCall s j seat
-open-call s j seat h =
-    let f = any-found (λ (g : Frame). is_frame j g && calls seat g) s.frames h in
-    let b = both (is_frame j f.0) (calls seat f.0) f.2 in
-    record { frame = f.0; here = f.1; made = eqb-true f.0.made j b.0; caller = true-calls seat f.0.caller b.1 }
+open-call s j seat h = search (arith, any-found, calls, both, eqb-true, true-calls)
 
 module _ (es : List Entry) (e : Entry) (j m : ℕ) (h : EndsCall (after opening es) e j m) where
   abbrev s : Space
@@ -135,16 +129,7 @@ module _ (es : List Entry) (e : Entry) (j m : ℕ) (h : EndsCall (after opening 
       absurd (cc)
 
   ends-latest : IsLatest s j m
-  ends-latest = record {
-    seat = h.seat;
-    lives = h.lives;
-    stands = h.stands;
-    latest = all-in (λ (g : Frame). not (calls h.seat g) || nat_le g.made j) s.frames (λ g l. at g l (calls h.seat g) refl);
-  }
-    where
-      at : (g : Frame) → In g s.frames → (b : Bool) → calls h.seat g ≡ b → (not b || nat_le g.made j) ≡ true
-      at g l true e = elim (cases_lt j g.made) [ inl lt ↦ absurd (no-later g l (true-calls h.seat g.caller e) lt) | inr ge ↦ le-leb g.made j ge ]
-      at g l false e = refl
+  ends-latest = search (arith, all-in, calls, no-later, true-calls, le-leb)
 
 pub latest-first : (es : List Entry) (i j m : ℕ) → At es i (λ z e. EndsCall z e j m) → At es i (λ z e. IsLatest z j m)
 latest-first es i j m p = (p.0, p.1, p.2, ends-latest p.0 p.1 j m p.3)

@@ -1,5 +1,5 @@
 -- A call of a thread that lives on stays open through a step as long as the thread has a later one.
-use Rattle.bd_laws.proofs.words.Logic.{◌≡◌, ℕ, ◌<◌, ◌≤◌, ◌-◌, ◌==◌, Bool, true, false, cond, not, List, [], ◌∷◌, map, filter, Option, Some, None, inl, inr, refl, ap, sym, subst, ◌∙◌, arith, list_any, find, fold, eqb-true, eq-eqb, cases_lt}
+use Rattle.bd_laws.proofs.words.Logic.{◌≡◌, ℕ, ◌<◌, ◌≤◌, ◌-◌, ◌==◌, Bool, true, false, cond, not, List, [], ◌∷◌, map, filter, Option, Some, None, inl, inr, refl, ap, sym, subst, ◌∙◌, arith, list_any, find, fold, eqb-true, eq-eqb}
 use Rattle.bd_laws.proofs.words.Types.{TransactionData, DeadReply, FailedReply, TransactionComplete, Step, Entry, Work, Frame, Thread, Actor, Serving, Gone, OfThread, OfProcess, WorkKind}
 use Rattle.bd_laws.proofs.words.Space.{is_some_and, Space, closed, is_frame, is_child_of, is_gone, served_innermost, owe, tell_caller, is_call, list_to_read, ripen, follow, notify, work_goes, deaths_go, names_go, objects_go, is_abandoned, Delivery, delivered, transacted, called, call_out, refusal, replied, reply_refused, read_by, taken, serve, thread_goes, gone_server, unread_server, frame_without, unread_frame, threads_go, without_process, tell_deaths, seat_of, counted, next, is_spam}
 use Rattle.bd_space.specs.declared.space.WorkKind.TheVariants as work
@@ -26,8 +26,7 @@ pub told : (z : Space) (caller : Option ℕ) (kind : WorkKind)
     → ((elim caller as (λ (o : Option ℕ). Space) [ None ↦ z | Some u ↦ owe z (OfThread u) kind ]).frames ≡ z.frames)
     × ((elim caller as (λ (o : Option ℕ). Space) [ None ↦ z | Some u ↦ owe z (OfThread u) kind ]).threads ≡ z.threads)
 unfolding owe
-told z None kind = (refl, refl)
-told z (Some u) kind = (refl, refl)
+told z caller kind = search arith
 
 -- The thread serves the frame at the top, and calls in a child of it.
 module _ (s : Space) (h : OnPaths s.steps s) (top child : Frame) (here : In top s.frames) (there : In child s.frames) (parent : child.parent ≡ Some top.made) (t m : ℕ)
@@ -46,10 +45,7 @@ module _ (s : Space) (h : OnPaths s.steps s) (top child : Frame) (here : In top 
   While z = thread_made z t ≡ Some m → Stood z.frames
 
   stood : Stood s.frames
-  stood = record {
-    way = λ x on. (x, on.0, refl, refl);
-    server = λ g l e. ap (λ (y : Frame). y.server) (one-frame s.frames h.1.sorted g top l here e) ∙ serving;
-  }
+  stood = search (arith, one-frame)
 
   calm : (z : Space) → z.frames ≡ s.frames → While z
   calm z e i = subst Stood (sym e) stood
@@ -58,9 +54,7 @@ module _ (s : Space) (h : OnPaths s.steps s) (top child : Frame) (here : In top 
   same z y e k w i = subst Stood (sym e) (w (ap (λ ts. made_in ts t) (sym k) ∙ i))
 
   tells : (z : Space) (caller : Option ℕ) (kind : WorkKind) → While z → While (elim caller as (λ (o : Option ℕ). Space) [ None ↦ z | Some u ↦ owe z (OfThread u) kind ])
-  tells z caller kind w =
-      let k = told z caller kind in
-      same (elim caller as (λ (o : Option ℕ). Space) [ None ↦ z | Some u ↦ owe z (OfThread u) kind ]) z k.0 k.1 w
+  tells z caller kind w = search (arith, told)
 
   -- ---- a frame closes that isn't on the way
 
@@ -93,14 +87,7 @@ module _ (s : Space) (h : OnPaths s.steps s) (top child : Frame) (here : In top 
   next-on-way x on lt = at (list_any (is_child_of x) s.frames) refl
     where
       low : (y : Frame) → In y s.frames → y.parent ≡ Some x.made → h.0 y.made ≡ h.0 top.made → y.made ≤ top.made
-      low y l e r = elim (cases_lt top.made y.made) [
-        | inl later ↦ (
-            let link = h.1.linked top y here l (sym r) later in
-            let is : link.0 ≡ x.made = (let i : Some link.0 ≡ Some x.made = sym link.1 ∙ e in cc) in
-            let le = link.2 in
-            absurd (omega arith))
-        | inr ge ↦ ge
-      ]
+      low y l e r = search arith
 
       at : (b : Bool) → list_any (is_child_of x) s.frames ≡ b → (y : Frame) × OnWay y × (y.parent ≡ Some x.made)
       at true e =
@@ -131,10 +118,7 @@ module _ (s : Space) (h : OnPaths s.steps s) (top child : Frame) (here : In top 
           abandoned-childless z.frames f found.1 g.0 g.1 (g.3 ∙ y.2 ∙ ap (λ n. Some n) q)
         where
           below : x.made ≤ top.made → x.made < top.made
-          below le = elim (cases_lt x.made top.made) [
-            | inl lt ↦ lt
-            | inr ge ↦ (let is : x.made ≡ top.made = omega arith in let yes = eq-eqb x.made top.made is in absurd (cc))
-          ]
+          below le = search (arith, eq-eqb)
 
   pub abandons : (z : Space) (f : Frame) → find (is_abandoned z.frames) z.frames ≡ Some f → While z → While (tell_caller (closed z f.made) f (work.Verdict DeadReply))
   abandons z f e w = tells (closed z f.made) f.caller (work.Verdict DeadReply) (closes z f.made (abandoned-off z f e) w)
@@ -181,8 +165,7 @@ module _ (s : Space) (h : OnPaths s.steps s) (top child : Frame) (here : In top 
     called-in f = list_any (λ (w : Work). is_call f.made w.kind) (taken s left (list_to_read s u))
 
     kept-by : (b : Bool) (x : Frame) → ((cond b (serve u.seat x) x).made ≡ x.made) × ((cond b (serve u.seat x) x).parent ≡ x.parent)
-    kept-by true x = (refl, refl)
-    kept-by false x = (refl, refl)
+    kept-by b x = search arith
 
     uncalled : (x : Frame) → In x s.frames → x.server ≡ Serving t → (b : Bool) → called-in x ≡ b → called-in x ≡ false
     uncalled x l e true k =

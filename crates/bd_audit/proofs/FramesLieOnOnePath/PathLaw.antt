@@ -1,5 +1,5 @@
 -- The law of paths: one open child at most, and a thread's frames on the way from the newest of them.
-use Rattle.bd_laws.proofs.words.Logic.{◌≡◌, ℕ, ◌<◌, ◌≤◌, ◌==◌, Bool, true, false, cond, not, ◌&&◌, ◌||◌, List, [], ◌∷◌, length, reverse, Option, Some, None, ◌⊎◌, inl, inr, refl, ap, sym, ◌∙◌, filter, arith, list_any, list_all, eqb-true, eq-eqb, cases_lt}
+use Rattle.bd_laws.proofs.words.Logic.{◌≡◌, ℕ, ◌<◌, ◌≤◌, ◌==◌, Bool, true, false, cond, not, ◌&&◌, ◌||◌, List, [], ◌∷◌, length, reverse, Option, Some, ◌⊎◌, inl, inr, refl, ap, sym, ◌∙◌, filter, arith, list_any, list_all, eqb-true, eq-eqb, cases_lt}
 use Rattle.bd_laws.proofs.words.Types.{Frame, Buffer, Work}
 use Rattle.bd_laws.proofs.words.Space.{is_some_and, ancestry, takes_part, is_frame, is_child_of, History, space_after}
 use Rattle.bd_laws.proofs.words.Laws.{In, Pairs, Forest, Older}
@@ -19,8 +19,7 @@ short (x ∷ []) h k = omega arith
 short (x ∷ y ∷ zs) h k = absurd (k x y (inl refl) (inr (inl refl)) (h.0 y (inl refl)))
 
 parent-of : (f : Frame) (o : Option ℕ) → is_some_and o (λ m. m == f.made) ≡ true → o ≡ Some f.made
-parent-of f None e = absurd (cc)
-parent-of f (Some p) e = ap (λ n. Some n) (eqb-true p f.made e)
+parent-of f o e = search (arith, eqb-true)
 
 -- ---- on the way
 
@@ -28,9 +27,7 @@ Lower : List Frame → Type 0
 Lower xs = (g : Frame) (p : ℕ) → In g xs → g.parent ≡ Some p → (u : Frame) × In u xs × (u.made ≡ p) × (p < g.made)
 
 either-true : (a b : Bool) → (a ≡ true) ⊎ (b ≡ true) → (a || b) ≡ true
-either-true true b h = refl
-either-true false b (inl e) = absurd (cc)
-either-true false b (inr e) = e
+either-true a b h = search arith
 
 module _ (n : ℕ) (root : ℕ → ℕ) (fs : List Frame) (bs : List Buffer) (td : List Work) (h : Forest n root fs bs td) where
   one-child : (f : Frame) → length (filter (is_child_of f) fs) ≤ 1
@@ -79,8 +76,7 @@ module _ (n : ℕ) (root : ℕ → ℕ) (fs : List Frame) (bs : List Buffer) (td
     where
       at : (b : Bool) → b ≡ true → ((x.made == f.made) ≡ true) ⊎ (list_any (is_frame f.made) (ancestry x.parent xs) ≡ true)
           → list_any (is_frame f.made) (cond b (x ∷ ancestry x.parent xs) (ancestry (Some g.made) xs)) ≡ true
-      at true q r = either-true (x.made == f.made) (list_any (is_frame f.made) (ancestry x.parent xs)) r
-      at false q r = absurd (cc)
+      at b q r = search (arith, either-true)
   way (x ∷ xs) o sub k f g (inl is) (inr m) e le = let newer : g.made < x.made = o.0 g m in let made : x.made ≡ f.made = ap (λ (y : Frame). y.made) is in absurd (omega arith)
   way (x ∷ xs) o sub k f g (inr l) (inr m) e le =
       let newer : g.made < x.made = o.0 g m in
@@ -88,8 +84,7 @@ module _ (n : ℕ) (root : ℕ → ℕ) (fs : List Frame) (bs : List Buffer) (td
     where
       at : (b : Bool) → b ≡ false → list_any (is_frame f.made) (ancestry (Some g.made) xs) ≡ true
           → list_any (is_frame f.made) (cond b (x ∷ ancestry x.parent xs) (ancestry (Some g.made) xs)) ≡ true
-      at false q r = r
-      at true q r = absurd (cc)
+      at b q r = search arith
 
   lower : Lower (reverse fs)
   unfolding Lower

@@ -1,5 +1,5 @@
 -- An object that has gone never comes back, and nothing refers to it again.
-use Rattle.bd_laws.proofs.words.Logic.{◌≡◌, ℕ, ◌+◌, ◌<◌, ◌≤◌, Bool, true, false, List, [], ◌∷◌, Option, Some, None, length, take, drop, inl, inr, refl, ap, sym, subst, ◌∙◌, arith, is_some, take-take, take-append-drop, length-take-le}
+use Rattle.bd_laws.proofs.words.Logic.{◌≡◌, ℕ, ◌+◌, ◌<◌, ◌≤◌, true, false, List, [], ◌∷◌, Option, Some, None, length, take, drop, inl, inr, refl, ap, sym, subst, ◌∙◌, arith, is_some, take-take, take-append-drop, length-take-le}
 use Rattle.bd_laws.proofs.words.Types.{ObjectId, Entry, Object}
 use Rattle.bd_laws.proofs.words.Space.{same, Space, opening, object_in, held_in, counted, History, after, next, space_after}
 use Rattle.bd_laws.proofs.words.Laws.{Here, Before}
@@ -45,11 +45,7 @@ found-here objects o h = at (object_in objects o) refl h
 
 away-here : (z : Space) (o : ObjectId) → Away o z → is_here z o ≡ false
 unfolding Away
-away-here z o away = at (is_here z o) refl
-  where
-    at : (b : Bool) → is_here z o ≡ b → b ≡ false
-    at false e = refl
-    at true e = absurd (away (found-here z.objects o e))
+away-here z o away = search (arith, found-here)
 
 here-away : (z : Space) (o : ObjectId) → is_here z o ≡ false → Away o z
 unfolding Away

@@ -1,7 +1,7 @@
 -- Each name has a gift chain.
-use Rattle.bd_laws.proofs.words.Logic.{◌≡◌, ℕ, suc, ◌+◌, ◌<◌, ◌≤◌, ◌==◌, Bool, true, false, cond, ◌&&◌, ◌||◌, List, [], ◌∷◌, ◌++◌, Option, Some, Ok, ◌⊎◌, inl, inr, refl, ap, sym, subst, ◌∙◌, length, arith, length-append, append_assoc, append-nil, list_any, is_some, eq-eqb}
-use Rattle.bd_laws.proofs.words.Types.{ObjectId, Entry, Parcel, Command, Accepted, Actor, Object, Name, Reference, Holder, Carried}
-use Rattle.bd_laws.proofs.words.Space.{same, is_some_and, Space, opening, actor, owned_in, number_in, named, ask_check, ask_step, command_step, change, counted, History, after, next, space_after}
+use Rattle.bd_laws.proofs.words.Logic.{◌≡◌, ℕ, suc, ◌+◌, ◌<◌, ◌≤◌, ◌==◌, Bool, true, cond, ◌&&◌, ◌||◌, List, [], ◌∷◌, ◌++◌, Option, Some, Ok, ◌⊎◌, inl, inr, refl, ap, sym, subst, ◌∙◌, length, arith, length-append, append_assoc, append-nil, eq-eqb}
+use Rattle.bd_laws.proofs.words.Types.{ObjectId, Entry, Parcel, Command, Accepted, Actor, Object, Name, Holder, Carried}
+use Rattle.bd_laws.proofs.words.Space.{same, is_some_and, Space, opening, actor, owned_in, named, ask_check, ask_step, command_step, change, counted, History, after, next, space_after}
 use Rattle.bd_uapi.specs.declared.command.Command.TheVariants as bc
 use Rattle.bd_laws.proofs.words.Laws.{In, Before}
 use Rattle.bd_laws.proofs.Lists.{any-in}
@@ -10,7 +10,7 @@ use Rattle.bd_laws.proofs.Sendings.{Owns, named-has}
 use Rattle.bd_laws.proofs.IsInTurn.Passing.{step-passes}
 use Rattle.bd_laws.proofs.IsInTurn.Received.{step-before, opening-before}
 use Rattle.bd_audit.specs.Gifts as gifts
-use Rattle.bd_audit.specs.Gifts.{is_by, is_carried_to, is_asking_0, AsksManager, Stands, Gives, OwnerGives, ManagerGives, IsChainFrom, IsGiftChain}
+use Rattle.bd_audit.specs.Gifts.{is_carried_to, is_asking_0, AsksManager, Stands, Gives, OwnerGives, ManagerGives, IsChainFrom, IsGiftChain}
 use Rattle.bd_audit.proofs.Beginnings.{after-append}
 use Rattle.bd_audit.proofs.NamesHaveGiftChains.Naming.{step-naming, has-number}
 use Rattle.bd_audit.proofs.NamesHaveGiftChains.NewNames.{ByHand, ByAsking}
@@ -21,10 +21,7 @@ pub stands-more : (es fs : List Entry) (i : ℕ) (before : List Entry) (e : Entr
 stands-more es fs i before e h = record { rest = h.rest ++ fs; all = ap (λ xs. xs ++ fs) h.all ∙ append_assoc before (e ∷ h.rest) fs; at = h.at }
 
 stands-below : (es : List Entry) (i : ℕ) (before : List Entry) (e : Entry) → Stands es i before e → i < length es
-stands-below es i before e h =
-    let l : length es ≡ length (before ++ e ∷ h.rest) = ap (λ xs. length xs) h.all in
-    let k = length-append before (e ∷ h.rest) in
-    let at = h.at in omega (arith, l, k)
+stands-below es i before e h = search (arith, length-append)
 
 chain_from-more : (es fs : List Entry) (o : ObjectId) (is : List ℕ) (p k q : ℕ) → IsChainFrom es o p k is q → IsChainFrom (es ++ fs) o p k is q
 chain_from-more es fs o [] p k q h = h
@@ -82,45 +79,24 @@ pub owns-test : (objects : List Object) (p : ℕ) (o : ObjectId) → Owns object
 owns-test objects p o h = any-in (λ (x : Object). same x.id o && (x.owner == p)) h.0 objects h.1 (and-both (same h.0.id o) (h.0.owner == p) (eq-same h.0.id o h.2) (eq-eqb h.0.owner p h.3))
 
 or-one : (a b : Bool) → (a ≡ true) ⊎ (b ≡ true) → (a || b) ≡ true
-or-one true b h = refl
-or-one false b (inl h) = absurd (cc)
-or-one false b (inr h) = h
+or-one a b h = search arith
 
 carried-test : (place q : ℕ) (holder : Holder) → holder ≡ Carried place q → is_carried_to place q holder ≡ true
 carried-test place q holder h = subst (λ k. is_carried_to place q k ≡ true) (sym h) (and-both (place == place) (q == q) (eq-eqb place place refl) (eq-eqb q q refl))
 
 pub sends : (s : Space) (place : ℕ) (e : Entry) (m : Name) → s.steps ≡ place → (g : ByHand s e.seat m (change s e.seat e.step).space) → gifts.Sends s place e m.object g.by.process.made m.process
-sends s place e m at g =
-    let z = (change s e.seat e.step).space in
-    record {
-      by = by-actor s e.seat g.by g.acts;
-      has_it = or-one (owned_in (next s e).objects g.by.process.made m.object) (is_some (number_in s.names g.by.process.made m.object)) (elim g.has [
-        | inl own ↦ inl (subst (λ os. owned_in os g.by.process.made m.object ≡ true) (sym (counted-objects z)) (owns-test z.objects g.by.process.made m.object own))
-        | inr has ↦ inr (has-number s.names g.by.process.made m.object has)
-      ]);
-      carried = subst (λ rs. list_any (λ r. same r.object m.object && is_carried_to place m.process r.holder) rs ≡ true) (sym (counted-references z))
-          (any-in (λ (r : Reference). same r.object m.object && is_carried_to place m.process r.holder) g.carried.0 z.references g.carried.1
-          (and-both (same g.carried.0.object m.object) (is_carried_to place m.process g.carried.0.holder) (eq-same g.carried.0.object m.object g.carried.2)
-          (carried-test place m.process g.carried.0.holder (g.carried.3 ∙ ap (λ n. Carried n m.process) at))));
-    }
+sends s place e m at g = search (arith, change, by-actor, or-one, counted-objects, owns-test, has-number, counted-references, any-in, and-both, eq-same, carried-test)
 
 asking-0 : (strong : Bool) (parcel : Option Parcel) → is_asking_0 (Command (cond strong (bc.Acquire 0) (bc.Increfs 0)) parcel) ≡ true
-asking-0 true parcel = refl
-asking-0 false parcel = refl
+asking-0 strong parcel = search arith
 
 accepts : (s : Space) (seat : ℕ) (a : Actor) (o : ObjectId) (strong : Bool) (parcel : Option Parcel) → actor s seat ≡ Some a → ask_check s a.process.made 0 strong ≡ Ok o
     → (change s seat (Command (cond strong (bc.Acquire 0) (bc.Increfs 0)) parcel)).answer ≡ Accepted
 unfolding change command_step ask_step
-accepts s seat a o true parcel acts check = rw (acts, check) refl
-accepts s seat a o false parcel acts check = rw (acts, check) refl
+accepts s seat a o strong parcel acts check = search arith
 
 pub asks : (s : Space) (e : Entry) (m : Name) (z : Space) → ByAsking s e.seat e.step m z → AsksManager s e m.object m.process
-asks s e m z g = record {
-  by = subst (λ p. is_by s e p ≡ true) g.process (by-actor s e.seat g.by g.acts);
-  asks = subst (λ x. is_asking_0 x ≡ true) (sym g.asks.1) (asking-0 g.strong g.asks.0);
-  accepted = subst (λ x. (change s e.seat x).answer ≡ Accepted) (sym g.asks.1) (accepts s e.seat g.by m.object g.strong g.asks.0 g.acts g.check);
-  manager = g.manager;
-}
+asks s e m z g = search (arith, by-actor, asking-0, change, accepts)
 
 -- ---- every history
 

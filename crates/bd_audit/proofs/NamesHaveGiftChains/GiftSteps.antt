@@ -1,8 +1,8 @@
 -- The gift by which a name begins, the gifts of a history, and the chain that they make, found from its end.
-use Rattle.bd_laws.proofs.words.Logic.{◌≡◌, ℕ, ◌+◌, ◌<◌, Bool, true, false, ◌&&◌, not, List, [], ◌∷◌, ◌++◌, Option, Some, None, Result, Ok, Err, IfOk, IfSome, inl, inr, refl, ap, sym, subst, ◌∙◌, length, take, get_or, reverse, arith, length-append, append-nil, append_assoc, nat_lt, option_and_then, ltb-true, ltb-false, reverse-append, length-take-le, take-append-le, take_all, get_or-append_seam, get_or-append}
+use Rattle.bd_laws.proofs.words.Logic.{◌≡◌, ℕ, ◌+◌, ◌<◌, Bool, true, false, List, [], ◌∷◌, ◌++◌, Option, Some, None, Result, IfOk, IfSome, inl, inr, refl, ap, sym, subst, ◌∙◌, length, take, get_or, reverse, arith, length-append, append-nil, append_assoc, nat_lt, ltb-true, ltb-false, reverse-append, length-take-le, take-append-le, take_all, get_or-append_seam, get_or-append}
 use Rattle.bd_laws.proofs.words.Types.{Fault, ObjectId, Entry}
-use Rattle.bd_laws.proofs.words.Space.{when, Space, opening, named, History, after, space_after}
-use Rattle.bd_engine.specs.Looks.{knows, process_of}
+use Rattle.bd_laws.proofs.words.Space.{Space, opening, named, History, after, space_after}
+use Rattle.bd_engine.specs.Looks.{knows}
 use Rattle.bd_laws.proofs.words.Laws.{In}
 use Rattle.bd_laws.proofs.Lists.{in-left, in-push, in-last}
 use Rattle.bd_audit.specs.declared.gifts.Gift.{Gift}
@@ -13,9 +13,6 @@ use Rattle.bd_audit.proofs.Beginnings.{one-next}
 use Rattle.bd_audit.proofs.NamesHaveGiftChains.NameBegins.{named-knows, name-given, gift-more}
 
 -- ---- who receives at each entry
-
-pub none-received : AreReceivers [] []
-none-received = record { all = refl; each = λ i lt. absurd (omega (arith, lt)) }
 
 pub receivers-push : (es : List Entry) (e : Entry) (rs : List (Option ℕ)) (r : Option ℕ) → AreReceivers es rs → r ≡ receiver_of es e
     → AreReceivers (es ++ e ∷ []) (rs ++ r ∷ [])
@@ -42,11 +39,7 @@ receivers-push es e rs r h is = record {
 -- as a loop over the entries finds it
 pub receiver-there : (h g : History) (i : ℕ) (e : Entry) (es : List Entry) (rs : List (Option ℕ)) (n : ℕ) → AreReceivers h.entries rs → g ≡ beginning i h → es ≡ h.entries → i < length es
     → e ≡ get_or es i e → n ≡ length g.entries → get_or rs n None ≡ receiver_of g.entries e
-receiver-there h g i e es rs n are at same_es below found place =
-    let inside : i < length h.entries = subst (λ xs. i < length xs) same_es below in
-    let here : length g.entries ≡ i = ap (λ (x : History). length x.entries) at ∙ length-take-le i h.entries (omega (arith, inside)) in
-    ap (λ k. get_or rs k None) (place ∙ here) ∙ are.each i inside
-    ∙ ap (λ (x : History). receiver_at (after opening x.entries) i) (sym (one-next h g i e es at same_es below found)) ∙ ap (receiver_at (after opening (with_entry g e).entries)) (sym here)
+receiver-there h g i e es rs n are at same_es below found place = search (arith, length-take-le, one-next)
 
 pub receivers-next : (g k : History) (e : Entry) (rs qs : List (Option ℕ)) (place : ℕ) (r : Option ℕ) → AreReceivers g.entries rs → k ≡ with_entry g e → place ≡ length g.entries
     → r ≡ receiver_at (space_after k) place → qs ≡ rs ++ r ∷ [] → AreReceivers k.entries qs
@@ -58,35 +51,17 @@ receivers-next g k e rs qs place r are at there is pushed =
 -- ---- the gift of a step
 
 giver-knows : (s : Space) (seat : ℕ) (o : ObjectId) → IfSome (giver_in s seat o) (λ p. knows s p o ≡ true)
-giver-knows s seat o = by (process_of s seat)
-  where
-    known : (p : ℕ) (b : Bool) → knows s p o ≡ b → IfSome (when b p) (λ p. knows s p o ≡ true)
-    known p true e = e
-    known p false e = tt
-
-    by : (f : Option ℕ) → IfSome (option_and_then (λ p. when (knows s p o) p) f) (λ p. knows s p o ≡ true)
-    by None = tt
-    by (Some p) = known p (knows s p o) refl
+giver-knows s seat o = search arith
 
 module _ (es : List Entry) (e : Entry) (o : ObjectId) where
   pub no-gift : ((q : ℕ) → BeginsAt es e o q → ⊥) → IsGiftOf es e o None
   no-gift h = record { made = tt; every = λ q b. h q b }
 
   pub gift-of : (q : ℕ) → ((r : ℕ) → BeginsAt es e o r → r ≡ q) → IsGiftOf es e o (gift_made es e q o)
-  gift-of q one = at (knows_after es q o) (knows_after (es ++ e ∷ []) q o) refl refl
-    where
-      none : (BeginsAt es e o q → ⊥) → IsGiftOf es e o None
-      none h = no-gift (λ r b. h (subst (BeginsAt es e o) (one r b) b))
-
-      at : (a b : Bool) → knows_after es q o ≡ a → knows_after (es ++ e ∷ []) q o ≡ b
-          → IsGiftOf es e o (when (not a && b) (let g : Gift = record { receiver = q; place = length es; giver = giver_in (after opening es) e.seat o } in g))
-      at true b old now = none (λ h. let no = h.0 in absurd (cc))
-      at false false old now = none (λ h. let yes = h.1 in absurd (cc))
-      at false true old now = record { made = record { begins = (old, now); place = refl; giver = refl }; every = λ r b. sym (one r b) }
+  gift-of q one = search (arith, no-gift)
 
 pub ok-gift : (es : List Entry) (e : Entry) (o : ObjectId) (r : Result (Option Gift) Fault) (x : Option Gift) → IfOk r (λ g. g ≡ x) → IsGiftOf es e o x → IfOk r (IsGiftOf es e o)
-ok-gift es e o (Ok g) x h k = subst (IsGiftOf es e o) (sym h) k
-ok-gift es e o (Err f) x h k = tt
+ok-gift es e o r x h k = search arith
 
 -- ---- the gifts so far
 
@@ -109,28 +84,13 @@ follow-front before (x ∷ gs) g h =
 module _ (es : List Entry) (e : Entry) (o : ObjectId) (gs : List Gift) (h : AreGifts es o gs) where
   -- a name that was there before the step, or one that begins with it
   known-next : (q : ℕ) (P : Type 0) → knows_after (es ++ e ∷ []) q o ≡ true → (HasGift gs q → P) → (BeginsAt es e o q → P) → P
-  known-next q P now old new = at (knows_after es q o) refl
-    where
-      at : (b : Bool) → knows_after es q o ≡ b → P
-      at true k = old (h.known q k)
-      at false k = new (k, now)
+  known-next q P now old new = search arith
 
   follows-all : (g : Gift) → BeginsWith es e o g → Follows gs g
-  follows-all g k = record {
-    later = λ x i. (let below = (h.gifts x i).0 in let at = k.place in omega (arith, below, at));
-    given = subst (λ f. IfSome f (HasGift gs)) (sym k.giver) (by (giver_in (after opening es) e.seat o) (giver-knows (after opening es) e.seat o));
-  }
-    where
-      by : (f : Option ℕ) → IfSome f (λ p. knows_after es p o ≡ true) → IfSome f (HasGift gs)
-      by None k = tt
-      by (Some p) k = h.known p k
+  follows-all g k = search (arith, giver-knows)
 
   begun-gift : (g : Gift) → BeginsWith es e o g → IsGift (es ++ e ∷ []) o g
-  begun-gift g k = (
-    let l = length-append es (e ∷ []) in let at = k.place in omega (arith, l, at),
-    subst (λ f. GivenBy (es ++ e ∷ []) g.place o g.receiver f) (sym k.giver)
-        (subst (λ n. GivenBy (es ++ e ∷ []) n o g.receiver (giver_in (after opening es) e.seat o)) (sym k.place) (name-given es e o g.receiver k.begins.0 k.begins.1)),
-  )
+  begun-gift g k = search (arith, length-append, name-given)
 
   pub gifts-stay : IsGiftOf es e o None → AreGifts (es ++ e ∷ []) o gs
   gifts-stay k = record {
@@ -172,20 +132,12 @@ pub way-begins : (gs : List Gift) (q : ℕ) → HasGift gs q → LeadsOn gs gs [
 way-begins gs q h = (h, λ es o all x i. refl)
 
 pub way-found : (gs : List Gift) (places : List ℕ) (q : ℕ) (next : Option ℕ) → LeadsOn gs [] places q next → IsWay gs (reverse places) q
-way-found gs places q None h = h
-way-found gs places q (Some p) h = absurd h.0.1
+way-found gs places q next h = search arith
 
 module _ (gs left : List Gift) (g : Gift) (places : List ℕ) (q : ℕ) where
   -- a gift to another
   pub way-goes-on : (next : Option ℕ) → (next ≡ Some g.receiver → ⊥) → LeadsOn gs (left ++ g ∷ []) places q next → LeadsOn gs left places q next
-  way-goes-on None other h = h
-  way-goes-on (Some p) other h = (
-    elim (in-push h.0.0 g left h.0.1) [
-      | inl l ↦ (h.0.0, l, h.0.2)
-      | inr same_gift ↦ absurd (other (ap (λ n. Some n) (sym (ap (λ (x : Gift). x.receiver) same_gift ∙ h.0.2))))
-    ],
-    λ es o all x i. h.1 es o all x (in-left x left (g ∷ []) i),
-  )
+  way-goes-on next other h = search (arith, in-push, in-left)
 
   to-giver : (giver : Option ℕ) → g.giver ≡ giver → ((x : Gift) → In x (left ++ g ∷ []) → In x gs) → FollowAfter [] (left ++ g ∷ [])
       → LeadsOn gs (left ++ g ∷ []) places q (Some g.receiver) → LeadsOn gs left (places ++ g.place ∷ []) q giver
@@ -214,12 +166,4 @@ unfolding space_after
 holder-knows h pid n p o k = named-knows (space_after h) p n o k.names
 
 pub chain-of : (h g : History) (pid n p : ℕ) (o : ObjectId) (places : List ℕ) → g ≡ h → IsHolder (space_after g) pid n p o → IsGiftChain h.entries o places p → IsChainOf h pid n places
-chain-of h g pid n p o places same_history k chain =
-    let j = subst (λ (x : History). IsHolder (space_after x) pid n p o) same_history k in
-    record {
-      process = j.process;
-      object = o;
-      lives = j.lives;
-      names = subst (λ q. named (space_after h) q n ≡ Some o) (sym j.made) j.names;
-      chain = subst (IsGiftChain h.entries o places) (sym j.made) chain;
-    }
+chain-of h g pid n p o places same_history k chain = search (arith, named)

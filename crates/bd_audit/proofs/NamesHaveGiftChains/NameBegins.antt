@@ -76,19 +76,7 @@ module _ (es : List Entry) (e : Entry) where
 
   pub name-given : (o : ObjectId) (q : ℕ) → knows_after es q o ≡ false → knows_after (es ++ e ∷ []) q o ≡ true
       → GivenBy (es ++ e ∷ []) (length es) o q (giver_in (after opening es) e.seat o)
-  name-given o q new now =
-      let s = after opening es in
-      let z = (change s e.seat e.step).space in
-      let knows_now : knows (next s e) q o ≡ true = subst (λ (y : Space). knows y q o ≡ true) (after-append opening es (e ∷ [])) now in
-      let has = subst (λ ns. HasName ns q o) (counted-names z) (number-has (next s e).names q o knows_now) in
-      let m = has.0 in
-      let old : knows s m.process m.object ≡ false = subst (λ p. knows s p m.object ≡ false) (sym has.2) (subst (λ x. knows s q x ≡ false) (sym has.3) new) in
-      let given : GivenBy (es ++ e ∷ []) (length es) m.object m.process (giver_in s e.seat m.object) = elim (step-naming s e.seat e.step m has.1) [
-        | inl k ↦ (let yes = has-number s.names m.process m.object (m, k, refl, refl) in absurd (cc))
-        | inr k ↦ elim k [ inl g ↦ hand-gives m g | inr g ↦ asked-gives m g old ]
-      ] in
-      subst (λ x. GivenBy (es ++ e ∷ []) (length es) x q (giver_in s e.seat x)) has.3
-      (subst (λ p. GivenBy (es ++ e ∷ []) (length es) m.object p (giver_in s e.seat m.object)) has.2 given)
+  name-given o q new now = search (arith, change, after-append, counted-names, number-has, step-naming, has-number, hand-gives, asked-gives)
 
 -- as an engine finds it
 pub gift-is : (h k : History) (e : Entry) (q : ℕ) (o : ObjectId) (knew now : Bool) (n : ℕ) (giver : Option ℕ) → k ≡ with_entry h e → knew ≡ knows (space_after h) q o

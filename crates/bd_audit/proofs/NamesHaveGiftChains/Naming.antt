@@ -1,5 +1,6 @@
 -- What a step's new names rest on.
-use Rattle.bd_laws.proofs.words.Logic.{◌≡◌, ◌-◌, ℕ, ◌==◌, Bool, true, false, not, ◌&&◌, List, [], ◌∷◌, ◌++◌, Option, Some, None, Ok, ◌⊎◌, inl, inr, refl, ap, sym, subst, ◌∙◌, find, is_some, option_map, eq-eqb}
+use Rattle.bd_laws.proofs.words.Logic.{arith}
+use Rattle.bd_laws.proofs.words.Logic.{◌≡◌, ◌-◌, ℕ, ◌==◌, Bool, true, false, not, List, [], ◌∷◌, ◌++◌, Option, Some, Ok, ◌⊎◌, inl, inr, refl, ap, sym, subst, ◌∙◌, is_some, option_map, eq-eqb}
 use Rattle.bd_laws.proofs.words.Types.{TransactionData, ObjectId, Parcel, Step, Actor, Frame, Asked, Name, OfThread}
 use Rattle.bd_laws.proofs.words.Space.{taken, list_to_read, same, Space, actor, reference_of, number_in, assign_numbers, owe, closed, ripen, Delivery, delivered, transaction_check, transacted, called, reply_check, replied, without_buffer, ask_check, ask, drop_asked, acknowledge, thread_goes, threads_go, without_process, tell_deaths, read_by, change, with_thread, with_process, with_manager, is_spam, with_spam_detection}
 use Rattle.bd_space.specs.declared.space.WorkKind.TheVariants as work
@@ -55,13 +56,10 @@ replied-naming s seat x a d parcel f v acts check =
     (closed-sends s f.made a.process.made v.sending.made v.sending.items (sending-sends s a.process.made d parcel v.sending t.sends)))))
 
 is_some-map : {A B : Type 0} (f : A → B) (o : Option A) → is_some (option_map f o) ≡ is_some o
-is_some-map f None = refl
-is_some-map f (Some x) = refl
+is_some-map f o = search arith
 
 pub has-number : (names : List Name) (p : ℕ) (o : ObjectId) → HasName names p o → is_some (number_in names p o) ≡ true
-has-number names p o h =
-    let test = λ (m : Name). (m.process == p) && same m.object o in
-    is_some-map (λ (m : Name). m.number) (find test names) ∙ find-some test h.0 names h.1 (and-both (h.0.process == p) (same h.0.object o) (eq-eqb h.0.process p h.2) (eq-same h.0.object o h.3))
+has-number names p o h = search (arith, is_some-map, find-some, and-both, eq-eqb, eq-same)
 
 ask-naming : (s : Space) (seat : ℕ) (x : Step) (a : Actor) (n : ℕ) (strong : Bool) (o : ObjectId) → actor s seat ≡ Some a → IsAsking x n strong → ask_check s a.process.made n strong ≡ Ok o
     → Naming s seat x (ask s a.process.made o strong)

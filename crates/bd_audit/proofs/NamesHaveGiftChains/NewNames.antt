@@ -1,5 +1,6 @@
 -- Names that come, and what comes later in the step.
-use Rattle.bd_laws.proofs.words.Logic.{◌≡◌, ℕ, ◌+◌, Bool, true, false, cond, not, ◌&&◌, List, [], ◌∷◌, ◌++◌, Option, Some, Ok, ◌⊎◌, inl, inr, refl, ap, sym, subst, ◌∙◌, map, is_some}
+use Rattle.bd_laws.proofs.words.Logic.{arith}
+use Rattle.bd_laws.proofs.words.Logic.{◌≡◌, ℕ, ◌+◌, Bool, false, cond, not, ◌&&◌, List, [], ◌∷◌, ◌++◌, Option, Some, Ok, ◌⊎◌, inl, inr, refl, ap, sym, subst, ◌∙◌, map, is_some}
 use Rattle.bd_laws.proofs.words.Types.{TransactionData, ObjectId, Step, Actor, Object, Reference, Buffer, Carried, Name, Item, is_strong_kind}
 use Rattle.bd_laws.proofs.words.Space.{Space, actor, reference_of, stays_in, objects_go, is_named_in, number_in, free_number, with_name, with_names, assign_numbers, names_go, follow, notify, work_goes, deaths_go, Delivery, delivered, buffer_of, own_notices, add_buffer, known_by, refer, make_objects, buffer_references, object_of_item, ask_check}
 use Rattle.bd_laws.specs.Lists.{In}
@@ -42,12 +43,7 @@ module _ (manager : Option ObjectId) (objects : List Object) (references : List 
   one-name : (b : Bool) (names : List Name) (o : ObjectId) (m : Name) → (is_named_in objects references p o && not (is_some (number_in names p o))) ≡ b
       → In m (cond b (names ++ record { process = p; number = free_number manager names p o; object = o } ∷ []) names)
       → In m names ⊎ ((m.process ≡ p) × (m.object ≡ o) × (is_some (number_in names p o) ≡ false))
-  one-name true names o m e i =
-      elim (in-push m _ names i) [
-        | inl k ↦ inl k
-        | inr is ↦ inr (sym (ap (λ (x : Name). x.process) is), sym (ap (λ (x : Name). x.object) is), not-true (is_some (number_in names p o)) (both (is_named_in objects references p o) _ e).1)
-      ]
-  one-name false names o m e i = inl i
+  one-name b names o m e i = search (arith, in-push, not-true, both)
 
   pub new-name : (names : List Name) (o : ObjectId) (m : Name) → In m (with_name manager objects references p names o)
       → In m names ⊎ ((m.process ≡ p) × (m.object ≡ o) × (is_some (number_in names p o) ≡ false))
@@ -93,16 +89,7 @@ delivered-naming s seat x a d v acts sends = λ m i. elim (delivered-hand s seat
 -- ---- what comes later
 
 pub asking-with : (s : Space) (seat : ℕ) (x : Step) (m : Name) (y z : Space) → z.buffers ≡ y.buffers → ByAsking s seat x m y → ByAsking s seat x m z
-asking-with s seat x m y z same_buffers g = record {
-  by = g.by;
-  strong = g.strong;
-  acts = g.acts;
-  asks = g.asks;
-  process = g.process;
-  manager = g.manager;
-  check = g.check;
-  buffers = same_buffers ∙ g.buffers;
-}
+asking-with s seat x m y z same_buffers g = search arith
 
 pub naming-untouched : (s : Space) (seat : ℕ) (x : Step) (z y : Space) → Untouched z y → Naming s seat x y → Naming s seat x z
 naming-untouched s seat x z y u h =

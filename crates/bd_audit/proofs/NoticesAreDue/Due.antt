@@ -1,7 +1,7 @@
 -- A Notice of an object is due exactly while its told values aren't what is so.
 use Rattle.bd_laws.proofs.words.Logic.{◌≡◌, ℕ, ◌≤◌, ◌==◌, Bool, true, false, cond, not, ◌&&◌, ◌||◌, List, [], ◌∷◌, ◌++◌, inl, inr, refl, ap, sym, subst, ◌∙◌, filter, length, arith, Some, list_any, list_all, fold, eqb-true}
 use Rattle.bd_laws.proofs.words.Types.{ObjectId, Step, Entry, Process, Object, Reference, Manager, Work, WorkKind, TodoList, OfThread, OfProcess}
-use Rattle.bd_laws.proofs.words.Space.{same, Space, opening, lives_in, reference_of, held_in, strong_in, objects_go, stays_in, names_go, closed, with_work, owe, is_notice, notice_of, with_notice, wants_notice, differs_in, has_notice_in, work_goes, deaths_go, notify, follow, change, counted, with_thread, with_process, with_manager, History, next, space_after, with_spam_detection}
+use Rattle.bd_laws.proofs.words.Space.{same, Space, opening, reference_of, objects_go, stays_in, names_go, closed, with_work, owe, is_notice, notice_of, with_notice, wants_notice, differs_in, has_notice_in, work_goes, deaths_go, notify, follow, change, counted, with_thread, with_process, with_manager, History, next, space_after, with_spam_detection}
 use mathlib.Core.Bool.{beq}
 use Rattle.bd_space.specs.declared.space.WorkKind.TheVariants as work
 use Rattle.bd_laws.proofs.words.Laws.{In, Pairs, Differ, KeptBefore, Before}
@@ -13,7 +13,7 @@ use Rattle.bd_laws.proofs.IsInTurn.InTurn.{at_most_one}
 use Rattle.bd_laws.proofs.Objects.{kept-step}
 use Rattle.bd_laws.proofs.KeptBefore.ObjectsKept.{IsKept}
 use Rattle.bd_laws.proofs.IsInTurn.Received.{step-before, opening-before}
-use Rattle.bd_laws.proofs.NothingIsPending.Noticing.{Apart, Once, Noticing, follow-wanted, step-noticing, opening-noticing}
+use Rattle.bd_laws.proofs.NothingIsPending.Noticing.{Once, Noticing, follow-wanted, step-noticing, opening-noticing}
 use Rattle.bd_laws.proofs.Machine.Marks.{marked-lives}
 
 -- of each object there is a Notice where its owner is to be told, and else none
@@ -36,17 +36,14 @@ notice-stays : (place : ℕ) (processes : List Process) (references : List Refer
 notice-stays place processes references list y o todo h = at (wants_notice processes references y && not (has_notice_in todo y.id))
   where
     at : (b : Bool) → has_notice_in (cond b (with_work place todo list (work.Notice y.id)) todo) o ≡ true
-    at false = h
-    at true = let w = any-found (λ (w : Work). is_notice o w.kind) todo h in any-in (λ (w : Work). is_notice o w.kind) w.0 _ (in-left w.0 todo _ w.1) w.2
+    at b = search (arith, any-found, any-in, in-left)
 
 notice-made : (place : ℕ) (processes : List Process) (references : List Reference) (list : TodoList) (x : Object) (todo : List Work)
     → wants_notice processes references x ≡ true → has_notice_in (with_notice place processes references list todo x) x.id ≡ true
 notice-made place processes references list x todo wants = at (has_notice_in todo x.id) refl (wants_notice processes references x) wants
   where
     at : (has : Bool) → has_notice_in todo x.id ≡ has → (b : Bool) → b ≡ true → has_notice_in (cond (b && not has) (with_work place todo list (work.Notice x.id)) todo) x.id ≡ true
-    at has e false f = absurd (cc)
-    at true e true f = e
-    at false e true f = any-in (λ (w : Work). is_notice x.id w.kind) _ _ (in-last _ todo) (eq-same x.id x.id refl)
+    at has e b f = search (arith, any-in, in-last, eq-same)
 
 module _ (z : Space) where
   tell : List Work → Object → List Work
@@ -84,21 +81,7 @@ unfolding follow notify work_goes deaths_go objects_go names_go
 follow-differ z h = pairs-filter Differ (stays_in z.processes z.references) z.objects h
 
 follow-exact : (z : Space) → Pairs Differ z.objects → Exact (follow z)
-follow-exact z differ x l = at (wants_notice y.processes y.references x) refl (has_notice_in y.todo x.id) refl
-  where
-    y : Space
-    y = follow z
-
-    at : (b : Bool) → wants_notice (follow z).processes (follow z).references x ≡ b → (c : Bool) → has_notice_in (follow z).todo x.id ≡ c → c ≡ b
-    at true e c f = sym f ∙ follow-made z x l e
-    at false e false f = refl
-    at false e true f =
-        let w = any-found (λ (w : Work). is_notice x.id w.kind) (follow z).todo f in
-        let v = follow-wanted z w.0 x.id w.1 (notice-named w.0.kind x.id w.2) in
-        elim (pairs-either Differ (follow z).objects (follow-differ z differ) x v.0 l v.1) [
-          | inl is ↦ (let wants = subst (λ (u : Object). wants_notice (follow z).processes (follow z).references u ≡ true) (sym is) v.3 in absurd (cc))
-          | inr d ↦ elim d [ inl f ↦ absurd (f (sym v.2)) | inr f ↦ absurd (f v.2) ]
-        ]
+follow-exact z differ x l = search (arith, follow-made, any-found, follow-wanted, notice-named, pairs-either, follow-differ)
 
 -- ---- opening, managing, closing
 
@@ -120,8 +103,7 @@ unfolding with_spam_detection
 marked-exact s p on h x l = h x l ∙ ap (λ b. b && differs_in s.references x) (sym (marked-lives p on s.processes x.owner))
 
 and-none : (a b c : Bool) → b ≡ false → c ≡ false → (a && (b || c)) ≡ false
-and-none true b c h k = rw (h, k) refl
-and-none false b c h k = refl
+and-none a b c h k = search arith
 
 -- the object and the reference of a new context manager
 abbrev manager_id : Space → ObjectId
@@ -142,33 +124,13 @@ module _ (s : Space) (kept : KeptBefore s) where
   is-older x l e = let lt = kept.kept.below x l in let place : s.steps ≡ x.id.place = ap (λ (j : ObjectId). j.place) e in absurd (omega arith)
 
   old-exact : (x : Object) → In x s.objects → wants_notice s.processes (managed_references s) x ≡ wants_notice s.processes s.references x
-  old-exact x l = at (same (manager_id s) x.id) refl
-    where
-      at : (b : Bool) → same (manager_id s) x.id ≡ b → wants_notice s.processes (managed_references s) x ≡ wants_notice s.processes s.references x
-      at true e = absurd (is-older x l (same-eq (manager_id s) x.id e))
-      at false e =
-          let held = any-skip (λ (q : Reference). same q.object x.id) s.references (manager_reference s) e in
-          let strong = any-skip (λ (q : Reference). q.strong && same q.object x.id) s.references (manager_reference s) e in
-          ap (λ b. lives_in s.processes x.owner && (not (beq x.told_weak b) || not (beq x.told_strong (strong_in (managed_references s) x.id)))) held
-          ∙ ap (λ b. lives_in s.processes x.owner && (not (beq x.told_weak (held_in s.references x.id)) || not (beq x.told_strong b))) strong
+  old-exact x l = search (arith, is-older, same-eq, any-skip)
 
   unnoticed : Noticing s → has_notice_in s.todo (manager_id s) ≡ false
-  unnoticed noticing = at (has_notice_in s.todo (manager_id s)) refl
-    where
-      at : (b : Bool) → has_notice_in s.todo (manager_id s) ≡ b → b ≡ false
-      at false e = refl
-      at true e =
-          let w = any-found (λ (w : Work). is_notice (manager_id s) w.kind) s.todo e in
-          let y = noticing.live w.0 (manager_id s) w.1 (notice-named w.0.kind (manager_id s) w.2) in
-          absurd (is-older y.0 y.1 (sym y.2))
+  unnoticed noticing = search (arith, any-found, notice-named, is-older)
 
   new-exact : (p : ℕ) → wants_notice s.processes (managed_references s) (manager_object s p) ≡ false
-  new-exact p =
-      let here = in-last (manager_reference s) s.references in
-      let itself = eq-same (manager_id s) (manager_id s) refl in
-      let held = any-in (λ (q : Reference). same q.object (manager_id s)) (manager_reference s) (managed_references s) here itself in
-      let strong = any-in (λ (q : Reference). q.strong && same q.object (manager_id s)) (manager_reference s) (managed_references s) here itself in
-      and-none (lives_in s.processes p) _ _ (ap (λ b. not (beq true b)) held) (ap (λ b. not (beq true b)) strong)
+  new-exact p = search (arith, in-last, eq-same, any-in, and-none)
 
 managed-exact : (s : Space) (p : ℕ) → KeptBefore s → Noticing s → Exact s → Exact (with_manager s p)
 unfolding with_manager
@@ -229,19 +191,11 @@ always-due h = every_list IsDue step-due h.entries opening (record { before = op
 -- ---- the law
 
 one-notice : (o : ObjectId) (todo : List Work) → Once todo → length (filter (λ (w : Work). is_notice o w.kind) todo) ≤ 1
-one-notice o todo h =
-    let test = λ (w : Work). is_notice o w.kind in
-    at_most_one (filter test todo)
-    (pairs-map Apart (λ w v. ⊥) (filter test todo)
-    (λ w v i j apart. apart o (notice-named w.kind o (in-filter test w todo i).1) (notice-named v.kind o (in-filter test v todo j).1)) (pairs-filter Apart test todo h))
+one-notice o todo h = search (arith, at_most_one, pairs-map, notice-named, in-filter, pairs-filter)
 
 beq-same : (a b : Bool) → a ≡ b → beq a b ≡ true
-beq-same true b h = rw (sym h) refl
-beq-same false b h = rw (sym h) refl
+beq-same a b h = search arith
 
 pub notices-due : (h : History) → (list_all (λ x. beq (has_notice_in (space_after h).todo x.id) (wants_notice (space_after h).processes (space_after h).references x)) (space_after h).objects ≡ true)
     × ((o : ObjectId) → length (filter (λ w. is_notice o w.kind) (space_after h).todo) ≤ 1)
-notices-due h =
-    let z = space_after h in
-    let k = always-due h in
-    (all-in (λ (x : Object). beq (has_notice_in z.todo x.id) (wants_notice z.processes z.references x)) z.objects (λ x l. beq-same _ _ (k.exact x l)), λ o. one-notice o z.todo k.noticing.once)
+notices-due h = search (arith, always-due, all-in, beq-same, one-notice)

@@ -1,7 +1,8 @@
 -- One-way calls that are due stand on their receivers' lists, and wait for older ones on their objects.
-use Rattle.bd_laws.proofs.words.Logic.{◌≡◌, ℕ, Bool, true, false, not, ◌||◌, Some, refl, ap, sym, subst, ◌∙◌, list_all, AllPairs, eq-eqb}
+use Rattle.bd_laws.proofs.words.Logic.{arith}
+use Rattle.bd_laws.proofs.words.Logic.{◌≡◌, ℕ, Bool, true, false, refl, sym, subst, list_all, AllPairs, eq-eqb}
 use Rattle.bd_laws.proofs.words.Types.{Turn, Work, TodoList, OfProcess}
-use Rattle.bd_laws.proofs.words.Space.{Space, is_call, same_list, turn_of, turns_of}
+use Rattle.bd_laws.proofs.words.Space.{Space, same_list, turns_of}
 use Rattle.bd_laws.proofs.words.Laws.{In, IsInTurn, Before}
 use Rattle.bd_laws.proofs.Lists.{all-in, in-filter_map, pairs-at}
 use Rattle.bd_laws.proofs.IsInTurn.Ripening.{turn-parts}
@@ -12,24 +13,13 @@ on-process : (l : TodoList) (p q : ℕ) → l ≡ OfProcess p → q ≡ p → sa
 on-process l p q e f = subst (λ k. same_list k (OfProcess q) ≡ true) (sym e) (eq-eqb p q (sym f))
 
 on_list : (s : Space) → Before s → (w : Work) (t : Turn) → In w s.todo → In t (turns_of s.buffers) → stands_with_receiver w t ≡ true
-on_list s h w t i j = at (is_call t.made w.kind) refl
-  where
-    at : (b : Bool) → is_call t.made w.kind ≡ b → (not b || same_list w.list (OfProcess t.receiver)) ≡ true
-    at false e = refl
-    at true e =
-        let b = in-filter_map turn_of t s.buffers j in
-        let p = turn-parts b.0 t b.2 in
-        let list = h.received.lists w b.0 t.target i (is_call-hands t.made w.kind e ∙ ap (λ m. Some m) p.0) b.1 (p.3, p.4) in
-        on-process w.list b.0.receiver t.receiver list p.1
+on_list s h w t i j = search (arith, in-filter_map, turn-parts, is_call-hands, on-process)
 
 pub on_lists : (s : Space) → Before s → list_all (λ w. list_all (stands_with_receiver w) (turns_of s.buffers)) s.todo ≡ true
-on_lists s h =
-    all-in (λ (w : Work). list_all (stands_with_receiver w) (turns_of s.buffers)) s.todo
-    (λ w i. all-in (stands_with_receiver w) (turns_of s.buffers) (λ t j. on_list s h w t i j))
+on_lists s h = search (arith, all-in, on_list)
 
 pub in_turn : (s : Space) → IsInTurn s → AllPairs (WaitsFor s.todo) (turns_of s.buffers)
 in_turn s h i j d lt le out = differs _ _ refl (pairs-at (Alone s.todo) (turns_of s.buffers) (turns-alone s.todo s.buffers h.waits) i j d lt le out)
   where
     differs : (b c : Bool) → c ≡ b → (c ≡ true → ⊥) → c ≡ false
-    differs true c e k = absurd (k e)
-    differs false c e k = e
+    differs b c e k = search arith

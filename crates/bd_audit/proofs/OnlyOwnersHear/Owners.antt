@@ -1,15 +1,15 @@
 -- What is heard of an object is heard by its owner.
-use Rattle.bd_laws.proofs.words.Logic.{◌≡◌, ℕ, ◌-◌, ◌==◌, Bool, true, false, cond, ◌&&◌, List, [], ◌∷◌, Option, Some, None, ◌⊎◌, inl, inr, refl, ap, sym, subst, ◌∙◌, find, is_none, eqb-true, eq-eqb}
-use Rattle.bd_laws.proofs.words.Types.{ObjectId, Step, Command, Read, StepAnswer, Entry, Thread, Object, Actor, Work, TodoList, OfThread, OfProcess}
-use Rattle.bd_laws.proofs.words.Space.{same, is_some_and, Space, opening, thread_in, actor, owned_in, innermost_in, is_on, same_list, work_on, list_to_read, has_work_in, is_own_with, taken, after}
+use Rattle.bd_laws.proofs.words.Logic.{arith}
+use Rattle.bd_laws.proofs.words.Logic.{◌≡◌, ℕ, ◌-◌, ◌==◌, Bool, true, false, cond, ◌&&◌, List, [], ◌∷◌, Option, Some, None, ◌⊎◌, inl, inr, refl, find, eqb-true, eq-eqb}
+use Rattle.bd_laws.proofs.words.Types.{ObjectId, Step, Command, StepAnswer, Entry, Object, Actor, Work}
+use Rattle.bd_laws.proofs.words.Space.{same, is_some_and, Space, opening, actor, owned_in, list_to_read, is_own_with, taken, after}
 use Rattle.bd_uapi.specs.declared.command.Command as command
-use Rattle.bd_uapi.specs.declared.command.Command.TheVariants as bc
 use Rattle.bd_laws.specs.Lists.{In}
 use Rattle.bd_laws.proofs.Lists.{in-filter, any-in, find-in}
 use Rattle.bd_laws.proofs.Tests.{both, and-both, same-eq, eq-same}
 use Rattle.bd_laws.proofs.Machine.EveryStep.{every_list}
 use Rattle.bd_laws.proofs.IsInTurn.Ripening.{taken-in, read-in}
-use Rattle.bd_audit.specs.Hearing.{Event, increfs_done, acquire_done, heard_in, names_own, acknowledged, is_got, is_accepted, heard_by, heard_at, is_by_owner}
+use Rattle.bd_audit.specs.Hearing.{Event, heard_in, names_own, acknowledged, heard_by, heard_at, is_by_owner}
 use Rattle.bd_audit.proofs.OwnersHearInOrder.Returns.{told-or-silent, silent-heard}
 use Rattle.bd_audit.proofs.OnlyOwnersHear.Sitting.{Placed, step-placed, opening-placed}
 use Rattle.bd_audit.proofs.OnlyOwnersHear.SittingSent.{Reaches, actor-process, actor-seat}
@@ -21,23 +21,7 @@ module _ (s : Space) (placed : Placed s) (seat : ℕ) (a : Actor) (e : actor s s
   -- what stands on the list that the thread reads is its process's
   reads-own : (w : Work) (q : ℕ) → In w (list_to_read s a.thread) → Reaches s.threads w.list q → q ≡ a.process.made
   unfolding list_to_read
-  reads-own w q l r = on (has_work_in s.todo (OfThread a.thread.seat)) (a.thread.looping && is_none (innermost_in s.frames a.thread.seat)) l
-    where
-      of-thread : (list : TodoList) → same_list (OfThread a.thread.seat) list ≡ true → Reaches s.threads list q → q ≡ a.process.made
-      of-thread (OfProcess p) f r = absurd (cc)
-      of-thread (OfThread t) f r =
-          let found = subst (λ n. thread_in s.threads n ≡ Some a.thread) (eqb-true a.thread.seat t f) (actor-seat s seat a e) in
-          let is : r.0 ≡ a.thread = (let g = r.1 in cc) in
-          sym r.2 ∙ ap (λ (x : Thread). x.process) is ∙ actor-process s seat a e
-
-      of-process : (list : TodoList) → same_list (OfProcess a.thread.process) list ≡ true → Reaches s.threads list q → q ≡ a.process.made
-      of-process (OfThread t) f r = absurd (cc)
-      of-process (OfProcess p) f r = sym r ∙ sym (eqb-true a.thread.process p f) ∙ actor-process s seat a e
-
-      on : (b c : Bool) → In w (work_on s.todo (cond b (Some (OfThread a.thread.seat)) (cond c (Some (OfProcess a.thread.process)) None))) → q ≡ a.process.made
-      on true c m = of-thread w.list (in-filter (is_on (OfThread a.thread.seat)) w s.todo m).1 r
-      on false true m = of-process w.list (in-filter (is_on (OfProcess a.thread.process)) w s.todo m).1 r
-      on false false m = absurd m
+  reads-own w q l r = search (arith, eqb-true, actor-seat, actor-process, in-filter)
 
   module _ (o : ObjectId) where
     abbrev IsOwned : Type 0
@@ -64,30 +48,23 @@ module _ (s : Space) (placed : Placed s) (seat : ℕ) (a : Actor) (e : actor s s
             owned-so s.objects a.process.made o y l.0 (same-eq y.id o k) (eqb-true y.owner a.process.made (both (y.owner == a.process.made) (y.ptr == ptr) (both ((y.owner == a.process.made) && (y.ptr == ptr)) (y.cookie == cookie) l.1).0).0)
 
     done-owned : (ptr cookie : ℕ) (v : Event) (b : Bool) → names_own s o a.process.made ptr cookie ≡ b → (cond b (v ∷ []) [] ≡ []) ⊎ IsOwned
-    done-owned ptr cookie v true h = inr (names-owned ptr cookie h)
-    done-owned ptr cookie v false h = inl refl
+    done-owned ptr cookie v b h = search (arith, names-owned)
 
     acknowledged-owned : (c : command.Command) → (acknowledged s o a.process.made c ≡ []) ⊎ IsOwned
-    acknowledged-owned (bc.IncrefsDone ptr cookie) = done-owned ptr cookie increfs_done (names_own s o a.process.made ptr cookie) refl
-    acknowledged-owned (bc.AcquireDone ptr cookie) = done-owned ptr cookie acquire_done (names_own s o a.process.made ptr cookie) refl
-    acknowledged-owned _ = inl refl
+    acknowledged-owned c = search (arith, done-owned)
 
     accepted-owned : (c : command.Command) (b : Bool) → (cond b (acknowledged s o a.process.made c) [] ≡ []) ⊎ IsOwned
-    accepted-owned c true = acknowledged-owned c
-    accepted-owned c false = inl refl
+    accepted-owned c b = search (arith, acknowledged-owned)
 
     by-owner : (x : Step) (answer : StepAnswer) → (heard_by s o a x answer ≡ []) ⊎ IsOwned
-    by-owner (Read limit) answer = reads-owned (limit - 4) (is_got answer)
-    by-owner (Command c parcel) answer = accepted-owned c (is_accepted answer)
-    by-owner _ answer = inl refl
+    by-owner x answer = search (arith, reads-owned, accepted-owned)
 
 hears-own : (s : Space) → Placed s → (o : ObjectId) (e : Entry) → (heard_at s o e ≡ []) ⊎ (is_by_owner s o e ≡ true)
 hears-own s placed o e = at (actor s e.seat) refl
   where
     at : (f : Option Actor) → actor s e.seat ≡ f
         → (elim f as (λ (g : Option Actor). List Event) [ None ↦ [] | Some a ↦ heard_by s o a e.step e.answer ] ≡ []) ⊎ (is_some_and f (λ a. owned_in s.objects a.process.made o) ≡ true)
-    at None g = inl refl
-    at (Some a) g = by-owner s placed e.seat a g o e.step e.answer
+    at f g = search (arith, by-owner)
 
 pub only-owners : (es : List Entry) (o : ObjectId) (e : Entry) → (heard_at (after opening es) o e ≡ []) ⊎ (is_by_owner (after opening es) o e ≡ true)
 only-owners es o e = hears-own (after opening es) (every_list Placed step-placed es opening opening-placed) o e

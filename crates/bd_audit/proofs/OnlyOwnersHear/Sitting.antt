@@ -1,7 +1,7 @@
 -- A Notice stands where threads of the process that owns its object read it.
-use Rattle.bd_laws.proofs.words.Logic.{◌≡◌, ℕ, ◌==◌, Bool, true, false, cond, not, List, [], ◌∷◌, ◌++◌, Some, inl, inr, refl, ap, sym, subst, ◌∙◌, filter, find, arith, list_any, eqb-true, eq-eqb}
+use Rattle.bd_laws.proofs.words.Logic.{◌≡◌, ℕ, ◌==◌, Bool, true, false, cond, not, List, [], ◌∷◌, ◌++◌, Some, inl, inr, refl, ap, sym, ◌∙◌, filter, find, arith, eqb-true, eq-eqb}
 use Rattle.bd_laws.proofs.words.Types.{ObjectId, Step, Entry, Thread, Object, Reference, Turn, Work, TodoList, OfThread, OfProcess}
-use Rattle.bd_laws.proofs.words.Space.{changed, Space, opening, thread_in, objects_go, stays_in, names_go, assign_numbers, with_work, is_on, same_list, is_item, ripen, ripened, is_ripe, turns_of, with_notice, still_due, work_goes, deaths_go, notify, follow, without_buffer, ask, drop_asked, acknowledge, with_looping, read_by, told_of, is_told_by, thread_goes, threads_go, without_process, change, counted, with_thread, with_process, with_manager, next, with_spam_detection}
+use Rattle.bd_laws.proofs.words.Space.{changed, Space, opening, thread_in, objects_go, stays_in, names_go, assign_numbers, with_work, is_on, same_list, ripen, ripened, is_ripe, turns_of, with_notice, still_due, work_goes, deaths_go, notify, follow, without_buffer, ask, drop_asked, acknowledge, with_looping, read_by, told_of, thread_goes, threads_go, without_process, change, counted, with_thread, with_process, with_manager, next, with_spam_detection}
 use Rattle.bd_space.specs.declared.space.WorkKind.TheVariants as work
 use Rattle.bd_laws.proofs.words.Laws.{Pairs, Differ, KeptBefore}
 use Rattle.bd_laws.proofs.Earlier.{in_order-differ}
@@ -19,16 +19,14 @@ use Rattle.bd_audit.proofs.OnlyOwnersHear.SittingSent.{Reaches, Sits, SitsIn, si
 -- the same threads are found, or more
 reaches-more : (threads more : List Thread) (list : TodoList) (q : ℕ) → ((t : ℕ) (x : Thread) → thread_in threads t ≡ Some x → (y : Thread) × (thread_in more t ≡ Some y) × (y.process ≡ x.process))
     → Reaches threads list q → Reaches more list q
-reaches-more threads more (OfProcess p) q k h = h
-reaches-more threads more (OfThread t) q k h = let y = k t h.0 h.1 in (y.0, y.1, y.2 ∙ h.2)
+reaches-more threads more list q k h = search arith
 
 find-front : {A : Type 0} (p : A → Bool) (x : A) (xs ys : List A) → find p xs ≡ Some x → find p (xs ++ ys) ≡ Some x
 find-front p x [] ys h = absurd (cc)
 find-front p x (y ∷ xs) ys h = at (p y) h (find-front p x xs ys)
   where
     at : (b : Bool) → cond b (Some y) (find p xs) ≡ Some x → (find p xs ≡ Some x → find p (xs ++ ys) ≡ Some x) → cond b (Some y) (find p (xs ++ ys)) ≡ Some x
-    at true e k = e
-    at false e k = k e
+    at b e k = search arith
 
 with_thread-sits : (z : Space) (seat p : ℕ) → SitsIn z → SitsIn (with_thread z seat p)
 unfolding with_thread
@@ -65,12 +63,7 @@ find-others t seat x (y ∷ ys) other h = at (y.seat == seat) (y.seat == t) refl
     at : (b c : Bool) → (y.seat == seat) ≡ b → (y.seat == t) ≡ c → cond c (Some y) (thread_in ys t) ≡ Some x
         → (thread_in ys t ≡ Some x → thread_in (filter (λ u. not (u.seat == seat)) ys) t ≡ Some x)
         → thread_in (cond (not b) (y ∷ filter (λ u. not (u.seat == seat)) ys) (filter (λ u. not (u.seat == seat)) ys)) t ≡ Some x
-    at true true f e g k =
-        let is : t ≡ seat = sym (eqb-true y.seat t e) ∙ eqb-true y.seat seat f in
-        let wrong = eq-eqb t seat is in absurd (cc)
-    at true false f e g k = k g
-    at false true f e g k = ap (λ c. cond c (Some y) (thread_in (filter (λ u. not (u.seat == seat)) ys) t)) e ∙ g
-    at false false f e g k = ap (λ c. cond c (Some y) (thread_in (filter (λ u. not (u.seat == seat)) ys) t)) e ∙ k g
+    at b c f e g k = search (arith, eqb-true, eq-eqb)
 
 thread_goes-sits : (z : Space) (seat : ℕ) → SitsIn z → SitsIn (thread_goes z seat)
 unfolding thread_goes
@@ -79,12 +72,7 @@ thread_goes-sits z seat h = λ w o x l e i is.
     elsewhere w.list x.owner k.1 (h w o x k.0 e i is)
   where
     elsewhere : (list : TodoList) (q : ℕ) → not (same_list (OfThread seat) list) ≡ true → Reaches z.threads list q → Reaches (filter (λ t. not (t.seat == seat)) z.threads) list q
-    elsewhere (OfProcess p) q f r = r
-    elsewhere (OfThread t) q f r = (r.0, find-others t seat r.0 z.threads (at (t == seat) refl f) r.1, r.2)
-      where
-        at : (b : Bool) → (t == seat) ≡ b → not (seat == t) ≡ true → b ≡ false
-        at false g m = refl
-        at true g m = let yes = eq-eqb seat t (sym (eqb-true t seat g)) in absurd (cc)
+    elsewhere list q f r = search (arith, find-others, eq-eqb, eqb-true)
 
 threads_go-sits : (z : Space) (p : ℕ) → SitsIn z → SitsIn (threads_go z p)
 threads_go-sits = threads-keep SitsIn thread_goes-sits
@@ -96,16 +84,11 @@ without_process-sits z p h = sits-filter z.threads z.objects (λ (w : Work). not
 -- ---- reading and ripening
 
 told-owner : (references : List Reference) (b : Bool) (x : Object) → (cond b (told_of references x) x).owner ≡ x.owner
-told-owner references true x = refl
-told-owner references false x = refl
+told-owner references b x = search arith
 
 read-sits : (s : Space) (seat : ℕ) (ws : List Work) → SitsIn s → SitsIn (read_by s seat ws)
 unfolding read_by
-read-sits s seat ws h = λ w o x l e i is.
-    let y = in-changed (λ (x : Object). is_told_by ws x.id) (told_of s.references) x s.objects i in
-    let id : y.0.id ≡ o = sym (told-id s.references (is_told_by ws y.0.id) y.0) ∙ sym (ap (λ (z : Object). z.id) y.2) ∙ is in
-    let owner : y.0.owner ≡ x.owner = sym (told-owner s.references (is_told_by ws y.0.id) y.0) ∙ sym (ap (λ (z : Object). z.owner) y.2) in
-    subst (Reaches s.threads w.list) owner (h w o y.0 (in-filter (λ (w : Work). not (list_any (λ (d : Work). is_item w d) ws)) w s.todo l).0 e y.1 id)
+read-sits s seat ws h = search (arith, in-changed, told-id, told-owner, in-filter)
 
 ripens-if : (place : ℕ) (threads : List Thread) (objects : List Object) (b : Bool) (todo : List Work) (t : Turn) → Sits threads objects todo
     → Sits threads objects (cond b (with_work place todo (OfProcess t.receiver) (work.Call t.made)) todo)
@@ -146,9 +129,7 @@ work_goes-sits z h = sits-filter z.threads z.objects (λ (w : Work). still_due z
 
 follow-sits : (z : Space) → Pairs Differ z.objects → SitsIn z → SitsIn (follow z)
 unfolding follow names_go deaths_go work_goes
-follow-sits z differ h =
-    let y = objects_go (names_go z) in
-    notify-sits (work_goes (deaths_go y)) (objects_go-differ (names_go z) differ) (work_goes-sits (deaths_go y) (objects_go-sits (names_go z) h))
+follow-sits z differ h = search (arith, notify-sits, objects_go-differ, work_goes-sits, objects_go-sits)
 
 -- ---- every step
 

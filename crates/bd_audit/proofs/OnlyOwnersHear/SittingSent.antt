@@ -29,8 +29,7 @@ SitsIn z = Sits z.threads z.objects z.todo
 
 pub sits-other : (place : ℕ) (threads : List Thread) (objects : List Object) (todo : List Work) (list : TodoList) (kind : WorkKind) → notice_of kind ≡ None → Sits threads objects todo
     → Sits threads objects (with_work place todo list kind)
-sits-other place threads objects todo list kind none h = λ w o x l e i is.
-    elim (in-push w _ todo l) [ inl k ↦ h w o x k e i is | inr new ↦ (let same_kind : kind ≡ w.kind = ap (λ (v : Work). v.kind) new in absurd (cc)) ]
+sits-other place threads objects todo list kind none h = search (arith, in-push)
 
 pub owe-sits : (z : Space) (list : TodoList) (kind : WorkKind) → notice_of kind ≡ None → SitsIn z → SitsIn (owe z list kind)
 unfolding owe
@@ -68,8 +67,7 @@ actor-seat s seat a e =
     subst (λ n. thread_in s.threads n ≡ Some a.thread) (sym (eqb-true a.thread.seat seat l.1)) found
 
 withdrawn-sits : (threads : List Thread) (objects : List Object) (b : Bool) (p : Work → Bool) (todo : List Work) → Sits threads objects todo → Sits threads objects (cond b (filter p todo) todo)
-withdrawn-sits threads objects true p todo h = sits-filter threads objects p todo h
-withdrawn-sits threads objects false p todo h = h
+withdrawn-sits threads objects b p todo h = search (arith, sits-filter)
 
 -- the objects that p sends as its own are p's
 own_notices-sits : (z : Space) (seat p : ℕ) (items : List Item) → Reaches z.threads (OfThread seat) p

@@ -1,7 +1,7 @@
 -- An accepted acknowledgement is of what was heard and not yet acknowledged.
-use Rattle.bd_laws.proofs.words.Logic.{◌≡◌, ℕ, zero, suc, ◌≤◌, ◌==◌, Bool, true, false, cond, not, ◌&&◌, List, [], ◌∷◌, Option, Some, None, Ok, inl, inr, refl, ap, sym, subst, ◌∙◌, length, find, arith, list_any, eq-eqb}
-use Rattle.bd_laws.proofs.words.Types.{DeadReply, NoSuchObject, NoHandshake, ObjectId, Process, Actor, Frame, Object, Reference}
-use Rattle.bd_laws.proofs.words.Space.{same, found_or, unless, without_first, Space, actor, lives_in, is_shaking, is_handshake, same_strength, closed, ripen, follow, settle, settle_one, settle_times, is_abandoned, completed, is_own_with, done_note, done_check, acknowledge}
+use Rattle.bd_laws.proofs.words.Logic.{◌≡◌, ℕ, zero, suc, ◌≤◌, ◌==◌, Bool, true, false, cond, not, List, [], ◌∷◌, Option, Some, None, Ok, inl, inr, refl, ap, sym, ◌∙◌, length, find, arith, list_any, eq-eqb}
+use Rattle.bd_laws.proofs.words.Types.{DeadReply, ObjectId, Process, Actor, Frame, Object, Reference}
+use Rattle.bd_laws.proofs.words.Space.{same, without_first, Space, actor, lives_in, is_shaking, is_handshake, same_strength, closed, settle, settle_one, settle_times, is_abandoned, completed, is_own_with, done_check, acknowledge}
 use Rattle.bd_space.specs.declared.space.WorkKind.TheVariants as work
 use Rattle.bd_laws.proofs.words.Laws.{In, Before}
 use Rattle.bd_laws.proofs.Lists.{without-in, any-in, find-in}
@@ -32,9 +32,7 @@ settle-untouched z = settles-times (length z.frames) z
 
 completed-told : (o : ObjectId) (st : Hearing) (z : Space) → Tracks ⊥ o st z → Tracks ⊥ o st (completed z)
 unfolding completed
-completed-told o st z h =
-    tracks-untouched o st ⊥ _ (follow (ripen z)) (settle-untouched (follow (ripen z)))
-    (follow-told o st (ripen z) (tracks-weaker o st _ (ripen z) (tracks-untouched o st ⊥ (ripen z) z (ripen-untouched z) h)))
+completed-told o st z h = search (arith, tracks-untouched, settle-untouched, follow-told, tracks-weaker, ripen-untouched)
 
 -- ---- acknowledging
 
@@ -63,19 +61,11 @@ answers (strongly i false) true h = absurd (cc)
 answers ended strong h = absurd (cc)
 
 waits-true : (b : Bool) (n : ℕ) → suc n ≡ number b → b ≡ true
-waits-true true n h = refl
-waits-true false n h = absurd (omega arith)
+waits-true b n h = search arith
 
 -- a Handshake has one strength
 other-strength : (o : ObjectId) (r : Reference) (b : Bool) → is_shaking o (not b) r ≡ true → is_shaking o b r ≡ false
-other-strength o r b h = first (same_strength b r) (same r.object o) (is_handshake r.holder) (at b r.strong refl (shaking-parts o (not b) r h).2)
-  where
-    first : (x y z : Bool) → x ≡ false → (x && y && z) ≡ false
-    first x y z e = rw e refl
-
-    at : (b c : Bool) → r.strong ≡ c → same_strength (not b) r ≡ true → same_strength b r ≡ false
-    at true c e k = let f : not r.strong ≡ true = k in elim c as (λ (x : Bool). r.strong ≡ x → r.strong ≡ false) [ true ↦ λ g. absurd (let n : not r.strong ≡ false = rw g refl in cc) | false ↦ λ g. g ] e
-    at false c e k = let f : r.strong ≡ true = k in rw f refl
+other-strength o r b h = search (arith, shaking-parts)
 
 pub record DoneChecked (s : Space) (p ptr cookie : ℕ) (strong : Bool) (y : Object) : Type 0 where
   pub found : find (is_own_with p ptr cookie) s.objects ≡ Some y
@@ -83,18 +73,7 @@ pub record DoneChecked (s : Space) (p ptr cookie : ℕ) (strong : Bool) (y : Obj
 
 pub done-checked : (s : Space) (p ptr cookie : ℕ) (strong : Bool) (y : Object) → done_check s p ptr cookie strong ≡ Ok y → DoneChecked s p ptr cookie strong y
 unfolding done_check
-done-checked s p ptr cookie strong y h =
-    let x = and_then-ok (found_or (find (is_own_with p ptr cookie) s.objects) NoSuchObject) (λ x. unless (done_note s strong x) x) y h in
-    let u = unless-ok (done_note s strong x.0) x.0 y x.2 in
-    let n = when-none (not (list_any (is_shaking x.0.id strong) s.references)) NoHandshake u.0 in
-    record {
-      found = found-ok (find (is_own_with p ptr cookie) s.objects) NoSuchObject x.0 x.1 ∙ ap (λ z. Some z) u.1;
-      shakes = subst (λ (z : Object). list_any (is_shaking z.id strong) s.references ≡ true) u.1 (not-not (list_any (is_shaking x.0.id strong) s.references) n);
-    }
-  where
-    not-not : (b : Bool) → not b ≡ false → b ≡ true
-    not-not true e = refl
-    not-not false e = absurd (cc)
+done-checked s p ptr cookie strong y h = search (arith, and_then-ok, unless-ok, when-none, found-ok)
 
 pub actor-alive : (s : Space) (seat : ℕ) (a : Actor) → actor s seat ≡ Some a → lives_in s.processes a.process.made ≡ true
 actor-alive s seat a e =
@@ -142,19 +121,14 @@ module _ (o : ObjectId) (st : Hearing) (s : Space) (before : Before s) (h : Hear
           let none : number (waits now strong) ≡ 0 = ap number this in omega arith
         where
           small : (c : Bool) → number c ≤ 1
-          small true = omega arith
-          small false = omega arith
+          small c = search arith
 
       stays : (strong : Bool) → waits st (not strong) ≡ waits now (not strong) → shaken (without_first (is_shaking o strong) s.references) o (not strong) ≡ number (waits now (not strong))
-      stays strong that =
-          tally-without (is_shaking o (not strong)) (is_shaking o strong) s.references (λ r f. other-strength o r strong f) ∙ k (not strong) ∙ ap number that
+      stays strong that = search (arith, that, tally-without, other-strength, number)
 
       at : (b strong : Bool) → list_any (is_shaking o strong) s.references ≡ true → waits now strong ≡ false → waits st (not strong) ≡ waits now (not strong)
           → shaken (without_first (is_shaking o strong) s.references) o b ≡ number (waits now b)
-      at true true any this that = gone true any this
-      at false false any this that = gone false any this
-      at true false any this that = stays false that
-      at false true any this that = stays true that
+      at b strong any this that = search (arith, this, that, gone, stays)
 
   -- the acknowledgement of this object is one that was waited for
   pub own-done : (y : Object) (strong : Bool) → In y s.objects → y.id ≡ o → lives_in s.processes y.owner ≡ true → list_any (is_shaking o strong) s.references ≡ true

@@ -37,22 +37,16 @@ unread : (x : Step) → is_quiet x ≡ true → IsReading x → ⊥
 unread x q r = let e = ap is_quiet r.1 in absurd (cc)
 
 unanswered : (x : Step) (b : Bool) → is_quiet x ≡ true → IsAcknowledging x b → ⊥
-unanswered x true q d = let e : is_quiet x ≡ false = ap is_quiet d.3 in absurd (cc)
-unanswered x false q d = let e : is_quiet x ≡ false = ap is_quiet d.3 in absurd (cc)
+unanswered x b q d = search arith
 
 nothing : (b : Bool) → cond b [] [] ≡ (let none : List Event = [] in none)
-nothing true = refl
-nothing false = refl
+nothing b = search arith
 
 quiet-command : (s : Space) (o : ObjectId) (p : ℕ) (c : command.Command) → not (acknowledges c) ≡ true → acknowledged s o p c ≡ []
-quiet-command s o p (bc.IncrefsDone ptr cookie) q = absurd (cc)
-quiet-command s o p (bc.AcquireDone ptr cookie) q = absurd (cc)
-quiet-command s o p _ q = refl
+quiet-command s o p c q = search arith
 
 quiet-heard : (s : Space) (o : ObjectId) (a : Actor) (x : Step) (answer : StepAnswer) → is_quiet x ≡ true → heard_by s o a x answer ≡ []
-quiet-heard s o a (Read limit) answer q = absurd (cc)
-quiet-heard s o a (Command c parcel) answer q = ap (λ es. cond (is_accepted answer) es []) (quiet-command s o a.process.made c q) ∙ nothing (is_accepted answer)
-quiet-heard s o a _ answer q = refl
+quiet-heard s o a x answer q = search (arith, quiet-command, nothing)
 
 module _ (o : ObjectId) (st : Hearing) (s : Space) (before : Before s) (noticing : Noticing s) (h : HeardBefore o st s) (seat : ℕ) (answer : StepAnswer) where
   -- what this seat hears by the step x
@@ -72,15 +66,10 @@ module _ (o : ObjectId) (st : Hearing) (s : Space) (before : Before s) (noticing
       (every_step s seat x (Tracks ⊥ o st) (Tracks ⊥ o st) (quiet-step o st s seat x before h (unread x q) (λ b. unanswered x b q))))
     where
       of : (f : Option Actor) → events x f ≡ []
-      of None = refl
-      of (Some a) = quiet-heard s o a x answer q
+      of f = search (arith, quiet-heard)
 
   same-space : HeardAfter o st s.steps [] s
   same-space = silent-after o st s s h h.tracks
-
-  -- a step of no live thread is refused
-  by-nobody : (x : Step) (f : Actor → Outcome) → HeardAfter o st s.steps (events x None) (by_actor s None f).space
-  by-nobody x f = same-space
 
   -- ---- an acknowledgement
 
@@ -111,15 +100,12 @@ module _ (o : ObjectId) (st : Hearing) (s : Space) (before : Before s) (noticing
       → HeardAfter o st s.steps (events (Command (cond strong (bc.AcquireDone ptr cookie) (bc.IncrefsDone ptr cookie)) parcel) f)
       (by_actor s f (λ a. command_step s a (cond strong (bc.AcquireDone ptr cookie) (bc.IncrefsDone ptr cookie)) parcel)).space
   unfolding command_step done_step
-  goes-done strong ptr cookie parcel None e k = same-space
-  goes-done true ptr cookie parcel (Some a) e k = done-after a ptr cookie true (done_check s a.process.made ptr cookie true) e refl k
-  goes-done false ptr cookie parcel (Some a) e k = done-after a ptr cookie false (done_check s a.process.made ptr cookie false) e refl k
+  goes-done strong ptr cookie parcel f e k = search (arith, same-space, done-after)
 
   -- ---- a reading
 
   gets : (stream : List ℕ) (f : Option Buffer) (es : List Event) → cond (is_got (got stream f)) es [] ≡ es
-  gets stream None es = refl
-  gets stream (Some b) es = refl
+  gets stream f es = search arith
 
   read-after : (a : Actor) (limit : ℕ) (f : Option Fault)
       → (elim f as (λ (g : Option Fault). Outcome) [ Some y ↦ refused s y | None ↦ read_taking s a.thread.seat (taken s (limit - 4) (list_to_read s a.thread)) ]).answer ≡ answer

@@ -1,4 +1,5 @@
 -- The order in which an owner hears of an object, as states, and what a list of events has that goes through them.
+use Rattle.bd_laws.proofs.words.Logic.{arith}
 use Rattle.bd_laws.proofs.words.Logic.{◌≡◌, ℕ, suc, Bool, true, false, not, ◌||◌, List, [], ◌∷◌, ◌++◌, Option, Some, None, refl, ap, sym, subst, ◌∙◌, filter, append-nil, append_assoc, list_any, is_some, option_and_then}
 use Rattle.bd_audit.specs.Hearing.{Event, increfs, acquire, release, decrefs, increfs_done, acquire_done, is_return, same_event, by_turns, telling, IsAnswered, InOrder}
 
@@ -62,13 +63,11 @@ any-push : (v x : Event) (xs : List Event) (b c : Bool) → list_any (same_event
 any-push v x [] b c h k = or-nil (same_event v x) b c h k
   where
     or-nil : (d b c : Bool) → false ≡ b → d ≡ c → (d || false) ≡ (b || c)
-    or-nil true b c h k = rw (sym h, sym k) refl
-    or-nil false b c h k = rw (sym h, sym k) refl
+    or-nil d b c h k = search arith
 any-push v x (y ∷ ys) b c h k = first (same_event v y) b h (any-push v x ys (list_any (same_event v) ys) c refl k)
   where
     first : (d b : Bool) → (d || list_any (same_event v) ys) ≡ b → list_any (same_event v) (ys ++ x ∷ []) ≡ (list_any (same_event v) ys || c) → (d || list_any (same_event v) (ys ++ x ∷ [])) ≡ (b || c)
-    first true b h k = rw (sym h) refl
-    first false b h k = k ∙ ap (λ e. e || c) h
+    first d b h k = search arith
 
 -- one event more, which isn't the return
 goes-on : (v done x : Event) (b c : Bool) (es : List Event) → same_event v x ≡ false → same_event done x ≡ c → IsAnswered v done b es → IsAnswered v done (b || c) (es ++ x ∷ [])
@@ -120,8 +119,7 @@ hears-append (v ∷ vs) ys st now h = of (hears v st) (λ y k. hears-append vs y
   where
     of : (f : Option Hearing) → ((y : Hearing) → hears_all y vs ≡ Some now → hears_all y (vs ++ ys) ≡ hears_all now ys)
         → option_and_then (λ y. hears_all y vs) f ≡ Some now → option_and_then (λ y. hears_all y (vs ++ ys)) f ≡ hears_all now ys
-    of None more k = absurd (cc)
-    of (Some y) more k = more y k
+    of f more k = search arith
 
 -- what has been heard after the first part
 abbrev Parts : List Event → List Event → Hearing → Type 0
@@ -133,25 +131,19 @@ parts (v ∷ xs) ys st h = of (hears v st) (λ y k. parts xs ys y k) h
   where
     of : (f : Option Hearing) → ((y : Hearing) → is_some (hears_all y (xs ++ ys)) ≡ true → Parts xs ys y) → is_some (option_and_then (λ y. hears_all y (xs ++ ys)) f) ≡ true
         → (now : Hearing) × (option_and_then (λ y. hears_all y xs) f ≡ Some now) × (is_some (hears_all now ys) ≡ true)
-    of None more k = absurd (cc)
-    of (Some y) more k = more y k
+    of f more k = search arith
 
 at-release : (now : Hearing) (front back : List Event) → is_some (hears_all now (release ∷ back)) ≡ true → Knows now front → IsAnswered acquire acquire_done true front
-at-release (strongly w false) front back h k = k.1
-at-release st front back h k = absurd (cc)
+at-release now front back h k = search arith
 
 at-decrefs : (now : Hearing) (front back : List Event) → is_some (hears_all now (decrefs ∷ back)) ≡ true → Knows now front → IsAnswered increfs increfs_done true front
-at-decrefs (weakly false) front back h k = k
-at-decrefs st front back h k = absurd (cc)
+at-decrefs now front back h k = search arith
 
 at-acquire_done : (now : Hearing) (front back : List Event) → is_some (hears_all now (acquire_done ∷ back)) ≡ true → Knows now front → IsAnswered acquire acquire_done false front
-at-acquire_done (strongly w true) front back h k = k.1
-at-acquire_done st front back h k = absurd (cc)
+at-acquire_done now front back h k = search arith
 
 at-increfs_done : (now : Hearing) (front back : List Event) → is_some (hears_all now (increfs_done ∷ back)) ≡ true → Knows now front → IsAnswered increfs increfs_done false front
-at-increfs_done (weakly true) front back h k = k
-at-increfs_done (strongly true a) front back h k = k.0
-at-increfs_done st front back h k = absurd (cc)
+at-increfs_done now front back h k = search arith
 
 pub in-order : (es : List Event) → is_some (hears_all unheard es) ≡ true → InOrder es
 in-order es h = record {

@@ -1,7 +1,7 @@
 -- A reading tells of an object what goes on from what was heard of it.
-use Rattle.bd_laws.proofs.words.Logic.{◌≡◌, ℕ, suc, ◌+◌, ◌-◌, ◌≤◌, Bool, true, false, cond, ◌&&◌, List, [], ◌∷◌, ◌++◌, Option, Some, None, inl, inr, refl, ap, sym, subst, ◌∙◌, length, arith, list_any, flat_map, filter_map, nat_lt, is_some}
+use Rattle.bd_laws.proofs.words.Logic.{◌≡◌, ℕ, suc, ◌+◌, ◌-◌, ◌≤◌, Bool, true, false, cond, ◌&&◌, List, [], ◌∷◌, ◌++◌, Option, Some, None, inl, inr, refl, ap, sym, subst, ◌∙◌, length, arith, flat_map, filter_map, nat_lt, is_some}
 use Rattle.bd_laws.proofs.words.Types.{Return, ObjectId, Object, Reference, Work, Thread, TodoList}
-use Rattle.bd_laws.proofs.words.Space.{same, Space, lives_in, held_in, strong_in, object_in, is_shaking, is_handshake, same_strength, notice_of, list_to_read, work_on, reads_in, is_on, returns_of, returns_of_object, bytes_read, shakes, handshakes, told_objects, told_of, is_told_by, read_by, taken, ends_read}
+use Rattle.bd_laws.proofs.words.Space.{same, Space, lives_in, held_in, strong_in, object_in, is_shaking, is_handshake, same_strength, notice_of, list_to_read, work_on, reads_in, returns_of, returns_of_object, bytes_read, shakes, handshakes, told_objects, told_of, is_told_by, read_by, taken, ends_read}
 use Rattle.bd_space.specs.declared.space.WorkKind.TheVariants as work
 use Rattle.bd_laws.proofs.words.Laws.{In, Before}
 use Rattle.bd_laws.proofs.Lists.{in-left, in-append, in-changed, any-found, any-in, find-in, find-some, pairs-filter}
@@ -9,7 +9,7 @@ use Rattle.bd_laws.proofs.Tests.{both, and-both, same-eq, eq-same}
 use Rattle.bd_laws.proofs.IsInTurn.Ripening.{taken-in}
 use Rattle.bd_laws.proofs.Objects.{told-id}
 use Rattle.bd_laws.proofs.IsInTurn.Received.{one-object}
-use Rattle.bd_laws.proofs.NothingIsPending.Noticing.{Apart, Once, Noticing}
+use Rattle.bd_laws.proofs.NothingIsPending.Noticing.{Once, Noticing}
 use Rattle.bd_audit.specs.Hearing.{event_of, heard_in}
 use Rattle.bd_audit.proofs.OwnersHearInOrder.Orders.{Hearing, unheard, hears_all}
 use Rattle.bd_audit.proofs.OwnersHearInOrder.Tallies.{tally, tally-append, tally-first, tally-unmet}
@@ -25,24 +25,14 @@ strong-of : (references : List Reference) (o : ObjectId) (r : Reference) → In 
 strong-of references o r l e t = any-in (λ (y : Reference). y.strong && same y.object o) r references l (and-both r.strong (same r.object o) t (eq-same r.object o e))
 
 strong-held : (references : List Reference) (o : ObjectId) → strong_in references o ≡ true → held_in references o ≡ true
-strong-held references o h =
-    let r = any-found (λ (y : Reference). y.strong && same y.object o) references h in
-    held-of references o r.0 r.1 (same-eq r.0.object o (both r.0.strong (same r.0.object o) r.2).1)
+strong-held references o h = search (arith, any-found, held-of, same-eq, both)
 
 -- a Handshake keeps its object, in its strength
 shaken-found : (references : List Reference) (o : ObjectId) (b : Bool) → shaken references o b ≡ 1 → (r : Reference) × In r references × (is_shaking o b r ≡ true)
-shaken-found references o b h = at (list_any (is_shaking o b) references) refl
-  where
-    at : (c : Bool) → list_any (is_shaking o b) references ≡ c → (r : Reference) × In r references × (is_shaking o b r ≡ true)
-    at true e = any-found (is_shaking o b) references e
-    at false e = let none = tally-unmet (is_shaking o b) references e in absurd (omega arith)
+shaken-found references o b h = search (arith, any-found, tally-unmet)
 
 shaken-so : (references : List Reference) (o : ObjectId) (b : Bool) → shaken references o b ≡ 1 → cond b (strong_in references o) (held_in references o) ≡ true
-shaken-so references o true h =
-    let r = shaken-found references o true h in
-    let k = shaking-parts o true r.0 r.2 in
-    strong-of references o r.0 r.1 k.0 k.2
-shaken-so references o false h = let r = shaken-found references o false h in held-of references o r.0 r.1 (shaking-parts o false r.0 r.2).0
+shaken-so references o b h = search (arith, shaken-found, shaking-parts, strong-of, held-of)
 
 -- where no Handshake refers to the object, no Handshake does so at all
 unheld : (references : List Reference) (o : ObjectId) → ((r : Reference) → In r references → is_handshake r.holder ≡ true) → ((b : Bool) → shaken references o b ≡ 0) → (r : Reference) → In r references → r.object ≡ o → ⊥
@@ -77,10 +67,7 @@ module _ (o : ObjectId) (st : Hearing) (s : Space) (before : Before s) (noticing
   reads-silent none = (st, ap (hears_all st) (silent-heard s o ws none), tracks, λ le. h.fresh (omega arith))
     where
       unchanged : Same o s.references references_now
-      unchanged = record {
-        shakes = λ b. let e = tally-append (is_shaking o b) s.references (handshakes s 0 ws) in let n = silent-shaken s o ws 0 b none in omega arith;
-        manages = λ r l e m. in-left r s.references (handshakes s 0 ws) l;
-      }
+      unchanged = search (arith, shakes, tally-append, silent-shaken, in-left)
 
       tracks : Tracks (held_in references_now o ≡ false) o st (read_by s seat ws)
       tracks x l e live =
@@ -103,20 +90,11 @@ module _ (o : ObjectId) (st : Hearing) (s : Space) (before : Before s) (noticing
 
     shaken-is : (b : Bool) → shaken references_now o b ≡ shaken s.references o b + tally (is_strength b) (flat_map shakes returns)
     unfolding returns
-    shaken-is b =
-        let e = tally-append (is_shaking o b) s.references (handshakes s 0 ws) in
-        let f = once-shaken s o ws 0 b once w taken notice in
-        let g = ap (λ rs. tally (is_strength b) (flat_map shakes rs)) (returns-found s o y found) in
-        e ∙ ap (λ n. shaken s.references o b + n) (f ∙ g)
+    shaken-is b = search (arith, tally-append, once-shaken, taken, shakes, returns-found)
 
     -- each object of this identity is the one that was told
     told-is : (x : Object) → In x (told_objects s ws) → x.id ≡ o → x ≡ told_of s.references y
-    told-is x l e =
-        let z = in-changed (λ (x : Object). is_told_by ws x.id) (told_of s.references) x s.objects l in
-        let same_id : z.0.id ≡ o = sym (told-id s.references (is_told_by ws z.0.id) z.0) ∙ sym (ap (λ (y : Object). y.id) z.2) ∙ e in
-        let is : z.0 ≡ y = one-object s before.objects z.0 y z.1 here (same_id ∙ sym id) in
-        let told : is_told_by ws z.0.id ≡ true = ap (is_told_by ws) same_id ∙ speaks-told s o ws w taken notice in
-        z.2 ∙ ap (λ c. cond c (told_of s.references z.0) z.0) told ∙ ap (told_of s.references) is
+    told-is x l e = search (arith, in-changed, told-id, one-object, speaks-told, taken)
 
     reads-tells : Tells ⊥ s.references o y st → Reads
     unfolding read_by returns
@@ -193,13 +171,10 @@ module _ (s : Space) where
   taken-once (x ∷ xs) left h = at (nat_lt left 68) (ends_read x.kind) (taken-once xs (left - length (bytes_read s x)) h.1)
     where
       at : (b c : Bool) → Once (taken s (left - length (bytes_read s x)) xs) → Once (cond b [] (x ∷ cond c [] (taken s (left - length (bytes_read s x)) xs)))
-      at true c k = tt
-      at false true k = ((λ v l. absurd l), tt)
-      at false false k = ((λ v l. h.0 v (taken-in s xs (left - length (bytes_read s x)) v l)), k)
+      at b c k = search (arith, taken-in)
 
   list-once : (todo : List Work) (o : Option TodoList) → Once todo → Once (work_on todo o)
-  list-once todo None h = tt
-  list-once todo (Some list) h = pairs-filter Apart (is_on list) todo h
+  list-once todo o h = search (arith, pairs-filter)
 
   pub read-list-once : (t : Thread) (left : ℕ) → Once s.todo → Once (taken s left (list_to_read s t))
   unfolding list_to_read

@@ -1,7 +1,7 @@
 -- What a reading tells an owner of one object.
 use Rattle.bd_laws.proofs.words.Logic.{◌≡◌, ℕ, ◌+◌, Bool, true, false, cond, not, ◌&&◌, List, [], ◌∷◌, ◌++◌, Option, Some, None, ◌⊎◌, inl, inr, refl, ap, sym, ◌∙◌, length, append-nil, arith, flat_map, filter_map}
 use Rattle.bd_laws.proofs.words.Types.{Return, ObjectId, Reference, Handshake, Work, WorkKind}
-use Rattle.bd_laws.proofs.words.Space.{same, is_some_and, Space, reference_of, is_shaking, is_handshake, same_strength, is_notice, notice_of, returns_of, shakes, handshakes_for, handshakes_of, handshakes, is_told_by}
+use Rattle.bd_laws.proofs.words.Space.{same, is_some_and, Space, reference_of, is_shaking, is_handshake, is_notice, notice_of, returns_of, shakes, handshakes_for, handshakes_of, handshakes, is_told_by}
 use Rattle.bd_uapi.specs.declared.command.Return.TheVariants as br
 use Rattle.bd_space.specs.declared.space.WorkKind.TheVariants as work
 use Rattle.bd_laws.specs.Lists.{In}
@@ -16,8 +16,7 @@ use Rattle.bd_audit.proofs.OwnersHearInOrder.Tracking.{is_weak, is_strong, waits
 -- ---- the items that are read
 
 told-notice : (f : Option ObjectId) (o : ObjectId) → is_some_and f (same o) ≡ true → f ≡ Some o
-told-notice None o e = absurd (cc)
-told-notice (Some p) o e = ap (λ i. Some i) (sym (same-eq o p e))
+told-notice f o e = search (arith, same-eq)
 
 -- a return that is to be acknowledged in this strength
 abbrev pub is_strength : Bool → Bool → Bool
@@ -25,10 +24,7 @@ is_strength b c = cond b c (not c)
 
 module _ (o : ObjectId) (b : Bool) where
   one-shaking : (n k : ℕ) (c d : Bool) → is_shaking o c (reference_of n k o d Handshake) ≡ is_strength c d
-  one-shaking n k true true = rw (eq-same o o refl) refl
-  one-shaking n k true false = refl
-  one-shaking n k false true = refl
-  one-shaking n k false false = rw (eq-same o o refl) refl
+  one-shaking n k c d = search (arith, eq-same)
 
   for-own : (n : ℕ) (cs : List Bool) (k : ℕ) → shaken (handshakes_for n k o cs) o b ≡ tally (is_strength b) cs
   for-own n [] k = refl
@@ -40,15 +36,10 @@ module _ (o : ObjectId) (b : Bool) where
   for-object n p (c ∷ cs) k r (inr l) = for-object n p cs (k + 1) r l
 
 middle-false : (x y z : Bool) → y ≡ false → (x && y && z) ≡ false
-middle-false true y z h = rw h refl
-middle-false false y z h = refl
+middle-false x y z h = search arith
 
 pub shakes-object : (o : ObjectId) (b : Bool) (r : Reference) → (r.object ≡ o → ⊥) → is_shaking o b r ≡ false
-shakes-object o b r other = at (same r.object o) refl
-  where
-    at : (c : Bool) → same r.object o ≡ c → is_shaking o b r ≡ false
-    at true e = absurd (other (same-eq r.object o e))
-    at false e = middle-false (same_strength b r) (same r.object o) (is_handshake r.holder) e
+shakes-object o b r other = search (arith, same-eq, middle-false)
 
 module _ (s : Space) (o : ObjectId) where
   -- none of them is a Notice of the object
@@ -67,11 +58,7 @@ module _ (s : Space) (o : ObjectId) where
       at false e k = k
 
   pub silent-untold : (ws : List Work) → Silent ws → is_told_by ws o ≡ false
-  silent-untold ws h = at (is_told_by ws o) refl
-    where
-      at : (b : Bool) → is_told_by ws o ≡ b → b ≡ false
-      at false e = refl
-      at true e = let w = any-found (λ (w : Work). is_some_and (notice_of w.kind) (same o)) ws e in absurd (h w.0 w.1 (told-notice (notice_of w.0.kind) o w.2))
+  silent-untold ws h = search (arith, any-found, told-notice)
 
   both-none : (m n : ℕ) → m ≡ 0 → n ≡ 0 → m + n ≡ 0
   both-none m n e f = omega arith
@@ -135,8 +122,7 @@ module _ (s : Space) (o : ObjectId) where
   told-or-silent ws = at (is_told_by ws o) refl
     where
       at : (b : Bool) → is_told_by ws o ≡ b → ((w : Work) × In w ws × (notice_of w.kind ≡ Some o)) ⊎ Silent ws
-      at true e = let w = any-found (λ (w : Work). is_some_and (notice_of w.kind) (same o)) ws e in inl (w.0, w.1, told-notice (notice_of w.0.kind) o w.2)
-      at false e = inr (λ w l f. let yes = any-in (λ (v : Work). is_some_and (notice_of v.kind) (same o)) w ws l (rw f (eq-same o o refl)) in absurd (cc))
+      at b e = search (arith, any-found, told-notice, any-in, eq-same)
 
   pub speaks-told : (ws : List Work) (w : Work) → In w ws → notice_of w.kind ≡ Some o → is_told_by ws o ≡ true
   speaks-told ws w l e = any-in (λ (v : Work). is_some_and (notice_of v.kind) (same o)) w ws l (rw e (eq-same o o refl))
@@ -156,8 +142,7 @@ module _ (s : Space) (o : ObjectId) where
     where
       of : (f : Option ObjectId) → In r (elim f as (λ (g : Option ObjectId). List Reference) [ None ↦ [] | Some p ↦ handshakes_for s.steps k p (flat_map shakes (returns_of s w.kind)) ])
           → is_handshake r.holder ≡ true
-      of None i = absurd i
-      of (Some p) i = handshakes-all k p (flat_map shakes (returns_of s w.kind)) r i
+      of f i = search (arith, handshakes-all, shakes)
 
 -- ---- what one Notice tells
 
@@ -181,8 +166,7 @@ Turning st held strong ptr cookie =
     (strong ≡ true → held ≡ true) → ((b : Bool) → waits st b ≡ true → cond b strong held ≡ true) → (st ≡ ended → ⊥) → Turned st held strong (returns_by held strong (is_weak st) (is_strong st) ptr cookie)
 
 at-each : (P : Bool → Type 0) → P true → P false → (b : Bool) → P b
-at-each P h k true = h
-at-each P h k false = k
+at-each P h k b = search arith
 
 first : (ptr cookie : ℕ) (held strong : Bool) → Turning unheard held strong ptr cookie
 first ptr cookie true true up keeps over = record { now = strongly true true; hears = refl; held_now = refl; strong_now = refl; shakes = at-each _ refl refl; over = λ e. absurd (cc) }

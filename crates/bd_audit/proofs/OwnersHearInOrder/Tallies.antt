@@ -22,18 +22,11 @@ module _ {A : Type 0} (p : A → Bool) where
   tally-more xs ys h = let e = tally-append xs ys in let n = tally-none ys h in omega arith
 
   pub tally-unmet : (xs : List A) → list_any p xs ≡ false → tally p xs ≡ 0
-  tally-unmet xs h = tally-none xs (λ x l. at x l (p x) refl)
-    where
-      at : (x : A) → In x xs → (b : Bool) → p x ≡ b → p x ≡ false
-      at x l false e = e
-      at x l true e = let met = any-in p x xs l e in absurd (cc)
+  tally-unmet xs h = search (arith, tally-none, any-in)
 
   module _ (q : A → Bool) where
     kept : (x : A) (xs : List A) (a b : Bool) → p x ≡ a → q x ≡ b → (a ≡ true → b ≡ true) → tally p (cond b (x ∷ xs) xs) ≡ cond a 1 0 + tally p xs
-    kept x xs true true e f h = rw e refl
-    kept x xs true false e f h = let wrong = h refl in absurd (cc)
-    kept x xs false true e f h = rw e refl
-    kept x xs false false e f h = omega arith
+    kept x xs a b e f h = search arith
 
     pub tally-filter : (xs : List A) → ((x : A) → In x xs → p x ≡ true → q x ≡ true) → tally p (filter q xs) ≡ tally p xs
     tally-filter [] h = refl
@@ -42,9 +35,7 @@ module _ {A : Type 0} (p : A → Bool) where
         let k = kept x (filter q xs) (p x) (q x) refl refl (h x (inl refl)) in omega arith
 
     dropped : (x : A) (xs ys : List A) (a b : Bool) → p x ≡ a → q x ≡ b → (a ≡ true → b ≡ false) → tally p ys ≡ tally p xs → tally p (cond b xs (x ∷ ys)) ≡ cond a 1 0 + tally p xs
-    dropped x xs ys true true e f h k = let wrong = h refl in absurd (cc)
-    dropped x xs ys false true e f h k = omega arith
-    dropped x xs ys a false e f h k = rw e omega arith
+    dropped x xs ys a b e f h k = search arith
 
     -- the first that goes is none of those that are counted
     pub tally-without : (xs : List A) → ((x : A) → p x ≡ true → q x ≡ false) → tally p (without_first q xs) ≡ tally p xs
@@ -53,8 +44,7 @@ module _ {A : Type 0} (p : A → Bool) where
 
   first : (x : A) (xs : List A) (b : Bool) → p x ≡ b → (list_any p xs ≡ true → tally p xs ≡ suc (tally p (without_first p xs))) → (b || list_any p xs) ≡ true
       → cond b 1 0 + tally p xs ≡ suc (tally p (cond b xs (x ∷ without_first p xs)))
-  first x xs true e k h = omega arith
-  first x xs false e k h = let r = k h in rw e omega arith
+  first x xs b e k h = search arith
 
   -- the first of those that are counted goes
   pub tally-first : (xs : List A) → list_any p xs ≡ true → tally p xs ≡ suc (tally p (without_first p xs))

@@ -1,7 +1,7 @@
 -- What an owner was told of an object agrees with what it has heard of it.
 use Rattle.bd_laws.proofs.words.Logic.{◌≡◌, ℕ, ◌+◌, ◌≤◌, ◌==◌, Bool, true, false, not, ◌&&◌, ◌||◌, List, [], ◌∷◌, Option, Some, None, Ok, inl, inr, refl, ap, sym, subst, ◌∙◌, filter, arith, eqb-true}
 use Rattle.bd_laws.proofs.words.Types.{TransactionData, ObjectId, Parcel, Step, Process, Actor, Frame, Object, Reference, Asked, Manager, Item, OfThread}
-use Rattle.bd_laws.proofs.words.Space.{same, Space, lives_in, reference_of, held_in, owned_in, stays_in, objects_go, is_asking, is_shaking, is_of_buffer, is_handshake, same_strength, names_go, assign_numbers, closed, owe, ripen, follow, notify, work_goes, deaths_go, Delivery, delivered, own_notices, add_buffer, known_by, refer, make_objects, buffer_references, transaction_check, transacted, called, reply_check, replied, ask, drop_asked, without_buffer, thread_goes, is_lost_reference, threads_go, without_process, is_dropped_with, with_thread, with_process, with_manager, is_spam, with_spam_detection}
+use Rattle.bd_laws.proofs.words.Space.{same, Space, lives_in, reference_of, held_in, owned_in, objects_go, is_asking, is_shaking, is_of_buffer, is_handshake, same_strength, names_go, assign_numbers, closed, owe, ripen, follow, notify, work_goes, deaths_go, Delivery, delivered, own_notices, add_buffer, known_by, refer, make_objects, buffer_references, transaction_check, transacted, called, reply_check, replied, ask, drop_asked, without_buffer, thread_goes, is_lost_reference, threads_go, without_process, is_dropped_with, with_thread, with_process, with_manager, is_spam, with_spam_detection}
 use Rattle.bd_space.specs.declared.space.WorkKind.TheVariants as work
 use Rattle.bd_laws.proofs.words.Laws.{In, Pairs, Differ, KeptBefore, Before}
 use Rattle.bd_laws.proofs.Earlier.{in_order-differ}
@@ -27,15 +27,10 @@ module _ (o : ObjectId) (st : Hearing) where
   H z = Tracks ⊥ o st z
 
   pub tracks-untouched : (E : Type 0) (z y : Space) → Untouched z y → Tracks E o st y → Tracks E o st z
-  tracks-untouched E z y u h = λ x l e live.
-      subst (λ rs. Tells E rs o x st) (sym u.references)
-      (h x (subst (In x) u.objects l) e (subst (λ ps. lives_in ps x.owner ≡ true) u.processes live))
+  tracks-untouched E z y u h = search arith
 
   pub tracks-weaker : (E : Type 0) (z : Space) → H z → Tracks E o st z
-  tracks-weaker E z h x l e live = elim (h x l e live) [
-    | inl m ↦ inl m
-    | inr t ↦ inr (record { weak = t.weak; strong = t.strong; shakes = t.shakes; over = λ is. absurd (t.over is) })
-  ]
+  tracks-weaker E z h x l e live = search arith
 
   -- where only references change
   same-told : (objects : List Object) (processes : List Process) (more references : List Reference) → Same o more references
@@ -74,28 +69,11 @@ module _ (o : ObjectId) (st : Hearing) where
 
   -- an object of another process isn't p's
   unowned : (objects : List Object) (p : ℕ) (x : Object) → Pairs Differ objects → In x objects → x.id ≡ o → (x.owner ≡ p → ⊥) → owned_in objects p o ≡ false
-  unowned objects p x differ l e other = at (owned_in objects p o) refl
-    where
-      at : (b : Bool) → owned_in objects p o ≡ b → b ≡ false
-      at false f = refl
-      at true f =
-          let y = any-found (λ (y : Object). same y.id o && (y.owner == p)) objects f in
-          let k = both (same y.0.id o) (y.0.owner == p) y.2 in
-          let is = e ∙ sym (same-eq y.0.id o k.0) in
-          let owner : y.0.owner ≡ p = eqb-true y.0.owner p k.1 in
-          elim (pairs-either Differ objects differ x y.0 l y.1) [
-            | inl q ↦ absurd (other (ap (λ (w : Object). w.owner) q ∙ owner))
-            | inr q ↦ elim q [ inl d ↦ absurd (d is) | inr d ↦ absurd (d (sym is)) ]
-          ]
+  unowned objects p x differ l e other = search (arith, any-found, both, same-eq, eqb-true, pairs-either)
 
   -- a process that lives after p has ended lived before, and isn't p
   outlives : (processes : List Process) (p q : ℕ) → lives_in (filter (λ y. not (y.made == p)) processes) q ≡ true → (lives_in processes q ≡ true) × (q ≡ p → ⊥)
-  outlives processes p q h =
-      let test = λ (y : Process). not (y.made == p) in
-      let y = any-found (λ (y : Process). y.made == q) (filter test processes) h in
-      let l = in-filter test y.0 processes y.1 in
-      let is : y.0.made ≡ q = eqb-true y.0.made q y.2 in
-      (any-in (λ (y : Process). y.made == q) y.0 processes l.0 y.2, λ e. let no = not-true (y.0.made == p) l.1 in let yes = subst (λ n. (y.0.made == n) ≡ true) e y.2 in absurd (cc))
+  outlives processes p q h = search (arith, any-found, in-filter, eqb-true, any-in, not-true)
 
   without_process-told : (z : Space) (p : ℕ) → Pairs Differ z.objects → H z → H (without_process z p)
   unfolding without_process
@@ -220,24 +198,12 @@ module _ (o : ObjectId) (st : Hearing) where
   -- ---- what follows
 
   goes : (a b c d : Bool) → a ≡ false → c ≡ false → d ≡ false → (a || b && (c || d)) ≡ true → ⊥
-  goes a true c d h k l t = absurd (let f : (a || true && (c || d)) ≡ false = rw (h, k, l) refl in cc)
-  goes a false c d h k l t = absurd (let f : (a || false && (c || d)) ≡ false = rw h refl in cc)
+  goes a b c d h k l t = search arith
 
   -- an object of which all was heard, and that nothing refers to, goes
   pub follow-told : (z : Space) → Tracks (held_in z.references o ≡ false) o st z → H (follow z)
   unfolding follow notify work_goes deaths_go objects_go names_go
-  follow-told z h x l e live =
-      let k = in-filter (stays_in z.processes z.references) x z.objects l in
-      elim (h x k.0 e live) [
-        | inl m ↦ inl m
-        | inr t ↦ inr (record {
-          weak = t.weak;
-          strong = t.strong;
-          shakes = t.shakes;
-          over = λ is. goes (held_in z.references x.id) (lives_in z.processes x.owner) x.told_weak x.told_strong
-              (subst (λ i. held_in z.references i ≡ false) (sym e) (t.over is)) (t.weak ∙ ap is_weak is) (t.strong ∙ ap is_strong is) k.1;
-        })
-      ]
+  follow-told z h x l e live = search (arith, in-filter, goes)
 
   -- ---- a step that neither reads nor acknowledges
 

@@ -1,7 +1,8 @@
 -- What has been heard of an object, what was told of it, and references that keep it.
-use Rattle.bd_laws.proofs.words.Logic.{◌≡◌, ℕ, ◌≤◌, Bool, true, false, cond, ◌&&◌, List, ◌++◌, None, ◌⊎◌, inl, inr, refl, ◌∙◌, filter}
+use Rattle.bd_laws.proofs.words.Logic.{arith}
+use Rattle.bd_laws.proofs.words.Logic.{◌≡◌, ℕ, ◌≤◌, Bool, true, false, cond, List, ◌++◌, None, ◌⊎◌, refl, filter}
 use Rattle.bd_laws.proofs.words.Types.{ObjectId, Object, Reference, Holder, Handshake, Manager}
-use Rattle.bd_laws.proofs.words.Space.{same, without_first, Space, lives_in, is_asked_by, is_shaking, is_in_window, is_handshake, is_of_owner, buffer_of_holder, same_strength}
+use Rattle.bd_laws.proofs.words.Space.{without_first, Space, lives_in, is_asked_by, is_shaking, is_in_window, is_handshake, is_of_owner, buffer_of_holder, same_strength}
 use Rattle.bd_laws.proofs.words.Laws.{In}
 use Rattle.bd_laws.proofs.Lists.{in-left, filter-in, without-in}
 use Rattle.bd_laws.proofs.Tests.{both, same-eq}
@@ -69,19 +70,13 @@ pub record HeardBefore (o : ObjectId) (st : Hearing) (s : Space) : Type 0 where
 -- ---- references
 
 pub shaking-parts : (o : ObjectId) (b : Bool) (r : Reference) → is_shaking o b r ≡ true → (r.object ≡ o) × (is_handshake r.holder ≡ true) × (same_strength b r ≡ true)
-shaking-parts o b r h =
-    let k = both (same_strength b r && same r.object o) (is_handshake r.holder) h in
-    let l = both (same_strength b r) (same r.object o) k.0 in
-    (same-eq r.object o l.1, k.1, l.0)
+shaking-parts o b r h = search (arith, both, same-eq)
 
 handshake-own : (h : Holder) → is_handshake h ≡ true → is_of_owner h ≡ true
-handshake-own Handshake e = refl
-handshake-own _ e = absurd (cc)
+handshake-own h e = search arith
 
 own-holder : (h : Holder) (P : Holder → Type 0) → is_of_owner h ≡ true → P Handshake → P Manager → P h
-own-holder Handshake P e a b = a
-own-holder Manager P e a b = b
-own-holder _ P e a b = absurd (cc)
+own-holder h P e a b = search arith
 
 pub own-unasked : (h : Holder) (p : ℕ) → is_of_owner h ≡ true → is_asked_by p h ≡ false
 own-unasked h p e = own-holder h (λ k. is_asked_by p k ≡ false) e refl refl
@@ -98,32 +93,15 @@ pub record Same (o : ObjectId) (more references : List Reference) : Type 0 where
   pub manages : (r : Reference) → In r more → r.object ≡ o → r.holder ≡ Manager → In r references
 
 pub tells-same : (E D : Type 0) (o : ObjectId) (more references : List Reference) (x : Object) (st : Hearing) → Same o more references → (E → D) → Tells E more o x st → Tells D references o x st
-tells-same E D o more references x st k f (inl m) = inl (record {
-  start = m.start;
-  weak = m.weak;
-  strong = m.strong;
-  manager = let r = m.manager in (r.0, k.manages r.0 r.1 r.2 r.3, r.2, r.3, r.4);
-  shakes = λ b. k.shakes b ∙ m.shakes b;
-})
-tells-same E D o more references x st k f (inr t) =
-    inr (record { weak = t.weak; strong = t.strong; shakes = λ b. k.shakes b ∙ t.shakes b; over = λ e. f (t.over e) })
+tells-same E D o more references x st k f h = search arith
 
 pub same-more : (o : ObjectId) (references new : List Reference) → ((r : Reference) → In r new → is_handshake r.holder ≡ false) → Same o references (references ++ new)
-same-more o references new none = record {
-  shakes = λ b. tally-more (is_shaking o b) references new (λ r l. and-false (same_strength b r) (same r.object o) (is_handshake r.holder) (none r l));
-  manages = λ r l e m. in-left r references new l;
-}
+same-more o references new none = search (arith, tally-more, and-false, in-left)
 
 pub same-filter : (o : ObjectId) (references : List Reference) (p : Reference → Bool) → ((r : Reference) → r.object ≡ o → is_of_owner r.holder ≡ true → p r ≡ true)
     → Same o references (filter p references)
-same-filter o references p stay = record {
-  shakes = λ b. tally-filter (is_shaking o b) p references (λ r l h. let k = shaking-parts o b r h in stay r k.0 (handshake-own r.holder k.1));
-  manages = λ r l e m. filter-in p r references l (stay r e (rw m refl));
-}
+same-filter o references p stay = search (arith, tally-filter, shaking-parts, handshake-own, filter-in)
 
 pub same-without : (o : ObjectId) (references : List Reference) (p : Reference → Bool) → ((r : Reference) → is_of_owner r.holder ≡ true → p r ≡ false)
     → Same o references (without_first p references)
-same-without o references p stay = record {
-  shakes = λ b. tally-without (is_shaking o b) p references (λ r h. stay r (handshake-own r.holder (shaking-parts o b r h).1));
-  manages = λ r l e m. without-in p r references l (stay r (rw m refl));
-}
+same-without o references p stay = search (arith, tally-without, handshake-own, shaking-parts, without-in)

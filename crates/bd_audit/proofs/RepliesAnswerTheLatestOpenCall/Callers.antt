@@ -23,9 +23,7 @@ HasCallers es z = (f : Frame) (m t : ℕ) → In f z.frames → Called es f.made
 
 -- a call of an earlier place, in the entries before
 pub called-before : (es later : List Entry) (f : Entry) (more : List Entry) (c m : ℕ) → es ≡ later ++ f ∷ more → c < length later → Called es c m → Called later c m
-called-before es later f more c m is lt k =
-    let mid = between k.0 later k.1 f k.2.rest more (sym k.2.all ∙ is) (let a = k.2.at in omega arith) in
-    (k.0, k.1, record { rest = mid.0; all = mid.1; at = k.2.at }, k.3)
+called-before es later f more c m is lt k = search (arith, between)
 
 pub seat-below : (es : List Entry) (m t : ℕ) → seat_at es m ≡ Some t → m < length es
 seat-below [] m t h = absurd (cc)
@@ -75,8 +73,7 @@ reads es z seat ws h f m t l c i =
     ap (λ (x : Frame). x.caller) g.2 ∙ k.1 ∙ h g.0 m t g.1 (subst (λ n. Called es n m) (ap (λ (x : Frame). x.made) g.2 ∙ k.0) c) i
   where
     at : (b : Bool) (x : Frame) → ((cond b (serve seat x) x).made ≡ x.made) × ((cond b (serve seat x) x).caller ≡ x.caller)
-    at true x = (refl, refl)
-    at false x = (refl, refl)
+    at b x = search arith
 
 calls : (es : List Entry) (z : Space) (seat p : ℕ) (one_way : Bool) → ((m t : ℕ) → Called es z.steps m → thread_made z t ≡ Some m → t ≡ seat) → HasCallers es z → HasCallers es (called z seat p one_way)
 unfolding call_out owe

@@ -1,7 +1,7 @@
 -- Each call of a thread that lives is open, or was answered: what its thread is told of that stands on the thread's list
 -- until it is read.
 use Rattle.bd_laws.proofs.words.Logic.{◌≡◌, ℕ, ◌+◌, ◌<◌, ◌-◌, ◌==◌, Bool, true, false, cond, not, List, [], ◌∷◌, ◌++◌, length, length-append, Some, None, ◌⊎◌, inl, inr, refl, ap, sym, subst, ◌∙◌, arith, list_any, find, eqb-true, eq-eqb, cases_lt}
-use Rattle.bd_laws.proofs.words.Types.{TransactionData, DeadReply, FailedReply, TransactionComplete, Read, Entry, Work, Frame, Actor, TodoList, OfThread, OfProcess}
+use Rattle.bd_laws.proofs.words.Types.{TransactionData, DeadReply, FailedReply, TransactionComplete, Read, Entry, Work, Frame, Actor, TodoList, OfThread}
 use Rattle.bd_laws.proofs.words.Space.{Space, opening, actor, closed, is_frame, is_deepest_in, served_innermost, owe, is_on, is_item, is_call, same_list, list_to_read, ripen, follow, is_abandoned, Delivery, delivered, refusal, replied, reply_refused, read_by, taken, serve, read_fault, change, counted, after}
 use Rattle.bd_space.specs.declared.space.WorkKind.TheVariants as work
 use Rattle.bd_laws.specs.Lists.{In}
@@ -46,13 +46,7 @@ module _ (es : List Entry) (e : Entry) (h : Answered es (after opening es)) wher
   Now z = (z.steps ≡ length es) × ((j m t : ℕ) → Called es j m → thread_made z t ≡ Some m → Midway z j m t)
 
   now : Now s
-  now = (
-    always-steps es,
-    λ j m t c i. elim (h j m t c i) [
-      | inl k ↦ inl (k, k)
-      | inr k ↦ elim k [ inl w ↦ inr (inr (inl w)) | inr r ↦ inr (inr (inr (was-more es (e ∷ []) j m r))) ]
-    ],
-  )
+  now = search (arith, always-steps, was-more)
 
   thread-below : (j m : ℕ) → Called es j m → m < length es
   thread-below j m c =
@@ -94,11 +88,7 @@ module _ (es : List Entry) (e : Entry) (h : Answered es (after opening es)) wher
   )
     where
       other : (j : ℕ) (g : Frame) → g.made ≡ j → (f.made == j) ≡ false → is_frame f.made g ≡ false
-      other j g is apart = at (g.made == f.made) refl
-        where
-          at : (b : Bool) → (g.made == f.made) ≡ b → b ≡ false
-          at true q = let same : g.made ≡ f.made = eqb-true g.made f.made q in let yes = eq-eqb f.made j (sym same ∙ is) in absurd (cc)
-          at false q = refl
+      other j g is apart = search (arith, eqb-true, eq-eqb)
 
       closing : (j m t : ℕ) → Called es j m → thread_made y t ≡ Some m → (b : Bool) → (f.made == j) ≡ b → StandsIn s j × StandsIn y j → Midway z j m t
       closing j m t c was true q o =
@@ -166,15 +156,13 @@ module _ (es : List Entry) (e : Entry) (h : Answered es (after opening es)) wher
       z = read_by s a.thread.seat ws
 
       served-made : (b : Bool) (f : Frame) → (cond b (serve a.thread.seat f) f).made ≡ f.made
-      served-made true f = refl
-      served-made false f = refl
+      served-made b f = search arith
 
       still : {j : ℕ} → StandsIn s j → StandsIn z j
       still o = (_, changed-in (λ (f : Frame). list_any (λ (w : Work). is_call f.made w.kind) ws) (serve a.thread.seat) o.0 s.frames o.1, served-made (list_any (λ (w : Work). is_call o.0.made w.kind) ws) o.0 ∙ o.2)
 
       thread-list : (l : TodoList) (t : ℕ) → same_list l (OfThread t) ≡ true → l ≡ OfThread t
-      thread-list (OfThread u) t q = ap (λ n. OfThread n) (eqb-true u t q)
-      thread-list (OfProcess p) t q = absurd (cc)
+      thread-list l t q = search (arith, eqb-true)
 
       waiting : (j m t : ℕ) → thread_made s t ≡ Some m → (d : ℕ) → At es d (λ y f. Closes y f j) → (v : Waits s t d) → (b : Bool) → list_any (λ (w : Work). is_item v.0 w) ws ≡ b → Midway z j m t
       waiting j m t i d closed v false q =

@@ -1,6 +1,6 @@
 -- Work items stand in the order in which they were made: one item more, items that go, deliveries.
-use Rattle.bd_laws.proofs.words.Logic.{◌≡◌, ℕ, suc, ◌<◌, ◌≤◌, ◌==◌, Bool, true, false, cond, List, Option, Some, None, ◌⊎◌, inl, inr, refl, ap, sym, ◌∙◌, filter, arith, fold, eqb-true}
-use Rattle.bd_laws.proofs.words.Types.{TransactionData, Object, Process, Reference, Work, Item, Frame, Actor, Identity, TodoList, OfThread, OfProcess, WorkKind, is_own}
+use Rattle.bd_laws.proofs.words.Logic.{◌≡◌, ℕ, suc, ◌<◌, ◌≤◌, Bool, true, false, cond, List, Option, Some, None, ◌⊎◌, inl, inr, refl, ap, sym, ◌∙◌, filter, arith, fold, eqb-true}
+use Rattle.bd_laws.proofs.words.Types.{TransactionData, Object, Process, Reference, Work, Item, Frame, Actor, TodoList, OfThread, OfProcess, WorkKind, is_own}
 use Rattle.bd_laws.proofs.words.Space.{Space, with_work, owe, notice_of, death_of, with_notice, assign_numbers, object_in, closed, goes_to, Delivery, delivered, own_notices, add_buffer, known_by, refer, make_objects, buffer_of, add_notice, withdraw_notice, transacted, called, call_out, replied, is_spam}
 use Rattle.bd_space.specs.declared.space.WorkKind.TheVariants as work
 use Rattle.bd_laws.specs.Lists.{In, Pairs}
@@ -40,11 +40,7 @@ module _ (n : ℕ) (todo : List Work) (list : TodoList) (kind : WorkKind) where
   -- an item that stood before the new one has another identity
   other : (v w : Work) (t : ℕ) → Line n todo → In v todo → v.list ≡ OfThread t
       → (w.id.place ≡ n) × (w.id.index ≡ count_at n todo) × (w.list ≡ list) → v.id ≡ w.id → ⊥
-  other v w t h i on k same =
-      let p : v.id.place ≡ w.id.place = ap (λ (x : Identity). x.place) same in
-      let q : v.id.index ≡ w.id.index = ap (λ (x : Identity). x.index) same in
-      let lt = h.numbered v t i on (p ∙ k.0) in
-      let r = k.1 in absurd (omega arith)
+  other v w t h i on k same = search arith
 
   pub push-line : Line n todo → Line n (with_work n todo list kind)
   push-line h = record {
@@ -69,10 +65,7 @@ module _ (n : ℕ) (todo : List Work) (list : TodoList) (kind : WorkKind) where
   }
 
 pub push-bare : (n : ℕ) (todo : List Work) (p : ℕ) (kind : WorkKind) → Bare n todo → Bare n (with_work n todo (OfProcess p) kind)
-push-bare n todo p kind h w t l on at = elim (in-push w _ todo l) [
-  | inl i ↦ h w t i on at
-  | inr is ↦ (let off = (new-id n todo (OfProcess p) kind w is).2 in absurd (cc))
-]
+push-bare n todo p kind h w t l on at = search (arith, in-push)
 
 push-if : (n : ℕ) (b : Bool) (todo : List Work) (list : TodoList) (kind : WorkKind) → Line n todo → Line n (cond b (with_work n todo list kind) todo)
 push-if n true todo list kind h = push-line n todo list kind h
@@ -83,18 +76,7 @@ push-if n false todo list kind h = h
 -- either nothing of this step stands on a thread's list, or nothing of this step goes
 pub filter-line : (n : ℕ) (todo : List Work) (p : Work → Bool) → Bare n todo ⊎ ((w : Work) → In w todo → w.id.place ≡ n → p w ≡ true) → Line n todo
     → Line n (filter p todo)
-filter-line n todo p k h = record {
-  place = λ w l. h.place w (in-filter p w todo l).0;
-  sorted = pairs-filter NotLater p todo h.sorted;
-  one = λ v w t u i j. h.one v w t u (in-filter p v todo i).0 (in-filter p w todo j).0;
-  numbered = λ w t l on at. elim k [
-    | inl bare ↦ absurd (bare w t (in-filter p w todo l).0 on at)
-    | inr stays ↦ (
-        let lt = h.numbered w t (in-filter p w todo l).0 on at in
-        let c = count-filter p (λ (x : Work). x.id.place == n) todo (λ x i f. stays x i (eqb-true x.id.place n f)) in
-        omega arith)
-  ];
-}
+filter-line n todo p k h = search (arith, in-filter, pairs-filter, count-filter, eqb-true)
 
 pub filter-bare : (n : ℕ) (todo : List Work) (p : Work → Bool) → Bare n todo → Bare n (filter p todo)
 filter-bare n todo p h w t l = h w t (in-filter p w todo l).0
@@ -132,15 +114,7 @@ pub begun-plain : (n : ℕ) (todo : List Work) → Begun n todo → Line n todo 
 begun-plain n todo h = (h.0, λ w t l on at. let lt = h.1 w l in absurd (omega arith))
 
 pub lined-begun : (s : Space) → Lined s → Begun s.steps s.todo
-lined-begun s h = (
-  record {
-    place = λ w l. let lt = h.place w l in omega arith;
-    sorted = h.sorted;
-    one = h.one;
-    numbered = λ w t l on at. let lt = h.place w l in absurd (omega arith);
-  },
-  h.place,
-)
+lined-begun s h = search arith
 
 pub owe-plain : (z : Space) (p : ℕ) (kind : WorkKind) → Plain z → Plain (owe z (OfProcess p) kind)
 unfolding owe

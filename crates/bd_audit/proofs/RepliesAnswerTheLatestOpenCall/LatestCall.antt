@@ -1,14 +1,14 @@
 -- A reply answers the latest call of the thread that reads it whose answer isn't read yet.
-use Rattle.bd_laws.proofs.words.Logic.{◌≡◌, ℕ, ◌<◌, ◌≤◌, ◌-◌, ◌==◌, Bool, true, false, cond, ◌&&◌, List, [], ◌∷◌, length, map, Option, Some, None, ◌⊎◌, inl, inr, refl, ap, sym, subst, ◌∙◌, filter, arith, nat_lt, list_any, is_none, eqb-true, eq-eqb, cases_lt}
-use Rattle.bd_laws.proofs.words.Types.{Fault, Step, Read, Entry, Work, Thread, Actor, TodoList, OfThread, OfProcess, WorkKind}
-use Rattle.bd_laws.proofs.words.Space.{first_of, Space, opening, actor, is_frame, innermost_in, is_on, same_list, work_on, list_to_read, taken, ends_read, read_fault, bytes_read, History, after}
+use Rattle.bd_laws.proofs.words.Logic.{◌≡◌, ℕ, ◌<◌, ◌-◌, ◌==◌, Bool, true, false, cond, List, [], ◌∷◌, length, map, Option, Some, ◌⊎◌, inl, inr, refl, ap, sym, subst, ◌∙◌, filter, arith, nat_lt, list_any, is_none, eqb-true, eq-eqb, cases_lt}
+use Rattle.bd_laws.proofs.words.Types.{Entry, Work, Thread, Actor, TodoList, OfThread, WorkKind}
+use Rattle.bd_laws.proofs.words.Space.{first_of, Space, opening, actor, is_frame, is_on, same_list, list_to_read, taken, ends_read, bytes_read, History, after}
 use Rattle.bd_space.specs.declared.space.WorkKind.TheVariants as work
 use Rattle.bd_links.specs.TodoList.{reply_of, first_reply_in}
 use Rattle.bd_laws.specs.Lists.{In, Pairs}
 use Rattle.bd_laws.proofs.Lists.{in-filter, filter-in, pairs-filter, any-found, any-in}
 use Rattle.bd_laws.proofs.Tests.{both, and-both}
 use Rattle.bd_laws.proofs.IsInTurn.Ripening.{taken-in, read-in}
-use Rattle.bd_audit.specs.Replies.{thread_made, items_read, items_taken, items_unless, reply_taken, reply_taken_at, Answered, At}
+use Rattle.bd_audit.specs.Replies.{thread_made, items_taken, reply_taken, reply_taken_at, Answered, At}
 use Rattle.bd_audit.specs.Latest.{Closes, ReadsAnswer, Ended, AnswersLatest, is_answer, is_answer_of, before_reply}
 use Rattle.bd_audit.proofs.NamesHaveGiftChains.Chains.{always-steps}
 use Rattle.bd_audit.proofs.RepliesReachTheirCallers.Traces.{Called, at-more, at-below, actor-made}
@@ -34,26 +34,17 @@ module _ (s : Space) (w d : ℕ) (earlier : d < w) (v : Work) (place : v.id.plac
     where
       head : (o : Option ℕ) → reply_of x.kind ≡ o → (ys : List Work) → (In v xs → first_reply_in ys ≡ Some w → In v (before_reply ys))
           → first_of (o ∷ map (λ (y : Work). reply_of y.kind) ys) ≡ Some w → In v (cond (is_none o) (x ∷ before_reply ys) [])
-      head None r ys k f = elim l [ inl is ↦ inl is | inr i ↦ inr (k i f) ]
-      head (Some b) r ys k f =
-          let is : b ≡ w = (let j : Some b ≡ Some w = f in cc) in
-          let late = made x b (inl refl) r in
-          elim l [
-            | inl same ↦ (let p = ap (λ (y : Work). y.id.place) same in absurd (omega arith))
-            | inr i ↦ (let le : x.id.place ≤ v.id.place = sorted.0 v i in absurd (omega arith))
-          ]
+      head o r ys k f = search arith
 
       tail : (b : Bool) → (In v xs → first_reply_in (taken s (left - length (bytes_read s x)) xs) ≡ Some w → In v (before_reply (taken s (left - length (bytes_read s x)) xs)))
           → In v xs → first_reply_in (cond b [] (taken s (left - length (bytes_read s x)) xs)) ≡ Some w
           → In v (before_reply (cond b [] (taken s (left - length (bytes_read s x)) xs)))
-      tail true k i f = absurd (cc)
-      tail false k i f = k i f
+      tail b k i f = search arith
 
       at : (b : Bool) → (In v xs → first_reply_in (taken s (left - length (bytes_read s x)) xs) ≡ Some w → In v (before_reply (taken s (left - length (bytes_read s x)) xs)))
           → first_reply_in (cond b [] (x ∷ cond (ends_read x.kind) [] (taken s (left - length (bytes_read s x)) xs))) ≡ Some w
           → In v (before_reply (cond b [] (x ∷ cond (ends_read x.kind) [] (taken s (left - length (bytes_read s x)) xs))))
-      at true k f = absurd (cc)
-      at false k f = head (reply_of x.kind) refl (cond (ends_read x.kind) [] (taken s (left - length (bytes_read s x)) xs)) (tail (ends_read x.kind) k) f
+      at b k f = search (arith, head, taken, tail)
 
 -- ---- what a reading of a thread's own list takes
 
@@ -63,10 +54,7 @@ module _ (s : Space) (seat : ℕ) (v : Work) (here : In v s.todo) (on : v.list �
 
   own-list : (th : Thread) → th.seat ≡ seat → list_to_read s th ≡ filter (is_on (OfThread seat)) s.todo
   unfolding list_to_read
-  own-list th is =
-      ap (λ b. work_on s.todo (cond b (Some (OfThread th.seat)) (cond (th.looping && is_none (innermost_in s.frames th.seat)) (Some (OfProcess th.process)) None)))
-      (any-in (is_on (OfThread th.seat)) v s.todo here (subst (λ n. is_on (OfThread n) v ≡ true) (sym is) listed))
-      ∙ ap (λ n. filter (is_on (OfThread n)) s.todo) is
+  own-list th is = search (arith, any-in, listed)
 
 -- what the step takes, if it takes anything
 record Reading (s : Space) (e : Entry) : Type 0 where
@@ -76,20 +64,7 @@ record Reading (s : Space) (e : Entry) : Type 0 where
   items : items_taken s e.seat e.step ≡ taken s (limit - 4) (list_to_read s actor_is.thread)
 
 reading : (s : Space) (e : Entry) (v : Work) → In v (items_taken s e.seat e.step) → Reading s e
-reading s e v l = at e.step refl l
-  where
-    faults : (limit : ℕ) (a : Actor) → actor s e.seat ≡ Some a → (o : Option Fault) → items_taken s e.seat e.step ≡ items_unless o (taken s (limit - 4) (list_to_read s a.thread))
-        → In v (items_unless o (taken s (limit - 4) (list_to_read s a.thread))) → Reading s e
-    faults limit a i (Some f) step k = absurd k
-    faults limit a i None step k = record { actor_is = a; limit = limit; acts = i; items = step }
-
-    acting : (limit : ℕ) (o : Option Actor) → actor s e.seat ≡ o → items_taken s e.seat e.step ≡ items_read s limit o → In v (items_read s limit o) → Reading s e
-    acting limit None i step k = absurd k
-    acting limit (Some a) i step k = faults limit a i (read_fault limit (list_to_read s a.thread)) step k
-
-    at : (x : Step) → e.step ≡ x → In v (items_taken s e.seat x) → Reading s e
-    at (Read limit) i k = acting limit (actor s e.seat) refl (ap (λ x. items_taken s e.seat x) i) k
-    at _ i k = absurd k
+reading s e v l = search (arith, taken)
 
 -- where something stands on the thread's own list, all that its reading takes is of it
 module _ (s : Space) (e : Entry) (v : Work) (here : In v s.todo) (on : v.list ≡ OfThread e.seat) where
@@ -103,8 +78,7 @@ module _ (s : Space) (e : Entry) (v : Work) (here : In v s.todo) (on : v.list �
       (i.0, listed-on x.list i.1)
     where
       listed-on : (list : TodoList) → same_list (OfThread e.seat) list ≡ true → list ≡ OfThread e.seat
-      listed-on (OfThread u) q = ap (λ n. OfThread n) (sym (eqb-true e.seat u q))
-      listed-on (OfProcess p) q = absurd (cc)
+      listed-on list q = search (arith, eqb-true)
 
 -- ---- a reply that is taken is the first
 
@@ -122,16 +96,11 @@ module _ (s : Space) (v : Work) (b : ℕ) (is_reply : reply_of v.kind ≡ Some b
 
       head : (c : Bool) → ends_read x.kind ≡ c → (o : Option ℕ) → reply_of x.kind ≡ o → (In v rest → first_reply_in rest ≡ Some b) → (x ≡ v) ⊎ In v (cond c [] rest)
           → first_of (o ∷ map (λ (y : Work). reply_of y.kind) (cond c [] rest)) ≡ Some b
-      head c q None r k (inl is) = let some = ap (λ (y : Work). reply_of y.kind) is ∙ is_reply in absurd (cc)
-      head c q (Some d) r k (inl is) = sym r ∙ ap (λ (y : Work). reply_of y.kind) is ∙ is_reply
-      head true q o r k (inr i) = absurd i
-      head false q None r k (inr i) = k i
-      head false q (Some d) r k (inr i) = let ends = (reply-kind x.kind d r).1 in absurd (cc)
+      head c q o r k h = search (arith, reply-kind)
 
       at : (c : Bool) → (In v rest → first_reply_in rest ≡ Some b) → In v (cond c [] (x ∷ cond (ends_read x.kind) [] rest))
           → first_reply_in (cond c [] (x ∷ cond (ends_read x.kind) [] rest)) ≡ Some b
-      at true k i = absurd i
-      at false k i = head (ends_read x.kind) refl (reply_of x.kind) refl k i
+      at c k i = search (arith, head)
 
 -- what stands before the reply is none
 before-in : (ws : List Work) (v : Work) → In v (before_reply ws) → In v ws × (is_none (reply_of v.kind) ≡ true)
@@ -140,9 +109,7 @@ before-in (x ∷ xs) v l = at (is_none (reply_of x.kind)) refl (before-in xs v) 
   where
     at : (b : Bool) → is_none (reply_of x.kind) ≡ b → (In v (before_reply xs) → In v xs × (is_none (reply_of v.kind) ≡ true)) → In v (cond b (x ∷ before_reply xs) [])
         → In v (x ∷ xs) × (is_none (reply_of v.kind) ≡ true)
-    at true e k (inl is) = (inl is, ap (λ (y : Work). is_none (reply_of y.kind)) (sym is) ∙ e)
-    at true e k (inr i) = (inr (k i).0, (k i).1)
-    at false e k i = absurd i
+    at b e k h = search arith
 
 -- ---- a reply that stands is all that its step tells its thread
 

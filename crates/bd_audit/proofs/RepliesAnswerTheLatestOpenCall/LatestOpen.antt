@@ -1,7 +1,7 @@
 -- An accepted reply closes its caller's latest open call, and a thread with an unread reply makes no call.
-use Rattle.bd_laws.proofs.words.Logic.{◌≡◌, ℕ, ◌<◌, ◌≤◌, ◌==◌, Bool, true, false, not, ◌&&◌, ◌||◌, List, [], ◌∷◌, Option, Some, None, Result, Ok, Err, ◌⊎◌, inl, inr, refl, ap, sym, subst, ◌∙◌, arith, nat_le, list_any, is_some, is_none, option_map, option_and_then_some, eqb-true, eq-eqb, le-leb, leb-true, cases_lt}
-use Rattle.bd_laws.proofs.words.Types.{TransactionData, Cause, NotServing, Unread, Parcel, Command, Accepted, Entry, Work, Frame, Actor, OfThread, WorkKind}
-use Rattle.bd_laws.proofs.words.Space.{when, first_of, Space, opening, actor, calls, is_frame, innermost, innermost_in, served_innermost, made_of, has_unread, keeps_from_calling, is_on, same_list, Delivery, transaction_check, transaction_outcome, transaction_step, caller_cause, is_one_way, reply_check, reply_to, reply_outcome, reply_step, caller_of, command_step, change, by_actor, History, after}
+use Rattle.bd_laws.proofs.words.Logic.{◌≡◌, ℕ, ◌<◌, ◌≤◌, ◌==◌, Bool, true, false, not, ◌&&◌, ◌||◌, List, [], ◌∷◌, Option, Some, None, Ok, ◌⊎◌, inl, inr, refl, ap, sym, subst, ◌∙◌, arith, nat_le, list_any, is_some, is_none, option_map, option_and_then_some, eqb-true, eq-eqb, le-leb, leb-true, cases_lt}
+use Rattle.bd_laws.proofs.words.Types.{TransactionData, NotServing, Unread, Parcel, Command, Accepted, Entry, Work, Frame, Actor, OfThread, WorkKind}
+use Rattle.bd_laws.proofs.words.Space.{when, first_of, Space, opening, actor, calls, is_frame, innermost, innermost_in, served_innermost, made_of, has_unread, keeps_from_calling, is_on, same_list, Delivery, transaction_step, caller_cause, is_one_way, reply_check, reply_step, caller_of, command_step, change, History, after}
 use Rattle.bd_uapi.specs.declared.command.Command.TheVariants as bc
 use Rattle.bd_space.specs.declared.space.WorkKind.TheVariants as work
 use Rattle.bd_links.specs.TodoList.{reply_of}
@@ -32,33 +32,12 @@ record Reply (s : Space) (e : Entry) (d : TransactionData) (parcel : Option Parc
 
 reply-tested : (s : Space) (e : Entry) (d : TransactionData) (parcel : Option Parcel) → (change s e.seat (Command (bc.Reply d) parcel)).answer ≡ Accepted → Reply s e d parcel
 unfolding change command_step reply_step
-reply-tested s e d parcel h = at (actor s e.seat) refl h
-  where
-    checks : (a : Actor) → actor s e.seat ≡ Some a → (f : Frame) → served_innermost s a.thread.seat ≡ Some f → (r : Result Delivery Cause) → reply_check s a d parcel f ≡ r
-        → (reply_outcome s a d f r).answer ≡ Accepted → Reply s e d parcel
-    checks a i f j (Err x) k q = absurd (cc)
-    checks a i f j (Ok v) k q = record { actor_is = a; acts = i; frame = f; serves = j; delivery = v; checked = k }
-
-    serves : (a : Actor) → actor s e.seat ≡ Some a → (o : Option Frame) → served_innermost s a.thread.seat ≡ o → (reply_to s a d parcel o).answer ≡ Accepted → Reply s e d parcel
-    serves a i None j q = absurd (cc)
-    serves a i (Some f) j q = checks a i f j (reply_check s a d parcel f) refl q
-
-    at : (o : Option Actor) → actor s e.seat ≡ o → (by_actor s o (λ a. command_step s a (bc.Reply d) parcel)).answer ≡ Accepted → Reply s e d parcel
-    at None i q = absurd (cc)
-    at (Some a) i q = serves a i (served_innermost s a.thread.seat) refl q
+reply-tested s e d parcel h = search arith
 
 call-tested : (s : Space) (e : Entry) (d : TransactionData) (parcel : Option Parcel) → is_one_way d ≡ false → (change s e.seat (Command (bc.Transaction d) parcel)).answer ≡ Accepted
     → caller_cause s e.seat ≡ None
 unfolding change command_step transaction_step
-call-tested s e d parcel two_way h = at (actor s e.seat) refl h
-  where
-    checks : (a : Actor) → actor s e.seat ≡ Some a → (r : Result Delivery Cause) → transaction_check s a d parcel ≡ r → (transaction_outcome s a d r).answer ≡ Accepted → caller_cause s e.seat ≡ None
-    checks a i (Err x) k q = absurd (cc)
-    checks a i (Ok v) k q = subst (λ n. caller_cause s n ≡ None) (actor-made s e.seat a i).0 (transaction-may_call s a d parcel v k two_way)
-
-    at : (o : Option Actor) → actor s e.seat ≡ o → (by_actor s o (λ a. command_step s a (bc.Transaction d) parcel)).answer ≡ Accepted → caller_cause s e.seat ≡ None
-    at None i q = absurd (cc)
-    at (Some a) i q = checks a i (transaction_check s a d parcel) refl q
+call-tested s e d parcel two_way h = search (arith, actor-made, transaction-may_call)
 
 -- a thread with an unread reply has a cause against a call
 unread-stops : (s : Space) (seat b : ℕ) (w : Work) → In w s.todo → reply_of w.kind ≡ Some b → w.list ≡ OfThread seat → caller_cause s seat ≡ None → ⊥
@@ -77,9 +56,7 @@ unread-stops s seat b w l e on none =
     in-way p q h k = rw (h, k) refl
 
     at : (p q : Bool) → q ≡ true → first_of (when p NotServing ∷ when q Unread ∷ []) ≡ None → ⊥
-    at true q h k = absurd (cc)
-    at false true h k = absurd (cc)
-    at false false h k = absurd (cc)
+    at p q h k = search arith
 
 -- ---- one thread makes a call
 
@@ -144,8 +121,7 @@ latest-open es w c m n called k =
     both-true p q h k = rw (h, k) refl
 
     not-later : (p : Bool) (x : ℕ) → (p ≡ true → x ≤ c) → (not p || nat_le x c) ≡ true
-    not-later true x h = le-leb x c (h refl)
-    not-later false x h = refl
+    not-later p x h = search (arith, le-leb)
 
     called-later : (k : At es w (λ z e. AnswersCall z e c n)) (x : ℕ) → Called k.0 c x → Called es c x
     called-later k x h = subst (λ y. Called y c x) (sym k.2.all) (at-more k.0 (k.1 ∷ k.2.rest) c (λ z e. Calls z e x) h)
@@ -159,18 +135,15 @@ find-reply (x ∷ xs) b = at (reply_of x.kind) refl (find-reply xs b)
   where
     rest : (reply_of x.kind ≡ Some b → ⊥) → ((v : Work) × In v xs × (reply_of v.kind ≡ Some b)) ⊎ ((v : Work) → In v xs → reply_of v.kind ≡ Some b → ⊥)
         → ((v : Work) × In v (x ∷ xs) × (reply_of v.kind ≡ Some b)) ⊎ ((v : Work) → In v (x ∷ xs) → reply_of v.kind ≡ Some b → ⊥)
-    rest other (inl k) = inl (k.0, inr k.1, k.2)
-    rest other (inr k) = inr (λ v l e. elim l [ inl is ↦ other (ap (λ (y : Work). reply_of y.kind) is ∙ e) | inr i ↦ k v i e ])
+    rest other h = search arith
 
     by : (c : ℕ) (q : Bool) → reply_of x.kind ≡ Some c → (c == b) ≡ q → ((v : Work) × In v xs × (reply_of v.kind ≡ Some b)) ⊎ ((v : Work) → In v xs → reply_of v.kind ≡ Some b → ⊥)
         → ((v : Work) × In v (x ∷ xs) × (reply_of v.kind ≡ Some b)) ⊎ ((v : Work) → In v (x ∷ xs) → reply_of v.kind ≡ Some b → ⊥)
-    by c true e t k = inl (x, inl refl, e ∙ ap (λ n. Some n) (eqb-true c b t))
-    by c false e t k = rest (λ f. let is : c ≡ b = (let j : Some c ≡ Some b = sym e ∙ f in cc) in let yes = eq-eqb c b is in absurd (cc)) k
+    by c q e t k = search (arith, eqb-true, rest, eq-eqb)
 
     at : (o : Option ℕ) → reply_of x.kind ≡ o → ((v : Work) × In v xs × (reply_of v.kind ≡ Some b)) ⊎ ((v : Work) → In v xs → reply_of v.kind ≡ Some b → ⊥)
         → ((v : Work) × In v (x ∷ xs) × (reply_of v.kind ≡ Some b)) ⊎ ((v : Work) → In v (x ∷ xs) → reply_of v.kind ≡ Some b → ⊥)
-    at None e k = rest (λ f. absurd (cc)) k
-    at (Some c) e k = by c (c == b) e refl k
+    at o e k = search (arith, rest)
 
 module _ (h : History) (s w : ℕ) (taken : reply_taken_at h s ≡ Some w) where
   pub answer : Answered h s w
@@ -241,5 +214,4 @@ module _ (h : History) (s w : ℕ) (taken : reply_taken_at h s ≡ Some w) where
   ]
     where
       not-later : (p : Bool) (x c : ℕ) → p ≡ true → (not p || nat_le x c) ≡ true → x ≤ c
-      not-later true x c e q = leb-true x c q
-      not-later false x c e q = absurd (cc)
+      not-later p x c e q = search (arith, leb-true)

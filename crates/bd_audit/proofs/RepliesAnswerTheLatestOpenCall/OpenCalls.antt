@@ -1,14 +1,13 @@
 -- Where a call stands open, and which list its thread reads.
-use Rattle.bd_laws.proofs.words.Logic.{◌≡◌, ℕ, zero, suc, ◌<◌, ◌==◌, Bool, true, false, cond, not, ◌&&◌, List, ◌++◌, length, Option, Some, None, Ok, Err, Result, ◌⊎◌, inl, inr, refl, ap, sym, subst, ◌∙◌, filter, arith, find, is_none, eqb-true}
+use Rattle.bd_laws.proofs.words.Logic.{◌≡◌, ℕ, zero, suc, ◌<◌, Bool, true, false, cond, ◌&&◌, List, ◌++◌, length, Option, Some, None, Ok, Err, Result, ◌⊎◌, inl, inr, refl, ap, sym, subst, ◌∙◌, filter, arith, find, is_none, eqb-true}
 use Rattle.bd_laws.proofs.words.Types.{TransactionData, DeadReply, Cause, Parcel, Command, Accepted, Entry, Thread, Work, Frame, Actor, TodoList, OfThread, OfProcess, WorkKind}
-use Rattle.bd_laws.proofs.words.Space.{Space, actor, closed, is_frame, is_gone, innermost_in, owe, is_on, same_list, list_to_read, work_on, has_work_in, ripen, follow, notify, work_goes, deaths_go, names_go, objects_go, settle, settle_one, settle_times, is_abandoned, Delivery, delivered, completed, transaction_step, transaction_outcome, transaction_check, transacted, called, call_out, is_one_way, command_step, taken, change, by_actor, is_spam}
+use Rattle.bd_laws.proofs.words.Space.{Space, actor, closed, is_gone, innermost_in, owe, is_on, same_list, list_to_read, work_on, has_work_in, ripen, follow, notify, work_goes, deaths_go, names_go, objects_go, settle, settle_one, settle_times, is_abandoned, Delivery, delivered, completed, transaction_step, transaction_outcome, transaction_check, transacted, called, call_out, is_one_way, command_step, taken, change, by_actor, is_spam}
 use Rattle.bd_uapi.specs.declared.command.Command.TheVariants as bc
 use Rattle.bd_space.specs.declared.space.WorkKind.TheVariants as work
 use Rattle.bd_laws.specs.Lists.{In}
 use Rattle.bd_laws.proofs.Lists.{in-last, in-push, in-filter, filter-in, find-in}
 use Rattle.bd_laws.proofs.Tests.{both, not-false}
 use Rattle.bd_laws.proofs.Checks.{transaction-checked}
-use Rattle.bd_laws.proofs.IsInTurn.Ripening.{read-in}
 use Rattle.bd_audit.specs.Replies.{thread_made, At}
 use Rattle.bd_audit.specs.Latest.{Closes, ReadsAnswer, is_answer}
 use Rattle.bd_laws.proofs.IsInTurn.Ripening as read
@@ -56,20 +55,16 @@ abbrev pub told : Space → Option ℕ → WorkKind → Space
 told y caller kind = elim caller as (λ (o : Option ℕ). Space) [ None ↦ y | Some t ↦ owe y (OfThread t) kind ]
 
 pub told-frames : (y : Space) (caller : Option ℕ) (kind : WorkKind) → (told y caller kind).frames ≡ y.frames
-told-frames y None kind = refl
-told-frames y (Some t) kind = owe-frames y (OfThread t) kind
+told-frames y caller kind = search (arith, owe-frames)
 
 pub told-threads : (y : Space) (caller : Option ℕ) (kind : WorkKind) → (told y caller kind).threads ≡ y.threads
-told-threads y None kind = refl
-told-threads y (Some t) kind = owe-threads y (OfThread t) kind
+told-threads y caller kind = search (arith, owe-threads)
 
 pub told-steps : (y : Space) (caller : Option ℕ) (kind : WorkKind) → (told y caller kind).steps ≡ y.steps
-told-steps y None kind = refl
-told-steps y (Some t) kind = owe-steps y (OfThread t) kind
+told-steps y caller kind = search (arith, owe-steps)
 
 pub told-holds : (y : Space) (caller : Option ℕ) (kind : WorkKind) → Holds (told y caller kind).todo y.todo
-told-holds y None kind = λ w a l. l
-told-holds y (Some t) kind = holds-owe y (OfThread t) kind
+told-holds y caller kind = search (arith, holds-owe)
 
 pub told-waits : (y : Space) (caller : Option ℕ) (kind : WorkKind) (n : ℕ) → is_answer kind ≡ true → y.steps ≡ n → (t : ℕ) → caller ≡ Some t → Waits (told y caller kind) t n
 unfolding owe
@@ -84,19 +79,11 @@ Open z n = StandsIn z n × ((g : Frame) → In g z.frames → g.made ≡ n → i
 
 module _ (n : ℕ) where
   told-open : (y : Space) (caller : Option ℕ) (kind : WorkKind) → Open y n → Open (told y caller kind) n
-  told-open y None kind h = h
-  told-open y (Some t) kind h = subst (λ fs. ((f : Frame) × In f fs × (f.made ≡ n)) × ((g : Frame) → In g fs → g.made ≡ n → is_gone g.server ≡ false)) (sym (owe-frames y (OfThread t) kind)) h
+  told-open y caller kind h = search (arith, owe-frames)
 
   closed-open : (z : Space) (f : Frame) → (f.made ≡ n → ⊥) → Open z n → Open (closed z f.made) n
   unfolding closed
-  closed-open z f other h = (
-    (h.0.0, filter-in (λ (x : Frame). not (is_frame f.made x)) h.0.0 z.frames h.0.1 (not-false (is_frame f.made h.0.0) (at (h.0.0.made == f.made) refl)), h.0.2),
-    (λ g l is. h.1 g (in-filter (λ (x : Frame). not (is_frame f.made x)) g z.frames l).0 is),
-  )
-    where
-      at : (b : Bool) → (h.0.0.made == f.made) ≡ b → b ≡ false
-      at true e = absurd (other (sym (eqb-true h.0.0.made f.made e) ∙ h.0.2))
-      at false e = refl
+  closed-open z f other h = search (arith, filter-in, not-false, in-filter, eqb-true)
 
   settled-one : (z : Space) (o : Option Frame) → find (is_abandoned z.frames) z.frames ≡ o → Open z n → Open (settle_one z o) n
   settled-one z None e h = h
@@ -146,8 +133,7 @@ called-stands s seat d parcel below two_way h = at (actor s seat) h
     checks a (Ok v) k q = (completed-open s.steps (transacted s a d v) (transacted-open s a d v ((transaction-checked s a d parcel v k).one_way ∙ two_way) below)).0
 
     at : (o : Option Actor) → (by_actor s o (λ a. command_step s a (bc.Transaction d) parcel)).answer ≡ Accepted → StandsIn (by_actor s o (λ a. command_step s a (bc.Transaction d) parcel)).space s.steps
-    at None q = absurd (cc)
-    at (Some a) q = checks a (transaction_check s a d parcel) refl q
+    at o q = search (arith, checks)
 
 -- ---- which list is read
 
@@ -160,6 +146,4 @@ read-on s th left w t l on = at (has_work_in s.todo (OfThread th.seat)) (th.loop
     own list i = ap (λ x. same_list list x) (sym on) ∙ (in-filter (is_on list) w s.todo i).1
 
     at : (b c : Bool) → In w (work_on s.todo (cond b (Some (OfThread th.seat)) (cond c (Some (OfProcess th.process)) None))) → t ≡ th.seat
-    at true c i = sym (eqb-true th.seat t (own (OfThread th.seat) i))
-    at false true i = let wrong = own (OfProcess th.process) i in absurd (cc)
-    at false false i = absurd i
+    at b c i = search (arith, eqb-true, own)

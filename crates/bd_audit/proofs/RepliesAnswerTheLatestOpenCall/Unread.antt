@@ -47,19 +47,7 @@ Held z y = Holds z.todo y.todo
 
 holds_table : Table Held Any
 unfolding with_thread with_looping without_buffer work_goes
-holds_table = record {
-  same = λ z w a l. l;
-  trans = λ z y x. holds-trans z.todo y.todo x.todo;
-  beside = λ z qs m os rs ns ds w a l. l;
-  seats = λ z seat p w a l. l;
-  loops = λ z t looping w a l. l;
-  frees = λ z made w a l. l;
-  owes = λ z list kind any. holds-owe z list kind;
-  sheds = λ z. holds-filter (λ w. still_due z.processes z.objects z.references z.deaths w.kind) z.todo (λ w a. answer-due z.processes z.objects z.references z.deaths w.kind a);
-  notice = λ o. tt;
-  death = λ made. tt;
-  clear = λ cookie. tt;
-}
+holds_table = search (arith, holds-trans, holds-owe, holds-filter, answer-due)
 
 withdrawn-holds : (z : Space) (o : ObjectId) → Holds (filter (λ (w : Work). not (is_notice o w.kind)) z.todo) z.todo
 withdrawn-holds z o = holds-filter (λ (w : Work). not (is_notice o w.kind)) z.todo (λ w a. no-notice o w.kind a)
@@ -148,11 +136,7 @@ transacted-leaves = transacted-by Leaves Any leaves_table (λ z o. leaves-same _
 -- ---- threads and processes that end
 
 not-on : (gone t : ℕ) (list : TodoList) → list ≡ OfThread t → (t == gone) ≡ false → not (same_list (OfThread gone) list) ≡ true
-not-on gone t list on other = ap (λ l. not (same_list (OfThread gone) l)) on ∙ not-false (gone == t) (at (gone == t) refl)
-  where
-    at : (b : Bool) → (gone == t) ≡ b → b ≡ false
-    at true e = let is : gone ≡ t = eqb-true gone t e in let same : (t == gone) ≡ (gone == gone) = ap (λ n. n == gone) (sym is) in let yes : (gone == gone) ≡ true = ap (λ n. gone == n) is ∙ e in absurd (cc)
-    at false e = refl
+not-on gone t list on other = search (arith, not-false, eqb-true)
 
 pub goes-leaves : (z : Space) (seat : ℕ) → Leaves (thread_goes z seat) z
 unfolding thread_goes
@@ -165,11 +149,7 @@ goes-leaves z seat = record {
 }
   where
     other : (t m : ℕ) → made_in (filter (λ (v : Thread). not (v.seat == seat)) z.threads) t ≡ Some m → (b : Bool) → (t == seat) ≡ b → (t == seat) ≡ false
-    other t m i true e =
-        let none = none-left z.threads seat in
-        let some = subst (λ n. made_in (filter (λ (v : Thread). not (v.seat == seat)) z.threads) n ≡ Some m) (eqb-true t seat e) i in
-        absurd (cc)
-    other t m i false e = e
+    other t m i b e = search (arith, none-left, eqb-true)
 
 process-leaves : (z : Space) (p : ℕ) → Leaves (without_process z p) z
 unfolding without_process

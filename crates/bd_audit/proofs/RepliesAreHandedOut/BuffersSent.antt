@@ -1,7 +1,7 @@
 -- Each reply that is due has its buffer, through transactions and replies.
 use Rattle.bd_laws.proofs.words.Logic.{◌≡◌, ℕ, ◌==◌, Bool, true, false, List, [], ◌∷◌, ◌++◌, Option, Some, None, Ok, inl, inr, refl, ap, sym, subst, ◌∙◌, arith, eqb-true}
 use Rattle.bd_laws.proofs.words.Types.{TransactionData, Parcel, Process, Thread, Buffer, Frame, Work, Actor, TodoList, OfThread, WorkKind}
-use Rattle.bd_laws.proofs.words.Space.{Space, actor, with_work, owe, hands_out, assign_numbers, closed, goes_to, Delivery, delivered, own_notices, add_buffer, known_by, refer, make_objects, buffer_of, transacted, called, call_out, reply_check, replied, is_spam}
+use Rattle.bd_laws.proofs.words.Space.{Space, actor, with_work, owe, hands_out, assign_numbers, closed, goes_to, Delivery, delivered, own_notices, add_buffer, known_by, refer, make_objects, buffer_of, transacted, called, call_out, reply_check, replied}
 use Rattle.bd_space.specs.declared.space.WorkKind.TheVariants as work
 use Rattle.bd_links.specs.TodoList.{reply_of}
 use Rattle.bd_laws.proofs.words.Laws.{In, IsInTurn}
@@ -37,8 +37,7 @@ reply-hands (work.Reply c) b e = e
 reply-hands _ b e = absurd (cc)
 
 pub has-moved : (ts us : List Thread) (bs cs : List Buffer) (list : TodoList) (b : ℕ) → (x : HasBuffer ts bs list b) → In x.buffer cs → In x.thread us → HasBuffer us cs list b
-has-moved ts us bs cs list b x here lives =
-    record { buffer = x.buffer; here = here; made = x.made; handed = x.handed; two_way = x.two_way; thread = x.thread; lives = lives; on = x.on; receiver = x.receiver }
+has-moved ts us bs cs list b x here lives = search arith
 
 -- ---- nothing more that hands a buffer over, and no buffer and no thread less
 
@@ -138,12 +137,7 @@ unfolding owe delivered own_notices add_buffer known_by assign_numbers refer mak
 sent-buffers s a d v spam = refl
 
 sends : (s : Space) (a : Actor) (d : TransactionData) (v : Delivery) (spam : Bool) → RepliesHeld s → RepliesHeld (sent s a d v spam)
-sends s a d v spam h =
-    grown (sent s a d v spam) s (record {
-      due = sent-due s a d v spam;
-      buffers = λ c l. subst (In c) (sym (sent-buffers s a d v spam)) (in-left c s.buffers _ l);
-      threads = λ t l. (t, subst (In t) (sym (sent-threads s a d v spam)) l, refl, refl);
-    }) h
+sends s a d v spam h = search (arith, grown, sent, sent-due, sent-buffers, in-left, sent-threads)
 
 calls-out : (y : Space) (seat p : ℕ) (one_way : Bool) → ((w : Work) → In w y.todo → reply_of w.kind ≡ Some y.steps → ⊥) → RepliesHeld y → RepliesHeld (called y seat p one_way)
 unfolding call_out owe
@@ -156,13 +150,7 @@ unmade s turns w l e = let lt = turns.fresh s.steps (w, l, e) in absurd (omega a
 
 pub transacts : (s : Space) (a : Actor) (d : TransactionData) (v : Delivery) → IsInTurn s → RepliesHeld s → RepliesHeld (transacted s a d v)
 unfolding transacted
-transacts s a d v turns h =
-    let spam = is_spam (delivered s a d v) a v in
-    calls-out (sent s a d v spam) a.thread.seat v.receiver.made v.one_way
-    (λ w l e.
-    let k = reply-hands w.kind s.steps (e ∙ ap (λ n. Some n) (sent-steps s a d v spam)) in
-    unmade s turns w (sent-due s a d v spam w s.steps l k) k)
-    (sends s a d v spam h)
+transacts s a d v turns h = search (arith, calls-out, sent, reply-hands, sent-steps, unmade, sent-due, sends)
 
 answers : (y : Space) (caller : Option ℕ) (n : ℕ) → ((v : Work) → In v y.todo → hands_out v.kind ≡ Some n → ⊥)
     → ((t : ℕ) → caller ≡ Some t → HasBuffer y.threads y.buffers (OfThread t) n) → RepliesHeld y

@@ -1,8 +1,8 @@
 -- What a refusal or a verdict tells its reader is never a BR_REPLY.
+use Rattle.bd_laws.proofs.words.Logic.{arith}
 use Rattle.bd_laws.proofs.words.Logic.{◌≡◌, ℕ, Bool, true, false, not, List, [], ◌∷◌, ◌++◌, Option, Some, None, inl, inr, refl, ap, sym, ◌∙◌}
 use Rattle.bd_laws.proofs.words.Types.{TransactionData, DeadReply, FailedReply, TransactionComplete, Cause, Step, Entry, Frame, Work, Actor, OfThread, WorkKind}
 use Rattle.bd_laws.proofs.words.Space.{Space, opening, owe, closed, Delivery, delivered, add_buffer, transacted, call_out, refusal, replied, reply_refused, read_by, counted, after, next}
-use Rattle.bd_uapi.specs.declared.fault.Cause.TheVariants as cause
 use Rattle.bd_space.specs.declared.space.WorkKind.TheVariants as work
 use Rattle.bd_laws.specs.Lists.{In}
 use Rattle.bd_laws.proofs.Machine.EveryStep.{KeepsWhole, every_whole_step, every_list}
@@ -24,22 +24,7 @@ abbrev pub IsPlain : Space → Type 0
 IsPlain z = Plain z.todo
 
 refusal-plain : (c : Cause) → is_plain (work.Refusal (refusal c)) ≡ true
-refusal-plain cause.NotStronglyNamed = refl
-refusal-plain cause.NoManager = refl
-refusal-plain cause.OwnManager = refl
-refusal-plain cause.DeadOwner = refl
-refusal-plain cause.NotServing = refl
-refusal-plain cause.Unread = refl
-refusal-plain cause.OutsideArea = refl
-refusal-plain cause.OffsetsSize = refl
-refusal-plain cause.BadObject = refl
-refusal-plain cause.UnsupportedObject = refl
-refusal-plain cause.OtherCookie = refl
-refusal-plain cause.NotHeld = refl
-refusal-plain cause.NoRoom = refl
-refusal-plain cause.OverBudget = refl
-refusal-plain cause.NoCall = refl
-refusal-plain cause.CallerGone = refl
+refusal-plain c = search arith
 
 -- ---- one item more, and fewer
 
@@ -54,15 +39,7 @@ abbrev Allowed : WorkKind → Type 0
 Allowed kind = is_plain kind ≡ true
 
 listing : Listing Kept Allowed
-listing = record {
-  same = λ todo h. h;
-  trans = λ xs ys zs h k l. h (k l);
-  push = push-plain;
-  fewer = λ p todo h w l. h w (in-filter p w todo l).0;
-  notice = λ o. refl;
-  death = λ made. refl;
-  clear = λ cookie. refl;
-}
+listing = search (arith, push-plain, in-filter)
 
 abbrev Keeping : Space → Space → Type 0
 Keeping = Between Kept Allowed listing

@@ -1,9 +1,9 @@
 -- What a reading hands out has a BR_REPLY exactly where the reading takes a reply.
-use Rattle.bd_laws.proofs.words.Logic.{◌≡◌, ℕ, ◌-◌, Bool, true, false, cond, not, ◌&&◌, ◌||◌, List, [], ◌∷◌, ◌++◌, append_assoc, Option, Some, None, Result, Ok, Err, inl, inr, refl, ap, sym, subst, ◌∙◌, map, list_any, concat, flat_map, find, option_map, is_some, eq-eqb, list_any-append}
-use Rattle.bd_laws.proofs.words.Types.{TransactionData, Return, Cause, Fault, Note, NotHandedOut, ObjectId, Parcel, Step, Open, Attach, SetManager, Command, Read, ExitThread, ExitProcess, StepAnswer, Got, Accepted, Noted, Entry, Process, Object, Reference, Frame, Buffer, Work, Actor, DeathNotification, WorkKind, SetSpam}
-use Rattle.bd_laws.proofs.words.Space.{first_of, Space, opening, actor, thread_in, process_with_pid, object_in, held_in, strong_in, list_to_read, served_innermost, Delivery, transaction_step, transaction_outcome, transaction_check, reply_step, reply_to, reply_outcome, reply_check, free_step, free_outcome, buffer_at_pointer, without_buffer, is_made_at, ask_step, ask_check, drop_step, drop_check, done_step, done_check, acknowledge, ask, drop_asked, request_step, request_check, is_notification, requested, clear_step, clear_check, death_done_step, death_done_outcome, told_death, cleared, command_step, read_step, read_taking, read_fault, got, taken, buffer_taken, stream_of, bytes_read, buffer_in, data_of, one, returns_of, returns_of_object, exit_thread_step, exit_process_step, Outcome, completed, refused, by_check, change, open_step, open_outcome, open_fault, attach_step, attach_outcome, manager_step, manager_outcome, is_manager_busy, by_actor, History, IsHistory, Follows, after, spam_step}
+use Rattle.bd_laws.proofs.words.Logic.{arith}
+use Rattle.bd_laws.proofs.words.Logic.{◌≡◌, ℕ, ◌-◌, Bool, true, false, cond, not, ◌||◌, List, [], ◌∷◌, ◌++◌, append_assoc, Option, Some, None, Result, inl, inr, refl, ap, sym, subst, ◌∙◌, map, list_any, concat, flat_map, find, option_map, is_some, eq-eqb, list_any-append}
+use Rattle.bd_laws.proofs.words.Types.{TransactionData, Return, Cause, Fault, Note, ObjectId, Parcel, Step, Open, Attach, SetManager, Command, Read, ExitThread, ExitProcess, StepAnswer, Got, Entry, Process, Object, Reference, Frame, Buffer, Work, Actor, DeathNotification, WorkKind, SetSpam}
+use Rattle.bd_laws.proofs.words.Space.{first_of, Space, opening, actor, thread_in, process_with_pid, object_in, list_to_read, Delivery, transaction_step, transaction_outcome, reply_step, reply_to, reply_outcome, free_step, free_outcome, is_made_at, ask_step, drop_step, done_step, acknowledge, ask, drop_asked, request_step, is_notification, requested, clear_step, death_done_step, death_done_outcome, cleared, command_step, read_step, read_taking, read_fault, got, taken, buffer_taken, stream_of, bytes_read, buffer_in, data_of, one, returns_of, returns_of_object, exit_thread_step, exit_process_step, Outcome, refused, by_check, change, open_step, open_outcome, open_fault, attach_step, attach_outcome, manager_step, manager_outcome, is_manager_busy, by_actor, History, IsHistory, Follows, after, spam_step}
 use Rattle.bd_uapi.specs.declared.command.Command as command
-use Rattle.bd_uapi.specs.declared.command.Command.TheVariants as bc
 use Rattle.bd_uapi.specs.declared.command.Return.TheVariants as br
 use Rattle.bd_codec.specs.Spelling.{return_bytes}
 use Rattle.bd_space.specs.declared.space.WorkKind.TheVariants as work
@@ -27,41 +27,25 @@ abbrev HasReply : List Return → Bool
 HasReply rs = list_any is_reply rs
 
 none-if : (b : Bool) (r : Return) → is_reply r ≡ false → HasReply (cond b (r ∷ []) []) ≡ false
-none-if true r e = rw e refl
-none-if false r e = refl
+none-if b r e = search arith
 
 none-both : (xs ys : List Return) → HasReply xs ≡ false → HasReply ys ≡ false → HasReply (xs ++ ys) ≡ false
 none-both xs ys h k = list_any-append is_reply xs ys ∙ rw (h, k) refl
 
 notice-none : (references : List Reference) (o : Option Object) → HasReply (returns_of_object references o) ≡ false
-notice-none references None = refl
-notice-none references (Some x) =
-    let held = held_in references x.id in
-    let strong = strong_in references x.id in
-    let increfs : List Return = cond (held && not x.told_weak) (br.Increfs x.ptr x.cookie ∷ []) [] in
-    let acquire : List Return = cond (strong && not x.told_strong) (br.Acquire x.ptr x.cookie ∷ []) [] in
-    let release : List Return = cond (x.told_strong && not strong) (br.Release x.ptr x.cookie ∷ []) [] in
-    let decrefs : List Return = cond (x.told_weak && not held) (br.Decrefs x.ptr x.cookie ∷ []) [] in
-    none-both (increfs ++ acquire ++ release) decrefs
-    (none-both (increfs ++ acquire) release
-    (none-both increfs acquire (none-if (held && not x.told_weak) (br.Increfs x.ptr x.cookie) refl) (none-if (strong && not x.told_strong) (br.Acquire x.ptr x.cookie) refl))
-    (none-if (x.told_strong && not strong) (br.Release x.ptr x.cookie) refl))
-    (none-if (x.told_weak && not held) (br.Decrefs x.ptr x.cookie) refl)
+notice-none references o = search (arith, none-both, none-if)
 
 carried-none : (r : Return) → not (is_reply r) ≡ true → HasReply (r ∷ []) ≡ false
 carried-none r h = rw (not-true (is_reply r) h) refl
 
 call-none : (z : Space) (o : Option Buffer) → HasReply (one (option_map (λ (x : Buffer). br.Transaction (data_of z x)) o)) ≡ false
-call-none z None = refl
-call-none z (Some x) = refl
+call-none z o = search arith
 
 death-none : (o : Option DeathNotification) → HasReply (one (option_map (λ (x : DeathNotification). br.DeadBinder x.cookie) o)) ≡ false
-death-none None = refl
-death-none (Some x) = refl
+death-none o = search arith
 
 reply-is : (z : Space) (o : Option Buffer) → HasReply (one (option_map (λ (x : Buffer). br.Reply (data_of z x)) o)) ≡ is_some o
-reply-is z None = refl
-reply-is z (Some x) = refl
+reply-is z o = search arith
 
 -- a reply whose buffer lives gives a BR_REPLY, and no other item does
 item-gives : (z : Space) (k : WorkKind) → is_plain k ≡ true → ((b : ℕ) → reply_of k ≡ Some b → is_some (buffer_in z.buffers b) ≡ true)
@@ -102,8 +86,7 @@ all-give z (w ∷ ws) h =
     ∙ ap (λ b. b || HasReply (returns_of_all z ws)) (h w (inl refl)) ∙ ap (λ b. is_some (reply_of w.kind) || b) (all-give z ws (λ v l. h v (inr l))) ∙ at (reply_of w.kind)
   where
     at : (o : Option ℕ) → (is_some o || is_some (first_reply_in ws)) ≡ is_some (first_of (o ∷ map (λ (v : Work). reply_of v.kind) ws))
-    at None = refl
-    at (Some b) = refl
+    at o = search arith
 
 -- ---- only a reading answers with bytes
 
@@ -111,83 +94,50 @@ abbrev IsSilent : Outcome → Type 0
 IsSilent o = is_got o.answer ≡ false
 
 acts-silent : (s : Space) (o : Option Actor) (f : Actor → Outcome) → ((a : Actor) → IsSilent (f a)) → IsSilent (by_actor s o f)
-acts-silent s None f h = refl
-acts-silent s (Some a) f h = h a
+acts-silent s o f h = search arith
 
 transaction-silent : (s : Space) (a : Actor) (d : TransactionData) (r : Result Delivery Cause) → IsSilent (transaction_outcome s a d r)
-transaction-silent s a d (Err c) = refl
-transaction-silent s a d (Ok v) = refl
+transaction-silent s a d r = search arith
 
 reply-silent : (s : Space) (a : Actor) (d : TransactionData) (f : Frame) (r : Result Delivery Cause) → IsSilent (reply_outcome s a d f r)
-reply-silent s a d f (Err c) = refl
-reply-silent s a d f (Ok v) = refl
+reply-silent s a d f r = search arith
 
 reply_to-silent : (s : Space) (a : Actor) (d : TransactionData) (parcel : Option Parcel) (o : Option Frame) → IsSilent (reply_to s a d parcel o)
-reply_to-silent s a d parcel None = refl
-reply_to-silent s a d parcel (Some f) = reply-silent s a d f (reply_check s a d parcel f)
+reply_to-silent s a d parcel o = search (arith, reply-silent)
 
 free-silent : (s : Space) (o : Option Buffer) → IsSilent (free_outcome s o)
-free-silent s None = refl
-free-silent s (Some b) = at b.handed
-  where
-    at : (handed : Bool)
-        → IsSilent (cond {A = Outcome} handed (record { answer = Accepted; space = completed (without_buffer s b.made) }) (record { answer = Noted NotHandedOut; space = s }))
-    at true = refl
-    at false = refl
+free-silent s o = search arith
 
 ask-silent : (s : Space) (p : ℕ) (strong : Bool) (r : Result ObjectId Note) → IsSilent (by_check s (λ o. ask s p o strong) r)
-ask-silent s p strong (Err n) = refl
-ask-silent s p strong (Ok o) = refl
+ask-silent s p strong r = search arith
 
 drop-silent : (s : Space) (p : ℕ) (strong : Bool) (r : Result ObjectId Note) → IsSilent (by_check s (λ o. drop_asked s p o strong) r)
-drop-silent s p strong (Err n) = refl
-drop-silent s p strong (Ok o) = refl
+drop-silent s p strong r = search arith
 
 done-silent : (s : Space) (strong : Bool) (r : Result Object Note) → IsSilent (by_check s (λ x. acknowledge s x.id strong) r)
-done-silent s strong (Err n) = refl
-done-silent s strong (Ok o) = refl
+done-silent s strong r = search arith
 
 request-silent : (s : Space) (p cookie : ℕ) (r : Result ObjectId Note) → IsSilent (by_check s (λ o. requested s p o cookie) r)
-request-silent s p cookie (Err n) = refl
-request-silent s p cookie (Ok o) = refl
+request-silent s p cookie r = search arith
 
 clear-silent : (s : Space) (t : ℕ) (r : Result DeathNotification Note) → IsSilent (by_check s (cleared s t) r)
-clear-silent s t (Err n) = refl
-clear-silent s t (Ok x) = refl
+clear-silent s t r = search arith
 
 death_done-silent : (s : Space) (t : ℕ) (o : Option DeathNotification) → IsSilent (death_done_outcome s t o)
-death_done-silent s t None = refl
-death_done-silent s t (Some x) = refl
+death_done-silent s t o = search arith
 
 command-silent : (s : Space) (a : Actor) (c : command.Command) (parcel : Option Parcel) → IsSilent (command_step s a c parcel)
 unfolding command_step transaction_step reply_step free_step ask_step drop_step done_step request_step clear_step death_done_step
-command-silent s a (bc.Transaction d) parcel = transaction-silent s a d (transaction_check s a d parcel)
-command-silent s a (bc.Reply d) parcel = reply_to-silent s a d parcel (served_innermost s a.thread.seat)
-command-silent s a (bc.FreeBuffer ptr) parcel = free-silent s (buffer_at_pointer s a.process.made ptr)
-command-silent s a (bc.Increfs n) parcel = ask-silent s a.process.made false (ask_check s a.process.made n false)
-command-silent s a (bc.Acquire n) parcel = ask-silent s a.process.made true (ask_check s a.process.made n true)
-command-silent s a (bc.Release n) parcel = drop-silent s a.process.made true (drop_check s a.process.made n true)
-command-silent s a (bc.Decrefs n) parcel = drop-silent s a.process.made false (drop_check s a.process.made n false)
-command-silent s a (bc.IncrefsDone ptr cookie) parcel = done-silent s false (done_check s a.process.made ptr cookie false)
-command-silent s a (bc.AcquireDone ptr cookie) parcel = done-silent s true (done_check s a.process.made ptr cookie true)
-command-silent s a bc.EnterLooper parcel = refl
-command-silent s a bc.ExitLooper parcel = refl
-command-silent s a (bc.RequestDeathNotification n cookie) parcel = request-silent s a.process.made cookie (request_check s a.process.made n)
-command-silent s a (bc.ClearDeathNotification n cookie) parcel = clear-silent s a.thread.seat (clear_check s a.process.made n cookie)
-command-silent s a (bc.DeadBinderDone cookie) parcel = death_done-silent s a.thread.seat (told_death s a.process.made cookie)
+command-silent s a c parcel = search (arith, transaction-silent, reply_to-silent, free-silent, ask-silent, drop-silent, done-silent, request-silent, clear-silent, death_done-silent)
 
 open-silent : (s : Space) (seat pid euid window : ℕ) (o : Option Fault) → IsSilent (open_outcome s seat pid euid window o)
-open-silent s seat pid euid window None = refl
-open-silent s seat pid euid window (Some x) = refl
+open-silent s seat pid euid window o = search arith
 
 attach-silent : (s : Space) (seat : ℕ) (q : Option Process) (b : Bool) → IsSilent (attach_outcome s seat q b)
-attach-silent s seat q true = refl
-attach-silent s seat None false = refl
-attach-silent s seat (Some q) false = refl
+attach-silent s seat q b = search arith
 
 manager-silent : (s : Space) (p : ℕ) (b : Bool) → IsSilent (manager_outcome s p b)
-manager-silent s p true = refl
-manager-silent s p false = refl
+manager-silent s p b = search arith
 
 -- ---- the bytes that a reading answers are those of the items that it takes
 
@@ -204,8 +154,7 @@ module _ (z : Space) (seat : ℕ) (stream bytes offsets : List ℕ) where
   not-silent y h e = let yes : is_got y ≡ true = ap is_got e in absurd (cc)
 
   gives : (own : List ℕ) (o : Option Buffer) → got own o ≡ Got stream bytes offsets → stream ≡ own
-  gives own None e = sym (ap stream_in e)
-  gives own (Some b) e = sym (ap stream_in e)
+  gives own o e = search arith
 
   -- with what the reading tested
   reads-list : (a : Actor) (limit : ℕ) (o : Option Fault)

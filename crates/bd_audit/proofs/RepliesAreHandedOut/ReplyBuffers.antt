@@ -1,7 +1,8 @@
 -- Each reply that is due has its buffer: not handed out yet, and in the window of the process on whose thread's list it stands.
-use Rattle.bd_laws.proofs.words.Logic.{◌≡◌, ℕ, suc, ◌-◌, ◌==◌, Bool, true, false, cond, not, ◌&&◌, List, [], ◌∷◌, ◌++◌, Option, Some, None, inl, inr, refl, ap, sym, subst, ◌∙◌, map, filter, fold, list_any, eqb-true, eq-eqb}
+use Rattle.bd_laws.proofs.words.Logic.{arith}
+use Rattle.bd_laws.proofs.words.Logic.{◌≡◌, ℕ, suc, ◌-◌, ◌==◌, Bool, true, false, cond, not, List, [], ◌∷◌, ◌++◌, Option, Some, inl, inr, refl, ap, sym, ◌∙◌, map, filter, fold, list_any, eqb-true, eq-eqb}
 use Rattle.bd_laws.proofs.words.Types.{Step, Entry, Thread, Buffer, Turn, Work, TodoList, OfThread, OfProcess}
-use Rattle.bd_laws.proofs.words.Space.{changed, is_some_and, Space, opening, with_work, is_on, same_list, is_item, hands_out, list_to_read, turn_of, turns_of, ripen, ripened, is_ripe, follow, notify, work_goes, deaths_go, names_go, assign_numbers, objects_go, without_buffer, is_made_at, taken, read_by, buffer_taken, handed_buffers, hand_out, thread_goes, is_lost_with, threads_go, without_process, tell_deaths, seat_of, counted, with_thread, with_process, with_manager, ask, drop_asked, acknowledge, with_looping, after, next, with_spam_detection}
+use Rattle.bd_laws.proofs.words.Space.{is_some_and, Space, opening, with_work, is_on, same_list, is_item, list_to_read, turn_of, turns_of, ripen, ripened, is_ripe, follow, notify, work_goes, deaths_go, names_go, assign_numbers, objects_go, without_buffer, is_made_at, taken, read_by, buffer_taken, handed_buffers, thread_goes, is_lost_with, threads_go, without_process, tell_deaths, seat_of, counted, with_thread, with_process, with_manager, ask, drop_asked, acknowledge, with_looping, after, next, with_spam_detection}
 use Rattle.bd_space.specs.declared.space.WorkKind.TheVariants as work
 use Rattle.bd_links.specs.TodoList.{reply_of}
 use Rattle.bd_laws.proofs.words.Laws.{In, IsInTurn}
@@ -9,7 +10,6 @@ use Rattle.bd_laws.proofs.Machine.EveryStep.{Keeps, every_step, every_list}
 use Rattle.bd_laws.proofs.IsInTurn.Received.{one-made}
 use Rattle.bd_laws.proofs.Lists.{in-left, in-filter, filter-in, in-filter_map, changed-in, map-in, any-found, any-in, fold-keeps}
 use Rattle.bd_laws.proofs.Tests.{both, not-true}
-use Rattle.bd_laws.proofs.IsInTurn.OneWay.{Less, owe-less, own_notices-less}
 use Rattle.bd_laws.proofs.IsInTurn.InTurn.{Turning, opening-in_turn}
 use Rattle.bd_laws.proofs.IsInTurn.Ripening.{taken-due, read-in, turn-parts}
 use Rattle.bd_laws.proofs.OnPaths.PathWords.{same-item}
@@ -74,19 +74,7 @@ module _ (s : Space) (h : RepliesHeld s) (t : Thread) (left : ℕ) where
 
   unhanded : (o : Option Buffer) → buffer_taken s ws ≡ o → (w : Work) (b : ℕ) → In w s.todo → stays w ≡ true → reply_of w.kind ≡ Some b → (c : Buffer) → In c s.buffers → c.made ≡ b
       → In c (handed_buffers s.buffers o)
-  unhanded None e w b l on f c i made = i
-  unhanded (Some x) e w b l on f c i made = at (is_made_at x.made c) refl
-    where
-      at : (q : Bool) → is_made_at x.made c ≡ q → In c (changed (is_made_at x.made) hand_out s.buffers)
-      at false k =
-          subst (λ (y : Buffer). In y (changed (is_made_at x.made) hand_out s.buffers)) (ap (λ q. cond q (hand_out c) c) k)
-          (changed-in (is_made_at x.made) hand_out c s.buffers i)
-      at true k =
-          let d = (taken-due s ws x e).1 in
-          let m : x.made ≡ b = sym (eqb-true c.made x.made k) ∙ made in
-          let is : d.0 ≡ w = h.one d.0 w b (read-in s t left d.0 d.1) l (d.2 ∙ ap (λ n. Some n) m) f in
-          let yes = any-in (λ (d : Work). is_item w d) d.0 ws d.1 (same-item w d.0 (sym is)) in
-          let no = not-true (list_any (λ (d : Work). is_item w d) ws) on in absurd (cc)
+  unhanded o e w b l on f c i made = search (arith, changed-in, taken-due, eqb-true, read-in, any-in, same-item, not-true)
 
   reads : RepliesHeld (read_by s t.seat ws)
   unfolding read_by
@@ -101,22 +89,14 @@ module _ (s : Space) (h : RepliesHeld s) (t : Thread) (left : ℕ) where
 -- ---- with a thread go the buffers that its own list would have handed over
 
 hands-over : (o : Option ℕ) (n : ℕ) → is_some_and o (λ m. m == n) ≡ true → o ≡ Some n
-hands-over None n h = absurd (cc)
-hands-over (Some m) n h = ap (λ i. Some i) (eqb-true m n h)
+hands-over o n h = search (arith, eqb-true)
 
 module _ (z : Space) (seat : ℕ) (h : RepliesHeld z) where
   unlost : (w : Work) (b : ℕ) → In w z.todo → is_on (OfThread seat) w ≡ false → reply_of w.kind ≡ Some b → (q : Bool) → is_lost_with z.todo (OfThread seat) b ≡ q → not q ≡ true
-  unlost w b l off e true k =
-      let v = any-found (λ (w : Work). is_on (OfThread seat) w && is_some_and (hands_out w.kind) (λ m. m == b)) z.todo k in
-      let p = both (is_on (OfThread seat) v.0) (is_some_and (hands_out v.0.kind) (λ m. m == b)) v.2 in
-      let is : v.0 ≡ w = h.one v.0 w b v.1 l (hands-over (hands_out v.0.kind) b p.1) e in
-      let on : is_on (OfThread seat) w ≡ true = ap (λ (y : Work). is_on (OfThread seat) y) (sym is) ∙ p.0 in absurd (cc)
-  unlost w b l off e false k = refl
+  unlost w b l off e q k = search (arith, any-found, both, hands-over)
 
   other-seat : (l : TodoList) (u : ℕ) → l ≡ OfThread u → same_list (OfThread seat) l ≡ false → (q : Bool) → (u == seat) ≡ q → not q ≡ true
-  other-seat l u on off true k =
-      let yes : same_list (OfThread seat) l ≡ true = ap (same_list (OfThread seat)) on ∙ eq-eqb seat u (sym (eqb-true u seat k)) in absurd (cc)
-  other-seat l u on off false k = refl
+  other-seat l u on off q k = search (arith, eq-eqb, eqb-true)
 
   goes : RepliesHeld (thread_goes z seat)
   unfolding thread_goes
@@ -143,9 +123,7 @@ NoThread p z = (t : Thread) → In t z.threads → t.process ≡ p → ⊥
 
 gone-in : (z : Space) (seat : ℕ) (t : Thread) → In t (thread_goes z seat).threads → In t z.threads × (t.seat ≡ seat → ⊥)
 unfolding thread_goes
-gone-in z seat t l =
-    let i = in-filter (λ (t : Thread). not (t.seat == seat)) t z.threads l in
-    (i.0, λ e. let no = not-true (t.seat == seat) i.1 in let yes = eq-eqb t.seat seat e in absurd (cc))
+gone-in z seat t l = search (arith, in-filter, not-true, eq-eqb)
 
 left-in : (seats : List ℕ) (z : Space) (t : Thread) → In t (fold thread_goes z seats).threads → In t z.threads × (In t.seat seats → ⊥)
 left-in [] z t l = (l, λ i. absurd i)
@@ -156,9 +134,7 @@ left-in (n ∷ ns) z t l =
 
 none-left : (s : Space) (p : ℕ) → NoThread p (threads_go s p)
 unfolding threads_go
-none-left s p t l e =
-    let k = left-in (map seat_of (filter (λ (t : Thread). t.process == p) s.threads)) s t l in
-    k.1 (map-in seat_of t (filter (λ (t : Thread). t.process == p) s.threads) (filter-in (λ (t : Thread). t.process == p) t s.threads k.0 (eq-eqb t.process p e)))
+none-left s p t l e = search (arith, left-in, map-in, filter-in, eq-eqb)
 
 process-goes : (z : Space) (p : ℕ) → NoThread p z → RepliesHeld z → RepliesHeld (without_process z p)
 unfolding without_process
@@ -209,8 +185,7 @@ loops z seat looping h =
     }) h
   where
     at : (q : Bool) (t : Thread) → ((cond q (record t { looping = looping }) t).seat ≡ t.seat) × ((cond q (record t { looping = looping }) t).process ≡ t.process)
-    at true t = (refl, refl)
-    at false t = (refl, refl)
+    at q t = search arith
 
 abbrev Both : Space → Type 0
 Both z = Turning z × RepliesHeld z

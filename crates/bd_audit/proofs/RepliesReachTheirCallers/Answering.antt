@@ -1,7 +1,7 @@
 -- What the frames of a history and the replies that are due have behind them.
-use Rattle.bd_laws.proofs.words.Logic.{◌≡◌, ℕ, ◌<◌, ◌-◌, Bool, true, false, cond, not, List, [], ◌∷◌, ◌++◌, length, Option, Some, None, Ok, refl, ap, sym, subst, ◌∙◌, length-append, arith, list_any, option_map, eqb-true, eq-eqb}
+use Rattle.bd_laws.proofs.words.Logic.{◌≡◌, ℕ, ◌<◌, ◌-◌, Bool, true, false, cond, not, List, [], ◌∷◌, ◌++◌, length, Option, Some, None, Ok, refl, ap, sym, subst, ◌∙◌, length-append, arith, list_any, eqb-true, eq-eqb}
 use Rattle.bd_laws.proofs.words.Types.{TransactionData, Parcel, Command, Read, Entry, Work, Frame, Actor, Serving, OfThread}
-use Rattle.bd_laws.proofs.words.Space.{Space, opening, actor, owe, is_call, list_to_read, is_item, closed, is_frame, innermost, innermost_in, served_innermost, made_of, is_deepest_in, ripen, Delivery, delivered, completed, transaction_check, transacted, called, is_one_way, reply_check, replied, taken, read_by, serve, served_frames, read_fault, change, counted, after, next, is_spam}
+use Rattle.bd_laws.proofs.words.Space.{Space, opening, actor, owe, is_call, list_to_read, is_item, closed, is_frame, innermost, served_innermost, is_deepest_in, ripen, Delivery, delivered, completed, transaction_check, transacted, called, is_one_way, reply_check, replied, taken, read_by, serve, served_frames, read_fault, change, counted, after, next, is_spam}
 use Rattle.bd_uapi.specs.declared.command.Command.TheVariants as bc
 use Rattle.bd_space.specs.declared.space.WorkKind.TheVariants as work
 use Rattle.bd_laws.specs.Lists.{In}
@@ -10,7 +10,7 @@ use Rattle.bd_laws.proofs.Lists.{in-filter, in-changed, find-in, any-found, by-l
 use Rattle.bd_laws.proofs.Tests.{not-true}
 use Rattle.bd_laws.proofs.Checks.{transaction-checked}
 use Rattle.bd_laws.proofs.OnPaths.PathWords.{served-is}
-use Rattle.bd_audit.specs.Replies.{made_in, thread_made, items_read, items_taken, items_unless, frame_of, Calls, TakesCall, AnswersCall}
+use Rattle.bd_audit.specs.Replies.{made_in, thread_made, items_taken, frame_of, Calls, TakesCall, AnswersCall}
 use Rattle.bd_audit.proofs.Beginnings.{after-append}
 use Rattle.bd_audit.proofs.NamesHaveGiftChains.Chains.{always-steps}
 use Rattle.bd_laws.proofs.Machine.Table.{keeps-by}
@@ -21,23 +21,16 @@ use Rattle.bd_audit.proofs.RepliesReachTheirCallers.Traces.{at-more, at-here, at
 -- ---- one entry more
 
 pub absent : (c : ℕ) (frames : List Frame) → ((g : Frame) → In g frames → g.made ≡ c → ⊥) → list_any (is_frame c) frames ≡ false
-absent c frames h = at (list_any (is_frame c) frames) refl
-  where
-    at : (b : Bool) → list_any (is_frame c) frames ≡ b → b ≡ false
-    at true e = let g = any-found (is_frame c) frames e in absurd (h g.0 g.1 (eqb-true g.0.made c g.2))
-    at false e = refl
+absent c frames h = search (arith, any-found, eqb-true)
 
 pub closed-absent : (z : Space) (c : ℕ) (g : Frame) → In g (closed z c).frames → g.made ≡ c → ⊥
 unfolding closed
-closed-absent z c g l e =
-    let out = not-true (is_frame c g) (in-filter (λ (f : Frame). not (is_frame c f)) g z.frames l).1 in
-    let is = eq-eqb g.made c e in absurd (cc)
+closed-absent z c g l e = search (arith, not-true, in-filter, eq-eqb)
 
 replied-frames : (y : Space) (caller : Option ℕ) (n : ℕ) (g : Frame)
     → In g (elim caller as (λ (o : Option ℕ). Space) [ None ↦ y | Some t ↦ owe y (OfThread t) (work.Reply n) ]).frames → In g y.frames
 unfolding owe
-replied-frames y None n g l = l
-replied-frames y (Some t) n g l = l
+replied-frames y caller n g l = search arith
 
 replied-absent : (s : Space) (a : Actor) (d : TransactionData) (f : Frame) (v : Delivery) (g : Frame) → In g (replied s a d f v).frames → g.made ≡ f.made → ⊥
 unfolding replied
@@ -71,14 +64,7 @@ module _ (es : List Entry) (e : Entry) (h : Traced es (after opening es)) where
 
     calls : (d : TransactionData) (parcel : Option Parcel) (v : Delivery) → e.step ≡ Command (bc.Transaction d) parcel → transaction_check s a d parcel ≡ Ok v → is_one_way d ≡ false
         → Calls s e a.thread.made
-    calls d parcel v x t two_way = record {
-      by = (actor-made s e.seat a acts).1;
-      fields = d;
-      parcel = parcel;
-      command = x;
-      two_way = two_way;
-      accepted = ap (λ y. (change s e.seat y).answer) x ∙ transaction-accepted s e.seat a d parcel v acts t;
-    }
+    calls d parcel v x t two_way = search (arith, actor-made, change, transaction-accepted)
 
     transacted-traced : (d : TransactionData) (parcel : Option Parcel) (v : Delivery) → e.step ≡ Command (bc.Transaction d) parcel → transaction_check s a d parcel ≡ Ok v
         → Traced more (transacted s a d v)
@@ -119,23 +105,13 @@ module _ (es : List Entry) (e : Entry) (h : Traced es (after opening es)) where
 
       frame-innermost : frame_of s e ≡ Some f.made
       unfolding frame_of innermost
-      frame-innermost =
-          let k = subst (λ n. innermost_in s.frames n ≡ Some f) (actor-made s e.seat a acts).0 (served-is s a.thread.seat f g).0 in
-          ap (λ o. option_map made_of o) k
+      frame-innermost = search (arith, actor-made, served-is)
 
       server : (n : ℕ) × (thread_made s a.thread.seat ≡ Some n) × Handed es f.made n
       server = h.servers f a.thread.seat in-frames (served-is s a.thread.seat f g).1
 
       answers-call : AnswersCall s e f.made server.0
-      answers-call = record {
-        by = subst (λ n. thread_made s n ≡ Some server.0) (actor-made s e.seat a acts).0 server.1;
-        fields = d;
-        parcel = parcel;
-        command = x;
-        accepted = ap (λ y. (change s e.seat y).answer) x ∙ reply-accepted s e.seat a d parcel v acts f g t;
-        innermost = frame-innermost;
-        closes = closes;
-      }
+      answers-call = search (arith, server, actor-made, change, reply-accepted, frame-innermost, closes)
 
       answer : (m : ℕ) → Called es f.made m → Answers more (length es) m
       answer m called = record {
@@ -174,12 +150,10 @@ module _ (es : List Entry) (e : Entry) (h : Traced es (after opening es)) where
       items = taken s (limit - 4) (list_to_read s a.thread)
 
       pub takes-items : items_taken s e.seat e.step ≡ items
-      takes-items =
-          ap (λ y. items_taken s e.seat y) x ∙ ap (λ o. items_read s limit o) acts ∙ ap (λ o. items_unless o items) n
+      takes-items = search arith
 
       serve-caller : (b : Bool) (f : Frame) → (cond b (serve a.thread.seat f) f).caller ≡ f.caller
-      serve-caller true f = refl
-      serve-caller false f = refl
+      serve-caller b f = search arith
 
       serve-server : (b : Bool) (f : Frame) (t : ℕ) → list_any (λ (w : Work). is_call f.made w.kind) items ≡ b → In f s.frames → (cond b (serve a.thread.seat f) f).server ≡ Serving t
           → (m : ℕ) × (thread_made s t ≡ Some m) × Handed more f.made m
@@ -228,9 +202,7 @@ module _ (es : List Entry) (e : Entry) (h : Traced es (after opening es)) where
   counted-traced z k = record { below = k.below; callers = k.callers; servers = k.servers; replies = k.replies }
 
   step-traced : Traced more (after opening more)
-  step-traced =
-      subst (Traced more) (sym (after-append opening es (e ∷ [])))
-      (counted-traced (change s e.seat e.step).space (every_step s e.seat e.step (Traced more) (Traced more) kept))
+  step-traced = search (arith, after-append, counted-traced, change, every_step, kept)
 
 opening-traced : Traced [] opening
 opening-traced = record { below = λ f l. absurd l; callers = λ f t l e. absurd l; servers = λ f t l e. absurd l; replies = λ w b t l e o. absurd l }

@@ -1,7 +1,7 @@
 -- Through a step a call that is due stays one item.
 use Rattle.bd_laws.proofs.words.Logic.{◌≡◌, ℕ, Bool, true, false, cond, not, List, [], ◌∷◌, ◌++◌, Option, Some, None, ◌⊎◌, inl, inr, refl, ap, sym, subst, ◌∙◌, arith, list_any, eqb-true}
 use Rattle.bd_laws.proofs.words.Types.{TransactionData, ObjectId, Step, Entry, Actor, Buffer, Frame, Turn, Work, OfThread, OfProcess}
-use Rattle.bd_laws.proofs.words.Space.{same, Space, owe, with_work, is_call, is_item, closed, turn_of, turns_of, is_ripe, ripened, ripen, follow, assign_numbers, Delivery, delivered, own_notices, add_buffer, known_by, refer, make_objects, buffer_of, transacted, called, call_out, replied, read_by, change}
+use Rattle.bd_laws.proofs.words.Space.{Space, owe, with_work, is_call, is_item, closed, turn_of, turns_of, is_ripe, ripened, ripen, follow, assign_numbers, Delivery, delivered, own_notices, add_buffer, known_by, refer, make_objects, buffer_of, transacted, called, call_out, replied, read_by, change}
 use Rattle.bd_space.specs.declared.space.WorkKind.TheVariants as work
 use Rattle.bd_laws.proofs.words.Laws.{In, IsInTurn, On}
 use Rattle.bd_laws.proofs.Machine.EveryStep.{Keeps, every_step}
@@ -100,8 +100,7 @@ module _ (s : Space) (m : ℕ) (turns : IsInTurn s) (single : One m s.todo) wher
       new w k c = let e : is_call m (work.Call y.steps) ≡ true = ap (λ x. is_call m x) k ∙ c in sym (eqb-true y.steps m e) ∙ steps
 
   calls : (y : Space) (seat p : ℕ) (one_way : Bool) → y.steps ≡ s.steps → ((w : Work) → IsDue m y.todo w → In w s.todo) → CalledIn s m (called y seat p one_way)
-  calls y seat p true steps due = from-due y steps due
-  calls y seat p false steps due = calls-out y seat p steps due
+  calls y seat p one_way steps due = search (arith, steps, from-due, calls-out)
 
   transacts : (a : Actor) (d : TransactionData) (v : Delivery) → CalledIn s m (transacted s a d v)
   unfolding transacted
@@ -155,16 +154,11 @@ module _ (s : Space) (m : ℕ) (turns : IsInTurn s) (single : One m s.todo) wher
         new w k c = let e : is_call m (work.Call t.made) ≡ true = ap (λ x. is_call m x) k ∙ c in eqb-true t.made m e
 
         none : (v : Work) → IsDue m todo v → t.made ≡ m → ⊥
-        none v i is =
-            let yes = any-in (λ (w : Work). is_call m w.kind) v todo i.0 i.1 in
-            let parts = ripe-parts t.handed (list_any (λ (u : Turn). same u.target t.target) older) (list_any (λ (w : Work). is_call t.made w.kind) todo) ripe in
-            let no = ap (λ n. list_any (λ (w : Work). is_call n w.kind) todo) (sym is) ∙ parts.1 in
-            absurd (cc)
+        none v i is = search (arith, any-in, ripe-parts, no)
 
     ripens-if : (b : Bool) (todo : List Work) (older : List Turn) (t : Turn) → ((b : Buffer) × In b bs × (turn_of b ≡ Some t)) → is_ripe todo older t ≡ b → Called s m bs todo
         → Called s m bs (cond b (with_work place todo (OfProcess t.receiver) (work.Call t.made)) todo)
-    ripens-if true todo older t own ripe h = ripens-once todo older t own ripe h
-    ripens-if false todo older t own ripe h = h
+    ripens-if b todo older t own ripe h = search (arith, ripens-once)
 
     ripens-all : (ts : List Turn) (todo : List Work) (older : List Turn) → ((t : Turn) → In t ts → (b : Buffer) × In b bs × (turn_of b ≡ Some t)) → Called s m bs todo
         → Called s m bs (ripened place older todo ts)

@@ -1,7 +1,7 @@
 -- A call is handed out once: of each call that is due there is one item, and after that is taken none comes.
-use Rattle.bd_laws.proofs.words.Logic.{◌≡◌, ℕ, suc, ◌-◌, ◌<◌, Bool, true, not, List, [], ◌∷◌, Option, Some, None, inl, inr, refl, ap, sym, subst, ◌∙◌, arith, list_any}
-use Rattle.bd_laws.proofs.words.Types.{Fault, Step, Command, Read, Entry, Actor, Work}
-use Rattle.bd_laws.proofs.words.Space.{Space, opening, actor, is_call, is_item, list_to_read, is_one_way, Outcome, refused, taken, read_by, read_fault, read_step, read_taking, change, counted, by_actor, after, next}
+use Rattle.bd_laws.proofs.words.Logic.{◌≡◌, ℕ, suc, ◌-◌, ◌<◌, Bool, true, List, [], ◌∷◌, Option, Some, None, inl, inr, refl, ap, sym, subst, ◌∙◌, arith, list_any}
+use Rattle.bd_laws.proofs.words.Types.{Fault, Step, Command, Entry, Actor, Work}
+use Rattle.bd_laws.proofs.words.Space.{Space, opening, is_call, list_to_read, is_one_way, Outcome, refused, taken, read_by, read_step, read_taking, change, counted, by_actor, after, next}
 use Rattle.bd_uapi.specs.declared.command.Command.TheVariants as bc
 use Rattle.bd_laws.proofs.words.Laws.{In, Before}
 use Rattle.bd_laws.proofs.Machine.EveryStep.{every_list}
@@ -50,13 +50,7 @@ module _ (s : Space) (c : ℕ) (single : One c s.todo) where
 
   items-gone : (seat : ℕ) (ws : List Work) → ((w : Work) → In w ws → In w s.todo) → has_call ws ≡ true → NoCall c (read_by s seat ws)
   unfolding read_by
-  items-gone seat ws due h w i =
-      let v = any-found (λ (w : Work). is_call c w.kind) ws h in
-      let l = in-filter (λ (w : Work). not (list_any (λ (d : Work). is_item w d) ws)) w s.todo i.0 in
-      let is = single w v.0 (l.0, i.1) (due v.0 v.1, v.2) in
-      let yes = any-in (λ (d : Work). is_item w d) v.0 ws v.1 (same-item w v.0 is) in
-      let none = not-true (list_any (λ (d : Work). is_item w d) ws) l.1 in
-      absurd (cc)
+  items-gone seat ws due h w i = search (arith, any-found, in-filter, any-in, same-item, not-true)
 
   list-gone : (limit : ℕ) (a : Actor) (f : Option Fault) → has_call (items_unless f (taken s (limit - 4) (list_to_read s a.thread))) ≡ true
       → NoCall c (elim f as (λ (o : Option Fault). Outcome) [
@@ -71,13 +65,11 @@ module _ (s : Space) (c : ℕ) (single : One c s.todo) where
 
   actor-gone : (limit : ℕ) (o : Option Actor) → has_call (items_read s limit o) ≡ true → NoCall c (by_actor s o (λ a. read_step s a limit)).space
   unfolding read_step
-  actor-gone limit None h = absurd (cc)
-  actor-gone limit (Some a) h = list-gone limit a (read_fault limit (list_to_read s a.thread)) h
+  actor-gone limit o h = search (arith, list-gone)
 
   taken-gone : (seat : ℕ) (x : Step) → has_call (items_taken s seat x) ≡ true → NoCall c (change s seat x).space
   unfolding change
-  taken-gone seat (Read limit) h = actor-gone limit (actor s seat) h
-  taken-gone seat _ h = absurd (cc)
+  taken-gone seat x h = search (arith, actor-gone)
 
 -- ---- a two-way call has no turn, and none of it comes again
 

@@ -1,7 +1,7 @@
 -- Replies that are due, through one item more, items that go, and what follows.
-use Rattle.bd_laws.proofs.words.Logic.{◌≡◌, ℕ, suc, ◌<◌, ◌==◌, Bool, true, false, cond, not, ◌&&◌, ◌||◌, List, [], ◌∷◌, Some, None, ◌⊎◌, inl, inr, refl, ap, sym, ◌∙◌, filter, arith, beq, fold, eqb-true}
+use Rattle.bd_laws.proofs.words.Logic.{◌≡◌, ℕ, suc, ◌<◌, Bool, true, false, cond, not, ◌&&◌, List, [], ◌∷◌, Some, None, ◌⊎◌, inl, inr, refl, ap, sym, ◌∙◌, filter, arith, fold, eqb-true}
 use Rattle.bd_laws.proofs.words.Types.{ObjectId, Object, Process, Reference, Work, Identity, DeathNotification, TodoList, OfThread, OfProcess, WorkKind}
-use Rattle.bd_laws.proofs.words.Space.{same, is_some_and, lives_in, with_work, notice_of, death_of, with_notice, wants_notice, has_notice_in, still_due, object_in, held_in, strong_in, stays_in}
+use Rattle.bd_laws.proofs.words.Space.{same, is_some_and, with_work, notice_of, death_of, with_notice, wants_notice, has_notice_in, still_due, object_in, held_in, strong_in, stays_in}
 use Rattle.bd_space.specs.declared.space.WorkKind.TheVariants as work
 use Rattle.bd_links.specs.TodoList.{reply_of}
 use Rattle.bd_laws.specs.Lists.{In}
@@ -40,17 +40,7 @@ module _ (n : ℕ) (more todo : List Work) (k : Adds n more todo) (h : Owed (suc
   old w b l e = elim (k w l) [ inl i ↦ i | inr a ↦ (let none = a.1 in absurd (cc)) ]
 
   same-one : (v w : Work) (b : ℕ) → In v more → In w more → reply_of v.kind ≡ Some b → (v.id ≡ w.id) ⊎ (reply_of w.kind ≡ Some b) → v ≡ w
-  same-one v w b i j e o = elim (k w j) [
-    | inl l ↦ h.one v w b (old v b i e) l e o
-    | inr a ↦ elim o [
-      | inl is ↦ (
-          let lt = early v b (old v b i e) e in
-          let m = h.made v b (old v b i e) e in
-          let p : v.id.place ≡ w.id.place = ap (λ (x : Identity). x.place) is in
-          let at = a.0 in absurd (omega arith))
-      | inr f ↦ (let none = a.1 in absurd (cc))
-    ]
-  ]
+  same-one v w b i j e o = search arith
 
   pub adds-owed : Owed (suc n) more
   adds-owed = record {
@@ -150,18 +140,7 @@ module _ (n : ℕ) (todo : List Work) (list : TodoList) (kind : WorkKind) where
 -- ---- what goes, so long as nothing of this step does
 
 pub filter-due : (n : ℕ) (todo : List Work) (p : Work → Bool) → ((w : Work) → In w todo → w.id.place ≡ n → p w ≡ true) → DueNow n todo → DueNow n (filter p todo)
-filter-due n todo p k h = record {
-  owed = record {
-    place = λ w l. h.owed.place w (in-filter p w todo l).0;
-    made = λ w b l e. h.owed.made w b (in-filter p w todo l).0 e;
-    list = λ w b l e. h.owed.list w b (in-filter p w todo l).0 e;
-    one = λ v w b i j e o. h.owed.one v w b (in-filter p v todo i).0 (in-filter p w todo j).0 e o;
-  };
-  counted = λ w b l e at.
-      let lt = h.counted w b (in-filter p w todo l).0 e at in
-      let c = count-filter p (λ (x : Work). x.id.place == n) todo (λ x i f. k x i (eqb-true x.id.place n f)) in
-      omega arith;
-}
+filter-due n todo p k h = search (arith, in-filter, count-filter, eqb-true)
 
 pub notices-due : (n : ℕ) (processes : List Process) (references : List Reference) (xs : List Object) (todo : List Work) → DueNow n todo
     → DueNow n (fold (λ todo (x : Object). with_notice n processes references (OfProcess x.owner) todo x) todo xs)
@@ -182,38 +161,24 @@ Wanted processes objects references kind =
     ⊎ ((notice_of kind ≡ None) × (death_of kind ≡ None))
 
 strong-held : (references : List Reference) (o : ObjectId) → strong_in references o ≡ true → held_in references o ≡ true
-strong-held references o h =
-    let r = any-found (λ (r : Reference). r.strong && same r.object o) references h in
-    any-in (λ (r : Reference). same r.object o) r.0 references r.1 (both r.0.strong (same r.0.object o) r.2).1
+strong-held references o h = search (arith, any-found, any-in, both)
 
 wanted-stays : (processes : List Process) (references : List Reference) (x : Object) → wants_notice processes references x ≡ true → stays_in processes references x ≡ true
-wanted-stays processes references x h =
-    at (lives_in processes x.owner) x.told_weak x.told_strong (held_in references x.id) (strong_in references x.id) (strong-held references x.id) h
-  where
-    at : (l tw ts held strong : Bool) → (strong ≡ true → held ≡ true) → (l && (not (beq tw held) || not (beq ts strong))) ≡ true → (held || (l && (tw || ts))) ≡ true
-    at l tw ts true strong k h = refl
-    at l tw ts false true k h = let wrong = k refl in absurd (cc)
-    at false tw ts false false k h = absurd (cc)
-    at true true ts false false k h = refl
-    at true false true false false k h = refl
-    at true false false false false k h = absurd (cc)
+wanted-stays processes references x h = search (arith, strong-held)
 
 found-kept : (p : Object → Bool) (xs : List Object) (o : ObjectId) (x : Object) → object_in xs o ≡ Some x → p x ≡ true → object_in (filter p xs) o ≡ Some x
 found-kept p [] o x h t = absurd (cc)
 found-kept p (y ∷ ys) o x h t = at (same y.id o) refl (λ k. found-kept p ys o x k t) h
   where
     kept : (c : Bool) → p y ≡ c → (same y.id o ≡ false) → object_in (filter p ys) o ≡ Some x → object_in (cond c (y ∷ filter p ys) (filter p ys)) o ≡ Some x
-    kept true e f k = rw f k
-    kept false e f k = k
+    kept c e f k = search arith
 
     first : (c : Bool) → p y ≡ c → same y.id o ≡ true → y ≡ x → object_in (cond c (y ∷ filter p ys) (filter p ys)) o ≡ Some x
-    first true e f is = rw f (ap (λ z. Some z) is)
-    first false e f is = let wrong : p x ≡ false = ap p (sym is) ∙ e in absurd (cc)
+    first c e f is = search arith
 
     at : (b : Bool) → same y.id o ≡ b → (object_in ys o ≡ Some x → object_in (filter p ys) o ≡ Some x) → cond b (Some y) (object_in ys o) ≡ Some x
         → object_in (cond (p y) (y ∷ filter p ys) (filter p ys)) o ≡ Some x
-    at true e k h = first (p y) refl e (cc)
-    at false e k h = kept (p y) refl e (k h)
+    at b e k h = search (arith, first, kept)
 
 plain-due : (processes : List Process) (objects : List Object) (references : List Reference) (deaths : List DeathNotification) (kind : WorkKind)
     → notice_of kind ≡ None → death_of kind ≡ None → still_due processes objects references deaths kind ≡ true

@@ -1,7 +1,8 @@
 -- Parts of a step that make no frame and no reply.
+use Rattle.bd_laws.proofs.words.Logic.{arith}
 use Rattle.bd_laws.proofs.words.Logic.{◌≡◌, ℕ, ◌==◌, Bool, true, false, cond, not, List, [], ◌∷◌, ◌++◌, Some, None, ◌⊎◌, inl, inr, refl, ap, sym, subst, ◌∙◌, filter, option_map, eqb-true, eq-eqb}
 use Rattle.bd_laws.proofs.words.Types.{Buffer, TransactionData, ObjectId, Thread, Work, Item, Frame, Actor, Serving, TodoList, OfThread, OfProcess, WorkKind}
-use Rattle.bd_laws.proofs.words.Space.{completed, changed, Space, thread_in, with_work, owe, is_on, same_list, is_notice, ripen, follow, work_goes, still_due, closed, is_frame, Delivery, delivered, own_notices, add_buffer, without_buffer, thread_goes, frame_without, unread_frame, without_process, with_thread, with_looping}
+use Rattle.bd_laws.proofs.words.Space.{completed, changed, Space, thread_in, with_work, owe, is_on, is_notice, ripen, follow, work_goes, still_due, closed, Delivery, delivered, own_notices, add_buffer, without_buffer, thread_goes, frame_without, unread_frame, without_process, with_thread, with_looping}
 use Rattle.bd_space.specs.declared.space.WorkKind.TheVariants as work
 use Rattle.bd_links.specs.TodoList.{reply_of}
 use Rattle.bd_laws.specs.Lists.{In}
@@ -77,8 +78,7 @@ quiet-trans z y x h k = record {
 -- one work item more, which is no reply
 pub with_work-quiet : (place : ℕ) (todo : List Work) (list : TodoList) (kind : WorkKind) → reply_of kind ≡ None
     → (w : Work) → In w (with_work place todo list kind) → In w todo ⊎ ((w.id.place ≡ place) × (reply_of w.kind ≡ None))
-with_work-quiet place todo list kind none w l =
-    elim (in-push w _ todo l) [ inl k ↦ inl k | inr is ↦ inr (ap (λ (x : Work). x.id.place) (sym is), ap (λ (x : Work). reply_of x.kind) (sym is) ∙ none) ]
+with_work-quiet place todo list kind none w l = search (arith, in-push)
 
 pub owe-quiet : (z : Space) (list : TodoList) (kind : WorkKind) → reply_of kind ≡ None → Quiet (owe z list kind) z
 unfolding owe
@@ -107,8 +107,7 @@ made-push (x ∷ ts) u t m h = at (x.seat == t) (made-push ts u t m) h
   where
     at : (b : Bool) → (made_in ts t ≡ Some m → made_in (ts ++ u ∷ []) t ≡ Some m) → option_map (λ (v : Thread). v.made) (cond b (Some x) (thread_in ts t)) ≡ Some m
         → option_map (λ (v : Thread). v.made) (cond b (Some x) (thread_in (ts ++ u ∷ []) t)) ≡ Some m
-    at true k h = h
-    at false k h = k h
+    at b k h = search arith
 
 pub made-changed : (p : Thread → Bool) (looping : Bool) (ts : List Thread) (t : ℕ) → made_in (changed p (λ v. record v { looping = looping }) ts) t ≡ made_in ts t
 made-changed p looping [] t = refl
@@ -116,31 +115,26 @@ made-changed p looping (x ∷ ts) t = at (p x) (made-changed p looping ts t)
   where
     found : (b : Bool) (y : Thread) → y.made ≡ x.made → made_in (changed p (λ v. record v { looping = looping }) ts) t ≡ made_in ts t
         → option_map (λ (v : Thread). v.made) (cond b (Some y) (thread_in (changed p (λ v. record v { looping = looping }) ts) t)) ≡ option_map (λ (v : Thread). v.made) (cond b (Some x) (thread_in ts t))
-    found true y e k = ap (λ n. Some n) e
-    found false y e k = k
+    found b y e k = search arith
 
     at : (b : Bool) → made_in (changed p (λ v. record v { looping = looping }) ts) t ≡ made_in ts t
         → made_in (cond b (record x { looping = looping }) x ∷ changed p (λ v. record v { looping = looping }) ts) t ≡ made_in (x ∷ ts) t
-    at true k = found (x.seat == t) (record x { looping = looping }) refl k
-    at false k = found (x.seat == t) x refl k
+    at b k = search (arith, found)
 
 pub made-kept : (ts : List Thread) (gone t : ℕ) → (t == gone) ≡ false → made_in (filter (λ (v : Thread). not (v.seat == gone)) ts) t ≡ made_in ts t
 made-kept [] gone t h = refl
 made-kept (x ∷ ts) gone t h = at (x.seat == gone) refl (made-kept ts gone t h)
   where
     other : (b : Bool) → (x.seat == t) ≡ b → (x.seat == gone) ≡ true → made_in ts t ≡ option_map (λ (v : Thread). v.made) (cond b (Some x) (thread_in ts t))
-    other true e f = let i : x.seat ≡ t = eqb-true x.seat t e in let j : x.seat ≡ gone = eqb-true x.seat gone f in let wrong : (t == gone) ≡ true = eq-eqb t gone (sym i ∙ j) in absurd (cc)
-    other false e f = refl
+    other b e f = search (arith, eqb-true, eq-eqb)
 
     found : (b : Bool) → made_in (filter (λ (v : Thread). not (v.seat == gone)) ts) t ≡ made_in ts t
         → option_map (λ (v : Thread). v.made) (cond b (Some x) (thread_in (filter (λ (v : Thread). not (v.seat == gone)) ts) t)) ≡ option_map (λ (v : Thread). v.made) (cond b (Some x) (thread_in ts t))
-    found true k = refl
-    found false k = k
+    found b k = search arith
 
     at : (b : Bool) → (x.seat == gone) ≡ b → made_in (filter (λ (v : Thread). not (v.seat == gone)) ts) t ≡ made_in ts t
         → made_in (cond (not b) (x ∷ filter (λ (v : Thread). not (v.seat == gone)) ts) (filter (λ (v : Thread). not (v.seat == gone)) ts)) t ≡ made_in (x ∷ ts) t
-    at true e k = k ∙ other (x.seat == t) refl e
-    at false e k = found (x.seat == t) k
+    at b e k = search (arith, other, found)
 
 pub attached-quiet : (z : Space) (seat p : ℕ) → Quiet (with_thread z seat p) z
 unfolding with_thread
@@ -163,21 +157,7 @@ module _ (z : Space) (seat : ℕ) where
 
   other-thread : (t : ℕ) → Uses (thread_goes z seat) t → (t == seat) ≡ false
   unfolding thread_goes
-  other-thread t (inl u) =
-      let g = in-map (frame_without z.todo seat) u.0 z.frames u.1 in
-      elim u.2 [
-        | inl h ↦ (caller-stays seat g.0.caller t (ap (λ (x : Frame). x.caller) g.2 ∙ h)).1
-        | inr h ↦ (server-stays seat _ t (ap (λ (x : Frame). x.server) g.2 ∙ h)).1
-      ]
-  other-thread t (inr u) =
-      let off = (in-filter (λ (w : Work). not (is_on (OfThread seat) w)) u.0 z.todo u.2).1 in
-      let on : is_on (OfThread seat) u.0 ≡ false = not-true _ off in
-      let at : (seat == t) ≡ false = ap (λ l. same_list (OfThread seat) l) (sym u.4) ∙ on in
-      flip (t == seat) refl at
-    where
-      flip : (b : Bool) → (t == seat) ≡ b → (seat == t) ≡ false → b ≡ false
-      flip true e f = let wrong : (seat == t) ≡ true = eq-eqb seat t (sym (eqb-true t seat e)) in absurd (cc)
-      flip false e f = refl
+  other-thread t h = search (arith, in-map, caller-stays, server-stays, in-filter, not-true, eq-eqb, eqb-true)
 
   pub thread_goes-quiet : Quiet (thread_goes z seat) z
   unfolding thread_goes
@@ -215,12 +195,7 @@ quiet_table = record {
 
 pub quiet_closes : Closing Quiet
 unfolding closed
-quiet_closes z made = record {
-  steps = refl;
-  todo = λ w l. inl l;
-  frames = λ f l. (f, (in-filter (λ (g : Frame). not (is_frame made g)) f z.frames l).0, was-same f);
-  threads = λ t m h u. h;
-}
+quiet_closes z made = search (arith, in-filter, was-same)
 
 pub quiet_exits : Exits Quiet
 unfolding without_process

@@ -23,10 +23,7 @@ module _ (n : ℕ) (processes : List Process) (objects : List Object) (reference
   pub wanted-push : (todo : List Work) (list : TodoList) (kind : WorkKind) → Wanted processes objects references kind
       → ((w : Work) → In w todo → w.id.place ≡ n → Wanted processes objects references w.kind)
       → (w : Work) → In w (with_work n todo list kind) → w.id.place ≡ n → Wanted processes objects references w.kind
-  wanted-push todo list kind k h w l at = elim (in-push w _ todo l) [
-    | inl i ↦ h w i at
-    | inr is ↦ subst (Wanted processes objects references) (ap (λ (x : Work). x.kind) is) k
-  ]
+  wanted-push todo list kind k h w l at = search (arith, in-push)
 
   fresh-push : (todo : List Work) (list : TodoList) (kind : WorkKind) → Wanted processes objects references kind
       → Fresh n processes objects references todo → Fresh n processes objects references (with_work n todo list kind)
@@ -76,8 +73,7 @@ withdrawn-in objects [] todo w l = l
 withdrawn-in objects (x ∷ xs) todo w l = at _ (withdrawn-in objects xs (withdraw_notice objects todo x) w l)
   where
     at : (b : Bool) → In w (cond b (filter (λ (v : Work). not (is_notice x.object v.kind)) todo) todo) → In w todo
-    at true i = (in-filter (λ (v : Work). not (is_notice x.object v.kind)) w todo i).0
-    at false i = i
+    at b i = search (arith, in-filter)
 
 -- ---- the two ways of a step
 
@@ -179,8 +175,7 @@ called-adds z seat p false = with_work-quiet z.steps z.todo (goes_to z seat p) (
 
 called-steps : (z : Space) (seat p : ℕ) (one_way : Bool) → (called z seat p one_way).steps ≡ z.steps
 unfolding call_out owe
-called-steps z seat p true = refl
-called-steps z seat p false = refl
+called-steps z seat p one_way = search arith
 
 transacted-goes : (s : Space) (a : Actor) (d : TransactionData) (v : Delivery) → IsOwed s → Goes (transacted s a d v)
 unfolding transacted

@@ -1,21 +1,19 @@
 -- Replies reach their callers: from what each reply has behind it, and since what is gone never comes again.
-use Rattle.bd_laws.proofs.words.Logic.{◌≡◌, ℕ, zero, suc, ◌<◌, ◌==◌, Bool, true, false, List, [], ◌∷◌, ◌++◌, length, take, Option, Some, None, ◌⊎◌, inl, inr, refl, ap, sym, subst, ◌∙◌, not, arith, list_any, slice_get, option_map, option_and_then, option_and_then_some, eqb-true, eq-eqb}
+use Rattle.bd_laws.proofs.words.Logic.{◌≡◌, ℕ, zero, suc, ◌<◌, Bool, true, false, List, [], ◌∷◌, ◌++◌, length, take, Option, Some, None, ◌⊎◌, inl, inr, refl, ap, sym, subst, ◌∙◌, arith, list_any, slice_get, option_and_then, option_and_then_some, eqb-true, eq-eqb}
 use Rattle.bd_laws.proofs.words.Types.{TransactionData, Step, Read, Entry, Work, Frame, Actor, OfThread}
-use Rattle.bd_laws.proofs.words.Space.{Space, opening, owe, is_call, same_list, is_item, closed, goes_to, is_frame, innermost, innermost_in, is_deepest_in, made_of, ripen, Delivery, delivered, transacted, called, call_out, replied, read_by, serve, change, counted, History, after, next, space_after}
+use Rattle.bd_laws.proofs.words.Space.{Space, opening, owe, closed, goes_to, is_frame, innermost, Delivery, delivered, transacted, called, call_out, replied, read_by, change, counted, History, after, next, space_after}
 use Rattle.bd_space.specs.declared.space.WorkKind.TheVariants as work
-use Rattle.bd_links.specs.TodoList.{reply_of, first_reply_in}
-use Rattle.bd_engine.specs.Looks.{first_reply}
+use Rattle.bd_links.specs.TodoList.{reply_of}
 use Rattle.bd_laws.specs.Lists.{In}
 use Rattle.bd_laws.proofs.Machine.EveryStep.{Keeps, every_step}
 use Rattle.bd_laws.proofs.Lists.{in-push, in-filter, in-changed, find-in, any-in}
 use Rattle.bd_audit.specs.Gifts.{Stands}
-use Rattle.bd_audit.specs.Laws.{space_at}
-use Rattle.bd_audit.specs.Replies.{thread_made, items_taken, reply_taken, reply_taken_at, frame_of, call_closed_at, call_answered, AnswersCall, At, Answered}
+use Rattle.bd_audit.specs.Replies.{thread_made, reply_taken, reply_taken_at, frame_of, call_closed_at, call_answered, AnswersCall, At, Answered}
 use Rattle.bd_audit.proofs.NamesHaveGiftChains.Chains.{always-steps}
 use Rattle.bd_audit.proofs.RepliesReachTheirCallers.Places.{mid, later-space, next-place, either-way}
 use Rattle.bd_audit.proofs.RepliesReachTheirCallers.CallsOnce.{handed-once}
 use Rattle.bd_laws.proofs.Machine.Table.{keeps-by}
-use Rattle.bd_audit.proofs.RepliesReachTheirCallers.Quiet.{sent-quiet, ripen-quiet, NotReply, quiet_table, quiet_exits, quiet_closes, Quiet, with_work-quiet, quiet-trans}
+use Rattle.bd_audit.proofs.RepliesReachTheirCallers.Quiet.{sent-quiet, ripen-quiet, quiet_table, quiet_exits, quiet_closes, Quiet, with_work-quiet, quiet-trans}
 use Rattle.bd_audit.proofs.RepliesReachTheirCallers.RepliesDue.{IsOwed, always-owed}
 use Rattle.bd_audit.proofs.RepliesReachTheirCallers.ReplyTaken.{taken-or-not, first-stands, NoReply}
 use Rattle.bd_audit.proofs.RepliesReachTheirCallers.Answering.{always-traced}
@@ -78,21 +76,10 @@ from-replied s a d f v =
 
 from-read : (s : Space) (seat : ℕ) (ws : List Work) → From s (read_by s seat ws)
 unfolding read_by
-from-read s seat ws = record {
-  steps = refl;
-  frames = λ f l.
-      let g = in-changed (λ (g : Frame). list_any (λ (w : Work). is_call g.made w.kind) ws) (serve seat) f s.frames l in
-      inl (g.0, g.1, ap (λ (x : Frame). x.made) g.2 ∙ serve-made seat (list_any (λ (w : Work). is_call g.0.made w.kind) ws) g.0);
-  replies = λ w b l e. inl (in-filter (λ (w : Work). not (list_any (λ (d : Work). is_item w d) ws)) w s.todo l).0;
-}
+from-read s seat ws = search (arith, in-changed, serve-made, in-filter)
 
 from-kept : (s : Space) (seat : ℕ) (x : Step) → Keeps s seat x (From s) (From s)
-from-kept s seat x = keeps-by Quiet NotReply quiet_table s seat x (From s) (from-quietly s) quiet_exits quiet_closes (from-quiet s) (λ r. refl) (λ r. refl) (record {
-  transacts = λ a d parcel v e i t. from-transacted s a d v;
-  replies = λ a d parcel f v e i g t. from-replied s a d f v;
-  reads = λ a limit i e n. from-read s a.thread.seat _;
-  ripens = λ z. from-quiet s (ripen z) z (ripen-quiet z);
-})
+from-kept s seat x = search (arith, keeps-by, quiet_table, from-quietly, quiet_exits, quiet_closes, from-quiet, from-transacted, from-replied, from-read, ripen-quiet)
 
 pub step-from : (s : Space) (e : Entry) → From s (change s e.seat e.step).space
 step-from s e = every_step s e.seat e.step (From s) (From s) (from-kept s e.seat e.step)
@@ -154,11 +141,7 @@ module _ (es : List Entry) (i j : ℕ) (before later : List Entry) (e f : Entry)
 
 open-frame : (s : Space) (e : Entry) (c : ℕ) → frame_of s e ≡ Some c → (f : Frame) × In f s.frames × (f.made ≡ c)
 unfolding frame_of innermost
-open-frame s e c h = at (innermost_in s.frames e.seat) refl h
-  where
-    at : (o : Option Frame) → innermost_in s.frames e.seat ≡ o → option_map made_of o ≡ Some c → (f : Frame) × In f s.frames × (f.made ≡ c)
-    at None k h = absurd (cc)
-    at (Some f) k h = (f, (find-in (is_deepest_in s.frames e.seat) f s.frames k).0, (let j : Some f.made ≡ Some c = h in cc))
+open-frame s e c h = search (arith, find-in)
 
 pub closed-no_frame : (s : Space) (c : ℕ) → list_any (is_frame c) s.frames ≡ false → NoFrame c s
 closed-no_frame s c h f l is = let yes = any-in (is_frame c) f s.frames l (eq-eqb f.made c is) in absurd (cc)
@@ -175,11 +158,7 @@ closed-once es c w v h k lt =
 
 pub is-reading : (s : Space) (e : Entry) (r : ℕ) → reply_taken s e ≡ Some r → (limit : ℕ) × (e.step ≡ Read limit)
 unfolding reply_taken
-is-reading s e r h = at e.step refl h
-  where
-    at : (x : Step) → e.step ≡ x → first_reply_in (items_taken s e.seat x) ≡ Some r → (limit : ℕ) × (e.step ≡ Read limit)
-    at (Read limit) k h = (limit, k)
-    at _ k h = absurd (cc)
+is-reading s e r h = search arith
 
 -- the item that a reading takes stood on its thread's list, and has gone
 pub record Took (s : Space) (e : Entry) (r : ℕ) : Type 0 where
@@ -190,23 +169,7 @@ pub record Took (s : Space) (e : Entry) (r : ℕ) : Type 0 where
   pub gone : NoReply r (next s e)
 
 pub took : (s : Space) → IsOwed s → (e : Entry) (r : ℕ) → reply_taken s e ≡ Some r → Took s e r
-took s h e r t =
-    let reading = is-reading s e r t in
-    elim (taken-or-not s h e reading.0 reading.1) [
-      | inl n ↦ (let none = n.0 in absurd (cc))
-      | inr k ↦ (
-          let is : k.0 ≡ r = (let j : Some k.0 ≡ Some r = sym k.1 ∙ t in cc) in
-          let w = first-stands s e.seat r (subst (λ n. first_reply s e.seat ≡ Some n) is k.2) in
-          let l = h.list w.0 r w.1 w.2 in
-          let on : (e.seat == l.0) ≡ true = ap (λ x. same_list (OfThread e.seat) x) (sym l.1) ∙ w.3 in
-          record {
-            item = w.0;
-            here = w.1;
-            reply = w.2;
-            list = l.1 ∙ ap (λ n. OfThread n) (sym (eqb-true e.seat l.0 on));
-            gone = subst (λ n. NoReply n (next s e)) is k.3;
-          })
-    ]
+took s h e r t = search (arith, is-reading, taken-or-not, first-stands, eqb-true)
 
 pub owed-after : (es : List Entry) → IsOwed (after opening es)
 unfolding space_after
@@ -232,8 +195,7 @@ record Found (h : History) (s w : ℕ) : Type 0 where
 
 pub at-place : (h : History) (s w : ℕ) → reply_taken_at h s ≡ Some w → Reads h.entries s w
 unfolding reply_taken_at space_after
-at-place h s w e =
-    option_and_then_some (reply_taken (space_at h s)) (slice_get h.entries s) w e (λ x g t. (take s h.entries, x, standing h.entries s x g, t))
+at-place h s w e = search (arith, standing)
 
 find-answer : (h : History) (s w : ℕ) → reply_taken_at h s ≡ Some w → Found h s w
 find-answer h s w e =

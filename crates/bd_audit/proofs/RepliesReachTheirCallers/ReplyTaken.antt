@@ -1,7 +1,8 @@
 -- Which reply a reading takes: the first on its thread's list, if that isn't the first any more afterwards.
-use Rattle.bd_laws.proofs.words.Logic.{◌≡◌, ℕ, ◌-◌, ◌==◌, Bool, true, false, cond, not, ◌&&◌, List, [], ◌∷◌, ◌++◌, length, map, Option, Some, None, ◌⊎◌, inl, inr, refl, ap, sym, subst, ◌∙◌, filter, nat_lt, fold, list_any, is_none, eqb-true, eq-eqb}
+use Rattle.bd_laws.proofs.words.Logic.{arith}
+use Rattle.bd_laws.proofs.words.Logic.{◌≡◌, ℕ, ◌-◌, ◌==◌, Bool, true, false, cond, not, ◌&&◌, List, [], ◌∷◌, ◌++◌, length, map, Option, Some, None, ◌⊎◌, inl, inr, refl, ap, sym, subst, ◌∙◌, filter, nat_lt, fold, list_any, eqb-true, eq-eqb}
 use Rattle.bd_laws.proofs.words.Types.{Fault, Step, Read, Entry, Object, Process, Reference, Thread, Work, Actor, DeathNotification, TodoList, OfThread, OfProcess, WorkKind}
-use Rattle.bd_laws.proofs.words.Space.{first_of, Space, actor, with_work, is_on, same_list, work_on, has_work_in, list_to_read, is_item, with_notice, wants_notice, has_notice_in, follow, notify, work_goes, deaths_go, still_due, names_go, objects_go, innermost_in, Outcome, refused, taken, read_by, ends_read, read_fault, read_step, read_taking, bytes_read, change, counted, by_actor, next}
+use Rattle.bd_laws.proofs.words.Space.{first_of, Space, actor, with_work, is_on, same_list, list_to_read, is_item, with_notice, wants_notice, has_notice_in, follow, notify, work_goes, deaths_go, still_due, names_go, objects_go, Outcome, refused, taken, read_by, ends_read, read_fault, read_step, read_taking, bytes_read, change, counted, by_actor, next}
 use Rattle.bd_space.specs.declared.space.WorkKind.TheVariants as work
 use Rattle.bd_links.specs.TodoList.{reply_of, first_reply_in}
 use Rattle.bd_engine.specs.Looks.{first_reply}
@@ -17,8 +18,7 @@ use Rattle.bd_audit.proofs.RepliesReachTheirCallers.Quiet.{follow-quiet}
 use Rattle.bd_audit.proofs.RepliesReachTheirCallers.RepliesDue.{IsOwed}
 
 same_list-same : (l : TodoList) → same_list l l ≡ true
-same_list-same (OfThread t) = eq-eqb t t refl
-same_list-same (OfProcess p) = eq-eqb p p refl
+same_list-same l = search (arith, eq-eqb)
 
 -- ---- the first reply of a list
 
@@ -28,8 +28,7 @@ first-in (w ∷ ws) r h = at (reply_of w.kind) refl (first-in ws r) h
   where
     at : (o : Option ℕ) → reply_of w.kind ≡ o → (first_reply_in ws ≡ Some r → (v : Work) × In v ws × (reply_of v.kind ≡ Some r)) → first_of (o ∷ map (λ (v : Work). reply_of v.kind) ws) ≡ Some r
         → (v : Work) × In v (w ∷ ws) × (reply_of v.kind ≡ Some r)
-    at None e k h = let z = k h in (z.0, inr z.1, z.2)
-    at (Some b) e k h = (w, inl refl, e ∙ h)
+    at o e k h = search arith
 
 none-in : (ws : List Work) → first_reply_in ws ≡ None → (w : Work) (b : ℕ) → In w ws → reply_of w.kind ≡ Some b → ⊥
 none-in [] h w b l e = absurd l
@@ -37,21 +36,13 @@ none-in (v ∷ ws) h w b l e = at (reply_of v.kind) refl (none-in ws) h l
   where
     at : (o : Option ℕ) → reply_of v.kind ≡ o → (first_reply_in ws ≡ None → (w : Work) (b : ℕ) → In w ws → reply_of w.kind ≡ Some b → ⊥)
         → first_of (o ∷ map (λ (v : Work). reply_of v.kind) ws) ≡ None → In w (v ∷ ws) → ⊥
-    at None f k h (inl is) = let no : reply_of w.kind ≡ None = ap (λ (x : Work). reply_of x.kind) (sym is) ∙ f in absurd (cc)
-    at None f k h (inr l) = k h w b l e
-    at (Some c) f k h l = absurd (cc)
+    at o f k h h2 = search arith
 
 head-same : (x : Work) (c : Bool) (ys zs : List Work) → first_reply_in ys ≡ first_reply_in zs → first_reply_in (cond c (x ∷ ys) ys) ≡ first_reply_in (cond c (x ∷ zs) zs)
-head-same x true ys zs k = at (reply_of x.kind)
-  where
-    at : (o : Option ℕ) → first_of (o ∷ map (λ (v : Work). reply_of v.kind) ys) ≡ first_of (o ∷ map (λ (v : Work). reply_of v.kind) zs)
-    at None = k
-    at (Some b) = refl
-head-same x false ys zs k = k
+head-same x c ys zs k = search arith
 
 skipped : (x : Work) (c : Bool) (ys : List Work) → reply_of x.kind ≡ None → first_reply_in (cond c (x ∷ ys) ys) ≡ first_reply_in ys
-skipped x true ys h = rw h refl
-skipped x false ys h = refl
+skipped x c ys h = search arith
 
 -- a test that each reply passes, and an item that is none
 kept-first : (p on : Work → Bool) (xs : List Work) → ((w : Work) (b : ℕ) → In w xs → reply_of w.kind ≡ Some b → p w ≡ true) → first_reply_in (filter on (filter p xs)) ≡ first_reply_in (filter on xs)
@@ -59,12 +50,10 @@ kept-first p on [] h = refl
 kept-first p on (x ∷ xs) h = at (p x) refl (kept-first p on xs (λ w b l e. h w b (inr l) e))
   where
     none : (o : Option ℕ) → reply_of x.kind ≡ o → p x ≡ false → o ≡ None
-    none None e f = refl
-    none (Some b) e f = let wrong = h x b (inl refl) e in absurd (cc)
+    none o e f = search arith
 
     at : (c : Bool) → p x ≡ c → first_reply_in (filter on (filter p xs)) ≡ first_reply_in (filter on xs) → first_reply_in (filter on (cond c (x ∷ filter p xs) (filter p xs))) ≡ first_reply_in (cond (on x) (x ∷ filter on xs) (filter on xs))
-    at true e k = head-same x (on x) (filter on (filter p xs)) (filter on xs) k
-    at false e k = k ∙ sym (skipped x (on x) (filter on xs) (none (reply_of x.kind) refl e))
+    at c e k = search (arith, head-same, skipped, none)
 
 pushed-first : (on : Work → Bool) (xs : List Work) (y : Work) → reply_of y.kind ≡ None → first_reply_in (filter on (xs ++ y ∷ [])) ≡ first_reply_in (filter on xs)
 pushed-first on [] y h = skipped y (on y) [] h
@@ -79,8 +68,7 @@ notices-first n processes references on (x ∷ xs) todo =
     notices-first n processes references on xs _ ∙ at (wants_notice processes references x && not (has_notice_in todo x.id))
   where
     at : (b : Bool) → first_reply_in (filter on (cond b (with_work n todo (OfProcess x.owner) (work.Notice x.id)) todo)) ≡ first_reply_in (filter on todo)
-    at true = pushed-first on todo _ refl
-    at false = refl
+    at b = search (arith, pushed-first)
 
 reply-stays : (processes : List Process) (objects : List Object) (references : List Reference) (deaths : List DeathNotification) (kind : WorkKind) (b : ℕ)
     → reply_of kind ≡ Some b → still_due processes objects references deaths kind ≡ true
@@ -103,10 +91,7 @@ NoReply b z = (w : Work) → In w z.todo → reply_of w.kind ≡ Some b → ⊥
 
 -- the first reply of a thread stands on its list
 pub first-stands : (z : Space) (seat r : ℕ) → first_reply z seat ≡ Some r → (w : Work) × In w z.todo × (reply_of w.kind ≡ Some r) × (is_on (OfThread seat) w ≡ true)
-first-stands z seat r e =
-    let w = first-in (filter (is_on (OfThread seat)) z.todo) r e in
-    let i = in-filter (is_on (OfThread seat)) w.0 z.todo w.1 in
-    (w.0, i.0, w.2, i.1)
+first-stands z seat r e = search (arith, first-in, in-filter)
 
 module _ (s : Space) (h : IsOwed s) (seat reader : ℕ) (ws : List Work) (sub : (w : Work) → In w ws → In w s.todo) where
   untaken : first_reply_in ws ≡ None → (w : Work) (b : ℕ) → In w s.todo → reply_of w.kind ≡ Some b → not (list_any (λ (d : Work). is_item w d) ws) ≡ true
@@ -121,25 +106,14 @@ module _ (s : Space) (h : IsOwed s) (seat reader : ℕ) (ws : List Work) (sub : 
 
   none-taken : first_reply_in ws ≡ None → first_reply (follow (read_by s reader ws)) seat ≡ first_reply s seat
   unfolding read_by
-  none-taken e =
-      follow-first (read_by s reader ws) seat
-      ∙ kept-first (λ w. not (list_any (λ (d : Work). is_item w d) ws)) (is_on (OfThread seat)) s.todo (untaken e)
+  none-taken e = search (arith, follow-first, kept-first, untaken)
 
   taken-away : (r : ℕ) → first_reply_in ws ≡ Some r → NoReply r (read_by s reader ws)
   unfolding read_by
-  taken-away r e v l f =
-      let i = in-filter (λ (w : Work). not (list_any (λ (d : Work). is_item w d) ws)) v s.todo l in
-      let w = first-in ws r e in
-      let is : v ≡ w.0 = h.one v w.0 r i.0 (sub w.0 w.1) f (inr w.2) in
-      let yes = any-in (λ (d : Work). is_item v d) w.0 ws w.1 (same-item v w.0 is) in
-      let no = not-true (list_any (λ (d : Work). is_item v d) ws) i.1 in
-      absurd (cc)
+  taken-away r e v l f = search (arith, in-filter, first-in, any-in, same-item, not-true)
 
   some-taken : (r : ℕ) → first_reply_in ws ≡ Some r → NoReply r (follow (read_by s reader ws))
-  some-taken r e v l f = elim ((follow-quiet (read_by s reader ws)).todo v l) [
-    | inl i ↦ taken-away r e v i f
-    | inr n ↦ (let none = n.1 in absurd (cc))
-  ]
+  some-taken r e v l f = search (arith, follow-quiet, taken-away)
 
 -- ---- the items that are taken are a beginning of the list
 
@@ -148,38 +122,20 @@ taken-first s [] left r h = h
 taken-first s (w ∷ ws) left r h = at (nat_lt left 68) (taken-first s ws (left - length (bytes_read s w)) r) h
   where
     tail : (b : Bool) (ys : List Work) → (first_reply_in ys ≡ Some r → first_reply_in ws ≡ Some r) → first_reply_in (cond b [] ys) ≡ Some r → first_reply_in ws ≡ Some r
-    tail true ys k h = absurd (cc)
-    tail false ys k h = k h
+    tail b ys k h = search arith
 
     head : (o : Option ℕ) (ys : List Work) → (first_reply_in ys ≡ Some r → first_reply_in ws ≡ Some r) → first_of (o ∷ map (λ (v : Work). reply_of v.kind) ys) ≡ Some r
         → first_of (o ∷ map (λ (v : Work). reply_of v.kind) ws) ≡ Some r
-    head None ys k h = k h
-    head (Some b) ys k h = h
+    head o ys k h = search arith
 
     at : (b : Bool) → (first_reply_in (taken s (left - length (bytes_read s w)) ws) ≡ Some r → first_reply_in ws ≡ Some r)
         → first_reply_in (cond b [] (w ∷ cond (ends_read w.kind) [] (taken s (left - length (bytes_read s w)) ws))) ≡ Some r → first_reply_in (w ∷ ws) ≡ Some r
-    at true k h = absurd (cc)
-    at false k h =
-        head (reply_of w.kind) (cond (ends_read w.kind) [] (taken s (left - length (bytes_read s w)) ws))
-        (tail (ends_read w.kind) (taken s (left - length (bytes_read s w)) ws) k) h
+    at b k h = search (arith, head, taken, tail)
 
 -- a reply that stands on the list to read stands on the thread's own
 own-first : (s : Space) → IsOwed s → (t : Thread) (r : ℕ) → first_reply_in (list_to_read s t) ≡ Some r → first_reply s t.seat ≡ Some r
 unfolding list_to_read
-own-first s h t r e = at (has_work_in s.todo (OfThread t.seat)) (t.looping && is_none (innermost_in s.frames t.seat)) e
-  where
-    never : (p : ℕ) → first_reply_in (filter (is_on (OfProcess p)) s.todo) ≡ Some r → ⊥
-    never p f =
-        let w = first-in (filter (is_on (OfProcess p)) s.todo) r f in
-        let i = in-filter (is_on (OfProcess p)) w.0 s.todo w.1 in
-        let t = h.list w.0 r i.0 w.2 in
-        let on : same_list (OfProcess p) (OfThread t.0) ≡ true = ap (λ l. same_list (OfProcess p) l) (sym t.1) ∙ i.1 in
-        absurd (cc)
-
-    at : (b c : Bool) → first_reply_in (work_on s.todo (cond b (Some (OfThread t.seat)) (cond c (Some (OfProcess t.process)) None))) ≡ Some r → first_reply s t.seat ≡ Some r
-    at true c f = f
-    at false true f = absurd (never t.process f)
-    at false false f = absurd (cc)
+own-first s h t r e = search (arith, first-in, in-filter)
 
 -- ---- the step of a reading
 
@@ -205,8 +161,7 @@ faults : (s : Space) → IsOwed s → (seat limit : ℕ) (a : Actor) → actor s
     → Reads s seat (items_unless o (taken s (limit - 4) (list_to_read s a.thread)))
     (elim o as (λ (o : Option Fault). Outcome) [ Some y ↦ refused s y | None ↦ read_taking s a.thread.seat (taken s (limit - 4) (list_to_read s a.thread)) ]).space
 unfolding read_taking
-faults s h seat limit a e (Some y) = inl (refl, refl)
-faults s h seat limit a e None = finds s h seat (limit - 4) a e (first_reply_in (taken s (limit - 4) (list_to_read s a.thread))) refl
+faults s h seat limit a e o = search (arith, finds, taken)
 
 acts : (s : Space) → IsOwed s → (seat limit : ℕ) (o : Option Actor) → actor s seat ≡ o → Reads s seat (items_read s limit o) (by_actor s o (λ a. read_step s a limit)).space
 unfolding read_step

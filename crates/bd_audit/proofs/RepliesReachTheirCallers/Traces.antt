@@ -1,7 +1,7 @@
 -- The past of frames and of replies that are due: what they have behind them, and one frame or reply more.
 use Rattle.bd_laws.proofs.words.Logic.{◌≡◌, ℕ, ◌<◌, ◌+◌, ◌==◌, List, [], ◌∷◌, ◌++◌, length, Option, Some, Ok, inl, inr, refl, ap, sym, subst, ◌∙◌, append_assoc, length-append, arith, option_map, eqb-true}
 use Rattle.bd_laws.proofs.words.Types.{TransactionData, Parcel, Command, Accepted, Entry, Thread, Work, Frame, Actor, Pending, Serving, OfThread}
-use Rattle.bd_laws.proofs.words.Space.{Space, opening, actor, owe, goes_to, served_innermost, Delivery, delivered, own_notices, add_buffer, known_by, refer, make_objects, assign_numbers, completed, transaction_step, transaction_outcome, transaction_check, called, call_out, reply_step, reply_to, reply_outcome, reply_check, replied, command_step, change, by_actor, after}
+use Rattle.bd_laws.proofs.words.Space.{Space, opening, actor, owe, goes_to, served_innermost, Delivery, delivered, own_notices, add_buffer, known_by, refer, make_objects, assign_numbers, completed, transaction_step, transaction_check, called, call_out, reply_step, reply_check, replied, command_step, change, after}
 use Rattle.bd_uapi.specs.declared.command.Command.TheVariants as bc
 use Rattle.bd_space.specs.declared.space.WorkKind.TheVariants as work
 use Rattle.bd_links.specs.TodoList.{reply_of}
@@ -22,10 +22,7 @@ pub at-here : (es : List Entry) (e : Entry) (P : Space → Entry → Type 0) →
 at-here es e P h = (es, e, record { rest = []; all = refl; at = refl }, h)
 
 pub at-below : (es : List Entry) (i : ℕ) (P : Space → Entry → Type 0) → At es i P → i < length es
-at-below es i P h =
-    let k = h.2 in
-    let l : length es ≡ length h.0 + length (h.1 ∷ k.rest) = ap length k.all ∙ length-append h.0 (h.1 ∷ k.rest) in
-    let a = k.at in omega arith
+at-below es i P h = search (arith, length-append)
 
 -- ---- the past of frames and replies
 
@@ -94,21 +91,16 @@ traced-quiet es z y k h = record {
 module _ (s : Space) (seat : ℕ) (a : Actor) (d : TransactionData) (parcel : Option Parcel) (v : Delivery) (acts : actor s seat ≡ Some a) where
   pub transaction-accepted : transaction_check s a d parcel ≡ Ok v → (change s seat (Command (bc.Transaction d) parcel)).answer ≡ Accepted
   unfolding change command_step transaction_step
-  transaction-accepted h =
-      ap (λ o. (by_actor s o (λ b. command_step s b (bc.Transaction d) parcel)).answer) acts ∙ ap (λ r. (transaction_outcome s a d r).answer) h
+  transaction-accepted h = search arith
 
   module _ (f : Frame) (g : served_innermost s a.thread.seat ≡ Some f) (h : reply_check s a d parcel f ≡ Ok v) where
     pub reply-accepted : (change s seat (Command (bc.Reply d) parcel)).answer ≡ Accepted
     unfolding change command_step reply_step
-    reply-accepted =
-        ap (λ o. (by_actor s o (λ b. command_step s b (bc.Reply d) parcel)).answer) acts
-        ∙ ap (λ o. (reply_to s a d parcel o).answer) g ∙ ap (λ r. (reply_outcome s a d f r).answer) h
+    reply-accepted = search arith
 
     pub reply-space : (change s seat (Command (bc.Reply d) parcel)).space ≡ completed (replied s a d f v)
     unfolding change command_step reply_step
-    reply-space =
-        ap (λ o. (by_actor s o (λ b. command_step s b (bc.Reply d) parcel)).space) acts
-        ∙ ap (λ o. (reply_to s a d parcel o).space) g ∙ ap (λ r. (reply_outcome s a d f r).space) h
+    reply-space = search arith
 
 pub actor-made : (s : Space) (seat : ℕ) (a : Actor) → actor s seat ≡ Some a → (a.thread.seat ≡ seat) × (thread_made s seat ≡ Some a.thread.made)
 actor-made s seat a h =

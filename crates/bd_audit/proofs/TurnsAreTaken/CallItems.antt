@@ -1,15 +1,15 @@
 -- The work items of a one-way call: it is due once at most, on its receiver's list, while its buffer lives and isn't handed
 -- out; and what a step makes of its buffer.
-use Rattle.bd_laws.proofs.words.Logic.{◌≡◌, ℕ, ◌-◌, ◌<◌, Bool, true, false, cond, not, List, [], ◌∷◌, Option, Some, None, Ok, ◌⊎◌, inl, inr, refl, ap, sym, subst, ◌∙◌, filter, arith, list_any, eqb-true}
+use Rattle.bd_laws.proofs.words.Logic.{◌≡◌, ℕ, ◌-◌, ◌<◌, Bool, true, false, not, List, [], ◌∷◌, Option, Some, None, Ok, ◌⊎◌, inl, inr, refl, ap, sym, subst, ◌∙◌, filter, arith, list_any, eqb-true}
 use Rattle.bd_laws.proofs.words.Types.{TransactionData, ObjectId, Parcel, Command, Read, Entry, Actor, Frame, Buffer, Work, TodoList, OfThread, WorkKind}
-use Rattle.bd_laws.proofs.words.Space.{changed, Space, actor, owe, with_work, is_call, hands_out, list_to_read, is_item, closed, goes_to, follow, assign_numbers, Delivery, delivered, own_notices, add_buffer, known_by, refer, make_objects, buffer_of, transaction_check, transacted, called, call_out, is_one_way, reply_check, replied, is_made_at, taken, read_by, buffer_taken, hand_out, handed_buffers, read_fault, change, is_spam}
+use Rattle.bd_laws.proofs.words.Space.{Space, actor, owe, with_work, is_call, hands_out, list_to_read, is_item, closed, goes_to, follow, assign_numbers, Delivery, delivered, own_notices, add_buffer, known_by, refer, make_objects, buffer_of, transaction_check, transacted, called, call_out, is_one_way, reply_check, replied, is_made_at, taken, read_by, buffer_taken, hand_out, handed_buffers, read_fault, change, is_spam}
 use Rattle.bd_uapi.specs.declared.command.Command.TheVariants as bc
 use Rattle.bd_space.specs.declared.space.WorkKind.TheVariants as work
 use Rattle.bd_laws.proofs.words.Laws.{In, IsInTurn}
 use Rattle.bd_laws.proofs.Machine.EveryStep.{Keeps, every_step}
 use Rattle.bd_laws.proofs.Lists.{in-left, in-push, in-filter, in-changed, changed-in, any-in}
 use Rattle.bd_laws.proofs.Tests.{not-true}
-use Rattle.bd_laws.proofs.IsInTurn.OneWay.{less_table, less_exits, less_closes, Less, own_notices-less}
+use Rattle.bd_laws.proofs.IsInTurn.OneWay.{less_table, less_closes, own_notices-less}
 use Rattle.bd_laws.proofs.Machine.Untouched.{Untouched}
 use Rattle.bd_laws.proofs.IsInTurn.Ripening.{taken-due, read-in, made-kept}
 use Rattle.bd_laws.proofs.Checks.{Transacts, transaction-checked, reply-checked}
@@ -58,10 +58,7 @@ module _ (s : Space) (e : Entry) (m : ℕ) where
   }
     where
       was : m < s.steps → (w : Work) → Hands m z.todo w → In w y.todo
-      was lt w i = elim (in-push w _ y.todo (subst (In w) more i.0)) [
-        | inl k ↦ k
-        | inr is ↦ (let k : Some s.steps ≡ Some m = sym hands ∙ ap (λ (x : Work). hands_out x.kind) is ∙ i.1 in let at : s.steps ≡ m = cc in absurd (omega arith))
-      ]
+      was lt w i = search (arith, in-push)
 
   owes : (z : Space) (list : TodoList) (kind : WorkKind) → hands_out kind ≡ None → Treats s e m z → Treats s e m (owe z list kind)
   owes z list kind none h = (treats-untouched s e m) _ z (Untouched.owe-untouched z list kind) (OneWay.owe-less z list kind none) h
@@ -71,8 +68,7 @@ module _ (s : Space) (e : Entry) (m : ℕ) where
   calls-out z seat p steps none h = hands-other _ z (goes_to z seat p) (work.Call z.steps) (ap (λ n. Some n) steps) none refl refl h
 
   calls : (z : Space) (seat p : ℕ) (one_way : Bool) → z.steps ≡ s.steps → (one_way ≡ false → IsOneWay e.step → ⊥) → Treats s e m z → Treats s e m (called z seat p one_way)
-  calls z seat p true steps none h = h
-  calls z seat p false steps none h = calls-out z seat p steps (none refl) h
+  calls z seat p one_way steps none h = search (arith, calls-out)
 
   replies-to : (z : Space) (caller : Option ℕ) → z.steps ≡ s.steps → (IsOneWay e.step → ⊥) → Treats s e m z
       → Treats s e m (elim caller as (λ (o : Option ℕ). Space) [ None ↦ z | Some t ↦ owe z (OfThread t) (work.Reply s.steps) ])
@@ -155,40 +151,19 @@ module _ (s : Space) (e : Entry) (m : ℕ) where
 
       -- who hands the buffer over is among the items taken
       hander : (b : Buffer) → buffer_taken s items ≡ Some b → b.made ≡ m → (v : Work) × In v items × Hands m s.todo v
-      hander b e made =
-          let v = (taken-due s items b e).1 in
-          (v.0, v.1, (read-in s a.thread (limit - 4) v.0 v.1, v.2 ∙ ap (λ i. Some i) made))
+      hander b e made = search (arith, taken-due, read-in)
 
       -- a buffer whose item isn't taken stays as it was
       stays : (w : Work) → Hands m (filter left s.todo) w → (b : Buffer) → In b s.buffers → b.made ≡ m
           → (o : Option Buffer) → buffer_taken s items ≡ o → In b (handed_buffers s.buffers o)
-      stays w i b here made None f = here
-      stays w i b here made (Some y) f = at (is_made_at y.made b) refl (changed-in (is_made_at y.made) hand_out b s.buffers here)
-        where
-          at : (t : Bool) → is_made_at y.made b ≡ t → In (cond t (hand_out b) b) (changed (is_made_at y.made) hand_out s.buffers) → In b (changed (is_made_at y.made) hand_out s.buffers)
-          at false g k = k
-          at true g k =
-              let v = hander y f (sym (eqb-true b.made y.made g) ∙ made) in
-              let is = due.one w v.0 (was w i) v.2 in
-              let yes = any-in (λ (d : Work). is_item w d) v.0 items v.1 (same-item w v.0 is) in
-              let none = not-true (list_any (λ (d : Work). is_item w d) items) (in-filter left w s.todo i.0).1 in
-              absurd (cc)
+      stays w i b here made o f = search (arith, changed-in, hander, eqb-true, was, any-in, same-item, not-true, in-filter, left)
 
       calls-taken : (b : Buffer) → buffer_taken s items ≡ Some b → b.made ≡ m → list_any (λ (w : Work). is_call m w.kind) (items_taken s e.seat e.step) ≡ true
-      calls-taken b f made =
-          let v = hander b f made in
-          ap (λ ws. list_any (λ (w : Work). is_call m w.kind) ws) takes-items
-          ∙ any-in (λ (w : Work). is_call m w.kind) v.0 items v.1 (due.call v.0 v.2)
+      calls-taken b f made = search (arith, hander, takes-items, any-in)
 
       handed-out : (c : Buffer) → (o : Option Buffer) → buffer_taken s items ≡ o → In c (handed_buffers s.buffers o) → c.made ≡ m → c.handed ≡ true
           → HandedBefore s m ⊎ (list_any (λ (w : Work). is_call m w.kind) (items_taken s e.seat e.step) ≡ true)
-      handed-out c None f i made handed = inl (c, i, made, handed)
-      handed-out c (Some y) f i made handed = let b = in-changed (is_made_at y.made) hand_out c s.buffers i in at b.0 b.1 (is_made_at y.made b.0) refl b.2
-        where
-          at : (b : Buffer) → In b s.buffers → (t : Bool) → is_made_at y.made b ≡ t → c ≡ cond t (hand_out b) b
-              → HandedBefore s m ⊎ (list_any (λ (w : Work). is_call m w.kind) (items_taken s e.seat e.step) ≡ true)
-          at b j false g is = inl (b, j, ap (λ (x : Buffer). x.made) (sym is) ∙ made, ap (λ (x : Buffer). x.handed) (sym is) ∙ handed)
-          at b j true g is = inr (calls-taken y f (sym (eqb-true b.made y.made g) ∙ ap (λ (x : Buffer). x.made) (sym is) ∙ made))
+      handed-out c o f i made handed = search (arith, in-changed, calls-taken, eqb-true)
 
       old-made : (c : Buffer) → (o : Option Buffer) → In c (handed_buffers s.buffers o) → c.made < s.steps
       old-made c None i = turns.below c i

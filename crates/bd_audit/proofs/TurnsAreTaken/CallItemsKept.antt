@@ -1,13 +1,13 @@
 -- The work items of a one-way call, through the parts of a step that make none: what goes, and what ripens.
 use Rattle.bd_laws.proofs.words.Logic.{◌≡◌, ℕ, ◌<◌, ◌==◌, Bool, true, false, cond, not, List, [], ◌∷◌, ◌++◌, Option, Some, ◌⊎◌, inl, inr, refl, ap, sym, subst, ◌∙◌, map, filter, arith, list_any, count_by, eqb-true, eq-eqb}
-use Rattle.bd_laws.proofs.words.Types.{TransactionData, ObjectId, Parcel, Step, Command, Entry, Thread, Buffer, Turn, Work, OfThread, OfProcess}
-use Rattle.bd_laws.proofs.words.Space.{same, Space, with_work, is_call, hands_out, is_on, turn_of, turns_of, is_ripe, ripened, ripen, is_one_way, without_buffer, is_made_at, thread_goes, is_lost_with, threads_go, without_process, tell_deaths, seat_of, with_thread, with_process, with_manager, with_spam_detection}
+use Rattle.bd_laws.proofs.words.Types.{TransactionData, ObjectId, Parcel, Step, Command, Entry, Thread, Buffer, Turn, Work, OfProcess}
+use Rattle.bd_laws.proofs.words.Space.{same, Space, with_work, is_call, hands_out, turn_of, turns_of, is_ripe, ripened, ripen, is_one_way, without_buffer, is_made_at, thread_goes, threads_go, without_process, tell_deaths, seat_of, with_thread, with_process, with_manager, with_spam_detection}
 use Rattle.bd_uapi.specs.declared.command.Command.TheVariants as bc
 use Rattle.bd_space.specs.declared.space.WorkKind.TheVariants as work
 use Rattle.bd_laws.proofs.words.Laws.{In, IsInTurn, On}
 use Rattle.bd_laws.proofs.Lists.{in-push, in-filter, filter-in, in-filter_map, any-in, fold-keeps}
 use Rattle.bd_laws.proofs.Tests.{not-true, ripe-parts}
-use Rattle.bd_laws.proofs.IsInTurn.OneWay.{less_table, less_exits, less_closes, Less, own_notices-less}
+use Rattle.bd_laws.proofs.IsInTurn.OneWay.{Less}
 use Rattle.bd_laws.proofs.Machine.Untouched.{Untouched}
 use Rattle.bd_laws.proofs.IsInTurn.Ripening.{turn-parts}
 use Rattle.bd_laws.proofs.IsInTurn.Passing.{lost-on, not-on}
@@ -122,32 +122,11 @@ module _ (s : Space) (e : Entry) (m : ℕ) where
       stays c = not (is_made_at b.made c)
 
       other : (c : Buffer) → In c s.buffers → c.handed ≡ false → (t : Bool) → is_made_at b.made c ≡ t → not t ≡ true
-      other c i unhanded false f = refl
-      other c i unhanded true f = let is = one-buffer s turns c b i here (eqb-true c.made b.made f) in let wrong = ap (λ (x : Buffer). x.handed) is in absurd (cc)
+      other c i unhanded t f = search (arith, one-buffer, here, eqb-true)
 
   pub gone-thread : (z : Space) (seat : ℕ) → Treats s e m z → Treats s e m (thread_goes z seat)
   unfolding thread_goes
-  gone-thread z seat h =
-      treats-less _ z (λ c i. (in-filter keeps c z.buffers i).0) (λ w i. (was w i).0)
-      (λ k w i u. filter-in keeps u.buffer z.buffers u.here (stays k w i u (is_lost_with z.todo (OfThread seat) u.buffer.made) refl)) h
-    where
-      keeps : Buffer → Bool
-      keeps b = not (is_lost_with z.todo (OfThread seat) b.made)
-
-      off : Work → Bool
-      off w = not (is_on (OfThread seat) w)
-
-      was : (w : Work) → Hands m (filter (λ (w : Work). not (is_on (OfThread seat) w)) z.todo) w → Hands m z.todo w
-      was w i = ((in-filter off w z.todo i.0).0, i.1)
-
-      -- what is lost with the thread's list stood on it, and this call stands on a process's
-      stays : DueOnce m z.buffers z.todo → (w : Work) → Hands m (filter (λ (w : Work). not (is_on (OfThread seat) w)) z.todo) w → (u : Unread m z.buffers w) → (t : Bool)
-          → is_lost_with z.todo (OfThread seat) u.buffer.made ≡ t → not t ≡ true
-      stays k w i u false f = refl
-      stays k w i u true f =
-          let v = lost-on z.todo (OfThread seat) u.buffer.made f in
-          let is = k.one v.0 w (v.1, v.3 ∙ ap (λ n. Some n) u.made) (was w i) in
-          absurd (not-on seat v.0 u.buffer.receiver (ap (λ (x : Work). x.list) is ∙ u.list) v.2)
+  gone-thread z seat h = search (arith, treats-less, in-filter, filter-in, lost-on, not-on)
 
   gone-threads : (p : ℕ) → Treats s e m s → Treats s e m (threads_go s p)
   unfolding threads_go
@@ -155,28 +134,7 @@ module _ (s : Space) (e : Entry) (m : ℕ) where
 
   gone-process : (z : Space) (p : ℕ) → Treats s e m z → Treats s e m (without_process z p)
   unfolding without_process
-  gone-process z p h =
-      treats-less _ z (λ c i. (in-filter keeps c z.buffers i).0) (λ w i. (was w i).0)
-      (λ k w i u. filter-in keeps u.buffer z.buffers u.here (stays w i u (u.buffer.receiver == p) refl)) h
-    where
-      keeps : Buffer → Bool
-      keeps b = not (b.receiver == p)
-
-      off : Work → Bool
-      off w = not (is_on (OfProcess p) w)
-
-      was : (w : Work) → Hands m (filter (λ (w : Work). not (is_on (OfProcess p) w)) z.todo) w → Hands m z.todo w
-      was w i = ((in-filter off w z.todo i.0).0, i.1)
-
-      on : (w : Work) (q : ℕ) → w.list ≡ OfProcess q → is_on (OfProcess p) w ≡ (p == q)
-      on w q f = rw f refl
-
-      stays : (w : Work) → Hands m (filter (λ (w : Work). not (is_on (OfProcess p) w)) z.todo) w → (u : Unread m z.buffers w) → (t : Bool) → (u.buffer.receiver == p) ≡ t → not t ≡ true
-      stays w i u false f = refl
-      stays w i u true f =
-          let none = not-true (is_on (OfProcess p) w) (in-filter off w z.todo i.0).1 in
-          let yes = on w u.buffer.receiver u.list ∙ eq-eqb p u.buffer.receiver (sym (eqb-true u.buffer.receiver p f)) in
-          absurd (cc)
+  gone-process z p h = search (arith, treats-less, in-filter, filter-in, not-true, eq-eqb, eqb-true)
 
   pub gone-ends : (p : ℕ) → Treats s e m s → Treats s e m (tell_deaths (without_process (threads_go s p) p) p)
   gone-ends p h =
@@ -230,15 +188,11 @@ module _ (s : Space) (e : Entry) (m : ℕ) where
         new w is f = let k : Some t.made ≡ Some m = ap (λ (x : Work). hands_out x.kind) is ∙ f in cc
 
         none : (v : Work) → Hands m todo v → t.made ≡ m → ⊥
-        none v i is =
-            let yes = any-in (λ (w : Work). is_call m w.kind) v todo i.0 (h.call v i) in
-            let no = ap (λ n. list_any (λ (w : Work). is_call n w.kind) todo) (sym is) ∙ parts.1 in
-            absurd (cc)
+        none v i is = search (arith, any-in, parts)
 
     ripens-if : (b : Bool) (todo : List Work) (older : List Turn) (t : Turn) → ((b : Buffer) × In b bs × (turn_of b ≡ Some t)) → is_ripe todo older t ≡ b → DueOnce m bs todo
         → DueOnce m bs (cond b (with_work place todo (OfProcess t.receiver) (work.Call t.made)) todo)
-    ripens-if true todo older t own ripe h = ripens-once todo older t own ripe h
-    ripens-if false todo older t own ripe h = h
+    ripens-if b todo older t own ripe h = search (arith, ripens-once)
 
     ripens-all : (ts : List Turn) (todo : List Work) (older : List Turn) → ((t : Turn) → In t ts → (b : Buffer) × In b bs × (turn_of b ≡ Some t)) → DueOnce m bs todo
         → DueOnce m bs (ripened place older todo ts)

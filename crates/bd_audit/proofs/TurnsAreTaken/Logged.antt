@@ -50,24 +50,17 @@ pub live-in : (buffers : List Buffer) (c : Buffer) (made : ℕ) → In c buffers
 live-in buffers c made i e = any-in (is_made_at made) c buffers i (eq-eqb c.made made e)
 
 pub handed-found : (buffers : List Buffer) (made : ℕ) → is_handed buffers made ≡ true → (c : Buffer) × In c buffers × (c.made ≡ made) × (c.handed ≡ true)
-handed-found buffers made h =
-    let c = any-found (λ b. is_made_at made b && b.handed) buffers h in
-    let k = both (is_made_at made c.0) c.0.handed c.2 in
-    (c.0, c.1, eqb-true c.0.made made k.0, k.1)
+handed-found buffers made h = search (arith, any-found, both, eqb-true)
 
 pub handed-in : (buffers : List Buffer) (c : Buffer) (made : ℕ) → In c buffers → c.made ≡ made → c.handed ≡ true → is_handed buffers made ≡ true
 handed-in buffers c made i e t = any-in (λ b. is_made_at made b && b.handed) c buffers i (and-both (is_made_at made c) c.handed (eq-eqb c.made made e) t)
 
 -- what was noted now, or before
 pub noted-some : (o : Option ℕ) (n : ℕ) (now : Bool) (p : ℕ) → noted_at o n now ≡ Some p → (o ≡ Some p) ⊎ ((o ≡ None) × (now ≡ true) × (p ≡ n))
-noted-some (Some q) n now p h = inl h
-noted-some None n true p h = inr (refl, refl, cc)
-noted-some None n false p h = absurd (cc)
+noted-some o n now p h = search arith
 
 pub noted-none : (o : Option ℕ) (n : ℕ) (now : Bool) → noted_at o n now ≡ None → (o ≡ None) × (now ≡ false)
-noted-none (Some q) n now h = absurd (cc)
-noted-none None n true h = absurd (cc)
-noted-none None n false h = (refl, refl)
+noted-none o n now h = search arith
 
 pub noted-kept : (o : Option ℕ) (n : ℕ) (now : Bool) (p : ℕ) → o ≡ Some p → noted_at o n now ≡ Some p
 noted-kept o n now p h = rw h refl
@@ -77,8 +70,7 @@ some-case None = inl refl
 some-case (Some p) = inr (p, refl)
 
 pub bool-case : (b : Bool) → (b ≡ true) ⊎ (b ≡ false)
-bool-case true = inl refl
-bool-case false = inr refl
+bool-case b = search arith
 
 module _ (s z : Space) (h : Before s) (turns : Turning z) (p : Passed s z) (o : ObjectId) where
   -- the buffer of a turn that was open, after the step

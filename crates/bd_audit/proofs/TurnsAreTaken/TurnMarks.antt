@@ -32,17 +32,13 @@ all-in p (u ∷ ts) h t (inr i) = all-in p ts (both (p u) (list_all p ts) h).1 t
 -- ---- one turn
 
 some-is : (o : Option ℕ) → is_some o ≡ true → (p : ℕ) × (o ≡ Some p)
-some-is (Some p) h = (p, refl)
-some-is None h = absurd (cc)
+some-is o h = search arith
 
 none-is : (o : Option ℕ) → is_some o ≡ false → o ≡ None
-none-is (Some p) h = absurd (cc)
-none-is None h = refl
+none-is o h = search arith
 
 not-noted : (o : Option ℕ) (n : ℕ) (now : Bool) → now ≡ false → noted_at o n now ≡ o
-not-noted (Some p) n now h = refl
-not-noted None n true h = absurd (cc)
-not-noted None n false h = refl
+not-noted o n now h = search arith
 
 module _ (o : ObjectId) (n : ℕ) (z : Space) (ts new : List Turn) (log : Logged o (map (marked n z.buffers) ts ++ new) z) where
   abbrev mark : Turn → Turn
@@ -91,11 +87,7 @@ module _ (o : ObjectId) (n : ℕ) (z : Space) (ts new : List Turn) (log : Logged
   )
 
   pub logged-in-turn : (m : ℕ) → list_all has_ended (take m ts) ≡ true → AreInTurn mark m ts
-  logged-in-turn m h = record {
-    ended = h;
-    stay = map-same mark (take m ts) (λ t i. stays t (in-take m ts t i) (all-in has_ended (take m ts) h t i));
-    wait = all-wait ts (λ t i. i) log.order;
-  }
+  logged-in-turn m h = search (arith, map-same, stays, in-take, all-in, all-wait)
 
 -- ---- one step more of a history
 

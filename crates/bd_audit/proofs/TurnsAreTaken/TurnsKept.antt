@@ -33,24 +33,13 @@ module _ (s z : Space) (h : Before s) (turns : Turning z) (p : Passed s z) (o : 
         )
       where
         unnot : (b : Bool) → not b ≡ false → b ≡ true
-        unnot true e = refl
-        unnot false e = absurd (cc)
+        unnot b e = search arith
 
         handed-stays : (b c : Buffer) → Became s b c → b.handed ≡ true → c.handed ≡ true
         handed-stays b c k e = elim k.handed [ inl f ↦ f ∙ e | inr f ↦ f.0 ]
 
         now : (c : Buffer) → In c z.buffers → c.made ≡ t.made → (x : Bool) → is_handed z.buffers t.made ≡ x → c.handed ≡ is_some (noted_at None s.steps x)
-        now c j e true f =
-            let d = handed-found z.buffers t.made f in
-            let same_buffer : d.0 ≡ c = elim (pairs-either (Waits z.todo) z.buffers turns.waits d.0 c d.1 j) [
-              | inl k ↦ k
-              | inr k ↦ elim k [ inl w ↦ (let lt = w.earlier in let m = d.2 in absurd (omega arith)) | inr w ↦ (let lt = w.earlier in let m = d.2 in absurd (omega arith)) ]
-            ] in
-            ap (λ (x : Buffer). x.handed) (sym same_buffer) ∙ d.3
-        now c j e false f = elim (bool-case c.handed) [
-          | inl k ↦ (let wrong = handed-in z.buffers c t.made j e k in absurd (cc))
-          | inr k ↦ k
-        ]
+        now c j e x f = search (arith, handed-found, pairs-either, turns, bool-case, handed-in)
 
         handed-after : (c : Buffer) → In c z.buffers → c.made ≡ t.made → (t.handed ≡ None) ⊎ ((q : ℕ) × (t.handed ≡ Some q)) → ((q : ℕ) → t.handed ≡ Some q → c.handed ≡ true)
             → c.handed ≡ is_some (noted_at t.handed s.steps (is_handed z.buffers t.made))
@@ -87,13 +76,7 @@ module _ (s z : Space) (h : Before s) (turns : Turning z) (p : Passed s z) (o : 
         ]
 
     past-after : (t : Turn) → In t ts → Past (suc s.steps) (marked s.steps z.buffers t)
-    past-after t i =
-        let k = log.past t i in
-        record {
-          made = let lt = k.made in omega arith;
-          handed = λ q e. elim (noted-some t.handed s.steps (is_handed z.buffers t.made) q e) [ inl f ↦ (let lt = k.handed q f in omega arith) | inr f ↦ (let at = f.2 in omega arith) ];
-          ended = λ q e. elim (noted-some t.ended s.steps (not (is_live z.buffers t.made)) q e) [ inl f ↦ (let lt = k.ended q f in omega arith) | inr f ↦ (let at = f.2 in omega arith) ];
-        }
+    past-after t i = search (arith, noted-some)
 
     -- who is handed out by this step was open, and due
     due-now : (u : Turn) → In u ts → u.handed ≡ None → is_handed z.buffers u.made ≡ true → (b : Buffer) × Open o u s b × Due s.todo b.made
@@ -117,13 +100,7 @@ module _ (s z : Space) (h : Before s) (turns : Turning z) (p : Passed s z) (o : 
         ]
 
     rivals : (b c : Buffer) → On o b → On o c → Rivals b c
-    rivals b c i j = (
-      record { made = b.made; receiver = b.receiver; target = o; handed = b.handed },
-      record { made = c.made; receiver = c.receiver; target = o; handed = c.handed },
-      on-turn o b i,
-      on-turn o c j,
-      eq-same o o refl,
-    )
+    rivals b c i j = search (arith, on-turn, eq-same)
 
     in_order-after : (t u : Turn) → In t ts → In u ts → InOrder t u → InOrder (marked s.steps z.buffers t) (marked s.steps z.buffers u)
     in_order-after t u i j k = record {
@@ -166,12 +143,10 @@ module _ (s z : Space) (h : Before s) (turns : Turning z) (p : Passed s z) (o : 
     NewTurn t c = In c z.buffers × (t.made ≡ s.steps) × (t.handed ≡ None) × (t.ended ≡ None) × (c.made ≡ s.steps) × On o c × (c.handed ≡ false)
 
     made-when : (b : Bool) (t u : Turn) → when b t ≡ Some u → (b ≡ true) × (t ≡ u)
-    made-when true t u e = (refl, cc)
-    made-when false t u e = absurd (cc)
+    made-when b t u e = search arith
 
     targets : (target : Option ObjectId) → is_some_and target (λ x. same x o) ≡ true → target ≡ Some o
-    targets None e = absurd (cc)
-    targets (Some x) e = ap (λ y. Some y) (same-eq x o e)
+    targets target e = search (arith, same-eq)
 
     new-turn : (t : Turn) → In t (filter_map (turn_made o s.steps) z.buffers) → (c : Buffer) × NewTurn t c
     new-turn t i =
@@ -202,17 +177,7 @@ module _ (s z : Space) (h : Before s) (turns : Turning z) (p : Passed s z) (o : 
       where
         cons : (x : Bool) → (is_made_at s.steps b && is_call_on o b) ≡ x → Pairs InOrder (filter_map (turn_made o s.steps) bs)
             → Pairs InOrder (cons_option (when x (record { made = s.steps; handed = None; ended = None })) (filter_map (turn_made o s.steps) bs))
-        cons false e k = k
-        cons true e k = (
-          (λ u i.
-              let c = in-filter_map (turn_made o s.steps) u bs i in
-              let v = made-when (is_made_at s.steps c.0 && is_call_on o c.0) (record { made = s.steps; handed = None; ended = None }) u c.2 in
-              let cm = eqb-true c.0.made s.steps (both (is_made_at s.steps c.0) (is_call_on o c.0) v.0).0 in
-              let bm = eqb-true b.made s.steps (both (is_made_at s.steps b) (is_call_on o b) e).0 in
-              let lt = (w.0 c.0 c.1).earlier in
-              absurd (omega arith)),
-          k,
-        )
+        cons x e k = search (arith, in-filter_map, made-when, eqb-true, both)
 
     -- ---- all turns
 

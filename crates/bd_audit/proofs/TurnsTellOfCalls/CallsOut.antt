@@ -1,7 +1,8 @@
 -- A call that a reading takes hands its buffer out, and an accepted one-way transaction makes one.
-use Rattle.bd_laws.proofs.words.Logic.{◌≡◌, ℕ, zero, suc, ◌-◌, ◌==◌, Bool, true, false, cond, ◌||◌, List, [], ◌∷◌, length, Option, Some, None, Result, Ok, Err, refl, ap, sym, subst, ◌∙◌, map, find, nat_lt, list_any, is_some, option_and_then, eqb-true, eq-eqb}
-use Rattle.bd_laws.proofs.words.Types.{TransactionData, DeadReply, Fault, Cause, ObjectId, Parcel, Step, Command, Read, Accepted, Entry, Actor, Buffer, Frame, Work, OfThread, WorkKind}
-use Rattle.bd_laws.proofs.words.Space.{first_of, changed, Space, actor, owe, is_call, hands_out, list_to_read, closed, settle, settle_one, settle_times, is_abandoned, ripen, follow, assign_numbers, Delivery, delivered, own_notices, add_buffer, known_by, refer, make_objects, buffer_of, transaction_step, transaction_outcome, transaction_check, transacted, is_one_way, target_of, handle_of, is_made_at, command_step, Outcome, completed, refused, taken, ends_read, read_by, buffer_taken, hand_out, handed_buffers, bytes_read, buffer_in, read_fault, read_step, read_taking, change, by_actor, is_spam}
+use Rattle.bd_laws.proofs.words.Logic.{arith}
+use Rattle.bd_laws.proofs.words.Logic.{◌≡◌, ℕ, zero, suc, ◌-◌, ◌==◌, Bool, true, false, cond, ◌||◌, List, [], ◌∷◌, length, Option, Some, None, Result, Ok, Err, refl, ap, sym, subst, ◌∙◌, map, find, nat_lt, list_any, is_some, eqb-true, eq-eqb}
+use Rattle.bd_laws.proofs.words.Types.{TransactionData, DeadReply, Fault, Cause, ObjectId, Parcel, Step, Command, Accepted, Entry, Actor, Buffer, Frame, Work, OfThread, WorkKind}
+use Rattle.bd_laws.proofs.words.Space.{first_of, Space, actor, owe, is_call, hands_out, list_to_read, closed, settle, settle_one, settle_times, is_abandoned, ripen, follow, assign_numbers, Delivery, delivered, own_notices, add_buffer, known_by, refer, make_objects, buffer_of, transaction_step, transaction_outcome, transaction_check, transacted, is_one_way, target_of, handle_of, is_made_at, command_step, Outcome, completed, refused, taken, ends_read, read_by, buffer_taken, handed_buffers, bytes_read, buffer_in, read_fault, read_step, read_taking, change, by_actor, is_spam}
 use Rattle.bd_uapi.specs.declared.command.Command.TheVariants as bc
 use Rattle.bd_space.specs.declared.space.WorkKind.TheVariants as work
 use Rattle.bd_laws.proofs.words.Laws.{In, On}
@@ -18,16 +19,13 @@ use Rattle.bd_audit.proofs.TurnsAreTaken.Logged.{handed-in}
 -- ---- what a reading takes was due
 
 unless-due : (s : Space) (a : Actor) (limit : ℕ) (f : Option Fault) (w : Work) → In w (items_unless f (taken s (limit - 4) (list_to_read s a.thread))) → In w s.todo
-unless-due s a limit (Some y) w i = absurd i
-unless-due s a limit None w i = read-in s a.thread (limit - 4) w i
+unless-due s a limit f w i = search (arith, read-in)
 
 read-due : (s : Space) (limit : ℕ) (o : Option Actor) (w : Work) → In w (items_read s limit o) → In w s.todo
-read-due s limit None w i = absurd i
-read-due s limit (Some a) w i = unless-due s a limit (read_fault limit (list_to_read s a.thread)) w i
+read-due s limit o w i = search (arith, unless-due)
 
 pub items-due : (s : Space) (seat : ℕ) (x : Step) (w : Work) → In w (items_taken s seat x) → In w s.todo
-items-due s seat (Read limit) w i = read-due s limit (actor s seat) w i
-items-due s seat _ w i = absurd i
+items-due s seat x w i = search (arith, read-due)
 
 -- ---- the call among the items is what hands a buffer out
 
@@ -44,8 +42,7 @@ module _ (s : Space) (m : ℕ) where
   first-kind ws (work.Call b) k h = at (b == m) refl h
     where
       at : (t : Bool) → (b == m) ≡ t → (t || false) ≡ true → Some b ≡ Some m
-      at true e f = ap (λ n. Some n) (eqb-true b m e)
-      at false e f = absurd (cc)
+      at t e f = search (arith, eqb-true)
   first-kind ws (work.Reply b) k h = absurd (cc)
   first-kind ws (work.Death n) k h = absurd (cc)
   first-kind ws _ k h = k h
@@ -57,8 +54,7 @@ module _ (s : Space) (m : ℕ) where
       at : (b : Bool) → (has_call (taken s (left - length (bytes_read s w)) ws) ≡ true → first_handed (taken s (left - length (bytes_read s w)) ws) ≡ Some m)
           → has_call (cond b [] (w ∷ cond (ends_read w.kind) [] (taken s (left - length (bytes_read s w)) ws))) ≡ true
           → first_handed (cond b [] (w ∷ cond (ends_read w.kind) [] (taken s (left - length (bytes_read s w)) ws))) ≡ Some m
-      at true k h = absurd (cc)
-      at false k h = first-kind (taken s (left - length (bytes_read s w)) ws) w.kind k h
+      at b k h = search (arith, first-kind, taken)
 
   -- where the call's buffer lives, taking its item marks it
   module _ (b : Buffer) (here : In b s.buffers) (made : b.made ≡ m) where
@@ -74,22 +70,14 @@ module _ (s : Space) (m : ℕ) where
 
     taken-buffer : (ws : List Work) → first_handed ws ≡ Some m → (y : Buffer) × (buffer_taken s ws ≡ Some y) × (y.made ≡ m)
     unfolding buffer_taken
-    taken-buffer ws h =
-        let y = buffer-found in
-        (y.0, ap (λ o. option_and_then (buffer_in s.buffers) o) h ∙ y.1, y.2)
+    taken-buffer ws h = search (arith, buffer-found)
 
     marked-handed : (y : Buffer) → y.made ≡ m → is_handed (handed_buffers s.buffers (Some y)) m ≡ true
-    marked-handed y e =
-        let is = eq-eqb b.made y.made (made ∙ sym e) in
-        let k = changed-in (is_made_at y.made) hand_out b s.buffers here in
-        handed-in (changed (is_made_at y.made) hand_out s.buffers) (hand_out b) m
-        (subst (λ t. In (cond t (hand_out b) b) (changed (is_made_at y.made) hand_out s.buffers)) is k) made refl
+    marked-handed y e = search (arith, eq-eqb, changed-in, handed-in)
 
     read-handed : (seat : ℕ) (ws : List Work) → first_handed ws ≡ Some m → is_handed (read_by s seat ws).buffers m ≡ true
     unfolding read_by
-    read-handed seat ws h =
-        let y = taken-buffer ws h in
-        ap (λ o. is_handed (handed_buffers s.buffers o) m) y.1 ∙ marked-handed y.0 y.2
+    read-handed seat ws h = search (arith, taken-buffer, marked-handed)
 
     list-handed : (limit : ℕ) (a : Actor) (f : Option Fault) → has_call (items_unless f (taken s (limit - 4) (list_to_read s a.thread))) ≡ true
         → is_handed (elim f as (λ (o : Option Fault). Outcome) [
@@ -97,10 +85,7 @@ module _ (s : Space) (m : ℕ) where
           | None ↦ read_taking s a.thread.seat (taken s (limit - 4) (list_to_read s a.thread))
         ]).space.buffers m ≡ true
     unfolding read_taking
-    list-handed limit a (Some y) h = absurd (cc)
-    list-handed limit a None h =
-        let ws = taken s (limit - 4) (list_to_read s a.thread) in
-        ap (λ bs. is_handed bs m) (follow-after (read_by s a.thread.seat ws)).buffers ∙ read-handed a.thread.seat ws (first-call (list_to_read s a.thread) (limit - 4) h)
+    list-handed limit a f h = search (arith, taken, follow-after, read-handed, first-call)
 
     actor-handed : (limit : ℕ) (o : Option Actor) → has_call (items_read s limit o) ≡ true → is_handed (by_actor s o (λ a. read_step s a limit)).space.buffers m ≡ true
     unfolding read_step
@@ -109,8 +94,7 @@ module _ (s : Space) (m : ℕ) where
 
     pub hands-out : (seat : ℕ) (x : Step) → has_call (items_taken s seat x) ≡ true → is_handed (change s seat x).space.buffers m ≡ true
     unfolding change
-    hands-out seat (Read limit) h = actor-handed limit (actor s seat) h
-    hands-out seat _ h = absurd (cc)
+    hands-out seat x h = search (arith, actor-handed)
 
 -- ---- an accepted one-way transaction makes a buffer
 
@@ -161,10 +145,7 @@ actor-makes : (s : Space) (a : Actor) (d : TransactionData) (parcel : Option Par
     → (x : Option Actor) → x ≡ Some a → (by_actor s x (λ b. command_step s b (bc.Transaction d) parcel)).answer ≡ Accepted
     → MakesCall s o (by_actor s x (λ b. command_step s b (bc.Transaction d) parcel)).space.buffers
 unfolding command_step transaction_step
-actor-makes s a d parcel o one_way target None acts answer = absurd (cc)
-actor-makes s a d parcel o one_way target (Some b) acts answer =
-    let is : b ≡ a = cc in
-    outcome-makes s b d parcel o one_way (subst (λ (y : Actor). target_of s y.process.made (handle_of d) ≡ Ok o) (sym is) target) (transaction_check s b d parcel) refl answer
+actor-makes s a d parcel o one_way target x acts answer = search (arith, outcome-makes)
 
 command-makes : (s : Space) (seat : ℕ) (a : Actor) (d : TransactionData) (parcel : Option Parcel) (o : ObjectId) → is_one_way d ≡ true → target_of s a.process.made (handle_of d) ≡ Ok o
     → actor s seat ≡ Some a → (change s seat (Command (bc.Transaction d) parcel)).answer ≡ Accepted → MakesCall s o (change s seat (Command (bc.Transaction d) parcel)).space.buffers
@@ -172,6 +153,4 @@ unfolding change
 command-makes s seat a d parcel o one_way target acts answer = actor-makes s a d parcel o one_way target (actor s seat) acts answer
 
 pub call-makes : (s : Space) (e : Entry) (o : ObjectId) → CallsOneWay s e o → MakesCall s o (change s e.seat e.step).space.buffers
-call-makes s e o h =
-    subst (λ x. MakesCall s o (change s e.seat x).space.buffers) (sym h.command)
-    (command-makes s e.seat h.actor_is h.fields h.parcel o h.one_way h.target h.acts (ap (λ x. (change s e.seat x).answer) (sym h.command) ∙ h.accepted))
+call-makes s e o h = search (arith, change, command-makes)

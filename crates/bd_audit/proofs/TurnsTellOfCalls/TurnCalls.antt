@@ -1,5 +1,5 @@
 -- The turns of an object tell of its one-way calls: each of one accepted transaction, and each such transaction has a turn.
-use Rattle.bd_laws.proofs.words.Logic.{◌≡◌, ℕ, suc, ◌≤◌, ◌==◌, List, [], ◌∷◌, ◌++◌, Option, Some, None, inl, inr, refl, ap, sym, subst, ◌∙◌, append_assoc, append-nil, arith, AllPairs, eqb-true}
+use Rattle.bd_laws.proofs.words.Logic.{◌≡◌, ℕ, suc, ◌≤◌, ◌==◌, List, [], ◌∷◌, ◌++◌, Option, Some, inl, inr, refl, ap, sym, subst, ◌∙◌, append_assoc, append-nil, arith, AllPairs, eqb-true}
 use Rattle.bd_laws.proofs.words.Types.{ObjectId, Entry}
 use Rattle.bd_laws.proofs.words.Space.{Space, opening, History, after, next}
 use Rattle.bd_laws.proofs.words.Laws.{In, Pairs}
@@ -47,9 +47,7 @@ turns-are h o =
 -- ---- there are no other turns
 
 same-option : (a b : Option ℕ) → ((p : ℕ) → a ≡ Some p → b ≡ Some p) → ((p : ℕ) → b ≡ Some p → a ≡ Some p) → a ≡ b
-same-option (Some p) b h k = sym (h p refl)
-same-option None (Some p) h k = k p refl
-same-option None None h k = refl
+same-option a b h k = search arith
 
 same-turn : (es : List Entry) (o : ObjectId) (t u : Turn) → TellsOf es o t → TellsOf es o u → t.made ≡ u.made → t ≡ u
 same-turn es o t u h k is =

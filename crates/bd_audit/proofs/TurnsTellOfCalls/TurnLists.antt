@@ -1,7 +1,7 @@
 -- The turns of an object as they are noted step by step, by the buffer made at each place.
 use Rattle.bd_laws.proofs.words.Logic.{◌≡◌, ℕ, ◌+◌, ◌<◌, Bool, true, false, cond, ◌&&◌, ◌||◌, List, [], ◌∷◌, ◌++◌, Option, Some, None, inl, inr, refl, ap, sym, ◌∙◌, map, length, take, drop, set, get_or, arith, filter_map, cons_option, is_some, eqb-true, map_over_more, get_or_default}
 use Rattle.bd_laws.proofs.words.Types.{ObjectId, Entry, Buffer}
-use Rattle.bd_laws.proofs.words.Space.{when, is_some_and, Space, opening, is_made_at, buffer_in, History, after, next, space_after}
+use Rattle.bd_laws.proofs.words.Space.{when, is_some_and, Space, is_made_at, buffer_in, History, after, next, space_after}
 use Rattle.bd_laws.proofs.words.Laws.{In, Pairs, Waits}
 use Rattle.bd_laws.proofs.Lists.{pairs-map}
 use Rattle.bd_laws.proofs.IsInTurn.InTurn.{always-in_turn}
@@ -21,8 +21,7 @@ live-find [] made = refl
 live-find (b ∷ bs) made = first (is_made_at made b) (live-find bs made)
   where
     first : (x : Bool) → is_live bs made ≡ is_some (buffer_in bs made) → (x || is_live bs made) ≡ is_some (cond x (Some b) (buffer_in bs made))
-    first true h = refl
-    first false h = h
+    first x h = search arith
 
 -- no later buffer is made there
 later-not : (bs : List Buffer) (made : ℕ) → ((c : Buffer) → In c bs → c.made ≡ made → ⊥) → is_handed bs made ≡ false
@@ -43,8 +42,7 @@ later-none o (b ∷ bs) made h = first (is_made_at made b) refl (later-none o bs
     first false e k = k
 
 or-false : (a b : Bool) → b ≡ false → (a || b) ≡ a
-or-false true b h = refl
-or-false false b h = h
+or-false a b h = search arith
 
 pub handed-find : (bs : List Buffer) (made : ℕ) → Pairs Rising bs → is_handed bs made ≡ is_some_and (buffer_in bs made) (λ b. b.handed)
 handed-find [] made h = refl
@@ -52,8 +50,7 @@ handed-find (b ∷ bs) made h = first (is_made_at made b) refl (handed-find bs m
   where
     first : (x : Bool) → is_made_at made b ≡ x → is_handed bs made ≡ is_some_and (buffer_in bs made) (λ b. b.handed)
         → ((x && b.handed) || is_handed bs made) ≡ is_some_and (cond x (Some b) (buffer_in bs made)) (λ b. b.handed)
-    first true e k = or-false b.handed (is_handed bs made) (later-not bs made (λ c i m. let lt = h.0 c i in let at = eqb-true b.made made e in absurd (omega arith)))
-    first false e k = k
+    first x e k = search (arith, or-false, later-not, eqb-true)
 
 abbrev pub one_turn : ObjectId → ℕ → Option Buffer → List Turn
 one_turn o made None = []
@@ -64,16 +61,11 @@ made-find o [] made h = refl
 made-find o (b ∷ bs) made h = first (is_made_at made b) refl (made-find o bs made h.1)
   where
     here : (x : Bool) → cons_option (when x (let t : Turn = record { made = made; handed = None; ended = None } in t)) [] ≡ cond x (record { made = made; handed = None; ended = None } ∷ []) []
-    here true = refl
-    here false = refl
+    here x = search arith
 
     first : (x : Bool) → is_made_at made b ≡ x → filter_map (turn_made o made) bs ≡ one_turn o made (buffer_in bs made)
         → cons_option (when (x && is_call_on o b) (record { made = made; handed = None; ended = None })) (filter_map (turn_made o made) bs) ≡ one_turn o made (cond x (Some b) (buffer_in bs made))
-    first true e k =
-        ap (cons_option (when (is_call_on o b) (record { made = made; handed = None; ended = None })))
-        (later-none o bs made (λ c i m. let lt = h.0 c i in let at = eqb-true b.made made e in absurd (omega arith)))
-        ∙ here (is_call_on o b)
-    first false e k = k
+    first x e k = search (arith, later-none, eqb-true, here)
 
 rising : (h : History) → Pairs Rising (space_after h).buffers
 rising h = pairs-map (Waits (space_after h).todo) Rising (space_after h).buffers (λ b c i j w. w.earlier) (always-in_turn h).waits
@@ -109,16 +101,11 @@ turns-last o (x ∷ es) s ts e = turns-last o es (next s x) (next_turns o s.step
 
 pub turns-next : (o : ObjectId) (h : History) (e : Entry) → turns_on o (with_entry h e) ≡ next_turns o (length h.entries) (space_after (with_entry h e)).buffers (turns_on o h)
 unfolding turns_on space_after
-turns-next o h e =
-    turns-last o h.entries opening [] e
-    ∙ ap (λ n. next_turns o n (next (after opening h.entries) e).buffers (turns_on o h)) (always-steps h.entries)
-    ∙ ap (λ (z : Space). next_turns o (length h.entries) z.buffers (turns_on o h)) (sym (after-append opening h.entries (e ∷ [])))
+turns-next o h e = search (arith, turns-last, always-steps, after-append)
 
 pub turns-noted : (o : ObjectId) (g k : History) (e : Entry) (place : ℕ) (ts us : List Turn) → k ≡ with_entry g e → place ≡ length g.entries → ts ≡ turns_on o g
     → us ≡ next_turns o place (space_after k).buffers ts → us ≡ turns_on o k
-turns-noted o g k e place ts us at p t u =
-    u ∙ ap (λ x. next_turns o place (space_after k).buffers x) t ∙ ap (λ n. next_turns o n (space_after k).buffers (turns_on o g)) p
-    ∙ ap (λ (x : History). next_turns o (length g.entries) (space_after x).buffers (turns_on o g)) at ∙ sym (turns-next o g e) ∙ ap (λ (x : History). turns_on o x) (sym at)
+turns-noted o g k e place ts us at p t u = search (arith, turns-next)
 
 pub turns-none : (o : ObjectId) (seats : ℕ) → turns_on o (record { seats = seats; entries = [] }) ≡ []
 unfolding turns_on

@@ -43,10 +43,7 @@ in-front (z ∷ es) e (y ∷ before) x rest h =
     ]
 
 at-split : (es : List Entry) (e : Entry) (p : ℕ) (P : Space → Entry → Type 0) → At (es ++ e ∷ []) p P → At es p P ⊎ ((p ≡ length es) × P (after opening es) e)
-at-split es e p P h = elim (in-front es e h.0 h.1 h.2.rest h.2.all) [
-  | inl m ↦ inl (h.0, h.1, record { rest = m.0; all = m.1; at = h.2.at }, h.3)
-  | inr m ↦ inr (sym h.2.at ∙ ap length m.0, subst (λ xs. P (after opening xs) e) m.0 (subst (P (after opening h.0)) m.1 h.3))
-]
+at-split es e p P h = search (arith, in-front)
 
 pub in-slice : (ts : List Turn) (t : Turn) → In t ts → (i : ℕ) × (slice_get ts i ≡ Some t)
 in-slice [] t i = absurd i
@@ -80,9 +77,7 @@ ends-later es p c h =
     let at = h.2.at in omega arith
 
 noted-now : (o : Option ℕ) (n p : ℕ) (now : Bool) → is_some o ≡ false → now ≡ true → p ≡ n → noted_at o n now ≡ Some p
-noted-now (Some q) n p now h k e = absurd (cc)
-noted-now None n p true h k e = ap (λ i. Some i) (sym e)
-noted-now None n p false h k e = absurd (cc)
+noted-now o n p now h k e = search arith
 
 -- ---- one entry more
 
