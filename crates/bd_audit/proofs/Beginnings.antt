@@ -1,4 +1,5 @@
--- A beginning of a history is one; what its last entry has to meet.
+-- For most laws of the audit and for its searches: the first entries of a history are a history, and what a next entry must
+-- meet.
 use Rattle.bd_laws.proofs.words.Logic.{◌≡◌, ◌≤◌, ◌<◌, ◌+◌, ℕ, Bool, true, false, ◌||◌, List, [], ◌∷◌, ◌++◌, length, take, drop, get_or, Some, refl, ap, sym, ◌∙◌, subst, arith, length-append, nat_lt, nat_le, list_all, lt-leb, take-append-drop, take_all, take_more, length-take-le}
 use Rattle.bd_laws.proofs.words.Types.{Entry, StepAnswer, Step}
 use Rattle.bd_laws.proofs.words.Space.{Space, opening, step, History, history_of, IsHistory, EntryFollows, Follows, after, next, space_after, is_at_limit}
@@ -6,7 +7,8 @@ use Rattle.bd_engine.specs.declared.why.Why.{Why}
 use Rattle.bd_engine.specs.Refusals.{FullOnly}
 use Rattle.bd_audit.specs.declared.judging.AuditFault.{AuditFault}
 use Rattle.bd_audit.specs.Replays.{with_entry, beginning, Begins, IfUnlawful, fault_of, StopsAt}
-use Rattle.bd_laws.proofs.Tests.{and-both as join, both}
+use Rattle.bd_laws.proofs.Tests.{both}
+use Rattle.std.proofs.lemmas.List.Folds.{list_all-append}
 
 pub follows-front : (s : Space) (es fs : List Entry) → Follows s (es ++ fs) → Follows s es
 follows-front s [] fs h = tt
@@ -20,22 +22,13 @@ pub after-append : (s : Space) (es fs : List Entry) → after s (es ++ fs) ≡ a
 after-append s [] fs = refl
 after-append s (e ∷ es) fs = after-append (next s e) es fs
 
-module _ {A : Type 0} (p : A → Bool) where
-  pub all-front : (xs ys : List A) → list_all p (xs ++ ys) ≡ true → list_all p xs ≡ true
-  all-front [] ys h = refl
-  all-front (x ∷ xs) ys h = let k = both (p x) (list_all p (xs ++ ys)) h in join (p x) (list_all p xs) k.0 (all-front xs ys k.1)
-
-  pub all-rest : (xs ys : List A) → list_all p (xs ++ ys) ≡ true → list_all p ys ≡ true
-  all-rest [] ys h = h
-  all-rest (x ∷ xs) ys h = all-rest xs ys (both (p x) (list_all p (xs ++ ys)) h).1
-
-  pub all-first : (x : A) (ys : List A) → list_all p (x ∷ ys) ≡ true → p x ≡ true
-  all-first x ys h = (both (p x) (list_all p ys) h).0
+all-parts : {A : Type 0} (p : A → Bool) (xs ys : List A) → list_all p (xs ++ ys) ≡ true → (list_all p xs ≡ true) × (list_all p ys ≡ true)
+all-parts p xs ys h = both (list_all p xs) (list_all p ys) (sym (list_all-append p xs ys) ∙ h)
 
 pub history-front : (n : ℕ) (es fs : List Entry) → IsHistory (record { seats = n; entries = es ++ fs }) → IsHistory (record { seats = n; entries = es })
 history-front n es fs h = record {
   short = let l = length-append es fs in omega (arith, l, h.short);
-  seats = all-front (λ e. nat_lt e.seat n) es fs h.seats;
+  seats = (all-parts (λ e. nat_lt e.seat n) es fs h.seats).0;
   follows = follows-front opening es fs h.follows;
 }
 
@@ -48,7 +41,7 @@ pub record LastFollows (h : History) (e : Entry) : Type 0 where
 pub last-follows : (h : History) (e : Entry) → IsHistory (with_entry h e) → LastFollows h e
 last-follows h e k = record {
   room = let l = length-append h.entries (e ∷ []) in omega (arith, l, k.short);
-  seat = all-first (λ (x : Entry). nat_lt x.seat h.seats) e [] (all-rest (λ (x : Entry). nat_lt x.seat h.seats) h.entries (e ∷ []) k.seats);
+  seat = (both (nat_lt e.seat h.seats) true (all-parts (λ (x : Entry). nat_lt x.seat h.seats) h.entries (e ∷ []) k.seats).1).0;
   follows = (follows-rest opening h.entries (e ∷ []) k.follows).0;
 }
 

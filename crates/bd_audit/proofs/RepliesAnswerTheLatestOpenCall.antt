@@ -3,9 +3,7 @@ pub mod Callers
 pub mod OpenCalls
 pub mod Unread
 pub mod EndedCalls
-pub mod InLine
 pub mod Lined
-pub mod NoNewAnswers
 pub mod SingleAnswers
 pub mod LatestOpen
 pub mod LatestCall

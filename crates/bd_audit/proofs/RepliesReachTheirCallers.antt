@@ -6,6 +6,6 @@ pub mod Owed
 pub mod RepliesDue
 pub mod ReplyTaken
 pub mod Places
-pub mod CallsDue
+pub mod Readings
 pub mod CallsOnce
 pub mod ReplyLaw

@@ -1,5 +1,6 @@
--- What the calls that look for the answered call find.
-use Rattle.bd_laws.proofs.words.Logic.{◌≡◌, ◌≤◌, ◌<◌, ◌==◌, ℕ, zero, suc, Bool, true, false, List, [], ◌∷◌, length, get_or, Option, Some, None, Result, refl, ap, sym, subst, ◌∙◌, arith, MatchResult, slice_get, option_eq, option_map, option_and_then, eqb-true, eq-eqb}
+-- For the public search `call_of_reply`, and for no law: which reply a reading took, and which call a reply closed.
+use Rattle.bd_laws.proofs.words.Logic.{◌≡◌, ◌≤◌, ◌<◌, ◌==◌, ℕ, Bool, true, false, List, [], ◌∷◌, length, get_or, Option, Some, None, ◌⊎◌, inl, inr, Result, ap, sym, subst, ◌∙◌, arith, MatchResult, slice_get, option_eq, option_map, option_and_then, eqb-true, eq-eqb}
+use Rattle.std.proofs.lemmas.Option.{slice_get-get_or, slice_get_past}
 use Rattle.bd_laws.proofs.words.Types.{Fault, NoMemory, Read, Entry}
 use Rattle.bd_laws.proofs.words.Space.{Space, opening, serves, History, next, space_after}
 use Rattle.bd_engine.specs.Looks.{first_reply, innermost_of}
@@ -35,28 +36,24 @@ module _ (g k : History) (e : Entry) (limit : ℕ) (reading : e.step ≡ Read li
 
   -- the first reply is still the first
   pub still-first : option_eq (λ x y. x == y) now before ≡ true → None ≡ reply_taken (space_after g) e
-  still-first h = search (arith, taken-or-not, always-owed, first-stands, found, same-option)
+  still-first h = elim (taken-or-not (space_after g) (always-owed g) e limit reading) [
+    | inl n ↦ sym n.0
+    | inr r ↦ (let w = first-stands (next (space_after g) e) e.seat r.0 (sym found ∙ same-option now before h ∙ was ∙ r.2) in absurd (r.3 w.0 w.1 w.2))
+  ]
 
   pub first-taken : option_eq (λ x y. x == y) now before ≡ false → before ≡ reply_taken (space_after g) e
-  first-taken h = search (arith, taken-or-not, always-owed, option-same, found)
+  first-taken h = elim (taken-or-not (space_after g) (always-owed g) e limit reading) [
+    | inl n ↦ absurd (option-same now before h (found ∙ n.1 ∙ sym was))
+    | inr r ↦ was ∙ r.2 ∙ sym r.1
+  ]
 
 -- ---- the entry at a place
 
-stands-at : (es : List Entry) (i : ℕ) (e : Entry) → i < length es → e ≡ get_or es i e → slice_get es i ≡ Some e
-stands-at [] i e h is = absurd (omega arith)
-stands-at (x ∷ es) zero e h is = ap (λ y. Some y) (sym is)
-stands-at (x ∷ es) (suc i) e h is = stands-at es i e (omega arith) is
-
 pub got : (h : History) (es : List Entry) (i : ℕ) (e : Entry) → es ≡ h.entries → i < length es → e ≡ get_or es i e → slice_get h.entries i ≡ Some e
-got h es i e same_es lt is = subst (λ xs. slice_get xs i ≡ Some e) same_es (stands-at es i e lt is)
-
-past : (es : List Entry) (i : ℕ) → length es ≤ i → slice_get es i ≡ None
-past [] i h = refl
-past (x ∷ es) zero h = absurd (omega arith)
-past (x ∷ es) (suc i) h = past es i (omega arith)
+got h es i e same_es lt is = subst (λ xs. slice_get xs i ≡ Some e) same_es (slice_get-get_or es i e lt ∙ ap (λ y. Some y) (sym is))
 
 pub got-none : (h : History) (es : List Entry) (i : ℕ) → es ≡ h.entries → length es ≤ i → slice_get h.entries i ≡ None
-got-none h es i same_es le = subst (λ xs. slice_get xs i ≡ None) same_es (past es i le)
+got-none h es i same_es le = subst (λ xs. slice_get xs i ≡ None) same_es (slice_get_past es i le)
 
 -- the same answer by another name
 pub by_name : (r : Result (Option ℕ) Fault) (x y : Option ℕ) → x ≡ y → MatchResult r (λ v. v ≡ x) (λ f. f ≡ NoMemory) → MatchResult r (λ v. v ≡ y) (λ f. f ≡ NoMemory)
@@ -80,21 +77,19 @@ there-closed h g place e is at = ap (λ (x : History). frame_of (space_after x) 
 
 -- ---- the innermost frame
 
-first-part : (o : Option (ℕ × Bool)) → Option ℕ
+abbrev first-part : Option (ℕ × Bool) → Option ℕ
 first-part o = option_map (λ (p : ℕ × Bool). p.0) o
 
 frame-is : (s : Space) (e : Entry) → frame_of s e ≡ first-part (innermost_of s e.seat)
-unfolding frame_of first-part
+unfolding frame_of
 frame-is s e = search (arith, serves)
 
 pub closed-some : (h g : History) (place : ℕ) (e : Entry) (made : ℕ) (serving : Bool) → g ≡ beginning place h → slice_get h.entries place ≡ Some e
     → Some (made, serving) ≡ innermost_of (space_after g) e.seat → Some made ≡ call_closed_at h place
-unfolding first-part
 closed-some h g place e made serving is at inner = ap first-part inner ∙ sym (frame-is (space_after g) e) ∙ there-closed h g place e is at
 
 pub closed-none : (h g : History) (place : ℕ) (e : Entry) → g ≡ beginning place h → slice_get h.entries place ≡ Some e
     → None ≡ innermost_of (space_after g) e.seat → None ≡ call_closed_at h place
-unfolding first-part
 closed-none h g place e is at inner = ap first-part inner ∙ sym (frame-is (space_after g) e) ∙ there-closed h g place e is at
 
 -- ---- both

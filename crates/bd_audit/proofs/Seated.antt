@@ -1,8 +1,7 @@
--- Each live thread was made by a step of its seat.
-use Rattle.bd_laws.proofs.words.Logic.{arith}
-use Rattle.bd_laws.proofs.words.Logic.{◌≡◌, ℕ, zero, suc, ◌-◌, ◌==◌, Bool, false, cond, not, List, [], ◌∷◌, ◌++◌, length, Option, Some, None, ◌⊎◌, inl, inr, refl, ap, sym, subst, ◌∙◌, filter, fold, slice_get, option_map, eqb-true}
+-- For RepliesAnswerTheLatestOpenCall and CallsEndLatestFirst: each live thread was made by a step of its seat.
+use Rattle.bd_laws.proofs.words.Logic.{arith, ◌≡◌, ℕ, zero, suc, ◌-◌, ◌==◌, Bool, false, not, List, [], ◌∷◌, ◌++◌, length, Option, Some, None, ◌⊎◌, inl, inr, refl, ap, sym, subst, ◌∙◌, filter, slice_get, option_map, eqb-true}
 use Rattle.bd_laws.proofs.words.Types.{TransactionData, Entry, Thread, Frame, Actor, OfThread}
-use Rattle.bd_laws.proofs.words.Space.{Space, opening, thread_in, closed, owe, list_to_read, ripen, follow, notify, work_goes, deaths_go, names_go, assign_numbers, objects_go, Delivery, delivered, own_notices, add_buffer, known_by, refer, make_objects, transacted, called, call_out, replied, without_buffer, read_by, taken, thread_goes, threads_go, without_process, tell_deaths, counted, with_thread, with_process, with_manager, ask, drop_asked, acknowledge, with_looping, after, with_spam_detection}
+use Rattle.bd_laws.proofs.words.Space.{Space, opening, closed, owe, list_to_read, ripen, follow, notify, work_goes, deaths_go, names_go, assign_numbers, objects_go, Delivery, transacted, called, call_out, replied, without_buffer, read_by, taken, thread_goes, threads_go, without_process, tell_deaths, counted, with_thread, with_process, with_manager, ask, drop_asked, acknowledge, with_looping, after, with_spam_detection, is_spam, delivered}
 use Rattle.bd_space.specs.declared.space.WorkKind.TheVariants as work
 use Rattle.bd_laws.proofs.Machine.EveryStep.{Keeps, every_step}
 use Rattle.bd_laws.proofs.Machine.Deaths.{tell_deaths-aside, on-mapped, on_deaths-aside, on-commands}
@@ -12,7 +11,10 @@ use Rattle.bd_audit.proofs.Beginnings.{after-append}
 use Rattle.bd_audit.proofs.NamesHaveGiftChains.Chains.{always-steps}
 use Rattle.bd_audit.proofs.RepliesReachTheirCallers.Quiet.{made-kept, made-changed}
 use Rattle.bd_audit.proofs.RepliesReachTheirCallers.ReplyLaw.{placed}
-use Rattle.bd_laws.proofs.Machine.Fields.{owe-threads}
+use Rattle.bd_laws.proofs.Machine.Fields.{owe-threads, sent-threads, closed-threads}
+use Rattle.bd_laws.proofs.Machine.Adding.{told-keeps}
+use Rattle.bd_laws.proofs.Machine.Following.{threads-keep}
+use Rattle.std.proofs.lemmas.List.Folds.{find-append}
 
 abbrev pub seat_at : List Entry → ℕ → Option ℕ
 seat_at es m = option_map (λ e. e.seat) (slice_get es m)
@@ -31,24 +33,11 @@ same-threads es z y e h t m k = h t m (ap (λ ts. made_in ts t) (sym e) ∙ k)
 -- ---- threads that come and go
 
 pub made-pushed : (ts : List Thread) (u : Thread) (t m : ℕ) → made_in (ts ++ u ∷ []) t ≡ Some m → (made_in ts t ≡ Some m) ⊎ ((t ≡ u.seat) × (m ≡ u.made))
-made-pushed [] u t m h = at (u.seat == t) refl h
-  where
-    at : (b : Bool) → (u.seat == t) ≡ b → option_map (λ (v : Thread). v.made) (cond b (Some u) None) ≡ Some m → (made_in [] t ≡ Some m) ⊎ ((t ≡ u.seat) × (m ≡ u.made))
-    at b e k = search (arith, eqb-true)
-made-pushed (x ∷ ts) u t m h = at (x.seat == t) (made-pushed ts u t m) h
-  where
-    at : (b : Bool) → (made_in (ts ++ u ∷ []) t ≡ Some m → (made_in ts t ≡ Some m) ⊎ ((t ≡ u.seat) × (m ≡ u.made)))
-        → option_map (λ (v : Thread). v.made) (cond b (Some x) (thread_in (ts ++ u ∷ []) t)) ≡ Some m
-        → (option_map (λ (v : Thread). v.made) (cond b (Some x) (thread_in ts t)) ≡ Some m) ⊎ ((t ≡ u.seat) × (m ≡ u.made))
-    at b k h = search arith
+made-pushed ts u t m h = search (arith, find-append, eqb-true)
 
 pub none-left : (ts : List Thread) (gone : ℕ) → made_in (filter (λ (v : Thread). not (v.seat == gone)) ts) gone ≡ None
 none-left [] gone = refl
-none-left (x ∷ ts) gone = at (x.seat == gone) refl (none-left ts gone)
-  where
-    at : (b : Bool) → (x.seat == gone) ≡ b → made_in (filter (λ (v : Thread). not (v.seat == gone)) ts) gone ≡ None
-        → made_in (cond (not b) (x ∷ filter (λ (v : Thread). not (v.seat == gone)) ts) (filter (λ (v : Thread). not (v.seat == gone)) ts)) gone ≡ None
-    at b e k = search arith
+none-left (x ∷ ts) gone = search (arith, none-left ts gone)
 
 -- who is left sits elsewhere
 pub other-left : (ts : List Thread) (gone t m : ℕ) → made_in (filter (λ (v : Thread). not (v.seat == gone)) ts) t ≡ Some m → (t == gone) ≡ false
@@ -61,35 +50,23 @@ goes : (es : List Entry) (z : Space) (seat : ℕ) → Seated es z → Seated es 
 unfolding thread_goes
 goes es z seat h t m k = h t m (made-before z.threads seat t m k)
 
-all-go : (es : List Entry) (seats : List ℕ) (z : Space) → Seated es z → Seated es (fold thread_goes z seats)
-all-go es [] z h = h
-all-go es (t ∷ ts) z h = all-go es ts (thread_goes z t) (goes es z t h)
-
-without-threads : (z : Space) (p : ℕ) → (without_process z p).threads ≡ z.threads
-unfolding without_process
-without-threads z p = refl
-
 ends : (es : List Entry) (z : Space) (p : ℕ) → Seated es z → Seated es (tell_deaths (without_process (threads_go z p) p) p)
-unfolding threads_go
-ends es z p h = search (arith, same-threads, tell_deaths-aside, without-threads, all-go)
+unfolding without_process
+ends es z p h =
+    let y = without_process (threads_go z p) p in
+    same-threads es (tell_deaths y p) (threads_go z p) (tell_deaths-aside y p).threads (threads-keep (Seated es) (goes es) z p h)
 
--- ---- the other parts
+-- ---- what is sent
 
 called-threads : (z : Space) (seat p : ℕ) (one_way : Bool) → (called z seat p one_way).threads ≡ z.threads
 unfolding call_out owe
 called-threads z seat p one_way = search arith
 
 transacted-threads : (s : Space) (a : Actor) (d : TransactionData) (v : Delivery) → (transacted s a d v).threads ≡ s.threads
-unfolding transacted owe delivered own_notices add_buffer known_by assign_numbers refer make_objects
-transacted-threads s a d v = called-threads _ a.thread.seat v.receiver.made v.one_way
-
-told-threads : (z : Space) (caller : Option ℕ) (n : ℕ) → (elim caller as (λ (o : Option ℕ). Space) [ None ↦ z | Some t ↦ owe z (OfThread t) (work.Reply n) ]).threads ≡ z.threads
-unfolding owe
-told-threads z caller n = search arith
-
-replied-threads : (s : Space) (a : Actor) (d : TransactionData) (f : Frame) (v : Delivery) → (replied s a d f v).threads ≡ s.threads
-unfolding replied closed owe delivered own_notices add_buffer known_by assign_numbers refer make_objects
-replied-threads s a d f v = told-threads _ f.caller s.steps
+unfolding transacted
+transacted-threads s a d v =
+    let spam = is_spam (delivered s a d v) a v in
+    called-threads (owe (delivered s a d v) (OfThread a.thread.seat) (work.Complete spam)) a.thread.seat v.receiver.made v.one_way ∙ sent-threads s a d v spam
 
 module _ (es : List Entry) (e : Entry) (h : Seated es (after opening es)) where
   abbrev s : Space
@@ -113,6 +90,13 @@ module _ (es : List Entry) (e : Entry) (h : Seated es (after opening es)) where
         ap (λ o. option_map (λ (x : Entry). x.seat) o) (ap (slice_get more) place ∙ (placed es e [] (length es) refl).0) ∙ ap (λ i. Some i) (sym is.0))
   ]
 
+  replied-seated : (a : Actor) (d : TransactionData) (f : Frame) (v : Delivery) → Seated more (replied s a d f v)
+  unfolding replied
+  replied-seated a d f v =
+      let y = owe (delivered (closed s f.made) a d v) (OfThread a.thread.seat) (work.Complete false) in
+      told-keeps (Seated more) (work.Reply s.steps) (λ z t. same-threads more (owe z (OfThread t) (work.Reply s.steps)) z (owe-threads z (OfThread t) (work.Reply s.steps))) y f.caller
+      (same y (sent-threads (closed s f.made) a d v false ∙ closed-threads s f.made))
+
   kept : Keeps s e.seat e.step (Seated more) (Seated more)
   unfolding with_process with_manager with_spam_detection without_buffer ask assign_numbers drop_asked acknowledge with_looping read_by ripen follow notify work_goes deaths_go objects_go names_go closed
   kept = record {
@@ -125,7 +109,7 @@ module _ (es : List Entry) (e : Entry) (h : Seated es (after opening es)) where
     };
     changes = record {
       transacts = λ a d parcel v x i t. same (transacted s a d v) (transacted-threads s a d v);
-      replies = λ a d parcel f v x i g t. same (replied s a d f v) (replied-threads s a d f v);
+      replies = λ a d parcel f v x i g t. replied-seated a d f v;
       frees = λ p ptr b i t. same (without_buffer s b.made) refl;
       asks = λ a n strong o x i t. same (ask s a.process.made o strong) refl;
       drops = λ p o strong. same (drop_asked s p o strong) refl;

@@ -5,7 +5,7 @@ pub mod Keys
 pub mod Listed
 pub mod Lives
 pub mod Only
-pub mod Parts
+pub mod Staying
 pub mod Places
 pub mod Room
 pub mod SharedKeys

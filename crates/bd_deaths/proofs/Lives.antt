@@ -1,5 +1,5 @@
 -- Slots, and those of their notifications that haven't gone.
-use Rattle.std.proofs.Common.{◌≡◌, ℕ, zero, suc, ◌+◌, ◌≤◌, ◌<◌, Bool, true, false, not, ◌&&◌, ◌||◌, cond, List, [], ◌∷◌, ◌++◌, Option, Some, None, option_map, filter, find, map, take, drop, length, get_or, set, refl, ap, sym, subst, ◌∙◌, arith, add-one}
+use Rattle.std.proofs.Common.{◌≡◌, ℕ, zero, suc, ◌+◌, ◌≤◌, ◌<◌, Bool, true, false, not, ◌&&◌, ◌||◌, cond, List, [], ◌∷◌, ◌++◌, Option, Some, None, option_map, filter, find, take, drop, length, get_or, set, refl, ap, sym, subst, ◌∙◌, arith, add-one}
 use Rattle.std.specs.Prelude.{◌==◌, count_by, All}
 use Rattle.std.proofs.lemmas.List.Elements.{filter-append, All-push, All-weaker}
 use Rattle.std.proofs.lemmas.List.{append_assoc, append-nil}
@@ -10,8 +10,8 @@ use Rattle.bd_space.specs.declared.space.DeathNotification.{DeathNotification}
 use Rattle.bd_space.specs.Words.{changed}
 use Rattle.bd_deaths.specs.declared.slot.Slot.{Slot}
 use Rattle.bd_deaths.specs.Slots.{lives, of, on, gone, with}
-use Rattle.bd_deaths.specs.Stands.{IsWithin, IsPartOf}
-use Rattle.bd_deaths.proofs.Places.{within-fewer, implies-all}
+use Rattle.bd_space.specs.Ranges.{IsWithin, IsPartOf}
+use Rattle.bd_space.proofs.Ranges.{within-fewer, implies-all}
 
 -- ---- a look at those that haven't gone
 

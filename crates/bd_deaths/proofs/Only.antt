@@ -7,9 +7,9 @@ use Rattle.std.proofs.lemmas.Slice.{between_is}
 use Rattle.std.proofs.lemmas.Bool.{eq-eqb}
 use Rattle.bd_space.specs.declared.space.DeathNotification.{DeathNotification}
 use Rattle.bd_space.specs.Deaths.{is_notification}
-use Rattle.bd_deaths.specs.Stands.{IsPartOf}
-use Rattle.bd_deaths.proofs.Places.{Implies, implies-all, nothing-implies, within-fewer, no-head}
-use Rattle.bd_deaths.proofs.Parts.{find-of}
+use Rattle.bd_space.specs.Ranges.{IsPartOf}
+use Rattle.bd_space.proofs.Ranges.{Implies, implies-all, within-fewer, no-head, find-of}
+use Rattle.bd_deaths.proofs.Places.{nothing-implies}
 
 module _ {A : Type 0} (q : A → Bool) where
   count-cons : (x : A) (xs : List A) (b : Bool) → q x ≡ b → count_by q (x ∷ xs) ≡ cond b 1 0 + count_by q xs

@@ -1,5 +1,5 @@
 -- Where in the list those are that pass.
-use Rattle.std.proofs.Common.{◌≡◌, ℕ, zero, suc, ◌+◌, ◌%◌, ◌^◌, ◌≤◌, ◌<◌, ◌==◌, Bool, true, false, not, ◌||◌, cond, List, [], ◌∷◌, ◌++◌, Some, None, filter, find, take, drop, length, get_or, ltb, refl, sym, subst, ◌∙◌, arith}
+use Rattle.std.proofs.Common.{◌≡◌, ℕ, zero, suc, ◌+◌, ◌%◌, ◌^◌, ◌≤◌, ◌<◌, ◌==◌, Bool, true, false, ◌||◌, cond, List, [], ◌∷◌, ◌++◌, Some, None, filter, take, length, get_or, ltb, refl, sym, subst, ◌∙◌, arith}
 use Rattle.std.specs.Prelude.{All}
 use Rattle.std.specs.List.{list_any}
 use Rattle.std.proofs.lemmas.List.Elements.{All-head, All-tail}
@@ -8,11 +8,13 @@ use Rattle.std.proofs.lemmas.Bool.{eq-eqb, ne_eqb, ltb-true, ltb-false, lt-ltb}
 use Rattle.bd_space.specs.declared.space.DeathNotification.{DeathNotification}
 use Rattle.bd_space.specs.Words.{changed}
 use Rattle.bd_space.specs.Deaths.{is_notification}
+use Rattle.bd_space.specs.Ranges.{IsWithin}
+use Rattle.bd_space.proofs.Ranges.{none-before, none-after, Implies, no-head, within-fewer}
 use Rattle.bd_deaths.specs.declared.key.Group.{Group}
 use Rattle.bd_deaths.specs.Keys.{group}
 use Rattle.bd_deaths.specs.declared.slot.Slot.{Slot}
 use Rattle.bd_deaths.specs.Slots.{deaths_in, lives, of, with}
-use Rattle.bd_deaths.specs.Stands.{IsRising, IsWithin}
+use Rattle.bd_deaths.specs.Stands.{IsRising}
 use Rattle.bd_deaths.proofs.Keys.{sum-of-one}
 
 -- ---- in the order of their places
@@ -62,55 +64,6 @@ rising-at m end [] i j d r h k = absurd (omega arith)
 rising-at m end (s ∷ ss) i zero d r h k = absurd (omega arith)
 rising-at m end (s ∷ ss) zero (suc j) d r h k = let a = rising-above (suc s.death.made) end ss j d r.1 (omega arith) in omega (arith, a)
 rising-at m end (s ∷ ss) (suc i) (suc j) d r h k = rising-at (suc s.death.made) end ss i j d r.1 (omega arith) (omega arith)
-
--- ---- between two indices
-
-pub none-before : {A : Type 0} (q : A → Bool) (xs : List A) (i : ℕ) → ((k : ℕ) (d : A) → k < i → k < length xs → q (get_or xs k d) ≡ false) → list_any q (take i xs) ≡ false
-none-before q [] zero h = refl
-none-before q [] (suc i) h = refl
-none-before q (x ∷ xs) zero h = refl
-none-before q (x ∷ xs) (suc i) h = rw (h 0 x (omega arith) (omega arith)) (none-before q xs i (λ k d a b. h (suc k) d (omega arith) (omega arith)))
-
-pub none-after : {A : Type 0} (q : A → Bool) (xs : List A) (i : ℕ) → ((k : ℕ) (d : A) → i ≤ k → k < length xs → q (get_or xs k d) ≡ false) → list_any q (drop i xs) ≡ false
-none-after q [] zero h = refl
-none-after q [] (suc i) h = refl
-none-after q (x ∷ xs) zero h = rw (h 0 x (omega arith) (omega arith)) (none-after q xs zero (λ k d a b. h (suc k) d (omega arith) (omega arith)))
-none-after q (x ∷ xs) (suc i) h = none-after q xs i (λ k d a b. h (suc k) d (omega arith) (omega arith))
-
--- what passes the one test passes the other
-abbrev pub Implies : {A : Type 0} → (A → Bool) → (A → Bool) → List A → Type 0
-Implies q r [] = Unit {0}
-Implies q r (x ∷ xs) = (q x ≡ true → r x ≡ true) × Implies q r xs
-
-pub implies-all : {A : Type 0} (q r : A → Bool) → ((x : A) → q x ≡ true → r x ≡ true) → (xs : List A) → Implies q r xs
-implies-all q r h [] = tt
-implies-all q r h (x ∷ xs) = (h x, implies-all q r h xs)
-
-implied : {A : Type 0} (q r : A → Bool) (x : A) → (q x ≡ true → r x ≡ true) → r x ≡ false → q x ≡ false
-implied q r x h e = by (q x) refl
-  where
-    by : (b : Bool) → q x ≡ b → b ≡ false
-    by true g = sym (h g) ∙ e
-    by false g = refl
-
-pub no-head : (a b : Bool) → (a || b) ≡ false → (a ≡ false) × (b ≡ false)
-no-head true b h = absurd (cc)
-no-head false b h = (refl, h)
-
-fewer-before : {A : Type 0} (q r : A → Bool) (xs : List A) (i : ℕ) → Implies q r xs → list_any r (take i xs) ≡ false → list_any q (take i xs) ≡ false
-fewer-before q r [] zero h e = refl
-fewer-before q r [] (suc i) h e = refl
-fewer-before q r (x ∷ xs) zero h e = refl
-fewer-before q r (x ∷ xs) (suc i) h e = let g = no-head (r x) _ e in rw (implied q r x h.0 g.0) (fewer-before q r xs i h.1 g.1)
-
-fewer-after : {A : Type 0} (q r : A → Bool) (xs : List A) (i : ℕ) → Implies q r xs → list_any r (drop i xs) ≡ false → list_any q (drop i xs) ≡ false
-fewer-after q r [] zero h e = refl
-fewer-after q r [] (suc i) h e = refl
-fewer-after q r (x ∷ xs) zero h e = let g = no-head (r x) _ e in rw (implied q r x h.0 g.0) (fewer-after q r xs zero h.1 g.1)
-fewer-after q r (x ∷ xs) (suc i) h e = fewer-after q r xs i h.1 e
-
-pub within-fewer : {A : Type 0} (q r : A → Bool) (xs : List A) (i j : ℕ) → Implies q r xs → IsWithin r i j xs → IsWithin q i j xs
-within-fewer q r xs i j h w = record { before = fewer-before q r xs i h w.before; after = fewer-after q r xs j h w.after }
 
 -- ---- of those with a key
 
@@ -162,20 +115,6 @@ pub within-one : (q : DeathNotification → Bool) (g : Group) → g.count ≡ 1 
     → All (λ x. x.made < 2 ^ 32) xs → group (filter q xs) ≡ Some g
     → IsWithin (is_notification g.sum) i j xs → IsWithin q i j xs
 within-one q g one i j xs fit h w = within-fewer q (is_notification g.sum) xs i j (one-implies q g one xs fit h) w
-
--- ---- what passes is looked for there alone
-
-pub find-none : {A : Type 0} (q : A → Bool) (xs : List A) → list_any q xs ≡ false → find q xs ≡ None
-find-none q [] h = refl
-find-none q (x ∷ xs) h = let g = no-head (q x) _ h in rw g.0 (find-none q xs g.1)
-
-pub changed-none : {A : Type 0} (q : A → Bool) (f : A → A) (xs : List A) → list_any q xs ≡ false → changed q f xs ≡ xs
-changed-none q f [] h = refl
-changed-none q f (x ∷ xs) h = let g = no-head (q x) _ h in rw (g.0, changed-none q f xs g.1) refl
-
-pub filter-none : {A : Type 0} (q : A → Bool) (xs : List A) → list_any q xs ≡ false → filter (λ x. not (q x)) xs ≡ xs
-filter-none q [] h = refl
-filter-none q (x ∷ xs) h = let g = no-head (q x) _ h in rw (g.0, filter-none q xs g.1) refl
 
 -- ---- by halves
 

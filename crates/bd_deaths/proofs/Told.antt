@@ -10,8 +10,8 @@ use Rattle.bd_space.specs.declared.space.DeathNotification.{DeathNotification}
 use Rattle.bd_space.specs.declared.space.Phase.{Phase}
 use Rattle.bd_deaths.specs.declared.slot.Slot.{Slot}
 use Rattle.bd_deaths.specs.Slots.{on, gone, with, was_told, NoneTold}
-use Rattle.bd_deaths.specs.Stands.{IsWithin}
-use Rattle.bd_deaths.proofs.Places.{no-head, none-after}
+use Rattle.bd_space.specs.Ranges.{IsWithin}
+use Rattle.bd_space.proofs.Ranges.{no-head, none-after}
 use Rattle.bd_deaths.proofs.Lives.{within-on}
 
 and-false : (a : Bool) → (a && false) ≡ false

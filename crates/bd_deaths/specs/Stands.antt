@@ -1,6 +1,5 @@
 -- What a table of death notifications stands for: those of a space, in their order.
-use Rattle.std.specs.Prelude.{ℕ, suc, ◌≡◌, ◌≤◌, true, Bool, false, List, All, [], ◌∷◌, take, drop}
-use Rattle.std.specs.List.{list_any, between}
+use Rattle.std.specs.Prelude.{ℕ, suc, ◌≡◌, ◌≤◌, true, List, All, [], ◌∷◌}
 use Rattle.bd_space.specs.declared.space.DeathNotification.{DeathNotification}
 use Rattle.bd_deaths.specs.declared.list.DeathList.{DeathList}
 use Rattle.bd_deaths.specs.declared.table.DeathTable.{DeathTable}
@@ -24,16 +23,3 @@ pub record DeathsAre (t : DeathTable) (l : List DeathNotification) : Type 0 wher
   pub are_in : AreIn t.list l
   -- places of some that went may be listed too
   pub listed : All (IsListed t.groups) l
-
--- all that pass lie between the two indices
-pub record IsWithin {A : Type 0} (q : A → Bool) (from to : ℕ) (l : List A) : Type 0 where
-  pub before : list_any q (take from l) ≡ false
-  pub after : list_any q (drop to l) ≡ false
-
--- a part of the list, with all that pass
-pub record IsPartOf {A : Type 0} (q : A → Bool) (part l : List A) : Type 0 where
-  pub from : ℕ
-  pub to : ℕ
-  pub order : from ≤ to
-  pub within : IsWithin q from to l
-  pub is : part ≡ between from to l

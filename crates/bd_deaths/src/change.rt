@@ -8,7 +8,7 @@ ghost use Rattle.bd_space.specs.ReadItems as reading;
 ghost use Rattle.bd_space.specs.declared.space.Phase.TheVariants.{Told};
 ghost use Rattle.bd_space.specs.declared.space.DeathNotification as declared;
 ghost use Rattle.bd_deaths.specs.Slots as spec;
-ghost use Rattle.bd_deaths.specs.Stands.{IsWithin};
+ghost use Rattle.bd_space.specs.Ranges.{IsWithin};
 
 use crate::list::DeathList;
 use crate::look::made_in;

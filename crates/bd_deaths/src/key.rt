@@ -4,7 +4,7 @@ ghost use Rattle.std.specs.Prelude.{◌≡◌};
 ghost use Rattle.std.specs.Cmp.Rules.{hashing};
 ghost use Rattle.std.specs.Hash as fed;
 ghost use Rattle.std.proofs.Common.{rules};
-ghost use Rattle.bd_words.specs.Keys.{pair, wide};
+ghost use Rattle.bd_words.specs.Numbers.{pair, wide};
 ghost use Rattle.bd_deaths.specs.Keys as keys;
 
 use bd_space::{DeathNotification, ObjectId};
@@ -19,7 +19,7 @@ pub(crate) struct NameKey {
     pub(crate) index: u32,
 }
 
-// Not derived: each field would be a write of its own, and each write waits for the one before.
+// One write, as `bd_words` says.
 impl Hash for NameKey {
     ghost hash_input = { λ k. fed.u128 (wide k.process (pair k.place k.index)) };
 

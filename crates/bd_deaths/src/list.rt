@@ -4,7 +4,7 @@ ghost use Rattle.std.specs.Prelude.{◌≡◌, ◌≤◌, ◌<◌, ◌++◌, ◌
 ghost use Rattle.bd_space.specs.declared.space.DeathNotification as declared;
 ghost use Rattle.bd_deaths.specs.declared.slot.Slot.{Slot};
 ghost use Rattle.bd_deaths.specs.Slots as spec;
-ghost use Rattle.bd_deaths.specs.Stands.{IsWithin};
+ghost use Rattle.bd_space.specs.Ranges.{IsWithin};
 
 use crate::sharing::Sharing;
 use crate::slot::{Slot, told_from};

@@ -9,7 +9,8 @@ ghost use Rattle.bd_deaths.specs.Keys as keys;
 ghost use Rattle.bd_space.specs.Words.{is_some_and};
 ghost use Rattle.bd_deaths.specs.SharedAt.{group_at};
 ghost use Rattle.bd_deaths.specs.Slots as spec;
-ghost use Rattle.bd_deaths.specs.Stands.{IsRising, IsWithin, IsPartOf, AreIn};
+ghost use Rattle.bd_space.specs.Ranges.{IsWithin, IsPartOf};
+ghost use Rattle.bd_deaths.specs.Stands.{IsRising, AreIn};
 
 use crate::key::{Key, cookie_key};
 use crate::list::DeathList;

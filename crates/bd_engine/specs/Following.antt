@@ -44,7 +44,7 @@ told_at s todo o = elim (object_in s.objects o) [ None ↦ todo | Some x ↦ wit
 unfoldable pub told_of : List ObjectId → Space → Space
 told_of os s = record s { todo = fold (told_at s) s.todo os }
 
--- both, of one object
+-- one object is shed, and then told of if it stays
 abbrev pub followed_at : ObjectId → Space → Space
 followed_at o s = told_of (o ∷ []) (shed_of (at_object o) s)
 

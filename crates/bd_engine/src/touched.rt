@@ -86,7 +86,7 @@ impl Tables {
         }
     }
 
-    // Both, of one object.
+    // This object goes if nothing keeps it, and its notice with it; else its owner gets the notice, if that is missing.
     fn follow_object(&mut self, o: ObjectId)
         requires { 1 ≤ work_room self.old.calls }
         ensures stands { MakesWithin self.old self.new (followed_at o) }
@@ -109,7 +109,7 @@ impl Tables {
         ensures stands { MakesOfOrdered self.old self.new (follow_of no_name (is_among touched.now)) }
         ensures uses { Uses self.old self.new 0 0 0 (length touched.now) }
     {
-        // Most steps touch one.
+        // Most steps touch one object, which is then looked for once.
         if touched.len() == 1 {
             self.follow_object(touched[0]);
         } else {

@@ -1,6 +1,6 @@
 pub mod Places
 pub mod InOrder
-pub mod Parts
+pub mod Newest
 pub mod Removing
 pub mod Counting
 pub mod Ways

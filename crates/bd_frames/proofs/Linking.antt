@@ -11,7 +11,8 @@ use Rattle.bd_frames.specs.declared.stacks.Below.{Below}
 use Rattle.bd_frames.specs.Places.{IsRising}
 use Rattle.bd_frames.specs.Words.{left_frame, lost_frame, is_pending}
 use Rattle.bd_frames.specs.Linked.{below_of, with_frame, tops_after, LeadsTo, Linked}
-use Rattle.bd_frames.proofs.Places.{no-head, rising-above, changed-none}
+use Rattle.bd_space.proofs.Ranges.{no-head, changed-none}
+use Rattle.bd_frames.proofs.Places.{rising-above}
 use Rattle.bd_frames.proofs.Alike.{or-left, or-right, left-takes, left-calls, left-gone, lost-takes, served-takes}
 
 abbrev pub Tops : Type 0

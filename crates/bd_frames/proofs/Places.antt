@@ -1,12 +1,14 @@
 -- Frames in the order of their places, and where in the list those are that pass.
-use Rattle.std.proofs.Common.{◌≡◌, ℕ, zero, suc, ◌+◌, ◌-◌, ◌≤◌, ◌<◌, Bool, true, false, not, ◌||◌, cond, List, [], ◌∷◌, ◌++◌, Some, None, filter, find, map, take, drop, length, get_or, set, ltb, refl, sym, subst, ◌∙◌, arith}
+use Rattle.std.proofs.Common.{◌≡◌, ℕ, zero, suc, ◌+◌, ◌-◌, ◌≤◌, ◌<◌, Bool, true, false, cond, List, [], ◌∷◌, ◌++◌, Some, map, take, length, get_or, set, ltb, refl, sym, subst, arith}
 use Rattle.std.specs.List.{list_any, remove, slice_get}
 use Rattle.std.specs.List.Sorted.{IsPartitionedBy, IsPartitionPoint}
 use Rattle.std.proofs.lemmas.Bool.{ne_eqb, ltb-true, ltb-false, lt-ltb}
 use Rattle.bd_space.specs.declared.space.Frame.{Frame}
 use Rattle.bd_space.specs.Words.{changed}
 use Rattle.bd_space.specs.Frames.{is_frame}
-use Rattle.bd_frames.specs.Places.{IsRising, IsAfter, IsWithin}
+use Rattle.bd_space.specs.Ranges.{IsWithin}
+use Rattle.bd_space.proofs.Ranges.{none-before, none-after}
+use Rattle.bd_frames.specs.Places.{IsRising, IsAfter}
 
 -- ---- in the order of their places
 
@@ -60,69 +62,6 @@ rising-at m [] i j d r h k = absurd (omega arith)
 rising-at m (x ∷ xs) i zero d r h k = absurd (omega arith)
 rising-at m (x ∷ xs) zero (suc j) d r h k = let a = rising-above (suc x.made) xs j d r.1 (omega arith) in omega (arith, a)
 rising-at m (x ∷ xs) (suc i) (suc j) d r h k = rising-at (suc x.made) xs i j d r.1 (omega arith) (omega arith)
-
--- ---- between two indices
-
-pub none-before : {A : Type 0} (q : A → Bool) (xs : List A) (i : ℕ) → ((k : ℕ) (d : A) → k < i → k < length xs → q (get_or xs k d) ≡ false) → list_any q (take i xs) ≡ false
-none-before q [] zero h = refl
-none-before q [] (suc i) h = refl
-none-before q (x ∷ xs) zero h = refl
-none-before q (x ∷ xs) (suc i) h = rw (h 0 x (omega arith) (omega arith)) (none-before q xs i (λ k d a b. h (suc k) d (omega arith) (omega arith)))
-
-pub none-after : {A : Type 0} (q : A → Bool) (xs : List A) (i : ℕ) → ((k : ℕ) (d : A) → i ≤ k → k < length xs → q (get_or xs k d) ≡ false) → list_any q (drop i xs) ≡ false
-none-after q [] zero h = refl
-none-after q [] (suc i) h = refl
-none-after q (x ∷ xs) zero h = rw (h 0 x (omega arith) (omega arith)) (none-after q xs zero (λ k d a b. h (suc k) d (omega arith) (omega arith)))
-none-after q (x ∷ xs) (suc i) h = none-after q xs i (λ k d a b. h (suc k) d (omega arith) (omega arith))
-
--- what passes the one test passes the other
-abbrev pub Implies : {A : Type 0} → (A → Bool) → (A → Bool) → List A → Type 0
-Implies q r [] = Unit {0}
-Implies q r (x ∷ xs) = (q x ≡ true → r x ≡ true) × Implies q r xs
-
-pub implies-all : {A : Type 0} (q r : A → Bool) → ((x : A) → q x ≡ true → r x ≡ true) → (xs : List A) → Implies q r xs
-implies-all q r h [] = tt
-implies-all q r h (x ∷ xs) = (h x, implies-all q r h xs)
-
-implied : {A : Type 0} (q r : A → Bool) (x : A) → (q x ≡ true → r x ≡ true) → r x ≡ false → q x ≡ false
-implied q r x h e = by (q x) refl
-  where
-    by : (b : Bool) → q x ≡ b → b ≡ false
-    by true g = sym (h g) ∙ e
-    by false g = refl
-
-pub no-head : (a b : Bool) → (a || b) ≡ false → (a ≡ false) × (b ≡ false)
-no-head true b h = absurd (cc)
-no-head false b h = (refl, h)
-
-fewer-before : {A : Type 0} (q r : A → Bool) (xs : List A) (i : ℕ) → Implies q r xs → list_any r (take i xs) ≡ false → list_any q (take i xs) ≡ false
-fewer-before q r [] zero h e = refl
-fewer-before q r [] (suc i) h e = refl
-fewer-before q r (x ∷ xs) zero h e = refl
-fewer-before q r (x ∷ xs) (suc i) h e = let g = no-head (r x) _ e in rw (implied q r x h.0 g.0) (fewer-before q r xs i h.1 g.1)
-
-fewer-after : {A : Type 0} (q r : A → Bool) (xs : List A) (i : ℕ) → Implies q r xs → list_any r (drop i xs) ≡ false → list_any q (drop i xs) ≡ false
-fewer-after q r [] zero h e = refl
-fewer-after q r [] (suc i) h e = refl
-fewer-after q r (x ∷ xs) zero h e = let g = no-head (r x) _ e in rw (implied q r x h.0 g.0) (fewer-after q r xs zero h.1 g.1)
-fewer-after q r (x ∷ xs) (suc i) h e = fewer-after q r xs i h.1 e
-
-pub within-fewer : (q r : Frame → Bool) (xs : List Frame) (i j : ℕ) → Implies q r xs → IsWithin r i j xs → IsWithin q i j xs
-within-fewer q r xs i j h w = record { before = fewer-before q r xs i h w.before; after = fewer-after q r xs j h w.after }
-
--- ---- what is looked for where nothing passes
-
-pub find-none : {A : Type 0} (q : A → Bool) (xs : List A) → list_any q xs ≡ false → find q xs ≡ None
-find-none q [] h = refl
-find-none q (x ∷ xs) h = let g = no-head (q x) _ h in rw g.0 (find-none q xs g.1)
-
-pub changed-none : {A : Type 0} (q : A → Bool) (f : A → A) (xs : List A) → list_any q xs ≡ false → changed q f xs ≡ xs
-changed-none q f [] h = refl
-changed-none q f (x ∷ xs) h = let g = no-head (q x) _ h in rw (g.0, changed-none q f xs g.1) refl
-
-pub filter-none : {A : Type 0} (q : A → Bool) (xs : List A) → list_any q xs ≡ false → filter (λ x. not (q x)) xs ≡ xs
-filter-none q [] h = refl
-filter-none q (x ∷ xs) h = let g = no-head (q x) _ h in rw (g.0, filter-none q xs g.1) refl
 
 -- ---- by halves
 

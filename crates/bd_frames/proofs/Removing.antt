@@ -4,7 +4,7 @@ use Rattle.std.specs.List.{list_any, remove}
 use Rattle.bd_space.specs.declared.space.Frame.{Frame}
 use Rattle.bd_frames.specs.declared.table.FrameTable.{FrameTable}
 use Rattle.bd_frames.specs.Stands.{FramesAre}
-use Rattle.bd_frames.proofs.Places.{filter-none}
+use Rattle.bd_space.proofs.Ranges.{filter-none}
 
 filter-remove : {A : Type 0} (q : A → Bool) (xs : List A) (i : ℕ) (d : A) → i < length xs → q (get_or xs i d) ≡ false → filter q (remove xs i) ≡ filter q xs
 filter-remove q [] i d h e = absurd (omega arith)

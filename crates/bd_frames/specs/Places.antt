@@ -1,6 +1,6 @@
--- Frames in the order of their places, and parts of a list with all that pass.
-use Rattle.std.specs.Prelude.{ℕ, suc, ◌+◌, ◌≡◌, ◌≤◌, Bool, true, false, List, [], ◌∷◌, Option, Some, None, take, drop, get_or}
-use Rattle.std.specs.List.{list_any, between}
+-- Frames in the order of their places, and the newest of a place.
+use Rattle.std.specs.Prelude.{ℕ, suc, ◌+◌, ◌≡◌, ◌≤◌, Bool, true, false, List, [], ◌∷◌, Option, Some, None, drop, get_or}
+use Rattle.std.specs.List.{list_any}
 use Rattle.std.specs.Coded.{×_prop, →_prop, Unit-prop, le_prop}
 use Rattle.bd_space.specs.declared.space.Frame.{Frame}
 use Rattle.bd_space.specs.Frames.{is_frame}
@@ -26,19 +26,6 @@ IsRising-prop from (f ∷ fs) = ×_prop le_prop (IsRising-prop (suc f.made) fs)
 
 pub RiseIf-prop : (rising : Bool) (fs : List Frame) → IsProp (RiseIf rising fs)
 RiseIf-prop rising fs = →_prop (IsRising-prop 0 fs)
-
--- all that pass lie between the two indices
-pub record IsWithin (q : Frame → Bool) (from to : ℕ) (l : List Frame) : Type 0 where
-  pub before : list_any q (take from l) ≡ false
-  pub after : list_any q (drop to l) ≡ false
-
--- a part of the list, with all that pass
-pub record IsPartOf (q : Frame → Bool) (part l : List Frame) : Type 0 where
-  pub from : ℕ
-  pub to : ℕ
-  pub order : from ≤ to
-  pub within : IsWithin q from to l
-  pub is : part ≡ between from to l
 
 -- the newest one that was made there stands at this index, or there is none
 abbrev pub IsNewestAt : ℕ → Option ℕ → List Frame → Type 0

@@ -4,7 +4,7 @@ ghost use Rattle.std.specs.Prelude.{ℕ, Bool, ◌≡◌, ◌==◌, ◌≤◌, m
 ghost use Rattle.bd_space.specs.Frames as spec;
 ghost use Rattle.bd_space.specs.ReadItems as reading;
 ghost use Rattle.bd_space.specs.Words.{changed};
-ghost use Rattle.bd_frames.specs.Places.{IsWithin};
+ghost use Rattle.bd_space.specs.Ranges.{IsWithin};
 ghost use Rattle.bd_frames.specs.Words.{lost_frame, left_frame};
 
 use crate::server::{gone_caller, gone_server, lost_server};

@@ -3,7 +3,8 @@
 ghost use Rattle.std.specs.Prelude.{ℕ, Bool, ◌≡◌, ◌≤◌, ◌<◌, ◌+◌, IfSome, length};
 ghost use Rattle.std.specs.List.{between};
 ghost use Rattle.bd_space.specs.Frames as spec;
-ghost use Rattle.bd_frames.specs.Places.{IsRising, RiseIf, IsWithin, IsNewestAt};
+ghost use Rattle.bd_space.specs.Ranges.{IsWithin};
+ghost use Rattle.bd_frames.specs.Places.{IsRising, RiseIf, IsNewestAt};
 
 use bd_space::Frame;
 use std::ops::Range;

@@ -30,7 +30,7 @@ impl Group {
     }
 }
 
-// Not derived: the tag and each field would be a write of its own, and each write waits for the one before.
+// One write, as `bd_words` says.
 impl Hash for Group {
     ghost hash_input = { λ g. fed.u128 (spread g) };
 

@@ -1,10 +1,10 @@
 -- FollowingIsLocal: closing one frame can leave only its parent abandoned: so settling goes up from there.
-use Rattle.bd_laws.proofs.words.Logic.{◌≡◌, ℕ, zero, suc, ◌==◌, Bool, true, false, cond, not, ◌&&◌, List, [], ◌∷◌, Option, Some, None, inl, inr, refl, ap, sym, subst, ◌∙◌, filter, find, length, list_any, eqb-true, eq-eqb}
+use Rattle.bd_laws.proofs.words.Logic.{arith, ◌≡◌, ℕ, zero, suc, Bool, true, not, ◌&&◌, List, [], ◌∷◌, Option, Some, None, inr, refl, ap, sym, subst, ◌∙◌, filter, find, length, list_any, eqb-true, eq-eqb}
 use Rattle.bd_laws.proofs.words.Types.{DeadReply, Frame, Verdict}
-use Rattle.bd_laws.proofs.words.Space.{Space, is_gone, is_frame, is_child_of, closed, is_some_and, tell_caller, is_abandoned, settle_one, settle_step, settle_times, settle, close_up}
+use Rattle.bd_laws.proofs.words.Space.{Space, is_gone, is_frame, is_child_of, closed, tell_caller, is_abandoned, settle_one, settle_step, settle_times, settle, close_up}
 use Rattle.bd_laws.specs.Lists.{In}
 use Rattle.bd_laws.proofs.Lists.{in-filter, filter-in, any-found, any-in, find-in}
-use Rattle.bd_laws.proofs.Tests.{both, and-both, not-true, not-false}
+use Rattle.bd_laws.proofs.Tests.{either-way, both, and-both, not-true, not-false}
 use Rattle.bd_laws.proofs.Machine.Settled.{times-still}
 use Rattle.bd_laws.proofs.Fewer.{to-false}
 use Rattle.bd_laws.proofs.Sending.{find-none, none-found}
@@ -26,8 +26,7 @@ times-first (suc n) z = ap settle_step (times-first n z)
 
 pub find-same : {A : Type 0} (p q : A → Bool) (xs : List A) → ((x : A) → In x xs → p x ≡ q x) → find p xs ≡ find q xs
 find-same p q [] h = refl
-find-same p q (x ∷ xs) h =
-    ap (λ b. cond b (Some x) (find p xs)) (h x (inl refl)) ∙ ap (λ o. cond (q x) (Some x) o) (find-same p q xs (λ y l. h y (inr l)))
+find-same p q (x ∷ xs) h = search (arith, find-same p q xs (λ y l. h y (inr l)))
 
 -- no other frame than its parent becomes abandoned when a frame closes
 pub only-parent : (fs : List Frame) (f : Frame) → OneEach fs → In f fs → ((g : Frame) → In g fs → is_abandoned fs g ≡ true → g.made ≡ f.made)
@@ -37,28 +36,14 @@ only-parent fs f one l only g m abandoned =
     let i = in-filter keep g fs m in
     let t = both (is_gone g.server) (not (list_any (is_child_of g) (filter keep fs))) abandoned in
     let none = not-true (list_any (is_child_of g) (filter keep fs)) t.1 in
-    at i.0 (not-true (is_frame f.made g) i.1) t.0 none (list_any (is_child_of g) fs) refl
+    either-way (list_any (is_child_of g) fs)
+    (λ e. let c = any-found (is_child_of g) fs e in either-way (is_frame f.made c.0)
+    (λ k. let is = one c.0 f c.1 l (eqb-true c.0.made f.made k) in ap (λ (x : Frame). x.parent) (sym is) ∙ child c.0 c.2)
+    (λ k. let still = any-in (is_child_of g) c.0 _ (filter-in keep c.0 fs c.1 (not-false _ k)) c.2 in absurd (cc)))
+    (λ e. let same = eq-eqb g.made f.made (only g i.0 (and-both (is_gone g.server) _ t.0 (not-false _ e))) in let other = not-true (is_frame f.made g) i.1 in absurd (cc))
   where
     child : (h : Frame) → is_child_of g h ≡ true → h.parent ≡ Some g.made
-    child h e = of h.parent e
-      where
-        of : (o : Option ℕ) → is_some_and o (λ m. m == g.made) ≡ true → o ≡ Some g.made
-        of None k = absurd (cc)
-        of (Some m) k = ap (λ n. Some n) (eqb-true m g.made k)
-
-    at : In g fs → is_frame f.made g ≡ false → is_gone g.server ≡ true → list_any (is_child_of g) (filter (λ (g : Frame). not (is_frame f.made g)) fs) ≡ false
-        → (b : Bool) → list_any (is_child_of g) fs ≡ b → f.parent ≡ Some g.made
-    at i other gone none false e =
-        let same_made = only g i (and-both (is_gone g.server) _ gone (not-false _ e)) in
-        let yes_frame = eq-eqb g.made f.made same_made in absurd (cc)
-    at i other gone none true e =
-        let c = any-found (is_child_of g) fs e in
-        parent c.0 c.1 c.2 (is_frame f.made c.0) refl
-      where
-        parent : (c : Frame) → In c fs → is_child_of g c ≡ true → (b : Bool) → is_frame f.made c ≡ b → f.parent ≡ Some g.made
-        parent c j k true e = let is = one c f j l (eqb-true c.made f.made e) in ap (λ (x : Frame). x.parent) (sym is) ∙ child c k
-        parent c j k false e =
-            let still = any-in (is_child_of g) c _ (filter-in (λ (g : Frame). not (is_frame f.made g)) c fs j (not-false _ e)) k in absurd (cc)
+    child h e = search (arith, eqb-true)
 
 pub one-filter : (p : Frame → Bool) (fs : List Frame) → OneEach fs → OneEach (filter p fs)
 one-filter p fs h f g l m = h f g (in-filter p f fs l).0 (in-filter p g fs m).0
@@ -68,13 +53,8 @@ pub times-up : (n : ℕ) (m : Option ℕ) (z : Space) → OneEach z.frames → O
 times-up zero m z one only = refl
 times-up (suc n) m z one only = times-first n z ∙ at m only (find (is_abandoned z.frames) z.frames) refl (λ k y o i. times-up n k y o i)
   where
-    none-there : (k : ℕ) → find (is_abandoned z.frames) z.frames ≡ None → find (λ (f : Frame). is_frame k f && is_abandoned z.frames f) z.frames ≡ None
-    none-there k e = find-none (λ (f : Frame). is_frame k f && is_abandoned z.frames f) z.frames (λ f l. to-false _ (λ t.
-        let no = none-found (is_abandoned z.frames) z.frames e f l in let yes_it = (both (is_frame k f) (is_abandoned z.frames f) t).1 in cc))
-
     still : (m : Option ℕ) → find (is_abandoned z.frames) z.frames ≡ None → z ≡ close_up (suc n) m z
-    still None e = refl
-    still (Some k) e = ap (λ (o : Option Frame). elim o as (λ (o : Option Frame). Space) [ None ↦ z | Some f ↦ close_up n f.parent (tell_caller (closed z f.made) f (Verdict DeadReply)) ]) (sym (none-there k e))
+    still m e = search (arith, find-none, to-false, none-found)
 
     at : (m : Option ℕ) → OnlyAt m z.frames → (o : Option Frame) → find (is_abandoned z.frames) z.frames ≡ o
         → ((k : Option ℕ) (y : Space) → OneEach y.frames → OnlyAt k y.frames → settle_times n y ≡ close_up n k y)
@@ -93,12 +73,7 @@ times-up (suc n) m z one only = times-first n z ∙ at m only (find (is_abandone
         ∙ ap (λ (o : Option Frame). elim o as (λ (o : Option Frame). Space) [ None ↦ z | Some f ↦ close_up n f.parent (tell_caller (closed z f.made) f (Verdict DeadReply)) ]) (sym found)
       where
         same_test : (g : Frame) → In g z.frames → (b : Bool) → is_abandoned z.frames g ≡ b → (is_frame k g && is_abandoned z.frames g) ≡ is_abandoned z.frames g
-        same_test g i true t = let w = only g i t in let v : g.made ≡ k = cc in ap (λ b. b && is_abandoned z.frames g) (eq-eqb g.made k v)
-        same_test g i false t = and-false (is_frame k g) t
-          where
-            and-false : (a : Bool) → is_abandoned z.frames g ≡ false → (a && is_abandoned z.frames g) ≡ is_abandoned z.frames g
-            and-false true t = refl
-            and-false false t = sym t
+        same_test g i b t = search (arith, eq-eqb)
 
 pub settle-up : (m : Option ℕ) (z : Space) → OneEach z.frames → OnlyAt m z.frames → settle z ≡ close_up (length z.frames) m z
 unfolding settle

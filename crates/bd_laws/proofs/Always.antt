@@ -1,6 +1,6 @@
--- NothingIsPending: in the space of every history nothing is pending.
+-- SpacesAreTidy: every part of it holds at the opening and is kept by each step. NothingIsPending is one of its parts.
 use Rattle.bd_laws.proofs.words.Space.{Space, opening, History, after, next, space_after}
-use Rattle.std.proofs.Common.{List}
+use Rattle.std.proofs.Common.{arith, List}
 use Rattle.bd_space.specs.declared.step.Entry.{Entry}
 use Rattle.bd_laws.proofs.words.Laws.{IsTidy, OnPaths}
 use Rattle.bd_laws.proofs.Machine.EveryStep.{every_list}
@@ -16,17 +16,7 @@ use Rattle.bd_laws.proofs.NothingIsPending.Quiet.{opening-quiet}
 use Rattle.bd_laws.proofs.Next.{next-quiet}
 
 pub step-tidy : (s : Space) (e : Entry) → IsTidy s → IsTidy (next s e)
-step-tidy s e h = record {
-  before = step-before s e h.before;
-  told = next-told s e h.told h.quiet h.home;
-  home = next-home s e (next-steps s e h.told h.quiet h.home) h.before.turns h.home;
-  in_windows = next-in_windows s e h.home h.before.turns h.in_windows;
-  on_paths = next-on_paths s e (next-steps s e h.told h.quiet h.home) h.on_paths;
-  of_others = next-of_others s e h.home h.before.turns h.on_paths.1.below h.of_others;
-  quiet = next-quiet s e h.before h.told.distinct h.quiet;
-  queued = next-queued s e (next-steps s e h.told h.quiet h.home) h.queued h.quiet;
-  framed = next-framed s e (next-steps s e h.told h.quiet h.home) h.framed;
-}
+step-tidy s e h = search (arith, step-before, next-told, next-home, next-steps, next-in_windows, next-on_paths, next-of_others, next-quiet, next-queued, next-framed)
 
 pub opening-tidy : IsTidy opening
 opening-tidy = record { before = opening-before; told = opening-told; home = opening-home; in_windows = opening-in_windows; on_paths = opening-on_paths; of_others = opening-of_others; quiet = opening-quiet; queued = opening-queued; framed = opening-framed }

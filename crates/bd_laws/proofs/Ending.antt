@@ -1,9 +1,9 @@
--- FollowingIsLocal: a process ends: what is touched.
-use Rattle.bd_laws.proofs.words.Logic.{◌≡◌, ℕ, ◌==◌, Bool, true, false, cond, not, ◌&&◌, ◌||◌, List, [], ◌∷◌, length, ◌⊎◌, inl, inr, refl, ap, sym, subst, ◌∙◌, map, filter, list_any, fold, eqb-true, eq-eqb}
-use Rattle.bd_laws.proofs.words.Types.{ObjectId, Process, Object, Reference, Name, Frame, DeathNotification, Queued, Work, TodoList, OfThread, OfProcess}
-use Rattle.bd_laws.proofs.words.Space.{same, changed, Space, lives_in, owned_in, owe, is_on, same_list, is_name_of, follow, settle, is_notification, with_phase, thread_goes, is_lost_reference, is_unread_on, unread_frame, threads_go, without_process, tell_death, tell_deaths, is_armed, is_dropped_with, seat_of, ObjectTest, no_name, follow_of, close_among, left_objects, seats_in, lists_in, lost_with_process, objects_ended, frames_ended}
+-- For the engine, by FollowingIsLocal: after the end of a process it is enough to look at what it touched.
+use Rattle.bd_laws.proofs.words.Logic.{arith, ◌≡◌, ℕ, ◌==◌, Bool, true, false, cond, not, ◌&&◌, ◌||◌, List, [], ◌∷◌, length, ◌⊎◌, inl, inr, refl, ap, sym, subst, ◌∙◌, list_any, eqb-true, eq-eqb}
+use Rattle.bd_laws.proofs.words.Types.{ObjectId, Object, Reference, Name, Frame, DeathNotification, Queued, Work, TodoList, OfThread, OfProcess}
+use Rattle.bd_laws.proofs.words.Space.{changed, Space, lives_in, owned_in, owe, is_on, same_list, is_name_of, follow, settle, is_notification, with_phase, thread_goes, is_lost_reference, is_unread_on, unread_frame, threads_go, without_process, tell_death, tell_deaths, is_armed, is_dropped_with, ObjectTest, no_name, follow_of, close_among, left_objects, seats_in, lists_in, lost_with_process, objects_ended, frames_ended}
 use Rattle.bd_space.specs.declared.space.WorkKind.TheVariants as work
-use Rattle.bd_laws.proofs.words.Laws.{In, IsTidy}
+use Rattle.bd_laws.proofs.words.Laws.{In, IsTidy, IsFramed}
 use Rattle.bd_laws.proofs.Lists.{in-left, in-push, in-filter, filter-in, map-in, in-changed, any-found, any-in, fold-keeps}
 use Rattle.bd_laws.proofs.Tests.{both, and-both, not-true, not-false, eq-same, or-right, not-eq}
 use Rattle.bd_laws.proofs.Machine.Deaths.{KeptOnDeaths, on-told, tell_deaths-aside}
@@ -13,9 +13,10 @@ use Rattle.bd_laws.proofs.Fewer.{any-filtered, to-false}
 use Rattle.bd_laws.proofs.ItemsAreToldApart.Numbering.{rest-references}
 use Rattle.bd_laws.proofs.IsQueued.Queueing.{sits-on}
 use Rattle.bd_laws.proofs.Abandoned.{OneEach}
-use Rattle.bd_laws.proofs.Framing.{one-each}
+use Rattle.bd_laws.proofs.Framing.{Keeping, framed_table, framed_exits, one_each-framed}
+use Rattle.bd_laws.proofs.Machine.Table.{Any, ended-by}
 use Rattle.bd_laws.proofs.FollowingIsLocal.Closings.{Covered, settle-among}
-use Rattle.bd_laws.proofs.Leaving.{Parts, parts-elsewhere, elsewhere-more, untouched-reference, untouched-notice, one-map, left-one}
+use Rattle.bd_laws.proofs.Leaving.{Parts, parts-elsewhere, elsewhere-more, untouched-reference, untouched-notice}
 use Rattle.bd_laws.proofs.FollowingIsLocal.Left.{neither, Left, left-none, left-step, AllWent, went-map, unread-or, cover-unread, abandoned-touched}
 use Rattle.bd_laws.proofs.Machine.Fields.{follow_of-frames as follow-frames}
 
@@ -31,17 +32,11 @@ told-notices y = record {
 
 told-more : (y : Space) → KeptOnDeaths (λ z. (w : Work) → In w y.todo → In w z.todo)
 unfolding owe
-told-more y = record {
-  others = λ z ds h. h;
-  dies = λ z p made h w l. in-left w z.todo _ (h w l);
-  clears = λ z t cookie h w l. in-left w z.todo _ (h w l);
-}
+told-more y = search (arith, in-left)
 
-record Same (x y : DeathNotification) : Type 0 where
-  made : y.made ≡ x.made
-  process : y.process ≡ x.process
-  object : y.object ≡ x.object
-  cleared : y.cleared ≡ x.cleared
+-- only their phases may differ
+abbrev Same : DeathNotification → DeathNotification → Type 0
+Same x y = (let z : DeathNotification = record y { phase = x.phase } in z) ≡ x
 
 -- only phases differ from the notifications before, and each Death item keeps its own
 record Telling (w : Space) (z : Space) : Type 0 where
@@ -49,24 +44,10 @@ record Telling (w : Space) (z : Space) : Type 0 where
   to : (x : DeathNotification) → In x w.deaths → list_any (λ (y : DeathNotification). y.made == x.made) z.deaths ≡ true
   items : (v : Work) (n : ℕ) → In v z.todo → v.kind ≡ work.Death n → In v w.todo ⊎ ((x : DeathNotification) × In x w.deaths × (x.made ≡ n))
 
-phase-same : (c : Bool) (y : DeathNotification) → (let u : DeathNotification = cond c (record y { phase = Queued }) y in Same y u)
-phase-same true y = record { made = refl; process = refl; object = refl; cleared = refl }
-phase-same false y = record { made = refl; process = refl; object = refl; cleared = refl }
-
 any-made : (n : ℕ) (p : DeathNotification → Bool) (xs : List DeathNotification) → list_any (λ (y : DeathNotification). y.made == n) xs ≡ true
     → list_any (λ (y : DeathNotification). y.made == n) (changed p (λ y. record y { phase = Queued }) xs) ≡ true
 any-made n p [] h = h
-any-made n p (x ∷ xs) h = at (p x) (any-made n p xs) h
-  where
-    either : (a b c : Bool) → (b ≡ true → c ≡ true) → (a || b) ≡ true → (a || c) ≡ true
-    either true b c k e = refl
-    either false b c k e = k e
-
-    at : (c : Bool) → (list_any (λ (y : DeathNotification). y.made == n) xs ≡ true → list_any (λ (y : DeathNotification). y.made == n) (changed p (λ y. record y { phase = Queued }) xs) ≡ true)
-        → ((x.made == n) || list_any (λ (y : DeathNotification). y.made == n) xs) ≡ true
-        → (let u : DeathNotification = cond c (record x { phase = Queued }) x in ((u.made == n) || list_any (λ (y : DeathNotification). y.made == n) (changed p (λ y. record y { phase = Queued }) xs)) ≡ true)
-    at true k e = either (x.made == n) _ _ k e
-    at false k e = either (x.made == n) _ _ k e
+any-made n p (x ∷ xs) h = search (arith, any-made n p xs)
 
 tells-one : (w : Space) (p : ℕ) (z : Space) (x : DeathNotification) → In x w.deaths → Telling w z → Telling w (tell_death p z x)
 unfolding with_phase owe
@@ -78,16 +59,7 @@ tells-one w p z x l k = at (is_armed x.phase && owned_in z.objects p x.object)
       from = λ y m.
           let u = in-changed (is_notification x.made) (λ (y : DeathNotification). record y { phase = Queued }) y z.deaths m in
           let v = k.from u.0 u.1 in
-          let c = phase-same (is_notification x.made u.0) u.0 in (
-            v.0,
-            v.1,
-            record {
-              made = ap (λ (d : DeathNotification). d.made) u.2 ∙ c.made ∙ v.2.made;
-              process = ap (λ (d : DeathNotification). d.process) u.2 ∙ c.process ∙ v.2.process;
-              object = ap (λ (d : DeathNotification). d.object) u.2 ∙ c.object ∙ v.2.object;
-              cleared = ap (λ (d : DeathNotification). d.cleared) u.2 ∙ c.cleared ∙ v.2.cleared;
-            },
-          );
+          (v.0, v.1, subst (Same v.0) (sym u.2) (search arith));
       to = λ u m. any-made u.made (is_notification x.made) z.deaths (k.to u m);
       items = λ v n m e. elim (in-push v _ z.todo m) [
         | inl i ↦ k.items v n i e
@@ -98,24 +70,12 @@ tells-one w p z x l k = at (is_armed x.phase && owned_in z.objects p x.object)
 all-tell : (w : Space) (p : ℕ) → Telling w (tell_deaths w p)
 unfolding tell_deaths
 all-tell w p = fold-keeps (Telling w) (tell_death p) w.deaths (λ z x l k. tells-one w p z x l k) w (record {
-  from = λ y l. (y, l, record { made = refl; process = refl; object = refl; cleared = refl });
+  from = λ y l. (y, l, refl);
   to = λ x l. any-in (λ (y : DeathNotification). y.made == x.made) x w.deaths l (eq-eqb x.made x.made refl);
   items = λ v n l e. inl l;
 })
 
 -- ---- the threads, and then the process
-
-fold-one : (seats : List ℕ) (z : Space) → OneEach z.frames → OneEach (fold thread_goes z seats).frames
-fold-one [] z h = h
-fold-one (t ∷ ts) z h = fold-one ts (thread_goes z t) (left-one z t h)
-
-threads-one : (s : Space) (p : ℕ) → OneEach s.frames → OneEach (threads_go s p).frames
-unfolding threads_go
-threads-one s p h = fold-one (map seat_of (filter (λ t. t.process == p) s.threads)) s h
-
-without-one : (z : Space) (p : ℕ) → OneEach z.frames → OneEach (without_process z p).frames
-unfolding without_process
-without-one z p h = one-map (unread_frame z.todo (OfProcess p)) (λ g. refl) z.frames h
 
 module _ (s : Space) (p : ℕ) (h : IsTidy s) where
   abbrev gone : Reference → Bool
@@ -144,35 +104,15 @@ module _ (s : Space) (p : ℕ) (h : IsTidy s) where
 
   rest-names : (m : Name) → In m rest.names → In m s.names × (m.process ≡ p → ⊥)
   unfolding without_process
-  rest-names m l =
-      let i = in-filter (λ (m : Name). not (m.process == p)) m threadless.names l in
-      (subst (In m) left.names i.0, λ e. let no = not-true (m.process == p) i.1 in let yes = eq-eqb m.process p e in cc)
-
-  rest-named : (q : ℕ) (o : ObjectId) → (q ≡ p → ⊥) → is_name_of rest.names q o ≡ is_name_of s.names q o
-  unfolding without_process
-  rest-named q o other =
-      any-filtered (λ (m : Name). (m.process == q) && same m.object o) (λ (m : Name). not (m.process == p)) threadless.names
-      (λ m l e. to-false _ (λ k. other (sym (eqb-true m.process q (both (m.process == q) (same m.object o) k).0) ∙ eqb-true m.process p (gone-true (m.process == p) e))))
-      ∙ ap (λ ns. is_name_of ns q o) left.names
-    where
-      gone-true : (b : Bool) → not b ≡ false → b ≡ true
-      gone-true true e = refl
-      gone-true false e = absurd (cc)
+  rest-names m l = search (arith, in-filter, left, not-true, eq-eqb)
 
   rest-objects : rest.objects ≡ s.objects
   unfolding without_process
-  rest-objects = left.objects
+  rest-objects = search (arith, left)
 
   rest-lives : (q : ℕ) → (q ≡ p → ⊥) → lives_in rest.processes q ≡ lives_in s.processes q
   unfolding without_process
-  rest-lives q other =
-      any-filtered (λ (x : Process). x.made == q) (λ (x : Process). not (x.made == p)) threadless.processes
-      (λ x l e. to-false _ (λ k. other (sym (eqb-true x.made q k) ∙ eqb-true x.made p (gone-true (x.made == p) e))))
-      ∙ ap (λ ps. lives_in ps q) left.processes
-    where
-      gone-true : (b : Bool) → not b ≡ false → b ≡ true
-      gone-true true e = refl
-      gone-true false e = absurd (cc)
+  rest-lives q other = search (arith, any-filtered, to-false, eqb-true, left)
 
   rest-fewer : (r : Reference) → In r rest.references → In r s.references
   unfolding without_process
@@ -180,9 +120,7 @@ module _ (s : Space) (p : ℕ) (h : IsTidy s) where
 
   rest-stay : (r : Reference) → In r s.references → gone r ≡ false → In r rest.references
   unfolding without_process
-  rest-stay r l none =
-      filter-in (λ (r : Reference). not (is_dropped_with threadless.objects p r)) r threadless.references (left.stay r l none)
-      (not-false _ (ap (λ os. is_dropped_with os p r) left.objects ∙ (neither (is_dropped_with s.objects p r) (list_any (λ t. is_lost_reference s.todo (OfThread t) r) seats) none).0))
+  rest-stay r l none = search (arith, filter-in, left, not-false, neither)
 
   rest-less : (w : Work) → In w rest.todo → In w s.todo × (is_on (OfProcess p) w ≡ false)
   unfolding without_process
@@ -190,19 +128,15 @@ module _ (s : Space) (p : ℕ) (h : IsTidy s) where
 
   rest-more : (w : Work) → In w s.todo → list_any (λ (l : TodoList). is_on l w) lists ≡ false → In w rest.todo
   unfolding without_process
-  rest-more w l none =
-      filter-in (λ (w : Work). not (is_on (OfProcess p) w)) w threadless.todo (left.more w l none)
-      (not-false _ (neither (is_on (OfProcess p) w) (list_any (λ (l : TodoList). is_on l w) (map (λ t. OfThread t) seats)) none).0)
+  rest-more w l none = search (arith, filter-in, left, not-false, neither)
 
   rest-deaths : (x : DeathNotification) → In x rest.deaths → In x s.deaths × (x.process ≡ p → ⊥)
   unfolding without_process
-  rest-deaths x l =
-      let i = in-filter (λ (x : DeathNotification). not (x.process == p)) x threadless.deaths l in
-      (subst (In x) left.deaths i.0, λ e. let no = not-true (x.process == p) i.1 in let yes = eq-eqb x.process p e in cc)
+  rest-deaths x l = search (arith, in-filter, left, not-true, eq-eqb)
 
   deaths-rest : (x : DeathNotification) → In x s.deaths → (x.process ≡ p → ⊥) → In x rest.deaths
   unfolding without_process
-  deaths-rest x l other = filter-in (λ (x : DeathNotification). not (x.process == p)) x threadless.deaths (subst (In x) (sym left.deaths) l) (not-false _ (not-eq x.process p other))
+  deaths-rest x l other = search (arith, filter-in, left, not-false, not-eq)
 
   rest-frames : AllWent (frames_ended s p) s.frames rest.frames
   unfolding without_process
@@ -214,12 +148,10 @@ module _ (s : Space) (p : ℕ) (h : IsTidy s) where
       ])
 
   unowned : (x : Object) → In x s.objects → objects_ended s p x.id ≡ false → x.owner ≡ p → ⊥
-  unowned x l none e =
-      let no = (neither (owned_in s.objects p x.id) (left_objects gone lists s x.id) none).0 in
-      let yes = any-in (λ (y : Object). same y.id x.id && (y.owner == p)) x s.objects l (and-both (same x.id x.id) (x.owner == p) (eq-same x.id x.id refl) (eq-eqb x.owner p e)) in cc
+  unowned x l none e = search (arith, any-in, and-both, eq-same, eq-eqb)
 
   unleft : (o : ObjectId) → objects_ended s p o ≡ false → left_objects gone lists s o ≡ false
-  unleft o none = (neither (owned_in s.objects p o) (left_objects gone lists s o) none).1
+  unleft o none = search (arith, neither)
 
   -- where a notification goes, so does its item: both are the process's
   still-told : (w : Work) (n : ℕ) → In w rest.todo → w.kind ≡ work.Death n → list_any (λ (y : DeathNotification). y.made == n) ended.deaths ≡ true
@@ -233,6 +165,7 @@ module _ (s : Space) (p : ℕ) (h : IsTidy s) where
       let not_here = i.1 in cc)))
 
   pub ended-parts : Parts no_name (objects_ended s p) s ended
+  unfolding without_process
   ended-parts =
       let u = tell_deaths-untouched rest p in
       let told = all-tell rest p in
@@ -249,11 +182,9 @@ module _ (s : Space) (p : ℕ) (h : IsTidy s) where
         deaths = λ d l none.
             let x = told.from d l in
             let i = rest-deaths x.0 x.1 in
-            ap (λ c. c || is_name_of ended.names d.process d.object) x.2.cleared
-            ∙ ap (λ ns. x.0.cleared || is_name_of ns d.process d.object) u.names
-            ∙ ap (λ q. x.0.cleared || is_name_of rest.names q d.object) x.2.process
-            ∙ ap (λ o. x.0.cleared || is_name_of rest.names x.0.process o) x.2.object
-            ∙ ap (λ c. x.0.cleared || c) (rest-named x.0.process x.0.object i.1)
+            ap (λ (y : DeathNotification). y.cleared || is_name_of ended.names y.process y.object) x.2
+            ∙ ap (λ ns. x.0.cleared || is_name_of ns x.0.process x.0.object) u.names
+            ∙ ap (λ c. x.0.cleared || c) (search (arith, any-filtered, to-false, eqb-true, both, left))
             ∙ h.quiet.followed.deaths x.0 i.0 refl;
         tellings = λ w n l e. elim (told.items w n l e) [
           | inl i ↦ still-told w n i e
@@ -265,11 +196,12 @@ module _ (s : Space) (p : ℕ) (h : IsTidy s) where
   -- and its threads' frames are looked at, nothing else has to be
   pub ending-local : (b : ObjectTest) (c : ℕ → Bool) → ((o : ObjectId) → objects_ended s p o ≡ true → b o ≡ true) → ((m : ℕ) → frames_ended s p m ≡ true → c m ≡ true)
       → settle (follow ended) ≡ close_among (length ended.frames) c (follow_of no_name b ended)
+  unfolding IsFramed
   ending-local b c objects among =
       let y = follow_of no_name b ended in
       let same_frames = follow-frames no_name b ended in
+      let one : OneEach ended.frames = one_each-framed s.steps ended.frames (ended-by Keeping Any framed_table framed_exits s p s.steps h.framed) in
       let aside = (tell_deaths-aside rest p).frames in
-      let one : OneEach ended.frames = subst OneEach (sym aside) (without-one threadless p (threads-one s p (one-each s h.framed))) in
       let covered : Covered c ended.frames = subst (Covered c) (sym aside) (λ f l e. among f.made (abandoned-touched (frames_ended s p) s.frames rest.frames h.quiet.settled rest-frames f l e)) in
       let quiet = elsewhere-more no_name no_name (objects_ended s p) b ended (λ q o e. e) objects (parts-elsewhere no_name (objects_ended s p) s ended h.quiet.followed ended-parts) in
       ap settle (follow-local no_name b ended quiet)

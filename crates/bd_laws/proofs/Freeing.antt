@@ -1,8 +1,8 @@
--- FollowingIsLocal: of BC_FREE_BUFFER: what the buffer's references stood for is looked at, and a one-way call's
--- object.
-use Rattle.bd_laws.proofs.words.Logic.{◌≡◌, ℕ, Bool, true, false, cond, not, ◌&&◌, ◌||◌, List, [], ◌∷◌, ◌++◌, Option, Some, None, inl, inr, refl, ap, sym, subst, ◌∙◌, filter, find, list_any, cons_option}
-use Rattle.bd_laws.proofs.words.Types.{ObjectId, Reference, Buffer, Turn, Work, WorkKind, TodoList, OfProcess}
-use Rattle.bd_laws.proofs.words.Space.{same, Space, is_of_buffer, with_work, is_notice, is_call, follow, without_buffer, is_made_at, turn_of, turns_of, is_ripe, settle, completed, NameTest, ObjectTest, follow_of, notify_of, work_goes_of, deaths_go_of, objects_go_of, names_go_of, ripen_of, first_due, names_of_references, objects_of_references}
+-- For the engine, by FollowingIsLocal: after a BC_FREE_BUFFER it is enough to look at what the buffer's references stood
+-- for, and at a one-way call's object.
+use Rattle.bd_laws.proofs.words.Logic.{arith, ◌≡◌, ℕ, ◌==◌, Bool, true, false, cond, not, ◌&&◌, List, [], ◌∷◌, ◌++◌, Option, Some, None, inl, inr, refl, ap, sym, subst, ◌∙◌, filter, find, list_any, cons_option}
+use Rattle.bd_laws.proofs.words.Types.{ObjectId, DeathNotification, Reference, Buffer, Turn, Work, WorkKind, TodoList, OfProcess}
+use Rattle.bd_laws.proofs.words.Space.{same, Space, is_of_buffer, owe, with_work, is_notice, is_call, without_buffer, is_made_at, turn_of, turns_of, is_ripe, completed, NameTest, ObjectTest, follow_of, notify_of, work_goes_of, deaths_go_of, objects_go_of, names_go_of, ripen_of, first_due, names_of_references, objects_of_references}
 use Rattle.bd_space.specs.declared.space.WorkKind.TheVariants as work
 use Rattle.bd_laws.proofs.words.Laws.{In, Elsewhere, IsSettled, NoneRipe, IsQuiet}
 use Rattle.bd_laws.proofs.Lists.{in-push}
@@ -10,21 +10,34 @@ use Rattle.bd_laws.proofs.Tests.{same-eq, eq-same}
 use Rattle.bd_laws.proofs.Follow.{follow-local}
 use Rattle.bd_laws.proofs.Machine.Settled.{settle-still}
 use Rattle.bd_laws.proofs.FollowingIsLocal.Ripe.{NoneRipeBut, ripen-local}
-use Rattle.bd_laws.proofs.NothingIsPending.Quiet.{IsPlainKind, any-more}
+use Rattle.bd_laws.proofs.NothingIsPending.Quiet.{IsPlainKind, any-more, unripe-kept}
+pub use Rattle.std.proofs.lemmas.List.Folds.{list_any-append as any-append}
 use Rattle.bd_laws.proofs.Fewer.{elsewhere-said, filtered-said, to-false}
 
--- ---- a call more is pending nowhere else
+-- ---- an item more is pending nowhere else
 
-pub owe-elsewhere : (a : NameTest) (b : ObjectTest) (z : Space) (list : TodoList) (kind : WorkKind) → IsPlainKind kind → Elsewhere a b z
-    → Elsewhere a b (record z { todo = with_work z.steps z.todo list kind })
-owe-elsewhere a b z list kind plain h = record {
+-- no one-way call is ripe
+abbrev pub IsUnripe : Space → Type 0
+IsUnripe z = NoneRipe z.todo [] (turns_of z.buffers)
+
+pub owed-unripe : (z : Space) (list : TodoList) (kind : WorkKind) → IsUnripe z → IsUnripe (owe z list kind)
+unfolding owe
+owed-unripe z list kind h = unripe-kept z.todo (with_work z.steps z.todo list kind) (turns_of z.buffers) [] h (λ t l. any-more (λ (w : Work). is_call t.made w.kind) z.todo _)
+
+pub owed-elsewhere : (a : NameTest) (b : ObjectTest) (z : Space) (list : TodoList) (kind : WorkKind) → ((o : ObjectId) → kind ≡ work.Notice o → ⊥)
+    → ((n : ℕ) → kind ≡ work.Death n → list_any (λ (x : DeathNotification). x.made == n) z.deaths ≡ true) → Elsewhere a b z → Elsewhere a b (record z { todo = with_work z.steps z.todo list kind })
+owed-elsewhere a b z list kind other told h = record {
   names = h.names;
   objects = h.objects;
   deaths = h.deaths;
-  notices = λ w o l e none. elim (in-push w _ z.todo l) [ inl k ↦ h.notices w o k e none | inr is ↦ absurd (plain.0 o (ap (λ (v : Work). v.kind) is ∙ e)) ];
-  tellings = λ w n l e. elim (in-push w _ z.todo l) [ inl k ↦ h.tellings w n k e | inr is ↦ absurd (plain.1 n (ap (λ (v : Work). v.kind) is ∙ e)) ];
+  notices = λ w o l e none. elim (in-push w _ z.todo l) [ inl k ↦ h.notices w o k e none | inr is ↦ absurd (other o (ap (λ (v : Work). v.kind) is ∙ e)) ];
+  tellings = λ w n l e. elim (in-push w _ z.todo l) [ inl k ↦ h.tellings w n k e | inr is ↦ told n (ap (λ (v : Work). v.kind) is ∙ e) ];
   made = λ x l none wants. any-more (λ (w : Work). is_notice x.id w.kind) z.todo _ (h.made x l none wants);
 }
+
+pub owe-elsewhere : (a : NameTest) (b : ObjectTest) (z : Space) (list : TodoList) (kind : WorkKind) → IsPlainKind kind → Elsewhere a b z
+    → Elsewhere a b (record z { todo = with_work z.steps z.todo list kind })
+owe-elsewhere a b z list kind plain = owed-elsewhere a b z list kind plain.0 (λ n e. absurd (plain.1 n e))
 
 pub ripen_of-elsewhere : (a : NameTest) (b : ObjectTest) (o : ObjectId) (z : Space) → Elsewhere a b z → Elsewhere a b (ripen_of o z)
 unfolding ripen_of
@@ -40,16 +53,13 @@ ripen_of-elsewhere a b o z h = at (find (λ (t : Turn). same t.target o) (turns_
 
 follow_of-frames : (a : NameTest) (b : ObjectTest) (o : ObjectId) (z : Space) → (follow_of a b (ripen_of o z)).frames ≡ z.frames
 unfolding follow_of notify_of work_goes_of deaths_go_of objects_go_of names_go_of ripen_of
-follow_of-frames a b o z = refl
+follow_of-frames a b o z = search arith
 
 -- nothing is pending but on one object, whose one-way calls may be ripe
 pub completed-ripe : (a : NameTest) (b : ObjectTest) (o : ObjectId) (z : Space) → Elsewhere a b z → NoneRipeBut o z.todo [] (turns_of z.buffers) → IsSettled z.frames
     → completed z ≡ follow_of a b (ripen_of o z)
 unfolding completed
-completed-ripe a b o z h unripe settled =
-    ap (λ y. settle (follow y)) (ripen-local o z unripe)
-    ∙ ap settle (follow-local a b (ripen_of o z) (ripen_of-elsewhere a b o z h))
-    ∙ settle-still (follow_of a b (ripen_of o z)) (subst IsSettled (sym (follow_of-frames a b o z)) settled)
+completed-ripe a b o z h unripe settled = search (arith, ripen-local, follow-local, ripen_of-elsewhere, settle-still, follow_of-frames)
 
 -- ---- buffers that go
 
@@ -57,33 +67,16 @@ completed-ripe a b o z h unripe settled =
 abbrev SameBut : ObjectId → List Turn → List Turn → Type 0
 SameBut o more less = (i : ObjectId) → same i o ≡ false → list_any (λ (u : Turn). same u.target i) less ≡ list_any (λ (u : Turn). same u.target i) more
 
-pub any-append : {A : Type 0} (p : A → Bool) (xs ys : List A) → list_any p (xs ++ ys) ≡ (list_any p xs || list_any p ys)
-any-append p [] ys = refl
-any-append p (x ∷ xs) ys = ap (λ b. p x || b) (any-append p xs ys) ∙ at (p x) (list_any p xs) (list_any p ys)
-  where
-    at : (a b c : Bool) → (a || (b || c)) ≡ ((a || b) || c)
-    at true b c = refl
-    at false b c = refl
-
 module _ (o : ObjectId) (todo : List Work) where
   same-push : (more less : List Turn) (t : Turn) → SameBut o more less → SameBut o (more ++ t ∷ []) (less ++ t ∷ [])
-  same-push more less t h i none =
-      any-append _ less (t ∷ []) ∙ ap (λ b. b || list_any (λ (u : Turn). same u.target i) (t ∷ [])) (h i none) ∙ sym (any-append _ more (t ∷ []))
+  same-push more less t h i none = search (arith, any-append)
 
   -- one on the object more
   same-more : (more less : List Turn) (t : Turn) → same t.target o ≡ true → SameBut o more less → SameBut o (more ++ t ∷ []) less
-  same-more more less t on h i none =
-      h i none
-      ∙ sym (any-append (λ (u : Turn). same u.target i) more (t ∷ [])
-      ∙ ap (λ b. list_any (λ (u : Turn). same u.target i) more || (b || false)) (to-false (same t.target i) (λ k. let yes = eq-same i o (sym (same-eq t.target i k) ∙ same-eq t.target o on) in cc))
-      ∙ at (list_any (λ (u : Turn). same u.target i) more))
-    where
-      at : (a : Bool) → (a || false) ≡ a
-      at true = refl
-      at false = refl
+  same-more more less t on h i none = search (arith, any-append, to-false, eq-same, same-eq)
 
   ripe-same : (more less : List Turn) (t : Turn) → SameBut o more less → is_ripe todo more t ≡ false → same t.target o ≡ false → is_ripe todo less t ≡ false
-  ripe-same more less t h k none = ap (λ b. not t.handed && not b && not (list_any (λ (w : Work). is_call t.made w.kind) todo)) (h t.target none) ∙ k
+  ripe-same more less t h k none = search arith
 
   module _ (keep : Buffer → Bool) where
     but-filtered : (bs : List Buffer) (more less : List Turn) → SameBut o more less → NoneRipe todo more (turns_of bs)
@@ -96,9 +89,7 @@ module _ (o : ObjectId) (todo : List Work) where
             → ((m l : List Turn) → SameBut o m l → NoneRipe todo m (turns_of cs) → NoneRipeBut o todo l (turns_of (filter keep cs)))
             → NoneRipeBut o todo less (turns_of (cond b (c ∷ filter keep cs) (filter keep cs)))
         at true i None f h rest = subst (λ g. NoneRipeBut o todo less (cons_option g (turns_of (filter keep cs)))) (sym f) (rest more less e h)
-        at true i (Some t) f h rest =
-            subst (λ g. NoneRipeBut o todo less (cons_option g (turns_of (filter keep cs)))) (sym f)
-            ((λ none. ripe-same more less t e h.0 none), rest (more ++ t ∷ []) (less ++ t ∷ []) (same-push more less t e) h.1)
+        at true i (Some t) f h rest = search (arith, ripe-same, same-push)
         at false i None f h rest = rest more less e h
         at false i (Some t) f h rest = rest (more ++ t ∷ []) less (same-more more less t (k c (inl refl) i t f) e) h.1
 
@@ -119,5 +110,4 @@ freed-local s made o h k =
     (but-filtered o s.todo (λ (b : Buffer). not (is_made_at made b)) s.buffers [] [] (λ i none. refl) h.unripe (λ c l f t i. k c l (at (is_made_at made c) f) t i)) h.settled
   where
     at : (b : Bool) → not b ≡ false → b ≡ true
-    at true e = refl
-    at false e = absurd (cc)
+    at b e = search arith

@@ -1,4 +1,3 @@
 -- While a Death item stands, its notification is queued. What SpacesAreTidy knows of death notifications.
-pub mod Queued
 pub mod QueuedDeaths
 pub mod Queueing

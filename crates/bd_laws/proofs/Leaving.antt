@@ -1,21 +1,20 @@
--- FollowingIsLocal: a thread ends: what is touched.
-use Rattle.bd_laws.proofs.words.Logic.{◌≡◌, ℕ, ◌==◌, Bool, true, false, not, ◌&&◌, ◌||◌, List, [], ◌∷◌, Option, Some, None, length, inl, refl, ap, sym, subst, ◌∙◌, map, filter, list_any, eqb-true}
-use Rattle.bd_laws.proofs.words.Types.{ObjectId, Object, Reference, Name, Thread, Holder, Asked, Carried, Target, Handshake, Manager, Frame, DeathNotification, Work, TodoList, OfThread}
-use Rattle.bd_laws.proofs.words.Space.{same, is_some_and, Space, lives_in, object_in, owned_in, held_in, strong_in, names_for, buffer_of_holder, is_on, is_notice, hands_out, wants_notice, is_name_of, follow, settle, thread_goes, is_lost_with, frame_without, NameTest, ObjectTest, follow_of, close_among, left_objects, lost_with_thread, names_left, objects_left, frames_left}
-use mathlib.Core.Bool.{beq}
+-- For the engine, by FollowingIsLocal: after the end of a thread it is enough to look at what it touched.
+use Rattle.bd_laws.proofs.words.Logic.{arith, ◌≡◌, ℕ, ◌==◌, Bool, true, false, not, ◌&&◌, ◌||◌, List, [], ◌∷◌, length, inl, refl, ap, sym, subst, ◌∙◌, filter, list_any, eqb-true}
+use Rattle.bd_laws.proofs.words.Types.{ObjectId, Object, Reference, Name, Thread, Holder, Carried, DeathNotification, Work, TodoList, OfThread}
+use Rattle.bd_laws.proofs.words.Space.{same, is_some_and, Space, lives_in, object_in, owned_in, held_in, names_for, buffer_of_holder, is_on, is_notice, hands_out, wants_notice, is_name_of, follow, settle, thread_goes, is_lost_with, NameTest, ObjectTest, follow_of, close_among, left_objects, lost_with_thread, names_left, objects_left, frames_left}
 use Rattle.bd_space.specs.declared.space.WorkKind.TheVariants as work
-use Rattle.bd_laws.proofs.words.Laws.{In, Elsewhere, IsFollowed, IsTidy}
-use Rattle.bd_laws.proofs.Lists.{in-filter, filter-in, in-map, any-found, any-in, find-in}
+use Rattle.bd_laws.proofs.words.Laws.{In, Elsewhere, IsFollowed, IsTidy, IsFramed}
+use Rattle.bd_laws.proofs.Lists.{in-filter, filter-in, any-found, any-in, find-in}
 use Rattle.bd_laws.proofs.Tests.{both, and-both, same-eq, eq-same}
 use Rattle.bd_laws.proofs.Follow.{follow-local}
 use Rattle.bd_laws.proofs.Fewer.{to-false}
 use Rattle.bd_laws.proofs.Abandoned.{OneEach}
-use Rattle.bd_laws.proofs.Framing.{one-each}
+use Rattle.bd_laws.proofs.Framing.{one_each-framed, framed_exits}
 use Rattle.bd_laws.proofs.AtHome.HomesSent.{one-thread}
-use Rattle.bd_laws.proofs.FollowingIsLocal.Closings.{Covered, settle-among}
+use Rattle.bd_laws.proofs.FollowingIsLocal.Closings.{settle-among}
 pub use Rattle.bd_laws.proofs.Machine.Fields.{follow_of-frames as follow-frames}
 pub use Rattle.bd_laws.proofs.Tests.{or-left, or-right}
-use Rattle.bd_laws.proofs.FollowingIsLocal.Left.{on-thread, neither, equal-tests, abandoned-touched, Left, left-none, left-step}
+use Rattle.bd_laws.proofs.FollowingIsLocal.Left.{on-thread, equal-tests, abandoned-touched, Left, left-none, left-step}
 
 -- ---- what is pending elsewhere, after references and items went
 
@@ -40,25 +39,13 @@ module _ (a : NameTest) (b : ObjectTest) (s z : Space) (h : IsFollowed s) (k : P
       any-in p r.0 z.references (k.stay r.0 r.1 (subst (λ i. b i ≡ false) (sym (same-eq r.0.object o (at r.0 r.2))) none)) r.2)
 
   held-same : (o : ObjectId) → b o ≡ false → held_in z.references o ≡ held_in s.references o
-  held-same o none = any-same (λ (r : Reference). same r.object o) o (λ r e. e) none
-
-  strong-same : (o : ObjectId) → b o ≡ false → strong_in z.references o ≡ strong_in s.references o
-  strong-same o none = any-same (λ (r : Reference). r.strong && same r.object o) o (λ r e. (both r.strong (same r.object o) e).1) none
+  held-same o none = search (arith, any-same)
 
   wants-same : (x : Object) → In x s.objects → b x.id ≡ false → wants_notice z.processes z.references x ≡ wants_notice s.processes s.references x
-  wants-same x l none =
-      ap (λ d. lives_in z.processes x.owner && (not (beq x.told_weak d) || not (beq x.told_strong (strong_in z.references x.id)))) (held-same x.id none)
-      ∙ ap (λ d. lives_in z.processes x.owner && (not (beq x.told_weak (held_in s.references x.id)) || not (beq x.told_strong d))) (strong-same x.id none)
-      ∙ ap (λ d. d && (not (beq x.told_weak (held_in s.references x.id)) || not (beq x.told_strong (strong_in s.references x.id)))) (k.owners x l none)
+  wants-same x l none = search (arith, held-same, any-same, both)
 
   due-same : (o : ObjectId) → b o ≡ false → is_some_and (object_in s.objects o) (wants_notice s.processes s.references) ≡ true → is_some_and (object_in z.objects o) (wants_notice z.processes z.references) ≡ true
-  due-same o none due = ap (λ os. is_some_and (object_in os o) (wants_notice z.processes z.references)) k.objects ∙ at (object_in s.objects o) refl due
-    where
-      at : (f : Option Object) → object_in s.objects o ≡ f → is_some_and f (wants_notice s.processes s.references) ≡ true → is_some_and f (wants_notice z.processes z.references) ≡ true
-      at None e i = absurd (cc)
-      at (Some x) e i =
-          let l = find-in (λ (y : Object). same y.id o) x s.objects e in
-          wants-same x l.0 (subst (λ j. b j ≡ false) (sym (same-eq x.id o l.1)) none) ∙ i
+  due-same o none due = search (arith, find-in, wants-same, same-eq)
 
   pub parts-elsewhere : Elsewhere a b z
   parts-elsewhere = record {
@@ -68,25 +55,17 @@ module _ (a : NameTest) (b : ObjectTest) (s z : Space) (h : IsFollowed s) (k : P
         let c = both (same r.0.object m.object) (names_for m.process r.0.holder) r.2 in
         and-both (not (owned_in z.objects m.process m.object)) _ (ap (λ (os : List Object). not (owned_in os m.process m.object)) k.objects ∙ t.0)
         (any-in (λ (r : Reference). same r.object m.object && names_for m.process r.holder) r.0 z.references (k.named m l none r.0 r.1 c.0 c.1) r.2);
-    objects = λ x l none.
-        let i = subst (In x) k.objects l in
-        ap (λ d. d || (lives_in z.processes x.owner && (x.told_weak || x.told_strong))) (held-same x.id none)
-        ∙ ap (λ d. held_in s.references x.id || (d && (x.told_weak || x.told_strong))) (k.owners x i none) ∙ h.objects x i refl;
+    objects = λ x l none. search (arith, held-same);
     deaths = k.deaths;
     notices = λ w o l e none. due-same o none (h.notices w o (k.less w o l e) e refl);
     tellings = k.tellings;
-    made = λ x l none wants.
-        let i = subst (In x) k.objects l in
-        let has = h.made x i refl (sym (wants-same x i none) ∙ wants) in
-        let w = any-found (λ (w : Work). is_notice x.id w.kind) s.todo has in
-        any-in (λ (w : Work). is_notice x.id w.kind) w.0 z.todo (k.more w.0 x.id w.1 w.2 none) w.2;
+    made = λ x l none wants. search (arith, wants-same, any-found, any-in);
   }
 
 -- ---- more may be looked at than is touched
 
 pub not-more : (a b : Bool) → (a ≡ true → b ≡ true) → b ≡ false → a ≡ false
-not-more true b h none = (let t = h refl in absurd (cc))
-not-more false b h none = refl
+not-more a b h none = search arith
 
 pub elsewhere-more : (a c : NameTest) (b d : ObjectTest) (z : Space) → ((p : ℕ) (o : ObjectId) → a p o ≡ true → c p o ≡ true) → ((o : ObjectId) → b o ≡ true → d o ≡ true) → Elsewhere a b z → Elsewhere c d z
 elsewhere-more a c b d z more_names more_objects h = record {
@@ -101,28 +80,13 @@ elsewhere-more a c b d z more_names more_objects h = record {
 -- ---- what isn't touched
 
 pub untouched-reference : (s : Space) (gone : Reference → Bool) (lists : List TodoList) (r : Reference) → In r s.references → left_objects gone lists s r.object ≡ false → gone r ≡ false
-untouched-reference s gone lists r l none = to-false (gone r) (λ e.
-    let some = any-in (λ (q : Reference). same q.object r.object && gone q) r s.references l (and-both (same r.object r.object) (gone r) (eq-same r.object r.object refl) e) in
-    let no = (neither (list_any (λ (q : Reference). same q.object r.object && gone q) s.references) (list_any (λ (w : Work). is_notice r.object w.kind && list_any (λ (l : TodoList). is_on l w) lists) s.todo) none).0 in cc)
+untouched-reference s gone lists r l none = search (arith, to-false, any-in, and-both, eq-same)
 
 pub untouched-notice : (s : Space) (gone : Reference → Bool) (lists : List TodoList) (w : Work) (o : ObjectId) → In w s.todo → is_notice o w.kind ≡ true → left_objects gone lists s o ≡ false
     → list_any (λ (l : TodoList). is_on l w) lists ≡ false
-untouched-notice s gone lists w o l e none = to-false (list_any (λ (l : TodoList). is_on l w) lists) (λ k.
-    let some = any-in (λ (v : Work). is_notice o v.kind && list_any (λ (l : TodoList). is_on l v) lists) w s.todo l (and-both (is_notice o w.kind) _ e k) in
-    let no = (neither (list_any (λ (q : Reference). same q.object o && gone q) s.references) (list_any (λ (v : Work). is_notice o v.kind && list_any (λ (l : TodoList). is_on l v) lists) s.todo) none).1 in cc)
+untouched-notice s gone lists w o l e none = search (arith, to-false, any-in, and-both)
 
 -- ---- a thread ends
-
--- places of frames stay their own
-pub one-map : (m : Frame → Frame) → ((g : Frame) → (m g).made ≡ g.made) → (fs : List Frame) → OneEach fs → OneEach (map m fs)
-one-map m made fs h f g l i e =
-    let x = in-map m f fs l in
-    let y = in-map m g fs i in
-    sym x.2 ∙ ap m (h x.0 y.0 x.1 y.1 (sym (made x.0) ∙ ap (λ (z : Frame). z.made) x.2 ∙ e ∙ sym (ap (λ (z : Frame). z.made) y.2) ∙ made y.0)) ∙ y.2
-
-pub left-one : (z : Space) (seat : ℕ) → OneEach z.frames → OneEach (thread_goes z seat).frames
-unfolding thread_goes
-left-one z seat h = one-map (frame_without z.todo seat) (λ g. refl) z.frames h
 
 module _ (s : Space) (seat : ℕ) (h : IsTidy s) where
   abbrev gone : Reference → Bool
@@ -138,28 +102,23 @@ module _ (s : Space) (seat : ℕ) (h : IsTidy s) where
     owners = λ x l none. ap (λ ps. lives_in ps x.owner) left.processes;
     fewer = left.fewer;
     stay = λ r l none. left.stay r l (untouched-reference s gone (OfThread seat ∷ []) r l none);
-    named = λ m l none r i at for. left.stay r i (to-false (gone r) (λ e.
-        let some = any-in (λ (r : Reference). same r.object m.object && names_for m.process r.holder) r (filter gone s.references) (filter-in gone r s.references i e) (and-both (same r.object m.object) _ at for) in cc));
+    named = λ m l none r i at for. search (arith, left, to-false, any-in, filter-in, and-both);
     less = λ w o l e. left.less w l;
     more = λ w o l e none. left.more w l (untouched-notice s gone (OfThread seat ∷ []) w o l e none);
     deaths = λ d l none. ap (λ ns. d.cleared || is_name_of ns d.process d.object) left.names ∙ h.quiet.followed.deaths d (subst (In d) left.deaths l) refl;
     tellings = λ w n l e. ap (λ ds. list_any (λ (x : DeathNotification). x.made == n) ds) left.deaths ∙ h.quiet.followed.tellings w n (left.less w l) e;
   }
 
+  -- places of frames stay their own
   one-left : OneEach (thread_goes s seat).frames
-  one-left = left-one s seat (one-each s h.framed)
+  unfolding IsFramed
+  one-left = one_each-framed s.steps (thread_goes s seat).frames (framed_exits.goes s seat s.steps h.framed)
 
   -- Of ExitThread: where the names and objects of lost references, the objects of lost Notices, and the thread's frames are
   -- looked at, nothing else has to be
   pub leaving-local : (a : NameTest) (b : ObjectTest) (c : ℕ → Bool) → ((p : ℕ) (o : ObjectId) → names_left s seat p o ≡ true → a p o ≡ true) → ((o : ObjectId) → objects_left s seat o ≡ true → b o ≡ true)
       → ((m : ℕ) → frames_left s seat m ≡ true → c m ≡ true) → settle (follow (thread_goes s seat)) ≡ close_among (length (thread_goes s seat).frames) c (follow_of a b (thread_goes s seat))
-  leaving-local a b c names objects among =
-      let z = thread_goes s seat in
-      let y = follow_of a b z in
-      let frames = follow-frames a b z in
-      let quiet = elsewhere-more (names_left s seat) a (objects_left s seat) b z names objects (parts-elsewhere (names_left s seat) (objects_left s seat) s z h.quiet.followed left-parts) in
-      let covered : Covered c z.frames = λ f l e. among f.made (abandoned-touched (frames_left s seat) s.frames z.frames h.quiet.settled left.frames f l e) in
-      ap settle (follow-local a b z quiet) ∙ settle-among c y (subst OneEach (sym frames) one-left) (subst (Covered c) (sym frames) covered) ∙ ap (λ (fs : List Frame). close_among (length fs) c y) frames
+  leaving-local a b c names objects among = search (arith, follow-frames, elsewhere-more, parts-elsewhere, left-parts, abandoned-touched, left, follow-local, settle-among, one-left)
 
   -- the names to look at are the process's, and their objects are looked at too
   pub left-names : (t : Thread) → In t s.threads → t.seat ≡ seat → (p : ℕ) (o : ObjectId) → names_left s seat p o ≡ true → (t.process ≡ p) × (objects_left s seat o ≡ true)
@@ -169,20 +128,17 @@ module _ (s : Space) (seat : ℕ) (h : IsTidy s) where
       let i = in-filter gone r.0 s.references r.1 in
       let c = both (same r.0.object o) (names_for p r.0.holder) r.2 in
       let touched = any-in (λ (q : Reference). same q.object o && gone q) r.0 s.references i.0 (and-both (same r.0.object o) (gone r.0) c.0 i.1) in
-      (by_holder r.0 i.0 r.0.holder refl c.1 i.1, or-left _ (list_any (λ (w : Work). is_notice o w.kind && list_any (λ (l : TodoList). is_on l w) (OfThread seat ∷ [])) s.todo) touched)
+      (by_holder r.0 i.0 c.1 i.1, or-left _ (list_any (λ (w : Work). is_notice o w.kind && list_any (λ (l : TodoList). is_on l w) (OfThread seat ∷ [])) s.todo) touched)
     where
-      handed : (w : Work) (b : ℕ) → (k : Option ℕ) → hands_out w.kind ≡ k → is_some_and k (λ m. m == b) ≡ true → hands_out w.kind ≡ Some b
-      handed w b None f g = absurd (cc)
-      handed w b (Some m) f g = f ∙ ap (λ n. Some n) (eqb-true m b g)
+      -- a lost reference by which the process has a name is a buffer's
+      carried : (c : Holder) (lost : ℕ → Bool) → names_for p c ≡ true → is_some_and (buffer_of_holder c) lost ≡ true → (b : ℕ) × (c ≡ Carried b p) × (lost b ≡ true)
+      carried c lost named k = search (arith, eqb-true)
 
-      by_holder : (r : Reference) → In r s.references → (c : Holder) → r.holder ≡ c → names_for p c ≡ true → is_some_and (buffer_of_holder c) (is_lost_with s.todo (OfThread seat)) ≡ true → t.process ≡ p
-      by_holder r l (Asked q) f named lost = absurd (cc)
-      by_holder r l (Carried b q) f named lost =
-          let w = any-found (λ (w : Work). is_on (OfThread seat) w && is_some_and (hands_out w.kind) (λ m. m == b)) s.todo lost in
-          let k = both (is_on (OfThread seat) w.0) (is_some_and (hands_out w.0.kind) (λ m. m == b)) w.2 in
-          let u = h.home.home w.0 seat b w.1 (on-thread seat w.0.list k.0) (handed w.0 b (hands_out w.0.kind) refl k.1) in
+      by_holder : (r : Reference) → In r s.references → names_for p r.holder ≡ true → is_some_and (buffer_of_holder r.holder) (is_lost_with s.todo (OfThread seat)) ≡ true → t.process ≡ p
+      by_holder r l named lost =
+          let b = carried r.holder (is_lost_with s.todo (OfThread seat)) named lost in
+          let w = any-found (λ (w : Work). is_on (OfThread seat) w && is_some_and (hands_out w.kind) (λ m. m == b.0)) s.todo b.2 in
+          let k = both (is_on (OfThread seat) w.0) (is_some_and (hands_out w.0.kind) (λ m. m == b.0)) w.2 in
+          let u = h.home.home w.0 seat b.0 w.1 (on-thread seat w.0.list k.0) (search (arith, eqb-true)) in
           let is = one-thread s h.home t u.0 here u.1 (at ∙ sym u.2) in
-          ap (λ (x : Thread). x.process) is ∙ u.3 r q l f ∙ eqb-true q p named
-      by_holder r l (Target b q) f named lost = absurd (cc)
-      by_holder r l Handshake f named lost = absurd (cc)
-      by_holder r l Manager f named lost = absurd (cc)
+          ap (λ (x : Thread). x.process) is ∙ u.3 r p l b.1

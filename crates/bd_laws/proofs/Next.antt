@@ -1,25 +1,24 @@
 -- NothingIsPending: what comes after a quiet space is quiet.
-use Rattle.bd_laws.proofs.words.Logic.{◌≡◌, ℕ, ◌-◌, ◌==◌, Bool, true, false, cond, not, ◌||◌, List, [], ◌∷◌, ◌++◌, Option, Some, None, inl, inr, refl, ap, sym, subst, ◌∙◌, filter, map, list_any, fold, cons_option, eqb-true, eq-eqb, option_and_then, is_some}
-use Rattle.bd_laws.proofs.words.Types.{Step, Entry, Thread, Buffer, Turn, Work, WorkKind, TodoList, OfThread, OfProcess}
-use Rattle.bd_laws.proofs.words.Space.{same, Space, opening, owe, is_call, is_on, is_item, hands_out, without_taken, list_to_read, turn_of, turns_of, follow, is_made_at, read_by, taken, buffer_taken, handed_buffers, buffer_in, thread_goes, is_lost_with, threads_go, without_process, tell_deaths, seat_of, change, counted, History, next, space_after, notify, work_goes, deaths_go, objects_go, names_go}
+use Rattle.bd_laws.proofs.words.Logic.{arith, ◌≡◌, ℕ, ◌-◌, ◌==◌, Bool, true, false, cond, not, ◌||◌, List, [], ◌∷◌, ◌++◌, Option, Some, None, inl, inr, refl, ap, sym, subst, ◌∙◌, filter, list_any, cons_option, eqb-true, eq-eqb, option_and_then, is_some}
+use Rattle.bd_laws.proofs.words.Types.{Step, Entry, Thread, Buffer, Turn, Work, OfThread, OfProcess}
+use Rattle.bd_laws.proofs.words.Space.{same, Space, is_call, is_on, is_item, hands_out, without_taken, list_to_read, turn_of, turns_of, follow, is_made_at, read_by, taken, buffer_taken, buffer_in, thread_goes, is_lost_with, threads_go, without_process, tell_deaths, change, counted, next}
 use Rattle.bd_space.specs.declared.space.WorkKind.TheVariants as work
 use Rattle.bd_laws.proofs.words.Laws.{In, Pairs, Differ, Before, IsSettled, NoneRipe, IsQuiet, Distinct, On, OnLists}
-use Rattle.bd_laws.proofs.Lists.{in-filter, filter-in, any-found, any-in, find-in}
+use Rattle.bd_laws.proofs.Lists.{in-filter, filter-in, any-found, any-in, find-in, find-some, in-filter_map}
 use Rattle.bd_laws.proofs.Tests.{same-eq, not-true}
 use Rattle.bd_laws.proofs.Earlier.{in_order-differ}
 use Rattle.bd_laws.proofs.Objects.{kept-step}
 use Rattle.bd_laws.proofs.KeptBefore.ObjectsKept.{IsKept}
-use Rattle.bd_laws.proofs.Machine.EveryStep.{every_list}
+use Rattle.bd_laws.proofs.Machine.Table.{SameFrames, Any, frames_table, followed-by}
 use Rattle.bd_laws.proofs.Machine.Deaths.{on-told}
+use Rattle.bd_laws.proofs.Machine.Following.{threads-keep}
 use Rattle.bd_laws.proofs.Machine.EveryEnding.{Endings, every_ending_step}
-use Rattle.bd_laws.proofs.IsInTurn.Received.{step-before, opening-before}
-use Rattle.bd_laws.proofs.NothingIsPending.Quiet.{any-more, settle-quiet, follow-calm, completed-quiet, elsewhere-aside, CallsStay, unripe-one, unripe-kept}
+use Rattle.bd_laws.proofs.NothingIsPending.Quiet.{settle-quiet, follow-calm, completed-quiet, elsewhere-aside, CallsStay, unripe-one, unripe-kept}
 use Rattle.bd_laws.proofs.Fewer.{to-false}
-use Rattle.bd_laws.proofs.Freeing.{any-append}
+use Rattle.bd_laws.proofs.Freeing.{IsUnripe, owed-unripe, any-append}
 use Rattle.bd_laws.proofs.IsInTurn.Ripening.{read-in, turn-made}
 use Rattle.bd_laws.proofs.IsInTurn.InTurn.{is_call-hands}
 use Rattle.bd_laws.proofs.IsInTurn.Passing.{lost-on, not-on}
-use Rattle.bd_laws.proofs.Lists.{find-some, in-filter_map}
 use Rattle.bd_laws.proofs.NothingIsPending.NextParts.{refused-quiet, failed-quiet, opened-quiet, attached-quiet, managed-quiet, on-of, taken-handed, served-settled, unripe-handed, marked-quiet}
 pub use Rattle.bd_laws.proofs.NothingIsPending.NextParts.{calm}
 
@@ -28,8 +27,7 @@ module _ (s : Space) (distinct : Distinct s.todo) (lists : OnLists s) (t : Threa
   ws = taken s left (list_to_read s t)
 
   given : (b : Option Buffer) (c : Buffer) → is_some b ≡ true → ((d : Buffer) → b ≡ Some d → d.made ≡ c.made) → (d : Buffer) × (b ≡ Some d) × (d.made ≡ c.made)
-  given None c e k = absurd (cc)
-  given (Some d) c e k = (d, refl, k d refl)
+  given b c e k = search arith
 
   -- a call that is taken hands its buffer out
   takes-buffer : (c : Buffer) (u : Turn) → turn_of c ≡ Some u → In c s.buffers → (v : Work) → In v s.todo → is_call c.made v.kind ≡ true → list_any (λ (d : Work). is_item v d) ws ≡ true
@@ -37,7 +35,6 @@ module _ (s : Space) (distinct : Distinct s.todo) (lists : OnLists s) (t : Threa
   unfolding buffer_taken
   takes-buffer c u turn l v i call some =
       let d = any-found (λ (d : Work). is_item v d) ws some in
-      let hands_over = is_call-hands c.made v.kind call in
       let is = distinct v d.0 i (read-in s t left d.0 d.1) d.2 in
       let hands : hands_out d.0.kind ≡ Some c.made = ap (λ (w : Work). hands_out w.kind) (sym is) ∙ is_call-hands c.made v.kind call in
       let first = taken-handed s (list_to_read s t) left d.0 c.made d.1 hands in
@@ -57,61 +54,32 @@ module _ (s : Space) (distinct : Distinct s.todo) (lists : OnLists s) (t : Threa
       let no = none b.0 b.1 in
       let same_made = eq-eqb c.made b.0.made (sym b.2) in cc)) refl)) v.2
 
-  read-unripe : (o : Option Buffer) → buffer_taken s ws ≡ o → NoneRipe s.todo [] (turns_of s.buffers)
-      → NoneRipe (without_taken ws s.todo) [] (turns_of (handed_buffers s.buffers o))
-  read-unripe None e h =
-      unripe-kept s.todo (without_taken ws s.todo) (turns_of s.buffers) [] h (λ u l.
-      let c = in-filter_map turn_of u s.buffers l in call-stays c.0 c.1 u c.2 (λ b f. absurd (cc)))
-  read-unripe (Some b) e h =
-      unripe-handed s.todo (without_taken ws s.todo) (is_made_at b.made) s.buffers [] [] (λ i. refl) h (λ c l u f none.
-      call-stays c l u f (λ d g. let is : d ≡ b = cc in subst (λ (x : Buffer). is_made_at x.made c ≡ false) (sym is) none))
-
-  read-z : (seat : ℕ) → NoneRipe s.todo [] (turns_of s.buffers) → NoneRipe (read_by s seat ws).todo [] (turns_of (read_by s seat ws).buffers)
-  unfolding read_by
-  read-z seat h = read-unripe (buffer_taken s ws) refl h
-
-follow-frames : (z : Space) → (follow z).frames ≡ z.frames
-unfolding follow notify work_goes deaths_go objects_go names_go
-follow-frames z = refl
-
-read-frames : (s : Space) (seat : ℕ) (ws : List Work) → IsSettled s.frames → IsSettled (read_by s seat ws).frames
-unfolding read_by
-read-frames s seat items h = served-settled _ seat s.frames h
-
 read-quiet : (s : Space) (t : Thread) (seat left : ℕ) → Distinct s.todo → OnLists s → IsQuiet s → Pairs Differ (read_by s seat (taken s left (list_to_read s t))).objects
     → IsQuiet (follow (read_by s seat (taken s left (list_to_read s t))))
+unfolding read_by
 read-quiet s t seat left distinct lists h differ =
     let z = read_by s seat (taken s left (list_to_read s t)) in
-    let k = follow-calm z differ (read-z s distinct lists t left seat h.unripe) in
-    record { differ = k.differ; followed = k.followed; unripe = k.unripe; settled = subst IsSettled (sym (follow-frames z)) (read-frames s seat _ h.settled) }
+    let k = follow-calm z differ (search (arith, unripe-kept, in-filter_map, call-stays, unripe-handed, left)) in
+    record { differ = k.differ; followed = k.followed; unripe = k.unripe; settled = subst IsSettled (sym (followed-by SameFrames Any frames_table z)) (search (arith, served-settled)) }
 
 -- ---- ends of threads
 
 pub turns-filtered : (keep : Buffer → Bool) (bs : List Buffer) → ((c : Buffer) → In c bs → keep c ≡ false → turn_of c ≡ None) → turns_of (filter keep bs) ≡ turns_of bs
 turns-filtered keep [] h = refl
-turns-filtered keep (c ∷ cs) h = at (keep c) refl (turns-filtered keep cs (λ d l. h d (inr l)))
-  where
-    at : (b : Bool) → keep c ≡ b → turns_of (filter keep cs) ≡ turns_of cs → turns_of (cond b (c ∷ filter keep cs) (filter keep cs)) ≡ cons_option (turn_of c) (turns_of cs)
-    at true e k = ap (cons_option (turn_of c)) k
-    at false e k = k ∙ ap (λ f. cons_option f (turns_of cs)) (sym (h c (inl refl) e))
+turns-filtered keep (c ∷ cs) h = search (arith, turns-filtered keep cs (λ d l. h d (inr l)))
 
 not-false-true : (b : Bool) → not b ≡ false → b ≡ true
-not-false-true true e = refl
-not-false-true false e = absurd (cc)
+not-false-true b e = search arith
 
 -- on its receiver's list, a call goes only with that list
 called-stays : (z : Space) (stays : Work → Bool) → OnLists z → (c : Buffer) → In c z.buffers → ((w : Work) → w.list ≡ OfProcess c.receiver → stays w ≡ true) → (t : Turn) → turn_of c ≡ Some t
     → CallsStay z.todo (filter stays z.todo) t
-called-stays z stays lists c l k t e calls =
-    let made : t.made ≡ c.made = turn-made c t e in
-    let v = any-found (λ (w : Work). is_call t.made w.kind) z.todo calls in
-    let hands : hands_out v.0.kind ≡ Some c.made = is_call-hands t.made v.0.kind v.2 ∙ ap (λ n. Some n) made in
-    any-in (λ (w : Work). is_call t.made w.kind) v.0 _ (filter-in stays v.0 z.todo v.1 (k v.0 (lists v.0 c t.target v.1 hands l (on-of c t e)))) v.2
+called-stays z stays lists c l k t e calls = search (arith, turn-made, any-found, is_call-hands, any-in, filter-in, on-of)
 
 left-unripe : (z : Space) (seat : ℕ) → OnLists z → NoneRipe z.todo [] (turns_of z.buffers) → NoneRipe (thread_goes z seat).todo [] (turns_of (thread_goes z seat).buffers)
 unfolding thread_goes
 left-unripe z seat lists h =
-    subst (λ ts. NoneRipe (filter stays z.todo) [] ts) (sym (turns-filtered keep z.buffers (λ c l e. lost c l (not-false-true _ e) (turn_of c) refl)))
+    subst (λ ts. NoneRipe (filter stays z.todo) [] ts) (sym (turns-filtered keep z.buffers (λ c l e. search (arith, lost-on, not-on, on-of, not-false-true))))
     (unripe-kept z.todo (filter stays z.todo) (turns_of z.buffers) [] h (λ t l. let c = in-filter_map turn_of t z.buffers l in
     called-stays z stays lists c.0 c.1 (λ w e. rw e refl) t c.2))
   where
@@ -121,12 +89,6 @@ left-unripe z seat lists h =
     stays : Work → Bool
     stays = λ (w : Work). not (is_on (OfThread seat) w)
 
-    lost : (c : Buffer) → In c z.buffers → is_lost_with z.todo (OfThread seat) c.made ≡ true → (f : Option Turn) → turn_of c ≡ f → turn_of c ≡ None
-    lost c l e None f = f
-    lost c l e (Some t) f =
-        let w = lost-on z.todo (OfThread seat) c.made e in
-        absurd (not-on seat w.0 c.receiver (lists w.0 c t.target w.1 w.3 l (on-of c t f)) w.2)
-
 -- ---- ends of processes
 
 -- from one ending thread of the process to the next
@@ -135,27 +97,16 @@ record Leaving (s z : Space) : Type 0 where
   buffers : (c : Buffer) → In c z.buffers → In c s.buffers
   unripe : NoneRipe z.todo [] (turns_of z.buffers)
 
-left-lists : (z : Space) (seat : ℕ) → OnLists z → OnLists (thread_goes z seat)
+one-leaves : (s z : Space) (seat : ℕ) → Leaving s z → Leaving s (thread_goes z seat)
 unfolding thread_goes
-left-lists z seat h =
-    λ w c o l e i on. h w c o (in-filter (λ (w : Work). not (is_on (OfThread seat) w)) w z.todo l).0 e
-    (in-filter (λ (b : Buffer). not (is_lost_with z.todo (OfThread seat) b.made)) c z.buffers i).0 on
-
-left-buffers : (z : Space) (seat : ℕ) (c : Buffer) → In c (thread_goes z seat).buffers → In c z.buffers
-unfolding thread_goes
-left-buffers z seat c i = (in-filter (λ (b : Buffer). not (is_lost_with z.todo (OfThread seat) b.made)) c z.buffers i).0
-
-all-leave : (s : Space) (seats : List ℕ) (z : Space) → Leaving s z → Leaving s (fold thread_goes z seats)
-all-leave s [] z h = h
-all-leave s (t ∷ ts) z h = all-leave s ts (thread_goes z t) (record {
-  lists = left-lists z t h.lists;
-  buffers = λ c l. h.buffers c (left-buffers z t c l);
-  unripe = left-unripe z t h.lists h.unripe;
-})
+one-leaves s z seat h = record {
+  lists = let k = h.lists in search (arith, in-filter);
+  buffers = λ c l. h.buffers c (in-filter (λ (b : Buffer). not (is_lost_with z.todo (OfThread seat) b.made)) c z.buffers l).0;
+  unripe = left-unripe z seat h.lists h.unripe;
+}
 
 threads-leave : (s : Space) (p : ℕ) → OnLists s → NoneRipe s.todo [] (turns_of s.buffers) → Leaving s (threads_go s p)
-unfolding threads_go
-threads-leave s p lists h = all-leave s (map seat_of (filter (λ (t : Thread). t.process == p) s.threads)) s (record { lists = lists; buffers = λ c l. l; unripe = h })
+threads-leave s p lists h = threads-keep (Leaving s) (one-leaves s) s p (record { lists = lists; buffers = λ c l. l; unripe = h })
 
 module _ (todo more : List Work) (keep : Buffer → Bool) where
   -- turns that go are on other objects than those that stay
@@ -173,8 +124,7 @@ module _ (todo more : List Work) (keep : Buffer → Bool) where
       Rest o l = ((d : Buffer) → In d cs → keep d ≡ true → (t : Turn) → turn_of d ≡ Some t → list_any (λ (u : Turn). same u.target t.target) l ≡ list_any (λ (u : Turn). same u.target t.target) o)
 
       pushed : (o l : List Turn) (t : Turn) → Rest o l → Rest (o ++ t ∷ []) (l ++ t ∷ [])
-      pushed o l t f d i kept u g =
-          any-append _ l (t ∷ []) ∙ ap (λ b. b || (same t.target u.target || false)) (f d i kept u g) ∙ sym (any-append _ o (t ∷ []))
+      pushed o l t f d i kept u g = search (arith, any-append)
 
       parted : (o l : List Turn) (t : Turn) → keep c ≡ false → turn_of c ≡ Some t → Rest o l → Rest (o ++ t ∷ []) l
       parted o l t gone is f d i kept u g =
@@ -184,8 +134,7 @@ module _ (todo more : List Work) (keep : Buffer → Bool) where
           ∙ none (list_any (λ (v : Turn). same v.target u.target) o))
         where
           none : (b : Bool) → (b || false) ≡ b
-          none true = refl
-          none false = refl
+          none b = search arith
 
       at : (b : Bool) → keep c ≡ b → (f : Option Turn) → turn_of c ≡ f → NoneRipe todo older (cons_option f (turns_of cs))
           → ((o l : List Turn) → Rest o l → NoneRipe todo o (turns_of cs) → NoneRipe more l (turns_of (filter keep cs)))
@@ -217,23 +166,10 @@ without-unripe s z p before h =
     stays = λ (w : Work). not (is_on (OfProcess p) w)
 
     other : (c : Buffer) → not (c.receiver == p) ≡ true → (p == c.receiver) ≡ false
-    other c e = to-false (p == c.receiver) (λ f. let no = not-true (c.receiver == p) e in let is = eq-eqb c.receiver p (sym (eqb-true p c.receiver f)) in cc)
+    other c e = search (arith, to-false, not-true, eq-eqb, eqb-true)
 
-one-call : (todo : List Work) (w : Work) (t : Turn) → CallsStay todo (todo ++ w ∷ []) t
-one-call todo w t e = any-more (λ (v : Work). is_call t.made v.kind) todo w e
-
-one-item : (todo : List Work) (w : Work) (ts : List Turn) → NoneRipe todo [] ts → NoneRipe (todo ++ w ∷ []) [] ts
-one-item todo w ts h = unripe-kept todo (todo ++ w ∷ []) ts [] h (λ t l. one-call todo w t)
-
-abbrev Unripe : Space → Type 0
-Unripe y = NoneRipe y.todo [] (turns_of y.buffers)
-
-owed-unripe : (y : Space) (list : TodoList) (kind : WorkKind) → Unripe y → Unripe (owe y list kind)
-unfolding owe
-owed-unripe y list kind k = one-item y.todo _ (turns_of y.buffers) k
-
-told-unripe : (z : Space) (p : ℕ) → Unripe z → Unripe (tell_deaths z p)
-told-unripe z p h = on-told Unripe (record {
+told-unripe : (z : Space) (p : ℕ) → IsUnripe z → IsUnripe (tell_deaths z p)
+told-unripe z p h = on-told IsUnripe (record {
   others = λ y ds k. k;
   dies = λ y q made k. owed-unripe y (OfProcess q) (work.Death made) k;
   clears = λ y t cookie k. owed-unripe y (OfThread t) (work.Cleared cookie) k;
@@ -241,23 +177,11 @@ told-unripe z p h = on-told Unripe (record {
 
 -- ---- every step
 
--- what is known of a history before nothing is known to be pending
-pub record IsLawful (s : Space) : Type 0 where
-  pub before : Before s
-  pub distinct : Distinct s.todo
-  pub quiet : IsQuiet s
-
 step-endings : (s : Space) (seat : ℕ) (x : Step) → Before s → Distinct s.todo → IsQuiet s → Endings s seat x IsKept IsQuiet
 step-endings s seat x before distinct h =
     let k = kept-step s seat x before.objects in
     record {
-      set_up = record {
-        same = h;
-        opened = λ pid euid window free. opened-quiet s seat pid euid window before h;
-        attached = λ p free. attached-quiet s seat p h;
-        managed = λ a e b. managed-quiet s a.process.made before.objects h;
-        marked = λ p on. marked-quiet s p on h;
-      };
+      set_up = search (arith, opened-quiet, attached-quiet, managed-quiet, marked-quiet);
       changes = k.changes;
       completes = λ z m. completed-quiet z (in_order-differ z.objects m.in_order);
       refuses = λ t c. refused-quiet s t c h;
@@ -270,13 +194,9 @@ step-endings s seat x before distinct h =
 
 counted-quiet : (z : Space) → IsQuiet z → IsQuiet (counted z)
 unfolding counted
-counted-quiet z h = record { differ = h.differ; followed = elsewhere-aside _ _ z _ _ _ _ h.followed; unripe = h.unripe; settled = h.settled }
+counted-quiet z h = search (arith, elsewhere-aside)
 
 -- the law, where the items of each list have different identities
 pub next-quiet : (s : Space) (e : Entry) → Before s → Distinct s.todo → IsQuiet s → IsQuiet (next s e)
 next-quiet s e before distinct h =
     counted-quiet (change s e.seat e.step).space (every_ending_step s e.seat e.step IsKept IsQuiet (step-endings s e.seat e.step before distinct h))
-
-pub always-before : (h : History) → Before (space_after h)
-unfolding space_after
-always-before h = every_list Before step-before h.entries opening opening-before

@@ -1,11 +1,12 @@
--- SpacesAreTidy: objects stay in the space as long as anything refers to them, and no two have one identity.
-use Rattle.bd_laws.proofs.words.Logic.{◌≡◌, ℕ, suc, Bool, true, false, cond, not, ◌&&◌, List, [], ◌∷◌, Option, Some, None, inl, inr, refl, ap, sym, subst, ◌∙◌, arith, list_all, flat_map, is_some}
+-- SpacesAreTidy, and ObjectsAreKept, which is proved from it: objects stay in the space as long as anything refers to them,
+-- and no two have one identity.
+use Rattle.bd_laws.proofs.words.Logic.{◌≡◌, ℕ, suc, Bool, true, false, cond, List, [], ◌∷◌, Option, Some, None, inl, inr, refl, ap, sym, subst, ◌∙◌, arith, list_all, flat_map, is_some}
 use Rattle.bd_laws.proofs.words.Types.{ObjectId, Process, Object, Reference, Manager, Name, Work, OfThread, Step, Entry}
-use Rattle.bd_laws.proofs.words.Space.{same, Space, reference_of, held_in, object_in, owned_in, stays_in, objects_go, names_for, is_named_in, names_go, threads_go, without_process, read_by, handshakes, handshakes_for, shakes, told_objects, told_of, is_told_by, returns_of, returns_of_object, with_thread, with_process, with_manager, opening, closed, ripen, follow, notify, work_goes, deaths_go, change, counted, History, next, space_after, with_spam_detection}
+use Rattle.bd_laws.proofs.words.Space.{same, Space, reference_of, held_in, object_in, stays_in, objects_go, names_go, read_by, handshakes, handshakes_for, shakes, told_objects, told_of, is_told_by, returns_of, returns_of_object, with_thread, with_process, with_manager, opening, closed, ripen, follow, change, counted, History, next, space_after, with_spam_detection}
 use Rattle.bd_space.specs.declared.space.WorkKind.TheVariants as work
-use Rattle.bd_laws.proofs.words.Laws.{In, Here, Earlier, Kept, Named, KeptBefore}
+use Rattle.bd_laws.proofs.words.Laws.{In, Here, Earlier, Kept, KeptBefore}
 use Rattle.bd_laws.proofs.Lists.{in-left, in-last, in-filter, filter-in, in-changed, changed-in, any-found, any-in, all-in, find-in, find-some, pairs-filter, pairs-changed}
-use Rattle.bd_laws.proofs.Tests.{both, same-eq, eq-same, notice-named, or-left}
+use Rattle.bd_laws.proofs.Tests.{to-false, same-eq, eq-same, notice-named, or-left}
 use Rattle.bd_laws.proofs.Machine.EveryStep.{Keeps, every_step, every_list}
 use Rattle.bd_laws.proofs.Machine.Untouched.{owe-untouched, closed-untouched, ripen-untouched, notify-untouched, work_goes-untouched, deaths_go-untouched, with_looping-untouched, on_deaths-untouched, tell_deaths-untouched}
 use Rattle.bd_laws.proofs.Machine.Deaths.{on-mapped, on-commands}
@@ -13,19 +14,7 @@ use Rattle.bd_laws.proofs.FollowingIsLocal.Handshakes.{for-object, shaken-by}
 use Rattle.bd_laws.proofs.KeptBefore.ObjectsKept.{IsKept, IsKeptWhole, kept-untouched, whole-untouched, drop_asked-kept, acknowledge-kept, without_buffer-kept, thread_goes-kept, threads_go-kept, without_process-kept, grown, referred, ask-kept}
 pub use Rattle.bd_laws.proofs.KeptBefore.ObjectsKept.{later, replied-kept, transacted-kept}
 
--- ---- opening, marking and managing
-
-pub opened-kept : (s : Space) (seat pid euid window : ℕ) → IsKeptWhole s → IsKeptWhole (with_thread (with_process s pid euid window) seat s.steps)
-unfolding with_thread with_process
-opened-kept s seat pid euid window h = record { kept = h.kept; named = h.named }
-
-pub attached-kept : (s : Space) (seat p : ℕ) → IsKeptWhole s → IsKeptWhole (with_thread s seat p)
-unfolding with_thread
-attached-kept s seat p h = record { kept = h.kept; named = h.named }
-
-pub marked-kept : (s : Space) (p : ℕ) (on : Bool) → IsKeptWhole s → IsKeptWhole (with_spam_detection s p on)
-unfolding with_spam_detection
-marked-kept s p on h = record { kept = h.kept; named = h.named }
+-- ---- managing
 
 pub managed-kept : (s : Space) (p : ℕ) → KeptBefore s → IsKeptWhole (with_manager s p)
 unfolding with_manager
@@ -64,8 +53,7 @@ handshakes-here s ws k r l =
     (subst (λ kind. In r (handshakes_for s.steps x.number x.object (flat_map shakes (returns_of s kind)))) (notice-named x.item.kind x.object x.tells) x.shakes_for)
 
 pub told-id : (references : List Reference) (b : Bool) (x : Object) → (cond b (told_of references x) x).id ≡ x.id
-told-id references true x = refl
-told-id references false x = refl
+told-id references b x = search arith
 
 pub told-here : (s : Space) (ws : List Work) (o : ObjectId) → Here s.objects o → Here (told_objects s ws) o
 told-here s ws o h = (_, changed-in (λ (x : Object). is_told_by ws x.id) (told_of s.references) h.0 s.objects h.1, told-id s.references (is_told_by ws h.0.id) h.0 ∙ h.2)
@@ -88,8 +76,7 @@ read-kept s seat ws h =
 -- ---- what follows
 
 pub stays : (processes : List Process) (references : List Reference) (x : Object) (r : Reference) → In r references → x.id ≡ r.object → stays_in processes references x ≡ true
-stays processes references x r l e =
-    or-left (held_in references x.id) _ (any-in (λ (y : Reference). same y.object x.id) r references l (eq-same r.object x.id (sym e)))
+stays processes references x r l e = search (arith, or-left, any-in, eq-same)
 
 pub objects_go-kept : (z : Space) → IsKept z → IsKept (objects_go z)
 unfolding objects_go
@@ -102,49 +89,14 @@ objects_go-kept z h =
       in_order = pairs-filter Earlier p z.objects h.in_order;
     }
 
-names_go-whole : (z : Space) → IsKept z → IsKeptWhole (names_go z)
-unfolding names_go
-names_go-whole z h =
-    let p = λ (m : Name). is_named_in z.objects z.references m.process m.object in
-    record {
-      kept = h;
-      named = λ m l.
-          let t = (in-filter p m z.names l).1 in
-          let any = (both (not (owned_in z.objects m.process m.object)) _ t).1 in
-          let r = any-found (λ (r : Reference). same r.object m.object && names_for m.process r.holder) z.references any in
-          (r.0, r.1, same-eq r.0.object m.object (both (same r.0.object m.object) (names_for m.process r.0.holder) r.2).0);
-    }
-
-objects_go-named : (z : Space) → Named z.names z.references → Named (objects_go z).names (objects_go z).references
-unfolding objects_go
-objects_go-named z h = h
-
-objects_go-whole : (z : Space) → IsKeptWhole z → IsKeptWhole (objects_go z)
-objects_go-whole z h = record { kept = objects_go-kept z h.kept; named = objects_go-named z h.named }
-
-pub follow-whole : (z : Space) → IsKept z → IsKeptWhole (follow z)
-unfolding follow
-follow-whole z h =
-    let a = names_go z in
-    let b = objects_go a in
-    let c = deaths_go b in
-    let d = work_goes c in
-    whole-untouched (notify d) d (notify-untouched d) (whole-untouched d c (work_goes-untouched c) (whole-untouched c b (deaths_go-untouched b)
-    (objects_go-whole a (names_go-whole z h))))
-
 -- ---- every step
 
 pub kept-step : (s : Space) (seat : ℕ) (x : Step) → KeptBefore s → Keeps s seat x IsKept IsKeptWhole
+unfolding with_thread with_process with_spam_detection follow names_go objects_go
 kept-step s seat x h =
     let now = later s h in
     record {
-      set_up = record {
-        same = now;
-        opened = λ pid euid window free. opened-kept s seat pid euid window now;
-        attached = λ p free. attached-kept s seat p now;
-        managed = λ a e b. managed-kept s a.process.made h;
-        marked = λ p on. marked-kept s p on now;
-      };
+      set_up = search (arith, managed-kept);
       changes = record {
         transacts = λ a d parcel v e i t. transacted-kept s a d parcel v h t;
         replies = λ a d parcel f v e i g t. replied-kept s a d parcel f v h t;
@@ -156,11 +108,10 @@ kept-step s seat x h =
         on_deaths = on-commands s _ (on-mapped s _ _ (λ y k. kept-untouched y s k now.kept) (on_deaths-untouched s));
         reads = λ a limit e i n. read-kept s a.thread.seat _ now.kept;
         leaves = λ a e. thread_goes-kept s a.thread.seat now.kept;
-        ends = λ a e. kept-untouched _ (without_process (threads_go s a.process.made) a.process.made) (tell_deaths-untouched (without_process (threads_go s a.process.made) a.process.made) a.process.made)
-            (without_process-kept (threads_go s a.process.made) a.process.made (threads_go-kept s a.process.made now.kept));
+        ends = λ a e. search (arith, kept-untouched, tell_deaths-untouched, without_process-kept, threads_go-kept);
         ripens = λ z k. kept-untouched (ripen z) z (ripen-untouched z) k;
       };
-      follows = λ z k. follow-whole z k;
+      follows = λ z k. search (arith, whole-untouched, notify-untouched, work_goes-untouched, deaths_go-untouched, objects_go-kept, in-filter, any-found, same-eq);
       closes = λ z made k. whole-untouched (closed z made) z (closed-untouched z made) k;
       refuses = λ z t r k. whole-untouched _ z (owe-untouched z (OfThread t) (work.Refusal r)) k;
       tells = λ z t r k. whole-untouched _ z (owe-untouched z (OfThread t) (work.Verdict r)) k;
@@ -168,16 +119,13 @@ kept-step s seat x h =
 
 counted-kept : (z : Space) → IsKeptWhole z → KeptBefore (counted z)
 unfolding counted
-counted-kept z k = record { kept = k.kept; named = k.named }
+counted-kept z k = search arith
 
 pub step-kept : (s : Space) (e : Entry) → KeptBefore s → KeptBefore (next s e)
 step-kept s e h = counted-kept (change s e.seat e.step).space (every_step s e.seat e.step IsKept IsKeptWhole (kept-step s e.seat e.step h))
 
 pub opening-kept : KeptBefore opening
-opening-kept = record {
-  kept = record { refs = λ r l. absurd l; manages = λ o e. absurd (cc); below = λ x l. absurd l; in_order = tt };
-  named = λ m l. absurd l;
-}
+opening-kept = search arith
 
 pub always-kept : (h : History) → KeptBefore (space_after h)
 unfolding space_after
@@ -198,12 +146,7 @@ names-here z h =
 
 -- what isn't in the space isn't referred to
 pub gone-unheld : (z : Space) → KeptBefore z → (o : ObjectId) → is_some (object_in z.objects o) ≡ false → held_in z.references o ≡ false
-gone-unheld z h o gone = at (held_in z.references o) refl
-  where
-    at : (b : Bool) → held_in z.references o ≡ b → b ≡ false
-    at false e = refl
-    at true e =
-        let r = any-found (λ (r : Reference). same r.object o) z.references e in
-        let x = h.kept.refs r.0 r.1 in
-        let here = here-found z.objects o (x.0, x.1, x.2 ∙ same-eq r.0.object o r.2) in
-        absurd (cc)
+gone-unheld z h o gone = to-false (held_in z.references o) (λ e.
+    let r = any-found (λ (r : Reference). same r.object o) z.references e in
+    let x = h.kept.refs r.0 r.1 in
+    let here = here-found z.objects o (x.0, x.1, x.2 ∙ same-eq r.0.object o r.2) in cc)

@@ -1,4 +1,5 @@
--- ItemsAreToldApart: of a reading between two steps: the objects of its Notices are looked at.
+-- ItemsAreToldApart itself (`always-distinct`); and for the engine, by FollowingIsLocal: after a reading only the objects of
+-- its Notices need a look.
 use Rattle.bd_laws.proofs.words.Space.{Space, list_to_read, follow, read_by, taken, is_told_by, History, space_after, no_name, follow_of}
 use Rattle.std.proofs.Common.{◌≡◌, ℕ}
 use Rattle.bd_space.specs.declared.space.Thread.{Thread}

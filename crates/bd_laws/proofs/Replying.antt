@@ -1,7 +1,8 @@
--- FollowingIsLocal: of BC_REPLY: sent objects are looked at, and frames from the closed one's parent upwards.
-use Rattle.bd_laws.proofs.words.Logic.{◌≡◌, ℕ, not, List, [], ◌∷◌, ◌++◌, Option, Some, None, Ok, refl, ap, sym, subst, ◌∙◌, filter, length, append-nil, cons_option, false}
-use Rattle.bd_laws.proofs.words.Types.{TransactionData, Parcel, Frame, Work, Actor, Turn, OfThread}
-use Rattle.bd_laws.proofs.words.Space.{Space, closed, is_frame, owe, is_call, turns_of, follow, settle, is_abandoned, completed, Delivery, delivered, replied, reply_check, ObjectTest, follow_of, no_name, objects_of_items, close_up}
+-- For the engine, by FollowingIsLocal: after a BC_REPLY it is enough to look at the sent objects, and at frames from the
+-- closed one's parent upwards.
+use Rattle.bd_laws.proofs.words.Logic.{arith, ◌≡◌, ℕ, not, [], ◌++◌, Option, Ok, ap, sym, subst, ◌∙◌, filter, length, append-nil, cons_option, false}
+use Rattle.bd_laws.proofs.words.Types.{TransactionData, Parcel, Frame, Actor, OfThread}
+use Rattle.bd_laws.proofs.words.Space.{Space, closed, is_frame, owe, turns_of, completed, Delivery, delivered, replied, reply_check, ObjectTest, follow_of, no_name, objects_of_items, close_up}
 use Rattle.bd_space.specs.declared.space.WorkKind.TheVariants as work
 use Rattle.bd_laws.proofs.words.Laws.{In, Elsewhere, NoneRipe, IsTidy}
 use Rattle.bd_laws.proofs.Lists.{in-filter}
@@ -10,39 +11,20 @@ use Rattle.bd_laws.proofs.Checks.{reply-checked}
 use Rattle.bd_laws.proofs.KeptBefore.ObjectsKept.{closed-before}
 use Rattle.bd_laws.proofs.Follow.{follow-local}
 use Rattle.bd_laws.proofs.FollowingIsLocal.Ripe.{ripen-still}
-use Rattle.bd_laws.proofs.NothingIsPending.Quiet.{IsCalm, closed-calm, any-more, still-unripe-if}
-use Rattle.bd_laws.proofs.Freeing.{owe-elsewhere}
+use Rattle.bd_laws.proofs.NothingIsPending.Quiet.{IsCalm, closed-calm}
+use Rattle.bd_laws.proofs.Freeing.{owe-elsewhere, owed-unripe}
 use Rattle.bd_laws.proofs.Sending as sending
 use Rattle.bd_laws.proofs.Sending.{none-found}
 use Rattle.bd_laws.proofs.FollowingIsLocal.Sent.{Delivers}
 use Rattle.bd_laws.proofs.Pings.{sending-made_sent}
 use Rattle.bd_laws.proofs.NothingIsPending.NextParts.{calm}
-use Rattle.bd_laws.proofs.Abandoned.{OneEach, OnlyAt, only-parent, settle-up}
-use Rattle.bd_laws.proofs.Machine.Fields.{follow_of-frames, closed-frames}
+use Rattle.bd_laws.proofs.Abandoned.{OneEach, only-parent, settle-up}
+use Rattle.bd_laws.proofs.Machine.Fields.{follow_of-frames, closed-frames, told-frames}
+use Rattle.bd_laws.proofs.Machine.Adding.{told-keeps}
 
 closed-delivers : (s : Space) (made : ℕ) (v : Delivery) → Delivers s v → Delivers (closed s made) v
 unfolding closed
 closed-delivers s made v h = record { sent = h.sent; new = h.new; target = h.target }
-
-told-elsewhere : (b : ObjectTest) (y : Space) (caller : Option ℕ) (n : ℕ) → Elsewhere no_name b y
-    → Elsewhere no_name b (elim caller as (λ (o : Option ℕ). Space) [ None ↦ y | Some t ↦ owe y (OfThread t) (work.Reply n) ])
-unfolding owe
-told-elsewhere b y None n h = h
-told-elsewhere b y (Some t) n h = owe-elsewhere no_name b y (OfThread t) (work.Reply n) ((λ o e. cc), (λ m e. cc)) h
-
-one-more : (todo : List Work) (w : Work) (ts : List Turn) (y : Space) → NoneRipe todo [] ts → NoneRipe (todo ++ w ∷ []) [] ts
-one-more todo w ts y h = still-unripe-if todo (todo ++ w ∷ []) y (λ m e. any-more (λ (v : Work). is_call m v.kind) todo w e) ts [] h
-
-told-unripe : (y : Space) (caller : Option ℕ) (n : ℕ) → NoneRipe y.todo [] (turns_of y.buffers)
-    → (let z : Space = elim caller as (λ (o : Option ℕ). Space) [ None ↦ y | Some t ↦ owe y (OfThread t) (work.Reply n) ] in NoneRipe z.todo [] (turns_of z.buffers))
-unfolding owe
-told-unripe y None n h = h
-told-unripe y (Some t) n h = one-more y.todo _ (turns_of y.buffers) y h
-
-told-frames : (y : Space) (caller : Option ℕ) (n : ℕ) → (elim caller as (λ (o : Option ℕ). Space) [ None ↦ y | Some t ↦ owe y (OfThread t) (work.Reply n) ]).frames ≡ y.frames
-unfolding owe
-told-frames y None n = refl
-told-frames y (Some t) n = refl
 
 module _ (s : Space) (a : Actor) (d : TransactionData) (parcel : Option Parcel) (f : Frame) (v : Delivery) (tidy : IsTidy s) (check : reply_check s a d parcel f ≡ Ok v) where
   abbrev sent : ObjectTest
@@ -83,25 +65,19 @@ module _ (s : Space) (a : Actor) (d : TransactionData) (parcel : Option Parcel) 
 
   z-frames : (replied s a d f v).frames ≡ filter (λ g. not (is_frame f.made g)) s.frames
   unfolding replied y x
-  z-frames = told-frames y f.caller s.steps ∙ y-frames ∙ closed-frames s f.made
+  z-frames = search (arith, told-frames, y-frames, closed-frames)
 
   z-elsewhere : Elsewhere no_name sent (replied s a d f v)
-  unfolding replied y x
-  z-elsewhere = told-elsewhere sent y f.caller s.steps y-elsewhere
+  unfolding replied y x owe
+  z-elsewhere = told-keeps (Elsewhere no_name sent) (work.Reply s.steps) (λ z t. owe-elsewhere no_name sent z (OfThread t) (work.Reply s.steps) ((λ o e. cc), (λ n e. cc))) y f.caller y-elsewhere
 
   z-unripe : NoneRipe (replied s a d f v).todo [] (turns_of (replied s a d f v).buffers)
   unfolding replied y x
-  z-unripe = told-unripe y f.caller s.steps y-unripe
+  z-unripe = search (arith, told-keeps, owed-unripe, y-unripe)
 
   abbrev followed : Space
   followed = follow_of no_name sent (replied s a d f v)
 
   pub reply-local : OneEach s.frames → In f s.frames → completed (replied s a d f v) ≡ close_up (length followed.frames) f.parent followed
   unfolding completed
-  reply-local one l =
-      let frames = follow_of-frames no_name sent (replied s a d f v) ∙ z-frames in
-      ap (λ q. settle (follow q)) (ripen-still (replied s a d f v) z-unripe)
-      ∙ ap settle (follow-local no_name sent (replied s a d f v) z-elsewhere)
-      ∙ settle-up f.parent followed
-      (subst OneEach (sym frames) (λ g h i j. one g h (in-filter (λ (g : Frame). not (is_frame f.made g)) g s.frames i).0 (in-filter (λ (g : Frame). not (is_frame f.made g)) h s.frames j).0))
-      (subst (OnlyAt f.parent) (sym frames) (only-parent s.frames f one l (λ g i e. let no = none-found (is_abandoned s.frames) s.frames tidy.quiet.settled g i in absurd (cc))))
+  reply-local one l = search (arith, follow_of-frames, z-frames, ripen-still, z-unripe, follow-local, z-elsewhere, settle-up, in-filter, only-parent, none-found)

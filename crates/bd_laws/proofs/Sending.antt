@@ -1,10 +1,11 @@
--- FollowingIsLocal: of BC_TRANSACTION with objects: these are looked at, and for a one-way call its target.
-use Rattle.bd_laws.proofs.words.Logic.{◌≡◌, ℕ, Bool, true, false, cond, not, ◌&&◌, List, [], ◌∷◌, ◌++◌, Option, Some, None, ◌⊎◌, inl, inr, refl, ap, sym, subst, ◌∙◌, find, append-nil, list_any, cons_option}
+-- For the engine, by FollowingIsLocal: after a BC_TRANSACTION with objects it is enough to look at these, and for a one-way
+-- call at its target.
+use Rattle.bd_laws.proofs.words.Logic.{arith, ◌≡◌, ℕ, Bool, true, false, List, [], ◌∷◌, ◌++◌, Some, None, inl, inr, refl, ap, sym, subst, ◌∙◌, find, append-nil, list_any, cons_option}
 use Rattle.bd_laws.proofs.words.Types.{TransactionData, ObjectId, Frame, Buffer, Turn, Actor, Work, OfThread}
-use Rattle.bd_laws.proofs.words.Space.{same, Space, assign_numbers, goes_to, is_gone, is_child_of, owe, is_call, turn_of, turns_of, is_abandoned, Delivery, delivered, own_notices, add_buffer, known_by, refer, make_objects, buffer_of, transacted, called, call_out, completed, ObjectTest, follow_of, ripen_of, no_name, objects_of_items, is_spam}
+use Rattle.bd_laws.proofs.words.Space.{same, Space, assign_numbers, goes_to, is_gone, owe, is_call, turn_of, turns_of, is_abandoned, Delivery, delivered, own_notices, add_buffer, known_by, refer, make_objects, buffer_of, transacted, called, call_out, completed, ObjectTest, follow_of, ripen_of, no_name, objects_of_items, is_spam}
 use Rattle.bd_space.specs.declared.space.WorkKind.TheVariants as work
 use Rattle.bd_laws.proofs.words.Laws.{In, KeptBefore, Elsewhere, IsSettled, NoneRipe}
-use Rattle.bd_laws.proofs.Lists.{in-push}
+use Rattle.bd_laws.proofs.Lists.{all-push}
 use Rattle.bd_laws.proofs.Tests.{eq-same}
 use Rattle.bd_laws.proofs.FollowingIsLocal.Ripe.{NoneRipeBut}
 use Rattle.bd_laws.proofs.NothingIsPending.Quiet.{IsCalm, any-more, still-unripe-if}
@@ -16,11 +17,7 @@ use Rattle.bd_laws.proofs.FollowingIsLocal.Sent.{Delivers, delivered-todo, deliv
 
 turns-push : (bs : List Buffer) (b : Buffer) → turns_of (bs ++ b ∷ []) ≡ turns_of bs ++ cons_option (turn_of b) []
 turns-push [] b = refl
-turns-push (c ∷ cs) b = at (turn_of c) (turns-push cs b)
-  where
-    at : (f : Option Turn) → turns_of (cs ++ b ∷ []) ≡ turns_of cs ++ cons_option (turn_of b) [] → cons_option f (turns_of (cs ++ b ∷ [])) ≡ cons_option f (turns_of cs) ++ cons_option (turn_of b) []
-    at None k = k
-    at (Some t) k = ap (λ ts. t ∷ ts) k
+turns-push (c ∷ cs) b = search (arith, turns-push cs b)
 
 but-push : (o : ObjectId) (todo : List Work) (ts older : List Turn) (t : Turn) → same t.target o ≡ true → NoneRipe todo older ts → NoneRipeBut o todo older (ts ++ t ∷ [])
 but-push o todo [] older t e h = ((λ none. absurd (cc)), tt)
@@ -33,27 +30,12 @@ module _ {A : Type 0} (p : A → Bool) where
 
   pub none-found : (xs : List A) → find p xs ≡ None → (x : A) → In x xs → p x ≡ false
   none-found [] h x l = absurd l
-  none-found (y ∷ ys) h x l = at (p y) refl h l (none-found ys)
-    where
-      at : (b : Bool) → p y ≡ b → cond b (Some y) (find p ys) ≡ None → (y ≡ x) ⊎ In x ys → (find p ys ≡ None → (x : A) → In x ys → p x ≡ false) → p x ≡ false
-      at true e h l k = absurd (cc)
-      at false e h (inl is) k = ap p (sym is) ∙ e
-      at false e h (inr i) k = k h x i
-
--- a call that waits to be read
-still-open : (fs : List Frame) (g f : Frame) → is_abandoned fs f ≡ false → is_abandoned (fs ++ g ∷ []) f ≡ false
-still-open fs g f h = at (is_gone f.server) (list_any (is_child_of f) fs) refl h
-  where
-    at : (a b : Bool) → list_any (is_child_of f) fs ≡ b → (a && not b) ≡ false → (a && not (list_any (is_child_of f) (fs ++ g ∷ []))) ≡ false
-    at false b e k = refl
-    at true true e k = rw (any-more (is_child_of f) fs g e) refl
-    at true false e k = absurd (cc)
+  none-found (y ∷ ys) h x l = search (arith, none-found ys)
 
 settled-push : (fs : List Frame) (g : Frame) → is_gone g.server ≡ false → IsSettled fs → IsSettled (fs ++ g ∷ [])
-settled-push fs g none h = find-none (is_abandoned (fs ++ g ∷ [])) (fs ++ g ∷ []) (λ f l. elim (in-push f g fs l) [
-  | inl i ↦ still-open fs g f (none-found (is_abandoned fs) fs h f i)
-  | inr is ↦ ap (λ b. b && not (list_any (is_child_of f) (fs ++ g ∷ []))) (ap (λ (x : Frame). is_gone x.server) (sym is) ∙ none)
-])
+settled-push fs g none h =
+    find-none (is_abandoned (fs ++ g ∷ [])) (fs ++ g ∷ [])
+    (all-push (λ f. is_abandoned (fs ++ g ∷ []) f ≡ false) g fs (λ f i. search (arith, any-more, none-found)) (rw none refl))
 
 -- ---- the whole step of a transaction
 
@@ -97,13 +79,13 @@ module _ (s : Space) (a : Actor) (d : TransactionData) (v : Delivery) (h : IsCal
 
     y-buffers : y.buffers ≡ s.buffers ++ buffer_of (known_by s v) a d v ∷ []
     unfolding y owe z delivered own_notices add_buffer known_by assign_numbers refer make_objects
-    y-buffers = refl
+    y-buffers = search arith
 
     pub turns-are : turns_of y.buffers ≡ turns_of s.buffers ++ cons_option (turn_of new_buffer) []
     turns-are = ap turns_of y-buffers ∙ turns-push s.buffers new_buffer
 
     y-settled : IsSettled s.frames → IsSettled y.frames
-    y-settled settled = subst IsSettled (sym y-frames) settled
+    y-settled settled = search (arith, y-frames)
 
     out : Space
     out = call_out y a.thread.seat v.receiver.made
@@ -116,21 +98,18 @@ module _ (s : Space) (a : Actor) (d : TransactionData) (v : Delivery) (h : IsCal
 
     out-unripe : v.one_way ≡ false → NoneRipe out.todo [] (turns_of out.buffers)
     unfolding out call_out owe
-    out-unripe two =
-        let turns = turns-are ∙ ap (λ f. turns_of s.buffers ++ cons_option f []) (turn-two_way two) ∙ append-nil (turns_of s.buffers) in
-        subst (λ ts. NoneRipe out.todo [] ts) (sym turns)
-        (still-unripe-if y.todo out.todo y (λ n e. any-more (λ (w : Work). is_call n w.kind) y.todo _ e) (turns_of s.buffers) [] y-unripe)
+    out-unripe two = search (arith, turns-are, turn-two_way, append-nil, still-unripe-if, any-more, y-unripe)
 
     out-settled : IsSettled s.frames → IsSettled out.frames
     unfolding out call_out owe
-    out-settled settled = settled-push y.frames _ refl (y-settled settled)
+    out-settled settled = search (arith, settled-push, y-settled)
 
   abbrev suspect : Bool
   suspect = is_spam z a v
 
   transacted-is : (b : Bool) → v.one_way ≡ b → transacted s a d v ≡ called (y suspect) a.thread.seat v.receiver.made b
   unfolding transacted y z
-  transacted-is b e = ap (called (y suspect) a.thread.seat v.receiver.made) e
+  transacted-is b e = search arith
 
   -- one-way: sent objects are looked at, and the target's oldest call may ripen
   pub one_way-local : IsSettled s.frames → (o : ObjectId) → v.one_way ≡ true → v.target ≡ Some o

@@ -1,7 +1,7 @@
 -- The heads of the lists' rings, by list.
 use Rattle.std.specs.Prelude.{ℕ, Bool, Option}
 use Rattle.std.specs.HashMap.{HashMap, get_by}
-use Rattle.bd_words.specs.Keys.{pair}
+use Rattle.bd_words.specs.Numbers.{pair}
 use Rattle.bd_space.specs.declared.space.TodoList.{TodoList}
 use Rattle.bd_space.specs.declared.space.TodoList.TheVariants.{OfThread, OfProcess}
 use Rattle.bd_links.specs.declared.heads.ListKey.{ListKey}

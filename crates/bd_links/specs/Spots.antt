@@ -6,7 +6,7 @@ use Rattle.bd_space.specs.Todo.{keeps_from_calling}
 use Rattle.bd_space.specs.declared.space.Work.{Work}
 use Rattle.bd_space.specs.declared.space.WorkKind.{WorkKind}
 use Rattle.bd_space.specs.declared.space.WorkKind.TheVariants as work
-use Rattle.bd_words.specs.Keys.{pair, wide}
+use Rattle.bd_words.specs.Numbers.{pair, wide}
 use Rattle.bd_links.specs.Heads.{list_key}
 use Rattle.bd_links.specs.Heads as heads
 use Rattle.bd_links.specs.declared.spots.Sought.{Sought}

@@ -33,7 +33,7 @@ impl ListKey {
     }
 }
 
-// Not derived: the tag and the field would be two writes, and the second waits for the first.
+// One write, as `bd_words` says.
 impl Hash for ListKey {
     ghost hash_input = { λ k. fed.u64 (heads.spread k) };
 

@@ -43,7 +43,7 @@ impl Sought {
     }
 }
 
-// Not derived: the tag and each field would be a write of its own, and each write waits for the one before.
+// One write, as `bd_words` says.
 impl Hash for Sought {
     ghost hash_input = { λ k. fed.u128 (spread k) };
 

@@ -5,7 +5,7 @@ ghost use Rattle.std.specs.Cmp.Rules.{hashing};
 ghost use Rattle.std.specs.Hash as fed;
 ghost use Rattle.std.specs.HashMap.{spare, get_by};
 ghost use Rattle.std.proofs.Common.{rules};
-ghost use Rattle.bd_words.specs.Keys.{pair, wide};
+ghost use Rattle.bd_words.specs.Numbers.{pair, wide};
 ghost use Rattle.bd_space.specs.declared.step.ObjectId as declared;
 ghost use Rattle.bd_space.specs.Words.{same};
 ghost use Rattle.bd_names.specs.Keys.{object_at, number_at};
@@ -22,7 +22,7 @@ pub struct NumberKey {
     pub number: u32,
 }
 
-// Not derived: each field would be a write of its own, and each write waits for the one before.
+// One write, as `bd_words` says.
 impl Hash for NumberKey {
     ghost hash_input = { λ k. fed.u64 (pair k.process k.number) };
 

@@ -5,7 +5,7 @@ ghost use Rattle.std.specs.Cmp.Rules.{hashing};
 ghost use Rattle.std.specs.Hash as fed;
 ghost use Rattle.std.specs.HashMap.{spare};
 ghost use Rattle.std.proofs.Common.{rules};
-ghost use Rattle.bd_words.specs.Keys.{pair};
+ghost use Rattle.bd_words.specs.Numbers.{pair};
 ghost use Rattle.bd_names.specs.Bits.{word_at, bit_of};
 
 use bd_words::pair;
@@ -20,7 +20,7 @@ pub struct WordKey {
     pub index: u32,
 }
 
-// Not derived: each field would be a write of its own, and each write waits for the one before.
+// One write, as `bd_words` says.
 impl Hash for WordKey {
     ghost hash_input = { λ k. fed.u64 (pair k.process k.index) };
 

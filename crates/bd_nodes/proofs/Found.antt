@@ -1,6 +1,5 @@
 -- What is found by its key, in a list of which no two elements have one key.
-use Rattle.std.proofs.Common.{◌≡◌, suc, ◌+◌, Bool, true, false, not, ◌&&◌, ◌||◌, cond, List, [], ◌∷◌, Option, Some, None, find, filter, length, option_map, is_some, refl, ap, sym, subst, ◌∙◌, arith}
-use Rattle.std.specs.List.{list_any}
+use Rattle.std.proofs.Common.{◌≡◌, suc, ◌+◌, Bool, true, false, not, ◌&&◌, cond, List, [], ◌∷◌, Option, Some, None, find, filter, length, option_map, refl, ap, sym, subst, ◌∙◌, arith}
 use Rattle.bd_space.specs.Words.{changed}
 use Rattle.bd_nodes.specs.Keys.{kept}
 use Rattle.bd_nodes.specs.Stands.{AreDistinct}
@@ -14,15 +13,6 @@ found-passes {A} p (y ∷ ys) x h = by (p y) refl h (found-passes p ys x)
     by : (b : Bool) → p y ≡ b → cond b (Some y) (find p ys) ≡ Some x → (find p ys ≡ Some x → p x ≡ true) → p x ≡ true
     by true e h further = let is : y ≡ x = cc in subst (λ z. p z ≡ true) is e
     by false e h further = further h
-
-pub any-some : {A : Type 0} (p : A → Bool) (xs : List A) → list_any p xs ≡ is_some (find p xs)
-any-some p [] = refl
-any-some {A} p (x ∷ xs) = by (p x) (any-some p xs)
-  where
-    by : (b : Bool) → list_any p xs ≡ is_some (find p xs)
-        → (b || list_any p xs) ≡ is_some (cond b (Some x) (find p xs))
-    by true e = refl
-    by false e = e
 
 pub option-same : {A : Type 0} (o : Option A) → option_map (λ x. x) o ≡ o
 option-same None = refl

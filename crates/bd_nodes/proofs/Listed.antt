@@ -17,7 +17,8 @@ use Rattle.bd_nodes.specs.declared.table.NodeTable.{NodeTable}
 use Rattle.bd_nodes.specs.Keys.{same_node, id_key, node_key, owner_group}
 use Rattle.bd_nodes.specs.Stands.{NodesAre, IsListed, Lists}
 use Rattle.bd_nodes.proofs.Tests.{both, node-eq, node-self}
-use Rattle.bd_nodes.proofs.Found.{found-passes, found-own, any-some}
+use Rattle.bd_space.proofs.Ranges.{any-some}
+use Rattle.bd_nodes.proofs.Found.{found-passes, found-own}
 use Rattle.bd_nodes.proofs.Maps.{Puts}
 
 -- ---- tests of lists

@@ -4,7 +4,7 @@ ghost use Rattle.std.specs.Prelude.{◌≡◌};
 ghost use Rattle.std.specs.Cmp.Rules.{hashing};
 ghost use Rattle.std.specs.Hash as fed;
 ghost use Rattle.std.proofs.Common.{rules};
-ghost use Rattle.bd_words.specs.Keys.{pair};
+ghost use Rattle.bd_words.specs.Numbers.{pair};
 ghost use Rattle.bd_nodes.specs.Keys as keys;
 
 use bd_groups::Group;
@@ -19,7 +19,7 @@ pub(crate) struct NodeKey {
     pub(crate) index: u32,
 }
 
-// Not derived: each field would be a write of its own, and each write waits for the one before.
+// One write, as `bd_words` says.
 impl Hash for NodeKey {
     ghost hash_input = { λ k. fed.u64 (pair k.place k.index) };
 

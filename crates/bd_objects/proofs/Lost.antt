@@ -19,8 +19,8 @@ use Rattle.bd_space.specs.Local.{at_name, is_touched, deaths_go_of}
 use Rattle.bd_nodes.proofs.Found.{found-passes}
 use Rattle.bd_objects.specs.Deaths.{only_lost}
 use Rattle.bd_deaths.specs.Only.{only_uncleared_in}
-use Rattle.bd_deaths.proofs.Places.{Implies}
-use Rattle.bd_deaths.proofs.Parts.{any-filtered}
+use Rattle.bd_space.proofs.Ranges.{Implies}
+use Rattle.bd_deaths.proofs.Staying.{any-filtered}
 use Rattle.bd_deaths.proofs.Only.{only-implies}
 
 or-true : (a : Bool) → (a || true) ≡ true

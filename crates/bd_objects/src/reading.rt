@@ -21,7 +21,7 @@ ghost use Rattle.bd_objects.specs.Reading.{owed, HoldsAlike};
 use crate::objects::same;
 use crate::table::ObjectTable;
 use bd_nodes::NodeTable;
-use bd_references::ReferenceTable;
+use bd_references::{Hold, ReferenceTable};
 use bd_space::{Holder, Identity, Object, ObjectId, Reference, Work, WorkKind};
 use bd_uapi::Return;
 
@@ -37,13 +37,18 @@ fn notice_returns_of(references: &ReferenceTable, x: &Object) -> [Option<Return>
     ensures { (l : List Reference) → ReferencesAre references.now l
         → flat_map returns.one result ≡ returns.notice_returns l x.now }
 {
-    let held = references.is_held(x.id);
-    let strong = references.is_strong(x.id);
+    let Hold { is_held, is_strong } = references.hold(x.id);
     [
-        return_when(held && !x.told_weak, Return::Increfs(x.ptr, x.cookie)),
-        return_when(strong && !x.told_strong, Return::Acquire(x.ptr, x.cookie)),
-        return_when(x.told_strong && !strong, Return::Release(x.ptr, x.cookie)),
-        return_when(x.told_weak && !held, Return::Decrefs(x.ptr, x.cookie)),
+        return_when(is_held && !x.told_weak, Return::Increfs(x.ptr, x.cookie)),
+        return_when(
+            is_strong && !x.told_strong,
+            Return::Acquire(x.ptr, x.cookie),
+        ),
+        return_when(
+            x.told_strong && !is_strong,
+            Return::Release(x.ptr, x.cookie),
+        ),
+        return_when(x.told_weak && !is_held, Return::Decrefs(x.ptr, x.cookie)),
     ]
 }
 
@@ -65,7 +70,10 @@ fn tell_owner(nodes: &mut NodeTable, references: &ReferenceTable, kind: WorkKind
     ensures uses { node_rooms.Uses nodes.old nodes.new 0 }
 {
     match notice_of(kind) {
-        Some(o) => nodes.set_told(o, references.is_held(o), references.is_strong(o)),
+        Some(o) => {
+            let hold = references.hold(o);
+            nodes.set_told(o, hold.is_held, hold.is_strong);
+        }
         None => {}
     }
 }
@@ -88,10 +96,13 @@ fn acknowledgements(nodes: &NodeTable, references: &ReferenceTable, o: ObjectId)
         → flat_map reading.shakes (returns.returns_of_object l (refer.object_in objects o)) ≡ owed result.0 result.1 }
 {
     match nodes.object(o) {
-        Some(x) => (
-            references.is_held(x.id) && !x.told_weak,
-            references.is_strong(x.id) && !x.told_strong,
-        ),
+        Some(x) => {
+            let hold = references.hold(x.id);
+            (
+                hold.is_held && !x.told_weak,
+                hold.is_strong && !x.told_strong,
+            )
+        }
         None => (false, false),
     }
 }

@@ -11,10 +11,10 @@ ghost use Rattle.bd_space.specs.Local as local;
 ghost use Rattle.bd_objects.specs.Deaths.{is_lost, only_lost};
 ghost use Rattle.bd_objects.specs.Telling.{owner_due};
 
-use crate::notices::hold_on;
+use crate::notices::{owner_to_tell, stays};
 use crate::table::ObjectTable;
 use bd_processes::ProcessTable;
-use bd_space::{Object, ObjectId, WorkKind};
+use bd_space::{ObjectId, WorkKind};
 
 impl ObjectTable {
     ghost use Rattle.bd_space.specs.Tables.{Tells, Makes, TellsWhere, MakesWhere};
@@ -43,12 +43,12 @@ impl ObjectTable {
     {
         let x = self.nodes.object(o)?;
         let lives = processes.lives(x.owner);
-        let hold = hold_on(&self.references, x.id);
-        if !hold.keeps(lives, &x) {
+        let hold = self.references.hold(x.id);
+        if !stays(hold, lives, &x) {
             self.nodes.remove(o);
             return None;
         }
-        hold.owner_to_tell(lives, &x)
+        owner_to_tell(hold, lives, &x)
     }
 
     /// Whether a notification is to go with the process's name of the object, which is gone.
@@ -113,10 +113,6 @@ impl ObjectTable {
             (λ s. owner_due s (object_in s.objects o)) }
     {
         let x = self.nodes.object(o)?;
-        if self.wants_notice(processes, &x) {
-            Some(x.owner)
-        } else {
-            None
-        }
+        owner_to_tell(self.references.hold(x.id), processes.lives(x.owner), &x)
     }
 }

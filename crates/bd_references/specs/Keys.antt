@@ -1,6 +1,7 @@
 -- By what references are counted and found.
 use Rattle.std.specs.Prelude.{ℕ, ◌==◌, ◌+◌, ◌*◌, ◌^◌, Bool, true, false, ◌||◌, if◌then◌else◌, Option, Some, None, List}
 use Rattle.std.specs.List.{list_any}
+use Rattle.bd_words.specs.Numbers.{pair}
 use Rattle.bd_space.specs.declared.step.ObjectId.{ObjectId}
 use Rattle.bd_space.specs.declared.space.Reference.{Reference}
 use Rattle.bd_space.specs.declared.space.Holder.{Holder}
@@ -79,7 +80,4 @@ kind_word kinds.Any = 5 * 2 ^ 32
 
 -- another number for each key, by which it is hashed
 abbrev pub count_spread : CountKey → ℕ
-count_spread k = k.place + k.index * 2 ^ 32 + (kind_word k.kind * 2 + (if k.strong then 1 else 0)) * 2 ^ 64
-
-abbrev pub item_spread : ItemKey → ℕ
-item_spread k = k.index + k.buffer * 2 ^ 64
+count_spread k = pair k.index k.place + (kind_word k.kind * 2 + (if k.strong then 1 else 0)) * 2 ^ 64

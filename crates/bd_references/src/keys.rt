@@ -4,9 +4,11 @@ ghost use Rattle.std.specs.Prelude.{◌≡◌, ◌<◌, ◌^◌};
 ghost use Rattle.std.specs.Cmp.Rules.{hashing};
 ghost use Rattle.std.specs.Hash as fed;
 ghost use Rattle.std.proofs.Common.{rules};
+ghost use Rattle.bd_words.specs.Numbers.{wide};
 ghost use Rattle.bd_references.specs.Keys as keys;
 
 use bd_space::{Holder, ObjectId, Reference};
+use bd_words::{pair, wide};
 use std::hash::{Hash, Hasher};
 
 /// What a reference is for.
@@ -64,22 +66,13 @@ impl CountKey {
     fn spread(self) -> u128
         ensures { result ≡ keys.count_spread self }
     {
-        let object = u64::from(self.place) + u64::from(self.index) * 0x1_0000_0000;
+        let object = pair(self.index, self.place);
         let used = self.kind.word() * 2 + u64::from(self.strong);
         u128::from(object) + u128::from(used) * 0x1_0000_0000_0000_0000
     }
 }
 
-impl ItemKey {
-    // Another number for each key.
-    fn spread(self) -> u128
-        ensures { result ≡ keys.item_spread self }
-    {
-        u128::from(self.index) + u128::from(self.buffer) * 0x1_0000_0000_0000_0000
-    }
-}
-
-// Written out: derived, each field would be a write, and a multiplication of its own.
+// One write, as `bd_words` says.
 impl Hash for CountKey {
     ghost hash_input = { λ k. fed.u128 (keys.count_spread k) };
 
@@ -91,12 +84,12 @@ impl Hash for CountKey {
 }
 
 impl Hash for ItemKey {
-    ghost hash_input = { λ k. fed.u128 (keys.item_spread k) };
+    ghost hash_input = { λ k. fed.u128 (wide k.buffer k.index) };
 
     ghost respects_eq = { Prim.search (hashing, rules) };
 
     fn hash<H: Hasher>(&self, state: &mut H) {
-        state.write_u128(self.spread());
+        state.write_u128(wide(self.buffer, self.index));
     }
 }
 

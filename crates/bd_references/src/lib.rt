@@ -18,4 +18,5 @@ mod users;
 mod windows;
 
 pub use carried::CarriedObjects;
+pub use references::Hold;
 pub use table::ReferenceTable;

@@ -9,22 +9,43 @@ ghost use Rattle.bd_space.specs.References as refer;
 use crate::table::ReferenceTable;
 use bd_space::ObjectId;
 
+/// How an object is referred to.
+#[derive(Clone, Copy)]
+pub struct Hold {
+    /// Whether anything refers to it.
+    pub is_held: bool,
+    /// Whether anything does so strongly.
+    pub is_strong: bool,
+}
+
 impl ReferenceTable {
     ghost use Rattle.bd_references.specs.Stands.{ReferencesAre};
+
+    // Whether anything refers to the object, where it is known whether anything does so strongly.
+    fn is_held_at(&self, o: ObjectId, strong: bool) -> bool
+        ensures { (l : List Reference) → ReferencesAre self.now l → strong ≡ refer.strong_in l o
+            → result ≡ refer.held_in l o }
+    {
+        strong || self.tallies.has_any(o, false)
+    }
+
+    /// How the object is referred to.
+    pub fn hold(&self, o: ObjectId) -> Hold
+        ensures held { (l : List Reference) → ReferencesAre self.now l → result.is_held ≡ refer.held_in l o }
+        ensures strong { (l : List Reference) → ReferencesAre self.now l → result.is_strong ≡ refer.strong_in l o }
+    {
+        let is_strong = self.is_strong(o);
+        Hold {
+            is_held: self.is_held_at(o, is_strong),
+            is_strong,
+        }
+    }
 
     /// Whether anything refers to the object.
     pub fn is_held(&self, o: ObjectId) -> bool
         ensures { (l : List Reference) → ReferencesAre self.now l → result ≡ refer.held_in l o }
     {
-        self.tallies.has_any(o, true) || self.tallies.has_any(o, false)
-    }
-
-    /// Whether anything refers to the object, where it is known whether anything does so strongly.
-    pub fn is_held_at(&self, o: ObjectId, strong: bool) -> bool
-        ensures { (l : List Reference) → ReferencesAre self.now l → strong ≡ refer.strong_in l o
-            → result ≡ refer.held_in l o }
-    {
-        strong || self.tallies.has_any(o, false)
+        self.hold(o).is_held
     }
 
     /// Whether anything refers to it strongly.

@@ -35,3 +35,4 @@ pub mod Streams
 pub mod Writes
 pub mod Stops
 pub mod Runs
+pub mod Ranges

@@ -129,6 +129,16 @@ impl Both {
         let (p, o) = (i % PROCESSES, object_of(i / PROCESSES));
         same(rt, n, "is_held", i, table.is_held(o), list.is_held(o));
         same(rt, n, "is_strong", i, table.is_strong(o), list.is_strong(o));
+        let hold = table.hold(o);
+        same(rt, n, "hold, is_held", i, hold.is_held, list.is_held(o));
+        same(
+            rt,
+            n,
+            "hold, is_strong",
+            i,
+            hold.is_strong,
+            list.is_strong(o),
+        );
         same(rt, n, "refers", i, table.refers(p, o), list.refers(p, o));
         let wanted = list.refers_strongly(p, o);
         same(

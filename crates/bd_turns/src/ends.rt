@@ -6,7 +6,7 @@ ghost use Rattle.std.specs.Hash as fed;
 ghost use Rattle.std.specs.Option.{option_or, option_and_then};
 ghost use Rattle.std.specs.HashMap.{spare};
 ghost use Rattle.std.proofs.Common.{rules};
-ghost use Rattle.bd_words.specs.Keys.{pair};
+ghost use Rattle.bd_words.specs.Numbers.{pair};
 ghost use Rattle.bd_space.specs.declared.step.ObjectId as declared;
 ghost use Rattle.bd_space.specs.Words.{same};
 ghost use Rattle.bd_turns.specs.declared.ends.Ends as declared_ends;
@@ -24,7 +24,7 @@ pub struct IdKey {
     pub index: u32,
 }
 
-// Not derived: each field would be a write of its own, and each write waits for the one before.
+// One write, as `bd_words` says.
 impl Hash for IdKey {
     ghost hash_input = { λ k. fed.u64 (pair k.place k.index) };
 

@@ -10,14 +10,6 @@ same_word = (words.ghosts).eq
 abbrev pub spread : WordKey → ℕ
 spread k = k.word + k.process * (2 ^ 64 + 1)
 
--- two numbers of 32 bits as one of 64, another for each two
-abbrev pub pair : ℕ → ℕ → ℕ
-pair high low = high * 2 ^ 32 + low
-
--- a number above another of 64 bits, another for each two
-abbrev pub wide : ℕ → ℕ → ℕ
-wide high low = high * 2 ^ 64 + low
-
 -- the first place of a key
 unfoldable pub place_in : List WordKey → WordKey → Option ℕ
 place_in [] l = None

@@ -3,3 +3,4 @@ pub mod Walk
 pub mod Tree
 pub mod Room
 pub mod Look
+pub mod Numbers

@@ -5,7 +5,9 @@
 mod key;
 mod map;
 mod node;
+mod numbers;
 mod tree;
 
-pub use key::{WordKey, pair, wide};
+pub use key::WordKey;
 pub use map::WordMap;
+pub use numbers::{pair, wide};

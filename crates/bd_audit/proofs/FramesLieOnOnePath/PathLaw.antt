@@ -1,4 +1,4 @@
--- The law of paths: one open child at most, and a thread's frames on the way from the newest of them.
+-- FramesLieOnOnePath: one open child at most, and a thread's frames on the way from the newest of them.
 use Rattle.bd_laws.proofs.words.Logic.{◌≡◌, ℕ, ◌<◌, ◌≤◌, ◌==◌, Bool, true, false, cond, not, ◌&&◌, ◌||◌, List, [], ◌∷◌, length, reverse, Option, Some, ◌⊎◌, inl, inr, refl, ap, sym, ◌∙◌, filter, arith, list_any, list_all, eqb-true, eq-eqb, cases_lt}
 use Rattle.bd_laws.proofs.words.Types.{Frame, Buffer, Work}
 use Rattle.bd_laws.proofs.words.Space.{is_some_and, ancestry, takes_part, is_frame, is_child_of, History, space_after}
@@ -9,7 +9,6 @@ use Rattle.bd_laws.proofs.Always.{always-on_paths}
 use Rattle.bd_audit.specs.Laws.{space_at}
 use Rattle.bd_audit.specs.Replays.{beginning}
 use Rattle.bd_audit.specs.Paths.{is_on_way, is_one_path}
-use Rattle.bd_laws.proofs.Tests.{not-eq as differ}
 
 -- ---- one open child
 
@@ -25,6 +24,11 @@ parent-of f o e = search (arith, eqb-true)
 
 Lower : List Frame → Type 0
 Lower xs = (g : Frame) (p : ℕ) → In g xs → g.parent ≡ Some p → (u : Frame) × In u xs × (u.made ≡ p) × (p < g.made)
+
+-- an older one than the first is of the rest
+below-first : (x u : Frame) (xs : List Frame) → In u (x ∷ xs) → u.made < x.made → In u xs
+below-first x u xs (inl is) lt = let at = ap (λ (y : Frame). y.made) is in absurd (omega arith)
+below-first x u xs (inr i) lt = i
 
 either-true : (a b : Bool) → (a ≡ true) ⊎ (b ≡ true) → (a || b) ≡ true
 either-true a b h = search arith
@@ -48,13 +52,15 @@ module _ (n : ℕ) (root : ℕ → ℕ) (fs : List Frame) (bs : List Buffer) (td
   unfolding Lower
   lower-rest x xs o k g p l e =
       let u = k g p (inr l) e in
-      let newer : g.made < x.made = o.0 g l in
+      let newer = o.0 g l in
       let made = u.2 in
       let older = u.3 in
-      elim u.1 [
-        | inl is ↦ (let s : x.made ≡ u.0.made = ap (λ (y : Frame). y.made) is in absurd (omega arith))
-        | inr i ↦ (u.0, i, u.2, u.3)
-      ]
+      (u.0, below-first x u.0 xs u.1 (omega arith), u.2, u.3)
+
+  -- the way begins with x, or is the one over the rest
+  begins : (f x : Frame) (from : Option ℕ) (xs : List Frame) (b : Bool) → (b ≡ true → ((x.made == f.made) ≡ true) ⊎ (list_any (is_frame f.made) (ancestry x.parent xs) ≡ true))
+      → (b ≡ false → list_any (is_frame f.made) (ancestry from xs) ≡ true) → list_any (is_frame f.made) (cond b (x ∷ ancestry x.parent xs) (ancestry from xs)) ≡ true
+  begins f x from xs b h k = search (arith, either-true)
 
   way : (xs : List Frame) → Pairs Newer xs → ((x : Frame) → In x xs → In x fs) → Lower xs → (f g : Frame) → In f xs → In g xs → root f.made ≡ root g.made → f.made ≤ g.made
       → list_any (is_frame f.made) (ancestry (Some g.made) xs) ≡ true
@@ -62,29 +68,22 @@ module _ (n : ℕ) (root : ℕ → ℕ) (fs : List Frame) (bs : List Buffer) (td
   way [] o sub k f g l m e le = absurd l
   way (x ∷ xs) o sub k f g l (inl is) e le =
       let made : x.made ≡ g.made = ap (λ (y : Frame). y.made) is in
-      at (x.made == g.made) (eq-eqb x.made g.made made) (elim l [
+      begins f x (Some g.made) xs (x.made == g.made) (λ here. elim l [
         | inl too ↦ inl (eq-eqb x.made f.made (ap (λ (y : Frame). y.made) too))
         | inr i ↦ inr (
             let newer : f.made < x.made = o.0 f i in
             let link = h.linked f g (sub f (inr i)) (sub g (inl is)) e (omega arith) in
             let up = k g link.0 (inl is) link.1 in
-            let lies : In up.0 xs = (let made_up = up.2 in let older = up.3 in elim up.1 [ inl at_x ↦ (let s : x.made ≡ up.0.made = ap (λ (y : Frame). y.made) at_x in absurd (omega arith)) | inr j ↦ j ]) in
+            let lies = below-first x up.0 xs up.1 (let at_p = up.2 in let older = up.3 in omega arith) in
             let root_is : root f.made ≡ root up.0.made = e ∙ (h.parents g link.0 (sub g (inl is)) link.1).same ∙ ap root (sym up.2) in
             let rest = way xs o.1 (λ y j. sub y (inr j)) (lower-rest x xs o k) f up.0 i lies root_is (let a = link.2 in let b = up.2 in omega arith) in
             ap (λ q. list_any (is_frame f.made) (ancestry q xs)) (ap (λ (y : Frame). y.parent) is ∙ link.1 ∙ ap (λ j. Some j) (sym up.2)) ∙ rest)
-      ])
-    where
-      at : (b : Bool) → b ≡ true → ((x.made == f.made) ≡ true) ⊎ (list_any (is_frame f.made) (ancestry x.parent xs) ≡ true)
-          → list_any (is_frame f.made) (cond b (x ∷ ancestry x.parent xs) (ancestry (Some g.made) xs)) ≡ true
-      at b q r = search (arith, either-true)
+      ]) (λ none. let here = eq-eqb x.made g.made made in absurd (cc))
   way (x ∷ xs) o sub k f g (inl is) (inr m) e le = let newer : g.made < x.made = o.0 g m in let made : x.made ≡ f.made = ap (λ (y : Frame). y.made) is in absurd (omega arith)
   way (x ∷ xs) o sub k f g (inr l) (inr m) e le =
       let newer : g.made < x.made = o.0 g m in
-      at (x.made == g.made) (differ x.made g.made (λ q. let s : x.made ≡ g.made = q in absurd (omega arith))) (way xs o.1 (λ y j. sub y (inr j)) (lower-rest x xs o k) f g l m e le)
-    where
-      at : (b : Bool) → b ≡ false → list_any (is_frame f.made) (ancestry (Some g.made) xs) ≡ true
-          → list_any (is_frame f.made) (cond b (x ∷ ancestry x.parent xs) (ancestry (Some g.made) xs)) ≡ true
-      at b q r = search arith
+      begins f x (Some g.made) xs (x.made == g.made) (λ here. let made = eqb-true x.made g.made here in absurd (omega arith))
+      (λ none. way xs o.1 (λ y j. sub y (inr j)) (lower-rest x xs o k) f g l m e le)
 
   lower : Lower (reverse fs)
   unfolding Lower

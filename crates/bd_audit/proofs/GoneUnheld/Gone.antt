@@ -1,10 +1,9 @@
--- An object that has gone never comes back, and nothing refers to it again.
-use Rattle.bd_laws.proofs.words.Logic.{◌≡◌, ℕ, ◌+◌, ◌<◌, ◌≤◌, true, false, List, [], ◌∷◌, Option, Some, None, length, take, drop, inl, inr, refl, ap, sym, subst, ◌∙◌, arith, is_some, take-take, take-append-drop, length-take-le}
+-- For GoneUnheld: an object that has gone never comes back, and nothing refers to it again.
+use Rattle.bd_laws.proofs.words.Logic.{◌≡◌, ℕ, ◌+◌, ◌<◌, ◌≤◌, true, false, List, [], ◌∷◌, length, take, drop, inl, inr, ap, sym, subst, ◌∙◌, arith, is_some, take-take, take-append-drop, length-take-le}
 use Rattle.bd_laws.proofs.words.Types.{ObjectId, Entry, Object}
 use Rattle.bd_laws.proofs.words.Space.{same, Space, opening, object_in, held_in, counted, History, after, next, space_after}
 use Rattle.bd_laws.proofs.words.Laws.{Here, Before}
 use Rattle.bd_laws.proofs.Machine.EveryStep.{every_list}
-use Rattle.bd_laws.proofs.Lists.{find-in}
 use Rattle.bd_laws.proofs.Tests.{same-eq}
 use Rattle.bd_laws.proofs.Objects.{always-kept, here-found, gone-unheld}
 use Rattle.bd_laws.proofs.IsInTurn.Passing.{step-passes}
@@ -14,6 +13,7 @@ use Rattle.bd_audit.specs.Laws.{space_at, is_here}
 use Rattle.bd_audit.proofs.Beginnings.{after-append}
 use Rattle.bd_audit.proofs.RepliesReachTheirCallers.ReplyLaw.{next-steps}
 use Rattle.bd_audit.proofs.NamesHaveGiftChains.Chains.{always-steps}
+use Rattle.bd_audit.proofs.NamesHaveGiftChains.NameBegins.{some-found}
 
 -- ---- one step, and more
 
@@ -37,11 +37,7 @@ later-away (e ∷ es) s o before lt away =
 -- ---- the law
 
 found-here : (objects : List Object) (o : ObjectId) → is_some (object_in objects o) ≡ true → Here objects o
-found-here objects o h = at (object_in objects o) refl h
-  where
-    at : (x : Option Object) → object_in objects o ≡ x → is_some x ≡ true → Here objects o
-    at None e k = absurd (cc)
-    at (Some x) e k = let f = find-in (λ (y : Object). same y.id o) x objects e in (x, f.0, same-eq x.id o f.1)
+found-here objects o h = let x = some-found (λ (y : Object). same y.id o) objects h in (x.0, x.1, same-eq x.0.id o x.2)
 
 away-here : (z : Space) (o : ObjectId) → Away o z → is_here z o ≡ false
 unfolding Away

@@ -1,4 +1,5 @@
--- Each name has a gift chain.
+-- For NamesHaveGiftChains: each name has a gift chain. Many laws use `always-steps`: a space has as many steps as there were
+-- entries.
 use Rattle.bd_laws.proofs.words.Logic.{◌≡◌, ℕ, suc, ◌+◌, ◌<◌, ◌≤◌, ◌==◌, Bool, true, cond, ◌&&◌, ◌||◌, List, [], ◌∷◌, ◌++◌, Option, Some, Ok, ◌⊎◌, inl, inr, refl, ap, sym, subst, ◌∙◌, length, arith, length-append, append_assoc, append-nil, eq-eqb}
 use Rattle.bd_laws.proofs.words.Types.{ObjectId, Entry, Parcel, Command, Accepted, Actor, Object, Name, Holder, Carried}
 use Rattle.bd_laws.proofs.words.Space.{same, is_some_and, Space, opening, actor, owned_in, named, ask_check, ask_step, command_step, change, counted, History, after, next, space_after}
@@ -6,7 +7,7 @@ use Rattle.bd_uapi.specs.declared.command.Command.TheVariants as bc
 use Rattle.bd_laws.proofs.words.Laws.{In, Before}
 use Rattle.bd_laws.proofs.Lists.{any-in}
 use Rattle.bd_laws.proofs.Tests.{and-both, eq-same}
-use Rattle.bd_laws.proofs.Sendings.{Owns, named-has}
+use Rattle.bd_laws.proofs.Sendings.{Owns, HasName, named-has}
 use Rattle.bd_laws.proofs.IsInTurn.Passing.{step-passes}
 use Rattle.bd_laws.proofs.IsInTurn.Received.{step-before, opening-before}
 use Rattle.bd_audit.specs.Gifts as gifts
@@ -22,6 +23,10 @@ stands-more es fs i before e h = record { rest = h.rest ++ fs; all = ap (λ xs. 
 
 stands-below : (es : List Entry) (i : ℕ) (before : List Entry) (e : Entry) → Stands es i before e → i < length es
 stands-below es i before e h = search (arith, length-append)
+
+begins-below : (es : List Entry) (i : ℕ) (o : ObjectId) (r : ℕ) → OwnerGives es i o r ⊎ ManagerGives es i o r → i < length es
+begins-below es i o r (inl g) = stands-below es i g.0 g.1 g.3
+begins-below es i o r (inr g) = stands-below es i g.0 g.1 g.2
 
 chain_from-more : (es fs : List Entry) (o : ObjectId) (is : List ℕ) (p k q : ℕ) → IsChainFrom es o p k is q → IsChainFrom (es ++ fs) o p k is q
 chain_from-more es fs o [] p k q h = h
@@ -48,29 +53,14 @@ module _ (es : List Entry) (e : Entry) (o : ObjectId) (q r : ℕ) (g : Gives (es
 
   chain-push : (is : List ℕ) → IsGiftChain es o is q → IsGiftChain (es ++ e ∷ []) o (is ++ length es ∷ []) r
   chain-push [] h = absurd h
-  chain-push (i ∷ is) h = elim h.1 [
-    | inl x ↦ (let lt = stands-below es i x.0 x.1 x.3 in
-        (h.0, inl (x.0, x.1, x.2, stands-more es (e ∷ []) i x.0 x.1 x.3, x.4, x.5), chain_from-push is h.0 (i + 1) (omega arith) h.2))
-    | inr x ↦ (let lt = stands-below es i x.0 x.1 x.2 in
-        (h.0, inr (x.0, x.1, stands-more es (e ∷ []) i x.0 x.1 x.2, x.3), chain_from-push is h.0 (i + 1) (omega arith) h.2))
-  ]
+  chain-push (i ∷ is) h =
+      let lt = begins-below es i o h.0 h.1 in
+      (h.0, begins-more es (e ∷ []) i o h.0 h.1, chain_from-push is h.0 (i + 1) (omega arith) h.2)
 
 pub here : (es : List Entry) (e : Entry) → Stands (es ++ e ∷ []) (length es) es e
 here es e = record { rest = []; all = refl; at = refl }
 
 -- ---- the gift of a step
-
-pub counted-objects : (z : Space) → (counted z).objects ≡ z.objects
-unfolding counted
-counted-objects z = refl
-
-pub counted-references : (z : Space) → (counted z).references ≡ z.references
-unfolding counted
-counted-references z = refl
-
-pub counted-names : (z : Space) → (counted z).names ≡ z.names
-unfolding counted
-counted-names z = refl
 
 by-actor : (s : Space) (seat : ℕ) (a : Actor) → actor s seat ≡ Some a → is_some_and (actor s seat) (λ b. b.process.made == a.process.made) ≡ true
 by-actor s seat a h = rw h (eq-eqb a.process.made a.process.made refl)
@@ -85,7 +75,8 @@ carried-test : (place q : ℕ) (holder : Holder) → holder ≡ Carried place q 
 carried-test place q holder h = subst (λ k. is_carried_to place q k ≡ true) (sym h) (and-both (place == place) (q == q) (eq-eqb place place refl) (eq-eqb q q refl))
 
 pub sends : (s : Space) (place : ℕ) (e : Entry) (m : Name) → s.steps ≡ place → (g : ByHand s e.seat m (change s e.seat e.step).space) → gifts.Sends s place e m.object g.by.process.made m.process
-sends s place e m at g = search (arith, change, by-actor, or-one, counted-objects, owns-test, has-number, counted-references, any-in, and-both, eq-same, carried-test)
+unfolding counted
+sends s place e m at g = search (arith, change, by-actor, or-one, owns-test, has-number, any-in, and-both, eq-same, carried-test)
 
 asking-0 : (strong : Bool) (parcel : Option Parcel) → is_asking_0 (Command (cond strong (bc.Acquire 0) (bc.Increfs 0)) parcel) ≡ true
 asking-0 strong parcel = search arith
@@ -104,41 +95,40 @@ pub record Chained (es : List Entry) (s : Space) : Type 0 where
   pub steps : s.steps ≡ length es
   pub chains : (m : Name) → In m s.names → (is : List ℕ) × IsGiftChain es m.object is m.process
 
-counted-steps : (z : Space) → (counted z).steps ≡ suc z.steps
-unfolding counted
-counted-steps z = refl
+-- the chain of a name that a process has
+has-chain : (es : List Entry) (s : Space) → Chained es s → (p : ℕ) (o : ObjectId) → HasName s.names p o → (is : List ℕ) × IsGiftChain es o is p
+has-chain es s log p o has =
+    let c = log.chains has.0 has.1 in
+    (c.0, subst (λ x. IsGiftChain es x c.0 p) has.3 (subst (λ x. IsGiftChain es has.0.object c.0 x) has.2 c.1))
 
 module _ (es : List Entry) (s : Space) (e : Entry) (at : s ≡ after opening es) (log : Chained es s) where
   hand-chain : (m : Name) (g : ByHand s e.seat m (change s e.seat e.step).space) → (is : List ℕ) × IsGiftChain (es ++ e ∷ []) m.object is m.process
+  unfolding counted
   hand-chain m g =
       let p = g.by.process.made in
       let sent = sends s (length es) e m log.steps g in
       elim g.has [
         | inl own ↦ (
-            let owned : owned_in (next s e).objects p m.object ≡ true =
-            subst (λ os. owned_in os p m.object ≡ true) (sym (counted-objects (change s e.seat e.step).space)) (owns-test (change s e.seat e.step).space.objects p m.object own) in
+            let owned = owns-test (change s e.seat e.step).space.objects p m.object own in
             let both = subst (λ (y : Space). gifts.Sends y (length es) e m.object p m.process × (owned_in (next y e).objects p m.object ≡ true)) at (sent, owned) in
             (length es ∷ [], (m.process, inl (es, e, p, here es e, both.0, both.1), refl)))
         | inr has ↦ (
-            let c = log.chains has.0 has.1 in
-            let chain = subst (λ x. IsGiftChain es x c.0 p) has.3 (subst (λ x. IsGiftChain es has.0.object c.0 x) has.2 c.1) in
-            (c.0 ++ length es ∷ [], chain-push es e m.object p m.process (es, e, here es e, subst (λ (y : Space). gifts.Sends y (length es) e m.object p m.process) at sent) c.0 chain))
+            let c = has-chain es s log p m.object has in
+            (c.0 ++ length es ∷ [], chain-push es e m.object p m.process (es, e, here es e, subst (λ (y : Space). gifts.Sends y (length es) e m.object p m.process) at sent) c.0 c.1))
       ]
 
   asked-chain : (m : Name) → ByAsking s e.seat e.step m (change s e.seat e.step).space → (is : List ℕ) × IsGiftChain (es ++ e ∷ []) m.object is m.process
   asked-chain m g = (length es ∷ [], (m.process, inr (es, e, here es e, subst (λ (y : Space). AsksManager y e m.object m.process) at (asks s e m (change s e.seat e.step).space g)), refl))
 
   chained-step : Before s → Chained (es ++ e ∷ []) (next s e)
-  chained-step h =
-      let z = (change s e.seat e.step).space in
-      let passed = (step-passes s e h.turns h.received.lists).passed in
-      record {
-        steps = counted-steps z ∙ ap suc (passed.steps ∙ log.steps) ∙ (let l = length-append es (e ∷ []) in omega (arith, l));
-        chains = λ m i. elim (step-naming s e.seat e.step m (subst (In m) (counted-names z) i)) [
-          | inl k ↦ (let c = log.chains m k in (c.0, chain-more es (e ∷ []) m.object c.0 m.process c.1))
-          | inr k ↦ elim k [ inl g ↦ hand-chain m g | inr g ↦ asked-chain m g ]
-        ];
-      }
+  unfolding counted
+  chained-step h = record {
+    steps = ap suc ((step-passes s e h.turns h.received.lists).passed.steps ∙ log.steps) ∙ (let l = length-append es (e ∷ []) in omega (arith, l));
+    chains = λ m i. elim (step-naming s e.seat e.step m i) [
+      | inl k ↦ (let c = log.chains m k in (c.0, chain-more es (e ∷ []) m.object c.0 m.process c.1))
+      | inr k ↦ elim k [ inl g ↦ hand-chain m g | inr g ↦ asked-chain m g ]
+    ];
+  }
 
 chained-all : (fs es : List Entry) (s : Space) → s ≡ after opening es → Before s → Chained es s → Chained (es ++ fs) (after s fs)
 chained-all [] es s at h log = subst (λ xs. Chained xs s) (sym (append-nil es)) log
@@ -154,9 +144,7 @@ unfolding space_after
 name-chain h p number o e =
     let s = after opening h.entries in
     let log = chained-all h.entries [] opening refl opening-before none-chained in
-    let m = named-has s p number o e in
-    let c = log.chains m.0 m.1 in
-    (c.0, subst (λ x. IsGiftChain h.entries x c.0 p) m.3 (subst (λ x. IsGiftChain h.entries m.0.object c.0 x) m.2 c.1))
+    has-chain h.entries s log p o (named-has s p number o e)
 
 -- how many steps there were
 pub always-steps : (es : List Entry) → (after opening es).steps ≡ length es

@@ -1,14 +1,14 @@
--- The gift by which a name begins, the gifts of a history, and the chain that they make, found from its end.
+-- For the public search `gift_chain`, and for no law: the gift by which a name begins, the gifts of a history, and the chain
+-- that they make, found from its end.
 use Rattle.bd_laws.proofs.words.Logic.{◌≡◌, ℕ, ◌+◌, ◌<◌, Bool, true, false, List, [], ◌∷◌, ◌++◌, Option, Some, None, Result, IfOk, IfSome, inl, inr, refl, ap, sym, subst, ◌∙◌, length, take, get_or, reverse, arith, length-append, append-nil, append_assoc, nat_lt, ltb-true, ltb-false, reverse-append, length-take-le, take-append-le, take_all, get_or-append_seam, get_or-append}
 use Rattle.bd_laws.proofs.words.Types.{Fault, ObjectId, Entry}
-use Rattle.bd_laws.proofs.words.Space.{Space, opening, named, History, after, space_after}
-use Rattle.bd_engine.specs.Looks.{knows}
+use Rattle.bd_laws.proofs.words.Space.{opening, named, History, after, space_after}
 use Rattle.bd_laws.proofs.words.Laws.{In}
 use Rattle.bd_laws.proofs.Lists.{in-left, in-push, in-last}
 use Rattle.bd_audit.specs.declared.gifts.Gift.{Gift}
 use Rattle.bd_audit.specs.Replays.{with_entry, beginning}
 use Rattle.bd_audit.specs.Gifts.{IsChainFrom, IsGiftChain, IsChainOf}
-use Rattle.bd_audit.specs.GiftSearch.{knows_after, giver_in, gift_made, receiver_at, receiver_of, AreReceivers, GivenBy, IsGift, BeginsAt, BeginsWith, IsGiftOf, HasGift, Follows, FollowAfter, AllGifts, AreGifts, IsWay, IsHolder}
+use Rattle.bd_audit.specs.GiftSearch.{knows_after, gift_made, receiver_at, receiver_of, AreReceivers, GivenBy, IsGift, BeginsAt, BeginsWith, IsGiftOf, HasGift, Follows, FollowAfter, AllGifts, AreGifts, IsWay, IsHolder}
 use Rattle.bd_audit.proofs.Beginnings.{one-next}
 use Rattle.bd_audit.proofs.NamesHaveGiftChains.NameBegins.{named-knows, name-given, gift-more}
 
@@ -50,9 +50,6 @@ receivers-next g k e rs qs place r are at there is pushed =
 
 -- ---- the gift of a step
 
-giver-knows : (s : Space) (seat : ℕ) (o : ObjectId) → IfSome (giver_in s seat o) (λ p. knows s p o ≡ true)
-giver-knows s seat o = search arith
-
 module _ (es : List Entry) (e : Entry) (o : ObjectId) where
   pub no-gift : ((q : ℕ) → BeginsAt es e o q → ⊥) → IsGiftOf es e o None
   no-gift h = record { made = tt; every = λ q b. h q b }
@@ -64,9 +61,6 @@ pub ok-gift : (es : List Entry) (e : Entry) (o : ObjectId) (r : Result (Option G
 ok-gift es e o r x h k = search arith
 
 -- ---- the gifts so far
-
-pub none-given : (o : ObjectId) → AreGifts [] o []
-none-given o = record { linked = tt; gifts = λ g i. absurd i; known = λ q yes. (let no : knows_after [] q o ≡ false = refl in absurd (cc)) }
 
 more-gifts : (gs : List Gift) (g : Gift) (q : ℕ) → HasGift gs q → HasGift (gs ++ g ∷ []) q
 more-gifts gs g q h = (h.0, in-left h.0 gs (g ∷ []) h.1, h.2)
@@ -87,7 +81,7 @@ module _ (es : List Entry) (e : Entry) (o : ObjectId) (gs : List Gift) (h : AreG
   known-next q P now old new = search arith
 
   follows-all : (g : Gift) → BeginsWith es e o g → Follows gs g
-  follows-all g k = search (arith, giver-knows)
+  follows-all g k = search arith
 
   begun-gift : (g : Gift) → BeginsWith es e o g → IsGift (es ++ e ∷ []) o g
   begun-gift g k = search (arith, length-append, name-given)
@@ -127,12 +121,6 @@ abbrev pub LeadsOn : List Gift → List Gift → List ℕ → ℕ → Option ℕ
 LeadsOn gs left places q None = IsWay gs (reverse places) q
 LeadsOn gs left places q (Some p) =
     HasGift left p × ((es : List Entry) (o : ObjectId) → AllGifts es o gs → (h : Gift) → In h left → IsChainFrom es o p (h.place + 1) (reverse places) q)
-
-pub way-begins : (gs : List Gift) (q : ℕ) → HasGift gs q → LeadsOn gs gs [] q (Some q)
-way-begins gs q h = (h, λ es o all x i. refl)
-
-pub way-found : (gs : List Gift) (places : List ℕ) (q : ℕ) (next : Option ℕ) → LeadsOn gs [] places q next → IsWay gs (reverse places) q
-way-found gs places q next h = search arith
 
 module _ (gs left : List Gift) (g : Gift) (places : List ℕ) (q : ℕ) where
   -- a gift to another

@@ -1,35 +1,40 @@
--- The step at which a name begins, and to whom a step gives.
+-- For the public search `gift_chain`: the step at which a name begins, and to whom a step gives. GoneUnheld uses one lemma.
 use Rattle.bd_laws.proofs.words.Logic.{◌≡◌, ℕ, ◌<◌, ◌==◌, Bool, true, false, ◌&&◌, not, List, [], ◌∷◌, ◌++◌, Option, Some, None, inl, inr, refl, ap, sym, subst, ◌∙◌, length, find, arith, length-append, is_some, option_map, option_and_then, option_or, eqb-true, eq-eqb}
 use Rattle.bd_laws.proofs.words.Types.{ObjectId, Entry, Process, Thread, Actor, Name, Buffer, Carried}
-use Rattle.bd_laws.proofs.words.Space.{same, when, Space, opening, actor, owned_in, number_in, named, is_made_at, buffer_in, change, History, after, next, space_after}
+use Rattle.bd_laws.proofs.words.Space.{same, when, Space, opening, actor, number_in, named, is_made_at, buffer_in, change, counted, History, after, next, space_after}
 use Rattle.bd_engine.specs.Looks.{knows, process_of}
 use Rattle.bd_laws.proofs.words.Laws.{In, IsTidy}
 use Rattle.bd_laws.proofs.Always.{step-tidy, opening-tidy}
 use Rattle.bd_laws.proofs.Machine.EveryStep.{every_list}
 use Rattle.bd_laws.proofs.Lists.{find-in, find-some}
-use Rattle.bd_laws.proofs.Tests.{both, same-eq}
+use Rattle.bd_laws.proofs.Tests.{both, same-eq, not-eq}
+use Rattle.bd_laws.proofs.Sending.{find-none}
 use Rattle.bd_laws.proofs.Sendings.{HasName, named-has}
 use Rattle.bd_laws.proofs.Checks.{actor-lives}
 use Rattle.bd_audit.specs.declared.gifts.Gift.{Gift}
 use Rattle.bd_audit.specs.Replays.{with_entry}
 use Rattle.bd_audit.specs.GiftSearch.{knows_after, giver_in, gift_made, receiver_at, receiver_of, GivenBy, IsGift, BeginsAt}
 use Rattle.bd_audit.proofs.Beginnings.{after-append}
-use Rattle.bd_audit.proofs.NamesHaveGiftChains.Naming.{step-naming, has-number}
+use Rattle.bd_audit.proofs.NamesHaveGiftChains.Naming.{step-naming, has-number, is_some-map}
 use Rattle.bd_audit.proofs.NamesHaveGiftChains.NewNames.{ByHand, ByAsking}
-use Rattle.bd_audit.proofs.NamesHaveGiftChains.Chains.{stands-more, begins-more, here, sends, asks, owns-test, counted-objects, counted-references, counted-names, always-steps}
-use Rattle.bd_laws.proofs.Machine.Fields.{counted-buffers}
+use Rattle.bd_audit.proofs.NamesHaveGiftChains.Chains.{stands-more, begins-more, here, sends, asks, owns-test, always-steps}
 
 -- ---- names and actors
 
+-- what a search that finds something finds
+module _ {A : Type 0} (p : A → Bool) (xs : List A) where
+  found-as : (f : Option A) → find p xs ≡ f → is_some f ≡ true → (x : A) × In x xs × (p x ≡ true) × (find p xs ≡ Some x)
+  found-as None e k = absurd (cc)
+  found-as (Some x) e k = let l = find-in p x xs e in (x, l.0, l.1, e)
+
+  pub some-found : is_some (find p xs) ≡ true → (x : A) × In x xs × (p x ≡ true) × (find p xs ≡ Some x)
+  some-found h = found-as (find p xs) refl h
+
 number-has : (names : List Name) (p : ℕ) (o : ObjectId) → is_some (number_in names p o) ≡ true → HasName names p o
-number-has names p o h = at (find (λ (m : Name). (m.process == p) && same m.object o) names) refl h
-  where
-    at : (f : Option Name) → find (λ (m : Name). (m.process == p) && same m.object o) names ≡ f → is_some (option_map (λ (m : Name). m.number) f) ≡ true → HasName names p o
-    at None e k = absurd (cc)
-    at (Some m) e k =
-        let l = find-in (λ (m : Name). (m.process == p) && same m.object o) m names e in
-        let t = both (m.process == p) (same m.object o) l.1 in
-        (m, l.0, eqb-true m.process p t.0, same-eq m.object o t.1)
+number-has names p o h =
+    let m = some-found (λ (m : Name). (m.process == p) && same m.object o) names (sym (is_some-map _ _) ∙ h) in
+    let t = both (m.0.process == p) (same m.0.object o) m.2 in
+    (m.0, m.1, eqb-true m.0.process p t.0, same-eq m.0.object o t.1)
 
 pub named-knows : (s : Space) (p n : ℕ) (o : ObjectId) → named s p n ≡ Some o → knows s p o ≡ true
 named-knows s p n o h = has-number s.names p o (named-has s p n o h)
@@ -49,13 +54,14 @@ module _ (es : List Entry) (e : Entry) where
   -- the acting process has a name for the object, or it doesn't
   by-hand : (m : Name) (g : ByHand (after opening es) e.seat m (change (after opening es) e.seat e.step).space) (b : Bool) → knows_after es g.by.process.made m.object ≡ b
       → GivenBy (es ++ e ∷ []) (length es) m.object m.process (when b g.by.process.made)
+  unfolding counted
   by-hand m g true k = (es, e, here es e, sends (after opening es) (length es) e m (always-steps es) g, k)
   by-hand m g false k =
       let s = after opening es in
       let z = (change s e.seat e.step).space in
       let p = g.by.process.made in
       elim g.has [
-        | inl own ↦ inl (es, e, p, here es e, sends s (length es) e m (always-steps es) g, subst (λ os. owned_in os p m.object ≡ true) (sym (counted-objects z)) (owns-test z.objects p m.object own))
+        | inl own ↦ inl (es, e, p, here es e, sends s (length es) e m (always-steps es) g, owns-test z.objects p m.object own)
         | inr has ↦ (let yes = has-number s.names p m.object has in absurd (cc))
       ]
 
@@ -76,7 +82,8 @@ module _ (es : List Entry) (e : Entry) where
 
   pub name-given : (o : ObjectId) (q : ℕ) → knows_after es q o ≡ false → knows_after (es ++ e ∷ []) q o ≡ true
       → GivenBy (es ++ e ∷ []) (length es) o q (giver_in (after opening es) e.seat o)
-  name-given o q new now = search (arith, change, after-append, counted-names, number-has, step-naming, has-number, hand-gives, asked-gives)
+  unfolding counted
+  name-given o q new now = search (arith, change, after-append, number-has, step-naming, has-number, hand-gives, asked-gives)
 
 -- as an engine finds it
 pub gift-is : (h k : History) (e : Entry) (q : ℕ) (o : ObjectId) (knew now : Bool) (n : ℕ) (giver : Option ℕ) → k ≡ with_entry h e → knew ≡ knows (space_after h) q o
@@ -96,56 +103,45 @@ gift-more es fs o g h = (let l = length-append es fs in let below = h.0 in omega
 
 -- ---- to whom a step gives
 
-in-find : (p : Buffer → Bool) (b : Buffer) (bs : List Buffer) → In b bs → p b ≡ true → (c : Buffer) × (find p bs ≡ Some c)
-in-find p b bs i t = at (find p bs) refl
-  where
-    at : (f : Option Buffer) → find p bs ≡ f → (c : Buffer) × (find p bs ≡ Some c)
-    at None e = let yes = find-some p b bs i t in let no : is_some (find p bs) ≡ false = ap is_some e in absurd (cc)
-    at (Some c) e = (c, e)
-
 -- what is made at no place of these is found at none
-none-made : (place : ℕ) (bs : List Buffer) → ((b : Buffer) → In b bs → b.made < place) → (f : Option Buffer) → buffer_in bs place ≡ f → buffer_in bs place ≡ None
-none-made place bs h None e = e
-none-made place bs h (Some b) e =
-    let l = find-in (is_made_at place) b bs e in
-    let below = h b l.0 in
-    let at = eqb-true b.made place l.1 in
-    absurd (omega (arith, below, at))
+none-made : (place : ℕ) (bs : List Buffer) → ((b : Buffer) → In b bs → b.made < place) → buffer_in bs place ≡ None
+none-made place bs h = find-none (is_made_at place) bs (λ b i. not-eq b.made place (λ e. let below = h b i in absurd (omega arith)))
 
 module _ (es : List Entry) (e : Entry) where
   tidy-after : (xs : List Entry) → IsTidy (after opening xs)
   tidy-after xs = (every_list IsTidy step-tidy xs opening opening-tidy)
 
   hand-receiver : (m : Name) → ByHand (after opening es) e.seat m (change (after opening es) e.seat e.step).space → receiver_at (next (after opening es) e) (length es) ≡ Some m.process
+  unfolding counted
   hand-receiver m g =
       let s = after opening es in
       let z = (change s e.seat e.step).space in
-      let y = next s e in
       let at : g.buffer.0.made ≡ length es = g.buffer.2 ∙ always-steps es in
-      let b = in-find (is_made_at (length es)) g.buffer.0 y.buffers (subst (In g.buffer.0) (sym (counted-buffers z)) g.buffer.1) (eq-eqb g.buffer.0.made (length es) at) in
-      let l = find-in (is_made_at (length es)) b.0 y.buffers b.1 in
+      let b = some-found (is_made_at (length es)) z.buffers (find-some (is_made_at (length es)) g.buffer.0 z.buffers g.buffer.1 (eq-eqb g.buffer.0.made (length es) at)) in
       let windows = (subst IsTidy (after-append opening es (e ∷ [])) (tidy-after (es ++ e ∷ []))).in_windows in
       let r = g.carried in
-      let held : r.0.holder ≡ Carried b.0.made m.process = r.3 ∙ ap (λ n. Carried n m.process) (always-steps es ∙ sym (eqb-true b.0.made (length es) l.1)) in
-      ap (option_map (λ (c : Buffer). c.receiver)) b.1 ∙ ap (λ n. Some n) (windows r.0 b.0 m.process (subst (In r.0) (sym (counted-references z)) r.1) l.0 held)
+      let held : r.0.holder ≡ Carried b.0.made m.process = r.3 ∙ ap (λ n. Carried n m.process) (always-steps es ∙ sym (eqb-true b.0.made (length es) b.2)) in
+      ap (option_map (λ (c : Buffer). c.receiver)) b.3 ∙ ap (λ n. Some n) (windows r.0 b.0 m.process r.1 b.1 held)
 
   asked-receiver : (m : Name) → ByAsking (after opening es) e.seat e.step m (change (after opening es) e.seat e.step).space
       → (receiver_at (next (after opening es) e) (length es) ≡ None) × (process_of (after opening es) e.seat ≡ Some m.process)
+  unfolding counted
   asked-receiver m g =
       let s = after opening es in
       let z = (change s e.seat e.step).space in
       let below = (tidy-after es).before.turns.below in
-      let none = none-made (length es) s.buffers (λ b i. subst (λ n. b.made < n) (always-steps es) (below b i)) (buffer_in s.buffers (length es)) refl in
-      let none_now : buffer_in (next s e).buffers (length es) ≡ None = ap (λ bs. buffer_in bs (length es)) (counted-buffers z ∙ g.buffers) ∙ none in
+      let none = none-made (length es) s.buffers (λ b i. subst (λ n. b.made < n) (always-steps es) (below b i)) in
+      let none_now : buffer_in (next s e).buffers (length es) ≡ None = ap (λ bs. buffer_in bs (length es)) g.buffers ∙ none in
       (ap (option_map (λ (c : Buffer). c.receiver)) none_now, actor-process s e.seat g.by g.acts ∙ ap (λ n. Some n) g.process)
 
   -- a process whose name for the object begins there is the one that receives there; if none does, it asks
   pub begins-with : (o : ObjectId) (q : ℕ) → BeginsAt es e o q → option_or (receiver_at (next (after opening es) e) (length es)) (process_of (after opening es) e.seat) ≡ Some q
+  unfolding counted
   begins-with o q begins =
       let s = after opening es in
       let z = (change s e.seat e.step).space in
       let knows_now : knows (next s e) q o ≡ true = subst (λ (y : Space). knows y q o ≡ true) (after-append opening es (e ∷ [])) begins.1 in
-      let has = subst (λ ns. HasName ns q o) (counted-names z) (number-has (next s e).names q o knows_now) in
+      let has = number-has (next s e).names q o knows_now in
       let m = has.0 in
       let receives : option_or (receiver_at (next s e) (length es)) (process_of s e.seat) ≡ Some m.process = elim (step-naming s e.seat e.step m has.1) [
         | inl k ↦ (let yes = has-number s.names q o (m, k, has.2, has.3) in let no = begins.0 in absurd (cc))

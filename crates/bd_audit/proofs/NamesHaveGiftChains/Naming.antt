@@ -1,61 +1,44 @@
--- What a step's new names rest on.
-use Rattle.bd_laws.proofs.words.Logic.{arith}
-use Rattle.bd_laws.proofs.words.Logic.{◌≡◌, ◌-◌, ℕ, ◌==◌, Bool, true, false, not, List, [], ◌∷◌, ◌++◌, Option, Some, Ok, ◌⊎◌, inl, inr, refl, ap, sym, subst, ◌∙◌, is_some, option_map, eq-eqb}
+-- For NamesHaveGiftChains: what a step's new names rest on.
+use Rattle.bd_laws.proofs.words.Logic.{arith, ◌≡◌, ◌-◌, ℕ, ◌==◌, Bool, true, false, not, List, [], ◌∷◌, ◌++◌, Option, Some, Ok, inl, inr, refl, ap, sym, subst, ◌∙◌, is_some, option_map, eq-eqb}
 use Rattle.bd_laws.proofs.words.Types.{TransactionData, ObjectId, Parcel, Step, Actor, Frame, Asked, Name, OfThread}
-use Rattle.bd_laws.proofs.words.Space.{taken, list_to_read, same, Space, actor, reference_of, number_in, assign_numbers, owe, closed, ripen, Delivery, delivered, transaction_check, transacted, called, reply_check, replied, without_buffer, ask_check, ask, drop_asked, acknowledge, thread_goes, threads_go, without_process, tell_deaths, read_by, change, with_thread, with_process, with_manager, is_spam, with_spam_detection}
+use Rattle.bd_laws.proofs.words.Space.{Space, actor, reference_of, number_in, assign_numbers, owe, closed, ripen, Delivery, delivered, transaction_check, transacted, called, call_out, with_looping, reply_check, replied, without_buffer, ask_check, ask, drop_asked, acknowledge, thread_goes, threads_go, without_process, read_by, change, is_spam}
 use Rattle.bd_space.specs.declared.space.WorkKind.TheVariants as work
 use Rattle.bd_laws.specs.Lists.{In}
 use Rattle.bd_laws.proofs.Lists.{in-filter, find-some}
 use Rattle.bd_laws.proofs.Tests.{and-both, eq-same}
-use Rattle.bd_laws.proofs.Machine.EveryEnding.{IsAsking}
+use Rattle.bd_laws.proofs.Machine.EveryEnding.{IsAsking, set_up-beside}
+use Rattle.bd_laws.proofs.Machine.Adding.{told-keeps}
 use Rattle.bd_laws.proofs.Machine.EveryStep.{Keeps, every_step}
-use Rattle.bd_laws.proofs.Machine.Untouched.{Untouched}
 use Rattle.bd_laws.proofs.Sendings.{HasName, sending-sends}
 use Rattle.bd_laws.proofs.Checks.{transaction-checked, reply-checked, asked-checked}
 use Rattle.bd_laws.proofs.KeptBefore.ObjectsKept.{closed-sends}
-use Rattle.bd_laws.proofs.Machine.Deaths.{on-mapped, on-commands}
-use Rattle.bd_laws.proofs.Machine.Untouched
-use Rattle.bd_audit.proofs.NamesHaveGiftChains.NewNames.{ByHand, Naming, new-name, delivered-hand, delivered-naming, naming-untouched, fewer-names, follow-naming}
+use Rattle.bd_laws.proofs.Machine.Deaths.{KeptOnDeaths, on-kept, on-told, on-commands}
+use Rattle.bd_audit.proofs.NamesHaveGiftChains.NewNames.{Naming, new-name, delivered-naming, follow-naming}
 use Rattle.bd_laws.proofs.Machine.Following.{threads-keep}
 
 -- ---- the changes
 
+called-naming : (s : Space) (seat : ℕ) (x : Step) (z : Space) (t p : ℕ) (one_way : Bool) → Naming s seat x z → Naming s seat x (called z t p one_way)
+unfolding call_out owe
+called-naming s seat x z t p true h = h
+called-naming s seat x z t p false h = h
+
 transacted-naming : (s : Space) (seat : ℕ) (x : Step) (a : Actor) (d : TransactionData) (parcel : Option Parcel) (v : Delivery) → actor s seat ≡ Some a → transaction_check s a d parcel ≡ Ok v
     → Naming s seat x (transacted s a d v)
-unfolding transacted
+unfolding transacted owe
 transacted-naming s seat x a d parcel v acts check =
-    let t = transaction-checked s a d parcel v check in
-    let z = delivered s a d v in
-    let y = owe z (OfThread a.thread.seat) (work.Complete (is_spam z a v)) in
-    naming-untouched s seat x (called y a.thread.seat v.receiver.made v.one_way) y (Untouched.called-untouched y a.thread.seat v.receiver.made v.one_way)
-    (naming-untouched s seat x y z (Untouched.owe-untouched z (OfThread a.thread.seat) (work.Complete (is_spam z a v)))
-    (delivered-naming s seat x a d v acts (sending-sends s a.process.made d parcel v.sending t.sends)))
-
-closed-actor : (s : Space) (made seat : ℕ) → actor (closed s made) seat ≡ actor s seat
-unfolding closed actor
-closed-actor s made seat = refl
-
-closed-naming : (s : Space) (seat : ℕ) (x : Step) (made : ℕ) (z : Space) → ((m : Name) → In m z.names → In m (closed s made).names ⊎ ByHand (closed s made) seat m z) → Naming s seat x z
-unfolding closed
-closed-naming s seat x made z h =
-    λ m i. elim (h m i) [
-      | inl k ↦ inl k
-      | inr g ↦ inr (inl (record { by = g.by; acts = sym (closed-actor s made seat) ∙ g.acts; has = g.has; carried = g.carried; buffer = g.buffer }))
-    ]
+    called-naming s seat x (owe (delivered s a d v) (OfThread a.thread.seat) (work.Complete (is_spam (delivered s a d v) a v))) a.thread.seat v.receiver.made v.one_way
+    (delivered-naming s s.frames seat x a d v acts (sending-sends s a.process.made d parcel v.sending (transaction-checked s a d parcel v check).sends))
 
 replied-naming : (s : Space) (seat : ℕ) (x : Step) (a : Actor) (d : TransactionData) (parcel : Option Parcel) (f : Frame) (v : Delivery) → actor s seat ≡ Some a → reply_check s a d parcel f ≡ Ok v
     → Naming s seat x (replied s a d f v)
-unfolding replied
+unfolding replied owe closed
 replied-naming s seat x a d parcel f v acts check =
-    let t = reply-checked s a d parcel f v check in
-    let z = delivered (closed s f.made) a d v in
-    let y = owe z (OfThread a.thread.seat) (work.Complete false) in
-    naming-untouched s seat x _ y (Untouched.told-untouched y f.caller (work.Reply s.steps))
-    (naming-untouched s seat x y z (Untouched.owe-untouched z (OfThread a.thread.seat) (work.Complete false))
-    (closed-naming s seat x f.made z (delivered-hand (closed s f.made) seat a d v (closed-actor s f.made seat ∙ acts)
-    (closed-sends s f.made a.process.made v.sending.made v.sending.items (sending-sends s a.process.made d parcel v.sending t.sends)))))
+    told-keeps (Naming s seat x) (work.Reply s.steps) (λ z t h. h) (owe (delivered (closed s f.made) a d v) (OfThread a.thread.seat) (work.Complete false)) f.caller
+    (delivered-naming s (closed s f.made).frames seat x a d v acts
+    (closed-sends s f.made a.process.made v.sending.made v.sending.items (sending-sends s a.process.made d parcel v.sending (reply-checked s a d parcel f v check).sends)))
 
-is_some-map : {A B : Type 0} (f : A → B) (o : Option A) → is_some (option_map f o) ≡ is_some o
+pub is_some-map : {A B : Type 0} (f : A → B) (o : Option A) → is_some (option_map f o) ≡ is_some o
 is_some-map f o = search arith
 
 pub has-number : (names : List Name) (p : ℕ) (o : ObjectId) → HasName names p o → is_some (number_in names p o) ≡ true
@@ -82,55 +65,43 @@ ask-naming s seat x a n strong o acts asks check =
       ]
     ]
 
--- ---- names that stay or go
+-- ---- names that go
 
-all-left-names : (s : Space) (p : ℕ) (m : Name) → In m (threads_go s p).names → In m s.names
-unfolding thread_goes
-all-left-names s p = threads-keep (λ z. (m : Name) → In m z.names → In m s.names) (λ z seat h. h) s p (λ m i. i)
-
-without-names : (s : Space) (p : ℕ) (m : Name) → In m (without_process s p).names → In m s.names
-unfolding without_process
-without-names s p m i = (in-filter (λ (m : Name). not (m.process == p)) m s.names i).0
-
-ends-naming : (s : Space) (seat : ℕ) (x : Step) (p : ℕ) → Naming s seat x (tell_deaths (without_process (threads_go s p) p) p)
-ends-naming s seat x p =
-    let a = threads_go s p in
-    let b = without_process a p in
-    naming-untouched s seat x (tell_deaths b p) b (Untouched.tell_deaths-untouched b p) (fewer-names s seat x b (λ m i. all-left-names s p m (without-names a p m i)))
+left-names : (s : Space) (p : ℕ) (m : Name) → In m (without_process (threads_go s p) p).names → In m s.names
+unfolding thread_goes without_process
+left-names s p m i =
+    threads-keep (λ z. (m : Name) → In m z.names → In m s.names) (λ z seat h. h) s p (λ n k. k) m (in-filter (λ (m : Name). not (m.process == p)) m (threads_go s p).names i).0
 
 -- ---- every step
 
-naming-step : (s : Space) (seat : ℕ) (x : Step) → Keeps s seat x (Naming s seat x) (Naming s seat x)
-unfolding with_thread with_process with_manager with_spam_detection without_buffer drop_asked acknowledge read_by thread_goes
-naming-step s seat x =
-    let none : Naming s seat x s = fewer-names s seat x s (λ m i. i) in
-    record {
-      set_up = record {
-        same = none;
-        opened = λ pid euid window free. fewer-names s seat x (with_thread (with_process s pid euid window) seat s.steps) (λ m i. i);
-        attached = λ p free. fewer-names s seat x (with_thread s seat p) (λ m i. i);
-        managed = λ a e b. fewer-names s seat x (with_manager s a.process.made) (λ m i. i);
-        marked = λ p on. fewer-names s seat x (with_spam_detection s p on) (λ m i. i);
-      };
-      changes = record {
-        transacts = λ a d parcel v e i t. transacted-naming s seat x a d parcel v i t;
-        replies = λ a d parcel f v e i g t. replied-naming s seat x a d parcel f v i t;
-        frees = λ p ptr b e t. fewer-names s seat x (without_buffer s b.made) (λ m i. i);
-        asks = λ a n strong o e i t. ask-naming s seat x a n strong o e i t;
-        drops = λ p o strong. fewer-names s seat x (drop_asked s p o strong) (λ m i. i);
-        acknowledges = λ o strong i. fewer-names s seat x (acknowledge s o strong) (λ m i. i);
-        loops = λ t looping. naming-untouched s seat x _ s (Untouched.with_looping-untouched s t looping) none;
-        on_deaths = on-commands s _ (on-mapped s _ _ (λ y k. naming-untouched s seat x y s k none) (Untouched.on_deaths-untouched s));
-        reads = λ a limit e i n. fewer-names s seat x (read_by s a.thread.seat (taken s (limit - 4) (list_to_read s a.thread))) (λ m i. i);
-        leaves = λ a e. fewer-names s seat x (thread_goes s a.thread.seat) (λ m i. i);
-        ends = λ a e. ends-naming s seat x a.process.made;
-        ripens = λ z. naming-untouched s seat x (ripen z) z (Untouched.ripen-untouched z);
-      };
-      follows = λ z. follow-naming s seat x z;
-      closes = λ z made. naming-untouched s seat x (closed z made) z (Untouched.closed-untouched z made);
-      refuses = λ z t r. naming-untouched s seat x _ z (Untouched.owe-untouched z (OfThread t) (work.Refusal r));
-      tells = λ z t r. naming-untouched s seat x _ z (Untouched.owe-untouched z (OfThread t) (work.Verdict r));
-    }
+module _ (s : Space) (seat : ℕ) (x : Step) where
+  deaths-naming : KeptOnDeaths (Naming s seat x)
+  unfolding owe
+  deaths-naming = record { others = λ z ds h. h; dies = λ z p made h. h; clears = λ z t cookie h. h }
+
+  naming-step : Keeps s seat x (Naming s seat x) (Naming s seat x)
+  unfolding without_buffer drop_asked acknowledge with_looping read_by thread_goes ripen closed owe
+  naming-step = record {
+    set_up = set_up-beside s seat (Naming s seat x) (λ qs ts os rs k m i. inl i);
+    changes = record {
+      transacts = λ a d parcel v e i t. transacted-naming s seat x a d parcel v i t;
+      replies = λ a d parcel f v e i g t. replied-naming s seat x a d parcel f v i t;
+      frees = λ p ptr b e t m i. inl i;
+      asks = λ a n strong o e i t. ask-naming s seat x a n strong o e i t;
+      drops = λ p o strong m i. inl i;
+      acknowledges = λ o strong k m i. inl i;
+      loops = λ t looping m i. inl i;
+      on_deaths = on-commands s (Naming s seat x) (on-kept (Naming s seat x) deaths-naming s (λ m i. inl i));
+      reads = λ a limit e k n m i. inl i;
+      leaves = λ a e m i. inl i;
+      ends = λ a e. on-told (Naming s seat x) deaths-naming (without_process (threads_go s a.process.made) a.process.made) a.process.made (λ m i. inl (left-names s a.process.made m i));
+      ripens = λ z h. h;
+    };
+    follows = follow-naming s seat x;
+    closes = λ z made h. h;
+    refuses = λ z t r h. h;
+    tells = λ z t r h. h;
+  }
 
 -- what the names after a step rest on
 pub step-naming : (s : Space) (seat : ℕ) (x : Step) → Naming s seat x (change s seat x).space

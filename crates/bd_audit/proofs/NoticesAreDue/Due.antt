@@ -1,13 +1,15 @@
--- A Notice of an object is due exactly while its told values aren't what is so.
-use Rattle.bd_laws.proofs.words.Logic.{◌≡◌, ℕ, ◌≤◌, ◌==◌, Bool, true, false, cond, not, ◌&&◌, ◌||◌, List, [], ◌∷◌, ◌++◌, inl, inr, refl, ap, sym, subst, ◌∙◌, filter, length, arith, Some, list_any, list_all, fold, eqb-true}
+-- For NoticesAreDue: a Notice of an object is due exactly while its told values aren't what is so.
+use Rattle.bd_laws.proofs.words.Logic.{◌≡◌, ℕ, ◌≤◌, ◌==◌, Bool, true, false, cond, not, ◌&&◌, ◌||◌, List, [], ◌∷◌, ◌++◌, inl, inr, refl, ap, sym, subst, ◌∙◌, filter, length, arith, list_all, fold}
 use Rattle.bd_laws.proofs.words.Types.{ObjectId, Step, Entry, Process, Object, Reference, Manager, Work, WorkKind, TodoList, OfThread, OfProcess}
-use Rattle.bd_laws.proofs.words.Space.{same, Space, opening, reference_of, objects_go, stays_in, names_go, closed, with_work, owe, is_notice, notice_of, with_notice, wants_notice, differs_in, has_notice_in, work_goes, deaths_go, notify, follow, change, counted, with_thread, with_process, with_manager, History, next, space_after, with_spam_detection}
+use Rattle.bd_laws.proofs.words.Space.{same, Space, opening, reference_of, objects_go, stays_in, names_go, closed, with_work, owe, is_notice, with_notice, wants_notice, differs_in, has_notice_in, work_goes, deaths_go, notify, follow, counted, with_thread, with_process, with_manager, History, next, space_after, with_spam_detection}
 use mathlib.Core.Bool.{beq}
 use Rattle.bd_space.specs.declared.space.WorkKind.TheVariants as work
 use Rattle.bd_laws.proofs.words.Laws.{In, Pairs, Differ, KeptBefore, Before}
 use Rattle.bd_laws.proofs.Earlier.{in_order-differ}
-use Rattle.bd_laws.proofs.Lists.{in-push, in-last, in-left, in-filter, any-found, any-in, all-in, pairs-either, pairs-map, pairs-filter, fold-keeps}
-use Rattle.bd_laws.proofs.Tests.{same-eq, eq-same, notice-kind}
+use Rattle.bd_laws.proofs.Lists.{in-push, in-last, in-filter, any-found, any-in, all-in, pairs-either, pairs-map, pairs-filter, fold-keeps}
+use Rattle.bd_laws.proofs.Tests.{same-eq, eq-same, not-eq}
+use Rattle.bd_laws.proofs.Machine.Adding.{notice-keeps}
+use Rattle.bd_laws.proofs.FollowingIsLocal.Finding.{any-left}
 use Rattle.bd_laws.proofs.Machine.EveryStep.{Keeps, every_step, every_list}
 use Rattle.bd_laws.proofs.IsInTurn.InTurn.{at_most_one}
 use Rattle.bd_laws.proofs.Objects.{kept-step}
@@ -15,28 +17,20 @@ use Rattle.bd_laws.proofs.KeptBefore.ObjectsKept.{IsKept}
 use Rattle.bd_laws.proofs.IsInTurn.Received.{step-before, opening-before}
 use Rattle.bd_laws.proofs.NothingIsPending.Noticing.{Once, Noticing, follow-wanted, step-noticing, opening-noticing}
 use Rattle.bd_laws.proofs.Machine.Marks.{marked-lives}
+use Rattle.bd_audit.proofs.OwnersHearInOrder.Tallies.{any-skip}
+use Rattle.bd_audit.proofs.OwnersHearInOrder.Returns.{notice-of}
 
 -- of each object there is a Notice where its owner is to be told, and else none
 abbrev pub Exact : Space → Type 0
 Exact z = (x : Object) → In x z.objects → has_notice_in z.todo x.id ≡ wants_notice z.processes z.references x
-
--- one more, that doesn't pass
-any-skip : {A : Type 0} (p : A → Bool) (xs : List A) (y : A) → p y ≡ false → list_any p (xs ++ y ∷ []) ≡ list_any p xs
-any-skip p [] y h = rw h refl
-any-skip p (x ∷ xs) y h = ap (λ b. p x || b) (any-skip p xs y h)
-
-notice-named : (kind : WorkKind) (o : ObjectId) → is_notice o kind ≡ true → notice_of kind ≡ Some o
-notice-named kind o e = ap notice_of (notice-kind o kind e)
 
 -- ---- what follows
 
 -- a Notice that stands stays, and one that is wanted is made
 notice-stays : (place : ℕ) (processes : List Process) (references : List Reference) (list : TodoList) (y : Object) (o : ObjectId) (todo : List Work)
     → has_notice_in todo o ≡ true → has_notice_in (with_notice place processes references list todo y) o ≡ true
-notice-stays place processes references list y o todo h = at (wants_notice processes references y && not (has_notice_in todo y.id))
-  where
-    at : (b : Bool) → has_notice_in (cond b (with_work place todo list (work.Notice y.id)) todo) o ≡ true
-    at b = search (arith, any-found, any-in, in-left)
+notice-stays place processes references list y o todo =
+    notice-keeps (λ more. has_notice_in more o ≡ true) place processes references list todo y (λ missing. any-left (λ (w : Work). is_notice o w.kind) todo _)
 
 notice-made : (place : ℕ) (processes : List Process) (references : List Reference) (list : TodoList) (x : Object) (todo : List Work)
     → wants_notice processes references x ≡ true → has_notice_in (with_notice place processes references list todo x) x.id ≡ true
@@ -62,41 +56,24 @@ module _ (z : Space) where
   unfolding notify tell
   notify-made x l wants = all-made z.objects z.todo x l wants
 
-notify-objects : (z : Space) (x : Object) → In x (notify z).objects → In x z.objects
-unfolding notify
-notify-objects z x l = l
-
-notify-wants : (z : Space) (x : Object) → wants_notice (notify z).processes (notify z).references x ≡ wants_notice z.processes z.references x
-unfolding notify
-notify-wants z x = refl
-
 follow-made : (z : Space) (x : Object) → In x (follow z).objects → wants_notice (follow z).processes (follow z).references x ≡ true → has_notice_in (follow z).todo x.id ≡ true
-unfolding follow
-follow-made z x l wants =
-    let y = work_goes (deaths_go (objects_go (names_go z))) in
-    notify-made y x (notify-objects y x l) (sym (notify-wants y x) ∙ wants)
+unfolding follow notify
+follow-made z x l wants = notify-made (work_goes (deaths_go (objects_go (names_go z)))) x l wants
 
 follow-differ : (z : Space) → Pairs Differ z.objects → Pairs Differ (follow z).objects
 unfolding follow notify work_goes deaths_go objects_go names_go
 follow-differ z h = pairs-filter Differ (stays_in z.processes z.references) z.objects h
 
 follow-exact : (z : Space) → Pairs Differ z.objects → Exact (follow z)
-follow-exact z differ x l = search (arith, follow-made, any-found, follow-wanted, notice-named, pairs-either, follow-differ)
+follow-exact z differ x l = search (arith, follow-made, any-found, follow-wanted, notice-of, pairs-either, follow-differ)
 
 -- ---- opening, managing, closing
 
 opened-exact : (s : Space) (seat pid euid window : ℕ) → Before s → Exact s → Exact (with_thread (with_process s pid euid window) seat s.steps)
 unfolding with_thread with_process
 opened-exact s seat pid euid window before h x l =
-    h x l ∙ ap (λ b. b && differs_in s.references x) (sym (any-skip (λ (q : Process). q.made == x.owner) s.processes _ (at (s.steps == x.owner) refl)))
-  where
-    at : (b : Bool) → (s.steps == x.owner) ≡ b → b ≡ false
-    at false e = refl
-    at true e = let is = eqb-true s.steps x.owner e in let lt = before.received.owners x l in absurd (omega arith)
-
-attached-exact : (s : Space) (seat p : ℕ) → Exact s → Exact (with_thread s seat p)
-unfolding with_thread
-attached-exact s seat p h = h
+    h x l ∙ ap (λ b. b && differs_in s.references x) (sym (any-skip (λ (q : Process). q.made == x.owner) s.processes _
+    (not-eq s.steps x.owner (λ is. let lt = before.received.owners x l in absurd (omega arith)))))
 
 marked-exact : (s : Space) (p : ℕ) (on : Bool) → Exact s → Exact (with_spam_detection s p on)
 unfolding with_spam_detection
@@ -127,7 +104,7 @@ module _ (s : Space) (kept : KeptBefore s) where
   old-exact x l = search (arith, is-older, same-eq, any-skip)
 
   unnoticed : Noticing s → has_notice_in s.todo (manager_id s) ≡ false
-  unnoticed noticing = search (arith, any-found, notice-named, is-older)
+  unnoticed noticing = search (arith, any-found, notice-of, is-older)
 
   new-exact : (p : ℕ) → wants_notice s.processes (managed_references s) (manager_object s p) ≡ false
   new-exact p = search (arith, in-last, eq-same, any-in, and-none)
@@ -139,10 +116,6 @@ managed-exact s p kept noticing h x l = elim (in-push x (manager_object s p) s.o
   | inr is ↦ subst (λ (y : Object). has_notice_in s.todo y.id ≡ wants_notice s.processes (managed_references s) y) is (unnoticed s kept noticing ∙ sym (new-exact s kept p))
 ]
 
-closed-exact : (z : Space) (made : ℕ) → Exact z → Exact (closed z made)
-unfolding closed
-closed-exact z made h = h
-
 owe-exact : (z : Space) (list : TodoList) (kind : WorkKind) → ((o : ObjectId) → is_notice o kind ≡ false) → Exact z → Exact (owe z list kind)
 unfolding owe
 owe-exact z list kind none h x l = any-skip (λ (w : Work). is_notice x.id w.kind) z.todo _ (none x.id) ∙ h x l
@@ -150,19 +123,20 @@ owe-exact z list kind none h x l = any-skip (λ (w : Work). is_notice x.id w.kin
 -- ---- every step
 
 exact-step : (s : Space) (seat : ℕ) (x : Step) → Before s → Noticing s → Exact s → Keeps s seat x IsKept Exact
+unfolding with_thread closed
 exact-step s seat x before noticing h =
     let k = kept-step s seat x before.objects in
     record {
       set_up = record {
         same = h;
         opened = λ pid euid window free. opened-exact s seat pid euid window before h;
-        attached = λ p free. attached-exact s seat p h;
+        attached = λ p free. h;
         managed = λ a e b. managed-exact s a.process.made before.objects noticing h;
         marked = λ p on. marked-exact s p on h;
       };
       changes = k.changes;
       follows = λ z l. follow-exact z (in_order-differ z.objects l.in_order);
-      closes = λ z made l. closed-exact z made l;
+      closes = λ z made l. l;
       refuses = λ z t r l. owe-exact z (OfThread t) (work.Refusal r) (λ o. refl) l;
       tells = λ z t r l. owe-exact z (OfThread t) (work.Verdict r) (λ o. refl) l;
     }
@@ -173,15 +147,12 @@ record IsDue (s : Space) : Type 0 where
   noticing : Noticing s
   exact : Exact s
 
-counted-exact : (z : Space) → Exact z → Exact (counted z)
-unfolding counted
-counted-exact z h = h
-
 step-due : (s : Space) (e : Entry) → IsDue s → IsDue (next s e)
+unfolding counted
 step-due s e h = record {
   before = step-before s e h.before;
   noticing = step-noticing s e h.noticing;
-  exact = counted-exact (change s e.seat e.step).space (every_step s e.seat e.step IsKept Exact (exact-step s e.seat e.step h.before h.noticing h.exact));
+  exact = every_step s e.seat e.step IsKept Exact (exact-step s e.seat e.step h.before h.noticing h.exact);
 }
 
 always-due : (h : History) → IsDue (space_after h)
@@ -191,7 +162,7 @@ always-due h = every_list IsDue step-due h.entries opening (record { before = op
 -- ---- the law
 
 one-notice : (o : ObjectId) (todo : List Work) → Once todo → length (filter (λ (w : Work). is_notice o w.kind) todo) ≤ 1
-one-notice o todo h = search (arith, at_most_one, pairs-map, notice-named, in-filter, pairs-filter)
+one-notice o todo h = search (arith, at_most_one, pairs-map, notice-of, in-filter, pairs-filter)
 
 beq-same : (a b : Bool) → a ≡ b → beq a b ≡ true
 beq-same a b h = search arith

@@ -1,9 +1,10 @@
--- One-way calls that are due stand on their receivers' lists, and wait for older ones on their objects.
-use Rattle.bd_laws.proofs.words.Logic.{arith}
-use Rattle.bd_laws.proofs.words.Logic.{◌≡◌, ℕ, Bool, true, false, refl, sym, subst, list_all, AllPairs, eq-eqb}
+-- For OneWayCallsAreDueInTurn: one-way calls that are due stand on their receivers' lists, and wait for older ones on their
+-- objects.
+use Rattle.bd_laws.proofs.words.Logic.{arith, ◌≡◌, ℕ, true, sym, subst, list_all, AllPairs, eq-eqb}
 use Rattle.bd_laws.proofs.words.Types.{Turn, Work, TodoList, OfProcess}
 use Rattle.bd_laws.proofs.words.Space.{Space, same_list, turns_of}
 use Rattle.bd_laws.proofs.words.Laws.{In, IsInTurn, Before}
+use Rattle.bd_laws.proofs.Fewer.{to-false}
 use Rattle.bd_laws.proofs.Lists.{all-in, in-filter_map, pairs-at}
 use Rattle.bd_laws.proofs.IsInTurn.Ripening.{turn-parts}
 use Rattle.bd_laws.proofs.IsInTurn.InTurn.{Alone, turns-alone, is_call-hands}
@@ -19,7 +20,4 @@ pub on_lists : (s : Space) → Before s → list_all (λ w. list_all (stands_wit
 on_lists s h = search (arith, all-in, on_list)
 
 pub in_turn : (s : Space) → IsInTurn s → AllPairs (WaitsFor s.todo) (turns_of s.buffers)
-in_turn s h i j d lt le out = differs _ _ refl (pairs-at (Alone s.todo) (turns_of s.buffers) (turns-alone s.todo s.buffers h.waits) i j d lt le out)
-  where
-    differs : (b c : Bool) → c ≡ b → (c ≡ true → ⊥) → c ≡ false
-    differs b c e k = search arith
+in_turn s h i j d lt le out = to-false _ (pairs-at (Alone s.todo) (turns_of s.buffers) (turns-alone s.todo s.buffers h.waits) i j d lt le out)

@@ -1,21 +1,17 @@
--- What is heard of an object is heard by its owner.
-use Rattle.bd_laws.proofs.words.Logic.{arith}
-use Rattle.bd_laws.proofs.words.Logic.{◌≡◌, ℕ, ◌-◌, ◌==◌, Bool, true, false, cond, ◌&&◌, List, [], ◌∷◌, Option, Some, None, ◌⊎◌, inl, inr, refl, find, eqb-true, eq-eqb}
-use Rattle.bd_laws.proofs.words.Types.{ObjectId, Step, Command, StepAnswer, Entry, Object, Actor, Work}
+-- For OnlyOwnersHear: what is heard of an object is heard by its owner.
+use Rattle.bd_laws.proofs.words.Logic.{arith, ◌≡◌, ℕ, ◌-◌, ◌==◌, Bool, true, false, cond, ◌&&◌, List, [], ◌∷◌, Option, Some, None, ◌⊎◌, inl, inr, refl, find, eqb-true}
+use Rattle.bd_laws.proofs.words.Types.{ObjectId, Step, StepAnswer, Entry, Object, Actor, Work}
 use Rattle.bd_laws.proofs.words.Space.{same, is_some_and, Space, opening, actor, owned_in, list_to_read, is_own_with, taken, after}
-use Rattle.bd_uapi.specs.declared.command.Command as command
 use Rattle.bd_laws.specs.Lists.{In}
-use Rattle.bd_laws.proofs.Lists.{in-filter, any-in, find-in}
-use Rattle.bd_laws.proofs.Tests.{both, and-both, same-eq, eq-same}
+use Rattle.bd_laws.proofs.Lists.{in-filter, find-in}
+use Rattle.bd_laws.proofs.Tests.{both, same-eq}
 use Rattle.bd_laws.proofs.Machine.EveryStep.{every_list}
 use Rattle.bd_laws.proofs.IsInTurn.Ripening.{taken-in, read-in}
-use Rattle.bd_audit.specs.Hearing.{Event, heard_in, names_own, acknowledged, heard_by, heard_at, is_by_owner}
+use Rattle.bd_audit.specs.Hearing.{Event, heard_in, names_own, heard_by, heard_at, is_by_owner}
 use Rattle.bd_audit.proofs.OwnersHearInOrder.Returns.{told-or-silent, silent-heard}
+use Rattle.bd_audit.proofs.NamesHaveGiftChains.Chains.{owns-test}
 use Rattle.bd_audit.proofs.OnlyOwnersHear.Sitting.{Placed, step-placed, opening-placed}
 use Rattle.bd_audit.proofs.OnlyOwnersHear.SittingSent.{Reaches, actor-process, actor-seat}
-
-owned-so : (objects : List Object) (p : ℕ) (o : ObjectId) (x : Object) → In x objects → x.id ≡ o → x.owner ≡ p → owned_in objects p o ≡ true
-owned-so objects p o x l id owner = any-in (λ (y : Object). same y.id o && (y.owner == p)) x objects l (and-both (same x.id o) (x.owner == p) (eq-same x.id o id) (eq-eqb x.owner p owner))
 
 module _ (s : Space) (placed : Placed s) (seat : ℕ) (a : Actor) (e : actor s seat ≡ Some a) where
   -- what stands on the list that the thread reads is its process's
@@ -35,7 +31,7 @@ module _ (s : Space) (placed : Placed s) (seat : ℕ) (a : Actor) (e : actor s s
           let l = taken-in s (list_to_read s a.thread) left w.0 w.1 in
           let due = read-in s a.thread left w.0 w.1 in
           let x = placed.noticing.live w.0 o due w.2 in
-          owned-so s.objects a.process.made o x.0 x.1 x.2 (reads-own w.0 x.0.owner l (placed.sits w.0 o x.0 due w.2 x.1 x.2)))
+          owns-test s.objects a.process.made o (x.0, x.1, x.2, reads-own w.0 x.0.owner l (placed.sits w.0 o x.0 due w.2 x.1 x.2)))
     ]
 
     names-owned : (ptr cookie : ℕ) → names_own s o a.process.made ptr cookie ≡ true → IsOwned
@@ -45,19 +41,14 @@ module _ (s : Space) (placed : Placed s) (seat : ℕ) (a : Actor) (e : actor s s
         at None g k = absurd (cc)
         at (Some y) g k =
             let l = find-in (is_own_with a.process.made ptr cookie) y s.objects g in
-            owned-so s.objects a.process.made o y l.0 (same-eq y.id o k) (eqb-true y.owner a.process.made (both (y.owner == a.process.made) (y.ptr == ptr) (both ((y.owner == a.process.made) && (y.ptr == ptr)) (y.cookie == cookie) l.1).0).0)
+            let t = both (y.owner == a.process.made) (y.ptr == ptr) (both ((y.owner == a.process.made) && (y.ptr == ptr)) (y.cookie == cookie) l.1).0 in
+            owns-test s.objects a.process.made o (y, l.0, same-eq y.id o k, eqb-true y.owner a.process.made t.0)
 
     done-owned : (ptr cookie : ℕ) (v : Event) (b : Bool) → names_own s o a.process.made ptr cookie ≡ b → (cond b (v ∷ []) [] ≡ []) ⊎ IsOwned
     done-owned ptr cookie v b h = search (arith, names-owned)
 
-    acknowledged-owned : (c : command.Command) → (acknowledged s o a.process.made c ≡ []) ⊎ IsOwned
-    acknowledged-owned c = search (arith, done-owned)
-
-    accepted-owned : (c : command.Command) (b : Bool) → (cond b (acknowledged s o a.process.made c) [] ≡ []) ⊎ IsOwned
-    accepted-owned c b = search (arith, acknowledged-owned)
-
     by-owner : (x : Step) (answer : StepAnswer) → (heard_by s o a x answer ≡ []) ⊎ IsOwned
-    by-owner x answer = search (arith, reads-owned, accepted-owned)
+    by-owner x answer = search (arith, reads-owned, done-owned)
 
 hears-own : (s : Space) → Placed s → (o : ObjectId) (e : Entry) → (heard_at s o e ≡ []) ⊎ (is_by_owner s o e ≡ true)
 hears-own s placed o e = at (actor s e.seat) refl

@@ -1,7 +1,7 @@
--- A Notice stands where its owner's threads read it: work items, transactions and replies.
-use Rattle.bd_laws.proofs.words.Logic.{◌≡◌, ℕ, ◌==◌, Bool, true, false, cond, not, ◌&&◌, List, ◌++◌, Option, Some, None, Ok, inl, inr, refl, ap, sym, subst, ◌∙◌, filter, arith, eqb-true}
-use Rattle.bd_laws.proofs.words.Types.{TransactionData, ObjectId, Parcel, Process, Thread, Object, Reference, Frame, Actor, Item, Work, WorkKind, TodoList, OfThread, OfProcess, is_own}
-use Rattle.bd_laws.proofs.words.Space.{same, Space, thread_in, actor, object_in, assign_numbers, goes_to, closed, with_work, owe, notice_of, with_notice, wants_notice, has_notice_in, Delivery, delivered, own_notices, add_buffer, known_by, refer, make_objects, buffer_of, add_notice, withdraw_notice, transaction_check, transacted, called, call_out, reply_check, replied, tell_deaths, is_spam}
+-- For OnlyOwnersHear: a Notice stands where its owner's threads read it, through work items, transactions and replies.
+use Rattle.bd_laws.proofs.words.Logic.{◌≡◌, ℕ, ◌==◌, Bool, true, false, cond, List, ◌++◌, Option, Some, None, Ok, inl, inr, refl, ap, sym, subst, ◌∙◌, filter, arith, eqb-true}
+use Rattle.bd_laws.proofs.words.Types.{TransactionData, ObjectId, Parcel, Process, Thread, Object, Frame, Actor, Item, Work, WorkKind, TodoList, OfThread, OfProcess, is_own}
+use Rattle.bd_laws.proofs.words.Space.{same, Space, thread_in, actor, object_in, assign_numbers, goes_to, closed, with_work, owe, notice_of, with_notice, Delivery, delivered, own_notices, add_buffer, known_by, refer, make_objects, buffer_of, add_notice, withdraw_notice, transaction_check, transacted, called, call_out, reply_check, replied, is_spam}
 use Rattle.bd_space.specs.declared.space.WorkKind.TheVariants as work
 use Rattle.bd_laws.proofs.words.Laws.{In, Pairs, Here, Differ, KeptBefore}
 use Rattle.bd_laws.proofs.Earlier.{in_order-differ}
@@ -11,7 +11,8 @@ use Rattle.bd_laws.proofs.Checks.{transaction-checked, reply-checked, actor-live
 use Rattle.bd_laws.proofs.Sendings.{Sends, sending-sends}
 use Rattle.bd_laws.proofs.KeptBefore.ObjectsKept.{closed-before, closed-sends, delivered-kept}
 use Rattle.bd_laws.proofs.NothingIsPending.Noticing.{Noticing, closed-noticing}
-use Rattle.bd_laws.proofs.Machine.Deaths.{KeptOnDeaths, on-told}
+use Rattle.bd_laws.proofs.Machine.Deaths.{KeptOnDeaths}
+use Rattle.bd_laws.proofs.Machine.Adding.{notice-keeps}
 
 -- threads of q read the list
 abbrev pub Reaches : List Thread → TodoList → ℕ → Type 0
@@ -39,19 +40,22 @@ pub sits-filter : (threads : List Thread) (objects : List Object) (p : Work → 
 sits-filter threads objects p todo h = λ w o x l e i is. h w o x (in-filter p w todo l).0 e i is
 
 -- a Notice of an object that q owns, on a list of q's
-pub sits-notice : (place : ℕ) (processes : List Process) (references : List Reference) (threads : List Thread) (objects : List Object) (list : TodoList) (todo : List Work) (y : Object)
-    → ((x : Object) → In x objects → x.id ≡ y.id → Reaches threads list x.owner) → Sits threads objects todo → Sits threads objects (with_notice place processes references list todo y)
-sits-notice place processes references threads objects list todo y reach h = at (wants_notice processes references y && not (has_notice_in todo y.id))
-  where
-    at : (b : Bool) → Sits threads objects (cond b (with_work place todo list (work.Notice y.id)) todo)
-    at false = h
-    at true = λ w o x l e i is. elim (in-push w _ todo l) [
-      | inl k ↦ h w o x k e i is
-      | inr new ↦ (
-          let same_kind : notice_of (work.Notice y.id) ≡ notice_of w.kind = ap (λ (v : Work). notice_of v.kind) new in
-          let id : y.id ≡ o = cc in
-          subst (λ (v : Work). Reaches threads v.list x.owner) new (reach x i (is ∙ sym id)))
-    ]
+pub sits-made : (place : ℕ) (threads : List Thread) (objects : List Object) (list : TodoList) (todo : List Work) (y : Object)
+    → ((x : Object) → In x objects → x.id ≡ y.id → Reaches threads list x.owner) → Sits threads objects todo → Sits threads objects (with_work place todo list (work.Notice y.id))
+sits-made place threads objects list todo y reach h w o x l e i is = elim (in-push w _ todo l) [
+  | inl k ↦ h w o x k e i is
+  | inr new ↦ (
+      let same_kind : notice_of (work.Notice y.id) ≡ notice_of w.kind = ap (λ (v : Work). notice_of v.kind) new in
+      let id : y.id ≡ o = cc in
+      subst (λ (v : Work). Reaches threads v.list x.owner) new (reach x i (is ∙ sym id)))
+]
+
+-- what has one identity has one owner
+pub one-owner : (objects : List Object) → Pairs Differ objects → (x y : Object) → In x objects → In y objects → x.id ≡ y.id → x.owner ≡ y.owner
+one-owner objects differ x y i j is = elim (pairs-either Differ objects differ x y i j) [
+  | inl e ↦ ap (λ (v : Object). v.owner) e
+  | inr e ↦ elim e [ inl f ↦ absurd (f is) | inr f ↦ absurd (f (sym is)) ]
+]
 
 -- ---- transactions and replies
 
@@ -83,20 +87,15 @@ own_notices-sits z seat p items reach owned h =
     at i l todo k true e None g = k
     at i l todo k true e (Some y) g =
         let id = same-eq y.id i.object (find-in (λ (x : Object). same x.id i.object) y z.objects g).1 in
-        sits-notice z.steps z.processes z.references z.threads z.objects (OfThread seat) todo y
-        (λ x m is. (reach.0, reach.1, reach.2 ∙ sym (owned i l e x m (is ∙ id)))) k
+        notice-keeps (Sits z.threads z.objects) z.steps z.processes z.references (OfThread seat) todo y
+        (λ missing. sits-made z.steps z.threads z.objects (OfThread seat) todo y (λ x m is. (reach.0, reach.1, reach.2 ∙ sym (owned i l e x m (is ∙ id))))) k
 
 delivered-sits : (s : Space) (a : Actor) (d : TransactionData) (v : Delivery) → KeptBefore s → Noticing s → Sends s a.process.made v.sending.made v.sending.items
     → Pairs Differ (delivered s a d v).objects → Reaches s.threads (OfThread a.thread.seat) a.process.made → SitsIn s → SitsIn (delivered s a d v)
 unfolding delivered add_buffer known_by assign_numbers refer make_objects own_notices
 delivered-sits s a d v kept noticing sends differ reach h =
     own_notices-sits (add_buffer (known_by s v) (buffer_of (known_by s v) a d v)) a.thread.seat a.process.made v.sending.items reach
-    (λ i l own x m is.
-    let w = sends.owned i l own in
-    elim (pairs-either Differ (s.objects ++ v.sending.made) differ x w.0 m w.1) [
-      | inl e ↦ ap (λ (y : Object). y.owner) e ∙ w.3
-      | inr e ↦ elim e [ inl f ↦ absurd (f (is ∙ sym w.2)) | inr f ↦ absurd (f (w.2 ∙ sym is)) ]
-    ])
+    (λ i l own x m is. let w = sends.owned i l own in one-owner (s.objects ++ v.sending.made) differ x w.0 m w.1 (is ∙ sym w.2) ∙ w.3)
     (λ w o x l e i is. elim (in-append x s.objects v.sending.made i) [
       | inl k ↦ h w o x l e k is
       | inr k ↦ (
@@ -128,31 +127,20 @@ transacted-sits s seat a d parcel v kept noticing e check h =
     (owe-sits z (OfThread a.thread.seat) (work.Complete (is_spam z a v)) refl (delivered-sits s a d v kept noticing sends differ (a.thread, actor-seat s seat a e, actor-process s seat a e) h))
 
 answered-sits : (z : Space) (caller : Option ℕ) (n : ℕ) → SitsIn z → SitsIn (elim caller as (λ (o : Option ℕ). Space) [ None ↦ z | Some t ↦ owe z (OfThread t) (work.Reply n) ])
-answered-sits z None n h = h
-answered-sits z (Some t) n h = owe-sits z (OfThread t) (work.Reply n) refl h
-
-pub closed-sits : (z : Space) (made : ℕ) → SitsIn z → SitsIn (closed z made)
-unfolding closed
-closed-sits z made h = h
-
-closed-reaches : (z : Space) (made seat p : ℕ) → Reaches z.threads (OfThread seat) p → Reaches (closed z made).threads (OfThread seat) p
-unfolding closed
-closed-reaches z made seat p h = h
+answered-sits z caller n h = search (arith, owe-sits)
 
 pub replied-sits : (s : Space) (seat : ℕ) (a : Actor) (d : TransactionData) (parcel : Option Parcel) (f : Frame) (v : Delivery) → KeptBefore s → Noticing s → actor s seat ≡ Some a → reply_check s a d parcel f ≡ Ok v
     → SitsIn s → SitsIn (replied s a d f v)
-unfolding replied
+unfolding replied closed
 replied-sits s seat a d parcel f v kept noticing e check h =
     let t = reply-checked s a d parcel f v check in
     let x = closed s f.made in
-    let z = delivered x a d v in
     let before = closed-before s f.made kept in
     let sends = closed-sends s f.made a.process.made v.sending.made v.sending.items (sending-sends s a.process.made d parcel v.sending t.sends) in
     let differ = delivered-differ x a d v before sends (λ o g. let none = t.target in absurd (cc)) in
-    answered-sits (owe z (OfThread a.thread.seat) (work.Complete false)) f.caller s.steps
-    (owe-sits z (OfThread a.thread.seat) (work.Complete false) refl
-    (delivered-sits x a d v before (closed-noticing s f.made noticing) sends differ
-    (closed-reaches s f.made a.thread.seat a.process.made (a.thread, actor-seat s seat a e, actor-process s seat a e)) (closed-sits s f.made h)))
+    answered-sits (owe (delivered x a d v) (OfThread a.thread.seat) (work.Complete false)) f.caller s.steps
+    (owe-sits (delivered x a d v) (OfThread a.thread.seat) (work.Complete false) refl
+    (delivered-sits x a d v before (closed-noticing s f.made noticing) sends differ (a.thread, actor-seat s seat a e, actor-process s seat a e) h))
 
 -- ---- deaths
 
@@ -162,6 +150,3 @@ sits-on_deaths = record {
   dies = λ z p made h. owe-sits z (OfProcess p) (work.Death made) refl h;
   clears = λ z t cookie h. owe-sits z (OfThread t) (work.Cleared cookie) refl h;
 }
-
-pub tell_deaths-sits : (z : Space) (p : ℕ) → SitsIn z → SitsIn (tell_deaths z p)
-tell_deaths-sits z p h = on-told SitsIn sits-on_deaths z p h

@@ -1,38 +1,29 @@
--- An accepted acknowledgement is of what was heard and not yet acknowledged.
-use Rattle.bd_laws.proofs.words.Logic.{◌≡◌, ℕ, zero, suc, ◌≤◌, ◌==◌, Bool, true, false, cond, not, List, [], ◌∷◌, Option, Some, None, Ok, inl, inr, refl, ap, sym, ◌∙◌, length, find, arith, list_any, eq-eqb}
-use Rattle.bd_laws.proofs.words.Types.{DeadReply, ObjectId, Process, Actor, Frame, Object, Reference}
-use Rattle.bd_laws.proofs.words.Space.{same, without_first, Space, actor, lives_in, is_shaking, is_handshake, same_strength, closed, settle, settle_one, settle_times, is_abandoned, completed, is_own_with, done_check, acknowledge}
+-- For OwnersHearInOrder: an accepted acknowledgement is of what was heard and not yet acknowledged.
+use Rattle.bd_laws.proofs.words.Logic.{◌≡◌, ℕ, ◌+◌, suc, ◌≤◌, ◌==◌, Bool, true, false, cond, not, List, [], ◌∷◌, Some, Ok, inl, inr, refl, ap, sym, ◌∙◌, find, arith, list_any, eq-eqb}
+use Rattle.bd_laws.proofs.words.Types.{DeadReply, ObjectId, Process, Actor, Object, Reference}
+use Rattle.bd_laws.proofs.words.Space.{same, without_first, owe, ripen, follow, Space, actor, lives_in, is_shaking, is_handshake, same_strength, closed, completed, is_own_with, done_check, acknowledge}
 use Rattle.bd_space.specs.declared.space.WorkKind.TheVariants as work
 use Rattle.bd_laws.proofs.words.Laws.{In, Before}
 use Rattle.bd_laws.proofs.Lists.{without-in, any-in, find-in}
 use Rattle.bd_laws.proofs.Tests.{and_then-ok, found-ok, unless-ok, when-none}
-use Rattle.bd_laws.proofs.Machine.Untouched.{Untouched, untouched, untouched-trans, told-untouched, closed-untouched, ripen-untouched}
+use Rattle.bd_laws.proofs.Machine.Adding.{told-keeps}
+use Rattle.bd_laws.proofs.Machine.Settled.{settle-keeps}
 use Rattle.bd_laws.proofs.Checks.{actor-lives}
 use Rattle.bd_laws.proofs.KeptBefore.ObjectsKept.{and-false}
 use Rattle.bd_audit.specs.Hearing.{Event, increfs_done, acquire_done}
 use Rattle.bd_audit.proofs.OwnersHearInOrder.Orders.{Hearing, unheard, weakly, strongly, ended, hears_all}
 use Rattle.bd_audit.proofs.OwnersHearInOrder.Tallies.{tally-without, tally-first}
-use Rattle.bd_audit.proofs.OwnersHearInOrder.Telling.{tracks-untouched, tracks-weaker, follow-told}
+use Rattle.bd_audit.proofs.OwnersHearInOrder.Telling.{tracks-weaker, follow-told}
 use Rattle.bd_audit.proofs.OwnersHearInOrder.Tracking.{is_weak, is_strong, waits, number, shaken, Tells, Tracks, HeardBefore, tells-same, shaking-parts}
-use Rattle.bd_audit.proofs.OwnersHearInOrder.Returns.{shakes-object}
+use Rattle.bd_audit.proofs.OwnersHearInOrder.Returns.{is_strength, at-each, shakes-object}
 
 -- ---- what follows an accepted command
 
-settles-one : (z : Space) (o : Option Frame) → Untouched (settle_one z o) z
-settles-one z None = untouched z
-settles-one z (Some f) = untouched-trans _ (closed z f.made) z (told-untouched (closed z f.made) f.caller (work.Verdict DeadReply)) (closed-untouched z f.made)
-
-settles-times : (n : ℕ) (z : Space) → Untouched (settle_times n z) z
-settles-times zero z = untouched z
-settles-times (suc n) z = untouched-trans _ (settle_times n z) z (settles-one (settle_times n z) (find (is_abandoned (settle_times n z).frames) (settle_times n z).frames)) (settles-times n z)
-
-pub settle-untouched : (z : Space) → Untouched (settle z) z
-unfolding settle
-settle-untouched z = settles-times (length z.frames) z
-
 completed-told : (o : ObjectId) (st : Hearing) (z : Space) → Tracks ⊥ o st z → Tracks ⊥ o st (completed z)
-unfolding completed
-completed-told o st z h = search (arith, tracks-untouched, settle-untouched, follow-told, tracks-weaker, ripen-untouched)
+unfolding completed closed owe ripen
+completed-told o st z h =
+    settle-keeps (Tracks ⊥ o st) (λ y f e k. told-keeps (Tracks ⊥ o st) (work.Verdict DeadReply) (λ z t h. h) (closed y f.made) f.caller k)
+    (follow (ripen z)) (follow-told o st (ripen z) (tracks-weaker o st _ (ripen z) h))
 
 -- ---- acknowledging
 
@@ -45,18 +36,17 @@ record Answered (st : Hearing) (strong : Bool) : Type 0 where
   heard : hears_all st (done_event strong ∷ []) ≡ Some now
   weak : is_weak st ≡ is_weak now
   strong_too : is_strong st ≡ is_strong now
-  this : waits now strong ≡ false
-  that : waits st (not strong) ≡ waits now (not strong)
+  less : (b : Bool) → number (waits st b) ≡ number (is_strength b strong) + number (waits now b)
   over : now ≡ ended → ⊥
 
 answers : (st : Hearing) (strong : Bool) → waits st strong ≡ true → Answered st strong
 answers unheard strong h = absurd (cc)
-answers (weakly true) false h = record { now = weakly false; heard = refl; weak = refl; strong_too = refl; this = refl; that = refl; over = λ e. absurd (cc) }
+answers (weakly true) false h = record { now = weakly false; heard = refl; weak = refl; strong_too = refl; less = at-each _ (omega arith) (omega arith); over = λ e. absurd (cc) }
 answers (weakly false) false h = absurd (cc)
 answers (weakly i) true h = absurd (cc)
-answers (strongly true a) false h = record { now = strongly false a; heard = refl; weak = refl; strong_too = refl; this = refl; that = refl; over = λ e. absurd (cc) }
+answers (strongly true a) false h = record { now = strongly false a; heard = refl; weak = refl; strong_too = refl; less = at-each _ (omega arith) (omega arith); over = λ e. absurd (cc) }
 answers (strongly false a) false h = absurd (cc)
-answers (strongly i true) true h = record { now = strongly i false; heard = refl; weak = refl; strong_too = refl; this = refl; that = refl; over = λ e. absurd (cc) }
+answers (strongly i true) true h = record { now = strongly i false; heard = refl; weak = refl; strong_too = refl; less = at-each _ (omega arith) (omega arith); over = λ e. absurd (cc) }
 answers (strongly i false) true h = absurd (cc)
 answers ended strong h = absurd (cc)
 
@@ -67,11 +57,8 @@ waits-true b n h = search arith
 other-strength : (o : ObjectId) (r : Reference) (b : Bool) → is_shaking o (not b) r ≡ true → is_shaking o b r ≡ false
 other-strength o r b h = search (arith, shaking-parts)
 
-pub record DoneChecked (s : Space) (p ptr cookie : ℕ) (strong : Bool) (y : Object) : Type 0 where
-  pub found : find (is_own_with p ptr cookie) s.objects ≡ Some y
-  pub shakes : list_any (is_shaking y.id strong) s.references ≡ true
-
-pub done-checked : (s : Space) (p ptr cookie : ℕ) (strong : Bool) (y : Object) → done_check s p ptr cookie strong ≡ Ok y → DoneChecked s p ptr cookie strong y
+pub done-checked : (s : Space) (p ptr cookie : ℕ) (strong : Bool) (y : Object) → done_check s p ptr cookie strong ≡ Ok y
+    → (find (is_own_with p ptr cookie) s.objects ≡ Some y) × (list_any (is_shaking y.id strong) s.references ≡ true)
 unfolding done_check
 done-checked s p ptr cookie strong y h = search (arith, and_then-ok, unless-ok, when-none, found-ok)
 
@@ -109,26 +96,12 @@ module _ (o : ObjectId) (st : Hearing) (s : Space) (before : Before s) (h : Hear
       }) (λ n. n) (h.tracks x l e live)
 
   -- one Handshake of this strength less
-  fewer : (strong : Bool) → list_any (is_shaking o strong) s.references ≡ true → (now : Hearing) → waits now strong ≡ false → waits st (not strong) ≡ waits now (not strong)
-      → ((b : Bool) → shaken s.references o b ≡ number (waits st b)) → (b : Bool) → shaken (without_first (is_shaking o strong) s.references) o b ≡ number (waits now b)
-  fewer strong any now this that k b = at b strong any this that
-    where
-      gone : (strong : Bool) → list_any (is_shaking o strong) s.references ≡ true → waits now strong ≡ false → shaken (without_first (is_shaking o strong) s.references) o strong ≡ number (waits now strong)
-      gone strong any this =
-          let first = tally-first (is_shaking o strong) s.references any in
-          let is = k strong in
-          let most = small (waits st strong) in
-          let none : number (waits now strong) ≡ 0 = ap number this in omega arith
-        where
-          small : (c : Bool) → number c ≤ 1
-          small c = search arith
-
-      stays : (strong : Bool) → waits st (not strong) ≡ waits now (not strong) → shaken (without_first (is_shaking o strong) s.references) o (not strong) ≡ number (waits now (not strong))
-      stays strong that = search (arith, that, tally-without, other-strength, number)
-
-      at : (b strong : Bool) → list_any (is_shaking o strong) s.references ≡ true → waits now strong ≡ false → waits st (not strong) ≡ waits now (not strong)
-          → shaken (without_first (is_shaking o strong) s.references) o b ≡ number (waits now b)
-      at b strong any this that = search (arith, this, that, gone, stays)
+  fewer : (b strong : Bool) → list_any (is_shaking o strong) s.references ≡ true
+      → shaken s.references o b ≡ number (is_strength b strong) + shaken (without_first (is_shaking o strong) s.references) o b
+  fewer true true any = let one = tally-first (is_shaking o true) s.references any in omega arith
+  fewer false false any = let one = tally-first (is_shaking o false) s.references any in omega arith
+  fewer true false any = let none = tally-without (is_shaking o true) (is_shaking o false) s.references (λ r. other-strength o r false) in omega arith
+  fewer false true any = let none = tally-without (is_shaking o false) (is_shaking o true) s.references (λ r. other-strength o r true) in omega arith
 
   -- the acknowledgement of this object is one that was waited for
   pub own-done : (y : Object) (strong : Bool) → In y s.objects → y.id ≡ o → lives_in s.processes y.owner ≡ true → list_any (is_shaking o strong) s.references ≡ true
@@ -145,7 +118,12 @@ module _ (o : ObjectId) (st : Hearing) (s : Space) (before : Before s) (h : Hear
             heard = a.heard;
             tracks = λ x k f alive. elim (h.tracks x k f alive) [
               | inl m ↦ (let none = m.shakes strong in absurd (omega arith))
-              | inr u ↦ inr (record { weak = u.weak ∙ a.weak; strong = u.strong ∙ a.strong_too; shakes = fewer strong any a.now a.this a.that u.shakes; over = λ n. a.over n })
+              | inr u ↦ inr (record {
+                weak = u.weak ∙ a.weak;
+                strong = u.strong ∙ a.strong_too;
+                shakes = λ b. let one = fewer b strong any in let was = u.shakes b in let less = a.less b in omega arith;
+                over = a.over;
+              })
             ];
             fresh = λ le. absurd (older y l e le);
           }

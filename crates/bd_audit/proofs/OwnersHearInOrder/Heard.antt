@@ -1,4 +1,4 @@
--- In every history the owner of an object hears of it in order.
+-- For OwnersHearInOrder: in every history the owner of an object hears of it in order.
 use Rattle.bd_laws.proofs.words.Logic.{◌≡◌, ℕ, ◌-◌, ◌==◌, Bool, true, false, cond, not, List, [], ◌∷◌, Option, Some, None, Result, Ok, Err, refl, ap, sym, subst, ◌∙◌, arith, list_any, is_some, eqb-true}
 use Rattle.bd_laws.proofs.words.Types.{Fault, Note, ObjectId, Parcel, Entry, Step, Command, Read, StepAnswer, Actor, Object, Buffer}
 use Rattle.bd_laws.proofs.words.Space.{same, is_some_and, Space, opening, actor, lives_in, is_shaking, list_to_read, follow, Outcome, refused, by_check, is_own_with, done_check, acknowledge, done_step, command_step, read_by, taken, buffer_taken, got, read_taking, read_fault, read_step, stream_of, change, counted, by_actor, History, IsHistory, Follows, EntryFollows, next}
@@ -13,7 +13,7 @@ use Rattle.bd_laws.proofs.IsInTurn.Ripening.{read-in}
 use Rattle.bd_laws.proofs.IsInTurn.Received.{step-before, opening-before}
 use Rattle.bd_laws.proofs.IsInTurn.Passing.{step-passes}
 use Rattle.bd_laws.proofs.NothingIsPending.Noticing.{Noticing, step-noticing, opening-noticing}
-use Rattle.bd_audit.specs.Hearing.{Event, heard_in, names_own, acknowledged, is_got, is_accepted, heard_by, heard_at, heard_from, heard_of, InOrder}
+use Rattle.bd_audit.specs.Hearing.{Event, heard_in, names_own, is_got, is_accepted, heard_by, heard_at, heard_from, heard_of, InOrder}
 use Rattle.bd_audit.proofs.OwnersHearInOrder.Orders.{hears-append, in-order, Hearing, unheard, hears_all}
 use Rattle.bd_audit.proofs.OwnersHearInOrder.Telling.{follow-told, quiet-step}
 use Rattle.bd_audit.proofs.OwnersHearInOrder.Tracking.{Tracks, HeardBefore}
@@ -42,11 +42,8 @@ unanswered x b q d = search arith
 nothing : (b : Bool) → cond b [] [] ≡ (let none : List Event = [] in none)
 nothing b = search arith
 
-quiet-command : (s : Space) (o : ObjectId) (p : ℕ) (c : command.Command) → not (acknowledges c) ≡ true → acknowledged s o p c ≡ []
-quiet-command s o p c q = search arith
-
 quiet-heard : (s : Space) (o : ObjectId) (a : Actor) (x : Step) (answer : StepAnswer) → is_quiet x ≡ true → heard_by s o a x answer ≡ []
-quiet-heard s o a x answer q = search (arith, quiet-command, nothing)
+quiet-heard s o a x answer q = search (arith, nothing)
 
 module _ (o : ObjectId) (st : Hearing) (s : Space) (before : Before s) (noticing : Noticing s) (h : HeardBefore o st s) (seat : ℕ) (answer : StepAnswer) where
   -- what this seat hears by the step x
@@ -79,13 +76,13 @@ module _ (o : ObjectId) (st : Hearing) (s : Space) (before : Before s) (noticing
       same-events _ [] s (ap (λ y. cond (is_accepted y) (cond (names_own s o a.process.made ptr cookie) (done_event strong ∷ []) []) []) (sym is)) same-space
   done-after a ptr cookie strong (Ok y) e c is =
       let d = done-checked s a.process.made ptr cookie strong y c in
-      let own = find-in (is_own_with a.process.made ptr cookie) y s.objects d.found in
+      let own = find-in (is_own_with a.process.made ptr cookie) y s.objects d.0 in
       let owner : y.owner ≡ a.process.made = eqb-true y.owner a.process.made (both (y.owner == a.process.made) (y.ptr == ptr) (both _ (y.cookie == cookie) own.1).0).0 in
       let live : lives_in s.processes y.owner ≡ true = subst (λ p. lives_in s.processes p ≡ true) (sym owner) (actor-alive s seat a e) in
-      let names : names_own s o a.process.made ptr cookie ≡ same y.id o = ap (λ f. is_some_and f (λ (x : Object). same x.id o)) d.found in
+      let names : names_own s o a.process.made ptr cookie ≡ same y.id o = ap (λ f. is_some_and f (λ (x : Object). same x.id o)) d.0 in
       same-events _ (cond (same y.id o) (done_event strong ∷ []) []) _
       (ap (λ z. cond (is_accepted z) (cond (names_own s o a.process.made ptr cookie) (done_event strong ∷ []) []) []) (sym is) ∙ ap (λ b. cond b (done_event strong ∷ []) []) names)
-      (completed-after o st s before h _ _ (at (same y.id o) refl own.0 live d.shakes))
+      (completed-after o st s before h _ _ (at (same y.id o) refl own.0 live d.1))
     where
       at : (b : Bool) → same y.id o ≡ b → In y s.objects → lives_in s.processes y.owner ≡ true → list_any (is_shaking y.id strong) s.references ≡ true
           → HeardAfter o st s.steps (cond b (done_event strong ∷ []) []) (acknowledge s y.id strong)

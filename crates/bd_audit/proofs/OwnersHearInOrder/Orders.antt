@@ -1,6 +1,7 @@
--- The order in which an owner hears of an object, as states, and what a list of events has that goes through them.
-use Rattle.bd_laws.proofs.words.Logic.{arith}
-use Rattle.bd_laws.proofs.words.Logic.{◌≡◌, ℕ, suc, Bool, true, false, not, ◌||◌, List, [], ◌∷◌, ◌++◌, Option, Some, None, refl, ap, sym, subst, ◌∙◌, filter, append-nil, append_assoc, list_any, is_some, option_and_then}
+-- For OwnersHearInOrder: the order in which an owner hears of an object, as states, and what a list of events has that goes
+-- through them.
+use Rattle.std.proofs.lemmas.List.Folds.{list_any-append}
+use Rattle.bd_laws.proofs.words.Logic.{arith, IfSome, ◌≡◌, ℕ, suc, Bool, true, false, not, ◌||◌, List, [], ◌∷◌, ◌++◌, Option, Some, None, refl, ap, sym, subst, ◌∙◌, filter, append-nil, append_assoc, list_any, is_some, option_and_then}
 use Rattle.bd_audit.specs.Hearing.{Event, increfs, acquire, release, decrefs, increfs_done, acquire_done, is_return, same_event, by_turns, telling, IsAnswered, InOrder}
 
 -- Before its BR_INCREFS; told of the object weakly; told strongly; after its BR_DECREFS. The first value: whether the
@@ -60,14 +61,7 @@ Knows (strongly w a) es = IsAnswered increfs increfs_done (not w) es × IsAnswer
 Knows ended es = Unit {0}
 
 any-push : (v x : Event) (xs : List Event) (b c : Bool) → list_any (same_event v) xs ≡ b → same_event v x ≡ c → list_any (same_event v) (xs ++ x ∷ []) ≡ (b || c)
-any-push v x [] b c h k = or-nil (same_event v x) b c h k
-  where
-    or-nil : (d b c : Bool) → false ≡ b → d ≡ c → (d || false) ≡ (b || c)
-    or-nil d b c h k = search arith
-any-push v x (y ∷ ys) b c h k = first (same_event v y) b h (any-push v x ys (list_any (same_event v) ys) c refl k)
-  where
-    first : (d b : Bool) → (d || list_any (same_event v) ys) ≡ b → list_any (same_event v) (ys ++ x ∷ []) ≡ (list_any (same_event v) ys || c) → (d || list_any (same_event v) (ys ++ x ∷ [])) ≡ (b || c)
-    first d b h k = search arith
+any-push v x xs b c h k = rw (list_any-append (same_event v) xs (x ∷ []), h, k) (search arith)
 
 -- one event more, which isn't the return
 goes-on : (v done x : Event) (b c : Bool) (es : List Event) → same_event v x ≡ false → same_event done x ≡ c → IsAnswered v done b es → IsAnswered v done (b || c) (es ++ x ∷ [])
@@ -82,34 +76,30 @@ goes-past : (v done x : Event) (b : Bool) (es : List Event) → same_event v x �
 goes-past v done x true es other is k = goes-on v done x true false es other is k
 goes-past v done x false es other is k = goes-on v done x false false es other is k
 
-knows-next : (v : Event) (st now : Hearing) (es : List Event) → hears v st ≡ Some now → Knows st es → Knows now (es ++ v ∷ [])
-knows-next increfs unheard now es h k = let is : weakly true ≡ now = cc in subst (λ x. Knows x (es ++ increfs ∷ [])) is (now-told increfs increfs_done es)
-knows-next acquire (weakly w) now es h k =
-    let is : strongly w true ≡ now = cc in
-    subst (λ x. Knows x (es ++ acquire ∷ [])) is (goes-past increfs increfs_done acquire (not w) es refl refl k, now-told acquire acquire_done es)
-knows-next release (strongly w false) now es h k =
-    let is : weakly w ≡ now = cc in subst (λ x. Knows x (es ++ release ∷ [])) is (goes-past increfs increfs_done release (not w) es refl refl k.0)
-knows-next decrefs (weakly false) now es h k = let is : ended ≡ now = cc in subst (λ x. Knows x (es ++ decrefs ∷ [])) is tt
-knows-next increfs_done (weakly true) now es h k =
-    let is : weakly false ≡ now = cc in subst (λ x. Knows x (es ++ increfs_done ∷ [])) is (goes-on increfs increfs_done increfs_done false true es refl refl k)
-knows-next increfs_done (strongly true a) now es h k =
-    let is : strongly false a ≡ now = cc in
-    subst (λ x. Knows x (es ++ increfs_done ∷ [])) is
+-- what is known once an event has come
+abbrev Known : Option Hearing → List Event → Type 0
+Known f es = IfSome f (λ now. Knows now es)
+
+knows-next : (v : Event) (st : Hearing) (es : List Event) → Knows st es → Known (hears v st) (es ++ v ∷ [])
+knows-next increfs unheard es k = now-told increfs increfs_done es
+knows-next acquire (weakly w) es k = (goes-past increfs increfs_done acquire (not w) es refl refl k, now-told acquire acquire_done es)
+knows-next release (strongly w false) es k = goes-past increfs increfs_done release (not w) es refl refl k.0
+knows-next decrefs (weakly false) es k = tt
+knows-next increfs_done (weakly true) es k = goes-on increfs increfs_done increfs_done false true es refl refl k
+knows-next increfs_done (strongly true a) es k =
     (goes-on increfs increfs_done increfs_done false true es refl refl k.0, goes-past acquire acquire_done increfs_done (not a) es refl refl k.1)
-knows-next acquire_done (strongly w true) now es h k =
-    let is : strongly w false ≡ now = cc in
-    subst (λ x. Knows x (es ++ acquire_done ∷ [])) is
+knows-next acquire_done (strongly w true) es k =
     (goes-past increfs increfs_done acquire_done (not w) es refl refl k.0, goes-on acquire acquire_done acquire_done false true es refl refl k.1)
-knows-next v st now es h k = absurd (cc)
+knows-next v st es k = tt
 
 knows-all : (xs past : List Event) (st now : Hearing) → hears_all st xs ≡ Some now → Knows st past → Knows now (past ++ xs)
 knows-all [] past st now h k = let is : st ≡ now = cc in subst (Knows now) (sym (append-nil past)) (subst (λ x. Knows x past) is k)
-knows-all (v ∷ xs) past st now h k = of (hears v st) refl h (λ y g. knows-all xs (past ++ v ∷ []) y now g)
+knows-all (v ∷ xs) past st now h k = of (hears v st) h (knows-next v st past k) (λ y g. knows-all xs (past ++ v ∷ []) y now g)
   where
-    of : (f : Option Hearing) → hears v st ≡ f → option_and_then (λ y. hears_all y xs) f ≡ Some now
+    of : (f : Option Hearing) → option_and_then (λ y. hears_all y xs) f ≡ Some now → Known f (past ++ v ∷ [])
         → ((y : Hearing) → hears_all y xs ≡ Some now → Knows y (past ++ v ∷ []) → Knows now ((past ++ v ∷ []) ++ xs)) → Knows now (past ++ v ∷ xs)
-    of None e g more = absurd (cc)
-    of (Some y) e g more = subst (Knows now) (append_assoc past (v ∷ []) xs) (more y g (knows-next v st y past e k))
+    of None g known more = absurd (cc)
+    of (Some y) g known more = subst (Knows now) (append_assoc past (v ∷ []) xs) (more y g known)
 
 -- ---- lists in two parts
 
@@ -133,26 +123,21 @@ parts (v ∷ xs) ys st h = of (hears v st) (λ y k. parts xs ys y k) h
         → (now : Hearing) × (option_and_then (λ y. hears_all y xs) f ≡ Some now) × (is_some (hears_all now ys) ≡ true)
     of f more k = search arith
 
-at-release : (now : Hearing) (front back : List Event) → is_some (hears_all now (release ∷ back)) ≡ true → Knows now front → IsAnswered acquire acquire_done true front
-at-release now front back h k = search arith
+-- what is known before an event
+abbrev KnownBefore : Event → List Event → Type 0
+KnownBefore release front = IsAnswered acquire acquire_done true front
+KnownBefore decrefs front = IsAnswered increfs increfs_done true front
+KnownBefore acquire_done front = IsAnswered acquire acquire_done false front
+KnownBefore increfs_done front = IsAnswered increfs increfs_done false front
+KnownBefore v front = Unit {0}
 
-at-decrefs : (now : Hearing) (front back : List Event) → is_some (hears_all now (decrefs ∷ back)) ≡ true → Knows now front → IsAnswered increfs increfs_done true front
-at-decrefs now front back h k = search arith
-
-at-acquire_done : (now : Hearing) (front back : List Event) → is_some (hears_all now (acquire_done ∷ back)) ≡ true → Knows now front → IsAnswered acquire acquire_done false front
-at-acquire_done now front back h k = search arith
-
-at-increfs_done : (now : Hearing) (front back : List Event) → is_some (hears_all now (increfs_done ∷ back)) ≡ true → Knows now front → IsAnswered increfs increfs_done false front
-at-increfs_done now front back h k = search arith
+knows-before : (v : Event) (now : Hearing) (front back : List Event) → is_some (hears_all now (v ∷ back)) ≡ true → Knows now front → KnownBefore v front
+knows-before v now front back h k = search arith
 
 pub in-order : (es : List Event) → is_some (hears_all unheard es) ≡ true → InOrder es
-in-order es h = record {
-  told = told-on es unheard h;
-  before_release = λ front back e. let r = at front (release ∷ back) e in at-release r.0 front back r.2 (knows-all front [] unheard r.0 r.1 tt);
-  before_decrefs = λ front back e. let r = at front (decrefs ∷ back) e in at-decrefs r.0 front back r.2 (knows-all front [] unheard r.0 r.1 tt);
-  before_acquire_done = λ front back e. let r = at front (acquire_done ∷ back) e in at-acquire_done r.0 front back r.2 (knows-all front [] unheard r.0 r.1 tt);
-  before_increfs_done = λ front back e. let r = at front (increfs_done ∷ back) e in at-increfs_done r.0 front back r.2 (knows-all front [] unheard r.0 r.1 tt);
-}
+in-order es h = record { told = told-on es unheard h; before_release = at release; before_decrefs = at decrefs; before_acquire_done = at acquire_done; before_increfs_done = at increfs_done }
   where
-    at : (front back : List Event) → es ≡ front ++ back → Parts front back unheard
-    at front back e = parts front back unheard (subst (λ xs. is_some (hears_all unheard xs) ≡ true) e h)
+    at : (v : Event) (front back : List Event) → es ≡ front ++ v ∷ back → KnownBefore v front
+    at v front back e =
+        let r = parts front (v ∷ back) unheard (subst (λ xs. is_some (hears_all unheard xs) ≡ true) e h) in
+        knows-before v r.0 front back r.2 (knows-all front [] unheard r.0 r.1 tt)

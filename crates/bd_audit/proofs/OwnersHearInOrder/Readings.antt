@@ -1,20 +1,24 @@
--- A reading tells of an object what goes on from what was heard of it.
-use Rattle.bd_laws.proofs.words.Logic.{◌≡◌, ℕ, suc, ◌+◌, ◌-◌, ◌≤◌, Bool, true, false, cond, ◌&&◌, List, [], ◌∷◌, ◌++◌, Option, Some, None, inl, inr, refl, ap, sym, subst, ◌∙◌, length, arith, flat_map, filter_map, nat_lt, is_some}
-use Rattle.bd_laws.proofs.words.Types.{Return, ObjectId, Object, Reference, Work, Thread, TodoList}
-use Rattle.bd_laws.proofs.words.Space.{same, Space, lives_in, held_in, strong_in, object_in, is_shaking, is_handshake, same_strength, notice_of, list_to_read, work_on, reads_in, returns_of, returns_of_object, bytes_read, shakes, handshakes, told_objects, told_of, is_told_by, read_by, taken, ends_read}
+-- For OwnersHearInOrder: a reading tells of an object what goes on from what was heard of it.
+use Rattle.bd_laws.proofs.words.Logic.{◌≡◌, ℕ, suc, ◌+◌, ◌-◌, ◌≤◌, Bool, true, false, cond, ◌&&◌, List, [], ◌∷◌, ◌++◌, Some, inl, inr, refl, ap, sym, subst, ◌∙◌, length, arith, flat_map, filter_map, nat_lt}
+use Rattle.bd_laws.proofs.words.Types.{Return, ObjectId, Object, Reference, Handshake, Work, Thread}
+use Rattle.bd_laws.proofs.words.Space.{same, Space, lives_in, held_in, strong_in, object_in, is_shaking, is_handshake, same_strength, notice_of, list_to_read, returns_of, returns_of_object, bytes_read, shakes, handshakes, told_objects, told_of, is_told_by, read_by, taken, ends_read}
 use Rattle.bd_space.specs.declared.space.WorkKind.TheVariants as work
 use Rattle.bd_laws.proofs.words.Laws.{In, Before}
-use Rattle.bd_laws.proofs.Lists.{in-left, in-append, in-changed, any-found, any-in, find-in, find-some, pairs-filter}
+use Rattle.bd_laws.proofs.Lists.{in-left, in-append, in-changed, any-found, any-in, pairs-filter}
 use Rattle.bd_laws.proofs.Tests.{both, and-both, same-eq, eq-same}
 use Rattle.bd_laws.proofs.IsInTurn.Ripening.{taken-in}
 use Rattle.bd_laws.proofs.Objects.{told-id}
 use Rattle.bd_laws.proofs.IsInTurn.Received.{one-object}
 use Rattle.bd_laws.proofs.NothingIsPending.Noticing.{Once, Noticing}
+use Rattle.bd_laws.proofs.FollowingIsLocal.Finding.{find-only}
+use Rattle.bd_laws.proofs.Earlier.{in_order-differ}
+use Rattle.bd_laws.proofs.Fewer.{to-false}
 use Rattle.bd_audit.specs.Hearing.{event_of, heard_in}
 use Rattle.bd_audit.proofs.OwnersHearInOrder.Orders.{Hearing, unheard, hears_all}
 use Rattle.bd_audit.proofs.OwnersHearInOrder.Tallies.{tally, tally-append, tally-first, tally-unmet}
 use Rattle.bd_audit.proofs.OwnersHearInOrder.Tracking.{is_weak, is_strong, waits, number, shaken, Tells, Tracks, HeardBefore, Same, tells-same, shaking-parts}
-use Rattle.bd_audit.proofs.OwnersHearInOrder.Returns.{Silent, is_strength, returns_by, turned, silent-heard, silent-untold, silent-shaken, once-heard, once-shaken, told-or-silent, speaks-told, all-handshakes}
+use Rattle.bd_audit.proofs.OwnersHearInOrder.Returns.{Silent, is_strength, returns_by, turned, silent-heard, silent-untold, silent-shaken, once-heard, once-shaken, told-or-silent, speaks-told}
+use Rattle.bd_laws.proofs.FollowingIsLocal.Handshakes.{is-handshake}
 
 -- ---- reading
 
@@ -28,25 +32,20 @@ strong-held : (references : List Reference) (o : ObjectId) → strong_in referen
 strong-held references o h = search (arith, any-found, held-of, same-eq, both)
 
 -- a Handshake keeps its object, in its strength
-shaken-found : (references : List Reference) (o : ObjectId) (b : Bool) → shaken references o b ≡ 1 → (r : Reference) × In r references × (is_shaking o b r ≡ true)
-shaken-found references o b h = search (arith, any-found, tally-unmet)
-
 shaken-so : (references : List Reference) (o : ObjectId) (b : Bool) → shaken references o b ≡ 1 → cond b (strong_in references o) (held_in references o) ≡ true
-shaken-so references o b h = search (arith, shaken-found, shaking-parts, strong-of, held-of)
+shaken-so references o b h = search (arith, any-found, tally-unmet, shaking-parts, strong-of, held-of)
 
 -- where no Handshake refers to the object, no Handshake does so at all
-unheld : (references : List Reference) (o : ObjectId) → ((r : Reference) → In r references → is_handshake r.holder ≡ true) → ((b : Bool) → shaken references o b ≡ 0) → (r : Reference) → In r references → r.object ≡ o → ⊥
-unheld references o all none r l e = at r.strong refl
+unheld : (references : List Reference) (o : ObjectId) → ((r : Reference) → In r references → r.holder ≡ Handshake) → ((b : Bool) → shaken references o b ≡ 0)
+    → (r : Reference) → In r references → r.object ≡ o → ⊥
+unheld references o all none r l e =
+    let own = and-both (same_strength r.strong r) (same r.object o) (own-strength r r.strong refl) (eq-same r.object o e) in
+    let yes = any-in (is_shaking o r.strong) r references l (and-both (same_strength r.strong r && same r.object o) (is_handshake r.holder) own (ap is_handshake (all r l))) in
+    let first = tally-first (is_shaking o r.strong) references yes in
+    let no = none r.strong in absurd (omega arith)
   where
-    some : (b : Bool) → same_strength b r ≡ true → ⊥
-    some b s =
-        let yes = any-in (is_shaking o b) r references l (and-both (same_strength b r && same r.object o) (is_handshake r.holder) (and-both (same_strength b r) (same r.object o) s (eq-same r.object o e)) (all r l)) in
-        let first = tally-first (is_shaking o b) references yes in
-        let no = none b in absurd (omega arith)
-
-    at : (c : Bool) → r.strong ≡ c → ⊥
-    at true f = some true f
-    at false f = some false (rw f refl)
+    own-strength : (r : Reference) (b : Bool) → r.strong ≡ b → same_strength b r ≡ true
+    own-strength r b e = search arith
 
 returns-found : (s : Space) (o : ObjectId) (y : Object) → object_in s.objects o ≡ Some y
     → returns_of s (work.Notice o) ≡ returns_by (held_in s.references y.id) (strong_in s.references y.id) y.told_weak y.told_strong y.ptr y.cookie
@@ -135,30 +134,18 @@ module _ (o : ObjectId) (st : Hearing) (s : Space) (before : Before s) (noticing
         )
       where
         over-now : held_in s.references o ≡ false → ((b : Bool) → shaken (handshakes s 0 ws) o b ≡ 0) → held_in references_now o ≡ false
-        over-now was none = at (held_in references_now o) refl
-          where
-            at : (c : Bool) → held_in references_now o ≡ c → c ≡ false
-            at false e = refl
-            at true e =
-                let r = any-found (λ (q : Reference). same q.object o) references_now e in
-                let id_r = same-eq r.0.object o r.2 in
-                elim (in-append r.0 s.references (handshakes s 0 ws) r.1) [
-                  | inl i ↦ (let yes = held-of s.references o r.0 i id_r in absurd (cc))
-                  | inr i ↦ absurd (unheld (handshakes s 0 ws) o (λ q m. all-handshakes s o ws 0 q m) none r.0 i id_r)
-                ]
+        over-now was none = to-false (held_in references_now o) (λ e.
+            let r = any-found (λ (q : Reference). same q.object o) references_now e in
+            let id_r = same-eq r.0.object o r.2 in
+            elim (in-append r.0 s.references (handshakes s 0 ws) r.1) [
+              | inl i ↦ (let yes = held-of s.references o r.0 i id_r in absurd (cc))
+              | inr i ↦ absurd (unheld (handshakes s 0 ws) o (is-handshake s ws 0) none r.0 i id_r)
+            ])
 
   reads-one : (w : Work) → In w ws → In w s.todo → notice_of w.kind ≡ Some o → Once ws → Reads
   reads-one w l due e once =
       let x = noticing.live w o due e in
-      at x.0 x.1 x.2 x.3 (object_in s.objects o) refl
-    where
-      at : (x : Object) → In x s.objects → x.id ≡ o → lives_in s.processes x.owner ≡ true → (f : Option Object) → object_in s.objects o ≡ f → Reads
-      at x i is live None f = let yes = find-some (λ (y : Object). same y.id o) x s.objects i (eq-same x.id o is) in absurd (let no : is_some (object_in s.objects o) ≡ false = rw f refl in cc)
-      at x i is live (Some y) f =
-          let k = find-in (λ (y : Object). same y.id o) y s.objects f in
-          let id = same-eq y.id o k.1 in
-          let one : x ≡ y = one-object s before.objects x y i k.0 (is ∙ sym id) in
-          reads-tells once w l e y k.0 id f (h.tracks y k.0 id (subst (λ (z : Object). lives_in s.processes z.owner ≡ true) one live))
+      reads-tells once w l e x.0 x.1 x.2 (find-only s.objects x.0 o (in_order-differ s.objects before.objects.kept.in_order) x.1 x.2) (h.tracks x.0 x.1 x.2 x.3)
 
   pub reads-all : Once ws → ((w : Work) → In w ws → In w s.todo) → Reads
   reads-all once due = elim (told-or-silent s o ws) [ inl w ↦ reads-one w.0 w.1 (due w.0 w.1) w.2 once | inr none ↦ reads-silent none ]
@@ -173,9 +160,6 @@ module _ (s : Space) where
       at : (b c : Bool) → Once (taken s (left - length (bytes_read s x)) xs) → Once (cond b [] (x ∷ cond c [] (taken s (left - length (bytes_read s x)) xs)))
       at b c k = search (arith, taken-in)
 
-  list-once : (todo : List Work) (o : Option TodoList) → Once todo → Once (work_on todo o)
-  list-once todo o h = search (arith, pairs-filter)
-
   pub read-list-once : (t : Thread) (left : ℕ) → Once s.todo → Once (taken s left (list_to_read s t))
   unfolding list_to_read
-  read-list-once t left h = taken-once (work_on s.todo (reads_in s.frames s.todo t)) left (list-once s.todo (reads_in s.frames s.todo t) h)
+  read-list-once t left h = search (arith, taken-once, pairs-filter)

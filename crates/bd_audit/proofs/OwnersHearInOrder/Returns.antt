@@ -1,12 +1,14 @@
--- What a reading tells an owner of one object.
+-- For OwnersHearInOrder, OnlyOwnersHear and NoticesAreDue: what a reading tells an owner of one object.
 use Rattle.bd_laws.proofs.words.Logic.{◌≡◌, ℕ, ◌+◌, Bool, true, false, cond, not, ◌&&◌, List, [], ◌∷◌, ◌++◌, Option, Some, None, ◌⊎◌, inl, inr, refl, ap, sym, ◌∙◌, length, append-nil, arith, flat_map, filter_map}
 use Rattle.bd_laws.proofs.words.Types.{Return, ObjectId, Reference, Handshake, Work, WorkKind}
-use Rattle.bd_laws.proofs.words.Space.{same, is_some_and, Space, reference_of, is_shaking, is_handshake, is_notice, notice_of, returns_of, shakes, handshakes_for, handshakes_of, handshakes, is_told_by}
+use Rattle.bd_laws.proofs.words.Space.{same, is_some_and, Space, reference_of, is_shaking, is_notice, notice_of, returns_of, shakes, handshakes_for, handshakes_of, handshakes, is_told_by}
 use Rattle.bd_uapi.specs.declared.command.Return.TheVariants as br
 use Rattle.bd_space.specs.declared.space.WorkKind.TheVariants as work
 use Rattle.bd_laws.specs.Lists.{In}
-use Rattle.bd_laws.proofs.Lists.{in-append, any-found, any-in}
-use Rattle.bd_laws.proofs.Tests.{same-eq, eq-same, notice-kind}
+use Rattle.bd_laws.proofs.Lists.{any-found, any-in}
+use Rattle.bd_laws.proofs.Tests.{same-eq, eq-same, notice-kind, notice-named}
+use Rattle.bd_laws.proofs.Fewer.{to-false}
+use Rattle.bd_laws.proofs.FollowingIsLocal.Handshakes.{for-object, shaken-by, shaken-object}
 use Rattle.bd_laws.proofs.NothingIsPending.Noticing.{Once, notice-is}
 use Rattle.bd_audit.specs.Hearing.{event_of, heard_in}
 use Rattle.bd_audit.proofs.OwnersHearInOrder.Orders.{Hearing, unheard, weakly, strongly, ended, hears_all}
@@ -30,93 +32,70 @@ module _ (o : ObjectId) (b : Bool) where
   for-own n [] k = refl
   for-own n (c ∷ cs) k = let e = for-own n cs (k + 1) in rw (one-shaking n k b c) omega arith
 
-  for-object : (n : ℕ) (p : ObjectId) (cs : List Bool) (k : ℕ) (r : Reference) → In r (handshakes_for n k p cs) → r.object ≡ p
-  for-object n p [] k r l = absurd l
-  for-object n p (c ∷ cs) k r (inl e) = sym (ap (λ (y : Reference). y.object) e)
-  for-object n p (c ∷ cs) k r (inr l) = for-object n p cs (k + 1) r l
-
 middle-false : (x y z : Bool) → y ≡ false → (x && y && z) ≡ false
 middle-false x y z h = search arith
 
 pub shakes-object : (o : ObjectId) (b : Bool) (r : Reference) → (r.object ≡ o → ⊥) → is_shaking o b r ≡ false
 shakes-object o b r other = search (arith, same-eq, middle-false)
 
+pub notice-of : (kind : WorkKind) (o : ObjectId) → is_notice o kind ≡ true → notice_of kind ≡ Some o
+notice-of kind o e = ap notice_of (notice-kind o kind e)
+
 module _ (s : Space) (o : ObjectId) where
   -- none of them is a Notice of the object
   abbrev pub Silent : List Work → Type 0
   Silent ws = (w : Work) → In w ws → notice_of w.kind ≡ Some o → ⊥
 
-  notice-of : (kind : WorkKind) → is_notice o kind ≡ true → notice_of kind ≡ Some o
-  notice-of kind e = ap notice_of (notice-kind o kind e)
+  unnoticed : (kind : WorkKind) → (notice_of kind ≡ Some o → ⊥) → is_notice o kind ≡ false
+  unnoticed kind h = to-false (is_notice o kind) (λ e. h (notice-of kind o e))
 
   pub silent-heard : (ws : List Work) → Silent ws → heard_in s o ws ≡ []
   silent-heard [] h = refl
-  silent-heard (w ∷ ws) h = at (is_notice o w.kind) refl (silent-heard ws (λ v l. h v (inr l)))
-    where
-      at : (b : Bool) → is_notice o w.kind ≡ b → heard_in s o ws ≡ [] → cond b (filter_map event_of (returns_of s w.kind)) [] ++ heard_in s o ws ≡ []
-      at true e k = absurd (h w (inl refl) (notice-of w.kind e))
-      at false e k = k
+  silent-heard (w ∷ ws) h = rw (unnoticed w.kind (h w (inl refl))) (silent-heard ws (λ v l. h v (inr l)))
 
   pub silent-untold : (ws : List Work) → Silent ws → is_told_by ws o ≡ false
   silent-untold ws h = search (arith, any-found, told-notice)
 
-  both-none : (m n : ℕ) → m ≡ 0 → n ≡ 0 → m + n ≡ 0
-  both-none m n e f = omega arith
-
-  first-none : (m n k : ℕ) → m ≡ 0 → n ≡ k → m + n ≡ k
-  first-none m n k e f = omega arith
-
-  last-none : (m n k : ℕ) → m ≡ k → n ≡ 0 → m + n ≡ k
-  last-none m n k e f = omega arith
+  pub silent-shaken : (ws : List Work) (k : ℕ) (b : Bool) → Silent ws → shaken (handshakes s k ws) o b ≡ 0
+  silent-shaken ws k b h =
+      tally-none (is_shaking o b) (handshakes s k ws)
+      (λ r l. let x = shaken-by s ws k r l in shakes-object o b r (λ e. h x.item x.here (x.tells ∙ ap (λ i. Some i) (sym (shaken-object s ws r x) ∙ e))))
 
   -- the Handshakes for a Notice of another object, or for no Notice
   other-shaken : (f : Option ObjectId) (cs : List Bool) (k : ℕ) (b : Bool) → (f ≡ Some o → ⊥)
       → shaken (elim f as (λ (g : Option ObjectId). List Reference) [ None ↦ [] | Some p ↦ handshakes_for s.steps k p cs ]) o b ≡ 0
   other-shaken None cs k b h = refl
   other-shaken (Some p) cs k b h =
-      tally-none (is_shaking o b) (handshakes_for s.steps k p cs) (λ r l. shakes-object o b r (λ e. h (ap (λ i. Some i) (sym (for-object o b s.steps p cs k r l) ∙ e))))
-
-  pub silent-shaken : (ws : List Work) (k : ℕ) (b : Bool) → Silent ws → shaken (handshakes s k ws) o b ≡ 0
-  silent-shaken [] k b h = refl
-  silent-shaken (w ∷ ws) k b h =
-      let hs = handshakes_of s k w.kind in
-      let e = tally-append (is_shaking o b) hs (handshakes s (k + length hs) ws) in
-      let f = other-shaken (notice_of w.kind) (flat_map shakes (returns_of s w.kind)) k b (h w (inl refl)) in
-      let g = silent-shaken ws (k + length hs) b (λ v l. h v (inr l)) in
-      e ∙ both-none _ _ f g
+      tally-none (is_shaking o b) (handshakes_for s.steps k p cs) (λ r l. shakes-object o b r (λ e. h (ap (λ i. Some i) (sym (for-object s.steps k p cs r l) ∙ e))))
 
   -- one of them, and one alone, is a Notice of the object
   rest-silent : (w : Work) (ws : List Work) → Once (w ∷ ws) → notice_of w.kind ≡ Some o → Silent ws
   rest-silent w ws h e v l f = h.0 v l o e f
 
+  same-notice : (v w : Work) → v ≡ w → notice_of w.kind ≡ Some o → notice_of v.kind ≡ Some o
+  same-notice v w is e = ap (λ (x : Work). notice_of x.kind) is ∙ e
+
   pub once-heard : (ws : List Work) → Once ws → (w : Work) → In w ws → notice_of w.kind ≡ Some o → heard_in s o ws ≡ filter_map event_of (returns_of s (work.Notice o))
   once-heard [] h w l e = absurd l
-  once-heard (v ∷ ws) h w l e = at (is_notice o v.kind) refl l (λ m. once-heard ws h.1 w m e)
-    where
-      at : (b : Bool) → is_notice o v.kind ≡ b → (v ≡ w) ⊎ In w ws → (In w ws → heard_in s o ws ≡ filter_map event_of (returns_of s (work.Notice o)))
-          → cond b (filter_map event_of (returns_of s v.kind)) [] ++ heard_in s o ws ≡ filter_map event_of (returns_of s (work.Notice o))
-      at true f m more =
-          ap (λ k. filter_map event_of (returns_of s k) ++ heard_in s o ws) (notice-kind o v.kind f)
-          ∙ ap (λ es. filter_map event_of (returns_of s (work.Notice o)) ++ es) (silent-heard ws (rest-silent v ws h (notice-of v.kind f)))
-          ∙ append-nil (filter_map event_of (returns_of s (work.Notice o)))
-      at false f (inl is) more = let yes = notice-is v.kind o (ap (λ (x : Work). notice_of x.kind) is ∙ e) in absurd (cc)
-      at false f (inr m) more = more m
+  once-heard (v ∷ ws) h w (inl is) e =
+      let f = same-notice v w is e in
+      rw (notice-is v.kind o f, notice-named v.kind o f, silent-heard ws (rest-silent v ws h f)) (append-nil (filter_map event_of (returns_of s (work.Notice o))))
+  once-heard (v ∷ ws) h w (inr m) e = rw (unnoticed v.kind (λ f. h.0 w m o f e)) (once-heard ws h.1 w m e)
 
   pub once-shaken : (ws : List Work) (k : ℕ) (b : Bool) → Once ws → (w : Work) → In w ws → notice_of w.kind ≡ Some o
       → shaken (handshakes s k ws) o b ≡ tally (is_strength b) (flat_map shakes (returns_of s (work.Notice o)))
   once-shaken [] k b h w l e = absurd l
-  once-shaken (v ∷ ws) k b h w l e =
-      tally-append (is_shaking o b) (handshakes_of s k v.kind) (handshakes s (k + length (handshakes_of s k v.kind)) ws)
-      ∙ at (is_notice o v.kind) refl l (λ m. once-shaken ws (k + length (handshakes_of s k v.kind)) b h.1 w m e)
-    where
-      at : (c : Bool) → is_notice o v.kind ≡ c → (v ≡ w) ⊎ In w ws → (In w ws → shaken (handshakes s (k + length (handshakes_of s k v.kind)) ws) o b ≡ tally (is_strength b) (flat_map shakes (returns_of s (work.Notice o))))
-          → shaken (handshakes_of s k v.kind) o b + shaken (handshakes s (k + length (handshakes_of s k v.kind)) ws) o b ≡ tally (is_strength b) (flat_map shakes (returns_of s (work.Notice o)))
-      at true f m more =
-          last-none _ _ _ (ap (λ i. shaken (handshakes_of s k i) o b) (notice-kind o v.kind f) ∙ for-own o b s.steps (flat_map shakes (returns_of s (work.Notice o))) k)
-          (silent-shaken ws (k + length (handshakes_of s k v.kind)) b (rest-silent v ws h (notice-of v.kind f)))
-      at false f (inl is) more = let yes = notice-is v.kind o (ap (λ (x : Work). notice_of x.kind) is ∙ e) in absurd (cc)
-      at false f (inr m) more =
-          first-none _ _ _ (other-shaken (notice_of v.kind) (flat_map shakes (returns_of s v.kind)) k b (λ g. let yes = notice-is v.kind o g in absurd (cc))) (more m)
+  once-shaken (v ∷ ws) k b h w (inl is) e =
+      let f = same-notice v w is e in
+      let hs = handshakes_of s k v.kind in
+      let both = tally-append (is_shaking o b) hs (handshakes s (k + length hs) ws) in
+      let own = ap (λ i. shaken (handshakes_of s k i) o b) (notice-named v.kind o f) ∙ for-own o b s.steps (flat_map shakes (returns_of s (work.Notice o))) k in
+      let none = silent-shaken ws (k + length hs) b (rest-silent v ws h f) in omega arith
+  once-shaken (v ∷ ws) k b h w (inr m) e =
+      let hs = handshakes_of s k v.kind in
+      let both = tally-append (is_shaking o b) hs (handshakes s (k + length hs) ws) in
+      let none = other-shaken (notice_of v.kind) (flat_map shakes (returns_of s v.kind)) k b (λ f. h.0 w m o f e) in
+      let rest = once-shaken ws (k + length hs) b h.1 w m e in omega arith
 
   pub told-or-silent : (ws : List Work) → ((w : Work) × In w ws × (notice_of w.kind ≡ Some o)) ⊎ Silent ws
   told-or-silent ws = at (is_told_by ws o) refl
@@ -126,23 +105,6 @@ module _ (s : Space) (o : ObjectId) where
 
   pub speaks-told : (ws : List Work) (w : Work) → In w ws → notice_of w.kind ≡ Some o → is_told_by ws o ≡ true
   speaks-told ws w l e = any-in (λ (v : Work). is_some_and (notice_of v.kind) (same o)) w ws l (rw e (eq-same o o refl))
-
-  handshakes-all : (k : ℕ) (p : ObjectId) (cs : List Bool) (r : Reference) → In r (handshakes_for s.steps k p cs) → is_handshake r.holder ≡ true
-  handshakes-all k p [] r l = absurd l
-  handshakes-all k p (c ∷ cs) r (inl e) = sym (ap (λ (y : Reference). is_handshake y.holder) e)
-  handshakes-all k p (c ∷ cs) r (inr l) = handshakes-all (k + 1) p cs r l
-
-  pub all-handshakes : (ws : List Work) (k : ℕ) (r : Reference) → In r (handshakes s k ws) → is_handshake r.holder ≡ true
-  all-handshakes [] k r l = absurd l
-  all-handshakes (w ∷ ws) k r l =
-      elim (in-append r (handshakes_of s k w.kind) (handshakes s (k + length (handshakes_of s k w.kind)) ws) l) [
-        | inl i ↦ of (notice_of w.kind) i
-        | inr i ↦ all-handshakes ws (k + length (handshakes_of s k w.kind)) r i
-      ]
-    where
-      of : (f : Option ObjectId) → In r (elim f as (λ (g : Option ObjectId). List Reference) [ None ↦ [] | Some p ↦ handshakes_for s.steps k p (flat_map shakes (returns_of s w.kind)) ])
-          → is_handshake r.holder ≡ true
-      of f i = search (arith, handshakes-all, shakes)
 
 -- ---- what one Notice tells
 
@@ -165,33 +127,24 @@ abbrev pub Turning : Hearing → Bool → Bool → ℕ → ℕ → Type 0
 Turning st held strong ptr cookie =
     (strong ≡ true → held ≡ true) → ((b : Bool) → waits st b ≡ true → cond b strong held ≡ true) → (st ≡ ended → ⊥) → Turned st held strong (returns_by held strong (is_weak st) (is_strong st) ptr cookie)
 
-at-each : (P : Bool → Type 0) → P true → P false → (b : Bool) → P b
+pub at-each : (P : Bool → Type 0) → P true → P false → (b : Bool) → P b
 at-each P h k b = search arith
 
-first : (ptr cookie : ℕ) (held strong : Bool) → Turning unheard held strong ptr cookie
-first ptr cookie true true up keeps over = record { now = strongly true true; hears = refl; held_now = refl; strong_now = refl; shakes = at-each _ refl refl; over = λ e. absurd (cc) }
-first ptr cookie true false up keeps over = record { now = weakly true; hears = refl; held_now = refl; strong_now = refl; shakes = at-each _ refl refl; over = λ e. absurd (cc) }
-first ptr cookie false true up keeps over = let wrong = up refl in absurd (cc)
-first ptr cookie false false up keeps over = record { now = unheard; hears = refl; held_now = refl; strong_now = refl; shakes = λ b. refl; over = λ e. absurd (cc) }
-
-while-weak : (i : Bool) (ptr cookie : ℕ) (held strong : Bool) → Turning (weakly i) held strong ptr cookie
-while-weak i ptr cookie true true up keeps over = record { now = strongly i true; hears = refl; held_now = refl; strong_now = refl; shakes = at-each _ refl (omega arith); over = λ e. absurd (cc) }
-while-weak i ptr cookie true false up keeps over = record { now = weakly i; hears = refl; held_now = refl; strong_now = refl; shakes = λ b. omega arith; over = λ e. absurd (cc) }
-while-weak i ptr cookie false true up keeps over = let wrong = up refl in absurd (cc)
-while-weak true ptr cookie false false up keeps over = let wrong = keeps false refl in absurd (cc)
-while-weak false ptr cookie false false up keeps over = record { now = ended; hears = refl; held_now = refl; strong_now = refl; shakes = at-each _ refl refl; over = λ e. refl }
-
-while-strong : (i a : Bool) (ptr cookie : ℕ) (held strong : Bool) → Turning (strongly i a) held strong ptr cookie
-while-strong i a ptr cookie true true up keeps over = record { now = strongly i a; hears = refl; held_now = refl; strong_now = refl; shakes = λ b. omega arith; over = λ e. absurd (cc) }
-while-strong i true ptr cookie true false up keeps over = let wrong = keeps true refl in absurd (cc)
-while-strong i false ptr cookie true false up keeps over = record { now = weakly i; hears = refl; held_now = refl; strong_now = refl; shakes = at-each _ refl (omega arith); over = λ e. absurd (cc) }
-while-strong i a ptr cookie false true up keeps over = let wrong = up refl in absurd (cc)
-while-strong true a ptr cookie false false up keeps over = let wrong = keeps false refl in absurd (cc)
-while-strong false true ptr cookie false false up keeps over = let wrong = keeps true refl in absurd (cc)
-while-strong false false ptr cookie false false up keeps over = record { now = ended; hears = refl; held_now = refl; strong_now = refl; shakes = at-each _ refl refl; over = λ e. refl }
-
 pub turned : (st : Hearing) (ptr cookie : ℕ) (held strong : Bool) → Turning st held strong ptr cookie
-turned unheard ptr cookie held strong = first ptr cookie held strong
-turned (weakly i) ptr cookie held strong = while-weak i ptr cookie held strong
-turned (strongly i a) ptr cookie held strong = while-strong i a ptr cookie held strong
-turned ended ptr cookie held strong = λ up keeps over. absurd (over refl)
+turned st ptr cookie false true up keeps over = let wrong = up refl in absurd (cc)
+turned unheard ptr cookie true true up keeps over = record { now = strongly true true; hears = refl; held_now = refl; strong_now = refl; shakes = at-each _ refl refl; over = λ e. absurd (cc) }
+turned unheard ptr cookie true false up keeps over = record { now = weakly true; hears = refl; held_now = refl; strong_now = refl; shakes = at-each _ refl refl; over = λ e. absurd (cc) }
+turned unheard ptr cookie false false up keeps over = record { now = unheard; hears = refl; held_now = refl; strong_now = refl; shakes = λ b. refl; over = λ e. absurd (cc) }
+turned (weakly i) ptr cookie true true up keeps over =
+    record { now = strongly i true; hears = refl; held_now = refl; strong_now = refl; shakes = at-each _ refl (omega arith); over = λ e. absurd (cc) }
+turned (weakly i) ptr cookie true false up keeps over = record { now = weakly i; hears = refl; held_now = refl; strong_now = refl; shakes = λ b. omega arith; over = λ e. absurd (cc) }
+turned (weakly true) ptr cookie false false up keeps over = let wrong = keeps false refl in absurd (cc)
+turned (weakly false) ptr cookie false false up keeps over = record { now = ended; hears = refl; held_now = refl; strong_now = refl; shakes = at-each _ refl refl; over = λ e. refl }
+turned (strongly i a) ptr cookie true true up keeps over = record { now = strongly i a; hears = refl; held_now = refl; strong_now = refl; shakes = λ b. omega arith; over = λ e. absurd (cc) }
+turned (strongly i true) ptr cookie true false up keeps over = let wrong = keeps true refl in absurd (cc)
+turned (strongly i false) ptr cookie true false up keeps over =
+    record { now = weakly i; hears = refl; held_now = refl; strong_now = refl; shakes = at-each _ refl (omega arith); over = λ e. absurd (cc) }
+turned (strongly true a) ptr cookie false false up keeps over = let wrong = keeps false refl in absurd (cc)
+turned (strongly false true) ptr cookie false false up keeps over = let wrong = keeps true refl in absurd (cc)
+turned (strongly false false) ptr cookie false false up keeps over = record { now = ended; hears = refl; held_now = refl; strong_now = refl; shakes = at-each _ refl refl; over = λ e. refl }
+turned ended ptr cookie held strong up keeps over = absurd (over refl)

@@ -1,23 +1,24 @@
--- What an owner was told of an object agrees with what it has heard of it.
-use Rattle.bd_laws.proofs.words.Logic.{◌≡◌, ℕ, ◌+◌, ◌≤◌, ◌==◌, Bool, true, false, not, ◌&&◌, ◌||◌, List, [], ◌∷◌, Option, Some, None, Ok, inl, inr, refl, ap, sym, subst, ◌∙◌, filter, arith, eqb-true}
+-- For OwnersHearInOrder: what an owner was told of an object agrees with what it has heard of it.
+use Rattle.bd_laws.proofs.words.Logic.{◌≡◌, ℕ, ◌+◌, ◌≤◌, ◌==◌, Bool, true, false, not, ◌&&◌, ◌||◌, List, [], ◌∷◌, Option, Ok, inl, inr, refl, ap, sym, subst, ◌∙◌, filter, arith, eqb-true}
 use Rattle.bd_laws.proofs.words.Types.{TransactionData, ObjectId, Parcel, Step, Process, Actor, Frame, Object, Reference, Asked, Manager, Item, OfThread}
-use Rattle.bd_laws.proofs.words.Space.{same, Space, lives_in, reference_of, held_in, owned_in, objects_go, is_asking, is_shaking, is_of_buffer, is_handshake, same_strength, names_go, assign_numbers, closed, owe, ripen, follow, notify, work_goes, deaths_go, Delivery, delivered, own_notices, add_buffer, known_by, refer, make_objects, buffer_references, transaction_check, transacted, called, reply_check, replied, ask, drop_asked, without_buffer, thread_goes, is_lost_reference, threads_go, without_process, is_dropped_with, with_thread, with_process, with_manager, is_spam, with_spam_detection}
+use Rattle.bd_laws.proofs.words.Space.{same, with_looping, Space, lives_in, reference_of, held_in, owned_in, objects_go, is_asking, is_shaking, is_of_buffer, is_handshake, same_strength, names_go, assign_numbers, closed, owe, ripen, follow, notify, work_goes, deaths_go, Delivery, delivered, own_notices, add_buffer, known_by, refer, make_objects, buffer_references, transaction_check, transacted, reply_check, replied, ask, drop_asked, without_buffer, thread_goes, is_lost_reference, threads_go, without_process, is_dropped_with, with_thread, with_process, with_manager, is_spam, with_spam_detection}
 use Rattle.bd_space.specs.declared.space.WorkKind.TheVariants as work
 use Rattle.bd_laws.proofs.words.Laws.{In, Pairs, Differ, KeptBefore, Before}
 use Rattle.bd_laws.proofs.Earlier.{in_order-differ}
+use Rattle.bd_laws.proofs.Fewer.{to-false}
 use Rattle.bd_laws.proofs.Lists.{in-append, in-push, in-last, in-filter, any-found, any-in, pairs-either}
-use Rattle.bd_laws.proofs.Tests.{both, not-true, same-eq}
+use Rattle.bd_laws.proofs.Tests.{both, not-true, not-eq, same-eq}
 use Rattle.bd_laws.proofs.Machine.EveryEnding.{IsReading, IsAcknowledging}
 use Rattle.bd_laws.proofs.Machine.EveryStep.{Keeps}
-use Rattle.bd_laws.proofs.Machine.Untouched.{Untouched, owe-untouched, told-untouched, called-untouched, closed-untouched, ripen-untouched, with_looping-untouched, on_deaths-untouched, tell_deaths-untouched}
+use Rattle.bd_laws.proofs.Machine.Untouched.{Untouched, told-untouched, called-untouched}
 use Rattle.bd_laws.proofs.Checks.{transaction-checked, reply-checked}
 use Rattle.bd_laws.proofs.Sendings.{Sends, sending-sends}
 use Rattle.bd_laws.proofs.KeptBefore.ObjectsKept.{and-false, closed-before, closed-sends, later, threads_go-kept}
-use Rattle.bd_laws.proofs.Machine.Deaths.{on-mapped, on-commands}
+use Rattle.bd_laws.proofs.Machine.Deaths.{KeptOnDeaths, on-kept, on-told, on-commands}
 use Rattle.bd_laws.proofs.Machine.Following.{threads-keep}
-use Rattle.bd_audit.proofs.OwnersHearInOrder.Orders.{Hearing, unheard, ended}
-use Rattle.bd_audit.proofs.OwnersHearInOrder.Tallies.{tally-none}
-use Rattle.bd_audit.proofs.OwnersHearInOrder.Tracking.{is_weak, is_strong, waits, number, shaken, Tells, Tracks, HeardBefore, shaking-parts, own-unasked, own-window, own-buffer, Same, tells-same, same-more, same-filter, same-without}
+use Rattle.bd_audit.proofs.OwnersHearInOrder.Orders.{Hearing}
+use Rattle.bd_audit.proofs.OwnersHearInOrder.Tallies.{tally-none, any-skip}
+use Rattle.bd_audit.proofs.OwnersHearInOrder.Tracking.{is_weak, is_strong, waits, number, shaken, Tracks, HeardBefore, shaking-parts, own-unasked, own-window, own-buffer, Same, tells-same, same-more, same-filter, same-without}
 use Rattle.bd_laws.proofs.Machine.Marks.{marked-lives}
 
 -- ---- parts of a step
@@ -32,38 +33,18 @@ module _ (o : ObjectId) (st : Hearing) where
   pub tracks-weaker : (E : Type 0) (z : Space) → H z → Tracks E o st z
   tracks-weaker E z h x l e live = search arith
 
+  told-on_deaths : KeptOnDeaths H
+  unfolding owe
+  told-on_deaths = record { others = λ z ds h. h; dies = λ z p made h. h; clears = λ z t cookie h. h }
+
   -- where only references change
-  same-told : (objects : List Object) (processes : List Process) (more references : List Reference) → Same o more references
-      → ((x : Object) → In x objects → x.id ≡ o → lives_in processes x.owner ≡ true → Tells ⊥ more o x st)
-      → (x : Object) → In x objects → x.id ≡ o → lives_in processes x.owner ≡ true → Tells ⊥ references o x st
-  same-told objects processes more references k h x l e live = tells-same ⊥ ⊥ o more references x st k (λ n. n) (h x l e live)
-
-  without_buffer-told : (z : Space) (made : ℕ) → H z → H (without_buffer z made)
-  unfolding without_buffer
-  without_buffer-told z made h =
-      same-told z.objects z.processes z.references _ (same-filter o z.references (λ (r : Reference). not (is_of_buffer made r.holder)) (λ r e own. rw (own-buffer r.holder own) refl)) h
-
-  drop_asked-told : (z : Space) (p : ℕ) (i : ObjectId) (strong : Bool) → H z → H (drop_asked z p i strong)
-  unfolding drop_asked
-  drop_asked-told z p i strong h =
-      same-told z.objects z.processes z.references _
-      (same-without o z.references (is_asking p i strong) (λ r own. and-false (same_strength strong r) (same r.object i) _ (own-unasked r.holder p own))) h
-
-  ask-told : (z : Space) (p : ℕ) (i : ObjectId) (strong : Bool) → H z → H (ask z p i strong)
-  unfolding ask assign_numbers
-  ask-told z p i strong h =
-      same-told z.objects z.processes z.references _
-      (same-more o z.references (reference_of z.steps 0 i strong (Asked p) ∷ [])
-      (λ r l. elim l [ inl e ↦ (let is = ap (λ (q : Reference). is_handshake q.holder) e in sym is) | inr none ↦ absurd none ])) h
+  same-told : (z : Space) (references : List Reference) → Same o z.references references → H z → H (record z { references = references })
+  same-told z references k h x l e live = tells-same ⊥ ⊥ o z.references references x st k (λ n. n) (h x l e live)
 
   thread_goes-told : (z : Space) (seat : ℕ) → H z → H (thread_goes z seat)
   unfolding thread_goes
   thread_goes-told z seat h =
-      same-told z.objects z.processes z.references _
-      (same-filter o z.references (λ (r : Reference). not (is_lost_reference z.todo (OfThread seat) r)) (λ r e own. rw (own-buffer r.holder own) refl)) h
-
-  threads_go-told : (z : Space) (p : ℕ) → H z → H (threads_go z p)
-  threads_go-told = threads-keep H thread_goes-told
+      same-told z _ (same-filter o z.references (λ (r : Reference). not (is_lost_reference z.todo (OfThread seat) r)) (λ r e own. rw (own-buffer r.holder own) refl)) h
 
   -- ---- a process ends
 
@@ -74,6 +55,9 @@ module _ (o : ObjectId) (st : Hearing) where
   -- a process that lives after p has ended lived before, and isn't p
   outlives : (processes : List Process) (p q : ℕ) → lives_in (filter (λ y. not (y.made == p)) processes) q ≡ true → (lives_in processes q ≡ true) × (q ≡ p → ⊥)
   outlives processes p q h = search (arith, any-found, in-filter, eqb-true, any-in, not-true)
+
+  one-unshaken : (r : Reference) → is_handshake r.holder ≡ false → (q : Reference) → In q (r ∷ []) → is_handshake q.holder ≡ false
+  one-unshaken r none q l = search arith
 
   without_process-told : (z : Space) (p : ℕ) → Pairs Differ z.objects → H z → H (without_process z p)
   unfolding without_process
@@ -90,29 +74,16 @@ module _ (o : ObjectId) (st : Hearing) where
 
   -- nothing refers to an object that isn't there yet
   pub unreferred : (s : Space) → KeptBefore s → s.steps ≤ o.place → (b : Bool) → shaken s.references o b ≡ 0
-  unreferred s k new b = tally-none (is_shaking o b) s.references (λ r l. at r l (is_shaking o b r) refl)
-    where
-      at : (r : Reference) → In r s.references → (c : Bool) → is_shaking o b r ≡ c → c ≡ false
-      at r l false e = refl
-      at r l true e =
-          let x = k.kept.refs r l in
-          let lt = k.kept.below x.0 x.1 in
-          let is : x.0.id.place ≡ o.place = ap (λ (i : ObjectId). i.place) (x.2 ∙ (shaking-parts o b r e).0) in
-          absurd (omega arith)
+  unreferred s k new b = tally-none (is_shaking o b) s.references (λ r l. to-false (is_shaking o b r) (λ e.
+      let x = k.kept.refs r l in
+      let lt = k.kept.below x.0 x.1 in
+      let is : x.0.id.place ≡ o.place = ap (λ (i : ObjectId). i.place) (x.2 ∙ (shaking-parts o b r e).0) in
+      absurd (omega arith)))
 
   opened-told : (s : Space) (seat pid euid window : ℕ) → Before s → H s → H (with_thread (with_process s pid euid window) seat s.steps)
   unfolding with_thread with_process
   opened-told s seat pid euid window before h x l e live =
-      let q = any-found (λ (y : Process). y.made == x.owner) _ live in
-      let is : q.0.made ≡ x.owner = eqb-true q.0.made x.owner q.2 in
-      h x l e (elim (in-push q.0 _ s.processes q.1) [
-        | inl i ↦ any-in (λ (y : Process). y.made == x.owner) q.0 s.processes i q.2
-        | inr new ↦ (let made : s.steps ≡ q.0.made = ap (λ (y : Process). y.made) new in let lt = before.received.owners x l in absurd (omega arith))
-      ])
-
-  attached-told : (s : Space) (seat p : ℕ) → H s → H (with_thread s seat p)
-  unfolding with_thread
-  attached-told s seat p h = h
+      h x l e (sym (any-skip (λ (q : Process). q.made == x.owner) s.processes _ (not-eq s.steps x.owner (λ is. let lt = before.received.owners x l in absurd (omega arith)))) ∙ live)
 
   marked-told : (s : Space) (p : ℕ) (on : Bool) → H s → H (with_spam_detection s p on)
   unfolding with_spam_detection
@@ -122,7 +93,7 @@ module _ (o : ObjectId) (st : Hearing) where
   unfolding with_manager
   managed-told s p before h x l e live =
       let r = reference_of s.steps 0 (record { place = s.steps; index = 0 }) true Manager in
-      let k = same-more o s.references (r ∷ []) (λ q i. elim i [ inl f ↦ (let is = ap (λ (y : Reference). is_handshake y.holder) f in sym is) | inr none ↦ absurd none ]) in
+      let k = same-more o s.references (r ∷ []) (one-unshaken r refl) in
       elim (in-push x _ s.objects l) [
         | inl i ↦ tells-same ⊥ ⊥ o s.references _ x st k (λ n. n) (h.tracks x i e live)
         | inr is ↦ (
@@ -138,15 +109,9 @@ module _ (o : ObjectId) (st : Hearing) where
             }))
       ]
 
-  not-ended : st ≡ unheard → st ≡ ended → ⊥
-  not-ended h k = absurd (cc)
-
   buffer-unshaken : (b q : ℕ) (items : List Item) (target : Option ObjectId) (k : ℕ) (r : Reference) → In r (buffer_references b q k items target) → is_handshake r.holder ≡ false
-  buffer-unshaken b q [] None k r l = absurd l
-  buffer-unshaken b q [] (Some i) k r (inl e) = sym (ap (λ (y : Reference). is_handshake y.holder) e)
-  buffer-unshaken b q [] (Some i) k r (inr l) = absurd l
-  buffer-unshaken b q (x ∷ xs) target k r (inl e) = sym (ap (λ (y : Reference). is_handshake y.holder) e)
-  buffer-unshaken b q (x ∷ xs) target k r (inr l) = buffer-unshaken b q xs target (k + 1) r l
+  buffer-unshaken b q [] target k r l = search arith
+  buffer-unshaken b q (x ∷ xs) target k r l = search (arith, buffer-unshaken b q xs target (k + 1) r)
 
   delivered-told : (s : Space) (a : Actor) (d : TransactionData) (v : Delivery) → KeptBefore s → HeardBefore o st s → Sends s a.process.made v.sending.made v.sending.items → H (delivered s a d v)
   unfolding delivered own_notices add_buffer known_by assign_numbers refer make_objects
@@ -164,36 +129,25 @@ module _ (o : ObjectId) (st : Hearing) where
               weak = untold.0 ∙ sym (ap is_weak start);
               strong = untold.1 ∙ sym (ap is_strong start);
               shakes = λ b. k.shakes b ∙ unreferred s kept new b ∙ sym (ap (λ (y : Hearing). number (waits y b)) start);
-              over = not-ended start;
+              over = λ e. absurd (cc);
             }))
       ]
 
   transacted-told : (s : Space) (a : Actor) (d : TransactionData) (parcel : Option Parcel) (v : Delivery) → KeptBefore s → HeardBefore o st s → transaction_check s a d parcel ≡ Ok v → H (transacted s a d v)
-  unfolding transacted
+  unfolding transacted owe
   transacted-told s a d parcel v kept h check =
-      let t = transaction-checked s a d parcel v check in
-      let z = delivered s a d v in
-      let y = owe z (OfThread a.thread.seat) (work.Complete (is_spam z a v)) in
-      tracks-untouched ⊥ (called y a.thread.seat v.receiver.made v.one_way) y (called-untouched y a.thread.seat v.receiver.made v.one_way)
-      (tracks-untouched ⊥ y z (owe-untouched z (OfThread a.thread.seat) (work.Complete (is_spam z a v)))
-      (delivered-told s a d v kept h (sending-sends s a.process.made d parcel v.sending t.sends)))
-
-  closed-heard : (s : Space) (made : ℕ) → HeardBefore o st s → HeardBefore o st (closed s made)
-  unfolding closed
-  closed-heard s made h = record { tracks = h.tracks; fresh = h.fresh }
+      let y = owe (delivered s a d v) (OfThread a.thread.seat) (work.Complete (is_spam (delivered s a d v) a v)) in
+      tracks-untouched ⊥ _ y (called-untouched y a.thread.seat v.receiver.made v.one_way)
+      (delivered-told s a d v kept h (sending-sends s a.process.made d parcel v.sending (transaction-checked s a d parcel v check).sends))
 
   replied-told : (s : Space) (a : Actor) (d : TransactionData) (parcel : Option Parcel) (f : Frame) (v : Delivery) → KeptBefore s → HeardBefore o st s → reply_check s a d parcel f ≡ Ok v
       → H (replied s a d f v)
-  unfolding replied
+  unfolding replied owe closed
   replied-told s a d parcel f v kept h check =
-      let t = reply-checked s a d parcel f v check in
-      let x = closed s f.made in
-      let z = delivered x a d v in
-      let y = owe z (OfThread a.thread.seat) (work.Complete false) in
+      let y = owe (delivered (closed s f.made) a d v) (OfThread a.thread.seat) (work.Complete false) in
       tracks-untouched ⊥ _ y (told-untouched y f.caller (work.Reply s.steps))
-      (tracks-untouched ⊥ y z (owe-untouched z (OfThread a.thread.seat) (work.Complete false))
-      (delivered-told x a d v (closed-before s f.made kept) (closed-heard s f.made h)
-      (closed-sends s f.made a.process.made v.sending.made v.sending.items (sending-sends s a.process.made d parcel v.sending t.sends))))
+      (delivered-told (closed s f.made) a d v (closed-before s f.made kept) (record { tracks = h.tracks; fresh = h.fresh })
+      (closed-sends s f.made a.process.made v.sending.made v.sending.items (sending-sends s a.process.made d parcel v.sending (reply-checked s a d parcel f v check).sends)))
 
   -- ---- what follows
 
@@ -208,33 +162,36 @@ module _ (o : ObjectId) (st : Hearing) where
   -- ---- a step that neither reads nor acknowledges
 
   pub quiet-step : (s : Space) (seat : ℕ) (x : Step) → Before s → HeardBefore o st s → (IsReading x → ⊥) → ((b : Bool) → IsAcknowledging x b → ⊥) → Keeps s seat x H H
+  unfolding with_thread without_buffer ask assign_numbers drop_asked with_looping ripen closed owe
   quiet-step s seat x before h no_read no_done =
       let kept = before.objects in
       record {
         set_up = record {
           same = h.tracks;
           opened = λ pid euid window free. opened-told s seat pid euid window before h.tracks;
-          attached = λ p free. attached-told s seat p h.tracks;
+          attached = λ p free. h.tracks;
           managed = λ a e b. managed-told s a.process.made before h;
           marked = λ p on. marked-told s p on h.tracks;
         };
         changes = record {
           transacts = λ a d parcel v e i t. transacted-told s a d parcel v kept h t;
           replies = λ a d parcel f v e i g t. replied-told s a d parcel f v kept h t;
-          frees = λ p ptr b e t. without_buffer-told s b.made h.tracks;
-          asks = λ a n strong i e j t. ask-told s a.process.made i strong h.tracks;
-          drops = λ p i strong. drop_asked-told s p i strong h.tracks;
+          frees = λ p ptr b e t. same-told s _ (same-filter o s.references (λ (r : Reference). not (is_of_buffer b.made r.holder)) (λ r e own. rw (own-buffer r.holder own) refl)) h.tracks;
+          asks = λ a n strong i e j t. same-told s _ (same-more o s.references (reference_of s.steps 0 i strong (Asked a.process.made) ∷ []) (one-unshaken _ refl)) h.tracks;
+          drops = λ p i strong. same-told s _
+              (same-without o s.references (is_asking p i strong) (λ r own. and-false (same_strength strong r) (same r.object i) _ (own-unasked r.holder p own))) h.tracks;
           acknowledges = λ i strong done. absurd (no_done strong done);
-          loops = λ t looping. tracks-untouched ⊥ _ s (with_looping-untouched s t looping) h.tracks;
-          on_deaths = on-commands s _ (on-mapped s _ _ (λ y k. tracks-untouched ⊥ y s k h.tracks) (on_deaths-untouched s));
+          loops = λ t looping. h.tracks;
+          on_deaths = on-commands s _ (on-kept H told-on_deaths s h.tracks);
           reads = λ a limit e i n. absurd (no_read (limit, i));
           leaves = λ a e. thread_goes-told s a.thread.seat h.tracks;
-          ends = λ a e. tracks-untouched ⊥ _ (without_process (threads_go s a.process.made) a.process.made) (tell_deaths-untouched (without_process (threads_go s a.process.made) a.process.made) a.process.made)
-              (without_process-told (threads_go s a.process.made) a.process.made (in_order-differ _ (threads_go-kept s a.process.made (later s kept).kept).in_order) (threads_go-told s a.process.made h.tracks));
-          ripens = λ z k. tracks-untouched ⊥ (ripen z) z (ripen-untouched z) k;
+          ends = λ a e. on-told H told-on_deaths (without_process (threads_go s a.process.made) a.process.made) a.process.made
+              (without_process-told (threads_go s a.process.made) a.process.made (in_order-differ _ (threads_go-kept s a.process.made (later s kept).kept).in_order)
+              (threads-keep H thread_goes-told s a.process.made h.tracks));
+          ripens = λ z k. k;
         };
         follows = λ z k. follow-told z (tracks-weaker _ z k);
-        closes = λ z made k. tracks-untouched ⊥ (closed z made) z (closed-untouched z made) k;
-        refuses = λ z t r k. tracks-untouched ⊥ _ z (owe-untouched z (OfThread t) (work.Refusal r)) k;
-        tells = λ z t r k. tracks-untouched ⊥ _ z (owe-untouched z (OfThread t) (work.Verdict r)) k;
+        closes = λ z made k. k;
+        refuses = λ z t r k. k;
+        tells = λ z t r k. k;
       }

@@ -1,7 +1,6 @@
--- What has been heard of an object, what was told of it, and references that keep it.
-use Rattle.bd_laws.proofs.words.Logic.{arith}
-use Rattle.bd_laws.proofs.words.Logic.{◌≡◌, ℕ, ◌≤◌, Bool, true, false, cond, List, ◌++◌, None, ◌⊎◌, refl, filter}
-use Rattle.bd_laws.proofs.words.Types.{ObjectId, Object, Reference, Holder, Handshake, Manager}
+-- For OwnersHearInOrder: what has been heard of an object, what was told of it, and references that keep it.
+use Rattle.bd_laws.proofs.words.Logic.{arith, ◌≡◌, ℕ, ◌≤◌, Bool, true, false, cond, List, ◌++◌, None, ◌⊎◌, filter}
+use Rattle.bd_laws.proofs.words.Types.{ObjectId, Object, Reference, Holder, Manager}
 use Rattle.bd_laws.proofs.words.Space.{without_first, Space, lives_in, is_asked_by, is_shaking, is_in_window, is_handshake, is_of_owner, buffer_of_holder, same_strength}
 use Rattle.bd_laws.proofs.words.Laws.{In}
 use Rattle.bd_laws.proofs.Lists.{in-left, filter-in, without-in}
@@ -75,17 +74,14 @@ shaking-parts o b r h = search (arith, both, same-eq)
 handshake-own : (h : Holder) → is_handshake h ≡ true → is_of_owner h ≡ true
 handshake-own h e = search arith
 
-own-holder : (h : Holder) (P : Holder → Type 0) → is_of_owner h ≡ true → P Handshake → P Manager → P h
-own-holder h P e a b = search arith
-
 pub own-unasked : (h : Holder) (p : ℕ) → is_of_owner h ≡ true → is_asked_by p h ≡ false
-own-unasked h p e = own-holder h (λ k. is_asked_by p k ≡ false) e refl refl
+own-unasked h p e = search arith
 
 pub own-window : (h : Holder) (p : ℕ) → is_of_owner h ≡ true → is_in_window p h ≡ false
-own-window h p e = own-holder h (λ k. is_in_window p k ≡ false) e refl refl
+own-window h p e = search arith
 
 pub own-buffer : (h : Holder) → is_of_owner h ≡ true → buffer_of_holder h ≡ None
-own-buffer h e = own-holder h (λ k. buffer_of_holder k ≡ None) e refl refl
+own-buffer h e = search arith
 
 -- the owner's own references on the object are the same
 pub record Same (o : ObjectId) (more references : List Reference) : Type 0 where

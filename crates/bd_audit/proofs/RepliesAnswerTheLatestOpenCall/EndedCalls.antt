@@ -1,16 +1,15 @@
--- Each call of a thread that lives is open, or was answered: what its thread is told of that stands on the thread's list
--- until it is read.
-use Rattle.bd_laws.proofs.words.Logic.{◌≡◌, ℕ, ◌+◌, ◌<◌, ◌-◌, ◌==◌, Bool, true, false, cond, not, List, [], ◌∷◌, ◌++◌, length, length-append, Some, None, ◌⊎◌, inl, inr, refl, ap, sym, subst, ◌∙◌, arith, list_any, find, eqb-true, eq-eqb, cases_lt}
-use Rattle.bd_laws.proofs.words.Types.{TransactionData, DeadReply, FailedReply, TransactionComplete, Read, Entry, Work, Frame, Actor, TodoList, OfThread}
-use Rattle.bd_laws.proofs.words.Space.{Space, opening, actor, closed, is_frame, is_deepest_in, served_innermost, owe, is_on, is_item, is_call, same_list, list_to_read, ripen, follow, is_abandoned, Delivery, delivered, refusal, replied, reply_refused, read_by, taken, serve, read_fault, change, counted, after}
+-- RepliesAnswerTheLatestOpenCall: each call of a thread that lives is open, or was answered: what its thread is told of that
+-- stands on the thread's list until it is read.
+use Rattle.bd_laws.proofs.words.Logic.{◌≡◌, ℕ, ◌<◌, ◌-◌, ◌==◌, Bool, true, false, not, List, [], ◌∷◌, ◌++◌, length, filter, Some, None, ◌⊎◌, inl, inr, refl, ap, sym, subst, ◌∙◌, arith, list_any, eqb-true, eq-eqb}
+use Rattle.bd_laws.proofs.words.Types.{DeadReply, FailedReply, TransactionComplete, Read, Entry, Work, Frame, Actor, OfThread, WorkKind}
+use Rattle.bd_laws.proofs.words.Space.{Space, opening, actor, closed, is_frame, is_deepest_in, served_innermost, owe, is_item, list_to_read, ripen, follow, notify, work_goes, deaths_go, names_go, objects_go, is_abandoned, refusal, replied, reply_refused, read_by, taken, read_fault, change, counted, after}
 use Rattle.bd_space.specs.declared.space.WorkKind.TheVariants as work
 use Rattle.bd_laws.specs.Lists.{In}
-use Rattle.bd_laws.proofs.Machine.EveryStep.{KeepsWhole, whole, keeps-both, every_whole_step}
+use Rattle.bd_laws.proofs.Machine.EveryStep.{KeepsWhole, keeps-both, every_whole_step}
 use Rattle.bd_laws.proofs.Machine.Table.{Any, set_up-by, changes-by, ripen-by, followed-by}
-use Rattle.bd_laws.proofs.Lists.{in-filter, filter-in, changed-in, find-in, any-found, any-in, by-last}
-use Rattle.bd_laws.proofs.Tests.{both, and-both, not-false}
+use Rattle.bd_laws.proofs.Lists.{in-filter, filter-in, find-in, any-found, any-in, by-last}
+use Rattle.bd_laws.proofs.Tests.{and-both, not-false}
 use Rattle.bd_laws.proofs.IsInTurn.Ripening.{read-in}
-use Rattle.bd_laws.proofs.ItemsAreToldApart.Identities.{item-id}
 use Rattle.bd_laws.proofs.OnPaths.PathWords.{served-is}
 use Rattle.bd_audit.specs.Replies.{made_in, thread_made, items_taken, Calls, At}
 use Rattle.bd_audit.specs.Latest.{Closes, ReadsAnswer, is_answer, is_answer_of}
@@ -18,16 +17,14 @@ use Rattle.bd_audit.proofs.Beginnings.{after-append}
 use Rattle.bd_audit.proofs.NamesHaveGiftChains.Chains.{always-steps}
 use Rattle.bd_audit.proofs.RepliesReachTheirCallers.Answering.{absent, closed-absent, always-traced, takes-items}
 use Rattle.bd_audit.proofs.RepliesReachTheirCallers.Traces.{Called, at-more, at-here, at-below, actor-made}
-use Rattle.bd_audit.proofs.RepliesReachTheirCallers.ReplyLaw.{NoFrame, stood, placed}
-use Rattle.bd_audit.proofs.Seated.{always-seated}
-use Rattle.bd_audit.proofs.RepliesAnswerTheLatestOpenCall.Callers as callers
-use Rattle.bd_audit.proofs.RepliesAnswerTheLatestOpenCall.Callers.{HasCallers, always-callers, called-before, seat-below}
-use Rattle.bd_audit.proofs.RepliesAnswerTheLatestOpenCall.Lined.{always-lined}
-use Rattle.bd_audit.proofs.RepliesAnswerTheLatestOpenCall.Unread.{Holds, Leaves, leaves_table, leaves_exits, holds-trans, holds-owe, sent-holds, transacted-leaves}
-use Rattle.bd_laws.proofs.Machine.Fields.{sent-steps, sent-frames, sent-threads}
-use Rattle.bd_audit.proofs.RepliesAnswerTheLatestOpenCall.OpenCalls.{StandsIn, Waits, WasRead, Answered, was-more, holds-waits, told, told-frames, told-threads, told-steps, told-holds, told-waits, called-stands, read-on}
-
--- ---- one step
+use Rattle.bd_audit.proofs.RepliesReachTheirCallers.ReplyLaw.{NoFrame}
+use Rattle.bd_audit.proofs.TurnsTellOfCalls.TurnsTelling.{at-split}
+use Rattle.bd_audit.proofs.RepliesAnswerTheLatestOpenCall.Callers.{HasCallers, Comes, comes-kept, callers-within, always-callers, made-first}
+use Rattle.bd_audit.proofs.RepliesAnswerTheLatestOpenCall.Lined.{always-told}
+use Rattle.bd_audit.proofs.RepliesAnswerTheLatestOpenCall.Unread as part
+use Rattle.bd_audit.proofs.RepliesAnswerTheLatestOpenCall.Unread.{Held, Leaves, leaves_table, leaves_exits, holds_table, holds-owe, sent-holds, read-stay}
+use Rattle.bd_laws.proofs.Machine.Fields.{sent-steps, sent-frames, sent-threads, told-frames}
+use Rattle.bd_audit.proofs.RepliesAnswerTheLatestOpenCall.OpenCalls.{StandsIn, Waits, WasRead, Answered, was-more, holds-waits, told, told-threads, told-holds, told-waits, called-stands, read-on}
 
 module _ (es : List Entry) (e : Entry) (h : Answered es (after opening es)) where
   abbrev s : Space
@@ -36,212 +33,164 @@ module _ (es : List Entry) (e : Entry) (h : Answered es (after opening es)) wher
   abbrev more : List Entry
   more = es ++ e ∷ []
 
-  -- within the step: a frame that it closes leaves its caller something to read
-  abbrev Midway : Space → ℕ → ℕ → ℕ → Type 0
-  Midway z j m t =
-      (StandsIn s j × StandsIn z j)
-      ⊎ ((StandsIn s j × NoFrame j z × Waits z t (length es)) ⊎ (((d : ℕ) × At es d (λ y f. Closes y f j) × Waits z t d) ⊎ WasRead more j m))
+  -- Within the step: a frame of a call that it closes leaves its caller something to read, and what a caller was to read stays
+  -- until the step reads it.
+  record Ends (z : Space) : Type 0 where
+    calls : (j m t : ℕ) → Called es j m → thread_made z t ≡ Some m → StandsIn s j → StandsIn z j ⊎ (NoFrame j z × Waits z t (length es))
+    answers : (w : Work) (t m : ℕ) → m < s.steps → thread_made z t ≡ Some m → w.list ≡ OfThread t → is_answer w.kind ≡ true → In w s.todo
+        → In w z.todo ⊎ ((t ≡ e.seat) × In w (items_taken s e.seat e.step))
 
-  abbrev Now : Space → Type 0
-  Now z = (z.steps ≡ length es) × ((j m t : ℕ) → Called es j m → thread_made z t ≡ Some m → Midway z j m t)
+  early : (j m : ℕ) → Called es j m → m < s.steps
+  early j m c = let lt = made-first es j m c in let below = at-below es j (λ z e. Calls z e m) c in let place = always-steps es in omega arith
 
-  now : Now s
-  now = search (arith, always-steps, was-more)
+  left : (z : Space) → Leaves z s → Ends z
+  left z k = record {
+    calls = λ j m t c i o. let g = k.stay o.0 o.1 in inl (g.0, g.1, g.2.made ∙ o.2);
+    answers = λ w t m lt i on a l. inl (k.answers w t m lt i on a l);
+  }
 
-  thread-below : (j m : ℕ) → Called es j m → m < length es
-  thread-below j m c =
-      let lt = seat-below c.0 m c.1.seat (always-seated c.0 c.1.seat m c.3.by) in
-      let at = c.2.at in let below = at-below es j (λ z e. Calls z e m) c in omega arith
+  now : Ends s
+  now = left s (leaves_table.same s)
 
-  leaves : (z y : Space) → Leaves z y → Now y → Now z
-  leaves z y k n = (
-    k.steps ∙ n.0,
-    λ j m t c i.
-        let early : m < y.steps = (let lt = thread-below j m c in let at = n.0 in omega arith) in
-        let called : j < y.steps = (let lt = at-below es j (λ z e. Calls z e m) c in let at = n.0 in omega arith) in
-        let waits : (d : ℕ) → Waits y t d → Waits z t d = λ d v. (v.0, k.answers v.0 t m early i v.2 v.3 v.1, v.2, v.3, v.4) in
-        elim (n.1 j m t c (k.threads t m early i)) [
-          | inl o ↦ (let g = k.stay o.1.0 o.1.1 in inl (o.0, (g.0, g.1, g.2 ∙ o.1.2)))
-          | inr x ↦ elim x [
-            | inl w ↦ inr (inl (w.0, (λ f l is. elim (k.came f l) [ inl g ↦ w.1 g.0 g.1 (sym g.2 ∙ is) | inr at ↦ absurd (omega arith) ]), waits (length es) w.2))
-            | inr u ↦ elim u [ inl w ↦ inr (inr (inl (w.0, w.1, waits w.0 w.2))) | inr r ↦ inr (inr (inr r)) ]
-          ]
-        ],
-  )
-
-  -- ---- a frame closes, and its caller is told
-
-  closes : (z y : Space) (f : Frame) → z.steps ≡ y.steps → z.threads ≡ y.threads → z.frames ≡ (closed y f.made).frames → Holds z.todo y.todo
-      → ((t : ℕ) → f.caller ≡ Some t → Waits z t (length es)) → In f y.frames → HasCallers more y → Now y → Now z
-  unfolding closed
-  closes z y f steps threads frames todo tells here callers_are n = (
-    steps ∙ n.0,
-    λ j m t c i.
-        let was : thread_made y t ≡ Some m = ap (λ ts. made_in ts t) (sym threads) ∙ i in
-        elim (n.1 j m t c was) [
-          | inl o ↦ closing j m t c was (f.made == j) refl o
-          | inr x ↦ elim x [
-            | inl w ↦ inr (inl (w.0, (λ g l is. w.1 g (in-filter (λ (x : Frame). not (is_frame f.made x)) g y.frames (subst (In g) frames l)).0 is), holds-waits z y t (length es) todo w.2))
-            | inr u ↦ elim u [ inl w ↦ inr (inr (inl (w.0, w.1, holds-waits z y t w.0 todo w.2))) | inr r ↦ inr (inr (inr r)) ]
-          ]
-        ],
-  )
+  -- what only frames leave, with callers who are told
+  changes : (z y : Space) → z.threads ≡ y.threads → ((f : Frame) → In f z.frames → In f y.frames) → Held z y
+      → ((j m t : ℕ) → Called es j m → thread_made y t ≡ Some m → StandsIn y j → StandsIn z j ⊎ (NoFrame j z × Waits z t (length es))) → Ends y → Ends z
+  changes z y threads frames todo goes n = record {
+    calls = λ j m t c i o. elim (n.calls j m t c (was t m i) o) [
+      | inl x ↦ goes j m t c (was t m i) x
+      | inr x ↦ inr (λ f l. x.0 f (frames f l), holds-waits z y t (length es) todo x.1)
+    ];
+    answers = λ w t m lt i on a l. elim (n.answers w t m lt (was t m i) on a l) [ inl x ↦ inl (todo w a x) | inr r ↦ inr r ];
+  }
     where
-      other : (j : ℕ) (g : Frame) → g.made ≡ j → (f.made == j) ≡ false → is_frame f.made g ≡ false
-      other j g is apart = search (arith, eqb-true, eq-eqb)
+      was : (t m : ℕ) → thread_made z t ≡ Some m → thread_made y t ≡ Some m
+      was t m i = ap (λ ts. made_in ts t) (sym threads) ∙ i
 
-      closing : (j m t : ℕ) → Called es j m → thread_made y t ≡ Some m → (b : Bool) → (f.made == j) ≡ b → StandsIn s j × StandsIn y j → Midway z j m t
-      closing j m t c was true q o =
+  later : (z y : Space) → z.threads ≡ y.threads → z.frames ≡ y.frames → Held z y → Ends y → Ends z
+  later z y threads frames todo = changes z y threads (λ f l. subst (In f) frames l) todo (λ j m t c i x. inl (x.0, subst (In x.0) (sym frames) x.1, x.2))
+
+  -- a frame closes, and its caller is told
+  closes : (x y : Space) (f : Frame) (kind : WorkKind) → is_answer kind ≡ true → x.steps ≡ s.steps → x.threads ≡ y.threads → x.frames ≡ (closed y f.made).frames → Held x y → In f y.frames
+      → HasCallers more y → Ends y → Ends (told x f.caller kind)
+  unfolding closed
+  closes x y f kind is_one steps threads frames todo here callers_are = changes z y (told-threads x f.caller kind ∙ threads)
+      (λ g l. (in-filter (λ (v : Frame). not (is_frame f.made v)) g y.frames (subst (In g) all l)).0)
+      (λ w a l. told-holds x f.caller kind w a (todo w a l)) (λ j m t c was o. closing j m t c was o (f.made == j) refl)
+    where
+      z : Space
+      z = told x f.caller kind
+
+      all : z.frames ≡ (closed y f.made).frames
+      all = told-frames x f.caller kind ∙ frames
+
+      closing : (j m t : ℕ) → Called es j m → thread_made y t ≡ Some m → StandsIn y j → (b : Bool) → (f.made == j) ≡ b → StandsIn z j ⊎ (NoFrame j z × Waits z t (length es))
+      closing j m t c was o true q =
           let is = eqb-true f.made j q in
           let called : Called more f.made m = subst (λ x. Called more x m) (sym is) (at-more es (e ∷ []) j (λ z e. Calls z e m) c) in
-          inr (inl (o.0, (λ g l made. closed-absent y f.made g (subst (In g) frames l) (made ∙ sym is)), tells t (callers_are f m t here called was)))
-      closing j m t c was false q o =
-          inl (o.0, (o.1.0, subst (In o.1.0) (sym frames) (filter-in (λ (x : Frame). not (is_frame f.made x)) o.1.0 y.frames o.1.1 (not-false (is_frame f.made o.1.0) (other j o.1.0 o.1.2 q))), o.1.2))
+          inr (λ g l made. closed-absent y f.made g (subst (In g) all l) (made ∙ sym is), told-waits x f.caller kind (length es) is_one (steps ∙ always-steps es) t (callers_are f m t here called was))
+      closing j m t c was o false q =
+          let apart : is_frame f.made o.0 ≡ false = search (arith, eqb-true, eq-eqb) in
+          inl (o.0, subst (In o.0) (sym all) (filter-in (λ (v : Frame). not (is_frame f.made v)) o.0 y.frames o.1 (not-false (is_frame f.made o.0) apart)), o.2)
 
-  callers-now : HasCallers more s
-  callers-now f m t l c i = always-callers es f m t l (called-before more es e [] f.made m refl ((always-traced es).below f l) c) i
-
-  served-in : (seat : ℕ) (f : Frame) → served_innermost s seat ≡ Some f → In f s.frames
-  served-in seat f g = (find-in (is_deepest_in s.frames seat) f s.frames (served-is s seat f g).0).0
-
-  replies : (a : Actor) (d : TransactionData) (f : Frame) (v : Delivery) → served_innermost s a.thread.seat ≡ Some f → Now (replied s a d f v)
-  unfolding replied closed
-  replies a d f v g =
-      let x = closed s f.made in
-      let y = owe (delivered x a d v) (OfThread a.thread.seat) (work.Complete false) in
-      let steps : y.steps ≡ s.steps = sent-steps x a d v false in
-      closes (replied s a d f v) s f (told-steps y f.caller (work.Reply s.steps) ∙ steps) (told-threads y f.caller (work.Reply s.steps) ∙ sent-threads x a d v false)
-      (told-frames y f.caller (work.Reply s.steps) ∙ sent-frames x a d v false)
-      (holds-trans _ y.todo s.todo (told-holds y f.caller (work.Reply s.steps)) (sent-holds x a d v false))
-      (told-waits y f.caller (work.Reply s.steps) (length es) refl (steps ∙ always-steps es)) (served-in a.thread.seat f g) callers-now now
-
-  fails : (a : Actor) (f : Frame) → served_innermost s a.thread.seat ≡ Some f → Now (reply_refused s a.thread.seat f)
-  unfolding reply_refused closed owe
-  fails a f g =
-      let x = owe s (OfThread a.thread.seat) (work.Refusal TransactionComplete) in
-      let y = closed x f.made in
-      closes (reply_refused s a.thread.seat f) s f (told-steps y f.caller (work.Verdict FailedReply)) (told-threads y f.caller (work.Verdict FailedReply))
-      (told-frames y f.caller (work.Verdict FailedReply))
-      (holds-trans _ y.todo s.todo (told-holds y f.caller (work.Verdict FailedReply)) (holds-owe s (OfThread a.thread.seat) (work.Refusal TransactionComplete)))
-      (told-waits y f.caller (work.Verdict FailedReply) (length es) refl (always-steps es)) (served-in a.thread.seat f g) callers-now now
-
-  abandons : (z : Space) (f : Frame) → find (is_abandoned z.frames) z.frames ≡ Some f → HasCallers more z → Now z → Now (told (closed z f.made) f.caller (work.Verdict DeadReply))
-  unfolding closed
-  abandons z f found k n =
-      let y = closed z f.made in
-      closes (told y f.caller (work.Verdict DeadReply)) z f (told-steps y f.caller (work.Verdict DeadReply)) (told-threads y f.caller (work.Verdict DeadReply))
-      (told-frames y f.caller (work.Verdict DeadReply)) (told-holds y f.caller (work.Verdict DeadReply))
-      (told-waits y f.caller (work.Verdict DeadReply) (length es) refl n.0) (find-in (is_abandoned z.frames) f z.frames found).0 k n
+  -- the first that closes is the one that a thread serves innermost
+  serves-closed : (x : Space) (a : Actor) (f : Frame) → served_innermost s a.thread.seat ≡ Some f → (kind : WorkKind) → is_answer kind ≡ true → x.steps ≡ s.steps → x.threads ≡ s.threads
+      → x.frames ≡ (closed s f.made).frames → Held x s → Ends (told x f.caller kind)
+  serves-closed x a f g kind is_one steps threads frames todo =
+      closes x s f kind is_one steps threads frames todo (find-in (is_deepest_in s.frames a.thread.seat) f s.frames (served-is s a.thread.seat f g).0).0
+      (callers-within es e (always-callers es) s (comes-kept es e).set_up.same) now
 
   -- ---- a reading
 
   reads : (a : Actor) (limit : ℕ) → actor s e.seat ≡ Some a → e.step ≡ Read limit → read_fault limit (list_to_read s a.thread) ≡ None
-      → Now (read_by s a.thread.seat (taken s (limit - 4) (list_to_read s a.thread)))
+      → Ends (read_by s a.thread.seat (taken s (limit - 4) (list_to_read s a.thread)))
   unfolding read_by
-  reads a limit acts x n = (
-    now.0,
-    λ j m t c i. elim (h j m t c i) [
-      | inl o ↦ inl (o, still o)
-      | inr k ↦ elim k [
-        | inl w ↦ waiting j m t i w.0 w.1 w.2 (list_any (λ (d : Work). is_item w.2.0 d) ws) refl
-        | inr r ↦ inr (inr (inr (was-more es (e ∷ []) j m r)))
-      ]
-    ],
-  )
+  reads a limit acts x n = record {
+    calls = λ j m t c i o. let g = read-stay s a.thread.seat ws o.0 o.1 in inl (g.0, g.1, g.2.made ∙ o.2);
+    answers = λ w t m lt i on is_one l. waiting w t on l (list_any (λ (d : Work). is_item w d) ws) refl;
+  }
     where
       ws : List Work
       ws = taken s (limit - 4) (list_to_read s a.thread)
 
-      z : Space
-      z = read_by s a.thread.seat ws
-
-      served-made : (b : Bool) (f : Frame) → (cond b (serve a.thread.seat f) f).made ≡ f.made
-      served-made b f = search arith
-
-      still : {j : ℕ} → StandsIn s j → StandsIn z j
-      still o = (_, changed-in (λ (f : Frame). list_any (λ (w : Work). is_call f.made w.kind) ws) (serve a.thread.seat) o.0 s.frames o.1, served-made (list_any (λ (w : Work). is_call o.0.made w.kind) ws) o.0 ∙ o.2)
-
-      thread-list : (l : TodoList) (t : ℕ) → same_list l (OfThread t) ≡ true → l ≡ OfThread t
-      thread-list l t q = search (arith, eqb-true)
-
-      waiting : (j m t : ℕ) → thread_made s t ≡ Some m → (d : ℕ) → At es d (λ y f. Closes y f j) → (v : Waits s t d) → (b : Bool) → list_any (λ (w : Work). is_item v.0 w) ws ≡ b → Midway z j m t
-      waiting j m t i d closed v false q =
-          inr (inr (inl (d, closed, (v.0, filter-in (λ (w : Work). not (list_any (λ (d : Work). is_item w d) ws)) v.0 s.todo v.1 (not-false (list_any (λ (w : Work). is_item v.0 w) ws) q), v.2, v.3, v.4))))
-      waiting j m t i d closed v true q =
-          let w = any-found (λ (w : Work). is_item v.0 w) ws q in
-          let on : same_list w.0.list (OfThread t) ≡ true = ap (λ l. same_list w.0.list l) (sym v.2) ∙ (both _ (is_on w.0.list v.0) w.2).1 in
-          let list : w.0.list ≡ OfThread t = thread-list w.0.list t on in
-          let is : v.0 ≡ w.0 = (always-lined es).one v.0 w.0 t t v.1 (read-in s a.thread (limit - 4) w.0 w.1) v.2 list (item-id v.0 w.0 w.2) in
-          let seat : t ≡ e.seat = read-on s a.thread (limit - 4) w.0 t w.1 list ∙ (actor-made s e.seat a acts).0 in
-          let answers : is_answer_of d w.0 ≡ true = subst (λ y. is_answer_of d y ≡ true) is (and-both (is_answer v.0.kind) (v.0.id.place == d) v.3 (eq-eqb v.0.id.place d v.4)) in
-          let by : thread_made s e.seat ≡ Some m = subst (λ n. thread_made s n ≡ Some m) seat i in
-          let takes : list_any (is_answer_of d) (items_taken s e.seat e.step) ≡ true = ap (λ xs. list_any (is_answer_of d) xs) (takes-items es e (always-traced es) a acts limit x n) ∙ any-in (is_answer_of d) w.0 ws w.1 answers in
-          inr (inr (inr (record {
-            closed = d;
-            read = length es;
-            order = at-below es d (λ y f. Closes y f j) closed;
-            closes = at-more es (e ∷ []) d (λ y f. Closes y f j) closed;
-            reads = at-here es e (λ y f. ReadsAnswer y f d m) (record { by = by; taken = takes });
-          })))
+      waiting : (w : Work) (t : ℕ) → w.list ≡ OfThread t → In w s.todo → (b : Bool) → list_any (λ (d : Work). is_item w d) ws ≡ b
+          → In w (filter (λ (v : Work). not (list_any (λ (d : Work). is_item v d) ws)) s.todo) ⊎ ((t ≡ e.seat) × In w (items_taken s e.seat e.step))
+      waiting w t on l false q = inl (filter-in (λ (v : Work). not (list_any (λ (d : Work). is_item v d) ws)) w s.todo l (not-false (list_any (λ (d : Work). is_item w d) ws) q))
+      waiting w t on l true q =
+          let d = any-found (λ (d : Work). is_item w d) ws q in
+          let is : w ≡ d.0 = (always-told es).distinct w d.0 l (read-in s a.thread (limit - 4) d.0 d.1) d.2 in
+          let here = subst (λ v. In v ws) (sym is) d.1 in
+          inr (read-on s a.thread (limit - 4) w t here on ∙ (actor-made s e.seat a acts).0, subst (In w) (sym (takes-items es e (always-traced es) a acts limit x n)) here)
 
   -- ---- the whole step
 
-  calls-kept : KeepsWhole s e.seat e.step (HasCallers more) (HasCallers more)
-  calls-kept = whole s e.seat e.step (HasCallers more) (HasCallers more) (callers.kept es e (always-callers es))
-
   abbrev Both : Space → Type 0
-  Both z = HasCallers more z × Now z
+  Both z = Comes es e z × Ends z
 
   kept : KeepsWhole s e.seat e.step Both Both
-  kept = keeps-both s e.seat e.step (HasCallers more) (HasCallers more) Now Now calls-kept (record {
-    set_up = set_up-by Leaves Any leaves_table s e.seat e.step Now (λ z k. leaves z s k now);
-    changes = changes-by Leaves Any leaves_table s e.seat e.step Now (λ z k. leaves z s k now) leaves_exits (record {
-      transacts = λ a d parcel v x i t. leaves _ s (transacted-leaves s a d v) now;
-      replies = λ a d parcel f v x i g t. replies a d f v g;
+  unfolding replied reply_refused closed owe ripen follow notify work_goes deaths_go objects_go names_go
+  kept = keeps-both s e.seat e.step (Comes es e) (Comes es e) Ends Ends (comes-kept es e) (record {
+    set_up = set_up-by Leaves Any leaves_table s e.seat e.step Ends left;
+    changes = changes-by Leaves Any leaves_table s e.seat e.step Ends left leaves_exits (record {
+      transacts = λ a d parcel v x i t. let p = part.transacts s a d v in record { calls = λ j m u c k o. inl (o.0, p.stay o.0 o.1, o.2); answers = λ w u m lt k on is_one l. inl (p.todo w is_one l) };
+      replies = λ a d parcel f v x i g t.
+          let y = closed s f.made in
+          serves-closed _ a f g (work.Reply s.steps) refl (sent-steps y a d v false) (sent-threads y a d v false) (sent-frames y a d v false) (sent-holds y a d v false);
       reads = reads;
-      ripens = λ z. leaves (ripen z) z (ripen-by Leaves Any leaves_table (λ m. tt) z);
+      ripens = λ z. later (ripen z) z refl refl (ripen-by Held Any holds_table (λ m. tt) z);
     });
-    follows = λ z c. leaves (follow z) z (followed-by Leaves Any leaves_table z);
-    refuses = λ t c. leaves _ s (leaves_table.owes s (OfThread t) (work.Refusal (refusal c)) tt) now;
-    fails = λ a d parcel f x i g. fails a f g;
-    abandons = abandons;
+    follows = λ z c. later (follow z) z refl refl (followed-by Held Any holds_table z);
+    refuses = λ t c. left _ (leaves_table.owes s (OfThread t) (work.Refusal (refusal c)) tt);
+    fails = λ a d parcel f x i g. serves-closed _ a f g (work.Verdict FailedReply) refl refl refl refl (holds-owe s (OfThread a.thread.seat) (work.Refusal TransactionComplete));
+    abandons = λ z f found k.
+        closes (closed z f.made) z f (work.Verdict DeadReply) refl k.steps refl refl (λ w a l. l) (find-in (is_abandoned z.frames) f z.frames found).0 (callers-within es e (always-callers es) z k);
   })
 
-  -- ---- the call that the step makes is open after it
+  ended : Both (change s e.seat e.step).space
+  ended = every_whole_step s e.seat e.step Both Both kept
 
-  step-calls : (m : ℕ) → Calls s e m → StandsIn (change s e.seat e.step).space s.steps
-  step-calls m c = subst (λ x. StandsIn (change s e.seat x).space s.steps) (sym c.command) (called-stands s e.seat c.fields c.parcel (λ f l. let lt = (always-traced es).below f l in let n = always-steps es in omega arith) c.two_way (ap (λ x. (change s e.seat x).answer) (sym c.command) ∙ c.accepted))
+  -- what its thread read now
+  was-read : (j m t d : ℕ) → Called es j m → thread_made s t ≡ Some m → At es d (λ y f. Closes y f j) → (v : Waits s t d) → t ≡ e.seat → In v.0 (items_taken s e.seat e.step) → WasRead more j m
+  was-read j m t d c i closes v seat l = record {
+    closed = d;
+    read = length es;
+    order = at-below es d (λ y f. Closes y f j) closes;
+    closes = at-more es (e ∷ []) d (λ y f. Closes y f j) closes;
+    reads = at-here es e (λ y f. ReadsAnswer y f d m) (record {
+      by = subst (λ n. thread_made s n ≡ Some m) seat i;
+      taken = any-in (is_answer_of d) v.0 (items_taken s e.seat e.step) l (and-both (is_answer v.0.kind) (v.0.id.place == d) v.3 (eq-eqb v.0.id.place d v.4));
+    });
+  }
 
   step-answered : Answered more (after opening more)
   unfolding counted
-  step-answered = subst (Answered more) (sym (after-append opening es (e ∷ []))) (λ j m t c i. elim (cases_lt j (length es)) [
-    | inl lt ↦ (
-        let before = called-before more es e [] j m refl lt c in
-        elim ((every_whole_step s e.seat e.step Both Both kept).1.1 j m t before i) [
-          | inl o ↦ inl o.1
-          | inr x ↦ elim x [
-            | inl w ↦ inr (inl (
+  step-answered = subst (Answered more) (sym (after-append opening es (e ∷ []))) (λ j m t c i. elim (at-split es e j (λ z e. Calls z e m) c) [
+    | inl past ↦ (
+        let was = ended.0.threads t m (early j m past) i in
+        elim (h j m t past was) [
+          | inl o ↦ elim (ended.1.calls j m t past i o) [
+            | inl x ↦ inl x
+            | inr x ↦ inr (inl (
               length es,
-              at-here es e (λ y f. Closes y f j) (record {
-                stood = any-in (is_frame j) w.0.0 s.frames w.0.1 (eq-eqb w.0.0.made j w.0.2);
-                goes = absent j (change s e.seat e.step).space.frames w.1;
-              }),
-              w.2,
+              at-here es e (λ y f. Closes y f j) (record { stood = any-in (is_frame j) o.0 s.frames o.1 (eq-eqb o.0.made j o.2); goes = absent j (change s e.seat e.step).space.frames x.0 }),
+              x.1,
             ))
-            | inr u ↦ elim u [ inl w ↦ inr (inl (w.0, at-more es (e ∷ []) w.0 (λ y f. Closes y f j) w.1, w.2)) | inr r ↦ inr (inr r) ]
+          ]
+          | inr x ↦ elim x [
+            | inl w ↦ elim (ended.1.answers w.2.0 t m (early j m past) i w.2.2 w.2.3 w.2.1) [
+              | inl l ↦ inr (inl (w.0, at-more es (e ∷ []) w.0 (λ y f. Closes y f j) w.1, (w.2.0, l, w.2.2, w.2.3, w.2.4)))
+              | inr r ↦ inr (inr (was-read j m t w.0 past was w.1 w.2 r.0 r.1))
+            ]
+            | inr r ↦ inr (inr (was-more es (e ∷ []) j m r))
           ]
         ])
-    | inr ge ↦ (
-        let below = at-below more j (λ z e. Calls z e m) c in
-        let count : length more ≡ length es + 1 = length-append es (e ∷ []) in
-        let at : j ≡ length es = omega arith in
-        let k = stood more j c.0 c.1 c.2 in
-        let p = placed es e [] j (sym at) in
-        let entry : c.1 ≡ e = (let q : Some c.1 ≡ Some e = sym k.0 ∙ p.0 in cc) in
-        let first : c.0 ≡ es = sym k.1 ∙ p.1 in
-        let calls : Calls s e m = subst (λ f. Calls s f m) entry (subst (λ xs. Calls (after opening xs) c.1 m) first c.3) in
-        inl (subst (λ n. StandsIn (change s e.seat e.step).space n) (always-steps es ∙ sym at) (step-calls m calls)))
+    | inr new ↦ inl (subst (StandsIn (change s e.seat e.step).space) (always-steps es ∙ sym new.0) (step-calls m new.1))
   ])
+    where
+      -- the call that the step makes is open after it
+      step-calls : (m : ℕ) → Calls s e m → StandsIn (change s e.seat e.step).space s.steps
+      step-calls m c = subst (λ x. StandsIn (change s e.seat x).space s.steps) (sym c.command)
+          (called-stands s e.seat c.fields c.parcel (λ f l. let lt = (always-traced es).below f l in let n = always-steps es in omega arith) c.two_way
+          (ap (λ x. (change s e.seat x).answer) (sym c.command) ∙ c.accepted))
 
 pub always-answered : (es : List Entry) → Answered es (after opening es)
 always-answered es = by-last (λ es. Answered es (after opening es)) step-answered (λ j m t c i. let lt = at-below [] j (λ z e. Calls z e m) c in absurd (omega arith)) es

@@ -1,12 +1,14 @@
--- A reply answers the latest call of the thread that reads it whose answer isn't read yet.
-use Rattle.bd_laws.proofs.words.Logic.{◌≡◌, ℕ, ◌<◌, ◌-◌, ◌==◌, Bool, true, false, cond, List, [], ◌∷◌, length, map, Option, Some, ◌⊎◌, inl, inr, refl, ap, sym, subst, ◌∙◌, filter, arith, nat_lt, list_any, is_none, eqb-true, eq-eqb, cases_lt}
-use Rattle.bd_laws.proofs.words.Types.{Entry, Work, Thread, Actor, TodoList, OfThread, WorkKind}
-use Rattle.bd_laws.proofs.words.Space.{first_of, Space, opening, actor, is_frame, is_on, same_list, list_to_read, taken, ends_read, bytes_read, History, after}
+-- RepliesAnswerTheLatestOpenCall: a reply answers the latest call of the thread that reads it whose answer isn't read yet.
+use Rattle.bd_laws.proofs.words.Logic.{◌≡◌, ℕ, ◌<◌, ◌-◌, ◌==◌, true, false, cond, List, [], ◌∷◌, map, Option, Some, ◌⊎◌, inl, inr, refl, ap, sym, subst, ◌∙◌, filter, arith, list_any, is_none, eqb-true, eq-eqb}
+use Rattle.std.proofs.lemmas.Bool.{cases_order}
+use Rattle.bd_laws.proofs.words.Types.{Entry, Work, Thread, TodoList, OfThread, WorkKind}
+use Rattle.bd_laws.proofs.words.Space.{first_of, Space, opening, is_frame, is_on, same_list, list_to_read, taken, ends_read, History, after}
 use Rattle.bd_space.specs.declared.space.WorkKind.TheVariants as work
 use Rattle.bd_links.specs.TodoList.{reply_of, first_reply_in}
 use Rattle.bd_laws.specs.Lists.{In, Pairs}
 use Rattle.bd_laws.proofs.Lists.{in-filter, filter-in, pairs-filter, any-found, any-in}
 use Rattle.bd_laws.proofs.Tests.{both, and-both}
+use Rattle.bd_laws.proofs.Fewer.{to-false}
 use Rattle.bd_laws.proofs.IsInTurn.Ripening.{taken-in, read-in}
 use Rattle.bd_audit.specs.Replies.{thread_made, items_taken, reply_taken, reply_taken_at, Answered, At}
 use Rattle.bd_audit.specs.Latest.{Closes, ReadsAnswer, Ended, AnswersLatest, is_answer, is_answer_of, before_reply}
@@ -14,66 +16,46 @@ use Rattle.bd_audit.proofs.NamesHaveGiftChains.Chains.{always-steps}
 use Rattle.bd_audit.proofs.RepliesReachTheirCallers.Traces.{Called, at-more, at-below, actor-made}
 use Rattle.bd_audit.proofs.RepliesReachTheirCallers.ReplyTaken.{first-in}
 use Rattle.bd_audit.proofs.RepliesReachTheirCallers.ReplyLaw.{NoFrame, at-place, owed-after, took, taken-once, step-no_frame, no_frame-later, closed-no_frame}
+use Rattle.bd_audit.proofs.TurnsTellOfCalls.CallsOut.{taken-by, Reading, reading, reading-items}
 use Rattle.bd_audit.proofs.RepliesAnswerTheLatestOpenCall.Callers.{called-before}
-use Rattle.bd_audit.proofs.RepliesAnswerTheLatestOpenCall.Lined.{always-lined}
-use Rattle.bd_audit.proofs.RepliesAnswerTheLatestOpenCall.InLine.{NotLater}
+use Rattle.bd_audit.proofs.RepliesAnswerTheLatestOpenCall.Lined.{NotLater, always-lined, always-told}
 use Rattle.bd_audit.proofs.RepliesAnswerTheLatestOpenCall.EndedCalls.{always-answered}
 use Rattle.bd_audit.proofs.RepliesAnswerTheLatestOpenCall.OpenCalls.{Waits, WasRead}
 use Rattle.bd_audit.proofs.RepliesAnswerTheLatestOpenCall.SingleAnswers.{always-single}
 use Rattle.bd_audit.proofs.RepliesAnswerTheLatestOpenCall.LatestOpen as latest
-use Rattle.bd_audit.proofs.RepliesAnswerTheLatestOpenCall.LatestOpen.{same-place, latest-open}
+use Rattle.bd_audit.proofs.RepliesAnswerTheLatestOpenCall.LatestOpen.{at-same, on-own, latest-open}
 
 -- ---- of the items that a reading takes, the earlier ones stand before its reply
 
 module _ (s : Space) (w d : ℕ) (earlier : d < w) (v : Work) (place : v.id.place ≡ d) where
-  stands-before : (ws : List Work) (left : ℕ) → Pairs NotLater ws → ((x : Work) (b : ℕ) → In x ws → reply_of x.kind ≡ Some b → x.id.place ≡ b)
-      → In v ws → first_reply_in (taken s left ws) ≡ Some w → In v (before_reply (taken s left ws))
-  stands-before [] left sorted made l e = absurd l
-  stands-before (x ∷ xs) left sorted made l e =
-      at (nat_lt left 68) (λ i f. stands-before xs (left - length (bytes_read s x)) sorted.1 (λ y b l e. made y b (inr l) e) i f) e
-    where
-      head : (o : Option ℕ) → reply_of x.kind ≡ o → (ys : List Work) → (In v xs → first_reply_in ys ≡ Some w → In v (before_reply ys))
-          → first_of (o ∷ map (λ (y : Work). reply_of y.kind) ys) ≡ Some w → In v (cond (is_none o) (x ∷ before_reply ys) [])
-      head o r ys k f = search arith
+  abbrev Before : List Work → List Work → Type 0
+  Before ws items =
+      Pairs NotLater ws → ((x : Work) (b : ℕ) → In x ws → reply_of x.kind ≡ Some b → x.id.place ≡ b) → In v ws → first_reply_in items ≡ Some w → In v (before_reply items)
 
-      tail : (b : Bool) → (In v xs → first_reply_in (taken s (left - length (bytes_read s x)) xs) ≡ Some w → In v (before_reply (taken s (left - length (bytes_read s x)) xs)))
-          → In v xs → first_reply_in (cond b [] (taken s (left - length (bytes_read s x)) xs)) ≡ Some w
-          → In v (before_reply (cond b [] (taken s (left - length (bytes_read s x)) xs)))
-      tail b k i f = search arith
+  first-before : (x : Work) (xs items : List Work) (o : Option ℕ) → reply_of x.kind ≡ o → Pairs NotLater (x ∷ xs) → ((y : Work) (b : ℕ) → In y (x ∷ xs) → reply_of y.kind ≡ Some b → y.id.place ≡ b)
+      → In v (x ∷ xs) → (In v xs → first_reply_in items ≡ Some w → In v (before_reply items)) → first_of (o ∷ map (λ (y : Work). reply_of y.kind) items) ≡ Some w
+      → In v (cond (is_none o) (x ∷ before_reply items) [])
+  first-before x xs items o r sorted made l k f = search arith
 
-      at : (b : Bool) → (In v xs → first_reply_in (taken s (left - length (bytes_read s x)) xs) ≡ Some w → In v (before_reply (taken s (left - length (bytes_read s x)) xs)))
-          → first_reply_in (cond b [] (x ∷ cond (ends_read x.kind) [] (taken s (left - length (bytes_read s x)) xs))) ≡ Some w
-          → In v (before_reply (cond b [] (x ∷ cond (ends_read x.kind) [] (taken s (left - length (bytes_read s x)) xs))))
-      at b k f = search (arith, head, taken, tail)
+  stands-before : (ws : List Work) (left : ℕ) → Before ws (taken s left ws)
+  stands-before = taken-by s Before (λ ws sorted made l f. absurd (cc)) (λ x xs e sorted made l. first-before x xs [] (reply_of x.kind) refl sorted made l (λ i f. absurd (cc)))
+      (λ x xs items e k sorted made l. first-before x xs items (reply_of x.kind) refl sorted made l (k sorted.1 (λ y b i. made y b (inr i))))
 
 -- ---- what a reading of a thread's own list takes
 
 module _ (s : Space) (seat : ℕ) (v : Work) (here : In v s.todo) (on : v.list ≡ OfThread seat) where
-  listed : is_on (OfThread seat) v ≡ true
-  listed = ap (λ x. same_list (OfThread seat) x) on ∙ eq-eqb seat seat refl
-
   own-list : (th : Thread) → th.seat ≡ seat → list_to_read s th ≡ filter (is_on (OfThread seat)) s.todo
   unfolding list_to_read
-  own-list th is = search (arith, any-in, listed)
-
--- what the step takes, if it takes anything
-record Reading (s : Space) (e : Entry) : Type 0 where
-  actor_is : Actor
-  limit : ℕ
-  acts : actor s e.seat ≡ Some actor_is
-  items : items_taken s e.seat e.step ≡ taken s (limit - 4) (list_to_read s actor_is.thread)
-
-reading : (s : Space) (e : Entry) (v : Work) → In v (items_taken s e.seat e.step) → Reading s e
-reading s e v l = search (arith, taken)
+  own-list th is = search (arith, any-in, on-own)
 
 -- where something stands on the thread's own list, all that its reading takes is of it
 module _ (s : Space) (e : Entry) (v : Work) (here : In v s.todo) (on : v.list ≡ OfThread e.seat) where
-  own-items : (r : Reading s e) → items_taken s e.seat e.step ≡ taken s (r.limit - 4) (filter (is_on (OfThread e.seat)) s.todo)
-  own-items r = r.items ∙ ap (λ ws. taken s (r.limit - 4) ws) (own-list s e.seat v here on r.actor_is.thread (actor-made s e.seat r.actor_is r.acts).0)
+  own-items : (r : Reading s e.seat e.step) → items_taken s e.seat e.step ≡ taken s (r.limit - 4) (filter (is_on (OfThread e.seat)) s.todo)
+  own-items r = reading-items s e.seat e.step r ∙ ap (λ ws. taken s (r.limit - 4) ws) (own-list s e.seat v here on r.actor_is.thread (actor-made s e.seat r.actor_is r.acts).0)
 
   own-taken : (x : Work) → In x (items_taken s e.seat e.step) → In x s.todo × (x.list ≡ OfThread e.seat)
   own-taken x l =
-      let r = reading s e x l in
+      let r = reading s e.seat e.step x l in
       let i = in-filter (is_on (OfThread e.seat)) x s.todo (taken-in s (filter (is_on (OfThread e.seat)) s.todo) (r.limit - 4) x (subst (In x) (own-items r) l)) in
       (i.0, listed-on x.list i.1)
     where
@@ -87,29 +69,19 @@ reply-kind (work.Reply c) b h = (refl, refl)
 reply-kind _ b h = absurd (cc)
 
 module _ (s : Space) (v : Work) (b : ℕ) (is_reply : reply_of v.kind ≡ Some b) where
+  first-reply : (x : Work) (items : List Work) (o : Option ℕ) → reply_of x.kind ≡ o → ends_read x.kind ≡ false → (In v items → first_reply_in items ≡ Some b) → (x ≡ v) ⊎ In v items
+      → first_of (o ∷ map (λ (y : Work). reply_of y.kind) items) ≡ Some b
+  first-reply x items o r e k h = search (arith, reply-kind)
+
   taken-first : (ws : List Work) (left : ℕ) → In v (taken s left ws) → first_reply_in (taken s left ws) ≡ Some b
-  taken-first [] left l = absurd l
-  taken-first (x ∷ xs) left l = at (nat_lt left 68) (taken-first xs (left - length (bytes_read s x))) l
-    where
-      rest : List Work
-      rest = taken s (left - length (bytes_read s x)) xs
-
-      head : (c : Bool) → ends_read x.kind ≡ c → (o : Option ℕ) → reply_of x.kind ≡ o → (In v rest → first_reply_in rest ≡ Some b) → (x ≡ v) ⊎ In v (cond c [] rest)
-          → first_of (o ∷ map (λ (y : Work). reply_of y.kind) (cond c [] rest)) ≡ Some b
-      head c q o r k h = search (arith, reply-kind)
-
-      at : (c : Bool) → (In v rest → first_reply_in rest ≡ Some b) → In v (cond c [] (x ∷ cond (ends_read x.kind) [] rest))
-          → first_reply_in (cond c [] (x ∷ cond (ends_read x.kind) [] rest)) ≡ Some b
-      at c k i = search (arith, head)
+  taken-first = taken-by s (λ ws items. In v items → first_reply_in items ≡ Some b) (λ ws l. absurd l)
+      (λ x xs e l. elim l [ inl is ↦ ap (λ (y : Work). first_of (reply_of y.kind ∷ [])) is ∙ ap (λ o. first_of (o ∷ [])) is_reply | inr none ↦ absurd none ])
+      (λ x xs items e. first-reply x items (reply_of x.kind) refl e)
 
 -- what stands before the reply is none
 before-in : (ws : List Work) (v : Work) → In v (before_reply ws) → In v ws × (is_none (reply_of v.kind) ≡ true)
 before-in [] v l = absurd l
-before-in (x ∷ xs) v l = at (is_none (reply_of x.kind)) refl (before-in xs v) l
-  where
-    at : (b : Bool) → is_none (reply_of x.kind) ≡ b → (In v (before_reply xs) → In v xs × (is_none (reply_of v.kind) ≡ true)) → In v (cond b (x ∷ before_reply xs) [])
-        → In v (x ∷ xs) × (is_none (reply_of v.kind) ≡ true)
-    at b e k h = search arith
+before-in (x ∷ xs) v l = search (arith, before-in xs v)
 
 -- ---- a reply that stands is all that its step tells its thread
 
@@ -135,9 +107,7 @@ module _ (h : History) (s w : ℕ) (taken_is : reply_taken_at h s ≡ Some w) wh
   z = after opening p.0
 
   by : thread_made z p.1.seat ≡ Some answer.caller
-  by =
-      let same = same-place h.entries s (λ z e. thread_made z e.seat ≡ Some answer.caller) (λ z e. reply_taken z e ≡ Some w) answer.read p in
-      subst (λ (x : Entry). thread_made z x.seat ≡ Some answer.caller) same.1 (subst (λ xs. thread_made (after opening xs) answer.read.1.seat ≡ Some answer.caller) same.0 answer.read.3)
+  by = at-same h.entries s (λ z e. thread_made z e.seat ≡ Some answer.caller) (λ z e. reply_taken z e ≡ Some w) answer.read p
 
   at-whole : (i : ℕ) (P : Space → Entry → Type 0) → At p.0 i P → At h.entries i P
   at-whole i P x = subst (λ es. At es i P) (sym p.2.all) (at-more p.0 (p.1 ∷ p.2.rest) i P x)
@@ -154,59 +124,47 @@ module _ (h : History) (s w : ℕ) (taken_is : reply_taken_at h s ≡ Some w) wh
         (step-no_frame (after opening o.0) o.1 j (let a = always-steps o.0 in let b = o.2.at in let c = first.0 in omega arith) (closed-no_frame (after opening o.0) j o.3))
 
     closed-first : (d : ℕ) → At h.entries d (λ z e. Closes z e j) → d < w
-    closed-first d x = elim (cases_lt d w) [
-      | inl lt ↦ lt
-      | inr ge ↦ elim (cases_lt w d) [
-        | inl lt ↦ (let f = any-found (is_frame j) (after opening x.0).frames x.3.stood in absurd (gone d (λ z e. Closes z e j) x lt f.0 f.1 (eqb-true f.0.made j f.2)))
-        | inr le ↦ (
-            let is : d ≡ w = omega arith in
-            let o = first.1 in
-            let same = same-place h.entries w (λ z e. Closes z e j) (λ z e. list_any (is_frame j) z.frames ≡ false) (subst (λ i. At h.entries i (λ z e. Closes z e j)) is x) o in
-            let stood_then = (subst (λ i. At h.entries i (λ z e. Closes z e j)) is x).3.stood in
-            let yes : list_any (is_frame j) (after opening o.0).frames ≡ true = subst (λ xs. list_any (is_frame j) (after opening xs).frames ≡ true) same.0 stood_then in
-            let none = o.3 in absurd (cc))
+    closed-first d x = elim (cases_order d w) [
+      | inl is ↦ (
+          let yes = (at-same h.entries w (λ z e. Closes z e j) (λ z e. list_any (is_frame j) z.frames ≡ false) (subst (λ i. At h.entries i (λ z e. Closes z e j)) is x) first.1).stood in
+          let none = first.1.3 in absurd (cc))
+      | inr o ↦ elim o [
+        | inl lt ↦ lt
+        | inr lt ↦ (let f = any-found (is_frame j) (after opening x.0).frames x.3.stood in absurd (gone d (λ z e. Closes z e j) x lt f.0 f.1 (eqb-true f.0.made j f.2)))
       ]
     ]
+
+    -- it ended at d, and what its thread was told of that was read before
+    ended-at : (d : ℕ) → At p.0 d (λ z e. Closes z e j)
+        → ((r : ℕ) × (d < r) × (r < s) × At h.entries r (λ z e. ReadsAnswer z e d answer.caller))
+        ⊎ At h.entries s (λ z e. list_any (is_answer_of d) (before_reply (items_taken z e.seat e.step)) ≡ true)
+        → Ended h.entries s w j answer.caller
+    ended-at d closes told =
+        let closed = at-whole d (λ z e. Closes z e j) closes in
+        record { made = first.0; closed = d; closed_first = closed-first d closed; closes = closed; told = told }
 
     waits-ended : (d : ℕ) → At p.0 d (λ z e. Closes z e j) → Waits z p.1.seat d → Ended h.entries s w j answer.caller
     unfolding reply_taken
     waits-ended d closes v =
-        let closed = at-whole d (λ z e. Closes z e j) closes in
-        let lt = closed-first d closed in
+        let lt = closed-first d (at-whole d (λ z e. Closes z e j) closes) in
         let item = first-in (items_taken z p.1.seat p.1.step) w p.3 in
-        let r = reading z p.1 item.0 item.1 in
+        let r = reading z p.1.seat p.1.step item.0 item.1 in
         let lined = always-lined p.0 in
         let items = own-items z p.1 v.0 v.1 v.2 r in
         let here = stands-before z w d lt v.0 v.4 (filter (is_on (OfThread p.1.seat)) z.todo) (r.limit - 4)
         (pairs-filter NotLater (is_on (OfThread p.1.seat)) z.todo lined.sorted)
         (λ x b l e. (owed-after p.0).made x b (in-filter (is_on (OfThread p.1.seat)) x z.todo l).0 e)
-        (filter-in (is_on (OfThread p.1.seat)) v.0 z.todo v.1 (listed z p.1.seat v.0 v.1 v.2))
+        (filter-in (is_on (OfThread p.1.seat)) v.0 z.todo v.1 (on-own v.0 p.1.seat v.2))
         (sym (ap first_reply_in items) ∙ p.3) in
         let told = any-in (is_answer_of d) v.0 (before_reply (taken z (r.limit - 4) (filter (is_on (OfThread p.1.seat)) z.todo))) here
         (and-both (is_answer v.0.kind) (v.0.id.place == d) v.3 (eq-eqb v.0.id.place d v.4)) in
-        record {
-          made = first.0;
-          closed = d;
-          closed_first = lt;
-          closes = closed;
-          told = inr (p.0, p.1, p.2, ap (λ ws. list_any (is_answer_of d) (before_reply ws)) items ∙ told);
-        }
+        ended-at d closes (inr (p.0, p.1, p.2, ap (λ ws. list_any (is_answer_of d) (before_reply ws)) items ∙ told))
 
     was-read : WasRead p.0 j answer.caller → Ended h.entries s w j answer.caller
     was-read r =
-        let closed = at-whole r.closed (λ z e. Closes z e j) r.closes in
-        record {
-          made = first.0;
-          closed = r.closed;
-          closed_first = closed-first r.closed closed;
-          closes = closed;
-          told = inl (
-            r.read,
-            r.order,
-            (let lt = at-below p.0 r.read (λ z e. ReadsAnswer z e r.closed answer.caller) r.reads in let at = p.2.at in omega arith),
-            at-whole r.read (λ z e. ReadsAnswer z e r.closed answer.caller) r.reads,
-          );
-        }
+        let lt = at-below p.0 r.read (λ z e. ReadsAnswer z e r.closed answer.caller) r.reads in
+        let at = p.2.at in
+        ended-at r.closed r.closes (inl (r.read, r.order, omega arith, at-whole r.read (λ z e. ReadsAnswer z e r.closed answer.caller) r.reads))
 
     ended : Ended h.entries s w j answer.caller
     ended =
@@ -224,25 +182,26 @@ module _ (h : History) (s w : ℕ) (taken_is : reply_taken_at h s ≡ Some w) wh
       let y = after opening q.0 in
       let e = q.1 in
       let x = any-found (is_answer_of w) (items_taken y e.seat e.step) q.3.taken in
-      let took_is = reading y e x.0 x.1 in
-      let l : In x.0 (taken y (took_is.limit - 4) (list_to_read y took_is.actor_is.thread)) = subst (In x.0) took_is.items x.1 in
+      let took_is = reading y e.seat e.step x.0 x.1 in
+      let items = reading-items y e.seat e.step took_is in
+      let l : In x.0 (taken y (took_is.limit - 4) (list_to_read y took_is.actor_is.thread)) = subst (In x.0) items x.1 in
       let place = eqb-true x.0.id.place w (both (is_answer x.0.kind) (x.0.id.place == w) x.2).1 in
       let next_is : w < r = (
-      let below = (always-lined q.0).place x.0 (read-in y took_is.actor_is.thread (took_is.limit - 4) x.0 l) in
+      let below = (always-told q.0).fresh x.0 (read-in y took_is.actor_is.thread (took_is.limit - 4) x.0 l) in
       let steps = always-steps q.0 in
       let at = q.2.at in
       omega arith)
       in
       let v = latest.unread-between h s w taken_is r next_is lt (q.0, q.1, q.2, q.3.by) in
       let reply = only-reply q.0 e w v.0 v.1 v.2 v.3 x.0 x.1 x.2 in
-      let first_is = ap first_reply_in took_is.items ∙ taken-first y x.0 w reply (list_to_read y took_is.actor_is.thread) (took_is.limit - 4) l in
+      let first_is = ap first_reply_in items ∙ taken-first y x.0 w reply (list_to_read y took_is.actor_is.thread) (took_is.limit - 4) l in
       taken-once h.entries w r s (q.0, q.1, q.2, first_is) p next_is lt
 
   none-first : At h.entries s (λ z e. list_any (is_answer_of w) (before_reply (items_taken z e.seat e.step)) ≡ false)
-  none-first = (p.0, p.1, p.2, at (list_any (is_answer_of w) (before_reply (items_taken z p.1.seat p.1.step))) refl)
+  none-first = (p.0, p.1, p.2, to-false _ none-before)
     where
-      at : (b : Bool) → list_any (is_answer_of w) (before_reply (items_taken z p.1.seat p.1.step)) ≡ b → b ≡ false
-      at true q =
+      none-before : list_any (is_answer_of w) (before_reply (items_taken z p.1.seat p.1.step)) ≡ true → ⊥
+      none-before q =
           let x = any-found (is_answer_of w) (before_reply (items_taken z p.1.seat p.1.step)) q in
           let i = before-in (items_taken z p.1.seat p.1.step) x.0 x.1 in
           let k = took z (owed-after p.0) p.1 w p.3 in
@@ -250,7 +209,6 @@ module _ (h : History) (s w : ℕ) (taken_is : reply_taken_at h s ≡ Some w) wh
           let some : is_none (reply_of x.0.kind) ≡ false = ap (λ (o : Option ℕ). is_none o) reply in
           let none = i.1 in
           absurd (cc)
-      at false q = refl
 
   pub answers-latest : AnswersLatest h s w
   answers-latest = record {

@@ -1,12 +1,14 @@
--- An accepted reply closes its caller's latest open call, and a thread with an unread reply makes no call.
-use Rattle.bd_laws.proofs.words.Logic.{◌≡◌, ℕ, ◌<◌, ◌≤◌, ◌==◌, Bool, true, false, not, ◌&&◌, ◌||◌, List, [], ◌∷◌, Option, Some, None, Ok, ◌⊎◌, inl, inr, refl, ap, sym, subst, ◌∙◌, arith, nat_le, list_any, is_some, is_none, option_map, option_and_then_some, eqb-true, eq-eqb, le-leb, leb-true, cases_lt}
+-- RepliesAnswerTheLatestOpenCall: an accepted reply closes its caller's latest open call, and a thread with an unread reply makes no call.
+use Rattle.bd_laws.proofs.words.Logic.{◌≡◌, ℕ, ◌<◌, ◌≤◌, ◌==◌, Bool, true, false, not, ◌&&◌, ◌||◌, List, [], ◌∷◌, Option, Some, None, Ok, ◌⊎◌, inl, inr, refl, ap, sym, subst, ◌∙◌, arith, nat_le, list_any, is_some, is_none, option_map, option_and_then_some, eqb-true, eq-eqb, le-leb, leb-true}
+use Rattle.std.proofs.lemmas.Bool.{cases_order}
 use Rattle.bd_laws.proofs.words.Types.{TransactionData, NotServing, Unread, Parcel, Command, Accepted, Entry, Work, Frame, Actor, OfThread, WorkKind}
-use Rattle.bd_laws.proofs.words.Space.{when, first_of, Space, opening, actor, calls, is_frame, innermost, innermost_in, served_innermost, made_of, has_unread, keeps_from_calling, is_on, same_list, Delivery, transaction_step, caller_cause, is_one_way, reply_check, reply_step, caller_of, command_step, change, History, after}
+use Rattle.bd_laws.proofs.words.Space.{when, first_of, is_some_and, Space, opening, actor, calls, is_frame, innermost, innermost_in, served_innermost, made_of, has_unread, keeps_from_calling, is_on, same_list, Delivery, transaction_step, caller_cause, is_one_way, reply_check, reply_step, caller_of, command_step, change, History, after}
 use Rattle.bd_uapi.specs.declared.command.Command.TheVariants as bc
 use Rattle.bd_space.specs.declared.space.WorkKind.TheVariants as work
 use Rattle.bd_links.specs.TodoList.{reply_of}
 use Rattle.bd_laws.specs.Lists.{In}
-use Rattle.bd_laws.proofs.Lists.{any-in, all-in}
+use Rattle.bd_laws.proofs.Lists.{any-in, any-found, all-in}
+use Rattle.bd_laws.proofs.Tests.{and-both}
 use Rattle.bd_laws.proofs.Checks.{reply-checked, transaction-may_call}
 use Rattle.bd_laws.proofs.OnPaths.PathWords.{served-is}
 use Rattle.bd_laws.proofs.OnPaths.Innermost.{innermost-is, innermost-childless, calls-true, true-calls, all-true}
@@ -17,20 +19,12 @@ use Rattle.bd_audit.proofs.NamesHaveGiftChains.Chains.{always-steps}
 use Rattle.bd_audit.proofs.RepliesReachTheirCallers.Answering.{always-traced, absent}
 use Rattle.bd_audit.proofs.RepliesReachTheirCallers.Traces.{Called, Answers, answers-more, at-more, actor-made}
 use Rattle.bd_audit.proofs.RepliesReachTheirCallers.ReplyLaw.{reaches, stood, took, at-place, owed-after, no_reply-later, step-no_reply}
-use Rattle.bd_audit.proofs.Seated.{seat_at, always-seated}
-use Rattle.bd_audit.proofs.RepliesAnswerTheLatestOpenCall.Callers.{called-before, always-callers}
+use Rattle.bd_audit.proofs.RepliesAnswerTheLatestOpenCall.Callers.{called-before, always-callers, one-seat}
 
 -- ---- what an accepted step has tested
 
-record Reply (s : Space) (e : Entry) (d : TransactionData) (parcel : Option Parcel) : Type 0 where
-  actor_is : Actor
-  acts : actor s e.seat ≡ Some actor_is
-  frame : Frame
-  serves : served_innermost s actor_is.thread.seat ≡ Some frame
-  delivery : Delivery
-  checked : reply_check s actor_is d parcel frame ≡ Ok delivery
-
-reply-tested : (s : Space) (e : Entry) (d : TransactionData) (parcel : Option Parcel) → (change s e.seat (Command (bc.Reply d) parcel)).answer ≡ Accepted → Reply s e d parcel
+reply-tested : (s : Space) (e : Entry) (d : TransactionData) (parcel : Option Parcel) → (change s e.seat (Command (bc.Reply d) parcel)).answer ≡ Accepted
+    → (a : Actor) × (actor s e.seat ≡ Some a) × (f : Frame) × (served_innermost s a.thread.seat ≡ Some f) × (v : Delivery) × (reply_check s a d parcel f ≡ Ok v)
 unfolding change command_step reply_step
 reply-tested s e d parcel h = search arith
 
@@ -39,46 +33,42 @@ call-tested : (s : Space) (e : Entry) (d : TransactionData) (parcel : Option Par
 unfolding change command_step transaction_step
 call-tested s e d parcel two_way h = search (arith, actor-made, transaction-may_call)
 
+-- it stands on the thread's own list
+pub on-own : (v : Work) (t : ℕ) → v.list ≡ OfThread t → is_on (OfThread t) v ≡ true
+on-own v t on = ap (λ x. same_list (OfThread t) x) on ∙ eq-eqb t t refl
+
 -- a thread with an unread reply has a cause against a call
 unread-stops : (s : Space) (seat b : ℕ) (w : Work) → In w s.todo → reply_of w.kind ≡ Some b → w.list ≡ OfThread seat → caller_cause s seat ≡ None → ⊥
 unfolding caller_cause has_unread
 unread-stops s seat b w l e on none =
-    at (is_some (innermost s seat) && is_none (served_innermost s seat)) (has_unread s seat) (any-in (λ (x : Work). is_on (OfThread seat) x && keeps_from_calling x.kind) w s.todo l (in-way (is_on (OfThread seat) w) (keeps_from_calling w.kind) listed (way w.kind e))) none
+    let keeps = any-in (λ (x : Work). is_on (OfThread seat) x && keeps_from_calling x.kind) w s.todo l
+    (and-both (is_on (OfThread seat) w) (keeps_from_calling w.kind) (on-own w seat on) (way w.kind e)) in
+    at (is_some (innermost s seat) && is_none (served_innermost s seat)) (has_unread s seat) keeps none
   where
-    listed : is_on (OfThread seat) w ≡ true
-    listed = ap (λ x. same_list (OfThread seat) x) on ∙ eq-eqb seat seat refl
-
     way : (k : WorkKind) → reply_of k ≡ Some b → keeps_from_calling k ≡ true
     way (work.Reply c) h = refl
     way _ h = absurd (cc)
-
-    in-way : (p q : Bool) → p ≡ true → q ≡ true → (p && q) ≡ true
-    in-way p q h k = rw (h, k) refl
 
     at : (p q : Bool) → q ≡ true → first_of (when p NotServing ∷ when q Unread ∷ []) ≡ None → ⊥
     at p q h k = search arith
 
 -- ---- one thread makes a call
 
-pub same-place : (es : List Entry) (i : ℕ) (P Q : Space → Entry → Type 0) (p : At es i P) (q : At es i Q) → (p.0 ≡ q.0) × (p.1 ≡ q.1)
+same-place : (es : List Entry) (i : ℕ) (P Q : Space → Entry → Type 0) (p : At es i P) (q : At es i Q) → (p.0 ≡ q.0) × (p.1 ≡ q.1)
 same-place es i P Q p q =
     let a = stood es i p.0 p.1 p.2 in
     let b = stood es i q.0 q.1 q.2 in
     (sym a.1 ∙ b.1, (let k : Some p.1 ≡ Some q.1 = sym a.0 ∙ b.0 in cc))
 
+-- so what holds at a place holds of the same space and entry
+pub at-same : (es : List Entry) (i : ℕ) (P Q : Space → Entry → Type 0) → At es i P → (q : At es i Q) → P (after opening q.0) q.1
+at-same es i P Q p q = let k = same-place es i P Q p q in subst (P (after opening q.0)) k.1 (subst (λ xs. P (after opening xs) p.1) k.0 p.3)
+
 one-caller : (es : List Entry) (c m n : ℕ) → Called es c m → Called es c n → m ≡ n
-one-caller es c m n p q =
-    let k = same-place es c (λ z e. Calls z e m) (λ z e. Calls z e n) p q in
-    let a : thread_made (after opening q.0) q.1.seat ≡ Some m = subst (λ x. thread_made (after opening q.0) x.seat ≡ Some m) k.1 (subst (λ x. thread_made (after opening x) p.1.seat ≡ Some m) k.0 p.3.by) in
-    let b = q.3.by in
-    let j : Some m ≡ Some n = sym a ∙ b in cc
+one-caller es c m n p q = let j : Some m ≡ Some n = sym (at-same es c (λ z e. Calls z e m) (λ z e. Calls z e n) p q).by ∙ q.3.by in cc
 
 one-closed : (es : List Entry) (w c d m n : ℕ) → At es w (λ z e. AnswersCall z e c m) → At es w (λ z e. AnswersCall z e d n) → c ≡ d
-one-closed es w c d m n p q =
-    let k = same-place es w (λ z e. AnswersCall z e c m) (λ z e. AnswersCall z e d n) p q in
-    let a : frame_of (after opening q.0) q.1 ≡ Some c = subst (λ x. frame_of (after opening q.0) x ≡ Some c) k.1 (subst (λ x. frame_of (after opening x) p.1 ≡ Some c) k.0 p.3.innermost) in
-    let b = q.3.innermost in
-    let j : Some c ≡ Some d = sym a ∙ b in cc
+one-closed es w c d m n p q = let j : Some c ≡ Some d = sym (at-same es w (λ z e. AnswersCall z e c m) (λ z e. AnswersCall z e d n) p q).innermost ∙ q.3.innermost in cc
 
 -- ---- the frame that the reply closes
 
@@ -93,12 +83,12 @@ latest-open es w c m n called k =
     let e = k.1 in
     let a = k.3 in
     let r = reply-tested s e a.fields a.parcel (ap (λ x. (change s e.seat x).answer) (sym a.command) ∙ a.accepted) in
-    let f = r.frame in
-    let seat = r.actor_is.thread.seat in
-    let is = served-is s seat f r.serves in
-    let at_seat : innermost_in s.frames e.seat ≡ Some f = subst (λ x. innermost_in s.frames x ≡ Some f) (actor-made s e.seat r.actor_is r.acts).0 is.0 in
+    let f = r.2 in
+    let seat = r.0.thread.seat in
+    let is = served-is s seat f r.3 in
+    let at_seat : innermost_in s.frames e.seat ≡ Some f = subst (λ x. innermost_in s.frames x ≡ Some f) (actor-made s e.seat r.0 r.1).0 is.0 in
     let made : f.made ≡ c = (let j : Some f.made ≡ Some c = sym (ap (option_map made_of) at_seat) ∙ a.innermost in cc) in
-    let caller = calling s f (reply-checked s r.actor_is a.fields a.parcel f r.delivery r.checked).caller (reply-checked s r.actor_is a.fields a.parcel f r.delivery r.checked).found in
+    let caller = calling s f (reply-checked s r.0 a.fields a.parcel f r.4 r.5).caller (reply-checked s r.0 a.fields a.parcel f r.4 r.5).found in
     let paths = always-on_paths k.0 in
     let here = (innermost-is s.frames seat f is.0).0 in
     let none = innermost-childless paths.0 s.frames paths.1.sorted paths.1.parents seat f is.0 is.1 in
@@ -110,16 +100,13 @@ latest-open es w c m n called k =
       record {
         seat = caller.0;
         lives = subst (λ x. thread_made s caller.0 ≡ Some x) (one-caller es c traced.0 m before called) traced.1;
-        stands = any-in (λ (g : Frame). is_frame c g && calls caller.0 g) f s.frames here (both-true (is_frame c f) (calls caller.0 f) (eq-eqb f.made c made) (calls-true caller.0 f caller.1));
+        stands = any-in (λ (g : Frame). is_frame c g && calls caller.0 g) f s.frames here (and-both (is_frame c f) (calls caller.0 f) (eq-eqb f.made c made) (calls-true caller.0 f caller.1));
         latest = all-in (λ (g : Frame). not (calls caller.0 g) || nat_le g.made c) s.frames (λ g l.
             not-later (calls caller.0 g) g.made (λ yes.
             subst (λ x. g.made ≤ x) made (paths.1.leaf f g here l (paths.1.shared caller.0 f g here l (inl caller.1) (inl (true-calls caller.0 g.caller yes))) none)));
       },
     )
   where
-    both-true : (p q : Bool) → p ≡ true → q ≡ true → (p && q) ≡ true
-    both-true p q h k = rw (h, k) refl
-
     not-later : (p : Bool) (x : ℕ) → (p ≡ true → x ≤ c) → (not p || nat_le x c) ≡ true
     not-later p x h = search (arith, le-leb)
 
@@ -130,20 +117,18 @@ latest-open es w c m n called k =
 
 -- some item is this reply, or none
 find-reply : (todo : List Work) (b : ℕ) → ((v : Work) × In v todo × (reply_of v.kind ≡ Some b)) ⊎ ((v : Work) → In v todo → reply_of v.kind ≡ Some b → ⊥)
-find-reply [] b = inr (λ v l e. l)
-find-reply (x ∷ xs) b = at (reply_of x.kind) refl (find-reply xs b)
+find-reply todo b = at (list_any (λ (v : Work). is_some_and (reply_of v.kind) (λ c. c == b)) todo) refl
   where
-    rest : (reply_of x.kind ≡ Some b → ⊥) → ((v : Work) × In v xs × (reply_of v.kind ≡ Some b)) ⊎ ((v : Work) → In v xs → reply_of v.kind ≡ Some b → ⊥)
-        → ((v : Work) × In v (x ∷ xs) × (reply_of v.kind ≡ Some b)) ⊎ ((v : Work) → In v (x ∷ xs) → reply_of v.kind ≡ Some b → ⊥)
-    rest other h = search arith
+    named : (o : Option ℕ) → is_some_and o (λ c. c == b) ≡ true → o ≡ Some b
+    named o h = search (arith, eqb-true)
 
-    by : (c : ℕ) (q : Bool) → reply_of x.kind ≡ Some c → (c == b) ≡ q → ((v : Work) × In v xs × (reply_of v.kind ≡ Some b)) ⊎ ((v : Work) → In v xs → reply_of v.kind ≡ Some b → ⊥)
-        → ((v : Work) × In v (x ∷ xs) × (reply_of v.kind ≡ Some b)) ⊎ ((v : Work) → In v (x ∷ xs) → reply_of v.kind ≡ Some b → ⊥)
-    by c q e t k = search (arith, eqb-true, rest, eq-eqb)
+    names : (o : Option ℕ) → o ≡ Some b → is_some_and o (λ c. c == b) ≡ true
+    names o h = search (arith, eq-eqb)
 
-    at : (o : Option ℕ) → reply_of x.kind ≡ o → ((v : Work) × In v xs × (reply_of v.kind ≡ Some b)) ⊎ ((v : Work) → In v xs → reply_of v.kind ≡ Some b → ⊥)
-        → ((v : Work) × In v (x ∷ xs) × (reply_of v.kind ≡ Some b)) ⊎ ((v : Work) → In v (x ∷ xs) → reply_of v.kind ≡ Some b → ⊥)
-    at o e k = search (arith, rest)
+    at : (q : Bool) → list_any (λ (v : Work). is_some_and (reply_of v.kind) (λ c. c == b)) todo ≡ q
+        → ((v : Work) × In v todo × (reply_of v.kind ≡ Some b)) ⊎ ((v : Work) → In v todo → reply_of v.kind ≡ Some b → ⊥)
+    at true q = let v = any-found (λ (v : Work). is_some_and (reply_of v.kind) (λ c. c == b)) todo q in inl (v.0, v.1, named (reply_of v.0.kind) v.2)
+    at false q = inr (λ v l e. let yes = any-in (λ (v : Work). is_some_and (reply_of v.kind) (λ c. c == b)) v todo l (names (reply_of v.kind) e) in absurd (cc))
 
 module _ (h : History) (s w : ℕ) (taken : reply_taken_at h s ≡ Some w) where
   pub answer : Answered h s w
@@ -164,9 +149,7 @@ module _ (h : History) (s w : ℕ) (taken : reply_taken_at h s ≡ Some w) where
             let here : Answers h.entries w t.0 = subst (λ es. Answers es w t.0) (sym k.2.all) whole in
             let call : here.call ≡ answer.call = one-closed h.entries w here.call answer.call here.server answer.server here.replied answer.replied in
             let caller : t.0 ≡ answer.caller = one-caller h.entries answer.call t.0 answer.caller (subst (λ c. Called h.entries c t.0) call here.called) answer.called in
-            let there = always-seated k.0 on.0 t.0 t.1 in
-            let mine = always-seated k.0 k.1.seat answer.caller k.3 in
-            let same : on.0 ≡ k.1.seat = (let i : Some on.0 ≡ Some k.1.seat = sym there ∙ ap (seat_at k.0) caller ∙ mine in cc) in
+            let same = one-seat k.0 answer.caller on.0 k.1.seat (t.1 ∙ ap (λ n. Some n) caller) k.3 in
             (v.0, v.1, v.2, on.1 ∙ ap (λ n. OfThread n) same))
         | inr none ↦
             absurd (no_reply-later h.entries j s k.0 p.0 k.1 p.1 k.2 p.2 before_reading w after_reply
@@ -182,36 +165,33 @@ module _ (h : History) (s w : ℕ) (taken : reply_taken_at h s ≡ Some w) where
   -- a reply is no call
   not-both : Called h.entries w answer.caller → ⊥
   not-both k =
-      let same = same-place h.entries w (λ z e. Calls z e answer.caller) (λ z e. AnswersCall z e answer.call answer.server) k answer.replied in
-      let step : k.1.step ≡ answer.replied.1.step = ap (λ (x : Entry). x.step) same.1 in
-      let a = k.3.command in
+      let a = (at-same h.entries w (λ z e. Calls z e answer.caller) (λ z e. AnswersCall z e answer.call answer.server) k answer.replied).command in
       let b = answer.replied.3.command in
-      let wrong : Command (bc.Transaction k.3.fields) k.3.parcel ≡ Command (bc.Reply answer.replied.3.fields) answer.replied.3.parcel = sym a ∙ step ∙ b in
       absurd (cc)
 
   pub ended : (j : ℕ) → answer.call < j → j < s → Called h.entries j answer.caller → (j < w) × At h.entries w (λ z e. list_any (is_frame j) z.frames ≡ false)
-  ended j later before_reading k = elim (cases_lt j w) [
-    | inl lt ↦ (
-        let o = latest-open h.entries w answer.call answer.caller answer.server answer.called answer.replied in
-        let z = after opening o.0 in
-        let past = called-before h.entries o.0 o.1 o.2.rest j answer.caller o.2.all (let a = o.2.at in omega arith) k in (
-          lt,
-          (
-            o.0,
-            o.1,
-            o.2,
-            absent j z.frames (λ g l is.
-                let caller = always-callers o.0 g answer.caller o.3.seat l (subst (λ c. Called o.0 c answer.caller) (sym is) past) o.3.lives in
-                let all = all-true (λ (x : Frame). not (calls o.3.seat x) || nat_le x.made answer.call) z.frames o.3.latest g l in
-                let le = not-later (calls o.3.seat g) g.made answer.call (calls-true o.3.seat g caller) all in
-                absurd (omega arith)),
-          ),
-        ))
-    | inr ge ↦ elim (cases_lt w j) [
-      | inl lt ↦ absurd (quiet-between j lt before_reading k)
-      | inr le ↦ (let same : j ≡ w = omega arith in absurd (not-both (subst (λ c. Called h.entries c answer.caller) same k)))
+  ended j later before_reading k = elim (cases_order j w) [
+    | inl is ↦ absurd (not-both (subst (λ c. Called h.entries c answer.caller) is k))
+    | inr o ↦ elim o [
+      | inl lt ↦ (lt, then_closed lt)
+      | inr lt ↦ absurd (quiet-between j lt before_reading k)
     ]
   ]
     where
       not-later : (p : Bool) (x c : ℕ) → p ≡ true → (not p || nat_le x c) ≡ true → x ≤ c
       not-later p x c e q = search (arith, leb-true)
+
+      then_closed : j < w → At h.entries w (λ z e. list_any (is_frame j) z.frames ≡ false)
+      then_closed lt =
+          let o = latest-open h.entries w answer.call answer.caller answer.server answer.called answer.replied in
+          let frames = (after opening o.0).frames in
+          let past = called-before h.entries o.0 o.1 o.2.rest j answer.caller o.2.all (let a = o.2.at in omega arith) k in (
+            o.0,
+            o.1,
+            o.2,
+            absent j frames (λ g l is.
+                let caller = always-callers o.0 g answer.caller o.3.seat l (subst (λ c. Called o.0 c answer.caller) (sym is) past) o.3.lives in
+                let all = all-true (λ (x : Frame). not (calls o.3.seat x) || nat_le x.made answer.call) frames o.3.latest g l in
+                let le = not-later (calls o.3.seat g) g.made answer.call (calls-true o.3.seat g caller) all in
+                absurd (omega arith)),
+          )

@@ -1,19 +1,20 @@
--- Where a call stands open, and which list its thread reads.
-use Rattle.bd_laws.proofs.words.Logic.{◌≡◌, ℕ, zero, suc, ◌<◌, Bool, true, false, cond, ◌&&◌, List, ◌++◌, length, Option, Some, None, Ok, Err, Result, ◌⊎◌, inl, inr, refl, ap, sym, subst, ◌∙◌, filter, arith, find, is_none, eqb-true}
+-- RepliesAnswerTheLatestOpenCall: where a call stands open, and which list its thread reads.
+use Rattle.bd_laws.proofs.words.Logic.{◌≡◌, ℕ, ◌<◌, Bool, true, false, cond, ◌&&◌, List, ◌++◌, Option, Some, None, Ok, Err, Result, ◌⊎◌, inl, inr, ap, sym, ◌∙◌, filter, arith, is_none, eqb-true}
 use Rattle.bd_laws.proofs.words.Types.{TransactionData, DeadReply, Cause, Parcel, Command, Accepted, Entry, Thread, Work, Frame, Actor, TodoList, OfThread, OfProcess, WorkKind}
-use Rattle.bd_laws.proofs.words.Space.{Space, actor, closed, is_gone, innermost_in, owe, is_on, same_list, list_to_read, work_on, has_work_in, ripen, follow, notify, work_goes, deaths_go, names_go, objects_go, settle, settle_one, settle_times, is_abandoned, Delivery, delivered, completed, transaction_step, transaction_outcome, transaction_check, transacted, called, call_out, is_one_way, command_step, taken, change, by_actor, is_spam}
+use Rattle.bd_laws.proofs.words.Space.{Space, actor, closed, is_gone, innermost_in, owe, is_on, same_list, list_to_read, work_on, has_work_in, ripen, follow, notify, work_goes, deaths_go, names_go, objects_go, is_abandoned, Delivery, completed, transaction_step, transaction_outcome, transaction_check, transacted, is_one_way, command_step, taken, change, by_actor}
 use Rattle.bd_uapi.specs.declared.command.Command.TheVariants as bc
 use Rattle.bd_space.specs.declared.space.WorkKind.TheVariants as work
 use Rattle.bd_laws.specs.Lists.{In}
-use Rattle.bd_laws.proofs.Lists.{in-last, in-push, in-filter, filter-in, find-in}
+use Rattle.bd_laws.proofs.Lists.{in-last, in-filter, filter-in, find-in}
 use Rattle.bd_laws.proofs.Tests.{both, not-false}
 use Rattle.bd_laws.proofs.Checks.{transaction-checked}
 use Rattle.bd_audit.specs.Replies.{thread_made, At}
 use Rattle.bd_audit.specs.Latest.{Closes, ReadsAnswer, is_answer}
 use Rattle.bd_laws.proofs.IsInTurn.Ripening as read
 use Rattle.bd_audit.proofs.RepliesReachTheirCallers.Traces.{Called, at-more}
-use Rattle.bd_audit.proofs.RepliesAnswerTheLatestOpenCall.Unread.{Holds, holds-owe}
-use Rattle.bd_laws.proofs.Machine.Fields.{owe-steps, owe-frames, sent-steps, sent-frames, owe-threads}
+use Rattle.bd_audit.proofs.RepliesAnswerTheLatestOpenCall.Unread.{Holds, holds-owe, transacts}
+use Rattle.bd_laws.proofs.Machine.Fields.{owe-frames, owe-threads}
+use Rattle.bd_laws.proofs.Machine.Settled.{settle-keeps}
 
 abbrev pub StandsIn : Space → ℕ → Type 0
 StandsIn z j = (f : Frame) × In f z.frames × (f.made ≡ j)
@@ -54,14 +55,8 @@ holds-waits z y t d h v = (v.0, h v.0 v.3 v.1, v.2, v.3, v.4)
 abbrev pub told : Space → Option ℕ → WorkKind → Space
 told y caller kind = elim caller as (λ (o : Option ℕ). Space) [ None ↦ y | Some t ↦ owe y (OfThread t) kind ]
 
-pub told-frames : (y : Space) (caller : Option ℕ) (kind : WorkKind) → (told y caller kind).frames ≡ y.frames
-told-frames y caller kind = search (arith, owe-frames)
-
 pub told-threads : (y : Space) (caller : Option ℕ) (kind : WorkKind) → (told y caller kind).threads ≡ y.threads
 told-threads y caller kind = search (arith, owe-threads)
-
-pub told-steps : (y : Space) (caller : Option ℕ) (kind : WorkKind) → (told y caller kind).steps ≡ y.steps
-told-steps y caller kind = search (arith, owe-steps)
 
 pub told-holds : (y : Space) (caller : Option ℕ) (kind : WorkKind) → Holds (told y caller kind).todo y.todo
 told-holds y caller kind = search (arith, holds-owe)
@@ -85,43 +80,17 @@ module _ (n : ℕ) where
   unfolding closed
   closed-open z f other h = search (arith, filter-in, not-false, in-filter, eqb-true)
 
-  settled-one : (z : Space) (o : Option Frame) → find (is_abandoned z.frames) z.frames ≡ o → Open z n → Open (settle_one z o) n
-  settled-one z None e h = h
-  settled-one z (Some f) e h =
-      let k = find-in (is_abandoned z.frames) f z.frames e in
-      let gone = (both (is_gone f.server) _ k.1).0 in
-      told-open (closed z f.made) f.caller (work.Verdict DeadReply) (closed-open z f (λ is. let here = h.1 f k.0 is in absurd (cc)) h)
-
-  settled-times : (m : ℕ) (z : Space) → Open z n → Open (settle_times m z) n
-  settled-times zero z h = h
-  settled-times (suc m) z h = settled-one (settle_times m z) (find (is_abandoned (settle_times m z).frames) (settle_times m z).frames) refl (settled-times m z h)
-
   completed-open : (z : Space) → Open z n → Open (completed z) n
-  unfolding completed settle ripen follow notify work_goes deaths_go objects_go names_go
-  completed-open z h = settled-times (length z.frames) (follow (ripen z)) h
-
-framed-open : (y : Space) (seat p n : ℕ) → y.steps ≡ n → ((f : Frame) → In f y.frames → f.made < n) → Open (call_out y seat p) n
-unfolding call_out owe
-framed-open y seat p n steps below = (
-  (_, in-last _ y.frames, steps),
-  (λ g l is. elim (in-push g _ y.frames l) [
-    | inl i ↦ (let lt = below g i in absurd (omega arith))
-    | inr new ↦ ap (λ (x : Frame). is_gone x.server) (sym new)
-  ]),
-)
+  unfolding completed ripen follow notify work_goes deaths_go objects_go names_go
+  completed-open z = settle-keeps (λ y. Open y n) (λ y f e h.
+      let k = find-in (is_abandoned y.frames) f y.frames e in
+      let gone = (both (is_gone f.server) _ k.1).0 in
+      told-open (closed y f.made) f.caller (work.Verdict DeadReply) (closed-open y f (λ is. let here = h.1 f k.0 is in absurd (cc)) h)) (follow (ripen z))
 
 transacted-open : (s : Space) (a : Actor) (d : TransactionData) (v : Delivery) → v.one_way ≡ false → ((f : Frame) → In f s.frames → f.made < s.steps) → Open (transacted s a d v) s.steps
-unfolding transacted
-transacted-open s a d v two_way below = at v.one_way two_way
-  where
-    spam : Bool
-    spam = is_spam (delivered s a d v) a v
-
-    at : (b : Bool) → b ≡ false → Open (called (owe (delivered s a d v) (OfThread a.thread.seat) (work.Complete spam)) a.thread.seat v.receiver.made b) s.steps
-    at true e = absurd (cc)
-    at false e =
-        framed-open (owe (delivered s a d v) (OfThread a.thread.seat) (work.Complete spam)) a.thread.seat v.receiver.made s.steps (sent-steps s a d v spam)
-        (λ g l. below g (subst (In g) (sent-frames s a d v spam) l))
+transacted-open s a d v two_way below =
+    let p = transacts s a d v in
+    (p.new two_way, λ g l is. elim (p.came g l) [ inl i ↦ (let lt = below g i in absurd (omega arith)) | inr new ↦ ap is_gone new.server ])
 
 pub called-stands : (s : Space) (seat : ℕ) (d : TransactionData) (parcel : Option Parcel) → ((f : Frame) → In f s.frames → f.made < s.steps) → is_one_way d ≡ false
     → (change s seat (Command (bc.Transaction d) parcel)).answer ≡ Accepted → StandsIn (change s seat (Command (bc.Transaction d) parcel)).space s.steps

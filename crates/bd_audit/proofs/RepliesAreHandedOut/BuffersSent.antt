@@ -1,14 +1,15 @@
--- Each reply that is due has its buffer, through transactions and replies.
-use Rattle.bd_laws.proofs.words.Logic.{◌≡◌, ℕ, ◌==◌, Bool, true, false, List, [], ◌∷◌, ◌++◌, Option, Some, None, Ok, inl, inr, refl, ap, sym, subst, ◌∙◌, arith, eqb-true}
-use Rattle.bd_laws.proofs.words.Types.{TransactionData, Parcel, Process, Thread, Buffer, Frame, Work, Actor, TodoList, OfThread, WorkKind}
-use Rattle.bd_laws.proofs.words.Space.{Space, actor, with_work, owe, hands_out, assign_numbers, closed, goes_to, Delivery, delivered, own_notices, add_buffer, known_by, refer, make_objects, buffer_of, transacted, called, call_out, reply_check, replied}
+-- For RepliesAreHandedOut and RepliesReachTheirCallers: each reply that is due has its buffer, through transactions and
+-- replies.
+use Rattle.bd_laws.proofs.words.Logic.{◌≡◌, ℕ, ◌==◌, Bool, true, false, cond, List, [], ◌∷◌, ◌++◌, Option, Some, None, Ok, inl, inr, refl, ap, sym, subst, ◌∙◌, arith, eqb-true}
+use Rattle.bd_laws.proofs.words.Types.{TransactionData, Parcel, Process, Thread, Buffer, Frame, Turn, Work, Actor, TodoList, OfThread, OfProcess, WorkKind}
+use Rattle.bd_laws.proofs.words.Space.{Space, actor, turn_of, turns_of, is_ripe, ripened, ripen, with_work, owe, hands_out, assign_numbers, closed, goes_to, Delivery, delivered, own_notices, add_buffer, known_by, refer, make_objects, buffer_of, transacted, called, call_out, reply_check, replied}
 use Rattle.bd_space.specs.declared.space.WorkKind.TheVariants as work
 use Rattle.bd_links.specs.TodoList.{reply_of}
 use Rattle.bd_laws.proofs.words.Laws.{In, IsInTurn}
-use Rattle.bd_laws.proofs.Lists.{in-left, in-last, in-push, find-in}
+use Rattle.bd_laws.proofs.Lists.{in-left, in-last, in-push, in-filter_map, find-in}
 use Rattle.bd_laws.proofs.Checks.{actor-lives, reply-checked}
 use Rattle.bd_laws.proofs.IsInTurn.OneWay.{Less, owe-less, own_notices-less}
-use Rattle.bd_laws.proofs.Machine.Fields.{closed-steps, closed-threads, owe-buffers, sent-steps, sent-threads, owe-threads}
+use Rattle.bd_laws.proofs.Machine.Fields.{closed-same, closed-steps, closed-threads, owe-buffers, sent-steps, sent-threads, owe-threads}
 use Rattle.bd_laws.proofs.AtHome.HomesSent.{caller-acts}
 
 -- the buffer of the reply made at b, which stands on this list: one of a thread of the process that receives it
@@ -80,40 +81,34 @@ module _ (threads : List Thread) (buffers : List Buffer) (place : ℕ) (todo : L
   pub call-held : (list : TodoList) (n : ℕ) → ((w : Work) → In w todo → reply_of w.kind ≡ Some n → ⊥) → Held threads buffers todo
       → Held threads buffers (with_work place todo list (work.Call n))
   call-held list n none h = record {
-    buffer = λ w b l e. h.buffer w b (was w b l e) e;
-    one = λ v w b i j e f. elim (in-push v _ todo i) [
-      | inl l ↦ h.one v w b l (was w b j f) e f
-      | inr is ↦ (
-          let k : Some n ≡ Some b = ap (λ (x : Work). hands_out x.kind) is ∙ e in
-          absurd (none w (was w b j f) (f ∙ sym k)))
-    ];
+    buffer = λ w b l e. search (arith, in-push, h.buffer);
+    one = λ v w b i j e f. search (arith, in-push, h.one, none);
   }
-    where
-      was : (w : Work) (b : ℕ) → In w (with_work place todo list (work.Call n)) → reply_of w.kind ≡ Some b → In w todo
-      was w b l e = elim (in-push w _ todo l) [ inl i ↦ i | inr is ↦ (let no : None ≡ reply_of w.kind = ap (λ (x : Work). reply_of x.kind) is in absurd (cc)) ]
 
   -- a reply whose buffer no item hands over
   reply-held : (t n : ℕ) → ((v : Work) → In v todo → hands_out v.kind ≡ Some n → ⊥) → HasBuffer threads buffers (OfThread t) n → Held threads buffers todo
       → Held threads buffers (with_work place todo (OfThread t) (work.Reply n))
   reply-held t n none x h = record {
-    buffer = λ w b l e. elim (in-push w _ todo l) [
-      | inl i ↦ h.buffer w b i e
-      | inr is ↦ (
-          let k : Some n ≡ Some b = ap (λ (y : Work). reply_of y.kind) is ∙ e in
-          let m : n ≡ b = (let j : Some n ≡ Some b = k in cc) in
-          subst (λ l. HasBuffer threads buffers l b) (ap (λ (y : Work). y.list) is) (subst (HasBuffer threads buffers (OfThread t)) m x))
-    ];
-    one = λ v w b i j e f. elim (in-push v _ todo i) [
-      | inl l ↦ elim (in-push w _ todo j) [
-        | inl m ↦ h.one v w b l m e f
-        | inr is ↦ (let k : Some n ≡ Some b = ap (λ (y : Work). reply_of y.kind) is ∙ f in absurd (none v l (e ∙ sym k)))
-      ]
-      | inr was ↦ elim (in-push w _ todo j) [
-        | inl m ↦ (let k : Some n ≡ Some b = ap (λ (y : Work). hands_out y.kind) was ∙ e in absurd (none w m (reply-hands w.kind b f ∙ sym k)))
-        | inr is ↦ sym was ∙ is
-      ]
-    ];
+    buffer = λ w b l e. search (arith, in-push, h.buffer, x);
+    one = λ v w b i j e f. search (arith, in-push, h.one, none, reply-hands);
   }
+
+-- ---- ripening: each call whose turn comes is a buffer's
+
+module _ (P : List Work → Type 0) (z : Space)
+    (k : (todo : List Work) (b : Buffer) (t : Turn) → In b z.buffers → turn_of b ≡ Some t → P todo → P (with_work z.steps todo (OfProcess t.receiver) (work.Call t.made))) where
+  either : (b : Bool) (more todo : List Work) → (P todo → P more) → P todo → P (cond b more todo)
+  either b more todo f h = search arith
+
+  ripened-keeps-in : (ts older : List Turn) (todo : List Work) → ((t : Turn) → In t ts → (b : Buffer) × In b z.buffers × (turn_of b ≡ Some t)) → P todo → P (ripened z.steps older todo ts)
+  ripened-keeps-in [] older todo own h = h
+  ripened-keeps-in (t ∷ ts) older todo own h =
+      let b = own t (inl refl) in
+      ripened-keeps-in ts (older ++ t ∷ []) _ (λ u l. own u (inr l)) (either (is_ripe todo older t) _ todo (k todo b.0 t b.1 b.2) h)
+
+  pub ripen-keeps-in : P z.todo → P (ripen z).todo
+  unfolding ripen
+  ripen-keeps-in h = ripened-keeps-in (turns_of z.buffers) [] z.todo (λ t l. in-filter_map turn_of t z.buffers l) h
 
 -- ---- what changes neither buffers nor threads
 
@@ -122,15 +117,14 @@ owed z list kind none h = calm (owe z list kind) z (owe-less z list kind none) (
 
 -- ---- transactions and replies
 
-delivered-due : (s : Space) (a : Actor) (d : TransactionData) (v : Delivery) (w : Work) (m : ℕ) → In w (delivered s a d v).todo → hands_out w.kind ≡ Some m → In w s.todo
-unfolding delivered own_notices add_buffer known_by assign_numbers refer make_objects
-delivered-due s a d v w m l e = own_notices-less (add_buffer (known_by s v) (buffer_of (known_by s v) a d v)) a.thread.seat v.sending.items w m l e
-
 abbrev pub sent : Space → Actor → TransactionData → Delivery → Bool → Space
 sent s a d v spam = owe (delivered s a d v) (OfThread a.thread.seat) (work.Complete spam)
 
-sent-due : (s : Space) (a : Actor) (d : TransactionData) (v : Delivery) (spam : Bool) (w : Work) (m : ℕ) → In w (sent s a d v spam).todo → hands_out w.kind ≡ Some m → In w s.todo
-sent-due s a d v spam w m l e = delivered-due s a d v w m ((owe-less (delivered s a d v) (OfThread a.thread.seat) (work.Complete spam) refl).due w m l e) e
+pub sent-due : (s : Space) (a : Actor) (d : TransactionData) (v : Delivery) (spam : Bool) (w : Work) (m : ℕ) → In w (sent s a d v spam).todo → hands_out w.kind ≡ Some m → In w s.todo
+unfolding delivered own_notices add_buffer known_by assign_numbers refer make_objects
+sent-due s a d v spam w m l e =
+    own_notices-less (add_buffer (known_by s v) (buffer_of (known_by s v) a d v)) a.thread.seat v.sending.items w m
+    ((owe-less (delivered s a d v) (OfThread a.thread.seat) (work.Complete spam) refl).due w m l e) e
 
 sent-buffers : (s : Space) (a : Actor) (d : TransactionData) (v : Delivery) (spam : Bool) → (sent s a d v spam).buffers ≡ s.buffers ++ buffer_of (known_by s v) a d v ∷ []
 unfolding owe delivered own_notices add_buffer known_by assign_numbers refer make_objects
@@ -152,12 +146,16 @@ pub transacts : (s : Space) (a : Actor) (d : TransactionData) (v : Delivery) →
 unfolding transacted
 transacts s a d v turns h = search (arith, calls-out, sent, reply-hands, sent-steps, unmade, sent-due, sends)
 
-answers : (y : Space) (caller : Option ℕ) (n : ℕ) → ((v : Work) → In v y.todo → hands_out v.kind ≡ Some n → ⊥)
-    → ((t : ℕ) → caller ≡ Some t → HasBuffer y.threads y.buffers (OfThread t) n) → RepliesHeld y
-    → RepliesHeld (elim caller as (λ (o : Option ℕ). Space) [ None ↦ y | Some t ↦ owe y (OfThread t) (work.Reply n) ])
+-- where the caller is there, it is told
+pub told-when : (R : Space → Type 0) (kind : WorkKind) (z : Space) (caller : Option ℕ) → ((t : ℕ) → caller ≡ Some t → R z → R (owe z (OfThread t) kind)) → R z
+    → R (elim caller as (λ (o : Option ℕ). Space) [ None ↦ z | Some t ↦ owe z (OfThread t) kind ])
+told-when R kind z None k h = h
+told-when R kind z (Some t) k h = k t refl h
+
+answers : (y : Space) (t n : ℕ) → ((v : Work) → In v y.todo → hands_out v.kind ≡ Some n → ⊥) → HasBuffer y.threads y.buffers (OfThread t) n → RepliesHeld y
+    → RepliesHeld (owe y (OfThread t) (work.Reply n))
 unfolding owe
-answers y None n none has h = h
-answers y (Some t) n none has h = reply-held y.threads y.buffers y.steps y.todo t n none (has t refl) h
+answers y t n = reply-held y.threads y.buffers y.steps y.todo t n
 
 pub closes : (z : Space) (made : ℕ) → RepliesHeld z → RepliesHeld (closed z made)
 unfolding closed
@@ -183,17 +181,13 @@ fits s x t a c d v steps threads acts to two_way =
       receiver = sym (ap (λ (y : Process). y.made) to ∙ eqb-true c.process.made c.thread.process q.1);
     }
 
-closed-todo : (s : Space) (made : ℕ) → (closed s made).todo ≡ s.todo
-unfolding closed
-closed-todo s made = refl
-
 pub replies : (s : Space) (a : Actor) (d : TransactionData) (parcel : Option Parcel) (f : Frame) (v : Delivery) → IsInTurn s → reply_check s a d parcel f ≡ Ok v → RepliesHeld s
     → RepliesHeld (replied s a d f v)
 unfolding replied
 replies s a d parcel f v turns checked h =
     let x = closed s f.made in
     let r = reply-checked s a d parcel f v checked in
-    answers (sent x a d v false) f.caller s.steps
-    (λ w l e. unmade s turns w (subst (In w) (closed-todo s f.made) (sent-due x a d v false w s.steps l e)) e)
-    (λ t e. fits s x t a r.caller d v (closed-steps s f.made) (closed-threads s f.made) (caller-acts s f t r.caller r.found e) r.receiver r.one_way)
+    told-when RepliesHeld (work.Reply s.steps) (sent x a d v false) f.caller (λ t e.
+    answers (sent x a d v false) t s.steps (λ w l hands. unmade s turns w (subst (In w) (closed-same s f.made).3 (sent-due x a d v false w s.steps l hands)) hands)
+    (fits s x t a r.caller d v (closed-steps s f.made) (closed-threads s f.made) (caller-acts s f t r.caller r.found e) r.receiver r.one_way))
     (sends x a d v false (closes s f.made h))

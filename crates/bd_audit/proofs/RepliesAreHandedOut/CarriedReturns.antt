@@ -1,8 +1,7 @@
--- What a refusal or a verdict tells its reader is never a BR_REPLY.
-use Rattle.bd_laws.proofs.words.Logic.{arith}
-use Rattle.bd_laws.proofs.words.Logic.{◌≡◌, ℕ, Bool, true, false, not, List, [], ◌∷◌, ◌++◌, Option, Some, None, inl, inr, refl, ap, sym, ◌∙◌}
+-- For RepliesAreHandedOut and StreamsSpellTheirItems: what a refusal or a verdict tells its reader is never a BR_REPLY.
+use Rattle.bd_laws.proofs.words.Logic.{arith, ◌≡◌, ℕ, Bool, true, false, not, List, [], ◌∷◌, ◌++◌, Option, Some, None, inl, inr, refl, ap, sym, ◌∙◌}
 use Rattle.bd_laws.proofs.words.Types.{TransactionData, DeadReply, FailedReply, TransactionComplete, Cause, Step, Entry, Frame, Work, Actor, OfThread, WorkKind}
-use Rattle.bd_laws.proofs.words.Space.{Space, opening, owe, closed, Delivery, delivered, add_buffer, transacted, call_out, refusal, replied, reply_refused, read_by, counted, after, next}
+use Rattle.bd_laws.proofs.words.Space.{Space, opening, owe, closed, Delivery, delivered, add_buffer, call_out, refusal, replied, reply_refused, read_by, counted, after, next}
 use Rattle.bd_space.specs.declared.space.WorkKind.TheVariants as work
 use Rattle.bd_laws.specs.Lists.{In}
 use Rattle.bd_laws.proofs.Machine.EveryStep.{KeepsWhole, every_whole_step, every_list}
@@ -47,52 +46,39 @@ Keeping = Between Kept Allowed listing
 table : Table Keeping Allowed
 table = listing_table Kept Allowed listing
 
-told : (z : Space) (caller : Option ℕ) (kind : WorkKind) → is_plain kind ≡ true → IsPlain z
-    → IsPlain (elim caller as (λ (o : Option ℕ). Space) [ None ↦ z | Some t ↦ owe z (OfThread t) kind ])
-told z caller kind k = told-keeps IsPlain kind (λ z t. table.owes z (OfThread t) kind k) z caller
-
-closes : (z : Space) (made : ℕ) → IsPlain z → IsPlain (closed z made)
+-- a frame closes, and its caller is told
+closes : (z : Space) (f : Frame) (kind : WorkKind) → is_plain kind ≡ true → IsPlain z
+    → IsPlain (elim f.caller as (λ (o : Option ℕ). Space) [ None ↦ closed z f.made | Some t ↦ owe (closed z f.made) (OfThread t) kind ])
 unfolding closed
-closes z made h = h
+closes z f kind k = told-keeps IsPlain kind (λ z t. table.owes z (OfThread t) kind k) (closed z f.made) f.caller
 
 -- ---- transactions and replies
 
-sends : (s : Space) (a : Actor) (d : TransactionData) (v : Delivery) (spam : Bool) → IsPlain s → IsPlain (owe (delivered s a d v) (OfThread a.thread.seat) (work.Complete spam))
-unfolding add_buffer
-sends = sent-by Keeping Allowed table (λ z o. listing.fewer _ z.todo) (λ z b h. h) (λ spam. refl)
-
-transacts : (s : Space) (a : Actor) (d : TransactionData) (v : Delivery) → IsPlain s → IsPlain (transacted s a d v)
-unfolding add_buffer call_out owe
-transacts = transacted-by Keeping Allowed table (λ z o. listing.fewer _ z.todo) (λ z b h. h) (λ spam. refl) (λ z seat p. push-plain z.todo _ refl)
-
 replies : (s : Space) (a : Actor) (d : TransactionData) (f : Frame) (v : Delivery) → IsPlain s → IsPlain (replied s a d f v)
-unfolding replied
+unfolding replied closed add_buffer
 replies s a d f v h =
     let x = closed s f.made in
-    told (owe (delivered x a d v) (OfThread a.thread.seat) (work.Complete false)) f.caller (work.Reply s.steps) refl (sends x a d v false (closes s f.made h))
-
-fails : (s : Space) (seat : ℕ) (f : Frame) → IsPlain s → IsPlain (reply_refused s seat f)
-unfolding reply_refused
-fails s seat f h =
-    let x = owe s (OfThread seat) (work.Refusal TransactionComplete) in
-    told (closed x f.made) f.caller (work.Verdict FailedReply) refl (closes x f.made (table.owes s (OfThread seat) (work.Refusal TransactionComplete) refl h))
+    told-keeps IsPlain (work.Reply s.steps) (λ z t. table.owes z (OfThread t) (work.Reply s.steps) refl) (owe (delivered x a d v) (OfThread a.thread.seat) (work.Complete false)) f.caller
+    (sent-by Keeping Allowed table (λ z o. listing.fewer _ z.todo) (λ z b k. k) (λ spam. refl) x a d v false h)
 
 -- ---- every step
 
 kept : (s : Space) (seat : ℕ) (x : Step) → IsPlain s → KeepsWhole s seat x IsPlain IsPlain
-unfolding read_by
+unfolding read_by add_buffer call_out owe reply_refused
 kept s seat x h = record {
   set_up = set_up-by Keeping Allowed table s seat x IsPlain (λ z k. k h);
   changes = changes-by Keeping Allowed table s seat x IsPlain (λ z k. k h) (listing_exits Kept Allowed listing) (record {
-    transacts = λ a d parcel v e i t. transacts s a d v h;
+    transacts = λ a d parcel v e i t. transacted-by Keeping Allowed table (λ z o. listing.fewer _ z.todo) (λ z b k. k) (λ spam. refl) (λ z seat p. push-plain z.todo _ refl) s a d v h;
     replies = λ a d parcel f v e i g t. replies s a d f v h;
     reads = λ a limit e i n. listing.fewer _ s.todo h;
     ripens = ripen-by Keeping Allowed table (λ made. refl);
   });
   follows = followed-by Keeping Allowed table;
   refuses = λ t c. table.owes s (OfThread t) (work.Refusal (refusal c)) (refusal-plain c) h;
-  fails = λ a d parcel f e i g. fails s a.thread.seat f h;
-  abandons = λ z f e k. told (closed z f.made) f.caller (work.Verdict DeadReply) refl (closes z f.made k);
+  fails = λ a d parcel f e i g.
+      closes (owe s (OfThread a.thread.seat) (work.Refusal TransactionComplete)) f (work.Verdict FailedReply) refl
+      (table.owes s (OfThread a.thread.seat) (work.Refusal TransactionComplete) refl h);
+  abandons = λ z f e. closes z f (work.Verdict DeadReply) refl;
 }
 
 step-plain : (s : Space) (e : Entry) → IsPlain s → IsPlain (next s e)

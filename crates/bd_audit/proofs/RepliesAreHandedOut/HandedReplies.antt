@@ -1,8 +1,9 @@
--- What a reading hands out has a BR_REPLY exactly where the reading takes a reply.
-use Rattle.bd_laws.proofs.words.Logic.{arith}
-use Rattle.bd_laws.proofs.words.Logic.{◌≡◌, ℕ, ◌-◌, Bool, true, false, cond, not, ◌||◌, List, [], ◌∷◌, ◌++◌, append_assoc, Option, Some, None, Result, inl, inr, refl, ap, sym, subst, ◌∙◌, map, list_any, concat, flat_map, find, option_map, is_some, eq-eqb, list_any-append}
-use Rattle.bd_laws.proofs.words.Types.{TransactionData, Return, Cause, Fault, Note, ObjectId, Parcel, Step, Open, Attach, SetManager, Command, Read, ExitThread, ExitProcess, StepAnswer, Got, Entry, Process, Object, Reference, Frame, Buffer, Work, Actor, DeathNotification, WorkKind, SetSpam}
-use Rattle.bd_laws.proofs.words.Space.{first_of, Space, opening, actor, thread_in, process_with_pid, object_in, list_to_read, Delivery, transaction_step, transaction_outcome, reply_step, reply_to, reply_outcome, free_step, free_outcome, is_made_at, ask_step, drop_step, done_step, acknowledge, ask, drop_asked, request_step, is_notification, requested, clear_step, death_done_step, death_done_outcome, cleared, command_step, read_step, read_taking, read_fault, got, taken, buffer_taken, stream_of, bytes_read, buffer_in, data_of, one, returns_of, returns_of_object, exit_thread_step, exit_process_step, Outcome, refused, by_check, change, open_step, open_outcome, open_fault, attach_step, attach_outcome, manager_step, manager_outcome, is_manager_busy, by_actor, History, IsHistory, Follows, after, spam_step}
+-- For RepliesAreHandedOut and StreamsSpellTheirItems: what a reading hands out has a BR_REPLY exactly where the reading
+-- takes a reply.
+use Rattle.bd_laws.proofs.words.Logic.{arith, ◌≡◌, ℕ, ◌-◌, Bool, true, false, cond, not, List, [], ◌∷◌, ◌++◌, Option, Some, Result, inl, inr, refl, ap, subst, ◌∙◌, map, list_any, concat, flat_map, find, option_map, is_some, eq-eqb, list_any-append, map-append}
+use Rattle.std.proofs.lemmas.List.Folds.{concat-append}
+use Rattle.bd_laws.proofs.words.Types.{TransactionData, Return, Cause, Fault, Note, Parcel, Step, Open, Attach, SetManager, Command, Read, ExitThread, ExitProcess, StepAnswer, Got, Entry, Process, Object, Reference, Frame, Buffer, Work, Actor, DeathNotification, WorkKind, SetSpam}
+use Rattle.bd_laws.proofs.words.Space.{Space, opening, actor, thread_in, process_with_pid, object_in, list_to_read, Delivery, transaction_step, transaction_outcome, reply_step, reply_to, reply_outcome, free_step, free_outcome, is_made_at, ask_step, drop_step, done_step, request_step, is_notification, clear_step, death_done_step, death_done_outcome, command_step, read_taking, got, taken, buffer_taken, stream_of, bytes_read, buffer_in, data_of, one, returns_of, returns_of_object, exit_thread_step, exit_process_step, Outcome, by_check, change, open_step, open_outcome, open_fault, attach_step, attach_outcome, manager_step, manager_outcome, is_manager_busy, by_actor, History, IsHistory, Follows, after, spam_step}
 use Rattle.bd_uapi.specs.declared.command.Command as command
 use Rattle.bd_uapi.specs.declared.command.Return.TheVariants as br
 use Rattle.bd_codec.specs.Spelling.{return_bytes}
@@ -13,10 +14,11 @@ use Rattle.bd_laws.proofs.Lists.{find-some}
 use Rattle.bd_laws.proofs.Tests.{not-true}
 use Rattle.bd_laws.proofs.IsInTurn.Ripening.{read-in}
 use Rattle.bd_audit.specs.Hearing.{is_got}
-use Rattle.bd_audit.specs.Replies.{items_read, items_taken, items_unless, reply_taken, At}
+use Rattle.bd_audit.specs.Replies.{items_taken, reply_taken, At}
 use Rattle.bd_audit.specs.Streams.{SpellsItems}
 use Rattle.bd_audit.specs.HandedReplies.{is_reply, HandsOut}
 use Rattle.bd_audit.proofs.Beginnings.{follows-rest}
+use Rattle.bd_audit.proofs.RepliesReachTheirCallers.Readings.{reading}
 use Rattle.bd_audit.proofs.RepliesAreHandedOut.ReplyBuffers.{always-held}
 use Rattle.bd_audit.proofs.RepliesAreHandedOut.BuffersSent.{RepliesHeld}
 use Rattle.bd_audit.proofs.RepliesAreHandedOut.CarriedReturns.{is_plain, always-plain}
@@ -38,11 +40,8 @@ notice-none references o = search (arith, none-both, none-if)
 carried-none : (r : Return) → not (is_reply r) ≡ true → HasReply (r ∷ []) ≡ false
 carried-none r h = rw (not-true (is_reply r) h) refl
 
-call-none : (z : Space) (o : Option Buffer) → HasReply (one (option_map (λ (x : Buffer). br.Transaction (data_of z x)) o)) ≡ false
-call-none z o = search arith
-
-death-none : (o : Option DeathNotification) → HasReply (one (option_map (λ (x : DeathNotification). br.DeadBinder x.cookie) o)) ≡ false
-death-none o = search arith
+one-none : {A : Type 0} (f : A → Return) (o : Option A) → ((x : A) → is_reply (f x) ≡ false) → HasReply (one (option_map f o)) ≡ false
+one-none f o h = search (arith, none-if)
 
 reply-is : (z : Space) (o : Option Buffer) → HasReply (one (option_map (λ (x : Buffer). br.Reply (data_of z x)) o)) ≡ is_some o
 reply-is z o = search arith
@@ -55,10 +54,10 @@ item-gives z (work.Notice o) p h = notice-none z.references (object_in z.objects
 item-gives z (work.Complete false) p h = refl
 item-gives z (work.Complete true) p h = refl
 item-gives z (work.Refusal r) p h = carried-none r p
-item-gives z (work.Call b) p h = call-none z (buffer_in z.buffers b)
+item-gives z (work.Call b) p h = one-none (λ (x : Buffer). br.Transaction (data_of z x)) (buffer_in z.buffers b) (λ x. refl)
 item-gives z (work.Reply b) p h = reply-is z (buffer_in z.buffers b) ∙ h b refl
 item-gives z (work.Verdict r) p h = carried-none r p
-item-gives z (work.Death n) p h = death-none (find (is_notification n) z.deaths)
+item-gives z (work.Death n) p h = one-none (λ (x : DeathNotification). br.DeadBinder x.cookie) (find (is_notification n) z.deaths) (λ x. refl)
 item-gives z (work.Cleared cookie) p h = refl
 
 -- ---- the returns of a reading
@@ -66,27 +65,14 @@ item-gives z (work.Cleared cookie) p h = refl
 abbrev returns_of_all : Space → List Work → List Return
 returns_of_all z ws = flat_map (λ (w : Work). returns_of z w.kind) ws
 
-joined : (xs ys : List Return) → concat (map return_bytes (xs ++ ys)) ≡ concat (map return_bytes xs) ++ concat (map return_bytes ys)
-joined [] ys = refl
-joined (x ∷ xs) ys = ap (λ l. return_bytes x ++ l) (joined xs ys) ∙ sym (append_assoc (return_bytes x) (concat (map return_bytes xs)) (concat (map return_bytes ys)))
-
 spells : (z : Space) (ws : List Work) → concat (map (bytes_read z) ws) ≡ concat (map return_bytes (returns_of_all z ws))
 spells z [] = refl
-spells z (w ∷ ws) = ap (λ l. bytes_read z w ++ l) (spells z ws) ∙ sym (joined (returns_of z w.kind) (returns_of_all z ws))
-
-spells-stream : (z : Space) (ws : List Work) → stream_of z ws ≡ concat (map return_bytes (br.Noop ∷ returns_of_all z ws))
-unfolding stream_of
-spells-stream z ws = ap (λ l. return_bytes br.Noop ++ l) (spells z ws)
+spells z (w ∷ ws) = search (arith, map-append, concat-append, spells z ws)
 
 all-give : (z : Space) (ws : List Work) → ((w : Work) → In w ws → HasReply (returns_of z w.kind) ≡ is_some (reply_of w.kind))
     → HasReply (returns_of_all z ws) ≡ is_some (first_reply_in ws)
 all-give z [] h = refl
-all-give z (w ∷ ws) h =
-    list_any-append is_reply (returns_of z w.kind) (returns_of_all z ws)
-    ∙ ap (λ b. b || HasReply (returns_of_all z ws)) (h w (inl refl)) ∙ ap (λ b. is_some (reply_of w.kind) || b) (all-give z ws (λ v l. h v (inr l))) ∙ at (reply_of w.kind)
-  where
-    at : (o : Option ℕ) → (is_some o || is_some (first_reply_in ws)) ≡ is_some (first_of (o ∷ map (λ (v : Work). reply_of v.kind) ws))
-    at o = search arith
+all-give z (w ∷ ws) h = search (arith, list_any-append, h w (inl refl), all-give z ws (λ v l. h v (inr l)))
 
 -- ---- only a reading answers with bytes
 
@@ -108,27 +94,15 @@ reply_to-silent s a d parcel o = search (arith, reply-silent)
 free-silent : (s : Space) (o : Option Buffer) → IsSilent (free_outcome s o)
 free-silent s o = search arith
 
-ask-silent : (s : Space) (p : ℕ) (strong : Bool) (r : Result ObjectId Note) → IsSilent (by_check s (λ o. ask s p o strong) r)
-ask-silent s p strong r = search arith
-
-drop-silent : (s : Space) (p : ℕ) (strong : Bool) (r : Result ObjectId Note) → IsSilent (by_check s (λ o. drop_asked s p o strong) r)
-drop-silent s p strong r = search arith
-
-done-silent : (s : Space) (strong : Bool) (r : Result Object Note) → IsSilent (by_check s (λ x. acknowledge s x.id strong) r)
-done-silent s strong r = search arith
-
-request-silent : (s : Space) (p cookie : ℕ) (r : Result ObjectId Note) → IsSilent (by_check s (λ o. requested s p o cookie) r)
-request-silent s p cookie r = search arith
-
-clear-silent : (s : Space) (t : ℕ) (r : Result DeathNotification Note) → IsSilent (by_check s (cleared s t) r)
-clear-silent s t r = search arith
+check-silent : {A : Type 0} (s : Space) (f : A → Space) (r : Result A Note) → IsSilent (by_check s f r)
+check-silent s f r = search arith
 
 death_done-silent : (s : Space) (t : ℕ) (o : Option DeathNotification) → IsSilent (death_done_outcome s t o)
 death_done-silent s t o = search arith
 
 command-silent : (s : Space) (a : Actor) (c : command.Command) (parcel : Option Parcel) → IsSilent (command_step s a c parcel)
 unfolding command_step transaction_step reply_step free_step ask_step drop_step done_step request_step clear_step death_done_step
-command-silent s a c parcel = search (arith, transaction-silent, reply_to-silent, free-silent, ask-silent, drop-silent, done-silent, request-silent, clear-silent, death_done-silent)
+command-silent s a c parcel = search (arith, transaction-silent, reply_to-silent, free-silent, check-silent, death_done-silent)
 
 open-silent : (s : Space) (seat pid euid window : ℕ) (o : Option Fault) → IsSilent (open_outcome s seat pid euid window o)
 open-silent s seat pid euid window o = search arith
@@ -141,13 +115,9 @@ manager-silent s p b = search arith
 
 -- ---- the bytes that a reading answers are those of the items that it takes
 
-abbrev stream_in : StepAnswer → List ℕ
-stream_in (Got stream bytes offsets) = stream
-stream_in _ = []
-
-record GotOf (z : Space) (seat : ℕ) (x : Step) (stream : List ℕ) : Type 0 where
-  stream_is : stream ≡ stream_of z (items_taken z seat x)
-  due : (w : Work) → In w (items_taken z seat x) → In w z.todo
+record GotOf (z : Space) (ws : List Work) (stream : List ℕ) : Type 0 where
+  stream_is : stream ≡ stream_of z ws
+  due : (w : Work) → In w ws → In w z.todo
 
 module _ (z : Space) (seat : ℕ) (stream bytes offsets : List ℕ) where
   not-silent : {A : Type 0} (y : StepAnswer) → is_got y ≡ false → y ≡ Got stream bytes offsets → A
@@ -156,31 +126,16 @@ module _ (z : Space) (seat : ℕ) (stream bytes offsets : List ℕ) where
   gives : (own : List ℕ) (o : Option Buffer) → got own o ≡ Got stream bytes offsets → stream ≡ own
   gives own o e = search arith
 
-  -- with what the reading tested
-  reads-list : (a : Actor) (limit : ℕ) (o : Option Fault)
-      → (elim o as (λ (o : Option Fault). Outcome) [ Some y ↦ refused z y | None ↦ read_taking z a.thread.seat (taken z (limit - 4) (list_to_read z a.thread)) ]).answer
-      ≡ Got stream bytes offsets
-      → (let ws = items_unless o (taken z (limit - 4) (list_to_read z a.thread)) in (stream ≡ stream_of z ws) × ((w : Work) → In w ws → In w z.todo))
-  unfolding read_taking
-  reads-list a limit (Some y) e = absurd (cc)
-  reads-list a limit None e =
-      let ws = taken z (limit - 4) (list_to_read z a.thread) in
-      (gives (stream_of z ws) (buffer_taken z ws) e, read-in z a.thread (limit - 4))
-
-  reads : (limit : ℕ) (o : Option Actor) → (by_actor z o (λ a. read_step z a limit)).answer ≡ Got stream bytes offsets
-      → (stream ≡ stream_of z (items_read z limit o)) × ((w : Work) → In w (items_read z limit o) → In w z.todo)
-  unfolding read_step
-  reads limit None e = absurd (cc)
-  reads limit (Some a) e = reads-list a limit (read_fault limit (list_to_read z a.thread)) e
-
-  got-of : (x : Step) → (change z seat x).answer ≡ Got stream bytes offsets → GotOf z seat x stream
-  unfolding change open_step attach_step manager_step spam_step exit_thread_step exit_process_step
+  got-of : (x : Step) → (change z seat x).answer ≡ Got stream bytes offsets → GotOf z (items_taken z seat x) stream
+  unfolding read_taking change open_step attach_step manager_step spam_step exit_thread_step exit_process_step
   got-of (Open pid euid window) e = not-silent _ (open-silent z seat pid euid window (open_fault z seat pid window)) e
   got-of (Attach pid) e = not-silent _ (attach-silent z seat (process_with_pid z.processes pid) (is_some (thread_in z.threads seat))) e
   got-of SetManager e = not-silent _ (acts-silent z (actor z seat) (manager_step z) (λ a. manager-silent z a.process.made (is_manager_busy z a.process.made))) e
   got-of (SetSpam on) e = not-silent _ (acts-silent z (actor z seat) (spam_step z on) (λ a. refl)) e
   got-of (Command c parcel) e = not-silent _ (acts-silent z (actor z seat) (λ a. command_step z a c parcel) (λ a. command-silent z a c parcel)) e
-  got-of (Read limit) e = let k = reads limit (actor z seat) e in record { stream_is = k.0; due = k.1 }
+  got-of (Read limit) e =
+      reading (λ ws o. o.answer ≡ Got stream bytes offsets → GotOf z ws stream) z (λ f e. absurd (cc)) seat limit
+      (λ a acts e. let ws = taken z (limit - 4) (list_to_read z a.thread) in record { stream_is = gives (stream_of z ws) (buffer_taken z ws) e; due = read-in z a.thread (limit - 4) }) e
   got-of ExitThread e = not-silent _ (acts-silent z (actor z seat) (exit_thread_step z) (λ a. refl)) e
   got-of ExitProcess e = not-silent _ (acts-silent z (actor z seat) (exit_process_step z) (λ a. refl)) e
 
@@ -196,14 +151,15 @@ module _ (h : History) (lawful : IsHistory h) (i : ℕ) (stream bytes offsets : 
   abbrev e : Entry
   e = at.1
 
-  gotten : GotOf z e.seat e.step stream
+  gotten : GotOf z (items_taken z e.seat e.step) stream
   gotten =
       let stands = at.2 in
       let follows = (follows-rest opening at.0 (e ∷ stands.rest) (subst (Follows opening) stands.all lawful.follows)).0 in
       got-of z e.seat stream bytes offsets e.step (follows.answer ∙ at.3)
 
   spells-items : SpellsItems z e stream
-  spells-items = gotten.stream_is ∙ spells-stream z (items_taken z e.seat e.step)
+  unfolding stream_of
+  spells-items = gotten.stream_is ∙ ap (λ l. return_bytes br.Noop ++ l) (spells z (items_taken z e.seat e.step))
 
   pub spelt : At h.entries i (λ z e. SpellsItems z e stream)
   spelt = (at.0, e, at.2, spells-items)

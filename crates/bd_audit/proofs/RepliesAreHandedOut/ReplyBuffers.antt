@@ -1,70 +1,64 @@
--- Each reply that is due has its buffer: not handed out yet, and in the window of the process on whose thread's list it stands.
-use Rattle.bd_laws.proofs.words.Logic.{arith}
-use Rattle.bd_laws.proofs.words.Logic.{◌≡◌, ℕ, suc, ◌-◌, ◌==◌, Bool, true, false, cond, not, List, [], ◌∷◌, ◌++◌, Option, Some, inl, inr, refl, ap, sym, ◌∙◌, map, filter, fold, list_any, eqb-true, eq-eqb}
-use Rattle.bd_laws.proofs.words.Types.{Step, Entry, Thread, Buffer, Turn, Work, TodoList, OfThread, OfProcess}
-use Rattle.bd_laws.proofs.words.Space.{is_some_and, Space, opening, with_work, is_on, same_list, is_item, list_to_read, turn_of, turns_of, ripen, ripened, is_ripe, follow, notify, work_goes, deaths_go, names_go, assign_numbers, objects_go, without_buffer, is_made_at, taken, read_by, buffer_taken, handed_buffers, thread_goes, is_lost_with, threads_go, without_process, tell_deaths, seat_of, counted, with_thread, with_process, with_manager, ask, drop_asked, acknowledge, with_looping, after, next, with_spam_detection}
+-- For RepliesAreHandedOut and RepliesReachTheirCallers: each reply that is due has its buffer: not handed out yet, and in
+-- the window of the process on whose thread's list it stands.
+use Rattle.bd_laws.proofs.words.Logic.{arith, inl, inr, ◌≡◌, ℕ, suc, ◌-◌, ◌==◌, Bool, true, false, cond, not, List, [], ◌∷◌, Option, Some, refl, ap, sym, ◌∙◌, fold, list_any, eqb-true, eq-eqb}
+use Rattle.bd_laws.proofs.words.Types.{Step, Entry, Thread, Buffer, Work, TodoList, OfThread, OfProcess}
+use Rattle.bd_laws.proofs.words.Space.{Space, opening, is_on, same_list, is_item, list_to_read, ripen, follow, notify, work_goes, deaths_go, names_go, assign_numbers, objects_go, without_buffer, is_made_at, taken, read_by, buffer_taken, handed_buffers, thread_goes, is_lost_with, threads_go, without_process, tell_deaths, counted, with_thread, with_process, with_manager, ask, drop_asked, acknowledge, with_looping, after, next, with_spam_detection}
 use Rattle.bd_space.specs.declared.space.WorkKind.TheVariants as work
 use Rattle.bd_links.specs.TodoList.{reply_of}
 use Rattle.bd_laws.proofs.words.Laws.{In, IsInTurn}
+use Rattle.bd_laws.proofs.Machine.EveryEnding.{SetUp}
 use Rattle.bd_laws.proofs.Machine.EveryStep.{Keeps, every_step, every_list}
-use Rattle.bd_laws.proofs.IsInTurn.Received.{one-made}
-use Rattle.bd_laws.proofs.Lists.{in-left, in-filter, filter-in, in-filter_map, changed-in, map-in, any-found, any-in, fold-keeps}
-use Rattle.bd_laws.proofs.Tests.{both, not-true}
+use Rattle.bd_laws.proofs.IsInTurn.Received.{one-made, one-buffer}
+use Rattle.bd_laws.proofs.Lists.{in-left, in-filter, filter-in, changed-in, map-in, any-in}
+use Rattle.bd_laws.proofs.Tests.{not-true}
 use Rattle.bd_laws.proofs.IsInTurn.InTurn.{Turning, opening-in_turn}
 use Rattle.bd_laws.proofs.IsInTurn.Ripening.{taken-due, read-in, turn-parts}
 use Rattle.bd_laws.proofs.OnPaths.PathWords.{same-item}
 use Rattle.bd_laws.proofs.Machine.Deaths.{tell_deaths-aside, on-mapped, on-both, on-commands, commands-both, on_deaths-aside}
 use Rattle.bd_laws.proofs.IsInTurn.OneWay as one_way
 use Rattle.bd_laws.proofs.IsInTurn.InTurn as turn
-use Rattle.bd_laws.proofs.IsInTurn.Passing.{at_pointer-in}
-use Rattle.bd_audit.proofs.RepliesAreHandedOut.BuffersSent.{Held, RepliesHeld, has-moved, grown, calm, call-held, owed, transacts, closes, replies}
+use Rattle.bd_laws.proofs.IsInTurn.Passing.{at_pointer-in, lost-on}
+use Rattle.bd_laws.proofs.Machine.Following.{threads-keep}
+use Rattle.bd_audit.proofs.RepliesAreHandedOut.BuffersSent.{Held, HasBuffer, RepliesHeld, has-moved, grown, calm, call-held, ripen-keeps-in, owed, transacts, closes, replies}
 
 -- ---- one-way calls that become due
 
-module _ (threads : List Thread) (buffers : List Buffer) (place : ℕ) where
-  ripens-one : (r : Bool) (todo : List Work) (t : Turn) → ((c : Buffer) → In c buffers → c.made ≡ t.made → c.one_way ≡ true) → Held threads buffers todo
-      → Held threads buffers (cond r (with_work place todo (OfProcess t.receiver) (work.Call t.made)) todo)
-  ripens-one true todo t one h =
-      call-held threads buffers place todo (OfProcess t.receiver) t.made
-      (λ w l e. let x = h.buffer w t.made l e in let yes = one x.buffer x.here x.made in let no = x.two_way in absurd (cc)) h
-  ripens-one false todo t one h = h
-
-  ripens-all : (ts older : List Turn) (todo : List Work) → ((t : Turn) → In t ts → (c : Buffer) → In c buffers → c.made ≡ t.made → c.one_way ≡ true) → Held threads buffers todo
-      → Held threads buffers (ripened place older todo ts)
-  ripens-all [] older todo one h = h
-  ripens-all (t ∷ ts) older todo one h = ripens-all ts (older ++ t ∷ []) _ (λ u l. one u (inr l)) (ripens-one (is_ripe todo older t) todo t (one t (inl refl)) h)
-
 ripens : (z : Space) → Turning z → RepliesHeld z → RepliesHeld (ripen z)
 unfolding ripen
-ripens z turns h =
-    ripens-all z.threads z.buffers z.steps (turns_of z.buffers) [] z.todo
-    (λ t l c i e.
-    let x = in-filter_map turn_of t z.buffers l in
-    let k = turn-parts x.0 t x.2 in
-    let is : c ≡ x.0 = one-made (suc z.steps) z.buffers z.todo turns c x.0 i x.1 (e ∙ k.0) in
-    ap (λ (y : Buffer). y.one_way) is ∙ k.3) h
+ripens z turns =
+    ripen-keeps-in (Held z.threads z.buffers) z (λ todo b t l turn h.
+    let k = turn-parts b t turn in
+    call-held z.threads z.buffers z.steps todo (OfProcess t.receiver) t.made (λ w i e.
+    let x = h.buffer w t.made i e in
+    let is : x.buffer ≡ b = one-made (suc z.steps) z.buffers z.todo turns x.buffer b x.here l (x.made ∙ k.0) in
+    let yes : x.buffer.one_way ≡ true = ap (λ (y : Buffer). y.one_way) is ∙ k.3 in
+    let no = x.two_way in absurd (cc)) h)
 
--- ---- a buffer that is freed was handed out
+-- ---- what goes takes no buffer or thread of a reply with it that stays
 
+remains : (z y : Space) → ((w : Work) → In w z.todo → In w y.todo)
+    → ((w : Work) (b : ℕ) → In w z.todo → reply_of w.kind ≡ Some b → (x : HasBuffer y.threads y.buffers w.list b) → In x.buffer z.buffers × In x.thread z.threads) → RepliesHeld y → RepliesHeld z
+remains z y was stay h = record {
+  buffer = λ w b l e.
+      let x = h.buffer w b (was w l) e in
+      let k = stay w b l e x in
+      has-moved y.threads z.threads y.buffers z.buffers w.list b x k.0 k.1;
+  one = λ v w b i j. h.one v w b (was v i) (was w j);
+}
+
+-- a buffer that is freed was handed out
 frees : (s : Space) (b : Buffer) → IsInTurn s → In b s.buffers → b.handed ≡ true → RepliesHeld s → RepliesHeld (without_buffer s b.made)
 unfolding without_buffer
-frees s b turns here out h = record {
-  buffer = λ w m l e.
-      let x = h.buffer w m l e in
-      has-moved s.threads s.threads s.buffers _ w.list m x
-      (filter-in (λ (c : Buffer). not (is_made_at b.made c)) x.buffer s.buffers x.here (other x.buffer x.here x.handed (is_made_at b.made x.buffer) refl))
-      x.lives;
-  one = h.one;
-}
+frees s b turns here out h =
+    remains (without_buffer s b.made) s (λ w l. l) (λ w m l e x. (
+      filter-in (λ (c : Buffer). not (is_made_at b.made c)) x.buffer s.buffers x.here (other x.buffer x.here x.handed (is_made_at b.made x.buffer) refl),
+      x.lives,
+    )) h
   where
     other : (c : Buffer) → In c s.buffers → c.handed ≡ false → (q : Bool) → is_made_at b.made c ≡ q → not q ≡ true
-    other c i kept true k =
-        let is : c ≡ b = one-made s.steps s.buffers s.todo turns c b i here (eqb-true c.made b.made k) in
-        let yes : c.handed ≡ true = ap (λ (y : Buffer). y.handed) is ∙ out in absurd (cc)
-    other c i kept false k = refl
+    other c i kept q k = search (arith, one-buffer, here, eqb-true)
 
--- ---- a reading takes the item whose buffer it hands out
-
+-- a reading takes the item whose buffer it hands out
 module _ (s : Space) (h : RepliesHeld s) (t : Thread) (left : ℕ) where
   abbrev ws : List Work
   ws = taken s left (list_to_read s t)
@@ -78,43 +72,28 @@ module _ (s : Space) (h : RepliesHeld s) (t : Thread) (left : ℕ) where
 
   reads : RepliesHeld (read_by s t.seat ws)
   unfolding read_by
-  reads = record {
-    buffer = λ w b l e.
-        let i = in-filter stays w s.todo l in
-        let x = h.buffer w b i.0 e in
-        has-moved s.threads s.threads s.buffers _ w.list b x (unhanded (buffer_taken s ws) refl w b i.0 i.1 e x.buffer x.here x.made) x.lives;
-    one = λ v w b i j. h.one v w b (in-filter stays v s.todo i).0 (in-filter stays w s.todo j).0;
-  }
+  reads =
+      remains (read_by s t.seat ws) s (λ w l. (in-filter stays w s.todo l).0) (λ w b l e x.
+      let i = in-filter stays w s.todo l in (unhanded (buffer_taken s ws) refl w b i.0 i.1 e x.buffer x.here x.made, x.lives)) h
 
--- ---- with a thread go the buffers that its own list would have handed over
-
-hands-over : (o : Option ℕ) (n : ℕ) → is_some_and o (λ m. m == n) ≡ true → o ≡ Some n
-hands-over o n h = search (arith, eqb-true)
-
+-- with a thread go the buffers that its own list would have handed over
 module _ (z : Space) (seat : ℕ) (h : RepliesHeld z) where
   unlost : (w : Work) (b : ℕ) → In w z.todo → is_on (OfThread seat) w ≡ false → reply_of w.kind ≡ Some b → (q : Bool) → is_lost_with z.todo (OfThread seat) b ≡ q → not q ≡ true
-  unlost w b l off e q k = search (arith, any-found, both, hands-over)
+  unlost w b l off e q k = search (arith, lost-on)
 
   other-seat : (l : TodoList) (u : ℕ) → l ≡ OfThread u → same_list (OfThread seat) l ≡ false → (q : Bool) → (u == seat) ≡ q → not q ≡ true
   other-seat l u on off q k = search (arith, eq-eqb, eqb-true)
 
   goes : RepliesHeld (thread_goes z seat)
   unfolding thread_goes
-  goes = record {
-    buffer = λ w b l e.
-        let i = in-filter (λ (w : Work). not (is_on (OfThread seat) w)) w z.todo l in
-        let off = not-true (is_on (OfThread seat) w) i.1 in
-        let x = h.buffer w b i.0 e in
-        has-moved z.threads _ z.buffers _ w.list b x
-        (filter-in (λ (c : Buffer). not (is_lost_with z.todo (OfThread seat) c.made)) x.buffer z.buffers x.here
-        (unlost w x.buffer.made i.0 off (e ∙ ap (λ n. Some n) (sym x.made)) (is_lost_with z.todo (OfThread seat) x.buffer.made) refl))
-        (filter-in (λ (t : Thread). not (t.seat == seat)) x.thread z.threads x.lives (other-seat w.list x.thread.seat x.on off (x.thread.seat == seat) refl));
-    one = λ v w b i j.
-        h.one v w b (in-filter (λ (w : Work). not (is_on (OfThread seat) w)) v z.todo i).0 (in-filter (λ (w : Work). not (is_on (OfThread seat) w)) w z.todo j).0;
-  }
-
-all-go : (seats : List ℕ) (z : Space) → RepliesHeld z → RepliesHeld (fold thread_goes z seats)
-all-go seats z h = fold-keeps RepliesHeld thread_goes seats (λ y t l k. goes y t k) z h
+  goes =
+      remains (thread_goes z seat) z (λ w l. (in-filter (λ (w : Work). not (is_on (OfThread seat) w)) w z.todo l).0) (λ w b l e x.
+      let i = in-filter (λ (w : Work). not (is_on (OfThread seat) w)) w z.todo l in
+      let off = not-true (is_on (OfThread seat) w) i.1 in (
+        filter-in (λ (c : Buffer). not (is_lost_with z.todo (OfThread seat) c.made)) x.buffer z.buffers x.here
+            (unlost w x.buffer.made i.0 off (e ∙ ap (λ n. Some n) (sym x.made)) (is_lost_with z.todo (OfThread seat) x.buffer.made) refl),
+        filter-in (λ (t : Thread). not (t.seat == seat)) x.thread z.threads x.lives (other-seat w.list x.thread.seat x.on off (x.thread.seat == seat) refl),
+      )) h
 
 -- ---- with a process go the buffers that it received, and none of its threads is left
 
@@ -138,29 +117,22 @@ none-left s p t l e = search (arith, left-in, map-in, filter-in, eq-eqb)
 
 process-goes : (z : Space) (p : ℕ) → NoThread p z → RepliesHeld z → RepliesHeld (without_process z p)
 unfolding without_process
-process-goes z p none h = record {
-  buffer = λ w b l e.
-      let x = h.buffer w b (in-filter (λ (w : Work). not (is_on (OfProcess p) w)) w z.todo l).0 e in
-      has-moved z.threads z.threads z.buffers _ w.list b x
-      (filter-in (λ (c : Buffer). not (c.receiver == p)) x.buffer z.buffers x.here (other x.buffer x.thread x.lives x.receiver (x.buffer.receiver == p) refl))
-      x.lives;
-  one = λ v w b i j.
-      h.one v w b (in-filter (λ (w : Work). not (is_on (OfProcess p) w)) v z.todo i).0 (in-filter (λ (w : Work). not (is_on (OfProcess p) w)) w z.todo j).0;
-}
+process-goes z p none h =
+    remains (without_process z p) z (λ w l. (in-filter (λ (w : Work). not (is_on (OfProcess p) w)) w z.todo l).0) (λ w b l e x. (
+      filter-in (λ (c : Buffer). not (c.receiver == p)) x.buffer z.buffers x.here (other x.buffer x.thread x.lives x.receiver (x.buffer.receiver == p) refl),
+      x.lives,
+    )) h
   where
     other : (c : Buffer) (t : Thread) → In t z.threads → t.process ≡ c.receiver → (q : Bool) → (c.receiver == p) ≡ q → not q ≡ true
     other c t l e true k = absurd (none t l (e ∙ eqb-true c.receiver p k))
     other c t l e false k = refl
 
-threads-end : (z : Space) (p : ℕ) → RepliesHeld z → RepliesHeld (threads_go z p)
-unfolding threads_go
-threads-end z p h = all-go (map seat_of (filter (λ (t : Thread). t.process == p) z.threads)) z h
-
 ends : (z : Space) (p : ℕ) → RepliesHeld z → RepliesHeld (tell_deaths (without_process (threads_go z p) p) p)
 ends z p h =
     let a = threads_go z p in
     let b = without_process a p in
-    calm (tell_deaths b p) b (one_way.tell_deaths-less b p) (tell_deaths-aside b p).buffers (tell_deaths-aside b p).threads (process-goes a p (none-left z p) (threads-end z p h))
+    calm (tell_deaths b p) b (one_way.tell_deaths-less b p) (tell_deaths-aside b p).buffers (tell_deaths-aside b p).threads
+    (process-goes a p (none-left z p) (threads-keep RepliesHeld (λ y seat k. goes y seat k) z p h))
 
 -- ---- every step
 
@@ -168,10 +140,6 @@ ends z p h =
 attached : (z : Space) (seat p : ℕ) → RepliesHeld z → RepliesHeld (with_thread z seat p)
 unfolding with_thread
 attached z seat p h = grown (with_thread z seat p) z (record { due = λ w m l e. l; buffers = λ c l. l; threads = λ t l. (t, in-left t z.threads _ l, refl, refl) }) h
-
-opened : (z : Space) (seat pid euid window : ℕ) → RepliesHeld z → RepliesHeld (with_thread (with_process z pid euid window) seat z.steps)
-unfolding with_process
-opened z seat pid euid window h = attached (with_process z pid euid window) seat z.steps h
 
 loops : (z : Space) (seat : ℕ) (looping : Bool) → RepliesHeld z → RepliesHeld (with_looping z seat looping)
 unfolding with_looping
@@ -190,44 +158,41 @@ loops z seat looping h =
 abbrev Both : Space → Type 0
 Both z = Turning z × RepliesHeld z
 
-kept : (s : Space) (seat : ℕ) (x : Step) → IsInTurn s → RepliesHeld s → Keeps s seat x Both Both
-unfolding with_manager with_spam_detection ask assign_numbers drop_asked acknowledge follow notify work_goes deaths_go objects_go names_go
-kept s seat x turns h =
-    let k = turn.kept s seat x turns in
-    record {
-      set_up = record {
-        same = (k.set_up.same, h);
-        opened = λ pid euid window free. (k.set_up.opened pid euid window free, opened s seat pid euid window h);
-        attached = λ p free. (k.set_up.attached p free, attached s seat p h);
-        managed = λ a e b. (k.set_up.managed a e b, h);
-        marked = λ p on. (k.set_up.marked p on, h);
-      };
-      changes = record {
-        transacts = λ a d parcel v e i t. (k.changes.transacts a d parcel v e i t, transacts s a d v turns h);
-        replies = λ a d parcel f v e i g t. (k.changes.replies a d parcel f v e i g t, replies s a d parcel f v turns t h);
-        frees = λ p ptr b e t. (k.changes.frees p ptr b e t, frees s b turns (at_pointer-in s p ptr b e) t h);
-        asks = λ a n strong o e i t. (k.changes.asks a n strong o e i t, h);
-        drops = λ p o strong. (k.changes.drops p o strong, h);
-        acknowledges = λ o strong i. (k.changes.acknowledges o strong i, h);
-        loops = λ t looping. (k.changes.loops t looping, loops s t looping h);
-        on_deaths = commands-both s _ _ k.changes.on_deaths (on-commands s _ (on-mapped s _ _ (λ y l. calm y s l.0 l.1.buffers l.1.threads h) (on-both s _ _ (one_way.on_deaths-less s) (on_deaths-aside s))));
-        reads = λ a limit e i n. (k.changes.reads a limit e i n, reads s h a.thread (limit - 4));
-        leaves = λ a e. (k.changes.leaves a e, goes s a.thread.seat h);
-        ends = λ a e. (k.changes.ends a e, ends s a.process.made h);
-        ripens = λ z b. (k.changes.ripens z b.0, ripens z b.0 b.1);
-      };
-      follows = λ z b. (k.follows z b.0, calm (follow z) z (one_way.follow-less z) refl refl b.1);
-      closes = λ z made b. (k.closes z made b.0, closes z made b.1);
-      refuses = λ z t r b. (k.refuses z t r b.0, owed z (OfThread t) (work.Refusal r) refl b.1);
-      tells = λ z t r b. (k.tells z t r b.0, owed z (OfThread t) (work.Verdict r) refl b.1);
-    }
+module _ (s : Space) (seat : ℕ) (x : Step) (turns : IsInTurn s) (h : RepliesHeld s) (k : Keeps s seat x Turning Turning) where
+  set_up : SetUp s seat Turning → SetUp s seat Both
+  unfolding with_process with_manager with_spam_detection
+  set_up k = search (arith, attached)
+
+  kept : Keeps s seat x Both Both
+  unfolding ask assign_numbers drop_asked acknowledge follow notify work_goes deaths_go objects_go names_go
+  kept = record {
+    set_up = set_up k.set_up;
+    changes = record {
+      transacts = λ a d parcel v e i t. (k.changes.transacts a d parcel v e i t, transacts s a d v turns h);
+      replies = λ a d parcel f v e i g t. (k.changes.replies a d parcel f v e i g t, replies s a d parcel f v turns t h);
+      frees = λ p ptr b e t. (k.changes.frees p ptr b e t, frees s b turns (at_pointer-in s p ptr b e) t h);
+      asks = λ a n strong o e i t. (k.changes.asks a n strong o e i t, h);
+      drops = λ p o strong. (k.changes.drops p o strong, h);
+      acknowledges = λ o strong i. (k.changes.acknowledges o strong i, h);
+      loops = λ t looping. (k.changes.loops t looping, loops s t looping h);
+      on_deaths = commands-both s _ _ k.changes.on_deaths (on-commands s _ (on-mapped s _ _ (λ y l. calm y s l.0 l.1.buffers l.1.threads h) (on-both s _ _ (one_way.on_deaths-less s) (on_deaths-aside s))));
+      reads = λ a limit e i n. (k.changes.reads a limit e i n, reads s h a.thread (limit - 4));
+      leaves = λ a e. (k.changes.leaves a e, goes s a.thread.seat h);
+      ends = λ a e. (k.changes.ends a e, ends s a.process.made h);
+      ripens = λ z b. (k.changes.ripens z b.0, ripens z b.0 b.1);
+    };
+    follows = λ z b. (k.follows z b.0, calm (follow z) z (one_way.follow-less z) refl refl b.1);
+    closes = λ z made b. (k.closes z made b.0, closes z made b.1);
+    refuses = λ z t r b. (k.refuses z t r b.0, owed z (OfThread t) (work.Refusal r) refl b.1);
+    tells = λ z t r b. (k.tells z t r b.0, owed z (OfThread t) (work.Verdict r) refl b.1);
+  }
 
 abbrev IsHeld : Space → Type 0
 IsHeld s = IsInTurn s × RepliesHeld s
 
 step-held : (s : Space) (e : Entry) → IsHeld s → IsHeld (next s e)
 unfolding counted
-step-held s e h = every_step s e.seat e.step Both Both (kept s e.seat e.step h.0 h.1)
+step-held s e h = every_step s e.seat e.step Both Both (kept s e.seat e.step h.0 h.1 (turn.kept s e.seat e.step h.0))
 
 pub always-held : (es : List Entry) → RepliesHeld (after opening es)
 always-held es = (every_list IsHeld step-held es opening (opening-in_turn, record { buffer = λ w b l e. absurd l; one = λ v w b i j e f. absurd i })).1

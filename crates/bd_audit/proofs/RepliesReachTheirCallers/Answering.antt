@@ -1,5 +1,6 @@
--- What the frames of a history and the replies that are due have behind them.
-use Rattle.bd_laws.proofs.words.Logic.{◌≡◌, ℕ, ◌<◌, ◌-◌, Bool, true, false, cond, not, List, [], ◌∷◌, ◌++◌, length, Option, Some, None, Ok, refl, ap, sym, subst, ◌∙◌, length-append, arith, list_any, eqb-true, eq-eqb}
+-- For RepliesReachTheirCallers, and by it RepliesAnswerTheLatestOpenCall: what the frames of a history and the replies that
+-- are due have behind them.
+use Rattle.bd_laws.proofs.words.Logic.{◌≡◌, ℕ, ◌-◌, Bool, true, false, cond, not, List, [], ◌∷◌, ◌++◌, length, Option, Some, None, Ok, refl, ap, sym, subst, ◌∙◌, length-append, arith, list_any, eqb-true, eq-eqb}
 use Rattle.bd_laws.proofs.words.Types.{TransactionData, Parcel, Command, Read, Entry, Work, Frame, Actor, Serving, OfThread}
 use Rattle.bd_laws.proofs.words.Space.{Space, opening, actor, owe, is_call, list_to_read, is_item, closed, is_frame, innermost, served_innermost, is_deepest_in, ripen, Delivery, delivered, completed, transaction_check, transacted, called, is_one_way, reply_check, replied, taken, read_by, serve, served_frames, read_fault, change, counted, after, next, is_spam}
 use Rattle.bd_uapi.specs.declared.command.Command.TheVariants as bc
@@ -14,9 +15,10 @@ use Rattle.bd_audit.specs.Replies.{made_in, thread_made, items_taken, frame_of, 
 use Rattle.bd_audit.proofs.Beginnings.{after-append}
 use Rattle.bd_audit.proofs.NamesHaveGiftChains.Chains.{always-steps}
 use Rattle.bd_laws.proofs.Machine.Table.{keeps-by}
-use Rattle.bd_audit.proofs.RepliesReachTheirCallers.Quiet.{sent-quiet, ripen-quiet, completed-quiet, NotReply, quiet_table, quiet_exits, quiet_closes, Quiet, quiet-trans}
-use Rattle.bd_laws.proofs.Machine.Fields.{closed-threads, serve-made, owe-threads}
-use Rattle.bd_audit.proofs.RepliesReachTheirCallers.Traces.{at-more, at-here, at-below, Called, Handed, Answers, Traced, traced-more, traced-quiet, transaction-accepted, reply-accepted, reply-space, actor-made, delivered-threads, framed, answering}
+use Rattle.bd_audit.proofs.RepliesAreHandedOut.BuffersSent.{told-when}
+use Rattle.bd_audit.proofs.RepliesReachTheirCallers.Quiet.{sent-quiet, answered-quiet, ripen-quiet, completed-quiet, NotReply, quiet_table, quiet_exits, quiet_closes, Quiet}
+use Rattle.bd_laws.proofs.Machine.Fields.{closed-threads, sent-threads, told-frames, serve-made}
+use Rattle.bd_audit.proofs.RepliesReachTheirCallers.Traces.{at-more, at-here, at-below, Called, Handed, Answers, Traced, traced-more, traced-quiet, transaction-accepted, reply-accepted, reply-space, actor-made, framed, answering}
 
 -- ---- one entry more
 
@@ -27,17 +29,12 @@ pub closed-absent : (z : Space) (c : ℕ) (g : Frame) → In g (closed z c).fram
 unfolding closed
 closed-absent z c g l e = search (arith, not-true, in-filter, eq-eqb)
 
-replied-frames : (y : Space) (caller : Option ℕ) (n : ℕ) (g : Frame)
-    → In g (elim caller as (λ (o : Option ℕ). Space) [ None ↦ y | Some t ↦ owe y (OfThread t) (work.Reply n) ]).frames → In g y.frames
-unfolding owe
-replied-frames y caller n g l = search arith
-
 replied-absent : (s : Space) (a : Actor) (d : TransactionData) (f : Frame) (v : Delivery) (g : Frame) → In g (replied s a d f v).frames → g.made ≡ f.made → ⊥
 unfolding replied
 replied-absent s a d f v g l e =
     let x = closed s f.made in
     let y = owe (delivered x a d v) (OfThread a.thread.seat) (work.Complete false) in
-    let k = (sent-quiet x a d v false).frames g (replied-frames y f.caller s.steps g l) in
+    let k = (sent-quiet x a d v false).frames g (subst (In g) (told-frames y f.caller (work.Reply s.steps)) l) in
     closed-absent s f.made k.0 k.1 (sym k.2.made ∙ e)
 
 module _ (es : List Entry) (e : Entry) (h : Traced es (after opening es)) where
@@ -52,9 +49,6 @@ module _ (es : List Entry) (e : Entry) (h : Traced es (after opening es)) where
 
   quietly : (z : Space) → Quiet z s → Traced more z
   quietly z q = traced-quiet more z s q now
-
-  here-below : (n : ℕ) → n ≡ length es → n < length more
-  here-below n k = let l = length-append es (e ∷ []) in omega arith
 
   module _ (a : Actor) (acts : actor s e.seat ≡ Some a) where
     own-made : thread_made s a.thread.seat ≡ Some a.thread.made
@@ -77,15 +71,13 @@ module _ (es : List Entry) (e : Entry) (h : Traced es (after opening es)) where
         at : (b : Bool) → v.one_way ≡ b → Traced more (called (owe (delivered s a d v) (OfThread a.thread.seat) (work.Complete spam)) a.thread.seat v.receiver.made b)
         at true f = quietly _ (sent-quiet s a d v spam)
         at false f =
-            let z = delivered s a d v in
-            let y = owe z (OfThread a.thread.seat) (work.Complete spam) in
+            let y = owe (delivered s a d v) (OfThread a.thread.seat) (work.Complete spam) in
             let q = sent-quiet s a d v spam in
             let steps : y.steps ≡ length es = q.steps ∙ always-steps es in
-            let threads : y.threads ≡ s.threads = owe-threads z (OfThread a.thread.seat) (work.Complete spam) ∙ delivered-threads s a d v in
             let two_way : is_one_way d ≡ false = sym (transaction-checked s a d parcel v t).one_way ∙ f in
-            framed more y a.thread.seat v.receiver.made a.thread.made (quietly y q) (ap (λ ts. made_in ts a.thread.seat) threads ∙ own-made)
+            framed more y a.thread.seat v.receiver.made a.thread.made (quietly y q) (ap (λ ts. made_in ts a.thread.seat) (sent-threads s a d v spam) ∙ own-made)
             (subst (λ n. Called more n a.thread.made) (sym steps) (at-here es e (λ z e. Calls z e a.thread.made) (calls d parcel v x t two_way)))
-            (here-below y.steps steps)
+            (let l = length-append es (e ∷ []) in omega arith)
 
     -- ---- a reply
 
@@ -119,29 +111,20 @@ module _ (es : List Entry) (e : Entry) (h : Traced es (after opening es)) where
         handed = server.2.0;
         server = server.0;
         called = at-more es (e ∷ []) f.made (λ z e. Calls z e m) called;
-        taken = at-more es (e ∷ []) server.2.0 (λ z e. TakesCall z e f.made server.0) server.2.2;
+        taken = at-more es (e ∷ []) server.2.0 (λ z e. TakesCall z e f.made server.0) server.2.1;
         replied = at-here es e (λ z e. AnswersCall z e f.made server.0) answers-call;
-        call_first = server.2.1;
-        handed_next = at-below es server.2.0 (λ z e. TakesCall z e f.made server.0) server.2.2;
+        handed_next = at-below es server.2.0 (λ z e. TakesCall z e f.made server.0) server.2.1;
       }
 
       replied-traced : Traced more (replied s a d f v)
       unfolding replied
-      replied-traced = at f.caller refl
-        where
-          at : (caller : Option ℕ) → f.caller ≡ caller
-              → Traced more (elim caller as (λ (o : Option ℕ). Space) [
-                | None ↦ owe (delivered (closed s f.made) a d v) (OfThread a.thread.seat) (work.Complete false)
-                | Some u ↦ owe (owe (delivered (closed s f.made) a d v) (OfThread a.thread.seat) (work.Complete false)) (OfThread u) (work.Reply s.steps)
-              ])
-          at None k = quietly _ (quiet-trans _ (closed s f.made) s (sent-quiet (closed s f.made) a d v false) (quiet_closes s f.made))
-          at (Some u) k =
-              let z = delivered (closed s f.made) a d v in
-              let y = owe z (OfThread a.thread.seat) (work.Complete false) in
-              let threads : y.threads ≡ s.threads = owe-threads z (OfThread a.thread.seat) (work.Complete false) ∙ delivered-threads (closed s f.made) a d v ∙ closed-threads s f.made in
-              let c = h.callers f u in-frames k in
-              answering more y u c.0 s.steps (quietly y (quiet-trans y (closed s f.made) s (sent-quiet (closed s f.made) a d v false) (quiet_closes s f.made)))
-              (ap (λ ts. made_in ts u) threads ∙ c.1) (subst (λ n. Answers more n c.0) (sym (always-steps es)) (answer c.0 c.2))
+      replied-traced =
+          let y = owe (delivered (closed s f.made) a d v) (OfThread a.thread.seat) (work.Complete false) in
+          let threads : y.threads ≡ s.threads = sent-threads (closed s f.made) a d v false ∙ closed-threads s f.made in
+          told-when (Traced more) (work.Reply s.steps) y f.caller (λ u k traced.
+          let c = h.callers f u in-frames k in
+          answering more y u c.0 s.steps traced (ap (λ ts. made_in ts u) threads ∙ c.1)
+          (subst (λ n. Answers more n c.0) (sym (always-steps es)) (answer c.0 c.2))) (quietly y (answered-quiet s a d f v))
 
     -- ---- a reading
 
@@ -163,31 +146,31 @@ module _ (es : List Entry) (e : Entry) (h : Traced es (after opening es)) where
           let takes : TakesCall s e f.made a.thread.made = record { by = (actor-made s e.seat a acts).1; taken = ap (λ ws. list_any (λ (w : Work). is_call f.made w.kind) ws) takes-items ∙ b } in (
             a.thread.made,
             subst (λ u. thread_made s u ≡ Some a.thread.made) same_seat own-made,
-            (length es, h.below f l, at-here es e (λ z e. TakesCall z e f.made a.thread.made) takes),
+            (length es, at-here es e (λ z e. TakesCall z e f.made a.thread.made) takes),
           )
 
       read-traced : Traced more (read_by s a.thread.seat items)
       unfolding read_by
       read-traced = record {
-        below = λ f l. let g = was f l in let lt = now.below g.0 g.1 in let m = ap (λ (y : Frame). y.made) g.2 ∙ serve-made a.thread.seat (served g.0) g.0 in omega arith;
-        callers = λ f t l k.
-            let g = was f l in
-            let m : f.made ≡ g.0.made = ap (λ (y : Frame). y.made) g.2 ∙ serve-made a.thread.seat (served g.0) g.0 in
-            let c = now.callers g.0 t g.1 (sym (ap (λ (y : Frame). y.caller) g.2 ∙ serve-caller (served g.0) g.0) ∙ k) in
-            (c.0, c.1, subst (λ i. Called more i c.0) (sym m) c.2);
-        servers = λ f t l k.
-            let g = was f l in
-            let m : f.made ≡ g.0.made = ap (λ (y : Frame). y.made) g.2 ∙ serve-made a.thread.seat (served g.0) g.0 in
-            let c = serve-server (served g.0) g.0 t refl g.1 (sym (ap (λ (y : Frame). y.server) g.2) ∙ k) in
-            (c.0, c.1, subst (λ i. Handed more i c.0) (sym m) c.2);
+        below = λ f l. let g = was f l in let lt = now.below g.0 g.1 in let made = g.2 in omega arith;
+        callers = λ f t l k. let g = was f l in let c = now.callers g.0 t g.1 (sym g.3 ∙ k) in (c.0, c.1, subst (λ i. Called more i c.0) (sym g.2) c.2);
+        servers = λ f t l k. let g = was f l in let c = serve-server (served g.0) g.0 t refl g.1 (sym g.4 ∙ k) in (c.0, c.1, subst (λ i. Handed more i c.0) (sym g.2) c.2);
         replies = λ w b t l k o. now.replies w b t (in-filter (λ (w : Work). not (list_any (λ (d : Work). is_item w d) items)) w s.todo l).0 k o;
       }
         where
           served : Frame → Bool
           served g = list_any (λ (w : Work). is_call g.made w.kind) items
 
-          was : (f : Frame) → In f (served_frames a.thread.seat items s.frames) → (g : Frame) × In g s.frames × (f ≡ cond (list_any (λ (w : Work). is_call g.made w.kind) items) (serve a.thread.seat g) g)
-          was f l = in-changed (λ (g : Frame). list_any (λ (w : Work). is_call g.made w.kind) items) (serve a.thread.seat) f s.frames l
+          was : (f : Frame) → In f (served_frames a.thread.seat items s.frames)
+              → (g : Frame) × In g s.frames × (f.made ≡ g.made) × (f.caller ≡ g.caller) × (f.server ≡ (cond (list_any (λ (w : Work). is_call g.made w.kind) items) (serve a.thread.seat g) g).server)
+          was f l =
+              let g = in-changed (λ (g : Frame). list_any (λ (w : Work). is_call g.made w.kind) items) (serve a.thread.seat) f s.frames l in (
+                g.0,
+                g.1,
+                ap (λ (y : Frame). y.made) g.2 ∙ serve-made a.thread.seat (served g.0) g.0,
+                ap (λ (y : Frame). y.caller) g.2 ∙ serve-caller (served g.0) g.0,
+                ap (λ (y : Frame). y.server) g.2,
+              )
 
   pub kept : Keeps s e.seat e.step (Traced more) (Traced more)
   kept = keeps-by Quiet NotReply quiet_table s e.seat e.step (Traced more) quietly quiet_exits quiet_closes (traced-quiet more) (λ r. refl) (λ r. refl) (record {

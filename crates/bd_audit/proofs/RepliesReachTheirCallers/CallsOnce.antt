@@ -1,75 +1,120 @@
--- A call is handed out once: of each call that is due there is one item, and after that is taken none comes.
-use Rattle.bd_laws.proofs.words.Logic.{◌≡◌, ℕ, suc, ◌-◌, ◌<◌, Bool, true, List, [], ◌∷◌, Option, Some, None, inl, inr, refl, ap, sym, subst, ◌∙◌, arith, list_any}
-use Rattle.bd_laws.proofs.words.Types.{Fault, Step, Command, Entry, Actor, Work}
-use Rattle.bd_laws.proofs.words.Space.{Space, opening, is_call, list_to_read, is_one_way, Outcome, refused, taken, read_by, read_step, read_taking, change, counted, by_actor, after, next}
-use Rattle.bd_uapi.specs.declared.command.Command.TheVariants as bc
-use Rattle.bd_laws.proofs.words.Laws.{In, Before}
-use Rattle.bd_laws.proofs.Machine.EveryStep.{every_list}
-use Rattle.bd_laws.proofs.Lists.{in-filter, any-found, any-in}
-use Rattle.bd_laws.proofs.Tests.{not-true}
-use Rattle.bd_laws.proofs.IsInTurn.Ripening.{read-in}
+-- For RepliesReachTheirCallers: a call is handed out once: of each call that is due there is one item, and after that is
+-- taken none comes.
+use Rattle.bd_laws.proofs.words.Logic.{◌≡◌, ℕ, Bool, true, false, not, List, Option, Some, None, ◌⊎◌, inl, inr, refl, ap, sym, subst, ◌∙◌, list_any, eqb-true, arith, ◌-◌, ◌<◌}
+use Rattle.bd_laws.proofs.words.Types.{TransactionData, ObjectId, Step, Entry, Actor, Buffer, Work, OfThread, Command, Read}
+use Rattle.bd_laws.proofs.words.Space.{Space, owe, is_call, is_item, closed, ripen, follow, Delivery, delivered, transacted, called, call_out, replied, read_by, change, opening, list_to_read, is_one_way, taken, read_taking, counted, after, next}
+use Rattle.bd_laws.proofs.words.Laws.{In, On, Before, IsTidy}
+use Rattle.bd_laws.proofs.Machine.EveryStep.{Keeps, every_step}
+use Rattle.bd_laws.proofs.Machine.Fields.{sent-steps}
+use Rattle.bd_laws.proofs.Machine.Table.{set_up-by, changes-by}
+use Rattle.bd_laws.proofs.Lists.{in-push, in-filter, any-found, any-in}
+use Rattle.bd_laws.proofs.IsInTurn.OneWay.{HandsNothing, less_table, less_exits, less_closes, Less, owe-less}
+use Rattle.bd_laws.proofs.IsInTurn.Ripening.{turn-parts, read-in}
 use Rattle.bd_laws.proofs.IsInTurn.InTurn.{is_call-hands}
+use Rattle.bd_laws.proofs.IsInTurn.Passed.{After, untouched-after, follow-after}
+use Rattle.bd_audit.proofs.RepliesAreHandedOut.BuffersSent.{sent-due, ripen-keeps-in}
+use Rattle.bd_laws.proofs.Tests.{not-true, call-kind}
 use Rattle.bd_laws.proofs.IsInTurn.Passing.{step-passes}
-use Rattle.bd_laws.proofs.IsInTurn.Passed.{follow-after}
-use Rattle.bd_laws.proofs.IsInTurn.Received.{step-before, opening-before, on-before}
+use Rattle.bd_laws.proofs.IsInTurn.Received.{on-before}
 use Rattle.bd_laws.proofs.OnPaths.PathWords.{same-item}
-use Rattle.bd_audit.specs.Replies.{items_taken, items_read, items_unless, HandsOutCall, Calls, At}
-use Rattle.bd_audit.specs.Gifts.{Stands}
+use Rattle.bd_audit.specs.Replies.{items_taken, HandsOutCall, Calls, At}
 use Rattle.bd_audit.proofs.NamesHaveGiftChains.Chains.{always-steps}
 use Rattle.bd_audit.proofs.TurnsAreTaken.CallItems.{step-treats}
 use Rattle.bd_audit.proofs.TurnsAreTaken.CallItemsKept.{fresh-once}
 use Rattle.bd_audit.proofs.TurnsTellOfCalls.CallsOut.{items-due}
 use Rattle.bd_audit.proofs.TurnsTellOfCalls.TurnsTelling.{handed-later}
-use Rattle.bd_audit.proofs.RepliesReachTheirCallers.Places.{mid, later-space, next-place, either-way}
-use Rattle.bd_audit.proofs.RepliesReachTheirCallers.CallsDue.{IsDue, One, HasTurn, step-calls}
+use Rattle.bd_audit.proofs.RepliesReachTheirCallers.Places.{tidy-after, later-place, either-way}
+use Rattle.bd_audit.proofs.RepliesReachTheirCallers.Readings.{reading}
+use Rattle.bd_space.specs.declared.space.WorkKind.TheVariants as work
+use Rattle.bd_laws.proofs.Machine.Untouched as untouched
+use Rattle.bd_uapi.specs.declared.command.Command.TheVariants as bc
 
--- ---- every history
+-- ---- a call that is due was due before the step, or the step makes it, or it is a one-way call
 
-record Sound (s : Space) : Type 0 where
-  before : Before s
-  one : (m : ℕ) → One m s.todo
+-- the item of a call that is due
+abbrev pub IsDue : ℕ → List Work → Work → Type 0
+IsDue m todo w = In w todo × (is_call m w.kind ≡ true)
 
-step-sound : (s : Space) (e : Entry) → Sound s → Sound (next s e)
-unfolding counted
-step-sound s e h = record { before = step-before s e h.before; one = λ m. (step-calls s e m h.before.turns (h.one m)).calls.one }
+-- the buffer made at m is a one-way call's
+abbrev pub HasTurn : ℕ → List Buffer → Type 0
+HasTurn m buffers = (b : Buffer) × (o : ObjectId) × In b buffers × (b.made ≡ m) × On o b
 
-opening-sound : Sound opening
-opening-sound = record { before = opening-before; one = λ m v w i j. absurd i.0 }
+abbrev Called : Space → ℕ → List Buffer → List Work → Type 0
+Called s m buffers todo = (w : Work) → IsDue m todo w → In w s.todo ⊎ ((m ≡ s.steps) ⊎ HasTurn m buffers)
 
-always-sound : (es : List Entry) → Sound (after opening es)
-always-sound es = every_list Sound step-sound es opening opening-sound
+pub record CalledIn (s : Space) (m : ℕ) (z : Space) : Type 0 where
+  pub from : Called s m z.buffers z.todo
+
+module _ (s : Space) (m : ℕ) where
+  from-due : (z : Space) → ((w : Work) → IsDue m z.todo w → In w s.todo) → CalledIn s m z
+  from-due z due = record { from = λ w i. inl (due w i) }
+
+  from-less : (z : Space) → Less z s → CalledIn s m z
+  from-less z l = from-due z (λ w i. l.due w m i.0 (is_call-hands m w.kind i.1))
+
+  goes-on : (z y : Space) → After z y → CalledIn s m y → CalledIn s m z
+  goes-on z y a h = search (arith, a.due, is_call-hands, h.from)
+
+  was-sent : (y : Space) (a : Actor) (d : TransactionData) (v : Delivery) (spam : Bool) (w : Work)
+      → IsDue m (owe (delivered y a d v) (OfThread a.thread.seat) (work.Complete spam)).todo w → In w y.todo
+  was-sent y a d v spam w i = sent-due y a d v spam w m i.0 (is_call-hands m w.kind i.1)
+
+  calls : (y : Space) (seat p : ℕ) (one_way : Bool) → y.steps ≡ s.steps → ((w : Work) → IsDue m y.todo w → In w s.todo) → CalledIn s m (called y seat p one_way)
+  unfolding call_out owe
+  calls y seat p one_way steps due = search (arith, in-push, eqb-true, due)
+
+  answers : (y : Space) (caller : Option ℕ) → ((w : Work) → IsDue m y.todo w → In w s.todo)
+      → CalledIn s m (elim caller as (λ (o : Option ℕ). Space) [ None ↦ y | Some t ↦ owe y (OfThread t) (work.Reply s.steps) ])
+  unfolding owe
+  answers y caller due = search (arith, in-push, due)
+
+  ripens : (z : Space) → CalledIn s m z → CalledIn s m (ripen z)
+  unfolding ripen
+  ripens z h = record { from = ripen-keeps-in (Called s m z.buffers) z (λ todo b t l turn k w i. search (arith, in-push, eqb-true, turn-parts, k)) h.from }
+
+  calling : (seat : ℕ) (x : Step) → Keeps s seat x (CalledIn s m) (CalledIn s m)
+  unfolding transacted replied closed read_by
+  calling seat x = record {
+    set_up = set_up-by Less HandsNothing less_table s seat x (CalledIn s m) from-less;
+    changes = changes-by Less HandsNothing less_table s seat x (CalledIn s m) from-less less_exits (record {
+      transacts = λ a d parcel v e i t. calls _ a.thread.seat v.receiver.made v.one_way (sent-steps s a d v _) (was-sent s a d v _);
+      replies = λ a d parcel f v e i g t. answers _ f.caller (was-sent (closed s f.made) a d v false);
+      reads = λ a limit e i n. from-due _ (λ w l. (in-filter (λ (w : Work). not (list_any (λ (d : Work). is_item w d) (taken s (limit - 4) (list_to_read s a.thread)))) w s.todo l.0).0);
+      ripens = ripens;
+    });
+    follows = λ z. goes-on (follow z) z (follow-after z);
+    closes = λ z made. goes-on (closed z made) z (untouched-after _ z (untouched.closed-untouched z made) (less_closes z made));
+    refuses = λ z t r. goes-on _ z (untouched-after _ z (untouched.owe-untouched z (OfThread t) (work.Refusal r)) (owe-less z (OfThread t) (work.Refusal r) refl));
+    tells = λ z t r. goes-on _ z (untouched-after _ z (untouched.owe-untouched z (OfThread t) (work.Verdict r)) (owe-less z (OfThread t) (work.Verdict r) refl));
+  }
+
+pub step-calls : (s : Space) (e : Entry) (m : ℕ) → CalledIn s m (change s e.seat e.step).space
+step-calls s e m = every_step s e.seat e.step (CalledIn s m) (CalledIn s m) (calling s m e.seat e.step)
 
 -- ---- what is taken goes
 
 abbrev NoCall : ℕ → Space → Type 0
 NoCall c z = (w : Work) → IsDue c z.todo w → ⊥
 
-module _ (s : Space) (c : ℕ) (single : One c s.todo) where
+module _ (s : Space) (c : ℕ) (tidy : IsTidy s) where
+  single : (v w : Work) → IsDue c s.todo v → IsDue c s.todo w → v ≡ w
+  single v w i j = tidy.on_paths.1.one v w c i.0 j.0 (call-kind c v.kind i.1) (call-kind c w.kind j.1)
+
   abbrev has_call : List Work → Bool
   has_call ws = list_any (λ (w : Work). is_call c w.kind) ws
 
   items-gone : (seat : ℕ) (ws : List Work) → ((w : Work) → In w ws → In w s.todo) → has_call ws ≡ true → NoCall c (read_by s seat ws)
   unfolding read_by
-  items-gone seat ws due h w i = search (arith, any-found, in-filter, any-in, same-item, not-true)
-
-  list-gone : (limit : ℕ) (a : Actor) (f : Option Fault) → has_call (items_unless f (taken s (limit - 4) (list_to_read s a.thread))) ≡ true
-      → NoCall c (elim f as (λ (o : Option Fault). Outcome) [
-        | Some y ↦ refused s y
-        | None ↦ read_taking s a.thread.seat (taken s (limit - 4) (list_to_read s a.thread))
-      ]).space
-  unfolding read_taking
-  list-gone limit a (Some y) h w i = absurd (cc)
-  list-gone limit a None h w i =
-      let ws = taken s (limit - 4) (list_to_read s a.thread) in
-      items-gone a.thread.seat ws (read-in s a.thread (limit - 4)) h w ((follow-after (read_by s a.thread.seat ws)).due w c i.0 (is_call-hands c w.kind i.1), i.1)
-
-  actor-gone : (limit : ℕ) (o : Option Actor) → has_call (items_read s limit o) ≡ true → NoCall c (by_actor s o (λ a. read_step s a limit)).space
-  unfolding read_step
-  actor-gone limit o h = search (arith, list-gone)
+  items-gone seat ws due h w i = search (arith, single, any-found, in-filter, any-in, same-item, not-true)
 
   taken-gone : (seat : ℕ) (x : Step) → has_call (items_taken s seat x) ≡ true → NoCall c (change s seat x).space
-  unfolding change
-  taken-gone seat x h = search (arith, actor-gone)
+  unfolding read_taking
+  taken-gone seat (Read limit) h =
+      reading (λ ws o. has_call ws ≡ true → NoCall c o.space) s (λ f none. absurd (cc)) seat limit
+      (λ a acts some w i.
+      let ws = taken s (limit - 4) (list_to_read s a.thread) in
+      items-gone a.thread.seat ws (read-in s a.thread (limit - 4)) some w ((follow-after (read_by s a.thread.seat ws)).due w c i.0 (is_call-hands c w.kind i.1), i.1)) h
+  taken-gone seat _ h = absurd (cc)
 
 -- ---- a two-way call has no turn, and none of it comes again
 
@@ -99,36 +144,14 @@ record Spent (c : ℕ) (z : Space) : Type 0 where
   two_way : TwoWay c z
   none : NoCall c z
 
-step-spent : (s : Space) (e : Entry) (c : ℕ) → Sound s → c < s.steps → Spent c s → Spent c (next s e)
+step-spent : (s : Space) (e : Entry) (c : ℕ) → Before s → c < s.steps → Spent c s → Spent c (next s e)
 unfolding counted
-step-spent s e c sound lt h =
-    let two_way = step-two_way s e c sound.before lt h.two_way in
+step-spent s e c before lt h =
+    let two_way = step-two_way s e c before lt h.two_way in
     record {
       two_way = two_way;
-      none = λ w i. elim ((step-calls s e c sound.before.turns (sound.one c)).calls.from w i) [
-        | inl k ↦ h.none w (k, i.1)
-        | inr k ↦ elim k [ inl at ↦ absurd (omega arith) | inr t ↦ two_way t ]
-      ];
+      none = λ w i. search (arith, (step-calls s e c).from, h.none, two_way);
     }
-
--- ---- later spaces
-
-next-steps : (s : Space) (e : Entry) → Sound s → (next s e).steps ≡ suc s.steps
-unfolding counted
-next-steps s e sound = ap suc (step-calls s e 0 sound.before.turns (sound.one 0)).steps
-
-module _ (P : Space → Type 0) (c : ℕ) (k : (s : Space) (e : Entry) → Sound s → c < s.steps → P s → P (next s e)) where
-  later : (es : List Entry) (s : Space) → Sound s → c < s.steps → P s → P (after s es)
-  later [] s sound lt h = h
-  later (e ∷ es) s sound lt h = let n = next-steps s e sound in later es (next s e) (step-sound s e sound) (omega arith) (k s e sound lt h)
-
-  -- from one place to a later one
-  later-place : (es : List Entry) (i j : ℕ) (before then : List Entry) (e f : Entry) (at : Stands es i before e) (next-at : Stands es j then f) (lt : i < j) → c < suc i
-      → P (next (after opening before) e) → P (after opening then)
-  later-place es i j before then e f at next-at lt below h =
-      let n = next-place es i j before then e f at next-at lt in
-      subst P (sym (later-space es i j before then e f at next-at lt))
-      (later (mid es i j before then e f at next-at lt).0 (next (after opening before) e) (step-sound (after opening before) e (always-sound before)) (omega arith) h)
 
 -- ---- a call is handed out once
 
@@ -136,27 +159,27 @@ module _ (es : List Entry) (c n : ℕ) (call : At es c (λ z e. Calls z e n)) wh
   call-at : TwoWay c (next (after opening call.0) call.1)
   call-at =
       subst (λ m. TwoWay m (next (after opening call.0) call.1)) (always-steps call.0 ∙ call.2.at)
-      (call-two_way (after opening call.0) call.1 n (always-sound call.0).before call.3)
+      (call-two_way (after opening call.0) call.1 n (tidy-after call.0).before call.3)
 
   two_way-at : (p : ℕ) (h : At es p (HandsOutCall c)) → TwoWay c (after opening h.0)
   two_way-at p h =
-      later-place (TwoWay c) c (λ s e sound lt k. step-two_way s e c sound.before lt k) es c p call.0 h.0 call.1 h.1 call.2 h.2 (handed-later es p c h) (omega arith) call-at
+      later-place (TwoWay c) c (λ s e tidy. step-two_way s e c tidy.before) es c p call.0 h.0 call.1 h.1 call.2 h.2 (handed-later es p c h) (omega arith) call-at
 
   spent-at : (p : ℕ) (h : At es p (HandsOutCall c)) → Spent c (next (after opening h.0) h.1)
   unfolding counted
   spent-at p h =
       let s = after opening h.0 in
-      let sound = always-sound h.0 in
+      let tidy = tidy-after h.0 in
       let steps = always-steps h.0 in
       let at = h.2.at in
       let below = handed-later es p c h in
       let lt : c < s.steps = omega arith in
-      record { two_way = step-two_way s h.1 c sound.before lt (two_way-at p h); none = taken-gone s c (sound.one c) h.1.seat h.1.step h.3 }
+      record { two_way = step-two_way s h.1 c tidy.before lt (two_way-at p h); none = taken-gone s c tidy h.1.seat h.1.step h.3 }
 
   not-again : (p q : ℕ) → At es p (HandsOutCall c) → At es q (HandsOutCall c) → p < q → ⊥
   not-again p q h k lt =
       let below = handed-later es p c h in
-      let spent = later-place (Spent c) c (λ s e sound lt k. step-spent s e c sound lt k) es p q h.0 k.0 h.1 k.1 h.2 k.2 lt (omega arith) (spent-at p h) in
+      let spent = later-place (Spent c) c (λ s e tidy. step-spent s e c tidy.before) es p q h.0 k.0 h.1 k.1 h.2 k.2 lt (omega arith) (spent-at p h) in
       let w = any-found (λ (w : Work). is_call c w.kind) (items_taken (after opening k.0) k.1.seat k.1.step) k.3 in
       spent.none w.0 (items-due (after opening k.0) k.1.seat k.1.step w.0 w.1, w.2)
 

@@ -1,6 +1,11 @@
--- Of two places of a list the later one has the earlier one before it.
+-- For RepliesReachTheirCallers: the space before the later of two entries is reached from that after the earlier one, so it
+-- has what every step keeps. RepliesAnswerTheLatestOpenCall and TurnsTellOfCalls use `between`.
 use Rattle.bd_laws.proofs.words.Space.{Space, opening, after, next}
-use Rattle.std.proofs.Common.{◌≡◌, ℕ, suc, ◌<◌, List, [], ◌∷◌, ◌++◌, length, length-append, ap, sym, ◌∙◌, arith}
+use Rattle.bd_laws.proofs.words.Laws.{IsTidy}
+use Rattle.bd_laws.proofs.Always.{step-tidy, opening-tidy}
+use Rattle.bd_laws.proofs.ItemsAreToldApart.Numbering.{next-steps}
+use Rattle.bd_laws.proofs.Machine.EveryStep.{every_list}
+use Rattle.std.proofs.Common.{◌≡◌, ℕ, suc, ◌<◌, List, [], ◌∷◌, ◌++◌, length, length-append, ap, sym, subst, ◌∙◌, arith}
 use Rattle.bd_space.specs.declared.step.Entry.{Entry}
 use Rattle.bd_audit.specs.Gifts.{Stands}
 use Rattle.bd_audit.proofs.Beginnings.{after-append}
@@ -16,21 +21,38 @@ between (y ∷ before) (x ∷ later) e f rest more is lt =
     let k = between before later e f rest more tail (omega arith) in
     (k.0, ap (λ z. z ∷ later) (sym head) ∙ ap (λ ys. y ∷ ys) k.1)
 
+pub tidy-after : (es : List Entry) → IsTidy (after opening es)
+tidy-after es = every_list IsTidy step-tidy es opening opening-tidy
+
 module _ (es : List Entry) (i j : ℕ) (before later : List Entry) (e f : Entry) (at : Stands es i before e) (then : Stands es j later f) (lt : i < j) where
-  pub mid : (mid : List Entry) × (later ≡ before ++ e ∷ mid)
+  mid : (mid : List Entry) × (later ≡ before ++ e ∷ mid)
   mid = between before later e f at.rest then.rest (sym at.all ∙ then.all) (let p = at.at in let q = then.at in omega arith)
 
   -- the space before the later is one after the earlier
-  pub later-space : after opening later ≡ after (next (after opening before) e) mid.0
+  later-space : after opening later ≡ after (next (after opening before) e) mid.0
   later-space = ap (λ xs. after opening xs) mid.1 ∙ after-append opening before (e ∷ mid.0)
 
-  pub next-place : (next (after opening before) e).steps ≡ suc i
+  next-place : (next (after opening before) e).steps ≡ suc i
   next-place =
       let one = after-append opening before (e ∷ []) in
       let steps = always-steps (before ++ e ∷ []) in
       let l = length-append before (e ∷ []) in
       let p = at.at in
       sym (ap (λ (z : Space). z.steps) one) ∙ steps ∙ omega arith
+
+-- what later steps keep of a step at c holds at later places
+module _ (P : Space → Type 0) (c : ℕ) (k : (s : Space) (e : Entry) → IsTidy s → c < s.steps → P s → P (next s e)) where
+  later : (es : List Entry) (s : Space) → IsTidy s → c < s.steps → P s → P (after s es)
+  later [] s tidy lt h = h
+  later (e ∷ es) s tidy lt h =
+      let n = next-steps s e tidy.told tidy.quiet tidy.home in later es (next s e) (step-tidy s e tidy) (omega arith) (k s e tidy lt h)
+
+  pub later-place : (es : List Entry) (i j : ℕ) (before then : List Entry) (e f : Entry) (at : Stands es i before e) (next-at : Stands es j then f) (lt : i < j) → c < suc i
+      → P (next (after opening before) e) → P (after opening then)
+  later-place es i j before then e f at next-at lt below h =
+      let n = next-place es i j before then e f at next-at lt in
+      subst P (sym (later-space es i j before then e f at next-at lt))
+      (later (mid es i j before then e f at next-at lt).0 (next (after opening before) e) (step-tidy (after opening before) e (tidy-after before)) (omega arith) h)
 
 pub either-way : (m n : ℕ) → (m < n → ⊥) → (n < m → ⊥) → m ≡ n
 either-way m n h k = omega (arith, h, k)

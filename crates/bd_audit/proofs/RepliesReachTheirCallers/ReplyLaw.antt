@@ -1,98 +1,27 @@
--- Replies reach their callers: from what each reply has behind it, and since what is gone never comes again.
-use Rattle.bd_laws.proofs.words.Logic.{◌≡◌, ℕ, zero, suc, ◌<◌, Bool, true, false, List, [], ◌∷◌, ◌++◌, length, take, Option, Some, None, ◌⊎◌, inl, inr, refl, ap, sym, subst, ◌∙◌, arith, list_any, slice_get, option_and_then, option_and_then_some, eqb-true, eq-eqb}
-use Rattle.bd_laws.proofs.words.Types.{TransactionData, Step, Read, Entry, Work, Frame, Actor, OfThread}
-use Rattle.bd_laws.proofs.words.Space.{Space, opening, owe, closed, goes_to, is_frame, innermost, Delivery, delivered, transacted, called, call_out, replied, read_by, change, counted, History, after, next, space_after}
-use Rattle.bd_space.specs.declared.space.WorkKind.TheVariants as work
+-- For RepliesReachTheirCallers: replies reach their callers, by what each reply has behind it, and since what is gone never
+-- comes again.
+use Rattle.bd_laws.proofs.words.Logic.{◌≡◌, ℕ, zero, suc, ◌<◌, false, List, [], ◌∷◌, ◌++◌, length, take, Some, inl, inr, refl, ap, sym, subst, ◌∙◌, arith, list_any, slice_get, option_and_then, option_and_then_some, eqb-true, eq-eqb}
+use Rattle.bd_laws.proofs.words.Types.{Read, Entry, Work, Frame, OfThread}
+use Rattle.bd_laws.proofs.words.Space.{Space, opening, is_frame, innermost, counted, History, after, next, space_after}
 use Rattle.bd_links.specs.TodoList.{reply_of}
 use Rattle.bd_laws.specs.Lists.{In}
-use Rattle.bd_laws.proofs.Machine.EveryStep.{Keeps, every_step}
-use Rattle.bd_laws.proofs.Lists.{in-push, in-filter, in-changed, find-in, any-in}
+use Rattle.bd_laws.proofs.Lists.{find-in, any-in}
 use Rattle.bd_audit.specs.Gifts.{Stands}
-use Rattle.bd_audit.specs.Replies.{thread_made, reply_taken, reply_taken_at, frame_of, call_closed_at, call_answered, AnswersCall, At, Answered}
-use Rattle.bd_audit.proofs.NamesHaveGiftChains.Chains.{always-steps}
-use Rattle.bd_audit.proofs.RepliesReachTheirCallers.Places.{mid, later-space, next-place, either-way}
+use Rattle.bd_audit.specs.Replies.{thread_made, reply_taken, reply_taken_at, frame_of, call_closed_at, call_answered, HandsOutCall, AnswersCall, At, Answered}
+use Rattle.bd_audit.proofs.TurnsTellOfCalls.TurnsTelling.{handed-later}
+use Rattle.bd_audit.proofs.RepliesReachTheirCallers.Places.{later-place, either-way}
 use Rattle.bd_audit.proofs.RepliesReachTheirCallers.CallsOnce.{handed-once}
-use Rattle.bd_laws.proofs.Machine.Table.{keeps-by}
-use Rattle.bd_audit.proofs.RepliesReachTheirCallers.Quiet.{sent-quiet, ripen-quiet, quiet_table, quiet_exits, quiet_closes, Quiet, with_work-quiet, quiet-trans}
-use Rattle.bd_audit.proofs.RepliesReachTheirCallers.RepliesDue.{IsOwed, always-owed}
+use Rattle.bd_audit.proofs.RepliesReachTheirCallers.RepliesDue.{IsOwed, always-owed, step-from}
+pub use Rattle.bd_audit.proofs.RepliesReachTheirCallers.RepliesDue.{next-steps}
 use Rattle.bd_audit.proofs.RepliesReachTheirCallers.ReplyTaken.{taken-or-not, first-stands, NoReply}
 use Rattle.bd_audit.proofs.RepliesReachTheirCallers.Answering.{always-traced}
-use Rattle.bd_audit.proofs.RepliesReachTheirCallers.Traces.{Answers, answers-more}
-use Rattle.bd_laws.proofs.Machine.Fields.{serve-made}
-
--- ---- what a step makes: frames and replies of its own place
-
-pub record From (s z : Space) : Type 0 where
-  pub steps : z.steps ≡ s.steps
-  pub frames : (f : Frame) → In f z.frames → ((g : Frame) × In g s.frames × (f.made ≡ g.made)) ⊎ (f.made ≡ s.steps)
-  pub replies : (w : Work) (b : ℕ) → In w z.todo → reply_of w.kind ≡ Some b → In w s.todo ⊎ (b ≡ s.steps)
-
-from-quiet : (s z y : Space) → Quiet z y → From s y → From s z
-from-quiet s z y k h = record {
-  steps = k.steps ∙ h.steps;
-  frames = λ f l. let g = k.frames f l in elim (h.frames g.0 g.1) [ inl x ↦ inl (x.0, x.1, g.2.made ∙ x.2) | inr e ↦ inr (g.2.made ∙ e) ];
-  replies = λ w b l e. elim (k.todo w l) [ inl i ↦ h.replies w b i e | inr n ↦ (let none = n.1 in absurd (cc)) ];
-}
-
-from-same : (s : Space) → From s s
-from-same s = record { steps = refl; frames = λ f l. inl (f, l, refl); replies = λ w b l e. inl l }
-
-from-quietly : (s z : Space) → Quiet z s → From s z
-from-quietly s z q = from-quiet s z s q (from-same s)
-
-from-call : (s y : Space) (seat p : ℕ) (one_way : Bool) → From s y → From s (called y seat p one_way)
-unfolding call_out owe
-from-call s y seat p true h = h
-from-call s y seat p false h = record {
-  steps = h.steps;
-  frames = λ f l. elim (in-push f _ y.frames l) [ inl i ↦ h.frames f i | inr is ↦ inr (sym (ap (λ (x : Frame). x.made) is) ∙ h.steps) ];
-  replies = λ w b l e. elim (with_work-quiet y.steps y.todo (goes_to y seat p) (work.Call y.steps) refl w l) [
-    | inl i ↦ h.replies w b i e
-    | inr n ↦ (let none = n.1 in absurd (cc))
-  ];
-}
-
-from-transacted : (s : Space) (a : Actor) (d : TransactionData) (v : Delivery) → From s (transacted s a d v)
-unfolding transacted
-from-transacted s a d v = from-call s _ a.thread.seat v.receiver.made v.one_way (from-quietly s _ (sent-quiet s a d v _))
-
-from-answer : (s y : Space) (caller : Option ℕ) → From s y → From s (elim caller as (λ (o : Option ℕ). Space) [ None ↦ y | Some t ↦ owe y (OfThread t) (work.Reply s.steps) ])
-unfolding owe
-from-answer s y None h = h
-from-answer s y (Some t) h = record {
-  steps = h.steps;
-  frames = h.frames;
-  replies = λ w b l e. elim (in-push w _ y.todo l) [
-    | inl i ↦ h.replies w b i e
-    | inr is ↦ (let k : Some s.steps ≡ reply_of w.kind = ap (λ (x : Work). reply_of x.kind) is in inr (let j : Some s.steps ≡ Some b = k ∙ e in cc))
-  ];
-}
-
-from-replied : (s : Space) (a : Actor) (d : TransactionData) (f : Frame) (v : Delivery) → From s (replied s a d f v)
-unfolding replied
-from-replied s a d f v =
-    from-answer s (owe (delivered (closed s f.made) a d v) (OfThread a.thread.seat) (work.Complete false)) f.caller
-    (from-quietly s _ (quiet-trans _ (closed s f.made) s (sent-quiet (closed s f.made) a d v false) (quiet_closes s f.made)))
-
-from-read : (s : Space) (seat : ℕ) (ws : List Work) → From s (read_by s seat ws)
-unfolding read_by
-from-read s seat ws = search (arith, in-changed, serve-made, in-filter)
-
-from-kept : (s : Space) (seat : ℕ) (x : Step) → Keeps s seat x (From s) (From s)
-from-kept s seat x = search (arith, keeps-by, quiet_table, from-quietly, quiet_exits, quiet_closes, from-quiet, from-transacted, from-replied, from-read, ripen-quiet)
-
-pub step-from : (s : Space) (e : Entry) → From s (change s e.seat e.step).space
-step-from s e = every_step s e.seat e.step (From s) (From s) (from-kept s e.seat e.step)
+use Rattle.bd_audit.proofs.RepliesReachTheirCallers.Traces.{Answers, answers-more, at-below}
 
 -- ---- what is gone never comes again
 
 -- no frame made there
 abbrev pub NoFrame : ℕ → Space → Type 0
 NoFrame c z = (f : Frame) → In f z.frames → f.made ≡ c → ⊥
-
-pub next-steps : (s : Space) (e : Entry) → (next s e).steps ≡ suc s.steps
-unfolding counted
-next-steps s e = ap suc (step-from s e).steps
 
 pub step-no_frame : (s : Space) (e : Entry) (c : ℕ) → c < s.steps → NoFrame c s → NoFrame c (next s e)
 unfolding counted
@@ -103,15 +32,7 @@ step-no_frame s e c lt h f l is = elim ((step-from s e).frames f l) [
 
 pub step-no_reply : (s : Space) (e : Entry) (b : ℕ) → b < s.steps → NoReply b s → NoReply b (next s e)
 unfolding counted
-step-no_reply s e b lt h w l is = elim ((step-from s e).replies w b l is) [ inl i ↦ h w i is | inr at ↦ absurd (omega arith) ]
-
-later-no_frame : (es : List Entry) (s : Space) (c : ℕ) → c < s.steps → NoFrame c s → NoFrame c (after s es)
-later-no_frame [] s c lt h = h
-later-no_frame (e ∷ es) s c lt h = let n = next-steps s e in later-no_frame es (next s e) c (omega arith) (step-no_frame s e c lt h)
-
-later-no_reply : (es : List Entry) (s : Space) (b : ℕ) → b < s.steps → NoReply b s → NoReply b (after s es)
-later-no_reply [] s b lt h = h
-later-no_reply (e ∷ es) s b lt h = let n = next-steps s e in later-no_reply es (next s e) b (omega arith) (step-no_reply s e b lt h)
+step-no_reply s e b lt h w l is = elim ((step-from s e).replies w b l is) [ inl i ↦ h w i is | inr new ↦ (let at = new.0 in absurd (omega arith)) ]
 
 -- ---- places of a list
 
@@ -132,10 +53,10 @@ stood es i before e k = subst (λ xs. (slice_get xs i ≡ Some e) × (take i xs 
 
 module _ (es : List Entry) (i j : ℕ) (before later : List Entry) (e f : Entry) (at : Stands es i before e) (then : Stands es j later f) (lt : i < j) where
   pub no_frame-later : (c : ℕ) → c < i → NoFrame c (next (after opening before) e) → NoFrame c (after opening later)
-  no_frame-later c below h = subst (NoFrame c) (sym (later-space es i j before later e f at then lt)) (later-no_frame (mid es i j before later e f at then lt).0 (next (after opening before) e) c (let n = next-place es i j before later e f at then lt in omega arith) h)
+  no_frame-later c below = later-place (NoFrame c) c (λ s e tidy. step-no_frame s e c) es i j before later e f at then lt (omega arith)
 
   pub no_reply-later : (b : ℕ) → b < i → NoReply b (next (after opening before) e) → NoReply b (after opening later)
-  no_reply-later b below h = subst (NoReply b) (sym (later-space es i j before later e f at then lt)) (later-no_reply (mid es i j before later e f at then lt).0 (next (after opening before) e) b (let n = next-place es i j before later e f at then lt in omega arith) h)
+  no_reply-later b below = later-place (NoReply b) b (λ s e tidy. step-no_reply s e b) es i j before later e f at then lt (omega arith)
 
 -- ---- a call is closed once, and a reply taken once
 
@@ -147,14 +68,16 @@ pub closed-no_frame : (s : Space) (c : ℕ) → list_any (is_frame c) s.frames �
 closed-no_frame s c h f l is = let yes = any-in (is_frame c) f s.frames l (eq-eqb f.made c is) in absurd (cc)
 
 abbrev Closes : List Entry → ℕ → ℕ → Type 0
-Closes es w c = (n : ℕ) × (c < w) × At es w (λ z e. AnswersCall z e c n)
+Closes es w c = (n : ℕ) × At es w (λ z e. AnswersCall z e c n)
 
 closed-once : (es : List Entry) (c w v : ℕ) → Closes es w c → Closes es v c → w < v → ⊥
 closed-once es c w v h k lt =
-    let p = h.2 in
-    let q = k.2 in
+    let p = h.1 in
+    let q = k.1 in
     let f = open-frame (after opening q.0) q.1 c q.3.innermost in
-    no_frame-later es w v p.0 q.0 p.1 q.1 p.2 q.2 lt c h.1 (closed-no_frame (next (after opening p.0) p.1) c p.3.closes) f.0 f.1 f.2
+    let g = open-frame (after opening p.0) p.1 c p.3.innermost in
+    let below : c < w = (let b = (always-traced p.0).below g.0 g.1 in let made = g.2 in let at = p.2.at in omega arith) in
+    no_frame-later es w v p.0 q.0 p.1 q.1 p.2 q.2 lt c below (closed-no_frame (next (after opening p.0) p.1) c p.3.closes) f.0 f.1 f.2
 
 pub is-reading : (s : Space) (e : Entry) (r : ℕ) → reply_taken s e ≡ Some r → (limit : ℕ) × (e.step ≡ Read limit)
 unfolding reply_taken
@@ -208,12 +131,7 @@ find-answer h s w e =
       answers = subst (λ es. Answers es w t.0) (sym p.2.all) (answers-more p.0 rest w t.0 t.2);
       reads = p;
       read = (p.0, p.1, p.2, t.1);
-      reply_next =
-          let below = (owed-after p.0).place k.item k.here in
-          let made = (owed-after p.0).made k.item w k.here k.reply in
-          let steps = always-steps p.0 in
-          let at = p.2.at in
-          omega arith;
+      reply_next = let lt = at-below p.0 w (λ z e. AnswersCall z e t.2.call t.2.server) t.2.replied in let at = p.2.at in omega arith;
     }
 
 closes-call : (h : History) (w c n : ℕ) → At h.entries w (λ z e. AnswersCall z e c n) → call_closed_at h w ≡ Some c
@@ -234,6 +152,7 @@ pub reaches : (h : History) (s w : ℕ) → reply_taken_at h s ≡ Some w → An
 reaches h s w e =
     let k = find-answer h s w e in
     let a = k.answers in
+    let hands : At h.entries a.handed (HandsOutCall a.call) = (let t = a.taken in (t.0, t.1, t.2, t.3.taken)) in
     record {
       call = a.call;
       handed = a.handed;
@@ -242,10 +161,10 @@ reaches h s w e =
       answers = answered h s w a.call e (closes-call h w a.call a.server a.replied);
       called = a.called;
       taken = a.taken;
-      once = λ p f. handed-once h.entries a.call k.caller a.called p a.handed f (let t = a.taken in (t.0, t.1, t.2, t.3.taken));
+      once = λ p f. handed-once h.entries a.call k.caller a.called p a.handed f hands;
       replied = a.replied;
       read = k.read;
-      call_first = a.call_first;
+      call_first = handed-later h.entries a.handed a.call hands;
       handed_next = a.handed_next;
       reply_next = k.reply_next;
       alone = λ r f.
@@ -253,8 +172,8 @@ reaches h s w e =
           let l = find-answer h r b.0 b.1 in
           let c = l.answers in
           let same_call : c.call ≡ a.call = (let x = closes-call h b.0 c.call c.server c.replied in let y = b.2 in let j : Some c.call ≡ Some a.call = sym x ∙ y in cc) in
-          let first : Closes h.entries w a.call = (a.server, (let p = a.call_first in let q = a.handed_next in omega arith), a.replied) in
-          let other : Closes h.entries b.0 a.call = subst (Closes h.entries b.0) same_call (c.server, (let p = c.call_first in let q = c.handed_next in omega arith), c.replied) in
+          let first : Closes h.entries w a.call = (a.server, a.replied) in
+          let other : Closes h.entries b.0 a.call = subst (Closes h.entries b.0) same_call (c.server, c.replied) in
           let same_reply : b.0 ≡ w = either-way b.0 w (closed-once h.entries a.call b.0 w other first) (closed-once h.entries a.call w b.0 first other) in
           let reads : Reads h.entries r w = subst (Reads h.entries r) same_reply l.reads in
           let below : w < r = subst (λ n. n < r) same_reply l.reply_next in

@@ -1,7 +1,8 @@
--- The past of frames and of replies that are due: what they have behind them, and one frame or reply more.
+-- For RepliesReachTheirCallers, and by it RepliesAnswerTheLatestOpenCall: the past of frames and of replies that are due:
+-- what they have behind them, and one frame or reply more.
 use Rattle.bd_laws.proofs.words.Logic.{◌≡◌, ℕ, ◌<◌, ◌+◌, ◌==◌, List, [], ◌∷◌, ◌++◌, length, Option, Some, Ok, inl, inr, refl, ap, sym, subst, ◌∙◌, append_assoc, length-append, arith, option_map, eqb-true}
-use Rattle.bd_laws.proofs.words.Types.{TransactionData, Parcel, Command, Accepted, Entry, Thread, Work, Frame, Actor, Pending, Serving, OfThread}
-use Rattle.bd_laws.proofs.words.Space.{Space, opening, actor, owe, goes_to, served_innermost, Delivery, delivered, own_notices, add_buffer, known_by, refer, make_objects, assign_numbers, completed, transaction_step, transaction_check, called, call_out, reply_step, reply_check, replied, command_step, change, after}
+use Rattle.bd_laws.proofs.words.Types.{TransactionData, Parcel, Command, Accepted, Entry, Thread, Work, Frame, Actor, Serving, OfThread}
+use Rattle.bd_laws.proofs.words.Space.{Space, opening, actor, owe, goes_to, served_innermost, Delivery, completed, transaction_step, transaction_check, called, call_out, reply_step, reply_check, replied, command_step, change, after}
 use Rattle.bd_uapi.specs.declared.command.Command.TheVariants as bc
 use Rattle.bd_space.specs.declared.space.WorkKind.TheVariants as work
 use Rattle.bd_links.specs.TodoList.{reply_of}
@@ -30,7 +31,7 @@ abbrev pub Called : List Entry → ℕ → ℕ → Type 0
 Called es c m = At es c (λ z e. Calls z e m)
 
 abbrev pub Handed : List Entry → ℕ → ℕ → Type 0
-Handed es c m = (d : ℕ) × (c < d) × At es d (λ z e. TakesCall z e c m)
+Handed es c m = (d : ℕ) × At es d (λ z e. TakesCall z e c m)
 
 -- the reply made at b answers the call of the thread m
 pub record Answers (es : List Entry) (b m : ℕ) : Type 0 where
@@ -40,7 +41,6 @@ pub record Answers (es : List Entry) (b m : ℕ) : Type 0 where
   pub called : Called es call m
   pub taken : At es handed (λ z e. TakesCall z e call server)
   pub replied : At es b (λ z e. AnswersCall z e call server)
-  pub call_first : call < handed
   pub handed_next : handed < b
 
 pub record Traced (es : List Entry) (z : Space) : Type 0 where
@@ -57,7 +57,6 @@ answers-more es fs b m h = record {
   called = at-more es fs h.call (λ z e. Calls z e m) h.called;
   taken = at-more es fs h.handed (λ z e. TakesCall z e h.call h.server) h.taken;
   replied = at-more es fs b (λ z e. AnswersCall z e h.call h.server) h.replied;
-  call_first = h.call_first;
   handed_next = h.handed_next;
 }
 
@@ -65,7 +64,7 @@ pub traced-more : (es fs : List Entry) (z : Space) → Traced es z → Traced (e
 traced-more es fs z h = record {
   below = λ f l. let lt = h.below f l in let a = length-append es fs in omega arith;
   callers = λ f t l e. let k = h.callers f t l e in (k.0, k.1, at-more es fs f.made (λ z e. Calls z e k.0) k.2);
-  servers = λ f t l e. let k = h.servers f t l e in (k.0, k.1, (k.2.0, k.2.1, at-more es fs k.2.0 (λ z e. TakesCall z e f.made k.0) k.2.2));
+  servers = λ f t l e. let k = h.servers f t l e in (k.0, k.1, (k.2.0, at-more es fs k.2.0 (λ z e. TakesCall z e f.made k.0) k.2.1));
   replies = λ w b t l e o. let k = h.replies w b t l e o in (k.0, k.1, answers-more es fs b k.0 k.2);
 }
 
@@ -80,10 +79,7 @@ traced-quiet es z y k h = record {
       let g = k.frames f l in
       let x = h.servers g.0 t g.1 (g.2.server t e) in
       (x.0, k.threads t x.0 x.1 (inl (f, l, inr e)), subst (λ c. Handed es c x.0) (sym g.2.made) x.2);
-  replies = λ w b t l e o. elim (k.todo w l) [
-    | inl i ↦ (let x = h.replies w b t i e o in (x.0, k.threads t x.0 x.1 (inr (w, b, l, e, o)), x.2))
-    | inr n ↦ (let none = n.1 in absurd (cc))
-  ];
+  replies = λ w b t l e o. let x = h.replies w b t (k.replies w b l e) e o in (x.0, k.threads t x.0 x.1 (inr (w, b, l, e, o)), x.2);
 }
 
 -- ---- accepted commands
@@ -107,12 +103,6 @@ actor-made s seat a h =
     let k = (actor-lives s seat a h).0 in
     (eqb-true a.thread.seat seat (find-in (λ (t : Thread). t.seat == seat) a.thread s.threads k).1, ap (λ o. option_map (λ (t : Thread). t.made) o) k)
 
--- ---- the threads that deliver are the ones that were
-
-pub delivered-threads : (s : Space) (a : Actor) (d : TransactionData) (v : Delivery) → (delivered s a d v).threads ≡ s.threads
-unfolding delivered own_notices add_buffer known_by assign_numbers refer make_objects
-delivered-threads s a d v = refl
-
 -- ---- one frame more, and one reply more
 
 pub framed : (es : List Entry) (y : Space) (seat p m : ℕ) → Traced es y → thread_made y seat ≡ Some m → Called es y.steps m → y.steps < length es → Traced es (call_out y seat p)
@@ -126,14 +116,8 @@ framed es y seat p m h by called lt = record {
         let same_seat : seat ≡ t = (let k : Some seat ≡ Some t = c ∙ e in cc) in
         (m, subst (λ n. thread_made y n ≡ Some m) same_seat by, subst (λ n. Called es n m) (ap (λ (x : Frame). x.made) is) called))
   ];
-  servers = λ f t l e. elim (in-push f _ y.frames l) [
-    | inl i ↦ h.servers f t i e
-    | inr is ↦ (let k : Pending ≡ f.server = ap (λ (x : Frame). x.server) is in absurd (cc))
-  ];
-  replies = λ w b t l e o. elim (with_work-quiet y.steps y.todo (goes_to y seat p) (work.Call y.steps) refl w l) [
-    | inl i ↦ h.replies w b t i e o
-    | inr n ↦ (let none = n.1 in absurd (cc))
-  ];
+  servers = λ f t l e. search (arith, in-push, h.servers);
+  replies = λ w b t l e. h.replies w b t (with_work-quiet y.steps y.todo (goes_to y seat p) (work.Call y.steps) refl w b l e) e;
 }
 
 pub answering : (es : List Entry) (y : Space) (t m n : ℕ) → Traced es y → thread_made y t ≡ Some m → Answers es n m → Traced es (owe y (OfThread t) (work.Reply n))

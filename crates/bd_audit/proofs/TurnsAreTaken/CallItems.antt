@@ -1,29 +1,29 @@
--- The work items of a one-way call: it is due once at most, on its receiver's list, while its buffer lives and isn't handed
--- out; and what a step makes of its buffer.
-use Rattle.bd_laws.proofs.words.Logic.{◌≡◌, ℕ, ◌-◌, ◌<◌, Bool, true, false, not, List, [], ◌∷◌, Option, Some, None, Ok, ◌⊎◌, inl, inr, refl, ap, sym, subst, ◌∙◌, filter, arith, list_any, eqb-true}
+-- For the laws of turns and for RepliesReachTheirCallers, where a call is handed out once: the work items of a one-way call:
+-- it is due once at most, on its receiver's list, while its buffer lives and isn't handed out; and what a step makes of its
+-- buffer.
+use Rattle.bd_laws.proofs.words.Logic.{◌≡◌, ℕ, ◌-◌, ◌<◌, Bool, true, false, not, List, [], ◌∷◌, Option, Some, None, Ok, ◌⊎◌, inl, inr, refl, ap, sym, ◌∙◌, filter, arith, list_any, eqb-true}
 use Rattle.bd_laws.proofs.words.Types.{TransactionData, ObjectId, Parcel, Command, Read, Entry, Actor, Frame, Buffer, Work, TodoList, OfThread, WorkKind}
-use Rattle.bd_laws.proofs.words.Space.{Space, actor, owe, with_work, is_call, hands_out, list_to_read, is_item, closed, goes_to, follow, assign_numbers, Delivery, delivered, own_notices, add_buffer, known_by, refer, make_objects, buffer_of, transaction_check, transacted, called, call_out, is_one_way, reply_check, replied, is_made_at, taken, read_by, buffer_taken, hand_out, handed_buffers, read_fault, change, is_spam}
+use Rattle.bd_laws.proofs.words.Space.{Space, actor, owe, with_work, is_call, hands_out, list_to_read, is_item, closed, goes_to, follow, assign_numbers, Delivery, delivered, own_notices, add_buffer, known_by, refer, make_objects, buffer_of, transaction_check, transacted, called, call_out, is_one_way, reply_check, replied, is_made_at, taken, read_by, buffer_taken, hand_out, handed_buffers, read_fault, change, is_spam, ask, drop_asked, acknowledge, with_looping, without_process, threads_go}
 use Rattle.bd_uapi.specs.declared.command.Command.TheVariants as bc
 use Rattle.bd_space.specs.declared.space.WorkKind.TheVariants as work
 use Rattle.bd_laws.proofs.words.Laws.{In, IsInTurn}
 use Rattle.bd_laws.proofs.Machine.EveryStep.{Keeps, every_step}
 use Rattle.bd_laws.proofs.Lists.{in-left, in-push, in-filter, in-changed, changed-in, any-in}
 use Rattle.bd_laws.proofs.Tests.{not-true}
-use Rattle.bd_laws.proofs.IsInTurn.OneWay.{less_table, less_closes, own_notices-less}
-use Rattle.bd_laws.proofs.Machine.Untouched.{Untouched}
+use Rattle.bd_laws.proofs.IsInTurn.OneWay.{with_work-less, own_notices-less}
 use Rattle.bd_laws.proofs.IsInTurn.Ripening.{taken-due, read-in, made-kept}
 use Rattle.bd_laws.proofs.Checks.{Transacts, transaction-checked, reply-checked}
 use Rattle.bd_laws.proofs.IsInTurn.Passing.{at_pointer-in}
-use Rattle.bd_laws.proofs.IsInTurn.Passed.{ask-after, drop_asked-after, acknowledge-after, follow-after}
+use Rattle.bd_laws.proofs.IsInTurn.Passed.{follow-after}
 use Rattle.bd_laws.proofs.OnPaths.PathWords.{same-item}
-use Rattle.bd_laws.proofs.Machine.Deaths.{on-mapped, on-both, on-commands}
+use Rattle.bd_laws.proofs.Machine.Deaths.{KeptOnDeaths, on-kept, on-told, on-commands}
+use Rattle.bd_laws.proofs.Machine.Following.{threads-keep}
+use Rattle.bd_laws.proofs.Machine.EveryEnding.{set_up-beside}
 use Rattle.bd_audit.specs.Replies.{items_taken, items_read, items_unless}
 use Rattle.bd_audit.specs.TurnCalls.{CallsOneWay}
-use Rattle.bd_laws.proofs.IsInTurn.OneWay
-use Rattle.bd_laws.proofs.Machine.Untouched
 use Rattle.bd_audit.proofs.RepliesReachTheirCallers.Traces.{transaction-accepted}
-use Rattle.bd_laws.proofs.Machine.Fields.{sent-steps, closed-steps}
-use Rattle.bd_audit.proofs.TurnsAreTaken.CallItemsKept.{Hands, DueOnce, IsOneWay, HandedBefore, Treats, once-less, treats-after, treats-untouched, treats-opened, treats-attached, treats-managed, gone-buffer, gone-thread, gone-ends, ripens, treats-marked}
+use Rattle.bd_laws.proofs.Machine.Fields.{sent-steps}
+use Rattle.bd_audit.proofs.TurnsAreTaken.CallItemsKept.{Hands, DueOnce, IsOneWay, HandedBefore, Treated, Treats, once-less, treats-same, gone-buffer, gone-thread, gone-process, ripens}
 
 module _ (s : Space) (e : Entry) (m : ℕ) where
   -- ---- transactions and replies
@@ -46,35 +46,37 @@ module _ (s : Space) (e : Entry) (m : ℕ) where
   }
 
   -- an item that hands over what the step makes, but that is no one-way call
-  hands-other : (z y : Space) (list : TodoList) (kind : WorkKind) → hands_out kind ≡ Some s.steps → (IsOneWay e.step → ⊥) → z.buffers ≡ y.buffers
-      → z.todo ≡ with_work y.steps y.todo list kind → Treats s e m y → Treats s e m z
-  hands-other z y list kind hands none buffers more h = record {
+  hands-other : (bs : List Buffer) (place : ℕ) (todo : List Work) (list : TodoList) (kind : WorkKind) → hands_out kind ≡ Some s.steps → (IsOneWay e.step → ⊥) → Treated s e m bs todo
+      → Treated s e m bs (with_work place todo list kind)
+  hands-other bs place todo list kind hands none h = record {
     once = λ fits. elim fits [
-      | inl lt ↦ (once-less s e m) y.buffers z.buffers z.todo y.todo (was lt) (λ w i u. subst (In u.buffer) (sym buffers) u.here) (h.once (inl lt))
+      | inl lt ↦ (once-less s e m) bs bs (with_work place todo list kind) todo (was lt) (λ w i u. u.here) (h.once (inl lt))
       | inr call ↦ absurd (none call)
     ];
-    handed = λ c i. h.handed c (subst (In c) buffers i);
-    made = λ o c i. h.made o c (subst (In c) buffers i);
+    handed = h.handed;
+    made = h.made;
   }
     where
-      was : m < s.steps → (w : Work) → Hands m z.todo w → In w y.todo
+      was : m < s.steps → (w : Work) → Hands m (with_work place todo list kind) w → In w todo
       was lt w i = search (arith, in-push)
 
   owes : (z : Space) (list : TodoList) (kind : WorkKind) → hands_out kind ≡ None → Treats s e m z → Treats s e m (owe z list kind)
-  owes z list kind none h = (treats-untouched s e m) _ z (Untouched.owe-untouched z list kind) (OneWay.owe-less z list kind none) h
+  unfolding owe
+  owes z list kind none h = (treats-same s e m) z.buffers z.buffers _ z.todo refl (λ w i. with_work-less z.steps z.todo list kind none w m i.0 i.1) h
 
-  calls-out : (z : Space) (seat p : ℕ) → z.steps ≡ s.steps → (IsOneWay e.step → ⊥) → Treats s e m z → Treats s e m (call_out z seat p)
-  unfolding call_out owe
-  calls-out z seat p steps none h = hands-other _ z (goes_to z seat p) (work.Call z.steps) (ap (λ n. Some n) steps) none refl refl h
+  deaths-treat : KeptOnDeaths (Treats s e m)
+  deaths-treat = search (arith, owes)
 
   calls : (z : Space) (seat p : ℕ) (one_way : Bool) → z.steps ≡ s.steps → (one_way ≡ false → IsOneWay e.step → ⊥) → Treats s e m z → Treats s e m (called z seat p one_way)
-  calls z seat p one_way steps none h = search (arith, calls-out)
+  unfolding call_out owe
+  calls z seat p true steps none h = h
+  calls z seat p false steps none h = hands-other z.buffers z.steps z.todo (goes_to z seat p) (work.Call z.steps) (ap (λ n. Some n) steps) (none refl) h
 
-  replies-to : (z : Space) (caller : Option ℕ) → z.steps ≡ s.steps → (IsOneWay e.step → ⊥) → Treats s e m z
+  replies-to : (z : Space) (caller : Option ℕ) → (IsOneWay e.step → ⊥) → Treats s e m z
       → Treats s e m (elim caller as (λ (o : Option ℕ). Space) [ None ↦ z | Some t ↦ owe z (OfThread t) (work.Reply s.steps) ])
   unfolding owe
-  replies-to z None steps none h = h
-  replies-to z (Some t) steps none h = hands-other _ z (OfThread t) (work.Reply s.steps) refl none refl refl h
+  replies-to z None none h = h
+  replies-to z (Some t) none h = hands-other z.buffers z.steps z.todo (OfThread t) (work.Reply s.steps) refl none h
 
   sends : (y : Space) (a : Actor) (d : TransactionData) (v : Delivery) (spam : Bool) → ((o : ObjectId) → v.one_way ≡ true → v.target ≡ Some o → CallsOneWay s e o) → Treats s e m y
       → Treats s e m (owe (delivered y a d v) (OfThread a.thread.seat) (work.Complete spam))
@@ -115,10 +117,10 @@ module _ (s : Space) (e : Entry) (m : ℕ) where
             }
 
     replies : (f : Frame) (v : Delivery) → e.step ≡ Command (bc.Reply d) parcel → reply_check s a d parcel f ≡ Ok v → Treats s e m s → Treats s e m (replied s a d f v)
-    unfolding replied
+    unfolding replied closed
     replies f v x check h =
-        replies-to (owe (delivered (closed s f.made) a d v) (OfThread a.thread.seat) (work.Complete false)) f.caller (sent-steps (closed s f.made) a d v false ∙ closed-steps s f.made) other
-        (sends (closed s f.made) a d v false made ((treats-untouched s e m) (closed s f.made) s (Untouched.closed-untouched s f.made) (less_closes s f.made) h))
+        replies-to (owe (delivered (closed s f.made) a d v) (OfThread a.thread.seat) (work.Complete false)) f.caller other
+        (sends (closed s f.made) a d v false made h)
       where
         other : IsOneWay e.step → ⊥
         other k = let same_step : Command (bc.Reply d) parcel ≡ Command (bc.Transaction k.0) k.1 = sym x ∙ k.2 in absurd (cc)
@@ -158,12 +160,9 @@ module _ (s : Space) (e : Entry) (m : ℕ) where
           → (o : Option Buffer) → buffer_taken s items ≡ o → In b (handed_buffers s.buffers o)
       stays w i b here made o f = search (arith, changed-in, hander, eqb-true, was, any-in, same-item, not-true, in-filter, left)
 
-      calls-taken : (b : Buffer) → buffer_taken s items ≡ Some b → b.made ≡ m → list_any (λ (w : Work). is_call m w.kind) (items_taken s e.seat e.step) ≡ true
-      calls-taken b f made = search (arith, hander, takes-items, any-in)
-
       handed-out : (c : Buffer) → (o : Option Buffer) → buffer_taken s items ≡ o → In c (handed_buffers s.buffers o) → c.made ≡ m → c.handed ≡ true
           → HandedBefore s m ⊎ (list_any (λ (w : Work). is_call m w.kind) (items_taken s e.seat e.step) ≡ true)
-      handed-out c o f i made handed = search (arith, in-changed, calls-taken, eqb-true)
+      handed-out c o f i made handed = search (arith, in-changed, hander, takes-items, any-in, eqb-true)
 
       old-made : (c : Buffer) → (o : Option Buffer) → In c (handed_buffers s.buffers o) → c.made < s.steps
       old-made c None i = turns.below c i
@@ -175,17 +174,7 @@ module _ (s : Space) (e : Entry) (m : ℕ) where
       reads : Treats s e m (read_by s a.thread.seat items)
       unfolding read_by
       reads = record {
-        once = λ fits. record {
-          one = λ v w i j. due.one v w (was v i) (was w j);
-          call = λ w i. due.call w (was w i);
-          unread = λ w i. let u = due.unread w (was w i) in record {
-            buffer = u.buffer;
-            here = stays w i u.buffer u.here u.made (buffer_taken s items) refl;
-            made = u.made;
-            handed = u.handed;
-            list = u.list;
-          };
-        };
+        once = λ fits. (once-less s e m) s.buffers _ _ s.todo (λ w i. (was w i).0) (λ w i u. stays w i u.buffer u.here u.made (buffer_taken s items) refl) due;
         handed = λ c i made handed. handed-out c (buffer_taken s items) refl i made handed;
         made = λ o c i at on. let lt = old-made c (buffer_taken s items) i in absurd (omega arith);
       }
@@ -193,32 +182,28 @@ module _ (s : Space) (e : Entry) (m : ℕ) where
     -- ---- every step
 
     treating : Keeps s e.seat e.step (Treats s e m) (Treats s e m)
+    unfolding ask assign_numbers drop_asked acknowledge with_looping closed
     treating = record {
-      set_up = record {
-        same = at-start;
-        opened = λ pid euid window free. (treats-opened s e m) pid euid window at-start;
-        attached = λ p free. (treats-attached s e m) p at-start;
-        managed = λ a i b. (treats-managed s e m) a.process.made at-start;
-        marked = λ p on. (treats-marked s e m) p on at-start;
-      };
+      set_up = set_up-beside s e.seat (Treats s e m) (λ qs ts os rs k. at-start);
       changes = record {
         transacts = λ a d parcel v x i t. transacts a i d parcel v x t at-start;
         replies = λ a d parcel f v x i g t. replies a i d parcel f v x t at-start;
         frees = λ p ptr b i t. (gone-buffer s e m) b turns (at_pointer-in s p ptr b i) t at-start;
-        asks = λ a n strong o x i t. (treats-after s e m) _ s (ask-after s a.process.made o strong) at-start;
-        drops = λ p o strong. (treats-after s e m) _ s (drop_asked-after s p o strong) at-start;
-        acknowledges = λ o strong i. (treats-after s e m) _ s (acknowledge-after s o strong) at-start;
-        loops = λ t looping. (treats-untouched s e m) _ s (Untouched.with_looping-untouched s t looping) (less_table.loops s t looping) at-start;
-        on_deaths = on-commands s _ (on-mapped s _ _ (λ y k. (treats-untouched s e m) y s k.0 k.1 at-start) (on-both s _ _ (Untouched.on_deaths-untouched s) (OneWay.on_deaths-less s)));
+        asks = λ a n strong o x i t. at-start;
+        drops = λ p o strong. at-start;
+        acknowledges = λ o strong i. at-start;
+        loops = λ t looping. at-start;
+        on_deaths = on-commands s (Treats s e m) (on-kept (Treats s e m) deaths-treat s at-start);
         reads = λ a limit i x n. reads a limit i x n;
         leaves = λ a i. (gone-thread s e m) s a.thread.seat at-start;
-        ends = λ a i. (gone-ends s e m) a.process.made at-start;
-        ripens = λ z h. (ripens s e m) z h;
+        ends = λ a i. on-told (Treats s e m) deaths-treat (without_process (threads_go s a.process.made) a.process.made) a.process.made
+            ((gone-process s e m) (threads_go s a.process.made) a.process.made (threads-keep (Treats s e m) (gone-thread s e m) s a.process.made at-start));
+        ripens = ripens s e m;
       };
-      follows = λ z h. (treats-after s e m) (follow z) z (follow-after z) h;
-      closes = λ z made h. (treats-untouched s e m) (closed z made) z (Untouched.closed-untouched z made) (less_closes z made) h;
-      refuses = λ z t r h. owes z (OfThread t) (work.Refusal r) refl h;
-      tells = λ z t r h. owes z (OfThread t) (work.Verdict r) refl h;
+      follows = λ z. (treats-same s e m) z.buffers (follow z).buffers (follow z).todo z.todo (follow-after z).buffers (λ w i. (follow-after z).due w m i.0 i.1);
+      closes = λ z made h. h;
+      refuses = λ z t r. owes z (OfThread t) (work.Refusal r) refl;
+      tells = λ z t r. owes z (OfThread t) (work.Verdict r) refl;
     }
 
     pub step-treats : Treats s e m (change s e.seat e.step).space

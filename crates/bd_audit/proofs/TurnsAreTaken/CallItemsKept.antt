@@ -1,22 +1,18 @@
--- The work items of a one-way call, through the parts of a step that make none: what goes, and what ripens.
-use Rattle.bd_laws.proofs.words.Logic.{◌≡◌, ℕ, ◌<◌, ◌==◌, Bool, true, false, cond, not, List, [], ◌∷◌, ◌++◌, Option, Some, ◌⊎◌, inl, inr, refl, ap, sym, subst, ◌∙◌, map, filter, arith, list_any, count_by, eqb-true, eq-eqb}
-use Rattle.bd_laws.proofs.words.Types.{TransactionData, ObjectId, Parcel, Step, Command, Entry, Thread, Buffer, Turn, Work, OfProcess}
-use Rattle.bd_laws.proofs.words.Space.{same, Space, with_work, is_call, hands_out, turn_of, turns_of, is_ripe, ripened, ripen, is_one_way, without_buffer, is_made_at, thread_goes, threads_go, without_process, tell_deaths, seat_of, with_thread, with_process, with_manager, with_spam_detection}
+-- For the laws of turns and for RepliesReachTheirCallers: the work items of a one-way call, through the parts of a step that
+-- make none: what goes, and what ripens.
+use Rattle.bd_laws.proofs.words.Logic.{◌≡◌, ℕ, ◌<◌, ◌==◌, Bool, true, false, cond, not, List, [], ◌∷◌, ◌++◌, Option, Some, ◌⊎◌, inl, inr, refl, ap, sym, subst, ◌∙◌, arith, list_any, count_by, eqb-true, eq-eqb}
+use Rattle.bd_laws.proofs.words.Types.{TransactionData, ObjectId, Parcel, Step, Command, Entry, Buffer, Turn, Work, OfProcess}
+use Rattle.bd_laws.proofs.words.Space.{same, Space, with_work, is_call, hands_out, turn_of, turns_of, is_ripe, ripened, ripen, is_one_way, without_buffer, is_made_at, thread_goes, without_process}
 use Rattle.bd_uapi.specs.declared.command.Command.TheVariants as bc
 use Rattle.bd_space.specs.declared.space.WorkKind.TheVariants as work
 use Rattle.bd_laws.proofs.words.Laws.{In, IsInTurn, On}
-use Rattle.bd_laws.proofs.Lists.{in-push, in-filter, filter-in, in-filter_map, any-in, fold-keeps}
+use Rattle.bd_laws.proofs.Lists.{in-push, in-filter, filter-in, in-filter_map, any-in}
 use Rattle.bd_laws.proofs.Tests.{not-true, ripe-parts}
-use Rattle.bd_laws.proofs.IsInTurn.OneWay.{Less}
-use Rattle.bd_laws.proofs.Machine.Untouched.{Untouched}
 use Rattle.bd_laws.proofs.IsInTurn.Ripening.{turn-parts}
 use Rattle.bd_laws.proofs.IsInTurn.Passing.{lost-on, not-on}
-use Rattle.bd_laws.proofs.IsInTurn.Passed.{After}
 use Rattle.bd_laws.proofs.IsInTurn.Received.{one-buffer}
 use Rattle.bd_audit.specs.Replies.{items_taken}
 use Rattle.bd_audit.specs.TurnCalls.{CallsOneWay}
-use Rattle.bd_laws.proofs.IsInTurn.OneWay
-use Rattle.bd_laws.proofs.Machine.Untouched
 
 -- ---- the item of one call
 
@@ -59,11 +55,14 @@ HandedBefore s m = (b : Buffer) × In b s.buffers × (b.made ≡ m) × (b.handed
 -- What the step of an entry makes of the buffer made at m and its item: the item stays one, also if the step makes the
 -- buffer, provided that this isn't a two-way call's or a reply's; a buffer that is handed out was so before, or its call is
 -- among the items that the step takes; and a one-way call's buffer that the step makes tells what the step is.
-pub record Treats (s : Space) (e : Entry) (m : ℕ) (z : Space) : Type 0 where
-  pub once : (m < s.steps) ⊎ IsOneWay e.step → DueOnce m z.buffers z.todo
-  pub handed : (c : Buffer) → In c z.buffers → c.made ≡ m → c.handed ≡ true
+pub record Treated (s : Space) (e : Entry) (m : ℕ) (buffers : List Buffer) (todo : List Work) : Type 0 where
+  pub once : (m < s.steps) ⊎ IsOneWay e.step → DueOnce m buffers todo
+  pub handed : (c : Buffer) → In c buffers → c.made ≡ m → c.handed ≡ true
       → HandedBefore s m ⊎ (list_any (λ w. is_call m w.kind) (items_taken s e.seat e.step) ≡ true)
-  pub made : (o : ObjectId) (c : Buffer) → In c z.buffers → c.made ≡ s.steps → On o c → CallsOneWay s e o
+  pub made : (o : ObjectId) (c : Buffer) → In c buffers → c.made ≡ s.steps → On o c → CallsOneWay s e o
+
+abbrev pub Treats : Space → Entry → ℕ → Space → Type 0
+Treats s e m z = Treated s e m z.buffers z.todo
 
 -- ---- parts that leave the buffers, and no more items that hand over
 
@@ -77,45 +76,23 @@ module _ (s : Space) (e : Entry) (m : ℕ) where
     unread = λ w i. let u = h.unread w (due w i, i.1) in record { buffer = u.buffer; here = stay w i u; made = u.made; handed = u.handed; list = u.list };
   }
 
-  treats-less : (z y : Space) → ((c : Buffer) → In c z.buffers → In c y.buffers) → ((w : Work) → Hands m z.todo w → In w y.todo)
-      → (DueOnce m y.buffers y.todo → (w : Work) → Hands m z.todo w → (u : Unread m y.buffers w) → In u.buffer z.buffers) → Treats s e m y → Treats s e m z
-  treats-less z y had due stay h = record {
-    once = λ fits. let k = h.once fits in once-less y.buffers z.buffers z.todo y.todo due (stay k) k;
+  pub treats-less : (bs cs : List Buffer) (more todo : List Work) → ((c : Buffer) → In c cs → In c bs) → ((w : Work) → Hands m more w → In w todo)
+      → (DueOnce m bs todo → (w : Work) → Hands m more w → (u : Unread m bs w) → In u.buffer cs) → Treated s e m bs todo → Treated s e m cs more
+  treats-less bs cs more todo had due stay h = record {
+    once = λ fits. let k = h.once fits in once-less bs cs more todo due (stay k) k;
     handed = λ c i. h.handed c (had c i);
     made = λ o c i. h.made o c (had c i);
   }
 
-  treats-same : (z y : Space) → z.buffers ≡ y.buffers → ((w : Work) → Hands m z.todo w → In w y.todo) → Treats s e m y → Treats s e m z
-  treats-same z y same due h = treats-less z y (λ c i. subst (In c) same i) due (λ k w i u. subst (In u.buffer) (sym same) u.here) h
-
-  pub treats-after : (z y : Space) → After z y → Treats s e m y → Treats s e m z
-  treats-after z y a h = treats-same z y a.buffers (λ w i. a.due w m i.0 i.1) h
-
-  pub treats-untouched : (z y : Space) → Untouched z y → Less z y → Treats s e m y → Treats s e m z
-  treats-untouched z y u l h = treats-same z y u.buffers (λ w i. l.due w m i.0 i.1) h
-
-  pub treats-opened : (pid euid window : ℕ) → Treats s e m s → Treats s e m (with_thread (with_process s pid euid window) e.seat s.steps)
-  unfolding with_thread with_process
-  treats-opened pid euid window h = treats-same _ s refl (λ w i. i.0) h
-
-  pub treats-attached : (p : ℕ) → Treats s e m s → Treats s e m (with_thread s e.seat p)
-  unfolding with_thread
-  treats-attached p h = treats-same _ s refl (λ w i. i.0) h
-
-  pub treats-managed : (p : ℕ) → Treats s e m s → Treats s e m (with_manager s p)
-  unfolding with_manager
-  treats-managed p h = treats-same _ s refl (λ w i. i.0) h
-
-  pub treats-marked : (p : ℕ) (on : Bool) → Treats s e m s → Treats s e m (with_spam_detection s p on)
-  unfolding with_spam_detection
-  treats-marked p on h = treats-same _ s refl (λ w i. i.0) h
+  pub treats-same : (bs cs : List Buffer) (more todo : List Work) → cs ≡ bs → ((w : Work) → Hands m more w → In w todo) → Treated s e m bs todo → Treated s e m cs more
+  treats-same bs cs more todo same due h = treats-less bs cs more todo (λ c i. subst (In c) same i) due (λ k w i u. subst (In u.buffer) (sym same) u.here) h
 
   -- ---- what goes
 
   pub gone-buffer : (b : Buffer) → IsInTurn s → In b s.buffers → b.handed ≡ true → Treats s e m s → Treats s e m (without_buffer s b.made)
   unfolding without_buffer
   gone-buffer b turns here handed h =
-      treats-less _ s (λ c i. (in-filter stays c s.buffers i).0) (λ w i. i.0)
+      treats-less s.buffers _ s.todo s.todo (λ c i. (in-filter stays c s.buffers i).0) (λ w i. i.0)
       (λ k w i u. filter-in stays u.buffer s.buffers u.here (other u.buffer u.here u.handed (is_made_at b.made u.buffer) refl)) h
     where
       stays : Buffer → Bool
@@ -128,19 +105,9 @@ module _ (s : Space) (e : Entry) (m : ℕ) where
   unfolding thread_goes
   gone-thread z seat h = search (arith, treats-less, in-filter, filter-in, lost-on, not-on)
 
-  gone-threads : (p : ℕ) → Treats s e m s → Treats s e m (threads_go s p)
-  unfolding threads_go
-  gone-threads p h = fold-keeps (λ (z : Space). Treats s e m z) thread_goes (map seat_of (filter (λ (t : Thread). t.process == p) s.threads)) (λ z t i k. gone-thread z t k) s h
-
-  gone-process : (z : Space) (p : ℕ) → Treats s e m z → Treats s e m (without_process z p)
+  pub gone-process : (z : Space) (p : ℕ) → Treats s e m z → Treats s e m (without_process z p)
   unfolding without_process
   gone-process z p h = search (arith, treats-less, in-filter, filter-in, not-true, eq-eqb, eqb-true)
-
-  pub gone-ends : (p : ℕ) → Treats s e m s → Treats s e m (tell_deaths (without_process (threads_go s p) p) p)
-  gone-ends p h =
-      let a = threads_go s p in
-      let b = without_process a p in
-      treats-untouched (tell_deaths b p) b (Untouched.tell_deaths-untouched b p) (OneWay.tell_deaths-less b p) (gone-process a p (gone-threads p h))
 
   -- ---- ripening
 
@@ -149,28 +116,19 @@ module _ (s : Space) (e : Entry) (m : ℕ) where
     ripens-once : (todo : List Work) (older : List Turn) (t : Turn) → ((b : Buffer) × In b bs × (turn_of b ≡ Some t)) → is_ripe todo older t ≡ true → DueOnce m bs todo
         → DueOnce m bs (with_work place todo (OfProcess t.receiver) (work.Call t.made))
     ripens-once todo older t own ripe h = record {
-      one = λ v w i j. elim (in-push v _ todo i.0) [
-        | inl k ↦ elim (in-push w _ todo j.0) [
-          | inl l ↦ h.one v w (k, i.1) (l, j.1)
-          | inr is ↦ absurd (none v (k, i.1) (new w is j.1))
-        ]
-        | inr was ↦ elim (in-push w _ todo j.0) [
-          | inl l ↦ absurd (none w (l, j.1) (new v was i.1))
-          | inr is ↦ sym was ∙ is
-        ]
+      one = λ v w i j. elim (pushed v i) [
+        | inl k ↦ elim (pushed w j) [ inl l ↦ h.one v w k l | inr y ↦ absurd (none v k y.1) ]
+        | inr x ↦ elim (pushed w j) [ inl l ↦ absurd (none w l x.1) | inr y ↦ sym x.0 ∙ y.0 ]
       ];
-      call = λ w i. elim (in-push w _ todo i.0) [
-        | inl k ↦ h.call w (k, i.1)
-        | inr is ↦ ap (λ (x : Work). is_call m x.kind) (sym is) ∙ eq-eqb t.made m (new w is i.1)
-      ];
-      unread = λ w i. elim (in-push w _ todo i.0) [
-        | inl k ↦ h.unread w (k, i.1)
-        | inr is ↦ (let p = turn-parts own.0 t own.2 in record {
+      call = λ w i. elim (pushed w i) [ inl k ↦ h.call w k | inr x ↦ ap (λ (v : Work). is_call m v.kind) (sym x.0) ∙ eq-eqb t.made m x.1 ];
+      unread = λ w i. elim (pushed w i) [
+        | inl k ↦ h.unread w k
+        | inr x ↦ (let p = turn-parts own.0 t own.2 in record {
           buffer = own.0;
           here = own.1;
-          made = sym p.0 ∙ new w is i.1;
+          made = sym p.0 ∙ x.1;
           handed = sym p.2 ∙ parts.0;
-          list = sym (ap (λ (x : Work). x.list) is) ∙ ap OfProcess p.1;
+          list = sym (ap (λ (v : Work). v.list) x.0) ∙ ap OfProcess p.1;
         })
       ];
     }
@@ -178,14 +136,14 @@ module _ (s : Space) (e : Entry) (m : ℕ) where
         parts : (t.handed ≡ false) × (list_any (λ (w : Work). is_call t.made w.kind) todo ≡ false)
         parts = ripe-parts t.handed (list_any (λ (u : Turn). same u.target t.target) older) (list_any (λ (w : Work). is_call t.made w.kind) todo) ripe
 
-        new : (w : Work)
-            → (let r : Work = record {
-              id = record { place = place; index = count_by (λ (w : Work). w.id.place == place) todo };
-              list = OfProcess t.receiver;
-              kind = work.Call t.made;
-            } in r) ≡ w
-            → hands_out w.kind ≡ Some m → t.made ≡ m
-        new w is f = let k : Some t.made ≡ Some m = ap (λ (x : Work). hands_out x.kind) is ∙ f in cc
+        new : Work
+        new = record { id = record { place = place; index = count_by (λ (w : Work). w.id.place == place) todo }; list = OfProcess t.receiver; kind = work.Call t.made }
+
+        pushed : (w : Work) → Hands m (todo ++ new ∷ []) w → Hands m todo w ⊎ ((new ≡ w) × (t.made ≡ m))
+        pushed w i = elim (in-push w new todo i.0) [
+          | inl k ↦ inl (k, i.1)
+          | inr is ↦ inr (is, (let k : Some t.made ≡ Some m = ap (λ (x : Work). hands_out x.kind) is ∙ i.1 in cc))
+        ]
 
         none : (v : Work) → Hands m todo v → t.made ≡ m → ⊥
         none v i is = search (arith, any-in, parts)

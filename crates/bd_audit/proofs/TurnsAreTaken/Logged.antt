@@ -1,4 +1,4 @@
--- The turns of an object as its log, and what becomes of their buffers.
+-- For TurnsAreTaken and TurnsTellOfCalls: the turns of an object as its log, and what becomes of their buffers.
 use Rattle.bd_laws.proofs.words.Logic.{◌≡◌, ℕ, ◌<◌, Bool, true, false, ◌&&◌, List, Option, Some, None, ◌⊎◌, inl, inr, refl, sym, subst, ◌∙◌, arith, is_some, eqb-true, eq-eqb}
 use Rattle.bd_laws.proofs.words.Types.{ObjectId, Object, Buffer}
 use Rattle.bd_laws.proofs.words.Space.{Space, is_made_at}
@@ -68,6 +68,14 @@ noted-kept o n now p h = rw h refl
 pub some-case : (o : Option ℕ) → (o ≡ None) ⊎ ((p : ℕ) × (o ≡ Some p))
 some-case None = inl refl
 some-case (Some p) = inr (p, refl)
+
+pub never : (o : Option ℕ) → ((p : ℕ) → o ≡ Some p → ⊥) → o ≡ None
+never None h = refl
+never (Some p) h = absurd (h p refl)
+
+pub ever : (o : Option ℕ) → (o ≡ None → ⊥) → (p : ℕ) × (o ≡ Some p)
+ever None h = absurd (h refl)
+ever (Some p) h = (p, refl)
 
 pub bool-case : (b : Bool) → (b ≡ true) ⊎ (b ≡ false)
 bool-case b = search arith

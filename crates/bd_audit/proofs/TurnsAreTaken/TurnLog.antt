@@ -1,5 +1,5 @@
--- One-way calls are taken in their turns.
-use Rattle.bd_laws.proofs.words.Logic.{List, [], ◌∷◌, sym, subst}
+-- For TurnsAreTaken and TurnsTellOfCalls: one-way calls are taken in their turns.
+use Rattle.bd_laws.proofs.words.Logic.{List, [], ◌∷◌}
 use Rattle.bd_laws.proofs.words.Types.{ObjectId, Entry}
 use Rattle.bd_laws.proofs.words.Space.{Space, opening, change, counted, History, after, next, space_after}
 use Rattle.bd_laws.proofs.words.Laws.{Pairs, Before}
@@ -7,17 +7,14 @@ use Rattle.bd_laws.proofs.IsInTurn.Passing.{step-passes}
 use Rattle.bd_laws.proofs.IsInTurn.Received.{step-before, opening-before}
 use Rattle.bd_audit.specs.declared.turns.Turn.{Turn}
 use Rattle.bd_audit.specs.TurnSearch.{next_turns, turns_from, turns_on}
-use Rattle.bd_laws.proofs.Machine.Fields.{counted-buffers}
 use Rattle.bd_audit.proofs.TurnsAreTaken.TurnsKept.{log-after}
 use Rattle.bd_audit.proofs.TurnsAreTaken.Logged.{InOrder, Logged}
 
 -- ---- every history
 
 log-step : (o : ObjectId) (s : Space) (e : Entry) (ts : List Turn) → Before s → Logged o ts s → Logged o (next_turns o s.steps (next s e).buffers ts) (next s e)
-log-step o s e ts h log =
-    let z = (change s e.seat e.step).space in
-    let k = step-passes s e h.turns h.received.lists in
-    subst (λ bs. Logged o (next_turns o s.steps bs ts) (counted z)) (sym (counted-buffers z)) (log-after s z h k.turns k.passed o ts log)
+unfolding counted
+log-step o s e ts h log = let k = step-passes s e h.turns h.received.lists in log-after s (change s e.seat e.step).space h k.turns k.passed o ts log
 
 log-all : (o : ObjectId) (es : List Entry) (s : Space) (ts : List Turn) → Before s → Logged o ts s → Logged o (turns_from o s ts es) (after s es)
 log-all o [] s ts h log = log

@@ -1,4 +1,5 @@
--- A step changes no turn that has ended, and none after the first that hasn't ended then.
+-- For the public search `oneway_turns`, and for no law: a step changes no turn that has ended, and none after the first that
+-- hasn't ended then.
 use Rattle.bd_laws.proofs.words.Logic.{◌≡◌, ℕ, ◌+◌, zero, suc, ◌<◌, Bool, true, false, not, List, [], ◌∷◌, ◌++◌, Option, Some, None, inl, inr, refl, ap, sym, subst, ◌∙◌, map, length, take, drop, set, get_or, add-one, arith, list_all, filter_map, is_some, take-append-drop, map-append, list_all-map, list_all_more}
 use Rattle.bd_laws.proofs.words.Types.{ObjectId, Entry}
 use Rattle.bd_laws.proofs.words.Space.{Space, History, space_after}
@@ -9,7 +10,8 @@ use Rattle.bd_audit.specs.declared.turns.Turn.{Turn}
 use Rattle.bd_audit.specs.Replays.{with_entry}
 use Rattle.bd_audit.specs.TurnSearch.{is_handed, is_live, noted_at, marked, turn_made, next_turns, turns_on, has_ended, Wait, AreInTurn}
 use Rattle.bd_audit.proofs.TurnsAreTaken.TurnLog.{always-logged}
-use Rattle.bd_audit.proofs.TurnsAreTaken.Logged.{Logged, InOrder, handed-found, noted-none, noted-kept, some-case, bool-case}
+use Rattle.bd_audit.proofs.TurnsAreTaken.Logged.{Logged, InOrder, handed-found, noted-none, noted-kept, never}
+use Rattle.bd_laws.proofs.Fewer.{to-false}
 use Rattle.bd_audit.proofs.TurnsTellOfCalls.TurnLists.{turns-noted, mark-next}
 
 -- ---- lists
@@ -19,10 +21,7 @@ map-same f [] h = refl
 map-same f (t ∷ ts) h = ap (λ x. x ∷ map f ts) (h t (inl refl)) ∙ ap (λ xs. t ∷ xs) (map-same f ts (λ u i. h u (inr i)))
 
 in-take : (n : ℕ) (ts : List Turn) (t : Turn) → In t (take n ts) → In t ts
-in-take zero ts t i = absurd i
-in-take (suc n) [] t i = absurd i
-in-take (suc n) (u ∷ ts) t (inl e) = inl e
-in-take (suc n) (u ∷ ts) t (inr i) = inr (in-take n ts t i)
+in-take n ts t i = subst (In t) (take-append-drop n ts) (in-left t (take n ts) (drop n ts) i)
 
 all-in : (p : Turn → Bool) (ts : List Turn) → list_all p ts ≡ true → (t : Turn) → In t ts → p t ≡ true
 all-in p [] h t i = absurd i
@@ -55,10 +54,7 @@ module _ (o : ObjectId) (n : ℕ) (z : Space) (ts new : List Turn) (log : Logged
   stays t i h =
       let e = some-is t.ended h in
       let ended = noted-kept t.ended n (not (is_live z.buffers t.made)) e.0 e.1 in
-      let unhanded : is_handed z.buffers t.made ≡ false = elim (bool-case (is_handed z.buffers t.made)) [
-        | inl y ↦ (let c = handed-found z.buffers t.made y in absurd (log.gone (mark t) (there t i) e.0 ended c.0 c.1 c.2))
-        | inr unread ↦ unread
-      ] in
+      let unhanded = to-false (is_handed z.buffers t.made) (λ y. let c = handed-found z.buffers t.made y in log.gone (mark t) (there t i) e.0 ended c.0 c.1 c.2) in
       let handed = not-noted t.handed n (is_handed z.buffers t.made) unhanded in
       (λ j. record { made = t.made; handed = handed j; ended = (ended ∙ sym e.1) j })
 
@@ -67,14 +63,8 @@ module _ (o : ObjectId) (n : ℕ) (z : Space) (ts new : List Turn) (log : Logged
   waits t u i j order h =
       let lives = none-is (mark t).ended h in
       let b = log.live (mark t) (there t i) lives in
-      let handed : (mark u).handed ≡ None = elim (some-case (mark u).handed) [
-        | inl none ↦ none
-        | inr p ↦ (let taken = order.taken p.0 p.1 in let ended = taken.3 in absurd (cc))
-      ] in
-      let ended : (mark u).ended ≡ None = elim (some-case (mark u).ended) [
-        | inl none ↦ none
-        | inr p ↦ absurd ((log.over (mark u) (there u j) p.0 p.1 handed).none b.0 b.1.here b.1.on)
-      ] in
+      let handed = never (mark u).handed (λ p e. let ended = (order.taken p e).3 in absurd (cc)) in
+      let ended = never (mark u).ended (λ p e. (log.over (mark u) (there u j) p e handed).none b.0 b.1.here b.1.on) in
       let handed_was = noted-none u.handed n (is_handed z.buffers u.made) handed in
       let ended_was = noted-none u.ended n (not (is_live z.buffers u.made)) ended in
       (λ k. record { made = u.made; handed = (handed ∙ sym handed_was.0) k; ended = (ended ∙ sym ended_was.0) k })

@@ -1,4 +1,5 @@
--- What a step makes of the turns of an object: those that were there, in their order, and one more at most.
+-- For TurnsAreTaken and TurnsTellOfCalls: what a step makes of the turns of an object: those that were there, in their
+-- order, and one more at most.
 use Rattle.bd_laws.proofs.words.Logic.{◌≡◌, ℕ, suc, Bool, true, false, not, ◌&&◌, List, [], ◌∷◌, ◌++◌, Option, Some, None, ◌⊎◌, inl, inr, refl, ap, sym, subst, ◌∙◌, map, arith, filter_map, cons_option, is_some, eqb-true}
 use Rattle.bd_laws.proofs.words.Types.{ObjectId, Buffer}
 use Rattle.bd_laws.proofs.words.Space.{same, when, is_some_and, Space, is_made_at, counted}
@@ -11,7 +12,7 @@ use Rattle.bd_laws.proofs.IsInTurn.Passed.{Became, Passed}
 use Rattle.bd_laws.proofs.IsInTurn.Received.{on-after}
 use Rattle.bd_audit.specs.declared.turns.Turn.{Turn}
 use Rattle.bd_audit.specs.TurnSearch.{is_call_on, is_live, is_handed, noted_at, marked, turn_made, next_turns}
-use Rattle.bd_audit.proofs.TurnsAreTaken.Logged.{Over, Open, InOrder, Past, Logged, live-found, live-in, handed-found, handed-in, noted-some, noted-none, noted-kept, some-case, bool-case, stays-open, over-after, ended-over}
+use Rattle.bd_audit.proofs.TurnsAreTaken.Logged.{Over, Open, InOrder, Past, Logged, live-found, live-in, handed-found, handed-in, noted-some, noted-none, noted-kept, never, ever, some-case, bool-case, stays-open, over-after, ended-over}
 
 module _ (s z : Space) (h : Before s) (turns : Turning z) (p : Passed s z) (o : ObjectId) where
   -- ---- turns that were there
@@ -82,22 +83,19 @@ module _ (s z : Space) (h : Before s) (turns : Turning z) (p : Passed s z) (o : 
     due-now : (u : Turn) → In u ts → u.handed ≡ None → is_handed z.buffers u.made ≡ true → (b : Buffer) × Open o u s b × Due s.todo b.made
     due-now u i n now =
         let c = handed-found z.buffers u.made now in
-        elim (some-case u.ended) [
-          | inr e ↦ elim (p.from c.0 c.1) [
-            | inl b ↦ absurd (log.gone u i e.0 e.1 b.0 b.1 (sym b.2.made ∙ c.2))
-            | inr k ↦ (let lt = (log.past u i).made in let at = k.made in let m = c.2 in absurd (omega arith))
-          ]
-          | inl e ↦ (
-              let b = log.live u i e in
-              let became = (stays-open s z h turns p o) b.0 c.0 b.1.here c.1 (c.2 ∙ sym b.1.made) in (
-                b.0,
-                b.1,
-                elim became.handed [
-                  | inl f ↦ (let unhanded = b.1.handed ∙ ap is_some n in let handed = c.3 in absurd (cc))
-                  | inr f ↦ f.1
-                ],
-              ))
-        ]
+        let lives = never u.ended (λ q e. elim (p.from c.0 c.1) [
+          | inl b ↦ log.gone u i q e b.0 b.1 (sym b.2.made ∙ c.2)
+          | inr k ↦ (let lt = (log.past u i).made in let at = k.made in let m = c.2 in absurd (omega arith))
+        ]) in
+        let b = log.live u i lives in
+        let became = (stays-open s z h turns p o) b.0 c.0 b.1.here c.1 (c.2 ∙ sym b.1.made) in (
+          b.0,
+          b.1,
+          elim became.handed [
+            | inl f ↦ (let unhanded = b.1.handed ∙ ap is_some n in let handed = c.3 in absurd (cc))
+            | inr f ↦ f.1
+          ],
+        )
 
     rivals : (b c : Buffer) → On o b → On o c → Rivals b c
     rivals b c i j = search (arith, on-turn, eq-same)
@@ -111,29 +109,21 @@ module _ (s z : Space) (h : Before s) (turns : Turning z) (p : Passed s z) (o : 
             (l.0, l.1, noted-kept t.handed s.steps (is_handed z.buffers t.made) l.0 l.2, noted-kept t.ended s.steps (not (is_live z.buffers t.made)) l.1 l.3, l.4, l.5))
         | inr f ↦ (
             let c = due-now u j f.0 f.1 in
-            elim (some-case t.ended) [
-              | inl n ↦ (
-                  let b = log.live t i n in
-                  let lt = k.earlier in
-                  let bm = b.1.made in
-                  let cm = c.1.made in
-                  elim (pairs-either (Waits s.todo) s.buffers h.turns.waits b.0 c.0 b.1.here c.1.here) [
-                    | inl e ↦ (let m : b.0.made ≡ c.0.made = ap (λ (x : Buffer). x.made) e in absurd (omega arith))
-                    | inr w ↦ elim w [
-                      | inl v ↦ absurd (v.alone (inr c.2) (rivals b.0 c.0 b.1.on c.1.on))
-                      | inr v ↦ (let gt = v.earlier in absurd (omega arith))
-                    ]
-                  ])
-              | inr e ↦ elim (some-case t.handed) [
-                | inl n ↦ absurd ((log.over t i e.0 e.1 n).none c.0 c.1.here c.1.on)
-                | inr d ↦ (
-                    let past = log.past t i in
-                    let a = past.handed d.0 d.1 in
-                    let b = past.ended e.0 e.1 in
-                    let at = f.2 in
-                    (d.0, e.0, noted-kept t.handed s.steps (is_handed z.buffers t.made) d.0 d.1, noted-kept t.ended s.steps (not (is_live z.buffers t.made)) e.0 e.1, omega arith, omega arith))
-              ]
-            ])
+            let e = ever t.ended (λ n.
+            let b = log.live t i n in
+            let lt = k.earlier in
+            let bm = b.1.made in
+            let cm = c.1.made in
+            elim (pairs-either (Waits s.todo) s.buffers h.turns.waits b.0 c.0 b.1.here c.1.here) [
+              | inl e ↦ (let m : b.0.made ≡ c.0.made = ap (λ (x : Buffer). x.made) e in absurd (omega arith))
+              | inr w ↦ elim w [ inl v ↦ v.alone (inr c.2) (rivals b.0 c.0 b.1.on c.1.on) | inr v ↦ (let gt = v.earlier in absurd (omega arith)) ]
+            ]) in
+            let d = ever t.handed (λ n. (log.over t i e.0 e.1 n).none c.0 c.1.here c.1.on) in
+            let past = log.past t i in
+            let a = past.handed d.0 d.1 in
+            let b = past.ended e.0 e.1 in
+            let at = f.2 in
+            (d.0, e.0, noted-kept t.handed s.steps (is_handed z.buffers t.made) d.0 d.1, noted-kept t.ended s.steps (not (is_live z.buffers t.made)) e.0 e.1, omega arith, omega arith))
       ];
     }
 
@@ -154,21 +144,12 @@ module _ (s z : Space) (h : Before s) (turns : Turning z) (p : Passed s z) (o : 
         let w = made-when (is_made_at s.steps c.0 && is_call_on o c.0) (record { made = s.steps; handed = None; ended = None }) t c.2 in
         let k = both (is_made_at s.steps c.0) (is_call_on o c.0) w.0 in
         let on = both c.0.one_way (is_some_and c.0.target (λ x. same x o)) k.1 in
-        let at = eqb-true c.0.made s.steps k.0 in (
-          c.0,
-          (
-            c.1,
-            sym (ap (λ (x : Turn). x.made) w.1),
-            sym (ap (λ (x : Turn). x.handed) w.1),
-            sym (ap (λ (x : Turn). x.ended) w.1),
-            at,
-            (on.0, targets c.0.target on.1),
-            elim (p.from c.0 c.1) [
-              | inl b ↦ (let lt = h.turns.below b.0 b.1 in let m = b.2.made in absurd (omega arith))
-              | inr n ↦ n.handed
-            ],
-          ),
-        )
+        let at = eqb-true c.0.made s.steps k.0 in
+        let unhanded : c.0.handed ≡ false = elim (p.from c.0 c.1) [
+          | inl b ↦ (let lt = h.turns.below b.0 b.1 in let m = b.2.made in absurd (omega arith))
+          | inr n ↦ n.handed
+        ] in
+        (c.0, subst (λ (u : Turn). NewTurn u c.0) w.1 (c.1, refl, refl, refl, at, (on.0, targets c.0.target on.1), unhanded))
 
     -- there is one at most
     new-pairs : (bs : List Buffer) → Pairs (Waits z.todo) bs → Pairs InOrder (filter_map (turn_made o s.steps) bs)
@@ -221,7 +202,8 @@ module _ (s z : Space) (h : Before s) (turns : Turning z) (p : Passed s z) (o : 
             | inr c ↦ (let n = c.1.3 in absurd (cc))
           ];
           over = λ t i q e f. elim (turn-of t i) [
-            | inl u ↦ counted-over (over-turn u.0 u.1 q (ap (λ (x : Turn). x.ended) u.2 ∙ e) (ap (λ (x : Turn). x.handed) u.2 ∙ f))
+            | inl u ↦ (let k = over-turn u.0 u.1 q (ap (λ (x : Turn). x.ended) u.2 ∙ e) (ap (λ (x : Turn). x.handed) u.2 ∙ f) in
+                record { old = let lt = k.old in omega arith; owner = k.owner; none = k.none })
             | inr c ↦ (let n = c.1.3 in absurd (cc))
           ];
           order = all-pairs ts (λ t i. i) log.order (filter_map (turn_made o s.steps) z.buffers) (new-pairs z.buffers turns.waits)
@@ -230,6 +212,3 @@ module _ (s z : Space) (h : Before s) (turns : Turning z) (p : Passed s z) (o : 
                 taken = λ q e. let n = c.1.2 in absurd (cc);
               });
         }
-      where
-        counted-over : Over o z → Over o (counted z)
-        counted-over k = record { old = let lt = k.old in omega arith; owner = k.owner; none = k.none }

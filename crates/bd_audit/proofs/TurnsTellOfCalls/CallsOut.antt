@@ -1,72 +1,95 @@
--- A call that a reading takes hands its buffer out, and an accepted one-way transaction makes one.
-use Rattle.bd_laws.proofs.words.Logic.{arith}
-use Rattle.bd_laws.proofs.words.Logic.{◌≡◌, ℕ, zero, suc, ◌-◌, ◌==◌, Bool, true, false, cond, ◌||◌, List, [], ◌∷◌, length, Option, Some, None, Result, Ok, Err, refl, ap, sym, subst, ◌∙◌, map, find, nat_lt, list_any, is_some, eqb-true, eq-eqb}
-use Rattle.bd_laws.proofs.words.Types.{TransactionData, DeadReply, Fault, Cause, ObjectId, Parcel, Step, Command, Accepted, Entry, Actor, Buffer, Frame, Work, OfThread, WorkKind}
-use Rattle.bd_laws.proofs.words.Space.{first_of, Space, actor, owe, is_call, hands_out, list_to_read, closed, settle, settle_one, settle_times, is_abandoned, ripen, follow, assign_numbers, Delivery, delivered, own_notices, add_buffer, known_by, refer, make_objects, buffer_of, transaction_step, transaction_outcome, transaction_check, transacted, is_one_way, target_of, handle_of, is_made_at, command_step, Outcome, completed, refused, taken, ends_read, read_by, buffer_taken, handed_buffers, bytes_read, buffer_in, read_fault, read_step, read_taking, change, by_actor, is_spam}
+-- For TurnsTellOfCalls, RepliesReachTheirCallers and RepliesAnswerTheLatestOpenCall: a call that a reading takes hands its
+-- buffer out, and an accepted one-way transaction makes one.
+use Rattle.bd_laws.proofs.words.Logic.{◌≡◌, ℕ, ◌-◌, Bool, true, false, cond, ◌||◌, List, [], ◌∷◌, length, Option, Some, None, Result, Ok, refl, ap, sym, subst, ◌∙◌, map, nat_lt, list_any, arith, eqb-true, eq-eqb, is_some}
+use Rattle.bd_laws.proofs.words.Types.{TransactionData, DeadReply, Cause, ObjectId, Parcel, Step, Command, Read, Accepted, Entry, Actor, Buffer, Work, OfThread, WorkKind}
+use Rattle.bd_laws.proofs.words.Space.{first_of, Space, actor, owe, is_call, hands_out, list_to_read, closed, ripen, follow, assign_numbers, Delivery, delivered, own_notices, add_buffer, known_by, refer, make_objects, buffer_of, transaction_step, transaction_check, transacted, target_of, handle_of, command_step, completed, taken, ends_read, read_by, buffer_taken, handed_buffers, bytes_read, buffer_in, read_fault, read_step, read_taking, change, is_spam, is_made_at}
 use Rattle.bd_uapi.specs.declared.command.Command.TheVariants as bc
 use Rattle.bd_space.specs.declared.space.WorkKind.TheVariants as work
 use Rattle.bd_laws.proofs.words.Laws.{In, On}
-use Rattle.bd_laws.proofs.Lists.{in-last, find-in, find-some, changed-in}
+use Rattle.bd_laws.proofs.Lists.{in-last, any-found, find-in, find-some, changed-in}
+use Rattle.bd_laws.proofs.IsInTurn.InTurn.{is_call-hands}
 use Rattle.bd_laws.proofs.IsInTurn.Ripening.{read-in}
 use Rattle.bd_laws.proofs.Checks.{transaction-checked}
 use Rattle.bd_laws.proofs.IsInTurn.Passed.{follow-after}
 use Rattle.bd_audit.specs.TurnSearch.{is_handed}
 use Rattle.bd_audit.specs.Replies.{items_taken, items_read, items_unless}
 use Rattle.bd_audit.specs.TurnCalls.{CallsOneWay}
+use Rattle.bd_laws.proofs.Machine.Settled.{settle-keeps}
 use Rattle.bd_laws.proofs.Machine.Untouched
 use Rattle.bd_audit.proofs.TurnsAreTaken.Logged.{handed-in}
 
 -- ---- what a reading takes was due
 
-unless-due : (s : Space) (a : Actor) (limit : ℕ) (f : Option Fault) (w : Work) → In w (items_unless f (taken s (limit - 4) (list_to_read s a.thread))) → In w s.todo
-unless-due s a limit f w i = search (arith, read-in)
+-- the reading that takes something
+pub record Reading (s : Space) (seat : ℕ) (x : Step) : Type 0 where
+  pub actor_is : Actor
+  pub limit : ℕ
+  pub acts : actor s seat ≡ Some actor_is
+  pub reads : x ≡ Read limit
+  pub allowed : read_fault limit (list_to_read s actor_is.thread) ≡ None
 
-read-due : (s : Space) (limit : ℕ) (o : Option Actor) (w : Work) → In w (items_read s limit o) → In w s.todo
-read-due s limit o w i = search (arith, unless-due)
+pub reading : (s : Space) (seat : ℕ) (x : Step) (w : Work) → In w (items_taken s seat x) → Reading s seat x
+reading s seat x w l = search (arith, taken)
+
+pub reading-items : (s : Space) (seat : ℕ) (x : Step) (r : Reading s seat x) → items_taken s seat x ≡ taken s (r.limit - 4) (list_to_read s r.actor_is.thread)
+reading-items s seat x r =
+    ap (items_taken s seat) r.reads ∙ ap (items_read s r.limit) r.acts ∙ ap (λ f. items_unless f (taken s (r.limit - 4) (list_to_read s r.actor_is.thread))) r.allowed
+
+read-space : (s : Space) (seat limit : ℕ) (a : Actor) → actor s seat ≡ Some a → read_fault limit (list_to_read s a.thread) ≡ None
+    → (change s seat (Read limit)).space ≡ follow (read_by s a.thread.seat (taken s (limit - 4) (list_to_read s a.thread)))
+unfolding change read_step read_taking
+read-space s seat limit a acts allowed = search arith
 
 pub items-due : (s : Space) (seat : ℕ) (x : Step) (w : Work) → In w (items_taken s seat x) → In w s.todo
-items-due s seat x w i = search (arith, read-due)
+items-due s seat x w i = let r = reading s seat x w i in read-in s r.actor_is.thread (r.limit - 4) w (subst (In w) (reading-items s seat x r) i)
 
 -- ---- the call among the items is what hands a buffer out
 
 abbrev first_handed : List Work → Option ℕ
 first_handed ws = first_of (map (λ w. hands_out w.kind) ws)
 
+-- what holds of a list and of what is taken of it: nothing, or an item and more, but for one that ends the read
+module _ (s : Space) (R : List Work → List Work → Type 0) (none : (ws : List Work) → R ws []) (last : (w : Work) (ws : List Work) → ends_read w.kind ≡ true → R (w ∷ ws) (w ∷ []))
+    (more : (w : Work) (ws items : List Work) → ends_read w.kind ≡ false → R ws items → R (w ∷ ws) (w ∷ items)) where
+  pub taken-by : (ws : List Work) (left : ℕ) → R ws (taken s left ws)
+  taken-by [] left = none []
+  taken-by (w ∷ ws) left = at (nat_lt left 68) (ends_read w.kind) refl (taken-by ws (left - length (bytes_read s w)))
+    where
+      at : (b c : Bool) → ends_read w.kind ≡ c → R ws (taken s (left - length (bytes_read s w)) ws) → R (w ∷ ws) (cond b [] (w ∷ cond c [] (taken s (left - length (bytes_read s w)) ws)))
+      at true c e k = none (w ∷ ws)
+      at false true e k = last w ws e
+      at false false e k = more w ws _ e k
+
+hands-none : (kind : WorkKind) → ends_read kind ≡ false → hands_out kind ≡ None
+hands-none (work.Call b) h = absurd (cc)
+hands-none (work.Reply b) h = absurd (cc)
+hands-none _ h = refl
+
+there : {A : Type 0} (o : Option A) → is_some o ≡ true → (x : A) × (o ≡ Some x)
+there None h = absurd (cc)
+there (Some x) h = (x, refl)
+
 -- nothing is taken after what hands over, so that a call among the items taken is the first that does
 module _ (s : Space) (m : ℕ) where
   abbrev has_call : List Work → Bool
   has_call ws = list_any (λ w. is_call m w.kind) ws
 
-  first-kind : (ws : List Work) (kind : WorkKind) → (has_call ws ≡ true → first_handed ws ≡ Some m)
-      → (is_call m kind || has_call (cond (ends_read kind) [] ws)) ≡ true → first_of (hands_out kind ∷ map (λ (w : Work). hands_out w.kind) (cond (ends_read kind) [] ws)) ≡ Some m
-  first-kind ws (work.Call b) k h = at (b == m) refl h
-    where
-      at : (t : Bool) → (b == m) ≡ t → (t || false) ≡ true → Some b ≡ Some m
-      at t e f = search (arith, eqb-true)
-  first-kind ws (work.Reply b) k h = absurd (cc)
-  first-kind ws (work.Death n) k h = absurd (cc)
-  first-kind ws _ k h = k h
+  one-call : (kind : WorkKind) (o : Option ℕ) → hands_out kind ≡ o → (is_call m kind || false) ≡ true → first_of (o ∷ []) ≡ Some m
+  one-call kind o e h = search (arith, is_call-hands)
+
+  no-call : (kind : WorkKind) (items : List Work) → hands_out kind ≡ None → (is_call m kind || has_call items) ≡ true → has_call items ≡ true
+  no-call kind items e h = search (arith, is_call-hands)
 
   first-call : (ws : List Work) (left : ℕ) → has_call (taken s left ws) ≡ true → first_handed (taken s left ws) ≡ Some m
-  first-call [] left h = absurd (cc)
-  first-call (w ∷ ws) left h = at (nat_lt left 68) (first-call ws (left - length (bytes_read s w))) h
-    where
-      at : (b : Bool) → (has_call (taken s (left - length (bytes_read s w)) ws) ≡ true → first_handed (taken s (left - length (bytes_read s w)) ws) ≡ Some m)
-          → has_call (cond b [] (w ∷ cond (ends_read w.kind) [] (taken s (left - length (bytes_read s w)) ws))) ≡ true
-          → first_handed (cond b [] (w ∷ cond (ends_read w.kind) [] (taken s (left - length (bytes_read s w)) ws))) ≡ Some m
-      at b k h = search (arith, first-kind, taken)
+  first-call = taken-by s (λ ws items. has_call items ≡ true → first_handed items ≡ Some m) (λ ws h. absurd (cc)) (λ w ws e. one-call w.kind (hands_out w.kind) refl)
+      (λ w ws items e k h. let none = hands-none w.kind e in ap (λ o. first_of (o ∷ map (λ (w : Work). hands_out w.kind) items)) none ∙ k (no-call w.kind items none h))
 
   -- where the call's buffer lives, taking its item marks it
   module _ (b : Buffer) (here : In b s.buffers) (made : b.made ≡ m) where
     buffer-found : (y : Buffer) × (buffer_in s.buffers m ≡ Some y) × (y.made ≡ m)
-    buffer-found = at (buffer_in s.buffers m) refl
-      where
-        at : (o : Option Buffer) → buffer_in s.buffers m ≡ o → (y : Buffer) × (buffer_in s.buffers m ≡ Some y) × (y.made ≡ m)
-        at (Some y) e = (y, e, eqb-true y.made m (find-in (is_made_at m) y s.buffers e).1)
-        at None e =
-            let yes = find-some (is_made_at m) b s.buffers here (eq-eqb b.made m made) in
-            let none : is_some (buffer_in s.buffers m) ≡ false = ap is_some e in
-            absurd (cc)
+    buffer-found =
+        let y = there (buffer_in s.buffers m) (find-some (is_made_at m) b s.buffers here (eq-eqb b.made m made)) in
+        (y.0, y.1, eqb-true y.0.made m (find-in (is_made_at m) y.0 s.buffers y.1).1)
 
     taken-buffer : (ws : List Work) → first_handed ws ≡ Some m → (y : Buffer) × (buffer_taken s ws ≡ Some y) × (y.made ≡ m)
     unfolding buffer_taken
@@ -79,39 +102,23 @@ module _ (s : Space) (m : ℕ) where
     unfolding read_by
     read-handed seat ws h = search (arith, taken-buffer, marked-handed)
 
-    list-handed : (limit : ℕ) (a : Actor) (f : Option Fault) → has_call (items_unless f (taken s (limit - 4) (list_to_read s a.thread))) ≡ true
-        → is_handed (elim f as (λ (o : Option Fault). Outcome) [
-          | Some y ↦ refused s y
-          | None ↦ read_taking s a.thread.seat (taken s (limit - 4) (list_to_read s a.thread))
-        ]).space.buffers m ≡ true
-    unfolding read_taking
-    list-handed limit a f h = search (arith, taken, follow-after, read-handed, first-call)
-
-    actor-handed : (limit : ℕ) (o : Option Actor) → has_call (items_read s limit o) ≡ true → is_handed (by_actor s o (λ a. read_step s a limit)).space.buffers m ≡ true
-    unfolding read_step
-    actor-handed limit None h = absurd (cc)
-    actor-handed limit (Some a) h = list-handed limit a (read_fault limit (list_to_read s a.thread)) h
-
     pub hands-out : (seat : ℕ) (x : Step) → has_call (items_taken s seat x) ≡ true → is_handed (change s seat x).space.buffers m ≡ true
-    unfolding change
-    hands-out seat x h = search (arith, actor-handed)
+    hands-out seat x h =
+        let w = any-found (λ (w : Work). is_call m w.kind) (items_taken s seat x) h in
+        let r = reading s seat x w.0 w.1 in
+        let items = taken s (r.limit - 4) (list_to_read s r.actor_is.thread) in
+        let first = first-call (list_to_read s r.actor_is.thread) (r.limit - 4) (ap has_call (sym (reading-items s seat x r)) ∙ h) in
+        let space = ap (λ y. (change s seat y).space) r.reads ∙ read-space s seat r.limit r.actor_is r.acts r.allowed in
+        ap (λ (z : Space). is_handed z.buffers m) space ∙ ap (λ bs. is_handed bs m) (follow-after (read_by s r.actor_is.thread.seat items)).buffers ∙ read-handed r.actor_is.thread.seat items first
 
 -- ---- an accepted one-way transaction makes a buffer
 
-settle-one-buffers : (z : Space) (o : Option Frame) → (settle_one z o).buffers ≡ z.buffers
-settle-one-buffers z None = refl
-settle-one-buffers z (Some f) = (Untouched.told-untouched (closed z f.made) f.caller (work.Verdict DeadReply)).buffers ∙ (Untouched.closed-untouched z f.made).buffers
-
-settle-times-buffers : (n : ℕ) (z : Space) → (settle_times n z).buffers ≡ z.buffers
-settle-times-buffers zero z = refl
-settle-times-buffers (suc n) z = settle-one-buffers (settle_times n z) (find (is_abandoned (settle_times n z).frames) (settle_times n z).frames) ∙ settle-times-buffers n z
-
 completed-buffers : (z : Space) → (completed z).buffers ≡ z.buffers
-unfolding completed settle
+unfolding completed
 completed-buffers z =
-    let a = ripen z in
-    let b = follow a in
-    settle-times-buffers (length b.frames) b ∙ (follow-after a).buffers ∙ (Untouched.ripen-untouched z).buffers
+    settle-keeps (λ y. y.buffers ≡ z.buffers)
+    (λ y f found k. (Untouched.told-untouched (closed y f.made) f.caller (work.Verdict DeadReply)).buffers ∙ (Untouched.closed-untouched y f.made).buffers ∙ k) (follow (ripen z))
+    ((follow-after (ripen z)).buffers ∙ (Untouched.ripen-untouched z).buffers)
 
 -- the step makes this object's one-way call
 abbrev pub MakesCall : Space → ObjectId → List Buffer → Type 0
@@ -132,25 +139,18 @@ transacted-buffers s a d v =
 same-object : (r : Result ObjectId Cause) (o p : ObjectId) → r ≡ Ok o → r ≡ Ok p → o ≡ p
 same-object r o p h k = let e : (let q : Result ObjectId Cause = Ok o in q) ≡ Ok p = sym h ∙ k in cc
 
-outcome-makes : (s : Space) (a : Actor) (d : TransactionData) (parcel : Option Parcel) (o : ObjectId) → is_one_way d ≡ true → target_of s a.process.made (handle_of d) ≡ Ok o
-    → (r : Result Delivery Cause) → transaction_check s a d parcel ≡ r → (transaction_outcome s a d r).answer ≡ Accepted → MakesCall s o (transaction_outcome s a d r).space.buffers
-outcome-makes s a d parcel o one_way target (Err x) check answer = absurd (cc)
-outcome-makes s a d parcel o one_way target (Ok v) check answer =
-    let t = transaction-checked s a d parcel v check in
-    let is = same-object (target_of s a.process.made (handle_of d)) t.object o t.named target in
-    subst (MakesCall s o) (sym (completed-buffers (transacted s a d v) ∙ transacted-buffers s a d v))
-    (delivered-makes s a d v o (t.one_way ∙ one_way) (t.target ∙ ap (λ y. Some y) is))
-
-actor-makes : (s : Space) (a : Actor) (d : TransactionData) (parcel : Option Parcel) (o : ObjectId) → is_one_way d ≡ true → target_of s a.process.made (handle_of d) ≡ Ok o
-    → (x : Option Actor) → x ≡ Some a → (by_actor s x (λ b. command_step s b (bc.Transaction d) parcel)).answer ≡ Accepted
-    → MakesCall s o (by_actor s x (λ b. command_step s b (bc.Transaction d) parcel)).space.buffers
-unfolding command_step transaction_step
-actor-makes s a d parcel o one_way target x acts answer = search (arith, outcome-makes)
-
-command-makes : (s : Space) (seat : ℕ) (a : Actor) (d : TransactionData) (parcel : Option Parcel) (o : ObjectId) → is_one_way d ≡ true → target_of s a.process.made (handle_of d) ≡ Ok o
-    → actor s seat ≡ Some a → (change s seat (Command (bc.Transaction d) parcel)).answer ≡ Accepted → MakesCall s o (change s seat (Command (bc.Transaction d) parcel)).space.buffers
-unfolding change
-command-makes s seat a d parcel o one_way target acts answer = actor-makes s a d parcel o one_way target (actor s seat) acts answer
+-- what an accepted transaction leaves
+accepted : (s : Space) (seat : ℕ) (a : Actor) (d : TransactionData) (parcel : Option Parcel) → actor s seat ≡ Some a → (change s seat (Command (bc.Transaction d) parcel)).answer ≡ Accepted
+    → (v : Delivery) × (transaction_check s a d parcel ≡ Ok v) × ((change s seat (Command (bc.Transaction d) parcel)).space ≡ completed (transacted s a d v))
+unfolding change command_step transaction_step
+accepted s seat a d parcel acts h = search arith
 
 pub call-makes : (s : Space) (e : Entry) (o : ObjectId) → CallsOneWay s e o → MakesCall s o (change s e.seat e.step).space.buffers
-call-makes s e o h = search (arith, change, command-makes)
+call-makes s e o h =
+    let a = h.actor_is in
+    let k = accepted s e.seat a h.fields h.parcel h.acts (ap (λ x. (change s e.seat x).answer) (sym h.command) ∙ h.accepted) in
+    let t = transaction-checked s a h.fields h.parcel k.0 k.1 in
+    let is = same-object (target_of s a.process.made (handle_of h.fields)) t.object o t.named h.target in
+    let space = ap (λ x. (change s e.seat x).space) h.command ∙ k.2 in
+    subst (MakesCall s o) (sym (ap (λ (z : Space). z.buffers) space ∙ completed-buffers (transacted s a h.fields k.0) ∙ transacted-buffers s a h.fields k.0))
+    (delivered-makes s a h.fields k.0 o (t.one_way ∙ h.one_way) (t.target ∙ ap (λ y. Some y) is))

@@ -1,18 +1,19 @@
--- The turns of an object tell of its one-way calls: each of one accepted transaction, and each such transaction has a turn.
-use Rattle.bd_laws.proofs.words.Logic.{◌≡◌, ℕ, suc, ◌≤◌, ◌==◌, List, [], ◌∷◌, ◌++◌, Option, Some, inl, inr, refl, ap, sym, subst, ◌∙◌, append_assoc, append-nil, arith, AllPairs, eqb-true}
+-- TurnsAreTaken and TurnsTellOfCalls, both proved here: the turns of an object tell of its one-way calls: each of one
+-- accepted transaction, and each such transaction has a turn.
+use Rattle.bd_laws.proofs.words.Logic.{◌≡◌, ℕ, ◌==◌, List, [], ◌∷◌, ◌++◌, Option, Some, inl, inr, refl, ap, sym, subst, ◌∙◌, arith, AllPairs, eqb-true}
 use Rattle.bd_laws.proofs.words.Types.{ObjectId, Entry}
-use Rattle.bd_laws.proofs.words.Space.{Space, opening, History, after, next}
+use Rattle.bd_laws.proofs.words.Space.{opening, History}
 use Rattle.bd_laws.proofs.words.Laws.{In, Pairs}
-use Rattle.bd_laws.proofs.Lists.{pairs-map, pairs-at, at-pairs, any-found}
+use Rattle.bd_laws.proofs.Lists.{by-last, pairs-map, pairs-at, at-pairs, any-found}
 use Rattle.bd_audit.specs.declared.turns.Turn.{Turn}
-use Rattle.bd_audit.specs.TurnSearch.{next_turns, turns_from, turns_on}
+use Rattle.bd_audit.specs.TurnSearch.{turns_from, turns_on}
 use Rattle.bd_audit.specs.Replies.{HandsOutCall, At}
 use Rattle.bd_audit.specs.TurnCalls.{CallsOneWay, EndsBuffer, TellsOf, IsEarlier, AreTurns, TurnsTellOfCalls, IsTakenBefore, TurnsAreTaken}
-use Rattle.bd_audit.proofs.Beginnings.{after-append}
 use Rattle.bd_audit.proofs.TurnsAreTaken.TurnLog.{no-turns, always-ordered}
 use Rattle.bd_audit.proofs.TurnsAreTaken.Logged.{InOrder}
 use Rattle.bd_audit.proofs.RepliesReachTheirCallers.Traces.{at-below}
-use Rattle.bd_audit.proofs.TurnsTellOfCalls.TurnsTelling.{in-slice, slice-in, Telling, before, step-telling}
+use Rattle.bd_audit.proofs.TurnsTellOfCalls.TurnLists.{turns-last}
+use Rattle.bd_audit.proofs.TurnsTellOfCalls.TurnsTelling.{in-slice, slice-in, Telling, step-telling}
 
 -- ---- every history
 
@@ -24,19 +25,14 @@ none-telling o = record {
   once = λ t i. absurd i;
 }
 
-from-here : (o : ObjectId) (rest before : List Entry) (ts : List Turn) → Telling o before ts → Telling o (before ++ rest) (turns_from o (after opening before) ts rest)
-from-here o [] before ts h = subst (λ es. Telling o es ts) (sym (append-nil before)) h
-from-here o (e ∷ rest) before ts h =
-    let z = after opening before in
-    let us = next_turns o z.steps (next z e).buffers ts in
-    subst (λ es. Telling o es (turns_from o (next z e) us rest)) (append_assoc before (e ∷ []) rest)
-    (subst (λ (y : Space). Telling o ((before ++ e ∷ []) ++ rest) (turns_from o y us rest)) (after-append opening before (e ∷ []))
-    (from-here o rest (before ++ e ∷ []) us (step-telling o before e ts h)))
+always-telling : (o : ObjectId) (es : List Entry) → Telling o es (turns_from o opening [] es)
+always-telling o es =
+    by-last (λ es. Telling o es (turns_from o opening [] es)) (λ es e h. subst (Telling o (es ++ e ∷ [])) (sym (turns-last o es opening [] e)) (step-telling o es e _ h)) (none-telling o) es
 
 pub turns-are : (h : History) (o : ObjectId) → AreTurns h.entries o (turns_on o h)
 unfolding turns_on
 turns-are h o =
-    let k = from-here o h.entries [] [] (none-telling o) in
+    let k = always-telling o h.entries in
     let ts = turns_from o opening [] h.entries in
     record {
       tells = λ i t g. k.tells t (slice-in ts i t g);
@@ -57,60 +53,38 @@ same-turn es o t u h k is =
     (λ p e. k.unended p (subst (λ c. At es p (EndsBuffer c)) is (h.ended p e))) (λ p e. h.unended p (subst (λ c. At es p (EndsBuffer c)) (sym is) (k.ended p e))) in
     (λ i. record { made = is i; handed = handed i; ended = ended i })
 
--- all turns of calls from the place n on
-record TurnsFrom (es : List Entry) (o : ObjectId) (n : ℕ) (ts : List Turn) : Type 0 where
-  tells : (t : Turn) → In t ts → TellsOf es o t
-  late : (t : Turn) → In t ts → n ≤ t.made
-  all : (c : ℕ) → n ≤ c → At es c (λ z e. CallsOneWay z e o) → (t : Turn) × In t ts × (t.made ≡ c)
-  rising : Pairs IsEarlier ts
+-- ascending lists of the same turns are one
+one-list : (ts us : List Turn) → Pairs IsEarlier ts → Pairs IsEarlier us → ((t : Turn) → In t ts → In t us) → ((t : Turn) → In t us → In t ts) → ts ≡ us
+one-list [] [] h k to from = refl
+one-list [] (u ∷ us) h k to from = absurd (from u (inl refl))
+one-list (t ∷ ts) [] h k to from = absurd (to t (inl refl))
+one-list (t ∷ ts) (u ∷ us) h k to from =
+    let first : t ≡ u = elim (to t (inl refl)) [
+      | inl is ↦ sym is
+      | inr i ↦ elim (from u (inl refl)) [ inl is ↦ is | inr j ↦ (let a = k.0 t i in let b = h.0 u j in absurd (omega arith)) ]
+    ] in
+    let rest = one-list ts us h.1 k.1
+    (λ v i. elim (to v (inr i)) [ inl is ↦ (let a = h.0 v i in let made = ap (λ (x : Turn). x.made) (first ∙ is) in absurd (omega arith)) | inr j ↦ j ])
+    (λ v i. elim (from v (inr i)) [ inl is ↦ (let a = k.0 v i in let made = ap (λ (x : Turn). x.made) (sym first ∙ is) in absurd (omega arith)) | inr j ↦ j ]) in
+    ap (λ x. x ∷ ts) first ∙ ap (λ xs. u ∷ xs) rest
 
 module _ (es : List Entry) (o : ObjectId) where
-  without-first : (n : ℕ) (t : Turn) (ts : List Turn) → TurnsFrom es o n (t ∷ ts) → TurnsFrom es o (suc t.made) ts
-  without-first n t ts h = record {
-    tells = λ u i. h.tells u (inr i);
-    late = λ u i. let lt = h.rising.0 u i in omega arith;
-    all = λ c le a.
-        let first = h.late t (inl refl) in
-        let u = h.all c (omega arith) a in
-        elim u.1 [ inl is ↦ (let made = ap (λ (x : Turn). x.made) is in let at = u.2 in absurd (omega arith)) | inr i ↦ (u.0, i, u.2) ];
-    rising = h.rising.1;
-  }
+  -- each turn of one list is in the other
+  told-in : (ts us : List Turn) → AreTurns es o ts → AreTurns es o us → (t : Turn) → In t ts → In t us
+  told-in ts us h k t i =
+      let here = in-slice ts t i in
+      let tells = h.tells here.0 t here.1 in
+      let u = any-found (λ (u : Turn). u.made == t.made) us (k.all t.made tells.made) in
+      let there = in-slice us u.0 u.1 in
+      subst (λ x. In x us) (same-turn es o u.0 t (k.tells there.0 u.0 there.1) tells (eqb-true u.0.made t.made u.2)) u.1
 
-  -- the first of one list isn't before the first of another
-  not-before : (n : ℕ) (t u : Turn) (ts us : List Turn) → TurnsFrom es o n (t ∷ ts) → TurnsFrom es o n (u ∷ us) → u.made ≤ t.made
-  not-before n t u ts us h k =
-      let x = k.all t.made (h.late t (inl refl)) (h.tells t (inl refl)).made in
-      let at = x.2 in
-      elim x.1 [ inl is ↦ (let made = ap (λ (y : Turn). y.made) is in omega arith) | inr i ↦ (let lt = k.rising.0 x.0 i in omega arith) ]
-
-  one-list : (ts us : List Turn) (n : ℕ) → TurnsFrom es o n ts → TurnsFrom es o n us → ts ≡ us
-  one-list [] [] n h k = refl
-  one-list [] (u ∷ us) n h k = absurd (h.all u.made (k.late u (inl refl)) (k.tells u (inl refl)).made).1
-  one-list (t ∷ ts) [] n h k = absurd (k.all t.made (h.late t (inl refl)) (h.tells t (inl refl)).made).1
-  one-list (t ∷ ts) (u ∷ us) n h k =
-      let le = not-before n t u ts us h k in
-      let ge = not-before n u t us ts k h in
-      let made : t.made ≡ u.made = omega arith in
-      let first = same-turn es o t u (h.tells t (inl refl)) (k.tells u (inl refl)) made in
-      let rest = one-list ts us (suc u.made) (subst (λ m. TurnsFrom es o (suc m) ts) made (without-first n t ts h)) (without-first n u us k) in
-      ap (λ x. x ∷ ts) first ∙ ap (λ xs. u ∷ xs) rest
-
-  as-told : (ts : List Turn) → AreTurns es o ts → TurnsFrom es o 0 ts
-  as-told ts h = record {
-    tells = λ t i. let k = in-slice ts t i in h.tells k.0 t k.1;
-    late = λ t i. omega arith;
-    all = λ c le a. let t = any-found (λ (t : Turn). t.made == c) ts (h.all c a) in (t.0, t.1, eqb-true t.0.made c t.2);
-    rising = at-pairs IsEarlier ts h.rising;
-  }
+  same-turns : (ts us : List Turn) → AreTurns es o ts → AreTurns es o us → ts ≡ us
+  same-turns ts us h k = one-list ts us (at-pairs IsEarlier ts h.rising) (at-pairs IsEarlier us k.rising) (told-in ts us h k) (told-in us ts k h)
 
 pub turns-tell : TurnsTellOfCalls
-turns-tell h lawful o =
-    let ts = turns_on o h in
-    let are = turns-are h o in
-    (ts, are, λ us k. one-list h.entries o us ts 0 (as-told h.entries o us k) (as-told h.entries o ts are))
+turns-tell h lawful o = let are = turns-are h o in (turns_on o h, are, λ us k. same-turns h.entries o us (turns_on o h) k are)
 
 pub turns-taken : TurnsAreTaken
 turns-taken h lawful o ts k =
     let us = turns_on o h in
-    let same_turns = one-list h.entries o us ts 0 (as-told h.entries o us (turns-are h o)) (as-told h.entries o ts k) in
-    subst (AllPairs IsTakenBefore) same_turns (pairs-at IsTakenBefore us (pairs-map InOrder IsTakenBefore us (λ t u i j r. r.taken) (always-ordered o h)))
+    subst (AllPairs IsTakenBefore) (same-turns h.entries o us ts (turns-are h o) k) (pairs-at IsTakenBefore us (pairs-map InOrder IsTakenBefore us (λ t u i j r. r.taken) (always-ordered o h)))

@@ -1,5 +1,7 @@
--- One entry more: the turns of an object tell of its one-way calls up to there.
-use Rattle.bd_laws.proofs.words.Logic.{◌≡◌, ℕ, zero, suc, ◌<◌, ◌==◌, Bool, true, false, not, List, [], ◌∷◌, ◌++◌, length, Option, Some, None, ◌⊎◌, inl, inr, refl, ap, sym, subst, ◌∙◌, map, length-append, arith, list_any, filter_map, slice_get, is_some, eq-eqb}
+-- For TurnsTellOfCalls, RepliesReachTheirCallers and RepliesAnswerTheLatestOpenCall: one entry more, and the turns of an
+-- object tell of its one-way calls up to there.
+use Rattle.bd_laws.proofs.words.Logic.{◌≡◌, ℕ, zero, suc, ◌<◌, ◌==◌, Bool, true, false, not, List, [], ◌∷◌, ◌++◌, length, take, drop, Option, Some, None, ◌⊎◌, inl, inr, refl, ap, sym, subst, ◌∙◌, map, length-append, arith, list_any, filter_map, slice_get, is_some, eq-eqb, cases_lt}
+use Rattle.std.proofs.Math.Seq.{take-append_seam, drop-append_seam}
 use Rattle.bd_laws.proofs.words.Types.{ObjectId, Entry, Buffer, Work}
 use Rattle.bd_laws.proofs.words.Space.{same, when, is_some_and, Space, opening, is_call, is_made_at, change, counted, after, next}
 use Rattle.bd_laws.proofs.words.Laws.{In, On, Before}
@@ -18,6 +20,7 @@ use Rattle.bd_audit.proofs.TurnsAreTaken.TurnsKept as turn_log_parts
 use Rattle.bd_audit.proofs.TurnsAreTaken.TurnsKept.{log-after, NewTurn}
 use Rattle.bd_audit.proofs.TurnsAreTaken.Logged.{Logged, live-in, live-found, handed-found, noted-some, noted-kept, some-case}
 use Rattle.bd_audit.proofs.NamesHaveGiftChains.Chains.{always-steps}
+use Rattle.bd_audit.proofs.RepliesReachTheirCallers.Places.{between}
 use Rattle.bd_audit.proofs.RepliesReachTheirCallers.Traces.{at-more, at-here, at-below}
 use Rattle.bd_audit.proofs.TurnsAreTaken.CallItems.{step-treats}
 use Rattle.bd_audit.proofs.TurnsAreTaken.CallItemsKept.{DueOnce, fresh-once, Treats}
@@ -29,20 +32,19 @@ use Rattle.bd_laws.proofs.Machine.Fields.{counted-buffers}
 -- an entry of a list stands before the last one, or it is the last one
 in-front : (es : List Entry) (e : Entry) (before : List Entry) (x : Entry) (rest : List Entry) → es ++ e ∷ [] ≡ before ++ x ∷ rest
     → ((more : List Entry) × (es ≡ before ++ x ∷ more)) ⊎ ((before ≡ es) × (x ≡ e))
-in-front [] e [] x rest h = inr (refl, cc)
-in-front [] e (y ∷ before) x rest h =
-    let l : 1 ≡ length (y ∷ before ++ x ∷ rest) = ap length h in
-    let k = length-append before (x ∷ rest) in absurd (omega arith)
-in-front (z ∷ es) e [] x rest h = let head : z ≡ x = cc in inl (es, ap (λ y. y ∷ es) head)
-in-front (z ∷ es) e (y ∷ before) x rest h =
-    let head : z ≡ y = cc in
-    let tail : es ++ e ∷ [] ≡ before ++ x ∷ rest = cc in
-    elim (in-front es e before x rest tail) [
-      | inl m ↦ inl (m.0, ap (λ xs. z ∷ xs) m.1 ∙ ap (λ v. v ∷ before ++ x ∷ m.0) head)
-      | inr m ↦ inr (ap (λ v. v ∷ before) (sym head) ∙ ap (λ xs. z ∷ xs) m.0, m.1)
-    ]
+in-front es e before x rest h = elim (cases_lt (length before) (length es)) [
+  | inl lt ↦ inl (between before es x e rest [] (sym h) lt)
+  | inr ge ↦ (
+      let a = length-append es (e ∷ []) in
+      let b = length-append before (x ∷ rest) in
+      let whole = ap length h in
+      let same_length : length es ≡ length before = omega arith in
+      let back : e ∷ [] ≡ x ∷ rest = sym (drop-append_seam es (e ∷ [])) ∙ ap (drop (length es)) h ∙ ap (λ n. drop n (before ++ x ∷ rest)) same_length ∙ drop-append_seam before (x ∷ rest) in
+      let front = sym (take-append_seam es (e ∷ [])) ∙ ap (take (length es)) h ∙ ap (λ n. take n (before ++ x ∷ rest)) same_length ∙ take-append_seam before (x ∷ rest) in
+      inr (sym front, (let head : x ≡ e = cc in head)))
+]
 
-at-split : (es : List Entry) (e : Entry) (p : ℕ) (P : Space → Entry → Type 0) → At (es ++ e ∷ []) p P → At es p P ⊎ ((p ≡ length es) × P (after opening es) e)
+pub at-split : (es : List Entry) (e : Entry) (p : ℕ) (P : Space → Entry → Type 0) → At (es ++ e ∷ []) p P → At es p P ⊎ ((p ≡ length es) × P (after opening es) e)
 at-split es e p P h = search (arith, in-front)
 
 pub in-slice : (ts : List Turn) (t : Turn) → In t ts → (i : ℕ) × (slice_get ts i ≡ Some t)
@@ -120,8 +122,8 @@ module _ (o : ObjectId) (es : List Entry) (e : Entry) (ts : List Turn) (k : Tell
   more-is : after opening more ≡ counted z
   more-is = after-append opening es (e ∷ [])
 
-  now : (p : ℕ) (P : Space → Entry → Type 0) → p ≡ s.steps → P s e → At more p P
-  now p P is h = subst (λ n. At more n P) (sym (is ∙ always-steps es)) (at-here es e P h)
+  at-now : (p : ℕ) (P : Space → Entry → Type 0) → p ≡ s.steps → P s e → At more p P
+  at-now p P is h = subst (λ n. At more n P) (sym (is ∙ always-steps es)) (at-here es e P h)
 
   lives-more : (t : Turn) → In t turns_after → t.ended ≡ None → is_live (after opening more).buffers t.made ≡ true
   lives-more t i f =
@@ -130,66 +132,60 @@ module _ (o : ObjectId) (es : List Entry) (e : Entry) (ts : List Turn) (k : Tell
 
   -- ---- turns that were there
 
+  -- the place of what a note tells of
+  module _ (note : Option ℕ) (now : Bool) (P : Space → Entry → Type 0) (p : ℕ) where
+    noted : ((p : ℕ) → note ≡ Some p → At es p P) → (note ≡ None → now ≡ true → P s e) → noted_at note s.steps now ≡ Some p → At more p P
+    noted old new f = elim (noted-some note s.steps now p f) [
+      | inl g ↦ at-more es (e ∷ []) p P (old p g)
+      | inr g ↦ at-now p P g.2 (new g.0 g.1)
+    ]
+
+    unnoted : ((p : ℕ) → At es p P → note ≡ Some p) → (P s e → (is_some note ≡ false) × (now ≡ true)) → At more p P → noted_at note s.steps now ≡ Some p
+    unnoted old new h = elim (at-split es e p P h) [
+      | inl a ↦ noted-kept note s.steps now p (old p a)
+      | inr a ↦ (let k = new a.1 in noted-now note s.steps p now k.0 k.1 (a.0 ∙ sym (always-steps es)))
+    ]
+
   module _ (u : Turn) (i : In u ts) where
-    -- the buffer of a turn was handed out if the turn says so
-    open-handed : (b : Buffer) → In b s.buffers → b.made ≡ u.made → b.handed ≡ is_some u.handed
-    open-handed b here made = elim (some-case u.ended) [
-      | inl n ↦ (
-          let c = k.log.live u i n in
-          ap (λ (x : Buffer). x.handed) (one-buffer s before.turns b c.0 here c.1.here (made ∙ sym c.1.made)) ∙ c.1.handed)
+    -- while its buffer lives, the turn hasn't ended, and tells whether it was handed out
+    open-still : (b : Buffer) → In b s.buffers → b.made ≡ u.made → (is_some u.ended ≡ false) × (b.handed ≡ is_some u.handed)
+    open-still b here made = elim (some-case u.ended) [
+      | inl n ↦ (let c = k.log.live u i n in (ap is_some n, ap (λ (x : Buffer). x.handed) (one-buffer s before.turns b c.0 here c.1.here (made ∙ sym c.1.made)) ∙ c.1.handed))
       | inr q ↦ absurd (k.log.gone u i q.0 q.1 b here made)
     ]
 
-    old-handed : (p : ℕ) → (marked s.steps z.buffers u).handed ≡ Some p → At more p (HandsOutCall u.made)
-    old-handed p f = elim (noted-some u.handed s.steps (is_handed z.buffers u.made) p f) [
-      | inl g ↦ at-more es (e ∷ []) p (HandsOutCall u.made) ((k.tells u i).handed p g)
-      | inr g ↦ (
-          let c = handed-found z.buffers u.made g.1 in
-          elim ((treated u.made (k.once u i)).handed c.0 c.1 c.2 c.3) [
-            | inl b ↦ (let is = open-handed b.0 b.1 b.2 in let yes = b.3 in let none : is_some u.handed ≡ false = ap is_some g.0 in absurd (cc))
-            | inr items ↦ now p (HandsOutCall u.made) g.2 items
-          ])
-    ]
+    old-handed : u.handed ≡ None → is_handed z.buffers u.made ≡ true → HandsOutCall u.made s e
+    old-handed none given =
+        let c = handed-found z.buffers u.made given in
+        elim ((treated u.made (k.once u i)).handed c.0 c.1 c.2 c.3) [
+          | inl b ↦ (let is = (open-still b.0 b.1 b.2).1 in let was = b.3 in let no : is_some u.handed ≡ false = ap is_some none in absurd (cc))
+          | inr items ↦ items
+        ]
 
     -- who is handed out now was due, and so not handed out before
-    old-unhanded : (p : ℕ) → At more p (HandsOutCall u.made) → (marked s.steps z.buffers u).handed ≡ Some p
-    old-unhanded p h = elim (at-split es e p (HandsOutCall u.made) h) [
-      | inl a ↦ noted-kept u.handed s.steps (is_handed z.buffers u.made) p ((k.tells u i).unhanded p a)
-      | inr a ↦ (
-          let w = any-found (λ (w : Work). is_call u.made w.kind) (items_taken s e.seat e.step) a.1 in
-          let unread = (k.once u i).unread w.0 (items-due s e.seat e.step w.0 w.1, is_call-hands u.made w.0.kind w.2) in
-          let none = sym (open-handed unread.buffer unread.here unread.made) ∙ unread.handed in
-          noted-now u.handed s.steps p (is_handed z.buffers u.made) none (hands-out s u.made unread.buffer unread.here unread.made e.seat e.step a.1) (a.0 ∙ sym (always-steps es)))
-    ]
+    old-unhanded : HandsOutCall u.made s e → (is_some u.handed ≡ false) × (is_handed z.buffers u.made ≡ true)
+    old-unhanded takes =
+        let w = any-found (λ (w : Work). is_call u.made w.kind) (items_taken s e.seat e.step) takes in
+        let unread = (k.once u i).unread w.0 (items-due s e.seat e.step w.0 w.1, is_call-hands u.made w.0.kind w.2) in
+        (sym (open-still unread.buffer unread.here unread.made).1 ∙ unread.handed, hands-out s u.made unread.buffer unread.here unread.made e.seat e.step takes)
 
-    old-ended : (p : ℕ) → (marked s.steps z.buffers u).ended ≡ Some p → At more p (EndsBuffer u.made)
-    old-ended p f = elim (noted-some u.ended s.steps (not (is_live z.buffers u.made)) p f) [
-      | inl g ↦ at-more es (e ∷ []) p (EndsBuffer u.made) ((k.tells u i).ended p g)
-      | inr g ↦ (
-          let b = k.log.live u i g.0 in
-          now p (EndsBuffer u.made) g.2
-          (live-in s.buffers b.0 u.made b.1.here b.1.made, ap (λ bs. is_live bs u.made) (counted-buffers z) ∙ not-true (is_live z.buffers u.made) g.1))
-    ]
+    old-ended : u.ended ≡ None → not (is_live z.buffers u.made) ≡ true → EndsBuffer u.made s e
+    old-ended none gone =
+        let b = k.log.live u i none in
+        (live-in s.buffers b.0 u.made b.1.here b.1.made, ap (λ bs. is_live bs u.made) (counted-buffers z) ∙ not-true (is_live z.buffers u.made) gone)
 
-    open-still : (b : Buffer) → In b s.buffers → b.made ≡ u.made → is_some u.ended ≡ false
-    open-still b here made = elim (some-case u.ended) [ inl n ↦ ap is_some n | inr q ↦ absurd (k.log.gone u i q.0 q.1 b here made) ]
-
-    old-unended : (p : ℕ) → At more p (EndsBuffer u.made) → (marked s.steps z.buffers u).ended ≡ Some p
-    old-unended p h = elim (at-split es e p (EndsBuffer u.made) h) [
-      | inl a ↦ noted-kept u.ended s.steps (not (is_live z.buffers u.made)) p ((k.tells u i).unended p a)
-      | inr a ↦ (
-          let b = live-found s.buffers u.made a.1.0 in
-          let gone : is_live z.buffers u.made ≡ false = ap (λ bs. is_live bs u.made) (sym (counted-buffers z)) ∙ a.1.1 in
-          noted-now u.ended s.steps p (not (is_live z.buffers u.made)) (open-still b.0 b.1 b.2) (not-false (is_live z.buffers u.made) gone) (a.0 ∙ sym (always-steps es)))
-    ]
+    old-unended : EndsBuffer u.made s e → (is_some u.ended ≡ false) × (not (is_live z.buffers u.made) ≡ true)
+    old-unended ends =
+        let b = live-found s.buffers u.made ends.0 in
+        ((open-still b.0 b.1 b.2).0, not-false (is_live z.buffers u.made) (ap (λ bs. is_live bs u.made) (sym (counted-buffers z)) ∙ ends.1))
 
     old-tells : In (marked s.steps z.buffers u) turns_after → TellsOf more o (marked s.steps z.buffers u)
     old-tells j = record {
       made = at-more es (e ∷ []) u.made (λ z e. CallsOneWay z e o) (k.tells u i).made;
-      handed = old-handed;
-      unhanded = old-unhanded;
-      ended = old-ended;
-      unended = old-unended;
+      handed = λ p. noted u.handed (is_handed z.buffers u.made) (HandsOutCall u.made) p (k.tells u i).handed old-handed;
+      unhanded = λ p. unnoted u.handed (is_handed z.buffers u.made) (HandsOutCall u.made) p (k.tells u i).unhanded old-unhanded;
+      ended = λ p. noted u.ended (not (is_live z.buffers u.made)) (EndsBuffer u.made) p (k.tells u i).ended old-ended;
+      unended = λ p. unnoted u.ended (not (is_live z.buffers u.made)) (EndsBuffer u.made) p (k.tells u i).unended old-unended;
       lives = lives-more (marked s.steps z.buffers u) j;
     }
 
@@ -208,7 +204,7 @@ module _ (o : ObjectId) (es : List Entry) (e : Entry) (ts : List Turn) (k : Tell
 
     new-tells : TellsOf more o t
     new-tells = record {
-      made = now t.made (λ z e. CallsOneWay z e o) n.1 new-calls;
+      made = at-now t.made (λ z e. CallsOneWay z e o) n.1 new-calls;
       handed = λ p f. let none = n.2 in absurd (cc);
       unhanded = λ p h. nowhere p (handed-later more p t.made h) (at-below more p (HandsOutCall t.made) h);
       ended = λ p f. let none = n.3 in absurd (cc);
@@ -221,16 +217,10 @@ module _ (o : ObjectId) (es : List Entry) (e : Entry) (ts : List Turn) (k : Tell
 
   -- ---- all turns
 
-  tells-more : (t : Turn) → In t turns_after → TellsOf more o t
+  tells-more : (t : Turn) → In t turns_after → TellsOf more o t × DueOnce t.made z.buffers z.todo
   tells-more t i = elim (turn_log_parts.turn-of s z before passing.turns passing.passed o ts k.log t i) [
-    | inl u ↦ subst (TellsOf more o) u.2 (old-tells u.0 u.1 (subst (λ x. In x turns_after) (sym u.2) i))
-    | inr c ↦ new-tells t i c.0 c.1
-  ]
-
-  once-more : (t : Turn) → In t turns_after → DueOnce t.made z.buffers z.todo
-  once-more t i = elim (turn_log_parts.turn-of s z before passing.turns passing.passed o ts k.log t i) [
-    | inl u ↦ subst (λ n. DueOnce n z.buffers z.todo) (ap (λ (x : Turn). x.made) u.2) (old-once u.0 u.1)
-    | inr c ↦ new-once t i c.0 c.1
+    | inl u ↦ (subst (TellsOf more o) u.2 (old-tells u.0 u.1 (subst (λ x. In x turns_after) (sym u.2) i)), subst (λ n. DueOnce n z.buffers z.todo) (ap (λ (x : Turn). x.made) u.2) (old-once u.0 u.1))
+    | inr c ↦ (new-tells t i c.0 c.1, new-once t i c.0 c.1)
   ]
 
   new-turn : (c : Buffer) → In c z.buffers → c.made ≡ s.steps → On o c → In (record { made = s.steps; handed = None; ended = None }) turns_after
@@ -254,7 +244,7 @@ module _ (o : ObjectId) (es : List Entry) (e : Entry) (ts : List Turn) (k : Tell
   pub step-telling : Telling o more (next_turns o s.steps (next s e).buffers ts)
   step-telling = subst (λ bs. Telling o more (next_turns o s.steps bs ts)) (sym (counted-buffers z)) (record {
     log = subst (Logged o turns_after) (sym more-is) log-more;
-    tells = tells-more;
+    tells = λ t i. (tells-more t i).0;
     all = all-more;
-    once = λ t i. subst (λ (y : Space). DueOnce t.made y.buffers y.todo) (sym more-is) (counted-once z t.made (once-more t i));
+    once = λ t i. subst (λ (y : Space). DueOnce t.made y.buffers y.todo) (sym more-is) (counted-once z t.made (tells-more t i).1);
   })

@@ -1,13 +1,16 @@
--- What is sent stands with its receiver: the buffer that an item on a thread's list hands over is its process's.
-use Rattle.bd_laws.proofs.words.Logic.{◌≡◌, ℕ, suc, ◌+◌, ◌≤◌, ◌==◌, Bool, true, false, List, [], ◌∷◌, Option, Some, None, Ok, ◌⊎◌, inl, inr, refl, ap, sym, subst, ◌∙◌, find, reverse, arith, option_and_then, option_map, eqb-true}
-use Rattle.bd_laws.proofs.words.Types.{TransactionData, ObjectId, Parcel, Process, Thread, Reference, Holder, Carried, Item, Frame, Actor, Work, TodoList, OfThread, OfProcess, WorkKind}
-use Rattle.bd_laws.proofs.words.Space.{is_some_and, Space, actor, thread_in, objects_go, names_go, assign_numbers, closed, goes_to, waits_in, list_of_caller, ancestry, made_of, innermost_in, with_work, owe, hands_out, ripen, deaths_go, work_goes, notify, follow, Delivery, delivered, own_notices, add_buffer, known_by, refer, make_objects, buffer_of, buffer_references, transacted, called, call_out, caller_of, reply_check, replied, is_spam}
+-- For SpacesAreTidy and the engine: what is sent stands with its receiver: the buffer that an item on a thread's list hands
+-- over is its process's.
+use Rattle.bd_laws.proofs.words.Logic.{◌≡◌, ℕ, suc, ◌+◌, ◌≤◌, ◌==◌, Bool, true, false, List, [], ◌∷◌, Option, Some, None, Ok, ◌⊎◌, inl, inr, refl, ap, sym, subst, ◌∙◌, arith, option_and_then, eqb-true}
+use Rattle.bd_laws.proofs.words.Types.{TransactionData, ObjectId, Parcel, Process, Thread, Reference, Carried, Item, Frame, Actor, Work, TodoList, OfThread, OfProcess, WorkKind}
+use Rattle.bd_laws.proofs.words.Space.{is_some_and, Space, actor, thread_in, assign_numbers, closed, goes_to, with_work, owe, hands_out, ripen, Delivery, delivered, own_notices, add_buffer, known_by, refer, make_objects, buffer_references, transacted, called, call_out, caller_of, reply_check, replied, is_spam}
 use Rattle.bd_space.specs.declared.space.WorkKind.TheVariants as work
 use Rattle.bd_laws.proofs.words.Laws.{In, Pairs, IsInTurn, OtherSeat, Homed, AtHome}
-use Rattle.bd_laws.proofs.Lists.{in-append, in-push, find-in, pairs-either}
+use Rattle.bd_laws.proofs.Lists.{in-append, find-in, pairs-either}
+use Rattle.bd_laws.specs.Items.{Home}
+use Rattle.bd_laws.proofs.IsInTurn.Pushed.{with-each}
+use Rattle.bd_laws.proofs.OnPaths.PathWords.{goes-to-waiting}
 use Rattle.bd_laws.proofs.Checks.{actor-lives, reply-checked}
 use Rattle.bd_laws.proofs.IsInTurn.OneWay as one_way
-use Rattle.bd_laws.proofs.IsInTurn.OneWay.{with_work-less, own_notices-less}
 use Rattle.bd_laws.proofs.Machine.Adding.{ripen-keeps}
 use Rattle.bd_laws.proofs.Machine.Fields.{closed-same}
 
@@ -15,87 +18,38 @@ abbrev pub H : ℕ → Space → Type 0
 H n z = Homed n z.threads z.references z.todo
 
 pub one-thread : (s : Space) → AtHome s → (t u : Thread) → In t s.threads → In u s.threads → t.seat ≡ u.seat → t ≡ u
-one-thread s h t u l m e = elim (pairs-either OtherSeat s.threads h.seats t u l m) [
-  | inl is ↦ is
-  | inr d ↦ elim d [ inl k ↦ absurd (k e) | inr k ↦ absurd (k (sym e)) ]
-]
+one-thread s h t u l m e = search (arith, pairs-either)
 
--- ---- what goes, and what hands nothing over
+-- ---- what ripens
 
-pub less : (n m : ℕ) (ts : List Thread) (rs ss : List Reference) (td ud : List Work) → n ≤ m → ((r : Reference) (b q : ℕ) → In r ss → r.holder ≡ Carried b q → In r rs)
-    → ((w : Work) (b : ℕ) → In w ud → hands_out w.kind ≡ Some b → In w td) → Homed n ts rs td → Homed m ts ss ud
-less n m ts rs ss td ud le refs due h = record {
-  seats = h.seats;
-  home = λ w t b l on e. let k = h.home w t b (due w b l e) on e in (k.0, k.1, k.2, λ r q i c. k.3 r q (refs r b q i c) c);
-  carried = λ r b q l c. let lt = h.carried r b q (refs r b q l c) c in omega arith;
-}
+pub more-h : (n m : ℕ) (z : Space) → n ≤ m → H n z → H m z
+more-h n m z le h = record { seats = h.seats; home = h.home; carried = λ r b q l c. let lt = h.carried r b q l c in omega arith }
 
-pub owe-h : (n : ℕ) (z : Space) (list : TodoList) (kind : WorkKind) → hands_out kind ≡ None → H n z → H n (owe z list kind)
-unfolding owe
-owe-h n z list kind none h = less n n z.threads z.references z.references z.todo _ (omega arith) (λ r b q l c. l) (with_work-less z.steps z.todo list kind none) h
-
-pub closed-h : (n : ℕ) (z : Space) (made : ℕ) → H n z → H n (closed z made)
-unfolding closed
-closed-h n z made h = h
-
-follow-due : (z : Space) (w : Work) (b : ℕ) → In w (follow z).todo → hands_out w.kind ≡ Some b → In w z.todo
-follow-due z w b l e = (one_way.follow-less z).due w b l e
-
-follow-due-h : (n : ℕ) (z : Space) → ((w : Work) (b : ℕ) → In w (follow z).todo → hands_out w.kind ≡ Some b → In w z.todo) → H n z → H n (follow z)
-unfolding follow notify work_goes deaths_go objects_go names_go
-follow-due-h n z due h = less n n z.threads z.references z.references z.todo _ (omega arith) (λ r b q l c. l) due h
-
-pub follow-h : (n : ℕ) (z : Space) → H n z → H n (follow z)
-follow-h n z h = follow-due-h n z (follow-due z) h
-
--- on a process's list
-process-item : (n place p : ℕ) (ts : List Thread) (rs : List Reference) (td : List Work) (kind : WorkKind) → Homed n ts rs td → Homed n ts rs (with_work place td (OfProcess p) kind)
-process-item n place p ts rs td kind h = record {
-  seats = h.seats;
-  home = λ w t b l on e. elim (in-push w _ td l) [
-    | inl i ↦ h.home w t b i on e
-    | inr is ↦ (let no : OfProcess p ≡ OfThread t = ap (λ (v : Work). v.list) is ∙ on in absurd (cc))
-  ];
-  carried = h.carried;
-}
-
+-- what ripens stands on a process's list
 pub ripen-h : (n : ℕ) (z : Space) → H n z → H n (ripen z)
 unfolding ripen
-ripen-h n z h = ripen-keeps (Homed n z.threads z.references) z (λ td t. process-item n z.steps t.receiver z.threads z.references td (work.Call t.made)) h
+ripen-h n z = ripen-keeps (Homed n z.threads z.references) z (λ td u h. record {
+  seats = h.seats;
+  home = λ w t b. with-each z.steps td (OfProcess u.receiver) (work.Call u.made) (λ w. w.list ≡ OfThread t → hands_out w.kind ≡ Some b → Home z.threads z.references t b) (λ w i. h.home w t b i)
+      (λ i on. absurd (cc)) w;
+  carried = h.carried;
+})
 
 -- ---- what is sent
 
-carried-is : Holder → Option (ℕ × ℕ)
-carried-is (Carried b q) = Some (b, q)
-carried-is _ = None
-
-carried-same : (b q c r : ℕ) → Carried b q ≡ Carried c r → (b ≡ c) × (q ≡ r)
-unfolding carried-is
-carried-same b q c r e = let k : Some (b, q) ≡ Some (c, r) = ap carried-is e in let p : (b, q) ≡ (c, r) = cc in (ap (λ (x : ℕ × ℕ). x.0) p, ap (λ (x : ℕ × ℕ). x.1) p)
-
 pub carries : (b q k : ℕ) (items : List Item) (target : Option ObjectId) (r : Reference) (c p : ℕ) → In r (buffer_references b q k items target) → r.holder ≡ Carried c p → (b ≡ c) × (q ≡ p)
-carries b q k [] None r c p l e = absurd l
-carries b q k [] (Some o) r c p (inl is) e = let no = sym (ap (λ (x : Reference). x.holder) is) in absurd (cc)
-carries b q k [] (Some o) r c p (inr l) e = absurd l
-carries b q k (x ∷ xs) target r c p (inl is) e = carried-same b q c p (ap (λ (x : Reference). x.holder) is ∙ e)
+carries b q k [] target r c p l e = search arith
+carries b q k (x ∷ xs) target r c p (inl is) e = let same : Carried b q ≡ Carried c p = ap (λ (x : Reference). x.holder) is ∙ e in (cc, cc)
 carries b q k (x ∷ xs) target r c p (inr l) e = carries b q (k + 1) xs target r c p l e
 
 pub goes-home : (s : Space) (seat p c : ℕ) → goes_to s seat p ≡ OfThread c → (u : Thread) × In u s.threads × (u.seat ≡ c) × (u.process ≡ p)
-unfolding goes_to
-goes-home s seat p c e = at (ancestry (option_map made_of (innermost_in s.frames seat)) (reverse s.frames)) _ refl e
+goes-home s seat p c e =
+    let w = goes-to-waiting s seat p c e in
+    at (thread_in s.threads c) refl (ap (λ o. is_some_and o (λ c. is_some_and (thread_in s.threads c) (λ t. t.process == p))) (sym w.2.2) ∙ w.2.3)
   where
-    found : (o : Option Thread) (d : ℕ) → thread_in s.threads d ≡ o → is_some_and o (λ t. t.process == p) ≡ true → (u : Thread) × In u s.threads × (u.seat ≡ d) × (u.process ≡ p)
-    found None d f k = absurd (cc)
-    found (Some u) d f k = let l = find-in (λ (t : Thread). t.seat == d) u s.threads f in (u, l.0, eqb-true u.seat d l.1, eqb-true u.process p k)
-
-    caller : (o : Option ℕ) → is_some_and o (λ c. is_some_and (thread_in s.threads c) (λ t. t.process == p)) ≡ true → elim o as (λ (o : Option ℕ). TodoList) [ None ↦ OfProcess p | Some d ↦ OfThread d ] ≡ OfThread c
-        → (u : Thread) × In u s.threads × (u.seat ≡ c) × (u.process ≡ p)
-    caller None k f = absurd (cc)
-    caller (Some d) k f = let is : d ≡ c = cc in subst (λ n. (u : Thread) × In u s.threads × (u.seat ≡ n) × (u.process ≡ p)) is (found (thread_in s.threads d) d refl k)
-
-    at : (way : List Frame) (o : Option Frame) → find (waits_in s.threads p) way ≡ o → list_of_caller p o ≡ OfThread c → (u : Thread) × In u s.threads × (u.seat ≡ c) × (u.process ≡ p)
-    at way None f k = absurd (cc)
-    at way (Some g) f k = caller g.caller (find-in (waits_in s.threads p) g way f).1 k
+    at : (o : Option Thread) → thread_in s.threads c ≡ o → is_some_and o (λ t. t.process == p) ≡ true → (u : Thread) × In u s.threads × (u.seat ≡ c) × (u.process ≡ p)
+    at None f k = absurd (cc)
+    at (Some u) f k = let l = find-in (λ (t : Thread). t.seat == c) u s.threads f in (u, l.0, eqb-true u.seat c l.1, eqb-true u.process p k)
 
 module _ (s x : Space) (a : Actor) (d : TransactionData) (v : Delivery) (steps : x.steps ≡ s.steps) (threads : x.threads ≡ s.threads) (references : x.references ≡ s.references) (todo : x.todo ≡ s.todo)
     (h : AtHome s) (turns : IsInTurn s) (spam : Bool) where
@@ -103,10 +57,7 @@ module _ (s x : Space) (a : Actor) (d : TransactionData) (v : Delivery) (steps :
   sent = owe (delivered x a d v) (OfThread a.thread.seat) (work.Complete spam)
 
   pub sent-due : (w : Work) (m : ℕ) → In w sent.todo → hands_out w.kind ≡ Some m → In w s.todo
-  unfolding delivered own_notices add_buffer known_by assign_numbers refer make_objects owe
-  sent-due w m l e =
-      subst (In w) todo (own_notices-less (add_buffer (known_by x v) (buffer_of (known_by x v) a d v)) a.thread.seat v.sending.items w m
-      (with_work-less _ _ (OfThread a.thread.seat) (work.Complete spam) refl w m l e) e)
+  sent-due w m l e = subst (In w) todo (one_way.sent-due x a d v spam w m l e)
 
   pub sent-steps : sent.steps ≡ s.steps
   unfolding delivered own_notices add_buffer known_by assign_numbers refer make_objects owe
@@ -118,10 +69,7 @@ module _ (s x : Space) (a : Actor) (d : TransactionData) (v : Delivery) (steps :
 
   sent-references : (r : Reference) → In r sent.references → In r s.references ⊎ In r (buffer_references s.steps v.receiver.made 0 v.sending.items v.target)
   unfolding delivered own_notices add_buffer known_by assign_numbers refer make_objects owe
-  sent-references r l = elim (in-append r x.references (buffer_references x.steps v.receiver.made 0 v.sending.items v.target) l) [
-    | inl i ↦ inl (subst (In r) references i)
-    | inr i ↦ inr (subst (λ n. In r (buffer_references n v.receiver.made 0 v.sending.items v.target)) steps i)
-  ]
+  sent-references r l = search (arith, in-append)
 
   -- what this step's buffer carries lies in the receiver's window
   new-carried : (r : Reference) (q : ℕ) → In r sent.references → r.holder ≡ Carried s.steps q → v.receiver.made ≡ q
@@ -157,20 +105,14 @@ module _ (s x : Space) (a : Actor) (d : TransactionData) (v : Delivery) (steps :
       → ((t : ℕ) → list ≡ OfThread t → (u : Thread) × In u sent.threads × (u.seat ≡ t) × (u.process ≡ v.receiver.made)) → Homed (suc s.steps) sent.threads sent.references (with_work place sent.todo list kind)
   handing-h place list kind hands to = record {
     seats = sent-h.seats;
-    home = λ w t b l on e. elim (in-push w _ sent.todo l) [
-      | inl i ↦ sent-h.home w t b i on e
-      | inr is ↦ (
-          let u = to t (ap (λ (y : Work). y.list) is ∙ on) in
-          let k : Some s.steps ≡ Some b = sym hands ∙ ap (λ (y : Work). hands_out y.kind) is ∙ e in
-          let same : s.steps ≡ b = cc in
-          (u.0, u.1, u.2, λ r q m c. u.3 ∙ new-carried r q m (c ∙ ap (λ n. Carried n q) (sym same))))
-    ];
+    home = λ w t b. with-each place sent.todo list kind (λ w. w.list ≡ OfThread t → hands_out w.kind ≡ Some b → Home sent.threads sent.references t b) (λ w i. sent-h.home w t b i)
+        (λ i on e. let u = to t on in let same : s.steps ≡ b = (let k = sym hands ∙ e in cc) in (u.0, u.1, u.2, λ r q m c. u.3 ∙ new-carried r q m (c ∙ ap (λ n. Carried n q) (sym same)))) w;
     carried = sent-h.carried;
   }
 
 call-out-h : (y : Space) (n m seat p : ℕ) → y.steps ≡ m → Homed n y.threads y.references (with_work y.steps y.todo (goes_to y seat p) (work.Call m)) → H n (call_out y seat p)
 unfolding call_out owe
-call-out-h y n m seat p e h = subst (λ k. Homed n y.threads y.references (with_work y.steps y.todo (goes_to y seat p) (work.Call k))) (sym e) h
+call-out-h y n m seat p e h = search arith
 
 pub transacted-h : (s : Space) (a : Actor) (d : TransactionData) (v : Delivery) → AtHome s → IsInTurn s → H (suc s.steps) (transacted s a d v)
 unfolding transacted

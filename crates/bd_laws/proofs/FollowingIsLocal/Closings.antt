@@ -1,5 +1,6 @@
--- Where only some frames can be abandoned, only they and their parents have to be looked at.
-use Rattle.bd_laws.proofs.words.Logic.{◌≡◌, ℕ, zero, suc, ◌==◌, Bool, true, false, not, ◌&&◌, ◌||◌, List, Option, Some, None, length, refl, ap, sym, subst, ◌∙◌, filter, find, list_any, eqb-true, eq-eqb}
+-- For FollowingIsLocal where a thread or a process ends: where only some frames can be abandoned, only they and their
+-- parents have to be looked at.
+use Rattle.bd_laws.proofs.words.Logic.{arith, ◌≡◌, ℕ, zero, suc, ◌==◌, Bool, true, false, not, ◌&&◌, ◌||◌, List, Option, Some, None, length, refl, ap, sym, subst, ◌∙◌, filter, find, list_any, eqb-true, eq-eqb}
 use Rattle.bd_laws.proofs.words.Types.{DeadReply, Frame, Verdict}
 use Rattle.bd_laws.proofs.words.Space.{is_some_and, Space, is_gone, is_child_of, is_frame, closed, tell_caller, is_abandoned, settle, settle_one, settle_step, settle_times, close_among}
 use Rattle.bd_laws.specs.Lists.{In}
@@ -16,13 +17,6 @@ Covered c fs = (f : Frame) → In f fs → is_abandoned fs f ≡ true → c f.ma
 abbrev or_parent : (ℕ → Bool) → Frame → ℕ → Bool
 or_parent c f m = c m || is_some_and f.parent (λ p. p == m)
 
-child-parent : (g h : Frame) → is_child_of g h ≡ true → h.parent ≡ Some g.made
-child-parent g h e = of h.parent e
-  where
-    of : (o : Option ℕ) → is_some_and o (λ m. m == g.made) ≡ true → o ≡ Some g.made
-    of None k = absurd (cc)
-    of (Some m) k = ap (λ n. Some n) (eqb-true m g.made k)
-
 covered-after : (fs : List Frame) (f : Frame) (c : ℕ → Bool) → OneEach fs → In f fs → Covered c fs → Covered (or_parent c f) (filter (λ g. not (is_frame f.made g)) fs)
 covered-after fs f c one l cov g m abandoned =
     let keep = λ (g : Frame). not (is_frame f.made g) in
@@ -35,30 +29,18 @@ covered-after fs f c one l cov g m abandoned =
     at i gone none false e = or-left (c g.made) _ (cov g i (and-both (is_gone g.server) _ gone (not-false _ e)))
     at i gone none true e =
         let k = any-found (is_child_of g) fs e in
-        parent k.0 k.1 k.2 (is_frame f.made k.0) refl
+        parent k.0 k.1 (search (arith, eqb-true)) (is_frame f.made k.0) refl
       where
-        parent : (h : Frame) → In h fs → is_child_of g h ≡ true → (b : Bool) → is_frame f.made h ≡ b → (c g.made || is_some_and f.parent (λ p. p == g.made)) ≡ true
-        parent h j k true e =
-            let is = one h f j l (eqb-true h.made f.made e) in
-            let p : f.parent ≡ Some g.made = ap (λ (x : Frame). x.parent) (sym is) ∙ child-parent g h k in
-            or-right (c g.made) _ (ap (λ o. is_some_and o (λ p. p == g.made)) p ∙ eq-eqb g.made g.made refl)
-        parent h j k false e =
-            let still = any-in (is_child_of g) h _ (filter-in (λ (g : Frame). not (is_frame f.made g)) h fs j (not-false _ e)) k in absurd (cc)
+        parent : (h : Frame) → In h fs → h.parent ≡ Some g.made → (b : Bool) → is_frame f.made h ≡ b → (c g.made || is_some_and f.parent (λ p. p == g.made)) ≡ true
+        parent h j k true e = let is = one h f j l (eqb-true h.made f.made e) in search (arith, or-right, eq-eqb)
+        parent h j k false e = let stays = filter-in (λ (g : Frame). not (is_frame f.made g)) h fs j (not-false _ e) in search (arith, any-in, eq-eqb)
 
 pub times-among : (n : ℕ) (c : ℕ → Bool) (z : Space) → OneEach z.frames → Covered c z.frames → settle_times n z ≡ close_among n c z
 times-among zero c z one cov = refl
 times-among (suc n) c z one cov = times-first n z ∙ at (find (is_abandoned z.frames) z.frames) refl (λ k y o i. times-among n k y o i)
   where
-    test : (g : Frame) → In g z.frames → (b : Bool) → is_abandoned z.frames g ≡ b → (c g.made && is_abandoned z.frames g) ≡ is_abandoned z.frames g
-    test g i true t = ap (λ b. b && is_abandoned z.frames g) (cov g i t)
-    test g i false t = none (c g.made)
-      where
-        none : (a : Bool) → (a && is_abandoned z.frames g) ≡ is_abandoned z.frames g
-        none true = refl
-        none false = sym t
-
     agree : find (λ (f : Frame). c f.made && is_abandoned z.frames f) z.frames ≡ find (is_abandoned z.frames) z.frames
-    agree = find-same _ (is_abandoned z.frames) z.frames (λ g i. test g i (is_abandoned z.frames g) refl)
+    agree = search (arith, find-same)
 
     go : Option Frame → Space
     go o = elim o as (λ (o : Option Frame). Space) [ None ↦ z | Some f ↦ close_among n (λ m. c m || is_some_and f.parent (λ p. p == m)) (tell_caller (closed z f.made) f (Verdict DeadReply)) ]

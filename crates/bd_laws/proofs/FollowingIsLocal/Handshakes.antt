@@ -1,19 +1,17 @@
--- The handshakes of a reading: each is of the object of a Notice that is read.
-use Rattle.bd_laws.proofs.words.Logic.{◌≡◌, ℕ, ◌+◌, Bool, List, [], ◌∷◌, Option, Some, None, inl, inr, refl, ap, sym, length, flat_map}
+-- For FollowingIsLocal, SpacesAreTidy and OwnersHearInOrder: each handshake of a reading is of the object of a Notice that
+-- it reads.
+use Rattle.bd_laws.proofs.words.Logic.{arith, ◌≡◌, ℕ, ◌+◌, Bool, List, [], ◌∷◌, Some, inl, inr, refl, length, flat_map}
 use Rattle.bd_laws.proofs.words.Types.{ObjectId, Reference, Handshake, Work, WorkKind}
 use Rattle.bd_laws.proofs.words.Space.{Space, notice_of, returns_of, handshakes, handshakes_of, handshakes_for, shakes}
 use Rattle.bd_laws.specs.Lists.{In}
 use Rattle.bd_laws.proofs.Lists.{in-append}
 
-pub for-object : (place k : ℕ) (o : ObjectId) (bs : List Bool) (r : Reference) → In r (handshakes_for place k o bs) → r.object ≡ o
-for-object place k o [] r l = absurd l
-for-object place k o (b ∷ bs) r (inl e) = sym (ap (λ (y : Reference). y.object) e)
-for-object place k o (b ∷ bs) r (inr l) = for-object place (k + 1) o bs r l
+for-both : (place k : ℕ) (o : ObjectId) (bs : List Bool) (r : Reference) → In r (handshakes_for place k o bs) → (r.object ≡ o) × (r.holder ≡ Handshake)
+for-both place k o [] r l = absurd l
+for-both place k o (b ∷ bs) r l = search (arith, for-both place (k + 1) o bs r)
 
-pub for-handshake : (place k : ℕ) (o : ObjectId) (bs : List Bool) (r : Reference) → In r (handshakes_for place k o bs) → r.holder ≡ Handshake
-for-handshake place k o [] r l = absurd l
-for-handshake place k o (b ∷ bs) r (inl e) = sym (ap (λ (y : Reference). y.holder) e)
-for-handshake place k o (b ∷ bs) r (inr l) = for-handshake place (k + 1) o bs r l
+pub for-object : (place k : ℕ) (o : ObjectId) (bs : List Bool) (r : Reference) → In r (handshakes_for place k o bs) → r.object ≡ o
+for-object place k o bs r l = (for-both place k o bs r l).0
 
 -- the item whose handshake a reference is, and its object
 pub record Shaken (s : Space) (ws : List Work) (r : Reference) : Type 0 where
@@ -26,13 +24,7 @@ pub record Shaken (s : Space) (ws : List Work) (r : Reference) : Type 0 where
 
 of-item : (s : Space) (k : ℕ) (kind : WorkKind) (r : Reference) → In r (handshakes_of s k kind)
     → (o : ObjectId) × (notice_of kind ≡ Some o) × In r (handshakes_for s.steps k o (flat_map shakes (returns_of s kind)))
-of-item s k kind r l = at (notice_of kind) refl l
-  where
-    at : (f : Option ObjectId) → notice_of kind ≡ f
-        → In r (elim f as (λ (f : Option ObjectId). List Reference) [ None ↦ [] | Some o ↦ handshakes_for s.steps k o (flat_map shakes (returns_of s kind)) ])
-        → (o : ObjectId) × (notice_of kind ≡ Some o) × In r (handshakes_for s.steps k o (flat_map shakes (returns_of s kind)))
-    at None e l = absurd l
-    at (Some o) e l = (o, e, l)
+of-item s k kind r l = search arith
 
 pub shaken-by : (s : Space) (ws : List Work) (k : ℕ) (r : Reference) → In r (handshakes s k ws) → Shaken s ws r
 shaken-by s [] k r l = absurd l
@@ -45,7 +37,7 @@ shaken-by s (w ∷ ws) k r l =
     ]
 
 pub is-handshake : (s : Space) (ws : List Work) (k : ℕ) (r : Reference) → In r (handshakes s k ws) → r.holder ≡ Handshake
-is-handshake s ws k r l = let x = shaken-by s ws k r l in for-handshake s.steps x.number x.object (flat_map shakes (returns_of s x.item.kind)) r x.shakes_for
+is-handshake s ws k r l = let x = shaken-by s ws k r l in (for-both s.steps x.number x.object (flat_map shakes (returns_of s x.item.kind)) r x.shakes_for).1
 
 pub shaken-object : (s : Space) (ws : List Work) (r : Reference) (x : Shaken s ws r) → r.object ≡ x.object
 shaken-object s ws r x = for-object s.steps x.number x.object (flat_map shakes (returns_of s x.item.kind)) r x.shakes_for

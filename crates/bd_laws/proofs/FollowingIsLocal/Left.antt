@@ -1,29 +1,25 @@
--- What the ends of threads leave: which frames lose their servers, which items and references go.
-use Rattle.bd_laws.proofs.words.Logic.{◌≡◌, ℕ, ◌==◌, Bool, true, false, cond, not, ◌&&◌, ◌||◌, List, Option, Some, None, ◌⊎◌, inl, inr, refl, ap, sym, subst, ◌∙◌, map, list_any, eqb-true, eq-eqb}
-use Rattle.bd_laws.proofs.words.Types.{Reference, Frame, Server, Pending, Serving, Gone, Work, TodoList, OfThread, OfProcess}
-use Rattle.bd_laws.proofs.words.Space.{is_some_and, Space, buffer_of_holder, serves, is_gone, is_child_of, is_on, same_list, is_call, hands_out, is_abandoned, thread_goes, is_lost_with, is_lost_reference, is_unread_on, unread_server, gone_server, frame_without, is_left_frame, left_frames}
+-- For FollowingIsLocal where a thread or a process ends, and for ItemsAreToldApart: which frames lose their servers, which
+-- items and references go.
+use Rattle.bd_laws.proofs.words.Logic.{arith, ◌≡◌, ℕ, ◌==◌, Bool, true, false, not, ◌&&◌, ◌||◌, List, ◌⊎◌, inl, inr, ap, subst, ◌∙◌, map, list_any, eqb-true, eq-eqb}
+use Rattle.bd_laws.proofs.words.Types.{Reference, Frame, Server, Work, TodoList, OfThread}
+use Rattle.bd_laws.proofs.words.Space.{is_some_and, Space, is_gone, is_child_of, is_on, same_list, is_abandoned, thread_goes, is_lost_reference, is_unread_on, unread_server, is_left_frame, left_frames, seats_in, lists_in, lost_with_process, threads_go, is_dropped_with}
 use Rattle.bd_laws.proofs.words.Laws.{In, IsSettled}
-use Rattle.bd_laws.proofs.Lists.{in-filter, filter-in, in-map, map-in, any-found, any-in}
-use Rattle.bd_laws.proofs.Tests.{both, and-both, not-true, not-false}
+use Rattle.bd_laws.proofs.Lists.{in-filter, filter-in, in-map, map-in, any-found, any-in, fold-keeps}
+use Rattle.bd_laws.proofs.Tests.{and-both, not-false}
 use Rattle.bd_laws.proofs.Fewer.{to-false}
 use Rattle.bd_laws.proofs.Sending.{none-found}
 use Rattle.bd_laws.proofs.FollowingIsLocal.Closings.{Covered}
 use Rattle.bd_laws.proofs.Tests.{or-left, or-right}
 
 pub on-thread : (seat : ℕ) (list : TodoList) → same_list (OfThread seat) list ≡ true → list ≡ OfThread seat
-on-thread seat (OfThread u) e = ap (λ n. OfThread n) (sym (eqb-true seat u e))
-on-thread seat (OfProcess u) e = absurd (cc)
+on-thread seat list e = search (arith, eqb-true)
 
 pub neither : (a b : Bool) → (a || b) ≡ false → (a ≡ false) × (b ≡ false)
-neither true b h = absurd (cc)
-neither false b h = (refl, h)
+neither a b h = search arith
 
 -- two tests that hold together are one
 pub equal-tests : (a b : Bool) → (a ≡ true → b ≡ true) → (b ≡ true → a ≡ true) → a ≡ b
-equal-tests true true f g = refl
-equal-tests false false f g = refl
-equal-tests true false f g = sym (f refl)
-equal-tests false true f g = g refl
+equal-tests a b f g = search arith
 
 -- ---- frames whose server goes
 
@@ -38,25 +34,25 @@ pub record AllWent (c : ℕ → Bool) (fs gs : List Frame) : Type 0 where
   pub to : (f : Frame) → In f fs → (g : Frame) × In g gs × Went c f g
 
 pub all-same : (c : ℕ → Bool) (fs : List Frame) → AllWent c fs fs
-all-same c fs = record { from = λ g l. (g, l, record { made = refl; parent = refl; server = inl refl }); to = λ g l. (g, l, record { made = refl; parent = refl; server = inl refl }) }
+all-same c fs = search arith
+
+-- who had a child has one
+children-went : (c : ℕ → Bool) (fs gs : List Frame) (f g : Frame) → AllWent c fs gs → g.made ≡ f.made → list_any (is_child_of f) fs ≡ true → list_any (is_child_of g) gs ≡ true
+children-went c fs gs f g h made e =
+    let k = any-found (is_child_of f) fs e in
+    let j = h.to k.0 k.1 in
+    any-in (is_child_of g) j.0 gs j.1 (ap (λ o. is_some_and o (λ m. m == g.made)) j.2.parent ∙ ap (λ n. is_some_and k.0.parent (λ m. m == n)) made ∙ k.2)
+
+still-abandoned : (a b c d : Bool) → (a && not b) ≡ true → a ≡ c → (d ≡ true → b ≡ true) → (c && not d) ≡ false → ⊥
+still-abandoned a b c d h e k none = search arith
 
 pub abandoned-touched : (c : ℕ → Bool) (fs gs : List Frame) → IsSettled fs → AllWent c fs gs → Covered c gs
 abandoned-touched c fs gs settled h g l abandoned =
     let f = h.from g l in
     elim f.2.server [
       | inr t ↦ ap c f.2.made ∙ t
-      | inl same_server ↦ (
-          let t = both (is_gone g.server) (not (list_any (is_child_of g) gs)) abandoned in
-          let gone : is_gone f.0.server ≡ true = ap is_gone (sym same_server) ∙ t.0 in
-          let none : list_any (is_child_of f.0) fs ≡ false = to-false (list_any (is_child_of f.0) fs) (λ e.
-          let k = any-found (is_child_of f.0) fs e in
-          let j = h.to k.0 k.1 in
-          let child : is_child_of g j.0 ≡ true = ap (λ o. is_some_and o (λ m. m == g.made)) j.2.parent ∙ ap (λ n. is_some_and k.0.parent (λ m. m == n)) f.2.made ∙ k.2 in
-          let some = any-in (is_child_of g) j.0 gs j.1 child in
-          let no = not-true (list_any (is_child_of g) gs) t.1 in cc) in
-          let was = and-both (is_gone f.0.server) (not (list_any (is_child_of f.0) fs)) gone (not-false _ none) in
-          let not_was = none-found (is_abandoned fs) fs settled f.0 f.1 in
-          absurd (cc))
+      | inl same_server ↦ absurd (still-abandoned (is_gone g.server) (list_any (is_child_of g) gs) (is_gone f.0.server) (list_any (is_child_of f.0) fs) abandoned (ap is_gone same_server)
+          (children-went c fs gs f.0 g h f.2.made) (none-found (is_abandoned fs) fs settled f.0 f.1))
     ]
 
 -- a map of frames that changes servers of touched ones alone
@@ -74,29 +70,14 @@ went-map c fs gs m h made parent server = record {
     on f g l i w = record {
       made = made g ∙ w.made;
       parent = parent g ∙ w.parent;
-      server = elim w.server [
-        | inr t ↦ inr t
-        | inl e ↦ elim (server f g l i w.made e) [ inl k ↦ inl (k ∙ e) | inr t ↦ inr t ]
-      ];
+      server = elim w.server [ inr t ↦ inr t | inl e ↦ search (arith, server f g l i w.made e) ];
     }
 
 pub unread-or : (todo : List Work) (list : TodoList) (n : ℕ) (v : Server) → (unread_server todo list n v ≡ v) ⊎ (is_unread_on todo list n ≡ true)
-unread-or todo list n Pending = at (is_unread_on todo list n) refl
-  where
-    at : (b : Bool) → is_unread_on todo list n ≡ b → (cond b Gone Pending ≡ Pending) ⊎ (b ≡ true)
-    at true e = inr refl
-    at false e = inl refl
-unread-or todo list n (Serving t) = inl refl
-unread-or todo list n Gone = inl refl
+unread-or todo list n v = search arith
 
-gone-or : (seat : ℕ) (v : Server) → (gone_server seat v ≡ v) ⊎ (serves seat v ≡ true)
-gone-or seat Pending = inl refl
-gone-or seat (Serving t) = at (t == seat)
-  where
-    at : (b : Bool) → (cond b Gone (Serving t) ≡ Serving t) ⊎ (b ≡ true)
-    at true = inr refl
-    at false = inl refl
-gone-or seat Gone = inl refl
+any-less : (p : Work → Bool) (xs ys : List Work) → ((w : Work) → In w xs → In w ys) → list_any p xs ≡ true → list_any p ys ≡ true
+any-less p xs ys less e = search (arith, any-found, any-in)
 
 -- ---- threads go, one after the other
 
@@ -120,52 +101,13 @@ module _ (s : Space) (gone : Reference → Bool) (seats : List ℕ) (lists : Lis
     pub frames : AllWent cover s.frames z.frames
 
   pub left-none : Left s
-  left-none = record {
-    steps = refl;
-    processes = refl;
-    objects = refl;
-    names = refl;
-    deaths = refl;
-    less = λ w l. l;
-    more = λ w l e. l;
-    fewer = λ r l. l;
-    stay = λ r l e. l;
-    frames = all-same cover s.frames;
-  }
-
-  unread-more : (z : Space) (list : TodoList) (n : ℕ) → ((w : Work) → In w z.todo → In w s.todo) → is_unread_on z.todo list n ≡ true → is_unread_on s.todo list n ≡ true
-  unread-more z list n less e =
-      let w = any-found (λ (w : Work). is_on list w && is_call n w.kind) z.todo e in
-      any-in (λ (w : Work). is_on list w && is_call n w.kind) w.0 s.todo (less w.0 w.1) w.2
+  left-none = search (arith, all-same)
 
   cover-at : (f : Frame) → In f s.frames → is_left_frame seats lists s.todo f ≡ true → cover f.made ≡ true
-  cover-at f l e = any-in (λ (g : Frame). (g.made == f.made) && is_left_frame seats lists s.todo g) f s.frames l (and-both (f.made == f.made) _ (eq-eqb f.made f.made refl) e)
+  cover-at f l e = search (arith, any-in, and-both, eq-eqb)
 
   pub cover-unread : (z : Space) (list : TodoList) (f : Frame) → In list lists → ((w : Work) → In w z.todo → In w s.todo) → In f s.frames → is_unread_on z.todo list f.made ≡ true → cover f.made ≡ true
-  cover-unread z list f i less l e =
-      cover-at f l (or-right (list_any (λ t. serves t f.server) seats) _ (any-in (λ (l : TodoList). is_unread_on s.todo l f.made) list lists i (unread-more z list f.made less e)))
-
-  cover-serves : (seat : ℕ) (f : Frame) → In seat seats → In f s.frames → serves seat f.server ≡ true → cover f.made ≡ true
-  cover-serves seat f i l e = cover-at f l (or-left _ (list_any (λ (l : TodoList). is_unread_on s.todo l f.made) lists) (any-in (λ t. serves t f.server) seat seats i e))
-
-  lost-more : (z : Space) (list : TodoList) (r : Reference) → ((w : Work) → In w z.todo → In w s.todo) → is_lost_reference z.todo list r ≡ true → is_lost_reference s.todo list r ≡ true
-  lost-more z list r less e = at (buffer_of_holder r.holder) e
-    where
-      at : (o : Option ℕ) → is_some_and o (is_lost_with z.todo list) ≡ true → is_some_and o (is_lost_with s.todo list) ≡ true
-      at None k = absurd (cc)
-      at (Some b) k =
-          let test = λ (w : Work). is_on list w && is_some_and (hands_out w.kind) (λ m. m == b) in
-          let w = any-found test z.todo k in any-in test w.0 s.todo (less w.0 w.1) w.2
-
-  server-goes : (z : Space) (seat : ℕ) (f g : Frame) → In seat seats → In (OfThread seat) lists → ((w : Work) → In w z.todo → In w s.todo) → In f s.frames → g.made ≡ f.made → g.server ≡ f.server
-      → (gone_server seat (unread_server z.todo (OfThread seat) g.made g.server) ≡ g.server) ⊎ (cover f.made ≡ true)
-  server-goes z seat f g at_seat at_list less l made server = elim (unread-or z.todo (OfThread seat) g.made g.server) [
-    | inr e ↦ inr (cover-unread z (OfThread seat) f at_list less l (ap (is_unread_on z.todo (OfThread seat)) (sym made) ∙ e))
-    | inl e ↦ elim (gone-or seat g.server) [
-      | inl k ↦ inl (ap (gone_server seat) e ∙ k)
-      | inr k ↦ inr (cover-serves seat f at_seat l (ap (serves seat) (sym server) ∙ k))
-    ]
-  ]
+  cover-unread z list f i less l e = search (arith, cover-at, or-right, any-in, any-less)
 
   pub left-step : (z : Space) (seat : ℕ) → In seat seats → In (OfThread seat) lists → ((r : Reference) → is_lost_reference s.todo (OfThread seat) r ≡ true → gone r ≡ true) → Left z → Left (thread_goes z seat)
   unfolding thread_goes
@@ -176,10 +118,19 @@ module _ (s : Space) (gone : Reference → Bool) (seats : List ℕ) (lists : Lis
     names = h.names;
     deaths = h.deaths;
     less = λ w l. h.less w (in-filter (λ (w : Work). not (is_on (OfThread seat) w)) w z.todo l).0;
-    more = λ w l e. filter-in (λ (w : Work). not (is_on (OfThread seat) w)) w z.todo (h.more w l e)
-        (not-false _ (to-false (is_on (OfThread seat) w) (λ k. let some = any-in (λ (l : TodoList). is_on l w) (OfThread seat) lists at_list k in cc)));
+    more = λ w l e. search (arith, filter-in, not-false, to-false, any-in);
     fewer = λ r l. h.fewer r (in-filter (λ (r : Reference). not (is_lost_reference z.todo (OfThread seat) r)) r z.references l).0;
-    stay = λ r l e. filter-in (λ (r : Reference). not (is_lost_reference z.todo (OfThread seat) r)) r z.references (h.stay r l e)
-        (not-false _ (to-false (is_lost_reference z.todo (OfThread seat) r) (λ k. let yes = lost r (lost-more z (OfThread seat) r h.less k) in cc)));
-    frames = went-map cover s.frames z.frames (frame_without z.todo seat) h.frames (λ g. refl) (λ g. refl) (λ f g l i made server. server-goes z seat f g at_seat at_list h.less l made server);
+    stay = λ r l e. search (arith, filter-in, not-false, to-false, any-less, h.less);
+    frames = search (arith, went-map, unread-or, cover-unread, cover-at, or-left, any-in);
   }
+
+-- the threads of a process go
+pub threads-left : (s : Space) (p : ℕ) → Left s (lost_with_process s p) (seats_in s p) (lists_in s p) (threads_go s p)
+unfolding threads_go
+threads-left s p =
+    let seats = seats_in s p in
+    let ls = lists_in s p in
+    let gone = lost_with_process s p in
+    fold-keeps (Left s gone seats ls) thread_goes seats (λ z seat i k.
+    left-step s gone seats ls z seat i (inr (map-in (λ t. OfThread t) seat seats i))
+    (λ r e. or-right (is_dropped_with s.objects p r) _ (any-in (λ t. is_lost_reference s.todo (OfThread t) r) seat seats i e)) k) s (left-none s gone seats ls)

@@ -1,30 +1,16 @@
--- In every history the one-way calls are in turn.
-use Rattle.bd_laws.proofs.words.Logic.{◌≡◌, ℕ, suc, ◌≤◌, Bool, true, false, ◌&&◌, ◌||◌, List, [], ◌∷◌, Option, Some, None, Result, Ok, Err, inl, inr, refl, ap, sym, ◌∙◌, filter, length, arith, list_any, cons_option, eqb-true}
-use Rattle.bd_laws.proofs.words.Types.{TransactionData, Cause, CallerGone, ObjectId, Parcel, Step, Entry, Actor, Frame, Buffer, Turn, Work, WorkKind}
-use Rattle.bd_laws.proofs.words.Space.{same, found_or, Space, opening, is_call, hands_out, turn_of, turns_of, Delivery, sending_of, start_for, buffers_of, needed, caller_of, reply_check, reply_sent_to, reply_placed, counted, History, next, space_after}
-use Rattle.bd_space.specs.declared.space.WorkKind.TheVariants as work
-use Rattle.bd_laws.proofs.words.Laws.{is_out, out_on, In, Pairs, Out, Waits, InTurn, IsInTurn}
+-- For OneAtATime, OneWayCallsAreDueInTurn and SpacesAreTidy: in every history the one-way calls are in turn.
+use Rattle.bd_laws.proofs.words.Logic.{◌≡◌, ℕ, suc, ◌≤◌, true, ◌&&◌, List, [], ◌∷◌, Option, Some, inl, refl, sym, ◌∙◌, filter, length, arith, cons_option, eqb-true}
+use Rattle.bd_laws.proofs.words.Types.{ObjectId, Step, Entry, Buffer, Turn, Work, WorkKind}
+use Rattle.bd_laws.proofs.words.Space.{same, Space, opening, is_call, hands_out, turn_of, turns_of, counted, History, next, space_after}
+use Rattle.bd_laws.proofs.words.Laws.{is_out, out_on, In, Pairs, Waits, InTurn, IsInTurn}
 use Rattle.bd_laws.proofs.Lists.{in-filter, any-found, in-filter_map, pairs-map, pairs-filter}
-use Rattle.bd_laws.proofs.Tests.{both, same-eq, eq-same, and_then-ok}
+use Rattle.bd_laws.proofs.Tests.{both, same-eq, eq-same}
+use Rattle.bd_laws.proofs.Checks.{reply-checked}
 use Rattle.bd_laws.proofs.Machine.EveryStep.{Keeps, every_step, every_list}
 use Rattle.bd_laws.proofs.IsInTurn.OneWay
 use Rattle.bd_laws.proofs.IsInTurn.OneWay.{Less, HandsNothing, less_table, less_exits, less_closes, in_turn-less, more-steps}
 use Rattle.bd_laws.proofs.Machine.Table.{keeps-by}
 use Rattle.bd_laws.proofs.IsInTurn.Ripening.{ripen-in_turn, read-in_turn, turn-parts}
-
--- ---- a reply is no one-way call
-
-one_way_of : Result Delivery Cause → Bool
-one_way_of (Ok v) = v.one_way
-one_way_of (Err c) = false
-
-pub reply-two_way : (s : Space) (a : Actor) (d : TransactionData) (parcel : Option Parcel) (f : Frame) (v : Delivery) → reply_check s a d parcel f ≡ Ok v → v.one_way ≡ false
-unfolding reply_check one_way_of
-reply-two_way s a d parcel f v h =
-    let p = and_then-ok (found_or (caller_of s f) CallerGone) (reply_sent_to s a d parcel) v h in
-    let q = and_then-ok (sending_of s a.process.made d parcel) (reply_placed s d p.0) v p.2 in
-    let r = and_then-ok (start_for p.0.process.window (buffers_of s.buffers p.0.process.made) false (needed d.data_size d.offsets_size)) _ v q.2 in
-    sym (ap one_way_of r.2)
 
 -- ---- every step
 
@@ -36,7 +22,7 @@ kept s seat x h =
     let now : Turning s = more-steps s.steps (suc s.steps) s.buffers s.todo (omega arith) h in
     keeps-by Less HandsNothing less_table s seat x Turning (λ z l. in_turn-less z s l now) less_exits less_closes in_turn-less (λ r. refl) (λ r. refl) (record {
       transacts = λ a d parcel v e i t. OneWay.transacted-in_turn s a d v h;
-      replies = λ a d parcel f v e i g t. OneWay.replied-in_turn s a d f v (reply-two_way s a d parcel f v t) h;
+      replies = λ a d parcel f v e i g t. OneWay.replied-in_turn s a d f v (reply-checked s a d parcel f v t).one_way h;
       reads = λ a limit e i n. read-in_turn s a.thread a.thread.seat _ now;
       ripens = λ z. ripen-in_turn z;
     })
@@ -63,23 +49,11 @@ abbrev pub Alone : List Work → Turn → Turn → Type 0
 Alone todo t u = is_out todo u ≡ true → same t.target u.target ≡ true → ⊥
 
 pub is_call-hands : (m : ℕ) (k : WorkKind) → is_call m k ≡ true → hands_out k ≡ Some m
-is_call-hands m (work.Call b) i = ap (λ n. Some n) (eqb-true b m i)
-is_call-hands m _ i = absurd (cc)
-
-out-of : (todo : List Work) (c : Buffer) (u : Turn) → turn_of c ≡ Some u → is_out todo u ≡ true → Out todo c
-out-of todo c u e h = let p = turn-parts c u e in either u.handed p.0 p.2 refl h
-  where
-    either : (b : Bool) → u.made ≡ c.made → u.handed ≡ c.handed → u.handed ≡ b → (b || list_any (λ (w : Work). is_call u.made w.kind) todo) ≡ true → Out todo c
-    either true made handed k g = inl (sym handed ∙ k)
-    either false made handed k g =
-        let w = any-found (λ (w : Work). is_call u.made w.kind) todo g in
-        inr (w.0, w.1, is_call-hands u.made w.0.kind w.2 ∙ ap (λ m. Some m) made)
+is_call-hands m k i = search (arith, eqb-true)
 
 alone-cons : (todo : List Work) (o : Option Turn) (b : Buffer) (bs : List Buffer) → turn_of b ≡ o → ((c : Buffer) → In c bs → Waits todo b c)
     → Pairs (Alone todo) (turns_of bs) → Pairs (Alone todo) (cons_option o (turns_of bs))
-alone-cons todo None b bs e h k = k
-alone-cons todo (Some t) b bs e h k =
-    ((λ u l. λ out rival. let c = in-filter_map turn_of u bs l in (h c.0 c.1).alone (out-of todo c.0 u c.2 out) (t, u, e, c.2, rival)), k)
+alone-cons todo o b bs e h k = search (arith, in-filter_map, turn-parts, any-found, is_call-hands)
 
 pub turns-alone : (todo : List Work) (bs : List Buffer) → Pairs (Waits todo) bs → Pairs (Alone todo) (turns_of bs)
 turns-alone todo [] h = tt

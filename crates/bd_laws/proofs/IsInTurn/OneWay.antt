@@ -1,14 +1,14 @@
--- One-way calls whose buffers live: a buffer that is due or handed out has no older rival.
-use Rattle.bd_laws.proofs.words.Logic.{◌≡◌, ℕ, suc, ◌≤◌, ◌==◌, Bool, true, false, not, List, [], ◌∷◌, ◌++◌, Option, Some, None, ◌⊎◌, inl, inr, refl, ap, sym, subst, ◌∙◌, filter, arith, fold}
+-- For SpacesAreTidy and the laws of one-way calls: a buffer that is due or handed out has no older rival.
+use Rattle.bd_laws.proofs.words.Logic.{◌≡◌, ℕ, suc, ◌≤◌, ◌==◌, Bool, false, not, List, [], ◌∷◌, ◌++◌, Option, Some, None, ◌⊎◌, inl, inr, refl, ap, sym, subst, filter, arith, fold}
 use Rattle.bd_laws.proofs.words.Types.{Buffer, Work, Item, TodoList, WorkKind, Actor, Frame, OfThread, OfProcess, TransactionData}
-use Rattle.bd_laws.proofs.words.Space.{Space, with_work, hands_out, owe, is_on, is_notice, turn_of, follow, work_goes, still_due, assign_numbers, goes_to, closed, Delivery, delivered, own_notices, add_buffer, known_by, refer, make_objects, buffer_of, add_notice, withdraw_notice, transacted, called, call_out, replied, without_buffer, is_made_at, thread_goes, is_lost_with, without_process, tell_deaths, with_thread, with_looping, is_spam}
+use Rattle.bd_laws.proofs.words.Space.{Space, with_work, hands_out, owe, is_on, is_notice, turn_of, follow, work_goes, still_due, assign_numbers, closed, Delivery, delivered, own_notices, add_buffer, known_by, refer, make_objects, buffer_of, add_notice, withdraw_notice, transacted, call_out, replied, without_buffer, is_made_at, thread_goes, is_lost_with, without_process, tell_deaths, with_thread, with_looping}
 use Rattle.bd_space.specs.declared.space.WorkKind.TheVariants as work
 use Rattle.bd_laws.proofs.words.Laws.{In, Pairs, Due, Waits, InTurn}
 use Rattle.bd_laws.proofs.Lists.{in-push, in-filter, pairs-map, pairs-filter, pairs-push}
 use Rattle.bd_laws.proofs.Machine.Deaths.{OnDeaths}
 use Rattle.bd_laws.proofs.Machine.Adding.{own_notices-keeps}
 use Rattle.bd_laws.proofs.Machine.Table.{Table, Exits, Closing, followed-by, deaths-by, tell_deaths-by}
-use Rattle.bd_laws.proofs.Machine.Fields.{owe-steps, owe-buffers}
+use Rattle.bd_laws.proofs.Machine.Fields.{sent-steps}
 
 -- ---- a space with no more buffers, and no more that are due
 
@@ -21,16 +21,8 @@ pub record Less (z y : Space) : Type 0 where
 pub less-same : (z y : Space) → z.steps ≡ y.steps → z.buffers ≡ y.buffers → ((w : Work) (m : ℕ) → In w z.todo → hands_out w.kind ≡ Some m → In w y.todo) → Less z y
 less-same z y e d k = record { steps = e; buffers = λ b l. subst (In b) d l; pairs = λ todo h. subst (Pairs (Waits todo)) (sym d) h; due = k }
 
-pub less-refl : (z : Space) → Less z z
-less-refl z = less-same z z refl refl (λ w m l e. l)
-
 pub less-trans : (z y x : Space) → Less z y → Less y x → Less z x
-less-trans z y x h k = record {
-  steps = h.steps ∙ k.steps;
-  buffers = λ b l. k.buffers b (h.buffers b l);
-  pairs = λ todo p. h.pairs todo (k.pairs todo p);
-  due = λ w m l e. k.due w m (h.due w m l e) e;
-}
+less-trans z y x h k = search (arith, h.steps, k.steps, k.buffers, h.buffers, h.pairs, k.pairs, k.due, h.due)
 
 pub more-steps : (n m : ℕ) (bs : List Buffer) (todo : List Work) → n ≤ m → InTurn n bs todo → InTurn m bs todo
 more-steps n m bs todo le h = record {
@@ -56,19 +48,15 @@ in_turn-less z y l h =
 -- one work item more that hands nothing over
 pub with_work-less : (place : ℕ) (todo : List Work) (list : TodoList) (kind : WorkKind) → hands_out kind ≡ None
     → (w : Work) (m : ℕ) → In w (with_work place todo list kind) → hands_out w.kind ≡ Some m → In w todo
-with_work-less place todo list kind none w m l e =
-    elim (in-push w _ todo l) [ inl k ↦ k | inr is ↦ (let same_kind : kind ≡ w.kind = ap (λ (x : Work). x.kind) is in absurd (cc)) ]
+with_work-less place todo list kind none w m l e = search (arith, in-push)
 
 pub owe-less : (z : Space) (list : TodoList) (kind : WorkKind) → hands_out kind ≡ None → Less (owe z list kind) z
 unfolding owe
 owe-less z list kind none = less-same _ z refl refl (with_work-less z.steps z.todo list kind none)
 
 -- what still hands over was there
-abbrev Fewer : List Work → List Work → Type 0
+abbrev pub Fewer : List Work → List Work → Type 0
 Fewer less todo = (w : Work) (m : ℕ) → In w less → hands_out w.kind ≡ Some m → In w todo
-
-fewer-push : (place : ℕ) (all todo : List Work) (list : TodoList) (kind : WorkKind) → hands_out kind ≡ None → Fewer todo all → Fewer (with_work place todo list kind) all
-fewer-push place all todo list kind none k w m l e = k w m (with_work-less place todo list kind none w m l e) e
 
 -- ---- a new buffer
 
@@ -89,11 +77,7 @@ in_turn-push n bs todo more b h made handed k = record {
 
 -- a work item that hands over what is no one-way call
 due-push : (place : ℕ) (todo : List Work) (list : TodoList) (kind : WorkKind) (n : ℕ) → hands_out kind ≡ Some n → (m : ℕ) → Due (with_work place todo list kind) m → Due todo m ⊎ (m ≡ n)
-due-push place todo list kind n hands m d =
-    elim (in-push d.0 _ todo d.1) [
-      | inl k ↦ inl (d.0, k, d.2)
-      | inr is ↦ (let same_kind : kind ≡ d.0.kind = ap (λ (x : Work). x.kind) is in let e : hands_out kind ≡ Some m = ap hands_out same_kind ∙ d.2 in inr (cc))
-    ]
+due-push place todo list kind n hands m d = search (arith, in-push)
 
 pub in_turn-other : (place n : ℕ) (bs : List Buffer) (todo : List Work) (list : TodoList) (kind : WorkKind) → hands_out kind ≡ Some n
     → ((c : Buffer) → In c bs → c.made ≡ n → turn_of c ≡ None) → InTurn (suc n) bs todo → InTurn (suc n) bs (with_work place todo list kind)
@@ -119,82 +103,67 @@ pub own_notices-less : (z : Space) (seat : ℕ) (items : List Item) (w : Work) (
 unfolding own_notices
 own_notices-less z seat items =
     own_notices-keeps (λ todo. Fewer todo z.todo) z seat items (λ todo o k w m l. k w m (in-filter (λ (w : Work). not (is_notice o w.kind)) w todo l).0)
-    (λ todo o due. fewer-push z.steps z.todo todo (OfThread seat) (work.Notice o.id) refl) (λ w m l e. l)
+    (λ todo o due. search (arith, with_work-less)) (λ w m l e. l)
+
+pub delivered-due : (s : Space) (a : Actor) (d : TransactionData) (v : Delivery) → Fewer (delivered s a d v).todo s.todo
+unfolding delivered own_notices add_buffer known_by assign_numbers refer make_objects
+delivered-due s a d v = own_notices-less (add_buffer (known_by s v) (buffer_of (known_by s v) a d v)) a.thread.seat v.sending.items
+
+pub sent-due : (s : Space) (a : Actor) (d : TransactionData) (v : Delivery) (spam : Bool) → Fewer (owe (delivered s a d v) (OfThread a.thread.seat) (work.Complete spam)).todo s.todo
+sent-due s a d v spam w m l e = delivered-due s a d v w m ((owe-less (delivered s a d v) (OfThread a.thread.seat) (work.Complete spam) refl).due w m l e) e
 
 pub delivered-in_turn : (s : Space) (a : Actor) (d : TransactionData) (v : Delivery) → InTurn s.steps s.buffers s.todo
     → InTurn (suc (delivered s a d v).steps) (delivered s a d v).buffers (delivered s a d v).todo
 unfolding delivered own_notices add_buffer known_by assign_numbers refer make_objects
 delivered-in_turn s a d v h =
-    in_turn-push s.steps s.buffers _ s.todo (buffer_of (known_by s v) a d v) h refl refl
-    (λ m due. (due.0, own_notices-less (add_buffer (known_by s v) (buffer_of (known_by s v) a d v)) a.thread.seat v.sending.items due.0 m due.1 due.2, due.2))
+    in_turn-push s.steps s.buffers (delivered s a d v).todo s.todo (buffer_of (known_by s v) a d v) h refl refl
+    (λ m due. (due.0, delivered-due s a d v due.0 m due.1 due.2, due.2))
 
 -- the new buffer is no one-way call, if it isn't to be one
 abbrev pub NoTurn : ℕ → List Buffer → Type 0
 NoTurn n bs = (c : Buffer) → In c bs → c.made ≡ n → turn_of c ≡ None
 
-two-way : (b : Buffer) → b.one_way ≡ false → turn_of b ≡ None
-two-way b e = rw e refl
-
-delivered-no_turn : (s : Space) (a : Actor) (d : TransactionData) (v : Delivery) → InTurn s.steps s.buffers s.todo → v.one_way ≡ false → NoTurn s.steps (delivered s a d v).buffers
-unfolding delivered own_notices add_buffer known_by assign_numbers refer make_objects
-delivered-no_turn s a d v h one_way =
-    λ c l made. elim (in-push c _ s.buffers l) [
-      | inl k ↦ (let lt = h.below c k in absurd (omega arith))
-      | inr is ↦ subst (λ (x : Buffer). turn_of x ≡ None) is (two-way (buffer_of (known_by s v) a d v) one_way)
-    ]
-
-calls-out : (z : Space) (seat p n : ℕ) → z.steps ≡ n → NoTurn n z.buffers → InTurn (suc z.steps) z.buffers z.todo
+calls-out : (z : Space) (seat p : ℕ) → NoTurn z.steps z.buffers → InTurn (suc z.steps) z.buffers z.todo
     → InTurn (suc (call_out z seat p).steps) (call_out z seat p).buffers (call_out z seat p).todo
 unfolding call_out owe
-calls-out z seat p n e none h = in_turn-other z.steps z.steps z.buffers z.todo (goes_to z seat p) (work.Call z.steps) refl (λ c l made. none c l (made ∙ e)) h
+calls-out z seat p none h = search (arith, in_turn-other)
 
-delivered-steps : (s : Space) (a : Actor) (d : TransactionData) (v : Delivery) → (delivered s a d v).steps ≡ s.steps
-unfolding delivered own_notices add_buffer known_by assign_numbers refer make_objects
-delivered-steps s a d v = refl
+module _ (s : Space) (a : Actor) (d : TransactionData) (v : Delivery) (spam : Bool) (h : InTurn s.steps s.buffers s.todo) where
+  abbrev sent : Space
+  sent = owe (delivered s a d v) (OfThread a.thread.seat) (work.Complete spam)
 
-called-in_turn : (z : Space) (seat p : ℕ) (one_way : Bool) → (one_way ≡ false → NoTurn z.steps z.buffers) → InTurn (suc z.steps) z.buffers z.todo
-    → InTurn (suc (called z seat p one_way).steps) (called z seat p one_way).buffers (called z seat p one_way).todo
-called-in_turn z seat p true none h = h
-called-in_turn z seat p false none h = calls-out z seat p z.steps refl (none refl) h
+  sent-no_turn : v.one_way ≡ false → NoTurn sent.steps sent.buffers
+  unfolding owe delivered own_notices add_buffer known_by assign_numbers refer make_objects
+  sent-no_turn one_way c l made = elim (in-push c _ s.buffers l) [
+    | inl k ↦ (let lt = h.below c k in absurd (omega arith))
+    | inr is ↦ subst (λ (x : Buffer). turn_of x ≡ None) is (search arith)
+  ]
+
+  sent-in_turn : InTurn (suc sent.steps) sent.buffers sent.todo
+  sent-in_turn = in_turn-less sent (delivered s a d v) (owe-less (delivered s a d v) (OfThread a.thread.seat) (work.Complete spam) refl) (delivered-in_turn s a d v h)
 
 pub transacted-in_turn : (s : Space) (a : Actor) (d : TransactionData) (v : Delivery) → InTurn s.steps s.buffers s.todo
     → InTurn (suc (transacted s a d v).steps) (transacted s a d v).buffers (transacted s a d v).todo
 unfolding transacted
-transacted-in_turn s a d v h =
-    let z = delivered s a d v in
-    let y = owe z (OfThread a.thread.seat) (work.Complete (is_spam z a v)) in
-    called-in_turn y a.thread.seat v.receiver.made v.one_way
-    (λ e. subst (λ bs. NoTurn y.steps bs) (sym (owe-buffers z (OfThread a.thread.seat) (work.Complete (is_spam z a v))))
-    (subst (λ n. NoTurn n z.buffers) (sym (owe-steps z (OfThread a.thread.seat) (work.Complete (is_spam z a v)) ∙ delivered-steps s a d v)) (delivered-no_turn s a d v h e)))
-    (in_turn-less y z (owe-less z (OfThread a.thread.seat) (work.Complete (is_spam z a v)) refl) (delivered-in_turn s a d v h))
+transacted-in_turn s a d v h = search (arith, calls-out, sent-no_turn, sent-in_turn)
 
-answers : (z : Space) (caller : Option ℕ) (n : ℕ) → z.steps ≡ n → NoTurn n z.buffers → InTurn (suc z.steps) z.buffers z.todo
+answers : (n : ℕ) (z : Space) (caller : Option ℕ) → z.steps ≡ n → NoTurn z.steps z.buffers → InTurn (suc z.steps) z.buffers z.todo
     → (let y = elim caller as (λ (o : Option ℕ). Space) [ None ↦ z | Some t ↦ owe z (OfThread t) (work.Reply n) ] in InTurn (suc y.steps) y.buffers y.todo)
 unfolding owe
-answers z None n e none h = h
-answers z (Some t) n e none h = in_turn-other z.steps z.steps z.buffers z.todo (OfThread t) (work.Reply n) (ap (λ m. Some m) (sym e)) (λ c l made. none c l (made ∙ e)) h
+answers n z None e none h = h
+answers n z (Some t) e none h = in_turn-other z.steps z.steps z.buffers z.todo (OfThread t) (work.Reply n) (ap (λ m. Some m) (sym e)) none h
 
 pub replied-in_turn : (s : Space) (a : Actor) (d : TransactionData) (f : Frame) (v : Delivery) → v.one_way ≡ false → InTurn s.steps s.buffers s.todo
     → InTurn (suc (replied s a d f v).steps) (replied s a d f v).buffers (replied s a d f v).todo
 unfolding replied closed
 replied-in_turn s a d f v one_way h =
     let x = closed s f.made in
-    let z = delivered x a d v in
-    let y = owe z (OfThread a.thread.seat) (work.Complete false) in
-    let e : y.steps ≡ s.steps = owe-steps z (OfThread a.thread.seat) (work.Complete false) ∙ delivered-steps x a d v in
-    answers y f.caller s.steps e
-    (subst (λ bs. NoTurn s.steps bs) (sym (owe-buffers z (OfThread a.thread.seat) (work.Complete false))) (delivered-no_turn x a d v h one_way))
-    (in_turn-less y z (owe-less z (OfThread a.thread.seat) (work.Complete false) refl) (delivered-in_turn x a d v h))
+    answers s.steps (sent x a d v false h) f.caller (sent-steps x a d v false) (sent-no_turn x a d v false h one_way) (sent-in_turn x a d v false h)
 
 -- ---- what only goes
 
 filtered-less : (z y : Space) (p : Buffer → Bool) → z.steps ≡ y.steps → z.buffers ≡ filter p y.buffers → ((w : Work) (m : ℕ) → In w z.todo → hands_out w.kind ≡ Some m → In w y.todo) → Less z y
-filtered-less z y p e d k = record {
-  steps = e;
-  buffers = λ b l. (in-filter p b y.buffers (subst (In b) d l)).0;
-  pairs = λ todo h. subst (Pairs (Waits todo)) (sym d) (pairs-filter (Waits todo) p y.buffers h);
-  due = k;
-}
+filtered-less z y p e d k = search (arith, in-filter, pairs-filter)
 
 -- what hands nothing over
 abbrev pub HandsNothing : WorkKind → Type 0
@@ -203,7 +172,7 @@ HandsNothing kind = hands_out kind ≡ None
 pub less_table : Table Less HandsNothing
 unfolding with_thread with_looping without_buffer work_goes
 less_table = record {
-  same = less-refl;
+  same = search (arith, less-same);
   trans = less-trans;
   beside = λ z qs m os rs ns ds. less-same _ z refl refl (λ w n l e. l);
   seats = λ z seat p. less-same _ z refl refl (λ w m l e. l);

@@ -1,5 +1,6 @@
--- What lies between the space before a step and one within it: processes, objects and buffers, and what the step made of them.
-use Rattle.bd_laws.proofs.words.Logic.{◌≡◌, ℕ, ◌==◌, Bool, true, false, List, Some, ◌⊎◌, inl, inr, refl, ap, sym, subst, ◌∙◌}
+-- For SpacesAreTidy, and for the audit's laws of turns, names, gone objects and replies: within a step each process, object
+-- and buffer was there before, or the step made it.
+use Rattle.bd_laws.proofs.words.Logic.{arith, ◌≡◌, ℕ, ◌==◌, Bool, true, false, List, Some, ◌⊎◌, inl, inr, refl, subst, ◌∙◌}
 use Rattle.bd_laws.proofs.words.Types.{ObjectId, Process, Actor, Object, Buffer, Work, OfProcess}
 use Rattle.bd_laws.proofs.words.Space.{Space, actor, objects_go, stays_in, names_go, assign_numbers, hands_out, follow, notify, work_goes, deaths_go, ask, drop_asked, acknowledge, with_thread, with_process, with_manager, with_spam_detection}
 use Rattle.bd_laws.proofs.words.Laws.{In, Due, On, OnLists}
@@ -47,14 +48,7 @@ pub same-buffer : (s : Space) (b : Buffer) → Became s b b
 same-buffer s b = record { made = refl; receiver = refl; one_way = refl; target = refl; handed = inl refl }
 
 pub passed-none : (s : Space) → OnLists s → Passed s s
-passed-none s l = record {
-  steps = refl;
-  processes = λ q i. inl (q, i, refl);
-  objects = λ x i. inl (x, i, refl, refl);
-  from = λ c i. inl (c, i, same-buffer s c);
-  to = λ o b i on. inl (b, i, same-buffer s b);
-  lists = l;
-}
+passed-none s l = search (arith, same-buffer)
 
 -- ---- what comes later in the step
 
@@ -67,32 +61,35 @@ pub record After (z y : Space) : Type 0 where
   pub due : (w : Work) (m : ℕ) → In w z.todo → hands_out w.kind ≡ Some m → In w y.todo
 
 pub after-trans : (z y x : Space) → After z y → After y x → After z x
-after-trans z y x h k = record {
-  steps = h.steps ∙ k.steps;
-  processes = h.processes ∙ k.processes;
-  objects = λ o l. k.objects o (h.objects o l);
-  buffers = h.buffers ∙ k.buffers;
-  due = λ w m l e. k.due w m (h.due w m l e) e;
-}
+after-trans z y x h k = search (arith, h.steps, k.steps, h.processes, k.processes, k.objects, h.objects, h.buffers, k.buffers, k.due, h.due)
 
 pub untouched-after : (z y : Space) → Untouched z y → Less z y → After z y
 untouched-after z y u l = record { steps = u.steps; processes = u.processes; objects = λ x i. subst (In x) u.objects i; buffers = u.buffers; due = l.due }
 
-pub passed-after : (s z y : Space) → After z y → Passed s y → Passed s z
-passed-after s z y a h = record {
-  steps = a.steps ∙ h.steps;
-  processes = λ q i. h.processes q (subst (In q) a.processes i);
-  objects = λ x i. h.objects x (a.objects x i);
-  from = λ c i. h.from c (subst (In c) a.buffers i);
+-- what ends at most: nothing is made, and a buffer of a one-way call stays unless its receiver ends
+pub record Going (z y : Space) : Type 0 where
+  pub steps : z.steps ≡ y.steps
+  pub processes : (q : Process) → In q z.processes → In q y.processes
+  pub objects : (x : Object) → In x z.objects → In x y.objects
+  pub buffers : (c : Buffer) → In c z.buffers → In c y.buffers
+  pub stays : (o : ObjectId) (c : Buffer) → In c y.buffers → On o c → In c z.buffers ⊎ Ended z c.receiver
+
+pub going-passed : (s z y : Space) → Going z y → OnLists z → Passed s y → Passed s z
+going-passed s z y g l h = record {
+  steps = g.steps ∙ h.steps;
+  processes = λ q i. h.processes q (g.processes q i);
+  objects = λ x i. h.objects x (g.objects x i);
+  from = λ c i. h.from c (g.buffers c i);
   to = λ o b i on. elim (h.to o b i on) [
-    | inl c ↦ inl (c.0, subst (In c.0) (sym a.buffers) c.1, c.2)
-    | inr k ↦ inr (elim k [
-      | inl t ↦ inl t
-      | inr e ↦ inr (record { process = λ q. e.process (q.0, subst (In q.0) a.processes q.1, q.2); buffers = λ c j. e.buffers c (subst (In c) a.buffers j) })
-    ])
+    | inl c ↦ elim (g.stays o c.0 c.1 (c.2.one_way ∙ on.0, c.2.target ∙ on.1)) [ inl k ↦ inl (c.0, k, c.2) | inr e ↦ inr (inr (subst (Ended z) c.2.receiver e)) ]
+    | inr (inl t) ↦ inr (inl t)
+    | inr (inr e) ↦ inr (inr (record { process = λ q. e.process (q.0, g.processes q.0 q.1, q.2); buffers = λ c j. e.buffers c (g.buffers c j) }))
   ];
-  lists = λ w c o i e j on. h.lists w c o (a.due w c.made i e) e (subst (In c) a.buffers j) on;
+  lists = l;
 }
+
+pub passed-after : (s z y : Space) → After z y → Passed s y → Passed s z
+passed-after s z y a h = going-passed s z y (search (arith, a.steps, a.processes, a.objects, a.buffers)) (λ w c o i e j on. h.lists w c o (a.due w c.made i e) e (subst (In c) a.buffers j) on) h
 
 -- ---- asking and dropping, which touch references and names alone
 
@@ -122,41 +119,18 @@ follow-after = follow-by After after-trans (record {
 
 pub opened-passed : (s : Space) (seat pid euid window : ℕ) → OnLists s → Passed s (with_thread (with_process s pid euid window) seat s.steps)
 unfolding with_thread with_process
-opened-passed s seat pid euid window l =
-    let h = passed-none s l in
-    record {
-      steps = refl;
-      processes = λ q i. elim (in-push q _ s.processes i) [ inl k ↦ inl (q, k, refl) | inr e ↦ inr (sym (ap (λ (x : Process). x.made) e)) ];
-      objects = h.objects;
-      from = h.from;
-      to = λ o b i on. inl (b, i, same-buffer s b);
-      lists = l;
-    }
+opened-passed s seat pid euid window l = search (arith, passed-none, in-push, same-buffer)
 
 pub attached-passed : (s : Space) (seat p : ℕ) → OnLists s → Passed s (with_thread s seat p)
 unfolding with_thread
-attached-passed s seat p l =
-    let h = passed-none s l in
-    record { steps = refl; processes = h.processes; objects = h.objects; from = h.from; to = λ o b i on. inl (b, i, same-buffer s b); lists = l }
+attached-passed s seat p l = search (arith, passed-none, same-buffer)
 
 pub actor-alive : (s : Space) (seat : ℕ) (a : Actor) → actor s seat ≡ Some a → Lives s.processes a.process.made
 actor-alive s seat a h = let l = find-in (λ (q : Process). q.made == a.thread.process) a.process s.processes (actor-lives s seat a h).1 in (a.process, l.0, refl)
 
 pub managed-passed : (s : Space) (seat : ℕ) (a : Actor) → actor s seat ≡ Some a → OnLists s → Passed s (with_manager s a.process.made)
 unfolding with_manager
-managed-passed s seat a acts l =
-    let h = passed-none s l in
-    record {
-      steps = refl;
-      processes = h.processes;
-      objects = λ x i. elim (in-push x _ s.objects i) [
-        | inl k ↦ inl (x, k, refl, refl)
-        | inr e ↦ inr (sym (ap (λ (y : Object). y.id.place) e), subst (Lives s.processes) (ap (λ (y : Object). y.owner) e) (actor-alive s seat a acts))
-      ];
-      from = h.from;
-      to = λ o b i on. inl (b, i, same-buffer s b);
-      lists = l;
-    }
+managed-passed s seat a acts l = search (arith, passed-none, in-push, actor-alive, same-buffer)
 
 pub marked-passed : (s : Space) (p : ℕ) (on : Bool) → OnLists s → Passed s (with_spam_detection s p on)
 unfolding with_spam_detection

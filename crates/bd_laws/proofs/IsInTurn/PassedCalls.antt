@@ -1,42 +1,43 @@
--- What transactions, replies, freeing and readings leave of processes, objects and buffers, and what they make.
-use Rattle.bd_laws.proofs.words.Logic.{◌≡◌, ℕ, ◌==◌, Bool, true, false, cond, not, List, [], ◌∷◌, Option, Some, None, Ok, ◌⊎◌, inl, inr, refl, ap, sym, subst, ◌∙◌, filter, arith, list_any, eqb-true}
+-- For SpacesAreTidy and the audit's laws: what transactions, replies, freeing and readings leave of processes, objects and
+-- buffers, and what they make.
+use Rattle.bd_laws.proofs.words.Logic.{◌≡◌, ℕ, ◌==◌, Bool, true, false, cond, [], ◌∷◌, Option, Some, None, Ok, inl, inr, refl, ap, sym, subst, ◌∙◌, arith, eqb-true, List}
 use Rattle.bd_laws.proofs.words.Types.{TransactionData, ObjectId, Parcel, Process, Thread, Actor, Frame, Object, Buffer, Work, TodoList, OfThread, OfProcess, WorkKind}
-use Rattle.bd_laws.proofs.words.Space.{Space, actor, assign_numbers, owe, with_work, hands_out, list_to_read, is_item, closed, goes_to, Delivery, delivered, own_notices, add_buffer, known_by, refer, make_objects, buffer_of, transaction_check, transacted, called, call_out, reply_check, replied, without_buffer, is_made_at, taken, read_by, buffer_taken, hand_out, handed_buffers, told_of, is_told_by, is_spam}
+use Rattle.bd_laws.proofs.words.Space.{Space, actor, assign_numbers, owe, with_work, hands_out, list_to_read, closed, goes_to, Delivery, delivered, own_notices, add_buffer, known_by, refer, make_objects, buffer_of, transaction_check, transacted, called, call_out, reply_check, replied, without_buffer, is_made_at, taken, read_by, hand_out, handed_buffers, is_spam}
 use Rattle.bd_space.specs.declared.space.WorkKind.TheVariants as work
-use Rattle.bd_laws.proofs.words.Laws.{In, Due, Waits, InTurn, On, OnLists}
+use Rattle.bd_laws.proofs.words.Laws.{In, Due, InTurn, On, OnLists}
 use Rattle.bd_laws.proofs.Lists.{in-left, in-append, in-push, in-filter, filter-in, in-changed, changed-in, find-in, pairs-either}
 use Rattle.bd_laws.proofs.Tests.{not-false}
 use Rattle.bd_laws.proofs.IsInTurn.OneWay
-use Rattle.bd_laws.proofs.IsInTurn.OneWay.{less_table, less_exits, less_closes, HandsNothing, Less}
+use Rattle.bd_laws.proofs.IsInTurn.Pushed.{with-each}
 use Rattle.bd_laws.proofs.IsInTurn.Ripening.{taken-due, read-in}
 use Rattle.bd_laws.proofs.Machine.Untouched
 use Rattle.bd_laws.proofs.Machine.Untouched.{Untouched}
 use Rattle.bd_laws.proofs.Sendings.{Made, sending-sends}
 use Rattle.bd_laws.proofs.Checks.{Owned, transaction-checked, reply-checked}
-use Rattle.bd_laws.proofs.IsInTurn.Passed.{Lives, Became, New, Ended, Passed, same-buffer, passed-none, After, untouched-after, passed-after, actor-alive}
+use Rattle.bd_laws.proofs.IsInTurn.Passed.{Lives, Became, New, Passed, same-buffer, passed-none, After, untouched-after, passed-after, Going, going-passed, actor-alive}
 
 -- ---- transactions and replies
 
-pub delivered-passed : (s : Space) (a : Actor) (d : TransactionData) (v : Delivery) → InTurn s.steps s.buffers s.todo → OnLists s → Lives s.processes a.process.made
+pub delivered-passed : (s : Space) (fs : List Frame) (a : Actor) (d : TransactionData) (v : Delivery) → InTurn s.steps s.buffers s.todo → OnLists s → Lives s.processes a.process.made
     → Made s a.process.made v.sending.made
     → ((o : ObjectId) → v.one_way ≡ true → v.target ≡ Some o → (x : Object) × In x s.objects × (x.id ≡ o) × (x.owner ≡ v.receiver.made) × Lives s.processes x.owner)
-    → Passed s (delivered s a d v)
+    → Passed s (delivered (record s { frames = fs }) a d v)
 unfolding delivered own_notices add_buffer known_by assign_numbers refer make_objects
-delivered-passed s a d v turns l lives made owned = record {
+delivered-passed s fs a d v turns l lives made owned = record {
   steps = refl;
   processes = λ q i. inl (q, i, refl);
   objects = λ x i. elim (in-append x s.objects v.sending.made i) [
     | inl k ↦ inl (x, k, refl, refl)
     | inr k ↦ inr (made.place x k, subst (Lives s.processes) (sym (made.owner x k)) lives)
   ];
-  from = λ c i. elim (in-push c (buffer_of (known_by s v) a d v) s.buffers i) [
+  from = λ c i. elim (in-push c (buffer_of (known_by (record s { frames = fs }) v) a d v) s.buffers i) [
     | inl k ↦ inl (c, k, same-buffer s c)
     | inr e ↦ inr (subst (New s) e (record { made = refl; handed = refl; owned = λ o on. owned o on.0 on.1 }))
   ];
-  to = λ o b i on. inl (b, in-left b s.buffers (buffer_of (known_by s v) a d v ∷ []) i, same-buffer s b);
+  to = λ o b i on. inl (b, in-left b s.buffers (buffer_of (known_by (record s { frames = fs }) v) a d v ∷ []) i, same-buffer s b);
   lists = λ w c o i e j on.
-      let old = OneWay.own_notices-less (add_buffer (known_by s v) (buffer_of (known_by s v) a d v)) a.thread.seat v.sending.items w c.made i e in
-      elim (in-push c (buffer_of (known_by s v) a d v) s.buffers j) [
+      let old = OneWay.delivered-due (record s { frames = fs }) a d v w c.made i e in
+      elim (in-push c (buffer_of (known_by (record s { frames = fs }) v) a d v) s.buffers j) [
         | inl k ↦ l w c o old e k on
         | inr is ↦ (let lt = turns.fresh c.made (w, old, e) in let m : s.steps ≡ c.made = ap (λ (x : Buffer). x.made) is in absurd (omega arith))
       ];
@@ -46,26 +47,11 @@ delivered-passed s a d v turns l lives made owned = record {
 handing : (s z : Space) (place : ℕ) (list : TodoList) (kind : WorkKind) (n : ℕ) → hands_out kind ≡ Some n → ((c : Buffer) (o : ObjectId) → In c z.buffers → c.made ≡ n → On o c → ⊥) → OnLists z
     → (w : Work) (c : Buffer) (o : ObjectId) → In w (with_work place z.todo list kind) → hands_out w.kind ≡ Some c.made → In c z.buffers → On o c → w.list ≡ OfProcess c.receiver
 handing s z place list kind n hands none l w c o i e j on =
-    elim (in-push w _ z.todo i) [
-      | inl k ↦ l w c o k e j on
-      | inr is ↦ (let k : kind ≡ w.kind = ap (λ (x : Work). x.kind) is in let f : hands_out kind ≡ Some c.made = ap hands_out k ∙ e in absurd (none c o j (cc) on))
-    ]
+    with-each place z.todo list kind (λ w. hands_out w.kind ≡ Some c.made → w.list ≡ OfProcess c.receiver) (λ w k e. l w c o k e j on)
+    (λ i e. absurd (none c o j (let f : Some n ≡ Some c.made = sym hands ∙ e in cc) on)) w i e
 
-pub replace-lists : (s z y : Space) → z.steps ≡ y.steps → z.processes ≡ y.processes → z.objects ≡ y.objects → z.buffers ≡ y.buffers → OnLists z → Passed s y → Passed s z
-replace-lists s z y e p x b l h = record {
-  steps = e ∙ h.steps;
-  processes = λ q i. h.processes q (subst (In q) p i);
-  objects = λ o i. h.objects o (subst (In o) x i);
-  from = λ c i. h.from c (subst (In c) b i);
-  to = λ o c i on. elim (h.to o c i on) [
-    | inl d ↦ inl (d.0, subst (In d.0) (sym b) d.1, d.2)
-    | inr k ↦ inr (elim k [
-      | inl t ↦ inl t
-      | inr f ↦ inr (record { process = λ q. f.process (q.0, subst (In q.0) p q.1, q.2); buffers = λ d j. f.buffers d (subst (In d) b j) })
-    ])
-  ];
-  lists = l;
-}
+pub same-going : (z y : Space) → z.steps ≡ y.steps → z.processes ≡ y.processes → z.objects ≡ y.objects → z.buffers ≡ y.buffers → Going z y
+same-going z y e p x b = search arith
 
 -- no one-way call is made by this step
 abbrev pub NoneNew : Space → Type 0
@@ -74,7 +60,7 @@ NoneNew z = (c : Buffer) (o : ObjectId) → In c z.buffers → c.made ≡ z.step
 call_out-passed : (s z : Space) (seat p : ℕ) → NoneNew z → Passed s z → Passed s (call_out z seat p)
 unfolding call_out owe
 call_out-passed s z seat p none h =
-    replace-lists s _ z refl refl refl refl (handing s z z.steps (goes_to z seat p) (work.Call z.steps) z.steps refl none h.lists) h
+    going-passed s _ z (same-going _ z refl refl refl refl) (handing s z z.steps (goes_to z seat p) (work.Call z.steps) z.steps refl none h.lists) h
 
 called-passed : (s z : Space) (seat p : ℕ) (one_way : Bool) → (one_way ≡ false → NoneNew z) → Passed s z → Passed s (called z seat p one_way)
 called-passed s z seat p true none h = h
@@ -85,7 +71,7 @@ reply_out-passed : (s z : Space) (caller : Option ℕ) → z.steps ≡ s.steps �
 unfolding owe
 reply_out-passed s z None e none h = h
 reply_out-passed s z (Some t) e none h =
-    replace-lists s _ z refl refl refl refl (handing s z z.steps (OfThread t) (work.Reply s.steps) z.steps (ap (λ n. Some n) (sym e)) none h.lists) h
+    going-passed s _ z (same-going _ z refl refl refl refl) (handing s z z.steps (OfThread t) (work.Reply s.steps) z.steps (ap (λ n. Some n) (sym e)) none h.lists) h
 
 -- the new buffer of a two-way call or a reply is no one-way call
 none-new : (s : Space) (a : Actor) (d : TransactionData) (v : Delivery) → InTurn s.steps s.buffers s.todo → v.one_way ≡ false → NoneNew (delivered s a d v)
@@ -118,87 +104,31 @@ transacted-passed s seat a d parcel v turns l acts check =
     let y = owe z (OfThread a.thread.seat) (work.Complete (is_spam z a v)) in
     let done = owe-after z (OfThread a.thread.seat) (work.Complete (is_spam z a v)) refl in
     called-passed s y a.thread.seat v.receiver.made v.one_way (λ e. none-after y z done (none-new s a d v turns e))
-    (passed-after s y z done (delivered-passed s a d v turns l (actor-alive s seat a acts) sends.makes
+    (passed-after s y z done (delivered-passed s s.frames a d v turns l (actor-alive s seat a acts) sends.makes
     (λ o e f. let is : t.object ≡ o = (let g = t.target in cc) in owned-by s o v.receiver (subst (λ x. Owned s x v.receiver) is t.owned))))
-
-closed-lists : (s : Space) (made : ℕ) → OnLists s → OnLists (closed s made)
-unfolding closed
-closed-lists s made l = l
-
-closed-turns : (s : Space) (made : ℕ) → InTurn s.steps s.buffers s.todo → InTurn (closed s made).steps (closed s made).buffers (closed s made).todo
-unfolding closed
-closed-turns s made h = h
-
-closed-made : (s : Space) (made p : ℕ) (objects : List Object) → Made s p objects → Made (closed s made) p objects
-unfolding closed
-closed-made s made p objects h = record { place = h.place; index = h.index; owner = h.owner; untold = h.untold; in_order = h.in_order }
-
-closed-back : (s z : Space) (made : ℕ) → Passed (closed s made) z → Passed s z
-unfolding closed
-closed-back s z made h = record {
-  steps = h.steps;
-  processes = h.processes;
-  objects = h.objects;
-  from = λ c i. elim (h.from c i) [
-    | inl b ↦ inl (b.0, b.1, became b.0 c b.2)
-    | inr n ↦ inr (record { made = n.made; handed = n.handed; owned = n.owned })
-  ];
-  to = λ o b i on. elim (h.to o b i on) [ inl c ↦ inl (c.0, c.1, became b c.0 c.2) | inr k ↦ inr k ];
-  lists = h.lists;
-}
-  where
-    became : (b c : Buffer) → Became (closed s made) b c → Became s b c
-    became b c k = record { made = k.made; receiver = k.receiver; one_way = k.one_way; target = k.target; handed = k.handed }
-
-closed-alive : (s : Space) (made p : ℕ) → Lives s.processes p → Lives (closed s made).processes p
-unfolding closed
-closed-alive s made p l = l
 
 pub replied-passed : (s : Space) (seat : ℕ) (a : Actor) (d : TransactionData) (parcel : Option Parcel) (f : Frame) (v : Delivery) → InTurn s.steps s.buffers s.todo → OnLists s
     → actor s seat ≡ Some a → reply_check s a d parcel f ≡ Ok v → Passed s (replied s a d f v)
-unfolding replied
+unfolding replied closed
 replied-passed s seat a d parcel f v turns l acts check =
     let t = reply-checked s a d parcel f v check in
     let sends = sending-sends s a.process.made d parcel v.sending t.sends in
-    let x = closed s f.made in
-    let z = delivered x a d v in
+    let z = delivered (closed s f.made) a d v in
     let y = owe z (OfThread a.thread.seat) (work.Complete false) in
     let done = owe-after z (OfThread a.thread.seat) (work.Complete false) refl in
-    let whole = passed-after s y z done (closed-back s z f.made (delivered-passed x a d v (closed-turns s f.made turns) (closed-lists s f.made l)
-    (closed-alive s f.made a.process.made (actor-alive s seat a acts)) (closed-made s f.made a.process.made v.sending.made sends.makes) (λ o e g. let no_target = t.target in absurd (cc)))) in
-    reply_out-passed s y f.caller whole.steps (none-after y z done (none-new x a d v (closed-turns s f.made turns) t.one_way)) whole
+    let whole = passed-after s y z done (delivered-passed s (closed s f.made).frames a d v turns l (actor-alive s seat a acts) sends.makes (λ o e g. let no_target = t.target in absurd (cc))) in
+    reply_out-passed s y f.caller whole.steps (none-after y z done (none-new (closed s f.made) a d v turns t.one_way)) whole
 
 -- ---- freeing
 
 pub freed-passed : (s : Space) (b : Buffer) → InTurn s.steps s.buffers s.todo → OnLists s → In b s.buffers → b.handed ≡ true → Passed s (without_buffer s b.made)
 unfolding without_buffer
-freed-passed s b turns l here handed =
-    let p = λ (c : Buffer). not (is_made_at b.made c) in
-    let h = passed-none s l in
-    record {
-      steps = refl;
-      processes = h.processes;
-      objects = h.objects;
-      from = λ c i. h.from c (in-filter p c s.buffers i).0;
-      to = λ o c i on. gone o c i on (is_made_at b.made c) refl;
-      lists = λ w c o i e j on. l w c o i e (in-filter p c s.buffers j).0 on;
-    }
-  where
-    gone : (o : ObjectId) (c : Buffer) → In c s.buffers → On o c → (t : Bool) → is_made_at b.made c ≡ t
-        → ((d : Buffer) × In d (filter (λ (c : Buffer). not (is_made_at b.made c)) s.buffers) × Became s c d) ⊎ ((c.handed ≡ true) ⊎ Ended (without_buffer s b.made) c.receiver)
-    gone o c i on true e =
-        let made = eqb-true c.made b.made e in
-        inr (inl (elim (pairs-either (Waits s.todo) s.buffers turns.waits c b i here) [
-          | inl is ↦ ap (λ (x : Buffer). x.handed) is ∙ handed
-          | inr k ↦ elim k [ inl w ↦ (let lt = w.earlier in absurd (omega arith)) | inr w ↦ (let lt = w.earlier in absurd (omega arith)) ]
-        ]))
-    gone o c i on false e = inl (c, filter-in (λ (c : Buffer). not (is_made_at b.made c)) c s.buffers i (not-false (is_made_at b.made c) e), same-buffer s c)
+freed-passed s b turns l here handed = search (arith, passed-none, in-filter, eqb-true, pairs-either, filter-in, not-false, same-buffer)
 
 -- ---- reading
 
 handed-became : (s : Space) (made : ℕ) (b : Buffer) → Due s.todo made → (t : Bool) → is_made_at made b ≡ t → Became s b (cond t (hand_out b) b)
-handed-became s made b due true e = record { made = refl; receiver = refl; one_way = refl; target = refl; handed = inr (refl, subst (Due s.todo) (sym (eqb-true b.made made e)) due) }
-handed-became s made b due false e = same-buffer s b
+handed-became s made b due t e = search (arith, eqb-true, same-buffer)
 
 handed-from : (s : Space) (o : Option Buffer) → ((b : Buffer) → o ≡ Some b → Due s.todo b.made) → (c : Buffer) → In c (handed_buffers s.buffers o) → (b : Buffer) × In b s.buffers × Became s b c
 handed-from s None due c i = (c, i, same-buffer s c)
@@ -211,26 +141,6 @@ handed-to s None due b i = (b, i, same-buffer s b)
 handed-to s (Some x) due b i =
     (cond (is_made_at x.made b) (hand_out b) b, changed-in (is_made_at x.made) hand_out b s.buffers i, handed-became s x.made b (due x refl) (is_made_at x.made b) refl)
 
-told-same : (s : Space) (b : Bool) (x : Object) → ((cond b (told_of s.references x) x).id ≡ x.id) × ((cond b (told_of s.references x) x).owner ≡ x.owner)
-told-same s true x = (refl, refl)
-told-same s false x = (refl, refl)
-
 pub read-passed : (s : Space) (t : Thread) (seat left : ℕ) → OnLists s → Passed s (read_by s seat (taken s left (list_to_read s t)))
 unfolding read_by
-read-passed s t seat left l =
-    let ws = taken s left (list_to_read s t) in
-    let due : (b : Buffer) → buffer_taken s ws ≡ Some b → Due s.todo b.made = λ b e. (let d = (taken-due s ws b e).1 in (d.0, read-in s t left d.0 d.1, d.2)) in
-    record {
-      steps = refl;
-      processes = λ q i. inl (q, i, refl);
-      objects = λ x i.
-          let z = in-changed (λ (x : Object). is_told_by ws x.id) (told_of s.references) x s.objects i in
-          let k = told-same s (is_told_by ws z.0.id) z.0 in
-          inl (z.0, z.1, ap (λ (y : Object). y.id) z.2 ∙ k.0, ap (λ (y : Object). y.owner) z.2 ∙ k.1);
-      from = λ c i. inl (handed-from s (buffer_taken s ws) due c i);
-      to = λ o b i on. inl (handed-to s (buffer_taken s ws) due b i);
-      lists = λ w c o i e j on.
-          let b = handed-from s (buffer_taken s ws) due c j in
-          let k = (in-filter (λ (w : Work). not (list_any (λ (d : Work). is_item w d) ws)) w s.todo i).0 in
-          l w b.0 o k (e ∙ ap (λ m. Some m) b.2.made) b.1 (sym b.2.one_way ∙ on.0, sym b.2.target ∙ on.1) ∙ ap OfProcess (sym b.2.receiver);
-    }
+read-passed s t seat left l = search (arith, taken-due, read-in, in-changed, handed-from, handed-to, in-filter)

@@ -1,21 +1,23 @@
--- What a step leaves of processes, objects and buffers, and what it makes.
-use Rattle.bd_laws.proofs.words.Logic.{◌≡◌, ℕ, ◌<◌, ◌==◌, Bool, true, false, cond, not, ◌&&◌, List, [], ◌∷◌, ◌++◌, Option, Some, None, ◌⊎◌, inl, inr, refl, ap, sym, ◌∙◌, map, filter, arith, fold, eqb-true, eq-eqb}
-use Rattle.bd_laws.proofs.words.Types.{ObjectId, Step, Entry, Process, Thread, Buffer, Turn, Work, TodoList, OfThread, OfProcess}
-use Rattle.bd_laws.proofs.words.Space.{is_some_and, Space, with_work, hands_out, is_on, closed, turn_of, turns_of, is_ripe, ripened, ripen, follow, is_buffer_at, buffer_at_pointer, thread_goes, is_lost_with, threads_go, without_process, tell_deaths, seat_of, change}
+-- For SpacesAreTidy and the audit's laws: what a step leaves of processes, objects and buffers, and what it makes.
+use Rattle.bd_laws.proofs.words.Logic.{suc, ◌≡◌, ℕ, ◌==◌, Bool, true, false, cond, not, List, [], ◌∷◌, ◌++◌, Some, ◌⊎◌, inl, inr, refl, ap, sym, ◌∙◌, filter, arith, eqb-true, eq-eqb}
+use Rattle.bd_laws.proofs.words.Types.{ObjectId, Step, Entry, Process, Buffer, Turn, Work, TodoList, OfThread, OfProcess}
+use Rattle.bd_laws.proofs.words.Space.{Space, with_work, hands_out, is_on, closed, turn_of, turns_of, is_ripe, ripened, ripen, follow, is_buffer_at, buffer_at_pointer, thread_goes, is_lost_with, threads_go, without_process, tell_deaths, change}
 use Rattle.bd_space.specs.declared.space.WorkKind.TheVariants as work
-use Rattle.bd_laws.proofs.words.Laws.{In, Pairs, Waits, InTurn, On, OnLists}
-use Rattle.bd_laws.proofs.Lists.{in-push, in-filter, filter-in, any-found, find-in, in-filter_map, pairs-either, pairs-map}
-use Rattle.bd_laws.proofs.Tests.{both, not-true, not-false}
+use Rattle.bd_laws.proofs.words.Laws.{In, InTurn, On, OnLists}
+use Rattle.bd_laws.proofs.Lists.{in-filter, filter-in, any-found, find-in, in-filter_map}
+use Rattle.bd_laws.proofs.Tests.{not-true}
 use Rattle.bd_laws.proofs.Machine.EveryStep.{Keeps, every_step}
+use Rattle.bd_laws.proofs.Machine.Following.{threads-keep}
 use Rattle.bd_laws.proofs.IsInTurn.OneWay
-use Rattle.bd_laws.proofs.IsInTurn.OneWay.{less_table, less_exits, less_closes, HandsNothing, Less}
-use Rattle.bd_laws.proofs.IsInTurn.Ripening.{turn-parts}
+use Rattle.bd_laws.proofs.IsInTurn.OneWay.{less_table, less_closes, Less}
+use Rattle.bd_laws.proofs.IsInTurn.Ripening.{turn-parts, one-made}
+use Rattle.bd_laws.proofs.IsInTurn.Pushed.{with-each}
 use Rattle.bd_laws.proofs.IsInTurn.InTurn.{Turning, kept}
 use Rattle.bd_laws.proofs.Machine.Untouched
 use Rattle.bd_laws.proofs.Machine.Untouched.{Untouched}
 use Rattle.bd_laws.proofs.Machine.Deaths.{on-mapped, on-both, on-commands}
-use Rattle.bd_laws.proofs.IsInTurn.PassedCalls.{replace-lists, transacted-passed, replied-passed, freed-passed, read-passed}
-use Rattle.bd_laws.proofs.IsInTurn.Passed.{Became, Ended, Passed, passed-none, After, untouched-after, passed-after, ask-after, drop_asked-after, acknowledge-after, follow-after, opened-passed, attached-passed, managed-passed, marked-passed}
+use Rattle.bd_laws.proofs.IsInTurn.PassedCalls.{same-going, transacted-passed, replied-passed, freed-passed, read-passed}
+use Rattle.bd_laws.proofs.IsInTurn.Passed.{Ended, Passed, Going, going-passed, passed-none, After, untouched-after, passed-after, ask-after, drop_asked-after, acknowledge-after, follow-after, opened-passed, attached-passed, managed-passed, marked-passed}
 
 -- ---- ripening
 
@@ -23,131 +25,71 @@ pub on-turn : (o : ObjectId) (b : Buffer) → On o b → turn_of b ≡ Some (rec
 on-turn o b on = rw (on.0, on.1) refl
 
 -- a one-way call that ripens stands on its receiver's list
-ripened-lists : (place : ℕ) (bs : List Buffer) (older ts : List Turn) (todo : List Work) → Pairs (λ (b c : Buffer). b.made < c.made) bs
-    → ((t : Turn) → In t ts → (b : Buffer) × In b bs × (turn_of b ≡ Some t))
-    → ((w : Work) (c : Buffer) (o : ObjectId) → In w todo → hands_out w.kind ≡ Some c.made → In c bs → On o c → w.list ≡ OfProcess c.receiver)
-    → (w : Work) (c : Buffer) (o : ObjectId) → In w (ripened place older todo ts) → hands_out w.kind ≡ Some c.made → In c bs → On o c → w.list ≡ OfProcess c.receiver
-ripened-lists place bs older [] todo rise own l w c o i e j on = l w c o i e j on
-ripened-lists place bs older (t ∷ ts) todo rise own l w c o i e j on =
-    ripened-lists place bs (older ++ t ∷ []) ts _ rise (λ u k. own u (inr k)) (one (is_ripe todo older t)) w c o i e j on
+abbrev Listed : List Work → Buffer → Type 0
+Listed todo c = (w : Work) → In w todo → hands_out w.kind ≡ Some c.made → w.list ≡ OfProcess c.receiver
+
+ripened-lists : (place : ℕ) (older ts : List Turn) (todo : List Work) (c : Buffer) → ((t : Turn) → In t ts → t.made ≡ c.made → t.receiver ≡ c.receiver) → Listed todo c
+    → Listed (ripened place older todo ts) c
+ripened-lists place older [] todo c own l = l
+ripened-lists place older (t ∷ ts) todo c own l = ripened-lists place (older ++ t ∷ []) ts _ c (λ u k. own u (inr k)) (one (is_ripe todo older t))
   where
-    one : (b : Bool) → (w : Work) (c : Buffer) (o : ObjectId) → In w (cond b (with_work place todo (OfProcess t.receiver) (work.Call t.made)) todo) → hands_out w.kind ≡ Some c.made → In c bs → On o c
-        → w.list ≡ OfProcess c.receiver
-    one false w c o i e j on = l w c o i e j on
-    one true w c o i e j on =
-        elim (in-push w _ todo i) [
-          | inl k ↦ l w c o k e j on
-          | inr is ↦ (
-              let b = own t (inl refl) in
-              let parts = turn-parts b.0 t b.2 in
-              let f : Some t.made ≡ Some c.made = ap (λ (x : Work). hands_out x.kind) is ∙ e in
-              let same_made : t.made ≡ c.made = cc in
-              let same_buffer : b.0 ≡ c = elim (pairs-either (λ (b c : Buffer). b.made < c.made) bs rise b.0 c b.1 j) [
-                | inl x ↦ x
-                | inr x ↦ elim x [ inl lt ↦ (let p = parts.0 in absurd (omega arith)) | inr lt ↦ (let p = parts.0 in absurd (omega arith)) ]
-              ] in
-              sym (ap (λ (x : Work). x.list) is) ∙ ap OfProcess (parts.1 ∙ ap (λ (x : Buffer). x.receiver) same_buffer))
-        ]
+    one : (b : Bool) → Listed (cond b (with_work place todo (OfProcess t.receiver) (work.Call t.made)) todo) c
+    one false = l
+    one true = with-each place todo (OfProcess t.receiver) (work.Call t.made) (λ w. hands_out w.kind ≡ Some c.made → w.list ≡ OfProcess c.receiver) l
+        (λ i e. ap OfProcess (own t (inl refl) (let f : Some t.made ≡ Some c.made = e in cc)))
 
 pub ripen-passed : (s z : Space) → Turning z → Passed s z → Passed s (ripen z)
 unfolding ripen
 ripen-passed s z turns h =
-    replace-lists s _ z refl refl refl refl
-    (ripened-lists z.steps z.buffers [] (turns_of z.buffers) z.todo (pairs-map (Waits z.todo) (λ (b c : Buffer). b.made < c.made) z.buffers (λ b c i j w. w.earlier) turns.waits)
-    (λ t i. in-filter_map turn_of t z.buffers i) h.lists) h
+    going-passed s _ z (same-going _ z refl refl refl refl) (λ w c o i e j on. ripened-lists z.steps [] (turns_of z.buffers) z.todo c (own c j) (λ w i e. h.lists w c o i e j on) w i e) h
+  where
+    own : (c : Buffer) → In c z.buffers → (t : Turn) → In t (turns_of z.buffers) → t.made ≡ c.made → t.receiver ≡ c.receiver
+    own c j t i e =
+        let b = in-filter_map turn_of t z.buffers i in
+        let parts = turn-parts b.0 t b.2 in
+        parts.1 ∙ ap (λ (x : Buffer). x.receiver) (one-made (suc z.steps) z.buffers z.todo turns b.0 c b.1 j (sym parts.0 ∙ e))
 
 -- ---- ends of threads and processes
 
 pub lost-on : (todo : List Work) (list : TodoList) (m : ℕ) → is_lost_with todo list m ≡ true → (w : Work) × In w todo × (is_on list w ≡ true) × (hands_out w.kind ≡ Some m)
-lost-on todo list m h =
-    let test = λ (w : Work). is_on list w && is_some_and (hands_out w.kind) (λ i. i == m) in
-    let w = any-found test todo h in
-    let k = both (is_on list w.0) (is_some_and (hands_out w.0.kind) (λ i. i == m)) w.2 in
-    (w.0, w.1, k.0, hands (hands_out w.0.kind) k.1)
-  where
-    hands : (o : Option ℕ) → is_some_and o (λ i. i == m) ≡ true → o ≡ Some m
-    hands None k = absurd (cc)
-    hands (Some i) k = ap (λ j. Some j) (eqb-true i m k)
+lost-on todo list m h = search (arith, any-found, eqb-true)
 
 pub not-on : (seat : ℕ) (w : Work) (p : ℕ) → w.list ≡ OfProcess p → is_on (OfThread seat) w ≡ true → ⊥
 not-on seat w p e h = let f : is_on (OfThread seat) w ≡ false = rw e refl in absurd (cc)
 
 pub thread_goes-passed : (s z : Space) (seat : ℕ) → Passed s z → Passed s (thread_goes z seat)
 unfolding thread_goes
-thread_goes-passed s z seat h =
-    let keep = λ (b : Buffer). not (is_lost_with z.todo (OfThread seat) b.made) in
-    record {
-      steps = h.steps;
-      processes = h.processes;
-      objects = h.objects;
-      from = λ c i. h.from c (in-filter keep c z.buffers i).0;
-      to = λ o b i on. elim (h.to o b i on) [
-        | inl c ↦ stays o b on c.0 c.1 c.2 (is_lost_with z.todo (OfThread seat) c.0.made) refl
-        | inr k ↦ inr (elim k [
-          | inl t ↦ inl t
-          | inr e ↦ inr (record { process = e.process; buffers = λ c j. e.buffers c (in-filter keep c z.buffers j).0 })
-        ])
-      ];
-      lists = λ w c o i e j on. h.lists w c o (in-filter (λ (x : Work). not (is_on (OfThread seat) x)) w z.todo i).0 e (in-filter keep c z.buffers j).0 on;
-    }
+thread_goes-passed s z seat h = going-passed s _ z (search (arith, in-filter, filter-in, lost-on, not-on)) (search (arith, in-filter, h.lists)) h
+
+rest-going : (z : Space) (p : ℕ) → Going (without_process z p) z
+unfolding without_process
+rest-going z p = record {
+  steps = refl;
+  processes = λ q i. (in-filter (λ (q : Process). not (q.made == p)) q z.processes i).0;
+  objects = λ x i. i;
+  buffers = λ c i. (in-filter (λ (b : Buffer). not (b.receiver == p)) c z.buffers i).0;
+  stays = λ o c i on. at (c.receiver == p) c i refl;
+}
   where
-    stays : (o : ObjectId) (b : Buffer) → On o b → (c : Buffer) → In c z.buffers → Became s b c → (t : Bool) → is_lost_with z.todo (OfThread seat) c.made ≡ t
-        → ((d : Buffer) × In d (filter (λ (b : Buffer). not (is_lost_with z.todo (OfThread seat) b.made)) z.buffers) × Became s b d) ⊎ ((b.handed ≡ true) ⊎ Ended (thread_goes z seat) b.receiver)
-    stays o b on c i k true e =
-        let w = lost-on z.todo (OfThread seat) c.made e in
-        absurd (not-on seat w.0 c.receiver (h.lists w.0 c o w.1 w.3 i (k.one_way ∙ on.0, k.target ∙ on.1)) w.2)
-    stays o b on c i k false e = inl (c, filter-in (λ (b : Buffer). not (is_lost_with z.todo (OfThread seat) b.made)) c z.buffers i (not-false (is_lost_with z.todo (OfThread seat) c.made) e), k)
+    other : (n m : ℕ) → (m == p) ≡ true → n ≡ m → not (n == p) ≡ true → ⊥
+    other n m e f k = search (arith, eqb-true, eq-eqb, not-true)
 
-each-passed : (s : Space) (seats : List ℕ) (z : Space) → Passed s z → Passed s (fold thread_goes z seats)
-each-passed s [] z h = h
-each-passed s (t ∷ ts) z h = each-passed s ts (thread_goes z t) (thread_goes-passed s z t h)
-
-threads_go-passed : (s z : Space) (p : ℕ) → Passed s z → Passed s (threads_go z p)
-unfolding threads_go
-threads_go-passed s z p h = each-passed s (map seat_of (filter (λ (t : Thread). t.process == p) z.threads)) z h
+    at : (t : Bool) (c : Buffer) → In c z.buffers → (c.receiver == p) ≡ t → In c (filter (λ (b : Buffer). not (b.receiver == p)) z.buffers) ⊎ Ended (without_process z p) c.receiver
+    at false c i e = inl (search (arith, filter-in))
+    at true c i e = inr (record {
+      process = λ q. other q.0.made c.receiver e q.2 (in-filter _ q.0 z.processes q.1).1;
+      buffers = λ d j r. other d.receiver c.receiver e r (in-filter _ d z.buffers j).1;
+    })
 
 without_process-passed : (s z : Space) (p : ℕ) → Passed s z → Passed s (without_process z p)
 unfolding without_process
-without_process-passed s z p h =
-    let keep = λ (b : Buffer). not (b.receiver == p) in
-    let keep_process = λ (q : Process). not (q.made == p) in
-    record {
-      steps = h.steps;
-      processes = λ q i. h.processes q (in-filter keep_process q z.processes i).0;
-      objects = h.objects;
-      from = λ c i. h.from c (in-filter keep c z.buffers i).0;
-      to = λ o b i on. elim (h.to o b i on) [
-        | inl c ↦ stays b c.0 c.1 c.2 (c.0.receiver == p) refl
-        | inr k ↦ inr (elim k [
-          | inl t ↦ inl t
-          | inr e ↦ inr (record {
-            process = λ q. e.process (q.0, (in-filter keep_process q.0 z.processes q.1).0, q.2);
-            buffers = λ c j. e.buffers c (in-filter keep c z.buffers j).0;
-          })
-        ])
-      ];
-      lists = λ w c o i e j on. h.lists w c o (in-filter (λ (x : Work). not (is_on (OfProcess p) x)) w z.todo i).0 e (in-filter keep c z.buffers j).0 on;
-    }
-  where
-    other : (m n : ℕ) → n ≡ p → m ≡ n → not (m == p) ≡ true → ⊥
-    other m n e f k = let same_number = eq-eqb m p (f ∙ e) in let no_number = not-true (m == p) k in absurd (cc)
-
-    stays : (b c : Buffer) → In c z.buffers → Became s b c → (t : Bool) → (c.receiver == p) ≡ t
-        → ((d : Buffer) × In d (filter (λ (b : Buffer). not (b.receiver == p)) z.buffers) × Became s b d) ⊎ ((b.handed ≡ true) ⊎ Ended (without_process z p) b.receiver)
-    stays b c i k true e =
-        let at_p : b.receiver ≡ p = sym k.receiver ∙ eqb-true c.receiver p e in
-        inr (inr (record {
-          process = λ q. other q.0.made b.receiver at_p q.2 (in-filter (λ (q : Process). not (q.made == p)) q.0 z.processes q.1).1;
-          buffers = λ d j r. other d.receiver b.receiver at_p r (in-filter (λ (b : Buffer). not (b.receiver == p)) d z.buffers j).1;
-        }))
-    stays b c i k false e = inl (c, filter-in (λ (b : Buffer). not (b.receiver == p)) c z.buffers i (not-false (c.receiver == p) e), k)
+without_process-passed s z p h = going-passed s _ z (rest-going z p) (search (arith, in-filter, h.lists)) h
 
 pub ends-passed : (s : Space) (p : ℕ) → OnLists s → Passed s (tell_deaths (without_process (threads_go s p) p) p)
 ends-passed s p l =
-    let a = threads_go s p in
-    let b = without_process a p in
+    let b = without_process (threads_go s p) p in
     passed-after s (tell_deaths b p) b (untouched-after (tell_deaths b p) b (Untouched.tell_deaths-untouched b p) (OneWay.tell_deaths-less b p))
-    (without_process-passed s a p (threads_go-passed s s p (passed-none s l)))
+    (without_process-passed s (threads_go s p) p (threads-keep (Passed s) (thread_goes-passed s) s p (passed-none s l)))
 
 -- ---- every step
 
@@ -170,13 +112,7 @@ passing-step s seat x turns l =
     let k = kept s seat x turns in
     let none : Passing s s = record { turns = k.set_up.same; passed = passed-none s l } in
     record {
-      set_up = record {
-        same = none;
-        opened = λ pid euid window free. record { turns = k.set_up.opened pid euid window free; passed = opened-passed s seat pid euid window l };
-        attached = λ p free. record { turns = k.set_up.attached p free; passed = attached-passed s seat p l };
-        managed = λ a e b. record { turns = k.set_up.managed a e b; passed = managed-passed s seat a e l };
-        marked = λ p on. record { turns = k.set_up.marked p on; passed = marked-passed s p on l };
-      };
+      set_up = search (arith, opened-passed, attached-passed, managed-passed, marked-passed);
       changes = record {
         transacts = λ a d parcel v e i t. record { turns = k.changes.transacts a d parcel v e i t; passed = transacted-passed s seat a d parcel v turns l i t };
         replies = λ a d parcel f v e i g t. record { turns = k.changes.replies a d parcel f v e i g t; passed = replied-passed s seat a d parcel f v turns l i t };

@@ -1,13 +1,15 @@
--- One-way calls, objects and their receivers in the space of every history.
-use Rattle.bd_laws.proofs.words.Types.{ObjectId, Entry, Object, Buffer, Work}
+-- For SpacesAreTidy (its part Received): the living one-way calls on an object have one receiver, the object's owner. The
+-- laws of turns and others use its lemmas on buffers before and after a step.
+use Rattle.bd_laws.proofs.words.Types.{ObjectId, Entry, Object, Buffer}
 use Rattle.bd_laws.proofs.words.Space.{Space, opening, change, counted, History, next, space_after}
-use Rattle.std.proofs.Common.{◌≡◌, ℕ, ◌<◌, List, inl, inr, ap, sym, ◌∙◌, arith}
-use Rattle.bd_laws.proofs.words.Laws.{In, Waits, InTurn, IsInTurn, On, Received, Differ, KeptBefore, Before}
+use Rattle.std.proofs.Common.{◌≡◌, ℕ, ◌<◌, inl, inr, ap, sym, ◌∙◌, arith}
+use Rattle.bd_laws.proofs.words.Laws.{In, IsInTurn, On, Received, KeptBefore, Before}
 use Rattle.bd_laws.proofs.Machine.EveryStep.{every_list}
 use Rattle.bd_laws.proofs.Earlier.{in_order-differ}
 use Rattle.bd_laws.proofs.Lists.{pairs-either}
 use Rattle.bd_laws.proofs.IsInTurn.InTurn.{step-in_turn, opening-in_turn}
 use Rattle.bd_laws.proofs.Objects.{step-kept, opening-kept}
+pub use Rattle.bd_laws.proofs.IsInTurn.Ripening.{one-made}
 use Rattle.bd_laws.proofs.IsInTurn.Passing.{step-passes}
 use Rattle.bd_laws.proofs.IsInTurn.Passed.{Lives, Became, Passed}
 
@@ -20,15 +22,7 @@ pub on-after : (s : Space) (o : ObjectId) (b c : Buffer) → Became s b c → On
 on-after s o b c k on = (k.one_way ∙ on.0, k.target ∙ on.1)
 
 pub one-object : (s : Space) → KeptBefore s → (x y : Object) → In x s.objects → In y s.objects → x.id ≡ y.id → x ≡ y
-one-object s h x y i j e =
-    elim (pairs-either Differ s.objects (in_order-differ s.objects h.kept.in_order) x y i j) [ inl k ↦ k | inr k ↦ elim k [ inl d ↦ absurd (d e) | inr d ↦ absurd (d (sym e)) ] ]
-
-pub one-made : (n : ℕ) (bs : List Buffer) (todo : List Work) → InTurn n bs todo → (b c : Buffer) → In b bs → In c bs → b.made ≡ c.made → b ≡ c
-one-made n bs todo h b c i j e =
-    elim (pairs-either (Waits todo) bs h.waits b c i j) [
-      | inl k ↦ k
-      | inr k ↦ elim k [ inl w ↦ (let lt = w.earlier in absurd (omega arith)) | inr w ↦ (let lt = w.earlier in absurd (omega arith)) ]
-    ]
+one-object s h x y i j e = search (arith, pairs-either, in_order-differ)
 
 pub one-buffer : (s : Space) → IsInTurn s → (b c : Buffer) → In b s.buffers → In c s.buffers → b.made ≡ c.made → b ≡ c
 one-buffer s h b c i j e = one-made s.steps s.buffers s.todo h b c i j e
@@ -42,7 +36,7 @@ module _ (s z : Space) (h : Before s) (p : Passed s z) where
   below o q w = let lt = h.objects.kept.below w.0 w.1 in let e : w.0.id.place ≡ o.place = ap (λ (i : ObjectId). i.place) w.2 in omega arith
 
   same-owner : (o : ObjectId) (q r : ℕ) → WasOwned o q → WasOwned o r → q ≡ r
-  same-owner o q r v w = sym v.3 ∙ ap (λ (x : Object). x.owner) (one-object s h.objects v.0 w.0 v.1 w.1 (v.2 ∙ sym w.2)) ∙ w.3
+  same-owner o q r v w = search (arith, one-object)
 
   -- an object of before this step was there before it
   pub owner-before : (o : ObjectId) (x : Object) → o.place < s.steps → In x z.objects → x.id ≡ o → WasOwned o x.owner
@@ -78,7 +72,7 @@ module _ (s z : Space) (h : Before s) (p : Passed s z) where
   ]
 
   lives-before : (q : ℕ) → Lives s.processes q → q < s.steps
-  lives-before q l = let lt = h.received.born l.0 l.1 in let e = l.2 in omega arith
+  lives-before q l = search arith
 
   pub received-after : Received (counted z)
   unfolding counted
@@ -104,18 +98,7 @@ step-before s e h = record {
 }
 
 pub opening-before : Before opening
-opening-before = record {
-  turns = opening-in_turn;
-  objects = opening-kept;
-  received = record {
-    lists = λ w c o i e j on. absurd i;
-    own = λ o b x i on j e. absurd i;
-    one = λ o b c i j on ond. absurd i;
-    old = λ o b i on. absurd i;
-    born = λ q i. absurd i;
-    owners = λ x i. absurd i;
-  };
-}
+opening-before = search (arith, opening-in_turn, opening-kept)
 
 pub always-before : (h : History) → Before (space_after h)
 unfolding space_after

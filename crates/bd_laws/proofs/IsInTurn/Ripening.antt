@@ -1,7 +1,7 @@
--- One-way calls stay in turn as they ripen and as they are read.
-use Rattle.bd_laws.proofs.words.Logic.{◌≡◌, ℕ, suc, ◌-◌, ◌<◌, Bool, true, false, cond, not, ◌&&◌, List, [], ◌∷◌, ◌++◌, Option, Some, None, ◌⊎◌, inl, inr, refl, ap, sym, subst, ◌∙◌, map, arith, length, append_assoc, nat_lt, list_any, cons_option, option_map, option_and_then_some, eqb-true}
-use Rattle.bd_laws.proofs.words.Types.{ObjectId, Buffer, Turn, Thread, Work, TodoList, OfProcess}
-use Rattle.bd_laws.proofs.words.Space.{same, changed, first_of, Space, with_work, hands_out, is_call, is_on, work_on, reads_in, list_to_read, without_taken, is_item, turn_of, turns_of, is_ripe, ripened, ripen, is_made_at, buffer_in, bytes_read, ends_read, taken, buffer_taken, hand_out, handed_buffers, read_by}
+-- For SpacesAreTidy and the laws of one-way calls: these stay in turn as they ripen and as they are read.
+use Rattle.bd_laws.proofs.words.Logic.{◌≡◌, ℕ, suc, ◌-◌, ◌<◌, Bool, true, false, cond, not, List, [], ◌∷◌, ◌++◌, Option, Some, None, ◌⊎◌, inl, inr, refl, ap, sym, subst, ◌∙◌, map, arith, length, append_assoc, list_any, cons_option, option_and_then_some, eqb-true}
+use Rattle.bd_laws.proofs.words.Types.{ObjectId, Buffer, Turn, Thread, Work, OfProcess}
+use Rattle.bd_laws.proofs.words.Space.{changed, first_of, Space, with_work, hands_out, list_to_read, without_taken, is_item, turn_of, turns_of, is_ripe, ripened, ripen, is_made_at, buffer_in, bytes_read, taken, buffer_taken, hand_out, handed_buffers, read_by}
 use Rattle.bd_space.specs.declared.space.WorkKind.TheVariants as work
 use Rattle.bd_laws.proofs.words.Laws.{In, Pairs, Due, Out, Waits, InTurn}
 use Rattle.bd_laws.proofs.Lists.{in-push, in-filter, in-right, in-append, in-changed, any-in, find-in, in-filter_map, filter_map-in, pairs-map, pairs-changed, pairs-either}
@@ -9,34 +9,21 @@ use Rattle.bd_laws.proofs.IsInTurn.OneWay.{waits-less}
 
 -- ---- what a one-way call has of its buffer
 
-turn-made_by : (w : Bool) (o : Option ObjectId) (b : Buffer) (t : Turn)
-    → cond w (option_map (λ x. let u : Turn = record { made = b.made; receiver = b.receiver; target = x; handed = b.handed } in u) o) None ≡ Some t
-    → (t.made ≡ b.made) × (t.receiver ≡ b.receiver) × (t.handed ≡ b.handed) × (w ≡ true) × (o ≡ Some t.target)
-turn-made_by true (Some x) b t h =
-    let e : (let u : Turn = record { made = b.made; receiver = b.receiver; target = x; handed = b.handed } in u) ≡ t = cc in
-    (sym (ap (λ (u : Turn). u.made) e), sym (ap (λ (u : Turn). u.receiver) e), sym (ap (λ (u : Turn). u.handed) e), refl, ap (λ (u : Turn). Some u.target) e)
-turn-made_by true None b t h = absurd (cc)
-turn-made_by false o b t h = absurd (cc)
-
 pub turn-parts : (b : Buffer) (t : Turn) → turn_of b ≡ Some t
     → (t.made ≡ b.made) × (t.receiver ≡ b.receiver) × (t.handed ≡ b.handed) × (b.one_way ≡ true) × (b.target ≡ Some t.target)
-turn-parts b t h = turn-made_by b.one_way b.target b t h
+turn-parts b t h = search arith
 
 pub turn-made : (b : Buffer) (t : Turn) → turn_of b ≡ Some t → t.made ≡ b.made
 turn-made b t h = (turn-parts b t h).0
+
+pub one-made : (n : ℕ) (bs : List Buffer) (todo : List Work) → InTurn n bs todo → (b c : Buffer) → In b bs → In c bs → b.made ≡ c.made → b ≡ c
+one-made n bs todo h b c i j e = search (arith, pairs-either)
 
 -- ---- ripening
 
 pairs-cons : (o : Option Turn) (b : Buffer) (bs : List Buffer) → turn_of b ≡ o → ((c : Buffer) → In c bs → b.made < c.made)
     → Pairs (λ t u. t.made < u.made) (turns_of bs) → Pairs (λ t u. t.made < u.made) (cons_option o (turns_of bs))
-pairs-cons None b bs e h k = k
-pairs-cons (Some t) b bs e h k = (
-  (λ u l. let c = in-filter_map turn_of u bs l in
-      let lt = h c.0 c.1 in
-      let m = turn-made b t e in
-      let n = turn-made c.0 u c.2 in omega arith),
-  k,
-)
+pairs-cons o b bs e h k = search (arith, in-filter_map, turn-made)
 
 turns-rise : (todo : List Work) (bs : List Buffer) → Pairs (Waits todo) bs → Pairs (λ t u. t.made < u.made) (turns_of bs)
 turns-rise todo [] h = tt
@@ -54,23 +41,9 @@ stands-older older ts t u h l lt =
       | inr k ↦ elim k [ inl e ↦ (let m : t.made ≡ u.made = ap (λ (x : Turn). x.made) e in absurd (omega arith)) | inr i ↦ (let gt = after-rise older ts t h u i in absurd (omega arith)) ]
     ]
 
-not-ripe : (todo : List Work) (older : List Turn) (t u : Turn) → In u older → same u.target t.target ≡ true → is_ripe todo older t ≡ true → ⊥
-not-ripe todo older t u l e h =
-    let any : list_any (λ (x : Turn). same x.target t.target) older ≡ true = any-in (λ (x : Turn). same x.target t.target) u older l e in
-    never t.handed _ (list_any (λ w. is_call t.made w.kind) todo) any h
-  where
-    never : (a b c : Bool) → b ≡ true → (not a && not b && not c) ≡ true → ⊥
-    never true true c e h = absurd (cc)
-    never false true c e h = absurd (cc)
-    never a false c e h = absurd (cc)
-
 module _ (n place : ℕ) (bs : List Buffer) where
   due-call : (todo : List Work) (t : Turn) (m : ℕ) → Due (with_work place todo (OfProcess t.receiver) (work.Call t.made)) m → Due todo m ⊎ (m ≡ t.made)
-  due-call todo t m d =
-      elim (in-push d.0 _ todo d.1) [
-        | inl k ↦ inl (d.0, k, d.2)
-        | inr is ↦ (let e : hands_out (work.Call t.made) ≡ Some m = ap (λ (x : Work). hands_out x.kind) is ∙ d.2 in let f : Some t.made ≡ Some m = e in inr (cc))
-      ]
+  due-call todo t m d = search (arith, in-push)
 
   ripens-one : (todo : List Work) (older ts : List Turn) (t : Turn) → turns_of bs ≡ older ++ t ∷ ts → is_ripe todo older t ≡ true → InTurn n bs todo
       → InTurn n bs (with_work place todo (OfProcess t.receiver) (work.Call t.made))
@@ -88,31 +61,23 @@ module _ (n place : ℕ) (bs : List Buffer) where
             | inr d ↦ elim (due-call todo t c.made d) [
               | inl k ↦ w.alone (inr k) r
               | inr is ↦ (
-                  let same_buffer : own.0 ≡ c = elim (pairs-either (Waits todo) bs h.waits own.0 c own.1 j) [
-                    | inl x ↦ x
-                    | inr y ↦ elim y [ inl before ↦ (let lt = before.earlier in absurd (omega arith)) | inr later ↦ (let lt = later.earlier in absurd (omega arith)) ]
-                  ] in
+                  let same_buffer = one-made n bs todo h own.0 c own.1 j (sym own_made ∙ sym is) in
                   let turn : turn_of c ≡ Some t = ap turn_of (sym same_buffer) ∙ own.2 in
                   let same_turn : r.1 ≡ t = (let x = r.3 in cc) in
                   let first = turn-made b r.0 r.2 in
                   let lt = w.earlier in
                   let older_one : r.0.made < t.made = omega arith in
                   let stands = stands-older older ts t r.0 rise (subst (In r.0) e (filter_map-in turn_of r.0 b bs i r.2)) older_one in
-                  not-ripe todo older t r.0 stands (subst (λ (u : Turn). same r.0.target u.target ≡ true) same_turn r.4) ripe)
+                  search (arith, any-in))
             ]
           ];
         }) h.waits;
       }
 
-  ripens-if : (b : Bool) (todo : List Work) (older ts : List Turn) (t : Turn) → turns_of bs ≡ older ++ t ∷ ts → is_ripe todo older t ≡ b → InTurn n bs todo
-      → InTurn n bs (cond b (with_work place todo (OfProcess t.receiver) (work.Call t.made)) todo)
-  ripens-if true todo older ts t e ripe h = ripens-one todo older ts t e ripe h
-  ripens-if false todo older ts t e ripe h = h
-
   ripens-all : (ts : List Turn) (todo : List Work) (older : List Turn) → turns_of bs ≡ older ++ ts → InTurn n bs todo → InTurn n bs (ripened place older todo ts)
   ripens-all [] todo older e h = h
   ripens-all (t ∷ ts) todo older e h =
-      ripens-all ts _ (older ++ t ∷ []) (e ∙ sym (append_assoc older (t ∷ []) ts)) (ripens-if (is_ripe todo older t) todo older ts t e refl h)
+      ripens-all ts _ (older ++ t ∷ []) (e ∙ sym (append_assoc older (t ∷ []) ts)) (search (arith, ripens-one))
 
 pub ripen-in_turn : (z : Space) → InTurn (suc z.steps) z.buffers z.todo → InTurn (suc (ripen z).steps) (ripen z).buffers (ripen z).todo
 unfolding ripen
@@ -122,31 +87,19 @@ ripen-in_turn z h = ripens-all (suc z.steps) z.steps z.buffers (turns_of z.buffe
 
 module _ (s : Space) where
   full : (b : Bool) (w : Work) (xs ys : List Work) → (In w xs → In w ys) → In w (cond b [] xs) → In w ys
-  full true w xs ys k h = absurd h
-  full false w xs ys k h = k h
+  full b w xs ys k h = search arith
 
   pub taken-in : (xs : List Work) (left : ℕ) (w : Work) → In w (taken s left xs) → In w xs
   taken-in [] left w h = h
-  taken-in (x ∷ xs) left w h =
-      full (nat_lt left 68) w (x ∷ cond (ends_read x.kind) [] (taken s (left - length (bytes_read s x)) xs)) (x ∷ xs)
-      (λ l. elim l [ inl e ↦ inl e | inr k ↦ inr (full (ends_read x.kind) w (taken s (left - length (bytes_read s x)) xs) xs (taken-in xs (left - length (bytes_read s x)) w) k) ]) h
-
-  pub on-list : (todo : List Work) (o : Option TodoList) (w : Work) → In w (work_on todo o) → In w todo
-  on-list todo None w h = absurd h
-  on-list todo (Some list) w h = (in-filter (is_on list) w todo h).0
+  taken-in (x ∷ xs) left w h = search (arith, taken-in xs (left - length (bytes_read s x)) w)
 
   pub read-in : (t : Thread) (left : ℕ) (w : Work) → In w (taken s left (list_to_read s t)) → In w s.todo
   unfolding list_to_read
-  read-in t left w h = on-list s.todo (reads_in s.frames s.todo t) w (taken-in (work_on s.todo (reads_in s.frames s.todo t)) left w h)
+  read-in t left w h = search (arith, in-filter, taken-in, left)
 
 pub first-handed : (ws : List Work) (m : ℕ) → first_of (map (λ (w : Work). hands_out w.kind) ws) ≡ Some m → (w : Work) × In w ws × (hands_out w.kind ≡ Some m)
 first-handed [] m h = absurd (cc)
-first-handed (w ∷ ws) m h = at (hands_out w.kind) refl (first-handed ws m) h
-  where
-    at : (o : Option ℕ) → hands_out w.kind ≡ o → (first_of (map (λ (w : Work). hands_out w.kind) ws) ≡ Some m → (v : Work) × In v ws × (hands_out v.kind ≡ Some m))
-        → first_of (o ∷ map (λ (w : Work). hands_out w.kind) ws) ≡ Some m → (v : Work) × In v (w ∷ ws) × (hands_out v.kind ≡ Some m)
-    at None e k h = let z = k h in (z.0, inr z.1, z.2)
-    at (Some x) e k h = (w, inl refl, e ∙ h)
+first-handed (w ∷ ws) m h = search (arith, first-handed ws m)
 
 -- the buffer that is handed over was due by one of these
 pub taken-due : (s : Space) (ws : List Work) (b : Buffer) → buffer_taken s ws ≡ Some b → In b s.buffers × ((w : Work) × In w ws × (hands_out w.kind ≡ Some b.made))
@@ -159,8 +112,7 @@ taken-due s ws b h =
     (l.0, (w.0, w.1, subst (λ i. hands_out w.0.kind ≡ Some i) (sym (eqb-true b.made m l.1)) w.2)))
 
 pub made-kept : (c : Bool) (b : Buffer) → (cond c (hand_out b) b).made ≡ b.made
-made-kept true b = refl
-made-kept false b = refl
+made-kept c b = search arith
 
 turn-kept : (c : Bool) (b : Buffer) (t : Turn) → turn_of (cond c (hand_out b) b) ≡ Some t → (u : Turn) × (turn_of b ≡ Some u) × (u.target ≡ t.target)
 turn-kept false b t h = (t, h, refl)
@@ -175,15 +127,11 @@ handed-waits : (todo : List Work) (bs : List Buffer) (made : ℕ) → Due todo m
 handed-waits todo bs made due h =
     pairs-changed (Waits todo) (is_made_at made) hand_out (λ x y w. record {
       earlier = rw (made-kept (is_made_at made x) x, made-kept (is_made_at made y) y) w.earlier;
-      alone = λ o r.
-          let u = turn-kept (is_made_at made x) x r.0 r.2 in
-          let v = turn-kept (is_made_at made y) y r.1 r.3 in
-          w.alone (out y (is_made_at made y) refl o) (u.0, v.0, u.1, v.1, rw (u.2, v.2) r.4);
+      alone = λ o r. search (arith, turn-kept);
     }) bs h
   where
     out : (y : Buffer) (c : Bool) → is_made_at made y ≡ c → Out todo (cond c (hand_out y) y) → Out todo y
-    out y true e o = inr (subst (Due todo) (sym (eqb-true y.made made e)) due)
-    out y false e o = o
+    out y c e o = search (arith, eqb-true)
 
 handed-in_turn : (n : ℕ) (bs : List Buffer) (todo more : List Work) (o : Option Buffer) → ((b : Buffer) → o ≡ Some b → Due more b.made) → ((m : ℕ) → Due todo m → Due more m) → InTurn n bs more
     → InTurn n (handed_buffers bs o) todo

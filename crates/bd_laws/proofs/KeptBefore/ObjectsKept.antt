@@ -1,13 +1,15 @@
--- Objects that references hold stay through the changes of a step, and new ones come last.
-use Rattle.bd_laws.proofs.words.Logic.{◌≡◌, ℕ, suc, ◌+◌, ◌==◌, ◌<◌, Bool, true, false, cond, not, ◌&&◌, List, [], ◌∷◌, ◌++◌, Option, Some, None, Ok, ◌⊎◌, inl, inr, refl, ap, sym, subst, ◌∙◌, map, filter, arith, fold}
+-- For SpacesAreTidy and ObjectsAreKept: objects that references hold stay through the changes of a step, and new ones come
+-- last.
+use Rattle.bd_laws.proofs.words.Logic.{◌≡◌, ℕ, suc, ◌+◌, ◌<◌, Bool, false, ◌&&◌, List, [], ◌∷◌, ◌++◌, Option, Some, None, Ok, ◌⊎◌, inl, inr, refl, ap, sym, subst, ◌∙◌, arith}
 use Rattle.bd_laws.proofs.words.Types.{TransactionData, ObjectId, Parcel, Actor, Frame, Object, Reference, Asked, Manager, Item, OfThread}
-use Rattle.bd_laws.proofs.words.Space.{same, without_first, Space, reference_of, owned_in, is_asking, is_shaking, is_of_buffer, same_strength, assign_numbers, Delivery, delivered, own_notices, add_buffer, known_by, refer, make_objects, buffer_references, transaction_check, reply_check, ask_check, ask, drop_asked, acknowledge, without_buffer, thread_goes, is_lost_reference, threads_go, without_process, is_dropped_with, manager_without, seat_of, owe, closed, transacted, called, replied, is_spam}
+use Rattle.bd_laws.proofs.words.Space.{Space, reference_of, assign_numbers, Delivery, delivered, own_notices, add_buffer, known_by, refer, make_objects, buffer_references, transaction_check, reply_check, ask_check, ask, drop_asked, acknowledge, without_buffer, thread_goes, threads_go, without_process, owe, closed, transacted, called, replied, is_spam}
 use Rattle.bd_space.specs.declared.space.WorkKind.TheVariants as work
 use Rattle.bd_laws.proofs.words.Laws.{In, Pairs, Here, Earlier, Kept, Named, KeptBefore}
 use Rattle.bd_laws.proofs.Lists.{in-left, in-append, in-filter, filter-in, in-without, without-in}
 use Rattle.bd_laws.proofs.Earlier.{place-earlier}
 use Rattle.bd_laws.proofs.Checks.{transaction-checked, reply-checked, asked-checked}
 use Rattle.bd_laws.proofs.Machine.Untouched.{Untouched, owe-untouched, told-untouched, called-untouched}
+use Rattle.bd_laws.proofs.Machine.Following.{threads-keep}
 use Rattle.bd_laws.proofs.Sendings.{HasName, Sent, Sends, sending-sends}
 
 abbrev pub IsKept : Space → Type 0
@@ -18,19 +20,12 @@ pub record IsKeptWhole (z : Space) : Type 0 where
   pub named : Named z.names z.references
 
 pub later : (z : Space) → KeptBefore z → IsKeptWhole z
-later z h = record {
-  kept = record { refs = h.kept.refs; manages = h.kept.manages; below = λ x l. let lt = h.kept.below x l in omega arith; in_order = h.kept.in_order };
-  named = h.named;
-}
+later z h = search arith
 
 -- ---- what changes none of it
 
 pub kept-untouched : (z y : Space) → Untouched z y → IsKept y → IsKept z
-kept-untouched z y u h =
-    subst (λ n. Kept (suc n) z.manager z.objects z.references) (sym u.steps)
-    (subst (λ m. Kept (suc y.steps) m z.objects z.references) (sym u.manager)
-    (subst (λ os. Kept (suc y.steps) y.manager os z.references) (sym u.objects)
-    (subst (λ rs. Kept (suc y.steps) y.manager y.objects rs) (sym u.references) h)))
+kept-untouched z y u h = search arith
 
 named-untouched : (z y : Space) → Untouched z y → Named y.names y.references → Named z.names z.references
 named-untouched z y u h = subst (λ ns. Named ns z.references) (sym u.names) (subst (λ rs. Named y.names rs) (sym u.references) h)
@@ -44,76 +39,33 @@ whole-untouched z y u h = record { kept = kept-untouched z y u h.kept; named = n
 pub fewer : (n : ℕ) (manager : Option ObjectId) (objects : List Object) (more references : List Reference)
     → ((r : Reference) → In r references → In r more) → ((r : Reference) → In r more → r.holder ≡ Manager → In r references)
     → Kept n manager objects more → Kept n manager objects references
-fewer n manager objects more references less stay h = record {
-  refs = λ r l. h.refs r (less r l);
-  manages = λ o e. let r = h.manages o e in (r.0, stay r.0 r.1 r.3, r.2, r.3, r.4);
-  below = h.below;
-  in_order = h.in_order;
-}
-
-pub filtered-references : (n : ℕ) (manager : Option ObjectId) (objects : List Object) (references : List Reference) (p : Reference → Bool)
-    → ((r : Reference) → r.holder ≡ Manager → p r ≡ true) → Kept n manager objects references → Kept n manager objects (filter p references)
-filtered-references n manager objects references p stay h =
-    fewer n manager objects references (filter p references) (λ r l. (in-filter p r references l).0) (λ r l e. filter-in p r references l (stay r e)) h
-
-first-goes : (n : ℕ) (manager : Option ObjectId) (objects : List Object) (references : List Reference) (p : Reference → Bool)
-    → ((r : Reference) → r.holder ≡ Manager → p r ≡ false) → Kept n manager objects references → Kept n manager objects (without_first p references)
-first-goes n manager objects references p stay h =
-    fewer n manager objects references (without_first p references) (λ r l. in-without p r references l) (λ r l e. without-in p r references l (stay r e)) h
+fewer n manager objects more references less stay h = search arith
 
 pub and-false : (a b c : Bool) → c ≡ false → (a && b && c) ≡ false
-and-false true true c h = h
-and-false true false c h = refl
-and-false false b c h = refl
+and-false a b c h = search arith
 
 pub drop_asked-kept : (z : Space) (p : ℕ) (o : ObjectId) (strong : Bool) → IsKept z → IsKept (drop_asked z p o strong)
 unfolding drop_asked
-drop_asked-kept z p o strong h =
-    first-goes (suc z.steps) z.manager z.objects z.references (is_asking p o strong) (λ r e. and-false (same_strength strong r) (same r.object o) _ (rw e refl)) h
+drop_asked-kept z p o strong h = search (arith, in-without, without-in, and-false)
 
 pub acknowledge-kept : (z : Space) (o : ObjectId) (strong : Bool) → IsKept z → IsKept (acknowledge z o strong)
 unfolding acknowledge
-acknowledge-kept z o strong h =
-    first-goes (suc z.steps) z.manager z.objects z.references (is_shaking o strong) (λ r e. and-false (same_strength strong r) (same r.object o) _ (rw e refl)) h
+acknowledge-kept z o strong h = search (arith, in-without, without-in, and-false)
 
 pub without_buffer-kept : (z : Space) (made : ℕ) → IsKept z → IsKept (without_buffer z made)
 unfolding without_buffer
-without_buffer-kept z made h =
-    filtered-references (suc z.steps) z.manager z.objects z.references (λ (r : Reference). not (is_of_buffer made r.holder)) (λ r e. rw e refl) h
+without_buffer-kept z made h = search (arith, in-filter, filter-in)
 
 pub thread_goes-kept : (z : Space) (seat : ℕ) → IsKept z → IsKept (thread_goes z seat)
 unfolding thread_goes
-thread_goes-kept z seat h =
-    filtered-references (suc z.steps) z.manager z.objects z.references (λ (r : Reference). not (is_lost_reference z.todo (OfThread seat) r)) (λ r e. rw e refl) h
-
-each-kept : (seats : List ℕ) (z : Space) → IsKept z → IsKept (fold thread_goes z seats)
-each-kept [] z h = h
-each-kept (t ∷ ts) z h = each-kept ts (thread_goes z t) (thread_goes-kept z t h)
+thread_goes-kept z seat h = search (arith, in-filter, filter-in)
 
 pub threads_go-kept : (z : Space) (p : ℕ) → IsKept z → IsKept (threads_go z p)
-unfolding threads_go
-threads_go-kept z p h = each-kept (map seat_of (filter (λ t. t.process == p) z.threads)) z h
-
-manager-stays : (objects : List Object) (p : ℕ) (m : Option ObjectId) (o : ObjectId) → manager_without objects p m ≡ Some o → (m ≡ Some o) × (owned_in objects p o ≡ false)
-manager-stays objects p None o h = absurd (cc)
-manager-stays objects p (Some x) o h = own (owned_in objects p x) refl h
-  where
-    own : (b : Bool) → owned_in objects p x ≡ b → cond b None (Some x) ≡ Some o → (Some x ≡ Some o) × (owned_in objects p o ≡ false)
-    own true e k = absurd (cc)
-    own false e k = let is : x ≡ o = cc in (k, subst (λ y. owned_in objects p y ≡ false) is e)
+threads_go-kept = threads-keep IsKept thread_goes-kept
 
 pub without_process-kept : (z : Space) (p : ℕ) → IsKept z → IsKept (without_process z p)
 unfolding without_process
-without_process-kept z p h = record {
-  refs = λ r l. h.refs r (in-filter (λ (r : Reference). not (is_dropped_with z.objects p r)) r z.references l).0;
-  manages = λ o e.
-      let m = manager-stays z.objects p z.manager o e in
-      let r = h.manages o m.0 in
-      let own : owned_in z.objects p r.0.object ≡ false = subst (λ x. owned_in z.objects p x ≡ false) (sym r.2) m.1 in
-      (r.0, filter-in (λ (r : Reference). not (is_dropped_with z.objects p r)) r.0 z.references r.1 (rw (r.3, own) refl), r.2, r.3, r.4);
-  below = h.below;
-  in_order = h.in_order;
-}
+without_process-kept z p h = search (arith, in-filter, filter-in)
 
 -- ---- references and objects that come
 
@@ -138,8 +90,7 @@ buffer-reference b q [] None k r l = absurd l
 buffer-reference b q [] (Some o) k r (inl e) = inr (ap (λ (x : Reference). Some x.object) e)
 buffer-reference b q [] (Some o) k r (inr l) = absurd l
 buffer-reference b q (x ∷ xs) target k r (inl e) = inl (x, inl refl, ap (λ (x : Reference). x.object) e)
-buffer-reference b q (x ∷ xs) target k r (inr l) =
-    elim (buffer-reference b q xs target (k + 1) r l) [ inl i ↦ inl (i.0, inr i.1, i.2) | inr e ↦ inr e ]
+buffer-reference b q (x ∷ xs) target k r (inr l) = search (arith, buffer-reference b q xs target (k + 1) r l)
 
 sent-here : (s : Space) (p : ℕ) (made : List Object) (o : ObjectId) → KeptBefore s → Sent s p made o → Here (s.objects ++ made) o
 sent-here s p made o h (inl w) = (w.0, w.1, w.2)
@@ -176,8 +127,7 @@ closed-before s made h = record { kept = h.kept; named = h.named }
 
 pub closed-sends : (s : Space) (made p : ℕ) (objects : List Object) (items : List Item) → Sends s p objects items → Sends (closed s made) p objects items
 unfolding closed
-closed-sends s made p objects items h =
-    record { owned = h.owned; sent = h.sent; makes = record { place = h.makes.place; index = h.makes.index; owner = h.makes.owner; untold = h.makes.untold; in_order = h.makes.in_order } }
+closed-sends s made p objects items h = search arith
 
 pub replied-kept : (s : Space) (a : Actor) (d : TransactionData) (parcel : Option Parcel) (f : Frame) (v : Delivery) → KeptBefore s → reply_check s a d parcel f ≡ Ok v → IsKept (replied s a d f v)
 unfolding replied

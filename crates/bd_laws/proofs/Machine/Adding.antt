@@ -1,17 +1,17 @@
--- What stays true while a part of a step adds work items one by one: the test is said of the list, and kept by each item.
+-- For every law: what stays true while a part of a step adds work items one by one: the test is said of the list, and kept
+-- by each item.
 use Rattle.bd_laws.proofs.words.Types.{ObjectId, Item, Process, Object, Reference, Turn, Work, WorkKind, TodoList, OfThread, OfProcess, is_own}
 use Rattle.bd_laws.proofs.words.Space.{Space, with_work, owe, is_notice, turns_of, is_ripe, ripened, ripen, wants_notice, has_notice_in, with_notice, notify, object_in, own_notices, add_notice, withdraw_notice}
-use Rattle.std.proofs.Common.{◌≡◌, ℕ, Bool, true, false, cond, ◌&&◌, not, List, [], ◌∷◌, ◌++◌, Option, Some, None, refl, filter}
+use Rattle.std.proofs.Common.{arith, ◌≡◌, ℕ, Bool, true, false, cond, not, List, [], ◌∷◌, ◌++◌, Option, Some, None, filter}
 use Rattle.bd_space.specs.declared.space.WorkKind.TheVariants as work
 use Rattle.bd_laws.specs.Lists.{In}
 use Rattle.bd_laws.proofs.Lists.{fold-keeps}
-use Rattle.bd_laws.proofs.Tests.{both, not-true}
+use Rattle.bd_laws.proofs.Tests.{not-true}
 
 -- a caller that is there is told
 pub told-keeps : (R : Space → Type 0) (kind : WorkKind) → ((z : Space) (t : ℕ) → R z → R (owe z (OfThread t) kind))
     → (z : Space) (caller : Option ℕ) → R z → R (elim caller as (λ (o : Option ℕ). Space) [ None ↦ z | Some t ↦ owe z (OfThread t) kind ])
-told-keeps R kind k z None h = h
-told-keeps R kind k z (Some t) h = k z t h
+told-keeps R kind k z caller h = search arith
 
 -- a Notice of it is wanted, and missing
 abbrev pub Missing : List Process → List Reference → List Work → Object → Type 0
@@ -19,14 +19,11 @@ Missing processes references todo x = (wants_notice processes references x ≡ t
 
 module _ (P : List Work → Type 0) where
   if-keeps : (b : Bool) (todo more : List Work) → (b ≡ true → P todo → P more) → P todo → P (cond b more todo)
-  if-keeps true todo more k h = k refl h
-  if-keeps false todo more k h = h
+  if-keeps b todo more k h = search arith
 
   pub notice-keeps : (place : ℕ) (processes : List Process) (references : List Reference) (list : TodoList) (todo : List Work) (x : Object)
       → (Missing processes references todo x → P todo → P (with_work place todo list (work.Notice x.id))) → P todo → P (with_notice place processes references list todo x)
-  notice-keeps place processes references list todo x k =
-      if-keeps (wants_notice processes references x && not (has_notice_in todo x.id)) todo (with_work place todo list (work.Notice x.id))
-      (λ e. let parts = both (wants_notice processes references x) (not (has_notice_in todo x.id)) e in k (parts.0, not-true (has_notice_in todo x.id) parts.1))
+  notice-keeps place processes references list todo x k = search (arith, if-keeps, not-true)
 
   pub notify-keeps : (z : Space) → ((todo : List Work) (x : Object) → In x z.objects → Missing z.processes z.references todo x → P todo → P (with_work z.steps todo (OfProcess x.owner) (work.Notice x.id)))
       → P z.todo → P (notify z).todo
@@ -53,6 +50,4 @@ module _ (P : List Work → Type 0) where
     where
       made : (own : Bool) (f : Option Object) (todo : List Work) → P todo
           → P (cond own (elim f as (λ (f : Option Object). List Work) [ None ↦ todo | Some x ↦ with_notice z.steps z.processes z.references (OfThread seat) todo x ]) todo)
-      made false f todo k = k
-      made true None todo k = k
-      made true (Some x) todo k = notice-keeps z.steps z.processes z.references (OfThread seat) todo x (makes todo x) k
+      made own f todo k = search (arith, notice-keeps)

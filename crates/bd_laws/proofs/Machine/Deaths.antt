@@ -1,7 +1,7 @@
--- Parts of a step that change death notifications, and add work items of them alone.
+-- For every law: parts of a step that change death notifications, and add work items of them alone.
 use Rattle.bd_laws.proofs.words.Types.{ObjectId, DeathNotification, OfThread, OfProcess}
-use Rattle.bd_laws.proofs.words.Space.{Space, owe, owned_in, request_check, with_phase, with_death, without_death, requested, owner_lives_in, told_death, mark_cleared, death_ended, cleared, death_done, is_out, tell_death, tell_deaths, is_armed}
-use Rattle.std.proofs.Common.{◌≡◌, ℕ, Bool, true, false, cond, List, ◌&&◌, Some, Ok, refl}
+use Rattle.bd_laws.proofs.words.Space.{Space, owe, request_check, with_phase, with_death, without_death, requested, owner_lives_in, told_death, mark_cleared, death_ended, cleared, death_done, is_out, tell_death, tell_deaths}
+use Rattle.std.proofs.Common.{arith, ◌≡◌, ℕ, Bool, cond, List, Some, Ok}
 use Rattle.bd_space.specs.declared.space.WorkKind.TheVariants as work
 use Rattle.bd_laws.proofs.Lists.{fold-keeps}
 
@@ -12,8 +12,7 @@ pub record OnDeaths (z : Space) (R : Space → Type 0) : Type 0 where
   pub clears : (ds : List DeathNotification) (t cookie : ℕ) → R (owe (record z { deaths = ds }) (OfThread t) (work.Cleared cookie))
 
 pub either : (R : Space → Type 0) (b : Bool) (z y : Space) → R z → R y → R (cond b z y)
-either R true z y h k = h
-either R false z y h k = k
+either R b z y h k = search arith
 
 module _ (z : Space) (R : Space → Type 0) (k : OnDeaths z R) where
   pub on-requested : (p : ℕ) (o : ObjectId) (cookie : ℕ) → R (requested z p o cookie)
@@ -22,7 +21,7 @@ module _ (z : Space) (R : Space → Type 0) (k : OnDeaths z R) where
 
   on-ended : (t : ℕ) (x : DeathNotification) → R (death_ended z t x)
   unfolding death_ended without_death
-  on-ended t x = k.clears _ t x.cookie
+  on-ended t x = search arith
 
   pub on-cleared : (t : ℕ) (x : DeathNotification) → R (cleared z t x)
   unfolding cleared mark_cleared
@@ -39,25 +38,10 @@ pub record DeathCommands (s : Space) (R : Space → Type 0) : Type 0 where
   pub dones : (t p cookie : ℕ) (x : DeathNotification) → told_death s p cookie ≡ Some x → R (death_done s t x)
 
 pub on-commands : (s : Space) (R : Space → Type 0) → OnDeaths s R → DeathCommands s R
-on-commands s R k = record {
-  requests = λ p n cookie o e. on-requested s R k p o cookie;
-  clears = on-cleared s R k;
-  dones = λ t p cookie x e. on-done s R k t x;
-}
-
-pub commands-mapped : (s : Space) (R S : Space → Type 0) → ((y : Space) → R y → S y) → DeathCommands s R → DeathCommands s S
-commands-mapped s R S f k = record {
-  requests = λ p n cookie o e. f _ (k.requests p n cookie o e);
-  clears = λ t x. f _ (k.clears t x);
-  dones = λ t p cookie x e. f _ (k.dones t p cookie x e);
-}
+on-commands s R k = search (arith, on-requested, on-cleared, on-done)
 
 pub commands-both : (s : Space) (R S : Space → Type 0) → DeathCommands s R → DeathCommands s S → DeathCommands s (λ y. R y × S y)
-commands-both s R S k l = record {
-  requests = λ p n cookie o e. (k.requests p n cookie o e, l.requests p n cookie o e);
-  clears = λ t x. (k.clears t x, l.clears t x);
-  dones = λ t p cookie x e. (k.dones t p cookie x e, l.dones t p cookie x e);
-}
+commands-both s R S k l = search arith
 
 -- the same, kept by each
 pub record KeptOnDeaths (R : Space → Type 0) : Type 0 where
@@ -67,34 +51,18 @@ pub record KeptOnDeaths (R : Space → Type 0) : Type 0 where
 
 module _ (R : Space → Type 0) (k : KeptOnDeaths R) where
   pub on-kept : (z : Space) → R z → OnDeaths z R
-  on-kept z h = record {
-    others = λ ds. k.others z ds h;
-    dies = λ ds p made. k.dies _ p made (k.others z ds h);
-    clears = λ ds t cookie. k.clears _ t cookie (k.others z ds h);
-  }
-
-  tells-one : (p : ℕ) (z : Space) (x : DeathNotification) → R z → R (tell_death p z x)
-  unfolding with_phase
-  tells-one p z x h = either R (is_armed x.phase && owned_in z.objects p x.object) _ z (k.dies _ x.process x.made (k.others z _ h)) h
+  on-kept z h = search arith
 
   pub on-told : (z : Space) (p : ℕ) → R z → R (tell_deaths z p)
-  unfolding tell_deaths
-  on-told z p h = fold-keeps R (tell_death p) z.deaths (λ y x l. tells-one p y x) z h
+  unfolding tell_deaths with_phase
+  on-told z p h = fold-keeps R (tell_death p) z.deaths (λ y x l. search (arith, either)) z h
 
 -- what holds of each of them in another form
 pub on-mapped : (z : Space) (R S : Space → Type 0) → ((y : Space) → R y → S y) → OnDeaths z R → OnDeaths z S
-on-mapped z R S f k = record {
-  others = λ ds. f _ (k.others ds);
-  dies = λ ds p made. f _ (k.dies ds p made);
-  clears = λ ds t cookie. f _ (k.clears ds t cookie);
-}
+on-mapped z R S f k = search arith
 
 pub on-both : (z : Space) (R S : Space → Type 0) → OnDeaths z R → OnDeaths z S → OnDeaths z (λ y. R y × S y)
-on-both z R S k l = record {
-  others = λ ds. (k.others ds, l.others ds);
-  dies = λ ds p made. (k.dies ds p made, l.dies ds p made);
-  clears = λ ds t cookie. (k.clears ds t cookie, l.clears ds t cookie);
-}
+on-both z R S k l = search arith
 
 -- what of a space they leave as it is
 pub record Aside (z y : Space) : Type 0 where
@@ -105,14 +73,10 @@ pub record Aside (z y : Space) : Type 0 where
 
 kept-aside : (z : Space) → KeptOnDeaths (λ y. Aside y z)
 unfolding owe
-kept-aside z = record {
-  others = λ y ds h. record { steps = h.steps; threads = h.threads; frames = h.frames; buffers = h.buffers };
-  dies = λ y p made h. record { steps = h.steps; threads = h.threads; frames = h.frames; buffers = h.buffers };
-  clears = λ y t cookie h. record { steps = h.steps; threads = h.threads; frames = h.frames; buffers = h.buffers };
-}
+kept-aside z = search arith
 
 aside : (z : Space) → Aside z z
-aside z = record { steps = refl; threads = refl; frames = refl; buffers = refl }
+aside z = search arith
 
 pub on_deaths-aside : (z : Space) → OnDeaths z (λ y. Aside y z)
 on_deaths-aside z = on-kept _ (kept-aside z) z (aside z)

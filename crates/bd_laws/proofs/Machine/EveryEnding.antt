@@ -1,8 +1,7 @@
--- What holds after every step, from what its parts leave: the walk over them.
-use Rattle.bd_laws.proofs.words.Logic.{◌≡◌, ℕ, ◌-◌, Bool, true, false, cond, not, [], ◌∷◌, List, Option, Some, None, Result, Ok, Err, refl, is_some}
-use Rattle.bd_laws.proofs.words.Types.{TransactionData, Fault, Note, Cause, NoCall, ObjectId, Parcel, Step, Open, Attach, SetManager, Command, Read, ExitThread, ExitProcess, Process, Thread, Object, Reference, Frame, Buffer, DeathNotification, Actor, OfThread, Accepted, Noted, NotHandedOut, SetSpam}
-use Rattle.bd_laws.proofs.words.Space.{first_of, when, Space, actor, thread_in, process_with_pid, served_innermost, owe, list_to_read, settle, Delivery, transaction_step, transaction_outcome, transaction_check, transacted, refusal, reply_step, reply_to, reply_outcome, reply_check, replied, reply_refused, free_step, free_outcome, buffer_at_pointer, without_buffer, ask_step, ask_check, ask, drop_step, drop_asked, done_step, acknowledge, request_step, request_check, requested, told_death, cleared, clear_step, death_done_step, death_done_outcome, command_step, with_looping, follow, read_step, read_taking, read_fault, read_by, taken, thread_goes, exit_thread_step, threads_go, without_process, tell_deaths, exit_process_step, Outcome, completed, refused, by_check, ripen, change, open_step, open_outcome, open_fault, attach_step, attach_outcome, is_pid, is_window, manager_step, manager_outcome, is_manager_busy, by_actor, with_thread, with_process, with_manager, spam_step, with_spam_detection}
-use Rattle.bd_uapi.specs.declared.command.Command as command
+-- For every law: what holds after every step, from what its parts leave: the walk over them.
+use Rattle.bd_laws.proofs.words.Logic.{arith, ◌≡◌, ℕ, ◌-◌, Bool, true, false, cond, List, Option, Some, None, Result, Ok, refl}
+use Rattle.bd_laws.proofs.words.Types.{TransactionData, Note, Cause, NoCall, ObjectId, Parcel, Step, Open, Attach, SetManager, Command, Read, ExitThread, ExitProcess, Process, Thread, Object, Reference, Frame, Buffer, DeathNotification, Actor, OfThread, Accepted, Noted, NotHandedOut, SetSpam}
+use Rattle.bd_laws.proofs.words.Space.{Space, actor, thread_in, served_innermost, owe, list_to_read, settle, Delivery, transaction_step, transaction_outcome, transaction_check, transacted, refusal, reply_step, reply_to, reply_outcome, reply_check, replied, reply_refused, free_step, free_outcome, buffer_at_pointer, without_buffer, ask_step, ask_check, ask, drop_step, drop_asked, done_step, acknowledge, request_step, request_check, requested, told_death, cleared, clear_step, death_done_step, death_done_outcome, command_step, with_looping, follow, read_step, read_taking, read_fault, read_by, taken, thread_goes, exit_thread_step, threads_go, without_process, tell_deaths, exit_process_step, Outcome, completed, by_check, ripen, change, open_step, attach_step, manager_step, is_manager_busy, by_actor, with_thread, with_process, with_manager, spam_step, with_spam_detection}
 use Rattle.bd_uapi.specs.declared.command.Command.TheVariants as bc
 use Rattle.bd_space.specs.declared.space.WorkKind.TheVariants as work
 use Rattle.bd_laws.proofs.Machine.Deaths.{DeathCommands}
@@ -67,42 +66,16 @@ pub record Endings (s : Space) (seat : ℕ) (x : Step) (M F : Space → Type 0) 
   pub ends : (a : Actor) → actor s seat ≡ Some a → F (settle (follow (tell_deaths (without_process (threads_go s a.process.made) a.process.made) a.process.made)))
 
 module _ (s : Space) (seat : ℕ) (x : Step) (M F : Space → Type 0) (k : Endings s seat x M F) where
-  nobody : (o : Option Thread) → is_some o ≡ false → o ≡ None
-  nobody None e = refl
-  nobody (Some t) e = absurd (cc)
-
-  unseated : (a b c d : Bool) (w x y z : Fault) → first_of (when a w ∷ when b x ∷ when c y ∷ when d z ∷ []) ≡ None → c ≡ false
-  unseated true b c d w x y z e = absurd (cc)
-  unseated false true c d w x y z e = absurd (cc)
-  unseated false false true d w x y z e = absurd (cc)
-  unseated false false false d w x y z e = refl
-
-  opens : (pid euid window : ℕ) (o : Option Fault) → open_fault s seat pid window ≡ o → F (open_outcome s seat pid euid window o).space
-  opens pid euid window None e = k.set_up.opened pid euid window (nobody (thread_in s.threads seat) (unseated (not (is_pid pid)) (not (is_window window)) _ (is_some (process_with_pid s.processes pid)) _ _ _ _ e))
-  opens pid euid window (Some f) e = k.set_up.same
-
-  attaches : (q : Option Process) (b : Bool) → is_some (thread_in s.threads seat) ≡ b → F (attach_outcome s seat q b).space
-  attaches q true e = k.set_up.same
-  attaches None false e = k.set_up.same
-  attaches (Some q) false e = k.set_up.attached q.made (nobody (thread_in s.threads seat) e)
-
-  manages : (a : Actor) → actor s seat ≡ Some a → (b : Bool) → is_manager_busy s a.process.made ≡ b → F (manager_outcome s a.process.made b).space
-  manages a e true h = k.set_up.same
-  manages a e false h = k.set_up.managed a e h
-
   acts : (o : Option Actor) (f : Actor → Outcome) → actor s seat ≡ o → ((a : Actor) → actor s seat ≡ Some a → F (f a).space) → F (by_actor s o f).space
-  acts None f e h = k.set_up.same
-  acts (Some a) f e h = h a e
+  acts o f e h = search arith
 
   transacts-to : (a : Actor) (d : TransactionData) (parcel : Option Parcel) (r : Result Delivery Cause) → x ≡ Command (bc.Transaction d) parcel → actor s seat ≡ Some a
       → transaction_check s a d parcel ≡ r → F (transaction_outcome s a d r).space
-  transacts-to a d parcel (Err c) e h t = k.refuses a.thread.seat c
-  transacts-to a d parcel (Ok v) e h t = k.completes _ (k.changes.transacts a d parcel v e h t)
+  transacts-to a d parcel r e h t = search arith
 
   replies-with : (a : Actor) (d : TransactionData) (parcel : Option Parcel) (f : Frame) (r : Result Delivery Cause) → x ≡ Command (bc.Reply d) parcel → actor s seat ≡ Some a
       → served_innermost s a.thread.seat ≡ Some f → reply_check s a d parcel f ≡ r → F (reply_outcome s a d f r).space
-  replies-with a d parcel f (Err c) e h i t = k.fails a d parcel f e h i
-  replies-with a d parcel f (Ok v) e h i t = k.completes _ (k.changes.replies a d parcel f v e h i t)
+  replies-with a d parcel f r e h i t = search arith
 
   replies-to : (a : Actor) (d : TransactionData) (parcel : Option Parcel) (o : Option Frame) → x ≡ Command (bc.Reply d) parcel → actor s seat ≡ Some a
       → served_innermost s a.thread.seat ≡ o → F (reply_to s a d parcel o).space
@@ -111,69 +84,38 @@ module _ (s : Space) (seat : ℕ) (x : Step) (M F : Space → Type 0) (k : Endin
 
   frees-if : (p ptr : ℕ) (b : Buffer) → buffer_at_pointer s p ptr ≡ Some b → (handed : Bool) → b.handed ≡ handed
       → F (cond {A = Outcome} handed (record { answer = Accepted; space = completed (without_buffer s b.made) }) (record { answer = Noted NotHandedOut; space = s })).space
-  frees-if p ptr b e true h = k.completes _ (k.changes.frees p ptr b e h)
-  frees-if p ptr b e false h = k.set_up.same
+  frees-if p ptr b e handed h = search arith
 
   frees-at : (p ptr : ℕ) (o : Option Buffer) → buffer_at_pointer s p ptr ≡ o → F (free_outcome s o).space
-  frees-at p ptr None e = k.set_up.same
-  frees-at p ptr (Some b) e = frees-if p ptr b e b.handed refl
+  frees-at p ptr o e = search (arith, frees-if)
 
   asks-for : (a : Actor) (n : ℕ) (strong : Bool) (r : Result ObjectId Note) → actor s seat ≡ Some a → IsAsking x n strong → ask_check s a.process.made n strong ≡ r
       → F (by_check s (λ o. ask s a.process.made o strong) r).space
-  asks-for a n strong (Err m) e i t = k.set_up.same
-  asks-for a n strong (Ok o) e i t = k.completes _ (k.changes.asks a n strong o e i t)
+  asks-for a n strong r e i t = search arith
 
   drops-of : (p : ℕ) (strong : Bool) (r : Result ObjectId Note) → F (by_check s (λ o. drop_asked s p o strong) r).space
-  drops-of p strong (Err m) = k.set_up.same
-  drops-of p strong (Ok o) = k.completes _ (k.changes.drops p o strong)
+  drops-of p strong r = search arith
 
   acknowledges-of : (strong : Bool) (r : Result Object Note) → IsAcknowledging x strong → F (by_check s (λ x. acknowledge s x.id strong) r).space
-  acknowledges-of strong (Err m) i = k.set_up.same
-  acknowledges-of strong (Ok o) i = k.completes _ (k.changes.acknowledges o.id strong i)
+  acknowledges-of strong r i = search arith
 
   requests-of : (p n cookie : ℕ) (r : Result ObjectId Note) → request_check s p n ≡ r → F (by_check s (λ o. requested s p o cookie) r).space
-  requests-of p n cookie (Err m) e = k.set_up.same
-  requests-of p n cookie (Ok o) e = k.completes _ (k.changes.on_deaths.requests p n cookie o e)
+  requests-of p n cookie r e = search arith
 
   clears-of : (t : ℕ) (r : Result DeathNotification Note) → F (by_check s (cleared s t) r).space
-  clears-of t (Err m) = k.set_up.same
-  clears-of t (Ok y) = k.completes _ (k.changes.on_deaths.clears t y)
+  clears-of t r = search arith
 
   is_done-of : (t p cookie : ℕ) (o : Option DeathNotification) → told_death s p cookie ≡ o → F (death_done_outcome s t o).space
-  is_done-of t p cookie None e = k.set_up.same
-  is_done-of t p cookie (Some y) e = k.completes _ (k.changes.on_deaths.dones t p cookie y e)
-
-  commands : (a : Actor) (c : command.Command) (parcel : Option Parcel) → x ≡ Command c parcel → actor s seat ≡ Some a → F (command_step s a c parcel).space
-  unfolding command_step transaction_step reply_step free_step ask_step drop_step done_step request_step clear_step death_done_step
-  commands a (bc.Transaction d) parcel e h = transacts-to a d parcel (transaction_check s a d parcel) e h refl
-  commands a (bc.Reply d) parcel e h = replies-to a d parcel (served_innermost s a.thread.seat) e h refl
-  commands a (bc.FreeBuffer ptr) parcel e h = frees-at a.process.made ptr (buffer_at_pointer s a.process.made ptr) refl
-  commands a (bc.Increfs n) parcel e h = asks-for a n false (ask_check s a.process.made n false) h (parcel, e) refl
-  commands a (bc.Acquire n) parcel e h = asks-for a n true (ask_check s a.process.made n true) h (parcel, e) refl
-  commands a (bc.Release n) parcel e h = drops-of a.process.made true _
-  commands a (bc.Decrefs n) parcel e h = drops-of a.process.made false _
-  commands a (bc.IncrefsDone ptr cookie) parcel e h = acknowledges-of false _ (ptr, cookie, parcel, e)
-  commands a (bc.AcquireDone ptr cookie) parcel e h = acknowledges-of true _ (ptr, cookie, parcel, e)
-  commands a bc.EnterLooper parcel e h = k.completes _ (k.changes.loops a.thread.seat true)
-  commands a bc.ExitLooper parcel e h = k.completes _ (k.changes.loops a.thread.seat false)
-  commands a (bc.RequestDeathNotification n cookie) parcel e h = requests-of a.process.made n cookie (request_check s a.process.made n) refl
-  commands a (bc.ClearDeathNotification n cookie) parcel e h = clears-of a.thread.seat _
-  commands a (bc.DeadBinderDone cookie) parcel e h = is_done-of a.thread.seat a.process.made cookie (told_death s a.process.made cookie) refl
-
-  reads-list : (a : Actor) (limit : ℕ) (o : Option Fault) → x ≡ Read limit → actor s seat ≡ Some a → read_fault limit (list_to_read s a.thread) ≡ o
-      → F (elim o as (λ (o : Option Fault). Outcome) [ Some y ↦ refused s y | None ↦ read_taking s a.thread.seat (taken s (limit - 4) (list_to_read s a.thread)) ]).space
-  unfolding read_taking
-  reads-list a limit (Some y) i e h = k.set_up.same
-  reads-list a limit None i e h = k.reads a limit e i h
+  is_done-of t p cookie o e = search arith
 
   changes : (y : Step) → x ≡ y → F (change s seat y).space
-  unfolding change open_step attach_step manager_step spam_step read_step exit_thread_step exit_process_step
-  changes (Open pid euid window) e = opens pid euid window (open_fault s seat pid window) refl
-  changes (Attach pid) e = attaches (process_with_pid s.processes pid) (is_some (thread_in s.threads seat)) refl
-  changes SetManager e = acts (actor s seat) _ refl (λ a h. manages a h (is_manager_busy s a.process.made) refl)
+  unfolding change open_step attach_step manager_step spam_step read_step exit_thread_step exit_process_step read_taking ask_step clear_step command_step death_done_step done_step drop_step free_step reply_step request_step transaction_step
+  changes (Open pid euid window) e = search arith
+  changes (Attach pid) e = search arith
+  changes SetManager e = acts (actor s seat) _ refl (λ a h. search arith)
   changes (SetSpam on) e = acts (actor s seat) _ refl (λ a h. k.set_up.marked a.process.made on)
-  changes (Command c parcel) e = acts (actor s seat) _ refl (λ a h. commands a c parcel e h)
-  changes (Read limit) e = acts (actor s seat) _ refl (λ a h. reads-list a limit (read_fault limit (list_to_read s a.thread)) e h refl)
+  changes (Command c parcel) e = acts (actor s seat) _ refl (λ a h. search (arith, transacts-to, replies-to, frees-at, asks-for, drops-of, acknowledges-of, requests-of, clears-of, is_done-of))
+  changes (Read limit) e = acts (actor s seat) _ refl (λ a h. search arith)
   changes ExitThread e = acts (actor s seat) _ refl (λ a h. k.leaves a h)
   changes ExitProcess e = acts (actor s seat) _ refl (λ a h. k.ends a h)
 

@@ -1,14 +1,10 @@
--- What parts of a step that every law meets leave of single fields of the space.
-use Rattle.bd_laws.proofs.words.Logic.{◌≡◌, ℕ, Bool, true, false, cond, not, Option, Some, None, refl, filter}
+-- For every law: what the parts of a step leave of single fields of the space.
+use Rattle.bd_laws.proofs.words.Logic.{arith, ◌≡◌, ℕ, Bool, cond, not, Option, Some, None, refl, filter}
 use Rattle.bd_laws.proofs.words.Types.{TransactionData, Actor, Frame, TodoList, OfThread, WorkKind}
 use Rattle.bd_laws.proofs.words.Space.{Space, owe, closed, is_frame, counted, follow_of, names_go_of, objects_go_of, deaths_go_of, work_goes_of, notify_of, NameTest, ObjectTest, Delivery, delivered, own_notices, add_buffer, known_by, assign_numbers, refer, make_objects, serve}
 use Rattle.bd_space.specs.declared.space.WorkKind.TheVariants as work
 
 -- ---- one item more
-
-pub owe-steps : (z : Space) (list : TodoList) (kind : WorkKind) → (owe z list kind).steps ≡ z.steps
-unfolding owe
-owe-steps z list kind = refl
 
 pub owe-threads : (z : Space) (list : TodoList) (kind : WorkKind) → (owe z list kind).threads ≡ z.threads
 unfolding owe
@@ -23,8 +19,7 @@ unfolding owe
 owe-buffers z list kind = refl
 
 pub told-frames : (z : Space) (caller : Option ℕ) (kind : WorkKind) → (elim caller as (λ (o : Option ℕ). Space) [ None ↦ z | Some t ↦ owe z (OfThread t) kind ]).frames ≡ z.frames
-told-frames z None kind = refl
-told-frames z (Some t) kind = owe-frames z (OfThread t) kind
+told-frames z caller kind = search (arith, owe-frames)
 
 -- ---- a frame closes, or is served
 
@@ -45,8 +40,7 @@ unfolding closed
 closed-same s made = (refl, refl, refl, refl)
 
 pub serve-made : (seat : ℕ) (c : Bool) (f : Frame) → (cond c (serve seat f) f).made ≡ f.made
-serve-made seat true f = refl
-serve-made seat false f = refl
+serve-made seat c f = search arith
 
 -- ---- what is sent
 

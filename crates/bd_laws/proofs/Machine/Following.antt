@@ -1,6 +1,7 @@
--- A relation of a space to an earlier one that each part of what follows keeps, or each part of an exit, the whole keeps.
+-- For every law: a relation of a space to an earlier one that each part of what follows keeps, or each part of an exit, the
+-- whole keeps.
 use Rattle.bd_laws.proofs.words.Space.{Space, objects_go, names_go, deaths_go, work_goes, notify, follow, thread_goes, seat_of, threads_go, without_process, tell_deaths}
-use Rattle.std.proofs.Common.{ℕ, ◌==◌, map, filter}
+use Rattle.std.proofs.Common.{arith, ℕ, ◌==◌, map, filter}
 use Rattle.bd_space.specs.declared.space.Thread.{Thread}
 use Rattle.bd_laws.proofs.Lists.{fold-keeps}
 
@@ -15,18 +16,12 @@ pub record FollowedBy (R : Space → Space → Type 0) : Type 0 where
 module _ (R : Space → Space → Type 0) (trans : (z y x : Space) → R z y → R y x → R z x) where
   pub follow-by : FollowedBy R → (z : Space) → R (follow z) z
   unfolding follow
-  follow-by k z =
-      let shed = deaths_go (objects_go (names_go z)) in
-      trans (notify (work_goes shed)) (work_goes shed) z (k.notices (work_goes shed)) (trans (work_goes shed) shed z (k.work shed)
-      (trans shed (objects_go (names_go z)) z (k.deaths (objects_go (names_go z))) (trans (objects_go (names_go z)) (names_go z) z (k.objects (names_go z)) (k.names z))))
+  follow-by k z = search arith
 
   -- a process ends: its threads go, then what it has, and deaths are told
   pub ends-by : ((z : Space) (p : ℕ) → R (threads_go z p) z) → ((z : Space) (p : ℕ) → R (without_process z p) z) → ((z : Space) (p : ℕ) → R (tell_deaths z p) z)
       → (z : Space) (p : ℕ) → R (tell_deaths (without_process (threads_go z p) p) p) z
-  ends-by threads rest deaths z p =
-      let a = threads_go z p in
-      let b = without_process a p in
-      trans (tell_deaths b p) b z (deaths b p) (trans b a z (rest a p) (threads z p))
+  ends-by threads rest deaths z p = search arith
 
 -- what each thread's going keeps, that of a process's threads keeps
 pub threads-keep : (P : Space → Type 0) → ((z : Space) (seat : ℕ) → P z → P (thread_goes z seat)) → (z : Space) (p : ℕ) → P z → P (threads_go z p)

@@ -1,5 +1,6 @@
--- A step that has a process told of its one-way flooding, or no longer: what its mark leaves of the live processes.
-use Rattle.bd_laws.proofs.words.Logic.{◌≡◌, ℕ, ◌==◌, Bool, true, false, cond, ◌||◌, List, [], ◌∷◌, refl, ap, sym, ◌∙◌}
+-- For every law: a step that has a process told of its one-way flooding, or no longer: what its mark leaves of the live
+-- processes.
+use Rattle.bd_laws.proofs.words.Logic.{arith, ◌≡◌, ℕ, ◌==◌, Bool, cond, List, [], ◌∷◌, refl}
 use Rattle.bd_laws.proofs.words.Types.{Process}
 use Rattle.bd_laws.proofs.words.Space.{changed, lives_in, detecting}
 use Rattle.bd_laws.proofs.words.Laws.{In}
@@ -10,17 +11,13 @@ abbrev pub marked : ℕ → Bool → List Process → List Process
 marked p on processes = changed (λ (q : Process). q.made == p) (detecting on) processes
 
 mark-made : (on b : Bool) (q : Process) → (cond b (detecting on q) q).made ≡ q.made
-mark-made on true q = refl
-mark-made on false q = refl
+mark-made on b q = search arith
 
 -- each was there before
 pub marked-in : (p : ℕ) (on : Bool) (processes : List Process) (q : Process) → In q (marked p on processes) → (r : Process) × In r processes × (r.made ≡ q.made)
-marked-in p on processes q l =
-    let r = in-changed (λ (x : Process). x.made == p) (detecting on) q processes l in
-    (r.0, r.1, sym (ap (λ (x : Process). x.made) r.2 ∙ mark-made on (r.0.made == p) r.0))
+marked-in p on processes q l = search (arith, in-changed, mark-made)
 
 -- the same ones live
 pub marked-lives : (p : ℕ) (on : Bool) (processes : List Process) (n : ℕ) → lives_in (marked p on processes) n ≡ lives_in processes n
 marked-lives p on [] n = refl
-marked-lives p on (q ∷ qs) n =
-    ap (λ m. (m == n) || lives_in (marked p on qs) n) (mark-made on (q.made == p) q) ∙ ap (λ b. (q.made == n) || b) (marked-lives p on qs n)
+marked-lives p on (q ∷ qs) n = search (arith, marked-lives p on qs n, mark-made)

@@ -1,8 +1,9 @@
--- One table of the parts of a step. What lies between the space after a part and that before it is told for the changes that
--- parts are made of; then it is told of every part but of those that carry calls: transactions, replies, readings, turns.
-use Rattle.bd_laws.proofs.words.Logic.{◌≡◌, ℕ, ◌-◌, Bool, true, false, not, List, [], ◌∷◌, ◌++◌, Option, Some, None, Ok, refl, ◌∙◌, filter}
+-- For every law: one table of the parts of a step. What lies between the space after a part and that before it is told for
+-- the changes that parts are made of; then it is told of every part but of those that carry calls: transactions, replies,
+-- readings, turns.
+use Rattle.bd_laws.proofs.words.Logic.{arith, ◌≡◌, ℕ, ◌-◌, Bool, not, List, [], ◌∷◌, ◌++◌, Option, Some, None, Ok, filter}
 use Rattle.bd_laws.proofs.words.Types.{ObjectId, Process, Object, Reference, Name, DeathNotification, Frame, Actor, Parcel, Item, Buffer, Work, Step, Command, Read, Return, DeadReply, TransactionData, TodoList, OfThread, OfProcess, WorkKind}
-use Rattle.bd_laws.proofs.words.Space.{Space, called, call_out, is_notice, settle, completed, delivered, own_notices, add_buffer, known_by, refer, make_objects, buffer_of, owe, closed, follow, notify, work_goes, deaths_go, objects_go, names_go, assign_numbers, ripen, ask, drop_asked, acknowledge, with_looping, without_buffer, with_thread, with_process, with_manager, thread_goes, threads_go, without_process, tell_deaths, Delivery, transacted, transaction_check, replied, reply_check, served_innermost, read_by, taken, list_to_read, read_fault, actor, is_spam, with_spam_detection}
+use Rattle.bd_laws.proofs.words.Space.{Space, call_out, is_notice, settle, completed, delivered, own_notices, add_buffer, known_by, refer, make_objects, buffer_of, owe, closed, follow, notify, work_goes, deaths_go, objects_go, names_go, assign_numbers, ripen, ask, drop_asked, acknowledge, with_looping, without_buffer, with_thread, with_process, with_manager, thread_goes, threads_go, without_process, tell_deaths, Delivery, transacted, transaction_check, replied, reply_check, served_innermost, read_by, taken, list_to_read, read_fault, actor, with_spam_detection}
 use Rattle.bd_space.specs.declared.space.WorkKind.TheVariants as work
 use Rattle.bd_uapi.specs.declared.command.Command.TheVariants as bc
 use Rattle.bd_laws.proofs.Machine.Adding.{told-keeps, notify-keeps, own_notices-keeps, ripen-keeps}
@@ -67,11 +68,7 @@ module _ (R : Space → Space → Type 0) (T : WorkKind → Type 0) (t : Table R
   })
 
   deaths-kept : (z : Space) → KeptOnDeaths (λ y. R y z)
-  deaths-kept z = record {
-    others = λ y ds. t.trans _ y z (t.beside y _ _ _ _ _ ds);
-    dies = λ y p made. t.trans _ y z (t.owes y (OfProcess p) (work.Death made) (t.death made));
-    clears = λ y u cookie. t.trans _ y z (t.owes y (OfThread u) (work.Cleared cookie) (t.clear cookie));
-  }
+  deaths-kept z = search (arith, t.trans, t.beside, t.owes, t.death, t.clear)
 
   pub deaths-by : (z : Space) → OnDeaths z (λ y. R y z)
   deaths-by z = on-kept _ (deaths-kept z) z (t.same z)
@@ -120,83 +117,32 @@ module _ (R : Space → Space → Type 0) (T : WorkKind → Type 0) (t : Table R
 
     pub transacted-by : ((z : Space) (seat p : ℕ) → R (call_out z seat p) z) → (s : Space) (a : Actor) (d : TransactionData) (v : Delivery) → R (transacted s a d v) s
     unfolding transacted
-    transacted-by calls s a d v = at v.one_way
-      where
-        spam : Bool
-        spam = is_spam (delivered s a d v) a v
-
-        at : (b : Bool) → R (called (owe (delivered s a d v) (OfThread a.thread.seat) (work.Complete spam)) a.thread.seat v.receiver.made b) s
-        at true = sent-by s a d v spam
-        at false = let y = owe (delivered s a d v) (OfThread a.thread.seat) (work.Complete spam) in t.trans _ y s (calls y a.thread.seat v.receiver.made) (sent-by s a d v spam)
+    transacted-by calls s a d v = search (arith, sent-by)
 
   -- ---- every step, for what rests on a space as R tells
 
   module _ (s : Space) (seat : ℕ) (x : Step) (F : Space → Type 0) (from : (z : Space) → R z s → F z) where
     pub set_up-by : SetUp s seat F
     unfolding with_process with_manager with_spam_detection
-    set_up-by = record {
-      same = from s (t.same s);
-      opened = λ pid euid window free. let y = with_process s pid euid window in from _ (t.trans _ y s (t.seats y seat s.steps) (t.beside s _ _ _ _ _ _));
-      attached = λ p free. from _ (t.seats s seat p);
-      managed = λ a e b. from _ (t.beside s _ _ _ _ _ _);
-      marked = λ p on. from _ (t.beside s _ _ _ _ _ _);
-    }
+    set_up-by = search arith
 
     -- where exits are told by themselves
     pub changes-but : Carried s seat x F → ((a : Actor) → actor s seat ≡ Some a → F (thread_goes s a.thread.seat))
         → ((a : Actor) → actor s seat ≡ Some a → F (tell_deaths (without_process (threads_go s a.process.made) a.process.made) a.process.made)) → Changes s seat x F
     unfolding ask assign_numbers drop_asked acknowledge
-    changes-but k leaves ends = record {
-      transacts = k.transacts;
-      replies = k.replies;
-      frees = λ p ptr b e h. from _ (t.frees s b.made);
-      asks = λ a n strong o e i h. from _ (t.beside s _ _ _ _ _ _);
-      drops = λ p o strong. from _ (t.beside s _ _ _ _ _ _);
-      acknowledges = λ o strong i. from _ (t.beside s _ _ _ _ _ _);
-      loops = λ u looping. from _ (t.loops s u looping);
-      on_deaths = on-commands s _ (on-mapped s _ _ from (deaths-by s));
-      reads = k.reads;
-      leaves = leaves;
-      ends = ends;
-      ripens = k.ripens;
-    }
+    changes-but k leaves ends = search (arith, on-commands, on-mapped, deaths-by)
 
     module _ (e : Exits R) where
       pub changes-by : Carried s seat x F → Changes s seat x F
       changes-by k = changes-but k (λ a i. from _ (e.goes s a.thread.seat)) (λ a i. from _ (ended-by e s a.process.made))
 
       pub keeps-by : Closing R → ((z y : Space) → R z y → F y → F z) → ((r : Return) → T (work.Refusal r)) → ((r : Return) → T (work.Verdict r)) → Carried s seat x F → Keeps s seat x F F
-      keeps-by closing later refusal verdict k = record {
-        set_up = set_up-by;
-        changes = changes-by k;
-        follows = λ z. later (follow z) z (followed-by z);
-        closes = λ z made. later (closed z made) z (closing z made);
-        refuses = λ z u r. later _ z (t.owes z (OfThread u) (work.Refusal r) (refusal r));
-        tells = λ z u r. later _ z (t.owes z (OfThread u) (work.Verdict r) (verdict r));
-      }
+      keeps-by closing later refusal verdict k = search (arith, set_up-by, changes-by, followed-by, t.owes)
 
 -- ---- two tables together
 
 pub table-both : (R S : Space → Space → Type 0) (T U : WorkKind → Type 0) → Table R T → Table S U → Table (λ z y. R z y × S z y) (λ k. T k × U k)
-table-both R S T U t u = record {
-  same = λ z. (t.same z, u.same z);
-  trans = λ z y x h k. (t.trans z y x h.0 k.0, u.trans z y x h.1 k.1);
-  beside = λ z qs m os rs ns ds. (t.beside z qs m os rs ns ds, u.beside z qs m os rs ns ds);
-  seats = λ z seat p. (t.seats z seat p, u.seats z seat p);
-  loops = λ z l looping. (t.loops z l looping, u.loops z l looping);
-  frees = λ z made. (t.frees z made, u.frees z made);
-  owes = λ z list kind h. (t.owes z list kind h.0, u.owes z list kind h.1);
-  sheds = λ z. (t.sheds z, u.sheds z);
-  notice = λ o. (t.notice o, u.notice o);
-  death = λ made. (t.death made, u.death made);
-  clear = λ cookie. (t.clear cookie, u.clear cookie);
-}
-
-pub exits-both : (R S : Space → Space → Type 0) → Exits R → Exits S → Exits (λ z y. R z y × S z y)
-exits-both R S e f = record {
-  goes = λ z seat. (e.goes z seat, f.goes z seat);
-  rest = λ z p. (e.rest z p, f.rest z p);
-}
+table-both R S T U t u = search arith
 
 -- ---- what touches no frames
 
@@ -209,19 +155,7 @@ Any kind = Unit {0}
 
 pub frames_table : Table SameFrames Any
 unfolding with_thread with_looping without_buffer owe work_goes
-frames_table = record {
-  same = λ z. refl;
-  trans = λ z y x h k. h ∙ k;
-  beside = λ z qs m os rs ns ds. refl;
-  seats = λ z seat p. refl;
-  loops = λ z t looping. refl;
-  frees = λ z made. refl;
-  owes = λ z list kind any. refl;
-  sheds = λ z. refl;
-  notice = λ o. tt;
-  death = λ made. tt;
-  clear = λ cookie. tt;
-}
+frames_table = search arith
 
 -- ---- what lies between work items alone
 
@@ -241,19 +175,7 @@ module _ (L : List Work → List Work → Type 0) (T : WorkKind → Type 0) (k :
 
   pub listing_table : Table Between T
   unfolding with_thread with_looping without_buffer owe work_goes
-  listing_table = record {
-    same = λ z. k.same z.todo;
-    trans = λ z y x. k.trans z.todo y.todo x.todo;
-    beside = λ z qs m os rs ns ds. k.same z.todo;
-    seats = λ z seat p. k.same z.todo;
-    loops = λ z t looping. k.same z.todo;
-    frees = λ z made. k.same z.todo;
-    owes = λ z list kind allowed. k.push z.todo _ allowed;
-    sheds = λ z. k.fewer _ z.todo;
-    notice = k.notice;
-    death = k.death;
-    clear = k.clear;
-  }
+  listing_table = search arith
 
   pub listing_exits : Exits Between
   unfolding thread_goes without_process

@@ -1,8 +1,7 @@
--- Parts of a step that leave processes, objects, references, names and buffers as they are.
-use Rattle.bd_laws.proofs.words.Types.{Item, Thread, Frame, Work, DeathNotification, TodoList, OfThread, OfProcess, WorkKind}
-use Rattle.bd_laws.proofs.words.Space.{Space, owe, closed, ripen, notify, work_goes, deaths_go, own_notices, called, call_out, with_looping, tell_deaths}
-use Rattle.std.proofs.Common.{◌≡◌, ℕ, Bool, true, false, List, Option, Some, None, refl, ◌∙◌}
-use Rattle.bd_space.specs.declared.space.WorkKind.TheVariants as work
+-- For every law: parts of a step that leave processes, objects, references, names and buffers as they are.
+use Rattle.bd_laws.proofs.words.Types.{Thread, Frame, Work, DeathNotification, TodoList, OfThread, WorkKind}
+use Rattle.bd_laws.proofs.words.Space.{Space, owe, closed, ripen, notify, work_goes, deaths_go, called, call_out, with_looping, tell_deaths}
+use Rattle.std.proofs.Common.{arith, ◌≡◌, ℕ, Bool, List, Option, Some, None, refl}
 use Rattle.bd_laws.proofs.Machine.Deaths.{OnDeaths, KeptOnDeaths, on-kept, on-told}
 
 pub record Untouched (z y : Space) : Type 0 where
@@ -18,26 +17,17 @@ other : (z : Space) (ts : List Thread) (fs : List Frame) (td : List Work) (ds : 
 other z ts fs td ds = record { steps = refl; processes = refl; manager = refl; objects = refl; references = refl; names = refl; buffers = refl }
 
 pub untouched : (z : Space) → Untouched z z
-untouched z = other z z.threads z.frames z.todo z.deaths
+untouched z = search (arith, other)
 
 pub untouched-trans : (z y x : Space) → Untouched z y → Untouched y x → Untouched z x
-untouched-trans z y x h k = record {
-  steps = h.steps ∙ k.steps;
-  processes = h.processes ∙ k.processes;
-  manager = h.manager ∙ k.manager;
-  objects = h.objects ∙ k.objects;
-  references = h.references ∙ k.references;
-  names = h.names ∙ k.names;
-  buffers = h.buffers ∙ k.buffers;
-}
+untouched-trans z y x h k = search arith
 
 pub owe-untouched : (z : Space) (list : TodoList) (kind : WorkKind) → Untouched (owe z list kind) z
 unfolding owe
 owe-untouched z list kind = other _ _ _ _ _
 
 pub told-untouched : (z : Space) (caller : Option ℕ) (kind : WorkKind) → Untouched (elim caller as (λ (o : Option ℕ). Space) [ None ↦ z | Some t ↦ owe z (OfThread t) kind ]) z
-told-untouched z None kind = untouched z
-told-untouched z (Some t) kind = owe-untouched z (OfThread t) kind
+told-untouched z caller kind = search (arith, owe-untouched)
 
 pub closed-untouched : (z : Space) (made : ℕ) → Untouched (closed z made) z
 unfolding closed
@@ -59,28 +49,16 @@ pub deaths_go-untouched : (z : Space) → Untouched (deaths_go z) z
 unfolding deaths_go
 deaths_go-untouched z = other _ _ _ _ _
 
-pub own_notices-untouched : (z : Space) (seat : ℕ) (items : List Item) → Untouched (own_notices z seat items) z
-unfolding own_notices
-own_notices-untouched z seat items = other _ _ _ _ _
-
-call_out-untouched : (z : Space) (seat p : ℕ) → Untouched (call_out z seat p) z
-unfolding call_out owe
-call_out-untouched z seat p = other _ _ _ _ _
-
 pub called-untouched : (z : Space) (seat p : ℕ) (one_way : Bool) → Untouched (called z seat p one_way) z
-called-untouched z seat p true = untouched z
-called-untouched z seat p false = call_out-untouched z seat p
+unfolding call_out owe
+called-untouched z seat p one_way = search (arith, other)
 
 pub with_looping-untouched : (z : Space) (t : ℕ) (looping : Bool) → Untouched (with_looping z t looping) z
 unfolding with_looping
 with_looping-untouched z t looping = other _ _ _ _ _
 
 kept-on_deaths : (z : Space) → KeptOnDeaths (λ y. Untouched y z)
-kept-on_deaths z = record {
-  others = λ y ds h. untouched-trans _ y z (other _ _ _ _ _) h;
-  dies = λ y p made h. untouched-trans _ y z (owe-untouched y (OfProcess p) (work.Death made)) h;
-  clears = λ y t cookie h. untouched-trans _ y z (owe-untouched y (OfThread t) (work.Cleared cookie)) h;
-}
+kept-on_deaths z = search (arith, untouched-trans, owe-untouched)
 
 pub on_deaths-untouched : (z : Space) → OnDeaths z (λ y. Untouched y z)
 on_deaths-untouched z = on-kept _ (kept-on_deaths z) z (untouched z)

@@ -1,7 +1,7 @@
--- The frames of every space after a history lie on paths.
+-- For SpacesAreTidy: the frames of every space after a history lie on paths.
 use Rattle.bd_laws.proofs.words.Types.{Step, Entry, OfThread}
 use Rattle.bd_laws.proofs.words.Space.{Space, opening, follow, refusal, change, counted, next}
-use Rattle.std.proofs.Common.{◌≡◌, ℕ, ◌-◌, suc, refl, sym, subst}
+use Rattle.std.proofs.Common.{arith, ◌≡◌, ℕ, ◌-◌, suc, refl, sym, subst}
 use Rattle.bd_space.specs.declared.space.WorkKind.TheVariants as work
 use Rattle.bd_laws.specs.Frames.{OnPaths}
 use Rattle.bd_laws.proofs.Machine.EveryStep.{KeepsWhole, every_whole_step}
@@ -34,9 +34,6 @@ module _ (s : Space) (h : OnPaths s.steps s) where
   calmly : (z : Space) → Less z s → z.frames ≡ s.frames → After z
   calmly z l e = calm (suc s.steps) z s l e now_on
 
-  more : (z : Space) → OnPaths s.steps z → After z
-  more z k = (k.0, forest-more s.steps k.0 z.frames z.buffers z.todo k.1)
-
   kept : (seat : ℕ) (x : Step) → KeepsWhole s seat x After After
   kept seat x = record {
     set_up = set_up-by Calm (λ kind. HandsNothing kind × Any kind) calm_table s seat x After (λ z c. calmly z c.0 c.1);
@@ -59,22 +56,4 @@ next-on_paths s e steps h =
     (every_whole_step s e.seat e.step (OnPaths (suc s.steps)) (OnPaths (suc s.steps)) (kept s h e.seat e.step))
 
 pub opening-on_paths : OnPaths 0 opening
-opening-on_paths = (
-  λ x. x,
-  record {
-    below = λ f l. absurd l;
-    rooted = λ f l. absurd l;
-    sorted = tt;
-    parents = λ g p l e. absurd l;
-    linked = λ f g l m e lt. absurd l;
-    leaf = λ f g l m e none. absurd l;
-    shared = λ t f g l m p q. absurd l;
-    waiting = λ w t f l e o i. absurd l;
-    childless = λ w f l e i. absurd l;
-    unserved = λ w f t l e i s. absurd l;
-    one = λ v w b l m e o. absurd l;
-    due = λ w b l e. absurd l;
-    buffers = λ c l. absurd l;
-    turns = λ c f l o i e. absurd l;
-  },
-)
+opening-on_paths = (λ x. x, search arith)

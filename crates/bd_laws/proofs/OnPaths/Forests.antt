@@ -1,17 +1,15 @@
--- Frames on paths: what makes each frame have one open child at most, and a thread's frames share a path.
-use Rattle.bd_laws.proofs.words.Logic.{◌≡◌, ℕ, ◌<◌, ◌≤◌, ◌==◌, suc, Bool, true, false, not, List, [], ◌∷◌, ◌++◌, Option, Some, None, ◌⊎◌, inl, inr, refl, ap, sym, ◌∙◌, filter, arith, eqb-true, eq-eqb, cases_lt}
+-- For SpacesAreTidy: what makes each frame have one open child at most, and a thread's frames share a path.
+use Rattle.bd_laws.proofs.words.Logic.{◌≡◌, ℕ, ◌<◌, ◌≤◌, ◌==◌, suc, Bool, true, false, not, List, [], ◌∷◌, ◌++◌, Option, Some, None, ◌⊎◌, inl, inr, refl, ap, sym, ◌∙◌, filter, arith, eqb-true, eq-eqb}
 use Rattle.bd_laws.proofs.words.Types.{Frame, Buffer, Work, OfProcess}
 use Rattle.bd_space.specs.declared.space.WorkKind.TheVariants as work
 use Rattle.bd_space.specs.Frames.{is_frame}
 use Rattle.bd_laws.proofs.words.Laws.{In, Pairs, Older, NoChild, Forest}
 use Rattle.bd_laws.proofs.Lists.{in-push, in-filter, filter-in, pairs-either, pairs-filter}
+use Rattle.bd_laws.proofs.IsInTurn.Pushed.{each, each-two}
 use Rattle.bd_laws.proofs.Tests.{not-true, not-false}
 
 pub one-frame : (fs : List Frame) → Pairs Older fs → (f g : Frame) → In f fs → In g fs → f.made ≡ g.made → f ≡ g
-one-frame fs h f g l m e = elim (pairs-either Older fs h f g l m) [
-  | inl is ↦ is
-  | inr o ↦ elim o [ inl lt ↦ (let k : f.made < g.made = lt in absurd (omega arith)) | inr lt ↦ (let k : g.made < f.made = lt in absurd (omega arith)) ]
-]
+one-frame fs h f g l m e = search (arith, pairs-either)
 
 -- no calls more, and no buffers but one made now
 abbrev pub Calls : List Work → List Work → Type 0
@@ -25,22 +23,7 @@ module _ (n : ℕ) (root : ℕ → ℕ) (fs : List Frame) (bs : List Buffer) (td
   forest-with : (m : ℕ) (cs : List Buffer) (ud : List Work) → n ≤ m → ((w : Work) (f : Frame) → In w ud → w.kind ≡ work.Call f.made → In f fs → In w td)
       → ((v w : Work) (b : ℕ) → In v ud → In w ud → v.kind ≡ work.Call b → w.kind ≡ work.Call b → v ≡ w) → ((w : Work) (b : ℕ) → In w ud → w.kind ≡ work.Call b → b < m)
       → ((c : Buffer) → In c cs → c.made < m) → ((c : Buffer) (f : Frame) → In c cs → c.one_way ≡ true → In f fs → f.made ≡ c.made → ⊥) → Forest m root fs cs ud
-  forest-with m cs ud le old one due buffers turns = record {
-    below = λ f l. let lt = h.below f l in omega arith;
-    rooted = h.rooted;
-    sorted = h.sorted;
-    parents = h.parents;
-    linked = h.linked;
-    leaf = h.leaf;
-    shared = h.shared;
-    waiting = λ w t f l e o i. h.waiting w t f (old w f l e i) e o i;
-    childless = λ w f l e i. h.childless w f (old w f l e i) e i;
-    unserved = λ w f t l e i s. h.unserved w f t (old w f l e i) e i s;
-    one = one;
-    due = due;
-    buffers = buffers;
-    turns = turns;
-  }
+  forest-with m cs ud le old one due buffers turns = search (arith, h.below, h.rooted, h.sorted, h.parents, h.linked, h.leaf, h.shared, h.waiting, h.childless, h.unserved)
 
   forest-on : (m : ℕ) (cs : List Buffer) (ud : List Work) → n ≤ m → Calls ud td → ((c : Buffer) → In c cs → c.made < m)
       → ((c : Buffer) (f : Frame) → In c cs → c.one_way ≡ true → In f fs → f.made ≡ c.made → ⊥) → Forest m root fs cs ud
@@ -68,26 +51,12 @@ module _ (n : ℕ) (root : ℕ → ℕ) (fs : List Frame) (bs : List Buffer) (td
       → ((w : Work) → In w td → w.kind ≡ work.Call b → ⊥) → Forest n root fs bs (td ++ nw ∷ [])
   forest-work nw b p kind list lt free new =
       forest-with n bs (td ++ nw ∷ []) (omega arith) old
-      (λ v w c l m e o. elim (in-push v nw td l) [
-        | inl i ↦ elim (in-push w nw td m) [
-          | inl j ↦ h.one v w c i j e o
-          | inr is ↦ absurd (new v i (e ∙ sym o ∙ ap (λ (x : Work). x.kind) (sym is) ∙ kind))
-        ]
-        | inr is ↦ elim (in-push w nw td m) [
-          | inl j ↦ absurd (new w j (o ∙ sym e ∙ ap (λ (x : Work). x.kind) (sym is) ∙ kind))
-          | inr same ↦ sym is ∙ same
-        ]
-      ])
-      (λ w c l e. elim (in-push w nw td l) [
-        | inl i ↦ h.due w c i e
-        | inr is ↦ (let k : work.Call b ≡ work.Call c = sym kind ∙ ap (λ (x : Work). x.kind) is ∙ e in let j : b ≡ c = cc in omega arith)
-      ]) h.buffers h.turns
+      (λ v w c l m. each-two td nw (λ v w. v.kind ≡ work.Call c → w.kind ≡ work.Call c → v ≡ w) (λ v w i j. h.one v w c i j)
+      (λ v i e o. absurd (new v i (e ∙ sym o ∙ kind))) (λ w j e o. absurd (new w j (o ∙ sym e ∙ kind))) (λ e o. refl) v w l m)
+      (λ w c l. each td nw (λ w. w.kind ≡ work.Call c → c < n) (λ w i. h.due w c i) (λ e. let k : work.Call b ≡ work.Call c = sym kind ∙ e in let j : b ≡ c = cc in omega arith) w l) h.buffers h.turns
     where
       old : (w : Work) (f : Frame) → In w (td ++ nw ∷ []) → w.kind ≡ work.Call f.made → In f fs → In w td
-      old w f l e i = elim (in-push w nw td l) [
-        | inl j ↦ j
-        | inr is ↦ (let k : work.Call f.made ≡ work.Call b = sym e ∙ ap (λ (x : Work). x.kind) (sym is) ∙ kind in let j : f.made ≡ b = cc in absurd (free f i j))
-      ]
+      old w f l e i = search (arith, in-push)
 
   -- ---- a frame without an open child closes
 
@@ -96,16 +65,10 @@ module _ (n : ℕ) (root : ℕ → ℕ) (fs : List Frame) (bs : List Buffer) (td
     rest = filter (λ (g : Frame). not (is_frame f.made g)) fs
 
     in-rest : (g : Frame) → In g rest → In g fs × (g.made ≡ f.made → ⊥)
-    in-rest g m =
-        let k = in-filter (λ (x : Frame). not (is_frame f.made x)) g fs m in
-        (k.0, λ e. let yes = eq-eqb g.made f.made e in let no = not-true (is_frame f.made g) k.1 in absurd (cc))
+    in-rest g m = search (arith, in-filter, eq-eqb, not-true)
 
     stays : (g : Frame) → In g fs → (g.made ≡ f.made → ⊥) → In g rest
-    stays g m k = filter-in (λ (x : Frame). not (is_frame f.made x)) g fs m (not-false (is_frame f.made g) (at (g.made == f.made) refl))
-      where
-        at : (b : Bool) → (g.made == f.made) ≡ b → b ≡ false
-        at true e = absurd (k (eqb-true g.made f.made e))
-        at false e = refl
+    stays g m k = search (arith, filter-in, not-false, eqb-true)
 
     childless-before : (x : Frame) → NoChild rest x → (f.parent ≡ Some x.made → ⊥) → NoChild fs x
     childless-before x k other y m e = at (y.made == f.made) refl
@@ -128,11 +91,7 @@ module _ (n : ℕ) (root : ℕ → ℕ) (fs : List Frame) (bs : List Buffer) (td
             let le = link.2 in omega arith
           where
             at_most : g.made ≤ f.made → (g.made ≡ f.made → ⊥) → g.made < f.made
-            at_most le other = case (g.made == f.made) refl
-              where
-                case : (b : Bool) → (g.made == f.made) ≡ b → g.made < f.made
-                case true q = absurd (other (eqb-true g.made f.made q))
-                case false q = elim (cases_lt g.made f.made) [ inl lt ↦ lt | inr ge ↦ (let same : g.made ≡ f.made = omega arith in let yes = eq-eqb g.made f.made same in absurd (cc)) ]
+            at_most le other = search (arith, eqb-true, eq-eqb)
 
         by : (b : Bool) (p : ℕ) → f.parent ≡ Some p → (p == x.made) ≡ b → g.made ≤ x.made
         by true p q t = child p q (eqb-true p x.made t)

@@ -1,4 +1,4 @@
--- Frames whose caller or server changes stay on their paths.
+-- For SpacesAreTidy: frames whose caller or server changes, by a reading or an exit, stay on their paths.
 use Rattle.bd_laws.proofs.words.Types.{Frame, Buffer, Work, Serving, OfThread}
 use Rattle.std.proofs.Common.{◌≡◌, ℕ, ◌<◌, ◌≤◌, List, [], ◌∷◌, map, Some, ap, sym, subst, ◌∙◌, arith}
 use Rattle.bd_space.specs.declared.space.WorkKind.TheVariants as work
@@ -32,18 +32,16 @@ module _ (n : ℕ) (root : ℕ → ℕ) (fs : List Frame) (bs : List Buffer) (td
     parent : frame.parent ≡ f.parent
 
   before : (f : Frame) → In f (map k fs) → Before f
-  before f l =
-      let x = in-map k f fs l in
-      record { frame = x.0; here = x.1; is = x.2; made = sym (c.made x.0) ∙ ap (λ (y : Frame). y.made) x.2; parent = sym (c.parent x.0) ∙ ap (λ (y : Frame). y.parent) x.2 }
+  before f l = search (arith, in-map)
 
   childless-then : (f : Frame) (x : Before f) → NoChild (map k fs) f → NoChild fs x.frame
   childless-then f x none y m e = none (k y) (map-in k y fs m) (c.parent y ∙ e ∙ ap (λ i. Some i) x.made)
 
   childless-now : (f : Frame) (x : Before f) → NoChild fs x.frame → NoChild (map k fs) f
-  childless-now f x none y m e = let z = before y m in none z.frame z.here (z.parent ∙ e ∙ ap (λ i. Some i) (sym x.made))
+  childless-now f x none y m e = search (arith, before)
 
   roots : (f g : Frame) (x : Before f) (y : Before g) → root f.made ≡ root g.made → root x.frame.made ≡ root y.frame.made
-  roots f g x y e = ap root x.made ∙ e ∙ ap root (sym y.made)
+  roots f g x y e = search arith
 
   pub forest-changed : Forest n root (map k fs) cs ud
   forest-changed = record {
@@ -83,9 +81,7 @@ module _ (n : ℕ) (root : ℕ → ℕ) (fs : List Frame) (bs : List Buffer) (td
     childless = λ w f l e i.
         let x = before f i in
         childless-now f x (h.childless w x.frame (calls w f.made l e) (e ∙ ap (λ j. work.Call j) (sym x.made)) x.here);
-    unserved = λ w f t l e i s.
-        let x = before f i in
-        c.unserved w x.frame t l (e ∙ ap (λ j. work.Call j) (sym x.made)) x.here (ap (λ (y : Frame). y.server) x.is ∙ s);
+    unserved = λ w f t l e i s. search (arith, before);
     one = λ v w b l m e o. h.one v w b (calls v b l e) (calls w b m o) e o;
     due = λ w b l e. h.due w b (calls w b l e) e;
     buffers = λ x l. let b = kept x l in let lt = h.buffers b.0 b.1 in let e = b.2 in omega arith;

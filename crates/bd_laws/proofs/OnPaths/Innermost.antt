@@ -1,9 +1,10 @@
--- Frames in the order of their depth: a thread's innermost frame, and the way by parents.
-use Rattle.bd_laws.proofs.words.Logic.{◌≡◌, ℕ, ◌<◌, ◌≤◌, ◌==◌, suc, Bool, true, false, cond, not, ◌||◌, List, [], ◌∷◌, length, reverse, Option, Some, None, ◌⊎◌, inl, inr, refl, ap, sym, subst, ◌∙◌, arith, nat_le, list_all, is_some, reverse-append, eqb-true, eq-eqb, cases_lt, leb-true, le-leb}
-use Rattle.bd_laws.proofs.words.Types.{Frame, Server, Serving}
-use Rattle.bd_laws.proofs.words.Space.{ancestry, depth_in, takes_part, calls, serves, is_deepest_in, innermost_in, is_some_and}
+-- For SpacesAreTidy, FramesAreStacks, FramesLieOnOnePath and the laws of open calls: which frame is a thread's innermost,
+-- and the way from a frame to its parents.
+use Rattle.bd_laws.proofs.words.Logic.{◌≡◌, ℕ, ◌<◌, ◌≤◌, ◌==◌, suc, Bool, true, false, cond, not, ◌||◌, List, [], ◌∷◌, length, reverse, Option, Some, None, inl, inr, refl, ap, sym, subst, ◌∙◌, arith, nat_le, list_all, is_some, reverse-append, eqb-true, eq-eqb, cases_lt, leb-true, le-leb, filter}
+use Rattle.bd_laws.proofs.words.Types.{Frame, Serving}
+use Rattle.bd_laws.proofs.words.Space.{ancestry, depth_in, takes_part, calls, is_deepest_in, innermost_in, is_some_and}
 use Rattle.bd_laws.proofs.words.Laws.{In, Pairs, Older, NoChild, Part, Nested, Parent}
-use Rattle.bd_laws.proofs.Lists.{in-push, in-right, in-left, find-in, find-some, all-in, pairs-push}
+use Rattle.bd_laws.proofs.Lists.{in-push, in-right, in-left, find-in, find-some, all-in, pairs-push, in-filter, filter-in}
 use Rattle.bd_laws.proofs.Tests.{both, or-left, or-right, not-eq as differ}
 use Rattle.bd_laws.proofs.OnPaths.Forests.{one-frame}
 use Rattle.bd_laws.proofs.OnPaths.PathWords.{is-serving as true-serving}
@@ -32,14 +33,7 @@ newest-first (x ∷ xs) h =
 pub child-depth : (xs : List Frame) → Pairs Newer xs → (f g : Frame) → In f xs → In g xs → f.made < g.made → g.parent ≡ Some f.made
     → length (ancestry (Some g.made) xs) ≡ suc (length (ancestry (Some f.made) xs))
 child-depth [] h f g l m lt e = absurd l
-child-depth (x ∷ xs) h f g l (inl is) lt e =
-    let made : x.made ≡ g.made = ap (λ (y : Frame). y.made) is in
-    at (x.made == g.made) (x.made == f.made) (eq-eqb x.made g.made made) (differ x.made f.made (λ k. let same : x.made ≡ f.made = k in absurd (omega arith)))
-  where
-    at : (a b : Bool) → a ≡ true → b ≡ false → length (cond a (x ∷ ancestry x.parent xs) (ancestry (Some g.made) xs)) ≡ suc (length (cond b (x ∷ ancestry x.parent xs) (ancestry (Some f.made) xs)))
-    at true false p q = ap (λ o. suc (length (ancestry o xs))) (ap (λ (y : Frame). y.parent) is ∙ e)
-    at true true p q = absurd (cc)
-    at false b p q = absurd (cc)
+child-depth (x ∷ xs) h f g l (inl is) lt e = search (arith, eq-eqb)
 child-depth (x ∷ xs) h f g (inl is) (inr m) lt e = let newer : g.made < x.made = h.0 g m in let made : x.made ≡ f.made = ap (λ (y : Frame). y.made) is in absurd (omega arith)
 child-depth (x ∷ xs) h f g (inr l) (inr m) lt e =
     let newer : g.made < x.made = h.0 g m in
@@ -48,32 +42,21 @@ child-depth (x ∷ xs) h f g (inr l) (inr m) lt e =
   where
     at : (a b : Bool) → a ≡ false → b ≡ false → length (ancestry (Some g.made) xs) ≡ suc (length (ancestry (Some f.made) xs))
         → length (cond a (x ∷ ancestry x.parent xs) (ancestry (Some g.made) xs)) ≡ suc (length (cond b (x ∷ ancestry x.parent xs) (ancestry (Some f.made) xs)))
-    at false false p q k = k
-    at false true p q k = absurd (cc)
-    at true b p q k = absurd (cc)
+    at a b p q k = search arith
 
 -- ---- taking part
 
-serving-true : (t : ℕ) (v : Server) → v ≡ Serving t → serves t v ≡ true
-serving-true t v e = ap (serves t) e ∙ eq-eqb t t refl
-
 pub true-calls : (t : ℕ) (c : Option ℕ) → is_some_and c (λ u. u == t) ≡ true → c ≡ Some t
-true-calls t None e = absurd (cc)
-true-calls t (Some u) e = ap (λ n. Some n) (eqb-true u t e)
+true-calls t c e = search (arith, eqb-true)
 
 pub calls-true : (t : ℕ) (f : Frame) → f.caller ≡ Some t → calls t f ≡ true
 calls-true t f e = ap (λ c. is_some_and c (λ u. u == t)) e ∙ eq-eqb t t refl
 
 pub part-true : (t : ℕ) (f : Frame) → Part t f → takes_part t f ≡ true
-part-true t f (inl e) = or-left (calls t f) (serves t f.server) (calls-true t f e)
-part-true t f (inr e) = or-right (calls t f) (serves t f.server) (serving-true t f.server e)
+part-true t f h = search (arith, or-left, calls-true, or-right, eq-eqb)
 
 pub true-part : (t : ℕ) (f : Frame) → takes_part t f ≡ true → Part t f
-true-part t f h = at (calls t f) refl h
-  where
-    at : (b : Bool) → calls t f ≡ b → (b || serves t f.server) ≡ true → Part t f
-    at true e k = inl (true-calls t f.caller e)
-    at false e k = inr (true-serving t f.server k)
+true-part t f h = search (arith, true-calls, true-serving)
 
 -- ---- the deepest
 
@@ -82,38 +65,31 @@ all-true p [] h x l = absurd l
 all-true p (y ∷ ys) h x (inl is) = ap p (sym is) ∙ (both (p y) (list_all p ys) h).0
 all-true p (y ∷ ys) h x (inr l) = all-true p ys (both (p y) (list_all p ys) h).1 x l
 
-abbrev Most : (Frame → ℕ) → (Frame → Bool) → List Frame → Type 0
-Most d p xs = ((x : Frame) → In x xs → p x ≡ true → ⊥) ⊎ ((x : Frame) × In x xs × (p x ≡ true) × ((y : Frame) → In y xs → p y ≡ true → d y ≤ d x))
-
-most : (d : Frame → ℕ) (p : Frame → Bool) (xs : List Frame) → Most d p xs
-most d p [] = inl (λ x l e. l)
-most d p (x ∷ xs) = at (p x) refl (most d p xs)
-  where
-    at : (b : Bool) → p x ≡ b → Most d p xs → Most d p (x ∷ xs)
-    at false e (inl k) = inl (λ y l f. elim l [ inl is ↦ (let wrong : p x ≡ true = ap p is ∙ f in absurd (cc)) | inr i ↦ k y i f ])
-    at false e (inr k) = inr (k.0, inr k.1, k.2, λ y l f. elim l [ inl is ↦ (let wrong : p x ≡ true = ap p is ∙ f in absurd (cc)) | inr i ↦ k.3 y i f ])
-    at true e (inl k) = inr (x, inl refl, e, λ y l f. elim l [ inl is ↦ (let same : d x ≡ d y = ap d is in omega arith) | inr i ↦ absurd (k y i f) ])
-    at true e (inr k) = elim (cases_lt (d x) (d k.0)) [
-      | inl lt ↦ inr (k.0, inr k.1, k.2, λ y l f. elim l [ inl is ↦ (let same : d x ≡ d y = ap d is in omega arith) | inr i ↦ k.3 y i f ])
-      | inr ge ↦ inr (x, inl refl, e, λ y l f. elim l [ inl is ↦ (let same : d x ≡ d y = ap d is in omega arith) | inr i ↦ (let le = k.3 y i f in omega arith) ])
+-- some frame is the greatest
+greatest : (d : Frame → ℕ) (xs : List Frame) (f : Frame) → In f xs → (x : Frame) × In x xs × ((y : Frame) → In y xs → d y ≤ d x)
+greatest d [] f l = absurd l
+greatest d (x ∷ []) f l = (x, inl refl, λ y i. elim i [ inl is ↦ (let same : d x ≡ d y = ap d is in omega arith) | inr j ↦ absurd j ])
+greatest d (x ∷ y ∷ ys) f l =
+    let k = greatest d (y ∷ ys) y (inl refl) in
+    elim (cases_lt (d x) (d k.0)) [
+      | inl lt ↦ (k.0, inr k.1, λ z i. elim i [ inl is ↦ (let same : d x ≡ d z = ap d is in omega arith) | inr j ↦ k.2 z j ])
+      | inr ge ↦ (x, inl refl, λ z i. elim i [ inl is ↦ (let same : d x ≡ d z = ap d is in omega arith) | inr j ↦ (let le = k.2 z j in omega arith) ])
     ]
 
 -- a thread without an innermost frame takes part in none
 pub none-innermost : (fs : List Frame) (t : ℕ) → innermost_in fs t ≡ None → (f : Frame) → In f fs → Part t f → ⊥
-none-innermost fs t h = at (most (depth_in fs) (takes_part t) fs)
+none-innermost fs t h f l p =
+    let k = greatest (depth_in fs) (filter (takes_part t) fs) f (filter-in (takes_part t) f fs l (part-true t f p)) in
+    let here = in-filter (takes_part t) k.0 fs k.1 in
+    let all = all-in (λ (g : Frame). not (takes_part t g) || nat_le (depth_in fs g) (depth_in fs k.0)) fs
+    (λ g i. deeper (takes_part t g) (depth_in fs g) (depth_in fs k.0) (λ q. k.2 g (filter-in (takes_part t) g fs i q))) in
+    let deepest : is_deepest_in fs t k.0 ≡ true = rw (here.1, all) refl in
+    let some = find-some (is_deepest_in fs t) k.0 fs here.0 deepest in
+    let wrong : is_some (innermost_in fs t) ≡ false = ap is_some h in
+    absurd (cc)
   where
     deeper : (a : Bool) (n m : ℕ) → (a ≡ true → n ≤ m) → (not a || nat_le n m) ≡ true
-    deeper true n m k = le-leb n m (k refl)
-    deeper false n m k = refl
-
-    at : Most (depth_in fs) (takes_part t) fs → (f : Frame) → In f fs → Part t f → ⊥
-    at (inl k) f l p = k f l (part-true t f p)
-    at (inr k) f l p =
-        let all = all-in (λ (g : Frame). not (takes_part t g) || nat_le (depth_in fs g) (depth_in fs k.0)) fs (λ g i. deeper (takes_part t g) (depth_in fs g) (depth_in fs k.0) (k.3 g i)) in
-        let deepest : is_deepest_in fs t k.0 ≡ true = rw (k.2, all) refl in
-        let some = find-some (is_deepest_in fs t) k.0 fs k.1 deepest in
-        let wrong : is_some (innermost_in fs t) ≡ false = ap is_some h in
-        absurd (cc)
+    deeper a n m k = search (arith, le-leb)
 
 -- where the innermost frame stands, and the depth of the others
 pub innermost-is : (fs : List Frame) (t : ℕ) (f : Frame) → innermost_in fs t ≡ Some f
@@ -128,8 +104,7 @@ innermost-is fs t f h =
     )
   where
     below : (a : Bool) (n m : ℕ) → a ≡ true → (not a || nat_le n m) ≡ true → n ≤ m
-    below true n m e k = leb-true n m k
-    below false n m e k = absurd (cc)
+    below a n m e k = search (arith, leb-true)
 
 -- ---- over frames on paths
 

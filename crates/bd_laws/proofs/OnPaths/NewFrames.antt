@@ -1,9 +1,10 @@
--- A new frame stands at the end of its path.
-use Rattle.bd_laws.proofs.words.Logic.{◌≡◌, ℕ, ◌<◌, ◌≤◌, ◌==◌, suc, Bool, true, false, cond, List, [], ◌∷◌, ◌++◌, Option, Some, ◌⊎◌, inl, inr, refl, ap, sym, subst, ◌∙◌, arith, eqb-true, eq-eqb}
+-- For SpacesAreTidy: a new frame stands at the end of its path.
+use Rattle.bd_laws.proofs.words.Logic.{◌≡◌, ℕ, ◌<◌, ◌≤◌, ◌==◌, suc, false, cond, List, [], ◌∷◌, ◌++◌, Option, Some, ◌⊎◌, inl, inr, refl, ap, sym, subst, ◌∙◌, arith, eqb-true, eq-eqb}
 use Rattle.bd_laws.proofs.words.Types.{Frame, Buffer, Work, Pending, Serving, OfThread}
 use Rattle.bd_space.specs.declared.space.WorkKind.TheVariants as work
 use Rattle.bd_laws.proofs.words.Laws.{In, Forest, Older, NoChild, Part, Waiting, Parent}
-use Rattle.bd_laws.proofs.Lists.{in-push, in-left, in-last, pairs-push}
+use Rattle.bd_laws.proofs.Lists.{in-left, in-last, pairs-push}
+use Rattle.bd_laws.proofs.IsInTurn.Pushed.{each, each-two}
 
 -- the frame to come, with the path that it goes on and the call that is due for it
 pub record Calling (n : ℕ) (root : ℕ → ℕ) (fs : List Frame) (bs : List Buffer) (seat : ℕ) (parent : Option ℕ) (nw : Work) : Type 0 where
@@ -32,101 +33,62 @@ module _ (n : ℕ) (root : ℕ → ℕ) (fs : List Frame) (bs : List Buffer) (td
 
   at-old : (x : ℕ) → x < n → rerooted x ≡ root x
   unfolding rerooted
-  at-old x lt = at (x == n) refl
-    where
-      at : (b : Bool) → (x == n) ≡ b → cond b c.stem (root x) ≡ root x
-      at true e = let is = eqb-true x n e in absurd (omega arith)
-      at false e = refl
+  at-old x lt = search (arith, eqb-true)
 
   old : (f : Frame) → In f fs → rerooted f.made ≡ root f.made
   old f l = at-old f.made (h.below f l)
 
-  newest : (f : Frame) → new ≡ f → rerooted f.made ≡ c.stem
-  newest f is = ap rerooted (sym (ap (λ (x : Frame). x.made) is)) ∙ at-new
-
-  is-new : (f : Frame) → new ≡ f → (n ≡ f.made) × (Some seat ≡ f.caller) × (Pending ≡ f.server) × (parent ≡ f.parent)
-  is-new f is = (ap (λ (x : Frame). x.made) is, ap (λ (x : Frame). x.caller) is, ap (λ (x : Frame). x.server) is, ap (λ (x : Frame). x.parent) is)
-
   was-childless : (f : Frame) → NoChild more f → NoChild fs f
-  was-childless f none g l e = none g (in-left g fs (new ∷ []) l) e
+  was-childless f none g l e = search (arith, in-left)
 
-  new-parents : (g : Frame) (p : ℕ) → In g more → g.parent ≡ Some p → Parent rerooted more g p
-  new-parents g p l e = elim (in-push g new fs l) [
-    | inl i ↦ (
-        let u = h.parents g p i e in
-        record {
-          frame = u.frame;
-          here = in-left u.frame fs (new ∷ []) u.here;
-          made = u.made;
-          older = u.older;
-          same = old g i ∙ u.same ∙ sym (at-old p (let a = u.older in let b = h.below g i in omega arith));
-          nested = u.nested;
-        })
-    | inr is ↦ (
-        let k = is-new g is in
-        let u = c.from p (k.3 ∙ e) in
-        let lt : p < n = (let a = h.below u.0 u.1 in let b = u.2 in omega arith) in
-        record {
-          frame = u.0;
-          here = in-left u.0 fs (new ∷ []) u.1;
-          made = u.2;
-          older = (let a = k.0 in omega arith);
-          same = newest g is ∙ sym u.5 ∙ sym (at-old p lt);
-          nested = inr (seat, u.3, sym k.1);
-        })
-  ]
+  new-parents : (g : Frame) → In g more → (p : ℕ) → g.parent ≡ Some p → Parent rerooted more g p
+  new-parents = each fs new (λ g. (p : ℕ) → g.parent ≡ Some p → Parent rerooted more g p)
+      (λ g i p e.
+      let u = h.parents g p i e in
+      record {
+        frame = u.frame;
+        here = in-left u.frame fs (new ∷ []) u.here;
+        made = u.made;
+        older = u.older;
+        same = old g i ∙ u.same ∙ sym (at-old p (let a = u.older in let b = h.below g i in omega arith));
+        nested = u.nested;
+      })
+      (λ p e.
+      let u = c.from p e in
+      let lt : p < n = (let a = h.below u.0 u.1 in let b = u.2 in omega arith) in
+      record { frame = u.0; here = in-left u.0 fs (new ∷ []) u.1; made = u.2; older = lt; same = at-new ∙ sym u.5 ∙ sym (at-old p lt); nested = inr (seat, u.3, refl) })
 
   new-linked : (f g : Frame) → In f more → In g more → rerooted f.made ≡ rerooted g.made → f.made < g.made → (p : ℕ) × (g.parent ≡ Some p) × (f.made ≤ p)
-  new-linked f g l m e lt = elim (in-push f new fs l) [
-    | inl i ↦ elim (in-push g new fs m) [
-      | inl j ↦ h.linked f g i j (sym (old f i) ∙ e ∙ old g j) lt
-      | inr is ↦ (let u = c.joined f i (sym (old f i) ∙ e ∙ newest g is) in (u.0, sym (is-new g is).3 ∙ u.1, u.2))
-    ]
-    | inr is ↦ (
-        let a = (is-new f is).0 in
-        elim (in-push g new fs m) [
-          | inl j ↦ (let b = h.below g j in absurd (omega arith))
-          | inr too ↦ (let b = (is-new g too).0 in absurd (omega arith))
-        ])
-  ]
+  new-linked = each-two fs new (λ f g. rerooted f.made ≡ rerooted g.made → f.made < g.made → (p : ℕ) × (g.parent ≡ Some p) × (f.made ≤ p))
+      (λ f g i j e lt. h.linked f g i j (sym (old f i) ∙ e ∙ old g j) lt)
+      (λ f i e lt. c.joined f i (sym (old f i) ∙ e ∙ at-new))
+      (λ g j e lt. let b = h.below g j in absurd (omega arith))
+      (λ e lt. absurd (omega arith))
 
   new-leaf : (f g : Frame) → In f more → In g more → rerooted f.made ≡ rerooted g.made → NoChild more f → g.made ≤ f.made
-  new-leaf f g l m e none = elim (in-push f new fs l) [
-    | inl i ↦ elim (in-push g new fs m) [
-      | inl j ↦ h.leaf f g i j (sym (old f i) ∙ e ∙ old g j) (was-childless f none)
-      | inr is ↦ (
-          let u = c.joined f i (sym (old f i) ∙ e ∙ newest g is) in
-          let v = c.from u.0 u.1 in
-          let root_is : root f.made ≡ root v.0.made = sym (old f i) ∙ e ∙ newest g is ∙ sym v.5 ∙ ap root (sym v.2) in
-          let low = h.leaf f v.0 i v.1 root_is (was-childless f none) in
-          let le = u.2 in
-          let made = v.2 in
-          let same : u.0 ≡ f.made = omega arith in
-          absurd (none new (in-last new fs) (u.1 ∙ ap (λ x. Some x) same)))
-    ]
-    | inr is ↦ (
-        let a = (is-new f is).0 in
-        elim (in-push g new fs m) [
-          | inl j ↦ (let b = h.below g j in omega arith)
-          | inr too ↦ (let b = (is-new g too).0 in omega arith)
-        ])
-  ]
+  new-leaf = each-two fs new (λ f g. rerooted f.made ≡ rerooted g.made → NoChild more f → g.made ≤ f.made)
+      (λ f g i j e none. h.leaf f g i j (sym (old f i) ∙ e ∙ old g j) (was-childless f none))
+      (λ f i e none.
+      let u = c.joined f i (sym (old f i) ∙ e ∙ at-new) in
+      let v = c.from u.0 u.1 in
+      let low = h.leaf f v.0 i v.1 (sym (old f i) ∙ e ∙ at-new ∙ sym v.5 ∙ ap root (sym v.2)) (was-childless f none) in
+      let le = u.2 in
+      let made = v.2 in
+      let same : u.0 ≡ f.made = omega arith in
+      absurd (none new (in-last new fs) (u.1 ∙ ap (λ x. Some x) same)))
+      (λ g j e none. let b = h.below g j in omega arith)
+      (λ e none. omega arith)
 
-  new-part : (t : ℕ) (f : Frame) → new ≡ f → Part t f → t ≡ seat
-  new-part t f is (inl e) = let k : Some seat ≡ Some t = (is-new f is).1 ∙ e in cc
-  new-part t f is (inr e) = let k : Pending ≡ Serving t = (is-new f is).2 ∙ e in absurd (cc)
+  new-part : (t : ℕ) → Part t new → t ≡ seat
+  new-part t (inl e) = let k : Some seat ≡ Some t = e in cc
+  new-part t (inr e) = let k : Pending ≡ Serving t = e in absurd (cc)
 
   new-shared : (t : ℕ) (f g : Frame) → In f more → In g more → Part t f → Part t g → rerooted f.made ≡ rerooted g.made
-  new-shared t f g l m p q = elim (in-push f new fs l) [
-    | inl i ↦ elim (in-push g new fs m) [
-      | inl j ↦ old f i ∙ h.shared t f g i j p q ∙ sym (old g j)
-      | inr is ↦ old f i ∙ c.own f i (subst (λ x. Part x f) (new-part t g is q) p) ∙ sym (newest g is)
-    ]
-    | inr is ↦ elim (in-push g new fs m) [
-      | inl j ↦ newest f is ∙ sym (c.own g j (subst (λ x. Part x g) (new-part t f is p) q)) ∙ sym (old g j)
-      | inr too ↦ newest f is ∙ sym (newest g too)
-    ]
-  ]
+  new-shared t = each-two fs new (λ f g. Part t f → Part t g → rerooted f.made ≡ rerooted g.made)
+      (λ f g i j p q. old f i ∙ h.shared t f g i j p q ∙ sym (old g j))
+      (λ f i p q. old f i ∙ c.own f i (subst (λ x. Part x f) (new-part t q) p) ∙ sym at-new)
+      (λ g j p q. at-new ∙ sym (c.own g j (subst (λ x. Part x g) (new-part t p) q)) ∙ sym (old g j))
+      (λ p q. refl)
 
   -- with a buffer made now, which is no one-way call's, and the call for the frame
   module _ (cs : List Buffer) (ud : List Work) (kept : (x : Buffer) → In x cs → In x bs ⊎ ((x.made ≡ n) × (x.one_way ≡ false)))
@@ -137,65 +99,41 @@ module _ (n : ℕ) (root : ℕ → ℕ) (fs : List Frame) (bs : List Buffer) (td
     its-call : (w : Work) (b : ℕ) → nw ≡ w → w.kind ≡ work.Call b → n ≡ b
     its-call w b is e = let k : work.Call n ≡ work.Call b = sym c.kind ∙ ap (λ (x : Work). x.kind) is ∙ e in cc
 
-    new-waiting : (w : Work) (t : ℕ) (f : Frame) → In w ud → w.kind ≡ work.Call f.made → w.list ≡ OfThread t → In f more → Waiting rerooted more t f.made
-    new-waiting w t f l e o i = elim (in-push f new fs i) [
-      | inl j ↦ elim (calls w f.made l e) [
-        | inl k ↦ (let u = h.waiting w t f k e o j in (u.0, in-left u.0 fs (new ∷ []) u.1, u.2, old u.0 u.1 ∙ u.3 ∙ sym (old f j), u.4))
-        | inr is ↦ (let a = its-call w f.made is e in let b = h.below f j in absurd (omega arith))
-      ]
-      | inr is ↦ (
-          let made = (is-new f is).0 in
-          elim (calls w f.made l e) [
-            | inl k ↦ absurd (no-due w k (e ∙ ap (λ x. work.Call x) (sym made)))
-            | inr due ↦ (
-                let u = c.waits t (ap (λ (x : Work). x.list) due ∙ o) in
-                (u.0, in-left u.0 fs (new ∷ []) u.1, u.2, old u.0 u.1 ∙ u.3 ∙ sym (newest f is), (let a = h.below u.0 u.1 in omega arith)))
-          ])
-    ]
+    -- a call for an old frame was due
+    was-due : (w : Work) (f : Frame) → In w ud → In f fs → w.kind ≡ work.Call f.made → In w td
+    was-due w f l i e = elim (calls w f.made l e) [ inl d ↦ d | inr is ↦ (let a = its-call w f.made is e in let b = h.below f i in absurd (omega arith)) ]
 
-    new-childless : (w : Work) (f : Frame) → In w ud → w.kind ≡ work.Call f.made → In f more → NoChild more f
-    new-childless w f l e i g m q = elim (in-push g new fs m) [
-      | inl j ↦ elim (in-push f new fs i) [
-        | inl k ↦ elim (calls w f.made l e) [
-          | inl d ↦ h.childless w f d e k g j q
-          | inr is ↦ (let a = its-call w f.made is e in let b = h.below f k in absurd (omega arith))
-        ]
-        | inr is ↦ (let a = (is-new f is).0 in let b = (h.parents g f.made j q).older in let d = h.below g j in absurd (omega arith))
-      ]
-      | inr is ↦ (
-          let u = c.from f.made ((is-new g is).3 ∙ q) in
-          let lt = h.below u.0 u.1 in
-          let made = u.2 in
-          elim (calls w f.made l e) [
-            | inl d ↦ h.unserved w u.0 seat d (e ∙ ap (λ x. work.Call x) (sym made)) u.1 u.3
-            | inr due ↦ (let a = its-call w f.made due e in absurd (omega arith))
-          ])
-    ]
+    new-waiting : (w : Work) (t : ℕ) → In w ud → w.list ≡ OfThread t → (f : Frame) → In f more → w.kind ≡ work.Call f.made → Waiting rerooted more t f.made
+    new-waiting w t l o = each fs new (λ f. w.kind ≡ work.Call f.made → Waiting rerooted more t f.made)
+        (λ f j e. let u = h.waiting w t f (was-due w f l j e) e o j in (u.0, in-left u.0 fs (new ∷ []) u.1, u.2, old u.0 u.1 ∙ u.3 ∙ sym (old f j), u.4))
+        (λ e. elim (calls w n l e) [
+          | inl k ↦ absurd (no-due w k e)
+          | inr due ↦ (let u = c.waits t (ap (λ (x : Work). x.list) due ∙ o) in (u.0, in-left u.0 fs (new ∷ []) u.1, u.2, old u.0 u.1 ∙ u.3 ∙ sym at-new, h.below u.0 u.1))
+        ])
 
-    new-unserved : (w : Work) (f : Frame) (t : ℕ) → In w ud → w.kind ≡ work.Call f.made → In f more → f.server ≡ Serving t → ⊥
-    new-unserved w f t l e i s = elim (in-push f new fs i) [
-      | inl k ↦ elim (calls w f.made l e) [
-        | inl d ↦ h.unserved w f t d e k s
-        | inr is ↦ (let a = its-call w f.made is e in let b = h.below f k in absurd (omega arith))
-      ]
-      | inr is ↦ (let k : Pending ≡ Serving t = (is-new f is).2 ∙ s in absurd (cc))
-    ]
+    new-childless : (w : Work) → In w ud → (f g : Frame) → In f more → In g more → w.kind ≡ work.Call f.made → g.parent ≡ Some f.made → ⊥
+    new-childless w l = each-two fs new (λ f g. w.kind ≡ work.Call f.made → g.parent ≡ Some f.made → ⊥)
+        (λ f g k j e q. h.childless w f (was-due w f l k e) e k g j q)
+        (λ f k e q. let u = c.from f.made q in h.unserved w u.0 seat (was-due w f l k e) (e ∙ ap (λ x. work.Call x) (sym u.2)) u.1 u.3)
+        (λ g j e q. let b = (h.parents g n j q).older in let d = h.below g j in absurd (omega arith))
+        (λ e q. let u = c.from n q in let lt = h.below u.0 u.1 in let made = u.2 in absurd (omega arith))
+
+    new-unserved : (w : Work) (t : ℕ) → In w ud → (f : Frame) → In f more → w.kind ≡ work.Call f.made → f.server ≡ Serving t → ⊥
+    new-unserved w t l = each fs new (λ f. w.kind ≡ work.Call f.made → f.server ≡ Serving t → ⊥)
+        (λ f k e s. h.unserved w f t (was-due w f l k e) e k s) (λ e s. let k : Pending ≡ Serving t = s in absurd (cc))
 
     pub forest-framed : Forest (suc n) rerooted more cs ud
     forest-framed = record {
-      below = λ f l. elim (in-push f new fs l) [ inl i ↦ (let a = h.below f i in omega arith) | inr is ↦ (let a = (is-new f is).0 in omega arith) ];
-      rooted = λ f l. elim (in-push f new fs l) [
-        | inl i ↦ subst (λ x. x ≤ f.made) (sym (old f i)) (h.rooted f i)
-        | inr is ↦ subst (λ x. x ≤ f.made) (sym (newest f is)) (let a = (is-new f is).0 in let b = c.low in omega arith)
-      ];
+      below = each fs new (λ f. f.made < suc n) (λ f i. let a = h.below f i in omega arith) (omega arith);
+      rooted = each fs new (λ f. rerooted f.made ≤ f.made) (λ f i. subst (λ x. x ≤ f.made) (sym (old f i)) (h.rooted f i)) (subst (λ x. x ≤ n) (sym at-new) c.low);
       sorted = pairs-push Older new fs h.sorted (λ f l. h.below f l);
-      parents = new-parents;
+      parents = λ g p l e. new-parents g l p e;
       linked = new-linked;
       leaf = new-leaf;
       shared = new-shared;
-      waiting = new-waiting;
-      childless = new-childless;
-      unserved = new-unserved;
+      waiting = λ w t f l e o i. new-waiting w t l o f i e;
+      childless = λ w f l e i g m q. new-childless w l f g i m e q;
+      unserved = λ w f t l e i s. new-unserved w t l f i e s;
       one = λ v w b l m e o. elim (calls v b l e) [
         | inl i ↦ elim (calls w b m o) [
           | inl j ↦ h.one v w b i j e o
@@ -209,10 +147,7 @@ module _ (n : ℕ) (root : ℕ → ℕ) (fs : List Frame) (bs : List Buffer) (td
       due = λ w b l e. elim (calls w b l e) [ inl i ↦ (let lt = h.due w b i e in omega arith) | inr is ↦ (let a = its-call w b is e in omega arith) ];
       buffers = λ x l. elim (kept x l) [ inl i ↦ (let lt = h.buffers x i in omega arith) | inr e ↦ (let a = e.0 in omega arith) ];
       turns = λ x f l o i e. elim (kept x l) [
-        | inl j ↦ elim (in-push f new fs i) [
-          | inl k ↦ h.turns x f j o k e
-          | inr is ↦ (let a = (is-new f is).0 in let lt = h.buffers x j in absurd (omega arith))
-        ]
+        | inl j ↦ each fs new (λ f. f.made ≡ x.made → ⊥) (λ f k e. h.turns x f j o k e) (λ e. let lt = h.buffers x j in absurd (omega arith)) f i e
         | inr two_way ↦ (let no = two_way.1 in absurd (cc))
       ];
     }

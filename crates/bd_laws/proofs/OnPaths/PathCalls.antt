@@ -1,40 +1,29 @@
--- A call makes a frame on the path of its caller, and a reply closes one.
-use Rattle.bd_laws.proofs.words.Logic.{◌≡◌, ℕ, suc, Bool, true, false, ◌&&◌, List, [], ◌∷◌, ◌++◌, reverse, Option, Some, None, Ok, ◌⊎◌, inl, inr, refl, ap, sym, subst, ◌∙◌, arith, find, option_map, is_some, is_none}
-use Rattle.bd_laws.proofs.words.Types.{TransactionData, NotServing, Unread, Parcel, Work, Frame, Buffer, Actor, Pending, Serving, TodoList, OfThread, OfProcess}
-use Rattle.bd_laws.proofs.words.Space.{first_of, when, Space, closed, goes_to, list_of_caller, waits_in, ancestry, innermost, innermost_in, served_innermost, made_of, owe, has_unread, assign_numbers, Delivery, delivered, own_notices, add_buffer, known_by, refer, make_objects, buffer_of, transaction_check, transacted, called, call_out, caller_cause, replied, is_spam}
+-- For SpacesAreTidy: a call makes a frame on the path of its caller, and a reply closes one.
+use Rattle.bd_laws.proofs.words.Logic.{◌≡◌, ℕ, suc, Bool, true, false, List, [], ◌∷◌, ◌++◌, Option, Some, None, Ok, ◌⊎◌, inl, inr, refl, ap, sym, subst, ◌∙◌, arith, option_map}
+use Rattle.bd_laws.proofs.words.Types.{TransactionData, Parcel, Work, Frame, Buffer, Actor, Pending, Serving, OfThread}
+use Rattle.bd_laws.proofs.words.Space.{Space, closed, goes_to, innermost, innermost_in, served_innermost, made_of, owe, assign_numbers, Delivery, delivered, own_notices, add_buffer, known_by, refer, make_objects, transaction_check, transacted, called, call_out, caller_cause, replied, is_spam}
 use Rattle.bd_space.specs.declared.space.WorkKind.TheVariants as work
 use Rattle.bd_laws.proofs.words.Laws.{In, Forest, OnPaths}
-use Rattle.bd_laws.proofs.Lists.{in-push, find-in}
-use Rattle.bd_laws.proofs.IsInTurn.OneWay.{owe-less, own_notices-less}
+use Rattle.bd_laws.proofs.Lists.{in-push}
+use Rattle.bd_laws.proofs.IsInTurn.OneWay.{sent-due}
 use Rattle.bd_laws.proofs.Checks.{transaction-checked, transaction-may_call}
-use Rattle.bd_laws.proofs.OnPaths.PathWords.{served-is}
+use Rattle.bd_laws.proofs.OnPaths.PathWords.{served-is, goes-to-waiting}
 use Rattle.bd_laws.proofs.OnPaths.Forests.{Calls, forest-same, forest-buffer}
 use Rattle.bd_laws.proofs.OnPaths.NewFrames.{Calling, forest-framed, rerooted}
 use Rattle.bd_laws.proofs.OnPaths.Innermost.{innermost-is, none-innermost, innermost-childless, on-path}
 use Rattle.bd_laws.proofs.OnPaths.Paths.{call-hands, closes, served-childless}
+use Rattle.bd_laws.proofs.Machine.Adding.{told-keeps}
 use Rattle.bd_laws.proofs.Machine.Fields.{sent-steps as sent-place, closed-steps, sent-frames}
 
 -- ---- deliveries
 
-delivered-buffers : (s : Space) (a : Actor) (d : TransactionData) (v : Delivery) (c : Buffer) → In c (delivered s a d v).buffers
-    → In c s.buffers ⊎ ((c.made ≡ s.steps) × (c.one_way ≡ v.one_way))
-unfolding delivered own_notices add_buffer known_by assign_numbers refer make_objects
-delivered-buffers s a d v c l = elim (in-push c _ s.buffers l) [
-  | inl i ↦ inl i
-  | inr is ↦ inr (ap (λ (x : Buffer). x.made) (sym is), ap (λ (x : Buffer). x.one_way) (sym is))
-]
-
-delivered-calls : (s : Space) (a : Actor) (d : TransactionData) (v : Delivery) → Calls (delivered s a d v).todo s.todo
-unfolding delivered own_notices add_buffer known_by assign_numbers refer make_objects
-delivered-calls s a d v w b l e = own_notices-less (add_buffer (known_by s v) (buffer_of (known_by s v) a d v)) a.thread.seat v.sending.items w b l (call-hands w b e)
-
 sent-calls : (s : Space) (a : Actor) (d : TransactionData) (v : Delivery) (spam : Bool) → Calls (owe (delivered s a d v) (OfThread a.thread.seat) (work.Complete spam)).todo s.todo
-sent-calls s a d v spam w b l e =
-    delivered-calls s a d v w b ((owe-less (delivered s a d v) (OfThread a.thread.seat) (work.Complete spam) refl).due w b l (call-hands w b e)) e
+sent-calls s a d v spam w b l e = search (arith, sent-due, call-hands)
 
 sent-buffers : (s : Space) (a : Actor) (d : TransactionData) (v : Delivery) (spam : Bool) (c : Buffer) → In c (owe (delivered s a d v) (OfThread a.thread.seat) (work.Complete spam)).buffers
     → In c s.buffers ⊎ ((c.made ≡ s.steps) × (c.one_way ≡ v.one_way))
-sent-buffers s a d v spam c l = delivered-buffers s a d v c ((owe-less (delivered s a d v) (OfThread a.thread.seat) (work.Complete spam) refl).buffers c l)
+unfolding delivered own_notices add_buffer known_by assign_numbers refer make_objects owe
+sent-buffers s a d v spam c l = search (arith, in-push)
 
 sends : (s x : Space) (a : Actor) (d : TransactionData) (v : Delivery) (spam : Bool) → x.steps ≡ s.steps → OnPaths s.steps x → OnPaths (suc s.steps) (owe (delivered x a d v) (OfThread a.thread.seat) (work.Complete spam))
 sends s x a d v spam e h = (
@@ -50,28 +39,6 @@ sends s x a d v spam e h = (
 abbrev MayCall : Space → ℕ → Type 0
 MayCall s seat = (innermost_in s.frames seat ≡ None) ⊎ ((f : Frame) × (innermost_in s.frames seat ≡ Some f) × (f.server ≡ Serving seat))
 
-goes-to-waiting : (s : Space) (seat p t : ℕ) (o : Option Frame) → innermost_in s.frames seat ≡ o → goes_to s seat p ≡ OfThread t
-    → (f : Frame) × (o ≡ Some f) × ((g : Frame) × In g (ancestry (Some f.made) (reverse s.frames)) × (g.caller ≡ Some t))
-unfolding goes_to
-goes-to-waiting s seat p t o e h = at o (ap (λ x. list_of_caller p (find (waits_in s.threads p) (ancestry (option_map made_of x) (reverse s.frames)))) (sym e) ∙ h)
-  where
-    on : (c : Option ℕ) → (elim c as (λ (x : Option ℕ). TodoList) [ None ↦ OfProcess p | Some u ↦ OfThread u ]) ≡ OfThread t → c ≡ Some t
-    on None k = absurd (cc)
-    on (Some u) k = let same : u ≡ t = cc in ap (λ n. Some n) same
-
-    found : (xs : List Frame) (g : Option Frame) → find (waits_in s.threads p) xs ≡ g → list_of_caller p g ≡ OfThread t → (f : Frame) × In f xs × (f.caller ≡ Some t)
-    found xs None k q = absurd (cc)
-    found xs (Some f) k q = (f, (find-in (waits_in s.threads p) f xs k).0, on f.caller q)
-
-    nothing : (xs : List Frame) → find (waits_in s.threads p) (ancestry None xs) ≡ None
-    nothing [] = refl
-    nothing (x ∷ xs) = nothing xs
-
-    at : (q : Option Frame) → list_of_caller p (find (waits_in s.threads p) (ancestry (option_map made_of q) (reverse s.frames))) ≡ OfThread t
-        → (f : Frame) × (q ≡ Some f) × ((g : Frame) × In g (ancestry (Some f.made) (reverse s.frames)) × (g.caller ≡ Some t))
-    at None k = let q : list_of_caller p None ≡ OfThread t = ap (list_of_caller p) (sym (nothing (reverse s.frames))) ∙ k in absurd (cc)
-    at (Some f) k = (f, refl, found (ancestry (Some f.made) (reverse s.frames)) (find (waits_in s.threads p) (ancestry (Some f.made) (reverse s.frames))) refl k)
-
 calling : (n : ℕ) (root : ℕ → ℕ) (y : Space) (bs : List Buffer) (td : List Work) (seat p : ℕ) (nw : Work) → Forest n root y.frames bs td → MayCall y seat
     → nw.list ≡ goes_to y seat p → nw.kind ≡ work.Call n → Calling n root y.frames bs seat (option_map made_of (innermost_in y.frames seat)) nw
 calling n root y bs td seat p nw h (inl e) list kind = record {
@@ -80,7 +47,7 @@ calling n root y bs td seat p nw h (inl e) list kind = record {
   from = λ q k. let none = ap (option_map made_of) e in absurd (cc);
   joined = λ f l k. let lt = h.below f l in let le = h.rooted f l in absurd (omega arith);
   own = λ f l k. absurd (none-innermost y.frames seat e f l k);
-  waits = λ t k. let u = goes-to-waiting y seat p t None e (sym list ∙ k) in let wrong = u.1 in absurd (cc);
+  waits = λ t k. let u = goes-to-waiting y seat p t (sym list ∙ k) in let wrong = u.1 in absurd (cc);
   kind = kind;
 }
 calling n root y bs td seat p nw h (inr (f, e, serving)) list kind =
@@ -94,8 +61,8 @@ calling n root y bs td seat p nw h (inr (f, e, serving)) list kind =
       joined = λ g l is. (f.made, parent, h.leaf f g k.0 l (sym is) none);
       own = λ g l part. h.shared seat g f l k.0 part k.1;
       waits = λ t is.
-          let u = goes-to-waiting y seat p t (Some f) e (sym list ∙ is) in
-          let same : f ≡ u.0 = (let j : Some f ≡ Some u.0 = u.1 in cc) in
+          let u = goes-to-waiting y seat p t (sym list ∙ is) in
+          let same : f ≡ u.0 = (let j = u.1 in cc) in
           let on = on-path root y.frames h.sorted h.parents u.0.made u.2.0 u.2.1 in
           (u.2.0, on.0, u.2.2, on.1 ∙ ap (λ (x : Frame). root x.made) (sym same));
       kind = kind;
@@ -114,25 +81,7 @@ calls-out n y seat p bs td root e h may kept calls =
 
 may-call : (s : Space) (seat : ℕ) → caller_cause s seat ≡ None → MayCall s seat
 unfolding caller_cause innermost served_innermost
-may-call s seat h = at (innermost_in s.frames seat) refl
-  where
-    serves-it : (f : Frame) → innermost_in s.frames seat ≡ Some f → (o : Option Frame) → served_innermost s seat ≡ o
-        → first_of (when (true && is_none o) NotServing ∷ when (has_unread s seat) Unread ∷ []) ≡ None → f.server ≡ Serving seat
-    serves-it f e None k q = absurd (cc)
-    serves-it f e (Some g) k q =
-        let is = served-is s seat g k in
-        let same : g ≡ f = (let j : Some g ≡ Some f = sym is.0 ∙ e in cc) in
-        subst (λ (x : Frame). x.server ≡ Serving seat) same is.1
-
-    at : (o : Option Frame) → innermost_in s.frames seat ≡ o → MayCall s seat
-    at None e = inl e
-    at (Some f) e =
-        inr (
-          f,
-          e,
-          serves-it f e (served_innermost s seat) refl
-              (ap (λ o. first_of (when (is_some o && is_none (served_innermost s seat)) NotServing ∷ when (has_unread s seat) Unread ∷ [])) (sym e) ∙ h),
-        )
+may-call s seat h = search (arith, served-is)
 
 module _ (s : Space) (h : OnPaths s.steps s) (a : Actor) (d : TransactionData) (parcel : Option Parcel) (v : Delivery) where
   pub transacts : transaction_check s a d parcel ≡ Ok v → OnPaths (suc s.steps) (transacted s a d v)
@@ -154,23 +103,12 @@ module _ (s : Space) (h : OnPaths s.steps s) (a : Actor) (d : TransactionData) (
           (subst (λ fs. (innermost_in fs a.thread.seat ≡ None) ⊎ ((f : Frame) × (innermost_in fs a.thread.seat ≡ Some f) × (f.server ≡ Serving a.thread.seat))) (sym same) may)
           (λ c l. elim (sent-buffers s a d v spam c l) [ inl i ↦ inl i | inr k ↦ inr (k.0, k.1 ∙ e) ]) (sent-calls s a d v spam)
 
-  answered : (f : Frame) (caller : Option ℕ) → OnPaths (suc s.steps) (owe (delivered (closed s f.made) a d v) (OfThread a.thread.seat) (work.Complete false))
-      → OnPaths (suc s.steps) (elim caller as (λ (o : Option ℕ). Space) [
-        | None ↦ owe (delivered (closed s f.made) a d v) (OfThread a.thread.seat) (work.Complete false)
-        | Some u ↦ owe (owe (delivered (closed s f.made) a d v) (OfThread a.thread.seat) (work.Complete false)) (OfThread u) (work.Reply s.steps)
-      ])
+  answered : (z : Space) (t : ℕ) → OnPaths (suc s.steps) z → OnPaths (suc s.steps) (owe z (OfThread t) (work.Reply s.steps))
   unfolding owe
-  answered f None k = k
-  answered f (Some u) k = (
-    k.0,
-    forest-same (suc s.steps) k.0 _ _ _ k.1 _ _ (λ c l. (c, l, refl, refl)) (λ w b l q. elim (in-push w _ _ l) [
-      | inl i ↦ i
-      | inr is ↦ (let j : work.Reply s.steps ≡ work.Call b = ap (λ (x : Work). x.kind) is ∙ q in absurd (cc))
-    ]),
-  )
+  answered z t k = (k.0, forest-same (suc s.steps) k.0 _ _ _ k.1 _ _ (λ c l. (c, l, refl, refl)) (λ w b l q. search (arith, in-push)))
 
   pub replies : (f : Frame) → served_innermost s a.thread.seat ≡ Some f → OnPaths (suc s.steps) (replied s a d f v)
   unfolding replied
   replies f e =
       let k = served-childless s.steps s a.thread.seat f h e in
-      answered f f.caller (sends s (closed s f.made) a d v false (closed-steps s f.made) (closes s.steps s f k.0 k.1 h))
+      told-keeps (OnPaths (suc s.steps)) (work.Reply s.steps) answered _ f.caller (sends s (closed s f.made) a d v false (closed-steps s f.made) (closes s.steps s f k.0 k.1 h))

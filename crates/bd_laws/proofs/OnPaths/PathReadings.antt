@@ -1,7 +1,7 @@
--- A reading takes a call on, onto the path of its frame; and one-way calls become due.
+-- For SpacesAreTidy: a reading takes a call on, onto the path of its frame; and one-way calls become due.
 use Rattle.bd_laws.proofs.words.Logic.{◌≡◌, ℕ, ◌<◌, ◌-◌, Bool, true, false, cond, not, ◌&&◌, List, [], ◌∷◌, ◌++◌, map, length, Option, Some, None, ◌⊎◌, inl, inr, refl, ap, sym, subst, ◌∙◌, filter, arith, nat_lt, list_any, is_none, eqb-true, eq-eqb}
-use Rattle.bd_laws.proofs.words.Types.{Work, Frame, Turn, Buffer, Thread, Serving, TodoList, OfThread, OfProcess, WorkKind}
-use Rattle.bd_laws.proofs.words.Space.{changed, Space, innermost_in, with_work, list_to_read, work_on, has_work_in, is_on, is_call, same_list, is_item, ripen, ripened, is_ripe, turns_of, turn_of, is_made_at, taken, read_by, serve, hand_out, handed_buffers, buffer_taken, ends_read, bytes_read}
+use Rattle.bd_laws.proofs.words.Types.{Work, Frame, Turn, Buffer, Thread, TodoList, OfThread, OfProcess}
+use Rattle.bd_laws.proofs.words.Space.{changed, Space, innermost_in, with_work, list_to_read, work_on, has_work_in, is_on, is_call, same_list, is_item, ripen, ripened, is_ripe, turns_of, turn_of, taken, read_by, serve, handed_buffers, buffer_taken, ends_read, bytes_read}
 use Rattle.bd_space.specs.declared.space.WorkKind.TheVariants as work
 use Rattle.bd_laws.proofs.words.Laws.{In, Forest, Part, Nested, OnPaths}
 use Rattle.bd_laws.proofs.Lists.{in-filter, in-changed, in-filter_map, any-found, any-in}
@@ -15,32 +15,20 @@ use Rattle.bd_laws.proofs.OnPaths.Innermost.{none-innermost}
 -- ---- one-way calls become due
 
 module _ (n place : ℕ) (root : ℕ → ℕ) (fs : List Frame) (bs : List Buffer) where
-  is-call : (b : ℕ) (k : WorkKind) → k ≡ work.Call b → is_call b k ≡ true
-  is-call b k e = ap (is_call b) e ∙ eq-eqb b b refl
-
   ripens-one : (r : Bool) (todo : List Work) (t : Turn) → t.made < n → ((f : Frame) → In f fs → f.made ≡ t.made → ⊥)
       → (r ≡ true → list_any (λ (w : Work). is_call t.made w.kind) todo ≡ false) → Forest n root fs bs todo
       → Forest n root fs bs (cond r (with_work place todo (OfProcess t.receiver) (work.Call t.made)) todo)
   ripens-one true todo t lt free new h =
       forest-work n root fs bs todo h _ t.made t.receiver refl refl lt free
-      (λ w l e. let some = any-in (λ (x : Work). is_call t.made x.kind) w todo l (is-call t.made w.kind e) in let none = new refl in absurd (cc))
+      (λ w l e. let some = any-in (λ (x : Work). is_call t.made x.kind) w todo l (search (arith, eq-eqb)) in let none = new refl in absurd (cc))
   ripens-one false todo t lt free new h = h
-
-  ripe-new : (a b c : Bool) → (not a && not b && not c) ≡ true → c ≡ false
-  ripe-new a b true h = at a b h
-    where
-      at : (a b : Bool) → (not a && not b && not true) ≡ true → true ≡ false
-      at true b h = absurd (cc)
-      at false true h = absurd (cc)
-      at false false h = absurd (cc)
-  ripe-new a b false h = refl
 
   ripens-all : (ts older : List Turn) (todo : List Work) → ((t : Turn) → In t ts → (t.made < n) × ((f : Frame) → In f fs → f.made ≡ t.made → ⊥)) → Forest n root fs bs todo
       → Forest n root fs bs (ripened place older todo ts)
   ripens-all [] older todo k h = h
   ripens-all (t ∷ ts) older todo k h =
       ripens-all ts (older ++ t ∷ []) _ (λ u l. k u (inr l))
-      (ripens-one (is_ripe todo older t) todo t (k t (inl refl)).0 (k t (inl refl)).1 (λ e. ripe-new t.handed _ (list_any (λ (w : Work). is_call t.made w.kind) todo) e) h)
+      (ripens-one (is_ripe todo older t) todo t (k t (inl refl)).0 (k t (inl refl)).1 (λ e. search arith) h)
 
 pub ripens : (n : ℕ) (z : Space) → OnPaths n z → OnPaths n (ripen z)
 unfolding ripen
@@ -55,16 +43,10 @@ ripens n z h = (
 -- ---- readings
 
 changed-map : (p : Frame → Bool) (f : Frame → Frame) (xs : List Frame) → changed p f xs ≡ map (λ (x : Frame). cond (p x) (f x) x) xs
-changed-map p f [] = refl
-changed-map p f (x ∷ xs) = ap (λ ys. cond (p x) (f x) x ∷ ys) (changed-map p f xs)
+changed-map p f xs = search arith
 
 handed-kept : (bs : List Buffer) (o : Option Buffer) → Kept (handed_buffers bs o) bs
-handed-kept bs None c l = (c, l, refl, refl)
-handed-kept bs (Some b) c l = let z = in-changed (is_made_at b.made) hand_out c bs l in let k = at (is_made_at b.made z.0) z.0 z.2 in (z.0, z.1, k.0, k.1)
-  where
-    at : (q : Bool) (x : Buffer) → c ≡ cond q (hand_out x) x → (x.made ≡ c.made) × (x.one_way ≡ c.one_way)
-    at true x e = (ap (λ (y : Buffer). y.made) (sym e), ap (λ (y : Buffer). y.one_way) (sym e))
-    at false x e = (ap (λ (y : Buffer). y.made) (sym e), ap (λ (y : Buffer). y.one_way) (sym e))
+handed-kept bs o c l = search (arith, in-changed)
 
 -- an item that ends the reading is the last one
 taken-ends : (s : Space) (ws : List Work) (left : ℕ) (v w : Work) → In v (taken s left ws) → In w (taken s left ws) → ends_read v.kind ≡ true → ends_read w.kind ≡ true → v ≡ w
@@ -73,16 +55,10 @@ taken-ends s (x ∷ xs) left v w l m e f =
     at (nat_lt left 68) (taken s (left - length (bytes_read s x)) xs) (λ i j. taken-ends s xs (left - length (bytes_read s x)) v w i j e f) l m
   where
     on : (b : Bool) → ends_read x.kind ≡ b → (rest : List Work) → (In v rest → In w rest → v ≡ w) → In v (x ∷ cond b [] rest) → In w (x ∷ cond b [] rest) → v ≡ w
-    on true q rest k (inl i) (inl j) = sym i ∙ j
-    on true q rest k (inl i) (inr j) = absurd j
-    on true q rest k (inr i) j = absurd i
-    on false q rest k (inl i) j = let yes : ends_read x.kind ≡ true = ap (λ (y : Work). ends_read y.kind) i ∙ e in absurd (cc)
-    on false q rest k (inr i) (inl j) = let yes : ends_read x.kind ≡ true = ap (λ (y : Work). ends_read y.kind) j ∙ f in absurd (cc)
-    on false q rest k (inr i) (inr j) = k i j
+    on b q rest k h h2 = search arith
 
     at : (b : Bool) (rest : List Work) → (In v rest → In w rest → v ≡ w) → In v (cond b [] (x ∷ cond (ends_read x.kind) [] rest)) → In w (cond b [] (x ∷ cond (ends_read x.kind) [] rest)) → v ≡ w
-    at true rest k i j = absurd i
-    at false rest k i j = on (ends_read x.kind) refl rest k i j
+    at b rest k i j = search arith
 
 module _ (n : ℕ) (s : Space) (h : OnPaths n s) (t : Thread) (left : ℕ) where
   abbrev ws : List Work
@@ -103,8 +79,7 @@ module _ (n : ℕ) (s : Space) (h : OnPaths n s) (t : Thread) (left : ℕ) where
   source = at (has_work_in s.todo (OfThread t.seat)) t.looping (innermost_in s.frames t.seat) refl refl
     where
       own : (l : TodoList) → same_list (OfThread t.seat) l ≡ true → l ≡ OfThread t.seat
-      own (OfThread u) e = ap (λ n. OfThread n) (sym (eqb-true t.seat u e))
-      own (OfProcess q) e = absurd (cc)
+      own l e = search (arith, eqb-true)
 
       at : (b c : Bool) (o : Option Frame) → innermost_in s.frames t.seat ≡ o
           → list_to_read s t ≡ work_on s.todo (cond b (Some (OfThread t.seat)) (cond (c && is_none o) (Some (OfProcess t.process)) None))
@@ -126,34 +101,19 @@ module _ (n : ℕ) (s : Space) (h : OnPaths n s) (t : Thread) (left : ℕ) where
   ]
 
   both-path : (f g : Frame) → In f s.frames → In g s.frames → called-in f ≡ true → called-in g ≡ true → h.0 f.made ≡ h.0 g.made
-  both-path f g l m e p =
-      let v = item f e in
-      let w = item g p in
-      let same = taken-ends s (list_to_read s t) left v.0 w.0 v.1 w.1 (ap ends_read v.2) (ap ends_read w.2) in
-      let k : work.Call f.made ≡ work.Call g.made = sym v.2 ∙ ap (λ (x : Work). x.kind) same ∙ w.2 in
-      ap h.0 (let j : f.made ≡ g.made = cc in j)
+  both-path f g l m e p = search (arith, item, taken-ends)
 
   abbrev now : Frame → Frame
   now f = cond (called-in f) (serve t.seat f) f
 
   now-caller : (f : Frame) → (now f).caller ≡ f.caller
-  now-caller f = at (called-in f)
-    where
-      at : (b : Bool) → (cond b (serve t.seat f) f).caller ≡ f.caller
-      at true = refl
-      at false = refl
+  now-caller f = search arith
 
   served-or-not : (f : Frame) → (called-in f ≡ true) ⊎ (now f ≡ f)
-  served-or-not f = at (called-in f)
-    where
-      at : (b : Bool) → (b ≡ true) ⊎ (cond b (serve t.seat f) f ≡ f)
-      at true = inl refl
-      at false = inr refl
+  served-or-not f = search arith
 
-  served-part : (u : ℕ) (f : Frame) → called-in f ≡ true → Part u (now f) → Part u f ⊎ (u ≡ t.seat)
-  served-part u f e (inl p) = inl (inl (sym (now-caller f) ∙ p))
-  served-part u f e (inr p) =
-      inr (let k : Serving t.seat ≡ Serving u = sym (ap (λ b. (cond b (serve t.seat f) f).server) e) ∙ p in let j : t.seat ≡ u = cc in sym j)
+  part-now : (u : ℕ) (f : Frame) → Part u (now f) → Part u f ⊎ ((called-in f ≡ true) × (u ≡ t.seat))
+  part-now u f p = search (arith, served-or-not, now-caller)
 
   reading-changes : (ud : List Work) → ((w : Work) → In w ud → In w s.todo × ((v : Work) → In v ws → w ≡ v → ⊥)) → Changes h.0 s.frames ud now
   reading-changes ud left_over = record {
@@ -166,25 +126,9 @@ module _ (n : ℕ) (s : Space) (h : OnPaths n s) (t : Thread) (left : ℕ) where
         | inr by ↦ inr (by.0, by.1, now-caller g ∙ by.2)
       ])
     ];
-    shared = λ u f g l m p q. elim (served-or-not f) [
-      | inl a ↦ elim (served-or-not g) [
-        | inl b ↦ both-path f g l m a b
-        | inr same ↦ (
-            let part = subst (Part u) same q in
-            elim (served-part u f a p) [
-              | inl old ↦ h.1.shared u f g l m old part
-              | inr is ↦ own-path f g l m a (subst (λ x. Part x g) is part)
-            ])
-      ]
-      | inr same ↦ (
-          let part = subst (Part u) same p in
-          elim (served-or-not g) [
-            | inl b ↦ elim (served-part u g b q) [
-              | inl old ↦ h.1.shared u f g l m part old
-              | inr is ↦ sym (own-path g f m l b (subst (λ x. Part x f) is part))
-            ]
-            | inr too ↦ h.1.shared u f g l m part (subst (Part u) too q)
-          ])
+    shared = λ u f g l m p q. elim (part-now u f p) [
+      | inl old ↦ elim (part-now u g q) [ inl too ↦ h.1.shared u f g l m old too | inr b ↦ sym (own-path g f m l b.0 (subst (λ x. Part x f) b.1 old)) ]
+      | inr a ↦ elim (part-now u g q) [ inl old ↦ own-path f g l m a.0 (subst (λ x. Part x g) a.1 old) | inr b ↦ both-path f g l m a.0 b.0 ]
     ];
     unserved = λ w f u l e i q. elim (served-or-not f) [
       | inl a ↦ (let v = item f a in let k = left_over w l in k.1 v.0 v.1 (h.1.one w v.0 f.made k.0 (read-in s t left v.0 v.1) e v.2))
@@ -194,12 +138,10 @@ module _ (n : ℕ) (s : Space) (h : OnPaths n s) (t : Thread) (left : ℕ) where
   }
     where
       at : (b : Bool) (f : Frame) → (cond b (serve t.seat f) f).made ≡ f.made
-      at true f = refl
-      at false f = refl
+      at b f = search arith
 
       on : (b : Bool) (f : Frame) → (cond b (serve t.seat f) f).parent ≡ f.parent
-      on true f = refl
-      on false f = refl
+      on b f = search arith
 
   pub reads : OnPaths n (read_by s t.seat ws)
   unfolding read_by

@@ -1,56 +1,52 @@
--- Frames, callers and servers, as the proofs of paths speak of them.
-use Rattle.bd_laws.proofs.words.Logic.{◌≡◌, ℕ, ◌==◌, Bool, true, false, cond, List, Option, Some, None, refl, ap, subst, ◌∙◌, option_and_then_some, eqb-true, eq-eqb}
-use Rattle.bd_laws.proofs.words.Types.{Identity, Frame, Work, Server, Pending, Serving, Gone, TodoList, OfThread, OfProcess}
-use Rattle.bd_laws.proofs.words.Space.{same_identity, Space, serves, innermost_in, served_innermost, if_served, is_item, is_on, same_list, is_unread_on, unread_server, gone_caller, gone_server}
+-- For SpacesAreTidy and the laws of calls and replies: small facts on frames, callers and servers.
+use Rattle.bd_laws.proofs.words.Logic.{arith, ◌≡◌, ℕ, ◌==◌, true, false, cond, List, [], ◌∷◌, reverse, find, Option, Some, None, option_map, refl, eqb-true, eq-eqb}
+use Rattle.bd_laws.proofs.words.Types.{Frame, Work, Server, Serving, TodoList, OfThread, OfProcess}
+use Rattle.bd_laws.proofs.words.Space.{Space, serves, innermost_in, served_innermost, is_item, unread_server, gone_caller, gone_server, goes_to, ancestry, waits_in, list_of_caller, made_of}
+use Rattle.bd_laws.proofs.words.Laws.{In}
+use Rattle.bd_laws.proofs.Lists.{find-in}
 use Rattle.bd_laws.proofs.Tests.{and-both}
 
 pub is-serving : (seat : ℕ) (v : Server) → serves seat v ≡ true → v ≡ Serving seat
-is-serving seat (Serving t) e = ap (λ n. Serving n) (eqb-true t seat e)
-is-serving seat _ e = absurd (cc)
+is-serving seat v e = search (arith, eqb-true)
 
 pub served-is : (s : Space) (seat : ℕ) (f : Frame) → served_innermost s seat ≡ Some f → (innermost_in s.frames seat ≡ Some f) × (f.server ≡ Serving seat)
 unfolding served_innermost
-served-is s seat f h = option_and_then_some (if_served seat) (innermost_in s.frames seat) f h (λ g e k. at g e (serves seat g.server) refl k)
-  where
-    at : (g : Frame) → innermost_in s.frames seat ≡ Some g → (b : Bool) → serves seat g.server ≡ b → cond b (Some g) None ≡ Some f
-        → (innermost_in s.frames seat ≡ Some f) × (f.server ≡ Serving seat)
-    at g e true i k = let is : g ≡ f = cc in (e ∙ ap (λ x. Some x) is, subst (λ (x : Frame). x.server ≡ Serving seat) is (is-serving seat g.server i))
-    at g e false i k = absurd (cc)
-
-pub eq-identity : (a b : Identity) → a ≡ b → same_identity a b ≡ true
-eq-identity a b e = and-both (a.place == b.place) (a.index == b.index) (eq-eqb a.place b.place (ap (λ (x : Identity). x.place) e)) (eq-eqb a.index b.index (ap (λ (x : Identity). x.index) e))
-
-same_list-same : (l : TodoList) → same_list l l ≡ true
-same_list-same (OfThread t) = eq-eqb t t refl
-same_list-same (OfProcess p) = eq-eqb p p refl
+served-is s seat f h = search (arith, is-serving)
 
 pub same-item : (v w : Work) → v ≡ w → is_item v w ≡ true
-same-item v w e =
-    and-both (same_identity v.id w.id) (is_on w.list v) (eq-identity v.id w.id (ap (λ (x : Work). x.id) e))
-    (ap (λ (x : Work). is_on w.list x) e ∙ same_list-same w.list)
+same-item v w e = search (arith, and-both, eq-eqb)
 
 -- of this thread is told what it is when it is gone, of another one what it was
 other-stays : {A : Type 0} (of : ℕ → A) (gone : A) (seat u t : ℕ) → (gone ≡ of t → ⊥) → (of u ≡ of t → u ≡ t) → cond (u == seat) gone (of u) ≡ of t → (of u ≡ of t) × ((t == seat) ≡ false)
-other-stays of gone seat u t never same h = at (u == seat) refl h
-  where
-    at : (b : Bool) → (u == seat) ≡ b → cond b gone (of u) ≡ of t → (of u ≡ of t) × ((t == seat) ≡ false)
-    at true e h = absurd (never h)
-    at false e h = (h, subst (λ n. (n == seat) ≡ false) (same h) e)
+other-stays of gone seat u t never same h = search arith
 
 pub caller-stays : (seat : ℕ) (c : Option ℕ) (t : ℕ) → gone_caller seat c ≡ Some t → (c ≡ Some t) × ((t == seat) ≡ false)
-caller-stays seat None t h = absurd (cc)
-caller-stays seat (Some c) t h = other-stays (λ n. Some n) None seat c t (λ e. cc) (λ e. cc) h
+caller-stays seat c t h = search (arith, other-stays)
 
 pub unread-serving : (todo : List Work) (list : TodoList) (n : ℕ) (v : Server) (t : ℕ) → unread_server todo list n v ≡ Serving t → v ≡ Serving t
-unread-serving todo list n Pending t h = at (is_unread_on todo list n) h
-  where
-    at : (b : Bool) → cond b Gone Pending ≡ Serving t → Pending ≡ Serving t
-    at true h = absurd (cc)
-    at false h = h
-unread-serving todo list n (Serving u) t h = h
-unread-serving todo list n Gone t h = absurd (cc)
+unread-serving todo list n v t h = search arith
 
 pub server-stays : (seat : ℕ) (v : Server) (t : ℕ) → gone_server seat v ≡ Serving t → (v ≡ Serving t) × ((t == seat) ≡ false)
-server-stays seat Pending t h = absurd (cc)
-server-stays seat (Serving u) t h = other-stays (λ n. Serving n) Gone seat u t (λ e. cc) (λ e. cc) h
-server-stays seat Gone t h = absurd (cc)
+server-stays seat v t h = search (arith, other-stays)
+
+-- a call that goes to a thread goes to the caller of a frame that its own innermost frame is inside of
+pub goes-to-waiting : (s : Space) (seat p t : ℕ) → goes_to s seat p ≡ OfThread t
+    → (f : Frame) × (innermost_in s.frames seat ≡ Some f) × ((g : Frame) × In g (ancestry (Some f.made) (reverse s.frames)) × (g.caller ≡ Some t) × (waits_in s.threads p g ≡ true))
+unfolding goes_to
+goes-to-waiting s seat p t h = at (innermost_in s.frames seat) refl h
+  where
+    on : (c : Option ℕ) → (elim c as (λ (x : Option ℕ). TodoList) [ None ↦ OfProcess p | Some u ↦ OfThread u ]) ≡ OfThread t → c ≡ Some t
+    on c k = search arith
+
+    found : (xs : List Frame) (g : Option Frame) → find (waits_in s.threads p) xs ≡ g → list_of_caller p g ≡ OfThread t → (f : Frame) × In f xs × (f.caller ≡ Some t) × (waits_in s.threads p f ≡ true)
+    found xs None k q = absurd (cc)
+    found xs (Some f) k q = let l = find-in (waits_in s.threads p) f xs k in (f, l.0, on f.caller q, l.1)
+
+    nothing : (xs : List Frame) → list_of_caller p (find (waits_in s.threads p) (ancestry None xs)) ≡ OfThread t → ⊥
+    nothing [] k = absurd (cc)
+    nothing (x ∷ xs) k = nothing xs k
+
+    at : (o : Option Frame) → innermost_in s.frames seat ≡ o → list_of_caller p (find (waits_in s.threads p) (ancestry (option_map made_of o) (reverse s.frames))) ≡ OfThread t
+        → (f : Frame) × (innermost_in s.frames seat ≡ Some f) × ((g : Frame) × In g (ancestry (Some f.made) (reverse s.frames)) × (g.caller ≡ Some t) × (waits_in s.threads p g ≡ true))
+    at None e k = absurd (nothing (reverse s.frames) k)
+    at (Some f) e k = (f, e, found (ancestry (Some f.made) (reverse s.frames)) (find (waits_in s.threads p) (ancestry (Some f.made) (reverse s.frames))) refl k)

@@ -1,16 +1,17 @@
--- What lies on paths: the frames of a space, through the parts of a step that close one.
-use Rattle.bd_laws.proofs.words.Logic.{◌≡◌, ℕ, ◌==◌, true, not, List, Option, Some, None, refl, ap, sym, subst, ◌∙◌, list_any, find, eq-eqb}
-use Rattle.bd_laws.proofs.words.Types.{TransactionData, DeadReply, FailedReply, TransactionComplete, Work, Frame, Actor, OfThread, WorkKind}
-use Rattle.bd_laws.proofs.words.Space.{is_some_and, Space, closed, served_innermost, is_gone, is_child_of, owe, tell_caller, hands_out, follow, notify, work_goes, deaths_go, names_go, assign_numbers, objects_go, is_abandoned, Delivery, delivered, own_notices, add_buffer, known_by, refer, make_objects, reply_refused}
+-- For SpacesAreTidy, FramesAreStacks and CallsEndLatestFirst: frames stay on their paths where a part of a step closes one.
+use Rattle.bd_laws.proofs.words.Logic.{arith, ◌≡◌, ℕ, true, List, Option, Some, None, refl, ap, sym, subst, find, eq-eqb}
+use Rattle.bd_laws.proofs.words.Types.{DeadReply, FailedReply, TransactionComplete, Work, Frame, OfThread, WorkKind}
+use Rattle.bd_laws.proofs.words.Space.{Space, closed, served_innermost, owe, tell_caller, hands_out, follow, notify, work_goes, deaths_go, names_go, objects_go, is_abandoned, reply_refused}
 use Rattle.bd_space.specs.declared.space.WorkKind.TheVariants as work
 use Rattle.bd_laws.proofs.words.Laws.{In, Forest, NoChild, OnPaths}
 use Rattle.bd_laws.proofs.Lists.{find-in, any-in}
-use Rattle.bd_laws.proofs.Tests.{both, not-true}
+use Rattle.bd_laws.proofs.Tests.{not-true}
 use Rattle.bd_laws.proofs.IsInTurn.OneWay.{Less, owe-less}
 use Rattle.bd_laws.proofs.OnPaths.PathWords.{served-is}
 use Rattle.bd_laws.proofs.OnPaths.Forests.{forest-same, forest-closed}
 use Rattle.bd_laws.proofs.OnPaths.Innermost.{innermost-is, innermost-childless}
 use Rattle.bd_laws.proofs.Machine.Fields.{owe-frames}
+use Rattle.bd_laws.proofs.Machine.Adding.{told-keeps}
 
 -- ---- what leaves the frames
 
@@ -28,26 +29,18 @@ pub follow-frames : (z : Space) → (follow z).frames ≡ z.frames
 unfolding follow notify work_goes deaths_go objects_go names_go
 follow-frames z = refl
 
-pub delivered-frames : (s : Space) (a : Actor) (d : TransactionData) (v : Delivery) → (delivered s a d v).frames ≡ s.frames
-unfolding delivered own_notices add_buffer known_by assign_numbers refer make_objects
-delivered-frames s a d v = refl
-
 -- ---- a frame closes, and its caller is told
 
 told : (n : ℕ) (z : Space) (caller : Option ℕ) (kind : WorkKind) → hands_out kind ≡ None → OnPaths n z
     → OnPaths n (elim caller as (λ (o : Option ℕ). Space) [ None ↦ z | Some t ↦ owe z (OfThread t) kind ])
-told n z None kind none h = h
-told n z (Some t) kind none h = calm n _ z (owe-less z (OfThread t) kind none) (owe-frames z (OfThread t) kind) h
+told n z caller kind none h = told-keeps (OnPaths n) kind (λ y t. calm n _ y (owe-less y (OfThread t) kind none) (owe-frames y (OfThread t) kind)) z caller h
 
 pub closes : (n : ℕ) (z : Space) (f : Frame) → In f z.frames → NoChild z.frames f → OnPaths n z → OnPaths n (closed z f.made)
 unfolding closed
 closes n z f l none h = (h.0, forest-closed n h.0 z.frames z.buffers z.todo h.1 f l none)
 
 pub abandoned-childless : (fs : List Frame) (f : Frame) → is_abandoned fs f ≡ true → NoChild fs f
-abandoned-childless fs f h g l e =
-    let none = not-true (list_any (is_child_of f) fs) (both (is_gone f.server) (not (list_any (is_child_of f) fs)) h).1 in
-    let child : is_child_of f g ≡ true = ap (λ o. is_some_and o (λ m. m == f.made)) e ∙ eq-eqb f.made f.made refl in
-    let some = any-in (is_child_of f) g fs l child in absurd (cc)
+abandoned-childless fs f h g l e = search (arith, not-true, eq-eqb, any-in)
 
 pub abandons : (n : ℕ) (z : Space) (f : Frame) → find (is_abandoned z.frames) z.frames ≡ Some f → OnPaths n z → OnPaths n (tell_caller (closed z f.made) f (work.Verdict DeadReply))
 abandons n z f e h =

@@ -2,7 +2,7 @@ use Rattle.std.proofs.Common.{◌≡◌, ◌++◌, take, drop, vec_len, vec_capa
 use Rattle.bd_space.specs.Words.{changed}
 use Rattle.bd_space.specs.Deaths.{is_notification}
 use Rattle.bd_deaths.specs.Slots.{of, with}
-use Rattle.bd_deaths.specs.Stands.{IsWithin}
+use Rattle.bd_space.specs.Ranges.{IsWithin}
 use Rattle.bd_deaths.proofs.change.set_phase.Given as goal
 
 abbrev pub invariant-loop-i : goal.invariant-loop-i

@@ -3,7 +3,7 @@ use Rattle.std.proofs.lemmas.Bool.{eq-eqb, ne_eqb}
 use Rattle.bd_space.specs.Words.{changed}
 use Rattle.bd_space.specs.Frames.{is_frame}
 use Rattle.bd_frames.specs.Words.{lost_frame}
-use Rattle.bd_frames.proofs.Parts.{changed-first, changed-last, changed-written, changed-left}
+use Rattle.bd_space.proofs.Ranges.{changed-first, changed-last, changed-written, changed-left}
 use Rattle.bd_frames.proofs.change.lose_in.Goals as goal
 use Rattle.bd_frames.proofs.change.lose_in.Goals.{then-frame-made, else-frame-made}
 

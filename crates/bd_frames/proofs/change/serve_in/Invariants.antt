@@ -2,7 +2,7 @@ use Rattle.std.proofs.Common.{◌≡◌, ◌++◌, take, drop, vec_len, vec_capa
 use Rattle.bd_space.specs.Words.{changed}
 use Rattle.bd_space.specs.Frames.{is_frame}
 use Rattle.bd_space.specs.ReadItems.{serve}
-use Rattle.bd_frames.specs.Places.{IsWithin}
+use Rattle.bd_space.specs.Ranges.{IsWithin}
 use Rattle.bd_frames.proofs.change.serve_in.Given as goal
 
 abbrev pub invariant-loop-i : goal.invariant-loop-i

@@ -1,6 +1,6 @@
 use Rattle.std.proofs.Common.{ℕ, Option, subst, sym, refl}
 use Rattle.bd_frames.specs.Places.{IsNewestAt}
-use Rattle.bd_frames.proofs.Parts.{newest-none, newest-some}
+use Rattle.bd_frames.proofs.Newest.{newest-none, newest-some}
 use Rattle.bd_frames.proofs.place.newest_at.Goals as goal
 
 pub returns-in_err-i-clause-newest : goal.returns-in_err-i-clause-newest

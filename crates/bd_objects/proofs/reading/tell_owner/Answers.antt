@@ -6,7 +6,7 @@ use Rattle.bd_objects.proofs.reading.tell_owner.Goals as goal
 pub returns-in-Some-clause-stands : goal.returns-in-Some-clause-stands
 returns-in-Some-clause-stands c = λ objects l n r.
     rw (← c.in-Some.ensures) (subst (λ xs. NodesAre c.set_told.new.self xs)
-    (told-one l c.in-Some.o _ _ objects (c.is_held.ensures l r) (c.is_strong.ensures l r)) (c.set_told.ensures.stands objects n))
+    (told-one l c.in-Some.o _ _ objects (c.hold-hold.ensures.held l r) (c.hold-hold.ensures.strong l r)) (c.set_told.ensures.stands objects n))
 
 pub returns-in-None : goal.returns-in-None
 returns-in-None c = record {

@@ -7,7 +7,7 @@ use Rattle.bd_deaths.specs.Due.{is_due_at, due_of, has_place}
 use Rattle.bd_deaths.proofs.Gathered.{no-place, place-part, place-next}
 use Rattle.bd_deaths.specs.Slots.{lives}
 use Rattle.bd_deaths.specs.Stands.{IsRising}
-use Rattle.bd_deaths.proofs.Parts.{any-of}
+use Rattle.bd_space.proofs.Ranges.{any-of}
 use Rattle.bd_deaths.proofs.Places.{rising-lives}
 use Rattle.bd_deaths.proofs.Telling.{due-here, due-told}
 use Rattle.bd_deaths.proofs.list.DeathList.due_of.Goals as goal

@@ -2,7 +2,7 @@ use Rattle.std.proofs.Common.{ap, subst, ◌∙◌}
 use Rattle.std.specs.List.{between}
 use Rattle.std.proofs.lemmas.Slice.{between_is}
 use Rattle.bd_deaths.specs.Slots.{lives}
-use Rattle.bd_deaths.specs.Stands.{IsPartOf}
+use Rattle.bd_space.specs.Ranges.{IsPartOf}
 use Rattle.bd_deaths.proofs.Lives.{part-lives}
 use Rattle.bd_deaths.proofs.list.DeathList.key_part.Goals as goal
 

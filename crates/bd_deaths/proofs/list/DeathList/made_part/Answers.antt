@@ -3,7 +3,7 @@ use Rattle.std.specs.List.{between}
 use Rattle.std.proofs.lemmas.Slice.{between_is}
 use Rattle.bd_space.specs.Deaths.{is_notification}
 use Rattle.bd_deaths.specs.Slots.{lives}
-use Rattle.bd_deaths.specs.Stands.{IsPartOf}
+use Rattle.bd_space.specs.Ranges.{IsPartOf}
 use Rattle.bd_deaths.proofs.Lives.{live-within, part-lives}
 use Rattle.bd_deaths.proofs.list.DeathList.made_part.Goals as goal
 

@@ -2,7 +2,7 @@ use Rattle.std.proofs.Common.{sym, subst, ◌∙◌}
 use Rattle.bd_space.specs.Deaths.{is_notification}
 use Rattle.bd_deaths.specs.Due.{is_due_at}
 use Rattle.bd_deaths.specs.Stands.{AreIn}
-use Rattle.bd_deaths.proofs.Parts.{any-of}
+use Rattle.bd_space.proofs.Ranges.{any-of}
 use Rattle.bd_deaths.proofs.Telling.{due-here, place-told, place-else}
 use Rattle.bd_deaths.proofs.list.DeathList.queue_at.Goals as goal
 

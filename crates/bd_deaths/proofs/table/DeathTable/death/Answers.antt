@@ -3,7 +3,7 @@ use Rattle.bd_space.specs.Deaths.{is_notification}
 use Rattle.bd_deaths.specs.declared.slot.Slot.{Slot}
 use Rattle.bd_deaths.specs.Slots.{lives}
 use Rattle.bd_deaths.proofs.Lives.{find-lives}
-use Rattle.bd_deaths.proofs.Parts.{find-of}
+use Rattle.bd_space.proofs.Ranges.{find-of}
 use Rattle.bd_deaths.proofs.table.DeathTable.death.Goals as goal
 
 pub returns : goal.returns

@@ -2,7 +2,7 @@ use Rattle.std.proofs.Common.{sym, ap, ◌∙◌}
 use Rattle.std.proofs.lemmas.Result.{err_from_is_err_and}
 use Rattle.bd_space.specs.Deaths.{is_notification}
 use Rattle.bd_deaths.specs.Due.{is_due_at, has_place}
-use Rattle.bd_deaths.proofs.Parts.{any-of}
+use Rattle.bd_space.proofs.Ranges.{any-of}
 use Rattle.bd_deaths.proofs.Telling.{due-here, due-told, next-then, next-else}
 use Rattle.bd_deaths.proofs.table.DeathTable.due_on.Goals as goal
 

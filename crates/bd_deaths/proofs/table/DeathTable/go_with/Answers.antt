@@ -6,7 +6,8 @@ use Rattle.bd_space.specs.Deaths.{is_uncleared_on}
 use Rattle.bd_space.specs.Local.{at_name}
 use Rattle.bd_deaths.specs.Listed.{IsListed}
 use Rattle.bd_deaths.specs.Stands.{AreIn, DeathsAre}
-use Rattle.bd_deaths.proofs.Parts.{all-stay, same-filter, uncleared-stays, all-named}
+use Rattle.bd_space.proofs.Ranges.{all-stay, same-filter}
+use Rattle.bd_deaths.proofs.Staying.{uncleared-stays, all-named}
 use Rattle.bd_deaths.proofs.table.DeathTable.go_with.Goals as goal
 
 pub returns-then-not-named-clause-stands : goal.returns-then-not-named-clause-stands

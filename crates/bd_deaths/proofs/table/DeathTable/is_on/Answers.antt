@@ -4,7 +4,7 @@ use Rattle.bd_space.specs.Local.{at_name}
 use Rattle.bd_space.specs.declared.space.DeathNotification.{DeathNotification}
 use Rattle.bd_deaths.specs.Slots.{lives}
 use Rattle.bd_deaths.proofs.Lives.{any-lives}
-use Rattle.bd_deaths.proofs.Parts.{any-of, first-of-both}
+use Rattle.bd_space.proofs.Ranges.{any-of, first-of-both}
 use Rattle.bd_deaths.proofs.table.DeathTable.is_on.Goals as goal
 
 pub returns : goal.returns

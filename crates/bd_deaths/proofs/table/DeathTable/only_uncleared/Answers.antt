@@ -5,9 +5,9 @@ use Rattle.bd_deaths.specs.declared.key.Key.{Key}
 use Rattle.bd_deaths.specs.declared.slot.Slot.{Slot}
 use Rattle.bd_deaths.specs.Keys.{has, name_key}
 use Rattle.bd_deaths.specs.Slots.{lives}
-use Rattle.bd_deaths.specs.Stands.{IsPartOf}
+use Rattle.bd_space.specs.Ranges.{IsPartOf}
 use Rattle.bd_deaths.proofs.Lives.{only-lives}
-use Rattle.bd_deaths.proofs.Parts.{last-two}
+use Rattle.bd_space.proofs.Ranges.{last-two}
 use Rattle.bd_deaths.proofs.Only.{only-of}
 use Rattle.bd_deaths.proofs.table.DeathTable.only_uncleared.Goals as goal
 

@@ -5,9 +5,9 @@ use Rattle.bd_deaths.specs.declared.key.Key.{Key}
 use Rattle.bd_deaths.specs.declared.slot.Slot.{Slot}
 use Rattle.bd_deaths.specs.Keys.{has, name_key}
 use Rattle.bd_deaths.specs.Slots.{lives}
-use Rattle.bd_deaths.specs.Stands.{IsPartOf}
+use Rattle.bd_space.specs.Ranges.{IsPartOf}
 use Rattle.bd_deaths.proofs.Lives.{find-lives}
-use Rattle.bd_deaths.proofs.Parts.{find-of, last-two}
+use Rattle.bd_space.proofs.Ranges.{find-of, last-two}
 use Rattle.bd_deaths.proofs.table.DeathTable.uncleared.Goals as goal
 
 pub returns : goal.returns

@@ -36,11 +36,11 @@ returns-in_err-x-clause-owner c = λ s h p.
     let same_objects = apart-none s.objects c.args.o (stays_in s.processes s.references) none in
     c.from_residual.ensures ∙ sym (ap (λ (xs : List Object). owner_due s (object_in xs c.args.o)) same_objects ∙ ap (owner_due s) none)
 
-pub returns-then-not-keeps-clause-stands : goal.returns-then-not-keeps-clause-stands
+pub returns-then-not-stays-clause-stands : goal.returns-then-not-stays-clause-stands
 unfolding objects_go_of
-returns-then-not-keeps-clause-stands c = λ s h p.
+returns-then-not-stays-clause-stands c = λ s h p.
     let goes : stays_in s.processes s.references c.in_ok-x.x ≡ false =
-    rw (sym (c.hold_on-hold.ensures.held s.references h.references_are)) (rw (sym (c.lives-lives.ensures s.processes p)) (sym c.keeps.ensures ∙ c.if-not-keeps.true)) in
+    rw (sym (c.hold-hold.ensures.held s.references h.references_are)) (rw (sym (c.lives-lives.ensures s.processes p)) (sym c.stays.ensures ∙ c.if-not-stays.true)) in
     record {
       objects_are = subst (NodesAre c.remove.new.self)
           (sym (apart-some c.args.self.now.nodes s.objects c.args.o c.in_ok-x.x (stays_in s.processes s.references) h.objects_are (sym (c.in_ok-x.ensures s.objects h.objects_are)) ∙ rw goes refl))
@@ -50,11 +50,11 @@ returns-then-not-keeps-clause-stands c = λ s h p.
       deaths_are = h.deaths_are;
     }
 
-pub returns-then-not-keeps-clause-owner : goal.returns-then-not-keeps-clause-owner
+pub returns-then-not-stays-clause-owner : goal.returns-then-not-stays-clause-owner
 unfolding objects_go_of
-returns-then-not-keeps-clause-owner c = λ s h p.
+returns-then-not-stays-clause-owner c = λ s h p.
     let goes : stays_in s.processes s.references c.in_ok-x.x ≡ false =
-    rw (sym (c.hold_on-hold.ensures.held s.references h.references_are)) (rw (sym (c.lives-lives.ensures s.processes p)) (sym c.keeps.ensures ∙ c.if-not-keeps.true)) in
+    rw (sym (c.hold-hold.ensures.held s.references h.references_are)) (rw (sym (c.lives-lives.ensures s.processes p)) (sym c.stays.ensures ∙ c.if-not-stays.true)) in
     let left = apart-some c.args.self.now.nodes s.objects c.args.o c.in_ok-x.x (stays_in s.processes s.references) h.objects_are (sym (c.in_ok-x.ensures s.objects h.objects_are)) ∙ rw goes refl in
     sym (ap (λ (xs : List Object). owner_due s (object_in xs c.args.o)) left ∙ ap (owner_due s) (none-left c.args.o s.objects))
 
@@ -62,7 +62,7 @@ pub returns-clause-stands : goal.returns-clause-stands
 unfolding objects_go_of
 returns-clause-stands c = λ s h p.
     let stays : stays_in s.processes s.references c.in_ok-x.x ≡ true =
-    rw (sym (c.hold_on-hold.ensures.held s.references h.references_are)) (rw (sym (c.lives-lives.ensures s.processes p)) (sym c.keeps.ensures ∙ c.if-not-keeps.false)) in
+    rw (sym (c.hold-hold.ensures.held s.references h.references_are)) (rw (sym (c.lives-lives.ensures s.processes p)) (sym c.stays.ensures ∙ c.if-not-stays.false)) in
     record {
       objects_are = subst (NodesAre c.args.self.now.nodes)
           (sym (apart-some c.args.self.now.nodes s.objects c.args.o c.in_ok-x.x (stays_in s.processes s.references) h.objects_are (sym (c.in_ok-x.ensures s.objects h.objects_are)) ∙ rw stays refl))
@@ -75,11 +75,11 @@ returns-clause-stands c = λ s h p.
 pub returns-clause-owner : goal.returns-clause-owner
 unfolding objects_go_of
 returns-clause-owner c = λ s h p.
-    let held = c.hold_on-hold.ensures.held s.references h.references_are in
-    let strong = c.hold_on-hold.ensures.strong s.references h.references_are in
+    let held = c.hold-hold.ensures.held s.references h.references_are in
+    let strong = c.hold-hold.ensures.strong s.references h.references_are in
     let lives = c.lives-lives.ensures s.processes p in
     let found = sym (c.in_ok-x.ensures s.objects h.objects_are) in
-    let stays : stays_in s.processes s.references c.in_ok-x.x ≡ true = rw (sym held) (rw (sym lives) (sym c.keeps.ensures ∙ c.if-not-keeps.false)) in
+    let stays : stays_in s.processes s.references c.in_ok-x.x ≡ true = rw (sym held) (rw (sym lives) (sym c.stays.ensures ∙ c.if-not-stays.false)) in
     let left = apart-some c.args.self.now.nodes s.objects c.args.o c.in_ok-x.x (stays_in s.processes s.references) h.objects_are found ∙ rw stays refl in
     let due : owner_due s (object_in s.objects c.args.o) ≡ c.owner_to_tell.result = ap (owner_due s) found ∙ rw (sym held) (rw (sym strong) (rw (sym lives) (sym c.owner_to_tell.ensures))) in
     sym (ap (λ (xs : List Object). owner_due s (object_in xs c.args.o)) left ∙ due)
