@@ -2,7 +2,6 @@
 pub mod Quiet
 pub mod Traces
 pub mod Answering
-pub mod Owed
 pub mod RepliesDue
 pub mod ReplyTaken
 pub mod Places

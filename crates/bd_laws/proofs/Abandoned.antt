@@ -4,9 +4,8 @@ use Rattle.bd_laws.proofs.words.Types.{DeadReply, Frame, Verdict}
 use Rattle.bd_laws.proofs.words.Space.{Space, is_gone, is_frame, is_child_of, closed, tell_caller, is_abandoned, settle_one, settle_step, settle_times, settle, close_up}
 use Rattle.bd_laws.specs.Lists.{In}
 use Rattle.bd_laws.proofs.Lists.{in-filter, filter-in, any-found, any-in, find-in}
-use Rattle.bd_laws.proofs.Tests.{either-way, both, and-both, not-true, not-false}
+use Rattle.bd_laws.proofs.Tests.{either-way, both, and-both, not-true, not-false, to-false}
 use Rattle.bd_laws.proofs.Machine.Settled.{times-still}
-use Rattle.bd_laws.proofs.Fewer.{to-false}
 use Rattle.bd_laws.proofs.Sending.{find-none, none-found}
 use Rattle.bd_laws.proofs.Machine.Fields.{told-frames, closed-frames}
 

@@ -21,9 +21,12 @@ step-tidy s e h = search (arith, step-before, next-told, next-home, next-steps, 
 pub opening-tidy : IsTidy opening
 opening-tidy = record { before = opening-before; told = opening-told; home = opening-home; in_windows = opening-in_windows; on_paths = opening-on_paths; of_others = opening-of_others; quiet = opening-quiet; queued = opening-queued; framed = opening-framed }
 
+pub tidy-after : (es : List Entry) → IsTidy (after opening es)
+tidy-after es = every_list IsTidy step-tidy es opening opening-tidy
+
 pub always-tidy : (h : History) → IsTidy (space_after h)
 unfolding space_after
-always-tidy h = every_list IsTidy step-tidy h.entries opening opening-tidy
+always-tidy h = tidy-after h.entries
 
 pub always-on_paths : (es : List Entry) → OnPaths (after opening es).steps (after opening es)
-always-on_paths es = (every_list IsTidy step-tidy es opening opening-tidy).on_paths
+always-on_paths es = (tidy-after es).on_paths

@@ -4,11 +4,10 @@ use Rattle.bd_laws.proofs.words.Types.{Work, DeathNotification, Queued, OfThread
 use Rattle.bd_laws.proofs.words.Space.{changed, Space, is_name_of, owe, is_notification, without_death, with_phase, mark_cleared, death_ended, cleared, death_done, told_death, completed, no_name}
 use Rattle.bd_space.specs.declared.space.WorkKind.TheVariants as work
 use Rattle.bd_laws.proofs.words.Laws.{In, IsQuiet, IsFollowed, IsTidy}
-use Rattle.bd_laws.proofs.Lists.{in-filter, filter-in, in-changed, any-found, any-in}
+use Rattle.bd_laws.proofs.Lists.{in-filter, filter-in, in-changed, any-changed, any-found, any-in}
 use Rattle.bd_laws.proofs.Tests.{not-false}
 use Rattle.bd_laws.proofs.Freeing.{owe-elsewhere, owed-unripe}
 use Rattle.bd_laws.proofs.Others.{nothing-local, no_object, deaths-followed}
-use Rattle.bd_laws.proofs.FollowingIsLocal.Taking.{any-changed}
 use Rattle.bd_laws.proofs.IsQueued.Queueing.{is-silent}
 use Rattle.bd_laws.proofs.IsQueued.QueuedDeaths.{found-told}
 

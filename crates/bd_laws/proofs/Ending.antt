@@ -5,11 +5,11 @@ use Rattle.bd_laws.proofs.words.Space.{changed, Space, lives_in, owned_in, owe, 
 use Rattle.bd_space.specs.declared.space.WorkKind.TheVariants as work
 use Rattle.bd_laws.proofs.words.Laws.{In, IsTidy, IsFramed}
 use Rattle.bd_laws.proofs.Lists.{in-left, in-push, in-filter, filter-in, map-in, in-changed, any-found, any-in, fold-keeps}
-use Rattle.bd_laws.proofs.Tests.{both, and-both, not-true, not-false, eq-same, or-right, not-eq}
+use Rattle.bd_laws.proofs.Tests.{both, and-both, neither, not-true, not-false, eq-same, or-right, not-eq, to-false}
 use Rattle.bd_laws.proofs.Machine.Deaths.{KeptOnDeaths, on-told, tell_deaths-aside}
 use Rattle.bd_laws.proofs.Machine.Untouched.{tell_deaths-untouched}
 use Rattle.bd_laws.proofs.Follow.{follow-local}
-use Rattle.bd_laws.proofs.Fewer.{any-filtered, to-false}
+use Rattle.bd_laws.proofs.Fewer.{any-filtered}
 use Rattle.bd_laws.proofs.ItemsAreToldApart.Numbering.{rest-references}
 use Rattle.bd_laws.proofs.IsQueued.Queueing.{sits-on}
 use Rattle.bd_laws.proofs.Abandoned.{OneEach}
@@ -17,7 +17,7 @@ use Rattle.bd_laws.proofs.Framing.{Keeping, framed_table, framed_exits, one_each
 use Rattle.bd_laws.proofs.Machine.Table.{Any, ended-by}
 use Rattle.bd_laws.proofs.FollowingIsLocal.Closings.{Covered, settle-among}
 use Rattle.bd_laws.proofs.Leaving.{Parts, parts-elsewhere, elsewhere-more, untouched-reference, untouched-notice}
-use Rattle.bd_laws.proofs.FollowingIsLocal.Left.{neither, Left, left-none, left-step, AllWent, went-map, unread-or, cover-unread, abandoned-touched}
+use Rattle.bd_laws.proofs.FollowingIsLocal.Left.{Left, left-none, left-step, AllWent, went-map, unread-or, cover-unread, abandoned-touched}
 use Rattle.bd_laws.proofs.Machine.Fields.{follow_of-frames as follow-frames}
 
 -- ---- what telling of deaths adds

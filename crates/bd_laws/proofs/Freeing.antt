@@ -6,13 +6,13 @@ use Rattle.bd_laws.proofs.words.Space.{same, Space, is_of_buffer, owe, with_work
 use Rattle.bd_space.specs.declared.space.WorkKind.TheVariants as work
 use Rattle.bd_laws.proofs.words.Laws.{In, Elsewhere, IsSettled, NoneRipe, IsQuiet}
 use Rattle.bd_laws.proofs.Lists.{in-push}
-use Rattle.bd_laws.proofs.Tests.{same-eq, eq-same}
+use Rattle.bd_laws.proofs.Tests.{not-false-true, same-eq, eq-same, to-false}
 use Rattle.bd_laws.proofs.Follow.{follow-local}
 use Rattle.bd_laws.proofs.Machine.Settled.{settle-still}
 use Rattle.bd_laws.proofs.FollowingIsLocal.Ripe.{NoneRipeBut, ripen-local}
 use Rattle.bd_laws.proofs.NothingIsPending.Quiet.{IsPlainKind, any-more, unripe-kept}
 pub use Rattle.std.proofs.lemmas.List.Folds.{list_any-append as any-append}
-use Rattle.bd_laws.proofs.Fewer.{elsewhere-said, filtered-said, to-false}
+use Rattle.bd_laws.proofs.Fewer.{elsewhere-said, filtered-said}
 
 -- ---- an item more is pending nowhere else
 
@@ -107,7 +107,4 @@ freed-local s made o h k =
     let e = elsewhere-said _ _ s _ h.followed (filtered-said gone s.references) in
     completed-ripe _ _ o (without_buffer s made)
     (record { names = e.names; objects = e.objects; deaths = e.deaths; notices = e.notices; tellings = e.tellings; made = e.made })
-    (but-filtered o s.todo (λ (b : Buffer). not (is_made_at made b)) s.buffers [] [] (λ i none. refl) h.unripe (λ c l f t i. k c l (at (is_made_at made c) f) t i)) h.settled
-  where
-    at : (b : Bool) → not b ≡ false → b ≡ true
-    at b e = search arith
+    (but-filtered o s.todo (λ (b : Buffer). not (is_made_at made b)) s.buffers [] [] (λ i none. refl) h.unripe (λ c l f t i. k c l (not-false-true (is_made_at made c) f) t i)) h.settled

@@ -1,6 +1,5 @@
 -- One-way calls are in turn: of each object's, the oldest is due or handed out, and stands with its receiver. What SpacesAreTidy
 -- knows of one-way calls.
-pub mod Pushed
 pub mod OneWay
 pub mod Ripening
 pub mod InTurn

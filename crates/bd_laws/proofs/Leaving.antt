@@ -5,16 +5,15 @@ use Rattle.bd_laws.proofs.words.Space.{same, is_some_and, Space, lives_in, objec
 use Rattle.bd_space.specs.declared.space.WorkKind.TheVariants as work
 use Rattle.bd_laws.proofs.words.Laws.{In, Elsewhere, IsFollowed, IsTidy, IsFramed}
 use Rattle.bd_laws.proofs.Lists.{in-filter, filter-in, any-found, any-in, find-in}
-use Rattle.bd_laws.proofs.Tests.{both, and-both, same-eq, eq-same}
+use Rattle.bd_laws.proofs.Tests.{both, and-both, equal-tests, same-eq, eq-same, to-false}
 use Rattle.bd_laws.proofs.Follow.{follow-local}
-use Rattle.bd_laws.proofs.Fewer.{to-false}
 use Rattle.bd_laws.proofs.Abandoned.{OneEach}
 use Rattle.bd_laws.proofs.Framing.{one_each-framed, framed_exits}
 use Rattle.bd_laws.proofs.AtHome.HomesSent.{one-thread}
 use Rattle.bd_laws.proofs.FollowingIsLocal.Closings.{settle-among}
 pub use Rattle.bd_laws.proofs.Machine.Fields.{follow_of-frames as follow-frames}
 pub use Rattle.bd_laws.proofs.Tests.{or-left, or-right}
-use Rattle.bd_laws.proofs.FollowingIsLocal.Left.{on-thread, equal-tests, abandoned-touched, Left, left-none, left-step}
+use Rattle.bd_laws.proofs.FollowingIsLocal.Left.{on-thread, abandoned-touched, Left, left-none, left-step}
 
 -- ---- what is pending elsewhere, after references and items went
 

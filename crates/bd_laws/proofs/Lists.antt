@@ -1,5 +1,5 @@
 -- For every law: membership in lists, and lists of which each two elements are related.
-use Rattle.bd_laws.proofs.words.Logic.{append-nil, append_assoc, ℕ, ◌≡◌, Bool, true, false, cond, List, [], ◌∷◌, ◌++◌, Option, Some, ◌⊎◌, inl, inr, refl, sym, subst, map, filter, find, zero, suc, ◌<◌, length, get_or, arith, list_any, list_all, filter_map, AllPairs, fold, is_some}
+use Rattle.bd_laws.proofs.words.Logic.{append-nil, append_assoc, ℕ, ◌≡◌, Bool, true, false, cond, List, [], ◌∷◌, ◌++◌, Option, Some, ◌⊎◌, inl, inr, refl, sym, subst, map, filter, find, zero, suc, ◌<◌, length, get_or, arith, list_any, list_all, filter_map, AllPairs, fold, is_some, option_map}
 use Rattle.bd_space.specs.Words.{changed, without_first}
 use Rattle.bd_laws.specs.Lists.{In, Pairs}
 
@@ -23,9 +23,16 @@ module _ {A : Type 0} where
   pub in-push : (x y : A) (xs : List A) → In x (xs ++ y ∷ []) → In x xs ⊎ (y ≡ x)
   in-push x y xs h = search (arith, in-append x xs (y ∷ []))
 
-  -- so what holds of the first elements and of the last one, holds of all
-  pub all-push : (P : A → Type 0) (y : A) (xs : List A) → ((x : A) → In x xs → P x) → P y → (x : A) → In x (xs ++ y ∷ []) → P x
-  all-push P y xs h k x l = elim (in-push x y xs l) [ inl i ↦ h x i | inr e ↦ subst P e k ]
+  module _ (xs : List A) (x : A) where
+    -- so what holds of the first elements and of the last one, holds of all
+    pub all-push : (P : A → Type 0) → ((y : A) → In y xs → P y) → P x → (y : A) → In y (xs ++ x ∷ []) → P y
+    all-push P old new y l = elim (in-push y x xs l) [ inl i ↦ old y i | inr is ↦ subst P is new ]
+
+    -- of each two: both old, one new, both new
+    pub two-push : (P : A → A → Type 0) → ((y z : A) → In y xs → In z xs → P y z) → ((y : A) → In y xs → P y x) → ((z : A) → In z xs → P x z) → P x x
+        → (y z : A) → In y (xs ++ x ∷ []) → In z (xs ++ x ∷ []) → P y z
+    two-push P old first second new y z l m =
+        all-push (λ a. (b : A) → In b (xs ++ x ∷ []) → P a b) (λ a i. all-push (P a) (λ b j. old a b i j) (first a i)) (all-push (P x) second new) y l z m
 
   module _ (p : A → Bool) where
     pub in-filter : (x : A) (xs : List A) → In x (filter p xs) → In x xs × (p x ≡ true)
@@ -67,6 +74,16 @@ module _ {A : Type 0} where
     pub changed-in : (x : A) (xs : List A) → In x xs → In (cond (p x) (f x) x) (changed p f xs)
     changed-in x [] h = absurd h
     changed-in x (y ∷ ys) h = search (arith, changed-in x ys)
+
+    -- a test that the change doesn't matter to
+    module _ (q : A → Bool) (keeps : (x : A) → q (f x) ≡ q x) where
+      pub any-changed : (xs : List A) → list_any q (changed p f xs) ≡ list_any q xs
+      any-changed [] = refl
+      any-changed (x ∷ xs) = search (arith, any-changed xs)
+
+      pub find-changed : (xs : List A) → find q (changed p f xs) ≡ option_map (λ x. cond (p x) (f x) x) (find q xs)
+      find-changed [] = refl
+      find-changed (x ∷ xs) = search (arith, find-changed xs)
 
 module _ {A B : Type 0} (f : A → B) where
   pub in-map : (y : B) (xs : List A) → In y (map f xs) → (x : A) × In x xs × (f x ≡ y)

@@ -1,11 +1,11 @@
 -- NothingIsPending: what comes after a quiet space is quiet.
-use Rattle.bd_laws.proofs.words.Logic.{arith, ◌≡◌, ℕ, ◌-◌, ◌==◌, Bool, true, false, cond, not, ◌||◌, List, [], ◌∷◌, ◌++◌, Option, Some, None, inl, inr, refl, ap, sym, subst, ◌∙◌, filter, list_any, cons_option, eqb-true, eq-eqb, option_and_then, is_some}
+use Rattle.bd_laws.proofs.words.Logic.{arith, ◌≡◌, ℕ, ◌-◌, ◌==◌, Bool, true, false, cond, not, ◌||◌, List, [], ◌∷◌, ◌++◌, Option, Some, None, inl, inr, refl, ap, sym, subst, ◌∙◌, filter, list_any, list_any-append, or-false, cons_option, eqb-true, eq-eqb, option_and_then, is_some}
 use Rattle.bd_laws.proofs.words.Types.{Step, Entry, Thread, Buffer, Turn, Work, OfThread, OfProcess}
 use Rattle.bd_laws.proofs.words.Space.{same, Space, is_call, is_on, is_item, hands_out, without_taken, list_to_read, turn_of, turns_of, follow, is_made_at, read_by, taken, buffer_taken, buffer_in, thread_goes, is_lost_with, threads_go, without_process, tell_deaths, change, counted, next}
 use Rattle.bd_space.specs.declared.space.WorkKind.TheVariants as work
 use Rattle.bd_laws.proofs.words.Laws.{In, Pairs, Differ, Before, IsSettled, NoneRipe, IsQuiet, Distinct, On, OnLists}
 use Rattle.bd_laws.proofs.Lists.{in-filter, filter-in, any-found, any-in, find-in, find-some, in-filter_map}
-use Rattle.bd_laws.proofs.Tests.{same-eq, not-true}
+use Rattle.bd_laws.proofs.Tests.{not-false-true, same-eq, not-true, to-false}
 use Rattle.bd_laws.proofs.Earlier.{in_order-differ}
 use Rattle.bd_laws.proofs.Objects.{kept-step}
 use Rattle.bd_laws.proofs.KeptBefore.ObjectsKept.{IsKept}
@@ -14,8 +14,7 @@ use Rattle.bd_laws.proofs.Machine.Deaths.{on-told}
 use Rattle.bd_laws.proofs.Machine.Following.{threads-keep}
 use Rattle.bd_laws.proofs.Machine.EveryEnding.{Endings, every_ending_step}
 use Rattle.bd_laws.proofs.NothingIsPending.Quiet.{settle-quiet, follow-calm, completed-quiet, elsewhere-aside, CallsStay, unripe-one, unripe-kept}
-use Rattle.bd_laws.proofs.Fewer.{to-false}
-use Rattle.bd_laws.proofs.Freeing.{IsUnripe, owed-unripe, any-append}
+use Rattle.bd_laws.proofs.Freeing.{IsUnripe, owed-unripe}
 use Rattle.bd_laws.proofs.IsInTurn.Ripening.{read-in, turn-made}
 use Rattle.bd_laws.proofs.IsInTurn.InTurn.{is_call-hands}
 use Rattle.bd_laws.proofs.IsInTurn.Passing.{lost-on, not-on}
@@ -67,9 +66,6 @@ read-quiet s t seat left distinct lists h differ =
 pub turns-filtered : (keep : Buffer → Bool) (bs : List Buffer) → ((c : Buffer) → In c bs → keep c ≡ false → turn_of c ≡ None) → turns_of (filter keep bs) ≡ turns_of bs
 turns-filtered keep [] h = refl
 turns-filtered keep (c ∷ cs) h = search (arith, turns-filtered keep cs (λ d l. h d (inr l)))
-
-not-false-true : (b : Bool) → not b ≡ false → b ≡ true
-not-false-true b e = search arith
 
 -- on its receiver's list, a call goes only with that list
 called-stays : (z : Space) (stays : Work → Bool) → OnLists z → (c : Buffer) → In c z.buffers → ((w : Work) → w.list ≡ OfProcess c.receiver → stays w ≡ true) → (t : Turn) → turn_of c ≡ Some t
@@ -124,17 +120,14 @@ module _ (todo more : List Work) (keep : Buffer → Bool) where
       Rest o l = ((d : Buffer) → In d cs → keep d ≡ true → (t : Turn) → turn_of d ≡ Some t → list_any (λ (u : Turn). same u.target t.target) l ≡ list_any (λ (u : Turn). same u.target t.target) o)
 
       pushed : (o l : List Turn) (t : Turn) → Rest o l → Rest (o ++ t ∷ []) (l ++ t ∷ [])
-      pushed o l t f d i kept u g = search (arith, any-append)
+      pushed o l t f d i kept u g = search (arith, list_any-append)
 
       parted : (o l : List Turn) (t : Turn) → keep c ≡ false → turn_of c ≡ Some t → Rest o l → Rest (o ++ t ∷ []) l
       parted o l t gone is f d i kept u g =
           f d i kept u g
-          ∙ sym (any-append (λ (v : Turn). same v.target u.target) o (t ∷ [])
+          ∙ sym (list_any-append (λ (v : Turn). same v.target u.target) o (t ∷ [])
           ∙ ap (λ b. list_any (λ (v : Turn). same v.target u.target) o || (b || false)) (apart c d (inl refl) (inr i) gone kept t u is g)
-          ∙ none (list_any (λ (v : Turn). same v.target u.target) o))
-        where
-          none : (b : Bool) → (b || false) ≡ b
-          none b = search arith
+          ∙ or-false (list_any (λ (v : Turn). same v.target u.target) o))
 
       at : (b : Bool) → keep c ≡ b → (f : Option Turn) → turn_of c ≡ f → NoneRipe todo older (cons_option f (turns_of cs))
           → ((o l : List Turn) → Rest o l → NoneRipe todo o (turns_of cs) → NoneRipe more l (turns_of (filter keep cs)))

@@ -6,7 +6,7 @@ use Rattle.bd_laws.proofs.words.Space.{Space, reference_of, owned_in, with_names
 use Rattle.bd_space.specs.declared.space.WorkKind.TheVariants as work
 use Rattle.bd_laws.proofs.words.Laws.{In, Elsewhere, IsSettled, NoneRipe, IsQuiet, IsFollowed}
 use Rattle.bd_laws.proofs.Lists.{all-push, in-last, any-in}
-use Rattle.bd_laws.proofs.Tests.{both, and-both, same-eq, eq-same, and_then-ok, found-ok, unless-ok}
+use Rattle.bd_laws.proofs.Tests.{both, and-both, not-false-true, same-eq, eq-same, and_then-ok, found-ok, unless-ok}
 use Rattle.bd_laws.proofs.Sendings.{named-has}
 use Rattle.bd_laws.proofs.NothingIsPending.Quiet.{any-more, elsewhere-aside}
 use Rattle.bd_laws.proofs.Fewer.{SameSaid, said-by, elsewhere-said, filtered-said, completed-local}
@@ -77,7 +77,7 @@ module _ (s : Space) (p n cookie : ℕ) (o : ObjectId) (h : IsQuiet s) (check : 
   unfolding with_death
   death-followed phase =
       deaths-followed s _ h
-      (all-push (λ (x : DeathNotification). (x.cleared || is_name_of s.names x.process x.object) ≡ true) _ s.deaths (λ d i. h.followed.deaths d i refl) has-name)
+      (all-push s.deaths _ (λ (x : DeathNotification). (x.cleared || is_name_of s.names x.process x.object) ≡ true) (λ d i. h.followed.deaths d i refl) has-name)
       (λ w m l e. any-more (λ (x : DeathNotification). x.made == m) s.deaths _ (h.followed.tellings w m l e))
 
   told-followed : IsFollowed (owe (with_death s p o cookie Queued) (OfProcess p) (work.Death s.steps))
@@ -105,7 +105,4 @@ freed-two_way s made h k =
     let e = elsewhere-said _ _ s _ h.followed (filtered-said gone s.references) in
     completed-local _ _ (without_buffer s made)
     (record { names = e.names; objects = e.objects; deaths = e.deaths; notices = e.notices; tellings = e.tellings; made = e.made })
-    (subst (λ ts. NoneRipe s.todo [] ts) (sym (turns-filtered (λ (b : Buffer). not (is_made_at made b)) s.buffers (λ c l f. k c l (at (is_made_at made c) f)))) h.unripe) h.settled
-  where
-    at : (b : Bool) → not b ≡ false → b ≡ true
-    at b e = search arith
+    (subst (λ ts. NoneRipe s.todo [] ts) (sym (turns-filtered (λ (b : Buffer). not (is_made_at made b)) s.buffers (λ c l f. k c l (not-false-true (is_made_at made c) f)))) h.unripe) h.settled

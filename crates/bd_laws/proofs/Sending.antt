@@ -35,7 +35,7 @@ module _ {A : Type 0} (p : A → Bool) where
 settled-push : (fs : List Frame) (g : Frame) → is_gone g.server ≡ false → IsSettled fs → IsSettled (fs ++ g ∷ [])
 settled-push fs g none h =
     find-none (is_abandoned (fs ++ g ∷ [])) (fs ++ g ∷ [])
-    (all-push (λ f. is_abandoned (fs ++ g ∷ []) f ≡ false) g fs (λ f i. search (arith, any-more, none-found)) (rw none refl))
+    (all-push fs g (λ f. is_abandoned (fs ++ g ∷ []) f ≡ false) (λ f i. search (arith, any-more, none-found)) (rw none refl))
 
 -- ---- the whole step of a transaction
 

@@ -109,9 +109,9 @@ sends-more : (s : Space) (p : ℕ) (made : List Object) (items : List Item) (i :
 sends-more s p made items i r same_object e h =
     let one = resolves s p made i.flat r h.makes e in
     record {
-      owned = λ j l. all-push (λ (x : Item). is_own x.flat.kind ≡ true → Owns (s.objects ++ (made ++ option_to_list r.new)) p x.object) i items
+      owned = λ j l. all-push items i (λ (x : Item). is_own x.flat.kind ≡ true → Owns (s.objects ++ (made ++ option_to_list r.new)) p x.object)
           (λ x m own. owns-more s p made (option_to_list r.new) x.object (h.owned x m own)) (λ own. subst (Owns (s.objects ++ (made ++ option_to_list r.new)) p) (sym same_object) (one.owned own)) j l;
-      sent = all-push (λ (x : Item). Sent s p (made ++ option_to_list r.new) x.object) i items
+      sent = all-push items i (λ (x : Item). Sent s p (made ++ option_to_list r.new) x.object)
           (λ x m. search (arith, owns-more)) (subst (Sent s p (made ++ option_to_list r.new)) (sym same_object) one.sent);
       makes = one.makes;
     }

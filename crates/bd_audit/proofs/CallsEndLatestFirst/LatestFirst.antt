@@ -5,7 +5,7 @@ use Rattle.bd_laws.proofs.words.Space.{Space, opening, calls, is_frame, change, 
 use Rattle.bd_laws.proofs.words.Laws.{In, Nested, OnPaths, NoChild}
 use Rattle.bd_laws.proofs.Machine.EveryStep.{every_whole_step, KeepsWhole}
 use Rattle.bd_laws.proofs.Lists.{any-in, any-found, all-in, in-filter, filter-in, in-changed, find-in}
-use Rattle.bd_laws.proofs.Tests.{both, not-false, call-kind, not-eq as differ}
+use Rattle.bd_laws.proofs.Tests.{both, not-false, call-kind, not-eq as differ, to-false}
 use Rattle.bd_laws.proofs.OnPaths.Innermost.{true-calls}
 use Rattle.bd_laws.proofs.Always.{always-on_paths}
 use Rattle.bd_audit.specs.Replies.{thread_made, At}
@@ -17,7 +17,6 @@ use Rattle.bd_audit.proofs.RepliesAnswerTheLatestOpenCall.Callers.{seat-below}
 use Rattle.bd_space.specs.declared.space.WorkKind.TheVariants as work
 use Rattle.bd_laws.proofs.Machine.Adding.{told-keeps}
 use Rattle.bd_laws.proofs.Machine.Table.{Any, set_up-by, changes-by}
-use Rattle.bd_laws.proofs.Fewer.{to-false}
 use Rattle.bd_laws.proofs.IsInTurn.Ripening.{read-in}
 use Rattle.bd_laws.proofs.OnPaths.Forests.{one-frame}
 use Rattle.bd_laws.proofs.OnPaths.Paths.{abandoned-childless, served-childless}

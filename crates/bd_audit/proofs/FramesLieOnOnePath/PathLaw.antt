@@ -3,7 +3,9 @@ use Rattle.bd_laws.proofs.words.Logic.{◌≡◌, ℕ, ◌<◌, ◌≤◌, ◌==
 use Rattle.bd_laws.proofs.words.Types.{Frame, Buffer, Work}
 use Rattle.bd_laws.proofs.words.Space.{is_some_and, ancestry, takes_part, is_frame, is_child_of, History, space_after}
 use Rattle.bd_laws.proofs.words.Laws.{In, Pairs, Forest, Older}
-use Rattle.bd_laws.proofs.Lists.{in-filter, all-in, pairs-filter}
+use Rattle.bd_laws.proofs.Lists.{in-filter, all-in, pairs-map, pairs-filter}
+use Rattle.bd_laws.proofs.Tests.{either-true}
+use Rattle.bd_laws.proofs.IsInTurn.InTurn.{at_most_one}
 use Rattle.bd_laws.proofs.OnPaths.Innermost.{Newer, in-reverse, reverse-in, newest-first, true-part}
 use Rattle.bd_laws.proofs.Always.{always-on_paths}
 use Rattle.bd_audit.specs.Laws.{space_at}
@@ -13,9 +15,7 @@ use Rattle.bd_audit.specs.Paths.{is_on_way, is_one_path}
 -- ---- one open child
 
 short : (xs : List Frame) → Pairs Older xs → ((x y : Frame) → In x xs → In y xs → x.made < y.made → ⊥) → length xs ≤ 1
-short [] h k = omega arith
-short (x ∷ []) h k = omega arith
-short (x ∷ y ∷ zs) h k = absurd (k x y (inl refl) (inr (inl refl)) (h.0 y (inl refl)))
+short xs h k = at_most_one xs (pairs-map Older (λ x y. ⊥) xs k h)
 
 parent-of : (f : Frame) (o : Option ℕ) → is_some_and o (λ m. m == f.made) ≡ true → o ≡ Some f.made
 parent-of f o e = search (arith, eqb-true)
@@ -29,9 +29,6 @@ Lower xs = (g : Frame) (p : ℕ) → In g xs → g.parent ≡ Some p → (u : Fr
 below-first : (x u : Frame) (xs : List Frame) → In u (x ∷ xs) → u.made < x.made → In u xs
 below-first x u xs (inl is) lt = let at = ap (λ (y : Frame). y.made) is in absurd (omega arith)
 below-first x u xs (inr i) lt = i
-
-either-true : (a b : Bool) → (a ≡ true) ⊎ (b ≡ true) → (a || b) ≡ true
-either-true a b h = search arith
 
 module _ (n : ℕ) (root : ℕ → ℕ) (fs : List Frame) (bs : List Buffer) (td : List Work) (h : Forest n root fs bs td) where
   one-child : (f : Frame) → length (filter (is_child_of f) fs) ≤ 1

@@ -6,7 +6,7 @@ use Rattle.bd_laws.proofs.words.Space.{same, is_some_and, Space, opening, actor,
 use Rattle.bd_uapi.specs.declared.command.Command.TheVariants as bc
 use Rattle.bd_laws.proofs.words.Laws.{In, Before}
 use Rattle.bd_laws.proofs.Lists.{any-in}
-use Rattle.bd_laws.proofs.Tests.{and-both, eq-same}
+use Rattle.bd_laws.proofs.Tests.{and-both, eq-same, either-true}
 use Rattle.bd_laws.proofs.Sendings.{Owns, HasName, named-has}
 use Rattle.bd_laws.proofs.IsInTurn.Passing.{step-passes}
 use Rattle.bd_laws.proofs.IsInTurn.Received.{step-before, opening-before}
@@ -68,15 +68,12 @@ by-actor s seat a h = rw h (eq-eqb a.process.made a.process.made refl)
 pub owns-test : (objects : List Object) (p : ℕ) (o : ObjectId) → Owns objects p o → owned_in objects p o ≡ true
 owns-test objects p o h = any-in (λ (x : Object). same x.id o && (x.owner == p)) h.0 objects h.1 (and-both (same h.0.id o) (h.0.owner == p) (eq-same h.0.id o h.2) (eq-eqb h.0.owner p h.3))
 
-or-one : (a b : Bool) → (a ≡ true) ⊎ (b ≡ true) → (a || b) ≡ true
-or-one a b h = search arith
-
 carried-test : (place q : ℕ) (holder : Holder) → holder ≡ Carried place q → is_carried_to place q holder ≡ true
 carried-test place q holder h = subst (λ k. is_carried_to place q k ≡ true) (sym h) (and-both (place == place) (q == q) (eq-eqb place place refl) (eq-eqb q q refl))
 
 pub sends : (s : Space) (place : ℕ) (e : Entry) (m : Name) → s.steps ≡ place → (g : ByHand s e.seat m (change s e.seat e.step).space) → gifts.Sends s place e m.object g.by.process.made m.process
 unfolding counted
-sends s place e m at g = search (arith, change, by-actor, or-one, owns-test, has-number, any-in, and-both, eq-same, carried-test)
+sends s place e m at g = search (arith, change, by-actor, either-true, owns-test, has-number, any-in, and-both, eq-same, carried-test)
 
 asking-0 : (strong : Bool) (parcel : Option Parcel) → is_asking_0 (Command (cond strong (bc.Acquire 0) (bc.Increfs 0)) parcel) ≡ true
 asking-0 strong parcel = search arith

@@ -4,13 +4,12 @@ use Rattle.bd_laws.proofs.words.Types.{ObjectId, Entry, Process, Thread, Actor, 
 use Rattle.bd_laws.proofs.words.Space.{same, when, Space, opening, actor, number_in, named, is_made_at, buffer_in, change, counted, History, after, next, space_after}
 use Rattle.bd_engine.specs.Looks.{knows, process_of}
 use Rattle.bd_laws.proofs.words.Laws.{In, IsTidy}
-use Rattle.bd_laws.proofs.Always.{step-tidy, opening-tidy}
-use Rattle.bd_laws.proofs.Machine.EveryStep.{every_list}
 use Rattle.bd_laws.proofs.Lists.{find-in, find-some}
 use Rattle.bd_laws.proofs.Tests.{both, same-eq, not-eq}
 use Rattle.bd_laws.proofs.Sending.{find-none}
 use Rattle.bd_laws.proofs.Sendings.{HasName, named-has}
 use Rattle.bd_laws.proofs.Checks.{actor-lives}
+use Rattle.bd_laws.proofs.Always.{tidy-after}
 use Rattle.bd_audit.specs.declared.gifts.Gift.{Gift}
 use Rattle.bd_audit.specs.Replays.{with_entry}
 use Rattle.bd_audit.specs.GiftSearch.{knows_after, giver_in, gift_made, receiver_at, receiver_of, GivenBy, IsGift, BeginsAt}
@@ -108,9 +107,6 @@ none-made : (place : ℕ) (bs : List Buffer) → ((b : Buffer) → In b bs → b
 none-made place bs h = find-none (is_made_at place) bs (λ b i. not-eq b.made place (λ e. let below = h b i in absurd (omega arith)))
 
 module _ (es : List Entry) (e : Entry) where
-  tidy-after : (xs : List Entry) → IsTidy (after opening xs)
-  tidy-after xs = (every_list IsTidy step-tidy xs opening opening-tidy)
-
   hand-receiver : (m : Name) → ByHand (after opening es) e.seat m (change (after opening es) e.seat e.step).space → receiver_at (next (after opening es) e) (length es) ≡ Some m.process
   unfolding counted
   hand-receiver m g =

@@ -1,10 +1,10 @@
 -- For OneWayCallsAreDueInTurn: one-way calls that are due stand on their receivers' lists, and wait for older ones on their
 -- objects.
+use Rattle.bd_laws.proofs.Tests.{to-false}
 use Rattle.bd_laws.proofs.words.Logic.{arith, ◌≡◌, ℕ, true, sym, subst, list_all, AllPairs, eq-eqb}
 use Rattle.bd_laws.proofs.words.Types.{Turn, Work, TodoList, OfProcess}
 use Rattle.bd_laws.proofs.words.Space.{Space, same_list, turns_of}
 use Rattle.bd_laws.proofs.words.Laws.{In, IsInTurn, Before}
-use Rattle.bd_laws.proofs.Fewer.{to-false}
 use Rattle.bd_laws.proofs.Lists.{all-in, in-filter_map, pairs-at}
 use Rattle.bd_laws.proofs.IsInTurn.Ripening.{turn-parts}
 use Rattle.bd_laws.proofs.IsInTurn.InTurn.{Alone, turns-alone, is_call-hands}

@@ -5,7 +5,7 @@ use Rattle.bd_laws.proofs.words.Space.{changed, closed, Space, opening, thread_i
 use Rattle.bd_space.specs.declared.space.WorkKind.TheVariants as work
 use Rattle.bd_laws.proofs.words.Laws.{Pairs, Differ, KeptBefore}
 use Rattle.bd_laws.proofs.Earlier.{in_order-differ}
-use Rattle.bd_laws.proofs.Lists.{in-push, in-filter, in-changed, pairs-filter}
+use Rattle.bd_laws.proofs.Lists.{in-push, in-filter, in-changed, pairs-filter, find-changed}
 use Rattle.bd_laws.proofs.Machine.EveryStep.{Keeps, every_step}
 use Rattle.bd_laws.proofs.Objects.{kept-step, step-kept, opening-kept, told-id}
 use Rattle.bd_laws.proofs.KeptBefore.ObjectsKept.{IsKept, IsKeptWhole}
@@ -24,11 +24,6 @@ reaches-more : (threads more : List Thread) (list : TodoList) (q : ℕ) → ((t 
     → Reaches threads list q → Reaches more list q
 reaches-more threads more list q k h = search arith
 
-module _ {A : Type 0} (q p : A → Bool) (f : A → A) (keeps : (x : A) → q (f x) ≡ q x) where
-  find-changed : (xs : List A) → find q (changed p f xs) ≡ option_map (λ x. cond (p x) (f x) x) (find q xs)
-  find-changed [] = refl
-  find-changed (x ∷ xs) = search (arith, find-changed xs)
-
 found-front : {A : Type 0} (p : A → Bool) (x : A) (xs ys : List A) → find p xs ≡ Some x → find p (xs ++ ys) ≡ Some x
 found-front p x xs ys h = rw (find-append p xs ys, h) refl
 
@@ -45,7 +40,7 @@ unfolding with_looping
 with_looping-sits z seat looping h = λ w o x l e i is.
     reaches-more z.threads _ w.list x.owner (λ t y f. (
       _,
-      find-changed (λ (u : Thread). u.seat == t) (λ (u : Thread). u.seat == seat) (λ (u : Thread). record u { looping = looping }) (λ u. refl) z.threads ∙ ap (option_map _) f,
+      find-changed (λ (u : Thread). u.seat == seat) (λ (u : Thread). record u { looping = looping }) (λ (u : Thread). u.seat == t) (λ u. refl) z.threads ∙ ap (option_map _) f,
       looping-process looping (y.seat == seat) y,
     )) (h w o x l e i is)
 

@@ -5,20 +5,20 @@ use Rattle.bd_laws.proofs.words.Space.{same, Space, lives_in, held_in, strong_in
 use Rattle.bd_space.specs.declared.space.WorkKind.TheVariants as work
 use Rattle.bd_laws.proofs.words.Laws.{In, Before}
 use Rattle.bd_laws.proofs.Lists.{in-left, in-append, in-changed, any-found, any-in, pairs-filter}
-use Rattle.bd_laws.proofs.Tests.{both, and-both, same-eq, eq-same}
+use Rattle.bd_laws.proofs.Tests.{both, and-both, same-eq, eq-same, to-false}
 use Rattle.bd_laws.proofs.IsInTurn.Ripening.{taken-in}
 use Rattle.bd_laws.proofs.Objects.{told-id}
 use Rattle.bd_laws.proofs.IsInTurn.Received.{one-object}
 use Rattle.bd_laws.proofs.NothingIsPending.Noticing.{Once, Noticing}
 use Rattle.bd_laws.proofs.FollowingIsLocal.Finding.{find-only}
 use Rattle.bd_laws.proofs.Earlier.{in_order-differ}
-use Rattle.bd_laws.proofs.Fewer.{to-false}
 use Rattle.bd_audit.specs.Hearing.{event_of, heard_in}
 use Rattle.bd_audit.proofs.OwnersHearInOrder.Orders.{Hearing, unheard, hears_all}
 use Rattle.bd_audit.proofs.OwnersHearInOrder.Tallies.{tally, tally-append, tally-first, tally-unmet}
 use Rattle.bd_audit.proofs.OwnersHearInOrder.Tracking.{is_weak, is_strong, waits, number, shaken, Tells, Tracks, HeardBefore, Same, tells-same, shaking-parts}
 use Rattle.bd_audit.proofs.OwnersHearInOrder.Returns.{Silent, is_strength, returns_by, turned, silent-heard, silent-untold, silent-shaken, once-heard, once-shaken, told-or-silent, speaks-told}
 use Rattle.bd_laws.proofs.FollowingIsLocal.Handshakes.{is-handshake}
+use Rattle.bd_laws.proofs.FollowingIsLocal.Sent.{strong-held}
 
 -- ---- reading
 
@@ -27,9 +27,6 @@ held-of references o r l e = any-in (λ (y : Reference). same y.object o) r refe
 
 strong-of : (references : List Reference) (o : ObjectId) (r : Reference) → In r references → r.object ≡ o → r.strong ≡ true → strong_in references o ≡ true
 strong-of references o r l e t = any-in (λ (y : Reference). y.strong && same y.object o) r references l (and-both r.strong (same r.object o) t (eq-same r.object o e))
-
-strong-held : (references : List Reference) (o : ObjectId) → strong_in references o ≡ true → held_in references o ≡ true
-strong-held references o h = search (arith, any-found, held-of, same-eq, both)
 
 -- a Handshake keeps its object, in its strength
 shaken-so : (references : List Reference) (o : ObjectId) (b : Bool) → shaken references o b ≡ 1 → cond b (strong_in references o) (held_in references o) ≡ true

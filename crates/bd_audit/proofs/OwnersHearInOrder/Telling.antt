@@ -5,9 +5,8 @@ use Rattle.bd_laws.proofs.words.Space.{same, with_looping, Space, lives_in, refe
 use Rattle.bd_space.specs.declared.space.WorkKind.TheVariants as work
 use Rattle.bd_laws.proofs.words.Laws.{In, Pairs, Differ, KeptBefore, Before}
 use Rattle.bd_laws.proofs.Earlier.{in_order-differ}
-use Rattle.bd_laws.proofs.Fewer.{to-false}
 use Rattle.bd_laws.proofs.Lists.{in-append, in-push, in-last, in-filter, any-found, any-in, pairs-either}
-use Rattle.bd_laws.proofs.Tests.{both, not-true, not-eq, same-eq}
+use Rattle.bd_laws.proofs.Tests.{both, not-true, not-eq, same-eq, to-false}
 use Rattle.bd_laws.proofs.Machine.EveryEnding.{IsReading, IsAcknowledging}
 use Rattle.bd_laws.proofs.Machine.EveryStep.{Keeps}
 use Rattle.bd_laws.proofs.Machine.Untouched.{Untouched, told-untouched, called-untouched}

@@ -20,10 +20,10 @@ use Rattle.bd_audit.proofs.RepliesReachTheirCallers.Traces.{Called, at-more, at-
 use Rattle.bd_audit.proofs.RepliesReachTheirCallers.ReplyLaw.{NoFrame}
 use Rattle.bd_audit.proofs.TurnsTellOfCalls.TurnsTelling.{at-split}
 use Rattle.bd_audit.proofs.RepliesAnswerTheLatestOpenCall.Callers.{HasCallers, Comes, comes-kept, callers-within, always-callers, made-first}
-use Rattle.bd_audit.proofs.RepliesAnswerTheLatestOpenCall.Lined.{always-told}
 use Rattle.bd_audit.proofs.RepliesAnswerTheLatestOpenCall.Unread as part
 use Rattle.bd_audit.proofs.RepliesAnswerTheLatestOpenCall.Unread.{Held, Leaves, leaves_table, leaves_exits, holds_table, holds-owe, sent-holds, read-stay}
 use Rattle.bd_laws.proofs.Machine.Fields.{sent-steps, sent-frames, sent-threads, told-frames}
+use Rattle.bd_laws.proofs.Always.{tidy-after}
 use Rattle.bd_audit.proofs.RepliesAnswerTheLatestOpenCall.OpenCalls.{StandsIn, Waits, WasRead, Answered, was-more, holds-waits, told, told-threads, told-holds, told-waits, called-stands, read-on}
 
 module _ (es : List Entry) (e : Entry) (h : Answered es (after opening es)) where
@@ -117,7 +117,7 @@ module _ (es : List Entry) (e : Entry) (h : Answered es (after opening es)) wher
       waiting w t on l false q = inl (filter-in (λ (v : Work). not (list_any (λ (d : Work). is_item v d) ws)) w s.todo l (not-false (list_any (λ (d : Work). is_item w d) ws) q))
       waiting w t on l true q =
           let d = any-found (λ (d : Work). is_item w d) ws q in
-          let is : w ≡ d.0 = (always-told es).distinct w d.0 l (read-in s a.thread (limit - 4) d.0 d.1) d.2 in
+          let is : w ≡ d.0 = (tidy-after es).told.distinct w d.0 l (read-in s a.thread (limit - 4) d.0 d.1) d.2 in
           let here = subst (λ v. In v ws) (sym is) d.1 in
           inr (read-on s a.thread (limit - 4) w t here on ∙ (actor-made s e.seat a acts).0, subst (In w) (sym (takes-items es e (always-traced es) a acts limit x n)) here)
 

@@ -7,9 +7,9 @@ use Rattle.bd_space.specs.declared.space.WorkKind.TheVariants as work
 use Rattle.bd_links.specs.TodoList.{reply_of, first_reply_in}
 use Rattle.bd_laws.specs.Lists.{In, Pairs}
 use Rattle.bd_laws.proofs.Lists.{in-filter, filter-in, pairs-filter, any-found, any-in}
-use Rattle.bd_laws.proofs.Tests.{both, and-both}
-use Rattle.bd_laws.proofs.Fewer.{to-false}
+use Rattle.bd_laws.proofs.Tests.{both, and-both, to-false}
 use Rattle.bd_laws.proofs.IsInTurn.Ripening.{taken-in, read-in}
+use Rattle.bd_laws.proofs.Always.{tidy-after}
 use Rattle.bd_audit.specs.Replies.{thread_made, items_taken, reply_taken, reply_taken_at, Answered, At}
 use Rattle.bd_audit.specs.Latest.{Closes, ReadsAnswer, Ended, AnswersLatest, is_answer, is_answer_of, before_reply}
 use Rattle.bd_audit.proofs.NamesHaveGiftChains.Chains.{always-steps}
@@ -18,7 +18,7 @@ use Rattle.bd_audit.proofs.RepliesReachTheirCallers.ReplyTaken.{first-in}
 use Rattle.bd_audit.proofs.RepliesReachTheirCallers.ReplyLaw.{NoFrame, at-place, owed-after, took, taken-once, step-no_frame, no_frame-later, closed-no_frame}
 use Rattle.bd_audit.proofs.TurnsTellOfCalls.CallsOut.{taken-by, Reading, reading, reading-items}
 use Rattle.bd_audit.proofs.RepliesAnswerTheLatestOpenCall.Callers.{called-before}
-use Rattle.bd_audit.proofs.RepliesAnswerTheLatestOpenCall.Lined.{NotLater, always-lined, always-told}
+use Rattle.bd_audit.proofs.RepliesAnswerTheLatestOpenCall.Lined.{NotLater, always-lined}
 use Rattle.bd_audit.proofs.RepliesAnswerTheLatestOpenCall.EndedCalls.{always-answered}
 use Rattle.bd_audit.proofs.RepliesAnswerTheLatestOpenCall.OpenCalls.{Waits, WasRead}
 use Rattle.bd_audit.proofs.RepliesAnswerTheLatestOpenCall.SingleAnswers.{always-single}
@@ -187,7 +187,7 @@ module _ (h : History) (s w : ℕ) (taken_is : reply_taken_at h s ≡ Some w) wh
       let l : In x.0 (taken y (took_is.limit - 4) (list_to_read y took_is.actor_is.thread)) = subst (In x.0) items x.1 in
       let place = eqb-true x.0.id.place w (both (is_answer x.0.kind) (x.0.id.place == w) x.2).1 in
       let next_is : w < r = (
-      let below = (always-told q.0).fresh x.0 (read-in y took_is.actor_is.thread (took_is.limit - 4) x.0 l) in
+      let below = (tidy-after q.0).told.fresh x.0 (read-in y took_is.actor_is.thread (took_is.limit - 4) x.0 l) in
       let steps = always-steps q.0 in
       let at = q.2.at in
       omega arith)

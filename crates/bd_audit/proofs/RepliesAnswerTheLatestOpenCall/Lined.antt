@@ -5,13 +5,9 @@ use Rattle.bd_laws.proofs.words.Space.{Space, opening, with_work, owe, work_goes
 use Rattle.bd_space.specs.declared.space.WorkKind.TheVariants as work
 use Rattle.bd_laws.proofs.words.Laws.{In, Pairs, Told, IsTidy}
 use Rattle.bd_laws.proofs.Lists.{in-push, in-filter, pairs-push, pairs-filter}
-use Rattle.bd_laws.proofs.Always.{step-tidy, opening-tidy}
 use Rattle.bd_laws.proofs.Machine.Adding.{told-keeps}
 use Rattle.bd_laws.proofs.Machine.EveryStep.{Keeps, every_step, every_list}
 use Rattle.bd_laws.proofs.Machine.Table.{Table, Exits, Any, ripen-by, sent-by, transacted-by, keeps-by}
-
-pub always-told : (es : List Entry) → Told (after opening es)
-always-told es = (every_list IsTidy step-tidy es opening opening-tidy).told
 
 -- no later item was made before
 abbrev pub NotLater : Work → Work → Type 0

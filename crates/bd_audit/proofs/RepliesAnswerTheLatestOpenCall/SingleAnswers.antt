@@ -11,7 +11,7 @@ use Rattle.bd_laws.proofs.Machine.Table.{set_up-by, changes-by, ripen-by, follow
 use Rattle.bd_laws.proofs.Lists.{in-push, in-filter, find-in, by-last}
 use Rattle.bd_laws.proofs.Tests.{both}
 use Rattle.bd_laws.proofs.OnPaths.PathWords.{served-is}
-use Rattle.bd_laws.proofs.Always.{always-on_paths}
+use Rattle.bd_laws.proofs.Always.{always-on_paths, tidy-after}
 use Rattle.bd_laws.proofs.ItemsAreToldApart.Identities.{count_at}
 use Rattle.bd_audit.specs.Replies.{made_in}
 use Rattle.bd_audit.specs.Latest.{is_answer}
@@ -23,7 +23,6 @@ use Rattle.bd_audit.proofs.RepliesReachTheirCallers.Traces.{Traced}
 use Rattle.bd_audit.proofs.CallsEndLatestFirst.LatestFirst as earlier
 use Rattle.bd_audit.proofs.CallsEndLatestFirst.LatestFirst.{Earlier, earlier-open}
 use Rattle.bd_audit.proofs.RepliesAnswerTheLatestOpenCall.Callers.{Comes, comes-kept, made-first}
-use Rattle.bd_audit.proofs.RepliesAnswerTheLatestOpenCall.Lined.{always-told}
 use Rattle.bd_audit.proofs.RepliesAnswerTheLatestOpenCall.OpenCalls.{told-threads}
 use Rattle.bd_laws.proofs.Machine.Fields.{told-frames, closed-threads, sent-steps, sent-frames}
 
@@ -134,7 +133,7 @@ module _ (es : List Entry) (e : Entry) (h : Single (after opening es).todo) wher
 
       other : (v w : Work) (u : ℕ) → In v y.todo → v.list ≡ OfThread u → is_answer v.kind ≡ true → w.list ≡ OfThread u → new ≡ w → v.id.place ≡ w.id.place → ⊥
       other v w u l on a off is same =
-          let lt = (always-told es).fresh v (old u (same-thread u (ap (λ (x : Work). x.list) is ∙ off)) v l a on) in
+          let lt = (tidy-after es).told.fresh v (old u (same-thread u (ap (λ (x : Work). x.list) is ∙ off)) v l a on) in
           let place = ap (λ (x : Work). x.id.place) is in
           absurd (omega arith)
 

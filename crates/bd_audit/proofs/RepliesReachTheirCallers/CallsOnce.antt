@@ -23,10 +23,11 @@ use Rattle.bd_audit.proofs.TurnsAreTaken.CallItems.{step-treats}
 use Rattle.bd_audit.proofs.TurnsAreTaken.CallItemsKept.{fresh-once}
 use Rattle.bd_audit.proofs.TurnsTellOfCalls.CallsOut.{items-due}
 use Rattle.bd_audit.proofs.TurnsTellOfCalls.TurnsTelling.{handed-later}
-use Rattle.bd_audit.proofs.RepliesReachTheirCallers.Places.{tidy-after, later-place, either-way}
+use Rattle.bd_audit.proofs.RepliesReachTheirCallers.Places.{later-place, either-way}
 use Rattle.bd_audit.proofs.RepliesReachTheirCallers.Readings.{reading}
 use Rattle.bd_space.specs.declared.space.WorkKind.TheVariants as work
 use Rattle.bd_laws.proofs.Machine.Untouched as untouched
+use Rattle.bd_laws.proofs.Always.{tidy-after}
 use Rattle.bd_uapi.specs.declared.command.Command.TheVariants as bc
 
 -- ---- a call that is due was due before the step, or the step makes it, or it is a one-way call

@@ -2,9 +2,8 @@
 -- has what every step keeps. RepliesAnswerTheLatestOpenCall and TurnsTellOfCalls use `between`.
 use Rattle.bd_laws.proofs.words.Space.{Space, opening, after, next}
 use Rattle.bd_laws.proofs.words.Laws.{IsTidy}
-use Rattle.bd_laws.proofs.Always.{step-tidy, opening-tidy}
+use Rattle.bd_laws.proofs.Always.{step-tidy, tidy-after}
 use Rattle.bd_laws.proofs.ItemsAreToldApart.Numbering.{next-steps}
-use Rattle.bd_laws.proofs.Machine.EveryStep.{every_list}
 use Rattle.std.proofs.Common.{◌≡◌, ℕ, suc, ◌<◌, List, [], ◌∷◌, ◌++◌, length, length-append, ap, sym, subst, ◌∙◌, arith}
 use Rattle.bd_space.specs.declared.step.Entry.{Entry}
 use Rattle.bd_audit.specs.Gifts.{Stands}
@@ -20,9 +19,6 @@ between (y ∷ before) (x ∷ later) e f rest more is lt =
     let tail : before ++ e ∷ rest ≡ later ++ f ∷ more = cc in
     let k = between before later e f rest more tail (omega arith) in
     (k.0, ap (λ z. z ∷ later) (sym head) ∙ ap (λ ys. y ∷ ys) k.1)
-
-pub tidy-after : (es : List Entry) → IsTidy (after opening es)
-tidy-after es = every_list IsTidy step-tidy es opening opening-tidy
 
 module _ (es : List Entry) (i j : ℕ) (before later : List Entry) (e f : Entry) (at : Stands es i before e) (then : Stands es j later f) (lt : i < j) where
   mid : (mid : List Entry) × (later ≡ before ++ e ∷ mid)

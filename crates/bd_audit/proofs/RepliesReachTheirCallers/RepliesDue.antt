@@ -1,8 +1,8 @@
 -- For RepliesReachTheirCallers, RepliesAnswerTheLatestOpenCall and the search `call_of_reply`: the replies that are due,
 -- each on a thread's list, and none with another item's identity. For that, what frames and replies a step makes.
-use Rattle.bd_laws.proofs.words.Logic.{◌≡◌, ℕ, suc, ◌-◌, Bool, true, false, List, Some, ◌⊎◌, inl, inr, refl, ap, sym, ◌∙◌, arith}
-use Rattle.bd_laws.proofs.words.Types.{TransactionData, Step, Entry, Object, Process, Reference, Frame, Work, Actor, TodoList, OfThread, WorkKind}
-use Rattle.bd_laws.proofs.words.Space.{Space, opening, with_work, owe, goes_to, Delivery, transacted, called, call_out, replied, read_by, change, counted, History, next, space_after}
+use Rattle.bd_laws.proofs.words.Logic.{◌≡◌, ℕ, suc, ◌-◌, Bool, true, false, List, Some, ◌⊎◌, inl, inr, refl, ap, sym, ◌∙◌, arith, None}
+use Rattle.bd_laws.proofs.words.Types.{TransactionData, Step, Entry, Object, Process, Reference, Frame, Work, Actor, TodoList, OfThread, WorkKind, ObjectId}
+use Rattle.bd_laws.proofs.words.Space.{Space, opening, with_work, owe, goes_to, Delivery, transacted, called, call_out, replied, read_by, change, counted, History, next, space_after, notice_of, death_of, wants_notice, object_in}
 use Rattle.bd_space.specs.declared.space.WorkKind.TheVariants as work
 use Rattle.bd_links.specs.TodoList.{reply_of}
 use Rattle.bd_laws.proofs.words.Laws.{In, Distinct}
@@ -15,12 +15,18 @@ use Rattle.bd_laws.proofs.Readings.{always-distinct}
 use Rattle.bd_audit.proofs.RepliesAreHandedOut.BuffersSent.{reply-hands}
 use Rattle.bd_audit.proofs.RepliesAreHandedOut.ReplyBuffers.{always-held}
 use Rattle.bd_audit.proofs.RepliesReachTheirCallers.Quiet.{sent-quiet, ripen-quiet, quiet_table, quiet_exits, quiet_closes, Quiet, with_work-quiet, answered-quiet}
-use Rattle.bd_audit.proofs.RepliesReachTheirCallers.Owed.{Numbered, work-numbered, Wanted}
+use Rattle.bd_laws.proofs.ItemsAreToldApart.Identities.{Indexed, push-indexed}
 
 -- ---- the items of this step are numbered, and stay through what follows
 
+-- an item that is a notice which its owner wants, or neither a notice nor a death
+abbrev pub Wanted : List Process → List Object → List Reference → WorkKind → Type 0
+Wanted processes objects references kind =
+    ((o : ObjectId) × (x : Object) × (kind ≡ work.Notice o) × (object_in objects o ≡ Some x) × (wants_notice processes references x ≡ true))
+    ⊎ ((notice_of kind ≡ None) × (death_of kind ≡ None))
+
 pub record Fresh (n : ℕ) (processes : List Process) (objects : List Object) (references : List Reference) (todo : List Work) : Type 0 where
-  pub numbered : Numbered n todo
+  pub numbered : Indexed n todo
   pub wanted : (w : Work) → In w todo → w.id.place ≡ n → Wanted processes objects references w.kind
 
 module _ (n : ℕ) (processes : List Process) (objects : List Object) (references : List Reference) where
@@ -31,7 +37,7 @@ module _ (n : ℕ) (processes : List Process) (objects : List Object) (reference
 
   fresh-push : (todo : List Work) (list : TodoList) (kind : WorkKind) → Wanted processes objects references kind
       → Fresh n processes objects references todo → Fresh n processes objects references (with_work n todo list kind)
-  fresh-push todo list kind k h = record { numbered = work-numbered n todo list kind h.numbered; wanted = wanted-push todo list kind k h.wanted }
+  fresh-push todo list kind k h = record { numbered = push-indexed n todo list kind h.numbered; wanted = wanted-push todo list kind k h.wanted }
 
 abbrev pub Lasts : Space → Type 0
 Lasts z = (w : Work) → In w z.todo → w.id.place ≡ z.steps → Wanted z.processes z.objects z.references w.kind

@@ -77,9 +77,6 @@ pub ever : (o : Option ℕ) → (o ≡ None → ⊥) → (p : ℕ) × (o ≡ Som
 ever None h = absurd (h refl)
 ever (Some p) h = (p, refl)
 
-pub bool-case : (b : Bool) → (b ≡ true) ⊎ (b ≡ false)
-bool-case b = search arith
-
 module _ (s z : Space) (h : Before s) (turns : Turning z) (p : Passed s z) (o : ObjectId) where
   -- the buffer of a turn that was open, after the step
   pub stays-open : (b c : Buffer) → In b s.buffers → In c z.buffers → c.made ≡ b.made → Became s b c

@@ -5,13 +5,12 @@ use Rattle.bd_laws.proofs.words.Types.{ObjectId, Entry}
 use Rattle.bd_laws.proofs.words.Space.{Space, History, space_after}
 use Rattle.bd_laws.specs.Lists.{In, Pairs}
 use Rattle.bd_laws.proofs.Lists.{in-left, map-in}
-use Rattle.bd_laws.proofs.Tests.{both, and-both}
+use Rattle.bd_laws.proofs.Tests.{both, and-both, to-false}
 use Rattle.bd_audit.specs.declared.turns.Turn.{Turn}
 use Rattle.bd_audit.specs.Replays.{with_entry}
 use Rattle.bd_audit.specs.TurnSearch.{is_handed, is_live, noted_at, marked, turn_made, next_turns, turns_on, has_ended, Wait, AreInTurn}
 use Rattle.bd_audit.proofs.TurnsAreTaken.TurnLog.{always-logged}
 use Rattle.bd_audit.proofs.TurnsAreTaken.Logged.{Logged, InOrder, handed-found, noted-none, noted-kept, never}
-use Rattle.bd_laws.proofs.Fewer.{to-false}
 use Rattle.bd_audit.proofs.TurnsTellOfCalls.TurnLists.{turns-noted, mark-next}
 
 -- ---- lists

@@ -1,6 +1,6 @@
 -- For TurnsAreTaken and TurnsTellOfCalls: what a step makes of the turns of an object: those that were there, in their
 -- order, and one more at most.
-use Rattle.bd_laws.proofs.words.Logic.{◌≡◌, ℕ, suc, Bool, true, false, not, ◌&&◌, List, [], ◌∷◌, ◌++◌, Option, Some, None, ◌⊎◌, inl, inr, refl, ap, sym, subst, ◌∙◌, map, arith, filter_map, cons_option, is_some, eqb-true}
+use Rattle.bd_laws.proofs.words.Logic.{◌≡◌, ℕ, suc, Bool, true, false, not, ◌&&◌, List, [], ◌∷◌, ◌++◌, Option, Some, None, ◌⊎◌, inl, inr, refl, ap, sym, subst, ◌∙◌, map, arith, filter_map, cons_option, is_some, eqb-true, cases_Bool}
 use Rattle.bd_laws.proofs.words.Types.{ObjectId, Buffer}
 use Rattle.bd_laws.proofs.words.Space.{same, when, is_some_and, Space, is_made_at, counted}
 use Rattle.bd_laws.proofs.words.Laws.{In, Pairs, Due, Rivals, Waits, On, Before}
@@ -12,7 +12,7 @@ use Rattle.bd_laws.proofs.IsInTurn.Passed.{Became, Passed}
 use Rattle.bd_laws.proofs.IsInTurn.Received.{on-after}
 use Rattle.bd_audit.specs.declared.turns.Turn.{Turn}
 use Rattle.bd_audit.specs.TurnSearch.{is_call_on, is_live, is_handed, noted_at, marked, turn_made, next_turns}
-use Rattle.bd_audit.proofs.TurnsAreTaken.Logged.{Over, Open, InOrder, Past, Logged, live-found, live-in, handed-found, handed-in, noted-some, noted-none, noted-kept, never, ever, some-case, bool-case, stays-open, over-after, ended-over}
+use Rattle.bd_audit.proofs.TurnsAreTaken.Logged.{Over, Open, InOrder, Past, Logged, live-found, live-in, handed-found, handed-in, noted-some, noted-none, noted-kept, never, ever, some-case, stays-open, over-after, ended-over}
 
 module _ (s z : Space) (h : Before s) (turns : Turning z) (p : Passed s z) (o : ObjectId) where
   -- ---- turns that were there
@@ -40,7 +40,7 @@ module _ (s z : Space) (h : Before s) (turns : Turning z) (p : Passed s z) (o : 
         handed-stays b c k e = elim k.handed [ inl f ↦ f ∙ e | inr f ↦ f.0 ]
 
         now : (c : Buffer) → In c z.buffers → c.made ≡ t.made → (x : Bool) → is_handed z.buffers t.made ≡ x → c.handed ≡ is_some (noted_at None s.steps x)
-        now c j e x f = search (arith, handed-found, pairs-either, turns, bool-case, handed-in)
+        now c j e x f = search (arith, handed-found, pairs-either, turns, cases_Bool, handed-in)
 
         handed-after : (c : Buffer) → In c z.buffers → c.made ≡ t.made → (t.handed ≡ None) ⊎ ((q : ℕ) × (t.handed ≡ Some q)) → ((q : ℕ) → t.handed ≡ Some q → c.handed ≡ true)
             → c.handed ≡ is_some (noted_at t.handed s.steps (is_handed z.buffers t.made))

@@ -5,9 +5,8 @@ use Rattle.bd_laws.proofs.words.Types.{TransactionData, ObjectId, Parcel, Proces
 use Rattle.bd_laws.proofs.words.Space.{is_some_and, Space, actor, thread_in, assign_numbers, closed, goes_to, with_work, owe, hands_out, ripen, Delivery, delivered, own_notices, add_buffer, known_by, refer, make_objects, buffer_references, transacted, called, call_out, caller_of, reply_check, replied, is_spam}
 use Rattle.bd_space.specs.declared.space.WorkKind.TheVariants as work
 use Rattle.bd_laws.proofs.words.Laws.{In, Pairs, IsInTurn, OtherSeat, Homed, AtHome}
-use Rattle.bd_laws.proofs.Lists.{in-append, find-in, pairs-either}
+use Rattle.bd_laws.proofs.Lists.{in-append, find-in, pairs-either, all-push}
 use Rattle.bd_laws.specs.Items.{Home}
-use Rattle.bd_laws.proofs.IsInTurn.Pushed.{with-each}
 use Rattle.bd_laws.proofs.OnPaths.PathWords.{goes-to-waiting}
 use Rattle.bd_laws.proofs.Checks.{actor-lives, reply-checked}
 use Rattle.bd_laws.proofs.IsInTurn.OneWay as one_way
@@ -30,8 +29,8 @@ pub ripen-h : (n : ℕ) (z : Space) → H n z → H n (ripen z)
 unfolding ripen
 ripen-h n z = ripen-keeps (Homed n z.threads z.references) z (λ td u h. record {
   seats = h.seats;
-  home = λ w t b. with-each z.steps td (OfProcess u.receiver) (work.Call u.made) (λ w. w.list ≡ OfThread t → hands_out w.kind ≡ Some b → Home z.threads z.references t b) (λ w i. h.home w t b i)
-      (λ i on. absurd (cc)) w;
+  home = λ w t b. all-push td _ (λ w. w.list ≡ OfThread t → hands_out w.kind ≡ Some b → Home z.threads z.references t b) (λ w i. h.home w t b i)
+      (λ on. absurd (cc)) w;
   carried = h.carried;
 })
 
@@ -105,8 +104,8 @@ module _ (s x : Space) (a : Actor) (d : TransactionData) (v : Delivery) (steps :
       → ((t : ℕ) → list ≡ OfThread t → (u : Thread) × In u sent.threads × (u.seat ≡ t) × (u.process ≡ v.receiver.made)) → Homed (suc s.steps) sent.threads sent.references (with_work place sent.todo list kind)
   handing-h place list kind hands to = record {
     seats = sent-h.seats;
-    home = λ w t b. with-each place sent.todo list kind (λ w. w.list ≡ OfThread t → hands_out w.kind ≡ Some b → Home sent.threads sent.references t b) (λ w i. sent-h.home w t b i)
-        (λ i on e. let u = to t on in let same : s.steps ≡ b = (let k = sym hands ∙ e in cc) in (u.0, u.1, u.2, λ r q m c. u.3 ∙ new-carried r q m (c ∙ ap (λ n. Carried n q) (sym same)))) w;
+    home = λ w t b. all-push sent.todo _ (λ w. w.list ≡ OfThread t → hands_out w.kind ≡ Some b → Home sent.threads sent.references t b) (λ w i. sent-h.home w t b i)
+        (λ on e. let u = to t on in let same : s.steps ≡ b = (let k = sym hands ∙ e in cc) in (u.0, u.1, u.2, λ r q m c. u.3 ∙ new-carried r q m (c ∙ ap (λ n. Carried n q) (sym same)))) w;
     carried = sent-h.carried;
   }
 

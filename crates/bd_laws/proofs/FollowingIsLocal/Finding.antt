@@ -7,11 +7,8 @@ use Rattle.bd_laws.proofs.Lists.{any-found, find-in, find-some, pairs-either}
 use Rattle.bd_laws.proofs.Tests.{same-eq, eq-same}
 
 module _ {A : Type 0} (p : A → Bool) where
-  pub any-left : (xs ys : List A) → list_any p xs ≡ true → list_any p (xs ++ ys) ≡ true
-  any-left xs ys h = search (arith, list_any-append)
-
   pub any-more : (xs : List A) (y : A) → list_any p xs ≡ true → list_any p (xs ++ y ∷ []) ≡ true
-  any-more xs y = any-left xs (y ∷ [])
+  any-more xs y h = search (arith, list_any-append)
 
   -- what comes and passes isn't the first that does
   pub any-same : (xs ys : List A) → ((y : A) → In y ys → p y ≡ true → list_any p xs ≡ true) → list_any p (xs ++ ys) ≡ list_any p xs

@@ -5,21 +5,12 @@ use Rattle.bd_laws.proofs.words.Types.{Reference, Frame, Server, Work, TodoList,
 use Rattle.bd_laws.proofs.words.Space.{is_some_and, Space, is_gone, is_child_of, is_on, same_list, is_abandoned, thread_goes, is_lost_reference, is_unread_on, unread_server, is_left_frame, left_frames, seats_in, lists_in, lost_with_process, threads_go, is_dropped_with}
 use Rattle.bd_laws.proofs.words.Laws.{In, IsSettled}
 use Rattle.bd_laws.proofs.Lists.{in-filter, filter-in, in-map, map-in, any-found, any-in, fold-keeps}
-use Rattle.bd_laws.proofs.Tests.{and-both, not-false}
-use Rattle.bd_laws.proofs.Fewer.{to-false}
+use Rattle.bd_laws.proofs.Tests.{and-both, not-false, to-false, or-left, or-right}
 use Rattle.bd_laws.proofs.Sending.{none-found}
 use Rattle.bd_laws.proofs.FollowingIsLocal.Closings.{Covered}
-use Rattle.bd_laws.proofs.Tests.{or-left, or-right}
 
 pub on-thread : (seat : ℕ) (list : TodoList) → same_list (OfThread seat) list ≡ true → list ≡ OfThread seat
 on-thread seat list e = search (arith, eqb-true)
-
-pub neither : (a b : Bool) → (a || b) ≡ false → (a ≡ false) × (b ≡ false)
-neither a b h = search arith
-
--- two tests that hold together are one
-pub equal-tests : (a b : Bool) → (a ≡ true → b ≡ true) → (b ≡ true → a ≡ true) → a ≡ b
-equal-tests a b f g = search arith
 
 -- ---- frames whose server goes
 

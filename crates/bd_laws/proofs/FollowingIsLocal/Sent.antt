@@ -1,17 +1,16 @@
 -- For FollowingIsLocal, with lemmas for NothingIsPending: what a delivery leaves pending, at the objects that are sent, and
 -- nowhere else.
-use Rattle.bd_laws.proofs.words.Logic.{◌≡◌, ℕ, ◌==◌, Bool, true, false, ◌||◌, List, [], ◌∷◌, ◌++◌, Option, Some, ◌⊎◌, inl, inr, refl, sym, ◌∙◌, map, arith, list_any, not, ◌&&◌, ap, filter}
+use Rattle.bd_laws.proofs.words.Logic.{◌≡◌, ℕ, ◌==◌, Bool, true, false, ◌||◌, List, [], ◌∷◌, ◌++◌, Option, Some, ◌⊎◌, inl, inr, refl, sym, ◌∙◌, map, arith, list_any, not, ◌&&◌, ap, filter, list_any-append}
 use Rattle.bd_laws.proofs.words.Types.{TransactionData, ObjectId, Object, Reference, Name, Item, Actor, Work, DeathNotification, WorkKind, TodoList, OfThread}
 use Rattle.bd_laws.proofs.words.Space.{buffer_of, same, is_some_and, Space, object_in, held_in, strong_in, is_named_in, with_name, with_names, assign_numbers, with_work, is_call, wants_notice, has_notice_in, is_name_of, object_of_item, Delivery, delivered, own_notices, add_buffer, known_by, refer, make_objects, buffer_references, ObjectTest, no_name, objects_of_items, lives_in, owned_in, stays_in, is_notice, add_notice, withdraw_notice}
 use Rattle.bd_space.specs.declared.space.WorkKind.TheVariants as work
 use Rattle.bd_laws.proofs.words.Laws.{In, KeptBefore, Elsewhere, IsFollowed}
 use Rattle.bd_laws.proofs.Lists.{in-push, in-filter, filter-in, any-found, any-in, find-in, fold-keeps, in-append}
 use Rattle.bd_laws.proofs.Machine.Adding.{Missing, notice-keeps}
-use Rattle.bd_laws.proofs.Tests.{both, same-eq, eq-same, and-both}
+use Rattle.bd_laws.proofs.Tests.{both, same-eq, eq-same, and-both, to-false}
 use Rattle.bd_laws.proofs.KeptBefore.ObjectsKept.{buffer-reference}
-use Rattle.bd_laws.proofs.Fewer.{to-false}
 pub use Rattle.bd_laws.proofs.FollowingIsLocal.Finding.{any-none}
-use Rattle.bd_laws.proofs.FollowingIsLocal.Finding.{any-more, any-same, any-left, any-none, find-left, found-still}
+use Rattle.bd_laws.proofs.FollowingIsLocal.Finding.{any-more, any-same, any-none, find-left, found-still}
 
 -- ---- names that come are named
 
@@ -44,7 +43,7 @@ module _ (b : ObjectTest) (s : Space) (h : IsFollowed s) (kept : KeptBefore s) (
       let none : owned_in objects m.process m.object ≡ owned_in s.objects m.process m.object = any-none _ s.objects made (λ y i. to-false _ (λ e.
       let is : y.id.place ≡ m.object.place = ap (λ (i : ObjectId). i.place) (same-eq y.id m.object (both (same y.id m.object) _ e).0) in
       let at = new y i in absurd (omega arith))) in
-      and-both (not (owned_in objects m.process m.object)) _ (rw none t.0) (any-left _ s.references more t.1)
+      and-both (not (owned_in objects m.process m.object)) _ (rw none t.0) (search (arith, list_any-append, t.1))
 
   -- of an object that isn't touched the references say the same, and for one that comes nothing is to be done
   pub come-elsewhere : ((x : Object) → In x s.objects → b x.id ≡ false → (held_in references x.id ≡ held_in s.references x.id) × (strong_in references x.id ≡ strong_in s.references x.id))

@@ -1,24 +1,15 @@
 -- For FollowingIsLocal, with lemmas for NothingIsPending: of a reading, only objects whose Notices it takes need a look.
-use Rattle.bd_laws.proofs.words.Logic.{arith, ◌≡◌, ℕ, ◌==◌, Bool, true, false, cond, not, ◌&&◌, ◌||◌, List, [], ◌∷◌, ◌++◌, refl, ap, sym, subst, ◌∙◌, find, list_any, option_map}
+use Rattle.bd_laws.proofs.words.Logic.{arith, ◌≡◌, ℕ, ◌==◌, Bool, true, false, cond, not, ◌&&◌, ◌||◌, List, [], ◌∷◌, ◌++◌, refl, ap, sym, subst, ◌∙◌, find, list_any, list_any-append, option_map}
 use Rattle.bd_laws.proofs.words.Types.{ObjectId, Thread, Object, Reference, DeathNotification, Work, WorkKind, Told}
 use Rattle.bd_laws.proofs.words.Space.{same, is_some_and, changed, Space, lives_in, object_in, held_in, strong_in, is_item, is_notice, notice_of, list_to_read, without_taken, wants_notice, follow, read_by, taken, handshakes, is_told_by, told_objects, is_told_of_death, ObjectTest, no_name, follow_of}
 use Rattle.bd_laws.proofs.words.Laws.{In, Elsewhere, IsQuiet, Distinct}
-use Rattle.bd_laws.proofs.Lists.{in-filter, in-changed, any-found, any-in, find-in}
-use Rattle.bd_laws.proofs.Tests.{and-both, same-eq, eq-same, notice-kind}
+use Rattle.bd_laws.proofs.Lists.{in-filter, in-changed, any-changed, find-changed, any-found, any-in, find-in}
+use Rattle.bd_laws.proofs.Tests.{and-both, same-eq, eq-same, notice-kind, to-false}
 use Rattle.bd_laws.proofs.IsInTurn.Ripening.{read-in}
 use Rattle.bd_laws.proofs.Follow.{follow-local}
-use Rattle.bd_laws.proofs.Fewer.{any-filtered, to-false}
-use Rattle.bd_laws.proofs.FollowingIsLocal.Finding.{any-none, any-left}
+use Rattle.bd_laws.proofs.Fewer.{any-filtered}
+use Rattle.bd_laws.proofs.FollowingIsLocal.Finding.{any-none}
 use Rattle.bd_laws.proofs.FollowingIsLocal.Handshakes.{shaken-by, shaken-object}
-
-module _ {A : Type 0} (p : A → Bool) (f : A → A) (q : A → Bool) (keeps : (x : A) → q (f x) ≡ q x) where
-  pub any-changed : (xs : List A) → list_any q (changed p f xs) ≡ list_any q xs
-  any-changed [] = refl
-  any-changed (x ∷ xs) = search (arith, any-changed xs)
-
-  find-changed : (xs : List A) → find q (changed p f xs) ≡ option_map (λ x. cond (p x) (f x) x) (find q xs)
-  find-changed [] = refl
-  find-changed (x ∷ xs) = search (arith, find-changed xs)
 
 -- ---- handshakes are with what was told
 
@@ -70,7 +61,7 @@ module _ (s : Space) (t : Thread) (seat left : ℕ) (h : IsQuiet s) (distinct : 
   read-elsewhere : Elsewhere no_name told (read_by s seat ws)
   unfolding read_by
   read-elsewhere = record {
-    names = λ m l none. search (arith, any-changed, and-both, any-left);
+    names = λ m l none. search (arith, any-changed, and-both, list_any-append);
     objects = λ x l none. ap (λ c. c || (lives_in s.processes x.owner && (x.told_weak || x.told_strong))) (same-said x.id none).0 ∙ h.followed.objects x (was x l none) refl;
     deaths = λ d l none. search (arith, in-changed);
     notices = λ w o l e none. read-due o none (h.followed.notices w o (in-filter (λ (w : Work). not (list_any (λ (d : Work). is_item w d) ws)) w s.todo l).0 e refl);

@@ -5,10 +5,9 @@ use Rattle.bd_laws.proofs.words.Types.{TransactionData, ObjectId, Parcel, Proces
 use Rattle.bd_laws.proofs.words.Space.{Space, actor, assign_numbers, owe, with_work, hands_out, list_to_read, closed, goes_to, Delivery, delivered, own_notices, add_buffer, known_by, refer, make_objects, buffer_of, transaction_check, transacted, called, call_out, reply_check, replied, without_buffer, is_made_at, taken, read_by, hand_out, handed_buffers, is_spam}
 use Rattle.bd_space.specs.declared.space.WorkKind.TheVariants as work
 use Rattle.bd_laws.proofs.words.Laws.{In, Due, InTurn, On, OnLists}
-use Rattle.bd_laws.proofs.Lists.{in-left, in-append, in-push, in-filter, filter-in, in-changed, changed-in, find-in, pairs-either}
+use Rattle.bd_laws.proofs.Lists.{in-left, in-append, in-push, in-filter, filter-in, in-changed, changed-in, find-in, pairs-either, all-push}
 use Rattle.bd_laws.proofs.Tests.{not-false}
 use Rattle.bd_laws.proofs.IsInTurn.OneWay
-use Rattle.bd_laws.proofs.IsInTurn.Pushed.{with-each}
 use Rattle.bd_laws.proofs.IsInTurn.Ripening.{taken-due, read-in}
 use Rattle.bd_laws.proofs.Machine.Untouched
 use Rattle.bd_laws.proofs.Machine.Untouched.{Untouched}
@@ -47,8 +46,8 @@ delivered-passed s fs a d v turns l lives made owned = record {
 handing : (s z : Space) (place : ℕ) (list : TodoList) (kind : WorkKind) (n : ℕ) → hands_out kind ≡ Some n → ((c : Buffer) (o : ObjectId) → In c z.buffers → c.made ≡ n → On o c → ⊥) → OnLists z
     → (w : Work) (c : Buffer) (o : ObjectId) → In w (with_work place z.todo list kind) → hands_out w.kind ≡ Some c.made → In c z.buffers → On o c → w.list ≡ OfProcess c.receiver
 handing s z place list kind n hands none l w c o i e j on =
-    with-each place z.todo list kind (λ w. hands_out w.kind ≡ Some c.made → w.list ≡ OfProcess c.receiver) (λ w k e. l w c o k e j on)
-    (λ i e. absurd (none c o j (let f : Some n ≡ Some c.made = sym hands ∙ e in cc) on)) w i e
+    all-push z.todo _ (λ w. hands_out w.kind ≡ Some c.made → w.list ≡ OfProcess c.receiver) (λ w k e. l w c o k e j on)
+    (λ e. absurd (none c o j (let f : Some n ≡ Some c.made = sym hands ∙ e in cc) on)) w i e
 
 pub same-going : (z y : Space) → z.steps ≡ y.steps → z.processes ≡ y.processes → z.objects ≡ y.objects → z.buffers ≡ y.buffers → Going z y
 same-going z y e p x b = search arith

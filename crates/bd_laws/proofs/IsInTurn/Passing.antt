@@ -4,14 +4,13 @@ use Rattle.bd_laws.proofs.words.Types.{ObjectId, Step, Entry, Process, Buffer, T
 use Rattle.bd_laws.proofs.words.Space.{Space, with_work, hands_out, is_on, closed, turn_of, turns_of, is_ripe, ripened, ripen, follow, is_buffer_at, buffer_at_pointer, thread_goes, is_lost_with, threads_go, without_process, tell_deaths, change}
 use Rattle.bd_space.specs.declared.space.WorkKind.TheVariants as work
 use Rattle.bd_laws.proofs.words.Laws.{In, InTurn, On, OnLists}
-use Rattle.bd_laws.proofs.Lists.{in-filter, filter-in, any-found, find-in, in-filter_map}
+use Rattle.bd_laws.proofs.Lists.{in-filter, filter-in, any-found, find-in, in-filter_map, all-push}
 use Rattle.bd_laws.proofs.Tests.{not-true}
 use Rattle.bd_laws.proofs.Machine.EveryStep.{Keeps, every_step}
 use Rattle.bd_laws.proofs.Machine.Following.{threads-keep}
 use Rattle.bd_laws.proofs.IsInTurn.OneWay
 use Rattle.bd_laws.proofs.IsInTurn.OneWay.{less_table, less_closes, Less}
 use Rattle.bd_laws.proofs.IsInTurn.Ripening.{turn-parts, one-made}
-use Rattle.bd_laws.proofs.IsInTurn.Pushed.{with-each}
 use Rattle.bd_laws.proofs.IsInTurn.InTurn.{Turning, kept}
 use Rattle.bd_laws.proofs.Machine.Untouched
 use Rattle.bd_laws.proofs.Machine.Untouched.{Untouched}
@@ -35,8 +34,8 @@ ripened-lists place older (t ∷ ts) todo c own l = ripened-lists place (older +
   where
     one : (b : Bool) → Listed (cond b (with_work place todo (OfProcess t.receiver) (work.Call t.made)) todo) c
     one false = l
-    one true = with-each place todo (OfProcess t.receiver) (work.Call t.made) (λ w. hands_out w.kind ≡ Some c.made → w.list ≡ OfProcess c.receiver) l
-        (λ i e. ap OfProcess (own t (inl refl) (let f : Some t.made ≡ Some c.made = e in cc)))
+    one true = all-push todo _ (λ w. hands_out w.kind ≡ Some c.made → w.list ≡ OfProcess c.receiver) l
+        (λ e. ap OfProcess (own t (inl refl) (let f : Some t.made ≡ Some c.made = e in cc)))
 
 pub ripen-passed : (s z : Space) → Turning z → Passed s z → Passed s (ripen z)
 unfolding ripen

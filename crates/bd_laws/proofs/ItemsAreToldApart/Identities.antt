@@ -30,10 +30,13 @@ count-work n todo list kind = sum_by-append (λ (w : Work). cond (w.id.place == 
 pub item-id : (v w : Work) → is_item v w ≡ true → v.id ≡ w.id
 item-id v w h = let k = both-eq v.id.place v.id.index w.id.place w.id.index (both (same_identity v.id w.id) (is_on w.list v) h).0 in (λ i. record { place = k.0 i; index = k.1 i })
 
--- this step's items are numbered one after the other
+-- this step's items are numbered one after the other, so each below their count
+abbrev pub Indexed : ℕ → List Work → Type 0
+Indexed n todo = (w : Work) → In w todo → w.id.place ≡ n → w.id.index < count_at n todo
+
 pub record Numbered (n : ℕ) (todo : List Work) : Type 0 where
   pub below : (w : Work) → In w todo → w.id.place ≤ n
-  pub index : (w : Work) → In w todo → w.id.place ≡ n → w.id.index < count_at n todo
+  pub index : Indexed n todo
   pub distinct : Distinct todo
 
 pub fresh-numbered : (n : ℕ) (todo : List Work) → Fresh n todo → Distinct todo → Numbered n todo
@@ -51,15 +54,18 @@ module _ (n : ℕ) (todo : List Work) (list : TodoList) (kind : WorkKind) where
       let lt = h.index w l (ap (λ (x : Identity). x.place) e) in
       let at : w.id.index ≡ count_at n todo = ap (λ (x : Identity). x.index) e in omega arith
 
+  pub push-indexed : Indexed n todo → Indexed n (with_work n todo list kind)
+  push-indexed h w l e =
+      let c = count-work n todo list kind in
+      elim (in-push w new_item todo l) [
+        | inl i ↦ (let lt = h w i e in omega arith)
+        | inr is ↦ (let at : count_at n todo ≡ w.id.index = ap (λ (x : Work). x.id.index) is in omega arith)
+      ]
+
   pub push-numbered : Numbered n todo → Numbered n (with_work n todo list kind)
   push-numbered h = record {
     below = λ w l. elim (in-push w new_item todo l) [ inl i ↦ h.below w i | inr is ↦ (let at : n ≡ w.id.place = ap (λ (x : Work). x.id.place) is in omega arith) ];
-    index = λ w l e.
-        let c = count-work n todo list kind in
-        elim (in-push w new_item todo l) [
-          | inl i ↦ (let lt = h.index w i e in omega arith)
-          | inr is ↦ (let at : count_at n todo ≡ w.id.index = ap (λ (x : Work). x.id.index) is in omega arith)
-        ];
+    index = push-indexed h.index;
     distinct = λ v w l m same. search (arith, in-push, item-id, is-new, h.distinct);
   }
 

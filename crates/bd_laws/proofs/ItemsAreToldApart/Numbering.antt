@@ -5,8 +5,7 @@ use Rattle.bd_laws.proofs.words.Space.{changed, seats_in, lists_in, lost_with_pr
 use Rattle.bd_space.specs.declared.space.WorkKind.TheVariants as work
 use Rattle.bd_laws.proofs.words.Laws.{In, AtHome, Told, IsQuiet}
 use Rattle.bd_laws.proofs.Lists.{in-filter, filter-in, in-map, any-found, any-in, fold-keeps}
-use Rattle.bd_laws.proofs.Tests.{both, and-both, not-true, not-eq}
-use Rattle.bd_laws.proofs.Fewer.{to-false}
+use Rattle.bd_laws.proofs.Tests.{both, and-both, not-true, not-eq, to-false}
 use Rattle.bd_laws.proofs.FollowingIsLocal.Left.{Left, threads-left, on-thread}
 use Rattle.bd_laws.proofs.AtHome.HomesSent.{one-thread}
 use Rattle.bd_laws.proofs.Machine.EveryStep.{every_step}

@@ -5,15 +5,12 @@ use Rattle.bd_laws.proofs.words.Types.{Cause, ObjectId, Process, Object, Referen
 use Rattle.bd_laws.proofs.words.Space.{same, changed, first_of, Space, lives_in, reference_of, held_in, owe, hands_out, turn_of, turns_of, wants_notice, settle, reply_refused, refusal, taken, hand_out, serve, bytes_read, with_thread, with_process, with_manager, with_spam_detection}
 use Rattle.bd_space.specs.declared.space.WorkKind.TheVariants as work
 use Rattle.bd_laws.proofs.words.Laws.{In, Differ, KeptBefore, Before, IsSettled, NoneRipe, IsQuiet, On}
-use Rattle.bd_laws.proofs.Lists.{in-changed, pairs-push}
-use Rattle.bd_laws.proofs.Tests.{same-eq, eq-same, not-eq}
+use Rattle.bd_laws.proofs.Lists.{in-changed, any-changed, pairs-push}
+use Rattle.bd_laws.proofs.Tests.{same-eq, eq-same, not-eq, to-false}
 use Rattle.bd_laws.proofs.NothingIsPending.Quiet.{IsCalm, owe-calm, closed-calm, told-calm, settle-quiet, elsewhere-aside, CallsStay, unripe-one}
-use Rattle.bd_laws.proofs.Fewer.{to-false}
 use Rattle.bd_laws.proofs.Sending.{find-none, none-found}
 use Rattle.bd_laws.proofs.FollowingIsLocal.Finding.{any-none, found-still}
 use Rattle.bd_laws.proofs.FollowingIsLocal.Sent.{come-elsewhere}
-use Rattle.bd_laws.proofs.FollowingIsLocal.Taking.{any-changed}
-use Rattle.bd_laws.proofs.Freeing.{any-append}
 use Rattle.bd_laws.proofs.IsInTurn.Ripening.{turn-parts}
 use Rattle.bd_laws.proofs.Machine.Marks.{marked-lives}
 
@@ -120,7 +117,7 @@ module _ (todo more : List Work) where
   handed_turn t = record t { handed = true }
 
   same-targets-push : (older less : List Turn) (t u : Turn) → u.target ≡ t.target → SameTargets older less → SameTargets (older ++ t ∷ []) (less ++ u ∷ [])
-  same-targets-push older less t u e h i = search (arith, any-append)
+  same-targets-push older less t u e h i = search (arith, list_any-append)
 
   module _ (p : Buffer → Bool) where
     pub unripe-handed : (bs : List Buffer) (older less : List Turn) → SameTargets older less → NoneRipe todo older (turns_of bs)

@@ -4,8 +4,7 @@ use Rattle.bd_laws.proofs.words.Types.{Frame, Buffer, Work, OfProcess}
 use Rattle.bd_space.specs.declared.space.WorkKind.TheVariants as work
 use Rattle.bd_space.specs.Frames.{is_frame}
 use Rattle.bd_laws.proofs.words.Laws.{In, Pairs, Older, NoChild, Forest}
-use Rattle.bd_laws.proofs.Lists.{in-push, in-filter, filter-in, pairs-either, pairs-filter}
-use Rattle.bd_laws.proofs.IsInTurn.Pushed.{each, each-two}
+use Rattle.bd_laws.proofs.Lists.{in-push, in-filter, filter-in, pairs-either, pairs-filter, all-push, two-push}
 use Rattle.bd_laws.proofs.Tests.{not-true, not-false}
 
 pub one-frame : (fs : List Frame) → Pairs Older fs → (f g : Frame) → In f fs → In g fs → f.made ≡ g.made → f ≡ g
@@ -51,9 +50,9 @@ module _ (n : ℕ) (root : ℕ → ℕ) (fs : List Frame) (bs : List Buffer) (td
       → ((w : Work) → In w td → w.kind ≡ work.Call b → ⊥) → Forest n root fs bs (td ++ nw ∷ [])
   forest-work nw b p kind list lt free new =
       forest-with n bs (td ++ nw ∷ []) (omega arith) old
-      (λ v w c l m. each-two td nw (λ v w. v.kind ≡ work.Call c → w.kind ≡ work.Call c → v ≡ w) (λ v w i j. h.one v w c i j)
+      (λ v w c l m. two-push td nw (λ v w. v.kind ≡ work.Call c → w.kind ≡ work.Call c → v ≡ w) (λ v w i j. h.one v w c i j)
       (λ v i e o. absurd (new v i (e ∙ sym o ∙ kind))) (λ w j e o. absurd (new w j (o ∙ sym e ∙ kind))) (λ e o. refl) v w l m)
-      (λ w c l. each td nw (λ w. w.kind ≡ work.Call c → c < n) (λ w i. h.due w c i) (λ e. let k : work.Call b ≡ work.Call c = sym kind ∙ e in let j : b ≡ c = cc in omega arith) w l) h.buffers h.turns
+      (λ w c l. all-push td nw (λ w. w.kind ≡ work.Call c → c < n) (λ w i. h.due w c i) (λ e. let k : work.Call b ≡ work.Call c = sym kind ∙ e in let j : b ≡ c = cc in omega arith) w l) h.buffers h.turns
     where
       old : (w : Work) (f : Frame) → In w (td ++ nw ∷ []) → w.kind ≡ work.Call f.made → In f fs → In w td
       old w f l e i = search (arith, in-push)

@@ -3,8 +3,7 @@ use Rattle.bd_laws.proofs.words.Logic.{◌≡◌, ℕ, ◌<◌, ◌≤◌, ◌==
 use Rattle.bd_laws.proofs.words.Types.{Frame, Buffer, Work, Pending, Serving, OfThread}
 use Rattle.bd_space.specs.declared.space.WorkKind.TheVariants as work
 use Rattle.bd_laws.proofs.words.Laws.{In, Forest, Older, NoChild, Part, Waiting, Parent}
-use Rattle.bd_laws.proofs.Lists.{in-left, in-last, pairs-push}
-use Rattle.bd_laws.proofs.IsInTurn.Pushed.{each, each-two}
+use Rattle.bd_laws.proofs.Lists.{in-left, in-last, pairs-push, all-push, two-push}
 
 -- the frame to come, with the path that it goes on and the call that is due for it
 pub record Calling (n : ℕ) (root : ℕ → ℕ) (fs : List Frame) (bs : List Buffer) (seat : ℕ) (parent : Option ℕ) (nw : Work) : Type 0 where
@@ -42,7 +41,7 @@ module _ (n : ℕ) (root : ℕ → ℕ) (fs : List Frame) (bs : List Buffer) (td
   was-childless f none g l e = search (arith, in-left)
 
   new-parents : (g : Frame) → In g more → (p : ℕ) → g.parent ≡ Some p → Parent rerooted more g p
-  new-parents = each fs new (λ g. (p : ℕ) → g.parent ≡ Some p → Parent rerooted more g p)
+  new-parents = all-push fs new (λ g. (p : ℕ) → g.parent ≡ Some p → Parent rerooted more g p)
       (λ g i p e.
       let u = h.parents g p i e in
       record {
@@ -59,14 +58,14 @@ module _ (n : ℕ) (root : ℕ → ℕ) (fs : List Frame) (bs : List Buffer) (td
       record { frame = u.0; here = in-left u.0 fs (new ∷ []) u.1; made = u.2; older = lt; same = at-new ∙ sym u.5 ∙ sym (at-old p lt); nested = inr (seat, u.3, refl) })
 
   new-linked : (f g : Frame) → In f more → In g more → rerooted f.made ≡ rerooted g.made → f.made < g.made → (p : ℕ) × (g.parent ≡ Some p) × (f.made ≤ p)
-  new-linked = each-two fs new (λ f g. rerooted f.made ≡ rerooted g.made → f.made < g.made → (p : ℕ) × (g.parent ≡ Some p) × (f.made ≤ p))
+  new-linked = two-push fs new (λ f g. rerooted f.made ≡ rerooted g.made → f.made < g.made → (p : ℕ) × (g.parent ≡ Some p) × (f.made ≤ p))
       (λ f g i j e lt. h.linked f g i j (sym (old f i) ∙ e ∙ old g j) lt)
       (λ f i e lt. c.joined f i (sym (old f i) ∙ e ∙ at-new))
       (λ g j e lt. let b = h.below g j in absurd (omega arith))
       (λ e lt. absurd (omega arith))
 
   new-leaf : (f g : Frame) → In f more → In g more → rerooted f.made ≡ rerooted g.made → NoChild more f → g.made ≤ f.made
-  new-leaf = each-two fs new (λ f g. rerooted f.made ≡ rerooted g.made → NoChild more f → g.made ≤ f.made)
+  new-leaf = two-push fs new (λ f g. rerooted f.made ≡ rerooted g.made → NoChild more f → g.made ≤ f.made)
       (λ f g i j e none. h.leaf f g i j (sym (old f i) ∙ e ∙ old g j) (was-childless f none))
       (λ f i e none.
       let u = c.joined f i (sym (old f i) ∙ e ∙ at-new) in
@@ -84,7 +83,7 @@ module _ (n : ℕ) (root : ℕ → ℕ) (fs : List Frame) (bs : List Buffer) (td
   new-part t (inr e) = let k : Pending ≡ Serving t = e in absurd (cc)
 
   new-shared : (t : ℕ) (f g : Frame) → In f more → In g more → Part t f → Part t g → rerooted f.made ≡ rerooted g.made
-  new-shared t = each-two fs new (λ f g. Part t f → Part t g → rerooted f.made ≡ rerooted g.made)
+  new-shared t = two-push fs new (λ f g. Part t f → Part t g → rerooted f.made ≡ rerooted g.made)
       (λ f g i j p q. old f i ∙ h.shared t f g i j p q ∙ sym (old g j))
       (λ f i p q. old f i ∙ c.own f i (subst (λ x. Part x f) (new-part t q) p) ∙ sym at-new)
       (λ g j p q. at-new ∙ sym (c.own g j (subst (λ x. Part x g) (new-part t p) q)) ∙ sym (old g j))
@@ -104,7 +103,7 @@ module _ (n : ℕ) (root : ℕ → ℕ) (fs : List Frame) (bs : List Buffer) (td
     was-due w f l i e = elim (calls w f.made l e) [ inl d ↦ d | inr is ↦ (let a = its-call w f.made is e in let b = h.below f i in absurd (omega arith)) ]
 
     new-waiting : (w : Work) (t : ℕ) → In w ud → w.list ≡ OfThread t → (f : Frame) → In f more → w.kind ≡ work.Call f.made → Waiting rerooted more t f.made
-    new-waiting w t l o = each fs new (λ f. w.kind ≡ work.Call f.made → Waiting rerooted more t f.made)
+    new-waiting w t l o = all-push fs new (λ f. w.kind ≡ work.Call f.made → Waiting rerooted more t f.made)
         (λ f j e. let u = h.waiting w t f (was-due w f l j e) e o j in (u.0, in-left u.0 fs (new ∷ []) u.1, u.2, old u.0 u.1 ∙ u.3 ∙ sym (old f j), u.4))
         (λ e. elim (calls w n l e) [
           | inl k ↦ absurd (no-due w k e)
@@ -112,20 +111,20 @@ module _ (n : ℕ) (root : ℕ → ℕ) (fs : List Frame) (bs : List Buffer) (td
         ])
 
     new-childless : (w : Work) → In w ud → (f g : Frame) → In f more → In g more → w.kind ≡ work.Call f.made → g.parent ≡ Some f.made → ⊥
-    new-childless w l = each-two fs new (λ f g. w.kind ≡ work.Call f.made → g.parent ≡ Some f.made → ⊥)
+    new-childless w l = two-push fs new (λ f g. w.kind ≡ work.Call f.made → g.parent ≡ Some f.made → ⊥)
         (λ f g k j e q. h.childless w f (was-due w f l k e) e k g j q)
         (λ f k e q. let u = c.from f.made q in h.unserved w u.0 seat (was-due w f l k e) (e ∙ ap (λ x. work.Call x) (sym u.2)) u.1 u.3)
         (λ g j e q. let b = (h.parents g n j q).older in let d = h.below g j in absurd (omega arith))
         (λ e q. let u = c.from n q in let lt = h.below u.0 u.1 in let made = u.2 in absurd (omega arith))
 
     new-unserved : (w : Work) (t : ℕ) → In w ud → (f : Frame) → In f more → w.kind ≡ work.Call f.made → f.server ≡ Serving t → ⊥
-    new-unserved w t l = each fs new (λ f. w.kind ≡ work.Call f.made → f.server ≡ Serving t → ⊥)
+    new-unserved w t l = all-push fs new (λ f. w.kind ≡ work.Call f.made → f.server ≡ Serving t → ⊥)
         (λ f k e s. h.unserved w f t (was-due w f l k e) e k s) (λ e s. let k : Pending ≡ Serving t = s in absurd (cc))
 
     pub forest-framed : Forest (suc n) rerooted more cs ud
     forest-framed = record {
-      below = each fs new (λ f. f.made < suc n) (λ f i. let a = h.below f i in omega arith) (omega arith);
-      rooted = each fs new (λ f. rerooted f.made ≤ f.made) (λ f i. subst (λ x. x ≤ f.made) (sym (old f i)) (h.rooted f i)) (subst (λ x. x ≤ n) (sym at-new) c.low);
+      below = all-push fs new (λ f. f.made < suc n) (λ f i. let a = h.below f i in omega arith) (omega arith);
+      rooted = all-push fs new (λ f. rerooted f.made ≤ f.made) (λ f i. subst (λ x. x ≤ f.made) (sym (old f i)) (h.rooted f i)) (subst (λ x. x ≤ n) (sym at-new) c.low);
       sorted = pairs-push Older new fs h.sorted (λ f l. h.below f l);
       parents = λ g p l e. new-parents g l p e;
       linked = new-linked;
@@ -147,7 +146,7 @@ module _ (n : ℕ) (root : ℕ → ℕ) (fs : List Frame) (bs : List Buffer) (td
       due = λ w b l e. elim (calls w b l e) [ inl i ↦ (let lt = h.due w b i e in omega arith) | inr is ↦ (let a = its-call w b is e in omega arith) ];
       buffers = λ x l. elim (kept x l) [ inl i ↦ (let lt = h.buffers x i in omega arith) | inr e ↦ (let a = e.0 in omega arith) ];
       turns = λ x f l o i e. elim (kept x l) [
-        | inl j ↦ each fs new (λ f. f.made ≡ x.made → ⊥) (λ f k e. h.turns x f j o k e) (λ e. let lt = h.buffers x j in absurd (omega arith)) f i e
+        | inl j ↦ all-push fs new (λ f. f.made ≡ x.made → ⊥) (λ f k e. h.turns x f j o k e) (λ e. let lt = h.buffers x j in absurd (omega arith)) f i e
         | inr two_way ↦ (let no = two_way.1 in absurd (cc))
       ];
     }
