@@ -1,7 +1,7 @@
 -- For every law: what an accepted transaction, reply or asking has tested.
 use Rattle.bd_laws.proofs.words.Logic.{arith, ◌≡◌, ℕ, Bool, false, Option, Some, None, Ok, ◌⊎◌, refl, option_map, option_and_then_some, eqb-true}
 use Rattle.bd_laws.proofs.words.Types.{TransactionData, DeadOwner, ObjectId, Parcel, Process, Actor, Callee, Frame, Object}
-use Rattle.bd_laws.proofs.words.Space.{same, found_or, Space, actor, process_in, thread_in, object_in, named, Delivery, sending_of, transaction_check, callee_of, target_of, with_owner, owner_of, handle_of, is_one_way, caller_cause, reply_check, caller_of, ask_check}
+use Rattle.bd_laws.proofs.words.Space.{same, found_or, Space, actor, process_in, thread_in, object_in, Delivery, sending_of, transaction_check, callee_of, target_of, with_owner, owner_of, handle_of, is_one_way, caller_cause, reply_check, caller_of, ask_check}
 use Rattle.bd_laws.specs.Lists.{In}
 use Rattle.bd_laws.proofs.Lists.{find-in}
 use Rattle.bd_laws.proofs.Tests.{same-eq, and_then-ok, found-ok, unless-ok}

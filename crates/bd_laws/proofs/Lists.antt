@@ -134,6 +134,10 @@ module _ {A : Type 0} (p : A → Bool) where
   all-in [] h = refl
   all-in (x ∷ xs) h = search (arith, all-in xs)
 
+  pub in-all : (xs : List A) → list_all p xs ≡ true → (x : A) → In x xs → p x ≡ true
+  in-all [] h x l = absurd l
+  in-all (y ∷ ys) h x l = search (arith, in-all ys)
+
   pub find-some : (x : A) (xs : List A) → In x xs → p x ≡ true → is_some (find p xs) ≡ true
   find-some x [] h t = absurd h
   find-some x (y ∷ ys) h t = search (arith, find-some x ys)

@@ -127,10 +127,6 @@ step-kept s e h = counted-kept (change s e.seat e.step).space (every_step s e.se
 pub opening-kept : KeptBefore opening
 opening-kept = search arith
 
-pub always-kept : (h : History) → KeptBefore (space_after h)
-unfolding space_after
-always-kept h = every_list KeptBefore step-kept h.entries opening opening-kept
-
 -- ---- the laws
 
 pub here-found : (objects : List Object) (o : ObjectId) → Here objects o → is_some (object_in objects o) ≡ true

@@ -1,5 +1,5 @@
 -- For every law: what a parcel's sender sends: objects that are there, or that the sending makes.
-use Rattle.bd_laws.proofs.words.Logic.{◌≡◌, ℕ, ◌+◌, ◌<◌, ◌==◌, Bool, true, false, ◌&&◌, List, [], ◌∷◌, ◌++◌, Option, Some, None, Ok, ◌⊎◌, inl, inr, refl, sym, subst, length, find, arith, length-append, append-nil, option_to_list, option_map, eqb-true}
+use Rattle.bd_laws.proofs.words.Logic.{◌≡◌, ℕ, ◌<◌, ◌==◌, Bool, true, false, ◌&&◌, List, [], ◌∷◌, ◌++◌, Option, Some, None, Ok, ◌⊎◌, inl, inr, refl, sym, subst, length, find, arith, length-append, append-nil, option_to_list, option_map, eqb-true}
 use Rattle.bd_laws.proofs.words.Types.{TransactionData, FlatObject, ObjectId, Parcel, Object, Name, Item, Resolved, is_own}
 use Rattle.bd_laws.proofs.words.Space.{Space, own_in, named, strongly_named, Sending, new_object, resolve, resolve_all, sending_of}
 use Rattle.bd_parcel.specs.Reading.{object_at}

@@ -5,8 +5,7 @@ use Rattle.bd_laws.proofs.words.Space.{Space, opening, calls, is_frame, change, 
 use Rattle.bd_laws.proofs.words.Laws.{In, Nested, OnPaths, NoChild}
 use Rattle.bd_laws.proofs.Machine.EveryStep.{every_whole_step, KeepsWhole}
 use Rattle.bd_laws.proofs.Lists.{any-in, any-found, all-in, in-filter, filter-in, in-changed, find-in}
-use Rattle.bd_laws.proofs.Tests.{both, not-false, call-kind, not-eq as differ, to-false}
-use Rattle.bd_laws.proofs.OnPaths.Innermost.{true-calls}
+use Rattle.bd_laws.proofs.Tests.{both, not-false, call-kind, not-eq as differ, to-false, some-eq}
 use Rattle.bd_laws.proofs.Always.{always-on_paths}
 use Rattle.bd_audit.specs.Replies.{thread_made, At}
 use Rattle.bd_audit.specs.Latest.{IsLatest}
@@ -20,6 +19,7 @@ use Rattle.bd_laws.proofs.Machine.Table.{Any, set_up-by, changes-by}
 use Rattle.bd_laws.proofs.IsInTurn.Ripening.{read-in}
 use Rattle.bd_laws.proofs.OnPaths.Forests.{one-frame}
 use Rattle.bd_laws.proofs.OnPaths.Paths.{abandoned-childless, served-childless}
+use Rattle.bd_laws.proofs.Machine.Fields.{serve-made}
 use Rattle.bd_audit.proofs.RepliesAnswerTheLatestOpenCall.Unread as part
 use Rattle.bd_audit.proofs.RepliesAnswerTheLatestOpenCall.Unread.{Leaves, leaves_table, leaves_exits, read-stay}
 
@@ -100,7 +100,7 @@ module _ (s : Space) (h : OnPaths s.steps s) where
         at : (b : Bool) → list_any (is_child_of x) s.frames ≡ b → (y : Frame) × OnWay w y × (y.parent ≡ Some x.made)
         at true e =
             let y = any-found (is_child_of x) s.frames e in
-            let up = true-calls x.made y.0.parent y.2 in
+            let up = some-eq x.made y.0.parent y.2 in
             let r = (h.1.parents y.0 x.made y.1 up).same ∙ on.1 in
             (y.0, (y.1, r, low y.0 y.1 up r), up)
         at false e =
@@ -151,9 +151,6 @@ module _ (s : Space) (h : OnPaths s.steps s) where
     abbrev called-in : Frame → Bool
     called-in f = list_any (λ (w : Work). is_call f.made w.kind) (taken s left (list_to_read s u))
 
-    kept-made : (b : Bool) (x : Frame) → (cond b (serve u.seat x) x).made ≡ x.made
-    kept-made b x = search arith
-
     uncalled : (x : Frame) (t : ℕ) → In x s.frames → x.server ≡ Serving t → called-in x ≡ false
     uncalled x t l e = to-false (called-in x) (λ k.
         let w = any-found (λ (v : Work). is_call x.made v.kind) (taken s left (list_to_read s u)) k in
@@ -165,7 +162,7 @@ module _ (s : Space) (h : OnPaths s.steps s) where
       way = λ x on. let f = read-stay s u.seat (taken s left (list_to_read s u)) x on.0 in (f.0, f.1, f.2.made, f.2.parent);
       server = λ g l e.
           let x = in-changed called-in (serve u.seat) g s.frames l in
-          let made = sym (kept-made (called-in x.0) x.0) ∙ ap (λ (y : Frame). y.made) (sym x.2) ∙ e in
+          let made = sym (serve-made u.seat (called-in x.0) x.0) ∙ ap (λ (y : Frame). y.made) (sym x.2) ∙ e in
           let server = (stood w).server x.0 x.1 made in
           ap (λ (y : Frame). y.server) x.2 ∙ ap (λ b. (cond b (serve u.seat x.0) x.0).server) (uncalled x.0 w.seat x.1 server) ∙ server;
     }
@@ -229,13 +226,13 @@ module _ (es : List Entry) (e : Entry) (j m : ℕ) (h : EndsCall (after opening 
       let made = eqb-true call.0.made j is.0 in
       let old : m < s.steps = (let below = seat-below es m h.seat (always-seated es h.seat m h.lives) in let place = always-steps es in omega arith) in
       let k = every_whole_step s e.seat e.step (Earlier s paths) (Earlier s paths) (kept s paths e.seat e.step) in
-      let x = earlier-open s paths z k h.seat m call.0 g call.1 l (true-calls h.seat call.0.caller is.1) also (omega arith) old h.lives_on in
+      let x = earlier-open s paths z k h.seat m call.0 g call.1 l (some-eq h.seat call.0.caller is.1) also (omega arith) old h.lives_on in
       let some = any-in (is_frame j) x.0 z.frames x.1 (eq-eqb x.0.made j (x.2 ∙ made)) in
       let none : list_any (is_frame j) z.frames ≡ false = h.closes in
       absurd (cc)
 
   ends-latest : IsLatest s j m
-  ends-latest = search (arith, all-in, calls, no-later, true-calls, le-leb)
+  ends-latest = search (arith, all-in, calls, no-later, some-eq, le-leb)
 
 pub latest-first : (es : List Entry) (i j m : ℕ) → At es i (λ z e. EndsCall z e j m) → At es i (λ z e. IsLatest z j m)
 latest-first es i j m p = (p.0, p.1, p.2, ends-latest p.0 p.1 j m p.3)

@@ -4,7 +4,7 @@ use Rattle.bd_laws.proofs.words.Types.{Frame, Buffer, Work}
 use Rattle.bd_laws.proofs.words.Space.{is_some_and, ancestry, takes_part, is_frame, is_child_of, History, space_after}
 use Rattle.bd_laws.proofs.words.Laws.{In, Pairs, Forest, Older}
 use Rattle.bd_laws.proofs.Lists.{in-filter, all-in, pairs-map, pairs-filter}
-use Rattle.bd_laws.proofs.Tests.{either-true}
+use Rattle.bd_laws.proofs.Tests.{either-true, some-eq}
 use Rattle.bd_laws.proofs.IsInTurn.InTurn.{at_most_one}
 use Rattle.bd_laws.proofs.OnPaths.Innermost.{Newer, in-reverse, reverse-in, newest-first, true-part}
 use Rattle.bd_laws.proofs.Always.{always-on_paths}
@@ -16,9 +16,6 @@ use Rattle.bd_audit.specs.Paths.{is_on_way, is_one_path}
 
 short : (xs : List Frame) → Pairs Older xs → ((x y : Frame) → In x xs → In y xs → x.made < y.made → ⊥) → length xs ≤ 1
 short xs h k = at_most_one xs (pairs-map Older (λ x y. ⊥) xs k h)
-
-parent-of : (f : Frame) (o : Option ℕ) → is_some_and o (λ m. m == f.made) ≡ true → o ≡ Some f.made
-parent-of f o e = search (arith, eqb-true)
 
 -- ---- on the way
 
@@ -35,8 +32,8 @@ module _ (n : ℕ) (root : ℕ → ℕ) (fs : List Frame) (bs : List Buffer) (td
   one-child f = short (filter (is_child_of f) fs) (pairs-filter Older (is_child_of f) fs h.sorted) (λ x y l m lt.
       let i = in-filter (is_child_of f) x fs l in
       let j = in-filter (is_child_of f) y fs m in
-      let p = parent-of f x.parent i.1 in
-      let q = parent-of f y.parent j.1 in
+      let p = some-eq f.made x.parent i.1 in
+      let q = some-eq f.made y.parent j.1 in
       let u = h.parents x f.made i.0 p in
       let v = h.parents y f.made j.0 q in
       let link = h.linked x y i.0 j.0 (u.same ∙ sym v.same) lt in

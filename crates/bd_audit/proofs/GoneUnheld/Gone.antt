@@ -5,9 +5,10 @@ use Rattle.bd_laws.proofs.words.Space.{same, Space, opening, object_in, held_in,
 use Rattle.bd_laws.proofs.words.Laws.{Here, Before}
 use Rattle.bd_laws.proofs.Machine.EveryStep.{every_list}
 use Rattle.bd_laws.proofs.Tests.{same-eq}
-use Rattle.bd_laws.proofs.Objects.{always-kept, here-found, gone-unheld}
+use Rattle.bd_laws.proofs.Objects.{here-found, gone-unheld}
 use Rattle.bd_laws.proofs.IsInTurn.Passing.{step-passes}
 use Rattle.bd_laws.proofs.IsInTurn.Received.{step-before, opening-before}
+use Rattle.bd_laws.proofs.Always.{always-tidy, tidy-after}
 use Rattle.bd_audit.specs.Replays.{beginning}
 use Rattle.bd_audit.specs.Laws.{space_at, is_here}
 use Rattle.bd_audit.proofs.Beginnings.{after-append}
@@ -63,11 +64,11 @@ unfolding space_after
 stays-gone h i inside o here gone n lt =
     let es = h.entries in
     let was = found-here (space_at h i).objects o here in
-    let made = (always-kept (beginning i h)).kept.below was.0 was.1 in
+    let made = (always-tidy (beginning i h)).before.objects.kept.below was.0 was.1 in
     let before = steps-at es i (omega arith) in
     let now = steps-at es (i + 1) (omega arith) in
     let id = ap (λ (x : ObjectId). x.place) was.2 in
     let old : o.place < (space_at h (i + 1)).steps = omega arith in
-    let away = later-away (drop (i + 1) (take n es)) (space_at h (i + 1)) o (every_list Before step-before (take (i + 1) es) opening opening-before) old (here-away (space_at h (i + 1)) o gone) in
+    let away = later-away (drop (i + 1) (take n es)) (space_at h (i + 1)) o (tidy-after (take (i + 1) es)).before old (here-away (space_at h (i + 1)) o gone) in
     let not_here = subst (λ (z : Space). is_here z o ≡ false) (sym (later-space es (i + 1) n (omega arith))) (away-here _ o away) in
-    (not_here, gone-unheld (space_at h n) (always-kept (beginning n h)) o not_here)
+    (not_here, gone-unheld (space_at h n) (always-tidy (beginning n h)).before.objects o not_here)

@@ -5,7 +5,7 @@ use Rattle.bd_laws.proofs.words.Space.{same, when, Space, opening, actor, number
 use Rattle.bd_engine.specs.Looks.{knows, process_of}
 use Rattle.bd_laws.proofs.words.Laws.{In, IsTidy}
 use Rattle.bd_laws.proofs.Lists.{find-in, find-some}
-use Rattle.bd_laws.proofs.Tests.{both, same-eq, not-eq}
+use Rattle.bd_laws.proofs.Tests.{both, same-eq, not-eq, is_some-ok}
 use Rattle.bd_laws.proofs.Sending.{find-none}
 use Rattle.bd_laws.proofs.Sendings.{HasName, named-has}
 use Rattle.bd_laws.proofs.Checks.{actor-lives}
@@ -22,12 +22,8 @@ use Rattle.bd_audit.proofs.NamesHaveGiftChains.Chains.{stands-more, begins-more,
 
 -- what a search that finds something finds
 module _ {A : Type 0} (p : A → Bool) (xs : List A) where
-  found-as : (f : Option A) → find p xs ≡ f → is_some f ≡ true → (x : A) × In x xs × (p x ≡ true) × (find p xs ≡ Some x)
-  found-as None e k = absurd (cc)
-  found-as (Some x) e k = let l = find-in p x xs e in (x, l.0, l.1, e)
-
   pub some-found : is_some (find p xs) ≡ true → (x : A) × In x xs × (p x ≡ true) × (find p xs ≡ Some x)
-  some-found h = found-as (find p xs) refl h
+  some-found h = let f = is_some-ok (find p xs) h in let l = find-in p f.0 xs f.1 in (f.0, l.0, l.1, f.1)
 
 number-has : (names : List Name) (p : ℕ) (o : ObjectId) → is_some (number_in names p o) ≡ true → HasName names p o
 number-has names p o h =

@@ -1,14 +1,9 @@
 -- For OwnersHearInOrder: how many elements of a list pass a test. It counts an object's handshakes and the returns that tell
--- of it; NoticesAreDue uses `any-skip`.
+-- of it.
 use Rattle.bd_laws.proofs.words.Logic.{ℕ, suc, ◌+◌, ◌≡◌, Bool, true, false, cond, ◌||◌, List, [], ◌∷◌, ◌++◌, inl, inr, refl, ap, filter, arith, list_any}
 use Rattle.bd_space.specs.Words.{without_first}
 use Rattle.bd_laws.specs.Lists.{In}
 use Rattle.bd_laws.proofs.Lists.{any-in}
-
--- one more, that doesn't pass
-pub any-skip : {A : Type 0} (p : A → Bool) (xs : List A) (y : A) → p y ≡ false → list_any p (xs ++ y ∷ []) ≡ list_any p xs
-any-skip p [] y h = rw h refl
-any-skip p (x ∷ xs) y h = ap (λ b. p x || b) (any-skip p xs y h)
 
 abbrev pub tally : {A : Type 0} → (A → Bool) → List A → ℕ
 tally p [] = 0

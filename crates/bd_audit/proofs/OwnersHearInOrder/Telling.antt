@@ -16,9 +16,10 @@ use Rattle.bd_laws.proofs.KeptBefore.ObjectsKept.{and-false, closed-before, clos
 use Rattle.bd_laws.proofs.Machine.Deaths.{KeptOnDeaths, on-kept, on-told, on-commands}
 use Rattle.bd_laws.proofs.Machine.Following.{threads-keep}
 use Rattle.bd_audit.proofs.OwnersHearInOrder.Orders.{Hearing}
-use Rattle.bd_audit.proofs.OwnersHearInOrder.Tallies.{tally-none, any-skip}
+use Rattle.bd_audit.proofs.OwnersHearInOrder.Tallies.{tally-none}
 use Rattle.bd_audit.proofs.OwnersHearInOrder.Tracking.{is_weak, is_strong, waits, number, shaken, Tracks, HeardBefore, shaking-parts, own-unasked, own-window, own-buffer, Same, tells-same, same-more, same-filter, same-without}
 use Rattle.bd_laws.proofs.Machine.Marks.{marked-lives}
+use Rattle.bd_laws.proofs.FollowingIsLocal.Finding.{any-none}
 
 -- ---- parts of a step
 
@@ -82,7 +83,8 @@ module _ (o : ObjectId) (st : Hearing) where
   opened-told : (s : Space) (seat pid euid window : ℕ) → Before s → H s → H (with_thread (with_process s pid euid window) seat s.steps)
   unfolding with_thread with_process
   opened-told s seat pid euid window before h x l e live =
-      h x l e (sym (any-skip (λ (q : Process). q.made == x.owner) s.processes _ (not-eq s.steps x.owner (λ is. let lt = before.received.owners x l in absurd (omega arith)))) ∙ live)
+      let other = not-eq s.steps x.owner (λ is. let lt = before.received.owners x l in absurd (omega arith)) in
+      h x l e (sym (any-none (λ (q : Process). q.made == x.owner) s.processes _ (λ q m. search (arith, other))) ∙ live)
 
   marked-told : (s : Space) (p : ℕ) (on : Bool) → H s → H (with_spam_detection s p on)
   unfolding with_spam_detection

@@ -7,7 +7,7 @@ use Rattle.bd_space.specs.declared.space.WorkKind.TheVariants as work
 use Rattle.bd_links.specs.TodoList.{reply_of, first_reply_in}
 use Rattle.bd_laws.specs.Lists.{In, Pairs}
 use Rattle.bd_laws.proofs.Lists.{in-filter, filter-in, pairs-filter, any-found, any-in}
-use Rattle.bd_laws.proofs.Tests.{both, and-both, to-false}
+use Rattle.bd_laws.proofs.Tests.{both, and-both, to-false, on-thread}
 use Rattle.bd_laws.proofs.IsInTurn.Ripening.{taken-in, read-in}
 use Rattle.bd_laws.proofs.Always.{tidy-after}
 use Rattle.bd_audit.specs.Replies.{thread_made, items_taken, reply_taken, reply_taken_at, Answered, At}
@@ -57,10 +57,7 @@ module _ (s : Space) (e : Entry) (v : Work) (here : In v s.todo) (on : v.list �
   own-taken x l =
       let r = reading s e.seat e.step x l in
       let i = in-filter (is_on (OfThread e.seat)) x s.todo (taken-in s (filter (is_on (OfThread e.seat)) s.todo) (r.limit - 4) x (subst (In x) (own-items r) l)) in
-      (i.0, listed-on x.list i.1)
-    where
-      listed-on : (list : TodoList) → same_list (OfThread e.seat) list ≡ true → list ≡ OfThread e.seat
-      listed-on list q = search (arith, eqb-true)
+      (i.0, on-thread e.seat x.list i.1)
 
 -- ---- a reply that is taken is the first
 

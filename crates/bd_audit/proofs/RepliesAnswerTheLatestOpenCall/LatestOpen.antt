@@ -7,11 +7,11 @@ use Rattle.bd_uapi.specs.declared.command.Command.TheVariants as bc
 use Rattle.bd_space.specs.declared.space.WorkKind.TheVariants as work
 use Rattle.bd_links.specs.TodoList.{reply_of}
 use Rattle.bd_laws.specs.Lists.{In}
-use Rattle.bd_laws.proofs.Lists.{any-in, any-found, all-in}
-use Rattle.bd_laws.proofs.Tests.{and-both}
+use Rattle.bd_laws.proofs.Lists.{any-in, any-found, all-in, in-all}
+use Rattle.bd_laws.proofs.Tests.{and-both, some-eq, eq-some, bound-if, if-bound}
 use Rattle.bd_laws.proofs.Checks.{reply-checked, transaction-may_call}
 use Rattle.bd_laws.proofs.OnPaths.PathWords.{served-is}
-use Rattle.bd_laws.proofs.OnPaths.Innermost.{innermost-is, innermost-childless, calls-true, true-calls, all-true}
+use Rattle.bd_laws.proofs.OnPaths.Innermost.{innermost-is, innermost-childless, calls-true}
 use Rattle.bd_laws.proofs.Always.{always-on_paths}
 use Rattle.bd_audit.specs.Replies.{thread_made, frame_of, reply_taken_at, Calls, AnswersCall, At, Answered}
 use Rattle.bd_audit.specs.Latest.{IsLatest}
@@ -102,14 +102,11 @@ latest-open es w c m n called k =
         lives = subst (λ x. thread_made s caller.0 ≡ Some x) (one-caller es c traced.0 m before called) traced.1;
         stands = any-in (λ (g : Frame). is_frame c g && calls caller.0 g) f s.frames here (and-both (is_frame c f) (calls caller.0 f) (eq-eqb f.made c made) (calls-true caller.0 f caller.1));
         latest = all-in (λ (g : Frame). not (calls caller.0 g) || nat_le g.made c) s.frames (λ g l.
-            not-later (calls caller.0 g) g.made (λ yes.
-            subst (λ x. g.made ≤ x) made (paths.1.leaf f g here l (paths.1.shared caller.0 f g here l (inl caller.1) (inl (true-calls caller.0 g.caller yes))) none)));
+            bound-if (calls caller.0 g) g.made c (λ yes.
+            subst (λ x. g.made ≤ x) made (paths.1.leaf f g here l (paths.1.shared caller.0 f g here l (inl caller.1) (inl (some-eq caller.0 g.caller yes))) none)));
       },
     )
   where
-    not-later : (p : Bool) (x : ℕ) → (p ≡ true → x ≤ c) → (not p || nat_le x c) ≡ true
-    not-later p x h = search (arith, le-leb)
-
     called-later : (k : At es w (λ z e. AnswersCall z e c n)) (x : ℕ) → Called k.0 c x → Called es c x
     called-later k x h = subst (λ y. Called y c x) (sym k.2.all) (at-more k.0 (k.1 ∷ k.2.rest) c (λ z e. Calls z e x) h)
 
@@ -119,16 +116,10 @@ latest-open es w c m n called k =
 find-reply : (todo : List Work) (b : ℕ) → ((v : Work) × In v todo × (reply_of v.kind ≡ Some b)) ⊎ ((v : Work) → In v todo → reply_of v.kind ≡ Some b → ⊥)
 find-reply todo b = at (list_any (λ (v : Work). is_some_and (reply_of v.kind) (λ c. c == b)) todo) refl
   where
-    named : (o : Option ℕ) → is_some_and o (λ c. c == b) ≡ true → o ≡ Some b
-    named o h = search (arith, eqb-true)
-
-    names : (o : Option ℕ) → o ≡ Some b → is_some_and o (λ c. c == b) ≡ true
-    names o h = search (arith, eq-eqb)
-
     at : (q : Bool) → list_any (λ (v : Work). is_some_and (reply_of v.kind) (λ c. c == b)) todo ≡ q
         → ((v : Work) × In v todo × (reply_of v.kind ≡ Some b)) ⊎ ((v : Work) → In v todo → reply_of v.kind ≡ Some b → ⊥)
-    at true q = let v = any-found (λ (v : Work). is_some_and (reply_of v.kind) (λ c. c == b)) todo q in inl (v.0, v.1, named (reply_of v.0.kind) v.2)
-    at false q = inr (λ v l e. let yes = any-in (λ (v : Work). is_some_and (reply_of v.kind) (λ c. c == b)) v todo l (names (reply_of v.kind) e) in absurd (cc))
+    at true q = let v = any-found (λ (v : Work). is_some_and (reply_of v.kind) (λ c. c == b)) todo q in inl (v.0, v.1, some-eq b (reply_of v.0.kind) v.2)
+    at false q = inr (λ v l e. let yes = any-in (λ (v : Work). is_some_and (reply_of v.kind) (λ c. c == b)) v todo l (eq-some b (reply_of v.kind) e) in absurd (cc))
 
 module _ (h : History) (s w : ℕ) (taken : reply_taken_at h s ≡ Some w) where
   pub answer : Answered h s w
@@ -178,9 +169,6 @@ module _ (h : History) (s w : ℕ) (taken : reply_taken_at h s ≡ Some w) where
     ]
   ]
     where
-      not-later : (p : Bool) (x c : ℕ) → p ≡ true → (not p || nat_le x c) ≡ true → x ≤ c
-      not-later p x c e q = search (arith, leb-true)
-
       then_closed : j < w → At h.entries w (λ z e. list_any (is_frame j) z.frames ≡ false)
       then_closed lt =
           let o = latest-open h.entries w answer.call answer.caller answer.server answer.called answer.replied in
@@ -191,7 +179,7 @@ module _ (h : History) (s w : ℕ) (taken : reply_taken_at h s ≡ Some w) where
             o.2,
             absent j frames (λ g l is.
                 let caller = always-callers o.0 g answer.caller o.3.seat l (subst (λ c. Called o.0 c answer.caller) (sym is) past) o.3.lives in
-                let all = all-true (λ (x : Frame). not (calls o.3.seat x) || nat_le x.made answer.call) frames o.3.latest g l in
-                let le = not-later (calls o.3.seat g) g.made answer.call (calls-true o.3.seat g caller) all in
+                let all = in-all (λ (x : Frame). not (calls o.3.seat x) || nat_le x.made answer.call) frames o.3.latest g l in
+                let le = if-bound (calls o.3.seat g) g.made answer.call all (calls-true o.3.seat g caller) in
                 absurd (omega arith)),
           )

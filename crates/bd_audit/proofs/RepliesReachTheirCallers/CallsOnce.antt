@@ -23,7 +23,7 @@ use Rattle.bd_audit.proofs.TurnsAreTaken.CallItems.{step-treats}
 use Rattle.bd_audit.proofs.TurnsAreTaken.CallItemsKept.{fresh-once}
 use Rattle.bd_audit.proofs.TurnsTellOfCalls.CallsOut.{items-due}
 use Rattle.bd_audit.proofs.TurnsTellOfCalls.TurnsTelling.{handed-later}
-use Rattle.bd_audit.proofs.RepliesReachTheirCallers.Places.{later-place, either-way}
+use Rattle.bd_audit.proofs.RepliesReachTheirCallers.Places.{later-place}
 use Rattle.bd_audit.proofs.RepliesReachTheirCallers.Readings.{reading}
 use Rattle.bd_space.specs.declared.space.WorkKind.TheVariants as work
 use Rattle.bd_laws.proofs.Machine.Untouched as untouched
@@ -185,4 +185,4 @@ module _ (es : List Entry) (c n : ℕ) (call : At es c (λ z e. Calls z e n)) wh
       spent.none w.0 (items-due (after opening k.0) k.1.seat k.1.step w.0 w.1, w.2)
 
   pub handed-once : (p q : ℕ) → At es p (HandsOutCall c) → At es q (HandsOutCall c) → p ≡ q
-  handed-once p q h k = either-way p q (not-again p q h k) (not-again q p k h)
+  handed-once p q h k = omega (arith, not-again p q h k, not-again q p k h)

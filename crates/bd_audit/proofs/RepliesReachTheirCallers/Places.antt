@@ -49,6 +49,3 @@ module _ (P : Space → Type 0) (c : ℕ) (k : (s : Space) (e : Entry) → IsTid
       let n = next-place es i j before then e f at next-at lt in
       subst P (sym (later-space es i j before then e f at next-at lt))
       (later (mid es i j before then e f at next-at lt).0 (next (after opening before) e) (step-tidy (after opening before) e (tidy-after before)) (omega arith) h)
-
-pub either-way : (m n : ℕ) → (m < n → ⊥) → (n < m → ⊥) → m ≡ n
-either-way m n h k = omega (arith, h, k)

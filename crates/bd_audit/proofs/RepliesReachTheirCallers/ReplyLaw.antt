@@ -9,7 +9,7 @@ use Rattle.bd_laws.proofs.Lists.{find-in, any-in}
 use Rattle.bd_audit.specs.Gifts.{Stands}
 use Rattle.bd_audit.specs.Replies.{thread_made, reply_taken, reply_taken_at, frame_of, call_closed_at, call_answered, HandsOutCall, AnswersCall, At, Answered}
 use Rattle.bd_audit.proofs.TurnsTellOfCalls.TurnsTelling.{handed-later}
-use Rattle.bd_audit.proofs.RepliesReachTheirCallers.Places.{later-place, either-way}
+use Rattle.bd_audit.proofs.RepliesReachTheirCallers.Places.{later-place}
 use Rattle.bd_audit.proofs.RepliesReachTheirCallers.CallsOnce.{handed-once}
 use Rattle.bd_audit.proofs.RepliesReachTheirCallers.RepliesDue.{IsOwed, always-owed, step-from}
 pub use Rattle.bd_audit.proofs.RepliesReachTheirCallers.RepliesDue.{next-steps}
@@ -174,8 +174,8 @@ reaches h s w e =
           let same_call : c.call ≡ a.call = (let x = closes-call h b.0 c.call c.server c.replied in let y = b.2 in let j : Some c.call ≡ Some a.call = sym x ∙ y in cc) in
           let first : Closes h.entries w a.call = (a.server, a.replied) in
           let other : Closes h.entries b.0 a.call = subst (Closes h.entries b.0) same_call (c.server, c.replied) in
-          let same_reply : b.0 ≡ w = either-way b.0 w (closed-once h.entries a.call b.0 w other first) (closed-once h.entries a.call w b.0 first other) in
+          let same_reply : b.0 ≡ w = omega (arith, closed-once h.entries a.call b.0 w other first, closed-once h.entries a.call w b.0 first other) in
           let reads : Reads h.entries r w = subst (Reads h.entries r) same_reply l.reads in
           let below : w < r = subst (λ n. n < r) same_reply l.reply_next in
-          either-way r s (taken-once h.entries w r s reads k.reads below) (taken-once h.entries w s r k.reads reads k.reply_next);
+          omega (arith, taken-once h.entries w r s reads k.reads below, taken-once h.entries w s r k.reads reads k.reply_next);
     }

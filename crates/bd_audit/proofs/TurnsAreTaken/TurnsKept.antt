@@ -5,7 +5,7 @@ use Rattle.bd_laws.proofs.words.Types.{ObjectId, Buffer}
 use Rattle.bd_laws.proofs.words.Space.{same, when, is_some_and, Space, is_made_at, counted}
 use Rattle.bd_laws.proofs.words.Laws.{In, Pairs, Due, Rivals, Waits, On, Before}
 use Rattle.bd_laws.proofs.Lists.{in-append, in-map, in-filter_map, pairs-either}
-use Rattle.bd_laws.proofs.Tests.{both, same-eq, eq-same, not-true}
+use Rattle.bd_laws.proofs.Tests.{both, same-eq, eq-same, not-true, not-false-true}
 use Rattle.bd_laws.proofs.IsInTurn.InTurn.{Turning}
 use Rattle.bd_laws.proofs.IsInTurn.Passing.{on-turn}
 use Rattle.bd_laws.proofs.IsInTurn.Passed.{Became, Passed}
@@ -22,7 +22,7 @@ module _ (s z : Space) (h : Before s) (turns : Turning z) (p : Passed s z) (o : 
     live-after t i e =
         let k = noted-none t.ended s.steps (not (is_live z.buffers t.made)) e in
         let b = log.live t i k.0 in
-        let c = live-found z.buffers t.made (unnot (is_live z.buffers t.made) k.1) in
+        let c = live-found z.buffers t.made (not-false-true (is_live z.buffers t.made) k.1) in
         let became = (stays-open s z h turns p o) b.0 c.0 b.1.here c.1 (c.2 ∙ sym b.1.made) in (
           c.0,
           record {
@@ -33,9 +33,6 @@ module _ (s z : Space) (h : Before s) (turns : Turning z) (p : Passed s z) (o : 
           },
         )
       where
-        unnot : (b : Bool) → not b ≡ false → b ≡ true
-        unnot b e = search arith
-
         handed-stays : (b c : Buffer) → Became s b c → b.handed ≡ true → c.handed ≡ true
         handed-stays b c k e = elim k.handed [ inl f ↦ f ∙ e | inr f ↦ f.0 ]
 

@@ -16,6 +16,7 @@ use Rattle.bd_audit.specs.Replies.{items_taken, items_read, items_unless}
 use Rattle.bd_audit.specs.TurnCalls.{CallsOneWay}
 use Rattle.bd_laws.proofs.Machine.Settled.{settle-keeps}
 use Rattle.bd_laws.proofs.Machine.Untouched
+use Rattle.bd_laws.proofs.Tests.{is_some-ok}
 use Rattle.bd_audit.proofs.TurnsAreTaken.Logged.{handed-in}
 
 -- ---- what a reading takes was due
@@ -65,10 +66,6 @@ hands-none (work.Call b) h = absurd (cc)
 hands-none (work.Reply b) h = absurd (cc)
 hands-none _ h = refl
 
-there : {A : Type 0} (o : Option A) → is_some o ≡ true → (x : A) × (o ≡ Some x)
-there None h = absurd (cc)
-there (Some x) h = (x, refl)
-
 -- nothing is taken after what hands over, so that a call among the items taken is the first that does
 module _ (s : Space) (m : ℕ) where
   abbrev has_call : List Work → Bool
@@ -88,7 +85,7 @@ module _ (s : Space) (m : ℕ) where
   module _ (b : Buffer) (here : In b s.buffers) (made : b.made ≡ m) where
     buffer-found : (y : Buffer) × (buffer_in s.buffers m ≡ Some y) × (y.made ≡ m)
     buffer-found =
-        let y = there (buffer_in s.buffers m) (find-some (is_made_at m) b s.buffers here (eq-eqb b.made m made)) in
+        let y = is_some-ok (buffer_in s.buffers m) (find-some (is_made_at m) b s.buffers here (eq-eqb b.made m made)) in
         (y.0, y.1, eqb-true y.0.made m (find-in (is_made_at m) y.0 s.buffers y.1).1)
 
     taken-buffer : (ws : List Work) → first_handed ws ≡ Some m → (y : Buffer) × (buffer_taken s ws ≡ Some y) × (y.made ≡ m)

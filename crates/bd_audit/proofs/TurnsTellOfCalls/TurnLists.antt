@@ -7,7 +7,7 @@ use Rattle.bd_laws.proofs.words.Laws.{In, Pairs, Waits}
 use Rattle.bd_space.proofs.Ranges.{any-some}
 use Rattle.bd_laws.proofs.Lists.{pairs-map, any-found}
 use Rattle.bd_laws.proofs.Tests.{both, not-eq}
-use Rattle.bd_laws.proofs.IsInTurn.InTurn.{always-in_turn}
+use Rattle.bd_laws.proofs.Always.{always-tidy}
 use Rattle.bd_audit.specs.declared.turns.Turn.{Turn}
 use Rattle.bd_audit.specs.Replays.{with_entry}
 use Rattle.bd_audit.specs.TurnSearch.{is_call_on, is_live, is_handed, turn_made, next_turns, turns_from, turns_on}
@@ -43,7 +43,7 @@ made-find o [] made h = refl
 made-find o (b ∷ bs) made h = search (arith, made-find o bs made h.1, later-none, eqb-true)
 
 rising : (h : History) → Pairs Rising (space_after h).buffers
-rising h = pairs-map (Waits (space_after h).todo) Rising (space_after h).buffers (λ b c i j w. w.earlier) (always-in_turn h).waits
+rising h = pairs-map (Waits (space_after h).todo) Rising (space_after h).buffers (λ b c i j w. w.earlier) (always-tidy h).before.turns.waits
 
 -- ---- as an engine's reading call finds the buffer
 

@@ -26,6 +26,7 @@ use Rattle.bd_audit.proofs.TurnsAreTaken.CallItems.{step-treats}
 use Rattle.bd_audit.proofs.TurnsAreTaken.CallItemsKept.{DueOnce, fresh-once, Treats}
 use Rattle.bd_audit.proofs.TurnsTellOfCalls.CallsOut.{items-due, hands-out, call-makes}
 use Rattle.bd_laws.proofs.Machine.Fields.{counted-buffers}
+use Rattle.bd_laws.proofs.Always.{tidy-after}
 
 -- ---- places
 
@@ -57,15 +58,12 @@ slice-in [] i t h = absurd (cc)
 slice-in (x ∷ ts) zero t h = inl (cc)
 slice-in (x ∷ ts) (suc i) t h = inr (slice-in ts i t h)
 
-pub before-all : (es : List Entry) → Before (after opening es)
-before-all es = every_list Before step-before es opening opening-before
-
 -- a call is handed out later than it was made
 pub handed-later : (es : List Entry) (p c : ℕ) → At es p (HandsOutCall c) → c < p
 handed-later es p c h =
     let s = after opening h.0 in
     let w = any-found (λ (w : Work). is_call c w.kind) (items_taken s h.1.seat h.1.step) h.3 in
-    let lt = (before-all h.0).turns.fresh c (w.0, items-due s h.1.seat h.1.step w.0 w.1, is_call-hands c w.0.kind w.2) in
+    let lt = (tidy-after h.0).before.turns.fresh c (w.0, items-due s h.1.seat h.1.step w.0 w.1, is_call-hands c w.0.kind w.2) in
     let steps = always-steps h.0 in
     let at = h.2.at in omega arith
 
@@ -73,7 +71,7 @@ handed-later es p c h =
 ends-later : (es : List Entry) (p c : ℕ) → At es p (EndsBuffer c) → c < p
 ends-later es p c h =
     let b = live-found (after opening h.0).buffers c h.3.0 in
-    let lt = (before-all h.0).turns.below b.0 b.1 in
+    let lt = (tidy-after h.0).before.turns.below b.0 b.1 in
     let is = b.2 in
     let steps = always-steps h.0 in
     let at = h.2.at in omega arith
@@ -108,7 +106,7 @@ module _ (o : ObjectId) (es : List Entry) (e : Entry) (ts : List Turn) (k : Tell
   turns_after = next_turns o s.steps z.buffers ts
 
   pub before : Before s
-  before = before-all es
+  before = (tidy-after es).before
 
   passing : Passing s z
   passing = step-passes s e before.turns before.received.lists

@@ -1,5 +1,5 @@
 -- For SpacesAreTidy: no thread is to read a call of its own.
-use Rattle.bd_laws.proofs.words.Logic.{◌≡◌, ℕ, ◌<◌, ◌==◌, Bool, true, false, cond, ◌&&◌, Option, Some, None, Ok, inl, inr, refl, ap, sym, subst, ◌∙◌, arith, eqb-true, eq-eqb}
+use Rattle.bd_laws.proofs.words.Logic.{◌≡◌, ℕ, ◌<◌, ◌==◌, Bool, true, false, cond, ◌&&◌, Option, Some, None, Ok, inl, inr, refl, ap, sym, subst, ◌∙◌, arith, eqb-true, eq-eqb, cond_some}
 use Rattle.bd_laws.proofs.words.Types.{TransactionData, ObjectId, Parcel, Entry, Process, Thread, Object, Frame, Actor, Work, OfThread, OfProcess}
 use Rattle.bd_laws.proofs.words.Space.{same, Space, opening, actor, owned_in, assign_numbers, strongly_named, closed, goes_to, owe, hands_out, ripen, Delivery, delivered, own_notices, add_buffer, known_by, refer, make_objects, transaction_check, transacted, called, call_out, target_of, handle_of, replied, counted, next, is_spam}
 use Rattle.bd_space.specs.declared.space.WorkKind.TheVariants as work
@@ -7,7 +7,6 @@ use Rattle.bd_laws.proofs.words.Laws.{In, IsInTurn, AtHome, OfOthers}
 use Rattle.bd_laws.proofs.Lists.{in-push, find-in, any-in}
 use Rattle.bd_laws.proofs.Tests.{and-both, not-true, eq-same, and_then-ok, found-ok, unless-ok, when-none}
 use Rattle.bd_laws.proofs.Checks.{actor-lives, transaction-checked}
-use Rattle.bd_laws.proofs.IsInTurn.OneWay as one_way
 use Rattle.bd_laws.proofs.Machine.EveryStep.{every_step}
 use Rattle.bd_laws.proofs.Machine.Adding.{told-keeps, ripen-keeps}
 use Rattle.bd_laws.proofs.AtHome.Later.{later-others, closed-later, read-later, later-keeps}
@@ -27,12 +26,9 @@ ripen-o z h = fewer (ripen z) z refl (λ w b t l e on. ripen-keeps (λ td. (w : 
 
 -- ---- whom a call goes to doesn't belong to its caller
 
-cond-some : (b : Bool) (x o : ObjectId) → cond b (Some x) None ≡ Some o → (b ≡ true) × (x ≡ o)
-cond-some b x o e = search arith
-
 unowned-target : (s : Space) (p n : ℕ) (o : ObjectId) → target_of s p n ≡ Ok o → owned_in s.objects p o ≡ false
 unfolding target_of strongly_named
-unowned-target s p n o h = search (arith, and_then-ok, unless-ok, when-none, found-ok, cond-some, not-true)
+unowned-target s p n o h = search (arith, and_then-ok, unless-ok, when-none, found-ok, cond_some, not-true)
 
 -- ---- a call
 

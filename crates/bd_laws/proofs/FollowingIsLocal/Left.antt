@@ -1,16 +1,14 @@
 -- For FollowingIsLocal where a thread or a process ends, and for ItemsAreToldApart: which frames lose their servers, which
 -- items and references go.
-use Rattle.bd_laws.proofs.words.Logic.{arith, ◌≡◌, ℕ, ◌==◌, Bool, true, false, not, ◌&&◌, ◌||◌, List, ◌⊎◌, inl, inr, ap, subst, ◌∙◌, map, list_any, eqb-true, eq-eqb}
+use Rattle.bd_laws.proofs.words.Logic.{arith, ◌≡◌, ℕ, ◌==◌, Bool, true, false, not, ◌&&◌, List, ◌⊎◌, inl, inr, ap, subst, ◌∙◌, map, list_any, eqb-true, eq-eqb}
 use Rattle.bd_laws.proofs.words.Types.{Reference, Frame, Server, Work, TodoList, OfThread}
 use Rattle.bd_laws.proofs.words.Space.{is_some_and, Space, is_gone, is_child_of, is_on, same_list, is_abandoned, thread_goes, is_lost_reference, is_unread_on, unread_server, is_left_frame, left_frames, seats_in, lists_in, lost_with_process, threads_go, is_dropped_with}
 use Rattle.bd_laws.proofs.words.Laws.{In, IsSettled}
 use Rattle.bd_laws.proofs.Lists.{in-filter, filter-in, in-map, map-in, any-found, any-in, fold-keeps}
+pub use Rattle.bd_laws.proofs.Tests.{on-thread}
 use Rattle.bd_laws.proofs.Tests.{and-both, not-false, to-false, or-left, or-right}
 use Rattle.bd_laws.proofs.Sending.{none-found}
 use Rattle.bd_laws.proofs.FollowingIsLocal.Closings.{Covered}
-
-pub on-thread : (seat : ℕ) (list : TodoList) → same_list (OfThread seat) list ≡ true → list ≡ OfThread seat
-on-thread seat list e = search (arith, eqb-true)
 
 -- ---- frames whose server goes
 

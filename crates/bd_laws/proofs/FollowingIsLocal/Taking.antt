@@ -1,7 +1,7 @@
 -- For FollowingIsLocal, with lemmas for NothingIsPending: of a reading, only objects whose Notices it takes need a look.
-use Rattle.bd_laws.proofs.words.Logic.{arith, ◌≡◌, ℕ, ◌==◌, Bool, true, false, cond, not, ◌&&◌, ◌||◌, List, [], ◌∷◌, ◌++◌, refl, ap, sym, subst, ◌∙◌, find, list_any, list_any-append, option_map}
+use Rattle.bd_laws.proofs.words.Logic.{arith, ◌≡◌, ℕ, ◌==◌, true, false, not, ◌&&◌, ◌||◌, List, ◌++◌, refl, ap, sym, subst, ◌∙◌, list_any, list_any-append}
 use Rattle.bd_laws.proofs.words.Types.{ObjectId, Thread, Object, Reference, DeathNotification, Work, WorkKind, Told}
-use Rattle.bd_laws.proofs.words.Space.{same, is_some_and, changed, Space, lives_in, object_in, held_in, strong_in, is_item, is_notice, notice_of, list_to_read, without_taken, wants_notice, follow, read_by, taken, handshakes, is_told_by, told_objects, is_told_of_death, ObjectTest, no_name, follow_of}
+use Rattle.bd_laws.proofs.words.Space.{same, is_some_and, Space, lives_in, object_in, held_in, strong_in, is_item, is_notice, notice_of, list_to_read, without_taken, wants_notice, follow, read_by, taken, handshakes, is_told_by, told_objects, is_told_of_death, ObjectTest, no_name, follow_of}
 use Rattle.bd_laws.proofs.words.Laws.{In, Elsewhere, IsQuiet, Distinct}
 use Rattle.bd_laws.proofs.Lists.{in-filter, in-changed, any-changed, find-changed, any-found, any-in, find-in}
 use Rattle.bd_laws.proofs.Tests.{and-both, same-eq, eq-same, notice-kind, to-false}

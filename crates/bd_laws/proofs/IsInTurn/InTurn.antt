@@ -34,10 +34,6 @@ step-in_turn s e h = every_step s e.seat e.step Turning Turning (kept s e.seat e
 pub opening-in_turn : IsInTurn opening
 opening-in_turn = record { below = λ b l. absurd l; fresh = λ m d. absurd d.1; waits = tt }
 
-pub always-in_turn : (h : History) → IsInTurn (space_after h)
-unfolding space_after
-always-in_turn h = every_list IsInTurn step-in_turn h.entries opening opening-in_turn
-
 -- ---- one of an object's calls is out
 
 pub at_most_one : {A : Type 0} (xs : List A) → Pairs (λ x y. ⊥) xs → length xs ≤ 1

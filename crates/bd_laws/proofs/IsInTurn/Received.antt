@@ -99,7 +99,3 @@ step-before s e h = record {
 
 pub opening-before : Before opening
 opening-before = search (arith, opening-in_turn, opening-kept)
-
-pub always-before : (h : History) → Before (space_after h)
-unfolding space_after
-always-before h = every_list Before step-before h.entries opening opening-before

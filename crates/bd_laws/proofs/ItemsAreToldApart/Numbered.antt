@@ -1,6 +1,6 @@
 -- For ItemsAreToldApart, which SpacesAreTidy has as a part: work items that a step makes are numbered in their order, so
 -- their identities differ: part by part.
-use Rattle.bd_laws.proofs.words.Logic.{find, filter, ◌≡◌, ℕ, ◌+◌, Bool, true, false, List, [], ◌∷◌, ◌++◌, Option, Some, inl, inr, refl, ap, sym, subst, ◌∙◌, arith, eq-eqb}
+use Rattle.bd_laws.proofs.words.Logic.{find, filter, ◌≡◌, ℕ, Bool, true, false, List, [], ◌∷◌, ◌++◌, Option, Some, inl, inr, refl, ap, sym, subst, ◌∙◌, arith, eq-eqb}
 use Rattle.bd_laws.proofs.words.Types.{Step, TransactionData, ObjectId, Object, Reference, Frame, Actor, Work, DeathNotification, WorkKind, TodoList, OfThread, OfProcess, Queued}
 use Rattle.bd_laws.proofs.words.Space.{same, is_some_and, Space, object_in, stays_in, objects_go, names_go, assign_numbers, closed, goes_to, with_work, owe, ripen, wants_notice, still_due, deaths_go, work_goes, notify, follow, Delivery, delivered, own_notices, add_buffer, known_by, refer, make_objects, buffer_references, transacted, called, call_out, replied, request_check, requested, with_death, without_death, with_phase, owner_lives_in, mark_cleared, death_ended, cleared, death_done, is_out, read_by, thread_goes, threads_go, without_process, tell_deaths, buffer_of, without_buffer, ask, drop_asked, acknowledge, with_looping}
 use Rattle.bd_space.specs.declared.space.WorkKind.TheVariants as work

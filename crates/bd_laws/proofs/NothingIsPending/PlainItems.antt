@@ -1,7 +1,7 @@
 -- For Noticing, and for what SpacesAreTidy knows of death notifications: what is said of work items and notifications, where
 -- any may go, plain items come and a missing Notice. Each part of a step keeps it that neither reads nor changes
 -- notifications.
-use Rattle.bd_laws.proofs.words.Logic.{arith, ◌≡◌, ℕ, ◌-◌, Bool, false, List, None, refl, filter}
+use Rattle.bd_laws.proofs.words.Logic.{arith, ◌≡◌, ℕ, Bool, false, List, None, refl, filter}
 use Rattle.bd_laws.proofs.words.Types.{TransactionData, Step, Actor, Object, DeathNotification, Work, WorkKind, TodoList, OfThread, OfProcess}
 use Rattle.bd_laws.proofs.words.Space.{Space, objects_go, names_go, assign_numbers, closed, with_work, owe, notice_of, death_of, list_to_read, ripen, has_notice_in, deaths_go, work_goes, notify, follow, Delivery, delivered, own_notices, add_buffer, known_by, refer, make_objects, buffer_of, transacted, call_out, replied, without_buffer, ask, drop_asked, acknowledge, with_looping, read_by, taken, thread_goes, threads_go, without_process, tell_deaths}
 use Rattle.bd_space.specs.declared.space.WorkKind.TheVariants as work

@@ -4,8 +4,8 @@ use Rattle.bd_laws.proofs.words.Logic.{◌≡◌, ℕ, ◌<◌, ◌≤◌, ◌==
 use Rattle.bd_laws.proofs.words.Types.{Frame, Serving}
 use Rattle.bd_laws.proofs.words.Space.{ancestry, depth_in, takes_part, calls, is_deepest_in, innermost_in, is_some_and}
 use Rattle.bd_laws.proofs.words.Laws.{In, Pairs, Older, NoChild, Part, Nested, Parent}
-use Rattle.bd_laws.proofs.Lists.{in-push, in-right, in-left, find-in, find-some, all-in, pairs-push, in-filter, filter-in}
-use Rattle.bd_laws.proofs.Tests.{both, or-left, or-right, not-eq as differ}
+use Rattle.bd_laws.proofs.Lists.{in-push, in-right, in-left, find-in, find-some, all-in, pairs-push, in-filter, filter-in, in-all}
+use Rattle.bd_laws.proofs.Tests.{both, or-left, or-right, not-eq as differ, some-eq, eq-some, bound-if, if-bound}
 use Rattle.bd_laws.proofs.OnPaths.Forests.{one-frame}
 use Rattle.bd_laws.proofs.OnPaths.PathWords.{is-serving as true-serving}
 
@@ -46,24 +46,16 @@ child-depth (x ∷ xs) h f g (inr l) (inr m) lt e =
 
 -- ---- taking part
 
-pub true-calls : (t : ℕ) (c : Option ℕ) → is_some_and c (λ u. u == t) ≡ true → c ≡ Some t
-true-calls t c e = search (arith, eqb-true)
-
 pub calls-true : (t : ℕ) (f : Frame) → f.caller ≡ Some t → calls t f ≡ true
-calls-true t f e = ap (λ c. is_some_and c (λ u. u == t)) e ∙ eq-eqb t t refl
+calls-true t f = eq-some t f.caller
 
 pub part-true : (t : ℕ) (f : Frame) → Part t f → takes_part t f ≡ true
 part-true t f h = search (arith, or-left, calls-true, or-right, eq-eqb)
 
 pub true-part : (t : ℕ) (f : Frame) → takes_part t f ≡ true → Part t f
-true-part t f h = search (arith, true-calls, true-serving)
+true-part t f h = search (arith, some-eq, true-serving)
 
 -- ---- the deepest
-
-pub all-true : (p : Frame → Bool) (xs : List Frame) → list_all p xs ≡ true → (x : Frame) → In x xs → p x ≡ true
-all-true p [] h x l = absurd l
-all-true p (y ∷ ys) h x (inl is) = ap p (sym is) ∙ (both (p y) (list_all p ys) h).0
-all-true p (y ∷ ys) h x (inr l) = all-true p ys (both (p y) (list_all p ys) h).1 x l
 
 -- some frame is the greatest
 greatest : (d : Frame → ℕ) (xs : List Frame) (f : Frame) → In f xs → (x : Frame) × In x xs × ((y : Frame) → In y xs → d y ≤ d x)
@@ -82,14 +74,11 @@ none-innermost fs t h f l p =
     let k = greatest (depth_in fs) (filter (takes_part t) fs) f (filter-in (takes_part t) f fs l (part-true t f p)) in
     let here = in-filter (takes_part t) k.0 fs k.1 in
     let all = all-in (λ (g : Frame). not (takes_part t g) || nat_le (depth_in fs g) (depth_in fs k.0)) fs
-    (λ g i. deeper (takes_part t g) (depth_in fs g) (depth_in fs k.0) (λ q. k.2 g (filter-in (takes_part t) g fs i q))) in
+    (λ g i. bound-if (takes_part t g) (depth_in fs g) (depth_in fs k.0) (λ q. k.2 g (filter-in (takes_part t) g fs i q))) in
     let deepest : is_deepest_in fs t k.0 ≡ true = rw (here.1, all) refl in
     let some = find-some (is_deepest_in fs t) k.0 fs here.0 deepest in
     let wrong : is_some (innermost_in fs t) ≡ false = ap is_some h in
     absurd (cc)
-  where
-    deeper : (a : Bool) (n m : ℕ) → (a ≡ true → n ≤ m) → (not a || nat_le n m) ≡ true
-    deeper a n m k = search (arith, le-leb)
 
 -- where the innermost frame stands, and the depth of the others
 pub innermost-is : (fs : List Frame) (t : ℕ) (f : Frame) → innermost_in fs t ≡ Some f
@@ -100,11 +89,8 @@ innermost-is fs t f h =
       k.0,
       true-part t f b.0,
       λ g l p.
-          below (takes_part t g) (depth_in fs g) (depth_in fs f) (part-true t g p) (all-true (λ g. not (takes_part t g) || nat_le (depth_in fs g) (depth_in fs f)) fs b.1 g l),
+          if-bound (takes_part t g) (depth_in fs g) (depth_in fs f) (in-all (λ g. not (takes_part t g) || nat_le (depth_in fs g) (depth_in fs f)) fs b.1 g l) (part-true t g p),
     )
-  where
-    below : (a : Bool) (n m : ℕ) → a ≡ true → (not a || nat_le n m) ≡ true → n ≤ m
-    below a n m e k = search (arith, leb-true)
 
 -- ---- over frames on paths
 

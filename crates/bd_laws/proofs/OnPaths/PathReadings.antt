@@ -5,12 +5,13 @@ use Rattle.bd_laws.proofs.words.Space.{changed, Space, innermost_in, with_work, 
 use Rattle.bd_space.specs.declared.space.WorkKind.TheVariants as work
 use Rattle.bd_laws.proofs.words.Laws.{In, Forest, Part, Nested, OnPaths}
 use Rattle.bd_laws.proofs.Lists.{in-filter, in-changed, in-filter_map, any-found, any-in}
-use Rattle.bd_laws.proofs.Tests.{not-true, call-kind}
+use Rattle.bd_laws.proofs.Tests.{not-true, call-kind, on-thread}
 use Rattle.bd_laws.proofs.IsInTurn.Ripening.{read-in, taken-in, turn-parts}
 use Rattle.bd_laws.proofs.OnPaths.PathWords.{same-item}
 use Rattle.bd_laws.proofs.OnPaths.Forests.{Kept, forest-work}
 use Rattle.bd_laws.proofs.OnPaths.FrameChanges.{Changes, forest-changed}
 use Rattle.bd_laws.proofs.OnPaths.Innermost.{none-innermost}
+use Rattle.bd_laws.proofs.Machine.Fields.{serve-made}
 
 -- ---- one-way calls become due
 
@@ -78,14 +79,11 @@ module _ (n : ℕ) (s : Space) (h : OnPaths n s) (t : Thread) (left : ℕ) where
   unfolding Source list_to_read
   source = at (has_work_in s.todo (OfThread t.seat)) t.looping (innermost_in s.frames t.seat) refl refl
     where
-      own : (l : TodoList) → same_list (OfThread t.seat) l ≡ true → l ≡ OfThread t.seat
-      own l e = search (arith, eqb-true)
-
       at : (b c : Bool) (o : Option Frame) → innermost_in s.frames t.seat ≡ o
           → list_to_read s t ≡ work_on s.todo (cond b (Some (OfThread t.seat)) (cond (c && is_none o) (Some (OfProcess t.process)) None))
           → ((w : Work) → In w ws → w.list ≡ OfThread t.seat) ⊎ (innermost_in s.frames t.seat ≡ None)
       at true c o e k =
-          inl (λ w l. own w.list (in-filter (is_on (OfThread t.seat)) w s.todo (subst (In w) k (taken-in s (list_to_read s t) left w l))).1)
+          inl (λ w l. on-thread t.seat w.list (in-filter (is_on (OfThread t.seat)) w s.todo (subst (In w) k (taken-in s (list_to_read s t) left w l))).1)
       at false c None e k = inr e
       at false true (Some f) e k = inl (λ w l. absurd (subst (In w) k (taken-in s (list_to_read s t) left w l)))
       at false false (Some f) e k = inl (λ w l. absurd (subst (In w) k (taken-in s (list_to_read s t) left w l)))
@@ -117,7 +115,7 @@ module _ (n : ℕ) (s : Space) (h : OnPaths n s) (t : Thread) (left : ℕ) where
 
   reading-changes : (ud : List Work) → ((w : Work) → In w ud → In w s.todo × ((v : Work) → In v ws → w ≡ v → ⊥)) → Changes h.0 s.frames ud now
   reading-changes ud left_over = record {
-    made = λ f. at (called-in f) f;
+    made = λ f. serve-made t.seat (called-in f) f;
     parent = λ f. on (called-in f) f;
     nested = λ f g l m e k. elim (served-or-not f) [
       | inl served ↦ (let w = item f served in absurd (h.1.childless w.0 f (read-in s t left w.0 w.1) w.2 l g m e))
@@ -137,9 +135,6 @@ module _ (n : ℕ) (s : Space) (h : OnPaths n s) (t : Thread) (left : ℕ) where
     callers = λ w u b f l e o k. now-caller f ∙ k;
   }
     where
-      at : (b : Bool) (f : Frame) → (cond b (serve t.seat f) f).made ≡ f.made
-      at b f = search arith
-
       on : (b : Bool) (f : Frame) → (cond b (serve t.seat f) f).parent ≡ f.parent
       on b f = search arith
 

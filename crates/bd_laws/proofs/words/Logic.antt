@@ -9,7 +9,7 @@ pub use Rattle.std.proofs.lemmas.List.Edits.{map_over_more}
 pub use Rattle.std.proofs.lemmas.List.Folds.{list_all-map, list_all_more, list_any-append}
 pub use Rattle.std.proofs.lemmas.List.Sorted.{sorted_far}
 pub use Rattle.std.proofs.lemmas.List.Sums.{sum_by-append, sum_by-cons}
-pub use Rattle.std.proofs.lemmas.Option.{option_and_then_some}
+pub use Rattle.std.proofs.lemmas.Option.{cond_some, option_and_then_some}
 pub use Rattle.std.proofs.lemmas.Result.{err_from_is_err_and}
 pub use Rattle.std.specs.Bool.{beq}
 pub use Rattle.std.specs.Cmp.{IsStrictWeakOrder}

@@ -1,7 +1,8 @@
-use Rattle.bd_laws.proofs.Objects.{always-kept, references-here, names-here}
+use Rattle.bd_laws.proofs.Objects.{references-here, names-here}
+use Rattle.bd_laws.proofs.Always.{always-tidy}
 use Rattle.bd_audit.specs.Laws.{space_at}
 use Rattle.bd_audit.specs.Replays.{beginning}
 use Rattle.bd_audit.proofs.laws.objects_are_kept.Goals as goal
 
 pub returns : goal.returns
-returns c = λ h lawful n. (references-here (space_at h n) (always-kept (beginning n h)), names-here (space_at h n) (always-kept (beginning n h)))
+returns c = λ h lawful n. let kept = (always-tidy (beginning n h)).before.objects in (references-here (space_at h n) kept, names-here (space_at h n) kept)
