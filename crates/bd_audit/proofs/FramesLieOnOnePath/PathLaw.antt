@@ -1,7 +1,7 @@
 -- FramesLieOnOnePath: one open child at most, and a thread's frames on the way from the newest of them.
 use Rattle.bd_laws.proofs.words.Logic.{◌≡◌, ℕ, ◌<◌, ◌≤◌, ◌==◌, Bool, true, false, cond, not, ◌&&◌, ◌||◌, List, [], ◌∷◌, length, reverse, Option, Some, ◌⊎◌, inl, inr, refl, ap, sym, ◌∙◌, filter, arith, list_any, list_all, eqb-true, eq-eqb, cases_lt}
 use Rattle.bd_laws.proofs.words.Types.{Frame, Buffer, Work}
-use Rattle.bd_laws.proofs.words.Space.{is_some_and, ancestry, takes_part, is_frame, is_child_of, History, space_after}
+use Rattle.bd_laws.proofs.words.Space.{ancestry, takes_part, is_frame, is_child_of, History, space_after}
 use Rattle.bd_laws.proofs.words.Laws.{In, Pairs, Forest, Older}
 use Rattle.bd_laws.proofs.Lists.{in-filter, all-in, pairs-map, pairs-filter}
 use Rattle.bd_laws.proofs.Tests.{either-true, some-eq}

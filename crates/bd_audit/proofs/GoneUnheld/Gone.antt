@@ -3,11 +3,10 @@ use Rattle.bd_laws.proofs.words.Logic.{◌≡◌, ℕ, ◌+◌, ◌<◌, ◌≤�
 use Rattle.bd_laws.proofs.words.Types.{ObjectId, Entry, Object}
 use Rattle.bd_laws.proofs.words.Space.{same, Space, opening, object_in, held_in, counted, History, after, next, space_after}
 use Rattle.bd_laws.proofs.words.Laws.{Here, Before}
-use Rattle.bd_laws.proofs.Machine.EveryStep.{every_list}
 use Rattle.bd_laws.proofs.Tests.{same-eq}
 use Rattle.bd_laws.proofs.Objects.{here-found, gone-unheld}
 use Rattle.bd_laws.proofs.IsInTurn.Passing.{step-passes}
-use Rattle.bd_laws.proofs.IsInTurn.Received.{step-before, opening-before}
+use Rattle.bd_laws.proofs.IsInTurn.Received.{step-before}
 use Rattle.bd_laws.proofs.Always.{always-tidy, tidy-after}
 use Rattle.bd_audit.specs.Replays.{beginning}
 use Rattle.bd_audit.specs.Laws.{space_at, is_here}

@@ -1,5 +1,5 @@
 -- For NamesHaveGiftChains: what a step's new names rest on.
-use Rattle.bd_laws.proofs.words.Logic.{arith, ◌≡◌, ◌-◌, ℕ, ◌==◌, Bool, true, false, not, List, [], ◌∷◌, ◌++◌, Option, Some, Ok, inl, inr, refl, ap, sym, subst, ◌∙◌, is_some, option_map, eq-eqb}
+use Rattle.bd_laws.proofs.words.Logic.{arith, ◌≡◌, ℕ, ◌==◌, Bool, true, false, not, List, [], ◌∷◌, ◌++◌, Option, Some, Ok, inl, inr, refl, ap, sym, subst, ◌∙◌, is_some, option_map, eq-eqb}
 use Rattle.bd_laws.proofs.words.Types.{TransactionData, ObjectId, Parcel, Step, Actor, Frame, Asked, Name, OfThread}
 use Rattle.bd_laws.proofs.words.Space.{Space, actor, reference_of, number_in, assign_numbers, owe, closed, ripen, Delivery, delivered, transaction_check, transacted, called, call_out, with_looping, reply_check, replied, without_buffer, ask_check, ask, drop_asked, acknowledge, thread_goes, threads_go, without_process, read_by, change, is_spam}
 use Rattle.bd_space.specs.declared.space.WorkKind.TheVariants as work

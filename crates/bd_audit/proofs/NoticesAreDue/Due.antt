@@ -1,8 +1,8 @@
 -- For NoticesAreDue: a Notice of an object is due exactly while its told values aren't what is so, since nothing is pending
 -- between two steps; and each is made where it was missing.
-use Rattle.bd_laws.proofs.words.Logic.{◌≡◌, ℕ, ◌≤◌, Bool, true, List, refl, sym, subst, ap, filter, length, arith, list_all}
-use Rattle.bd_laws.proofs.words.Types.{ObjectId, Entry, Object, Work}
-use Rattle.bd_laws.proofs.words.Space.{Space, opening, is_some_and, is_notice, wants_notice, has_notice_in, History, after, next, space_after}
+use Rattle.bd_laws.proofs.words.Logic.{◌≡◌, ◌≤◌, Bool, true, List, refl, subst, filter, length, arith, list_all}
+use Rattle.bd_laws.proofs.words.Types.{ObjectId, Object, Work}
+use Rattle.bd_laws.proofs.words.Space.{Space, opening, is_some_and, is_notice, wants_notice, has_notice_in, History, space_after}
 use mathlib.Core.Bool.{beq}
 use Rattle.bd_laws.proofs.words.Laws.{In, IsQuiet}
 use Rattle.bd_laws.proofs.Lists.{in-filter, any-found, all-in, pairs-map, pairs-filter}

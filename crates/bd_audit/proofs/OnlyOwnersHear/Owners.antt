@@ -1,5 +1,5 @@
 -- For OnlyOwnersHear: what is heard of an object is heard by its owner.
-use Rattle.bd_laws.proofs.words.Logic.{arith, ◌≡◌, ℕ, ◌-◌, ◌==◌, Bool, true, false, cond, ◌&&◌, List, [], ◌∷◌, Option, Some, None, ◌⊎◌, inl, inr, refl, find, eqb-true}
+use Rattle.bd_laws.proofs.words.Logic.{arith, ◌≡◌, ℕ, ◌==◌, Bool, true, false, cond, ◌&&◌, List, [], ◌∷◌, Option, Some, None, ◌⊎◌, inl, inr, refl, find, eqb-true}
 use Rattle.bd_laws.proofs.words.Types.{ObjectId, Step, StepAnswer, Entry, Object, Actor, Work}
 use Rattle.bd_laws.proofs.words.Space.{same, is_some_and, Space, opening, actor, owned_in, list_to_read, is_own_with, taken, after}
 use Rattle.bd_laws.specs.Lists.{In}

@@ -1,7 +1,7 @@
 -- For OnlyOwnersHear: a Notice stands where threads of the process that owns its object read it.
-use Rattle.bd_laws.proofs.words.Logic.{◌++◌, ◌≡◌, ℕ, ◌==◌, Bool, true, false, cond, not, List, [], ◌∷◌, Some, inl, inr, refl, ap, sym, ◌∙◌, filter, find, arith, option_map, eqb-true, eq-eqb}
+use Rattle.bd_laws.proofs.words.Logic.{◌++◌, ◌≡◌, ℕ, ◌==◌, Bool, true, false, cond, not, List, Some, inl, inr, refl, ap, sym, ◌∙◌, filter, find, arith, option_map, eqb-true, eq-eqb}
 use Rattle.bd_laws.proofs.words.Types.{ObjectId, Step, Entry, Thread, Object, Work, TodoList, OfThread, OfProcess}
-use Rattle.bd_laws.proofs.words.Space.{changed, closed, Space, opening, thread_in, objects_go, stays_in, names_go, assign_numbers, is_on, same_list, ripen, work_goes, deaths_go, notify, follow, without_buffer, ask, drop_asked, acknowledge, with_looping, read_by, thread_goes, threads_go, without_process, counted, with_thread, with_process, with_manager, next, with_spam_detection}
+use Rattle.bd_laws.proofs.words.Space.{closed, Space, opening, thread_in, objects_go, stays_in, names_go, assign_numbers, is_on, same_list, ripen, work_goes, deaths_go, notify, follow, without_buffer, ask, drop_asked, acknowledge, with_looping, read_by, thread_goes, threads_go, without_process, counted, with_thread, with_process, with_manager, next, with_spam_detection}
 use Rattle.bd_space.specs.declared.space.WorkKind.TheVariants as work
 use Rattle.bd_laws.proofs.words.Laws.{Pairs, Differ, KeptBefore}
 use Rattle.bd_laws.proofs.Earlier.{in_order-differ}

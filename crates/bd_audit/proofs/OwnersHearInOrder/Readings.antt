@@ -5,7 +5,7 @@ use Rattle.bd_laws.proofs.words.Space.{same, Space, lives_in, held_in, strong_in
 use Rattle.bd_space.specs.declared.space.WorkKind.TheVariants as work
 use Rattle.bd_laws.proofs.words.Laws.{In, Before}
 use Rattle.bd_laws.proofs.Lists.{in-left, in-append, in-changed, any-found, any-in, pairs-filter}
-use Rattle.bd_laws.proofs.Tests.{both, and-both, same-eq, eq-same, to-false}
+use Rattle.bd_laws.proofs.Tests.{and-both, same-eq, eq-same, to-false}
 use Rattle.bd_laws.proofs.IsInTurn.Ripening.{taken-in}
 use Rattle.bd_laws.proofs.Objects.{told-id}
 use Rattle.bd_laws.proofs.IsInTurn.Received.{one-object}

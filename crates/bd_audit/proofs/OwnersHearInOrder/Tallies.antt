@@ -1,6 +1,6 @@
 -- For OwnersHearInOrder: how many elements of a list pass a test. It counts an object's handshakes and the returns that tell
 -- of it.
-use Rattle.bd_laws.proofs.words.Logic.{ℕ, suc, ◌+◌, ◌≡◌, Bool, true, false, cond, ◌||◌, List, [], ◌∷◌, ◌++◌, inl, inr, refl, ap, filter, arith, list_any}
+use Rattle.bd_laws.proofs.words.Logic.{ℕ, suc, ◌+◌, ◌≡◌, Bool, true, false, cond, ◌||◌, List, [], ◌∷◌, ◌++◌, inl, inr, refl, filter, arith, list_any}
 use Rattle.bd_space.specs.Words.{without_first}
 use Rattle.bd_laws.specs.Lists.{In}
 use Rattle.bd_laws.proofs.Lists.{any-in}

@@ -1,8 +1,8 @@
 -- RepliesAnswerTheLatestOpenCall: a reply answers the latest call of the thread that reads it whose answer isn't read yet.
 use Rattle.bd_laws.proofs.words.Logic.{◌≡◌, ℕ, ◌<◌, ◌-◌, ◌==◌, true, false, cond, List, [], ◌∷◌, map, Option, Some, ◌⊎◌, inl, inr, refl, ap, sym, subst, ◌∙◌, filter, arith, list_any, is_none, eqb-true, eq-eqb}
 use Rattle.std.proofs.lemmas.Bool.{cases_order}
-use Rattle.bd_laws.proofs.words.Types.{Entry, Work, Thread, TodoList, OfThread, WorkKind}
-use Rattle.bd_laws.proofs.words.Space.{first_of, Space, opening, is_frame, is_on, same_list, list_to_read, taken, ends_read, History, after}
+use Rattle.bd_laws.proofs.words.Types.{Entry, Work, Thread, OfThread, WorkKind}
+use Rattle.bd_laws.proofs.words.Space.{first_of, Space, opening, is_frame, is_on, list_to_read, taken, ends_read, History, after}
 use Rattle.bd_space.specs.declared.space.WorkKind.TheVariants as work
 use Rattle.bd_links.specs.TodoList.{reply_of, first_reply_in}
 use Rattle.bd_laws.specs.Lists.{In, Pairs}

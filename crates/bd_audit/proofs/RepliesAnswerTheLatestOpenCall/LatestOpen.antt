@@ -1,5 +1,5 @@
 -- RepliesAnswerTheLatestOpenCall: an accepted reply closes its caller's latest open call, and a thread with an unread reply makes no call.
-use Rattle.bd_laws.proofs.words.Logic.{◌≡◌, ℕ, ◌<◌, ◌≤◌, ◌==◌, Bool, true, false, not, ◌&&◌, ◌||◌, List, [], ◌∷◌, Option, Some, None, Ok, ◌⊎◌, inl, inr, refl, ap, sym, subst, ◌∙◌, arith, nat_le, list_any, is_some, is_none, option_map, option_and_then_some, eqb-true, eq-eqb, le-leb, leb-true}
+use Rattle.bd_laws.proofs.words.Logic.{◌≡◌, ℕ, ◌<◌, ◌≤◌, ◌==◌, Bool, true, false, not, ◌&&◌, ◌||◌, List, [], ◌∷◌, Option, Some, None, Ok, ◌⊎◌, inl, inr, refl, ap, sym, subst, ◌∙◌, arith, nat_le, list_any, is_some, is_none, option_map, option_and_then_some, eq-eqb}
 use Rattle.std.proofs.lemmas.Bool.{cases_order}
 use Rattle.bd_laws.proofs.words.Types.{TransactionData, NotServing, Unread, Parcel, Command, Accepted, Entry, Work, Frame, Actor, OfThread, WorkKind}
 use Rattle.bd_laws.proofs.words.Space.{when, first_of, is_some_and, Space, opening, actor, calls, is_frame, innermost, innermost_in, served_innermost, made_of, has_unread, keeps_from_calling, is_on, same_list, Delivery, transaction_step, caller_cause, is_one_way, reply_check, reply_step, caller_of, command_step, change, History, after}

@@ -3,7 +3,7 @@ use Rattle.bd_laws.proofs.words.Logic.{ℕ, ◌≤◌, Bool, false, List, inl, i
 use Rattle.bd_laws.proofs.words.Types.{TransactionData, Step, Entry, Work, Frame, Actor, TodoList, WorkKind}
 use Rattle.bd_laws.proofs.words.Space.{Space, opening, with_work, owe, work_goes, closed, add_buffer, call_out, Delivery, transacted, replied, without_buffer, read_by, thread_goes, without_process, counted, with_thread, with_looping, after, next}
 use Rattle.bd_space.specs.declared.space.WorkKind.TheVariants as work
-use Rattle.bd_laws.proofs.words.Laws.{In, Pairs, Told, IsTidy}
+use Rattle.bd_laws.proofs.words.Laws.{In, Pairs}
 use Rattle.bd_laws.proofs.Lists.{in-push, in-filter, pairs-push, pairs-filter}
 use Rattle.bd_laws.proofs.Machine.Adding.{told-keeps}
 use Rattle.bd_laws.proofs.Machine.EveryStep.{Keeps, every_step, every_list}

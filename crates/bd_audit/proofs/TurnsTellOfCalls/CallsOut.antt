@@ -1,6 +1,6 @@
 -- For TurnsTellOfCalls, RepliesReachTheirCallers and RepliesAnswerTheLatestOpenCall: a call that a reading takes hands its
 -- buffer out, and an accepted one-way transaction makes one.
-use Rattle.bd_laws.proofs.words.Logic.{◌≡◌, ℕ, ◌-◌, Bool, true, false, cond, ◌||◌, List, [], ◌∷◌, length, Option, Some, None, Result, Ok, refl, ap, sym, subst, ◌∙◌, map, nat_lt, list_any, arith, eqb-true, eq-eqb, is_some}
+use Rattle.bd_laws.proofs.words.Logic.{◌≡◌, ℕ, ◌-◌, Bool, true, false, cond, ◌||◌, List, [], ◌∷◌, length, Option, Some, None, Result, Ok, refl, ap, sym, subst, ◌∙◌, map, nat_lt, list_any, arith, eqb-true, eq-eqb}
 use Rattle.bd_laws.proofs.words.Types.{TransactionData, DeadReply, Cause, ObjectId, Parcel, Step, Command, Read, Accepted, Entry, Actor, Buffer, Work, OfThread, WorkKind}
 use Rattle.bd_laws.proofs.words.Space.{first_of, Space, actor, owe, is_call, hands_out, list_to_read, closed, ripen, follow, assign_numbers, Delivery, delivered, own_notices, add_buffer, known_by, refer, make_objects, buffer_of, transaction_step, transaction_check, transacted, target_of, handle_of, command_step, completed, taken, ends_read, read_by, buffer_taken, handed_buffers, bytes_read, buffer_in, read_fault, read_step, read_taking, change, is_spam, is_made_at}
 use Rattle.bd_uapi.specs.declared.command.Command.TheVariants as bc

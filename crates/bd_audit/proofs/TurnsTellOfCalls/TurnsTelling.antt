@@ -5,12 +5,11 @@ use Rattle.std.proofs.Math.Seq.{take-append_seam, drop-append_seam}
 use Rattle.bd_laws.proofs.words.Types.{ObjectId, Entry, Buffer, Work}
 use Rattle.bd_laws.proofs.words.Space.{same, when, is_some_and, Space, opening, is_call, is_made_at, change, counted, after, next}
 use Rattle.bd_laws.proofs.words.Laws.{In, On, Before}
-use Rattle.bd_laws.proofs.Machine.EveryStep.{every_list}
 use Rattle.bd_laws.proofs.Lists.{in-left, in-right, map-in, filter_map-in, any-found, any-in}
 use Rattle.bd_laws.proofs.Tests.{and-both, not-true, not-false, eq-same}
 use Rattle.bd_laws.proofs.IsInTurn.InTurn.{is_call-hands}
 use Rattle.bd_laws.proofs.IsInTurn.Passing.{Passing, step-passes}
-use Rattle.bd_laws.proofs.IsInTurn.Received.{step-before, opening-before, one-buffer}
+use Rattle.bd_laws.proofs.IsInTurn.Received.{one-buffer}
 use Rattle.bd_audit.specs.declared.turns.Turn.{Turn}
 use Rattle.bd_audit.specs.TurnSearch.{is_call_on, is_live, is_handed, noted_at, marked, turn_made, next_turns}
 use Rattle.bd_audit.specs.Replies.{items_taken, HandsOutCall, At}
