@@ -4,7 +4,7 @@ use Rattle.bd_laws.proofs.words.Types.{TransactionData, DeadOwner, ObjectId, Par
 use Rattle.bd_laws.proofs.words.Space.{same, found_or, Space, actor, process_in, thread_in, object_in, Delivery, sending_of, transaction_check, callee_of, target_of, with_owner, owner_of, handle_of, is_one_way, caller_cause, reply_check, caller_of, ask_check}
 use Rattle.bd_laws.specs.Lists.{In}
 use Rattle.bd_laws.proofs.Lists.{find-in}
-use Rattle.bd_laws.proofs.Tests.{same-eq, and_then-ok, found-ok, unless-ok}
+use Rattle.bd_laws.proofs.Tests.{same-eq, and_then-ok, found-ok}
 use Rattle.bd_laws.proofs.Sendings.{HasName, named-has}
 
 -- the object is found in the space, with its live owner
@@ -41,13 +41,13 @@ callee-owned s p handle c h =
 
 pub transaction-checked : (s : Space) (a : Actor) (d : TransactionData) (parcel : Option Parcel) (v : Delivery) → transaction_check s a d parcel ≡ Ok v → Transacts s a d parcel v
 unfolding transaction_check callee_of
-transaction-checked s a d parcel v h = search (arith, and_then-ok, unless-ok, callee-owned)
+transaction-checked s a d parcel v h = search (arith, and_then-ok, callee-owned)
 
 -- a two-way call has no cause against its caller
 pub transaction-may_call : (s : Space) (a : Actor) (d : TransactionData) (parcel : Option Parcel) (v : Delivery) → transaction_check s a d parcel ≡ Ok v → is_one_way d ≡ false
     → caller_cause s a.thread.seat ≡ None
 unfolding transaction_check
-transaction-may_call s a d parcel v h two_way = search (arith, and_then-ok, unless-ok)
+transaction-may_call s a d parcel v h two_way = search arith
 
 pub record RepliesTo (s : Space) (a : Actor) (d : TransactionData) (parcel : Option Parcel) (f : Frame) (v : Delivery) : Type 0 where
   pub caller : Actor
@@ -59,14 +59,14 @@ pub record RepliesTo (s : Space) (a : Actor) (d : TransactionData) (parcel : Opt
 
 pub reply-checked : (s : Space) (a : Actor) (d : TransactionData) (parcel : Option Parcel) (f : Frame) (v : Delivery) → reply_check s a d parcel f ≡ Ok v → RepliesTo s a d parcel f v
 unfolding reply_check
-reply-checked s a d parcel f v h = search (arith, and_then-ok, found-ok)
+reply-checked s a d parcel f v h = search arith
 
 -- ---- asking
 
 -- what is asked for is the manager's object, by 0, or what the process has a name for
 pub asked-checked : (s : Space) (p n : ℕ) (strong : Bool) (o : ObjectId) → ask_check s p n strong ≡ Ok o → ((n ≡ 0) × (s.manager ≡ Some o)) ⊎ HasName s.names p o
 unfolding ask_check
-asked-checked s p n strong o h = search (arith, and_then-ok, unless-ok, found-ok, eqb-true, named-has)
+asked-checked s p n strong o h = search (arith, found-ok, eqb-true, named-has)
 
 -- ---- actors
 

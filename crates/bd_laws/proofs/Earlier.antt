@@ -1,5 +1,5 @@
 -- SpacesAreTidy: the order in which objects were made.
-use Rattle.bd_laws.proofs.words.Logic.{◌≡◌, ◌<◌, ◌≤◌, true, false, List, ◌⊎◌, refl, arith, IsStrictWeakOrder, nat_cmp, is_lt, ordering_then, IsSortedBy, sorted_far, eqb-true, eq-eqb, lt-ltb, le-ltb, ltb-true, ltb-false}
+use Rattle.bd_laws.proofs.words.Logic.{◌≡◌, ◌<◌, ◌≤◌, true, false, List, ◌⊎◌, refl, arith, IsStrictWeakOrder, nat_cmp, is_lt, ordering_then, IsSortedBy, sorted_far, lt-ltb, le-ltb}
 use Rattle.bd_laws.proofs.words.Types.{ObjectId, Object}
 use Rattle.bd_laws.proofs.words.Laws.{Pairs, is_earlier, Earlier, NotLater, Differ}
 use Rattle.bd_laws.proofs.Lists.{pairs-map, at-pairs}
@@ -8,7 +8,7 @@ pub place-earlier : (o i : ObjectId) → o.place < i.place → is_earlier o i �
 place-earlier o i lt = rw (lt-ltb o.place i.place lt) refl
 
 pub index-earlier : (o i : ObjectId) → o.place ≡ i.place → o.index < i.index → is_earlier o i ≡ true
-index-earlier o i e lt = search (arith, eq-eqb, lt-ltb)
+index-earlier o i e lt = search arith
 
 -- none is earlier than itself
 pub never-earlier : (o : ObjectId) → is_earlier o o ≡ false
@@ -17,16 +17,16 @@ never-earlier o = search (arith, le-ltb)
 -- ---- an order
 
 earlier-means : (o i : ObjectId) → is_earlier o i ≡ true → (o.place < i.place) ⊎ ((o.place ≡ i.place) × (o.index < i.index))
-earlier-means o i h = search (arith, ltb-true, eqb-true)
+earlier-means o i h = search arith
 
 not-earlier : (o i : ObjectId) → is_earlier o i ≡ false → (i.place ≤ o.place) × (o.place ≡ i.place → i.index ≤ o.index)
-not-earlier o i h = search (arith, ltb-false, eq-eqb)
+not-earlier o i h = search arith
 
 is-none-earlier : (o i : ObjectId) → i.place ≤ o.place → (o.place ≡ i.place → i.index ≤ o.index) → is_earlier o i ≡ false
 is-none-earlier o i le then_index = search (arith, earlier-means)
 
 pub earlier-order : IsStrictWeakOrder is_earlier
-earlier-order = search (arith, earlier-means, is-none-earlier, not-earlier)
+earlier-order = search arith
 
 -- as pairs of numbers compare
 pub earlier-cmp : (o i : ObjectId) → is_lt (ordering_then (nat_cmp o.place i.place) (nat_cmp o.index i.index)) ≡ is_earlier o i
@@ -36,4 +36,4 @@ pub sorted-in_order : (os : List ObjectId) → IsSortedBy is_earlier os → Pair
 sorted-in_order os h = at-pairs NotLater os (λ i j d lt within. sorted_far is_earlier earlier-order os h i j d (omega arith) within)
 
 pub in_order-differ : (xs : List Object) → Pairs Earlier xs → Pairs Differ xs
-in_order-differ xs h = search (arith, pairs-map, never-earlier)
+in_order-differ xs h = search (arith, pairs-map)

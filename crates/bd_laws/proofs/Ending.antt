@@ -5,7 +5,7 @@ use Rattle.bd_laws.proofs.words.Space.{changed, Space, lives_in, owned_in, owe, 
 use Rattle.bd_space.specs.declared.space.WorkKind.TheVariants as work
 use Rattle.bd_laws.proofs.words.Laws.{In, IsTidy, IsFramed}
 use Rattle.bd_laws.proofs.Lists.{in-left, in-push, in-filter, filter-in, map-in, in-changed, any-found, any-in, fold-keeps}
-use Rattle.bd_laws.proofs.Tests.{both, and-both, neither, not-true, not-false, eq-same, or-right, not-eq, to-false}
+use Rattle.bd_laws.proofs.Tests.{both, and-both, neither, not-true, or-right, to-false}
 use Rattle.bd_laws.proofs.Machine.Deaths.{KeptOnDeaths, on-told, tell_deaths-aside}
 use Rattle.bd_laws.proofs.Machine.Untouched.{tell_deaths-untouched}
 use Rattle.bd_laws.proofs.Follow.{follow-local}
@@ -104,7 +104,7 @@ module _ (s : Space) (p : ℕ) (h : IsTidy s) where
 
   rest-names : (m : Name) → In m rest.names → In m s.names × (m.process ≡ p → ⊥)
   unfolding without_process
-  rest-names m l = search (arith, in-filter, left, not-true, eq-eqb)
+  rest-names m l = search (arith, in-filter, left)
 
   rest-objects : rest.objects ≡ s.objects
   unfolding without_process
@@ -112,7 +112,7 @@ module _ (s : Space) (p : ℕ) (h : IsTidy s) where
 
   rest-lives : (q : ℕ) → (q ≡ p → ⊥) → lives_in rest.processes q ≡ lives_in s.processes q
   unfolding without_process
-  rest-lives q other = search (arith, any-filtered, to-false, eqb-true, left)
+  rest-lives q other = search (arith, any-filtered, eqb-true, left)
 
   rest-fewer : (r : Reference) → In r rest.references → In r s.references
   unfolding without_process
@@ -120,7 +120,7 @@ module _ (s : Space) (p : ℕ) (h : IsTidy s) where
 
   rest-stay : (r : Reference) → In r s.references → gone r ≡ false → In r rest.references
   unfolding without_process
-  rest-stay r l none = search (arith, filter-in, left, not-false, neither)
+  rest-stay r l none = search (arith, filter-in, left)
 
   rest-less : (w : Work) → In w rest.todo → In w s.todo × (is_on (OfProcess p) w ≡ false)
   unfolding without_process
@@ -128,15 +128,15 @@ module _ (s : Space) (p : ℕ) (h : IsTidy s) where
 
   rest-more : (w : Work) → In w s.todo → list_any (λ (l : TodoList). is_on l w) lists ≡ false → In w rest.todo
   unfolding without_process
-  rest-more w l none = search (arith, filter-in, left, not-false, neither)
+  rest-more w l none = search (arith, filter-in, left)
 
   rest-deaths : (x : DeathNotification) → In x rest.deaths → In x s.deaths × (x.process ≡ p → ⊥)
   unfolding without_process
-  rest-deaths x l = search (arith, in-filter, left, not-true, eq-eqb)
+  rest-deaths x l = search (arith, in-filter, left)
 
   deaths-rest : (x : DeathNotification) → In x s.deaths → (x.process ≡ p → ⊥) → In x rest.deaths
   unfolding without_process
-  deaths-rest x l other = search (arith, filter-in, left, not-false, not-eq)
+  deaths-rest x l other = search (arith, filter-in, left)
 
   rest-frames : AllWent (frames_ended s p) s.frames rest.frames
   unfolding without_process
@@ -148,7 +148,7 @@ module _ (s : Space) (p : ℕ) (h : IsTidy s) where
       ])
 
   unowned : (x : Object) → In x s.objects → objects_ended s p x.id ≡ false → x.owner ≡ p → ⊥
-  unowned x l none e = search (arith, any-in, and-both, eq-same, eq-eqb)
+  unowned x l none e = search (arith, any-in, and-both)
 
   unleft : (o : ObjectId) → objects_ended s p o ≡ false → left_objects gone lists s o ≡ false
   unleft o none = search (arith, neither)

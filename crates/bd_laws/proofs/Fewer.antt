@@ -62,7 +62,7 @@ module _ (a : NameTest) (b : ObjectTest) (references changed : List Reference) (
     (named : (r : Reference) (p : ℕ) (o : ObjectId) → Differs r → (same r.object o && names_for p r.holder) ≡ true → a p o ≡ true)
     (held : (r : Reference) (o : ObjectId) → Differs r → same r.object o ≡ true → b o ≡ true) where
   pub said-by : SameSaid a b references changed
-  said-by = search (arith, to-false, both)
+  said-by = search arith
 
 -- one of the list that passes
 abbrev Goes : List Reference → (Reference → Bool) → Reference → Type 0
@@ -78,7 +78,7 @@ completed-local a b z h unripe settled = search (arith, ripen-still, follow-loca
 pub dropped-local : (s : Space) (p : ℕ) (o : ObjectId) (strong : Bool) → IsQuiet s
     → completed (drop_asked s p o strong) ≡ follow_of (at_name p o) (at_object o) (drop_asked s p o strong)
 unfolding drop_asked
-dropped-local s p o strong h = search (arith, completed-local, elsewhere-said, said-by, any-without, and-both, eq-same, same-eq, eq-eqb, eqb-true)
+dropped-local s p o strong h = search (arith, completed-local, elsewhere-said, any-without, and-both, eq-same, same-eq, eq-eqb, eqb-true)
 
 -- ---- an acknowledgement: no name, one object
 
@@ -86,10 +86,10 @@ dropped-local s p o strong h = search (arith, completed-local, elsewhere-said, s
 pub acknowledged-local : (s : Space) (o : ObjectId) (strong : Bool) → IsQuiet s
     → completed (acknowledge s o strong) ≡ follow_of no_name (at_object o) (acknowledge s o strong)
 unfolding acknowledge
-acknowledged-local s o strong h = search (arith, completed-local, elsewhere-said, said-by, any-without, both, eq-same, same-eq)
+acknowledged-local s o strong h = search (arith, completed-local, elsewhere-said, any-without, both, eq-same, same-eq)
 
 -- ---- some references go
 
 pub filtered-said : (gone : Reference → Bool) (references : List Reference)
     → SameSaid (names_of_references (filter gone references)) (objects_of_references (filter gone references)) references (filter (λ r. not (gone r)) references)
-filtered-said gone references = search (arith, said-by, any-filtered, any-in, filter-in)
+filtered-said gone references = search (arith, any-filtered, any-in, filter-in)

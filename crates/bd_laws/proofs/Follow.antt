@@ -5,7 +5,7 @@ use Rattle.bd_laws.proofs.words.Space.{is_some_and, Space, object_in, objects_go
 use Rattle.bd_space.specs.declared.space.WorkKind.TheVariants as work
 use Rattle.bd_laws.proofs.words.Laws.{In, Elsewhere}
 use Rattle.bd_laws.proofs.Lists.{in-left, in-filter, filter-in, any-found, any-in}
-use Rattle.bd_laws.proofs.Tests.{and-both, same-eq, notice-kind}
+use Rattle.bd_laws.proofs.Tests.{same-eq}
 
 -- ---- lists
 
@@ -32,12 +32,12 @@ module _ (a : NameTest) (b : ObjectTest) (z : Space) (h : Elsewhere a b z) where
   due-notice : (o : ObjectId) → b o ≡ false → is_some_and (object_in z.objects o) (wants_notice z.processes z.references) ≡ true
       → is_some_and (object_in here.objects o) (wants_notice here.processes here.references) ≡ true
   unfolding here deaths_go_of objects_go_of names_go_of
-  due-notice o none k = search (arith, find-kept, same-eq)
+  due-notice o none k = search (arith, find-kept)
 
   due-death : (n : ℕ) → list_any (λ (x : DeathNotification). (x.made == n) && a x.process x.object) z.deaths ≡ false → list_any (λ (x : DeathNotification). x.made == n) z.deaths ≡ true
       → list_any (λ (x : DeathNotification). x.made == n) here.deaths ≡ true
   unfolding here deaths_go_of objects_go_of names_go_of
-  due-death n none some = search (arith, any-found, any-in, filter-in, and-both)
+  due-death n none some = search (arith, any-found, any-in, filter-in)
 
   due : (w : Work) (kind : WorkKind) → In w z.todo → w.kind ≡ kind → is_touched a b z.deaths kind ≡ false
       → still_due here.processes here.objects here.references here.deaths kind ≡ true
@@ -63,7 +63,7 @@ module _ (a : NameTest) (b : ObjectTest) (z : Space) (h : Elsewhere a b z) where
 
   standing : (o : ObjectId) → b o ≡ false → has_notice_in z.todo o ≡ true → has_notice_in there.todo o ≡ true
   unfolding there work_goes_of here deaths_go_of objects_go_of names_go_of
-  standing o none has = search (arith, any-found, any-in, filter-in, notice-kind)
+  standing o none has = search (arith, any-found, any-in, filter-in)
 
   tell : List Work → Object → List Work
   tell todo x = with_notice z.steps z.processes z.references (OfProcess x.owner) todo x
@@ -99,4 +99,4 @@ module _ (a : NameTest) (b : ObjectTest) (z : Space) (h : Elsewhere a b z) where
   -- what follows, follows where something was touched
   pub follow-local : follow z ≡ follow_of a b z
   unfolding follow follow_of there here objects_go_of names_go_of names_go objects_go deaths_go deaths_go_of
-  follow-local = search (arith, filter-same, or-not, any-found, eqb-true, same-eq, any-in, filter-in, work-local, notify-local)
+  follow-local = search (arith, filter-same, any-found, eqb-true, same-eq, any-in, filter-in, work-local, notify-local)

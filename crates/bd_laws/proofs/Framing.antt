@@ -8,7 +8,7 @@ use Rattle.bd_laws.proofs.Lists.{in-push, in-filter, in-map, in-changed, pairs-p
 use Rattle.bd_laws.proofs.Machine.Adding.{told-keeps}
 use Rattle.bd_laws.proofs.Machine.EveryStep.{Keeps, every_step}
 use Rattle.bd_laws.proofs.Abandoned.{OneEach}
-use Rattle.bd_laws.proofs.Machine.Fields.{serve-made, sent-steps, sent-frames}
+use Rattle.bd_laws.proofs.Machine.Fields.{sent-steps, sent-frames}
 use Rattle.bd_laws.proofs.Machine.Table.{Table, Exits, Closing, Any, ripen-by, keeps-by}
 
 pairs-mapped : (f : Frame → Frame) → ((x : Frame) → (f x).made ≡ x.made) → (fs : List Frame) → Pairs OtherFrame fs → Pairs OtherFrame (map f fs)
@@ -23,7 +23,7 @@ fewer : (n : ℕ) (p : Frame → Bool) (fs : List Frame) → Framed n fs → Fra
 fewer n p fs h = search (arith, in-filter, pairs-filter)
 
 served : (n : ℕ) (p : Frame → Bool) (seat : ℕ) (fs : List Frame) → Framed n fs → Framed n (changed p (serve seat) fs)
-served n p seat fs h = search (arith, in-changed, serve-made, pairs-changed)
+served n p seat fs h = search (arith, in-changed, pairs-changed)
 
 -- ---- spaces
 

@@ -6,7 +6,7 @@ use Rattle.bd_laws.proofs.words.Space.{same, Space, is_of_buffer, owe, with_work
 use Rattle.bd_space.specs.declared.space.WorkKind.TheVariants as work
 use Rattle.bd_laws.proofs.words.Laws.{In, Elsewhere, IsSettled, NoneRipe, IsQuiet}
 use Rattle.bd_laws.proofs.Lists.{in-push}
-use Rattle.bd_laws.proofs.Tests.{not-false-true, same-eq, eq-same, to-false}
+use Rattle.bd_laws.proofs.Tests.{not-false-true, to-false}
 use Rattle.bd_laws.proofs.Follow.{follow-local}
 use Rattle.bd_laws.proofs.Machine.Settled.{settle-still}
 use Rattle.bd_laws.proofs.FollowingIsLocal.Ripe.{NoneRipeBut, ripen-local}
@@ -73,7 +73,7 @@ module _ (o : ObjectId) (todo : List Work) where
 
   -- one on the object more
   same-more : (more less : List Turn) (t : Turn) → same t.target o ≡ true → SameBut o more less → SameBut o (more ++ t ∷ []) less
-  same-more more less t on h i none = search (arith, any-append, to-false, eq-same, same-eq)
+  same-more more less t on h i none = search (arith, any-append, to-false)
 
   ripe-same : (more less : List Turn) (t : Turn) → SameBut o more less → is_ripe todo more t ≡ false → same t.target o ≡ false → is_ripe todo less t ≡ false
   ripe-same more less t h k none = search arith

@@ -5,7 +5,7 @@ use Rattle.bd_laws.proofs.words.Space.{same, is_some_and, Space, lives_in, objec
 use Rattle.bd_space.specs.declared.space.WorkKind.TheVariants as work
 use Rattle.bd_laws.proofs.words.Laws.{In, Elsewhere, IsFollowed, IsTidy, IsFramed}
 use Rattle.bd_laws.proofs.Lists.{in-filter, filter-in, any-found, any-in, find-in}
-use Rattle.bd_laws.proofs.Tests.{both, and-both, equal-tests, same-eq, eq-same, to-false}
+use Rattle.bd_laws.proofs.Tests.{both, and-both, equal-tests, same-eq, to-false}
 use Rattle.bd_laws.proofs.Follow.{follow-local}
 use Rattle.bd_laws.proofs.Abandoned.{OneEach}
 use Rattle.bd_laws.proofs.Framing.{one_each-framed, framed_exits}
@@ -41,10 +41,10 @@ module _ (a : NameTest) (b : ObjectTest) (s z : Space) (h : IsFollowed s) (k : P
   held-same o none = search (arith, any-same)
 
   wants-same : (x : Object) → In x s.objects → b x.id ≡ false → wants_notice z.processes z.references x ≡ wants_notice s.processes s.references x
-  wants-same x l none = search (arith, held-same, any-same, both)
+  wants-same x l none = search (arith, any-same, both)
 
   due-same : (o : ObjectId) → b o ≡ false → is_some_and (object_in s.objects o) (wants_notice s.processes s.references) ≡ true → is_some_and (object_in z.objects o) (wants_notice z.processes z.references) ≡ true
-  due-same o none due = search (arith, find-in, wants-same, same-eq)
+  due-same o none due = search (arith, find-in, wants-same)
 
   pub parts-elsewhere : Elsewhere a b z
   parts-elsewhere = record {
@@ -79,11 +79,11 @@ elsewhere-more a c b d z more_names more_objects h = record {
 -- ---- what isn't touched
 
 pub untouched-reference : (s : Space) (gone : Reference → Bool) (lists : List TodoList) (r : Reference) → In r s.references → left_objects gone lists s r.object ≡ false → gone r ≡ false
-untouched-reference s gone lists r l none = search (arith, to-false, any-in, and-both, eq-same)
+untouched-reference s gone lists r l none = search (arith, to-false, any-in)
 
 pub untouched-notice : (s : Space) (gone : Reference → Bool) (lists : List TodoList) (w : Work) (o : ObjectId) → In w s.todo → is_notice o w.kind ≡ true → left_objects gone lists s o ≡ false
     → list_any (λ (l : TodoList). is_on l w) lists ≡ false
-untouched-notice s gone lists w o l e none = search (arith, to-false, any-in, and-both)
+untouched-notice s gone lists w o l e none = search (arith, any-in, and-both)
 
 -- ---- a thread ends
 
@@ -117,7 +117,7 @@ module _ (s : Space) (seat : ℕ) (h : IsTidy s) where
   -- looked at, nothing else has to be
   pub leaving-local : (a : NameTest) (b : ObjectTest) (c : ℕ → Bool) → ((p : ℕ) (o : ObjectId) → names_left s seat p o ≡ true → a p o ≡ true) → ((o : ObjectId) → objects_left s seat o ≡ true → b o ≡ true)
       → ((m : ℕ) → frames_left s seat m ≡ true → c m ≡ true) → settle (follow (thread_goes s seat)) ≡ close_among (length (thread_goes s seat).frames) c (follow_of a b (thread_goes s seat))
-  leaving-local a b c names objects among = search (arith, follow-frames, elsewhere-more, parts-elsewhere, left-parts, abandoned-touched, left, follow-local, settle-among, one-left)
+  leaving-local a b c names objects among = search (arith, follow-frames, parts-elsewhere, left-parts, abandoned-touched, left, follow-local, settle-among, one-left)
 
   -- the names to look at are the process's, and their objects are looked at too
   pub left-names : (t : Thread) → In t s.threads → t.seat ≡ seat → (p : ℕ) (o : ObjectId) → names_left s seat p o ≡ true → (t.process ≡ p) × (objects_left s seat o ≡ true)

@@ -70,7 +70,7 @@ turns-filtered keep (c ∷ cs) h = search (arith, turns-filtered keep cs (λ d l
 -- on its receiver's list, a call goes only with that list
 called-stays : (z : Space) (stays : Work → Bool) → OnLists z → (c : Buffer) → In c z.buffers → ((w : Work) → w.list ≡ OfProcess c.receiver → stays w ≡ true) → (t : Turn) → turn_of c ≡ Some t
     → CallsStay z.todo (filter stays z.todo) t
-called-stays z stays lists c l k t e calls = search (arith, turn-made, any-found, is_call-hands, any-in, filter-in, on-of)
+called-stays z stays lists c l k t e calls = search (arith, any-found, is_call-hands, any-in, filter-in, on-of)
 
 left-unripe : (z : Space) (seat : ℕ) → OnLists z → NoneRipe z.todo [] (turns_of z.buffers) → NoneRipe (thread_goes z seat).todo [] (turns_of (thread_goes z seat).buffers)
 unfolding thread_goes

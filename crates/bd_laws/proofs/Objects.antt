@@ -2,12 +2,12 @@
 -- and no two have one identity.
 use Rattle.bd_laws.proofs.words.Logic.{◌≡◌, ℕ, suc, Bool, true, false, cond, List, [], ◌∷◌, Option, Some, None, inl, inr, refl, ap, sym, subst, ◌∙◌, arith, list_all, flat_map, is_some}
 use Rattle.bd_laws.proofs.words.Types.{ObjectId, Process, Object, Reference, Manager, Name, Work, OfThread, Step, Entry}
-use Rattle.bd_laws.proofs.words.Space.{same, Space, reference_of, held_in, object_in, stays_in, objects_go, names_go, read_by, handshakes, handshakes_for, shakes, told_objects, told_of, is_told_by, returns_of, returns_of_object, with_thread, with_process, with_manager, opening, closed, ripen, follow, change, counted, History, next, space_after, with_spam_detection}
+use Rattle.bd_laws.proofs.words.Space.{same, Space, reference_of, held_in, object_in, stays_in, objects_go, names_go, read_by, handshakes, handshakes_for, shakes, told_objects, told_of, is_told_by, returns_of, returns_of_object, with_thread, with_process, with_manager, opening, closed, ripen, follow, change, counted, next, with_spam_detection}
 use Rattle.bd_space.specs.declared.space.WorkKind.TheVariants as work
 use Rattle.bd_laws.proofs.words.Laws.{In, Here, Earlier, Kept, KeptBefore}
 use Rattle.bd_laws.proofs.Lists.{in-left, in-last, in-filter, filter-in, in-changed, changed-in, any-found, any-in, all-in, find-in, find-some, pairs-filter, pairs-changed}
-use Rattle.bd_laws.proofs.Tests.{to-false, same-eq, eq-same, notice-named, or-left}
-use Rattle.bd_laws.proofs.Machine.EveryStep.{Keeps, every_step, every_list}
+use Rattle.bd_laws.proofs.Tests.{to-false, same-eq, eq-same, notice-named}
+use Rattle.bd_laws.proofs.Machine.EveryStep.{Keeps, every_step}
 use Rattle.bd_laws.proofs.Machine.Untouched.{owe-untouched, closed-untouched, ripen-untouched, notify-untouched, work_goes-untouched, deaths_go-untouched, with_looping-untouched, on_deaths-untouched, tell_deaths-untouched}
 use Rattle.bd_laws.proofs.Machine.Deaths.{on-mapped, on-commands}
 use Rattle.bd_laws.proofs.FollowingIsLocal.Handshakes.{for-object, shaken-by}
@@ -76,7 +76,7 @@ read-kept s seat ws h =
 -- ---- what follows
 
 pub stays : (processes : List Process) (references : List Reference) (x : Object) (r : Reference) → In r references → x.id ≡ r.object → stays_in processes references x ≡ true
-stays processes references x r l e = search (arith, or-left, any-in, eq-same)
+stays processes references x r l e = search (arith, any-in, eq-same)
 
 pub objects_go-kept : (z : Space) → IsKept z → IsKept (objects_go z)
 unfolding objects_go

@@ -1,14 +1,14 @@
 -- For the engine, by FollowingIsLocal: after the short commands (references asked for, the loop, death notifications) it is
 -- enough to look at what they touched.
-use Rattle.bd_laws.proofs.words.Logic.{arith, ◌≡◌, ℕ, ◌==◌, Bool, true, false, not, ◌||◌, List, [], ◌∷◌, ◌++◌, None, Ok, inl, inr, refl, sym, subst, ◌∙◌, list_any, eq-eqb, eqb-true}
+use Rattle.bd_laws.proofs.words.Logic.{arith, ◌≡◌, ℕ, ◌==◌, Bool, true, false, not, ◌||◌, List, [], ◌∷◌, ◌++◌, None, Ok, inl, inr, refl, sym, subst, ◌∙◌, list_any, eq-eqb}
 use Rattle.bd_laws.proofs.words.Types.{ObjectId, Reference, Asked, Buffer, Work, DeathNotification, Phase, Queued, OfProcess}
 use Rattle.bd_laws.proofs.words.Space.{Space, reference_of, owned_in, with_names, assign_numbers, owe, turns_of, turn_of, is_name_of, ask, request_check, requested, with_death, with_looping, without_buffer, is_made_at, is_of_buffer, completed, ObjectTest, follow_of, no_name, at_name, at_object, names_of_references, objects_of_references}
 use Rattle.bd_space.specs.declared.space.WorkKind.TheVariants as work
 use Rattle.bd_laws.proofs.words.Laws.{In, Elsewhere, IsSettled, NoneRipe, IsQuiet, IsFollowed}
 use Rattle.bd_laws.proofs.Lists.{all-push, in-last, any-in}
-use Rattle.bd_laws.proofs.Tests.{both, and-both, not-false-true, same-eq, eq-same, and_then-ok, found-ok, unless-ok}
+use Rattle.bd_laws.proofs.Tests.{both, and-both, not-false-true, eq-same, found-ok, unless-ok}
 use Rattle.bd_laws.proofs.Sendings.{named-has}
-use Rattle.bd_laws.proofs.NothingIsPending.Quiet.{any-more, elsewhere-aside}
+use Rattle.bd_laws.proofs.NothingIsPending.Quiet.{any-more}
 use Rattle.bd_laws.proofs.Fewer.{SameSaid, said-by, elsewhere-said, filtered-said, completed-local}
 use Rattle.bd_laws.proofs.Freeing.{references_of_buffer, owed-unripe, owed-elsewhere}
 use Rattle.bd_laws.proofs.FollowingIsLocal.Sent.{with_names-named, name-stays, any-none}
@@ -26,7 +26,7 @@ nothing-local z h unripe settled = completed-local no_name no_object z h unripe 
 
 pub looping-local : (s : Space) (seat : ℕ) (looping : Bool) → IsQuiet s → completed (with_looping s seat looping) ≡ with_looping s seat looping
 unfolding with_looping
-looping-local s seat looping h = search (arith, nothing-local, elsewhere-aside)
+looping-local s seat looping h = search (arith, nothing-local)
 
 -- ---- BC_INCREFS and BC_ACQUIRE
 
@@ -36,7 +36,7 @@ module _ (s : Space) (p : ℕ) (o : ObjectId) (strong : Bool) (h : IsQuiet s) wh
 
   -- its name and object alone are touched
   asked-said : SameSaid (at_name p o) (at_object o) s.references (s.references ++ asked ∷ [])
-  asked-said = search (arith, said-by, any-none, and-both, eq-same, same-eq, eq-eqb, eqb-true)
+  asked-said = search (arith, said-by, any-none, and-both)
 
   ask-elsewhere : Elsewhere no_name (at_object o) (ask s p o strong)
   unfolding ask assign_numbers
@@ -71,7 +71,7 @@ deaths-followed s ds quiet stands told = search (arith, stands)
 module _ (s : Space) (p n cookie : ℕ) (o : ObjectId) (h : IsQuiet s) (check : request_check s p n ≡ Ok o) where
   has-name : is_name_of s.names p o ≡ true
   unfolding request_check
-  has-name = search (arith, and_then-ok, unless-ok, named-has, found-ok, any-in, and-both, eq-eqb, eq-same)
+  has-name = search (arith, unless-ok, named-has, found-ok, any-in, and-both, eq-eqb, eq-same)
 
   death-followed : (phase : Phase) → IsFollowed (with_death s p o cookie phase)
   unfolding with_death
@@ -88,7 +88,7 @@ module _ (s : Space) (p n cookie : ℕ) (o : ObjectId) (h : IsQuiet s) (check : 
 
   told-unripe : NoneRipe (owe (with_death s p o cookie Queued) (OfProcess p) (work.Death s.steps)).todo [] (turns_of s.buffers)
   unfolding with_death owe
-  told-unripe = search (arith, owed-unripe, h.unripe)
+  told-unripe = search (arith, owed-unripe)
 
   pub requested-local : completed (requested s p o cookie) ≡ requested s p o cookie
   unfolding requested with_death owe

@@ -73,7 +73,7 @@ module _ (s : Space) (a : Actor) (d : TransactionData) (parcel : Option Parcel) 
 
   z-unripe : NoneRipe (replied s a d f v).todo [] (turns_of (replied s a d f v).buffers)
   unfolding replied y x
-  z-unripe = search (arith, told-keeps, owed-unripe, y-unripe)
+  z-unripe = search (arith, owed-unripe, y-unripe)
 
   abbrev followed : Space
   followed = follow_of no_name sent (replied s a d f v)

@@ -98,7 +98,7 @@ module _ (s : Space) (a : Actor) (d : TransactionData) (v : Delivery) (h : IsCal
 
     out-unripe : v.one_way ≡ false → NoneRipe out.todo [] (turns_of out.buffers)
     unfolding out call_out owe
-    out-unripe two = search (arith, turns-are, turn-two_way, append-nil, still-unripe-if, any-more, y-unripe)
+    out-unripe two = search (arith, turns-are, append-nil, still-unripe-if, any-more, y-unripe)
 
     out-settled : IsSettled s.frames → IsSettled out.frames
     unfolding out call_out owe

@@ -51,7 +51,7 @@ module _ (n : ℕ) (root : ℕ → ℕ) (fs : List Frame) (bs : List Buffer) (td
 -- ---- the laws of every history
 
 pub tidy-stacks : (s : Space) → IsTidy s → AreStacks s.frames
-tidy-stacks s h = search (arith, tidy-frames, h.on_paths)
+tidy-stacks s h = search (arith, tidy-frames)
 
 -- each thread's frames rise in depth, and all in place
 pub always-stacks : (h : History) → AreStacks (space_after h).frames

@@ -104,7 +104,7 @@ closed-later z made = on-threads _ z refl (λ w b l e. l) (λ r b q l c. l) (sam
 -- where processes and threads alone change
 seats-later : (z : Space) (qs : List Process) (ts : List Thread) → (Pairs OtherSeat z.threads → Pairs OtherSeat ts) → ((t : Thread) → In t z.threads → Stays ts t)
     → Later (record z { processes = qs; threads = ts }) z
-seats-later z qs ts seats stay = search (arith, same-buffers, same-frames)
+seats-later z qs ts seats stay = search arith
 
 looping-later : (z : Space) (seat : ℕ) (looping : Bool) → Later (with_looping z seat looping) z
 unfolding with_looping
@@ -151,14 +151,14 @@ read-later z seat ws =
 
 left-later : (z : Space) (seat : ℕ) → Later (thread_goes z seat) z
 unfolding thread_goes
-left-later z seat = search (arith, in-filter, same-buffers, in-map, caller-stays, pairs-filter, not-true, filter-in, eq-eqb, eqb-true)
+left-later z seat = search (arith, in-filter, in-map, caller-stays, pairs-filter, not-true, filter-in, eq-eqb, eqb-true)
 
 without-later : (z : Space) (p : ℕ) → Later (without_process z p) z
 unfolding without_process
-without-later z p = search (arith, on-threads, in-filter, same-buffers, in-map)
+without-later z p = search (arith, in-filter, same-buffers, in-map)
 
 deaths-later : (z : Space) → KeptOnDeaths (λ y. Later y z)
-deaths-later z = search (arith, later-trans, beside-later, owe-later)
+deaths-later z = search (arith, later-trans, owe-later)
 
 ended-later : (z : Space) (p : ℕ) → Later (tell_deaths (without_process (threads_go z p) p) p) z
 ended-later = ends-by Later later-trans (threads-by Later same-later later-trans left-later) without-later (λ z p. on-told _ (deaths-later z) z p (same-later z))

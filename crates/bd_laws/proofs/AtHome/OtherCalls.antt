@@ -1,11 +1,11 @@
 -- For SpacesAreTidy: no thread is to read a call of its own.
-use Rattle.bd_laws.proofs.words.Logic.{◌≡◌, ℕ, ◌<◌, ◌==◌, Bool, true, false, cond, ◌&&◌, Option, Some, None, Ok, inl, inr, refl, ap, sym, subst, ◌∙◌, arith, eqb-true, eq-eqb, cond_some}
+use Rattle.bd_laws.proofs.words.Logic.{◌≡◌, ℕ, ◌<◌, ◌==◌, Bool, true, false, ◌&&◌, Option, Some, Ok, inl, inr, refl, ap, sym, subst, ◌∙◌, arith, eqb-true, eq-eqb}
 use Rattle.bd_laws.proofs.words.Types.{TransactionData, ObjectId, Parcel, Entry, Process, Thread, Object, Frame, Actor, Work, OfThread, OfProcess}
 use Rattle.bd_laws.proofs.words.Space.{same, Space, opening, actor, owned_in, assign_numbers, strongly_named, closed, goes_to, owe, hands_out, ripen, Delivery, delivered, own_notices, add_buffer, known_by, refer, make_objects, transaction_check, transacted, called, call_out, target_of, handle_of, replied, counted, next, is_spam}
 use Rattle.bd_space.specs.declared.space.WorkKind.TheVariants as work
 use Rattle.bd_laws.proofs.words.Laws.{In, IsInTurn, AtHome, OfOthers}
 use Rattle.bd_laws.proofs.Lists.{in-push, find-in, any-in}
-use Rattle.bd_laws.proofs.Tests.{and-both, not-true, eq-same, and_then-ok, found-ok, unless-ok, when-none}
+use Rattle.bd_laws.proofs.Tests.{and-both, eq-same}
 use Rattle.bd_laws.proofs.Checks.{actor-lives, transaction-checked}
 use Rattle.bd_laws.proofs.Machine.EveryStep.{every_step}
 use Rattle.bd_laws.proofs.Machine.Adding.{told-keeps, ripen-keeps}
@@ -28,7 +28,7 @@ ripen-o z h = fewer (ripen z) z refl (λ w b t l e on. ripen-keeps (λ td. (w : 
 
 unowned-target : (s : Space) (p n : ℕ) (o : ObjectId) → target_of s p n ≡ Ok o → owned_in s.objects p o ≡ false
 unfolding target_of strongly_named
-unowned-target s p n o h = search (arith, and_then-ok, unless-ok, when-none, found-ok, cond_some, not-true)
+unowned-target s p n o h = search arith
 
 -- ---- a call
 

@@ -25,7 +25,7 @@ module _ {A : Type 0} (p : A → Bool) where
 -- an object that is found passes one test if it passes the other
 pub found-still : (objects : List Object) (o : ObjectId) (p q : Object → Bool) → ((x : Object) → In x objects → x.id ≡ o → p x ≡ true → q x ≡ true)
     → is_some_and (object_in objects o) p ≡ true → is_some_and (object_in objects o) q ≡ true
-found-still objects o p q k h = search (arith, find-in, same-eq)
+found-still objects o p q k h = search (arith, find-in)
 
 -- an object is found by its identity
 pub find-only : (xs : List Object) (x : Object) (o : ObjectId) → Pairs Differ xs → In x xs → x.id ≡ o → object_in xs o ≡ Some x

@@ -1,12 +1,12 @@
 -- For FollowingIsLocal where a thread or a process ends, and for ItemsAreToldApart: which frames lose their servers, which
 -- items and references go.
-use Rattle.bd_laws.proofs.words.Logic.{arith, ◌≡◌, ℕ, ◌==◌, Bool, true, false, not, ◌&&◌, List, ◌⊎◌, inl, inr, ap, subst, ◌∙◌, map, list_any, eqb-true, eq-eqb}
+use Rattle.bd_laws.proofs.words.Logic.{arith, ◌≡◌, ℕ, ◌==◌, Bool, true, false, not, ◌&&◌, List, ◌⊎◌, inl, inr, ap, subst, ◌∙◌, map, list_any, eq-eqb}
 use Rattle.bd_laws.proofs.words.Types.{Reference, Frame, Server, Work, TodoList, OfThread}
-use Rattle.bd_laws.proofs.words.Space.{is_some_and, Space, is_gone, is_child_of, is_on, same_list, is_abandoned, thread_goes, is_lost_reference, is_unread_on, unread_server, is_left_frame, left_frames, seats_in, lists_in, lost_with_process, threads_go, is_dropped_with}
+use Rattle.bd_laws.proofs.words.Space.{is_some_and, Space, is_gone, is_child_of, is_on, is_abandoned, thread_goes, is_lost_reference, is_unread_on, unread_server, is_left_frame, left_frames, seats_in, lists_in, lost_with_process, threads_go, is_dropped_with}
 use Rattle.bd_laws.proofs.words.Laws.{In, IsSettled}
 use Rattle.bd_laws.proofs.Lists.{in-filter, filter-in, in-map, map-in, any-found, any-in, fold-keeps}
 pub use Rattle.bd_laws.proofs.Tests.{on-thread}
-use Rattle.bd_laws.proofs.Tests.{and-both, not-false, to-false, or-left, or-right}
+use Rattle.bd_laws.proofs.Tests.{not-false, to-false, or-left, or-right}
 use Rattle.bd_laws.proofs.Sending.{none-found}
 use Rattle.bd_laws.proofs.FollowingIsLocal.Closings.{Covered}
 
@@ -93,10 +93,10 @@ module _ (s : Space) (gone : Reference → Bool) (seats : List ℕ) (lists : Lis
   left-none = search (arith, all-same)
 
   cover-at : (f : Frame) → In f s.frames → is_left_frame seats lists s.todo f ≡ true → cover f.made ≡ true
-  cover-at f l e = search (arith, any-in, and-both, eq-eqb)
+  cover-at f l e = search (arith, any-in, eq-eqb)
 
   pub cover-unread : (z : Space) (list : TodoList) (f : Frame) → In list lists → ((w : Work) → In w z.todo → In w s.todo) → In f s.frames → is_unread_on z.todo list f.made ≡ true → cover f.made ≡ true
-  cover-unread z list f i less l e = search (arith, cover-at, or-right, any-in, any-less)
+  cover-unread z list f i less l e = search (arith, any-in, any-less)
 
   pub left-step : (z : Space) (seat : ℕ) → In seat seats → In (OfThread seat) lists → ((r : Reference) → is_lost_reference s.todo (OfThread seat) r ≡ true → gone r ≡ true) → Left z → Left (thread_goes z seat)
   unfolding thread_goes

@@ -1,6 +1,6 @@
 -- For FollowingIsLocal, with lemmas for NothingIsPending: nothing is ripe once calls have ripened. To ripen what may be ripe
 -- on one object only, that object's oldest call is enough.
-use Rattle.bd_laws.proofs.words.Logic.{arith, ◌≡◌, ℕ, true, false, List, [], ◌∷◌, ◌++◌, refl, ap, find, eq-eqb}
+use Rattle.bd_laws.proofs.words.Logic.{arith, ◌≡◌, ℕ, true, false, List, [], ◌∷◌, ◌++◌, refl, ap, find}
 use Rattle.bd_laws.proofs.words.Types.{ObjectId, Turn, Work}
 use Rattle.bd_laws.proofs.words.Space.{same, Space, turns_of, is_ripe, ripened, ripen, first_due, ripen_of}
 use Rattle.bd_laws.proofs.words.Laws.{In, NoneRipe}
@@ -35,7 +35,7 @@ module _ (place : ℕ) where
 
   ripened-none : (ts older : List Turn) (todo : List Work) → NoneRipe (ripened place older todo ts) older ts
   ripened-none [] older todo = tt
-  ripened-none (t ∷ ts) older todo = search (arith, ripened-none ts, unripe-stays, eq-eqb, any-in, in-last)
+  ripened-none (t ∷ ts) older todo = search (arith, ripened-none ts, unripe-stays, any-in, in-last)
 
 pub ripen-none : (z : Space) → NoneRipe (ripen z).todo [] (turns_of (ripen z).buffers)
 unfolding ripen
@@ -53,12 +53,12 @@ module _ (o : ObjectId) where
 
   after-none : (ts older : List Turn) (todo : List Work) → OnObject older → NoneRipeBut o todo older ts → NoneRipe todo older ts
   after-none [] older todo k h = tt
-  after-none (t ∷ ts) older todo k h = search (arith, after-none ts, in-left, same-eq, any-in, eq-same)
+  after-none (t ∷ ts) older todo k h = search (arith, after-none ts, in-left, any-in, eq-same)
 
   ripened-first : (place : ℕ) (ts older : List Turn) (todo : List Work) → ((u : Turn) → In u older → same u.target o ≡ false) → NoneRipeBut o todo older ts
       → ripened place older todo ts ≡ first_due place todo (find (λ t. same t.target o) ts)
   ripened-first place [] older todo k h = refl
-  ripened-first place (t ∷ ts) older todo k h = search (arith, ripened-first place ts, ripened-still, after-none, in-last, but-more, any-found, eq-same, same-eq, in-push)
+  ripened-first place (t ∷ ts) older todo k h = search (arith, ripened-first place ts, ripened-still, after-none, in-last, but-more, any-found, same-eq, in-push)
 
   pub ripen-local : (z : Space) → NoneRipeBut o z.todo [] (turns_of z.buffers) → ripen z ≡ ripen_of o z
   unfolding ripen ripen_of

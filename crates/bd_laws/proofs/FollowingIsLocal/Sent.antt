@@ -109,7 +109,7 @@ module _ (s : Space) (v : Delivery) (h : IsFollowed s) (kept : KeptBefore s) (k 
   -- each new reference is a sent object's or the target's
   comes : (o : ObjectId) → is_sent o ≡ false → (r : Reference) → In r (buffer_references s.steps v.receiver.made 0 v.sending.items v.target) → same r.object o ≡ true
       → strong_in s.references o ≡ true
-  comes o none r l e = search (arith, buffer-reference, any-in, eq-same, same-eq)
+  comes o none r l e = search (arith, buffer-reference, any-in)
 
   come : (manager : Option ObjectId) → Elsewhere no_name is_sent (record s { manager = manager; objects = all_objects; references = all_references })
   come = come-elsewhere is_sent s h kept v.sending.made _ k.new (λ x l. search (arith, any-same, strong-held, comes, both)) (λ x l none. (let yes = k.sent x l in absurd (cc)))

@@ -30,7 +30,7 @@ module _ (s : Space) (t : Thread) (seat left : ℕ) (h : IsQuiet s) (distinct : 
   more = s.references ++ handshakes s 0 ws
 
   untold : (o : ObjectId) → told o ≡ false → (r : Reference) → In r (handshakes s 0 ws) → same r.object o ≡ false
-  untold o none r l = search (arith, to-false, same-eq, handshake-told)
+  untold o none r l = search (arith, same-eq, handshake-told)
 
   -- references say of it what they said
   same-said : (o : ObjectId) → told o ≡ false → (held_in more o ≡ held_in s.references o) × (strong_in more o ≡ strong_in s.references o)
@@ -45,7 +45,7 @@ module _ (s : Space) (t : Thread) (seat left : ℕ) (h : IsQuiet s) (distinct : 
 
   read-due : (o : ObjectId) → told o ≡ false → is_some_and (object_in s.objects o) (wants_notice s.processes s.references) ≡ true
       → is_some_and (object_in (told_objects s ws) o) (wants_notice s.processes more) ≡ true
-  read-due o none due = search (arith, find-changed, same-eq, find-in, wants-same)
+  read-due o none due = search (arith, find-changed, find-in, wants-same)
 
   -- a Notice of an object that wasn't told isn't taken
   notice-stays : (o : ObjectId) → told o ≡ false → list_any (λ (w : Work). is_notice o w.kind) s.todo ≡ true → list_any (λ (w : Work). is_notice o w.kind) (without_taken ws s.todo) ≡ true

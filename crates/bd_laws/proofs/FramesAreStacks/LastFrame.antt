@@ -48,4 +48,4 @@ module _ (frames : List Frame) (seat : ℕ) (h : Rising (depth_in frames) (frame
       elim (last-or-lower (depth_in frames) z f (frames_with frames seat) h e there) [ inl is ↦ ap (λ x. Some x) is | inr lt ↦ absurd (omega arith) ]
 
   pub innermost_is_last : innermost_in frames seat ≡ last_of (frames_with frames seat)
-  innermost_is_last = search (arith, no-frame, in-filter, none-innermost, true-part, one-frame)
+  innermost_is_last = search (arith, no-frame, in-filter, none-innermost, one-frame)

@@ -1,16 +1,16 @@
 -- For OneAtATime, OneWayCallsAreDueInTurn and SpacesAreTidy: in every history the one-way calls are in turn.
 use Rattle.bd_laws.proofs.words.Logic.{◌≡◌, ℕ, suc, ◌≤◌, true, ◌&&◌, List, [], ◌∷◌, Option, Some, inl, refl, sym, ◌∙◌, filter, length, arith, cons_option, eqb-true}
 use Rattle.bd_laws.proofs.words.Types.{ObjectId, Step, Entry, Buffer, Turn, Work, WorkKind}
-use Rattle.bd_laws.proofs.words.Space.{same, Space, opening, is_call, hands_out, turn_of, turns_of, counted, History, next, space_after}
+use Rattle.bd_laws.proofs.words.Space.{same, Space, opening, is_call, hands_out, turn_of, turns_of, counted, next}
 use Rattle.bd_laws.proofs.words.Laws.{is_out, out_on, In, Pairs, Waits, InTurn, IsInTurn}
 use Rattle.bd_laws.proofs.Lists.{in-filter, any-found, in-filter_map, pairs-map, pairs-filter}
 use Rattle.bd_laws.proofs.Tests.{both, same-eq, eq-same}
 use Rattle.bd_laws.proofs.Checks.{reply-checked}
-use Rattle.bd_laws.proofs.Machine.EveryStep.{Keeps, every_step, every_list}
+use Rattle.bd_laws.proofs.Machine.EveryStep.{Keeps, every_step}
 use Rattle.bd_laws.proofs.IsInTurn.OneWay
 use Rattle.bd_laws.proofs.IsInTurn.OneWay.{Less, HandsNothing, less_table, less_exits, less_closes, in_turn-less, more-steps}
 use Rattle.bd_laws.proofs.Machine.Table.{keeps-by}
-use Rattle.bd_laws.proofs.IsInTurn.Ripening.{ripen-in_turn, read-in_turn, turn-parts}
+use Rattle.bd_laws.proofs.IsInTurn.Ripening.{ripen-in_turn, read-in_turn}
 
 -- ---- every step
 
@@ -49,7 +49,7 @@ is_call-hands m k i = search (arith, eqb-true)
 
 alone-cons : (todo : List Work) (o : Option Turn) (b : Buffer) (bs : List Buffer) → turn_of b ≡ o → ((c : Buffer) → In c bs → Waits todo b c)
     → Pairs (Alone todo) (turns_of bs) → Pairs (Alone todo) (cons_option o (turns_of bs))
-alone-cons todo o b bs e h k = search (arith, in-filter_map, turn-parts, any-found, is_call-hands)
+alone-cons todo o b bs e h k = search (arith, in-filter_map, any-found, is_call-hands)
 
 pub turns-alone : (todo : List Work) (bs : List Buffer) → Pairs (Waits todo) bs → Pairs (Alone todo) (turns_of bs)
 turns-alone todo [] h = tt

@@ -22,7 +22,7 @@ pub less-same : (z y : Space) → z.steps ≡ y.steps → z.buffers ≡ y.buffer
 less-same z y e d k = record { steps = e; buffers = λ b l. subst (In b) d l; pairs = λ todo h. subst (Pairs (Waits todo)) (sym d) h; due = k }
 
 pub less-trans : (z y x : Space) → Less z y → Less y x → Less z x
-less-trans z y x h k = search (arith, h.steps, k.steps, k.buffers, h.buffers, h.pairs, k.pairs, k.due, h.due)
+less-trans z y x h k = search (arith, k.steps, k.buffers, h.buffers, h.pairs, k.pairs, k.due, h.due)
 
 pub more-steps : (n m : ℕ) (bs : List Buffer) (todo : List Work) → n ≤ m → InTurn n bs todo → InTurn m bs todo
 more-steps n m bs todo le h = record {

@@ -61,7 +61,7 @@ pub record After (z y : Space) : Type 0 where
   pub due : (w : Work) (m : ℕ) → In w z.todo → hands_out w.kind ≡ Some m → In w y.todo
 
 pub after-trans : (z y x : Space) → After z y → After y x → After z x
-after-trans z y x h k = search (arith, h.steps, k.steps, h.processes, k.processes, k.objects, h.objects, h.buffers, k.buffers, k.due, h.due)
+after-trans z y x h k = search (arith, k.steps, h.processes, k.processes, k.objects, h.objects, h.buffers, k.buffers, k.due, h.due)
 
 pub untouched-after : (z y : Space) → Untouched z y → Less z y → After z y
 untouched-after z y u l = record { steps = u.steps; processes = u.processes; objects = λ x i. subst (In x) u.objects i; buffers = u.buffers; due = l.due }
@@ -119,18 +119,18 @@ follow-after = follow-by After after-trans (record {
 
 pub opened-passed : (s : Space) (seat pid euid window : ℕ) → OnLists s → Passed s (with_thread (with_process s pid euid window) seat s.steps)
 unfolding with_thread with_process
-opened-passed s seat pid euid window l = search (arith, passed-none, in-push, same-buffer)
+opened-passed s seat pid euid window l = search (arith, in-push, same-buffer)
 
 pub attached-passed : (s : Space) (seat p : ℕ) → OnLists s → Passed s (with_thread s seat p)
 unfolding with_thread
-attached-passed s seat p l = search (arith, passed-none, same-buffer)
+attached-passed s seat p l = search arith
 
 pub actor-alive : (s : Space) (seat : ℕ) (a : Actor) → actor s seat ≡ Some a → Lives s.processes a.process.made
 actor-alive s seat a h = let l = find-in (λ (q : Process). q.made == a.thread.process) a.process s.processes (actor-lives s seat a h).1 in (a.process, l.0, refl)
 
 pub managed-passed : (s : Space) (seat : ℕ) (a : Actor) → actor s seat ≡ Some a → OnLists s → Passed s (with_manager s a.process.made)
 unfolding with_manager
-managed-passed s seat a acts l = search (arith, passed-none, in-push, actor-alive, same-buffer)
+managed-passed s seat a acts l = search (arith, in-push, actor-alive, same-buffer)
 
 pub marked-passed : (s : Space) (p : ℕ) (on : Bool) → OnLists s → Passed s (with_spam_detection s p on)
 unfolding with_spam_detection

@@ -13,7 +13,7 @@ use Rattle.bd_laws.proofs.Machine.Untouched
 use Rattle.bd_laws.proofs.Machine.Untouched.{Untouched}
 use Rattle.bd_laws.proofs.Sendings.{Made, sending-sends}
 use Rattle.bd_laws.proofs.Checks.{Owned, transaction-checked, reply-checked}
-use Rattle.bd_laws.proofs.IsInTurn.Passed.{Lives, Became, New, Passed, same-buffer, passed-none, After, untouched-after, passed-after, Going, going-passed, actor-alive}
+use Rattle.bd_laws.proofs.IsInTurn.Passed.{Lives, Became, New, Passed, same-buffer, After, untouched-after, passed-after, Going, going-passed, actor-alive}
 
 -- ---- transactions and replies
 
@@ -122,12 +122,12 @@ replied-passed s seat a d parcel f v turns l acts check =
 
 pub freed-passed : (s : Space) (b : Buffer) → InTurn s.steps s.buffers s.todo → OnLists s → In b s.buffers → b.handed ≡ true → Passed s (without_buffer s b.made)
 unfolding without_buffer
-freed-passed s b turns l here handed = search (arith, passed-none, in-filter, eqb-true, pairs-either, filter-in, not-false, same-buffer)
+freed-passed s b turns l here handed = search (arith, in-filter, eqb-true, pairs-either, filter-in, not-false, same-buffer)
 
 -- ---- reading
 
 handed-became : (s : Space) (made : ℕ) (b : Buffer) → Due s.todo made → (t : Bool) → is_made_at made b ≡ t → Became s b (cond t (hand_out b) b)
-handed-became s made b due t e = search (arith, eqb-true, same-buffer)
+handed-became s made b due t e = search arith
 
 handed-from : (s : Space) (o : Option Buffer) → ((b : Buffer) → o ≡ Some b → Due s.todo b.made) → (c : Buffer) → In c (handed_buffers s.buffers o) → (b : Buffer) × In b s.buffers × Became s b c
 handed-from s None due c i = (c, i, same-buffer s c)
@@ -142,4 +142,4 @@ handed-to s (Some x) due b i =
 
 pub read-passed : (s : Space) (t : Thread) (seat left : ℕ) → OnLists s → Passed s (read_by s seat (taken s left (list_to_read s t)))
 unfolding read_by
-read-passed s t seat left l = search (arith, taken-due, read-in, in-changed, handed-from, handed-to, in-filter)
+read-passed s t seat left l = search (arith, taken-due, read-in, in-changed, handed-to, in-filter)

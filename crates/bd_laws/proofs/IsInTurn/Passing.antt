@@ -51,7 +51,7 @@ ripen-passed s z turns h =
 -- ---- ends of threads and processes
 
 pub lost-on : (todo : List Work) (list : TodoList) (m : ℕ) → is_lost_with todo list m ≡ true → (w : Work) × In w todo × (is_on list w ≡ true) × (hands_out w.kind ≡ Some m)
-lost-on todo list m h = search (arith, any-found, eqb-true)
+lost-on todo list m h = search (arith, any-found)
 
 pub not-on : (seat : ℕ) (w : Work) (p : ℕ) → w.list ≡ OfProcess p → is_on (OfThread seat) w ≡ true → ⊥
 not-on seat w p e h = let f : is_on (OfThread seat) w ≡ false = rw e refl in absurd (cc)

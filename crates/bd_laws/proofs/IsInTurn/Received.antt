@@ -1,14 +1,12 @@
 -- For SpacesAreTidy (its part Received): the living one-way calls on an object have one receiver, the object's owner. The
 -- laws of turns and others use its lemmas on buffers before and after a step.
 use Rattle.bd_laws.proofs.words.Types.{ObjectId, Entry, Object, Buffer}
-use Rattle.bd_laws.proofs.words.Space.{Space, opening, change, counted, History, next, space_after}
+use Rattle.bd_laws.proofs.words.Space.{Space, opening, change, counted, next}
 use Rattle.std.proofs.Common.{◌≡◌, ℕ, ◌<◌, inl, inr, ap, sym, ◌∙◌, arith}
 use Rattle.bd_laws.proofs.words.Laws.{In, IsInTurn, On, Received, KeptBefore, Before}
-use Rattle.bd_laws.proofs.Machine.EveryStep.{every_list}
-use Rattle.bd_laws.proofs.Earlier.{in_order-differ}
 use Rattle.bd_laws.proofs.Lists.{pairs-either}
-use Rattle.bd_laws.proofs.IsInTurn.InTurn.{step-in_turn, opening-in_turn}
-use Rattle.bd_laws.proofs.Objects.{step-kept, opening-kept}
+use Rattle.bd_laws.proofs.IsInTurn.InTurn.{step-in_turn}
+use Rattle.bd_laws.proofs.Objects.{step-kept}
 pub use Rattle.bd_laws.proofs.IsInTurn.Ripening.{one-made}
 use Rattle.bd_laws.proofs.IsInTurn.Passing.{step-passes}
 use Rattle.bd_laws.proofs.IsInTurn.Passed.{Lives, Became, Passed}
@@ -22,7 +20,7 @@ pub on-after : (s : Space) (o : ObjectId) (b c : Buffer) → Became s b c → On
 on-after s o b c k on = (k.one_way ∙ on.0, k.target ∙ on.1)
 
 pub one-object : (s : Space) → KeptBefore s → (x y : Object) → In x s.objects → In y s.objects → x.id ≡ y.id → x ≡ y
-one-object s h x y i j e = search (arith, pairs-either, in_order-differ)
+one-object s h x y i j e = search (arith, pairs-either)
 
 pub one-buffer : (s : Space) → IsInTurn s → (b c : Buffer) → In b s.buffers → In c s.buffers → b.made ≡ c.made → b ≡ c
 one-buffer s h b c i j e = one-made s.steps s.buffers s.todo h b c i j e
@@ -98,4 +96,4 @@ step-before s e h = record {
 }
 
 pub opening-before : Before opening
-opening-before = search (arith, opening-in_turn, opening-kept)
+opening-before = search arith

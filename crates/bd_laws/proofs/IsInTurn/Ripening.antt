@@ -23,7 +23,7 @@ one-made n bs todo h b c i j e = search (arith, pairs-either)
 
 pairs-cons : (o : Option Turn) (b : Buffer) (bs : List Buffer) → turn_of b ≡ o → ((c : Buffer) → In c bs → b.made < c.made)
     → Pairs (λ t u. t.made < u.made) (turns_of bs) → Pairs (λ t u. t.made < u.made) (cons_option o (turns_of bs))
-pairs-cons o b bs e h k = search (arith, in-filter_map, turn-made)
+pairs-cons o b bs e h k = search (arith, in-filter_map)
 
 turns-rise : (todo : List Work) (bs : List Buffer) → Pairs (Waits todo) bs → Pairs (λ t u. t.made < u.made) (turns_of bs)
 turns-rise todo [] h = tt
@@ -95,7 +95,7 @@ module _ (s : Space) where
 
   pub read-in : (t : Thread) (left : ℕ) (w : Work) → In w (taken s left (list_to_read s t)) → In w s.todo
   unfolding list_to_read
-  read-in t left w h = search (arith, in-filter, taken-in, left)
+  read-in t left w h = search (arith, in-filter, taken-in)
 
 pub first-handed : (ws : List Work) (m : ℕ) → first_of (map (λ (w : Work). hands_out w.kind) ws) ≡ Some m → (w : Work) × In w ws × (hands_out w.kind ≡ Some m)
 first-handed [] m h = absurd (cc)

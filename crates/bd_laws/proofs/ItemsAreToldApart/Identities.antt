@@ -1,5 +1,5 @@
 -- For ItemsAreToldApart, which SpacesAreTidy has as a part: no two work items of one list have one identity.
-use Rattle.bd_laws.proofs.words.Logic.{◌≡◌, ℕ, ◌+◌, ◌<◌, ◌≤◌, ◌==◌, Bool, true, false, cond, List, [], ◌∷◌, inl, inr, refl, ap, sym, ◌∙◌, filter, arith, count_by, eqb-true, eq-eqb, sum_by-append, sum_by-cons}
+use Rattle.bd_laws.proofs.words.Logic.{◌≡◌, ℕ, ◌+◌, ◌<◌, ◌≤◌, ◌==◌, Bool, true, false, cond, List, [], ◌∷◌, inl, inr, refl, ap, sym, ◌∙◌, filter, arith, count_by, eq-eqb, sum_by-append, sum_by-cons}
 use Rattle.bd_laws.proofs.words.Types.{Work, Identity, WorkKind, TodoList}
 use Rattle.bd_laws.proofs.words.Space.{same_identity, with_work, is_item, is_on}
 use Rattle.bd_laws.proofs.words.Laws.{In, Distinct, Fresh}
@@ -74,4 +74,4 @@ module _ (n : ℕ) (todo : List Work) (list : TodoList) (kind : WorkKind) where
 module _ (n : ℕ) (todo : List Work) (keep : Work → Bool) where
   -- none of this step's
   pub filter-numbered : ((w : Work) → In w todo → w.id.place ≡ n → keep w ≡ true) → Numbered n todo → Numbered n (filter keep todo)
-  filter-numbered k h = search (arith, in-filter, count-filter, eqb-true)
+  filter-numbered k h = search (arith, in-filter, count-filter)

@@ -5,7 +5,7 @@ use Rattle.bd_laws.proofs.words.Space.{changed, seats_in, lists_in, lost_with_pr
 use Rattle.bd_space.specs.declared.space.WorkKind.TheVariants as work
 use Rattle.bd_laws.proofs.words.Laws.{In, AtHome, Told, IsQuiet}
 use Rattle.bd_laws.proofs.Lists.{in-filter, filter-in, in-map, any-found, any-in, fold-keeps}
-use Rattle.bd_laws.proofs.Tests.{both, and-both, not-true, not-eq, to-false}
+use Rattle.bd_laws.proofs.Tests.{both, and-both, not-true, not-eq}
 use Rattle.bd_laws.proofs.FollowingIsLocal.Left.{Left, threads-left, on-thread}
 use Rattle.bd_laws.proofs.AtHome.HomesSent.{one-thread}
 use Rattle.bd_laws.proofs.Machine.EveryStep.{every_step}
@@ -57,7 +57,7 @@ module _ (s : Space) (p : ℕ) (h : Told s) (quiet : IsQuiet s) (home : AtHome s
   -- a reference of another process stays
   pub rest-references : (r : Reference) (q : ℕ) → (q ≡ p → ⊥) → names_for q r.holder ≡ true → In r s.references → In r rest.references
   unfolding without_process
-  rest-references r q other named l = search (arith, to-false, any-found, not-lost, filter-in, left, not-eq, eqb-true)
+  rest-references r q other named l = search (arith, any-found, not-lost, filter-in, left, not-eq, eqb-true)
 
   -- another process's notification stands as before
   Stands : DeathNotification → Type 0

@@ -46,11 +46,11 @@ and-false a b c h = search arith
 
 pub drop_asked-kept : (z : Space) (p : ℕ) (o : ObjectId) (strong : Bool) → IsKept z → IsKept (drop_asked z p o strong)
 unfolding drop_asked
-drop_asked-kept z p o strong h = search (arith, in-without, without-in, and-false)
+drop_asked-kept z p o strong h = search (arith, in-without, without-in)
 
 pub acknowledge-kept : (z : Space) (o : ObjectId) (strong : Bool) → IsKept z → IsKept (acknowledge z o strong)
 unfolding acknowledge
-acknowledge-kept z o strong h = search (arith, in-without, without-in, and-false)
+acknowledge-kept z o strong h = search (arith, in-without, without-in)
 
 pub without_buffer-kept : (z : Space) (made : ℕ) → IsKept z → IsKept (without_buffer z made)
 unfolding without_buffer

@@ -6,7 +6,6 @@ use Rattle.std.proofs.Common.{arith, ◌≡◌, ℕ, Bool, true, false, cond, no
 use Rattle.bd_space.specs.declared.space.WorkKind.TheVariants as work
 use Rattle.bd_laws.specs.Lists.{In}
 use Rattle.bd_laws.proofs.Lists.{fold-keeps}
-use Rattle.bd_laws.proofs.Tests.{not-true}
 
 -- a caller that is there is told
 pub told-keeps : (R : Space → Type 0) (kind : WorkKind) → ((z : Space) (t : ℕ) → R z → R (owe z (OfThread t) kind))
@@ -23,7 +22,7 @@ module _ (P : List Work → Type 0) where
 
   pub notice-keeps : (place : ℕ) (processes : List Process) (references : List Reference) (list : TodoList) (todo : List Work) (x : Object)
       → (Missing processes references todo x → P todo → P (with_work place todo list (work.Notice x.id))) → P todo → P (with_notice place processes references list todo x)
-  notice-keeps place processes references list todo x k = search (arith, if-keeps, not-true)
+  notice-keeps place processes references list todo x k = search arith
 
   pub notify-keeps : (z : Space) → ((todo : List Work) (x : Object) → In x z.objects → Missing z.processes z.references todo x → P todo → P (with_work z.steps todo (OfProcess x.owner) (work.Notice x.id)))
       → P z.todo → P (notify z).todo

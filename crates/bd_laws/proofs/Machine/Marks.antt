@@ -15,9 +15,9 @@ mark-made on b q = search arith
 
 -- each was there before
 pub marked-in : (p : ℕ) (on : Bool) (processes : List Process) (q : Process) → In q (marked p on processes) → (r : Process) × In r processes × (r.made ≡ q.made)
-marked-in p on processes q l = search (arith, in-changed, mark-made)
+marked-in p on processes q l = search (arith, in-changed)
 
 -- the same ones live
 pub marked-lives : (p : ℕ) (on : Bool) (processes : List Process) (n : ℕ) → lives_in (marked p on processes) n ≡ lives_in processes n
 marked-lives p on [] n = refl
-marked-lives p on (q ∷ qs) n = search (arith, marked-lives p on qs n, mark-made)
+marked-lives p on (q ∷ qs) n = search (arith, marked-lives p on qs n)

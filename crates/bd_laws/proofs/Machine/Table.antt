@@ -8,7 +8,7 @@ use Rattle.bd_space.specs.declared.space.WorkKind.TheVariants as work
 use Rattle.bd_uapi.specs.declared.command.Command.TheVariants as bc
 use Rattle.bd_laws.proofs.Machine.Adding.{told-keeps, notify-keeps, own_notices-keeps, ripen-keeps}
 use Rattle.bd_laws.proofs.Machine.Settled.{settle-keeps}
-use Rattle.bd_laws.proofs.Machine.Deaths.{OnDeaths, KeptOnDeaths, on-kept, on-told, on-commands, on-mapped}
+use Rattle.bd_laws.proofs.Machine.Deaths.{OnDeaths, KeptOnDeaths, on-kept, on-told, on-commands}
 use Rattle.bd_laws.proofs.Machine.Following.{follow-by, ends-by, threads-by}
 use Rattle.bd_laws.proofs.Machine.EveryEnding.{SetUp, Changes}
 use Rattle.bd_laws.proofs.Machine.EveryStep.{Keeps}
@@ -130,7 +130,7 @@ module _ (R : Space → Space → Type 0) (T : WorkKind → Type 0) (t : Table R
     pub changes-but : Carried s seat x F → ((a : Actor) → actor s seat ≡ Some a → F (thread_goes s a.thread.seat))
         → ((a : Actor) → actor s seat ≡ Some a → F (tell_deaths (without_process (threads_go s a.process.made) a.process.made) a.process.made)) → Changes s seat x F
     unfolding ask assign_numbers drop_asked acknowledge
-    changes-but k leaves ends = search (arith, on-commands, on-mapped, deaths-by)
+    changes-but k leaves ends = search (arith, on-commands, deaths-by)
 
     module _ (e : Exits R) where
       pub changes-by : Carried s seat x F → Changes s seat x F

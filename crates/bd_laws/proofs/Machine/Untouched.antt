@@ -58,7 +58,7 @@ unfolding with_looping
 with_looping-untouched z t looping = other _ _ _ _ _
 
 kept-on_deaths : (z : Space) → KeptOnDeaths (λ y. Untouched y z)
-kept-on_deaths z = search (arith, untouched-trans, owe-untouched)
+kept-on_deaths z = search (arith, owe-untouched)
 
 pub on_deaths-untouched : (z : Space) → OnDeaths z (λ y. Untouched y z)
 on_deaths-untouched z = on-kept _ (kept-on_deaths z) z (untouched z)

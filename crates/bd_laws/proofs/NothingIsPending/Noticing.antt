@@ -43,7 +43,7 @@ once-other place todo list kind none h = pairs-push Apart _ todo h (λ w l o e f
 
 -- a Notice comes where it was missing
 loose-once : Loose (λ todo deaths. Once todo)
-loose-once = search (arith, pairs-filter, once-other, pairs-push, any-in, notice-is)
+loose-once = search (arith, pairs-filter, pairs-push, any-in, notice-is)
 
 once-on_deaths : KeptOnDeaths OnceIn
 unfolding owe

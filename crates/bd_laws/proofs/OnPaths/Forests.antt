@@ -5,7 +5,7 @@ use Rattle.bd_space.specs.declared.space.WorkKind.TheVariants as work
 use Rattle.bd_space.specs.Frames.{is_frame}
 use Rattle.bd_laws.proofs.words.Laws.{In, Pairs, Older, NoChild, Forest}
 use Rattle.bd_laws.proofs.Lists.{in-push, in-filter, filter-in, pairs-either, pairs-filter, all-push, two-push}
-use Rattle.bd_laws.proofs.Tests.{not-true, not-false}
+use Rattle.bd_laws.proofs.Tests.{not-true}
 
 pub one-frame : (fs : List Frame) → Pairs Older fs → (f g : Frame) → In f fs → In g fs → f.made ≡ g.made → f ≡ g
 one-frame fs h f g l m e = search (arith, pairs-either)
@@ -22,7 +22,7 @@ module _ (n : ℕ) (root : ℕ → ℕ) (fs : List Frame) (bs : List Buffer) (td
   forest-with : (m : ℕ) (cs : List Buffer) (ud : List Work) → n ≤ m → ((w : Work) (f : Frame) → In w ud → w.kind ≡ work.Call f.made → In f fs → In w td)
       → ((v w : Work) (b : ℕ) → In v ud → In w ud → v.kind ≡ work.Call b → w.kind ≡ work.Call b → v ≡ w) → ((w : Work) (b : ℕ) → In w ud → w.kind ≡ work.Call b → b < m)
       → ((c : Buffer) → In c cs → c.made < m) → ((c : Buffer) (f : Frame) → In c cs → c.one_way ≡ true → In f fs → f.made ≡ c.made → ⊥) → Forest m root fs cs ud
-  forest-with m cs ud le old one due buffers turns = search (arith, h.below, h.rooted, h.sorted, h.parents, h.linked, h.leaf, h.shared, h.waiting, h.childless, h.unserved)
+  forest-with m cs ud le old one due buffers turns = search (arith, h.leaf, h.shared, h.waiting, h.childless, h.unserved)
 
   forest-on : (m : ℕ) (cs : List Buffer) (ud : List Work) → n ≤ m → Calls ud td → ((c : Buffer) → In c cs → c.made < m)
       → ((c : Buffer) (f : Frame) → In c cs → c.one_way ≡ true → In f fs → f.made ≡ c.made → ⊥) → Forest m root fs cs ud
@@ -64,10 +64,10 @@ module _ (n : ℕ) (root : ℕ → ℕ) (fs : List Frame) (bs : List Buffer) (td
     rest = filter (λ (g : Frame). not (is_frame f.made g)) fs
 
     in-rest : (g : Frame) → In g rest → In g fs × (g.made ≡ f.made → ⊥)
-    in-rest g m = search (arith, in-filter, eq-eqb, not-true)
+    in-rest g m = search (arith, in-filter, not-true)
 
     stays : (g : Frame) → In g fs → (g.made ≡ f.made → ⊥) → In g rest
-    stays g m k = search (arith, filter-in, not-false, eqb-true)
+    stays g m k = search (arith, filter-in, eqb-true)
 
     childless-before : (x : Frame) → NoChild rest x → (f.parent ≡ Some x.made → ⊥) → NoChild fs x
     childless-before x k other y m e = at (y.made == f.made) refl

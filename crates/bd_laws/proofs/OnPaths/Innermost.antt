@@ -1,13 +1,12 @@
 -- For SpacesAreTidy, FramesAreStacks, FramesLieOnOnePath and the laws of open calls: which frame is a thread's innermost,
 -- and the way from a frame to its parents.
-use Rattle.bd_laws.proofs.words.Logic.{◌≡◌, ℕ, ◌<◌, ◌≤◌, ◌==◌, suc, Bool, true, false, cond, not, ◌||◌, List, [], ◌∷◌, length, reverse, Option, Some, None, inl, inr, refl, ap, sym, subst, ◌∙◌, arith, nat_le, list_all, is_some, reverse-append, eqb-true, eq-eqb, cases_lt, leb-true, le-leb, filter}
+use Rattle.bd_laws.proofs.words.Logic.{◌≡◌, ℕ, ◌<◌, ◌≤◌, ◌==◌, suc, Bool, true, false, cond, not, ◌||◌, List, [], ◌∷◌, length, reverse, Option, Some, None, inl, inr, refl, ap, sym, subst, ◌∙◌, arith, nat_le, list_all, is_some, reverse-append, eqb-true, eq-eqb, cases_lt, filter}
 use Rattle.bd_laws.proofs.words.Types.{Frame, Serving}
-use Rattle.bd_laws.proofs.words.Space.{ancestry, depth_in, takes_part, calls, is_deepest_in, innermost_in, is_some_and}
+use Rattle.bd_laws.proofs.words.Space.{ancestry, depth_in, takes_part, calls, is_deepest_in, innermost_in}
 use Rattle.bd_laws.proofs.words.Laws.{In, Pairs, Older, NoChild, Part, Nested, Parent}
 use Rattle.bd_laws.proofs.Lists.{in-push, in-right, in-left, find-in, find-some, all-in, pairs-push, in-filter, filter-in, in-all}
-use Rattle.bd_laws.proofs.Tests.{both, or-left, or-right, not-eq as differ, some-eq, eq-some, bound-if, if-bound}
+use Rattle.bd_laws.proofs.Tests.{both, not-eq as differ, eq-some, bound-if, if-bound}
 use Rattle.bd_laws.proofs.OnPaths.Forests.{one-frame}
-use Rattle.bd_laws.proofs.OnPaths.PathWords.{is-serving as true-serving}
 
 abbrev pub Newer : Frame → Frame → Type 0
 Newer f g = g.made < f.made
@@ -50,10 +49,10 @@ pub calls-true : (t : ℕ) (f : Frame) → f.caller ≡ Some t → calls t f ≡
 calls-true t f = eq-some t f.caller
 
 pub part-true : (t : ℕ) (f : Frame) → Part t f → takes_part t f ≡ true
-part-true t f h = search (arith, or-left, calls-true, or-right, eq-eqb)
+part-true t f h = search arith
 
 pub true-part : (t : ℕ) (f : Frame) → takes_part t f ≡ true → Part t f
-true-part t f h = search (arith, some-eq, true-serving)
+true-part t f h = search arith
 
 -- ---- the deepest
 

@@ -1,5 +1,5 @@
 -- For SpacesAreTidy: threads and processes that end leave the frames on their paths.
-use Rattle.bd_laws.proofs.words.Logic.{arith, ◌≡◌, ℕ, ◌==◌, false, cond, not, map, Some, None, refl, ap, sym, subst, ◌∙◌, filter, eqb-true, eq-eqb}
+use Rattle.bd_laws.proofs.words.Logic.{arith, ◌≡◌, ℕ, ◌==◌, false, cond, not, map, Some, None, refl, ap, sym, subst, ◌∙◌, filter}
 use Rattle.bd_laws.proofs.words.Types.{Work, Frame, OfThread, OfProcess}
 use Rattle.bd_laws.proofs.words.Space.{Space, is_on, thread_goes, gone_caller, frame_without, unread_frame, threads_go, without_process, tell_deaths}
 use Rattle.bd_laws.proofs.words.Laws.{In, Part, Forest, OnPaths}
@@ -7,7 +7,7 @@ use Rattle.bd_laws.proofs.Lists.{in-filter}
 use Rattle.bd_laws.proofs.Tests.{not-true}
 use Rattle.bd_laws.proofs.IsInTurn.OneWay as one_way
 use Rattle.bd_laws.proofs.IsInTurn.OneWay.{less_exits, Less}
-use Rattle.bd_laws.proofs.OnPaths.PathWords.{caller-stays, server-stays, unread-serving}
+use Rattle.bd_laws.proofs.OnPaths.PathWords.{server-stays, unread-serving}
 use Rattle.bd_laws.proofs.OnPaths.FrameChanges.{Changes, forest-changed}
 use Rattle.bd_laws.proofs.Machine.Deaths.{tell_deaths-aside}
 use Rattle.bd_laws.proofs.Machine.Following.{threads-keep}
@@ -25,10 +25,10 @@ module _ (n : ℕ) (z : Space) (h : OnPaths n z) where
   )
 
   off-list : (seat : ℕ) (w : Work) → In w (filter (λ (x : Work). not (is_on (OfThread seat) x)) z.todo) → In w z.todo × ((t : ℕ) → w.list ≡ OfThread t → (t == seat) ≡ false)
-  off-list seat w l = search (arith, in-filter, not-true, eq-eqb, eqb-true)
+  off-list seat w l = search (arith, in-filter, not-true)
 
   part-went : (seat t : ℕ) (f : Frame) → Part t (frame_without z.todo seat f) → Part t f
-  part-went seat t f h = search (arith, caller-stays, server-stays, unread-serving)
+  part-went seat t f h = search arith
 
   pub exits : (seat : ℕ) → OnPaths n (thread_goes z seat)
   unfolding thread_goes

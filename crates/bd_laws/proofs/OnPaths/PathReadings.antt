@@ -1,7 +1,7 @@
 -- For SpacesAreTidy: a reading takes a call on, onto the path of its frame; and one-way calls become due.
-use Rattle.bd_laws.proofs.words.Logic.{◌≡◌, ℕ, ◌<◌, ◌-◌, Bool, true, false, cond, not, ◌&&◌, List, [], ◌∷◌, ◌++◌, map, length, Option, Some, None, ◌⊎◌, inl, inr, refl, ap, sym, subst, ◌∙◌, filter, arith, nat_lt, list_any, is_none, eqb-true, eq-eqb}
-use Rattle.bd_laws.proofs.words.Types.{Work, Frame, Turn, Buffer, Thread, TodoList, OfThread, OfProcess}
-use Rattle.bd_laws.proofs.words.Space.{changed, Space, innermost_in, with_work, list_to_read, work_on, has_work_in, is_on, is_call, same_list, is_item, ripen, ripened, is_ripe, turns_of, turn_of, taken, read_by, serve, handed_buffers, buffer_taken, ends_read, bytes_read}
+use Rattle.bd_laws.proofs.words.Logic.{◌≡◌, ℕ, ◌<◌, ◌-◌, Bool, true, false, cond, not, ◌&&◌, List, [], ◌∷◌, ◌++◌, map, length, Option, Some, None, ◌⊎◌, inl, inr, refl, ap, sym, subst, ◌∙◌, filter, arith, nat_lt, list_any, is_none, eq-eqb}
+use Rattle.bd_laws.proofs.words.Types.{Work, Frame, Turn, Buffer, Thread, OfThread, OfProcess}
+use Rattle.bd_laws.proofs.words.Space.{changed, Space, innermost_in, with_work, list_to_read, work_on, has_work_in, is_on, is_call, is_item, ripen, ripened, is_ripe, turns_of, turn_of, taken, read_by, serve, handed_buffers, buffer_taken, ends_read, bytes_read}
 use Rattle.bd_space.specs.declared.space.WorkKind.TheVariants as work
 use Rattle.bd_laws.proofs.words.Laws.{In, Forest, Part, Nested, OnPaths}
 use Rattle.bd_laws.proofs.Lists.{in-filter, in-changed, in-filter_map, any-found, any-in}
@@ -111,7 +111,7 @@ module _ (n : ℕ) (s : Space) (h : OnPaths n s) (t : Thread) (left : ℕ) where
   served-or-not f = search arith
 
   part-now : (u : ℕ) (f : Frame) → Part u (now f) → Part u f ⊎ ((called-in f ≡ true) × (u ≡ t.seat))
-  part-now u f p = search (arith, served-or-not, now-caller)
+  part-now u f p = search arith
 
   reading-changes : (ud : List Work) → ((w : Work) → In w ud → In w s.todo × ((v : Work) → In v ws → w ≡ v → ⊥)) → Changes h.0 s.frames ud now
   reading-changes ud left_over = record {

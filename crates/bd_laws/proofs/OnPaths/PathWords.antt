@@ -1,10 +1,9 @@
 -- For SpacesAreTidy and the laws of calls and replies: small facts on frames, callers and servers.
-use Rattle.bd_laws.proofs.words.Logic.{arith, ◌≡◌, ℕ, ◌==◌, true, false, cond, List, [], ◌∷◌, reverse, find, Option, Some, None, option_map, refl, eqb-true, eq-eqb}
+use Rattle.bd_laws.proofs.words.Logic.{arith, ◌≡◌, ℕ, ◌==◌, true, false, cond, List, [], ◌∷◌, reverse, find, Option, Some, None, option_map, refl, eqb-true}
 use Rattle.bd_laws.proofs.words.Types.{Frame, Work, Server, Serving, TodoList, OfThread, OfProcess}
 use Rattle.bd_laws.proofs.words.Space.{Space, serves, innermost_in, served_innermost, is_item, unread_server, gone_caller, gone_server, goes_to, ancestry, waits_in, list_of_caller, made_of}
 use Rattle.bd_laws.proofs.words.Laws.{In}
 use Rattle.bd_laws.proofs.Lists.{find-in}
-use Rattle.bd_laws.proofs.Tests.{and-both}
 
 pub is-serving : (seat : ℕ) (v : Server) → serves seat v ≡ true → v ≡ Serving seat
 is-serving seat v e = search (arith, eqb-true)
@@ -14,7 +13,7 @@ unfolding served_innermost
 served-is s seat f h = search (arith, is-serving)
 
 pub same-item : (v w : Work) → v ≡ w → is_item v w ≡ true
-same-item v w e = search (arith, and-both, eq-eqb)
+same-item v w e = search arith
 
 -- of this thread is told what it is when it is gone, of another one what it was
 other-stays : {A : Type 0} (of : ℕ → A) (gone : A) (seat u t : ℕ) → (gone ≡ of t → ⊥) → (of u ≡ of t → u ≡ t) → cond (u == seat) gone (of u) ≡ of t → (of u ≡ of t) × ((t == seat) ≡ false)

@@ -5,7 +5,6 @@ use Rattle.bd_laws.proofs.words.Space.{Space, closed, served_innermost, owe, tel
 use Rattle.bd_space.specs.declared.space.WorkKind.TheVariants as work
 use Rattle.bd_laws.proofs.words.Laws.{In, Forest, NoChild, OnPaths}
 use Rattle.bd_laws.proofs.Lists.{find-in, any-in}
-use Rattle.bd_laws.proofs.Tests.{not-true}
 use Rattle.bd_laws.proofs.IsInTurn.OneWay.{Less, owe-less}
 use Rattle.bd_laws.proofs.OnPaths.PathWords.{served-is}
 use Rattle.bd_laws.proofs.OnPaths.Forests.{forest-same, forest-closed}
@@ -40,7 +39,7 @@ unfolding closed
 closes n z f l none h = (h.0, forest-closed n h.0 z.frames z.buffers z.todo h.1 f l none)
 
 pub abandoned-childless : (fs : List Frame) (f : Frame) → is_abandoned fs f ≡ true → NoChild fs f
-abandoned-childless fs f h g l e = search (arith, not-true, eq-eqb, any-in)
+abandoned-childless fs f h g l e = search (arith, eq-eqb, any-in)
 
 pub abandons : (n : ℕ) (z : Space) (f : Frame) → find (is_abandoned z.frames) z.frames ≡ Some f → OnPaths n z → OnPaths n (tell_caller (closed z f.made) f (work.Verdict DeadReply))
 abandons n z f e h =
