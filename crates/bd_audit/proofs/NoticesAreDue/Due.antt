@@ -33,8 +33,7 @@ beq-same a b h = search arith
 pub notices-due : (h : History) → (list_all (λ x. beq (has_notice_in (space_after h).todo x.id) (wants_notice (space_after h).processes (space_after h).references x)) (space_after h).objects ≡ true)
     × ((o : ObjectId) → length (filter (λ w. is_notice o w.kind) (space_after h).todo) ≤ 1)
 unfolding space_after
-notices-due h =
-    (
-      all-in _ (space_after h).objects (λ x l. beq-same _ _ (quiet-exact (space_after h) (always-tidy h).quiet x l)),
-      λ o. one-notice o (space_after h).todo (every_list Noticing step-noticing h.entries opening opening-noticing).once,
-    )
+notices-due h = (
+  all-in _ (space_after h).objects (λ x l. beq-same _ _ (quiet-exact (space_after h) (always-tidy h).quiet x l)),
+  λ o. one-notice o (space_after h).todo (every_list Noticing step-noticing h.entries opening opening-noticing).once,
+)
