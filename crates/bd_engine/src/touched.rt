@@ -1,11 +1,14 @@
 //! What follows from a change at some names and objects: nothing else is looked at.
 
-ghost use Rattle.std.specs.Prelude.{◌≡◌, ◌≤◌, length};
-ghost use Rattle.bd_space.specs.Local.{follow_of, at_name, no_name, is_among, names_among};
+ghost use Rattle.std.specs.Prelude.{◌≡◌, ◌≤◌, [], ◌∷◌, length};
+ghost use Rattle.bd_space.specs.Space.{Space};
+ghost use Rattle.bd_space.specs.References.{object_in};
+ghost use Rattle.bd_space.specs.Local.{follow_of, at_name, at_object, no_name, is_among, names_among};
 ghost use Rattle.bd_laws.specs.Lists.{Pairs};
 ghost use Rattle.bd_laws.specs.Objects.{NotLater};
+ghost use Rattle.bd_objects.specs.Telling.{owner_due};
 ghost use Rattle.bd_calls.specs.Room.{work_room};
-ghost use Rattle.bd_engine.specs.Stands.{Uses, MakesWithin, UsesNothing};
+ghost use Rattle.bd_engine.specs.Stands.{Within, Uses, MakesWithin, TellsWithin, UsesNothing};
 ghost use Rattle.bd_engine.specs.Following.{deaths_followed, deaths_withdrawn, followed_at, names_followed, shed_of, told_of, AreTouched, MakesOfOrdered};
 
 use crate::tables::Tables;
@@ -58,16 +61,41 @@ impl Tables {
         self.follow_deaths(p, o);
     }
 
+    // This object goes if nothing keeps it, and its notice if that has nothing left to say. Returns the live owner that is
+    // then to be told of it.
+    fn shed_object(&mut self, o: ObjectId) -> Option<u32>
+        ensures stands { MakesWithin self.old self.new (shed_of (at_object o)) }
+        ensures owner { TellsWithin self.old result
+            (λ s. owner_due s (object_in (shed_of (at_object o) s).objects o)) }
+        ensures uses { UsesNothing self.old self.new }
+    {
+        let owner = self.objects.object_goes(&self.processes, o);
+        if owner.is_none() {
+            self.calls.withdraw_notice(o);
+        }
+        owner
+    }
+
+    // The owner, if there is one to be told of the object, gets its notice, if that is missing.
+    fn tell_owner(&mut self, owner: Option<u32>, o: ObjectId)
+        requires { 1 ≤ work_room self.old.calls }
+        ensures stands { (s : Space) → owner ≡ owner_due s (object_in s.objects o) → Within self.old s
+            → Within self.new (told_of (o ∷ []) s) }
+        ensures uses { Uses self.old self.new 0 0 0 1 }
+    {
+        if let Some(p) = owner {
+            let list = TodoList::OfProcess(p);
+            self.calls.add_notice(self.steps, list, o, true);
+        }
+    }
+
     // Of these objects those go that nothing keeps, and the notices that have nothing left to say.
     fn shed_objects(&mut self, touched: &[ObjectId])
         ensures stands { MakesWithin self.old self.new (shed_of (is_among touched.now)) }
         ensures uses { UsesNothing self.old self.new }
     {
         for o in touched {
-            let owner = self.objects.object_goes(&self.processes, *o);
-            if owner.is_none() {
-                self.calls.withdraw_notice(*o);
-            }
+            self.shed_object(*o);
         }
     }
 
@@ -79,27 +107,18 @@ impl Tables {
     {
         for o in touched {
             let owner = self.objects.owner_to_tell(&self.processes, *o);
-            if let Some(p) = owner {
-                let list = TodoList::OfProcess(p);
-                self.calls.add_notice(self.steps, list, *o, true);
-            }
+            self.tell_owner(owner, *o);
         }
     }
 
-    // This object goes if nothing keeps it, and its notice with it; else its owner gets the notice, if that is missing.
+    // The object is shed, and its owner told of it if it stays.
     fn follow_object(&mut self, o: ObjectId)
         requires { 1 ≤ work_room self.old.calls }
         ensures stands { MakesWithin self.old self.new (followed_at o) }
         ensures uses { Uses self.old self.new 0 0 0 1 }
     {
-        let owner = self.objects.object_goes(&self.processes, o);
-        match owner {
-            Some(p) => {
-                let list = TodoList::OfProcess(p);
-                self.calls.add_notice(self.steps, list, o, true);
-            }
-            None => self.calls.withdraw_notice(o),
-        }
+        let owner = self.shed_object(o);
+        self.tell_owner(owner, o);
     }
 
     /// What follows at these objects, given in the order in which they were made.
