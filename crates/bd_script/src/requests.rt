@@ -1,7 +1,7 @@
 //! The verbs of a script.
 
 ghost use Rattle.std.specs.Prelude.{◌≡◌, Some, None, length, IfOk, MatchResult};
-ghost use Rattle.bd_script.specs.Words.{ReadsAs, ReadsOrMemory, one_of, two_of, three_of, four_of, shown};
+ghost use Rattle.bd_script.specs.Words.{ReadsAs, ReadsOrMemory, one_of, two_of, four_of, shown};
 ghost use Rattle.bd_script.specs.Requests.{alone, area_of, command_of, command_with, handle_and_cookie_of, one_number_of, one_switch_of, longer_command_of, open_of, padded, pointer_and_cookie_of, one_long_of, post_of, data_of, request_of, send, sent, stream_and_area, tx_of, verb_of, write_of, write_with};
 ghost use Rattle.bd_script.specs.declared.script.Trouble.TheVariants.{Bad};
 
@@ -15,11 +15,12 @@ use std::alloc::{AllocError, Global};
 
 // ---- so many words and no more
 
-fn no_word(args: &[&[u8]]) -> Result<(), Trouble>
-    ensures { ReadsAs result (alone tt (shown args.now)) }
+// This, where no word stands behind the verb.
+fn alone<T: Drop>(value: T, args: &[&[u8]]) -> Result<T, Trouble>
+    ensures { ReadsAs result (alone value (shown args.now)) }
 {
     match args {
-        [] => Ok(()),
+        [] => Ok(value),
         _ => Err(Trouble::Bad),
     }
 }
@@ -42,17 +43,6 @@ fn two_words<'a>(args: &[&'a [u8]]) -> Result<(&'a [u8], &'a [u8]), Trouble>
 {
     match args {
         [first, second] => Ok((*first, *second)),
-        _ => Err(Trouble::Bad),
-    }
-}
-
-fn three_words<'a>(args: &[&'a [u8]]) -> Result<(&'a [u8], &'a [u8], &'a [u8]), Trouble>
-    ensures { MatchResult result
-        (λ words. three_of (shown args.now) ≡ Some (words.0.now, words.1.now, words.2.now))
-        (λ trouble. (trouble ≡ Bad) × (three_of (shown args.now) ≡ None)) }
-{
-    match args {
-        [first, second, third] => Ok((*first, *second, *third)),
         _ => Err(Trouble::Bad),
     }
 }
@@ -232,11 +222,9 @@ fn command_of(verb: &[u8], args: &[&[u8]]) -> Result<Command, Trouble>
     ensures { ReadsAs result (command_of verb.now (shown args.now)) }
 {
     if is(verb, b"enter") {
-        no_word(args)?;
-        Ok(Command::EnterLooper)
+        alone(Command::EnterLooper, args)
     } else if is(verb, b"exitloop") {
-        no_word(args)?;
-        Ok(Command::ExitLooper)
+        alone(Command::ExitLooper, args)
     } else if is(verb, b"free") {
         Ok(Command::FreeBuffer(one_long(args)?))
     } else if is(verb, b"increfs") {
@@ -279,7 +267,9 @@ fn longer_command_of(verb: &[u8], args: &[&[u8]]) -> Result<Command, Trouble>
 fn open(args: &[&[u8]]) -> Result<Request, Trouble>
     ensures { ReadsAs result (open_of (shown args.now)) }
 {
-    let (pid, euid, window) = three_words(args)?;
+    let [pid, euid, window] = args else {
+        return Err(Trouble::Bad);
+    };
     Ok(Request::Open {
         pid: word_in(pid)?,
         euid: word_in(euid)?,
@@ -299,8 +289,7 @@ fn request_of(alloc: Global, verb: &[u8], args: &[&[u8]]) -> Result<Request, Tro
             pid: one_number(args)?,
         })
     } else if is(verb, b"manager") {
-        no_word(args)?;
-        Ok(Request::SetManager)
+        alone(Request::SetManager, args)
     } else if is(verb, b"spam") {
         Ok(Request::SetSpam {
             on: one_switch(args)?,
@@ -310,11 +299,9 @@ fn request_of(alloc: Global, verb: &[u8], args: &[&[u8]]) -> Result<Request, Tro
             limit: one_number(args)?,
         })
     } else if is(verb, b"exitthread") {
-        no_word(args)?;
-        Ok(Request::ExitThread)
+        alone(Request::ExitThread, args)
     } else if is(verb, b"exitprocess") {
-        no_word(args)?;
-        Ok(Request::ExitProcess)
+        alone(Request::ExitProcess, args)
     } else {
         write_with(alloc, verb, args)
     }
@@ -352,19 +339,15 @@ pub fn verb_of(alloc: Global, verb: &[u8], args: &[&[u8]]) -> Result<Verb, Troub
     ensures { ReadsOrMemory result (verb_of verb.now (shown args.now)) }
 {
     if is(verb, b"look") {
-        no_word(args)?;
-        Ok(Verb::Look)
+        alone(Verb::Look, args)
     } else if is(verb, b"await") {
         Ok(Verb::Await(one_number(args)?))
     } else if is(verb, b"serve") {
-        no_word(args)?;
-        Ok(Verb::Serve)
+        alone(Verb::Serve, args)
     } else if is(verb, b"collect") {
-        no_word(args)?;
-        Ok(Verb::Collect)
+        alone(Verb::Collect, args)
     } else if is(verb, b"withdraw") {
-        no_word(args)?;
-        Ok(Verb::Withdraw)
+        alone(Verb::Withdraw, args)
     } else if is(verb, b"post") {
         post(alloc, args)
     } else {
