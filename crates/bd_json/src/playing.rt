@@ -6,7 +6,7 @@ ghost use Rattle.bd_player.specs.Printing.{PrintsLine};
 
 use crate::said::SaidLine;
 use crate::writing::write_line;
-use bd_player::{DONE, FAULT, Fault, Played, Said, Sink, laid, play_lines, tell};
+use bd_player::{DONE, FAULT, Fault, Played, Said, Sink, play_into, tell};
 use bd_show::Untold;
 use std::alloc::Global;
 use std::io::{Read, Write};
@@ -80,7 +80,7 @@ impl<W: Write> Sink for Lines<'_, W> {
     }
 }
 
-/// Plays a script, its lines in their order. No line of a script with a bad one is run.
+/// Plays a script, and writes what its lines say.
 pub(crate) fn play<R: Read, W: Write, E: Write>(
     alloc: Global,
     script: &mut R,
@@ -91,14 +91,8 @@ pub(crate) fn play<R: Read, W: Write, E: Write>(
     // What is handed on as the history of the run is one.
     ensures history { IfSome result.history (λ r. IsHistory (history_in r)) }
 {
-    let (driver, mut seats, script) = match laid(alloc, script) {
-        Ok(parts) => parts,
-        Err(fault) => return Played::fault(fault, err),
-    };
     let mut lines = Lines::new(alloc, out);
-    play_lines(&driver, &mut seats, script.lines, turns, &mut lines);
-    Played {
-        status: lines.end(err),
-        history: Some(driver.finish(seats)),
-    }
+    let ran = play_into(alloc, script, turns, &mut lines);
+    let status = lines.end(err);
+    Played::of(ran, status, err)
 }

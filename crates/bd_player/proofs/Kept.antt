@@ -6,17 +6,17 @@ use Rattle.std.specs.Io.KnownBytes.{Appends, Keeps}
 use Rattle.bd_space.specs.declared.record.Record.{Record}
 use Rattle.bd_journal.specs.Spelling.{IsJournal, Tells, journal_bytes}
 use Rattle.bd_player.specs.Journals.{Wrote}
-use Rattle.bd_player.specs.Verdicts.{IsLawfulAt0, IsVerdict, Judges, JudgesKnown}
+use Rattle.bd_player.specs.Verdicts.{IsLawfulAt0, Judges, JudgesKnown}
 use Rattle.bd_player.specs.declared.verdicts.Judged.{Judged}
-use Rattle.bd_player.specs.declared.verdicts.Verdict.TheVariants.{Lawful}
+use Rattle.bd_player.specs.declared.verdicts.Judged.TheVariants.{History}
 
 pub flushed : (o p q : Option (List ℕ)) (r : Record) (b : Bool) → IsJournal r → Appends o p (journal_bytes r) → Keeps p q → Wrote o q r b
 flushed o p q r true j s t = (j, Appends-kept o p q (journal_bytes r) s t)
 flushed o p q r false j s t = (journal_bytes r, [], sym (append-nil (journal_bytes r)), Appends-kept o p q (journal_bytes r) s t)
 
-pub judged : (known : Option (List ℕ)) (bytes : List ℕ) (entries status : ℕ) → IfSome known (λ xs. bytes ≡ xs) → IsVerdict bytes (Lawful entries) → IsLawfulAt0 known status
-judged None bytes entries status same h = λ e. tt
-judged (Some xs) bytes entries status same h = λ e. (h.0, subst (λ (ys : List ℕ). Tells ys h.0) same h.1, h.2.0)
+pub judged : (known : Option (List ℕ)) (found : Record) (status : ℕ) → JudgesKnown known (History found) → IsLawfulAt0 known status
+judged None found status h = λ e. tt
+judged (Some bytes) found status h = λ e. (h.0, h.1, h.2.2)
 
 pub judges_known : (known : Option (List ℕ)) (bytes : List ℕ) (j : Judged) → IfSome known (λ xs. bytes ≡ xs) → Judges bytes j → JudgesKnown known j
 judges_known None bytes j same h = tt

@@ -6,7 +6,7 @@ ghost use Rattle.bd_player.specs.Verdicts.{IsAsSaid, IsLawfulAt0, JudgesKnown};
 
 use crate::faults::{DONE, FAULT, Fault, after_writing, tell};
 use crate::playing::read_on;
-use crate::verdicts::{Judged, Verdict, judgment_on, verdict_watched};
+use crate::verdicts::{Judged, judgment_on};
 use bd_audit::{Unwatched, Watch};
 use bd_journal::behind_magic;
 use bd_space::Record;
@@ -111,13 +111,9 @@ pub fn check_watched<R: Read, P: Watch, W: Write, E: Write>(
 ) -> u8
     ensures { IsLawfulAt0 (R.remaining journal.old) result }
 {
-    let bytes = match journal_from(alloc, journal) {
-        Ok(bytes) => bytes,
-        Err(fault) => return tell(fault, err),
-    };
-    match verdict_watched(alloc, &bytes, watch) {
-        Ok(Verdict::Lawful { entries }) => print_lawful(entries, out),
-        Ok(Verdict::Unlawful { at }) => print_unlawful(at, out),
+    match judged_watched(alloc, journal, watch) {
+        Ok(Judged::History(found)) => print_lawful(found.entries.as_slice().len(), out),
+        Ok(Judged::Unlawful { at, .. }) => print_unlawful(at, out),
         Err(fault) => tell(fault, err),
     }
 }

@@ -19,7 +19,7 @@ pub use journals::{
     write_journal,
 };
 pub use manner::{Manner, play_from};
-pub use playing::{Played, laid, play, play_lines};
+pub use playing::{Played, laid, play, play_into, play_lines};
 pub use printing::{Printer, print};
 pub use said::Said;
 pub use sink::Sink;

@@ -1,6 +1,6 @@
 //! Playing a script line by line.
 
-ghost use Rattle.std.specs.Prelude.{◌≡◌, ◌≤◌, ◌++◌, false, All, IfOk, IfSome, None};
+ghost use Rattle.std.specs.Prelude.{◌≡◌, ◌≤◌, ◌++◌, false, All, IfOk, IfSome, MatchResult, None, Some};
 ghost use Rattle.bd_uapi.specs.Limits.{IsSeats};
 ghost use Rattle.bd_space.specs.Histories.{IsHistory, history_in};
 ghost use Rattle.bd_driver.specs.Together.{new_seats};
@@ -35,6 +35,20 @@ impl Played {
         Played {
             status: tell(fault, err),
             history: None,
+        }
+    }
+
+    /// What ended with this status, or wasn't run.
+    pub fn of<E: Write>(ran: Result<Record, Fault>, status: u8, err: &mut E) -> Played
+        ensures { MatchResult ran (λ r. (result.status ≡ status) × (result.history ≡ Some r))
+            (λ fault. (result.status ≡ fault_status fault) × (result.history ≡ None)) }
+    {
+        match ran {
+            Ok(history) => Played {
+                status,
+                history: Some(history),
+            },
+            Err(fault) => Played::fault(fault, err),
         }
     }
 }
@@ -125,7 +139,26 @@ pub fn play_lines<D: Desk, S: Sink>(
     }
 }
 
-/// Plays a script, its lines in their order. No line of a script with a bad one is run.
+/// Plays a script, its lines in their order, and has a sink take what they say. No line of a script with a bad one is
+/// run.
+pub fn play_into<R: Read, S: Sink>(
+    alloc: Global,
+    script: &mut R,
+    turns: u32,
+    sink: &mut S,
+) -> Result<Record, Fault>
+    // What is handed on as the history of the run is one.
+    ensures history { S.is_full sink.old ≡ false → IfOk result (λ r. IsHistory (history_in r)) }
+{
+    let (driver, mut seats, script) = match laid(alloc, script) {
+        Ok(parts) => parts,
+        Err(fault) => return Err(fault),
+    };
+    play_lines(&driver, &mut seats, script.lines, turns, sink);
+    Ok(driver.finish(seats))
+}
+
+/// Plays a script, and prints what its lines say.
 pub fn play<R: Read, W: Write, E: Write>(
     alloc: Global,
     script: &mut R,
@@ -136,14 +169,8 @@ pub fn play<R: Read, W: Write, E: Write>(
     // What is handed on as the history of the run is one.
     ensures history { IfSome result.history (λ r. IsHistory (history_in r)) }
 {
-    let (driver, mut seats, script) = match laid(alloc, script) {
-        Ok(parts) => parts,
-        Err(fault) => return Played::fault(fault, err),
-    };
     let mut printer = Printer::new(out);
-    play_lines(&driver, &mut seats, script.lines, turns, &mut printer);
-    Played {
-        status: printer.into_status(),
-        history: Some(driver.finish(seats)),
-    }
+    let ran = play_into(alloc, script, turns, &mut printer);
+    let status = printer.into_status();
+    Played::of(ran, status, err)
 }

@@ -89,19 +89,7 @@ pub fn verdict_on(alloc: Global, bytes: &[u8]) -> Result<Verdict, Fault>
     // No journal is called unreadable.
     ensures journal { IfErr result (λ f. f ≡ Journal → (r : Record) → Tells bytes.now r → ⊥) }
 {
-    verdict_watched(alloc, bytes, &mut Unwatched)
-}
-
-/// The same, and tells how far it is.
-pub(crate) fn verdict_watched<P: Watch>(
-    alloc: Global,
-    bytes: &[u8],
-    watch: &mut P,
-) -> Result<Verdict, Fault>
-    ensures verdict { IfOk result (IsVerdict bytes.now) }
-    ensures journal { IfErr result (λ f. f ≡ Journal → (r : Record) → Tells bytes.now r → ⊥) }
-{
-    match judgment_on(alloc, bytes, watch) {
+    match judgment_on(alloc, bytes, &mut Unwatched) {
         Ok(Judged::History(found)) => Ok(Verdict::Lawful {
             entries: found.entries.as_slice().len(),
         }),
