@@ -5,11 +5,11 @@ ghost use Rattle.bd_uapi.specs.Limits.{IsSeats};
 ghost use Rattle.bd_space.specs.Histories.{IsHistory, history_in};
 ghost use Rattle.bd_diagram.specs.Held.{holds, is_within};
 
-use crate::fault::Undrawn;
 use crate::mermaid::print_mermaid;
 use crate::plot::plotted;
 use crate::svg::print_svg;
 use crate::text::print_text;
+use bd_show::Untold;
 use bd_space::Record;
 use std::alloc::Global;
 use std::io::Write;
@@ -61,21 +61,18 @@ pub fn draw<W: Write>(
     record: &Record,
     drawing: Drawing,
     out: &mut W,
-) -> Result<(), Undrawn>
+) -> Result<(), Untold>
     requires seats { IsSeats «record».now.seats }
     requires lawful { IsHistory (history_in «record».now) }
 {
     if !drawing.is_within(record.entries.as_slice().len()) {
-        return Err(Undrawn::OutOfRange);
+        return Err(Untold::OutOfRange);
     }
     let diagram = plotted(alloc, record, drawing)?;
-    let printed = match drawing.format {
-        Format::Svg => print_svg(&diagram, out),
-        Format::Mermaid => print_mermaid(&diagram, out),
-        Format::Text => print_text(&diagram, out),
-    };
-    match printed {
-        Ok(()) => Ok(()),
-        Err(_) => Err(Undrawn::Output),
+    match drawing.format {
+        Format::Svg => print_svg(&diagram, out)?,
+        Format::Mermaid => print_mermaid(&diagram, out)?,
+        Format::Text => print_text(&diagram, out)?,
     }
+    Ok(())
 }

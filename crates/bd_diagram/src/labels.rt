@@ -2,7 +2,6 @@
 //! take for anything else.
 
 use crate::model::{Arrow, Diagram, Doing, Event, Kind, Row, Span};
-use bd_journal::{cause_number, fault_number, note_number};
 use std::fmt;
 
 /// What is sent, in a word or two.
@@ -64,80 +63,33 @@ impl fmt::Display for SpanText {
     }
 }
 
-// What an entry did that is no arrow's.
+/// What is written beside a row: what its entry did.
 #[derive(Drop)]
-struct EventText(Event);
+pub(crate) struct RowText<'a>(pub &'a Diagram, pub Row);
 
-impl fmt::Display for EventText {
+impl fmt::Display for RowText<'_> {
     fn fmt<W: fmt::Write>(&self, f: &mut fmt::Formatter<W>) -> fmt::Result {
-        match self.0 {
+        match self.1.event {
+            Event::Sent(index) => match self.0.arrow(index) {
+                Some(arrow) => write!(f, "{}", SentText(arrow)),
+                None => Ok(()),
+            },
+            Event::Got(index) => match self.0.arrow(index) {
+                Some(arrow) => write!(f, "{}", GotText(arrow)),
+                None => Ok(()),
+            },
             Event::Opened(pid) => write!(f, "opens pid {pid}"),
             Event::Attached(pid) => write!(f, "attaches to pid {pid}"),
             Event::ManagerSet => f.write_str("becomes the manager"),
             Event::SpamSet(true) => f.write_str("asks for reports of flooding"),
             Event::SpamSet(false) => f.write_str("asks for no more reports of flooding"),
-            Event::Sent(_) | Event::Got(_) => Ok(()),
             Event::Death(cookie) => write!(f, "is told of a death, cookie {cookie}"),
             Event::DeadReply => f.write_str("reads BR_DEAD_REPLY"),
             Event::FailedReply => f.write_str("reads BR_FAILED_REPLY"),
             Event::SpamSuspect => f.write_str("reads BR_ONEWAY_SPAM_SUSPECT"),
             Event::ThreadExit => f.write_str("thread exits"),
             Event::ProcessExit => f.write_str("process exits"),
-            Event::Noted(note) => {
-                let number = note_number(note);
-                write!(f, "N{number} {note:?}")
-            }
-            Event::Stopped(cause) => {
-                let number = cause_number(cause);
-                write!(f, "X{number} {cause:?}")
-            }
-            Event::Refused(fault) => {
-                let number = fault_number(fault);
-                write!(f, "F{number} {fault:?}")
-            }
-        }
-    }
-}
-
-/// What is written beside a row.
-#[derive(Drop)]
-pub(crate) struct RowText<'a>(pub &'a Diagram, pub Row);
-
-impl fmt::Display for RowText<'_> {
-    fn fmt<W: fmt::Write>(&self, f: &mut fmt::Formatter<W>) -> fmt::Result {
-        let event = self.1.event;
-        match event {
-            Event::Sent(index) => match self.0.arrow(index) {
-                Some(arrow) => {
-                    let sent = SentText(arrow);
-                    write!(f, "{sent}")
-                }
-                None => Ok(()),
-            },
-            Event::Got(index) => match self.0.arrow(index) {
-                Some(arrow) => {
-                    let got = GotText(arrow);
-                    write!(f, "{got}")
-                }
-                None => Ok(()),
-            },
-            _ => {
-                let event = EventText(event);
-                write!(f, "{event}")
-            }
-        }
-    }
-}
-
-/// A pid, or a dash where there is none.
-#[derive(Drop)]
-pub(crate) struct PidText(pub Option<u32>);
-
-impl fmt::Display for PidText {
-    fn fmt<W: fmt::Write>(&self, f: &mut fmt::Formatter<W>) -> fmt::Result {
-        match self.0 {
-            Some(pid) => write!(f, "{pid}"),
-            None => f.write_str("-"),
+            Event::Refused(reason) => write!(f, "{reason}"),
         }
     }
 }

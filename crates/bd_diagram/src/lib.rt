@@ -2,7 +2,6 @@
 #![tactic(auto)]
 
 mod drawing;
-mod fault;
 mod labels;
 mod lanes;
 mod mermaid;
@@ -14,5 +13,5 @@ mod svg;
 mod text;
 mod tracks;
 
+pub use bd_show::Untold as Undrawn;
 pub use drawing::{Drawing, Format, draw};
-pub use fault::Undrawn;

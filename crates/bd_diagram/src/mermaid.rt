@@ -1,7 +1,8 @@
 //! A diagram in Mermaid's language.
 
-use crate::labels::{KindText, PidText, RowText, SentText};
+use crate::labels::{KindText, RowText, SentText};
 use crate::model::{Arrow, Diagram, Doing, Event, Item, Kind, Lane, Row, Span};
+use bd_state::OrDash;
 use std::io;
 use std::io::Write;
 
@@ -11,7 +12,7 @@ fn print_lane<W: Write>(before: Option<Lane>, lane: Lane, out: &mut W) -> io::Re
         if before.is_some() {
             writeln!(out, "    end")?;
         }
-        let pid = PidText(lane.pid);
+        let pid = OrDash(lane.pid);
         writeln!(out, "    box pid {pid}")?;
     }
     let seat = lane.seat;

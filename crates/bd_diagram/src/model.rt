@@ -1,6 +1,6 @@
 //! A diagram, as plain data: lanes from left to right, and what happens from top to bottom.
 
-use bd_uapi::{Cause, Fault, Note};
+use bd_show::Reason;
 
 /// A seat's place beside the others: its thread's, or its threads' one after the other.
 #[derive(Clone, Copy)]
@@ -91,9 +91,8 @@ pub(crate) enum Event {
     SpamSuspect,
     ThreadExit,
     ProcessExit,
-    Noted(Note),
-    Stopped(Cause),
-    Refused(Fault),
+    /// A command or a request was refused, or changed nothing.
+    Refused(Reason),
 }
 
 /// A mark in a row of its own.

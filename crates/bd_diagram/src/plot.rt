@@ -5,13 +5,13 @@ ghost use Rattle.bd_uapi.specs.Limits.{IsSeats};
 ghost use Rattle.bd_space.specs.Histories.{IsHistory, history_in};
 
 use crate::drawing::Drawing;
-use crate::fault::Undrawn;
 use crate::model::{Arrow, Diagram, End, Event, Kind};
 use crate::sheet::Sheet;
 use crate::stepping::{Taken, make_step};
 use crate::tracks::Tracks;
 use bd_codec::read_return;
 use bd_engine::Engine;
+use bd_show::{Reason, Untold, handle_of};
 use bd_space::{Buffer, Entry, ObjectId, Record, Step, StepAnswer};
 use bd_uapi::{Command, Fault, Return, TransactionData};
 use bd_words::{WordKey, WordMap};
@@ -147,8 +147,7 @@ impl Plot {
         sent: &TransactionData,
         buffer: Option<&Buffer>,
     ) -> Result<Kind, AllocError> {
-        // What stands above the low 32 bits counts for nothing.
-        let handle = sent.target & 0xffff_ffff;
+        let handle = handle_of(sent);
         let code = sent.code;
         Ok(match buffer {
             Some(buffer) if buffer.one_way => Kind::OneWay {
@@ -279,12 +278,12 @@ impl Plot {
             (StepAnswer::Set, _) => Event::ManagerSet,
             (StepAnswer::Exited, Step::ExitThread) => Event::ThreadExit,
             (StepAnswer::Exited, _) => Event::ProcessExit,
-            (StepAnswer::Noted(note), _) => Event::Noted(*note),
-            (StepAnswer::Stopped(cause), _) => Event::Stopped(*cause),
             // A reading that finds nothing leaves no mark.
             (StepAnswer::Refused(Fault::Again), _) => return Ok(()),
-            (StepAnswer::Refused(fault), _) => Event::Refused(*fault),
-            _ => return Ok(()),
+            _ => match Reason::of(answer) {
+                Some(reason) => Event::Refused(reason),
+                None => return Ok(()),
+            },
         };
         self.sheet.mark(place, seat, event)
     }
@@ -331,7 +330,7 @@ impl Plot {
 }
 
 /// A history as a diagram.
-pub(crate) fn plotted(alloc: Global, record: &Record, drawing: Drawing) -> Result<Diagram, Undrawn>
+pub(crate) fn plotted(alloc: Global, record: &Record, drawing: Drawing) -> Result<Diagram, Untold>
     requires seats { IsSeats «record».now.seats }
     requires lawful { IsHistory (history_in «record».now) }
 {

@@ -1,7 +1,7 @@
 //! The sheet that a diagram is drawn on, from top to bottom.
 
 use crate::drawing::Drawing;
-use crate::model::{Event, Item, Row, Span};
+use crate::model::{Event, Item, Row};
 use std::alloc::{AllocError, Global};
 
 /// What was drawn so far.
@@ -51,18 +51,10 @@ impl Sheet {
         Ok(())
     }
 
-    /// A span begins.
-    pub fn begins(&mut self, span: Span) -> Result<(), AllocError> {
+    /// Draws that a span begins or ends, if anything is drawn yet.
+    pub fn turn(&mut self, item: Item) -> Result<(), AllocError> {
         if self.is_begun {
-            self.items.push(Item::Begins(span))?;
-        }
-        Ok(())
-    }
-
-    /// A span ends.
-    pub fn ends(&mut self, span: Span) -> Result<(), AllocError> {
-        if self.is_begun {
-            self.items.push(Item::Ends(span))?;
+            self.items.push(item)?;
         }
         Ok(())
     }

@@ -1,8 +1,9 @@
 //! A diagram as a picture: an SVG file that stands alone.
 
-use crate::labels::{KindText, PidText, RowText, SpanText};
+use crate::labels::{KindText, RowText, SpanText};
 use crate::lanes::lane_of;
 use crate::model::{Arrow, Diagram, Doing, Event, Item, Kind, Lane, Row, Span};
+use bd_state::OrDash;
 use std::io::Write;
 use std::{fmt, io};
 
@@ -358,7 +359,7 @@ fn print_lane<W: Write>(at: usize, lane: &Lane, y: u64, out: &mut W) -> io::Resu
     let x = lane_x(Some(at));
     let left = x.saturating_sub(44);
     let (pid_y, seat_y) = (y.saturating_add(17), y.saturating_add(35));
-    let (pid, seat) = (PidText(lane.pid), lane.seat);
+    let (pid, seat) = (OrDash(lane.pid), lane.seat);
     writeln!(
         out,
         "<rect x=\"{left}\" y=\"{y}\" width=\"88\" height=\"42\" rx=\"4\" fill=\"#ffffff\" stroke=\"#8a96a3\"/>\

@@ -72,7 +72,7 @@ fn mark_of(event: Event) -> Option<char> {
         Event::Death(_) => Some('D'),
         Event::DeadReply | Event::FailedReply | Event::SpamSuspect => Some('!'),
         Event::ThreadExit | Event::ProcessExit => Some('X'),
-        Event::Noted(_) | Event::Stopped(_) | Event::Refused(_) => Some('x'),
+        Event::Refused(_) => Some('x'),
     }
 }
 
@@ -159,11 +159,6 @@ fn print_seats<W: Write>(lanes: &[Lane], out: &mut W) -> io::Result<()> {
     writeln!(out)
 }
 
-fn print_heading<W: Write>(lanes: &[Lane], out: &mut W) -> io::Result<()> {
-    print_pids(lanes, out)?;
-    print_seats(lanes, out)
-}
-
 // The seat's thread does this from now on.
 fn set_doing(lanes: &[Lane], doings: &mut Doings, seat: u32, doing: Doing) {
     if let Some(lane) = lane_of(lanes, seat) {
@@ -185,7 +180,8 @@ pub(crate) fn print_text<W: Write>(diagram: &Diagram, out: &mut W) -> io::Result
             Item::Ends(span) => set_doing(lanes, &mut doings, span.seat, span.outer),
             Item::Row(row) => {
                 if rows % ROWS_A_HEADING == 0 {
-                    print_heading(lanes, out)?;
+                    print_pids(lanes, out)?;
+                    print_seats(lanes, out)?;
                 }
                 print_row(diagram, &doings, row, out)?;
                 rows = rows.saturating_add(1);

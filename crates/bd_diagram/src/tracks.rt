@@ -1,7 +1,7 @@
 //! What the threads of the seats are doing, step by step.
 
 use crate::lanes::{add_lane, lane_at, put_in_order};
-use crate::model::{Doing, Lane, Span};
+use crate::model::{Doing, Item, Lane, Span};
 use crate::sheet::Sheet;
 use bd_engine::Engine;
 use bd_space::Entry;
@@ -90,7 +90,7 @@ impl Tracks {
             self.spans[index].is_open = false;
         }
         self.set_top(begun.span.seat, begun.around);
-        sheet.ends(begun.span)
+        sheet.turn(Item::Ends(begun.span))
     }
 
     // Ends the spans that the seat isn't in any more, from the innermost on.
@@ -143,7 +143,7 @@ impl Tracks {
             is_open: true,
         })?;
         self.set_top(seat, Some(index));
-        sheet.begins(span)
+        sheet.turn(Item::Begins(span))
     }
 
     /// Goes along with what the engine says of a seat's thread now: its process, and its innermost frame.
@@ -177,7 +177,7 @@ impl Tracks {
     pub fn begin(&self, sheet: &mut Sheet) -> Result<(), AllocError> {
         for begun in self.spans.as_slice() {
             if begun.is_open {
-                sheet.begins(begun.span)?;
+                sheet.turn(Item::Begins(begun.span))?;
             }
         }
         Ok(())
@@ -187,7 +187,7 @@ impl Tracks {
     pub fn end(&self, sheet: &mut Sheet) -> Result<(), AllocError> {
         for begun in self.spans.as_slice().iter().rev() {
             if begun.is_open {
-                sheet.ends(begun.span)?;
+                sheet.turn(Item::Ends(begun.span))?;
             }
         }
         Ok(())

@@ -2,7 +2,7 @@
 
 ghost use Rattle.std.specs.Prelude.{◌≡◌};
 
-use crate::looked::Looked;
+use crate::looked::looked_at;
 use bd_show::Reason;
 use bd_space::{Step, StepAnswer};
 use bd_uapi::Command;
@@ -70,30 +70,12 @@ pub(crate) struct Grounds {
     section: &'static str,
 }
 
-// Adds the reasons that were looked at of these. Whether one held.
-fn add_tried(
-    reasons: &[Reason],
-    held: Option<Reason>,
-    tried: &mut Vec<Tried>,
-) -> Result<bool, AllocError> {
-    for reason in reasons {
+// The reasons that were looked at for a step, up to the one that held.
+fn tried_of(alloc: Global, step: &Step, held: Option<Reason>) -> Result<Vec<Tried>, AllocError> {
+    let mut tried = Vec::new(alloc);
+    for reason in looked_at(step).iter().copied().flatten() {
         tried.push(Tried::new(*reason, held))?;
         if held == Some(*reason) {
-            return Ok(true);
-        }
-    }
-    Ok(false)
-}
-
-// The reasons that were looked at, up to the one that held.
-fn tried_of(
-    alloc: Global,
-    looked: &Looked,
-    held: Option<Reason>,
-) -> Result<Vec<Tried>, AllocError> {
-    let mut tried = Vec::new(alloc);
-    for reasons in [looked.first, looked.second, looked.parcel, looked.last] {
-        if add_tried(reasons, held, &mut tried)? {
             break;
         }
     }
@@ -108,7 +90,7 @@ impl Grounds {
         answer: &StepAnswer,
     ) -> Result<Grounds, AllocError> {
         Ok(Grounds {
-            looked: tried_of(alloc, &Looked::at(step), Reason::of(answer))?,
+            looked: tried_of(alloc, step, Reason::of(answer))?,
             section: section_of(step),
         })
     }

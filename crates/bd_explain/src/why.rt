@@ -7,7 +7,7 @@ ghost use Rattle.bd_audit.specs.Replays.{StopsAt};
 
 use crate::grounds::Grounds;
 use bd_audit::{Given, given_at, played_before};
-use bd_show::{Form, Untold, pid_of, show_at};
+use bd_show::{Form, Made, Untold, pid_of, show_at};
 use bd_space::{Entry, Record, StepAnswer};
 use serde::Serialize;
 use std::alloc::Global;
@@ -78,20 +78,6 @@ impl fmt::Display for Difference {
     }
 }
 
-// Tells where these differ, if they do.
-fn tell_difference<F: Form, W: Write>(
-    name: &'static str,
-    recorded: &[u8],
-    given: &[u8],
-    form: &F,
-    out: &mut W,
-) -> Result<(), Untold> {
-    match Difference::between(name, recorded, given) {
-        Some(difference) => form.tell(&difference, out),
-        None => Ok(()),
-    }
-}
-
 // Tells where what was read differs from what the rules give.
 fn tell_differences<F: Form, W: Write>(
     recorded: &StepAnswer,
@@ -99,37 +85,31 @@ fn tell_differences<F: Form, W: Write>(
     form: &F,
     out: &mut W,
 ) -> Result<(), Untold> {
-    let StepAnswer::Got {
-        stream,
-        bytes,
-        offsets,
-    } = recorded
+    let (
+        StepAnswer::Got {
+            stream,
+            bytes,
+            offsets,
+        },
+        StepAnswer::Got {
+            stream: given_stream,
+            bytes: given_bytes,
+            offsets: given_offsets,
+        },
+    ) = (recorded, given)
     else {
         return Ok(());
     };
-    let StepAnswer::Got {
-        stream: given_stream,
-        bytes: given_bytes,
-        offsets: given_offsets,
-    } = given
-    else {
-        return Ok(());
-    };
-    tell_difference(
-        "returns",
-        stream.as_slice(),
-        given_stream.as_slice(),
-        form,
-        out,
-    )?;
-    tell_difference("data", bytes.as_slice(), given_bytes.as_slice(), form, out)?;
-    tell_difference(
-        "offsets",
-        offsets.as_slice(),
-        given_offsets.as_slice(),
-        form,
-        out,
-    )
+    for (name, recorded, given) in [
+        ("returns", stream, given_stream),
+        ("data", bytes, given_bytes),
+        ("offsets", offsets, given_offsets),
+    ] {
+        if let Some(it) = Difference::between(name, recorded.as_slice(), given.as_slice()) {
+            form.tell(&it, out)?;
+        }
+    }
+    Ok(())
 }
 
 /// That the rules give no step, and why.
@@ -215,6 +195,13 @@ pub fn explain_unlawful<F: Form, W: Write>(
     let given = given_at(alloc, record, at)?;
     let entry = &record.entries.as_slice()[at as usize];
     form.tell(&Unlawful { unlawful: at }, out)?;
-    form.recorded(at, entry, pid, out)?;
+    form.recorded(
+        Made {
+            place: at,
+            entry,
+            pid,
+        },
+        out,
+    )?;
     tell_given(alloc, record.seats, entry, &given, form, out)
 }

@@ -4,9 +4,9 @@ use Rattle.std.proofs.lemmas.List.{map-append, append-nil, take_all}
 use Rattle.bd_uapi.specs.declared.command.Return.{Return}
 use Rattle.bd_uapi.specs.declared.fault.Fault.{Fault}
 use Rattle.bd_codec.specs.Reading.{return_at}
-use Rattle.bd_json.specs.declared.words.Payload.{Payload}
-use Rattle.bd_json.specs.declared.words.Word.{Word}
-use Rattle.bd_json.specs.Payloads.{of_next, of_return, of_returns_to}
+use Rattle.bd_show.specs.declared.words.Payload.{Payload}
+use Rattle.bd_show.specs.declared.words.Word.{Word}
+use Rattle.bd_show.specs.Payloads.{of_next, of_return, of_returns_to}
 
 -- one return more is read
 pub one_more : (words : List Word) (w : Word) (most i : ℕ) (bytes : List ℕ) (r : Return) (len : ℕ) (all : List Payload)

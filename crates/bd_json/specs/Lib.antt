@@ -1,4 +1,3 @@
 pub mod Lines
-pub mod Payloads
 pub mod Told
 pub mod Said

@@ -12,7 +12,7 @@ use Rattle.bd_show.specs.Refusals.{refusal}
 use Rattle.bd_json.specs.declared.entries.AnswerPart.{AnswerPart}
 use Rattle.bd_json.specs.declared.entries.AnswerPart.TheVariants as part
 use Rattle.bd_json.specs.declared.entries.EntryLine.{EntryLine}
-use Rattle.bd_json.specs.Payloads as payloads
+use Rattle.bd_show.specs.Payloads as payloads
 
 abbrev pub fault_refusal : Fault → Refusal
 fault_refusal f = refusal 70 (fault_number f)

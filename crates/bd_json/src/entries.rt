@@ -1,14 +1,13 @@
 //! Entries of a history, and answers.
 
 ghost use Rattle.std.specs.Prelude.{◌≡◌, map, IfOk};
-ghost use Rattle.bd_json.specs.Payloads.{of_returns};
+ghost use Rattle.bd_show.specs.Payloads.{of_returns};
 ghost use Rattle.bd_json.specs.Told as spec;
 
 use crate::members::member;
-use crate::words::Word;
 use bd_codec::read_return;
-use bd_show::Refusal;
-use bd_space::{Entry, StepAnswer};
+use bd_show::{Made, Refusal, Word};
+use bd_space::StepAnswer;
 use serde::{Described, Serialize, Serializer};
 use std::alloc::{AllocError, Global};
 
@@ -121,14 +120,10 @@ pub(crate) struct EntryLine {
 }
 
 impl EntryLine {
-    pub(crate) fn new(
-        alloc: Global,
-        place: u32,
-        entry: &Entry,
-        pid: Option<u32>,
-    ) -> Result<EntryLine, AllocError>
-        ensures { IfOk result (spec.IsOfEntry place entry.now pid) }
+    pub(crate) fn new(alloc: Global, made: Made<'_>) -> Result<EntryLine, AllocError>
+        ensures { IfOk result (spec.IsOfEntry made.entry.place made.entry.entry.now made.entry.pid) }
     {
+        let Made { place, entry, pid } = made;
         Ok(EntryLine {
             place,
             seat: entry.seat,

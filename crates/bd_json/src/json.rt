@@ -5,8 +5,8 @@ ghost use Rattle.bd_json.specs.Lines.{GrowsByLine};
 
 use crate::entries::{EntryLine, GivenLine};
 use crate::writing::write_line;
-use bd_show::{Form, Untold};
-use bd_space::{Entry, StepAnswer};
+use bd_show::{Form, Made, Untold};
+use bd_space::StepAnswer;
 use serde::Serialize;
 use std::alloc::Global;
 use std::fmt;
@@ -17,25 +17,13 @@ use std::io::Write;
 pub(crate) struct Json(pub(crate) Global);
 
 impl Form for Json {
-    fn entry<W: Write>(
-        &self,
-        place: u32,
-        entry: &Entry,
-        pid: Option<u32>,
-        out: &mut W,
-    ) -> Result<(), Untold> {
-        let line = EntryLine::new(self.0, place, entry, pid)?;
+    fn entry<W: Write>(&self, made: Made<'_>, out: &mut W) -> Result<(), Untold> {
+        let line = EntryLine::new(self.0, made)?;
         write_line(self.0, &line, out)
     }
 
-    fn recorded<W: Write>(
-        &self,
-        place: u32,
-        entry: &Entry,
-        pid: Option<u32>,
-        out: &mut W,
-    ) -> Result<(), Untold> {
-        self.entry(place, entry, pid, out)
+    fn recorded<W: Write>(&self, made: Made<'_>, out: &mut W) -> Result<(), Untold> {
+        self.entry(made, out)
     }
 
     fn given<W: Write>(&self, answer: &StepAnswer, out: &mut W) -> Result<(), Untold> {

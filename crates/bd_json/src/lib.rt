@@ -8,7 +8,6 @@ mod members;
 mod playing;
 mod said;
 mod texts;
-mod words;
 mod writing;
 
 pub use format::{

@@ -11,15 +11,3 @@ pub(crate) fn member<T: Serialize, S: Serializer>(
     out.key(name)?;
     value.serialize(out)
 }
-
-/// Writes a member, if there is a value for it.
-pub(crate) fn member_if_any<T: Serialize, S: Serializer>(
-    name: &str,
-    value: &Option<T>,
-    out: &mut S,
-) -> Result<(), S::Error> {
-    match value {
-        Some(value) => member(name, value, out),
-        None => Ok(()),
-    }
-}

@@ -102,24 +102,25 @@ impl SaidPart<'_> {
     }
 
     // The places of the steps, where it has them.
-    fn steps(&self) -> Option<(u32, u32)> {
+    fn write_steps<S: Serializer>(&self, out: &mut S) -> Result<(), S::Error> {
         match self {
             SaidPart::Opened { from, to }
             | SaidPart::Set { from, to }
             | SaidPart::Exited { from, to }
             | SaidPart::Wrote { from, to, .. }
             | SaidPart::Got { from, to, .. }
-            | SaidPart::Refused { from, to, .. } => Some((*from, *to)),
-            _ => None,
+            | SaidPart::Refused { from, to, .. } => {
+                member("from", from, out)?;
+                member("to", to, out)
+            }
+            SaidPart::Back { .. }
+            | SaidPart::Handed
+            | SaidPart::Served { .. }
+            | SaidPart::Page { .. }
+            | SaidPart::Passed
+            | SaidPart::Turns
+            | SaidPart::Idle => Ok(()),
         }
-    }
-
-    fn write_steps<S: Serializer>(&self, out: &mut S) -> Result<(), S::Error> {
-        let Some((from, to)) = self.steps() else {
-            return Ok(());
-        };
-        member("from", &from, out)?;
-        member("to", &to, out)
     }
 
     // What comes behind the kind and the steps.
@@ -130,13 +131,21 @@ impl SaidPart<'_> {
                 notes,
                 stop,
                 ..
-            } => write_written(*consumed, notes, stop, out),
+            } => {
+                member("consumed", consumed, out)?;
+                member("notes", notes, out)?;
+                member("stop", stop, out)
+            }
             SaidPart::Got {
                 returns,
                 data,
                 offsets,
                 ..
-            } => write_got(*returns, *data, *offsets, out),
+            } => {
+                member("returns", returns, out)?;
+                member("data", data, out)?;
+                member("offsets", offsets, out)
+            }
             SaidPart::Refused { fault, .. } => member("fault", fault, out),
             SaidPart::Back { why } => member("why", why, out),
             SaidPart::Served { requests } => member("requests", requests, out),
@@ -144,43 +153,15 @@ impl SaidPart<'_> {
                 stamp,
                 ready,
                 taken,
-            } => write_page(*stamp, *ready, *taken, out),
-            _ => Ok(()),
+            } => {
+                member("stamp", stamp, out)?;
+                member("ready", ready, out)?;
+                member("taken", taken, out)
+            }
+            SaidPart::Opened { .. } | SaidPart::Set { .. } | SaidPart::Exited { .. } => Ok(()),
+            SaidPart::Handed | SaidPart::Passed | SaidPart::Turns | SaidPart::Idle => Ok(()),
         }
     }
-}
-
-fn write_written<S: Serializer>(
-    consumed: u32,
-    notes: &Vec<NotePart>,
-    stop: &Option<Refusal>,
-    out: &mut S,
-) -> Result<(), S::Error> {
-    member("consumed", &consumed, out)?;
-    member("notes", notes, out)?;
-    member("stop", stop, out)
-}
-
-fn write_got<S: Serializer>(
-    returns: Hex<'_>,
-    data: Hex<'_>,
-    offsets: Hex<'_>,
-    out: &mut S,
-) -> Result<(), S::Error> {
-    member("returns", &returns, out)?;
-    member("data", &data, out)?;
-    member("offsets", &offsets, out)
-}
-
-fn write_page<S: Serializer>(
-    stamp: u32,
-    ready: u32,
-    taken: bool,
-    out: &mut S,
-) -> Result<(), S::Error> {
-    member("stamp", &stamp, out)?;
-    member("ready", &ready, out)?;
-    member("taken", &taken, out)
 }
 
 fn note_parts(alloc: Global, notes: &Notes) -> Result<Vec<NotePart>, AllocError>

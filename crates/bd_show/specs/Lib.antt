@@ -4,3 +4,4 @@ pub mod Answered
 pub mod Refusals
 pub mod Reasons
 pub mod Certified
+pub mod Payloads

@@ -1,24 +1,29 @@
 //! Answers, with the names of refusals.
 
 use crate::reasons::Reason;
-use crate::returns::StreamText;
+use crate::words::Word;
+use bd_codec::read_return;
 use bd_space::StepAnswer;
-use bd_uapi::{Cause, Fault, Note};
 use std::fmt;
 
-fn print_note<W: fmt::Write>(note: Note, f: &mut fmt::Formatter<W>) -> fmt::Result {
-    let reason = Reason::Note(note);
-    write!(f, "noted {reason}: {note}")
-}
+/// The returns of a stream, each on a line of its own.
+#[derive(Drop)]
+struct StreamText<'a>(&'a [u8]);
 
-fn print_cause<W: fmt::Write>(cause: Cause, f: &mut fmt::Formatter<W>) -> fmt::Result {
-    let reason = Reason::Cause(cause);
-    write!(f, "stopped {reason}: {cause}")
-}
-
-fn print_fault<W: fmt::Write>(fault: Fault, f: &mut fmt::Formatter<W>) -> fmt::Result {
-    let reason = Reason::Fault(fault);
-    write!(f, "refused {reason}: {fault}")
+impl fmt::Display for StreamText<'_> {
+    fn fmt<W: fmt::Write>(&self, f: &mut fmt::Formatter<W>) -> fmt::Result {
+        let mut rest = self.0;
+        // Each return is 4 bytes long or more.
+        for _ in 0..self.0.len() {
+            let Ok((told, len)) = read_return(rest) else {
+                break;
+            };
+            let text = Word::of_return(&told);
+            write!(f, "\n    {text}")?;
+            rest = &rest[len..];
+        }
+        Ok(())
+    }
 }
 
 /// What a step was answered. Of what was read each return has a line of its own.
@@ -32,9 +37,9 @@ impl fmt::Display for AnswerText<'_> {
             StepAnswer::Set => f.write_str("set"),
             StepAnswer::Exited => f.write_str("exited"),
             StepAnswer::Accepted => f.write_str("accepted"),
-            StepAnswer::Noted(note) => print_note(*note, f),
-            StepAnswer::Stopped(cause) => print_cause(*cause, f),
-            StepAnswer::Refused(fault) => print_fault(*fault, f),
+            StepAnswer::Noted(note) => write!(f, "noted {}: {note}", Reason::Note(*note)),
+            StepAnswer::Stopped(cause) => write!(f, "stopped {}: {cause}", Reason::Cause(*cause)),
+            StepAnswer::Refused(fault) => write!(f, "refused {}: {fault}", Reason::Fault(*fault)),
             StepAnswer::Got { stream, .. } => {
                 let len = stream.len();
                 let returns = StreamText(stream.as_slice());

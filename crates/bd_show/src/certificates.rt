@@ -37,10 +37,7 @@ pub(crate) fn chain_of(
     ensures chain { IfOk result (λ c. IfSome c (λ v. IsChainOf (history_in «record».now) pid number v.items)) }
     ensures none { IfOk result (λ c. is_some c ≡ is_some (looks.named_by (space_after (history_in «record».now)) pid number)) }
 {
-    match gift_chain(alloc, record, pid, number) {
-        Ok(places) => Ok(places),
-        Err(_) => Err(Untold::Memory),
-    }
+    Ok(gift_chain(alloc, record, pid, number)?)
 }
 
 /// Where the call was made that is answered by the reading at this place; None where that reading handed out no reply.
@@ -49,10 +46,7 @@ pub(crate) fn answered_by(alloc: Global, record: &Record, place: u32) -> Result<
     requires lawful { IsHistory (history_in «record».now) }
     ensures { IfOk result (λ found. found ≡ call_answered (history_in «record».now) place) }
 {
-    match call_of_reply(alloc, record, place) {
-        Ok(call) => Ok(call),
-        Err(_) => Err(Untold::Memory),
-    }
+    Ok(call_of_reply(alloc, record, place)?)
 }
 
 /// The one-way calls on an object, in the order in which they were made.
@@ -65,10 +59,7 @@ pub(crate) fn turns_on(
     requires lawful { IsHistory (history_in «record».now) }
     ensures { IfOk result (λ v. AreTurns «record».now.entries object v.items) }
 {
-    match oneway_turns(alloc, record, object) {
-        Ok(turns) => Ok(turns),
-        Err(_) => Err(Untold::Memory),
-    }
+    Ok(oneway_turns(alloc, record, object)?)
 }
 
 /// Which object a name means, and the pid of its owner.

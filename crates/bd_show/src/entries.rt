@@ -4,32 +4,14 @@ ghost use Rattle.std.specs.Prelude.{◌≤◌};
 ghost use Rattle.bd_uapi.specs.Limits.{IsSeats};
 ghost use Rattle.bd_space.specs.Histories.{IsHistory, history_in};
 
-use crate::answers::AnswerText;
-use crate::commands::StepText;
 use crate::fault::Untold;
-use crate::form::Form;
+use crate::form::{Form, Made};
 use crate::pids::{maker_of, step_made};
 use crate::selection::Selection;
 use bd_engine::Engine;
-use bd_space::{Entry, Record};
-use bd_state::OrDash;
+use bd_space::Record;
 use std::alloc::Global;
 use std::io::Write;
-
-/// Prints an entry: its place, its seat, the pid of the process that made it, what it did and what came back.
-pub(crate) fn print_entry<W: Write>(
-    place: u32,
-    entry: &Entry,
-    pid: Option<u32>,
-    out: &mut W,
-) -> Result<(), Untold> {
-    let seat = entry.seat;
-    let pid = OrDash(pid);
-    let step = StepText(&entry.step);
-    let answer = AnswerText(&entry.answer);
-    writeln!(out, "{place} seat {seat} pid {pid} {step}: {answer}")?;
-    Ok(())
-}
 
 /// Tells each entry of a history that is selected.
 pub(crate) fn show<F: Form, W: Write>(
@@ -48,7 +30,7 @@ pub(crate) fn show<F: Form, W: Write>(
         let place = engine.len();
         let pid = step_made(&mut engine, entries, entry)?;
         if selection.shows(place, entry.seat, pid) {
-            form.entry(place, entry, pid, out)?;
+            form.entry(Made { place, entry, pid }, out)?;
         }
     }
     Ok(())
@@ -70,7 +52,7 @@ pub fn show_at<F: Form, W: Write>(
 {
     let pid = maker_of(alloc, record, place)?;
     match record.entries.as_slice().get(place as usize) {
-        Some(entry) => form.entry(place, entry, pid, out),
+        Some(entry) => form.entry(Made { place, entry, pid }, out),
         None => Err(Untold::OutOfRange),
     }
 }

@@ -29,25 +29,24 @@ impl fmt::Display for Gift {
     }
 }
 
+/// An entry as it is told: its place, and the pid of the process that made it.
+#[derive(Clone, Copy)]
+pub struct Made<'a> {
+    /// The place.
+    pub place: u32,
+    /// The entry.
+    pub entry: &'a Entry,
+    /// The pid.
+    pub pid: Option<u32>,
+}
+
 /// In what form things are told.
 pub trait Form {
     /// Tells an entry: its place, the pid of the process that made it, what it did and what came back.
-    fn entry<W: Write>(
-        &self,
-        place: u32,
-        entry: &Entry,
-        pid: Option<u32>,
-        out: &mut W,
-    ) -> Result<(), Untold>;
+    fn entry<W: Write>(&self, made: Made<'_>, out: &mut W) -> Result<(), Untold>;
 
     /// Tells an entry that is recorded and doesn't follow from those before it.
-    fn recorded<W: Write>(
-        &self,
-        place: u32,
-        entry: &Entry,
-        pid: Option<u32>,
-        out: &mut W,
-    ) -> Result<(), Untold>;
+    fn recorded<W: Write>(&self, made: Made<'_>, out: &mut W) -> Result<(), Untold>;
 
     /// Tells what the rules give in place of an answer that is recorded.
     fn given<W: Write>(&self, answer: &StepAnswer, out: &mut W) -> Result<(), Untold>;

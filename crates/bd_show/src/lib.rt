@@ -3,7 +3,6 @@
 
 mod answers;
 mod certificates;
-mod commands;
 mod entries;
 mod fault;
 mod form;
@@ -11,19 +10,19 @@ mod pids;
 mod questions;
 mod reasons;
 mod refusals;
-mod returns;
 mod selection;
 mod state;
 mod text;
+mod words;
 
 pub use bd_state::{ObjectText, Wide, command_name, return_name, step_name};
-pub use commands::handle_of;
 pub use entries::show_at;
 pub use fault::Untold;
-pub use form::{Form, Gift};
+pub use form::{Form, Gift, Made};
 pub use pids::pid_of;
 pub use questions::{Question, answer};
 pub use reasons::Reason;
 pub use refusals::Refusal;
 pub use selection::Selection;
 pub use text::Text;
+pub use words::{Payload, Word, handle_of};

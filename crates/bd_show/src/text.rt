@@ -1,10 +1,11 @@
 //! The form of lines for people.
 
 use crate::answers::AnswerText;
-use crate::entries::print_entry;
 use crate::fault::Untold;
-use crate::form::Form;
-use bd_space::{Entry, StepAnswer};
+use crate::form::{Form, Made};
+use crate::words::Word;
+use bd_space::StepAnswer;
+use bd_state::OrDash;
 use serde::Serialize;
 use std::fmt;
 use std::io::Write;
@@ -14,25 +15,18 @@ use std::io::Write;
 pub struct Text;
 
 impl Form for Text {
-    fn entry<W: Write>(
-        &self,
-        place: u32,
-        entry: &Entry,
-        pid: Option<u32>,
-        out: &mut W,
-    ) -> Result<(), Untold> {
-        print_entry(place, entry, pid, out)
+    fn entry<W: Write>(&self, made: Made<'_>, out: &mut W) -> Result<(), Untold> {
+        let Made { place, entry, pid } = made;
+        let (seat, pid) = (entry.seat, OrDash(pid));
+        let step = Word::of_step(&entry.step);
+        let answer = AnswerText(&entry.answer);
+        writeln!(out, "{place} seat {seat} pid {pid} {step}: {answer}")?;
+        Ok(())
     }
 
-    fn recorded<W: Write>(
-        &self,
-        place: u32,
-        entry: &Entry,
-        pid: Option<u32>,
-        out: &mut W,
-    ) -> Result<(), Untold> {
+    fn recorded<W: Write>(&self, made: Made<'_>, out: &mut W) -> Result<(), Untold> {
         write!(out, "recorded: ")?;
-        print_entry(place, entry, pid, out)
+        self.entry(made, out)
     }
 
     fn given<W: Write>(&self, answer: &StepAnswer, out: &mut W) -> Result<(), Untold> {

@@ -1,5 +1,5 @@
 use Rattle.std.proofs.Common.{arith, sym, length}
-use Rattle.bd_json.specs.Payloads.{of_returns}
+use Rattle.bd_show.specs.Payloads.{of_returns}
 use Rattle.bd_json.proofs.Returns.{goes_on, all_behind}
 use Rattle.bd_json.proofs.entries.returns_in.Goals as goal
 

@@ -1,5 +1,5 @@
 use Rattle.std.proofs.Common.{◌≡◌, ◌-◌, ◌++◌, length, map}
-use Rattle.bd_json.specs.Payloads.{of_returns, of_returns_to}
+use Rattle.bd_show.specs.Payloads.{of_returns, of_returns_to}
 use Rattle.bd_json.proofs.entries.returns_in.Given as goal
 
 -- those that were read, and those to come

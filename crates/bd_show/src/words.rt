@@ -1,18 +1,25 @@
-//! Steps and returns, with what they have.
+//! Steps and returns by name, with what they have.
 
-ghost use Rattle.std.specs.Prelude.{◌≡◌};
-ghost use Rattle.bd_json.specs.Payloads as spec;
+ghost use Rattle.std.specs.Prelude.{◌≡◌, bit_and};
+ghost use Rattle.bd_show.specs.Payloads as spec;
 
-use crate::members::{member, member_if_any};
-use bd_show::{Wide, handle_of, return_name, step_name};
 use bd_space::Step;
-use bd_uapi::{Command, Return, TransactionData};
+use bd_state::{Wide, return_name, step_name};
+use bd_uapi::{Command, Return, TransactionData, TransactionFlags};
 use bitflags::Flags;
 use serde::{Described, Serialize, Serializer};
+use std::fmt;
+
+/// The handle to which a transaction goes. What stands above the low 32 bits of the target counts for nothing.
+pub fn handle_of(sent: &TransactionData) -> u64
+    ensures { result ≡ bit_and sent.now.target 4294967295 }
+{
+    sent.target & 0xffff_ffff
+}
 
 /// What a step or a return has. What one of its kind doesn't have is left out.
 #[derive(Clone, Copy)]
-pub(crate) struct Payload {
+pub struct Payload {
     pid: Option<u32>,
     euid: Option<u32>,
     window: Option<u32>,
@@ -158,37 +165,6 @@ impl Payload {
         }
     }
 
-    // What a step that is no command has.
-    fn write_asked<S: Serializer>(&self, out: &mut S) -> Result<(), S::Error> {
-        member_if_any("pid", &self.pid, out)?;
-        member_if_any("euid", &self.euid, out)?;
-        member_if_any("window", &self.window, out)?;
-        member_if_any("limit", &self.limit, out)?;
-        member_if_any("on", &self.on, out)
-    }
-
-    // What names an object.
-    fn write_named<S: Serializer>(&self, out: &mut S) -> Result<(), S::Error> {
-        member_if_any("handle", &self.handle, out)?;
-        member_if_any("ptr", &self.ptr, out)?;
-        member_if_any("cookie", &self.cookie, out)
-    }
-
-    // What is sent.
-    fn write_sent<S: Serializer>(&self, out: &mut S) -> Result<(), S::Error> {
-        member_if_any("code", &self.code, out)?;
-        member_if_any("flags", &self.flags, out)?;
-        member_if_any("data_size", &self.data_size, out)?;
-        member_if_any("offsets_size", &self.offsets_size, out)
-    }
-
-    // Who sent it, and where it lies.
-    fn write_received<S: Serializer>(&self, out: &mut S) -> Result<(), S::Error> {
-        member_if_any("sender_pid", &self.sender_pid, out)?;
-        member_if_any("sender_euid", &self.sender_euid, out)?;
-        member_if_any("buffer", &self.buffer, out)
-    }
-
     fn of_step(step: &Step) -> Payload
         ensures { result ≡ spec.of_step step.now }
     {
@@ -219,27 +195,14 @@ impl Payload {
 
 /// A step or a return: its name, and what it has.
 #[derive(Clone, Copy)]
-pub(crate) struct Word {
+pub struct Word {
     name: &'static str,
     payload: Payload,
 }
 
-impl Described for Word {}
-
-impl Serialize for Word {
-    fn serialize<S: Serializer>(&self, out: &mut S) -> Result<(), S::Error> {
-        out.begin_map(None)?;
-        member("name", &self.name, out)?;
-        self.payload.write_asked(out)?;
-        self.payload.write_named(out)?;
-        self.payload.write_sent(out)?;
-        self.payload.write_received(out)?;
-        out.end_map()
-    }
-}
-
 impl Word {
-    pub(crate) fn of_step(step: &Step) -> Word
+    /// A step.
+    pub fn of_step(step: &Step) -> Word
         ensures { result.payload ≡ spec.of_step step.now }
     {
         Word {
@@ -248,12 +211,108 @@ impl Word {
         }
     }
 
-    pub(crate) fn of_return(told: &Return) -> Word
+    /// A return.
+    pub fn of_return(told: &Return) -> Word
         ensures { result.payload ≡ spec.of_return told.now }
     {
         Word {
             name: return_name(told),
             payload: Payload::of_return(told),
         }
+    }
+}
+
+// Flags in hex, and then those that have a name.
+#[derive(Clone, Copy)]
+struct FlagsText(u32);
+
+impl fmt::Display for FlagsText {
+    fn fmt<W: fmt::Write>(&self, f: &mut fmt::Formatter<W>) -> fmt::Result {
+        let bits = self.0;
+        let flags = TransactionFlags::from_bits_retain(bits);
+        write!(f, "{bits:#x}")?;
+        for flag in TransactionFlags::flags() {
+            if flags.contains(flag.value) {
+                let name = flag.name;
+                write!(f, " TF_{name}")?;
+            }
+        }
+        Ok(())
+    }
+}
+
+// Prints a member, if there is a value for it.
+fn print_member<T: fmt::Display + Copy, W: fmt::Write>(
+    name: &str,
+    member: Option<T>,
+    f: &mut fmt::Formatter<W>,
+) -> fmt::Result {
+    match member {
+        Some(value) => write!(f, " {name} {value}"),
+        None => Ok(()),
+    }
+}
+
+// For people numbers are decimal, but for the flags.
+impl fmt::Display for Word {
+    fn fmt<W: fmt::Write>(&self, f: &mut fmt::Formatter<W>) -> fmt::Result {
+        let has = &self.payload;
+        f.write_str(self.name)?;
+        print_member("pid", has.pid, f)?;
+        print_member("euid", has.euid, f)?;
+        print_member("window", has.window, f)?;
+        print_member("limit", has.limit, f)?;
+        if let Some(on) = has.on {
+            f.write_str(if on { " on" } else { " off" })?;
+        }
+        print_member("handle", has.handle, f)?;
+        print_member("ptr", has.ptr.map(|wide| wide.0), f)?;
+        print_member("cookie", has.cookie.map(|wide| wide.0), f)?;
+        print_member("code", has.code, f)?;
+        print_member("flags", has.flags.map(FlagsText), f)?;
+        print_member("data_size", has.data_size, f)?;
+        print_member("offsets_size", has.offsets_size, f)?;
+        print_member("sender_pid", has.sender_pid, f)?;
+        print_member("sender_euid", has.sender_euid, f)?;
+        print_member("buffer", has.buffer.map(|wide| wide.0), f)
+    }
+}
+
+// Writes a member, if there is a value for it.
+fn write_member<T: Serialize + Copy, S: Serializer>(
+    name: &str,
+    member: Option<T>,
+    out: &mut S,
+) -> Result<(), S::Error> {
+    let Some(value) = member else {
+        return Ok(());
+    };
+    out.key(name)?;
+    value.serialize(out)
+}
+
+impl Described for Word {}
+
+impl Serialize for Word {
+    fn serialize<S: Serializer>(&self, out: &mut S) -> Result<(), S::Error> {
+        let has = &self.payload;
+        out.begin_map(None)?;
+        write_member("name", Some(self.name), out)?;
+        write_member("pid", has.pid, out)?;
+        write_member("euid", has.euid, out)?;
+        write_member("window", has.window, out)?;
+        write_member("limit", has.limit, out)?;
+        write_member("on", has.on, out)?;
+        write_member("handle", has.handle, out)?;
+        write_member("ptr", has.ptr, out)?;
+        write_member("cookie", has.cookie, out)?;
+        write_member("code", has.code, out)?;
+        write_member("flags", has.flags, out)?;
+        write_member("data_size", has.data_size, out)?;
+        write_member("offsets_size", has.offsets_size, out)?;
+        write_member("sender_pid", has.sender_pid, out)?;
+        write_member("sender_euid", has.sender_euid, out)?;
+        write_member("buffer", has.buffer, out)?;
+        out.end_map()
     }
 }

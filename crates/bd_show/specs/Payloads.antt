@@ -9,11 +9,8 @@ use Rattle.bd_uapi.specs.declared.fault.Fault.{Fault}
 use Rattle.bd_codec.specs.Reading.{return_at}
 use Rattle.bd_space.specs.declared.step.Step.{Step}
 use Rattle.bd_space.specs.declared.step.Step.TheVariants as step
-use Rattle.bd_state.specs.declared.texts.Wide.{Wide}
-use Rattle.bd_json.specs.declared.words.Payload.{Payload}
-
-abbrev pub wide : ℕ → Wide
-wide n = record { 0 = n }
+use Rattle.bd_state.specs.States.{wide}
+use Rattle.bd_show.specs.declared.words.Payload.{Payload}
 
 abbrev pub nothing : Payload
 nothing = record {
