@@ -1,6 +1,6 @@
 //! Frames, open two-way calls.
 
-ghost use Rattle.std.specs.Prelude.{◌≡◌, ◌==◌, ◌&&◌, ◌+◌, ◌<◌, ◌≤◌, ◌++◌, ◌∷◌, [], not, map, filter, find, vec_len, vec_capacity, OnOk};
+ghost use Rattle.std.specs.Prelude.{◌≡◌, ◌==◌, ◌&&◌, ◌++◌, not, map, filter, find, OnOk};
 ghost use Rattle.std.specs.List.{list_any};
 ghost use Rattle.bd_space.specs.Frames as spec;
 ghost use Rattle.bd_space.specs.ReadItems as reading;
@@ -9,7 +9,7 @@ ghost use Rattle.bd_frames.specs.Words.{newest_in, abandoned_in, oldest_in, is_p
 
 use crate::servers::{is_abandoned, is_frame, serves, takes_part, without_reader, without_thread};
 use bd_space::{Frame, Server};
-use std::alloc::{AllocError, Global};
+use std::alloc::AllocError;
 
 /// The frames of a driver, in the order in which they came in.
 #[derive(Drop)]
@@ -26,38 +26,6 @@ fn is_among(chosen: &[u32], frame: &Frame) -> bool
 }
 
 impl FrameList {
-    /// An empty list. Takes no memory.
-    pub fn new(alloc: Global) -> FrameList
-        ensures { result.frames.items ≡ [] }
-    {
-        FrameList {
-            frames: Vec::new(alloc),
-        }
-    }
-
-    /// Makes room for one more. Changes nothing else.
-    pub fn reserve(&mut self) -> Result<(), AllocError>
-        ensures items { self.new.frames.items ≡ self.old.frames.items }
-        ensures room { OnOk result (vec_len self.new.frames < vec_capacity self.new.frames) }
-    {
-        self.frames.reserve(1)
-    }
-
-    /// How many there are.
-    pub fn count(&self) -> usize
-        ensures { result ≡ vec_len self.now.frames }
-    {
-        self.frames.len()
-    }
-
-    /// A frame comes in. Takes no memory.
-    pub fn push(&mut self, frame: Frame)
-        requires { vec_len self.old.frames < vec_capacity self.old.frames }
-        ensures { self.new.frames.items ≡ self.old.frames.items ++ frame ∷ [] }
-    {
-        self.frames.push_reserved(frame);
-    }
-
     /// The frame of the call made at this place closes.
     pub fn close(&mut self, made: u32)
         ensures { self.new.frames.items ≡ filter (λ f. not (spec.is_frame made f)) self.old.frames.items }

@@ -1,11 +1,10 @@
 //! Threads.
 
-ghost use Rattle.std.specs.Prelude.{◌≡◌, ◌==◌, ◌+◌, ◌<◌, ◌≤◌, ◌++◌, ◌∷◌, [], not, filter, vec_len, vec_capacity, OnOk};
+ghost use Rattle.std.specs.Prelude.{◌≡◌, ◌==◌, not, filter};
 ghost use Rattle.bd_space.specs.Words.{changed};
 ghost use Rattle.bd_space.specs.Seats.{thread_in};
 
 use bd_space::Thread;
-use std::alloc::{AllocError, Global};
 
 /// The live threads, in the order in which they came in.
 #[derive(Drop)]
@@ -21,31 +20,6 @@ fn is_at(thread: &Thread, seat: u32) -> bool
 }
 
 impl ThreadList {
-    /// An empty list. Takes no memory.
-    pub fn new(alloc: Global) -> ThreadList
-        ensures { result.threads.items ≡ [] }
-    {
-        ThreadList {
-            threads: Vec::new(alloc),
-        }
-    }
-
-    /// Makes room for so many more. Changes nothing else.
-    pub fn reserve(&mut self, more: usize) -> Result<(), AllocError>
-        ensures items { self.new.threads.items ≡ self.old.threads.items }
-        ensures room { OnOk result (vec_len self.new.threads + more ≤ vec_capacity self.new.threads) }
-    {
-        self.threads.reserve(more)
-    }
-
-    /// A thread comes in. Takes no memory.
-    pub fn push(&mut self, thread: Thread)
-        requires { vec_len self.old.threads < vec_capacity self.old.threads }
-        ensures { self.new.threads.items ≡ self.old.threads.items ++ thread ∷ [] }
-    {
-        self.threads.push_reserved(thread);
-    }
-
     /// The thread of a seat.
     pub fn thread(&self, seat: u32) -> Option<Thread>
         ensures { result ≡ thread_in self.now.threads.items seat }

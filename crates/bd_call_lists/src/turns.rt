@@ -1,11 +1,10 @@
 //! One-way calls.
 
-ghost use Rattle.std.specs.Prelude.{◌≡◌, ◌==◌, ◌+◌, ◌<◌, ◌≤◌, ◌++◌, ◌∷◌, [], not, filter, find, vec_len, vec_capacity, OnOk};
+ghost use Rattle.std.specs.Prelude.{◌≡◌, ◌==◌, not, filter, find};
 ghost use Rattle.bd_space.specs.Words.{changed, same};
 ghost use Rattle.bd_turns.specs.Turn.{hand_turn};
 
 use bd_space::{ObjectId, Turn};
-use std::alloc::{AllocError, Global};
 
 /// The one-way calls whose buffers live, in the order in which they came.
 #[derive(Drop)]
@@ -21,31 +20,6 @@ fn is_made_at(turn: &Turn, made: u32) -> bool
 }
 
 impl TurnList {
-    /// An empty list. Takes no memory.
-    pub fn new(alloc: Global) -> TurnList
-        ensures { result.turns.items ≡ [] }
-    {
-        TurnList {
-            turns: Vec::new(alloc),
-        }
-    }
-
-    /// Makes room for so many more. Changes nothing else.
-    pub fn reserve(&mut self, more: usize) -> Result<(), AllocError>
-        ensures items { self.new.turns.items ≡ self.old.turns.items }
-        ensures room { OnOk result (vec_len self.new.turns + more ≤ vec_capacity self.new.turns) }
-    {
-        self.turns.reserve(more)
-    }
-
-    /// A one-way call comes in. Takes no memory.
-    pub fn push(&mut self, turn: Turn)
-        requires { vec_len self.old.turns < vec_capacity self.old.turns }
-        ensures { self.new.turns.items ≡ self.old.turns.items ++ turn ∷ [] }
-    {
-        self.turns.push_reserved(turn);
-    }
-
     /// The oldest one-way call on an object.
     pub fn oldest_on(&self, object: ObjectId) -> Option<Turn>
         ensures { result ≡ find (λ t. same t.target object) self.now.turns.items }

@@ -1,6 +1,6 @@
 //! Windows, and the buffers in them.
 
-ghost use Rattle.std.specs.Prelude.{◌≡◌, ◌==◌, ◌+◌, ◌<◌, ◌≤◌, ◌++◌, ◌∷◌, [], false, not, filter, find, vec_len, vec_capacity, OnOk, Some, None, Err};
+ghost use Rattle.std.specs.Prelude.{◌≡◌, ◌==◌, false, not, filter, find, Some, None, Err};
 ghost use Rattle.std.specs.Option.{option_copied};
 ghost use Rattle.bd_uapi.specs.declared.fault.Cause.TheVariants.{NoRoom};
 ghost use Rattle.bd_space.specs.declared.space.Process as declared;
@@ -16,7 +16,6 @@ use crate::room::{is_flooded, place_for};
 use bd_buffers::pointer_of;
 use bd_space::{Buffer, Process};
 use bd_uapi::Cause;
-use std::alloc::{AllocError, Global};
 
 /// The live processes, each with its window's size, and the live buffers of all of them, each in the order in which
 /// they were made.
@@ -42,35 +41,6 @@ fn is_at(p: u32, pointer: u64, b: &Buffer) -> bool
 }
 
 impl WindowsList {
-    /// No window. Takes no memory.
-    pub fn new(alloc: Global) -> WindowsList
-        ensures processes { result.processes.items ≡ [] }
-        ensures buffers { result.buffers.items ≡ [] }
-    {
-        WindowsList {
-            processes: Vec::new(alloc),
-            buffers: Vec::new(alloc),
-        }
-    }
-
-    /// Makes room for one more window. Changes nothing else.
-    pub fn reserve(&mut self) -> Result<(), AllocError>
-        ensures processes { self.new.processes.items ≡ self.old.processes.items }
-        ensures buffers { self.new.buffers ≡ self.old.buffers }
-        ensures room { OnOk result (vec_len self.new.processes < vec_capacity self.new.processes) }
-    {
-        self.processes.reserve(1)
-    }
-
-    /// The window of a process that is opened. Takes no memory.
-    pub fn open(&mut self, process: Process)
-        requires { vec_len self.old.processes < vec_capacity self.old.processes }
-        ensures processes { self.new.processes.items ≡ self.old.processes.items ++ process ∷ [] }
-        ensures buffers { self.new.buffers ≡ self.old.buffers }
-    {
-        self.processes.push_reserved(process);
-    }
-
     /// The process that was opened there.
     pub fn process(&self, p: u32) -> Option<Process>
         ensures { result ≡ process_in self.now.processes.items p }
@@ -109,24 +79,6 @@ impl WindowsList {
             None => false,
             Some(q) => is_flooded(&self.buffers, p, u64::from(q.window), sender),
         }
-    }
-
-    /// Makes room for one more buffer. Changes nothing else.
-    pub fn reserve_buffer(&mut self) -> Result<(), AllocError>
-        ensures processes { self.new.processes ≡ self.old.processes }
-        ensures buffers { self.new.buffers.items ≡ self.old.buffers.items }
-        ensures room { OnOk result (vec_len self.new.buffers < vec_capacity self.new.buffers) }
-    {
-        self.buffers.reserve(1)
-    }
-
-    /// Takes a buffer in. Takes no memory.
-    pub fn add(&mut self, buffer: Buffer)
-        requires { vec_len self.old.buffers < vec_capacity self.old.buffers }
-        ensures processes { self.new.processes ≡ self.old.processes }
-        ensures buffers { self.new.buffers.items ≡ self.old.buffers.items ++ buffer ∷ [] }
-    {
-        self.buffers.push_reserved(buffer);
     }
 
     /// The live buffer made there.

@@ -1,7 +1,7 @@
 //! Death notifications.
 
-ghost use Rattle.std.specs.Prelude.{◌≡◌, ◌==◌, ◌&&◌, ◌||◌, ◌+◌, ◌<◌, ◌≤◌, ◌++◌, ◌∷◌};
-ghost use Rattle.std.specs.Prelude.{[], true, not, filter, find, count_by, length, vec_len, vec_capacity, OnOk, IfOk};
+ghost use Rattle.std.specs.Prelude.{◌≡◌, ◌==◌, ◌&&◌, ◌||◌};
+ghost use Rattle.std.specs.Prelude.{true, not, filter, find, count_by, length, IfOk};
 ghost use Rattle.std.specs.List.{list_any};
 ghost use Rattle.bd_space.specs.Words.{changed, same, is_some_and};
 ghost use Rattle.bd_space.specs.Deaths as deaths_of;
@@ -90,23 +90,6 @@ fn has_due(deaths: &[DeathNotification], nodes: &NodeList, p: u32, made: u32) ->
 }
 
 impl DeathList {
-    /// No notifications.
-    pub fn new(alloc: Global) -> DeathList
-        ensures { result.deaths.items ≡ [] }
-    {
-        DeathList {
-            deaths: Vec::new(alloc),
-        }
-    }
-
-    /// Makes room for so many more. Changes nothing else.
-    pub fn reserve(&mut self, more: usize) -> Result<(), AllocError>
-        ensures items { self.new.deaths.items ≡ self.old.deaths.items }
-        ensures room { OnOk result (vec_len self.new.deaths + more ≤ vec_capacity self.new.deaths) }
-    {
-        self.deaths.reserve(more)
-    }
-
     /// The notification of this place.
     pub fn death(&self, made: u32) -> Option<DeathNotification>
         ensures { result ≡ find (deaths_of.is_notification made) self.now.deaths.items }
@@ -196,14 +179,6 @@ impl DeathList {
             }
         }
         Ok(told)
-    }
-
-    /// One notification more, after the others.
-    pub fn push(&mut self, x: DeathNotification)
-        requires { vec_len self.old.deaths < vec_capacity self.old.deaths }
-        ensures { self.new.deaths.items ≡ self.old.deaths.items ++ x ∷ [] }
-    {
-        self.deaths.push_reserved(x);
     }
 
     /// Marks the notification as cleared.

@@ -1,6 +1,6 @@
 //! Names: the numbers (handles) by which processes know the objects of others.
 
-ghost use Rattle.std.specs.Prelude.{◌≡◌, ◌==◌, ◌&&◌, ◌+◌, ◌<◌, ◌≤◌, [], not};
+ghost use Rattle.std.specs.Prelude.{◌≡◌, ◌==◌, ◌&&◌, ◌<◌, not};
 ghost use Rattle.std.specs.Prelude.{true, filter, take, vec_len, vec_capacity, None, IfSome, OnOk, OnErr};
 ghost use Rattle.bd_space.specs.Words as words;
 ghost use Rattle.bd_space.specs.Names as names_of;
@@ -8,7 +8,6 @@ ghost use Rattle.bd_space.specs.Notices as notices;
 
 use bd_names::NumbersFull;
 use bd_space::{Name, ObjectId};
-use std::alloc::{AllocError, Global};
 
 // The greatest number that a name may have.
 const LAST_NUMBER: u32 = 4294967294;
@@ -24,25 +23,6 @@ pub struct NameList {
 }
 
 impl NameList {
-    /// An empty list.
-    pub fn new(alloc: Global) -> NameList
-        ensures { result.names.items ≡ [] }
-    {
-        NameList {
-            names: Vec::new(alloc),
-            settled: 0,
-        }
-    }
-
-    /// Makes room for so many names more. Changes nothing else.
-    pub fn reserve(&mut self, more: usize) -> Result<(), AllocError>
-        ensures items { self.new.names.items ≡ self.old.names.items }
-        ensures room { OnOk result (vec_len self.new.names + more ≤ vec_capacity self.new.names) }
-        ensures settled { self.new.settled ≡ self.old.settled }
-    {
-        self.names.reserve(more)
-    }
-
     /// The object that the number names for the process.
     pub fn named(&self, p: u32, n: u32) -> Option<ObjectId>
         ensures { result ≡ names_of.named_in self.now.names.items p n }

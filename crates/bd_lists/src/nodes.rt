@@ -1,13 +1,13 @@
 //! Objects (nodes) of all processes.
 
-ghost use Rattle.std.specs.Prelude.{◌≡◌, ◌==◌, ◌&&◌, ◌+◌, ◌<◌, ◌≤◌, ◌++◌, ◌∷◌};
-ghost use Rattle.std.specs.Prelude.{[], not, map, filter, find, length, vec_len, vec_capacity, OnOk};
+ghost use Rattle.std.specs.Prelude.{◌≡◌, ◌==◌, ◌&&◌, ◌++◌};
+ghost use Rattle.std.specs.Prelude.{not, map, filter, find, OnOk};
 ghost use Rattle.bd_space.specs.Words as words;
 ghost use Rattle.bd_space.specs.References as refer;
 ghost use Rattle.bd_space.specs.Asking as asking;
 
 use bd_space::{Object, ObjectId};
-use std::alloc::{AllocError, Global};
+use std::alloc::AllocError;
 
 /// The objects of all processes, in the order in which they came.
 #[derive(Drop)]
@@ -23,37 +23,6 @@ fn is_object(x: &Object, o: ObjectId) -> bool
 }
 
 impl NodeList {
-    /// An empty list.
-    pub fn new(alloc: Global) -> NodeList
-        ensures { result.objects.items ≡ [] }
-    {
-        NodeList {
-            objects: Vec::new(alloc),
-        }
-    }
-
-    /// Makes room for so many more objects. Changes nothing else.
-    pub fn reserve(&mut self, more: usize) -> Result<(), AllocError>
-        ensures items { self.new.objects.items ≡ self.old.objects.items }
-        ensures room { OnOk result (vec_len self.new.objects + more ≤ vec_capacity self.new.objects) }
-    {
-        self.objects.reserve(more)
-    }
-
-    /// How many objects there are.
-    pub fn len(&self) -> usize
-        ensures { result ≡ vec_len self.now.objects }
-    {
-        self.objects.len()
-    }
-
-    /// Whether there are none.
-    pub fn is_empty(&self) -> bool
-        ensures { result ≡ (vec_len self.now.objects == 0) }
-    {
-        self.objects.is_empty()
-    }
-
     /// The object with this identity.
     pub fn object(&self, o: ObjectId) -> Option<Object>
         ensures { result ≡ refer.object_in self.now.objects.items o }
@@ -109,22 +78,6 @@ impl NodeList {
             }
         }
         Ok(())
-    }
-
-    /// Puts a new object to them.
-    pub fn push(&mut self, x: Object)
-        requires { vec_len self.old.objects < vec_capacity self.old.objects }
-        ensures { self.new.objects.items ≡ self.old.objects.items ++ x ∷ [] }
-    {
-        self.objects.push_reserved(x);
-    }
-
-    /// Puts new objects to them.
-    pub fn push_all(&mut self, made: &[Object])
-        requires { vec_len self.old.objects + length made.now ≤ vec_capacity self.old.objects }
-        ensures { self.new.objects.items ≡ self.old.objects.items ++ made.now }
-    {
-        let _ = self.objects.extend_from_slice(made);
     }
 
     /// The owner was told of the object: whether it is referred to, and whether strongly.

@@ -1,7 +1,7 @@
 //! References to objects: who refers to which, weakly or strongly, and what each buffer holds.
 
-ghost use Rattle.std.specs.Prelude.{◌≡◌, ◌==◌, ◌&&◌, ◌||◌, ◌+◌, ◌<◌, ◌≤◌};
-ghost use Rattle.std.specs.Prelude.{◌++◌, ◌∷◌, [], not, map, filter, position, vec_len, vec_capacity, OnOk};
+ghost use Rattle.std.specs.Prelude.{◌≡◌, ◌==◌, ◌&&◌, ◌||◌};
+ghost use Rattle.std.specs.Prelude.{◌++◌, not, map, filter, position, OnOk};
 ghost use Rattle.std.specs.List.{list_any};
 ghost use Rattle.bd_space.specs.Words as words;
 ghost use Rattle.bd_space.specs.Words.{without_first};
@@ -11,7 +11,7 @@ use crate::held::{
     buffer_of, is_asked_by, is_asking, is_in_window, is_of_owner, is_shaking, names_for,
 };
 use bd_space::{ObjectId, Reference};
-use std::alloc::{AllocError, Global};
+use std::alloc::AllocError;
 
 /// The references of a space to its objects, in the order in which they came.
 #[derive(Drop)]
@@ -33,31 +33,6 @@ fn first_shaking(references: &[Reference], o: ObjectId, strong: bool) -> Option<
 }
 
 impl ReferenceList {
-    /// No references.
-    pub fn new(alloc: Global) -> ReferenceList
-        ensures { result.references.items ≡ [] }
-    {
-        ReferenceList {
-            references: Vec::new(alloc),
-        }
-    }
-
-    /// Makes room for so many more. Changes nothing else.
-    pub fn reserve(&mut self, more: usize) -> Result<(), AllocError>
-        ensures items { self.new.references.items ≡ self.old.references.items }
-        ensures room { OnOk result (vec_len self.new.references + more ≤ vec_capacity self.new.references) }
-    {
-        self.references.reserve(more)
-    }
-
-    /// One reference more, after the others.
-    pub fn push(&mut self, r: Reference)
-        requires { vec_len self.old.references < vec_capacity self.old.references }
-        ensures { self.new.references.items ≡ self.old.references.items ++ r ∷ [] }
-    {
-        self.references.push_reserved(r);
-    }
-
     /// Whether anything refers to the object.
     pub fn is_held(&self, o: ObjectId) -> bool
         ensures { result ≡ refer.held_in self.now.references.items o }

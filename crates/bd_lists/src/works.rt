@@ -1,7 +1,7 @@
 //! Work items: what is still to be read, by whom.
 
-ghost use Rattle.std.specs.Prelude.{Bool, ◌≡◌, ◌==◌, ◌&&◌, ◌+◌, ◌<◌, ◌≤◌, ◌++◌};
-ghost use Rattle.std.specs.Prelude.{◌∷◌, [], not, filter, count_by, vec_len, vec_capacity, Some, OnOk};
+ghost use Rattle.std.specs.Prelude.{Bool, ◌≡◌, ◌==◌, ◌&&◌, ◌<◌};
+ghost use Rattle.std.specs.Prelude.{not, filter, count_by, vec_len, vec_capacity, Some};
 ghost use Rattle.std.specs.List.{list_any, slice_get};
 ghost use Rattle.bd_space.specs.declared.space.WorkKind as declared;
 ghost use Rattle.bd_space.specs.Words as words;
@@ -12,7 +12,6 @@ ghost use Rattle.bd_links.specs.TodoList as replies;
 
 use bd_links::is_call;
 use bd_space::{Identity, ObjectId, TodoList, Work, WorkKind};
-use std::alloc::{AllocError, Global};
 
 /// The work items of a driver, in the order in which they came: each is still to be read, on its list.
 #[derive(Drop)]
@@ -22,23 +21,6 @@ pub struct WorkList {
 }
 
 impl WorkList {
-    /// An empty list. Takes no memory.
-    pub fn new(alloc: Global) -> WorkList
-        ensures { result.todo.items ≡ [] }
-    {
-        WorkList {
-            todo: Vec::new(alloc),
-        }
-    }
-
-    /// Makes room for so many more. Changes nothing else.
-    pub fn reserve(&mut self, more: usize) -> Result<(), AllocError>
-        ensures items { self.new.todo.items ≡ self.old.todo.items }
-        ensures room { OnOk result (vec_len self.new.todo + more ≤ vec_capacity self.new.todo) }
-    {
-        self.todo.reserve(more)
-    }
-
     /// A work item comes onto a list, made at this place. Takes no memory.
     pub fn push(&mut self, place: u32, list: TodoList, kind: WorkKind)
         requires { vec_len self.old.todo < vec_capacity self.old.todo }

@@ -1,7 +1,8 @@
 //! The table of death notifications.
 
+use crate::judge::Judge;
+use crate::pair::{Pair, alike, both, play};
 use crate::random::{Random, object_of};
-use crate::same::same;
 use bd_deaths::DeathTable;
 use bd_lists::{DeathList, NodeList};
 use bd_nodes::NodeTable;
@@ -9,11 +10,6 @@ use bd_space::{DeathNotification, Identity, Object, ObjectId, Phase, TodoList, W
 use std::alloc::Global;
 use std::process::Abort;
 use std::test::Fail;
-
-const ROUNDS: u32 = 20;
-
-// So many in each round.
-const CALLS: u32 = 60;
 
 const PROCESSES: u32 = 3;
 
@@ -23,19 +19,6 @@ const OBJECTS: u32 = 6;
 const PLACES: u32 = 48;
 
 const COOKIES: u32 = 3;
-
-#[derive(Clone, Copy)]
-enum Call {
-    Push(DeathNotification),
-    MarkCleared(u32),
-    SetPhase(u32, Phase),
-    Remove(u32),
-    Read(Work, Work),
-    GoWith(bool, u32, ObjectId),
-    QueueDue(u32),
-    DropProcess(u32),
-    Reserve(usize),
-}
 
 fn any_phase(random: &mut Random) -> Phase {
     match random.below(6) {
@@ -71,52 +54,16 @@ struct Both {
 }
 
 impl Both {
-    fn new(alloc: Global) -> Both {
-        Both {
-            table: DeathTable::new(alloc),
-            list: DeathList::new(alloc),
-            nodes: NodeTable::new(alloc),
-            objects: NodeList::new(alloc),
-            place: 0,
-        }
-    }
-
     fn push_object(&mut self, x: Object) -> Result<(), Fail> {
         self.nodes.reserve(1)?;
-        self.objects.reserve(1)?;
         self.nodes.push(x);
-        self.objects.push(x);
+        self.objects.objects.push(x)?;
         Ok(())
-    }
-
-    // Two objects of each process.
-    fn push_objects(&mut self) -> Result<(), Fail> {
-        for i in 0..OBJECTS - 1 {
-            self.push_object(Object {
-                id: object_of(i),
-                owner: i % PROCESSES,
-                ptr: u64::from(i),
-                cookie: 0,
-                told_weak: false,
-                told_strong: false,
-            })?;
-        }
-        Ok(())
-    }
-
-    // Where a notification is made: mostly after all others, up to a last place; at times where there may be one.
-    fn any_place(&mut self, random: &mut Random) -> u32 {
-        if random.below(128) == 0 {
-            return random.below(PLACES);
-        }
-        let next = self.place.saturating_add(1 + random.below(2));
-        self.place = next.min(PLACES - 1);
-        self.place
     }
 
     fn any_death(&mut self, random: &mut Random) -> DeathNotification {
         DeathNotification {
-            made: self.any_place(random),
+            made: random.place(&mut self.place, PLACES),
             process: random.below(PROCESSES),
             object: random.object(OBJECTS),
             cookie: u64::from(random.below(COOKIES)),
@@ -125,191 +72,104 @@ impl Both {
         }
     }
 
-    fn any_call(&mut self, random: &mut Random) -> Call {
-        let (n, p) = (random.below(PLACES), random.below(PROCESSES));
-        match random.below(32) {
-            0..=14 => Call::Push(self.any_death(random)),
-            15 | 16 => Call::MarkCleared(n),
-            17..=19 => Call::SetPhase(n, any_phase(random)),
-            20..=23 => Call::Remove(n),
-            24 | 25 => Call::Read(any_work(random), any_work(random)),
-            26..=28 => Call::GoWith(random.below(4) == 0, p, random.object(OBJECTS)),
-            29 => Call::QueueDue(p),
-            30 if random.below(2) == 0 => Call::DropProcess(p),
-            _ => Call::Reserve(random.below(20) as usize),
-        }
-    }
-
     fn push(&mut self, x: DeathNotification) -> Result<(), Fail> {
         self.table.reserve(1)?;
-        self.list.reserve(1)?;
         self.table.push(x);
-        self.list.push(x);
+        self.list.deaths.push(x)?;
         Ok(())
     }
 
-    // What one notification's place or work item tells.
-    fn change(&mut self, call: Call) {
-        match call {
-            Call::MarkCleared(made) => {
-                self.table.mark_cleared(made);
-                self.list.mark_cleared(made);
-            }
-            Call::SetPhase(made, phase) => {
-                self.table.set_phase(made, phase);
-                self.list.set_phase(made, phase);
-            }
-            Call::Read(first, other) => {
-                self.table.read(&[first, other]);
-                self.list.read(&[first, other]);
-            }
-            Call::QueueDue(p) => {
-                self.table.queue_due(&self.nodes, p);
-                self.list.queue_due(&self.objects, p);
-            }
-            _ => {}
-        }
-    }
-
-    fn take(&mut self, call: Call) {
-        match call {
-            Call::Remove(made) => {
-                self.table.remove(made);
-                self.list.remove(made);
-            }
-            Call::GoWith(named, p, o) => {
-                self.table.go_with(named, p, o);
-                self.list.go_with(named, p, o);
-            }
-            Call::DropProcess(p) => {
-                self.table.drop_process(p);
-                self.list.drop_process(p);
-            }
-            _ => {}
-        }
-    }
-
-    fn make(&mut self, call: Call) -> Result<(), Fail> {
-        match call {
-            Call::Push(x) => self.push(x)?,
-            Call::Reserve(more) => self.table.reserve(more)?,
-            _ => {
-                self.change(call);
-                self.take(call);
-            }
-        }
-        Ok(())
-    }
-
-    fn compare_name(&self, rt: &impl Abort, n: u32, i: u32) {
-        let (table, list) = (&self.table, &self.list);
-        let (p, o) = (i % PROCESSES, object_of(i / PROCESSES));
-        same(
-            rt,
-            n,
-            "uncleared",
-            i,
-            table.uncleared(p, o),
-            list.uncleared(p, o),
-        );
-        let wanted = list.only_uncleared(p, o);
-        same(
-            rt,
-            n,
-            "only_uncleared",
-            i,
-            table.only_uncleared(p, o),
-            wanted,
-        );
-        let wanted = list.has_uncleared(p, o);
-        same(rt, n, "has_uncleared", i, table.has_uncleared(p, o), wanted);
-    }
-
-    fn compare_told(&self, rt: &impl Abort, n: u32, i: u32) {
-        let (p, cookie) = (i % PROCESSES, u64::from(i / PROCESSES));
-        let wanted = self.list.told(p, cookie);
-        same(rt, n, "told", i, self.table.told(p, cookie), wanted);
-    }
-
-    fn compare_made(&self, rt: &impl Abort, n: u32, made: u32) {
-        let (table, list) = (&self.table, &self.list);
-        let (p, o) = (made % PROCESSES, object_of(n % OBJECTS));
-        same(rt, n, "death", made, table.death(made), list.death(made));
-        same(
-            rt,
-            n,
-            "is_on",
-            made,
-            table.is_on(p, o, made),
-            list.is_on(p, o, made),
-        );
-        let wanted = list.stays(false, p, o, made);
-        same(
-            rt,
-            n,
-            "stays without",
-            made,
-            table.stays(false, p, o, made),
-            wanted,
-        );
-        let wanted = list.stays(true, p, o, made);
-        same(
-            rt,
-            n,
-            "stays with",
-            made,
-            table.stays(true, p, o, made),
-            wanted,
-        );
-    }
-
-    fn compare_due(
-        &self,
-        rt: &(impl Abort + Alloc<A = Global>),
-        n: u32,
-        p: u32,
-    ) -> Result<(), Fail> {
-        let due = self.table.due(rt.alloc(), &self.nodes, p)?;
-        let wanted = self.list.due(rt.alloc(), &self.objects, p)?;
-        same(rt, n, "due", p, due.as_slice(), wanted.as_slice());
-        Ok(())
-    }
-
-    // All looks answer the same.
-    fn compare(&self, rt: &(impl Abort + Alloc<A = Global>), n: u32) -> Result<(), Fail> {
-        for i in 0..PROCESSES * OBJECTS {
-            self.compare_name(rt, n, i);
-        }
-        for i in 0..PROCESSES * COOKIES {
-            self.compare_told(rt, n, i);
-        }
-        for made in 0..PLACES {
-            self.compare_made(rt, n, made);
-        }
-        for p in 0..PROCESSES {
-            self.compare_due(rt, n, p)?;
-        }
+    fn look_at_due<R: Abort>(&self, judge: &Judge<'_, R>, p: u32) -> Result<(), Fail> {
+        let due = self.table.due(judge.alloc, &self.nodes, p)?;
+        let wanted = self.list.due(judge.alloc, &self.objects, p)?;
+        judge.same("due", p, due.as_slice(), wanted.as_slice());
         Ok(())
     }
 }
 
-// A round of calls on new tables.
-fn play(rt: &(impl Abort + Alloc<A = Global>), seed: u32) -> Result<(), Fail> {
-    let mut random = Random::new(u64::from(seed));
-    let mut both = Both::new(rt.alloc());
-    both.push_objects()?;
-    for n in 0..CALLS {
-        let call = both.any_call(&mut random);
-        both.make(call)?;
-        both.compare(rt, n)?;
+impl Pair for Both {
+    const ROUNDS: u32 = 20;
+
+    const CALLS: u32 = 60;
+
+    // More than the names, and than the cookies of all processes.
+    const LOOKS: u32 = PLACES;
+
+    // Two objects of each process.
+    fn new(alloc: Global) -> Result<Both, Fail> {
+        let mut both = Both {
+            table: DeathTable::new(alloc),
+            list: DeathList {
+                deaths: Vec::new(alloc),
+            },
+            nodes: NodeTable::new(alloc),
+            objects: NodeList {
+                objects: Vec::new(alloc),
+            },
+            place: 0,
+        };
+        for i in 0..OBJECTS - 1 {
+            both.push_object(Object {
+                id: object_of(i),
+                owner: i % PROCESSES,
+                ptr: u64::from(i),
+                cookie: 0,
+                told_weak: false,
+                told_strong: false,
+            })?;
+        }
+        Ok(both)
     }
-    Ok(())
+
+    fn call<R: Abort>(&mut self, _judge: &Judge<'_, R>, random: &mut Random) -> Result<(), Fail> {
+        let (made, p) = (random.below(PLACES), random.below(PROCESSES));
+        let (phase, o) = (any_phase(random), random.object(OBJECTS));
+        match random.below(32) {
+            0..=14 => {
+                let x = self.any_death(random);
+                self.push(x)?;
+            }
+            15 | 16 => both!(self.mark_cleared(made)),
+            17..=19 => both!(self.set_phase(made, phase)),
+            20..=23 => both!(self.remove(made)),
+            24 | 25 => {
+                let taken = [any_work(random), any_work(random)];
+                both!(self.read(&taken));
+            }
+            26..=28 => {
+                let named = random.below(4) == 0;
+                both!(self.go_with(named, p, o));
+            }
+            29 => {
+                self.table.queue_due(&self.nodes, p);
+                self.list.queue_due(&self.objects, p);
+            }
+            30 if random.is_so() => both!(self.drop_process(p)),
+            _ => self.table.reserve(random.below(20) as usize)?,
+        }
+        Ok(())
+    }
+
+    fn look<R: Abort>(&self, judge: &Judge<'_, R>, i: u32) -> Result<(), Fail> {
+        let (p, n) = (i % PROCESSES, i / PROCESSES);
+        let (o, cookie) = (object_of(n % OBJECTS), u64::from(n % COOKIES));
+        alike!(judge, i, self.uncleared(p, o));
+        alike!(judge, i, self.only_uncleared(p, o));
+        alike!(judge, i, self.has_uncleared(p, o));
+        alike!(judge, i, self.told(p, cookie));
+        let o = object_of(judge.calls % OBJECTS);
+        alike!(judge, i, self.death(i));
+        alike!(judge, i, self.is_on(p, o, i));
+        alike!(judge, i, self.stays(false, p, o, i));
+        alike!(judge, i, self.stays(true, p, o, i));
+        if i < PROCESSES {
+            self.look_at_due(judge, p)?;
+        }
+        Ok(())
+    }
 }
 
 #[test]
 fn answers_as_a_list_of_deaths(rt: HostRuntime) -> Result<(), Fail> {
-    for seed in 0..ROUNDS {
-        play(&rt, seed)?;
-    }
-    Ok(())
+    play::<Both, _>(&rt)
 }

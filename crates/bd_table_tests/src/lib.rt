@@ -8,14 +8,16 @@ mod deaths;
 #[cfg(test)]
 mod frames;
 #[cfg(test)]
+mod judge;
+#[cfg(test)]
 mod names;
 #[cfg(test)]
 mod nodes;
+#[cfg(test)]
+mod pair;
 pub mod random;
 #[cfg(test)]
 mod references;
-#[cfg(test)]
-mod same;
 #[cfg(test)]
 mod threads;
 #[cfg(test)]

@@ -31,6 +31,17 @@ impl Random {
         self.below(2) == 1
     }
 
+    /// A place below this one: mostly one soon after the latest, or the last; at times any.
+    pub fn place(&mut self, latest: &mut u32, n: u32) -> u32
+        requires { 0 < n }
+    {
+        if self.below(128) == 0 {
+            return self.below(n);
+        }
+        *latest = latest.saturating_add(1 + self.below(2)).min(n - 1);
+        *latest
+    }
+
     /// One of the first so many objects.
     pub fn object(&mut self, n: u32) -> ObjectId
         requires { 0 < n }

@@ -3,8 +3,9 @@
 ghost use Rattle.std.specs.Prelude.{◌≡◌, ◌≤◌, length, IfOk};
 ghost use Rattle.bd_space.specs.Windows as room;
 
+use crate::judge::Judge;
+use crate::pair::{Pair, alike, both, play};
 use crate::random::Random;
-use crate::same::same;
 use bd_buffers::{Window, Windows, needed};
 use bd_call_lists::WindowsList;
 use bd_space::{Buffer, Bytes, Process};
@@ -12,11 +13,6 @@ use bd_uapi::TransactionFlags;
 use std::alloc::{AllocError, Global};
 use std::process::Abort;
 use std::test::Fail;
-
-const ROUNDS: u32 = 12;
-
-// So many in each round.
-const CALLS: u32 = 120;
 
 const PROCESSES: u32 = 3;
 
@@ -34,15 +30,6 @@ struct Sending {
     one_way: bool,
     data_size: u64,
     offsets_size: u64,
-}
-
-#[derive(Clone, Copy)]
-enum Call {
-    Open,
-    Add(Sending),
-    Free(u32),
-    HandOut(u32),
-    Close(u32),
 }
 
 // What is compared of a buffer.
@@ -113,14 +100,6 @@ struct Both {
 }
 
 impl Both {
-    fn new(alloc: Global) -> Both {
-        Both {
-            table: Windows::new(alloc),
-            list: WindowsList::new(alloc),
-            place: 0,
-        }
-    }
-
     // One of the processes, or none that there is.
     fn any_process(&self, random: &mut Random) -> u32 {
         let i = random.below(PROCESSES + 1) as usize;
@@ -144,51 +123,25 @@ impl Both {
         }
     }
 
-    fn any_call(&self, random: &mut Random) -> Call {
-        match random.below(32) {
-            0 | 1 if self.list.processes.len() < 3 => Call::Open,
-            0..=15 => Call::Add(self.any_sending(random)),
-            16..=25 => Call::Free(self.any_made(random)),
-            26..=29 => Call::HandOut(self.any_made(random)),
-            30 if random.below(8) == 0 => Call::Close(self.any_process(random)),
-            _ => Call::Open,
-        }
-    }
-
     // A window of this many words, unless there are enough.
     fn open(&mut self, alloc: Global) -> Result<(), Fail> {
         if self.list.processes.len() < 3 {
             self.table.reserve()?;
-            self.list.reserve()?;
             let window = Window::new(alloc, 8 * WORDS)?;
             self.table.open(self.place, window);
-            self.list.open(Process {
+            self.list.processes.push(Process {
                 made: self.place,
                 pid: 1,
                 euid: 0,
                 window: 8 * WORDS,
                 spam_detection: false,
-            });
+            })?;
         }
         Ok(())
     }
 
-    fn add_at(&mut self, alloc: Global, start: u32, sent: Sending) -> Result<(), Fail>
-        requires { room.needed sent.data_size sent.offsets_size ≤ 4194304 }
-    {
-        let listed = buffer_at(alloc, self.place, start, sent)?;
-        self.list.reserve_buffer()?;
-        self.list.add(listed);
-        Ok(())
-    }
-
     // A buffer is added where both say, if they say so.
-    fn add(
-        &mut self,
-        rt: &(impl Abort + Alloc<A = Global>),
-        n: u32,
-        sent: Sending,
-    ) -> Result<(), Fail> {
+    fn add<R: Abort>(&mut self, judge: &Judge<'_, R>, sent: Sending) -> Result<(), Fail> {
         let Sending {
             receiver,
             one_way,
@@ -198,14 +151,16 @@ impl Both {
         } = sent;
         let placed = self.table.place(receiver, one_way, data_size, offsets_size);
         let wanted = self.list.place(receiver, one_way, data_size, offsets_size);
-        same(rt, n, "place", receiver, placed, wanted);
+        judge.same("place", receiver, placed, wanted);
         let Ok(start) = placed else {
             return Ok(());
         };
-        let buffer = buffer_at(rt.alloc(), self.place, start, sent)?;
+        let buffer = buffer_at(judge.alloc, self.place, start, sent)?;
         self.table.reserve_buffer(receiver)?;
         self.table.add(buffer);
-        self.add_at(rt.alloc(), start, sent)
+        let listed = buffer_at(judge.alloc, self.place, start, sent)?;
+        self.list.buffers.push(listed)?;
+        Ok(())
     }
 
     fn hand_out(&mut self, made: u32) {
@@ -216,112 +171,79 @@ impl Both {
         }
     }
 
-    fn make(
-        &mut self,
-        rt: &(impl Abort + Alloc<A = Global>),
-        n: u32,
-        call: Call,
-    ) -> Result<(), Fail> {
+    fn look_at_window<R: Abort>(&self, judge: &Judge<'_, R>, p: u32, n: u32) {
+        let pointer = 65528 + 8 * u64::from(n);
+        let found = seen(self.table.at_pointer(p, pointer));
+        judge.same(
+            "at_pointer",
+            n,
+            found,
+            seen(self.list.at_pointer(p, pointer)),
+        );
+        // Who floods it, and one who sends nothing.
+        let sender = n % (SENDERS + 1);
+        alike!(judge, sender, self.floods(p, sender));
+        // Where buffers of some sizes would be put.
+        let words = n % 12;
+        let (one_way, size) = (words % 2 == 0, 8 * u64::from(words));
+        if words == self.place % 12 {
+            alike!(judge, words, self.place(p, one_way, size, 0));
+        }
+    }
+}
+
+impl Pair for Both {
+    const ROUNDS: u32 = 12;
+
+    const CALLS: u32 = 120;
+
+    // In every window, and in one that there isn't, each pointer; no more buffers are made.
+    const LOOKS: u32 = (PROCESSES + 1) * (WORDS + 2);
+
+    fn new(alloc: Global) -> Result<Both, Fail> {
+        Ok(Both {
+            table: Windows::new(alloc),
+            list: WindowsList {
+                processes: Vec::new(alloc),
+                buffers: Vec::new(alloc),
+            },
+            place: 0,
+        })
+    }
+
+    fn call<R: Abort>(&mut self, judge: &Judge<'_, R>, random: &mut Random) -> Result<(), Fail> {
         self.place = self.place.saturating_add(1);
-        match call {
-            Call::Open => self.open(rt.alloc())?,
-            Call::Add(sent) => self.add(rt, n, sent)?,
-            Call::Free(made) => {
-                self.table.free(made);
-                self.list.free(made);
+        let (made, p) = (self.any_made(random), self.any_process(random));
+        match random.below(32) {
+            0 | 1 if self.list.processes.len() < 3 => self.open(judge.alloc)?,
+            0..=15 => {
+                let sent = self.any_sending(random);
+                self.add(judge, sent)?;
             }
-            Call::HandOut(made) => self.hand_out(made),
-            Call::Close(p) => {
-                self.table.close(p);
-                self.list.close(p);
-            }
+            16..=25 => both!(self.free(made)),
+            26..=29 => self.hand_out(made),
+            30 if random.below(8) == 0 => both!(self.close(p)),
+            _ => self.open(judge.alloc)?,
         }
         Ok(())
     }
 
-    fn compare_made(&self, rt: &impl Abort, n: u32, made: u32) {
-        let wanted = seen(self.list.buffer(made));
-        same(rt, n, "buffer", made, seen(self.table.buffer(made)), wanted);
+    fn look<R: Abort>(&self, judge: &Judge<'_, R>, i: u32) -> Result<(), Fail> {
+        let found = seen(self.table.buffer(i));
+        judge.same("buffer", i, found, seen(self.list.buffer(i)));
+        let (k, n) = (i % (PROCESSES + 1), i / (PROCESSES + 1));
+        let p = self
+            .list
+            .processes
+            .get(k as usize)
+            .map(|q| q.made)
+            .unwrap_or(0);
+        self.look_at_window(judge, p, n);
+        Ok(())
     }
-
-    fn compare_at(&self, rt: &impl Abort, n: u32, p: u32, i: u32) {
-        let pointer = 65528 + 8 * u64::from(i);
-        let wanted = seen(self.list.at_pointer(p, pointer));
-        same(
-            rt,
-            n,
-            "at_pointer",
-            i,
-            seen(self.table.at_pointer(p, pointer)),
-            wanted,
-        );
-    }
-
-    // Where buffers of some sizes would be put.
-    fn compare_place(&self, rt: &impl Abort, n: u32, p: u32, words: u32) {
-        let (one_way, size) = (words % 2 == 0, 8 * u64::from(words));
-        let wanted = self.list.place(p, one_way, size, 0);
-        same(
-            rt,
-            n,
-            "place",
-            words,
-            self.table.place(p, one_way, size, 0),
-            wanted,
-        );
-    }
-
-    // Who floods a window, and one who sends nothing.
-    fn compare_floods(&self, rt: &impl Abort, n: u32, p: u32) {
-        for sender in 0..SENDERS + 1 {
-            let wanted = self.list.floods(p, sender);
-            same(
-                rt,
-                n,
-                "floods",
-                sender,
-                self.table.floods(p, sender),
-                wanted,
-            );
-        }
-    }
-
-    fn compare_in(&self, rt: &impl Abort, n: u32, p: u32) {
-        for i in 0..WORDS + 2 {
-            self.compare_at(rt, n, p, i);
-        }
-        self.compare_place(rt, n, p, self.place % 12);
-        self.compare_floods(rt, n, p);
-    }
-
-    // All looks answer the same, in every window and in one that there isn't.
-    fn compare(&self, rt: &impl Abort, n: u32) {
-        for made in 0..CALLS + 2 {
-            self.compare_made(rt, n, made);
-        }
-        for q in &self.list.processes {
-            self.compare_in(rt, n, q.made);
-        }
-        self.compare_in(rt, n, 0);
-    }
-}
-
-// A round of calls on a new table.
-fn play(rt: &(impl Abort + Alloc<A = Global>), seed: u32) -> Result<(), Fail> {
-    let mut random = Random::new(u64::from(seed));
-    let mut both = Both::new(rt.alloc());
-    for n in 0..CALLS {
-        let call = both.any_call(&mut random);
-        both.make(rt, n, call)?;
-        both.compare(rt, n);
-    }
-    Ok(())
 }
 
 #[test]
 fn answers_as_a_list_of_windows(rt: HostRuntime) -> Result<(), Fail> {
-    for seed in 0..ROUNDS {
-        play(&rt, seed)?;
-    }
-    Ok(())
+    play::<Both, _>(&rt)
 }
