@@ -2,6 +2,7 @@
 
 ghost use Rattle.std.specs.Prelude.{◌≡◌, ◌==◌};
 ghost use Rattle.bd_space.specs.References as refer;
+ghost use Rattle.bd_references.specs.Carried.{is_carried_by};
 
 use bd_space::{Holder, ObjectId, Reference};
 
@@ -41,6 +42,13 @@ pub(crate) fn buffer_of(holder: Holder) -> Option<u32>
         Holder::Carried(b, _) | Holder::Target(b, _) => Some(b),
         _ => None,
     }
+}
+
+/// The buffer carries it.
+pub(crate) fn is_carried_by(b: u32, holder: Holder) -> bool
+    ensures { result ≡ is_carried_by b holder }
+{
+    matches!(holder, Holder::Carried(c, _) if c == b)
 }
 
 /// The process asked for the object, in this strength.

@@ -3,7 +3,6 @@
 //! `bd_links` answer is compared with what these answer.
 #![tactic(auto)]
 
-mod carried;
 mod deaths;
 mod held;
 mod names;
@@ -12,7 +11,6 @@ mod references;
 mod unread;
 mod works;
 
-pub use carried::CarriedObjects;
 pub use deaths::DeathList;
 pub use names::NameList;
 pub use nodes::NodeList;

@@ -6,9 +6,11 @@ ghost use Rattle.std.specs.List.{list_any};
 ghost use Rattle.bd_space.specs.Words as words;
 ghost use Rattle.bd_space.specs.Words.{without_first};
 ghost use Rattle.bd_space.specs.References as refer;
+ghost use Rattle.bd_references.specs.Carried.{carried_in};
 
 use crate::held::{
-    buffer_of, is_asked_by, is_asking, is_in_window, is_of_owner, is_shaking, names_for,
+    buffer_of, is_asked_by, is_asking, is_carried_by, is_in_window, is_of_owner, is_shaking,
+    names_for,
 };
 use bd_space::{ObjectId, Reference};
 use std::alloc::AllocError;
@@ -114,6 +116,19 @@ impl ReferenceList {
     {
         for r in &self.references {
             if buffer_of(r.holder) == Some(b) {
+                touched.push(r.object)?;
+            }
+        }
+        Ok(())
+    }
+
+    /// The objects that the buffer carries, one for each object of its parcel, in their order, put after what is there.
+    /// Fails for want of memory alone.
+    pub fn carried(&self, b: u32, touched: &mut Vec<ObjectId>) -> Result<(), AllocError>
+        ensures { OnOk result (touched.new.items ≡ touched.old.items ++ carried_in self.now.references.items b) }
+    {
+        for r in &self.references {
+            if is_carried_by(b, r.holder) {
                 touched.push(r.object)?;
             }
         }

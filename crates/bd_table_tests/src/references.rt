@@ -75,9 +75,16 @@ impl Both {
         }
     }
 
-    fn look_at_buffer<R: Abort>(&self, judge: &Judge<'_, R>, b: u32) -> Result<(), Fail> {
-        let is_same = self.table.carried(b).eq(self.list.carried(b));
+    fn look_at_carried<R: Abort>(&self, judge: &Judge<'_, R>, b: u32) -> Result<(), Fail> {
+        let mut wanted = Vec::new(judge.alloc);
+        self.list.carried(b, &mut wanted)?;
+        let is_same = self.table.carried(b).eq(wanted.iter().copied());
         judge.same("carried", b, is_same, true);
+        Ok(())
+    }
+
+    fn look_at_buffer<R: Abort>(&self, judge: &Judge<'_, R>, b: u32) -> Result<(), Fail> {
+        self.look_at_carried(judge, b)?;
         let (touched, wanted) = put_by_both!(judge, FIRST, self.referred(b));
         judge.same("referred", b, touched.as_slice(), wanted.as_slice());
         Ok(())
