@@ -26,11 +26,11 @@ word_of v = vstruct (vcons v vnil)
 
 module _ {M : Type 1} {𝓤 : Ura M} {𝓛 : Logic 𝓤} {K : Type 0} {Γ : List (Item 𝓤)} {G : Goal 𝓤 𝓛.H} where
   pub handle_out : K → (h : handle.the_row.Denot) (x : Held) (vs : List Val) → h.held ≡ Some x
-      → ((b o : ℕ) → vs ≡ word_of (vptr b o) ∷ [] → Seq K 𝓛 (‵ (box_owns chunk held.the_row (block_ptr b o) x) ∷ Γ) G) → Seq K 𝓛 (‵ (handle.the_row.own_val h vs) ∷ Γ) G
+      → ((b o : ℕ) → h.at ≡ block_ptr b o → vs ≡ word_of (vptr b o) ∷ [] → Seq K 𝓛 (‵ (box_owns chunk held.the_row (block_ptr b o) x) ∷ Γ) G) → Seq K 𝓛 (‵ (handle.the_row.own_val h vs) ∷ Γ) G
   unfolding owned
   handle_out t h x vs is k =
       fsplit t $ fpick t (λ vss. fsplit t $ feq_l t (λ ev. fsplit t $ feq_l t (λ ep. drop t $ rewrite t 0 (λ (m : Option Held). ‵ (owned m h.at)) is refl $
-      in_a_block t h.at (λ p. box_owns chunk held.the_row p x) (fst∗ 𝓤 (never 𝓤) (sem 𝓛 (chunk (bare (lone held.the_row.mir)) null_ptr))) (λ b o e. k b o
+      in_a_block t h.at (λ p. box_owns chunk held.the_row p x) (fst∗ 𝓤 (never 𝓤) (sem 𝓛 (chunk (bare (lone held.the_row.mir)) null_ptr))) (λ b o e. k b o e
       (subst (λ (p : Ptr). vs ≡ vstruct (of_list (ptr_val p ∷ [])) ∷ []) e (subst (λ (ps : List Val). vs ≡ vstruct (of_list (ps ++ [])) ∷ []) ep ev))))))
 
   pub handle_in : K → (b o : ℕ) (x : Held) → Step K 𝓛 (‵ (handle.the_row.own_val (record { at = block_ptr b o; held = Some x }) (word_of (vptr b o) ∷ [])) ∷ Γ) G (‵ (box_owns chunk held.the_row (block_ptr b o) x) ∷ Γ) G

@@ -1,5 +1,5 @@
 mod HandleSteps
 mod Values
 pub mod Behind
-pub mod BehindLive
+pub mod Commanding
 pub mod Noting

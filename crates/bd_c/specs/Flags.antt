@@ -6,8 +6,8 @@ use Rattle.bd_c.specs.declared.answers.Told.{Told}
 use Rattle.bd_c.specs.declared.held.Held.{Held}
 use Rattle.bd_c.specs.declared.status.Status.{Status}
 use Rattle.bd_c.specs.declared.status.Status.TheVariants.{NoSuchRequest}
-use Rattle.bd_c.specs.Seats.{OverSeat, Asks}
-use Rattle.bd_c.specs.Lives.{OverLive, Steps}
+use Rattle.bd_c.specs.Seats.{AsksAt}
+use Rattle.bd_c.specs.Lives.{StepsAt}
 
 -- 0 no, 1 yes; no other number says either
 abbrev pub flag_of : ℕ → Option Bool
@@ -20,10 +20,10 @@ IsNoFlag n s = (s ≡ NoSuchRequest) × (flag_of n ≡ None)
 abbrev pub AsksSpam : Option Held → Option Held → ℕ → Status → Told → Told → Type 0
 AsksSpam h k n s a b =
     (IsNoFlag n s × (k ≡ h) × (b ≡ a))
-    ⊎ ((on : Bool) × (flag_of n ≡ Some on) × OverSeat h k (λ x y. Asks x y (request.SetSpam on) s a b))
+    ⊎ ((on : Bool) × (flag_of n ≡ Some on) × AsksAt h k (request.SetSpam on) a b s)
 
 -- the same of a live engine's step
 abbrev pub StepsSpam : Option Held → Option Held → ℕ → ℕ → Status → Told → Told → Type 0
 StepsSpam h k seat n s a b =
     (IsNoFlag n s × (k ≡ h) × (b ≡ a))
-    ⊎ ((on : Bool) × (flag_of n ≡ Some on) × OverLive h k (λ x y. Steps x y seat (step_of.SetSpam on) s a b))
+    ⊎ ((on : Bool) × (flag_of n ≡ Some on) × StepsAt h k seat (step_of.SetSpam on) a b s)

@@ -2,8 +2,6 @@
 use Rattle.std.specs.Prelude.{◌≡◌, ℕ, ◌<◌, ◌≤◌, nat_lt, Bool, List, [], ◌∷◌, ◌++◌, length, Option, Some, None, vec_len, vec_capacity}
 use Rattle.std.specs.Arc.{arc_value}
 use Rattle.bd_uapi.specs.Limits.{most_seats, IsSeats}
-use Rattle.bd_uapi.specs.declared.fault.Fault.{Fault}
-use Rattle.bd_uapi.specs.declared.fault.Fault.TheVariants as fault
 use Rattle.bd_space.specs.declared.record.Record.{Record}
 use Rattle.bd_driver.specs.Together.{AllSeats, IsFinal, new_seats}
 use Rattle.bd_c.specs.declared.host.Host.{Host}
@@ -17,10 +15,6 @@ pub record Opens (count : ℕ) (h : Host) : Type 0 where
   pub count_is : h.count ≡ count
   pub driver : (arc_value h.driver).seats ≡ count
   pub seats : h.seats.items ≡ new_seats (arc_value h.driver).table count 0 count
-
-abbrev pub refusal_of : Fault → Status
-refusal_of fault.SeatCount = SeatCount
-refusal_of _ = NoMemory
 
 -- the number is out of its limits, or there was no memory
 abbrev pub IsRefusal : ℕ → Status → Type 0

@@ -1,6 +1,8 @@
 pub mod Owned
 pub mod Status
 pub mod Told
+pub mod Behind
+pub mod Lending
 pub mod Seats
 pub mod Parts
 pub mod Hosts

@@ -10,7 +10,7 @@ use Rattle.bd_c.specs.declared.answers.Told.{Told}
 use Rattle.bd_c.specs.declared.held.Held.{Held}
 use Rattle.bd_c.specs.declared.status.Status.{Status}
 use Rattle.bd_c.specs.declared.status.Status.TheVariants.{NoMemory, NoCommand}
-use Rattle.bd_c.specs.Lives.{OverLive, HasParcel, Steps}
+use Rattle.bd_c.specs.Lives.{HasParcel, StepsAt}
 
 -- a transaction or reply gets what is given as its parcel, and no other command does, so that each entry has a spelling
 abbrev pub parcel_given : Command → List ℕ → List ℕ → Option Parcel
@@ -34,4 +34,4 @@ IsNoStep command bytes offsets _ = ⊥
 abbrev pub Commands : Option Held → Option Held → ℕ → List ℕ → List ℕ → List ℕ → Status → Told → Told → Type 0
 Commands h k seat command bytes offsets s a b =
     ((s ≡ NoCommand) × ((c : Command) → IsCommandOf command c → ⊥) × (k ≡ h) × (b ≡ a))
-    ⊎ ((z : Step) × IsStepOf command bytes offsets z × OverLive h k (λ x y. Steps x y seat z s a b))
+    ⊎ ((z : Step) × IsStepOf command bytes offsets z × StepsAt h k seat z a b s)

@@ -4,7 +4,7 @@ use Rattle.bd_space.specs.declared.step.StepAnswer.{StepAnswer}
 use Rattle.bd_space.specs.declared.step.StepAnswer.TheVariants.{Got}
 use Rattle.bd_space.specs.declared.step.Entry.{Entry}
 use Rattle.bd_journal.specs.Spelling.{IsEntry, entry_bytes}
-use Rattle.bd_c.specs.Parts.{part_of, Fetches}
+use Rattle.bd_c.specs.Parts.{part_of}
 use Rattle.bd_c.specs.declared.status.Status.{Status}
 use Rattle.bd_c.specs.declared.status.Status.TheVariants.{Done, NoMemory, NoJournal}
 
@@ -25,14 +25,3 @@ IsSpelled seats (Some e) = IsEntry seats e
 abbrev pub spelled : Option Entry → List ℕ
 spelled None = []
 spelled (Some e) = entry_bytes e
-
--- what would be written has no spelling, or memory was refused
-abbrev pub IsUnwritten : Type 0 → Status → Type 0
-IsUnwritten P NoJournal = P → ⊥
-IsUnwritten P NoMemory = Unit {0}
-IsUnwritten P _ = ⊥
-
--- what has a spelling has these bytes: it is told how many, and they are copied if all of them fit
-abbrev pub Tells : Type 0 → List ℕ → List ℕ → List ℕ → ℕ → ℕ → Status → Type 0
-Tells P bytes old new before size s =
-    ((s ≡ Done) × P × Fetches bytes old new size) ⊎ (IsUnwritten P s × (new ≡ old) × (size ≡ before))

@@ -1,7 +1,5 @@
 -- What a call with a live engine's handle does: the same after every history that the engine follows, none of which it keeps.
 use Rattle.std.specs.Prelude.{◌≡◌, ◌≤◌, ◌⊎◌, ℕ, true, [], length, Option, Some, None}
-use Rattle.bd_uapi.specs.declared.fault.Fault.{Fault}
-use Rattle.bd_uapi.specs.declared.fault.Fault.TheVariants as fault
 use Rattle.bd_space.specs.declared.step.Step.{Step}
 use Rattle.bd_space.specs.declared.step.Step.TheVariants as step_of
 use Rattle.bd_space.specs.declared.step.StepAnswer.{StepAnswer}
@@ -10,11 +8,11 @@ use Rattle.bd_space.specs.Histories.{History, history_of, space_after, extended,
 use Rattle.bd_engine.specs.Follows.{Follows}
 use Rattle.bd_engine.specs.Ending.{ended_between}
 use Rattle.bd_engine.specs.Refusals.{IsLiveSeats}
+use Rattle.bd_c.specs.Behind.{Of, Over, live_of}
 use Rattle.bd_c.specs.Told.{told_of_step}
 use Rattle.bd_c.specs.declared.answers.Told.{Told}
 use Rattle.bd_c.specs.declared.live.OwnedLive.{OwnedLive}
 use Rattle.bd_c.specs.declared.held.Held.{Held}
-use Rattle.bd_c.specs.declared.held.Held.TheVariants as held
 use Rattle.bd_c.specs.declared.status.Status.{Status}
 use Rattle.bd_c.specs.declared.status.Status.TheVariants.{Done, NoMemory, SeatCount, NoSuchSeat, HistoryFull}
 
@@ -26,10 +24,6 @@ pub record Begins (seats : ℕ) (x : OwnedLive) : Type 0 where
   pub ended : x.ended.items ≡ []
   pub noted : x.noted.items ≡ []
   pub changed : x.changed.items ≡ []
-
-abbrev pub live_refusal_of : Fault → Status
-live_refusal_of fault.SeatCount = SeatCount
-live_refusal_of _ = NoMemory
 
 -- the number is out of its limits, or there was no memory
 abbrev pub IsLiveRefusal : ℕ → Status → Type 0
@@ -81,20 +75,10 @@ Steps x y seat z HistoryFull a b = ((h : History) → Follows x.live h → is_at
 Steps x y seat z NoMemory a b = (HasParcel z ⊎ ((h : History) → Follows x.live h → HasPlace h)) × Rests x y a b
 Steps x y seat z _ a b = ⊥
 
--- a live engine is behind the handle
-abbrev pub IsLive : Option Held → Type 0
-IsLive (Some (held.Live x)) = Unit {0}
-IsLive _ = ⊥
-
--- of the live engine behind the handle this is so
-abbrev pub OfLive : Option Held → (OwnedLive → Type 0) → Type 0
-OfLive (Some (held.Live x)) P = P x
-OfLive _ P = ⊥
-
--- of the live engine behind the handle before and after this is so
-abbrev pub OverLive : Option Held → Option Held → (OwnedLive → OwnedLive → Type 0) → Type 0
-OverLive h k P = OfLive h (λ x. OfLive k (λ y. P x y))
-
 -- a new live engine is behind the handle, or nothing, and why
 abbrev pub LiveOpensAt : ℕ → Option Held → Status → Type 0
-LiveOpensAt seats h s = ((s ≡ Done) × OfLive h (Begins seats)) ⊎ ((h ≡ None) × IsLiveRefusal seats s)
+LiveOpensAt seats h s = ((s ≡ Done) × Of live_of h (Begins seats)) ⊎ ((h ≡ None) × IsLiveRefusal seats s)
+
+-- the step was made with the live engine behind the handle, or none was
+abbrev pub StepsAt : Option Held → Option Held → ℕ → Step → Told → Told → Status → Type 0
+StepsAt h k seat z a b s = Over live_of h k (λ x y. Steps x y seat z s a b)

@@ -1,4 +1,4 @@
--- What a call with a seat's handle does, by the driver's call of that name.
+-- What a call with a seat does, by the driver's call of that name.
 use Rattle.std.specs.Prelude.{◌≡◌, ℕ, Bool, true, false, List, Option, Some, None}
 use Rattle.std.specs.Arc.{arc_value}
 use Rattle.bd_space.specs.declared.step.Request.{Request}
@@ -10,11 +10,11 @@ use Rattle.bd_driver.specs.Served as served
 use Rattle.bd_driver.specs.declared.outcome.Outcome.{Outcome}
 use Rattle.bd_driver.specs.declared.outcome.Served.{Served}
 use Rattle.bd_driver.specs.declared.page.Page.{Page}
+use Rattle.bd_c.specs.Behind.{Over, seat_of}
 use Rattle.bd_c.specs.Told.{told_of}
 use Rattle.bd_c.specs.declared.answers.Told.{Told}
 use Rattle.bd_c.specs.declared.seat.OwnedSeat.{OwnedSeat}
 use Rattle.bd_c.specs.declared.held.Held.{Held}
-use Rattle.bd_c.specs.declared.held.Held.TheVariants as held
 use Rattle.bd_c.specs.declared.status.Status.{Status}
 use Rattle.bd_c.specs.declared.status.Status.TheVariants.{Done, NoMemory, Waiting, NotWaiting}
 
@@ -68,16 +68,10 @@ Withdraws x y Done a b = (o : Outcome) × Keeps y o b × handing.Withdraws x.sea
 Withdraws x y NotWaiting a b = IsWaiting x false × Nothing x y a b
 Withdraws x y _ a b = ⊥
 
--- a seat is behind the handle
-abbrev pub IsSeat : Option Held → Type 0
-IsSeat (Some (held.Seat x)) = Unit {0}
-IsSeat _ = ⊥
-
--- of the seat behind the handle this is so
-abbrev pub OfSeat : Option Held → (OwnedSeat → Type 0) → Type 0
-OfSeat (Some (held.Seat x)) P = P x
-OfSeat _ P = ⊥
-
 -- of the seat behind the handle before and after, which is one of the same driver, this is so
 abbrev pub OverSeat : Option Held → Option Held → (OwnedSeat → OwnedSeat → Type 0) → Type 0
-OverSeat h k P = OfSeat h (λ x. OfSeat k (λ y. Stays x y × P x y))
+OverSeat h k P = Over seat_of h k (λ x y. Stays x y × P x y)
+
+-- the request was made with the seat behind the handle, or nothing was done
+abbrev pub AsksAt : Option Held → Option Held → Request → Told → Told → Status → Type 0
+AsksAt h k request a b s = OverSeat h k (λ x y. Asks x y request s a b)

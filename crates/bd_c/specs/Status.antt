@@ -1,5 +1,7 @@
 -- The numbers of what came of a call.
 use Rattle.std.specs.Prelude.{◌≡◌, ℕ}
+use Rattle.bd_uapi.specs.declared.fault.Fault.{Fault}
+use Rattle.bd_uapi.specs.declared.fault.Fault.TheVariants as fault
 use Rattle.bd_c.specs.declared.status.Status.{Status}
 use Rattle.bd_c.specs.declared.status.Status.TheVariants.{Done, NoMemory, Waiting, NotWaiting, Taken, NoSuchRequest, SeatCount, NoSeat, SeatsAway, NoJournal, NoSuchSeat, HistoryFull, NoCommand}
 
@@ -17,6 +19,11 @@ number_of NoJournal = 9
 number_of NoSuchSeat = 10
 number_of HistoryFull = 11
 number_of NoCommand = 12
+
+-- why neither a driver nor a live engine was made
+abbrev pub refusal_of : Fault → Status
+refusal_of fault.SeatCount = SeatCount
+refusal_of _ = NoMemory
 
 -- the number is that of a status of which this is so
 abbrev pub Reports : ℕ → (Status → Type 0) → Type 0

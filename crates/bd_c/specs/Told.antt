@@ -31,11 +31,9 @@ why_number NoMemory = 2
 why_number HistoryFull = 3
 why_number Withdrawn = 4
 
-abbrev pub nothing_of : ℕ → Told
-nothing_of kind = record { kind = kind; from = 0; to = 0; consumed = 0; notes = 0; stop = 0; number = 0; why = 0; stream = 0; bytes = 0; offsets = 0 }
-
+-- with the places of its steps, and nothing else yet
 abbrev pub placed : ℕ → ℕ → ℕ → Told
-placed kind start end = record (nothing_of kind) { from = start; to = end }
+placed kind start end = record { kind = kind; from = start; to = end; consumed = 0; notes = 0; stop = 0; number = 0; why = 0; stream = 0; bytes = 0; offsets = 0 }
 
 abbrev pub got_of : List ℕ → List ℕ → List ℕ → ℕ → ℕ → Told
 got_of stream bytes offsets start end = record (placed 5 start end) { stream = length stream; bytes = length bytes; offsets = length offsets }
@@ -52,9 +50,9 @@ done_of (Got stream bytes offsets) start end = got_of stream bytes offsets start
 done_of (Refused fault) start end = refused_of fault start end
 
 abbrev pub told_of : Outcome → Told
-told_of Handed = nothing_of 0
+told_of Handed = placed 0 0 0
 told_of (Done answer start end) = done_of answer start end
-told_of (Back request why) = record (nothing_of 7) { why = why_number why }
+told_of (Back request why) = record (placed 7 0 0) { why = why_number why }
 
 -- a step is told as the request of that name, a command as a write of it; its note, if it changed nothing, by its number
 abbrev pub told_of_step : StepAnswer → ℕ → ℕ → Told

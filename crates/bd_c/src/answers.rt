@@ -7,7 +7,7 @@ use bd_uapi::Fault;
 
 /// What a request came to, without its bytes and its notes. What a field doesn't apply to has 0 there.
 #[repr(C)]
-#[derive(Clone, Copy, Debug, PartialEq, Eq)]
+#[derive(Clone, Copy)]
 pub struct Told {
     /// 0 still handed over, 1 opened, 2 set, 3 exited, 4 wrote, 5 got, 6 refused, 7 back.
     pub kind: u32,
@@ -35,15 +35,16 @@ pub struct Told {
 
 impl Told {
     ghost use Rattle.std.specs.Prelude.{◌≡◌};
-    ghost use Rattle.bd_c.specs.Told.{told_of, nothing_of, placed, got_of, refused_of, done_of, told_of_step};
+    ghost use Rattle.bd_c.specs.Told.{told_of, placed, got_of, refused_of, done_of, told_of_step};
 
-    fn nothing(kind: u32) -> Told
-        ensures { result ≡ nothing_of kind }
+    // With the places of its steps.
+    fn placed(kind: u32, from: u32, to: u32) -> Told
+        ensures { result ≡ placed kind from to }
     {
         Told {
             kind,
-            from: 0,
-            to: 0,
+            from,
+            to,
             consumed: 0,
             notes: 0,
             stop: 0,
@@ -52,17 +53,6 @@ impl Told {
             stream: 0,
             bytes: 0,
             offsets: 0,
-        }
-    }
-
-    // With the places of its steps.
-    fn placed(kind: u32, from: u32, to: u32) -> Told
-        ensures { result ≡ placed kind from to }
-    {
-        Told {
-            from,
-            to,
-            ..Told::nothing(kind)
         }
     }
 
@@ -120,11 +110,11 @@ impl Told {
         ensures { result ≡ told_of outcome.now }
     {
         match outcome {
-            Outcome::Handed => Told::nothing(0),
+            Outcome::Handed => Told::placed(0, 0, 0),
             Outcome::Done { answer, from, to } => Told::done(answer, *from, *to),
             Outcome::Back { request: _, why } => Told {
                 why: why_number(*why),
-                ..Told::nothing(7)
+                ..Told::placed(7, 0, 0)
             },
         }
     }

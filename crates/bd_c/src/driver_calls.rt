@@ -1,16 +1,15 @@
 //! What C calls of a driver.
-ghost use Rattle.std.specs.Prelude.{◌≡◌, Some, None, IfErr, OnOk};
+ghost use Rattle.std.specs.Prelude.{◌≡◌, Some, None};
 ghost use Rattle.bd_c.specs.declared.held.Held.{Held};
 ghost use Rattle.bd_c.specs.Status.{Reports};
-ghost use Rattle.bd_c.specs.Drivers.{IsDriver, OverDriver, IsOwn, IsEnded, OfHistory, OpensAt, HandsAt, ReturnsAt, Finishes};
-ghost use Rattle.bd_c.specs.Hosts.{Hands, Keeps};
-ghost use Rattle.bd_c.specs.Seats.{OfSeat};
+ghost use Rattle.bd_c.specs.Behind.{Of, IsDriver, IsEnded, history_of};
+ghost use Rattle.bd_c.specs.Drivers.{IsOwn, OpensAt, HandsAt, ReturnsAt, Finishes};
 ghost use Rattle.bd_c.specs.Journals.{Journals, Judges};
 
 use crate::handles::Handle;
 use crate::held::Held;
 use crate::hosts::open_host;
-use crate::judging::{Verdict, judge_bytes};
+use crate::judging::{Verdict, judge_bytes, write_to};
 use crate::opening::{put, take};
 use crate::status::Status;
 use std::alloc::Global;
@@ -30,19 +29,6 @@ pub extern "C" fn hullpippin_new(alloc: Global, seats: u32, driver: &mut Handle)
     }
 }
 
-// The first seat that is there goes to where nothing is.
-#[tactic(auto, using(crate::proofs::Behind::driver_held))]
-fn hand_out(alloc: Global, driver: &mut Handle, out: &mut Held) -> Result<(), Status>
-    requires { IsDriver driver.old.held }
-    ensures ok { OnOk result (OverDriver driver.old.held driver.new.held (λ h k. OfSeat (Some out.new) (Hands h k))) }
-    ensures refused { IfErr result (λ s. OverDriver driver.old.held driver.new.held (λ h k. Keeps h k s)) }
-{
-    let mut host = take(alloc, driver);
-    let handed = host.hand_out(out);
-    put(driver, host);
-    handed
-}
-
 /// Takes the first seat off a driver that is there. The seat's handle must have nothing.
 #[unsafe(no_mangle)]
 pub extern "C" fn hullpippin_take_seat(alloc: Global, driver: &mut Handle, seat: &mut Handle) -> u32
@@ -53,8 +39,9 @@ pub extern "C" fn hullpippin_take_seat(alloc: Global, driver: &mut Handle, seat:
     let Ok(mut room) = Box::new(alloc, Held::Nothing) else {
         return Status::NoMemory.number();
     };
-    match hand_out(alloc, driver, &mut room) {
-        Ok(()) => {
+    match driver.host().take() {
+        Ok(taken) => {
+            *room = Held::Seat(taken);
             put(seat, room);
             Status::Done.number()
         }
@@ -63,7 +50,7 @@ pub extern "C" fn hullpippin_take_seat(alloc: Global, driver: &mut Handle, seat:
 }
 
 /// Gives a seat back to its driver. Its handle then has nothing.
-#[tactic(auto, using(crate::proofs::Behind::own_driver_held, crate::proofs::Behind::own_seat_held))]
+#[tactic(auto, using(crate::proofs::Behind::own_driver, crate::proofs::Behind::own_seat))]
 #[unsafe(no_mangle)]
 pub extern "C" fn hullpippin_return_seat(
     alloc: Global,
@@ -73,31 +60,28 @@ pub extern "C" fn hullpippin_return_seat(
     requires own { IsOwn driver.old.held seat.old.held }
     ensures { Reports result (ReturnsAt driver.old.held driver.new.held seat.old.held seat.new.held) }
 {
-    let mut host = take(alloc, driver);
+    let host = driver.host();
     if !host.has_room() {
-        put(driver, host);
         return Status::NoMemory.number();
     }
-    host.take_back(Box::into_inner(take(alloc, seat)));
-    put(driver, host);
+    match Box::into_inner(take(alloc, seat)) {
+        Held::Seat(seat) => host.take_back(seat),
+        _ => unreachable!(),
+    }
     Status::Done.number()
 }
 
 /// Ends a driver whose seats are all there. Its handle then has its history.
-#[tactic(auto, using(crate::proofs::Behind::driver_held))]
+#[tactic(auto, using(crate::proofs::Behind::there))]
 #[unsafe(no_mangle)]
-pub extern "C" fn hullpippin_finish(alloc: Global, driver: &mut Handle) -> u32
+pub extern "C" fn hullpippin_finish(driver: &mut Handle) -> u32
     requires driver { IsDriver driver.old.held }
     ensures { Reports result (Finishes driver.old.held driver.new.held) }
 {
-    let mut host = take(alloc, driver);
-    let status = host.finish();
-    put(driver, host);
-    status.number()
+    driver.held().finish().number()
 }
 
 /// Tells how many bytes the journal of an ended driver has, and copies them if all of them fit.
-#[tactic(auto, using(crate::proofs::Behind::ended_held))]
 #[unsafe(no_mangle)]
 pub extern "C" fn hullpippin_journal(
     alloc: Global,
@@ -108,12 +92,9 @@ pub extern "C" fn hullpippin_journal(
     requires ended { IsEnded driver.old.held }
     ensures same { driver.new.held ≡ driver.old.held }
     ensures journals { Reports result (λ s.
-        OfHistory driver.old.held (λ r. Journals r out.old out.new size.old size.new s)) }
+        Of history_of driver.old.held (λ r. Journals r out.old out.new size.old size.new s)) }
 {
-    let held = take(alloc, driver);
-    let status = held.journal(alloc, out, size);
-    put(driver, held);
-    status.number()
+    write_to(alloc, driver.history(), out, size).number()
 }
 
 /// Judges the bytes of a journal: whether its entries are a history, or else how many of them are.

@@ -1,26 +1,15 @@
 //! What a driver's handle is for: seats are taken, and come back, and then there is its history.
 ghost use Rattle.std.specs.Prelude.{◌≡◌, true, IfOk, IfErr};
 ghost use Rattle.std.specs.Arc.{arc_value};
-ghost use Rattle.bd_c.specs.Hosts.{Opens, refusal_of, IsRefusal, Hands, Keeps, has_room, TakesBack, Ends};
+ghost use Rattle.bd_c.specs.Hosts.{Opens, IsRefusal, Hands, Keeps, has_room, TakesBack, Ends};
 
 use crate::host::Host;
 use crate::seat::OwnedSeat;
 use crate::status::Status;
 use bd_driver::Driver;
 use bd_space::Record;
-use bd_uapi::Fault;
 use std::alloc::Global;
 use std::sync::Arc;
-
-// A status in place of the driver's fault.
-fn refusal(fault: Fault) -> Status
-    ensures { result ≡ refusal_of fault }
-{
-    match fault {
-        Fault::SeatCount => Status::SeatCount,
-        _ => Status::NoMemory,
-    }
-}
 
 impl Host {
     /// A driver with so many seats, all of them there.
@@ -30,7 +19,7 @@ impl Host {
         ensures refused { IfErr result (IsRefusal count) }
     {
         match Driver::new(alloc, count) {
-            Err(fault) => Err(refusal(fault)),
+            Err(fault) => Err(Status::of_fault(fault)),
             Ok((driver, seats)) => match Arc::new(alloc, driver) {
                 Err(_) => Err(Status::NoMemory),
                 Ok(driver) => Ok(Host {

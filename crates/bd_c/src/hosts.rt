@@ -1,8 +1,8 @@
 //! The same by what is behind a handle.
-ghost use Rattle.std.specs.Prelude.{◌≡◌, Some, true, IfOk, IfErr, OnOk};
-ghost use Rattle.bd_c.specs.Hosts.{Opens, IsRefusal, Hands, Keeps, has_room};
-ghost use Rattle.bd_c.specs.Drivers.{IsDriver, OfDriver, OverDriver, IsOwn, Returns, Finishes};
-ghost use Rattle.bd_c.specs.Seats.{OfSeat};
+ghost use Rattle.std.specs.Prelude.{Some, IfOk, IfErr};
+ghost use Rattle.bd_c.specs.Behind.{Of, IsDriver, driver_of};
+ghost use Rattle.bd_c.specs.Hosts.{Opens, IsRefusal};
+ghost use Rattle.bd_c.specs.Drivers.{Finishes};
 ghost use Rattle.bd_c.specs.declared.held.Held.TheVariants.{Driver};
 
 use crate::held::Held;
@@ -13,7 +13,7 @@ use std::alloc::Global;
 
 /// A new driver, in a box.
 pub(crate) fn open_host(alloc: Global, count: u32) -> Result<Box<Held>, Status>
-    ensures ok { IfOk result (λ b. OfDriver (Some b.value) (Opens count)) }
+    ensures ok { IfOk result (λ b. Of driver_of (Some b.value) (Opens count)) }
     ensures refused { IfErr result (IsRefusal count) }
 {
     let host = Host::new(alloc, count)?;
@@ -31,47 +31,6 @@ fn ended(host: Host) -> (Held, Status)
 }
 
 impl Held {
-    /// The first seat that is there goes to where nothing is.
-    pub(crate) fn hand_out(&mut self, out: &mut Held) -> Result<(), Status>
-        requires driver { IsDriver (Some self.old) }
-        ensures ok { OnOk result (OverDriver (Some self.old) (Some self.new) (λ h k. OfSeat (Some out.new) (Hands h k))) }
-        ensures refused { IfErr result (λ s. OverDriver (Some self.old) (Some self.new) (λ h k. Keeps h k s)) }
-    {
-        match self {
-            Held::Driver(host) => match host.take() {
-                Ok(seat) => {
-                    *out = Held::Seat(seat);
-                    Ok(())
-                }
-                Err(status) => Err(status),
-            },
-            _ => unreachable!(),
-        }
-    }
-
-    /// Whether a seat can come back.
-    pub(crate) fn has_room(&self) -> bool
-        requires { IsDriver (Some self.now) }
-        ensures { result ≡ true → OfDriver (Some self.now) (λ h. has_room h ≡ true) }
-    {
-        match self {
-            Held::Driver(host) => host.has_room(),
-            _ => unreachable!(),
-        }
-    }
-
-    /// A seat comes back.
-    pub(crate) fn take_back(&mut self, seat: Held)
-        requires own { IsOwn (Some self.old) (Some seat) }
-        requires room { OfDriver (Some self.old) (λ h. has_room h ≡ true) }
-        ensures { Returns (Some self.old) (Some self.new) (Some seat) }
-    {
-        match (self, seat) {
-            (Held::Driver(host), Held::Seat(seat)) => host.take_back(seat),
-            _ => unreachable!(),
-        }
-    }
-
     /// In the driver's place comes its history, once all seats are there.
     pub(crate) fn finish(&mut self) -> Status
         requires { IsDriver (Some self.old) }

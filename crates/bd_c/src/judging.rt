@@ -1,20 +1,17 @@
 //! Journals: the bytes of a history, and what they are worth.
-ghost use Rattle.std.specs.Prelude.{◌≡◌, ◌≤◌, Some, IfOk, IfErr};
-ghost use Rattle.bd_journal.specs.Spelling.{IsJournal, journal_bytes};
-ghost use Rattle.bd_c.specs.Journals.{IsNotWritten, Journals, Judges, Judged, HasSeats};
-ghost use Rattle.bd_c.specs.Drivers.{IsEnded, OfHistory};
+ghost use Rattle.bd_uapi.specs.Limits.{IsSeats};
+ghost use Rattle.bd_c.specs.Journals.{Journals, Judges, Judged};
 
-use crate::held::Held;
-use crate::parts::fill;
+use crate::parts::tell_written;
 use crate::status::Status;
 use bd_audit::{AuditFault, replay};
-use bd_journal::{ReadError, WriteError, read_journal, write_journal};
+use bd_journal::{ReadError, read_journal, write_journal};
 use bd_space::Record;
 use std::alloc::Global;
 
 /// What is said of a journal.
 #[repr(C)]
-#[derive(Clone, Copy, Debug, PartialEq, Eq)]
+#[derive(Clone, Copy)]
 pub struct Verdict {
     /// Whether its entries are a history.
     pub lawful: bool,
@@ -22,48 +19,18 @@ pub struct Verdict {
     pub entries: usize,
 }
 
-// The journal of a history.
-fn journal_of(alloc: Global, history: &Record) -> Result<Vec<u8>, Status>
-    ensures ok { IfOk result (λ v. IsJournal history.now × (v.items ≡ journal_bytes history.now)) }
-    ensures refused { IfErr result (IsNotWritten history.now) }
-{
-    let mut bytes = Vec::new(alloc);
-    match write_journal(history, &mut bytes) {
-        Ok(()) => Ok(bytes),
-        Err(WriteError::Unspellable) => Err(Status::NoJournal),
-        Err(WriteError::Refused) => Err(Status::NoMemory),
-    }
-}
-
-// Copies a journal, if all of it fits.
-fn write_to(alloc: Global, history: &Record, out: &mut [u8], size: &mut usize) -> Status
+/// Copies the journal of a history, if all of it fits.
+pub(crate) fn write_to(alloc: Global, history: &Record, out: &mut [u8], size: &mut usize) -> Status
     ensures { Journals history.now out.old out.new size.old size.new result }
 {
-    match journal_of(alloc, history) {
-        Ok(bytes) => {
-            *size = fill(out, bytes.as_slice());
-            Status::Done
-        }
-        Err(status) => status,
-    }
-}
-
-impl Held {
-    /// Copies the journal of the history that is here.
-    pub(crate) fn journal(&self, alloc: Global, out: &mut [u8], size: &mut usize) -> Status
-        requires { IsEnded (Some self.now) }
-        ensures { OfHistory (Some self.now) (λ r. Journals r out.old out.new size.old size.new result) }
-    {
-        match self {
-            Held::History(history) => write_to(alloc, history, out, size),
-            _ => unreachable!(),
-        }
-    }
+    let mut journal = Vec::new(alloc);
+    let written = write_journal(history, &mut journal);
+    tell_written(written, journal.as_slice(), out, size)
 }
 
 // What a replay of the record comes to.
 fn judge(alloc: Global, found: &Record, verdict: &mut Verdict) -> Status
-    requires { HasSeats found.now }
+    requires { IsSeats found.now.seats }
     ensures { Judged found.now verdict.old verdict.new result }
 {
     match replay(alloc, found) {

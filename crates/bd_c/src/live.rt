@@ -1,12 +1,11 @@
 //! A live engine that C has, the entry of its latest step, which buffers ended by it, and which seats had something to read.
 ghost use Rattle.std.specs.Prelude.{◌≡◌, ◌<◌, IfOk, IfErr};
-ghost use Rattle.bd_c.specs.Lives.{Begins, live_refusal_of, IsLiveRefusal, Steps};
+ghost use Rattle.bd_c.specs.Lives.{Begins, IsLiveRefusal, Steps};
 
 use crate::answers::Told;
 use crate::status::Status;
 use bd_engine::{Live, Why};
 use bd_space::{Entry, Step};
-use bd_uapi::Fault;
 use std::alloc::Global;
 
 /// A live engine, and the entry of its latest step, which nobody else has.
@@ -24,19 +23,9 @@ pub struct OwnedLive {
     pub(crate) spare: Vec<u32>,
 }
 
-// A status in place of the engine's fault.
-fn refusal(fault: Fault) -> Status
-    ensures { result ≡ live_refusal_of fault }
-{
-    match fault {
-        Fault::SeatCount => Status::SeatCount,
-        _ => Status::NoMemory,
-    }
-}
-
 impl OwnedLive {
     /// A live engine for so many seats, which hasn't made a step.
-    #[tactic(auto, using(crate::proofs::BehindLive::live_refused_fits))]
+    #[tactic(auto, using(crate::proofs::Behind::live_refused_fits))]
     pub(crate) fn new(alloc: Global, seats: u32) -> Result<OwnedLive, Status>
         ensures ok { IfOk result (Begins seats) }
         ensures refused { IfErr result (IsLiveRefusal seats) }
@@ -50,7 +39,7 @@ impl OwnedLive {
                 changed: Vec::new(alloc),
                 spare: Vec::new(alloc),
             }),
-            Err(fault) => Err(refusal(fault)),
+            Err(fault) => Err(Status::of_fault(fault)),
         }
     }
 

@@ -2,15 +2,16 @@
 ghost use Rattle.std.specs.Prelude.{◌≡◌, None};
 ghost use Rattle.bd_space.specs.declared.step.Step.TheVariants.{Open, Attach, SetManager, Read, ExitThread, ExitProcess};
 ghost use Rattle.bd_c.specs.Status.{Reports};
+ghost use Rattle.bd_c.specs.Behind.{IsLive};
 ghost use Rattle.bd_c.specs.Flags.{StepsSpam};
-ghost use Rattle.bd_c.specs.Lives.{IsLive, OverLive, LiveOpensAt, Steps};
+ghost use Rattle.bd_c.specs.Lives.{LiveOpensAt, StepsAt};
 ghost use Rattle.bd_c.specs.LiveCommands.{Commands};
 
 use crate::answers::Told;
 use crate::handles::Handle;
 use crate::live_commands::step_of;
 use crate::lives::open_live;
-use crate::opening::{put, take};
+use crate::opening::put;
 use crate::requests::flag_of;
 use crate::status::Status;
 use bd_space::Step;
@@ -32,22 +33,16 @@ pub extern "C" fn hullpippin_live_new(alloc: Global, seats: u32, live: &mut Hand
 }
 
 // Makes a step.
-#[tactic(auto, using(crate::proofs::BehindLive::live_held))]
-fn make(alloc: Global, live: &mut Handle, seat: u32, step: Step, told: &mut Told) -> u32
+fn make(live: &mut Handle, seat: u32, step: Step, told: &mut Told) -> u32
     requires { IsLive live.old.held }
-    ensures { Reports result (λ s. OverLive live.old.held live.new.held (λ x y.
-        Steps x y seat step s told.old told.new)) }
+    ensures { Reports result (StepsAt live.old.held live.new.held seat step told.old told.new) }
 {
-    let mut held = take(alloc, live);
-    let status = held.step(seat, step, told);
-    put(live, held);
-    status.number()
+    live.engine().step(seat, step, told).number()
 }
 
 /// Opens a process with one thread, the seat's.
 #[unsafe(no_mangle)]
 pub extern "C" fn hullpippin_live_open(
-    alloc: Global,
     live: &mut Handle,
     seat: u32,
     pid: u32,
@@ -56,47 +51,37 @@ pub extern "C" fn hullpippin_live_open(
     told: &mut Told,
 ) -> u32
     requires { IsLive live.old.held }
-    ensures { Reports result (λ s. OverLive live.old.held live.new.held (λ x y.
-        Steps x y seat (Open pid euid window) s told.old told.new)) }
+    ensures { Reports result (StepsAt live.old.held live.new.held seat (Open pid euid window) told.old told.new) }
 {
-    make(alloc, live, seat, Step::Open { pid, euid, window }, told)
+    make(live, seat, Step::Open { pid, euid, window }, told)
 }
 
 /// Makes the seat a further thread of a live process.
 #[unsafe(no_mangle)]
 pub extern "C" fn hullpippin_live_attach(
-    alloc: Global,
     live: &mut Handle,
     seat: u32,
     pid: u32,
     told: &mut Told,
 ) -> u32
     requires { IsLive live.old.held }
-    ensures { Reports result (λ s. OverLive live.old.held live.new.held (λ x y.
-        Steps x y seat (Attach pid) s told.old told.new)) }
+    ensures { Reports result (StepsAt live.old.held live.new.held seat (Attach pid) told.old told.new) }
 {
-    make(alloc, live, seat, Step::Attach { pid }, told)
+    make(live, seat, Step::Attach { pid }, told)
 }
 
 /// Makes the seat's process the context manager.
 #[unsafe(no_mangle)]
-pub extern "C" fn hullpippin_live_manager(
-    alloc: Global,
-    live: &mut Handle,
-    seat: u32,
-    told: &mut Told,
-) -> u32
+pub extern "C" fn hullpippin_live_manager(live: &mut Handle, seat: u32, told: &mut Told) -> u32
     requires { IsLive live.old.held }
-    ensures { Reports result (λ s. OverLive live.old.held live.new.held (λ x y.
-        Steps x y seat SetManager s told.old told.new)) }
+    ensures { Reports result (StepsAt live.old.held live.new.held seat SetManager told.old told.new) }
 {
-    make(alloc, live, seat, Step::SetManager, told)
+    make(live, seat, Step::SetManager, told)
 }
 
 /// Has the seat's process told of its own one-way flooding where it is 1, and no longer where it is 0.
 #[unsafe(no_mangle)]
 pub extern "C" fn hullpippin_live_set_spam(
-    alloc: Global,
     live: &mut Handle,
     seat: u32,
     on: u32,
@@ -106,13 +91,13 @@ pub extern "C" fn hullpippin_live_set_spam(
     ensures { Reports result (λ s. StepsSpam live.old.held live.new.held seat on s told.old told.new) }
 {
     match flag_of(on) {
-        Ok(on) => make(alloc, live, seat, Step::SetSpam { on }, told),
+        Ok(on) => make(live, seat, Step::SetSpam { on }, told),
         Err(status) => status.number(),
     }
 }
 
 /// Runs one command of the seat. What is given as its parcel is looked at with a transaction or reply alone.
-#[tactic(auto, using(crate::proofs::BehindLive::no_step))]
+#[tactic(auto, using(crate::proofs::Commanding::no_step))]
 #[unsafe(no_mangle)]
 pub extern "C" fn hullpippin_live_command(
     alloc: Global,
@@ -128,7 +113,7 @@ pub extern "C" fn hullpippin_live_command(
         Commands live.old.held live.new.held seat command.now bytes.now offsets.now s told.old told.new) }
 {
     match step_of(alloc, command, bytes, offsets) {
-        Ok(step) => make(alloc, live, seat, step, told),
+        Ok(step) => make(live, seat, step, told),
         Err(status) => status.number(),
     }
 }
@@ -136,45 +121,31 @@ pub extern "C" fn hullpippin_live_command(
 /// Reads returns, whose bytes stay in the latest entry.
 #[unsafe(no_mangle)]
 pub extern "C" fn hullpippin_live_read(
-    alloc: Global,
     live: &mut Handle,
     seat: u32,
     limit: u32,
     told: &mut Told,
 ) -> u32
     requires { IsLive live.old.held }
-    ensures { Reports result (λ s. OverLive live.old.held live.new.held (λ x y.
-        Steps x y seat (Read limit) s told.old told.new)) }
+    ensures { Reports result (StepsAt live.old.held live.new.held seat (Read limit) told.old told.new) }
 {
-    make(alloc, live, seat, Step::Read { limit }, told)
+    make(live, seat, Step::Read { limit }, told)
 }
 
 /// Ends the seat's thread.
 #[unsafe(no_mangle)]
-pub extern "C" fn hullpippin_live_exit_thread(
-    alloc: Global,
-    live: &mut Handle,
-    seat: u32,
-    told: &mut Told,
-) -> u32
+pub extern "C" fn hullpippin_live_exit_thread(live: &mut Handle, seat: u32, told: &mut Told) -> u32
     requires { IsLive live.old.held }
-    ensures { Reports result (λ s. OverLive live.old.held live.new.held (λ x y.
-        Steps x y seat ExitThread s told.old told.new)) }
+    ensures { Reports result (StepsAt live.old.held live.new.held seat ExitThread told.old told.new) }
 {
-    make(alloc, live, seat, Step::ExitThread, told)
+    make(live, seat, Step::ExitThread, told)
 }
 
 /// Ends the seat's process with all its threads.
 #[unsafe(no_mangle)]
-pub extern "C" fn hullpippin_live_exit_process(
-    alloc: Global,
-    live: &mut Handle,
-    seat: u32,
-    told: &mut Told,
-) -> u32
+pub extern "C" fn hullpippin_live_exit_process(live: &mut Handle, seat: u32, told: &mut Told) -> u32
     requires { IsLive live.old.held }
-    ensures { Reports result (λ s. OverLive live.old.held live.new.held (λ x y.
-        Steps x y seat ExitProcess s told.old told.new)) }
+    ensures { Reports result (StepsAt live.old.held live.new.held seat ExitProcess told.old told.new) }
 {
-    make(alloc, live, seat, Step::ExitProcess, told)
+    make(live, seat, Step::ExitProcess, told)
 }

@@ -5,68 +5,50 @@ ghost use Rattle.bd_engine.specs.Follows.{Follows};
 ghost use Rattle.bd_journal.specs.Spelling.{heading_bytes};
 ghost use Rattle.bd_journal.specs.Writing.{IsHeading};
 ghost use Rattle.bd_c.specs.declared.held.Held.{Held};
+ghost use Rattle.bd_c.specs.Behind.{Of, IsLive, live_of};
 ghost use Rattle.bd_c.specs.Status.{Reports};
-ghost use Rattle.bd_c.specs.Parts.{Fetches};
-ghost use Rattle.bd_c.specs.Lives.{IsLive, OfLive};
-ghost use Rattle.bd_c.specs.LiveEntries.{got_of, IsSpelled, spelled, Tells};
+ghost use Rattle.bd_c.specs.Parts.{Fetches, Tells};
+ghost use Rattle.bd_c.specs.LiveEntries.{got_of, IsSpelled, spelled};
 
 use crate::handles::Handle;
 use crate::live_entries::got_of;
-use crate::opening::{put, take};
+use crate::opening::take;
 use crate::parts::fill;
 use std::alloc::Global;
 
 /// Whether the seat has something to read.
-#[tactic(auto, using(crate::proofs::BehindLive::live_held))]
 #[unsafe(no_mangle)]
-pub extern "C" fn hullpippin_live_ready(alloc: Global, live: &mut Handle, seat: u32) -> bool
+pub extern "C" fn hullpippin_live_ready(live: &mut Handle, seat: u32) -> bool
     requires { IsLive live.old.held }
     ensures same { live.new.held ≡ live.old.held }
-    ensures ready { OfLive live.old.held (λ x. (h : History) → Follows x.live h
+    ensures ready { Of live_of live.old.held (λ x. (h : History) → Follows x.live h
         → result ≡ is_ready (space_after h) seat) }
 {
-    let held = take(alloc, live);
-    let is_ready = held.live().live.is_ready(seat);
-    put(live, held);
-    is_ready
+    live.engine().live.is_ready(seat)
 }
 
 /// How many steps were made.
-#[tactic(auto, using(crate::proofs::BehindLive::live_held))]
 #[unsafe(no_mangle)]
-pub extern "C" fn hullpippin_live_len(alloc: Global, live: &mut Handle) -> u32
+pub extern "C" fn hullpippin_live_len(live: &mut Handle) -> u32
     requires { IsLive live.old.held }
     ensures same { live.new.held ≡ live.old.held }
-    ensures len { OfLive live.old.held (λ x. (h : History) → Follows x.live h → result ≡ length h.entries) }
+    ensures len { Of live_of live.old.held (λ x. (h : History) → Follows x.live h → result ≡ length h.entries) }
 {
-    let held = take(alloc, live);
-    let steps = held.live().live.len();
-    put(live, held);
-    steps
+    live.engine().live.len()
 }
 
 /// Copies a part of the bytes that the latest step got, if all of them fit: 0 the returns, 1 the data, 2 the offsets.
 /// Answers how many they are.
-#[tactic(auto, using(crate::proofs::BehindLive::live_held))]
 #[unsafe(no_mangle)]
-pub extern "C" fn hullpippin_live_bytes(
-    alloc: Global,
-    live: &mut Handle,
-    part: u32,
-    out: &mut [u8],
-) -> usize
+pub extern "C" fn hullpippin_live_bytes(live: &mut Handle, part: u32, out: &mut [u8]) -> usize
     requires { IsLive live.old.held }
     ensures same { live.new.held ≡ live.old.held }
-    ensures fetches { OfLive live.old.held (λ x. Fetches (got_of part x.latest) out.old out.new result) }
+    ensures fetches { Of live_of live.old.held (λ x. Fetches (got_of part x.latest) out.old out.new result) }
 {
-    let held = take(alloc, live);
-    let count = fill(out, got_of(&held.live().latest, part));
-    put(live, held);
-    count
+    fill(out, got_of(&live.engine().latest, part))
 }
 
 /// Tells how many bytes the latest entry has in a journal, and copies them if all of them fit.
-#[tactic(auto, using(crate::proofs::BehindLive::live_held))]
 #[unsafe(no_mangle)]
 pub extern "C" fn hullpippin_live_entry(
     alloc: Global,
@@ -76,17 +58,13 @@ pub extern "C" fn hullpippin_live_entry(
 ) -> u32
     requires { IsLive live.old.held }
     ensures same { live.new.held ≡ live.old.held }
-    ensures tells { Reports result (λ s. OfLive live.old.held (λ x.
+    ensures tells { Reports result (λ s. Of live_of live.old.held (λ x.
         Tells (IsSpelled x.live.seats x.latest) (spelled x.latest) out.old out.new size.old size.new s)) }
 {
-    let held = take(alloc, live);
-    let status = held.live().entry(alloc, out, size);
-    put(live, held);
-    status.number()
+    live.engine().entry(alloc, out, size).number()
 }
 
 /// Tells how many bytes the heading of a journal of so many entries has, and copies them if all of them fit.
-#[tactic(auto, using(crate::proofs::BehindLive::live_held))]
 #[unsafe(no_mangle)]
 pub extern "C" fn hullpippin_live_heading(
     alloc: Global,
@@ -97,13 +75,10 @@ pub extern "C" fn hullpippin_live_heading(
 ) -> u32
     requires { IsLive live.old.held }
     ensures same { live.new.held ≡ live.old.held }
-    ensures tells { Reports result (λ s. OfLive live.old.held (λ x.
+    ensures tells { Reports result (λ s. Of live_of live.old.held (λ x.
         Tells (IsHeading x.live.seats count) (heading_bytes x.live.seats count) out.old out.new size.old size.new s)) }
 {
-    let held = take(alloc, live);
-    let status = held.live().heading(alloc, count, out, size);
-    put(live, held);
-    status.number()
+    live.engine().heading(alloc, count, out, size).number()
 }
 
 /// Lets go of a live engine. Its handle then has nothing.

@@ -3,7 +3,7 @@ use bd_driver::Page;
 
 /// A page as one look found it.
 #[repr(C)]
-#[derive(Clone, Copy, Debug, PartialEq, Eq)]
+#[derive(Clone, Copy)]
 pub struct PageTold {
     /// How many steps the history has.
     pub stamp: u32,

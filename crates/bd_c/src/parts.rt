@@ -1,17 +1,16 @@
 //! The bytes and notes of what a seat's latest call came to.
-ghost use Rattle.std.specs.Prelude.{◌≡◌, Some};
-ghost use Rattle.bd_c.specs.Parts.{bytes_of, notes_of, TellsNote, Fetches};
-ghost use Rattle.bd_c.specs.Seats.{IsSeat, OfSeat};
+ghost use Rattle.std.specs.Prelude.{◌≡◌};
+ghost use Rattle.bd_c.specs.Parts.{bytes_of, notes_of, TellsNote, Fetches, TellsWritten};
 
-use crate::held::Held;
+use crate::status::Status;
 use bd_driver::Outcome;
-use bd_journal::note_number;
+use bd_journal::{WriteError, note_number};
 use bd_space::Answer;
 use bd_uapi::Note;
 
 /// A note of a write: which of its commands changed nothing, from 0, and the number of the reason.
 #[repr(C)]
-#[derive(Clone, Copy, Debug, PartialEq, Eq)]
+#[derive(Clone, Copy)]
 pub struct NoteTold {
     /// Which command of the stream.
     pub command: u32,
@@ -19,8 +18,8 @@ pub struct NoteTold {
     pub number: u32,
 }
 
-// The bytes that a read got: 0 the returns, 1 the data, 2 the offsets.
-fn bytes_of(latest: &Option<Outcome>, part: u32) -> &[u8]
+/// The bytes that a read got: 0 the returns, 1 the data, 2 the offsets.
+pub(crate) fn bytes_of(latest: &Option<Outcome>, part: u32) -> &[u8]
     ensures { result.now ≡ bytes_of part latest.now }
 {
     match latest {
@@ -43,8 +42,8 @@ fn bytes_of(latest: &Option<Outcome>, part: u32) -> &[u8]
     }
 }
 
-// The notes of a write.
-fn notes_of(latest: &Option<Outcome>) -> &[(u32, Note)]
+/// The notes of a write.
+pub(crate) fn notes_of(latest: &Option<Outcome>) -> &[(u32, Note)]
     ensures { result.now ≡ notes_of latest.now }
 {
     match latest {
@@ -58,8 +57,8 @@ fn notes_of(latest: &Option<Outcome>) -> &[(u32, Note)]
     }
 }
 
-/// Copies the bytes where all of them fit, and else none; answers how many they are.
-pub(crate) fn fill(out: &mut [u8], from: &[u8]) -> usize
+/// Copies the items where all of them fit, and else none; answers how many they are.
+pub(crate) fn fill<T: Copy>(out: &mut [T], from: &[T]) -> usize
     ensures { Fetches from.now out.old out.new result }
 {
     let count = from.len();
@@ -69,8 +68,8 @@ pub(crate) fn fill(out: &mut [u8], from: &[u8]) -> usize
     count
 }
 
-// Tells the note at an index, if there is one.
-fn tell_note(notes: &[(u32, Note)], index: usize, told: &mut NoteTold) -> bool
+/// Tells the note at an index, if there is one.
+pub(crate) fn tell_note(notes: &[(u32, Note)], index: usize, told: &mut NoteTold) -> bool
     ensures { TellsNote notes.now index told.old told.new result }
 {
     match notes.get(index) {
@@ -85,26 +84,21 @@ fn tell_note(notes: &[(u32, Note)], index: usize, told: &mut NoteTold) -> bool
     }
 }
 
-impl Held {
-    /// Copies a part of the bytes that the seat's latest call got.
-    pub(crate) fn fetch(&self, part: u32, out: &mut [u8]) -> usize
-        requires { IsSeat (Some self.now) }
-        ensures { OfSeat (Some self.now) (λ x. Fetches (bytes_of part x.latest) out.old out.new result) }
-    {
-        match self {
-            Held::Seat(seat) => fill(out, bytes_of(&seat.latest, part)),
-            _ => unreachable!(),
+/// Copies what was written of a journal where all of it fits, and tells how many bytes it has.
+pub(crate) fn tell_written(
+    written: Result<(), WriteError>,
+    bytes: &[u8],
+    out: &mut [u8],
+    size: &mut usize,
+) -> Status
+    ensures { TellsWritten written bytes.now out.old out.new size.old size.new result }
+{
+    match written {
+        Ok(()) => {
+            *size = fill(out, bytes);
+            Status::Done
         }
-    }
-
-    /// Tells a note of the seat's latest call.
-    pub(crate) fn note(&self, index: usize, told: &mut NoteTold) -> bool
-        requires { IsSeat (Some self.now) }
-        ensures { OfSeat (Some self.now) (λ x. TellsNote (notes_of x.latest) index told.old told.new result) }
-    {
-        match self {
-            Held::Seat(seat) => tell_note(notes_of(&seat.latest), index, told),
-            _ => unreachable!(),
-        }
+        Err(WriteError::Unspellable) => Status::NoJournal,
+        Err(WriteError::Refused) => Status::NoMemory,
     }
 }

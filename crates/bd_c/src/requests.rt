@@ -10,7 +10,7 @@ use std::alloc::{AllocError, Global};
 
 /// A request without its bytes. A field that the kind has no use for isn't looked at.
 #[repr(C)]
-#[derive(Clone, Copy, Debug, PartialEq, Eq)]
+#[derive(Clone, Copy)]
 pub struct RequestGiven {
     /// 1 open, 2 attach, 3 become the manager, 4 write, 5 read, 6 end the thread, 7 end the process, 8 set reports of
     /// flooding.

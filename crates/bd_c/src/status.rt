@@ -1,9 +1,11 @@
 //! Whether a call was made.
 ghost use Rattle.std.specs.Prelude.{◌≡◌};
-ghost use Rattle.bd_c.specs.Status.{number_of};
+ghost use Rattle.bd_c.specs.Status.{number_of, refusal_of};
+
+use bd_uapi::Fault;
 
 /// Whether a call was made, or why nothing was done.
-#[derive(Clone, Copy, Debug, PartialEq, Eq)]
+#[derive(Clone, Copy)]
 pub enum Status {
     /// It was made.
     Done,
@@ -34,6 +36,16 @@ pub enum Status {
 }
 
 impl Status {
+    /// Why neither a driver nor a live engine was made, in place of their fault.
+    pub(crate) fn of_fault(fault: Fault) -> Status
+        ensures { result ≡ refusal_of fault }
+    {
+        match fault {
+            Fault::SeatCount => Status::SeatCount,
+            _ => Status::NoMemory,
+        }
+    }
+
     /// The number that C has for it.
     pub(crate) fn number(self) -> u32
         ensures { result ≡ number_of self }

@@ -1,19 +1,20 @@
-use Rattle.std.proofs.Common.{◌≡◌, refl, sym, ◌∙◌}
+use Rattle.std.proofs.Common.{◌≡◌, refl, sym, subst}
 use Rattle.std.specs.Prelude.{Option, Some}
 use Rattle.bd_c.specs.declared.held.Held.{Held}
+use Rattle.bd_c.specs.declared.held.Held.TheVariants.{Driver, Seat}
 use Rattle.bd_c.specs.declared.status.Status.TheVariants.{Done, NoMemory}
-use Rattle.bd_c.specs.Drivers.{Returns}
-use Rattle.bd_c.proofs.Behind.{outside, outside_both}
+use Rattle.bd_c.specs.Behind.{Of, Over, driver_of, seat_of}
+use Rattle.bd_c.specs.Hosts.{TakesBack}
 use Rattle.bd_c.proofs.driver_calls.hullpippin_return_seat.Goals as goal
 
 pub returns-then-not-has_room : goal.returns-then-not-has_room
-returns-then-not-has_room c = (NoMemory, c.number.ensures, (c.put.ensures ∙ sym c.take-host.ensures.held, refl))
+returns-then-not-has_room c = (NoMemory, c.number.ensures, (sym c.host-host.ensures.host, refl))
 
 pub returns : goal.returns
 returns c =
-    let old : Held = c.deref_mut.result.now in
-    let new : Held = c.take_back.new.self in
-    let kept : c.put-2.new.handle.held ≡ Some new = cc in
-    let back : Returns (Some old) (Some new) c.args.seat.now.held =
-    outside (λ (s : Option Held). Returns (Some old) (Some new) s) c.args.seat.now.held c.take.result.value c.into_inner.result c.take.ensures.held c.into_inner.ensures c.take_back.ensures in
-    (Done, c.number-2.ensures, (outside_both (λ (h k : Option Held). Returns h k c.args.seat.now.held) c.args.driver.now.held c.put-2.new.handle.held c.take-host.result.value old new c.take-host.ensures.held c.deref_mut.ensures.value kept back, c.take.ensures.empty))
+    let old = c.host-host.result.now in
+    let new = c.take_back.new.self in
+    let at : Option Held = c.args.seat.now.held in
+    let was : at ≡ Some (Seat c.in-Seat.seat) = cc in
+    let back : Of seat_of at (TakesBack old new) = subst (λ (m : Option Held). Of seat_of m (TakesBack old new)) (sym was) c.take_back.ensures in
+    (Done, c.number-2.ensures, (subst (λ (h : Option Held). Over driver_of h (Some (Driver new)) (λ x y. Of seat_of at (TakesBack x y))) (sym c.host-host.ensures.host) back, c.take.ensures.empty))

@@ -2,8 +2,9 @@ use Rattle.std.proofs.Common.{refl, sym, subst, inl}
 use Rattle.std.specs.Prelude.{Option}
 use Rattle.bd_c.specs.declared.held.Held.{Held}
 use Rattle.bd_c.specs.declared.status.Status.TheVariants.{Done}
-use Rattle.bd_c.specs.Lives.{Begins, OfLive}
+use Rattle.bd_c.specs.Behind.{Of, live_of}
+use Rattle.bd_c.specs.Lives.{Begins}
 use Rattle.bd_c.proofs.live_calls.hullpippin_live_new.Goals as goal
 
 pub returns-in-Ok : goal.returns-in-Ok
-returns-in-Ok c = (Done, c.number.ensures, inl (refl, subst (λ (h : Option Held). OfLive h (Begins c.args.seats)) (sym c.put.ensures) c.in-Ok.ensures.ok))
+returns-in-Ok c = (Done, c.number.ensures, inl (refl, subst (λ (h : Option Held). Of live_of h (Begins c.args.seats)) (sym c.put.ensures) c.in-Ok.ensures.ok))

@@ -1,6 +1,6 @@
 use Rattle.std.proofs.Common.{arith, refl}
 use Rattle.std.specs.Prelude.{Ok, Err}
-use Rattle.bd_c.proofs.BehindLive.{no_copy, no_begin, no_end}
+use Rattle.bd_c.proofs.Commanding.{no_copy, no_begin, no_end}
 use Rattle.bd_c.proofs.live_commands.step_of.Goals as goal
 
 pub returns-in-Err-clause-refused : goal.returns-in-Err-clause-refused

@@ -51,7 +51,7 @@ open_spec 𝓤 𝓛 𝓜 𝓡 wired =
     let a = z.0.3.0 in let v = z.0.3.1.0 in let Asked : Type 0 = (x : Held) × (v.held ≡ Some x) in
     qed 𝓛 ((‵ ftrue ⊛ ‵ (owns (types_at En.signature.params κs) z.0.3 z.0.4)) ∷ raw (fact 𝓤 Asked) ∷ []) ∵ move ! (1 ∷ []) $ heard ! Asked (λ asked. let x : Held = asked.0 in split ! $ drop ! $ fsplit ! $
     -- [the allocator; the handle and nothing]
-    handle_tells (al R Z LZ ghosts) ! a z.0.4.0 (λ hv ea fits. move ! (1 ∷ []) $ fsplit ! $ handle_out ! v x z.0.4.1.0 asked.1 (λ b o eh.
+    handle_tells (al R Z LZ ghosts) ! a z.0.4.0 (λ hv ea fits. move ! (1 ∷ []) $ fsplit ! $ handle_out ! v x z.0.4.1.0 asked.1 (λ b o e eh.
     let w : Val = word_of (vptr b o) in let made = loose_good R Z LZ ghosts b o hv fits in
     suffices ! (Run (hv ∷ w ∷ [])) (subst (λ (us : List Val). ent 𝓤 (Run (hv ∷ w ∷ [])) (Run us)) (sym (λ i. ea i ++ (eh i ++ []))) (id⊢ 𝓤 (Run (hv ∷ w ∷ [])))) $
     enter ! 𝓣.C 𝓣.Λ fn (hv ∷ w ∷ []) Post $ alloc_all ! (λ l. pass_all ! refl (fits, ((tt, (tt, tt)), tt)) $

@@ -1,48 +1,29 @@
--- What is behind a live engine's handle.
+-- A command that C gives to a live engine, of which a step was made or none.
 use Rattle.std.proofs.Common.{◌≡◌, ℕ, ◌≤◌, List, [], ◌++◌, length, append-nil, arith, true, refl, sym, ap, subst, ◌∙◌, inl, inr}
 use Rattle.std.proofs.lemmas.List.{take_all}
 use Rattle.std.specs.Prelude.{Option, Some, None, Result, Ok, Err, if◌then◌else◌}
 use Rattle.bd_uapi.specs.declared.fault.Fault.{Fault}
-use Rattle.bd_uapi.specs.declared.fault.Fault.TheVariants.{SeatCount, NoMemory}
 use Rattle.bd_uapi.specs.declared.command.Command.{Command}
 use Rattle.bd_codec.specs.Spelling.{command_bytes, IsCommand, Found}
 use Rattle.bd_journal.specs.Spelling.{carries}
 use Rattle.bd_space.specs.declared.step.Step.{Step}
 use Rattle.bd_space.specs.declared.step.Step.TheVariants as step_of
-use Rattle.bd_engine.specs.Refusals.{IsLiveSeatFault}
 use Rattle.bd_c.specs.declared.held.Held.{Held}
-use Rattle.bd_c.specs.declared.held.Held.TheVariants as held
 use Rattle.bd_c.specs.declared.answers.Told.{Told}
 use Rattle.bd_c.specs.declared.live.OwnedLive.{OwnedLive}
 use Rattle.bd_c.specs.declared.status.Status.{Status}
 use Rattle.bd_c.specs.declared.status.Status.TheVariants as status
-use Rattle.bd_c.specs.Lives.{IsLive, OverLive, Rests, HasParcel, Steps, live_refusal_of, IsLiveRefusal}
+use Rattle.bd_c.specs.Behind.{IsLive, live_of}
+use Rattle.bd_c.specs.Lives.{Rests, HasParcel, Steps, StepsAt}
+use Rattle.bd_c.proofs.Behind.{over_same}
 use Rattle.bd_c.specs.LiveCommands.{Commands, parcel_given, IsCommandOf, IsNoStep}
-
-pub live_held : (h : Option Held) → IsLive h → (x : Held) × (h ≡ Some x)
-live_held None is = absurd is
-live_held (Some x) is = (x, refl)
-
--- a fault that the engine gives is one that C is told as a refusal of that number
-pub live_refused_fits : (f : Fault) (n : ℕ) → IsLiveSeatFault n f → IsLiveRefusal n (live_refusal_of f)
-live_refused_fits SeatCount n fits = fits
-live_refused_fits NoMemory n fits = fits
-live_refused_fits _ n fits = absurd fits
 
 pub rests : (x : OwnedLive) (told : Told) → Rests x x told told
 rests x told = record { kept = refl; seats = refl; follows = λ h follows. follows; told = refl; ended = refl; notes = record { noted = refl; changed = refl } }
 
-pub over_live_same : (h : Option Held) (P : OwnedLive → OwnedLive → Type 0) → IsLive h → ((x : OwnedLive) → P x x) → OverLive h h P
-over_live_same None P is all = absurd is
-over_live_same (Some (held.Driver d)) P is all = absurd is
-over_live_same (Some (held.Seat x)) P is all = absurd is
-over_live_same (Some (held.History r)) P is all = absurd is
-over_live_same (Some (held.Live x)) P is all = all x
-over_live_same (Some held.Nothing) P is all = absurd is
-
 -- a step without memory for its parcel
-pub uncopied : (h : Option Held) (seat : ℕ) (z : Step) (told : Told) → IsLive h → HasParcel z → OverLive h h (λ x y. Steps x y seat z status.NoMemory told told)
-uncopied h seat z told is has = over_live_same h (λ x y. Steps x y seat z status.NoMemory told told) is (λ x. (inl has, rests x told))
+pub uncopied : (h : Option Held) (seat : ℕ) (z : Step) (told : Told) → IsLive h → HasParcel z → StepsAt h h seat z told told status.NoMemory
+uncopied h seat z told is has = over_same live_of h (λ x y. Steps x y seat z status.NoMemory told told) is (λ x. (inl has, rests x told))
 
 -- a command of which no step was made
 pub no_step : (s : Status) (h : Option Held) (seat : ℕ) (command bytes offsets : List ℕ) (told : Told) → IsLive h → IsNoStep command bytes offsets s

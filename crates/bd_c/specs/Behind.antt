@@ -1,0 +1,45 @@
+-- What is behind a handle: a driver, the history of one that has ended, a seat, or a live engine.
+use Rattle.std.specs.Prelude.{Option, Some, None, ⊤, IsSomeAnd}
+use Rattle.bd_space.specs.declared.record.Record.{Record}
+use Rattle.bd_c.specs.declared.held.Held.{Held}
+use Rattle.bd_c.specs.declared.held.Held.TheVariants as held
+use Rattle.bd_c.specs.declared.host.Host.{Host}
+use Rattle.bd_c.specs.declared.live.OwnedLive.{OwnedLive}
+use Rattle.bd_c.specs.declared.seat.OwnedSeat.{OwnedSeat}
+
+-- something of the kind is behind the handle, of which this is so
+abbrev pub Of : {T : Type 0} → (Held → Option T) → Option Held → (T → Type 0) → Type 0
+Of kind h P = IsSomeAnd h (λ v. IsSomeAnd (kind v) P)
+
+-- the same of what is behind it before and after
+abbrev pub Over : {T : Type 0} → (Held → Option T) → Option Held → Option Held → (T → T → Type 0) → Type 0
+Over kind h k P = Of kind h (λ x. Of kind k (P x))
+
+abbrev pub driver_of : Held → Option Host
+driver_of (held.Driver x) = Some x
+driver_of _ = None
+
+abbrev pub history_of : Held → Option Record
+history_of (held.History r) = Some r
+history_of _ = None
+
+abbrev pub seat_of : Held → Option OwnedSeat
+seat_of (held.Seat x) = Some x
+seat_of _ = None
+
+abbrev pub live_of : Held → Option OwnedLive
+live_of (held.Live x) = Some x
+live_of _ = None
+
+abbrev pub IsDriver : Option Held → Type 0
+IsDriver h = Of driver_of h (λ x. ⊤)
+
+-- the driver has ended, and this is its history
+abbrev pub IsEnded : Option Held → Type 0
+IsEnded h = Of history_of h (λ r. ⊤)
+
+abbrev pub IsSeat : Option Held → Type 0
+IsSeat h = Of seat_of h (λ x. ⊤)
+
+abbrev pub IsLive : Option Held → Type 0
+IsLive h = Of live_of h (λ x. ⊤)
