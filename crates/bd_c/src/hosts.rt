@@ -1,4 +1,4 @@
-//! The same by what is behind a handle.
+//! A new driver, and the history of one that has ended, as they come behind a handle.
 ghost use Rattle.std.specs.Prelude.{Some, IfOk, IfErr};
 ghost use Rattle.bd_c.specs.Behind.{Of, IsDriver, driver_of};
 ghost use Rattle.bd_c.specs.Hosts.{Opens, IsRefusal};

@@ -1,4 +1,4 @@
-//! The same by what is behind a handle.
+//! A new live engine, as it comes behind a handle.
 ghost use Rattle.std.specs.Prelude.{Some, IfOk, IfErr};
 ghost use Rattle.bd_c.specs.Behind.{Of, live_of};
 ghost use Rattle.bd_c.specs.Lives.{Begins, IsLiveRefusal};
