@@ -1,5 +1,5 @@
 -- What is behind a driver's handle, and what becomes of it.
-use Rattle.std.specs.Prelude.{◌≡◌, ℕ, ◌<◌, ◌≤◌, nat_lt, Bool, List, [], ◌∷◌, ◌++◌, length, Option, Some, None, vec_len, vec_capacity}
+use Rattle.std.specs.Prelude.{◌≡◌, ℕ, ◌<◌, ◌≤◌, nat_lt, Bool, [], ◌∷◌, ◌++◌, None, vec_len, vec_capacity}
 use Rattle.std.specs.Arc.{arc_value}
 use Rattle.bd_uapi.specs.Limits.{most_seats, IsSeats}
 use Rattle.bd_space.specs.declared.record.Record.{Record}

@@ -1,12 +1,10 @@
 -- The bytes that C fetches of a live engine.
-use Rattle.std.specs.Prelude.{◌≡◌, ◌⊎◌, ℕ, List, [], Option, Some, None}
+use Rattle.std.specs.Prelude.{ℕ, List, [], Option, Some, None}
 use Rattle.bd_space.specs.declared.step.StepAnswer.{StepAnswer}
 use Rattle.bd_space.specs.declared.step.StepAnswer.TheVariants.{Got}
 use Rattle.bd_space.specs.declared.step.Entry.{Entry}
 use Rattle.bd_journal.specs.Spelling.{IsEntry, entry_bytes}
 use Rattle.bd_c.specs.Parts.{part_of}
-use Rattle.bd_c.specs.declared.status.Status.{Status}
-use Rattle.bd_c.specs.declared.status.Status.TheVariants.{Done, NoMemory, NoJournal}
 
 abbrev pub part_of_answer : ℕ → StepAnswer → List ℕ
 part_of_answer part (Got stream bytes offsets) = part_of part stream bytes offsets

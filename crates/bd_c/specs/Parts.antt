@@ -1,5 +1,5 @@
 -- The bytes and notes of what a seat's latest call came to.
-use Rattle.std.specs.Prelude.{◌≡◌, ◌==◌, ℕ, ◌<◌, ◌≤◌, ◌⊎◌, Bool, true, false, nat_le, List, [], ◌∷◌, ◌++◌, length, drop, Option, Some, None, Result, Ok, Err, slice_get, if◌then◌else◌}
+use Rattle.std.specs.Prelude.{◌≡◌, ◌==◌, ℕ, ◌≤◌, ◌⊎◌, Bool, true, false, nat_le, List, [], ◌++◌, length, drop, Option, Some, Result, Ok, Err, slice_get, if◌then◌else◌}
 use Rattle.bd_uapi.specs.declared.fault.Note.{Note}
 use Rattle.bd_space.specs.declared.step.Answer.TheVariants.{Wrote, Got}
 use Rattle.bd_driver.specs.declared.outcome.Outcome.{Outcome}

@@ -1,5 +1,5 @@
 -- What a call with a seat does, by the driver's call of that name.
-use Rattle.std.specs.Prelude.{◌≡◌, ℕ, Bool, true, false, List, Option, Some, None}
+use Rattle.std.specs.Prelude.{◌≡◌, Bool, true, false, Option, Some}
 use Rattle.std.specs.Arc.{arc_value}
 use Rattle.bd_space.specs.declared.step.Request.{Request}
 use Rattle.bd_space.specs.declared.step.Request.TheVariants.{Write}

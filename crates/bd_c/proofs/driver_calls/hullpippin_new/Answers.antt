@@ -1,4 +1,4 @@
-use Rattle.std.proofs.Common.{◌≡◌, refl, sym, subst, inl}
+use Rattle.std.proofs.Common.{refl, sym, subst, inl}
 use Rattle.std.specs.Prelude.{Option}
 use Rattle.bd_c.specs.declared.held.Held.{Held}
 use Rattle.bd_c.specs.declared.status.Status.TheVariants.{Done}

@@ -1,38 +1,29 @@
 -- `close` keeps the pointer, and what is owned there.
-use Rattle.std.proofs.Common.{◌≡◌, List, [], ◌∷◌, ◌++◌, refl, sym, ap, ◌∙◌, subst}
-use mir.Val.{Val, vptr, vcons, vnil, vstruct, of_list}
-use mir.Raw.{raw as bare}
-use base.Logic.{SProp, ent, emp, id⊢, fst∗, never}
-use base.Fml.{ftrue, flft}
-use types.Logic.{sem}
+use Rattle.std.proofs.Common.{◌≡◌, List, [], ◌∷◌, ◌++◌, refl, sym, subst}
+use mir.Val.{Val, vptr}
+use base.Logic.{SProp, ent, emp, id⊢}
+use base.Fml.{ftrue}
 use prog.Wp.{WpFn}
-use types.Kit.{‵, raw, ◌⊛◌, some, later, at_ret, ◌$◌, ◌∵◌, !, qed, by, move, keep, drop, split, join, fsplit, fjoin, fpick, pick, suffices, use0, use1, await, feq_l}
-use types.Run.{stop, fld, lit, of_opd, no_more, and_then, first, exec, returns, enter}
-use types.ByLocal.{alloc_all, pass_all, free_all, look_at, get, get_in, sets, lands_as, env}
+use types.Kit.{‵, raw, ◌⊛◌, ◌$◌, ◌∵◌, !, qed, by, move, keep, split, fsplit, fjoin, suffices, use0}
+use types.Run.{stop, fld, of_opd, no_more, and_then, returns, enter}
+use types.ByLocal.{alloc_all, pass_all, free_all, look_at, get, get_in, sets}
 use types.Part.{agg, sub, whole}
 use contract.Monad.{fact, fact_i}
 use contract.Running.{tables}
 use denote.Exit.{yes}
 use denote.RattleType.{RattleType, owns}
-use denote.Signature.{types_at, type_at, plain}
-use denote.RawPtr.{Ptr, block_ptr, null_ptr, ptr_val, in_a_block}
-use denote.Steps.{nothing, only, heard}
-use denote.Param.{layout}
-use denote.Memory.{lone}
+use denote.Signature.{types_at, plain}
+use denote.RawPtr.{block_ptr}
+use denote.Steps.{nothing}
 use denote.Triple.Walked.{Stays, stay_dropped, walk_of, Goes-dropped}
-use Rattle.std_alloc.specs.Box.Ownership.{box_owns}
-use Rattle.core.proofs.alloc.Calls.{Al, handle_tells}
 use Rattle.std_heap.specs.contracts.Global as heap
 use Rattle.std_heap.proofs.Global.TheLaws as heap_laws
 use Rattle.std.specs.contracts.impls.GlobalAllocator.TheImpl.{ghosts}
 use Rattle.bd_c.specs.contracts.held.Held as held
-use Rattle.bd_c.specs.contracts.handles.Handle as handle
 use Rattle.std.proofs.raw_atomic.Walks.{proved_at, leaves}
-use Rattle.bd_c.proofs.Values.{both, Loose, loose_good, loose_in, loose_out, al}
-use Rattle.bd_c.specs.Owned.{owned, chunk}
-use Rattle.std.specs.Prelude.{Option, Some, None}
-use Rattle.bd_c.specs.declared.held.Held.{Held}
-use Rattle.bd_c.proofs.HandleSteps.{handle_out, handle_in, none_in, word_of}
+use Rattle.bd_c.proofs.Values.{both, Loose, loose_good, loose_out}
+use Rattle.std.specs.Prelude.{Some}
+use Rattle.bd_c.proofs.HandleSteps.{handle_in, word_of}
 use Rattle.bd_c.specs.contracts.opening.close.{ended, clauses}
 use Rattle.bd_c.specs.contracts.opening.close.Key.{name as #self}
 use Rattle.bd_c.proofs.opening.close.Statement.{statement}

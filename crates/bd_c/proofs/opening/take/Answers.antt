@@ -1,4 +1,3 @@
-use Rattle.std.proofs.Common.{◌≡◌}
 use Rattle.bd_c.proofs.opening.take.Goals as goal
 
 pub open-requires : goal.open-requires
