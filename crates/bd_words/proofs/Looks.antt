@@ -1,13 +1,14 @@
 -- What is at a key, when the values change.
-use Rattle.std.proofs.Common.{◌≡◌, ℕ, ◌<◌, ◌≤◌, ◌+◌, Bool, true, false, cond, ltb, List, [], ◌∷◌, ◌++◌, length, get_or, set, Option, Some, None, is_some, option_map, refl, ap, sym, subst, ◌∙◌, arith, inl, inr, zero-le}
+use Rattle.std.proofs.Common.{◌≡◌, ℕ, ◌<◌, ◌≤◌, ◌+◌, ◌⊎◌, Bool, true, false, cond, ltb, List, [], ◌∷◌, ◌++◌, length, get_or, set, Option, Some, None, IfSome, is_some, option_map, refl, ap, sym, subst, ◌∙◌, arith, inl, inr, zero-le}
 use Rattle.std.proofs.lemmas.Bool.{cases_order, lt-ltb, le-ltb}
-use Rattle.std.proofs.lemmas.List.{get_or_push, get_or_append_left, get_or-set_same, get_or-set_other, get_or_read}
+use Rattle.std.proofs.lemmas.List.{get_or_push, get_or_append_left, get_or-set_same, get_or-set_other}
 use Rattle.bd_words.specs.declared.key.WordKey.{WordKey}
 use Rattle.bd_words.specs.declared.node.Node.{Node}
+use Rattle.bd_words.specs.declared.map.WordMap.{WordMap}
 use Rattle.bd_words.specs.Keys.{same_word, place_in}
 use Rattle.bd_words.specs.Walk.{blank, keys}
 use Rattle.bd_words.specs.Tree.{IsTree}
-use Rattle.bd_words.specs.Look.{value_at}
+use Rattle.bd_words.specs.Look.{value_at, place_of, look}
 use Rattle.bd_words.proofs.Keys.{word-eq, word-self}
 use Rattle.bd_words.proofs.Places.{place-some, place-push}
 use Rattle.bd_words.proofs.Walks.{keys-length, find-own}
@@ -17,12 +18,14 @@ pub inside : {V : Type 0} (ns : List Node) (vs : List (Option V)) (k : WordKey) 
     → place_in (keys ns) k ≡ Some i → i < length vs
 inside ns vs k i alike here = omega (arith, alike, (place-some (keys ns) k i here).0, keys-length ns)
 
--- and it is what is at the key
-pub read : {V : Type 0} (ns : List Node) (vs : List (Option V)) (k : WordKey) (i : ℕ) (x : Option V)
-    → length vs ≡ length ns → place_in (keys ns) k ≡ Some i → x ≡ get_or vs i x
-    → x ≡ value_at vs (place_in (keys ns) k)
-read ns vs k i x alike here is =
-    get_or_read vs i x (inside ns vs k i alike here) is None ∙ sym (ap (value_at vs) here)
+pub within : {V : Type 0} (m : WordMap V) (k : WordKey) (o : Option ℕ) → o ≡ place_of m k
+    → IfSome o (λ i. i < length m.values.items)
+within m k None e = tt
+within m k (Some i) e = inside m.tree.nodes.items m.values.items k i m.alike (sym e)
+
+pub look-none : {V : Type 0} (m : WordMap V) (k : WordKey) → place_of m k ≡ None → look m k ≡ None
+unfolding look
+look-none m k e = ap (value_at m.values.items) e
 
 -- the same values at the same keys
 pub alike-values : {V : Type 0} (vs ws : List (Option V)) (ks js : List WordKey) (l : WordKey) → vs ≡ ws → ks ≡ js
@@ -62,17 +65,12 @@ value-set ks vs k l i v here less = at (same_word k l) refl (place_in ks l) refl
         absurd (cc))
 
 -- a change of what isn't there shows nowhere
-pub hidden : {V : Type 0} (ks : List WordKey) (vs : List (Option V)) (k l : WordKey) (f : Option V → Option V)
-    → value_at vs (place_in ks k) ≡ None → f None ≡ None
-    → value_at vs (place_in ks l) ≡ cond (same_word k l) (f (value_at vs (place_in ks l))) (value_at vs (place_in ks l))
-hidden ks vs k l f none stays = at (same_word k l) refl
+pub hidden : {V : Type 0} (m : WordKey → Option V) (k l : WordKey) (f : Option V → Option V)
+    → m k ≡ None → f None ≡ None → m l ≡ cond (same_word k l) (f (m l)) (m l)
+hidden m k l f none stays = at (same_word k l) refl
   where
-    at : (b : Bool) → same_word k l ≡ b
-        → value_at vs (place_in ks l) ≡ cond b (f (value_at vs (place_in ks l))) (value_at vs (place_in ks l))
-    at true e =
-        let there : value_at vs (place_in ks l) ≡ None =
-        ap (λ z. value_at vs (place_in ks z)) (sym (word-eq k l e)) ∙ none in
-        there ∙ sym stays ∙ ap f (sym there)
+    at : (b : Bool) → same_word k l ≡ b → m l ≡ cond b (f (m l)) (m l)
+    at true e = let there : m l ≡ None = ap m (sym (word-eq k l e)) ∙ none in there ∙ sym stays ∙ ap f (sym there)
     at false e = refl
 
 replaced : {V : Type 0} (v : V) (o : Option V) → is_some o ≡ true → Some v ≡ option_map (λ y. v) o
@@ -83,18 +81,13 @@ pub none-is : {V : Type 0} (o : Option V) → is_some o ≡ false → o ≡ None
 none-is None h = refl
 none-is (Some x) h = absurd (cc)
 
-pub set-some : {V : Type 0} (ks : List WordKey) (vs : List (Option V)) (k l : WordKey) (i : ℕ) (v : V)
-    → place_in ks k ≡ Some i → i < length vs → is_some (value_at vs (place_in ks k)) ≡ true
-    → value_at (set vs i (Some v)) (place_in ks l)
-    ≡ cond (same_word k l) (option_map (λ y. v) (value_at vs (place_in ks l))) (value_at vs (place_in ks l))
-set-some ks vs k l i v here less some = value-set ks vs k l i (Some v) here less ∙ at (same_word k l) refl
+-- a value that comes where there is one takes its place
+pub some-there : {V : Type 0} (m : WordKey → Option V) (k l : WordKey) (v : V) → is_some (m k) ≡ true
+    → cond (same_word k l) (Some v) (m l) ≡ cond (same_word k l) (option_map (λ y. v) (m l)) (m l)
+some-there m k l v some = at (same_word k l) refl
   where
-    at : (b : Bool) → same_word k l ≡ b
-        → cond b (Some v) (value_at vs (place_in ks l))
-        ≡ cond b (option_map (λ y. v) (value_at vs (place_in ks l))) (value_at vs (place_in ks l))
-    at true e =
-        replaced v (value_at vs (place_in ks l))
-        (ap (λ z. is_some (value_at vs (place_in ks z))) (sym (word-eq k l e)) ∙ some)
+    at : (b : Bool) → same_word k l ≡ b → cond b (Some v) (m l) ≡ cond b (option_map (λ y. v) (m l)) (m l)
+    at true e = replaced v (m l) (ap (λ z. is_some (m z)) (sym (word-eq k l e)) ∙ some)
     at false e = refl
 
 -- what is at a place below a number
@@ -115,6 +108,11 @@ below-all ns vs i l alike all = at (place_in (keys ns) l) refl
     at (Some j) e =
         ap (λ b. cond b (get_or vs j None) None) (lt-ltb j i (omega (arith, all, inside ns vs l j alike e)))
 
+-- whether a place is below a number, at the next one, where that isn't the place
+ltb-next : (j i : ℕ) → (j < i) ⊎ (i < j) → ltb j i ≡ ltb j (i + 1)
+ltb-next j i (inl low) = lt-ltb j i low ∙ sym (lt-ltb j (i + 1) (omega (arith, low)))
+ltb-next j i (inr high) = le-ltb j i (omega (arith, high)) ∙ sym (le-ltb j (i + 1) (omega (arith, high)))
+
 -- nothing comes in at a place that has nothing
 pub below-skip : {V : Type 0} (vs : List (Option V)) (i : ℕ) (o : Option ℕ) → get_or vs i None ≡ None
     → value_below vs i o ≡ value_below vs (i + 1) o
@@ -124,15 +122,7 @@ below-skip vs i (Some j) h = elim (cases_order j i) [
       let none : get_or vs j None ≡ None = ap (λ n. get_or vs n None) q ∙ h in
       ap (λ b. cond b (get_or vs j None) None) (le-ltb j i (omega (arith, q))) ∙ sym none
       ∙ ap (λ b. cond b (get_or vs j None) None) (sym (lt-ltb j (i + 1) (omega (arith, q))))
-  | inr r ↦
-      elim r [
-        | inl less ↦
-            ap (λ b. cond b (get_or vs j None) None)
-            (lt-ltb j i less ∙ sym (lt-ltb j (i + 1) (omega (arith, less))))
-        | inr more ↦
-            ap (λ b. cond b (get_or vs j None) None)
-            (le-ltb j i (omega (arith, more)) ∙ sym (le-ltb j (i + 1) (omega (arith, more))))
-      ]
+  | inr apart ↦ ap (λ b. cond b (get_or vs j None) None) (ltb-next j i apart)
 ]
 
 -- with the value of the next place its key comes in
@@ -157,15 +147,7 @@ below-more ns t vs i l less = at (same_word (get_or (keys ns) i blank) l) refl (
           let same : same_word (get_or (keys ns) i blank) l ≡ true =
           subst (λ z. same_word (get_or (keys ns) i blank) z ≡ true) is (word-self (get_or (keys ns) i blank)) in
           absurd (cc)
-      | inr r ↦
-          elim r [
-            | inl low ↦
-                ap (λ b. cond b (get_or vs j None) None)
-                (lt-ltb j i low ∙ sym (lt-ltb j (i + 1) (omega (arith, low))))
-            | inr high ↦
-                ap (λ b. cond b (get_or vs j None) None)
-                (le-ltb j i (omega (arith, high)) ∙ sym (le-ltb j (i + 1) (omega (arith, high))))
-          ]
+      | inr apart ↦ ap (λ b. cond b (get_or vs j None) None) (ltb-next j i apart)
     ]
 
 pub below-insert : {V : Type 0} (ns : List Node) (t : IsTree ns) (vs : List (Option V)) (i : ℕ) (k l : WordKey) (v : V)

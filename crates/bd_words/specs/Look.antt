@@ -11,8 +11,12 @@ abbrev pub value_at : {V : Type 0} → List (Option V) → Option ℕ → Option
 value_at vs None = None
 value_at vs (Some i) = get_or vs i None
 
+-- the place of a key
+abbrev pub place_of : {V : Type 0} → WordMap V → WordKey → Option ℕ
+place_of m k = place_in (keys m.tree.nodes.items) k
+
 unfoldable pub look : {V : Type 0} → WordMap V → WordKey → Option V
-look m k = value_at m.values.items (place_in (keys m.tree.nodes.items) k)
+look m k = value_at m.values.items (place_of m k)
 
 unfoldable pub word_room : {V : Type 0} → WordMap V → ℕ
 word_room m = min (tree_room m.tree) (vec_capacity m.values - vec_len m.values)

@@ -6,8 +6,10 @@ mod key;
 mod map;
 mod node;
 mod numbers;
+mod reserved;
 mod tree;
 
 pub use key::WordKey;
 pub use map::WordMap;
 pub use numbers::{pair, wide};
+pub use reserved::insert_reserved;

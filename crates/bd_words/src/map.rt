@@ -1,6 +1,6 @@
 //! Values by process and word.
 
-ghost use Rattle.std.specs.Prelude.{◌≡◌, ◌+◌, ◌≤◌, ◌<◌, if◌then◌else◌, Some, None, OnOk, OnErr, IfOk, is_some, count_by, length, set};
+ghost use Rattle.std.specs.Prelude.{◌≡◌, ◌+◌, ◌≤◌, ◌<◌, if◌then◌else◌, Some, None, OnOk, OnErr, IfOk, IfSome, is_some, count_by, length};
 ghost use Rattle.std.specs.Option.{option_map};
 
 use crate::key::WordKey;
@@ -22,7 +22,7 @@ pub struct WordMap<V> {
 impl<V: Copy> WordMap<V> {
     ghost use Rattle.bd_words.specs.declared.key.WordKey.{WordKey};
     ghost use Rattle.bd_words.specs.Keys.{same_word};
-    ghost use Rattle.bd_words.specs.Look.{look, word_room};
+    ghost use Rattle.bd_words.specs.Look.{place_of, look, word_room};
 
     /// An empty map. Takes no memory.
     pub fn new(alloc: Global) -> WordMap<V>
@@ -87,19 +87,35 @@ impl<V: Copy> WordMap<V> {
         self.grow(more)
     }
 
+    // The place of a key that has a value, or had one.
+    fn place(&self, k: WordKey) -> Option<usize>
+        ensures place { result ≡ place_of self.now k }
+        ensures within { IfSome result (λ at. at < length self.now.values.items) }
+    {
+        self.tree.find(k)
+    }
+
+    // What the key of a place has.
+    fn value(&self, at: usize) -> Option<V>
+        requires { at < length self.now.values.items }
+        ensures { (k : WordKey) → place_of self.now k ≡ Some at → result ≡ look self.now k }
+    {
+        self.values[at]
+    }
+
     /// The value at a key.
     pub fn get(&self, k: WordKey) -> Option<V>
         ensures { result ≡ look self.now k }
     {
-        let at = self.tree.find(k)?;
-        self.values[at]
+        let at = self.place(k)?;
+        self.value(at)
     }
 
-    // Changes what is at a place.
+    // Changes what the key of a place has.
     fn put(&mut self, at: usize, value: Option<V>)
         requires { at < length self.old.values.items }
-        ensures tree { self.new.tree ≡ self.old.tree }
-        ensures values { self.new.values.items ≡ set self.old.values.items at value }
+        ensures put { (k l : WordKey) → place_of self.old k ≡ Some at
+            → look self.new l ≡ (if same_word k l then value else look self.old l) }
         ensures room { word_room self.new ≡ word_room self.old }
     {
         let was = self.values[at].is_some() as usize;
@@ -113,7 +129,7 @@ impl<V: Copy> WordMap<V> {
         ensures put { (l : WordKey) → look self.new l ≡ (if same_word k l then Some v else look self.old l) }
         ensures room { word_room self.old ≤ word_room self.new + 1 }
     {
-        match self.tree.find(k) {
+        match self.place(k) {
             Some(at) => self.put(at, Some(v)),
             None => {
                 self.tree.push(k);
@@ -129,8 +145,8 @@ impl<V: Copy> WordMap<V> {
             ≡ (if same_word k l then option_map (λ _. v) (look self.old l) else look self.old l) }
         ensures room { word_room self.old ≤ word_room self.new }
     {
-        if let Some(at) = self.tree.find(k) {
-            if self.values[at].is_some() {
+        if let Some(at) = self.place(k) {
+            if self.value(at).is_some() {
                 self.put(at, Some(v));
             }
         }
@@ -142,8 +158,8 @@ impl<V: Copy> WordMap<V> {
         ensures gone { (l : WordKey) → look self.new l ≡ (if same_word k l then None else look self.old l) }
         ensures room { word_room self.old ≤ word_room self.new }
     {
-        let at = self.tree.find(k)?;
-        let value = self.values[at];
+        let at = self.place(k)?;
+        let value = self.value(at);
         self.put(at, None);
         value
     }

@@ -1,14 +1,9 @@
-use Rattle.std.proofs.Common.{Some, ap, sym, ◌∙◌, arith}
+use Rattle.std.proofs.Common.{Some, sym, ◌∙◌, arith}
 use Rattle.bd_words.specs.Walk.{keys}
 use Rattle.bd_words.specs.Look.{look, word_room}
-use Rattle.bd_words.proofs.Looks.{alike-values, inside, value-set, value-push}
+use Rattle.bd_words.proofs.Looks.{alike-values, value-push}
 use Rattle.bd_words.proofs.Walks.{keys-length}
 use Rattle.bd_words.proofs.map.WordMap.insert.Goals as goal
-
-pub put-requires : goal.put-requires
-put-requires g c =
-    let m = c.args.self.now in
-    inside m.tree.nodes.items m.values.items c.args.k c.in-Some.at m.alike (sym c.find.ensures ∙ c.in-Some.is)
 
 pub push-requires-clause-room : goal.push-requires-clause-room
 unfolding word_room
@@ -19,14 +14,7 @@ unfolding word_room
 push_reserved-requires g c = omega (arith, c.requires)
 
 pub returns-in-Some-clause-put : goal.returns-in-Some-clause-put
-unfolding look
-returns-in-Some-clause-put g c = λ l.
-    let m = c.args.self.now in
-    let here = sym c.find.ensures ∙ c.in-Some.is in
-    alike-values c.put.new.self.values.items _ _ _ l c.put.ensures.values
-    (ap (λ t. keys t.nodes.items) c.put.ensures.tree)
-    ∙ value-set (keys m.tree.nodes.items) m.values.items c.args.k l c.in-Some.at (Some c.args.v) here
-    (inside m.tree.nodes.items m.values.items c.args.k c.in-Some.at m.alike here)
+returns-in-Some-clause-put g c = λ l. c.put.ensures.put c.args.k l (sym c.place.ensures.place ∙ c.in-Some.is)
 
 pub returns-in-None-clause-put : goal.returns-in-None-clause-put
 unfolding look
@@ -34,7 +22,7 @@ returns-in-None-clause-put g c = λ l.
     let m = c.args.self.now in
     alike-values c.push_reserved.new.self.items _ _ _ l c.push_reserved.ensures.items c.push.ensures.keys
     ∙ value-push (keys m.tree.nodes.items) m.values.items c.args.k l (Some c.args.v)
-    (sym c.find.ensures ∙ c.in-None.is) (m.alike ∙ sym (keys-length m.tree.nodes.items))
+    (sym c.place.ensures.place ∙ c.in-None.is) (m.alike ∙ sym (keys-length m.tree.nodes.items))
 
 pub returns-in-None-clause-room : goal.returns-in-None-clause-room
 unfolding word_room

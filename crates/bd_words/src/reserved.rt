@@ -1,0 +1,19 @@
+//! Hash maps with room.
+
+ghost use Rattle.std.specs.Prelude.{◌≡◌, ◌+◌, ◌≤◌, ◌<◌, Some, if◌then◌else◌};
+ghost use Rattle.std.specs.HashMap.{get, spare};
+
+use std::collections::HashMap;
+use std::hash::Hash;
+
+/// Puts a value at a key, in place of the one that is there. A new key takes room.
+pub fn insert_reserved<K: Eq + Hash + Drop, V: Drop>(map: &mut HashMap<K, V>, key: K, value: V)
+    requires { 0 < spare map.old }
+    ensures put { (k : K) → get K.eq map.new k ≡ (if K.eq key k then Some value else get K.eq map.old k) }
+    ensures room { spare map.old ≤ spare map.new + 1 }
+{
+    match map.insert(key, value) {
+        Ok(_) => {}
+        Err(_) => {}
+    }
+}
