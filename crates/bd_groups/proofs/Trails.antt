@@ -1,6 +1,6 @@
 -- What a group's links tell, from its latest one on, and with one link more.
 use Rattle.std.proofs.Common.{◌≡◌, ℕ, zero, suc, ◌==◌, ◌<◌, ◌≤◌, Bool, true, false, cond, List, [], ◌∷◌, ◌++◌, length, take, drop, reverse, slice_get, Option, Some, None, IfSome, inr, refl, ap, sym, ◌∙◌, arith}
-use Rattle.std.proofs.lemmas.Bool.{eq-eqb, eqb-true}
+use Rattle.std.proofs.lemmas.Bool.{eq-eqb, ne_eqb}
 use Rattle.std.proofs.lemmas.List.{length-reverse, reverse-append, length-take-le}
 use Rattle.std.proofs.lemmas.Option.{slice_get_within}
 use Rattle.bd_groups.specs.declared.link.Link.{Link}
@@ -11,18 +11,10 @@ use Rattle.bd_groups.specs.Members.{IsIn}
 use Rattle.bd_groups.proofs.Same.{group-eq}
 
 other : (i n : ℕ) → i < n → (n == i) ≡ false
-other i n lt = by (n == i) refl
-  where
-    by : (b : Bool) → (n == i) ≡ b → b ≡ false
-    by true e = let same = eqb-true n i e in absurd (omega (arith, lt, same))
-    by false e = refl
+other i n lt = ne_eqb n i (λ same. omega (arith, lt, same))
 
 unlike : (i n : ℕ) → i < n → (i == n) ≡ false
-unlike i n lt = by (i == n) refl
-  where
-    by : (b : Bool) → (i == n) ≡ b → b ≡ false
-    by true e = let same = eqb-true i n e in absurd (omega (arith, lt, same))
-    by false e = refl
+unlike i n lt = ne_eqb i n (λ same. omega (arith, lt, same))
 
 -- a list, split where an element stands
 pub split : {A : Type 0} (xs : List A) (i : ℕ) (x : A) → slice_get xs i ≡ Some x → take i xs ++ x ∷ drop (suc i) xs ≡ xs

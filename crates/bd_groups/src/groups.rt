@@ -9,6 +9,7 @@ ghost use Rattle.bd_groups.specs.Trail.{latest_at};
 use crate::group::Group;
 use crate::link::Link;
 use crate::members::Members;
+use bd_words::insert_reserved;
 use std::alloc::{AllocError, Global};
 use std::collections::HashMap;
 
@@ -36,10 +37,7 @@ fn put_latest(latest: &mut HashMap<Group, usize>, g: Group, at: usize)
         ≡ (if groups.same_group g h then Some at else latest_at latest.old h) }
     ensures spare { spare latest.old ≤ spare latest.new + 1 }
 {
-    match latest.insert(g, at) {
-        Ok(_) => {}
-        Err(_) => {}
-    }
+    insert_reserved(latest, g, at);
 }
 
 #[tactic(auto, unfolding(crate::specs::Group::same_group))]
