@@ -1,10 +1,16 @@
 //! Requests and steps, their answers, and records of histories.
 
 ghost use Rattle.std.specs.Prelude.{◌≡◌, IfOk};
+ghost use Rattle.std.specs.Cmp.Rules.{hashing};
+ghost use Rattle.std.specs.Hash as fed;
+ghost use Rattle.std.proofs.Common.{rules};
+ghost use Rattle.bd_words.specs.Numbers.{pair};
 
 use crate::bytes::{Bytes, Notes};
 use bd_uapi::{Cause, Command, Fault, Note};
+use bd_words::pair;
 use std::alloc::AllocError;
+use std::hash::{Hash, Hasher};
 
 /// An identity: the place of the step that made a thing in the history, and which of that step's things of its
 /// kind it is, from 0.
@@ -14,6 +20,17 @@ pub struct ObjectId {
     pub place: u32,
     /// Which of that step's objects it is, from 0.
     pub index: u32,
+}
+
+// One write, as `bd_words` says.
+impl Hash for ObjectId {
+    ghost hash_input = { λ o. fed.u64 (pair o.place o.index) };
+
+    ghost respects_eq = { Prim.search (hashing, rules) };
+
+    fn hash<H: Hasher>(&self, state: &mut H) {
+        state.write_u64(pair(self.place, self.index));
+    }
 }
 
 /// What a transaction or reply carries, cut from the area of its write.
