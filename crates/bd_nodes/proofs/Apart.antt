@@ -6,8 +6,8 @@ use Rattle.bd_space.specs.Words.{same}
 use Rattle.bd_space.specs.References.{object_in}
 use Rattle.bd_nodes.specs.declared.table.NodeTable.{NodeTable}
 use Rattle.bd_nodes.specs.Stands.{NodesAre}
-use Rattle.bd_nodes.specs.Keys.{same_node, id_key, node_key}
-use Rattle.bd_nodes.proofs.Tests.{node-eq, node-self}
+use Rattle.bd_nodes.specs.Keys.{id_key}
+use Rattle.bd_space.proofs.Identities.{same-eq, same-self}
 use Rattle.bd_nodes.proofs.Distinct.{some-stays, none-stays}
 
 -- the only object with the identity stays, or it goes
@@ -16,9 +16,9 @@ pub apart-some : (t : NodeTable) (objects : List Object) (o : ObjectId) (x : Obj
     → filter (λ y. not (same y.id o) || stays y) objects ≡
     (if stays x then objects else filter (λ y. not (same y.id o)) objects)
 apart-some t objects o x stays n e =
-    some-stays id_key same_node node-eq node-self stays (node_key o) x objects n.ids e
+    some-stays id_key same same-eq same-self stays o x objects n.ids e
 
 -- there is none
 pub apart-none : (objects : List Object) (o : ObjectId) (stays : Object → Bool) → object_in objects o ≡ None
     → filter (λ y. not (same y.id o) || stays y) objects ≡ objects
-apart-none objects o stays e = none-stays id_key same_node stays (node_key o) objects e
+apart-none objects o stays e = none-stays id_key same stays o objects e

@@ -7,9 +7,9 @@ use Rattle.bd_space.specs.declared.step.ObjectId.{ObjectId}
 use Rattle.bd_space.specs.declared.space.Object.{Object}
 use Rattle.bd_space.specs.Words.{same}
 use Rattle.bd_space.specs.References.{object_in}
-use Rattle.bd_nodes.specs.Keys.{same_node, node_key, id_key, own_key}
+use Rattle.bd_nodes.specs.Keys.{id_key, own_key}
 use Rattle.bd_nodes.specs.Stands.{AreDistinct}
-use Rattle.bd_nodes.proofs.Tests.{node-eq, node-self}
+use Rattle.bd_space.proofs.Identities.{same-eq, same-self}
 use Rattle.bd_nodes.proofs.Found.{found-passes, found-own}
 
 pub ok-then : {T E P : Type 0} (r : Result T E) → IsOk r → OnOk r P → P
@@ -28,7 +28,7 @@ len-new (Ok old) n m was ok e l none = l ∙ ap (λ o. m + (if is_some o then 0 
 len-new (Err e) n m was ok f l none = absurd (cc)
 
 -- an own object is found by its identity
-pub by-own : (objects : List Object) (k : WordKey) (o : ObjectId) → AreDistinct id_key same_node objects
+pub by-own : (objects : List Object) (k : WordKey) (o : ObjectId) → AreDistinct id_key same objects
     → option_map (λ (x : Object). x.id) (find (λ x. same_word (own_key x) k) objects) ≡ Some o
     → object_in objects o ≡ find (λ x. same_word (own_key x) k) objects
 by-own objects k o d h = at (find test objects) refl h
@@ -41,11 +41,11 @@ by-own objects k o d h = at (find test objects) refl h
     at None e g = absurd (cc)
     at (Some x) e g =
         let is : x.id ≡ o = cc in
-        subst (λ i. object_in objects i ≡ Some x) is (found-own id_key same_node node-eq node-self test objects x d e)
+        subst (λ i. object_in objects i ≡ Some x) is (found-own id_key same same-eq same-self test objects x d e)
         ∙ sym e
 
 -- of all own objects, the one with the identity goes
-pub only-own : (objects : List Object) (o : ObjectId) (x : Object) → AreDistinct id_key same_node objects
+pub only-own : (objects : List Object) (o : ObjectId) (x : Object) → AreDistinct id_key same objects
     → AreDistinct own_key same_word objects → object_in objects o ≡ Some x
     → (l : WordKey) (y : Object) → find (λ z. same_word (own_key z) l) objects ≡ Some y
     → not (same y.id o) ≡ not (same_word (own_key x) l)
@@ -62,14 +62,14 @@ only-own objects o x ids owns h l y e = ap not (at (same y.id o) refl (same_word
     at false f false g = refl
     at true f false g =
         let found : object_in objects o ≡ Some y =
-        subst (λ k. find (λ z. same_node (id_key z) k) objects ≡ Some y) (node-eq (id_key y) (node_key o) f)
-        (found-own id_key same_node node-eq node-self test objects y ids e) in
+        subst (λ k. find (λ z. same (id_key z) k) objects ≡ Some y) (same-eq (id_key y) o f)
+        (found-own id_key same same-eq same-self test objects y ids e) in
         let is : x ≡ y = cc in
         let yes : same_word (own_key x) l ≡ true =
         subst (λ k. same_word k l ≡ true) (sym (ap own_key is ∙ own)) (word-self l) in
         absurd (cc)
     at false f true g =
-        let found = found-own own_key same_word word-eq word-self (λ z. same_node (id_key z) (node_key o)) objects x
+        let found = found-own own_key same_word word-eq word-self (λ z. same (id_key z) o) objects x
         owns h in
         let there : find test objects ≡ Some x =
         subst (λ k. find (λ z. same_word (own_key z) k) objects ≡ Some x) (word-eq (own_key x) l g) found in

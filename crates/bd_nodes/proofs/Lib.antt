@@ -4,4 +4,3 @@ pub mod Distinct
 pub mod Found
 pub mod Listed
 pub mod Maps
-pub mod Tests

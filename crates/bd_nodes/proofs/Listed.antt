@@ -3,7 +3,7 @@ use Rattle.std.proofs.Common.{◌≡◌, inl, inr, ℕ, ◌==◌, Bool, true, fa
 use Rattle.std.specs.List.{list_any}
 use Rattle.std.specs.Option.{IfSome}
 use Rattle.std.specs.HashMap.{HashMap, get}
-use Rattle.std.proofs.lemmas.Bool.{eqb-true}
+use Rattle.std.proofs.lemmas.Bool.{eqb-true, and_parts}
 use Rattle.std.proofs.lemmas.List.Folds.{list_any-append}
 use Rattle.bd_groups.specs.declared.groups.Groups.{Groups}
 use Rattle.bd_groups.specs.Members.{IsIn, members}
@@ -12,11 +12,10 @@ use Rattle.bd_space.specs.declared.space.Object.{Object}
 use Rattle.bd_space.specs.Words.{same}
 use Rattle.bd_space.specs.Local.{is_among}
 use Rattle.bd_space.specs.References.{owned_in}
-use Rattle.bd_nodes.specs.declared.key.NodeKey.{NodeKey}
 use Rattle.bd_nodes.specs.declared.table.NodeTable.{NodeTable}
-use Rattle.bd_nodes.specs.Keys.{same_node, id_key, node_key, owner_group}
+use Rattle.bd_nodes.specs.Keys.{id_key, owner_group}
 use Rattle.bd_nodes.specs.Stands.{NodesAre, IsListed, Lists}
-use Rattle.bd_nodes.proofs.Tests.{both, node-eq, node-self}
+use Rattle.bd_space.proofs.Identities.{same-eq, same-self, same-turned}
 use Rattle.bd_space.proofs.Ranges.{any-some}
 use Rattle.bd_nodes.proofs.Found.{found-passes, found-own}
 use Rattle.bd_nodes.proofs.Maps.{Puts}
@@ -57,24 +56,9 @@ any-filter p r (x ∷ xs) = by (r x) (any-filter p r xs)
 
 -- ---- identities
 
-same-eq : (a b : ObjectId) → same a b ≡ true → a ≡ b
-same-eq a b h = let k = node-eq (node_key a) (node_key b) h in
-    (λ i. record { place = (k i).place; index = (k i).index })
-
-same-turn : (a b : ObjectId) → same a b ≡ same b a
-same-turn a b = by (same a b) refl (same b a) refl
-  where
-    by : (s : Bool) → same a b ≡ s → (t : Bool) → same b a ≡ t → s ≡ t
-    by true e true f = refl
-    by false e false f = refl
-    by true e false f = let yes : same b a ≡ true =
-        subst (λ c. same c a ≡ true) (same-eq a b e) (node-self (node_key a)) in absurd (cc)
-    by false e true f = let yes : same a b ≡ true =
-        subst (λ c. same c b ≡ true) (same-eq b a f) (node-self (node_key b)) in absurd (cc)
-
 pub in-among : (os : List ObjectId) (o : ObjectId) → IsIn o os → is_among os o ≡ true
 in-among [] o h = absurd h
-in-among (p ∷ os) o (inl e) = ap (λ b. b || is_among os o) (subst (λ q. same o q ≡ true) e (node-self (node_key o)))
+in-among (p ∷ os) o (inl e) = ap (λ b. b || is_among os o) (subst (λ q. same o q ≡ true) e (same-self o))
 in-among (p ∷ os) o (inr h) = late (same o p) (in-among os o h)
   where
     late : (b : Bool) → is_among os o ≡ true → (b || is_among os o) ≡ true
@@ -109,7 +93,7 @@ pub owned-among : (objects : List Object) (p : ℕ) (o : ObjectId)
 owned-among objects p o =
     any-map (same o) (λ (x : Object). x.id) (filter (λ x. x.owner == p) objects)
     ∙ any-filter (λ (x : Object). same o x.id) (λ x. x.owner == p) objects
-    ∙ any-alike _ _ objects (λ x. swapped (x.owner == p) (same o x.id) ∙ ap (λ b. b && x.owner == p) (same-turn o x.id))
+    ∙ any-alike _ _ objects (λ x. swapped (x.owner == p) (same o x.id) ∙ ap (λ b. b && x.owner == p) (same-turned o x.id))
   where
     swapped : (a b : Bool) → (a && b) ≡ (b && a)
     swapped true true = refl
@@ -119,7 +103,7 @@ owned-among objects p o =
 
 pub owns-one : (objects : List Object) (p : ℕ) (o : ObjectId) → owned_in objects p o ≡ true
     → list_any (λ (x : Object). x.owner == p) objects ≡ true
-owns-one objects p o h = any-weaker _ _ objects (λ x e. (both (same x.id o) (x.owner == p) e).1) h
+owns-one objects p o h = any-weaker _ _ objects (λ x e. (and_parts (same x.id o) (x.owner == p) e).1) h
 
 -- of listed ones those that the process owns are all that it owns
 pub owned-listed : (objects : List Object) (p : ℕ) (before listed : List ObjectId)
@@ -147,10 +131,10 @@ owned-is-listed t objects p o n h =
     let is_it = λ (x : Object). same x.id o && x.owner == p in
     let found = some-one (find is_it objects) (sym (any-some is_it objects) ∙ h) in
     let x = found.0 in
-    let passes = both (same x.id o) (x.owner == p) (found-passes is_it objects x found.1) in
-    let there : get same_node t.objects (id_key x) ≡ Some x =
+    let passes = and_parts (same x.id o) (x.owner == p) (found-passes is_it objects x found.1) in
+    let there : get same t.objects (id_key x) ≡ Some x =
     n.found (id_key x)
-    ∙ ap (option_map (λ y. y)) (found-own id_key same_node node-eq node-self is_it objects x n.ids found.1) in
+    ∙ ap (option_map (λ y. y)) (found-own id_key same same-eq same-self is_it objects x n.ids found.1) in
     let is_listed : IsListed t.owned x = subst (λ found. IfSome found (IsListed t.owned)) there (n.listed (id_key x)) in
     in-among (members t.owned (owner_group p)) o
     (subst (λ q. IsIn o (members t.owned (owner_group q))) (eqb-true x.owner p passes.1)
@@ -159,16 +143,16 @@ owned-is-listed t objects p o n h =
 -- ---- changes
 
 -- with what is at one key, where it is listed
-pub lists-put : {S T : Type 0} (m : HashMap NodeKey Object S) (n : HashMap NodeKey Object T) (g h : Groups ObjectId)
-    (k : NodeKey) (v : Option Object) → Puts same_node (get same_node m) (get same_node n) k v
+pub lists-put : {S T : Type 0} (m : HashMap ObjectId Object S) (n : HashMap ObjectId Object T) (g h : Groups ObjectId)
+    (k : ObjectId) (v : Option Object) → Puts same (get same m) (get same n) k v
     → ((x : Object) → IsListed g x → IsListed h x) → IfSome v (IsListed h) → Lists m g → Lists n h
 lists-put m n g h k v puts kept new lists = λ l.
-    subst (λ o. IfSome o (IsListed h)) (sym (puts l)) (by l (same_node k l))
+    subst (λ o. IfSome o (IsListed h)) (sym (puts l)) (by l (same k l))
   where
     stays : (o : Option Object) → IfSome o (IsListed g) → IfSome o (IsListed h)
     stays None is = is
     stays (Some x) is = kept x is
 
-    by : (l : NodeKey) (b : Bool) → IfSome (cond b v (get same_node m l)) (IsListed h)
+    by : (l : ObjectId) (b : Bool) → IfSome (cond b v (get same m l)) (IsListed h)
     by l true = new
-    by l false = stays (get same_node m l) (lists l)
+    by l false = stays (get same m l) (lists l)

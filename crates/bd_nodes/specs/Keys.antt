@@ -5,17 +5,9 @@ use Rattle.bd_groups.specs.declared.group.Group.{Group}
 use Rattle.bd_groups.specs.declared.group.Group.TheVariants as groups
 use Rattle.bd_space.specs.declared.step.ObjectId.{ObjectId}
 use Rattle.bd_space.specs.declared.space.Object.{Object}
-use Rattle.bd_nodes.specs.declared.key.NodeKey.{NodeKey}
-use Rattle.bd_nodes.specs.contracts.key.NodeKeyPartialEq.TheImpl as nodes
 
-abbrev pub same_node : NodeKey → NodeKey → Bool
-same_node = (nodes.ghosts).eq
-
-abbrev pub node_key : ObjectId → NodeKey
-node_key o = record { place = o.place; index = o.index }
-
-abbrev pub id_key : Object → NodeKey
-id_key x = node_key x.id
+abbrev pub id_key : Object → ObjectId
+id_key x = x.id
 
 abbrev pub own_key : Object → WordKey
 own_key x = record { process = x.owner; word = x.ptr }

@@ -8,8 +8,8 @@ use Rattle.bd_groups.specs.declared.groups.Groups.{Groups}
 use Rattle.bd_groups.specs.Members.{HasMember}
 use Rattle.bd_space.specs.declared.step.ObjectId.{ObjectId}
 use Rattle.bd_space.specs.declared.space.Object.{Object}
-use Rattle.bd_nodes.specs.declared.key.NodeKey.{NodeKey}
-use Rattle.bd_nodes.specs.Keys.{same_node, id_key, own_key, owner_group}
+use Rattle.bd_space.specs.Identities.{same_id}
+use Rattle.bd_nodes.specs.Keys.{id_key, own_key, owner_group}
 use Rattle.bd_nodes.specs.declared.table.NodeTable.{NodeTable}
 
 -- no two have one key
@@ -26,14 +26,14 @@ abbrev pub IsListed : Groups ObjectId → Object → Type 0
 IsListed g x = HasMember g (owner_group x.owner) x.id
 
 -- each object of the map is
-abbrev pub Lists : {S : Type 0} → HashMap NodeKey Object S → Groups ObjectId → Type 0
-Lists m g = (k : NodeKey) → IfSome (get same_node m k) (IsListed g)
+abbrev pub Lists : {S : Type 0} → HashMap ObjectId Object S → Groups ObjectId → Type 0
+Lists m g = (k : ObjectId) → IfSome (get same_id m k) (IsListed g)
 
 pub record NodesAre (t : NodeTable) (objects : List Object) : Type 0 where
-  pub found : Finds same_node id_key (λ x. x) (get same_node t.objects) objects
+  pub found : Finds same_id id_key (λ x. x) (get same_id t.objects) objects
   pub owned : Finds same_word own_key (λ x. x.id) (look t.owns) objects
   pub count : hash_map_len t.objects ≡ length objects
-  pub ids : AreDistinct id_key same_node objects
+  pub ids : AreDistinct id_key same_id objects
   pub owns : AreDistinct own_key same_word objects
   pub listed : Lists t.objects t.owned
 

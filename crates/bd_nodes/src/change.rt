@@ -3,7 +3,7 @@
 ghost use Rattle.std.specs.Prelude.{◌≡◌, ◌≤◌, ◌++◌, ◌∷◌, [], not, filter, length, List};
 ghost use Rattle.bd_space.specs.Words as words;
 
-use crate::key::{node_key, own_key, owner_group};
+use crate::key::{own_key, owner_group};
 use crate::table::NodeTable;
 use bd_space::{Object, ObjectId};
 
@@ -23,7 +23,7 @@ impl NodeTable {
     {
         self.owns.insert(own_key(&x), x.id);
         self.owned.push(owner_group(x.owner), x.id);
-        let _ = self.objects.insert(node_key(x.id), x);
+        let _ = self.objects.insert(x.id, x);
     }
 
     /// Puts new objects to them.
@@ -46,7 +46,7 @@ impl NodeTable {
             (λ x. record x { told_weak = weak; told_strong = strong }) objects) }
         ensures uses { Uses self.old self.new 0 }
     {
-        if let Some(x) = self.objects.get_mut(&node_key(o)) {
+        if let Some(x) = self.objects.get_mut(&o) {
             x.told_weak = weak;
             x.told_strong = strong;
         }
@@ -59,7 +59,7 @@ impl NodeTable {
             → NodesAre self.new (filter (λ x. not (words.same x.id o)) objects) }
         ensures uses { Uses self.old self.new 0 }
     {
-        if let Some(x) = self.objects.remove(&node_key(o)) {
+        if let Some(x) = self.objects.remove(&o) {
             self.owns.remove(own_key(&x));
         }
     }

@@ -4,7 +4,6 @@ ghost use Rattle.std.specs.Prelude.{◌≡◌, ◌==◌, ◌&&◌, find, List};
 ghost use Rattle.bd_space.specs.Words as words;
 ghost use Rattle.bd_nodes.specs.Keys as keys;
 
-use crate::key::node_key;
 use crate::table::NodeTable;
 use bd_space::{Object, ObjectId};
 use bd_words::WordKey;
@@ -33,7 +32,7 @@ impl NodeTable {
     pub fn object(&self, o: ObjectId) -> Option<Object>
         ensures { (objects : List Object) → NodesAre self.now objects → result ≡ refer.object_in objects o }
     {
-        self.objects.get(&node_key(o)).copied()
+        self.objects.get(&o).copied()
     }
 
     /// Whether the process owns the object.

@@ -2,7 +2,7 @@
 
 ghost use Rattle.std.specs.Prelude.{◌≡◌, ◌≤◌, [], List, length, OnOk, OnErr, IfOk};
 
-use crate::key::{NodeKey, owner_group};
+use crate::key::owner_group;
 use bd_groups::Groups;
 use bd_space::{Object, ObjectId};
 use bd_words::WordMap;
@@ -11,7 +11,7 @@ use std::collections::HashMap;
 
 /// The objects of all processes.
 pub struct NodeTable {
-    pub(crate) objects: HashMap<NodeKey, Object>,
+    pub(crate) objects: HashMap<ObjectId, Object>,
     // Each object's identity, by its owner and ptr. A process picks its ptrs: whatever it picks, a look stays short.
     pub(crate) owns: WordMap<ObjectId>,
     // Each object's identity among those of its owner. Some may be of objects that went.

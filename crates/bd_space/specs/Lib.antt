@@ -1,4 +1,5 @@
 pub mod Words
+pub mod Identities
 pub mod Space
 pub mod Tables
 pub mod Seats

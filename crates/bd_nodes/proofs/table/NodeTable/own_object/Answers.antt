@@ -1,7 +1,8 @@
 use Rattle.std.proofs.Common.{◌==◌, ◌∙◌, ap, sym}
 use Rattle.bd_space.specs.declared.space.Object.{Object}
-use Rattle.bd_nodes.specs.Keys.{same_node, id_key, node_key, kept}
-use Rattle.bd_nodes.proofs.Tests.{node-eq, node-self}
+use Rattle.bd_space.specs.Words.{same}
+use Rattle.bd_nodes.specs.Keys.{id_key, kept}
+use Rattle.bd_space.proofs.Identities.{same-eq, same-self}
 use Rattle.bd_nodes.proofs.Found.{found-and}
 use Rattle.bd_nodes.proofs.table.NodeTable.own_object.Goals as goal
 
@@ -9,4 +10,4 @@ pub returns : goal.returns
 returns c = λ objects n.
     let is_owned = λ (x : Object). x.owner == c.args.p in
     c.owned.ensures ∙ ap (kept is_owned) (c.object.ensures objects n)
-    ∙ sym (found-and id_key same_node node-eq node-self is_owned (node_key c.args.o) objects n.ids)
+    ∙ sym (found-and id_key same same-eq same-self is_owned c.args.o objects n.ids)

@@ -7,11 +7,11 @@ use Rattle.bd_words.specs.Keys.{same_word}
 use Rattle.bd_words.specs.Look.{look}
 use Rattle.bd_words.proofs.Keys.{word-eq, word-self}
 use Rattle.bd_space.specs.declared.space.Object.{Object}
-use Rattle.bd_nodes.specs.declared.key.NodeKey.{NodeKey}
-use Rattle.bd_nodes.specs.Keys.{same_node, id_key, own_key, owner_group}
+use Rattle.bd_space.specs.Words.{same}
+use Rattle.bd_nodes.specs.Keys.{id_key, own_key, owner_group}
 use Rattle.bd_nodes.specs.Stands.{IsListed}
 use Rattle.bd_nodes.specs.Room.{node_room}
-use Rattle.bd_nodes.proofs.Tests.{node-eq, node-self}
+use Rattle.bd_space.proofs.Identities.{same-eq, same-self}
 use Rattle.bd_nodes.proofs.Changes.{ok-then, len-new}
 use Rattle.bd_nodes.proofs.Distinct.{push-distinct}
 use Rattle.bd_nodes.proofs.Maps.{Puts, finds-push}
@@ -24,26 +24,25 @@ returns-clause-stands c = λ objects n new.
     let x = c.args.x in
     let some_node : 0 < spare c.args.self.now.objects = omega (arith, c.requires) in
     let node = c.insert-2.ensures.succeeds some_node in
-    let none : get same_node c.args.self.now.objects (id_key x) ≡ None = n.found (id_key x)
+    let none : get same c.args.self.now.objects (id_key x) ≡ None = n.found (id_key x)
     ∙ ap (option_map (λ (y : Object). y)) new.0 in
     let len = len-new c.insert-2.result _ _ _ node c.insert-2.ensures.old c.insert-2.ensures.len
-    (ap (get same_node c.args.self.now.objects) c.node_key.ensures ∙ none) in
-    let puts = subst (λ (k : NodeKey). Puts same_node (get same_node c.args.self.now.objects)
-    (get same_node c.insert-2.new.self) k (Some x))
-    c.node_key.ensures (ok-then c.insert-2.result node c.insert-2.ensures.updates).0 in
+    none in
+    let puts : Puts same (get same c.args.self.now.objects) (get same c.insert-2.new.self) x.id (Some x) =
+    (ok-then c.insert-2.result node c.insert-2.ensures.updates).0 in
     let is_listed : IsListed c.push.new.self x = subst (λ (q : Group). HasMember c.push.new.self q x.id)
     c.owner_group.ensures c.push.ensures.has in
     let long = length-append objects (x ∷ []) in
     record {
-      found = finds-push id_key same_node node-eq node-self (λ y. y) (get same_node c.args.self.now.objects)
-          (get same_node c.insert-2.new.self)
+      found = finds-push id_key same same-eq same-self (λ y. y) (get same c.args.self.now.objects)
+          (get same c.insert-2.new.self)
           objects x n.found new.0 puts;
       owned = finds-push own_key same_word word-eq word-self (λ y. y.id) (look c.args.self.now.owns)
           (look c.insert.new.self) objects x n.owned new.1
           (subst (λ (k : WordKey). Puts same_word (look c.args.self.now.owns) (look c.insert.new.self) k (Some x.id))
           c.own_key.ensures c.insert.ensures.put);
       count = omega (arith, len, long, n.count);
-      ids = push-distinct id_key same_node node-eq node-self x objects n.ids new.0;
+      ids = push-distinct id_key same same-eq same-self x objects n.ids new.0;
       owns = push-distinct own_key same_word word-eq word-self x objects n.owns new.1;
       listed = lists-put c.args.self.now.objects c.insert-2.new.self c.args.self.now.owned c.push.new.self
           (id_key x) (Some x) puts (λ y. c.push.ensures.keeps (owner_group y.owner) y.id) is_listed n.listed;

@@ -3,7 +3,8 @@ use Rattle.std.proofs.lemmas.List.Elements.{All-cons, All-nil}
 use Rattle.std.proofs.lemmas.Map.Views.{IfSome-lookup_from_All}
 use Rattle.bd_groups.specs.declared.group.Group.{Group}
 use Rattle.bd_groups.specs.Members.{HasMember}
-use Rattle.bd_nodes.specs.Keys.{same_node, owner_group}
+use Rattle.bd_space.specs.Words.{same}
+use Rattle.bd_nodes.specs.Keys.{owner_group}
 use Rattle.bd_nodes.specs.Stands.{IsListed}
 use Rattle.bd_nodes.proofs.table.NodeTable.renewed.Goals as goal
 
@@ -23,6 +24,6 @@ loop-x-preserved c =
 pub returns-clause-lists : goal.returns-clause-lists
 returns-clause-lists c = λ k.
     let done : c.loop-x.x-iterator ≡ [] = search rules in
-    IfSome-lookup_from_All (IsListed c.loop-x.fresh) (same_node k) c.args.self.now.objects.entries
+    IfSome-lookup_from_All (IsListed c.loop-x.fresh) (same k) c.args.self.now.objects.entries
     (c.loop-x.invariant.listed c.loop-x.fresh (λ x is. is)
     (subst (All (IsListed c.loop-x.fresh)) (sym done) (All-nil (IsListed c.loop-x.fresh))))

@@ -7,10 +7,9 @@ use Rattle.bd_words.proofs.Keys.{word-eq, word-self}
 use Rattle.bd_space.specs.declared.space.Object.{Object}
 use Rattle.bd_space.specs.Words.{same}
 use Rattle.bd_space.specs.References.{object_in}
-use Rattle.bd_nodes.specs.declared.key.NodeKey.{NodeKey}
-use Rattle.bd_nodes.specs.Keys.{same_node, node_key, id_key, own_key}
+use Rattle.bd_nodes.specs.Keys.{id_key, own_key}
 use Rattle.bd_nodes.specs.Stands.{NodesAre, IsListed}
-use Rattle.bd_nodes.proofs.Tests.{node-eq, node-self}
+use Rattle.bd_space.proofs.Identities.{same-eq, same-self}
 use Rattle.bd_nodes.proofs.Distinct.{changed-distinct}
 use Rattle.bd_nodes.proofs.Found.{option-same, length-changed, changed-nothing}
 use Rattle.bd_nodes.proofs.Maps.{Puts, finds-changed, finds-hidden}
@@ -22,37 +21,35 @@ returns-in-Some-clause-stands c = λ objects n.
     let p = λ (y : Object). same y.id c.args.o in
     let f = λ (y : Object). record y { told_weak = c.args.weak; told_strong = c.args.strong } in
     let x = c.in-Some.x.now in
-    let there : get same_node c.args.self.now.objects c.node_key.result ≡ Some x = sym c.get_mut.ensures.value
+    let there : get same c.args.self.now.objects c.args.o ≡ Some x = sym c.get_mut.ensures.value
     ∙ ap option_copied_mut c.in-Some.is in
     let has : object_in objects c.args.o ≡ Some x =
-    sym (option-same _) ∙ sym (n.found (node_key c.args.o))
-    ∙ ap (get same_node c.args.self.now.objects) (sym c.node_key.ensures) ∙ there in
+    sym (option-same _) ∙ sym (n.found c.args.o) ∙ there in
     let writes = c.get_mut.follows.holds (f x) in
     let new = c.get_mut.follows.lender (f x) in
-    let puts = subst (λ (k : NodeKey). Puts same_node (get same_node c.args.self.now.objects)
-    (get same_node new) k (Some (f x))) c.node_key.ensures (writes.3 (ap is_some there)).0 in
+    let puts : Puts same (get same c.args.self.now.objects) (get same new) c.args.o (Some (f x)) =
+    (writes.3 (ap is_some there)).0 in
     record {
-      found = finds-changed id_key same_node node-eq node-self (get same_node c.args.self.now.objects)
-          (get same_node new) objects (node_key c.args.o) x f (λ y. refl) n.found has
+      found = finds-changed id_key same same-eq same-self (get same c.args.self.now.objects)
+          (get same new) objects c.args.o x f (λ y. refl) n.found has
           puts;
       owned = finds-hidden own_key same_word word-eq word-self (λ y. y.id) (look c.args.self.now.owns) objects p f
           (λ y. refl) (λ y. refl) n.owned;
       count = writes.2 ∙ n.count ∙ sym (length-changed p f objects);
-      ids = changed-distinct id_key same_node p f (λ y. refl) objects n.ids;
+      ids = changed-distinct id_key same p f (λ y. refl) objects n.ids;
       owns = changed-distinct own_key same_word p f (λ y. refl) objects n.owns;
       listed = lists-put c.args.self.now.objects new c.args.self.now.owned c.args.self.now.owned
-          (node_key c.args.o) (Some (f x)) puts (λ y is. is)
-          (subst (λ found. IfSome found (IsListed c.args.self.now.owned)) there (n.listed c.node_key.result)) n.listed;
+          c.args.o (Some (f x)) puts (λ y is. is)
+          (subst (λ found. IfSome found (IsListed c.args.self.now.owned)) there (n.listed c.args.o)) n.listed;
     }
 
 pub returns-in_default-clause-stands : goal.returns-in_default-clause-stands
 returns-in_default-clause-stands c = λ objects n.
     let f = λ (y : Object). record y { told_weak = c.args.weak; told_strong = c.args.strong } in
     let none : object_in objects c.args.o ≡ None =
-    sym (option-same _) ∙ sym (n.found (node_key c.args.o))
-    ∙ ap (get same_node c.args.self.now.objects) (sym c.node_key.ensures) ∙ sym c.get_mut.ensures.value
-    ∙ ap option_copied_mut c.in_default.is in
+    sym (option-same _) ∙ sym (n.found c.args.o)
+    ∙ sym c.get_mut.ensures.value ∙ ap option_copied_mut c.in_default.is in
     let stays : NodesAre (record c.args.self.now { objects = c.get_mut.follows.lender-at-none }) objects =
     subst (λ m. NodesAre (record c.args.self.now { objects = m }) objects) (sym c.get_mut.follows.holds-at-none) n in
     subst (NodesAre (record c.args.self.now { objects = c.get_mut.follows.lender-at-none }))
-    (sym (changed-nothing id_key same_node node-eq node-self (node_key c.args.o) f objects none)) stays
+    (sym (changed-nothing id_key same same-eq same-self c.args.o f objects none)) stays
