@@ -6,7 +6,8 @@ use Rattle.bd_space.specs.declared.step.ObjectId.{ObjectId}
 use Rattle.bd_space.specs.Words.{same}
 use Rattle.bd_turns.specs.declared.slots.Entry.{Entry}
 use Rattle.bd_turns.specs.Slots.{is_on, is_live_on, turns_in, position, last_position, after, live_at}
-use Rattle.bd_turns.proofs.Tests.{same-eq, and-false, and-true, up, up-none, up-some, up-cond}
+use Rattle.bd_space.proofs.Identities.{same-eq}
+use Rattle.bd_turns.proofs.Tests.{and-false, and-true, up, up-none, up-some, up-cond}
 
 -- ---- the first of those that haven't gone
 

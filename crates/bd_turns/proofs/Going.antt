@@ -10,7 +10,8 @@ use Rattle.bd_turns.specs.Slots.{is_on, is_live_on, position, last_position, aft
 use Rattle.bd_turns.specs.Ends.{ends_in}
 use Rattle.std.proofs.lemmas.Bool.{eqb-true, eqb-false}
 use Rattle.bd_turns.proofs.Pushing.{first-in}
-use Rattle.bd_turns.proofs.Tests.{same-eq, up, up-some}
+use Rattle.bd_turns.proofs.Tests.{up, up-some}
+use Rattle.bd_space.proofs.Identities.{same-eq}
 
 -- ---- what a change of one doesn't show
 

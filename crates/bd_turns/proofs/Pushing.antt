@@ -9,7 +9,8 @@ use Rattle.bd_turns.specs.declared.ends.Ends.{Ends}
 use Rattle.bd_turns.specs.Slots.{is_on, is_live_on, turns_in, position, last_position, after, changed_at, linked, Chained, MadeAfter, Rising, latest}
 use Rattle.bd_turns.specs.Ends.{ends_in}
 use Rattle.bd_turns.proofs.Chains.{none-on}
-use Rattle.bd_turns.proofs.Tests.{same-eq, same-turned, or-none, up, up-cond}
+use Rattle.bd_space.proofs.Identities.{same-eq, same-turned}
+use Rattle.bd_turns.proofs.Tests.{or-none, up, up-cond}
 
 up-or : (o : Option ℕ) (b : Bool) (n : ℕ) → up (option_or o (cond b (Some n) None)) ≡ option_or (up o) (cond b (Some (suc n)) None)
 up-or (Some k) b n = refl

@@ -1,17 +1,14 @@
 -- The two ends of each object's chain.
-use Rattle.std.specs.Prelude.{◌==◌, ◌&&◌, Bool, List, Option, option_map}
-use Rattle.std.specs.HashMap.{HashMap, get_by}
+use Rattle.std.specs.Prelude.{List, Option, option_map}
+use Rattle.std.specs.HashMap.{HashMap, get}
 use Rattle.bd_space.specs.declared.step.ObjectId.{ObjectId}
+use Rattle.bd_space.specs.Identities.{same_id}
 use Rattle.bd_turns.specs.declared.slots.Entry.{Entry}
-use Rattle.bd_turns.specs.declared.ends.IdKey.{IdKey}
 use Rattle.bd_turns.specs.declared.ends.Ends.{Ends}
 use Rattle.bd_turns.specs.Slots.{is_on, is_live_on, position, last_position}
 
-abbrev pub is_key : ObjectId → IdKey → Bool
-is_key o k = (o.place == k.place) && (o.index == k.index)
-
-abbrev pub ends_at : {S : Type 0} → HashMap IdKey Ends S → ObjectId → Option Ends
-ends_at objects o = get_by (is_key o) objects
+abbrev pub ends_at : {S : Type 0} → HashMap ObjectId Ends S → ObjectId → Option Ends
+ends_at objects o = get same_id objects o
 
 -- its first call that hasn't gone, and its last slot
 abbrev pub ends_in : List Entry → ObjectId → Option Ends

@@ -15,12 +15,11 @@ ghost use Rattle.bd_turns.specs.Room.{QueueUses, queue_room, queue_count};
 ghost use Rattle.bd_turns.specs.Slots as spec;
 ghost use Rattle.bd_turns.specs.Sweep.{handed_if, kept, changed_each, Within, is_elsewhere};
 
-use crate::ends::{Ends, IdKey, ends_of, is_first, put_ends, set_first, with_last};
-use crate::slots::{
-    Entry, Slot, entry_at, is_latest, link_last, live_after, mark_gone, mark_handed,
-};
+use crate::ends::{Ends, ends_of, is_first, set_first, with_last};
+use crate::slots::{Entry, Slot, entry_at, is_latest, link_last, live_after, set_entry};
 use bd_groups::Members;
 use bd_space::{ObjectId, Turn};
+use bd_words::insert_reserved;
 use std::alloc::{AllocError, Global};
 use std::collections::HashMap;
 use std::ops::Range;
@@ -28,7 +27,7 @@ use std::ops::Range;
 /// One-way calls, each object's in a chain.
 pub struct Queue {
     pub(crate) slots: Vec<Slot>,
-    pub(crate) objects: HashMap<IdKey, Ends>,
+    pub(crate) objects: HashMap<ObjectId, Ends>,
     // Each was made at a later place than those before it.
     pub(crate) rising: bool,
 }
@@ -61,7 +60,7 @@ fn still_rises(rising: bool, slots: &[Slot], made: u32) -> bool
 }
 
 // If this slot is the first of its object whose call hasn't gone, the next such is from now on.
-fn leave_front(objects: &mut HashMap<IdKey, Ends>, slots: &[Slot], object: ObjectId, at: usize)
+fn leave_front(objects: &mut HashMap<ObjectId, Ends>, slots: &[Slot], object: ObjectId, at: usize)
     ensures first { option_and_then (λ e. e.first) (ends_at objects.old object) ≡ Some at
         → spec.Chained (spec.nexts slots.now) (spec.entries slots.now)
         → (x : declared_step.ObjectId) → ends_at objects.new x ≡ (if same object x
@@ -124,7 +123,7 @@ impl Queue {
         let at = self.slots.len();
         let ends = ends_of(&self.objects, turn.target);
         link_last(&mut self.slots, ends, at);
-        put_ends(&mut self.objects, turn.target, with_last(ends, at));
+        insert_reserved(&mut self.objects, turn.target, with_last(ends, at));
         self.slots.push_reserved(Slot {
             entry: Entry { turn, live: true },
             next: None,
@@ -148,7 +147,11 @@ impl Queue {
     {
         if let Some(entry) = entry_at(&self.slots, at) {
             leave_front(&mut self.objects, &self.slots, entry.turn.target, at);
-            mark_gone(&mut self.slots, at);
+            let gone = Entry {
+                live: false,
+                ..entry
+            };
+            set_entry(&mut self.slots, at, gone);
         }
     }
 
@@ -193,7 +196,11 @@ impl Queue {
     {
         if let Some(entry) = entry_at(&self.slots, at) {
             if entry.turn.made == made {
-                mark_handed(&mut self.slots, at);
+                let turn = Turn {
+                    handed: true,
+                    ..entry.turn
+                };
+                set_entry(&mut self.slots, at, Entry { turn, ..entry });
             }
         }
     }

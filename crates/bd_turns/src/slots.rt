@@ -105,26 +105,14 @@ pub fn link_last(slots: &mut Vec<Slot>, ends: Option<Ends>, next: usize)
     }
 }
 
-/// The call at this place goes.
-pub fn mark_gone(slots: &mut Vec<Slot>, at: usize)
-    ensures entries { spec.entries slots.new.items ≡ spec.changed_at at spec.gone (spec.entries slots.old.items) }
+/// This slot has another entry from now on.
+pub fn set_entry(slots: &mut Vec<Slot>, at: usize, entry: Entry)
+    ensures entries { spec.entries slots.new.items ≡ spec.changed_at at (λ _. entry) (spec.entries slots.old.items) }
     ensures nexts { spec.nexts slots.new.items ≡ spec.nexts slots.old.items }
     ensures len { vec_len slots.new ≡ vec_len slots.old }
     ensures capacity { vec_capacity slots.new ≡ vec_capacity slots.old }
 {
     if at < slots.len() {
-        slots[at].entry.live = false;
-    }
-}
-
-/// The call at this place is handed out.
-pub fn mark_handed(slots: &mut Vec<Slot>, at: usize)
-    ensures entries { spec.entries slots.new.items ≡ spec.changed_at at spec.handed (spec.entries slots.old.items) }
-    ensures nexts { spec.nexts slots.new.items ≡ spec.nexts slots.old.items }
-    ensures len { vec_len slots.new ≡ vec_len slots.old }
-    ensures capacity { vec_capacity slots.new ≡ vec_capacity slots.old }
-{
-    if at < slots.len() {
-        slots[at].entry.turn.handed = true;
+        slots[at].entry = entry;
     }
 }

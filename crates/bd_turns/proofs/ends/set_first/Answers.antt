@@ -1,11 +1,10 @@
-use Rattle.std.proofs.Common.{◌≡◌, ◌==◌, ◌&&◌, Bool, true, false, Some, Option, cond, is_some, refl, ap, sym, ◌∙◌}
+use Rattle.std.proofs.Common.{◌≡◌, Bool, true, false, Some, Option, cond, is_some, refl, ap, sym, ◌∙◌}
 use Rattle.std.specs.Option.{option_map, option_copied_mut}
 use Rattle.bd_space.specs.declared.step.ObjectId.{ObjectId}
 use Rattle.bd_space.specs.Words.{same}
-use Rattle.bd_turns.specs.declared.ends.IdKey.{IdKey}
+use Rattle.bd_space.proofs.Identities.{same-eq}
 use Rattle.bd_turns.specs.declared.ends.Ends.{Ends}
 use Rattle.bd_turns.specs.Ends.{ends_at}
-use Rattle.bd_turns.proofs.Tests.{same-eq}
 use Rattle.bd_turns.proofs.ends.set_first.Goals as goal
 
 first-set : (f : ObjectId → Option Ends) (o x : ObjectId) (to : Ends → Ends) (old : Ends) → f o ≡ Some old
@@ -18,11 +17,8 @@ first-set f o x to old has = at (same o x) refl
 
 pub returns-in-Some-clause-at : goal.returns-in-Some-clause-at
 returns-in-Some-clause-at c = λ x.
-    let k : IdKey = record { place = x.place; index = x.index } in
     let old = c.in-Some.ends.now in
     let to = λ (e : Ends). record e { first = c.args.first } in
     let there = sym c.get_mut.ensures.value ∙ ap option_copied_mut c.in-Some.is in
-    let has : ends_at c.args.objects.now c.args.o ≡ Some old = ap (λ (j : IdKey). ends_at c.args.objects.now (record { place = j.place; index = j.index })) (sym c.id_key.ensures) ∙ there in
-    ((c.get_mut.follows.holds (to old)).3 (ap is_some there)).0 k
-    ∙ ap (λ (j : IdKey). cond {A = Option Ends} ((j.place == x.place) && (j.index == x.index)) (Some (to old)) (ends_at c.args.objects.now x)) c.id_key.ensures
-    ∙ first-set (ends_at c.args.objects.now) c.args.o x to old has
+    ((c.get_mut.follows.holds (to old)).3 (ap is_some there)).0 x
+    ∙ first-set (ends_at c.args.objects.now) c.args.o x to old there

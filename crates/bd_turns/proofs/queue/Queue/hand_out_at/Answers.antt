@@ -14,14 +14,19 @@ returns-then-entry-made-clause-entries c =
     let e = c.in-Some.entry in
     let es = entries c.args.self.now.slots.items in
     let there = ap (λ (ss : List Slot). slice_get (entries ss) c.args.at) (sym c.deref.ensures.value) ∙ sym c.entry_at.ensures ∙ c.in-Some.is in
-    c.mark_handed.ensures.entries ∙ changed-as handed (handed_if c.args.made) es c.args.at e there (ap (λ b. cond b (handed e) e) (sym (eq-eqb e.turn.made c.args.made c.if-entry-made.true)))
+    c.set_entry.ensures.entries
+    ∙ changed-as (λ _. handed e) (handed_if c.args.made) es c.args.at e there
+    (ap (λ b. cond b (handed e) e) (sym (eq-eqb e.turn.made c.args.made c.if-entry-made.true)))
 
 pub returns-then-entry-made-clause-stands : goal.returns-then-entry-made-clause-stands
 returns-then-entry-made-clause-stands c = λ l are.
     let old = c.args.self.now in
     let es = entries old.slots.items in
     let p = c.args.at in
-    stands-by _ (nexts old.slots.items) (changed_at p handed es) _ c.mark_handed.ensures.nexts c.mark_handed.ensures.entries (ap turns_in (sym c.mark_handed.ensures.entries))
+    let e = c.in-Some.entry in
+    let there = ap (λ (ss : List Slot). slice_get (entries ss) p) (sym c.deref.ensures.value) ∙ sym c.entry_at.ensures ∙ c.in-Some.is in
+    let is_handed = c.set_entry.ensures.entries ∙ changed-as (λ _. handed e) handed es p e there refl in
+    stands-by _ (nexts old.slots.items) (changed_at p handed es) _ c.set_entry.ensures.nexts is_handed (ap turns_in (sym is_handed))
     (λ i. are.chained i ∙ sym (after-stays handed (λ x. refl) es p i))
     (λ o. are.ends_are o ∙ sym (ends-handed es p o))
     (λ h. rising-stays handed (λ x. refl) es p (are.rises h))

@@ -39,7 +39,7 @@ returns-clause-stands c = λ l are.
     (returns-clause-entries c)
     (turns-push es x refl ∙ ap (λ ts. ts ++ c.args.turn ∷ []) are.turns_are)
     (chained-push next es x c.ends_of-ends.result len are.chained ends)
-    (λ q. c.put_ends.ensures.at q ∙ ap (λ e. cond (same o q) (Some e) (ends_at old.objects q)) new
+    (λ q. c.insert_reserved.ensures.put q ∙ ap (λ e. cond (same o q) (Some e) (ends_at old.objects q)) new
     ∙ ap (λ r. cond (same o q) (Some (let e : Ends = record { first = option_or (position (is_live_on o) es) (Some (length es)); last = length es } in e)) r) (are.ends_are q) ∙ sym (ends-push es x refl q))
     (λ h. rising-push es x (are.rises (c.still_rises-self.ensures.rose h))
     (λ m k. c.still_rises-self.ensures.later h m (ap (λ (ss : List Slot). latest (entries ss)) c.deref.ensures.value ∙ k)))

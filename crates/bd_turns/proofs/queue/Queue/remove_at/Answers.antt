@@ -5,7 +5,16 @@ use Rattle.bd_turns.specs.Slots.{entries, nexts, gone, changed_at, turns_in}
 use Rattle.bd_turns.specs.Ends.{ends_at}
 use Rattle.bd_turns.proofs.Going.{after-stays, rising-stays, ends-gone, changed-nowhere}
 use Rattle.bd_turns.proofs.Standing.{stands-by}
+use Rattle.bd_turns.proofs.Sweeping.{changed-as}
 use Rattle.bd_turns.proofs.queue.Queue.remove_at.Goals as goal
+
+pub returns-in-Some-clause-entries : goal.returns-in-Some-clause-entries
+returns-in-Some-clause-entries c =
+    let es = entries c.args.self.now.slots.items in
+    let e = c.in-Some.entry in
+    let there = ap (λ (ss : List Slot). slice_get (entries ss) c.args.at) (sym c.deref.ensures.value)
+    ∙ sym c.entry_at.ensures ∙ c.in-Some.is in
+    c.set_entry.ensures.entries ∙ changed-as (λ _. gone e) gone es c.args.at e there refl
 
 pub returns-in-Some-clause-stands : goal.returns-in-Some-clause-stands
 returns-in-Some-clause-stands c = λ l are.
@@ -13,9 +22,11 @@ returns-in-Some-clause-stands c = λ l are.
     let es = entries old.slots.items in
     let p = c.args.at in
     let e = c.in-Some.entry in
-    let there : slice_get es p ≡ Some e = ap (λ (ss : List Slot). slice_get (entries ss) p) (sym c.deref.ensures.value) ∙ sym c.entry_at.ensures ∙ c.in-Some.is in
+    let there : slice_get es p ≡ Some e = ap (λ (ss : List Slot). slice_get (entries ss) p) (sym c.deref.ensures.value)
+    ∙ sym c.entry_at.ensures ∙ c.in-Some.is in
+    let is_gone = c.set_entry.ensures.entries ∙ changed-as (λ _. gone e) gone es p e there refl in
     let shown = c.deref-in-Some.ensures.value in
-    stands-by _ (nexts old.slots.items) (changed_at p gone es) _ c.mark_gone.ensures.nexts c.mark_gone.ensures.entries (ap turns_in (sym c.mark_gone.ensures.entries))
+    stands-by _ (nexts old.slots.items) (changed_at p gone es) _ c.set_entry.ensures.nexts is_gone (ap turns_in (sym is_gone))
     (λ i. are.chained i ∙ sym (after-stays gone (λ x. refl) es p i))
     (ends-gone es p e there (ends_at old.objects) (ends_at c.leave_front.new.objects) are.ends_are
     (λ first. rw (← shown) (c.leave_front.ensures.first first (rw shown are.chained))) c.leave_front.ensures.other)
