@@ -3,31 +3,18 @@ use Rattle.std.proofs.Common.{◌≡◌, ℕ, ◌≤◌, Bool, true, false, not,
 use Rattle.std.specs.List.{count_by}
 use Rattle.std.specs.Option.{option_map, option_or, option_and_then, is_some}
 use Rattle.std.proofs.lemmas.List.Folds.{find-append}
-use Rattle.std.proofs.lemmas.Bool.{eqb-true, eq-eqb}
+use Rattle.std.proofs.lemmas.Bool.{eqb-true, eq-eqb, and_parts}
 use Rattle.bd_space.specs.declared.step.ObjectId.{ObjectId}
 use Rattle.bd_space.specs.declared.space.Name.{Name}
 use Rattle.bd_space.specs.Words.{same}
 use Rattle.bd_space.specs.Names.{named_in, number_in}
+use Rattle.bd_space.proofs.Identities.{same-eq, same-self, same-turned}
 use Rattle.bd_names.specs.Sound.{Sound, has_number, has_object}
 use Rattle.bd_names.proofs.Singles.{find-filter, few-push, few-filter, found-passes, only, none-count, none-dropped, same-dropped}
 use Rattle.bd_names.proofs.Lookups.{both-ways, turned}
 
-both : (a b : Bool) → (a && b) ≡ true → (a ≡ true) × (b ≡ true)
-both true b h = (refl, h)
-both false b h = absurd (cc)
-
 and-both : (a b : Bool) → a ≡ true → b ≡ true → (a && b) ≡ true
 and-both a b h k = rw (h, k) refl
-
-same-eq : (a b : ObjectId) → same a b ≡ true → a ≡ b
-same-eq a b h =
-    let k = both (eqb a.place b.place) (eqb a.index b.index) h in
-    let p : a.place ≡ b.place = eqb-true a.place b.place k.0 in
-    let q : a.index ≡ b.index = eqb-true a.index b.index k.1 in
-    (λ i. record { place = p i; index = q i })
-
-same-self : (o : ObjectId) → same o o ≡ true
-same-self o = and-both (eqb o.place o.place) (eqb o.index o.index) (eq-eqb o.place o.place refl) (eq-eqb o.index o.index refl)
 
 find-push : {A : Type 0} (key : A → Bool) (xs : List A) (x : A) → find key (xs ++ x ∷ []) ≡ option_or (find key xs) (cond (key x) (Some x) None)
 find-push key xs x = find-append key xs (x ∷ [])
@@ -51,10 +38,10 @@ some-map f (Some x) y h = (x, refl, cc)
 
 module _ (names : List Name) (m : Name) (h : Sound names) (free : named_in names m.process m.number ≡ None) (new : number_in names m.process m.object ≡ None) where
   free-at : (p n : ℕ) → has_number p n m ≡ true → named_in names p n ≡ None
-  free-at p n t = let k = both (eqb m.process p) (eqb m.number n) t in rw (← eqb-true m.process p k.0, ← eqb-true m.number n k.1) free
+  free-at p n t = let k = and_parts (eqb m.process p) (eqb m.number n) t in rw (← eqb-true m.process p k.0, ← eqb-true m.number n k.1) free
 
   new-at : (p : ℕ) (o : ObjectId) → has_object p o m ≡ true → number_in names p o ≡ None
-  new-at p o t = let k = both (eqb m.process p) (same m.object o) t in rw (← eqb-true m.process p k.0, ← same-eq m.object o k.1) new
+  new-at p o t = let k = and_parts (eqb m.process p) (same m.object o) t in rw (← eqb-true m.process p k.0, ← same-eq m.object o k.1) new
 
   pub came-sound : Sound (names ++ m ∷ [])
   came-sound = record {
@@ -103,8 +90,15 @@ gone-found : {B : Type 0} (f : Name → B) (key keep : Name → Bool) (b : Bool)
     → ((m : Name) → find key names ≡ Some m → keep m ≡ not b) → option_map f (find key (filter keep names)) ≡ cond b None (option_map f (find key names))
 gone-found f key keep b names few h = ap (λ x. option_map f x) (find-filter key keep names few) ∙ filtered f keep b (find key names) h
 
+-- where none is found, none goes
+none-goes : {B : Type 0} (f : Name → B) (key : Name → Bool) (names : List Name) → option_map f (find key names) ≡ None
+    → filter (λ m. not (key m)) names ≡ names
+none-goes f key names e =
+    let none = none-count key names (none-map f (find key names) e) in
+    none-dropped key names (omega arith)
+
 turned-both : (a b : ℕ) (c d : ObjectId) → (eqb a b && same d c) ≡ (eqb b a && same c d)
-turned-both a b c d = rw (turned a b, turned d.place c.place, turned d.index c.index) refl
+turned-both a b c d = ap (λ x. x && same d c) (turned a b) ∙ ap (λ x. eqb b a && x) (same-turned d c)
 
 -- the one name of p for the object
 module _ (names : List Name) (h : Sound names) (p : ℕ) (o : ObjectId) where
@@ -113,9 +107,7 @@ module _ (names : List Name) (h : Sound names) (p : ℕ) (o : ObjectId) where
 
   -- where there is none
   pub none-gone : number_in names p o ≡ None → filter keep names ≡ names
-  none-gone e =
-      let none = none-count (has_object p o) names (none-map (λ (k : Name). k.number) (find (has_object p o) names) e) in
-      none-dropped (has_object p o) names (omega arith)
+  none-gone e = none-goes (λ (k : Name). k.number) (has_object p o) names e
 
   module _ (n : ℕ) (has : number_in names p o ≡ Some n) where
     there : (m : Name) × (find (has_object p o) names ≡ Some m) × (m.number ≡ n)
@@ -124,16 +116,16 @@ module _ (names : List Name) (h : Sound names) (p : ℕ) (o : ObjectId) where
     -- a name of that number is the one of that object
     same-name : (q k : ℕ) (m : Name) → find (has_number q k) names ≡ Some m → has_object p o m ≡ (eqb p q && eqb n k)
     same-name q k m e =
-        let t = both (eqb m.process q) (eqb m.number k) (found-passes (has_number q k) names m e) in
+        let t = and_parts (eqb m.process q) (eqb m.number k) (found-passes (has_number q k) names m e) in
         let mp : m.process ≡ q = eqb-true m.process q t.0 in
         let mn : m.number ≡ k = eqb-true m.number k t.1 in
-        let w = both (eqb there.0.process p) (same there.0.object o) (found-passes (has_object p o) names there.0 there.1) in
+        let w = and_parts (eqb there.0.process p) (same there.0.object o) (found-passes (has_object p o) names there.0 there.1) in
         both-ways (has_object p o m) (eqb p q && eqb n k)
-        (λ y. (let u = both (eqb m.process p) (same m.object o) y in
+        (λ y. (let u = and_parts (eqb m.process p) (same m.object o) y in
         let s : Some m ≡ Some there.0 = sym (only (has_object p o) (has_number q k) names m (h.one_name p o) e y) ∙ there.1 in
         let z : m ≡ there.0 = cc in
         and-both (eqb p q) (eqb n k) (eq-eqb p q (sym (eqb-true m.process p u.0) ∙ mp)) (eq-eqb n k (sym there.2 ∙ ap (λ (v : Name). v.number) (sym z) ∙ mn))))
-        (λ y. (let u = both (eqb p q) (eqb n k) y in
+        (λ y. (let u = and_parts (eqb p q) (eqb n k) y in
         let pass : has_number q k there.0 ≡ true = and-both (eqb there.0.process q) (eqb there.0.number k)
         (eq-eqb there.0.process q (eqb-true there.0.process p w.0 ∙ eqb-true p q u.0)) (eq-eqb there.0.number k (there.2 ∙ eqb-true n k u.1)) in
         let s : Some there.0 ≡ Some m = sym (only (has_number q k) (has_object p o) names there.0 (h.one_number q k) there.1 pass) ∙ e in
@@ -145,7 +137,7 @@ module _ (names : List Name) (h : Sound names) (p : ℕ) (o : ObjectId) where
 
     of-both : (q : ℕ) (x : ObjectId) (m : Name) → has_object q x m ≡ true → has_object p o m ≡ (eqb p q && same o x)
     of-both q x m t =
-        let k = both (eqb m.process q) (same m.object x) t in
+        let k = and_parts (eqb m.process q) (same m.object x) t in
         let mp : m.process ≡ q = eqb-true m.process q k.0 in
         let mo : m.object ≡ x = same-eq m.object x k.1 in
         rw (mp, mo) (turned-both q p o x)
@@ -158,16 +150,14 @@ module _ (names : List Name) (h : Sound names) (p : ℕ) (o : ObjectId) where
 module _ (names : List Name) (h : Sound names) (p n : ℕ) where
   -- where there is none
   pub no-number : named_in names p n ≡ None → filter (λ m. not (has_number p n m)) names ≡ names
-  no-number e =
-      let none = none-count (has_number p n) names (none-map (λ (k : Name). k.object) (find (has_number p n) names) e) in
-      none-dropped (has_number p n) names (omega arith)
+  no-number e = none-goes (λ (k : Name). k.object) (has_number p n) names e
 
   module _ (o : ObjectId) (has : named_in names p n ≡ Some o) where
     numbered : (m : Name) × (find (has_number p n) names ≡ Some m) × (m.object ≡ o)
     numbered = some-map (λ (k : Name). k.object) (find (has_number p n) names) o has
 
     tests : (eqb numbered.0.process p ≡ true) × (eqb numbered.0.number n ≡ true)
-    tests = both (eqb numbered.0.process p) (eqb numbered.0.number n) (found-passes (has_number p n) names numbered.0 numbered.1)
+    tests = and_parts (eqb numbered.0.process p) (eqb numbered.0.number n) (found-passes (has_number p n) names numbered.0 numbered.1)
 
     by-object : find (has_object p o) names ≡ Some numbered.0
     by-object =

@@ -1,16 +1,13 @@
 -- The words of processes as bits.
-use Rattle.std.specs.Prelude.{ℕ, ◌/◌, ◌%◌, ◌==◌, ◌&&◌, Bool, unwrap_or}
+use Rattle.std.specs.Prelude.{ℕ, ◌/◌, ◌%◌, unwrap_or}
 use Rattle.std.specs.HashMap.{get_by}
 use Rattle.std.specs.Int.{bit_at}
-use Rattle.bd_names.specs.declared.words.WordKey.{WordKey}
 use Rattle.bd_names.specs.declared.words.Words.{Words}
-
-abbrev pub is_word : ℕ → ℕ → WordKey → Bool
-is_word p w k = (p == k.process) && (w == k.index)
+use Rattle.bd_names.specs.Keys.{is_number_key}
 
 -- what isn't there is 0
 abbrev pub word_at : Words → ℕ → ℕ → ℕ
-word_at t p w = unwrap_or (get_by (is_word p w) t.words) 0
+word_at t p w = unwrap_or (get_by (is_number_key p w) t.words) 0
 
 -- a bit of the words of a process
 abbrev pub bit_of : (ℕ → ℕ → ℕ) → ℕ → ℕ → ℕ

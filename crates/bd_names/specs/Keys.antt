@@ -1,7 +1,8 @@
--- What the maps of names say of a process's number, and of an object.
+-- The keys of a process's numbers and objects, and what the maps of names say of them.
 use Rattle.std.specs.Prelude.{ℕ, ◌==◌, ◌&&◌, Bool, Option}
 use Rattle.std.specs.HashMap.{HashMap, get_by}
 use Rattle.bd_space.specs.declared.step.ObjectId.{ObjectId}
+use Rattle.bd_space.specs.Words.{same}
 use Rattle.bd_names.specs.declared.keys.NumberKey.{NumberKey}
 use Rattle.bd_names.specs.declared.keys.ObjectKey.{ObjectKey}
 
@@ -9,7 +10,7 @@ abbrev pub is_number_key : ℕ → ℕ → NumberKey → Bool
 is_number_key p n k = (p == k.process) && (n == k.number)
 
 abbrev pub is_object_key : ℕ → ObjectId → ObjectKey → Bool
-is_object_key p o k = (p == k.process) && ((o.place == k.object.place) && (o.index == k.object.index))
+is_object_key p o k = (p == k.process) && same o k.object
 
 abbrev pub object_at : {S : Type 0} → HashMap NumberKey ObjectId S → ℕ → ℕ → Option ObjectId
 object_at objects p n = get_by (is_number_key p n) objects

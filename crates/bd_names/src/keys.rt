@@ -3,7 +3,7 @@
 ghost use Rattle.std.specs.Prelude.{ℕ, ◌≡◌, ◌==◌, ◌≤◌, ◌<◌, ◌+◌, ◌&&◌, Some, None, if◌then◌else◌};
 ghost use Rattle.std.specs.Cmp.Rules.{hashing};
 ghost use Rattle.std.specs.Hash as fed;
-ghost use Rattle.std.specs.HashMap.{spare, get_by};
+ghost use Rattle.std.specs.HashMap.{spare};
 ghost use Rattle.std.proofs.Common.{rules};
 ghost use Rattle.bd_words.specs.Numbers.{pair, wide};
 ghost use Rattle.bd_space.specs.declared.step.ObjectId as declared;
@@ -11,7 +11,7 @@ ghost use Rattle.bd_space.specs.Words.{same};
 ghost use Rattle.bd_names.specs.Keys.{object_at, number_at};
 
 use bd_space::ObjectId;
-use bd_words::{pair, wide};
+use bd_words::{insert_reserved, pair, wide};
 use std::collections::HashMap;
 use std::hash::{Hash, Hasher};
 
@@ -33,18 +33,11 @@ impl Hash for NumberKey {
     }
 }
 
-/// An object's identity.
-#[derive(Clone, Copy, PartialEq, Eq)]
-pub struct IdKey {
-    pub place: u32,
-    pub index: u32,
-}
-
 /// An object, for a process.
 #[derive(Clone, Copy, PartialEq, Eq)]
 pub struct ObjectKey {
     pub process: u32,
-    pub object: IdKey,
+    pub object: ObjectId,
 }
 
 impl Hash for ObjectKey {
@@ -54,18 +47,6 @@ impl Hash for ObjectKey {
 
     fn hash<H: Hasher>(&self, state: &mut H) {
         state.write_u128(wide(self.process, pair(self.object.place, self.object.index)));
-    }
-}
-
-fn object_key(p: u32, o: ObjectId) -> ObjectKey
-    ensures { result ≡ record { process = p; object = record { place = o.place; index = o.index } } }
-{
-    ObjectKey {
-        process: p,
-        object: IdKey {
-            place: o.place,
-            index: o.index,
-        },
     }
 }
 
@@ -85,7 +66,12 @@ pub fn object_of(objects: &HashMap<NumberKey, ObjectId>, p: u32, n: u32) -> Opti
 pub fn number_of(numbers: &HashMap<ObjectKey, u32>, p: u32, o: ObjectId) -> Option<u32>
     ensures { result ≡ number_at numbers.now p o }
 {
-    numbers.get(&object_key(p, o)).copied()
+    numbers
+        .get(&ObjectKey {
+            process: p,
+            object: o,
+        })
+        .copied()
 }
 
 /// The process's number names the object from now on.
@@ -94,16 +80,11 @@ pub fn put_object(objects: &mut HashMap<NumberKey, ObjectId>, p: u32, n: u32, o:
     ensures at { (q k : ℕ) → object_at objects.new q k ≡ (if (p == q) && (n == k) then Some o else object_at objects.old q k) }
     ensures spare { spare objects.old ≤ spare objects.new + 1 }
 {
-    match objects.insert(
-        NumberKey {
-            process: p,
-            number: n,
-        },
-        o,
-    ) {
-        Ok(_) => {}
-        Err(_) => {}
-    }
+    let key = NumberKey {
+        process: p,
+        number: n,
+    };
+    insert_reserved(objects, key, o);
 }
 
 /// The object has this number of the process from now on.
@@ -113,10 +94,11 @@ pub fn put_number(numbers: &mut HashMap<ObjectKey, u32>, p: u32, o: ObjectId, n:
         ≡ (if (p == q) && same o x then Some n else number_at numbers.old q x) }
     ensures spare { spare numbers.old ≤ spare numbers.new + 1 }
 {
-    match numbers.insert(object_key(p, o), n) {
-        Ok(_) => {}
-        Err(_) => {}
-    }
+    let key = ObjectKey {
+        process: p,
+        object: o,
+    };
+    insert_reserved(numbers, key, n);
 }
 
 /// The process's number names nothing from now on.
@@ -136,5 +118,8 @@ pub fn take_number(numbers: &mut HashMap<ObjectKey, u32>, p: u32, o: ObjectId)
         ≡ (if (p == q) && same o x then None else number_at numbers.old q x) }
     ensures spare { spare numbers.old ≤ spare numbers.new }
 {
-    let _gone = numbers.remove(&object_key(p, o));
+    let _gone = numbers.remove(&ObjectKey {
+        process: p,
+        object: o,
+    });
 }

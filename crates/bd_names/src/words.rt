@@ -1,40 +1,18 @@
 //! Sets of numbers, one a process, as words of 64 bits.
 
 ghost use Rattle.std.specs.Prelude.{ℕ, ◌≡◌, ◌≢◌, ◌==◌, ◌≤◌, ◌<◌, ◌+◌, ◌-◌, ◌*◌, ◌/◌, ◌^◌, ◌&&◌, false, MatchOption, if◌then◌else◌, OnOk, OnErr};
-ghost use Rattle.std.specs.Cmp.Rules.{hashing};
-ghost use Rattle.std.specs.Hash as fed;
 ghost use Rattle.std.specs.HashMap.{spare};
-ghost use Rattle.std.proofs.Common.{rules};
-ghost use Rattle.bd_words.specs.Numbers.{pair};
 ghost use Rattle.bd_names.specs.Bits.{word_at, bit_of};
 
-use bd_words::pair;
+use crate::keys::NumberKey;
+use bd_words::insert_reserved;
 use std::alloc::{AllocError, Global};
 use std::collections::HashMap;
-use std::hash::{Hash, Hasher};
 
-/// One of a process's words.
-#[derive(Clone, Copy, PartialEq, Eq)]
-pub struct WordKey {
-    pub process: u32,
-    pub index: u32,
-}
-
-// One write, as `bd_words` says.
-impl Hash for WordKey {
-    ghost hash_input = { λ k. fed.u64 (pair k.process k.index) };
-
-    ghost respects_eq = { Prim.search (hashing, rules) };
-
-    fn hash<H: Hasher>(&self, state: &mut H) {
-        state.write_u64(pair(self.process, self.index));
-    }
-}
-
-/// The words that aren't 0.
+/// The words that aren't 0, each by its process and its number.
 #[derive(Drop)]
 pub struct Words {
-    pub(crate) words: HashMap<WordKey, u64>,
+    pub(crate) words: HashMap<NumberKey, u64>,
 }
 
 impl Words {
@@ -61,9 +39,9 @@ impl Words {
     pub fn word(&self, p: u32, w: u32) -> u64
         ensures { result ≡ word_at self.now p w }
     {
-        match self.words.get(&WordKey {
+        match self.words.get(&NumberKey {
             process: p,
-            index: w,
+            number: w,
         }) {
             Some(x) => *x,
             None => 0,
@@ -76,16 +54,11 @@ impl Words {
         ensures words { (q v : ℕ) → word_at self.new q v ≡ (if (p == q) && (w == v) then x else word_at self.old q v) }
         ensures spare { spare self.old.words ≤ spare self.new.words + 1 }
     {
-        match self.words.insert(
-            WordKey {
-                process: p,
-                index: w,
-            },
-            x,
-        ) {
-            Ok(_) => {}
-            Err(_) => {}
-        }
+        let key = NumberKey {
+            process: p,
+            number: w,
+        };
+        insert_reserved(&mut self.words, key, x);
     }
 
     // A word becomes 0.
@@ -93,9 +66,9 @@ impl Words {
         ensures words { (q v : ℕ) → word_at self.new q v ≡ (if (p == q) && (w == v) then 0 else word_at self.old q v) }
         ensures spare { spare self.old.words ≤ spare self.new.words }
     {
-        let _gone = self.words.remove(&WordKey {
+        let _gone = self.words.remove(&NumberKey {
             process: p,
-            index: w,
+            number: w,
         });
     }
 
@@ -105,9 +78,9 @@ impl Words {
         ensures words { (q v : ℕ) → word_at self.new q v ≡ (if (p == q) && (w == v) then x else word_at self.old q v) }
         ensures spare { spare self.old.words ≤ spare self.new.words }
     {
-        match self.words.get_mut(&WordKey {
+        match self.words.get_mut(&NumberKey {
             process: p,
-            index: w,
+            number: w,
         }) {
             Some(word) => *word = x,
             None => {}

@@ -1,10 +1,7 @@
-use Rattle.std.proofs.Common.{ℕ, ◌==◌, ◌&&◌, Some, Option, cond, ap, ◌∙◌}
 use Rattle.bd_names.specs.declared.keys.ObjectKey.{ObjectKey}
-use Rattle.bd_names.specs.Keys.{number_at}
 use Rattle.bd_names.proofs.keys.put_number.Goals as goal
 
-pub returns-in-Ok-clause-at : goal.returns-in-Ok-clause-at
-returns-in-Ok-clause-at c = λ q x.
-    let k : ObjectKey = record { process = q; object = record { place = x.place; index = x.index } } in
-    c.in-Ok.ensures.updates.0 k
-    ∙ ap (λ (j : ObjectKey). cond {A = Option ℕ} ((j.process == q) && ((j.object.place == x.place) && (j.object.index == x.index))) (Some c.args.n) (number_at c.args.numbers.now q x)) c.object_key.ensures
+pub returns-clause-at : goal.returns-clause-at
+returns-clause-at c = λ q x.
+    let k : ObjectKey = record { process = q; object = x } in
+    c.insert_reserved.ensures.put k
