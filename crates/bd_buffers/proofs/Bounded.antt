@@ -1,11 +1,11 @@
 -- What the bounds of the holes let a search go past, and what stays bounded.
-use Rattle.std.proofs.Common.{◌≡◌, ℕ, zero, suc, ◌+◌, ◌-◌, ◌*◌, ◌/◌, ◌<◌, ◌≤◌, Bool, true, false, cond, List, [], ◌∷◌, length, get_or, drop, refl, ap, ltb, ◌&&◌, ◌∙◌, subst, arith, All, inl, inr, ◌⊎◌, eqb}
+use Rattle.std.proofs.Common.{◌≡◌, ℕ, zero, suc, ◌+◌, ◌-◌, ◌*◌, ◌/◌, ◌<◌, ◌≤◌, Bool, true, false, cond, List, [], ◌∷◌, length, get_or, drop, refl, ap, ◌&&◌, ◌∙◌, subst, arith, All, inl, inr, ◌⊎◌}
 use Rattle.std.specs.Prelude.{find, min, vec_len, vec_capacity}
 use Rattle.std.specs.List.{between}
 use Rattle.std.specs.List.Sorted.{IsNonDecreasingBy, IsPartitionPoint}
-use Rattle.std.proofs.lemmas.Bool.{cases_lt, lt-leb, eqb-true, leb-true}
+use Rattle.std.proofs.lemmas.Bool.{cases_lt, lt-leb, leb-true}
 use Rattle.std.proofs.lemmas.List.Edits.{length-between, get_or-between}
-use Rattle.std.proofs.lemmas.List.Elements.{All-nil, All-cons, All-head, All-tail, All-weaker}
+use Rattle.std.proofs.lemmas.List.Elements.{All-weaker}
 use Rattle.bd_buffers.specs.declared.hole.Hole.{Hole}
 use Rattle.bd_buffers.specs.declared.bounds.Bounds.{Bounds}
 use Rattle.bd_buffers.specs.declared.ground.Ground.{Ground}
@@ -13,10 +13,10 @@ use Rattle.bd_buffers.specs.declared.rows.Rows.{Rows}
 use Rattle.bd_words.specs.Look.{word_room}
 use Rattle.bd_buffers.specs.Rows.{live}
 use Rattle.bd_buffers.specs.Window.{room_left}
-use Rattle.bd_buffers.specs.Holes.{Free, Spaced, has_room, shortened, taken, joined, released}
+use Rattle.bd_buffers.specs.Holes.{Free, Spaced, has_room, taken, released}
 use Rattle.bd_buffers.specs.Bounds.{IsBounded, reaches, IsAsLong, AreBoundedBut, AreWithin}
-use Rattle.bd_buffers.proofs.Fits.{cases_bool}
 use Rattle.bd_buffers.proofs.Split.{no_hole}
+use Rattle.bd_buffers.proofs.EachHole.{taken_each, released_each}
 
 -- ---- holes in order
 
@@ -37,11 +37,11 @@ low_tail : (tail low : ℕ) (holes : List Hole) → Spaced tail low holes → lo
 low_tail tail low [] sp = sp.0
 low_tail tail low (h ∷ hs) sp = let up = low_tail tail (h.end + 1) hs sp.4 in omega (arith, sp.0, sp.1, up)
 
--- each is of a byte or more, and before the tail
-is_filled : (tail low : ℕ) (holes : List Hole) (k : ℕ) (d : Hole) → Spaced tail low holes → k < length holes → ((get_or holes k d).start < (get_or holes k d).end) × ((get_or holes k d).end < tail)
-is_filled tail low [] k d sp lt = absurd (omega arith)
-is_filled tail low (h ∷ hs) zero d sp lt = let up = low_tail tail (h.end + 1) hs sp.4 in (sp.1, omega (arith, up))
-is_filled tail low (h ∷ hs) (suc k) d sp lt = is_filled tail (h.end + 1) hs k d sp.4 (omega arith)
+-- each is before the tail
+before_tail : (tail low : ℕ) (holes : List Hole) (k : ℕ) (d : Hole) → Spaced tail low holes → k < length holes → ((get_or holes k d).start ≤ (get_or holes k d).end) × ((get_or holes k d).end < tail)
+before_tail tail low [] k d sp lt = absurd (omega arith)
+before_tail tail low (h ∷ hs) zero d sp lt = let up = low_tail tail (h.end + 1) hs sp.4 in (sp.1, omega (arith, up))
+before_tail tail low (h ∷ hs) (suc k) d sp lt = before_tail tail (h.end + 1) hs k d sp.4 (omega arith)
 
 no_later : (a b : ℕ) → a ≤ b → a / 4096 ≤ b / 4096
 no_later a b le = omega arith
@@ -51,7 +51,7 @@ in_block_order tail holes sp i j d le lt =
     elim (cases_lt i j) [
       | inl before ↦
           let ends = ends_first tail 0 holes i j d sp before lt in
-          let full = is_filled tail 0 holes i d sp (omega arith) in
+          let full = before_tail tail 0 holes i d sp (omega arith) in
           no_later _ _ (omega (arith, ends, full.0))
       | inr ge ↦ let same : i ≡ j = omega arith in rw same (omega arith)
     ]
@@ -88,57 +88,21 @@ found_from p (h ∷ hs) (suc i) none =
 -- ---- what changes of holes leave bounded
 
 module _ (P : Hole → Type 0) where
-  kept_shortened : (p n : ℕ) (h : Hole) (hs : List Hole) → h.start ≡ p → All P hs → All (λ x. P x ⊎ (x.start ≡ p + n)) (shortened n h hs)
-  kept_shortened p n h hs here all =
-      let rest = All-weaker P (λ x. P x ⊎ (x.start ≡ p + n)) (λ x y. inl y) hs all in
-      elim (cases_bool (eqb (h.start + n) h.end)) [
-        | inl whole ↦ rw whole rest
-        | inr part ↦ rw part (All-cons (λ x. P x ⊎ (x.start ≡ p + n)) (record { start = h.start + n; end = h.end }) hs (inr (omega (arith, here))) rest)
-      ]
-
   -- where a span is taken, one hole is new, behind it
   pub taken_kept : (p n tail : ℕ) (holes : List Hole) → All P holes → All (λ x. P x ⊎ (x.start ≡ p + n)) (taken p n tail holes).holes
-  unfolding taken
-  taken_kept p n tail [] all = All-nil (λ x. P x ⊎ (x.start ≡ p + n))
-  taken_kept p n tail (h ∷ hs) all =
-      elim (cases_bool (eqb h.start p)) [
-        | inl here ↦ rw here (kept_shortened p n h hs (eqb-true h.start p here) (All-tail P h hs all))
-        | inr apart ↦ rw apart (All-cons (λ x. P x ⊎ (x.start ≡ p + n)) h (taken p n tail hs).holes (inl (All-head P h hs all)) (taken_kept p n tail hs (All-tail P h hs all)))
-      ]
+  taken_kept p n tail holes all =
+      let P' : Hole → Type 0 = λ x. P x ⊎ (x.start ≡ p + n) in
+      taken_each P' p n tail holes (λ h here _. inr (ap (λ (k : ℕ). k + n) here)) (All-weaker P P' (λ x own. inl own) holes all)
 
   -- a hole as it was, or one that spans the place
   abbrev pub IsKept : ℕ → Hole → Type 0
   IsKept s x = P x ⊎ ((x.start ≤ s) × (s < x.end))
 
-  kept_joined : (b s e tail low : ℕ) (holes : List Hole) → b ≤ s → s < e → Spaced tail low holes → All P holes → All (IsKept s) (joined b e tail holes).holes
-  kept_joined b s e tail low [] le lt sp all =
-      elim (cases_bool (eqb e tail)) [
-        | inl touch ↦ rw touch (All-nil (IsKept s))
-        | inr apart ↦ rw apart (All-cons (IsKept s) (record { start = b; end = e }) [] (inr (le, lt)) (All-nil (IsKept s)))
-      ]
-  kept_joined b s e tail low (h ∷ hs) le lt sp all =
-      let rest = All-weaker P (IsKept s) (λ x y. inl y) in
-      elim (cases_bool (eqb e h.start)) [
-        | inl touch ↦
-            (let same = eqb-true e h.start touch in
-            rw touch (All-cons (IsKept s) (record { start = b; end = h.end }) hs (inr (le, omega (arith, lt, same, sp.1))) (rest hs (All-tail P h hs all))))
-        | inr apart ↦ rw apart (All-cons (IsKept s) (record { start = b; end = e }) (h ∷ hs) (inr (le, lt)) (rest (h ∷ hs) all))
-      ]
-
   -- where a span is given back, one hole is new, and it spans its first byte
   pub released_kept : (s e tail low : ℕ) (holes : List Hole) → s < e → Spaced tail low holes → All P holes → All (IsKept s) (released s e tail holes).holes
-  unfolding released
-  released_kept s e tail low [] lt sp all = kept_joined s s e tail low [] (omega arith) lt sp all
-  released_kept s e tail low (h ∷ hs) lt sp all =
-      elim (cases_bool (ltb s h.end)) [
-        | inl before ↦ rw before (kept_joined s s e tail low (h ∷ hs) (omega arith) lt sp all)
-        | inr past ↦ elim (cases_bool (eqb h.end s)) [
-          | inl touch ↦
-              (let same = eqb-true h.end s touch in
-              rw (past, touch) (kept_joined h.start s e tail (h.end + 1) hs (omega (arith, same, sp.1)) lt sp.4 (All-tail P h hs all)))
-          | inr apart ↦ rw (past, apart) (All-cons (IsKept s) h (released s e tail hs).holes (inl (All-head P h hs all)) (released_kept s e tail (h.end + 1) hs lt sp.4 (All-tail P h hs all)))
-        ]
-      ]
+  released_kept s e tail low holes lt sp all =
+      released_each (IsKept s) s e tail low holes (record { own = λ b le. inr (le, lt); with_next = λ b h le touch far _. inr (le, omega (arith, lt, far)) }) sp
+      (All-weaker P (IsKept s) (λ x own. inl own) holes all)
 
   -- that hole begins where the one that spans the place does
   pub spanned : (s begin : ℕ) (holes xs : List Hole) → xs ≡ holes → All (IsKept s) holes → All (λ x. x.start ≤ s → s < x.end → x.start ≡ begin) xs
@@ -169,7 +133,7 @@ but_one size place b f is whole all =
     record {
       order = in_block_order f.tail f.holes is.spaced;
       within = λ k d lt.
-          let full = is_filled f.tail 0 f.holes k d is.spaced lt in
+          let full = before_tail f.tail 0 f.holes k d is.spaced lt in
           let within = is.within in
           (omega (arith, full.0, full.1, within, long.0), omega (arith, full.0, full.1, within, long.1));
       others = λ k d lt apart. elim (all k d lt) [ inl own ↦ own | inr here ↦ absurd (apart (ap (λ p. p / 4096) here)) ];

@@ -1,5 +1,5 @@
 -- The holes stay what no buffer spans.
-use Rattle.std.proofs.Common.{◌≡◌, ℕ, ◌+◌, ◌-◌, ◌<◌, ◌≤◌, ◌%◌, List, length, get_or, refl, sym, ap, ◌∙◌, subst, cond, Bool, [], ◌∷◌, ◌++◌, Some, arith, inl, inr, ◌⊎◌}
+use Rattle.std.proofs.Common.{◌≡◌, ℕ, ◌+◌, ◌-◌, ◌<◌, ◌≤◌, ◌%◌, List, length, get_or, refl, sym, ap, ◌∙◌, subst, cond, Bool, [], ◌∷◌, ◌++◌, Some, arith, inl, inr, ◌⊎◌, All}
 use Rattle.std.specs.Prelude.{remove, None, vec_len, vec_capacity}
 use Rattle.std.proofs.lemmas.Bool.{cases_lt}
 use Rattle.std.proofs.lemmas.List.{length_push, get_or_append_left, get_or_push}
@@ -17,31 +17,33 @@ use Rattle.bd_buffers.specs.Spots.{spot_key}
 use Rattle.bd_buffers.specs.Rows.{IsWithout}
 use Rattle.bd_buffers.proofs.Live.{changed_length, one_less}
 use Rattle.bd_buffers.proofs.Listed.{spots_handed, spots_forgotten}
-use Rattle.bd_buffers.specs.Holes.{Free, IsFreeByte, IsHoles, first_fit, taken, released}
+use Rattle.bd_buffers.specs.Holes.{Free, IsFreeByte, IsEdge, IsFreeSpace, first_fit, taken, released}
 use Rattle.bd_buffers.specs.Buffer.{IsApart, IsPlaced, one_way_share, share_from}
 use Rattle.bd_space.specs.Words.{changed}
 use Rattle.bd_space.specs.ReadItems.{hand_out}
 use Rattle.bd_buffers.specs.Bounds.{AreBounded}
 use Rattle.bd_buffers.specs.Sums.{AreNoted}
 use Rattle.bd_buffers.specs.Window.{IsWindow, Keeps, one_way_size}
-use Rattle.bd_buffers.proofs.Changes.{All-changed, All-unchanged}
+use Rattle.bd_buffers.proofs.Changes.{All-changed, All-removed, All-unchanged}
 use Rattle.bd_buffers.proofs.Shares.{sums_handed, sums_without}
 use Rattle.bd_buffers.proofs.Kept.{window_handed, one_way_handed, window_removed, one_way_removed}
 use Rattle.bd_buffers.proofs.Fits.{filled, fit_begins}
+use Rattle.bd_buffers.proofs.EachHole.{ends_around, released_each, taken_each}
 use Rattle.bd_buffers.proofs.Merging.{IsOutside, IsUncovered, taken_to, taken_from, spaced_taken, taken_within, released_to, released_from, spaced_released, released_tail}
 
 -- all of an empty window is its tail
-pub holes_empty : (size : ℕ) → size % 8 ≡ 0 → IsHoles size [] 0 []
+pub holes_empty : (size : ℕ) → size % 8 ≡ 0 → IsFreeSpace size [] 0 []
 holes_empty size whole = record {
   spaced = (omega arith, omega arith);
   within = omega arith;
   free = λ q c. (c.1, λ k d lt. absurd (omega arith));
   covered = λ q f. (omega arith, f.0);
+  ends = λ k d lt. absurd (omega arith);
 }
 
 -- after a buffer is put where the first with room begins
-pub holes_taken : (size tail n p : ℕ) (bs : List Buffer) (holes : List Hole) (b : Buffer) → IsHoles size bs tail holes → n % 8 ≡ 0 → p + n ≤ size → first_fit size tail n holes ≡ Some p
-    → b.start ≡ p → b.size ≡ n → IsHoles size (bs ++ b ∷ []) (taken p n tail holes).tail (taken p n tail holes).holes
+pub holes_taken : (size tail n p : ℕ) (bs : List Buffer) (holes : List Hole) (b : Buffer) → IsFreeSpace size bs tail holes → n % 8 ≡ 0 → p + n ≤ size → first_fit size tail n holes ≡ Some p
+    → b.start ≡ p → b.size ≡ n → IsFreeSpace size (bs ++ b ∷ []) (taken p n tail holes).tail (taken p n tail holes).holes
 holes_taken size tail n p bs holes b is whole inside e start length-is =
     let begins = fit_begins size tail n p 0 holes is.spaced e in
     record {
@@ -56,6 +58,11 @@ holes_taken size tail n p bs holes b is whole inside e start length-is =
           let own : (q < b.start) ⊎ (b.start + b.size ≤ q) = rw (get_or_push bs b b (length bs) refl) at (f.1 (length bs) b (omega (arith, length_push bs b))) in
           let out : IsOutside p (p + n) q = rw (start, length-is) at own in
           taken_from size tail p n 0 q holes is.spaced begins (is.covered q old) out;
+      ends =
+          let around = ends_around tail p n 0 holes is.spaced begins in
+          taken_each (λ h. IsEdge (bs ++ b ∷ []) h.end) p n tail holes (λ h here own. own) (λ k d lt.
+          let x = (get_or holes k d).end in
+          All-push (λ b. (x ≤ b.start) ⊎ (b.start + b.size ≤ x)) bs b (is.ends k d lt) (rw (start, length-is) (around k d lt)));
     }
 
 -- a byte of one buffer is of no other
@@ -103,8 +110,8 @@ kept_without size i q bs lt inside f = (
 )
 
 -- after a buffer ends
-pub holes_released : (size tail i : ℕ) (bs : List Buffer) (holes : List Hole) (b : Buffer) → IsWindow size bs → IsHoles size bs tail holes → i < length bs → ((d : Buffer) → b ≡ get_or bs i d)
-    → IsHoles size (remove bs i) (released b.start (b.start + b.size) tail holes).tail (released b.start (b.start + b.size) tail holes).holes
+pub holes_released : (size tail i : ℕ) (bs : List Buffer) (holes : List Hole) (b : Buffer) → IsWindow size bs → IsFreeSpace size bs tail holes → i < length bs → ((d : Buffer) → b ≡ get_or bs i d)
+    → IsFreeSpace size (remove bs i) (released b.start (b.start + b.size) tail holes).tail (released b.start (b.start + b.size) tail holes).holes
 holes_released size tail i bs holes b window is lt at =
     let placed : IsPlaced size b = rw (at b) (window.placed i b lt) in
     let full = filled size b placed in
@@ -114,7 +121,19 @@ holes_released size tail i bs holes b window is lt at =
     let s = b.start in
     let e = b.start + b.size in
     let pos : s < e = omega (arith, full) in
-    let none : IsUncovered size tail s e holes = λ q low high c. elim (rw (← at b) at ((is.free q c).1 i b lt)) [ inl x ↦ omega (arith, x, low) | inr y ↦ omega (arith, y, high) ] in
+    let none : IsUncovered size tail s e holes = record {
+      bytes = λ q low high c. elim (rw (← at b) at ((is.free q c).1 i b lt)) [ inl x ↦ omega (arith, x, low) | inr y ↦ omega (arith, y, high) ];
+      ends = λ k d in'. rw (← at b) at (is.ends k d in' i b lt);
+    }
+    in
+    let end_edge : IsEdge (remove bs i) e = λ k d in'.
+    (elim ((kept_without size i (e - 1) bs lt (omega (arith, inside, pos)) (others_free size i (e - 1) bs b window lt at (omega (arith, pos)) (omega (arith, pos)))).1 k d in') [
+      | inl x ↦ inl (omega (arith, x, pos))
+      | inr y ↦ inr (omega (arith, y, pos))
+    ])
+    in
+    let kept : All (λ h. IsEdge (remove bs i) h.end) holes = λ k d in'.
+    (let x = (get_or holes k d).end in All-removed (λ b. (x ≤ b.start) ⊎ (b.start + b.size ≤ x)) bs i lt (is.ends k d in')) in
     record {
       spaced = spaced_released size tail s e 0 holes (omega arith) pos inside aligned (omega (arith, aligned, sized)) is.spaced none;
       within = let le = released_tail tail s e 0 holes pos is.spaced in let old = is.within in omega (arith, le, old);
@@ -129,6 +148,7 @@ holes_released size tail i bs holes b window is lt at =
           | inr after ↦ inr (is.covered q (free_without size i q bs b lt at f (inr after)))
         ]
       ]);
+      ends = released_each (λ h. IsEdge (remove bs i) h.end) s e tail 0 holes (record { own = λ b le. end_edge; with_next = λ b h le touch far own. own }) is.spaced kept;
     }
 
 -- ---- what a window keeps
@@ -151,6 +171,9 @@ keeps_handed p bs g is =
         within = is.free.within;
         free = λ q c. handed_free g.size q p bs (is.free.free q c);
         covered = λ q f. is.free.covered q (free_handed g.size q p bs f);
+        ends = λ k d lt.
+            let x = (get_or g.holes.items k d).end in
+            All-changed p hand_out (λ b. (x ≤ b.start) ⊎ (b.start + b.size ≤ x)) (λ b is. is) bs (is.free.ends k d lt);
       };
       starts = spots_handed p bs g.spots is.starts;
       total = is.total ∙ sym (one_way_handed p bs);
@@ -168,8 +191,8 @@ pub keeps_without : (b : Buffer) (bs new : List Buffer) (g left : Ground) → Ke
     → AreBounded left.size left.bounds left.holes.items → Keeps new left
 keeps_without b bs new g left is gone size free spots share senders len capacity bounds =
     let window : IsWindow g.size new = subst (IsWindow g.size) (sym gone.left) (window_removed g.size gone.index bs b is.window gone.within) in
-    let holes : IsHoles g.size new (released b.start (b.start + b.size) g.tail g.holes.items).tail (released b.start (b.start + b.size) g.tail g.holes.items).holes =
-    subst (λ xs. IsHoles g.size xs (released b.start (b.start + b.size) g.tail g.holes.items).tail (released b.start (b.start + b.size) g.tail g.holes.items).holes) (sym gone.left)
+    let holes : IsFreeSpace g.size new (released b.start (b.start + b.size) g.tail g.holes.items).tail (released b.start (b.start + b.size) g.tail g.holes.items).holes =
+    subst (λ xs. IsFreeSpace g.size xs (released b.start (b.start + b.size) g.tail g.holes.items).tail (released b.start (b.start + b.size) g.tail g.holes.items).holes) (sym gone.left)
     (holes_released g.size g.tail gone.index bs g.holes.items b is.window is.free gone.within gone.at) in
     let spare = is.spare in
     let total = is.total in
@@ -179,7 +202,7 @@ keeps_without b bs new g left is gone size free spots share senders len capacity
     let fewer = one_less b bs new gone in
     record {
       window = subst (λ n. IsWindow n new) (sym size) window;
-      free = subst (λ n. IsHoles n new left.tail left.holes.items) (sym size) (subst (λ (f : Free). IsHoles g.size new f.tail f.holes) free holes);
+      free = subst (λ n. IsFreeSpace n new left.tail left.holes.items) (sym size) (subst (λ (f : Free). IsFreeSpace g.size new f.tail f.holes) free holes);
       starts = spots_forgotten g.size b bs new g.spots left.spots is.starts is.window gone spots;
       total = omega (arith, total, own, less, rest, share);
       sums = senders (one_way_from new) (sums_without b bs new g.senders gone is.sums);

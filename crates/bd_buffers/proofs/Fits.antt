@@ -5,7 +5,7 @@ use Rattle.std.proofs.lemmas.Bool.{cases_lt, le-leb, lt-leb, leb-true}
 use Rattle.bd_space.specs.declared.space.Buffer.{Buffer}
 use Rattle.bd_space.specs.Windows.{start_in, start_for}
 use Rattle.bd_buffers.specs.declared.hole.Hole.{Hole}
-use Rattle.bd_buffers.specs.Holes.{Covered, IsFreeByte, Spaced, IsHoles, Begins, start_or_tail, first_fit}
+use Rattle.bd_buffers.specs.Holes.{Covered, IsFreeByte, Spaced, IsFreeSpace, Begins, start_or_tail, first_fit}
 use Rattle.bd_buffers.specs.Buffer.{IsApart, IsPlaced}
 use Rattle.bd_buffers.specs.Window.{IsFree, IsLeastFree, IsWindow}
 use Rattle.bd_buffers.proofs.Places.{start_at, no_start_at, given_says}
@@ -136,7 +136,7 @@ place_free size bs n p q room a b = (omega (arith, room.inside), λ k d lt. elim
 pub filled : (size : ℕ) (b : Buffer) → IsPlaced size b → 8 ≤ b.size
 filled size b is = let sized = is.sized in omega (arith, sized)
 
-least_by : (size tail n s p : ℕ) (bs : List Buffer) (holes : List Hole) → IsHoles size bs tail holes → 0 < n → first_fit size tail n holes ≡ Some s → IsFree size bs n p → s ≤ p
+least_by : (size tail n s p : ℕ) (bs : List Buffer) (holes : List Hole) → IsFreeSpace size bs tail holes → 0 < n → first_fit size tail n holes ≡ Some s → IsFree size bs n p → s ≤ p
 least_by size tail n s p bs holes is pos e room =
     let found = fits_by size tail n p 0 holes pos is.spaced (λ q a b. is.covered q (place_free size bs n p q room a b)) in
     let same : Some found.0 ≡ Some s = sym found.1 ∙ e in
@@ -144,7 +144,7 @@ least_by size tail n s p bs holes is pos e room =
     omega (arith, found.2, eq)
 
 -- the first with room begins at the least free place
-least_fit : (size tail n s : ℕ) (bs : List Buffer) (holes : List Hole) → IsHoles size bs tail holes → IsWindow size bs → 0 < n → first_fit size tail n holes ≡ Some s → IsLeastFree size bs n s
+least_fit : (size tail n s : ℕ) (bs : List Buffer) (holes : List Hole) → IsFreeSpace size bs tail holes → IsWindow size bs → 0 < n → first_fit size tail n holes ≡ Some s → IsLeastFree size bs n s
 least_fit size tail n s bs holes is window pos e =
     let fit = covers_fit size tail n s 0 holes is.spaced e in
     record {
@@ -159,22 +159,22 @@ least_fit size tail n s bs holes is window pos e =
       least = λ q room. least_by size tail n s q bs holes is pos e room;
     }
 
-none_fit : (size tail n p : ℕ) (bs : List Buffer) (holes : List Hole) → IsHoles size bs tail holes → 0 < n → first_fit size tail n holes ≡ None → IsFree size bs n p → ⊥
+none_fit : (size tail n p : ℕ) (bs : List Buffer) (holes : List Hole) → IsFreeSpace size bs tail holes → 0 < n → first_fit size tail n holes ≡ None → IsFree size bs n p → ⊥
 none_fit size tail n p bs holes is pos e room =
     let found = fits_by size tail n p 0 holes pos is.spaced (λ q a b. is.covered q (place_free size bs n p q room a b)) in
     let both : Some found.0 ≡ None = sym found.1 ∙ e in
     cc both
 
-fit_by : (size tail n : ℕ) (bs : List Buffer) (holes : List Hole) (o : Option ℕ) → IsHoles size bs tail holes → IsWindow size bs → 8 ≤ n → first_fit size tail n holes ≡ o → o ≡ start_in size bs n
+fit_by : (size tail n : ℕ) (bs : List Buffer) (holes : List Hole) (o : Option ℕ) → IsFreeSpace size bs tail holes → IsWindow size bs → 8 ≤ n → first_fit size tail n holes ≡ o → o ≡ start_in size bs n
 fit_by size tail n bs holes None is window full e = sym (no_start_at size bs n (λ p room. none_fit size tail n p bs holes is (omega arith) e room))
 fit_by size tail n bs holes (Some s) is window full e = sym (start_at size bs n s full (least_fit size tail n s bs holes is window (omega arith) e))
 
 -- where the first with room begins, there is the place
-pub fit_is : (size tail n : ℕ) (bs : List Buffer) (holes : List Hole) → IsHoles size bs tail holes → IsWindow size bs → 8 ≤ n → first_fit size tail n holes ≡ start_in size bs n
+pub fit_is : (size tail n : ℕ) (bs : List Buffer) (holes : List Hole) → IsFreeSpace size bs tail holes → IsWindow size bs → 8 ≤ n → first_fit size tail n holes ≡ start_in size bs n
 fit_is size tail n bs holes is window full = fit_by size tail n bs holes (first_fit size tail n holes) is window full refl
 
 -- where a new buffer is to go, the first with room begins
-pub placed_fit : (size tail n p : ℕ) (bs : List Buffer) (holes : List Hole) (one_way : Bool) → IsHoles size bs tail holes → IsWindow size bs → 8 ≤ n → start_for size bs one_way n ≡ Ok p
+pub placed_fit : (size tail n p : ℕ) (bs : List Buffer) (holes : List Hole) (one_way : Bool) → IsFreeSpace size bs tail holes → IsWindow size bs → 8 ≤ n → start_for size bs one_way n ≡ Ok p
     → first_fit size tail n holes ≡ Some p
 placed_fit size tail n p bs holes one_way is window full e =
     fit_is size tail n bs holes is window full ∙ start_at size bs n p full (given_says size bs one_way n p e).least

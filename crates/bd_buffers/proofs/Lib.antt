@@ -3,6 +3,8 @@ pub mod Places
 pub mod Fits
 pub mod Merging
 pub mod Split
+pub mod EachHole
+pub mod Filled
 pub mod Bounded
 pub mod Made
 pub mod Live

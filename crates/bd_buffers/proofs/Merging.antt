@@ -1,6 +1,7 @@
 -- What taking and giving back leave free.
-use Rattle.std.proofs.Common.{◌≡◌, ℕ, ◌+◌, ◌<◌, ◌≤◌, ◌%◌, List, [], ◌∷◌, arith, inl, inr, ◌⊎◌, ltb, eqb}
+use Rattle.std.proofs.Common.{◌≡◌, ℕ, ◌+◌, ◌<◌, ◌≤◌, ◌%◌, List, [], ◌∷◌, arith, inl, inr, ◌⊎◌, ltb, eqb, All}
 use Rattle.std.proofs.lemmas.Bool.{cases_lt, ltb-true, ltb-false, eqb-true, eqb-false}
+use Rattle.std.proofs.lemmas.List.Elements.{All-head, All-tail}
 use Rattle.bd_buffers.specs.declared.hole.Hole.{Hole}
 use Rattle.bd_buffers.specs.Holes.{Covered, Spaced, Begins, shortened, taken, joined, released}
 use Rattle.bd_buffers.proofs.Fits.{above, cases_bool}
@@ -11,33 +12,20 @@ IsOutside s e q = (q < s) ⊎ (e ≤ q)
 
 -- ---- taking
 
-shortened_to : (size tail n q : ℕ) (h : Hole) (hs : List Hole) → Spaced tail (h.end + 1) hs → h.start + n ≤ h.end → Covered size tail (shortened n h hs) q
+shortened_to : (size tail n q : ℕ) (h : Hole) (hs : List Hole) → Spaced tail (h.end + 1) hs → h.start + n ≤ h.end → Covered size tail (shortened n h ∷ hs) q
     → Covered size tail (h ∷ hs) q × IsOutside h.start (h.start + n) q
 shortened_to size tail n q h hs sp le c =
-    elim (cases_bool (eqb (h.start + n) h.end)) [
-      | inl whole ↦
-          let c' : Covered size tail hs q = rw whole at c in
-          let up = above size tail (h.end + 1) hs q sp c' in
-          (inr c', inr (omega (arith, up)))
-      | inr part ↦
-          let c' : ((h.start + n ≤ q) × (q < h.end)) ⊎ Covered size tail hs q = rw part at c in
-          elim c' [
-            | inl here ↦ (inl (omega (arith, here.0), here.1), inr here.0)
-            | inr there ↦ let up = above size tail (h.end + 1) hs q sp there in (inr there, inr (omega (arith, up)))
-          ]
+    elim c [
+      | inl here ↦ (inl (omega (arith, here.0), here.1), inr here.0)
+      | inr there ↦ let up = above size tail (h.end + 1) hs q sp there in (inr there, inr (omega (arith, up)))
     ]
 
-shortened_from : (size tail n q : ℕ) (h : Hole) (hs : List Hole) → h.start + n ≤ h.end → Covered size tail (h ∷ hs) q → IsOutside h.start (h.start + n) q → Covered size tail (shortened n h hs) q
-shortened_from size tail n q h hs le c out =
-    elim (cases_bool (eqb (h.start + n) h.end)) [
-      | inl whole ↦
-          let is = eqb-true _ _ whole in
-          rw whole (elim c [ inl here ↦ absurd (elim out [ inl x ↦ omega (arith, here.0) | inr y ↦ omega (arith, here.1, is) ]) | inr there ↦ there ])
-      | inr part ↦ rw part (elim c [ inl here ↦ inl (elim out [ inl x ↦ absurd (omega (arith, here.0)) | inr y ↦ (y, here.1) ]) | inr there ↦ inr there ])
-    ]
+shortened_from : (size tail n q : ℕ) (h : Hole) (hs : List Hole) → Covered size tail (h ∷ hs) q → IsOutside h.start (h.start + n) q → Covered size tail (shortened n h ∷ hs) q
+shortened_from size tail n q h hs c out =
+    elim c [ inl here ↦ inl (elim out [ inl x ↦ absurd (omega (arith, here.0)) | inr y ↦ (y, here.1) ]) | inr there ↦ inr there ]
 
 -- the hole that begins there has the bytes
-begins_here : (tail p n : ℕ) (h : Hole) (hs : List Hole) → h.start < h.end → h.start ≡ p → Begins tail p n (h ∷ hs) → h.start + n ≤ h.end
+begins_here : (tail p n : ℕ) (h : Hole) (hs : List Hole) → h.start ≤ h.end → h.start ≡ p → Begins tail p n (h ∷ hs) → h.start + n ≤ h.end
 begins_here tail p n h hs pos same b = elim b [ inl x ↦ omega (arith, same, x.1) | inr y ↦ absurd (omega (arith, same, pos, y.0)) ]
 
 begins_later : (tail p n : ℕ) (h : Hole) (hs : List Hole) → (h.start ≡ p → ⊥) → Begins tail p n (h ∷ hs) → (h.end < p) × Begins tail p n hs
@@ -51,7 +39,7 @@ taken_to size tail p n low q (h ∷ hs) sp b c =
     elim (cases_bool (eqb h.start p)) [
       | inl here ↦
           let same = eqb-true _ _ here in
-          let c' : Covered size tail (shortened n h hs) q = rw here at c in
+          let c' : Covered size tail (shortened n h ∷ hs) q = rw here at c in
           rw (← same) (shortened_to size tail n q h hs sp.4 (begins_here tail p n h hs sp.1 same b) c')
       | inr there ↦
           let later = begins_later tail p n h hs (eqb-false _ _ there) b in
@@ -71,14 +59,14 @@ taken_from size tail p n low q (h ∷ hs) sp b c out =
       | inl here ↦
           let same = eqb-true _ _ here in
           let out' : IsOutside h.start (h.start + n) q = rw same out in
-          rw here (shortened_from size tail n q h hs (begins_here tail p n h hs sp.1 same b) c out')
+          rw here (shortened_from size tail n q h hs c out')
       | inr there ↦
           let later = begins_later tail p n h hs (eqb-false _ _ there) b in
           rw there (elim c [ inl x ↦ inl x | inr y ↦ inr (taken_from size tail p n (h.end + 1) q hs sp.4 later.1 y out) ])
     ]
 
 -- a lower bound may be lowered
-lower : (tail low low' : ℕ) (holes : List Hole) → low' ≤ low → Spaced tail low holes → Spaced tail low' holes
+pub lower : (tail low low' : ℕ) (holes : List Hole) → low' ≤ low → Spaced tail low holes → Spaced tail low' holes
 lower tail low low' [] le sp = (omega (arith, sp.0), sp.1)
 lower tail low low' (h ∷ hs) le sp = (omega (arith, sp.0), sp.1, sp.2, sp.3, sp.4)
 
@@ -89,10 +77,7 @@ spaced_taken tail p n low (h ∷ hs) whole sp b =
     elim (cases_bool (eqb h.start p)) [
       | inl here ↦
           let le = begins_here tail p n h hs sp.1 (eqb-true _ _ here) b in
-          elim (cases_bool (eqb (h.start + n) h.end)) [
-            | inl all ↦ rw (here, all) (lower tail (h.end + 1) low hs (omega (arith, sp.0, sp.1)) sp.4)
-            | inr part ↦ let ne = eqb-false _ _ part in rw (here, part) (omega (arith, sp.0), omega (arith, le, ne), omega (arith, sp.2), sp.3, sp.4)
-          ]
+          rw here (omega (arith, sp.0), le, omega (arith, sp.2), sp.3, sp.4)
       | inr there ↦ rw there (sp.0, sp.1, sp.2, sp.3, spaced_taken tail p n (h.end + 1) hs whole sp.4 (begins_later tail p n h hs (eqb-false _ _ there) b).1)
     ]
 
@@ -108,9 +93,16 @@ taken_within size tail p n low (h ∷ hs) inside le sp b =
 
 -- ---- giving back
 
--- no byte of a span is covered
-abbrev pub IsUncovered : ℕ → ℕ → ℕ → ℕ → List Hole → Type 0
-IsUncovered size tail s e holes = (q : ℕ) → s ≤ q → q < e → Covered size tail holes q → ⊥
+-- no byte of a span is covered, and no hole ends within it
+pub record IsUncovered (size tail s e : ℕ) (holes : List Hole) : Type 0 where
+  pub bytes : (q : ℕ) → s ≤ q → q < e → Covered size tail holes q → ⊥
+  pub ends : All (λ h. (h.end ≤ s) ⊎ (e ≤ h.end)) holes
+
+uncovered_rest : (size tail s e : ℕ) (h : Hole) (hs : List Hole) → IsUncovered size tail s e (h ∷ hs) → IsUncovered size tail s e hs
+uncovered_rest size tail s e h hs none = record {
+  bytes = λ q a b c. none.bytes q a b (inr c);
+  ends = All-tail (λ x. (x.end ≤ s) ⊎ (e ≤ x.end)) h hs none.ends;
+}
 
 -- the tail begins past it
 tail_after : (size tail s e : ℕ) → s < e → e ≤ size → IsUncovered size tail s e [] → e ≤ tail
@@ -118,8 +110,8 @@ tail_after size tail s e lt le none =
     elim (cases_lt tail e) [
       | inr high ↦ high
       | inl low ↦ absurd (elim (cases_lt tail s) [
-        | inl before ↦ none s (omega arith) lt (omega arith, omega arith)
-        | inr in' ↦ none tail in' low (omega arith, omega arith)
+        | inl before ↦ none.bytes s (omega arith) lt (omega arith, omega arith)
+        | inr in' ↦ none.bytes tail in' low (omega arith, omega arith)
       ])
     ]
 
@@ -128,7 +120,10 @@ raise : (size tail s e : ℕ) (holes : List Hole) → s < e → e ≤ size → S
 raise size tail s e [] lt le sp none = (tail_after size tail s e lt le none, sp.1)
 raise size tail s e (h ∷ hs) lt le sp none =
     elim (cases_lt h.start e) [
-      | inl low ↦ absurd (none h.start (omega (arith, sp.0)) low (inl (omega arith, sp.1)))
+      | inl low ↦ absurd (elim (All-head (λ x. (x.end ≤ s) ⊎ (e ≤ x.end)) h hs none.ends) [
+        | inl before ↦ omega (arith, sp.0, sp.1, before)
+        | inr past ↦ none.bytes h.start (omega (arith, sp.0)) low (inl (omega arith, omega (arith, low, past)))
+      ])
       | inr high ↦ (high, sp.1, sp.2, sp.3, sp.4)
     ]
 
@@ -176,12 +171,12 @@ spaced_joined : (tail s e low : ℕ) (holes : List Hole) → low ≤ s → s < e
 spaced_joined tail s e low [] le lt s8 e8 sp =
     elim (cases_bool (eqb e tail)) [
       | inl touch ↦ rw touch (le, s8)
-      | inr apart ↦ let ne = eqb-false _ _ apart in rw apart (le, lt, s8, e8, (omega (arith, sp.0, ne), sp.1))
+      | inr apart ↦ let ne = eqb-false _ _ apart in rw apart (le, omega arith, s8, e8, (omega (arith, sp.0, ne), sp.1))
     ]
 spaced_joined tail s e low (h ∷ hs) le lt s8 e8 sp =
     elim (cases_bool (eqb e h.start)) [
       | inl touch ↦ let is = eqb-true _ _ touch in rw touch (le, omega (arith, sp.1, is, lt), s8, sp.3, sp.4)
-      | inr apart ↦ let ne = eqb-false _ _ apart in rw apart (le, lt, s8, e8, (omega (arith, sp.0, ne), sp.1, sp.2, sp.3, sp.4))
+      | inr apart ↦ let ne = eqb-false _ _ apart in rw apart (le, omega arith, s8, e8, (omega (arith, sp.0, ne), sp.1, sp.2, sp.3, sp.4))
     ]
 
 -- the tail begins no later than it did
@@ -194,7 +189,7 @@ first_after : (size tail s e low : ℕ) (h : Hole) (hs : List Hole) → s < e �
 first_after size tail s e low h hs lt le sp none over =
     elim (cases_lt s h.start) [
       | inl before ↦ raise size tail s e (h ∷ hs) lt le (omega arith, sp.1, sp.2, sp.3, sp.4) none
-      | inr in' ↦ absurd (none s (omega arith) lt (inl (in', over)))
+      | inr in' ↦ absurd (none.bytes s (omega arith) lt (inl (in', over)))
     ]
 
 pub released_to : (size tail s e low q : ℕ) (holes : List Hole) → s < e → e ≤ size → Spaced tail low holes → IsUncovered size tail s e holes
@@ -202,7 +197,7 @@ pub released_to : (size tail s e low q : ℕ) (holes : List Hole) → s < e → 
 unfolding released
 released_to size tail s e low q [] lt le sp none c = joined_to size tail s e q [] lt (tail_after size tail s e lt le none, sp.1) c
 released_to size tail s e low q (h ∷ hs) lt le sp none c =
-    let rest : IsUncovered size tail s e hs = λ q a b c. none q a b (inr c) in
+    let rest = uncovered_rest size tail s e h hs none in
     elim (cases_bool (ltb s h.end)) [
       | inl before ↦ joined_to size tail s e q (h ∷ hs) lt (first_after size tail s e low h hs lt le sp none (ltb-true _ _ before)) (rw before at c)
       | inr past ↦ elim (cases_bool (eqb h.end s)) [
@@ -228,7 +223,7 @@ pub released_from : (size tail s e low q : ℕ) (holes : List Hole) → s < e �
 unfolding released
 released_from size tail s e low q [] lt le sp none c = joined_from size tail s e q [] lt le (tail_after size tail s e lt le none, sp.1) c
 released_from size tail s e low q (h ∷ hs) lt le sp none c =
-    let rest : IsUncovered size tail s e hs = λ q a b c. none q a b (inr c) in
+    let rest = uncovered_rest size tail s e h hs none in
     elim (cases_bool (ltb s h.end)) [
       | inl before ↦ rw before (joined_from size tail s e q (h ∷ hs) lt le (first_after size tail s e low h hs lt le sp none (ltb-true _ _ before)) c)
       | inr past ↦ elim (cases_bool (eqb h.end s)) [
@@ -251,7 +246,7 @@ pub spaced_released : (size tail s e low : ℕ) (holes : List Hole) → low ≤ 
 unfolding released
 spaced_released size tail s e low [] le lt within s8 e8 sp none = spaced_joined tail s e low [] le lt s8 e8 (tail_after size tail s e lt within none, sp.1)
 spaced_released size tail s e low (h ∷ hs) le lt within s8 e8 sp none =
-    let rest : IsUncovered size tail s e hs = λ q a b c. none q a b (inr c) in
+    let rest = uncovered_rest size tail s e h hs none in
     elim (cases_bool (ltb s h.end)) [
       | inl before ↦ rw before (spaced_joined tail s e low (h ∷ hs) le lt s8 e8 (first_after size tail s e low h hs lt within sp none (ltb-true _ _ before)))
       | inr past ↦ elim (cases_bool (eqb h.end s)) [

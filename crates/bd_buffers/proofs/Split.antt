@@ -9,7 +9,7 @@ use Rattle.bd_buffers.specs.Holes.{Free, after, Spaced, Begins, shortened, taken
 
 -- ---- the holes are in order
 
-ends_above : (tail low : ℕ) (holes : List Hole) (k : ℕ) (d : Hole) → Spaced tail low holes → k < length holes → low ≤ (get_or holes k d).end
+pub ends_above : (tail low : ℕ) (holes : List Hole) (k : ℕ) (d : Hole) → Spaced tail low holes → k < length holes → low ≤ (get_or holes k d).end
 ends_above tail low [] k d sp lt = absurd (omega arith)
 ends_above tail low (h ∷ hs) zero d sp lt = omega (arith, sp.0, sp.1)
 ends_above tail low (h ∷ hs) (suc k) d sp lt = let up = ends_above tail (h.end + 1) hs k d sp.4 (omega arith) in omega (arith, sp.0, sp.1, up)
@@ -87,7 +87,7 @@ hole_at p n tail i xs holes h e point sp begins lt at =
     let here = begins_at p n tail 0 i holes h lt sp begins before from in
     record { within = lt; before = before; at = at; start = ap (λ (x : Hole). x.start) at ∙ here.0 }
 
-taken-at : (p n tail : ℕ) (h : Hole) (hs : List Hole) → h.start ≡ p → taken p n tail (h ∷ hs) ≡ record { holes = shortened n h hs; tail = tail }
+taken-at : (p n tail : ℕ) (h : Hole) (hs : List Hole) → h.start ≡ p → taken p n tail (h ∷ hs) ≡ record { holes = shortened n h ∷ hs; tail = tail }
 unfolding taken
 taken-at p n tail h hs here = rw (eq-eqb h.start p here) refl
 
@@ -109,31 +109,16 @@ taken_tail p n tail low i holes le ge sp before =
     append_end : (xs : List Hole) (t : ℕ) → behind xs (record { holes = []; tail = t }) ≡ record { holes = xs; tail = t }
     append_end xs t = ap (λ ys. record { holes = ys; tail = t }) (append_nil xs)
 
--- a hole goes
-pub taken_whole : (p n tail low i : ℕ) (holes : List Hole) (h : Hole) → Spaced tail low holes → IsHoleAt p i holes h → p + n ≡ h.end
-    → taken p n tail holes ≡ record { holes = remove holes i; tail = tail }
-taken_whole p n tail low i holes h sp is whole =
-    let lt = is.within in
-    let start = is.start in
-    let whole' : h.start + n ≡ h.end = omega (arith, start, whole) in
-    let one : taken p n tail (drop i holes) ≡ record { holes = drop (i + 1) holes; tail = tail } =
-    ap (taken p n tail) (split_at holes i h lt is.at) ∙ taken-at p n tail h (drop (i + 1) holes) start ∙ rw (eq-eqb _ _ whole') refl in
-    taken_behind p n tail low i holes (omega (arith, lt)) sp is.before ∙ ap (behind (take i holes)) one ∙ rw add-one refl
-
-abbrev shifted : ℕ → ℕ → ℕ → Hole
-shifted k n e = record { start = k + n; end = e }
-
 -- a hole is shortened
-pub taken_part : (p n tail low i : ℕ) (holes : List Hole) (h : Hole) → Spaced tail low holes → IsHoleAt p i holes h → (p + n ≡ h.end → ⊥)
+pub taken_hole : (p n tail low i : ℕ) (holes : List Hole) (h : Hole) → Spaced tail low holes → IsHoleAt p i holes h
     → taken p n tail holes ≡ record { holes = set holes i (record { start = p + n; end = h.end }); tail = tail }
-taken_part p n tail low i holes h sp is part =
+taken_hole p n tail low i holes h sp is =
     let lt = is.within in
     let start = is.start in
     let new : Hole = record { start = p + n; end = h.end } in
-    let same : record { start = h.start + n; end = h.end } ≡ new = ap (λ (k : ℕ). shifted k n h.end) start in
-    let part' : h.start + n ≡ h.end → ⊥ = λ e. part (ap (λ (k : ℕ). k + n) (sym start) ∙ e) in
+    let same : shortened n h ≡ new = ap (λ (k : ℕ). shortened n (record h { start = k })) start in
     let one : taken p n tail (drop i holes) ≡ record { holes = new ∷ drop (i + 1) holes; tail = tail } =
-    ap (taken p n tail) (split_at holes i h lt is.at) ∙ taken-at p n tail h (drop (i + 1) holes) start ∙ rw (ne_eqb _ _ part') refl
+    ap (taken p n tail) (split_at holes i h lt is.at) ∙ taken-at p n tail h (drop (i + 1) holes) start
     ∙ ap (λ (x : Hole). record { holes = x ∷ drop (i + 1) holes; tail = tail }) same in
     taken_behind p n tail low i holes (omega (arith, lt)) sp is.before ∙ ap (behind (take i holes)) one
     ∙ ap (λ xs. record { holes = xs; tail = tail }) (sym (set_split holes i new lt ∙ rw (← add-one) refl))

@@ -12,18 +12,32 @@ Covered size tail (h ∷ hs) q = ((h.start ≤ q) × (q < h.end)) ⊎ Covered si
 abbrev pub IsFreeByte : ℕ → List Buffer → ℕ → Type 0
 IsFreeByte size buffers q = (q < size) × All (λ b. (q < b.start) ⊎ (b.start + b.size ≤ q)) buffers
 
--- holes in order of place, each behind `low` and of a byte or more, with something between each two and before the tail; their
--- ends, and the tail, are multiples of 8
+-- holes in order of place, each behind `low`, with something between each two and before the tail; their ends, and the tail,
+-- are multiples of 8. Some may be empty
 abbrev pub Spaced : ℕ → ℕ → List Hole → Type 0
 Spaced tail low [] = (low ≤ tail) × (tail % 8 ≡ 0)
-Spaced tail low (h ∷ hs) = (low ≤ h.start) × (h.start < h.end) × (h.start % 8 ≡ 0) × (h.end % 8 ≡ 0) × Spaced tail (h.end + 1) hs
+Spaced tail low (h ∷ hs) = (low ≤ h.start) × (h.start ≤ h.end) × (h.start % 8 ≡ 0) × (h.end % 8 ≡ 0) × Spaced tail (h.end + 1) hs
 
--- the holes and the tail are what no buffer spans
-pub record IsHoles (size : ℕ) (buffers : List Buffer) (tail : ℕ) (holes : List Hole) : Type 0 where
+-- no buffer goes on past a place that it begins before
+abbrev pub IsEdge : List Buffer → ℕ → Type 0
+IsEdge buffers p = All (λ b. (p ≤ b.start) ⊎ (b.start + b.size ≤ p)) buffers
+
+-- the holes and the tail are what no buffer spans, and no empty hole lies within a buffer
+pub record IsFreeSpace (size : ℕ) (buffers : List Buffer) (tail : ℕ) (holes : List Hole) : Type 0 where
   pub spaced : Spaced tail 0 holes
   pub within : tail ≤ size
   pub free : (q : ℕ) → Covered size tail holes q → IsFreeByte size buffers q
   pub covered : (q : ℕ) → IsFreeByte size buffers q → Covered size tail holes q
+  pub ends : All (λ h. IsEdge buffers h.end) holes
+
+-- and none is empty
+pub record IsHoles (size : ℕ) (buffers : List Buffer) (tail : ℕ) (holes : List Hole) : Type 0 where
+  pub space : IsFreeSpace size buffers tail holes
+  pub filled : All (λ h. h.start < h.end) holes
+
+-- a hole isn't empty
+abbrev pub is_filled : Hole → Bool
+is_filled h = nat_lt h.start h.end
 
 -- ---- the first place
 
@@ -55,14 +69,14 @@ abbrev pub Begins : ℕ → ℕ → ℕ → List Hole → Type 0
 Begins tail p n [] = p ≡ tail
 Begins tail p n (h ∷ hs) = ((h.start ≡ p) × (p + n ≤ h.end)) ⊎ ((h.end < p) × Begins tail p n hs)
 
--- a hole without its first n bytes, before others
-abbrev pub shortened : ℕ → Hole → List Hole → List Hole
-shortened n h hs = if h.start + n == h.end then hs else record { start = h.start + n; end = h.end } ∷ hs
+-- a hole without its first n bytes. It stays where that are all
+abbrev pub shortened : ℕ → Hole → Hole
+shortened n h = record { start = h.start + n; end = h.end }
 
 -- without n bytes at p, where a hole or the tail begins
 unfoldable pub taken : ℕ → ℕ → ℕ → List Hole → Free
 taken p n tail [] = record { holes = []; tail = tail + n }
-taken p n tail (h ∷ hs) = if h.start == p then record { holes = shortened n h hs; tail = tail } else after h (taken p n tail hs)
+taken p n tail (h ∷ hs) = if h.start == p then record { holes = shortened n h ∷ hs; tail = tail } else after h (taken p n tail hs)
 
 -- with a span before all of it, as one with the first hole or the tail where they touch
 abbrev pub joined : ℕ → ℕ → ℕ → List Hole → Free

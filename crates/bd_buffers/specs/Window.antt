@@ -8,7 +8,7 @@ use Rattle.bd_buffers.specs.declared.hole.Hole.{Hole}
 use Rattle.bd_buffers.specs.declared.rows.Rows.{Rows}
 use Rattle.bd_buffers.specs.declared.ground.Ground.{Ground}
 use Rattle.bd_words.specs.Look.{word_room}
-use Rattle.bd_buffers.specs.Holes.{IsHoles}
+use Rattle.bd_buffers.specs.Holes.{IsFreeSpace}
 use Rattle.bd_buffers.specs.Bounds.{IsBounded, reaches}
 use Rattle.bd_buffers.specs.Rows.{live}
 use Rattle.bd_buffers.specs.Spots.{AreSpots}
@@ -53,7 +53,7 @@ pub record IsWindow (size : ℕ) (buffers : List Buffer) : Type 0 where
 -- its pointer, and each sender's sum is what its one-way buffers take. A buffer pays for the hole that it leaves, so that its end takes no memory
 pub record Keeps (buffers : List Buffer) (g : Ground) : Type 0 where
   pub window : IsWindow g.size buffers
-  pub free : IsHoles g.size buffers g.tail g.holes.items
+  pub free : IsFreeSpace g.size buffers g.tail g.holes.items
   pub starts : AreSpots buffers g.spots
   pub total : g.one_way ≡ one_way_size buffers
   pub sums : AreSums buffers g.senders

@@ -31,7 +31,7 @@ pub(crate) struct Ground {
     pub(crate) senders: WordMap<u32>,
     // Where the buffers were made, by their pointers.
     pub(crate) spots: WordMap<u32>,
-    // What is free between the buffers, in order of place. No two holes touch.
+    // What is free between the buffers, in order of place. No two holes touch; some are empty.
     pub(crate) holes: Vec<Hole>,
     // Where the last buffer ends. All is free from there on.
     pub(crate) tail: u32,

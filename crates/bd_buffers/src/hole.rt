@@ -7,7 +7,8 @@ ghost use Rattle.bd_buffers.specs.Bounds.{IsBounded};
 
 use crate::bounds::{Bounds, index_in};
 
-// A free span that ends where a buffer begins.
+// A free span that ends where a buffer begins. It is empty once a buffer has taken all of it: so those behind it
+// needn't move, nor when it is given back.
 #[derive(Clone, Copy)]
 pub(crate) struct Hole {
     pub(crate) start: u32,
@@ -103,12 +104,10 @@ pub(crate) fn take(holes: &mut Vec<Hole>, tail: u32, place: u32, n: u32) -> u32
         return tail + n;
     }
     let end = holes[i].end;
-    if place + n == end {
-        holes.remove(i);
-    } else {
-        let start = place + n;
-        holes[i] = Hole { start, end };
-    }
+    holes[i] = Hole {
+        start: place + n,
+        end,
+    };
     tail
 }
 

@@ -33,7 +33,9 @@ pub struct Window {
 }
 
 impl Model for Window {
+    ghost use Rattle.std.specs.Prelude.{filter};
     ghost use Rattle.bd_buffers.specs.Rows.{live};
+    ghost use Rattle.bd_buffers.specs.Holes.{is_filled};
     ghost use Rattle.bd_buffers.specs.Window.{WindowView, Keeps, room_left};
 
     ghost Value = { WindowView };
@@ -41,7 +43,7 @@ impl Model for Window {
     ghost view = { λ w. record {
       size = w.ground.size;
       buffers = live w.buffers.rows;
-      holes = w.ground.holes.items;
+      holes = filter is_filled w.ground.holes.items;
       tail = w.ground.tail;
       room = room_left w.buffers w.ground;
     } };

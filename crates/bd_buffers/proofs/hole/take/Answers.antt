@@ -1,8 +1,7 @@
-use Rattle.std.proofs.Common.{◌≤◌, ◌<◌, ap, ◌∙◌, sym, arith, length, subst, List}
+use Rattle.std.proofs.Common.{◌≤◌, ◌<◌, ap, sym, arith, length, subst, List}
 use Rattle.std.specs.List.Sorted.{IsNonDecreasingBy}
 use Rattle.bd_buffers.specs.declared.hole.Hole.{Hole}
-use Rattle.bd_buffers.specs.Holes.{Free}
-use Rattle.bd_buffers.proofs.Split.{before_of, in_order, hole_at, taken_tail, taken_whole, taken_part}
+use Rattle.bd_buffers.proofs.Split.{before_of, in_order, hole_at, taken_tail, taken_hole}
 use Rattle.bd_buffers.proofs.hole.take.Goals as goal
 
 pub index_from-i-requires : goal.index_from-i-requires
@@ -19,21 +18,10 @@ returns-then-i-len-clause-left c =
     let ge : i ≤ length holes = omega (arith, c.index_from-i.ensures.within, ap (λ (xs : List Hole). length xs) c.deref.ensures.value) in
     taken_tail c.args.place c.args.n c.args.tail 0 i holes le ge c.requires.spaced before
 
-pub returns-then-place-n-clause-left : goal.returns-then-place-n-clause-left
-returns-then-place-n-clause-left c =
+pub returns-clause-left : goal.returns-clause-left
+returns-clause-left c =
     let holes = c.args.holes.now.items in
     let i = c.index_from-i.result in
     let lt : i < length holes = omega (arith, c.if-i-len.false, c.len.ensures, c.args.holes.now.ok, c.index_from-i.ensures.within, ap (λ (xs : List Hole). length xs) c.deref.ensures.value) in
-    let at = hole_at c.args.place c.args.n c.args.tail i _ holes c.index.result.now c.deref.ensures.value c.index_from-i.ensures.point c.requires.spaced c.requires.begins lt c.index.ensures in
-    let left : Free = record { holes = c.remove.new.self.items; tail = c.args.tail } in
-    taken_whole c.args.place c.args.n c.args.tail 0 i holes c.index.result.now c.requires.spaced at c.if-place-n.true
-    ∙ ap (λ xs. record left { holes = xs }) (sym c.remove.ensures.items)
-
-pub returns-else-place-n-clause-left : goal.returns-else-place-n-clause-left
-returns-else-place-n-clause-left c =
-    let holes = c.args.holes.now.items in
-    let i = c.index_from-i.result in
-    let lt : i < length holes = omega (arith, c.if-i-len.false, c.len.ensures, c.args.holes.now.ok, c.index_from-i.ensures.within, ap (λ (xs : List Hole). length xs) c.deref.ensures.value) in
-    taken_part c.args.place c.args.n c.args.tail 0 i holes c.index.result.now c.requires.spaced
+    taken_hole c.args.place c.args.n c.args.tail 0 i holes c.index.result.now c.requires.spaced
     (hole_at c.args.place c.args.n c.args.tail i _ holes c.index.result.now c.deref.ensures.value c.index_from-i.ensures.point c.requires.spaced c.requires.begins lt c.index.ensures)
-    c.if-place-n.false

@@ -13,7 +13,7 @@ use Rattle.bd_buffers.specs.declared.ground.Ground.{Ground}
 use Rattle.bd_buffers.specs.Rows.{live}
 use Rattle.bd_buffers.specs.Stands.{CanHold}
 use Rattle.bd_buffers.specs.Spots.{spot_key}
-use Rattle.bd_buffers.specs.Holes.{Free, IsHoles}
+use Rattle.bd_buffers.specs.Holes.{Free, IsFreeSpace}
 use Rattle.bd_buffers.specs.Sums.{sum_at, AreSums}
 use Rattle.bd_buffers.specs.Window.{IsWindow, Keeps}
 use Rattle.bd_buffers.proofs.Bounded.{hole_room}
@@ -125,13 +125,13 @@ invariant_of-self c =
       bounds = cut.bounds;
     } in
     let P : List Buffer → Type 0 = λ xs. Keeps xs left in
-    let H : Free → Type 0 = λ f. IsHoles g.size (bs ++ b ∷ []) f.tail f.holes in
+    let H : Free → Type 0 = λ f. IsFreeSpace g.size (bs ++ b ∷ []) f.tail f.holes in
     let noted : WordMap ℕ → Type 0 = λ spots. (k : WordKey) → look c.insert.new.self k ≡ cond (same_word (spot_key (pointer b)) k) (Some b.made) (look spots k) in
     let put : noted cut.spots = λ k. subst (λ key. look c.insert.new.self k ≡ cond (same_word key k) (Some b.made) (look cut.spots k)) same (c.insert.ensures.put k) in
     let more = length_push bs b in
     subst P (sym c.push.ensures.live) (record {
       window = subst (λ n. IsWindow n (bs ++ b ∷ [])) (sym others.0) (window_push g.size bs b c.self.invariant.window newest sized place);
-      free = subst (λ n. IsHoles n (bs ++ b ∷ []) cut.tail cut.holes.items) (sym others.0)
+      free = subst (λ n. IsFreeSpace n (bs ++ b ∷ []) cut.tail cut.holes.items) (sym others.0)
           (subst H c.cut.ensures.left (holes_taken g.size g.tail b.size b.start bs g.holes.items b c.self.invariant.free (omega (arith, sized)) free.inside fit refl refl));
       starts = spots_noted bs b g.spots c.insert.new.self c.self.invariant.starts new (subst noted others.2 put);
       total = omega (arith, total, pushed, share, one_way);
