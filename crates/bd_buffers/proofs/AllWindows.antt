@@ -1,6 +1,7 @@
 -- The windows of all live processes through each change.
 use Rattle.std.proofs.Common.{◌≡◌, ◌≢◌, ℕ, zero, suc, ◌+◌, ◌<◌, ◌≤◌, Bool, true, false, cond, List, [], ◌∷◌, ◌++◌, length, get_or, set, map, refl, ap, sym, ◌∙◌, arith, subst, All, eq-eqb, ne_eqb, Some, None, Ok, Err, nat_lt, rules, tests}
-use Rattle.std.specs.Prelude.{◌==◌, ◌||◌, not, filter, find, Option, AllPairs, option_map, IfOk, Result}
+use Rattle.std.specs.Prelude.{◌==◌, ◌||◌, not, filter, find, Option, AllPairs, MatchOption, option_copied, option_map, IfOk, IfSome, Result}
+use denote.Ref.{Bor}
 use Rattle.std.specs.List.{position, position_or_len}
 use Rattle.bd_uapi.specs.declared.fault.Cause.{Cause}
 use Rattle.std.proofs.lemmas.Bool.{false≢true, eqb-true}
@@ -165,29 +166,39 @@ older t bound p ps bs w stands found = by_process (process_in ps p) (sym (ap (op
         let P : List Buffer → Type 0 = λ xs. All (λ b. b.made < bound) xs in
         subst P (sym (ap (λ (x : ProcessWindow). x.buffers) same)) (All-filter (λ b. b.receiver == q.made) (λ b. b.made < bound) bs stands.made.buffers_before)
 
+is_process : (ps : List Process) (p : ℕ) (q : Process) → process_in ps p ≡ Some q → q.made ≡ p
+is_process ps p q e = eqb-true q.made p (found_has (λ x. Unit) (λ (x : Process). x.made == p) ps q e (λ k d h. tt)).1
+
 -- the window of a live process is found
-pub owner_found : (t : Windows) (bound p : ℕ) (ps : List Process) (bs : List Buffer) (q : Process) (w : OwnedWindow) → WindowsOf t bound ps bs
-    → process_in ps p ≡ Some q → find (is_owned_by p) t.windows ≡ Some w → Stands w.window q.window (buffers_of bs q.made)
+owner_found : (t : Windows) (bound p : ℕ) (ps : List Process) (bs : List Buffer) (q : Process) (w : OwnedWindow) → WindowsOf t bound ps bs
+    → process_in ps p ≡ Some q → find (is_owned_by p) t.windows ≡ Some w → Stands w.window q.window (buffers_of bs p)
 owner_found t bound p ps bs q w stands lives found =
     let both : Some (seen w) ≡ Some (window_of bs q) = sym (ap (option_map seen) found) ∙ owned t bound p ps bs stands ∙ ap (option_map (window_of bs)) lives in
     let same : seen w ≡ window_of bs q = cc in
-    record { size_is = ap (λ (x : ProcessWindow). x.size) same; buffers_are = ap (λ (x : ProcessWindow). x.buffers) same }
+    record { size_is = ap (λ (x : ProcessWindow). x.size) same; buffers_are = ap (λ (x : ProcessWindow). x.buffers) same ∙ ap (buffers_of bs) (is_process ps p q lives) }
 
-pub owner_missed : (t : Windows) (bound p : ℕ) (ps : List Process) (bs : List Buffer) (q : Process) → WindowsOf t bound ps bs
+owner_missed : (t : Windows) (bound p : ℕ) (ps : List Process) (bs : List Buffer) (q : Process) → WindowsOf t bound ps bs
     → process_in ps p ≡ Some q → find (is_owned_by p) t.windows ≡ None → ⊥
 owner_missed t bound p ps bs q stands lives found =
     let both : None ≡ Some (window_of bs q) = sym (ap (option_map seen) found) ∙ owned t bound p ps bs stands ∙ ap (option_map (window_of bs)) lives in
     cc
 
 -- a process that doesn't live has no window
-pub owner_gone : (t : Windows) (bound p : ℕ) (ps : List Process) (bs : List Buffer) (w : OwnedWindow) → WindowsOf t bound ps bs
+owner_gone : (t : Windows) (bound p : ℕ) (ps : List Process) (bs : List Buffer) (w : OwnedWindow) → WindowsOf t bound ps bs
     → process_in ps p ≡ None → find (is_owned_by p) t.windows ≡ Some w → ⊥
 owner_gone t bound p ps bs w stands gone found =
     let both : Some (seen w) ≡ None = sym (ap (option_map seen) found) ∙ owned t bound p ps bs stands ∙ ap (option_map (window_of bs)) gone in
     cc
 
-pub is_process : (ps : List Process) (p : ℕ) (q : Process) → process_in ps p ≡ Some q → q.made ≡ p
-is_process ps p q e = eqb-true q.made p (found_has (λ x. Unit) (λ (x : Process). x.made == p) ps q e (λ k d h. tt)).1
+pub lives_as : (t : Windows) (bound p : ℕ) (ps : List Process) (bs : List Buffer) (q : Process) (r : Option (Bor OwnedWindow)) → option_copied r ≡ find (is_owned_by p) t.windows
+    → WindowsOf t bound ps bs → process_in ps p ≡ Some q → MatchOption r ⊥ (λ w. Stands w.now.window q.window (buffers_of bs p))
+lives_as t bound p ps bs q None found stands lives = owner_missed t bound p ps bs q stands lives (sym found)
+lives_as t bound p ps bs q (Some w) found stands lives = owner_found t bound p ps bs q w.now stands lives (sym found)
+
+pub gone_as : (t : Windows) (bound p : ℕ) (ps : List Process) (bs : List Buffer) (r : Option (Bor OwnedWindow)) → option_copied r ≡ find (is_owned_by p) t.windows
+    → WindowsOf t bound ps bs → process_in ps p ≡ None → IfSome r (λ w. ⊥)
+gone_as t bound p ps bs None found stands gone = tt
+gone_as t bound p ps bs (Some w) found stands gone = owner_gone t bound p ps bs w.now stands gone (sym found)
 
 -- the window at the place that is found
 pub record IsAt (t : Windows) (p i : ℕ) (w : OwnedWindow) : Type 0 where
@@ -349,7 +360,7 @@ looked_up t bound made p ps bs w stands home found = by_process (process_in ps p
     by_process None e = absurd (owner_gone t bound p ps bs w stands e found)
     by_process (Some q) e =
         let own = owner_found t bound p ps bs q w stands e found in
-        ap (λ xs. buffer_in xs made) own.buffers_are ∙ ap (λ m. buffer_in (buffers_of bs m) made) (is_process ps p q e) ∙ home_finds t.homes bs made p stands.made.buffers_in_order stands.homes_are home
+        ap (λ xs. buffer_in xs made) own.buffers_are ∙ home_finds t.homes bs made p stands.made.buffers_in_order stands.homes_are home
 
 pub looked_past : (t : Windows) (bound made p : ℕ) (ps : List Process) (bs : List Buffer) → WindowsOf t bound ps bs → look t.homes (home_key made) ≡ Some p
     → find (is_owned_by p) t.windows ≡ None → buffer_in bs made ≡ None
@@ -380,7 +391,7 @@ held t bound p ps bs stands = by_window (find (is_owned_by p) t.windows) (proces
     by_window None None e f = sym (none_received ps p bs f stands.made.received)
     by_window None (Some q) e f = absurd (owner_missed t bound p ps bs q stands f e)
     by_window (Some w) None e f = absurd (owner_gone t bound p ps bs w stands f e)
-    by_window (Some w) (Some q) e f = (owner_found t bound p ps bs q w stands f e).buffers_are ∙ ap (buffers_of bs) (is_process ps p q f)
+    by_window (Some w) (Some q) e f = (owner_found t bound p ps bs q w stands f e).buffers_are
 
 -- the homes left where those of one process's buffers go
 pub homes_left : (t : Windows) (bound p : ℕ) (ps : List Process) (bs : List Buffer) (left : WordMap ℕ) → WindowsOf t bound ps bs
@@ -427,6 +438,11 @@ one_changed ws p i w x f order e at is =
     let here : (d : ProcessWindow) → (get_or (map seen ws) i d).owner ≡ p = λ d. ap owner (get_or-map seen ws i w d within) ∙ eqb-true (get_or ws i w).owner p there.1 in
     map-set seen ws i x ∙ ap (set (map seen ws) i) (is ∙ ap (with_buffers f) (ap seen at ∙ sym (list.get_or-map seen ws i w)))
     ∙ sym (changed_at owner (with_buffers f) p (map seen ws) i (seen w) (distinct owner (map seen ws) (rising_seen ws w order)) (omega (arith, within, length-map ws seen)) here)
+
+-- and where what is made of the window is that of its buffers
+pub one_made : (ws : List OwnedWindow) (p i : ℕ) (w : OwnedWindow) (new : Window) (f : List Buffer → List Buffer) → AreInOrder ws → position (is_owned_by p) ws ≡ Some i → w ≡ get_or ws i w
+    → Stands new w.window.size (f w.window.buffers) → map seen (set ws i (record w { window = new })) ≡ changed (is_of p) (with_buffers f) (map seen ws)
+one_made ws p i w new f order e at stands = one_changed ws p i w (record w { window = new }) f order e at (seen_as (record w { window = new }) w f refl stands)
 
 pub one_missed : (ws : List OwnedWindow) (p : ℕ) (f : List Buffer → List Buffer) → position (is_owned_by p) ws ≡ None → map seen ws ≡ changed (is_of p) (with_buffers f) (map seen ws)
 one_missed ws p f e =

@@ -140,8 +140,14 @@ but_one size place b f is whole all =
     }
 
 -- and so are all where one block is made anew for being exact
-pub but_none : (size place : ℕ) (b : Bounds) (f : Free) → AreWithin size f → reaches size b ≡ true → All (IsBounded b) f.holes → AreBoundedBut b place f.holes
+but_none : (size place : ℕ) (b : Bounds) (f : Free) → AreWithin size f → reaches size b ≡ true → All (IsBounded b) f.holes → AreBoundedBut b place f.holes
 but_none size place b f is whole all = but_one size place b f is whole (All-weaker (IsBounded b) (λ h. IsBounded b h ⊎ (h.start ≡ place)) (λ h own. inl own) f.holes all)
+
+-- where another was made anew before
+pub but_none_more : (size place : ℕ) (old b : Bounds) (f : Free) (xs : List Hole) → AreWithin size f → reaches size old ≡ true → IsAsLong old b → xs ≡ f.holes → All (IsBounded b) xs
+    → AreBoundedBut b place f.holes
+but_none_more size place old b f xs is whole long same all =
+    but_none size place b f is (reaches_same size old b long ∙ whole) (subst (λ ys. All (IsBounded b) ys) same all)
 
 -- ---- the holes of a block, the blocks of a run
 

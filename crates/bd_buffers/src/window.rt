@@ -163,6 +163,7 @@ impl Window {
     }
 
     /// Makes room to note one more buffer. The window stays as it was, also on an `Err`.
+    #[tactic(auto, unfolding(crate::specs::Stands::CanHold))]
     pub fn reserve(&mut self) -> Result<(), AllocError>
         ensures stands { WindowMakes (Stands self.old) (Stands self.new) (λ bs. bs) }
         ensures can_take { (one_way : Bool) (size start : ℕ) → CanHold self.old one_way size start

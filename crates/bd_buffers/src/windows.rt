@@ -1,6 +1,6 @@
 //! The windows of all live processes.
 
-ghost use Rattle.std.specs.Prelude.{◌≡◌, ◌≤◌, ◌++◌, ℕ, Bool, false, IfOk, IfSome, OnOk, OnErr, Some, None, Err, length, List, [], map, option_map};
+ghost use Rattle.std.specs.Prelude.{◌≡◌, ◌≤◌, ◌++◌, ℕ, Bool, false, find, IfOk, IfSome, MatchOption, OnOk, OnErr, Some, None, Err, length, List, [], map, option_map};
 ghost use Rattle.std.specs.Option.{option_copied};
 ghost use Rattle.bd_uapi.specs.declared.fault.Cause.TheVariants.{NoRoom};
 ghost use Rattle.bd_space.specs.declared.space.Process.{Process};
@@ -16,7 +16,7 @@ ghost use Rattle.bd_space.specs.ReadItems.{buffer_taken, read_by};
 ghost use Rattle.bd_space.specs.Steps.{with_process};
 ghost use Rattle.bd_space.specs.ProcessExits.{without_process};
 ghost use Rattle.bd_space.specs.Tables.{Tells, Makes};
-ghost use Rattle.bd_buffers.specs.WindowsStand.{StandsFor, StandsIn, Stands, window_room, buffer_room, made_of_buffer, CanAdd, IsInWindow};
+ghost use Rattle.bd_buffers.specs.WindowsStand.{StandsFor, StandsIn, Stands, window_room, buffer_room, made_of_buffer, is_owned_by, CanAdd, IsInWindow};
 
 use crate::home::home_key;
 use crate::owned::{
@@ -95,6 +95,16 @@ impl Windows {
         }
     }
 
+    // The window of a process, where it lives.
+    fn owned(&self, p: u32) -> Option<&OwnedWindow>
+        ensures found { option_copied result ≡ find (is_owned_by p) self.now.windows }
+        ensures lives { (s : Space) (q : Process) → StandsIn self.now s → process_in s.processes p ≡ Some q
+            → MatchOption result ⊥ (λ w. Stands w.now.window q.window (buffers_of s.buffers p)) }
+        ensures gone { (s : Space) → StandsIn self.now s → process_in s.processes p ≡ None → IfSome result (λ w. ⊥) }
+    {
+        owned_by(&self.windows, p)
+    }
+
     /// Where a buffer for data and offsets of these sizes in bytes would begin in the window of a process.
     /// `NoRoom` where there is no room or no such process; `OverBudget` where one-way buffers would take more than
     /// half of the window.
@@ -111,7 +121,7 @@ impl Windows {
         ensures fits { IfOk result (λ start. needed data_size offsets_size ≤ 4194304) }
         ensures no_process { (s : Space) → StandsIn self.now s → process_in s.processes p ≡ None → result ≡ Err NoRoom }
     {
-        match owned_by(&self.windows, p) {
+        match self.owned(p) {
             None => Err(Cause::NoRoom),
             Some(w) => {
                 w.window.check();
@@ -127,7 +137,7 @@ impl Windows {
             → result ≡ floods q.window (buffers_of s.buffers p) sender }
         ensures no_process { (s : Space) → StandsIn self.now s → process_in s.processes p ≡ None → result ≡ false }
     {
-        match owned_by(&self.windows, p) {
+        match self.owned(p) {
             None => false,
             Some(w) => w.window.floods(sender),
         }
@@ -172,7 +182,7 @@ impl Windows {
         ensures placed { IfSome result (λ b. IsInWindow b.now) }
     {
         let p = self.homes.get(home_key(made))?;
-        let w = owned_by(&self.windows, p)?;
+        let w = self.owned(p)?;
         w.window.buffer(made)
     }
 
@@ -183,7 +193,7 @@ impl Windows {
         ensures placed { IfSome result (λ b. IsInWindow b.now) }
         ensures no_process { (s : Space) → StandsIn self.now s → process_in s.processes p ≡ None → result ≡ None }
     {
-        match owned_by(&self.windows, p) {
+        match self.owned(p) {
             None => None,
             Some(w) => w.window.buffer_at_pointer(pointer),
         }
@@ -195,7 +205,7 @@ impl Windows {
         ensures { OnOk result (Tells (StandsIn self.now) places.new.items
             (λ s. places.old.items ++ map made_of_buffer (buffers_of s.buffers p))) }
     {
-        match owned_by(&self.windows, p) {
+        match self.owned(p) {
             None => Ok(()),
             Some(w) => w.window.list_made(places),
         }

@@ -1,8 +1,7 @@
-use Rattle.std.proofs.Common.{◌∙◌, All, List, subst}
-use Rattle.bd_buffers.specs.declared.hole.Hole.{Hole}
+use Rattle.std.proofs.Common.{All, subst}
 use Rattle.bd_buffers.specs.Holes.{Free}
 use Rattle.bd_buffers.specs.Bounds.{IsBounded, AreWithin}
-use Rattle.bd_buffers.proofs.Bounded.{IsKept, released_kept, spanned, but_one, but_none, reaches_same}
+use Rattle.bd_buffers.proofs.Bounded.{IsKept, released_kept, spanned, but_one, but_none_more}
 use Rattle.bd_buffers.proofs.ground.Ground.restore.Goals as goal
 
 pub refresh-requires : goal.refresh-requires
@@ -18,9 +17,6 @@ refresh-requires c =
 pub refresh-requires-2 : goal.refresh-requires-2
 refresh-requires-2 c =
     let g = c.args.self.now in
-    let b = c.refresh.new.self in
-    let f : Free = record { holes = c.give_back-self.new.holes.items; tail = c.give_back-self.result } in
-    let P : List Hole → Type 0 = λ xs. All (IsBounded b) xs in
     rw c.deref-3.ensures.value
-    (but_none g.size c.args.end b f (subst (AreWithin g.size) c.give_back-self.ensures.left c.requires.later) (reaches_same g.size g.bounds b c.refresh.ensures.len ∙ c.requires.bounds.ready)
-    (subst P c.deref-2.ensures.value c.refresh.ensures.bounded))
+    (but_none_more g.size c.args.end g.bounds c.refresh.new.self _ _ (subst (AreWithin g.size) c.give_back-self.ensures.left c.requires.later) c.requires.bounds.ready c.refresh.ensures.len c.deref-2.ensures.value
+    c.refresh.ensures.bounded)

@@ -1,8 +1,7 @@
-use Rattle.std.proofs.Common.{◌≡◌, ◌+◌, ◌∙◌, Some, None, refl, ap, sym, find}
+use Rattle.std.proofs.Common.{◌≡◌, ◌+◌, ◌∙◌, Some, None, refl, ap, sym}
 use Rattle.bd_words.specs.Look.{look}
 use Rattle.bd_space.specs.declared.space.Buffer.{Buffer}
 use Rattle.bd_buffers.specs.declared.windows.Windows.{Windows}
-use Rattle.bd_buffers.specs.WindowsStand.{is_owned_by}
 use Rattle.bd_buffers.specs.Homes.{home_key}
 use Rattle.bd_buffers.proofs.Made.{find_none}
 use Rattle.bd_buffers.proofs.Homes.{none_home}
@@ -24,7 +23,7 @@ returns-in_err-w-clause-found c = λ s stands.
     let p = c.in_ok-p.p in
     let home : look t.homes (home_key made) ≡ Some p =
     sym (c.in_ok-p.ensures ∙ ap (look c.self.inside.homes) c.home_key.ensures ∙ ap (λ (v : Windows). look v.homes (home_key made)) c.self.view_is) in
-    let missed = sym (c.in_err-w.ensures ∙ ap (find (is_owned_by p)) c.deref.ensures.value ∙ ap (λ (v : Windows). find (is_owned_by p) v.windows) c.self.view_is) in
+    let missed = sym c.in_err-w.ensures.found in
     rw c.from_residual-in_err-w.ensures (sym (looked_past t (s.steps + 1) made p s.processes s.buffers stands home missed))
 
 pub returns-clause-found : goal.returns-clause-found
@@ -35,5 +34,5 @@ returns-clause-found c = λ s stands.
     let w = c.in_ok-w.w.now in
     let home : look t.homes (home_key made) ≡ Some p =
     sym (c.in_ok-p.ensures ∙ ap (look c.self.inside.homes) c.home_key.ensures ∙ ap (λ (v : Windows). look v.homes (home_key made)) c.self.view_is) in
-    let found = sym (c.in_ok-w.ensures ∙ ap (find (is_owned_by p)) c.deref.ensures.value ∙ ap (λ (v : Windows). find (is_owned_by p) v.windows) c.self.view_is) in
+    let found = sym c.in_ok-w.ensures.found in
     c.buffer.ensures.found w.window.size w.window.buffers (record { size_is = refl; buffers_are = refl }) ∙ looked_up t (s.steps + 1) made p s.processes s.buffers w stands home found

@@ -1,7 +1,6 @@
-use Rattle.std.proofs.Common.{◌∙◌, ap, sym, ◌+◌, ◌++◌, append-nil, map, find}
+use Rattle.std.proofs.Common.{◌∙◌, ap, sym, ◌+◌, ◌++◌, append-nil, map}
 use Rattle.std.specs.Prelude.{Result, Ok, Err, OnOk}
-use Rattle.bd_buffers.specs.declared.windows.Windows.{Windows}
-use Rattle.bd_buffers.specs.WindowsStand.{is_owned_by, buffers_held, made_of_buffer}
+use Rattle.bd_buffers.specs.WindowsStand.{buffers_held, made_of_buffer}
 use Rattle.bd_buffers.proofs.AllWindows.{held}
 use Rattle.bd_buffers.proofs.windows.Windows.list_made.Goals as goal
 
@@ -11,13 +10,11 @@ if_ok (Err e) P Q f h = tt
 
 pub returns-in-None : goal.returns-in-None
 returns-in-None c = λ s stands.
-    let found = sym (c.in-None.ensures ∙ ap (find (is_owned_by c.args.p)) c.deref.ensures.value ∙ ap (λ (v : Windows). find (is_owned_by c.args.p) v.windows) c.self.view_is) in
     let places = c.args.places.now.items in
-    sym (append-nil places) ∙ ap (λ bs. places ++ map made_of_buffer bs) (sym (ap buffers_held found) ∙ held c.args.self.now (s.steps + 1) c.args.p s.processes s.buffers stands)
+    sym (append-nil places) ∙ ap (λ bs. places ++ map made_of_buffer bs) (ap buffers_held c.in-None.ensures.found ∙ held c.args.self.now (s.steps + 1) c.args.p s.processes s.buffers stands)
 
 pub returns-in-Some : goal.returns-in-Some
 returns-in-Some c =
-    let found = sym (c.in-Some.ensures ∙ ap (find (is_owned_by c.args.p)) c.deref.ensures.value ∙ ap (λ (v : Windows). find (is_owned_by c.args.p) v.windows) c.self.view_is) in
     let places = c.args.places.now.items in
     if_ok c.list_made.result _ _ (λ listed s stands.
-    listed ∙ ap (λ bs. places ++ map made_of_buffer bs) (sym (ap buffers_held found) ∙ held c.args.self.now (s.steps + 1) c.args.p s.processes s.buffers stands)) c.list_made.ensures
+    listed ∙ ap (λ bs. places ++ map made_of_buffer bs) (ap buffers_held c.in-Some.ensures.found ∙ held c.args.self.now (s.steps + 1) c.args.p s.processes s.buffers stands)) c.list_made.ensures
