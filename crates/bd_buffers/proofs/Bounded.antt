@@ -1,9 +1,10 @@
 -- What the bounds of the holes let a search go past, and what stays bounded.
-use Rattle.std.proofs.Common.{◌≡◌, ℕ, zero, suc, ◌+◌, ◌-◌, ◌*◌, ◌/◌, ◌<◌, ◌≤◌, Bool, true, false, cond, List, [], ◌∷◌, length, get_or, drop, refl, ap, ◌&&◌, ◌∙◌, subst, arith, All, inl, inr, ◌⊎◌}
+use Rattle.std.proofs.Common.{◌≡◌, ℕ, zero, suc, ◌+◌, ◌-◌, ◌*◌, ◌/◌, ◌<◌, ◌≤◌, Bool, true, false, cond, List, [], ◌∷◌, length, get_or, drop, refl, ap, ◌&&◌, ◌∙◌, subst, arith, All, inl, inr, ◌⊎◌, leb}
 use Rattle.std.specs.Prelude.{find, min, vec_len, vec_capacity}
 use Rattle.std.specs.List.{between}
-use Rattle.std.specs.List.Sorted.{IsNonDecreasingBy, IsPartitionPoint}
-use Rattle.std.proofs.lemmas.Bool.{cases_lt, lt-leb, leb-true}
+use Rattle.std.specs.List.Sorted.{IsNonDecreasingBy, IsPartitionedBy, IsPartitionPoint}
+use Rattle.std.proofs.lemmas.List.Sorted.{IsPartitionedBy-leb}
+use Rattle.std.proofs.lemmas.Bool.{cases_lt, lt-leb, leb-true, leb-false}
 use Rattle.std.proofs.lemmas.List.Edits.{length-between, get_or-between}
 use Rattle.std.proofs.lemmas.List.Elements.{All-weaker}
 use Rattle.bd_buffers.specs.declared.hole.Hole.{Hole}
@@ -15,7 +16,7 @@ use Rattle.bd_buffers.specs.Rows.{live}
 use Rattle.bd_buffers.specs.Window.{room_left}
 use Rattle.bd_buffers.specs.Holes.{Free, Spaced, has_room, taken, released}
 use Rattle.bd_buffers.specs.Bounds.{IsBounded, reaches, IsAsLong, AreBoundedBut, AreWithin}
-use Rattle.bd_buffers.proofs.Split.{no_hole}
+use Rattle.bd_buffers.proofs.Split.{in_order, no_hole}
 use Rattle.bd_buffers.proofs.EachHole.{taken_each, released_each}
 
 -- ---- holes in order
@@ -57,15 +58,17 @@ in_block_order tail holes sp i j d le lt =
     ]
 
 -- the hole that spans a place is where a search for its end leads
-pub spans_at : (tail i place begin : ℕ) (holes : List Hole) → Spaced tail 0 holes → IsPartitionPoint (λ h. h.end ≤ place) (λ h. place < h.end) holes i
+pub spans_at : (tail i place begin : ℕ) (holes : List Hole) → Spaced tail 0 holes
+    → (IsPartitionedBy (λ h. leb h.end place) holes → IsPartitionPoint (λ h. leb h.end place ≡ true) (λ h. leb h.end place ≡ false) holes i)
     → ((d : Hole) → i < length holes → (get_or holes i d).start ≡ begin) → All (λ h. h.start ≤ place → place < h.end → h.start ≡ begin) holes
-spans_at tail i place begin holes sp point at k d lt = λ low high.
+spans_at tail i place begin holes sp searched at k d lt = λ low high.
+    let point = searched (IsPartitionedBy-leb (λ (h : Hole). h.end) holes place (in_order tail 0 holes sp)) in
     elim (cases_lt k i) [
-      | inl before ↦ (let ends = point.0 k d (omega arith) before in absurd (omega (arith, ends, high)))
+      | inl before ↦ (let ends = leb-true _ _ (point.0 k d (omega arith) before) in absurd (omega (arith, ends, high)))
       | inr ge ↦ elim (cases_lt i k) [
         | inl after ↦ (
             let ends = ends_first tail 0 holes i k d sp after lt in
-            let from = point.1 i d (omega arith) (omega arith) in
+            let from = leb-false _ _ (point.1 i d (omega arith) (omega arith)) in
             absurd (omega (arith, ends, from, low)))
         | inr le ↦ (let same : k ≡ i = omega arith in rw same (at d (omega arith)))
       ]

@@ -1,10 +1,11 @@
 -- Lists in which a key rises: an element is found by its key alone.
-use Rattle.std.proofs.Common.{◌≡◌, ℕ, zero, suc, ◌-◌, ◌<◌, ◌≤◌, Bool, true, false, cond, List, [], ◌∷◌, ◌++◌, length, get_or, set, refl, ap, sym, ◌∙◌, arith, All, eq-eqb, ne_eqb, inl, inr}
+use Rattle.std.proofs.Common.{◌≡◌, ℕ, zero, suc, ◌-◌, ◌<◌, ◌≤◌, Bool, true, false, cond, List, [], ◌∷◌, ◌++◌, length, get_or, set, refl, ap, sym, ◌∙◌, arith, All, eq-eqb, ne_eqb, ltb, inl, inr}
 use Rattle.std.specs.Prelude.{◌==◌, not, find, filter, remove, Some, None, Option, option_map, AllPairs}
 use Rattle.std.specs.List.{slice_get}
 use Rattle.std.proofs.lemmas.Option.{get_or_from_slice_get}
-use Rattle.std.specs.List.Sorted.{IsNonDecreasingBy}
-use Rattle.std.proofs.lemmas.Bool.{cases_lt, eqb-true}
+use Rattle.std.specs.List.Sorted.{IsNonDecreasingBy, IsPartitionedBy, IsPartitionPoint}
+use Rattle.std.proofs.lemmas.Bool.{cases_lt, eqb-true, ltb-true, ltb-false}
+use Rattle.std.proofs.lemmas.List.Sorted.{IsPartitionedBy-ltb}
 use Rattle.std.proofs.lemmas.List.Elements.{All-head, All-tail}
 use Rattle.bd_space.specs.Words.{changed}
 use Rattle.bd_buffers.proofs.Changes.{pairs_head, pairs_tail, found_has}
@@ -58,7 +59,7 @@ module _ {A : Type 0} (key : A → ℕ) where
       ap (λ b. cond b (f x) x ∷ changed (λ y. key y == m) f xs) (All-head P x xs none) ∙ ap (λ ys. x ∷ ys) (changed_none f m xs (All-tail P x xs none))
 
   -- where a search by the key ends, and the element there has another
-  pub none_at : (m i : ℕ) (xs : List A) → Rising xs → ((k : ℕ) (d : A) → 0 ≤ k → k < i → key (get_or xs k d) < m) → ((k : ℕ) (d : A) → i ≤ k → k < length xs → m ≤ key (get_or xs k d))
+  none_at : (m i : ℕ) (xs : List A) → Rising xs → ((k : ℕ) (d : A) → 0 ≤ k → k < i → key (get_or xs k d) < m) → ((k : ℕ) (d : A) → i ≤ k → k < length xs → m ≤ key (get_or xs k d))
       → ((d : A) → i < length xs → key (get_or xs i d) ≡ m → ⊥) → All (λ y. (key y == m) ≡ false) xs
   none_at m i xs rising below from other k d lt =
       elim (cases_lt k i) [
@@ -68,6 +69,19 @@ module _ {A : Type 0} (key : A → ℕ) where
           | inr le ↦ let same : k ≡ i = omega arith in rw same (ne_eqb (key (get_or xs i d)) m (other d (omega arith)))
         ]
       ]
+
+  -- where a search by the key ends
+  pub searched : (m i : ℕ) (xs : List A) → IsNonDecreasingBy key xs
+      → (IsPartitionedBy (λ y. ltb (key y) m) xs → IsPartitionPoint (λ y. ltb (key y) m ≡ true) (λ y. ltb (key y) m ≡ false) xs i) → IsPartitionPoint (λ y. key y < m) (λ y. m ≤ key y) xs i
+  searched m i xs order ends =
+      let point = ends (IsPartitionedBy-ltb key xs m order) in
+      (λ k d low lt. ltb-true _ _ (point.0 k d low lt), λ k d low lt. ltb-false _ _ (point.1 k d low lt))
+
+  -- and none has it, where the element there has another
+  pub missed : (m i : ℕ) (xs : List A) → Rising xs
+      → (IsPartitionedBy (λ y. ltb (key y) m) xs → IsPartitionPoint (λ y. ltb (key y) m ≡ true) (λ y. ltb (key y) m ≡ false) xs i)
+      → ((d : A) → i < length xs → key (get_or xs i d) ≡ m → ⊥) → All (λ y. (key y == m) ≡ false) xs
+  missed m i xs rising ends other = let point = searched m i xs (non_decreasing xs rising) ends in none_at m i xs rising point.0 point.1 other
 
   -- ---- where the element at an index has it
 

@@ -11,6 +11,8 @@ use Rattle.bd_space.specs.declared.space.Buffer.{Buffer}
 use Rattle.bd_space.specs.Words.{least, when, found_or, unless, and_then}
 use Rattle.bd_space.specs.Windows.{is_apart, fits_in, start_in, over_budget_in, start_for, needed}
 use Rattle.bd_buffers.specs.Buffer.{IsApart}
+use Rattle.bd_buffers.specs.declared.window.Window.{Window}
+use Rattle.bd_buffers.specs.Stands.{CanHold}
 use Rattle.bd_buffers.specs.Window.{IsFree, IsLeastFree, IsInBudget, Refuses, one_way_size}
 
 -- ---- the least number that passes
@@ -261,3 +263,8 @@ pub cause_of : (size : ℕ) (buffers : List Buffer) (one_way : Bool) (bytes offs
     → IfErr r (λ x. Refuses size buffers one_way (needed bytes offsets) x)
 cause_of size buffers one_way bytes offsets (Ok p) e = tt
 cause_of size buffers one_way bytes offsets (Err x) e = refused_says size buffers one_way (needed bytes offsets) x (omega arith) (sym e)
+
+-- what a window can hold lies inside it
+pub holds_inside : (w : Window) (one_way : Bool) (n p : ℕ) → CanHold w one_way n p → p + n ≤ w.size
+unfolding CanHold
+holds_inside w one_way n p can = (given_says w.size w.buffers one_way n p can).least.room.inside

@@ -21,6 +21,9 @@ in_order tail low (h ∷ hs) sp zero (suc j) d le lt = let up = ends_above tail 
 in_order tail low (h ∷ hs) sp (suc i) zero d le lt = absurd (omega arith)
 in_order tail low (h ∷ hs) sp (suc i) (suc j) d le lt = in_order tail (h.end + 1) hs sp.4 i j d (omega arith) (omega arith)
 
+pub ends_in_order : (tail : ℕ) (xs holes : List Hole) → xs ≡ holes → Spaced tail 0 holes → IsNonDecreasingBy (λ h. h.end) xs
+ends_in_order tail xs holes e sp = rw e (in_order tail 0 holes sp)
+
 -- ---- past the holes that end before
 
 abbrev pub behind : List Hole → Free → Free
@@ -95,11 +98,11 @@ split_at : (holes : List Hole) (i : ℕ) (h : Hole) → i < length holes → h �
 split_at holes i h lt is = drop_more holes i h lt ∙ ap (λ (x : Hole). x ∷ drop (i + 1) holes) (sym is)
 
 -- the tail is shortened
-pub taken_tail : (p n tail low i : ℕ) (holes : List Hole) → length holes ≤ i → i ≤ length holes → Spaced tail low holes → EndBefore p i holes
+pub taken_tail : (p n tail low i : ℕ) (xs holes : List Hole) → xs ≡ holes → i ≤ length xs → ((k : ℕ) (d : Hole) → 0 ≤ k → k < i → (get_or xs k d).end < p) → length holes ≤ i → Spaced tail low holes
     → taken p n tail holes ≡ record { holes = holes; tail = tail + n }
 unfolding taken
-taken_tail p n tail low i holes le ge sp before =
-    taken_behind p n tail low i holes ge sp before
+taken_tail p n tail low i xs holes e within point le sp =
+    taken_behind p n tail low i holes (omega (arith, within, ap (λ (ys : List Hole). length ys) e)) sp (before_of xs holes p i e point)
     ∙ rw (drop_all i holes le, take_all i holes le) (append_end holes (tail + n))
   where
     append_nil : (xs : List Hole) → xs ++ [] ≡ xs

@@ -1,7 +1,6 @@
-use Rattle.std.proofs.Common.{◌≡◌, ◌≤◌, ◌<◌, ap, ◌∙◌, sym, arith, length, subst, List, ℕ, get_or}
-use Rattle.std.specs.List.Sorted.{IsNonDecreasingBy}
+use Rattle.std.proofs.Common.{◌≡◌, ◌≤◌, ◌<◌, ap, ◌∙◌, sym, arith, length, List, ℕ, get_or}
 use Rattle.bd_buffers.specs.declared.hole.Hole.{Hole}
-use Rattle.bd_buffers.proofs.Split.{before_of, in_order, free_is, released_touch, released_else}
+use Rattle.bd_buffers.proofs.Split.{before_of, ends_in_order, free_is, released_touch, released_else}
 use Rattle.std.proofs.lemmas.List.{get_or_default}
 use Rattle.bd_buffers.proofs.hole.give_back.Goals as goal
 use Rattle.bd_buffers.proofs.hole.give_back.Goals.{else-i-len-via-then-i-len+else-index-start, else-i-len-via-else-i-len}
@@ -11,8 +10,7 @@ strictly a b le ne = omega (arith, le, ne)
 
 pub index_from-i-requires : goal.index_from-i-requires
 index_from-i-requires c =
-    let P : List Hole → Type 0 = λ xs. IsNonDecreasingBy (λ h. h.end) xs in
-    record { order = subst P (sym c.deref.ensures.value) (in_order c.args.tail 0 c.args.holes.now.items c.requires.spaced) }
+    record { order = ends_in_order c.args.tail _ c.args.holes.now.items c.deref.ensures.value c.requires.spaced }
 
 pub returns-then-index-start-clause-left : goal.returns-then-index-start-clause-left
 returns-then-index-start-clause-left c =

@@ -1,22 +1,16 @@
-use Rattle.std.proofs.Common.{◌≤◌, ◌<◌, ap, sym, arith, length, subst, List}
-use Rattle.std.specs.List.Sorted.{IsNonDecreasingBy}
+use Rattle.std.proofs.Common.{◌≤◌, ◌<◌, ap, arith, length, List}
 use Rattle.bd_buffers.specs.declared.hole.Hole.{Hole}
-use Rattle.bd_buffers.proofs.Split.{before_of, in_order, hole_at, taken_tail, taken_hole}
+use Rattle.bd_buffers.proofs.Split.{ends_in_order, hole_at, taken_tail, taken_hole}
 use Rattle.bd_buffers.proofs.hole.take.Goals as goal
 
 pub index_from-i-requires : goal.index_from-i-requires
 index_from-i-requires c =
-    let P : List Hole → Type 0 = λ xs. IsNonDecreasingBy (λ h. h.end) xs in
-    record { order = subst P (sym c.deref.ensures.value) (in_order c.args.tail 0 c.args.holes.now.items c.requires.spaced) }
+    record { order = ends_in_order c.args.tail _ c.args.holes.now.items c.deref.ensures.value c.requires.spaced }
 
 pub returns-then-i-len-clause-left : goal.returns-then-i-len-clause-left
 returns-then-i-len-clause-left c =
-    let holes = c.args.holes.now.items in
-    let i = c.index_from-i.result in
-    let before = before_of _ holes c.args.place i c.deref.ensures.value c.index_from-i.ensures.point.0 in
-    let le : length holes ≤ i = omega (arith, c.if-i-len.true, c.len.ensures, c.args.holes.now.ok) in
-    let ge : i ≤ length holes = omega (arith, c.index_from-i.ensures.within, ap (λ (xs : List Hole). length xs) c.deref.ensures.value) in
-    taken_tail c.args.place c.args.n c.args.tail 0 i holes le ge c.requires.spaced before
+    let past : length c.args.holes.now.items ≤ c.index_from-i.result = omega (arith, c.if-i-len.true, c.len.ensures, c.args.holes.now.ok) in
+    taken_tail c.args.place c.args.n c.args.tail 0 c.index_from-i.result _ c.args.holes.now.items c.deref.ensures.value c.index_from-i.ensures.within c.index_from-i.ensures.point.0 past c.requires.spaced
 
 pub returns-clause-left : goal.returns-clause-left
 returns-clause-left c =

@@ -1,4 +1,4 @@
-use Rattle.std.proofs.Common.{sym, ◌∙◌, ◌≡◌, ap, subst, cond, arith, Ok, Some, List, [], ◌∷◌, ◌++◌, ◌+◌, All, refl, ◌<◌, ℕ}
+use Rattle.std.proofs.Common.{sym, ◌∙◌, ◌≡◌, ap, subst, cond, arith, Ok, Some, List, [], ◌∷◌, ◌++◌, ◌+◌, All, refl, ◌<◌, ◌≤◌, ℕ}
 use Rattle.std.proofs.lemmas.List.{length_push}
 use Rattle.bd_words.specs.declared.key.WordKey.{WordKey}
 use Rattle.bd_words.specs.declared.map.WordMap.{WordMap}
@@ -17,7 +17,7 @@ use Rattle.bd_buffers.specs.Holes.{Free, IsFreeSpace}
 use Rattle.bd_buffers.specs.Sums.{sum_at, AreSums}
 use Rattle.bd_buffers.specs.Window.{IsWindow, Keeps}
 use Rattle.bd_buffers.proofs.Bounded.{hole_room}
-use Rattle.bd_buffers.proofs.Places.{given_says}
+use Rattle.bd_buffers.proofs.Places.{given_says, holds_inside}
 use Rattle.bd_buffers.proofs.Fits.{fit_begins, placed_fit}
 use Rattle.bd_buffers.proofs.Exact.{holes_taken}
 use Rattle.bd_buffers.proofs.Listed.{none_there, spots_noted}
@@ -36,12 +36,10 @@ cut-requires-clause-begins c =
     (placed_fit w.ground.size w.ground.tail b.size b.start (live w.buffers.rows) w.ground.holes.items b.one_way c.self.invariant.free c.self.invariant.window (omega (arith, sized)) place)
 
 pub cut-requires-clause-fits : goal.cut-requires-clause-fits
-unfolding CanHold
 cut-requires-clause-fits c =
     let w = c.self.inside in
     let b = c.args.buffer in
-    let place : start_for w.ground.size (live w.buffers.rows) b.one_way b.size ≡ Ok b.start = rw (← c.self.view_is) at c.requires.can_take in
-    let inside = (given_says w.ground.size (live w.buffers.rows) b.one_way b.size b.start place).least.room.inside in
+    let inside : b.start + b.size ≤ w.ground.size = rw (← c.self.view_is) at (holds_inside c.args.self.now b.one_way b.size b.start c.requires.can_take) in
     let small = c.self.invariant.window.small in
     let within = c.self.invariant.free.within in
     (omega (arith, inside, small), omega (arith, inside, small, within))
@@ -64,13 +62,11 @@ pub raise-requires-clause-filled : goal.raise-requires-clause-filled
 raise-requires-clause-filled c = let sized = c.requires.sized in omega (arith, sized)
 
 pub raise-requires-clause-fits : goal.raise-requires-clause-fits
-unfolding CanHold
 raise-requires-clause-fits c =
     let w = c.self.inside in
     let b = c.args.buffer in
     let bs = live w.buffers.rows in
-    let place : start_for w.ground.size bs b.one_way b.size ≡ Ok b.start = rw (← c.self.view_is) at c.requires.can_take in
-    let inside = (given_says w.ground.size bs b.one_way b.size b.start place).least.room.inside in
+    let inside : b.start + b.size ≤ w.ground.size = rw (← c.self.view_is) at (holds_inside c.args.self.now b.one_way b.size b.start c.requires.can_take) in
     let small = c.self.invariant.window.small in
     let budget = c.self.invariant.window.budget in
     let sum = ap (λ s. sum_at s b.sender) c.cut.ensures.others.3 ∙ at_sender w.ground.senders (one_way_from bs) c.self.invariant.sums b.sender in
@@ -78,12 +74,10 @@ raise-requires-clause-fits c =
     omega (arith, inside, small, budget, sum, within)
 
 pub overflow_add-self : goal.overflow_add-self
-unfolding CanHold
 overflow_add-self c =
     let w = c.self.inside in
     let b = c.args.buffer in
-    let place : start_for w.ground.size (live w.buffers.rows) b.one_way b.size ≡ Ok b.start = rw (← c.self.view_is) at c.requires.can_take in
-    let inside = (given_says w.ground.size (live w.buffers.rows) b.one_way b.size b.start place).least.room.inside in
+    let inside : b.start + b.size ≤ w.ground.size = rw (← c.self.view_is) at (holds_inside c.args.self.now b.one_way b.size b.start c.requires.can_take) in
     let small = c.self.invariant.window.small in
     let budget = c.self.invariant.window.budget in
     let total = c.self.invariant.total in
