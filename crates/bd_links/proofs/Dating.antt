@@ -3,20 +3,8 @@ use Rattle.std.proofs.Common.{◌≡◌, ℕ, ◌+◌, ◌-◌, ◌<◌, ◌≤�
 use Rattle.std.proofs.lemmas.List.Sums.{sum_by_push, sum_by-cons}
 use Rattle.bd_space.specs.declared.space.Work.{Work}
 use Rattle.bd_links.specs.Dated.{NonePast, Dated}
-use Rattle.bd_links.specs.Rising.{Each}
+use Rattle.bd_links.proofs.Each.{each-push, each-cut, each-so}
 use Rattle.bd_links.proofs.SoughtCounts.{count-less}
-
-past-more : (a b : ℕ) (ws : List Work) → a ≤ b → NonePast a ws → NonePast b ws
-past-more a b [] l h = tt
-past-more a b (w ∷ ws) l h = (let k = h.0 in omega arith, past-more a b ws l h.1)
-
-pub each-push : (P : Work → Type 0) (ws : List Work) (w : Work) → Each P ws → P w → Each P (ws ++ w ∷ [])
-each-push P [] w h l = (l, tt)
-each-push P (v ∷ ws) w h l = (h.0, each-push P ws w h.1 l)
-
-pub each-cut : (P : Work → Type 0) (before : List Work) (w : Work) (after : List Work) → Each P (before ++ w ∷ after) → Each P (before ++ after)
-each-cut P [] w after h = h.1
-each-cut P (v ∷ before) w after h = (h.0, each-cut P before w after h.1)
 
 -- nothing was made after the latest place
 pub none_later : (a place : ℕ) (ws : List Work) → NonePast a ws → a < place → count_by (λ w. w.id.place == place) ws ≡ 0
@@ -28,7 +16,7 @@ none_later a place (w ∷ ws) h l =
 pub dated_new : (latest count index : ℕ) (todo : List Work) (w : Work) → Dated latest count todo → latest ≤ w.id.place → index ≡ count_by (λ v. v.id.place == w.id.place) todo
     → Dated w.id.place (index + 1) (todo ++ w ∷ [])
 dated_new latest count index todo w h l e = record {
-  none_past = each-push (λ (v : Work). v.id.place ≤ w.id.place) todo w (past-more latest w.id.place todo l h.none_past) (omega arith);
+  none_past = each-push (λ (v : Work). v.id.place ≤ w.id.place) todo w (each-so (λ (v : Work). v.id.place ≤ latest) (λ (v : Work). v.id.place ≤ w.id.place) (λ v k. omega (arith, k, l)) todo h.none_past) (omega arith);
   counted = let p = sum_by_push (λ (v : Work). cond (v.id.place == w.id.place) 1 0) todo w in let o = ap {B = ℕ} (λ b. cond b 1 0) (eq-eqb w.id.place w.id.place refl) in omega (arith, e, p, o);
 }
 

@@ -1,6 +1,7 @@
 -- The first work item of a list goes, where no other is called the same.
-use Rattle.std.proofs.Common.{◌≡◌, ℕ, zero, suc, ◌≤◌, length, drop, Bool, true, false, not, ◌&&◌, ◌||◌, cond, List, [], ◌∷◌, filter, refl, sym, ap, ◌∙◌, arith}
-use Rattle.std.specs.List.{list_any}
+use Rattle.std.proofs.Common.{◌≡◌, ℕ, zero, suc, ◌≤◌, length, drop, Bool, true, false, not, ◌&&◌, ◌||◌, cond, List, [], ◌∷◌, filter, is_some, refl, sym, ap, ◌∙◌, arith}
+use Rattle.std.specs.List.{list_any, slice_get}
+use Rattle.bd_space.specs.declared.space.Identity.{Identity}
 use Rattle.bd_space.specs.declared.space.Work.{Work}
 use Rattle.bd_space.specs.Words.{same_identity, without_first}
 use Rattle.bd_space.specs.Todo.{is_on, is_item, without_taken}
@@ -20,7 +21,7 @@ pub without_taken-none : (ws : List Work) → without_taken [] ws ≡ ws
 without_taken-none [] = refl
 without_taken-none (w ∷ ws) = ap (λ vs. w ∷ vs) (without_taken-none ws)
 
-and_false : (b : Bool) → (b && false) ≡ false
+pub and_false : (b : Bool) → (b && false) ≡ false
 and_false true = refl
 and_false false = refl
 
@@ -31,6 +32,11 @@ both false b h = cc
 not_both : (a b : Bool) → (not a && b) ≡ true → (a ≡ false) × (b ≡ true)
 not_both true b h = cc
 not_both false b h = (refl, h)
+
+-- nothing is the first of nothing
+pub no_front : (id : Identity) (ws : List Work) → is_some (slice_get ws 0) ≡ false → false ≡ is_front id true ws
+no_front id [] e = refl
+no_front id (w ∷ ws) e = absurd (cc)
 
 module _ (d : Work) where
   none_left : (ws : List Work) → is_front d.id false (filter (is_on d.list) ws) ≡ true → filter (λ w. not (is_item w d)) ws ≡ ws

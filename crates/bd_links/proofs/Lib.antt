@@ -1,6 +1,7 @@
 pub mod Fits
 pub mod Plain
 pub mod Columns
+pub mod Each
 pub mod RingLemmas
 pub mod ListKeys
 pub mod Moves

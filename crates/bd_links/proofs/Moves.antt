@@ -3,6 +3,7 @@ use Rattle.std.proofs.Common.{◌≡◌, ◌≢◌, inl, inr, ℕ, ◌<◌, ◌=
 use Rattle.std.proofs.lemmas.Bool.{cases_eq}
 use Rattle.std.proofs.lemmas.List.{get_or-set_same, get_or-set_other}
 use Rattle.bd_links.specs.Rings.{Off, In, Distinct, Below, Path, is_in_ring, ring, without, Rings}
+use Rattle.bd_links.proofs.Each.{each-filter, pairs-filter}
 use Rattle.bd_links.proofs.RingLemmas.{apart_from, Off-append, Off-left, Off-right, Distinct-right, Distinct-across, In-right, In-left, In-snoc, Below-at, Below-left, next_kept, prev_kept, path_before, path_after, before_end, unlink, link_last}
 
 -- ---- filters
@@ -39,12 +40,7 @@ filter_agree p q (x ∷ xs) h =
     ap (λ b. cond b (x ∷ filter p xs) (filter p xs)) (h x (inl refl)) ∙ ap (λ ys. cond (q x) (x ∷ ys) ys) (filter_agree p q xs (λ y k. h y (inr k)))
 
 pub Off-filter : (x : ℕ) (p : ℕ → Bool) (ys : List ℕ) → Off x ys → Off x (filter p ys)
-Off-filter x p [] h = tt
-Off-filter x p (y ∷ ys) h = one (p y) (Off-filter x p ys h.1)
-  where
-    one : (b : Bool) → Off x (filter p ys) → Off x (cond b (y ∷ filter p ys) (filter p ys))
-    one true k = (h.0, k)
-    one false k = k
+Off-filter x = each-filter (λ (y : ℕ). x ≢ y)
 
 -- nor where it fails the test
 pub Off-failed : (x : ℕ) (p : ℕ → Bool) (ys : List ℕ) → p x ≡ false → Off x (filter p ys)
@@ -56,20 +52,10 @@ Off-failed x p (y ∷ ys) e = at (p y) refl (Off-failed x p ys e)
     at false t o = o
 
 pub Distinct-filter : (p : ℕ → Bool) (ys : List ℕ) → Distinct ys → Distinct (filter p ys)
-Distinct-filter p [] h = tt
-Distinct-filter p (y ∷ ys) h = one (p y) (Distinct-filter p ys h.1)
-  where
-    one : (b : Bool) → Distinct (filter p ys) → Distinct (cond b (y ∷ filter p ys) (filter p ys))
-    one true k = (Off-filter y p ys h.0, k)
-    one false k = k
+Distinct-filter = pairs-filter (λ (x y : ℕ). x ≢ y)
 
 pub Below-filter : (n : ℕ) (p : ℕ → Bool) (ys : List ℕ) → Below n ys → Below n (filter p ys)
-Below-filter n p [] h = tt
-Below-filter n p (y ∷ ys) h = one (p y) (Below-filter n p ys h.1)
-  where
-    one : (b : Bool) → Below n (filter p ys) → Below n (cond b (y ∷ filter p ys) (filter p ys))
-    one true k = (h.0, k)
-    one false k = k
+Below-filter n = each-filter (λ (x : ℕ). x < n)
 
 in_either : (x y : ℕ) (ys : List ℕ) (b : Bool) → In x ys → In x (cond b (y ∷ ys) ys)
 in_either x y ys true h = inr h

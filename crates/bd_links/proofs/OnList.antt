@@ -32,7 +32,7 @@ any_first p ws = first (filter p ws) ∙ sym (any_left p ws)
 
 -- ---- the first on a list goes
 
-neither : (b r : Bool) → (b || r) ≡ false → (b ≡ false) × (r ≡ false)
+pub neither : (b r : Bool) → (b || r) ≡ false → (b ≡ false) × (r ≡ false)
 neither false r e = (refl, e)
 neither true r e = absurd (cc)
 
@@ -73,6 +73,3 @@ one_less p (w ∷ ws) e = at (p w) e (one_less p ws)
 
 pub any_none : (p : Work → Bool) (ws : List Work) → filter p ws ≡ [] → list_any p ws ≡ false
 any_none p ws e = any_left p ws ∙ ap (λ vs. not (is_empty vs)) e
-
-pub any_some : (p : Work → Bool) (ws : List Work) (v : Work) (vs : List Work) → filter p ws ≡ v ∷ vs → list_any p ws ≡ true
-any_some p ws v vs e = any_left p ws ∙ ap (λ us. not (is_empty us)) e

@@ -7,14 +7,13 @@ use Rattle.bd_space.specs.declared.space.TodoList.{TodoList}
 use Rattle.bd_space.specs.declared.space.TodoList.TheVariants.{OfThread, OfProcess}
 use Rattle.bd_space.specs.Words.{without_first}
 use Rattle.bd_space.specs.Todo.{same_list, is_on}
-use Rattle.std.specs.List.{list_any}
+use Rattle.std.specs.List.{slice_get}
 use Rattle.std.proofs.Common.{◌-◌}
 use Rattle.bd_links.specs.Rings.{Off, In, Distinct, Path, is_in_ring, ring, without, Rings}
 use Rattle.bd_links.specs.Queues.{no_work, work_in, is_used, used, Queued}
 use Rattle.bd_links.specs.Shown.{ShowsAt}
 use Rattle.bd_links.specs.Moved.{cut_next, cut_prev, moved_next, moved_prev, moved_order}
 use Rattle.bd_links.proofs.RingLemmas.{apart_from, Off-append, Off-left, Distinct-right, Distinct-across, Distinct-back, In-left, In-right, In-snoc, Below-at}
-use Rattle.bd_links.proofs.OnList.{any_some}
 use Rattle.bd_links.proofs.Moves.{filter_filter, filter-append, filter_agree, In-filter, In-from_filter, Distinct-filter, Off-failed, without_off, without_gone, cut_at, on_ring, node_of, detached, attached}
 
 -- ---- lists by name
@@ -280,9 +279,9 @@ push_shows N P R W H f todo order h one x s w is found N' P' R' W' eN eP eR eW =
 -- the first node of a list's ring, and its item
 pub front_shows : (N P R : List ℕ) (W : List Work) (H : TodoList → Option ℕ) (f : ℕ) (todo : List Work) (order : List ℕ) → ShowsAt N P R W H f todo order
     → (x s : ℕ) (l : TodoList) → x ≡ get_or N s 0 → H l ≡ Some s → x ≢ s
-    → In x (used R order) × (without_first (is_on l) todo ≡ map (work_in W) (without x (used R order))) × (list_any (is_on l) todo ≡ true)
+    → In x (used R order) × (without_first (is_on l) todo ≡ map (work_in W) (without x (used R order))) × (slice_get (filter (is_on l) todo) 0 ≡ Some (work_in W x))
 front_shows N P R W H f todo order h x s l is found far =
-    elim (first_is N P s (ring R order s) (h.queued.rings.rings s (inr there))) as (λ _. In x (used R order) × (without_first (is_on l) todo ≡ map (work_in W) (without x (used R order))) × (list_any (is_on l) todo ≡ true)) [
+    elim (first_is N P s (ring R order s) (h.queued.rings.rings s (inr there))) as (λ _. In x (used R order) × (without_first (is_on l) todo ≡ map (work_in W) (without x (used R order))) × (slice_get (filter (is_on l) todo) 0 ≡ Some (work_in W x))) [
       | first_none e i ↦ absurd (far (is ∙ i))
       | first_some rest e ↦ go rest (e ∙ ap (λ y. y ∷ rest) (sym is))
     ]
@@ -290,13 +289,13 @@ front_shows N P R W H f todo order h x s l is found far =
     there : In s (h.heads)
     there = h.queued.headed l s found
 
-    go : (rest : List ℕ) → ring R order s ≡ x ∷ rest → In x (used R order) × (without_first (is_on l) todo ≡ map (work_in W) (without x (used R order))) × (list_any (is_on l) todo ≡ true)
+    go : (rest : List ℕ) → ring R order s ≡ x ∷ rest → In x (used R order) × (without_first (is_on l) todo ≡ map (work_in W) (without x (used R order))) × (slice_get (filter (is_on l) todo) 0 ≡ Some (work_in W x))
     go rest e =
         let q = h.queued in
         let node = node_of N P R (0 ∷ h.heads) order q.rings s x (subst (In x) (sym e) (inl refl)) in (
           In-filter x (is_used R) order node.0 (used_off_zero N P R W H h.heads order todo q x s there node.1),
           ap (without_first (is_on l)) q.todo_are ∙ without_front W (is_on l) (used R order) x rest (Distinct-filter (is_used R) order (Distinct-right (0 ∷ h.heads) order q.rings.apart)) (on_list N P R W H h.heads order todo q l s found ∙ e),
-          any_some (is_on l) todo (work_in W x) (map (work_in W) rest) (queue_is N P R W H h.heads order todo q l s found ∙ ap (map (work_in W)) e),
+          ap (λ ws. slice_get ws 0) (queue_is N P R W H h.heads order todo q l s found ∙ ap (map (work_in W)) e),
         )
 
 -- a ring without nodes

@@ -8,26 +8,16 @@ use Rattle.bd_space.specs.Words.{same_identity, is_some_and}
 use Rattle.bd_links.specs.declared.register.Register.{Register}
 use Rattle.bd_links.specs.Dated.{Dated}
 use Rattle.bd_links.specs.Front.{is_front}
-use Rattle.bd_links.specs.Rising.{Each, rank, Rises, RisesTo}
+use Rattle.bd_links.specs.Each.{Each}
+use Rattle.bd_links.specs.Rising.{rank, Rises, RisesTo}
 use Rattle.bd_links.specs.Spots.{sought_of, unread_of, Counted}
 use Rattle.bd_links.specs.Registered.{Registered}
-use Rattle.bd_links.proofs.Dating.{each-push, each-cut, dated_new, dated_older, dated_cut}
+use Rattle.bd_links.proofs.Dating.{dated_new, dated_older, dated_cut}
+use Rattle.bd_links.proofs.Each.{each-push, each-cut, each-so, pairs-push, pairs-cut, pairs-filter}
 
-rises-push : (ws : List Work) (w : Work) → Rises ws → Each (λ v. rank v.id < rank w.id) ws → Rises (ws ++ w ∷ [])
-rises-push [] w h k = (tt, tt)
-rises-push (v ∷ ws) w h k = (each-push (λ (x : Work). rank v.id < rank x.id) ws w h.0 k.0, rises-push ws w h.1 k.1)
-
-rises-cut : (before : List Work) (w : Work) (after : List Work) → Rises (before ++ w ∷ after) → Rises (before ++ after)
-rises-cut [] w after h = h.1
-rises-cut (v ∷ before) w after h = (each-cut (λ (x : Work). rank v.id < rank x.id) before w after h.0, rises-cut before w after h.1)
-
-below : (a b : ℕ) (ws : List Work) → a < b → Each (λ v. rank v.id ≤ a) ws → Each (λ v. rank v.id < b) ws
-below a b [] l h = tt
-below a b (w ∷ ws) l h = (let k = h.0 in omega arith, below a b ws l h.1)
-
-up_to : (b : ℕ) (ws : List Work) → Each (λ v. rank v.id < b) ws → Each (λ v. rank v.id ≤ b) ws
-up_to b [] h = tt
-up_to b (w ∷ ws) h = (let k = h.0 in omega arith, up_to b ws h.1)
+-- by their ranks
+abbrev Under : Work → Work → Type 0
+Under v w = rank v.id < rank w.id
 
 pub register_came : (t u : Register) (w : Work) (todo : List Work) → Registered t todo → length todo < 18446744073709551615 → w.id.index ≡ count_by (λ v. v.id.place == w.id.place) todo
     → Counted (λ v. sought_of v.kind) u.spots (todo ++ w ∷ []) → Counted unread_of u.unread (todo ++ w ∷ []) → u.len ≡ min (t.len + 1) 18446744073709551615 → (u.rises ≡ true → ((t.len == 0) || (t.rises && nat_lt (rank t.last) (rank w.id))) ≡ true) → u.last ≡ w.id
@@ -65,8 +55,9 @@ register_came t u w todo h few is counts unread len rises last newer older = rec
         at : (b : Bool) → t.rises ≡ b → (b && nat_lt (rank t.last) (rank w.id)) ≡ true → RisesTo w.id (todo ++ w ∷ [])
         at true r l =
             let was = h.rising r in
-            let all = below (rank t.last) (rank w.id) todo (ltb-true (rank t.last) (rank w.id) l) was.1 in
-            (rises-push todo w was.0 all, each-push (λ (v : Work). rank v.id ≤ rank w.id) todo w (up_to (rank w.id) todo all) (omega arith))
+            let low = ltb-true (rank t.last) (rank w.id) l in
+            let all = each-so (λ (v : Work). rank v.id ≤ rank t.last) (λ (v : Work). Under v w) (λ v k. omega (arith, k, low)) todo was.1 in
+            (pairs-push Under todo w was.0 all, each-push (λ (v : Work). rank v.id ≤ rank w.id) todo w (each-so (λ (v : Work). Under v w) (λ (v : Work). rank v.id ≤ rank w.id) (λ v k. omega (arith, k)) todo all) (omega arith))
         at false r l = absurd cc
 
 pub register_went : (t u : Register) (before : List Work) (w : Work) (after : List Work) → Registered t (before ++ w ∷ after)
@@ -79,26 +70,10 @@ register_went t u before w after h counts unread len rises last late count = rec
   len = let n = h.len in let a = length-append before (w ∷ after) in let b = length-append before after in omega (arith, n, a, b, len);
   rising = λ r.
       let was = h.rising (sym rises ∙ r) in
-      subst (λ i. RisesTo i (before ++ after)) (sym last) (rises-cut before w after was.0, each-cut (λ (v : Work). rank v.id ≤ rank t.last) before w after was.1);
+      subst (λ i. RisesTo i (before ++ after)) (sym last) (pairs-cut Under before w after was.0, each-cut (λ (v : Work). rank v.id ≤ rank t.last) before w after was.1);
 }
 
 -- ---- the first of a list, where identities rise
-
-each-filter : (P : Work → Type 0) (p : Work → Bool) (ws : List Work) → Each P ws → Each P (filter p ws)
-each-filter P p [] h = tt
-each-filter P p (w ∷ ws) h = one (p w) (each-filter P p ws h.1)
-  where
-    one : (b : Bool) → Each P (filter p ws) → Each P (cond b (w ∷ filter p ws) (filter p ws))
-    one true k = (h.0, k)
-    one false k = k
-
-rises-filter : (p : Work → Bool) (ws : List Work) → Rises ws → Rises (filter p ws)
-rises-filter p [] h = tt
-rises-filter p (w ∷ ws) h = one (p w) (rises-filter p ws h.1)
-  where
-    one : (b : Bool) → Rises (filter p ws) → Rises (cond b (w ∷ filter p ws) (filter p ws))
-    one true k = (each-filter (λ (v : Work). rank w.id < rank v.id) p ws h.0, k)
-    one false k = k
 
 same-rank : (a b : Identity) → same_identity a b ≡ true → rank a ≡ rank b
 same-rank a b h =
@@ -122,12 +97,8 @@ first_is_front i [] h = refl
 first_is_front i (w ∷ ws) h = at (same_identity w.id i) refl
   where
     at : (b : Bool) → same_identity w.id i ≡ b → (b && is_front i false ws) ≡ b
-    at true e = no_other i ws (next ws h.0)
-      where
-        next : (vs : List Work) → Each (λ v. rank w.id < rank v.id) vs → Each (λ v. rank i < rank v.id) vs
-        next [] k = tt
-        next (v ∷ vs) k = (let l = k.0 in let r = same-rank w.id i e in omega (arith, r, l), next vs k.1)
+    at true e = let r = same-rank w.id i e in no_other i ws (each-so (λ (v : Work). rank w.id < rank v.id) (λ (v : Work). rank i < rank v.id) (λ v k. omega (arith, k, r)) ws h.0)
     at false e = refl
 
 pub front_rising : (t : Register) (todo : List Work) (p : Work → Bool) (i : Identity) → Registered t todo → t.rises ≡ true → is_some_and (slice_get (filter p todo) 0) (λ w. same_identity w.id i) ≡ is_front i true (filter p todo)
-front_rising t todo p i h r = sym (first_is_front i (filter p todo) (rises-filter p todo (h.rising r).0))
+front_rising t todo p i h r = sym (first_is_front i (filter p todo) (pairs-filter Under p todo (h.rising r).0))

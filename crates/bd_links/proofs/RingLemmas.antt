@@ -3,6 +3,7 @@ use Rattle.std.proofs.Common.{◌≡◌, ◌≢◌, ◌⊎◌, inl, inr, ℕ, �
 use Rattle.std.proofs.lemmas.List.{get_or-set_same, get_or-set_other}
 use Rattle.std.proofs.lemmas.Grind.{get_or-set_at}
 use Rattle.bd_links.specs.Rings.{Off, In, Distinct, Below, Path}
+use Rattle.bd_links.proofs.Each.{each-append, each-left, each-right, pairs-left, pairs-right}
 
 -- ---- lists of numbers
 
@@ -12,24 +13,19 @@ apart_from x y (z ∷ ys) off (inl e) = λ k. off.0 (k ∙ e)
 apart_from x y (z ∷ ys) off (inr h) = apart_from x y ys off.1 h
 
 pub Off-append : (x : ℕ) (ys zs : List ℕ) → Off x ys → Off x zs → Off x (ys ++ zs)
-Off-append x [] zs h k = k
-Off-append x (y ∷ ys) zs h k = (h.0, Off-append x ys zs h.1 k)
+Off-append x = each-append (λ (y : ℕ). x ≢ y)
 
 pub Off-left : (x : ℕ) (ys zs : List ℕ) → Off x (ys ++ zs) → Off x ys
-Off-left x [] zs h = tt
-Off-left x (y ∷ ys) zs h = (h.0, Off-left x ys zs h.1)
+Off-left x = each-left (λ (y : ℕ). x ≢ y)
 
 pub Off-right : (x : ℕ) (ys zs : List ℕ) → Off x (ys ++ zs) → Off x zs
-Off-right x [] zs h = h
-Off-right x (y ∷ ys) zs h = Off-right x ys zs h.1
+Off-right x = each-right (λ (y : ℕ). x ≢ y)
 
 pub Distinct-left : (xs ys : List ℕ) → Distinct (xs ++ ys) → Distinct xs
-Distinct-left [] ys h = tt
-Distinct-left (x ∷ xs) ys h = (Off-left x xs ys h.0, Distinct-left xs ys h.1)
+Distinct-left = pairs-left (λ (x y : ℕ). x ≢ y)
 
 pub Distinct-right : (xs ys : List ℕ) → Distinct (xs ++ ys) → Distinct ys
-Distinct-right [] ys h = h
-Distinct-right (x ∷ xs) ys h = Distinct-right xs ys h.1
+Distinct-right = pairs-right (λ (x y : ℕ). x ≢ y)
 
 -- of two beginnings of a list without repetition
 pub Distinct-across : (x : ℕ) (xs ys : List ℕ) → Distinct (xs ++ ys) → In x xs → Off x ys
@@ -63,8 +59,7 @@ Below-at n x (y ∷ ys) h (inl e) = rw e (h.0)
 Below-at n x (y ∷ ys) h (inr k) = Below-at n x ys h.1 k
 
 pub Below-left : (n : ℕ) (xs ys : List ℕ) → Below n (xs ++ ys) → Below n xs
-Below-left n [] ys h = tt
-Below-left n (x ∷ xs) ys h = (h.0, Below-left n xs ys h.1)
+Below-left n = each-left (λ (x : ℕ). x < n)
 
 -- ---- one write
 

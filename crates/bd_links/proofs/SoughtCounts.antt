@@ -1,5 +1,5 @@
 -- The counts of what is looked up, as entries and work items come and go.
-use Rattle.std.proofs.Common.{◌≡◌, ℕ, ◌+◌, ◌-◌, ◌<◌, ◌==◌, nat_lt, Bool, true, false, not, ◌&&◌, ◌||◌, cond, List, [], ◌∷◌, ◌++◌, length, filter, count_by, Option, Some, option_map, unwrap_or, min, ap, refl, sym, ◌∙◌, subst, arith, eqb-true, lt-ltb}
+use Rattle.std.proofs.Common.{◌≡◌, ℕ, ◌+◌, ◌-◌, ◌<◌, ◌==◌, nat_lt, Bool, true, false, not, ◌&&◌, ◌||◌, cond, List, [], ◌∷◌, ◌++◌, length, filter, count_by, Option, Some, None, option_map, unwrap_or, min, ap, refl, sym, ◌∙◌, subst, arith, eqb-true, lt-ltb}
 use Rattle.std.specs.Option.{IsSome}
 use Rattle.std.specs.List.{list_any}
 use Rattle.std.proofs.lemmas.List.Sums.{sum_by-append, sum_by-cons, count_by-le-length}
@@ -40,6 +40,20 @@ at_key t a k v f n e = at (same_sought a k) refl
     at : (b : Bool) → same_sought a k ≡ b → cond b v (count_at t k) ≡ cond b (f (count_at t k)) (count_at t k)
     at true s = e ∙ ap (λ x. f (count_at t x)) (same_sought-eq a k s)
     at false s = refl
+
+-- none is left, and what stood there goes
+pub gone_down : (t : Spots) (a k : Sought) (m n new : ℕ) → count_at t a ≡ 0 → count_at t k ≡ cond (same_sought a k) m n
+    → new ≡ cond (same_sought a k) 0 (count_at t k) → new ≡ cond (same_sought a k) m n
+gone_down t a k m n new none down gone = at (same_sought a k) refl down gone
+  where
+    at : (b : Bool) → same_sought a k ≡ b → count_at t k ≡ cond b m n → new ≡ cond b 0 (count_at t k) → new ≡ cond b m n
+    at true s d g = g ∙ sym none ∙ ap (count_at t) (same_sought-eq a k s) ∙ d
+    at false s d g = g ∙ d
+
+-- the count of what stands there, or of what is put there
+pub count_or : (o : Option Spot) (new : Spot) → (unwrap_or o new).count ≡ unwrap_or (option_map (λ (s : Spot). s.count) o) new.count
+count_or None new = refl
+count_or (Some s) new = refl
 
 pub count-append : (p : Work → Bool) (xs ys : List Work) → count_by p (xs ++ ys) ≡ count_by p xs + count_by p ys
 count-append p xs ys = sum_by-append (λ w. cond (p w) 1 0) xs ys

@@ -12,7 +12,7 @@ use Rattle.bd_links.specs.Nodes.{nexts, prevs, rows, works}
 use Rattle.bd_links.specs.Queues.{work_in}
 use Rattle.bd_links.specs.Heads.{head_at}
 use Rattle.bd_links.specs.Moved.{cut_next, cut_prev, moved_next, moved_prev, moved_order}
-use Rattle.bd_links.specs.QueuesStand.{Empty, Shows, Stands, FrontIn}
+use Rattle.bd_links.specs.QueuesStand.{Empty, Shows, Stands, FrontIn, IsFirstAt}
 use Rattle.bd_links.proofs.OnList.{any_none, any_left}
 use Rattle.bd_links.proofs.Plain.{none_some}
 use Rattle.bd_links.proofs.QueueLemmas.{push_shows, front_shows, ring_empty, queue_is}
@@ -41,14 +41,14 @@ push_stands t u todo x s w h one is found m ws ls fr = record { either = of h.ei
 
 -- the first node of a list's ring
 pub front_stands : (t : Queues) (todo : List Work) (x s : ℕ) (l : TodoList) → Stands t todo → x ≡ get_or (nexts t.nodes.items) s 0 → head_at t.lists l ≡ Some s → x ≢ s
-    → FrontIn t todo l x × (true ≡ list_any (is_on l) todo)
+    → FrontIn t todo l x × IsFirstAt t todo l x
 front_stands t todo x s l h is found far = of h.either
   where
-    of : Empty t todo ⊎ ((order : List ℕ) × Shows t todo order) → FrontIn t todo l x × (true ≡ list_any (is_on l) todo)
+    of : Empty t todo ⊎ ((order : List ℕ) × Shows t todo order) → FrontIn t todo l x × IsFirstAt t todo l x
     of (inl e) = absurd (none_some s (sym (e.no_lists l) ∙ found))
     of (inr k) =
         let f = front_shows (nexts t.nodes.items) (prevs t.nodes.items) (rows t.nodes.items) (works t.nodes.items) (head_at t.lists) t.free todo k.0 k.1 x s l is found far in
-        ((k.0, k.1, f.0, f.1), sym f.2)
+        ((k.0, k.1, f.0, f.1), f.2)
 
 -- a ring without nodes
 pub front_none : (t : Queues) (todo : List Work) (s : ℕ) (l : TodoList) → Stands t todo → get_or (nexts t.nodes.items) s 0 ≡ s → head_at t.lists l ≡ Some s → false ≡ list_any (is_on l) todo

@@ -1,5 +1,6 @@
 pub mod Stands
 pub mod TodoList
+pub mod Each
 pub mod Rings
 pub mod Moved
 pub mod Nodes

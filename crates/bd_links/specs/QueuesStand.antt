@@ -1,10 +1,11 @@
 -- What the queues stand for: the work items of the space, in its order.
-use Rattle.std.specs.Prelude.{◌≡◌, ◌⊎◌, ℕ, ◌/◌, min, List, [], map, None}
+use Rattle.std.specs.Prelude.{◌≡◌, ◌⊎◌, ℕ, ◌/◌, min, List, [], map, Some, None}
 use Rattle.std.specs.HashMap.{spare}
+use Rattle.std.specs.List.{slice_get}
 use Rattle.bd_space.specs.declared.space.Work.{Work}
 use Rattle.bd_space.specs.declared.space.TodoList.{TodoList}
 use Rattle.bd_space.specs.Words.{without_first}
-use Rattle.bd_space.specs.Todo.{is_on}
+use Rattle.bd_space.specs.Todo.{is_on, work_on}
 use Rattle.bd_links.specs.declared.queues.Queues.{Queues}
 use Rattle.bd_links.specs.Rings.{In, without}
 use Rattle.bd_links.specs.Queues.{used, work_in}
@@ -34,3 +35,7 @@ abbrev pub FrontIn : Queues → List Work → TodoList → ℕ → Type 0
 FrontIn t todo list x =
     (order : List ℕ) × Shows t todo order × In x (used (rows t.nodes.items) order)
     × (without_first (is_on list) todo ≡ map (work_in (works t.nodes.items)) (without x (used (rows t.nodes.items) order)))
+
+-- the node holds the first work item on the list
+abbrev pub IsFirstAt : Queues → List Work → TodoList → ℕ → Type 0
+IsFirstAt t todo list x = slice_get (work_on todo (Some list)) 0 ≡ Some (work_in (works t.nodes.items) x)

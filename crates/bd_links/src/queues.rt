@@ -53,7 +53,7 @@ impl Queues {
     ghost use Rattle.bd_links.specs.Moved.{moved_order};
     ghost use Rattle.bd_links.specs.Nodes.{rows, works};
     ghost use Rattle.bd_links.specs.Queues.{used, work_in};
-    ghost use Rattle.bd_links.specs.QueuesStand.{Shows, Stands, FrontIn, queue_room};
+    ghost use Rattle.bd_links.specs.QueuesStand.{Shows, Stands, FrontIn, IsFirstAt, queue_room};
 
     /// No queues. Takes no memory.
     pub fn new(alloc: Global) -> Queues
@@ -200,6 +200,7 @@ impl Queues {
     pub fn front(&self, list: TodoList) -> Option<usize>
         ensures any { (todo : List Work) → Stands self.now todo → is_some result ≡ list_any (is_on list) todo }
         ensures some { (todo : List Work) → Stands self.now todo → IfSome result (FrontIn self.now todo list) }
+        ensures first { (todo : List Work) → Stands self.now todo → IfSome result (IsFirstAt self.now todo list) }
     {
         if let Some(head) = head_of(&self.lists, list) {
             let x = next_of(&self.nodes, head);

@@ -168,23 +168,30 @@ impl Spots {
             ≡ (if same_sought key k then min (count_at self.old k + 1) 18446744073709551615 else count_at self.old k) }
         ensures uses { spare self.old.spots ≤ spare self.new.spots + 1 }
     {
-        let count = self.count(key).saturating_add(1);
-        match self.spots.insert(key, Spot { count, node }) {
-            Ok(_) => {}
+        match self.spots.entry(key) {
+            Ok(entry) => {
+                let spot = entry.or_insert(Spot { count: 0, node });
+                let count = spot.count.saturating_add(1);
+                *spot = Spot { count, node };
+            }
+            // It doesn't come: there is room.
             Err(_) => {}
         }
     }
 
-    // So many are looked up so, of which there are some.
-    fn set_count(&mut self, key: Sought, count: u64)
-        requires { 0 < count_at self.old key }
+    // One less is looked up so: how many are left. The spot stays, even if none is.
+    fn count_down(&mut self, key: Sought) -> u64
+        ensures left { result ≡ count_at self.new key }
         ensures counts { (k : declared.Sought) → count_at self.new k
-            ≡ (if same_sought key k then count else count_at self.old k) }
+            ≡ (if same_sought key k then count_at self.old k - 1 else count_at self.old k) }
         ensures uses { spare self.old.spots ≤ spare self.new.spots }
     {
         match self.spots.get_mut(&key) {
-            Some(spot) => spot.count = count,
-            None => {}
+            Some(spot) => {
+                spot.count = spot.count.saturating_sub(1);
+                spot.count
+            }
+            None => 0,
         }
     }
 
@@ -202,10 +209,7 @@ impl Spots {
             ≡ (if same_sought key k then count_at self.old k - 1 else count_at self.old k) }
         ensures uses { spare self.old.spots ≤ spare self.new.spots }
     {
-        let count = self.count(key);
-        if count > 1 {
-            self.set_count(key, count - 1);
-        } else {
+        if self.count_down(key) == 0 {
             self.forget(key);
         }
     }

@@ -1,7 +1,7 @@
 //! The table: its room, its changes and what it tells.
 #![tactic(auto, unfolding(crate::specs::Stands::work_room))]
 
-ghost use Rattle.std.specs.Prelude.{ℕ, Bool, true, List, ◌≡◌, ◌-◌, if◌then◌else◌, ◌&&◌, ◌+◌, ◌≤◌, ◌==◌, [], count_by, not, filter, Some, OnOk, OnErr, IfSome};
+ghost use Rattle.std.specs.Prelude.{ℕ, Bool, true, List, ◌≡◌, ◌-◌, if◌then◌else◌, ◌&&◌, ◌+◌, ◌≤◌, ◌==◌, [], count_by, not, filter, Some, is_some, OnOk, OnErr, IfSome};
 ghost use Rattle.std.specs.List.{list_any, slice_get};
 ghost use Rattle.bd_space.specs.declared.space.Work.{Work};
 ghost use Rattle.bd_space.specs.declared.space.WorkKind.{WorkKind};
@@ -32,16 +32,15 @@ pub struct WorkTable {
     pub(crate) register: Register,
 }
 
-fn has_id(work: Option<Work>, id: Identity) -> bool
-    ensures { result ≡ words.is_some_and work (λ w. words.same_identity w.id id) }
+// The work item is called so.
+fn is_called(work: &Work, id: Identity) -> bool
+    ensures { result ≡ words.same_identity work.now.id id }
 {
-    match work {
-        Some(work) => work.id == id,
-        None => false,
-    }
+    work.id == id
 }
 
 impl WorkTable {
+    ghost use Rattle.bd_links.specs.QueuesStand.{FrontIn, IsFirstAt};
     ghost use Rattle.bd_links.specs.Stands.{WorksAre, Tells, Makes, work_room};
 
     /// An empty table. Takes no memory.
@@ -94,14 +93,30 @@ impl WorkTable {
         }
     }
 
-    // Whether a work item is the first on its list, and no other on it is called the same.
-    fn is_first(&self, item: &Work) -> bool
-        ensures { Tells self.now result (λ l. is_front item.now.id true (spec.work_on l (Some item.now.list))) }
+    // The node is the first on the work item's list: whether it holds that one, and no other there is called the same.
+    fn is_alone_at(&self, x: usize, item: &Work) -> bool
+        ensures { (l : List Work) → WorksAre self.now l → IsFirstAt self.now.queues l item.now.list x
+            → result ≡ is_front item.now.id true (spec.work_on l (Some item.now.list)) }
     {
         if self.register.rises {
-            has_id(self.queues.work_at(item.list, 0), item.id)
+            is_called(&work_in(&self.queues.nodes, x), item.id)
         } else {
             self.queues.is_first(item)
+        }
+    }
+
+    // The node of a work item, if it is the first on its list and no other on that is called the same.
+    fn front_node(&self, item: &Work) -> Option<usize>
+        ensures first { Tells self.now (is_some result)
+            (λ l. is_front item.now.id true (spec.work_on l (Some item.now.list))) }
+        ensures front { (l : List Work) → WorksAre self.now l
+            → IfSome result (FrontIn self.now.queues l item.now.list) }
+    {
+        let x = self.queues.front(item.list)?;
+        if self.is_alone_at(x, item) {
+            Some(x)
+        } else {
+            None
         }
     }
 
@@ -110,10 +125,9 @@ impl WorkTable {
         ensures stands { Makes self.old self.new (λ l. filter (λ w. not (spec.is_item w item.now)) l) }
         ensures uses { work_room self.old ≤ work_room self.new }
     {
-        if self.is_first(item) {
-            let _ = self.pop(item.list);
-        } else {
-            self.keep(|w| !is_item(item, &w));
+        match self.front_node(item) {
+            Some(x) => self.remove_at(x),
+            None => self.keep(|w| !is_item(item, &w)),
         }
     }
 

@@ -1,18 +1,24 @@
-use Rattle.std.proofs.Common.{◌∙◌, ap, sym, get_or, arith}
+use Rattle.std.proofs.Common.{◌∙◌, List, ap, sym, get_or, is_some, arith}
+use Rattle.bd_space.specs.declared.space.Work.{Work}
 use Rattle.bd_space.specs.Todo.{is_on}
 use Rattle.bd_links.specs.Nodes.{nexts}
-use Rattle.bd_links.proofs.OnList.{any_none}
+use Rattle.bd_links.specs.QueuesStand.{Stands}
+use Rattle.bd_links.proofs.OnList.{any_none, any_first}
 use Rattle.bd_links.proofs.Steps.{front_stands, front_none}
 use Rattle.bd_links.proofs.Walking.{none_are}
 use Rattle.bd_links.proofs.queues.Queues.front.Goals as goal
 
-pub returns-then-x-head-clause-any : goal.returns-then-x-head-clause-any
-returns-then-x-head-clause-any c = λ todo stands.
-    (front_stands c.args.self.now todo c.next_of-x.result c.in-Some.head c.args.list stands (c.next_of-x.ensures ∙ ap (λ ns. get_or (nexts ns) c.in-Some.head 0) c.deref.ensures.value) (sym c.head_of.ensures ∙ c.in-Some.is) (λ e. omega arith)).1
-
-pub returns-then-x-head-clause-some : goal.returns-then-x-head-clause-some
-returns-then-x-head-clause-some c = λ todo stands.
-    (front_stands c.args.self.now todo c.next_of-x.result c.in-Some.head c.args.list stands (c.next_of-x.ensures ∙ ap (λ ns. get_or (nexts ns) c.in-Some.head 0) c.deref.ensures.value) (sym c.head_of.ensures ∙ c.in-Some.is) (λ e. omega arith)).0
+pub returns-then-x-head : goal.returns-then-x-head
+returns-then-x-head c =
+    let t = c.args.self.now in
+    let list = c.args.list in
+    let next = c.next_of-x.ensures ∙ ap (λ ns. get_or (nexts ns) c.in-Some.head 0) c.deref.ensures.value in
+    let at = λ (todo : List Work) (stands : Stands t todo). front_stands t todo c.next_of-x.result c.in-Some.head list stands next (sym c.head_of.ensures ∙ c.in-Some.is) (λ e. omega arith) in
+    record {
+      any = λ todo stands. sym (ap is_some (at todo stands).1) ∙ any_first (is_on list) todo;
+      some = λ todo stands. (at todo stands).0;
+      first = λ todo stands. (at todo stands).1;
+    }
 
 pub returns-else-x-head-clause-any : goal.returns-else-x-head-clause-any
 returns-else-x-head-clause-any c = λ todo stands.

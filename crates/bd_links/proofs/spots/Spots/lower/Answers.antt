@@ -1,10 +1,8 @@
-use Rattle.std.proofs.Common.{◌∙◌, ◌-◌, arith}
-use Rattle.bd_links.specs.Spots.{count_at}
-use Rattle.bd_links.proofs.SoughtCounts.{at_key}
+use Rattle.std.proofs.Common.{◌∙◌, sym}
+use Rattle.bd_links.proofs.SoughtCounts.{gone_down}
 use Rattle.bd_links.proofs.spots.Spots.lower.Goals as goal
 
-pub returns-then-count-gt1-clause-counts : goal.returns-then-count-gt1-clause-counts
-returns-then-count-gt1-clause-counts c = λ k. c.set_count.ensures.counts k ∙ at_key c.args.self.now c.args.key k _ (λ n. n - 1) (count_at c.args.self.now k) (omega arith)
-
-pub returns-else-count-gt1-clause-counts : goal.returns-else-count-gt1-clause-counts
-returns-else-count-gt1-clause-counts c = λ k. c.forget.ensures.counts k ∙ at_key c.args.self.now c.args.key k _ (λ n. n - 1) (count_at c.args.self.now k) (omega arith)
+pub returns-then-count_down-eq0-clause-counts : goal.returns-then-count_down-eq0-clause-counts
+returns-then-count_down-eq0-clause-counts c = λ k.
+    gone_down c.count_down.new.self c.args.key k _ _ _ (sym c.count_down.ensures.left ∙ c.if-count_down-eq0.true)
+    (c.count_down.ensures.counts k) (c.forget.ensures.counts k)
