@@ -27,7 +27,7 @@ module _ {A : Type 0} (p : A → Bool) where
       by true e rest = let same : x ≡ y = cc in subst P same (All-head P x xs all)
       by false e rest = rest e
 
-  none_found : (xs : List A) → find p xs ≡ None → All (λ x. p x ≡ false) xs
+  pub none_found : (xs : List A) → find p xs ≡ None → All (λ x. p x ≡ false) xs
   none_found [] e = λ k d h. absurd (omega arith)
   none_found (x ∷ xs) e = by (p x) refl e (none_found xs)
     where

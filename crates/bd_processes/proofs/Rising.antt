@@ -1,9 +1,13 @@
 -- Lists in which a key rises: an element is found by its key alone.
-use Rattle.std.proofs.Common.{◌≡◌, ℕ, zero, suc, ◌-◌, ◌<◌, ◌≤◌, ◌==◌, Bool, false, not, cond, List, [], ◌∷◌, length, get_or, Some, None, find, filter, refl, ap, sym, ◌∙◌, arith, All, eq-eqb, ne_eqb, inl, inr}
-use Rattle.std.specs.Prelude.{AllPairs, remove}
+use Rattle.std.proofs.Common.{◌≡◌, ℕ, zero, suc, ◌-◌, ◌<◌, ◌==◌, Bool, false, not, cond, List, [], ◌∷◌, length, get_or, Some, None, find, filter, refl, ap, sym, ◌∙◌, arith, All, eq-eqb, ne_eqb, inl, inr, Result, Ok, Err, Less, Equal, Greater}
+use Rattle.std.specs.Prelude.{AllPairs, remove, MatchOption}
 use Rattle.std.specs.List.{slice_get}
-use Rattle.std.specs.List.Sorted.{IsNonDecreasingBy}
+use Rattle.std.specs.List.Sorted.{IsNonDecreasingBy, IsBinarySearchResult}
+use Rattle.std.specs.Ordering.{nat_cmp}
+use Rattle.std.specs.Result.{result_ok}
 use Rattle.std.proofs.lemmas.Bool.{cases_lt}
+use Rattle.std.proofs.lemmas.Bool.Decides.{nat_tests}
+use Rattle.std.proofs.lemmas.Cmp.{ranked}
 use Rattle.std.proofs.lemmas.Option.{slice_get_within, get_or_from_slice_get}
 use Rattle.std.proofs.lemmas.List.Elements.{All-head, All-tail}
 
@@ -75,26 +79,20 @@ module _ {A : Type 0} (key : A → ℕ) where
       ap (λ b. cond (not b) (x ∷ without m xs) (without m xs)) (All-head P x xs none)
       ∙ ap (λ ys. x ∷ ys) (filter_none m xs (All-tail P x xs none))
 
-  -- where a search by the key ends, and the element there has another
-  pub none_at : (m i : ℕ) (xs : List A) → Rising xs
-      → ((k : ℕ) (d : A) → 0 ≤ k → k < i → key (get_or xs k d) < m)
-      → ((k : ℕ) (d : A) → i ≤ k → k < length xs → m ≤ key (get_or xs k d))
-      → ((d : A) → i < length xs → key (get_or xs i d) ≡ m → ⊥) → AllOthers m xs
-  none_at m i xs rising below from other k d lt =
+  -- what a search by halves answers is where an element has the key, or that none has
+  pub searched : (m : ℕ) (xs : List A) (r : Result ℕ ℕ) → Rising xs → IsBinarySearchResult (λ x. nat_cmp (key x) m) xs r
+      → MatchOption (result_ok r) (AllOthers m xs) (λ i. (d : A) → key (get_or xs i d) ≡ m)
+  searched m xs (Ok i) rising found = λ d. ranked (key (get_or xs i d)) m Equal (sym (found d))
+  searched m xs (Err i) rising found = λ k d lt.
+      let parted = found (λ a b e le within. let up = non_decreasing xs rising a b e le within in grind (arith, nat_tests)) in
       let here = key (get_or xs k d) in
       elim (cases_lt k i) [
         | inl before ↦
-            let low = below k d (omega arith) before in
+            let low = ranked here m Less (sym (parted.0 k d (omega arith) before)) in
             ne_eqb here m (λ e. absurd (omega (arith, e, low)))
-        | inr ge ↦ elim (cases_lt i k) [
-          | inl after ↦
-              let up = rising i k d after lt in
-              let high = from i d (omega arith) (omega arith) in
-              ne_eqb here m (λ e. absurd (omega (arith, e, up, high)))
-          | inr le ↦
-              let same : k ≡ i = omega arith in
-              rw same (ne_eqb (key (get_or xs i d)) m (other d (omega arith)))
-        ]
+        | inr ge ↦
+            let high = ranked here m Greater (sym (parted.1 k d ge lt)) in
+            ne_eqb here m (λ e. absurd (omega (arith, e, high)))
       ]
 
   -- ---- where the element at an index has it

@@ -5,7 +5,6 @@ ghost use Rattle.bd_space.specs.Steps.{is_pid};
 ghost use Rattle.bd_space.specs.Words.{changed};
 ghost use Rattle.bd_space.specs.Spam.{detecting};
 
-use crate::list::index_of;
 use crate::table::{ProcessTable, pid_key};
 use bd_space::Process;
 
@@ -35,7 +34,7 @@ impl ProcessTable {
             → ProcessesAre self.new (filter (λ q. not (q.made == made)) processes) }
         ensures uses { process_room self.old ≤ process_room self.new }
     {
-        if let Some(i) = index_of(self.list.as_slice(), made) {
+        if let Some(i) = self.index_of(made) {
             let process = self.list.remove(i);
             self.by_pid.remove(pid_key(process.pid));
         }
@@ -48,7 +47,7 @@ impl ProcessTable {
             → ProcessesAre self.new (changed (λ q. q.made == made) (detecting on) processes) }
         ensures uses { process_room self.old ≤ process_room self.new }
     {
-        if let Some(i) = index_of(self.list.as_slice(), made) {
+        if let Some(i) = self.index_of(made) {
             self.list[i].spam_detection = on;
         }
     }

@@ -16,12 +16,7 @@ pub(crate) fn index_of(processes: &[Process], made: u32) -> Option<usize>
         (All (λ q. (q.made == made) ≡ false) processes.now)
         (λ i. (d : Process) → (slice_index_or processes.now i d).made ≡ made) }
 {
-    let i = processes.partition_point(|q| q.made < made);
-    if i < processes.len() && processes[i].made == made {
-        Some(i)
-    } else {
-        None
-    }
+    processes.binary_search_by_key(&made, |q| q.made).ok()
 }
 
 /// The process with this identity.

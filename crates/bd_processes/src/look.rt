@@ -1,6 +1,6 @@
 //! Looking at the processes.
 
-ghost use Rattle.std.specs.Prelude.{◌≡◌, true, List, IfSome};
+ghost use Rattle.std.specs.Prelude.{◌≡◌, ◌<◌, ◌==◌, true, false, All, List, IfSome, MatchOption, length, slice_index_or};
 ghost use Rattle.bd_space.specs.Seats as seats;
 ghost use Rattle.bd_space.specs.Steps.{is_pid};
 
@@ -11,6 +11,16 @@ use bd_space::Process;
 impl ProcessTable {
     ghost use Rattle.bd_space.specs.declared.space.Process.{Process};
     ghost use Rattle.bd_processes.specs.Stands.{ProcessesAre};
+
+    /// The index of the process with this identity.
+    pub(crate) fn index_of(&self, made: u32) -> Option<usize>
+        ensures within { IfSome result (λ i. i < length self.now.list.items) }
+        ensures found { (processes : List Process) → ProcessesAre self.now processes → MatchOption result
+            (All (λ q. (q.made == made) ≡ false) processes)
+            (λ i. (d : Process) → (slice_index_or processes i d).made ≡ made) }
+    {
+        list::index_of(self.list.as_slice(), made)
+    }
 
     /// The process with this identity.
     pub fn made_at(&self, made: u32) -> Option<Process>

@@ -1,24 +1,14 @@
 -- A seat's thread is the one that was made where the map says.
-use Rattle.std.proofs.Common.{◌≡◌, ℕ, ◌<◌, ◌==◌, Bool, true, false, cond, List, [], ◌∷◌, length, get_or, Some, None, find, sym, ◌∙◌, arith, All, refl, ap, IfSome, eqb-true}
+use Rattle.std.proofs.Common.{◌≡◌, ℕ, ◌<◌, ◌==◌, Bool, true, false, cond, List, [], ◌∷◌, length, get_or, Some, None, find, sym, ◌∙◌, All, refl, ap, IfSome, eqb-true}
 use Rattle.std.specs.Prelude.{Option, option_map, MatchOption}
-use Rattle.std.proofs.lemmas.List.Elements.{All-cons}
 use Rattle.bd_space.specs.declared.space.Thread.{Thread}
 use Rattle.bd_space.specs.Seats.{thread_in}
 use Rattle.bd_processes.proofs.Rising.{distinct, find_none, find_at}
-use Rattle.bd_processes.proofs.Found.{by_key}
+use Rattle.bd_processes.proofs.Found.{by_key, none_found}
 use Rattle.bd_threads.specs.Apart.{AreApart}
 
 module _ {A : Type 0} (p : A → Bool) where
-  none_pass : (xs : List A) → find p xs ≡ None → All (λ x. p x ≡ false) xs
-  none_pass [] e = λ k d h. absurd (omega arith)
-  none_pass (x ∷ xs) e = by (p x) refl e (none_pass xs)
-    where
-      by : (b : Bool) → p x ≡ b → cond b (Some x) (find p xs) ≡ None
-          → (find p xs ≡ None → All (λ y. p y ≡ false) xs) → All (λ y. p y ≡ false) (x ∷ xs)
-      by true t e rest = cc
-      by false t e rest = All-cons (λ y. p y ≡ false) x xs t (rest e)
-
-  found_passes : (xs : List A) (y : A) → find p xs ≡ Some y → p y ≡ true
+  pub found_passes : (xs : List A) (y : A) → find p xs ≡ Some y → p y ≡ true
   found_passes [] y e = cc
   found_passes (x ∷ xs) y e = by (p x) refl e (found_passes xs y)
     where
@@ -38,7 +28,7 @@ module _ (places : ℕ → Option ℕ) (ts : List Thread) (h : AreApart places t
   none_there none = none_mapped made_of (thread_in ts seat) (sym (h.found seat) ∙ none)
 
   pub none_seated : places seat ≡ None → All (λ t. (t.seat == seat) ≡ false) ts
-  none_seated none = none_pass (λ t. t.seat == seat) ts (none_there none)
+  none_seated none = none_found (λ t. t.seat == seat) ts (none_there none)
 
   module _ (made : ℕ) (is : places seat ≡ Some made) where
     made_there : find (λ t. t.made == made) ts ≡ thread_in ts seat
@@ -48,7 +38,7 @@ module _ (places : ℕ → Option ℕ) (ts : List Thread) (h : AreApart places t
     pub seated : (o : Option ℕ) → IfSome o (λ i. i < length ts)
         → MatchOption o (All (λ t. (t.made == made) ≡ false) ts) (λ i. (d : Thread) → (get_or ts i d).made ≡ made)
         → MatchOption o (All (λ t. (t.seat == seat) ≡ false) ts) (λ i. (d : Thread) → (get_or ts i d).seat ≡ seat)
-    seated None within none = none_pass (λ t. t.seat == seat) ts (sym made_there ∙ find_none made_of made ts none)
+    seated None within none = none_found (λ t. t.seat == seat) ts (sym made_there ∙ find_none made_of made ts none)
     seated (Some i) within at = λ d.
         eqb-true _ seat (found_passes (λ t. t.seat == seat) ts (get_or ts i d)
         (sym made_there ∙ find_at made_of made ts i d (distinct made_of ts h.rising) within at))

@@ -24,12 +24,7 @@ pub(crate) fn index_of(threads: &[Thread], made: u32) -> Option<usize>
         (All (λ t. (t.made == made) ≡ false) threads.now)
         (λ i. (d : declared.Thread) → (slice_index_or threads.now i d).made ≡ made) }
 {
-    let i = threads.partition_point(|t| t.made < made);
-    if i < threads.len() && threads[i].made == made {
-        Some(i)
-    } else {
-        None
-    }
+    threads.binary_search_by_key(&made, |t| t.made).ok()
 }
 
 /// Whether a thread made there comes after all of these, where each came after those before it.

@@ -10,7 +10,7 @@ use crate::table::ThreadTable;
 use bd_space::Thread;
 use std::alloc::{AllocError, Global};
 
-// So many rows are looked through in less time than the map is.
+// Up to so many threads a walk through all of them takes less time than a look into the map.
 const FEW: usize = 8;
 
 impl ThreadTable {

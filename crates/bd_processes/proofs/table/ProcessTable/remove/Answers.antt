@@ -1,4 +1,4 @@
-use Rattle.std.proofs.Common.{◌≡◌, ◌<◌, ◌==◌, ℕ, Bool, false, All, length, get_or, None, Option, cond, ap, sym, subst, ◌∙◌}
+use Rattle.std.proofs.Common.{◌≡◌, ◌<◌, ◌==◌, ℕ, Bool, length, get_or, None, Option, cond, ap, sym, subst, ◌∙◌}
 use Rattle.std.specs.Prelude.{remove}
 use Rattle.std.proofs.lemmas.List.{get_or_default}
 use Rattle.std.proofs.lemmas.List.Quantifiers.{all_pairs_remove}
@@ -8,7 +8,6 @@ use Rattle.bd_words.specs.declared.key.WordKey.{WordKey}
 use Rattle.bd_words.specs.Keys.{same_word}
 use Rattle.bd_words.specs.Look.{look}
 use Rattle.bd_processes.specs.Keys.{pid_key}
-use Rattle.bd_processes.specs.Order.{IsRising}
 use Rattle.bd_processes.specs.Stands.{ProcessesAre}
 use Rattle.bd_processes.proofs.Keys.{same_pid}
 use Rattle.bd_processes.proofs.Pids.{all_left}
@@ -28,11 +27,8 @@ returns-in-Some-clause-stands c = λ ps h.
     let made = λ (q : Process). q.made in
     let pid = λ (q : Process). q.pid in
     let one = c.remove-process.result in
-    let same = c.as_slice.ensures.value ∙ h.items_are in
-    let within = subst (λ xs. i < length xs) same c.in-Some.ensures.within in
-    let there =
-    subst (λ xs. (d : Process) → (get_or xs i d).made ≡ c.args.made) same
-    (c.in-Some.ensures.found (subst IsRising (sym same) h.rising)) in
+    let within = subst (λ xs. i < length xs) h.items_are c.in-Some.ensures.within in
+    let there = c.in-Some.ensures.found ps h in
     let gone = filter_at made c.args.made ps i (distinct made ps h.rising) within there in
     let is = ap (λ xs. get_or xs i one) (sym h.items_are) ∙ sym c.remove-process.ensures.value in
     let old = c.args.self.now.by_pid in
@@ -50,8 +46,5 @@ returns-in-Some-clause-stands c = λ ps h.
 
 pub returns-in_default-clause-stands : goal.returns-in_default-clause-stands
 returns-in_default-clause-stands c = λ ps h.
-    let same = c.as_slice.ensures.value ∙ h.items_are in
-    let none : All (λ q. (q.made == c.args.made) ≡ false) ps =
-    subst (λ xs. All (λ q. (q.made == c.args.made) ≡ false) xs) same
-    (c.in_default.ensures.found (subst IsRising (sym same) h.rising)) in
+    let none = c.in_default.ensures.found ps h in
     subst (ProcessesAre c.args.self.now) (sym (filter_none (λ (q : Process). q.made) c.args.made ps none)) h

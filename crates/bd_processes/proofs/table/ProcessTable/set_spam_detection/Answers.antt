@@ -1,8 +1,7 @@
-use Rattle.std.proofs.Common.{◌≡◌, ◌<◌, ◌==◌, false, All, length, get_or, set, ap, sym, subst, refl, ◌∙◌}
+use Rattle.std.proofs.Common.{◌≡◌, ◌<◌, ◌==◌, length, get_or, set, ap, sym, subst, refl, ◌∙◌}
 use Rattle.bd_space.specs.declared.space.Process.{Process}
 use Rattle.bd_space.specs.Spam.{detecting}
 use Rattle.bd_space.specs.Steps.{is_pid}
-use Rattle.bd_processes.specs.Order.{IsRising}
 use Rattle.bd_processes.specs.Stands.{ProcessesAre}
 use Rattle.bd_processes.proofs.Pids.{all_get, all_set}
 use Rattle.bd_processes.proofs.Rising.{distinct}
@@ -15,8 +14,7 @@ invariant_of-self c =
     let all = c.args.self.now.list.items in
     let one = c.index_mut.result.now in
     let i = c.in-Some.i in
-    let within = subst (λ xs. i < length xs) c.as_slice.ensures.value c.in-Some.ensures.within in
-    let fit = ap fits c.index_mut.ensures.value ∙ all_get fits all i one c.args.self.now.pids_fit within in
+    let fit = ap fits c.index_mut.ensures.value ∙ all_get fits all i one c.args.self.now.pids_fit c.in-Some.ensures.within in
     record { pids_fit = all_set fits all i (detecting c.args.on one) c.args.self.now.pids_fit fit }
 
 pub returns-in-Some-clause-stands : goal.returns-in-Some-clause-stands
@@ -27,11 +25,8 @@ returns-in-Some-clause-stands c = λ ps h.
     let f = detecting c.args.on in
     let is_it = λ (q : Process). q.made == c.args.made in
     let one = c.index_mut.result.now in
-    let same = c.as_slice.ensures.value ∙ h.items_are in
-    let within = subst (λ xs. i < length xs) same c.in-Some.ensures.within in
-    let there =
-    subst (λ xs. (d : Process) → (get_or xs i d).made ≡ c.args.made) same
-    (c.in-Some.ensures.found (subst IsRising (sym same) h.rising)) in
+    let within = subst (λ xs. i < length xs) h.items_are c.in-Some.ensures.within in
+    let there = c.in-Some.ensures.found ps h in
     let is = c.index_mut.ensures.value ∙ ap (λ xs. get_or xs i one) h.items_are in
     record {
       items_are = ap (λ xs. set xs i (f one)) h.items_are
@@ -44,9 +39,6 @@ returns-in-Some-clause-stands c = λ ps h.
 
 pub returns-in_default-clause-stands : goal.returns-in_default-clause-stands
 returns-in_default-clause-stands c = λ ps h.
-    let same = c.as_slice.ensures.value ∙ h.items_are in
-    let none : All (λ q. (q.made == c.args.made) ≡ false) ps =
-    subst (λ xs. All (λ q. (q.made == c.args.made) ≡ false) xs) same
-    (c.in_default.ensures.found (subst IsRising (sym same) h.rising)) in
+    let none = c.in_default.ensures.found ps h in
     subst (ProcessesAre c.args.self.now)
     (sym (changed_none (λ (q : Process). q.made) (detecting c.args.on) c.args.made ps none)) h
