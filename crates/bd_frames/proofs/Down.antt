@@ -1,5 +1,5 @@
 -- The way down a thread's stack.
-use Rattle.std.proofs.Common.{◌≡◌, ℕ, zero, suc, ◌≤◌, ◌<◌, Bool, true, false, cond, List, [], ◌∷◌, ◌++◌, Option, Some, None, map, filter, reverse, take, drop, length, get_or, set, is_some, refl, ap, sym, subst, ◌∙◌, arith, append_assoc}
+use Rattle.std.proofs.Common.{◌≡◌, ℕ, zero, suc, ◌≤◌, ◌<◌, Bool, true, false, cond, List, [], ◌∷◌, ◌++◌, Option, Some, None, map, filter, reverse, take, drop, length, get_or, set, is_some, refl, ap, sym, subst, ◌∙◌, arith, append-nil, append_assoc}
 use Rattle.std.specs.List.{list_any, slice_get}
 use Rattle.std.specs.Option.{option_and_then}
 use Rattle.std.proofs.lemmas.List.{reverse-reverse}
@@ -184,12 +184,13 @@ turned n xs ys zs h e =
     back (suc n) (x ∷ xs) ys h = back n xs ys (omega (arith, h))
 
 -- one more is served, or none
-pub served-next : (xs : List ℕ) (ys : List Frame) (b : Bool) (f : Frame) → b ≡ true
-    → (xs ++ reverse (map made_of ys)) ++ f.made ∷ [] ≡ xs ++ reverse (map made_of (cond b (f ∷ ys) ys))
-served-next xs ys b f e =
-    append_assoc xs (reverse (map made_of ys)) (f.made ∷ [])
-    ∙ ap (λ (zs : List ℕ). xs ++ zs) (sym (reverse_onto (map made_of ys) f.made []))
-    ∙ ap (λ (c : Bool). xs ++ reverse (map made_of (cond c (f ∷ ys) ys))) (sym e)
+pub served-next : (q : Frame → Bool) (xs : List ℕ) (ys : List Frame) (f : Frame)
+    → (xs ++ reverse (map made_of ys)) ++ map made_of (filter q (f ∷ [])) ≡ xs ++ reverse (map made_of (cond (q f) (f ∷ ys) ys))
+served-next q xs ys f = at (q f)
+  where
+    at : (b : Bool) → (xs ++ reverse (map made_of ys)) ++ map made_of (cond b (f ∷ []) []) ≡ xs ++ reverse (map made_of (cond b (f ∷ ys) ys))
+    at true = append_assoc xs (reverse (map made_of ys)) (f.made ∷ []) ∙ ap (λ (zs : List ℕ). xs ++ zs) (sym (reverse_onto (map made_of ys) f.made []))
+    at false = append-nil (xs ++ reverse (map made_of ys))
 
 -- those that pass are among those of the thread
 module _ (q r : Frame → Bool) (h : (x : Frame) → q x ≡ false → r x ≡ false) where

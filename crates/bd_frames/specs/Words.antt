@@ -1,5 +1,5 @@
 -- Words on frames in the order in which they came in.
-use Rattle.std.specs.Prelude.{ℕ, ◌==◌, ◌&&◌, Bool, true, false, List, Option, Some, None, find, reverse}
+use Rattle.std.specs.Prelude.{ℕ, ◌≡◌, ◌==◌, ◌&&◌, Bool, true, false, List, Option, Some, None, find, reverse}
 use Rattle.std.specs.List.{list_any}
 use Rattle.bd_space.specs.declared.space.Frame.{Frame}
 use Rattle.bd_space.specs.declared.space.Server.{Server}
@@ -46,3 +46,7 @@ lost_frame f = record f { server = lost f.server }
 -- the thread is gone as caller and as server
 abbrev pub left_frame : ℕ → Frame → Frame
 left_frame seat f = record f { caller = gone_caller seat f.caller; server = gone_server seat f.server }
+
+-- whatever is given is what g says
+abbrev pub GivesBy : {A B : Type 0} → (A → B → Type 0) → (A → B) → Type 0
+GivesBy {A} {B} gives g = (x : A) (y : B) → gives x y → y ≡ g x

@@ -1,55 +1,58 @@
 //! Changes of frames where they stand.
 
 ghost use Rattle.std.specs.Prelude.{ℕ, Bool, ◌≡◌, ◌==◌, ◌≤◌, map, vec_len, vec_capacity};
+ghost use Rattle.bd_space.specs.declared.space.Frame as declared;
 ghost use Rattle.bd_space.specs.Frames as spec;
 ghost use Rattle.bd_space.specs.ReadItems as reading;
 ghost use Rattle.bd_space.specs.Words.{changed};
 ghost use Rattle.bd_space.specs.Ranges.{IsWithin};
-ghost use Rattle.bd_frames.specs.Words.{lost_frame, left_frame};
+ghost use Rattle.bd_frames.specs.Words.{GivesBy, lost_frame, left_frame};
 
 use crate::server::{gone_caller, gone_server, lost_server};
 use bd_space::{Frame, Server};
 use std::ops::Range;
 
-/// The thread of this seat serves the call made there, which stands between these indices.
-pub(crate) fn serve_in(frames: &mut Vec<Frame>, range: Range<usize>, made: u32, seat: u32)
+/// The frame of the call made there, which stands between these indices, becomes what `f` makes of it.
+pub(crate) fn change_in<F: Fn(Frame) -> Frame>(
+    frames: &mut Vec<Frame>,
+    range: Range<usize>,
+    made: u32,
+    f: F,
+)
+    requires callable { F.IsAlwaysCallable f }
     requires from { range.start ≤ range.end }
     requires to { range.end ≤ vec_len frames.old }
-    ensures items { IsWithin (spec.is_frame made) range.start range.end frames.old.items → frames.new.items
-        ≡ changed (spec.is_frame made) (reading.serve seat) frames.old.items }
-    ensures len { vec_len frames.new ≡ vec_len frames.old }
-    ensures capacity { vec_capacity frames.new ≡ vec_capacity frames.old }
-{
-    for i in range.start..range.end {
-        if frames[i].made == made {
-            frames[i].server = Server::Serving(seat);
-        }
-    }
-}
-
-fn frame_lost(frame: Frame) -> Frame
-    ensures { result ≡ lost_frame frame }
-{
-    Frame {
-        server: lost_server(frame.server),
-        ..frame
-    }
-}
-
-/// The call made there, which stands between these indices, has lost who would have served it.
-pub(crate) fn lose_in(frames: &mut Vec<Frame>, range: Range<usize>, made: u32)
-    requires from { range.start ≤ range.end }
-    requires to { range.end ≤ vec_len frames.old }
-    ensures items { IsWithin (spec.is_frame made) range.start range.end frames.old.items → frames.new.items
-        ≡ changed (spec.is_frame made) lost_frame frames.old.items }
+    ensures items { (g : declared.Frame → declared.Frame) → GivesBy (λ x y. F.post f x y) g
+        → IsWithin (spec.is_frame made) range.start range.end frames.old.items
+        → frames.new.items ≡ changed (spec.is_frame made) g frames.old.items }
     ensures len { vec_len frames.new ≡ vec_len frames.old }
     ensures capacity { vec_capacity frames.new ≡ vec_capacity frames.old }
 {
     for i in range.start..range.end {
         let frame = frames[i];
         if frame.made == made {
-            frames[i] = frame_lost(frame);
+            frames[i] = f(frame);
         }
+    }
+}
+
+/// The thread of this seat serves the frame's call.
+pub(crate) fn frame_served(seat: u32, frame: Frame) -> Frame
+    ensures { result ≡ reading.serve seat frame }
+{
+    Frame {
+        server: Server::Serving(seat),
+        ..frame
+    }
+}
+
+/// The frame's call has lost who would have served it.
+pub(crate) fn frame_lost(frame: Frame) -> Frame
+    ensures { result ≡ lost_frame frame }
+{
+    Frame {
+        server: lost_server(frame.server),
+        ..frame
     }
 }
 

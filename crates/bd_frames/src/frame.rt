@@ -1,6 +1,6 @@
 //! What is looked for among frames. Where a thread's stack isn't known, its innermost is looked for from the newest on.
 
-ghost use Rattle.std.specs.Prelude.{ℕ, Bool, true, ◌≡◌, ◌==◌, ◌&&◌, ◌++◌, map, filter, find, OnOk};
+ghost use Rattle.std.specs.Prelude.{ℕ, Bool, true, ◌≡◌, ◌==◌, ◌&&◌, ◌≤◌, ◌++◌, ◌∷◌, [], map, filter, find, vec_len, OnOk};
 ghost use Rattle.std.specs.List.{list_any};
 ghost use Rattle.bd_space.specs.Frames as spec;
 ghost use Rattle.bd_frames.specs.Places.{IsAfter};
@@ -111,6 +111,22 @@ pub(crate) fn oldest_among(
         .find(|f| is_among(chosen, f) && is_abandoned(children, f))
 }
 
+/// Where the frame's call was made, put after what is there, if the thread serves it.
+pub(crate) fn push_if_served(
+    frame: &Frame,
+    seat: u32,
+    served: &mut Vec<u32>,
+) -> Result<(), AllocError>
+    ensures served { OnOk result (served.new.items
+        ≡ served.old.items ++ map spec.made_of (filter (λ f. spec.serves seat f.server) (frame.now ∷ []))) }
+    ensures longer { vec_len served.old ≤ vec_len served.new }
+{
+    if serves(seat, frame.server) {
+        served.push(frame.made)?;
+    }
+    Ok(())
+}
+
 pub(crate) fn push_served(
     frames: &[Frame],
     seat: u32,
@@ -120,9 +136,7 @@ pub(crate) fn push_served(
         ≡ served.old.items ++ map spec.made_of (filter (λ f. spec.serves seat f.server) frames.now)) }
 {
     for frame in frames {
-        if serves(seat, frame.server) {
-            served.push(frame.made)?;
-        }
+        push_if_served(frame, seat, served)?;
     }
     Ok(())
 }

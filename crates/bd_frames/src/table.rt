@@ -13,7 +13,7 @@ ghost use Rattle.bd_frames.specs.InOrder.{IsInOrder};
 ghost use Rattle.bd_frames.specs.Words.{newest_in, abandoned_in, oldest_in, lost_frame, left_frame};
 
 use crate::ancestry::{Ancestry, ancestry_among};
-use crate::change::{lose_in, serve_in};
+use crate::change::{change_in, frame_lost, frame_served};
 use crate::children::{add_child, take_child};
 use crate::frame::{
     abandoned_among, frame_among, is_after_parent, is_newest, newest_among, oldest_among,
@@ -190,7 +190,7 @@ impl FrameTable {
         let at = newest_at(&self.frames, self.rising, made);
         self.stacks.hand_out(&self.frames, at, made, seat);
         let range = range_of(&self.frames, self.rising, made);
-        serve_in(&mut self.frames, range, made, seat);
+        change_in(&mut self.frames, range, made, |f| frame_served(seat, f));
     }
 
     /// The call made there has lost who would have served it.
@@ -201,7 +201,7 @@ impl FrameTable {
         let server = self.frame(made).map(|f| f.server);
         self.stacks.forget_unread(server);
         let range = range_of(&self.frames, self.rising, made);
-        lose_in(&mut self.frames, range, made);
+        change_in(&mut self.frames, range, made, |f| frame_lost(f));
     }
 
     /// The thread is gone from its frames, as caller and as server.

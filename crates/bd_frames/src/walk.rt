@@ -10,9 +10,8 @@ ghost use Rattle.bd_frames.specs.Linked.{IsWay, IsStep, StacksAre};
 ghost use Rattle.bd_frames.specs.Words.{left_frame};
 
 use crate::change::{frame_without, leave_all};
-use crate::frame::calls;
+use crate::frame::{calls, push_if_served};
 use crate::place::{newest_at, part};
-use crate::server::serves;
 use crate::stacks::{Below, Stacks};
 use crate::tops::top_of;
 use bd_space::Frame;
@@ -110,9 +109,7 @@ pub(crate) fn push_served_down(
     };
     while let Some(older) = step(frames, below, seat, way) {
         let frame = frames[older.end];
-        if serves(seat, frame.server) {
-            served.push(frame.made)?;
-        }
+        push_if_served(&frame, seat, served)?;
         way = older;
     }
     Ok(())

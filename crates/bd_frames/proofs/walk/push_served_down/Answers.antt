@@ -1,4 +1,4 @@
-use Rattle.std.proofs.Common.{ℕ, Bool, List, append-nil, ◌≤◌, ◌<◌, ◌++◌, ◌∷◌, [], cond, map, filter, reverse, drop, length, get_or, refl, ap, sym, ◌∙◌, arith}
+use Rattle.std.proofs.Common.{ℕ, List, append-nil, ◌≤◌, ◌<◌, ◌++◌, ◌∷◌, [], map, filter, reverse, drop, length, get_or, refl, ap, sym, ◌∙◌, arith}
 use Rattle.bd_space.specs.declared.space.Frame.{Frame}
 use Rattle.bd_space.specs.Frames.{takes_part, serves, made_of}
 use Rattle.bd_frames.proofs.Down.{no_frame, way-on, drop-whole, kept-next, kept-left, takes-serves, served-next}
@@ -14,30 +14,6 @@ loop-older-init c = record {
   longer = omega arith;
 }
 
-pub loop-older-preserved-in_ok-push : goal.loop-older-preserved-in_ok-push
-loop-older-preserved-in_ok-push c =
-    let inv = c.loop-older.invariant in
-    let seat = c.args.seat in
-    let fs = c.args.frames.now in
-    let w = c.loop-older.way in
-    let v = c.in-Some.older in
-    let low : v.end < w.end = c.in-Some.ensures.lower in
-    let few : w.end ≤ length fs = inv.within in
-    let q = λ (x : Frame). serves seat x.server in
-    let f = get_or fs v.end no_frame in
-    let rest = filter q (drop w.end fs) in
-    record {
-      within = omega (arith, low, few);
-      way = λ k. way-on seat fs c.args.below.now w v (inv.way k) low (c.in-Some.ensures.steps (inv.way k));
-      so_far = λ k.
-          let n = c.in-Some.ensures.steps (inv.way k) in
-          let kept = kept-next (takes_part seat) q (takes-serves seat) w.end v.end fs no_frame low (omega (arith, low, few)) n.newest in
-          c.in_ok-push.ensures.items ∙ ap (λ (ns : List ℕ). ns ++ f.made ∷ []) (inv.so_far k)
-          ∙ served-next c.args.served.now.items rest (q f) f (sym c.serves.ensures ∙ c.if-serves.true)
-          ∙ sym (ap (λ (zs : List Frame). c.args.served.now.items ++ reverse (map made_of zs)) kept);
-      longer = omega (arith, inv.longer, c.in_ok-push.ensures.len);
-    }
-
 pub loop-older-preserved : goal.loop-older-preserved
 loop-older-preserved c =
     let inv = c.loop-older.invariant in
@@ -49,17 +25,18 @@ loop-older-preserved c =
     let few : w.end ≤ length fs = inv.within in
     let q = λ (x : Frame). serves seat x.server in
     let f = get_or fs v.end no_frame in
-    let rest = filter q (drop w.end fs) in
+    let xs = c.args.served.now.items in
     record {
       within = omega (arith, low, few);
       way = λ k. way-on seat fs c.args.below.now w v (inv.way k) low (c.in-Some.ensures.steps (inv.way k));
       so_far = λ k.
           let n = c.in-Some.ensures.steps (inv.way k) in
           let kept = kept-next (takes_part seat) q (takes-serves seat) w.end v.end fs no_frame low (omega (arith, low, few)) n.newest in
-          inv.so_far k
-          ∙ sym (ap (λ (zs : List Frame). c.args.served.now.items ++ reverse (map made_of zs))
-          (kept ∙ ap (λ (b : Bool). cond b (f ∷ rest) rest) (sym c.serves.ensures ∙ c.if-serves.false)));
-      longer = inv.longer;
+          c.in_ok-push_if_served.ensures.served
+          ∙ ap (λ (ns : List ℕ). ns ++ map made_of (filter q (f ∷ []))) (inv.so_far k)
+          ∙ served-next q xs (filter q (drop w.end fs)) f
+          ∙ sym (ap (λ (zs : List Frame). xs ++ reverse (map made_of zs)) kept);
+      longer = omega (arith, inv.longer, c.in_ok-push_if_served.ensures.longer);
     }
 
 pub returns-clause-served : goal.returns-clause-served

@@ -1,4 +1,4 @@
-use Rattle.std.proofs.Common.{ap, refl, sym, subst, ◌∙◌}
+use Rattle.std.proofs.Common.{ap, refl, rules, sym, subst, ◌∙◌}
 use Rattle.bd_space.specs.Words.{changed}
 use Rattle.bd_space.specs.Frames.{is_frame}
 use Rattle.bd_frames.specs.Words.{lost_frame}
@@ -17,7 +17,7 @@ returns-clause-stands c = λ l h.
     let at = c.range_of-range.result in
     let rises = c.args.self.now.rises in
     record {
-      items_are = c.lose_in.ensures.items (subst (λ xs. RiseIf c.args.self.now.rising xs → IsWithin q at.start at.end xs) c.deref.ensures.value c.range_of-range.ensures.within rises)
+      items_are = c.change_in.ensures.items lost_frame (λ x y k. search rules) (subst (λ xs. RiseIf c.args.self.now.rising xs → IsWithin q at.start at.end xs) c.deref.ensures.value c.range_of-range.ensures.within rises)
           ∙ ap (changed q f) h.items_are;
       rises = λ e. rising-changed q f (λ x. refl) 0 l (h.rises e);
       older = λ e. older-changed q f (λ x. (refl, refl)) l (h.older e);
@@ -30,5 +30,5 @@ invariant_of-self c =
     let t = c.args.self.now in
     let q = is_frame c.args.made in
     let at = c.range_of-range.result in
-    let is = c.lose_in.ensures.items (subst (λ xs. RiseIf t.rising xs → IsWithin q at.start at.end xs) c.deref.ensures.value c.range_of-range.ensures.within t.rises) in
-    record { rises = λ e. subst (IsRising 0) (sym is) (rising-changed q (lost_frame) (λ x. refl) 0 t.frames.items (t.rises e)) }
+    let is = c.change_in.ensures.items lost_frame (λ x y k. search rules) (subst (λ xs. RiseIf t.rising xs → IsWithin q at.start at.end xs) c.deref.ensures.value c.range_of-range.ensures.within t.rises) in
+    record { rises = λ e. subst (IsRising 0) (sym is) (rising-changed q lost_frame (λ x. refl) 0 t.frames.items (t.rises e)) }
