@@ -1,5 +1,5 @@
 -- What is kept of the seats, and what a change of the work items leaves of it.
-use Rattle.std.proofs.Common.{◌≡◌, ℕ, zero, suc, ◌<◌, ◌≤◌, ◌+◌, ◌==◌, Bool, true, false, cond, not, ◌&&◌, ◌||◌, List, [], ◌∷◌, ◌++◌, Some, None, refl, ap, sym, subst, ◌∙◌, length, get_or, set, filter, find, map, take, drop, arith, eqb-true, IfSome, ◌⊎◌, inl, inr}
+use Rattle.std.proofs.Common.{◌≡◌, ℕ, ◌<◌, ◌≤◌, ◌+◌, ◌==◌, Bool, true, false, cond, not, ◌&&◌, ◌||◌, List, [], ◌∷◌, Some, None, refl, ap, sym, subst, ◌∙◌, length, get_or, set, filter, take, eqb-true, IfSome}
 use Rattle.std.specs.Prelude.{Option}
 use Rattle.std.specs.Option.{is_none}
 use Rattle.std.specs.List.{list_any}
@@ -26,24 +26,20 @@ use Rattle.bd_space.specs.Notices.{has_notice_in}
 use Rattle.bd_calls.specs.declared.ready.Seen.{Seen}
 use Rattle.bd_calls.specs.declared.ready.ReadySeats.{ReadySeats}
 use Rattle.bd_calls.specs.Ready.{seen_at, is_of, unless_of, tells_of, KeepsOnly, IsSeen, AreSeen}
+use Rattle.bd_links.proofs.Fronts.{and_false}
+use Rattle.bd_links.proofs.OnList.{neither}
+use Rattle.bd_links.proofs.QueueLemmas.{same_list-eq}
+use Rattle.bd_threads.proofs.Seated.{found_passes}
 use Rattle.bd_calls.proofs.Plain.{anything-to-read}
 
 -- ---- a seat that was seen
-
-found-passes : (p : Thread → Bool) (ts : List Thread) (t : Thread) → find p ts ≡ Some t → p t ≡ true
-found-passes p [] t e = absurd (cc)
-found-passes p (x ∷ xs) t e = by (p x) refl e (found-passes p xs t)
-  where
-    by : (b : Bool) → p x ≡ b → cond b (Some x) (find p xs) ≡ Some t → (find p xs ≡ Some t → p t ≡ true) → p t ≡ true
-    by true k e rest = let same : x ≡ t = cc in ap p (sym same) ∙ k
-    by false k e rest = rest e
 
 -- what was seen tells whether the thread has anything to read
 pub seen-ready : (fs : List Frame) (ts : List Thread) (ws : List Work) (seat : ℕ) (x : Seen) (t : Thread) → x.thread ≡ Some t → IsSeen ts ws seat x
     → (x.own || (x.shared && (t.looping && is_none (innermost_in fs t.seat)))) ≡ is_some_and (thread_in ts seat) (λ u. not (is_empty (work_on ws (reads_in fs ws u))))
 seen-ready fs ts ws seat x t is seen =
     let found : thread_in ts seat ≡ Some t = sym seen.thread ∙ is in
-    let at : t.seat ≡ seat = eqb-true _ _ (found-passes (λ u. u.seat == seat) ts t found) in
+    let at : t.seat ≡ seat = eqb-true _ _ (found_passes (λ (u : Thread). u.seat == seat) ts t found) in
     let idle = t.looping && is_none (innermost_in fs t.seat) in
     let own : x.own ≡ has_work_in ws (OfThread t.seat) = seen.own ∙ ap (λ n. has_work_in ws (OfThread n)) (sym at) in
     let shared : x.shared ≡ has_work_in ws (OfProcess t.process) =
@@ -106,26 +102,16 @@ kept-seen old new lost ts ws vs before kept as_before = λ seat x at.
     shared seat x gone (Some t) is h =
         h ∙ sym (as_before (OfProcess t.process) seat x gone (ap (λ o. is_some_and o (λ u. u.process == t.process)) is ∙ eq-eqb t.process t.process refl))
 
-same-list : (a b : TodoList) → same_list a b ≡ true → a ≡ b
-same-list (OfThread t) (OfThread u) e = ap OfThread (eqb-true t u e)
-same-list (OfThread t) (OfProcess q) e = absurd (cc)
-same-list (OfProcess p) (OfThread u) e = absurd (cc)
-same-list (OfProcess p) (OfProcess q) e = ap OfProcess (eqb-true p q e)
+differs : (a b : TodoList) → (a ≡ b → ⊥) → same_list a b ≡ false
+differs a b far = by (same_list a b) refl
+  where
+    by : (t : Bool) → same_list a b ≡ t → same_list a b ≡ false
+    by false e = e
+    by true e = absurd (far (same_list-eq a b e))
 
 -- a list that is told of is another than one that isn't
-apart : (list other : TodoList) (seat : ℕ) (x : Seen) → tells_of list seat x ≡ true → tells_of other seat x ≡ false → same_list list other ≡ false
-apart list other seat x told gone = by (same_list list other) refl
-  where
-    by : (b : Bool) → same_list list other ≡ b → same_list list other ≡ false
-    by false e = e
-    by true e = let never : true ≡ false = sym told ∙ ap (λ l. tells_of l seat x) (same-list list other e) ∙ gone in absurd (cc)
-
-apart-too : (other list : TodoList) (seat : ℕ) (x : Seen) → tells_of other seat x ≡ false → tells_of list seat x ≡ true → same_list other list ≡ false
-apart-too other list seat x gone told = by (same_list other list) refl
-  where
-    by : (b : Bool) → same_list other list ≡ b → same_list other list ≡ false
-    by false e = e
-    by true e = let never : true ≡ false = sym told ∙ ap (λ l. tells_of l seat x) (sym (same-list other list e)) ∙ gone in absurd (cc)
+apart : (list other : TodoList) (seat : ℕ) (x : Seen) → tells_of list seat x ≡ true → tells_of other seat x ≡ false → list ≡ other → ⊥
+apart list other seat x told gone e = let never : true ≡ false = sym told ∙ ap (λ l. tells_of l seat x) e ∙ gone in cc
 
 or-false : (b : Bool) → (b || (false || false)) ≡ b
 or-false true = refl
@@ -135,7 +121,7 @@ or-false false = refl
 pub pushed-on : (place : ℕ) (ws : List Work) (other : TodoList) (kind : WorkKind) (list : TodoList) (seat : ℕ) (x : Seen)
     → tells_of other seat x ≡ false → tells_of list seat x ≡ true → has_work_in (with_work place ws other kind) list ≡ has_work_in ws list
 pushed-on place ws other kind list seat x gone told =
-    list_any-append (is_on list) ws _ ∙ ap (λ b. has_work_in ws list || (b || false)) (apart list other seat x told gone) ∙ or-false (has_work_in ws list)
+    list_any-append (is_on list) ws _ ∙ ap (λ b. has_work_in ws list || (b || false)) (differs list other (apart list other seat x told gone)) ∙ or-false (has_work_in ws list)
 
 pub due-on : (place : ℕ) (ws : List Work) (turn : Option Turn) (list : TodoList) (seat : ℕ) (x : Seen)
     → is_some_and turn (λ t. is_of t.receiver x) ≡ false → tells_of list seat x ≡ true → has_work_in (first_due place ws turn) list ≡ has_work_in ws list
@@ -151,23 +137,11 @@ none-taken : (list : TodoList) (seat : ℕ) (x : Seen) (w : Work) (taken : List 
     → same_list list w.list ≡ true → list_any (λ d. is_item w d) taken ≡ false
 none-taken list seat x w [] gone told on = refl
 none-taken list seat x w (d ∷ ds) gone told on =
-    let first : tells_of d.list seat x ≡ false = or-first (tells_of d.list seat x) _ gone in
-    let rest : list_any (λ e. tells_of e.list seat x) ds ≡ false = or-second (tells_of d.list seat x) _ gone in
-    let here : same_list d.list w.list ≡ false = ap (same_list d.list) (sym (same-list list w.list on)) ∙ apart-too d.list list seat x first told in
-    ap (λ b. (same_identity w.id d.id && b) || list_any (λ e. is_item w e) ds) here ∙ ap (λ b. b || list_any (λ e. is_item w e) ds) (and-false (same_identity w.id d.id))
-    ∙ none-taken list seat x w ds rest told on
-  where
-    or-first : (a b : Bool) → (a || b) ≡ false → a ≡ false
-    or-first true b e = absurd (cc)
-    or-first false b e = refl
-
-    or-second : (a b : Bool) → (a || b) ≡ false → b ≡ false
-    or-second true b e = absurd (cc)
-    or-second false b e = e
-
-    and-false : (a : Bool) → (a && false) ≡ false
-    and-false true = refl
-    and-false false = refl
+    let both = neither (tells_of d.list seat x) _ gone in
+    let other = differs d.list list (λ e. apart list d.list seat x told both.0 (sym e)) in
+    let here : same_list d.list w.list ≡ false = ap (same_list d.list) (sym (same_list-eq list w.list on)) ∙ other in
+    ap (λ b. (same_identity w.id d.id && b) || list_any (λ e. is_item w e) ds) here ∙ ap (λ b. b || list_any (λ e. is_item w e) ds) (and_false (same_identity w.id d.id))
+    ∙ none-taken list seat x w ds both.1 told on
 
 pub taken-from : (taken ws : List Work) (list : TodoList) (seat : ℕ) (x : Seen) → list_any (λ d. tells_of d.list seat x) taken ≡ false → tells_of list seat x ≡ true
     → has_work_in (without_taken taken ws) list ≡ has_work_in ws list

@@ -73,8 +73,8 @@ fn forget_each(seats: &mut Vec<Option<Seen>>)
     }
 }
 
-// Looks at a seat.
-fn look_at(threads: &ThreadTable, todo: &WorkTable, seat: u32) -> Seen
+/// Looks at a seat.
+pub(crate) fn look_at(threads: &ThreadTable, todo: &WorkTable, seat: u32) -> Seen
     ensures { (ws : List works.Work) → links.WorksAre todo.now ws → spec.IsSeen (listed threads.now) ws seat result }
 {
     let own = todo.has_any(TodoList::OfThread(seat));

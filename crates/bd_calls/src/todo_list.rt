@@ -8,7 +8,6 @@ ghost use Rattle.std.specs.Option.{is_none};
 ghost use Rattle.bd_space.specs.Frames.{innermost_in};
 ghost use Rattle.bd_space.specs.Words.{is_some_and};
 ghost use Rattle.bd_space.specs.Todo as spec;
-ghost use Rattle.bd_space.specs.Reading as reading;
 ghost use Rattle.bd_space.specs.Notices as notices;
 ghost use Rattle.bd_space.specs.declared.space.Frame as declared;
 ghost use Rattle.bd_frames.specs.Stands as frame_table;
@@ -17,7 +16,7 @@ ghost use Rattle.bd_links.specs.TodoList as replies;
 ghost use Rattle.bd_links.specs.TodoList.{AnswersBy};
 
 use crate::frame::is_in_no_call;
-use crate::ready::has_seen;
+use crate::ready::{Seen, has_seen, look_at};
 use crate::table::CallTable;
 use bd_frames::FrameTable;
 use bd_links::{WorkTable, Works};
@@ -45,20 +44,12 @@ fn reads_in(frames: &FrameTable, todo: &WorkTable, thread: &Thread) -> Option<To
     }
 }
 
-// The frames are looked at only where its process has work.
-fn has_to_read(frames: &FrameTable, todo: &WorkTable, thread: &Thread) -> bool
-    ensures { (fs : List declared.Frame) → frame_table.FramesAre frames.now fs → links.Tells todo.now result
-        (λ l. not (reading.is_empty (spec.work_on l (spec.reads_in fs l thread.now)))) }
-{
-    todo.has_any(TodoList::OfThread(thread.seat))
-        || (todo.has_any(TodoList::OfProcess(thread.process)) && is_idle(frames, thread))
-}
-
 impl CallTable {
     ghost use Rattle.bd_space.specs.declared.space.Object.{Object};
     ghost use Rattle.bd_space.specs.Space.{Space};
     ghost use Rattle.bd_space.specs.Histories.{is_ready};
     ghost use Rattle.bd_space.specs.Tables.{Tells, Makes, MakesAt};
+    ghost use Rattle.bd_calls.specs.Ready.{IsSeen};
     ghost use Rattle.bd_calls.specs.Stands.{Stands, StandsFor};
     ghost use Rattle.bd_calls.specs.Room.{Uses, UsesNothing, nothing, work_room};
 
@@ -98,13 +89,13 @@ impl CallTable {
         self.todo.first_reply(list)
     }
 
-    // Whether a seat's thread has anything to read, of which nothing is kept.
-    fn is_found_ready(&self, seat: u32) -> bool
-        ensures { Tells (StandsFor self.now) result (λ s. is_ready s seat) }
+    // What is kept of the seat, or what is seen of it now.
+    fn seen_at(&self, seat: u32) -> Seen
+        ensures { (s : Space) → StandsFor self.now s → IsSeen s.threads s.todo seat result }
     {
-        match self.threads.thread(seat) {
-            Some(thread) => has_to_read(&self.frames, &self.todo, &thread),
-            None => false,
+        match self.ready.seen(seat) {
+            Some(seen) => seen,
+            None => look_at(&self.threads, &self.todo, seat),
         }
     }
 
@@ -112,10 +103,7 @@ impl CallTable {
     pub fn is_ready(&self, seat: u32) -> bool
         ensures { Tells (StandsFor self.now) result (λ s. is_ready s seat) }
     {
-        match self.ready.seen(seat) {
-            Some(seen) => has_seen(&self.frames, &seen),
-            None => self.is_found_ready(seat),
-        }
+        has_seen(&self.frames, &self.seen_at(seat))
     }
 
     /// A work item comes onto a list, made at this place.

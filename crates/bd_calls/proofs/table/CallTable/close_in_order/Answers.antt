@@ -2,7 +2,7 @@ use Rattle.std.proofs.Common.{get_or, subst, sym, arith}
 use Rattle.std.proofs.lemmas.List.{drop_all, drop_more}
 use Rattle.std.proofs.lemmas.List.Sorted.{IsNonDecreasingBy-from_sort}
 use Rattle.bd_calls.specs.Stands.{StandsFor}
-use Rattle.bd_calls.proofs.Rooms.{uses-none, uses-then, uses-at_most}
+use Rattle.bd_calls.proofs.Rooms.{uses-none, uses-both}
 use Rattle.bd_calls.proofs.InOrder.{each-begins, each-next, each-done, in-order_after}
 use Rattle.bd_calls.proofs.table.CallTable.close_in_order.Goals as goal
 
@@ -10,7 +10,7 @@ pub loop-made-init : goal.loop-made-init
 loop-made-init c = record {
   goes_on = λ s stands at. each-begins _ _ _ c.sort_unstable.new.self s stands at (c.count_frames-left.ensures.frames s stands);
   left = omega (arith, c.count_frames-left.ensures.count);
-  uses = uses-none c.args.self.now _ (omega (arith, c.count_frames-left.ensures.count));
+  uses = uses-none c.args.self.now _;
 }
 
 pub close_up_within-left-requires : goal.close_up_within-left-requires
@@ -26,7 +26,7 @@ loop-made-preserved c =
           each-next _ _ _ _ _ (get_or c.sort_unstable.new.self c.loop-made.made-index 0) _ _
           (rw (drop_more c.sort_unstable.new.self c.loop-made.made-index 0 (omega arith)) at before.goes_on s stands at) after.stands after.fewer;
       left = omega (arith, before.left, after.left);
-      uses = uses-then _ _ _ _ _ _ before.left after.left before.uses after.uses;
+      uses = uses-both _ _ _ _ _ _ (omega (arith, before.left, after.left)) before.uses after.uses;
     }
 
 pub returns-clause-stands : goal.returns-clause-stands
@@ -36,4 +36,4 @@ returns-clause-stands c = λ s stands h.
     (each-done _ _ _ _ _ (drop_all c.loop-made.made-index sorted (omega arith)) (c.loop-made.invariant.goes_on s stands h.0))
 
 pub returns-clause-uses : goal.returns-clause-uses
-returns-clause-uses c = uses-at_most _ _ _ _ (omega arith) c.loop-made.invariant.uses
+returns-clause-uses c = uses-both _ _ _ _ 0 _ (omega arith) c.loop-made.invariant.uses (uses-none c.loop-made.self 0)

@@ -1,7 +1,7 @@
 use Rattle.std.proofs.Common.{◌≡◌, ◌-◌, ◌+◌, length, refl, arith, rules}
 use Rattle.bd_space.specs.Local.{close_among}
 use Rattle.bd_calls.specs.Closing.{is_place_among}
-use Rattle.bd_calls.proofs.Rooms.{uses-one_more}
+use Rattle.bd_calls.proofs.Rooms.{uses-both}
 use Rattle.bd_calls.proofs.Closing.{closing-begins, closing-left, closing-over}
 use Rattle.bd_calls.proofs.table.CallTable.close_one_by_one.Goals as goal
 
@@ -14,7 +14,7 @@ loop-closed-preserved c = record {
       let i = c.loop-closed._closed in
       let left : length s.frames - i ≡ (length s.frames - (i + 1)) + 1 = omega (arith, c.count_frames-closed-end.ensures.frames s stands) in
       c.close_oldest_among.ensures.goes_on (length s.frames - (i + 1)) _ c.if-not-close_oldest_among.false (closing-left _ _ _ _ _ _ left (c.loop-closed.invariant.stands s stands place));
-  uses = uses-one_more _ _ _ _ c.loop-closed.invariant.uses c.close_oldest_among.ensures.uses;
+  uses = uses-both _ _ _ _ _ _ (omega arith) c.loop-closed.invariant.uses c.close_oldest_among.ensures.uses;
 }
 
 pub returns-clause-stands : goal.returns-clause-stands

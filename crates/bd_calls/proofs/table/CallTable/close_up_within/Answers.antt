@@ -2,7 +2,7 @@ use Rattle.std.proofs.Common.{◌≡◌, ◌-◌, ◌+◌, suc, subst, sym, arit
 use Rattle.bd_space.specs.Local.{close_up}
 use Rattle.bd_calls.specs.declared.table.CallTable.{CallTable}
 use Rattle.bd_calls.specs.Stands.{StandsFor}
-use Rattle.bd_calls.proofs.Rooms.{uses-one_more}
+use Rattle.bd_calls.proofs.Rooms.{uses-both}
 use Rattle.bd_calls.proofs.Closing.{up-begins, up-more, up-done, up-all, up-stopped}
 use Rattle.bd_calls.proofs.table.CallTable.close_up_within.Goals as goal
 
@@ -19,7 +19,7 @@ loop-closed-preserved c = record {
       let left : c.args.most - i ≡ suc (c.args.most - (i + 1)) = omega (arith, c.loop-closed-test.true) in
       up-more _ _ _ c.in-Some.made _ _ _ _ c.in-Some-close_if_abandoned.frame _ left (rw c.in-Some.is at c.loop-closed.invariant.goes_up s stands at)
       c.close_if_abandoned.ensures.stands (rw c.in-Some-close_if_abandoned.is at c.close_if_abandoned.ensures.closed);
-  uses = uses-one_more _ _ _ _ c.loop-closed.invariant.uses c.close_if_abandoned.ensures.uses;
+  uses = uses-both _ _ _ _ _ _ (omega arith) c.loop-closed.invariant.uses c.close_if_abandoned.ensures.uses;
 }
 
 pub returns-in_default-clause-stands : goal.returns-in_default-clause-stands
