@@ -49,10 +49,6 @@ seen-ready fs ts ws seat x t is seen =
     ∙ anything-to-read ws (OfThread t.seat) (OfProcess t.process) idle
     ∙ ap (λ o. is_some_and o (λ u. not (is_empty (work_on ws (reads_in fs ws u))))) (sym found)
 
-pub none-ready : (fs : List Frame) (ts : List Thread) (ws : List Work) (seat : ℕ) (x : Seen) → x.thread ≡ None → IsSeen ts ws seat x
-    → false ≡ is_some_and (thread_in ts seat) (λ u. not (is_empty (work_on ws (reads_in fs ws u))))
-none-ready fs ts ws seat x is seen = ap (λ o. is_some_and o (λ u. not (is_empty (work_on ws (reads_in fs ws u))))) (sym is ∙ seen.thread)
-
 -- ---- what is kept
 
 pub none-seen : (r : ReadySeats) (ts : List Thread) (ws : List Work) → ((seat : ℕ) → seen_at r seat ≡ None) → AreSeen r ts ws

@@ -1,7 +1,7 @@
 use Rattle.std.proofs.Common.{ap, ◌∙◌, sym, ◌||◌, ◌&&◌}
 use Rattle.std.specs.Option.{is_none}
 use Rattle.bd_space.specs.Frames.{innermost_in}
-use Rattle.bd_calls.proofs.Seats.{seen-ready, none-ready}
+use Rattle.bd_calls.proofs.Seats.{seen-ready}
 use Rattle.bd_calls.proofs.ready.has_seen.Goals as goal
 
 pub returns-then-seen : goal.returns-then-seen

@@ -1,7 +1,4 @@
-use Rattle.std.proofs.Common.{arith, ap, sym, ◌∙◌, ◌||◌, false, take}
-use Rattle.std.specs.List.{list_any}
-use Rattle.bd_space.specs.declared.space.Work.{Work}
-use Rattle.bd_calls.specs.Ready.{tells_of, seen_at, KeepsOnly}
+use Rattle.std.proofs.Common.{arith}
 use Rattle.bd_calls.proofs.Seats.{kept-more, kept-all}
 use Rattle.bd_calls.proofs.ready.ReadySeats.forget_lists_of.Goals as goal
 

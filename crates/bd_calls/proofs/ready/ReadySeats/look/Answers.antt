@@ -1,5 +1,4 @@
 use Rattle.std.proofs.Common.{arith}
-use Rattle.bd_space.specs.declared.space.Work.{Work}
 use Rattle.bd_threads.specs.Listed.{listed}
 use Rattle.bd_calls.proofs.Seats.{look-seen}
 use Rattle.bd_calls.proofs.ready.ReadySeats.look.Goals as goal

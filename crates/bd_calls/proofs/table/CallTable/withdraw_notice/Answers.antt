@@ -1,5 +1,4 @@
 use Rattle.std.proofs.Common.{sym, subst, ◌∙◌}
-use Rattle.bd_links.specs.Stands.{WorksAre}
 use Rattle.bd_calls.specs.Stands.{Stands}
 use Rattle.bd_space.specs.Turns.{turns_of}
 use Rattle.bd_calls.proofs.Works.{works-stand-unseen}
