@@ -15,26 +15,6 @@ use Rattle.bd_references.specs.declared.keys.Kind.TheVariants.{Asked, Carried, H
 use Rattle.bd_references.specs.Keys.{same_key, use_key, total_key, count_key, kind_of, names_with, is_to}
 use Rattle.bd_references.proofs.Tests.{same_kind, key-sym}
 
-strongly : (s a b c : Bool) → (s && (a && b) && c) ≡ (a && (b && (c && beq s true)))
-strongly true true true true = refl
-strongly true true true false = refl
-strongly true true false c = refl
-strongly true false b c = refl
-strongly false true true true = refl
-strongly false true true false = refl
-strongly false true false c = refl
-strongly false false b c = refl
-
-weakly : (s a b c : Bool) → (not s && (a && b) && c) ≡ (a && (b && (c && beq s false)))
-weakly true true true true = refl
-weakly true true true false = refl
-weakly true true false c = refl
-weakly true false b c = refl
-weakly false true true true = refl
-weakly false true true false = refl
-weakly false true false c = refl
-weakly false false b c = refl
-
 asked-kind : (p : ℕ) (h : Holder) → is_asked_by p h ≡ same_kind (kind_of h) (Asked p)
 asked-kind p (holders.Asked q) = refl
 asked-kind p (holders.Carried b q) = refl
@@ -56,92 +36,88 @@ named-kind p (holders.Target b q) = refl
 named-kind p holders.Handshake = refl
 named-kind p holders.Manager = refl
 
+strength : (strong : Bool) (r : Reference) → same_strength strong r ≡ beq r.strong strong
+strength true r = by r.strong
+  where
+    by : (s : Bool) → s ≡ beq s true
+    by true = refl
+    by false = refl
+strength false r = by r.strong
+  where
+    by : (s : Bool) → not s ≡ beq s false
+    by true = refl
+    by false = refl
+
+ordered : (s o k : Bool) → ((s && o) && k) ≡ (o && (k && s))
+ordered true true k = sym (and-true k)
+ordered true false k = refl
+ordered false true true = refl
+ordered false true false = refl
+ordered false false k = refl
+
+-- strongly, or weakly
+halves : (s o k : Bool) → (o && k) ≡ (((s && o) && k) || ((not s && o) && k))
+halves true o k = sym (or-false (o && k))
+halves false o k = refl
+
+and-or : (a b c : Bool) → (a && (b || c)) ≡ ((a && b) || (a && c))
+and-or true b c = refl
+and-or false b c = refl
+
+module _ (o : ObjectId) (kind : Kind) (r : Reference) (held : Kind) (h : Bool) (is : h ≡ same_kind held kind) where
+  -- of one strength
+  of-key : (strong : Bool) → ((same_strength strong r && same r.object o) && h) ≡ same_key (count_key r.object held r.strong) (count_key o kind strong)
+  unfolding same_key
+  of-key strong =
+      ordered (same_strength strong r) (same r.object o) h
+      ∙ ap (λ k. same r.object o && (k && same_strength strong r)) is
+      ∙ ap (λ s. same r.object o && (same_kind held kind && s)) (strength strong r)
+
+  -- of either
+  of-both : (same r.object o && h)
+      ≡ (same_key (count_key r.object held r.strong) (count_key o kind true) || same_key (count_key r.object held r.strong) (count_key o kind false))
+  of-both =
+      halves r.strong (same r.object o) h
+      ∙ ap (λ b. b || ((not r.strong && same r.object o) && h)) (of-key true)
+      ∙ ap (λ b. same_key (count_key r.object held r.strong) (count_key o kind true) || b) (of-key false)
+
 -- what a process asked for, and what the owner is to acknowledge
 pub asking-key : (p : ℕ) (o : ObjectId) (strong : Bool) (r : Reference)
     → is_asking p o strong r ≡ same_key (use_key r) (count_key o (Asked p) strong)
-unfolding same_key
-asking-key p o true r = strongly r.strong (r.object.place == o.place) (r.object.index == o.index) (is_asked_by p r.holder)
-    ∙ ap (λ c. (r.object.place == o.place) && ((r.object.index == o.index) && (c && beq r.strong true))) (asked-kind p r.holder)
-asking-key p o false r = weakly r.strong (r.object.place == o.place) (r.object.index == o.index) (is_asked_by p r.holder)
-    ∙ ap (λ c. (r.object.place == o.place) && ((r.object.index == o.index) && (c && beq r.strong false))) (asked-kind p r.holder)
+asking-key p o strong r = of-key o (Asked p) r (kind_of r.holder) (is_asked_by p r.holder) (asked-kind p r.holder) strong
 
 pub shaking-key : (o : ObjectId) (strong : Bool) (r : Reference)
     → is_shaking o strong r ≡ same_key (use_key r) (count_key o Handshake strong)
-unfolding same_key
-shaking-key o true r = strongly r.strong (r.object.place == o.place) (r.object.index == o.index) (is_handshake r.holder)
-    ∙ ap (λ c. (r.object.place == o.place) && ((r.object.index == o.index) && (c && beq r.strong true))) (shaken-kind r.holder)
-shaking-key o false r = weakly r.strong (r.object.place == o.place) (r.object.index == o.index) (is_handshake r.holder)
-    ∙ ap (λ c. (r.object.place == o.place) && ((r.object.index == o.index) && (c && beq r.strong false))) (shaken-kind r.holder)
-
-either : (a b c s : Bool) → ((a && b) && c) ≡ ((a && (b && (c && beq s true))) || (a && (b && (c && beq s false))))
-either true true true true = refl
-either true true true false = refl
-either true true false s = refl
-either true false c s = refl
-either false b c s = refl
-
-alone : (s a b : Bool) → (s && (a && b)) ≡ (a && (b && (true && beq s true)))
-alone true true true = refl
-alone true true false = refl
-alone true false b = refl
-alone false true true = refl
-alone false true false = refl
-alone false false b = refl
+shaking-key o strong r = of-key o Handshake r (kind_of r.holder) (is_handshake r.holder) (shaken-kind r.holder) strong
 
 -- all that refer to the object, and strongly
 pub total-key : (o : ObjectId) (r : Reference)
     → same r.object o ≡ (same_key (total_key r) (count_key o Any true) || same_key (total_key r) (count_key o Any false))
-unfolding same_key
-total-key o r = sym (and-true (same r.object o)) ∙ either (r.object.place == o.place) (r.object.index == o.index) true r.strong
+total-key o r = sym (and-true (same r.object o)) ∙ of-both o Any r Any true refl
 
 pub strong-key : (o : ObjectId) (r : Reference) → (r.strong && same r.object o) ≡ same_key (total_key r) (count_key o Any true)
-unfolding same_key
-strong-key o r = alone r.strong (r.object.place == o.place) (r.object.index == o.index)
-
-split-strongly : (s a b c d : Bool) → (s && (a && b) && (c || d))
-    ≡ ((a && (b && (c && beq s true))) || (a && (b && (d && beq s true))))
-split-strongly true true true true true = refl
-split-strongly true true true true false = refl
-split-strongly true true true false true = refl
-split-strongly true true true false false = refl
-split-strongly true true false c d = refl
-split-strongly true false b c d = refl
-split-strongly false true true true true = refl
-split-strongly false true true true false = refl
-split-strongly false true true false true = refl
-split-strongly false true true false false = refl
-split-strongly false true false c d = refl
-split-strongly false false b c d = refl
-
-split-all : (s a b c d : Bool) → ((a && b) && (c || d))
-    ≡ (((a && (b && (c && beq s true))) || (a && (b && (d && beq s true)))) || ((a && (b && (c && beq s false))) || (a && (b && (d && beq s false)))))
-split-all true true true true true = refl
-split-all true true true true false = refl
-split-all true true true false true = refl
-split-all true true true false false = refl
-split-all true true false c d = refl
-split-all true false b c d = refl
-split-all false true true true true = refl
-split-all false true true true false = refl
-split-all false true true false true = refl
-split-all false true true false false = refl
-split-all false true false c d = refl
-split-all false false b c d = refl
+strong-key o r = sym (and-true (r.strong && same r.object o)) ∙ of-key o Any r Any true refl true
 
 -- those that give the process a name
+naming-key : (p : ℕ) (o : ObjectId) (r : Reference) (strong : Bool)
+    → (same_strength strong r && same r.object o && names_for p r.holder) ≡ names_with p o strong r
+naming-key p o r strong =
+    let to = same_strength strong r && same r.object o in
+    let kind = kind_of r.holder in
+    ap (λ n. to && n) (named-kind p r.holder) ∙ and-or to (same_kind kind (Asked p)) (same_kind kind (Carried p))
+    ∙ ap (λ b. b || (to && same_kind kind (Carried p))) (of-key o (Asked p) r kind (same_kind kind (Asked p)) refl strong)
+    ∙ ap (λ b. same_key (use_key r) (count_key o (Asked p) strong) || b) (of-key o (Carried p) r kind (same_kind kind (Carried p)) refl strong)
+
 pub naming-strongly : (p : ℕ) (o : ObjectId) (r : Reference)
     → (r.strong && same r.object o && names_for p r.holder) ≡ names_with p o true r
-unfolding same_key
-naming-strongly p o r = ap (λ c. r.strong && same r.object o && c) (named-kind p r.holder)
-    ∙ split-strongly r.strong (r.object.place == o.place) (r.object.index == o.index)
-    (same_kind (kind_of r.holder) (Asked p)) (same_kind (kind_of r.holder) (Carried p))
+naming-strongly p o r = naming-key p o r true
 
 pub naming : (p : ℕ) (o : ObjectId) (r : Reference)
     → (same r.object o && names_for p r.holder) ≡ (names_with p o true r || names_with p o false r)
-unfolding same_key
-naming p o r = ap (λ c. same r.object o && c) (named-kind p r.holder)
-    ∙ split-all r.strong (r.object.place == o.place) (r.object.index == o.index)
-    (same_kind (kind_of r.holder) (Asked p)) (same_kind (kind_of r.holder) (Carried p))
+naming p o r =
+    halves r.strong (same r.object o) (names_for p r.holder)
+    ∙ ap (λ b. b || ((not r.strong && same r.object o) && names_for p r.holder)) (naming-key p o r true)
+    ∙ ap (λ b. names_with p o true r || b) (naming-key p o r false)
 
 -- one of two kinds
 pub any-either : {A : Type 0} (p q : A → Bool) (xs : List A) → list_any (λ x. p x || q x) xs ≡ (list_any p xs || list_any q xs)
@@ -191,11 +167,10 @@ shaken-apart o strong b r h = shaken-free b r.holder (and_parts (same_strength s
 
 -- what the owner has to its own object
 to-kind : (o : ObjectId) (kind : Kind) (r : Reference) → is_to o kind (use_key r) ≡ (same r.object o && same_kind (kind_of r.holder) kind)
-unfolding same_key
 to-kind o kind r =
     ap (λ b. b || same_key (count_key o kind false) (use_key r)) (key-sym (count_key o kind true) (use_key r))
     ∙ ap (λ b. same_key (use_key r) (count_key o kind true) || b) (key-sym (count_key o kind false) (use_key r))
-    ∙ sym (either (r.object.place == o.place) (r.object.index == o.index) (same_kind (kind_of r.holder) kind) r.strong)
+    ∙ sym (of-both o kind r (kind_of r.holder) (same_kind (kind_of r.holder) kind) refl)
 
 owner-kinds : (w : Bool) (h : Holder)
     → (not (w && same_kind (kind_of h) Handshake) && not (w && same_kind (kind_of h) Manager)) ≡ not (w && is_of_owner h)

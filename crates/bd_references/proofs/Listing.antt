@@ -16,7 +16,7 @@ use Rattle.bd_space.specs.Local.{is_among}
 use Rattle.bd_space.specs.References.{is_asked_by, is_in_window}
 use Rattle.bd_references.specs.declared.keys.CountKey.{CountKey}
 use Rattle.bd_references.specs.declared.counts.Counts.{Counts}
-use Rattle.bd_references.specs.Keys.{same_key, use_key, kind_of, object_of, is_of_process, is_one_of}
+use Rattle.bd_references.specs.Keys.{same_key, use_key, kind_of, is_of_process, is_one_of}
 use Rattle.bd_references.specs.Counted.{count_at, CountsEach, is_counted}
 use Rattle.bd_references.specs.Listed.{AreUsers, has_key}
 use Rattle.bd_references.proofs.Among.{alike, both, in-any, from-any, filter-in}
@@ -94,14 +94,15 @@ module _ (p : ℕ) (uses : Counts) (users : Groups CountKey) (l : List Reference
 
   -- those keys tell to which objects such references are
   pub just-dropped : (ids : List ObjectId) (o : ObjectId)
-      → is_among (ids ++ map object_of (filter (is_counted uses) (members users (Process p)))) o
+      → is_among (ids ++ map (λ (k : CountKey). k.object) (filter (is_counted uses) (members users (Process p)))) o
       ≡ is_among (ids ++ map (λ (r : Reference). r.object) (filter (goes p) l)) o
   just-dropped ids o =
       let is = λ (j : ObjectId). same o j in
       let ks = members users (Process p) in
       let object = λ (r : Reference). r.object in
-      list_any-append is ids (map object_of (filter (is_counted uses) ks))
-      ∙ ap (λ b. list_any is ids || b) (any-mapped (is_counted uses) object_of is ks ∙ any-counted (λ k. is (object_of k))
+      let of_key = λ (k : CountKey). k.object in
+      list_any-append is ids (map of_key (filter (is_counted uses) ks))
+      ∙ ap (λ b. list_any is ids || b) (any-mapped (is_counted uses) of_key is ks ∙ any-counted (λ k. is k.object)
       ∙ sym (any-mapped (goes p) object is l))
       ∙ sym (list_any-append is ids (map object (filter (goes p) l)))
 

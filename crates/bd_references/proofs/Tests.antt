@@ -2,6 +2,7 @@
 use Rattle.std.proofs.Common.{◌≡◌, ◌==◌, Bool, true, false, refl, ap, ◌∙◌}
 use Rattle.std.proofs.lemmas.Bool.{eqb-true, eq-eqb, and_parts}
 use mathlib.Core.Bool.{beq}
+use Rattle.bd_space.specs.Words.{same}
 use Rattle.bd_references.specs.declared.keys.Kind.{Kind}
 use Rattle.bd_references.specs.declared.keys.Kind.TheVariants.{Asked, Carried, Target, Handshake, Manager, Any}
 use Rattle.bd_references.specs.declared.keys.CountKey.{CountKey}
@@ -43,19 +44,18 @@ strong-self false = refl
 pub key-eq : (a b : CountKey) → same_key a b ≡ true → a ≡ b
 unfolding same_key
 key-eq a b h =
-    let k = and_parts (a.place == b.place) _ h in
-    let l = and_parts (a.index == b.index) _ k.1 in
-    let m = and_parts (same_kind a.kind b.kind) _ l.1 in
+    let k = and_parts (same a.object b.object) _ h in
+    let l = and_parts (a.object.place == b.object.place) _ k.0 in
+    let m = and_parts (same_kind a.kind b.kind) _ k.1 in
     (λ i. record {
-      place = eqb-true a.place b.place k.0 i;
-      index = eqb-true a.index b.index l.0 i;
+      object = record { place = eqb-true a.object.place b.object.place l.0 i; index = eqb-true a.object.index b.object.index l.1 i };
       kind = kind-eq a.kind b.kind m.0 i;
       strong = strong-eq a.strong b.strong m.1 i;
     })
 
 pub key-self : (a : CountKey) → same_key a a ≡ true
 unfolding same_key
-key-self a = rw (eq-eqb a.place a.place refl, eq-eqb a.index a.index refl, kind-self a.kind) (strong-self a.strong)
+key-self a = rw (eq-eqb a.object.place a.object.place refl, eq-eqb a.object.index a.object.index refl, kind-self a.kind) (strong-self a.strong)
 
 pub item-eq : (a b : ItemKey) → same_item a b ≡ true → a ≡ b
 unfolding same_item

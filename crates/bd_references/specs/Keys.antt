@@ -29,7 +29,7 @@ kind_of holders.Handshake = kinds.Handshake
 kind_of holders.Manager = kinds.Manager
 
 abbrev pub count_key : ObjectId → Kind → Bool → CountKey
-count_key o kind strong = record { place = o.place; index = o.index; kind = kind; strong = strong }
+count_key o kind strong = record { object = o; kind = kind; strong = strong }
 
 -- by its kind, and among all
 abbrev pub use_key : Reference → CountKey
@@ -43,9 +43,6 @@ abbrev pub names_with : ℕ → ObjectId → Bool → Reference → Bool
 names_with p o strong r =
     same_key (use_key r) (count_key o (kinds.Asked p) strong)
     || same_key (use_key r) (count_key o (kinds.Carried p) strong)
-
-abbrev pub object_of : CountKey → ObjectId
-object_of k = record { place = k.place; index = k.index }
 
 -- the process that asked for it, or in whose window it lies
 abbrev pub process_of : Kind → Option ℕ
@@ -80,4 +77,4 @@ kind_word kinds.Any = 5 * 2 ^ 32
 
 -- another number for each key, by which it is hashed
 abbrev pub count_spread : CountKey → ℕ
-count_spread k = pair k.index k.place + (kind_word k.kind * 2 + (if k.strong then 1 else 0)) * 2 ^ 64
+count_spread k = pair k.object.index k.object.place + (kind_word k.kind * 2 + (if k.strong then 1 else 0)) * 2 ^ 64

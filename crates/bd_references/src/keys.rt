@@ -31,8 +31,7 @@ pub(crate) enum Kind {
 /// References to one object, of one kind and one strength.
 #[derive(Clone, Copy, PartialEq, Eq)]
 pub(crate) struct CountKey {
-    pub(crate) place: u32,
-    pub(crate) index: u32,
+    pub(crate) object: ObjectId,
     pub(crate) kind: Kind,
     pub(crate) strong: bool,
 }
@@ -66,7 +65,7 @@ impl CountKey {
     fn spread(self) -> u128
         ensures { result ≡ keys.count_spread self }
     {
-        let object = pair(self.index, self.place);
+        let object = pair(self.object.index, self.object.place);
         let used = self.kind.word() * 2 + u64::from(self.strong);
         u128::from(object) + u128::from(used) * 0x1_0000_0000_0000_0000
     }
@@ -110,8 +109,7 @@ pub(crate) fn count_key(o: ObjectId, kind: Kind, strong: bool) -> CountKey
     ensures { result ≡ keys.count_key o kind strong }
 {
     CountKey {
-        place: o.place,
-        index: o.index,
+        object: o,
         kind,
         strong,
     }
@@ -129,16 +127,6 @@ pub(crate) fn total_key(r: Reference) -> CountKey
     ensures { result ≡ keys.total_key r }
 {
     count_key(r.object, Kind::Any, r.strong)
-}
-
-/// To which object references with the key are.
-pub(crate) fn object_of(k: CountKey) -> ObjectId
-    ensures { result ≡ keys.object_of k }
-{
-    ObjectId {
-        place: k.place,
-        index: k.index,
-    }
 }
 
 /// The process that asked for it, or in whose window it lies.

@@ -11,7 +11,7 @@ ghost use Rattle.bd_references.specs.Counted.{count_at, is_counted};
 ghost use Rattle.bd_references.specs.Listed.{AreUsers};
 
 use crate::counts::Counts;
-use crate::keys::{CountKey, object_of, process_of};
+use crate::keys::{CountKey, process_of};
 use bd_groups::{Group, Groups, Members};
 use bd_space::ObjectId;
 use std::alloc::{AllocError, Global};
@@ -82,12 +82,12 @@ pub(crate) fn push_counted(
     touched: &mut Vec<ObjectId>,
 ) -> Result<(), AllocError>
     ensures pushed { OnOk result (touched.new.items
-        ≡ touched.old.items ++ map keys.object_of (filter (is_counted uses.now) listed.entry)) }
+        ≡ touched.old.items ++ map (λ k. k.object) (filter (is_counted uses.now) listed.entry)) }
     ensures grown { OnErr result (list_any (is_counted uses.now) listed.entry ≡ true) }
 {
     for k in listed {
         if uses.at(k) > 0 {
-            touched.push(object_of(k))?;
+            touched.push(k.object)?;
         }
     }
     Ok(())

@@ -1,35 +1,34 @@
-use Rattle.std.proofs.Common.{◌++◌, ap, ◌∙◌, map, filter, List, sym, subst}
+use Rattle.std.proofs.Common.{◌≡◌, ◌++◌, ℕ, ap, ◌∙◌, map, filter, List, sym}
 use Rattle.std.specs.List.{list_any}
 use Rattle.std.proofs.lemmas.Result.{on_ok_weaker, on_err_weaker}
+use Rattle.bd_groups.specs.declared.group.Group.TheVariants.{Process}
+use Rattle.bd_groups.specs.Members.{members}
 use Rattle.bd_space.specs.declared.step.ObjectId.{ObjectId}
 use Rattle.bd_space.specs.declared.space.Reference.{Reference}
-use Rattle.bd_nodes.specs.New.{HasAll}
+use Rattle.bd_space.specs.Local.{is_among}
 use Rattle.bd_references.specs.declared.keys.CountKey.{CountKey}
-use Rattle.bd_references.specs.Keys.{object_of}
+use Rattle.bd_references.specs.declared.tallies.Tallies.{Tallies}
 use Rattle.bd_references.specs.Counted.{is_counted}
+use Rattle.bd_references.specs.Tallied.{Tallied}
 use Rattle.bd_references.proofs.Listing.{goes, any-dropped, just-dropped}
 use Rattle.bd_references.proofs.table.ReferenceTable.dropped_with_process.Goals as goal
 
+-- what was put tells of the same objects
+same-objects : (p : ℕ) (t : Tallies) (l : List Reference) (keys : List CountKey) (before ids : List ObjectId) → Tallied t l
+    → keys ≡ members t.users (Process p) → ids ≡ before ++ map (λ k. k.object) (filter (is_counted t.uses) keys)
+    → (o : ObjectId) → is_among ids o ≡ is_among (before ++ map (λ r. r.object) (filter (goes p) l)) o
+same-objects p t l keys before ids are listed put o =
+    ap (λ (os : List ObjectId). is_among os o) (put ∙ ap (λ (ks : List CountKey). before ++ map (λ (k : CountKey). k.object) (filter (is_counted t.uses) ks)) listed)
+    ∙ just-dropped p t.uses t.users l are.uses_are t.listed before o
+
 pub returns-clause-all : goal.returns-clause-all
-returns-clause-all c =
-    let p = c.args.p in
-    let t = c.args.self.now.tallies in
-    let before = c.args.touched.now.items in
-    let listed = ap (λ (ks : List CountKey). before ++ map object_of (filter (is_counted t.uses) ks)) c.of-listed.ensures in
-    on_ok_weaker c.push_counted.result
-    (λ e l are. subst (λ (ids : List ObjectId). HasAll ids (before ++ map (λ (r : Reference). r.object) (filter (goes p) l)))
-    (sym (e ∙ listed)) (λ o h. just-dropped p t.uses t.users l are.tallied.uses_are t.listed before o ∙ h))
+returns-clause-all c = on_ok_weaker c.push_counted.result
+    (λ e l are o h. same-objects c.args.p c.args.self.now.tallies l _ _ _ are.tallied c.of-listed.ensures e o ∙ h)
     c.push_counted.ensures.pushed
 
 pub returns-clause-only : goal.returns-clause-only
-returns-clause-only c =
-    let p = c.args.p in
-    let t = c.args.self.now.tallies in
-    let before = c.args.touched.now.items in
-    let listed = ap (λ (ks : List CountKey). before ++ map object_of (filter (is_counted t.uses) ks)) c.of-listed.ensures in
-    on_ok_weaker c.push_counted.result
-    (λ e l are. subst (λ (ids : List ObjectId). HasAll (before ++ map (λ (r : Reference). r.object) (filter (goes p) l)) ids)
-    (sym (e ∙ listed)) (λ o h. sym (just-dropped p t.uses t.users l are.tallied.uses_are t.listed before o) ∙ h))
+returns-clause-only c = on_ok_weaker c.push_counted.result
+    (λ e l are o h. sym (same-objects c.args.p c.args.self.now.tallies l _ _ _ are.tallied c.of-listed.ensures e o) ∙ h)
     c.push_counted.ensures.pushed
 
 pub returns-clause-grown : goal.returns-clause-grown
