@@ -10,7 +10,7 @@ use Rattle.std.proofs.lemmas.List.Sorted.{list_any-IsPermutation}
 use Rattle.bd_space.specs.declared.space.Object.{Object}
 use Rattle.bd_space.specs.declared.space.DeathNotification.{DeathNotification}
 use Rattle.bd_space.specs.Deaths.{is_notification}
-use Rattle.bd_deaths.specs.Due.{is_due, is_due_at, due_in, due_of, has_place}
+use Rattle.bd_deaths.specs.Due.{is_due, is_due_of, is_due_at, due_in, due_of, has_place}
 use Rattle.bd_deaths.specs.declared.slot.Slot.{Slot}
 use Rattle.bd_deaths.specs.Slots.{lives, on}
 use Rattle.bd_space.specs.Ranges.{IsPartOf}
@@ -87,16 +87,8 @@ module _ (objects : List Object) (p : ℕ) where
   due-at m x at e = let due = (and_parts (not (x.process == p)) (is_due objects p x) e).1 in rw (due, at) refl
 
   -- what is told to another is due, and has not gone
-  told-is-due : (s : Slot) → on is_told s ≡ true → on (is_due objects p) s ≡ true
-  told-is-due s e = by s.live (not (s.death.process == p)) (is_due objects p s.death) e
-    where
-      by : (a b d : Bool) → (a && (b && d)) ≡ true → (a && d) ≡ true
-      by true true d h = h
-      by true false d h = absurd (cc)
-      by false b d h = h
-
-  told-is-due-at : (m : ℕ) (s : Slot) → on (λ x. (m == x.made) && is_told x) s ≡ true → on (is_due_at objects p m) s ≡ true
-  told-is-due-at m s e = by s.live (m == s.death.made) (not (s.death.process == p)) (is_due objects p s.death) e
+  told-is-due : (q : ℕ → Bool) (s : Slot) → on (λ x. q x.made && is_told x) s ≡ true → on (is_due_of q objects p) s ≡ true
+  told-is-due q s e = by s.live (q s.death.made) (not (s.death.process == p)) (is_due objects p s.death) e
     where
       by : (a n b d : Bool) → (a && (n && (b && d))) ≡ true → (a && (d && n)) ≡ true
       by true true true true h = refl
@@ -105,12 +97,9 @@ module _ (objects : List Object) (p : ℕ) where
       by true false b d h = absurd (cc)
       by false n b d h = h
 
-  pub any-told : (ss : List Slot) (k : ℕ) (d : Slot) → k < length ss → on is_told (get_or ss k d) ≡ true → list_any (is_due objects p) (lives ss) ≡ true
-  any-told ss k d h e = any-lives (is_due objects p) ss ∙ list_any_at (on (is_due objects p)) ss k d h (told-is-due (get_or ss k d) e)
-
-  pub any-told-at : (m : ℕ) (ss : List Slot) (k : ℕ) (d : Slot) → k < length ss → on (λ x. (m == x.made) && is_told x) (get_or ss k d) ≡ true
-      → list_any (is_due_at objects p m) (lives ss) ≡ true
-  any-told-at m ss k d h e = any-lives (is_due_at objects p m) ss ∙ list_any_at (on (is_due_at objects p m)) ss k d h (told-is-due-at m (get_or ss k d) e)
+  pub any-told : (q : ℕ → Bool) (ss : List Slot) (k : ℕ) (d : Slot) → k < length ss → on (λ x. q x.made && is_told x) (get_or ss k d) ≡ true
+      → list_any (is_due_of q objects p) (lives ss) ≡ true
+  any-told q ss k d h e = any-lives (is_due_of q objects p) ss ∙ list_any_at (on (is_due_of q objects p)) ss k d h (told-is-due q (get_or ss k d) e)
 
   pub place-part : (m : ℕ) (ys xs : List DeathNotification) → IsPartOf (is_notification m) ys xs → due_of (λ n. m == n) objects p ys ≡ due_of (λ n. m == n) objects p xs
   place-part m ys xs part =

@@ -2,16 +2,18 @@
 use Rattle.std.proofs.Common.{◌≡◌, ℕ, zero, suc, ◌+◌, ◌≤◌, ◌<◌, Bool, true, false, not, ◌&&◌, ◌||◌, cond, List, [], ◌∷◌, ◌++◌, Option, Some, None, option_map, filter, find, take, drop, length, get_or, set, refl, ap, sym, subst, ◌∙◌, arith, add-one}
 use Rattle.std.specs.Prelude.{◌==◌, count_by, All}
 use Rattle.std.proofs.lemmas.List.Elements.{filter-append, All-push, All-weaker}
-use Rattle.std.proofs.lemmas.List.{append_assoc, append-nil}
-use Rattle.std.specs.List.{list_any, remove}
+use Rattle.std.proofs.lemmas.List.{append_assoc, append-nil, append_cancel_left, take-append-drop}
+use Rattle.std.specs.List.{list_any, between, remove}
 use Rattle.std.proofs.lemmas.List.Sums.{sum_by-cons}
 use Rattle.std.proofs.lemmas.Slice.{between_is}
 use Rattle.bd_space.specs.declared.space.DeathNotification.{DeathNotification}
 use Rattle.bd_space.specs.Words.{changed}
 use Rattle.bd_deaths.specs.declared.slot.Slot.{Slot}
+use Rattle.bd_deaths.specs.declared.list.DeathList.{DeathList}
 use Rattle.bd_deaths.specs.Slots.{lives, of, on, gone, with}
+use Rattle.bd_deaths.specs.Stands.{AreIn}
 use Rattle.bd_space.specs.Ranges.{IsWithin, IsPartOf}
-use Rattle.bd_space.proofs.Ranges.{within-fewer, implies-all}
+use Rattle.bd_space.proofs.Ranges.{within-fewer, implies-all, find-of}
 
 -- ---- a look at those that haven't gone
 
@@ -25,7 +27,7 @@ module _ (q : DeathNotification → Bool) where
       by true e = ap (λ t. q s.death || t) e
       by false e = e
 
-  pub find-lives : (ss : List Slot) → find q (lives ss) ≡ option_map (λ s. s.death) (find (on q) ss)
+  find-lives : (ss : List Slot) → find q (lives ss) ≡ option_map (λ s. s.death) (find (on q) ss)
   find-lives [] = refl
   find-lives (s ∷ ss) = by s.live (q s.death) refl (find-lives ss)
     where
@@ -82,14 +84,10 @@ take-lives (suc i) (s ∷ ss) = by s.live (take-lives i ss)
     by false e = e
 
 drop-lives : (i : ℕ) (ss : List Slot) → drop (rank i ss) (lives ss) ≡ lives (drop i ss)
-drop-lives zero ss = refl
-drop-lives (suc i) [] = refl
-drop-lives (suc i) (s ∷ ss) = by s.live (drop-lives i ss)
-  where
-    by : (b : Bool) → drop (rank i ss) (lives ss) ≡ lives (drop i ss)
-        → drop (cond b (suc (rank i ss)) (rank i ss)) (cond b (s.death ∷ lives ss) (lives ss)) ≡ lives (drop i ss)
-    by true e = e
-    by false e = e
+drop-lives i ss =
+    append_cancel_left (lives (take i ss)) (drop (rank i ss) (lives ss)) (lives (drop i ss))
+    (ap (λ xs. xs ++ drop (rank i ss) (lives ss)) (sym (take-lives i ss)) ∙ take-append-drop (rank i ss) (lives ss)
+    ∙ ap lives (sym (take-append-drop i ss)) ∙ lives-append (take i ss) (drop i ss))
 
 rank-le : (i j : ℕ) (ss : List Slot) → i ≤ j → rank i ss ≤ rank j ss
 rank-le zero j ss h = omega arith
@@ -137,7 +135,7 @@ module _ (q : DeathNotification → Bool) (i j : ℕ) (ss : List Slot) where
     after = sym (any-lives q (drop j ss)) ∙ ap (list_any q) (sym (drop-lives j ss)) ∙ w.after;
   }
 
-  pub part-lives : (part : List Slot) → i ≤ j → IsWithin (on q) i j ss → part ≡ drop i (take j ss) → IsPartOf q (lives part) (lives ss)
+  part-lives : (part : List Slot) → i ≤ j → IsWithin (on q) i j ss → part ≡ drop i (take j ss) → IsPartOf q (lives part) (lives ss)
   part-lives part h w e = record {
     from = rank i ss;
     to = rank j ss;
@@ -146,6 +144,19 @@ module _ (q : DeathNotification → Bool) (i j : ℕ) (ss : List Slot) where
     is = ap lives e ∙ sym (drop-lives i (take j ss)) ∙ ap (λ n. drop n (lives (take j ss))) (rank-take i j ss h)
         ∙ ap (drop (rank i ss)) (sym (take-lives j ss)) ∙ sym (between_is (lives ss) (rank i ss) (rank j ss));
   }
+
+-- the part of a list's slots between two of them
+pub part-in : (q : DeathNotification → Bool) (t : DeathList) (l : List DeathNotification) (from to : ℕ) (ss part : List Slot) → AreIn t l → from ≤ to
+    → IsWithin (on q) from to t.slots.items → ss ≡ t.slots.items → part ≡ between from to ss → IsPartOf q (lives part) l
+part-in q t l from to ss part h order w e is =
+    subst (IsPartOf q (lives part)) h.lives_are
+    (part-lives q from to t.slots.items part order w (is ∙ ap (between from to) e ∙ between_is t.slots.items from to))
+
+-- what is found in such a part
+pub found-in : (q : DeathNotification → Bool) (ss : List Slot) (l : List DeathNotification) (found : Option Slot) (result : Option DeathNotification)
+    → IsPartOf q (lives ss) l → found ≡ find (on q) ss → result ≡ option_map (λ s. s.death) found → result ≡ find q l
+found-in q ss l found result part e is =
+    is ∙ ap (option_map (λ (s : Slot). s.death)) e ∙ sym (find-lives q ss) ∙ find-of q q (lives ss) l (λ x h. h) part
 
 -- ---- one goes
 

@@ -1,14 +1,18 @@
 -- The only one that passes, in the list and in a part of it.
-use Rattle.std.proofs.Common.{◌≡◌, ℕ, zero, suc, ◌+◌, ◌≤◌, ◌==◌, Bool, true, false, ◌||◌, cond, List, [], ◌∷◌, Some, None, find, take, drop, refl, ap, sym, ◌∙◌, arith}
+use Rattle.std.proofs.Common.{◌≡◌, ℕ, zero, suc, ◌+◌, ◌≤◌, ◌==◌, Bool, true, false, not, ◌||◌, cond, List, [], ◌∷◌, Some, None, find, take, drop, refl, ap, sym, subst, ◌∙◌, arith}
 use Rattle.std.specs.Prelude.{count_by}
 use Rattle.std.specs.List.{list_any}
 use Rattle.std.proofs.lemmas.List.Sums.{sum_by-cons}
 use Rattle.std.proofs.lemmas.Slice.{between_is}
 use Rattle.std.proofs.lemmas.Bool.{eq-eqb}
 use Rattle.bd_space.specs.declared.space.DeathNotification.{DeathNotification}
-use Rattle.bd_space.specs.Deaths.{is_notification}
+use Rattle.bd_space.specs.declared.step.ObjectId.{ObjectId}
+use Rattle.bd_space.specs.Words.{same}
+use Rattle.bd_space.specs.Deaths.{is_notification, is_uncleared_on}
 use Rattle.bd_space.specs.Ranges.{IsPartOf}
-use Rattle.bd_space.proofs.Ranges.{Implies, implies-all, within-fewer, no-head, find-of}
+use Rattle.bd_space.proofs.Ranges.{Implies, implies-all, within-fewer, no-head, find-of, last-two}
+use Rattle.bd_deaths.specs.declared.key.Key.{Key}
+use Rattle.bd_deaths.specs.Keys.{has, name_key}
 use Rattle.bd_deaths.proofs.Places.{nothing-implies}
 
 module _ {A : Type 0} (q : A → Bool) where
@@ -44,18 +48,29 @@ module _ {A : Type 0} (q : A → Bool) where
   count-part (x ∷ xs) (suc i) (suc j) h b a =
       let g = no-head (q x) _ b in count-part xs i j (omega arith) g.1 a ∙ sym (count-else x xs g.0)
 
--- ---- of a part with all that pass another test
+-- ---- of a part with all that pass
 
-pub count-of : (q r : DeathNotification → Bool) (ys xs : List DeathNotification)
-    → ((x : DeathNotification) → q x ≡ true → r x ≡ true) → IsPartOf r ys xs → count_by q ys ≡ count_by q xs
-count-of q r ys xs h p =
-    let w = within-fewer q r xs p.from p.to (implies-all q r h xs) p.within in
-    ap (count_by q) (p.is ∙ between_is xs p.from p.to) ∙ count-part q xs p.from p.to p.order w.before w.after
+pub count-of : (q : DeathNotification → Bool) (ys xs : List DeathNotification) → IsPartOf q ys xs → count_by q ys ≡ count_by q xs
+count-of q ys xs h =
+    ap (count_by q) (h.is ∙ between_is xs h.from h.to) ∙ count-part q xs h.from h.to h.order h.within.before h.within.after
 
-pub only-of : (q r : DeathNotification → Bool) (ys xs : List DeathNotification)
-    → ((x : DeathNotification) → q x ≡ true → r x ≡ true) → IsPartOf r ys xs
+pub only-of : (q : DeathNotification → Bool) (ys xs : List DeathNotification) → IsPartOf q ys xs
     → cond (count_by q ys == 1) (find q ys) None ≡ cond (count_by q xs == 1) (find q xs) None
-only-of q r ys xs h p = rw (count-of q r ys xs h p, find-of q r ys xs h p) refl
+only-of q ys xs h = rw (count-of q ys xs h, find-of q q ys xs (λ x e. e) h) refl
+
+-- the uncleared ones on a name have its key
+pub on-name : (p : ℕ) (o : ObjectId) (k : Key) (ys xs : List DeathNotification)
+    → k ≡ name_key p o → IsPartOf (has k) ys xs → IsPartOf (is_uncleared_on p o) ys xs
+on-name p o k ys xs is part =
+    let h = subst (λ (j : Key). IsPartOf (has j) ys xs) is part in
+    let all = implies-all (is_uncleared_on p o) (has (name_key p o)) (λ x e. last-two (not x.cleared) (x.process == p) (same x.object o) e) xs in
+    record {
+      from = h.from;
+      to = h.to;
+      order = h.order;
+      within = within-fewer (is_uncleared_on p o) (has (name_key p o)) xs h.from h.to all h.within;
+      is = h.is;
+    }
 
 -- ---- where only one passes, all that pass are it
 

@@ -9,7 +9,9 @@ use Rattle.bd_space.specs.declared.space.DeathNotification.{DeathNotification}
 use Rattle.bd_space.specs.declared.space.Phase.TheVariants.{Queued}
 use Rattle.bd_space.specs.Words.{changed}
 use Rattle.bd_space.specs.Deaths.{is_notification}
-use Rattle.bd_deaths.specs.Due.{is_due, is_due_at, queued_at, has_place}
+use Rattle.bd_space.specs.Ranges.{IsPartOf}
+use Rattle.bd_space.proofs.Ranges.{any-of}
+use Rattle.bd_deaths.specs.Due.{is_due, is_due_of, is_due_at, queued_at, has_place}
 use Rattle.bd_deaths.proofs.Changes.{none, same_tests, twice, guarded}
 use Rattle.bd_deaths.proofs.Tests.{or-false, and-false, eqb-turned}
 
@@ -51,8 +53,10 @@ module _ (objects : List Object) (p : ℕ) where
 
   -- ---- place by place
 
-  pub due-here : (m : ℕ) (x : DeathNotification) → is_due_at objects p m x ≡ true → is_notification m x ≡ true
-  due-here m x h = let e = and_parts _ _ h in eqb-turned x.made m ∙ e.1
+  -- in a part with all notifications of the place
+  pub told-part : (m : ℕ) (ys l : List DeathNotification) → IsPartOf (is_notification m) ys l → told_at ys m ≡ told_at l m
+  told-part m ys l =
+      any-of (is_due_at objects p m) (is_notification m) ys l (λ x h. let e = and_parts _ _ h in eqb-turned x.made m ∙ e.1)
 
   pub same-places : (q r : ℕ → Bool) → ((n : ℕ) → q n ≡ r n) → (l : List DeathNotification) → queued_at q objects p l ≡ queued_at r objects p l
   same-places q r h l = same_tests queued (λ y. q y.made && told_at l y.made) (λ y. r y.made && told_at l y.made) l (λ y. ap (λ b. b && told_at l y.made) (h y.made))
@@ -111,11 +115,12 @@ module _ (objects : List Object) (p : ℕ) where
 
   -- ---- places that are put to others
 
-  pub due-told : (m : ℕ) (l : List DeathNotification) → told_at l m ≡ true → list_any (is_due objects p) l ≡ true
-  due-told m [] h = absurd (cc)
-  due-told m (x ∷ xs) h = by (is_due objects p x) h (due-told m xs)
+  pub due-told : (q : ℕ → Bool) (l : List DeathNotification) → list_any (is_due_of q objects p) l ≡ true → list_any (is_due objects p) l ≡ true
+  due-told q [] h = absurd (cc)
+  due-told q (x ∷ xs) h = by (is_due objects p x) h (due-told q xs)
     where
-      by : (b : Bool) → ((b && (m == x.made)) || told_at xs m) ≡ true → (told_at xs m ≡ true → list_any (is_due objects p) xs ≡ true) → (b || list_any (is_due objects p) xs) ≡ true
+      by : (b : Bool) → ((b && q x.made) || list_any (is_due_of q objects p) xs) ≡ true
+          → (list_any (is_due_of q objects p) xs ≡ true → list_any (is_due objects p) xs ≡ true) → (b || list_any (is_due objects p) xs) ≡ true
       by true e further = refl
       by false e further = further e
 

@@ -1,5 +1,5 @@
 -- The death notifications by which the end of a process is told, and its own.
-use Rattle.std.specs.Prelude.{ℕ, ◌≡◌, ◌==◌, ◌&&◌, not, Bool, true, List, filter}
+use Rattle.std.specs.Prelude.{ℕ, ◌≡◌, ◌==◌, ◌&&◌, not, Bool, true, List, filter, Option, Some, None}
 use Rattle.std.specs.List.{list_any}
 use Rattle.bd_space.specs.declared.space.Object.{Object}
 use Rattle.bd_space.specs.declared.space.DeathNotification.{DeathNotification}
@@ -13,9 +13,18 @@ use Rattle.bd_space.specs.ProcessExits.{is_armed}
 abbrev pub is_due : List Object → ℕ → DeathNotification → Bool
 is_due objects p x = is_armed x.phase && owned_in objects p x.object
 
--- it is due, and made at this place
+-- it is this place, where one is given
+abbrev pub is_place : Option ℕ → ℕ → Bool
+is_place None n = true
+is_place (Some made) n = made == n
+
+-- it is due, and made at a place that passes
+abbrev pub is_due_of : (ℕ → Bool) → List Object → ℕ → DeathNotification → Bool
+is_due_of q objects p x = is_due objects p x && q x.made
+
+-- at this place
 abbrev pub is_due_at : List Object → ℕ → ℕ → DeathNotification → Bool
-is_due_at objects p made x = is_due objects p x && (made == x.made)
+is_due_at objects p made x = is_due_of (λ n. made == n) objects p x
 
 -- the notifications of others that are due
 abbrev pub due_in : List Object → ℕ → List DeathNotification → List DeathNotification

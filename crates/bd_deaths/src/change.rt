@@ -13,37 +13,33 @@ ghost use Rattle.bd_space.specs.Ranges.{IsWithin};
 use crate::list::DeathList;
 use crate::look::made_in;
 use crate::slot::{Slot, is_told, told_before};
-use bd_space::{Phase, Work, WorkKind};
+use bd_space::{DeathNotification, Phase, Work, WorkKind};
 use std::ops::Range;
 
-fn mark(slots: &mut Vec<Slot>, range: Range<usize>, made: u32)
+// Changes the notification of this place, which stands between these slots.
+fn change_in<F: Fn(DeathNotification) -> DeathNotification>(
+    slots: &mut Vec<Slot>,
+    range: Range<usize>,
+    made: u32,
+    f: F,
+)
+    requires calls { F.IsAlwaysCallable f }
     requires from { range.start ≤ range.end }
     requires to { range.end ≤ vec_len slots.old }
-    ensures items { IsWithin (spec.of (deaths_of.is_notification made)) range.start range.end slots.old.items
-        → slots.new.items ≡ changed (spec.of (deaths_of.is_notification made))
-        (spec.with (λ x. record x { cleared = true })) slots.old.items }
+    ensures items { (g : declared.DeathNotification → declared.DeathNotification)
+        → ((x y : declared.DeathNotification) → F.post f x y → y ≡ g x)
+        → IsWithin (spec.of (deaths_of.is_notification made)) range.start range.end slots.old.items
+        → slots.new.items ≡ changed (spec.of (deaths_of.is_notification made)) (spec.with g) slots.old.items }
     ensures len { vec_len slots.new ≡ vec_len slots.old }
     ensures capacity { vec_capacity slots.new ≡ vec_capacity slots.old }
 {
     for i in range.start..range.end {
-        if slots[i].death.made == made {
-            slots[i].death.cleared = true;
-        }
-    }
-}
-
-fn set_phase(slots: &mut Vec<Slot>, range: Range<usize>, made: u32, phase: Phase)
-    requires from { range.start ≤ range.end }
-    requires to { range.end ≤ vec_len slots.old }
-    ensures items { IsWithin (spec.of (deaths_of.is_notification made)) range.start range.end slots.old.items
-        → slots.new.items ≡ changed (spec.of (deaths_of.is_notification made))
-        (spec.with (λ x. record x { phase = phase })) slots.old.items }
-    ensures len { vec_len slots.new ≡ vec_len slots.old }
-    ensures capacity { vec_capacity slots.new ≡ vec_capacity slots.old }
-{
-    for i in range.start..range.end {
-        if slots[i].death.made == made {
-            slots[i].death.phase = phase;
+        let slot = slots[i];
+        if slot.death.made == made {
+            slots[i] = Slot {
+                death: f(slot.death),
+                ..slot
+            };
         }
     }
 }
@@ -70,7 +66,12 @@ impl DeathList {
         ensures uses { ListUses self.old self.new 0 }
     {
         let range = self.made_range(made);
-        mark(&mut self.slots, range, made);
+        change_in(
+            &mut self.slots,
+            range,
+            made,
+            |x| DeathNotification { cleared: true, ..x },
+        );
     }
 
     // The notification is this far; one that is told is found by a look from then on.
@@ -83,7 +84,12 @@ impl DeathList {
     {
         let range = self.made_range(made);
         self.told_from = told_before(self.told_from, range.start, phase);
-        set_phase(&mut self.slots, range, made, phase);
+        change_in(
+            &mut self.slots,
+            range,
+            made,
+            |x| DeathNotification { phase, ..x },
+        );
     }
 
     // Up to where a look by cookie went, if it went along the slots to the notification of this place, which ends here.

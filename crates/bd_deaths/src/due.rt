@@ -65,57 +65,39 @@ fn has_due(slots: &[Slot], nodes: &NodeTable, p: u32, made: u32) -> bool
     false
 }
 
-// Whether the end of the process is to be told to another by this one, which hasn't gone.
-fn is_told_by(nodes: &NodeTable, p: u32, s: &Slot) -> bool
-    ensures { (objects : List Object) → NodesAre nodes.now objects
-        → result ≡ spec.on (λ x. not (x.process == p) && due.is_due objects p x) s.now }
+// Whether it is this place, where one is given.
+fn is_place(place: Option<u32>, made: u32) -> bool
+    ensures { result ≡ due.is_place place made }
 {
-    s.live && is_told(nodes, p, &s.death)
+    match place {
+        Some(n) => n == made,
+        None => true,
+    }
 }
 
-// Puts those of others that are due to what is there.
+// Whether the end of the process is to be told to another by this one, which was made at such a place and hasn't gone.
+fn is_told_by(nodes: &NodeTable, p: u32, place: Option<u32>, s: &Slot) -> bool
+    ensures { (objects : List Object) → NodesAre nodes.now objects → result
+        ≡ spec.on (λ x. due.is_place place x.made && (not (x.process == p) && due.is_due objects p x)) s.now }
+{
+    s.live && is_place(place, s.death.made) && is_told(nodes, p, &s.death)
+}
+
+// Puts those of others that are due to what is there, of this place where one is given.
 fn put_due(
     slots: &[Slot],
     nodes: &NodeTable,
     p: u32,
+    place: Option<u32>,
     told: &mut Vec<DeathNotification>,
 ) -> Result<(), AllocError>
     ensures put { OnOk result ((objects : List Object) → NodesAre nodes.now objects
-        → told.new.items ≡ told.old.items ++ due.due_in objects p (spec.lives slots.now)) }
+        → told.new.items ≡ told.old.items ++ due.due_of (due.is_place place) objects p (spec.lives slots.now)) }
     ensures grown { OnErr result ((objects : List Object) → NodesAre nodes.now objects
-        → list_any (due.is_due objects p) (spec.lives slots.now) ≡ true) }
+        → list_any (due.is_due_of (due.is_place place) objects p) (spec.lives slots.now) ≡ true) }
 {
     for s in slots {
-        if is_told_by(nodes, p, s) {
-            told.push(s.death)?;
-        }
-    }
-    Ok(())
-}
-
-// Whether the end of the process is to be told to another by this one, which was made at this place and hasn't gone.
-fn is_told_at(nodes: &NodeTable, p: u32, made: u32, s: &Slot) -> bool
-    ensures { (objects : List Object) → NodesAre nodes.now objects
-        → result ≡ spec.on (λ x. (made == x.made) && (not (x.process == p) && due.is_due objects p x)) s.now }
-{
-    s.live && made == s.death.made && is_told(nodes, p, &s.death)
-}
-
-// Puts those of others that are due to what is there, of those that were made at this place.
-fn put_due_at(
-    slots: &[Slot],
-    nodes: &NodeTable,
-    p: u32,
-    made: u32,
-    told: &mut Vec<DeathNotification>,
-) -> Result<(), AllocError>
-    ensures put { OnOk result ((objects : List Object) → NodesAre nodes.now objects
-        → told.new.items ≡ told.old.items ++ due.due_of (λ n. made == n) objects p (spec.lives slots.now)) }
-    ensures grown { OnErr result ((objects : List Object) → NodesAre nodes.now objects
-        → list_any (due.is_due_at objects p made) (spec.lives slots.now) ≡ true) }
-{
-    for s in slots {
-        if is_told_at(nodes, p, made, s) {
+        if is_told_by(nodes, p, place, s) {
             told.push(s.death)?;
         }
     }
@@ -161,7 +143,7 @@ impl DeathList {
             → NodesAre nodes.now objects → AreIn self.now l → list_any (due.is_due objects p) l ≡ true) }
     {
         let mut told = Vec::new(alloc);
-        put_due(&self.slots, nodes, p, &mut told)?;
+        put_due(&self.slots, nodes, p, None, &mut told)?;
         Ok(told)
     }
 
@@ -183,7 +165,7 @@ impl DeathList {
     {
         let mut told = Vec::new(alloc);
         for made in places {
-            put_due_at(self.made_part(*made), nodes, p, *made, &mut told)?;
+            put_due(self.made_part(*made), nodes, p, Some(*made), &mut told)?;
         }
         Ok(told)
     }

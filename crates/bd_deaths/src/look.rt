@@ -1,7 +1,6 @@
 //! Looks by the step that made a notification, by process and cookie, and by process and object.
 
 ghost use Rattle.std.specs.Prelude.{◌≡◌, ◌==◌, if◌then◌else◌, find, count_by, option_map, List, None};
-ghost use Rattle.bd_space.specs.Words as words;
 ghost use Rattle.bd_space.specs.Deaths as deaths_of;
 ghost use Rattle.bd_space.specs.Clearing as clearing;
 ghost use Rattle.bd_space.specs.declared.space.DeathNotification as declared;
@@ -13,18 +12,11 @@ use crate::slot::{Slot, is_told};
 use crate::table::DeathTable;
 use bd_space::{DeathNotification, ObjectId};
 
-/// Whether the two are one object.
-pub(crate) fn same(a: ObjectId, b: ObjectId) -> bool
-    ensures { result ≡ words.same a b }
-{
-    a.place == b.place && a.index == b.index
-}
-
 /// Whether the notification is uncleared, on `p`'s name of `o`.
 pub(crate) fn is_uncleared_on(p: u32, o: ObjectId, x: &DeathNotification) -> bool
     ensures { result ≡ deaths_of.is_uncleared_on p o x.now }
 {
-    !x.cleared && x.process == p && same(x.object, o)
+    !x.cleared && x.process == p && x.object == o
 }
 
 /// The notification of this place, in its slot.

@@ -9,7 +9,7 @@ ghost use Rattle.bd_deaths.specs.Slots as spec;
 
 use crate::key::name_key;
 use crate::list::DeathList;
-use crate::look::{is_uncleared_on, same};
+use crate::look::is_uncleared_on;
 use crate::slot::Slot;
 use crate::table::DeathTable;
 use bd_space::{DeathNotification, ObjectId};
@@ -18,7 +18,7 @@ use bd_space::{DeathNotification, ObjectId};
 fn is_at(p: u32, o: ObjectId, x: &DeathNotification) -> bool
     ensures { result ≡ local.at_name p o x.now.process x.now.object }
 {
-    x.process == p && same(x.object, o)
+    x.process == p && x.object == o
 }
 
 /// Whether the notification stays, where the name is there or not.

@@ -49,6 +49,10 @@ impl DeathTable {
         // Memory was asked for: there was no room.
         ensures grown { OnErr result (more ≤ death_room self.old → ⊥) }
     {
+        // Most steps make none.
+        if more == 0 {
+            return Ok(());
+        }
         self.list.reserve(more)?;
         self.reserve_groups(more)
     }

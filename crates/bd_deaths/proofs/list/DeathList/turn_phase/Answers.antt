@@ -1,4 +1,4 @@
-use Rattle.std.proofs.Common.{refl}
+use Rattle.std.proofs.Common.{refl, rules, tests}
 use Rattle.bd_space.specs.declared.space.DeathNotification.{DeathNotification}
 use Rattle.bd_space.specs.Deaths.{is_notification}
 use Rattle.bd_deaths.specs.Slots.{of}
@@ -9,8 +9,9 @@ use Rattle.bd_deaths.proofs.list.DeathList.turn_phase.Goals as goal
 pub returns-clause-stands : goal.returns-clause-stands
 returns-clause-stands c = λ l h.
     let q = is_notification c.args.made in
+    let f = λ (x : DeathNotification). record x { phase = c.args.phase } in
     let within = c.made_range-range.ensures.within l h in
-    let items = c.set_phase.ensures.items within in
-    kept c.args.self.now _ q (λ (x : DeathNotification). record x { phase = c.args.phase }) (λ x. record { made = refl; process = refl; object = refl; cookie = refl }) l h items
+    let items = c.change_in.ensures.items f (λ x y k. search (rules, tests)) within in
+    kept c.args.self.now _ q f (λ x. record { made = refl; process = refl; object = refl; cookie = refl }) l h items
     refl refl refl
     (rw items (told-phase c.args.phase (of q) _ _ _ _ h.none_told c.told_before-self.ensures.less c.told_before-self.ensures.before within.before))
