@@ -18,6 +18,7 @@ use Rattle.bd_space.specs.Deaths.{is_uncleared_on, is_notification, uncleared_in
 use Rattle.bd_space.specs.Local.{at_name, is_touched, deaths_go_of}
 use Rattle.bd_nodes.proofs.Found.{found-passes}
 use Rattle.bd_objects.specs.Deaths.{only_lost}
+use Rattle.bd_objects.proofs.AtName.{filtered-at}
 use Rattle.bd_deaths.specs.Only.{only_uncleared_in}
 use Rattle.bd_space.proofs.Ranges.{Implies}
 use Rattle.bd_deaths.proofs.Staying.{any-filtered}
@@ -154,6 +155,12 @@ module _ (s : Space) (p : ℕ) (o : ObjectId) where
 
   pub none-only : is_name_of s.names p o ≡ false → only_uncleared_in s.deaths p o ≡ None → None ≡ only_lost s p o
   none-only named none = rw (named, none) refl
+
+  -- whether one that was made there stays, where the name is gone
+  pub stays-made : (m : ℕ) (b : Bool) → is_name_of s.names p o ≡ false → b ≡ list_any (is_notification m) (filter (stays p o) s.deaths)
+      → list_any (is_notification m) (deaths_go_of (at_name p o) s).deaths ≡ b
+  unfolding deaths_go_of
+  stays-made m b named e = ap (list_any (is_notification m)) (filtered-at s.names p o false (sym named) s.deaths) ∙ sym e
 
   module _ (x : DeathNotification) (named : is_name_of s.names p o ≡ false) (is : only_uncleared_in s.deaths p o ≡ Some x) where
     pub none-kept : list_any (is_notification x.made) (deaths_go_of (at_name p o) s).deaths ≡ true → None ≡ only_lost s p o

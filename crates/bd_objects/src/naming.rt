@@ -16,7 +16,6 @@ ghost use Rattle.bd_names.specs.Numbers.{IsFull};
 ghost use Rattle.bd_objects.specs.Naming.{with_name_unless, with_other_name, AreReferred};
 ghost use Rattle.bd_objects.specs.Numbers.{IsPastLimit};
 
-use crate::objects::same;
 use bd_names::{NameTable, NumbersFull};
 use bd_nodes::NodeTable;
 use bd_space::{Item, Object, ObjectId};
@@ -25,7 +24,7 @@ fn is_object(manager: Option<ObjectId>, o: ObjectId) -> bool
     ensures { result ≡ names_of.is_object manager o }
 {
     match manager {
-        Some(m) => same(m, o),
+        Some(m) => m == o,
         None => false,
     }
 }
@@ -62,7 +61,7 @@ fn has_own(made: &[Object], p: u32) -> bool
 fn owned_in(made: &[Object], p: u32, o: ObjectId) -> bool
     ensures { result ≡ refer.owned_in made.now p o }
 {
-    made.iter().any(|x| same(x.id, o) && x.owner == p)
+    made.iter().any(|x| x.id == o && x.owner == p)
 }
 
 /// Those that are being made, if any of them is the process's own: of a delivery to another there is none.

@@ -44,6 +44,6 @@ impl ObjectTable {
         ensures { TellsWhere (StandsFor self.now) (HasProcesses processes.now) result
             (λ s. notices.wants_notice s.processes s.references x.now) }
     {
-        processes.lives(x.owner) && differs(self.references.hold(x.id), x)
+        owner_to_tell(self.references.hold(x.id), processes.lives(x.owner), x).is_some()
     }
 }

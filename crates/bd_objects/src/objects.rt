@@ -1,20 +1,12 @@
 //! Objects (nodes), and who owns them.
 
 ghost use Rattle.std.specs.Prelude.{◌≡◌, ◌≤◌, Option};
-ghost use Rattle.bd_space.specs.Words as words;
 ghost use Rattle.bd_space.specs.References as refer;
 ghost use Rattle.bd_space.specs.ProcessExits as exits;
 
 use crate::table::ObjectTable;
 use bd_processes::ProcessTable;
 use bd_space::{Holder, Identity, Object, ObjectId, Reference};
-
-/// Whether the two are one object.
-pub(crate) fn same(a: ObjectId, b: ObjectId) -> bool
-    ensures { result ≡ words.same a b }
-{
-    a.place == b.place && a.index == b.index
-}
 
 fn managed(place: u32) -> ObjectId
     ensures { result ≡ record { place = place; index = 0 } }

@@ -18,7 +18,6 @@ ghost use Rattle.bd_references.specs.Stands.{ReferencesAre};
 ghost use Rattle.bd_references.specs.Room.{reference_room as room_in};
 ghost use Rattle.bd_objects.specs.Reading.{owed, HoldsAlike};
 
-use crate::objects::same;
 use crate::table::ObjectTable;
 use bd_nodes::NodeTable;
 use bd_references::{Hold, ReferenceTable};

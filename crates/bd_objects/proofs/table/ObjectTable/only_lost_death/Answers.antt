@@ -1,9 +1,7 @@
-use Rattle.std.proofs.Common.{◌∙◌, false, ap, sym}
-use Rattle.std.specs.List.{list_any}
-use Rattle.bd_space.specs.Deaths.{is_notification}
+use Rattle.std.proofs.Common.{◌∙◌, false, sym}
 use Rattle.bd_space.specs.Local.{deaths_go_of, at_name}
 use Rattle.bd_objects.proofs.AtName.{filtered-at}
-use Rattle.bd_objects.proofs.Lost.{none-named, none-only, none-kept, some-lost, item-stays}
+use Rattle.bd_objects.proofs.Lost.{none-named, none-only, stays-made, none-kept, some-lost, item-stays}
 use Rattle.bd_objects.proofs.table.ObjectTable.only_lost_death.Goals as goal
 
 pub returns-then-has-clause-found : goal.returns-then-has-clause-found
@@ -17,26 +15,16 @@ returns-in_err-x-clause-found c = λ s h.
     (sym (c.only_uncleared.ensures s.deaths h.deaths_are) ∙ c.in_err-x.was)
 
 pub returns-then-stays-clause-found : goal.returns-then-stays-clause-found
-unfolding deaths_go_of
 returns-then-stays-clause-found c = λ s h.
-    let p = c.args.p in
-    let o = c.args.o in
-    let x = c.in_ok-x.x in
     let named = sym (c.has.ensures s.names s.names h.names_are) ∙ c.if-has.false in
-    none-kept s p o x named (sym (c.only_uncleared.ensures s.deaths h.deaths_are) ∙ c.in_ok-x.was)
-    (ap (list_any (is_notification x.made)) (filtered-at s.names p o false (sym named) s.deaths)
-    ∙ sym (c.stays.ensures s.deaths h.deaths_are) ∙ c.if-stays.true)
+    none-kept s c.args.p c.args.o c.in_ok-x.x named (sym (c.only_uncleared.ensures s.deaths h.deaths_are) ∙ c.in_ok-x.was)
+    (stays-made s c.args.p c.args.o _ _ named (c.stays.ensures s.deaths h.deaths_are) ∙ c.if-stays.true)
 
 pub returns-else-stays-clause-found : goal.returns-else-stays-clause-found
-unfolding deaths_go_of
 returns-else-stays-clause-found c = λ s h.
-    let p = c.args.p in
-    let o = c.args.o in
-    let x = c.in_ok-x.x in
     let named = sym (c.has.ensures s.names s.names h.names_are) ∙ c.if-has.false in
-    some-lost s p o x named (sym (c.only_uncleared.ensures s.deaths h.deaths_are) ∙ c.in_ok-x.was)
-    (ap (list_any (is_notification x.made)) (filtered-at s.names p o false (sym named) s.deaths)
-    ∙ sym (c.stays.ensures s.deaths h.deaths_are) ∙ c.if-stays.false)
+    some-lost s c.args.p c.args.o c.in_ok-x.x named (sym (c.only_uncleared.ensures s.deaths h.deaths_are) ∙ c.in_ok-x.was)
+    (stays-made s c.args.p c.args.o _ _ named (c.stays.ensures s.deaths h.deaths_are) ∙ c.if-stays.false)
 
 pub returns-else-stays-clause-goes : goal.returns-else-stays-clause-goes
 unfolding deaths_go_of
@@ -45,8 +33,7 @@ returns-else-stays-clause-goes c = λ kind s h.
     let o = c.args.o in
     let x = c.in_ok-x.x in
     let named = sym (c.has.ensures s.names s.names h.names_are) ∙ c.if-has.false in
-    let are = filtered-at s.names p o false (sym named) s.deaths in
     item-stays p o s.deaths (deaths_go_of (at_name p o) s).deaths x
-    (sym c.in_ok-x.was ∙ c.only_uncleared.ensures s.deaths h.deaths_are) are
-    (ap (list_any (is_notification x.made)) are ∙ sym (c.stays.ensures s.deaths h.deaths_are) ∙ c.if-stays.false)
+    (sym c.in_ok-x.was ∙ c.only_uncleared.ensures s.deaths h.deaths_are) (filtered-at s.names p o false (sym named) s.deaths)
+    (stays-made s p o x.made _ named (c.stays.ensures s.deaths h.deaths_are) ∙ c.if-stays.false)
     s.processes s.objects s.references kind
